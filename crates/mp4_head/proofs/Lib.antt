@@ -1,0 +1,4 @@
+pub mod Trees
+pub mod Again
+pub mod Distinct
+pub mod Vectors

@@ -1,0 +1,13 @@
+pub mod FromTwo
+pub mod RunRows
+pub mod Shared
+pub mod Maps
+pub mod Filters
+pub mod Fragments
+pub mod CutLaws
+pub mod PieceLists
+pub mod PieceFacts
+pub mod PartLists
+pub mod RunLists
+pub mod Refuses
+pub mod Vectors

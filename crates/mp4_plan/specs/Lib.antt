@@ -1,0 +1,4 @@
+pub mod Pieces
+pub mod Normal
+pub mod PieceLaws
+pub mod Laws

@@ -1,0 +1,85 @@
+//! Laws of the definitions.
+
+ghost use Rattle.mp4_plan.specs.Laws.{DenotesOne, FaultRefuses};
+ghost use Rattle.mp4_plan.specs.PieceLaws.{CutsAreLeast, FragmentsAreLast, PiecesAreDue, PiecesAreLongest, PiecesJoin};
+ghost use Rattle.mp4_present.specs.Stands.{Reason, header, child, missing, leaf, tables, fragment, count, limit, order};
+
+/// A file denotes at most one presentation.
+pub fn denotes_one()
+    ensures { DenotesOne }
+{}
+
+/// The cuts are those of the first track: its first sample, and from each cut on the least sync sample at least a second behind.
+pub fn cuts_are_least()
+    ensures { CutsAreLeast }
+{}
+
+/// The pieces of each track hold its samples in order, each once.
+pub fn pieces_join()
+    ensures { PiecesJoin }
+{}
+
+/// The pieces of each track follow one another in time, from its start on.
+pub fn pieces_are_due()
+    ensures { PiecesAreDue }
+{}
+
+/// The pieces of a track in a fragment are the longest runs of one description among its samples there.
+pub fn pieces_are_longest()
+    ensures { PiecesAreLongest }
+{}
+
+/// The fragment of a sample is that of the last cut that has begun, by number or by time; the first one if none has.
+pub fn fragments_are_last()
+    ensures { FragmentsAreLast }
+{}
+
+/// A file in which a header can't be read denotes nothing.
+pub fn header_fault_refuses()
+    ensures { FaultRefuses header }
+{}
+
+/// A file in which a box stands where it may not, or once more than it may, denotes nothing.
+pub fn child_fault_refuses()
+    ensures { FaultRefuses child }
+{}
+
+/// A file in which a box is missing denotes nothing.
+pub fn missing_fault_refuses()
+    ensures { FaultRefuses missing }
+{}
+
+/// A file in which a leaf, an entry or a kept box is refused denotes nothing.
+pub fn leaf_fault_refuses()
+    ensures { FaultRefuses leaf }
+{}
+
+/// A file in which the tables of a track do not fit denotes nothing.
+pub fn tables_fault_refuses()
+    ensures { FaultRefuses tables }
+{}
+
+/// A file in which a `traf` breaks a rule behind all that is as it should be denotes nothing.
+pub fn fragment_fault_refuses()
+    ensures { FaultRefuses fragment }
+{}
+
+/// A file that names more samples than the limit allows denotes nothing.
+pub fn count_fault_refuses()
+    ensures { FaultRefuses count }
+{}
+
+/// A file that passes a limit on times or on the length of the `moov` denotes nothing.
+pub fn limit_fault_refuses()
+    ensures { FaultRefuses limit }
+{}
+
+/// A file with a `moof` before its `moov` denotes nothing.
+pub fn order_fault_refuses()
+    ensures { FaultRefuses order }
+{}
+
+/// A file in which a fault stands denotes nothing, whatever the reason.
+pub fn fault_refuses()
+    ensures { (reason : Reason) → FaultRefuses reason }
+{}

@@ -1,0 +1,13 @@
+pub mod One
+pub mod Order
+pub mod DenotesVectors
+pub mod StandsVectors
+pub mod Chain
+pub mod BoxReasons
+pub mod Leaves
+pub mod TableReasons
+pub mod Limits
+pub mod Fronts
+pub mod FragmentReasons
+pub mod Counts
+pub mod Vectors

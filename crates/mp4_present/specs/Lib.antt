@@ -1,0 +1,3 @@
+pub mod Presentation
+pub mod Denotes
+pub mod Stands

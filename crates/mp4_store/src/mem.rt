@@ -1,0 +1,78 @@
+ghost use Rattle.std.specs.Prelude.{◌≡◌, ℕ, Some, [], true, refl, length};
+
+use crate::sink::{Sink, WriteFailed};
+use crate::store::{Store, StoreFailed};
+use std::alloc::Global;
+
+/// A store over bytes in memory, which never fails.
+#[derive(Drop)]
+pub struct MemStore<'a> {
+    pub bytes: &'a [u8],
+}
+
+impl<'a> MemStore<'a> {
+    pub fn new(bytes: &'a [u8]) -> MemStore<'a>
+        ensures { result.bytes.now ≡ bytes.entry.now }
+    {
+        MemStore { bytes }
+    }
+}
+
+impl Store for MemStore<'_> {
+    ghost is_honest = { λ _. true };
+
+    ghost file = { λ s. s.bytes.now };
+
+    ghost read_failures = { λ _. 0 };
+
+    fn len(&self) -> u64 {
+        self.bytes.len() as u64
+    }
+
+    fn read_at(&mut self, at: u64, out: &mut [u8]) -> Result<(), StoreFailed> {
+        let from = at as usize;
+        out.copy_from_slice(&self.bytes[from..from + out.len()]);
+        Ok(())
+    }
+}
+
+/// A sink in memory.
+#[derive(Drop)]
+pub struct MemSink {
+    held: Vec<u8>,
+    failed: u64,
+}
+
+impl MemSink {
+    pub fn new(alloc: Global) -> MemSink
+        ensures contents { ⟦<MemSink as Sink>⟧.contents result ≡ Some [] }
+        ensures count { ⟦<MemSink as Sink>⟧.put_failures result ≡ 0 }
+    {
+        MemSink {
+            held: Vec::new(alloc),
+            failed: 0,
+        }
+    }
+
+    pub fn bytes(&self) -> &[u8]
+        ensures { ⟦<MemSink as Sink>⟧.contents self.now ≡ Some result.now }
+    {
+        self.held.as_slice()
+    }
+}
+
+impl Sink for MemSink {
+    ghost contents = { λ s. Some s.held.items };
+
+    ghost put_failures = { λ s. s.failed };
+
+    fn put(&mut self, piece: &[u8]) -> Result<(), WriteFailed> {
+        match self.held.extend_from_slice(piece) {
+            Ok(()) => Ok(()),
+            Err(_) => {
+                self.failed = self.failed.saturating_add(1);
+                Err(WriteFailed)
+            }
+        }
+    }
+}

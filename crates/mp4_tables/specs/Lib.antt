@@ -1,0 +1,5 @@
+pub mod Repeated
+pub mod Groups
+pub mod Tables
+pub mod PlainSamples
+pub mod TableRules

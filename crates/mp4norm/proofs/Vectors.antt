@@ -1,0 +1,33 @@
+use Rattle.std.specs.Prelude.{◌≡◌, [], ◌∷◌, ◌++◌, codes, refl}
+use Rattle.std.specs.Fmt.{digits}
+use Rattle.serde_json.proofs.OnLiterals.{serde_json_on_literals}
+use Rattle.serde_json.specs.Written.{compact_text}
+use Rattle.mp4_boxes.specs.declared.refusal.Refusal.TheVariants as refusals
+use Rattle.mp4_boxes.specs.declared.fault.Kind.TheVariants as kinds
+use Rattle.mp4_present.proofs.Vectors.{p_presentation, p_samples}
+use Rattle.mp4_head.proofs.Vectors.{p_track}
+use Rattle.mp4_boxes.proofs.Vectors.{v1, v1_moov, v1_mvhd, v1-tiles, v1-moov-tiles}
+use Rattle.mp4norm.specs.Texts.{BoxLines, fault_line, sample_lines, show_value}
+
+p-lines : sample_lines (record { head = p_track; start = 0; samples = p_samples })
+    ≡ codes "1 0 0 512 00000000 1 5" ++ 10 ∷ codes "2 512 512 512 00010000 1 0" ++ 10 ∷ codes "3 1024 1024 512 00010000 1 7" ++ 10 ∷ []
+unfolding digits
+p-lines = refl
+
+p-show : compact_text (show_value p_presentation) ≡ codes "{\"mehd\":120,\"timescale\":1000,\"tracks\":[{\"bytes\":12,\"descriptions\":[\"mp4v\"],\"duration\":1536,\"edits\":[],\"handler\":\"vide\",\"id\":1,\"samples\":3,\"start\":0,\"timescale\":12800}]}"
+unfolding digits serde_json_on_literals
+p-show = refl
+
+gap-line : fault_line (refusals.Fault (record { kind = kinds.Gap; box_type = codes "tfdt"; offset = 793 })) ≡ codes "refused: Gap in tfdt at 793"
+unfolding digits
+gap-line = refl
+
+v1-boxes : BoxLines v1 (codes "moov 0 116" ++ 10 ∷ codes "  mvhd 8 108" ++ 10 ∷ [])
+unfolding digits
+v1-boxes = (
+  v1_moov ∷ [],
+  v1-tiles.tiles,
+  (codes "moov 0 116" ++ 10 ∷ codes "  mvhd 8 108" ++ 10 ∷ []) ∷ [],
+  ((codes "  mvhd 8 108" ++ 10 ∷ [], (v1_mvhd ∷ [], v1-moov-tiles.tiles, (codes "  mvhd 8 108" ++ 10 ∷ []) ∷ [], (refl, tt), refl), refl), tt),
+  refl,
+)
