@@ -1,4 +1,5 @@
 pub mod Tiling
+pub mod Walking
 pub mod Fields
 pub mod Lying
 pub mod Members

@@ -1,5 +1,5 @@
 -- Boxes and how they lie in a container (ISO/IEC 14496-12, 4.2.2 and 4.2.3: Box, FullBox).
-use Rattle.std.specs.Prelude.{◌≡◌, ℕ, ◌+◌, ◌-◌, ◌<◌, ◌≤◌, List, [], ◌∷◌, ◌++◌, length, take, drop, Bool, true, false, Result, Ok, Err, ◌==◌, nat_lt, if◌then◌else◌, codes, ⊤}
+use Rattle.std.specs.Prelude.{◌≡◌, ℕ, zero, suc, ◌+◌, ◌-◌, ◌<◌, ◌≤◌, List, [], ◌∷◌, ◌++◌, length, take, drop, Bool, true, false, Result, Ok, Err, ◌==◌, nat_lt, if◌then◌else◌, codes, ⊤}
 use Rattle.mp4_boxes.specs.Bytes.{sum_of, field}
 use Rattle.mp4_boxes.specs.declared.fault.Kind.{Kind}
 use Rattle.mp4_boxes.specs.declared.fault.Kind.TheVariants.{ShortHeader, BadSize, Overrun}
@@ -69,6 +69,21 @@ LieEndToEnd is_open at bytes (b ∷ boxes) =
     ((h : Header) × (header_at is_open bytes ≡ Ok h) × (b ≡ box_of at bytes h))
     × LieEndToEnd is_open (at + size b) (drop (size b) bytes) boxes
 
+-- a box in front of these bytes and more behind it, if a header can be read there
+abbrev pub box_and_more : ℕ → List ℕ → Result Header Kind → (Header → List Box) → List Box
+box_and_more at bytes (Ok h) more = box_of at bytes h ∷ more h
+box_and_more at bytes (Err kind) more = []
+
+-- the first n boxes in front of these bytes, inside a box; fewer where a header can't be read
+abbrev pub first_boxes : ℕ → ℕ → List ℕ → List Box
+first_boxes zero at bytes = []
+first_boxes (suc n) at bytes = box_and_more at bytes (header_at false bytes) (λ h. first_boxes n (at + h.size) (drop h.size bytes))
+
+-- so many boxes lie in front of these bytes
+pub record HasBoxes (count at : ℕ) (bytes : List ℕ) : Type 0 where
+  pub lie : LieEndToEnd false at bytes (first_boxes count at bytes)
+  pub many : length (first_boxes count at bytes) ≡ count
+
 -- what boxes lie in: a box or the file, by its type and first byte, where its children begin, and the bytes from there to its end
 pub record Container : Type 0 where
   pub kind : List ℕ
@@ -80,6 +95,10 @@ pub record Container : Type 0 where
 -- the file as a container
 abbrev pub file_container : List ℕ → Container
 file_container file = record { kind = codes "file"; offset = 0; at = 0; bytes = file; extent = to_end_of_file }
+
+-- some bytes inside a box of this type that are boxes, from this place of the file on
+abbrev pub bytes_container : List ℕ → ℕ → List ℕ → Container
+bytes_container kind at bytes = record { kind = kind; offset = at; at = at; bytes = bytes; extent = to_end_of_box }
 
 -- a box whose payload is boxes
 abbrev pub box_container : Box → Container

@@ -1,6 +1,8 @@
 pub mod Bytes
 pub mod Box
+pub mod View
 pub mod Children
+pub mod Lines
 pub mod Layout
 pub mod Written
 pub mod Places

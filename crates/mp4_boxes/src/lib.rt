@@ -1,14 +1,24 @@
-//! Boxes: their headers, which boxes may stand in which, and the faults of a file.
+//! Boxes: their headers, how they lie in a container, which of them may stand where, and the faults of a file.
 #![tactic(auto)]
 
 mod fault;
-mod header;
+mod four_cc;
+mod headers;
+mod listing;
+mod numbers;
 mod refusal;
 mod rule;
-mod walk;
+mod sequence;
+mod steps;
+mod view;
 
 pub use fault::{Fault, Kind};
-pub use header::{HeaderFields, inner_header};
-pub use refusal::Refusal;
+pub use four_cc::FourCc;
+pub use headers::{TopHeader, top_header};
+pub use listing::children;
+pub use numbers::{i32_at, i64_at, u16_at, u32_at, u64_at};
+pub use refusal::{Memory, Refusal};
 pub use rule::Rule;
-pub use walk::check_tiling;
+pub use sequence::Children;
+pub use steps::Steps;
+pub use view::BoxView;

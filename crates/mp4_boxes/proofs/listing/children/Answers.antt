@@ -1,0 +1,44 @@
+use Rattle.std.proofs.Common.{rules, ◌≡◌, ◌+◌, ◌-◌, ◌<◌, ◌≤◌, length, drop, take, false, arith}
+use Rattle.std.proofs.lemmas.List.{take_rest}
+use Rattle.std.proofs.lemmas.Result.{err_from_is_err_and}
+use Rattle.mp4_boxes.specs.Box.{header_at, first_boxes, bytes_container}
+use Rattle.mp4_boxes.specs.View.{header_seen}
+use Rattle.mp4_boxes.proofs.Tiling.{tiles_one, header_fault_refuses}
+use Rattle.mp4_boxes.proofs.Walking.{passed_more, passed_few, passed_has, passed_tiles, passed_fault, located_ok}
+use Rattle.mp4_boxes.proofs.listing.children.Goals as goal
+
+pub overflow_add-count : goal.overflow_add-count
+overflow_add-count c =
+    let few = passed_few c.args.base c.args.bytes.now c.loop-at.count c.loop-at.at c.loop-at.invariant in
+    let some = c.loop-at-test.true in
+    let fits = c.requires in
+    search rules
+
+pub loop-at-preserved : goal.loop-at-preserved
+loop-at-preserved c =
+    let read = rw (take_rest c.args.bytes.now c.loop-at.at) at c.in_ok-header.ensures in
+    passed_more c.args.base c.args.bytes.now c.loop-at.count c.loop-at.at (header_seen c.in_ok-header.header) c.loop-at.invariant
+    (located_ok c.args.container.0 (c.args.base + c.loop-at.at) (drop c.loop-at.at c.args.bytes.now) (header_at false (drop c.loop-at.at c.args.bytes.now)) (header_seen c.in_ok-header.header) read)
+
+pub returns-in_err-header-clause-only : goal.returns-in_err-header-clause-only
+returns-in_err-header-clause-only c boxes t =
+    let read = rw (take_rest c.args.bytes.now c.loop-at.at) at c.in_err-header.ensures in
+    let h = passed_fault c.args.container.0 c.args.base c.args.base c.args.bytes.now c.loop-at.count c.loop-at.at c.in_err-header.field-0.0 c.loop-at.invariant (search rules) read in
+    absurd (header_fault_refuses (bytes_container c.args.container.0 c.args.base c.args.bytes.now) c.in_err-header.field-0.0 boxes h t)
+
+pub returns-in_err-header-clause-fault : goal.returns-in_err-header-clause-fault
+returns-in_err-header-clause-fault c =
+    let p = err_from_is_err_and c.from_residual.result c.from_residual.ensures.1 in
+    let read = rw (take_rest c.args.bytes.now c.loop-at.at) at c.in_err-header.ensures in
+    rw (p.1, p.2) (passed_fault c.args.container.0 c.args.base c.args.base c.args.bytes.now c.loop-at.count c.loop-at.at c.in_err-header.field-0.0 c.loop-at.invariant (search rules) read)
+
+pub invariant_of-result : goal.invariant_of-result
+invariant_of-result c = (passed_has c.args.base c.args.bytes.now c.loop-at.count c.loop-at.at c.loop-at.invariant, c.requires)
+
+pub returns-clause-tiles : goal.returns-clause-tiles
+returns-clause-tiles c = passed_tiles c.args.container.0 c.args.base c.args.base c.args.bytes.now c.loop-at.count c.loop-at.at c.loop-at.invariant (search rules)
+
+pub returns-clause-only : goal.returns-clause-only
+returns-clause-only c boxes t =
+    tiles_one (bytes_container c.args.container.0 c.args.base c.args.bytes.now) _ boxes
+    (passed_tiles c.args.container.0 c.args.base c.args.base c.args.bytes.now c.loop-at.count c.loop-at.at c.loop-at.invariant (search rules)) t
