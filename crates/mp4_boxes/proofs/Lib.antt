@@ -1,5 +1,6 @@
 pub mod Tiling
 pub mod Walking
+pub mod Admitting
 pub mod Fields
 pub mod Lying
 pub mod Members

@@ -15,7 +15,7 @@ mod view;
 pub use fault::{Fault, Kind};
 pub use four_cc::FourCc;
 pub use headers::{TopHeader, top_header};
-pub use listing::children;
+pub use listing::{check_children, children, counted};
 pub use numbers::{i32_at, i64_at, u16_at, u32_at, u64_at};
 pub use refusal::{Memory, Refusal};
 pub use rule::Rule;
