@@ -1,17 +1,17 @@
 -- A walk over the boxes of a container under a rule of the table, and over counted boxes.
-use Rattle.std.proofs.Common.{◌≡◌, ℕ, ◌+◌, ◌<◌, ◌≤◌, Bool, true, false, List, [], ◌∷◌, ◌++◌, length, drop, Result, Ok, Err, IsTrue, refl, sym, ap, subst, ◌∙◌, arith, ltb, if◌then◌else◌}
+use Rattle.std.proofs.Common.{◌≡◌, ℕ, ◌+◌, ◌<◌, ◌≤◌, Bool, true, false, List, [], ◌∷◌, ◌++◌, length, drop, Ok, Err, IsTrue, refl, sym, ap, subst, ◌∙◌, arith, ltb, if◌then◌else◌}
 use Rattle.std.specs.Prelude.{not, ◌&&◌, ◌||◌, nat_lt}
 use Rattle.std.specs.List.{AllByRecursion, list_any}
 use Rattle.std.proofs.lemmas.Bool.{ltb-true, ltb-false}
 use Rattle.mp4_boxes.specs.Bytes.{field}
 use Rattle.mp4_boxes.specs.Box.{Box, Header, Container, Tiles, to_end_of_box, counted, header_at, box_of, sizes, first_boxes, box_container, counted_container, StandsAfter}
-use Rattle.mp4_boxes.specs.BoxFaults.{IsHeaderFault, IsNotInProfile, IsDuplicate, IsMissing, header_there, unreadable, fault_of, fault_in}
+use Rattle.mp4_boxes.specs.BoxFaults.{IsHeaderFault, IsNotInProfile, IsDuplicate, IsMissing, header_there, unreadable, fault_of}
 use Rattle.mp4_boxes.specs.Children.{Line, Quantity, one, at_most_one, any, IsQuantity, Holds, table, is_among, allows, repeats, lacks, is_single, is_needed, count_among}
 use Rattle.mp4_boxes.specs.declared.rule.Rule.{Rule}
 use Rattle.mp4_boxes.specs.declared.fault.Fault.{Fault}
 use Rattle.mp4_boxes.specs.declared.fault.Kind.TheVariants.{BoxNotInProfile, DuplicateBox, MissingBox}
 use Rattle.mp4_boxes.proofs.Among.{all_append, count-append}
-use Rattle.mp4_boxes.proofs.Walking.{Passed, passed_more, passed_more-boxes, passed_boxes, passed_within, passed_tiles, passed_fault, located_err}
+use Rattle.mp4_boxes.proofs.Walking.{Passed, passed_more, passed_more-boxes, passed_boxes, passed_tiles, passed_fault, located_err}
 use Rattle.mp4_boxes.proofs.Tiling.{lies_push}
 
 -- ---- the boxes of a box
@@ -56,7 +56,8 @@ counted_fault b base bytes due count at f e g d p lt h =
       due = omega arith;
       kind = r.0;
       fails = ap (λ (n : ℕ). header_at false (drop n bytes)) t ∙ r.1;
-      named = r.2 ∙ ap (λ (n : ℕ). unreadable b.kind (base + n) (drop n bytes) r.0) (sym t) })
+      named = r.2 ∙ ap (λ (n : ℕ). unreadable b.kind (base + n) (drop n bytes) r.0) (sym t);
+    })
 
 -- ---- boxes that the table allows
 
@@ -106,7 +107,8 @@ admitted_more rule base bytes count at h a e allowed fresh =
     record {
       passed = passed_more base bytes count at h p e;
       allowed = rw is (all_append (λ (x : Box). IsTrue (allows rule x.kind)) p.boxes (b ∷ []) a.allowed (allowed, tt));
-      few = rw is (few_more (table rule) p.boxes b a.few new) }
+      few = rw is (few_more (table rule) p.boxes b a.few new);
+    }
 
 not_false : (b : Bool) → not b ≡ false → b ≡ true
 not_false true e = refl
@@ -134,16 +136,19 @@ admitted_holds rule b base bytes count at e f a le whole =
     record {
       tiles = box_tiles b base bytes count at e f a.passed le;
       allowed = rw s a.allowed;
-      quantities = rw s (quantities_are (table rule) a.passed.boxes a.few w) }
+      quantities = rw s (quantities_are (table rule) a.passed.boxes a.few w);
+    }
 
 -- the box that was read stands in the container
 stands_there : (b : Box) (base : ℕ) (bytes : List ℕ) (count at : ℕ) (h : Header) → base ≡ b.offset + b.header → bytes ≡ b.payload → (p : Passed base bytes count at) → header_at false (drop at bytes) ≡ Ok h
     → (next : Box) × (◌≡◌ {A = Box} next (box_of (base + at) (drop at bytes) h)) × StandsAfter (box_container b) p.boxes next
 stands_there b base bytes count at h e f p r =
     let t = p.taken in
-    let read : header_at false (drop (sizes p.boxes) bytes) ≡ Ok h = ap (λ (k : ℕ). header_at false (drop k bytes)) t ∙ r in
-    (box_of (base + sizes p.boxes) (drop (sizes p.boxes) bytes) h, ap (λ (n : ℕ). box_of (base + n) (drop n bytes) h) t,
-    as_box (λ (c : Container). StandsAfter c p.boxes (box_of (base + sizes p.boxes) (drop (sizes p.boxes) bytes) h)) b base bytes e f (lies_push false base bytes p.boxes h p.lie read, tt))
+    let read : header_at false (drop (sizes p.boxes) bytes) ≡ Ok h = ap (λ (k : ℕ). header_at false (drop k bytes)) t ∙ r in (
+      box_of (base + sizes p.boxes) (drop (sizes p.boxes) bytes) h,
+      ap (λ (n : ℕ). box_of (base + n) (drop n bytes) h) t,
+      as_box (λ (c : Container). StandsAfter c p.boxes (box_of (base + sizes p.boxes) (drop (sizes p.boxes) bytes) h)) b base bytes e f (lies_push false base bytes p.boxes h p.lie read, tt),
+    )
 
 -- A box that the table doesn't allow stands in the container.
 pub not_allowed : (rule : Rule) (b : Box) (base : ℕ) (bytes : List ℕ) (count at : ℕ) (h : Header) → base ≡ b.offset + b.header → bytes ≡ b.payload → Admitted rule base bytes count at → header_at false (drop at bytes) ≡ Ok h
@@ -155,7 +160,8 @@ not_allowed rule b base bytes count at h e f a r refused =
       b = s.0;
       stands = s.2;
       refused = ap (λ (x : Box). allows rule x.kind) s.1 ∙ refused;
-      named = ap (fault_of BoxNotInProfile) (sym s.1) }
+      named = ap (fault_of BoxNotInProfile) (sym s.1);
+    }
 
 -- A box that repeats one stands in the container.
 pub one_too_many : (rule : Rule) (b : Box) (base : ℕ) (bytes : List ℕ) (count at : ℕ) (h : Header) → base ≡ b.offset + b.header → bytes ≡ b.payload → Admitted rule base bytes count at → header_at false (drop at bytes) ≡ Ok h
@@ -168,7 +174,8 @@ one_too_many rule b base bytes count at h e f a r again =
       b = s.0;
       stands = s.2;
       repeated = (λ i. repeats rule (sym same i) (s.1 i).kind) ∙ again;
-      named = ap (fault_of DuplicateBox) (sym s.1) }
+      named = ap (fault_of DuplicateBox) (sym s.1);
+    }
 
 -- A box that must stand does not.
 pub one_missing : (rule : Rule) (b : Box) (base : ℕ) (bytes : List ℕ) (count at : ℕ) → base ≡ b.offset + b.header → bytes ≡ b.payload → Admitted rule base bytes count at → length bytes ≤ at

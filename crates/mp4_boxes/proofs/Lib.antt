@@ -1,6 +1,7 @@
 pub mod Tiling
 pub mod Walking
 pub mod Admitting
+pub mod HeaderBytes
 pub mod Fields
 pub mod Lying
 pub mod Members

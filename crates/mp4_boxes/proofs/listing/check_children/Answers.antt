@@ -1,7 +1,7 @@
-use Rattle.std.proofs.Common.{rules, ◌≡◌, ◌+◌, ◌-◌, ◌<◌, ◌≤◌, length, true, false, ap, ◌∙◌, sym, inl, inr, arith}
+use Rattle.std.proofs.Common.{rules, ◌≡◌, ◌+◌, true, false, ◌∙◌, sym, inl, inr}
 use Rattle.std.proofs.lemmas.Result.{err_from_is_err_and}
 use Rattle.mp4_boxes.specs.Box.{box_container}
-use Rattle.mp4_boxes.specs.Children.{allows, repeats, lacks, Holds}
+use Rattle.mp4_boxes.specs.Children.{allows}
 use Rattle.mp4_boxes.specs.View.{box_seen, header_seen}
 use Rattle.mp4_boxes.proofs.Tiling.{tiles_one}
 use Rattle.mp4_boxes.proofs.Refusing.{child_fault_refuses}
