@@ -1,1 +1,3 @@
 pub mod Vectors
+pub mod TypeTexts
+pub mod Decimals

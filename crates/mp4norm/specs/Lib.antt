@@ -1,2 +1,3 @@
 pub mod Texts
 pub mod Headline
+pub mod BoxWalk

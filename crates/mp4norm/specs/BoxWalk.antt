@@ -1,0 +1,44 @@
+-- The walk over the boxes of a file that lists them: which containers it descends into, and what it answers.
+use Rattle.std.specs.Prelude.{◌≡◌, ℕ, List, Bool, IsTrue, Option, Some, None, Result, Ok, Err}
+use Rattle.std.specs.Io.KnownBytes.{Appends}
+use Rattle.mp4_store.specs.Device.{HasRisen, AppendsPrefix}
+use Rattle.mp4_boxes.specs.Box.{Box, Container, box_container, file_container}
+use Rattle.mp4_boxes.specs.BoxFaults.{IsHeaderFault}
+use Rattle.mp4_boxes.specs.Places.{Place, ruled, containers, at_kind, whole, Reaches}
+use Rattle.mp4_boxes.specs.declared.rule.Rule.{Rule}
+use Rattle.mp4_boxes.specs.declared.rule.Rule.TheVariants.{File, Movie, Track, Edits, Media, MediaInformation, DataInformation, SampleTable, MovieExtends, MovieFragment, TrackFragment}
+use Rattle.mp4_boxes.specs.declared.fault.Fault.{Fault}
+use Rattle.mp4_boxes.specs.declared.refusal.Refusal.{Refusal}
+use Rattle.mp4_boxes.specs.declared.refusal.Refusal.TheVariants as refusals
+use Rattle.mp4norm.specs.Texts.{descends, BoxLines}
+
+-- how many levels of boxes lie under a rule at most, its own included
+abbrev pub height : Rule → ℕ
+height File = 6
+height Movie = 5
+height Track = 4
+height Media = 3
+height MediaInformation = 2
+height MovieFragment = 2
+height _ = 1
+
+abbrev pub under : Rule → Container → Place
+under rule c = record { scope = ruled rule; container = c }
+
+-- the rule of the boxes in a box of this type, where the walk descends into it
+abbrev pub rule_inside : Rule → List ℕ → Option Rule
+rule_inside rule kind = descends (at_kind (containers (ruled rule)) kind)
+
+-- A header that the walk looks at can't be read.
+pub record FaultSeen (from : Place) (f : Fault) : Type 0 where
+  pub place : Place
+  pub reaches : Reaches from place
+  pub rule : Rule
+  pub is_looked_at : place.scope ≡ ruled rule
+  pub fault : IsHeaderFault place.container f
+
+-- why the boxes in a box are not listed
+abbrev pub RefusesInside : Rule → Box → Refusal → Type 0
+RefusesInside rule b (refusals.Fault f) = (inner : Rule) × (rule_inside rule b.kind ≡ Some inner) × FaultSeen (under inner (box_container b)) f
+RefusesInside rule b refusals.Memory = Unit {0}
+RefusesInside rule b _ = ⊥

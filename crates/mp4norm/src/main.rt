@@ -1,0 +1,7 @@
+//! `mp4norm`: lists the boxes of an MP4 file.
+#![tactic(auto)]
+
+mod fault_text;
+mod line;
+
+fn main() {}
