@@ -5,7 +5,7 @@ use Rattle.std.specs.List.{AllByRecursion, list_any}
 use Rattle.std.proofs.lemmas.Bool.{ltb-true, ltb-false}
 use Rattle.mp4_boxes.specs.Bytes.{field}
 use Rattle.mp4_boxes.specs.Box.{Box, Header, Container, Tiles, to_end_of_box, counted, header_at, box_of, sizes, first_boxes, box_container, counted_container, StandsAfter}
-use Rattle.mp4_boxes.specs.BoxFaults.{IsHeaderFault, IsNotInProfile, IsDuplicate, IsMissing, header_there, unreadable, fault_of}
+use Rattle.mp4_boxes.specs.BoxFaults.{IsHeaderFault, IsNotInProfile, IsDuplicate, IsMissing, header_there, type_of, unreadable, fault_of}
 use Rattle.mp4_boxes.specs.Children.{Line, Quantity, one, at_most_one, any, IsQuantity, Holds, table, is_among, allows, repeats, lacks, is_single, is_needed, count_among}
 use Rattle.mp4_boxes.specs.declared.rule.Rule.{Rule}
 use Rattle.mp4_boxes.specs.declared.fault.Fault.{Fault}
@@ -46,7 +46,7 @@ counted_tiles b base bytes due count at e f d p full =
 pub counted_fault : (b : Box) (base : ℕ) (bytes : List ℕ) (due count at : ℕ) (f : Fault) → base ≡ b.offset + b.header + 8 → bytes ≡ drop 8 b.payload → due ≡ field b.payload 4 4
     → Passed base bytes count at → count < due → header_there false (length (drop at bytes)) (drop at bytes) b.kind (base + at) ≡ Err f → IsHeaderFault (counted_container b) f
 counted_fault b base bytes due count at f e g d p lt h =
-    let r = located_err b.kind (base + at) (drop at bytes) (header_at false (drop at bytes)) f h in
+    let r = located_err b.kind (base + at) (type_of (drop at bytes)) (header_at false (drop at bytes)) f h in
     let t = p.taken in
     let m = p.many in
     as_counted (λ (c : Container). IsHeaderFault c f) b base bytes due e g d
@@ -56,7 +56,7 @@ counted_fault b base bytes due count at f e g d p lt h =
       due = omega arith;
       kind = r.0;
       fails = ap (λ (n : ℕ). header_at false (drop n bytes)) t ∙ r.1;
-      named = r.2 ∙ ap (λ (n : ℕ). unreadable b.kind (base + n) (drop n bytes) r.0) (sym t);
+      named = r.2 ∙ ap (λ (n : ℕ). unreadable b.kind (base + n) (type_of (drop n bytes)) r.0) (sym t);
     })
 
 -- ---- boxes that the table allows

@@ -2,6 +2,7 @@ pub mod Tiling
 pub mod Walking
 pub mod Admitting
 pub mod HeaderBytes
+pub mod HeaderFronts
 pub mod Fields
 pub mod Lying
 pub mod Members

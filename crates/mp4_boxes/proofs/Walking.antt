@@ -3,7 +3,7 @@ use Rattle.std.proofs.Common.{◌≡◌, ℕ, zero, suc, ◌+◌, ◌-◌, ◌<�
 use Rattle.std.proofs.lemmas.List.{drop-take, take_rest}
 use Rattle.mp4_boxes.specs.Box.{Box, Header, header_at, box_of, size, sizes, LieEndToEnd, box_and_more, first_boxes, HasBoxes}
 use Rattle.mp4_boxes.specs.Box.{Tiles, to_end_of_box}
-use Rattle.mp4_boxes.specs.BoxFaults.{IsHeaderFault, located, header_there, unreadable}
+use Rattle.mp4_boxes.specs.BoxFaults.{IsHeaderFault, located, header_there, type_of, unreadable}
 use Rattle.mp4_boxes.specs.declared.fault.Fault.{Fault}
 use Rattle.mp4_boxes.specs.declared.fault.Kind.{Kind}
 use Rattle.mp4_boxes.proofs.Tiling.{header_is, header_kind, box_size, first_fits, lies_push, sizes-append, sizes-cons, sizes_fit}
@@ -154,20 +154,20 @@ first_readable count at bytes has some = let n = next_of count at bytes has some
 -- ---- what a walk answers
 
 -- a header that was read is one
-pub located_ok : (container : List ℕ) (at : ℕ) (bytes : List ℕ) (r : Result Header Kind) (h : Header) → located container at bytes r ≡ Ok h → r ≡ Ok h
-located_ok container at bytes (Ok g) h e = let same : g ≡ h = cc in ap (λ (x : Header). Ok x) same
-located_ok container at bytes (Err k) h e = absurd cc
+pub located_ok : (container : List ℕ) (at : ℕ) (box_type : List ℕ) (r : Result Header Kind) (h : Header) → located container at box_type r ≡ Ok h → r ≡ Ok h
+located_ok container at box_type (Ok g) h e = let same : g ≡ h = cc in ap (λ (x : Header). Ok x) same
+located_ok container at box_type (Err k) h e = absurd cc
 
 -- a fault that was found says in which way there is none
-pub located_err : (container : List ℕ) (at : ℕ) (bytes : List ℕ) (r : Result Header Kind) (f : Fault) → located container at bytes r ≡ Err f → (kind : Kind) × (r ≡ Err kind) × (f ≡ unreadable container at bytes kind)
-located_err container at bytes (Ok g) f e = absurd cc
-located_err container at bytes (Err k) f e = let same : unreadable container at bytes k ≡ f = cc in (k, refl, sym same)
+pub located_err : (container : List ℕ) (at : ℕ) (box_type : List ℕ) (r : Result Header Kind) (f : Fault) → located container at box_type r ≡ Err f → (kind : Kind) × (r ≡ Err kind) × (f ≡ unreadable container at box_type kind)
+located_err container at box_type (Ok g) f e = absurd cc
+located_err container at box_type (Err k) f e = let same : unreadable container at box_type k ≡ f = cc in (k, refl, sym same)
 
 -- the same for a header that was read behind some bytes
 pub read_behind : (bytes : List ℕ) (at : ℕ) (container : List ℕ) (place : ℕ) (h : Header)
     → header_there false (length (take (length bytes - at) (drop at bytes))) (take (length bytes - at) (drop at bytes)) container place ≡ Ok h → header_at false (drop at bytes) ≡ Ok h
 read_behind bytes at container place h e =
-    let r = rw (take_rest bytes at) at e in located_ok container place (drop at bytes) (header_at false (drop at bytes)) h r
+    let r = rw (take_rest bytes at) at e in located_ok container place (type_of (drop at bytes)) (header_at false (drop at bytes)) h r
 
 -- and for a fault, where the container's type is known by another word
 pub fault_behind : (bytes : List ℕ) (at : ℕ) (container kind : List ℕ) (place : ℕ) (f : Fault) → container ≡ kind
@@ -196,7 +196,7 @@ pub passed_fault : (kind : List ℕ) (offset base : ℕ) (bytes : List ℕ) (cou
     → header_there false (length (drop at bytes)) (drop at bytes) kind (base + at) ≡ Err f
     → IsHeaderFault (record { kind = kind; offset = offset; at = base; bytes = bytes; extent = to_end_of_box }) f
 passed_fault kind offset base bytes count at f p lt e =
-    let r = located_err kind (base + at) (drop at bytes) (header_at false (drop at bytes)) f e in
+    let r = located_err kind (base + at) (type_of (drop at bytes)) (header_at false (drop at bytes)) f e in
     let t = p.taken in
     record {
       before = p.boxes;
@@ -204,5 +204,5 @@ passed_fault kind offset base bytes count at f p lt e =
       due = omega arith;
       kind = r.0;
       fails = ap (λ (n : ℕ). header_at false (drop n bytes)) t ∙ r.1;
-      named = r.2 ∙ ap (λ (n : ℕ). unreadable kind (base + n) (drop n bytes) r.0) (sym t);
+      named = r.2 ∙ ap (λ (n : ℕ). unreadable kind (base + n) (type_of (drop n bytes)) r.0) (sym t);
     }

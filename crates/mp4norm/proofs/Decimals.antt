@@ -37,7 +37,8 @@ next_by number left (suc room) start behind lt some whole enough =
       whole = whole ∙ rw (more, glyph left) refl;
       enough = omega arith;
       some = not_one start (left / 10) lt some;
-      small = lt }
+      small = lt;
+    }
 
 -- a digit before the last is written
 pub writing_next : (number left start : ℕ) (behind : List ℕ) → Writing number left start behind → 0 < left / 10 → Writing number (left / 10) (start - 1) ((48 + left % 10) ∷ behind)

@@ -1,3 +1,4 @@
 pub mod Vectors
 pub mod TypeTexts
 pub mod Decimals
+pub mod BoxLists

@@ -1,5 +1,5 @@
 -- The walk over the boxes of a file that lists them: which containers it descends into, and what it answers.
-use Rattle.std.specs.Prelude.{◌≡◌, ℕ, List, Bool, IsTrue, Option, Some, None, Result, Ok, Err}
+use Rattle.std.specs.Prelude.{◌≡◌, ℕ, ◌+◌, ◌-◌, List, Bool, IsTrue, Option, Some, None, Result, Ok, Err}
 use Rattle.std.specs.Io.KnownBytes.{Appends}
 use Rattle.mp4_store.specs.Device.{HasRisen, AppendsPrefix}
 use Rattle.mp4_boxes.specs.Box.{Box, Container, box_container, file_container}
@@ -10,7 +10,7 @@ use Rattle.mp4_boxes.specs.declared.rule.Rule.TheVariants.{File, Movie, Track, E
 use Rattle.mp4_boxes.specs.declared.fault.Fault.{Fault}
 use Rattle.mp4_boxes.specs.declared.refusal.Refusal.{Refusal}
 use Rattle.mp4_boxes.specs.declared.refusal.Refusal.TheVariants as refusals
-use Rattle.mp4norm.specs.Texts.{descends, BoxLines}
+use Rattle.mp4norm.specs.Texts.{descends, IsPart, AreBoxLines, BoxLines}
 
 -- how many levels of boxes lie under a rule at most, its own included
 abbrev pub height : Rule → ℕ
@@ -42,3 +42,17 @@ abbrev pub RefusesInside : Rule → Box → Refusal → Type 0
 RefusesInside rule b (refusals.Fault f) = (inner : Rule) × (rule_inside rule b.kind ≡ Some inner) × FaultSeen (under inner (box_container b)) f
 RefusesInside rule b refusals.Memory = Unit {0}
 RefusesInside rule b _ = ⊥
+
+-- the boxes in a box have these lines, if the walk descends into it; else there are none
+abbrev pub IsListed : Rule → ℕ → Box → List ℕ → Type 0
+IsListed rule depth b part = IsPart (AreBoxLines (height rule - 1) (depth + 1)) depth (rule_inside rule b.kind) b part
+
+-- What the list of boxes answers of an honest store's file: the lines, or a fault that stands at a header that is looked at.
+-- `before` and `after` are what the sink holds, the numbers are counts of failures.
+abbrev pub RefusesBoxes : Bool → List ℕ → Option (List ℕ) → Option (List ℕ) → ℕ → ℕ → ℕ → ℕ → Refusal → Type 0
+RefusesBoxes honest file before after reads reads_after puts puts_after (refusals.Fault f) = (IsTrue honest → FaultSeen (under File (file_container file)) f) × (after ≡ before)
+RefusesBoxes honest file before after reads reads_after puts puts_after refusals.Memory = after ≡ before
+RefusesBoxes honest file before after reads reads_after puts puts_after refusals.StoreFailed = HasRisen reads reads_after × (after ≡ before)
+RefusesBoxes honest file before after reads reads_after puts puts_after refusals.WriteFailed =
+    HasRisen puts puts_after × (IsTrue honest → (text : List ℕ) × BoxLines file text × AppendsPrefix before after text)
+RefusesBoxes honest file before after reads reads_after puts puts_after _ = ⊥
