@@ -11,3 +11,4 @@ pub mod Fronts
 pub mod FragmentReasons
 pub mod Counts
 pub mod Vectors
+pub mod TopLevel

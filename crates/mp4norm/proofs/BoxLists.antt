@@ -1,9 +1,9 @@
 -- Lines of boxes, as a walk over them adds them, and the faults that it meets.
-use Rattle.std.proofs.Common.{◌≡◌, ℕ, zero, suc, ◌+◌, ◌-◌, ◌<◌, ◌≤◌, Bool, true, false, cond, List, [], ◌∷◌, ◌++◌, Option, Some, None, refl, sym, ap, subst, ◌∙◌, arith, append_assoc}
-use Rattle.std.specs.Prelude.{option_map, drop}
+use Rattle.std.proofs.Common.{◌≡◌, ℕ, zero, suc, ◌+◌, ◌-◌, ◌<◌, ◌≤◌, Bool, true, false, cond, List, [], ◌∷◌, ◌++◌, Option, Some, None, refl, sym, ap, subst, ◌∙◌, arith, append_assoc, get_or}
+use Rattle.std.specs.Prelude.{option_map, length, take, drop, IsTrue, Result, Ok, Err, IfErr}
 use Rattle.std.specs.List.{AllZip, concat}
-use Rattle.std.proofs.lemmas.List.{append-nil}
-use Rattle.mp4_boxes.specs.Box.{Box, Container, Tiles, LieEndToEnd, may_be_open, size, box_container, bytes_container, IsCounted, Extent, to_end_of_file, to_end_of_box, counted, StandsAfter, IsFront}
+use Rattle.std.proofs.lemmas.List.{append-nil, drop_more}
+use Rattle.mp4_boxes.specs.Box.{Box, Container, Tiles, LieEndToEnd, may_be_open, size, box_container, bytes_container, file_container, IsCounted, Extent, to_end_of_file, to_end_of_box, counted, StandsAfter, IsFront}
 use Rattle.mp4_boxes.specs.BoxFaults.{IsHeaderFault}
 use Rattle.mp4_boxes.specs.Places.{Place, Scope, ruled, data_entries, sample_entries, containers, at_kind, inside, as_container}
 use Rattle.mp4_boxes.specs.declared.rule.Rule.{Rule}
@@ -12,7 +12,11 @@ use Rattle.mp4_boxes.specs.declared.fault.Fault.{Fault}
 use Rattle.mp4_boxes.specs.declared.refusal.Refusal.{Refusal}
 use Rattle.mp4_boxes.specs.declared.refusal.Refusal.TheVariants as refusals
 use Rattle.mp4norm.specs.Texts.{descends, IsPart, AreBoxLines, box_line}
-use Rattle.mp4norm.specs.BoxWalk.{height, under, rule_inside, FaultSeen, RefusesInside, IsListed}
+use Rattle.mp4_store.specs.Device.{range}
+use Rattle.mp4_present.specs.Reading.{RefusesHeader}
+use Rattle.mp4_present.proofs.TopLevel.{TopPassed, top_fault}
+use Rattle.mp4norm.specs.declared.boxes.TopBox.{TopBox}
+use Rattle.mp4norm.specs.BoxWalk.{height, under, rule_inside, FaultSeen, RefusesInside, IsListed, RefusesTop, RefusesTops, top_seen, tops_seen}
 
 -- ---- a loop over boxes that adds a part for each
 
@@ -44,7 +48,8 @@ listed_more P all start text left b part text' left' l e h t = record {
   parts = l.parts ++ part ∷ [];
   whole = append_assoc l.passed (b ∷ []) left' ∙ ap (λ (bs : List Box). l.passed ++ bs) (sym e) ∙ l.whole;
   each = zip_push P l.passed l.parts b part l.each h;
-  added = t ∙ ap (λ (xs : List ℕ). xs ++ part) l.added ∙ append_assoc start (concat l.parts) part ∙ ap (λ (xs : List ℕ). start ++ xs) (sym (concat_push l.parts part)) }
+  added = t ∙ ap (λ (xs : List ℕ). xs ++ part) l.added ∙ append_assoc start (concat l.parts) part ∙ ap (λ (xs : List ℕ). start ++ xs) (sym (concat_push l.parts part));
+}
 
 -- all boxes have their parts
 pub listed_all : (P : Box → List ℕ → Type 0) (all : List Box) (start text : List ℕ) (left : List Box) → Listed P all start text left → left ≡ []
@@ -110,10 +115,14 @@ pub levels_rise : (m n depth : ℕ) (rule : Rule) (c : Container) (text : List �
 levels_rise zero n depth rule c text le h = absurd h
 levels_rise (suc m) zero depth rule c text le h = absurd (omega arith)
 levels_rise (suc m) (suc n) depth rule c text le h =
-    let lift = λ (r : Rule) (d : Container) (t : List ℕ). levels_rise m n (depth + 1) r d t (omega arith) in
-    (h.0, h.1, h.2,
-    zip_map (λ b part. IsPart (AreBoxLines m (depth + 1)) depth (descends (at_kind (containers (ruled rule)) b.kind)) b part) (λ b part. IsPart (AreBoxLines n (depth + 1)) depth (descends (at_kind (containers (ruled rule)) b.kind)) b part)
-      (λ b part. part_map (AreBoxLines m (depth + 1)) (AreBoxLines n (depth + 1)) depth lift (descends (at_kind (containers (ruled rule)) b.kind)) b part) h.0 h.2 h.3, h.4)
+    let lift = λ (r : Rule) (d : Container) (t : List ℕ). levels_rise m n (depth + 1) r d t (omega arith) in (
+      h.0,
+      h.1,
+      h.2,
+      zip_map (λ b part. IsPart (AreBoxLines m (depth + 1)) depth (descends (at_kind (containers (ruled rule)) b.kind)) b part) (λ b part. IsPart (AreBoxLines n (depth + 1)) depth (descends (at_kind (containers (ruled rule)) b.kind)) b part)
+          (λ b part. part_map (AreBoxLines m (depth + 1)) (AreBoxLines n (depth + 1)) depth lift (descends (at_kind (containers (ruled rule)) b.kind)) b part) h.0 h.2 h.3,
+      h.4,
+    )
 
 -- the lines of a container's boxes, from those of each
 pub lines_of_boxes : (depth : ℕ) (rule : Rule) (c : Container) (boxes : List Box) (parts : List (List ℕ)) → Tiles c boxes → AllZip (IsListed rule depth) boxes parts → AreBoxLines (height rule) depth rule c (concat parts)
@@ -167,16 +176,22 @@ seen_above rule inner c all passed left b f t whole many e s =
       reaches = (b ∷ s.reaches.0, (passed, stands_of c all passed left b t whole many, under inner (box_container b), into, s.reaches.1));
       rule = s.rule;
       is_looked_at = s.is_looked_at;
-      fault = s.fault }
+      fault = s.fault;
+    }
 
 -- a fault of a box's own boxes
 pub seen_here : (rule inner : Rule) (b : Box) (f : Fault) → rule_inside rule b.kind ≡ Some inner → IsHeaderFault (bytes_container b.kind (b.offset + b.header) b.payload) f → RefusesInside rule b (refusals.Fault f)
-seen_here rule inner b f e h = (inner, e, record {
-  place = under inner (box_container b);
-  reaches = ([], refl);
-  rule = inner;
-  is_looked_at = refl;
-  fault = record { before = h.before; front = h.front; due = h.due; kind = h.kind; fails = h.fails; named = h.named } })
+seen_here rule inner b f e h = (
+  inner,
+  e,
+  record {
+    place = under inner (box_container b);
+    reaches = ([], refl);
+    rule = inner;
+    is_looked_at = refl;
+    fault = record { before = h.before; front = h.front; due = h.due; kind = h.kind; fails = h.fails; named = h.named };
+  },
+)
 
 -- a box in it refuses
 pub refuses_above : (rule inner : Rule) (b : Box) (all passed left : List Box) (child : Box) (r : Refusal) → rule_inside rule b.kind ≡ Some inner → Tiles (box_container b) all → all ≡ passed ++ child ∷ left
@@ -195,3 +210,61 @@ tiles_box b boxes t = record { front = t.front; full = t.full }
 -- what is added by a box and those in it, in one part
 pub part_added : (start own text : List ℕ) (parts : List (List ℕ)) → text ≡ (start ++ own) ++ concat parts → text ≡ start ++ (own ++ concat parts)
 part_added start own text parts e = e ∙ append_assoc start own (concat parts)
+
+-- ---- the boxes of the file itself
+
+-- a box of the file refuses as its header and bytes do
+pub refuses_top : (honest : Bool) (file : List ℕ) (seen b : Box) (reads reads_after : ℕ) (r : Refusal) → (IsTrue honest → seen ≡ b) → RefusesInside File seen r → RefusesTop honest file b reads reads_after r
+refuses_top honest file seen b reads reads_after (refusals.Fault f) same h = λ t. subst (λ (x : Box). RefusesInside File x (refusals.Fault f)) (same t) h
+refuses_top honest file seen b reads reads_after refusals.Memory same h = tt
+refuses_top honest file seen b reads reads_after refusals.StoreFailed same h = absurd h
+refuses_top honest file seen b reads reads_after refusals.StoreChanged same h = h
+refuses_top honest file seen b reads reads_after refusals.WriteFailed same h = h
+refuses_top honest file seen b reads reads_after refusals.NoSuchTrack same h = h
+
+-- and so does the file
+pub refuses_tops : (honest : Bool) (file : List ℕ) (all left : List Box) (b : Box) (reads reads_after : ℕ) (r : Refusal) → (IsTrue honest → Tiles (file_container file) all) → (IsTrue honest → (passed : List Box) × (all ≡ passed ++ b ∷ left))
+    → RefusesTop honest file b reads reads_after r → RefusesTops honest file reads reads_after r
+refuses_tops honest file all left b reads reads_after (refusals.Fault f) t whole h = λ told. let r = h told in let w = whole told in seen_above File r.0 (file_container file) all w.0 left b f (t told) w.1 (λ bs. tt) r.1 r.2
+refuses_tops honest file all left b reads reads_after refusals.Memory t whole h = tt
+refuses_tops honest file all left b reads reads_after refusals.StoreFailed t whole h = h
+refuses_tops honest file all left b reads reads_after refusals.StoreChanged t whole h = h
+refuses_tops honest file all left b reads reads_after refusals.WriteFailed t whole h = h
+refuses_tops honest file all left b reads reads_after refusals.NoSuchTrack t whole h = h
+
+-- a header of the file itself that can't be read
+pub refuses_header : (honest : Bool) (file : List ℕ) (boxes : List Box) (at reads reads_after : ℕ) (r : Refusal) → (IsTrue honest → TopPassed file boxes at) → at < length file → RefusesHeader honest file at reads reads_after r
+    → RefusesTops honest file reads reads_after r
+refuses_header honest file boxes at reads reads_after (refusals.Fault f) p lt h = λ told. record {
+  place = under File (file_container file);
+  reaches = ([], refl);
+  rule = File;
+  is_looked_at = refl;
+  fault = top_fault file boxes at f (p told) lt (h told) }
+refuses_header honest file boxes at reads reads_after refusals.Memory p lt h = tt
+refuses_header honest file boxes at reads reads_after refusals.StoreFailed p lt h = h
+refuses_header honest file boxes at reads reads_after refusals.StoreChanged p lt h = h
+refuses_header honest file boxes at reads reads_after refusals.WriteFailed p lt h = h
+refuses_header honest file boxes at reads reads_after refusals.NoSuchTrack p lt h = h
+
+-- a box whose payload was read is the one in the file
+pub top_read : (file : List ℕ) (top : TopBox) (at : ℕ) (payload : List ℕ) → at ≡ top.offset + top.header.header → payload ≡ range file at (top.header.end - at)
+    → ◌≡◌ {A = Box} (record { kind = top.header.kind.0; offset = top.offset; header = top.header.header; payload = payload }) (top_seen file top)
+top_read file top at payload a p =
+    let len : top.header.end - at ≡ top.header.end - top.offset - top.header.header = omega arith in
+    let same = p ∙ (λ i. take (len i) (drop (a i) file)) in
+    λ i. record { kind = top.header.kind.0; offset = top.offset; header = top.header.header; payload = same i }
+
+-- what a refusal means is passed on under another word
+pub if_err : {T : Type 0} (r : Result T Refusal) (P Q : Refusal → Type 0) → ((e : Refusal) → P e → Q e) → IfErr r P → IfErr r Q
+if_err (Ok x) P Q f h = tt
+if_err (Err e) P Q f h = f e h
+
+-- the boxes from a place on: the one there, and the others
+pub tops_more : (file : List ℕ) (tops : List TopBox) (i : ℕ) (d : TopBox) → i < length tops → tops_seen file (drop i tops) ≡ top_seen file (get_or tops i d) ∷ tops_seen file (drop (i + 1) tops)
+tops_more file tops i d lt = ap (tops_seen file) (drop_more tops i d lt)
+
+-- the boxes before and behind a place are all
+pub tops_split : (file : List ℕ) (tops : List TopBox) (i : ℕ) (d : TopBox) (all passed : List Box) → all ≡ tops_seen file tops → passed ++ tops_seen file (drop i tops) ≡ all → i < length tops
+    → tops_seen file tops ≡ passed ++ top_seen file (get_or tops i d) ∷ tops_seen file (drop (i + 1) tops)
+tops_split file tops i d all passed e whole lt = sym e ∙ sym whole ∙ ap (λ (bs : List Box). passed ++ bs) (tops_more file tops i d lt)

@@ -1,5 +1,5 @@
 -- The walk over the boxes of a file that lists them: which containers it descends into, and what it answers.
-use Rattle.std.specs.Prelude.{◌≡◌, ℕ, ◌+◌, ◌-◌, List, Bool, IsTrue, Option, Some, None, Result, Ok, Err}
+use Rattle.std.specs.Prelude.{◌≡◌, ℕ, ◌+◌, ◌-◌, ◌≤◌, List, length, map, Bool, IsTrue, Option, Some, None, Result, Ok, Err}
 use Rattle.std.specs.Io.KnownBytes.{Appends}
 use Rattle.mp4_store.specs.Device.{HasRisen, AppendsPrefix}
 use Rattle.mp4_boxes.specs.Box.{Box, Container, box_container, file_container}
@@ -10,6 +10,8 @@ use Rattle.mp4_boxes.specs.declared.rule.Rule.TheVariants.{File, Movie, Track, E
 use Rattle.mp4_boxes.specs.declared.fault.Fault.{Fault}
 use Rattle.mp4_boxes.specs.declared.refusal.Refusal.{Refusal}
 use Rattle.mp4_boxes.specs.declared.refusal.Refusal.TheVariants as refusals
+use Rattle.mp4_present.specs.Reading.{top_box}
+use Rattle.mp4norm.specs.declared.boxes.TopBox.{TopBox}
 use Rattle.mp4norm.specs.Texts.{descends, IsPart, AreBoxLines, BoxLines}
 
 -- how many levels of boxes lie under a rule at most, its own included
@@ -56,3 +58,29 @@ RefusesBoxes honest file before after reads reads_after puts puts_after refusals
 RefusesBoxes honest file before after reads reads_after puts puts_after refusals.WriteFailed =
     HasRisen puts puts_after × (IsTrue honest → (text : List ℕ) × BoxLines file text × AppendsPrefix before after text)
 RefusesBoxes honest file before after reads reads_after puts puts_after _ = ⊥
+
+-- ---- the boxes of the file itself, by their headers
+
+abbrev pub top_seen : List ℕ → TopBox → Box
+top_seen file top = top_box file top.offset top.header
+
+abbrev pub tops_seen : List ℕ → List TopBox → List Box
+tops_seen file tops = map (top_seen file) tops
+
+-- the box lies in a file of this length
+abbrev pub IsWithin : List ℕ → TopBox → Type 0
+IsWithin file top = (top.offset + top.header.header ≤ top.header.end) × (top.header.end ≤ length file)
+
+-- why a box of the file itself is not listed
+abbrev pub RefusesTop : Bool → List ℕ → Box → ℕ → ℕ → Refusal → Type 0
+RefusesTop honest file b reads reads_after (refusals.Fault f) = IsTrue honest → RefusesInside File b (refusals.Fault f)
+RefusesTop honest file b reads reads_after refusals.Memory = Unit {0}
+RefusesTop honest file b reads reads_after refusals.StoreFailed = HasRisen reads reads_after
+RefusesTop honest file b reads reads_after _ = ⊥
+
+-- why the boxes of the file are not listed
+abbrev pub RefusesTops : Bool → List ℕ → ℕ → ℕ → Refusal → Type 0
+RefusesTops honest file reads reads_after (refusals.Fault f) = IsTrue honest → FaultSeen (under File (file_container file)) f
+RefusesTops honest file reads reads_after refusals.Memory = Unit {0}
+RefusesTops honest file reads reads_after refusals.StoreFailed = HasRisen reads reads_after
+RefusesTops honest file reads reads_after _ = ⊥

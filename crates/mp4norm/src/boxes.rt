@@ -1,11 +1,18 @@
 //! The boxes of a file, a line each.
-ghost use Rattle.std.specs.Prelude.{◌≡◌, ℕ, ◌+◌, ◌*◌, ◌-◌, ◌^◌, ◌<◌, ◌≤◌, ◌++◌, List, length, IfErr, OnOk};
+ghost use Rattle.std.specs.Prelude.{◌≡◌, ℕ, ◌+◌, ◌*◌, ◌-◌, ◌^◌, ◌<◌, ◌≤◌, ◌++◌, List, length, IfOk, IfErr, OnOk, IsTrue};
+ghost use Rattle.std.specs.List.{All};
+ghost use Rattle.std.specs.Io.KnownBytes.{Appends};
+ghost use Rattle.mp4_boxes.specs.Box.{Tiles, file_container};
 ghost use Rattle.mp4_boxes.specs.View.{box_seen};
-ghost use Rattle.mp4norm.specs.BoxWalk.{height, rule_inside, IsListed, RefusesInside};
-ghost use Rattle.mp4norm.specs.Texts.{line_text};
+ghost use Rattle.mp4_boxes.specs.declared.rule.Rule.TheVariants.{File};
+ghost use Rattle.mp4norm.specs.BoxWalk.{height, rule_inside, IsListed, RefusesInside, RefusesBoxes, top_seen, tops_seen, IsWithin, RefusesTop, RefusesTops};
+ghost use Rattle.mp4norm.specs.Texts.{line_text, BoxLines};
 
 use crate::line::Line;
-use mp4_boxes::{BoxView, FourCc, Refusal, Rule, children};
+use mp4_boxes::{BoxView, FourCc, Refusal, Rule, TopHeader, children};
+use mp4_present::{read_bytes, read_top_header};
+use mp4_store::{Sink, Store};
+use std::alloc::Global;
 
 // The line of a box of this type and size at this place of the file, in so many containers.
 fn line_of(depth: u8, kind: FourCc, offset: u64, size: u64) -> Line
@@ -60,5 +67,88 @@ fn push_box(text: &mut Vec<u8>, view: BoxView, rule: Rule, depth: u8) -> Result<
     for child in children(view.payload(), view.payload_offset(), view.kind())? {
         push_box(text, child, inner, depth + 1)?;
     }
+    Ok(())
+}
+
+// A box of the file itself.
+#[derive(Clone, Copy, Debug)]
+struct TopBox {
+    offset: u64,
+    header: TopHeader,
+}
+
+// The boxes of the file itself.
+fn top_boxes<S: Store>(alloc: Global, store: &mut S) -> Result<Vec<TopBox>, Refusal>
+    ensures honesty { S.is_honest store.new ≡ S.is_honest store.old }
+    ensures file { S.file store.new ≡ S.file store.old }
+    ensures tiles { IfOk result (λ tops. IsTrue (S.is_honest store.old) → Tiles (file_container (S.file store.old)) (tops_seen (S.file store.old) tops.items)) }
+    ensures within { IfOk result (λ tops. All (IsWithin (S.file store.old)) tops.items) }
+    ensures reads { OnOk result (S.read_failures store.new ≡ S.read_failures store.old) }
+    ensures refusal { IfErr result (RefusesTops (S.is_honest store.old) (S.file store.old) (S.read_failures store.old) (S.read_failures store.new)) }
+{
+    let mut tops = Vec::new(alloc);
+    let len = store.len();
+    let mut at = 0;
+    while at < len {
+        let header = read_top_header(store, at)?;
+        tops.push(TopBox { offset: at, header })?;
+        at = header.end;
+    }
+    Ok(tops)
+}
+
+// Adds the lines of a box of the file itself.
+fn push_top<S: Store>(
+    text: &mut Vec<u8>,
+    alloc: Global,
+    store: &mut S,
+    top: TopBox,
+) -> Result<(), Refusal>
+    requires { IsWithin (S.file store.old) top }
+    ensures honesty { S.is_honest store.new ≡ S.is_honest store.old }
+    ensures file { S.file store.new ≡ S.file store.old }
+    ensures lines { OnOk result (IsTrue (S.is_honest store.old) → (part : List ℕ) × IsListed File 0 (top_seen (S.file store.old) top) part × (text.new.items ≡ text.old.items ++ part)) }
+    ensures reads { OnOk result (S.read_failures store.new ≡ S.read_failures store.old) }
+    ensures refusal { IfErr result (RefusesTop (S.is_honest store.old) (S.file store.old) (top_seen (S.file store.old) top) (S.read_failures store.old) (S.read_failures store.new)) }
+{
+    let header = top.header;
+    if rule_inside(Rule::File, header.kind).is_none() {
+        let line = line_of(0, header.kind, top.offset, header.end - top.offset);
+        text.extend_from_slice(line.as_bytes())?;
+        return Ok(());
+    }
+    let at = top.offset + u64::from(header.header);
+    let payload = read_bytes(alloc, store, at, header.end - at)?;
+    let view = BoxView::new(header.kind, top.offset, header.header, payload.as_slice());
+    push_box(text, view, Rule::File, 0)
+}
+
+// The lines of all boxes that are listed.
+fn list_boxes<S: Store>(alloc: Global, store: &mut S) -> Result<Vec<u8>, Refusal>
+    ensures honesty { S.is_honest store.new ≡ S.is_honest store.old }
+    ensures file { S.file store.new ≡ S.file store.old }
+    ensures lines { IfOk result (λ text. IsTrue (S.is_honest store.old) → BoxLines (S.file store.old) text.items) }
+    ensures refusal { IfErr result (RefusesTops (S.is_honest store.old) (S.file store.old) (S.read_failures store.old) (S.read_failures store.new)) }
+{
+    let tops = top_boxes(alloc, store)?;
+    let mut text = Vec::new(alloc);
+    for top in &tops {
+        push_top(&mut text, alloc, store, *top)?;
+    }
+    Ok(text)
+}
+
+/// Puts a line for each box that is a box of the file or of a container of boxes: two spaces for each container
+/// that it stands in, its type, its place, its size. Every type is accepted. Where any header that is looked at
+/// is at fault, nothing is put.
+pub fn boxes<S: Store, K: Sink>(alloc: Global, store: &mut S, sink: &mut K) -> Result<(), Refusal>
+    ensures honesty { S.is_honest store.new ≡ S.is_honest store.old }
+    ensures file { S.file store.new ≡ S.file store.old }
+    ensures lines { OnOk result (IsTrue (S.is_honest store.old) → (text : List ℕ) × BoxLines (S.file store.old) text × Appends (K.contents sink.old) (K.contents sink.new) text) }
+    ensures refusal { IfErr result (RefusesBoxes (S.is_honest store.old) (S.file store.old) (K.contents sink.old) (K.contents sink.new)
+        (S.read_failures store.old) (S.read_failures store.new) (K.put_failures sink.old) (K.put_failures sink.new)) }
+{
+    let text = list_boxes(alloc, store)?;
+    sink.put(text.as_slice())?;
     Ok(())
 }

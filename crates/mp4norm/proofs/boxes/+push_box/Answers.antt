@@ -24,9 +24,12 @@ push_box-requires t c =
 
 pub loop-child-preserved : goal.loop-child-preserved
 loop-child-preserved t c =
-    let e = c.in_ok-push_box.ensures.lines in
-    (tt, tt, listed_more (IsListed c.in-Some.inner (c.args.depth + 1)) c.into_iter-child-iterator.result c.extend_from_slice.new.self.items c.loop-child.text.items c.loop-child.child-iterator
-    (box_seen c.in-Some-child.child) e.0 c.push_box.new.text.items c.next.new.self c.loop-child.invariant.2 c.in-Some-child.ensures.steps e.1 e.2)
+    let e = c.in_ok-push_box.ensures.lines in (
+      tt,
+      tt,
+      listed_more (IsListed c.in-Some.inner (c.args.depth + 1)) c.into_iter-child-iterator.result c.extend_from_slice.new.self.items c.loop-child.text.items c.loop-child.child-iterator
+          (box_seen c.in-Some-child.child) e.0 c.push_box.new.text.items c.next.new.self c.loop-child.invariant.2 c.in-Some-child.ensures.steps e.1 e.2,
+    )
 
 pub returns-in_err-push_box-clause-refusal : goal.returns-in_err-push_box-clause-refusal
 returns-in_err-push_box-clause-refusal t c =
@@ -46,6 +49,8 @@ returns-clause-lines t c =
     let own : c.extend_from_slice.new.self.items ≡ c.args.text.now.items ++ box_line c.args.depth (box_seen c.args.view) = search rules in
     let l = listed_all (IsListed c.in-Some.inner (c.args.depth + 1)) c.into_iter-child-iterator.result c.extend_from_slice.new.self.items c.loop-child.text.items c.loop-child.child-iterator c.loop-child.invariant.2 c.in-None.ensures.steps.0 in
     let boxes = tiles_box (box_seen c.args.view) c.in_ok-child-items.child-items tiled in
-    let same = subst (λ (bs : List Box). Tiles (box_container (box_seen c.args.view)) bs) (sym c.into_iter-child-iterator.ensures.into_iter_gives) boxes in
-    (_, listed_inside c.args.rule c.in-Some.inner c.args.depth (box_seen c.args.view) c.into_iter-child-iterator.result l.0 into same l.1,
-    part_added c.args.text.now.items (box_line c.args.depth (box_seen c.args.view)) c.loop-child.text.items l.0 (rw (← own) l.2))
+    let same = subst (λ (bs : List Box). Tiles (box_container (box_seen c.args.view)) bs) (sym c.into_iter-child-iterator.ensures.into_iter_gives) boxes in (
+      _,
+      listed_inside c.args.rule c.in-Some.inner c.args.depth (box_seen c.args.view) c.into_iter-child-iterator.result l.0 into same l.1,
+      part_added c.args.text.now.items (box_line c.args.depth (box_seen c.args.view)) c.loop-child.text.items l.0 (rw (← own) l.2),
+    )
