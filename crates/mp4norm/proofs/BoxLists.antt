@@ -240,7 +240,8 @@ refuses_header honest file boxes at reads reads_after (refusals.Fault f) p lt h 
   reaches = ([], refl);
   rule = File;
   is_looked_at = refl;
-  fault = top_fault file boxes at f (p told) lt (h told) }
+  fault = top_fault file boxes at f (p told) lt (h told);
+}
 refuses_header honest file boxes at reads reads_after refusals.Memory p lt h = tt
 refuses_header honest file boxes at reads reads_after refusals.StoreFailed p lt h = h
 refuses_header honest file boxes at reads reads_after refusals.StoreChanged p lt h = h

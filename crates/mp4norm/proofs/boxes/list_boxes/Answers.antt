@@ -24,8 +24,8 @@ returns-in_err-push_top-clause-refusal g c =
     let e = rw (i.0, i.1, i.2) at c.in_err-push_top.ensures.refusal in
     let tiles = rw (← c.deref-top-items.ensures.value) at c.in_ok-tops.ensures.tiles in
     rw (p.1, p.2) (refuses_tops honest file (tops_seen file items) (tops_seen file (drop (c.loop-top.top-index + 1) items)) (top_seen file (get_or items c.loop-top.top-index d))
-      (g.S.Store.read_failures c.args.store.now) (g.S.Store.read_failures c.push_top.new.store) c.in_err-push_top.field-0.0 tiles
-      (λ told. ((i.3 told).passed, tops_split file items c.loop-top.top-index d (tops_seen file items) (i.3 told).passed refl (i.3 told).whole c.loop-top-test.true)) e)
+    (g.S.Store.read_failures c.args.store.now) (g.S.Store.read_failures c.push_top.new.store) c.in_err-push_top.field-0.0 tiles
+    (λ told. ((i.3 told).passed, tops_split file items c.loop-top.top-index d (tops_seen file items) (i.3 told).passed refl (i.3 told).whole c.loop-top-test.true)) e)
 
 pub loop-top-preserved : goal.loop-top-preserved
 loop-top-preserved g c =
@@ -33,10 +33,13 @@ loop-top-preserved g c =
     let e = c.in_ok-push_top.ensures in
     let file = g.S.Store.file c.args.store.now in
     let items = c.deref-top-items.result.now in
-    let d : TopBox = record { offset = 0; header = record { kind = record { 0 = [] }; header = 0; end = 0 } } in
-    (e.honesty ∙ i.0, e.file ∙ i.1, e.reads ∙ i.2,
-    (λ told.
-      let lines = rw (i.0, i.1) at e.lines in
-      let part = lines told in
-      listed_more (IsListed File 0) (tops_seen file items) [] c.loop-top.text.items (tops_seen file (drop c.loop-top.top-index items)) (top_seen file (get_or items c.loop-top.top-index d)) part.0 c.push_top.new.text.items
-      (tops_seen file (drop (c.loop-top.top-index + 1) items)) (i.3 told) (tops_more file items c.loop-top.top-index d c.loop-top-test.true) part.1 part.2))
+    let d : TopBox = record { offset = 0; header = record { kind = record { 0 = [] }; header = 0; end = 0 } } in (
+      e.honesty ∙ i.0,
+      e.file ∙ i.1,
+      e.reads ∙ i.2,
+      (λ told.
+          let lines = rw (i.0, i.1) at e.lines in
+          let part = lines told in
+          listed_more (IsListed File 0) (tops_seen file items) [] c.loop-top.text.items (tops_seen file (drop c.loop-top.top-index items)) (top_seen file (get_or items c.loop-top.top-index d)) part.0 c.push_top.new.text.items
+          (tops_seen file (drop (c.loop-top.top-index + 1) items)) (i.3 told) (tops_more file items c.loop-top.top-index d c.loop-top-test.true) part.1 part.2),
+    )

@@ -13,5 +13,5 @@ returns-clause-refusal g c =
     if_err c.push_box.result (RefusesInside File (box_seen c.new-view.result))
     (RefusesTop (g.S.Store.is_honest c.args.store.now) file (top_seen file c.args.top) (g.S.Store.read_failures c.args.store.now) (g.S.Store.read_failures c.read_bytes.new.store))
     (λ e. refuses_top (g.S.Store.is_honest c.args.store.now) file (box_seen c.new-view.result) (top_seen file c.args.top) (g.S.Store.read_failures c.args.store.now) (g.S.Store.read_failures c.read_bytes.new.store) e
-      (λ told. c.new-view.ensures ∙ top_read file c.args.top at c.as_slice.result.now (ap (λ n. c.args.top.offset + n) c.from.ensures) (c.as_slice.ensures.value ∙ c.in_ok-payload.ensures.bytes told)))
+    (λ told. c.new-view.ensures ∙ top_read file c.args.top at c.as_slice.result.now (ap (λ n. c.args.top.offset + n) c.from.ensures) (c.as_slice.ensures.value ∙ c.in_ok-payload.ensures.bytes told)))
     c.push_box.ensures.refusal

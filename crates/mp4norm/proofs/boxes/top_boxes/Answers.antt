@@ -25,13 +25,16 @@ loop-at-preserved g c =
     let h = c.in_ok-header.header in
     let w = e.within in
     let top : TopBox = record { offset = c.loop-at.at; header = h } in
-    let start : c.loop-at.at ≤ h.end = omega (arith, w.0) in
-    (e.honesty ∙ i.0, e.file ∙ i.1, e.reads ∙ i.2,
-    (λ told.
-      let read = rw (i.0, i.1) at e.header in
-      let more = top_more file (tops_seen file c.loop-at.tops.items) c.loop-at.at h (i.3 told) (read told) start in
-      rw (c.in_ok-push.ensures.items, map_push) more),
-    rw c.in_ok-push.ensures.items (All-push (IsWithin file) c.loop-at.tops.items top i.4 (w.0, subst (λ (bs : List ℕ). h.end ≤ length bs) i.1 w.2)))
+    let start : c.loop-at.at ≤ h.end = omega (arith, w.0) in (
+      e.honesty ∙ i.0,
+      e.file ∙ i.1,
+      e.reads ∙ i.2,
+      (λ told.
+          let read = rw (i.0, i.1) at e.header in
+          let more = top_more file (tops_seen file c.loop-at.tops.items) c.loop-at.at h (i.3 told) (read told) start in
+          rw (c.in_ok-push.ensures.items, map_push) more),
+      rw c.in_ok-push.ensures.items (All-push (IsWithin file) c.loop-at.tops.items top i.4 (w.0, subst (λ (bs : List ℕ). h.end ≤ length bs) i.1 w.2)),
+    )
 
 pub returns-clause-tiles : goal.returns-clause-tiles
 returns-clause-tiles g c told =
