@@ -99,7 +99,8 @@ height_some MovieExtends = omega arith
 height_some MovieFragment = omega arith
 height_some TrackFragment = omega arith
 
-zip_map : (P Q : Box → List ℕ → Type 0) → ((b : Box) (part : List ℕ) → P b part → Q b part) → (bs : List Box) (parts : List (List ℕ)) → AllZip P bs parts → AllZip Q bs parts
+-- what holds of each box and its part holds under a weaker word
+pub zip_map : (P Q : Box → List ℕ → Type 0) → ((b : Box) (part : List ℕ) → P b part → Q b part) → (bs : List Box) (parts : List (List ℕ)) → AllZip P bs parts → AllZip Q bs parts
 zip_map P Q f [] [] h = tt
 zip_map P Q f [] (p ∷ ps) h = absurd h
 zip_map P Q f (b ∷ bs) [] h = absurd h

@@ -2,3 +2,4 @@ pub mod Vectors
 pub mod TypeTexts
 pub mod Decimals
 pub mod BoxLists
+pub mod BoxLaws

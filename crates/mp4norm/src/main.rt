@@ -7,6 +7,7 @@
 mod boxes;
 mod fault_text;
 mod input;
+pub mod laws;
 mod line;
 
 pub use boxes::boxes;
