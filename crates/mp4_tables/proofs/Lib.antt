@@ -1,2 +1,4 @@
 pub mod Counts
+pub mod NamedKeys
+pub mod GroupMaps
 pub mod Vectors
