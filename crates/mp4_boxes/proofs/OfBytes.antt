@@ -12,8 +12,9 @@ use Rattle.mp4_boxes.specs.Bytes.{AreBytes, field, numbers, rows, width_of}
 use Rattle.mp4_boxes.specs.declared.fault.Kind.{Kind}
 use Rattle.mp4_boxes.specs.declared.fault.Kind.TheVariants.{BadSize, Overrun}
 use Rattle.mp4_boxes.specs.Box.{Box, Header, fitting, header_at, box_of, size, LieEndToEnd, Container, may_be_open, Tiles}
-use Rattle.mp4_boxes.specs.Children.{payload_if, payload_of}
+use Rattle.mp4_boxes.specs.Children.{of_kind, payload_if, payload_of}
 use Rattle.mp4_boxes.specs.Layout.{time_width}
+use Rattle.mp4_boxes.proofs.Each.{each_of_kind}
 use Rattle.mp4_boxes.proofs.Tiling.{header_is}
 
 -- ---- bytes
@@ -177,3 +178,11 @@ or_none (Some payload) h = h
 
 pub payload_of_bytes : (kind : List ℕ) (bs : List Box) → AllByRecursion IsOfBytes bs → AreBytes (payload_of kind bs)
 payload_of_bytes kind bs h = or_none (payload_if kind bs) (payload_if_of_bytes kind bs h)
+
+payloads : (kind : List ℕ) (bs : List Box) → AllByRecursion (λ (c : Box). IsOfBytes c × (bytes_eq kind c.kind ≡ true)) bs → AllByRecursion (λ (b : Box). AreBytes b.payload) bs
+payloads kind [] h = tt
+payloads kind (b ∷ bs) h = (h.0.0.payload, payloads kind bs h.1)
+
+-- the payloads of the boxes of a type
+pub payloads_of_bytes : (kind : List ℕ) (bs : List Box) → AllByRecursion IsOfBytes bs → AllByRecursion (λ (b : Box). AreBytes b.payload) (of_kind kind bs)
+payloads_of_bytes kind bs h = payloads kind (of_kind kind bs) (each_of_kind IsOfBytes kind bs h)

@@ -1,14 +1,13 @@
 -- The boxes in a `moov` that lies in bytes are of bytes.
-use Rattle.std.proofs.Common.{◌≡◌, ℕ, true, List, [], ◌∷◌, sym, subst}
-use Rattle.std.specs.Prelude.{codes, map, bytes_eq}
+use Rattle.std.proofs.Common.{ℕ, List, [], ◌∷◌, sym, subst}
+use Rattle.std.specs.Prelude.{codes, map}
 use Rattle.std.specs.List.{AllByRecursion}
 use Rattle.mp4_boxes.specs.Bytes.{AreBytes}
 use Rattle.mp4_boxes.specs.Box.{Box, box_container, counted_container, Tiles}
 use Rattle.mp4_boxes.specs.Children.{Holds, of_kind}
 use Rattle.mp4_boxes.specs.declared.rule.Rule.{Rule}
 use Rattle.mp4_boxes.specs.declared.rule.Rule.TheVariants as rules
-use Rattle.mp4_boxes.proofs.Each.{each_of_kind}
-use Rattle.mp4_boxes.proofs.OfBytes.{IsOfBytes, bytes_dropped, tiled_of_bytes, payload_of_bytes}
+use Rattle.mp4_boxes.proofs.OfBytes.{IsOfBytes, bytes_dropped, tiled_of_bytes, payload_of_bytes, payloads_of_bytes}
 use Rattle.mp4_head.specs.Tree.{TrackTree, MovieTree, HoldsIfThere, IsTrackTree, IsMovieTree, first_of}
 use Rattle.mp4_head.proofs.Distinct.{payload_first}
 
@@ -26,14 +25,6 @@ counted_of_bytes kind bs boxes h k = tiled_of_bytes (counted_container (first_of
 there_of_bytes : (rule : Rule) (found boxes : List Box) → AllByRecursion (λ (b : Box). AreBytes b.payload) found → HoldsIfThere rule found boxes → AllByRecursion IsOfBytes boxes
 there_of_bytes rule [] boxes h k = subst (λ (bs : List Box). AllByRecursion IsOfBytes bs) (sym k) tt
 there_of_bytes rule (b ∷ more) boxes h k = tiled_of_bytes (box_container b) boxes h.0 k.tiles
-
-payloads : (kind : List ℕ) (bs : List Box) → AllByRecursion (λ (c : Box). IsOfBytes c × (bytes_eq kind c.kind ≡ true)) bs → AllByRecursion (λ (b : Box). AreBytes b.payload) bs
-payloads kind [] h = tt
-payloads kind (b ∷ bs) h = (h.0.0.payload, payloads kind bs h.1)
-
--- the payloads of the boxes of a type
-pub payloads_of_bytes : (kind : List ℕ) (bs : List Box) → AllByRecursion IsOfBytes bs → AllByRecursion (λ (b : Box). AreBytes b.payload) (of_kind kind bs)
-payloads_of_bytes kind bs h = payloads kind (of_kind kind bs) (each_of_kind IsOfBytes kind bs h)
 
 -- each box of a track is of bytes
 pub record TrackOfBytes (t : TrackTree) : Type 0 where

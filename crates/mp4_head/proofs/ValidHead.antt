@@ -13,11 +13,11 @@ use Rattle.mp4_boxes.specs.Places.{kept_kinds, ruled, sample_entries, AreSound}
 use Rattle.mp4_boxes.specs.declared.rule.Rule.TheVariants as rules
 use Rattle.mp4_boxes.proofs.Each.{each_value, each_from, each_kept}
 use Rattle.mp4_boxes.proofs.Refusing.{holds_only, line_has}
-use Rattle.mp4_boxes.proofs.OfBytes.{IsOfBytes, FitsRow, numbers_fit, rows_fit, field_dropped, time_below, signed_16, signed_32, signed_time, bytes_dropped, payload_of_bytes, payload_if_of_bytes}
+use Rattle.mp4_boxes.proofs.OfBytes.{IsOfBytes, FitsRow, numbers_fit, rows_fit, field_dropped, time_below, signed_16, signed_32, signed_time, bytes_dropped, payload_of_bytes, payload_if_of_bytes, payloads_of_bytes}
 use Rattle.mp4_boxes.proofs.Sound.{sound_one, sound_each}
 use Rattle.mp4_head.specs.Head.{IsKept, IsEdit, IsDescription, IsMedia, IsGroupDescription, IsTrackHead, IsMovieHead}
 use Rattle.mp4_head.specs.Tree.{TrackTree, MovieTree, IsTrackTree, IsMovieTree, IsSoundTrack, IsSoundMovie, NameNoItems, kept_among, edit_of, edits_of, first_among, media_of, track_head_of, movie_head_of}
-use Rattle.mp4_head.proofs.TreeBytes.{TrackOfBytes, MovieOfBytes, payloads_of_bytes}
+use Rattle.mp4_head.proofs.TreeBytes.{TrackOfBytes, MovieOfBytes}
 
 -- ---- numbers
 

@@ -119,7 +119,8 @@ AreApart (g ∷ groupings) = IsNone (keys_named groupings) g.key × AreApart gro
 abbrev pub AreIndexed : (GroupKey × ℕ → Type 0) → Grouping → Type 0
 AreIndexed P g = AllByRecursion (λ (row : ℕ × ℕ). IsIndexed P g.key row.1) g.rows
 
-repeated_each : (P : ℕ → Type 0) (rows : List (ℕ × ℕ)) → AllByRecursion (λ (row : ℕ × ℕ). P row.1) rows → AllByRecursion P (repeated rows)
+-- what holds of the value of each row holds of each value that the rows stand for
+pub repeated_each : {A : Type 0} (P : A → Type 0) (rows : List (ℕ × A)) → AllByRecursion (λ (row : ℕ × A). P row.1) rows → AllByRecursion P (repeated rows)
 repeated_each P [] h = tt
 repeated_each P (row ∷ rows) h = all_append P (replicate row.0 row.1) (repeated rows) (each_again P row.0 row.1 h.0) (repeated_each P rows h.1)
 
