@@ -7,7 +7,7 @@ use Rattle.mp4_boxes.specs.Box.{Box}
 use Rattle.mp4_boxes.specs.Children.{count_among, of_kind, payload_if, payload_of}
 use Rattle.mp4_boxes.specs.Layout.{Leaf, IsSound}
 use Rattle.mp4_boxes.specs.Places.{Scope, leaf_of, IsSoundAs, AreSound}
-use Rattle.mp4_boxes.proofs.Each.{each_from, each_of_kind}
+use Rattle.mp4_boxes.proofs.Each.{each_weaker, each_of_kind}
 
 -- a type that passes the test is that type
 pub same_kind : (kind other : List ℕ) → bytes_eq kind other ≡ true → other ≡ kind
@@ -33,8 +33,8 @@ pub sound_each : (scope : Scope) (kind : List ℕ) (leaf : Leaf) → leaf_of sco
     → AllByRecursion (λ (b : Box). IsSound leaf b.payload) (of_kind kind bs)
 sound_each scope kind leaf e bs h =
     let both = each_of_kind (λ (b : Box). IsSoundAs (leaf_of scope b.kind) b.payload) kind bs h in
-    each_from (λ (b : Box). IsSoundAs (leaf_of scope b.kind) b.payload × (bytes_eq kind b.kind ≡ true)) (λ (b : Box). IsSoundAs (leaf_of scope b.kind) b.payload × (bytes_eq kind b.kind ≡ true)) (λ (b : Box). IsSound leaf b.payload)
-    (λ b x y. sound_as scope kind leaf e b x.1 x.0) (of_kind kind bs) both both
+    each_weaker (λ (b : Box). IsSoundAs (leaf_of scope b.kind) b.payload × (bytes_eq kind b.kind ≡ true)) (λ (b : Box). IsSound leaf b.payload)
+    (λ b x. sound_as scope kind leaf e b x.1 x.0) (of_kind kind bs) both
 
 there_choice : (P : List ℕ → Type 0) (kind : List ℕ) (b : Box) (bs : List Box) (v : Bool) → bytes_eq kind b.kind ≡ v → IfSome (payload_if kind (b ∷ bs)) P → count_among (kind ∷ []) (b ∷ bs) ≡ 1
     → (IfSome (payload_if kind bs) P → count_among (kind ∷ []) bs ≡ 1 → P (payload_of kind bs)) → P (payload_of kind (b ∷ bs))

@@ -11,7 +11,7 @@ use Rattle.mp4_boxes.specs.Layout.{Column, trex, trun, sbgp, fields, row_count, 
 use Rattle.mp4_boxes.specs.Places.{ruled, AreSound}
 use Rattle.mp4_boxes.specs.declared.rule.Rule.TheVariants as rules
 use Rattle.mp4_boxes.proofs.Among.{all_append}
-use Rattle.mp4_boxes.proofs.Each.{each_value, each_from, each_joined}
+use Rattle.mp4_boxes.proofs.Each.{each_value, each_weaker, each_from, each_joined}
 use Rattle.mp4_boxes.proofs.OfBytes.{IsOfBytes, field_below, numbers_fit, bytes_dropped, tiled_of_bytes, payload_of_bytes, payloads_of_bytes}
 use Rattle.mp4_boxes.proofs.Sound.{sound_each}
 use Rattle.mp4_tables.specs.Groups.{GroupKey, Grouping, maps_of}
@@ -209,5 +209,5 @@ part_placed keys part h k =
     let M = IsMap IsIndex (keys_named part.groups) in
     let flat : AllByRecursion IsOfRun samples = each_joined (AllByRecursion IsOfRun) IsOfRun (λ samples. samples) (λ run x. x) part.runs h.runs in
     grouped (λ d. Unit {0}) M (maps_of (length samples) part.groups) samples (groups_valid (length samples) (length (part_samples part)) keys part.groups k h.keys)
-    (each_from IsOfRun IsOfRun (IsPlaced (λ d. Unit {0}) M)
-    (λ s x y. record { duration = x.duration; offset = x.offset; flags = x.flags; description = tt; size = x.size; groups = subst M (sym x.groups) (record { order = tt; each = tt; named = tt }) }) samples flat flat)
+    (each_weaker IsOfRun (IsPlaced (λ d. Unit {0}) M)
+    (λ s x. record { duration = x.duration; offset = x.offset; flags = x.flags; description = tt; size = x.size; groups = subst M (sym x.groups) (record { order = tt; each = tt; named = tt }) }) samples flat)

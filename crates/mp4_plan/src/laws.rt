@@ -1,12 +1,17 @@
 //! Laws of the definitions.
 
-ghost use Rattle.mp4_plan.specs.Laws.{DenotesOne, FaultRefuses};
+ghost use Rattle.mp4_plan.specs.Laws.{DenotedIsValid, DenotesOne, FaultRefuses};
 ghost use Rattle.mp4_plan.specs.PieceLaws.{CutsAreLeast, FragmentsAreLast, PiecesAreDue, PiecesAreLongest, PiecesJoin};
 ghost use Rattle.mp4_present.specs.Stands.{Reason, header, child, missing, leaf, tables, fragment, count, limit, order};
 
 /// A file denotes at most one presentation.
 pub fn denotes_one()
     ensures { DenotesOne }
+{}
+
+/// What bytes denote is valid.
+pub fn denoted_is_valid()
+    ensures { DenotedIsValid }
 {}
 
 /// The cuts are those of the first track: its first sample, and from each cut on the least sync sample at least a second behind.

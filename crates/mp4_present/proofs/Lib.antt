@@ -10,4 +10,6 @@ pub mod Limits
 pub mod Fronts
 pub mod FragmentReasons
 pub mod Counts
+pub mod ValidSamples
+pub mod DenotedValid
 pub mod Vectors

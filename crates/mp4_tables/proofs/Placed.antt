@@ -13,7 +13,7 @@ use Rattle.mp4_boxes.specs.Layout.{stts, ctts, stsz, stz2, sbgp, fields, row_cou
 use Rattle.mp4_boxes.specs.Places.{ruled, AreSound}
 use Rattle.mp4_boxes.specs.declared.rule.Rule.TheVariants.{SampleTable}
 use Rattle.mp4_boxes.proofs.Among.{all_append}
-use Rattle.mp4_boxes.proofs.Each.{each_value, each_from, each_taken, each_dropped, each_again}
+use Rattle.mp4_boxes.proofs.Each.{each_value, each_weaker, each_from, each_taken, each_dropped, each_again}
 use Rattle.mp4_boxes.proofs.OfBytes.{IsOfBytes, FitsRow, rows_fit, field_below, signed_32, bytes_dropped, bytes_taken, payload_of_bytes, payload_if_of_bytes, payloads_of_bytes}
 use Rattle.mp4_boxes.proofs.Sound.{sound_if, sound_each}
 use Rattle.mp4_tables.specs.Repeated.{repeated}
@@ -117,7 +117,7 @@ offset_rows v rs e h =
   where
     by_version : (b : Bool) → (b && too_large (map (λ r. Some (slice_index r 1)) rs)) ≡ false → AllByRecursion (λ r. FitsRow (4 ∷ 4 ∷ []) r × (b ≡ true → slice_index r 1 < 2 ^ 31)) rs
     by_version true f = each_from (FitsRow (4 ∷ 4 ∷ [])) (λ r. slice_index r 1 < 2 ^ 31) (λ r. FitsRow (4 ∷ 4 ∷ []) r × (true ≡ true → slice_index r 1 < 2 ^ 31)) (λ r x y. (x, λ g. y)) rs h (not_too_large rs f)
-    by_version false f = each_from (FitsRow (4 ∷ 4 ∷ [])) (FitsRow (4 ∷ 4 ∷ [])) (λ r. FitsRow (4 ∷ 4 ∷ []) r × (false ≡ true → slice_index r 1 < 2 ^ 31)) (λ r x y. (x, λ g. absurd (cc))) rs h h
+    by_version false f = each_weaker (FitsRow (4 ∷ 4 ∷ [])) (λ r. FitsRow (4 ∷ 4 ∷ []) r × (false ≡ true → slice_index r 1 < 2 ^ 31)) (λ r x. (x, λ g. absurd (cc))) rs h
 
 offsets_fit : (n : ℕ) (o : Option (List ℕ)) → IfSome o AreBytes → IfSome o (IsSound ctts) → AllByRecursion (FitsSigned w32) (unwrap_or (option_map repeated (option_map offsets_of o)) (replicate n (pos 0)))
 offsets_fit n None h s = each_again (FitsSigned w32) n (pos 0) (record { sfits = lit< tt })
@@ -210,7 +210,7 @@ pub groups_valid : (m n : ℕ) (keys : List GroupKey) (groupings : List Grouping
     → AllByRecursion (IsMap IsIndex (keys_named groupings)) (maps_of m groupings)
 groups_valid m n keys groupings h k =
     maps_valid IsIndex m n keys groupings h
-    (each_from (λ (g : Grouping). IsKey g.key) (λ (g : Grouping). IsKey g.key) (λ (g : Grouping). (index : ℕ) → 1 ≤ index → index ≤ max_index → IsIndex (g.key, index)) (λ g x y index a b. (x, a, b)) groupings k k)
+    (each_weaker (λ (g : Grouping). IsKey g.key) (λ (g : Grouping). (index : ℕ) → 1 ≤ index → index ≤ max_index → IsIndex (g.key, index)) (λ g x index a b. (x, a, b)) groupings k)
 
 -- ---- all of it
 
