@@ -2,6 +2,10 @@ pub mod One
 pub mod Order
 pub mod DenotesVectors
 pub mod StandsVectors
+pub mod StandsForms
+pub mod StandsBoxes
+pub mod StandsTables
+pub mod StandsFragments
 pub mod Chain
 pub mod BoxReasons
 pub mod Leaves
