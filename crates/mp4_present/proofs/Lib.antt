@@ -6,6 +6,8 @@ pub mod StandsForms
 pub mod StandsBoxes
 pub mod StandsTables
 pub mod StandsFragments
+pub mod StandsLimits
+pub mod StandsMovie
 pub mod Chain
 pub mod BoxReasons
 pub mod Leaves

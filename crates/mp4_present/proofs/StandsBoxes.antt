@@ -2,12 +2,10 @@
 use Rattle.std.proofs.Common.{lit≤, inl, inr}
 use Rattle.std.specs.Prelude.{ℕ, List, [], ◌∷◌, codes, refl}
 use Rattle.mp4_boxes.proofs.Vectors.{hex, part}
-use Rattle.mp4_boxes.specs.Box.{Box, Header}
 use Rattle.mp4_boxes.specs.Children.{one, chunk_offsets}
 use Rattle.mp4_boxes.specs.Layout.{mvhd, ctts, trun, dref, data_entry_url}
-use Rattle.mp4_boxes.specs.Places.{Place, Scope, ruled, data_entries, whole}
+use Rattle.mp4_boxes.specs.Places.{data_entries, whole}
 use Rattle.mp4_boxes.specs.declared.fault.Kind.TheVariants as kinds
-use Rattle.mp4_boxes.specs.declared.rule.Rule.{Rule}
 use Rattle.mp4_boxes.specs.declared.rule.Rule.TheVariants as rules
 use Rattle.mp4_present.specs.Stands.{StandsBy, header, child, leaf, order}
 use Rattle.mp4_present.proofs.StandsForms.{says, box_place, entry_place}
@@ -116,8 +114,22 @@ same_track = hex (codes "000000d06d6f6f76000000647472616b0000005c746b68640000000
 
 same_track-stands : StandsBy leaf same_track (record { kind = kinds.BadValue; box_type = codes "tkhd"; offset = 116 })
 same_track-stands = inr (inl (record {
-  place = box_place (part same_track 108 100 (codes "trak")) rules.Track; before = []; b = part same_track 116 92 (codes "tkhd"); stands = record { reaches = (part same_track 0 208 (codes "moov") ∷ part same_track 108 100 (codes "trak") ∷ [], ([], (((says (codes "moov") 208, refl, refl), tt), tt), box_place (part same_track 0 208 (codes "moov")) rules.Movie, refl, (part same_track 8 100 (codes "trak") ∷ [], (((says (codes "trak") 100, refl, refl), ((says (codes "trak") 100, refl, refl), tt)), tt), box_place (part same_track 108 100 (codes "trak")) rules.Track, refl, refl))); after = (((says (codes "tkhd") 92, refl, refl), tt), tt) }; leaf_is = refl; readable = record { version = refl; flags = refl; room = lit≤ tt };
-  earlier_place = box_place (part same_track 8 100 (codes "trak")) rules.Track; earlier_before = []; earlier = part same_track 16 92 (codes "tkhd"); earlier_stands = record { reaches = (part same_track 0 208 (codes "moov") ∷ part same_track 8 100 (codes "trak") ∷ [], ([], (((says (codes "moov") 208, refl, refl), tt), tt), box_place (part same_track 0 208 (codes "moov")) rules.Movie, refl, ([], (((says (codes "trak") 100, refl, refl), tt), tt), box_place (part same_track 8 100 (codes "trak")) rules.Track, refl, refl))); after = (((says (codes "tkhd") 92, refl, refl), tt), tt) }; earlier_leaf_is = refl; earlier_readable = record { version = refl; flags = refl; room = lit≤ tt }; order = lit≤ tt; same_id = refl; named = refl }))
+  place = box_place (part same_track 108 100 (codes "trak")) rules.Track;
+  before = [];
+  b = part same_track 116 92 (codes "tkhd");
+  stands = record { reaches = (part same_track 0 208 (codes "moov") ∷ part same_track 108 100 (codes "trak") ∷ [], ([], (((says (codes "moov") 208, refl, refl), tt), tt), box_place (part same_track 0 208 (codes "moov")) rules.Movie, refl, (part same_track 8 100 (codes "trak") ∷ [], (((says (codes "trak") 100, refl, refl), ((says (codes "trak") 100, refl, refl), tt)), tt), box_place (part same_track 108 100 (codes "trak")) rules.Track, refl, refl))); after = (((says (codes "tkhd") 92, refl, refl), tt), tt) };
+  leaf_is = refl;
+  readable = record { version = refl; flags = refl; room = lit≤ tt };
+  earlier_place = box_place (part same_track 8 100 (codes "trak")) rules.Track;
+  earlier_before = [];
+  earlier = part same_track 16 92 (codes "tkhd");
+  earlier_stands = record { reaches = (part same_track 0 208 (codes "moov") ∷ part same_track 8 100 (codes "trak") ∷ [], ([], (((says (codes "moov") 208, refl, refl), tt), tt), box_place (part same_track 0 208 (codes "moov")) rules.Movie, refl, ([], (((says (codes "trak") 100, refl, refl), tt), tt), box_place (part same_track 8 100 (codes "trak")) rules.Track, refl, refl))); after = (((says (codes "tkhd") 92, refl, refl), tt), tt) };
+  earlier_leaf_is = refl;
+  earlier_readable = record { version = refl; flags = refl; room = lit≤ tt };
+  order = lit≤ tt;
+  same_id = refl;
+  named = refl;
+}))
 
 -- two `trex`s of one track ID
 abbrev same_trex : List ℕ
@@ -125,6 +137,19 @@ same_trex = hex (codes "000000506d6f6f76000000486d766578000000207472657800000000
 
 same_trex-stands : StandsBy leaf same_trex (record { kind = kinds.BadValue; box_type = codes "trex"; offset = 48 })
 same_trex-stands = inr (inr (inl (record {
-  place = box_place (part same_trex 8 72 (codes "mvex")) rules.MovieExtends; before = part same_trex 16 32 (codes "trex") ∷ []; b = part same_trex 48 32 (codes "trex"); stands = record { reaches = (part same_trex 0 80 (codes "moov") ∷ part same_trex 8 72 (codes "mvex") ∷ [], ([], (((says (codes "moov") 80, refl, refl), tt), tt), box_place (part same_trex 0 80 (codes "moov")) rules.Movie, refl, ([], (((says (codes "mvex") 72, refl, refl), tt), tt), box_place (part same_trex 8 72 (codes "mvex")) rules.MovieExtends, refl, refl))); after = (((says (codes "trex") 32, refl, refl), ((says (codes "trex") 32, refl, refl), tt)), tt) }; leaf_is = refl; readable = record { version = refl; flags = refl; room = lit≤ tt };
-  earlier_place = box_place (part same_trex 8 72 (codes "mvex")) rules.MovieExtends; earlier_before = []; earlier = part same_trex 16 32 (codes "trex"); earlier_stands = record { reaches = (part same_trex 0 80 (codes "moov") ∷ part same_trex 8 72 (codes "mvex") ∷ [], ([], (((says (codes "moov") 80, refl, refl), tt), tt), box_place (part same_trex 0 80 (codes "moov")) rules.Movie, refl, ([], (((says (codes "mvex") 72, refl, refl), tt), tt), box_place (part same_trex 8 72 (codes "mvex")) rules.MovieExtends, refl, refl))); after = (((says (codes "trex") 32, refl, refl), tt), tt) }; earlier_leaf_is = refl; earlier_readable = record { version = refl; flags = refl; room = lit≤ tt }; order = lit≤ tt; same_id = refl; named = refl })))
-
+  place = box_place (part same_trex 8 72 (codes "mvex")) rules.MovieExtends;
+  before = part same_trex 16 32 (codes "trex") ∷ [];
+  b = part same_trex 48 32 (codes "trex");
+  stands = record { reaches = (part same_trex 0 80 (codes "moov") ∷ part same_trex 8 72 (codes "mvex") ∷ [], ([], (((says (codes "moov") 80, refl, refl), tt), tt), box_place (part same_trex 0 80 (codes "moov")) rules.Movie, refl, ([], (((says (codes "mvex") 72, refl, refl), tt), tt), box_place (part same_trex 8 72 (codes "mvex")) rules.MovieExtends, refl, refl))); after = (((says (codes "trex") 32, refl, refl), ((says (codes "trex") 32, refl, refl), tt)), tt) };
+  leaf_is = refl;
+  readable = record { version = refl; flags = refl; room = lit≤ tt };
+  earlier_place = box_place (part same_trex 8 72 (codes "mvex")) rules.MovieExtends;
+  earlier_before = [];
+  earlier = part same_trex 16 32 (codes "trex");
+  earlier_stands = record { reaches = (part same_trex 0 80 (codes "moov") ∷ part same_trex 8 72 (codes "mvex") ∷ [], ([], (((says (codes "moov") 80, refl, refl), tt), tt), box_place (part same_trex 0 80 (codes "moov")) rules.Movie, refl, ([], (((says (codes "mvex") 72, refl, refl), tt), tt), box_place (part same_trex 8 72 (codes "mvex")) rules.MovieExtends, refl, refl))); after = (((says (codes "trex") 32, refl, refl), tt), tt) };
+  earlier_leaf_is = refl;
+  earlier_readable = record { version = refl; flags = refl; room = lit≤ tt };
+  order = lit≤ tt;
+  same_id = refl;
+  named = refl;
+})))

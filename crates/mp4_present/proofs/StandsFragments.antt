@@ -6,7 +6,7 @@ use Rattle.mp4_boxes.specs.declared.fault.Kind.TheVariants as kinds
 use Rattle.mp4_tables.specs.Tables.{tables_of}
 use Rattle.mp4_tables.specs.TableRules.{Fit, dependency_room, duration_counts, offset_counts, chunk_counts, chunk_order, sync_order, description_indexes, places, table_group}
 use Rattle.mp4_tables.specs.Groups.{index_range}
-use Rattle.mp4_head.specs.Tree.{TrackTree, IsTrackTree, MovieTree}
+use Rattle.mp4_head.specs.Tree.{TrackTree, IsTrackTree}
 use Rattle.mp4_present.specs.Denotes.{surroundings}
 use Rattle.mp4_present.specs.Stands.{StandsBy, fragment, count, Behind, unknown_track, description_index, place, fragment_group}
 use Rattle.mp4_present.proofs.StandsForms.{says}
@@ -17,16 +17,45 @@ unknown = hex (codes "000000746d6f6f760000006c6d76686400000000000000000000000000
 
 abbrev unknown_behind : Behind unknown
 unknown_behind = record {
-  before = part unknown 0 116 (codes "moov") ∷ []; moof = part unknown 116 48 (codes "moof"); stands = (((says (codes "moov") 116, refl, refl), ((says (codes "moof") 48, refl, refl), tt)), tt); is_moof = refl;
-  movie = record { moov = part unknown 0 116 (codes "moov"); movie = part unknown 8 108 (codes "mvhd") ∷ []; extends = []; tracks = [] }; is_moov = refl;
-  movie_tree = record { movie = record { tiles = record { front = (((says (codes "mvhd") 108, refl, refl), tt), tt); full = refl }; allowed = (refl, tt); quantities = (refl, (lit≤ tt, (tt, (tt, (tt, (tt, tt)))))) }; extends = refl; traks = refl; tracks = tt }; movie_sound = record { movie = (record { readable = record { version = refl; flags = refl; room = lit≤ tt }; value = refl; inside = refl; offsets = refl }, tt); kept = tt; tracks = tt; track_ids = refl; extends = tt; trex_ids = refl }; tables_sound = tt; tables_fit = tt;
-  earlier = []; earlier_moofs = refl; earlier_trees = tt; earlier_sound = tt;
-  children = part unknown 124 16 (codes "mfhd") ∷ part unknown 140 24 (codes "traf") ∷ []; holds = record { tiles = record { front = (((says (codes "mfhd") 16, refl, refl), ((says (codes "traf") 24, refl, refl), tt)), tt); full = refl }; allowed = (refl, (refl, tt)); quantities = (refl, (tt, tt)) }; trafs_before = []; traf = part unknown 140 24 (codes "traf"); trafs_after = []; is_traf = refl;
-  inside_before = []; inside = part unknown 148 16 (codes "tfhd") ∷ []; trafs_held = tt; traf_held = record { tiles = record { front = (((says (codes "tfhd") 16, refl, refl), tt), tt); full = refl }; allowed = (refl, tt); quantities = (refl, (lit≤ tt, (tt, (tt, tt)))) }; trafs_sound = tt }
+  before = part unknown 0 116 (codes "moov") ∷ [];
+  moof = part unknown 116 48 (codes "moof");
+  stands = (((says (codes "moov") 116, refl, refl), ((says (codes "moof") 48, refl, refl), tt)), tt);
+  is_moof = refl;
+  movie = record { moov = part unknown 0 116 (codes "moov"); movie = part unknown 8 108 (codes "mvhd") ∷ []; extends = []; tracks = [] };
+  is_moov = refl;
+  movie_tree = record { movie = record { tiles = record { front = (((says (codes "mvhd") 108, refl, refl), tt), tt); full = refl }; allowed = (refl, tt); quantities = (refl, (lit≤ tt, (tt, (tt, (tt, (tt, tt)))))) }; extends = refl; traks = refl; tracks = tt };
+  movie_sound = record { movie = (record { readable = record { version = refl; flags = refl; room = lit≤ tt }; value = refl; inside = refl; offsets = refl }, tt); kept = tt; tracks = tt; track_ids = refl; extends = tt; trex_ids = refl };
+  tables_sound = tt;
+  tables_fit = tt;
+  earlier = [];
+  earlier_moofs = refl;
+  earlier_trees = tt;
+  earlier_sound = tt;
+  children = part unknown 124 16 (codes "mfhd") ∷ part unknown 140 24 (codes "traf") ∷ [];
+  holds = record { tiles = record { front = (((says (codes "mfhd") 16, refl, refl), ((says (codes "traf") 24, refl, refl), tt)), tt); full = refl }; allowed = (refl, (refl, tt)); quantities = (refl, (tt, tt)) };
+  trafs_before = [];
+  traf = part unknown 140 24 (codes "traf");
+  trafs_after = [];
+  is_traf = refl;
+  inside_before = [];
+  inside = part unknown 148 16 (codes "tfhd") ∷ [];
+  trafs_held = tt;
+  traf_held = record { tiles = record { front = (((says (codes "tfhd") 16, refl, refl), tt), tt); full = refl }; allowed = (refl, tt); quantities = (refl, (lit≤ tt, (tt, (tt, tt)))) };
+  trafs_sound = tt;
+}
 
 unknown-stands : StandsBy fragment unknown (record { kind = kinds.UnknownTrack; box_type = codes "tfhd"; offset = 148 })
-unknown-stands = record { behind = unknown_behind; consistent = record { known = tt; indexes = tt; places = tt; groups = tt; times = tt }; rule = unknown_track; readable = (record { readable = record { version = refl; flags = refl; room = lit≤ tt }; value = refl; inside = refl; offsets = refl }, tt);
-  part = _; is_part = refl; known = tt; fails = refl; named = refl }
+unknown-stands = record {
+  behind = unknown_behind;
+  consistent = record { known = tt; indexes = tt; places = tt; groups = tt; times = tt };
+  rule = unknown_track;
+  readable = (record { readable = record { version = refl; flags = refl; room = lit≤ tt }; value = refl; inside = refl; offsets = refl }, tt);
+  part = _;
+  is_part = refl;
+  known = tt;
+  fails = refl;
+  named = refl;
+}
 
 -- a sample of the second description of one
 abbrev second_entry : List ℕ
@@ -51,16 +80,45 @@ second_entry-fit (table_group rule k) = refl
 
 abbrev second_entry_behind : Behind second_entry
 second_entry_behind = record {
-  before = part second_entry 0 24 (codes "ftyp") ∷ part second_entry 24 557 (codes "moov") ∷ []; moof = part second_entry 581 80 (codes "moof"); stands = (((says (codes "ftyp") 24, refl, refl), ((says (codes "moov") 557, refl, refl), ((says (codes "moof") 80, refl, refl), tt))), tt); is_moof = refl;
-  movie = record { moov = part second_entry 24 557 (codes "moov"); movie = part second_entry 32 120 (codes "mvhd") ∷ part second_entry 152 369 (codes "trak") ∷ part second_entry 521 60 (codes "mvex") ∷ []; extends = part second_entry 529 20 (codes "mehd") ∷ part second_entry 549 32 (codes "trex") ∷ []; tracks = second_entry_track_tree ∷ [] }; is_moov = refl;
-  movie_tree = record { movie = record { tiles = record { front = (((says (codes "mvhd") 120, refl, refl), ((says (codes "trak") 369, refl, refl), ((says (codes "mvex") 60, refl, refl), tt))), tt); full = refl }; allowed = (refl, (refl, (refl, tt))); quantities = (refl, (lit≤ tt, (tt, (tt, (tt, (tt, tt)))))) }; extends = record { tiles = record { front = (((says (codes "mehd") 20, refl, refl), ((says (codes "trex") 32, refl, refl), tt)), tt); full = refl }; allowed = (refl, (refl, tt)); quantities = (lit≤ tt, (tt, tt)) }; traks = refl; tracks = (second_entry-track, tt) }; movie_sound = record { movie = (record { readable = record { version = refl; flags = refl; room = lit≤ tt }; value = refl; inside = refl; offsets = refl }, (tt, (tt, tt))); kept = tt; tracks = (record { track = (record { readable = record { version = refl; flags = refl; room = lit≤ tt }; value = refl; inside = refl; offsets = refl }, (tt, tt)); kept = tt; edits = tt; media = (record { readable = record { version = refl; flags = refl; room = lit≤ tt }; value = refl; inside = refl; offsets = refl }, (record { readable = record { version = refl; flags = refl; room = lit≤ tt }; value = refl; inside = refl; offsets = refl }, (tt, tt))); data_information = (record { readable = record { version = refl; flags = refl; room = lit≤ tt }; value = refl; inside = refl; offsets = refl }, tt); data_references = (record { readable = record { version = refl; flags = refl; room = lit≤ tt }; value = refl; inside = refl; offsets = refl }, tt); urls = (refl, tt); stsd = record { readable = record { version = refl; flags = refl; room = lit≤ tt }; value = refl; inside = refl; offsets = refl }; descriptions = (record { readable = record { version = refl; flags = refl; room = lit≤ tt }; value = refl; inside = refl; offsets = refl }, tt) }, tt); track_ids = refl; extends = (tt, (record { readable = record { version = refl; flags = refl; room = lit≤ tt }; value = refl; inside = refl; offsets = refl }, tt)); trex_ids = refl }; tables_sound = ((record { readable = record { version = refl; flags = refl; room = lit≤ tt }; value = refl; inside = refl; offsets = refl }, (record { readable = record { version = refl; flags = refl; room = lit≤ tt }; value = refl; inside = refl; offsets = refl }, (record { readable = record { version = refl; flags = refl; room = lit≤ tt }; value = refl; inside = refl; offsets = refl }, (record { readable = record { version = refl; flags = refl; room = lit≤ tt }; value = refl; inside = refl; offsets = refl }, (record { readable = record { version = refl; flags = refl; room = lit≤ tt }; value = refl; inside = refl; offsets = refl }, tt))))), tt); tables_fit = (second_entry-fit, tt);
-  earlier = []; earlier_moofs = refl; earlier_trees = tt; earlier_sound = tt;
-  children = part second_entry 589 16 (codes "mfhd") ∷ part second_entry 605 56 (codes "traf") ∷ []; holds = record { tiles = record { front = (((says (codes "mfhd") 16, refl, refl), ((says (codes "traf") 56, refl, refl), tt)), tt); full = refl }; allowed = (refl, (refl, tt)); quantities = (refl, (tt, tt)) }; trafs_before = []; traf = part second_entry 605 56 (codes "traf"); trafs_after = []; is_traf = refl;
-  inside_before = []; inside = part second_entry 613 32 (codes "tfhd") ∷ part second_entry 645 16 (codes "trun") ∷ []; trafs_held = tt; traf_held = record { tiles = record { front = (((says (codes "tfhd") 32, refl, refl), ((says (codes "trun") 16, refl, refl), tt)), tt); full = refl }; allowed = (refl, (refl, tt)); quantities = (refl, (lit≤ tt, (tt, (tt, tt)))) }; trafs_sound = tt }
+  before = part second_entry 0 24 (codes "ftyp") ∷ part second_entry 24 557 (codes "moov") ∷ [];
+  moof = part second_entry 581 80 (codes "moof");
+  stands = (((says (codes "ftyp") 24, refl, refl), ((says (codes "moov") 557, refl, refl), ((says (codes "moof") 80, refl, refl), tt))), tt);
+  is_moof = refl;
+  movie = record { moov = part second_entry 24 557 (codes "moov"); movie = part second_entry 32 120 (codes "mvhd") ∷ part second_entry 152 369 (codes "trak") ∷ part second_entry 521 60 (codes "mvex") ∷ []; extends = part second_entry 529 20 (codes "mehd") ∷ part second_entry 549 32 (codes "trex") ∷ []; tracks = second_entry_track_tree ∷ [] };
+  is_moov = refl;
+  movie_tree = record { movie = record { tiles = record { front = (((says (codes "mvhd") 120, refl, refl), ((says (codes "trak") 369, refl, refl), ((says (codes "mvex") 60, refl, refl), tt))), tt); full = refl }; allowed = (refl, (refl, (refl, tt))); quantities = (refl, (lit≤ tt, (tt, (tt, (tt, (tt, tt)))))) }; extends = record { tiles = record { front = (((says (codes "mehd") 20, refl, refl), ((says (codes "trex") 32, refl, refl), tt)), tt); full = refl }; allowed = (refl, (refl, tt)); quantities = (lit≤ tt, (tt, tt)) }; traks = refl; tracks = (second_entry-track, tt) };
+  movie_sound = record { movie = (record { readable = record { version = refl; flags = refl; room = lit≤ tt }; value = refl; inside = refl; offsets = refl }, (tt, (tt, tt))); kept = tt; tracks = (record { track = (record { readable = record { version = refl; flags = refl; room = lit≤ tt }; value = refl; inside = refl; offsets = refl }, (tt, tt)); kept = tt; edits = tt; media = (record { readable = record { version = refl; flags = refl; room = lit≤ tt }; value = refl; inside = refl; offsets = refl }, (record { readable = record { version = refl; flags = refl; room = lit≤ tt }; value = refl; inside = refl; offsets = refl }, (tt, tt))); data_information = (record { readable = record { version = refl; flags = refl; room = lit≤ tt }; value = refl; inside = refl; offsets = refl }, tt); data_references = (record { readable = record { version = refl; flags = refl; room = lit≤ tt }; value = refl; inside = refl; offsets = refl }, tt); urls = (refl, tt); stsd = record { readable = record { version = refl; flags = refl; room = lit≤ tt }; value = refl; inside = refl; offsets = refl }; descriptions = (record { readable = record { version = refl; flags = refl; room = lit≤ tt }; value = refl; inside = refl; offsets = refl }, tt) }, tt); track_ids = refl; extends = (tt, (record { readable = record { version = refl; flags = refl; room = lit≤ tt }; value = refl; inside = refl; offsets = refl }, tt)); trex_ids = refl };
+  tables_sound = ((record { readable = record { version = refl; flags = refl; room = lit≤ tt }; value = refl; inside = refl; offsets = refl }, (record { readable = record { version = refl; flags = refl; room = lit≤ tt }; value = refl; inside = refl; offsets = refl }, (record { readable = record { version = refl; flags = refl; room = lit≤ tt }; value = refl; inside = refl; offsets = refl }, (record { readable = record { version = refl; flags = refl; room = lit≤ tt }; value = refl; inside = refl; offsets = refl }, (record { readable = record { version = refl; flags = refl; room = lit≤ tt }; value = refl; inside = refl; offsets = refl }, tt))))), tt);
+  tables_fit = (second_entry-fit, tt);
+  earlier = [];
+  earlier_moofs = refl;
+  earlier_trees = tt;
+  earlier_sound = tt;
+  children = part second_entry 589 16 (codes "mfhd") ∷ part second_entry 605 56 (codes "traf") ∷ [];
+  holds = record { tiles = record { front = (((says (codes "mfhd") 16, refl, refl), ((says (codes "traf") 56, refl, refl), tt)), tt); full = refl }; allowed = (refl, (refl, tt)); quantities = (refl, (tt, tt)) };
+  trafs_before = [];
+  traf = part second_entry 605 56 (codes "traf");
+  trafs_after = [];
+  is_traf = refl;
+  inside_before = [];
+  inside = part second_entry 613 32 (codes "tfhd") ∷ part second_entry 645 16 (codes "trun") ∷ [];
+  trafs_held = tt;
+  traf_held = record { tiles = record { front = (((says (codes "tfhd") 32, refl, refl), ((says (codes "trun") 16, refl, refl), tt)), tt); full = refl }; allowed = (refl, (refl, tt)); quantities = (refl, (lit≤ tt, (tt, (tt, tt)))) };
+  trafs_sound = tt;
+}
 
 second_entry-stands : StandsBy fragment second_entry (record { kind = kinds.BadDescriptionIndex; box_type = codes "tfhd"; offset = 613 })
-second_entry-stands = record { behind = second_entry_behind; consistent = record { known = tt; indexes = tt; places = tt; groups = (tt, tt); times = (tt, tt) }; rule = description_index; readable = ((record { readable = record { version = refl; flags = refl; room = lit≤ tt }; value = refl; inside = refl; offsets = refl }, tt), (record { readable = record { version = refl; flags = refl; room = lit≤ tt }; value = refl; inside = refl; offsets = refl }, tt));
-  part = _; is_part = refl; known = refl; fails = refl; named = refl }
+second_entry-stands = record {
+  behind = second_entry_behind;
+  consistent = record { known = tt; indexes = tt; places = tt; groups = (tt, tt); times = (tt, tt) };
+  rule = description_index;
+  readable = ((record { readable = record { version = refl; flags = refl; room = lit≤ tt }; value = refl; inside = refl; offsets = refl }, tt), (record { readable = record { version = refl; flags = refl; room = lit≤ tt }; value = refl; inside = refl; offsets = refl }, tt));
+  part = _;
+  is_part = refl;
+  known = refl;
+  fails = refl;
+  named = refl;
+}
 
 -- a second run with a sample that ends behind the file
 abbrev run_behind_end : List ℕ
@@ -85,16 +143,45 @@ run_behind_end-fit (table_group rule k) = refl
 
 abbrev run_behind_end_behind : Behind run_behind_end
 run_behind_end_behind = record {
-  before = part run_behind_end 0 24 (codes "ftyp") ∷ part run_behind_end 24 557 (codes "moov") ∷ []; moof = part run_behind_end 581 104 (codes "moof"); stands = (((says (codes "ftyp") 24, refl, refl), ((says (codes "moov") 557, refl, refl), ((says (codes "moof") 104, refl, refl), tt))), tt); is_moof = refl;
-  movie = record { moov = part run_behind_end 24 557 (codes "moov"); movie = part run_behind_end 32 120 (codes "mvhd") ∷ part run_behind_end 152 369 (codes "trak") ∷ part run_behind_end 521 60 (codes "mvex") ∷ []; extends = part run_behind_end 529 20 (codes "mehd") ∷ part run_behind_end 549 32 (codes "trex") ∷ []; tracks = run_behind_end_track_tree ∷ [] }; is_moov = refl;
-  movie_tree = record { movie = record { tiles = record { front = (((says (codes "mvhd") 120, refl, refl), ((says (codes "trak") 369, refl, refl), ((says (codes "mvex") 60, refl, refl), tt))), tt); full = refl }; allowed = (refl, (refl, (refl, tt))); quantities = (refl, (lit≤ tt, (tt, (tt, (tt, (tt, tt)))))) }; extends = record { tiles = record { front = (((says (codes "mehd") 20, refl, refl), ((says (codes "trex") 32, refl, refl), tt)), tt); full = refl }; allowed = (refl, (refl, tt)); quantities = (lit≤ tt, (tt, tt)) }; traks = refl; tracks = (run_behind_end-track, tt) }; movie_sound = record { movie = (record { readable = record { version = refl; flags = refl; room = lit≤ tt }; value = refl; inside = refl; offsets = refl }, (tt, (tt, tt))); kept = tt; tracks = (record { track = (record { readable = record { version = refl; flags = refl; room = lit≤ tt }; value = refl; inside = refl; offsets = refl }, (tt, tt)); kept = tt; edits = tt; media = (record { readable = record { version = refl; flags = refl; room = lit≤ tt }; value = refl; inside = refl; offsets = refl }, (record { readable = record { version = refl; flags = refl; room = lit≤ tt }; value = refl; inside = refl; offsets = refl }, (tt, tt))); data_information = (record { readable = record { version = refl; flags = refl; room = lit≤ tt }; value = refl; inside = refl; offsets = refl }, tt); data_references = (record { readable = record { version = refl; flags = refl; room = lit≤ tt }; value = refl; inside = refl; offsets = refl }, tt); urls = (refl, tt); stsd = record { readable = record { version = refl; flags = refl; room = lit≤ tt }; value = refl; inside = refl; offsets = refl }; descriptions = (record { readable = record { version = refl; flags = refl; room = lit≤ tt }; value = refl; inside = refl; offsets = refl }, tt) }, tt); track_ids = refl; extends = (tt, (record { readable = record { version = refl; flags = refl; room = lit≤ tt }; value = refl; inside = refl; offsets = refl }, tt)); trex_ids = refl }; tables_sound = ((record { readable = record { version = refl; flags = refl; room = lit≤ tt }; value = refl; inside = refl; offsets = refl }, (record { readable = record { version = refl; flags = refl; room = lit≤ tt }; value = refl; inside = refl; offsets = refl }, (record { readable = record { version = refl; flags = refl; room = lit≤ tt }; value = refl; inside = refl; offsets = refl }, (record { readable = record { version = refl; flags = refl; room = lit≤ tt }; value = refl; inside = refl; offsets = refl }, (record { readable = record { version = refl; flags = refl; room = lit≤ tt }; value = refl; inside = refl; offsets = refl }, tt))))), tt); tables_fit = (run_behind_end-fit, tt);
-  earlier = []; earlier_moofs = refl; earlier_trees = tt; earlier_sound = tt;
-  children = part run_behind_end 589 16 (codes "mfhd") ∷ part run_behind_end 605 80 (codes "traf") ∷ []; holds = record { tiles = record { front = (((says (codes "mfhd") 16, refl, refl), ((says (codes "traf") 80, refl, refl), tt)), tt); full = refl }; allowed = (refl, (refl, tt)); quantities = (refl, (tt, tt)) }; trafs_before = []; traf = part run_behind_end 605 80 (codes "traf"); trafs_after = []; is_traf = refl;
-  inside_before = []; inside = part run_behind_end 613 28 (codes "tfhd") ∷ part run_behind_end 641 24 (codes "trun") ∷ part run_behind_end 665 20 (codes "trun") ∷ []; trafs_held = tt; traf_held = record { tiles = record { front = (((says (codes "tfhd") 28, refl, refl), ((says (codes "trun") 24, refl, refl), ((says (codes "trun") 20, refl, refl), tt))), tt); full = refl }; allowed = (refl, (refl, (refl, tt))); quantities = (refl, (lit≤ tt, (tt, (tt, tt)))) }; trafs_sound = tt }
+  before = part run_behind_end 0 24 (codes "ftyp") ∷ part run_behind_end 24 557 (codes "moov") ∷ [];
+  moof = part run_behind_end 581 104 (codes "moof");
+  stands = (((says (codes "ftyp") 24, refl, refl), ((says (codes "moov") 557, refl, refl), ((says (codes "moof") 104, refl, refl), tt))), tt);
+  is_moof = refl;
+  movie = record { moov = part run_behind_end 24 557 (codes "moov"); movie = part run_behind_end 32 120 (codes "mvhd") ∷ part run_behind_end 152 369 (codes "trak") ∷ part run_behind_end 521 60 (codes "mvex") ∷ []; extends = part run_behind_end 529 20 (codes "mehd") ∷ part run_behind_end 549 32 (codes "trex") ∷ []; tracks = run_behind_end_track_tree ∷ [] };
+  is_moov = refl;
+  movie_tree = record { movie = record { tiles = record { front = (((says (codes "mvhd") 120, refl, refl), ((says (codes "trak") 369, refl, refl), ((says (codes "mvex") 60, refl, refl), tt))), tt); full = refl }; allowed = (refl, (refl, (refl, tt))); quantities = (refl, (lit≤ tt, (tt, (tt, (tt, (tt, tt)))))) }; extends = record { tiles = record { front = (((says (codes "mehd") 20, refl, refl), ((says (codes "trex") 32, refl, refl), tt)), tt); full = refl }; allowed = (refl, (refl, tt)); quantities = (lit≤ tt, (tt, tt)) }; traks = refl; tracks = (run_behind_end-track, tt) };
+  movie_sound = record { movie = (record { readable = record { version = refl; flags = refl; room = lit≤ tt }; value = refl; inside = refl; offsets = refl }, (tt, (tt, tt))); kept = tt; tracks = (record { track = (record { readable = record { version = refl; flags = refl; room = lit≤ tt }; value = refl; inside = refl; offsets = refl }, (tt, tt)); kept = tt; edits = tt; media = (record { readable = record { version = refl; flags = refl; room = lit≤ tt }; value = refl; inside = refl; offsets = refl }, (record { readable = record { version = refl; flags = refl; room = lit≤ tt }; value = refl; inside = refl; offsets = refl }, (tt, tt))); data_information = (record { readable = record { version = refl; flags = refl; room = lit≤ tt }; value = refl; inside = refl; offsets = refl }, tt); data_references = (record { readable = record { version = refl; flags = refl; room = lit≤ tt }; value = refl; inside = refl; offsets = refl }, tt); urls = (refl, tt); stsd = record { readable = record { version = refl; flags = refl; room = lit≤ tt }; value = refl; inside = refl; offsets = refl }; descriptions = (record { readable = record { version = refl; flags = refl; room = lit≤ tt }; value = refl; inside = refl; offsets = refl }, tt) }, tt); track_ids = refl; extends = (tt, (record { readable = record { version = refl; flags = refl; room = lit≤ tt }; value = refl; inside = refl; offsets = refl }, tt)); trex_ids = refl };
+  tables_sound = ((record { readable = record { version = refl; flags = refl; room = lit≤ tt }; value = refl; inside = refl; offsets = refl }, (record { readable = record { version = refl; flags = refl; room = lit≤ tt }; value = refl; inside = refl; offsets = refl }, (record { readable = record { version = refl; flags = refl; room = lit≤ tt }; value = refl; inside = refl; offsets = refl }, (record { readable = record { version = refl; flags = refl; room = lit≤ tt }; value = refl; inside = refl; offsets = refl }, (record { readable = record { version = refl; flags = refl; room = lit≤ tt }; value = refl; inside = refl; offsets = refl }, tt))))), tt);
+  tables_fit = (run_behind_end-fit, tt);
+  earlier = [];
+  earlier_moofs = refl;
+  earlier_trees = tt;
+  earlier_sound = tt;
+  children = part run_behind_end 589 16 (codes "mfhd") ∷ part run_behind_end 605 80 (codes "traf") ∷ [];
+  holds = record { tiles = record { front = (((says (codes "mfhd") 16, refl, refl), ((says (codes "traf") 80, refl, refl), tt)), tt); full = refl }; allowed = (refl, (refl, tt)); quantities = (refl, (tt, tt)) };
+  trafs_before = [];
+  traf = part run_behind_end 605 80 (codes "traf");
+  trafs_after = [];
+  is_traf = refl;
+  inside_before = [];
+  inside = part run_behind_end 613 28 (codes "tfhd") ∷ part run_behind_end 641 24 (codes "trun") ∷ part run_behind_end 665 20 (codes "trun") ∷ [];
+  trafs_held = tt;
+  traf_held = record { tiles = record { front = (((says (codes "tfhd") 28, refl, refl), ((says (codes "trun") 24, refl, refl), ((says (codes "trun") 20, refl, refl), tt))), tt); full = refl }; allowed = (refl, (refl, (refl, tt))); quantities = (refl, (lit≤ tt, (tt, (tt, tt)))) };
+  trafs_sound = tt;
+}
 
 run_behind_end-stands : StandsBy fragment run_behind_end (record { kind = kinds.SampleOutsideFile; box_type = codes "trun"; offset = 665 })
-run_behind_end-stands = record { behind = run_behind_end_behind; consistent = record { known = tt; indexes = tt; places = tt; groups = (tt, tt); times = (tt, tt) }; rule = place 1; readable = ((record { readable = record { version = refl; flags = refl; room = lit≤ tt }; value = refl; inside = refl; offsets = refl }, tt), (record { version = refl; flags = refl; room = lit≤ tt }, (record { version = refl; flags = refl; room = lit≤ tt }, tt)));
-  part = _; is_part = refl; known = refl; fails = (_, refl, refl); named = refl }
+run_behind_end-stands = record {
+  behind = run_behind_end_behind;
+  consistent = record { known = tt; indexes = tt; places = tt; groups = (tt, tt); times = (tt, tt) };
+  rule = place 1;
+  readable = ((record { readable = record { version = refl; flags = refl; room = lit≤ tt }; value = refl; inside = refl; offsets = refl }, tt), (record { version = refl; flags = refl; room = lit≤ tt }, (record { version = refl; flags = refl; room = lit≤ tt }, tt)));
+  part = _;
+  is_part = refl;
+  known = refl;
+  fails = (_, refl, refl);
+  named = refl;
+}
 
 -- a run that begins before the file
 abbrev run_before_file : List ℕ
@@ -119,16 +206,45 @@ run_before_file-fit (table_group rule k) = refl
 
 abbrev run_before_file_behind : Behind run_before_file
 run_before_file_behind = record {
-  before = part run_before_file 0 24 (codes "ftyp") ∷ part run_before_file 24 557 (codes "moov") ∷ []; moof = part run_before_file 581 84 (codes "moof"); stands = (((says (codes "ftyp") 24, refl, refl), ((says (codes "moov") 557, refl, refl), ((says (codes "moof") 84, refl, refl), tt))), tt); is_moof = refl;
-  movie = record { moov = part run_before_file 24 557 (codes "moov"); movie = part run_before_file 32 120 (codes "mvhd") ∷ part run_before_file 152 369 (codes "trak") ∷ part run_before_file 521 60 (codes "mvex") ∷ []; extends = part run_before_file 529 20 (codes "mehd") ∷ part run_before_file 549 32 (codes "trex") ∷ []; tracks = run_before_file_track_tree ∷ [] }; is_moov = refl;
-  movie_tree = record { movie = record { tiles = record { front = (((says (codes "mvhd") 120, refl, refl), ((says (codes "trak") 369, refl, refl), ((says (codes "mvex") 60, refl, refl), tt))), tt); full = refl }; allowed = (refl, (refl, (refl, tt))); quantities = (refl, (lit≤ tt, (tt, (tt, (tt, (tt, tt)))))) }; extends = record { tiles = record { front = (((says (codes "mehd") 20, refl, refl), ((says (codes "trex") 32, refl, refl), tt)), tt); full = refl }; allowed = (refl, (refl, tt)); quantities = (lit≤ tt, (tt, tt)) }; traks = refl; tracks = (run_before_file-track, tt) }; movie_sound = record { movie = (record { readable = record { version = refl; flags = refl; room = lit≤ tt }; value = refl; inside = refl; offsets = refl }, (tt, (tt, tt))); kept = tt; tracks = (record { track = (record { readable = record { version = refl; flags = refl; room = lit≤ tt }; value = refl; inside = refl; offsets = refl }, (tt, tt)); kept = tt; edits = tt; media = (record { readable = record { version = refl; flags = refl; room = lit≤ tt }; value = refl; inside = refl; offsets = refl }, (record { readable = record { version = refl; flags = refl; room = lit≤ tt }; value = refl; inside = refl; offsets = refl }, (tt, tt))); data_information = (record { readable = record { version = refl; flags = refl; room = lit≤ tt }; value = refl; inside = refl; offsets = refl }, tt); data_references = (record { readable = record { version = refl; flags = refl; room = lit≤ tt }; value = refl; inside = refl; offsets = refl }, tt); urls = (refl, tt); stsd = record { readable = record { version = refl; flags = refl; room = lit≤ tt }; value = refl; inside = refl; offsets = refl }; descriptions = (record { readable = record { version = refl; flags = refl; room = lit≤ tt }; value = refl; inside = refl; offsets = refl }, tt) }, tt); track_ids = refl; extends = (tt, (record { readable = record { version = refl; flags = refl; room = lit≤ tt }; value = refl; inside = refl; offsets = refl }, tt)); trex_ids = refl }; tables_sound = ((record { readable = record { version = refl; flags = refl; room = lit≤ tt }; value = refl; inside = refl; offsets = refl }, (record { readable = record { version = refl; flags = refl; room = lit≤ tt }; value = refl; inside = refl; offsets = refl }, (record { readable = record { version = refl; flags = refl; room = lit≤ tt }; value = refl; inside = refl; offsets = refl }, (record { readable = record { version = refl; flags = refl; room = lit≤ tt }; value = refl; inside = refl; offsets = refl }, (record { readable = record { version = refl; flags = refl; room = lit≤ tt }; value = refl; inside = refl; offsets = refl }, tt))))), tt); tables_fit = (run_before_file-fit, tt);
-  earlier = []; earlier_moofs = refl; earlier_trees = tt; earlier_sound = tt;
-  children = part run_before_file 589 16 (codes "mfhd") ∷ part run_before_file 605 60 (codes "traf") ∷ []; holds = record { tiles = record { front = (((says (codes "mfhd") 16, refl, refl), ((says (codes "traf") 60, refl, refl), tt)), tt); full = refl }; allowed = (refl, (refl, tt)); quantities = (refl, (tt, tt)) }; trafs_before = []; traf = part run_before_file 605 60 (codes "traf"); trafs_after = []; is_traf = refl;
-  inside_before = []; inside = part run_before_file 613 28 (codes "tfhd") ∷ part run_before_file 641 24 (codes "trun") ∷ []; trafs_held = tt; traf_held = record { tiles = record { front = (((says (codes "tfhd") 28, refl, refl), ((says (codes "trun") 24, refl, refl), tt)), tt); full = refl }; allowed = (refl, (refl, tt)); quantities = (refl, (lit≤ tt, (tt, (tt, tt)))) }; trafs_sound = tt }
+  before = part run_before_file 0 24 (codes "ftyp") ∷ part run_before_file 24 557 (codes "moov") ∷ [];
+  moof = part run_before_file 581 84 (codes "moof");
+  stands = (((says (codes "ftyp") 24, refl, refl), ((says (codes "moov") 557, refl, refl), ((says (codes "moof") 84, refl, refl), tt))), tt);
+  is_moof = refl;
+  movie = record { moov = part run_before_file 24 557 (codes "moov"); movie = part run_before_file 32 120 (codes "mvhd") ∷ part run_before_file 152 369 (codes "trak") ∷ part run_before_file 521 60 (codes "mvex") ∷ []; extends = part run_before_file 529 20 (codes "mehd") ∷ part run_before_file 549 32 (codes "trex") ∷ []; tracks = run_before_file_track_tree ∷ [] };
+  is_moov = refl;
+  movie_tree = record { movie = record { tiles = record { front = (((says (codes "mvhd") 120, refl, refl), ((says (codes "trak") 369, refl, refl), ((says (codes "mvex") 60, refl, refl), tt))), tt); full = refl }; allowed = (refl, (refl, (refl, tt))); quantities = (refl, (lit≤ tt, (tt, (tt, (tt, (tt, tt)))))) }; extends = record { tiles = record { front = (((says (codes "mehd") 20, refl, refl), ((says (codes "trex") 32, refl, refl), tt)), tt); full = refl }; allowed = (refl, (refl, tt)); quantities = (lit≤ tt, (tt, tt)) }; traks = refl; tracks = (run_before_file-track, tt) };
+  movie_sound = record { movie = (record { readable = record { version = refl; flags = refl; room = lit≤ tt }; value = refl; inside = refl; offsets = refl }, (tt, (tt, tt))); kept = tt; tracks = (record { track = (record { readable = record { version = refl; flags = refl; room = lit≤ tt }; value = refl; inside = refl; offsets = refl }, (tt, tt)); kept = tt; edits = tt; media = (record { readable = record { version = refl; flags = refl; room = lit≤ tt }; value = refl; inside = refl; offsets = refl }, (record { readable = record { version = refl; flags = refl; room = lit≤ tt }; value = refl; inside = refl; offsets = refl }, (tt, tt))); data_information = (record { readable = record { version = refl; flags = refl; room = lit≤ tt }; value = refl; inside = refl; offsets = refl }, tt); data_references = (record { readable = record { version = refl; flags = refl; room = lit≤ tt }; value = refl; inside = refl; offsets = refl }, tt); urls = (refl, tt); stsd = record { readable = record { version = refl; flags = refl; room = lit≤ tt }; value = refl; inside = refl; offsets = refl }; descriptions = (record { readable = record { version = refl; flags = refl; room = lit≤ tt }; value = refl; inside = refl; offsets = refl }, tt) }, tt); track_ids = refl; extends = (tt, (record { readable = record { version = refl; flags = refl; room = lit≤ tt }; value = refl; inside = refl; offsets = refl }, tt)); trex_ids = refl };
+  tables_sound = ((record { readable = record { version = refl; flags = refl; room = lit≤ tt }; value = refl; inside = refl; offsets = refl }, (record { readable = record { version = refl; flags = refl; room = lit≤ tt }; value = refl; inside = refl; offsets = refl }, (record { readable = record { version = refl; flags = refl; room = lit≤ tt }; value = refl; inside = refl; offsets = refl }, (record { readable = record { version = refl; flags = refl; room = lit≤ tt }; value = refl; inside = refl; offsets = refl }, (record { readable = record { version = refl; flags = refl; room = lit≤ tt }; value = refl; inside = refl; offsets = refl }, tt))))), tt);
+  tables_fit = (run_before_file-fit, tt);
+  earlier = [];
+  earlier_moofs = refl;
+  earlier_trees = tt;
+  earlier_sound = tt;
+  children = part run_before_file 589 16 (codes "mfhd") ∷ part run_before_file 605 60 (codes "traf") ∷ [];
+  holds = record { tiles = record { front = (((says (codes "mfhd") 16, refl, refl), ((says (codes "traf") 60, refl, refl), tt)), tt); full = refl }; allowed = (refl, (refl, tt)); quantities = (refl, (tt, tt)) };
+  trafs_before = [];
+  traf = part run_before_file 605 60 (codes "traf");
+  trafs_after = [];
+  is_traf = refl;
+  inside_before = [];
+  inside = part run_before_file 613 28 (codes "tfhd") ∷ part run_before_file 641 24 (codes "trun") ∷ [];
+  trafs_held = tt;
+  traf_held = record { tiles = record { front = (((says (codes "tfhd") 28, refl, refl), ((says (codes "trun") 24, refl, refl), tt)), tt); full = refl }; allowed = (refl, (refl, tt)); quantities = (refl, (lit≤ tt, (tt, (tt, tt)))) };
+  trafs_sound = tt;
+}
 
 run_before_file-stands : StandsBy fragment run_before_file (record { kind = kinds.SampleOutsideFile; box_type = codes "trun"; offset = 641 })
-run_before_file-stands = record { behind = run_before_file_behind; consistent = record { known = tt; indexes = tt; places = tt; groups = (tt, tt); times = (tt, tt) }; rule = place 0; readable = ((record { readable = record { version = refl; flags = refl; room = lit≤ tt }; value = refl; inside = refl; offsets = refl }, tt), (record { version = refl; flags = refl; room = lit≤ tt }, tt));
-  part = _; is_part = refl; known = refl; fails = (_, refl, refl); named = refl }
+run_before_file-stands = record {
+  behind = run_before_file_behind;
+  consistent = record { known = tt; indexes = tt; places = tt; groups = (tt, tt); times = (tt, tt) };
+  rule = place 0;
+  readable = ((record { readable = record { version = refl; flags = refl; room = lit≤ tt }; value = refl; inside = refl; offsets = refl }, tt), (record { version = refl; flags = refl; room = lit≤ tt }, tt));
+  part = _;
+  is_part = refl;
+  known = refl;
+  fails = (_, refl, refl);
+  named = refl;
+}
 
 -- a group index above 65,535 in a `traf`
 abbrev large_group : List ℕ
@@ -153,16 +269,45 @@ large_group-fit (table_group rule k) = refl
 
 abbrev large_group_behind : Behind large_group
 large_group_behind = record {
-  before = part large_group 0 24 (codes "ftyp") ∷ part large_group 24 557 (codes "moov") ∷ []; moof = part large_group 581 108 (codes "moof"); stands = (((says (codes "ftyp") 24, refl, refl), ((says (codes "moov") 557, refl, refl), ((says (codes "moof") 108, refl, refl), tt))), tt); is_moof = refl;
-  movie = record { moov = part large_group 24 557 (codes "moov"); movie = part large_group 32 120 (codes "mvhd") ∷ part large_group 152 369 (codes "trak") ∷ part large_group 521 60 (codes "mvex") ∷ []; extends = part large_group 529 20 (codes "mehd") ∷ part large_group 549 32 (codes "trex") ∷ []; tracks = large_group_track_tree ∷ [] }; is_moov = refl;
-  movie_tree = record { movie = record { tiles = record { front = (((says (codes "mvhd") 120, refl, refl), ((says (codes "trak") 369, refl, refl), ((says (codes "mvex") 60, refl, refl), tt))), tt); full = refl }; allowed = (refl, (refl, (refl, tt))); quantities = (refl, (lit≤ tt, (tt, (tt, (tt, (tt, tt)))))) }; extends = record { tiles = record { front = (((says (codes "mehd") 20, refl, refl), ((says (codes "trex") 32, refl, refl), tt)), tt); full = refl }; allowed = (refl, (refl, tt)); quantities = (lit≤ tt, (tt, tt)) }; traks = refl; tracks = (large_group-track, tt) }; movie_sound = record { movie = (record { readable = record { version = refl; flags = refl; room = lit≤ tt }; value = refl; inside = refl; offsets = refl }, (tt, (tt, tt))); kept = tt; tracks = (record { track = (record { readable = record { version = refl; flags = refl; room = lit≤ tt }; value = refl; inside = refl; offsets = refl }, (tt, tt)); kept = tt; edits = tt; media = (record { readable = record { version = refl; flags = refl; room = lit≤ tt }; value = refl; inside = refl; offsets = refl }, (record { readable = record { version = refl; flags = refl; room = lit≤ tt }; value = refl; inside = refl; offsets = refl }, (tt, tt))); data_information = (record { readable = record { version = refl; flags = refl; room = lit≤ tt }; value = refl; inside = refl; offsets = refl }, tt); data_references = (record { readable = record { version = refl; flags = refl; room = lit≤ tt }; value = refl; inside = refl; offsets = refl }, tt); urls = (refl, tt); stsd = record { readable = record { version = refl; flags = refl; room = lit≤ tt }; value = refl; inside = refl; offsets = refl }; descriptions = (record { readable = record { version = refl; flags = refl; room = lit≤ tt }; value = refl; inside = refl; offsets = refl }, tt) }, tt); track_ids = refl; extends = (tt, (record { readable = record { version = refl; flags = refl; room = lit≤ tt }; value = refl; inside = refl; offsets = refl }, tt)); trex_ids = refl }; tables_sound = ((record { readable = record { version = refl; flags = refl; room = lit≤ tt }; value = refl; inside = refl; offsets = refl }, (record { readable = record { version = refl; flags = refl; room = lit≤ tt }; value = refl; inside = refl; offsets = refl }, (record { readable = record { version = refl; flags = refl; room = lit≤ tt }; value = refl; inside = refl; offsets = refl }, (record { readable = record { version = refl; flags = refl; room = lit≤ tt }; value = refl; inside = refl; offsets = refl }, (record { readable = record { version = refl; flags = refl; room = lit≤ tt }; value = refl; inside = refl; offsets = refl }, tt))))), tt); tables_fit = (large_group-fit, tt);
-  earlier = []; earlier_moofs = refl; earlier_trees = tt; earlier_sound = tt;
-  children = part large_group 589 16 (codes "mfhd") ∷ part large_group 605 84 (codes "traf") ∷ []; holds = record { tiles = record { front = (((says (codes "mfhd") 16, refl, refl), ((says (codes "traf") 84, refl, refl), tt)), tt); full = refl }; allowed = (refl, (refl, tt)); quantities = (refl, (tt, tt)) }; trafs_before = []; traf = part large_group 605 84 (codes "traf"); trafs_after = []; is_traf = refl;
-  inside_before = []; inside = part large_group 613 32 (codes "tfhd") ∷ part large_group 645 16 (codes "trun") ∷ part large_group 661 28 (codes "sbgp") ∷ []; trafs_held = tt; traf_held = record { tiles = record { front = (((says (codes "tfhd") 32, refl, refl), ((says (codes "trun") 16, refl, refl), ((says (codes "sbgp") 28, refl, refl), tt))), tt); full = refl }; allowed = (refl, (refl, (refl, tt))); quantities = (refl, (lit≤ tt, (tt, (tt, tt)))) }; trafs_sound = tt }
+  before = part large_group 0 24 (codes "ftyp") ∷ part large_group 24 557 (codes "moov") ∷ [];
+  moof = part large_group 581 108 (codes "moof");
+  stands = (((says (codes "ftyp") 24, refl, refl), ((says (codes "moov") 557, refl, refl), ((says (codes "moof") 108, refl, refl), tt))), tt);
+  is_moof = refl;
+  movie = record { moov = part large_group 24 557 (codes "moov"); movie = part large_group 32 120 (codes "mvhd") ∷ part large_group 152 369 (codes "trak") ∷ part large_group 521 60 (codes "mvex") ∷ []; extends = part large_group 529 20 (codes "mehd") ∷ part large_group 549 32 (codes "trex") ∷ []; tracks = large_group_track_tree ∷ [] };
+  is_moov = refl;
+  movie_tree = record { movie = record { tiles = record { front = (((says (codes "mvhd") 120, refl, refl), ((says (codes "trak") 369, refl, refl), ((says (codes "mvex") 60, refl, refl), tt))), tt); full = refl }; allowed = (refl, (refl, (refl, tt))); quantities = (refl, (lit≤ tt, (tt, (tt, (tt, (tt, tt)))))) }; extends = record { tiles = record { front = (((says (codes "mehd") 20, refl, refl), ((says (codes "trex") 32, refl, refl), tt)), tt); full = refl }; allowed = (refl, (refl, tt)); quantities = (lit≤ tt, (tt, tt)) }; traks = refl; tracks = (large_group-track, tt) };
+  movie_sound = record { movie = (record { readable = record { version = refl; flags = refl; room = lit≤ tt }; value = refl; inside = refl; offsets = refl }, (tt, (tt, tt))); kept = tt; tracks = (record { track = (record { readable = record { version = refl; flags = refl; room = lit≤ tt }; value = refl; inside = refl; offsets = refl }, (tt, tt)); kept = tt; edits = tt; media = (record { readable = record { version = refl; flags = refl; room = lit≤ tt }; value = refl; inside = refl; offsets = refl }, (record { readable = record { version = refl; flags = refl; room = lit≤ tt }; value = refl; inside = refl; offsets = refl }, (tt, tt))); data_information = (record { readable = record { version = refl; flags = refl; room = lit≤ tt }; value = refl; inside = refl; offsets = refl }, tt); data_references = (record { readable = record { version = refl; flags = refl; room = lit≤ tt }; value = refl; inside = refl; offsets = refl }, tt); urls = (refl, tt); stsd = record { readable = record { version = refl; flags = refl; room = lit≤ tt }; value = refl; inside = refl; offsets = refl }; descriptions = (record { readable = record { version = refl; flags = refl; room = lit≤ tt }; value = refl; inside = refl; offsets = refl }, tt) }, tt); track_ids = refl; extends = (tt, (record { readable = record { version = refl; flags = refl; room = lit≤ tt }; value = refl; inside = refl; offsets = refl }, tt)); trex_ids = refl };
+  tables_sound = ((record { readable = record { version = refl; flags = refl; room = lit≤ tt }; value = refl; inside = refl; offsets = refl }, (record { readable = record { version = refl; flags = refl; room = lit≤ tt }; value = refl; inside = refl; offsets = refl }, (record { readable = record { version = refl; flags = refl; room = lit≤ tt }; value = refl; inside = refl; offsets = refl }, (record { readable = record { version = refl; flags = refl; room = lit≤ tt }; value = refl; inside = refl; offsets = refl }, (record { readable = record { version = refl; flags = refl; room = lit≤ tt }; value = refl; inside = refl; offsets = refl }, tt))))), tt);
+  tables_fit = (large_group-fit, tt);
+  earlier = [];
+  earlier_moofs = refl;
+  earlier_trees = tt;
+  earlier_sound = tt;
+  children = part large_group 589 16 (codes "mfhd") ∷ part large_group 605 84 (codes "traf") ∷ [];
+  holds = record { tiles = record { front = (((says (codes "mfhd") 16, refl, refl), ((says (codes "traf") 84, refl, refl), tt)), tt); full = refl }; allowed = (refl, (refl, tt)); quantities = (refl, (tt, tt)) };
+  trafs_before = [];
+  traf = part large_group 605 84 (codes "traf");
+  trafs_after = [];
+  is_traf = refl;
+  inside_before = [];
+  inside = part large_group 613 32 (codes "tfhd") ∷ part large_group 645 16 (codes "trun") ∷ part large_group 661 28 (codes "sbgp") ∷ [];
+  trafs_held = tt;
+  traf_held = record { tiles = record { front = (((says (codes "tfhd") 32, refl, refl), ((says (codes "trun") 16, refl, refl), ((says (codes "sbgp") 28, refl, refl), tt))), tt); full = refl }; allowed = (refl, (refl, (refl, tt))); quantities = (refl, (lit≤ tt, (tt, (tt, tt)))) };
+  trafs_sound = tt;
+}
 
 large_group-stands : StandsBy fragment large_group (record { kind = kinds.BadValue; box_type = codes "sbgp"; offset = 661 })
-large_group-stands = record { behind = large_group_behind; consistent = record { known = tt; indexes = tt; places = tt; groups = (tt, tt); times = (tt, tt) }; rule = fragment_group index_range 0; readable = ((record { readable = record { version = refl; flags = refl; room = lit≤ tt }; value = refl; inside = refl; offsets = refl }, tt), (record { version = refl; flags = refl; room = lit≤ tt }, tt));
-  part = _; is_part = refl; known = refl; fails = (large_group_track_tree, (0, lit≤ tt, refl), refl, refl); named = refl }
+large_group-stands = record {
+  behind = large_group_behind;
+  consistent = record { known = tt; indexes = tt; places = tt; groups = (tt, tt); times = (tt, tt) };
+  rule = fragment_group index_range 0;
+  readable = ((record { readable = record { version = refl; flags = refl; room = lit≤ tt }; value = refl; inside = refl; offsets = refl }, tt), (record { version = refl; flags = refl; room = lit≤ tt }, tt));
+  part = _;
+  is_part = refl;
+  known = refl;
+  fails = (large_group_track_tree, (0, lit≤ tt, refl), refl, refl);
+  named = refl;
+}
 
 -- runs of 2^24 samples and of one more
 abbrev many_runs : List ℕ
@@ -170,13 +315,32 @@ many_runs = hex (codes "000000746d6f6f760000006c6d766864000000000000000000000000
 
 abbrev many_runs_behind : Behind many_runs
 many_runs_behind = record {
-  before = part many_runs 0 116 (codes "moov") ∷ []; moof = part many_runs 116 80 (codes "moof"); stands = (((says (codes "moov") 116, refl, refl), ((says (codes "moof") 80, refl, refl), tt)), tt); is_moof = refl;
-  movie = record { moov = part many_runs 0 116 (codes "moov"); movie = part many_runs 8 108 (codes "mvhd") ∷ []; extends = []; tracks = [] }; is_moov = refl;
-  movie_tree = record { movie = record { tiles = record { front = (((says (codes "mvhd") 108, refl, refl), tt), tt); full = refl }; allowed = (refl, tt); quantities = (refl, (lit≤ tt, (tt, (tt, (tt, (tt, tt)))))) }; extends = refl; traks = refl; tracks = tt }; movie_sound = record { movie = (record { readable = record { version = refl; flags = refl; room = lit≤ tt }; value = refl; inside = refl; offsets = refl }, tt); kept = tt; tracks = tt; track_ids = refl; extends = tt; trex_ids = refl }; tables_sound = tt; tables_fit = tt;
-  earlier = []; earlier_moofs = refl; earlier_trees = tt; earlier_sound = tt;
-  children = part many_runs 124 16 (codes "mfhd") ∷ part many_runs 140 56 (codes "traf") ∷ []; holds = record { tiles = record { front = (((says (codes "mfhd") 16, refl, refl), ((says (codes "traf") 56, refl, refl), tt)), tt); full = refl }; allowed = (refl, (refl, tt)); quantities = (refl, (tt, tt)) }; trafs_before = []; traf = part many_runs 140 56 (codes "traf"); trafs_after = []; is_traf = refl;
-  inside_before = []; inside = part many_runs 148 16 (codes "tfhd") ∷ part many_runs 164 16 (codes "trun") ∷ part many_runs 180 16 (codes "trun") ∷ []; trafs_held = tt; traf_held = record { tiles = record { front = (((says (codes "tfhd") 16, refl, refl), ((says (codes "trun") 16, refl, refl), ((says (codes "trun") 16, refl, refl), tt))), tt); full = refl }; allowed = (refl, (refl, (refl, tt))); quantities = (refl, (lit≤ tt, (tt, (tt, tt)))) }; trafs_sound = tt }
+  before = part many_runs 0 116 (codes "moov") ∷ [];
+  moof = part many_runs 116 80 (codes "moof");
+  stands = (((says (codes "moov") 116, refl, refl), ((says (codes "moof") 80, refl, refl), tt)), tt);
+  is_moof = refl;
+  movie = record { moov = part many_runs 0 116 (codes "moov"); movie = part many_runs 8 108 (codes "mvhd") ∷ []; extends = []; tracks = [] };
+  is_moov = refl;
+  movie_tree = record { movie = record { tiles = record { front = (((says (codes "mvhd") 108, refl, refl), tt), tt); full = refl }; allowed = (refl, tt); quantities = (refl, (lit≤ tt, (tt, (tt, (tt, (tt, tt)))))) }; extends = refl; traks = refl; tracks = tt };
+  movie_sound = record { movie = (record { readable = record { version = refl; flags = refl; room = lit≤ tt }; value = refl; inside = refl; offsets = refl }, tt); kept = tt; tracks = tt; track_ids = refl; extends = tt; trex_ids = refl };
+  tables_sound = tt;
+  tables_fit = tt;
+  earlier = [];
+  earlier_moofs = refl;
+  earlier_trees = tt;
+  earlier_sound = tt;
+  children = part many_runs 124 16 (codes "mfhd") ∷ part many_runs 140 56 (codes "traf") ∷ [];
+  holds = record { tiles = record { front = (((says (codes "mfhd") 16, refl, refl), ((says (codes "traf") 56, refl, refl), tt)), tt); full = refl }; allowed = (refl, (refl, tt)); quantities = (refl, (tt, tt)) };
+  trafs_before = [];
+  traf = part many_runs 140 56 (codes "traf");
+  trafs_after = [];
+  is_traf = refl;
+  inside_before = [];
+  inside = part many_runs 148 16 (codes "tfhd") ∷ part many_runs 164 16 (codes "trun") ∷ part many_runs 180 16 (codes "trun") ∷ [];
+  trafs_held = tt;
+  traf_held = record { tiles = record { front = (((says (codes "tfhd") 16, refl, refl), ((says (codes "trun") 16, refl, refl), ((says (codes "trun") 16, refl, refl), tt))), tt); full = refl }; allowed = (refl, (refl, (refl, tt))); quantities = (refl, (lit≤ tt, (tt, (tt, tt)))) };
+  trafs_sound = tt;
+}
 
 many_runs-stands : StandsBy count many_runs (record { kind = kinds.TooManySamples; box_type = codes "trun"; offset = 180 })
 many_runs-stands = inr (record { behind = many_runs_behind; before = part many_runs 164 16 (codes "trun") ∷ []; run = part many_runs 180 16 (codes "trun"); after = []; runs = refl; readable = (record { version = refl; flags = refl; room = lit≤ tt }, (record { version = refl; flags = refl; room = lit≤ tt }, tt)); total = 0; total_is = refl; passes = lit≤ tt; not_before = lit≤ tt; named = refl })
-
