@@ -10,4 +10,6 @@ pub mod PieceFacts
 pub mod PartLists
 pub mod RunLists
 pub mod Refuses
+pub mod GroupRows
+pub mod OneSpelling
 pub mod Vectors

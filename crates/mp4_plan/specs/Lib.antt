@@ -1,4 +1,5 @@
 pub mod Pieces
 pub mod Normal
 pub mod PieceLaws
+pub mod SpellingLaws
 pub mod Laws

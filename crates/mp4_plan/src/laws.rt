@@ -2,6 +2,7 @@
 
 ghost use Rattle.mp4_plan.specs.Laws.{DenotedIsValid, DenotesOne, FaultRefuses};
 ghost use Rattle.mp4_plan.specs.PieceLaws.{CutsAreLeast, FragmentsAreLast, PiecesAreDue, PiecesAreLongest, PiecesJoin};
+ghost use Rattle.mp4_plan.specs.SpellingLaws.{ColumnsAreSpelledOnce, GroupRowsAreLongest, PieceKeysAreThose};
 ghost use Rattle.mp4_present.specs.Stands.{Reason, header, child, missing, leaf, tables, fragment, count, limit, order};
 
 /// A file denotes at most one presentation.
@@ -37,6 +38,21 @@ pub fn pieces_are_longest()
 /// The fragment of a sample is that of the last cut that has begun, by number or by time; the first one if none has.
 pub fn fragments_are_last()
     ensures { FragmentsAreLast }
+{}
+
+/// In the normal form of what is valid a number that all samples of a piece have is a default of its `tfhd` and no column of its `trun`, and any other number is a column and no default.
+pub fn columns_are_spelled_once()
+    ensures { ColumnsAreSpelledOnce }
+{}
+
+/// The rows of an `sbgp` are the longest runs of the indexes of its samples.
+pub fn group_rows_are_longest()
+    ensures { GroupRowsAreLongest }
+{}
+
+/// A piece has an `sbgp` for each key at which some sample has an index, once, in the order of keys.
+pub fn piece_keys_are_those()
+    ensures { PieceKeysAreThose }
 {}
 
 /// A file in which a header can't be read denotes nothing.

@@ -13,7 +13,7 @@ abbrev pub IsNone : List GroupKey → GroupKey → Type 0
 IsNone keys key = list_any (same_key key) keys ≡ false
 
 -- keys of one rank are among the same keys
-by_rank : (keys : List GroupKey) (a b : GroupKey) → key_rank a ≡ key_rank b → list_any (same_key a) keys ≡ list_any (same_key b) keys
+pub by_rank : (keys : List GroupKey) (a b : GroupKey) → key_rank a ≡ key_rank b → list_any (same_key a) keys ≡ list_any (same_key b) keys
 by_rank keys a b e = ap (λ (n : ℕ). list_any (λ (k : GroupKey). eqb n (key_rank k)) keys) e
 
 -- what is one of some keys has another rank than what is none of them
