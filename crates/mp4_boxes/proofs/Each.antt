@@ -1,7 +1,8 @@
 -- What holds of each member of a list, and of what is made of the list.
 use Rattle.std.proofs.Common.{◌≡◌, ℕ, zero, suc, Bool, true, false, List, [], ◌∷◌, take, drop, replicate, refl, ap}
-use Rattle.std.specs.Prelude.{filter, flat_map, map, bytes_eq}
-use Rattle.std.specs.List.{AllByRecursion}
+use Rattle.std.specs.Prelude.{IsTrue, filter, flat_map, map, bytes_eq}
+use Rattle.std.specs.List.{AllByRecursion, list_all}
+use Rattle.std.proofs.lemmas.Bool.{and_parts}
 use Rattle.mp4_boxes.specs.Box.{Box}
 use Rattle.mp4_boxes.specs.Children.{of_kind}
 use Rattle.mp4_boxes.proofs.Among.{IsIn, all_append}
@@ -70,3 +71,8 @@ each_member P (x ∷ xs) h = (
   h x (record { before = []; after = xs; is = refl }),
   each_member P xs (λ y i. h y (record { before = x ∷ i.before; after = i.after; is = ap (λ zs. x ∷ zs) i.is })),
 )
+
+-- what a test passes for all, it passes for each
+pub each_tested : {A : Type 0} (p : A → Bool) (xs : List A) → list_all p xs ≡ true → AllByRecursion (λ x. IsTrue (p x)) xs
+each_tested p [] e = tt
+each_tested p (x ∷ xs) e = let q = and_parts (p x) (list_all p xs) e in (q.0, each_tested p xs q.1)

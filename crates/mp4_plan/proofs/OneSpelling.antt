@@ -7,9 +7,8 @@ use Rattle.std.proofs.lemmas.Bool.{eqb-true, eq-eqb, and_from, not-false}
 use Rattle.mp4_boxes.specs.Bytes.{spelled, unsigned}
 use Rattle.mp4_boxes.specs.Written.{column_flags, column_bytes}
 use Rattle.mp4_boxes.specs.Layout.{Column, tfhd, trun, fields, flags, has, column_values, tfhd_columns, trun_columns, default_base_is_moof, default_sample_duration_present, default_sample_size_present, default_sample_flags_present, sample_duration_present, sample_size_present, sample_flags_present, sample_composition_time_offset_present}
-use Rattle.mp4_boxes.proofs.Each.{each_value, each_weaker, each_from}
+use Rattle.mp4_boxes.proofs.Each.{each_tested, each_value, each_weaker, each_from}
 use Rattle.mp4_boxes.proofs.Columns.{columns_again}
-use Rattle.mp4_tables.proofs.Placed.{each_tested}
 use Rattle.mp4_frag.specs.Fragments.{column}
 use Rattle.mp4_present.specs.Presentation.{Sample, Track, IsSample, IsTrack}
 use Rattle.mp4_plan.specs.Pieces.{TimedSample, Piece, timed, pieces}

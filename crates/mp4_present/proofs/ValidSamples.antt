@@ -6,7 +6,7 @@ use Rattle.std.proofs.lemmas.Bool.{leb-true, eqb-true, and_parts}
 use Rattle.std.proofs.lemmas.List.{length-take}
 use Rattle.mp4_boxes.specs.Bytes.{AreBytes}
 use Rattle.mp4_boxes.proofs.Among.{IsIn, all_append}
-use Rattle.mp4_boxes.proofs.Each.{each_value, each_weaker, each_from, each_joined, each_member}
+use Rattle.mp4_boxes.proofs.Each.{each_tested, each_value, each_weaker, each_from, each_joined, each_member}
 use Rattle.mp4_boxes.proofs.OfBytes.{no_bytes, bytes_taken, bytes_dropped}
 use Rattle.mp4_boxes.proofs.Refusing.{found_has}
 use Rattle.mp4_tables.specs.Groups.{GroupKey, Grouping, Groups, keys_with, keys_after, max_keys}
@@ -14,7 +14,7 @@ use Rattle.mp4_tables.specs.PlainSamples.{PlacedSample}
 use Rattle.mp4_tables.specs.TableRules.{is_index}
 use Rattle.mp4_tables.proofs.NamedKeys.{IsAmong, among_with, few_with}
 use Rattle.mp4_tables.proofs.GroupMaps.{IsMap, keys_named, order_test, map_through, named_after, after-append, still_few}
-use Rattle.mp4_tables.proofs.Placed.{IsPlaced, IsIndex, each_tested}
+use Rattle.mp4_tables.proofs.Placed.{IsPlaced, IsIndex}
 use Rattle.mp4_frag.specs.FragmentSamples.{Part, part_samples, has_samples, start_of, keys_behind, AreGrouped}
 use Rattle.mp4_frag.specs.FragmentRules.{TrackInfo, track_for, has_indexes}
 use Rattle.mp4_frag.proofs.Ranges.{IsPart, part_placed}

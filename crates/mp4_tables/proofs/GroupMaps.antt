@@ -2,9 +2,9 @@
 use Rattle.std.proofs.Common.{◌≡◌, ℕ, ◌<◌, ◌≤◌, Bool, true, false, cond, eqb, ltb, leb, List, [], ◌∷◌, ◌++◌, length, take, replicate, Some, refl, sym, ap, subst, arith, append_assoc, append-nil, length-append}
 use Rattle.std.specs.Prelude.{map, not, ◌||◌, IsTrue, slice_get}
 use Rattle.std.specs.List.{AllByRecursion, list_any, list_all}
-use Rattle.std.proofs.lemmas.Bool.{ltb-true, ltb-false, lt-ltb, leb-true, eqb-false, and_from, and_parts, or_parts, or_from, not-true}
+use Rattle.std.proofs.lemmas.Bool.{ltb-true, ltb-false, lt-ltb, leb-true, eqb-false, and_from, or_parts, or_from, not-true}
 use Rattle.mp4_boxes.proofs.Among.{all_append}
-use Rattle.mp4_boxes.proofs.Each.{each_from, each_again}
+use Rattle.mp4_boxes.proofs.Each.{each_from, each_again, each_weaker, each_tested}
 use Rattle.mp4_tables.specs.Repeated.{repeated}
 use Rattle.mp4_tables.specs.Groups.{GroupKey, Grouping, Groups, GroupRule, one_of_key, few_keys, index_range, key_rank, same_key, keys_after, is_in_order, put_group, put_indexes, maps_of, keeps, group_test, max_keys, max_index}
 use Rattle.mp4_tables.proofs.NamedKeys.{IsAmong, IsNone, other_rank, same_other, among_more, among_first, among_through, each_named}
@@ -223,10 +223,8 @@ abbrev AreSmall : Grouping → Type 0
 AreSmall g = AllByRecursion (λ (row : ℕ × ℕ). row.1 ≤ max_index) g.rows
 
 rows_small : (rows : List (ℕ × ℕ)) → list_all (λ (row : ℕ × ℕ). leb row.1 max_index) rows ≡ true → AllByRecursion (λ (row : ℕ × ℕ). row.1 ≤ max_index) rows
-rows_small [] e = tt
-rows_small (row ∷ rows) e =
-    let p = and_parts (leb row.1 max_index) (list_all (λ (r : ℕ × ℕ). leb r.1 max_index) rows) e in
-    (leb-true row.1 max_index p.0, rows_small rows p.1)
+rows_small rows e =
+    each_weaker (λ (row : ℕ × ℕ). leb row.1 max_index ≡ true) (λ (row : ℕ × ℕ). row.1 ≤ max_index) (λ row h. leb-true row.1 max_index h) rows (each_tested (λ (row : ℕ × ℕ). leb row.1 max_index) rows e)
 
 small_behind : (n : ℕ) (keys : List GroupKey) (before groupings : List Grouping) → KeepEach index_range n keys before groupings → AllByRecursion AreSmall groupings
 small_behind n keys before [] h = tt

@@ -2,9 +2,9 @@
 use Rattle.std.proofs.Common.{◌≡◌, ℕ, zero, suc, ◌+◌, ◌<◌, ◌≤◌, ◌^◌, Bool, true, false, cond, eqb, leb, List, [], ◌∷◌, length, take, drop, replicate, Option, Some, None, refl, sym, subst, arith, inl, inr, lit<, lit≤}
 use Rattle.std.specs.Prelude.{◌/◌, codes, map, ℤ, pos, ◌+ℤ◌, FitsSigned, IfSome, IsTrue, option_map, unwrap_or, slice_index, ◌&&◌}
 use Rattle.std.specs.Int.{w32}
-use Rattle.std.specs.List.{AllByRecursion, list_any, list_all}
+use Rattle.std.specs.List.{AllByRecursion, list_any}
 use Rattle.std.proofs.lemmas.List.{length-take, length-drop}
-use Rattle.std.proofs.lemmas.Bool.{eqb-true, leb-false, or_cases, or_parts, and_parts, cond_both, not-false}
+use Rattle.std.proofs.lemmas.Bool.{eqb-true, leb-false, or_cases, or_parts, cond_both, not-false}
 use Rattle.byteorder.specs.Endian.{twos_complement}
 use Rattle.mp4_boxes.specs.Bytes.{AreBytes, field, rows, width_of}
 use Rattle.mp4_boxes.specs.Box.{Box}
@@ -13,7 +13,7 @@ use Rattle.mp4_boxes.specs.Layout.{stts, ctts, stsz, stz2, sbgp, fields, row_cou
 use Rattle.mp4_boxes.specs.Places.{ruled, AreSound}
 use Rattle.mp4_boxes.specs.declared.rule.Rule.TheVariants.{SampleTable}
 use Rattle.mp4_boxes.proofs.Among.{all_append}
-use Rattle.mp4_boxes.proofs.Each.{each_value, each_weaker, each_from, each_taken, each_dropped, each_again}
+use Rattle.mp4_boxes.proofs.Each.{each_tested, each_value, each_weaker, each_from, each_taken, each_dropped, each_again}
 use Rattle.mp4_boxes.proofs.OfBytes.{IsOfBytes, FitsRow, rows_fit, field_below, signed_32, bytes_dropped, bytes_taken, payload_of_bytes, payload_if_of_bytes, payloads_of_bytes}
 use Rattle.mp4_boxes.proofs.Sound.{sound_if, sound_each}
 use Rattle.mp4_tables.specs.Repeated.{repeated}
@@ -165,11 +165,6 @@ chunk_spots rs c (offset ∷ offsets) sizes h =
     all_append (λ (spot : Spot). spot.size < 2 ^ 32) (laid_out (pos offset) r.description (take r.count sizes)) (in_chunks rs (c + 1) offsets (drop r.count sizes))
     (laid_spots (pos offset) r.description (take r.count sizes) (each_taken (λ n. n < 2 ^ 32) r.count sizes h))
     (chunk_spots rs (c + 1) offsets (drop r.count sizes) (each_dropped (λ n. n < 2 ^ 32) r.count sizes h))
-
--- what a test passes for all, it passes for each
-pub each_tested : {A : Type 0} (p : A → Bool) (xs : List A) → list_all p xs ≡ true → AllByRecursion (λ x. IsTrue (p x)) xs
-each_tested p [] e = tt
-each_tested p (x ∷ xs) e = let q = and_parts (p x) (list_all p xs) e in (q.0, each_tested p xs q.1)
 
 -- ---- groups
 
