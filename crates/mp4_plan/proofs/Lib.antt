@@ -12,4 +12,7 @@ pub mod RunLists
 pub mod Refuses
 pub mod GroupRows
 pub mod OneSpelling
+pub mod LargestOf
+pub mod ChunkSpots
+pub mod SampleGroups
 pub mod Vectors

@@ -2,7 +2,9 @@
 
 ghost use Rattle.mp4_plan.specs.Laws.{DenotedIsValid, DenotesOne, FaultRefuses};
 ghost use Rattle.mp4_plan.specs.PieceLaws.{CutsAreLeast, FragmentsAreLast, PiecesAreDue, PiecesAreLongest, PiecesJoin};
+ghost use Rattle.mp4_plan.specs.HeadLaws.{MovieLengthIsLargest, NextTrackIdIsLeast};
 ghost use Rattle.mp4_plan.specs.SpellingLaws.{ColumnsAreSpelledOnce, GroupRowsAreLongest, PieceKeysAreThose};
+ghost use Rattle.mp4_plan.specs.TableLaws.{GroupsAreIndexes, SamplesLieInChunks};
 ghost use Rattle.mp4_present.specs.Stands.{Reason, header, child, missing, leaf, tables, fragment, count, limit, order};
 
 /// A file denotes at most one presentation.
@@ -13,6 +15,26 @@ pub fn denotes_one()
 /// What bytes denote is valid.
 pub fn denoted_is_valid()
     ensures { DenotedIsValid }
+{}
+
+/// Where there are sizes for all chunks, the samples of each chunk follow those of the chunks before it, and lie one after the other from its offset.
+pub fn samples_lie_in_chunks()
+    ensures { SamplesLieInChunks }
+{}
+
+/// Where `sbgp`s keep their rules, each sample has at each key the index that the `sbgp` of the key gives it.
+pub fn groups_are_indexes()
+    ensures { GroupsAreIndexes }
+{}
+
+/// No track is longer than the movie, and the movie has the length of some track, or 0.
+pub fn movie_length_is_largest()
+    ensures { MovieLengthIsLargest }
+{}
+
+/// The next track ID is above each ID that leaves room for one above it, fits 32 bits, and is no larger than that takes.
+pub fn next_track_id_is_least()
+    ensures { NextTrackIdIsLeast }
 {}
 
 /// The cuts are those of the first track: its first sample, and from each cut on the least sync sample at least a second behind.

@@ -63,7 +63,8 @@ put_order : (key : GroupKey) (index : ℕ) (groups : Groups) → AllByRecursion 
 put_order key index [] d h = (tt, tt)
 put_order key index (group ∷ groups) d h = order_choice key index group groups (ltb (key_rank key) (key_rank group.0)) refl d.0 h (put_order key index groups d.1 h.1)
 
-others_differ : (keys : List GroupKey) (key : GroupKey) (groups : Groups) → IsNone keys key → AllByRecursion (λ (group : GroupKey × ℕ). IsAmong keys group.0) groups
+-- a map of keys of which this is none
+pub others_differ : (keys : List GroupKey) (key : GroupKey) (groups : Groups) → IsNone keys key → AllByRecursion (λ (group : GroupKey × ℕ). IsAmong keys group.0) groups
     → AllByRecursion (λ (group : GroupKey × ℕ). key_rank group.0 ≡ key_rank key → ⊥) groups
 others_differ keys key [] n h = tt
 others_differ keys key (group ∷ groups) n h = ((λ e. other_rank keys group.0 key h.0 n e), others_differ keys key groups n h.1)
@@ -87,7 +88,7 @@ put_map P keys key index groups n p m = record {
 -- ---- maps of samples in a row
 
 -- what holds of each index but 0 of a row
-abbrev IsIndexed : (GroupKey × ℕ → Type 0) → GroupKey → ℕ → Type 0
+abbrev pub IsIndexed : (GroupKey × ℕ → Type 0) → GroupKey → ℕ → Type 0
 IsIndexed P key index = eqb index 0 ≡ false → P (key, index)
 
 index_choice : (P : GroupKey × ℕ → Type 0) (keys : List GroupKey) (key : GroupKey) (index : ℕ) (groups : Groups) (v : Bool) → eqb index 0 ≡ v → IsNone keys key → IsIndexed P key index → IsMap P keys groups
@@ -111,7 +112,7 @@ abbrev pub keys_named : List Grouping → List GroupKey
 keys_named groupings = map (λ (g : Grouping). g.key) groupings
 
 -- each names another key than those behind it
-abbrev AreApart : List Grouping → Type 0
+abbrev pub AreApart : List Grouping → Type 0
 AreApart [] = Unit {0}
 AreApart (g ∷ groupings) = IsNone (keys_named groupings) g.key × AreApart groupings
 
@@ -124,7 +125,8 @@ pub repeated_each : {A : Type 0} (P : A → Type 0) (rows : List (ℕ × A)) →
 repeated_each P [] h = tt
 repeated_each P (row ∷ rows) h = all_append P (replicate row.0 row.1) (repeated rows) (each_again P row.0 row.1 h.0) (repeated_each P rows h.1)
 
-maps_made : (P : GroupKey × ℕ → Type 0) (n : ℕ) (groupings : List Grouping) → AreApart groupings → AllByRecursion (AreIndexed P) groupings → AllByRecursion (IsMap P (keys_named groupings)) (maps_of n groupings)
+-- the maps of `sbgp`s with different keys
+pub maps_made : (P : GroupKey × ℕ → Type 0) (n : ℕ) (groupings : List Grouping) → AreApart groupings → AllByRecursion (AreIndexed P) groupings → AllByRecursion (IsMap P (keys_named groupings)) (maps_of n groupings)
 maps_made P n [] a h = each_again (IsMap P []) n [] (record { order = tt; each = tt; named = tt })
 maps_made P n (g ∷ groupings) a h =
     put_maps P (keys_named groupings) g.key (repeated g.rows) (maps_of n groupings) a.0 (repeated_each (IsIndexed P g.key) g.rows h.0) (maps_made P n groupings a.1 h.1)
@@ -214,6 +216,10 @@ few_behind n keys before (g ∷ groupings) h few =
 abbrev pub KeepAll : ℕ → List GroupKey → List Grouping → Type 0
 KeepAll n keys groupings = (rule : GroupRule) (k : ℕ) → IsTrue (group_test rule n keys groupings k)
 
+-- each has another key than those behind it
+pub are_apart : (n : ℕ) (keys : List GroupKey) (groupings : List Grouping) → KeepAll n keys groupings → AreApart groupings
+are_apart n keys groupings h = (apart_behind n keys [] groupings (keep_behind one_of_key n keys [] groupings (h one_of_key))).1
+
 -- a track has no more than four keys behind `sbgp`s that keep the rules
 pub still_few : (n : ℕ) (keys : List GroupKey) (groupings : List Grouping) → KeepAll n keys groupings → length keys ≤ max_keys → length (keys_after keys groupings) ≤ max_keys
 still_few n keys groupings h few = few_behind n keys [] groupings (keep_behind few_keys n keys [] groupings (h few_keys)) few
@@ -234,7 +240,7 @@ small_behind n keys before (g ∷ groupings) h = (rows_small g.rows h.0, small_b
 pub maps_valid : (P : GroupKey × ℕ → Type 0) (m n : ℕ) (keys : List GroupKey) (groupings : List Grouping) → KeepAll n keys groupings
     → AllByRecursion (λ (g : Grouping). (index : ℕ) → 1 ≤ index → index ≤ max_index → P (g.key, index)) groupings → AllByRecursion (IsMap P (keys_named groupings)) (maps_of m groupings)
 maps_valid P m n keys groupings h p =
-    maps_made P m groupings (apart_behind n keys [] groupings (keep_behind one_of_key n keys [] groupings (h one_of_key))).1
+    maps_made P m groupings (are_apart n keys groupings h)
     (each_from (λ (g : Grouping). (index : ℕ) → 1 ≤ index → index ≤ max_index → P (g.key, index)) AreSmall (AreIndexed P) indexed groupings p (small_behind n keys [] groupings (keep_behind index_range n keys [] groupings (h index_range))))
   where
     indexed_rows : (g : Grouping) → ((index : ℕ) → 1 ≤ index → index ≤ max_index → P (g.key, index)) → (rows : List (ℕ × ℕ)) → AllByRecursion (λ (row : ℕ × ℕ). row.1 ≤ max_index) rows → AllByRecursion (λ (row : ℕ × ℕ). IsIndexed P g.key row.1) rows
