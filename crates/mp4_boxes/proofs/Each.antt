@@ -44,6 +44,7 @@ pub each_again : {A : Type 0} (P : A → Type 0) (n : ℕ) (x : A) → P x → A
 each_again P zero x h = tt
 each_again P (suc n) x h = (h, each_again P n x h)
 
+-- the step of `each_kept`, by the test of the first
 kept_at : {A : Type 0} (P : A → Type 0) (test : A → Bool) (x : A) (xs : List A) (b : Bool) → test x ≡ b → P x → AllByRecursion (λ y. P y × (test y ≡ true)) (filter test xs)
     → AllByRecursion (λ y. P y × (test y ≡ true)) (filter test (x ∷ xs))
 kept_at P test x xs true e p h = rw e ((p, e), h)
@@ -54,6 +55,7 @@ pub each_kept : {A : Type 0} (P : A → Type 0) (test : A → Bool) (xs : List A
 each_kept P test [] h = tt
 each_kept P test (x ∷ xs) h = kept_at P test x xs (test x) refl h.0 (each_kept P test xs h.1)
 
+-- the step of `each_of_kind`, by the type of the first
 kind_at : (P : Box → Type 0) (kind : List ℕ) (b : Box) (bs : List Box) (v : Bool) → bytes_eq kind b.kind ≡ v → P b → AllByRecursion (λ c. P c × (bytes_eq kind c.kind ≡ true)) (of_kind kind bs)
     → AllByRecursion (λ c. P c × (bytes_eq kind c.kind ≡ true)) (of_kind kind (b ∷ bs))
 kind_at P kind b bs true e p h = rw e ((p, e), h)

@@ -19,6 +19,7 @@ use Rattle.mp4_boxes.proofs.Tiling.{header_is}
 
 -- ---- bytes
 
+-- the empty list is one of bytes
 pub no_bytes : AreBytes []
 no_bytes i = lit< tt
 
@@ -53,11 +54,13 @@ field_dropped n place (suc width) bytes =
 abbrev pub FitsRow : List ℕ → List ℕ → Type 0
 FitsRow widths row = (k : ℕ) → slice_index row k < 256 ^ slice_index widths k
 
+-- the numbers of fields fit them
 pub numbers_fit : (widths bytes : List ℕ) → AreBytes bytes → FitsRow widths (numbers widths bytes)
 numbers_fit [] bytes h k = lit< tt
 numbers_fit (w ∷ widths) bytes h zero = field_below bytes 0 w h
 numbers_fit (w ∷ widths) bytes h (suc k) = numbers_fit widths (drop w bytes) (bytes_dropped w bytes h) k
 
+-- so do those of rows
 pub rows_fit : (n : ℕ) (widths bytes : List ℕ) → AreBytes bytes → AllByRecursion (FitsRow widths) (rows n widths bytes)
 rows_fit zero widths bytes h = tt
 rows_fit (suc n) widths bytes h = (numbers_fit widths bytes h, rows_fit n widths (drop (width_of widths) bytes) (bytes_dropped (width_of widths) bytes h))
@@ -72,6 +75,7 @@ time_below v n h = below (eqb v 0) h
 
 -- ---- two's complement
 
+-- two bytes as two's complement fit 16 bits
 pub signed_16 : (n : ℕ) → n < 2 ^ 16 → FitsSigned w16 (twos_complement 2 n)
 signed_16 n h = by_half (ltb n (2 ^ 15)) refl
   where
@@ -82,6 +86,7 @@ signed_16 n h = by_half (ltb n (2 ^ 15)) refl
         let below : pos n -ℤ pos (2 ^ 16) ≡ negsuc (2 ^ 16 - suc n) = omega (arith, ints) in
         subst (λ (z : ℤ). FitsSigned w16 z) (sym below) (record { sfits = omega arith })
 
+-- four bytes fit 32
 pub signed_32 : (n : ℕ) → n < 2 ^ 32 → FitsSigned w32 (twos_complement 4 n)
 signed_32 n h = by_half (ltb n (2 ^ 31)) refl
   where
@@ -92,6 +97,7 @@ signed_32 n h = by_half (ltb n (2 ^ 31)) refl
         let below : pos n -ℤ pos (2 ^ 32) ≡ negsuc (2 ^ 32 - suc n) = omega (arith, ints) in
         subst (λ (z : ℤ). FitsSigned w32 z) (sym below) (record { sfits = omega arith })
 
+-- eight bytes fit 64
 pub signed_64 : (n : ℕ) → n < 2 ^ 64 → FitsSigned w64 (twos_complement 8 n)
 signed_64 n h = by_half (ltb n (2 ^ 63)) refl
   where
@@ -123,11 +129,13 @@ abbrev HasKind : List ℕ → Result Header Kind → Type 0
 HasKind kind (Ok h) = h.kind ≡ kind
 HasKind kind (Err k) = Unit {0}
 
+-- a header that fits has the type that was read
 fitting_kind : (left least : ℕ) (h : Header) → HasKind h.kind (fitting left least h)
 fitting_kind left least h =
     cond_both (ltb h.size least) (Err BadSize) (cond (ltb left h.size) (Err Overrun) (Ok h)) (HasKind h.kind) (λ e. tt)
     (λ e. cond_both (ltb left h.size) (Err Overrun) (Ok h) (HasKind h.kind) (λ f. tt) (λ f. refl))
 
+-- any header has the type that stands there
 header_kind : (is_open : Bool) (bytes : List ℕ) → HasKind (take 4 (drop 4 bytes)) (header_at is_open bytes)
 header_kind is_open bytes =
     let kind = take 4 (drop 4 bytes) in
@@ -163,6 +171,7 @@ boxes_of_bytes is_open at bytes (b ∷ bs) are l = (
 pub tiled_of_bytes : (c : Container) (bs : List Box) → AreBytes c.bytes → Tiles c bs → AllByRecursion IsOfBytes bs
 tiled_of_bytes c bs are t = boxes_of_bytes (may_be_open c.extent) c.at c.bytes bs are t.front.0
 
+-- the step of `payload_if_of_bytes`
 payload_choice : (v : Bool) (payload : List ℕ) (o : Option (List ℕ)) → AreBytes payload → IfSome o AreBytes → IfSome (cond v (Some payload) o) AreBytes
 payload_choice true payload o h k = h
 payload_choice false payload o h k = k
@@ -172,13 +181,16 @@ pub payload_if_of_bytes : (kind : List ℕ) (bs : List Box) → AllByRecursion I
 payload_if_of_bytes kind [] h = tt
 payload_if_of_bytes kind (b ∷ bs) h = payload_choice (bytes_eq kind b.kind) b.payload (payload_if kind bs) h.0.payload (payload_if_of_bytes kind bs h.1)
 
+-- a payload that need not be there, or no bytes
 or_none : (o : Option (List ℕ)) → IfSome o AreBytes → AreBytes (unwrap_or o [])
 or_none None h = no_bytes
 or_none (Some payload) h = h
 
+-- the payload of the first box of a type, or no bytes
 pub payload_of_bytes : (kind : List ℕ) (bs : List Box) → AllByRecursion IsOfBytes bs → AreBytes (payload_of kind bs)
 payload_of_bytes kind bs h = or_none (payload_if kind bs) (payload_if_of_bytes kind bs h)
 
+-- boxes of bytes have payloads of bytes
 payloads : (kind : List ℕ) (bs : List Box) → AllByRecursion (λ (c : Box). IsOfBytes c × (bytes_eq kind c.kind ≡ true)) bs → AllByRecursion (λ (b : Box). AreBytes b.payload) bs
 payloads kind [] h = tt
 payloads kind (b ∷ bs) h = (h.0.0.payload, payloads kind bs h.1)

@@ -18,6 +18,7 @@ sound_as : (scope : Scope) (kind : List ℕ) (leaf : Leaf) → leaf_of scope kin
 sound_as scope kind leaf e b k h =
     subst (λ (o : Option Leaf). IsSoundAs o b.payload) e (subst (λ (x : List ℕ). IsSoundAs (leaf_of scope x) b.payload) (same_kind kind b.kind k) h)
 
+-- the step of `sound_if`, by the type of the first
 leaf_choice : (scope : Scope) (kind : List ℕ) (leaf : Leaf) → leaf_of scope kind ≡ Some leaf → (b : Box) (o : Option (List ℕ)) (v : Bool) → bytes_eq kind b.kind ≡ v
     → IsSoundAs (leaf_of scope b.kind) b.payload → IfSome o (IsSound leaf) → IfSome (cond v (Some b.payload) o) (IsSound leaf)
 leaf_choice scope kind leaf e b o true k h more = sound_as scope kind leaf e b k h
@@ -36,6 +37,7 @@ sound_each scope kind leaf e bs h =
     each_weaker (λ (b : Box). IsSoundAs (leaf_of scope b.kind) b.payload × (bytes_eq kind b.kind ≡ true)) (λ (b : Box). IsSound leaf b.payload)
     (λ b x. sound_as scope kind leaf e b x.1 x.0) (of_kind kind bs) both
 
+-- the step of `of_the_one`, by the type of the first
 there_choice : (P : List ℕ → Type 0) (kind : List ℕ) (b : Box) (bs : List Box) (v : Bool) → bytes_eq kind b.kind ≡ v → IfSome (payload_if kind (b ∷ bs)) P → count_among (kind ∷ []) (b ∷ bs) ≡ 1
     → (IfSome (payload_if kind bs) P → count_among (kind ∷ []) bs ≡ 1 → P (payload_of kind bs)) → P (payload_of kind (b ∷ bs))
 there_choice P kind b bs true e h n more = rw e (rw e at h)

@@ -25,6 +25,7 @@ use Rattle.mp4_frag.specs.FragmentSamples.{Part, inherited, flags_of, run_sample
 
 -- ---- columns
 
+-- the step of `value_below`, by whether the column is there
 value_choice : (c : Column) (columns : List Column) (bits : ℕ) (bytes : List ℕ) (k : ℕ) (v : Bool) → AreBytes bytes
     → ((rest : List ℕ) (j : ℕ) → AreBytes rest → IfSome (column (column_values bits columns rest) j) (λ n. n < 256 ^ slice_index (map (λ (x : Column). x.width) columns) j))
     → IfSome (column (cond v (Some (field bytes 0 c.width) ∷ column_values bits columns (drop c.width bytes)) (None ∷ column_values bits columns bytes)) k) (λ n. n < 256 ^ slice_index (map (λ (x : Column). x.width) (c ∷ columns)) k)
@@ -50,14 +51,17 @@ pub record IsRow (r : RunRow) : Type 0 where
   pub size : IsSmall r.size
   pub offset : IfSome r.offset (FitsSigned w32)
 
+-- an offset that is not too large, if it is there
 first_small : (o : Option ℕ) (os : List (Option ℕ)) → too_large (o ∷ os) ≡ false → IfSome o (λ n. n < 2 ^ 31) × (too_large os ≡ false)
 first_small None os e = (tt, e)
 first_small (Some n) os e = let p = or_parts (leb (2 ^ 31) n) (too_large os) e in (leb-false (2 ^ 31) n p.0, p.1)
 
+-- an offset that is read from it fits
 offset_small : (v : ℕ) (o : Option ℕ) → IsSmall o → (eqb v 0 ≡ true → IfSome o (λ n. n < 2 ^ 31)) → IfSome (option_map (composition_offset v) o) (FitsSigned w32)
 offset_small v None h s = tt
 offset_small v (Some n) h s = offset_fits v n h s
 
+-- rows of a run are in their ranges
 rows_small : (n v bits : ℕ) (bytes : List ℕ) → AreBytes bytes → (eqb v 0 ≡ true → too_large (run_offsets n bits bytes) ≡ false) → AllByRecursion IsRow (run_rows n v bits bytes)
 rows_small zero v bits bytes h e = tt
 rows_small (suc n) v bits bytes h e =
@@ -72,10 +76,12 @@ rows_small (suc n) v bits bytes h e =
       rows_small n v bits (drop width bytes) (bytes_dropped width bytes h) (λ z. (first_small (column values 3) rest (e z)).1),
     )
 
+-- the second of two tests that do not both pass
 only_in : (p q : Bool) → (p && q) ≡ false → p ≡ true → q ≡ false
 only_in true q e h = e
 only_in false q e h = absurd (cc)
 
+-- so are those of a sound `trun`
 run_small : (payload : List ℕ) → AreBytes payload → IsSound trun payload → AllByRecursion IsRow (run_of payload).rows
 run_small payload h s =
     let bits = flags payload in
@@ -90,6 +96,7 @@ pub record IsTraf (t : TrackFragment) : Type 0 where
   pub runs : AllByRecursion (λ (r : Run). AllByRecursion IsRow r.rows) t.runs
   pub keys : AllByRecursion (λ (g : Grouping). IsKey g.key) t.groups
 
+-- a `traf` of bytes with sound leaves
 traf_valid : (boxes : List Box) → AllByRecursion IsOfBytes boxes → AreSound (ruled rules.TrackFragment) boxes → IsTraf (track_fragment_of boxes)
 traf_valid boxes h s =
     let head = payload_of (codes "tfhd") boxes in
@@ -113,9 +120,11 @@ pub record IsTrex (t : Trex) : Type 0 where
   pub duration : t.duration < 2 ^ 32
   pub size : t.size < 2 ^ 32
 
+-- a `trex` of bytes
 pub trex_valid : (payload : List ℕ) → AreBytes payload → IsTrex (trex_of payload)
 trex_valid payload h = let fit = numbers_fit (fields trex (version payload)) payload h in record { duration = fit 4; size = fit 5 }
 
+-- the step of `found_each`
 found_choice : {A : Type 0} (P : A → Type 0) (x : A) (o : Option A) (v : Bool) → P x → IfSome o P → IfSome (cond v (Some x) o) P
 found_choice P x o true p h = p
 found_choice P x o false p h = h
@@ -125,15 +134,18 @@ pub found_each : {A : Type 0} (P : A → Type 0) (test : A → Bool) (xs : List 
 found_each P test [] h = tt
 found_each P test (x ∷ xs) h = found_choice P x (find test xs) (test x) h.0 (found_each P test xs h.1)
 
+-- what is there, or something else, of which it is so
 or_else : {A : Type 0} (P : A → Type 0) (o : Option A) (x : A) → IfSome o P → P x → P (unwrap_or o x)
 or_else P None x h p = p
 or_else P (Some y) x h p = h
 
+-- the first of three numbers that is there
 inherited_small : (own head : Option ℕ) (last : ℕ) → IsSmall own → IsSmall head → last < 2 ^ 32 → inherited own head last < 2 ^ 32
 inherited_small (Some own) head last a b c = a
 inherited_small None (Some head) last a b c = b
 inherited_small None None last a b c = c
 
+-- flags of a sample are below 2^28
 flags_small : (first own head : Option ℕ) (last : ℕ) → flags_of first own head last < 2 ^ 28
 flags_small (Some first) own head last = omega arith
 flags_small None own head last = omega arith
@@ -142,6 +154,7 @@ flags_small None own head last = omega arith
 abbrev pub IsOfRun : PlacedSample → Type 0
 IsOfRun s = IsPlaced (λ d. Unit {0}) (λ groups. groups ≡ []) s
 
+-- the samples of a run
 run_placed : (defaults : Trex) (traf : TrackFragment) (first : Option ℕ) (at : ℤ) (rs : List RunRow) → IsTrex defaults → IsTraf traf → AllByRecursion IsRow rs → AllByRecursion IsOfRun (run_samples defaults traf first at rs)
 run_placed defaults traf first at [] x t h = tt
 run_placed defaults traf first at (r ∷ rs) x t h = (
@@ -156,6 +169,7 @@ run_placed defaults traf first at (r ∷ rs) x t h = (
   run_placed defaults traf None (at +ℤ pos (inherited r.size traf.size defaults.size)) rs x t h.1,
 )
 
+-- and of all runs
 runs_placed : (defaults : Trex) (traf : TrackFragment) (base before : ℤ) (runs : List Run) → IsTrex defaults → IsTraf traf → AllByRecursion (λ (r : Run). AllByRecursion IsRow r.rows) runs
     → AllByRecursion (AllByRecursion IsOfRun) (runs_samples defaults traf base before runs)
 runs_placed defaults traf base before [] x t h = tt
@@ -170,6 +184,7 @@ pub record IsPart (part : Part) : Type 0 where
   pub runs : AllByRecursion (AllByRecursion IsOfRun) part.runs
   pub keys : AllByRecursion (λ (g : Grouping). IsKey g.key) part.groups
 
+-- the parts of `traf`s in their ranges
 parts_valid : (trexes : List Trex) (moof : ℕ) (before : ℤ) (trafs : List TrackFragment) → AllByRecursion IsTrex trexes → AllByRecursion IsTraf trafs → AllByRecursion IsPart (parts_after trexes moof before trafs)
 parts_valid trexes moof before [] x h = tt
 parts_valid trexes moof before (traf ∷ trafs) x h =
@@ -180,12 +195,14 @@ parts_valid trexes moof before (traf ∷ trafs) x h =
 
 -- ---- trees
 
+-- the boxes in `traf`s
 trafs_of_bytes : (bs : List Box) (lists : List (List Box)) → AllByRecursion (λ (b : Box). AreBytes b.payload) bs → AreTrafs bs lists → AllByRecursion (AllByRecursion IsOfBytes) lists
 trafs_of_bytes [] [] h z = tt
 trafs_of_bytes [] (boxes ∷ lists) h z = absurd z
 trafs_of_bytes (b ∷ bs) [] h z = tt
 trafs_of_bytes (b ∷ bs) (boxes ∷ lists) h z = (tiled_of_bytes (box_container b) boxes h.0 z.0.tiles, trafs_of_bytes bs lists h.1 z.1)
 
+-- the `traf`s of a `moof` of bytes
 fragment_valid : (t : FragmentTree) → AreBytes t.moof.payload → IsFragmentTree t → AllByRecursion (AreSound (ruled rules.TrackFragment)) t.trafs → AllByRecursion IsTraf (fragment_of t).trafs
 fragment_valid t h k s =
     let children = tiled_of_bytes (box_container t.moof) t.children h k.children.tiles in

@@ -19,9 +19,11 @@ first_of_bytes kind bs h = subst AreBytes (payload_first kind bs) (payload_of_by
 inside_of_bytes : (rule : Rule) (kind : List ℕ) (bs boxes : List Box) → AllByRecursion IsOfBytes bs → Holds rule (box_container (first_of kind bs)) boxes → AllByRecursion IsOfBytes boxes
 inside_of_bytes rule kind bs boxes h k = tiled_of_bytes (box_container (first_of kind bs)) boxes (first_of_bytes kind bs h) k.tiles
 
+-- the same of counted boxes
 counted_of_bytes : (kind : List ℕ) (bs boxes : List Box) → AllByRecursion IsOfBytes bs → Tiles (counted_container (first_of kind bs)) boxes → AllByRecursion IsOfBytes boxes
 counted_of_bytes kind bs boxes h k = tiled_of_bytes (counted_container (first_of kind bs)) boxes (bytes_dropped 8 (first_of kind bs).payload (first_of_bytes kind bs h)) k
 
+-- and of a container that need not be there
 there_of_bytes : (rule : Rule) (found boxes : List Box) → AllByRecursion (λ (b : Box). AreBytes b.payload) found → HoldsIfThere rule found boxes → AllByRecursion IsOfBytes boxes
 there_of_bytes rule [] boxes h k = subst (λ (bs : List Box). AllByRecursion IsOfBytes bs) (sym k) tt
 there_of_bytes rule (b ∷ more) boxes h k = tiled_of_bytes (box_container b) boxes h.0 k.tiles
@@ -35,6 +37,7 @@ pub record TrackOfBytes (t : TrackTree) : Type 0 where
   pub table : AllByRecursion IsOfBytes t.table
   pub descriptions : AllByRecursion IsOfBytes t.descriptions
 
+-- a track whose `trak` is of bytes
 track_of_bytes : (t : TrackTree) → AreBytes t.trak.payload → IsTrackTree t → TrackOfBytes t
 track_of_bytes t h k =
     let track = tiled_of_bytes (box_container t.trak) t.track h k.track.tiles in
@@ -50,6 +53,7 @@ track_of_bytes t h k =
       descriptions = counted_of_bytes (codes "stsd") t.table t.descriptions table k.descriptions;
     }
 
+-- and all tracks
 tracks_of_bytes : (ts : List TrackTree) → AllByRecursion (λ (b : Box). AreBytes b.payload) (map (λ (t : TrackTree). t.trak) ts) → AllByRecursion IsTrackTree ts → AllByRecursion TrackOfBytes ts
 tracks_of_bytes [] h k = tt
 tracks_of_bytes (t ∷ ts) h k = (track_of_bytes t h.0 k.0, tracks_of_bytes ts h.1 k.1)

@@ -31,6 +31,7 @@ signed_each ns h = each_value (λ (n : ℕ). n < 2 ^ 32) (FitsSigned w32) (twos_
 
 -- ---- boxes that are kept
 
+-- boxes of bytes that name no items, as they are kept
 kept_fit : (kinds : List (List ℕ)) (bs : List Box) → AllByRecursion (λ (b : Box). IsOfBytes b × (is_among kinds b.kind ≡ true)) bs
     → NameNoItems (map (λ (b : Box). record { kind = b.kind; payload = b.payload }) bs) → AllByRecursion (IsKept kinds) (map (λ (b : Box). record { kind = b.kind; payload = b.payload }) bs)
 kept_fit kinds [] h n = tt
@@ -46,6 +47,7 @@ kept_valid kinds bs h n = kept_fit kinds (filter (λ (b : Box). is_among kinds b
 abbrev IsFound : List (List ℕ) → Box → Type 0
 IsFound kinds b = IsTrue (is_among kinds b.kind) × AreBytes b.payload
 
+-- the step of `among_found`, by the type of the first
 among_choice : (kinds : List (List ℕ)) (b : Box) (bs : List Box) (v : Bool) → is_among kinds b.kind ≡ v → IsOfBytes b → count_among kinds (b ∷ bs) ≡ 1
     → (count_among kinds bs ≡ 1 → IsFound kinds (first_among kinds bs)) → IsFound kinds (first_among kinds (b ∷ bs))
 among_choice kinds b bs true e h n more = rw e (e, h.payload)
@@ -53,16 +55,19 @@ among_choice kinds b bs false e h n more =
     let k : 0 + count_among kinds bs ≡ 1 = rw e at n in
     rw e (more (omega arith))
 
+-- where one box of some types stands, it is found
 among_found : (kinds : List (List ℕ)) (bs : List Box) → AllByRecursion IsOfBytes bs → count_among kinds bs ≡ 1 → IsFound kinds (first_among kinds bs)
 among_found kinds [] h n = absurd (omega (arith, n))
 among_found kinds (b ∷ bs) h n = among_choice kinds b bs (is_among kinds b.kind) refl h.0 n (λ k. among_found kinds bs h.1 k)
 
 -- ---- descriptions, edits, what describes groups
 
+-- what is not false
 negated : (v : Bool) → not v ≡ false → v ≡ true
 negated true e = refl
 negated false e = absurd cc
 
+-- a sound entry of `stsd`
 description_valid : (b : Box) → IsOfBytes b → IsSound sample_entry b.payload → IsDescription (record { kind = b.kind; payload = b.payload })
 description_valid b h s =
     let first : eqb (field (drop 6 b.payload) 0 2) 1 ≡ true = negated (eqb (field (drop 6 b.payload) 0 2) 1) s.value in
@@ -74,10 +79,12 @@ description_valid b h s =
       data_reference = sym (field_dropped 6 0 2 b.payload) ∙ eqb-true (field (drop 6 b.payload) 0 2) 1 first;
     }
 
+-- and all of them
 descriptions_valid : (bs : List Box) → AllByRecursion IsOfBytes bs → AreSound sample_entries bs → AllByRecursion IsDescription (map (λ (b : Box). record { kind = b.kind; payload = b.payload }) bs)
 descriptions_valid [] h s = tt
 descriptions_valid (b ∷ bs) h s = (description_valid b h.0 s.0, descriptions_valid bs h.1 s.1)
 
+-- an edit from numbers that fit
 edit_valid : (v : ℕ) (numbers : List ℕ) → FitsRow (row elst v) numbers → IsEdit (edit_of v numbers)
 edit_valid v numbers h = record {
   segment_duration = time_below v (slice_index numbers 0) (h 0);
@@ -86,6 +93,7 @@ edit_valid v numbers h = record {
   rate_fraction = signed_16 (slice_index numbers 3) (h 3);
 }
 
+-- the edits of a track
 edits_valid : (o : Option (List ℕ)) → IfSome o AreBytes → AllByRecursion IsEdit (edits_of o)
 edits_valid None h = tt
 edits_valid (Some payload) h =
@@ -103,6 +111,7 @@ group_descriptions_valid t h s =
 
 -- ---- heads
 
+-- what `mdia` says is well formed
 media_valid : (t : TrackTree) → TrackOfBytes t → IsTrackTree t → IsSoundTrack t → IsMedia (media_of t)
 media_valid t h k s =
     let payload = payload_of (codes "mdhd") t.media in
@@ -126,6 +135,7 @@ media_valid t h k s =
       descriptions = descriptions_valid t.descriptions h.descriptions s.descriptions;
     }
 
+-- What a `trak` of bytes says is well formed.
 pub track_head_valid : (t : TrackTree) → TrackOfBytes t → IsTrackTree t → IsSoundTrack t → AreSound (ruled rules.SampleTable) t.table → IsTrackHead (track_head_of t)
 track_head_valid t h k s tables =
     let payload = payload_of (codes "tkhd") t.track in
@@ -151,6 +161,7 @@ track_head_valid t h k s tables =
       group_descriptions = group_descriptions_valid t h tables;
     }
 
+-- What a `moov` of bytes says of the movie is well formed.
 pub movie_head_valid : (m : MovieTree) → MovieOfBytes m → IsMovieTree m → IsSoundMovie m → IsMovieHead (movie_head_of m)
 movie_head_valid m h k s =
     let payload = payload_of (codes "mvhd") m.movie in

@@ -22,6 +22,7 @@ AreInChunks rows c offsets sizes = (k j i : ℕ) → k < length offsets → j < 
     → get_or (in_chunks rows c offsets sizes) i d
     ≡ record { at = pos (slice_index offsets k + sum_all (take j (drop (in_chunks_total rows c (take k offsets)) sizes))); size = slice_index sizes i; description = (row_of_chunk rows (c + k)).description }
 
+-- the samples of the first of some chunks
 first_chunk : (r : ChunkRow) (offset : ℕ) (sizes : List ℕ) (more : List Spot) (j : ℕ) (d : Spot) → r.count ≤ length sizes → j < r.count
     → get_or (laid_out (pos offset) r.description (take r.count sizes) ++ more) j d ≡ record { at = pos (offset + sum_all (take j sizes)); size = slice_index sizes j; description = r.description }
 first_chunk r offset sizes more j d fit lt =
@@ -33,6 +34,7 @@ first_chunk r offset sizes more j d fit lt =
     ∙ laid_at offset r.description (take r.count sizes) j d (omega (arith, count))
     ∙ (λ i. record { at = pos (offset + sums i); size = one i; description = r.description })
 
+-- and of each, chunk by chunk
 chunk_at : (rows : List ChunkRow) (c : ℕ) (offsets sizes : List ℕ) → in_chunks_total rows c offsets ≤ length sizes → AreInChunks rows c offsets sizes
 chunk_at rows c [] sizes fit k j i lt below e d = absurd (omega arith)
 chunk_at rows c (offset ∷ offsets) sizes fit zero j i lt below e d =

@@ -13,6 +13,7 @@ use Rattle.mp4_plan.specs.HeadLaws.{MovieLengthIsLargest, NextTrackIdIsLeast}
 abbrev largest : {A : Type 0} → (A → ℕ) → ℕ → List A → ℕ
 largest f n xs = fold (λ most x. max most (f x)) n xs
 
+-- the largest is no less than the first number
 no_less : {A : Type 0} (f : A → ℕ) (n : ℕ) (xs : List A) → n ≤ largest f n xs
 no_less f n [] = omega arith
 no_less f n (x ∷ xs) = let rest = no_less f (max n (f x)) xs in omega (arith, rest)

@@ -37,6 +37,7 @@ record RunNames (duration size flag : Option ℕ) (has_offsets : Bool) (bits : �
   flags_is : has bits sample_flags_present ≡ lacks flag
   offsets_is : has bits sample_composition_time_offset_present ≡ has_offsets
 
+-- in each of the sixteen cases
 run_names : (duration size flag : Option ℕ) (has_offsets : Bool) (count : ℕ) (rest : List ℕ) → RunNames duration size flag has_offsets (flags (run_payload duration size flag has_offsets count rest))
 run_names None None None false count rest = record { duration_is = refl; size_is = refl; flags_is = refl; offsets_is = refl }
 run_names None None None true count rest = record { duration_is = refl; size_is = refl; flags_is = refl; offsets_is = refl }
@@ -61,9 +62,11 @@ run_names (Some d) (Some z) (Some f) true count rest = record { duration_is = re
 abbrev default_columns : List Column
 default_columns = record { flag = default_sample_duration_present; width = 4 } ∷ record { flag = default_sample_size_present; width = 4 } ∷ record { flag = default_sample_flags_present; width = 4 } ∷ []
 
+-- the flags of a `tfhd` with such defaults
 abbrev tfhd_flags : ℕ → Option ℕ → Option ℕ → Option ℕ → ℕ
 tfhd_flags description duration size flag = default_base_is_moof + column_flags tfhd_columns (None ∷ Some description ∷ duration ∷ size ∷ flag ∷ [])
 
+-- and its payload
 abbrev tfhd_payload : ℕ → ℕ → Option ℕ → Option ℕ → Option ℕ → List ℕ
 tfhd_payload id description duration size flag =
     spelled (fields tfhd 0) (0 ∷ tfhd_flags description duration size flag ∷ id ∷ []) ++ column_bytes tfhd_columns (None ∷ Some description ∷ duration ∷ size ∷ flag ∷ [])
@@ -72,6 +75,7 @@ tfhd_payload id description duration size flag =
 abbrev fields_of : List ℕ → List (Option ℕ)
 fields_of head = column_values (flags head) tfhd_columns (drop 8 head)
 
+-- a number of four bytes, if it is there
 abbrev Fits : Option ℕ → Type 0
 Fits o = IfSome o (λ n. n < 256 ^ 4)
 
@@ -81,9 +85,11 @@ record Says (duration size flag : Option ℕ) (values : List (Option ℕ)) : Typ
   size_is : column values 3 ≡ size
   flags_is : column values 4 ≡ flag
 
+-- the three columns behind two others
 says : (duration size flag : Option ℕ) (first second : Option ℕ) (values : List (Option ℕ)) → values ≡ duration ∷ size ∷ flag ∷ [] → Says duration size flag (first ∷ second ∷ values)
 says duration size flag first second values e = record { duration_is = ap (λ vs. column vs 0) e; size_is = ap (λ vs. column vs 1) e; flags_is = ap (λ vs. column vs 2) e }
 
+-- in each of the eight cases the defaults are read again
 tfhd_says : (id description : ℕ) (duration size flag : Option ℕ) → Fits duration → Fits size → Fits flag → Says duration size flag (fields_of (tfhd_payload id description duration size flag))
 tfhd_says id n None None None d s f = says None None None _ _ _ (columns_again (tfhd_flags n None None None) default_columns (None ∷ None ∷ None ∷ []) [] (refl, (refl, (refl, tt))))
 tfhd_says id n None None (Some c) d s f = says None None (Some c) _ _ _ (columns_again (tfhd_flags n None None (Some c)) default_columns (None ∷ None ∷ Some c ∷ []) [] (refl, (refl, (refl, f, tt))))
@@ -96,10 +102,12 @@ tfhd_says id n (Some a) (Some b) (Some c) d s f = says (Some a) (Some b) (Some c
 
 -- ---- what samples have in common
 
+-- an equation of each, turned round
 turned : (value : TimedSample → ℕ) (n : ℕ) (samples : List TimedSample) → AllByRecursion (λ (k : ℕ). n ≡ k) (map value samples) → AllByRecursion (λ (s : TimedSample). value s ≡ n) samples
 turned value n [] h = tt
 turned value n (s ∷ samples) h = (sym h.0, turned value n samples h.1)
 
+-- the test that all numbers are one
 all_same : (value : TimedSample → ℕ) (n : ℕ) (samples : List TimedSample) → AllByRecursion (λ (t : TimedSample). value t ≡ n) samples → list_all (nat_eq n) (map value samples) ≡ true
 all_same value n [] h = refl
 all_same value n (s ∷ samples) h = and_from (nat_eq n (value s)) (list_all (nat_eq n) (map value samples)) (eq-eqb n (value s) (sym h.0)) (all_same value n samples h.1)
@@ -112,6 +120,7 @@ agreed value (s ∷ samples) some a e =
     let wrong : ◌≡◌ {A = Option ℕ} (Some (value s)) None = rw all at e in
     cc
 
+-- by what the samples have in common
 once_case : (value : TimedSample → ℕ) (samples : List TimedSample) (o : Option ℕ) (is_column : Bool) → 0 < length samples → common (map value samples) ≡ o → is_column ≡ lacks o → IsSpelledOnce value samples o is_column
 once_case value samples (Some n) is_column some e c = (turned value n samples (common_is (map value samples) n e), c)
 once_case value samples None is_column some e c = ((λ a. agreed value samples some a e), c)
@@ -120,6 +129,7 @@ once_case value samples None is_column some e c = ((λ a. agreed value samples s
 once : (value : TimedSample → ℕ) (samples : List TimedSample) (default : Option ℕ) (is_column : Bool) → 0 < length samples → default ≡ common (map value samples) → is_column ≡ lacks (common (map value samples)) → IsSpelledOnce value samples default is_column
 once value samples default is_column some e c = once_case value samples default is_column some (sym e) (subst (λ (o : Option ℕ). is_column ≡ lacks o) (sym e) c)
 
+-- what numbers of four bytes have in common has four bytes
 common_fits : (ns : List ℕ) → AllByRecursion (λ n. n < 256 ^ 4) ns → Fits (common ns)
 common_fits [] h = tt
 common_fits (n ∷ ns) h = by_case (list_all (nat_eq n) ns)
@@ -135,9 +145,11 @@ zero_written : (z : ℤ) → FitsSigned w32 z → unsigned 4 z ≡ 0 → z ≡ p
 zero_written (pos n) h e = ap pos e
 zero_written (negsuc n) h e = absurd (omega (arith, h.sfits, e))
 
+-- an offset that is written as 0
 abbrev no_offset : TimedSample → Bool
 no_offset s = eqb (unsigned 4 s.sample.offset) 0
 
+-- where all are written as 0, all are 0
 offsets_none : (samples : List TimedSample) → AllByRecursion (λ (s : TimedSample). FitsSigned w32 s.sample.offset) samples → list_all no_offset samples ≡ true → AllByRecursion (λ (s : TimedSample). s.sample.offset ≡ pos 0) samples
 offsets_none samples h e = both samples h (each_tested no_offset samples e)
   where
@@ -145,6 +157,7 @@ offsets_none samples h e = both samples h (each_tested no_offset samples e)
     both [] f g = tt
     both (s ∷ ss) f g = (zero_written s.sample.offset f.0 (eqb-true (unsigned 4 s.sample.offset) 0 g.0), both ss f.1 g.1)
 
+-- and the other way round
 none_offset : (samples : List TimedSample) → AllByRecursion (λ (s : TimedSample). s.sample.offset ≡ pos 0) samples → list_all no_offset samples ≡ true
 none_offset [] h = refl
 none_offset (s ∷ samples) h = and_from (no_offset s) (list_all no_offset samples) (eq-eqb (unsigned 4 s.sample.offset) 0 (ap (unsigned 4) h.0)) (none_offset samples h.1)
@@ -158,6 +171,7 @@ record FitsColumns (s : TimedSample) : Type 0 where
   flags : s.sample.flags < 256 ^ 4
   offset : FitsSigned w32 s.sample.offset
 
+-- a piece of samples that fit their columns has one spelling
 piece_spelling : (data_offset : ℕ) (piece : Piece) → 0 < length piece.samples → AllByRecursion FitsColumns piece.samples → HasOneSpelling data_offset piece
 piece_spelling data_offset piece some h =
     let samples = piece.samples in
@@ -182,9 +196,11 @@ piece_spelling data_offset piece some h =
 abbrev FitsSample : Sample → Type 0
 FitsSample s = (s.duration < 256 ^ 4) × (length s.bytes < 256 ^ 4) × (s.flags < 256 ^ 4) × FitsSigned w32 s.offset
 
+-- those of a well-formed one
 sample_fits : (descriptions : ℕ) (s : Sample) → IsSample descriptions s → FitsSample s
 sample_fits descriptions s h = (h.duration, h.size, omega (arith, h.flags), h.offset)
 
+-- and of each sample of a track
 track_fits : (t : Track) → IsTrack t → AllByRecursion (λ (s : TimedSample). FitsSample s.sample) (timed t)
 track_fits t h = all_timed FitsSample 1 t.start t.samples (each_weaker (IsSample (length t.head.media.descriptions)) FitsSample (sample_fits (length t.head.media.descriptions)) t.samples h.samples)
 

@@ -32,10 +32,12 @@ put_case x key index group groups false more ne = by_first (same_key x group.0) 
     by_first true false e f = rw (e, f) refl
     by_first false b e f = rw e more
 
+-- at any key of the map
 put_at : (x key : GroupKey) (index : ℕ) (groups : Groups) → Differ key groups → index_at x (put_group key index groups) ≡ cond (same_key x key) index (index_at x groups)
 put_at x key index [] h = refl
 put_at x key index (group ∷ groups) h = put_case x key index group groups (ltb (key_rank key) (key_rank group.0)) (put_at x key index groups h.1) h.0
 
+-- the same where index 0 is not put
 index_case : (x key : GroupKey) (index : ℕ) (groups : Groups) (v : Bool) → eqb index 0 ≡ v → Differ key groups → index_at x (cond v groups (put_group key index groups)) ≡ cond (same_key x key) index (index_at x groups)
 index_case x key index groups false e h = put_at x key index groups h
 index_case x key index groups true e h = by_key (same_key x key) refl
@@ -44,11 +46,13 @@ index_case x key index groups true e h = by_key (same_key x key) refl
     by_key true f = nothing_at x key groups (eqb-true (key_rank x) (key_rank key) f) h ∙ sym (eqb-true index 0 e)
     by_key false f = refl
 
+-- there are as many maps as before
 put_length : (key : GroupKey) (indexes : List ℕ) (maps : List Groups) → length (put_indexes key indexes maps) ≡ length maps
 put_length key [] maps = refl
 put_length key (index ∷ indexes) [] = refl
 put_length key (index ∷ indexes) (groups ∷ maps) = ap suc (put_length key indexes maps)
 
+-- and as many as samples
 maps_length : (n : ℕ) (groupings : List Grouping) → length (maps_of n groupings) ≡ n
 maps_length n [] = length-replicate n []
 maps_length n (g ∷ groupings) = put_length g.key (repeated g.rows) (maps_of n groupings) ∙ maps_length n groupings
@@ -62,18 +66,22 @@ put_indexes_at x key [] (groups ∷ maps) (suc i) lt h = put_indexes_at x key []
 put_indexes_at x key (index ∷ indexes) (groups ∷ maps) zero lt h = index_case x key index groups (eqb index 0) refl h.0
 put_indexes_at x key (index ∷ indexes) (groups ∷ maps) (suc i) lt h = put_indexes_at x key indexes maps i (omega (arith, lt)) h.1
 
+-- a new key is in no map
 all_differ : (keys : List GroupKey) (key : GroupKey) (maps : List Groups) → list_any (same_key key) keys ≡ false → AllByRecursion (IsMap (λ group. Unit {0}) keys) maps → AllByRecursion (Differ key) maps
 all_differ keys key [] n h = tt
 all_differ keys key (groups ∷ maps) n h = (others_differ keys key groups n h.0.named, all_differ keys key maps n h.1)
 
+-- of any rows nothing is asked
 any_rows : (groupings : List Grouping) → AllByRecursion (λ (g : Grouping). AllByRecursion (λ (row : ℕ × ℕ). eqb row.1 0 ≡ false → Unit {0}) g.rows) groupings
 any_rows groupings = each_member _ groupings (λ g i. each_member _ g.rows (λ row j e. tt))
 
+-- without an `sbgp` there is no index
 nothing : (n i : ℕ) (x : GroupKey) → index_at x (get_or (replicate n []) i []) ≡ 0
 nothing zero i x = refl
 nothing (suc n) zero x = refl
 nothing (suc n) (suc i) x = nothing n i x
 
+-- by the `sbgp`s, one after the other
 indexes_at : (n : ℕ) (groupings : List Grouping) → AreApart groupings → (i : ℕ) → i < n → (x : GroupKey) → index_at x (get_or (maps_of n groupings) i []) ≡ index_by x groupings i
 indexes_at n [] a i lt x = nothing n i x
 indexes_at n (g ∷ groupings) a i lt x =

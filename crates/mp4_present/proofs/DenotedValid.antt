@@ -77,6 +77,7 @@ placed_valid file p d u i b h =
     all_append (IsOfTrack n keys) (plain_of u) (flat_map part_samples parts) plain
     (parts_placed n (plain_keys u) parts grouped (each_part IsPart (λ part x. x.0) parts both) (each_part has_index (λ part x. x.1) parts both))
 
+-- what a file of bytes says of a track is well formed
 track_valid : (file : List ℕ) (p : Presentation) (d : Denotes file p) → AreBytes file → (u : TrackTree) → IsIn d.tree.movie.tracks u → TrackOfBytes u → AllByRecursion IsPart (file_parts d.tree) → IsTrack (track_of file (file_parts d.tree) u)
 track_valid file p d bytes u i b h =
     let t = d.tree in

@@ -15,6 +15,7 @@ use Rattle.mp4_present.specs.Denotes.{FileTree, presentation_of}
 use Rattle.mp4_present.specs.Stands.{StandsBy, limit}
 use Rattle.mp4_present.proofs.StandsForms.{says}
 
+-- a list is no longer than one with others round it
 middle : (a b c d : List ℕ) → length b ≤ length (a ++ b ++ c ++ d)
 middle a b c d = omega (arith, length-append (a ++ b ++ c) d, length-append (a ++ b) c, length-append a b)
 
@@ -40,9 +41,11 @@ longer m k tracks duration e =
 abbrev udta_bytes : List ℕ → List ℕ
 udta_bytes payload = hex (codes "4000000875647461") ++ payload
 
+-- its payload
 abbrev movie_bytes : List ℕ → List ℕ
 movie_bytes payload = hex (codes "0000006c6d766864000000000000000000000000000003e8000000000001000001000000000000000000000000010000000000000000000000000000000100000000000000000000000000004000000000000000000000000000000000000000000000000000000000000001") ++ udta_bytes payload
 
+-- the file
 abbrev pub long_movie : List ℕ → List ℕ
 long_movie payload = hex (codes "4000007c6d6f6f76") ++ movie_bytes payload
 
@@ -51,6 +54,7 @@ no_letters : (n : ℕ) → names_item_location (replicate n 0) ≡ false
 no_letters zero = refl
 no_letters (suc n) = no_letters n
 
+-- its boxes
 abbrev mvhd_box : Box
 mvhd_box = record { kind = codes "mvhd"; offset = 8; header = 8; payload = drop 8 (hex (codes "0000006c6d766864000000000000000000000000000003e8000000000001000001000000000000000000000000010000000000000000000000000000000100000000000000000000000000004000000000000000000000000000000000000000000000000000000000000001")) }
 
@@ -60,9 +64,11 @@ udta_box payload = record { kind = codes "udta"; offset = 116; header = 8; paylo
 abbrev moov_box : List ℕ → Box
 moov_box payload = record { kind = codes "moov"; offset = 0; header = 8; payload = movie_bytes payload }
 
+-- equal numbers are no more than one another
 no_more : (a b : ℕ) → a ≡ b → a ≤ b
 no_more a b e = omega arith
 
+-- how long they are
 udta_length : (payload : List ℕ) → length payload ≡ 2 ^ 30 → length (udta_bytes payload) ≡ 0x40000008
 udta_length payload long = length-append (hex (codes "4000000875647461")) payload ∙ ap (λ (n : ℕ). 8 + n) long
 
@@ -79,21 +85,25 @@ moov_says payload long =
     let b : ltb (length (long_movie payload)) 0x4000007c ≡ false = ap (λ (n : ℕ). ltb n 0x4000007c) (file_length_is payload long) in
     rw (a, b) refl
 
+-- of `mvhd`
 mvhd_says : (payload : List ℕ) → length payload ≡ 2 ^ 30 → header_at false (movie_bytes payload) ≡ Ok (says (codes "mvhd") 108)
 mvhd_says payload long =
     let a : ltb (length (movie_bytes payload)) 8 ≡ false = ap (λ (n : ℕ). ltb n 8) (movie_length_is payload long) in
     let b : ltb (length (movie_bytes payload)) 108 ≡ false = ap (λ (n : ℕ). ltb n 108) (movie_length_is payload long) in
     rw (a, b) refl
 
+-- of `udta`
 udta_says : (payload : List ℕ) → length payload ≡ 2 ^ 30 → header_at false (udta_bytes payload) ≡ Ok (says (codes "udta") 0x40000008)
 udta_says payload long =
     let a : ltb (length (udta_bytes payload)) 8 ≡ false = ap (λ (n : ℕ). ltb n 8) (udta_length payload long) in
     let b : ltb (length (udta_bytes payload)) 0x40000008 ≡ false = ap (λ (n : ℕ). ltb n 0x40000008) (udta_length payload long) in
     rw (a, b) refl
 
+-- the tree of the file
 abbrev long_tree : List ℕ → FileTree
 long_tree payload = record { top = moov_box payload ∷ []; movie = record { moov = moov_box payload; movie = mvhd_box ∷ udta_box payload ∷ []; extends = []; tracks = [] }; fragments = [] }
 
+-- the boxes are those of the headers
 moov_is : (payload : List ℕ) → length payload ≡ 2 ^ 30 → moov_box payload ≡ box_of 0 (long_movie payload) (says (codes "moov") 0x4000007c)
 moov_is payload long =
     let all : take 0x40000074 (movie_bytes payload) ≡ movie_bytes payload = take_all 0x40000074 (movie_bytes payload) (no_more (length (movie_bytes payload)) 0x40000074 (movie_length_is payload long)) in
@@ -104,6 +114,7 @@ udta_is payload long =
     let all : take 0x40000000 payload ≡ payload = take_all 0x40000000 payload (no_more (length payload) 0x40000000 long) in
     λ i. record { kind = codes "udta"; offset = 116; header = 8; payload = sym all i }
 
+-- they are those of the profile, in the file
 top_holds : (payload : List ℕ) → length payload ≡ 2 ^ 30 → Holds rules.File (file_container (long_movie payload)) (moov_box payload ∷ [])
 top_holds payload long = record {
   tiles = record { front = (((says (codes "moov") 0x4000007c, moov_says payload long, moov_is payload long), tt), tt); full = ap (λ (n : ℕ). (8 + n) + 0) (movie_length_is payload long) ∙ sym (file_length_is payload long) };
@@ -111,6 +122,7 @@ top_holds payload long = record {
   quantities = (refl, (tt, (tt, (tt, (tt, (tt, (tt, tt)))))));
 }
 
+-- and in the `moov`
 movie_holds : (payload : List ℕ) → length payload ≡ 2 ^ 30 → Holds rules.Movie (box_container (moov_box payload)) (mvhd_box ∷ udta_box payload ∷ [])
 movie_holds payload long = record {
   tiles = record { front = (((says (codes "mvhd") 108, mvhd_says payload long, refl), ((says (codes "udta") 0x40000008, udta_says payload long, udta_is payload long), tt)), tt); full = ap (λ (n : ℕ). 108 + ((8 + n) + 0)) long ∙ sym (movie_length_is payload long) };
@@ -118,6 +130,7 @@ movie_holds payload long = record {
   quantities = (refl, (lit≤ tt, (tt, (tt, (tt, (tt, tt))))));
 }
 
+-- the normal form has no shorter `moov`
 long_passes : (payload : List ℕ) → length payload ≡ 2 ^ 30 → max_moov < normal_moov_length (presentation_of (long_movie payload) (long_tree payload))
 long_passes payload long =
     let p = presentation_of (long_movie payload) (long_tree payload) in

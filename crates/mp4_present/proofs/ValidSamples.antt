@@ -25,21 +25,26 @@ use Rattle.mp4_present.specs.Denotes.{track_infos, bytes_at, sample_of}
 
 -- ---- one sample
 
+-- bytes at a place are bytes
 bytes_there : (file : List ℕ) (at : ℤ) (n : ℕ) → AreBytes file → AreBytes (bytes_at file at n)
 bytes_there file (pos at) n h = bytes_taken n (drop at file) (bytes_dropped at file h)
 bytes_there file (negsuc below) n h = no_bytes
 
+-- and no more than were asked for
 no_longer : (file : List ℕ) (at : ℤ) (n : ℕ) → length (bytes_at file at n) ≤ n
 no_longer file (pos at) n = omega (arith, length-take n (drop at file))
 no_longer file (negsuc below) n = omega arith
 
+-- a parameter of 32 bits
 is_parameter : (o : Option ℕ) → IfSome o (λ n. n < 2 ^ 32) → IsParameter o
 is_parameter None h = tt
 is_parameter (Some n) h = h
 
+-- an index at a key
 is_group : (group : GroupKey × ℕ) → IsIndex group → IsGroup group
 is_group group h = record { kind_length = h.0.kind_length; kind = h.0.kind; parameter = is_parameter group.0.parameter h.0.parameter; index_from_1 = h.1; index = h.2 }
 
+-- all of a map
 groups_of : (groups : Groups) → AllByRecursion IsIndex groups → AllByRecursion IsGroup groups
 groups_of [] h = tt
 groups_of (group ∷ groups) h = (is_group group h.0, groups_of groups h.1)
@@ -71,6 +76,7 @@ pub more_keys : (descriptions : ℕ) (keys others : List GroupKey) → AllByRecu
 more_keys descriptions keys others a s h =
     record { duration = h.duration; offset = h.offset; flags = h.flags; description = h.description; size = h.size; groups = map_through IsIndex keys others s.groups a h.groups }
 
+-- keys among some are among them and more
 each_with : (keys more : List GroupKey) (xs : List GroupKey) → AllByRecursion (IsAmong keys) xs → AllByRecursion (IsAmong (keys_with keys more)) xs
 each_with keys more [] h = tt
 each_with keys more (x ∷ xs) h = (among_with keys more x h.0, each_with keys more xs h.1)
@@ -106,6 +112,7 @@ parts_few keys (part ∷ parts) g few =
 
 -- ---- the descriptions of a track
 
+-- a track as fragments see it
 abbrev info : TrackTree → TrackInfo
 info t = record { id = (track_head_of t).id; descriptions = length t.descriptions }
 
@@ -117,9 +124,11 @@ own_info tracks u d i =
     (λ t h e. ap (λ (v : TrackTree). length v.descriptions) (h e)) tracks
     (each_member (λ (t : TrackTree). (track_head_of t).id ≡ (track_head_of u).id → t ≡ u) tracks (λ t j e. distinct_same (λ (v : TrackTree). (track_head_of v).id) tracks t u d j i e))
 
+-- there is no index among no descriptions
 not_none : (d : ℕ) → IsTrue (is_index 0 d) → ⊥
 not_none d h = let p = and_parts (leb 1 d) (leb d 0) h in let low = leb-true 1 d p.0 in let high = leb-true d 0 p.1 in omega arith
 
+-- an index of the track that is found
 index_of : (o : Option TrackInfo) (n d : ℕ) → ((i : TrackInfo) → o ≡ Some i → i.descriptions ≡ n) → IsTrue (is_index (unwrap_or (option_map (λ (t : TrackInfo). t.descriptions) o) 0) d) → IsTrue (is_index n d)
 index_of None n d h k = absurd (not_none d k)
 index_of (Some i) n d h k = subst (λ (m : ℕ). IsTrue (is_index m d)) (h i refl) k
@@ -137,6 +146,7 @@ part_indexed m u part d i e h =
 
 -- ---- keys and starts
 
+-- the keys of a map
 keys_among : (keys : List GroupKey) (groups : Groups) → AllByRecursion (λ (group : GroupKey × ℕ). IsAmong keys group.0) groups → AllByRecursion (IsAmong keys) (map (λ (group : GroupKey × ℕ). group.0) groups)
 keys_among keys groups h = each_value (λ (group : GroupKey × ℕ). IsAmong keys group.0) (IsAmong keys) (λ (group : GroupKey × ℕ). group.0) (λ group k. k) groups h
 
@@ -147,14 +157,17 @@ keys_few file descriptions keys samples h =
     (each_joined (λ (s : Sample). AllByRecursion (λ (group : GroupKey × ℕ). IsAmong keys group.0) s.groups) (IsAmong keys) (λ (s : Sample). map (λ (group : GroupKey × ℕ). group.0) s.groups) (λ s k. keys_among keys s.groups k) (map (sample_of file) samples)
     (each_value (IsOfTrack descriptions keys) (λ (s : Sample). AllByRecursion (λ (group : GroupKey × ℕ). IsAmong keys group.0) s.groups) (sample_of file) (λ s k. k.groups.named) samples h))
 
+-- no values come from no members
 nothing_mapped : {A B : Type 0} (f : A → B) (xs : List A) → map f xs ≡ [] → xs ≡ []
 nothing_mapped f [] e = refl
 nothing_mapped f (x ∷ xs) e = absurd (cc)
 
+-- lists that join to nothing are empty
 nothing_joined : {A : Type 0} (xs ys : List A) → xs ++ ys ≡ [] → (xs ≡ []) × (ys ≡ [])
 nothing_joined [] ys e = (refl, e)
 nothing_joined (x ∷ xs) ys e = absurd (cc)
 
+-- no part has samples where there are none
 none_has : (parts : List Part) → flat_map part_samples parts ≡ [] → find has_samples parts ≡ None
 none_has [] e = refl
 none_has (part ∷ parts) e =
@@ -162,6 +175,7 @@ none_has (part ∷ parts) e =
     let none : has_samples part ≡ false = rw both.0 refl in
     rw none (none_has parts both.1)
 
+-- without samples the start is 0
 start_empty : (plain : List PlacedSample) (parts : List Part) → plain ≡ [] → find has_samples parts ≡ None → start_of plain parts ≡ 0
 start_empty [] parts e f = rw f refl
 start_empty (s ∷ plain) parts e f = refl

@@ -20,6 +20,7 @@ abbrev InOrder : Groups → Type 0
 InOrder [] = Unit {0}
 InOrder (group ∷ groups) = IsBelow group.0 groups × InOrder groups
 
+-- the test of the order against one key
 above_test : (key : GroupKey) (groups : Groups) → IsBelow key groups → list_all (λ (other : GroupKey × ℕ). ltb (key_rank key) (key_rank other.0)) groups ≡ true
 above_test key [] h = refl
 above_test key (group ∷ groups) h = and_from (ltb (key_rank key) (key_rank group.0)) _ (lt-ltb (key_rank key) (key_rank group.0) h.0) (above_test key groups h.1)
@@ -35,6 +36,7 @@ pub record IsMap (P : GroupKey × ℕ → Type 0) (keys : List GroupKey) (groups
   pub each : AllByRecursion P groups
   pub named : AllByRecursion (λ (group : GroupKey × ℕ). IsAmong keys group.0) groups
 
+-- the step of `put_each`, by the choice made there
 put_choice : (Q : GroupKey × ℕ → Type 0) (key : GroupKey) (index : ℕ) (group : GroupKey × ℕ) (groups : Groups) (v : Bool) → Q (key, index) → Q group → AllByRecursion Q groups → AllByRecursion Q (put_group key index groups)
     → AllByRecursion Q (cond v ((key, index) ∷ group ∷ groups) (group ∷ put_group key index groups))
 put_choice Q key index group groups true q g h more = (q, (g, h))
@@ -45,10 +47,12 @@ put_each : (Q : GroupKey × ℕ → Type 0) (key : GroupKey) (index : ℕ) (grou
 put_each Q key index [] q h = (q, tt)
 put_each Q key index (group ∷ groups) q h = put_choice Q key index group groups (ltb (key_rank key) (key_rank group.0)) q h.0 h.1 (put_each Q key index groups q h.1)
 
+-- what is below the first key is below all
 below_all : (key : GroupKey) (group : GroupKey × ℕ) (groups : Groups) → key_rank key < key_rank group.0 → IsBelow group.0 groups → IsBelow key groups
 below_all key group [] lt h = tt
 below_all key group (other ∷ groups) lt h = (omega (arith, h.0), below_all key group groups lt h.1)
 
+-- the step of `put_order`, by the choice made there
 order_choice : (key : GroupKey) (index : ℕ) (group : GroupKey × ℕ) (groups : Groups) (v : Bool) → ltb (key_rank key) (key_rank group.0) ≡ v → (key_rank group.0 ≡ key_rank key → ⊥) → InOrder (group ∷ groups) → InOrder (put_group key index groups)
     → InOrder (cond v ((key, index) ∷ group ∷ groups) (group ∷ put_group key index groups))
 order_choice key index group groups true e ne h more =
@@ -59,6 +63,7 @@ order_choice key index group groups false e ne h more =
     let lt : key_rank group.0 < key_rank key = omega (arith, ne) in
     (put_each (λ (other : GroupKey × ℕ). key_rank group.0 < key_rank other.0) key index groups lt h.0, more)
 
+-- a map with a new key is in order
 put_order : (key : GroupKey) (index : ℕ) (groups : Groups) → AllByRecursion (λ (group : GroupKey × ℕ). key_rank group.0 ≡ key_rank key → ⊥) groups → InOrder groups → InOrder (put_group key index groups)
 put_order key index [] d h = (tt, tt)
 put_order key index (group ∷ groups) d h = order_choice key index group groups (ltb (key_rank key) (key_rank group.0)) refl d.0 h (put_order key index groups d.1 h.1)
@@ -69,6 +74,7 @@ pub others_differ : (keys : List GroupKey) (key : GroupKey) (groups : Groups) �
 others_differ keys key [] n h = tt
 others_differ keys key (group ∷ groups) n h = ((λ e. other_rank keys group.0 key h.0 n e), others_differ keys key groups n h.1)
 
+-- keys among some are among those and one more
 among_each : (keys : List GroupKey) (key : GroupKey) (groups : Groups) → AllByRecursion (λ (group : GroupKey × ℕ). IsAmong keys group.0) groups → AllByRecursion (λ (group : GroupKey × ℕ). IsAmong (key ∷ keys) group.0) groups
 among_each keys key [] h = tt
 among_each keys key (group ∷ groups) h = (among_more keys group.0 key h.0, among_each keys key groups h.1)
@@ -91,15 +97,18 @@ put_map P keys key index groups n p m = record {
 abbrev pub IsIndexed : (GroupKey × ℕ → Type 0) → GroupKey → ℕ → Type 0
 IsIndexed P key index = eqb index 0 ≡ false → P (key, index)
 
+-- one sample, with its index at a new key
 index_choice : (P : GroupKey × ℕ → Type 0) (keys : List GroupKey) (key : GroupKey) (index : ℕ) (groups : Groups) (v : Bool) → eqb index 0 ≡ v → IsNone keys key → IsIndexed P key index → IsMap P keys groups
     → IsMap P (key ∷ keys) (cond v groups (put_group key index groups))
 index_choice P keys key index groups true e n p m = same_map P keys key groups m
 index_choice P keys key index groups false e n p m = put_map P keys key index groups n (p e) m
 
+-- maps to which no index is put
 same_maps : (P : GroupKey × ℕ → Type 0) (keys : List GroupKey) (key : GroupKey) (maps : List Groups) → AllByRecursion (IsMap P keys) maps → AllByRecursion (IsMap P (key ∷ keys)) maps
 same_maps P keys key [] h = tt
 same_maps P keys key (groups ∷ maps) h = (same_map P keys key groups h.0, same_maps P keys key maps h.1)
 
+-- maps in a row, with their indexes at a new key
 put_maps : (P : GroupKey × ℕ → Type 0) (keys : List GroupKey) (key : GroupKey) (indexes : List ℕ) (maps : List Groups) → IsNone keys key → AllByRecursion (IsIndexed P key) indexes → AllByRecursion (IsMap P keys) maps
     → AllByRecursion (IsMap P (key ∷ keys)) (put_indexes key indexes maps)
 put_maps P keys key [] maps n p m = same_maps P keys key maps m
@@ -133,10 +142,12 @@ maps_made P n (g ∷ groupings) a h =
 
 -- ---- what the rules on `sbgp`s say
 
+-- the one behind some is found at their number
 got_at : (before after : List Grouping) (g : Grouping) → slice_get (before ++ g ∷ after) (length before) ≡ Some g
 got_at [] after g = refl
 got_at (b ∷ before) after g = got_at before after g
 
+-- what is taken before it are those
 taken_at : (before after : List Grouping) (g : Grouping) → take (length before) (before ++ g ∷ after) ≡ before
 taken_at [] after g = refl
 taken_at (b ∷ before) after g = ap (λ (gs : List Grouping). b ∷ gs) (taken_at before after g)
@@ -152,6 +163,7 @@ abbrev KeepEach : GroupRule → ℕ → List GroupKey → List Grouping → List
 KeepEach rule n keys before [] = Unit {0}
 KeepEach rule n keys before (g ∷ groupings) = (keeps rule n keys before g ≡ true) × KeepEach rule n keys (before ++ g ∷ []) groupings
 
+-- each keeps the rule where the test passes at each place
 keep_behind : (rule : GroupRule) (n : ℕ) (keys : List GroupKey) (before groupings : List Grouping) → ((k : ℕ) → IsTrue (group_test rule n keys (before ++ groupings) k)) → KeepEach rule n keys before groupings
 keep_behind rule n keys before [] h = tt
 keep_behind rule n keys before (g ∷ groupings) h = (
@@ -164,16 +176,19 @@ keep_behind rule n keys before (g ∷ groupings) h = (
 abbrev DifferFrom : List Grouping → Grouping → Type 0
 DifferFrom before g = AllByRecursion (λ (h : Grouping). same_key g.key h.key ≡ false) before
 
+-- where no key is the same, each differs
 none_same : (before : List Grouping) (g : Grouping) → list_any (λ (h : Grouping). same_key g.key h.key) before ≡ false → DifferFrom before g
 none_same [] g e = tt
 none_same (h ∷ before) g e =
     let p = or_parts (same_key g.key h.key) (list_any (λ (b : Grouping). same_key g.key b.key) before) e in
     (p.0, none_same before g p.1)
 
+-- what differs from each of some and one more differs from both
 front_differs : (before : List Grouping) (g h : Grouping) → DifferFrom (before ++ g ∷ []) h → DifferFrom before h × (same_key h.key g.key ≡ false)
 front_differs [] g h d = (tt, d.0)
 front_differs (b ∷ before) g h d = let r = front_differs before g h d.1 in ((d.0, r.0), r.1)
 
+-- the same for each of those behind them
 fronts_differ : (before : List Grouping) (g : Grouping) (groupings : List Grouping) → AllByRecursion (DifferFrom (before ++ g ∷ [])) groupings → AllByRecursion (DifferFrom before) groupings × IsNone (keys_named groupings) g.key
 fronts_differ before g [] d = (tt, refl)
 fronts_differ before g (h ∷ groupings) d =
@@ -181,6 +196,7 @@ fronts_differ before g (h ∷ groupings) d =
     let more = fronts_differ before g groupings d.1 in
     ((r.0, more.0), or_from (same_key g.key h.key) (list_any (same_key g.key) (keys_named groupings)) (same_other h.key g.key r.1) more.1)
 
+-- where no key is named twice, all are apart
 apart_behind : (n : ℕ) (keys : List GroupKey) (before groupings : List Grouping) → KeepEach one_of_key n keys before groupings → AllByRecursion (DifferFrom before) groupings × AreApart groupings
 apart_behind n keys before [] h = (tt, tt)
 apart_behind n keys before (g ∷ groupings) h =
@@ -191,6 +207,7 @@ apart_behind n keys before (g ∷ groupings) h =
 
 -- ---- at most four keys
 
+-- one more key where there are not yet as many as may be
 few_choice : (named : List GroupKey) (key : GroupKey) (v : Bool) → list_any (same_key key) named ≡ v → v || not (eqb (length named) max_keys) ≡ true → length named ≤ max_keys
     → length (cond v named (named ++ key ∷ [])) ≤ max_keys
 few_choice named key true e k h = h
@@ -199,10 +216,12 @@ few_choice named key false e k h =
     let ne = eqb-false (length named) max_keys other in
     omega (arith, length-append named (key ∷ []), ne, h)
 
+-- keys behind two lists of `sbgp`s
 pub after-append : (keys : List GroupKey) (xs ys : List Grouping) → keys_after keys (xs ++ ys) ≡ keys_after (keys_after keys xs) ys
 after-append keys [] ys = refl
 after-append keys (g ∷ xs) ys = after-append (cond (list_any (same_key g.key) keys) keys (keys ++ g.key ∷ [])) xs ys
 
+-- so there are never more
 few_behind : (n : ℕ) (keys : List GroupKey) (before groupings : List Grouping) → KeepEach few_keys n keys before groupings → length (keys_after keys before) ≤ max_keys → length (keys_after keys (before ++ groupings)) ≤ max_keys
 few_behind n keys before [] h few = subst (λ (gs : List Grouping). length (keys_after keys gs) ≤ max_keys) (sym (append-nil before)) few
 few_behind n keys before (g ∷ groupings) h few =
@@ -228,10 +247,12 @@ still_few n keys groupings h few = few_behind n keys [] groupings (keep_behind f
 abbrev AreSmall : Grouping → Type 0
 AreSmall g = AllByRecursion (λ (row : ℕ × ℕ). row.1 ≤ max_index) g.rows
 
+-- rows of which the test passes
 rows_small : (rows : List (ℕ × ℕ)) → list_all (λ (row : ℕ × ℕ). leb row.1 max_index) rows ≡ true → AllByRecursion (λ (row : ℕ × ℕ). row.1 ≤ max_index) rows
 rows_small rows e =
     each_weaker (λ (row : ℕ × ℕ). leb row.1 max_index ≡ true) (λ (row : ℕ × ℕ). row.1 ≤ max_index) (λ row h. leb-true row.1 max_index h) rows (each_tested (λ (row : ℕ × ℕ). leb row.1 max_index) rows e)
 
+-- each `sbgp` that keeps the rule has small indexes
 small_behind : (n : ℕ) (keys : List GroupKey) (before groupings : List Grouping) → KeepEach index_range n keys before groupings → AllByRecursion AreSmall groupings
 small_behind n keys before [] h = tt
 small_behind n keys before (g ∷ groupings) h = (rows_small g.rows h.0, small_behind n keys (before ++ g ∷ []) groupings h.1)
@@ -250,6 +271,7 @@ maps_valid P m n keys groupings h p =
     indexed : (g : Grouping) → ((index : ℕ) → 1 ≤ index → index ≤ max_index → P (g.key, index)) → AreSmall g → AreIndexed P g
     indexed g one s = indexed_rows g one g.rows s
 
+-- keys of a map that are all among others
 named_each : (keys others : List GroupKey) (groups : Groups) → AllByRecursion (IsAmong others) keys → AllByRecursion (λ (group : GroupKey × ℕ). IsAmong keys group.0) groups → AllByRecursion (λ (group : GroupKey × ℕ). IsAmong others group.0) groups
 named_each keys others [] a h = tt
 named_each keys others (group ∷ groups) a h = (among_through keys others group.0 a h.0, named_each keys others groups a h.1)

@@ -46,6 +46,7 @@ grouped D M (g ∷ maps) (s ∷ samples) m h =
 abbrev IsSpot : (ℕ → Type 0) → Spot → Type 0
 IsSpot D spot = (spot.size < 2 ^ 32) × D spot.description
 
+-- samples from lists of parts that are in their ranges
 joined_placed : (D : ℕ → Type 0) (M : Groups → Type 0) → M [] → (durations : List ℕ) (offsets : List ℤ) (flags : List ℕ) (spots : List Spot) → AllByRecursion (λ n. n < 2 ^ 32) durations → AllByRecursion (FitsSigned w32) offsets
     → AllByRecursion (λ n. n < 2 ^ 28) flags → AllByRecursion (IsSpot D) spots → AllByRecursion (IsPlaced D M) (joined durations offsets flags spots)
 joined_placed D M m [] offsets flags spots a b c d = tt
@@ -60,15 +61,18 @@ joined_placed D M m (x ∷ durations) (y ∷ offsets) (z ∷ flags) (spot ∷ sp
 abbrev AreSizes : List ℕ → Type 0
 AreSizes sizes = AllByRecursion (λ n. n < 2 ^ 32) sizes
 
+-- first numbers of rows of one field
 first_numbers : (n width : ℕ) (bytes : List ℕ) → ((m : ℕ) → m < 256 ^ width → m < 2 ^ 32) → AreBytes bytes → AreSizes (map first_number (rows n (width ∷ []) bytes))
 first_numbers n width bytes below h = each_value (FitsRow (width ∷ [])) (λ m. m < 2 ^ 32) first_number (λ r f. below (first_number r) (f 0)) (rows n (width ∷ []) bytes) (rows_fit n (width ∷ []) bytes h)
 
+-- sizes of 32 bits fit
 plain_sizes : (payload : List ℕ) → AreBytes payload → AreSizes (sizes_of payload)
 plain_sizes payload h =
     cond_both (eqb (field payload 4 4) 0) (map first_number (leaf_rows stsz payload)) (replicate (sample_count payload) (field payload 4 4)) AreSizes
     (λ e. first_numbers (row_count stsz payload) 4 (drop (width_of (fields stsz (version payload))) payload) (λ m k. k) (bytes_dropped (width_of (fields stsz (version payload))) payload h))
     (λ e. each_again (λ n. n < 2 ^ 32) (sample_count payload) (field payload 4 4) (field_below payload 4 4 h))
 
+-- half bytes do
 halves_small : (n : ℕ) (bytes : List ℕ) → AreBytes bytes → AreSizes (half_bytes n bytes)
 halves_small zero bytes h = tt
 halves_small (suc zero) bytes h = let b : field bytes 0 1 < 256 = field_below bytes 0 1 h in (omega arith, tt)
@@ -76,6 +80,7 @@ halves_small (suc (suc n)) bytes h =
     let b : field bytes 0 1 < 256 = field_below bytes 0 1 h in
     (omega arith, (omega arith, halves_small n (drop 1 bytes) (bytes_dropped 1 bytes h)))
 
+-- so do compact ones of 4, 8 or 16 bits
 of_bits : (bits n : ℕ) (bytes : List ℕ) → is_size_bits bits ≡ true → AreBytes bytes → AreSizes (cond (eqb bits 4) (half_bytes n bytes) (map first_number (rows n (bits / 8 ∷ []) bytes)))
 of_bits bits n bytes e h = elim (or_cases (eqb bits 4) _ e) [
   | inl four ↦ subst (λ (k : ℕ). AreSizes (cond (eqb k 4) (half_bytes n bytes) (map first_number (rows n (k / 8 ∷ []) bytes)))) (sym (eqb-true bits 4 four)) (halves_small n bytes h)
@@ -103,12 +108,14 @@ sizes_fit None (Some compact) h k s =
 pub offset_fits : (v n : ℕ) → n < 2 ^ 32 → (eqb v 0 ≡ true → n < 2 ^ 31) → FitsSigned w32 (composition_offset v n)
 offset_fits v n h small = cond_both (eqb v 0) (pos n) (twos_complement 4 n) (FitsSigned w32) (λ e. let lt = small e in record { sfits = lt }) (λ e. signed_32 n h)
 
+-- rows of which no offset is too large
 not_too_large : (rs : List (List ℕ)) → too_large (map (λ r. Some (slice_index r 1)) rs) ≡ false → AllByRecursion (λ r. slice_index r 1 < 2 ^ 31) rs
 not_too_large [] e = tt
 not_too_large (r ∷ rs) e =
     let p = or_parts (leb (2 ^ 31) (slice_index r 1)) (too_large (map (λ x. Some (slice_index x 1)) rs)) e in
     (leb-false (2 ^ 31) (slice_index r 1) p.0, not_too_large rs p.1)
 
+-- offsets of rows fit
 offset_rows : (v : ℕ) (rs : List (List ℕ)) → (eqb v 0 && too_large (map (λ r. Some (slice_index r 1)) rs)) ≡ false → AllByRecursion (FitsRow (4 ∷ 4 ∷ [])) rs
     → AllByRecursion (λ (row : ℕ × ℤ). FitsSigned w32 row.1) (map (λ row. (slice_index row 0, composition_offset v (slice_index row 1))) rs)
 offset_rows v rs e h =
@@ -119,12 +126,14 @@ offset_rows v rs e h =
     by_version true f = each_from (FitsRow (4 ∷ 4 ∷ [])) (λ r. slice_index r 1 < 2 ^ 31) (λ r. FitsRow (4 ∷ 4 ∷ []) r × (true ≡ true → slice_index r 1 < 2 ^ 31)) (λ r x y. (x, λ g. y)) rs h (not_too_large rs f)
     by_version false f = each_weaker (FitsRow (4 ∷ 4 ∷ [])) (λ r. FitsRow (4 ∷ 4 ∷ []) r × (false ≡ true → slice_index r 1 < 2 ^ 31)) (λ r x. (x, λ g. absurd (cc))) rs h
 
+-- composition offsets fit, or are 0
 offsets_fit : (n : ℕ) (o : Option (List ℕ)) → IfSome o AreBytes → IfSome o (IsSound ctts) → AllByRecursion (FitsSigned w32) (unwrap_or (option_map repeated (option_map offsets_of o)) (replicate n (pos 0)))
 offsets_fit n None h s = each_again (FitsSigned w32) n (pos 0) (record { sfits = lit< tt })
 offsets_fit n (Some payload) h s =
     repeated_each (FitsSigned w32) (offsets_of payload)
     (offset_rows (version payload) (leaf_rows ctts payload) s.offsets (rows_fit (row_count ctts payload) (4 ∷ 4 ∷ []) (drop 8 payload) (bytes_dropped 8 payload h)))
 
+-- durations fit
 durations_fit : (payload : List ℕ) → AreBytes payload → AllByRecursion (λ n. n < 2 ^ 32) (repeated (durations_of payload))
 durations_fit payload h =
     repeated_each (λ n. n < 2 ^ 32) (durations_of payload)
@@ -132,10 +141,12 @@ durations_fit payload h =
 
 -- ---- flags
 
+-- a flag of one bit
 at_most_1 : (sync : Option (List ℕ)) (i : ℕ) → non_sync sync i ≤ 1
 at_most_1 None i = lit≤ tt
 at_most_1 (Some named) i = cond_both (list_any (λ n. eqb i n) named) 0 1 (λ n. n ≤ 1) (λ e. lit≤ tt) (λ e. lit≤ tt)
 
+-- flags are below 2^28
 flags_fit : (sync : Option (List ℕ)) (i : ℕ) (bytes : List ℕ) → AreBytes bytes → AllByRecursion (λ n. n < 2 ^ 28) (flags_from sync i bytes)
 flags_fit sync i [] h = tt
 flags_fit sync i (b ∷ bytes) h =
@@ -143,21 +154,25 @@ flags_fit sync i (b ∷ bytes) h =
     let one = at_most_1 sync i in
     (omega (arith, small, one), flags_fit sync (i + 1) bytes (λ k. h (suc k)))
 
+-- zeros are bytes
 zeros : (n : ℕ) → AreBytes (replicate n 0)
 zeros zero i = lit< tt
 zeros (suc n) zero = lit< tt
 zeros (suc n) (suc i) = zeros n i
 
+-- the bytes of `sdtp`, or zeros
 dependencies_fit : (n : ℕ) (o : Option (List ℕ)) → IfSome o AreBytes → AreBytes (unwrap_or (option_map (take n) (option_map (λ payload. drop 4 payload) o)) (replicate n 0))
 dependencies_fit n None h = zeros n
 dependencies_fit n (Some payload) h = bytes_taken n (drop 4 payload) (bytes_dropped 4 payload h)
 
 -- ---- places
 
+-- samples of such sizes, one after the other
 laid_spots : (at : ℤ) (description : ℕ) (sizes : List ℕ) → AreSizes sizes → AllByRecursion (λ (spot : Spot). spot.size < 2 ^ 32) (laid_out at description sizes)
 laid_spots at description [] h = tt
 laid_spots at description (size ∷ sizes) h = (h.0, laid_spots (at +ℤ pos size) description sizes h.1)
 
+-- and chunk by chunk
 chunk_spots : (rs : List ChunkRow) (c : ℕ) (offsets sizes : List ℕ) → AreSizes sizes → AllByRecursion (λ (spot : Spot). spot.size < 2 ^ 32) (in_chunks rs c offsets sizes)
 chunk_spots rs c [] sizes h = tt
 chunk_spots rs c (offset ∷ offsets) sizes h =
@@ -178,14 +193,17 @@ pub record IsKey (key : GroupKey) : Type 0 where
 abbrev pub IsIndex : GroupKey × ℕ → Type 0
 IsIndex group = IsKey group.0 × (1 ≤ group.1) × (group.1 ≤ max_index)
 
+-- no parameter, or one of 32 bits
 no_parameter : (v : Bool) (n : ℕ) → n < 2 ^ 32 → IfSome (cond v None (Some n)) (λ m. m < 2 ^ 32)
 no_parameter true n h = tt
 no_parameter false n h = h
 
+-- an `sbgp` has at least 8 bytes
 room_of : (v : Bool) (more : ℕ) → 8 ≤ width_of (cond v (1 ∷ 3 ∷ 4 ∷ 4 ∷ []) (1 ∷ 3 ∷ 4 ∷ 4 ∷ 4 ∷ [])) + 0 + more
 room_of true more = omega arith
 room_of false more = omega arith
 
+-- the key of a sound `sbgp`
 key_valid : (payload : List ℕ) → AreBytes payload → IsSound sbgp payload → IsKey (key_of payload)
 key_valid payload h s =
     let room : 8 ≤ length payload = (let least = room_of (eqb (version payload) 0) (rows_size sbgp payload) in omega (arith, s.readable.room, least)) in
