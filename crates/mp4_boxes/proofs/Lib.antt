@@ -9,4 +9,7 @@ pub mod Members
 pub mod Columns
 pub mod Among
 pub mod Refusing
+pub mod Each
+pub mod OfBytes
+pub mod Sound
 pub mod Vectors
