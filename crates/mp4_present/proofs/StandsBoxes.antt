@@ -43,14 +43,14 @@ abbrev two_movies : List ℕ
 two_movies = hex (codes "000000086d6f6f76000000086d6f6f76")
 
 two_movies-stands : StandsBy child two_movies (record { kind = kinds.DuplicateBox; box_type = codes "moov"; offset = 8 })
-two_movies-stands = record { place = whole two_movies; reaches = ([], refl); rule = rules.File; under = refl; fault = inr (record { before = part two_movies 0 8 (codes "moov") ∷ []; b = part two_movies 8 8 (codes "moov"); stands = (((says (codes "moov") 8, refl, refl), ((says (codes "moov") 8, refl, refl), tt)), tt); line = record { kinds = codes "moov" ∷ []; quantity = one }; speaks = refl; single = tt; earlier = lit≤ tt; named = refl }) }
+two_movies-stands = record { place = whole two_movies; reaches = ([], refl); rule = rules.File; under = refl; fault = inr (record { before = part two_movies 0 8 (codes "moov") ∷ []; b = part two_movies 8 8 (codes "moov"); stands = (((says (codes "moov") 8, refl, refl), ((says (codes "moov") 8, refl, refl), tt)), tt); repeated = refl; named = refl }) }
 
 -- a `co64` behind a `stco`, of which one stands in an `stbl`
 abbrev two_offsets : List ℕ
 two_offsets = hex (codes "000000406d6f6f76000000387472616b000000306d646961000000286d696e66000000207374626c000000087374636f000000086672656500000008636f3634")
 
 two_offsets-stands : StandsBy child two_offsets (record { kind = kinds.DuplicateBox; box_type = codes "co64"; offset = 56 })
-two_offsets-stands = record { place = box_place (part two_offsets 32 32 (codes "stbl")) rules.SampleTable; reaches = (part two_offsets 0 64 (codes "moov") ∷ part two_offsets 8 56 (codes "trak") ∷ part two_offsets 16 48 (codes "mdia") ∷ part two_offsets 24 40 (codes "minf") ∷ part two_offsets 32 32 (codes "stbl") ∷ [], ([], (((says (codes "moov") 64, refl, refl), tt), tt), box_place (part two_offsets 0 64 (codes "moov")) rules.Movie, refl, ([], (((says (codes "trak") 56, refl, refl), tt), tt), box_place (part two_offsets 8 56 (codes "trak")) rules.Track, refl, ([], (((says (codes "mdia") 48, refl, refl), tt), tt), box_place (part two_offsets 16 48 (codes "mdia")) rules.Media, refl, ([], (((says (codes "minf") 40, refl, refl), tt), tt), box_place (part two_offsets 24 40 (codes "minf")) rules.MediaInformation, refl, ([], (((says (codes "stbl") 32, refl, refl), tt), tt), box_place (part two_offsets 32 32 (codes "stbl")) rules.SampleTable, refl, refl)))))); rule = rules.SampleTable; under = refl; fault = inr (record { before = part two_offsets 40 8 (codes "stco") ∷ part two_offsets 48 8 (codes "free") ∷ []; b = part two_offsets 56 8 (codes "co64"); stands = (((says (codes "stco") 8, refl, refl), ((says (codes "free") 8, refl, refl), ((says (codes "co64") 8, refl, refl), tt))), tt); line = record { kinds = chunk_offsets; quantity = one }; speaks = refl; single = tt; earlier = lit≤ tt; named = refl }) }
+two_offsets-stands = record { place = box_place (part two_offsets 32 32 (codes "stbl")) rules.SampleTable; reaches = (part two_offsets 0 64 (codes "moov") ∷ part two_offsets 8 56 (codes "trak") ∷ part two_offsets 16 48 (codes "mdia") ∷ part two_offsets 24 40 (codes "minf") ∷ part two_offsets 32 32 (codes "stbl") ∷ [], ([], (((says (codes "moov") 64, refl, refl), tt), tt), box_place (part two_offsets 0 64 (codes "moov")) rules.Movie, refl, ([], (((says (codes "trak") 56, refl, refl), tt), tt), box_place (part two_offsets 8 56 (codes "trak")) rules.Track, refl, ([], (((says (codes "mdia") 48, refl, refl), tt), tt), box_place (part two_offsets 16 48 (codes "mdia")) rules.Media, refl, ([], (((says (codes "minf") 40, refl, refl), tt), tt), box_place (part two_offsets 24 40 (codes "minf")) rules.MediaInformation, refl, ([], (((says (codes "stbl") 32, refl, refl), tt), tt), box_place (part two_offsets 32 32 (codes "stbl")) rules.SampleTable, refl, refl)))))); rule = rules.SampleTable; under = refl; fault = inr (record { before = part two_offsets 40 8 (codes "stco") ∷ part two_offsets 48 8 (codes "free") ∷ []; b = part two_offsets 56 8 (codes "co64"); stands = (((says (codes "stco") 8, refl, refl), ((says (codes "free") 8, refl, refl), ((says (codes "co64") 8, refl, refl), tt))), tt); repeated = refl; named = refl }) }
 
 -- a `moof`, and no `moov` before it
 abbrev fragment_first : List ℕ
