@@ -14,8 +14,8 @@ use Rattle.mp4_boxes.specs.declared.fault.Kind.TheVariants.{ShortHeader, BadSize
 said : Bool → ℕ → List ℕ → ℕ → ℕ → Result Header Kind
 said is_open left kind small large =
     cond (ltb left 8) (Err ShortHeader)
-      (cond (eqb small 1) (cond (ltb left 16) (Err ShortHeader) (fitting left 16 (record { kind = kind; length = 16; size = large })))
-      (cond (eqb small 0) (cond is_open (Ok (record { kind = kind; length = 8; size = left })) (Err BadSize)) (fitting left 8 (record { kind = kind; length = 8; size = small }))))
+    (cond (eqb small 1) (cond (ltb left 16) (Err ShortHeader) (fitting left 16 (record { kind = kind; length = 16; size = large })))
+    (cond (eqb small 0) (cond is_open (Ok (record { kind = kind; length = 8; size = left })) (Err BadSize)) (fitting left 8 (record { kind = kind; length = 8; size = small }))))
 
 header_said : (is_open : Bool) (left : ℕ) (bytes : List ℕ) → header_in is_open left bytes ≡ said is_open left (type_of bytes) (field bytes 0 4) (field bytes 8 8)
 unfolding said

@@ -39,7 +39,8 @@ top_more file boxes at h p e le =
     let same : b ≡ top_box file at h = λ i. record { kind = h.kind.0; offset = place i; header = h.header; payload = take (h.end - at - h.header) (part i) } in
     record {
       lie = subst (λ (x : Box). LieEndToEnd true 0 file (boxes ++ x ∷ [])) same (lies_push true 0 file boxes g p.lie read);
-      taken = subst (λ (x : Box). sizes (boxes ++ x ∷ []) ≡ h.end) same (omega (arith, t, big, le, sizes-append boxes (b ∷ []), sizes-cons b [])) }
+      taken = subst (λ (x : Box). sizes (boxes ++ x ∷ []) ≡ h.end) same (omega (arith, t, big, le, sizes-append boxes (b ∷ []), sizes-cons b []));
+    }
 
 -- a header of the file itself that can't be read is a fault of the file
 pub top_fault : (file : List ℕ) (boxes : List Box) (at : ℕ) (f : Fault) → TopPassed file boxes at → at < length file → header_there true (length file - at) (drop at file) (codes "file") at ≡ Err f
@@ -55,7 +56,8 @@ top_fault file boxes at f p lt e =
       due = omega arith;
       kind = r.0;
       fails = ap (λ (n : ℕ). header_at true (drop n file)) t ∙ r.1;
-      named = r.2 ∙ (λ i. unreadable (codes "file") (place i) (type_of (drop (sym t i) file)) r.0) }
+      named = r.2 ∙ (λ i. unreadable (codes "file") (place i) (type_of (drop (sym t i) file)) r.0);
+    }
 
 -- the boxes up to the end are those of the file
 pub top_tiles : (file : List ℕ) (boxes : List Box) (at : ℕ) → TopPassed file boxes at → length file ≤ at → Tiles (file_container file) boxes
