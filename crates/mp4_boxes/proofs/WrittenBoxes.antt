@@ -8,7 +8,7 @@ use Rattle.byteorder.specs.Numbers.{length-bytes_high_first}
 use Rattle.mp4_boxes.specs.Bytes.{field}
 use Rattle.mp4_boxes.specs.Box.{Box, size, sizes, LieEndToEnd, Container, box_container, counted_container, Tiles}
 use Rattle.mp4_boxes.specs.Children.{Line, IsQuantity, Holds, table, allows, is_among, count_among, of_kind, payload_if}
-use Rattle.std.specs.Prelude.{◌||◌}
+use Rattle.std.specs.Prelude.{◌||◌, flat_map}
 use Rattle.std.proofs.lemmas.Slice.Eq.{bytes_eq-Decides}
 use Rattle.mp4_boxes.specs.Written.{box_bytes}
 use Rattle.mp4_boxes.specs.declared.rule.Rule.{Rule}
@@ -238,3 +238,55 @@ fits_written (k ∷ contents) t h =
     let both = length-append (box_bytes k.kind k.payload) (written contents) in
     let first = length-box_bytes k.kind k.payload t.0 in
     (record { kind = t.0; size = omega arith }, fits_written contents t.1 (omega arith))
+
+size_by_test : (kind : List ℕ) (k : Content) (contents : List Content) (payload : List ℕ) (v : Bool) → length k.kind ≡ 4 → cond v (Some k.payload) (found kind contents) ≡ Some payload
+    → (found kind contents ≡ Some payload → length payload ≤ length (written contents)) → length payload ≤ length (written (k ∷ contents))
+size_by_test kind k contents payload true four e more =
+    let same : k.payload ≡ payload = cc in
+    omega (arith, ap (λ (l : List ℕ). length l) same, length-append (box_bytes k.kind k.payload) (written contents), length-box_bytes k.kind k.payload four)
+size_by_test kind k contents payload false four e more = omega (arith, more e, length-append (box_bytes k.kind k.payload) (written contents))
+
+-- What is found takes no more bytes than all.
+pub found_size : (kind : List ℕ) (contents : List Content) (payload : List ℕ) → AreTypes contents → found kind contents ≡ Some payload → length payload ≤ length (written contents)
+found_size kind [] payload t e = absurd cc
+found_size kind (k ∷ contents) payload t e = size_by_test kind k contents payload (bytes_eq kind k.kind) t.0 e (found_size kind contents payload t.1)
+
+-- ---- lists of contents
+
+-- contents of one type
+abbrev pub typed : List ℕ → List ℕ → Content
+typed kind payload = record { kind = kind; payload = payload }
+
+-- what holds of a type holds of each content of it
+pub all_typed : (P : List ℕ → Type 0) (kind : List ℕ) (payloads : List (List ℕ)) → P kind → AllByRecursion (λ (k : Content). P k.kind) (map (typed kind) payloads)
+all_typed P kind [] h = tt
+all_typed P kind (payload ∷ payloads) h = (h, all_typed P kind payloads h)
+
+-- what holds of a type and of each payload holds of each content
+pub all_payloads : (P : List ℕ → Type 0) (kind : List ℕ) (payloads : List (List ℕ)) → AllByRecursion P payloads → AllByRecursion (λ (k : Content). P k.payload) (map (typed kind) payloads)
+all_payloads P kind [] h = tt
+all_payloads P kind (payload ∷ payloads) h = (h.0, all_payloads P kind payloads h.1)
+
+-- their bytes
+pub typed_written : (kind : List ℕ) (payloads : List (List ℕ)) → flat_map (box_bytes kind) payloads ≡ written (map (typed kind) payloads)
+typed_written kind [] = refl
+typed_written kind (payload ∷ payloads) = ap (λ (l : List ℕ). box_bytes kind payload ++ l) (typed_written kind payloads)
+
+-- their payloads
+pub typed_payloads : (kind : List ℕ) (payloads : List (List ℕ)) → map (λ (k : Content). k.payload) (map (typed kind) payloads) ≡ payloads
+typed_payloads kind [] = refl
+typed_payloads kind (payload ∷ payloads) = ap (λ (l : List (List ℕ)). payload ∷ l) (typed_payloads kind payloads)
+
+-- a count where none in the middle, or at the end, has one of the types
+pub count_around : (kinds : List (List ℕ)) (front middle back : List Content) → HaveNone kinds middle → count_written kinds (front ++ (middle ++ back)) ≡ count_written kinds front + count_written kinds back
+count_around kinds front middle back h =
+    omega (arith, count_written-append kinds front (middle ++ back), count_written-append kinds middle back, count_none kinds middle h)
+
+pub count_before : (kinds : List (List ℕ)) (front back : List Content) → HaveNone kinds back → count_written kinds (front ++ back) ≡ count_written kinds front
+count_before kinds front back h = omega (arith, count_written-append kinds front back, count_none kinds back h)
+
+-- the payloads of the boxes of a type that stand between others
+pub payloads_between : (kind : List ℕ) (at : ℕ) (front middle back : List Content) → AllByRecursion FitsBox front → AllByRecursion FitsBox middle → AreOther kind front → AreThis kind middle → AreOther kind back
+    → map (λ (b : Box). b.payload) (of_kind kind (placed at (front ++ (middle ++ back)))) ≡ map (λ (k : Content). k.payload) middle
+payloads_between kind at front middle back f g other this others =
+    ap (map (λ (b : Box). b.payload)) (of_kind-between kind at front middle back f g other this others) ∙ payloads_placed (at + length (written front)) middle

@@ -4,3 +4,4 @@ pub mod Distinct
 pub mod Vectors
 pub mod Signed
 pub mod WrittenLeaves
+pub mod WrittenContents
