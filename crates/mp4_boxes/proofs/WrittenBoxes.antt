@@ -290,3 +290,12 @@ pub payloads_between : (kind : List ℕ) (at : ℕ) (front middle back : List Co
     → map (λ (b : Box). b.payload) (of_kind kind (placed at (front ++ (middle ++ back)))) ≡ map (λ (k : Content). k.payload) middle
 payloads_between kind at front middle back f g other this others =
     ap (map (λ (b : Box). b.payload)) (of_kind-between kind at front middle back f g other this others) ∙ payloads_placed (at + length (written front)) middle
+
+-- what fits, of two lists joined
+pub fits_first : (xs ys : List Content) → AllByRecursion FitsBox (xs ++ ys) → AllByRecursion FitsBox xs
+fits_first [] ys h = tt
+fits_first (x ∷ xs) ys h = (h.0, fits_first xs ys h.1)
+
+pub fits_last : (xs ys : List Content) → AllByRecursion FitsBox (xs ++ ys) → AllByRecursion FitsBox ys
+fits_last [] ys h = h
+fits_last (x ∷ xs) ys h = fits_last xs ys h.1

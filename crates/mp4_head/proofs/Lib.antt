@@ -5,3 +5,5 @@ pub mod Vectors
 pub mod Signed
 pub mod WrittenLeaves
 pub mod WrittenContents
+pub mod WrittenTrack
+pub mod WrittenTrackHead

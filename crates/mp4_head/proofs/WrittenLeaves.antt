@@ -145,7 +145,8 @@ each_again : (edits : List Edit) → AllByRecursion IsEdit edits → map (edit_o
 each_again [] h = refl
 each_again (e ∷ edits) h = λ i. edit_again e h.0 i ∷ each_again edits h.1 i
 
-length-edits : (edits : List Edit) → length (flat_map edit_bytes edits) ≡ 20 * length edits
+-- an edit takes 20 bytes
+pub length-edits : (edits : List Edit) → length (flat_map edit_bytes edits) ≡ 20 * length edits
 length-edits [] = refl
 length-edits (e ∷ edits) = omega (arith, length-append (edit_bytes e) (flat_map edit_bytes edits), length-edits edits)
 
