@@ -7,3 +7,4 @@ pub mod WrittenLeaves
 pub mod WrittenContents
 pub mod WrittenTrack
 pub mod WrittenTrackHead
+pub mod WrittenMovie
