@@ -8,3 +8,4 @@ pub mod WrittenContents
 pub mod WrittenTrack
 pub mod WrittenTrackHead
 pub mod WrittenMovie
+pub mod WrittenTables
