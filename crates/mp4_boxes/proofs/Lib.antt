@@ -5,5 +5,6 @@ pub mod WrittenBoxes
 pub mod Members
 pub mod Columns
 pub mod Among
+pub mod Each
 pub mod Refusing
 pub mod Vectors

@@ -2,6 +2,7 @@ pub mod FromTwo
 pub mod RunRows
 pub mod Shared
 pub mod Maps
+pub mod KeyOrder
 pub mod Filters
 pub mod Fragments
 pub mod CutLaws
