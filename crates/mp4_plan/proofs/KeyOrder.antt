@@ -19,11 +19,12 @@ pub record IsKey (key : GroupKey) : Type 0 where
   pub kind : AreBytes key.kind
   pub parameter : IsParameter key.parameter
 
+-- the key of a group is one
 pub key_of_group : (group : GroupKey × ℕ) → IsGroup group → IsKey group.0
 key_of_group group h = record { kind_length = h.kind_length; kind = h.kind; parameter = h.parameter }
 
 -- four bytes, and no more
-four_bytes : (xs : List ℕ) → length xs ≡ 4 → xs ≡ slice_index xs 0 ∷ slice_index xs 1 ∷ slice_index xs 2 ∷ slice_index xs 3 ∷ []
+pub four_bytes : (xs : List ℕ) → length xs ≡ 4 → xs ≡ slice_index xs 0 ∷ slice_index xs 1 ∷ slice_index xs 2 ∷ slice_index xs 3 ∷ []
 four_bytes [] e = absurd (omega (arith, e))
 four_bytes (a ∷ []) e = absurd (omega (arith, e))
 four_bytes (a ∷ b ∷ []) e = absurd (omega (arith, e))

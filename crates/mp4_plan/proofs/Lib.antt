@@ -12,3 +12,4 @@ pub mod PartLists
 pub mod RunLists
 pub mod Refuses
 pub mod Vectors
+pub mod WrittenGroups
