@@ -13,3 +13,4 @@ pub mod RunLists
 pub mod Refuses
 pub mod Vectors
 pub mod WrittenGroups
+pub mod WrittenRun
