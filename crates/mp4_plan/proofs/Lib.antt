@@ -14,3 +14,4 @@ pub mod Refuses
 pub mod Vectors
 pub mod WrittenGroups
 pub mod WrittenRun
+pub mod WrittenFragment
