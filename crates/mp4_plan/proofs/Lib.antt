@@ -15,3 +15,4 @@ pub mod Vectors
 pub mod WrittenGroups
 pub mod WrittenRun
 pub mod WrittenFragment
+pub mod PieceTree

@@ -82,6 +82,7 @@ groups_written samples (key ∷ keys) = ap (λ (l : List ℕ). sbgp_bytes sample
 four_parts : (a b c d : List ℕ) → a ++ b ++ c ++ d ≡ a ++ (b ++ (c ++ d))
 four_parts a b c d = simp append_assoc
 
+-- a `traf` is written as its contents
 pub traf_written : (data_offset : ℕ) (piece : Piece) → traf_payload data_offset piece ≡ written (traf_contents data_offset piece)
 traf_written data_offset piece =
     let tfhd = tfhd_bytes piece in
@@ -90,10 +91,12 @@ traf_written data_offset piece =
     four_parts tfhd time run (flat_map (sbgp_bytes piece.samples) (piece_keys piece.samples))
     ∙ ap (λ (l : List ℕ). tfhd ++ (time ++ (run ++ l))) (groups_written piece.samples (piece_keys piece.samples))
 
-moof_written : (sequence data_offset : ℕ) (piece : Piece) → moof_payload sequence data_offset piece ≡ written (moof_contents sequence data_offset piece)
+-- a `moof` is written as its contents
+pub moof_written : (sequence data_offset : ℕ) (piece : Piece) → moof_payload sequence data_offset piece ≡ written (moof_contents sequence data_offset piece)
 moof_written sequence data_offset piece = ap (λ (l : List ℕ). box_bytes (codes "mfhd") (mfhd_payload sequence) ++ l) (sym (append-nil (traf_bytes data_offset piece)))
 
-all_keyed : (P : List ℕ → Type 0) (samples : List TimedSample) (keys : List GroupKey) → P (codes "sbgp") → AllByRecursion (λ (k : Content). P k.kind) (keyed_contents samples keys)
+-- what holds of the type holds of each `sbgp`
+pub all_keyed : (P : List ℕ → Type 0) (samples : List TimedSample) (keys : List GroupKey) → P (codes "sbgp") → AllByRecursion (λ (k : Content). P k.kind) (keyed_contents samples keys)
 all_keyed P samples [] h = tt
 all_keyed P samples (key ∷ keys) h = (h, all_keyed P samples keys h)
 
@@ -169,7 +172,7 @@ keyed_again samples key few h k =
     group_again key (longest_runs (indexes_at samples key)) k (omega arith) (runs_within (indexes_at samples key) (omega arith) (indexes_within samples key h))
 
 -- the groupings of all
-groups_say : (at : ℕ) (samples : List TimedSample) (keys : List GroupKey) → length samples ≤ 2 ^ 24 → AllByRecursion HasGroups samples → AllByRecursion IsKey keys
+pub groups_say : (at : ℕ) (samples : List TimedSample) (keys : List GroupKey) → length samples ≤ 2 ^ 24 → AllByRecursion HasGroups samples → AllByRecursion IsKey keys
     → groupings_of (placed at (keyed_contents samples keys)) ≡ map (grouped_by samples) keys
 groups_say at samples [] few h k = refl
 groups_say at samples (key ∷ keys) few h k =
@@ -177,7 +180,8 @@ groups_say at samples (key ∷ keys) few h k =
     let others = groups_say (at + (8 + length (group_payload key (longest_runs (indexes_at samples key))))) samples keys few h k.1 in
     λ i. one i ∷ others i
 
-groups_sound : (samples : List TimedSample) (keys : List GroupKey) → length samples ≤ 2 ^ 24 → AllByRecursion HasGroups samples → AllByRecursion IsKey keys
+-- they are sound
+pub groups_sound : (samples : List TimedSample) (keys : List GroupKey) → length samples ≤ 2 ^ 24 → AllByRecursion HasGroups samples → AllByRecursion IsKey keys
     → AllByRecursion (λ (k : Content). IsSoundAs (leaf_of (ruled rules.TrackFragment) k.kind) k.payload) (keyed_contents samples keys)
 groups_sound samples [] few h k = tt
 groups_sound samples (key ∷ keys) few h k = ((keyed_again samples key few h k.0).sound, groups_sound samples keys few h k.1)
@@ -197,13 +201,15 @@ groups_short samples (key ∷ keys) few h k =
 -- ---- the piece
 
 module _ (piece : Piece) (h : IsWritablePiece piece) where
-  the_flags : HeadFlags (first_description piece.samples) (shared_by piece.samples).duration (shared_by piece.samples).size (shared_by piece.samples).flags
+  -- the flags of its `tfhd`
+  pub the_flags : HeadFlags (first_description piece.samples) (shared_by piece.samples).duration (shared_by piece.samples).size (shared_by piece.samples).flags
   the_flags = head_flags_are (first_description piece.samples) (shared_by piece.samples).duration (shared_by piece.samples).size (shared_by piece.samples).flags h.description
       (common_has (λ n. n < 256 ^ 4) (map (λ (s : TimedSample). s.sample.duration) piece.samples) (durations_fit piece.samples h.rows))
       (common_has (λ n. n < 256 ^ 4) (map (λ (s : TimedSample). length s.sample.bytes) piece.samples) (sizes_fit piece.samples h.rows))
       (common_has (λ n. n < 256 ^ 4) (map (λ (s : TimedSample). s.sample.flags) piece.samples) (flags_fit piece.samples h.rows))
 
-  traf_short : (data_offset : ℕ) → data_offset < 2 ^ 31 → length (traf_payload data_offset piece) ≤ 168 + 48 * 2 ^ 24
+  -- its `traf` is short
+  pub traf_short : (data_offset : ℕ) → data_offset < 2 ^ 31 → length (traf_payload data_offset piece) ≤ 168 + 48 * 2 ^ 24
   traf_short data_offset near =
       let few = h.few in
       let four = h.keys in
@@ -226,7 +232,8 @@ module _ (piece : Piece) (h : IsWritablePiece piece) where
         length-box_bytes (codes "trun") (run_payload data_offset (shared_by piece.samples) piece.samples) refl
       )
 
-  moof_is : (sequence data_offset : ℕ) → length (moof_bytes sequence data_offset piece) ≡ 32 + length (traf_payload data_offset piece)
+  -- how long its `moof` is
+  pub moof_is : (sequence data_offset : ℕ) → length (moof_bytes sequence data_offset piece) ≡ 32 + length (traf_payload data_offset piece)
   moof_is sequence data_offset = omega (
     arith,
     length-box_bytes (codes "moof") (moof_payload sequence data_offset piece) refl,
