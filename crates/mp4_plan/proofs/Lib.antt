@@ -16,3 +16,4 @@ pub mod WrittenGroups
 pub mod WrittenRun
 pub mod WrittenFragment
 pub mod PieceTree
+pub mod PieceSays
