@@ -1,6 +1,7 @@
 pub mod Tiling
 pub mod Fields
 pub mod Lying
+pub mod LyingData
 pub mod WrittenBoxes
 pub mod Members
 pub mod Columns

@@ -17,3 +17,4 @@ pub mod WrittenRun
 pub mod WrittenFragment
 pub mod PieceTree
 pub mod PieceSays
+pub mod PieceBoxes

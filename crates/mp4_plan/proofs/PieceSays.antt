@@ -6,9 +6,8 @@ use Rattle.std.specs.List.{AllByRecursion, AllZip, list_all}
 use Rattle.std.proofs.Math.Nat.{mod-eq_of_lt}
 use Rattle.std.proofs.lemmas.Bool.{eqb-true, and_parts}
 use Rattle.std.proofs.lemmas.List.{append-nil, length-map}
-use Rattle.byteorder.specs.Endian.{big_bytes}
 use Rattle.mp4_boxes.specs.Bytes.{unsigned}
-use Rattle.mp4_boxes.specs.Written.{header_bytes, header_length}
+use Rattle.mp4_boxes.specs.Written.{header_length}
 use Rattle.mp4_tables.specs.Groups.{Grouping, maps_of}
 use Rattle.mp4_tables.specs.PlainSamples.{PlacedSample, with_groups}
 use Rattle.mp4_frag.specs.declared.trex.Trex.{Trex}
@@ -87,14 +86,6 @@ module _ (trex : Trex) (data_offset : ℕ) (piece : Piece) where
       (λ e. offsets_none piece.samples fits (flipped (list_all (λ (s : TimedSample). unsigned 4 s.sample.offset == 0) piece.samples) e)) small one
 
 -- ---- where the data lies
-
--- how long the header of an `mdat` is
-pub length-header_bytes : (kind : List ℕ) (n : ℕ) → length kind ≡ 4 → length (header_bytes kind n) ≡ header_length n
-length-header_bytes kind n four = by_size (nat_lt (8 + n) (2 ^ 32))
-  where
-    by_size : (v : Bool) → length (cond v (big_bytes 4 (8 + n) ++ kind) (big_bytes 4 1 ++ kind ++ big_bytes 8 (16 + n))) ≡ cond v 8 16
-    by_size true = omega (arith, four, length-append (big_bytes 4 (8 + n)) kind)
-    by_size false = omega (arith, four, length-append (big_bytes 4 1 ++ kind) (big_bytes 8 (16 + n)), length-append (big_bytes 4 1) kind)
 
 data_is : (samples : List TimedSample) → data_of (untimed_samples samples) ≡ flat_map (λ (s : TimedSample). s.sample.bytes) samples
 data_is [] = refl
