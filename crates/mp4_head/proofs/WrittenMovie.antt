@@ -223,7 +223,8 @@ module _ (movie : MovieHead) (tracks : List TrackHead) (duration : ℕ) (h : IsW
       let one = length-box_bytes (codes "trak") (trak_payload t) refl in
       (omega arith, each_small list (omega arith))
 
-  traks_small : AllByRecursion (λ (t : TrackHead). length (trak_payload t) ≤ 2 ^ 30) tracks
+  -- each `trak` is not too long
+  pub traks_small : AllByRecursion (λ (t : TrackHead). length (trak_payload t) ≤ 2 ^ 30) tracks
   traks_small =
       let le = moov_small in
       each_small tracks (omega (arith, length-append (mvhd_bytes movie (next_track_id tracks) ++ flat_map kept_bytes movie.kept ++ flat_map trak_bytes tracks) (mvex_bytes tracks duration),

@@ -18,3 +18,7 @@ pub mod WrittenFragment
 pub mod PieceTree
 pub mod PieceSays
 pub mod PieceBoxes
+pub mod NormalTree
+pub mod GoodPieces
+pub mod NormalGroups
+pub mod NormalDenotes

@@ -110,7 +110,8 @@ index_within key (group ∷ groups) h = by_test (eqb (key_rank key) (key_rank gr
     by_test true l m = l
     by_test false l m = m
 
-indexes_within : (samples : List TimedSample) (key : GroupKey) → AllByRecursion HasGroups samples → AllByRecursion (λ (index : ℕ). index ≤ max_index) (indexes_at samples key)
+-- the indexes of samples are in range
+pub indexes_within : (samples : List TimedSample) (key : GroupKey) → AllByRecursion HasGroups samples → AllByRecursion (λ (index : ℕ). index ≤ max_index) (indexes_at samples key)
 indexes_within [] key h = tt
 indexes_within (s ∷ samples) key h = (index_within key s.sample.groups h.0.each, indexes_within samples key h.1)
 
