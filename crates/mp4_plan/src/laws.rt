@@ -1,12 +1,27 @@
 //! Laws of the definitions.
 
-ghost use Rattle.mp4_plan.specs.Laws.{DenotesOne, FaultRefuses};
+ghost use Rattle.mp4_plan.specs.Laws.{DenotesOne, FaultRefuses, NormalDenotes, NormalIsExact, NormalIsFixed};
 ghost use Rattle.mp4_plan.specs.PieceLaws.{CutsAreLeast, FragmentsAreLast, PiecesAreDue, PiecesAreLongest, PiecesJoin};
 ghost use Rattle.mp4_present.specs.Stands.{Reason, header, child, missing, leaf, tables, fragment, count, limit, order};
 
 /// A file denotes at most one presentation.
 pub fn denotes_one()
     ensures { DenotesOne }
+{}
+
+/// The normal form of a valid presentation denotes it.
+pub fn normal_denotes()
+    ensures { NormalDenotes }
+{}
+
+/// Normal forms of valid presentations are equal exactly if the presentations are.
+pub fn normal_is_exact()
+    ensures { NormalIsExact }
+{}
+
+/// What a normal form denotes has this normal form: to normalise twice gives the bytes of once.
+pub fn normal_is_fixed()
+    ensures { NormalIsFixed }
 {}
 
 /// The cuts are those of the first track: its first sample, and from each cut on the least sync sample at least a second behind.
