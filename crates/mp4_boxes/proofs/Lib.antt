@@ -7,5 +7,6 @@ pub mod Members
 pub mod Columns
 pub mod Among
 pub mod Each
+pub mod Joined
 pub mod Refusing
 pub mod Vectors

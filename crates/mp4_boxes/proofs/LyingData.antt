@@ -22,6 +22,7 @@ field_at place width bytes = ap (λ (n : ℕ). big_from n width bytes) (sym (add
 
 -- the parts of a box with a header of 16 bytes, with what follows
 module _ (kind payload rest : List ℕ) (four : length kind ≡ 4) (fits : 16 + length payload < 2 ^ 64) where
+  -- its bytes, and what follows
   abbrev pub long_bytes : List ℕ
   long_bytes = (big_bytes 4 1 ++ kind ++ big_bytes 8 (16 + length payload)) ++ (payload ++ rest)
 
@@ -54,6 +55,7 @@ module _ (kind payload rest : List ℕ) (four : length kind ≡ 4) (fits : 16 + 
       let e : ltb (length long_bytes) (field long_bytes 8 8) ≡ false = le-ltb _ _ (omega (arith, size_is, length_is)) in
       rw (a, c, d, e) (λ i. Ok (record { kind = kind_is i; length = 16; size = size_is i }))
 
+  -- the box itself
   abbrev pub long_box : ℕ → Box
   long_box at = record { kind = kind; offset = at; header = 16; payload = payload }
 

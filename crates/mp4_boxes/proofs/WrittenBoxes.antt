@@ -223,14 +223,6 @@ among_has P (k ∷ kinds) kind h e = by_first P k kind (bytes_eq k kind) (is_amo
 abbrev pub AreTypes : List Content → Type 0
 AreTypes contents = AllByRecursion (λ (k : Content). length k.kind ≡ 4) contents
 
--- Each of the contents takes no more bytes than all of them.
-pub sizes_within : (most : ℕ) (contents : List Content) → AreTypes contents → length (written contents) ≤ most → AllByRecursion (λ (k : Content). 8 + length k.payload ≤ most) contents
-sizes_within most [] t h = tt
-sizes_within most (k ∷ contents) t h =
-    let both = length-append (box_bytes k.kind k.payload) (written contents) in
-    let first = length-box_bytes k.kind k.payload t.0 in
-    (omega arith, sizes_within most contents t.1 (omega arith))
-
 -- What was written as boxes, in less than 2^32 bytes, fits headers of 8 bytes.
 pub fits_written : (contents : List Content) → AreTypes contents → length (written contents) < 2 ^ 32 → AllByRecursion FitsBox contents
 fits_written [] t h = tt
@@ -262,11 +254,6 @@ pub all_typed : (P : List ℕ → Type 0) (kind : List ℕ) (payloads : List (Li
 all_typed P kind [] h = tt
 all_typed P kind (payload ∷ payloads) h = (h, all_typed P kind payloads h)
 
--- what holds of a type and of each payload holds of each content
-pub all_payloads : (P : List ℕ → Type 0) (kind : List ℕ) (payloads : List (List ℕ)) → AllByRecursion P payloads → AllByRecursion (λ (k : Content). P k.payload) (map (typed kind) payloads)
-all_payloads P kind [] h = tt
-all_payloads P kind (payload ∷ payloads) h = (h.0, all_payloads P kind payloads h.1)
-
 -- their bytes
 pub typed_written : (kind : List ℕ) (payloads : List (List ℕ)) → flat_map (box_bytes kind) payloads ≡ written (map (typed kind) payloads)
 typed_written kind [] = refl
@@ -282,6 +269,7 @@ pub count_around : (kinds : List (List ℕ)) (front middle back : List Content) 
 count_around kinds front middle back h =
     omega (arith, count_written-append kinds front (middle ++ back), count_written-append kinds middle back, count_none kinds middle h)
 
+-- the same where none behind has one
 pub count_before : (kinds : List (List ℕ)) (front back : List Content) → HaveNone kinds back → count_written kinds (front ++ back) ≡ count_written kinds front
 count_before kinds front back h = omega (arith, count_written-append kinds front back, count_none kinds back h)
 
@@ -290,12 +278,3 @@ pub payloads_between : (kind : List ℕ) (at : ℕ) (front middle back : List Co
     → map (λ (b : Box). b.payload) (of_kind kind (placed at (front ++ (middle ++ back)))) ≡ map (λ (k : Content). k.payload) middle
 payloads_between kind at front middle back f g other this others =
     ap (map (λ (b : Box). b.payload)) (of_kind-between kind at front middle back f g other this others) ∙ payloads_placed (at + length (written front)) middle
-
--- what fits, of two lists joined
-pub fits_first : (xs ys : List Content) → AllByRecursion FitsBox (xs ++ ys) → AllByRecursion FitsBox xs
-fits_first [] ys h = tt
-fits_first (x ∷ xs) ys h = (h.0, fits_first xs ys h.1)
-
-pub fits_last : (xs ys : List Content) → AllByRecursion FitsBox (xs ++ ys) → AllByRecursion FitsBox ys
-fits_last [] ys h = h
-fits_last (x ∷ xs) ys h = fits_last xs ys h.1

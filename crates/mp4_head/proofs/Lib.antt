@@ -9,3 +9,4 @@ pub mod WrittenTrack
 pub mod WrittenTrackHead
 pub mod WrittenMovie
 pub mod WrittenTables
+pub mod WrittenHead

@@ -18,6 +18,7 @@ short_again (negsuc n) h =
     let ge : ltb (2 ^ 16 - suc n) (2 ^ 15) ≡ false = le-ltb _ _ (omega (arith, h.sfits)) in
     rw ge (omega (arith, ints))
 
+-- of eight bytes
 pub long_again : (z : ℤ) → FitsSigned w64 z → twos_complement 8 (unsigned 8 z) ≡ z
 long_again (pos n) h = let lt : ltb n (2 ^ 63) ≡ true = lt-ltb _ _ h.sfits in rw lt refl
 long_again (negsuc n) h =
@@ -29,10 +30,12 @@ pub short_fits : (z : ℤ) → FitsSigned w16 z → unsigned 2 z < 256 ^ 2
 short_fits (pos n) h = omega (arith, h.sfits)
 short_fits (negsuc n) h = omega arith
 
+-- of four bytes
 pub signed_fits : (z : ℤ) → FitsSigned w32 z → unsigned 4 z < 256 ^ 4
 signed_fits (pos n) h = omega (arith, h.sfits)
 signed_fits (negsuc n) h = omega arith
 
+-- of eight bytes
 pub long_fits : (z : ℤ) → FitsSigned w64 z → unsigned 8 z < 256 ^ 8
 long_fits (pos n) h = omega (arith, h.sfits)
 long_fits (negsuc n) h = omega arith
@@ -44,6 +47,7 @@ row_fits zero (z ∷ zs) widths values e h f = absurd (omega (arith, e))
 row_fits (suc n) [] widths values e h f = absurd (omega (arith, e))
 row_fits (suc n) (z ∷ zs) widths values e h f = (signed_fits z h.0, row_fits n zs widths values (omega (arith, e)) h.1 f)
 
+-- numbers of four bytes each are read again
 pub row_again : (zs : List ℤ) → AllByRecursion (FitsSigned w32) zs → map (twos_complement 4) (map (unsigned 4) zs) ≡ zs
 row_again [] h = refl
 row_again (z ∷ zs) h = λ i. signed_again z h.0 i ∷ row_again zs h.1 i

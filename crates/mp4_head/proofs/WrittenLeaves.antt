@@ -32,12 +32,15 @@ not_zero n h = ne_eqb n 0 (λ e. omega arith)
 
 -- ---- `mvhd`
 
+-- the numbers of an `mvhd`
 abbrev pub mvhd_numbers : MovieHead → ℕ → List ℕ
 mvhd_numbers m next_track_id = 1 ∷ 0 ∷ m.creation ∷ m.modification ∷ m.timescale ∷ 0 ∷ unsigned 4 m.rate ∷ unsigned 2 m.volume ∷ 0 ∷ 0 ∷ 0 ∷ (map (unsigned 4) m.matrix ++ replicate 6 0 ++ next_track_id ∷ [])
 
+-- its payload
 abbrev pub mvhd_payload : MovieHead → ℕ → List ℕ
 mvhd_payload m next_track_id = spelled (fields mvhd 1) (mvhd_numbers m next_track_id)
 
+-- they fit
 mvhd_fits : (m : MovieHead) (next_track_id : ℕ) → IsMovieHead m → next_track_id < 2 ^ 32 → FitWidths (fields mvhd 1) (mvhd_numbers m next_track_id)
 mvhd_fits m next_track_id h lt =
     let row = row_fits 9 m.matrix (replicate 6 4 ++ 4 ∷ []) (replicate 6 0 ++ next_track_id ∷ []) h.matrix.nine h.matrix.fits (lit< tt, (lit< tt, (lit< tt, (lit< tt, (lit< tt, (lit< tt, (lt, tt))))))) in
@@ -45,9 +48,11 @@ mvhd_fits m next_track_id h lt =
     (lit< tt, (lit< tt, (h.creation, (h.modification, (h.timescale, (lit< tt, (signed_fits m.rate h.rate, (short_fits m.volume h.volume, (lit< tt, (lit< tt, (lit< tt,
     subst (λ (values : List ℕ). FitWidths (replicate 9 4 ++ (replicate 6 4 ++ 4 ∷ [])) values) regrouped row)))))))))))
 
+-- they are read again
 pub mvhd_again : (m : MovieHead) (next_track_id : ℕ) → IsMovieHead m → next_track_id < 2 ^ 32 → leaf_fields mvhd (mvhd_payload m next_track_id) ≡ mvhd_numbers m next_track_id
 mvhd_again m next_track_id h lt = alone_again (fields mvhd 1) (mvhd_numbers m next_track_id) (mvhd_fits m next_track_id h lt)
 
+-- it is sound
 pub mvhd_sound : (m : MovieHead) (next_track_id : ℕ) → IsMovieHead m → next_track_id < 2 ^ 32 → IsSound mvhd (mvhd_payload m next_track_id)
 mvhd_sound m next_track_id h lt = record {
   readable = record { version = refl; flags = refl; room = omega (arith, length-spelled (fields mvhd 1) (mvhd_numbers m next_track_id) (mvhd_fits m next_track_id h lt)) };
@@ -68,20 +73,25 @@ movie_again m next_track_id h ns e kept k =
 
 -- ---- `tkhd`
 
+-- the numbers of a `tkhd`
 abbrev pub tkhd_numbers : TrackHead → List ℕ
 tkhd_numbers t = 1 ∷ t.flags ∷ t.creation ∷ t.modification ∷ t.id ∷ 0 ∷ 0 ∷ 0 ∷ 0 ∷ unsigned 2 t.layer ∷ unsigned 2 t.alternate_group ∷ unsigned 2 t.volume ∷ 0 ∷ (map (unsigned 4) t.matrix ++ t.width ∷ t.height ∷ [])
 
+-- its payload
 abbrev pub tkhd_payload : TrackHead → List ℕ
 tkhd_payload t = spelled (fields tkhd 1) (tkhd_numbers t)
 
+-- they fit
 tkhd_fits : (t : TrackHead) → IsTrackHead t → FitWidths (fields tkhd 1) (tkhd_numbers t)
 tkhd_fits t h =
     let row = row_fits 9 t.matrix (4 ∷ 4 ∷ []) (t.width ∷ t.height ∷ []) h.matrix.nine h.matrix.fits (h.width, (h.height, tt)) in
     (lit< tt, (h.flags, (h.creation, (h.modification, (h.id, (lit< tt, (lit< tt, (lit< tt, (lit< tt, (short_fits t.layer h.layer, (short_fits t.alternate_group h.alternate_group, (short_fits t.volume h.volume, (lit< tt, row)))))))))))))
 
+-- they are read again
 pub tkhd_again : (t : TrackHead) → IsTrackHead t → leaf_fields tkhd (tkhd_payload t) ≡ tkhd_numbers t
 tkhd_again t h = alone_again (fields tkhd 1) (tkhd_numbers t) (tkhd_fits t h)
 
+-- it is sound
 pub tkhd_sound : (t : TrackHead) → IsTrackHead t → IsSound tkhd (tkhd_payload t)
 tkhd_sound t h = record {
   readable = record { version = refl; flags = refl; room = omega (arith, length-spelled (fields tkhd 1) (tkhd_numbers t) (tkhd_fits t h)) };
@@ -109,6 +119,7 @@ track_again t h ns e edits d kept k media m groups g =
 
 -- ---- the other leaves
 
+-- an `mdhd` is sound
 pub mdhd_sound : (m : Media) → IsMedia m → IsSound mdhd (spelled (fields mdhd 1) (mdhd_numbers m))
 mdhd_sound m h = record {
   readable = record { version = refl; flags = refl; room = lit≤ tt };
@@ -117,23 +128,29 @@ mdhd_sound m h = record {
   offsets = refl;
 }
 
+-- a handler of enough bytes is sound
 pub hdlr_sound : (m : Media) → IsMedia m → IsSound hdlr m.handler
 hdlr_sound m h = record { readable = record { version = refl; flags = refl; room = h.handler_room }; value = refl; inside = refl; offsets = refl }
 
+-- the payload of an `elst`
 abbrev pub elst_payload : List Edit → List ℕ
 elst_payload edits = spelled (fields elst 1) (1 ∷ 0 ∷ length edits ∷ []) ++ flat_map edit_bytes edits
 
+-- the numbers of an edit
 abbrev pub edit_numbers : Edit → List ℕ
 edit_numbers e = e.segment_duration ∷ unsigned 8 e.media_time ∷ unsigned 2 e.rate_integer ∷ unsigned 2 e.rate_fraction ∷ []
 
+-- edits are written as rows
 edits_spelled : (edits : List Edit) → flat_map edit_bytes edits ≡ flat_map (spelled (row elst 1)) (map edit_numbers edits)
 edits_spelled [] = refl
 edits_spelled (e ∷ edits) = ap (λ (l : List ℕ). edit_bytes e ++ l) (edits_spelled edits)
 
+-- the rows fit
 edits_fit : (edits : List Edit) → AllByRecursion IsEdit edits → AllFit (row elst 1) (map edit_numbers edits)
 edits_fit [] h = none
 edits_fit (e ∷ edits) h = more (h.0.segment_duration, (long_fits e.media_time h.0.media_time, (short_fits e.rate_integer h.0.rate_integer, (short_fits e.rate_fraction h.0.rate_fraction, tt)))) (edits_fit edits h.1)
 
+-- an edit is read again from its numbers
 edit_again : (e : Edit) → IsEdit e → edit_of 1 (edit_numbers e) ≡ e
 edit_again e h =
     let time = long_again e.media_time h.media_time in
@@ -141,6 +158,7 @@ edit_again e h =
     let part = short_again e.rate_fraction h.rate_fraction in
     λ i. record { segment_duration = e.segment_duration; media_time = time i; rate_integer = whole i; rate_fraction = part i }
 
+-- so is each of a list
 each_again : (edits : List Edit) → AllByRecursion IsEdit edits → map (edit_of 1) (map edit_numbers edits) ≡ edits
 each_again [] h = refl
 each_again (e ∷ edits) h = λ i. edit_again e h.0 i ∷ each_again edits h.1 i
@@ -150,6 +168,7 @@ pub length-edits : (edits : List Edit) → length (flat_map edit_bytes edits) �
 length-edits [] = refl
 length-edits (e ∷ edits) = omega (arith, length-append (edit_bytes e) (flat_map edit_bytes edits), length-edits edits)
 
+-- the number of edits is read again
 edit_count : (edits : List Edit) → length edits < 2 ^ 32 → field (elst_payload edits) 4 4 ≡ length edits
 edit_count edits lt = field_again 4 (length edits) (flat_map edit_bytes edits) lt
 
@@ -164,6 +183,7 @@ edits_again edits h lt =
     ∙ ap (map (edit_of 1)) (rows_again (row elst 1) table [] (edits_fit edits h))
     ∙ each_again edits h
 
+-- an `elst` is sound
 pub elst_sound : (edits : List Edit) → length edits < 2 ^ 32 → IsSound elst (elst_payload edits)
 elst_sound edits lt = record {
   readable = record { version = refl; flags = refl; room = omega (arith, edit_count edits lt, length-edits edits) };
@@ -172,12 +192,15 @@ elst_sound edits lt = record {
   offsets = refl;
 }
 
+-- the payload of an `stsd`
 abbrev pub stsd_payload : List Kept → List ℕ
 stsd_payload descriptions = spelled (fields stsd 0) (0 ∷ 0 ∷ length descriptions ∷ []) ++ flat_map kept_bytes descriptions
 
+-- the number of descriptions is read again
 pub stsd_count : (descriptions : List Kept) → length descriptions < 2 ^ 32 → field (stsd_payload descriptions) 4 4 ≡ length descriptions
 stsd_count descriptions lt = field_again 4 (length descriptions) (flat_map kept_bytes descriptions) lt
 
+-- an `stsd` is sound
 pub stsd_sound : (descriptions : List Kept) → IsSound stsd (stsd_payload descriptions)
 stsd_sound descriptions = record { readable = record { version = refl; flags = refl; room = omega arith }; value = refl; inside = refl; offsets = refl }
 
@@ -185,6 +208,7 @@ stsd_sound descriptions = record { readable = record { version = refl; flags = r
 pub entry_field : (payload : List ℕ) → field (drop 6 payload) 0 2 ≡ field payload 6 2
 entry_field payload = λ i. get_or-drop 6 payload 0 0 i * 256 ^ 1 + (get_or-drop 6 payload 1 0 i * 256 ^ 0 + 0)
 
+-- a description is sound
 pub sample_entry_sound : (k : Kept) → IsDescription k → IsSound sample_entry k.payload
 sample_entry_sound k h = record {
   readable = record { version = refl; flags = refl; room = h.room };
@@ -193,12 +217,15 @@ sample_entry_sound k h = record {
   offsets = refl;
 }
 
+-- a description of groups is sound
 pub sgpd_sound : (payload : List ℕ) → IsGroupDescription payload → IsSound sgpd payload
 sgpd_sound payload h = record { readable = record { version = le-leb (version payload) 1 h.version; flags = refl; room = h.room }; value = refl; inside = refl; offsets = refl }
 
+-- the payload of a `trex`
 abbrev pub trex_payload : ℕ → List ℕ
 trex_payload id = spelled (fields trex 0) (0 ∷ 0 ∷ id ∷ 1 ∷ 0 ∷ 0 ∷ 0 ∷ [])
 
+-- a `trex` is sound
 pub trex_sound : (id : ℕ) → IsSound trex (trex_payload id)
 trex_sound id = record { readable = record { version = refl; flags = refl; room = lit≤ tt }; value = refl; inside = refl; offsets = refl }
 

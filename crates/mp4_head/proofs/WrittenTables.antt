@@ -19,6 +19,7 @@ use Rattle.mp4_head.proofs.WrittenTrack.{information_boxes, table_boxes, track_t
 use Rattle.mp4_head.proofs.WrittenTrackHead.{table_sound}
 use Rattle.mp4_head.proofs.WrittenMovie.{tracks_at}
 
+-- tables without rows
 abbrev pub no_tables : Tables
 no_tables = record { sizes = []; durations = []; offsets = None; chunk_rows = []; chunk_offsets = []; sync = None; dependencies = None; groups = [] }
 
@@ -26,6 +27,7 @@ no_tables = record { sizes = []; durations = []; offsets = None; chunk_rows = []
 not_there : (kind : List ℕ) (at : ℕ) (descriptions : List Kept) (groups : List (List ℕ)) → AreOther kind (table_contents descriptions groups) → payload_if kind (placed at (table_contents descriptions groups)) ≡ None
 not_there kind at descriptions groups h = payload_placed kind at (table_contents descriptions groups) ∙ found_none kind (table_contents descriptions groups) h
 
+-- the tables of an `stbl` at a place
 tables_from : (at : ℕ) (descriptions : List Kept) (groups : List (List ℕ)) → tables_of (placed at (table_contents descriptions groups)) ≡ no_tables
 tables_from at descriptions groups =
     let other = λ (kind : List ℕ) (e : bytes_eq kind (codes "sgpd") ≡ false). all_typed (λ k. bytes_eq kind k ≡ false) (codes "sgpd") groups e in
@@ -56,8 +58,3 @@ none_fit s (table_group rule k) = refl
 pub tables_sound : (at : ℕ) (tracks : List TrackHead) → AllByRecursion IsTrackHead tracks → AllByRecursion (λ (t : TrackTree). AreSound (ruled rules.SampleTable) t.table) (tracks_at at tracks)
 tables_sound at [] h = tt
 tables_sound at (t ∷ tracks) h = (table_sound at t h.0, tables_sound (at + (8 + length (trak_payload t))) tracks h.1)
-
--- What holds of the tree of each written `trak` holds of each of them.
-pub all_tracks_at : (P : TrackTree → Type 0) (Q : TrackHead → Type 0) → ((at : ℕ) (t : TrackHead) → Q t → P (track_tree at t)) → (at : ℕ) (tracks : List TrackHead) → AllByRecursion Q tracks → AllByRecursion P (tracks_at at tracks)
-all_tracks_at P Q each at [] h = tt
-all_tracks_at P Q each at (t ∷ tracks) h = (each at t h.0, all_tracks_at P Q each (at + (8 + length (trak_payload t))) tracks h.1)

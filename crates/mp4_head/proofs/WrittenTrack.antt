@@ -17,10 +17,11 @@ use Rattle.mp4_head.specs.Tree.{TrackTree, first_of, first_among, HoldsIfThere, 
 use Rattle.mp4_head.specs.Writing.{edts_bytes, tkhd_bytes, kept_bytes, edit_bytes}
 use Rattle.mp4_head.proofs.Again.{mdhd_numbers, mdhd_again}
 use Rattle.mp4_head.proofs.WrittenLeaves.{tkhd_payload, tkhd_numbers, tkhd_again, tkhd_sound, track_again, mdhd_sound, hdlr_sound, elst_payload, elst_sound, edits_again, length-edits, stsd_payload, stsd_sound, sample_entry_sound, sgpd_sound}
-use Rattle.mp4_head.proofs.WrittenContents.{content_of, contents_of, all_kept, first_written, payload_written, fits_in, url_content, dref_payload, dinf_payload, dinf_contents, dinf_holds, dref_tiles, table_front, group_contents, table_contents, stbl_payload, stbl_written, table_types, stbl_holds, stsd_tiles, information_contents, minf_payload, minf_written, header_has, minf_types, minf_holds, dinf_found, stbl_found, media_front, language_contents, media_back, media_contents, mdia_payload, mdia_written, all_media, mdia_holds, minf_found, edits_contents, edts_contents, track_front, track_middle, track_back, track_contents, trak_payload, trak_written, all_middle, all_track, trak_holds, mdia_found}
+use Rattle.mp4_head.proofs.WrittenContents.{content_of, contents_of, all_kept, first_written, fits_in, url_content, dref_payload, dinf_payload, dinf_contents, dinf_holds, dref_tiles, table_front, group_contents, table_contents, stbl_payload, stbl_written, table_types, stbl_holds, stsd_tiles, information_contents, minf_payload, minf_written, header_has, minf_types, minf_holds, dinf_found, stbl_found, media_front, language_contents, media_back, media_contents, mdia_payload, mdia_written, all_media, mdia_holds, minf_found, edits_contents, edts_contents, track_front, track_middle, track_back, track_contents, trak_payload, trak_written, all_middle, all_track, trak_holds, mdia_found}
 
 -- ---- the tree
 
+-- the `trak` of a track
 abbrev pub trak_content : TrackHead → Content
 trak_content t = typed (codes "trak") (trak_payload t)
 
@@ -33,15 +34,19 @@ edits_in (b ∷ more) edits = children b (edits_contents edits)
 abbrev pub track_boxes : ℕ → TrackHead → List Box
 track_boxes at t = children (placed_box at (trak_content t)) (track_contents t)
 
+-- those in its `mdia`
 abbrev pub media_boxes : ℕ → TrackHead → List Box
 media_boxes at t = children (first_of (codes "mdia") (track_boxes at t)) (media_contents t.media t.group_descriptions)
 
+-- those in its `minf`
 abbrev pub information_boxes : ℕ → TrackHead → List Box
 information_boxes at t = children (first_of (codes "minf") (media_boxes at t)) (information_contents t.media.header t.media.descriptions t.group_descriptions)
 
+-- those in its `dinf`
 abbrev pub data_boxes : ℕ → TrackHead → List Box
 data_boxes at t = children (first_of (codes "dinf") (information_boxes at t)) dinf_contents
 
+-- those in its `stbl`
 abbrev pub table_boxes : ℕ → TrackHead → List Box
 table_boxes at t = children (first_of (codes "stbl") (information_boxes at t)) (table_contents t.media.descriptions t.group_descriptions)
 
@@ -49,6 +54,7 @@ table_boxes at t = children (first_of (codes "stbl") (information_boxes at t)) (
 abbrev pub entries : Box → List Content → List Box
 entries b contents = placed (b.offset + b.header + 8) contents
 
+-- the tree of the `trak`
 abbrev pub track_tree : ℕ → TrackHead → TrackTree
 track_tree at t = record {
   trak = placed_box at (trak_content t);
@@ -64,16 +70,19 @@ track_tree at t = record {
 
 -- ---- `edts`
 
+-- an `elst` is no longer than its `edts`
 elst_within : (edits : List Edit) → length (elst_payload edits) ≤ 8 + length (edts_bytes edits)
 elst_within [] = lit≤ tt
 elst_within (e ∷ edits) = omega arith
 
+-- an `elst` is not too long
 elst_small : (t : TrackHead) → length (trak_payload t) ≤ 2 ^ 30 → length (elst_payload t.edits) < 2 ^ 31
 elst_small t le =
     let kept = flat_map kept_bytes t.kept in
     let mdia = box_bytes (codes "mdia") (mdia_payload t.media t.group_descriptions) in
     omega (arith, elst_within t.edits, length-append (tkhd_bytes t ++ edts_bytes t.edits ++ kept) mdia, length-append (tkhd_bytes t ++ edts_bytes t.edits) kept, length-append (tkhd_bytes t) (edts_bytes t.edits))
 
+-- there are not too many edits
 few_edits : (edits : List Edit) → length (elst_payload edits) < 2 ^ 31 → length edits < 2 ^ 31
 few_edits edits le = omega (arith, length-edits edits, length-append (spelled (fields elst 1) (1 ∷ 0 ∷ length edits ∷ [])) (flat_map edit_bytes edits))
 
@@ -86,6 +95,7 @@ edts_cases P at payload (e ∷ edits) others h none some =
     some (placed_box (at + (8 + length payload)) (typed (codes "edts") (box_bytes (codes "elst") (elst_payload (e ∷ edits)))))
     (of_kind (codes "edts") (placed (at + (8 + length payload) + (8 + length (box_bytes (codes "elst") (elst_payload (e ∷ edits))))) others)) e edits refl refl
 
+-- the same for the boxes of a `trak`
 track_cases : (P : List Box → List Edit → Type 0) (at : ℕ) (t : TrackHead) → IsTrackHead t → P [] []
     → ((b : Box) (more : List Box) (e : Edit) (es : List Edit) → e ∷ es ≡ t.edits → b.payload ≡ box_bytes (codes "elst") (elst_payload (e ∷ es)) → P (b ∷ more) (e ∷ es))
     → P (of_kind (codes "edts") (track_boxes at t)) t.edits
@@ -95,10 +105,12 @@ track_cases P at t h none some =
     subst (λ (l : List Content). P (of_kind (codes "edts") (placed (at + 8) (typed (codes "tkhd") (tkhd_payload t) ∷ l))) t.edits) (sym (append_assoc (edts_contents t.edits) (contents_of t.kept) (track_back t)))
     (edts_cases P (at + 8) (tkhd_payload t) t.edits others other none some)
 
+-- an `edts` holds its `elst`
 elst_holds : (b : Box) (edits : List Edit) → b.payload ≡ box_bytes (codes "elst") (elst_payload edits) → length (elst_payload edits) < 2 ^ 31 → Holds rules.Edits (box_container b) (children b (edits_contents edits))
 elst_holds b edits e lt =
     holds_written rules.Edits b (edits_contents edits) (e ∙ sym (append-nil (box_bytes (codes "elst") (elst_payload edits)))) (record { kind = refl; size = omega arith }, tt) (refl, tt) (lit≤ tt, tt)
 
+-- the `edts` holds its boxes, if it is there
 pub edts_hold : (at : ℕ) (t : TrackHead) → IsTrackHead t → length (trak_payload t) ≤ 2 ^ 30 → HoldsIfThere rules.Edits (of_kind (codes "edts") (track_boxes at t)) (edits_in (of_kind (codes "edts") (track_boxes at t)) t.edits)
 edts_hold at t h le =
     track_cases (λ bs edits. HoldsIfThere rules.Edits bs (edits_in bs edits)) at t h refl
@@ -139,6 +151,7 @@ pub record HasInner (at : ℕ) (t : TrackHead) : Type 0 where
   pub table_small : length (stbl_payload t.media.descriptions t.group_descriptions) ≤ 2 ^ 30
   pub stsd_small : length (stsd_payload t.media.descriptions) ≤ 2 ^ 30
 
+-- they are found in a `trak` that is not too long
 pub has_inner : (at : ℕ) (t : TrackHead) → IsTrackHead t → length (trak_payload t) ≤ 2 ^ 30 → HasInner at t
 has_inner at t h le =
     let m = t.media in

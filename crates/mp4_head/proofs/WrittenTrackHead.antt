@@ -10,7 +10,8 @@ use Rattle.mp4_boxes.specs.Layout.{Leaf, mdhd, tkhd, dref, stsd, leaf_fields, Is
 use Rattle.mp4_boxes.specs.Places.{Scope, ruled, data_entries, sample_entries, kept_kinds, leaf_of, IsSoundAs, AreSound}
 use Rattle.mp4_boxes.specs.declared.rule.Rule.TheVariants as rules
 use Rattle.mp4_boxes.proofs.Among.{all_append}
-use Rattle.mp4_boxes.proofs.WrittenBoxes.{Content, written, placed, placed_box, children, FitsBox, HaveNone, fits_first, fits_last, typed, all_placed, all_typed, all_payloads, typed_payloads, payloads_between}
+use Rattle.mp4_boxes.proofs.Joined.{all_first, all_last}
+use Rattle.mp4_boxes.proofs.WrittenBoxes.{Content, written, placed, placed_box, children, FitsBox, HaveNone, typed, all_placed, all_typed, typed_payloads, payloads_between}
 use Rattle.mp4_head.specs.Head.{Kept, Edit, Media, TrackHead, IsKept, IsDescription, IsGroupDescription, IsMedia, IsTrackHead}
 use Rattle.mp4_head.specs.Tree.{TrackTree, first_of, first_among, kept_among, edits_of, media_of, track_head_of, NameNoItems, IsSoundTrack}
 use Rattle.mp4_head.proofs.Again.{mdhd_numbers, mdhd_again}
@@ -25,21 +26,25 @@ abbrev kept_of : List (List ℕ) → List Content → List Kept
 kept_of kinds [] = []
 kept_of kinds (k ∷ contents) = cond (is_among kinds k.kind) (record { kind = k.kind; payload = k.payload } ∷ kept_of kinds contents) (kept_of kinds contents)
 
+-- the first box is kept or not
 keep_case : (kinds : List (List ℕ)) (b : Box) (bs : List Box) (v : Bool) → is_among kinds b.kind ≡ v
     → kept_among kinds (b ∷ bs) ≡ cond v (record { kind = b.kind; payload = b.payload } ∷ kept_among kinds bs) (kept_among kinds bs)
 keep_case kinds b bs true e = rw e refl
 keep_case kinds b bs false e = rw e refl
 
+-- what is kept of boxes is what is kept of contents
 kept_placed : (kinds : List (List ℕ)) (at : ℕ) (contents : List Content) → kept_among kinds (placed at contents) ≡ kept_of kinds contents
 kept_placed kinds at [] = refl
 kept_placed kinds at (k ∷ contents) =
     keep_case kinds (record { kind = k.kind; offset = at; header = 8; payload = k.payload }) (placed (at + (8 + length k.payload)) contents) (is_among kinds k.kind) refl
     ∙ ap (λ (l : List Kept). cond (is_among kinds k.kind) (record { kind = k.kind; payload = k.payload } ∷ l) l) (kept_placed kinds (at + (8 + length k.payload)) contents)
 
+-- nothing is kept of contents of other types
 kept_behind : (kinds : List (List ℕ)) (front back : List Content) → HaveNone kinds front → kept_of kinds (front ++ back) ≡ kept_of kinds back
 kept_behind kinds [] back h = refl
 kept_behind kinds (k ∷ front) back h = rw h.0 (kept_behind kinds front back h.1)
 
+-- kept boxes in front are kept
 kept_front : (kinds : List (List ℕ)) (kept : List Kept) (back : List Content) → AllByRecursion (IsKept kinds) kept → kept_of kinds (contents_of kept ++ back) ≡ kept ++ kept_of kinds back
 kept_front kinds [] back h = refl
 kept_front kinds (k ∷ kept) back h = let e : is_among kinds k.kind ≡ true = h.0.kind in rw e (ap (λ (l : List Kept). k ∷ l) (kept_front kinds kept back h.1))
@@ -59,6 +64,7 @@ pub name_none : (kinds : List (List ℕ)) (kept : List Kept) → AllByRecursion 
 name_none kinds [] h = tt
 name_none kinds (k ∷ kept) h = (h.0.no_item_location, name_none kinds kept h.1)
 
+-- what is kept of a `trak`
 track_kept : (at : ℕ) (t : TrackHead) → IsTrackHead t → kept_among (kept_kinds rules.Track) (track_boxes at t) ≡ t.kept
 track_kept at t h =
     let kinds = kept_kinds rules.Track in
@@ -68,24 +74,29 @@ track_kept at t h =
 
 -- ---- media
 
+-- a box as it is kept
 abbrev kept_box : Box → Kept
 kept_box b = record { kind = b.kind; payload = b.payload }
 
+-- descriptions are kept as they are
 descriptions_kept : (at : ℕ) (descriptions : List Kept) → map (λ (b : Box). record { kind = b.kind; payload = b.payload }) (placed at (contents_of descriptions)) ≡ descriptions
 descriptions_kept at [] = refl
 descriptions_kept at (k ∷ descriptions) = ap (λ (l : List Kept). k ∷ l) (descriptions_kept (at + (8 + length k.payload)) descriptions)
 
+-- the languages are read again
 languages_say : (at : ℕ) (m : Media) (groups : List (List ℕ)) → length (mdia_payload m groups) ≤ 2 ^ 30 → map (λ (b : Box). b.payload) (of_kind (codes "elng") (placed at (media_contents m groups))) ≡ m.extended_languages
 languages_say at m groups le =
     let payload = mdia_payload m groups in
     let fits = fits_in payload (media_contents m groups) (mdia_written m groups) (all_media (λ kind. length kind ≡ 4) m groups refl refl refl refl) le in
-    payloads_between (codes "elng") at (media_front m) (language_contents m) (media_back m groups) (fits.0, (fits.1.0, tt)) (fits_first (language_contents m) (media_back m groups) fits.1.1) (refl, (refl, tt))
+    payloads_between (codes "elng") at (media_front m) (language_contents m) (media_back m groups) (fits.0, (fits.1.0, tt)) (all_first FitsBox (language_contents m) (media_back m groups) fits.1.1) (refl, (refl, tt))
     (all_typed (λ kind. bytes_eq (codes "elng") kind ≡ true) (codes "elng") m.extended_languages refl) (refl, tt)
     ∙ typed_payloads (codes "elng") m.extended_languages
 
+-- the media header is the first of its types
 header_first : (b : Box) (bs : List Box) → is_among media_headers b.kind ≡ true → first_among media_headers (b ∷ bs) ≡ b
 header_first b bs e = rw e refl
 
+-- the media are read again
 media_say : (at : ℕ) (t : TrackHead) → IsTrackHead t → length (mdia_payload t.media t.group_descriptions) ≤ 2 ^ 30 → media_of (track_tree at t) ≡ t.media
 media_say at t h le =
     let m = t.media in
@@ -100,13 +111,14 @@ media_say at t h le =
     λ i. record { creation = slice_index (ns i) 2; modification = slice_index (ns i) 3; timescale = slice_index (ns i) 4; language = slice_index (ns i) 6; handler = m.handler;
     extended_languages = languages i; header = header i; descriptions = entries i }
 
+-- the descriptions of groups are read again
 groups_say : (at : ℕ) (descriptions : List Kept) (groups : List (List ℕ)) → length (stbl_payload descriptions groups) ≤ 2 ^ 30
     → map (λ (b : Box). b.payload) (of_kind (codes "sgpd") (placed at (table_contents descriptions groups))) ≡ groups
 groups_say at descriptions groups le =
     let front = table_front descriptions in
     let fits = fits_in (stbl_payload descriptions groups) (table_contents descriptions groups) (stbl_written descriptions groups) (table_types descriptions groups) le in
     ap (λ (l : List Content). map (λ (b : Box). b.payload) (of_kind (codes "sgpd") (placed at (front ++ l)))) (sym (append-nil (group_contents groups)))
-    ∙ payloads_between (codes "sgpd") at front (group_contents groups) [] (fits_first front (group_contents groups) fits) (fits_last front (group_contents groups) fits) (refl, (refl, (refl, (refl, (refl, tt)))))
+    ∙ payloads_between (codes "sgpd") at front (group_contents groups) [] (all_first FitsBox front (group_contents groups) fits) (all_last FitsBox front (group_contents groups) fits) (refl, (refl, (refl, (refl, (refl, tt)))))
     (all_typed (λ kind. bytes_eq (codes "sgpd") kind ≡ true) (codes "sgpd") groups refl) tt
     ∙ typed_payloads (codes "sgpd") groups
 
@@ -136,6 +148,7 @@ unread scope (k ∷ contents) h = (unread_one (leaf_of scope k.kind) k.payload h
 pub sound_placed : (scope : Scope) (at : ℕ) (contents : List Content) → AllByRecursion (λ (k : Content). IsSoundAs (leaf_of scope k.kind) k.payload) contents → AreSound scope (placed at contents)
 sound_placed scope at contents h = all_placed (λ kind payload. IsSoundAs (leaf_of scope kind) payload) at contents h
 
+-- the leaves of a `trak` itself are sound
 track_sound : (at : ℕ) (t : TrackHead) → IsTrackHead t → AreSound (ruled rules.Track) (track_boxes at t)
 track_sound at t h =
     let Sound = λ (k : Content). IsSoundAs (leaf_of (ruled rules.Track) k.kind) k.payload in
@@ -146,16 +159,19 @@ track_sound at t h =
     (unread (ruled rules.Track) (contents_of t.kept) (all_kept Unread (kept_kinds rules.Track) t.kept (refl, (refl, (refl, tt))) h.kept)))
     (tt, tt))
 
+-- those of an `mdia` are
 media_sound : (at : ℕ) (m : Media) (groups : List (List ℕ)) → IsMedia m → AreSound (ruled rules.Media) (placed at (media_contents m groups))
 media_sound at m groups h =
     let Sound = λ (k : Content). IsSoundAs (leaf_of (ruled rules.Media) k.kind) k.payload in
     sound_placed (ruled rules.Media) at (media_contents m groups) (mdhd_sound m h, (hdlr_sound m h,
     all_append Sound (language_contents m) (media_back m groups) (unread (ruled rules.Media) (language_contents m) (all_typed (λ kind. leaf_of (ruled rules.Media) kind ≡ None) (codes "elng") m.extended_languages refl)) (tt, tt)))
 
+-- the entries of an `stsd` are
 descriptions_sound : (at : ℕ) (descriptions : List Kept) → AllByRecursion IsDescription descriptions → AreSound sample_entries (placed at (contents_of descriptions))
 descriptions_sound at [] h = tt
 descriptions_sound at (k ∷ descriptions) h = (sample_entry_sound k h.0, descriptions_sound (at + (8 + length k.payload)) descriptions h.1)
 
+-- the `sgpd`s are
 group_sound : (groups : List (List ℕ)) → AllByRecursion IsGroupDescription groups → AllByRecursion (λ (k : Content). IsSoundAs (leaf_of (ruled rules.SampleTable) k.kind) k.payload) (group_contents groups)
 group_sound [] h = tt
 group_sound (payload ∷ groups) h = (sgpd_sound payload h.0, group_sound groups h.1)

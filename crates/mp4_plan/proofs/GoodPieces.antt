@@ -7,6 +7,7 @@ use Rattle.std.proofs.lemmas.List.{length-map}
 use Rattle.mp4_boxes.specs.Bytes.{unsigned}
 use Rattle.mp4_boxes.proofs.Among.{all_append}
 use Rattle.mp4_boxes.proofs.Each.{each_from}
+use Rattle.mp4_boxes.proofs.Joined.{all_first, all_last}
 use Rattle.mp4_tables.specs.Groups.{GroupKey, keys_with}
 use Rattle.mp4_tables.proofs.NamedKeys.{IsAmong, each_named, no_more}
 use Rattle.mp4_head.specs.Head.{Kept, TrackHead, IsTrackHead}
@@ -49,20 +50,19 @@ named_by tracks id = unwrap_or (option_map (λ (t : Track). keys_of t.samples) (
 abbrev pub NamesAmong : List GroupKey → Sample → Type 0
 NamesAmong keys s = AllByRecursion (IsAmong keys) (map (λ (group : GroupKey × ℕ). group.0) s.groups)
 
-split_all : {A : Type 0} (P : A → Type 0) (xs ys : List A) → AllByRecursion P (xs ++ ys) → AllByRecursion P xs × AllByRecursion P ys
-split_all P [] ys h = (tt, h)
-split_all P (x ∷ xs) ys h = let r = split_all P xs ys h.1 in ((h.0, r.0), r.1)
-
+-- where keys are among some, each sample names some of those
 names_from : (keys : List GroupKey) (samples : List Sample) → AllByRecursion (IsAmong keys) (flat_map (λ (s : Sample). map (λ (group : GroupKey × ℕ). group.0) s.groups) samples) → AllByRecursion (NamesAmong keys) samples
 names_from keys [] h = tt
 names_from keys (s ∷ samples) h =
-    let r = split_all (IsAmong keys) (map (λ (group : GroupKey × ℕ). group.0) s.groups) (flat_map (λ (s : Sample). map (λ (group : GroupKey × ℕ). group.0) s.groups) samples) h in
-    (r.0, names_from keys samples r.1)
+    let own = map (λ (group : GroupKey × ℕ). group.0) s.groups in
+    let others = flat_map (λ (s : Sample). map (λ (group : GroupKey × ℕ). group.0) s.groups) samples in
+    (all_first (IsAmong keys) own others h, names_from keys samples (all_last (IsAmong keys) own others h))
 
 -- the samples of a track name its keys
 pub track_names : (t : Track) → AllByRecursion (NamesAmong (keys_of t.samples)) t.samples
 track_names t = names_from (keys_of t.samples) t.samples (each_named [] (flat_map (λ (s : Sample). map (λ (group : GroupKey × ℕ). group.0) s.groups) t.samples))
 
+-- the other way round
 names_joined : (keys : List GroupKey) (samples : List TimedSample) → AllByRecursion (λ (s : TimedSample). NamesAmong keys s.sample) samples → AllByRecursion (IsAmong keys) (keys_in samples)
 names_joined keys [] h = tt
 names_joined keys (s ∷ samples) h = all_append (IsAmong keys) (map (λ (group : GroupKey × ℕ). group.0) s.sample.groups) (keys_in samples) h.0 (names_joined keys samples h.1)
@@ -86,6 +86,7 @@ pub record IsWritableSample (named : List GroupKey) (s : TimedSample) : Type 0 w
   pub names : NamesAmong named s.sample
   pub few : length named ≤ 4
 
+-- a valid sample can be written
 sample_writable : (descriptions : ℕ) (named : List GroupKey) (s : TimedSample) → descriptions ≤ 2 ^ 30 → length named ≤ 4 → IsSample descriptions s.sample → NamesAmong named s.sample → IsWritableSample named s
 sample_writable descriptions named s le few h n =
     let flags = h.flags in
@@ -99,14 +100,17 @@ sample_writable descriptions named s le few h n =
       few = few;
     }
 
+-- the first description fits
 first_written_description : (samples : List TimedSample) → AllByRecursion (λ (s : TimedSample). s.sample.description < 256 ^ 4) samples → first_description samples < 256 ^ 4
 first_written_description [] h = omega arith
 first_written_description (s ∷ samples) h = h.0
 
+-- the first time fits
 first_written_time : (samples : List TimedSample) → AllByRecursion (λ (s : TimedSample). s.time + s.sample.duration ≤ max_time) samples → first_time samples < 256 ^ 8
 first_written_time [] h = omega arith
 first_written_time (s ∷ samples) h = let l = h.0 in omega arith
 
+-- a piece has few keys
 few_in_piece : (named : List GroupKey) (samples : List TimedSample) → AllByRecursion (IsWritableSample named) samples → length (piece_keys samples) ≤ 4
 few_in_piece named [] h = omega arith
 few_in_piece named (s ∷ samples) h =
@@ -114,6 +118,7 @@ few_in_piece named (s ∷ samples) h =
     let names = few_keys_named named (s ∷ samples) (all_weaker (IsWritableSample named) (λ (x : TimedSample). NamesAmong named x.sample) (λ x y. y.names) (s ∷ samples) h) in
     omega arith
 
+-- a piece of such samples can be written
 piece_good : (named : List GroupKey) (piece : Piece) → piece.id < 2 ^ 32 → length piece.samples ≤ 2 ^ 24 → AllByRecursion (IsWritableSample named) piece.samples
     → AllByRecursion (λ (s : TimedSample). s.time + s.sample.duration ≤ max_time) piece.samples → IsOne piece.samples → IsGood piece
 piece_good named piece id few samples times one = record {
@@ -132,6 +137,7 @@ piece_good named piece id few samples times one = record {
 
 -- ---- pieces
 
+-- a track that is not too long has not too many descriptions
 few_descriptions : (at : ℕ) (t : TrackHead) → IsTrackHead t → length (trak_payload t) ≤ 2 ^ 30 → length t.media.descriptions ≤ 2 ^ 30
 few_descriptions at t h le =
     let small = (has_inner at t h le).stsd_small in
@@ -152,11 +158,13 @@ pub record CanWrite (tracks : List Track) (t : Track) : Type 0 where
   pub found : find (λ (u : Track). u.head.id == t.head.id) tracks ≡ Some t
   pub few : length t.head.media.descriptions ≤ 2 ^ 30
 
+-- the tracks of a list
 can_write : (tracks list : List Track) → AllByRecursion IsTrack list → AllByRecursion (λ (t : Track). find (λ (u : Track). u.head.id == t.head.id) tracks ≡ Some t) list
     → AllByRecursion (λ (t : Track). length t.head.media.descriptions ≤ 2 ^ 30) list → AllByRecursion (CanWrite tracks) list
 can_write tracks [] h f l = tt
 can_write tracks (t ∷ list) h f l = (record { valid = h.0; found = f.0; few = l.0 }, can_write tracks list h.1 f.1 l.1)
 
+-- the samples of a track can be written
 track_writable : (tracks : List Track) (t : Track) → CanWrite tracks t → AllByRecursion (IsWritableSample (named_by tracks t.head.id)) (timed t)
 track_writable tracks t c =
     let keys : named_by tracks t.head.id ≡ keys_of t.samples = ap (λ o. unwrap_or (option_map (λ (u : Track). keys_of u.samples) o) []) c.found in
@@ -178,6 +186,7 @@ pub samples_good : (p : Presentation) → Valid p → AllByRecursion (λ (piece 
 samples_good p v = samples_in_pieces (λ id s. IsWritableSample (named_by p.tracks id) s) p
     (all_weaker (CanWrite p.tracks) (λ (t : Track). AllByRecursion (IsWritableSample (named_by p.tracks t.head.id)) (timed t)) (λ t c. track_writable p.tracks t c) p.tracks (valid_tracks p v))
 
+-- each of a list of pieces
 each_good : (p : Presentation) (list : List Piece) → AllByRecursion (λ (piece : Piece). piece.id < 2 ^ 32) list → AllByRecursion (λ (piece : Piece). length piece.samples ≤ 2 ^ 24) list
     → AllByRecursion (λ (piece : Piece). AllByRecursion (IsWritableSample (named_by p.tracks piece.id)) piece.samples) list
     → AllByRecursion (λ (piece : Piece). AllByRecursion (λ (s : TimedSample). s.time + s.sample.duration ≤ max_time) piece.samples) list

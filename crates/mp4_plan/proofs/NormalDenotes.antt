@@ -39,6 +39,7 @@ use Rattle.mp4_plan.proofs.NormalGroups.{parts_grouped, track_spells, of_track}
 
 -- ---- tracks as fragments see them
 
+-- a head as fragments see the track
 abbrev head_info : TrackHead → TrackInfo
 head_info h = record { id = h.id; descriptions = length h.media.descriptions }
 
@@ -49,6 +50,7 @@ infos p = map head_info (heads p)
 abbrev CanRead : TrackHead → Type 0
 CanRead h = IsTrackHead h × (length (trak_payload h) ≤ 2 ^ 30)
 
+-- the trees of `trak`s say these
 infos_from : (at : ℕ) (hs : List TrackHead) → AllByRecursion CanRead hs → map (λ (t : TrackTree). record { id = (track_head_of t).id; descriptions = length t.descriptions }) (tracks_at at hs) ≡ map head_info hs
 infos_from at [] c = refl
 infos_from at (h ∷ hs) c =
@@ -60,6 +62,7 @@ infos_from at (h ∷ hs) c =
 
 -- ---- what is found by an ID
 
+-- by the test of the first
 mapped_at : {A B : Type 0} (f : A → B) (p : A → Bool) (q : B → Bool) (x t : A) (xs : List A) (v : Bool) → p x ≡ v → q (f x) ≡ v → find p (x ∷ xs) ≡ Some t → (find p xs ≡ Some t → find q (map f xs) ≡ Some (f t)) → find q (map f (x ∷ xs)) ≡ Some (f t)
 mapped_at f p q x t xs true e g h more = let s : ◌≡◌ {A = Option _} (Some x) (Some t) = rw e at h in let same : x ≡ t = cc in rw g (ap (λ y. Some (f y)) same)
 mapped_at f p q x t xs false e g h more = rw g (more (rw e at h))
@@ -75,6 +78,7 @@ info_found id tracks t e =
     mapped_found head_info (λ (h : TrackHead). h.id == id) (λ (i : TrackInfo). i.id == id) (λ h. refl) t.head (map (λ (u : Track). u.head) tracks)
     (mapped_found (λ (u : Track). u.head) (λ (u : Track). u.head.id == id) (λ (h : TrackHead). h.id == id) (λ u. refl) t tracks e)
 
+-- its `trex`
 trex_found : (id : ℕ) (tracks : List Track) (t : Track) → find (λ (u : Track). u.head.id == id) tracks ≡ Some t → trex_for (normal_trexes (map (λ (u : Track). u.head) tracks)) id ≡ Some (normal_trex t.head)
 trex_found id tracks t e =
     mapped_found normal_trex (λ (h : TrackHead). h.id == id) (λ (x : Trex). x.id == id) (λ h. refl) t.head (map (λ (u : Track). u.head) tracks)
@@ -99,9 +103,11 @@ record IsRead (file : List ℕ) (parts : List Part) (t : Track) : Type 0 where
   again : IsReadAgain (sample_of file) (λ s. refl) parts t
   grouped : AreGrouped [] (parts_for t.head.id parts)
 
+-- the tables of a track fit
 track_fits : (file : List ℕ) (at : ℕ) (t : Track) → Fit (surroundings file (track_tree at t.head)) (tables_of (track_tree at t.head).table)
 track_fits file at t = subst (λ (x : Tables). Fit (surroundings file (track_tree at t.head)) x) (sym (tables_none at t.head)) (none_fit (surroundings file (track_tree at t.head)))
 
+-- its `sbgp`s keep the rules
 track_grouped : (file : List ℕ) (parts : List Part) (at : ℕ) (t : Track) → IsRead file parts t → AreGrouped (plain_keys (track_tree at t.head)) (parts_of_track parts (track_tree at t.head))
 track_grouped file parts at t r =
     let tables = tables_none at t.head in
@@ -109,6 +115,7 @@ track_grouped file parts at t r =
     subst (λ (x : Tables). AreGrouped (keys_after [] x.groups) (parts_of_track parts (track_tree at t.head))) (sym tables)
     (subst (λ (h : TrackHead). AreGrouped [] (parts_for h.id parts)) (sym head) r.grouped)
 
+-- its `tfdt`s are on time
 track_on_time : (file : List ℕ) (parts : List Part) (at : ℕ) (t : Track) → IsRead file parts t → AreOnTime (first_due parts (track_tree at t.head)) (parts_of_track parts (track_tree at t.head))
 track_on_time file parts at t r =
     let tables = tables_none at t.head in
@@ -118,6 +125,7 @@ track_on_time file parts at t r =
     (subst (λ (h : TrackHead). AreOnTime (start_of [] (parts_for h.id parts) + 0) (parts_for h.id parts)) (sym head)
     (subst (λ (n : ℕ). AreOnTime n (parts_for t.head.id parts)) (sym due) r.again.times))
 
+-- its tree says the track
 track_says : (file : List ℕ) (parts : List Part) (at : ℕ) (t : Track) → IsRead file parts t → track_of file parts (track_tree at t.head) ≡ t
 track_says file parts at t r =
     let tables = tables_none at t.head in
@@ -141,25 +149,30 @@ IsThere tracks trexes id = (is_some (track_for tracks id) && is_some (trex_for t
 abbrev HasIndex : List TrackInfo → ℕ → Sample → Type 0
 HasIndex tracks id s = is_index (unwrap_or (option_map (λ (track : TrackInfo). track.descriptions) (track_for tracks id)) 0) s.description ≡ true
 
+-- a test that each passes
 all_tests : {A : Type 0} (test : A → Bool) (xs : List A) → AllByRecursion (λ x. test x ≡ true) xs → list_all test xs ≡ true
 all_tests test [] h = refl
 all_tests test (x ∷ xs) h = and_from (test x) (list_all test xs) h.0 (all_tests test xs h.1)
 
+-- what follows from a relation
 zip_weaker : {A B : Type 0} (R S : A → B → Type 0) → ((x : A) (y : B) → R x y → S x y) → (xs : List A) (ys : List B) → AllZip R xs ys → AllZip S xs ys
 zip_weaker R S each [] [] h = tt
 zip_weaker R S each [] (y ∷ ys) h = absurd h
 zip_weaker R S each (x ∷ xs) [] h = absurd h
 zip_weaker R S each (x ∷ xs) (y ∷ ys) h = (each x y h.0, zip_weaker R S each xs ys h.1)
 
+-- what follows from it for the first
 zip_first : {A B : Type 0} (R : A → B → Type 0) (P : A → Type 0) → ((x : A) (y : B) → R x y → P x) → (xs : List A) (ys : List B) → AllZip R xs ys → AllByRecursion P xs
 zip_first R P each [] [] h = tt
 zip_first R P each [] (y ∷ ys) h = absurd h
 zip_first R P each (x ∷ xs) [] h = absurd h
 zip_first R P each (x ∷ xs) (y ∷ ys) h = (each x y h.0, zip_first R P each xs ys h.1)
 
+-- a valid track is there
 there_of : (tracks : List Track) (t : Track) → CanWrite tracks t → IsThere (map head_info (map (λ (u : Track). u.head) tracks)) (normal_trexes (map (λ (u : Track). u.head) tracks)) t.head.id
 there_of tracks t c = let a = info_found t.head.id tracks t c.found in let b = trex_found t.head.id tracks t c.found in λ i. is_some (a i) && is_some (b i)
 
+-- the descriptions of its samples are there
 index_of : (tracks : List Track) (t : Track) → CanWrite tracks t → AllByRecursion (λ (s : TimedSample). HasIndex (map head_info (map (λ (u : Track). u.head) tracks)) t.head.id s.sample) (timed t)
 index_of tracks t c =
     let infos = map head_info (map (λ (u : Track). u.head) tracks) in
@@ -173,27 +186,35 @@ index_of tracks t c =
 -- ---- the whole
 
 module _ (p : Presentation) (v : Valid p) where
+  -- the parts of the file
   abbrev the_parts : List Part
   the_parts = pieces_parts (normal_trexes (heads p)) (pieces_at p) 1 (pieces p)
 
+  -- they spell the pieces
   all_spell : AllZip (Spells (normal p)) (pieces_parts (normal_trexes (heads p)) (pieces_at p) 1 (pieces p)) (pieces p)
   all_spell = parts_spell (normal_trexes (heads p)) (normal p) (written (front_contents p)) (pieces_at p) 1 (pieces p) (pieces_good p v) refl (normal_is p)
 
+  -- they say what the pieces do
   all_say : AllZip (Says (sample_of (normal p)) (λ s. refl)) (pieces_parts (normal_trexes (heads p)) (pieces_at p) 1 (pieces p)) (pieces p)
   all_say = zip_weaker (Spells (normal p)) (Says (sample_of (normal p)) (λ s. refl)) (λ x y h. h.says) (pieces_parts (normal_trexes (heads p)) (pieces_at p) 1 (pieces p)) (pieces p) all_spell
 
+  -- the `trex`s of the file
   trexes_are : trexes_of (normal_tree p).movie ≡ normal_trexes (heads p)
   trexes_are = trexes_again p.movie (heads p) (movie_length p) (head_writable p v) 24
 
+  -- its tree says these parts
   parts_of_file : file_parts (normal_tree p) ≡ pieces_parts (normal_trexes (heads p)) (pieces_at p) 1 (pieces p)
   parts_of_file = ap (λ (l : List Trex). all_parts l (map fragment_of (pieces_trees (pieces_at p) 1 (pieces p)))) trexes_are ∙ parts_are (normal_trexes (heads p)) (pieces_at p) 1 (pieces p) (pieces_good p v)
 
+  -- the heads can be read
   can_read : AllByRecursion CanRead (heads p)
   can_read = let w = head_writable p v in each_from IsTrackHead (λ (h : TrackHead). length (trak_payload h) ≤ 2 ^ 30) CanRead (λ h a b. (a, b)) (heads p) w.are_tracks (traks_small p.movie (heads p) (movie_length p) w)
 
+  -- the tracks as fragments see them
   infos_are : track_infos (normal_tree p).movie ≡ map head_info (heads p)
   infos_are = infos_from _ (heads p) can_read
 
+  -- the `sbgp`s of each track keep the rules
   grouped_track : (t : Track) → CanWrite p.tracks t → AreGrouped [] (parts_for t.head.id (pieces_parts (normal_trexes (heads p)) (pieces_at p) 1 (pieces p)))
   grouped_track t c =
       let named = named_by p.tracks t.head.id in
@@ -202,6 +223,7 @@ module _ (p : Presentation) (v : Valid p) where
       parts_grouped (normal p) named [] (parts_for t.head.id the_parts) (pieces_for t.head.id (pieces p)) (track_spells (normal p) t.head.id the_parts (pieces p) all_spell) few tt
       (of_track (λ id piece. AllByRecursion (IsWritableSample (named_by p.tracks id)) piece.samples) t.head.id (pieces p) (samples_good p v))
 
+  -- what is known of each track
   all_read : AllByRecursion (IsRead (normal p) (pieces_parts (normal_trexes (heads p)) (pieces_at p) 1 (pieces p))) p.tracks
   all_read = join p.tracks (valid_tracks p v) can_read
       (tracks_again (sample_of (normal p)) (λ s. refl) p the_parts v.ids (all_weaker IsTrack (λ (t : Track). t.samples ≡ [] → t.start ≡ 0) (λ t h. h.empty) p.tracks v.tracks) all_say)
@@ -211,6 +233,7 @@ module _ (p : Presentation) (v : Valid p) where
       join [] a b c = tt
       join (t ∷ tracks) a b c = (record { head = b.0.0; small = b.0.1; again = c.0; grouped = grouped_track t a.0 }, join tracks a.1 b.1 c.1)
 
+  -- what the file says is consistent
   consistent_with : IsConsistent (normal p) (normal_tree p)
   consistent_with =
       let at = 24 + 8 + length (written (movie_front p.movie (heads p))) in
@@ -237,6 +260,7 @@ module _ (p : Presentation) (v : Valid p) where
         (all_of_tracks (λ (t : TrackTree). AreOnTime (first_due parts t) (parts_of_track parts t)) (IsRead (normal p) parts) (λ n t r. track_on_time (normal p) parts n t r) at p.tracks all_read);
       }
 
+  -- it says the presentation
   says_again : p ≡ presentation_of (normal p) (normal_tree p)
   says_again =
       let movie = movie_head_again p.movie (heads p) (movie_length p) (head_writable p v) 24 in

@@ -33,32 +33,39 @@ abbrev passing : GroupRule → ℕ → List GroupKey → List Grouping → Optio
 passing rule n keys before None = true
 passing rule n keys before (Some g) = keeps rule n keys before g
 
+-- a rule that is kept by each is kept at each place
 tested : (rule : GroupRule) (n : ℕ) (keys : List GroupKey) (before groupings : List Grouping) → KeepsAll rule n keys before groupings → (k : ℕ) → passing rule n keys (before ++ take k groupings) (slice_get groupings k) ≡ true
 tested rule n keys before [] h k = refl
 tested rule n keys before (g ∷ groupings) h zero = subst (λ (l : List Grouping). keeps rule n keys l g ≡ true) (sym (append-nil before)) h.0
 tested rule n keys before (g ∷ groupings) h (suc k) =
     subst (λ (l : List Grouping). passing rule n keys l (slice_get groupings k) ≡ true) (append_assoc before (g ∷ []) (take k groupings)) (tested rule n keys (before ++ g ∷ []) groupings h.1 k)
 
+-- the test at a place
 test_is : (rule : GroupRule) (n : ℕ) (keys : List GroupKey) (groupings : List Grouping) (k : ℕ) → group_test rule n keys groupings k ≡ passing rule n keys (take k groupings) (slice_get groupings k)
 test_is rule n keys groupings k = refl
 
+-- so the test passes at each place
 kept_by_all : (rule : GroupRule) (n : ℕ) (keys : List GroupKey) (groupings : List Grouping) → KeepsAll rule n keys [] groupings → (k : ℕ) → IsTrue (group_test rule n keys groupings k)
 kept_by_all rule n keys groupings h k = test_is rule n keys groupings k ∙ tested rule n keys [] groupings h k
 
 -- ---- no key twice
 
+-- a key above others is none of them
 none_before : (key : GroupKey) (before : List Grouping) → AllByRecursion (λ (h : Grouping). key_rank h.key < key_rank key) before → list_any (λ (h : Grouping). same_key key h.key) before ≡ false
 none_before key [] h = refl
 none_before key (g ∷ before) h = or_from (same_key key g.key) (list_any (λ (h : Grouping). same_key key h.key) before) (ne_eqb (key_rank key) (key_rank g.key) (λ e. let l = h.0 in omega arith)) (none_before key before h.1)
 
+-- what is below all keys is below the first
 first_above : (key : GroupKey) (keys : List GroupKey) (before : List Grouping) → AllByRecursion (λ (h : Grouping). KeysAbove h.key (key ∷ keys)) before → AllByRecursion (λ (h : Grouping). key_rank h.key < key_rank key) before
 first_above key keys [] h = tt
 first_above key keys (g ∷ before) h = (h.0.0, first_above key keys before h.1)
 
+-- and below the rest
 rest_above : (key : GroupKey) (keys : List GroupKey) (before : List Grouping) → AllByRecursion (λ (h : Grouping). KeysAbove h.key (key ∷ keys)) before → AllByRecursion (λ (h : Grouping). KeysAbove h.key keys) before
 rest_above key keys [] h = tt
 rest_above key keys (g ∷ before) h = (h.0.1, rest_above key keys before h.1)
 
+-- keys that rise are each there once
 one_each : (n : ℕ) (named : List GroupKey) (samples : List TimedSample) (before : List Grouping) (keys : List GroupKey) → AreRising keys → AllByRecursion (λ (h : Grouping). KeysAbove h.key keys) before
     → KeepsAll one_of_key n named before (map (grouped_by samples) keys)
 one_each n named samples before [] r a = tt
@@ -74,6 +81,7 @@ with-append : (keys xs ys : List GroupKey) → keys_with keys (xs ++ ys) ≡ key
 with-append keys [] ys = refl
 with-append keys (x ∷ xs) ys = with-append (cond (list_any (same_key x) keys) keys (keys ++ x ∷ [])) xs ys
 
+-- a list with one more of at most four had not four
 few_by : (named : List GroupKey) (key : GroupKey) (v : Bool) → length (cond v named (named ++ key ∷ [])) ≤ 4 → v || not (length named == max_keys) ≡ true
 few_by named key true le = refl
 few_by named key false le =
@@ -91,14 +99,17 @@ not_fifth all more before key few h k a =
     let same : keys_with [] listed ≡ keys_with named (key ∷ []) = with-append [] more (before ++ key ∷ []) ∙ with-append (keys_with [] more) before (key ∷ []) in
     few_by named key (list_any (same_key key) named) (subst (λ (n : ℕ). n ≤ 4) (ap (λ (l : List GroupKey). length l) same) (omega arith))
 
+-- the keys of groupings
 keys_of_groupings : (samples : List TimedSample) (keys : List GroupKey) → map (λ (g : Grouping). g.key) (map (grouped_by samples) keys) ≡ keys
 keys_of_groupings samples [] = refl
 keys_of_groupings samples (key ∷ keys) = ap (λ (l : List GroupKey). key ∷ l) (keys_of_groupings samples keys)
 
+-- those of two lists joined
 keys-append : (xs ys : List Grouping) → map (λ (g : Grouping). g.key) (xs ++ ys) ≡ map (λ (g : Grouping). g.key) xs ++ map (λ (g : Grouping). g.key) ys
 keys-append [] ys = refl
 keys-append (x ∷ xs) ys = ap (λ (l : List GroupKey). x.key ∷ l) (keys-append xs ys)
 
+-- none is a fifth key
 few_each : (n : ℕ) (all more : List GroupKey) (samples : List TimedSample) (before : List Grouping) (keys : List GroupKey) → length all ≤ 4 → AllByRecursion (IsAmong all) more
     → AllByRecursion (IsAmong all) (map (λ (g : Grouping). g.key) before) → AllByRecursion (IsAmong all) keys → KeepsAll few_keys n (keys_with [] more) before (map (grouped_by samples) keys)
 few_each n all more samples before [] few h k a = tt
@@ -110,10 +121,12 @@ few_each n all more samples before (key ∷ keys) few h k a =
 
 -- ---- indexes and counts
 
+-- indexes that are in range pass the test
 rows_in_range : (rows : List (ℕ × ℕ)) → AllByRecursion (λ (row : ℕ × ℕ). row.1 ≤ max_index) rows → list_all (λ (row : ℕ × ℕ). nat_le row.1 max_index) rows ≡ true
 rows_in_range [] h = refl
 rows_in_range (row ∷ rows) h = and_from (leb row.1 max_index) (list_all (λ (row : ℕ × ℕ). nat_le row.1 max_index) rows) (le-leb row.1 max_index h.0) (rows_in_range rows h.1)
 
+-- indexes are in range
 range_each : (n : ℕ) (named : List GroupKey) (samples : List TimedSample) (before : List Grouping) (keys : List GroupKey) → AllByRecursion HasGroups samples → KeepsAll index_range n named before (map (grouped_by samples) keys)
 range_each n named samples before [] h = tt
 range_each n named samples before (key ∷ keys) h = (
@@ -121,6 +134,7 @@ range_each n named samples before (key ∷ keys) h = (
     range_each n named samples (before ++ grouped_by samples key ∷ []) keys h,
   )
 
+-- no rows are left behind the last sample
 counts_each : (n : ℕ) (named : List GroupKey) (samples : List TimedSample) (before : List Grouping) (keys : List GroupKey) → n ≡ length samples → KeepsAll group_counts n named before (map (grouped_by samples) keys)
 counts_each n named samples before [] e = tt
 counts_each n named samples before (key ∷ keys) e =
@@ -161,6 +175,7 @@ parts_grouped file all more (part ∷ parts) (piece ∷ list) z few h w =
 
 -- ---- by tracks
 
+-- by the ID of the first
 spells_at : (file : List ℕ) (id : ℕ) (part : Part) (parts : List Part) (piece : Piece) (list : List Piece) (b : Bool) → (piece.id == id) ≡ b → (part.id == id) ≡ b → Spells file part piece
     → AllZip (Spells file) (parts_for id parts) (pieces_for id list) → AllZip (Spells file) (parts_for id (part ∷ parts)) (pieces_for id (piece ∷ list))
 spells_at file id part parts piece list true e f says h = rw (e, f) (says, h)

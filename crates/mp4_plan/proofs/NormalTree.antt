@@ -13,6 +13,7 @@ use Rattle.mp4_boxes.proofs.WrittenBoxes.{Content, FitsBox, typed, written, plac
 use Rattle.mp4_head.specs.Head.{TrackHead, IsTrackHead}
 use Rattle.mp4_head.specs.Writing.{ftyp_bytes, moov_bytes, head_bytes}
 use Rattle.mp4_head.proofs.WrittenMovie.{IsWritable, moov_payload, moov_content, movie_tree, movie_tree_is, movie_leaves_sound}
+use Rattle.mp4_head.proofs.WrittenHead.{head_contents, head_written, head_fits, head_lies}
 use Rattle.mp4_head.proofs.WrittenTables.{tables_sound}
 use Rattle.mp4_present.specs.Presentation.{Track, Presentation, heads, movie_length, IsTrack, Valid}
 use Rattle.mp4_present.specs.Denotes.{FileTree, IsFileTree, IsSoundFile}
@@ -20,17 +21,15 @@ use Rattle.mp4_plan.specs.Pieces.{Piece, pieces}
 use Rattle.mp4_plan.specs.Normal.{pieces_bytes, normal}
 use Rattle.mp4_plan.proofs.PieceBoxes.{IsGood, pieces_boxes, pieces_trees, pieces_lie, pieces_sizes, pieces_have, no_movies, count_movies, moofs_are, trees_are, trees_sound}
 
-abbrev ftyp_payload : List ℕ
-ftyp_payload = codes "iso6" ++ big_bytes 4 0 ++ codes "iso6" ++ codes "mp41"
-
 -- what is written in front of the pieces
 abbrev pub front_contents : Presentation → List Content
-front_contents p = typed (codes "ftyp") ftyp_payload ∷ moov_content p.movie (heads p) (movie_length p) ∷ []
+front_contents p = head_contents p.movie (heads p) (movie_length p)
 
 -- where the pieces begin
 abbrev pub pieces_at : Presentation → ℕ
 pieces_at p = length (written (front_contents p))
 
+-- the boxes of the file itself
 abbrev pub normal_boxes : Presentation → List Box
 normal_boxes p = placed 0 (front_contents p) ++ pieces_boxes (pieces_at p) 1 (pieces p)
 
@@ -44,7 +43,7 @@ normal_tree p = record {
 
 -- the file is what is written in front, and the pieces
 pub normal_is : (p : Presentation) → normal p ≡ written (front_contents p) ++ pieces_bytes 1 (pieces p)
-normal_is p = ap (λ (l : List ℕ). (ftyp_bytes ++ l) ++ pieces_bytes 1 (pieces p)) (sym (append-nil (moov_bytes p.movie (heads p) (movie_length p))))
+normal_is p = ap (λ (l : List ℕ). l ++ pieces_bytes 1 (pieces p)) (head_written p.movie (heads p) (movie_length p))
 
 -- the heads of valid tracks
 heads_valid : (tracks : List Track) → AllByRecursion IsTrack tracks → AllByRecursion IsTrackHead (map (λ (t : Track). t.head) tracks)
@@ -56,31 +55,25 @@ pub head_writable : (p : Presentation) → Valid p → IsWritable p.movie (heads
 head_writable p v = record { is_movie = v.movie; are_tracks = heads_valid p.tracks v.tracks; distinct = v.ids; small = v.limits.moov }
 
 module _ (p : Presentation) (w : IsWritable p.movie (heads p) (movie_length p)) (good : AllByRecursion IsGood (pieces p)) where
-  front_fits : AllByRecursion FitsBox (front_contents p)
-  front_fits =
-      let small = w.small in
-      let e = length-box_bytes (codes "moov") (moov_payload p.movie (heads p) (movie_length p)) refl in
-      (record { kind = refl; size = lit≤ tt }, (record { kind = refl; size = omega arith }, tt))
-
+  -- they lie end to end
   top_lies : LieEndToEnd true 0 (normal p) (normal_boxes p)
   top_lies =
-      subst (λ (bytes : List ℕ). LieEndToEnd true 0 bytes (normal_boxes p)) (sym (normal_is p))
-      (lie_written true 0 (front_contents p) (pieces_bytes 1 (pieces p)) (pieces_boxes (pieces_at p) 1 (pieces p)) front_fits
-      (subst (λ (k : ℕ). LieEndToEnd true k (pieces_bytes 1 (pieces p)) (pieces_boxes (pieces_at p) 1 (pieces p))) (from_zero (pieces_at p)) (pieces_lie (pieces_at p) 1 (pieces p) good)))
-    where
-      from_zero : (n : ℕ) → n ≡ 0 + n
-      from_zero n = omega arith
+      let from : pieces_at p ≡ 0 + length (head_bytes p.movie (heads p) (movie_length p)) = omega (arith, ap (λ (l : List ℕ). length l) (head_written p.movie (heads p) (movie_length p))) in
+      head_lies p.movie (heads p) (movie_length p) w true 0 (pieces_bytes 1 (pieces p)) (pieces_boxes (pieces_at p) 1 (pieces p))
+      (subst (λ (k : ℕ). LieEndToEnd true k (pieces_bytes 1 (pieces p)) (pieces_boxes (pieces_at p) 1 (pieces p))) from (pieces_lie (pieces_at p) 1 (pieces p) good))
 
+  -- they take all bytes
   top_sizes : sizes (normal_boxes p) ≡ length (normal p)
   top_sizes = omega (
     arith,
     sizes-append (placed 0 (front_contents p)) (pieces_boxes (pieces_at p) 1 (pieces p)),
-    sizes_written 0 (front_contents p) front_fits,
+    sizes_written 0 (front_contents p) (head_fits p.movie (heads p) (movie_length p) w),
     pieces_sizes (pieces_at p) 1 (pieces p) good,
     ap (λ (l : List ℕ). length l) (normal_is p),
     length-append (written (front_contents p)) (pieces_bytes 1 (pieces p))
   )
 
+  -- the file holds them
   top_holds : Holds rules.File (file_container (normal p)) (normal_boxes p)
   top_holds =
       let none = count_movies (pieces_at p) 1 (pieces p) in

@@ -20,7 +20,7 @@ use Rattle.mp4_plan.specs.PieceLaws.{IsOne}
 use Rattle.mp4_plan.proofs.RunRows.{FitsRow}
 use Rattle.mp4_plan.proofs.WrittenFragment.{IsWritablePiece, moof_payload, moof_short, moof_same}
 use Rattle.mp4_plan.proofs.PieceTree.{moof_content, piece_tree, piece_tree_is, fragment_again, traf_sound}
-use Rattle.mp4_plan.proofs.PieceSays.{HasFlags, offset_of, piece_fragment, piece_part, one_part, Spells, part_spells}
+use Rattle.mp4_plan.proofs.PieceSays.{HasFlags, offset_of, piece_fragment, piece_part, Spells, part_spells}
 
 -- the piece can be written, and its samples have one description and flags of 28 bits
 pub record IsGood (piece : Piece) : Type 0 where
@@ -30,6 +30,7 @@ pub record IsGood (piece : Piece) : Type 0 where
 
 -- ---- sizes
 
+-- a sample has fewer than 2^32 bytes
 data_short : (samples : List TimedSample) → AllByRecursion FitsRow samples → length (flat_map (λ (s : TimedSample). s.sample.bytes) samples) ≤ length samples * 2 ^ 32
 data_short [] h = omega arith
 data_short (s ∷ samples) h =
@@ -44,6 +45,7 @@ data_fits piece h =
     let few = h.few in
     omega arith
 
+-- a header has at most 16 bytes
 header_small : (n : ℕ) → header_length n ≤ 16
 header_small n = by_size (nat_lt (8 + n) (2 ^ 32))
   where
@@ -65,9 +67,11 @@ length-piece_bytes sequence piece h =
     let header = header_bytes (codes "mdat") (length (piece_data piece)) in
     omega (arith, length-append (moof ++ header) (piece_data piece), length-append moof header, moof_same piece h sequence (offset_of piece), length-header_bytes (codes "mdat") (length (piece_data piece)) refl)
 
+-- four lists joined, bracketed to the right
 regroup : (moof header payload rest : List ℕ) → moof ++ header ++ payload ++ rest ≡ moof ++ (header ++ (payload ++ rest))
 regroup moof header payload rest = simp append_assoc
 
+-- the same behind a front
 regroup_more : (front before payload rest : List ℕ) → front ++ (before ++ payload ++ rest) ≡ (front ++ before) ++ (payload ++ rest)
 regroup_more front before payload rest = simp append_assoc
 
@@ -108,6 +112,7 @@ pieces_lie at n (piece ∷ more) h =
     (subst (λ (k : ℕ). LieEndToEnd true k (header ++ (piece_data piece ++ rest)) (data_box (codes "mdat") (piece_data piece) (at + length moof) ∷ pieces_boxes (at + length (piece_bytes n piece)) (n + 1) more)) from second) in
     subst (λ (bytes : List ℕ). LieEndToEnd true at bytes (pieces_boxes at n (piece ∷ more))) (sym (regroup moof header (piece_data piece) rest)) first
 
+-- They take as many bytes as are written.
 pub pieces_sizes : (at n : ℕ) (list : List Piece) → AllByRecursion IsGood list → sizes (pieces_boxes at n list) ≡ length (pieces_bytes n list)
 pieces_sizes at n [] h = refl
 pieces_sizes at n (piece ∷ more) h =
@@ -127,6 +132,7 @@ pub no_movies : (at n : ℕ) (list : List Piece) → of_kind (codes "moov") (pie
 no_movies at n [] = refl
 no_movies at n (piece ∷ more) = no_movies (at + length (piece_bytes n piece)) (n + 1) more
 
+-- the same by count
 pub count_movies : (at n : ℕ) (list : List Piece) → count_among (codes "moov" ∷ []) (pieces_boxes at n list) ≡ 0
 count_movies at n [] = refl
 count_movies at n (piece ∷ more) = omega (arith, count_movies (at + length (piece_bytes n piece)) (n + 1) more)
@@ -136,12 +142,14 @@ pub moofs_are : (at n : ℕ) (list : List Piece) → map (λ (f : FragmentTree).
 moofs_are at n [] = refl
 moofs_are at n (piece ∷ more) = ap (λ (l : List Box). placed_box at (moof_content n (offset_of piece) piece) ∷ l) (moofs_are (at + length (piece_bytes n piece)) (n + 1) more)
 
+-- Each tree is that of its `moof`.
 pub trees_are : (at n : ℕ) (list : List Piece) → AllByRecursion IsGood list → AllByRecursion IsFragmentTree (pieces_trees at n list)
 trees_are at n [] h = tt
 trees_are at n (piece ∷ more) h =
     let w = h.0.writable in
     (piece_tree_is (offset_of piece) piece (offset_near piece w) w at n, trees_are (at + length (piece_bytes n piece)) (n + 1) more h.1)
 
+-- Their leaves are sound.
 pub trees_sound : (at n : ℕ) (list : List Piece) → AllByRecursion IsGood list → AllByRecursion (λ (f : FragmentTree). AllByRecursion (AreSound (ruled rules.TrackFragment)) f.trafs) (pieces_trees at n list)
 trees_sound at n [] h = tt
 trees_sound at n (piece ∷ more) h =

@@ -29,6 +29,7 @@ use Rattle.mp4_plan.proofs.PieceTree.{traf_read}
 
 -- ---- the rows give the samples
 
+-- what holds of each value holds of each sample
 values_of : (f : TimedSample → ℕ) (m : ℕ) (samples : List TimedSample) → AllByRecursion (λ (k : ℕ). m ≡ k) (map f samples) → AllByRecursion (λ (s : TimedSample). m ≡ f s) samples
 values_of f m [] h = tt
 values_of f m (s ∷ samples) h = (h.0, values_of f m samples h.1)
@@ -37,13 +38,16 @@ values_of f m (s ∷ samples) h = (h.0, values_of f m samples h.1)
 abbrev IsCommon : (TimedSample → ℕ) → Option ℕ → List TimedSample → Type 0
 IsCommon f shared samples = (m : ℕ) → shared ≡ Some m → AllByRecursion (λ (s : TimedSample). m ≡ f s) samples
 
+-- what samples have in common is that of each
 common_of : (f : TimedSample → ℕ) (samples : List TimedSample) → IsCommon f (common (map f samples)) samples
 common_of f samples m e = values_of f m samples (common_is (map f samples) m e)
 
+-- a number that is written as 0 is 0
 unsigned_none : (z : ℤ) → FitsSigned w32 z → unsigned 4 z ≡ 0 → z ≡ pos 0
 unsigned_none (pos n) h e = ap (λ (k : ℕ). pos k) e
 unsigned_none (negsuc n) h e = absurd (omega (arith, h.sfits, e))
 
+-- offsets that are all written as 0 are 0
 offsets_none : (samples : List TimedSample) → AllByRecursion FitsRow samples → list_all (λ (s : TimedSample). unsigned 4 s.sample.offset == 0) samples ≡ true → AllByRecursion (λ (s : TimedSample). s.sample.offset ≡ pos 0) samples
 offsets_none [] h e = tt
 offsets_none (s ∷ samples) h e =
@@ -54,6 +58,7 @@ flipped : (b : Bool) → not b ≡ false → b ≡ true
 flipped true e = refl
 flipped false e = absurd cc
 
+-- an offset that is given, or is 0
 offset_given : (has_offsets : Bool) (z : ℤ) → (has_offsets ≡ false → z ≡ pos 0) → unwrap_or (if has_offsets then Some z else None) (pos 0) ≡ z
 offset_given true z h = refl
 offset_given false z h = sym (h refl)
@@ -63,6 +68,7 @@ abbrev pub HasFlags : TimedSample → Type 0
 HasFlags s = s.sample.flags < 2 ^ 28
 
 module _ (trex : Trex) (data_offset : ℕ) (piece : Piece) where
+  -- for some last samples of the piece
   gives : (rest : List TimedSample) → IsCommon (λ s. s.sample.duration) (shared_by piece.samples).duration rest → IsCommon (λ s. length s.sample.bytes) (shared_by piece.samples).size rest → IsCommon (λ s. s.sample.flags) (shared_by piece.samples).flags rest
       → ((shared_by piece.samples).has_offsets ≡ false → AllByRecursion (λ (s : TimedSample). s.sample.offset ≡ pos 0) rest) → AllByRecursion HasFlags rest
       → AllByRecursion (λ (s : TimedSample). s.sample.description ≡ first_description piece.samples) rest
@@ -87,6 +93,7 @@ module _ (trex : Trex) (data_offset : ℕ) (piece : Piece) where
 
 -- ---- where the data lies
 
+-- the data of a piece is that of its samples
 data_is : (samples : List TimedSample) → data_of (untimed_samples samples) ≡ flat_map (λ (s : TimedSample). s.sample.bytes) samples
 data_is [] = refl
 data_is (s ∷ samples) = ap (λ (l : List ℕ). s.sample.bytes ++ l) (data_is samples)
@@ -107,16 +114,14 @@ placed_run trex at piece = run_samples trex (traf_read (offset_of piece) piece) 
 abbrev pub piece_part : Trex → ℕ → Piece → Part
 piece_part trex at piece = record { id = piece.id; decode_time = Some (first_time piece.samples); runs = placed_run trex at piece ∷ []; groups = map (grouped_by piece.samples) (piece_keys piece.samples) }
 
--- the fragment has that part alone
-pub one_part : (trexes : List Trex) (at : ℕ) (piece : Piece) → parts_of trexes (piece_fragment at piece) ≡ piece_part (unwrap_or (trex_for trexes piece.id) no_trex) at piece ∷ []
-one_part trexes at piece = refl
-
+-- lists that go together have one length
 zip_length : {A B : Type 0} (R : A → B → Type 0) (xs : List A) (ys : List B) → AllZip R xs ys → length xs ≡ length ys
 zip_length R [] [] h = refl
 zip_length R [] (y ∷ ys) h = absurd h
 zip_length R (x ∷ xs) [] h = absurd h
 zip_length R (x ∷ xs) (y ∷ ys) h = ap suc (zip_length R xs ys h.1)
 
+-- the maps of samples
 groups_are : (samples : List TimedSample) → map (λ (s : Sample). s.groups) (untimed_samples samples) ≡ map (λ (s : TimedSample). s.sample.groups) samples
 groups_are [] = refl
 groups_are (s ∷ samples) = ap (λ l. s.sample.groups ∷ l) (groups_are samples)

@@ -19,6 +19,7 @@ use Rattle.mp4_plan.proofs.WrittenRun.{run_payload, run_read, run_again, run_sou
 use Rattle.mp4_plan.proofs.WrittenGroups.{grouped_by}
 use Rattle.mp4_plan.proofs.WrittenFragment.{IsWritablePiece, keyed_contents, tfhd_payload, traf_front, traf_groups, traf_contents, traf_payload, mfhd_payload, moof_contents, moof_payload, traf_written, moof_written, all_keyed, piece_keys_valid, groups_say, groups_sound, the_flags, traf_short, moof_short}
 
+-- the `moof` of a piece
 abbrev pub moof_content : ℕ → ℕ → Piece → Content
 moof_content sequence data_offset piece = typed (codes "moof") (moof_payload sequence data_offset piece)
 
@@ -52,9 +53,11 @@ traf_read data_offset piece =
     }
 
 module _ (data_offset : ℕ) (piece : Piece) (near : data_offset < 2 ^ 31) (h : IsWritablePiece piece) where
+  -- its types have four letters
   traf_types : AreTypes (traf_contents data_offset piece)
   traf_types = (refl, (refl, (refl, all_keyed (λ kind. length kind ≡ 4) piece.samples (piece_keys piece.samples) refl)))
 
+  -- the `traf` holds its boxes
   traf_holds : (b : Box) → b.payload ≡ traf_payload data_offset piece → Holds rules.TrackFragment (box_container b) (children b (traf_contents data_offset piece))
   traf_holds b e =
       let front = traf_front data_offset piece in

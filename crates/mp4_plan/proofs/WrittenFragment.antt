@@ -11,6 +11,7 @@ use Rattle.mp4_boxes.specs.Written.{box_bytes}
 use Rattle.mp4_boxes.specs.Places.{ruled, leaf_of, IsSoundAs, AreSound}
 use Rattle.mp4_boxes.specs.declared.rule.Rule.TheVariants as rules
 use Rattle.mp4_boxes.proofs.Among.{all_append, of_kind-append}
+use Rattle.mp4_boxes.proofs.Joined.{all_first, all_last}
 use Rattle.mp4_boxes.proofs.WrittenBoxes.{Content, written, placed, placed_box, children, FitsBox, AreTypes, typed, written-append, placed-append, length-box_bytes, fits_written, holds_written, count_before, of_kind-none, of_kind-between}
 use Rattle.mp4_tables.specs.Groups.{GroupKey, Grouping, Groups, grouping_of, groupings_of, index_at, key_rank, is_in_order, max_index}
 use Rattle.mp4_tables.proofs.NamedKeys.{IsAmong, among_through}
@@ -27,6 +28,7 @@ use Rattle.mp4_plan.proofs.WrittenRun.{run_payload, run_read, run_again, run_sou
 
 -- ---- what a piece that can be written has
 
+-- the groups of a sample are in order and in range
 pub record HasGroups (s : TimedSample) : Type 0 where
   pub each : AllByRecursion IsGroup s.sample.groups
   pub order : is_in_order s.sample.groups ≡ true
@@ -43,22 +45,28 @@ pub record IsWritablePiece (piece : Piece) : Type 0 where
 
 -- ---- contents
 
+-- the `sbgp`s of samples at some keys
 abbrev pub keyed_contents : List TimedSample → List GroupKey → List Content
 keyed_contents samples keys = map (λ (key : GroupKey). typed (codes "sbgp") (group_payload key (longest_runs (indexes_at samples key)))) keys
 
+-- the payload of the `tfhd`
 abbrev pub tfhd_payload : Piece → List ℕ
 tfhd_payload piece = let shared = shared_by piece.samples in head_payload piece.id (first_description piece.samples) shared.duration shared.size shared.flags
 
+-- what stands in front of the `sbgp`s
 abbrev pub traf_front : ℕ → Piece → List Content
 traf_front data_offset piece =
     typed (codes "tfhd") (tfhd_payload piece) ∷ typed (codes "tfdt") (time_payload (first_time piece.samples)) ∷ typed (codes "trun") (run_payload data_offset (shared_by piece.samples) piece.samples) ∷ []
 
+-- the `sbgp`s of a piece
 abbrev pub traf_groups : Piece → List Content
 traf_groups piece = keyed_contents piece.samples (piece_keys piece.samples)
 
+-- what the `traf` holds
 abbrev pub traf_contents : ℕ → Piece → List Content
 traf_contents data_offset piece = traf_front data_offset piece ++ traf_groups piece
 
+-- the payload of the `traf`
 abbrev pub traf_payload : ℕ → Piece → List ℕ
 traf_payload data_offset piece =
     tfhd_bytes piece
@@ -66,19 +74,24 @@ traf_payload data_offset piece =
     ++ trun_bytes data_offset piece.samples
     ++ flat_map (sbgp_bytes piece.samples) (piece_keys piece.samples)
 
+-- the payload of the `mfhd`
 abbrev pub mfhd_payload : ℕ → List ℕ
 mfhd_payload sequence = spelled (1 ∷ 3 ∷ 4 ∷ []) (0 ∷ 0 ∷ sequence ∷ [])
 
+-- what the `moof` holds
 abbrev pub moof_contents : ℕ → ℕ → Piece → List Content
 moof_contents sequence data_offset piece = typed (codes "mfhd") (mfhd_payload sequence) ∷ typed (codes "traf") (traf_payload data_offset piece) ∷ []
 
+-- the payload of the `moof`
 abbrev pub moof_payload : ℕ → ℕ → Piece → List ℕ
 moof_payload sequence data_offset piece = box_bytes (codes "mfhd") (mfhd_payload sequence) ++ traf_bytes data_offset piece
 
+-- `sbgp`s are written as their contents
 groups_written : (samples : List TimedSample) (keys : List GroupKey) → flat_map (sbgp_bytes samples) keys ≡ written (keyed_contents samples keys)
 groups_written samples [] = refl
 groups_written samples (key ∷ keys) = ap (λ (l : List ℕ). sbgp_bytes samples key ++ l) (groups_written samples keys)
 
+-- four lists joined, bracketed to the right
 four_parts : (a b c d : List ℕ) → a ++ b ++ c ++ d ≡ a ++ (b ++ (c ++ d))
 four_parts a b c d = simp append_assoc
 
@@ -102,6 +115,7 @@ all_keyed P samples (key ∷ keys) h = (h, all_keyed P samples keys h)
 
 -- ---- keys and indexes of a piece
 
+-- the index at a key is in range
 index_within : (key : GroupKey) (groups : Groups) → AllByRecursion IsGroup groups → index_at key groups ≤ max_index
 index_within key [] h = omega arith
 index_within key (group ∷ groups) h = by_test (eqb (key_rank key) (key_rank group.0)) h.0.index (index_within key groups h.1)
@@ -115,6 +129,7 @@ pub indexes_within : (samples : List TimedSample) (key : GroupKey) → AllByRecu
 indexes_within [] key h = tt
 indexes_within (s ∷ samples) key h = (index_within key s.sample.groups h.0.each, indexes_within samples key h.1)
 
+-- the keys of a map are keys
 keys_valid : (groups : Groups) → AllByRecursion IsGroup groups → AllByRecursion IsKey (map (λ (group : GroupKey × ℕ). group.0) groups)
 keys_valid [] h = tt
 keys_valid (group ∷ groups) h = (key_of_group group h.0, keys_valid groups h.1)
@@ -123,6 +138,7 @@ keys_valid (group ∷ groups) h = (key_of_group group h.0, keys_valid groups h.1
 abbrev pub keys_in : List TimedSample → List GroupKey
 keys_in samples = flat_map (λ (s : TimedSample). map (λ (group : GroupKey × ℕ). group.0) s.sample.groups) samples
 
+-- those of all samples are
 all_keys_valid : (samples : List TimedSample) → AllByRecursion HasGroups samples → AllByRecursion IsKey (keys_in samples)
 all_keys_valid [] h = tt
 all_keys_valid (s ∷ samples) h = all_append IsKey (map (λ (group : GroupKey × ℕ). group.0) s.sample.groups) (keys_in samples) (keys_valid s.sample.groups h.0.each) (all_keys_valid samples h.1)
@@ -131,20 +147,20 @@ all_keys_valid (s ∷ samples) h = all_append IsKey (map (λ (group : GroupKey �
 pub piece_keys_valid : (samples : List TimedSample) → AllByRecursion HasGroups samples → AllByRecursion IsKey (piece_keys samples)
 piece_keys_valid samples h = order_each IsKey (keys_in samples) (all_keys_valid samples h)
 
-split_front : {A : Type 0} (P : A → Type 0) (xs ys : List A) → AllByRecursion P (xs ++ ys) → AllByRecursion P xs × AllByRecursion P ys
-split_front P [] ys h = (tt, h)
-split_front P (x ∷ xs) ys h = let r = split_front P xs ys h.1 in ((h.0, r.0), r.1)
-
+-- keys among others, in a map
 groups_among : (keys : List GroupKey) (groups : Groups) → AllByRecursion (IsAmong keys) (map (λ (group : GroupKey × ℕ). group.0) groups) → AllByRecursion (λ (group : GroupKey × ℕ). IsAmong keys group.0) groups
 groups_among keys [] h = tt
 groups_among keys (group ∷ groups) h = (h.0, groups_among keys groups h.1)
 
+-- keys cover the maps of samples whose keys they are
 samples_covered : (keys : List GroupKey) (order : AllByRecursion IsKey keys) (rises : AreRising keys) (samples : List TimedSample) → AllByRecursion HasGroups samples → AllByRecursion (IsAmong keys) (keys_in samples)
     → AllByRecursion (λ (s : TimedSample). Covers keys s.sample.groups) samples
 samples_covered keys order rises [] h a = tt
 samples_covered keys order rises (s ∷ samples) h a =
-    let p = split_front (IsAmong keys) (map (λ (group : GroupKey × ℕ). group.0) s.sample.groups) (keys_in samples) a in
-    (covers keys s.sample.groups rises order h.0.order h.0.each (groups_among keys s.sample.groups p.0), samples_covered keys order rises samples h.1 p.1)
+    let own = map (λ (group : GroupKey × ℕ). group.0) s.sample.groups in
+    let first = all_first (IsAmong keys) own (keys_in samples) a in
+    let others = all_last (IsAmong keys) own (keys_in samples) a in
+    (covers keys s.sample.groups rises order h.0.order h.0.each (groups_among keys s.sample.groups first), samples_covered keys order rises samples h.1 others)
 
 -- The keys of a piece cover the maps of its samples.
 pub piece_covered : (samples : List TimedSample) → AllByRecursion HasGroups samples → AllByRecursion (λ (s : TimedSample). Covers (piece_keys samples) s.sample.groups) samples
@@ -155,10 +171,12 @@ durations_fit : (samples : List TimedSample) → AllByRecursion FitsRow samples 
 durations_fit [] h = tt
 durations_fit (s ∷ samples) h = (h.0.duration, durations_fit samples h.1)
 
+-- so do the sizes
 sizes_fit : (samples : List TimedSample) → AllByRecursion FitsRow samples → AllByRecursion (λ n. n < 256 ^ 4) (map (λ (s : TimedSample). length s.sample.bytes) samples)
 sizes_fit [] h = tt
 sizes_fit (s ∷ samples) h = (h.0.size, sizes_fit samples h.1)
 
+-- so do the flags
 flags_fit : (samples : List TimedSample) → AllByRecursion FitsRow samples → AllByRecursion (λ n. n < 256 ^ 4) (map (λ (s : TimedSample). s.sample.flags) samples)
 flags_fit [] h = tt
 flags_fit (s ∷ samples) h = (h.0.flags, flags_fit samples h.1)
@@ -247,6 +265,7 @@ module _ (piece : Piece) (h : IsWritablePiece piece) where
   pub moof_short : (sequence data_offset : ℕ) → data_offset < 2 ^ 31 → length (moof_bytes sequence data_offset piece) < 2 ^ 30
   moof_short sequence data_offset near = omega (arith, moof_is sequence data_offset, traf_short data_offset near)
 
+  -- the length of a `traf` does not hang on its data_offset
   traf_same : (data_offset : ℕ) → length (traf_payload data_offset piece) ≡ length (traf_payload 0 piece)
   traf_same data_offset =
       let time = box_bytes (codes "tfdt") (time_payload (first_time piece.samples)) in

@@ -23,6 +23,7 @@ use Rattle.mp4_plan.proofs.Shared.{longest_runs_again}
 
 -- ---- rows of a count and an index
 
+-- rows as they are written
 abbrev pub row_bytes : List (ℕ × ℕ) → List ℕ
 row_bytes runs = flat_map (λ (r : ℕ × ℕ). spelled (row sbgp 0) (r.0 ∷ r.1 ∷ [])) runs
 
@@ -30,17 +31,21 @@ row_bytes runs = flat_map (λ (r : ℕ × ℕ). spelled (row sbgp 0) (r.0 ∷ r.
 abbrev pub FitRuns : List (ℕ × ℕ) → Type 0
 FitRuns runs = AllByRecursion (λ (r : ℕ × ℕ). (r.0 < 2 ^ 32) × (r.1 < 2 ^ 32)) runs
 
+-- the numbers of a row
 abbrev run_numbers : ℕ × ℕ → List ℕ
 run_numbers r = r.0 ∷ r.1 ∷ []
 
+-- rows are written so
 runs_spelled : (runs : List (ℕ × ℕ)) → row_bytes runs ≡ flat_map (spelled (row sbgp 0)) (map run_numbers runs)
 runs_spelled [] = refl
 runs_spelled (r ∷ runs) = ap (λ (l : List ℕ). spelled (row sbgp 0) (r.0 ∷ r.1 ∷ []) ++ l) (runs_spelled runs)
 
+-- they fit
 runs_fit : (runs : List (ℕ × ℕ)) → FitRuns runs → AllFit (row sbgp 0) (map run_numbers runs)
 runs_fit [] h = none
 runs_fit (r ∷ runs) h = more (h.0.0, (h.0.1, tt)) (runs_fit runs h.1)
 
+-- rows are what their numbers say
 runs_read : (runs : List (ℕ × ℕ)) → map (λ (row : List ℕ). (slice_index row 0, slice_index row 1)) (map run_numbers runs) ≡ runs
 runs_read [] = refl
 runs_read (r ∷ runs) = ap (λ (l : List (ℕ × ℕ)). r ∷ l) (runs_read runs)
@@ -54,6 +59,7 @@ runs_again runs n e h =
     ap (map (λ (row : List ℕ). (slice_index row 0, slice_index row 1))) (ap (λ (k : ℕ). rows k (row sbgp 0) (row_bytes runs)) many ∙ ap (λ (l : List ℕ). rows (length table) (row sbgp 0) l) bytes ∙ rows_again (row sbgp 0) table [] (runs_fit runs h))
     ∙ runs_read runs
 
+-- a row takes 8 bytes
 length-runs : (runs : List (ℕ × ℕ)) → length (row_bytes runs) ≡ 8 * length runs
 length-runs [] = refl
 length-runs (r ∷ runs) = omega (arith, length-append (spelled (row sbgp 0) (r.0 ∷ r.1 ∷ [])) (row_bytes runs), length-runs runs)
@@ -64,6 +70,7 @@ length-runs (r ∷ runs) = omega (arith, length-append (spelled (row sbgp 0) (r.
 abbrev pub group_payload : GroupKey → List (ℕ × ℕ) → List ℕ
 group_payload key runs = key_bytes key (length runs) ++ row_bytes runs
 
+-- a type of these letters
 abbrev letters : ℕ → ℕ → ℕ → ℕ → List ℕ
 letters a b c d = a ∷ b ∷ c ∷ d ∷ []
 
@@ -73,6 +80,7 @@ pub record ReadsGroup (key : GroupKey) (runs : List (ℕ × ℕ)) : Type 0 where
   pub sound : IsSound sbgp (group_payload key runs)
   pub long : length (group_payload key runs) ≤ 16 + 8 * length runs
 
+-- with a parameter or without
 by_parameter : (a b c d : ℕ) (parameter : Option ℕ) (runs : List (ℕ × ℕ)) → IsParameter parameter → length runs < 2 ^ 32 → FitRuns runs → ReadsGroup (record { kind = letters a b c d; parameter = parameter }) runs
 by_parameter a b c d None runs h lt fits =
     let count : field (group_payload (record { kind = letters a b c d; parameter = None }) runs) 8 4 ≡ length runs = field_again 4 (length runs) (row_bytes runs) lt in
@@ -107,6 +115,7 @@ put_total_by : (value : ℕ) (r : ℕ × ℕ) (runs : List (ℕ × ℕ)) (same :
 put_total_by value r runs true = omega arith
 put_total_by value r runs false = omega arith
 
+-- one more index is counted
 put_total : (value : ℕ) (runs : List (ℕ × ℕ)) → total (put_run value runs) ≡ suc (total runs)
 put_total value [] = refl
 put_total value (r ∷ runs) = put_total_by value r runs (eqb value r.1)
@@ -120,6 +129,7 @@ put_length_by : (value : ℕ) (r : ℕ × ℕ) (runs : List (ℕ × ℕ)) (same 
 put_length_by value r runs true = omega arith
 put_length_by value r runs false = omega arith
 
+-- one more index makes at most one row more
 put_length : (value : ℕ) (runs : List (ℕ × ℕ)) → length (put_run value runs) ≤ suc (length runs)
 put_length value [] = omega arith
 put_length value (r ∷ runs) = put_length_by value r runs (eqb value r.1)
@@ -134,6 +144,7 @@ put_values_by : (P : ℕ → Type 0) (value : ℕ) (r : ℕ × ℕ) (runs : List
 put_values_by P value r runs true p h = (p, h.1)
 put_values_by P value r runs false p h = (p, h)
 
+-- one more index
 put_values : (P : ℕ → Type 0) (value : ℕ) (runs : List (ℕ × ℕ)) → P value → AllByRecursion (λ (q : ℕ × ℕ). P q.1) runs → AllByRecursion (λ (q : ℕ × ℕ). P q.1) (put_run value runs)
 put_values P value [] p h = (p, tt)
 put_values P value (r ∷ runs) p h = put_values_by P value r runs (eqb value r.1) p h
@@ -143,6 +154,7 @@ pub values_in_runs : (P : ℕ → Type 0) (indexes : List ℕ) → AllByRecursio
 values_in_runs P [] h = tt
 values_in_runs P (index ∷ indexes) h = put_values P index (longest_runs indexes) h.0 (values_in_runs P indexes h.1)
 
+-- rows fit that count fewer than 2^32
 counts_within : (runs : List (ℕ × ℕ)) (m : ℕ) → total runs < m → AllByRecursion (λ (q : ℕ × ℕ). q.1 ≤ max_index) runs → m ≤ 2 ^ 32 → FitRuns runs
 counts_within [] m le h few = tt
 counts_within (r ∷ runs) m le h few = let small = h.0 in ((omega arith, omega arith), counts_within runs m (omega arith) h.1 few)
@@ -161,20 +173,24 @@ indexes_at samples key = map (λ (s : TimedSample). index_at key s.sample.groups
 abbrev pub grouped_by : List TimedSample → GroupKey → Grouping
 grouped_by samples key = record { key = key; rows = longest_runs (indexes_at samples key) }
 
+-- one more key for all samples
 put_all : (key : GroupKey) (keys : List GroupKey) (samples : List TimedSample)
     → put_indexes key (indexes_at samples key) (map (λ (s : TimedSample). made keys s.sample.groups) samples) ≡ map (λ (s : TimedSample). made (key ∷ keys) s.sample.groups) samples
 put_all key keys [] = refl
 put_all key keys (s ∷ samples) = ap (λ (l : List Groups). made (key ∷ keys) s.sample.groups ∷ l) (put_all key keys samples)
 
+-- without keys
 no_keys : (samples : List TimedSample) → replicate (length samples) [] ≡ map (λ (s : TimedSample). made [] s.sample.groups) samples
 no_keys [] = refl
 no_keys (s ∷ samples) = ap (λ (l : List Groups). [] ∷ l) (no_keys samples)
 
+-- the maps that the groupings make
 maps_made : (keys : List GroupKey) (samples : List TimedSample) → maps_of (length samples) (map (grouped_by samples) keys) ≡ map (λ (s : TimedSample). made keys s.sample.groups) samples
 maps_made [] samples = no_keys samples
 maps_made (key ∷ keys) samples =
     (λ i. put_indexes key (longest_runs_again (indexes_at samples key) i) (maps_made keys samples i)) ∙ put_all key keys samples
 
+-- where keys cover the maps they are the maps
 each_made : (keys : List GroupKey) (samples : List TimedSample) → AllByRecursion (λ (s : TimedSample). Covers keys s.sample.groups) samples → map (λ (s : TimedSample). made keys s.sample.groups) samples ≡ map (λ (s : TimedSample). s.sample.groups) samples
 each_made keys [] h = refl
 each_made keys (s ∷ samples) h = λ i. made_again h.0 i ∷ each_made keys samples h.1 i

@@ -27,6 +27,7 @@ pub record RunFlags (bits : ℕ) : Type 0 where
   pub known : IsTrue (only_among (known_flags trun) bits && not (has bits first_sample_flags_present && has bits sample_flags_present))
   pub narrow : width_of (present bits sample_columns) ≤ 16
 
+-- by what stands once for all samples
 run_flags_by : (duration size flags : Option ℕ) (has_offsets : Bool) → RunFlags (run_flags (record { duration = duration; size = size; flags = flags; has_offsets = has_offsets }))
 run_flags_by None None None false = record { has_offset = refl; has_no_first = refl; small = lit< tt; known = refl; narrow = lit≤ tt }
 run_flags_by None None None true = record { has_offset = refl; has_no_first = refl; small = lit< tt; known = refl; narrow = lit≤ tt }
@@ -45,6 +46,7 @@ run_flags_by (Some d) (Some z) None true = record { has_offset = refl; has_no_fi
 run_flags_by (Some d) (Some z) (Some f) false = record { has_offset = refl; has_no_first = refl; small = lit< tt; known = refl; narrow = lit≤ tt }
 run_flags_by (Some d) (Some z) (Some f) true = record { has_offset = refl; has_no_first = refl; small = lit< tt; known = refl; narrow = lit≤ tt }
 
+-- what its flags say
 run_flags_are : (shared : Shared) → RunFlags (run_flags shared)
 run_flags_are shared = run_flags_by shared.duration shared.size shared.flags shared.has_offsets
 
@@ -52,6 +54,7 @@ run_flags_are shared = run_flags_by shared.duration shared.size shared.flags sha
 abbrev pub rows_bytes : Shared → List TimedSample → List ℕ
 rows_bytes shared samples = flat_map (trun_row shared) samples
 
+-- how long the rows are
 length-rows : (shared : Shared) (samples : List TimedSample) → AllByRecursion FitsRow samples → length (rows_bytes shared samples) ≡ length samples * width_of (present (run_flags shared) sample_columns)
 length-rows shared [] h = omega arith
 length-rows shared (s ∷ samples) h =
@@ -81,15 +84,19 @@ abbrev pub run_read : ℕ → Shared → List TimedSample → Run
 run_read data_offset shared samples = record { data_offset = Some (pos data_offset); first_sample_flags = None; rows = map (row_read shared) samples }
 
 module _ (data_offset : ℕ) (shared : Shared) (samples : List TimedSample) (near : data_offset < 2 ^ 31) (few : length samples < 2 ^ 32) (fits : AllByRecursion FitsRow samples) where
+  -- the flags are read again
   bits_are : flags (run_payload data_offset shared samples) ≡ run_flags shared
   bits_are = field_again 3 (run_flags shared) (spelled (4 ∷ []) (length samples ∷ []) ++ (column_bytes trun_columns (Some data_offset ∷ None ∷ []) ++ rows_bytes shared samples)) (run_flags_are shared).small
 
+  -- so is the number of samples
   count_is : row_count trun (run_payload data_offset shared samples) ≡ length samples
   count_is = field_again 4 (length samples) (column_bytes trun_columns (Some data_offset ∷ None ∷ []) ++ rows_bytes shared samples) few
 
+  -- what stands before the rows fits
   options_fit : FitColumns (run_flags shared) trun_columns (Some data_offset ∷ None ∷ [])
   options_fit = let f = run_flags_are shared in (f.has_offset, omega arith, (f.has_no_first, tt))
 
+  -- it takes four bytes
   options_wide : width_of (present (run_flags shared) trun_columns) ≡ 4
   options_wide = sym (length-column_bytes (run_flags shared) trun_columns (Some data_offset ∷ None ∷ []) options_fit)
 
@@ -147,6 +154,7 @@ FitsOption o = FitsBy (λ n. n < 256 ^ 4) o
 abbrev pub head_options : ℕ → Option ℕ → Option ℕ → Option ℕ → List (Option ℕ)
 head_options description duration size flags = None ∷ Some description ∷ duration ∷ size ∷ flags ∷ []
 
+-- its flags
 abbrev pub head_flags : ℕ → Option ℕ → Option ℕ → Option ℕ → ℕ
 head_flags description duration size flags = default_base_is_moof + column_flags tfhd_columns (head_options description duration size flags)
 
@@ -158,6 +166,7 @@ pub record HeadFlags (description : ℕ) (duration size flags : Option ℕ) : Ty
   pub known : IsTrue (only_among (known_flags tfhd) (head_flags description duration size flags))
   pub narrow : width_of (present (head_flags description duration size flags) tfhd_columns) ≤ 16
 
+-- they say what they ought to
 pub head_flags_are : (description : ℕ) (duration size flags : Option ℕ) → description < 256 ^ 4 → FitsOption duration → FitsOption size → FitsOption flags → HeadFlags description duration size flags
 head_flags_are n None None None h d z f = record { fits = (refl, (refl, h, (refl, (refl, (refl, tt))))); is_moof = refl; small = lit< tt; known = refl; narrow = lit≤ tt }
 head_flags_are n None None (Some c) h d z f = record { fits = (refl, (refl, h, (refl, (refl, (refl, f, tt))))); is_moof = refl; small = lit< tt; known = refl; narrow = lit≤ tt }
@@ -174,6 +183,7 @@ head_payload id description duration size flags =
     spelled (fields tfhd 0) (0 ∷ head_flags description duration size flags ∷ id ∷ []) ++ column_bytes tfhd_columns (head_options description duration size flags)
 
 module _ (id description : ℕ) (duration size some_flags : Option ℕ) (id_fits : id < 256 ^ 4) (h : HeadFlags description duration size some_flags) where
+  -- the flags are read again
   head_bits : flags (head_payload id description duration size some_flags) ≡ head_flags description duration size some_flags
   head_bits = field_again 3 (head_flags description duration size some_flags) (spelled (4 ∷ []) (id ∷ []) ++ column_bytes tfhd_columns (head_options description duration size some_flags)) h.small
 
@@ -218,17 +228,21 @@ module _ (id description : ℕ) (duration size some_flags : Option ℕ) (id_fits
 
 -- ---- `tfdt`
 
+-- the payload of a `tfdt`
 abbrev pub time_payload : ℕ → List ℕ
 time_payload time = spelled (fields tfdt 1) (1 ∷ 0 ∷ time ∷ [])
 
+-- its time is read again
 pub time_again : (time : ℕ) → time < 256 ^ 8 → decode_time_of (time_payload time) ≡ time
 time_again time lt = ap (λ (ns : List ℕ). slice_index ns 2) (alone_again (fields tfdt 1) (1 ∷ 0 ∷ time ∷ []) (lit< tt, (lit< tt, (lt, tt))))
 
+-- it is sound
 pub time_sound : (time : ℕ) → IsSound tfdt (time_payload time)
 time_sound time = record { readable = record { version = refl; flags = refl; room = lit≤ tt }; value = refl; inside = refl; offsets = refl }
 
 -- ---- what samples have in common
 
+-- in common or not
 common_by : (P : ℕ → Type 0) (n : ℕ) (all : Bool) → P n → FitsBy P (cond all (Some n) None)
 common_by P n true h = h
 common_by P n false h = tt
