@@ -1,14 +1,13 @@
 -- Boxes that are written one after the other: where they lie, and what a container holds of them.
 use Rattle.std.proofs.Common.{◌≡◌, ℕ, ◌+◌, ◌^◌, ◌<◌, ◌≤◌, Bool, true, false, cond, List, [], ◌∷◌, ◌++◌, length, drop, Option, Some, None, refl, sym, ap, subst, ◌∙◌, append_assoc, length-append, arith, add-zero}
-use Rattle.std.specs.Prelude.{bytes_eq, IsTrue, if◌then◌else◌, map, unwrap_or}
+use Rattle.std.specs.Prelude.{bytes_eq, IsTrue, if◌then◌else◌, map, ◌||◌, flat_map}
 use Rattle.std.specs.List.{AllByRecursion}
 use Rattle.std.proofs.lemmas.List.{append-nil}
 use Rattle.byteorder.specs.Endian.{big_bytes}
 use Rattle.byteorder.specs.Numbers.{length-bytes_high_first}
 use Rattle.mp4_boxes.specs.Bytes.{field}
-use Rattle.mp4_boxes.specs.Box.{Box, size, sizes, LieEndToEnd, Container, box_container, counted_container, Tiles}
+use Rattle.mp4_boxes.specs.Box.{Box, sizes, LieEndToEnd, box_container, counted_container, Tiles}
 use Rattle.mp4_boxes.specs.Children.{Line, IsQuantity, Holds, table, allows, is_among, count_among, of_kind, payload_if}
-use Rattle.std.specs.Prelude.{◌||◌, flat_map}
 use Rattle.std.proofs.lemmas.Slice.Eq.{bytes_eq-Decides}
 use Rattle.mp4_boxes.specs.Written.{box_bytes}
 use Rattle.mp4_boxes.specs.declared.rule.Rule.{Rule}

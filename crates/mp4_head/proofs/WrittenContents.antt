@@ -1,21 +1,20 @@
 -- The contents of the containers of a `trak` that was written, and that each holds the boxes of the profile.
-use Rattle.std.proofs.Common.{◌≡◌, ℕ, ◌+◌, ◌^◌, ◌<◌, ◌≤◌, Bool, true, false, List, [], ◌∷◌, ◌++◌, length, drop, Option, Some, None, refl, sym, ap, ap₂, subst, ◌∙◌, arith, append_assoc, length-append, lit≤}
+use Rattle.std.proofs.Common.{◌≡◌, ℕ, ◌+◌, ◌^◌, ◌≤◌, Bool, true, false, List, [], ◌∷◌, ◌++◌, length, drop, Option, Some, refl, sym, ap, ap₂, ◌∙◌, arith, append_assoc, length-append, lit≤}
 use Rattle.std.specs.Prelude.{codes, map, flat_map, unwrap_or, bytes_eq, IsTrue, if◌then◌else◌}
 use Rattle.std.specs.List.{AllByRecursion}
 use Rattle.std.proofs.lemmas.List.{append-nil, length-map}
 use Rattle.mp4_boxes.specs.Bytes.{spelled, field}
 use Rattle.mp4_boxes.specs.Box.{Box, box_container, counted_container, Tiles}
-use Rattle.mp4_boxes.specs.Children.{Holds, allows, is_among, media_headers, payload_of, payload_if, count_among}
+use Rattle.mp4_boxes.specs.Children.{Holds, allows, is_among, media_headers}
 use Rattle.mp4_boxes.specs.Layout.{dref, data_entry_url, stsd, stts, stsc, stsz, stco, mdhd, fields}
 use Rattle.mp4_boxes.specs.Written.{box_bytes}
 use Rattle.mp4_boxes.specs.Places.{kept_kinds}
-use Rattle.mp4_boxes.specs.declared.rule.Rule.{Rule}
 use Rattle.mp4_boxes.specs.declared.rule.Rule.TheVariants as rules
 use Rattle.mp4_boxes.proofs.Among.{all_append}
-use Rattle.mp4_boxes.proofs.WrittenBoxes.{Content, written, placed, children, FitsBox, AreTypes, AreOther, HaveNone, typed, found, written-append, tiles_counted, holds_written, fits_written, payload_placed, found_behind, all_typed, typed_written, among_has, count_written, count_around, count_before, count_none, count_written-append}
+use Rattle.mp4_boxes.proofs.WrittenBoxes.{Content, written, placed, children, FitsBox, AreTypes, HaveNone, typed, found, written-append, tiles_counted, holds_written, fits_written, payload_placed, found_behind, all_typed, typed_written, among_has, count_written, count_around, count_before, count_none, count_written-append}
 use Rattle.mp4_head.specs.Head.{Kept, Edit, Media, TrackHead, IsKept, IsDescription, IsMedia, IsTrackHead}
-use Rattle.mp4_head.specs.Tree.{first_of, HoldsIfThere}
-use Rattle.mp4_head.specs.Writing.{kept_bytes, edts_bytes, dinf_bytes, stbl_bytes, mdhd_bytes, tkhd_bytes, mdia_bytes, trak_bytes}
+use Rattle.mp4_head.specs.Tree.{first_of}
+use Rattle.mp4_head.specs.Writing.{kept_bytes, edts_bytes, mdhd_bytes, tkhd_bytes}
 use Rattle.mp4_head.proofs.Again.{mdhd_numbers}
 use Rattle.mp4_head.proofs.Distinct.{payload_first}
 use Rattle.mp4_head.proofs.WrittenLeaves.{tkhd_payload, elst_payload, stsd_payload, stsd_count}
@@ -133,9 +132,22 @@ stbl_holds b descriptions group_descriptions e le =
     let count = λ (kinds : List (List ℕ)) (n : is_among kinds (codes "sgpd") ≡ false). count_before kinds front groups (no_groups kinds group_descriptions n) in
     let none = λ (kinds : List (List ℕ)) (n : is_among kinds (codes "sgpd") ≡ false) (z : count_written kinds front ≡ 0). few (count_written kinds (front ++ groups)) (count kinds n ∙ z) in
     holds_written rules.SampleTable b (front ++ groups) same (fits_in b.payload (front ++ groups) same (table_types descriptions group_descriptions) le)
-    (refl, (refl, (refl, (refl, (refl, all_typed (λ kind. IsTrue (allows rules.SampleTable kind)) (codes "sgpd") group_descriptions refl)))))
-    (count (codes "stsd" ∷ []) refl, (count (codes "stts" ∷ []) refl, (count (codes "stsc" ∷ []) refl, (count (codes "stsz" ∷ codes "stz2" ∷ []) refl, (count (codes "stco" ∷ codes "co64" ∷ []) refl,
-    (none (codes "ctts" ∷ []) refl refl, (none (codes "stss" ∷ []) refl refl, (none (codes "sdtp" ∷ []) refl refl, (none (codes "cslg" ∷ []) refl refl, (tt, (tt, tt)))))))))))
+    (refl, (refl, (refl, (refl, (refl, all_typed (λ kind. IsTrue (allows rules.SampleTable kind)) (codes "sgpd") group_descriptions refl))))) (
+      count (codes "stsd" ∷ []) refl,
+      (
+        count (codes "stts" ∷ []) refl,
+        (
+          count (codes "stsc" ∷ []) refl,
+          (
+            count (codes "stsz" ∷ codes "stz2" ∷ []) refl,
+            (
+              count (codes "stco" ∷ codes "co64" ∷ []) refl,
+              (none (codes "ctts" ∷ []) refl refl, (none (codes "stss" ∷ []) refl refl, (none (codes "sdtp" ∷ []) refl refl, (none (codes "cslg" ∷ []) refl refl, (tt, (tt, tt)))))),
+            ),
+          ),
+        ),
+      ),
+    )
   where
     few : (n : ℕ) → n ≡ 0 → n ≤ 1
     few n z = omega arith
@@ -206,10 +218,13 @@ minf_holds b m h group_descriptions e le =
     let contents = information_contents m.header m.descriptions group_descriptions in
     let same = e ∙ minf_written m.header m.descriptions group_descriptions in
     holds_written rules.MediaInformation b contents same (fits_in b.payload contents same (minf_types m h group_descriptions) le)
-    (header_has (λ kind. IsTrue (allows rules.MediaInformation kind)) m h (refl, (refl, (refl, (refl, (refl, (refl, tt)))))), (refl, (refl, tt)))
-    (one_header (is_among media_headers m.header.kind) h.header,
-    (not_header (is_among (codes "dinf" ∷ []) m.header.kind) 1 (header_has (λ kind. is_among (codes "dinf" ∷ []) kind ≡ false) m h (refl, (refl, (refl, (refl, (refl, (refl, tt))))))),
-    (not_header (is_among (codes "stbl" ∷ []) m.header.kind) 1 (header_has (λ kind. is_among (codes "stbl" ∷ []) kind ≡ false) m h (refl, (refl, (refl, (refl, (refl, (refl, tt))))))), tt)))
+    (header_has (λ kind. IsTrue (allows rules.MediaInformation kind)) m h (refl, (refl, (refl, (refl, (refl, (refl, tt)))))), (refl, (refl, tt))) (
+      one_header (is_among media_headers m.header.kind) h.header,
+      (
+        not_header (is_among (codes "dinf" ∷ []) m.header.kind) 1 (header_has (λ kind. is_among (codes "dinf" ∷ []) kind ≡ false) m h (refl, (refl, (refl, (refl, (refl, (refl, tt))))))),
+        (not_header (is_among (codes "stbl" ∷ []) m.header.kind) 1 (header_has (λ kind. is_among (codes "stbl" ∷ []) kind ≡ false) m h (refl, (refl, (refl, (refl, (refl, (refl, tt))))))), tt),
+      ),
+    )
 
 -- what is found behind the media header
 behind_header : (kind : List ℕ) (header : Kept) (contents : List Content) → bytes_eq kind header.kind ≡ false → found kind (content_of header ∷ contents) ≡ found kind contents

@@ -1,26 +1,19 @@
 -- The leaves of a head that was written: they can be read, and say what was written.
-use Rattle.std.proofs.Common.{◌≡◌, ℕ, ◌+◌, ◌^◌, ◌<◌, ◌≤◌, Bool, true, false, eqb, List, [], ◌∷◌, ◌++◌, length, drop, take, refl, sym, ap, subst, ◌∙◌, append_assoc, slice_index, lit<, lit≤, arith, length-append}
-use Rattle.std.specs.Prelude.{map, replicate, ℤ, codes}
-use Rattle.std.proofs.lemmas.Bool.{ne_eqb, eq-eqb, le-leb}
-use Rattle.std.proofs.lemmas.List.{append-nil, length-map}
-use Rattle.mp4_boxes.specs.Bytes.{spelled, unsigned, numbers, FitWidths, field, width_of}
-use Rattle.mp4_boxes.specs.Layout.{mvhd, tkhd, mdhd, hdlr, elst, dref, data_entry_url, stsd, sample_entry, stts, stsc, stsz, stco, sgpd, trex, fields, row, leaf_fields, version, IsSound, IsReadable}
-use Rattle.mp4_boxes.proofs.Fields.{numbers_again, length-spelled}
-use Rattle.mp4_frag.specs.declared.trex.Trex.{Trex}
+use Rattle.std.proofs.Common.{◌≡◌, ℕ, ◌+◌, ◌^◌, ◌<◌, false, eqb, List, [], ◌∷◌, ◌++◌, length, drop, take, refl, sym, ap, subst, ◌∙◌, append_assoc, slice_index, lit<, lit≤, arith, length-append}
+use Rattle.std.specs.Prelude.{map, replicate, flat_map, Some, not, ◌*◌}
+use Rattle.std.proofs.lemmas.Bool.{ne_eqb, le-leb}
+use Rattle.std.proofs.lemmas.List.{append-nil, length-map, drop_at, get_or-drop}
+use Rattle.mp4_boxes.specs.Bytes.{spelled, unsigned, numbers, FitWidths, field, rows}
+use Rattle.mp4_boxes.specs.Layout.{mvhd, tkhd, mdhd, hdlr, elst, stsd, sample_entry, sgpd, trex, fields, row, leaf_fields, version, IsSound}
+use Rattle.mp4_boxes.proofs.Fields.{numbers_again, length-spelled, AllFit, none, more, rows_again, field_again}
 use Rattle.mp4_frag.specs.Fragments.{trex_of}
-use Rattle.mp4_head.specs.Head.{MovieHead, TrackHead, Media, IsMovieHead, IsTrackHead, IsMedia, IsGroupDescription, Kept, IsDescription}
-use Rattle.mp4_head.proofs.Again.{mdhd_numbers, mdhd_again}
-use Rattle.mp4_head.proofs.Again.{signed_again}
+use Rattle.mp4_head.specs.Head.{MovieHead, TrackHead, Media, IsMovieHead, IsTrackHead, IsMedia, IsGroupDescription, Kept, IsDescription, Edit, IsEdit}
+use Rattle.mp4_head.proofs.Again.{mdhd_numbers, mdhd_again, signed_again}
 use Rattle.mp4_head.proofs.Signed.{short_fits, signed_fits, long_fits, short_again, long_again, row_fits, matrix_again}
-use Rattle.mp4_head.specs.Head.{Edit, IsEdit}
 use Rattle.mp4_head.specs.Tree.{matrix_of, edit_of, edits_of}
 use Rattle.mp4_head.specs.Writing.{edit_bytes, kept_bytes}
-use Rattle.std.specs.Prelude.{flat_map, Some, not, ◌*◌}
 use Rattle.std.specs.List.{AllByRecursion}
 use Rattle.byteorder.specs.Endian.{twos_complement}
-use Rattle.mp4_boxes.specs.Bytes.{rows}
-use Rattle.mp4_boxes.proofs.Fields.{AllFit, none, more, rows_again, field_again}
-use Rattle.std.proofs.lemmas.List.{drop_at, get_or-drop}
 
 -- what was spelled, with nothing behind it, is read
 pub alone_again : (widths values : List ℕ) → FitWidths widths values → numbers widths (spelled widths values) ≡ values
@@ -44,9 +37,40 @@ mvhd_payload m next_track_id = spelled (fields mvhd 1) (mvhd_numbers m next_trac
 mvhd_fits : (m : MovieHead) (next_track_id : ℕ) → IsMovieHead m → next_track_id < 2 ^ 32 → FitWidths (fields mvhd 1) (mvhd_numbers m next_track_id)
 mvhd_fits m next_track_id h lt =
     let row = row_fits 9 m.matrix (replicate 6 4 ++ 4 ∷ []) (replicate 6 0 ++ next_track_id ∷ []) h.matrix.nine h.matrix.fits (lit< tt, (lit< tt, (lit< tt, (lit< tt, (lit< tt, (lit< tt, (lt, tt))))))) in
-    let regrouped = sym (append_assoc (map (unsigned 4) m.matrix) (replicate 6 0) (next_track_id ∷ [])) in
-    (lit< tt, (lit< tt, (h.creation, (h.modification, (h.timescale, (lit< tt, (signed_fits m.rate h.rate, (short_fits m.volume h.volume, (lit< tt, (lit< tt, (lit< tt,
-    subst (λ (values : List ℕ). FitWidths (replicate 9 4 ++ (replicate 6 4 ++ 4 ∷ [])) values) regrouped row)))))))))))
+    let regrouped = sym (append_assoc (map (unsigned 4) m.matrix) (replicate 6 0) (next_track_id ∷ [])) in (
+      lit< tt,
+      (
+        lit< tt,
+        (
+          h.creation,
+          (
+            h.modification,
+            (
+              h.timescale,
+              (
+                lit< tt,
+                (
+                  signed_fits m.rate h.rate,
+                  (
+                    short_fits m.volume h.volume,
+                    (
+                      lit< tt,
+                      (
+                        lit< tt,
+                        (
+                          lit< tt,
+                          subst (λ (values : List ℕ). FitWidths (replicate 9 4 ++ (replicate 6 4 ++ 4 ∷ [])) values) regrouped row,
+                        ),
+                      ),
+                    ),
+                  ),
+                ),
+              ),
+            ),
+          ),
+        ),
+      ),
+    )
 
 -- they are read again
 pub mvhd_again : (m : MovieHead) (next_track_id : ℕ) → IsMovieHead m → next_track_id < 2 ^ 32 → leaf_fields mvhd (mvhd_payload m next_track_id) ≡ mvhd_numbers m next_track_id
@@ -103,9 +127,22 @@ tkhd_sound t h = record {
 -- what a `tkhd` says, with what is said elsewhere
 pub track_again : (t : TrackHead) → IsTrackHead t → (ns : List ℕ) → ns ≡ tkhd_numbers t → (edits : List Edit) → edits ≡ t.edits → (kept : List Kept) → kept ≡ t.kept → (media : Media) → media ≡ t.media
     → (group_descriptions : List (List ℕ)) → group_descriptions ≡ t.group_descriptions
-    → ◌≡◌ {A = TrackHead} (record { flags = slice_index ns 1; creation = slice_index ns 2; modification = slice_index ns 3; id = slice_index ns 4; layer = twos_complement 2 (slice_index ns 9);
-    alternate_group = twos_complement 2 (slice_index ns 10); volume = twos_complement 2 (slice_index ns 11); matrix = matrix_of ns 13 22; width = slice_index ns 22; height = slice_index ns 23;
-    edits = edits; kept = kept; media = media; group_descriptions = group_descriptions }) t
+    → ◌≡◌ {A = TrackHead} (record {
+      flags = slice_index ns 1;
+      creation = slice_index ns 2;
+      modification = slice_index ns 3;
+      id = slice_index ns 4;
+      layer = twos_complement 2 (slice_index ns 9);
+      alternate_group = twos_complement 2 (slice_index ns 10);
+      volume = twos_complement 2 (slice_index ns 11);
+      matrix = matrix_of ns 13 22;
+      width = slice_index ns 22;
+      height = slice_index ns 23;
+      edits = edits;
+      kept = kept;
+      media = media;
+      group_descriptions = group_descriptions;
+    }) t
 track_again t h ns e edits d kept k media m groups g =
     let layer = ap (λ (l : List ℕ). twos_complement 2 (slice_index l 9)) e ∙ short_again t.layer h.layer in
     let alternate = ap (λ (l : List ℕ). twos_complement 2 (slice_index l 10)) e ∙ short_again t.alternate_group h.alternate_group in
@@ -114,8 +151,22 @@ track_again t h ns e edits d kept k media m groups g =
     let tail : drop 9 (map (unsigned 4) t.matrix ++ t.width ∷ t.height ∷ []) ≡ t.width ∷ t.height ∷ [] = drop_at (map (unsigned 4) t.matrix) (t.width ∷ t.height ∷ []) 9 (length-map t.matrix (unsigned 4) ∙ h.matrix.nine) in
     let width = ap (λ (l : List ℕ). slice_index l 22) e ∙ sym (get_or-drop 9 (map (unsigned 4) t.matrix ++ t.width ∷ t.height ∷ []) 0 0) ∙ ap (λ (l : List ℕ). slice_index l 0) tail in
     let height = ap (λ (l : List ℕ). slice_index l 23) e ∙ sym (get_or-drop 9 (map (unsigned 4) t.matrix ++ t.width ∷ t.height ∷ []) 1 0) ∙ ap (λ (l : List ℕ). slice_index l 1) tail in
-    λ i. record { flags = slice_index (e i) 1; creation = slice_index (e i) 2; modification = slice_index (e i) 3; id = slice_index (e i) 4; layer = layer i; alternate_group = alternate i; volume = volume i;
-    matrix = matrix i; width = width i; height = height i; edits = d i; kept = k i; media = m i; group_descriptions = g i }
+    λ i. record {
+      flags = slice_index (e i) 1;
+      creation = slice_index (e i) 2;
+      modification = slice_index (e i) 3;
+      id = slice_index (e i) 4;
+      layer = layer i;
+      alternate_group = alternate i;
+      volume = volume i;
+      matrix = matrix i;
+      width = width i;
+      height = height i;
+      edits = d i;
+      kept = k i;
+      media = m i;
+      group_descriptions = g i;
+    }
 
 -- ---- the other leaves
 

@@ -1,27 +1,27 @@
 -- The tree of a `moov` that was written, and the head that it says.
-use Rattle.std.proofs.Common.{◌≡◌, ℕ, ◌+◌, ◌-◌, ◌^◌, ◌<◌, ◌≤◌, min, Bool, true, false, List, [], ◌∷◌, ◌++◌, length, Option, Some, None, refl, sym, ap, ap₂, subst, ◌∙◌, arith, append_assoc, length-append, lit≤}
-use Rattle.std.specs.Prelude.{codes, map, flat_map, bytes_eq, IsTrue, fold, max}
+use Rattle.std.proofs.Common.{◌≡◌, ℕ, ◌+◌, ◌^◌, ◌<◌, ◌≤◌, true, false, List, [], ◌∷◌, ◌++◌, length, None, refl, sym, ap, ap₂, subst, ◌∙◌, arith, append_assoc, length-append}
+use Rattle.std.specs.Prelude.{codes, map, flat_map, bytes_eq, IsTrue}
 use Rattle.std.specs.List.{AllByRecursion}
 use Rattle.std.proofs.lemmas.List.{append-nil}
 use Rattle.mp4_boxes.specs.Bytes.{spelled}
 use Rattle.mp4_boxes.specs.Box.{Box, box_container}
-use Rattle.mp4_boxes.specs.Children.{Holds, of_kind, payload_of, is_among, allows}
+use Rattle.mp4_boxes.specs.Children.{Holds, of_kind, is_among, allows}
 use Rattle.mp4_boxes.specs.Layout.{mvhd, leaf_fields}
 use Rattle.mp4_boxes.specs.Written.{box_bytes}
 use Rattle.mp4_boxes.specs.Places.{ruled, kept_kinds, leaf_of, IsSoundAs, AreSound}
 use Rattle.mp4_boxes.specs.declared.rule.Rule.TheVariants as rules
 use Rattle.mp4_boxes.proofs.Among.{all_append}
 use Rattle.mp4_boxes.proofs.Joined.{all_first, all_last}
-use Rattle.mp4_boxes.proofs.WrittenBoxes.{Content, written, placed, placed_box, children, FitsBox, AreTypes, AreOther, AreThis, HaveNone, typed, written-append, length-box_bytes, holds_written, count_around, count_before, of_kind-between, all_typed}
+use Rattle.mp4_boxes.proofs.WrittenBoxes.{Content, written, placed, placed_box, children, FitsBox, typed, written-append, length-box_bytes, holds_written, count_around, count_before, of_kind-between}
 use Rattle.mp4_frag.specs.declared.trex.Trex.{Trex}
 use Rattle.mp4_frag.specs.Fragments.{trex_of}
-use Rattle.mp4_head.specs.Head.{Kept, TrackHead, MovieHead, Head, IsTrackHead, IsMovieHead}
-use Rattle.mp4_head.specs.Tree.{TrackTree, MovieTree, first_of, HoldsIfThere, IsTrackTree, IsMovieTree, kept_among, track_head_of, movie_head_of, trexes_of, head_of, are_distinct, NameNoItems, IsSoundTrack, IsSoundMovie, HasHead}
+use Rattle.mp4_head.specs.Head.{Kept, TrackHead, MovieHead, IsTrackHead, IsMovieHead}
+use Rattle.mp4_head.specs.Tree.{TrackTree, MovieTree, HoldsIfThere, IsTrackTree, IsMovieTree, kept_among, track_head_of, movie_head_of, trexes_of, are_distinct, NameNoItems, IsSoundTrack, IsSoundMovie}
 use Rattle.mp4_head.specs.Writing.{kept_bytes, trak_bytes, trex_bytes, mvhd_bytes, mvex_bytes, next_track_id, moov_bytes}
-use Rattle.mp4_head.proofs.WrittenLeaves.{mvhd_payload, mvhd_numbers, mvhd_again, mvhd_sound, movie_again, trex_payload, trex_sound, trex_again}
-use Rattle.mp4_head.proofs.WrittenContents.{content_of, contents_of, kept_written, all_kept, fits_in, trak_payload}
+use Rattle.mp4_head.proofs.WrittenLeaves.{mvhd_payload, mvhd_again, mvhd_sound, movie_again, trex_payload, trex_sound, trex_again}
+use Rattle.mp4_head.proofs.WrittenContents.{contents_of, kept_written, all_kept, fits_in, trak_payload}
 use Rattle.mp4_head.proofs.WrittenTrack.{trak_content, track_tree, track_tree_is}
-use Rattle.mp4_head.proofs.WrittenTrackHead.{kept_between, name_none, unread, sound_placed, track_head_again, table_sound, track_leaves_sound}
+use Rattle.mp4_head.proofs.WrittenTrackHead.{kept_between, name_none, unread, sound_placed, track_head_again, track_leaves_sound}
 
 -- ---- contents
 
@@ -264,8 +264,11 @@ module _ (movie : MovieHead) (tracks : List TrackHead) (duration : ℕ) (h : IsW
   pub traks_small : AllByRecursion (λ (t : TrackHead). length (trak_payload t) ≤ 2 ^ 30) tracks
   traks_small =
       let le = moov_small in
-      each_small tracks (omega (arith, length-append (mvhd_bytes movie (next_track_id tracks) ++ flat_map kept_bytes movie.kept ++ flat_map trak_bytes tracks) (mvex_bytes tracks duration),
-      length-append (mvhd_bytes movie (next_track_id tracks) ++ flat_map kept_bytes movie.kept) (flat_map trak_bytes tracks)))
+      each_small tracks (omega (
+        arith,
+        length-append (mvhd_bytes movie (next_track_id tracks) ++ flat_map kept_bytes movie.kept ++ flat_map trak_bytes tracks) (mvex_bytes tracks duration),
+        length-append (mvhd_bytes movie (next_track_id tracks) ++ flat_map kept_bytes movie.kept) (flat_map trak_bytes tracks),
+      ))
 
   -- The tree of a written `moov` is this one.
   pub movie_tree_is : (at : ℕ) → IsMovieTree (movie_tree at movie tracks duration)
@@ -276,7 +279,7 @@ module _ (movie : MovieHead) (tracks : List TrackHead) (duration : ℕ) (h : IsW
         movie = movie_holds at;
         extends = at_mvex (λ bs. HoldsIfThere rules.MovieExtends bs (extends_in bs tracks duration)) at extends_hold;
         traks = traks_are from tracks ∙ sym (of_kind-between (codes "trak") (at + 8) (movie_front movie tracks) (trak_contents tracks) (movie_back tracks duration) fits_front
-        (all_first FitsBox (trak_contents tracks) (movie_back tracks duration) fits_behind) (all_front Other movie tracks h.is_movie refl (refl, (refl, (refl, tt)))) (all_traks (λ kind. bytes_eq (codes "trak") kind ≡ true) tracks refl) (refl, tt));
+            (all_first FitsBox (trak_contents tracks) (movie_back tracks duration) fits_behind) (all_front Other movie tracks h.is_movie refl (refl, (refl, (refl, tt)))) (all_traks (λ kind. bytes_eq (codes "trak") kind ≡ true) tracks refl) (refl, tt));
         tracks = all_trees from tracks h.are_tracks traks_small;
       }
 
@@ -318,13 +321,13 @@ module _ (movie : MovieHead) (tracks : List TrackHead) (duration : ℕ) (h : IsW
       let Sound = λ (k : Content). IsSoundAs (leaf_of (ruled rules.Movie) k.kind) k.payload in
       record {
         movie = sound_placed (ruled rules.Movie) (at + 8) (movie_contents movie tracks duration)
-        (all_append Sound (movie_front movie tracks) (trak_contents tracks ++ movie_back tracks duration)
-        (mvhd_sound movie (next_track_id tracks) h.is_movie next_fits, unread (ruled rules.Movie) (contents_of movie.kept) (all_kept Unread (kept_kinds rules.Movie) movie.kept (refl, (refl, (refl, tt))) h.is_movie.kept))
-        (all_append Sound (trak_contents tracks) (movie_back tracks duration) (unread (ruled rules.Movie) (trak_contents tracks) (all_traks Unread tracks refl)) (tt, tt)));
+            (all_append Sound (movie_front movie tracks) (trak_contents tracks ++ movie_back tracks duration)
+            (mvhd_sound movie (next_track_id tracks) h.is_movie next_fits, unread (ruled rules.Movie) (contents_of movie.kept) (all_kept Unread (kept_kinds rules.Movie) movie.kept (refl, (refl, (refl, tt))) h.is_movie.kept))
+            (all_append Sound (trak_contents tracks) (movie_back tracks duration) (unread (ruled rules.Movie) (trak_contents tracks) (all_traks Unread tracks refl)) (tt, tt)));
         kept = subst (λ (l : List Kept). NameNoItems l) (sym (movie_kept at)) (name_none (kept_kinds rules.Movie) movie.kept h.is_movie.kept);
         tracks = all_sound (at + 8 + length (written (movie_front movie tracks))) tracks h.are_tracks traks_small;
         track_ids = ap (λ (l : List TrackHead). are_distinct (map (λ (t : TrackHead). t.id) l)) (track_heads_again at) ∙ h.distinct;
         extends = at_mvex (λ bs. AreSound (ruled rules.MovieExtends) (extends_in bs tracks duration)) at
-        (λ n. sound_placed (ruled rules.MovieExtends) (n + 8) (extends_contents tracks duration) (tt, trexes_sound tracks));
+            (λ n. sound_placed (ruled rules.MovieExtends) (n + 8) (extends_contents tracks duration) (tt, trexes_sound tracks));
         trex_ids = ap (λ (l : List Trex). are_distinct (map (λ (x : Trex). x.id) l)) (trexes_again at) ∙ ap are_distinct (trex_ids_are tracks) ∙ h.distinct;
       }

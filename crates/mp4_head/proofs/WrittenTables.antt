@@ -1,21 +1,20 @@
 -- The tables of a `trak` that was written name no samples, and fit.
-use Rattle.std.proofs.Common.{◌≡◌, ℕ, ◌+◌, List, [], ◌∷◌, ◌++◌, length, Option, Some, None, refl, false, ap, subst, sym, ◌∙◌}
+use Rattle.std.proofs.Common.{◌≡◌, ℕ, ◌+◌, List, [], ◌∷◌, length, None, refl, false, ◌∙◌}
 use Rattle.std.specs.Prelude.{codes, bytes_eq, option_map, map, drop}
 use Rattle.std.specs.List.{AllByRecursion}
-use Rattle.mp4_boxes.specs.Box.{Box}
-use Rattle.mp4_boxes.specs.Children.{of_kind, payload_if}
+use Rattle.mp4_boxes.specs.Children.{payload_if}
 use Rattle.mp4_boxes.specs.Layout.{leaf_rows}
 use Rattle.mp4_boxes.specs.Layout as Leaves
 use Rattle.mp4_boxes.specs.Places.{ruled, AreSound}
 use Rattle.mp4_boxes.specs.declared.rule.Rule.TheVariants as rules
-use Rattle.mp4_boxes.proofs.WrittenBoxes.{Content, placed, AreOther, payload_placed, found_none, of_kind-none, all_typed}
+use Rattle.mp4_boxes.proofs.WrittenBoxes.{placed, AreOther, payload_placed, found_none, of_kind-none, all_typed}
 use Rattle.mp4_tables.specs.Groups.{groupings_of}
 use Rattle.mp4_tables.specs.Tables.{Tables, tables_of, offsets_of, first_number}
 use Rattle.mp4_tables.specs.TableRules.{Surroundings, Fit, dependency_room, duration_counts, offset_counts, chunk_counts, chunk_order, sync_order, description_indexes, places, table_group}
 use Rattle.mp4_head.specs.Head.{Kept, TrackHead, IsTrackHead}
 use Rattle.mp4_head.specs.Tree.{TrackTree, first_of}
 use Rattle.mp4_head.proofs.WrittenContents.{table_contents, trak_payload}
-use Rattle.mp4_head.proofs.WrittenTrack.{information_boxes, table_boxes, track_tree}
+use Rattle.mp4_head.proofs.WrittenTrack.{information_boxes, track_tree}
 use Rattle.mp4_head.proofs.WrittenTrackHead.{table_sound}
 use Rattle.mp4_head.proofs.WrittenMovie.{tracks_at}
 
@@ -35,8 +34,16 @@ tables_from at descriptions groups =
     let stss = not_there (codes "stss") at descriptions groups (refl, (refl, (refl, (refl, (refl, other (codes "stss") refl))))) in
     let sdtp = not_there (codes "sdtp") at descriptions groups (refl, (refl, (refl, (refl, (refl, other (codes "sdtp") refl))))) in
     let sbgp = of_kind-none (codes "sbgp") at (table_contents descriptions groups) (refl, (refl, (refl, (refl, (refl, other (codes "sbgp") refl))))) in
-    λ i. record { sizes = []; durations = []; offsets = option_map offsets_of (ctts i); chunk_rows = []; chunk_offsets = []; sync = option_map (λ payload. map first_number (leaf_rows Leaves.stss payload)) (stss i);
-    dependencies = option_map (λ payload. drop 4 payload) (sdtp i); groups = groupings_of (sbgp i) }
+    λ i. record {
+      sizes = [];
+      durations = [];
+      offsets = option_map offsets_of (ctts i);
+      chunk_rows = [];
+      chunk_offsets = [];
+      sync = option_map (λ payload. map first_number (leaf_rows Leaves.stss payload)) (stss i);
+      dependencies = option_map (λ payload. drop 4 payload) (sdtp i);
+      groups = groupings_of (sbgp i);
+    }
 
 -- The tables of a written `trak` have no rows.
 pub tables_none : (at : ℕ) (t : TrackHead) → tables_of (track_tree at t).table ≡ no_tables

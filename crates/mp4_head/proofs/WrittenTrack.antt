@@ -1,23 +1,22 @@
 -- The tree of a `trak` that was written, and the head that it says.
-use Rattle.std.proofs.Common.{◌≡◌, ℕ, ◌+◌, ◌*◌, ◌^◌, ◌<◌, ◌≤◌, Bool, true, false, cond, List, [], ◌∷◌, ◌++◌, length, drop, Option, Some, None, refl, sym, ap, subst, ◌∙◌, arith, append_assoc, length-append, lit≤}
-use Rattle.std.specs.Prelude.{codes, map, filter, flat_map, unwrap_or, bytes_eq, IsTrue, find}
+use Rattle.std.proofs.Common.{◌≡◌, ℕ, ◌+◌, ◌^◌, ◌<◌, ◌≤◌, false, List, [], ◌∷◌, ◌++◌, length, Some, refl, sym, ap, subst, ◌∙◌, arith, append_assoc, length-append, lit≤}
+use Rattle.std.specs.Prelude.{codes, flat_map, bytes_eq}
 use Rattle.std.specs.List.{AllByRecursion}
 use Rattle.std.proofs.lemmas.List.{append-nil}
 use Rattle.mp4_boxes.specs.Bytes.{spelled}
 use Rattle.mp4_boxes.specs.Box.{Box, box_container}
-use Rattle.mp4_boxes.specs.Children.{Holds, of_kind, payload_if, payload_of, is_among, media_headers}
-use Rattle.mp4_boxes.specs.Layout.{Leaf, fields, mdhd, tkhd, elst, leaf_fields, IsSound}
+use Rattle.mp4_boxes.specs.Children.{Holds, of_kind, payload_if}
+use Rattle.mp4_boxes.specs.Layout.{fields, elst}
 use Rattle.mp4_boxes.specs.Written.{box_bytes}
-use Rattle.mp4_boxes.specs.Places.{Scope, ruled, data_entries, sample_entries, kept_kinds, leaf_of, IsSoundAs, AreSound}
+use Rattle.mp4_boxes.specs.Places.{ruled, kept_kinds, AreSound}
 use Rattle.mp4_boxes.specs.declared.rule.Rule.TheVariants as rules
 use Rattle.mp4_boxes.proofs.Among.{all_append}
-use Rattle.mp4_boxes.proofs.WrittenBoxes.{Content, written, placed, placed_box, children, FitsBox, AreTypes, AreOther, AreThis, HaveNone, typed, found, found_size, holds_written, all_placed, of_kind-none, all_typed, typed_payloads, payloads_between}
-use Rattle.mp4_head.specs.Head.{Kept, Edit, Media, TrackHead, IsKept, IsEdit, IsDescription, IsGroupDescription, IsTrackHead}
-use Rattle.mp4_head.specs.Tree.{TrackTree, first_of, first_among, HoldsIfThere, IsTrackTree, stbl_of, kept_among, edits_of, media_of, track_head_of, NameNoItems, IsSoundTrack}
+use Rattle.mp4_boxes.proofs.WrittenBoxes.{Content, written, placed, placed_box, children, AreTypes, AreOther, typed, found, found_size, holds_written, of_kind-none}
+use Rattle.mp4_head.specs.Head.{Edit, TrackHead, IsEdit, IsTrackHead}
+use Rattle.mp4_head.specs.Tree.{TrackTree, first_of, HoldsIfThere, IsTrackTree, edits_of}
 use Rattle.mp4_head.specs.Writing.{edts_bytes, tkhd_bytes, kept_bytes, edit_bytes}
-use Rattle.mp4_head.proofs.Again.{mdhd_numbers, mdhd_again}
-use Rattle.mp4_head.proofs.WrittenLeaves.{tkhd_payload, tkhd_numbers, tkhd_again, tkhd_sound, track_again, mdhd_sound, hdlr_sound, elst_payload, elst_sound, edits_again, length-edits, stsd_payload, stsd_sound, sample_entry_sound, sgpd_sound}
-use Rattle.mp4_head.proofs.WrittenContents.{content_of, contents_of, all_kept, first_written, fits_in, url_content, dref_payload, dinf_payload, dinf_contents, dinf_holds, dref_tiles, table_front, group_contents, table_contents, stbl_payload, stbl_written, table_types, stbl_holds, stsd_tiles, information_contents, minf_payload, minf_written, header_has, minf_types, minf_holds, dinf_found, stbl_found, media_front, language_contents, media_back, media_contents, mdia_payload, mdia_written, all_media, mdia_holds, minf_found, edits_contents, edts_contents, track_front, track_middle, track_back, track_contents, trak_payload, trak_written, all_middle, all_track, trak_holds, mdia_found}
+use Rattle.mp4_head.proofs.WrittenLeaves.{tkhd_payload, elst_payload, elst_sound, edits_again, length-edits, stsd_payload}
+use Rattle.mp4_head.proofs.WrittenContents.{contents_of, all_kept, first_written, url_content, dinf_payload, dinf_contents, dinf_holds, dref_tiles, table_contents, stbl_payload, stbl_written, table_types, stbl_holds, stsd_tiles, information_contents, minf_payload, minf_written, minf_types, minf_holds, dinf_found, stbl_found, media_contents, mdia_payload, mdia_written, all_media, mdia_holds, minf_found, edits_contents, edts_contents, track_back, track_contents, trak_payload, trak_written, all_track, trak_holds, mdia_found}
 
 -- ---- the tree
 

@@ -1,23 +1,22 @@
 -- What the tree of a `trak` that was written says is the head of the track, and its leaves are sound.
-use Rattle.std.proofs.Common.{◌≡◌, ℕ, ◌+◌, ◌^◌, ◌<◌, ◌≤◌, Bool, true, false, cond, List, [], ◌∷◌, ◌++◌, length, Option, Some, None, refl, sym, ap, ap₂, subst, ◌∙◌, arith, lit≤, append_assoc, slice_index}
-use Rattle.std.specs.Prelude.{codes, map, filter, unwrap_or, bytes_eq, find}
+use Rattle.std.proofs.Common.{◌≡◌, ℕ, ◌+◌, ◌^◌, ◌≤◌, Bool, true, false, cond, List, [], ◌∷◌, ◌++◌, length, Option, Some, None, refl, sym, ap, subst, ◌∙◌, lit≤, append_assoc, slice_index}
+use Rattle.std.specs.Prelude.{codes, map, bytes_eq}
 use Rattle.std.specs.List.{AllByRecursion}
 use Rattle.std.proofs.lemmas.List.{append-nil}
-use Rattle.mp4_boxes.specs.Bytes.{spelled}
 use Rattle.mp4_boxes.specs.Box.{Box}
-use Rattle.mp4_boxes.specs.Children.{of_kind, payload_of, payload_if, is_among, media_headers}
-use Rattle.mp4_boxes.specs.Layout.{Leaf, mdhd, tkhd, dref, stsd, leaf_fields, IsSound}
-use Rattle.mp4_boxes.specs.Places.{Scope, ruled, data_entries, sample_entries, kept_kinds, leaf_of, IsSoundAs, AreSound}
+use Rattle.mp4_boxes.specs.Children.{of_kind, payload_if, is_among, media_headers}
+use Rattle.mp4_boxes.specs.Layout.{Leaf, tkhd, leaf_fields}
+use Rattle.mp4_boxes.specs.Places.{Scope, ruled, sample_entries, kept_kinds, leaf_of, IsSoundAs, AreSound}
 use Rattle.mp4_boxes.specs.declared.rule.Rule.TheVariants as rules
 use Rattle.mp4_boxes.proofs.Among.{all_append}
 use Rattle.mp4_boxes.proofs.Joined.{all_first, all_last}
-use Rattle.mp4_boxes.proofs.WrittenBoxes.{Content, written, placed, placed_box, children, FitsBox, HaveNone, typed, all_placed, all_typed, typed_payloads, payloads_between}
-use Rattle.mp4_head.specs.Head.{Kept, Edit, Media, TrackHead, IsKept, IsDescription, IsGroupDescription, IsMedia, IsTrackHead}
-use Rattle.mp4_head.specs.Tree.{TrackTree, first_of, first_among, kept_among, edits_of, media_of, track_head_of, NameNoItems, IsSoundTrack}
-use Rattle.mp4_head.proofs.Again.{mdhd_numbers, mdhd_again}
-use Rattle.mp4_head.proofs.WrittenLeaves.{tkhd_payload, tkhd_numbers, tkhd_again, tkhd_sound, track_again, mdhd_sound, hdlr_sound, stsd_payload, stsd_sound, sample_entry_sound, sgpd_sound}
-use Rattle.mp4_head.proofs.WrittenContents.{content_of, contents_of, all_kept, fits_in, dinf_payload, dinf_contents, url_content, table_front, group_contents, table_contents, stbl_payload, stbl_written, table_types, information_contents, header_has, media_front, language_contents, media_back, media_contents, mdia_payload, mdia_written, all_media, edts_contents, track_front, track_middle, track_back, track_contents, trak_payload, all_edts}
-use Rattle.mp4_head.proofs.WrittenTrack.{track_boxes, media_boxes, information_boxes, data_boxes, table_boxes, entries, track_tree, HasInner, has_inner, edts_say, edts_sound}
+use Rattle.mp4_boxes.proofs.WrittenBoxes.{Content, placed, placed_box, FitsBox, HaveNone, typed, all_placed, all_typed, typed_payloads, payloads_between}
+use Rattle.mp4_head.specs.Head.{Kept, Media, TrackHead, IsKept, IsDescription, IsGroupDescription, IsMedia, IsTrackHead}
+use Rattle.mp4_head.specs.Tree.{first_of, first_among, kept_among, edits_of, media_of, track_head_of, NameNoItems, IsSoundTrack}
+use Rattle.mp4_head.proofs.Again.{mdhd_again}
+use Rattle.mp4_head.proofs.WrittenLeaves.{tkhd_payload, tkhd_again, tkhd_sound, track_again, mdhd_sound, hdlr_sound, stsd_sound, sample_entry_sound, sgpd_sound}
+use Rattle.mp4_head.proofs.WrittenContents.{content_of, contents_of, all_kept, fits_in, dinf_payload, table_front, group_contents, table_contents, stbl_payload, stbl_written, table_types, media_front, language_contents, media_back, media_contents, mdia_payload, mdia_written, all_media, edts_contents, track_front, track_middle, track_back, track_contents, trak_payload, all_edts}
+use Rattle.mp4_head.proofs.WrittenTrack.{track_boxes, media_boxes, information_boxes, table_boxes, track_tree, has_inner, edts_say, edts_sound}
 
 -- ---- kept boxes
 
@@ -108,8 +107,16 @@ media_say at t h le =
     let header = ap kept_box (header_first (placed_box at_minf (content_of m.header)) (placed (at_minf + (8 + length m.header.payload)) (typed (codes "dinf") dinf_payload ∷ typed (codes "stbl") (stbl_payload m.descriptions t.group_descriptions) ∷ [])) h.media.header) in
     let stsd = first_of (codes "stsd") (table_boxes at t) in
     let entries = descriptions_kept (stsd.offset + stsd.header + 8) m.descriptions in
-    λ i. record { creation = slice_index (ns i) 2; modification = slice_index (ns i) 3; timescale = slice_index (ns i) 4; language = slice_index (ns i) 6; handler = m.handler;
-    extended_languages = languages i; header = header i; descriptions = entries i }
+    λ i. record {
+      creation = slice_index (ns i) 2;
+      modification = slice_index (ns i) 3;
+      timescale = slice_index (ns i) 4;
+      language = slice_index (ns i) 6;
+      handler = m.handler;
+      extended_languages = languages i;
+      header = header i;
+      descriptions = entries i;
+    }
 
 -- the descriptions of groups are read again
 groups_say : (at : ℕ) (descriptions : List Kept) (groups : List (List ℕ)) → length (stbl_payload descriptions groups) ≤ 2 ^ 30
@@ -153,18 +160,25 @@ track_sound : (at : ℕ) (t : TrackHead) → IsTrackHead t → AreSound (ruled r
 track_sound at t h =
     let Sound = λ (k : Content). IsSoundAs (leaf_of (ruled rules.Track) k.kind) k.payload in
     let Unread = λ (kind : List ℕ). leaf_of (ruled rules.Track) kind ≡ None in
-    sound_placed (ruled rules.Track) (at + 8) (track_contents t) (tkhd_sound t h,
-    all_append Sound (track_middle t) (track_back t)
-    (all_append Sound (edts_contents t.edits) (contents_of t.kept) (unread (ruled rules.Track) (edts_contents t.edits) (all_edts Unread t.edits refl))
-    (unread (ruled rules.Track) (contents_of t.kept) (all_kept Unread (kept_kinds rules.Track) t.kept (refl, (refl, (refl, tt))) h.kept)))
-    (tt, tt))
+    sound_placed (ruled rules.Track) (at + 8) (track_contents t) (
+      tkhd_sound t h,
+      all_append Sound (track_middle t) (track_back t)
+          (all_append Sound (edts_contents t.edits) (contents_of t.kept) (unread (ruled rules.Track) (edts_contents t.edits) (all_edts Unread t.edits refl))
+          (unread (ruled rules.Track) (contents_of t.kept) (all_kept Unread (kept_kinds rules.Track) t.kept (refl, (refl, (refl, tt))) h.kept)))
+          (tt, tt),
+    )
 
 -- those of an `mdia` are
 media_sound : (at : ℕ) (m : Media) (groups : List (List ℕ)) → IsMedia m → AreSound (ruled rules.Media) (placed at (media_contents m groups))
 media_sound at m groups h =
     let Sound = λ (k : Content). IsSoundAs (leaf_of (ruled rules.Media) k.kind) k.payload in
-    sound_placed (ruled rules.Media) at (media_contents m groups) (mdhd_sound m h, (hdlr_sound m h,
-    all_append Sound (language_contents m) (media_back m groups) (unread (ruled rules.Media) (language_contents m) (all_typed (λ kind. leaf_of (ruled rules.Media) kind ≡ None) (codes "elng") m.extended_languages refl)) (tt, tt)))
+    sound_placed (ruled rules.Media) at (media_contents m groups) (
+      mdhd_sound m h,
+      (
+        hdlr_sound m h,
+        all_append Sound (language_contents m) (media_back m groups) (unread (ruled rules.Media) (language_contents m) (all_typed (λ kind. leaf_of (ruled rules.Media) kind ≡ None) (codes "elng") m.extended_languages refl)) (tt, tt),
+      ),
+    )
 
 -- the entries of an `stsd` are
 descriptions_sound : (at : ℕ) (descriptions : List Kept) → AllByRecursion IsDescription descriptions → AreSound sample_entries (placed at (contents_of descriptions))

@@ -1,22 +1,19 @@
 -- The pieces of a valid presentation can be written.
-use Rattle.std.proofs.Common.{◌≡◌, ℕ, ◌+◌, ◌-◌, ◌*◌, ◌^◌, ◌<◌, ◌≤◌, Bool, true, false, List, [], ◌∷◌, ◌++◌, length, refl, sym, ap, subst, ◌∙◌, arith, length-append}
-use Rattle.std.specs.Prelude.{codes, map, flat_map, FitsSigned, ◌==◌, unwrap_or, option_map, find, Some}
-use Rattle.std.specs.Int.{w32}
+use Rattle.std.proofs.Common.{◌≡◌, ℕ, ◌+◌, ◌^◌, ◌<◌, ◌≤◌, true, List, [], ◌∷◌, length, sym, ap, subst, arith}
+use Rattle.std.specs.Prelude.{map, flat_map, ◌==◌, unwrap_or, option_map, find, Some}
 use Rattle.std.specs.List.{AllByRecursion}
 use Rattle.std.proofs.lemmas.List.{length-map}
-use Rattle.mp4_boxes.specs.Bytes.{unsigned}
 use Rattle.mp4_boxes.proofs.Among.{all_append}
 use Rattle.mp4_boxes.proofs.Each.{each_from}
 use Rattle.mp4_boxes.proofs.Joined.{all_first, all_last}
-use Rattle.mp4_tables.specs.Groups.{GroupKey, keys_with}
+use Rattle.mp4_tables.specs.Groups.{GroupKey}
 use Rattle.mp4_tables.proofs.NamedKeys.{IsAmong, each_named, no_more}
-use Rattle.mp4_head.specs.Head.{Kept, TrackHead, IsTrackHead}
+use Rattle.mp4_head.specs.Head.{TrackHead, IsTrackHead}
 use Rattle.mp4_head.specs.Tree.{are_distinct}
 use Rattle.mp4_head.proofs.Signed.{signed_fits}
-use Rattle.mp4_head.proofs.WrittenLeaves.{stsd_payload}
 use Rattle.mp4_head.proofs.WrittenContents.{content_of, contents_of, kept_written, count_within, trak_payload}
 use Rattle.mp4_head.proofs.WrittenTrack.{has_inner}
-use Rattle.mp4_head.proofs.WrittenMovie.{IsWritable, traks_small}
+use Rattle.mp4_head.proofs.WrittenMovie.{traks_small}
 use Rattle.mp4_present.specs.Presentation.{Sample, Track, Presentation, heads, movie_length, IsSample, IsTrack, Valid, IsInTime, end_time, keys_of, max_time}
 use Rattle.mp4_plan.specs.Pieces.{TimedSample, timed, Piece, pieces}
 use Rattle.mp4_plan.specs.Normal.{first_time, first_description, piece_keys}
@@ -26,7 +23,7 @@ use Rattle.mp4_plan.proofs.PieceLists.{pieces_one, ids_apart}
 use Rattle.mp4_plan.proofs.PieceFacts.{all_timed, ids_in_pieces, samples_in_pieces, pieces_within, pieces_in_time}
 use Rattle.mp4_plan.proofs.KeyOrder.{order_each, order_rises, rising_once}
 use Rattle.mp4_plan.proofs.RunRows.{FitsRow}
-use Rattle.mp4_plan.proofs.WrittenFragment.{HasGroups, IsWritablePiece, keys_in}
+use Rattle.mp4_plan.proofs.WrittenFragment.{HasGroups, keys_in}
 use Rattle.mp4_plan.proofs.PieceSays.{HasFlags}
 use Rattle.mp4_plan.proofs.PieceBoxes.{IsGood}
 use Rattle.mp4_plan.proofs.NormalTree.{head_writable}

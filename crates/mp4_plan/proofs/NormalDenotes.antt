@@ -1,6 +1,6 @@
 -- The normal form of what is valid denotes it.
-use Rattle.std.proofs.Common.{◌≡◌, ℕ, ◌+◌, ◌^◌, ◌<◌, ◌≤◌, ◌==◌, ◌&&◌, Bool, true, false, List, [], ◌∷◌, ◌++◌, length, Option, Some, None, unwrap_or, refl, sym, ap, ap₂, subst, ◌∙◌, arith, IsTrue, add-zero, le-leb, leb}
-use Rattle.std.specs.Prelude.{map, find, is_some, option_map, bytes_eq, codes}
+use Rattle.std.proofs.Common.{◌≡◌, ℕ, ◌+◌, ◌^◌, ◌≤◌, ◌==◌, ◌&&◌, Bool, true, false, List, [], ◌∷◌, ◌++◌, length, Option, Some, unwrap_or, refl, sym, ap, subst, ◌∙◌, IsTrue, add-zero, le-leb, leb}
+use Rattle.std.specs.Prelude.{map, find, is_some, option_map, codes}
 use Rattle.std.specs.List.{AllByRecursion, AllZip, list_all}
 use Rattle.std.proofs.lemmas.Bool.{and_from}
 use Rattle.std.proofs.lemmas.List.{length-map}
@@ -9,22 +9,21 @@ use Rattle.mp4_boxes.proofs.WrittenBoxes.{written, length-placed}
 use Rattle.mp4_tables.specs.Tables.{Tables, tables_of}
 use Rattle.mp4_tables.specs.Groups.{GroupKey, keys_after}
 use Rattle.mp4_tables.specs.PlainSamples.{PlacedSample, plain_samples}
-use Rattle.mp4_tables.specs.TableRules.{Surroundings, Fit, is_index}
-use Rattle.mp4_tables.proofs.NamedKeys.{IsAmong}
+use Rattle.mp4_tables.specs.TableRules.{Fit, is_index}
 use Rattle.mp4_frag.specs.declared.trex.Trex.{Trex}
 use Rattle.mp4_frag.specs.FragmentSamples.{all_parts, Part, part_samples, parts_for, fragment_samples, start_of, duration_of, trex_for, AreOnTime, AreGrouped}
 use Rattle.mp4_frag.specs.Fragments.{fragment_of}
 use Rattle.mp4_frag.specs.FragmentRules.{TrackInfo, track_for, is_known, has_indexes, is_within}
 use Rattle.mp4_head.specs.Head.{TrackHead, IsTrackHead}
-use Rattle.mp4_head.specs.Tree.{TrackTree, track_head_of, movie_head_of, trexes_of, first_of}
+use Rattle.mp4_head.specs.Tree.{TrackTree, track_head_of, trexes_of, first_of}
 use Rattle.mp4_head.proofs.WrittenContents.{content_of, contents_of, trak_payload}
 use Rattle.mp4_head.proofs.WrittenTrack.{track_tree, table_boxes}
 use Rattle.mp4_head.proofs.WrittenTrackHead.{track_head_again}
 use Rattle.mp4_head.proofs.WrittenMovie.{tracks_at, movie_front, normal_trex, normal_trexes, movie_head_again, trexes_again, traks_small}
-use Rattle.mp4_head.proofs.WrittenTables.{no_tables, tables_none, none_fit}
+use Rattle.mp4_head.proofs.WrittenTables.{tables_none, none_fit}
 use Rattle.mp4_present.specs.Presentation.{Sample, Track, Presentation, heads, movie_length, IsSample, IsTrack, Valid, keys_of}
-use Rattle.mp4_present.specs.Denotes.{FileTree, IsConsistent, surroundings, track_infos, file_parts, plain_of, parts_of_track, first_due, plain_keys, sample_of, track_of, presentation_of, Denotes}
-use Rattle.mp4_plan.specs.Pieces.{TimedSample, timed, Piece, pieces}
+use Rattle.mp4_present.specs.Denotes.{IsConsistent, surroundings, track_infos, file_parts, parts_of_track, first_due, plain_keys, sample_of, track_of, presentation_of}
+use Rattle.mp4_plan.specs.Pieces.{TimedSample, timed, pieces}
 use Rattle.mp4_plan.specs.Normal.{normal}
 use Rattle.mp4_plan.specs.PieceLaws.{pieces_for}
 use Rattle.mp4_plan.specs.Laws.{NormalDenotes}
@@ -34,7 +33,7 @@ use Rattle.mp4_plan.proofs.PartLists.{Says, IsReadAgain, tracks_again, ids_in_pa
 use Rattle.mp4_plan.proofs.PieceSays.{Spells}
 use Rattle.mp4_plan.proofs.PieceBoxes.{pieces_trees, pieces_parts, parts_are, parts_spell}
 use Rattle.mp4_plan.proofs.NormalTree.{front_contents, pieces_at, normal_tree, normal_is, head_writable, normal_tree_is, normal_sound}
-use Rattle.mp4_plan.proofs.GoodPieces.{tracks_found, named_by, IsWritableSample, CanWrite, valid_tracks, samples_good, pieces_good}
+use Rattle.mp4_plan.proofs.GoodPieces.{named_by, IsWritableSample, CanWrite, valid_tracks, samples_good, pieces_good}
 use Rattle.mp4_plan.proofs.NormalGroups.{parts_grouped, track_spells, of_track}
 
 -- ---- tracks as fragments see them
@@ -248,16 +247,16 @@ module _ (p : Presentation) (v : Valid p) where
       record {
         tables = all_of_tracks (λ (t : TrackTree). Fit (surroundings (normal p) t) (tables_of t.table)) (CanWrite p.tracks) (λ n t c. track_fits (normal p) n t) at p.tracks (valid_tracks p v);
         known = subst (λ (l : List Part). AllByRecursion (λ (part : Part). IsTrue (is_known (track_infos (normal_tree p).movie) (trexes_of (normal_tree p).movie) part)) l) (sym parts_of_file)
-        (subst (λ (l : List TrackInfo). AllByRecursion (λ (part : Part). IsTrue (is_known l (trexes_of (normal_tree p).movie) part)) parts) (sym infos_are)
-        (subst (λ (l : List Trex). AllByRecursion (λ (part : Part). IsTrue (is_known infos l part)) parts) (sym trexes_are) known));
+            (subst (λ (l : List TrackInfo). AllByRecursion (λ (part : Part). IsTrue (is_known l (trexes_of (normal_tree p).movie) part)) parts) (sym infos_are)
+            (subst (λ (l : List Trex). AllByRecursion (λ (part : Part). IsTrue (is_known infos l part)) parts) (sym trexes_are) known));
         indexes = subst (λ (l : List Part). AllByRecursion (λ (part : Part). IsTrue (has_indexes (track_infos (normal_tree p).movie) part)) l) (sym parts_of_file)
-        (subst (λ (l : List TrackInfo). AllByRecursion (λ (part : Part). IsTrue (has_indexes l part)) parts) (sym infos_are) indexed);
+            (subst (λ (l : List TrackInfo). AllByRecursion (λ (part : Part). IsTrue (has_indexes l part)) parts) (sym infos_are) indexed);
         places = subst (λ (l : List Part). AllByRecursion (λ (part : Part). AllByRecursion (λ run. IsTrue (is_within (length (normal p)) run)) part.runs) l) (sym parts_of_file)
-        (zip_first (Spells (normal p)) (λ (part : Part). AllByRecursion (λ run. IsTrue (is_within (length (normal p)) run)) part.runs) (λ x y h. h.within) parts (pieces p) all_spell);
+            (zip_first (Spells (normal p)) (λ (part : Part). AllByRecursion (λ run. IsTrue (is_within (length (normal p)) run)) part.runs) (λ x y h. h.within) parts (pieces p) all_spell);
         groups = subst (λ (l : List Part). AllByRecursion (λ (track : TrackTree). AreGrouped (plain_keys track) (parts_of_track l track)) (normal_tree p).movie.tracks) (sym parts_of_file)
-        (all_of_tracks (λ (t : TrackTree). AreGrouped (plain_keys t) (parts_of_track parts t)) (IsRead (normal p) parts) (λ n t r. track_grouped (normal p) parts n t r) at p.tracks all_read);
+            (all_of_tracks (λ (t : TrackTree). AreGrouped (plain_keys t) (parts_of_track parts t)) (IsRead (normal p) parts) (λ n t r. track_grouped (normal p) parts n t r) at p.tracks all_read);
         times = subst (λ (l : List Part). AllByRecursion (λ (track : TrackTree). AreOnTime (first_due l track) (parts_of_track l track)) (normal_tree p).movie.tracks) (sym parts_of_file)
-        (all_of_tracks (λ (t : TrackTree). AreOnTime (first_due parts t) (parts_of_track parts t)) (IsRead (normal p) parts) (λ n t r. track_on_time (normal p) parts n t r) at p.tracks all_read);
+            (all_of_tracks (λ (t : TrackTree). AreOnTime (first_due parts t) (parts_of_track parts t)) (IsRead (normal p) parts) (λ n t r. track_on_time (normal p) parts n t r) at p.tracks all_read);
       }
 
   -- it says the presentation

@@ -1,6 +1,6 @@
 -- The `sbgp`s of pieces that were written keep the rules.
-use Rattle.std.proofs.Common.{◌≡◌, ℕ, suc, zero, ◌+◌, ◌<◌, ◌≤◌, Bool, true, false, cond, eqb, leb, List, [], ◌∷◌, ◌++◌, length, take, Option, Some, None, refl, sym, ap, subst, ◌∙◌, append_assoc, arith, IsTrue, length-append}
-use Rattle.std.specs.Prelude.{map, filter, not, ◌||◌, ◌==◌, nat_le}
+use Rattle.std.proofs.Common.{◌≡◌, ℕ, suc, zero, ◌<◌, ◌≤◌, Bool, true, false, cond, eqb, leb, List, [], ◌∷◌, ◌++◌, length, take, Option, Some, None, refl, sym, ap, subst, ◌∙◌, append_assoc, arith, IsTrue, length-append}
+use Rattle.std.specs.Prelude.{map, not, ◌||◌, ◌==◌, nat_le}
 use Rattle.std.specs.List.{AllByRecursion, AllZip, list_any, list_all, slice_get}
 use Rattle.std.proofs.lemmas.Bool.{le-leb, ne_eqb, eqb-true, and_from, or_from}
 use Rattle.std.proofs.lemmas.List.{append-nil, length-map}
@@ -8,8 +8,8 @@ use Rattle.mp4_boxes.proofs.Among.{all_append}
 use Rattle.mp4_boxes.proofs.Each.{each_kept}
 use Rattle.mp4_tables.specs.Repeated.{total}
 use Rattle.mp4_tables.specs.Groups.{GroupRule, one_of_key, few_keys, index_range, group_counts, GroupKey, Grouping, key_rank, same_key, index_at, keys_with, keys_after, keeps, group_test, max_index, max_keys}
-use Rattle.mp4_tables.proofs.NamedKeys.{IsAmong, IsNone, AreOnce, few_with}
-use Rattle.mp4_frag.specs.FragmentSamples.{Part, part_samples, parts_for, has_groups, AreGrouped}
+use Rattle.mp4_tables.proofs.NamedKeys.{IsAmong, few_with}
+use Rattle.mp4_frag.specs.FragmentSamples.{Part, part_samples, parts_for, AreGrouped}
 use Rattle.mp4_plan.specs.Pieces.{TimedSample, Piece}
 use Rattle.mp4_plan.specs.Normal.{piece_keys, longest_runs}
 use Rattle.mp4_plan.specs.PieceLaws.{pieces_for}
@@ -70,9 +70,9 @@ one_each : (n : ℕ) (named : List GroupKey) (samples : List TimedSample) (befor
     → KeepsAll one_of_key n named before (map (grouped_by samples) keys)
 one_each n named samples before [] r a = tt
 one_each n named samples before (key ∷ keys) r a = (
-    ap not (none_before key before (first_above key keys before a)),
-    one_each n named samples (before ++ grouped_by samples key ∷ []) keys r.1 (all_append (λ (h : Grouping). KeysAbove h.key keys) before (grouped_by samples key ∷ []) (rest_above key keys before a) (r.0, tt)),
-  )
+  ap not (none_before key before (first_above key keys before a)),
+  one_each n named samples (before ++ grouped_by samples key ∷ []) keys r.1 (all_append (λ (h : Grouping). KeysAbove h.key keys) before (grouped_by samples key ∷ []) (rest_above key keys before a) (r.0, tt)),
+)
 
 -- ---- few keys
 
@@ -130,9 +130,9 @@ rows_in_range (row ∷ rows) h = and_from (leb row.1 max_index) (list_all (λ (r
 range_each : (n : ℕ) (named : List GroupKey) (samples : List TimedSample) (before : List Grouping) (keys : List GroupKey) → AllByRecursion HasGroups samples → KeepsAll index_range n named before (map (grouped_by samples) keys)
 range_each n named samples before [] h = tt
 range_each n named samples before (key ∷ keys) h = (
-    rows_in_range (longest_runs (indexes_at samples key)) (values_in_runs (λ index. index ≤ max_index) (indexes_at samples key) (indexes_within samples key h)),
-    range_each n named samples (before ++ grouped_by samples key ∷ []) keys h,
-  )
+  rows_in_range (longest_runs (indexes_at samples key)) (values_in_runs (λ index. index ≤ max_index) (indexes_at samples key) (indexes_within samples key h)),
+  range_each n named samples (before ++ grouped_by samples key ∷ []) keys h,
+)
 
 -- no rows are left behind the last sample
 counts_each : (n : ℕ) (named : List GroupKey) (samples : List TimedSample) (before : List Grouping) (keys : List GroupKey) → n ≡ length samples → KeepsAll group_counts n named before (map (grouped_by samples) keys)

@@ -1,23 +1,21 @@
 -- The boxes of a normal form in all its containers.
-use Rattle.std.proofs.Common.{◌≡◌, ℕ, ◌+◌, ◌^◌, ◌<◌, ◌≤◌, Bool, true, false, List, [], ◌∷◌, ◌++◌, length, refl, sym, ap, subst, ◌∙◌, append_assoc, arith, length-append, lit≤, IsTrue}
-use Rattle.std.specs.Prelude.{codes, map}
+use Rattle.std.proofs.Common.{◌≡◌, ℕ, ◌+◌, true, List, [], ◌∷◌, ◌++◌, length, refl, ap, subst, arith, length-append, IsTrue}
+use Rattle.std.specs.Prelude.{map}
 use Rattle.std.specs.List.{AllByRecursion}
-use Rattle.std.proofs.lemmas.List.{append-nil}
-use Rattle.byteorder.specs.Endian.{big_bytes}
-use Rattle.mp4_boxes.specs.Box.{Box, LieEndToEnd, sizes, file_container, Tiles}
-use Rattle.mp4_boxes.specs.Children.{Holds, of_kind, allows, count_among}
+use Rattle.mp4_boxes.specs.Box.{Box, LieEndToEnd, sizes, file_container}
+use Rattle.mp4_boxes.specs.Children.{Holds, allows}
 use Rattle.mp4_boxes.specs.declared.rule.Rule.TheVariants as rules
 use Rattle.mp4_boxes.proofs.Among.{all_append}
 use Rattle.mp4_boxes.proofs.Tiling.{sizes-append}
-use Rattle.mp4_boxes.proofs.WrittenBoxes.{Content, FitsBox, typed, written, placed, placed_box, length-box_bytes, lie_written, sizes_written, all_placed}
-use Rattle.mp4_head.specs.Head.{TrackHead, IsTrackHead}
-use Rattle.mp4_head.specs.Writing.{ftyp_bytes, moov_bytes, head_bytes}
-use Rattle.mp4_head.proofs.WrittenMovie.{IsWritable, moov_payload, moov_content, movie_tree, movie_tree_is, movie_leaves_sound}
+use Rattle.mp4_boxes.proofs.WrittenBoxes.{Content, written, placed, placed_box, sizes_written}
+use Rattle.mp4_head.specs.Head.{IsTrackHead}
+use Rattle.mp4_head.specs.Writing.{head_bytes}
+use Rattle.mp4_head.proofs.WrittenMovie.{IsWritable, moov_content, movie_tree, movie_tree_is, movie_leaves_sound}
 use Rattle.mp4_head.proofs.WrittenHead.{head_contents, head_written, head_fits, head_lies}
 use Rattle.mp4_head.proofs.WrittenTables.{tables_sound}
 use Rattle.mp4_present.specs.Presentation.{Track, Presentation, heads, movie_length, IsTrack, Valid}
 use Rattle.mp4_present.specs.Denotes.{FileTree, IsFileTree, IsSoundFile}
-use Rattle.mp4_plan.specs.Pieces.{Piece, pieces}
+use Rattle.mp4_plan.specs.Pieces.{pieces}
 use Rattle.mp4_plan.specs.Normal.{pieces_bytes, normal}
 use Rattle.mp4_plan.proofs.PieceBoxes.{IsGood, pieces_boxes, pieces_trees, pieces_lie, pieces_sizes, pieces_have, no_movies, count_movies, moofs_are, trees_are, trees_sound}
 
@@ -70,7 +68,7 @@ module _ (p : Presentation) (w : IsWritable p.movie (heads p) (movie_length p)) 
     sizes_written 0 (front_contents p) (head_fits p.movie (heads p) (movie_length p) w),
     pieces_sizes (pieces_at p) 1 (pieces p) good,
     ap (λ (l : List ℕ). length l) (normal_is p),
-    length-append (written (front_contents p)) (pieces_bytes 1 (pieces p))
+    length-append (written (front_contents p)) (pieces_bytes 1 (pieces p)),
   )
 
   -- the file holds them
@@ -80,7 +78,7 @@ module _ (p : Presentation) (w : IsWritable p.movie (heads p) (movie_length p)) 
       record {
         tiles = record { front = (top_lies, tt); full = top_sizes };
         allowed = all_append (λ (b : Box). IsTrue (allows rules.File b.kind)) (placed 0 (front_contents p)) (pieces_boxes (pieces_at p) 1 (pieces p))
-        (refl, (refl, tt)) (pieces_have (λ kind. IsTrue (allows rules.File kind)) (pieces_at p) 1 (pieces p) refl refl);
+            (refl, (refl, tt)) (pieces_have (λ kind. IsTrue (allows rules.File kind)) (pieces_at p) 1 (pieces p) refl refl);
         quantities = (omega (arith, none), (tt, (tt, (tt, (tt, (tt, (tt, tt)))))));
       }
 

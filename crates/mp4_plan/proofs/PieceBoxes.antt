@@ -1,10 +1,9 @@
 -- The boxes of pieces that were written one after the other, their trees, and that the parts that these say spell the pieces.
-use Rattle.std.proofs.Common.{◌≡◌, ℕ, suc, zero, ◌+◌, ◌*◌, ◌^◌, ◌<◌, ◌≤◌, Bool, true, false, cond, List, [], ◌∷◌, ◌++◌, length, Option, Some, None, unwrap_or, refl, sym, ap, ap₂, subst, ◌∙◌, append_assoc, arith, length-append, add-zero, IsTrue}
+use Rattle.std.proofs.Common.{◌≡◌, ℕ, ◌+◌, ◌*◌, ◌^◌, ◌<◌, ◌≤◌, Bool, true, false, cond, List, [], ◌∷◌, ◌++◌, length, unwrap_or, refl, sym, ap, subst, ◌∙◌, append_assoc, arith, length-append}
 use Rattle.std.specs.Prelude.{codes, map, flat_map, nat_lt}
 use Rattle.std.specs.List.{AllByRecursion, AllZip}
-use Rattle.std.proofs.lemmas.List.{append-nil}
-use Rattle.mp4_boxes.specs.Box.{Box, size, sizes, LieEndToEnd}
-use Rattle.mp4_boxes.specs.Children.{of_kind, allows, count_among}
+use Rattle.mp4_boxes.specs.Box.{Box, sizes, LieEndToEnd}
+use Rattle.mp4_boxes.specs.Children.{of_kind, count_among}
 use Rattle.mp4_boxes.specs.Written.{header_bytes, header_length}
 use Rattle.mp4_boxes.specs.Places.{ruled, AreSound}
 use Rattle.mp4_boxes.specs.declared.rule.Rule.TheVariants as rules
@@ -15,12 +14,12 @@ use Rattle.mp4_frag.specs.declared.trex.Trex.{Trex}
 use Rattle.mp4_frag.specs.Fragments.{Fragment, FragmentTree, IsFragmentTree, fragment_of}
 use Rattle.mp4_frag.specs.FragmentSamples.{Part, parts_of, all_parts, trex_for, no_trex}
 use Rattle.mp4_plan.specs.Pieces.{TimedSample, Piece}
-use Rattle.mp4_plan.specs.Normal.{piece_data, moof_bytes, moof_length, piece_bytes, pieces_bytes}
+use Rattle.mp4_plan.specs.Normal.{piece_data, moof_bytes, piece_bytes, pieces_bytes}
 use Rattle.mp4_plan.specs.PieceLaws.{IsOne}
 use Rattle.mp4_plan.proofs.RunRows.{FitsRow}
 use Rattle.mp4_plan.proofs.WrittenFragment.{IsWritablePiece, moof_payload, moof_short, moof_same}
 use Rattle.mp4_plan.proofs.PieceTree.{moof_content, piece_tree, piece_tree_is, fragment_again, traf_sound}
-use Rattle.mp4_plan.proofs.PieceSays.{HasFlags, offset_of, piece_fragment, piece_part, Spells, part_spells}
+use Rattle.mp4_plan.proofs.PieceSays.{HasFlags, offset_of, piece_part, Spells, part_spells}
 
 -- the piece can be written, and its samples have one description and flags of 28 bits
 pub record IsGood (piece : Piece) : Type 0 where

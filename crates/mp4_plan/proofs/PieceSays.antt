@@ -1,6 +1,6 @@
 -- Where a piece lies in a file, the fragment that its `moof` says has the samples of the piece, and no more.
-use Rattle.std.proofs.Common.{◌≡◌, ℕ, suc, zero, ◌+◌, ◌*◌, ◌-◌, ◌%◌, ◌^◌, ◌<◌, ◌≤◌, Bool, true, false, cond, eqb, ltb, List, [], ◌∷◌, ◌++◌, length, Option, Some, None, unwrap_or, ℤ, pos, negsuc, ◌+ℤ◌, refl, sym, ap, ap₂, subst, ◌∙◌, append_assoc, lit<, lit≤, arith, length-append, not, IsTrue}
-use Rattle.std.specs.Prelude.{codes, map, flat_map, FitsSigned, ◌==◌, nat_lt, if◌then◌else◌}
+use Rattle.std.proofs.Common.{◌≡◌, ℕ, suc, ◌+◌, ◌%◌, ◌^◌, ◌<◌, Bool, true, false, eqb, List, [], ◌∷◌, ◌++◌, length, Option, Some, None, unwrap_or, ℤ, pos, negsuc, refl, sym, ap, ◌∙◌, arith, not, IsTrue}
+use Rattle.std.specs.Prelude.{map, flat_map, FitsSigned, ◌==◌, if◌then◌else◌}
 use Rattle.std.specs.Int.{w32}
 use Rattle.std.specs.List.{AllByRecursion, AllZip, list_all}
 use Rattle.std.proofs.Math.Nat.{mod-eq_of_lt}
@@ -8,23 +8,23 @@ use Rattle.std.proofs.lemmas.Bool.{eqb-true, and_parts}
 use Rattle.std.proofs.lemmas.List.{append-nil, length-map}
 use Rattle.mp4_boxes.specs.Bytes.{unsigned}
 use Rattle.mp4_boxes.specs.Written.{header_length}
-use Rattle.mp4_tables.specs.Groups.{Grouping, maps_of}
+use Rattle.mp4_tables.specs.Groups.{maps_of}
 use Rattle.mp4_tables.specs.PlainSamples.{PlacedSample, with_groups}
 use Rattle.mp4_frag.specs.declared.trex.Trex.{Trex}
-use Rattle.mp4_frag.specs.Fragments.{RunRow, TrackFragment, Fragment}
-use Rattle.mp4_frag.specs.FragmentSamples.{inherited, flags_of, run_samples, Part, part_samples, parts_of, trex_for, no_trex}
+use Rattle.mp4_frag.specs.Fragments.{Fragment}
+use Rattle.mp4_frag.specs.FragmentSamples.{run_samples, Part, part_samples}
 use Rattle.mp4_frag.specs.FragmentRules.{is_within}
 use Rattle.mp4_present.specs.Presentation.{Sample}
 use Rattle.mp4_present.specs.Denotes.{sample_of}
 use Rattle.mp4_plan.specs.Pieces.{TimedSample, Piece}
-use Rattle.mp4_plan.specs.Normal.{piece_data, Shared, common, shared_by, own, first_description, first_time, piece_keys, moof_bytes, moof_length}
+use Rattle.mp4_plan.specs.Normal.{piece_data, common, shared_by, first_description, first_time, piece_keys, moof_length}
 use Rattle.mp4_plan.specs.PieceLaws.{IsOne}
 use Rattle.mp4_plan.proofs.PartLists.{Says, untimed_samples}
 use Rattle.mp4_plan.proofs.RunLists.{Gives, IsFoundAs, data_of, run_found, found_within}
 use Rattle.mp4_plan.proofs.RunRows.{FitsRow, row_read}
 use Rattle.mp4_plan.proofs.Shared.{inherited_again, common_is}
 use Rattle.mp4_plan.proofs.WrittenGroups.{grouped_by, maps_again, found_say}
-use Rattle.mp4_plan.proofs.WrittenFragment.{IsWritablePiece, piece_covered, moof_same}
+use Rattle.mp4_plan.proofs.WrittenFragment.{IsWritablePiece, piece_covered}
 use Rattle.mp4_plan.proofs.PieceTree.{traf_read}
 
 -- ---- the rows give the samples

@@ -1,23 +1,19 @@
 -- The tree of the `moof` of a piece, and the fragment that it says.
-use Rattle.std.proofs.Common.{◌≡◌, ℕ, ◌+◌, ◌*◌, ◌^◌, ◌<◌, ◌≤◌, Bool, true, false, List, [], ◌∷◌, ◌++◌, length, Option, Some, None, ℤ, pos, refl, sym, ap, subst, ◌∙◌, lit≤, arith}
-use Rattle.std.specs.Prelude.{codes, map, bytes_eq, IsTrue, option_map, slice_index}
-use Rattle.std.specs.List.{AllByRecursion}
-use Rattle.std.proofs.lemmas.List.{append-nil}
+use Rattle.std.proofs.Common.{◌≡◌, ℕ, ◌+◌, ◌^◌, ◌<◌, true, false, List, [], ◌∷◌, length, Some, None, refl, sym, ap, ◌∙◌, arith}
+use Rattle.std.specs.Prelude.{codes, map, bytes_eq, IsTrue}
 use Rattle.mp4_boxes.specs.Box.{Box, box_container}
-use Rattle.mp4_boxes.specs.Children.{Holds, of_kind, allows, is_among}
-use Rattle.mp4_boxes.specs.Layout.{flags, has, default_base_is_moof, tfhd, tfhd_columns, leaf_fields, column_values}
-use Rattle.mp4_boxes.specs.Places.{ruled, leaf_of, IsSoundAs, AreSound}
+use Rattle.mp4_boxes.specs.Children.{Holds, allows, is_among}
+use Rattle.mp4_boxes.specs.Places.{ruled, AreSound}
 use Rattle.mp4_boxes.specs.declared.rule.Rule.TheVariants as rules
-use Rattle.mp4_boxes.proofs.Among.{all_append, of_kind-append}
-use Rattle.mp4_boxes.proofs.WrittenBoxes.{Content, written, placed, placed_box, children, FitsBox, AreTypes, typed, length-box_bytes, fits_written, holds_written, count_before, of_kind-none, of_kind-all}
-use Rattle.mp4_tables.specs.Groups.{GroupKey, Grouping, groupings_of}
-use Rattle.mp4_frag.specs.Fragments.{TrackFragment, Fragment, FragmentTree, IsFragmentTree, Run, run_of, column, decode_time_of, track_fragment_of, fragment_of}
+use Rattle.mp4_boxes.proofs.WrittenBoxes.{Content, written, placed, placed_box, children, AreTypes, typed, length-box_bytes, fits_written, holds_written, count_before, of_kind-none, of_kind-all}
+use Rattle.mp4_tables.specs.Groups.{groupings_of}
+use Rattle.mp4_frag.specs.Fragments.{TrackFragment, FragmentTree, IsFragmentTree, run_of, column, track_fragment_of, fragment_of}
 use Rattle.mp4_head.proofs.WrittenTrackHead.{sound_placed}
-use Rattle.mp4_plan.specs.Pieces.{TimedSample, Piece}
-use Rattle.mp4_plan.specs.Normal.{Shared, shared_by, first_time, first_description, piece_keys, moof_bytes}
-use Rattle.mp4_plan.proofs.WrittenRun.{run_payload, run_read, run_again, run_sound, head_id, head_values, head_is_moof, head_sound, head_options, time_again, time_sound, time_payload}
+use Rattle.mp4_plan.specs.Pieces.{Piece}
+use Rattle.mp4_plan.specs.Normal.{shared_by, first_time, first_description, piece_keys}
+use Rattle.mp4_plan.proofs.WrittenRun.{run_payload, run_read, run_again, run_sound, head_id, head_values, head_is_moof, head_sound, time_again, time_sound, time_payload}
 use Rattle.mp4_plan.proofs.WrittenGroups.{grouped_by}
-use Rattle.mp4_plan.proofs.WrittenFragment.{IsWritablePiece, keyed_contents, tfhd_payload, traf_front, traf_groups, traf_contents, traf_payload, mfhd_payload, moof_contents, moof_payload, traf_written, moof_written, all_keyed, piece_keys_valid, groups_say, groups_sound, the_flags, traf_short, moof_short}
+use Rattle.mp4_plan.proofs.WrittenFragment.{IsWritablePiece, tfhd_payload, traf_front, traf_groups, traf_contents, traf_payload, mfhd_payload, moof_contents, moof_payload, traf_written, moof_written, all_keyed, piece_keys_valid, groups_say, groups_sound, the_flags, traf_short, moof_short}
 
 -- the `moof` of a piece
 abbrev pub moof_content : ℕ → ℕ → Piece → Content
@@ -108,8 +104,13 @@ module _ (data_offset : ℕ) (piece : Piece) (near : data_offset < 2 ^ 31) (h : 
       let few = h.few in
       sound_placed (ruled rules.TrackFragment) (at + 8) (traf_contents data_offset piece) (
         head_sound piece.id (first_description samples) shared.duration shared.size shared.flags h.id (the_flags piece h),
-        (time_sound (first_time samples), (run_sound data_offset shared samples near (omega arith) h.rows,
-        groups_sound samples (piece_keys samples) h.few h.groups (piece_keys_valid samples h.groups))),
+        (
+          time_sound (first_time samples),
+          (
+            run_sound data_offset shared samples near (omega arith) h.rows,
+            groups_sound samples (piece_keys samples) h.few h.groups (piece_keys_valid samples h.groups),
+          ),
+        ),
       )
 
   -- The tree of the `moof` is this one.

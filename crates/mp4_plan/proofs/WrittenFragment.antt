@@ -1,30 +1,25 @@
 -- The `moof` of a piece: its tree, what it says, and how long it is.
-use Rattle.std.proofs.Common.{◌≡◌, ℕ, suc, zero, ◌+◌, ◌*◌, ◌^◌, ◌<◌, ◌≤◌, Bool, true, false, cond, eqb, List, [], ◌∷◌, ◌++◌, length, Option, Some, None, ℤ, pos, refl, sym, ap, ap₂, subst, ◌∙◌, append_assoc, lit<, lit≤, arith, length-append, mul-le-mul_right}
-use Rattle.std.specs.Prelude.{codes, map, flat_map, bytes_eq, IsTrue, option_map, slice_index}
+use Rattle.std.proofs.Common.{◌≡◌, ℕ, ◌+◌, ◌*◌, ◌^◌, ◌<◌, ◌≤◌, Bool, true, false, cond, eqb, List, [], ◌∷◌, ◌++◌, length, refl, sym, ap, ◌∙◌, append_assoc, arith, length-append, mul-le-mul_right}
+use Rattle.std.specs.Prelude.{codes, map, flat_map}
 use Rattle.std.specs.List.{AllByRecursion}
 use Rattle.std.proofs.lemmas.List.{append-nil, length-map}
 use Rattle.mp4_boxes.specs.Bytes.{spelled}
-use Rattle.mp4_boxes.specs.Box.{Box, box_container}
-use Rattle.mp4_boxes.specs.Children.{Holds, of_kind, allows, is_among, count_among}
-use Rattle.mp4_boxes.specs.Layout.{fields, tfdt, flags, has, default_base_is_moof}
 use Rattle.mp4_boxes.specs.Written.{box_bytes}
-use Rattle.mp4_boxes.specs.Places.{ruled, leaf_of, IsSoundAs, AreSound}
+use Rattle.mp4_boxes.specs.Places.{ruled, leaf_of, IsSoundAs}
 use Rattle.mp4_boxes.specs.declared.rule.Rule.TheVariants as rules
-use Rattle.mp4_boxes.proofs.Among.{all_append, of_kind-append}
+use Rattle.mp4_boxes.proofs.Among.{all_append}
 use Rattle.mp4_boxes.proofs.Joined.{all_first, all_last}
-use Rattle.mp4_boxes.proofs.WrittenBoxes.{Content, written, placed, placed_box, children, FitsBox, AreTypes, typed, written-append, placed-append, length-box_bytes, fits_written, holds_written, count_before, of_kind-none, of_kind-between}
-use Rattle.mp4_tables.specs.Groups.{GroupKey, Grouping, Groups, grouping_of, groupings_of, index_at, key_rank, is_in_order, max_index}
-use Rattle.mp4_tables.proofs.NamedKeys.{IsAmong, among_through}
-use Rattle.mp4_frag.specs.Fragments.{TrackFragment, Fragment, FragmentTree, IsFragmentTree, AreTrafs, Run, run_of, column, decode_time_of, track_fragment_of, fragment_of}
-use Rattle.mp4_head.proofs.WrittenTrackHead.{sound_placed}
+use Rattle.mp4_boxes.proofs.WrittenBoxes.{Content, written, placed, typed, length-box_bytes}
+use Rattle.mp4_tables.specs.Groups.{GroupKey, Groups, groupings_of, index_at, key_rank, is_in_order, max_index}
+use Rattle.mp4_tables.proofs.NamedKeys.{IsAmong}
 use Rattle.mp4_present.specs.Presentation.{IsGroup}
 use Rattle.mp4_plan.specs.Pieces.{TimedSample, Piece}
-use Rattle.mp4_plan.specs.Normal.{Shared, shared_by, first_time, first_description, piece_keys, longest_runs, tfhd_bytes, trun_bytes, sbgp_bytes, traf_bytes, moof_bytes, moof_length}
+use Rattle.mp4_plan.specs.Normal.{shared_by, first_time, first_description, piece_keys, longest_runs, tfhd_bytes, trun_bytes, sbgp_bytes, traf_bytes, moof_bytes, moof_length}
 use Rattle.mp4_plan.proofs.Maps.{Covers}
 use Rattle.mp4_plan.proofs.KeyOrder.{IsKey, key_of_group, order_rises, order_each, order_has, covers, AreRising}
 use Rattle.mp4_plan.proofs.RunRows.{FitsRow}
 use Rattle.mp4_plan.proofs.WrittenGroups.{group_payload, ReadsGroup, group_again, few_runs, runs_within, indexes_at, grouped_by}
-use Rattle.mp4_plan.proofs.WrittenRun.{run_payload, run_read, run_again, run_sound, run_short, HeadFlags, head_flags_are, head_payload, head_options, head_id, head_values, head_is_moof, head_sound, head_short, time_payload, time_again, time_sound, common_has}
+use Rattle.mp4_plan.proofs.WrittenRun.{run_payload, run_short, HeadFlags, head_flags_are, head_payload, head_short, time_payload, common_has}
 
 -- ---- what a piece that can be written has
 
@@ -248,7 +243,7 @@ module _ (piece : Piece) (h : IsWritablePiece piece) where
         length-append (tfhd_bytes piece) time,
         length-box_bytes (codes "tfhd") (tfhd_payload piece) refl,
         length-box_bytes (codes "tfdt") (time_payload (first_time piece.samples)) refl,
-        length-box_bytes (codes "trun") (run_payload data_offset (shared_by piece.samples) piece.samples) refl
+        length-box_bytes (codes "trun") (run_payload data_offset (shared_by piece.samples) piece.samples) refl,
       )
 
   -- how long its `moof` is
@@ -258,7 +253,7 @@ module _ (piece : Piece) (h : IsWritablePiece piece) where
     length-box_bytes (codes "moof") (moof_payload sequence data_offset piece) refl,
     length-append (box_bytes (codes "mfhd") (mfhd_payload sequence)) (traf_bytes data_offset piece),
     length-box_bytes (codes "mfhd") (mfhd_payload sequence) refl,
-    length-box_bytes (codes "traf") (traf_payload data_offset piece) refl
+    length-box_bytes (codes "traf") (traf_payload data_offset piece) refl,
   )
 
   -- A `moof` is short.
@@ -277,7 +272,7 @@ module _ (piece : Piece) (h : IsWritablePiece piece) where
         length-append (tfhd_bytes piece ++ time ++ trun_bytes data_offset piece.samples) groups,
         length-append (tfhd_bytes piece ++ time) (trun_bytes data_offset piece.samples),
         length-append (tfhd_bytes piece ++ time ++ trun_bytes 0 piece.samples) groups,
-        length-append (tfhd_bytes piece ++ time) (trun_bytes 0 piece.samples)
+        length-append (tfhd_bytes piece ++ time) (trun_bytes 0 piece.samples),
       )
 
   -- Its length does not hang on its sequence number or its data_offset.

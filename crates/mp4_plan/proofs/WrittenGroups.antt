@@ -1,18 +1,16 @@
 -- An `sbgp` that was written is read again, and the maps that the `sbgp`s of a piece give are those of its samples.
-use Rattle.std.proofs.Common.{◌≡◌, ℕ, suc, zero, ◌+◌, ◌*◌, ◌^◌, ◌<◌, ◌≤◌, Bool, true, false, cond, eqb, List, [], ◌∷◌, ◌++◌, length, take, drop, replicate, Option, Some, None, refl, sym, ap, subst, ◌∙◌, lit<, lit≤, arith, length-append}
-use Rattle.std.specs.Prelude.{map, flat_map, slice_index, codes, ◌==◌}
+use Rattle.std.proofs.Common.{◌≡◌, ℕ, suc, ◌+◌, ◌*◌, ◌^◌, ◌<◌, ◌≤◌, Bool, true, false, cond, eqb, List, [], ◌∷◌, ◌++◌, length, replicate, Option, Some, None, refl, sym, ap, subst, ◌∙◌, arith, length-append}
+use Rattle.std.specs.Prelude.{map, flat_map, slice_index}
 use Rattle.std.specs.List.{AllByRecursion, AllZip}
-use Rattle.std.proofs.lemmas.Bool.{eqb-true}
 use Rattle.std.proofs.lemmas.List.{append-nil, length-map}
-use Rattle.mp4_boxes.specs.Bytes.{spelled, field, rows, sum_of}
-use Rattle.mp4_boxes.specs.Box.{Box}
-use Rattle.mp4_boxes.specs.Layout.{sbgp, row, fields, leaf_rows, IsSound}
+use Rattle.mp4_boxes.specs.Bytes.{spelled, field, rows}
+use Rattle.mp4_boxes.specs.Layout.{sbgp, row, IsSound}
 use Rattle.mp4_boxes.proofs.Fields.{AllFit, none, more, rows_again, field_again}
-use Rattle.mp4_boxes.proofs.WrittenBoxes.{Content, typed, placed}
-use Rattle.mp4_tables.specs.Repeated.{repeated, total}
-use Rattle.mp4_tables.specs.Groups.{GroupKey, Grouping, Groups, grouping_of, groupings_of, index_at, put_group, put_indexes, maps_of, max_index, same_key}
+use Rattle.mp4_boxes.proofs.WrittenBoxes.{placed}
+use Rattle.mp4_tables.specs.Repeated.{total}
+use Rattle.mp4_tables.specs.Groups.{GroupKey, Grouping, Groups, grouping_of, index_at, put_indexes, maps_of, max_index}
 use Rattle.mp4_tables.specs.PlainSamples.{PlacedSample, with_groups}
-use Rattle.mp4_present.specs.Presentation.{Sample, IsGroup, IsParameter}
+use Rattle.mp4_present.specs.Presentation.{Sample, IsParameter}
 use Rattle.mp4_present.specs.Denotes.{sample_of}
 use Rattle.mp4_plan.specs.Pieces.{TimedSample}
 use Rattle.mp4_plan.specs.Normal.{key_bytes, put_run, longest_runs}

@@ -1,20 +1,19 @@
 -- The leaves of a `traf` that were written are read again, and are sound.
-use Rattle.std.proofs.Common.{◌≡◌, ℕ, suc, zero, ◌+◌, ◌*◌, ◌^◌, ◌<◌, ◌≤◌, Bool, true, false, cond, List, [], ◌∷◌, ◌++◌, length, take, drop, Option, Some, None, ℤ, pos, refl, sym, ap, ap₂, subst, ◌∙◌, lit<, lit≤, arith, length-append, mul-le-mul_left}
+use Rattle.std.proofs.Common.{◌≡◌, ℕ, ◌+◌, ◌*◌, ◌^◌, ◌<◌, ◌≤◌, Bool, true, false, cond, List, [], ◌∷◌, ◌++◌, length, drop, Option, Some, None, pos, refl, sym, ap, subst, ◌∙◌, lit<, lit≤, arith, length-append, mul-le-mul_left}
 use Rattle.std.specs.Prelude.{map, flat_map, slice_index, option_map, IsTrue, not, ◌&&◌, nat_eq}
 use Rattle.std.specs.List.{AllByRecursion, list_all}
 use Rattle.std.proofs.lemmas.List.{append-nil}
-use Rattle.std.proofs.lemmas.List.Concat.{flat_map-cons}
 use Rattle.byteorder.specs.Endian.{twos_complement}
-use Rattle.mp4_boxes.specs.Bytes.{spelled, field, width_of}
+use Rattle.mp4_boxes.specs.Bytes.{spelled, width_of}
 use Rattle.mp4_boxes.specs.Layout.{tfhd, tfdt, trun, fields, flags, has, present, column_values, tfhd_columns, trun_columns, sample_columns, known_flags, only_among, default_base_is_moof, first_sample_flags_present, sample_flags_present, IsSound, leaf_fields, version, row_count}
 use Rattle.mp4_boxes.specs.Written.{column_flags, column_bytes}
 use Rattle.mp4_boxes.proofs.Fields.{field_again}
 use Rattle.mp4_boxes.proofs.Columns.{FitColumns, columns_again, length-column_bytes}
-use Rattle.mp4_frag.specs.Fragments.{RunRow, Run, run_rows, run_of, column, decode_time_of}
+use Rattle.mp4_frag.specs.Fragments.{Run, run_rows, run_of, column, decode_time_of}
 use Rattle.mp4_head.proofs.Again.{signed_again}
 use Rattle.mp4_head.proofs.WrittenLeaves.{alone_again}
 use Rattle.mp4_plan.specs.Pieces.{TimedSample}
-use Rattle.mp4_plan.specs.Normal.{Shared, common, shared_by, own, row_flags, row_values, trun_row}
+use Rattle.mp4_plan.specs.Normal.{Shared, common, row_flags, row_values, trun_row}
 use Rattle.mp4_plan.proofs.RunRows.{FitsRow, run_flags, row_read, row_fits, run_rows_again}
 
 -- ---- `trun`
@@ -109,8 +108,11 @@ module _ (data_offset : ℕ) (shared : Shared) (samples : List TimedSample) (nea
       let rest : rows_bytes shared samples ≡ rows_bytes shared samples ++ [] = sym (append-nil (rows_bytes shared samples)) in
       let rows = ap (λ (n : ℕ). run_rows n 1 (run_flags shared) (rows_bytes shared samples)) count_is ∙ ap (run_rows (length samples) 1 (run_flags shared)) rest ∙ run_rows_again shared samples [] fits in
       ap (λ (bits : ℕ). run_by bits payload) bits_are
-      ∙ (λ i. record { data_offset = option_map (twos_complement 4) (column (values i) 0); first_sample_flags = column (values i) 1;
-      rows = run_rows (row_count trun payload) 1 (run_flags shared) (drop (8 + options_wide i) payload) })
+      ∙ (λ i. record {
+        data_offset = option_map (twos_complement 4) (column (values i) 0);
+        first_sample_flags = column (values i) 1;
+        rows = run_rows (row_count trun payload) 1 (run_flags shared) (drop (8 + options_wide i) payload);
+      })
       ∙ (λ i. record { data_offset = Some (offset i); first_sample_flags = None; rows = rows i })
 
   -- It is sound.
@@ -124,7 +126,7 @@ module _ (data_offset : ℕ) (shared : Shared) (samples : List TimedSample) (nea
           version = refl;
           flags = subst (λ (bits : ℕ). IsTrue (only_among (known_flags trun) bits && not (has bits first_sample_flags_present && has bits sample_flags_present))) (sym bits_are) (run_flags_are shared).known;
           room = subst (λ (bits : ℕ). 8 + width_of (present bits trun_columns) + row_count trun payload * width_of (present bits sample_columns) ≤ length payload) (sym bits_are)
-          (subst (λ (n : ℕ). 8 + width_of (present (run_flags shared) trun_columns) + n * width_of (present (run_flags shared) sample_columns) ≤ length payload) (sym count_is) room);
+              (subst (λ (n : ℕ). 8 + width_of (present (run_flags shared) trun_columns) + n * width_of (present (run_flags shared) sample_columns) ≤ length payload) (sym count_is) room);
         };
         value = refl;
         inside = refl;
