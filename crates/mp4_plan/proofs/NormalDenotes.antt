@@ -190,19 +190,19 @@ module _ (p : Presentation) (v : Valid p) where
   the_parts = pieces_parts (normal_trexes (heads p)) (pieces_at p) 1 (pieces p)
 
   -- they spell the pieces
-  all_spell : AllZip (Spells (normal p)) (pieces_parts (normal_trexes (heads p)) (pieces_at p) 1 (pieces p)) (pieces p)
+  all_spell : AllZip (Spells (normal p)) the_parts (pieces p)
   all_spell = parts_spell (normal_trexes (heads p)) (normal p) (written (front_contents p)) (pieces_at p) 1 (pieces p) (pieces_good p v) refl (normal_is p)
 
   -- they say what the pieces do
-  all_say : AllZip (Says (sample_of (normal p)) (λ s. refl)) (pieces_parts (normal_trexes (heads p)) (pieces_at p) 1 (pieces p)) (pieces p)
-  all_say = zip_weaker (Spells (normal p)) (Says (sample_of (normal p)) (λ s. refl)) (λ x y h. h.says) (pieces_parts (normal_trexes (heads p)) (pieces_at p) 1 (pieces p)) (pieces p) all_spell
+  all_say : AllZip (Says (sample_of (normal p)) (λ s. refl)) the_parts (pieces p)
+  all_say = zip_weaker (Spells (normal p)) (Says (sample_of (normal p)) (λ s. refl)) (λ x y h. h.says) the_parts (pieces p) all_spell
 
   -- the `trex`s of the file
   trexes_are : trexes_of (normal_tree p).movie ≡ normal_trexes (heads p)
   trexes_are = trexes_again p.movie (heads p) (movie_length p) (head_writable p v) 24
 
   -- its tree says these parts
-  parts_of_file : file_parts (normal_tree p) ≡ pieces_parts (normal_trexes (heads p)) (pieces_at p) 1 (pieces p)
+  parts_of_file : file_parts (normal_tree p) ≡ the_parts
   parts_of_file = ap (λ (l : List Trex). all_parts l (map fragment_of (pieces_trees (pieces_at p) 1 (pieces p)))) trexes_are ∙ parts_are (normal_trexes (heads p)) (pieces_at p) 1 (pieces p) (pieces_good p v)
 
   -- the heads can be read
@@ -214,7 +214,7 @@ module _ (p : Presentation) (v : Valid p) where
   infos_are = infos_from _ (heads p) can_read
 
   -- the `sbgp`s of each track keep the rules
-  grouped_track : (t : Track) → CanWrite p.tracks t → AreGrouped [] (parts_for t.head.id (pieces_parts (normal_trexes (heads p)) (pieces_at p) 1 (pieces p)))
+  grouped_track : (t : Track) → CanWrite p.tracks t → AreGrouped [] (parts_for t.head.id the_parts)
   grouped_track t c =
       let named = named_by p.tracks t.head.id in
       let keys : named ≡ keys_of t.samples = ap (λ o. unwrap_or (option_map (λ (u : Track). keys_of u.samples) o) []) c.found in
@@ -223,7 +223,7 @@ module _ (p : Presentation) (v : Valid p) where
       (of_track (λ id piece. AllByRecursion (IsWritableSample (named_by p.tracks id)) piece.samples) t.head.id (pieces p) (samples_good p v))
 
   -- what is known of each track
-  all_read : AllByRecursion (IsRead (normal p) (pieces_parts (normal_trexes (heads p)) (pieces_at p) 1 (pieces p))) p.tracks
+  all_read : AllByRecursion (IsRead (normal p) the_parts) p.tracks
   all_read = join p.tracks (valid_tracks p v) can_read
       (tracks_again (sample_of (normal p)) (λ s. refl) p the_parts v.ids (all_weaker IsTrack (λ (t : Track). t.samples ≡ [] → t.start ≡ 0) (λ t h. h.empty) p.tracks v.tracks) all_say)
     where
