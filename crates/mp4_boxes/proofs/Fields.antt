@@ -7,7 +7,8 @@ use Rattle.byteorder.specs.Endian.{big_from, big_bytes}
 use Rattle.byteorder.specs.Numbers.{big_number-reads_back, length-bytes_high_first}
 use Rattle.mp4_boxes.specs.Bytes.{numbers, spelled, rows, width_of, FitWidths}
 
-field_again : (width value : ℕ) (rest : List ℕ) → value < 256 ^ width → big_from 0 width (big_bytes width value ++ rest) ≡ value
+-- a number that was written is read again
+pub field_again : (width value : ℕ) (rest : List ℕ) → value < 256 ^ width → big_from 0 width (big_bytes width value ++ rest) ≡ value
 field_again width value rest lt = big_number-reads_back width value rest lt
 
 pub numbers_again : (widths values rest : List ℕ) → FitWidths widths values → numbers widths (spelled widths values ++ rest) ≡ values
@@ -25,7 +26,8 @@ pub data AllFit (widths : List ℕ) : List (List ℕ) → Type 0 where
   none : AllFit widths []
   more : {values : List ℕ} {others : List (List ℕ)} → FitWidths widths values → AllFit widths others → AllFit widths (values ∷ others)
 
-length-spelled : (widths values : List ℕ) → FitWidths widths values → length (spelled widths values) ≡ width_of widths
+-- fields that were written take as many bytes as their widths say
+pub length-spelled : (widths values : List ℕ) → FitWidths widths values → length (spelled widths values) ≡ width_of widths
 length-spelled [] [] fits = refl
 length-spelled [] (v ∷ values) fits = absurd fits
 length-spelled (w ∷ widths) [] fits = absurd fits

@@ -5,9 +5,13 @@ pub mod HeaderBytes
 pub mod HeaderFronts
 pub mod Fields
 pub mod Lying
+pub mod LyingData
+pub mod WrittenBoxes
 pub mod Members
 pub mod Columns
 pub mod Among
+pub mod Each
+pub mod Joined
 pub mod Refusing
 pub mod Each
 pub mod OfBytes

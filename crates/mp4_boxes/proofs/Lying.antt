@@ -13,11 +13,10 @@ eqb_not m n h = ne_eqb m n (λ e. omega (arith, e, h))
 
 -- the parts of a written box with what follows
 module _ (kind payload rest : List ℕ) (four : length kind ≡ 4) (fits : 8 + length payload < 2 ^ 32) where
-  bytes : List ℕ
+  abbrev pub bytes : List ℕ
   bytes = box_bytes kind payload ++ rest
 
   regrouped : bytes ≡ big_bytes 4 (8 + length payload) ++ (kind ++ (payload ++ rest))
-  unfolding bytes
   regrouped = simp append_assoc
 
   field_is : field bytes 0 4 ≡ 8 + length payload
@@ -45,22 +44,20 @@ module _ (kind payload rest : List ℕ) (four : length kind ≡ 4) (fits : 8 + l
       rw (a, b, c, d, e) (λ i. Ok (record { kind = kind_is i; length = 8; size = field_is i }))
 
   -- the box itself
-  the_box : ℕ → Box
+  abbrev pub the_box : ℕ → Box
   the_box at = record { kind = kind; offset = at; header = 8; payload = payload }
 
   box_is : (at : ℕ) → the_box at ≡ box_of at bytes (record { kind = kind; length = 8; size = 8 + length payload })
-  unfolding the_box
   box_is at =
       let n : (8 + length payload) - 8 ≡ length payload = omega arith in
       let p : payload ≡ take ((8 + length payload) - 8) (drop 8 bytes) = sym (ap (λ (k : ℕ). take k (drop 8 bytes)) n ∙ ap (take (length payload)) behind_header ∙ take_at payload rest (length payload) refl) in
       λ i. record { kind = kind; offset = at; header = 8; payload = p i }
 
   behind_is : (at : ℕ) → drop (size (the_box at)) bytes ≡ rest
-  unfolding the_box
   behind_is at = sym (drop-drop (length payload) 8 bytes) ∙ ap (drop (length payload)) behind_header ∙ drop_at payload rest (length payload) refl
 
-  lies : (is_open : Bool) (at : ℕ) (bs : List Box) → LieEndToEnd is_open (at + (8 + length payload)) rest bs → LieEndToEnd is_open at bytes (the_box at ∷ bs)
-  unfolding the_box
+  -- the box lies in front of what follows
+  pub lies : (is_open : Bool) (at : ℕ) (bs : List Box) → LieEndToEnd is_open (at + (8 + length payload)) rest bs → LieEndToEnd is_open at bytes (the_box at ∷ bs)
   lies is_open at bs l = (
     (record { kind = kind; length = 8; size = 8 + length payload }, header_is is_open, box_is at),
     subst (λ (xs : List ℕ). LieEndToEnd is_open (at + (8 + length payload)) xs bs) (sym (behind_is at)) l,

@@ -4,3 +4,11 @@ pub mod Distinct
 pub mod TreeBytes
 pub mod ValidHead
 pub mod Vectors
+pub mod Signed
+pub mod WrittenLeaves
+pub mod WrittenContents
+pub mod WrittenTrack
+pub mod WrittenTrackHead
+pub mod WrittenMovie
+pub mod WrittenTables
+pub mod WrittenHead

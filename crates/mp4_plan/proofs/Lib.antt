@@ -2,6 +2,7 @@ pub mod FromTwo
 pub mod RunRows
 pub mod Shared
 pub mod Maps
+pub mod KeyOrder
 pub mod Filters
 pub mod Fragments
 pub mod CutLaws
@@ -16,3 +17,13 @@ pub mod LargestOf
 pub mod ChunkSpots
 pub mod SampleGroups
 pub mod Vectors
+pub mod WrittenGroups
+pub mod WrittenRun
+pub mod WrittenFragment
+pub mod PieceTree
+pub mod PieceSays
+pub mod PieceBoxes
+pub mod NormalTree
+pub mod GoodPieces
+pub mod NormalGroups
+pub mod NormalDenotes

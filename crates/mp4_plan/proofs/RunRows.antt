@@ -53,7 +53,8 @@ fit (Some d) (Some z) None true s fits = (refl, (refl, (refl, fits.flags, (refl,
 fit (Some d) (Some z) (Some f) false s fits = (refl, (refl, (refl, (refl, tt))))
 fit (Some d) (Some z) (Some f) true s fits = (refl, (refl, (refl, (refl, fits.unsigned_offset, tt))))
 
-row_fits : (shared : Shared) (s : TimedSample) → FitsRow s → FitColumns (run_flags shared) sample_columns (row_values shared s)
+-- the numbers of a row fit, and its flags name them
+pub row_fits : (shared : Shared) (s : TimedSample) → FitsRow s → FitColumns (run_flags shared) sample_columns (row_values shared s)
 row_fits shared s fits = fit shared.duration shared.size shared.flags shared.has_offsets s fits
 
 values_read : (has_offsets : Bool) (duration size flags : Option ℕ) (s : TimedSample) → FitsRow s

@@ -1,6 +1,6 @@
 //! Laws of the definitions.
 
-ghost use Rattle.mp4_plan.specs.Laws.{DenotedIsValid, DenotesOne, FaultRefuses};
+ghost use Rattle.mp4_plan.specs.Laws.{DenotedIsValid, DenotesOne, FaultRefuses, NormalDenotes, NormalIsExact, NormalIsFixed};
 ghost use Rattle.mp4_plan.specs.PieceLaws.{CutsAreLeast, FragmentsAreLast, PiecesAreDue, PiecesAreLongest, PiecesJoin};
 ghost use Rattle.mp4_plan.specs.HeadLaws.{MovieLengthIsLargest, NextTrackIdIsLeast};
 ghost use Rattle.mp4_plan.specs.SpellingLaws.{ColumnsAreSpelledOnce, GroupRowsAreLongest, PieceKeysAreThose};
@@ -35,6 +35,21 @@ pub fn movie_length_is_largest()
 /// The next track ID is above each ID that leaves room for one above it, fits 32 bits, and is no larger than that takes.
 pub fn next_track_id_is_least()
     ensures { NextTrackIdIsLeast }
+{}
+
+/// The normal form of a valid presentation denotes it.
+pub fn normal_denotes()
+    ensures { NormalDenotes }
+{}
+
+/// Normal forms of valid presentations are equal exactly if the presentations are.
+pub fn normal_is_exact()
+    ensures { NormalIsExact }
+{}
+
+/// What a normal form denotes has this normal form: to normalise twice gives the bytes of once.
+pub fn normal_is_fixed()
+    ensures { NormalIsFixed }
 {}
 
 /// The cuts are those of the first track: its first sample, and from each cut on the least sync sample at least a second behind.
