@@ -13,16 +13,18 @@ abbrev pub IsNone : List GroupKey → GroupKey → Type 0
 IsNone keys key = list_any (same_key key) keys ≡ false
 
 -- keys of one rank are among the same keys
-by_rank : (keys : List GroupKey) (a b : GroupKey) → key_rank a ≡ key_rank b → list_any (same_key a) keys ≡ list_any (same_key b) keys
+pub by_rank : (keys : List GroupKey) (a b : GroupKey) → key_rank a ≡ key_rank b → list_any (same_key a) keys ≡ list_any (same_key b) keys
 by_rank keys a b e = ap (λ (n : ℕ). list_any (λ (k : GroupKey). eqb n (key_rank k)) keys) e
 
 -- what is one of some keys has another rank than what is none of them
 pub other_rank : (keys : List GroupKey) (a b : GroupKey) → IsAmong keys a → IsNone keys b → key_rank a ≡ key_rank b → ⊥
 other_rank keys a b h n e = true_false (list_any (same_key b) keys) (sym (by_rank keys a b e) ∙ h) n
 
+-- a key is the same as itself
 pub same_itself : (key : GroupKey) → same_key key key ≡ true
 same_itself key = eq-eqb (key_rank key) (key_rank key) refl
 
+-- a test of two keys says the same of them turned round
 same_turned : (a b : GroupKey) (v : Bool) → same_key a b ≡ v → same_key b a ≡ v
 same_turned a b true e = eq-eqb (key_rank b) (key_rank a) (sym (eqb-true (key_rank a) (key_rank b) e))
 same_turned a b false e = ne_eqb (key_rank b) (key_rank a) (λ s. true_false (same_key a b) (eq-eqb (key_rank a) (key_rank b) (sym s)) e)
@@ -35,9 +37,11 @@ same_other a b e = same_turned a b false e
 pub among_more : (keys : List GroupKey) (key other : GroupKey) → IsAmong keys key → IsAmong (other ∷ keys) key
 among_more keys key other h = or_right (same_key key other) (list_any (same_key key) keys) h
 
+-- a key is among keys that it is put in front of
 pub among_first : (keys : List GroupKey) (key : GroupKey) → IsAmong (key ∷ keys) key
 among_first keys key = or_left (same_key key key) (list_any (same_key key) keys) (same_itself key)
 
+-- what is among keys is among them and more
 among_front : (keys more : List GroupKey) (key : GroupKey) → IsAmong keys key → IsAmong (keys ++ more) key
 among_front [] more key h = absurd (cc)
 among_front (k ∷ keys) more key h = elim (or_cases (same_key key k) (list_any (same_key key) keys) h) [
@@ -45,6 +49,7 @@ among_front (k ∷ keys) more key h = elim (or_cases (same_key key k) (list_any 
   | inr r ↦ or_right (same_key key k) (list_any (same_key key) (keys ++ more)) (among_front keys more key r)
 ]
 
+-- a key is among keys that it is put behind
 among_last : (keys : List GroupKey) (key : GroupKey) → IsAmong (keys ++ key ∷ []) key
 among_last [] key = among_first [] key
 among_last (k ∷ keys) key = among_more (keys ++ key ∷ []) key k (among_last keys key)
@@ -63,10 +68,12 @@ among_through (k ∷ keys) others key h a = elim (or_cases (same_key key k) (lis
 abbrev next_keys : List GroupKey → GroupKey → List GroupKey
 next_keys keys key = cond (list_any (same_key key) keys) keys (keys ++ key ∷ [])
 
+-- what is among keys is among them and one more, whatever the choice
 stays_next : (keys : List GroupKey) (key other : GroupKey) (v : Bool) → IsAmong keys key → IsAmong (cond v keys (keys ++ other ∷ [])) key
 stays_next keys key other true h = h
 stays_next keys key other false h = among_front keys (other ∷ []) key h
 
+-- a key is among keys to which it was added if it was none of them
 named_next : (keys : List GroupKey) (key : GroupKey) (v : Bool) → list_any (same_key key) keys ≡ v → IsAmong (cond v keys (keys ++ key ∷ [])) key
 named_next keys key true e = e
 named_next keys key false e = among_last keys key
@@ -88,12 +95,14 @@ abbrev pub AreOnce : List GroupKey → Type 0
 AreOnce [] = Unit {0}
 AreOnce (key ∷ keys) = IsNone keys key × AreOnce keys
 
+-- none of some keys, and not the one behind them
 none_behind : (keys : List GroupKey) (key other : GroupKey) → IsNone keys other → same_key other key ≡ false → IsNone (keys ++ key ∷ []) other
 none_behind [] key other n e = or_from (same_key other key) false e refl
 none_behind (k ∷ keys) key other n e =
     let p = or_parts (same_key other k) (list_any (same_key other) keys) n in
     or_from (same_key other k) (list_any (same_key other) (keys ++ key ∷ [])) p.0 (none_behind keys key other p.1 e)
 
+-- keys that are each there once, and a new one behind them
 once_behind : (keys : List GroupKey) (key : GroupKey) → AreOnce keys → IsNone keys key → AreOnce (keys ++ key ∷ [])
 once_behind [] key h n = (refl, tt)
 once_behind (k ∷ keys) key h n =
@@ -106,6 +115,7 @@ record Without (key : GroupKey) (keys : List GroupKey) : Type 0 where
   fewer : length keys ≡ suc (length others)
   left : (x : GroupKey) → same_key key x ≡ false → IsAmong keys x → IsAmong others x
 
+-- the step of `without`, by the first key
 without_choice : (key k : GroupKey) (keys : List GroupKey) (v : Bool) → same_key key k ≡ v → (IsAmong keys key → Without key keys) → IsAmong (k ∷ keys) key → Without key (k ∷ keys)
 without_choice key k keys true e more h = record {
   others = keys;
@@ -127,10 +137,12 @@ without_choice key k keys false e more h =
       ];
     }
 
+-- keys without one that is among them
 without : (key : GroupKey) (keys : List GroupKey) → IsAmong keys key → Without key keys
 without key [] h = absurd (cc)
 without key (k ∷ keys) h = without_choice key k keys (same_key key k) refl (without key keys) h
 
+-- keys that are not that one are among the others
 all_left : (key : GroupKey) (named : List GroupKey) (w : Without key named) (keys : List GroupKey) → IsNone keys key → AllByRecursion (IsAmong named) keys → AllByRecursion (IsAmong w.others) keys
 all_left key named w [] n h = tt
 all_left key named w (k ∷ keys) n h =
@@ -145,10 +157,12 @@ no_more (key ∷ keys) named o h =
     let rest = no_more keys w.others o.1 (all_left key named w keys o.0 h.1) in
     omega (arith, rest, w.fewer)
 
+-- each is still there once behind one more
 next_once : (keys : List GroupKey) (key : GroupKey) (v : Bool) → list_any (same_key key) keys ≡ v → AreOnce keys → AreOnce (cond v keys (keys ++ key ∷ []))
 next_once keys key true e h = h
 next_once keys key false e h = once_behind keys key h e
 
+-- all are still among those named behind one more
 next_among : (named keys : List GroupKey) (key : GroupKey) (v : Bool) → IsAmong named key → AllByRecursion (IsAmong named) keys → AllByRecursion (IsAmong named) (cond v keys (keys ++ key ∷ []))
 next_among named keys key true a h = h
 next_among named keys key false a h = all_append (IsAmong named) keys (key ∷ []) h (a, tt)
