@@ -1,6 +1,8 @@
 pub mod Trees
 pub mod Again
 pub mod Distinct
+pub mod TreeBytes
+pub mod ValidHead
 pub mod Vectors
 pub mod Signed
 pub mod WrittenLeaves

@@ -11,6 +11,11 @@ pub mod PieceFacts
 pub mod PartLists
 pub mod RunLists
 pub mod Refuses
+pub mod GroupRows
+pub mod OneSpelling
+pub mod LargestOf
+pub mod ChunkSpots
+pub mod SampleGroups
 pub mod Vectors
 pub mod WrittenGroups
 pub mod WrittenRun
