@@ -10,7 +10,6 @@ pub mod WrittenBoxes
 pub mod Members
 pub mod Columns
 pub mod Among
-pub mod Each
 pub mod Joined
 pub mod Refusing
 pub mod OfBytes

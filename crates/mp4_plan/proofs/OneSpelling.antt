@@ -1,13 +1,13 @@
 -- In the normal form each number of the samples of a piece is spelled once: in `tfhd` where they agree, else in each row of `trun`.
-use Rattle.std.proofs.Common.{◌≡◌, ℕ, ◌+◌, ◌<◌, ◌^◌, Bool, true, false, cond, eqb, List, [], ◌∷◌, ◌++◌, length, drop, Option, Some, None, refl, sym, ap, subst, ◌∙◌, arith}
-use Rattle.std.specs.Prelude.{map, nat_eq, not, ℤ, pos, negsuc, FitsSigned, IfSome}
+use Rattle.std.proofs.Common.{◌≡◌, ℕ, ◌+◌, ◌<◌, ◌^◌, Bool, true, false, eqb, List, [], ◌∷◌, ◌++◌, length, drop, Option, Some, None, refl, sym, ap, subst, ◌∙◌, arith}
+use Rattle.std.specs.Prelude.{map, nat_eq, not, pos, FitsSigned, IfSome}
 use Rattle.std.specs.Int.{w32}
 use Rattle.std.specs.List.{AllByRecursion, list_all}
-use Rattle.std.proofs.lemmas.Bool.{eqb-true, eq-eqb, and_from, not-false}
+use Rattle.std.proofs.lemmas.Bool.{eq-eqb, and_from, not-false}
 use Rattle.mp4_boxes.specs.Bytes.{spelled, unsigned}
 use Rattle.mp4_boxes.specs.Written.{column_flags, column_bytes}
 use Rattle.mp4_boxes.specs.Layout.{Column, tfhd, trun, fields, flags, has, column_values, tfhd_columns, trun_columns, default_base_is_moof, default_sample_duration_present, default_sample_size_present, default_sample_flags_present, sample_duration_present, sample_size_present, sample_flags_present, sample_composition_time_offset_present}
-use Rattle.mp4_boxes.proofs.Each.{each_tested, each_value, each_weaker, each_from}
+use Rattle.mp4_boxes.proofs.Each.{each_value, each_weaker, each_from}
 use Rattle.mp4_boxes.proofs.Columns.{columns_again}
 use Rattle.mp4_frag.specs.Fragments.{column}
 use Rattle.mp4_present.specs.Presentation.{Sample, Track, IsSample, IsTrack}
@@ -15,6 +15,8 @@ use Rattle.mp4_plan.specs.Pieces.{TimedSample, Piece, timed, pieces}
 use Rattle.mp4_plan.specs.Normal.{common, shared_by, row_flags, trun_row, first_description}
 use Rattle.mp4_plan.specs.SpellingLaws.{Agree, IsSpelledOnce, defaults, run_bits, HasOneSpelling, ColumnsAreSpelledOnce}
 use Rattle.mp4_plan.proofs.Shared.{common_is}
+use Rattle.mp4_plan.proofs.WrittenRun.{common_has}
+use Rattle.mp4_plan.proofs.PieceSays.{offsets_none}
 use Rattle.mp4_plan.proofs.PieceLists.{HasSamples, pieces_some}
 use Rattle.mp4_plan.proofs.PieceFacts.{all_timed, samples_in_pieces}
 
@@ -131,31 +133,13 @@ once value samples default is_column some e c = once_case value samples default 
 
 -- what numbers of four bytes have in common has four bytes
 common_fits : (ns : List ℕ) → AllByRecursion (λ n. n < 256 ^ 4) ns → Fits (common ns)
-common_fits [] h = tt
-common_fits (n ∷ ns) h = by_case (list_all (nat_eq n) ns)
-  where
-    by_case : (b : Bool) → Fits (cond b (Some n) None)
-    by_case true = h.0
-    by_case false = tt
+common_fits ns h = common_has (λ n. n < 256 ^ 4) ns h
 
 -- ---- offsets
-
--- a composition offset of 32 bits is written as 0 exactly if it is 0
-zero_written : (z : ℤ) → FitsSigned w32 z → unsigned 4 z ≡ 0 → z ≡ pos 0
-zero_written (pos n) h e = ap pos e
-zero_written (negsuc n) h e = absurd (omega (arith, h.sfits, e))
 
 -- an offset that is written as 0
 abbrev no_offset : TimedSample → Bool
 no_offset s = eqb (unsigned 4 s.sample.offset) 0
-
--- where all are written as 0, all are 0
-offsets_none : (samples : List TimedSample) → AllByRecursion (λ (s : TimedSample). FitsSigned w32 s.sample.offset) samples → list_all no_offset samples ≡ true → AllByRecursion (λ (s : TimedSample). s.sample.offset ≡ pos 0) samples
-offsets_none samples h e = both samples h (each_tested no_offset samples e)
-  where
-    both : (ss : List TimedSample) → AllByRecursion (λ (s : TimedSample). FitsSigned w32 s.sample.offset) ss → AllByRecursion (λ (s : TimedSample). no_offset s ≡ true) ss → AllByRecursion (λ (s : TimedSample). s.sample.offset ≡ pos 0) ss
-    both [] f g = tt
-    both (s ∷ ss) f g = (zero_written s.sample.offset f.0 (eqb-true (unsigned 4 s.sample.offset) 0 g.0), both ss f.1 g.1)
 
 -- and the other way round
 none_offset : (samples : List TimedSample) → AllByRecursion (λ (s : TimedSample). s.sample.offset ≡ pos 0) samples → list_all no_offset samples ≡ true

@@ -7,6 +7,7 @@ use Rattle.std.proofs.Math.Nat.{mod-eq_of_lt}
 use Rattle.std.proofs.lemmas.Bool.{eqb-true, and_parts}
 use Rattle.std.proofs.lemmas.List.{append-nil, length-map}
 use Rattle.mp4_boxes.specs.Bytes.{unsigned}
+use Rattle.mp4_boxes.proofs.Each.{each_weaker}
 use Rattle.mp4_boxes.specs.Written.{header_length}
 use Rattle.mp4_tables.specs.Groups.{maps_of}
 use Rattle.mp4_tables.specs.PlainSamples.{PlacedSample, with_groups}
@@ -42,17 +43,18 @@ IsCommon f shared samples = (m : ℕ) → shared ≡ Some m → AllByRecursion (
 common_of : (f : TimedSample → ℕ) (samples : List TimedSample) → IsCommon f (common (map f samples)) samples
 common_of f samples m e = values_of f m samples (common_is (map f samples) m e)
 
--- a number that is written as 0 is 0
-unsigned_none : (z : ℤ) → FitsSigned w32 z → unsigned 4 z ≡ 0 → z ≡ pos 0
+-- a signed number that is written as 0 is 0
+pub unsigned_none : (z : ℤ) → FitsSigned w32 z → unsigned 4 z ≡ 0 → z ≡ pos 0
 unsigned_none (pos n) h e = ap (λ (k : ℕ). pos k) e
 unsigned_none (negsuc n) h e = absurd (omega (arith, h.sfits, e))
 
 -- offsets that are all written as 0 are 0
-offsets_none : (samples : List TimedSample) → AllByRecursion FitsRow samples → list_all (λ (s : TimedSample). unsigned 4 s.sample.offset == 0) samples ≡ true → AllByRecursion (λ (s : TimedSample). s.sample.offset ≡ pos 0) samples
+pub offsets_none : (samples : List TimedSample) → AllByRecursion (λ (s : TimedSample). FitsSigned w32 s.sample.offset) samples → list_all (λ (s : TimedSample). unsigned 4 s.sample.offset == 0) samples ≡ true
+    → AllByRecursion (λ (s : TimedSample). s.sample.offset ≡ pos 0) samples
 offsets_none [] h e = tt
 offsets_none (s ∷ samples) h e =
     let p = and_parts (eqb (unsigned 4 s.sample.offset) 0) (list_all (λ (s : TimedSample). unsigned 4 s.sample.offset == 0) samples) e in
-    (unsigned_none s.sample.offset h.0.offset (eqb-true (unsigned 4 s.sample.offset) 0 p.0), offsets_none samples h.1 p.1)
+    (unsigned_none s.sample.offset h.0 (eqb-true (unsigned 4 s.sample.offset) 0 p.0), offsets_none samples h.1 p.1)
 
 flipped : (b : Bool) → not b ≡ false → b ≡ true
 flipped true e = refl
@@ -89,7 +91,7 @@ module _ (trex : Trex) (data_offset : ℕ) (piece : Piece) where
   pub rows_give : AllByRecursion FitsRow piece.samples → AllByRecursion HasFlags piece.samples → IsOne piece.samples → AllZip (Gives trex (traf_read data_offset piece)) (map (row_read (shared_by piece.samples)) piece.samples) (untimed_samples piece.samples)
   rows_give fits small one =
       gives piece.samples (common_of (λ s. s.sample.duration) piece.samples) (common_of (λ s. length s.sample.bytes) piece.samples) (common_of (λ s. s.sample.flags) piece.samples)
-      (λ e. offsets_none piece.samples fits (flipped (list_all (λ (s : TimedSample). unsigned 4 s.sample.offset == 0) piece.samples) e)) small one
+      (λ e. offsets_none piece.samples (each_weaker FitsRow (λ (s : TimedSample). FitsSigned w32 s.sample.offset) (λ s h. h.offset) piece.samples fits) (flipped (list_all (λ (s : TimedSample). unsigned 4 s.sample.offset == 0) piece.samples) e)) small one
 
 -- ---- where the data lies
 

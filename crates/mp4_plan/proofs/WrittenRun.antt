@@ -1,6 +1,6 @@
 -- The leaves of a `traf` that were written are read again, and are sound.
 use Rattle.std.proofs.Common.{◌≡◌, ℕ, ◌+◌, ◌*◌, ◌^◌, ◌<◌, ◌≤◌, Bool, true, false, cond, List, [], ◌∷◌, ◌++◌, length, drop, Option, Some, None, pos, refl, sym, ap, subst, ◌∙◌, lit<, lit≤, arith, length-append, mul-le-mul_left}
-use Rattle.std.specs.Prelude.{map, flat_map, slice_index, option_map, IsTrue, not, ◌&&◌, nat_eq}
+use Rattle.std.specs.Prelude.{map, flat_map, slice_index, option_map, IsTrue, not, ◌&&◌, nat_eq, IfSome}
 use Rattle.std.specs.List.{AllByRecursion, list_all}
 use Rattle.std.proofs.lemmas.List.{append-nil}
 use Rattle.byteorder.specs.Endian.{twos_complement}
@@ -143,14 +143,9 @@ module _ (data_offset : ℕ) (shared : Shared) (samples : List TimedSample) (nea
 
 -- ---- `tfhd`
 
--- it holds of a number that is there
-abbrev pub FitsBy : (ℕ → Type 0) → Option ℕ → Type 0
-FitsBy P None = Unit {0}
-FitsBy P (Some n) = P n
-
 -- a number that is there fits four bytes
 abbrev pub FitsOption : Option ℕ → Type 0
-FitsOption o = FitsBy (λ n. n < 256 ^ 4) o
+FitsOption o = IfSome o (λ n. n < 256 ^ 4)
 
 -- the fields of a `tfhd` that is written
 abbrev pub head_options : ℕ → Option ℕ → Option ℕ → Option ℕ → List (Option ℕ)
@@ -245,11 +240,11 @@ time_sound time = record { readable = record { version = refl; flags = refl; roo
 -- ---- what samples have in common
 
 -- in common or not
-common_by : (P : ℕ → Type 0) (n : ℕ) (all : Bool) → P n → FitsBy P (cond all (Some n) None)
+common_by : (P : ℕ → Type 0) (n : ℕ) (all : Bool) → P n → IfSome (cond all (Some n) None) P
 common_by P n true h = h
 common_by P n false h = tt
 
 -- What holds of each number holds of what they have in common.
-pub common_has : (P : ℕ → Type 0) (ns : List ℕ) → AllByRecursion P ns → FitsBy P (common ns)
+pub common_has : (P : ℕ → Type 0) (ns : List ℕ) → AllByRecursion P ns → IfSome (common ns) P
 common_has P [] h = tt
 common_has P (n ∷ ns) h = common_by P n (list_all (nat_eq n) ns) h.0

@@ -12,6 +12,21 @@ pub fn denotes_one()
     ensures { DenotesOne }
 {}
 
+/// The normal form of a valid presentation denotes it.
+pub fn normal_denotes()
+    ensures { NormalDenotes }
+{}
+
+/// Normal forms of valid presentations are equal exactly if the presentations are.
+pub fn normal_is_exact()
+    ensures { NormalIsExact }
+{}
+
+/// What a normal form denotes has this normal form: to normalise twice gives the bytes of once.
+pub fn normal_is_fixed()
+    ensures { NormalIsFixed }
+{}
+
 /// What bytes denote is valid.
 pub fn denoted_is_valid()
     ensures { DenotedIsValid }
@@ -35,21 +50,6 @@ pub fn movie_length_is_largest()
 /// The next track ID is above each ID that leaves room for one above it, fits 32 bits, and is no larger than that takes.
 pub fn next_track_id_is_least()
     ensures { NextTrackIdIsLeast }
-{}
-
-/// The normal form of a valid presentation denotes it.
-pub fn normal_denotes()
-    ensures { NormalDenotes }
-{}
-
-/// Normal forms of valid presentations are equal exactly if the presentations are.
-pub fn normal_is_exact()
-    ensures { NormalIsExact }
-{}
-
-/// What a normal form denotes has this normal form: to normalise twice gives the bytes of once.
-pub fn normal_is_fixed()
-    ensures { NormalIsFixed }
 {}
 
 /// The cuts are those of the first track: its first sample, and from each cut on the least sync sample at least a second behind.
