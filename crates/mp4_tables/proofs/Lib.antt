@@ -1,2 +1,4 @@
 pub mod Counts
+pub mod RowLists
+pub mod RunLists
 pub mod Vectors
