@@ -1,4 +1,5 @@
 pub mod Counts
 pub mod RowLists
+pub mod ChunkLists
 pub mod RunLists
 pub mod Vectors

@@ -1,10 +1,10 @@
 -- What a place in a table stands for: what is still to come of it.
-use Rattle.std.specs.Prelude.{◌≡◌, ℕ, suc, ◌+◌, ◌-◌, ◌*◌, ◌^◌, ◌<◌, ◌≤◌, List, [], ◌∷◌, ◌++◌, length, take, drop, map, replicate, Bool, true, ℤ, pos, filter, nat_le, nat_eq, unwrap_or, Option, Some, None, slice_index}
+use Rattle.std.specs.Prelude.{◌≡◌, ℕ, suc, ◌+◌, ◌-◌, ◌*◌, ◌^◌, ◌<◌, ◌≤◌, List, [], ◌∷◌, ◌++◌, length, take, drop, map, replicate, Bool, true, ◌||◌, ◌&&◌, ℤ, pos, filter, nat_le, nat_eq, unwrap_or, Option, Some, None, slice_index}
 use Rattle.std.specs.List.{last_or, list_any}
 use Rattle.mp4_tables.specs.Repeated.{repeated}
 use Rattle.mp4_tables.specs.Tables.{ChunkRow}
 use Rattle.mp4_tables.specs.PlainSamples.{Spot, row_of_chunk, laid_out, in_chunks}
-use Rattle.mp4_tables.specs.TableRules.{is_rising_after}
+use Rattle.mp4_tables.specs.TableRules.{is_rising_after, is_index}
 use Rattle.mp4_tables.specs.declared.places.RunPlace.{RunPlace}
 use Rattle.mp4_tables.specs.declared.places.RowPlace.{RowPlace}
 use Rattle.mp4_tables.specs.declared.places.ChunkPlace.{ChunkPlace}
@@ -19,3 +19,42 @@ pub record IsRunPlace (runs : List (ℕ × ℕ)) (p : RunPlace) (values : List �
   pub rest : coming runs p ≡ values
   pub settled : p.left ≡ 0 → values ≡ []
   pub within : p.row ≤ length runs
+
+-- ---- chunks
+
+-- the last of the rows that begins at or before the chunk, or the one before them
+abbrev pub row_after : ChunkRow → List ChunkRow → ℕ → ChunkRow
+row_after before rows c = unwrap_or (last_or None (filter (λ row. nat_le row.first c) rows)) before
+
+abbrev pub row_in_hand : ℕ → RowPlace → ChunkRow
+row_in_hand first p = record { first = first; count = p.samples; description = p.description }
+
+-- the place has the row of chunk c, and the rows behind it begin behind that chunk
+pub record IsRowPlace (rows : List ChunkRow) (c : ℕ) (p : RowPlace) : Type 0 where
+  pub first : ℕ
+  pub same : (d : ℕ) → c ≤ d → row_of_chunk rows d ≡ row_after (row_in_hand first p) (drop p.row rows) d
+  pub rising : is_rising_after c (map (λ (row : ChunkRow). row.first) (drop p.row rows)) ≡ true
+
+-- where the samples still to come lie, by their sizes
+unfoldable pub spots_coming : List ChunkRow → List ℕ → ChunkPlace → List ℕ → List Spot
+spots_coming rows offsets p sizes = laid_out (pos p.at) p.row.description (take p.left sizes) ++ in_chunks rows (p.opened + 1) (drop p.opened offsets) (drop p.left sizes)
+
+abbrev pub no_spots : List ℕ → List Spot
+no_spots sizes = []
+
+-- where a sample of this size lies that comes next
+abbrev pub next_spot : ChunkPlace → ℕ → Spot
+next_spot p size = record { at = pos p.at; size = size; description = p.row.description }
+
+-- every chunk that holds samples has a description
+abbrev pub are_described : ℕ → List ChunkRow → ℕ → List ℕ → Bool
+are_described descriptions rows c [] = true
+are_described descriptions rows c (offset ∷ offsets) = (nat_eq (row_of_chunk rows c).count 0 || is_index descriptions (row_of_chunk rows c).description) && are_described descriptions rows (c + 1) offsets
+
+-- the place lies before sample k (from 0) of these sizes, or behind them all
+pub record IsChunkPlace (rows : List ChunkRow) (offsets sizes : List ℕ) (p : ChunkPlace) (k : ℕ) : Type 0 where
+  pub rest : drop k (in_chunks rows 1 offsets sizes) ≡ spots_coming rows offsets p (drop k sizes)
+  pub settled : p.left ≡ 0 → spots_coming rows offsets p ≡ no_spots
+  pub row : p.opened < length offsets → IsRowPlace rows p.opened p.row
+  pub opened : p.opened ≤ length offsets
+  pub passed : p.row.row ≤ length rows
