@@ -1,10 +1,10 @@
 -- What a place in a table stands for: what is still to come of it.
 use Rattle.std.specs.Prelude.{◌≡◌, ℕ, suc, ◌+◌, ◌-◌, ◌*◌, ◌^◌, ◌<◌, ◌≤◌, List, [], ◌∷◌, ◌++◌, length, take, drop, map, replicate, Bool, true, ◌||◌, ◌&&◌, ℤ, pos, filter, nat_le, nat_eq, unwrap_or, Option, Some, None, slice_index}
-use Rattle.std.specs.List.{last_or, list_any}
+use Rattle.std.specs.List.{last_or, list_any, list_all}
 use Rattle.mp4_tables.specs.Repeated.{repeated}
 use Rattle.mp4_tables.specs.Tables.{ChunkRow}
 use Rattle.mp4_tables.specs.PlainSamples.{Spot, row_of_chunk, laid_out, in_chunks}
-use Rattle.mp4_tables.specs.TableRules.{is_rising_after, is_index}
+use Rattle.mp4_tables.specs.TableRules.{is_rising_after, is_index, lies_within}
 use Rattle.mp4_tables.specs.declared.places.RunPlace.{RunPlace}
 use Rattle.mp4_tables.specs.declared.places.RowPlace.{RowPlace}
 use Rattle.mp4_tables.specs.declared.places.ChunkPlace.{ChunkPlace}
@@ -45,6 +45,10 @@ no_spots sizes = []
 -- where a sample of this size lies that comes next
 abbrev pub next_spot : ChunkPlace → ℕ → Spot
 next_spot p size = record { at = pos p.at; size = size; description = p.row.description }
+
+-- all samples lie in a file of this length
+abbrev pub all_lie_within : ℕ → List Spot → Bool
+all_lie_within file_length spots = list_all (λ spot. lies_within file_length spot.at spot.size) spots
 
 -- every chunk that holds samples has a description
 abbrev pub are_described : ℕ → List ChunkRow → ℕ → List ℕ → Bool

@@ -3,7 +3,7 @@ ghost use Rattle.std.specs.Prelude.{◌≡◌, ℕ, List, ◌+◌, ◌*◌, ◌^
 ghost use Rattle.mp4_tables.specs.Rows.{HaveRoom, HaveSizes, chunk_rows_at, offsets_at, offset_width};
 ghost use Rattle.mp4_tables.specs.PlainSamples.{in_chunks, in_chunks_total};
 ghost use Rattle.mp4_tables.specs.TableRules.{is_chunk_order, is_index};
-ghost use Rattle.mp4_tables.specs.Coming.{IsRowPlace, spots_coming, no_spots, next_spot};
+ghost use Rattle.mp4_tables.specs.Coming.{IsRowPlace, spots_coming, no_spots, next_spot, IsChunkPlace};
 ghost use Rattle.mp4_tables.specs.Coming.{are_described as described_from};
 
 use crate::places::{ChunkPlace, ChunksAt, RowPlace, RowsAt};
@@ -160,6 +160,26 @@ pub(crate) fn open_chunk(payload: &[u8], rows: RowsAt, chunks: ChunksAt, place: 
         };
     }
     place
+}
+
+// Before the first sample.
+pub(crate) fn first_chunk(payload: &[u8], rows: RowsAt, chunks: ChunksAt) -> ChunkPlace
+    requires room { HaveRoom 12 payload.now rows }
+    requires offsets { HaveRoom (offset_width chunks.is_wide) payload.now chunks.rows }
+    requires ordered { is_chunk_order (map (λ row. row.first) (chunk_rows_at payload.now rows)) (nat_lt 0 chunks.rows.count) ≡ true }
+    ensures { (sizes : List ℕ) → IsChunkPlace (chunk_rows_at payload.now rows) (offsets_at payload.now chunks) sizes result 0 }
+{
+    open_chunk(
+        payload,
+        rows,
+        chunks,
+        ChunkPlace {
+            opened: 0,
+            row: no_row(),
+            left: 0,
+            at: 0,
+        },
+    )
 }
 
 #[tactic(auto, using(crate::proofs::ChunkLists::spots_first))]
