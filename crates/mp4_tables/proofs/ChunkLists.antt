@@ -14,19 +14,19 @@ use Rattle.mp4_tables.specs.declared.places.RowPlace.{RowPlace}
 use Rattle.mp4_tables.specs.declared.places.ChunkPlace.{ChunkPlace}
 use Rattle.mp4_tables.proofs.RowLists.{numbers_more, numbers_all, numbers_length, chunk_rows_length, chunk_rows_all}
 
-yes_le : (a b : ℕ) → a ≤ b → nat_le a b ≡ true
+pub yes_le : (a b : ℕ) → a ≤ b → nat_le a b ≡ true
 yes_le a b h = grind (arith, nat_tests)
 
-no_le : (a b : ℕ) → b < a → nat_le a b ≡ false
+pub no_le : (a b : ℕ) → b < a → nat_le a b ≡ false
 no_le a b h = grind (arith, nat_tests)
 
-yes_lt : (a b : ℕ) → a < b → nat_lt a b ≡ true
+pub yes_lt : (a b : ℕ) → a < b → nat_lt a b ≡ true
 yes_lt a b h = grind (arith, nat_tests)
 
-no_lt : (a b : ℕ) → b ≤ a → nat_lt a b ≡ false
+pub no_lt : (a b : ℕ) → b ≤ a → nat_lt a b ≡ false
 no_lt a b h = grind (arith, nat_tests)
 
-lt_yes : (a b : ℕ) → nat_lt a b ≡ true → a < b
+pub lt_yes : (a b : ℕ) → nat_lt a b ≡ true → a < b
 lt_yes a b h = grind (arith, nat_tests)
 
 -- both tests hold
@@ -35,7 +35,7 @@ both true b e = (refl, e)
 both false b e = absurd (let f : false ≡ true = e in cc)
 
 -- numbers that rise after one rise after a lower one
-rising_lower : (low high : ℕ) (ns : List ℕ) → low ≤ high → is_rising_after high ns ≡ true → is_rising_after low ns ≡ true
+pub rising_lower : (low high : ℕ) (ns : List ℕ) → low ≤ high → is_rising_after high ns ≡ true → is_rising_after low ns ≡ true
 rising_lower low high [] h e = refl
 rising_lower low high (n ∷ ns) h e =
     let parts = both (nat_lt high n) (is_rising_after n ns) e in

@@ -141,7 +141,7 @@ sizes_length forms.Bytes payload at = numbers_length 1 payload at
 sizes_length forms.HalfBytes payload at = half_length at.count (drop at.place payload)
 
 -- a list that goes on with a value behind k of its members has it there
-first_left : (xs ys : List ℕ) (k x : ℕ) → drop k xs ≡ x ∷ ys → slice_index xs k ≡ x
+pub first_left : (xs ys : List ℕ) (k x : ℕ) → drop k xs ≡ x ∷ ys → slice_index xs k ≡ x
 first_left xs ys k x e =
     let at : slice_index (drop k xs) 0 ≡ slice_index xs (k + 0) = get_or-drop k xs 0 0 in
     let z : k + 0 ≡ k = omega arith in

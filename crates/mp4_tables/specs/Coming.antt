@@ -62,3 +62,12 @@ pub record IsChunkPlace (rows : List ChunkRow) (offsets sizes : List ℕ) (p : C
   pub row : p.opened < length offsets → IsRowPlace rows p.opened p.row
   pub opened : p.opened ≤ length offsets
   pub passed : p.row.row ≤ length rows
+
+-- ---- sync samples
+
+-- the place lies before sample number i (from 1): the numbers behind it name the same of the samples to come, and the first of them is in hand
+pub record IsSyncPlace (named : List ℕ) (p : SyncPlace) (i : ℕ) : Type 0 where
+  pub same : (j : ℕ) → i ≤ j → list_any (nat_eq j) named ≡ list_any (nat_eq j) (drop p.row named)
+  pub rising : is_rising_after (i - 1) (drop p.row named) ≡ true
+  pub next : p.next ≡ slice_index named p.row
+  pub within : p.row ≤ length named
