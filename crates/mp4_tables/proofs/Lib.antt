@@ -1,5 +1,7 @@
 pub mod Counts
 pub mod RowLists
+pub mod GroupLists
+pub mod KeyLists
 pub mod SyncLists
 pub mod SpotLists
 pub mod ChunkLists

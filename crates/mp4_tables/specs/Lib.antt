@@ -1,7 +1,10 @@
 pub mod Repeated
 pub mod Groups
 pub mod Tables
+pub mod Keys
 pub mod Rows
 pub mod PlainSamples
 pub mod TableRules
 pub mod Coming
+pub mod Timed
+pub mod Accepted

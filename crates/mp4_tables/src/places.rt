@@ -1,5 +1,7 @@
 //! Where the rows of tables lie in the payload of their `stbl`, and how far a walk has come in them: plain numbers.
 
+use crate::keys::Keys;
+
 /// Rows of a table: where the first begins in the payload of `stbl`, and how many there are.
 #[derive(Clone, Copy)]
 pub(crate) struct RowsAt {
@@ -41,11 +43,18 @@ pub(crate) struct ChunksAt {
 /// The rows of each `sbgp`, in file order.
 #[derive(Clone, Copy)]
 pub(crate) struct GroupsAt {
-    pub(crate) keys: crate::keys::Keys,
+    pub(crate) keys: Keys,
     pub(crate) first: RowsAt,
     pub(crate) second: RowsAt,
     pub(crate) third: RowsAt,
     pub(crate) fourth: RowsAt,
+}
+
+/// The bytes of `sdtp`, one a sample.
+#[derive(Clone, Copy)]
+pub(crate) struct BytesAt {
+    pub(crate) place: usize,
+    pub(crate) length: usize,
 }
 
 /// Where the tables of a track lie in the payload of their `stbl`.
@@ -57,7 +66,7 @@ pub struct TablesAt {
     pub(crate) chunk_rows: RowsAt,
     pub(crate) chunks: ChunksAt,
     pub(crate) sync: Option<RowsAt>,
-    pub(crate) dependencies: Option<usize>,
+    pub(crate) dependencies: Option<BytesAt>,
     pub(crate) groups: GroupsAt,
 }
 
