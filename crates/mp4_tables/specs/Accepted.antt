@@ -35,8 +35,11 @@ grouped [] rows = []
 grouped (key ∷ keys) [] = []
 grouped (key ∷ keys) (runs ∷ rows) = record { key = key; rows = runs } ∷ grouped keys rows
 
+abbrev pub group_rows : List ℕ → GroupsAt → List (List (ℕ × ℕ))
+group_rows payload at = runs_at payload at.first ∷ runs_at payload at.second ∷ runs_at payload at.third ∷ runs_at payload at.fourth ∷ []
+
 abbrev pub groupings_at : List ℕ → GroupsAt → List Grouping
-groupings_at payload at = grouped (keys_seen at.keys) (runs_at payload at.first ∷ runs_at payload at.second ∷ runs_at payload at.third ∷ runs_at payload at.fourth ∷ [])
+groupings_at payload at = grouped (keys_seen at.keys) (group_rows payload at)
 
 abbrev pub bytes_at : List ℕ → BytesAt → List ℕ
 bytes_at payload at = take at.length (drop at.place payload)
@@ -58,6 +61,12 @@ tables_at payload at = record {
 abbrev pub AreDistinct : List GroupKey → Type 0
 AreDistinct [] = Unit {0}
 AreDistinct (key ∷ keys) = AllByRecursion (λ other. same_key key other ≡ false) keys × AreDistinct keys
+
+-- there are rows for each key, and none behind the last
+abbrev pub AreUsed : List GroupKey → List (List (ℕ × ℕ)) → Type 0
+AreUsed [] rows = AllByRecursion (λ (runs : List (ℕ × ℕ)). runs ≡ []) rows
+AreUsed (key ∷ keys) [] = ⊥
+AreUsed (key ∷ keys) (runs ∷ rows) = AreUsed keys rows
 
 -- offsets of version 0 are below 2^31
 abbrev pub AreSmall : Bool → List (ℕ × ℕ) → Type 0
@@ -90,6 +99,7 @@ pub record HaveGroups (payload : List ℕ) (at : GroupsAt) : Type 0 where
   pub third : HaveGroup payload at.third
   pub fourth : HaveGroup payload at.fourth
   pub distinct : AreDistinct (keys_seen at.keys)
+  pub used : AreUsed (keys_seen at.keys) (group_rows payload at)
 
 -- the payload has the bytes of all rows
 pub record HaveTables (payload : List ℕ) (at : TablesAt) : Type 0 where
