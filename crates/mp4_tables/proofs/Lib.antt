@@ -1,5 +1,6 @@
 pub mod Counts
 pub mod RowLists
+pub mod IndexLists
 pub mod SampleLists
 pub mod GroupLists
 pub mod KeyLists

@@ -16,7 +16,7 @@ use Rattle.mp4_tables.proofs.SpotLists.{drop_next}
 
 -- ---- parts side by side
 
-abbrev placed : ℕ → ℤ → ℕ → Spot → Groups → PlacedSample
+abbrev pub placed : ℕ → ℤ → ℕ → Spot → Groups → PlacedSample
 placed duration offset flags spot groups = record { duration = duration; offset = offset; flags = flags; description = spot.description; at = spot.at; size = spot.size; groups = groups }
 
 joined_more : (k : ℕ) (xs xs' : List ℕ) (os os' : List ℤ) (fs fs' : List ℕ) (ss ss' : List Spot) (x : ℕ) (o : ℤ) (f : ℕ) (s : Spot)
@@ -44,7 +44,7 @@ flags_more sync i (suc k) (a ∷ bytes) bytes' b e =
     let z : k + (i + 1) ≡ suc k + i = omega arith in
     flags_more sync (i + 1) k bytes bytes' b e ∙ ap (λ j. (b * 2 ^ 20 + non_sync sync j * 2 ^ 16) ∷ flags_from sync (j + 1) bytes') z
 
-put_length : (key : GroupKey) (is : List ℕ) (maps : List Groups) → length (put_indexes key is maps) ≡ length maps
+pub put_length : (key : GroupKey) (is : List ℕ) (maps : List Groups) → length (put_indexes key is maps) ≡ length maps
 put_length key [] maps = refl
 put_length key (i ∷ is) [] = refl
 put_length key (i ∷ is) (m ∷ maps) = ap suc (put_length key is maps)
@@ -98,15 +98,15 @@ samples_length t = timed_length (keys_after [] t.groups) 0 (plain_samples t)
 
 -- ---- keys and indexes
 
-same_both : (a b : GroupKey) → same_key a b ≡ same_key b a
+pub same_both : (a b : GroupKey) → same_key a b ≡ same_key b a
 same_both a b = grind (arith, nat_tests)
 
 -- no entry has the key
-abbrev NotIn : GroupKey → Groups → Type 0
+abbrev pub NotIn : GroupKey → Groups → Type 0
 NotIn key groups = AllByRecursion (λ (e : GroupKey × ℕ). same_key key e.0 ≡ false) groups
 
 -- the map of a sample with its index at one more key
-put_one : GroupKey → ℕ → Groups → Groups
+abbrev pub put_one : GroupKey → ℕ → Groups → Groups
 put_one key index groups = cond (index == 0) groups (put_group key index groups)
 
 put_in : (other key : GroupKey) (index : ℕ) (e : GroupKey × ℕ) (groups : Groups) (v : Bool) → nat_lt (key_rank key) (key_rank e.0) ≡ v → same_key other key ≡ false → NotIn other (e ∷ groups)
@@ -114,11 +114,11 @@ put_in : (other key : GroupKey) (index : ℕ) (e : GroupKey × ℕ) (groups : Gr
 put_in other key index e groups true f h n m = rw f (h, n)
 put_in other key index e groups false f h n m = rw f (n.0, m)
 
-put_not_in : (other key : GroupKey) (index : ℕ) (groups : Groups) → same_key other key ≡ false → NotIn other groups → NotIn other (put_group key index groups)
+pub put_not_in : (other key : GroupKey) (index : ℕ) (groups : Groups) → same_key other key ≡ false → NotIn other groups → NotIn other (put_group key index groups)
 put_not_in other key index [] h n = (h, tt)
 put_not_in other key index (e ∷ groups) h n = put_in other key index e groups (nat_lt (key_rank key) (key_rank e.0)) refl h n (put_not_in other key index groups h n.1)
 
-absent : (key : GroupKey) (groups : Groups) → NotIn key groups → index_at key groups ≡ 0
+pub absent : (key : GroupKey) (groups : Groups) → NotIn key groups → index_at key groups ≡ 0
 absent key [] n = refl
 absent key (e ∷ groups) n = rw n.0 (absent key groups n.1)
 
@@ -130,7 +130,7 @@ put_at key index e groups true f n h = rw (f, same_itself key) refl
 put_at key index e groups false f n h = rw (f, n) h
 
 -- the index that was put is there
-put_there : (key : GroupKey) (index : ℕ) (groups : Groups) → NotIn key groups → index_at key (put_group key index groups) ≡ index
+pub put_there : (key : GroupKey) (index : ℕ) (groups : Groups) → NotIn key groups → index_at key (put_group key index groups) ≡ index
 put_there key index [] n = rw (same_itself key) refl
 put_there key index (e ∷ groups) n = put_at key index e groups (nat_lt (key_rank key) (key_rank e.0)) refl n.0 (put_there key index groups n.1)
 
@@ -140,6 +140,6 @@ put_by other key index e groups true f h k = rw (f, h) refl
 put_by other key index e groups false f h k = rw f (ap (λ n. cond (same_key other e.0) e.1 n) k)
 
 -- the others stay
-put_beside : (other key : GroupKey) (index : ℕ) (groups : Groups) → same_key other key ≡ false → index_at other (put_group key index groups) ≡ index_at other groups
+pub put_beside : (other key : GroupKey) (index : ℕ) (groups : Groups) → same_key other key ≡ false → index_at other (put_group key index groups) ≡ index_at other groups
 put_beside other key index [] h = rw h refl
 put_beside other key index (e ∷ groups) h = put_by other key index e groups (nat_lt (key_rank key) (key_rank e.0)) refl h (put_beside other key index groups h)
