@@ -131,6 +131,15 @@ abbrev pub offset_values : List ℕ → Option OffsetsAt → ℕ → List ℕ
 offset_values payload None n = replicate n 0
 offset_values payload (Some at) n = repeated (runs_at payload at.rows)
 
+-- offsets are signed where a table says so
+abbrev pub are_signed : Option OffsetsAt → Bool
+are_signed None = false
+are_signed (Some at) = at.is_signed
+
+-- a byte for each of n samples
+abbrev pub bytes_for : ℕ → Option (List ℕ) → List ℕ
+bytes_for n bytes = unwrap_or (option_map (take n) bytes) (replicate n 0)
+
 abbrev pub IsSyncPlaceIn : List ℕ → Option RowsAt → SyncPlace → ℕ → Type 0
 IsSyncPlaceIn payload None p i = p.row ≡ 0
 IsSyncPlaceIn payload (Some at) p i = IsSyncPlace (numbers_at 4 payload at) p i
