@@ -111,3 +111,87 @@ offset_small payload (Some o) p n k h at some e =
     small : (b : Bool) → b ≡ false → AreSmall b (runs_at payload o.rows) → AllByRecursion (λ (run : ℕ × ℕ). run.1 < 2 ^ 31) (runs_at payload o.rows)
     small true e h = cc
     small false e h = h
+
+-- ---- the sample before which a place lies
+
+-- as many sizes as there are samples
+pub count_is : (payload : List ℕ) (at : TablesAt) → length (tables_at payload at).sizes ≡ at.sizes.rows.count
+unfolding tables_at
+count_is payload at = sizes_length at.sizes.form payload at.sizes.rows
+
+-- the chunks hold all samples
+pub chunks_hold : (payload : List ℕ) (at : TablesAt) → IsAccepted payload at → in_chunks_total (chunk_rows_at payload at.chunk_rows) 1 (offsets_at payload at.chunks) ≡ length (sizes_at payload at.sizes)
+unfolding tables_at
+chunks_hold payload at ok = eqb_is _ (length (sizes_at payload at.sizes)) (ok.fit chunk_counts)
+
+pub duration_left : (payload : List ℕ) (at : TablesAt) (p : TablePlace) → IsAccepted payload at → IsPlace payload at p → p.number < at.sizes.rows.count → 0 < p.duration.left
+unfolding tables_at
+duration_left payload at p ok is h =
+    let n = sizes_length at.sizes.form payload at.sizes.rows in
+    let d = repeated_length (runs_at payload at.durations) ∙ eqb_is (total (runs_at payload at.durations)) (length (sizes_at payload at.sizes)) (ok.fit duration_counts) in
+    run_left (runs_at payload at.durations) p.duration (repeated (runs_at payload at.durations)) p.number is.duration (omega arith)
+
+pub offset_left : (payload : List ℕ) (at : TablesAt) (p : TablePlace) → IsAccepted payload at → IsPlace payload at p → p.number < at.sizes.rows.count → 0 < p.offset.left
+unfolding tables_at
+offset_left payload at p ok is h =
+    let n = sizes_length at.sizes.form payload at.sizes.rows in
+    let P : ℕ → Type 0 = λ m. unwrap_or (option_map (λ (rows : List (ℕ × ℤ)). nat_eq (total rows) m) (option_map (composition_offsets_at payload) at.offsets)) true ≡ true in
+    let d = values_length payload at.offsets at.sizes.rows.count (subst P n (ok.fit offset_counts)) in
+    run_left (runs_at payload (offset_rows at.offsets)) p.offset (offset_values payload at.offsets at.sizes.rows.count) p.number is.offset (omega arith)
+
+pub chunk_left : (payload : List ℕ) (at : TablesAt) (p : TablePlace) → IsAccepted payload at → IsPlace payload at p → p.number < at.sizes.rows.count → 0 < p.chunk.left
+chunk_left payload at p ok is h =
+    let n = sizes_length at.sizes.form payload at.sizes.rows in
+    spot_left (chunk_rows_at payload at.chunk_rows) (offsets_at payload at.chunks) (sizes_at payload at.sizes) p.chunk p.number (chunks_hold payload at ok) is.chunk (omega arith)
+
+-- there is a byte for each sample
+pub byte_room : (payload : List ℕ) (at : TablesAt) → IsAccepted payload at → (k : ℕ) → k ≤ at.sizes.rows.count → length (bytes_for k (option_map (bytes_at payload) at.dependencies)) ≡ k
+unfolding tables_at
+byte_room payload at ok k h =
+    let n = sizes_length at.sizes.form payload at.sizes.rows in
+    bytes_length payload at.dependencies (length (sizes_at payload at.sizes)) k (ok.fit dependency_room) (omega arith)
+
+-- the flags of the sample before which the place lies
+abbrev pub flags_here : List ℕ → TablesAt → TablePlace → ℕ
+flags_here payload at p = slice_index (bytes_for (p.number + 1) (option_map (bytes_at payload) at.dependencies)) p.number * 2 ^ 20 + non_sync (option_map (numbers_at 4 payload) at.sync) (p.number + 1) * 2 ^ 16
+
+abbrev pub map_here : List ℕ → TablesAt → TablePlace → Groups
+map_here payload at p = get_or (maps_of at.sizes.rows.count (groupings_at payload at.groups)) p.number []
+
+-- that sample, without its time
+abbrev pub placed_here : List ℕ → TablesAt → TablePlace → ℕ → PlacedSample
+placed_here payload at p size = placed p.duration.value (composition_offset (offset_version (are_signed at.offsets)) p.offset.value) (flags_here payload at p) (next_spot p.chunk size) (map_here payload at p)
+
+values_more : (payload : List ℕ) (o : Option OffsetsAt) (n k : ℕ) (p : RunPlace) → length (offset_values payload o n) ≡ n → k < n → IsRunPlace (runs_at payload (offset_rows o)) p (drop k (offset_values payload o n)) → 0 < p.left
+    → drop k (unwrap_or (option_map repeated (option_map (composition_offsets_at payload) o)) (replicate n (pos 0)))
+    ≡ composition_offset (offset_version (are_signed o)) p.value ∷ map (composition_offset (offset_version (are_signed o))) (drop (k + 1) (offset_values payload o n))
+values_more payload o n k p long h is some =
+    let f = composition_offset (offset_version (are_signed o)) in
+    let values = offset_values payload o n in
+    ap (drop k) (offsets_are payload o n) ∙ drop_map f values k
+    ∙ ap (map f) (drop_more values k 0 (omega arith) ∙ ap (λ v. v ∷ drop (k + 1) values) (run_value (runs_at payload (offset_rows o)) p values k is some))
+
+pub plain_here : (payload : List ℕ) (at : TablesAt) (p : TablePlace) (size : ℕ) → IsAccepted payload at → IsPlace payload at p → p.number < at.sizes.rows.count → size ≡ slice_index (sizes_at payload at.sizes) p.number
+    → drop p.number (plain_samples (tables_at payload at)) ≡ placed_here payload at p size ∷ drop (p.number + 1) (plain_samples (tables_at payload at))
+unfolding tables_at
+plain_here payload at p size ok is h e =
+    let t = tables_at payload at in
+    let k = p.number in
+    let c = at.sizes.rows.count in
+    let n : length (sizes_at payload at.sizes) ≡ c = sizes_length at.sizes.form payload at.sizes.rows in
+    let D = repeated (runs_at payload at.durations) in
+    let d = repeated_length (runs_at payload at.durations) ∙ eqb_is (total (runs_at payload at.durations)) (length (sizes_at payload at.sizes)) (ok.fit duration_counts) in
+    let e1 : drop k D ≡ p.duration.value ∷ drop (k + 1) D =
+        drop_more D k 0 (omega arith) ∙ ap (λ v. v ∷ drop (k + 1) D) (run_value (runs_at payload at.durations) p.duration D k is.duration (duration_left payload at p ok is h)) in
+    let P : ℕ → Type 0 = λ m. unwrap_or (option_map (λ (rows : List (ℕ × ℤ)). nat_eq (total rows) m) (option_map (composition_offsets_at payload) at.offsets)) true ≡ true in
+    let v = values_length payload at.offsets c (subst P n (ok.fit offset_counts)) in
+    let e2 = values_more payload at.offsets c k p.offset v h is.offset (offset_left payload at p ok is h) in
+    let B = bytes_for c (option_map (bytes_at payload) at.dependencies) in
+    let Q : ℕ → Type 0 = λ m. unwrap_or (option_map (λ (bytes : List ℕ). nat_le m (length bytes)) (option_map (bytes_at payload) at.dependencies)) true ≡ true in
+    let e3 = flags_more (option_map (numbers_at 4 payload) at.sync) 1 k B (drop (k + 1) B) (slice_index (bytes_for (k + 1) (option_map (bytes_at payload) at.dependencies)) k) (bytes_more payload at.dependencies c k (subst Q n (ok.fit dependency_room)) h) in
+    let e4 = spot_ahead (chunk_rows_at payload at.chunk_rows) (offsets_at payload at.chunks) (sizes_at payload at.sizes) p.chunk k size (chunks_hold payload at ok) is.chunk (omega arith) e in
+    let Z : ℕ → Type 0 = λ m. k < m → drop k (unwrap_or (option_map repeated (option_map (composition_offsets_at payload) at.offsets)) (replicate m (pos 0))) ≡ composition_offset (offset_version (are_signed at.offsets)) p.offset.value ∷ map (composition_offset (offset_version (are_signed at.offsets))) (drop (k + 1) (offset_values payload at.offsets c))
+        → drop k (flags_from (option_map (numbers_at 4 payload) at.sync) 1 (bytes_for m (option_map (bytes_at payload) at.dependencies))) ≡ flags_here payload at p ∷ flags_from (option_map (numbers_at 4 payload) at.sync) (k + 1 + 1) (drop (k + 1) B)
+        → drop k (plain_samples t) ≡ placed p.duration.value (composition_offset (offset_version (are_signed at.offsets)) p.offset.value) (flags_here payload at p) (next_spot p.chunk size) (get_or (maps_of m (groupings_at payload at.groups)) k []) ∷ drop (k + 1) (plain_samples t) in
+    subst Z n (λ l f2 f3. plain_more t k p.duration.value (composition_offset (offset_version (are_signed at.offsets)) p.offset.value) (flags_here payload at p) (next_spot p.chunk size)
+      (drop (k + 1) D) (flags_from (option_map (numbers_at 4 payload) at.sync) (k + 1 + 1) (drop (k + 1) B)) (map (composition_offset (offset_version (are_signed at.offsets))) (drop (k + 1) (offset_values payload at.offsets c))) (drop (k + 1) (spots_of t)) l e1 f2 f3 e4) h e2 e3
