@@ -1,11 +1,11 @@
 -- Tables by where they lie in the payload of their `stbl`, and what a check has found of them.
-use Rattle.std.specs.Prelude.{◌≡◌, ℕ, ◌+◌, ◌-◌, ◌*◌, ◌^◌, ◌<◌, ◌≤◌, List, [], ◌∷◌, length, take, drop, map, replicate, Bool, true, false, Option, Some, None, option_map, unwrap_or, ℤ}
+use Rattle.std.specs.Prelude.{◌≡◌, ℕ, ◌+◌, ◌-◌, ◌*◌, ◌^◌, ◌<◌, ◌≤◌, List, [], ◌∷◌, length, take, drop, map, replicate, Bool, true, false, Option, Some, None, option_map, unwrap_or, ℤ, slice_index}
 use Rattle.std.specs.List.{AllByRecursion}
 use Rattle.mp4_tables.specs.Repeated.{repeated}
 use Rattle.mp4_tables.specs.Groups.{GroupKey, Grouping, same_key}
 use Rattle.mp4_tables.specs.Tables.{Tables, composition_offset}
-use Rattle.mp4_tables.specs.PlainSamples.{plain_samples}
-use Rattle.mp4_tables.specs.TableRules.{Surroundings, Fit}
+use Rattle.mp4_tables.specs.PlainSamples.{plain_samples, non_sync}
+use Rattle.mp4_tables.specs.TableRules.{Surroundings, Fit, is_sync_order}
 use Rattle.mp4_tables.specs.Keys.{keys_seen}
 use Rattle.mp4_tables.specs.Rows.{HaveRoom, HaveSizes, runs_at, chunk_rows_at, numbers_at, offsets_at, offset_width, sizes_at}
 use Rattle.mp4_tables.specs.Coming.{IsRunPlace, IsChunkPlace, IsSyncPlace}
@@ -144,6 +144,11 @@ abbrev pub IsSyncPlaceIn : List ℕ → Option RowsAt → SyncPlace → ℕ → 
 IsSyncPlaceIn payload None p i = p.row ≡ 0
 IsSyncPlaceIn payload (Some at) p i = IsSyncPlace (numbers_at 4 payload at) p i
 
+-- the numbers of sync samples rise, from 1 to n
+abbrev pub AreInOrder : List ℕ → Option RowsAt → ℕ → Type 0
+AreInOrder payload None n = Unit {0}
+AreInOrder payload (Some at) n = is_sync_order n (numbers_at 4 payload at) ≡ true
+
 -- the place lies before sample k of the rows
 abbrev pub IsRunPlaceAt : List (ℕ × ℕ) → RunPlace → ℕ → Type 0
 IsRunPlaceAt runs p k = IsRunPlace runs p (drop k (repeated runs))
@@ -164,6 +169,14 @@ pub record IsPlace (payload : List ℕ) (at : TablesAt) (p : TablePlace) : Type 
   pub chunk : IsChunkPlace (chunk_rows_at payload at.chunk_rows) (offsets_at payload at.chunks) (sizes_at payload at.sizes) p.chunk p.number
   pub sync : IsSyncPlaceIn payload at.sync p.sync (p.number + 1)
   pub groups : AreGroupPlaces payload at.groups p.groups p.number
+
+-- the flags of the sample before which the place lies
+abbrev pub flags_here : List ℕ → TablesAt → TablePlace → ℕ
+flags_here payload at p = slice_index (bytes_for (p.number + 1) (option_map (bytes_at payload) at.dependencies)) p.number * 2 ^ 20 + non_sync (option_map (numbers_at 4 payload) at.sync) (p.number + 1) * 2 ^ 16
+
+-- its index in each `sbgp`, 0 for none
+abbrev pub indexes_here : List ℕ → GroupsAt → ℕ → List ℕ
+indexes_here payload at k = map (λ (runs : List (ℕ × ℕ)). slice_index (repeated runs) k) (group_rows payload at)
 
 -- the rows and samples that a walk passed on its way to a place: of sizes and of samples as many as its number
 abbrev pub passed : TablePlace → ℕ

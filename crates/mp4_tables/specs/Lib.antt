@@ -8,3 +8,4 @@ pub mod TableRules
 pub mod Coming
 pub mod Timed
 pub mod Accepted
+pub mod Views
