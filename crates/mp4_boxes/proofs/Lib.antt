@@ -1,9 +1,15 @@
 pub mod Tiling
 pub mod Walking
+pub mod Admitting
+pub mod HeaderBytes
+pub mod HeaderFronts
 pub mod Fields
 pub mod Lying
 pub mod Members
 pub mod Columns
 pub mod Among
 pub mod Refusing
+pub mod Each
+pub mod OfBytes
+pub mod Sound
 pub mod Vectors

@@ -1,17 +1,17 @@
 -- Faults of children and of leaves: where one is named, the container does not hold the boxes of the profile, or the leaf is not sound.
-use Rattle.std.proofs.Common.{◌≡◌, ℕ, ◌+◌, ◌≤◌, Bool, true, false, List, [], ◌∷◌, ◌++◌, Option, Some, refl, ap, subst, arith}
-use Rattle.std.specs.Prelude.{find, IsTrue}
-use Rattle.std.specs.List.{AllByRecursion}
-use Rattle.std.proofs.lemmas.List.Elements.{All-from_recursion, All-contains}
+use Rattle.std.proofs.Common.{◌≡◌, ℕ, ◌+◌, ◌<◌, ◌≤◌, ltb, Bool, true, false, List, [], ◌∷◌, ◌++◌, Option, Some, refl, ap, subst, arith, inl, inr}
+use Rattle.std.specs.Prelude.{find, IsTrue, not, ◌&&◌, ◌||◌, nat_lt}
+use Rattle.std.specs.List.{AllByRecursion, list_any}
+use Rattle.std.proofs.lemmas.Bool.{ltb-true, ltb-false}
 use Rattle.mp4_boxes.specs.Box.{Box, Container, StandsAfter, Tiles}
-use Rattle.mp4_boxes.specs.Children.{Line, Quantity, one, at_most_one, any, IsQuantity, Holds, table, each, free_space, is_among, line_of, allows, count_among}
+use Rattle.mp4_boxes.specs.Children.{Line, Quantity, one, at_most_one, any, IsQuantity, Holds, table, each, free_space, is_among, allows, is_single, is_needed, count_among}
 use Rattle.mp4_boxes.specs.Layout.{Leaf, knows_version, knows_flags, has_bad_value, is_outside_data, has_large_offset, IsSound}
-use Rattle.mp4_boxes.specs.BoxFaults.{IsNotInProfile, IsSingle, IsDuplicate, IsMissing, Fails}
+use Rattle.mp4_boxes.specs.BoxFaults.{IsNotInProfile, IsDuplicate, IsMissing, IsChildFault, Fails}
 use Rattle.mp4_boxes.specs.declared.rule.Rule.{Rule}
 use Rattle.mp4_boxes.specs.declared.fault.Fault.{Fault}
 use Rattle.mp4_boxes.specs.declared.fault.Kind.{Kind}
 use Rattle.mp4_boxes.specs.declared.fault.Kind.TheVariants.{ShortHeader, BadSize, Overrun, ShortBox, BoxNotInProfile, DuplicateBox, MissingBox, BadVersion, BadFlags, BadValue, OutsideData, CountMismatch, BadOrder, BadDescriptionIndex, SampleOutsideFile, UnknownTrack, Gap, OffsetTooLarge, ItemLocation, TooManySamples, TimeTooLarge, MovieTooLarge, FragmentBeforeMovie}
-use Rattle.mp4_boxes.proofs.Tiling.{tiles_one}
+use Rattle.mp4_boxes.proofs.Tiling.{tiles_one, header_fault_refuses}
 use Rattle.mp4_boxes.proofs.Members.{stands_among}
 use Rattle.mp4_boxes.proofs.Among.{IsIn, true_false, all_in, all_append, count-append}
 
@@ -24,22 +24,44 @@ pub not_in_profile_refuses : (rule : Rule) (c : Container) (f : Fault) (bs : Lis
 not_in_profile_refuses rule c f bs n h =
     true_false (allows rule n.b.kind) (all_in (λ (b : Box). IsTrue (allows rule b.kind)) bs n.b (stands_in c n.before bs n.b n.stands h.tiles) h.allowed) n.refused
 
--- at most one box of the line may stand, and no more do
-abbrev KeepsLine : List Box → Line → Type 0
-KeepsLine bs line = IsSingle line.quantity → count_among line.kinds bs ≤ 1
+first_or : {A : Type 0} (p : A → Bool) (P : A → Type 0) (x : A) (xs : List A) (v : Bool) → p x ≡ v → list_any p (x ∷ xs) ≡ true → P x → (list_any p xs ≡ true → (y : A) × (p y ≡ true) × P y)
+    → (y : A) × (p y ≡ true) × P y
+first_or p P x xs true f e h more = (x, f, h)
+first_or p P x xs false f e h more = more (let g : (p x || list_any p xs) ≡ true = e in rw f at g)
 
-keeps : (bs : List Box) (kinds : List (List ℕ)) (q : Quantity) → IsQuantity q (count_among kinds bs) → KeepsLine bs (record { kinds = kinds; quantity = q })
-keeps bs kinds one h = λ s. omega (arith, h)
-keeps bs kinds at_most_one h = λ s. h
-keeps bs kinds any h = λ s. absurd s
+-- of a list of which one passes the test and each has the property, there is one with both
+pub both_of : {A : Type 0} (p : A → Bool) (P : A → Type 0) (xs : List A) → list_any p xs ≡ true → AllByRecursion P xs → (x : A) × (p x ≡ true) × P x
+both_of p P [] e h = absurd cc
+both_of p P (x ∷ xs) e h = first_or p P x xs (p x) refl e h.0 (λ f. both_of p P xs f h.1)
 
-keep_lines : (bs : List Box) (lines : List Line) → AllByRecursion (λ line. IsQuantity line.quantity (count_among line.kinds bs)) lines → AllByRecursion (KeepsLine bs) lines
-keep_lines bs [] h = tt
-keep_lines bs (line ∷ lines) h = (keeps bs line.kinds line.quantity h.0, keep_lines bs lines h.1)
+-- what two tests say that both hold
+pub and_true : (a b : Bool) → (a && b) ≡ true → (a ≡ true) × (b ≡ true)
+and_true true b e = (refl, e)
+and_true false b e = absurd cc
 
-free_lines : (bs : List Box) (kinds : List (List ℕ)) → AllByRecursion (KeepsLine bs) (each any kinds)
-free_lines bs [] = tt
-free_lines bs (kind ∷ kinds) = ((λ s. absurd s), free_lines bs kinds)
+few : (q : Quantity) (n : ℕ) → is_single q ≡ true → IsQuantity q n → n ≤ 1
+few one n e h = omega (arith, h)
+few at_most_one n e h = h
+few any n e h = absurd cc
+
+among_counts : (kinds : List (List ℕ)) (b : Box) (bs : List Box) → is_among kinds b.kind ≡ true → count_among kinds (b ∷ bs) ≡ 1 + count_among kinds bs
+among_counts kinds b bs e = rw e refl
+
+-- Where a box stands once more than it may, the container holds no boxes of the profile.
+pub duplicate_refuses : (rule : Rule) (c : Container) (f : Fault) (bs : List Box) → IsDuplicate rule c f → Holds rule c bs → ⊥
+duplicate_refuses rule c f bs d h =
+    let l = both_of (λ (line : Line). is_single line.quantity && (is_among line.kinds d.b.kind && nat_lt 0 (count_among line.kinds d.before))) (λ (line : Line). IsQuantity line.quantity (count_among line.kinds bs)) (table rule) d.repeated h.quantities in
+    let line = l.0 in
+    let single = and_true (is_single line.quantity) _ l.1 in
+    let speaks = and_true (is_among line.kinds d.b.kind) _ single.1 in
+    let some : 0 < count_among line.kinds d.before = ltb-true _ _ speaks.1 in
+    let m = stands_among c d.before bs d.b d.stands h.tiles in
+    let most : count_among line.kinds bs ≤ 1 = few line.quantity (count_among line.kinds bs) single.0 l.2 in
+    omega (arith, most, some, ap (count_among line.kinds) m.1, count-append line.kinds d.before (d.b ∷ m.0), among_counts line.kinds d.b m.0 speaks.0)
+
+-- the line of the table that speaks of a type
+abbrev pub line_of : Rule → List ℕ → Option Line
+line_of rule kind = find (λ line. is_among line.kinds kind) (table rule ++ each any free_space)
 
 found_choice : {A : Type 0} (P : A → Type 0) (p : A → Bool) (x y : A) (xs : List A) (v : Bool) → p x ≡ v → P x → find p (x ∷ xs) ≡ Some y
     → (find p xs ≡ Some y → P y × (p y ≡ true)) → P y × (p y ≡ true)
@@ -50,18 +72,6 @@ found_choice P p x y xs false e h f more = more (rw e at f)
 pub found_has : {A : Type 0} (P : A → Type 0) (p : A → Bool) (xs : List A) (y : A) → AllByRecursion P xs → find p xs ≡ Some y → P y × (p y ≡ true)
 found_has P p [] y h f = absurd cc
 found_has P p (x ∷ xs) y h f = found_choice P p x y xs (p x) refl h.0 f (found_has P p xs y h.1)
-
-among_counts : (kinds : List (List ℕ)) (b : Box) (bs : List Box) → is_among kinds b.kind ≡ true → count_among kinds (b ∷ bs) ≡ 1 + count_among kinds bs
-among_counts kinds b bs e = rw e refl
-
--- Where a box stands once more than it may, the container holds no boxes of the profile.
-pub duplicate_refuses : (rule : Rule) (c : Container) (f : Fault) (bs : List Box) → IsDuplicate rule c f → Holds rule c bs → ⊥
-duplicate_refuses rule c f bs d h =
-    let lines = all_append (KeepsLine bs) (table rule) (each any free_space) (keep_lines bs (table rule) h.quantities) (free_lines bs free_space) in
-    let found = found_has (KeepsLine bs) (λ line. is_among line.kinds d.b.kind) (table rule ++ each any free_space) d.line lines d.speaks in
-    let m = stands_among c d.before bs d.b d.stands h.tiles in
-    let few : count_among d.line.kinds bs ≤ 1 = found.0 d.single in
-    omega (arith, few, d.earlier, ap (count_among d.line.kinds) m.1, count-append d.line.kinds d.before (d.b ∷ m.0), among_counts d.line.kinds d.b m.0 found.1)
 
 -- the line has the boxes that it asks for
 abbrev pub HasLine : List Box → Line → Type 0
@@ -85,19 +95,35 @@ holds_only h kind e = line_has h kind (record { kinds = kind ∷ []; quantity = 
 pub holds_few : {rule : Rule} {c : Container} {bs : List Box} → Holds rule c bs → (kind : List ℕ) → line_of rule kind ≡ Some (record { kinds = kind ∷ []; quantity = at_most_one }) → count_among (kind ∷ []) bs ≤ 1
 holds_few h kind e = line_has h kind (record { kinds = kind ∷ []; quantity = at_most_one }) e
 
-must : (q : Quantity) (n : ℕ) → q ≡ one → IsQuantity q n → n ≡ 1
+must : (q : Quantity) (n : ℕ) → is_needed q ≡ true → IsQuantity q n → n ≡ 1
 must one n e h = h
 must at_most_one n e h = absurd cc
 must any n e h = absurd cc
+
+not_true : (b : Bool) → not b ≡ true → b ≡ false
+not_true true e = absurd cc
+not_true false e = refl
+
+not_some : (n : ℕ) → not (ltb 0 n) ≡ true → n ≡ 0
+not_some n e = omega (arith, ltb-false 0 n (not_true (ltb 0 n) e))
 
 -- Where a box does not stand that must, the container holds no boxes of the profile.
 pub missing_refuses : (rule : Rule) (c : Container) (f : Fault) (bs : List Box) → IsMissing rule c f → Holds rule c bs → ⊥
 missing_refuses rule c f bs m h =
     let same : bs ≡ m.boxes = tiles_one c bs m.boxes h.tiles m.tiles in
-    let P = λ (line : Line). IsQuantity line.quantity (count_among line.kinds bs) in
-    let q : IsQuantity m.line.quantity (count_among m.line.kinds bs) = All-contains P (table rule) m.line (All-from_recursion P (table rule) h.quantities) m.member in
-    let n : count_among m.line.kinds bs ≡ 1 = must m.line.quantity (count_among m.line.kinds bs) m.needed q in
-    omega (arith, n, m.none, ap (count_among m.line.kinds) same)
+    let l = both_of (λ (line : Line). is_needed line.quantity && not (nat_lt 0 (count_among line.kinds m.boxes))) (λ (line : Line). IsQuantity line.quantity (count_among line.kinds bs)) (table rule) m.lacking h.quantities in
+    let line = l.0 in
+    let needed = and_true (is_needed line.quantity) _ l.1 in
+    let n : count_among line.kinds bs ≡ 1 = must line.quantity (count_among line.kinds bs) needed.0 l.2 in
+    let none : count_among line.kinds m.boxes ≡ 0 = not_some _ needed.1 in
+    omega (arith, n, none, ap (count_among line.kinds) same)
+
+-- Where the children are at fault, the container holds no boxes of the profile.
+pub child_fault_refuses : (rule : Rule) (c : Container) (f : Fault) (bs : List Box) → IsChildFault rule c f → Holds rule c bs → ⊥
+child_fault_refuses rule c f bs (inl h) t = header_fault_refuses c f bs h t.tiles
+child_fault_refuses rule c f bs (inr (inl n)) t = not_in_profile_refuses rule c f bs n t
+child_fault_refuses rule c f bs (inr (inr (inl d))) t = duplicate_refuses rule c f bs d t
+child_fault_refuses rule c f bs (inr (inr (inr m))) t = missing_refuses rule c f bs m t
 
 -- Where a kind of fault is true of a leaf, the leaf is not sound.
 pub unsound : (leaf : Leaf) (payload : List ℕ) (kind : Kind) → Fails leaf payload kind → IsSound leaf payload → ⊥

@@ -1,9 +1,9 @@
 -- A walk over boxes that lie end to end, one header after the other.
-use Rattle.std.proofs.Common.{◌≡◌, ℕ, zero, suc, ◌+◌, ◌-◌, ◌<◌, ◌≤◌, Bool, false, List, [], ◌∷◌, ◌++◌, length, take, drop, Result, Ok, Err, IfOk, IsOk, refl, sym, ap, subst, ◌∙◌, arith, length-append, length-drop, add-zero}
-use Rattle.std.proofs.lemmas.List.{drop-drop, drop-take}
-use Rattle.mp4_boxes.specs.Box.{Box, Header, header_in, header_at, box_of, size, sizes, LieEndToEnd, box_and_more, first_boxes, HasBoxes}
+use Rattle.std.proofs.Common.{◌≡◌, ℕ, zero, suc, ◌+◌, ◌-◌, ◌<◌, ◌≤◌, false, List, [], ◌∷◌, ◌++◌, length, take, drop, Result, Ok, Err, IfOk, IsOk, refl, sym, ap, subst, ◌∙◌, arith, length-append, length-drop}
+use Rattle.std.proofs.lemmas.List.{drop-take, take_rest}
+use Rattle.mp4_boxes.specs.Box.{Box, Header, header_at, box_of, size, sizes, LieEndToEnd, box_and_more, first_boxes, HasBoxes}
 use Rattle.mp4_boxes.specs.Box.{Tiles, to_end_of_box}
-use Rattle.mp4_boxes.specs.BoxFaults.{IsHeaderFault, located, header_there, unreadable}
+use Rattle.mp4_boxes.specs.BoxFaults.{IsHeaderFault, located, header_there, type_of, unreadable}
 use Rattle.mp4_boxes.specs.declared.fault.Fault.{Fault}
 use Rattle.mp4_boxes.specs.declared.fault.Kind.{Kind}
 use Rattle.mp4_boxes.proofs.Tiling.{header_is, header_kind, box_size, first_fits, lies_push, sizes-append, sizes-cons, sizes_fit}
@@ -29,7 +29,8 @@ passed_more base bytes count at h p e =
       boxes = p.boxes ++ b ∷ [];
       lie = lies_push false base bytes p.boxes h p.lie f;
       taken = omega (arith, p.taken, big, sizes-append p.boxes (b ∷ []), sizes-cons b []);
-      many = omega (arith, p.many, length-append p.boxes (b ∷ [])) }
+      many = omega (arith, p.many, length-append p.boxes (b ∷ []));
+    }
 
 -- each box takes some bytes
 length_few : (base : ℕ) (bytes : List ℕ) (boxes : List Box) → LieEndToEnd false base bytes boxes → length boxes ≤ sizes boxes
@@ -40,6 +41,12 @@ length_few base bytes (b ∷ boxes) l =
 -- no more boxes were passed than bytes
 pub passed_few : (base : ℕ) (bytes : List ℕ) (count at : ℕ) → Passed base bytes count at → count ≤ at
 passed_few base bytes count at p = omega (arith, length_few base bytes p.boxes p.lie, p.taken, p.many)
+
+-- the boxes are those passed before, and the one that was read
+pub passed_more-boxes : (base : ℕ) (bytes : List ℕ) (count at : ℕ) (h : Header) (p : Passed base bytes count at) (e : header_at false (drop at bytes) ≡ Ok h)
+    → (passed_more base bytes count at h p e).boxes ≡ p.boxes ++ box_of (base + sizes p.boxes) (drop (sizes p.boxes) bytes) h ∷ []
+unfolding passed_more
+passed_more-boxes base bytes count at h p e = refl
 
 -- the place lies in the bytes
 pub passed_within : (base : ℕ) (bytes : List ℕ) (count at : ℕ) → Passed base bytes count at → at ≤ length bytes
@@ -75,7 +82,7 @@ part_is at bytes (Ok h) l s kind rest whole payload e are k w r p =
     let split : h.length + (h.size - h.length) ≡ h.size = omega arith in
     let cut : payload ≡ drop h.length (take h.size bytes) = p ∙ (λ i. drop (are.0 i) (w i)) ∙ ap (λ (n : ℕ). drop h.length (take n bytes)) are.1 in
     let parts : payload ≡ take (h.size - h.length) (drop h.length bytes) =
-        cut ∙ ap (λ (n : ℕ). drop h.length (take n bytes)) (sym split) ∙ drop-take h.length (h.size - h.length) bytes in
+    cut ∙ ap (λ (n : ℕ). drop h.length (take n bytes)) (sym split) ∙ drop-take h.length (h.size - h.length) bytes in
     let same : kind ≡ h.kind = k ∙ sym (header_kind false (length bytes) bytes h e) in
     ((λ i. record { kind = same i; offset = at; header = are.0 i; payload = parts i }), r ∙ ap (λ (n : ℕ). drop n bytes) are.1)
 part_is at bytes (Err kind) l s k rest whole payload e are f w r p = tt
@@ -113,8 +120,9 @@ next_of (suc n) at bytes has some =
       h = r.0;
       readable = r.1;
       boxes = subst (λ (k : ℕ). first_boxes (suc n) at bytes ≡ box_of at bytes r.0 ∷ first_boxes k (at + r.0.size) (drop r.0.size bytes)) (sym one)
-        (first_then at bytes (box_of at bytes r.0) (first_boxes n (at + r.0.size) (drop r.0.size bytes)) (header_at false bytes) r.0 (λ h. first_boxes n (at + h.size) (drop h.size bytes)) r.1 refl refl);
-      has = subst (λ (k : ℕ). HasBoxes k (at + r.0.size) (drop r.0.size bytes)) (sym one) r.2 }
+          (first_then at bytes (box_of at bytes r.0) (first_boxes n (at + r.0.size) (drop r.0.size bytes)) (header_at false bytes) r.0 (λ h. first_boxes n (at + h.size) (drop h.size bytes)) r.1 refl refl);
+      has = subst (λ (k : ℕ). HasBoxes k (at + r.0.size) (drop r.0.size bytes)) (sym one) r.2;
+    }
 
 -- What is left behind the first box, by the bytes that are left.
 pub record Moved (count at : ℕ) (bytes : List ℕ) (b : Box) (behind : ℕ) (rest : List ℕ) : Type 0 where
@@ -136,7 +144,8 @@ moved count at bytes b rest has some is =
       readable = rw n.readable refl;
       boxes = rw (place, s.0, s.1) n.boxes;
       has = rw (place, s.1) n.has;
-      shorter = omega arith }
+      shorter = omega arith;
+    }
 
 -- a first box can be read
 pub first_readable : (count at : ℕ) (bytes : List ℕ) → HasBoxes count at bytes → 0 < count → IsOk (header_at false bytes)
@@ -145,14 +154,26 @@ first_readable count at bytes has some = let n = next_of count at bytes has some
 -- ---- what a walk answers
 
 -- a header that was read is one
-pub located_ok : (container : List ℕ) (at : ℕ) (bytes : List ℕ) (r : Result Header Kind) (h : Header) → located container at bytes r ≡ Ok h → r ≡ Ok h
-located_ok container at bytes (Ok g) h e = let same : g ≡ h = cc in ap (λ (x : Header). Ok x) same
-located_ok container at bytes (Err k) h e = absurd cc
+pub located_ok : (container : List ℕ) (at : ℕ) (box_type : List ℕ) (r : Result Header Kind) (h : Header) → located container at box_type r ≡ Ok h → r ≡ Ok h
+located_ok container at box_type (Ok g) h e = let same : g ≡ h = cc in ap (λ (x : Header). Ok x) same
+located_ok container at box_type (Err k) h e = absurd cc
 
 -- a fault that was found says in which way there is none
-pub located_err : (container : List ℕ) (at : ℕ) (bytes : List ℕ) (r : Result Header Kind) (f : Fault) → located container at bytes r ≡ Err f → (kind : Kind) × (r ≡ Err kind) × (f ≡ unreadable container at bytes kind)
-located_err container at bytes (Ok g) f e = absurd cc
-located_err container at bytes (Err k) f e = let same : unreadable container at bytes k ≡ f = cc in (k, refl, sym same)
+pub located_err : (container : List ℕ) (at : ℕ) (box_type : List ℕ) (r : Result Header Kind) (f : Fault) → located container at box_type r ≡ Err f → (kind : Kind) × (r ≡ Err kind) × (f ≡ unreadable container at box_type kind)
+located_err container at box_type (Ok g) f e = absurd cc
+located_err container at box_type (Err k) f e = let same : unreadable container at box_type k ≡ f = cc in (k, refl, sym same)
+
+-- the same for a header that was read behind some bytes
+pub read_behind : (bytes : List ℕ) (at : ℕ) (container : List ℕ) (place : ℕ) (h : Header)
+    → header_there false (length (take (length bytes - at) (drop at bytes))) (take (length bytes - at) (drop at bytes)) container place ≡ Ok h → header_at false (drop at bytes) ≡ Ok h
+read_behind bytes at container place h e =
+    let r = rw (take_rest bytes at) at e in located_ok container place (type_of (drop at bytes)) (header_at false (drop at bytes)) h r
+
+-- and for a fault, where the container's type is known by another word
+pub fault_behind : (bytes : List ℕ) (at : ℕ) (container kind : List ℕ) (place : ℕ) (f : Fault) → container ≡ kind
+    → header_there false (length (take (length bytes - at) (drop at bytes))) (take (length bytes - at) (drop at bytes)) container place ≡ Err f
+    → header_there false (length (drop at bytes)) (drop at bytes) kind place ≡ Err f
+fault_behind bytes at container kind place f k e = rw (take_rest bytes at, k) at e
 
 -- the boxes that were passed are those that an iterator then gives
 pub passed_boxes : (base : ℕ) (bytes : List ℕ) (count at : ℕ) (p : Passed base bytes count at) → first_boxes count base bytes ≡ p.boxes
@@ -175,7 +196,7 @@ pub passed_fault : (kind : List ℕ) (offset base : ℕ) (bytes : List ℕ) (cou
     → header_there false (length (drop at bytes)) (drop at bytes) kind (base + at) ≡ Err f
     → IsHeaderFault (record { kind = kind; offset = offset; at = base; bytes = bytes; extent = to_end_of_box }) f
 passed_fault kind offset base bytes count at f p lt e =
-    let r = located_err kind (base + at) (drop at bytes) (header_at false (drop at bytes)) f e in
+    let r = located_err kind (base + at) (type_of (drop at bytes)) (header_at false (drop at bytes)) f e in
     let t = p.taken in
     record {
       before = p.boxes;
@@ -183,4 +204,5 @@ passed_fault kind offset base bytes count at f p lt e =
       due = omega arith;
       kind = r.0;
       fails = ap (λ (n : ℕ). header_at false (drop n bytes)) t ∙ r.1;
-      named = r.2 ∙ ap (λ (n : ℕ). unreadable kind (base + n) (drop n bytes) r.0) (sym t) }
+      named = r.2 ∙ ap (λ (n : ℕ). unreadable kind (base + n) (type_of (drop n bytes)) r.0) (sym t);
+    }

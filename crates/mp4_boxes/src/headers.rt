@@ -1,6 +1,6 @@
 //! Box headers, read: of 8 or 16 bytes (ISO/IEC 14496-12, 4.2.2).
-ghost use Rattle.std.specs.Prelude.{◌≡◌, ◌+◌, ◌^◌, ◌<◌, ◌≤◌, min, length, take, drop, MatchResult, IfOk, IfErr, Ok, Err, true, codes};
-ghost use Rattle.mp4_boxes.specs.BoxFaults.{header_there};
+ghost use Rattle.std.specs.Prelude.{◌≡◌, ◌+◌, ◌^◌, ◌<◌, ◌≤◌, min, length, MatchResult, IfOk, IfErr, Ok, Err, true, codes};
+ghost use Rattle.mp4_boxes.specs.BoxFaults.{header_there, type_of};
 ghost use Rattle.mp4_boxes.specs.Box.{header_in, fitting};
 ghost use Rattle.mp4_boxes.specs.View.{header_seen, top_header_seen};
 
@@ -31,7 +31,7 @@ pub struct TopHeader {
 // The type, behind the size.
 pub(crate) fn kind_of(bytes: &[u8]) -> FourCc
     requires { 8 ≤ length bytes.now }
-    ensures { result.0 ≡ take 4 (drop 4 bytes.now) }
+    ensures { result.0 ≡ type_of bytes.now }
 {
     FourCc([bytes[4], bytes[5], bytes[6], bytes[7]])
 }

@@ -10,4 +10,9 @@ pub mod PieceFacts
 pub mod PartLists
 pub mod RunLists
 pub mod Refuses
+pub mod GroupRows
+pub mod OneSpelling
+pub mod LargestOf
+pub mod ChunkSpots
+pub mod SampleGroups
 pub mod Vectors

@@ -1,4 +1,7 @@
 pub mod Pieces
 pub mod Normal
 pub mod PieceLaws
+pub mod SpellingLaws
+pub mod TableLaws
+pub mod HeadLaws
 pub mod Laws

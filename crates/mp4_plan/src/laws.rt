@@ -1,12 +1,40 @@
 //! Laws of the definitions.
 
-ghost use Rattle.mp4_plan.specs.Laws.{DenotesOne, FaultRefuses};
+ghost use Rattle.mp4_plan.specs.Laws.{DenotedIsValid, DenotesOne, FaultRefuses};
 ghost use Rattle.mp4_plan.specs.PieceLaws.{CutsAreLeast, FragmentsAreLast, PiecesAreDue, PiecesAreLongest, PiecesJoin};
+ghost use Rattle.mp4_plan.specs.HeadLaws.{MovieLengthIsLargest, NextTrackIdIsLeast};
+ghost use Rattle.mp4_plan.specs.SpellingLaws.{ColumnsAreSpelledOnce, GroupRowsAreLongest, PieceKeysAreThose};
+ghost use Rattle.mp4_plan.specs.TableLaws.{GroupsAreIndexes, SamplesLieInChunks};
 ghost use Rattle.mp4_present.specs.Stands.{Reason, header, child, missing, leaf, tables, fragment, count, limit, order};
 
 /// A file denotes at most one presentation.
 pub fn denotes_one()
     ensures { DenotesOne }
+{}
+
+/// What bytes denote is valid.
+pub fn denoted_is_valid()
+    ensures { DenotedIsValid }
+{}
+
+/// Where there are sizes for all chunks, the samples of each chunk follow those of the chunks before it, and lie one after the other from its offset.
+pub fn samples_lie_in_chunks()
+    ensures { SamplesLieInChunks }
+{}
+
+/// Where `sbgp`s keep their rules, each sample has at each key the index that the `sbgp` of the key gives it.
+pub fn groups_are_indexes()
+    ensures { GroupsAreIndexes }
+{}
+
+/// No track is longer than the movie, and the movie has the length of some track, or 0.
+pub fn movie_length_is_largest()
+    ensures { MovieLengthIsLargest }
+{}
+
+/// The next track ID is above each ID that leaves room for one above it, fits 32 bits, and is no larger than that takes.
+pub fn next_track_id_is_least()
+    ensures { NextTrackIdIsLeast }
 {}
 
 /// The cuts are those of the first track: its first sample, and from each cut on the least sync sample at least a second behind.
@@ -32,6 +60,21 @@ pub fn pieces_are_longest()
 /// The fragment of a sample is that of the last cut that has begun, by number or by time; the first one if none has.
 pub fn fragments_are_last()
     ensures { FragmentsAreLast }
+{}
+
+/// In the normal form of what is valid a number that all samples of a piece have is a default of its `tfhd` and no column of its `trun`, and any other number is a column and no default.
+pub fn columns_are_spelled_once()
+    ensures { ColumnsAreSpelledOnce }
+{}
+
+/// The rows of an `sbgp` are the longest runs of the indexes of its samples.
+pub fn group_rows_are_longest()
+    ensures { GroupRowsAreLongest }
+{}
+
+/// A piece has an `sbgp` for each key at which some sample has an index, once, in the order of keys.
+pub fn piece_keys_are_those()
+    ensures { PieceKeysAreThose }
 {}
 
 /// A file in which a header can't be read denotes nothing.

@@ -2,6 +2,12 @@ pub mod One
 pub mod Order
 pub mod DenotesVectors
 pub mod StandsVectors
+pub mod StandsForms
+pub mod StandsBoxes
+pub mod StandsTables
+pub mod StandsFragments
+pub mod StandsLimits
+pub mod StandsMovie
 pub mod Chain
 pub mod BoxReasons
 pub mod Leaves
@@ -10,4 +16,7 @@ pub mod Limits
 pub mod Fronts
 pub mod FragmentReasons
 pub mod Counts
+pub mod ValidSamples
+pub mod DenotedValid
 pub mod Vectors
+pub mod TopLevel

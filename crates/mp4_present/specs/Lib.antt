@@ -1,3 +1,4 @@
 pub mod Presentation
 pub mod Denotes
 pub mod Stands
+pub mod Reading

@@ -1,3 +1,4 @@
+//! A store over a file of the file system.
 ghost use Rattle.std.specs.Prelude.{◌≡◌, ℕ, false, replicate};
 
 use crate::store::{Store, StoreFailed};
@@ -14,6 +15,7 @@ pub struct FileStore {
 }
 
 impl FileStore {
+    /// Takes the length that the file has now; later changes of it are not seen, but that a read past its end fails.
     pub fn new(file: File) -> io::Result<FileStore> {
         let size = file.metadata()?.len();
         Ok(FileStore {

@@ -1,3 +1,4 @@
+//! A store and a sink in memory.
 ghost use Rattle.std.specs.Prelude.{◌≡◌, ℕ, Some, [], true, refl, length};
 
 use crate::sink::{Sink, WriteFailed};
@@ -7,12 +8,12 @@ use std::alloc::Global;
 /// A store over bytes in memory, which never fails.
 #[derive(Drop)]
 pub struct MemStore<'a> {
-    pub bytes: &'a [u8],
+    bytes: &'a [u8],
 }
 
 impl<'a> MemStore<'a> {
     pub fn new(bytes: &'a [u8]) -> MemStore<'a>
-        ensures { result.bytes.now ≡ bytes.entry.now }
+        ensures { ⟦<MemStore<'a> as Store>⟧.file result ≡ bytes.entry.now }
     {
         MemStore { bytes }
     }
@@ -36,7 +37,7 @@ impl Store for MemStore<'_> {
     }
 }
 
-/// A sink in memory.
+/// A sink in memory. A growth that is refused is a failure, and appends nothing.
 #[derive(Drop)]
 pub struct MemSink {
     held: Vec<u8>,
@@ -44,6 +45,7 @@ pub struct MemSink {
 }
 
 impl MemSink {
+    /// Empty; it keeps the allocator.
     pub fn new(alloc: Global) -> MemSink
         ensures contents { ⟦<MemSink as Sink>⟧.contents result ≡ Some [] }
         ensures count { ⟦<MemSink as Sink>⟧.put_failures result ≡ 0 }
@@ -54,6 +56,7 @@ impl MemSink {
         }
     }
 
+    /// The bytes put so far.
     pub fn bytes(&self) -> &[u8]
         ensures { ⟦<MemSink as Sink>⟧.contents self.now ≡ Some result.now }
     {

@@ -28,7 +28,8 @@ pub repeated_length : {A : Type 0} (rs : List (ℕ × A)) → length (repeated r
 repeated_length [] = refl
 repeated_length (r ∷ rs) = length-append (replicate r.0 r.1) (repeated rs) ∙ (λ i. length-replicate r.0 r.1 i + repeated_length rs i)
 
-laid_length : (at : ℤ) (description : ℕ) (sizes : List ℕ) → length (laid_out at description sizes) ≡ length sizes
+-- as many samples lie there as there are sizes
+pub laid_length : (at : ℤ) (description : ℕ) (sizes : List ℕ) → length (laid_out at description sizes) ≡ length sizes
 laid_length at description [] = refl
 laid_length at description (size ∷ sizes) = ap suc (laid_length (at +ℤ pos size) description sizes)
 

@@ -9,4 +9,7 @@ pub mod SyncLists
 pub mod SpotLists
 pub mod ChunkLists
 pub mod RunLists
+pub mod NamedKeys
+pub mod GroupMaps
+pub mod Placed
 pub mod Vectors

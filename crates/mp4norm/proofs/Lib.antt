@@ -1,1 +1,5 @@
 pub mod Vectors
+pub mod TypeTexts
+pub mod Decimals
+pub mod BoxLists
+pub mod BoxLaws

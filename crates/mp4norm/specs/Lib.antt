@@ -1,2 +1,4 @@
 pub mod Texts
 pub mod Headline
+pub mod BoxWalk
+pub mod BoxLaws

@@ -1,10 +1,10 @@
-use Rattle.std.proofs.Common.{rules, ◌≡◌, ◌+◌, ◌-◌, ◌<◌, ◌≤◌, length, drop, take, false, arith}
+use Rattle.std.proofs.Common.{rules, ◌+◌, drop, false}
 use Rattle.std.proofs.lemmas.List.{take_rest}
 use Rattle.std.proofs.lemmas.Result.{err_from_is_err_and}
-use Rattle.mp4_boxes.specs.Box.{header_at, first_boxes, bytes_container}
+use Rattle.mp4_boxes.specs.Box.{header_at, bytes_container}
 use Rattle.mp4_boxes.specs.View.{header_seen}
 use Rattle.mp4_boxes.proofs.Tiling.{tiles_one, header_fault_refuses}
-use Rattle.mp4_boxes.proofs.Walking.{passed_more, passed_few, passed_has, passed_tiles, passed_fault, located_ok}
+use Rattle.mp4_boxes.proofs.Walking.{passed_more, passed_few, passed_has, passed_tiles, passed_fault, read_behind}
 use Rattle.mp4_boxes.proofs.listing.children.Goals as goal
 
 pub overflow_add-count : goal.overflow_add-count
@@ -16,9 +16,8 @@ overflow_add-count c =
 
 pub loop-at-preserved : goal.loop-at-preserved
 loop-at-preserved c =
-    let read = rw (take_rest c.args.bytes.now c.loop-at.at) at c.in_ok-header.ensures in
     passed_more c.args.base c.args.bytes.now c.loop-at.count c.loop-at.at (header_seen c.in_ok-header.header) c.loop-at.invariant
-    (located_ok c.args.container.0 (c.args.base + c.loop-at.at) (drop c.loop-at.at c.args.bytes.now) (header_at false (drop c.loop-at.at c.args.bytes.now)) (header_seen c.in_ok-header.header) read)
+    (read_behind c.args.bytes.now c.loop-at.at c.args.container.0 (c.args.base + c.loop-at.at) (header_seen c.in_ok-header.header) c.in_ok-header.ensures)
 
 pub returns-in_err-header-clause-only : goal.returns-in_err-header-clause-only
 returns-in_err-header-clause-only c boxes t =

@@ -1,4 +1,3 @@
-use Rattle.std.proofs.Common.{rules}
 use Rattle.mp4_boxes.proofs.Walking.{first_part}
 use Rattle.mp4_boxes.proofs.sequence.split_first.Goals as goal
 

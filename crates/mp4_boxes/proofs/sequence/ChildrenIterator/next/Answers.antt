@@ -1,5 +1,4 @@
-use Rattle.std.proofs.Common.{rules, ◌+◌, ◌-◌, ◌<◌, ◌≤◌, ◌∷◌, ◌∙◌, length, arith, ap, sym}
-use Rattle.mp4_boxes.specs.Box.{Box, first_boxes}
+use Rattle.std.proofs.Common.{rules, ◌<◌, ◌∙◌, length, arith, ap, sym}
 use Rattle.mp4_boxes.proofs.Walking.{moved}
 use Rattle.mp4_boxes.proofs.sequence.ChildrenIterator.next.Goals as goal
 

@@ -1,0 +1,272 @@
+-- Lines of boxes, as a walk over them adds them, and the faults that it meets.
+use Rattle.std.proofs.Common.{◌≡◌, ℕ, zero, suc, ◌+◌, ◌-◌, ◌<◌, ◌≤◌, Bool, true, false, cond, List, [], ◌∷◌, ◌++◌, Option, Some, None, refl, sym, ap, subst, ◌∙◌, arith, append_assoc, get_or}
+use Rattle.std.specs.Prelude.{option_map, length, take, drop, IsTrue, Result, Ok, Err, IfErr}
+use Rattle.std.specs.List.{AllZip, concat}
+use Rattle.std.proofs.lemmas.List.{append-nil, drop_more}
+use Rattle.mp4_boxes.specs.Box.{Box, Container, Tiles, LieEndToEnd, may_be_open, size, box_container, bytes_container, file_container, IsCounted, Extent, to_end_of_file, to_end_of_box, counted, StandsAfter, IsFront}
+use Rattle.mp4_boxes.specs.BoxFaults.{IsHeaderFault}
+use Rattle.mp4_boxes.specs.Places.{Place, Scope, ruled, data_entries, sample_entries, containers, at_kind, inside, as_container}
+use Rattle.mp4_boxes.specs.declared.rule.Rule.{Rule}
+use Rattle.mp4_boxes.specs.declared.rule.Rule.TheVariants.{File, Movie, Track, Edits, Media, MediaInformation, DataInformation, SampleTable, MovieExtends, MovieFragment, TrackFragment}
+use Rattle.mp4_boxes.specs.declared.fault.Fault.{Fault}
+use Rattle.mp4_boxes.specs.declared.refusal.Refusal.{Refusal}
+use Rattle.mp4_boxes.specs.declared.refusal.Refusal.TheVariants as refusals
+use Rattle.mp4norm.specs.Texts.{descends, IsPart, AreBoxLines, box_line}
+use Rattle.mp4_store.specs.Device.{range}
+use Rattle.mp4_present.specs.Reading.{RefusesHeader}
+use Rattle.mp4_present.proofs.TopLevel.{TopPassed, top_fault}
+use Rattle.mp4norm.specs.declared.boxes.TopBox.{TopBox}
+use Rattle.mp4norm.specs.BoxWalk.{height, under, rule_inside, FaultSeen, RefusesInside, IsListed, RefusesTop, RefusesTops, top_seen, tops_seen}
+
+-- ---- a loop over boxes that adds a part for each
+
+pub record Listed (P : Box → List ℕ → Type 0) (all : List Box) (start text : List ℕ) (left : List Box) : Type 0 where
+  pub passed : List Box
+  pub parts : List (List ℕ)
+  pub whole : passed ++ left ≡ all
+  pub each : AllZip P passed parts
+  pub added : text ≡ start ++ concat parts
+
+pub listed_none : (P : Box → List ℕ → Type 0) (all : List Box) (text : List ℕ) → Listed P all text text all
+listed_none P all text = record { passed = []; parts = []; whole = refl; each = tt; added = sym (append-nil text) }
+
+zip_push : (P : Box → List ℕ → Type 0) (bs : List Box) (ps : List (List ℕ)) (b : Box) (p : List ℕ) → AllZip P bs ps → P b p → AllZip P (bs ++ b ∷ []) (ps ++ p ∷ [])
+zip_push P [] [] b p h g = (g, tt)
+zip_push P [] (q ∷ ps) b p h g = absurd h
+zip_push P (c ∷ bs) [] b p h g = absurd h
+zip_push P (c ∷ bs) (q ∷ ps) b p h g = (h.0, zip_push P bs ps b p h.1 g)
+
+concat_push : (ps : List (List ℕ)) (p : List ℕ) → concat (ps ++ p ∷ []) ≡ concat ps ++ p
+concat_push [] p = append-nil p
+concat_push (q ∷ ps) p = ap (λ (xs : List ℕ). q ++ xs) (concat_push ps p) ∙ sym (append_assoc q (concat ps) p)
+
+-- one more box, with its part
+pub listed_more : (P : Box → List ℕ → Type 0) (all : List Box) (start text : List ℕ) (left : List Box) (b : Box) (part text' : List ℕ) (left' : List Box)
+    → Listed P all start text left → left ≡ b ∷ left' → P b part → text' ≡ text ++ part → Listed P all start text' left'
+listed_more P all start text left b part text' left' l e h t = record {
+  passed = l.passed ++ b ∷ [];
+  parts = l.parts ++ part ∷ [];
+  whole = append_assoc l.passed (b ∷ []) left' ∙ ap (λ (bs : List Box). l.passed ++ bs) (sym e) ∙ l.whole;
+  each = zip_push P l.passed l.parts b part l.each h;
+  added = t ∙ ap (λ (xs : List ℕ). xs ++ part) l.added ∙ append_assoc start (concat l.parts) part ∙ ap (λ (xs : List ℕ). start ++ xs) (sym (concat_push l.parts part));
+}
+
+-- all boxes have their parts
+pub listed_all : (P : Box → List ℕ → Type 0) (all : List Box) (start text : List ℕ) (left : List Box) → Listed P all start text left → left ≡ []
+    → (parts : List (List ℕ)) × AllZip P all parts × (text ≡ start ++ concat parts)
+listed_all P all start text left l e =
+    let same : l.passed ≡ all = sym (append-nil l.passed) ∙ ap (λ (bs : List Box). l.passed ++ bs) (sym e) ∙ l.whole in
+    (l.parts, subst (λ (bs : List Box). AllZip P bs l.parts) same l.each, l.added)
+
+-- ---- levels
+
+choose_one : (P : Rule → Type 0) (u : Bool) (a inner : Rule) → descends (cond u (Some (ruled a)) None) ≡ Some inner → P a → P inner
+choose_one P true a inner e p = let same : a ≡ inner = cc in subst P same p
+choose_one P false a inner e p = absurd cc
+
+choose_two : (P : Rule → Type 0) (u v : Bool) (a b inner : Rule) → descends (cond u (Some (ruled a)) (cond v (Some (ruled b)) None)) ≡ Some inner → P a → P b → P inner
+choose_two P true v a b inner e p q = let same : a ≡ inner = cc in subst P same p
+choose_two P false v a b inner e p q = choose_one P v b inner e q
+
+not_entries : (u : Bool) (s : Scope) (inner : Rule) → descends (Some s) ≡ None → descends (cond u (Some s) None) ≡ Some inner → ⊥
+not_entries true s inner n e = let both : ◌≡◌ {A = Option Rule} None (Some inner) = sym n ∙ e in cc
+not_entries false s inner n e = cc
+
+-- a container that is descended into lies lower than the one around it
+pub inside_lower : (rule inner : Rule) (kind : List ℕ) → rule_inside rule kind ≡ Some inner → height inner < height rule
+inside_lower File inner kind e = choose_two (λ r. height r < 6) _ _ Movie MovieFragment inner e (omega arith) (omega arith)
+inside_lower Movie inner kind e = choose_two (λ r. height r < 5) _ _ Track MovieExtends inner e (omega arith) (omega arith)
+inside_lower Track inner kind e = choose_two (λ r. height r < 4) _ _ Edits Media inner e (omega arith) (omega arith)
+inside_lower Media inner kind e = choose_one (λ r. height r < 3) _ MediaInformation inner e (omega arith)
+inside_lower MediaInformation inner kind e = choose_two (λ r. height r < 2) _ _ DataInformation SampleTable inner e (omega arith) (omega arith)
+inside_lower MovieFragment inner kind e = choose_one (λ r. height r < 2) _ TrackFragment inner e (omega arith)
+inside_lower DataInformation inner kind e = absurd (not_entries _ data_entries inner refl e)
+inside_lower SampleTable inner kind e = absurd (not_entries _ sample_entries inner refl e)
+inside_lower Edits inner kind e = absurd cc
+inside_lower MovieExtends inner kind e = absurd cc
+inside_lower TrackFragment inner kind e = absurd cc
+
+pub height_some : (rule : Rule) → 0 < height rule
+height_some File = omega arith
+height_some Movie = omega arith
+height_some Track = omega arith
+height_some Edits = omega arith
+height_some Media = omega arith
+height_some MediaInformation = omega arith
+height_some DataInformation = omega arith
+height_some SampleTable = omega arith
+height_some MovieExtends = omega arith
+height_some MovieFragment = omega arith
+height_some TrackFragment = omega arith
+
+-- what holds of each box and its part holds under a weaker word
+pub zip_map : (P Q : Box → List ℕ → Type 0) → ((b : Box) (part : List ℕ) → P b part → Q b part) → (bs : List Box) (parts : List (List ℕ)) → AllZip P bs parts → AllZip Q bs parts
+zip_map P Q f [] [] h = tt
+zip_map P Q f [] (p ∷ ps) h = absurd h
+zip_map P Q f (b ∷ bs) [] h = absurd h
+zip_map P Q f (b ∷ bs) (p ∷ ps) h = (f b p h.0, zip_map P Q f bs ps h.1)
+
+part_map : (I J : Rule → Container → List ℕ → Type 0) (depth : ℕ) → ((rule : Rule) (c : Container) (text : List ℕ) → I rule c text → J rule c text)
+    → (inner : Option Rule) (b : Box) (part : List ℕ) → IsPart I depth inner b part → IsPart J depth inner b part
+part_map I J depth f None b part h = h
+part_map I J depth f (Some rule) b part h = (h.0, f rule (box_container b) h.0 h.1, h.2)
+
+-- More levels than are there change nothing.
+pub levels_rise : (m n depth : ℕ) (rule : Rule) (c : Container) (text : List ℕ) → m ≤ n → AreBoxLines m depth rule c text → AreBoxLines n depth rule c text
+levels_rise zero n depth rule c text le h = absurd h
+levels_rise (suc m) zero depth rule c text le h = absurd (omega arith)
+levels_rise (suc m) (suc n) depth rule c text le h =
+    let lift = λ (r : Rule) (d : Container) (t : List ℕ). levels_rise m n (depth + 1) r d t (omega arith) in (
+      h.0,
+      h.1,
+      h.2,
+      zip_map (λ b part. IsPart (AreBoxLines m (depth + 1)) depth (descends (at_kind (containers (ruled rule)) b.kind)) b part) (λ b part. IsPart (AreBoxLines n (depth + 1)) depth (descends (at_kind (containers (ruled rule)) b.kind)) b part)
+          (λ b part. part_map (AreBoxLines m (depth + 1)) (AreBoxLines n (depth + 1)) depth lift (descends (at_kind (containers (ruled rule)) b.kind)) b part) h.0 h.2 h.3,
+      h.4,
+    )
+
+-- the lines of a container's boxes, from those of each
+pub lines_of_boxes : (depth : ℕ) (rule : Rule) (c : Container) (boxes : List Box) (parts : List (List ℕ)) → Tiles c boxes → AllZip (IsListed rule depth) boxes parts → AreBoxLines (height rule) depth rule c (concat parts)
+lines_of_boxes depth rule c boxes parts t h = from (height rule) (height_some rule) h
+  where
+    from : (n : ℕ) → 0 < n → AllZip (λ (b : Box) (part : List ℕ). IsPart (AreBoxLines (n - 1) (depth + 1)) depth (rule_inside rule b.kind) b part) boxes parts → AreBoxLines n depth rule c (concat parts)
+    from zero some g = absurd (omega arith)
+    from (suc n) some g =
+        let e : suc n - 1 ≡ n = omega arith in
+        (boxes, t, parts, subst (λ (k : ℕ). AllZip (λ (b : Box) (part : List ℕ). IsPart (AreBoxLines k (depth + 1)) depth (rule_inside rule b.kind) b part) boxes parts) e g, refl)
+
+-- the lines of a box that is descended into: its own, and those of its boxes
+pub listed_inside : (rule inner : Rule) (depth : ℕ) (b : Box) (boxes : List Box) (parts : List (List ℕ)) → rule_inside rule b.kind ≡ Some inner → Tiles (box_container b) boxes
+    → AllZip (IsListed inner (depth + 1)) boxes parts → IsListed rule depth b (box_line depth b ++ concat parts)
+listed_inside rule inner depth b boxes parts e t h =
+    let lower = inside_lower rule inner b.kind e in
+    let lines = levels_rise (height inner) (height rule - 1) (depth + 1) inner (box_container b) (concat parts) (omega arith) (lines_of_boxes (depth + 1) inner (box_container b) boxes parts t h) in
+    rw e (concat parts, lines, refl)
+
+-- the line of a box that is not
+pub listed_alone : (rule : Rule) (depth : ℕ) (b : Box) → rule_inside rule b.kind ≡ None → IsListed rule depth b (box_line depth b)
+listed_alone rule depth b e = rw e refl
+
+-- ---- faults
+
+-- boxes in front of others lie there by themselves
+pub lies_front : (is_open : Bool) (at : ℕ) (bytes : List ℕ) (bs cs : List Box) → LieEndToEnd is_open at bytes (bs ++ cs) → LieEndToEnd is_open at bytes bs
+lies_front is_open at bytes [] cs l = tt
+lies_front is_open at bytes (b ∷ bs) cs l = (l.0, lies_front is_open (at + size b) (drop (size b) bytes) bs cs l.1)
+
+-- a box of a tiled container of boxes stands there
+stands_of : (c : Container) (all passed left : List Box) (b : Box) → Tiles c all → all ≡ passed ++ b ∷ left → ((bs : List Box) → IsCounted c.extent bs) → StandsAfter c passed b
+stands_of c all passed left b t e many =
+    let grouped : passed ++ b ∷ left ≡ (passed ++ b ∷ []) ++ left = sym (append_assoc passed (b ∷ []) left) in
+    (lies_front (may_be_open c.extent) c.at c.bytes (passed ++ b ∷ []) left (subst (λ (bs : List Box). LieEndToEnd (may_be_open c.extent) c.at c.bytes bs) (e ∙ grouped) t.front.0), many (passed ++ b ∷ []))
+
+descends_is : (o : Option Scope) (rule : Rule) → descends o ≡ Some rule → o ≡ Some (ruled rule)
+descends_is (Some (ruled r)) rule e = let same : r ≡ rule = cc in ap (λ (x : Rule). Some (ruled x)) same
+descends_is (Some data_entries) rule e = absurd cc
+descends_is (Some sample_entries) rule e = absurd cc
+descends_is None rule e = absurd cc
+
+-- a fault in a box is one in the container that it stands in
+pub seen_above : (rule inner : Rule) (c : Container) (all passed left : List Box) (b : Box) (f : Fault) → Tiles c all → all ≡ passed ++ b ∷ left → ((bs : List Box) → IsCounted c.extent bs)
+    → rule_inside rule b.kind ≡ Some inner → FaultSeen (under inner (box_container b)) f → FaultSeen (under rule c) f
+seen_above rule inner c all passed left b f t whole many e s =
+    let scope = descends_is (at_kind (containers (ruled rule)) b.kind) inner e in
+    let into : inside (under rule c) b ≡ Some (under inner (box_container b)) = ap (λ (o : Option Scope). option_map (λ (x : Scope). record { scope = x; container = as_container x b }) o) scope in
+    record {
+      place = s.place;
+      reaches = (b ∷ s.reaches.0, (passed, stands_of c all passed left b t whole many, under inner (box_container b), into, s.reaches.1));
+      rule = s.rule;
+      is_looked_at = s.is_looked_at;
+      fault = s.fault;
+    }
+
+-- a fault of a box's own boxes
+pub seen_here : (rule inner : Rule) (b : Box) (f : Fault) → rule_inside rule b.kind ≡ Some inner → IsHeaderFault (bytes_container b.kind (b.offset + b.header) b.payload) f → RefusesInside rule b (refusals.Fault f)
+seen_here rule inner b f e h = (
+  inner,
+  e,
+  record {
+    place = under inner (box_container b);
+    reaches = ([], refl);
+    rule = inner;
+    is_looked_at = refl;
+    fault = record { before = h.before; front = h.front; due = h.due; kind = h.kind; fails = h.fails; named = h.named };
+  },
+)
+
+-- a box in it refuses
+pub refuses_above : (rule inner : Rule) (b : Box) (all passed left : List Box) (child : Box) (r : Refusal) → rule_inside rule b.kind ≡ Some inner → Tiles (box_container b) all → all ≡ passed ++ child ∷ left
+    → RefusesInside inner child r → RefusesInside rule b r
+refuses_above rule inner b all passed left child (refusals.Fault f) e t whole h = (inner, e, seen_above inner h.0 (box_container b) all passed left child f t whole (λ bs. tt) h.1 h.2)
+refuses_above rule inner b all passed left child refusals.Memory e t whole h = tt
+refuses_above rule inner b all passed left child refusals.StoreFailed e t whole h = h
+refuses_above rule inner b all passed left child refusals.StoreChanged e t whole h = h
+refuses_above rule inner b all passed left child refusals.WriteFailed e t whole h = h
+refuses_above rule inner b all passed left child refusals.NoSuchTrack e t whole h = h
+
+-- boxes that tile a box's payload are those of the box
+pub tiles_box : (b : Box) (boxes : List Box) → Tiles (bytes_container b.kind (b.offset + b.header) b.payload) boxes → Tiles (box_container b) boxes
+tiles_box b boxes t = record { front = t.front; full = t.full }
+
+-- what is added by a box and those in it, in one part
+pub part_added : (start own text : List ℕ) (parts : List (List ℕ)) → text ≡ (start ++ own) ++ concat parts → text ≡ start ++ (own ++ concat parts)
+part_added start own text parts e = e ∙ append_assoc start own (concat parts)
+
+-- ---- the boxes of the file itself
+
+-- a box of the file refuses as its header and bytes do
+pub refuses_top : (honest : Bool) (file : List ℕ) (seen b : Box) (reads reads_after : ℕ) (r : Refusal) → (IsTrue honest → seen ≡ b) → RefusesInside File seen r → RefusesTop honest file b reads reads_after r
+refuses_top honest file seen b reads reads_after (refusals.Fault f) same h = λ t. subst (λ (x : Box). RefusesInside File x (refusals.Fault f)) (same t) h
+refuses_top honest file seen b reads reads_after refusals.Memory same h = tt
+refuses_top honest file seen b reads reads_after refusals.StoreFailed same h = absurd h
+refuses_top honest file seen b reads reads_after refusals.StoreChanged same h = h
+refuses_top honest file seen b reads reads_after refusals.WriteFailed same h = h
+refuses_top honest file seen b reads reads_after refusals.NoSuchTrack same h = h
+
+-- and so does the file
+pub refuses_tops : (honest : Bool) (file : List ℕ) (all left : List Box) (b : Box) (reads reads_after : ℕ) (r : Refusal) → (IsTrue honest → Tiles (file_container file) all) → (IsTrue honest → (passed : List Box) × (all ≡ passed ++ b ∷ left))
+    → RefusesTop honest file b reads reads_after r → RefusesTops honest file reads reads_after r
+refuses_tops honest file all left b reads reads_after (refusals.Fault f) t whole h = λ told. let r = h told in let w = whole told in seen_above File r.0 (file_container file) all w.0 left b f (t told) w.1 (λ bs. tt) r.1 r.2
+refuses_tops honest file all left b reads reads_after refusals.Memory t whole h = tt
+refuses_tops honest file all left b reads reads_after refusals.StoreFailed t whole h = h
+refuses_tops honest file all left b reads reads_after refusals.StoreChanged t whole h = h
+refuses_tops honest file all left b reads reads_after refusals.WriteFailed t whole h = h
+refuses_tops honest file all left b reads reads_after refusals.NoSuchTrack t whole h = h
+
+-- a header of the file itself that can't be read
+pub refuses_header : (honest : Bool) (file : List ℕ) (boxes : List Box) (at reads reads_after : ℕ) (r : Refusal) → (IsTrue honest → TopPassed file boxes at) → at < length file → RefusesHeader honest file at reads reads_after r
+    → RefusesTops honest file reads reads_after r
+refuses_header honest file boxes at reads reads_after (refusals.Fault f) p lt h = λ told. record {
+  place = under File (file_container file);
+  reaches = ([], refl);
+  rule = File;
+  is_looked_at = refl;
+  fault = top_fault file boxes at f (p told) lt (h told);
+}
+refuses_header honest file boxes at reads reads_after refusals.Memory p lt h = tt
+refuses_header honest file boxes at reads reads_after refusals.StoreFailed p lt h = h
+refuses_header honest file boxes at reads reads_after refusals.StoreChanged p lt h = h
+refuses_header honest file boxes at reads reads_after refusals.WriteFailed p lt h = h
+refuses_header honest file boxes at reads reads_after refusals.NoSuchTrack p lt h = h
+
+-- a box whose payload was read is the one in the file
+pub top_read : (file : List ℕ) (top : TopBox) (at : ℕ) (payload : List ℕ) → at ≡ top.offset + top.header.header → payload ≡ range file at (top.header.end - at)
+    → ◌≡◌ {A = Box} (record { kind = top.header.kind.0; offset = top.offset; header = top.header.header; payload = payload }) (top_seen file top)
+top_read file top at payload a p =
+    let len : top.header.end - at ≡ top.header.end - top.offset - top.header.header = omega arith in
+    let same = p ∙ (λ i. take (len i) (drop (a i) file)) in
+    λ i. record { kind = top.header.kind.0; offset = top.offset; header = top.header.header; payload = same i }
+
+-- what a refusal means is passed on under another word
+pub if_err : {T : Type 0} (r : Result T Refusal) (P Q : Refusal → Type 0) → ((e : Refusal) → P e → Q e) → IfErr r P → IfErr r Q
+if_err (Ok x) P Q f h = tt
+if_err (Err e) P Q f h = f e h
+
+-- the boxes from a place on: the one there, and the others
+pub tops_more : (file : List ℕ) (tops : List TopBox) (i : ℕ) (d : TopBox) → i < length tops → tops_seen file (drop i tops) ≡ top_seen file (get_or tops i d) ∷ tops_seen file (drop (i + 1) tops)
+tops_more file tops i d lt = ap (tops_seen file) (drop_more tops i d lt)
+
+-- the boxes before and behind a place are all
+pub tops_split : (file : List ℕ) (tops : List TopBox) (i : ℕ) (d : TopBox) (all passed : List Box) → all ≡ tops_seen file tops → passed ++ tops_seen file (drop i tops) ≡ all → i < length tops
+    → tops_seen file tops ≡ passed ++ top_seen file (get_or tops i d) ∷ tops_seen file (drop (i + 1) tops)
+tops_split file tops i d all passed e whole lt = sym e ∙ sym whole ∙ ap (λ (bs : List Box). passed ++ bs) (tops_more file tops i d lt)

@@ -1,0 +1,38 @@
+//! Standard input, read whole.
+ghost use Rattle.std.specs.Prelude.{◌≡◌, ◌≤◌, IfOk, IfSome, length};
+
+use mp4_boxes::Refusal;
+use std::alloc::Global;
+use std::io::Read;
+
+/// How many bytes are read at once.
+const PIECE: usize = 65_000;
+
+// Room for one read.
+fn room(alloc: Global, len: usize) -> Result<Vec<u8>, Refusal>
+    ensures { IfOk result (λ piece. length piece.items ≡ len) }
+{
+    Ok(vec![in alloc; 0u8; len]?)
+}
+
+/// All that a reader gives. More than `most` bytes, or an error, is a failed read.
+pub fn read_input<R: Read>(alloc: Global, reader: &mut R, most: usize) -> Result<Vec<u8>, Refusal>
+    ensures limit { IfOk result (λ input. length input.items ≤ most) }
+    ensures whole { IfOk result (λ input. IfSome (R.remaining reader.old) (λ bytes. input.items ≡ bytes)) }
+{
+    let mut input = Vec::new(alloc);
+    let mut piece = room(alloc, PIECE)?;
+    for _turn in 0..=most {
+        let Ok(count) = reader.read(piece.as_mut_slice()) else {
+            return Err(Refusal::StoreFailed);
+        };
+        if count == 0 {
+            return Ok(input);
+        }
+        if count > most - input.len() {
+            return Err(Refusal::StoreFailed);
+        }
+        input.extend_from_slice(&piece[..count])?;
+    }
+    Err(Refusal::StoreFailed)
+}
