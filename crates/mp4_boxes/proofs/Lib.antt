@@ -13,7 +13,6 @@ pub mod Among
 pub mod Each
 pub mod Joined
 pub mod Refusing
-pub mod Each
 pub mod OfBytes
 pub mod Sound
 pub mod Vectors
