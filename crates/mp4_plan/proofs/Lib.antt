@@ -16,6 +16,8 @@ pub mod OneSpelling
 pub mod LargestOf
 pub mod ChunkSpots
 pub mod SampleGroups
+pub mod PlannerSteps
+pub mod Gatherings
 pub mod Vectors
 pub mod WrittenGroups
 pub mod WrittenRun

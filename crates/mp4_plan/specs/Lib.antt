@@ -5,3 +5,6 @@ pub mod SpellingLaws
 pub mod TableLaws
 pub mod HeadLaws
 pub mod Laws
+pub mod Ends
+pub mod Gathering
+pub mod PlannerLaws

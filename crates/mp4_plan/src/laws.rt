@@ -2,6 +2,7 @@
 
 ghost use Rattle.mp4_plan.specs.Laws.{DenotedIsValid, DenotesOne, FaultRefuses, NormalDenotes, NormalIsExact, NormalIsFixed};
 ghost use Rattle.mp4_plan.specs.PieceLaws.{CutsAreLeast, FragmentsAreLast, PiecesAreDue, PiecesAreLongest, PiecesJoin};
+ghost use Rattle.mp4_plan.specs.PlannerLaws.{GatheringSumsUp};
 ghost use Rattle.mp4_plan.specs.HeadLaws.{MovieLengthIsLargest, NextTrackIdIsLeast};
 ghost use Rattle.mp4_plan.specs.SpellingLaws.{ColumnsAreSpelledOnce, GroupRowsAreLongest, PieceKeysAreThose};
 ghost use Rattle.mp4_plan.specs.TableLaws.{GroupsAreIndexes, SamplesLieInChunks};
@@ -140,4 +141,9 @@ pub fn order_fault_refuses()
 /// A file in which a fault stands denotes nothing, whatever the reason.
 pub fn fault_refuses()
     ensures { (reason : Reason) → FaultRefuses reason }
+{}
+
+/// What a planner gathers of the samples of a piece is what they have: how many, how many bytes, what they share, which rows their groups make.
+pub fn gathering_sums_up()
+    ensures { GatheringSumsUp }
 {}

@@ -13,10 +13,10 @@ use Rattle.mp4_tables.specs.Repeated.{repeated, total}
 use Rattle.mp4_tables.specs.Groups.{Groups, maps_of}
 use Rattle.mp4_tables.specs.TableRules.{Surroundings, Fit, dependency_room, duration_counts, offset_counts, chunk_counts}
 
-eqb_is : (a b : ℕ) → eqb a b ≡ true → a ≡ b
+pub eqb_is : (a b : ℕ) → eqb a b ≡ true → a ≡ b
 eqb_is a b e = true-eqb a b (sym e)
 
-leb_is : (a b : ℕ) → leb a b ≡ true → a ≤ b
+pub leb_is : (a b : ℕ) → leb a b ≡ true → a ≤ b
 leb_is a b e = true-leb a b (sym e)
 
 -- there are as many rows as are read
@@ -24,7 +24,7 @@ pub rows_length : (n : ℕ) (widths bytes : List ℕ) → length (rows n widths 
 rows_length zero widths bytes = refl
 rows_length (suc n) widths bytes = ap suc (rows_length n widths (drop (width_of widths) bytes))
 
-repeated_length : {A : Type 0} (rs : List (ℕ × A)) → length (repeated rs) ≡ total rs
+pub repeated_length : {A : Type 0} (rs : List (ℕ × A)) → length (repeated rs) ≡ total rs
 repeated_length [] = refl
 repeated_length (r ∷ rs) = length-append (replicate r.0 r.1) (repeated rs) ∙ (λ i. length-replicate r.0 r.1 i + repeated_length rs i)
 
@@ -33,7 +33,7 @@ pub laid_length : (at : ℤ) (description : ℕ) (sizes : List ℕ) → length (
 laid_length at description [] = refl
 laid_length at description (size ∷ sizes) = ap suc (laid_length (at +ℤ pos size) description sizes)
 
-chunks_length : (rs : List ChunkRow) (c : ℕ) (offsets sizes : List ℕ) → in_chunks_total rs c offsets ≤ length sizes → length (in_chunks rs c offsets sizes) ≡ in_chunks_total rs c offsets
+pub chunks_length : (rs : List ChunkRow) (c : ℕ) (offsets sizes : List ℕ) → in_chunks_total rs c offsets ≤ length sizes → length (in_chunks rs c offsets sizes) ≡ in_chunks_total rs c offsets
 chunks_length rs c [] sizes h = refl
 chunks_length rs c (offset ∷ offsets) sizes h =
     let r = row_of_chunk rs c in
@@ -49,7 +49,7 @@ chunks_length rs c (offset ∷ offsets) sizes h =
       length-take r.count sizes,
     )
 
-flags_length : (sync : Option (List ℕ)) (i : ℕ) (bytes : List ℕ) → length (flags_from sync i bytes) ≡ length bytes
+pub flags_length : (sync : Option (List ℕ)) (i : ℕ) (bytes : List ℕ) → length (flags_from sync i bytes) ≡ length bytes
 flags_length sync i [] = refl
 flags_length sync i (b ∷ bytes) = ap suc (flags_length sync (i + 1) bytes)
 
@@ -61,11 +61,11 @@ joined_length (a ∷ xs) [] cs (d ∷ ds) e f g = absurd (omega (arith, f))
 joined_length (a ∷ xs) (b ∷ bs) [] (d ∷ ds) e f g = absurd (omega (arith, g))
 joined_length (a ∷ xs) (b ∷ bs) (c ∷ cs) (d ∷ ds) e f g = ap suc (joined_length xs bs cs ds (omega (arith, e)) (omega (arith, f)) (omega (arith, g)))
 
-offsets_length : (n : ℕ) (o : Option (List (ℕ × ℤ))) → unwrap_or (option_map (λ rs. eqb (total rs) n) o) true ≡ true → length (unwrap_or (option_map repeated o) (replicate n (pos 0))) ≡ n
+pub offsets_length : (n : ℕ) (o : Option (List (ℕ × ℤ))) → unwrap_or (option_map (λ rs. eqb (total rs) n) o) true ≡ true → length (unwrap_or (option_map repeated o) (replicate n (pos 0))) ≡ n
 offsets_length n None e = length-replicate n (pos 0)
 offsets_length n (Some rs) e = repeated_length rs ∙ eqb_is (total rs) n e
 
-bytes_length : (n : ℕ) (o : Option (List ℕ)) → unwrap_or (option_map (λ bytes. leb n (length bytes)) o) true ≡ true → length (unwrap_or (option_map (take n) o) (replicate n 0)) ≡ n
+pub bytes_length : (n : ℕ) (o : Option (List ℕ)) → unwrap_or (option_map (λ bytes. leb n (length bytes)) o) true ≡ true → length (unwrap_or (option_map (take n) o) (replicate n 0)) ≡ n
 bytes_length n None e = length-replicate n 0
 bytes_length n (Some bytes) e = let h : n ≤ length bytes = leb_is n (length bytes) e in omega (arith, length-take n bytes)
 

@@ -1,4 +1,14 @@
 pub mod Counts
+pub mod RowLists
+pub mod PlaceLists
+pub mod IndexLists
+pub mod SampleLists
+pub mod GroupLists
+pub mod KeyLists
+pub mod SyncLists
+pub mod SpotLists
+pub mod ChunkLists
+pub mod RunLists
 pub mod NamedKeys
 pub mod GroupMaps
 pub mod Placed

@@ -1,5 +1,11 @@
 pub mod Repeated
 pub mod Groups
 pub mod Tables
+pub mod Keys
+pub mod Rows
 pub mod PlainSamples
 pub mod TableRules
+pub mod Coming
+pub mod Timed
+pub mod Accepted
+pub mod Views

@@ -1,0 +1,119 @@
+-- A piece that is fed one sample at a time.
+use Rattle.std.proofs.Common.{◌≡◌, ℕ, zero, suc, ◌+◌, ◌*◌, ◌<◌, ◌≤◌, ◌^◌, List, [], ◌∷◌, length, take, drop, Bool, true, false, cond, if◌then◌else◌, refl, ap, sym, subst, ◌∙◌, arith}
+use Rattle.std.specs.Prelude.{Option, Some, None, slice_get, slice_index_or, ◌==◌}
+use Rattle.std.specs.List.{prefix_len}
+use Rattle.mp4_tables.specs.declared.sample.SampleAt.{SampleAt}
+use Rattle.mp4_plan.specs.Ends.{goes_in}
+use Rattle.mp4_plan.specs.declared.gathered.Gathered.{Gathered}
+use Rattle.mp4_plan.specs.declared.gathered.GroupRuns.{GroupRuns}
+use Rattle.mp4_plan.specs.Gathering.{runs_first, runs_more, gathered_first, gathered_more, gather, gather_all, Planning, description_in, more_of, piece_fed, samples_after, IsBounded, runs_at, index_of, count_of}
+
+-- ---- sums and rows stay small
+
+first_row : (index n : ℕ) → 1 ≤ n → (runs_first index).rows ≤ n
+first_row index n le = le
+
+more_rows : (runs : GroupRuns) (index n : ℕ) → runs.rows ≤ n → (runs_more runs index).rows ≤ n + 1
+more_rows runs index n le = by (runs.last == index)
+  where
+    by : (v : Bool) → cond v runs.rows (runs.rows + 1) ≤ n + 1
+    by true = omega arith
+    by false = omega arith
+
+four : (P : GroupRuns → Type 0) (a b c d none : GroupRuns) → P a → P b → P c → P d → P none → (j : ℕ) → P (slice_index_or (a ∷ b ∷ c ∷ d ∷ []) j none)
+four P a b c d none pa pb pc pd p zero = pa
+four P a b c d none pa pb pc pd p (suc zero) = pb
+four P a b c d none pa pb pc pd p (suc (suc zero)) = pc
+four P a b c d none pa pb pc pd p (suc (suc (suc zero))) = pd
+four P a b c d none pa pb pc pd p (suc (suc (suc (suc j)))) = p
+
+-- one sample
+pub bounded_first : (s : SampleAt) → s.size < 2 ^ 32 → IsBounded (gathered_first s)
+bounded_first s lt = record {
+  bytes = omega arith;
+  rows = four (λ (r : GroupRuns). r.rows ≤ 1) _ _ _ _ _ (omega arith) (omega arith) (omega arith) (omega arith) (omega arith);
+}
+
+-- one more
+pub bounded_more : (g : Gathered) (s : SampleAt) → s.size < 2 ^ 32 → IsBounded g → IsBounded (gathered_more g s)
+bounded_more g s lt b =
+    let m = b.bytes in
+    record {
+      bytes = omega arith;
+      rows = four (λ (r : GroupRuns). r.rows ≤ g.count + 1) _ _ _ _ _ (more_rows (runs_at g 0) (index_of s 0) g.count (b.rows 0)) (more_rows (runs_at g 1) (index_of s 1) g.count (b.rows 1)) (more_rows (runs_at g 2) (index_of s 2) g.count (b.rows 2)) (more_rows (runs_at g 3) (index_of s 3) g.count (b.rows 3)) (omega arith);
+    }
+
+-- ---- one sample after the other
+
+-- the first of a list, where there is one
+pub first_is : (xs : List SampleAt) (s : SampleAt) → Some s ≡ slice_get xs 0 → xs ≡ s ∷ drop 1 xs
+first_is [] s e = cc
+first_is (x ∷ xs) s e = let same : s ≡ x = cc in ap (λ y. y ∷ xs) (sym same)
+
+pub none_is : (xs : List SampleAt) → None ≡ slice_get xs 0 → xs ≡ []
+none_is [] e = refl
+none_is (x ∷ xs) e = cc
+
+same_description : (g : Option Gathered) (s : SampleAt) (ss : List SampleAt) → description_in g (s ∷ ss) ≡ description_in g (s ∷ [])
+same_description None s ss = refl
+same_description (Some g) s ss = refl
+
+kept_description : (g : Option Gathered) (s : SampleAt) (ss : List SampleAt) → description_in (gather g s) ss ≡ description_in g (s ∷ [])
+kept_description None s ss = refl
+kept_description (Some g) s ss = refl
+
+abbrev with_sample : Planning → SampleAt → Planning
+with_sample p s = record { end = p.end; gathered = gather p.gathered s }
+
+-- a sample that goes in
+pub more_of_yes : (p : Planning) (s : SampleAt) (ss : List SampleAt) → goes_in p.end (description_in p.gathered (s ∷ [])) s ≡ true → more_of p (s ∷ ss) ≡ suc (more_of (with_sample p s) ss)
+unfolding more_of
+more_of_yes p s ss goes =
+    ap (λ d. prefix_len (goes_in p.end d) (s ∷ ss)) (same_description p.gathered s ss)
+    ∙ ap (λ b. cond b (1 + prefix_len (goes_in p.end (description_in p.gathered (s ∷ []))) ss) 0) goes
+    ∙ ap (λ d. 1 + prefix_len (goes_in p.end d) ss) (sym (kept_description p.gathered s ss))
+    ∙ omega arith
+
+-- a sample that doesn't
+pub more_of_no : (p : Planning) (s : SampleAt) (ss : List SampleAt) → goes_in p.end (description_in p.gathered (s ∷ [])) s ≡ false → more_of p (s ∷ ss) ≡ 0
+unfolding more_of
+more_of_no p s ss stops =
+    ap (λ d. prefix_len (goes_in p.end d) (s ∷ ss)) (same_description p.gathered s ss)
+    ∙ ap (λ b. cond b (1 + prefix_len (goes_in p.end (description_in p.gathered (s ∷ []))) ss) 0) stops
+
+pub more_of-nil : (p : Planning) → more_of p [] ≡ 0
+unfolding more_of
+more_of-nil p = refl
+
+pub fed_more : (p q : Planning) (s : SampleAt) (xs : List SampleAt) → Some s ≡ slice_get xs 0 → q ≡ with_sample p s → goes_in p.end (description_in p.gathered (s ∷ [])) s ≡ true → piece_fed q (drop 1 xs) ≡ piece_fed p xs
+fed_more p q s xs first is goes =
+    let e = first_is xs s first in
+    let n = more_of_yes p s (drop 1 xs) goes in
+    ap (λ r. piece_fed r (drop 1 xs)) is ∙ sym (ap (piece_fed p) e ∙ ap (λ k. let r : Planning = record { end = p.end; gathered = gather_all p.gathered (take k (s ∷ drop 1 xs)) } in r) n)
+
+pub after_more : (p q : Planning) (s : SampleAt) (xs : List SampleAt) → Some s ≡ slice_get xs 0 → q ≡ with_sample p s → goes_in p.end (description_in p.gathered (s ∷ [])) s ≡ true → samples_after q (drop 1 xs) ≡ samples_after p xs
+after_more p q s xs first is goes =
+    let e = first_is xs s first in
+    let n = more_of_yes p s (drop 1 xs) goes in
+    ap (λ r. samples_after r (drop 1 xs)) is ∙ sym (ap (samples_after p) e ∙ ap (λ k. drop k (s ∷ drop 1 xs)) n)
+
+-- nothing goes in
+pub fed_none : (p : Planning) (xs : List SampleAt) → more_of p xs ≡ 0 → piece_fed p xs ≡ p
+fed_none p xs e = ap (λ k. let r : Planning = record { end = p.end; gathered = gather_all p.gathered (take k xs) } in r) e
+
+pub after_none : (p : Planning) (xs : List SampleAt) → more_of p xs ≡ 0 → samples_after p xs ≡ xs
+after_none p xs e = ap (λ k. drop k xs) e
+
+pub closed : (p : Planning) (s : SampleAt) (xs : List SampleAt) → Some s ≡ slice_get xs 0 → goes_in p.end (description_in p.gathered (s ∷ [])) s ≡ false → more_of p xs ≡ 0
+closed p s xs first stops = ap (more_of p) (first_is xs s first) ∙ more_of_no p s (drop 1 xs) stops
+
+one_counted : (g : Option Gathered) (s : SampleAt) → count_of (gather g s) ≡ count_of g + 1
+one_counted None s = refl
+one_counted (Some g) s = refl
+
+pub count_with : (p q : Planning) (s : SampleAt) → q ≡ with_sample p s → count_of q.gathered ≡ count_of p.gathered + 1
+count_with p q s e = ap (λ (r : Planning). count_of r.gathered) e ∙ one_counted p.gathered s
+
+pub length_rest : (xs ys : List SampleAt) (s : SampleAt) → Some s ≡ slice_get xs 0 → ys ≡ drop 1 xs → length xs ≡ length ys + 1
+length_rest [] ys s first e = cc
+length_rest (x ∷ xs) ys s first e = let same : length ys ≡ length xs = ap length e in omega arith

@@ -1,0 +1,49 @@
+//! The ends of pieces.
+ghost use Rattle.std.specs.Prelude.{◌≡◌};
+ghost use Rattle.mp4_plan.specs.Ends.{has_ended};
+
+use mp4_tables::SampleAt;
+
+/// Where a piece ends.
+#[derive(Clone, Copy, Debug, PartialEq, Eq)]
+pub enum End {
+    /// In the first track: at a sync sample at least one second, `scale`, behind `from`.
+    Sync {
+        from: u64,
+        scale: u32,
+    },
+    /// In another track: at a sample with `dts * first >= cut * scale`, the decode time of the next cut in the first
+    /// track's timescale; never where there is no cut.
+    Before {
+        cut: Option<u64>,
+        first: u32,
+        scale: u32,
+    },
+}
+
+/// Whether a piece may go on.
+#[derive(Clone, Copy, Debug, PartialEq, Eq)]
+pub enum Fed {
+    /// The samples are used up, and the piece may go on.
+    More,
+    /// The piece has ended; the next sample is not taken.
+    Closed,
+}
+
+/// Whether a piece with this end has ended where the sample comes.
+pub(crate) fn has_ended(end: &End, sample: &SampleAt) -> bool
+    ensures { result ≡ has_ended end.now sample.now }
+{
+    match *end {
+        End::Sync { from, scale } => {
+            sample.flags / 0x1_0000 % 2 == 0
+                && u128::from(from) + u128::from(scale) <= u128::from(sample.dts)
+        }
+        End::Before { cut: None, .. } => false,
+        End::Before {
+            cut: Some(cut),
+            first,
+            scale,
+        } => u128::from(cut) * u128::from(scale) <= u128::from(sample.dts) * u128::from(first),
+    }
+}

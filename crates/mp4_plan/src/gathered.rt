@@ -1,0 +1,127 @@
+//! What is known of the samples of a piece, gathered one sample at a time.
+ghost use Rattle.std.specs.Prelude.{◌≡◌, ◌+◌, ◌^◌, ◌<◌};
+ghost use Rattle.mp4_plan.specs.Gathering.{common_more, runs_first, runs_more, gathered_first, gathered_more, IsBounded};
+
+use mp4_tables::SampleAt;
+
+/// The rows that the indexes at one key make so far.
+#[derive(Clone, Copy, Debug, PartialEq, Eq)]
+pub struct GroupRuns {
+    /// The index of the last sample.
+    pub last: u16,
+    /// The number of longest runs of equal indexes.
+    pub rows: u32,
+    /// Whether some index is not 0.
+    pub is_used: bool,
+}
+
+/// What is known of some samples: at least one.
+#[derive(Clone, Copy, Debug, PartialEq, Eq)]
+pub struct Gathered {
+    /// The description index of all.
+    pub description: u32,
+    pub count: u32,
+    /// The sum of their sizes.
+    pub bytes: u64,
+    /// The duration that all have, if they have one.
+    pub duration: Option<u32>,
+    /// The size that all have, if they have one.
+    pub size: Option<u32>,
+    /// The flags that all have, if they have the same.
+    pub flags: Option<u32>,
+    /// Whether some composition offset is not 0.
+    pub has_offsets: bool,
+    /// At each key of the track.
+    pub groups: [GroupRuns; 4],
+}
+
+impl GroupRuns {
+    ghost use Rattle.mp4_plan.specs.Gathering.{used_rows};
+
+    /// The number of rows, 0 where all indexes are 0.
+    pub(crate) fn used_rows(&self) -> u32
+        ensures { result ≡ used_rows self.now }
+    {
+        if self.is_used { self.rows } else { 0 }
+    }
+}
+
+fn common_more(common: Option<u32>, number: u32) -> Option<u32>
+    ensures { result ≡ common_more common number }
+{
+    match common {
+        Some(shared) if shared == number => common,
+        _ => None,
+    }
+}
+
+fn runs_first(index: u16) -> GroupRuns
+    ensures { result ≡ runs_first index }
+{
+    GroupRuns {
+        last: index,
+        rows: 1,
+        is_used: index != 0,
+    }
+}
+
+fn runs_more(runs: GroupRuns, index: u16) -> GroupRuns
+    requires { runs.rows + 1 < 2 ^ 32 }
+    ensures { result ≡ runs_more runs index }
+{
+    let rows = if runs.last == index {
+        runs.rows
+    } else {
+        runs.rows + 1
+    };
+    GroupRuns {
+        last: index,
+        rows,
+        is_used: runs.is_used || index != 0,
+    }
+}
+
+/// What is known of one sample.
+pub(crate) fn gathered_first(sample: &SampleAt) -> Gathered
+    ensures { result ≡ gathered_first sample.now }
+{
+    Gathered {
+        description: sample.description,
+        count: 1,
+        bytes: u64::from(sample.size),
+        duration: Some(sample.duration),
+        size: Some(sample.size),
+        flags: Some(sample.flags),
+        has_offsets: sample.cto.cast_unsigned() != 0,
+        groups: [
+            runs_first(sample.groups[0]),
+            runs_first(sample.groups[1]),
+            runs_first(sample.groups[2]),
+            runs_first(sample.groups[3]),
+        ],
+    }
+}
+
+/// What is known with one more sample.
+pub(crate) fn gathered_more(gathered: &Gathered, sample: &SampleAt) -> Gathered
+    requires bounded { IsBounded gathered.now }
+    requires room { gathered.now.count + 1 < 2 ^ 32 }
+    ensures { result ≡ gathered_more gathered.now sample.now }
+{
+    let groups = gathered.groups;
+    Gathered {
+        description: gathered.description,
+        count: gathered.count + 1,
+        bytes: gathered.bytes + u64::from(sample.size),
+        duration: common_more(gathered.duration, sample.duration),
+        size: common_more(gathered.size, sample.size),
+        flags: common_more(gathered.flags, sample.flags),
+        has_offsets: gathered.has_offsets || sample.cto.cast_unsigned() != 0,
+        groups: [
+            runs_more(groups[0], sample.groups[0]),
+            runs_more(groups[1], sample.groups[1]),
+            runs_more(groups[2], sample.groups[2]),
+            runs_more(groups[3], sample.groups[3]),
+        ],
+    }
+}

@@ -1,0 +1,34 @@
+use Rattle.std.proofs.Common.{arith, ap, ◌+◌, drop}
+use Rattle.mp4_tables.specs.Rows.{chunk_rows_at, offsets_at}
+use Rattle.mp4_tables.specs.PlainSamples.{in_chunks_total}
+use Rattle.mp4_tables.specs.declared.places.RowPlace.{RowPlace}
+use Rattle.mp4_tables.proofs.ChunkLists.{row_before, samples_more, passed_by}
+use Rattle.mp4_tables.proofs.chunks.chunk_counts_are.Goals as goal
+
+pub loop-opened-init : goal.loop-opened-init
+loop-opened-init g c = record {
+  whole = omega arith;
+  few = omega arith;
+  row = row_before _ _ _ c.requires.ordered c.no_row-place.ensures;
+  within = (let none = ap (λ (p : RowPlace). p.row) c.no_row-place.ensures in omega arith);
+  cost = omega arith
+  }
+
+pub returns-then-total-from-clause-same : goal.returns-then-total-from-clause-same
+returns-then-total-from-clause-same g c =
+    let rows = chunk_rows_at c.args.payload.now c.args.rows in
+    let more = samples_more c.args.payload.now c.args.chunks rows c.loop-opened.opened c.next_row-place.result c.loop-opened-test.true c.next_row-place.ensures.at in
+    let whole = c.loop-opened.invariant.whole in
+    passed_by (in_chunks_total rows 1 (offsets_at c.args.payload.now c.args.chunks)) c.args.n (c.loop-opened.total + c.next_row-place.result.samples)
+    (in_chunks_total rows (c.loop-opened.opened + 1 + 1) (drop (c.loop-opened.opened + 1) (offsets_at c.args.payload.now c.args.chunks))) (omega arith) (omega arith)
+
+pub loop-opened-preserved : goal.loop-opened-preserved
+loop-opened-preserved g c =
+    let more = samples_more c.args.payload.now c.args.chunks (chunk_rows_at c.args.payload.now c.args.rows) c.loop-opened.opened c.next_row-place.result c.loop-opened-test.true c.next_row-place.ensures.at in
+    record {
+      whole = omega arith;
+      few = omega arith;
+      row = λ _. c.next_row-place.ensures.at;
+      within = c.next_row-place.ensures.within;
+      cost = omega arith
+    }

@@ -1,0 +1,214 @@
+//! Chunks: which row of `stsc` each has and where its samples lie (ISO/IEC 14496-12, 8.7.4, 8.7.5).
+ghost use Rattle.std.specs.Prelude.{◌≡◌, ℕ, List, ◌+◌, ◌*◌, ◌^◌, ◌<◌, ◌≤◌, ◌∷◌, ◌==◌, drop, map, length, nat_lt, nat_eq, ◌||◌, true};
+ghost use Rattle.mp4_tables.specs.Rows.{HaveRoom, HaveSizes, chunk_rows_at, offsets_at, offset_width};
+ghost use Rattle.mp4_tables.specs.PlainSamples.{in_chunks, in_chunks_total};
+ghost use Rattle.mp4_tables.specs.TableRules.{is_chunk_order, is_index};
+ghost use Rattle.mp4_tables.specs.Coming.{IsRowPlace, spots_coming, no_spots, next_spot, IsChunkPlace};
+ghost use Rattle.mp4_tables.specs.Coming.{are_described as described_from};
+
+use crate::places::{ChunkPlace, ChunksAt, RowPlace, RowsAt};
+use crate::rows::{chunk_row_at, offset_at};
+use mp4_boxes::Steps;
+use std::sync::ledger::Ledger;
+
+// Before the first row.
+#[inline]
+pub(crate) fn no_row() -> RowPlace
+    ensures { result ≡ record { row = 0; samples = 0; description = 0 } }
+{
+    RowPlace {
+        row: 0,
+        samples: 0,
+        description: 0,
+    }
+}
+
+// Goes on to the row of the next chunk, where `opened` chunks were opened.
+#[inline]
+pub(crate) fn next_row(payload: &[u8], rows: RowsAt, opened: u32, place: RowPlace) -> RowPlace
+    requires room { HaveRoom 12 payload.now rows }
+    requires at { IsRowPlace (chunk_rows_at payload.now rows) opened place }
+    requires within { place.row ≤ rows.count }
+    ensures at { IsRowPlace (chunk_rows_at payload.now rows) (opened + 1) result }
+    ensures within { result.row ≤ rows.count }
+    ensures on { place.row ≤ result.row }
+{
+    if place.row < rows.count {
+        let row = chunk_row_at(payload, rows, place.row);
+        if u64::from(row.first) <= u64::from(opened) + 1 {
+            return RowPlace {
+                row: place.row + 1,
+                samples: row.count,
+                description: row.description,
+            };
+        }
+    }
+    place
+}
+
+#[tactic(auto, using(crate::proofs::ChunkLists::rising))]
+// Whether the rows are in order: the first begins at chunk 1, if there are chunks, and each later one behind the
+// one before.
+pub(crate) fn are_ordered<L: Ledger>(payload: &[u8], rows: RowsAt, has_chunks: bool, steps: &mut Steps<L>) -> bool
+    requires { HaveRoom 12 payload.now rows }
+    ensures same { result ≡ is_chunk_order (map (λ row. row.first) (chunk_rows_at payload.now rows)) has_chunks }
+    ensures cost { steps.new ≤ steps.old + rows.count }
+{
+    if rows.count == 0 {
+        return !has_chunks;
+    }
+    steps.tick();
+    let mut last = chunk_row_at(payload, rows, 0).first;
+    if has_chunks && last != 1 {
+        return false;
+    }
+    for k in 1..rows.count {
+        steps.tick();
+        let first = chunk_row_at(payload, rows, k).first;
+        if first <= last {
+            return false;
+        }
+        last = first;
+    }
+    true
+}
+
+#[tactic(auto, using(crate::proofs::ChunkLists::chunk_samples))]
+// Whether the chunks hold `n` samples.
+pub(crate) fn chunk_counts_are<L: Ledger>(
+    payload: &[u8],
+    rows: RowsAt,
+    chunks: ChunksAt,
+    n: u32,
+    steps: &mut Steps<L>,
+) -> bool
+    requires room { HaveRoom 12 payload.now rows }
+    requires offsets { HaveRoom (offset_width chunks.is_wide) payload.now chunks.rows }
+    requires ordered { is_chunk_order (map (λ row. row.first) (chunk_rows_at payload.now rows)) (nat_lt 0 chunks.rows.count) ≡ true }
+    ensures same { result ≡ (in_chunks_total (chunk_rows_at payload.now rows) 1 (offsets_at payload.now chunks) == n) }
+    ensures cost { steps.new ≤ steps.old + 2 * chunks.rows.count }
+{
+    let mut place = no_row();
+    let mut total: u64 = 0;
+    for opened in 0..chunks.rows.count {
+        steps.add(2);
+        place = next_row(payload, rows, opened, place);
+        total += u64::from(place.samples);
+        if total > u64::from(n) {
+            return false;
+        }
+    }
+    total == u64::from(n)
+}
+
+// Whether the chunk holds no samples, or its description is one of so many.
+fn has_description(place: RowPlace, descriptions: u32) -> bool
+    ensures { result ≡ (nat_eq place.samples 0 || is_index descriptions place.description) }
+{
+    place.samples == 0 || (1 <= place.description && place.description <= descriptions)
+}
+
+// Whether the description of each chunk that holds samples is one of so many.
+pub(crate) fn are_described<L: Ledger>(
+    payload: &[u8],
+    rows: RowsAt,
+    chunks: ChunksAt,
+    descriptions: u32,
+    steps: &mut Steps<L>,
+) -> bool
+    requires room { HaveRoom 12 payload.now rows }
+    requires offsets { HaveRoom (offset_width chunks.is_wide) payload.now chunks.rows }
+    requires ordered { is_chunk_order (map (λ row. row.first) (chunk_rows_at payload.now rows)) (nat_lt 0 chunks.rows.count) ≡ true }
+    ensures same { result ≡ described_from descriptions (chunk_rows_at payload.now rows) 1 (offsets_at payload.now chunks) }
+    ensures cost { steps.new ≤ steps.old + 2 * chunks.rows.count }
+{
+    let mut place = no_row();
+    for opened in 0..chunks.rows.count {
+        steps.add(2);
+        place = next_row(payload, rows, opened, place);
+        if !has_description(place, descriptions) {
+            return false;
+        }
+    }
+    true
+}
+
+#[tactic(auto, using(crate::proofs::ChunkLists::opening))]
+// Opens chunks until a sample is left in one.
+#[inline]
+pub(crate) fn open_chunk(payload: &[u8], rows: RowsAt, chunks: ChunksAt, place: ChunkPlace) -> ChunkPlace
+    requires room { HaveRoom 12 payload.now rows }
+    requires offsets { HaveRoom (offset_width chunks.is_wide) payload.now chunks.rows }
+    requires at { place.opened < chunks.rows.count → IsRowPlace (chunk_rows_at payload.now rows) place.opened place.row }
+    requires opened { place.opened ≤ chunks.rows.count }
+    requires passed { place.row.row ≤ rows.count }
+    ensures same { spots_coming (chunk_rows_at payload.now rows) (offsets_at payload.now chunks) result ≡ spots_coming (chunk_rows_at payload.now rows) (offsets_at payload.now chunks) place }
+    ensures settled { result.left ≡ 0 → spots_coming (chunk_rows_at payload.now rows) (offsets_at payload.now chunks) result ≡ no_spots }
+    ensures at { result.opened < chunks.rows.count → IsRowPlace (chunk_rows_at payload.now rows) result.opened result.row }
+    ensures opened { result.opened ≤ chunks.rows.count }
+    ensures passed { result.row.row ≤ rows.count }
+    ensures on { (place.opened ≤ result.opened) × (place.row.row ≤ result.row.row) }
+{
+    let mut place = place;
+    while place.left == 0 && place.opened < chunks.rows.count {
+        let row = next_row(payload, rows, place.opened, place.row);
+        place = ChunkPlace {
+            opened: place.opened + 1,
+            row,
+            left: row.samples,
+            at: offset_at(payload, chunks, place.opened),
+        };
+    }
+    place
+}
+
+// Before the first sample.
+pub(crate) fn first_chunk(payload: &[u8], rows: RowsAt, chunks: ChunksAt) -> ChunkPlace
+    requires room { HaveRoom 12 payload.now rows }
+    requires offsets { HaveRoom (offset_width chunks.is_wide) payload.now chunks.rows }
+    requires ordered { is_chunk_order (map (λ row. row.first) (chunk_rows_at payload.now rows)) (nat_lt 0 chunks.rows.count) ≡ true }
+    ensures { (sizes : List ℕ) → IsChunkPlace (chunk_rows_at payload.now rows) (offsets_at payload.now chunks) sizes result 0 }
+{
+    open_chunk(
+        payload,
+        rows,
+        chunks,
+        ChunkPlace {
+            opened: 0,
+            row: no_row(),
+            left: 0,
+            at: 0,
+        },
+    )
+}
+
+#[tactic(auto, using(crate::proofs::ChunkLists::spots_first))]
+// Passes the next sample, which has this size.
+#[inline]
+pub(crate) fn pass_spot(payload: &[u8], rows: RowsAt, chunks: ChunksAt, place: ChunkPlace, size: u32) -> ChunkPlace
+    requires room { HaveRoom 12 payload.now rows }
+    requires offsets { HaveRoom (offset_width chunks.is_wide) payload.now chunks.rows }
+    requires at { place.opened < chunks.rows.count → IsRowPlace (chunk_rows_at payload.now rows) place.opened place.row }
+    requires opened { place.opened ≤ chunks.rows.count }
+    requires passed { place.row.row ≤ rows.count }
+    requires some { 0 < place.left }
+    requires fits { place.at + size < 2 ^ 64 }
+    ensures next { (sizes : List ℕ) → spots_coming (chunk_rows_at payload.now rows) (offsets_at payload.now chunks) place (size ∷ sizes)
+        ≡ next_spot place size ∷ spots_coming (chunk_rows_at payload.now rows) (offsets_at payload.now chunks) result sizes }
+    ensures settled { result.left ≡ 0 → spots_coming (chunk_rows_at payload.now rows) (offsets_at payload.now chunks) result ≡ no_spots }
+    ensures at { result.opened < chunks.rows.count → IsRowPlace (chunk_rows_at payload.now rows) result.opened result.row }
+    ensures opened { result.opened ≤ chunks.rows.count }
+    ensures passed { result.row.row ≤ rows.count }
+    ensures on { (place.opened ≤ result.opened) × (place.row.row ≤ result.row.row) }
+{
+    open_chunk(
+        payload,
+        rows,
+        chunks,
+        ChunkPlace {
+            left: place.left - 1,
+            at: place.at + u64::from(size),
+            ..place
+        },
+    )
+}

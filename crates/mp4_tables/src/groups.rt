@@ -1,0 +1,84 @@
+//! Sample groups: which index a sample has (ISO/IEC 14496-12, 8.9.2).
+ghost use Rattle.std.specs.Prelude.{◌≡◌, ◌+◌, ◌<◌, ◌≤◌, [], drop, slice_index};
+ghost use Rattle.mp4_tables.specs.Repeated.{repeated};
+ghost use Rattle.mp4_tables.specs.Rows.{HaveRoom, runs_at};
+ghost use Rattle.mp4_tables.specs.Coming.{coming};
+ghost use Rattle.mp4_tables.specs.Accepted.{AreGroupPlaces, HaveGroups, IsRunPlaceAt, HaveGroup};
+
+use crate::places::{GroupPlaces, GroupsAt, RowsAt, RunPlace};
+use crate::runs::{pass, settle};
+
+// Before the first sample.
+#[tactic(auto, using(crate::proofs::GroupLists::starting))]
+fn first_index(payload: &[u8], rows: RowsAt) -> RunPlace
+    requires { HaveRoom 8 payload.now rows }
+    ensures at { IsRunPlaceAt (runs_at payload.now rows) result 0 }
+{
+    settle(
+        payload,
+        rows,
+        RunPlace {
+            row: 0,
+            left: 0,
+            value: 0,
+        },
+    )
+}
+
+// Before the first sample in each `sbgp`.
+pub(crate) fn first_groups(payload: &[u8], groups: &GroupsAt) -> GroupPlaces
+    requires { HaveGroups payload.now groups.now }
+    ensures { AreGroupPlaces payload.now groups.now result 0 }
+{
+    GroupPlaces {
+        first: first_index(payload, groups.first),
+        second: first_index(payload, groups.second),
+        third: first_index(payload, groups.third),
+        fourth: first_index(payload, groups.fourth),
+    }
+}
+
+// The index in hand: 0 behind the last row.
+#[inline]
+pub(crate) fn index_here(payload: &[u8], rows: RowsAt, place: RunPlace, number: u32) -> u16
+    requires have { HaveGroup payload.now rows }
+    requires at { IsRunPlaceAt (runs_at payload.now rows) place number }
+    ensures { result ≡ slice_index (repeated (runs_at payload.now rows)) number }
+{
+    if place.left > 0 {
+        place.value as u16
+    } else {
+        0
+    }
+}
+
+// Passes a sample: behind the last row there is nothing to pass.
+#[inline]
+fn pass_index(payload: &[u8], rows: RowsAt, place: RunPlace, number: u32) -> RunPlace
+    requires have { HaveGroup payload.now rows }
+    requires at { IsRunPlaceAt (runs_at payload.now rows) place number }
+    ensures at { IsRunPlaceAt (runs_at payload.now rows) result (number + 1) }
+    ensures on { place.row ≤ result.row }
+{
+    if place.left > 0 {
+        pass(payload, rows, place)
+    } else {
+        place
+    }
+}
+
+// Passes a sample in each `sbgp`.
+#[inline]
+pub(crate) fn pass_groups(payload: &[u8], groups: &GroupsAt, places: &GroupPlaces, number: u32) -> GroupPlaces
+    requires have { HaveGroups payload.now groups.now }
+    requires at { AreGroupPlaces payload.now groups.now places.now number }
+    ensures at { AreGroupPlaces payload.now groups.now result (number + 1) }
+    ensures on { (places.now.first.row ≤ result.first.row) × (places.now.second.row ≤ result.second.row) × (places.now.third.row ≤ result.third.row) × (places.now.fourth.row ≤ result.fourth.row) }
+{
+    GroupPlaces {
+        first: pass_index(payload, groups.first, places.first, number),
+        second: pass_index(payload, groups.second, places.second, number),
+        third: pass_index(payload, groups.third, places.third, number),
+        fourth: pass_index(payload, groups.fourth, places.fourth, number),
+    }
+}

@@ -1,0 +1,91 @@
+//! Rows that repeat a value: `stts`, `ctts` and `sbgp` (ISO/IEC 14496-12, 8.6.1, 8.9.2).
+ghost use Rattle.std.specs.Prelude.{◌≡◌, ◌+◌, ◌<◌, ◌≤◌, ◌∷◌, ◌==◌, ◌↔◌, IsTrue, [], length};
+ghost use Rattle.mp4_tables.specs.Repeated.{total};
+ghost use Rattle.mp4_tables.specs.Rows.{HaveRoom, runs_at};
+ghost use Rattle.mp4_tables.specs.Coming.{coming};
+
+use crate::places::{RowsAt, RunPlace};
+use crate::rows::run_at;
+use mp4_boxes::Steps;
+use std::sync::ledger::Ledger;
+
+// Whether the counts of the rows add up to `n`.
+#[tactic(auto, using(crate::proofs::RunLists::counting))]
+pub(crate) fn counts_are<L: Ledger>(payload: &[u8], rows: RowsAt, n: u32, steps: &mut Steps<L>) -> bool
+    requires { HaveRoom 8 payload.now rows }
+    ensures same { result ≡ (total (runs_at payload.now rows) == n) }
+    ensures cost { steps.new ≤ steps.old + rows.count }
+{
+    let mut total: u64 = 0;
+    for k in 0..rows.count {
+        steps.tick();
+        total += u64::from(run_at(payload, rows, k).count);
+        if total > u64::from(n) {
+            return false;
+        }
+    }
+    total == u64::from(n)
+}
+
+// Whether the counts of the rows add up to no more than `n`.
+#[tactic(auto, using(crate::proofs::RunLists::counting))]
+pub(crate) fn counts_are_within<L: Ledger>(payload: &[u8], rows: RowsAt, n: u32, steps: &mut Steps<L>) -> bool
+    requires { HaveRoom 8 payload.now rows }
+    ensures same { IsTrue result ↔ (total (runs_at payload.now rows) ≤ n) }
+    ensures cost { steps.new ≤ steps.old + rows.count }
+{
+    let mut total: u64 = 0;
+    for k in 0..rows.count {
+        steps.tick();
+        total += u64::from(run_at(payload, rows, k).count);
+        if total > u64::from(n) {
+            return false;
+        }
+    }
+    true
+}
+
+// Passes rows until a value is left.
+#[inline]
+#[tactic(auto, using(crate::proofs::RunLists::settling))]
+pub(crate) fn settle(payload: &[u8], rows: RowsAt, place: RunPlace) -> RunPlace
+    requires room { HaveRoom 8 payload.now rows }
+    requires within { place.row ≤ rows.count }
+    ensures same { coming (runs_at payload.now rows) result ≡ coming (runs_at payload.now rows) place }
+    ensures settled { result.left ≡ 0 → coming (runs_at payload.now rows) result ≡ [] }
+    ensures within { result.row ≤ rows.count }
+    ensures on { place.row ≤ result.row }
+{
+    let mut place = place;
+    while place.left == 0 && place.row < rows.count {
+        let run = run_at(payload, rows, place.row);
+        place = RunPlace {
+            row: place.row + 1,
+            left: run.count,
+            value: run.value,
+        };
+    }
+    place
+}
+
+// Passes the value in hand.
+#[inline]
+#[tactic(auto, using(crate::proofs::RunLists::settling))]
+pub(crate) fn pass(payload: &[u8], rows: RowsAt, place: RunPlace) -> RunPlace
+    requires room { HaveRoom 8 payload.now rows }
+    requires within { place.row ≤ rows.count }
+    requires some { 0 < place.left }
+    ensures next { coming (runs_at payload.now rows) place ≡ place.value ∷ coming (runs_at payload.now rows) result }
+    ensures settled { result.left ≡ 0 → coming (runs_at payload.now rows) result ≡ [] }
+    ensures within { result.row ≤ rows.count }
+    ensures on { place.row ≤ result.row }
+{
+    settle(
+        payload,
+        rows,
+        RunPlace {
+            left: place.left - 1,
+            ..place
+        },
+    )
+}

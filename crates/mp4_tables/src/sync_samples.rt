@@ -1,0 +1,77 @@
+//! Sync samples: `stss` (ISO/IEC 14496-12, 8.6.2).
+ghost use Rattle.std.specs.Prelude.{◌≡◌, ◌+◌, ◌<◌, ◌≤◌, slice_index, Some, true};
+ghost use Rattle.mp4_tables.specs.Rows.{HaveRoom, numbers_at};
+ghost use Rattle.mp4_tables.specs.PlainSamples.{non_sync};
+ghost use Rattle.mp4_tables.specs.TableRules.{is_sync_order};
+ghost use Rattle.mp4_tables.specs.Coming.{IsSyncPlace};
+
+use crate::places::{RowsAt, SyncPlace};
+use crate::rows::number_at;
+use mp4_boxes::Steps;
+use std::sync::ledger::Ledger;
+
+// Whether the numbers rise, from 1 to `n`.
+#[tactic(auto, using(crate::proofs::SyncLists::ordering))]
+pub(crate) fn are_numbers<L: Ledger>(payload: &[u8], rows: RowsAt, n: u32, steps: &mut Steps<L>) -> bool
+    requires { HaveRoom 4 payload.now rows }
+    ensures same { result ≡ is_sync_order n (numbers_at 4 payload.now rows) }
+    ensures cost { steps.new ≤ steps.old + rows.count }
+{
+    let mut last = 0;
+    for k in 0..rows.count {
+        steps.tick();
+        let number = number_at(payload, rows, k);
+        if number <= last || number > n {
+            return false;
+        }
+        last = number;
+    }
+    true
+}
+
+// The number in a row, 0 behind the last.
+#[inline]
+#[tactic(auto, using(crate::proofs::SyncLists::numbering))]
+fn number_in(payload: &[u8], rows: RowsAt, row: u32) -> u32
+    requires { HaveRoom 4 payload.now rows }
+    ensures { result ≡ slice_index (numbers_at 4 payload.now rows) row }
+{
+    if row < rows.count {
+        number_at(payload, rows, row)
+    } else {
+        0
+    }
+}
+
+// Before the first sample.
+#[tactic(auto, using(crate::proofs::SyncLists::sync_first))]
+pub(crate) fn first_sync(payload: &[u8], rows: RowsAt, n: u32) -> SyncPlace
+    requires room { HaveRoom 4 payload.now rows }
+    requires ordered { is_sync_order n (numbers_at 4 payload.now rows) ≡ true }
+    ensures { IsSyncPlace (numbers_at 4 payload.now rows) result 1 }
+{
+    SyncPlace {
+        row: 0,
+        next: number_in(payload, rows, 0),
+    }
+}
+
+// Passes sample number `i`, from 1.
+#[inline]
+pub(crate) fn pass_sync(payload: &[u8], rows: RowsAt, place: SyncPlace, i: u32) -> SyncPlace
+    requires room { HaveRoom 4 payload.now rows }
+    requires at { IsSyncPlace (numbers_at 4 payload.now rows) place i }
+    requires some { 0 < i }
+    ensures at { IsSyncPlace (numbers_at 4 payload.now rows) result (i + 1) }
+    ensures on { place.row ≤ result.row }
+{
+    if place.row < rows.count {
+        if place.next == i {
+            return SyncPlace {
+                row: place.row + 1,
+                next: number_in(payload, rows, place.row + 1),
+            };
+        }
+    }
+    place
+}

@@ -1,0 +1,243 @@
+//! A walk over the samples of tables, from place to place.
+ghost use Rattle.std.specs.Prelude.{◌≡◌, ◌+◌, ◌*◌, ◌^◌, ◌<◌, ◌≤◌, ◌∷◌, [], drop, length, slice_index, pos, option_map, true, nat_lt, map, if◌then◌else◌};
+ghost use Rattle.byteorder.specs.Endian.{twos_complement};
+ghost use Rattle.mp4_tables.specs.Rows.{HaveRoom, numbers_at, runs_at};
+ghost use Rattle.mp4_tables.specs.Coming.{IsRunPlace, IsSyncPlace};
+ghost use Rattle.mp4_tables.specs.PlainSamples.{non_sync};
+ghost use Rattle.mp4_tables.specs.Timed.{samples_of};
+ghost use Rattle.mp4_tables.specs.Accepted.{IsAccepted, IsPlace, HaveBytes, HaveOffsets, HaveSync, IsRunPlaceAt, IsSyncPlaceIn, AreInOrder, tables_at, bytes_at, bytes_for, passed, offset_values, flags_here, indexes_here, HaveGroups, AreGroupPlaces};
+ghost use Rattle.mp4_tables.specs.Accepted.{offset_rows as rows_of_offsets};
+ghost use Rattle.mp4_tables.specs.TableRules.{is_sync_order};
+
+use crate::chunks::{first_chunk, pass_spot};
+use crate::groups::{first_groups, index_here, pass_groups};
+use crate::places::{BytesAt, GroupPlaces, GroupsAt, OffsetsAt, RowsAt, RunPlace, SyncPlace, TablePlace, TablesAt};
+use crate::runs::{pass, settle};
+use crate::sample::SampleAt;
+use crate::sizes::size_at;
+use crate::sync_samples::{first_sync, pass_sync};
+
+// The rows of offsets, none where there is no table.
+#[inline]
+fn offset_rows(offsets: Option<OffsetsAt>) -> RowsAt
+    ensures { result ≡ rows_of_offsets offsets }
+{
+    match offsets {
+        Some(at) => at.rows,
+        None => RowsAt { place: 0, count: 0 },
+    }
+}
+
+// An offset as two's complement.
+#[inline]
+fn signed(value: u32) -> i32
+    ensures { result ≡ twos_complement 4 value }
+{
+    value.cast_signed()
+}
+
+// The byte of `sdtp` of sample `i`, from 0; 0 where there is no table.
+#[inline]
+fn dependency_at(payload: &[u8], dependencies: Option<BytesAt>, i: u32) -> u32
+    requires have { HaveBytes payload.now dependencies }
+    requires inside { i < length (bytes_for (i + 1) (option_map (bytes_at payload.now) dependencies)) }
+    ensures is { result ≡ slice_index (bytes_for (i + 1) (option_map (bytes_at payload.now) dependencies)) i }
+    ensures small { result < 256 }
+{
+    match dependencies {
+        Some(at) => u32::from(payload[at.place + i as usize]),
+        None => 0,
+    }
+}
+
+// Whether sample number `i`, from 1, is no sync sample: 0 or 1.
+#[inline]
+fn non_sync_at(payload: &[u8], sync: Option<RowsAt>, place: SyncPlace, i: u32) -> u32
+    requires at { IsSyncPlaceIn payload.now sync place i }
+    requires some { 0 < i }
+    ensures is { result ≡ non_sync (option_map (numbers_at 4 payload.now) sync) i }
+    ensures small { result ≤ 1 }
+{
+    match sync {
+        Some(_) => {
+            if place.next == i {
+                0
+            } else {
+                1
+            }
+        }
+        None => 0,
+    }
+}
+
+// The flags of the sample before which the place lies.
+#[inline]
+fn flags_at(payload: &[u8], at: &TablesAt, place: &TablePlace) -> u32
+    requires ok { IsAccepted payload.now at.now }
+    requires place { IsPlace payload.now at.now place.now }
+    requires inside { place.now.number < at.now.sizes.rows.count }
+    ensures { result ≡ flags_here payload.now at.now place.now }
+{
+    let count = at.sizes.rows.count;
+    prove!(place.number < count);
+    let number = place.number + 1;
+    let dependency = dependency_at(payload, at.dependencies, place.number);
+    let non_sync = non_sync_at(payload, at.sync, place.sync, number);
+    dependency * 0x10_0000 + non_sync * 0x1_0000
+}
+
+// Its index in each `sbgp`.
+#[inline]
+fn indexes_at(payload: &[u8], groups: &GroupsAt, places: &GroupPlaces, number: u32) -> [u16; 4]
+    requires have { HaveGroups payload.now groups.now }
+    requires at { AreGroupPlaces payload.now groups.now places.now number }
+    ensures { result ≡ indexes_here payload.now groups.now number }
+{
+    [
+        index_here(payload, groups.first, places.first, number),
+        index_here(payload, groups.second, places.second, number),
+        index_here(payload, groups.third, places.third, number),
+        index_here(payload, groups.fourth, places.fourth, number),
+    ]
+}
+
+// The sample before which the place lies.
+#[inline]
+pub(crate) fn sample_here(payload: &[u8], at: &TablesAt, place: &TablePlace) -> SampleAt
+    requires ok { IsAccepted payload.now at.now }
+    requires place { IsPlace payload.now at.now place.now }
+    requires inside { place.now.number < at.now.sizes.rows.count }
+    ensures { drop place.now.number (samples_of (tables_at payload.now at.now)) ≡ result ∷ drop (place.now.number + 1) (samples_of (tables_at payload.now at.now)) }
+{
+    SampleAt {
+        dts: place.dts,
+        duration: place.duration.value,
+        cto: signed(place.offset.value),
+        flags: flags_at(payload, at, place),
+        description: place.chunk.row.description,
+        at: place.chunk.at,
+        size: size_at(payload, at.sizes, place.number),
+        groups: indexes_at(payload, &at.groups, &place.groups, place.number),
+    }
+}
+
+// Passes sample number `i`, from 1, where there is a table of sync samples.
+#[inline]
+fn pass_sync_in(payload: &[u8], sync: Option<RowsAt>, place: SyncPlace, i: u32) -> SyncPlace
+    requires have { HaveSync payload.now sync }
+    requires at { IsSyncPlaceIn payload.now sync place i }
+    requires some { 0 < i }
+    ensures at { IsSyncPlaceIn payload.now sync result (i + 1) }
+    ensures on { place.row ≤ result.row }
+{
+    match sync {
+        Some(rows) => pass_sync(payload, rows, place, i),
+        None => place,
+    }
+}
+
+// The place one sample on.
+#[inline]
+pub(crate) fn pass_place(payload: &[u8], at: &TablesAt, place: &TablePlace) -> TablePlace
+    requires ok { IsAccepted payload.now at.now }
+    requires place { IsPlace payload.now at.now place.now }
+    requires inside { place.now.number < at.now.sizes.rows.count }
+    ensures place { IsPlace payload.now at.now result }
+    ensures number { result.number ≡ place.now.number + 1 }
+    ensures on { passed place.now ≤ passed result }
+{
+    let count = at.sizes.rows.count;
+    prove!(place.number < count);
+    let number = place.number + 1;
+    let size = size_at(payload, at.sizes, place.number);
+    let duration = pass(payload, at.durations, place.duration);
+    let offset = pass(payload, offset_rows(at.offsets), place.offset);
+    let chunk = pass_spot(payload, at.chunk_rows, at.chunks, place.chunk, size);
+    let sync = pass_sync_in(payload, at.sync, place.sync, number);
+    let groups = pass_groups(payload, &at.groups, &place.groups, place.number);
+    TablePlace {
+        number,
+        dts: place.dts + u64::from(place.duration.value),
+        duration,
+        offset,
+        chunk,
+        sync,
+        groups,
+    }
+}
+
+// Before the first composition offset: one 0 for each sample where there is no table.
+#[inline]
+fn first_offset(payload: &[u8], offsets: Option<OffsetsAt>, n: u32) -> RunPlace
+    requires { HaveOffsets payload.now offsets }
+    ensures { IsRunPlace (runs_at payload.now (rows_of_offsets offsets)) result (offset_values payload.now offsets n) }
+{
+    match offsets {
+        Some(at) => settle(
+            payload,
+            at.rows,
+            RunPlace {
+                row: 0,
+                left: 0,
+                value: 0,
+            },
+        ),
+        None => RunPlace {
+            row: 0,
+            left: n,
+            value: 0,
+        },
+    }
+}
+
+// Before the first duration.
+#[tactic(auto, using(crate::proofs::GroupLists::starting))]
+fn first_duration(payload: &[u8], rows: RowsAt) -> RunPlace
+    requires { HaveRoom 8 payload.now rows }
+    ensures { IsRunPlaceAt (runs_at payload.now rows) result 0 }
+{
+    settle(
+        payload,
+        rows,
+        RunPlace {
+            row: 0,
+            left: 0,
+            value: 0,
+        },
+    )
+}
+
+// Before the first sync sample, where there is a table of them.
+fn first_sync_in(payload: &[u8], sync: Option<RowsAt>, n: u32) -> SyncPlace
+    requires have { HaveSync payload.now sync }
+    requires ordered { AreInOrder payload.now sync n }
+    ensures { IsSyncPlaceIn payload.now sync result 1 }
+{
+    match sync {
+        Some(rows) => first_sync(payload, rows, n),
+        None => SyncPlace { row: 0, next: 0 },
+    }
+}
+
+// The place before the first sample.
+pub(crate) fn first_place(payload: &[u8], at: &TablesAt) -> TablePlace
+    requires { IsAccepted payload.now at.now }
+    ensures place { IsPlace payload.now at.now result }
+    ensures number { result.number ≡ 0 }
+{
+    let count = at.sizes.rows.count;
+    let duration = first_duration(payload, at.durations);
+    let offset = first_offset(payload, at.offsets, count);
+    let chunk = first_chunk(payload, at.chunk_rows, at.chunks);
+    let sync = first_sync_in(payload, at.sync, count);
+    let groups = first_groups(payload, &at.groups);
+    TablePlace {
+        number: 0,
+        dts: 0,
+        duration,
+        offset,
+        chunk,
+        sync,
+        groups,
+    }
+}
