@@ -10,6 +10,7 @@ pub mod WrittenBoxes
 pub mod Members
 pub mod Columns
 pub mod Among
+pub mod Each
 pub mod Joined
 pub mod Refusing
 pub mod OfBytes

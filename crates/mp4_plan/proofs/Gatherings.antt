@@ -1,6 +1,6 @@
 -- What is gathered of samples is what they have.
-use Rattle.std.proofs.Common.{◌≡◌, ℕ, zero, suc, ◌+◌, ◌<◌, ◌≤◌, List, [], ◌∷◌, ◌++◌, length, Bool, true, false, cond, if◌then◌else◌, refl, ap, sym, subst, ◌∙◌, arith, append_assoc, length-append, eqb}
-use Rattle.std.specs.Prelude.{Option, Some, None, map, not, ◌||◌, ◌&&◌, ◌==◌, nat_eq, slice_index_or}
+use Rattle.std.proofs.Common.{◌≡◌, ℕ, zero, suc, ◌+◌, ◌<◌, List, [], ◌∷◌, ◌++◌, length, Bool, true, false, cond, if◌then◌else◌, refl, ap, sym, subst, ◌∙◌, arith, append_assoc, length-append}
+use Rattle.std.specs.Prelude.{Option, Some, None, map, not, ◌||◌, ◌&&◌, ◌==◌, nat_eq}
 use Rattle.std.specs.List.{list_all}
 use Rattle.std.proofs.lemmas.List.{append-nil}
 use Rattle.mp4_boxes.specs.Bytes.{sum_of, unsigned}

@@ -1,5 +1,5 @@
 -- What is gathered of the samples of a piece, in the words of the normal form.
-use Rattle.std.specs.Prelude.{◌≡◌, ℕ, ◌<◌, ◌==◌, Bool, not, List, [], ◌∷◌, ◌++◌, length, map, Option, Some, None}
+use Rattle.std.specs.Prelude.{◌≡◌, ℕ, ◌<◌, ◌==◌, not, List, ◌∷◌, length, map, Some, None}
 use Rattle.std.specs.List.{list_all}
 use Rattle.mp4_boxes.specs.Bytes.{sum_of, unsigned}
 use Rattle.mp4_tables.specs.declared.sample.SampleAt.{SampleAt}
