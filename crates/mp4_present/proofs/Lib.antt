@@ -20,3 +20,4 @@ pub mod ValidSamples
 pub mod DenotedValid
 pub mod Vectors
 pub mod TopLevel
+pub mod Outlines

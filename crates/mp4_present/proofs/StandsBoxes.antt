@@ -2,7 +2,6 @@
 use Rattle.std.proofs.Common.{lit≤, inl, inr}
 use Rattle.std.specs.Prelude.{ℕ, List, [], ◌∷◌, codes, refl}
 use Rattle.mp4_boxes.proofs.Vectors.{hex, part}
-use Rattle.mp4_boxes.specs.Children.{one, chunk_offsets}
 use Rattle.mp4_boxes.specs.Layout.{mvhd, ctts, trun, dref, data_entry_url}
 use Rattle.mp4_boxes.specs.Places.{data_entries, whole}
 use Rattle.mp4_boxes.specs.declared.fault.Kind.TheVariants as kinds

@@ -5,7 +5,6 @@ use Rattle.mp4_boxes.proofs.Vectors.{v1, hex, part}
 use Rattle.mp4_boxes.specs.Places.{ruled, whole}
 use Rattle.mp4_boxes.specs.Layout.{mvhd, sgpd, stz2}
 use Rattle.mp4_boxes.specs.Box.{Box}
-use Rattle.mp4_boxes.specs.Children.{one}
 use Rattle.mp4_boxes.specs.declared.fault.Kind.TheVariants as kinds
 use Rattle.mp4_boxes.specs.declared.rule.Rule.TheVariants as rules
 use Rattle.mp4_tables.specs.Tables.{tables_of}

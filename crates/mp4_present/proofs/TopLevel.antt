@@ -2,7 +2,7 @@
 use Rattle.std.proofs.Common.{◌≡◌, ℕ, ◌+◌, ◌-◌, ◌<◌, ◌≤◌, true, List, [], ◌∷◌, ◌++◌, length, take, drop, Ok, Err, refl, sym, ap, subst, ◌∙◌, arith, length-drop}
 use Rattle.std.specs.Prelude.{codes, min, Result}
 use Rattle.std.proofs.lemmas.List.{drop-drop}
-use Rattle.mp4_boxes.specs.Box.{Box, Header, header_at, box_of, size, sizes, LieEndToEnd, file_container, Tiles}
+use Rattle.mp4_boxes.specs.Box.{Box, Header, header_at, box_of, sizes, LieEndToEnd, file_container, Tiles}
 use Rattle.mp4_boxes.specs.BoxFaults.{IsHeaderFault, header_there, type_of, unreadable}
 use Rattle.mp4_boxes.specs.View.{top_header_seen}
 use Rattle.mp4_boxes.specs.declared.headers.TopHeader.{TopHeader}

@@ -7,6 +7,14 @@ use mp4_boxes::{Refusal, TopHeader, top_header};
 use mp4_store::Store;
 use std::alloc::Global;
 
+/// A box of the file itself.
+#[derive(Clone, Copy, Debug, PartialEq, Eq)]
+pub struct TopBox {
+    /// The place of its first byte.
+    pub offset: u64,
+    pub header: TopHeader,
+}
+
 /// The top-level header at the place `at` of the file, by one read of 16 bytes, or of all that are left.
 pub fn read_top_header<S: Store>(store: &mut S, at: u64) -> Result<TopHeader, Refusal>
     requires { at < length (S.file store.old) }

@@ -1,12 +1,10 @@
 -- Laws of the lists of boxes: where a header that is looked at is at fault there is no list, and six levels are enough.
-use Rattle.std.proofs.Common.{◌≡◌, ℕ, zero, suc, ◌+◌, ◌-◌, ◌<◌, ◌≤◌, Bool, true, false, List, [], ◌∷◌, ◌++◌, Option, Some, None, refl, sym, ap, subst, ◌∙◌, arith}
+use Rattle.std.proofs.Common.{◌≡◌, ℕ, zero, suc, ◌+◌, ◌≤◌, List, [], ◌∷◌, Option, Some, None, refl, sym, ap, subst, ◌∙◌, arith}
 use Rattle.std.specs.Prelude.{option_map}
-use Rattle.std.specs.List.{AllZip}
-use Rattle.mp4_boxes.specs.Box.{Box, Container, Tiles, box_container, counted_container, StandsAfter}
+use Rattle.mp4_boxes.specs.Box.{Box, Container, box_container, counted_container}
 use Rattle.mp4_boxes.specs.BoxFaults.{IsHeaderFault}
-use Rattle.mp4_boxes.specs.Places.{Place, Scope, ruled, data_entries, sample_entries, containers, at_kind, inside, as_container, Leads}
+use Rattle.mp4_boxes.specs.Places.{Place, Scope, ruled, data_entries, sample_entries, containers, at_kind, as_container, Leads}
 use Rattle.mp4_boxes.specs.declared.rule.Rule.{Rule}
-use Rattle.mp4_boxes.specs.declared.rule.Rule.TheVariants.{File}
 use Rattle.mp4_boxes.specs.declared.fault.Fault.{Fault}
 use Rattle.mp4_boxes.proofs.Tiling.{header_fault_refuses}
 use Rattle.mp4_boxes.proofs.Among.{in_zip}

@@ -3,9 +3,9 @@ use Rattle.std.proofs.Common.{◌≡◌, ℕ, zero, suc, ◌+◌, ◌-◌, ◌<�
 use Rattle.std.specs.Prelude.{option_map, length, take, drop, IsTrue, Result, Ok, Err, IfErr}
 use Rattle.std.specs.List.{AllZip, concat}
 use Rattle.std.proofs.lemmas.List.{append-nil, drop_more}
-use Rattle.mp4_boxes.specs.Box.{Box, Container, Tiles, LieEndToEnd, may_be_open, size, box_container, bytes_container, file_container, IsCounted, Extent, to_end_of_file, to_end_of_box, counted, StandsAfter, IsFront}
+use Rattle.mp4_boxes.specs.Box.{Box, Container, Tiles, LieEndToEnd, may_be_open, size, box_container, bytes_container, file_container, IsCounted, StandsAfter}
 use Rattle.mp4_boxes.specs.BoxFaults.{IsHeaderFault}
-use Rattle.mp4_boxes.specs.Places.{Place, Scope, ruled, data_entries, sample_entries, containers, at_kind, inside, as_container}
+use Rattle.mp4_boxes.specs.Places.{Scope, ruled, data_entries, sample_entries, containers, at_kind, inside, as_container}
 use Rattle.mp4_boxes.specs.declared.rule.Rule.{Rule}
 use Rattle.mp4_boxes.specs.declared.rule.Rule.TheVariants.{File, Movie, Track, Edits, Media, MediaInformation, DataInformation, SampleTable, MovieExtends, MovieFragment, TrackFragment}
 use Rattle.mp4_boxes.specs.declared.fault.Fault.{Fault}
@@ -15,7 +15,7 @@ use Rattle.mp4norm.specs.Texts.{descends, IsPart, AreBoxLines, box_line}
 use Rattle.mp4_store.specs.Device.{range}
 use Rattle.mp4_present.specs.Reading.{RefusesHeader}
 use Rattle.mp4_present.proofs.TopLevel.{TopPassed, top_fault}
-use Rattle.mp4norm.specs.declared.boxes.TopBox.{TopBox}
+use Rattle.mp4_present.specs.declared.reading.TopBox.{TopBox}
 use Rattle.mp4norm.specs.BoxWalk.{height, under, rule_inside, FaultSeen, RefusesInside, IsListed, RefusesTop, RefusesTops, top_seen, tops_seen}
 
 -- ---- a loop over boxes that adds a part for each

@@ -1,17 +1,16 @@
 -- The walk over the boxes of a file that lists them: which containers it descends into, and what it answers.
-use Rattle.std.specs.Prelude.{◌≡◌, ℕ, ◌+◌, ◌-◌, ◌≤◌, List, length, map, Bool, IsTrue, Option, Some, None, Result, Ok, Err}
-use Rattle.std.specs.Io.KnownBytes.{Appends}
+use Rattle.std.specs.Prelude.{◌≡◌, ℕ, ◌+◌, ◌-◌, ◌≤◌, List, length, map, Bool, IsTrue, Option, Some}
 use Rattle.mp4_store.specs.Device.{HasRisen, AppendsPrefix}
 use Rattle.mp4_boxes.specs.Box.{Box, Container, box_container, file_container}
 use Rattle.mp4_boxes.specs.BoxFaults.{IsHeaderFault}
-use Rattle.mp4_boxes.specs.Places.{Place, ruled, containers, at_kind, whole, Reaches}
+use Rattle.mp4_boxes.specs.Places.{Place, ruled, containers, at_kind, Reaches}
 use Rattle.mp4_boxes.specs.declared.rule.Rule.{Rule}
-use Rattle.mp4_boxes.specs.declared.rule.Rule.TheVariants.{File, Movie, Track, Edits, Media, MediaInformation, DataInformation, SampleTable, MovieExtends, MovieFragment, TrackFragment}
+use Rattle.mp4_boxes.specs.declared.rule.Rule.TheVariants.{File, Movie, Track, Media, MediaInformation, MovieFragment}
 use Rattle.mp4_boxes.specs.declared.fault.Fault.{Fault}
 use Rattle.mp4_boxes.specs.declared.refusal.Refusal.{Refusal}
 use Rattle.mp4_boxes.specs.declared.refusal.Refusal.TheVariants as refusals
 use Rattle.mp4_present.specs.Reading.{top_box}
-use Rattle.mp4norm.specs.declared.boxes.TopBox.{TopBox}
+use Rattle.mp4_present.specs.declared.reading.TopBox.{TopBox}
 use Rattle.mp4norm.specs.Texts.{descends, IsPart, AreBoxLines, BoxLines}
 
 -- how many levels of boxes lie under a rule at most, its own included

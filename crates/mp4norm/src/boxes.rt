@@ -9,8 +9,8 @@ ghost use Rattle.mp4norm.specs.BoxWalk.{height, rule_inside, IsListed, RefusesIn
 ghost use Rattle.mp4norm.specs.Texts.{line_text, BoxLines};
 
 use crate::line::Line;
-use mp4_boxes::{BoxView, FourCc, Refusal, Rule, TopHeader, children};
-use mp4_present::{read_bytes, read_top_header};
+use mp4_boxes::{BoxView, FourCc, Refusal, Rule, children};
+use mp4_present::{TopBox, read_bytes, read_top_header};
 use mp4_store::{Sink, Store};
 use std::alloc::Global;
 
@@ -68,13 +68,6 @@ fn push_box(text: &mut Vec<u8>, view: BoxView, rule: Rule, depth: u8) -> Result<
         push_box(text, child, inner, depth + 1)?;
     }
     Ok(())
-}
-
-// A box of the file itself.
-#[derive(Clone, Copy, Debug)]
-struct TopBox {
-    offset: u64,
-    header: TopHeader,
 }
 
 // The boxes of the file itself.

@@ -1,11 +1,10 @@
-use Rattle.std.proofs.Common.{rules, ◌≡◌, ℕ, ◌+◌, ◌-◌, ◌<◌, ◌≤◌, ◌∙◌, ◌++◌, ◌∷◌, [], List, map, length, ap, sym, subst, arith}
+use Rattle.std.proofs.Common.{rules, ℕ, ◌≤◌, ◌∙◌, List, length, subst, arith}
 use Rattle.std.proofs.lemmas.Result.{err_from_is_err_and}
 use Rattle.std.proofs.lemmas.List.{map_push}
 use Rattle.std.proofs.lemmas.List.Elements.{All-push}
-use Rattle.mp4norm.specs.declared.boxes.TopBox.{TopBox}
-use Rattle.mp4_boxes.specs.Box.{Box}
-use Rattle.mp4_present.proofs.TopLevel.{TopPassed, top_more, top_tiles}
-use Rattle.mp4norm.specs.BoxWalk.{top_seen, tops_seen, IsWithin}
+use Rattle.mp4_present.specs.declared.reading.TopBox.{TopBox}
+use Rattle.mp4_present.proofs.TopLevel.{top_more, top_tiles}
+use Rattle.mp4norm.specs.BoxWalk.{tops_seen, IsWithin}
 use Rattle.mp4norm.proofs.BoxLists.{refuses_header}
 use Rattle.mp4norm.proofs.boxes.top_boxes.Goals as goal
 

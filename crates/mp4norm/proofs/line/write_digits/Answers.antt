@@ -1,6 +1,6 @@
-use Rattle.std.proofs.Common.{rules, ◌≡◌, ◌+◌, ◌-◌, ◌<◌, ◌≤◌, ◌/◌, ◌∷◌, ◌%◌, length, drop, arith, ap, ◌∙◌, sym}
+use Rattle.std.proofs.Common.{rules, ◌≡◌, ◌+◌, ◌-◌, ◌%◌, drop, arith}
 use Rattle.std.proofs.lemmas.List.{drop-set, drop_all}
-use Rattle.mp4norm.proofs.Decimals.{writing_first, writing_next, writing_last}
+use Rattle.mp4norm.proofs.Decimals.{writing_first, writing_next}
 use Rattle.mp4norm.proofs.line.write_digits.Goals as goal
 
 pub loop-left-init : goal.loop-left-init

@@ -1,0 +1,268 @@
+-- What the top-level headers of a file say of its `moov` and its `moof`s, one header after the other.
+use Rattle.std.proofs.Common.{◌≡◌, ℕ, drop, Err, ◌-◌, ◌<◌, ◌≤◌, Bool, true, false, List, [], ◌∷◌, ◌++◌, Option, Some, None, length, max, refl, sym, ap, subst, ◌∙◌, arith, inl, inr, append_assoc}
+use Rattle.std.specs.Prelude.{codes, bytes_eq, unwrap_or, IsTrue}
+use Rattle.std.proofs.lemmas.List.Sums.{fold-append}
+use Rattle.std.proofs.lemmas.Slice.Eq.{bytes_eq-Decides}
+use Rattle.mp4_boxes.specs.Box.{Box, IsFront, StandsAfter, Tiles, size, sizes, file_container}
+use Rattle.mp4_boxes.specs.Children.{of_kind, count_among, allows, repeats, Holds}
+use Rattle.mp4_boxes.specs.BoxFaults.{header_there}
+use Rattle.mp4_boxes.specs.Places.{whole}
+use Rattle.mp4_boxes.specs.declared.rule.Rule.TheVariants.{File}
+use Rattle.mp4_boxes.specs.declared.headers.TopHeader.{TopHeader}
+use Rattle.mp4_boxes.specs.declared.refusal.Refusal.{Refusal}
+use Rattle.mp4_boxes.specs.declared.refusal.Refusal.TheVariants as refusals
+use Rattle.mp4_boxes.specs.declared.fault.Fault.{Fault}
+use Rattle.mp4_boxes.specs.declared.fault.Kind.TheVariants.{BoxNotInProfile, DuplicateBox, MissingBox, FragmentBeforeMovie}
+use Rattle.mp4_boxes.proofs.Among.{all_append, of_kind-append}
+use Rattle.mp4_boxes.proofs.Tiling.{sizes-append, sizes-cons}
+use Rattle.mp4_present.specs.Reading.{IsTopHeader, RefusesHeader, top_box}
+use Rattle.mp4_present.specs.Denotes.{begins_with_movie}
+use Rattle.mp4_present.specs.Stands.{Stands, child, missing, header, order}
+use Rattle.mp4_present.specs.Outline.{AreSeen, IsOutline, IsOrdered, BeginAt, longest, moov_seen, RefusesOutline}
+use Rattle.mp4_present.specs.declared.reading.TopBox.{TopBox}
+use Rattle.mp4_present.specs.declared.outline.Seen.{Seen}
+use Rattle.mp4_present.proofs.TopLevel.{TopPassed, top_more, top_tiles, top_fault}
+
+-- ---- boxes of one type, with one box more
+
+same_text : (xs ys : List ℕ) → bytes_eq xs ys ≡ true → xs ≡ ys
+same_text xs ys e = (bytes_eq-Decides xs ys).0 e
+
+-- a type is not two
+not_both : (kind : List ℕ) → bytes_eq (codes "moov") kind ≡ true → bytes_eq (codes "moof") kind ≡ false
+not_both kind e = subst (λ (k : List ℕ). bytes_eq (codes "moof") k ≡ false) (same_text (codes "moov") kind e) refl
+
+push_other : (kind : List ℕ) (boxes : List Box) (b : Box) → bytes_eq kind b.kind ≡ false → of_kind kind (boxes ++ b ∷ []) ≡ of_kind kind boxes
+push_other kind boxes b e =
+    let none : of_kind kind (b ∷ []) ≡ [] = rw e refl in
+    of_kind-append kind boxes (b ∷ []) ∙ ap (λ (bs : List Box). of_kind kind boxes ++ bs) none ∙ append_nil (of_kind kind boxes)
+  where
+    append_nil : (xs : List Box) → xs ++ [] ≡ xs
+    append_nil [] = refl
+    append_nil (x ∷ xs) = ap (λ (ys : List Box). x ∷ ys) (append_nil xs)
+
+push_this : (kind : List ℕ) (boxes : List Box) (b : Box) → bytes_eq kind b.kind ≡ true → of_kind kind (boxes ++ b ∷ []) ≡ of_kind kind boxes ++ b ∷ []
+push_this kind boxes b e =
+    let one : of_kind kind (b ∷ []) ≡ b ∷ [] = rw e refl in
+    of_kind-append kind boxes (b ∷ []) ∙ ap (λ (bs : List Box). of_kind kind boxes ++ bs) one
+
+-- as many are counted as there are
+count_one : (kind : List ℕ) (b : Box) (bs : List Box) (v : Bool) → bytes_eq kind b.kind ≡ v → count_among (kind ∷ []) bs ≡ length (of_kind kind bs)
+    → count_among (kind ∷ []) (b ∷ bs) ≡ length (of_kind kind (b ∷ bs))
+count_one kind b bs true e h = rw e (omega (arith, h))
+count_one kind b bs false e h = rw e (omega (arith, h))
+
+count_is : (kind : List ℕ) (bs : List Box) → count_among (kind ∷ []) bs ≡ length (of_kind kind bs)
+count_is kind [] = refl
+count_is kind (b ∷ bs) = count_one kind b bs (bytes_eq kind b.kind) refl (count_is kind bs)
+
+-- ---- the order of `moov` and `moof`
+
+here : (c b : Box) (bs : List Box) (u v : Bool) → bytes_eq (codes "moov") c.kind ≡ u → bytes_eq (codes "moof") c.kind ≡ v → of_kind (codes "moof") (c ∷ bs) ≡ []
+    → (of_kind (codes "moof") bs ≡ [] → begins_with_movie (bs ++ b ∷ []) ≡ true) → begins_with_movie (c ∷ bs ++ b ∷ []) ≡ true
+here c b bs true v e f n h = rw e refl
+here c b bs false true e f n h = let g : ◌≡◌ {A = List Box} (c ∷ of_kind (codes "moof") bs) [] = rw f at n in absurd cc
+here c b bs false false e f n h = rw (e, f) (h (rw f at n))
+
+-- the `moov` comes, and no `moof` came
+begins_here : (boxes : List Box) (b : Box) → of_kind (codes "moof") boxes ≡ [] → bytes_eq (codes "moov") b.kind ≡ true → begins_with_movie (boxes ++ b ∷ []) ≡ true
+begins_here [] b n e = rw e refl
+begins_here (c ∷ boxes) b n e = here c b boxes (bytes_eq (codes "moov") c.kind) (bytes_eq (codes "moof") c.kind) refl refl n (λ m. begins_here boxes b m e)
+
+further : (c b x : Box) (bs : List Box) (u v : Bool) → bytes_eq (codes "moov") c.kind ≡ u → bytes_eq (codes "moof") c.kind ≡ v → of_kind (codes "moov") (c ∷ bs) ≡ x ∷ [] → begins_with_movie (c ∷ bs) ≡ true
+    → (of_kind (codes "moov") bs ≡ x ∷ [] → begins_with_movie bs ≡ true → begins_with_movie (bs ++ b ∷ []) ≡ true) → begins_with_movie (c ∷ bs ++ b ∷ []) ≡ true
+further c b x bs true v e f n m h = rw e refl
+further c b x bs false true e f n m h = let g : ◌≡◌ {A = Bool} false true = rw (e, f) at m in absurd cc
+further c b x bs false false e f n m h = rw (e, f) (h (rw e at n) (rw (e, f) at m))
+
+-- the `moov` came first, whatever comes
+begins_on : (boxes : List Box) (b x : Box) → of_kind (codes "moov") boxes ≡ x ∷ [] → begins_with_movie boxes ≡ true → begins_with_movie (boxes ++ b ∷ []) ≡ true
+begins_on [] b x n m = absurd cc
+begins_on (c ∷ boxes) b x n m = further c b x boxes (bytes_eq (codes "moov") c.kind) (bytes_eq (codes "moof") c.kind) refl refl n m (begins_on boxes b x)
+
+-- ---- the first `moof`
+
+begin_other : (o : Option ℕ) (boxes : List Box) (b : Box) → bytes_eq (codes "moof") b.kind ≡ false → BeginAt o boxes → BeginAt o (boxes ++ b ∷ [])
+begin_other None boxes b e h = push_other (codes "moof") boxes b e ∙ h
+begin_other (Some at) boxes b e h = (h.0, h.1 ++ b ∷ [], sym (append_assoc h.0 h.1 (b ∷ [])) ∙ ap (λ (bs : List Box). bs ++ b ∷ []) h.2, h.3, h.4)
+
+begin_this : (o : Option ℕ) (boxes : List Box) (b : Box) (at : ℕ) → sizes boxes ≡ at → BeginAt o boxes → BeginAt (Some (unwrap_or o at)) (boxes ++ b ∷ [])
+begin_this None boxes b at e h = (boxes, b ∷ [], refl, h, e)
+begin_this (Some first) boxes b at e h = (h.0, h.1 ++ b ∷ [], sym (append_assoc h.0 h.1 (b ∷ [])) ∙ ap (λ (bs : List Box). bs ++ b ∷ []) h.2, h.3, h.4)
+
+longest_more : (boxes : List Box) (b : Box) → longest (boxes ++ b ∷ []) ≡ max (longest boxes) (size b)
+longest_more boxes b = fold-append (λ most c. max most (size c)) 0 boxes (b ∷ [])
+
+-- ---- one header more
+
+-- some first boxes of a file, and the header of the next
+pub record IsNext (file : List ℕ) (boxes : List Box) (at : ℕ) (h : TopHeader) : Type 0 where
+  pub front : IsFront (file_container file) boxes
+  pub taken : sizes boxes ≡ at
+  pub read : IsTopHeader file at h
+  pub room : at ≤ h.end
+
+more : (file : List ℕ) (boxes : List Box) (at : ℕ) (h : TopHeader) → IsNext file boxes at h → TopPassed file (boxes ++ top_box file at h ∷ []) h.end
+more file boxes at h n = top_more file boxes at h (record { lie = n.front.0; taken = n.taken }) n.read n.room
+
+stands : (file : List ℕ) (boxes : List Box) (at : ℕ) (h : TopHeader) → IsNext file boxes at h → StandsAfter (file_container file) boxes (top_box file at h)
+stands file boxes at h n = ((more file boxes at h n).lie, tt)
+
+size_is : (file : List ℕ) (boxes : List Box) (at : ℕ) (h : TopHeader) → IsNext file boxes at h → size (top_box file at h) ≡ h.end - at
+size_is file boxes at h n =
+    let b = top_box file at h in
+    let t = (more file boxes at h n).taken in
+    let a = n.taken in
+    omega (arith, t, a, sizes-append boxes (b ∷ []), sizes-cons b [])
+
+-- a box of the type may not stand in a file
+pub refused : (file : List ℕ) (boxes : List Box) (at : ℕ) (h : TopHeader) → IsNext file boxes at h → allows File h.kind.0 ≡ false → Stands file (record { kind = BoxNotInProfile; box_type = h.kind.0; offset = at })
+refused file boxes at h n e = (
+  child,
+  record { place = whole file; reaches = ([], refl); rule = File; under = refl; fault = inl (record { before = boxes; b = top_box file at h; stands = stands file boxes at h n; refused = e; named = refl }) },
+)
+
+repeated_movie : (boxes : List Box) (kind : List ℕ) (x : Box) → of_kind (codes "moov") boxes ≡ x ∷ [] → bytes_eq (codes "moov") kind ≡ true → repeats File boxes kind ≡ true
+repeated_movie boxes kind x e k =
+    let count : count_among (codes "moov" ∷ []) boxes ≡ 1 = count_is (codes "moov") boxes ∙ ap (λ (bs : List Box). length bs) e in
+    rw (k, count) refl
+
+-- a second `moov`
+pub repeated : (file : List ℕ) (boxes : List Box) (at : ℕ) (h : TopHeader) (seen : Seen) (top : TopBox) → IsNext file boxes at h → AreSeen file boxes seen → seen.moov ≡ Some top → bytes_eq (codes "moov") h.kind.0 ≡ true
+    → Stands file (record { kind = DuplicateBox; box_type = h.kind.0; offset = at })
+repeated file boxes at h seen top n s e k =
+    let one = s.moov ∙ ap (moov_seen file) e in (
+      child,
+      record {
+        place = whole file;
+        reaches = ([], refl);
+        rule = File;
+        under = refl;
+        fault = inr (record { before = boxes; b = top_box file at h; stands = stands file boxes at h n; repeated = repeated_movie boxes h.kind.0 _ one k; named = refl });
+      },
+    )
+
+-- a `moof`, and no `moov` came
+pub too_early : (file : List ℕ) (boxes : List Box) (at : ℕ) (h : TopHeader) (seen : Seen) → IsNext file boxes at h → AreSeen file boxes seen → seen.moov ≡ None → bytes_eq (codes "moof") h.kind.0 ≡ true
+    → Stands file (record { kind = FragmentBeforeMovie; box_type = h.kind.0; offset = at })
+too_early file boxes at h seen n s e k = (
+  order,
+  record { before = boxes; moof = top_box file at h; stands = stands file boxes at h n; is_moof = sym (same_text (codes "moof") h.kind.0 k); no_moov = s.moov ∙ ap (moov_seen file) e; named = refl },
+)
+
+-- the `moov`
+pub seen_movie : (file : List ℕ) (boxes : List Box) (at : ℕ) (h : TopHeader) (seen : Seen) → IsNext file boxes at h → AreSeen file boxes seen → allows File h.kind.0 ≡ true → seen.moov ≡ None → bytes_eq (codes "moov") h.kind.0 ≡ true
+    → AreSeen file (boxes ++ top_box file at h ∷ []) (record { moov = Some (record { offset = at; header = h }); fragments = seen.fragments; longest = seen.longest })
+seen_movie file boxes at h seen n s a e k =
+    let b = top_box file at h in
+    let other = not_both h.kind.0 k in
+    let none : of_kind (codes "moov") boxes ≡ [] = s.moov ∙ ap (moov_seen file) e in
+    let before : of_kind (codes "moof") boxes ≡ [] = subst (λ (o : Option TopBox). IsOrdered o boxes) e s.order in
+    record {
+      allowed = all_append (λ (c : Box). IsTrue (allows File c.kind)) boxes (b ∷ []) s.allowed (a, tt);
+      moov = push_this (codes "moov") boxes b k ∙ ap (λ (bs : List Box). bs ++ b ∷ []) none;
+      order = begins_here boxes b before k;
+      fragments = begin_other seen.fragments boxes b other s.fragments;
+      longest = s.longest ∙ ap longest (sym (push_other (codes "moof") boxes b other));
+    }
+
+order_on : (file : List ℕ) (o : Option TopBox) (boxes : List Box) (b : Box) → of_kind (codes "moov") boxes ≡ moov_seen file o → bytes_eq (codes "moof") b.kind ≡ false → IsOrdered o boxes → IsOrdered o (boxes ++ b ∷ [])
+order_on file None boxes b m e h = push_other (codes "moof") boxes b e ∙ h
+order_on file (Some top) boxes b m e h = begins_on boxes b _ m h
+
+-- a box that is neither
+pub seen_other : (file : List ℕ) (boxes : List Box) (at : ℕ) (h : TopHeader) (seen : Seen) → IsNext file boxes at h → AreSeen file boxes seen → allows File h.kind.0 ≡ true
+    → bytes_eq (codes "moov") h.kind.0 ≡ false → bytes_eq (codes "moof") h.kind.0 ≡ false → AreSeen file (boxes ++ top_box file at h ∷ []) seen
+seen_other file boxes at h seen n s a j k =
+    let b = top_box file at h in
+    record {
+      allowed = all_append (λ (c : Box). IsTrue (allows File c.kind)) boxes (b ∷ []) s.allowed (a, tt);
+      moov = push_other (codes "moov") boxes b j ∙ s.moov;
+      order = order_on file seen.moov boxes b s.moov k s.order;
+      fragments = begin_other seen.fragments boxes b k s.fragments;
+      longest = s.longest ∙ ap longest (sym (push_other (codes "moof") boxes b k));
+    }
+
+order_in : (file : List ℕ) (o : Option TopBox) (boxes : List Box) (b : Box) → of_kind (codes "moov") boxes ≡ moov_seen file o → (o ≡ None → ⊥) → IsOrdered o boxes → IsOrdered o (boxes ++ b ∷ [])
+order_in file None boxes b m e h = absurd (e refl)
+order_in file (Some top) boxes b m e h = begins_on boxes b _ m h
+
+-- a `moof`
+pub seen_fragment : (file : List ℕ) (boxes : List Box) (at : ℕ) (h : TopHeader) (seen : Seen) (most : ℕ) → IsNext file boxes at h → AreSeen file boxes seen → allows File h.kind.0 ≡ true
+    → bytes_eq (codes "moov") h.kind.0 ≡ false → bytes_eq (codes "moof") h.kind.0 ≡ true → (seen.moov ≡ None → ⊥) → most ≡ max seen.longest (h.end - at)
+    → AreSeen file (boxes ++ top_box file at h ∷ []) (record { moov = seen.moov; fragments = Some (unwrap_or seen.fragments at); longest = most })
+seen_fragment file boxes at h seen most n s a j k some m =
+    let b = top_box file at h in
+    let len = size_is file boxes at h n in
+    record {
+      allowed = all_append (λ (c : Box). IsTrue (allows File c.kind)) boxes (b ∷ []) s.allowed (a, tt);
+      moov = push_other (codes "moov") boxes b j ∙ s.moov;
+      order = order_in file seen.moov boxes b s.moov some s.order;
+      fragments = begin_this seen.fragments boxes b at n.taken s.fragments;
+      longest = m ∙ (λ i. max (s.longest i) (sym len i)) ∙ sym (longest_more (of_kind (codes "moof") boxes) b) ∙ ap longest (sym (push_this (codes "moof") boxes b k));
+    }
+
+-- ---- the whole file
+
+-- What is known where the headers up to a place of the file were read.
+pub record Outlining (file : List ℕ) (at : ℕ) (seen : Seen) : Type 0 where
+  pub boxes : List Box
+  pub front : IsFront (file_container file) boxes
+  pub taken : sizes boxes ≡ at
+  pub are_seen : AreSeen file boxes seen
+
+pub outlining_none : (file : List ℕ) → Outlining file 0 (record { moov = None; fragments = None; longest = 0 })
+outlining_none file = record { boxes = []; front = (tt, tt); taken = refl; are_seen = record { allowed = tt; moov = refl; order = refl; fragments = refl; longest = refl } }
+
+pub outlining_more : (file : List ℕ) (at : ℕ) (h : TopHeader) (seen : Seen) (boxes : List Box) → IsFront (file_container file) boxes → sizes boxes ≡ at → IsTopHeader file at h → at ≤ h.end
+    → AreSeen file (boxes ++ top_box file at h ∷ []) seen → Outlining file h.end seen
+outlining_more file at h seen boxes f t r le s =
+    let m = more file boxes at h (record { front = f; taken = t; read = r; room = le }) in
+    record { boxes = boxes ++ top_box file at h ∷ []; front = (m.lie, tt); taken = m.taken; are_seen = s }
+
+-- a header that can't be read
+pub unread : (file : List ℕ) (at : ℕ) (seen : Seen) (f : Fault) → Outlining file at seen → at < length file → header_there true (length file - at) (drop at file) (codes "file") at ≡ Err f → Stands file f
+unread file at seen f o lt e = (
+  header,
+  record { place = whole file; reaches = ([], refl); fault = top_fault file o.boxes at f (record { lie = o.front.0; taken = o.taken }) lt e },
+)
+
+tiles : (file : List ℕ) (at : ℕ) (seen : Seen) (o : Outlining file at seen) → length file ≤ at → Tiles (file_container file) o.boxes
+tiles file at seen o le = top_tiles file o.boxes at (record { lie = o.front.0; taken = o.taken }) le
+
+-- the end was reached, and no `moov` came
+pub no_movie : (file : List ℕ) (at : ℕ) (seen : Seen) → Outlining file at seen → length file ≤ at → seen.moov ≡ None → Stands file (record { kind = MissingBox; box_type = codes "file"; offset = 0 })
+no_movie file at seen o le e =
+    let none : of_kind (codes "moov") o.boxes ≡ [] = o.are_seen.moov ∙ ap (moov_seen file) e in
+    let count : count_among (codes "moov" ∷ []) o.boxes ≡ 0 = count_is (codes "moov") o.boxes ∙ ap (λ (bs : List Box). length bs) none in (
+      missing,
+      record {
+        place = whole file;
+        reaches = ([], refl);
+        rule = File;
+        under = refl;
+        fault = record { boxes = o.boxes; tiles = tiles file at seen o le; lacking = rw count refl; named = refl };
+      },
+    )
+
+-- the end was reached: these are the boxes of the file
+pub outlined : (file : List ℕ) (at : ℕ) (seen : Seen) (top : TopBox) (o : Outlining file at seen) → length file ≤ at → seen.moov ≡ Some top
+    → Holds File (file_container file) o.boxes × (begins_with_movie o.boxes ≡ true) × IsOutline file o.boxes (record { moov = top; fragments = seen.fragments; longest = seen.longest })
+outlined file at seen top o le e =
+    let s = o.are_seen in
+    let one = s.moov ∙ ap (moov_seen file) e in
+    let count : count_among (codes "moov" ∷ []) o.boxes ≡ 1 = count_is (codes "moov") o.boxes ∙ ap (λ (bs : List Box). length bs) one in (
+      record { tiles = tiles file at seen o le; allowed = s.allowed; quantities = (count, (tt, (tt, (tt, (tt, (tt, (tt, tt))))))) },
+      subst (λ (w : Option TopBox). IsOrdered w o.boxes) e s.order,
+      record { moov = one; fragments = s.fragments; longest = s.longest },
+    )
+
+-- why a header is not read is why there is no outline
+pub refuses : (honest : Bool) (file : List ℕ) (at : ℕ) (seen : Seen) (reads reads_after : ℕ) (r : Refusal) → (IsTrue honest → Outlining file at seen) → at < length file
+    → RefusesHeader honest file at reads reads_after r → RefusesOutline honest file reads reads_after r
+refuses honest file at seen reads reads_after (refusals.Fault f) o lt e = λ told. unread file at seen f (o told) lt (e told)
+refuses honest file at seen reads reads_after refusals.Memory o lt e = e
+refuses honest file at seen reads reads_after refusals.StoreFailed o lt e = e
+refuses honest file at seen reads reads_after refusals.StoreChanged o lt e = e
+refuses honest file at seen reads reads_after refusals.WriteFailed o lt e = e
+refuses honest file at seen reads reads_after refusals.NoSuchTrack o lt e = e

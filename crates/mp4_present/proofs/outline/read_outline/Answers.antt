@@ -1,0 +1,40 @@
+use Rattle.std.proofs.Common.{rules, ◌∙◌, refl, arith}
+use Rattle.std.proofs.lemmas.Result.{err_from_is_err_and}
+use Rattle.mp4_present.proofs.Outlines.{outlining_none, outlining_more, refuses, no_movie, outlined}
+use Rattle.mp4_present.proofs.outline.read_outline.Goals as goal
+
+pub loop-at-init : goal.loop-at-init
+loop-at-init g c = (refl, refl, refl, λ _. outlining_none (g.S.Store.file c.args.store.now))
+
+pub returns-in_err-header-clause-refusal : goal.returns-in_err-header-clause-refusal
+returns-in_err-header-clause-refusal g c =
+    let p = err_from_is_err_and c.from_residual.result c.from_residual.ensures.1 in
+    let i = c.loop-at.invariant in
+    let e = rw (i.0, i.1, i.2) at c.in_err-header.ensures.refusal in
+    rw (p.1, p.2) (refuses (g.S.Store.is_honest c.args.store.now) (g.S.Store.file c.args.store.now) c.loop-at.at c.loop-at.seen (g.S.Store.read_failures c.args.store.now) (g.S.Store.read_failures c.read_top_header.new.store) c.in_err-header.field-0.0 i.3 (search rules) e)
+
+pub loop-at-preserved : goal.loop-at-preserved
+loop-at-preserved g c =
+    let i = c.loop-at.invariant in
+    let e = c.in_ok-header.ensures in
+    let file = g.S.Store.file c.args.store.now in
+    let w = e.within in (
+      e.honesty ∙ i.0,
+      e.file ∙ i.1,
+      e.reads ∙ i.2,
+      (λ told.
+          let o = i.3 told in
+          let read = (rw (i.0, i.1) at e.header) told in
+          let seen = c.in_ok-seen.ensures.noted file o.boxes o.front o.taken read o.are_seen in
+          outlining_more file c.loop-at.at c.in_ok-header.header c.in_ok-seen.seen o.boxes o.front o.taken read (omega (arith, w.0)) seen),
+    )
+
+pub returns-in_default-clause-refusal : goal.returns-in_default-clause-refusal
+returns-in_default-clause-refusal g c told =
+    rw c.new-fault.ensures (no_movie (g.S.Store.file c.args.store.now) c.loop-at.at c.loop-at.seen (c.loop-at.invariant.3 told) (search rules) (search rules))
+
+pub returns-clause-outline : goal.returns-clause-outline
+returns-clause-outline g c told =
+    let o = c.loop-at.invariant.3 told in
+    let r = outlined (g.S.Store.file c.args.store.now) c.loop-at.at c.loop-at.seen c.in-Some.moov o (search rules) c.in-Some.is in
+    (o.boxes, r.0, r.1, r.2)

@@ -1,0 +1,108 @@
+//! Where the parts of a file lie, by its top-level headers alone.
+ghost use Rattle.std.specs.Prelude.{◌≡◌, ℕ, ◌+◌, ◌≤◌, ◌++◌, ◌∷◌, [], List, length, true, bytes_eq, codes, IfOk, IfErr, OnOk, IsTrue};
+ghost use Rattle.mp4_boxes.specs.Box.{Box, IsFront, sizes, file_container};
+ghost use Rattle.mp4_boxes.specs.Children.{Holds};
+ghost use Rattle.mp4_boxes.specs.declared.rule.Rule.TheVariants.{File};
+ghost use Rattle.mp4_present.specs.Reading.{IsTopHeader, top_box};
+ghost use Rattle.mp4_present.specs.Denotes.{begins_with_movie};
+ghost use Rattle.mp4_present.specs.Stands.{Stands};
+ghost use Rattle.mp4_present.specs.Outline.{AreSeen, IsOutline, RefusesOutline};
+
+use crate::reading::{TopBox, read_top_header};
+use mp4_boxes::{Fault, FourCc, Kind, Refusal, Rule, TopHeader};
+use mp4_store::Store;
+
+const MOOV: FourCc = FourCc(*b"moov");
+
+const MOOF: FourCc = FourCc(*b"moof");
+
+/// What some first headers of a file say.
+#[derive(Clone, Copy, Debug, PartialEq, Eq)]
+pub(crate) struct Seen {
+    pub moov: Option<TopBox>,
+    /// The place of the first `moof`.
+    pub fragments: Option<u64>,
+    /// The length of the longest `moof`, 0 where there is none.
+    pub longest: u64,
+}
+
+/// Where the `moov` and the `moof`s of a file lie.
+#[derive(Clone, Copy, Debug, PartialEq, Eq)]
+pub(crate) struct Outline {
+    pub moov: TopBox,
+    /// The place of the first `moof`.
+    pub fragments: Option<u64>,
+    /// The length of the longest `moof`, 0 where there is none.
+    pub longest: u64,
+}
+
+fn is(kind: FourCc, name: FourCc) -> bool
+    ensures { result ≡ bytes_eq name.0 kind.0 }
+{
+    name == kind
+}
+
+// What the headers say with one more, at the place `at`.
+fn note(seen: Seen, at: u64, header: TopHeader) -> Result<Seen, Fault>
+    requires { at + header.header ≤ header.end }
+    ensures noted { (file : List ℕ) (boxes : List Box) → IsFront (file_container file) boxes → sizes boxes ≡ at → IsTopHeader file at header → AreSeen file boxes seen
+        → IfOk result (AreSeen file (boxes ++ top_box file at header ∷ [])) }
+    ensures fault { (file : List ℕ) (boxes : List Box) → IsFront (file_container file) boxes → sizes boxes ≡ at → IsTopHeader file at header → AreSeen file boxes seen
+        → IfErr result (Stands file) }
+{
+    if !Rule::File.allows(header.kind) {
+        return Err(Fault::new(Kind::BoxNotInProfile, header.kind, at));
+    }
+    let top = TopBox { offset: at, header };
+    if is(header.kind, MOOV) {
+        return match seen.moov {
+            Some(_) => Err(Fault::new(Kind::DuplicateBox, header.kind, at)),
+            None => Ok(Seen {
+                moov: Some(top),
+                ..seen
+            }),
+        };
+    }
+    if !is(header.kind, MOOF) {
+        return Ok(seen);
+    }
+    if seen.moov.is_none() {
+        return Err(Fault::new(Kind::FragmentBeforeMovie, header.kind, at));
+    }
+    Ok(Seen {
+        moov: seen.moov,
+        fragments: Some(seen.fragments.unwrap_or(at)),
+        longest: seen.longest.max(header.end - at),
+    })
+}
+
+/// Reads the headers of a file's own boxes, each by one read of at most 16 bytes.
+pub(crate) fn read_outline<S: Store>(store: &mut S) -> Result<Outline, Refusal>
+    ensures honesty { S.is_honest store.new ≡ S.is_honest store.old }
+    ensures file { S.file store.new ≡ S.file store.old }
+    ensures outline { IfOk result (λ o. IsTrue (S.is_honest store.old) → (boxes : List Box) × Holds File (file_container (S.file store.old)) boxes × (begins_with_movie boxes ≡ true) × IsOutline (S.file store.old) boxes o) }
+    ensures reads { OnOk result (S.read_failures store.new ≡ S.read_failures store.old) }
+    ensures refusal { IfErr result (RefusesOutline (S.is_honest store.old) (S.file store.old) (S.read_failures store.old) (S.read_failures store.new)) }
+{
+    let len = store.len();
+    let mut seen = Seen {
+        moov: None,
+        fragments: None,
+        longest: 0,
+    };
+    let mut at = 0;
+    while at < len {
+        let header = read_top_header(store, at)?;
+        seen = note(seen, at, header)?;
+        at = header.end;
+    }
+    let Some(moov) = seen.moov else {
+        let fault = Fault::new(Kind::MissingBox, FourCc::FILE, 0);
+        return Err(Refusal::Fault(fault));
+    };
+    Ok(Outline {
+        moov,
+        fragments: seen.fragments,
+        longest: seen.longest,
+    })
+}
