@@ -1,5 +1,6 @@
 pub mod Counts
 pub mod RowLists
+pub mod LeafLists
 pub mod PlaceLists
 pub mod IndexLists
 pub mod SampleLists
