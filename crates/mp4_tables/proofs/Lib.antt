@@ -1,5 +1,6 @@
 pub mod Counts
 pub mod RowLists
+pub mod TableReads
 pub mod LeafLists
 pub mod PlaceLists
 pub mod IndexLists

@@ -1,5 +1,5 @@
 -- The children of an `stbl`, which of them is which table, and what is so where a check names a fault.
-use Rattle.std.specs.Prelude.{◌≡◌, ℕ, ◌+◌, ◌-◌, ◌*◌, ◌<◌, ◌≤◌, ◌⊎◌, ◌==◌, List, [], ◌∷◌, ◌++◌, length, take, drop, Bool, true, false, IsTrue, Option, Some, None, bytes_eq, codes}
+use Rattle.std.specs.Prelude.{◌≡◌, ℕ, ◌+◌, ◌-◌, ◌*◌, ◌<◌, ◌≤◌, ◌⊎◌, ◌==◌, List, [], ◌∷◌, ◌++◌, length, take, drop, Bool, true, false, IsTrue, Option, Some, None, bytes_eq, codes, option_map, unwrap_or, nat_le, ℤ}
 use Rattle.std.specs.List.{AllByRecursion}
 use Rattle.mp4_boxes.specs.Bytes.{field}
 use Rattle.mp4_boxes.specs.Box.{Box, box_container, first_boxes}
@@ -14,8 +14,16 @@ use Rattle.mp4_boxes.specs.declared.fault.Kind.TheVariants.{ShortBox, BadVersion
 use Rattle.mp4_tables.specs.Repeated.{total}
 use Rattle.mp4_tables.specs.Groups.{Grouping, GroupKey, keys_after, groupings_of}
 use Rattle.mp4_tables.specs.Tables.{Tables, sample_count, sample_sizes_of, durations_of, offsets_of, chunk_rows_of, chunk_offsets_of, tables_of}
-use Rattle.mp4_tables.specs.TableRules.{Surroundings, Fit, AreReadable, IsTableFault}
+use Rattle.mp4_tables.specs.Rows.{HaveRoom, HaveSizes, runs_at, chunk_rows_at, numbers_at, offsets_at, offset_width, sizes_at}
+use Rattle.mp4_tables.specs.TableRules.{Surroundings, Fit, AreReadable, IsTableFault, test, chunk_order, description_indexes, is_sync_order}
+use Rattle.mp4_tables.specs.PlainSamples.{in_chunks_total}
+use Rattle.mp4_tables.specs.Accepted.{HaveOffsets, HaveSync, HaveBytes, composition_offsets_at, bytes_at}
 use Rattle.mp4_tables.specs.declared.leaves.Limits.{Limits}
+use Rattle.mp4_tables.specs.declared.places.RowsAt.{RowsAt}
+use Rattle.mp4_tables.specs.declared.places.BytesAt.{BytesAt}
+use Rattle.mp4_tables.specs.declared.places.SizesAt.{SizesAt}
+use Rattle.mp4_tables.specs.declared.places.OffsetsAt.{OffsetsAt}
+use Rattle.mp4_tables.specs.declared.places.ChunksAt.{ChunksAt}
 
 -- the boxes in front of the payload of a box: its children, where they are those of the profile
 unfoldable pub boxes_of : Box → List Box
@@ -36,6 +44,19 @@ pub record IsFirstOf (kind : List ℕ) (boxes : List Box) (b : Box) : Type 0 whe
   pub is : boxes ≡ before ++ b ∷ after
   pub same : bytes_eq kind b.kind ≡ true
   pub none : count_among (kind ∷ []) before ≡ 0
+
+-- a child
+pub record IsChild (stbl b : Box) : Type 0 where
+  pub before : List Box
+  pub after : List Box
+  pub is : boxes_of stbl ≡ before ++ b ∷ after
+
+-- where the payload of a box lies among bytes, which lie at a place of the file
+pub record LiesIn (at : ℕ) (bytes : List ℕ) (b : Box) : Type 0 where
+  pub place : ℕ
+  pub is : b.offset + b.header ≡ at + place
+  pub within : place + length b.payload ≤ length bytes
+  pub same : b.payload ≡ take (length b.payload) (drop place bytes)
 
 -- a kind of fault is true of a box that is read as this leaf
 pub record FailsAs (leaf : Leaf) (b : Box) (f : Fault) : Type 0 where
@@ -78,3 +99,73 @@ VersionFails last b f = ((length b.payload < 4) × (f ≡ fault_of ShortBox b)) 
 -- a box that is too short for its fields, of which the last is a count, or for as many rows of a width
 abbrev pub RowsFail : ℕ → ℕ → Box → Fault → Type 0
 RowsFail fields width b f = (length b.payload < fields + width * field b.payload (fields - 4) 4) × (f ≡ fault_of ShortBox b)
+
+-- one of these
+abbrev pub ShapeFails : ℕ → ℕ → ℕ → Box → Fault → Type 0
+ShapeFails last fields width b f = VersionFails last b f ⊎ RowsFail fields width b f
+
+-- rows that were read in a child: where they lie in the payload of its `stbl`
+pub record RowsRead (last fields width : ℕ) (stbl b : Box) (r : RowsAt) : Type 0 where
+  pub version : version b.payload ≤ last
+  pub count : r.count ≡ field b.payload (fields - 4) 4
+  pub room : fields + width * r.count ≤ length b.payload
+  pub place : stbl.offset + stbl.header + r.place ≡ b.offset + b.header + fields
+
+-- ---- what was read of each table
+
+abbrev pub tables_in : Box → Tables
+tables_in stbl = tables_of (boxes_of stbl)
+
+-- the sizes can be read, and are as many as this
+pub record SizesKnown (stbl : Box) (n : ℕ) : Type 0 where
+  pub count : length (tables_in stbl).sizes ≡ n
+  pub readable : AreReadable sample_sizes (boxes_of stbl)
+
+pub record DurationsRead (stbl : Box) (n : ℕ) (r : RowsAt) : Type 0 where
+  pub have : HaveRoom 8 stbl.payload r
+  pub same : runs_at stbl.payload r ≡ (tables_in stbl).durations
+  pub sound : AllOf (codes "stts") (IsSound stts) (boxes_of stbl)
+  pub count : (total (tables_in stbl).durations == n) ≡ true
+
+pub record OffsetsRead (stbl : Box) (n : ℕ) (o : Option OffsetsAt) : Type 0 where
+  pub have : HaveOffsets stbl.payload o
+  pub same : option_map (composition_offsets_at stbl.payload) o ≡ (tables_in stbl).offsets
+  pub sound : AllOf (codes "ctts") (IsSound ctts) (boxes_of stbl)
+  pub count : unwrap_or (option_map (λ (rows : List (ℕ × ℤ)). total rows == n) (tables_in stbl).offsets) true ≡ true
+
+pub record ChunksRead (stbl : Box) (at : ChunksAt) : Type 0 where
+  pub have : HaveRoom (offset_width at.is_wide) stbl.payload at.rows
+  pub same : offsets_at stbl.payload at ≡ (tables_in stbl).chunk_offsets
+  pub narrow : AllOf (codes "stco") (IsSound stco) (boxes_of stbl)
+  pub wide : AllOf (codes "co64") (IsSound co64) (boxes_of stbl)
+
+pub record ChunkRowsRead (l : Limits) (stbl : Box) (n : ℕ) (r : RowsAt) : Type 0 where
+  pub have : HaveRoom 12 stbl.payload r
+  pub same : chunk_rows_at stbl.payload r ≡ (tables_in stbl).chunk_rows
+  pub sound : AllOf (codes "stsc") (IsSound stsc) (boxes_of stbl)
+  pub ordered : test chunk_order (surroundings_of l) (tables_in stbl) ≡ true
+  pub count : (in_chunks_total (tables_in stbl).chunk_rows 1 (tables_in stbl).chunk_offsets == n) ≡ true
+  pub described : test description_indexes (surroundings_of l) (tables_in stbl) ≡ true
+
+-- the box of the offsets of chunks
+abbrev pub IsOffsetsLeaf : Box → Box → Type 0
+IsOffsetsLeaf stbl b = IsFirstOf (codes "stco") (boxes_of stbl) b ⊎ IsFirstOf (codes "co64") (boxes_of stbl) b
+
+pub record SyncRead (stbl : Box) (n : ℕ) (o : Option RowsAt) : Type 0 where
+  pub have : HaveSync stbl.payload o
+  pub same : option_map (numbers_at 4 stbl.payload) o ≡ (tables_in stbl).sync
+  pub sound : AllOf (codes "stss") (IsSound stss) (boxes_of stbl)
+  pub ordered : unwrap_or (option_map (is_sync_order n) (tables_in stbl).sync) true ≡ true
+
+pub record DependenciesRead (stbl : Box) (n : ℕ) (o : Option BytesAt) : Type 0 where
+  pub have : HaveBytes stbl.payload o
+  pub same : option_map (bytes_at stbl.payload) o ≡ (tables_in stbl).dependencies
+  pub sound : AllOf (codes "sdtp") (IsSound sdtp) (boxes_of stbl)
+  pub room : unwrap_or (option_map (λ (bytes : List ℕ). nat_le n (length bytes)) (tables_in stbl).dependencies) true ≡ true
+
+pub record SizesRead (l : Limits) (stbl : Box) (at : SizesAt) : Type 0 where
+  pub have : HaveSizes stbl.payload at.form at.rows
+  pub same : sizes_at stbl.payload at ≡ (tables_in stbl).sizes
+  pub words : AllOf (codes "stsz") (IsSound stsz) (boxes_of stbl)
+  pub compact : AllOf (codes "stz2") (IsSound stz2) (boxes_of stbl)
+  pub few : at.rows.count ≤ l.room

@@ -6,7 +6,7 @@ ghost use Rattle.mp4_boxes.specs.BoxFaults.{fault_of};
 ghost use Rattle.mp4_boxes.specs.Children.{count_among};
 ghost use Rattle.mp4_boxes.specs.Layout.{version};
 ghost use Rattle.mp4_boxes.specs.View.{box_seen};
-ghost use Rattle.mp4_tables.specs.Leaves.{boxes_of, HasTables, IsFirstOf, VersionFails, RowsFail};
+ghost use Rattle.mp4_tables.specs.Leaves.{boxes_of, HasTables, IsFirstOf, IsChild, VersionFails, RowsFail, ShapeFails, RowsRead};
 
 use crate::places::RowsAt;
 use mp4_boxes::{BoxView, Children, Fault, FourCc, Kind, children, u32_at};
@@ -111,4 +111,16 @@ pub(crate) fn rows_of(stbl: BoxView, leaf: BoxView, fields: u8, width: u8) -> Re
         place: place_in(stbl, leaf) + fields,
         count,
     })
+}
+
+// The rows of a leaf of at most this version, with a count behind the version and rows of so many bytes.
+pub(crate) fn table_rows(stbl: BoxView, leaf: BoxView, last: u8, width: u8) -> Result<RowsAt, Fault>
+    requires tables { HasTables (box_seen stbl) }
+    requires child { IsChild (box_seen stbl) (box_seen leaf) }
+    ensures rows { IfOk result (RowsRead last 8 width (box_seen stbl.entry) (box_seen leaf.entry)) }
+    ensures fault { IfErr result (ShapeFails last 8 width (box_seen leaf.entry)) }
+{
+    version_of(leaf, last)?;
+    let rows = rows_of(stbl, leaf, 8, width)?;
+    Ok(rows)
 }
