@@ -42,6 +42,16 @@ readable_more kind kinds (b ∷ boxes) h k = (either (bytes_eq kind b.kind) refl
     either true e p q m = subst (λ k. IsReadableAs (leaf_of (ruled SampleTable) k) b.payload) (sym (same_kind kind b.kind e)) (p e)
     either false e p q m = q (rw e at m)
 
+-- types of which one can be read, and others
+pub readable_join : (kind : List ℕ) (kinds : List (List ℕ)) (boxes : List Box) → AreReadable (kind ∷ []) boxes → AreReadable kinds boxes → AreReadable (kind ∷ kinds) boxes
+readable_join kind kinds [] h k = tt
+readable_join kind kinds (b ∷ boxes) h k = (either (bytes_eq kind b.kind) refl h.0 k.0, readable_join kind kinds boxes h.1 k.1)
+  where
+    either : (v : Bool) → bytes_eq kind b.kind ≡ v → (is_among (kind ∷ []) b.kind ≡ true → IsReadableAs (leaf_of (ruled SampleTable) b.kind) b.payload) → (is_among kinds b.kind ≡ true → IsReadableAs (leaf_of (ruled SampleTable) b.kind) b.payload)
+        → is_among (kind ∷ kinds) b.kind ≡ true → IsReadableAs (leaf_of (ruled SampleTable) b.kind) b.payload
+    either true e p q m = p (rw e refl)
+    either false e p q m = q (rw e at m)
+
 -- a type names what it is among
 pub named_by : (kind : List ℕ) (boxes : List Box) (b : Box) → IsFirstOf kind boxes b → (kinds : List (List ℕ)) → is_among (kind ∷ kinds) b.kind ≡ true
 named_by kind boxes b i kinds = rw i.same refl
@@ -98,7 +108,7 @@ durations_read stbl b r n h i read t = record {
   count = ap (λ runs. total runs == n) (sym (durations_same stbl b r h i read)) ∙ t
   }
 
-all_readable : (kind : List ℕ) (leaf : Leaf) (boxes : List Box) → AllOf kind (IsSound leaf) boxes → AllOf kind (IsReadable leaf) boxes
+pub all_readable : (kind : List ℕ) (leaf : Leaf) (boxes : List Box) → AllOf kind (IsSound leaf) boxes → AllOf kind (IsReadable leaf) boxes
 all_readable kind leaf [] h = tt
 all_readable kind leaf (b ∷ boxes) h = ((λ e. (h.0 e).readable), all_readable kind leaf boxes h.1)
 
