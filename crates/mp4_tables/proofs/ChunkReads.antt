@@ -60,6 +60,10 @@ version_is false v h e = let q : v ≡ 0 = zero_of v h e in sym q
     zero_of : (v : ℕ) → v ≤ 1 → false ≡ nat_eq v 1 → v ≡ 0
     zero_of v h e = grind (arith, nat_tests)
 
+-- a version that is at most 1 and not 1 is 0
+pub unsigned_version : (b : Box) → version b.payload ≤ 1 → false ≡ nat_eq (version b.payload) 1 → version b.payload ≡ 0
+unsigned_version b h e = sym (version_is false (version b.payload) h e)
+
 offsets_are : (stbl b : Box) (r : RowsAt) (s : Bool) → HasTables stbl → IsFirstOf (codes "ctts") (boxes_of stbl) b → RowsRead 1 8 8 stbl b r → s ≡ nat_eq (version b.payload) 1 → (tables_in stbl).offsets ≡ Some (composition_offsets_at stbl.payload (record { rows = r; is_signed = s }))
 offsets_are stbl b r s h i read e =
     ap (option_map offsets_of) (payload_first (codes "ctts") (boxes_of stbl) b i)
@@ -169,7 +173,7 @@ one_of_both stbl h = count_each (codes "stco") (codes "co64") (boxes_of stbl) re
 pub wide_there : (stbl : Box) → HasTables stbl → count_among (codes "stco" ∷ []) (boxes_of stbl) ≡ 0 → 0 < count_among (codes "co64" ∷ []) (boxes_of stbl)
 wide_there stbl h e = let n = one_of_both stbl h in omega arith
 
-first_counts : (kind : List ℕ) (boxes : List Box) (b : Box) → IsFirstOf kind boxes b → 1 ≤ count_among (kind ∷ []) boxes
+pub first_counts : (kind : List ℕ) (boxes : List Box) (b : Box) → IsFirstOf kind boxes b → 1 ≤ count_among (kind ∷ []) boxes
 first_counts kind boxes b i = some (count_among (kind ∷ []) boxes) refl
   where
     some : (n : ℕ) → count_among (kind ∷ []) boxes ≡ n → 1 ≤ count_among (kind ∷ []) boxes
@@ -234,7 +238,7 @@ chunks_readable stbl b at r kinds h i read k more =
     (readable_more (codes "stco") (codes "co64" ∷ kinds) (boxes_of stbl) (all_readable (codes "stco") stco (boxes_of stbl) k.narrow)
     (readable_more (codes "co64") kinds (boxes_of stbl) (all_readable (codes "co64") co64 (boxes_of stbl) k.wide) more))
 
-no_readable : (boxes : List Box) → AreReadable [] boxes
+pub no_readable : (boxes : List Box) → AreReadable [] boxes
 no_readable [] = tt
 no_readable (b ∷ boxes) = ((λ m. absurd (never m)), no_readable boxes)
   where
@@ -313,3 +317,11 @@ chunk_rows_read l stbl b at r n h i read k sizes o e t = record {
   count = counts_as stbl b at r n n true h i read k refl e;
   described = described_as l stbl b at r n true h i read k sizes e t
   }
+
+-- an offset of a chunk takes four bytes at least
+pub narrower : (stbl : Box) (at : ChunksAt) → ChunksRead stbl at → at.rows.place + 4 * at.rows.count ≤ length stbl.payload
+narrower stbl at k = of at.is_wide k.have
+  where
+    of : (w : Bool) → HaveRoom (offset_width w) stbl.payload at.rows → at.rows.place + 4 * at.rows.count ≤ length stbl.payload
+    of true h = omega arith
+    of false h = omega arith
