@@ -1,6 +1,7 @@
 -- What was read of `stsz` or `stz2`, and the faults of these.
 use Rattle.std.proofs.Common.{◌≡◌, ℕ, zero, suc, ◌+◌, ◌-◌, ◌*◌, ◌/◌, ◌<◌, ◌≤◌, ◌⊎◌, inl, inr, List, [], ◌∷◌, length, take, drop, map, replicate, subst, refl, ap, sym, ◌∙◌, arith, Bool, true, false, cond, Option, Some, None}
-use Rattle.std.specs.Prelude.{bytes_eq, codes, IsTrue, unwrap_or, nat_eq, ◌==◌, ◌||◌, not}
+use Rattle.std.specs.Prelude.{bytes_eq, codes, IsTrue, unwrap_or, nat_eq, ◌==◌, ◌||◌, ◌%◌, not}
+use Rattle.std.specs.Int.{div_ceil}
 use Rattle.std.proofs.lemmas.List.{drop-drop, drop-take}
 use Rattle.std.proofs.lemmas.Bool.Decides.{nat_tests}
 use Rattle.mp4_boxes.specs.Bytes.{field, rows}
@@ -120,5 +121,101 @@ words_read l stbl b v r h i e k w c p few =
       same = s.0 ∙ ap (λ o. sample_sizes_of o (payload_of (codes "stz2") (boxes_of stbl))) (sym (payload_first (codes "stsz") (boxes_of stbl) b i));
       words = words_all stbl b v h i e k w;
       compact = no_compact stbl b h i;
+      few = few
+    }
+
+-- ---- `stz2`
+compact_needed : (payload : List ℕ) → needed stz2 payload ≡ 12 + rows_size stz2 payload
+compact_needed payload = omega arith
+
+pub compact_version : (l : Limits) (stbl b : Box) (f : Fault) → IsFirstOf (codes "stz2") (boxes_of stbl) b → VersionFails 0 b f → IsFault l stbl f
+compact_version l stbl b f i s = first_fault l stbl b (codes "stz2") stz2 f i refl (version_fails stz2 0 b f refl (let n = compact_needed b.payload in omega arith) s)
+
+pub compact_short : (l : Limits) (stbl b : Box) (f : Fault) → IsFirstOf (codes "stz2") (boxes_of stbl) b → length b.payload < 12 + rows_size stz2 b.payload → f ≡ fault_of ShortBox b → IsFault l stbl f
+compact_short l stbl b f i s n = first_fault l stbl b (codes "stz2") stz2 f i refl (record { kind = ShortBox; fails = (let m = compact_needed b.payload in omega arith); named = n })
+
+compact_readable : (b : Box) → version b.payload ≤ 0 → 12 + rows_size stz2 b.payload ≤ length b.payload → IsReadable stz2 b.payload
+compact_readable b v h = record { version = yes_le (version b.payload) 0 v; flags = refl; room = (let n = compact_needed b.payload in omega arith) }
+
+compact_all : (stbl b : Box) → HasTables stbl → IsFirstOf (codes "stz2") (boxes_of stbl) b → version b.payload ≤ 0 → 12 + rows_size stz2 b.payload ≤ length b.payload → AllOf (codes "stz2") (IsReadable stz2) (boxes_of stbl)
+compact_all stbl b h i v w = let n = one_of_both stbl h in all_first (codes "stz2") (IsReadable stz2) (boxes_of stbl) b i (omega arith) (compact_readable b v w)
+
+pub compact_many : (l : Limits) (stbl b : Box) (f : Fault) → HasTables stbl → count_among (codes "stsz" ∷ []) (boxes_of stbl) ≡ 0 → IsFirstOf (codes "stz2") (boxes_of stbl) b → version b.payload ≤ 0 → 12 + rows_size stz2 b.payload ≤ length b.payload → l.room < field b.payload 8 4 → f ≡ fault_of TooManySamples b → IsFault l stbl f
+compact_many l stbl b f h none i v w many s = inr (inr (record {
+  before = i.before;
+  b = b;
+  after = i.after;
+  stands = i.is;
+  sizes = among (bytes_eq (codes "stsz") b.kind) refl;
+  readable = sizes_readable stbl (all_none (codes "stsz") (IsReadable stsz) (boxes_of stbl) none) (compact_all stbl b h i v w);
+  many = many;
+  named = s
+  }))
+  where
+    among : (c : Bool) → bytes_eq (codes "stsz") b.kind ≡ c → is_among sample_sizes b.kind ≡ true
+    among true e = rw e refl
+    among false e = rw (e, i.same) refl
+
+pub compact_value : (l : Limits) (stbl b : Box) (f : Fault) → IsFirstOf (codes "stz2") (boxes_of stbl) b → version b.payload ≤ 0 → 12 + rows_size stz2 b.payload ≤ length b.payload → is_size_bits (size_bits b.payload) ≡ false → f ≡ fault_of BadValue b → IsFault l stbl f
+compact_value l stbl b f i v w e n = first_fault l stbl b (codes "stz2") stz2 f i refl (record { kind = BadValue; fails = (compact_readable b v w, ap not e); named = n })
+
+half_cut : (n m : ℕ) (bytes : List ℕ) → n ≤ 2 * m → half_bytes n (take m bytes) ≡ half_bytes n bytes
+half_cut zero m bytes h = refl
+half_cut (suc zero) zero bytes h = absurd (omega arith)
+half_cut (suc zero) (suc m) [] h = refl
+half_cut (suc zero) (suc m) (b ∷ bytes) h = refl
+half_cut (suc (suc n)) zero bytes h = absurd (omega arith)
+half_cut (suc (suc n)) (suc m) [] h = refl
+half_cut (suc (suc n)) (suc m) (b ∷ bytes) h = ap (λ xs. field (b ∷ bytes) 0 1 / 16 ∷ field (b ∷ bytes) 0 1 % 16 ∷ xs) (half_cut n m bytes (omega arith))
+
+half_there : (at : ℕ) (bytes : List ℕ) (b : Box) (n place : ℕ) → LiesIn at bytes b → at + place ≡ b.offset + b.header + 12 → 24 + n ≤ 2 * length b.payload → half_bytes n (drop place bytes) ≡ half_bytes n (drop 12 b.payload)
+half_there at bytes b n place i e h =
+    let is = i.is in
+    let p : place ≡ i.place + 12 = omega arith in
+    let l : length b.payload ≡ 12 + (length b.payload - 12) = omega arith in
+    let cut : drop 12 b.payload ≡ take (length b.payload - 12) (drop place bytes) =
+        ap (drop 12) (i.same ∙ ap (λ m. take m (drop i.place bytes)) l) ∙ drop-take 12 (length b.payload - 12) (drop i.place bytes)
+        ∙ ap (take (length b.payload - 12)) (drop-drop 12 i.place bytes ∙ ap (λ j. drop j bytes) (sym p)) in
+    sym (ap (half_bytes n) cut ∙ half_cut n (length b.payload - 12) (drop place bytes) (omega arith))
+
+-- the form of compact sizes of so many bits
+abbrev pub IsFormOf : SizeForm → ℕ → Type 0
+IsFormOf (forms.One size) bits = ⊥
+IsFormOf forms.Words bits = ⊥
+IsFormOf forms.Shorts bits = bits ≡ 16
+IsFormOf forms.Bytes bits = bits ≡ 8
+IsFormOf forms.HalfBytes bits = bits ≡ 4
+
+compact_same : (stbl b : Box) (form : SizeForm) (r : RowsAt) → LiesIn (stbl.offset + stbl.header) stbl.payload b → IsFormOf form (size_bits b.payload) → 12 + rows_size stz2 b.payload ≤ length b.payload → r.count ≡ field b.payload 8 4 → stbl.offset + stbl.header + r.place ≡ b.offset + b.header + 12
+    → (sizes_in form stbl.payload r ≡ compact_sizes_of b.payload) × HaveSizes stbl.payload form r × (is_size_bits (size_bits b.payload) ≡ true)
+unfolding sizes_in numbers_at
+compact_same stbl b (forms.One size) r i f w c p = absurd f
+compact_same stbl b forms.Words r i f w c p = absurd f
+compact_same stbl b forms.Shorts r i f w c p =
+    let a = i.is in let k = i.within in
+    let room : 12 + div_ceil (field b.payload 8 4 * 16) 8 ≤ length b.payload = subst (λ n. 12 + (cond (is_size_bits n) (div_ceil (field b.payload 8 4 * n) 8) 0) ≤ length b.payload) f w in
+    (ap (map first_number) (rows_there (stbl.offset + stbl.header) stbl.payload b r.count 12 r.place (2 ∷ []) i p (omega arith)) ∙ ap (λ n. map first_number (rows n (2 ∷ []) (drop 12 b.payload))) c
+      ∙ sym (ap (λ n. cond (n == 4) (half_bytes (sample_count b.payload) (drop 12 b.payload)) (map first_number (rows (sample_count b.payload) (n / 8 ∷ []) (drop 12 b.payload)))) f), omega arith, ap is_size_bits f)
+compact_same stbl b forms.Bytes r i f w c p =
+    let a = i.is in let k = i.within in
+    let room : 12 + div_ceil (field b.payload 8 4 * 8) 8 ≤ length b.payload = subst (λ n. 12 + (cond (is_size_bits n) (div_ceil (field b.payload 8 4 * n) 8) 0) ≤ length b.payload) f w in
+    (ap (map first_number) (rows_there (stbl.offset + stbl.header) stbl.payload b r.count 12 r.place (1 ∷ []) i p (omega arith)) ∙ ap (λ n. map first_number (rows n (1 ∷ []) (drop 12 b.payload))) c
+      ∙ sym (ap (λ n. cond (n == 4) (half_bytes (sample_count b.payload) (drop 12 b.payload)) (map first_number (rows (sample_count b.payload) (n / 8 ∷ []) (drop 12 b.payload)))) f), omega arith, ap is_size_bits f)
+compact_same stbl b forms.HalfBytes r i f w c p =
+    let a = i.is in let k = i.within in
+    let room : 12 + div_ceil (field b.payload 8 4 * 4) 8 ≤ length b.payload = subst (λ n. 12 + (cond (is_size_bits n) (div_ceil (field b.payload 8 4 * n) 8) 0) ≤ length b.payload) f w in
+    (half_there (stbl.offset + stbl.header) stbl.payload b r.count r.place i p (omega arith) ∙ ap (λ n. half_bytes n (drop 12 b.payload)) c
+      ∙ sym (ap (λ n. cond (n == 4) (half_bytes (sample_count b.payload) (drop 12 b.payload)) (map first_number (rows (sample_count b.payload) (n / 8 ∷ []) (drop 12 b.payload)))) f), omega arith, ap is_size_bits f)
+
+pub compact_read : (l : Limits) (stbl b : Box) (form : SizeForm) (r : RowsAt) → HasTables stbl → count_among (codes "stsz" ∷ []) (boxes_of stbl) ≡ 0 → IsFirstOf (codes "stz2") (boxes_of stbl) b → version b.payload ≤ 0 → IsFormOf form (size_bits b.payload) → 12 + rows_size stz2 b.payload ≤ length b.payload
+    → r.count ≡ field b.payload 8 4 → stbl.offset + stbl.header + r.place ≡ b.offset + b.header + 12 → r.count ≤ l.room → SizesRead l stbl (record { form = form; rows = r })
+compact_read l stbl b form r h none i v f w c p few =
+    let s = compact_same stbl b form r (lies_in stbl b h (first_is_child (codes "stz2") stbl b i)) f w c p in
+    let n = one_of_both stbl h in
+    record {
+      have = s.1;
+      same = s.0 ∙ ap compact_sizes_of (sym (payload_is (codes "stz2") (boxes_of stbl) b i)) ∙ ap (λ o. sample_sizes_of o (payload_of (codes "stz2") (boxes_of stbl))) (sym (payload_none (codes "stsz") (boxes_of stbl) none));
+      words = all_none (codes "stsz") (IsSound stsz) (boxes_of stbl) none;
+      compact = all_first (codes "stz2") (IsSound stz2) (boxes_of stbl) b i (omega arith) (record { readable = compact_readable b v w; value = ap not s.2; inside = refl; offsets = refl });
       few = few
     }
