@@ -1,6 +1,6 @@
 -- What was read of `stsz` or `stz2`, and the faults of these.
-use Rattle.std.proofs.Common.{◌≡◌, ℕ, zero, suc, ◌+◌, ◌-◌, ◌*◌, ◌/◌, ◌<◌, ◌≤◌, ◌⊎◌, inl, inr, List, [], ◌∷◌, length, take, drop, map, replicate, subst, refl, ap, sym, ◌∙◌, arith, Bool, true, false, cond, Option, Some, None}
-use Rattle.std.specs.Prelude.{bytes_eq, codes, IsTrue, unwrap_or, nat_eq, ◌==◌, ◌||◌, ◌%◌, not}
+use Rattle.std.proofs.Common.{◌≡◌, ◌≢◌, ℕ, zero, suc, ◌+◌, ◌-◌, ◌*◌, ◌/◌, ◌<◌, ◌≤◌, ◌⊎◌, inl, inr, List, [], ◌∷◌, length, take, drop, map, replicate, subst, refl, ap, sym, ◌∙◌, arith, Bool, true, false, cond, Option, Some, None}
+use Rattle.std.specs.Prelude.{bytes_eq, codes, IsTrue, unwrap_or, nat_eq, ◌==◌, ◌||◌, ◌%◌, not, slice_index}
 use Rattle.std.specs.Int.{div_ceil}
 use Rattle.std.proofs.lemmas.List.{drop-drop, drop-take}
 use Rattle.std.proofs.lemmas.Bool.Decides.{nat_tests}
@@ -17,7 +17,7 @@ use Rattle.mp4_boxes.proofs.Refusing.{line_has}
 use Rattle.mp4_tables.specs.Tables.{first_number, half_bytes, sample_count, sizes_of, compact_sizes_of, sample_sizes_of}
 use Rattle.mp4_tables.specs.Rows.{HaveSizes, numbers_at, sizes_in, sizes_at}
 use Rattle.mp4_tables.specs.TableRules.{AreReadable}
-use Rattle.mp4_tables.specs.Leaves.{boxes_of, HasTables, AllOf, IsFirstOf, LiesIn, FailsAs, IsTooMany, IsFault, VersionFails, tables_in, SizesKnown, SizesRead}
+use Rattle.mp4_tables.specs.Leaves.{boxes_of, HasTables, AllOf, IsFirstOf, LiesIn, FailsAs, IsTooMany, IsFault, VersionFails, tables_in, SizesKnown, SizesRead, IsFormOf}
 use Rattle.mp4_tables.specs.declared.leaves.Limits.{Limits}
 use Rattle.mp4_tables.specs.declared.places.RowsAt.{RowsAt}
 use Rattle.mp4_tables.specs.declared.places.SizesAt.{SizesAt}
@@ -178,14 +178,6 @@ half_there at bytes b n place i e h =
         ∙ ap (take (length b.payload - 12)) (drop-drop 12 i.place bytes ∙ ap (λ j. drop j bytes) (sym p)) in
     sym (ap (half_bytes n) cut ∙ half_cut n (length b.payload - 12) (drop place bytes) (omega arith))
 
--- the form of compact sizes of so many bits
-abbrev pub IsFormOf : SizeForm → ℕ → Type 0
-IsFormOf (forms.One size) bits = ⊥
-IsFormOf forms.Words bits = ⊥
-IsFormOf forms.Shorts bits = bits ≡ 16
-IsFormOf forms.Bytes bits = bits ≡ 8
-IsFormOf forms.HalfBytes bits = bits ≡ 4
-
 compact_same : (stbl b : Box) (form : SizeForm) (r : RowsAt) → LiesIn (stbl.offset + stbl.header) stbl.payload b → IsFormOf form (size_bits b.payload) → 12 + rows_size stz2 b.payload ≤ length b.payload → r.count ≡ field b.payload 8 4 → stbl.offset + stbl.header + r.place ≡ b.offset + b.header + 12
     → (sizes_in form stbl.payload r ≡ compact_sizes_of b.payload) × HaveSizes stbl.payload form r × (is_size_bits (size_bits b.payload) ≡ true)
 unfolding sizes_in numbers_at
@@ -219,3 +211,24 @@ compact_read l stbl b form r h none i v f w c p few =
       compact = all_first (codes "stz2") (IsSound stz2) (boxes_of stbl) b i (omega arith) (record { readable = compact_readable b v w; value = ap not s.2; inside = refl; offsets = refl });
       few = few
     }
+
+pub is_zero : (n m : ℕ) → n ≡ m → n ≡ 0 → (m == 0) ≡ true
+is_zero n m e z = let y : m ≡ 0 = sym e ∙ z in grind (arith, nat_tests)
+
+pub is_some : (n m : ℕ) → n ≡ m → (n ≡ 0 → ⊥) → (m == 0) ≡ false
+is_some n m e z = let y : m ≢ 0 = λ f. z (e ∙ f) in grind (arith, nat_tests)
+
+pub one_size_read : (l : Limits) (stbl b : Box) (size : ℕ) (r : RowsAt) → HasTables stbl → IsFirstOf (codes "stsz") (boxes_of stbl) b → size ≡ field b.payload 4 4 → (size ≡ 0 → ⊥) → version b.payload ≤ 0 → 12 ≤ length b.payload
+    → r.count ≡ field b.payload 8 4 → stbl.offset + stbl.header + r.place ≡ b.offset + b.header + 12 → r.count ≤ l.room → SizesRead l stbl (record { form = forms.One size; rows = r })
+one_size_read l stbl b size r h i e z k w c p few =
+    subst (λ n. SizesRead l stbl (record { form = forms.One n; rows = r })) (sym e) (words_read l stbl b false r h i (is_some size (field b.payload 4 4) e z) k w c p few)
+
+-- the bits of a compact size
+pub bits_are : (payload : List ℕ) (bits : ℕ) → bits ≡ slice_index payload 7 → bits ≡ size_bits payload
+bits_are payload bits e = let f : size_bits payload ≡ slice_index payload 7 = omega arith in e ∙ sym f
+
+-- how many bytes compact sizes take, from what was read
+pub compact_len_is : (b : Box) (payload : List ℕ) (bits count len : ℕ) → payload ≡ b.payload → bits ≡ slice_index payload 7 → count ≡ field payload 8 4 → len ≡ cond (is_size_bits bits) (div_ceil (count * bits) 8) 0 → len ≡ rows_size stz2 b.payload
+compact_len_is b payload bits count len e f g h =
+    let p = bits_are payload bits f in
+    h ∙ (λ i. cond (is_size_bits (p i)) (div_ceil (g i * p i) 8) 0) ∙ ap (rows_size stz2) e

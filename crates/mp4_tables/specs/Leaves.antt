@@ -22,6 +22,8 @@ use Rattle.mp4_tables.specs.declared.leaves.Limits.{Limits}
 use Rattle.mp4_tables.specs.declared.places.RowsAt.{RowsAt}
 use Rattle.mp4_tables.specs.declared.places.BytesAt.{BytesAt}
 use Rattle.mp4_tables.specs.declared.places.SizesAt.{SizesAt}
+use Rattle.mp4_tables.specs.declared.places.SizeForm.{SizeForm}
+use Rattle.mp4_tables.specs.declared.places.SizeForm.TheVariants as forms
 use Rattle.mp4_tables.specs.declared.places.OffsetsAt.{OffsetsAt}
 use Rattle.mp4_tables.specs.declared.places.ChunksAt.{ChunksAt}
 
@@ -169,3 +171,11 @@ pub record SizesRead (l : Limits) (stbl : Box) (at : SizesAt) : Type 0 where
   pub words : AllOf (codes "stsz") (IsSound stsz) (boxes_of stbl)
   pub compact : AllOf (codes "stz2") (IsSound stz2) (boxes_of stbl)
   pub few : at.rows.count ≤ l.room
+
+-- the form of compact sizes of so many bits
+abbrev pub IsFormOf : SizeForm → ℕ → Type 0
+IsFormOf (forms.One size) bits = ⊥
+IsFormOf forms.Words bits = ⊥
+IsFormOf forms.Shorts bits = bits ≡ 16
+IsFormOf forms.Bytes bits = bits ≡ 8
+IsFormOf forms.HalfBytes bits = bits ≡ 4
