@@ -222,7 +222,7 @@ chunk_rows_same stbl b r h i read =
     ∙ ap (λ n. map chunk_row_of (rows n (4 ∷ 4 ∷ 4 ∷ []) (drop 8 b.payload))) read.count
     ∙ ap chunk_rows_of (sym (payload_is (codes "stsc") (boxes_of stbl) b i))
 
-offsets_counted : (stbl : Box) (at : ChunksAt) → ChunksRead stbl at → length (tables_in stbl).chunk_offsets ≡ at.rows.count
+pub offsets_counted : (stbl : Box) (at : ChunksAt) → ChunksRead stbl at → length (tables_in stbl).chunk_offsets ≡ at.rows.count
 offsets_counted stbl at k = ap (λ (xs : List ℕ). length xs) (sym k.same) ∙ numbers_length (offset_width at.is_wide) stbl.payload at.rows
 
 -- the order of the rows, as the rule asks for it

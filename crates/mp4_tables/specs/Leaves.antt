@@ -15,7 +15,7 @@ use Rattle.mp4_tables.specs.Repeated.{total}
 use Rattle.mp4_tables.specs.Groups.{Grouping, GroupKey, keys_after, groupings_of}
 use Rattle.mp4_tables.specs.Tables.{Tables, sample_count, sample_sizes_of, durations_of, offsets_of, chunk_rows_of, chunk_offsets_of, tables_of}
 use Rattle.mp4_tables.specs.Rows.{HaveRoom, HaveSizes, runs_at, chunk_rows_at, numbers_at, offsets_at, offset_width, sizes_at}
-use Rattle.mp4_tables.specs.TableRules.{Surroundings, Fit, AreReadable, IsTableFault, test, chunk_order, description_indexes, is_sync_order}
+use Rattle.mp4_tables.specs.TableRules.{Surroundings, Fit, AreReadable, IsTableFault, test, chunk_order, description_indexes, places, is_sync_order}
 use Rattle.mp4_tables.specs.PlainSamples.{in_chunks_total}
 use Rattle.mp4_tables.specs.Accepted.{HaveOffsets, HaveSync, HaveBytes, composition_offsets_at, bytes_at}
 use Rattle.mp4_tables.specs.declared.leaves.Limits.{Limits}
@@ -179,3 +179,7 @@ IsFormOf forms.Words bits = ⊥
 IsFormOf forms.Shorts bits = bits ≡ 16
 IsFormOf forms.Bytes bits = bits ≡ 8
 IsFormOf forms.HalfBytes bits = bits ≡ 4
+
+-- all samples lie in the file
+abbrev pub PlacesRead : Limits → Box → Type 0
+PlacesRead l stbl = test places (surroundings_of l) (tables_in stbl) ≡ true

@@ -2,13 +2,14 @@
 ghost use Rattle.std.specs.Prelude.{◌≡◌, ◌+◌, ◌*◌, ◌≤◌, length, nat_eq, IfOk, IfErr};
 ghost use Rattle.mp4_boxes.specs.Layout.{version};
 ghost use Rattle.mp4_boxes.specs.View.{box_seen};
-ghost use Rattle.mp4_tables.specs.Leaves.{HasTables, SizesKnown, DurationsRead, OffsetsRead, ChunksRead, ChunkRowsRead, IsOffsetsLeaf, SyncRead, DependenciesRead, IsFault};
+ghost use Rattle.mp4_tables.specs.Leaves.{HasTables, SizesKnown, DurationsRead, OffsetsRead, ChunksRead, ChunkRowsRead, IsOffsetsLeaf, SyncRead, DependenciesRead, SizesRead, PlacesRead, IsFault};
 ghost use Rattle.mp4_tables.specs.Accepted.{offset_rows, count_of};
 
 use crate::chunks::{are_described, are_ordered, chunk_counts_are};
 use crate::leaves::{Limits, fault_at, first_of, only_of, place_in, table_rows, version_of};
-use crate::places::{BytesAt, ChunksAt, OffsetsAt, RowsAt};
+use crate::places::{BytesAt, ChunksAt, OffsetsAt, RowsAt, SizesAt};
 use crate::runs::{are_below, counts_are};
+use crate::spots::lie_within;
 use crate::sync_samples::are_numbers;
 use mp4_boxes::{BoxView, Fault, FourCc, Kind, Steps};
 use std::sync::ledger::Ledger;
@@ -197,4 +198,27 @@ pub(crate) fn read_dependencies(stbl: BoxView, limits: Limits, n: u32) -> Result
         place: place_in(stbl, leaf) + 4,
         length,
     }))
+}
+
+// Whether the samples lie in the file.
+pub(crate) fn check_places<L: Ledger>(
+    stbl: BoxView,
+    limits: Limits,
+    sizes: SizesAt,
+    chunks: ChunksAt,
+    rows: RowsAt,
+    steps: &mut Steps<L>,
+) -> Result<(), Fault>
+    requires tables { HasTables (box_seen stbl) }
+    requires sizes { SizesRead limits (box_seen stbl) sizes }
+    requires chunks { ChunksRead (box_seen stbl) chunks }
+    requires rows { ChunkRowsRead limits (box_seen stbl) sizes.rows.count rows }
+    ensures places { IfOk result (λ _. PlacesRead limits (box_seen stbl.entry)) }
+    ensures fault { IfErr result (IsFault limits (box_seen stbl.entry)) }
+    ensures passed { steps.new ≤ steps.old + 2 * sizes.rows.count + 2 * chunks.rows.count }
+{
+    if !lie_within(stbl.payload(), sizes, rows, chunks, limits.file_len, steps) {
+        return Err(fault_at(offsets_leaf(stbl), Kind::SampleOutsideFile));
+    }
+    Ok(())
 }
