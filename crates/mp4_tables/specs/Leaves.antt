@@ -1,5 +1,5 @@
 -- The children of an `stbl`, which of them is which table, and what is so where a check names a fault.
-use Rattle.std.specs.Prelude.{◌≡◌, ℕ, ◌+◌, ◌-◌, ◌*◌, ◌<◌, ◌≤◌, ◌⊎◌, ◌==◌, List, [], ◌∷◌, ◌++◌, length, take, drop, Bool, true, false, IsTrue, Option, Some, None, bytes_eq, codes, option_map, unwrap_or, nat_le, ℤ}
+use Rattle.std.specs.Prelude.{◌≡◌, ℕ, zero, suc, ◌+◌, ◌-◌, ◌*◌, ◌<◌, ◌≤◌, ◌⊎◌, ◌==◌, List, [], ◌∷◌, ◌++◌, length, take, drop, Bool, true, false, IsTrue, Option, Some, None, bytes_eq, codes, option_map, unwrap_or, nat_le, ℤ}
 use Rattle.std.specs.List.{AllByRecursion}
 use Rattle.mp4_boxes.specs.Bytes.{field}
 use Rattle.mp4_boxes.specs.Box.{Box, box_container, first_boxes}
@@ -12,12 +12,12 @@ use Rattle.mp4_boxes.specs.declared.fault.Fault.{Fault}
 use Rattle.mp4_boxes.specs.declared.fault.Kind.{Kind}
 use Rattle.mp4_boxes.specs.declared.fault.Kind.TheVariants.{ShortBox, BadVersion, TooManySamples}
 use Rattle.mp4_tables.specs.Repeated.{total}
-use Rattle.mp4_tables.specs.Groups.{Grouping, GroupKey, keys_after, groupings_of}
+use Rattle.mp4_tables.specs.Groups.{Grouping, GroupKey, GroupRule, keys_after, key_of, grouping_of, groupings_of, group_test}
 use Rattle.mp4_tables.specs.Tables.{Tables, sample_count, sample_sizes_of, durations_of, offsets_of, chunk_rows_of, chunk_offsets_of, tables_of}
 use Rattle.mp4_tables.specs.Rows.{HaveRoom, HaveSizes, runs_at, chunk_rows_at, numbers_at, offsets_at, offset_width, sizes_at}
 use Rattle.mp4_tables.specs.TableRules.{Surroundings, Fit, AreReadable, IsTableFault, test, chunk_order, description_indexes, places, is_sync_order}
 use Rattle.mp4_tables.specs.PlainSamples.{in_chunks_total}
-use Rattle.mp4_tables.specs.Accepted.{HaveOffsets, HaveSync, HaveBytes, composition_offsets_at, bytes_at}
+use Rattle.mp4_tables.specs.Accepted.{HaveOffsets, HaveSync, HaveBytes, composition_offsets_at, bytes_at, groupings_at, HaveGroups}
 use Rattle.mp4_tables.specs.declared.leaves.Limits.{Limits}
 use Rattle.mp4_tables.specs.declared.places.RowsAt.{RowsAt}
 use Rattle.mp4_tables.specs.declared.places.BytesAt.{BytesAt}
@@ -26,6 +26,7 @@ use Rattle.mp4_tables.specs.declared.places.SizeForm.{SizeForm}
 use Rattle.mp4_tables.specs.declared.places.SizeForm.TheVariants as forms
 use Rattle.mp4_tables.specs.declared.places.OffsetsAt.{OffsetsAt}
 use Rattle.mp4_tables.specs.declared.places.ChunksAt.{ChunksAt}
+use Rattle.mp4_tables.specs.declared.places.GroupsAt.{GroupsAt}
 
 -- the boxes in front of the payload of a box: its children, where they are those of the profile
 unfoldable pub boxes_of : Box → List Box
@@ -183,3 +184,25 @@ IsFormOf forms.HalfBytes bits = bits ≡ 4
 -- all samples lie in the file
 abbrev pub PlacesRead : Limits → Box → Type 0
 PlacesRead l stbl = test places (surroundings_of l) (tables_in stbl) ≡ true
+
+-- ---- sample groups
+
+-- these `sbgp`s were read so far, and all their rules are kept
+pub record GroupsSo (payload : List ℕ) (n : ℕ) (gs : List Grouping) (at : GroupsAt) : Type 0 where
+  pub same : groupings_at payload at ≡ gs
+  pub have : HaveGroups payload at
+  pub tests : (rule : GroupRule) (k : ℕ) → group_test rule n [] gs k ≡ true
+
+-- one slot of rows is taken, the others stay
+abbrev pub SlotTaken : ℕ → GroupsAt → RowsAt → GroupsAt → Type 0
+SlotTaken zero g r h = (h.first ≡ r) × (h.second ≡ g.second) × (h.third ≡ g.third) × (h.fourth ≡ g.fourth)
+SlotTaken (suc zero) g r h = (h.first ≡ g.first) × (h.second ≡ r) × (h.third ≡ g.third) × (h.fourth ≡ g.fourth)
+SlotTaken (suc (suc zero)) g r h = (h.first ≡ g.first) × (h.second ≡ g.second) × (h.third ≡ r) × (h.fourth ≡ g.fourth)
+SlotTaken (suc (suc (suc n))) g r h = (h.first ≡ g.first) × (h.second ≡ g.second) × (h.third ≡ g.third) × (h.fourth ≡ r)
+
+-- an `sbgp` was read: its key and its rows
+pub record GroupRead (stbl b : Box) (key : GroupKey) (r : RowsAt) : Type 0 where
+  pub named : key ≡ key_of b.payload
+  pub have : HaveRoom 8 stbl.payload r
+  pub same : runs_at stbl.payload r ≡ (grouping_of b.payload).rows
+  pub readable : IsReadable sbgp b.payload
