@@ -1,28 +1,35 @@
 -- Sample groups one after the other: with one more their rules are kept where it keeps them.
 use Rattle.std.proofs.Common.{◌≡◌, ◌≢◌, ℕ, zero, suc, ◌+◌, ◌-◌, ◌*◌, ◌<◌, ◌≤◌, ◌⊎◌, inl, inr, List, [], ◌∷◌, ◌++◌, length, take, drop, map, subst, refl, ap, sym, ◌∙◌, arith, Bool, true, false, cond, Option, Some, None, length-append}
-use Rattle.std.specs.Prelude.{nat_le, nat_lt, ◌==◌, ◌||◌, ◌&&◌, not, slice_index}
+use Rattle.std.specs.Prelude.{nat_le, nat_lt, ◌==◌, ◌||◌, ◌&&◌, not, slice_index, bytes_eq, codes}
 use Rattle.std.specs.List.{AllByRecursion, list_all, list_any, slice_get}
 use Rattle.std.proofs.lemmas.Bool.{cases_lt}
 use Rattle.std.proofs.lemmas.Bool.Decides.{nat_tests}
 use Rattle.std.proofs.lemmas.List.{length-map}
-use Rattle.mp4_boxes.proofs.Among.{all_append}
+use Rattle.mp4_boxes.proofs.Among.{all_append, of_kind-split, of_kind-append}
 use Rattle.mp4_tables.specs.Repeated.{total}
-use Rattle.mp4_tables.specs.Groups.{GroupKey, Grouping, GroupRule, one_of_key, few_keys, index_range, group_counts, same_key, keys_after, grouping_of, key_of, keeps, group_test}
+use Rattle.mp4_tables.specs.Groups.{GroupKey, Grouping, GroupRule, one_of_key, few_keys, index_range, group_counts, same_key, keys_after, grouping_of, groupings_of, key_of, keeps, group_test, group_reads, group_kind}
 use Rattle.mp4_tables.specs.Keys.{keys_seen}
 use Rattle.mp4_tables.specs.Rows.{HaveRoom, run_of, runs_at}
 use Rattle.mp4_tables.specs.Coming.{all_below}
 use Rattle.mp4_tables.specs.Accepted.{grouped, group_rows, groupings_at, AreDistinct, AreUsed, AreIndexes, HaveGroup, HaveGroups}
 use Rattle.mp4_boxes.specs.Bytes.{field, rows, width_of}
 use Rattle.mp4_boxes.specs.Box.{Box}
-use Rattle.mp4_boxes.specs.Layout.{sbgp, version, needed, IsReadable}
+use Rattle.mp4_boxes.specs.Children.{of_kind}
+use Rattle.mp4_boxes.specs.Places.{leaf_of, ruled}
+use Rattle.mp4_boxes.specs.declared.rule.Rule.TheVariants.{SampleTable}
+use Rattle.mp4_boxes.specs.Layout.{sbgp, sgpd, version, needed, IsReadable, IsSound}
+use Rattle.mp4_boxes.proofs.Sound.{same_kind}
+use Rattle.mp4_tables.specs.TableRules.{table_group, reads, AreReadable, GroupsReadable}
+use Rattle.mp4_tables.specs.declared.leaves.Limits.{Limits}
+use Rattle.mp4_tables.proofs.ChunkReads.{no_readable}
 use Rattle.mp4_boxes.specs.BoxFaults.{fault_of}
 use Rattle.mp4_boxes.specs.declared.fault.Fault.{Fault}
 use Rattle.mp4_boxes.specs.declared.fault.Kind.TheVariants.{ShortBox}
-use Rattle.mp4_tables.specs.Leaves.{GroupsSo, SlotTaken, GroupRead, HasTables, IsChild, LiesIn, FailsAs, VersionFails, RowsFail, RowsRead}
+use Rattle.mp4_tables.specs.Leaves.{GroupsSo, SlotTaken, GroupRead, HasTables, IsChild, LiesIn, FailsAs, VersionFails, RowsFail, RowsRead, boxes_of, AllOf, tables_in, SizesKnown, IsFault, ChildFails, ChildRead, OtherChild, GroupNext, GroupFails, GroupRuleFails, GroupsRead}
 use Rattle.mp4_tables.proofs.LeafLists.{lies_in, room_there, runs_there, version_fails}
 use Rattle.mp4_tables.specs.declared.places.RowsAt.{RowsAt}
 use Rattle.mp4_tables.specs.declared.places.GroupsAt.{GroupsAt}
-use Rattle.mp4_tables.proofs.ChunkLists.{both, lt_yes, yes_le}
+use Rattle.mp4_tables.proofs.ChunkLists.{both, lt_yes, yes_le, no_le}
 use Rattle.mp4_tables.proofs.SampleLists.{same_both}
 use Rattle.mp4_tables.proofs.IndexLists.{group_keys, grouped_keys}
 
@@ -233,3 +240,121 @@ group_read stbl b v key r h i e read k p =
     parameter_is : (c : Bool) → (version b.payload == 0) ≡ c → parameter_in b.payload c ≡ cond (version b.payload == 0) None (Some (field b.payload 8 4))
     parameter_is true f = sym (ap (λ d. cond d None (Some (field b.payload 8 4))) f)
     parameter_is false f = sym (ap (λ d. cond d None (Some (field b.payload 8 4))) f)
+
+-- ---- lifting to the children of an `stbl`
+found_in : {A B : Type 0} (f : A → B) (xs ys : List A) (y : A) → slice_get (map f (xs ++ y ∷ ys)) (length xs) ≡ Some (f y)
+found_in f [] ys y = refl
+found_in f (x ∷ xs) ys y = found_in f xs ys y
+
+found_there : {A : Type 0} (xs ys : List A) (y : A) → slice_get (xs ++ y ∷ ys) (length xs) ≡ Some y
+found_there [] ys y = refl
+found_there (x ∷ xs) ys y = found_there xs ys y
+
+taken_in : {A B : Type 0} (f : A → B) (xs ys : List A) → take (length xs) (map f (xs ++ ys)) ≡ map f xs
+taken_in f [] ys = refl
+taken_in f (x ∷ xs) ys = ap (λ zs. f x ∷ zs) (taken_in f xs ys)
+
+taken_with : {A : Type 0} (xs ys : List A) (y : A) → take (suc (length xs)) (xs ++ y ∷ ys) ≡ xs ++ y ∷ []
+taken_with [] ys y = refl
+taken_with (x ∷ xs) ys y = ap (λ zs. x ∷ zs) (taken_with xs ys y)
+
+dropped_to : {A : Type 0} (xs : List A) (y : A) → drop (length xs) (xs ++ y ∷ []) ≡ y ∷ []
+dropped_to [] y = refl
+dropped_to (x ∷ xs) y = dropped_to xs y
+
+kept_all : (kind : List ℕ) (P : List ℕ → Type 0) (boxes : List Box) → AllOf kind P boxes → AllByRecursion (λ (b : Box). P b.payload) (of_kind kind boxes)
+kept_all kind P [] h = tt
+kept_all kind P (b ∷ boxes) h = choose (bytes_eq kind b.kind) refl h.0 (kept_all kind P boxes h.1)
+  where
+    choose : (v : Bool) → bytes_eq kind b.kind ≡ v → (bytes_eq kind b.kind ≡ true → P b.payload) → AllByRecursion (λ (c : Box). P c.payload) (of_kind kind boxes) → AllByRecursion (λ (c : Box). P c.payload) (of_kind kind (b ∷ boxes))
+    choose true e p more = rw e (p e, more)
+    choose false e p more = rw e more
+
+pub record GroupsPassed (stbl : Box) (n : ℕ) (at : GroupsAt) (left : List Box) : Type 0 where
+  pub passed : List Box
+  pub is : boxes_of stbl ≡ passed ++ left
+  pub so : GroupsSo stbl.payload n (groupings_of (of_kind (codes "sbgp") passed)) at
+  pub groups : AllOf (codes "sbgp") (IsReadable sbgp) passed
+  pub described : AllOf (codes "sgpd") (IsSound sgpd) passed
+
+group_readable : (rule : GroupRule) (stbl : Box) (n k : ℕ) → SizesKnown stbl n → AreReadable (reads (table_group rule k)) (boxes_of stbl)
+group_readable one_of_key stbl n k s = no_readable (boxes_of stbl)
+group_readable few_keys stbl n k s = no_readable (boxes_of stbl)
+group_readable index_range stbl n k s = no_readable (boxes_of stbl)
+group_readable group_counts stbl n k s = s.readable
+
+groups_readable : (rule : GroupRule) (gs more : List Box) (b : Box) → GroupsReadable gs → IsReadable sbgp b.payload → GroupsReadable (group_reads rule (length gs) (gs ++ b ∷ more))
+groups_readable one_of_key gs more b h k = subst GroupsReadable (sym (taken_with gs more b)) (all_append (λ (c : Box). IsReadable sbgp c.payload) gs (b ∷ []) h (k, tt))
+groups_readable few_keys gs more b h k = subst GroupsReadable (sym (taken_with gs more b)) (all_append (λ (c : Box). IsReadable sbgp c.payload) gs (b ∷ []) h (k, tt))
+groups_readable index_range gs more b h k = subst GroupsReadable (sym (ap (drop (length gs)) (taken_with gs more b) ∙ dropped_to gs b)) (k, tt)
+groups_readable group_counts gs more b h k = subst GroupsReadable (sym (ap (drop (length gs)) (taken_with gs more b) ∙ dropped_to gs b)) (k, tt)
+
+-- a fault of the next child is a fault of the check
+pub child_fault : (l : Limits) (stbl b : Box) (n : ℕ) (at : GroupsAt) (left later : List Box) (f : Fault) → HasTables stbl → SizesKnown stbl n → GroupsPassed stbl n at left → left ≡ b ∷ later → ChildFails stbl.payload n at b f → IsFault l stbl f
+child_fault l stbl b n at left later f h s p e (inl d) = inl (record {
+  before = p.passed; b = b; after = later; stands = p.is ∙ ap (λ bs. p.passed ++ bs) e; leaf = sgpd;
+  read = ap (leaf_of (ruled SampleTable)) (same_kind (codes "sgpd") b.kind d.0);
+  fails = d.1 })
+child_fault l stbl b n at left later f h s p e (inr (k, inl d)) = inl (record {
+  before = p.passed; b = b; after = later; stands = p.is ∙ ap (λ bs. p.passed ++ bs) e; leaf = sbgp;
+  read = ap (leaf_of (ruled SampleTable)) (same_kind (codes "sbgp") b.kind k);
+  fails = d })
+child_fault l stbl b n at left later f h s p e (inr (k, inr r)) =
+    let G = of_kind (codes "sbgp") p.passed in
+    let M = of_kind (codes "sbgp") later in
+    let all : boxes_of stbl ≡ p.passed ++ b ∷ later = p.is ∙ ap (λ bs. p.passed ++ bs) e in
+    let split : of_kind (codes "sbgp") (boxes_of stbl) ≡ G ++ b ∷ M = ap (of_kind (codes "sbgp")) all ∙ of_kind-split (codes "sbgp") p.passed later b k in
+    let m = s.count in
+    let gs = (tables_in stbl).groups in
+    let found : slice_get gs (length G) ≡ Some (grouping_of b.payload) = ap (λ bs. slice_get (groupings_of bs) (length G)) split ∙ found_in (λ (c : Box). grouping_of c.payload) G M b in
+    let front : take (length G) gs ≡ groupings_of G = ap (λ bs. take (length G) (groupings_of bs)) split ∙ taken_in (λ (c : Box). grouping_of c.payload) G (b ∷ M) in
+    let fails : group_test r.rule (length (tables_in stbl).sizes) [] gs (length G) ≡ false =
+        ap (λ x. group_test r.rule x [] gs (length G)) m ∙ test_at r.rule n (length G) gs (grouping_of b.payload) false found (ap (λ before. keeps r.rule n [] before (grouping_of b.payload)) front ∙ r.fails (groupings_of G) p.so) in
+    inr (inl (λ d. record {
+      children = boxes_of stbl; holds = h; rule = table_group r.rule (length G);
+      readable = group_readable r.rule stbl n (length G) s;
+      groups_readable = subst (λ bs. GroupsReadable (group_reads r.rule (length G) bs)) (sym split) (groups_readable r.rule G M b (kept_all (codes "sbgp") (IsReadable sbgp) p.passed p.groups) r.readable);
+      ordered = λ x. absurd (never x);
+      fails = fails; before = p.passed; b = b; after = later; stands = all;
+      is_named = ap (λ bs. slice_get bs (length G)) split ∙ found_there G M b;
+      same = r.named }))
+  where
+    never : false ≡ true → ⊥
+    never x = cc
+
+-- ---- the rules of one `sbgp` that was read
+pub group_twice : (stbl b : Box) (key : GroupKey) (r : RowsAt) (n : ℕ) (at : GroupsAt) (f : Fault) → GroupRead stbl b key r → list_any (same_key key) (keys_seen at.keys) ≡ true → f ≡ fault_of (group_kind one_of_key) b → GroupFails stbl.payload n at b f
+group_twice stbl b key r n at f g e s = inr (record { rule = one_of_key; readable = g.readable; named = s;
+  fails = λ gs so. keeps_key stbl.payload n n at gs (grouping_of b.payload) true so (ap (λ k. list_any (same_key k) (keys_seen at.keys)) (sym g.named) ∙ e) })
+
+four_is : (x : ℕ) → x ≡ 4 → (x == 4) ≡ true
+four_is x e = grind (arith, nat_tests)
+
+four_not : (x : ℕ) → (x ≡ 4 → ⊥) → (x == 4) ≡ false
+four_not x e = let h : x ≢ 4 = e in grind (arith, nat_tests)
+
+pub group_fifth : (stbl b : Box) (key : GroupKey) (r : RowsAt) (n : ℕ) (at : GroupsAt) (f : Fault) → GroupRead stbl b key r → list_any (same_key key) (keys_seen at.keys) ≡ false → length (keys_seen at.keys) ≡ 4 → f ≡ fault_of (group_kind few_keys) b → GroupFails stbl.payload n at b f
+group_fifth stbl b key r n at f g e l s = inr (record { rule = few_keys; readable = g.readable; named = s;
+  fails = λ gs so. keeps_few stbl.payload n n at gs (grouping_of b.payload) true so (ap (λ k. list_any (same_key k) (keys_seen at.keys)) (sym g.named) ∙ e) (four_is (length (keys_seen at.keys)) l) })
+
+pub group_range : (stbl b : Box) (key : GroupKey) (r : RowsAt) (n : ℕ) (at : GroupsAt) (f : Fault) → GroupRead stbl b key r → all_below 65536 (runs_at stbl.payload r) ≡ false → f ≡ fault_of (group_kind index_range) b → GroupFails stbl.payload n at b f
+group_range stbl b key r n at f g e s = inr (record { rule = index_range; readable = g.readable; named = s;
+  fails = λ gs so. keeps_range n gs (grouping_of b.payload) false (ap (all_below 65536) (sym g.same) ∙ e) })
+
+many_not : (x n : ℕ) → (x ≤ n → ⊥) → nat_le x n ≡ false
+many_not x n e = no_le x n (omega (arith, e))
+
+pub group_many : (stbl b : Box) (key : GroupKey) (r : RowsAt) (n : ℕ) (at : GroupsAt) (f : Fault) → GroupRead stbl b key r → (total (runs_at stbl.payload r) ≤ n → ⊥) → f ≡ fault_of (group_kind group_counts) b → GroupFails stbl.payload n at b f
+group_many stbl b key r n at f g e s = inr (record { rule = group_counts; readable = g.readable; named = s;
+  fails = λ gs so. ap (λ runs. nat_le (total runs) n) (sym g.same) ∙ many_not (total (runs_at stbl.payload r)) n e })
+
+pub group_next : (stbl b : Box) (key : GroupKey) (r : RowsAt) (n : ℕ) (at after : GroupsAt) → GroupRead stbl b key r → list_any (same_key key) (keys_seen at.keys) ≡ false → (length (keys_seen at.keys) ≡ 4 → ⊥) → all_below 65536 (runs_at stbl.payload r) ≡ true → total (runs_at stbl.payload r) ≤ n
+    → length (keys_seen at.keys) < 4 → keys_seen after.keys ≡ keys_seen at.keys ++ key ∷ [] → SlotTaken (length (keys_seen at.keys)) at r after → GroupNext stbl.payload n at b after
+group_next stbl b key r n at after g new four small few l ks slot = record {
+  readable = g.readable;
+  so = λ gs so. subst (λ (x : Grouping). GroupsSo stbl.payload n (gs ++ x ∷ []) after) ((λ j. record { key = g.named j; rows = g.same j }))
+    (group_added stbl.payload n (length (keys_seen at.keys)) at after gs key r so ks refl slot new l g.have small few)
+  }
+
+pub not_true : ◌≡◌ {A = Bool} false true → ⊥
+not_true e = cc

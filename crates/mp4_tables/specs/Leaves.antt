@@ -12,7 +12,7 @@ use Rattle.mp4_boxes.specs.declared.fault.Fault.{Fault}
 use Rattle.mp4_boxes.specs.declared.fault.Kind.{Kind}
 use Rattle.mp4_boxes.specs.declared.fault.Kind.TheVariants.{ShortBox, BadVersion, TooManySamples}
 use Rattle.mp4_tables.specs.Repeated.{total}
-use Rattle.mp4_tables.specs.Groups.{Grouping, GroupKey, GroupRule, keys_after, key_of, grouping_of, groupings_of, group_test}
+use Rattle.mp4_tables.specs.Groups.{Grouping, GroupKey, GroupRule, keys_after, key_of, grouping_of, groupings_of, group_test, group_kind, keeps}
 use Rattle.mp4_tables.specs.Tables.{Tables, sample_count, sample_sizes_of, durations_of, offsets_of, chunk_rows_of, chunk_offsets_of, tables_of}
 use Rattle.mp4_tables.specs.Rows.{HaveRoom, HaveSizes, runs_at, chunk_rows_at, numbers_at, offsets_at, offset_width, sizes_at}
 use Rattle.mp4_tables.specs.TableRules.{Surroundings, Fit, AreReadable, IsTableFault, test, chunk_order, description_indexes, places, is_sync_order}
@@ -206,3 +206,35 @@ pub record GroupRead (stbl b : Box) (key : GroupKey) (r : RowsAt) : Type 0 where
   pub have : HaveRoom 8 stbl.payload r
   pub same : runs_at stbl.payload r ≡ (grouping_of b.payload).rows
   pub readable : IsReadable sbgp b.payload
+
+-- an `sbgp` does not keep a rule, behind those that were read
+pub record GroupRuleFails (payload : List ℕ) (n : ℕ) (at : GroupsAt) (b : Box) (f : Fault) : Type 0 where
+  pub rule : GroupRule
+  pub readable : IsReadable sbgp b.payload
+  pub fails : (gs : List Grouping) → GroupsSo payload n gs at → keeps rule n [] gs (grouping_of b.payload) ≡ false
+  pub named : f ≡ fault_of (group_kind rule) b
+
+abbrev pub GroupFails : List ℕ → ℕ → GroupsAt → Box → Fault → Type 0
+GroupFails payload n at b f = FailsAs sbgp b f ⊎ GroupRuleFails payload n at b f
+
+-- an `sbgp` was read behind those: all are still in order with it
+pub record GroupNext (payload : List ℕ) (n : ℕ) (at : GroupsAt) (b : Box) (after : GroupsAt) : Type 0 where
+  pub readable : IsReadable sbgp b.payload
+  pub so : (gs : List Grouping) → GroupsSo payload n gs at → GroupsSo payload n (gs ++ grouping_of b.payload ∷ []) after
+
+-- a child that is no `sbgp`, and if it is an `sgpd`, a sound one
+pub record OtherChild (at : GroupsAt) (b : Box) (after : GroupsAt) : Type 0 where
+  pub other : bytes_eq (codes "sbgp") b.kind ≡ false
+  pub same : after ≡ at
+  pub described : bytes_eq (codes "sgpd") b.kind ≡ true → IsSound sgpd b.payload
+
+abbrev pub ChildRead : List ℕ → ℕ → GroupsAt → Box → GroupsAt → Type 0
+ChildRead payload n at b after = OtherChild at b after ⊎ ((bytes_eq (codes "sbgp") b.kind ≡ true) × GroupNext payload n at b after)
+
+abbrev pub ChildFails : List ℕ → ℕ → GroupsAt → Box → Fault → Type 0
+ChildFails payload n at b f = ((bytes_eq (codes "sgpd") b.kind ≡ true) × FailsAs sgpd b f) ⊎ ((bytes_eq (codes "sbgp") b.kind ≡ true) × GroupFails payload n at b f)
+
+pub record GroupsRead (stbl : Box) (n : ℕ) (at : GroupsAt) : Type 0 where
+  pub so : GroupsSo stbl.payload n (tables_in stbl).groups at
+  pub groups : AllOf (codes "sbgp") (IsReadable sbgp) (boxes_of stbl)
+  pub described : AllOf (codes "sgpd") (IsSound sgpd) (boxes_of stbl)
