@@ -95,7 +95,7 @@ none_named (key ∷ more) = (refl, none_named more)
 pub keys_are : (gs : List Grouping) → AreDistinct (map (λ (g : Grouping). g.key) gs) → keys_after [] gs ≡ map (λ (g : Grouping). g.key) gs
 keys_are gs d = all_named [] (map (λ (g : Grouping). g.key) gs) (none_named (map (λ (g : Grouping). g.key) gs)) d
 
-grouped_keys : (keys : List GroupKey) (rows : List (List (ℕ × ℕ))) → AreUsed keys rows → map (λ (g : Grouping). g.key) (grouped keys rows) ≡ keys
+pub grouped_keys : (keys : List GroupKey) (rows : List (List (ℕ × ℕ))) → AreUsed keys rows → map (λ (g : Grouping). g.key) (grouped keys rows) ≡ keys
 grouped_keys [] rows u = refl
 grouped_keys (key ∷ keys) [] u = absurd u
 grouped_keys (key ∷ keys) (r ∷ rows) u = ap (λ (ks : List GroupKey). key ∷ ks) (grouped_keys keys rows u)

@@ -1,5 +1,11 @@
 pub mod Counts
 pub mod RowLists
+pub mod GroupReads
+pub mod PlaceReads
+pub mod SizeReads
+pub mod ChunkReads
+pub mod TableReads
+pub mod LeafLists
 pub mod PlaceLists
 pub mod IndexLists
 pub mod SampleLists

@@ -1,12 +1,14 @@
 -- Values that rows repeat, and what is left of them.
 use Rattle.std.proofs.Common.{◌≡◌, ℕ, zero, suc, ◌+◌, ◌-◌, ◌<◌, ◌≤◌, List, [], ◌∷◌, ◌++◌, length, drop, replicate, refl, ap, sym, ◌∙◌, arith}
 use Rattle.std.proofs.lemmas.List.{append_assoc, append-nil}
+use Rattle.std.specs.Prelude.{nat_lt, ◌&&◌, true, false}
 use Rattle.mp4_tables.specs.Repeated.{repeated, total}
 use Rattle.mp4_tables.specs.Rows.{runs_at}
-use Rattle.mp4_tables.specs.Coming.{coming, IsRunPlace}
+use Rattle.mp4_tables.specs.Coming.{coming, IsRunPlace, all_below}
 use Rattle.mp4_tables.specs.declared.places.RowsAt.{RowsAt}
 use Rattle.mp4_tables.specs.declared.places.RunPlace.{RunPlace}
 use Rattle.mp4_tables.proofs.RowLists.{runs_all}
+use Rattle.mp4_tables.proofs.ChunkLists.{yes_lt, no_lt}
 
 -- a place with nothing left takes up the next row
 pub coming_more : (runs : List (ℕ × ℕ)) (k value : ℕ) (count next : ℕ) → drop k runs ≡ (count, next) ∷ drop (k + 1) runs
@@ -40,3 +42,19 @@ pub total_all : (payload : List ℕ) (at : RowsAt) (k : ℕ) → at.count ≤ k 
 total_all payload at k h = ap total (runs_all payload at k h)
 
 pub ruleset counting = (total_more, total_all)
+
+-- all values are below a bound if the next one and the others are
+below_more : (runs : List (ℕ × ℕ)) (bound k count value : ℕ) → drop k runs ≡ (count, value) ∷ drop (k + 1) runs
+    → all_below bound (drop k runs) ≡ (nat_lt value bound && all_below bound (drop (k + 1) runs))
+below_more runs bound k count value e = ap (all_below bound) e
+
+pub below_yes : (runs : List (ℕ × ℕ)) (bound k count value : ℕ) → drop k runs ≡ (count, value) ∷ drop (k + 1) runs → value < bound
+    → all_below bound (drop k runs) ≡ all_below bound (drop (k + 1) runs)
+below_yes runs bound k count value e h = below_more runs bound k count value e ∙ ap (λ b. b && all_below bound (drop (k + 1) runs)) (yes_lt value bound h)
+
+pub below_no : (runs : List (ℕ × ℕ)) (bound k count value : ℕ) → drop k runs ≡ (count, value) ∷ drop (k + 1) runs → bound ≤ value
+    → all_below bound (drop k runs) ≡ false
+below_no runs bound k count value e h = below_more runs bound k count value e ∙ ap (λ b. b && all_below bound (drop (k + 1) runs)) (no_lt value bound h)
+
+pub below_all : (payload : List ℕ) (at : RowsAt) (bound k : ℕ) → at.count ≤ k → all_below bound (drop k (runs_at payload at)) ≡ true
+below_all payload at bound k h = ap (all_below bound) (runs_all payload at k h)

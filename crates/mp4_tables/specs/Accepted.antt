@@ -181,3 +181,8 @@ indexes_here payload at k = map (λ (runs : List (ℕ × ℕ)). slice_index (rep
 -- the rows and samples that a walk passed on its way to a place: of sizes and of samples as many as its number
 abbrev pub passed : TablePlace → ℕ
 passed p = 2 * p.number + p.duration.row + p.offset.row + p.chunk.opened + p.chunk.row.row + p.sync.row + p.groups.first.row + p.groups.second.row + p.groups.third.row + p.groups.fourth.row
+
+-- how many rows a table has, if there is one
+abbrev pub count_of : Option RowsAt → ℕ
+count_of None = 0
+count_of (Some at) = at.count

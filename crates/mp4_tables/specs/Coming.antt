@@ -1,5 +1,5 @@
 -- What a place in a table stands for: what is still to come of it.
-use Rattle.std.specs.Prelude.{◌≡◌, ℕ, suc, ◌+◌, ◌-◌, ◌*◌, ◌^◌, ◌<◌, ◌≤◌, List, [], ◌∷◌, ◌++◌, length, take, drop, map, replicate, Bool, true, ◌||◌, ◌&&◌, ℤ, pos, filter, nat_le, nat_eq, unwrap_or, Option, Some, None, slice_index}
+use Rattle.std.specs.Prelude.{◌≡◌, ℕ, suc, ◌+◌, ◌-◌, ◌*◌, ◌^◌, ◌<◌, ◌≤◌, List, [], ◌∷◌, ◌++◌, length, take, drop, map, replicate, Bool, true, ◌||◌, ◌&&◌, ℤ, pos, filter, nat_le, nat_lt, nat_eq, unwrap_or, Option, Some, None, slice_index}
 use Rattle.std.specs.List.{last_or, list_any, list_all}
 use Rattle.mp4_tables.specs.Repeated.{repeated}
 use Rattle.mp4_tables.specs.Tables.{ChunkRow}
@@ -19,6 +19,10 @@ pub record IsRunPlace (runs : List (ℕ × ℕ)) (p : RunPlace) (values : List �
   pub rest : coming runs p ≡ values
   pub settled : p.left ≡ 0 → values ≡ []
   pub within : p.row ≤ length runs
+
+-- the value of each row is below a bound
+abbrev pub all_below : ℕ → List (ℕ × ℕ) → Bool
+all_below bound runs = list_all (λ run. nat_lt run.1 bound) runs
 
 -- ---- chunks
 

@@ -9,3 +9,4 @@ pub mod Coming
 pub mod Timed
 pub mod Accepted
 pub mod Views
+pub mod Leaves

@@ -8,6 +8,9 @@ ghost use Rattle.mp4_tables.specs.Accepted.{AreGroupPlaces, HaveGroups, IsRunPla
 use crate::places::{GroupPlaces, GroupsAt, RowsAt, RunPlace};
 use crate::runs::{pass, settle};
 
+/// No rows.
+pub(crate) const NO_ROWS: RowsAt = RowsAt { place: 0, count: 0 };
+
 // Before the first sample.
 #[tactic(auto, using(crate::proofs::GroupLists::starting))]
 fn first_index(payload: &[u8], rows: RowsAt) -> RunPlace

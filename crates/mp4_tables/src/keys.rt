@@ -41,7 +41,9 @@ impl GroupKey {
 }
 
 impl Keys {
-    ghost use Rattle.std.specs.Prelude.{◌≡◌, ◌++◌, ◌∷◌, ◌<◌, ◌+◌, drop, [], length};
+    ghost use Rattle.std.specs.Prelude.{◌≡◌, ◌++◌, ◌∷◌, ◌<◌, ◌≤◌, ◌+◌, drop, [], length};
+    ghost use Rattle.std.specs.List.{list_any};
+    ghost use Rattle.mp4_tables.specs.Groups.{same_key};
     ghost use Rattle.mp4_tables.specs.Keys.{key_seen, keys_seen, key_place};
 
     /// No key is named yet.
@@ -56,7 +58,8 @@ impl Keys {
 
     /// How many keys are named.
     pub fn count(&self) -> u8
-        ensures { result ≡ length (keys_seen self.now) }
+        ensures is { result ≡ length (keys_seen self.now) }
+        ensures few { result ≤ 4 }
     {
         self.count
     }
@@ -80,6 +83,16 @@ impl Keys {
             }
         }
         None
+    }
+
+    /// Whether a key is among them.
+    pub fn names(&self, key: GroupKey) -> bool
+        ensures { result ≡ list_any (same_key (key_seen key)) (keys_seen self.now) }
+    {
+        match self.place(key) {
+            Some(_) => true,
+            None => false,
+        }
     }
 
     /// Names one more key.

@@ -2,7 +2,7 @@
 ghost use Rattle.std.specs.Prelude.{◌≡◌, ◌+◌, ◌<◌, ◌≤◌, ◌∷◌, ◌==◌, ◌↔◌, IsTrue, [], length};
 ghost use Rattle.mp4_tables.specs.Repeated.{total};
 ghost use Rattle.mp4_tables.specs.Rows.{HaveRoom, runs_at};
-ghost use Rattle.mp4_tables.specs.Coming.{coming};
+ghost use Rattle.mp4_tables.specs.Coming.{coming, all_below};
 
 use crate::places::{RowsAt, RunPlace};
 use crate::rows::run_at;
@@ -39,6 +39,21 @@ pub(crate) fn counts_are_within<L: Ledger>(payload: &[u8], rows: RowsAt, n: u32,
         steps.tick();
         total += u64::from(run_at(payload, rows, k).count);
         if total > u64::from(n) {
+            return false;
+        }
+    }
+    true
+}
+
+// Whether the value of each row is below a bound.
+pub(crate) fn are_below<L: Ledger>(payload: &[u8], rows: RowsAt, bound: u32, steps: &mut Steps<L>) -> bool
+    requires { HaveRoom 8 payload.now rows }
+    ensures same { result ≡ all_below bound (runs_at payload.now rows) }
+    ensures cost { steps.new ≤ steps.old + rows.count }
+{
+    for k in 0..rows.count {
+        steps.tick();
+        if run_at(payload, rows, k).value >= bound {
             return false;
         }
     }

@@ -1,0 +1,327 @@
+-- What was read of `ctts`, of the chunks and of where the samples lie, and the faults of these.
+use Rattle.std.proofs.Common.{◌≡◌, ℕ, zero, suc, ◌+◌, ◌-◌, ◌*◌, ◌^◌, ◌<◌, ◌≤◌, ◌⊎◌, inl, inr, List, [], ◌∷◌, ◌++◌, length, take, drop, map, subst, refl, ap, sym, ◌∙◌, arith, Bool, true, false, cond, Option, Some, None, length-drop, length-take}
+use Rattle.std.specs.Prelude.{bytes_eq, codes, IsTrue, unwrap_or, option_map, nat_eq, nat_le, nat_lt, ◌==◌, ◌||◌, ◌&&◌, not, slice_index, ℤ, pos, ◌+ℤ◌}
+use Rattle.std.specs.List.{AllByRecursion, list_all}
+use Rattle.std.proofs.lemmas.Bool.Decides.{nat_tests}
+use Rattle.std.proofs.lemmas.List.Folds.{list_all-append}
+use Rattle.mp4_boxes.specs.Bytes.{field, rows}
+use Rattle.mp4_boxes.specs.Box.{Box, box_container}
+use Rattle.mp4_boxes.specs.Children.{Holds, count_among, is_among, payload_if, payload_of, of_kind, sample_sizes, chunk_offsets, one, at_most_one}
+use Rattle.mp4_boxes.specs.Layout.{Leaf, ctts, stsc, stco, co64, IsSound, IsReadable, version, leaf_rows, needed, too_large, has_large_offset}
+use Rattle.mp4_boxes.specs.Places.{leaf_of, ruled}
+use Rattle.mp4_boxes.specs.BoxFaults.{Fails, fault_of}
+use Rattle.mp4_boxes.specs.declared.rule.Rule.TheVariants.{SampleTable}
+use Rattle.mp4_boxes.specs.declared.fault.Fault.{Fault}
+use Rattle.mp4_boxes.specs.declared.fault.Kind.TheVariants.{OffsetTooLarge}
+use Rattle.mp4_boxes.proofs.Refusing.{holds_only, holds_few, line_has}
+use Rattle.mp4_tables.specs.Repeated.{total}
+use Rattle.mp4_tables.specs.Tables.{Tables, ChunkRow, first_number, composition_offset, offsets_of, chunk_rows_of, chunk_offsets_of}
+use Rattle.mp4_tables.specs.PlainSamples.{Spot, row_of_chunk, laid_out, in_chunks, in_chunks_total, spots_of}
+use Rattle.mp4_tables.specs.Rows.{HaveRoom, run_of, chunk_row_of, runs_at, chunk_rows_at, numbers_at, offsets_at, offset_width}
+use Rattle.mp4_tables.specs.TableRules.{TableRule, offset_counts, chunk_counts, chunk_order, description_indexes, places, test, kind_of, reads, AreReadable, is_chunk_order, is_index, lies_within}
+use Rattle.mp4_tables.specs.Coming.{all_below, are_described, all_lie_within}
+use Rattle.mp4_tables.specs.Accepted.{composition_offsets_at, HaveOffsets, AreSmall, offset_version}
+use Rattle.mp4_tables.specs.Leaves.{boxes_of, HasTables, AllOf, IsFirstOf, FailsAs, IsFault, surroundings_of, ShapeFails, RowsRead, tables_in, SizesKnown, OffsetsRead, ChunksRead, ChunkRowsRead, IsOffsetsLeaf}
+use Rattle.mp4_tables.specs.declared.leaves.Limits.{Limits}
+use Rattle.mp4_tables.specs.declared.places.RowsAt.{RowsAt}
+use Rattle.mp4_tables.specs.declared.places.OffsetsAt.{OffsetsAt}
+use Rattle.mp4_tables.specs.declared.places.ChunksAt.{ChunksAt}
+use Rattle.mp4_tables.proofs.ChunkLists.{yes_le, no_le, yes_lt, lt_yes, both}
+use Rattle.mp4_tables.proofs.RowLists.{numbers_length}
+use Rattle.mp4_tables.proofs.Counts.{eqb_is}
+use Rattle.mp4_tables.proofs.LeafLists.{payload_first, payload_none, all_first, all_none, count_each, lies_in, first_is_child, runs_there, chunk_rows_there, numbers_there, shape_fails, shape_readable}
+use Rattle.mp4_tables.proofs.TableReads.{payload_is, readable_more, readable_join, named_by, rule_fault, first_fault, all_readable, rows_have}
+
+-- ---- composition offsets
+ctts_needed : (payload : List ℕ) → needed ctts payload ≡ 8 + 8 * field payload 4 4
+ctts_needed payload = omega arith
+
+pub offsets_fail : (l : Limits) (stbl b : Box) (f : Fault) → IsFirstOf (codes "ctts") (boxes_of stbl) b → ShapeFails 1 8 8 b f → IsFault l stbl f
+offsets_fail l stbl b f i s = first_fault l stbl b (codes "ctts") ctts f i refl (shape_fails ctts 1 8 8 b f refl (ctts_needed b.payload) (omega arith) s)
+
+offsets_readable : (stbl b : Box) (r : RowsAt) → RowsRead 1 8 8 stbl b r → IsReadable ctts b.payload
+offsets_readable stbl b r read = shape_readable ctts 1 8 8 stbl b r refl refl (ctts_needed b.payload) read
+
+all_offsets_readable : (stbl b : Box) (r : RowsAt) → HasTables stbl → IsFirstOf (codes "ctts") (boxes_of stbl) b → RowsRead 1 8 8 stbl b r → AllOf (codes "ctts") (IsReadable ctts) (boxes_of stbl)
+all_offsets_readable stbl b r h i read = all_first (codes "ctts") (IsReadable ctts) (boxes_of stbl) b i (holds_few h (codes "ctts") refl) (offsets_readable stbl b r read)
+
+offset_runs : (stbl b : Box) (r : RowsAt) → HasTables stbl → IsFirstOf (codes "ctts") (boxes_of stbl) b → RowsRead 1 8 8 stbl b r → runs_at stbl.payload r ≡ map run_of (leaf_rows ctts b.payload)
+offset_runs stbl b r h i read =
+    runs_there 1 8 stbl b r (lies_in stbl b h (first_is_child (codes "ctts") stbl b i)) read ∙ ap (λ n. map run_of (rows n (4 ∷ 4 ∷ []) (drop 8 b.payload))) read.count
+
+read_twice : (v : ℕ) (rs : List (List ℕ)) → map {B = ℕ × ℤ} (λ (run : ℕ × ℕ). (run.0, composition_offset v run.1)) (map run_of rs) ≡ map {B = ℕ × ℤ} (λ (row : List ℕ). (slice_index row 0, composition_offset v (slice_index row 1))) rs
+read_twice v [] = refl
+read_twice v (r ∷ rs) = ap (λ xs. (slice_index r 0, composition_offset v (slice_index r 1)) ∷ xs) (read_twice v rs)
+
+version_is : (s : Bool) (v : ℕ) → v ≤ 1 → s ≡ nat_eq v 1 → offset_version s ≡ v
+version_is true v h e = let q : v ≡ 1 = grind (arith, nat_tests) in sym q
+version_is false v h e = let q : v ≡ 0 = zero_of v h e in sym q
+  where
+    zero_of : (v : ℕ) → v ≤ 1 → false ≡ nat_eq v 1 → v ≡ 0
+    zero_of v h e = grind (arith, nat_tests)
+
+-- a version that is at most 1 and not 1 is 0
+pub unsigned_version : (b : Box) → version b.payload ≤ 1 → false ≡ nat_eq (version b.payload) 1 → version b.payload ≡ 0
+unsigned_version b h e = sym (version_is false (version b.payload) h e)
+
+offsets_are : (stbl b : Box) (r : RowsAt) (s : Bool) → HasTables stbl → IsFirstOf (codes "ctts") (boxes_of stbl) b → RowsRead 1 8 8 stbl b r → s ≡ nat_eq (version b.payload) 1 → (tables_in stbl).offsets ≡ Some (composition_offsets_at stbl.payload (record { rows = r; is_signed = s }))
+offsets_are stbl b r s h i read e =
+    ap (option_map offsets_of) (payload_first (codes "ctts") (boxes_of stbl) b i)
+    ∙ ap Some (sym (ap (λ runs. map {B = ℕ × ℤ} (λ (run : ℕ × ℕ). (run.0, composition_offset (offset_version s) run.1)) runs) (offset_runs stbl b r h i read)
+      ∙ ap (λ v. map {B = ℕ × ℤ} (λ (run : ℕ × ℕ). (run.0, composition_offset v run.1)) (map run_of (leaf_rows ctts b.payload))) (version_is s (version b.payload) read.version e)
+      ∙ read_twice (version b.payload) (leaf_rows ctts b.payload)))
+
+total_read : (v : ℕ) (runs : List (ℕ × ℕ)) → total (map {B = ℕ × ℤ} (λ (run : ℕ × ℕ). (run.0, composition_offset v run.1)) runs) ≡ total runs
+total_read v [] = refl
+total_read v (run ∷ runs) = ap (λ n. run.0 + n) (total_read v runs)
+
+total_of : (stbl b : Box) (r : RowsAt) (n m : ℕ) (v : Bool) → HasTables stbl → IsFirstOf (codes "ctts") (boxes_of stbl) b → RowsRead 1 8 8 stbl b r → m ≡ n → (total (runs_at stbl.payload r) == n) ≡ v
+    → unwrap_or (option_map (λ (rows : List (ℕ × ℤ)). total rows == m) (tables_in stbl).offsets) true ≡ v
+total_of stbl b r n m v h i read k t =
+    ap (λ o. unwrap_or (option_map (λ (rows : List (ℕ × ℤ)). total rows == m) o) true) (offsets_are stbl b r (nat_eq (version b.payload) 1) h i read refl)
+    ∙ (let d = total_read (offset_version (nat_eq (version b.payload) 1)) (runs_at stbl.payload r) in λ j. d j == k j) ∙ t
+
+pub offsets_mismatch : (l : Limits) (stbl b : Box) (r : RowsAt) (n : ℕ) (f : Fault) → HasTables stbl → IsFirstOf (codes "ctts") (boxes_of stbl) b → RowsRead 1 8 8 stbl b r → SizesKnown stbl n → (total (runs_at stbl.payload r) == n) ≡ false
+    → f ≡ fault_of (kind_of offset_counts) b → IsFault l stbl f
+offsets_mismatch l stbl b r n f h i read k t s =
+    rule_fault l stbl b (codes "ctts") offset_counts f h i
+    (λ _. readable_more (codes "ctts") sample_sizes (boxes_of stbl) (all_offsets_readable stbl b r h i read) k.readable) tt (λ e. absurd (no_chunks e))
+    (total_of stbl b r n (length (tables_in stbl).sizes) false h i read k.count t) (named_by (codes "ctts") (boxes_of stbl) b i []) s
+  where
+    no_chunks : false ≡ true → ⊥
+    no_chunks e = cc
+
+-- an offset is too large where not all are below 2^31
+large : (rs : List (List ℕ)) → too_large (map (λ (r : List ℕ). Some (slice_index r 1)) rs) ≡ not (all_below (2 ^ 31) (map run_of rs))
+large [] = refl
+large (r ∷ rs) = turn (slice_index r 1) (too_large (map (λ (r : List ℕ). Some (slice_index r 1)) rs)) (all_below (2 ^ 31) (map run_of rs)) (large rs)
+  where
+    turn : (n : ℕ) (a b : Bool) → a ≡ not b → (nat_le (2 ^ 31) n || a) ≡ not (nat_lt n (2 ^ 31) && b)
+    turn n a b e = ap (λ c. c || a) (opposite n (2 ^ 31)) ∙ flip (nat_lt n (2 ^ 31)) a b e
+      where
+        opposite : (n m : ℕ) → nat_le m n ≡ not (nat_lt n m)
+        opposite n m = grind (arith, nat_tests)
+        flip : (c a b : Bool) → a ≡ not b → (not c || a) ≡ not (c && b)
+        flip true a b e = e
+        flip false a b e = refl
+
+offset_is_large : (stbl b : Box) (r : RowsAt) (v : Bool) → HasTables stbl → IsFirstOf (codes "ctts") (boxes_of stbl) b → RowsRead 1 8 8 stbl b r → version b.payload ≡ 0 → all_below (2 ^ 31) (runs_at stbl.payload r) ≡ not v → has_large_offset ctts b.payload ≡ v
+offset_is_large stbl b r v h i read z t =
+    (let y : (version b.payload == 0) ≡ true = grind (arith, nat_tests) in ap (λ c. c && too_large (map (λ (r : List ℕ). Some (slice_index r 1)) (leaf_rows ctts b.payload))) y)
+    ∙ large (leaf_rows ctts b.payload) ∙ ap (λ runs. not (all_below (2 ^ 31) runs)) (sym (offset_runs stbl b r h i read)) ∙ ap not t ∙ twice v
+  where
+    twice : (v : Bool) → not (not v) ≡ v
+    twice true = refl
+    twice false = refl
+
+pub offsets_large : (l : Limits) (stbl b : Box) (r : RowsAt) (f : Fault) → HasTables stbl → IsFirstOf (codes "ctts") (boxes_of stbl) b → RowsRead 1 8 8 stbl b r → version b.payload ≡ 0 → all_below (2 ^ 31) (runs_at stbl.payload r) ≡ false
+    → f ≡ fault_of OffsetTooLarge b → IsFault l stbl f
+offsets_large l stbl b r f h i read z t s =
+    first_fault l stbl b (codes "ctts") ctts f i refl (record { kind = OffsetTooLarge; fails = (offsets_readable stbl b r read, offset_is_large stbl b r true h i read z t); named = s })
+
+small_rows : (runs : List (ℕ × ℕ)) → all_below (2 ^ 31) runs ≡ true → AllByRecursion (λ (run : ℕ × ℕ). run.1 < 2 ^ 31) runs
+small_rows [] e = tt
+small_rows (run ∷ runs) e = let p = both (nat_lt run.1 (2 ^ 31)) (all_below (2 ^ 31) runs) e in (lt_yes run.1 (2 ^ 31) p.0, small_rows runs p.1)
+
+-- offsets of version 1, or small ones of version 0
+abbrev pub AreRead : Box → Box → RowsAt → Bool → Type 0
+AreRead stbl b r true = Unit {0}
+AreRead stbl b r false = all_below (2 ^ 31) (runs_at stbl.payload r) ≡ true
+
+small_as : (stbl b : Box) (r : RowsAt) (s : Bool) → AreRead stbl b r s → AreSmall s (runs_at stbl.payload r)
+small_as stbl b r true a = tt
+small_as stbl b r false a = small_rows (runs_at stbl.payload r) a
+
+not_large : (stbl b : Box) (r : RowsAt) (s : Bool) → HasTables stbl → IsFirstOf (codes "ctts") (boxes_of stbl) b → RowsRead 1 8 8 stbl b r → s ≡ nat_eq (version b.payload) 1 → AreRead stbl b r s → has_large_offset ctts b.payload ≡ false
+not_large stbl b r true h i read e a =
+    let v : version b.payload ≡ 1 = grind (arith, nat_tests) in
+    ap (λ n. (n == 0) && too_large (map (λ (r : List ℕ). Some (slice_index r 1)) (leaf_rows ctts b.payload))) v
+not_large stbl b r false h i read e a = offset_is_large stbl b r false h i read (sym (version_is false (version b.payload) read.version e)) a
+
+pub offsets_read : (stbl b : Box) (r : RowsAt) (n : ℕ) (s : Bool) → HasTables stbl → IsFirstOf (codes "ctts") (boxes_of stbl) b → RowsRead 1 8 8 stbl b r → s ≡ nat_eq (version b.payload) 1 → (total (runs_at stbl.payload r) == n) ≡ true → AreRead stbl b r s
+    → OffsetsRead stbl n (Some (record { rows = r; is_signed = s }))
+offsets_read stbl b r n s h i read e t a = record {
+  have = (rows_have 1 8 (codes "ctts") stbl b r h i read, small_as stbl b r s a);
+  same = sym (offsets_are stbl b r s h i read e);
+  sound = all_first (codes "ctts") (IsSound ctts) (boxes_of stbl) b i (holds_few h (codes "ctts") refl)
+    (record { readable = offsets_readable stbl b r read; value = refl; inside = refl; offsets = not_large stbl b r s h i read e a });
+  count = total_of stbl b r n n true h i read refl t
+  }
+
+pub offsets_none : (stbl : Box) (n : ℕ) → count_among (codes "ctts" ∷ []) (boxes_of stbl) ≡ 0 → OffsetsRead stbl n None
+offsets_none stbl n e =
+    let none : (tables_in stbl).offsets ≡ None = ap (option_map offsets_of) (payload_none (codes "ctts") (boxes_of stbl) e) in
+    record { have = tt; same = sym none; sound = all_none (codes "ctts") (IsSound ctts) (boxes_of stbl) e; count = ap (λ o. unwrap_or (option_map (λ (rows : List (ℕ × ℤ)). total rows == n) o) true) none }
+
+-- ---- offsets of chunks
+stco_needed : (payload : List ℕ) → needed stco payload ≡ 8 + 4 * field payload 4 4
+stco_needed payload = omega arith
+
+co64_needed : (payload : List ℕ) → needed co64 payload ≡ 8 + 8 * field payload 4 4
+co64_needed payload = omega arith
+
+pub narrow_fail : (l : Limits) (stbl b : Box) (f : Fault) → IsFirstOf (codes "stco") (boxes_of stbl) b → ShapeFails 0 8 4 b f → IsFault l stbl f
+narrow_fail l stbl b f i s = first_fault l stbl b (codes "stco") stco f i refl (shape_fails stco 0 8 4 b f refl (stco_needed b.payload) (omega arith) s)
+
+pub wide_fail : (l : Limits) (stbl b : Box) (f : Fault) → IsFirstOf (codes "co64") (boxes_of stbl) b → ShapeFails 0 8 8 b f → IsFault l stbl f
+wide_fail l stbl b f i s = first_fault l stbl b (codes "co64") co64 f i refl (shape_fails co64 0 8 8 b f refl (co64_needed b.payload) (omega arith) s)
+
+one_of_both : (stbl : Box) → HasTables stbl → count_among (codes "stco" ∷ []) (boxes_of stbl) + count_among (codes "co64" ∷ []) (boxes_of stbl) ≡ 1
+one_of_both stbl h = count_each (codes "stco") (codes "co64") (boxes_of stbl) refl ∙ line_has h (codes "stco") (record { kinds = chunk_offsets; quantity = one }) refl
+
+-- without `stco` there is `co64`
+pub wide_there : (stbl : Box) → HasTables stbl → count_among (codes "stco" ∷ []) (boxes_of stbl) ≡ 0 → 0 < count_among (codes "co64" ∷ []) (boxes_of stbl)
+wide_there stbl h e = let n = one_of_both stbl h in omega arith
+
+pub first_counts : (kind : List ℕ) (boxes : List Box) (b : Box) → IsFirstOf kind boxes b → 1 ≤ count_among (kind ∷ []) boxes
+first_counts kind boxes b i = some (count_among (kind ∷ []) boxes) refl
+  where
+    some : (n : ℕ) → count_among (kind ∷ []) boxes ≡ n → 1 ≤ count_among (kind ∷ []) boxes
+    some zero e = let s : ◌≡◌ {A = Option (List ℕ)} (Some b.payload) None = sym (payload_first kind boxes b i) ∙ payload_none kind boxes e in absurd cc
+    some (suc n) e = omega arith
+
+pub narrow_read : (stbl b : Box) (r : RowsAt) → HasTables stbl → IsFirstOf (codes "stco") (boxes_of stbl) b → RowsRead 0 8 4 stbl b r → ChunksRead stbl (record { rows = r; is_wide = false })
+narrow_read stbl b r h i read =
+    let n = one_of_both stbl h in
+    let m = first_counts (codes "stco") (boxes_of stbl) b i in
+    record {
+      have = rows_have 0 4 (codes "stco") stbl b r h i read;
+      same = numbers_there 0 8 4 stbl b r (lies_in stbl b h (first_is_child (codes "stco") stbl b i)) read ∙ ap (λ n. map first_number (rows n (4 ∷ []) (drop 8 b.payload))) read.count
+        ∙ ap (λ o. chunk_offsets_of o (payload_of (codes "co64") (boxes_of stbl))) (sym (payload_first (codes "stco") (boxes_of stbl) b i));
+      narrow = all_first (codes "stco") (IsSound stco) (boxes_of stbl) b i (omega arith) (record { readable = shape_readable stco 0 8 4 stbl b r refl refl (stco_needed b.payload) read; value = refl; inside = refl; offsets = refl });
+      wide = all_none (codes "co64") (IsSound co64) (boxes_of stbl) (omega arith)
+    }
+
+pub wide_read : (stbl b : Box) (r : RowsAt) → HasTables stbl → count_among (codes "stco" ∷ []) (boxes_of stbl) ≡ 0 → IsFirstOf (codes "co64") (boxes_of stbl) b → RowsRead 0 8 8 stbl b r → ChunksRead stbl (record { rows = r; is_wide = true })
+wide_read stbl b r h e i read =
+    let n = one_of_both stbl h in
+    record {
+      have = rows_have 0 8 (codes "co64") stbl b r h i read;
+      same = numbers_there 0 8 8 stbl b r (lies_in stbl b h (first_is_child (codes "co64") stbl b i)) read ∙ ap (λ n. map first_number (rows n (8 ∷ []) (drop 8 b.payload))) read.count
+        ∙ ap (λ (payload : List ℕ). map first_number (leaf_rows co64 payload)) (sym (payload_is (codes "co64") (boxes_of stbl) b i))
+        ∙ ap (λ o. chunk_offsets_of o (payload_of (codes "co64") (boxes_of stbl))) (sym (payload_none (codes "stco") (boxes_of stbl) e));
+      narrow = all_none (codes "stco") (IsSound stco) (boxes_of stbl) e;
+      wide = all_first (codes "co64") (IsSound co64) (boxes_of stbl) b i (omega arith) (record { readable = shape_readable co64 0 8 8 stbl b r refl refl (co64_needed b.payload) read; value = refl; inside = refl; offsets = refl })
+    }
+
+-- ---- rows of `stsc`
+stsc_needed : (payload : List ℕ) → needed stsc payload ≡ 8 + 12 * field payload 4 4
+stsc_needed payload = omega arith
+
+pub chunk_rows_fail : (l : Limits) (stbl b : Box) (f : Fault) → IsFirstOf (codes "stsc") (boxes_of stbl) b → ShapeFails 0 8 12 b f → IsFault l stbl f
+chunk_rows_fail l stbl b f i s = first_fault l stbl b (codes "stsc") stsc f i refl (shape_fails stsc 0 8 12 b f refl (stsc_needed b.payload) (omega arith) s)
+
+chunk_rows_sound : (stbl b : Box) (r : RowsAt) → HasTables stbl → IsFirstOf (codes "stsc") (boxes_of stbl) b → RowsRead 0 8 12 stbl b r → AllOf (codes "stsc") (IsSound stsc) (boxes_of stbl)
+chunk_rows_sound stbl b r h i read =
+    all_first (codes "stsc") (IsSound stsc) (boxes_of stbl) b i (omega (arith, holds_only h (codes "stsc") refl))
+    (record { readable = shape_readable stsc 0 8 12 stbl b r refl refl (stsc_needed b.payload) read; value = refl; inside = refl; offsets = refl })
+
+pub chunk_rows_same : (stbl b : Box) (r : RowsAt) → HasTables stbl → IsFirstOf (codes "stsc") (boxes_of stbl) b → RowsRead 0 8 12 stbl b r → chunk_rows_at stbl.payload r ≡ (tables_in stbl).chunk_rows
+chunk_rows_same stbl b r h i read =
+    chunk_rows_there 0 8 stbl b r (lies_in stbl b h (first_is_child (codes "stsc") stbl b i)) read
+    ∙ ap (λ n. map chunk_row_of (rows n (4 ∷ 4 ∷ 4 ∷ []) (drop 8 b.payload))) read.count
+    ∙ ap chunk_rows_of (sym (payload_is (codes "stsc") (boxes_of stbl) b i))
+
+pub offsets_counted : (stbl : Box) (at : ChunksAt) → ChunksRead stbl at → length (tables_in stbl).chunk_offsets ≡ at.rows.count
+offsets_counted stbl at k = ap (λ (xs : List ℕ). length xs) (sym k.same) ∙ numbers_length (offset_width at.is_wide) stbl.payload at.rows
+
+-- the order of the rows, as the rule asks for it
+order_as : (l : Limits) (stbl b : Box) (at : ChunksAt) (r : RowsAt) (v : Bool) → HasTables stbl → IsFirstOf (codes "stsc") (boxes_of stbl) b → RowsRead 0 8 12 stbl b r → ChunksRead stbl at
+    → is_chunk_order (map (λ (row : ChunkRow). row.first) (chunk_rows_at stbl.payload r)) (nat_lt 0 at.rows.count) ≡ v → test chunk_order (surroundings_of l) (tables_in stbl) ≡ v
+order_as l stbl b at r v h i read k t =
+    (let c = offsets_counted stbl at k in let d = sym (chunk_rows_same stbl b r h i read) in λ j. is_chunk_order (map (λ (row : ChunkRow). row.first) (d j)) (nat_lt 0 (c j))) ∙ t
+
+chunks_readable : (stbl b : Box) (at : ChunksAt) (r : RowsAt) (kinds : List (List ℕ)) → HasTables stbl → IsFirstOf (codes "stsc") (boxes_of stbl) b → RowsRead 0 8 12 stbl b r → ChunksRead stbl at → AreReadable kinds (boxes_of stbl)
+    → AreReadable (codes "stsc" ∷ codes "stco" ∷ codes "co64" ∷ kinds) (boxes_of stbl)
+chunks_readable stbl b at r kinds h i read k more =
+    readable_more (codes "stsc") (codes "stco" ∷ codes "co64" ∷ kinds) (boxes_of stbl) (all_readable (codes "stsc") stsc (boxes_of stbl) (chunk_rows_sound stbl b r h i read))
+    (readable_more (codes "stco") (codes "co64" ∷ kinds) (boxes_of stbl) (all_readable (codes "stco") stco (boxes_of stbl) k.narrow)
+    (readable_more (codes "co64") kinds (boxes_of stbl) (all_readable (codes "co64") co64 (boxes_of stbl) k.wide) more))
+
+pub no_readable : (boxes : List Box) → AreReadable [] boxes
+no_readable [] = tt
+no_readable (b ∷ boxes) = ((λ m. absurd (never m)), no_readable boxes)
+  where
+    never : false ≡ true → ⊥
+    never m = cc
+
+pub chunk_rows_disorder : (l : Limits) (stbl b : Box) (at : ChunksAt) (r : RowsAt) (f : Fault) → HasTables stbl → IsFirstOf (codes "stsc") (boxes_of stbl) b → RowsRead 0 8 12 stbl b r → ChunksRead stbl at
+    → is_chunk_order (map (λ (row : ChunkRow). row.first) (chunk_rows_at stbl.payload r)) (nat_lt 0 at.rows.count) ≡ false → f ≡ fault_of (kind_of chunk_order) b → IsFault l stbl f
+chunk_rows_disorder l stbl b at r f h i read k t s =
+    rule_fault l stbl b (codes "stsc") chunk_order f h i (λ _. chunks_readable stbl b at r [] h i read k (no_readable (boxes_of stbl))) tt (λ e. absurd (never e))
+    (order_as l stbl b at r false h i read k t) (named_by (codes "stsc") (boxes_of stbl) b i []) s
+  where
+    never : false ≡ true → ⊥
+    never m = cc
+
+counts_as : (stbl b : Box) (at : ChunksAt) (r : RowsAt) (n m : ℕ) (v : Bool) → HasTables stbl → IsFirstOf (codes "stsc") (boxes_of stbl) b → RowsRead 0 8 12 stbl b r → ChunksRead stbl at → m ≡ n
+    → (in_chunks_total (chunk_rows_at stbl.payload r) 1 (offsets_at stbl.payload at) == n) ≡ v → (in_chunks_total (tables_in stbl).chunk_rows 1 (tables_in stbl).chunk_offsets == m) ≡ v
+counts_as stbl b at r n m v h i read k e t =
+    (let c = sym k.same in let d = sym (chunk_rows_same stbl b r h i read) in λ j. in_chunks_total (d j) 1 (c j) == e j) ∙ t
+
+pub chunk_rows_mismatch : (l : Limits) (stbl b : Box) (at : ChunksAt) (r : RowsAt) (n : ℕ) (f : Fault) → HasTables stbl → IsFirstOf (codes "stsc") (boxes_of stbl) b → RowsRead 0 8 12 stbl b r → ChunksRead stbl at → SizesKnown stbl n
+    → is_chunk_order (map (λ (row : ChunkRow). row.first) (chunk_rows_at stbl.payload r)) (nat_lt 0 at.rows.count) ≡ true
+    → (in_chunks_total (chunk_rows_at stbl.payload r) 1 (offsets_at stbl.payload at) == n) ≡ false → f ≡ fault_of (kind_of chunk_counts) b → IsFault l stbl f
+chunk_rows_mismatch l stbl b at r n f h i read k sizes o t s =
+    rule_fault l stbl b (codes "stsc") chunk_counts f h i (λ _. chunks_readable stbl b at r sample_sizes h i read k sizes.readable) tt (λ _. order_as l stbl b at r true h i read k o)
+    (counts_as stbl b at r n (length (tables_in stbl).sizes) false h i read k sizes.count t) (named_by (codes "stsc") (boxes_of stbl) b i []) s
+
+laid_described : (n : ℕ) (at : ℤ) (description : ℕ) (sizes : List ℕ) → list_all (λ (spot : Spot). is_index n spot.description) (laid_out at description sizes) ≡ (nat_eq (length sizes) 0 || is_index n description)
+laid_described n at description [] = refl
+laid_described n at description (size ∷ sizes) =
+    ap (λ b. is_index n description && b) (laid_described n (at +ℤ pos size) description sizes) ∙ choose (is_index n description) (nat_eq (length sizes) 0) ∙ sym (ap (λ b. b || is_index n description) (never (length sizes)))
+  where
+    choose : (a b : Bool) → (a && (b || a)) ≡ a
+    choose true true = refl
+    choose true false = refl
+    choose false b = refl
+    never : (m : ℕ) → nat_eq (suc m) 0 ≡ false
+    never m = grind (arith, nat_tests)
+
+-- every sample has a description where every chunk with samples has one
+spots_described : (n : ℕ) (rows : List ChunkRow) (c : ℕ) (offsets sizes : List ℕ) → in_chunks_total rows c offsets ≤ length sizes
+    → list_all (λ (spot : Spot). is_index n spot.description) (in_chunks rows c offsets sizes) ≡ are_described n rows c offsets
+spots_described n rows c [] sizes h = refl
+spots_described n rows c (offset ∷ offsets) sizes h =
+    let r = row_of_chunk rows c in
+    let long : length (take r.count sizes) ≡ r.count = omega (arith, length-take r.count sizes) in
+    let more = spots_described n rows (c + 1) offsets (drop r.count sizes) (omega (arith, length-drop r.count sizes)) in
+    let first = laid_described n (pos offset) r.description (take r.count sizes) ∙ ap (λ m. nat_eq m 0 || is_index n r.description) long in
+    list_all-append (λ (spot : Spot). is_index n spot.description) (laid_out (pos offset) r.description (take r.count sizes)) (in_chunks rows (c + 1) offsets (drop r.count sizes))
+    ∙ (λ j. first j && more j)
+
+described_as : (l : Limits) (stbl b : Box) (at : ChunksAt) (r : RowsAt) (n : ℕ) (v : Bool) → HasTables stbl → IsFirstOf (codes "stsc") (boxes_of stbl) b → RowsRead 0 8 12 stbl b r → ChunksRead stbl at → SizesKnown stbl n
+    → (in_chunks_total (chunk_rows_at stbl.payload r) 1 (offsets_at stbl.payload at) == n) ≡ true → are_described l.descriptions (chunk_rows_at stbl.payload r) 1 (offsets_at stbl.payload at) ≡ v → test description_indexes (surroundings_of l) (tables_in stbl) ≡ v
+described_as l stbl b at r n v h i read k sizes e t =
+    let same = eqb_is (in_chunks_total (tables_in stbl).chunk_rows 1 (tables_in stbl).chunk_offsets) n (counts_as stbl b at r n n true h i read k refl e) in
+    let c = sizes.count in
+    spots_described l.descriptions (tables_in stbl).chunk_rows 1 (tables_in stbl).chunk_offsets (tables_in stbl).sizes (omega arith)
+    ∙ (let c = sym k.same in let d = sym (chunk_rows_same stbl b r h i read) in λ j. are_described l.descriptions (d j) 1 (c j)) ∙ t
+
+pub chunk_rows_undescribed : (l : Limits) (stbl b : Box) (at : ChunksAt) (r : RowsAt) (n : ℕ) (f : Fault) → HasTables stbl → IsFirstOf (codes "stsc") (boxes_of stbl) b → RowsRead 0 8 12 stbl b r → ChunksRead stbl at → SizesKnown stbl n
+    → is_chunk_order (map (λ (row : ChunkRow). row.first) (chunk_rows_at stbl.payload r)) (nat_lt 0 at.rows.count) ≡ true → (in_chunks_total (chunk_rows_at stbl.payload r) 1 (offsets_at stbl.payload at) == n) ≡ true
+    → are_described l.descriptions (chunk_rows_at stbl.payload r) 1 (offsets_at stbl.payload at) ≡ false → f ≡ fault_of (kind_of description_indexes) b → IsFault l stbl f
+chunk_rows_undescribed l stbl b at r n f h i read k sizes o e t s =
+    rule_fault l stbl b (codes "stsc") description_indexes f h i
+    (λ d. readable_join (codes "stsd") (codes "stsc" ∷ codes "stco" ∷ codes "co64" ∷ sample_sizes) (boxes_of stbl) d (chunks_readable stbl b at r sample_sizes h i read k sizes.readable)) tt (λ _. order_as l stbl b at r true h i read k o)
+    (described_as l stbl b at r n false h i read k sizes e t) (named_by (codes "stsc") (boxes_of stbl) b i []) s
+
+pub chunk_rows_read : (l : Limits) (stbl b : Box) (at : ChunksAt) (r : RowsAt) (n : ℕ) → HasTables stbl → IsFirstOf (codes "stsc") (boxes_of stbl) b → RowsRead 0 8 12 stbl b r → ChunksRead stbl at → SizesKnown stbl n
+    → is_chunk_order (map (λ (row : ChunkRow). row.first) (chunk_rows_at stbl.payload r)) (nat_lt 0 at.rows.count) ≡ true → (in_chunks_total (chunk_rows_at stbl.payload r) 1 (offsets_at stbl.payload at) == n) ≡ true
+    → are_described l.descriptions (chunk_rows_at stbl.payload r) 1 (offsets_at stbl.payload at) ≡ true → ChunkRowsRead l stbl n r
+chunk_rows_read l stbl b at r n h i read k sizes o e t = record {
+  have = rows_have 0 12 (codes "stsc") stbl b r h i read;
+  same = chunk_rows_same stbl b r h i read;
+  sound = chunk_rows_sound stbl b r h i read;
+  ordered = order_as l stbl b at r true h i read k o;
+  count = counts_as stbl b at r n n true h i read k refl e;
+  described = described_as l stbl b at r n true h i read k sizes e t
+  }
+
+-- an offset of a chunk takes four bytes at least
+pub narrower : (stbl : Box) (at : ChunksAt) → ChunksRead stbl at → at.rows.place + 4 * at.rows.count ≤ length stbl.payload
+narrower stbl at k = of at.is_wide k.have
+  where
+    of : (w : Bool) → HaveRoom (offset_width w) stbl.payload at.rows → at.rows.place + 4 * at.rows.count ≤ length stbl.payload
+    of true h = omega arith
+    of false h = omega arith

@@ -1,0 +1,333 @@
+-- The children of an `stbl`: the first of a type, where it lies, and what holds of all of a type.
+use Rattle.std.proofs.Common.{◌≡◌, ℕ, zero, suc, ◌+◌, ◌-◌, ◌*◌, ◌<◌, ◌≤◌, ◌⊎◌, inl, inr, List, [], ◌∷◌, ◌++◌, length, take, drop, subst, refl, ap, sym, ◌∙◌, arith, Bool, true, false, cond, Option, Some, None, length-take, length-drop, length-append, append_assoc}
+use Rattle.std.specs.Prelude.{bytes_eq, codes, IsTrue, nat_eq, unwrap_or, ◌||◌, Result, Ok, Err, map}
+use Rattle.std.specs.List.{AllByRecursion, list_any}
+use Rattle.std.proofs.lemmas.List.{drop-drop, drop-take}
+use Rattle.std.proofs.lemmas.Bool.Decides.{nat_tests}
+use Rattle.byteorder.specs.Endian.{big_from}
+use Rattle.byteorder.specs.Numbers.{big_from-take}
+use Rattle.mp4_boxes.specs.Bytes.{field, rows, numbers, width_of}
+use Rattle.mp4_boxes.specs.Box.{Box, Container, Header, header_at, box_of, size, sizes, LieEndToEnd, Tiles, box_container, bytes_container, first_boxes, box_and_more}
+use Rattle.mp4_boxes.specs.Children.{Holds, count_among, is_among, payload_if, payload_of, of_kind}
+use Rattle.mp4_boxes.specs.Layout.{Leaf, IsSound, IsReadable, version, last_version, needed, up_to, knows_flags}
+use Rattle.mp4_boxes.specs.Places.{leaf_of, ruled, IsSoundAs}
+use Rattle.mp4_boxes.specs.BoxFaults.{Fails, fault_of}
+use Rattle.mp4_boxes.specs.declared.rule.Rule.TheVariants.{SampleTable}
+use Rattle.mp4_boxes.specs.declared.fault.Fault.{Fault}
+use Rattle.mp4_boxes.specs.declared.fault.Kind.{Kind}
+use Rattle.mp4_boxes.specs.declared.fault.Kind.TheVariants.{ShortBox, BadVersion}
+use Rattle.mp4_boxes.proofs.Tiling.{header_is, box_size, sizes-cons}
+use Rattle.mp4_boxes.proofs.Among.{count-append}
+use Rattle.mp4_boxes.proofs.Sound.{same_kind}
+use Rattle.mp4_tables.specs.Tables.{first_number}
+use Rattle.mp4_tables.specs.Rows.{HaveRoom, run_of, chunk_row_of, runs_at, chunk_rows_at, numbers_at}
+use Rattle.mp4_tables.specs.Accepted.{bytes_at}
+use Rattle.mp4_tables.specs.declared.places.RowsAt.{RowsAt}
+use Rattle.mp4_tables.specs.declared.places.BytesAt.{BytesAt}
+use Rattle.mp4_tables.proofs.ChunkLists.{yes_le, no_le}
+use Rattle.mp4_tables.specs.TableRules.{AreReadable, IsReadableAs}
+use Rattle.mp4_tables.specs.Leaves.{boxes_of, HasTables, AllOf, IsFirstOf, LiesIn, IsChild, FailsAs, IsLeafFaultAmong, VersionFails, RowsFail, ShapeFails, RowsRead}
+
+-- a box of a type counts
+hit_counts : (kind : List ℕ) (b : Box) (bs : List Box) → bytes_eq kind b.kind ≡ true → count_among (kind ∷ []) (b ∷ bs) ≡ 1 + count_among (kind ∷ []) bs
+hit_counts kind b bs e = rw e refl
+
+-- a box in front, where its header can be read
+first_then : (at : ℕ) (bytes : List ℕ) (b : Box) (more : List Box) (r : Result Header Kind) (h : Header) (behind : Header → List Box) → r ≡ Ok h → b ≡ box_of at bytes h → more ≡ behind h
+    → box_and_more at bytes r behind ≡ b ∷ more
+first_then at bytes b more (Ok g) h behind e f m = let same : g ≡ h = cc in rw (same, f, m) refl
+first_then at bytes b more (Err k) h behind e f m = absurd cc
+
+-- a type is the same as itself
+itself : (kind : List ℕ) → bytes_eq kind kind ≡ true
+itself [] = refl
+itself (k ∷ kind) = let e : nat_eq k k ≡ true = grind (arith, nat_tests) in rw e (itself kind)
+
+turned : (a b : List ℕ) → bytes_eq a b ≡ false → bytes_eq b a ≡ false
+turned a b e = either (bytes_eq b a) refl
+  where
+    either : (v : Bool) → bytes_eq b a ≡ v → bytes_eq b a ≡ false
+    either true f = let s : bytes_eq a a ≡ false = subst (λ k. bytes_eq a k ≡ false) (sym (same_kind b a f)) e in absurd (never a s)
+      where
+        never : (k : List ℕ) → bytes_eq k k ≡ false → ⊥
+        never k s = let q : true ≡ false = sym (itself k) ∙ s in cc
+    either false f = f
+
+turned_true : (a b : List ℕ) → bytes_eq a b ≡ true → bytes_eq b a ≡ true
+turned_true a b e = subst (λ k. bytes_eq k a ≡ true) (sym (same_kind a b e)) (itself a)
+
+-- ---- all children
+
+none_there : (at n : ℕ) (bytes : List ℕ) → length bytes ≡ 0 → first_boxes n at bytes ≡ []
+none_there at zero bytes e = refl
+none_there at (suc n) [] e = refl
+none_there at (suc n) (b ∷ bytes) e = absurd (omega (arith, e))
+
+-- boxes that fill bytes are all that are found there, by however many they are sought
+found_all : (at n : ℕ) (bytes : List ℕ) (boxes : List Box) → LieEndToEnd false at bytes boxes → sizes boxes ≡ length bytes → length boxes ≤ n → first_boxes n at bytes ≡ boxes
+found_all at n bytes [] l e h = none_there at n bytes (sym e)
+found_all at zero bytes (b ∷ boxes) l e h = absurd (omega (arith, h))
+found_all at (suc n) bytes (b ∷ boxes) l e h =
+    let g = l.0.0 in
+    let s : size b ≡ g.size = ap size l.0.2 ∙ box_size at bytes g (header_is false bytes g l.0.1) in
+    let r = header_is false bytes g l.0.1 in
+    let left : sizes boxes ≡ length (drop (size b) bytes) = omega (arith, e, length-drop (size b) bytes, sizes-cons b boxes) in
+    let more : first_boxes n (at + g.size) (drop g.size bytes) ≡ boxes =
+        subst (λ (m : ℕ). first_boxes n (at + m) (drop m bytes) ≡ boxes) s (found_all (at + size b) n (drop (size b) bytes) boxes l.1 left (omega (arith, h))) in
+    first_then at bytes b boxes (header_at false bytes) g (λ k. first_boxes n (at + k.size) (drop k.size bytes)) l.0.1 l.0.2 (sym more)
+
+few : (at : ℕ) (bytes : List ℕ) (boxes : List Box) → LieEndToEnd false at bytes boxes → length boxes ≤ sizes boxes
+few at bytes [] l = omega arith
+few at bytes (b ∷ boxes) l =
+    let g = l.0.0 in
+    let r = header_is false bytes g l.0.1 in
+    let s : size b ≡ g.size = ap size l.0.2 ∙ box_size at bytes g r in
+    omega (arith, few (at + size b) (drop (size b) bytes) boxes l.1, sizes-cons b boxes, s, r.length, r.inside)
+
+-- the children of a container are the boxes in front of its payload
+pub boxes_are : (b : Box) (boxes : List Box) → Tiles (box_container b) boxes → boxes_of b ≡ boxes
+unfolding boxes_of
+boxes_are b boxes t = found_all (b.offset + b.header) (length b.payload) b.payload boxes t.front.0 t.full (omega (arith, few (b.offset + b.header) b.payload boxes t.front.0, t.full))
+
+pub tiled_as_bytes : (b : Box) (boxes : List Box) → Tiles (box_container b) boxes → Tiles (bytes_container b.kind (b.offset + b.header) b.payload) boxes
+tiled_as_bytes b boxes t = record { front = t.front; full = t.full }
+
+-- ---- where a child's payload lies
+
+pub child_lies : (at : ℕ) (bytes : List ℕ) (before after : List Box) (b : Box) → LieEndToEnd false at bytes (before ++ b ∷ after) → LiesIn at bytes b
+child_lies at bytes [] after b l =
+    let g = l.0.0 in
+    let r = header_is false bytes g l.0.1 in
+    let o : b.offset ≡ at = ap (λ (c : Box). c.offset) l.0.2 in
+    let h : b.header ≡ g.length = ap (λ (c : Box). c.header) l.0.2 in
+    let p : b.payload ≡ take (g.size - g.length) (drop g.length bytes) = ap (λ (c : Box). c.payload) l.0.2 in
+    let n : length b.payload ≡ g.size - g.length = omega (arith, ap (λ (xs : List ℕ). length xs) p, length-take (g.size - g.length) (drop g.length bytes), length-drop g.length bytes, r.length, r.inside, r.fits) in
+    record {
+      place = g.length;
+      is = omega arith;
+      within = omega (arith, n, r.inside, r.fits);
+      same = p ∙ ap (λ m. take m (drop g.length bytes)) (sym n)
+    }
+child_lies at bytes (c ∷ before) after b l =
+    let g = l.0.0 in
+    let r = header_is false bytes g l.0.1 in
+    let s : size c ≡ g.size = ap size l.0.2 ∙ box_size at bytes g r in
+    let i = child_lies (at + size c) (drop (size c) bytes) before after b l.1 in
+    let e = i.is in
+    let w = i.within in
+    let n = length-drop (size c) bytes in
+    let f = r.fits in
+    record {
+      place = size c + i.place;
+      is = omega arith;
+      within = omega arith;
+      same = i.same ∙ ap (take (length b.payload)) (drop-drop i.place (size c) bytes)
+    }
+
+-- ---- the first of a type
+
+pub payload_first : (kind : List ℕ) (boxes : List Box) (b : Box) → IsFirstOf kind boxes b → payload_if kind boxes ≡ Some b.payload
+payload_first kind boxes b i = ap (payload_if kind) i.is ∙ behind i.before i.none
+  where
+    choice : (c : Box) (more : List Box) (v : Bool) → bytes_eq kind c.kind ≡ v → count_among (kind ∷ []) (c ∷ more) ≡ 0 → (count_among (kind ∷ []) more ≡ 0 → payload_if kind (more ++ b ∷ i.after) ≡ Some b.payload) → payload_if kind (c ∷ (more ++ b ∷ i.after)) ≡ Some b.payload
+    choice c more true e n h = absurd (omega (arith, hit_counts kind c more e, n))
+    choice c more false e n h = let m : 0 + count_among (kind ∷ []) more ≡ 0 = rw e at n in rw e (h (omega (arith, m)))
+    behind : (before : List Box) → count_among (kind ∷ []) before ≡ 0 → payload_if kind (before ++ b ∷ i.after) ≡ Some b.payload
+    behind [] n = rw i.same refl
+    behind (c ∷ before) n = choice c before (bytes_eq kind c.kind) refl n (behind before)
+
+pub payload_none : (kind : List ℕ) (boxes : List Box) → count_among (kind ∷ []) boxes ≡ 0 → payload_if kind boxes ≡ None
+payload_none kind [] n = refl
+payload_none kind (c ∷ boxes) n = choice c boxes (bytes_eq kind c.kind) refl n (payload_none kind boxes)
+  where
+    choice : (c : Box) (more : List Box) (v : Bool) → bytes_eq kind c.kind ≡ v → count_among (kind ∷ []) (c ∷ more) ≡ 0 → (count_among (kind ∷ []) more ≡ 0 → payload_if kind more ≡ None) → payload_if kind (c ∷ more) ≡ None
+    choice c more true e n h = absurd (omega (arith, hit_counts kind c more e, n))
+    choice c more false e n h = let m : 0 + count_among (kind ∷ []) more ≡ 0 = rw e at n in rw e (h (omega (arith, m)))
+
+-- what holds of none holds of all
+pub all_none : (kind : List ℕ) (P : List ℕ → Type 0) (boxes : List Box) → count_among (kind ∷ []) boxes ≡ 0 → AllOf kind P boxes
+all_none kind P [] n = tt
+all_none kind P (c ∷ boxes) n = (λ e. absurd (omega (arith, hit_counts kind c boxes e, n)), all_none kind P boxes (fewer c boxes (bytes_eq kind c.kind) refl n))
+  where
+    fewer : (c : Box) (more : List Box) (v : Bool) → bytes_eq kind c.kind ≡ v → count_among (kind ∷ []) (c ∷ more) ≡ 0 → count_among (kind ∷ []) more ≡ 0
+    fewer c more true e n = absurd (omega (arith, hit_counts kind c more e, n))
+    fewer c more false e n = let m : 0 + count_among (kind ∷ []) more ≡ 0 = rw e at n in omega (arith, m)
+
+all_joined : (kind : List ℕ) (P : List ℕ → Type 0) (before after : List Box) (b : Box) → AllOf kind P before → P b.payload → AllOf kind P after → AllOf kind P (before ++ b ∷ after)
+all_joined kind P [] after b h p k = (λ _. p, k)
+all_joined kind P (c ∷ before) after b h p k = (h.0, all_joined kind P before after b h.1 p k)
+
+-- what holds of the only one holds of all
+pub all_first : (kind : List ℕ) (P : List ℕ → Type 0) (boxes : List Box) (b : Box) → IsFirstOf kind boxes b → count_among (kind ∷ []) boxes ≤ 1 → P b.payload → AllOf kind P boxes
+all_first kind P boxes b i n p =
+    let others : count_among (kind ∷ []) i.after ≡ 0 = omega (arith, n, i.none, ap (count_among (kind ∷ [])) i.is, count-append (kind ∷ []) i.before (b ∷ i.after), hit_counts kind b i.after i.same) in
+    subst (AllOf kind P) (sym i.is) (all_joined kind P i.before i.after b (all_none kind P i.before i.none) p (all_none kind P i.after others))
+
+-- of two types together at most one stands, so at most one of each
+pub count_each : (a b : List ℕ) (boxes : List Box) → bytes_eq a b ≡ false → count_among (a ∷ []) boxes + count_among (b ∷ []) boxes ≡ count_among (a ∷ b ∷ []) boxes
+count_each a b [] e = refl
+count_each a b (c ∷ boxes) e = step (bytes_eq a c.kind) (bytes_eq b c.kind) refl refl (count_each a b boxes e)
+  where
+    step : (v w : Bool) → bytes_eq a c.kind ≡ v → bytes_eq b c.kind ≡ w → count_among (a ∷ []) boxes + count_among (b ∷ []) boxes ≡ count_among (a ∷ b ∷ []) boxes
+        → count_among (a ∷ []) (c ∷ boxes) + count_among (b ∷ []) (c ∷ boxes) ≡ count_among (a ∷ b ∷ []) (c ∷ boxes)
+    step true true f g h =
+        let s : bytes_eq a b ≡ true = subst (λ k. bytes_eq a k ≡ true) (same_kind b c.kind g) f in absurd (both_ways s)
+      where
+        both_ways : bytes_eq a b ≡ true → ⊥
+        both_ways s = let q : true ≡ false = sym s ∙ e in cc
+    step true false f g h = rw (f, g) (omega (arith, h))
+    step false true f g h = rw (f, g) (omega (arith, h))
+    step false false f g h = rw (f, g) (omega (arith, h))
+
+-- a fault of the first of a type
+pub leaf_fault : (kind : List ℕ) (boxes : List Box) (b : Box) (leaf : Leaf) (f : Fault) → IsFirstOf kind boxes b → leaf_of (ruled SampleTable) kind ≡ Some leaf → FailsAs leaf b f → IsLeafFaultAmong boxes f
+leaf_fault kind boxes b leaf f i e h = record {
+  before = i.before;
+  b = b;
+  after = i.after;
+  stands = i.is;
+  leaf = leaf;
+  read = ap (leaf_of (ruled SampleTable)) (same_kind kind b.kind i.same) ∙ e;
+  fails = h
+  }
+
+-- what can be read of each type can be read of all of them
+pub readable_from : (kinds : List (List ℕ)) (boxes : List Box) → AllByRecursion (λ (kind : List ℕ). AllOf kind (IsReadableAs (leaf_of (ruled SampleTable) kind)) boxes) kinds → AreReadable kinds boxes
+readable_from kinds [] h = tt
+readable_from kinds (b ∷ boxes) h = (λ m. one kinds h m, readable_from kinds boxes (tails kinds h))
+  where
+    tails : (kinds : List (List ℕ)) → AllByRecursion (λ (kind : List ℕ). AllOf kind (IsReadableAs (leaf_of (ruled SampleTable) kind)) (b ∷ boxes)) kinds → AllByRecursion (λ (kind : List ℕ). AllOf kind (IsReadableAs (leaf_of (ruled SampleTable) kind)) boxes) kinds
+    tails [] h = tt
+    tails (kind ∷ kinds) h = (h.0.1, tails kinds h.1)
+    this : (kind : List ℕ) (kinds : List (List ℕ)) (v : Bool) → bytes_eq kind b.kind ≡ v → AllByRecursion (λ (kind : List ℕ). AllOf kind (IsReadableAs (leaf_of (ruled SampleTable) kind)) (b ∷ boxes)) (kind ∷ kinds)
+        → is_among (kind ∷ kinds) b.kind ≡ true → (is_among kinds b.kind ≡ true → IsReadableAs (leaf_of (ruled SampleTable) b.kind) b.payload) → IsReadableAs (leaf_of (ruled SampleTable) b.kind) b.payload
+    this kind kinds true e h m more = subst (λ k. IsReadableAs (leaf_of (ruled SampleTable) k) b.payload) (sym (same_kind kind b.kind e)) (h.0.0 e)
+    this kind kinds false e h m more = more (rw e at m)
+    one : (kinds : List (List ℕ)) → AllByRecursion (λ (kind : List ℕ). AllOf kind (IsReadableAs (leaf_of (ruled SampleTable) kind)) (b ∷ boxes)) kinds → is_among kinds b.kind ≡ true → IsReadableAs (leaf_of (ruled SampleTable) b.kind) b.payload
+    one [] h m = absurd (let q : false ≡ true = m in cc)
+    one (kind ∷ kinds) h m = this kind kinds (bytes_eq kind b.kind) refl h m (one kinds h.1)
+
+-- ---- walking over children
+
+-- a box that comes behind others of which none has the type is the first of the type
+pub first_here : (kind : List ℕ) (boxes before after : List Box) (b : Box) → boxes ≡ before ++ b ∷ after → count_among (kind ∷ []) before ≡ 0 → bytes_eq kind b.kind ≡ true → IsFirstOf kind boxes b
+first_here kind boxes before after b e n s = record { before = before; after = after; is = e; same = s; none = n }
+
+-- some boxes were passed, of which none has the type, and these are left
+pub record NonePassed (kind : List ℕ) (boxes left : List Box) : Type 0 where
+  pub before : List Box
+  pub is : boxes ≡ before ++ left
+  pub none : count_among (kind ∷ []) before ≡ 0
+
+pub none_passed : (kind : List ℕ) (boxes left : List Box) → left ≡ boxes → NonePassed kind boxes left
+none_passed kind boxes left e = record { before = []; is = sym e; none = refl }
+
+pub one_passed : (kind : List ℕ) (boxes left later : List Box) (b : Box) → NonePassed kind boxes left → left ≡ b ∷ later → bytes_eq b.kind kind ≡ false → NonePassed kind boxes later
+one_passed kind boxes left later b p e s = record {
+  before = p.before ++ b ∷ [];
+  is = p.is ∙ ap (λ bs. p.before ++ bs) e ∙ sym (append_assoc p.before (b ∷ []) later);
+  none = omega (arith, p.none, count-append (kind ∷ []) p.before (b ∷ []), miss_counts b (turned b.kind kind s))
+  }
+  where
+    miss_counts : (c : Box) → bytes_eq kind c.kind ≡ false → count_among (kind ∷ []) (c ∷ []) ≡ 0
+    miss_counts c f = rw f refl
+
+pub first_found : (kind : List ℕ) (boxes left later : List Box) (b : Box) → NonePassed kind boxes left → left ≡ b ∷ later → bytes_eq b.kind kind ≡ true → IsFirstOf kind boxes b
+first_found kind boxes left later b p e s =
+    first_here kind boxes p.before later b (p.is ∙ ap (λ bs. p.before ++ bs) e) p.none (turned_true b.kind kind s)
+
+pub none_found : (kind : List ℕ) (boxes left : List Box) → NonePassed kind boxes left → left ≡ [] → count_among (kind ∷ []) boxes ≡ 0
+none_found kind boxes left p e = omega (arith, p.none, ap (count_among (kind ∷ [])) (p.is ∙ ap (λ bs. p.before ++ bs) e), count-append (kind ∷ []) p.before [])
+
+-- ---- rows of a child, where they lie in the payload of its `stbl`
+
+numbers_cut : (m : ℕ) (widths bytes : List ℕ) → width_of widths ≤ m → numbers widths (take m bytes) ≡ numbers widths bytes
+numbers_cut m [] bytes h = refl
+numbers_cut m (w ∷ widths) bytes h =
+    let first : field (take m bytes) 0 w ≡ field bytes 0 w = big_from-take 0 w m bytes (omega arith) in
+    let n : m ≡ w + (m - w) = omega arith in
+    let behind : drop w (take m bytes) ≡ take (m - w) (drop w bytes) = ap (λ k. drop w (take k bytes)) n ∙ drop-take w (m - w) bytes in
+    let more : numbers widths (drop w (take m bytes)) ≡ numbers widths (drop w bytes) = ap (numbers widths) behind ∙ numbers_cut (m - w) widths (drop w bytes) (omega arith) in
+    λ i. first i ∷ more i
+
+rows_cut : (n m : ℕ) (widths bytes : List ℕ) → width_of widths * n ≤ m → rows n widths (take m bytes) ≡ rows n widths bytes
+rows_cut zero m widths bytes h = refl
+rows_cut (suc n) m widths bytes h =
+    let w = width_of widths in
+    let e : w * suc n ≡ w + w * n = omega arith in
+    let first = numbers_cut m widths bytes (omega arith) in
+    let k : m ≡ w + (m - w) = omega arith in
+    let behind : drop w (take m bytes) ≡ take (m - w) (drop w bytes) = ap (λ j. drop w (take j bytes)) k ∙ drop-take w (m - w) bytes in
+    let more : rows n widths (drop w (take m bytes)) ≡ rows n widths (drop w bytes) = ap (rows n widths) behind ∙ rows_cut n (m - w) widths (drop w bytes) (omega arith) in
+    λ i. first i ∷ more i
+
+pub rows_there : (at : ℕ) (bytes : List ℕ) (b : Box) (n fields place : ℕ) (widths : List ℕ) → LiesIn at bytes b → at + place ≡ b.offset + b.header + fields → fields + width_of widths * n ≤ length b.payload
+    → rows n widths (drop place bytes) ≡ rows n widths (drop fields b.payload)
+rows_there at bytes b n fields place widths i e h =
+    let is = i.is in
+    let p : place ≡ i.place + fields = omega arith in
+    let l : length b.payload ≡ fields + (length b.payload - fields) = omega arith in
+    let cut : drop fields b.payload ≡ take (length b.payload - fields) (drop place bytes) =
+        ap (drop fields) (i.same ∙ ap (λ m. take m (drop i.place bytes)) l) ∙ drop-take fields (length b.payload - fields) (drop i.place bytes)
+        ∙ ap (take (length b.payload - fields)) (drop-drop fields i.place bytes ∙ ap (λ j. drop j bytes) (sym p)) in
+    sym (ap (rows n widths) cut ∙ rows_cut n (length b.payload - fields) widths (drop place bytes) (omega arith))
+
+-- a child lies in its `stbl`
+pub lies_in : (stbl b : Box) → HasTables stbl → IsChild stbl b → LiesIn (stbl.offset + stbl.header) stbl.payload b
+lies_in stbl b h i = child_lies (stbl.offset + stbl.header) stbl.payload i.before i.after b (subst (LieEndToEnd false (stbl.offset + stbl.header) stbl.payload) i.is h.tiles.front.0)
+
+pub first_is_child : (kind : List ℕ) (stbl b : Box) → IsFirstOf kind (boxes_of stbl) b → IsChild stbl b
+first_is_child kind stbl b i = record { before = i.before; after = i.after; is = i.is }
+
+-- rows that were read have their bytes in the payload of `stbl`
+pub room_there : (last fields width : ℕ) (stbl b : Box) (r : RowsAt) → LiesIn (stbl.offset + stbl.header) stbl.payload b → RowsRead last fields width stbl b r → HaveRoom width stbl.payload r
+room_there last fields width stbl b r i h =
+    let a = i.is in let w = i.within in let p = h.place in let n = h.room in
+    omega arith
+
+pub runs_there : (last fields : ℕ) (stbl b : Box) (r : RowsAt) → LiesIn (stbl.offset + stbl.header) stbl.payload b → RowsRead last fields 8 stbl b r
+    → runs_at stbl.payload r ≡ map run_of (rows r.count (4 ∷ 4 ∷ []) (drop fields b.payload))
+unfolding runs_at
+runs_there last fields stbl b r i h = ap (map run_of) (rows_there (stbl.offset + stbl.header) stbl.payload b r.count fields r.place (4 ∷ 4 ∷ []) i h.place h.room)
+
+pub chunk_rows_there : (last fields : ℕ) (stbl b : Box) (r : RowsAt) → LiesIn (stbl.offset + stbl.header) stbl.payload b → RowsRead last fields 12 stbl b r
+    → chunk_rows_at stbl.payload r ≡ map chunk_row_of (rows r.count (4 ∷ 4 ∷ 4 ∷ []) (drop fields b.payload))
+unfolding chunk_rows_at
+chunk_rows_there last fields stbl b r i h = ap (map chunk_row_of) (rows_there (stbl.offset + stbl.header) stbl.payload b r.count fields r.place (4 ∷ 4 ∷ 4 ∷ []) i h.place h.room)
+
+pub numbers_there : (last fields width : ℕ) (stbl b : Box) (r : RowsAt) → LiesIn (stbl.offset + stbl.header) stbl.payload b → RowsRead last fields width stbl b r
+    → numbers_at width stbl.payload r ≡ map first_number (rows r.count (width ∷ []) (drop fields b.payload))
+unfolding numbers_at
+numbers_there last fields width stbl b r i h =
+    let w : width_of (width ∷ []) * r.count ≡ width * r.count = omega arith in
+    let room = h.room in
+    ap (map first_number) (rows_there (stbl.offset + stbl.header) stbl.payload b r.count fields r.place (width ∷ []) i h.place (omega arith))
+
+-- ---- shapes
+
+pub shape_fails : (leaf : Leaf) (last fields width : ℕ) (b : Box) (f : Fault) → last_version leaf ≡ Some last → needed leaf b.payload ≡ fields + width * field b.payload (fields - 4) 4 → 4 ≤ fields
+    → ShapeFails last fields width b f → FailsAs leaf b f
+shape_fails leaf last fields width b f v n h (inl (inl short)) = record { kind = ShortBox; fails = (let s = short.0 in omega arith); named = short.1 }
+shape_fails leaf last fields width b f v n h (inl (inr bad)) = record { kind = BadVersion; fails = (bad.0, ap (λ l. up_to l (version b.payload)) v ∙ no_le (version b.payload) last bad.1); named = bad.2 }
+shape_fails leaf last fields width b f v n h (inr short) = record { kind = ShortBox; fails = (let s = short.0 in omega arith); named = short.1 }
+
+pub shape_readable : (leaf : Leaf) (last fields width : ℕ) (stbl b : Box) (r : RowsAt) → last_version leaf ≡ Some last → knows_flags leaf b.payload ≡ true → needed leaf b.payload ≡ fields + width * field b.payload (fields - 4) 4
+    → RowsRead last fields width stbl b r → IsReadable leaf b.payload
+shape_readable leaf last fields width stbl b r v g n h = record {
+  version = ap (λ l. up_to l (version b.payload)) v ∙ yes_le (version b.payload) last h.version;
+  flags = g;
+  room = subst (λ m. fields + width * m ≤ length b.payload → needed leaf b.payload ≤ length b.payload) (sym h.count) (λ l. omega arith) h.room
+  }
+
+pub version_fails : (leaf : Leaf) (last : ℕ) (b : Box) (f : Fault) → last_version leaf ≡ Some last → 4 ≤ needed leaf b.payload → VersionFails last b f → FailsAs leaf b f
+version_fails leaf last b f v n (inl short) = record { kind = ShortBox; fails = (let s = short.0 in omega arith); named = short.1 }
+version_fails leaf last b f v n (inr bad) = record { kind = BadVersion; fails = (bad.0, ap (λ l. up_to l (version b.payload)) v ∙ no_le (version b.payload) last bad.1); named = bad.2 }
+
+-- bytes behind the fields of a child, where they lie in the payload of its `stbl`
+pub bytes_there : (at : ℕ) (bytes : List ℕ) (b : Box) (r : BytesAt) (fields : ℕ) → LiesIn at bytes b → at + r.place ≡ b.offset + b.header + fields → r.length + fields ≡ length b.payload → bytes_at bytes r ≡ drop fields b.payload
+bytes_there at bytes b r fields i e n =
+    let is = i.is in
+    let p : r.place ≡ i.place + fields = omega arith in
+    let l : length b.payload ≡ fields + r.length = omega arith in
+    sym (ap (drop fields) (i.same ∙ ap (λ m. take m (drop i.place bytes)) l) ∙ drop-take fields r.length (drop i.place bytes)
+      ∙ ap (take r.length) (drop-drop fields i.place bytes ∙ ap (λ j. drop j bytes) (sym p)))

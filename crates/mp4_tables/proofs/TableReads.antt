@@ -1,0 +1,210 @@
+-- What was read of a leaf is what the definition reads, and a rule that fails is a fault.
+use Rattle.std.proofs.Common.{◌≡◌, ℕ, zero, suc, ◌+◌, ◌-◌, ◌*◌, ◌<◌, ◌≤◌, ◌⊎◌, inl, inr, List, [], ◌∷◌, ◌++◌, length, take, drop, map, subst, refl, ap, sym, ◌∙◌, arith, Bool, true, false, cond, Option, Some, None, length-drop, length-take}
+use Rattle.std.specs.Prelude.{bytes_eq, codes, IsTrue, unwrap_or, option_map, nat_eq, nat_le, nat_lt, ◌==◌, ◌||◌, slice_index, ℤ}
+use Rattle.std.specs.List.{AllByRecursion, list_all}
+use Rattle.mp4_boxes.specs.Bytes.{field, rows}
+use Rattle.mp4_boxes.specs.Box.{Box, box_container}
+use Rattle.mp4_boxes.specs.Children.{Holds, count_among, is_among, payload_if, payload_of, of_kind, sample_sizes, one, at_most_one}
+use Rattle.mp4_boxes.specs.Layout.{Leaf, stts, ctts, stsc, stsz, stz2, stco, co64, stss, sdtp, sbgp, sgpd, IsSound, IsReadable, version, leaf_rows, needed}
+use Rattle.mp4_boxes.specs.Places.{leaf_of, ruled, IsSoundAs}
+use Rattle.mp4_boxes.specs.BoxFaults.{Fails, fault_of}
+use Rattle.mp4_boxes.specs.declared.rule.Rule.TheVariants.{SampleTable}
+use Rattle.mp4_boxes.specs.declared.fault.Fault.{Fault}
+use Rattle.mp4_boxes.specs.declared.fault.Kind.{Kind}
+use Rattle.mp4_boxes.proofs.Refusing.{holds_only, holds_few, line_has}
+use Rattle.mp4_boxes.proofs.Sound.{same_kind}
+use Rattle.mp4_tables.specs.Repeated.{total}
+use Rattle.mp4_tables.specs.Tables.{Tables, ChunkRow, first_number, durations_of, chunk_rows_of, chunk_offsets_of, tables_of}
+use Rattle.mp4_tables.specs.Rows.{HaveRoom, run_of, runs_at, chunk_rows_at, numbers_at, offsets_at}
+use Rattle.mp4_tables.specs.TableRules.{TableRule, duration_counts, offset_counts, chunk_counts, chunk_order, sync_order, description_indexes, places, dependency_room, Surroundings, test, kind_of, reads, reads_groups, goes_by_chunks, IsNamed, AreReadable, IsReadableAs, GroupsReadable, IsTableFault, is_sync_order, is_chunk_order, is_index}
+use Rattle.mp4_tables.specs.Leaves.{boxes_of, HasTables, AllOf, IsFirstOf, LiesIn, IsChild, FailsAs, IsLeafFaultAmong, IsFault, surroundings_of, ShapeFails, RowsRead, VersionFails, tables_in, SizesKnown, DurationsRead, OffsetsRead, ChunksRead, ChunkRowsRead, IsOffsetsLeaf, SyncRead, DependenciesRead, SizesRead}
+use Rattle.mp4_tables.specs.declared.leaves.Limits.{Limits}
+use Rattle.mp4_tables.specs.Accepted.{bytes_at, composition_offsets_at, HaveOffsets, AreSmall, offset_version}
+use Rattle.mp4_tables.specs.declared.places.RowsAt.{RowsAt}
+use Rattle.mp4_tables.specs.declared.places.BytesAt.{BytesAt}
+use Rattle.mp4_tables.specs.declared.places.SizesAt.{SizesAt}
+use Rattle.mp4_tables.specs.declared.places.OffsetsAt.{OffsetsAt}
+use Rattle.mp4_tables.specs.declared.places.ChunksAt.{ChunksAt}
+use Rattle.mp4_tables.proofs.LeafLists.{payload_first, payload_none, all_first, all_none, leaf_fault, readable_from, lies_in, first_is_child, room_there, runs_there, chunk_rows_there, numbers_there, shape_fails, shape_readable, version_fails, bytes_there}
+use Rattle.mp4_tables.proofs.ChunkLists.{yes_le, no_le}
+
+-- the payload of the first of a type
+pub payload_is : (kind : List ℕ) (boxes : List Box) (b : Box) → IsFirstOf kind boxes b → payload_of kind boxes ≡ b.payload
+payload_is kind boxes b i = ap (λ (o : Option (List ℕ)). unwrap_or o []) (payload_first kind boxes b i)
+
+-- one more type that can be read
+pub readable_more : (kind : List ℕ) (kinds : List (List ℕ)) (boxes : List Box) → AllOf kind (IsReadableAs (leaf_of (ruled SampleTable) kind)) boxes → AreReadable kinds boxes → AreReadable (kind ∷ kinds) boxes
+readable_more kind kinds [] h k = tt
+readable_more kind kinds (b ∷ boxes) h k = (either (bytes_eq kind b.kind) refl h.0 k.0, readable_more kind kinds boxes h.1 k.1)
+  where
+    either : (v : Bool) → bytes_eq kind b.kind ≡ v → (bytes_eq kind b.kind ≡ true → IsReadableAs (leaf_of (ruled SampleTable) kind) b.payload) → (is_among kinds b.kind ≡ true → IsReadableAs (leaf_of (ruled SampleTable) b.kind) b.payload)
+        → is_among (kind ∷ kinds) b.kind ≡ true → IsReadableAs (leaf_of (ruled SampleTable) b.kind) b.payload
+    either true e p q m = subst (λ k. IsReadableAs (leaf_of (ruled SampleTable) k) b.payload) (sym (same_kind kind b.kind e)) (p e)
+    either false e p q m = q (rw e at m)
+
+-- types of which one can be read, and others
+pub readable_join : (kind : List ℕ) (kinds : List (List ℕ)) (boxes : List Box) → AreReadable (kind ∷ []) boxes → AreReadable kinds boxes → AreReadable (kind ∷ kinds) boxes
+readable_join kind kinds [] h k = tt
+readable_join kind kinds (b ∷ boxes) h k = (either (bytes_eq kind b.kind) refl h.0 k.0, readable_join kind kinds boxes h.1 k.1)
+  where
+    either : (v : Bool) → bytes_eq kind b.kind ≡ v → (is_among (kind ∷ []) b.kind ≡ true → IsReadableAs (leaf_of (ruled SampleTable) b.kind) b.payload) → (is_among kinds b.kind ≡ true → IsReadableAs (leaf_of (ruled SampleTable) b.kind) b.payload)
+        → is_among (kind ∷ kinds) b.kind ≡ true → IsReadableAs (leaf_of (ruled SampleTable) b.kind) b.payload
+    either true e p q m = p (rw e refl)
+    either false e p q m = q (rw e at m)
+
+-- a type names what it is among
+pub named_by : (kind : List ℕ) (boxes : List Box) (b : Box) → IsFirstOf kind boxes b → (kinds : List (List ℕ)) → is_among (kind ∷ kinds) b.kind ≡ true
+named_by kind boxes b i kinds = rw i.same refl
+
+-- a rule that fails is a fault of the first of a type
+pub rule_fault : (l : Limits) (stbl b : Box) (kind : List ℕ) (rule : TableRule) (f : Fault) → HasTables stbl → IsFirstOf kind (boxes_of stbl) b
+    → (AreReadable (codes "stsd" ∷ []) (boxes_of stbl) → AreReadable (reads rule) (boxes_of stbl))
+    → GroupsReadable (reads_groups rule (of_kind (codes "sbgp") (boxes_of stbl)))
+    → (goes_by_chunks rule ≡ true → IsTrue (test chunk_order (surroundings_of l) (tables_in stbl)))
+    → test rule (surroundings_of l) (tables_in stbl) ≡ false → IsNamed rule (boxes_of stbl) b → f ≡ fault_of (kind_of rule) b → IsFault l stbl f
+rule_fault l stbl b kind rule f h i r g o t n s = inr (inl (λ d. record {
+  children = boxes_of stbl;
+  holds = h;
+  rule = rule;
+  readable = r d;
+  groups_readable = g;
+  ordered = o;
+  fails = t;
+  before = i.before;
+  b = b;
+  after = i.after;
+  stands = i.is;
+  is_named = n;
+  same = s
+  }))
+
+-- a fault of the first of a type
+pub first_fault : (l : Limits) (stbl b : Box) (kind : List ℕ) (leaf : Leaf) (f : Fault) → IsFirstOf kind (boxes_of stbl) b → leaf_of (ruled SampleTable) kind ≡ Some leaf → FailsAs leaf b f → IsFault l stbl f
+first_fault l stbl b kind leaf f i e h = inl (leaf_fault kind (boxes_of stbl) b leaf f i e h)
+
+-- ---- durations
+stts_needed : (payload : List ℕ) → needed stts payload ≡ 8 + 8 * field payload 4 4
+stts_needed payload = omega arith
+
+pub durations_fail : (l : Limits) (stbl b : Box) (f : Fault) → IsFirstOf (codes "stts") (boxes_of stbl) b → ShapeFails 0 8 8 b f → IsFault l stbl f
+durations_fail l stbl b f i s = first_fault l stbl b (codes "stts") stts f i refl (shape_fails stts 0 8 8 b f refl (stts_needed b.payload) (omega arith) s)
+
+durations_sound : (stbl b : Box) (r : RowsAt) → HasTables stbl → IsFirstOf (codes "stts") (boxes_of stbl) b → RowsRead 0 8 8 stbl b r → AllOf (codes "stts") (IsSound stts) (boxes_of stbl)
+durations_sound stbl b r h i read =
+    all_first (codes "stts") (IsSound stts) (boxes_of stbl) b i (omega (arith, holds_only h (codes "stts") refl))
+    (record { readable = shape_readable stts 0 8 8 stbl b r refl refl (stts_needed b.payload) read; value = refl; inside = refl; offsets = refl })
+
+durations_same : (stbl b : Box) (r : RowsAt) → HasTables stbl → IsFirstOf (codes "stts") (boxes_of stbl) b → RowsRead 0 8 8 stbl b r → runs_at stbl.payload r ≡ (tables_in stbl).durations
+durations_same stbl b r h i read =
+    runs_there 0 8 stbl b r (lies_in stbl b h (first_is_child (codes "stts") stbl b i)) read
+    ∙ ap (λ n. map run_of (rows n (4 ∷ 4 ∷ []) (drop 8 b.payload))) read.count
+    ∙ ap durations_of (sym (payload_is (codes "stts") (boxes_of stbl) b i))
+
+pub durations_read : (stbl b : Box) (r : RowsAt) (n : ℕ) → HasTables stbl → IsFirstOf (codes "stts") (boxes_of stbl) b → RowsRead 0 8 8 stbl b r → (total (runs_at stbl.payload r) == n) ≡ true → DurationsRead stbl n r
+durations_read stbl b r n h i read t = record {
+  have = room_there 0 8 8 stbl b r (lies_in stbl b h (first_is_child (codes "stts") stbl b i)) read;
+  same = durations_same stbl b r h i read;
+  sound = durations_sound stbl b r h i read;
+  count = ap (λ runs. total runs == n) (sym (durations_same stbl b r h i read)) ∙ t
+  }
+
+pub all_readable : (kind : List ℕ) (leaf : Leaf) (boxes : List Box) → AllOf kind (IsSound leaf) boxes → AllOf kind (IsReadable leaf) boxes
+all_readable kind leaf [] h = tt
+all_readable kind leaf (b ∷ boxes) h = ((λ e. (h.0 e).readable), all_readable kind leaf boxes h.1)
+
+pub durations_mismatch : (l : Limits) (stbl b : Box) (r : RowsAt) (n : ℕ) (f : Fault) → HasTables stbl → IsFirstOf (codes "stts") (boxes_of stbl) b → RowsRead 0 8 8 stbl b r → SizesKnown stbl n → (total (runs_at stbl.payload r) == n) ≡ false
+    → f ≡ fault_of (kind_of duration_counts) b → IsFault l stbl f
+durations_mismatch l stbl b r n f h i read k t s =
+    rule_fault l stbl b (codes "stts") duration_counts f h i
+    (λ _. readable_more (codes "stts") sample_sizes (boxes_of stbl) (all_readable (codes "stts") stts (boxes_of stbl) (durations_sound stbl b r h i read)) k.readable) tt (λ e. absurd (no_chunks e))
+    ((let c = k.count in let d = sym (durations_same stbl b r h i read) in λ j. total (d j) == c j) ∙ t) (named_by (codes "stts") (boxes_of stbl) b i []) s
+  where
+    no_chunks : false ≡ true → ⊥
+    no_chunks e = cc
+
+-- the bytes of rows that were read of the first of a type
+pub rows_have : (last width : ℕ) (kind : List ℕ) (stbl b : Box) (r : RowsAt) → HasTables stbl → IsFirstOf kind (boxes_of stbl) b → RowsRead last 8 width stbl b r → HaveRoom width stbl.payload r
+rows_have last width kind stbl b r h i read = room_there last 8 width stbl b r (lies_in stbl b h (first_is_child kind stbl b i)) read
+
+-- ---- sync samples
+stss_needed : (payload : List ℕ) → needed stss payload ≡ 8 + 4 * field payload 4 4
+stss_needed payload = omega arith
+
+pub sync_fail : (l : Limits) (stbl b : Box) (f : Fault) → IsFirstOf (codes "stss") (boxes_of stbl) b → ShapeFails 0 8 4 b f → IsFault l stbl f
+sync_fail l stbl b f i s = first_fault l stbl b (codes "stss") stss f i refl (shape_fails stss 0 8 4 b f refl (stss_needed b.payload) (omega arith) s)
+
+sync_sound : (stbl b : Box) (r : RowsAt) → HasTables stbl → IsFirstOf (codes "stss") (boxes_of stbl) b → RowsRead 0 8 4 stbl b r → AllOf (codes "stss") (IsSound stss) (boxes_of stbl)
+sync_sound stbl b r h i read =
+    all_first (codes "stss") (IsSound stss) (boxes_of stbl) b i (holds_few h (codes "stss") refl)
+    (record { readable = shape_readable stss 0 8 4 stbl b r refl refl (stss_needed b.payload) read; value = refl; inside = refl; offsets = refl })
+
+sync_is : (stbl b : Box) (r : RowsAt) → HasTables stbl → IsFirstOf (codes "stss") (boxes_of stbl) b → RowsRead 0 8 4 stbl b r → (tables_in stbl).sync ≡ Some (numbers_at 4 stbl.payload r)
+sync_is stbl b r h i read =
+    ap (option_map (λ (payload : List ℕ). map first_number (leaf_rows stss payload))) (payload_first (codes "stss") (boxes_of stbl) b i)
+    ∙ ap Some (sym (numbers_there 0 8 4 stbl b r (lies_in stbl b h (first_is_child (codes "stss") stbl b i)) read ∙ ap (λ n. map first_number (rows n (4 ∷ []) (drop 8 b.payload))) read.count))
+
+pub sync_read : (stbl b : Box) (r : RowsAt) (n : ℕ) → HasTables stbl → IsFirstOf (codes "stss") (boxes_of stbl) b → RowsRead 0 8 4 stbl b r → is_sync_order n (numbers_at 4 stbl.payload r) ≡ true → SyncRead stbl n (Some r)
+sync_read stbl b r n h i read t = record {
+  have = rows_have 0 4 (codes "stss") stbl b r h i read;
+  same = sym (sync_is stbl b r h i read);
+  sound = sync_sound stbl b r h i read;
+  ordered = ap (λ o. unwrap_or (option_map (is_sync_order n) o) true) (sync_is stbl b r h i read) ∙ t
+  }
+
+pub sync_none : (stbl : Box) (n : ℕ) → count_among (codes "stss" ∷ []) (boxes_of stbl) ≡ 0 → SyncRead stbl n None
+sync_none stbl n e =
+    let none : (tables_in stbl).sync ≡ None = ap (option_map (λ (payload : List ℕ). map first_number (leaf_rows stss payload))) (payload_none (codes "stss") (boxes_of stbl) e) in
+    record { have = tt; same = sym none; sound = all_none (codes "stss") (IsSound stss) (boxes_of stbl) e; ordered = ap (λ o. unwrap_or (option_map (is_sync_order n) o) true) none }
+
+pub sync_disorder : (l : Limits) (stbl b : Box) (r : RowsAt) (n : ℕ) (f : Fault) → HasTables stbl → IsFirstOf (codes "stss") (boxes_of stbl) b → RowsRead 0 8 4 stbl b r → SizesKnown stbl n → is_sync_order n (numbers_at 4 stbl.payload r) ≡ false
+    → f ≡ fault_of (kind_of sync_order) b → IsFault l stbl f
+sync_disorder l stbl b r n f h i read k t s =
+    rule_fault l stbl b (codes "stss") sync_order f h i
+    (λ _. readable_more (codes "stss") sample_sizes (boxes_of stbl) (all_readable (codes "stss") stss (boxes_of stbl) (sync_sound stbl b r h i read)) k.readable) tt (λ e. absurd (no_chunks e))
+    ((let c = k.count in let d = sync_is stbl b r h i read in λ j. unwrap_or (option_map (is_sync_order (c j)) (d j)) true) ∙ t) (named_by (codes "stss") (boxes_of stbl) b i []) s
+  where
+    no_chunks : false ≡ true → ⊥
+    no_chunks e = cc
+
+-- ---- dependencies
+pub dependencies_version : (l : Limits) (stbl b : Box) (f : Fault) → IsFirstOf (codes "sdtp") (boxes_of stbl) b → VersionFails 0 b f → IsFault l stbl f
+dependencies_version l stbl b f i s = first_fault l stbl b (codes "sdtp") sdtp f i refl (version_fails sdtp 0 b f refl (omega arith) s)
+
+dependencies_sound : (stbl b : Box) → HasTables stbl → IsFirstOf (codes "sdtp") (boxes_of stbl) b → version b.payload ≤ 0 → 4 ≤ length b.payload → AllOf (codes "sdtp") (IsSound sdtp) (boxes_of stbl)
+dependencies_sound stbl b h i v n =
+    all_first (codes "sdtp") (IsSound sdtp) (boxes_of stbl) b i (holds_few h (codes "sdtp") refl)
+    (record { readable = record { version = yes_le (version b.payload) 0 v; flags = refl; room = omega arith }; value = refl; inside = refl; offsets = refl })
+
+dependencies_is : (stbl b : Box) → IsFirstOf (codes "sdtp") (boxes_of stbl) b → (tables_in stbl).dependencies ≡ Some (drop 4 b.payload)
+dependencies_is stbl b i = ap (option_map (λ (payload : List ℕ). drop 4 payload)) (payload_first (codes "sdtp") (boxes_of stbl) b i)
+
+pub dependencies_read : (stbl b : Box) (at : BytesAt) (n : ℕ) → HasTables stbl → IsFirstOf (codes "sdtp") (boxes_of stbl) b → version b.payload ≤ 0 → 4 ≤ length b.payload → at.length + 4 ≡ length b.payload
+    → stbl.offset + stbl.header + at.place ≡ b.offset + b.header + 4 → n ≤ at.length → DependenciesRead stbl n (Some at)
+dependencies_read stbl b at n h i v long e p few =
+    let l = lies_in stbl b h (first_is_child (codes "sdtp") stbl b i) in
+    let a = l.is in let w = l.within in
+    let there = sym (bytes_there (stbl.offset + stbl.header) stbl.payload b at 4 l p e) in
+    let is = dependencies_is stbl b i ∙ ap Some there in
+    let long_enough : nat_le n (length (bytes_at stbl.payload at)) ≡ true = yes_le n (length (bytes_at stbl.payload at)) (let m = ap (λ (xs : List ℕ). length xs) there in omega (arith, m, length-drop 4 b.payload)) in
+    record {
+      have = omega arith;
+      same = sym is;
+      sound = dependencies_sound stbl b h i v long;
+      room = ap (λ o. unwrap_or (option_map (λ (bytes : List ℕ). nat_le n (length bytes)) o) true) is ∙ long_enough
+    }
+
+pub dependencies_none : (stbl : Box) (n : ℕ) → count_among (codes "sdtp" ∷ []) (boxes_of stbl) ≡ 0 → DependenciesRead stbl n None
+dependencies_none stbl n e =
+    let none : (tables_in stbl).dependencies ≡ None = ap (option_map (λ (payload : List ℕ). drop 4 payload)) (payload_none (codes "sdtp") (boxes_of stbl) e) in
+    record { have = tt; same = sym none; sound = all_none (codes "sdtp") (IsSound sdtp) (boxes_of stbl) e; room = ap (λ o. unwrap_or (option_map (λ (bytes : List ℕ). nat_le n (length bytes)) o) true) none }
+
+pub dependencies_short : (l : Limits) (stbl b : Box) (n : ℕ) (f : Fault) → HasTables stbl → IsFirstOf (codes "sdtp") (boxes_of stbl) b → version b.payload ≤ 0 → 4 ≤ length b.payload → SizesKnown stbl n → length b.payload < n + 4
+    → f ≡ fault_of (kind_of dependency_room) b → IsFault l stbl f
+dependencies_short l stbl b n f h i v long k short s =
+    let few : nat_le n (length (drop 4 b.payload)) ≡ false = no_le n (length (drop 4 b.payload)) (omega (arith, length-drop 4 b.payload)) in
+    rule_fault l stbl b (codes "sdtp") dependency_room f h i
+    (λ _. readable_more (codes "sdtp") sample_sizes (boxes_of stbl) (all_readable (codes "sdtp") sdtp (boxes_of stbl) (dependencies_sound stbl b h i v long)) k.readable) tt (λ e. absurd (no_chunks e))
+    ((let c = k.count in let d = dependencies_is stbl b i in λ j. unwrap_or (option_map (λ (bytes : List ℕ). nat_le (c j) (length bytes)) (d j)) true) ∙ few) (named_by (codes "sdtp") (boxes_of stbl) b i []) s
+  where
+    no_chunks : false ≡ true → ⊥
+    no_chunks e = cc

@@ -1,0 +1,8 @@
+use Rattle.std.proofs.Common.{arith, sym, ap, refl, codes, ◌≡◌, ◌+◌, ◌*◌, ◌≤◌, ◌<◌, ◌∙◌, length}
+use Rattle.std.proofs.lemmas.Result.{err_from_is_err_and}
+use Rattle.mp4_boxes.specs.View.{box_seen}
+use Rattle.mp4_tables.proofs.ChunkReads.{wide_there}
+use Rattle.mp4_tables.proofs.checks.offsets_leaf.Goals as goal
+
+pub only_of-requires-clause-one : goal.only_of-requires-clause-one
+only_of-requires-clause-one c = wide_there (box_seen c.args.stbl) c.requires.tables c.in-None.ensures

@@ -1,0 +1,84 @@
+use Rattle.std.proofs.Common.{arith, sym, ap, refl, codes, ◌≡◌, ◌+◌, ◌*◌, ◌≤◌, ◌<◌, ◌∙◌, length}
+use Rattle.std.proofs.lemmas.Result.{err_from_is_err_and}
+use Rattle.mp4_boxes.specs.View.{box_seen}
+use Rattle.mp4_tables.proofs.TableReads.{rows_have}
+use Rattle.mp4_tables.proofs.ChunkReads.{chunk_rows_fail, chunk_rows_disorder, chunk_rows_mismatch, chunk_rows_undescribed, chunk_rows_read, narrower}
+use Rattle.mp4_tables.proofs.checks.read_chunk_rows.Goals as goal
+
+pub returns-in_err-rows-clause-fault : goal.returns-in_err-rows-clause-fault
+returns-in_err-rows-clause-fault g c =
+    let p = err_from_is_err_and c.from_residual.result c.from_residual.ensures.1 in
+    rw (p.1, p.2) (chunk_rows_fail c.args.limits (box_seen c.args.stbl) (box_seen c.only_of-leaf.result) c.in_err-rows.field-0.0 c.only_of-leaf.ensures c.in_err-rows.ensures.fault)
+
+pub are_ordered-requires : goal.are_ordered-requires
+are_ordered-requires g c = rw c.payload-payload.ensures (rows_have 0 12 (codes "stsc") (box_seen c.args.stbl) (box_seen c.only_of-leaf.result) c.in_ok-rows.rows c.requires.tables c.only_of-leaf.ensures c.in_ok-rows.ensures.rows)
+
+pub returns-then-not-are_ordered-clause-fault : goal.returns-then-not-are_ordered-clause-fault
+returns-then-not-are_ordered-clause-fault g c =
+    chunk_rows_disorder c.args.limits (box_seen c.args.stbl) (box_seen c.only_of-leaf.result) c.args.chunks c.in_ok-rows.rows c.fault_at.result c.requires.tables c.only_of-leaf.ensures c.in_ok-rows.ensures.rows c.requires.chunks
+    (rw c.payload-payload.ensures at (sym c.if-not-are_ordered.ensures.same)) c.fault_at.ensures
+
+pub returns-then-not-are_ordered-clause-work : goal.returns-then-not-are_ordered-clause-work
+returns-then-not-are_ordered-clause-work g c =
+    let h = rows_have 0 12 (codes "stsc") (box_seen c.args.stbl) (box_seen c.only_of-leaf.result) c.in_ok-rows.rows c.requires.tables c.only_of-leaf.ensures c.in_ok-rows.ensures.rows in
+    let k = c.are_ordered.ensures.cost in
+    omega arith
+
+pub chunk_counts_are-requires-clause-room : goal.chunk_counts_are-requires-clause-room
+chunk_counts_are-requires-clause-room g c = rw c.payload-payload.ensures (rows_have 0 12 (codes "stsc") (box_seen c.args.stbl) (box_seen c.only_of-leaf.result) c.in_ok-rows.rows c.requires.tables c.only_of-leaf.ensures c.in_ok-rows.ensures.rows)
+
+pub chunk_counts_are-requires-clause-offsets : goal.chunk_counts_are-requires-clause-offsets
+chunk_counts_are-requires-clause-offsets g c = rw c.payload-payload.ensures c.requires.chunks.have
+
+pub chunk_counts_are-requires-clause-ordered : goal.chunk_counts_are-requires-clause-ordered
+chunk_counts_are-requires-clause-ordered g c = sym c.if-not-are_ordered.ensures.same
+
+pub returns-then-not-chunk_counts_are-clause-fault : goal.returns-then-not-chunk_counts_are-clause-fault
+returns-then-not-chunk_counts_are-clause-fault g c =
+    chunk_rows_mismatch c.args.limits (box_seen c.args.stbl) (box_seen c.only_of-leaf.result) c.args.chunks c.in_ok-rows.rows c.args.n c.fault_at-then-not-chunk_counts_are.result c.requires.tables c.only_of-leaf.ensures c.in_ok-rows.ensures.rows c.requires.chunks c.requires.sizes
+    (rw c.payload-payload.ensures at (sym c.if-not-are_ordered.ensures.same)) (rw c.payload-payload.ensures at (sym c.if-not-chunk_counts_are.ensures.same)) c.fault_at-then-not-chunk_counts_are.ensures
+
+pub returns-then-not-chunk_counts_are-clause-work : goal.returns-then-not-chunk_counts_are-clause-work
+returns-then-not-chunk_counts_are-clause-work g c =
+    let h = rows_have 0 12 (codes "stsc") (box_seen c.args.stbl) (box_seen c.only_of-leaf.result) c.in_ok-rows.rows c.requires.tables c.only_of-leaf.ensures c.in_ok-rows.ensures.rows in
+    let o = narrower (box_seen c.args.stbl) c.args.chunks c.requires.chunks in
+    let k = c.are_ordered.ensures.cost in
+    let m = c.chunk_counts_are.ensures.cost in
+    omega arith
+
+pub are_described-requires-clause-room : goal.are_described-requires-clause-room
+are_described-requires-clause-room g c = rw c.payload-payload.ensures (rows_have 0 12 (codes "stsc") (box_seen c.args.stbl) (box_seen c.only_of-leaf.result) c.in_ok-rows.rows c.requires.tables c.only_of-leaf.ensures c.in_ok-rows.ensures.rows)
+
+pub are_described-requires-clause-offsets : goal.are_described-requires-clause-offsets
+are_described-requires-clause-offsets g c = rw c.payload-payload.ensures c.requires.chunks.have
+
+pub are_described-requires-clause-ordered : goal.are_described-requires-clause-ordered
+are_described-requires-clause-ordered g c = sym c.if-not-are_ordered.ensures.same
+
+pub returns-then-not-are_described-clause-fault : goal.returns-then-not-are_described-clause-fault
+returns-then-not-are_described-clause-fault g c =
+    chunk_rows_undescribed c.args.limits (box_seen c.args.stbl) (box_seen c.only_of-leaf.result) c.args.chunks c.in_ok-rows.rows c.args.n c.fault_at-then-not-are_described.result c.requires.tables c.only_of-leaf.ensures c.in_ok-rows.ensures.rows c.requires.chunks c.requires.sizes
+    (rw c.payload-payload.ensures at (sym c.if-not-are_ordered.ensures.same)) (rw c.payload-payload.ensures at (sym c.if-not-chunk_counts_are.ensures.same)) (rw c.payload-payload.ensures at (sym c.if-not-are_described.ensures.same)) c.fault_at-then-not-are_described.ensures
+
+pub returns-then-not-are_described-clause-work : goal.returns-then-not-are_described-clause-work
+returns-then-not-are_described-clause-work g c =
+    let h = rows_have 0 12 (codes "stsc") (box_seen c.args.stbl) (box_seen c.only_of-leaf.result) c.in_ok-rows.rows c.requires.tables c.only_of-leaf.ensures c.in_ok-rows.ensures.rows in
+    let o = narrower (box_seen c.args.stbl) c.args.chunks c.requires.chunks in
+    let k = c.are_ordered.ensures.cost in
+    let m = c.chunk_counts_are.ensures.cost in
+    let n = c.are_described.ensures.cost in
+    omega arith
+
+pub returns-clause-rows : goal.returns-clause-rows
+returns-clause-rows g c =
+    chunk_rows_read c.args.limits (box_seen c.args.stbl) (box_seen c.only_of-leaf.result) c.args.chunks c.in_ok-rows.rows c.args.n c.requires.tables c.only_of-leaf.ensures c.in_ok-rows.ensures.rows c.requires.chunks c.requires.sizes
+    (rw c.payload-payload.ensures at (sym c.if-not-are_ordered.ensures.same)) (rw c.payload-payload.ensures at (sym c.if-not-chunk_counts_are.ensures.same)) (rw c.payload-payload.ensures at (sym c.if-not-are_described.ensures.same))
+
+pub returns-clause-work : goal.returns-clause-work
+returns-clause-work g c =
+    let h = rows_have 0 12 (codes "stsc") (box_seen c.args.stbl) (box_seen c.only_of-leaf.result) c.in_ok-rows.rows c.requires.tables c.only_of-leaf.ensures c.in_ok-rows.ensures.rows in
+    let o = narrower (box_seen c.args.stbl) c.args.chunks c.requires.chunks in
+    let k = c.are_ordered.ensures.cost in
+    let m = c.chunk_counts_are.ensures.cost in
+    let n = c.are_described.ensures.cost in
+    omega arith

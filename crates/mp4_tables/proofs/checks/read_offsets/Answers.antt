@@ -1,0 +1,69 @@
+use Rattle.std.proofs.Common.{arith, sym, ap, refl, codes, ◌≡◌, ◌+◌, ◌*◌, ◌≤◌, ◌<◌, ◌∙◌, length, true, false}
+use Rattle.std.proofs.lemmas.Result.{err_from_is_err_and}
+use Rattle.mp4_boxes.specs.View.{box_seen}
+use Rattle.mp4_tables.proofs.TableReads.{rows_have}
+use Rattle.mp4_tables.proofs.ChunkReads.{offsets_fail, offsets_mismatch, offsets_large, offsets_read, offsets_none, unsigned_version}
+use Rattle.mp4_tables.proofs.checks.read_offsets.Goals as goal
+
+pub returns-in_default-clause-rows : goal.returns-in_default-clause-rows
+returns-in_default-clause-rows g c = offsets_none (box_seen c.args.stbl) c.args.n c.in_default.ensures
+
+pub returns-in_err-rows-clause-fault : goal.returns-in_err-rows-clause-fault
+returns-in_err-rows-clause-fault g c =
+    let p = err_from_is_err_and c.from_residual.result c.from_residual.ensures.1 in
+    rw (p.1, p.2) (offsets_fail c.args.limits (box_seen c.args.stbl) (box_seen c.in-Some.leaf) c.in_err-rows.field-0.0 c.in-Some.ensures c.in_err-rows.ensures.fault)
+
+pub counts_are-requires : goal.counts_are-requires
+counts_are-requires g c = rw c.payload.ensures (rows_have 1 8 (codes "ctts") (box_seen c.args.stbl) (box_seen c.in-Some.leaf) c.in_ok-rows.rows c.requires.tables c.in-Some.ensures c.in_ok-rows.ensures.rows)
+
+pub returns-then-not-counts_are-clause-fault : goal.returns-then-not-counts_are-clause-fault
+returns-then-not-counts_are-clause-fault g c =
+    offsets_mismatch c.args.limits (box_seen c.args.stbl) (box_seen c.in-Some.leaf) c.in_ok-rows.rows c.args.n c.fault_at.result c.requires.tables c.in-Some.ensures c.in_ok-rows.ensures.rows c.requires.sizes
+    (rw c.payload.ensures at (sym c.if-not-counts_are.ensures.same)) c.fault_at.ensures
+
+pub returns-then-not-counts_are-clause-work : goal.returns-then-not-counts_are-clause-work
+returns-then-not-counts_are-clause-work g c =
+    let h = rows_have 1 8 (codes "ctts") (box_seen c.args.stbl) (box_seen c.in-Some.leaf) c.in_ok-rows.rows c.requires.tables c.in-Some.ensures c.in_ok-rows.ensures.rows in
+    let k = c.counts_are.ensures.cost in
+    omega arith
+
+pub is_signed-requires : goal.is_signed-requires
+is_signed-requires g c = let h = c.in_ok-rows.ensures.rows.room in omega arith
+
+pub returns-then-is_signed-clause-rows : goal.returns-then-is_signed-clause-rows
+returns-then-is_signed-clause-rows g c =
+    offsets_read (box_seen c.args.stbl) (box_seen c.in-Some.leaf) c.in_ok-rows.rows c.args.n true c.requires.tables c.in-Some.ensures c.in_ok-rows.ensures.rows (sym c.if-is_signed.true ∙ c.is_signed.ensures)
+    (rw c.payload.ensures at (sym c.if-not-counts_are.ensures.same)) tt
+
+pub returns-then-is_signed-clause-work : goal.returns-then-is_signed-clause-work
+returns-then-is_signed-clause-work g c =
+    let h = rows_have 1 8 (codes "ctts") (box_seen c.args.stbl) (box_seen c.in-Some.leaf) c.in_ok-rows.rows c.requires.tables c.in-Some.ensures c.in_ok-rows.ensures.rows in
+    let k = c.counts_are.ensures.cost in
+    omega arith
+
+pub are_below-requires : goal.are_below-requires
+are_below-requires g c = rw c.payload-2.ensures (rows_have 1 8 (codes "ctts") (box_seen c.args.stbl) (box_seen c.in-Some.leaf) c.in_ok-rows.rows c.requires.tables c.in-Some.ensures c.in_ok-rows.ensures.rows)
+
+pub returns-then-not-are_below-clause-fault : goal.returns-then-not-are_below-clause-fault
+returns-then-not-are_below-clause-fault g c =
+    offsets_large c.args.limits (box_seen c.args.stbl) (box_seen c.in-Some.leaf) c.in_ok-rows.rows c.fault_at-then-not-are_below.result c.requires.tables c.in-Some.ensures c.in_ok-rows.ensures.rows (unsigned_version (box_seen c.in-Some.leaf) c.in_ok-rows.ensures.rows.version (sym c.if-is_signed.false ∙ c.is_signed.ensures))
+    (rw c.payload-2.ensures at (sym c.if-not-are_below.ensures.same)) c.fault_at-then-not-are_below.ensures
+
+pub returns-then-not-are_below-clause-work : goal.returns-then-not-are_below-clause-work
+returns-then-not-are_below-clause-work g c =
+    let h = rows_have 1 8 (codes "ctts") (box_seen c.args.stbl) (box_seen c.in-Some.leaf) c.in_ok-rows.rows c.requires.tables c.in-Some.ensures c.in_ok-rows.ensures.rows in
+    let k = c.counts_are.ensures.cost in
+    let m = c.are_below.ensures.cost in
+    omega arith
+
+pub returns-clause-rows : goal.returns-clause-rows
+returns-clause-rows g c =
+    offsets_read (box_seen c.args.stbl) (box_seen c.in-Some.leaf) c.in_ok-rows.rows c.args.n false c.requires.tables c.in-Some.ensures c.in_ok-rows.ensures.rows (sym c.if-is_signed.false ∙ c.is_signed.ensures)
+    (rw c.payload.ensures at (sym c.if-not-counts_are.ensures.same)) (rw c.payload-2.ensures at (sym c.if-not-are_below.ensures.same))
+
+pub returns-clause-work : goal.returns-clause-work
+returns-clause-work g c =
+    let h = rows_have 1 8 (codes "ctts") (box_seen c.args.stbl) (box_seen c.in-Some.leaf) c.in_ok-rows.rows c.requires.tables c.in-Some.ensures c.in_ok-rows.ensures.rows in
+    let k = c.counts_are.ensures.cost in
+    let m = c.are_below.ensures.cost in
+    omega arith

@@ -1,0 +1,224 @@
+//! The tables of a track, read and held against each other, in the order in which a file is judged.
+ghost use Rattle.std.specs.Prelude.{◌≡◌, ◌+◌, ◌*◌, ◌≤◌, length, nat_eq, IfOk, IfErr};
+ghost use Rattle.mp4_boxes.specs.Layout.{version};
+ghost use Rattle.mp4_boxes.specs.View.{box_seen};
+ghost use Rattle.mp4_tables.specs.Leaves.{HasTables, SizesKnown, DurationsRead, OffsetsRead, ChunksRead, ChunkRowsRead, IsOffsetsLeaf, SyncRead, DependenciesRead, SizesRead, PlacesRead, IsFault};
+ghost use Rattle.mp4_tables.specs.Accepted.{offset_rows, count_of};
+
+use crate::chunks::{are_described, are_ordered, chunk_counts_are};
+use crate::leaves::{Limits, fault_at, first_of, only_of, place_in, table_rows, version_of};
+use crate::places::{BytesAt, ChunksAt, OffsetsAt, RowsAt, SizesAt};
+use crate::runs::{are_below, counts_are};
+use crate::spots::lie_within;
+use crate::sync_samples::are_numbers;
+use mp4_boxes::{BoxView, Fault, FourCc, Kind, Steps};
+use std::sync::ledger::Ledger;
+
+const STTS: FourCc = FourCc(*b"stts");
+const CTTS: FourCc = FourCc(*b"ctts");
+const STSC: FourCc = FourCc(*b"stsc");
+const STCO: FourCc = FourCc(*b"stco");
+const CO64: FourCc = FourCc(*b"co64");
+const STSS: FourCc = FourCc(*b"stss");
+const SDTP: FourCc = FourCc(*b"sdtp");
+
+// The durations of `n` samples.
+pub(crate) fn read_durations<L: Ledger>(
+    stbl: BoxView,
+    limits: Limits,
+    n: u32,
+    steps: &mut Steps<L>,
+) -> Result<RowsAt, Fault>
+    requires tables { HasTables (box_seen stbl) }
+    requires sizes { SizesKnown (box_seen stbl) n }
+    ensures rows { IfOk result (DurationsRead (box_seen stbl.entry) n) }
+    ensures fault { IfErr result (IsFault limits (box_seen stbl.entry)) }
+    ensures passed { IfOk result (λ r. steps.new ≤ steps.old + r.count) }
+    ensures work { steps.new ≤ steps.old + length (box_seen stbl.entry).payload }
+{
+    let leaf = only_of(stbl, STTS);
+    let rows = table_rows(stbl, leaf, 0, 8)?;
+    if !counts_are(stbl.payload(), rows, n, steps) {
+        return Err(fault_at(leaf, Kind::CountMismatch));
+    }
+    Ok(rows)
+}
+
+// Whether a `ctts` has signed offsets.
+fn is_signed(leaf: BoxView) -> bool
+    requires { 1 ≤ length (box_seen leaf).payload }
+    ensures { result ≡ nat_eq (version (box_seen leaf.entry).payload) 1 }
+{
+    leaf.payload()[0] == 1
+}
+
+// The composition offsets of `n` samples, where there is a table of them.
+pub(crate) fn read_offsets<L: Ledger>(
+    stbl: BoxView,
+    limits: Limits,
+    n: u32,
+    steps: &mut Steps<L>,
+) -> Result<Option<OffsetsAt>, Fault>
+    requires tables { HasTables (box_seen stbl) }
+    requires sizes { SizesKnown (box_seen stbl) n }
+    ensures rows { IfOk result (OffsetsRead (box_seen stbl.entry) n) }
+    ensures fault { IfErr result (IsFault limits (box_seen stbl.entry)) }
+    ensures passed { IfOk result (λ o. steps.new ≤ steps.old + 2 * (offset_rows o).count) }
+    ensures work { steps.new ≤ steps.old + length (box_seen stbl.entry).payload }
+{
+    let Some(leaf) = first_of(stbl, CTTS) else {
+        return Ok(None);
+    };
+    let rows = table_rows(stbl, leaf, 1, 8)?;
+    if !counts_are(stbl.payload(), rows, n, steps) {
+        return Err(fault_at(leaf, Kind::CountMismatch));
+    }
+    if is_signed(leaf) {
+        return Ok(Some(OffsetsAt {
+            rows,
+            is_signed: true,
+        }));
+    }
+    if !are_below(stbl.payload(), rows, 0x8000_0000, steps) {
+        return Err(fault_at(leaf, Kind::OffsetTooLarge));
+    }
+    Ok(Some(OffsetsAt {
+        rows,
+        is_signed: false,
+    }))
+}
+
+// The offsets of the chunks.
+pub(crate) fn read_chunks(stbl: BoxView, limits: Limits) -> Result<ChunksAt, Fault>
+    requires tables { HasTables (box_seen stbl) }
+    ensures rows { IfOk result (ChunksRead (box_seen stbl.entry)) }
+    ensures fault { IfErr result (IsFault limits (box_seen stbl.entry)) }
+{
+    match first_of(stbl, STCO) {
+        Some(leaf) => {
+            let rows = table_rows(stbl, leaf, 0, 4)?;
+            Ok(ChunksAt {
+                rows,
+                is_wide: false,
+            })
+        }
+        None => {
+            let wide_leaf = only_of(stbl, CO64);
+            let rows = table_rows(stbl, wide_leaf, 0, 8)?;
+            Ok(ChunksAt {
+                rows,
+                is_wide: true,
+            })
+        }
+    }
+}
+
+// The box that has them.
+pub(crate) fn offsets_leaf<'a>(stbl: BoxView<'a>) -> BoxView<'a>
+    requires tables { HasTables (box_seen stbl) }
+    ensures { IsOffsetsLeaf (box_seen stbl.entry) (box_seen result) }
+{
+    match first_of(stbl, STCO) {
+        Some(leaf) => leaf,
+        None => only_of(stbl, CO64),
+    }
+}
+
+// The rows of `stsc`, which give the chunks `n` samples.
+pub(crate) fn read_chunk_rows<L: Ledger>(
+    stbl: BoxView,
+    limits: Limits,
+    chunks: ChunksAt,
+    n: u32,
+    steps: &mut Steps<L>,
+) -> Result<RowsAt, Fault>
+    requires tables { HasTables (box_seen stbl) }
+    requires sizes { SizesKnown (box_seen stbl) n }
+    requires chunks { ChunksRead (box_seen stbl) chunks }
+    ensures rows { IfOk result (ChunkRowsRead limits (box_seen stbl.entry) n) }
+    ensures fault { IfErr result (IsFault limits (box_seen stbl.entry)) }
+    ensures passed { IfOk result (λ r. steps.new ≤ steps.old + r.count + 4 * chunks.rows.count) }
+    ensures work { steps.new ≤ steps.old + 2 * length (box_seen stbl.entry).payload }
+{
+    let leaf = only_of(stbl, STSC);
+    let rows = table_rows(stbl, leaf, 0, 12)?;
+    let payload = stbl.payload();
+    if !are_ordered(payload, rows, 0 < chunks.rows.count, steps) {
+        return Err(fault_at(leaf, Kind::BadOrder));
+    }
+    if !chunk_counts_are(payload, rows, chunks, n, steps) {
+        return Err(fault_at(leaf, Kind::CountMismatch));
+    }
+    if !are_described(payload, rows, chunks, limits.descriptions, steps) {
+        return Err(fault_at(leaf, Kind::BadDescriptionIndex));
+    }
+    Ok(rows)
+}
+
+// The numbers of sync samples among `n`, where there is a table of them.
+pub(crate) fn read_sync<L: Ledger>(
+    stbl: BoxView,
+    limits: Limits,
+    n: u32,
+    steps: &mut Steps<L>,
+) -> Result<Option<RowsAt>, Fault>
+    requires tables { HasTables (box_seen stbl) }
+    requires sizes { SizesKnown (box_seen stbl) n }
+    ensures rows { IfOk result (SyncRead (box_seen stbl.entry) n) }
+    ensures fault { IfErr result (IsFault limits (box_seen stbl.entry)) }
+    ensures passed { IfOk result (λ o. steps.new ≤ steps.old + count_of o) }
+    ensures work { steps.new ≤ steps.old + length (box_seen stbl.entry).payload }
+{
+    let Some(leaf) = first_of(stbl, STSS) else {
+        return Ok(None);
+    };
+    let rows = table_rows(stbl, leaf, 0, 4)?;
+    if !are_numbers(stbl.payload(), rows, n, steps) {
+        return Err(fault_at(leaf, Kind::BadOrder));
+    }
+    Ok(Some(rows))
+}
+
+// The bytes of `sdtp` for `n` samples, where there is that table.
+pub(crate) fn read_dependencies(stbl: BoxView, limits: Limits, n: u32) -> Result<Option<BytesAt>, Fault>
+    requires tables { HasTables (box_seen stbl) }
+    requires sizes { SizesKnown (box_seen stbl) n }
+    ensures rows { IfOk result (DependenciesRead (box_seen stbl.entry) n) }
+    ensures fault { IfErr result (IsFault limits (box_seen stbl.entry)) }
+{
+    let Some(leaf) = first_of(stbl, SDTP) else {
+        return Ok(None);
+    };
+    version_of(leaf, 0)?;
+    let length = leaf.payload().len() - 4;
+    if length < n as usize {
+        return Err(fault_at(leaf, Kind::ShortBox));
+    }
+    Ok(Some(BytesAt {
+        place: place_in(stbl, leaf) + 4,
+        length,
+    }))
+}
+
+// Whether the samples lie in the file.
+pub(crate) fn check_places<L: Ledger>(
+    stbl: BoxView,
+    limits: Limits,
+    sizes: SizesAt,
+    chunks: ChunksAt,
+    rows: RowsAt,
+    steps: &mut Steps<L>,
+) -> Result<(), Fault>
+    requires tables { HasTables (box_seen stbl) }
+    requires sizes { SizesRead limits (box_seen stbl) sizes }
+    requires chunks { ChunksRead (box_seen stbl) chunks }
+    requires rows { ChunkRowsRead limits (box_seen stbl) sizes.rows.count rows }
+    ensures places { IfOk result (λ _. PlacesRead limits (box_seen stbl.entry)) }
+    ensures fault { IfErr result (IsFault limits (box_seen stbl.entry)) }
+    ensures passed { steps.new ≤ steps.old + 2 * sizes.rows.count + 2 * chunks.rows.count }
+{
+    if !lie_within(stbl.payload(), sizes, rows, chunks, limits.file_len, steps) {
+        return Err(fault_at(offsets_leaf(stbl), Kind::SampleOutsideFile));
+    }
+    Ok(())
+}
