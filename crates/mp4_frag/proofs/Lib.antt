@@ -1,3 +1,5 @@
+pub mod StateLists
+pub mod ColumnValues
 pub mod Trees
 pub mod Ranges
 pub mod Vectors

@@ -1,0 +1,10 @@
+use Rattle.std.proofs.Common.{◌≤◌}
+use Rattle.mp4_frag.specs.States.{HaveRoom}
+use Rattle.mp4_frag.proofs.check.check_moof.Given as goal
+
+-- there is room for what is left of the room
+abbrev pub invariant-loop-child : goal.invariant-loop-child
+invariant-loop-child g l =
+    (goal.iterator-loop-child g).can_next l.child-iterator ×
+    (goal.iterator-loop-child g).is_finite l.child-iterator ×
+    (l.room ≤ l.fn.room) × HaveRoom l.room l.tracks

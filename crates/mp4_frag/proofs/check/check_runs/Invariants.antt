@@ -1,0 +1,10 @@
+use Rattle.std.proofs.Common.{◌≡◌, ◌+◌, ◌*◌, ◌^◌, ◌≤◌}
+use Rattle.mp4_frag.proofs.check.check_runs.Given as goal
+
+-- what the runs took of the room
+abbrev pub invariant-loop-child : goal.invariant-loop-child
+invariant-loop-child g l =
+    (goal.iterator-loop-child g).can_next l.child-iterator ×
+    (goal.iterator-loop-child g).is_finite l.child-iterator ×
+    (l.passed.count + l.room ≡ l.fn.room) ×
+    (l.passed.duration ≤ 2 ^ 32 * l.passed.count)

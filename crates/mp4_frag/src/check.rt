@@ -1,0 +1,229 @@
+//! A `moof`, checked behind what came before it (ISO/IEC 14496-12, 8.8).
+ghost use Rattle.std.specs.Prelude.{◌≡◌, ◌+◌, ◌*◌, ◌^◌, ◌<◌, ◌≤◌, length, IfOk, IfSome};
+ghost use Rattle.mp4_boxes.specs.View.{box_seen};
+ghost use Rattle.mp4_frag.specs.States.{HaveRoom};
+ghost use Rattle.mp4_frag.specs.Views.{moof_seen};
+
+use crate::groups::{KeysNamed, check_group};
+use crate::heads::{base_of, read_head, what_is_inherited};
+use crate::sample_runs::{Judged, Passed, check_run};
+use crate::state::TrackState;
+use crate::times::read_time;
+use crate::view::FragView;
+use mp4_boxes::{BoxView, Fault, FourCc, Kind, Rule, Steps, check_children, children};
+use mp4_tables::Keys;
+use std::sync::ledger::Ledger;
+
+pub(crate) const TRAF: FourCc = FourCc(*b"traf");
+
+pub(crate) const TFHD: FourCc = FourCc(*b"tfhd");
+
+const TFDT: FourCc = FourCc(*b"tfdt");
+
+pub(crate) const TRUN: FourCc = FourCc(*b"trun");
+
+pub(crate) const SBGP: FourCc = FourCc(*b"sbgp");
+
+// A fault of this box.
+fn fault(kind: Kind, named: BoxView) -> Fault {
+    Fault::new(kind, named.kind(), named.offset())
+}
+
+/// The place of the track with this ID. It looks at one after the other: a `traf` costs as many comparisons as there
+/// are tracks before its own.
+pub(crate) fn find_track(tracks: &[TrackState], id: u32) -> Option<usize>
+    ensures { IfSome result (λ k. k < length tracks.now) }
+{
+    for k in 0..tracks.len() {
+        if tracks[k].id == id {
+            return Some(k);
+        }
+    }
+    None
+}
+
+// The `tfhd` of a `traf`, and its `tfdt` if there is one.
+#[derive(Clone, Copy)]
+struct Heads<'a> {
+    head: Option<BoxView<'a>>,
+    time: Option<BoxView<'a>>,
+}
+
+// Checks which boxes stand in a `traf`.
+fn check_boxes<'a>(traf: BoxView<'a>) -> Result<Heads<'a>, Fault> {
+    let mut heads = Heads {
+        head: None,
+        time: None,
+    };
+    for child in check_children(traf, Rule::TrackFragment)? {
+        if child.kind() == TFHD {
+            heads.head = Some(child);
+        } else if child.kind() == TFDT {
+            heads.time = Some(child);
+        }
+    }
+    Ok(heads)
+}
+
+// Checks the runs of a `traf` in file order.
+fn check_runs<L: Ledger>(
+    traf: BoxView,
+    judged: Judged,
+    room: &mut u32,
+    steps: &mut Steps<L>,
+) -> Result<Passed, Fault>
+    requires { room.old ≤ 2 ^ 24 }
+    ensures few { IfOk result (λ p. p.count + room.new ≡ room.old) }
+    ensures duration { IfOk result (λ p. p.duration ≤ 2 ^ 32 * p.count) }
+{
+    let mut passed = Passed {
+        at: judged.base,
+        count: 0,
+        duration: 0,
+    };
+    for child in children(traf.payload(), traf.payload_offset(), traf.kind())? {
+        if child.kind() == TRUN {
+            steps.tick();
+            passed = match check_run(child.payload(), judged, passed, room, steps) {
+                Ok(passed) => passed,
+                Err(kind) => return Err(fault(kind, child)),
+            };
+        }
+    }
+    Ok(passed)
+}
+
+// Checks each `sbgp` of a `traf` of `n` samples in file order, and names their keys.
+fn check_groups<L: Ledger>(
+    traf: BoxView,
+    n: u32,
+    keys: Keys,
+    steps: &mut Steps<L>,
+) -> Result<Keys, Fault> {
+    let mut keys = keys;
+    let mut named = KeysNamed::none();
+    for child in children(traf.payload(), traf.payload_offset(), traf.kind())? {
+        if child.kind() == SBGP {
+            if let Err(kind) = check_group(child.payload(), n, &mut keys, &mut named, steps) {
+                return Err(fault(kind, child));
+            }
+        }
+    }
+    Ok(keys)
+}
+
+// Whether samples begin at another time than is due. The first ones of a track say when it starts.
+fn is_late(state: TrackState, time: Option<u64>, passed: Passed) -> bool {
+    match time {
+        Some(time) => passed.count > 0 && state.count > 0 && u128::from(time) != state.time,
+        None => false,
+    }
+}
+
+// The track behind these samples.
+fn moved_on(state: TrackState, time: Option<u64>, passed: Passed, keys: Keys) -> TrackState
+    requires few { state.count + passed.count ≤ 2 ^ 24 }
+    requires time { state.time ≤ 2 ^ 64 + 2 ^ 32 * state.count }
+    requires duration { passed.duration ≤ 2 ^ 32 * passed.count }
+    ensures count { result.count ≡ state.count + passed.count }
+    ensures time { result.time ≤ 2 ^ 64 + 2 ^ 32 * result.count }
+{
+    if passed.count == 0 {
+        return TrackState { keys, ..state };
+    }
+    let (start, due) = if state.count == 0 {
+        let start = time.unwrap_or(0);
+        (start, u128::from(start))
+    } else {
+        (state.start, state.time)
+    };
+    TrackState {
+        start,
+        count: state.count + passed.count,
+        time: due + u128::from(passed.duration),
+        keys,
+        ..state
+    }
+}
+
+// Checks a `traf` of a `moof` at this place, where the data of the `traf` before ends there, and answers where its own ends.
+fn check_traf<L: Ledger>(
+    traf: BoxView,
+    moof: u64,
+    before: i128,
+    file_len: u64,
+    tracks: &mut [TrackState],
+    room: &mut u32,
+    steps: &mut Steps<L>,
+) -> Result<i128, Fault>
+    requires few { room.old ≤ 2 ^ 24 }
+    requires room { HaveRoom room.old tracks.old }
+    ensures few { IfOk result (λ at. room.new ≤ room.old) }
+    ensures room { IfOk result (λ at. HaveRoom room.new tracks.new) }
+{
+    let heads = check_boxes(traf)?;
+    let Some(tfhd) = heads.head else {
+        return Err(fault(Kind::MissingBox, traf));
+    };
+    let head = match read_head(tfhd.payload()) {
+        Ok(head) => head,
+        Err(kind) => return Err(fault(kind, tfhd)),
+    };
+    let Some(k) = find_track(tracks, head.id) else {
+        return Err(fault(Kind::UnknownTrack, tfhd));
+    };
+    let state = tracks[k];
+    let Some(trex) = state.trex else {
+        return Err(fault(Kind::UnknownTrack, tfhd));
+    };
+    let time = match heads.time {
+        Some(tfdt) => match read_time(tfdt.payload()) {
+            Ok(time) => Some(time),
+            Err(kind) => return Err(fault(kind, tfdt)),
+        },
+        None => None,
+    };
+    let judged = Judged {
+        file_len,
+        base: base_of(head, moof, before),
+        inherited: what_is_inherited(head, trex),
+    };
+    let passed = check_runs(traf, judged, room, steps)?;
+    let index = judged.inherited.description;
+    if passed.count > 0 && (index < 1 || index > state.descriptions) {
+        return Err(fault(Kind::BadDescriptionIndex, tfhd));
+    }
+    let keys = check_groups(traf, passed.count, state.keys, steps)?;
+    if let Some(tfdt) = heads.time {
+        if is_late(state, time, passed) {
+            return Err(fault(Kind::Gap, tfdt));
+        }
+    }
+    tracks[k] = moved_on(state, time, passed, keys);
+    Ok(passed.at)
+}
+
+/// Checks a `moof` of a file of this length behind what came before it. The tracks move on by its samples, and the
+/// room for samples falls by their number. After a fault both may have any values.
+pub fn check_moof<'a, L: Ledger>(
+    moof: BoxView<'a>,
+    file_len: u64,
+    tracks: &mut [TrackState],
+    room: &mut u32,
+    steps: &mut Steps<L>,
+) -> Result<FragView<'a>, Fault>
+    requires few { room.old ≤ 2 ^ 24 }
+    requires room { HaveRoom room.old tracks.old }
+    ensures view { IfOk result (λ view. moof_seen view ≡ box_seen moof.entry) }
+    ensures few { IfOk result (λ view. room.new ≤ room.old) }
+    ensures room { IfOk result (λ view. HaveRoom room.new tracks.new) }
+{
+    let mut before = i128::from(moof.offset());
+    for child in check_children(moof, Rule::MovieFragment)? {
+        if child.kind() == TRAF {
+            steps.tick();
+            before = check_traf(child, moof.offset(), before, file_len, tracks, room, steps)?;
+        }
+    }
+    Ok(FragView::again(moof))
+}

@@ -1,0 +1,97 @@
+//! A walk over the samples of a track in a `moof`, one by one.
+use crate::places::FragPlace;
+use crate::state::TrackState;
+use crate::view::FragView;
+use crate::walk::{first_place, pass_sample, sample_here, settle};
+use mp4_tables::{Keys, SampleAt};
+use std::marker::Model;
+
+/// The samples of a track in a `moof` from a place on.
+#[derive(Drop)]
+pub struct FragCursor<'a> {
+    payload: &'a [u8],
+    moof: u64,
+    tracks: &'a [TrackState],
+    place: FragPlace,
+}
+
+impl<'a> Model for FragCursor<'a> {
+    ghost use Rattle.mp4_frag.specs.Views.{CursorSeen};
+    ghost use Rattle.mp4_frag.specs.PlacesIn.{IsPlaceIn};
+
+    ghost Value = { CursorSeen };
+
+    ghost view = { λ c. record { payload = c.payload.now; moof = c.moof; tracks = c.tracks.now; place = c.place } };
+
+    ghost invariant = { λ c. IsPlaceIn c.payload.now c.place };
+}
+
+impl<'a> FragCursor<'a> {
+    ghost use Rattle.std.specs.Prelude.{◌≡◌};
+    ghost use Rattle.mp4_boxes.specs.View.{box_seen};
+    ghost use Rattle.mp4_frag.specs.PlacesIn.{IsPlaceIn};
+    ghost use Rattle.mp4_frag.specs.Views.{moof_seen};
+
+    /// The walk from the first sample of the track with this ID on, at this decode time.
+    pub fn start(
+        view: &FragView<'a>,
+        tracks: &'a [TrackState],
+        track: u32,
+        dts: u64,
+        keys: Keys,
+    ) -> FragCursor<'a>
+        ensures payload { result.payload ≡ (moof_seen view.now).payload }
+        ensures tracks { result.tracks ≡ tracks.now }
+    {
+        let moof = view.moof();
+        let place = settle(
+            moof.payload(),
+            moof.offset(),
+            tracks,
+            first_place(moof.offset(), track, dts, keys),
+        );
+        FragCursor::at(view, tracks, place)
+    }
+
+    /// The walk from a place on.
+    pub fn at(view: &FragView<'a>, tracks: &'a [TrackState], place: FragPlace) -> FragCursor<'a>
+        requires { IsPlaceIn (moof_seen view.now).payload place }
+        ensures { result ≡ record { payload = (moof_seen view.now).payload; moof = (moof_seen view.now).offset; tracks = tracks.now; place = place } }
+    {
+        let moof = view.moof();
+        FragCursor {
+            payload: moof.payload(),
+            moof: moof.offset(),
+            tracks,
+            place,
+        }
+    }
+
+    /// Where the walk stands.
+    pub fn place(&self) -> FragPlace
+        ensures is { result ≡ self.now.place }
+        ensures place { IsPlaceIn self.now.payload result }
+    {
+        self.place
+    }
+
+    #[inline]
+    pub fn peek(&self) -> Option<SampleAt> {
+        if self.place.run.left > 0 {
+            Some(sample_here(self.payload, &self.place))
+        } else {
+            None
+        }
+    }
+
+    #[inline]
+    pub fn next(&mut self) -> Option<SampleAt> {
+        if self.place.run.left > 0 {
+            let sample = sample_here(self.payload, &self.place);
+            self.place = pass_sample(self.payload, self.moof, self.tracks, &self.place);
+            Some(sample)
+        } else {
+            None
+        }
+    }
+}

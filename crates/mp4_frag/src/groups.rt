@@ -1,0 +1,186 @@
+//! `sbgp` in a `traf`: which group description its samples have (ISO/IEC 14496-12, 8.9.2).
+ghost use Rattle.std.specs.Prelude.{◌≡◌, ◌+◌, ◌*◌, ◌≤◌, length, IfOk, IfErr};
+ghost use Rattle.mp4_boxes.specs.BoxFaults.{Fails};
+ghost use Rattle.mp4_boxes.specs.Layout.{sbgp};
+ghost use Rattle.mp4_boxes.specs.Layout.{version as version_of};
+ghost use Rattle.mp4_tables.specs.Groups.{key_of as key_in};
+ghost use Rattle.mp4_tables.specs.Keys.{key_seen};
+ghost use Rattle.mp4_frag.specs.Reading.{IsGroup};
+
+use crate::fronts::front;
+use mp4_boxes::{FourCc, Kind, Steps, u32_at};
+use mp4_tables::{GroupKey, Keys};
+use std::sync::ledger::Ledger;
+
+/// The largest index of a group description.
+const MAX_INDEX: u32 = 65_535;
+
+/// What an `sbgp` says, and where its rows begin in its payload.
+#[derive(Clone, Copy)]
+pub(crate) struct Group {
+    pub(crate) key: GroupKey,
+    pub(crate) rows: usize,
+    pub(crate) count: u32,
+}
+
+/// Which keys of a track the `sbgp`s of a `traf` have named, by their places among its keys.
+#[derive(Clone, Copy)]
+pub(crate) struct KeysNamed {
+    first: bool,
+    second: bool,
+    third: bool,
+    fourth: bool,
+}
+
+impl KeysNamed {
+    // None yet.
+    pub(crate) fn none() -> KeysNamed {
+        KeysNamed {
+            first: false,
+            second: false,
+            third: false,
+            fourth: false,
+        }
+    }
+
+    fn has(&self, j: u8) -> bool {
+        match j {
+            0 => self.first,
+            1 => self.second,
+            2 => self.third,
+            _ => self.fourth,
+        }
+    }
+
+    fn with(self, j: u8) -> KeysNamed {
+        match j {
+            0 => KeysNamed {
+                first: true,
+                ..self
+            },
+            1 => KeysNamed {
+                second: true,
+                ..self
+            },
+            2 => KeysNamed {
+                third: true,
+                ..self
+            },
+            _ => KeysNamed {
+                fourth: true,
+                ..self
+            },
+        }
+    }
+}
+
+// The type and the parameter.
+fn key_of(payload: &[u8], version: u8) -> GroupKey
+    requires room { 12 ≤ length payload.now }
+    requires version { version ≡ version_of payload.now }
+    ensures { key_seen result ≡ key_in payload.now }
+{
+    GroupKey {
+        kind: FourCc([payload[4], payload[5], payload[6], payload[7]]),
+        parameter: if version == 0 {
+            None
+        } else {
+            Some(u32_at(payload, 8))
+        },
+    }
+}
+
+/// What the `sbgp` says.
+pub(crate) fn read_group(payload: &[u8]) -> Result<Group, Kind>
+    ensures group { IfOk result (IsGroup payload.now) }
+    ensures fault { IfErr result (Fails sbgp payload.now) }
+{
+    let (version, _) = front(payload)?;
+    if version > 1 {
+        return Err(Kind::BadVersion);
+    }
+    let rows = if version == 0 { 12 } else { 16 };
+    if payload.len() < rows {
+        return Err(Kind::ShortBox);
+    }
+    let count = u32_at(payload, rows - 4);
+    if payload.len() < rows + 8 * count as usize {
+        return Err(Kind::ShortBox);
+    }
+    Ok(Group {
+        key: key_of(payload, version),
+        rows,
+        count,
+    })
+}
+
+// Names the key of an `sbgp`, which no other of the `traf` may have, and which may not be the fifth of the track.
+fn name(key: GroupKey, keys: &mut Keys, named: &mut KeysNamed) -> Result<(), Kind> {
+    let place = match keys.place(key) {
+        Some(j) => {
+            if named.has(j) {
+                return Err(Kind::DuplicateBox);
+            }
+            j
+        }
+        None => {
+            let count = keys.count();
+            if count >= 4 {
+                return Err(Kind::BadValue);
+            }
+            keys.push(key);
+            count
+        }
+    };
+    *named = named.with(place);
+    Ok(())
+}
+
+// Whether an index of the rows is too large.
+fn has_large_index<L: Ledger>(payload: &[u8], group: Group, steps: &mut Steps<L>) -> bool
+    requires { group.rows + 8 * group.count ≤ length payload.now }
+    ensures cost { steps.new ≤ steps.old + group.count }
+{
+    for k in 0..group.count {
+        steps.tick();
+        if u32_at(payload, group.rows + 8 * k as usize + 4) > MAX_INDEX {
+            return true;
+        }
+    }
+    false
+}
+
+// Whether the rows count more than `n` samples.
+fn counts_more<L: Ledger>(payload: &[u8], group: Group, n: u32, steps: &mut Steps<L>) -> bool
+    requires { group.rows + 8 * group.count ≤ length payload.now }
+    ensures cost { steps.new ≤ steps.old + group.count }
+{
+    let mut total: u64 = 0;
+    for k in 0..group.count {
+        steps.tick();
+        total += u64::from(u32_at(payload, group.rows + 8 * k as usize));
+        if total > u64::from(n) {
+            return true;
+        }
+    }
+    false
+}
+
+/// Checks an `sbgp` of a `traf` of `n` samples, behind others that named keys.
+pub(crate) fn check_group<L: Ledger>(
+    payload: &[u8],
+    n: u32,
+    keys: &mut Keys,
+    named: &mut KeysNamed,
+    steps: &mut Steps<L>,
+) -> Result<(), Kind> {
+    let group = read_group(payload)?;
+    name(group.key, keys, named)?;
+    if has_large_index(payload, group, steps) {
+        return Err(Kind::BadValue);
+    }
+    if counts_more(payload, group, n, steps) {
+        return Err(Kind::CountMismatch);
+    }
+    Ok(())
+}

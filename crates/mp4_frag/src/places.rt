@@ -1,0 +1,62 @@
+//! How far a walk has come in a `moof`: plain numbers.
+use crate::heads::Inherited;
+use mp4_tables::Keys;
+
+/// A place in the rows of an `sbgp`: the index that comes `left` more times, and the rows behind it.
+#[derive(Clone, Copy)]
+pub(crate) struct IndexPlace {
+    /// Where the next row begins in the payload of the `moof`, and how many rows follow.
+    pub(crate) row: usize,
+    pub(crate) rows: u32,
+    pub(crate) left: u32,
+    pub(crate) index: u16,
+}
+
+/// A place in the rows of the `sbgp` of each key of the track.
+#[derive(Clone, Copy)]
+pub(crate) struct IndexPlaces {
+    pub(crate) first: IndexPlace,
+    pub(crate) second: IndexPlace,
+    pub(crate) third: IndexPlace,
+    pub(crate) fourth: IndexPlace,
+}
+
+/// A place in the rows of a `trun`.
+#[derive(Clone, Copy)]
+pub(crate) struct RowPlace {
+    /// Where the next row begins in the payload of the `moof`, and how many rows are left.
+    pub(crate) row: usize,
+    pub(crate) left: u32,
+    pub(crate) bits: u32,
+    /// The flags of the next sample, if it is the first of its run and the run says them.
+    pub(crate) first_flags: Option<u32>,
+}
+
+/// A place in a `moof`: which samples come next of a track.
+#[derive(Clone, Copy)]
+pub struct FragPlace {
+    /// The ID of the track, and its keys.
+    pub(crate) track: u32,
+    pub(crate) keys: Keys,
+    /// The decode time of the next sample, and where its data begins.
+    pub(crate) dts: u64,
+    pub(crate) at: i128,
+    /// Where the next box begins in the payload of the `moof`, and where the `traf` in hand ends there.
+    pub(crate) next: usize,
+    pub(crate) traf_end: usize,
+    /// What goes for the `traf` in hand: whether it is of the track, where its runs are counted from, what they inherit.
+    pub(crate) is_own: bool,
+    pub(crate) base: i128,
+    pub(crate) inherited: Inherited,
+    pub(crate) run: RowPlace,
+    pub(crate) indexes: IndexPlaces,
+    /// How many `traf`s, runs and samples were passed.
+    pub(crate) passed: u64,
+}
+
+impl FragPlace {
+    /// How many steps the walk took to come here.
+    pub fn passed(&self) -> u64 {
+        self.passed
+    }
+}

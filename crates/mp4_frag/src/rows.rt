@@ -1,0 +1,60 @@
+//! A row of `trun`: what it says of one sample (ISO/IEC 14496-12, 8.8.8).
+ghost use Rattle.std.specs.Prelude.{◌≡◌, ◌+◌, ◌≤◌, length, drop};
+ghost use Rattle.mp4_boxes.specs.Layout.{column_values, sample_columns};
+ghost use Rattle.mp4_frag.specs.ColumnsRead.{row_room};
+ghost use Rattle.mp4_frag.specs.Reading.{row_values};
+
+use crate::columns::{behind, has, number_at};
+
+pub(crate) const FIRST_FLAGS: u32 = 0x00_0004;
+
+const ROW_DURATION: u32 = 0x00_0100;
+
+const ROW_SIZE: u32 = 0x00_0200;
+
+pub(crate) const ROW_FLAGS: u32 = 0x00_0400;
+
+const ROW_OFFSET: u32 = 0x00_0800;
+
+/// What stands in a row.
+#[derive(Clone, Copy)]
+pub(crate) struct Row {
+    pub(crate) duration: Option<u32>,
+    pub(crate) size: Option<u32>,
+    pub(crate) flags: Option<u32>,
+    pub(crate) offset: Option<u32>,
+}
+
+// How many bytes a row takes.
+#[inline]
+#[tactic(auto, using(crate::proofs::ColumnValues::row_width))]
+pub(crate) fn row_size(bits: u32) -> usize
+    ensures is { result ≡ row_room bits }
+    ensures small { result ≤ 16 }
+{
+    let size = behind(0, 4, has(bits, ROW_DURATION));
+    let flags = behind(size, 4, has(bits, ROW_SIZE));
+    let offset = behind(flags, 4, has(bits, ROW_FLAGS));
+    behind(offset, 4, has(bits, ROW_OFFSET))
+}
+
+// The row at a place.
+#[inline]
+pub(crate) fn row_at(bytes: &[u8], place: usize, bits: u32) -> Row
+    requires { place + row_room bits ≤ length bytes.now }
+    ensures { row_values result ≡ column_values bits sample_columns (drop place bytes.now) }
+{
+    let has_duration = has(bits, ROW_DURATION);
+    let has_size = has(bits, ROW_SIZE);
+    let has_flags = has(bits, ROW_FLAGS);
+    let has_offset = has(bits, ROW_OFFSET);
+    let size = behind(place, 4, has_duration);
+    let flags = behind(size, 4, has_size);
+    let offset = behind(flags, 4, has_flags);
+    Row {
+        duration: number_at(bytes, place, has_duration),
+        size: number_at(bytes, size, has_size),
+        flags: number_at(bytes, flags, has_flags),
+        offset: number_at(bytes, offset, has_offset),
+    }
+}

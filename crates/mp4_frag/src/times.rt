@@ -1,0 +1,28 @@
+//! `tfdt`: the decode time of a `traf` (ISO/IEC 14496-12, 8.8.12).
+ghost use Rattle.std.specs.Prelude.{◌≡◌, IfOk, IfErr};
+ghost use Rattle.mp4_boxes.specs.BoxFaults.{Fails};
+ghost use Rattle.mp4_boxes.specs.Layout.{IsReadable, tfdt};
+ghost use Rattle.mp4_frag.specs.Fragments.{decode_time_of};
+
+use crate::fronts::front;
+use mp4_boxes::{Kind, u32_at, u64_at};
+
+/// The decode time that a `tfdt` says.
+pub(crate) fn read_time(payload: &[u8]) -> Result<u64, Kind>
+    ensures time { IfOk result (λ t. t ≡ decode_time_of payload.now) }
+    ensures readable { IfOk result (λ t. IsReadable tfdt payload.now) }
+    ensures fault { IfErr result (Fails tfdt payload.now) }
+{
+    let (version, _) = front(payload)?;
+    if version > 1 {
+        return Err(Kind::BadVersion);
+    }
+    let needed = if version == 0 { 8 } else { 12 };
+    if payload.len() < needed {
+        return Err(Kind::ShortBox);
+    }
+    if version == 0 {
+        return Ok(u64::from(u32_at(payload, 4)));
+    }
+    Ok(u64_at(payload, 4))
+}
