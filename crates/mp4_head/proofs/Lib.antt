@@ -3,4 +3,7 @@ pub mod Again
 pub mod Distinct
 pub mod TreeBytes
 pub mod ValidHead
+pub mod Opening
+pub mod Headers
+pub mod EditRows
 pub mod Vectors
