@@ -6,4 +6,6 @@ pub mod ValidHead
 pub mod Opening
 pub mod Headers
 pub mod EditRows
+pub mod Pieces
+pub mod HeadPieces
 pub mod Vectors

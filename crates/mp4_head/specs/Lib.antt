@@ -4,3 +4,4 @@ pub mod Writing
 pub mod Leaves
 pub mod Seen
 pub mod Refuses
+pub mod Parts
