@@ -8,4 +8,5 @@ pub mod Headers
 pub mod EditRows
 pub mod Pieces
 pub mod HeadPieces
+pub mod HeadLengths
 pub mod Vectors

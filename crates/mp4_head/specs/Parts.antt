@@ -1,5 +1,5 @@
 -- Parts of what is written.
-use Rattle.std.specs.Prelude.{◌≡◌, ℕ, ℤ, List, [], ◌∷◌, ◌++◌, length, replicate, codes}
+use Rattle.std.specs.Prelude.{◌≡◌, ℕ, ◌+◌, ◌-◌, ◌^◌, min, ℤ, List, [], ◌∷◌, ◌++◌, length, replicate, codes}
 use Rattle.std.specs.List.{flat_map}
 use Rattle.byteorder.specs.Endian.{big_bytes}
 use Rattle.mp4_boxes.specs.Bytes.{unsigned}
@@ -28,3 +28,7 @@ matrix_bytes matrix = flat_map (λ z. big_bytes 4 (unsigned 4 z)) matrix
 -- room for a size, and the type of a box
 abbrev pub unsized : List ℕ → List ℕ
 unsized kind = replicate 4 0 ++ kind
+
+-- as far as 128 bits go
+abbrev pub capped : ℕ → ℕ
+capped n = min n (2 ^ 128 - 1)
