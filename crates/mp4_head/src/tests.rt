@@ -295,3 +295,34 @@ fn ids_that_were_taken(rt: HostRuntime) -> Result<(), Fail> {
     assert_eq!(rt; refusal, named(Kind::BadValue, b"trex", 192));
     Ok(())
 }
+
+#[test]
+fn written_and_read_again(rt: HostRuntime) -> Result<(), Fail> {
+    let mut bytes = Bytes::new(rt.alloc());
+    bytes.plain(EDITS)?;
+    let Ok(head) = read_head(rt.alloc(), moov(bytes.items.as_slice())) else {
+        assert!(rt; false);
+        return Ok(());
+    };
+    assert!(rt; head_len(&head) <= 1000);
+    let Ok(out) = head_bytes(rt.alloc(), &head, 160) else {
+        assert!(rt; false);
+        return Ok(());
+    };
+    assert_eq!(rt; out.len(), 645);
+    let Some(payload) = out.get(32..) else {
+        assert!(rt; false);
+        return Ok(());
+    };
+    let Ok(again) = read_head(rt.alloc(), moov(payload)) else {
+        assert!(rt; false);
+        return Ok(());
+    };
+    assert_eq!(rt; head_len(&again), 645);
+    let Ok(same) = head_bytes(rt.alloc(), &again, 160) else {
+        assert!(rt; false);
+        return Ok(());
+    };
+    assert!(rt; same.as_slice() == out.as_slice());
+    Ok(())
+}
