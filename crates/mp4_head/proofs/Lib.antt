@@ -9,4 +9,7 @@ pub mod EditRows
 pub mod Pieces
 pub mod HeadPieces
 pub mod HeadLengths
+pub mod Above
+pub mod Walks
+pub mod EditBoxes
 pub mod Vectors

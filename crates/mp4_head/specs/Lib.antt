@@ -3,5 +3,7 @@ pub mod Tree
 pub mod Writing
 pub mod Leaves
 pub mod Seen
+pub mod HeadFaults
 pub mod Refuses
 pub mod Parts
+pub mod Containers

@@ -6,7 +6,10 @@ ghost use Rattle.mp4_boxes.specs.View.{box_seen};
 ghost use Rattle.mp4_head.specs.Leaves.{IsFaultOf, IsOpen};
 ghost use Rattle.mp4_head.specs.Seen.{edit_seen};
 ghost use Rattle.mp4_head.specs.Tree.{edit_of, edits_of};
-ghost use Rattle.mp4_head.specs.Refuses.{RefusesLeaf};
+ghost use Rattle.mp4_boxes.specs.Places.{ruled};
+ghost use Rattle.mp4_boxes.specs.declared.rule.Rule.TheVariants.{Edits};
+ghost use Rattle.mp4_head.specs.Containers.{SaysEdits};
+ghost use Rattle.mp4_head.specs.Refuses.{RefusesLeaf, RefusesIn, place_of};
 
 use crate::leaves::{fault, i16_at, is, open, time_at};
 use mp4_boxes::{BoxView, Fault, FourCc, Kind, Refusal, Rule, check_children, i32_at, i64_at, u32_at};
@@ -83,7 +86,10 @@ fn read_edit_list(alloc: Global, view: BoxView) -> Result<Vec<Edit>, Refusal>
 }
 
 // The edits in an `edts`.
-pub(crate) fn read_edits(alloc: Global, edts: BoxView) -> Result<Vec<Edit>, Refusal> {
+pub(crate) fn read_edits(alloc: Global, edts: BoxView) -> Result<Vec<Edit>, Refusal>
+    ensures edits { IfOk result (λ edits. SaysEdits (box_seen edts.entry) (map edit_seen edits.items)) }
+    ensures refusal { IfErr result (RefusesIn (place_of (ruled Edits) (box_seen edts.entry))) }
+{
     let mut edits = Vec::new(alloc);
     for child in check_children(edts, Rule::Edits)? {
         if is(child, FourCc(*b"elst")) {
