@@ -3,6 +3,15 @@ pub mod Again
 pub mod Distinct
 pub mod TreeBytes
 pub mod ValidHead
+pub mod Opening
+pub mod Headers
+pub mod EditRows
+pub mod Pieces
+pub mod HeadPieces
+pub mod HeadLengths
+pub mod Above
+pub mod Walks
+pub mod EditBoxes
 pub mod Vectors
 pub mod Signed
 pub mod WrittenLeaves

@@ -1,3 +1,9 @@
 pub mod Head
 pub mod Tree
 pub mod Writing
+pub mod Leaves
+pub mod Seen
+pub mod HeadFaults
+pub mod Refuses
+pub mod Parts
+pub mod Containers

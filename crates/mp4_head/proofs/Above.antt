@@ -1,0 +1,115 @@
+-- A fault in a box stands in the container that the box stands in.
+use Rattle.std.proofs.Common.{◌≡◌, ℕ, ◌+◌, ◌⊎◌, inl, inr, Bool, true, false, List, [], ◌∷◌, ◌++◌, drop, Option, Some, None, sym, ap, subst, ◌∙◌, append_assoc, refl}
+use Rattle.std.specs.Prelude.{⊤}
+use Rattle.mp4_boxes.specs.Box.{Box, Container, Extent, to_end_of_box, size, may_be_open, LieEndToEnd, StandsAfter, IsCounted, Tiles, box_container}
+use Rattle.mp4_boxes.specs.Layout.{Leaf}
+use Rattle.mp4_boxes.specs.Places.{Place, Scope, ruled, leaf_of, inside, Reaches, StandsIn}
+use Rattle.mp4_boxes.specs.BoxFaults.{IsHeaderFault, IsNotInProfile, IsDuplicate, IsMissing, IsChildFault, IsLeafFault, Fails}
+use Rattle.mp4_boxes.specs.declared.rule.Rule.{Rule}
+use Rattle.mp4_boxes.specs.declared.fault.Fault.{Fault}
+use Rattle.mp4_boxes.specs.declared.refusal.Refusal.{Refusal}
+use Rattle.mp4_boxes.specs.declared.refusal.Refusal.TheVariants as refusals
+use Rattle.mp4_head.specs.HeadFaults.{HeaderStands, ChildStands, MissingStands, IsTakenId, IsForeignReference, IsItemLocation, LeafStands, HeadStands}
+use Rattle.mp4_head.specs.Leaves.{IsFaultOf}
+use Rattle.mp4_head.specs.Refuses.{RefusesLeaf, RefusesIn, RefusesBoth, place_of}
+
+-- ---- where boxes stand
+
+lies_front : (is_open : Bool) (at : ℕ) (bytes : List ℕ) (bs cs : List Box) → LieEndToEnd is_open at bytes (bs ++ cs) → LieEndToEnd is_open at bytes bs
+lies_front is_open at bytes [] cs l = tt
+lies_front is_open at bytes (b ∷ bs) cs l = (l.0, lies_front is_open (at + size b) (drop (size b) bytes) bs cs l.1)
+
+-- a box of a tiled box stands there
+pub stands_of : (b : Box) (all passed left : List Box) (child : Box) → Tiles (box_container b) all → all ≡ passed ++ child ∷ left → StandsAfter (box_container b) passed child
+stands_of b all passed left child t e =
+    let grouped : passed ++ child ∷ left ≡ (passed ++ child ∷ []) ++ left = sym (append_assoc passed (child ∷ []) left) in
+    (lies_front false (b.offset + b.header) b.payload (passed ++ child ∷ []) left (subst (λ (bs : List Box). LieEndToEnd false (b.offset + b.header) b.payload bs) (e ∙ grouped) t.front.0), tt)
+
+-- ---- one container further up
+
+reaches_above : (from next place : Place) (before : List Box) (b : Box) → StandsAfter from.container before b → inside from b ≡ Some next → Reaches next place → Reaches from place
+reaches_above from next place before b s i r = (b ∷ r.0, (before, s, next, i, r.1))
+
+stands_above : (from next place : Place) (before inner : List Box) (b c : Box) → StandsAfter from.container before b → inside from b ≡ Some next → StandsIn next place inner c → StandsIn from place inner c
+stands_above from next place before inner b c s i h = record { reaches = reaches_above from next place before b s i h.reaches; after = h.after }
+
+taken_above : (from next : Place) (before : List Box) (b : Box) (leaf : Leaf) (n : ℕ) (f : Fault) → StandsAfter from.container before b → inside from b ≡ Some next → IsTakenId next leaf n f → IsTakenId from leaf n f
+taken_above from next before b leaf n f s i h = record {
+  place = h.place;
+  before = h.before;
+  b = h.b;
+  stands = stands_above from next h.place before h.before b h.b s i h.stands;
+  leaf_is = h.leaf_is;
+  readable = h.readable;
+  earlier_place = h.earlier_place;
+  earlier_before = h.earlier_before;
+  earlier = h.earlier;
+  earlier_stands = stands_above from next h.earlier_place before h.earlier_before b h.earlier s i h.earlier_stands;
+  earlier_leaf_is = h.earlier_leaf_is;
+  earlier_readable = h.earlier_readable;
+  order = h.order;
+  same_id = h.same_id;
+  named = h.named;
+}
+
+-- what stands in a box stands in the container that the box stands in
+pub head_above : (from next : Place) (before : List Box) (b : Box) (f : Fault) → StandsAfter from.container before b → inside from b ≡ Some next → HeadStands next f → HeadStands from f
+head_above from next before b f s i (inl h) = inl (record { place = h.place; reaches = reaches_above from next h.place before b s i h.reaches; fault = h.fault })
+head_above from next before b f s i (inr (inl h)) = inr (inl (record { place = h.place; reaches = reaches_above from next h.place before b s i h.reaches; rule = h.rule; under = h.under; fault = h.fault }))
+head_above from next before b f s i (inr (inr (inl h))) = inr (inr (inl (record { place = h.place; reaches = reaches_above from next h.place before b s i h.reaches; rule = h.rule; under = h.under; fault = h.fault })))
+head_above from next before b f s i (inr (inr (inr (inl h)))) =
+    inr (inr (inr (inl (record { place = h.place; before = h.before; b = h.b; stands = stands_above from next h.place before h.before b h.b s i h.stands; leaf = h.leaf; read = h.read; kind = h.kind; fails = h.fails; named = h.named }))))
+head_above from next before b f s i (inr (inr (inr (inr (inl h))))) = inr (inr (inr (inr (inl (taken_above from next before b _ _ f s i h)))))
+head_above from next before b f s i (inr (inr (inr (inr (inr (inl h)))))) = inr (inr (inr (inr (inr (inl (taken_above from next before b _ _ f s i h))))))
+head_above from next before b f s i (inr (inr (inr (inr (inr (inr (inl h))))))) =
+    inr (inr (inr (inr (inr (inr (inl (record { place = h.place; before = h.before; b = h.b; stands = stands_above from next h.place before h.before b h.b s i h.stands; in_dref = h.in_dref; foreign = h.foreign; named = h.named })))))))
+head_above from next before b f s i (inr (inr (inr (inr (inr (inr (inr h))))))) =
+    inr (inr (inr (inr (inr (inr (inr (record { place = h.place; before = h.before; b = h.b; stands = stands_above from next h.place before h.before b h.b s i h.stands; kept = h.kept; names = h.names; named = h.named })))))))
+
+-- ---- in one container
+
+-- a fault of the list of boxes
+pub child_here : (rule : Rule) (b : Box) (f : Fault) → IsChildFault rule (box_container b) f → HeadStands (place_of (ruled rule) b) f
+child_here rule b f (inl h) = inl (record { place = place_of (ruled rule) b; reaches = ([], refl); fault = h })
+child_here rule b f (inr (inl h)) = inr (inl (record { place = place_of (ruled rule) b; reaches = ([], refl); rule = rule; under = refl; fault = inl h }))
+child_here rule b f (inr (inr (inl h))) = inr (inl (record { place = place_of (ruled rule) b; reaches = ([], refl); rule = rule; under = refl; fault = inr h }))
+child_here rule b f (inr (inr (inr h))) = inr (inr (inl (record { place = place_of (ruled rule) b; reaches = ([], refl); rule = rule; under = refl; fault = h })))
+
+-- a box stands in this place itself
+pub here : (place : Place) (before : List Box) (b : Box) → StandsAfter place.container before b → StandsIn place place before b
+here place before b s = record { reaches = ([], refl); after = s }
+
+-- a fault of a leaf
+pub leaf_here : (place : Place) (before : List Box) (b : Box) (leaf : Leaf) (f : Fault) → StandsAfter place.container before b → leaf_of place.scope b.kind ≡ Some leaf → IsFaultOf leaf b f → HeadStands place f
+leaf_here place before b leaf f s l h =
+    inr (inr (inr (inl (record { place = place; before = before; b = b; stands = here place before b s; leaf = leaf; read = l; kind = h.kind; fails = h.fails; named = h.named }))))
+
+-- ---- refusals
+
+-- a leaf refuses
+pub refuses_leaf : (place : Place) (before : List Box) (b : Box) (leaf : Leaf) (r : Refusal) → StandsAfter place.container before b → leaf_of place.scope b.kind ≡ Some leaf → RefusesLeaf leaf b r → RefusesIn place r
+refuses_leaf place before b leaf (refusals.Fault f) s l h = leaf_here place before b leaf f s l h
+refuses_leaf place before b leaf refusals.Memory s l h = tt
+refuses_leaf place before b leaf refusals.StoreFailed s l h = h
+refuses_leaf place before b leaf refusals.StoreChanged s l h = h
+refuses_leaf place before b leaf refusals.WriteFailed s l h = h
+refuses_leaf place before b leaf refusals.NoSuchTrack s l h = h
+
+-- a container in it does
+pub refuses_above : (from next : Place) (before : List Box) (b : Box) (r : Refusal) → StandsAfter from.container before b → inside from b ≡ Some next → RefusesIn next r → RefusesIn from r
+refuses_above from next before b (refusals.Fault f) s i h = head_above from next before b f s i h
+refuses_above from next before b refusals.Memory s i h = tt
+refuses_above from next before b refusals.StoreFailed s i h = h
+refuses_above from next before b refusals.StoreChanged s i h = h
+refuses_above from next before b refusals.WriteFailed s i h = h
+refuses_above from next before b refusals.NoSuchTrack s i h = h
+
+-- a leaf that holds boxes does
+pub refuses_both : (from next : Place) (before : List Box) (b : Box) (leaf : Leaf) (scope : Scope) (r : Refusal) → StandsAfter from.container before b → leaf_of from.scope b.kind ≡ Some leaf → inside from b ≡ Some next → next ≡ place_of scope b → RefusesBoth leaf scope b r → RefusesIn from r
+refuses_both from next before b leaf scope (refusals.Fault f) s l i e (inl h) = leaf_here from before b leaf f s l h
+refuses_both from next before b leaf scope (refusals.Fault f) s l i e (inr h) = head_above from next before b f s i (subst (λ (p : Place). HeadStands p f) (sym e) h)
+refuses_both from next before b leaf scope refusals.Memory s l i e h = tt
+refuses_both from next before b leaf scope refusals.StoreFailed s l i e h = h
+refuses_both from next before b leaf scope refusals.StoreChanged s l i e h = h
+refuses_both from next before b leaf scope refusals.WriteFailed s l i e h = h
+refuses_both from next before b leaf scope refusals.NoSuchTrack s l i e h = h

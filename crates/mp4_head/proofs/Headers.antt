@@ -1,0 +1,138 @@
+-- What the headers of a movie, a track and its media say, by the places of their numbers.
+use Rattle.std.proofs.Common.{◌≡◌, ℕ, zero, suc, ◌+◌, ◌*◌, ◌<◌, ◌≤◌, Bool, true, false, eqb, List, [], ◌∷◌, length, take, refl, sym, ap, subst, ◌∙◌, arith, lit<, lit≤}
+use Rattle.std.specs.Prelude.{slice_index, slice_range, map}
+use Rattle.std.proofs.lemmas.Bool.{eqb-true}
+use Rattle.byteorder.specs.Endian.{twos_complement}
+use Rattle.std.proofs.Math.Dec.{eqb-suc-zero}
+use Rattle.mp4_boxes.specs.Bytes.{field, numbers, width_of}
+use Rattle.mp4_boxes.specs.Box.{Box}
+use Rattle.mp4_boxes.specs.BoxFaults.{fault_of}
+use Rattle.mp4_boxes.specs.Layout.{Leaf, mvhd, tkhd, mdhd, hdlr, fields, leaf_fields, version, time_width, needed, IsReadable, IsSound}
+use Rattle.mp4_boxes.specs.declared.fault.Fault.{Fault}
+use Rattle.mp4_boxes.specs.declared.fault.Kind.TheVariants.{BadValue, ShortBox}
+use Rattle.mp4_head.specs.Tree.{matrix_of}
+use Rattle.mp4_head.specs.Leaves.{IsFaultOf, FailsToOpen, IsOpen, nine}
+use Rattle.mp4_head.proofs.Opening.{open_readable, open_fails, number_is}
+
+-- a number that is not 0
+pub not_zero : (n : ℕ) → ¬ (n ≡ 0) → eqb n 0 ≡ false
+not_zero zero ne = absurd (ne refl)
+not_zero (suc n) ne = eqb-suc-zero n
+
+-- ---- `mvhd`
+
+-- a number of an `mvhd` at its place
+pub movie_at : (payload : List ℕ) (i place width : ℕ) → i < length (fields mvhd (version payload)) → width ≡ slice_index (fields mvhd (version payload)) i → place ≡ width_of (take i (fields mvhd (version payload)))
+    → field payload place width ≡ slice_index (leaf_fields mvhd payload) i
+movie_at payload i place width lt w p = number_is (fields mvhd (version payload)) payload i place width lt w p
+
+-- the matrix of an `mvhd`
+pub movie_matrix : (payload : List ℕ) (w : ℕ) → w ≡ time_width (version payload) → map (twos_complement 4) (nine payload (24 + 3 * w)) ≡ matrix_of (leaf_fields mvhd payload) 11 20
+movie_matrix payload w e =
+    let at = λ (i place : ℕ) (lt : i < length (fields mvhd (version payload))) (k : 4 ≡ slice_index (fields mvhd (version payload)) i) (p : place ≡ width_of (take i (fields mvhd (version payload)))). movie_at payload i place 4 lt k p in
+    let n0 = at 11 (24 + 3 * w) (lit< tt) refl (omega arith) in
+    let n1 = at 12 (24 + 3 * w + 4) (lit< tt) refl (omega arith) in
+    let n2 = at 13 (24 + 3 * w + 8) (lit< tt) refl (omega arith) in
+    let n3 = at 14 (24 + 3 * w + 12) (lit< tt) refl (omega arith) in
+    let n4 = at 15 (24 + 3 * w + 16) (lit< tt) refl (omega arith) in
+    let n5 = at 16 (24 + 3 * w + 20) (lit< tt) refl (omega arith) in
+    let n6 = at 17 (24 + 3 * w + 24) (lit< tt) refl (omega arith) in
+    let n7 = at 18 (24 + 3 * w + 28) (lit< tt) refl (omega arith) in
+    let n8 = at 19 (24 + 3 * w + 32) (lit< tt) refl (omega arith) in
+    ap (map (twos_complement 4)) (λ j. n0 j ∷ n1 j ∷ n2 j ∷ n3 j ∷ n4 j ∷ n5 j ∷ n6 j ∷ n7 j ∷ n8 j ∷ [])
+
+movie_needs : (payload : List ℕ) → needed mvhd payload ≡ 88 + 3 * time_width (version payload)
+movie_needs payload = omega arith
+
+pub movie_readable : (payload : List ℕ) (width : ℕ) → IsOpen 1 88 3 payload width → IsReadable mvhd payload
+movie_readable payload width o = let n = movie_needs payload in open_readable mvhd 1 88 3 width payload refl refl (omega arith) o
+
+-- an `mvhd` with a timescale is sound
+pub movie_sound : (payload : List ℕ) (width timescale : ℕ) → IsOpen 1 88 3 payload width → timescale ≡ slice_index (leaf_fields mvhd payload) 4 → ¬ (timescale ≡ 0) → IsSound mvhd payload
+movie_sound payload width timescale o e ne =
+    record { readable = movie_readable payload width o; value = not_zero (slice_index (leaf_fields mvhd payload) 4) (λ z. ne (e ∙ z)); inside = refl; offsets = refl }
+
+-- one without is at fault
+pub movie_fault : (b : Box) (f : Fault) (width timescale : ℕ) → IsOpen 1 88 3 b.payload width → timescale ≡ slice_index (leaf_fields mvhd b.payload) 4 → timescale ≡ 0 → f ≡ fault_of BadValue b → IsFaultOf mvhd b f
+movie_fault b f width timescale o e z named = record { kind = BadValue; fails = (movie_readable b.payload width o, ap (λ (n : ℕ). eqb n 0) (sym e ∙ z)); named = named }
+
+pub movie_unopened : (b : Box) (f : Fault) → FailsToOpen 1 88 3 b f → IsFaultOf mvhd b f
+movie_unopened b f u = let n = movie_needs b.payload in open_fails mvhd 1 88 3 b f refl (lit≤ tt) (omega arith) u
+
+-- ---- `tkhd`
+
+-- a number of a `tkhd` at its place
+pub track_at : (payload : List ℕ) (i place width : ℕ) → i < length (fields tkhd (version payload)) → width ≡ slice_index (fields tkhd (version payload)) i → place ≡ width_of (take i (fields tkhd (version payload)))
+    → field payload place width ≡ slice_index (leaf_fields tkhd payload) i
+track_at payload i place width lt w p = number_is (fields tkhd (version payload)) payload i place width lt w p
+
+-- the matrix of a `tkhd`
+pub track_matrix : (payload : List ℕ) (w : ℕ) → w ≡ time_width (version payload) → map (twos_complement 4) (nine payload (28 + 3 * w)) ≡ matrix_of (leaf_fields tkhd payload) 13 22
+track_matrix payload w e =
+    let at = λ (i place : ℕ) (lt : i < length (fields tkhd (version payload))) (k : 4 ≡ slice_index (fields tkhd (version payload)) i) (p : place ≡ width_of (take i (fields tkhd (version payload)))). track_at payload i place 4 lt k p in
+    let n0 = at 13 (28 + 3 * w) (lit< tt) refl (omega arith) in
+    let n1 = at 14 (28 + 3 * w + 4) (lit< tt) refl (omega arith) in
+    let n2 = at 15 (28 + 3 * w + 8) (lit< tt) refl (omega arith) in
+    let n3 = at 16 (28 + 3 * w + 12) (lit< tt) refl (omega arith) in
+    let n4 = at 17 (28 + 3 * w + 16) (lit< tt) refl (omega arith) in
+    let n5 = at 18 (28 + 3 * w + 20) (lit< tt) refl (omega arith) in
+    let n6 = at 19 (28 + 3 * w + 24) (lit< tt) refl (omega arith) in
+    let n7 = at 20 (28 + 3 * w + 28) (lit< tt) refl (omega arith) in
+    let n8 = at 21 (28 + 3 * w + 32) (lit< tt) refl (omega arith) in
+    ap (map (twos_complement 4)) (λ j. n0 j ∷ n1 j ∷ n2 j ∷ n3 j ∷ n4 j ∷ n5 j ∷ n6 j ∷ n7 j ∷ n8 j ∷ [])
+
+track_needs : (payload : List ℕ) → needed tkhd payload ≡ 72 + 3 * time_width (version payload)
+track_needs payload = omega arith
+
+pub track_readable : (payload : List ℕ) (width : ℕ) → IsOpen 1 72 3 payload width → IsReadable tkhd payload
+track_readable payload width o = let n = track_needs payload in open_readable tkhd 1 72 3 width payload refl refl (omega arith) o
+
+-- a `tkhd` with an ID is sound
+pub track_sound : (payload : List ℕ) (width id : ℕ) → IsOpen 1 72 3 payload width → id ≡ slice_index (leaf_fields tkhd payload) 4 → ¬ (id ≡ 0) → IsSound tkhd payload
+track_sound payload width id o e ne =
+    record { readable = track_readable payload width o; value = not_zero (slice_index (leaf_fields tkhd payload) 4) (λ z. ne (e ∙ z)); inside = refl; offsets = refl }
+
+-- one without is at fault
+pub track_fault : (b : Box) (f : Fault) (width id : ℕ) → IsOpen 1 72 3 b.payload width → id ≡ slice_index (leaf_fields tkhd b.payload) 4 → id ≡ 0 → f ≡ fault_of BadValue b → IsFaultOf tkhd b f
+track_fault b f width id o e z named = record { kind = BadValue; fails = (track_readable b.payload width o, ap (λ (n : ℕ). eqb n 0) (sym e ∙ z)); named = named }
+
+pub track_unopened : (b : Box) (f : Fault) → FailsToOpen 1 72 3 b f → IsFaultOf tkhd b f
+track_unopened b f u = let n = track_needs b.payload in open_fails tkhd 1 72 3 b f refl (lit≤ tt) (omega arith) u
+
+-- ---- `mdhd` and `hdlr`
+
+-- a number of an `mdhd` at its place
+pub media_at : (payload : List ℕ) (i place width : ℕ) → i < length (fields mdhd (version payload)) → width ≡ slice_index (fields mdhd (version payload)) i → place ≡ width_of (take i (fields mdhd (version payload)))
+    → field payload place width ≡ slice_index (leaf_fields mdhd payload) i
+media_at payload i place width lt w p = number_is (fields mdhd (version payload)) payload i place width lt w p
+
+media_needs : (payload : List ℕ) → needed mdhd payload ≡ 12 + 3 * time_width (version payload)
+media_needs payload = omega arith
+
+pub media_readable : (payload : List ℕ) (width : ℕ) → IsOpen 1 12 3 payload width → IsReadable mdhd payload
+media_readable payload width o = let n = media_needs payload in open_readable mdhd 1 12 3 width payload refl refl (omega arith) o
+
+-- an `mdhd` with a timescale is sound
+pub media_sound : (payload : List ℕ) (width timescale : ℕ) → IsOpen 1 12 3 payload width → timescale ≡ slice_index (leaf_fields mdhd payload) 4 → ¬ (timescale ≡ 0) → IsSound mdhd payload
+media_sound payload width timescale o e ne =
+    record { readable = media_readable payload width o; value = not_zero (slice_index (leaf_fields mdhd payload) 4) (λ z. ne (e ∙ z)); inside = refl; offsets = refl }
+
+-- one without is at fault
+pub media_fault : (b : Box) (f : Fault) (width timescale : ℕ) → IsOpen 1 12 3 b.payload width → timescale ≡ slice_index (leaf_fields mdhd b.payload) 4 → timescale ≡ 0 → f ≡ fault_of BadValue b → IsFaultOf mdhd b f
+media_fault b f width timescale o e z named = record { kind = BadValue; fails = (media_readable b.payload width o, ap (λ (n : ℕ). eqb n 0) (sym e ∙ z)); named = named }
+
+pub media_unopened : (b : Box) (f : Fault) → FailsToOpen 1 12 3 b f → IsFaultOf mdhd b f
+media_unopened b f u = let n = media_needs b.payload in open_fails mdhd 1 12 3 b f refl (lit≤ tt) (omega arith) u
+
+handler_needs : (payload : List ℕ) → needed hdlr payload ≡ 24
+handler_needs payload = omega arith
+
+-- a `hdlr` of any version with room is sound
+pub handler_sound : (payload : List ℕ) → 24 ≤ length payload → IsSound hdlr payload
+handler_sound payload room =
+    let n = handler_needs payload in
+    record { readable = record { version = refl; flags = refl; room = omega arith }; value = refl; inside = refl; offsets = refl }
+
+-- one without room is at fault
+pub handler_short : (b : Box) (f : Fault) → length b.payload < 24 → f ≡ fault_of ShortBox b → IsFaultOf hdlr b f
+handler_short b f short named = let n = handler_needs b.payload in record { kind = ShortBox; fails = omega arith; named = named }

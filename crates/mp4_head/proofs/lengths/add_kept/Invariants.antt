@@ -1,0 +1,8 @@
+use Rattle.std.proofs.Common.{length}
+use Rattle.mp4_head.specs.Seen.{kept_seen}
+use Rattle.mp4_head.specs.Writing.{kept_bytes}
+use Rattle.mp4_head.proofs.HeadLengths.{Counted}
+use Rattle.mp4_head.proofs.lengths.add_kept.Given as goal
+
+abbrev pub invariant-loop-one : goal.invariant-loop-one
+invariant-loop-one l = Counted (λ x. length (kept_bytes (kept_seen x))) l.initial.total l.kept l.one-index l.total

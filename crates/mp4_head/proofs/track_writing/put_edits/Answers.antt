@@ -1,0 +1,25 @@
+use Rattle.std.proofs.Common.{rules, ◌≡◌, ℕ, ◌+◌, ◌∙◌, ◌++◌, List, [], ◌∷◌, length, map, ap, sym, refl, arith}
+use Rattle.std.proofs.lemmas.List.{length-map}
+use Rattle.std.specs.Prelude.{codes, replicate}
+use Rattle.std.specs.List.{flat_map}
+use Rattle.byteorder.specs.Endian.{big_bytes}
+use Rattle.mp4_boxes.specs.Written.{box_bytes}
+use Rattle.mp4_head.specs.Seen.{kept_seen, description_seen, edit_seen, media_seen, track_seen, movie_seen}
+use Rattle.mp4_head.specs.Parts.{unsized, edit_list_bytes, descriptions_bytes, information_bytes}
+use Rattle.mp4_head.specs.Writing as written
+use Rattle.mp4_head.proofs.Pieces.{appended, appended_is, joined, boxed, boxed_room}
+use Rattle.mp4_head.proofs.HeadPieces.{edits_spelled}
+use Rattle.mp4_head.proofs.track_writing.put_edits.Goals as goal
+
+pub close_box-requires : goal.close_box-requires
+close_box-requires c =
+    boxed_room c.args.out.now.items (codes "edts") _ c.put_edit_list.new.out.items c.len-at.result (search rules) refl
+    (
+    boxed c.args.out.now.items (codes "edts") (edit_list_bytes (map edit_seen c.args.edits.now)) ([]) c.put_edit_list.new.out.items (rw (c.in_ok-put_edit_list.ensures, c.in_ok-open_box.ensures) refl))
+
+pub returns : goal.returns
+returns c =
+    c.close_box.ensures c.args.out.now.items (codes "edts") (appended (edit_list_bytes (map edit_seen c.args.edits.now)) ([])) (search rules) refl
+    (
+    boxed c.args.out.now.items (codes "edts") (edit_list_bytes (map edit_seen c.args.edits.now)) ([]) c.put_edit_list.new.out.items (rw (c.in_ok-put_edit_list.ensures, c.in_ok-open_box.ensures) refl))
+    ∙ ap (λ (x : List ℕ). c.args.out.now.items ++ x) (edits_spelled c.args.edits.now (search rules))

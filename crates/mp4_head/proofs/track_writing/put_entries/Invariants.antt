@@ -1,0 +1,7 @@
+use Rattle.mp4_head.specs.Seen.{description_seen}
+use Rattle.mp4_head.specs.Writing as written
+use Rattle.mp4_head.proofs.Pieces.{Put}
+use Rattle.mp4_head.proofs.track_writing.put_entries.Given as goal
+
+abbrev pub invariant-loop-one : goal.invariant-loop-one
+invariant-loop-one l = Put (λ d. written.kept_bytes (description_seen d)) l.initial.out.items l.descriptions l.one-index l.out.items

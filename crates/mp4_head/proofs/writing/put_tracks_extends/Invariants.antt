@@ -1,0 +1,7 @@
+use Rattle.mp4_head.specs.Seen.{track_seen}
+use Rattle.mp4_head.specs.Writing as written
+use Rattle.mp4_head.proofs.Pieces.{Put}
+use Rattle.mp4_head.proofs.writing.put_tracks_extends.Given as goal
+
+abbrev pub invariant-loop-track : goal.invariant-loop-track
+invariant-loop-track l = Put (λ t. written.trex_bytes (track_seen t)) l.initial.out.items l.tracks l.track-index l.out.items

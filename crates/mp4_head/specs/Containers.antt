@@ -1,0 +1,47 @@
+-- What readers say of the containers of a `moov`.
+use Rattle.std.specs.Prelude.{◌≡◌, ℕ, ◌<◌, List, [], ◌∷◌, map, Option, Some, None, codes}
+use Rattle.std.specs.List.{AllByRecursion}
+use Rattle.mp4_boxes.specs.Box.{Box, box_container, counted_container, Tiles}
+use Rattle.mp4_boxes.specs.Children.{Holds, of_kind, payload_if, payload_of, count_among, media_headers}
+use Rattle.mp4_boxes.specs.Layout.{dref, stsd, hdlr, mdhd, IsSound}
+use Rattle.mp4_boxes.specs.Places.{ruled, data_entries, sample_entries, AreSound}
+use Rattle.mp4_boxes.specs.declared.rule.Rule.TheVariants as rules
+use Rattle.mp4_head.specs.Head.{Kept, Edit}
+use Rattle.mp4_head.specs.Tree.{first_of, first_among, edits_of}
+
+-- the boxes of an `edts`, and its edits
+pub record SaysEdits (edts : Box) (edits : List Edit) : Type 0 where
+  pub boxes : List Box
+  pub holds : Holds rules.Edits (box_container edts) boxes
+  pub sound : AreSound (ruled rules.Edits) boxes
+  pub says : edits ≡ edits_of (payload_if (codes "elst") boxes)
+
+-- the entries of a `dref`
+pub record SaysReferences (b : Box) : Type 0 where
+  pub entries : List Box
+  pub tiles : Tiles (counted_container b) entries
+  pub own : IsSound dref b.payload
+  pub sound : AreSound data_entries entries
+  pub urls : AllByRecursion (λ (e : Box). e.kind ≡ codes "url ") entries
+
+-- the boxes of a `dinf`
+pub record SaysDataInformation (dinf : Box) : Type 0 where
+  pub boxes : List Box
+  pub holds : Holds rules.DataInformation (box_container dinf) boxes
+  pub sound : AreSound (ruled rules.DataInformation) boxes
+  pub references : SaysReferences (first_of (codes "dref") boxes)
+
+-- the entries of an `stsd`, and the descriptions that they are
+pub record SaysDescriptions (b : Box) (descriptions : List Kept) : Type 0 where
+  pub entries : List Box
+  pub tiles : Tiles (counted_container b) entries
+  pub own : IsSound stsd b.payload
+  pub sound : AreSound sample_entries entries
+  pub says : descriptions ≡ map (λ (e : Box). record { kind = e.kind; payload = e.payload }) entries
+
+-- the boxes of an `stbl`: its descriptions, and what describes groups
+pub record SaysTable (stbl : Box) (descriptions : List Kept) (groups : List (List ℕ)) : Type 0 where
+  pub boxes : List Box
+  pub holds : Holds rules.SampleTable (box_container stbl) boxes
+  pub entries : SaysDescriptions (first_of (codes "stsd") boxes) descriptions
+  pub says : groups ≡ map (λ (b : Box). b.payload) (of_kind (codes "sgpd") boxes)

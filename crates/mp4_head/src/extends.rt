@@ -1,0 +1,34 @@
+//! `mvex` and `trex`: what fragments take where they say nothing (ISO/IEC 14496-12, 8.8.1 and 8.8.3).
+use crate::leaves::{fault, is, open};
+use mp4_boxes::{BoxView, Fault, FourCc, Kind, Refusal, Rule, check_children, u32_at};
+use mp4_frag::Trex;
+use std::alloc::Global;
+use std::collections::BTreeSet;
+
+fn read_trex(view: BoxView) -> Result<Trex, Fault> {
+    open(view, 0, 24, 0)?;
+    let payload = view.payload();
+    Ok(Trex {
+        id: u32_at(payload, 4),
+        description: u32_at(payload, 8),
+        duration: u32_at(payload, 12),
+        size: u32_at(payload, 16),
+        flags: u32_at(payload, 20),
+    })
+}
+
+// The `trex` of a `mvex`, of which no two have one ID. A `mehd` is not read.
+pub(crate) fn read_extends(alloc: Global, mvex: BoxView) -> Result<Vec<Trex>, Refusal> {
+    let mut trexes = Vec::new(alloc);
+    let mut ids = BTreeSet::new(alloc);
+    for child in check_children(mvex, Rule::MovieExtends)? {
+        if is(child, FourCc(*b"trex")) {
+            let trex = read_trex(child)?;
+            if !ids.insert(trex.id)? {
+                return Err(Refusal::from(fault(Kind::BadValue, child)));
+            }
+            trexes.push(trex)?;
+        }
+    }
+    Ok(trexes)
+}

@@ -1,0 +1,39 @@
+//! Boxes that are kept as they are.
+use crate::leaves::fault;
+use memchr::memmem;
+use mp4_boxes::{BoxView, Fault, FourCc, Kind};
+
+/// A box that is kept as it is: its type and its payload.
+#[derive(Clone, Copy, Debug, PartialEq, Eq)]
+pub struct Kept<'a> {
+    pub kind: FourCc,
+    pub payload: &'a [u8],
+}
+
+/// An entry of `stsd`: how samples are coded (ISO/IEC 14496-12, 8.5.2).
+#[derive(Clone, Copy, Debug, PartialEq, Eq)]
+pub struct Description<'a> {
+    pub kind: FourCc,
+    pub payload: &'a [u8],
+}
+
+// Whether the letters `iloc` stand somewhere in the bytes.
+fn names_item_location(bytes: &[u8]) -> bool {
+    memmem::find(bytes, b"iloc").is_some()
+}
+
+// A box as it is kept.
+pub(crate) fn keep<'a>(view: BoxView<'a>) -> Kept<'a> {
+    Kept {
+        kind: view.kind(),
+        payload: view.payload(),
+    }
+}
+
+// A box as it is kept, where it names no file offsets of items.
+pub(crate) fn keep_unplaced<'a>(view: BoxView<'a>) -> Result<Kept<'a>, Fault> {
+    if names_item_location(view.payload()) {
+        return Err(fault(Kind::ItemLocation, view));
+    }
+    Ok(keep(view))
+}

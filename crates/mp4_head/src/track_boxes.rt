@@ -1,0 +1,98 @@
+//! `trak`: one track (ISO/IEC 14496-12, 8.3.1).
+use crate::edit_list::{Edit, read_edits};
+use crate::heads::{Media, TrackHead};
+use crate::kept_boxes::{Kept, keep_unplaced};
+use crate::leaves::{fault, is};
+use crate::media_boxes::{MediaParts, read_media};
+use crate::track_header::{TrackHeader, read_track_header};
+use mp4_boxes::{BoxView, FourCc, Kind, Refusal, Rule, check_children};
+use std::alloc::Global;
+use std::collections::BTreeSet;
+
+// A `tkhd` with an ID that none has that was read before.
+fn read_new_track_header(
+    view: BoxView,
+    ids: &mut BTreeSet<u32>,
+) -> Result<TrackHeader, Refusal> {
+    let header = read_track_header(view)?;
+    if !ids.insert(header.id)? {
+        return Err(Refusal::from(fault(Kind::BadValue, view)));
+    }
+    Ok(header)
+}
+
+// What is said of a track, put together.
+fn head_of<'a>(
+    header: TrackHeader,
+    offset: u64,
+    edits: Vec<Edit>,
+    kept: Vec<Kept<'a>>,
+    parts: MediaParts<'a>,
+) -> TrackHead<'a> {
+    let matrix = header.matrix;
+    let media = parts.header;
+    let information = parts.information;
+    let table = information.table;
+    TrackHead {
+        flags: header.flags,
+        creation: header.creation,
+        modification: header.modification,
+        id: header.id,
+        layer: header.layer,
+        alternate_group: header.alternate_group,
+        volume: header.volume,
+        matrix,
+        width: header.width,
+        height: header.height,
+        edits,
+        kept,
+        media: Media {
+            creation: media.creation,
+            modification: media.modification,
+            timescale: media.timescale,
+            language: media.language,
+            handler: parts.handler,
+            extended_languages: parts.extended_languages,
+            header: information.header,
+            descriptions: table.descriptions,
+        },
+        group_descriptions: table.group_descriptions,
+        stbl: information.stbl,
+        offset,
+    }
+}
+
+// Whether the box is kept in a `trak`.
+fn is_kept(view: BoxView) -> bool {
+    is(view, FourCc(*b"tref")) || is(view, FourCc(*b"udta")) || is(view, FourCc(*b"meta"))
+}
+
+// A track whose ID is none of these; it is then one of them.
+pub(crate) fn read_track<'a>(
+    alloc: Global,
+    trak: BoxView<'a>,
+    ids: &mut BTreeSet<u32>,
+) -> Result<TrackHead<'a>, Refusal> {
+    let mut header = None;
+    let mut edits = Vec::new(alloc);
+    let mut kept = Vec::new(alloc);
+    let mut media = None;
+    for child in check_children(trak, Rule::Track)? {
+        if is(child, FourCc(*b"tkhd")) {
+            header = Some((read_new_track_header(child, ids)?, child.offset()));
+        }
+        if is(child, FourCc(*b"edts")) {
+            edits = read_edits(alloc, child)?;
+        }
+        if is_kept(child) {
+            kept.push(keep_unplaced(child)?)?;
+        }
+        if is(child, FourCc(*b"mdia")) {
+            media = Some(read_media(alloc, child)?);
+        }
+    }
+    let (Some((header, offset)), Some(media)) = (header, media) else {
+        return Err(Refusal::from(fault(Kind::MissingBox, trak)));
+    };
+    Ok(head_of(header, offset, edits, kept, media))
+}
