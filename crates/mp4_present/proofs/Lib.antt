@@ -21,3 +21,4 @@ pub mod DenotedValid
 pub mod Vectors
 pub mod TopLevel
 pub mod Outlines
+pub mod Fragmented

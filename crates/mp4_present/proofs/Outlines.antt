@@ -32,7 +32,8 @@ same_text xs ys e = (bytes_eq-Decides xs ys).0 e
 not_both : (kind : List ℕ) → bytes_eq (codes "moov") kind ≡ true → bytes_eq (codes "moof") kind ≡ false
 not_both kind e = subst (λ (k : List ℕ). bytes_eq (codes "moof") k ≡ false) (same_text (codes "moov") kind e) refl
 
-push_other : (kind : List ℕ) (boxes : List Box) (b : Box) → bytes_eq kind b.kind ≡ false → of_kind kind (boxes ++ b ∷ []) ≡ of_kind kind boxes
+-- one box more, of another type
+pub push_other : (kind : List ℕ) (boxes : List Box) (b : Box) → bytes_eq kind b.kind ≡ false → of_kind kind (boxes ++ b ∷ []) ≡ of_kind kind boxes
 push_other kind boxes b e =
     let none : of_kind kind (b ∷ []) ≡ [] = rw e refl in
     of_kind-append kind boxes (b ∷ []) ∙ ap (λ (bs : List Box). of_kind kind boxes ++ bs) none ∙ append_nil (of_kind kind boxes)

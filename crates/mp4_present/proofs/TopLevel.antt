@@ -21,7 +21,7 @@ pub record TopPassed (file : List ℕ) (boxes : List Box) (at : ℕ) : Type 0 wh
 pub top_none : (file : List ℕ) → TopPassed file [] 0
 top_none file = record { lie = tt; taken = refl }
 
-read_there : (file : List ℕ) (at : ℕ) (h : TopHeader) → IsTopHeader file at h → header_at true (drop at file) ≡ Ok (top_header_seen at h)
+pub read_there : (file : List ℕ) (at : ℕ) (h : TopHeader) → IsTopHeader file at h → header_at true (drop at file) ≡ Ok (top_header_seen at h)
 read_there file at h e =
     let l : length (drop at file) ≡ length file - at = length-drop at file in
     located_ok (codes "file") at (type_of (drop at file)) (header_at true (drop at file)) (top_header_seen at h) (subst (λ (n : ℕ). header_there true n (drop at file) (codes "file") at ≡ Ok (top_header_seen at h)) (sym l) e)

@@ -3,3 +3,4 @@ pub mod Denotes
 pub mod Stands
 pub mod Reading
 pub mod Outline
+pub mod Again

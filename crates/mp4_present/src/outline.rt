@@ -14,7 +14,7 @@ use mp4_store::Store;
 
 const MOOV: FourCc = FourCc(*b"moov");
 
-const MOOF: FourCc = FourCc(*b"moof");
+pub(crate) const MOOF: FourCc = FourCc(*b"moof");
 
 /// What some first headers of a file say.
 #[derive(Clone, Copy, Debug, PartialEq, Eq)]
@@ -36,7 +36,8 @@ pub(crate) struct Outline {
     pub longest: u64,
 }
 
-fn is(kind: FourCc, name: FourCc) -> bool
+/// Whether a type is this one.
+pub(crate) fn is(kind: FourCc, name: FourCc) -> bool
     ensures { result ≡ bytes_eq name.0 kind.0 }
 {
     name == kind
