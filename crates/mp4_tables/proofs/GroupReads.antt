@@ -4,7 +4,8 @@ use Rattle.std.specs.Prelude.{nat_le, nat_lt, ◌==◌, ◌||◌, ◌&&◌, not,
 use Rattle.std.specs.List.{AllByRecursion, list_all, list_any, slice_get}
 use Rattle.std.proofs.lemmas.Bool.{cases_lt}
 use Rattle.std.proofs.lemmas.Bool.Decides.{nat_tests}
-use Rattle.std.proofs.lemmas.List.{length-map}
+use Rattle.std.proofs.lemmas.List.{length-map, append-nil, append_assoc}
+use Rattle.mp4_tables.proofs.RowLists.{runs_all}
 use Rattle.mp4_boxes.proofs.Among.{all_append, of_kind-split, of_kind-append}
 use Rattle.mp4_tables.specs.Repeated.{total}
 use Rattle.mp4_tables.specs.Groups.{GroupKey, Grouping, GroupRule, one_of_key, few_keys, index_range, group_counts, same_key, keys_after, grouping_of, groupings_of, key_of, keeps, group_test, group_reads, group_kind}
@@ -358,3 +359,71 @@ group_next stbl b key r n at after g new four small few l ks slot = record {
 
 pub not_true : ◌≡◌ {A = Bool} false true → ⊥
 not_true e = cc
+
+-- ---- walking over the children
+pub no_groups_so : (payload : List ℕ) (n : ℕ) (at : GroupsAt) → keys_seen at.keys ≡ [] → at.first.count ≡ 0 → at.second.count ≡ 0 → at.third.count ≡ 0 → at.fourth.count ≡ 0
+    → at.first.place ≡ 0 → at.second.place ≡ 0 → at.third.place ≡ 0 → at.fourth.place ≡ 0 → GroupsSo payload n [] at
+no_groups_so payload n at k a b c d e f g h = record {
+  same = ap (λ ks. grouped ks (group_rows payload at)) k;
+  have = record {
+    first = (omega arith, none_index payload at.first a); second = (omega arith, none_index payload at.second b); third = (omega arith, none_index payload at.third c); fourth = (omega arith, none_index payload at.fourth d);
+    distinct = subst AreDistinct (sym k) tt;
+    used = subst (λ ks. AreUsed ks (group_rows payload at)) (sym k) (no_rows payload at.first a, (no_rows payload at.second b, (no_rows payload at.third c, (no_rows payload at.fourth d, tt))))
+  };
+  tests = λ rule i. test_none rule n i [] (found_none [] i (omega arith))
+  }
+  where
+    no_rows : (payload : List ℕ) (r : RowsAt) → r.count ≡ 0 → runs_at payload r ≡ []
+    no_rows payload r z = runs_all payload r 0 (omega arith)
+    none_index : (payload : List ℕ) (r : RowsAt) → r.count ≡ 0 → AreIndexes (runs_at payload r)
+    none_index payload r z = subst AreIndexes (sym (runs_all payload r 0 (omega arith))) tt
+
+pub passed_first : (stbl : Box) (n : ℕ) (at : GroupsAt) (left : List Box) → GroupsSo stbl.payload n [] at → left ≡ boxes_of stbl → GroupsPassed stbl n at left
+passed_first stbl n at left s e = record { passed = []; is = sym e; so = s; groups = tt; described = tt }
+
+pub next_child : (stbl b : Box) (n : ℕ) (at : GroupsAt) (left later : List Box) → GroupsPassed stbl n at left → left ≡ b ∷ later → IsChild stbl b
+next_child stbl b n at left later p e = record { before = p.passed; after = later; is = p.is ∙ ap (λ bs. p.passed ++ bs) e }
+
+all_snoc : (kind : List ℕ) (P : List ℕ → Type 0) (boxes : List Box) (b : Box) → AllOf kind P boxes → (bytes_eq kind b.kind ≡ true → P b.payload) → AllOf kind P (boxes ++ b ∷ [])
+all_snoc kind P boxes b h p = all_append (λ (c : Box). bytes_eq kind c.kind ≡ true → P c.payload) boxes (b ∷ []) h (p, tt)
+
+kind_snoc_other : (kind : List ℕ) (boxes : List Box) (b : Box) → bytes_eq kind b.kind ≡ false → of_kind kind (boxes ++ b ∷ []) ≡ of_kind kind boxes
+kind_snoc_other kind boxes b e = of_kind-append kind boxes (b ∷ []) ∙ rw e (append-nil (of_kind kind boxes))
+
+kind_snoc : (kind : List ℕ) (boxes : List Box) (b : Box) → bytes_eq kind b.kind ≡ true → of_kind kind (boxes ++ b ∷ []) ≡ of_kind kind boxes ++ b ∷ []
+kind_snoc kind boxes b e = of_kind-append kind boxes (b ∷ []) ∙ rw e refl
+
+mapped_snoc : (gs : List Box) (b : Box) → groupings_of (gs ++ b ∷ []) ≡ groupings_of gs ++ grouping_of b.payload ∷ []
+mapped_snoc [] b = refl
+mapped_snoc (g ∷ gs) b = ap (λ xs. grouping_of g.payload ∷ xs) (mapped_snoc gs b)
+
+pub passed_next : (stbl b : Box) (n : ℕ) (at after : GroupsAt) (left later : List Box) → GroupsPassed stbl n at left → left ≡ b ∷ later → ChildRead stbl.payload n at b after → GroupsPassed stbl n after later
+passed_next stbl b n at after left later p e (inl o) = record {
+  passed = p.passed ++ b ∷ [];
+  is = p.is ∙ ap (λ bs. p.passed ++ bs) e ∙ sym (append_assoc p.passed (b ∷ []) later);
+  so = subst (λ bs. GroupsSo stbl.payload n (groupings_of bs) after) (sym (kind_snoc_other (codes "sbgp") p.passed b o.other)) (subst (GroupsSo stbl.payload n (groupings_of (of_kind (codes "sbgp") p.passed))) (sym o.same) p.so);
+  groups = all_snoc (codes "sbgp") (IsReadable sbgp) p.passed b p.groups (λ k. absurd (clash k o.other));
+  described = all_snoc (codes "sgpd") (IsSound sgpd) p.passed b p.described o.described
+  }
+  where
+    clash : {c : Bool} → c ≡ true → c ≡ false → ⊥
+    clash x y = cc
+passed_next stbl b n at after left later p e (inr (k, g)) = record {
+  passed = p.passed ++ b ∷ [];
+  is = p.is ∙ ap (λ bs. p.passed ++ bs) e ∙ sym (append_assoc p.passed (b ∷ []) later);
+  so = subst (λ bs. GroupsSo stbl.payload n bs after) (sym (ap groupings_of (kind_snoc (codes "sbgp") p.passed b k) ∙ mapped_snoc (of_kind (codes "sbgp") p.passed) b)) (g.so (groupings_of (of_kind (codes "sbgp") p.passed)) p.so);
+  groups = all_snoc (codes "sbgp") (IsReadable sbgp) p.passed b p.groups (λ _. g.readable);
+  described = all_snoc (codes "sgpd") (IsSound sgpd) p.passed b p.described (λ d. absurd (two_kinds (same_kind (codes "sbgp") b.kind k) d))
+  }
+  where
+    two_kinds : b.kind ≡ codes "sbgp" → bytes_eq (codes "sgpd") b.kind ≡ true → ⊥
+    two_kinds s d = let f : false ≡ true = subst (λ x. bytes_eq (codes "sgpd") x ≡ true) s d in cc
+
+pub passed_all : (stbl : Box) (n : ℕ) (at : GroupsAt) (left : List Box) → GroupsPassed stbl n at left → left ≡ [] → GroupsRead stbl n at
+passed_all stbl n at left p e =
+    let all : p.passed ≡ boxes_of stbl = sym (p.is ∙ ap (λ bs. p.passed ++ bs) e ∙ append-nil p.passed) in
+    record {
+      so = subst (λ bs. GroupsSo stbl.payload n (groupings_of (of_kind (codes "sbgp") bs)) at) all p.so;
+      groups = subst (AllOf (codes "sbgp") (IsReadable sbgp)) all p.groups;
+      described = subst (AllOf (codes "sgpd") (IsSound sgpd)) all p.described
+    }

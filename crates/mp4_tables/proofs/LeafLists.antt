@@ -331,3 +331,7 @@ bytes_there at bytes b r fields i e n =
     let l : length b.payload ≡ fields + r.length = omega arith in
     sym (ap (drop fields) (i.same ∙ ap (λ m. take m (drop i.place bytes)) l) ∙ drop-take fields r.length (drop i.place bytes)
       ∙ ap (take r.length) (drop-drop fields i.place bytes ∙ ap (λ j. drop j bytes) (sym p)))
+
+-- children of the profile, as they were found, are the boxes in front of the payload
+pub has_tables : (b : Box) (boxes : List Box) → Holds SampleTable (box_container b) boxes → HasTables b
+has_tables b boxes h = subst (λ bs. Holds SampleTable (box_container b) bs) (sym (boxes_are b boxes h.tiles)) h

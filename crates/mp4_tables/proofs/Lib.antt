@@ -1,5 +1,6 @@
 pub mod Counts
 pub mod RowLists
+pub mod Assembly
 pub mod GroupReads
 pub mod PlaceReads
 pub mod SizeReads

@@ -17,7 +17,8 @@ use Rattle.mp4_tables.specs.Tables.{Tables, sample_count, sample_sizes_of, durat
 use Rattle.mp4_tables.specs.Rows.{HaveRoom, HaveSizes, runs_at, chunk_rows_at, numbers_at, offsets_at, offset_width, sizes_at}
 use Rattle.mp4_tables.specs.TableRules.{Surroundings, Fit, AreReadable, IsTableFault, test, chunk_order, description_indexes, places, is_sync_order}
 use Rattle.mp4_tables.specs.PlainSamples.{in_chunks_total}
-use Rattle.mp4_tables.specs.Accepted.{HaveOffsets, HaveSync, HaveBytes, composition_offsets_at, bytes_at, groupings_at, HaveGroups}
+use Rattle.mp4_tables.specs.Accepted.{HaveOffsets, HaveSync, HaveBytes, composition_offsets_at, bytes_at, groupings_at, HaveGroups, IsAccepted, tables_at}
+use Rattle.mp4_tables.specs.Keys.{keys_seen}
 use Rattle.mp4_tables.specs.declared.leaves.Limits.{Limits}
 use Rattle.mp4_tables.specs.declared.places.RowsAt.{RowsAt}
 use Rattle.mp4_tables.specs.declared.places.BytesAt.{BytesAt}
@@ -27,6 +28,7 @@ use Rattle.mp4_tables.specs.declared.places.SizeForm.TheVariants as forms
 use Rattle.mp4_tables.specs.declared.places.OffsetsAt.{OffsetsAt}
 use Rattle.mp4_tables.specs.declared.places.ChunksAt.{ChunksAt}
 use Rattle.mp4_tables.specs.declared.places.GroupsAt.{GroupsAt}
+use Rattle.mp4_tables.specs.declared.places.TablesAt.{TablesAt}
 
 -- the boxes in front of the payload of a box: its children, where they are those of the profile
 unfoldable pub boxes_of : Box → List Box
@@ -238,3 +240,26 @@ pub record GroupsRead (stbl : Box) (n : ℕ) (at : GroupsAt) : Type 0 where
   pub so : GroupsSo stbl.payload n (tables_in stbl).groups at
   pub groups : AllOf (codes "sbgp") (IsReadable sbgp) (boxes_of stbl)
   pub described : AllOf (codes "sgpd") (IsSound sgpd) (boxes_of stbl)
+
+-- The tables of an `stbl` that a check accepts: each leaf but `stsd` is sound, they keep all rules, and there is room for their samples.
+pub record AreAccepted (l : Limits) (stbl : Box) (boxes : List Box) : Type 0 where
+  pub sizes : AllOf (codes "stsz") (IsSound stsz) boxes
+  pub compact : AllOf (codes "stz2") (IsSound stz2) boxes
+  pub durations : AllOf (codes "stts") (IsSound stts) boxes
+  pub offsets : AllOf (codes "ctts") (IsSound ctts) boxes
+  pub narrow : AllOf (codes "stco") (IsSound stco) boxes
+  pub wide : AllOf (codes "co64") (IsSound co64) boxes
+  pub chunk_rows : AllOf (codes "stsc") (IsSound stsc) boxes
+  pub sync : AllOf (codes "stss") (IsSound stss) boxes
+  pub dependencies : AllOf (codes "sdtp") (IsSound sdtp) boxes
+  pub groups : AllOf (codes "sbgp") (IsReadable sbgp) boxes
+  pub described : AllOf (codes "sgpd") (IsSound sgpd) boxes
+  pub fit : Fit (surroundings_of l) (tables_of boxes)
+  pub few : length (tables_of boxes).sizes ≤ l.room
+
+-- the tables that were read are those of the boxes, and accepted
+pub record TablesRead (l : Limits) (stbl : Box) (at : TablesAt) : Type 0 where
+  pub accepted : IsAccepted stbl.payload at
+  pub same : tables_at stbl.payload at ≡ tables_in stbl
+  pub all : AreAccepted l stbl (boxes_of stbl)
+  pub keys : keys_seen at.groups.keys ≡ keys_after [] (tables_in stbl).groups

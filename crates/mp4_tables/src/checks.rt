@@ -2,13 +2,15 @@
 ghost use Rattle.std.specs.Prelude.{◌≡◌, ◌+◌, ◌*◌, ◌≤◌, length, nat_eq, IfOk, IfErr};
 ghost use Rattle.mp4_boxes.specs.Layout.{version};
 ghost use Rattle.mp4_boxes.specs.View.{box_seen};
-ghost use Rattle.mp4_tables.specs.Leaves.{HasTables, SizesKnown, DurationsRead, OffsetsRead, ChunksRead, ChunkRowsRead, IsOffsetsLeaf, SyncRead, DependenciesRead, SizesRead, PlacesRead, IsFault};
+ghost use Rattle.mp4_tables.specs.Leaves.{HasTables, SizesKnown, DurationsRead, OffsetsRead, ChunksRead, ChunkRowsRead, IsOffsetsLeaf, SyncRead, DependenciesRead, SizesRead, PlacesRead, TablesRead, IsFault};
 ghost use Rattle.mp4_tables.specs.Accepted.{offset_rows, count_of};
 
 use crate::chunks::{are_described, are_ordered, chunk_counts_are};
+use crate::group_checks::read_groups;
 use crate::leaves::{Limits, fault_at, first_of, only_of, place_in, table_rows, version_of};
-use crate::places::{BytesAt, ChunksAt, OffsetsAt, RowsAt, SizesAt};
+use crate::places::{BytesAt, ChunksAt, OffsetsAt, RowsAt, SizesAt, TablesAt};
 use crate::runs::{are_below, counts_are};
+use crate::size_checks::read_sizes;
 use crate::spots::lie_within;
 use crate::sync_samples::are_numbers;
 use mp4_boxes::{BoxView, Fault, FourCc, Kind, Steps};
@@ -221,4 +223,32 @@ pub(crate) fn check_places<L: Ledger>(
         return Err(fault_at(offsets_leaf(stbl), Kind::SampleOutsideFile));
     }
     Ok(())
+}
+
+// The tables of an `stbl`.
+pub(crate) fn read_tables<L: Ledger>(stbl: BoxView, limits: Limits, steps: &mut Steps<L>) -> Result<TablesAt, Fault>
+    requires { HasTables (box_seen stbl) }
+    ensures tables { IfOk result (TablesRead limits (box_seen stbl.entry)) }
+    ensures fault { IfErr result (IsFault limits (box_seen stbl.entry)) }
+{
+    let sizes = read_sizes(stbl, limits)?;
+    let n = sizes.rows.count;
+    let durations = read_durations(stbl, limits, n, steps)?;
+    let offsets = read_offsets(stbl, limits, n, steps)?;
+    let chunks = read_chunks(stbl, limits)?;
+    let chunk_rows = read_chunk_rows(stbl, limits, chunks, n, steps)?;
+    check_places(stbl, limits, sizes, chunks, chunk_rows, steps)?;
+    let sync = read_sync(stbl, limits, n, steps)?;
+    let dependencies = read_dependencies(stbl, limits, n)?;
+    let groups = read_groups(stbl, limits, n, steps)?;
+    Ok(TablesAt {
+        sizes,
+        durations,
+        offsets,
+        chunk_rows,
+        chunks,
+        sync,
+        dependencies,
+        groups,
+    })
 }

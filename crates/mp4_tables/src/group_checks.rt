@@ -163,3 +163,22 @@ fn no_groups(payload: &[u8], n: u32) -> GroupsAt
         fourth: NO_ROWS,
     }
 }
+
+// The rows of each `sbgp` of `n` samples.
+pub(crate) fn read_groups<L: Ledger>(
+    stbl: BoxView,
+    limits: Limits,
+    n: u32,
+    steps: &mut Steps<L>,
+) -> Result<GroupsAt, Fault>
+    requires tables { HasTables (box_seen stbl) }
+    requires sizes { SizesKnown (box_seen stbl) n }
+    ensures groups { IfOk result (GroupsRead (box_seen stbl.entry) n) }
+    ensures fault { IfErr result (IsFault limits (box_seen stbl.entry)) }
+{
+    let mut groups = no_groups(stbl.payload(), n);
+    for child in children_of(stbl) {
+        groups = read_child(stbl, child, groups, n, steps)?;
+    }
+    Ok(groups)
+}

@@ -1,7 +1,11 @@
 //! The tables of a track, checked once.
+use crate::checks::read_tables;
+use crate::keys::Keys;
+use crate::leaves::Limits;
 use crate::places::TablesAt;
-use mp4_boxes::BoxView;
+use mp4_boxes::{BoxView, Fault, Steps};
 use std::marker::Model;
+use std::sync::ledger::Ledger;
 
 /// The tables of a track that agree with each other, with the file and with the limits.
 #[derive(Drop)]
@@ -23,10 +27,43 @@ impl<'a> Model for Tables<'a> {
 }
 
 impl<'a> Tables<'a> {
-    ghost use Rattle.std.specs.Prelude.{◌≡◌, length};
+    ghost use Rattle.std.specs.Prelude.{◌≡◌, [], length, IfOk, IfErr};
     ghost use Rattle.mp4_boxes.specs.View.{box_seen};
+    ghost use Rattle.mp4_tables.specs.Groups.{keys_after};
+    ghost use Rattle.mp4_tables.specs.Keys.{keys_seen};
+    ghost use Rattle.mp4_tables.specs.Leaves.{HasTables, TablesRead, tables_in, IsFault};
     ghost use Rattle.mp4_tables.specs.Views.{tables_seen};
     ghost use Rattle.mp4_tables.specs.Accepted.{IsAccepted};
+
+    /// The tables of an `stbl` with the children of the profile, in a file of so many bytes, for a track with so many
+    /// descriptions, where so many samples are still allowed: if each has its shape and they agree with each other and
+    /// are in range; else what is wrong with them first. `keys` becomes the keys that the tables name.
+    pub fn check<L: Ledger>(
+        stbl: BoxView<'a>,
+        file_len: u64,
+        descriptions: u32,
+        room: u32,
+        keys: &mut Keys,
+        steps: &mut Steps<L>,
+    ) -> Result<Tables<'a>, Fault>
+        requires { HasTables (box_seen stbl) }
+        ensures payload { IfOk result (λ t. t.payload ≡ (box_seen stbl.entry).payload) }
+        ensures tables { IfOk result (λ t. TablesRead (record { file_len = file_len; descriptions = descriptions; room = room }) (box_seen stbl.entry) t.at) }
+        ensures keys { IfOk result (λ _. keys_seen keys.new ≡ keys_after [] (tables_in (box_seen stbl.entry)).groups) }
+        ensures fault { IfErr result (IsFault (record { file_len = file_len; descriptions = descriptions; room = room }) (box_seen stbl.entry)) }
+    {
+        let limits = Limits {
+            file_len,
+            descriptions,
+            room,
+        };
+        let at = read_tables(stbl, limits, steps)?;
+        *keys = at.groups.keys;
+        Ok(Tables {
+            payload: stbl.payload(),
+            at,
+        })
+    }
 
     /// How many samples there are.
     #[tactic(auto, using(crate::proofs::PlaceLists::count_is))]

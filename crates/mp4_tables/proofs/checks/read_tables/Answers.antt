@@ -1,0 +1,38 @@
+use Rattle.std.proofs.Common.{◌<◌, ◌^◌, rules}
+use Rattle.mp4_boxes.specs.View.{box_seen}
+use Rattle.mp4_tables.proofs.SizeReads.{sizes_known}
+use Rattle.mp4_tables.proofs.Assembly.{tables_read}
+use Rattle.mp4_tables.proofs.checks.read_tables.Goals as goal
+
+pub read_durations-requires-clause-sizes : goal.read_durations-requires-clause-sizes
+read_durations-requires-clause-sizes g c = sizes_known c.args.limits (box_seen c.args.stbl) c.in_ok-sizes.sizes c.in_ok-sizes.ensures.sizes
+
+pub read_offsets-requires-clause-sizes : goal.read_offsets-requires-clause-sizes
+read_offsets-requires-clause-sizes g c = sizes_known c.args.limits (box_seen c.args.stbl) c.in_ok-sizes.sizes c.in_ok-sizes.ensures.sizes
+
+pub read_chunk_rows-requires-clause-sizes : goal.read_chunk_rows-requires-clause-sizes
+read_chunk_rows-requires-clause-sizes g c = sizes_known c.args.limits (box_seen c.args.stbl) c.in_ok-sizes.sizes c.in_ok-sizes.ensures.sizes
+
+pub read_sync-requires-clause-sizes : goal.read_sync-requires-clause-sizes
+read_sync-requires-clause-sizes g c = sizes_known c.args.limits (box_seen c.args.stbl) c.in_ok-sizes.sizes c.in_ok-sizes.ensures.sizes
+
+pub read_dependencies-requires-clause-sizes : goal.read_dependencies-requires-clause-sizes
+read_dependencies-requires-clause-sizes g c = sizes_known c.args.limits (box_seen c.args.stbl) c.in_ok-sizes.sizes c.in_ok-sizes.ensures.sizes
+
+pub read_groups-requires-clause-sizes : goal.read_groups-requires-clause-sizes
+read_groups-requires-clause-sizes g c = sizes_known c.args.limits (box_seen c.args.stbl) c.in_ok-sizes.sizes c.in_ok-sizes.ensures.sizes
+
+pub returns-clause-tables : goal.returns-clause-tables
+returns-clause-tables g c =
+    let small : c.args.limits.file_len < 2 ^ 64 = search rules in
+    tables_read c.args.limits (box_seen c.args.stbl) _ small (record {
+      sizes = c.in_ok-sizes.ensures.sizes;
+      durations = c.in_ok-durations.ensures.rows;
+      offsets = c.in_ok-offsets.ensures.rows;
+      chunks = c.in_ok-chunks.ensures.rows;
+      chunk_rows = c.in_ok-chunk_rows.ensures.rows;
+      places = c.in_ok-check_places.ensures.places;
+      sync = c.in_ok-sync.ensures.rows;
+      dependencies = c.in_ok-dependencies.ensures.rows;
+      groups = c.in_ok-groups.ensures.groups
+    })
