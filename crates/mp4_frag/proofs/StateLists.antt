@@ -1,6 +1,5 @@
 -- Tracks with room for samples.
-use Rattle.std.proofs.Common.{◌≡◌, ℕ, ◌+◌, ◌*◌, ◌^◌, ◌<◌, ◌≤◌, List, [], ◌∷◌, length, slice_set, slice_index_or, zero, suc, refl, rules, arith}
-use Rattle.std.specs.List.{AllByRecursion}
+use Rattle.std.proofs.Common.{ℕ, ◌<◌, ◌≤◌, List, [], ◌∷◌, length, slice_set, slice_index_or, zero, suc, rules, arith}
 use Rattle.mp4_boxes.proofs.Each.{each_weaker}
 use Rattle.mp4_frag.specs.States.{HasRoom, HaveRoom}
 use Rattle.mp4_frag.specs.declared.state.TrackState.{TrackState}
