@@ -1,15 +1,14 @@
 -- What was read of each table makes the tables of an `stbl`, accepted.
-use Rattle.std.proofs.Common.{◌≡◌, ℕ, ◌<◌, ◌≤◌, ◌^◌, List, [], length, subst, refl, ap, sym, ◌∙◌, arith, Bool, true, Option}
+use Rattle.std.proofs.Common.{◌≡◌, ℕ, ◌<◌, ◌^◌, List, [], length, subst, ap, sym, ◌∙◌, arith, true}
 use Rattle.std.specs.Prelude.{option_map, unwrap_or, nat_le, ◌==◌, ℤ}
 use Rattle.mp4_boxes.specs.Box.{Box}
 use Rattle.mp4_tables.specs.Repeated.{total}
 use Rattle.mp4_tables.specs.Groups.{keys_after, group_test}
-use Rattle.mp4_tables.specs.Tables.{Tables}
 use Rattle.mp4_tables.specs.PlainSamples.{in_chunks_total}
-use Rattle.mp4_tables.specs.TableRules.{TableRule, dependency_room, duration_counts, offset_counts, chunk_counts, chunk_order, sync_order, description_indexes, places, table_group, Fit, test, is_sync_order}
-use Rattle.mp4_tables.specs.Accepted.{tables_at, IsAccepted, HaveTables, groupings_at, group_rows}
+use Rattle.mp4_tables.specs.TableRules.{dependency_room, duration_counts, offset_counts, chunk_counts, chunk_order, sync_order, description_indexes, places, table_group, Fit, is_sync_order}
+use Rattle.mp4_tables.specs.Accepted.{tables_at, group_rows}
 use Rattle.mp4_tables.specs.Keys.{keys_seen}
-use Rattle.mp4_tables.specs.Leaves.{boxes_of, tables_in, surroundings_of, SizesRead, DurationsRead, OffsetsRead, ChunksRead, ChunkRowsRead, PlacesRead, SyncRead, DependenciesRead, GroupsRead, GroupsSo, AreAccepted, TablesRead}
+use Rattle.mp4_tables.specs.Leaves.{tables_in, surroundings_of, SizesRead, DurationsRead, OffsetsRead, ChunksRead, ChunkRowsRead, PlacesRead, SyncRead, DependenciesRead, GroupsRead, TablesRead}
 use Rattle.mp4_tables.specs.declared.leaves.Limits.{Limits}
 use Rattle.mp4_tables.specs.declared.places.TablesAt.{TablesAt}
 use Rattle.mp4_tables.proofs.SizeReads.{sizes_known}
@@ -48,8 +47,8 @@ same_tables l stbl at p = λ i. record {
   chunk_offsets = p.chunks.same i;
   sync = p.sync.same i;
   dependencies = p.dependencies.same i;
-  groups = p.groups.so.same i
-  }
+  groups = p.groups.so.same i;
+}
 
 pub tables_read : (l : Limits) (stbl : Box) (at : TablesAt) → l.file_len < 2 ^ 64 → Parts l stbl at → TablesRead l stbl at
 tables_read l stbl at small p =
@@ -62,13 +61,23 @@ tables_read l stbl at small p =
         have = record { sizes = p.sizes.have; durations = p.durations.have; offsets = p.offsets.have; chunk_rows = p.chunk_rows.have; chunks = p.chunks.have; sync = p.sync.have; dependencies = p.dependencies.have; groups = p.groups.so.have };
         surroundings = surroundings_of l;
         small = small;
-        fit = subst (Fit (surroundings_of l)) (sym same) fit
+        fit = subst (Fit (surroundings_of l)) (sym same) fit;
       };
       same = same;
       all = record {
-        sizes = p.sizes.words; compact = p.sizes.compact; durations = p.durations.sound; offsets = p.offsets.sound; narrow = p.chunks.narrow; wide = p.chunks.wide;
-        chunk_rows = p.chunk_rows.sound; sync = p.sync.sound; dependencies = p.dependencies.sound; groups = p.groups.groups; described = p.groups.described;
-        fit = fit; few = omega arith
+        sizes = p.sizes.words;
+        compact = p.sizes.compact;
+        durations = p.durations.sound;
+        offsets = p.offsets.sound;
+        narrow = p.chunks.narrow;
+        wide = p.chunks.wide;
+        chunk_rows = p.chunk_rows.sound;
+        sync = p.sync.sound;
+        dependencies = p.dependencies.sound;
+        groups = p.groups.groups;
+        described = p.groups.described;
+        fit = fit;
+        few = omega arith;
       };
-      keys = sym (group_keys (keys_seen at.groups.keys) (group_rows stbl.payload at.groups) p.groups.so.have.distinct p.groups.so.have.used) ∙ ap (keys_after []) p.groups.so.same
+      keys = sym (group_keys (keys_seen at.groups.keys) (group_rows stbl.payload at.groups) p.groups.so.have.distinct p.groups.so.have.used) ∙ ap (keys_after []) p.groups.so.same;
     }

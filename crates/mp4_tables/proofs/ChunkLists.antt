@@ -1,18 +1,18 @@
 -- The rows of `stsc`: which of them a chunk has, and where its samples lie.
-use Rattle.std.proofs.Common.{◌≡◌, ℕ, zero, suc, ◌+◌, ◌-◌, ◌*◌, ◌<◌, ◌≤◌, ◌⊎◌, inl, inr, List, [], ◌∷◌, ◌++◌, length, take, drop, map, filter, subst, refl, ap, sym, ◌∙◌, arith, add-one, Bool, true, false, cond, nat_le, nat_lt, nat_eq, Option, Some, None, unwrap_or, length-append, length-take, length-drop}
-use Rattle.std.specs.Prelude.{ℤ, pos, ◌+ℤ◌, ◌&&◌, ◌||◌, not, ◌==◌}
-use Rattle.std.specs.List.{last_or, list_all}
+use Rattle.std.proofs.Common.{◌≡◌, ℕ, suc, ◌+◌, ◌-◌, ◌<◌, ◌≤◌, List, [], ◌∷◌, ◌++◌, take, drop, map, filter, subst, refl, ap, sym, ◌∙◌, arith, Bool, true, false, nat_le, nat_lt, nat_eq, Some, None, unwrap_or}
+use Rattle.std.specs.Prelude.{pos, ◌&&◌, ◌||◌, ◌==◌}
+use Rattle.std.specs.List.{last_or}
 use Rattle.std.proofs.lemmas.Bool.Decides.{nat_tests}
 use Rattle.mp4_tables.specs.Tables.{ChunkRow}
-use Rattle.mp4_tables.specs.PlainSamples.{Spot, row_of_chunk, laid_out, in_chunks, in_chunks_total}
+use Rattle.mp4_tables.specs.PlainSamples.{row_of_chunk, laid_out, in_chunks, in_chunks_total}
 use Rattle.mp4_tables.specs.TableRules.{is_rising_after, is_chunk_order, is_index}
-use Rattle.mp4_tables.specs.Coming.{row_after, row_in_hand, IsRowPlace, spots_coming, no_spots, next_spot, are_described, IsChunkPlace}
+use Rattle.mp4_tables.specs.Coming.{row_after, row_in_hand, IsRowPlace, spots_coming, no_spots, next_spot, are_described}
 use Rattle.mp4_tables.specs.Rows.{offsets_at, offset_width, chunk_rows_at}
 use Rattle.mp4_tables.specs.declared.places.RowsAt.{RowsAt}
 use Rattle.mp4_tables.specs.declared.places.ChunksAt.{ChunksAt}
 use Rattle.mp4_tables.specs.declared.places.RowPlace.{RowPlace}
 use Rattle.mp4_tables.specs.declared.places.ChunkPlace.{ChunkPlace}
-use Rattle.mp4_tables.proofs.RowLists.{numbers_more, numbers_all, numbers_length, chunk_rows_length, chunk_rows_all}
+use Rattle.mp4_tables.proofs.RowLists.{numbers_more, numbers_all, chunk_rows_all}
 
 pub yes_le : (a b : ℕ) → a ≤ b → nat_le a b ≡ true
 yes_le a b h = grind (arith, nat_tests)
@@ -86,7 +86,7 @@ row_taken rows c p r at e h =
     record {
       first = r.first;
       same = λ d l. at.same d (omega arith) ∙ ap (λ rs. row_after (row_in_hand at.first p) rs d) e ∙ row_taken_up (row_in_hand at.first p) r (drop (p.row + 1) rows) d (omega arith);
-      rising = subst (λ n. is_rising_after n (map (λ (row : ChunkRow). row.first) (drop (p.row + 1) rows)) ≡ true) next parts.1
+      rising = subst (λ n. is_rising_after n (map (λ (row : ChunkRow). row.first) (drop (p.row + 1) rows)) ≡ true) next parts.1;
     }
 
 -- the next chunk goes on with the row in hand
@@ -97,7 +97,7 @@ row_kept rows c p r at e h =
     record {
       first = at.first;
       same = λ d l. at.same d (omega arith);
-      rising = ap (λ rs. is_rising_after (c + 1) (map (λ (row : ChunkRow). row.first) rs)) e ∙ rw (yes_lt (c + 1) r.first h) parts.1
+      rising = ap (λ rs. is_rising_after (c + 1) (map (λ (row : ChunkRow). row.first) rs)) e ∙ rw (yes_lt (c + 1) r.first h) parts.1;
     }
 
 -- it does so behind the last row
@@ -105,8 +105,8 @@ pub row_kept_last : (rows : List ChunkRow) (c : ℕ) (p : RowPlace) → IsRowPla
 row_kept_last rows c p at e = record {
   first = at.first;
   same = λ d l. at.same d (omega arith);
-  rising = ap (λ rs. is_rising_after (c + 1) (map (λ (row : ChunkRow). row.first) rs)) e
-  }
+  rising = ap (λ rs. is_rising_after (c + 1) (map (λ (row : ChunkRow). row.first) rs)) e;
+}
 
 first_order : (rows : List ChunkRow) → is_chunk_order (map (λ (row : ChunkRow). row.first) rows) true ≡ true → is_rising_after 0 (map (λ (row : ChunkRow). row.first) rows) ≡ true
 first_order [] e = refl
@@ -123,8 +123,8 @@ row_none : (rows : List ChunkRow) (has_chunks : Bool) → is_chunk_order (map (�
 row_none rows has_chunks e h = record {
   first = 0;
   same = λ d l. refl;
-  rising = first_order rows (ap (is_chunk_order (map (λ (row : ChunkRow). row.first) rows)) (sym h) ∙ e)
-  }
+  rising = first_order rows (ap (is_chunk_order (map (λ (row : ChunkRow). row.first) rows)) (sym h) ∙ e);
+}
 
 pub row_before : (rows : List ChunkRow) (chunks : ℕ) (p : RowPlace) → is_chunk_order (map (λ (row : ChunkRow). row.first) rows) (nat_lt 0 chunks) ≡ true → p ≡ record { row = 0; samples = 0; description = 0 } → 0 < chunks → IsRowPlace rows 0 p
 row_before rows chunks p e is some = subst (λ q. IsRowPlace rows 0 q) (sym is) (row_none rows (nat_lt 0 chunks) e (yes_lt 0 chunks some))
@@ -149,7 +149,7 @@ spots_more rows offsets k at was p offset e row =
     let count = count_here rows (k + 1) p row in
     let description = description_here rows (k + 1) p row in
     let opens : (sizes : List ℕ) → in_chunks rows (k + 1) (offset ∷ drop (k + 1) offsets) sizes
-        ≡ laid_out (pos offset) p.description (take p.samples sizes) ++ in_chunks rows (k + 1 + 1) (drop (k + 1) offsets) (drop p.samples sizes) = λ sizes. rw (count, description) refl in
+    ≡ laid_out (pos offset) p.description (take p.samples sizes) ++ in_chunks rows (k + 1 + 1) (drop (k + 1) offsets) (drop p.samples sizes) = λ sizes. rw (count, description) refl in
     λ i sizes. (ap (λ os. in_chunks rows (k + 1) os sizes) e ∙ opens sizes) i
 
 pub spots_all : (rows : List ChunkRow) (offsets : List ℕ) (k at : ℕ) (was : RowPlace) → drop k offsets ≡ [] → spots_coming rows offsets (record { opened = k; row = was; left = 0; at = at }) ≡ no_spots
@@ -180,7 +180,7 @@ described_more : (payload : List ℕ) (chunks : ChunksAt) (rows : List ChunkRow)
 described_more payload chunks rows n k p h at =
     ap (are_described n rows (k + 1)) (numbers_more (offset_width chunks.is_wide) payload chunks.rows k h)
     ∙ (let count = count_here rows (k + 1) p at in let description = description_here rows (k + 1) p at in
-       λ i. (nat_eq (count i) 0 || is_index n (description i)) && are_described n rows (k + 1 + 1) (drop (k + 1) (offsets_at payload chunks)))
+    λ i. (nat_eq (count i) 0 || is_index n (description i)) && are_described n rows (k + 1 + 1) (drop (k + 1) (offsets_at payload chunks)))
 
 pub described_yes : (payload : List ℕ) (chunks : ChunksAt) (rows : List ChunkRow) (n k : ℕ) (p : RowPlace) → k < chunks.rows.count → IsRowPlace rows (k + 1) p
     → (nat_eq p.samples 0 || is_index n p.description) ≡ true → are_described n rows (k + 1) (drop k (offsets_at payload chunks)) ≡ are_described n rows (k + 1 + 1) (drop (k + 1) (offsets_at payload chunks))
@@ -207,6 +207,7 @@ opened_all payload chunks rows p h e =
     ∙ spots_all rows (offsets_at payload chunks) p.opened p.at p.row (numbers_all (offset_width chunks.is_wide) payload chunks.rows p.opened h)
 
 pub ruleset chunk_samples = (samples_more, samples_all)
+
 pub ruleset opening = (opened_more, opened_all)
 
 -- a sum that has passed a number is not that number

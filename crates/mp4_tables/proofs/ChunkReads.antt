@@ -1,32 +1,29 @@
 -- What was read of `ctts`, of the chunks and of where the samples lie, and the faults of these.
-use Rattle.std.proofs.Common.{◌≡◌, ℕ, zero, suc, ◌+◌, ◌-◌, ◌*◌, ◌^◌, ◌<◌, ◌≤◌, ◌⊎◌, inl, inr, List, [], ◌∷◌, ◌++◌, length, take, drop, map, subst, refl, ap, sym, ◌∙◌, arith, Bool, true, false, cond, Option, Some, None, length-drop, length-take}
-use Rattle.std.specs.Prelude.{bytes_eq, codes, IsTrue, unwrap_or, option_map, nat_eq, nat_le, nat_lt, ◌==◌, ◌||◌, ◌&&◌, not, slice_index, ℤ, pos, ◌+ℤ◌}
+use Rattle.std.proofs.Common.{◌≡◌, ℕ, zero, suc, ◌+◌, ◌*◌, ◌^◌, ◌<◌, ◌≤◌, List, [], ◌∷◌, length, take, drop, map, refl, ap, sym, ◌∙◌, arith, Bool, true, false, Option, Some, None, length-drop, length-take}
+use Rattle.std.specs.Prelude.{codes, unwrap_or, option_map, nat_eq, nat_le, nat_lt, ◌==◌, ◌||◌, ◌&&◌, not, slice_index, ℤ, pos, ◌+ℤ◌}
 use Rattle.std.specs.List.{AllByRecursion, list_all}
 use Rattle.std.proofs.lemmas.Bool.Decides.{nat_tests}
 use Rattle.std.proofs.lemmas.List.Folds.{list_all-append}
 use Rattle.mp4_boxes.specs.Bytes.{field, rows}
-use Rattle.mp4_boxes.specs.Box.{Box, box_container}
-use Rattle.mp4_boxes.specs.Children.{Holds, count_among, is_among, payload_if, payload_of, of_kind, sample_sizes, chunk_offsets, one, at_most_one}
-use Rattle.mp4_boxes.specs.Layout.{Leaf, ctts, stsc, stco, co64, IsSound, IsReadable, version, leaf_rows, needed, too_large, has_large_offset}
-use Rattle.mp4_boxes.specs.Places.{leaf_of, ruled}
-use Rattle.mp4_boxes.specs.BoxFaults.{Fails, fault_of}
-use Rattle.mp4_boxes.specs.declared.rule.Rule.TheVariants.{SampleTable}
+use Rattle.mp4_boxes.specs.Box.{Box}
+use Rattle.mp4_boxes.specs.Children.{count_among, payload_of, sample_sizes, chunk_offsets, one}
+use Rattle.mp4_boxes.specs.Layout.{ctts, stsc, stco, co64, IsSound, IsReadable, version, leaf_rows, needed, too_large, has_large_offset}
+use Rattle.mp4_boxes.specs.BoxFaults.{fault_of}
 use Rattle.mp4_boxes.specs.declared.fault.Fault.{Fault}
 use Rattle.mp4_boxes.specs.declared.fault.Kind.TheVariants.{OffsetTooLarge}
 use Rattle.mp4_boxes.proofs.Refusing.{holds_only, holds_few, line_has}
 use Rattle.mp4_tables.specs.Repeated.{total}
-use Rattle.mp4_tables.specs.Tables.{Tables, ChunkRow, first_number, composition_offset, offsets_of, chunk_rows_of, chunk_offsets_of}
-use Rattle.mp4_tables.specs.PlainSamples.{Spot, row_of_chunk, laid_out, in_chunks, in_chunks_total, spots_of}
-use Rattle.mp4_tables.specs.Rows.{HaveRoom, run_of, chunk_row_of, runs_at, chunk_rows_at, numbers_at, offsets_at, offset_width}
-use Rattle.mp4_tables.specs.TableRules.{TableRule, offset_counts, chunk_counts, chunk_order, description_indexes, places, test, kind_of, reads, AreReadable, is_chunk_order, is_index, lies_within}
-use Rattle.mp4_tables.specs.Coming.{all_below, are_described, all_lie_within}
-use Rattle.mp4_tables.specs.Accepted.{composition_offsets_at, HaveOffsets, AreSmall, offset_version}
-use Rattle.mp4_tables.specs.Leaves.{boxes_of, HasTables, AllOf, IsFirstOf, FailsAs, IsFault, surroundings_of, ShapeFails, RowsRead, tables_in, SizesKnown, OffsetsRead, ChunksRead, ChunkRowsRead, IsOffsetsLeaf}
+use Rattle.mp4_tables.specs.Tables.{ChunkRow, first_number, composition_offset, offsets_of, chunk_rows_of, chunk_offsets_of}
+use Rattle.mp4_tables.specs.PlainSamples.{Spot, row_of_chunk, laid_out, in_chunks, in_chunks_total}
+use Rattle.mp4_tables.specs.Rows.{HaveRoom, run_of, chunk_row_of, runs_at, chunk_rows_at, offsets_at, offset_width}
+use Rattle.mp4_tables.specs.TableRules.{offset_counts, chunk_counts, chunk_order, description_indexes, test, kind_of, AreReadable, is_chunk_order, is_index}
+use Rattle.mp4_tables.specs.Coming.{all_below, are_described}
+use Rattle.mp4_tables.specs.Accepted.{composition_offsets_at, AreSmall, offset_version}
+use Rattle.mp4_tables.specs.Leaves.{boxes_of, HasTables, AllOf, IsFirstOf, IsFault, surroundings_of, ShapeFails, RowsRead, tables_in, SizesKnown, OffsetsRead, ChunksRead, ChunkRowsRead}
 use Rattle.mp4_tables.specs.declared.leaves.Limits.{Limits}
 use Rattle.mp4_tables.specs.declared.places.RowsAt.{RowsAt}
-use Rattle.mp4_tables.specs.declared.places.OffsetsAt.{OffsetsAt}
 use Rattle.mp4_tables.specs.declared.places.ChunksAt.{ChunksAt}
-use Rattle.mp4_tables.proofs.ChunkLists.{yes_le, no_le, yes_lt, lt_yes, both}
+use Rattle.mp4_tables.proofs.ChunkLists.{lt_yes, both}
 use Rattle.mp4_tables.proofs.RowLists.{numbers_length}
 use Rattle.mp4_tables.proofs.Counts.{eqb_is}
 use Rattle.mp4_tables.proofs.LeafLists.{payload_first, payload_none, all_first, all_none, count_each, lies_in, first_is_child, runs_there, chunk_rows_there, numbers_there, shape_fails, shape_readable}
@@ -68,8 +65,8 @@ offsets_are : (stbl b : Box) (r : RowsAt) (s : Bool) → HasTables stbl → IsFi
 offsets_are stbl b r s h i read e =
     ap (option_map offsets_of) (payload_first (codes "ctts") (boxes_of stbl) b i)
     ∙ ap Some (sym (ap (λ runs. map {B = ℕ × ℤ} (λ (run : ℕ × ℕ). (run.0, composition_offset (offset_version s) run.1)) runs) (offset_runs stbl b r h i read)
-      ∙ ap (λ v. map {B = ℕ × ℤ} (λ (run : ℕ × ℕ). (run.0, composition_offset v run.1)) (map run_of (leaf_rows ctts b.payload))) (version_is s (version b.payload) read.version e)
-      ∙ read_twice (version b.payload) (leaf_rows ctts b.payload)))
+    ∙ ap (λ v. map {B = ℕ × ℤ} (λ (run : ℕ × ℕ). (run.0, composition_offset v run.1)) (map run_of (leaf_rows ctts b.payload))) (version_is s (version b.payload) read.version e)
+    ∙ read_twice (version b.payload) (leaf_rows ctts b.payload)))
 
 total_read : (v : ℕ) (runs : List (ℕ × ℕ)) → total (map {B = ℕ × ℤ} (λ (run : ℕ × ℕ). (run.0, composition_offset v run.1)) runs) ≡ total runs
 total_read v [] = refl
@@ -101,6 +98,7 @@ large (r ∷ rs) = turn (slice_index r 1) (too_large (map (λ (r : List ℕ). So
       where
         opposite : (n m : ℕ) → nat_le m n ≡ not (nat_lt n m)
         opposite n m = grind (arith, nat_tests)
+
         flip : (c a b : Bool) → a ≡ not b → (not c || a) ≡ not (c && b)
         flip true a b e = e
         flip false a b e = refl
@@ -144,9 +142,9 @@ offsets_read stbl b r n s h i read e t a = record {
   have = (rows_have 1 8 (codes "ctts") stbl b r h i read, small_as stbl b r s a);
   same = sym (offsets_are stbl b r s h i read e);
   sound = all_first (codes "ctts") (IsSound ctts) (boxes_of stbl) b i (holds_few h (codes "ctts") refl)
-    (record { readable = offsets_readable stbl b r read; value = refl; inside = refl; offsets = not_large stbl b r s h i read e a });
-  count = total_of stbl b r n n true h i read refl t
-  }
+      (record { readable = offsets_readable stbl b r read; value = refl; inside = refl; offsets = not_large stbl b r s h i read e a });
+  count = total_of stbl b r n n true h i read refl t;
+}
 
 pub offsets_none : (stbl : Box) (n : ℕ) → count_among (codes "ctts" ∷ []) (boxes_of stbl) ≡ 0 → OffsetsRead stbl n None
 offsets_none stbl n e =
@@ -187,9 +185,9 @@ narrow_read stbl b r h i read =
     record {
       have = rows_have 0 4 (codes "stco") stbl b r h i read;
       same = numbers_there 0 8 4 stbl b r (lies_in stbl b h (first_is_child (codes "stco") stbl b i)) read ∙ ap (λ n. map first_number (rows n (4 ∷ []) (drop 8 b.payload))) read.count
-        ∙ ap (λ o. chunk_offsets_of o (payload_of (codes "co64") (boxes_of stbl))) (sym (payload_first (codes "stco") (boxes_of stbl) b i));
+          ∙ ap (λ o. chunk_offsets_of o (payload_of (codes "co64") (boxes_of stbl))) (sym (payload_first (codes "stco") (boxes_of stbl) b i));
       narrow = all_first (codes "stco") (IsSound stco) (boxes_of stbl) b i (omega arith) (record { readable = shape_readable stco 0 8 4 stbl b r refl refl (stco_needed b.payload) read; value = refl; inside = refl; offsets = refl });
-      wide = all_none (codes "co64") (IsSound co64) (boxes_of stbl) (omega arith)
+      wide = all_none (codes "co64") (IsSound co64) (boxes_of stbl) (omega arith);
     }
 
 pub wide_read : (stbl b : Box) (r : RowsAt) → HasTables stbl → count_among (codes "stco" ∷ []) (boxes_of stbl) ≡ 0 → IsFirstOf (codes "co64") (boxes_of stbl) b → RowsRead 0 8 8 stbl b r → ChunksRead stbl (record { rows = r; is_wide = true })
@@ -198,10 +196,10 @@ wide_read stbl b r h e i read =
     record {
       have = rows_have 0 8 (codes "co64") stbl b r h i read;
       same = numbers_there 0 8 8 stbl b r (lies_in stbl b h (first_is_child (codes "co64") stbl b i)) read ∙ ap (λ n. map first_number (rows n (8 ∷ []) (drop 8 b.payload))) read.count
-        ∙ ap (λ (payload : List ℕ). map first_number (leaf_rows co64 payload)) (sym (payload_is (codes "co64") (boxes_of stbl) b i))
-        ∙ ap (λ o. chunk_offsets_of o (payload_of (codes "co64") (boxes_of stbl))) (sym (payload_none (codes "stco") (boxes_of stbl) e));
+          ∙ ap (λ (payload : List ℕ). map first_number (leaf_rows co64 payload)) (sym (payload_is (codes "co64") (boxes_of stbl) b i))
+          ∙ ap (λ o. chunk_offsets_of o (payload_of (codes "co64") (boxes_of stbl))) (sym (payload_none (codes "stco") (boxes_of stbl) e));
       narrow = all_none (codes "stco") (IsSound stco) (boxes_of stbl) e;
-      wide = all_first (codes "co64") (IsSound co64) (boxes_of stbl) b i (omega arith) (record { readable = shape_readable co64 0 8 8 stbl b r refl refl (co64_needed b.payload) read; value = refl; inside = refl; offsets = refl })
+      wide = all_first (codes "co64") (IsSound co64) (boxes_of stbl) b i (omega arith) (record { readable = shape_readable co64 0 8 8 stbl b r refl refl (co64_needed b.payload) read; value = refl; inside = refl; offsets = refl });
     }
 
 -- ---- rows of `stsc`
@@ -275,6 +273,7 @@ laid_described n at description (size ∷ sizes) =
     choose true true = refl
     choose true false = refl
     choose false b = refl
+
     never : (m : ℕ) → nat_eq (suc m) 0 ≡ false
     never m = grind (arith, nat_tests)
 
@@ -315,8 +314,8 @@ chunk_rows_read l stbl b at r n h i read k sizes o e t = record {
   sound = chunk_rows_sound stbl b r h i read;
   ordered = order_as l stbl b at r true h i read k o;
   count = counts_as stbl b at r n n true h i read k refl e;
-  described = described_as l stbl b at r n true h i read k sizes e t
-  }
+  described = described_as l stbl b at r n true h i read k sizes e t;
+}
 
 -- an offset of a chunk takes four bytes at least
 pub narrower : (stbl : Box) (at : ChunksAt) → ChunksRead stbl at → at.rows.place + 4 * at.rows.count ≤ length stbl.payload

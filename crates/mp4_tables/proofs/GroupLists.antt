@@ -1,13 +1,13 @@
 -- Indexes of samples by their rows.
-use Rattle.std.proofs.Common.{◌≡◌, ℕ, zero, suc, ◌+◌, ◌-◌, ◌<◌, ◌≤◌, List, [], ◌∷◌, ◌++◌, length, drop, replicate, slice_index, refl, ap, sym, subst, ◌∙◌, arith, inl, inr, length-drop}
+use Rattle.std.proofs.Common.{◌≡◌, ℕ, zero, suc, ◌+◌, ◌-◌, ◌<◌, ◌≤◌, List, [], ◌∷◌, length, drop, replicate, slice_index, ap, sym, subst, ◌∙◌, arith, inl, inr, length-drop}
 use Rattle.std.specs.List.{AllByRecursion}
-use Rattle.std.proofs.lemmas.List.{drop_all, drop-drop, get_or-drop}
+use Rattle.std.proofs.lemmas.List.{drop-drop, get_or-drop}
 use Rattle.std.proofs.lemmas.Bool.{cases_lt}
 use Rattle.mp4_boxes.proofs.Among.{all_append}
 use Rattle.mp4_tables.specs.Repeated.{repeated}
 use Rattle.mp4_tables.specs.Rows.{runs_at}
 use Rattle.mp4_tables.specs.Coming.{coming, IsRunPlace}
-use Rattle.mp4_tables.specs.Accepted.{IsRunPlaceAt, AreIndexes}
+use Rattle.mp4_tables.specs.Accepted.{IsRunPlaceAt}
 use Rattle.mp4_tables.specs.declared.places.RowsAt.{RowsAt}
 use Rattle.mp4_tables.specs.declared.places.RunPlace.{RunPlace}
 use Rattle.mp4_tables.proofs.RowLists.{runs_length, first_left}
@@ -24,7 +24,7 @@ run_first payload at p same settled within =
     record {
       rest = rest;
       settled = λ h. sym rest ∙ settled h;
-      within = omega (arith, runs_length payload at)
+      within = omega (arith, runs_length payload at);
     }
 
 pub ruleset starting = (run_first)
@@ -56,7 +56,7 @@ run_passed payload at p q values k was next settled within =
     record {
       rest = sym rest;
       settled = λ h. rest ∙ settled h;
-      within = omega (arith, runs_length payload at)
+      within = omega (arith, runs_length payload at);
     }
 
 -- behind the last value there is nothing to pass
@@ -67,7 +67,7 @@ run_ended runs p values k at e =
     record {
       rest = at.rest ∙ none ∙ sym rest;
       settled = λ _. rest;
-      within = at.within
+      within = at.within;
     }
 
 pub index_ended : (runs : List (ℕ × ℕ)) (p : RunPlace) (values : List ℕ) (k : ℕ) → IsRunPlace runs p (drop k values) → p.left ≡ 0 → slice_index values k ≡ 0

@@ -1,14 +1,14 @@
 -- Sample groups one after the other: with one more their rules are kept where it keeps them.
-use Rattle.std.proofs.Common.{◌≡◌, ◌≢◌, ℕ, zero, suc, ◌+◌, ◌-◌, ◌*◌, ◌<◌, ◌≤◌, ◌⊎◌, inl, inr, List, [], ◌∷◌, ◌++◌, length, take, drop, map, subst, refl, ap, sym, ◌∙◌, arith, Bool, true, false, cond, Option, Some, None, length-append}
-use Rattle.std.specs.Prelude.{nat_le, nat_lt, ◌==◌, ◌||◌, ◌&&◌, not, slice_index, bytes_eq, codes}
+use Rattle.std.proofs.Common.{◌≡◌, ◌≢◌, ℕ, zero, suc, ◌+◌, ◌*◌, ◌<◌, ◌≤◌, inl, inr, List, [], ◌∷◌, ◌++◌, length, take, drop, map, subst, refl, ap, sym, ◌∙◌, arith, Bool, true, false, cond, Option, Some, None, length-append}
+use Rattle.std.specs.Prelude.{nat_le, nat_lt, ◌==◌, ◌||◌, ◌&&◌, not, bytes_eq, codes}
 use Rattle.std.specs.List.{AllByRecursion, list_all, list_any, slice_get}
 use Rattle.std.proofs.lemmas.Bool.{cases_lt}
 use Rattle.std.proofs.lemmas.Bool.Decides.{nat_tests}
-use Rattle.std.proofs.lemmas.List.{length-map, append-nil, append_assoc}
+use Rattle.std.proofs.lemmas.List.{append-nil, append_assoc}
 use Rattle.mp4_tables.proofs.RowLists.{runs_all}
 use Rattle.mp4_boxes.proofs.Among.{all_append, of_kind-split, of_kind-append}
 use Rattle.mp4_tables.specs.Repeated.{total}
-use Rattle.mp4_tables.specs.Groups.{GroupKey, Grouping, GroupRule, one_of_key, few_keys, index_range, group_counts, same_key, keys_after, grouping_of, groupings_of, key_of, keeps, group_test, group_reads, group_kind}
+use Rattle.mp4_tables.specs.Groups.{GroupKey, Grouping, GroupRule, one_of_key, few_keys, index_range, group_counts, same_key, keys_after, grouping_of, groupings_of, keeps, group_test, group_reads, group_kind}
 use Rattle.mp4_tables.specs.Keys.{keys_seen}
 use Rattle.mp4_tables.specs.Rows.{HaveRoom, run_of, runs_at}
 use Rattle.mp4_tables.specs.Coming.{all_below}
@@ -26,7 +26,7 @@ use Rattle.mp4_tables.proofs.ChunkReads.{no_readable}
 use Rattle.mp4_boxes.specs.BoxFaults.{fault_of}
 use Rattle.mp4_boxes.specs.declared.fault.Fault.{Fault}
 use Rattle.mp4_boxes.specs.declared.fault.Kind.TheVariants.{ShortBox}
-use Rattle.mp4_tables.specs.Leaves.{GroupsSo, SlotTaken, GroupRead, HasTables, IsChild, LiesIn, FailsAs, VersionFails, RowsFail, RowsRead, boxes_of, AllOf, tables_in, SizesKnown, IsFault, ChildFails, ChildRead, OtherChild, GroupNext, GroupFails, GroupRuleFails, GroupsRead}
+use Rattle.mp4_tables.specs.Leaves.{GroupsSo, SlotTaken, GroupRead, HasTables, IsChild, LiesIn, FailsAs, VersionFails, RowsFail, RowsRead, boxes_of, AllOf, tables_in, SizesKnown, IsFault, ChildFails, ChildRead, GroupNext, GroupFails, GroupsRead}
 use Rattle.mp4_tables.proofs.LeafLists.{lies_in, room_there, runs_there, version_fails}
 use Rattle.mp4_tables.specs.declared.places.RowsAt.{RowsAt}
 use Rattle.mp4_tables.specs.declared.places.GroupsAt.{GroupsAt}
@@ -94,9 +94,10 @@ any_mapped key (g ∷ gs) = ap (λ b. same_key key g.key || b) (any_mapped key g
 
 -- the keys of `sbgp`s that were read
 keys_read : (payload : List ℕ) (at : GroupsAt) (gs : List Grouping) → groupings_at payload at ≡ gs → HaveGroups payload at → (map (λ (h : Grouping). h.key) gs ≡ keys_seen at.keys) × (keys_after [] gs ≡ keys_seen at.keys)
-keys_read payload at gs e h =
-    (ap (λ hs. map (λ (h : Grouping). h.key) hs) (sym e) ∙ grouped_keys (keys_seen at.keys) (group_rows payload at) h.used,
-      ap (keys_after []) (sym e) ∙ group_keys (keys_seen at.keys) (group_rows payload at) h.distinct h.used)
+keys_read payload at gs e h = (
+  ap (λ hs. map (λ (h : Grouping). h.key) hs) (sym e) ∙ grouped_keys (keys_seen at.keys) (group_rows payload at) h.used,
+  ap (keys_after []) (sym e) ∙ group_keys (keys_seen at.keys) (group_rows payload at) h.distinct h.used,
+)
 
 pub keeps_key : (payload : List ℕ) (n m : ℕ) (at : GroupsAt) (gs : List Grouping) (g : Grouping) (v : Bool) → GroupsSo payload n gs at → list_any (same_key g.key) (keys_seen at.keys) ≡ v → keeps one_of_key m [] gs g ≡ not v
 keeps_key payload n m at gs g v s h = ap not (any_mapped g.key gs ∙ ap (list_any (same_key g.key)) (keys_read payload at gs s.same s.have).0 ∙ h)
@@ -111,6 +112,7 @@ keeps_range n gs g v e = of g.rows ∙ e
   where
     same : (x : ℕ) → nat_le x 65535 ≡ nat_lt x 65536
     same x = grind (arith, nat_tests)
+
     of : (runs : List (ℕ × ℕ)) → list_all (λ (row : ℕ × ℕ). nat_le row.1 65535) runs ≡ all_below 65536 runs
     of [] = refl
     of (run ∷ runs) = let a = same run.1 in let b = of runs in λ i. a i && b i
@@ -179,10 +181,15 @@ group_added payload n m at after gs k r s ks e slot new l room small few =
     let many : (length keys == 4) ≡ false = not_four (length keys) (omega arith) in
     record {
       same = ap (λ x. grouped x (group_rows payload after)) ks ∙ sh.0 ∙ ap (λ (x : List Grouping). x ++ g ∷ []) s.same;
-      have = record { first = hs.0; second = hs.1; third = hs.2; fourth = hs.3;
+      have = record {
+        first = hs.0;
+        second = hs.1;
+        third = hs.2;
+        fourth = hs.3;
         distinct = subst AreDistinct (sym ks) (snoc_distinct keys k s.have.distinct (differs_from k keys new));
-        used = subst (λ x. AreUsed x (group_rows payload after)) (sym ks) sh.1 };
-      tests = λ rule i. tests_more rule n gs g (s.tests rule) (all_keep payload n at gs g s new many small (yes_le (total (runs_at payload r)) n few) rule) i
+        used = subst (λ x. AreUsed x (group_rows payload after)) (sym ks) sh.1;
+      };
+      tests = λ rule i. tests_more rule n gs g (s.tests rule) (all_keep payload n at gs g s new many small (yes_le (total (runs_at payload r)) n few) rule) i;
     }
   where
     not_four : (x : ℕ) → x < 4 → (x == 4) ≡ false
@@ -235,7 +242,7 @@ group_read stbl b v key r h i e read k p =
       named = (λ j. record { kind = k j; parameter = (p ∙ parameter_is v e) j });
       have = room_there 1 (fields_end v) 8 stbl b r l read;
       same = grouping_rows stbl b v r l e read;
-      readable = grouping_readable stbl b v r e read
+      readable = grouping_readable stbl b v r e read;
     }
   where
     parameter_is : (c : Bool) → (version b.payload == 0) ≡ c → parameter_in b.payload c ≡ cond (version b.payload == 0) None (Some (field b.payload 8 4))
@@ -293,13 +300,23 @@ groups_readable group_counts gs more b h k = subst GroupsReadable (sym (ap (drop
 -- a fault of the next child is a fault of the check
 pub child_fault : (l : Limits) (stbl b : Box) (n : ℕ) (at : GroupsAt) (left later : List Box) (f : Fault) → HasTables stbl → SizesKnown stbl n → GroupsPassed stbl n at left → left ≡ b ∷ later → ChildFails stbl.payload n at b f → IsFault l stbl f
 child_fault l stbl b n at left later f h s p e (inl d) = inl (record {
-  before = p.passed; b = b; after = later; stands = p.is ∙ ap (λ bs. p.passed ++ bs) e; leaf = sgpd;
+  before = p.passed;
+  b = b;
+  after = later;
+  stands = p.is ∙ ap (λ bs. p.passed ++ bs) e;
+  leaf = sgpd;
   read = ap (leaf_of (ruled SampleTable)) (same_kind (codes "sgpd") b.kind d.0);
-  fails = d.1 })
+  fails = d.1;
+})
 child_fault l stbl b n at left later f h s p e (inr (k, inl d)) = inl (record {
-  before = p.passed; b = b; after = later; stands = p.is ∙ ap (λ bs. p.passed ++ bs) e; leaf = sbgp;
+  before = p.passed;
+  b = b;
+  after = later;
+  stands = p.is ∙ ap (λ bs. p.passed ++ bs) e;
+  leaf = sbgp;
   read = ap (leaf_of (ruled SampleTable)) (same_kind (codes "sbgp") b.kind k);
-  fails = d })
+  fails = d;
+})
 child_fault l stbl b n at left later f h s p e (inr (k, inr r)) =
     let G = of_kind (codes "sbgp") p.passed in
     let M = of_kind (codes "sbgp") later in
@@ -310,23 +327,34 @@ child_fault l stbl b n at left later f h s p e (inr (k, inr r)) =
     let found : slice_get gs (length G) ≡ Some (grouping_of b.payload) = ap (λ bs. slice_get (groupings_of bs) (length G)) split ∙ found_in (λ (c : Box). grouping_of c.payload) G M b in
     let front : take (length G) gs ≡ groupings_of G = ap (λ bs. take (length G) (groupings_of bs)) split ∙ taken_in (λ (c : Box). grouping_of c.payload) G (b ∷ M) in
     let fails : group_test r.rule (length (tables_in stbl).sizes) [] gs (length G) ≡ false =
-        ap (λ x. group_test r.rule x [] gs (length G)) m ∙ test_at r.rule n (length G) gs (grouping_of b.payload) false found (ap (λ before. keeps r.rule n [] before (grouping_of b.payload)) front ∙ r.fails (groupings_of G) p.so) in
+    ap (λ x. group_test r.rule x [] gs (length G)) m ∙ test_at r.rule n (length G) gs (grouping_of b.payload) false found (ap (λ before. keeps r.rule n [] before (grouping_of b.payload)) front ∙ r.fails (groupings_of G) p.so) in
     inr (inl (λ d. record {
-      children = boxes_of stbl; holds = h; rule = table_group r.rule (length G);
+      children = boxes_of stbl;
+      holds = h;
+      rule = table_group r.rule (length G);
       readable = group_readable r.rule stbl n (length G) s;
       groups_readable = subst (λ bs. GroupsReadable (group_reads r.rule (length G) bs)) (sym split) (groups_readable r.rule G M b (kept_all (codes "sbgp") (IsReadable sbgp) p.passed p.groups) r.readable);
       ordered = λ x. absurd (never x);
-      fails = fails; before = p.passed; b = b; after = later; stands = all;
+      fails = fails;
+      before = p.passed;
+      b = b;
+      after = later;
+      stands = all;
       is_named = ap (λ bs. slice_get bs (length G)) split ∙ found_there G M b;
-      same = r.named }))
+      same = r.named;
+    }))
   where
     never : false ≡ true → ⊥
     never x = cc
 
 -- ---- the rules of one `sbgp` that was read
 pub group_twice : (stbl b : Box) (key : GroupKey) (r : RowsAt) (n : ℕ) (at : GroupsAt) (f : Fault) → GroupRead stbl b key r → list_any (same_key key) (keys_seen at.keys) ≡ true → f ≡ fault_of (group_kind one_of_key) b → GroupFails stbl.payload n at b f
-group_twice stbl b key r n at f g e s = inr (record { rule = one_of_key; readable = g.readable; named = s;
-  fails = λ gs so. keeps_key stbl.payload n n at gs (grouping_of b.payload) true so (ap (λ k. list_any (same_key k) (keys_seen at.keys)) (sym g.named) ∙ e) })
+group_twice stbl b key r n at f g e s = inr (record {
+  rule = one_of_key;
+  readable = g.readable;
+  named = s;
+  fails = λ gs so. keeps_key stbl.payload n n at gs (grouping_of b.payload) true so (ap (λ k. list_any (same_key k) (keys_seen at.keys)) (sym g.named) ∙ e);
+})
 
 four_is : (x : ℕ) → x ≡ 4 → (x == 4) ≡ true
 four_is x e = grind (arith, nat_tests)
@@ -335,27 +363,39 @@ four_not : (x : ℕ) → (x ≡ 4 → ⊥) → (x == 4) ≡ false
 four_not x e = let h : x ≢ 4 = e in grind (arith, nat_tests)
 
 pub group_fifth : (stbl b : Box) (key : GroupKey) (r : RowsAt) (n : ℕ) (at : GroupsAt) (f : Fault) → GroupRead stbl b key r → list_any (same_key key) (keys_seen at.keys) ≡ false → length (keys_seen at.keys) ≡ 4 → f ≡ fault_of (group_kind few_keys) b → GroupFails stbl.payload n at b f
-group_fifth stbl b key r n at f g e l s = inr (record { rule = few_keys; readable = g.readable; named = s;
-  fails = λ gs so. keeps_few stbl.payload n n at gs (grouping_of b.payload) true so (ap (λ k. list_any (same_key k) (keys_seen at.keys)) (sym g.named) ∙ e) (four_is (length (keys_seen at.keys)) l) })
+group_fifth stbl b key r n at f g e l s = inr (record {
+  rule = few_keys;
+  readable = g.readable;
+  named = s;
+  fails = λ gs so. keeps_few stbl.payload n n at gs (grouping_of b.payload) true so (ap (λ k. list_any (same_key k) (keys_seen at.keys)) (sym g.named) ∙ e) (four_is (length (keys_seen at.keys)) l);
+})
 
 pub group_range : (stbl b : Box) (key : GroupKey) (r : RowsAt) (n : ℕ) (at : GroupsAt) (f : Fault) → GroupRead stbl b key r → all_below 65536 (runs_at stbl.payload r) ≡ false → f ≡ fault_of (group_kind index_range) b → GroupFails stbl.payload n at b f
-group_range stbl b key r n at f g e s = inr (record { rule = index_range; readable = g.readable; named = s;
-  fails = λ gs so. keeps_range n gs (grouping_of b.payload) false (ap (all_below 65536) (sym g.same) ∙ e) })
+group_range stbl b key r n at f g e s = inr (record {
+  rule = index_range;
+  readable = g.readable;
+  named = s;
+  fails = λ gs so. keeps_range n gs (grouping_of b.payload) false (ap (all_below 65536) (sym g.same) ∙ e);
+})
 
 many_not : (x n : ℕ) → (x ≤ n → ⊥) → nat_le x n ≡ false
 many_not x n e = no_le x n (omega (arith, e))
 
 pub group_many : (stbl b : Box) (key : GroupKey) (r : RowsAt) (n : ℕ) (at : GroupsAt) (f : Fault) → GroupRead stbl b key r → (total (runs_at stbl.payload r) ≤ n → ⊥) → f ≡ fault_of (group_kind group_counts) b → GroupFails stbl.payload n at b f
-group_many stbl b key r n at f g e s = inr (record { rule = group_counts; readable = g.readable; named = s;
-  fails = λ gs so. ap (λ runs. nat_le (total runs) n) (sym g.same) ∙ many_not (total (runs_at stbl.payload r)) n e })
+group_many stbl b key r n at f g e s = inr (record {
+  rule = group_counts;
+  readable = g.readable;
+  named = s;
+  fails = λ gs so. ap (λ runs. nat_le (total runs) n) (sym g.same) ∙ many_not (total (runs_at stbl.payload r)) n e;
+})
 
 pub group_next : (stbl b : Box) (key : GroupKey) (r : RowsAt) (n : ℕ) (at after : GroupsAt) → GroupRead stbl b key r → list_any (same_key key) (keys_seen at.keys) ≡ false → (length (keys_seen at.keys) ≡ 4 → ⊥) → all_below 65536 (runs_at stbl.payload r) ≡ true → total (runs_at stbl.payload r) ≤ n
     → length (keys_seen at.keys) < 4 → keys_seen after.keys ≡ keys_seen at.keys ++ key ∷ [] → SlotTaken (length (keys_seen at.keys)) at r after → GroupNext stbl.payload n at b after
 group_next stbl b key r n at after g new four small few l ks slot = record {
   readable = g.readable;
   so = λ gs so. subst (λ (x : Grouping). GroupsSo stbl.payload n (gs ++ x ∷ []) after) ((λ j. record { key = g.named j; rows = g.same j }))
-    (group_added stbl.payload n (length (keys_seen at.keys)) at after gs key r so ks refl slot new l g.have small few)
-  }
+      (group_added stbl.payload n (length (keys_seen at.keys)) at after gs key r so ks refl slot new l g.have small few);
+}
 
 pub not_true : ◌≡◌ {A = Bool} false true → ⊥
 not_true e = cc
@@ -366,15 +406,19 @@ pub no_groups_so : (payload : List ℕ) (n : ℕ) (at : GroupsAt) → keys_seen 
 no_groups_so payload n at k a b c d e f g h = record {
   same = ap (λ ks. grouped ks (group_rows payload at)) k;
   have = record {
-    first = (omega arith, none_index payload at.first a); second = (omega arith, none_index payload at.second b); third = (omega arith, none_index payload at.third c); fourth = (omega arith, none_index payload at.fourth d);
+    first = (omega arith, none_index payload at.first a);
+    second = (omega arith, none_index payload at.second b);
+    third = (omega arith, none_index payload at.third c);
+    fourth = (omega arith, none_index payload at.fourth d);
     distinct = subst AreDistinct (sym k) tt;
-    used = subst (λ ks. AreUsed ks (group_rows payload at)) (sym k) (no_rows payload at.first a, (no_rows payload at.second b, (no_rows payload at.third c, (no_rows payload at.fourth d, tt))))
+    used = subst (λ ks. AreUsed ks (group_rows payload at)) (sym k) (no_rows payload at.first a, (no_rows payload at.second b, (no_rows payload at.third c, (no_rows payload at.fourth d, tt))));
   };
-  tests = λ rule i. test_none rule n i [] (found_none [] i (omega arith))
-  }
+  tests = λ rule i. test_none rule n i [] (found_none [] i (omega arith));
+}
   where
     no_rows : (payload : List ℕ) (r : RowsAt) → r.count ≡ 0 → runs_at payload r ≡ []
     no_rows payload r z = runs_all payload r 0 (omega arith)
+
     none_index : (payload : List ℕ) (r : RowsAt) → r.count ≡ 0 → AreIndexes (runs_at payload r)
     none_index payload r z = subst AreIndexes (sym (runs_all payload r 0 (omega arith))) tt
 
@@ -403,8 +447,8 @@ passed_next stbl b n at after left later p e (inl o) = record {
   is = p.is ∙ ap (λ bs. p.passed ++ bs) e ∙ sym (append_assoc p.passed (b ∷ []) later);
   so = subst (λ bs. GroupsSo stbl.payload n (groupings_of bs) after) (sym (kind_snoc_other (codes "sbgp") p.passed b o.other)) (subst (GroupsSo stbl.payload n (groupings_of (of_kind (codes "sbgp") p.passed))) (sym o.same) p.so);
   groups = all_snoc (codes "sbgp") (IsReadable sbgp) p.passed b p.groups (λ k. absurd (clash k o.other));
-  described = all_snoc (codes "sgpd") (IsSound sgpd) p.passed b p.described o.described
-  }
+  described = all_snoc (codes "sgpd") (IsSound sgpd) p.passed b p.described o.described;
+}
   where
     clash : {c : Bool} → c ≡ true → c ≡ false → ⊥
     clash x y = cc
@@ -413,8 +457,8 @@ passed_next stbl b n at after left later p e (inr (k, g)) = record {
   is = p.is ∙ ap (λ bs. p.passed ++ bs) e ∙ sym (append_assoc p.passed (b ∷ []) later);
   so = subst (λ bs. GroupsSo stbl.payload n bs after) (sym (ap groupings_of (kind_snoc (codes "sbgp") p.passed b k) ∙ mapped_snoc (of_kind (codes "sbgp") p.passed) b)) (g.so (groupings_of (of_kind (codes "sbgp") p.passed)) p.so);
   groups = all_snoc (codes "sbgp") (IsReadable sbgp) p.passed b p.groups (λ _. g.readable);
-  described = all_snoc (codes "sgpd") (IsSound sgpd) p.passed b p.described (λ d. absurd (two_kinds (same_kind (codes "sbgp") b.kind k) d))
-  }
+  described = all_snoc (codes "sgpd") (IsSound sgpd) p.passed b p.described (λ d. absurd (two_kinds (same_kind (codes "sbgp") b.kind k) d));
+}
   where
     two_kinds : b.kind ≡ codes "sbgp" → bytes_eq (codes "sgpd") b.kind ≡ true → ⊥
     two_kinds s d = let f : false ≡ true = subst (λ x. bytes_eq (codes "sgpd") x ≡ true) s d in cc
@@ -425,5 +469,5 @@ passed_all stbl n at left p e =
     record {
       so = subst (λ bs. GroupsSo stbl.payload n (groupings_of (of_kind (codes "sbgp") bs)) at) all p.so;
       groups = subst (AllOf (codes "sbgp") (IsReadable sbgp)) all p.groups;
-      described = subst (AllOf (codes "sgpd") (IsSound sgpd)) all p.described
+      described = subst (AllOf (codes "sgpd") (IsSound sgpd)) all p.described;
     }

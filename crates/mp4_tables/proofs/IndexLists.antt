@@ -1,15 +1,15 @@
 -- The index of a sample at each key is the one that the rows of that key give it.
-use Rattle.std.proofs.Common.{◌≡◌, ℕ, zero, suc, ◌+◌, ◌<◌, ◌≤◌, List, [], ◌∷◌, ◌++◌, length, take, drop, map, get_or, slice_index, replicate, subst, refl, ap, sym, ◌∙◌, arith, Bool, true, false, cond}
-use Rattle.std.specs.Prelude.{◌==◌, ◌||◌}
+use Rattle.std.proofs.Common.{◌≡◌, ℕ, zero, suc, ◌<◌, List, [], ◌∷◌, ◌++◌, length, map, get_or, slice_index, replicate, subst, refl, ap, sym, ◌∙◌, arith, Bool, true, false, cond}
+use Rattle.std.specs.Prelude.{◌==◌}
 use Rattle.std.specs.List.{list_any, AllByRecursion}
 use Rattle.std.proofs.lemmas.List.{append-nil, append_assoc}
 use Rattle.std.proofs.lemmas.List.Folds.{list_any-append}
 use Rattle.std.proofs.lemmas.Bool.Decides.{nat_tests}
 use Rattle.mp4_tables.specs.Repeated.{repeated}
-use Rattle.mp4_tables.specs.Groups.{GroupKey, Grouping, Groups, same_key, keys_with, keys_after, index_at, put_group, put_indexes, maps_of}
+use Rattle.mp4_tables.specs.Groups.{GroupKey, Grouping, Groups, same_key, keys_with, keys_after, index_at, put_indexes, maps_of}
 use Rattle.mp4_tables.specs.Timed.{padded, indexes}
 use Rattle.mp4_tables.specs.Accepted.{grouped, AreDistinct, AreUsed}
-use Rattle.mp4_tables.proofs.SampleLists.{NotIn, put_one, put_not_in, absent, put_there, put_beside, same_both, maps_length, put_length}
+use Rattle.mp4_tables.proofs.SampleLists.{NotIn, put_one, put_not_in, absent, put_there, put_beside, same_both, maps_length}
 
 abbrev key_of_group : Grouping → GroupKey
 key_of_group g = g.key

@@ -1,11 +1,11 @@
 -- Keys in the order in which they were named.
-use Rattle.std.proofs.Common.{◌≡◌, ◌≢◌, ℕ, zero, suc, ◌+◌, ◌<◌, ◌≤◌, List, [], ◌∷◌, ◌++◌, length, take, drop, get_or, map, refl, ap, sym, ◌∙◌, arith, Bool, true, false, cond, Option, Some, None}
-use Rattle.std.specs.Prelude.{◌||◌, slice_set}
+use Rattle.std.proofs.Common.{◌≡◌, ◌≢◌, ℕ, ◌+◌, ◌<◌, ◌≤◌, List, [], ◌∷◌, ◌++◌, length, take, drop, get_or, map, refl, ap, sym, ◌∙◌, arith, Bool, true, false, cond, Option, Some, None}
+use Rattle.std.specs.Prelude.{slice_set}
 use Rattle.std.specs.List.{position_from, list_any}
 use Rattle.std.proofs.lemmas.List.{take_more_set, length-map, length-take, map-append, drop_more, drop_all, get_or-map, get_or-take}
 use Rattle.std.proofs.lemmas.Bool.Decides.{nat_tests}
-use Rattle.mp4_tables.specs.Groups.{GroupKey, key_rank, same_key, keys_with}
-use Rattle.mp4_tables.specs.Keys.{key_seen, keys_seen, key_place}
+use Rattle.mp4_tables.specs.Groups.{GroupKey, key_rank, same_key}
+use Rattle.mp4_tables.specs.Keys.{key_seen, key_place}
 use Rattle.mp4_tables.specs.declared.keys.GroupKey.{GroupKey as KeyNamed}
 
 -- where no member passes there is no place

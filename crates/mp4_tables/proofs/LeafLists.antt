@@ -1,17 +1,15 @@
 -- The children of an `stbl`: the first of a type, where it lies, and what holds of all of a type.
-use Rattle.std.proofs.Common.{◌≡◌, ℕ, zero, suc, ◌+◌, ◌-◌, ◌*◌, ◌<◌, ◌≤◌, ◌⊎◌, inl, inr, List, [], ◌∷◌, ◌++◌, length, take, drop, subst, refl, ap, sym, ◌∙◌, arith, Bool, true, false, cond, Option, Some, None, length-take, length-drop, length-append, append_assoc}
-use Rattle.std.specs.Prelude.{bytes_eq, codes, IsTrue, nat_eq, unwrap_or, ◌||◌, Result, Ok, Err, map}
-use Rattle.std.specs.List.{AllByRecursion, list_any}
+use Rattle.std.proofs.Common.{◌≡◌, ℕ, zero, suc, ◌+◌, ◌-◌, ◌*◌, ◌≤◌, inl, inr, List, [], ◌∷◌, ◌++◌, length, take, drop, subst, refl, ap, sym, ◌∙◌, arith, Bool, true, false, Some, None, length-take, length-drop, append_assoc}
+use Rattle.std.specs.Prelude.{bytes_eq, nat_eq, Result, Ok, Err, map}
+use Rattle.std.specs.List.{AllByRecursion}
 use Rattle.std.proofs.lemmas.List.{drop-drop, drop-take}
 use Rattle.std.proofs.lemmas.Bool.Decides.{nat_tests}
-use Rattle.byteorder.specs.Endian.{big_from}
 use Rattle.byteorder.specs.Numbers.{big_from-take}
 use Rattle.mp4_boxes.specs.Bytes.{field, rows, numbers, width_of}
-use Rattle.mp4_boxes.specs.Box.{Box, Container, Header, header_at, box_of, size, sizes, LieEndToEnd, Tiles, box_container, bytes_container, first_boxes, box_and_more}
-use Rattle.mp4_boxes.specs.Children.{Holds, count_among, is_among, payload_if, payload_of, of_kind}
-use Rattle.mp4_boxes.specs.Layout.{Leaf, IsSound, IsReadable, version, last_version, needed, up_to, knows_flags}
-use Rattle.mp4_boxes.specs.Places.{leaf_of, ruled, IsSoundAs}
-use Rattle.mp4_boxes.specs.BoxFaults.{Fails, fault_of}
+use Rattle.mp4_boxes.specs.Box.{Box, Header, header_at, box_of, size, sizes, LieEndToEnd, Tiles, box_container, bytes_container, first_boxes, box_and_more}
+use Rattle.mp4_boxes.specs.Children.{Holds, count_among, is_among, payload_if}
+use Rattle.mp4_boxes.specs.Layout.{Leaf, IsReadable, version, last_version, needed, up_to, knows_flags}
+use Rattle.mp4_boxes.specs.Places.{leaf_of, ruled}
 use Rattle.mp4_boxes.specs.declared.rule.Rule.TheVariants.{SampleTable}
 use Rattle.mp4_boxes.specs.declared.fault.Fault.{Fault}
 use Rattle.mp4_boxes.specs.declared.fault.Kind.{Kind}
@@ -26,7 +24,7 @@ use Rattle.mp4_tables.specs.declared.places.RowsAt.{RowsAt}
 use Rattle.mp4_tables.specs.declared.places.BytesAt.{BytesAt}
 use Rattle.mp4_tables.proofs.ChunkLists.{yes_le, no_le}
 use Rattle.mp4_tables.specs.TableRules.{AreReadable, IsReadableAs}
-use Rattle.mp4_tables.specs.Leaves.{boxes_of, HasTables, AllOf, IsFirstOf, LiesIn, IsChild, FailsAs, IsLeafFaultAmong, VersionFails, RowsFail, ShapeFails, RowsRead}
+use Rattle.mp4_tables.specs.Leaves.{boxes_of, HasTables, AllOf, IsFirstOf, LiesIn, IsChild, FailsAs, IsLeafFaultAmong, VersionFails, ShapeFails, RowsRead}
 
 -- a box of a type counts
 hit_counts : (kind : List ℕ) (b : Box) (bs : List Box) → bytes_eq kind b.kind ≡ true → count_among (kind ∷ []) (b ∷ bs) ≡ 1 + count_among (kind ∷ []) bs
@@ -73,7 +71,7 @@ found_all at (suc n) bytes (b ∷ boxes) l e h =
     let r = header_is false bytes g l.0.1 in
     let left : sizes boxes ≡ length (drop (size b) bytes) = omega (arith, e, length-drop (size b) bytes, sizes-cons b boxes) in
     let more : first_boxes n (at + g.size) (drop g.size bytes) ≡ boxes =
-        subst (λ (m : ℕ). first_boxes n (at + m) (drop m bytes) ≡ boxes) s (found_all (at + size b) n (drop (size b) bytes) boxes l.1 left (omega (arith, h))) in
+    subst (λ (m : ℕ). first_boxes n (at + m) (drop m bytes) ≡ boxes) s (found_all (at + size b) n (drop (size b) bytes) boxes l.1 left (omega (arith, h))) in
     first_then at bytes b boxes (header_at false bytes) g (λ k. first_boxes n (at + k.size) (drop k.size bytes)) l.0.1 l.0.2 (sym more)
 
 few : (at : ℕ) (bytes : List ℕ) (boxes : List Box) → LieEndToEnd false at bytes boxes → length boxes ≤ sizes boxes
@@ -106,7 +104,7 @@ child_lies at bytes [] after b l =
       place = g.length;
       is = omega arith;
       within = omega (arith, n, r.inside, r.fits);
-      same = p ∙ ap (λ m. take m (drop g.length bytes)) (sym n)
+      same = p ∙ ap (λ m. take m (drop g.length bytes)) (sym n);
     }
 child_lies at bytes (c ∷ before) after b l =
     let g = l.0.0 in
@@ -121,7 +119,7 @@ child_lies at bytes (c ∷ before) after b l =
       place = size c + i.place;
       is = omega arith;
       within = omega arith;
-      same = i.same ∙ ap (take (length b.payload)) (drop-drop i.place (size c) bytes)
+      same = i.same ∙ ap (take (length b.payload)) (drop-drop i.place (size c) bytes);
     }
 
 -- ---- the first of a type
@@ -132,6 +130,7 @@ payload_first kind boxes b i = ap (payload_if kind) i.is ∙ behind i.before i.n
     choice : (c : Box) (more : List Box) (v : Bool) → bytes_eq kind c.kind ≡ v → count_among (kind ∷ []) (c ∷ more) ≡ 0 → (count_among (kind ∷ []) more ≡ 0 → payload_if kind (more ++ b ∷ i.after) ≡ Some b.payload) → payload_if kind (c ∷ (more ++ b ∷ i.after)) ≡ Some b.payload
     choice c more true e n h = absurd (omega (arith, hit_counts kind c more e, n))
     choice c more false e n h = let m : 0 + count_among (kind ∷ []) more ≡ 0 = rw e at n in rw e (h (omega (arith, m)))
+
     behind : (before : List Box) → count_among (kind ∷ []) before ≡ 0 → payload_if kind (before ++ b ∷ i.after) ≡ Some b.payload
     behind [] n = rw i.same refl
     behind (c ∷ before) n = choice c before (bytes_eq kind c.kind) refl n (behind before)
@@ -188,8 +187,8 @@ leaf_fault kind boxes b leaf f i e h = record {
   stands = i.is;
   leaf = leaf;
   read = ap (leaf_of (ruled SampleTable)) (same_kind kind b.kind i.same) ∙ e;
-  fails = h
-  }
+  fails = h;
+}
 
 -- what can be read of each type can be read of all of them
 pub readable_from : (kinds : List (List ℕ)) (boxes : List Box) → AllByRecursion (λ (kind : List ℕ). AllOf kind (IsReadableAs (leaf_of (ruled SampleTable) kind)) boxes) kinds → AreReadable kinds boxes
@@ -199,10 +198,12 @@ readable_from kinds (b ∷ boxes) h = (λ m. one kinds h m, readable_from kinds 
     tails : (kinds : List (List ℕ)) → AllByRecursion (λ (kind : List ℕ). AllOf kind (IsReadableAs (leaf_of (ruled SampleTable) kind)) (b ∷ boxes)) kinds → AllByRecursion (λ (kind : List ℕ). AllOf kind (IsReadableAs (leaf_of (ruled SampleTable) kind)) boxes) kinds
     tails [] h = tt
     tails (kind ∷ kinds) h = (h.0.1, tails kinds h.1)
+
     this : (kind : List ℕ) (kinds : List (List ℕ)) (v : Bool) → bytes_eq kind b.kind ≡ v → AllByRecursion (λ (kind : List ℕ). AllOf kind (IsReadableAs (leaf_of (ruled SampleTable) kind)) (b ∷ boxes)) (kind ∷ kinds)
         → is_among (kind ∷ kinds) b.kind ≡ true → (is_among kinds b.kind ≡ true → IsReadableAs (leaf_of (ruled SampleTable) b.kind) b.payload) → IsReadableAs (leaf_of (ruled SampleTable) b.kind) b.payload
     this kind kinds true e h m more = subst (λ k. IsReadableAs (leaf_of (ruled SampleTable) k) b.payload) (sym (same_kind kind b.kind e)) (h.0.0 e)
     this kind kinds false e h m more = more (rw e at m)
+
     one : (kinds : List (List ℕ)) → AllByRecursion (λ (kind : List ℕ). AllOf kind (IsReadableAs (leaf_of (ruled SampleTable) kind)) (b ∷ boxes)) kinds → is_among kinds b.kind ≡ true → IsReadableAs (leaf_of (ruled SampleTable) b.kind) b.payload
     one [] h m = absurd (let q : false ≡ true = m in cc)
     one (kind ∷ kinds) h m = this kind kinds (bytes_eq kind b.kind) refl h m (one kinds h.1)
@@ -226,8 +227,8 @@ pub one_passed : (kind : List ℕ) (boxes left later : List Box) (b : Box) → N
 one_passed kind boxes left later b p e s = record {
   before = p.before ++ b ∷ [];
   is = p.is ∙ ap (λ bs. p.before ++ bs) e ∙ sym (append_assoc p.before (b ∷ []) later);
-  none = omega (arith, p.none, count-append (kind ∷ []) p.before (b ∷ []), miss_counts b (turned b.kind kind s))
-  }
+  none = omega (arith, p.none, count-append (kind ∷ []) p.before (b ∷ []), miss_counts b (turned b.kind kind s));
+}
   where
     miss_counts : (c : Box) → bytes_eq kind c.kind ≡ false → count_among (kind ∷ []) (c ∷ []) ≡ 0
     miss_counts c f = rw f refl
@@ -268,8 +269,8 @@ rows_there at bytes b n fields place widths i e h =
     let p : place ≡ i.place + fields = omega arith in
     let l : length b.payload ≡ fields + (length b.payload - fields) = omega arith in
     let cut : drop fields b.payload ≡ take (length b.payload - fields) (drop place bytes) =
-        ap (drop fields) (i.same ∙ ap (λ m. take m (drop i.place bytes)) l) ∙ drop-take fields (length b.payload - fields) (drop i.place bytes)
-        ∙ ap (take (length b.payload - fields)) (drop-drop fields i.place bytes ∙ ap (λ j. drop j bytes) (sym p)) in
+    ap (drop fields) (i.same ∙ ap (λ m. take m (drop i.place bytes)) l) ∙ drop-take fields (length b.payload - fields) (drop i.place bytes)
+    ∙ ap (take (length b.payload - fields)) (drop-drop fields i.place bytes ∙ ap (λ j. drop j bytes) (sym p)) in
     sym (ap (rows n widths) cut ∙ rows_cut n (length b.payload - fields) widths (drop place bytes) (omega arith))
 
 -- a child lies in its `stbl`
@@ -316,8 +317,8 @@ pub shape_readable : (leaf : Leaf) (last fields width : ℕ) (stbl b : Box) (r :
 shape_readable leaf last fields width stbl b r v g n h = record {
   version = ap (λ l. up_to l (version b.payload)) v ∙ yes_le (version b.payload) last h.version;
   flags = g;
-  room = subst (λ m. fields + width * m ≤ length b.payload → needed leaf b.payload ≤ length b.payload) (sym h.count) (λ l. omega arith) h.room
-  }
+  room = subst (λ m. fields + width * m ≤ length b.payload → needed leaf b.payload ≤ length b.payload) (sym h.count) (λ l. omega arith) h.room;
+}
 
 pub version_fails : (leaf : Leaf) (last : ℕ) (b : Box) (f : Fault) → last_version leaf ≡ Some last → 4 ≤ needed leaf b.payload → VersionFails last b f → FailsAs leaf b f
 version_fails leaf last b f v n (inl short) = record { kind = ShortBox; fails = (let s = short.0 in omega arith); named = short.1 }
@@ -330,7 +331,7 @@ bytes_there at bytes b r fields i e n =
     let p : r.place ≡ i.place + fields = omega arith in
     let l : length b.payload ≡ fields + r.length = omega arith in
     sym (ap (drop fields) (i.same ∙ ap (λ m. take m (drop i.place bytes)) l) ∙ drop-take fields r.length (drop i.place bytes)
-      ∙ ap (take r.length) (drop-drop fields i.place bytes ∙ ap (λ j. drop j bytes) (sym p)))
+    ∙ ap (take r.length) (drop-drop fields i.place bytes ∙ ap (λ j. drop j bytes) (sym p)))
 
 -- children of the profile, as they were found, are the boxes in front of the payload
 pub has_tables : (b : Box) (boxes : List Box) → Holds SampleTable (box_container b) boxes → HasTables b

@@ -1,20 +1,19 @@
 -- A place among the samples: the sample before which it lies, and the place one sample on.
-use Rattle.std.proofs.Common.{◌≡◌, ◌≢◌, ℕ, zero, suc, ◌+◌, ◌-◌, ◌*◌, ◌^◌, ◌<◌, ◌≤◌, List, [], ◌∷◌, ◌++◌, length, take, drop, map, replicate, get_or, slice_index, subst, refl, ap, sym, ◌∙◌, arith, Bool, true, false, cond, Option, Some, None, length-take, length-drop}
-use Rattle.std.specs.Prelude.{ℤ, pos, unwrap_or, option_map, nat_lt, nat_le, nat_eq, flat_map, IsTrue, if◌then◌else◌}
-use Rattle.std.specs.List.{list_any, list_all, AllByRecursion}
-use Rattle.std.proofs.lemmas.List.{drop_more, length-replicate, get_or-take, get_or-drop, get_or-replicate, length-map, append-nil, drop_all}
+use Rattle.std.proofs.Common.{◌≡◌, ◌≢◌, ℕ, zero, suc, ◌+◌, ◌-◌, ◌^◌, ◌<◌, ◌≤◌, List, [], ◌∷◌, ◌++◌, length, drop, map, replicate, get_or, slice_index, subst, refl, ap, sym, ◌∙◌, arith, Bool, true, false, Option, Some, None, length-take, length-drop}
+use Rattle.std.specs.Prelude.{ℤ, pos, unwrap_or, option_map, nat_lt, nat_le, nat_eq, if◌then◌else◌}
+use Rattle.std.specs.List.{AllByRecursion}
+use Rattle.std.proofs.lemmas.List.{drop_more, length-replicate, get_or-take, get_or-replicate, length-map, append-nil, drop_all}
 use Rattle.byteorder.specs.Endian.{twos_complement}
 use Rattle.mp4_tables.specs.Repeated.{repeated, total}
-use Rattle.mp4_tables.specs.Groups.{GroupKey, Grouping, Groups, keys_after, maps_of}
-use Rattle.mp4_tables.specs.Tables.{Tables, ChunkRow, composition_offset}
+use Rattle.mp4_tables.specs.Groups.{GroupKey, Groups, keys_after, maps_of}
+use Rattle.mp4_tables.specs.Tables.{ChunkRow, composition_offset}
 use Rattle.mp4_tables.specs.PlainSamples.{PlacedSample, Spot, non_sync, flags_from, spots_of, plain_samples, in_chunks, in_chunks_total}
-use Rattle.mp4_tables.specs.TableRules.{Surroundings, Fit, test, dependency_room, duration_counts, offset_counts, chunk_counts, chunk_order, sync_order, places, lies_within, is_sync_order, is_chunk_order}
+use Rattle.mp4_tables.specs.TableRules.{dependency_room, duration_counts, offset_counts, chunk_counts, chunk_order, sync_order, places, lies_within, is_sync_order, is_chunk_order}
 use Rattle.mp4_tables.specs.Keys.{keys_seen}
-use Rattle.mp4_tables.specs.Rows.{HaveRoom, runs_at, chunk_rows_at, numbers_at, offsets_at, offset_width, sizes_at}
-use Rattle.mp4_tables.specs.Coming.{coming, IsRunPlace, IsRowPlace, IsChunkPlace, IsSyncPlace, next_spot, spots_coming, no_spots, all_lie_within}
-use Rattle.mp4_tables.specs.Timed.{indexes, place_of, sample_at, timed, samples_of}
-use Rattle.mp4_tables.specs.Accepted.{offset_version, composition_offsets_at, grouped, group_rows, groupings_at, bytes_at, tables_at, AreSmall, HaveOffsets, HaveBytes, HaveGroups, HaveTables, IsAccepted, offset_rows, offset_values, are_signed, bytes_for, IsSyncPlaceIn, AreInOrder, IsRunPlaceAt, AreGroupPlaces, IsPlace, flags_here, indexes_here}
-use Rattle.mp4_tables.specs.declared.sample.SampleAt.{SampleAt}
+use Rattle.mp4_tables.specs.Rows.{runs_at, chunk_rows_at, numbers_at, offsets_at, offset_width, sizes_at}
+use Rattle.mp4_tables.specs.Coming.{coming, IsRunPlace, IsRowPlace, next_spot, spots_coming, no_spots, all_lie_within}
+use Rattle.mp4_tables.specs.Timed.{indexes, timed, samples_of}
+use Rattle.mp4_tables.specs.Accepted.{offset_version, composition_offsets_at, group_rows, groupings_at, bytes_at, tables_at, AreSmall, HaveOffsets, IsAccepted, offset_rows, offset_values, are_signed, bytes_for, IsSyncPlaceIn, AreInOrder, AreGroupPlaces, IsPlace, flags_here, indexes_here}
 use Rattle.mp4_tables.specs.declared.places.RowsAt.{RowsAt}
 use Rattle.mp4_tables.specs.declared.places.BytesAt.{BytesAt}
 use Rattle.mp4_tables.specs.declared.places.OffsetsAt.{OffsetsAt}
@@ -24,15 +23,15 @@ use Rattle.mp4_tables.specs.declared.places.ChunkPlace.{ChunkPlace}
 use Rattle.mp4_tables.specs.declared.places.SyncPlace.{SyncPlace}
 use Rattle.mp4_tables.specs.declared.places.GroupPlaces.{GroupPlaces}
 use Rattle.mp4_tables.specs.declared.places.TablePlace.{TablePlace}
-use Rattle.mp4_tables.proofs.Counts.{eqb_is, leb_is, repeated_length, chunks_length, plain_length}
-use Rattle.mp4_tables.proofs.RowLists.{runs_length, sizes_length, numbers_length, chunk_rows_length, first_left}
+use Rattle.mp4_tables.proofs.Counts.{eqb_is, leb_is, repeated_length, plain_length}
+use Rattle.mp4_tables.proofs.RowLists.{runs_length, sizes_length, numbers_length, chunk_rows_length}
 use Rattle.mp4_tables.proofs.ChunkLists.{yes_lt, both}
 use Rattle.mp4_tables.proofs.RunLists.{coming_start}
 use Rattle.mp4_tables.proofs.SpotLists.{spot_left, spot_ahead, spot_passed}
-use Rattle.mp4_tables.proofs.SyncLists.{sync_here, not_sync_here, sync_first}
+use Rattle.mp4_tables.proofs.SyncLists.{not_sync_here}
 use Rattle.mp4_tables.proofs.GroupLists.{run_left, run_value, value_has, run_passed, run_first}
-use Rattle.mp4_tables.proofs.SampleLists.{placed, flags_more, plain_more, timed_more, timed_next, timed_first, maps_length, samples_length}
-use Rattle.mp4_tables.proofs.IndexLists.{group_keys, indexes_are}
+use Rattle.mp4_tables.proofs.SampleLists.{placed, flags_more, plain_more, timed_more, timed_next, timed_first, samples_length}
+use Rattle.mp4_tables.proofs.IndexLists.{indexes_are}
 
 -- ---- sync samples, where there is a table of them
 pub not_sync_in : (payload : List ℕ) (o : Option RowsAt) (p : SyncPlace) (i : ℕ) → IsSyncPlaceIn payload o p i → 0 < i → (r : RowsAt) → o ≡ Some r → p.next ≢ i → 1 ≡ non_sync (option_map (numbers_at 4 payload) o) i
@@ -179,7 +178,7 @@ plain_here payload at p size ok is h e =
     let D = repeated (runs_at payload at.durations) in
     let d = repeated_length (runs_at payload at.durations) ∙ eqb_is (total (runs_at payload at.durations)) (length (sizes_at payload at.sizes)) (ok.fit duration_counts) in
     let e1 : drop k D ≡ p.duration.value ∷ drop (k + 1) D =
-        drop_more D k 0 (omega arith) ∙ ap (λ v. v ∷ drop (k + 1) D) (run_value (runs_at payload at.durations) p.duration D k is.duration (duration_left payload at p ok is h)) in
+    drop_more D k 0 (omega arith) ∙ ap (λ v. v ∷ drop (k + 1) D) (run_value (runs_at payload at.durations) p.duration D k is.duration (duration_left payload at p ok is h)) in
     let P : ℕ → Type 0 = λ m. unwrap_or (option_map (λ (rows : List (ℕ × ℤ)). nat_eq (total rows) m) (option_map (composition_offsets_at payload) at.offsets)) true ≡ true in
     let v = values_length payload at.offsets c (subst P n (ok.fit offset_counts)) in
     let e2 = values_more payload at.offsets c k p.offset v h is.offset (offset_left payload at p ok is h) in
@@ -188,10 +187,10 @@ plain_here payload at p size ok is h e =
     let e3 = flags_more (option_map (numbers_at 4 payload) at.sync) 1 k B (drop (k + 1) B) (slice_index (bytes_for (k + 1) (option_map (bytes_at payload) at.dependencies)) k) (bytes_more payload at.dependencies c k (subst Q n (ok.fit dependency_room)) h) in
     let e4 = spot_ahead (chunk_rows_at payload at.chunk_rows) (offsets_at payload at.chunks) (sizes_at payload at.sizes) p.chunk k size (chunks_hold payload at ok) is.chunk (omega arith) e in
     let Z : ℕ → Type 0 = λ m. k < m → drop k (unwrap_or (option_map repeated (option_map (composition_offsets_at payload) at.offsets)) (replicate m (pos 0))) ≡ composition_offset (offset_version (are_signed at.offsets)) p.offset.value ∷ map (composition_offset (offset_version (are_signed at.offsets))) (drop (k + 1) (offset_values payload at.offsets c))
-        → drop k (flags_from (option_map (numbers_at 4 payload) at.sync) 1 (bytes_for m (option_map (bytes_at payload) at.dependencies))) ≡ flags_here payload at p ∷ flags_from (option_map (numbers_at 4 payload) at.sync) (k + 1 + 1) (drop (k + 1) B)
-        → drop k (plain_samples t) ≡ placed p.duration.value (composition_offset (offset_version (are_signed at.offsets)) p.offset.value) (flags_here payload at p) (next_spot p.chunk size) (get_or (maps_of m (groupings_at payload at.groups)) k []) ∷ drop (k + 1) (plain_samples t) in
+    → drop k (flags_from (option_map (numbers_at 4 payload) at.sync) 1 (bytes_for m (option_map (bytes_at payload) at.dependencies))) ≡ flags_here payload at p ∷ flags_from (option_map (numbers_at 4 payload) at.sync) (k + 1 + 1) (drop (k + 1) B)
+    → drop k (plain_samples t) ≡ placed p.duration.value (composition_offset (offset_version (are_signed at.offsets)) p.offset.value) (flags_here payload at p) (next_spot p.chunk size) (get_or (maps_of m (groupings_at payload at.groups)) k []) ∷ drop (k + 1) (plain_samples t) in
     subst Z n (λ l f2 f3. plain_more t k p.duration.value (composition_offset (offset_version (are_signed at.offsets)) p.offset.value) (flags_here payload at p) (next_spot p.chunk size)
-      (drop (k + 1) D) (flags_from (option_map (numbers_at 4 payload) at.sync) (k + 1 + 1) (drop (k + 1) B)) (map (composition_offset (offset_version (are_signed at.offsets))) (drop (k + 1) (offset_values payload at.offsets c))) (drop (k + 1) (spots_of t)) l e1 f2 f3 e4) h e2 e3
+    (drop (k + 1) D) (flags_from (option_map (numbers_at 4 payload) at.sync) (k + 1 + 1) (drop (k + 1) B)) (map (composition_offset (offset_version (are_signed at.offsets))) (drop (k + 1) (offset_values payload at.offsets c))) (drop (k + 1) (spots_of t)) l e1 f2 f3 e4) h e2 e3
 
 abbrev keys_here : List ℕ → TablesAt → List GroupKey
 keys_here payload at = keys_after [] (groupings_at payload at.groups)
@@ -210,9 +209,9 @@ sample_is payload at p cto flags size groups ok is h is_cto is_flags is_size is_
     let behind = timed_next t keys k p.dts s is.time plain in
     let some = offset_left payload at p ok is h in
     let o : composition_offset (offset_version (are_signed at.offsets)) p.offset.value ≡ cto =
-        offset_read (are_signed at.offsets) p.offset.value (offset_small payload at.offsets p.offset at.sizes.rows.count k ok.have.offsets is.offset some) ∙ sym is_cto in
+    offset_read (are_signed at.offsets) p.offset.value (offset_small payload at.offsets p.offset at.sizes.rows.count k ok.have.offsets is.offset some) ∙ sym is_cto in
     let g : indexes keys (map_here payload at p) ≡ groups =
-        indexes_are at.sizes.rows.count k (keys_seen at.groups.keys) (group_rows payload at.groups) h ok.have.groups.distinct ok.have.groups.used refl ∙ sym is_groups in
+    indexes_are at.sizes.rows.count k (keys_seen at.groups.keys) (group_rows payload at.groups) h ok.have.groups.distinct ok.have.groups.used refl ∙ sym is_groups in
     let f = sym is_flags in
     first ∙ (λ i. record { dts = p.dts; duration = p.duration.value; cto = o i; flags = f i; description = p.chunk.row.description; at = p.chunk.at; size = size; groups = g i } ∷ sym behind i)
 
@@ -232,8 +231,8 @@ unfolding tables_at
 end_fits payload at p size ok is h e =
     let n = sizes_length at.sizes.form payload at.sizes.rows in
     let fine = leb_is (p.chunk.at + size) ok.surroundings.file_length
-        (all_next ok.surroundings.file_length p.number (in_chunks (chunk_rows_at payload at.chunk_rows) 1 (offsets_at payload at.chunks) (sizes_at payload at.sizes)) (drop (p.number + 1) (in_chunks (chunk_rows_at payload at.chunk_rows) 1 (offsets_at payload at.chunks) (sizes_at payload at.sizes))) (next_spot p.chunk size) (ok.fit places)
-          (spot_ahead (chunk_rows_at payload at.chunk_rows) (offsets_at payload at.chunks) (sizes_at payload at.sizes) p.chunk p.number size (chunks_hold payload at ok) is.chunk (omega arith) e)) in
+    (all_next ok.surroundings.file_length p.number (in_chunks (chunk_rows_at payload at.chunk_rows) 1 (offsets_at payload at.chunks) (sizes_at payload at.sizes)) (drop (p.number + 1) (in_chunks (chunk_rows_at payload at.chunk_rows) 1 (offsets_at payload at.chunks) (sizes_at payload at.sizes))) (next_spot p.chunk size) (ok.fit places)
+    (spot_ahead (chunk_rows_at payload at.chunk_rows) (offsets_at payload at.chunks) (sizes_at payload at.sizes) p.chunk p.number size (chunks_hold payload at ok) is.chunk (omega arith) e)) in
     let small = ok.small in
     omega arith
   where
@@ -274,7 +273,7 @@ place_passed payload at p size rows duration offset chunk sync groups ok is h e 
       offset = subst Q same (run_passed payload rows p.offset offset (offset_values payload at.offsets at.sizes.rows.count) p.number (subst P (sym same) is.offset) o1 o2 o3);
       chunk = spot_passed (chunk_rows_at payload at.chunk_rows) (offsets_at payload at.chunks) (sizes_at payload at.sizes) p.chunk chunk p.number size is.chunk (omega arith) e next settled (λ l. row (omega arith)) (omega arith) (omega arith);
       sync = s;
-      groups = g
+      groups = g;
     }
 
 -- ---- the first place
@@ -288,7 +287,7 @@ offset_first payload None n e =
     record {
       rest = rest;
       settled = λ z. ap (λ k. replicate k 0) z;
-      within = omega arith
+      within = omega arith;
     }
 offset_first payload (Some at) n e = cc
 
@@ -304,6 +303,7 @@ sync_ordered payload at ok = of at.sync (subst P (sizes_length at.sizes.form pay
   where
     P : ℕ → Type 0
     P n = unwrap_or (option_map (is_sync_order n) (option_map (numbers_at 4 payload) at.sync)) true ≡ true
+
     of : (o : Option RowsAt) → unwrap_or (option_map (is_sync_order at.sizes.rows.count) (option_map (numbers_at 4 payload) o)) true ≡ true → AreInOrder payload o at.sizes.rows.count
     of None e = tt
     of (Some rows) e = e

@@ -1,13 +1,12 @@
 -- Rows by their places, and what is left of them.
-use Rattle.std.proofs.Common.{◌≡◌, ℕ, zero, suc, ◌+◌, ◌*◌, ◌<◌, ◌≤◌, List, [], ◌∷◌, length, drop, map, replicate, slice_index, get_or, Bool, true, false, refl, ap, sym, ◌∙◌, arith, add-one}
+use Rattle.std.proofs.Common.{◌≡◌, ℕ, zero, suc, ◌+◌, ◌*◌, ◌<◌, ◌≤◌, List, [], ◌∷◌, length, drop, map, slice_index, refl, ap, sym, ◌∙◌, arith}
 use Rattle.std.specs.Prelude.{◌/◌, ◌%◌}
 use Rattle.std.proofs.lemmas.List.{length-map, length-replicate, drop-drop, get_or-drop, get_or-replicate, drop_all, drop_more}
 use Rattle.byteorder.specs.Endian.{big_from}
 use Rattle.mp4_boxes.specs.Bytes.{field, rows, numbers, width_of}
-use Rattle.mp4_tables.specs.Tables.{ChunkRow, first_number, half_bytes}
-use Rattle.mp4_tables.specs.Rows.{run_of, chunk_row_of, runs_at, chunk_rows_at, numbers_at, offset_width, offsets_at, sizes_in, sizes_at}
+use Rattle.mp4_tables.specs.Tables.{first_number, half_bytes}
+use Rattle.mp4_tables.specs.Rows.{run_of, chunk_row_of, runs_at, chunk_rows_at, numbers_at, sizes_in}
 use Rattle.mp4_tables.specs.declared.places.RowsAt.{RowsAt}
-use Rattle.mp4_tables.specs.declared.places.ChunksAt.{ChunksAt}
 use Rattle.mp4_tables.specs.declared.places.SizeForm.{SizeForm}
 use Rattle.mp4_tables.specs.declared.places.SizeForm.TheVariants as forms
 use Rattle.mp4_tables.proofs.Counts.{rows_length}
@@ -75,8 +74,8 @@ unfolding chunk_rows_at
 chunk_rows_more payload at k h =
     rows_more chunk_row_of (4 ∷ 4 ∷ 4 ∷ []) at.count k (drop at.place payload) h
     ∙ (let third : field (drop 4 (drop 4 (drop (12 * k) (drop at.place payload)))) 0 4 ≡ field payload (at.place + 12 * k + 8) 4 =
-        ap (λ xs. field xs 0 4) (drop-drop 4 4 (drop (12 * k) (drop at.place payload))) ∙ row_field at.place 12 k 8 4 payload in
-      λ i. record { first = row_first at.place 12 k 4 payload i; count = row_field at.place 12 k 4 4 payload i; description = third i } ∷ drop (k + 1) (map chunk_row_of (rows at.count (4 ∷ 4 ∷ 4 ∷ []) (drop at.place payload))))
+    ap (λ xs. field xs 0 4) (drop-drop 4 4 (drop (12 * k) (drop at.place payload))) ∙ row_field at.place 12 k 8 4 payload in
+    λ i. record { first = row_first at.place 12 k 4 payload i; count = row_field at.place 12 k 4 4 payload i; description = third i } ∷ drop (k + 1) (map chunk_row_of (rows at.count (4 ∷ 4 ∷ 4 ∷ []) (drop at.place payload))))
 
 pub chunk_rows_all : (payload : List ℕ) (at : RowsAt) (k : ℕ) → at.count ≤ k → drop k (chunk_rows_at payload at) ≡ []
 unfolding chunk_rows_at

@@ -1,12 +1,10 @@
 -- Values that rows repeat, and what is left of them.
-use Rattle.std.proofs.Common.{◌≡◌, ℕ, zero, suc, ◌+◌, ◌-◌, ◌<◌, ◌≤◌, List, [], ◌∷◌, ◌++◌, length, drop, replicate, refl, ap, sym, ◌∙◌, arith}
-use Rattle.std.proofs.lemmas.List.{append_assoc, append-nil}
+use Rattle.std.proofs.Common.{◌≡◌, ℕ, zero, suc, ◌+◌, ◌-◌, ◌<◌, ◌≤◌, List, [], ◌∷◌, ◌++◌, drop, replicate, refl, ap, ◌∙◌, arith}
 use Rattle.std.specs.Prelude.{nat_lt, ◌&&◌, true, false}
 use Rattle.mp4_tables.specs.Repeated.{repeated, total}
 use Rattle.mp4_tables.specs.Rows.{runs_at}
-use Rattle.mp4_tables.specs.Coming.{coming, IsRunPlace, all_below}
+use Rattle.mp4_tables.specs.Coming.{coming, all_below}
 use Rattle.mp4_tables.specs.declared.places.RowsAt.{RowsAt}
-use Rattle.mp4_tables.specs.declared.places.RunPlace.{RunPlace}
 use Rattle.mp4_tables.proofs.RowLists.{runs_all}
 use Rattle.mp4_tables.proofs.ChunkLists.{yes_lt, no_lt}
 

@@ -1,17 +1,14 @@
 -- The list of samples, one by one, from the lists of their parts.
-use Rattle.std.proofs.Common.{◌≡◌, ℕ, zero, suc, ◌+◌, ◌*◌, ◌^◌, ◌<◌, ◌≤◌, List, [], ◌∷◌, ◌++◌, length, take, drop, map, replicate, get_or, slice_index, subst, refl, ap, sym, ◌∙◌, arith, Bool, true, false, cond, Option, Some, None}
-use Rattle.std.specs.Prelude.{ℤ, pos, unwrap_or, option_map, ◌||◌, ◌==◌, nat_lt}
-use Rattle.std.specs.List.{list_any, AllByRecursion}
-use Rattle.std.proofs.lemmas.List.{drop_more, append-nil, append_assoc, length-replicate}
-use Rattle.std.proofs.lemmas.List.Folds.{list_any-append}
+use Rattle.std.proofs.Common.{◌≡◌, ℕ, zero, suc, ◌+◌, ◌*◌, ◌^◌, ◌<◌, List, [], ◌∷◌, length, take, drop, replicate, get_or, refl, ap, sym, ◌∙◌, arith, Bool, true, false, cond, Option}
+use Rattle.std.specs.Prelude.{ℤ, pos, unwrap_or, option_map, ◌==◌, nat_lt}
+use Rattle.std.specs.List.{AllByRecursion}
+use Rattle.std.proofs.lemmas.List.{drop_more, length-replicate}
 use Rattle.std.proofs.lemmas.Bool.Decides.{nat_tests}
 use Rattle.mp4_tables.specs.Repeated.{repeated}
-use Rattle.mp4_tables.specs.Groups.{GroupKey, Grouping, Groups, key_rank, same_key, keys_with, keys_after, index_at, put_group, put_indexes, maps_of}
+use Rattle.mp4_tables.specs.Groups.{GroupKey, Grouping, Groups, key_rank, same_key, keys_after, index_at, put_group, put_indexes, maps_of}
 use Rattle.mp4_tables.specs.Tables.{Tables}
 use Rattle.mp4_tables.specs.PlainSamples.{PlacedSample, Spot, with_groups, non_sync, flags_from, joined, spots_of, plain_samples}
-use Rattle.mp4_tables.specs.Timed.{padded, indexes, sample_at, timed, samples_of}
-use Rattle.mp4_tables.specs.Accepted.{grouped, AreDistinct, AreUsed}
-use Rattle.mp4_tables.specs.declared.sample.SampleAt.{SampleAt}
+use Rattle.mp4_tables.specs.Timed.{sample_at, timed, samples_of}
 use Rattle.mp4_tables.proofs.SpotLists.{drop_next}
 
 -- ---- parts side by side
@@ -69,7 +66,7 @@ plain_more t k duration offset flags spot ds fs os ss h e1 e2 e3 e4 =
     let m = get_or maps k [] in
     let e5 : drop k maps ≡ m ∷ drop (k + 1) maps = drop_more maps k [] (omega arith) in
     let here = grouped_more k maps (drop (k + 1) maps) (joined (repeated t.durations) O F (spots_of t)) (joined ds os fs ss) m (placed duration offset flags spot [])
-      e5 (joined_more k (repeated t.durations) ds O os F fs (spots_of t) ss duration offset flags spot e1 e2 e3 e4) in
+    e5 (joined_more k (repeated t.durations) ds O os F fs (spots_of t) ss duration offset flags spot e1 e2 e3 e4) in
     here ∙ ap (λ (xs : List PlacedSample). placed duration offset flags spot m ∷ xs) (sym (drop_next (plain_samples t) (with_groups (drop (k + 1) maps) (joined ds os fs ss)) k (placed duration offset flags spot m) here))
 
 -- ---- time

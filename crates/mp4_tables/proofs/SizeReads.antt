@@ -1,23 +1,21 @@
 -- What was read of `stsz` or `stz2`, and the faults of these.
-use Rattle.std.proofs.Common.{◌≡◌, ◌≢◌, ℕ, zero, suc, ◌+◌, ◌-◌, ◌*◌, ◌/◌, ◌<◌, ◌≤◌, ◌⊎◌, inl, inr, List, [], ◌∷◌, length, take, drop, map, replicate, subst, refl, ap, sym, ◌∙◌, arith, Bool, true, false, cond, Option, Some, None}
-use Rattle.std.specs.Prelude.{bytes_eq, codes, IsTrue, unwrap_or, nat_eq, ◌==◌, ◌||◌, ◌%◌, not, slice_index}
+use Rattle.std.proofs.Common.{◌≡◌, ◌≢◌, ℕ, zero, suc, ◌+◌, ◌-◌, ◌*◌, ◌/◌, ◌<◌, ◌≤◌, inr, List, [], ◌∷◌, length, take, drop, map, replicate, subst, refl, ap, sym, ◌∙◌, arith, Bool, true, false, cond}
+use Rattle.std.specs.Prelude.{bytes_eq, codes, ◌==◌, ◌%◌, not, slice_index}
 use Rattle.std.specs.Int.{div_ceil}
 use Rattle.std.proofs.lemmas.List.{drop-drop, drop-take}
 use Rattle.std.proofs.lemmas.Bool.Decides.{nat_tests}
 use Rattle.mp4_boxes.specs.Bytes.{field, rows}
 use Rattle.mp4_boxes.specs.Box.{Box}
-use Rattle.mp4_boxes.specs.Children.{Holds, count_among, is_among, payload_if, payload_of, sample_sizes, one}
-use Rattle.mp4_boxes.specs.Layout.{Leaf, stsz, stz2, IsSound, IsReadable, version, leaf_rows, needed, rows_size, row_count, size_bits, is_size_bits, has_bad_value}
-use Rattle.mp4_boxes.specs.Places.{leaf_of, ruled}
-use Rattle.mp4_boxes.specs.BoxFaults.{Fails, fault_of}
-use Rattle.mp4_boxes.specs.declared.rule.Rule.TheVariants.{SampleTable}
+use Rattle.mp4_boxes.specs.Children.{count_among, is_among, payload_of, sample_sizes, one}
+use Rattle.mp4_boxes.specs.Layout.{stsz, stz2, IsSound, IsReadable, version, leaf_rows, needed, rows_size, size_bits, is_size_bits}
+use Rattle.mp4_boxes.specs.BoxFaults.{fault_of}
 use Rattle.mp4_boxes.specs.declared.fault.Fault.{Fault}
 use Rattle.mp4_boxes.specs.declared.fault.Kind.TheVariants.{ShortBox, BadValue, TooManySamples}
 use Rattle.mp4_boxes.proofs.Refusing.{line_has}
 use Rattle.mp4_tables.specs.Tables.{first_number, half_bytes, sample_count, sizes_of, compact_sizes_of, sample_sizes_of}
-use Rattle.mp4_tables.specs.Rows.{HaveSizes, numbers_at, sizes_in, sizes_at}
+use Rattle.mp4_tables.specs.Rows.{HaveSizes, numbers_at, sizes_in}
 use Rattle.mp4_tables.specs.TableRules.{AreReadable}
-use Rattle.mp4_tables.specs.Leaves.{boxes_of, HasTables, AllOf, IsFirstOf, LiesIn, FailsAs, IsTooMany, IsFault, VersionFails, tables_in, SizesKnown, SizesRead, IsFormOf}
+use Rattle.mp4_tables.specs.Leaves.{boxes_of, HasTables, AllOf, IsFirstOf, LiesIn, IsFault, VersionFails, SizesKnown, SizesRead, IsFormOf}
 use Rattle.mp4_tables.specs.declared.leaves.Limits.{Limits}
 use Rattle.mp4_tables.specs.declared.places.RowsAt.{RowsAt}
 use Rattle.mp4_tables.specs.declared.places.SizesAt.{SizesAt}
@@ -44,8 +42,8 @@ sizes_readable stbl a b = readable_more (codes "stsz") (codes "stz2" ∷ []) (bo
 pub sizes_known : (l : Limits) (stbl : Box) (at : SizesAt) → SizesRead l stbl at → SizesKnown stbl at.rows.count
 sizes_known l stbl at k = record {
   count = ap (λ (xs : List ℕ). length xs) (sym k.same) ∙ sizes_length at.form stbl.payload at.rows;
-  readable = sizes_readable stbl (all_readable (codes "stsz") stsz (boxes_of stbl) k.words) (all_readable (codes "stz2") stz2 (boxes_of stbl) k.compact)
-  }
+  readable = sizes_readable stbl (all_readable (codes "stsz") stsz (boxes_of stbl) k.words) (all_readable (codes "stz2") stz2 (boxes_of stbl) k.compact);
+}
 
 -- ---- `stsz`
 words_needed : (payload : List ℕ) (v : Bool) → (field payload 4 4 == 0) ≡ v → needed stsz payload ≡ 12 + 4 * cond v (field payload 8 4) 0
@@ -93,8 +91,8 @@ words_many l stbl b v f h i e k w many s = inr (inr (record {
   sizes = rw i.same refl;
   readable = sizes_readable stbl (all_readable (codes "stsz") stsz (boxes_of stbl) (words_all stbl b v h i e k w)) (all_readable (codes "stz2") stz2 (boxes_of stbl) (no_compact stbl b h i));
   many = many;
-  named = s
-  }))
+  named = s;
+}))
 
 -- the form of the sizes of a `stsz`
 abbrev pub words_form : Bool → ℕ → SizeForm
@@ -106,9 +104,11 @@ words_same : (stbl b : Box) (v : Bool) (r : RowsAt) → LiesIn (stbl.offset + st
 unfolding sizes_in numbers_at
 words_same stbl b true r i e w c p =
     let a = i.is in
-    let k = i.within in
-    (ap (map first_number) (rows_there (stbl.offset + stbl.header) stbl.payload b r.count 12 r.place (4 ∷ []) i p (omega arith)) ∙ ap (λ n. map first_number (rows n (4 ∷ []) (drop 12 b.payload))) (c ∙ sym (ap (λ y. cond y (field b.payload 8 4) 0) e))
-      ∙ sym (ap (λ y. cond y (map first_number (leaf_rows stsz b.payload)) (replicate (sample_count b.payload) (field b.payload 4 4))) e), omega arith)
+    let k = i.within in (
+      ap (map first_number) (rows_there (stbl.offset + stbl.header) stbl.payload b r.count 12 r.place (4 ∷ []) i p (omega arith)) ∙ ap (λ n. map first_number (rows n (4 ∷ []) (drop 12 b.payload))) (c ∙ sym (ap (λ y. cond y (field b.payload 8 4) 0) e))
+          ∙ sym (ap (λ y. cond y (map first_number (leaf_rows stsz b.payload)) (replicate (sample_count b.payload) (field b.payload 4 4))) e),
+      omega arith,
+    )
 words_same stbl b false r i e w c p =
     (ap (λ n. replicate n (field b.payload 4 4)) c ∙ sym (ap (λ y. cond y (map first_number (leaf_rows stsz b.payload)) (replicate (sample_count b.payload) (field b.payload 4 4))) e), tt)
 
@@ -121,7 +121,7 @@ words_read l stbl b v r h i e k w c p few =
       same = s.0 ∙ ap (λ o. sample_sizes_of o (payload_of (codes "stz2") (boxes_of stbl))) (sym (payload_first (codes "stsz") (boxes_of stbl) b i));
       words = words_all stbl b v h i e k w;
       compact = no_compact stbl b h i;
-      few = few
+      few = few;
     }
 
 -- ---- `stz2`
@@ -149,8 +149,8 @@ compact_many l stbl b f h none i v w many s = inr (inr (record {
   sizes = among (bytes_eq (codes "stsz") b.kind) refl;
   readable = sizes_readable stbl (all_none (codes "stsz") (IsReadable stsz) (boxes_of stbl) none) (compact_all stbl b h i v w);
   many = many;
-  named = s
-  }))
+  named = s;
+}))
   where
     among : (c : Bool) → bytes_eq (codes "stsz") b.kind ≡ c → is_among sample_sizes b.kind ≡ true
     among true e = rw e refl
@@ -174,8 +174,8 @@ half_there at bytes b n place i e h =
     let p : place ≡ i.place + 12 = omega arith in
     let l : length b.payload ≡ 12 + (length b.payload - 12) = omega arith in
     let cut : drop 12 b.payload ≡ take (length b.payload - 12) (drop place bytes) =
-        ap (drop 12) (i.same ∙ ap (λ m. take m (drop i.place bytes)) l) ∙ drop-take 12 (length b.payload - 12) (drop i.place bytes)
-        ∙ ap (take (length b.payload - 12)) (drop-drop 12 i.place bytes ∙ ap (λ j. drop j bytes) (sym p)) in
+    ap (drop 12) (i.same ∙ ap (λ m. take m (drop i.place bytes)) l) ∙ drop-take 12 (length b.payload - 12) (drop i.place bytes)
+    ∙ ap (take (length b.payload - 12)) (drop-drop 12 i.place bytes ∙ ap (λ j. drop j bytes) (sym p)) in
     sym (ap (half_bytes n) cut ∙ half_cut n (length b.payload - 12) (drop place bytes) (omega arith))
 
 compact_same : (stbl b : Box) (form : SizeForm) (r : RowsAt) → LiesIn (stbl.offset + stbl.header) stbl.payload b → IsFormOf form (size_bits b.payload) → 12 + rows_size stz2 b.payload ≤ length b.payload → r.count ≡ field b.payload 8 4 → stbl.offset + stbl.header + r.place ≡ b.offset + b.header + 12
@@ -185,19 +185,28 @@ compact_same stbl b (forms.One size) r i f w c p = absurd f
 compact_same stbl b forms.Words r i f w c p = absurd f
 compact_same stbl b forms.Shorts r i f w c p =
     let a = i.is in let k = i.within in
-    let room : 12 + div_ceil (field b.payload 8 4 * 16) 8 ≤ length b.payload = subst (λ n. 12 + (cond (is_size_bits n) (div_ceil (field b.payload 8 4 * n) 8) 0) ≤ length b.payload) f w in
-    (ap (map first_number) (rows_there (stbl.offset + stbl.header) stbl.payload b r.count 12 r.place (2 ∷ []) i p (omega arith)) ∙ ap (λ n. map first_number (rows n (2 ∷ []) (drop 12 b.payload))) c
-      ∙ sym (ap (λ n. cond (n == 4) (half_bytes (sample_count b.payload) (drop 12 b.payload)) (map first_number (rows (sample_count b.payload) (n / 8 ∷ []) (drop 12 b.payload)))) f), omega arith, ap is_size_bits f)
+    let room : 12 + div_ceil (field b.payload 8 4 * 16) 8 ≤ length b.payload = subst (λ n. 12 + (cond (is_size_bits n) (div_ceil (field b.payload 8 4 * n) 8) 0) ≤ length b.payload) f w in (
+      ap (map first_number) (rows_there (stbl.offset + stbl.header) stbl.payload b r.count 12 r.place (2 ∷ []) i p (omega arith)) ∙ ap (λ n. map first_number (rows n (2 ∷ []) (drop 12 b.payload))) c
+          ∙ sym (ap (λ n. cond (n == 4) (half_bytes (sample_count b.payload) (drop 12 b.payload)) (map first_number (rows (sample_count b.payload) (n / 8 ∷ []) (drop 12 b.payload)))) f),
+      omega arith,
+      ap is_size_bits f,
+    )
 compact_same stbl b forms.Bytes r i f w c p =
     let a = i.is in let k = i.within in
-    let room : 12 + div_ceil (field b.payload 8 4 * 8) 8 ≤ length b.payload = subst (λ n. 12 + (cond (is_size_bits n) (div_ceil (field b.payload 8 4 * n) 8) 0) ≤ length b.payload) f w in
-    (ap (map first_number) (rows_there (stbl.offset + stbl.header) stbl.payload b r.count 12 r.place (1 ∷ []) i p (omega arith)) ∙ ap (λ n. map first_number (rows n (1 ∷ []) (drop 12 b.payload))) c
-      ∙ sym (ap (λ n. cond (n == 4) (half_bytes (sample_count b.payload) (drop 12 b.payload)) (map first_number (rows (sample_count b.payload) (n / 8 ∷ []) (drop 12 b.payload)))) f), omega arith, ap is_size_bits f)
+    let room : 12 + div_ceil (field b.payload 8 4 * 8) 8 ≤ length b.payload = subst (λ n. 12 + (cond (is_size_bits n) (div_ceil (field b.payload 8 4 * n) 8) 0) ≤ length b.payload) f w in (
+      ap (map first_number) (rows_there (stbl.offset + stbl.header) stbl.payload b r.count 12 r.place (1 ∷ []) i p (omega arith)) ∙ ap (λ n. map first_number (rows n (1 ∷ []) (drop 12 b.payload))) c
+          ∙ sym (ap (λ n. cond (n == 4) (half_bytes (sample_count b.payload) (drop 12 b.payload)) (map first_number (rows (sample_count b.payload) (n / 8 ∷ []) (drop 12 b.payload)))) f),
+      omega arith,
+      ap is_size_bits f,
+    )
 compact_same stbl b forms.HalfBytes r i f w c p =
     let a = i.is in let k = i.within in
-    let room : 12 + div_ceil (field b.payload 8 4 * 4) 8 ≤ length b.payload = subst (λ n. 12 + (cond (is_size_bits n) (div_ceil (field b.payload 8 4 * n) 8) 0) ≤ length b.payload) f w in
-    (half_there (stbl.offset + stbl.header) stbl.payload b r.count r.place i p (omega arith) ∙ ap (λ n. half_bytes n (drop 12 b.payload)) c
-      ∙ sym (ap (λ n. cond (n == 4) (half_bytes (sample_count b.payload) (drop 12 b.payload)) (map first_number (rows (sample_count b.payload) (n / 8 ∷ []) (drop 12 b.payload)))) f), omega arith, ap is_size_bits f)
+    let room : 12 + div_ceil (field b.payload 8 4 * 4) 8 ≤ length b.payload = subst (λ n. 12 + (cond (is_size_bits n) (div_ceil (field b.payload 8 4 * n) 8) 0) ≤ length b.payload) f w in (
+      half_there (stbl.offset + stbl.header) stbl.payload b r.count r.place i p (omega arith) ∙ ap (λ n. half_bytes n (drop 12 b.payload)) c
+          ∙ sym (ap (λ n. cond (n == 4) (half_bytes (sample_count b.payload) (drop 12 b.payload)) (map first_number (rows (sample_count b.payload) (n / 8 ∷ []) (drop 12 b.payload)))) f),
+      omega arith,
+      ap is_size_bits f,
+    )
 
 pub compact_read : (l : Limits) (stbl b : Box) (form : SizeForm) (r : RowsAt) → HasTables stbl → count_among (codes "stsz" ∷ []) (boxes_of stbl) ≡ 0 → IsFirstOf (codes "stz2") (boxes_of stbl) b → version b.payload ≤ 0 → IsFormOf form (size_bits b.payload) → 12 + rows_size stz2 b.payload ≤ length b.payload
     → r.count ≡ field b.payload 8 4 → stbl.offset + stbl.header + r.place ≡ b.offset + b.header + 12 → r.count ≤ l.room → SizesRead l stbl (record { form = form; rows = r })
@@ -209,7 +218,7 @@ compact_read l stbl b form r h none i v f w c p few =
       same = s.0 ∙ ap compact_sizes_of (sym (payload_is (codes "stz2") (boxes_of stbl) b i)) ∙ ap (λ o. sample_sizes_of o (payload_of (codes "stz2") (boxes_of stbl))) (sym (payload_none (codes "stsz") (boxes_of stbl) none));
       words = all_none (codes "stsz") (IsSound stsz) (boxes_of stbl) none;
       compact = all_first (codes "stz2") (IsSound stz2) (boxes_of stbl) b i (omega arith) (record { readable = compact_readable b v w; value = ap not s.2; inside = refl; offsets = refl });
-      few = few
+      few = few;
     }
 
 pub is_zero : (n m : ℕ) → n ≡ m → n ≡ 0 → (m == 0) ≡ true

@@ -1,6 +1,6 @@
 -- Where samples lie, one after the other.
-use Rattle.std.proofs.Common.{◌≡◌, ℕ, zero, suc, ◌+◌, ◌-◌, ◌<◌, ◌≤◌, ◌⊎◌, inl, inr, List, [], ◌∷◌, length, drop, slice_index, nat_le, subst, refl, ap, sym, ◌∙◌, arith, Bool, true, false, length-drop}
-use Rattle.std.specs.Prelude.{pos, ◌&&◌}
+use Rattle.std.proofs.Common.{◌≡◌, ℕ, ◌+◌, ◌-◌, ◌<◌, ◌≤◌, inl, inr, List, [], ◌∷◌, length, drop, slice_index, nat_le, ap, sym, ◌∙◌, arith, true, false, length-drop}
+use Rattle.std.specs.Prelude.{◌&&◌}
 use Rattle.std.proofs.lemmas.List.{drop_more, drop-drop, drop_all}
 use Rattle.std.proofs.lemmas.Bool.{cases_lt}
 use Rattle.mp4_tables.specs.Tables.{ChunkRow}
@@ -37,8 +37,8 @@ spot_first rows offsets sizes p q e same settled row opened passed = record {
   settled = settled;
   row = row;
   opened = opened;
-  passed = passed
-  }
+  passed = passed;
+}
 
 -- the next sample lies where the place says
 pub spot_here : (rows : List ChunkRow) (offsets sizes : List ℕ) (p q : ChunkPlace) (k size : ℕ) → IsChunkPlace rows offsets sizes p k → k < length sizes → size ≡ slice_index sizes k
@@ -63,8 +63,8 @@ spot_passed rows offsets sizes p q k size at h e next settled row opened passed 
   settled = settled;
   row = row;
   opened = opened;
-  passed = passed
-  }
+  passed = passed;
+}
 
 -- the next sample lies where the place says, and the others behind it
 pub spot_ahead : (rows : List ChunkRow) (offsets sizes : List ℕ) (p : ChunkPlace) (k size : ℕ) → in_chunks_total rows 1 offsets ≡ length sizes → IsChunkPlace rows offsets sizes p k → k < length sizes → size ≡ slice_index sizes k

@@ -1,18 +1,17 @@
 -- The numbers of `stss`, which rise.
-use Rattle.std.proofs.Common.{◌≡◌, ◌≢◌, ℕ, zero, suc, ◌+◌, ◌-◌, ◌<◌, ◌≤◌, ◌⊎◌, inl, inr, List, [], ◌∷◌, length, drop, slice_index, nat_le, nat_lt, nat_eq, subst, refl, ap, sym, ◌∙◌, arith, Bool, true, false, cond, Some, None}
+use Rattle.std.proofs.Common.{◌≡◌, ◌≢◌, ℕ, ◌+◌, ◌-◌, ◌<◌, ◌≤◌, inl, inr, List, [], ◌∷◌, length, drop, slice_index, nat_le, nat_lt, nat_eq, refl, ap, sym, ◌∙◌, arith, Bool, true, false}
 use Rattle.std.specs.Prelude.{◌&&◌, ◌||◌}
 use Rattle.std.specs.List.{list_any, list_all}
 use Rattle.std.proofs.lemmas.List.{drop_more, drop_all, get_or-drop}
 use Rattle.std.proofs.lemmas.Bool.{cases_lt}
 use Rattle.std.proofs.lemmas.Bool.Decides.{nat_tests}
-use Rattle.mp4_tables.specs.PlainSamples.{non_sync}
 use Rattle.mp4_tables.specs.TableRules.{is_rising_after, is_sync_order}
 use Rattle.mp4_tables.specs.Rows.{numbers_at}
 use Rattle.mp4_tables.specs.Coming.{IsSyncPlace}
 use Rattle.mp4_tables.specs.declared.places.RowsAt.{RowsAt}
 use Rattle.mp4_tables.specs.declared.places.SyncPlace.{SyncPlace}
 use Rattle.mp4_tables.proofs.RowLists.{first_left, numbers_all}
-use Rattle.mp4_tables.proofs.ChunkLists.{both, rising_lower, yes_lt, lt_yes}
+use Rattle.mp4_tables.proofs.ChunkLists.{both, yes_lt, lt_yes}
 
 yes_eq : (a b : ℕ) → a ≡ b → nat_eq a b ≡ true
 yes_eq a b e = grind (arith, nat_tests)
@@ -78,10 +77,10 @@ sync_passed named p i next at some e is = elim (cases_lt p.row (length named)) [
       let z : (i + 1) - 1 ≡ p.next = omega arith in
       record {
         same = λ j h. at.same j (omega arith) ∙ ap (list_any (nat_eq j)) (in_hand named p i at inside)
-          ∙ ap (λ b. b || list_any (nat_eq j) (drop (p.row + 1) named)) (more_eq j p.next (omega arith));
+            ∙ ap (λ b. b || list_any (nat_eq j) (drop (p.row + 1) named)) (more_eq j p.next (omega arith));
         rising = ap (λ n. is_rising_after n (drop (p.row + 1) named)) z ∙ up.1;
         next = is;
-        within = omega arith
+        within = omega arith;
       }
   | inr behind ↦ let none = none_in_hand named p i at behind in let z = none.1 in absurd (omega arith)
 ]
@@ -102,8 +101,8 @@ sync_kept named p i at some e = record {
     | inr behind ↦ ap (is_rising_after ((i + 1) - 1)) (none_in_hand named p i at behind).0
   ];
   next = at.next;
-  within = at.within
-  }
+  within = at.within;
+}
   where
     above : (a b : ℕ) → b ≢ a → a ≤ b → (a + 1) - 1 < b
     above a b ne le = omega (arith, ne)
@@ -113,8 +112,8 @@ sync_first named n next e is = record {
   same = λ j h. refl;
   rising = (both (is_rising_after 0 named) (list_all (λ i. nat_le i n) named) e).0;
   next = is;
-  within = omega arith
-  }
+  within = omega arith;
+}
 
 -- ---- the order of numbers
 

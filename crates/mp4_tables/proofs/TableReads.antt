@@ -1,31 +1,26 @@
 -- What was read of a leaf is what the definition reads, and a rule that fails is a fault.
-use Rattle.std.proofs.Common.{◌≡◌, ℕ, zero, suc, ◌+◌, ◌-◌, ◌*◌, ◌<◌, ◌≤◌, ◌⊎◌, inl, inr, List, [], ◌∷◌, ◌++◌, length, take, drop, map, subst, refl, ap, sym, ◌∙◌, arith, Bool, true, false, cond, Option, Some, None, length-drop, length-take}
-use Rattle.std.specs.Prelude.{bytes_eq, codes, IsTrue, unwrap_or, option_map, nat_eq, nat_le, nat_lt, ◌==◌, ◌||◌, slice_index, ℤ}
-use Rattle.std.specs.List.{AllByRecursion, list_all}
+use Rattle.std.proofs.Common.{◌≡◌, ℕ, ◌+◌, ◌*◌, ◌<◌, ◌≤◌, inl, inr, List, [], ◌∷◌, length, drop, map, subst, refl, ap, sym, ◌∙◌, arith, Bool, true, false, Option, Some, None, length-drop}
+use Rattle.std.specs.Prelude.{bytes_eq, codes, IsTrue, unwrap_or, option_map, nat_le, ◌==◌}
 use Rattle.mp4_boxes.specs.Bytes.{field, rows}
-use Rattle.mp4_boxes.specs.Box.{Box, box_container}
-use Rattle.mp4_boxes.specs.Children.{Holds, count_among, is_among, payload_if, payload_of, of_kind, sample_sizes, one, at_most_one}
-use Rattle.mp4_boxes.specs.Layout.{Leaf, stts, ctts, stsc, stsz, stz2, stco, co64, stss, sdtp, sbgp, sgpd, IsSound, IsReadable, version, leaf_rows, needed}
-use Rattle.mp4_boxes.specs.Places.{leaf_of, ruled, IsSoundAs}
-use Rattle.mp4_boxes.specs.BoxFaults.{Fails, fault_of}
+use Rattle.mp4_boxes.specs.Box.{Box}
+use Rattle.mp4_boxes.specs.Children.{count_among, is_among, payload_of, of_kind, sample_sizes}
+use Rattle.mp4_boxes.specs.Layout.{Leaf, stts, stss, sdtp, IsSound, IsReadable, version, leaf_rows, needed}
+use Rattle.mp4_boxes.specs.Places.{leaf_of, ruled}
+use Rattle.mp4_boxes.specs.BoxFaults.{fault_of}
 use Rattle.mp4_boxes.specs.declared.rule.Rule.TheVariants.{SampleTable}
 use Rattle.mp4_boxes.specs.declared.fault.Fault.{Fault}
-use Rattle.mp4_boxes.specs.declared.fault.Kind.{Kind}
-use Rattle.mp4_boxes.proofs.Refusing.{holds_only, holds_few, line_has}
+use Rattle.mp4_boxes.proofs.Refusing.{holds_only, holds_few}
 use Rattle.mp4_boxes.proofs.Sound.{same_kind}
 use Rattle.mp4_tables.specs.Repeated.{total}
-use Rattle.mp4_tables.specs.Tables.{Tables, ChunkRow, first_number, durations_of, chunk_rows_of, chunk_offsets_of, tables_of}
-use Rattle.mp4_tables.specs.Rows.{HaveRoom, run_of, runs_at, chunk_rows_at, numbers_at, offsets_at}
-use Rattle.mp4_tables.specs.TableRules.{TableRule, duration_counts, offset_counts, chunk_counts, chunk_order, sync_order, description_indexes, places, dependency_room, Surroundings, test, kind_of, reads, reads_groups, goes_by_chunks, IsNamed, AreReadable, IsReadableAs, GroupsReadable, IsTableFault, is_sync_order, is_chunk_order, is_index}
-use Rattle.mp4_tables.specs.Leaves.{boxes_of, HasTables, AllOf, IsFirstOf, LiesIn, IsChild, FailsAs, IsLeafFaultAmong, IsFault, surroundings_of, ShapeFails, RowsRead, VersionFails, tables_in, SizesKnown, DurationsRead, OffsetsRead, ChunksRead, ChunkRowsRead, IsOffsetsLeaf, SyncRead, DependenciesRead, SizesRead}
+use Rattle.mp4_tables.specs.Tables.{first_number, durations_of}
+use Rattle.mp4_tables.specs.Rows.{HaveRoom, run_of, runs_at, numbers_at}
+use Rattle.mp4_tables.specs.TableRules.{TableRule, duration_counts, chunk_order, sync_order, dependency_room, test, kind_of, reads, reads_groups, goes_by_chunks, IsNamed, AreReadable, IsReadableAs, GroupsReadable, is_sync_order}
+use Rattle.mp4_tables.specs.Leaves.{boxes_of, HasTables, AllOf, IsFirstOf, FailsAs, IsFault, surroundings_of, ShapeFails, RowsRead, VersionFails, tables_in, SizesKnown, DurationsRead, SyncRead, DependenciesRead}
 use Rattle.mp4_tables.specs.declared.leaves.Limits.{Limits}
-use Rattle.mp4_tables.specs.Accepted.{bytes_at, composition_offsets_at, HaveOffsets, AreSmall, offset_version}
+use Rattle.mp4_tables.specs.Accepted.{bytes_at}
 use Rattle.mp4_tables.specs.declared.places.RowsAt.{RowsAt}
 use Rattle.mp4_tables.specs.declared.places.BytesAt.{BytesAt}
-use Rattle.mp4_tables.specs.declared.places.SizesAt.{SizesAt}
-use Rattle.mp4_tables.specs.declared.places.OffsetsAt.{OffsetsAt}
-use Rattle.mp4_tables.specs.declared.places.ChunksAt.{ChunksAt}
-use Rattle.mp4_tables.proofs.LeafLists.{payload_first, payload_none, all_first, all_none, leaf_fault, readable_from, lies_in, first_is_child, room_there, runs_there, chunk_rows_there, numbers_there, shape_fails, shape_readable, version_fails, bytes_there}
+use Rattle.mp4_tables.proofs.LeafLists.{payload_first, payload_none, all_first, all_none, leaf_fault, lies_in, first_is_child, room_there, runs_there, numbers_there, shape_fails, shape_readable, version_fails, bytes_there}
 use Rattle.mp4_tables.proofs.ChunkLists.{yes_le, no_le}
 
 -- the payload of the first of a type
@@ -75,8 +70,8 @@ rule_fault l stbl b kind rule f h i r g o t n s = inr (inl (λ d. record {
   after = i.after;
   stands = i.is;
   is_named = n;
-  same = s
-  }))
+  same = s;
+}))
 
 -- a fault of the first of a type
 pub first_fault : (l : Limits) (stbl b : Box) (kind : List ℕ) (leaf : Leaf) (f : Fault) → IsFirstOf kind (boxes_of stbl) b → leaf_of (ruled SampleTable) kind ≡ Some leaf → FailsAs leaf b f → IsFault l stbl f
@@ -105,8 +100,8 @@ durations_read stbl b r n h i read t = record {
   have = room_there 0 8 8 stbl b r (lies_in stbl b h (first_is_child (codes "stts") stbl b i)) read;
   same = durations_same stbl b r h i read;
   sound = durations_sound stbl b r h i read;
-  count = ap (λ runs. total runs == n) (sym (durations_same stbl b r h i read)) ∙ t
-  }
+  count = ap (λ runs. total runs == n) (sym (durations_same stbl b r h i read)) ∙ t;
+}
 
 pub all_readable : (kind : List ℕ) (leaf : Leaf) (boxes : List Box) → AllOf kind (IsSound leaf) boxes → AllOf kind (IsReadable leaf) boxes
 all_readable kind leaf [] h = tt
@@ -148,8 +143,8 @@ sync_read stbl b r n h i read t = record {
   have = rows_have 0 4 (codes "stss") stbl b r h i read;
   same = sym (sync_is stbl b r h i read);
   sound = sync_sound stbl b r h i read;
-  ordered = ap (λ o. unwrap_or (option_map (is_sync_order n) o) true) (sync_is stbl b r h i read) ∙ t
-  }
+  ordered = ap (λ o. unwrap_or (option_map (is_sync_order n) o) true) (sync_is stbl b r h i read) ∙ t;
+}
 
 pub sync_none : (stbl : Box) (n : ℕ) → count_among (codes "stss" ∷ []) (boxes_of stbl) ≡ 0 → SyncRead stbl n None
 sync_none stbl n e =
@@ -190,7 +185,7 @@ dependencies_read stbl b at n h i v long e p few =
       have = omega arith;
       same = sym is;
       sound = dependencies_sound stbl b h i v long;
-      room = ap (λ o. unwrap_or (option_map (λ (bytes : List ℕ). nat_le n (length bytes)) o) true) is ∙ long_enough
+      room = ap (λ o. unwrap_or (option_map (λ (bytes : List ℕ). nat_le n (length bytes)) o) true) is ∙ long_enough;
     }
 
 pub dependencies_none : (stbl : Box) (n : ℕ) → count_among (codes "sdtp" ∷ []) (boxes_of stbl) ≡ 0 → DependenciesRead stbl n None

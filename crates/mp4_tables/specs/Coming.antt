@@ -1,5 +1,5 @@
 -- What a place in a table stands for: what is still to come of it.
-use Rattle.std.specs.Prelude.{◌≡◌, ℕ, suc, ◌+◌, ◌-◌, ◌*◌, ◌^◌, ◌<◌, ◌≤◌, List, [], ◌∷◌, ◌++◌, length, take, drop, map, replicate, Bool, true, ◌||◌, ◌&&◌, ℤ, pos, filter, nat_le, nat_lt, nat_eq, unwrap_or, Option, Some, None, slice_index}
+use Rattle.std.specs.Prelude.{◌≡◌, ℕ, ◌+◌, ◌-◌, ◌<◌, ◌≤◌, List, [], ◌∷◌, ◌++◌, length, take, drop, map, replicate, Bool, true, ◌||◌, ◌&&◌, pos, filter, nat_le, nat_lt, nat_eq, unwrap_or, None, slice_index}
 use Rattle.std.specs.List.{last_or, list_any, list_all}
 use Rattle.mp4_tables.specs.Repeated.{repeated}
 use Rattle.mp4_tables.specs.Tables.{ChunkRow}

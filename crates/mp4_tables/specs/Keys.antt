@@ -1,5 +1,5 @@
 -- What a clause sees of keys.
-use Rattle.std.specs.Prelude.{ℕ, List, [], ◌∷◌, length, map, take, Option, Some, None}
+use Rattle.std.specs.Prelude.{ℕ, List, map, take, Option}
 use Rattle.std.specs.List.{position_from}
 use Rattle.mp4_tables.specs.Groups.{GroupKey, same_key}
 use Rattle.mp4_tables.specs.declared.keys.GroupKey.{GroupKey as KeyNamed}

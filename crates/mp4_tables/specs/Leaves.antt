@@ -1,19 +1,19 @@
 -- The children of an `stbl`, which of them is which table, and what is so where a check names a fault.
-use Rattle.std.specs.Prelude.{◌≡◌, ℕ, zero, suc, ◌+◌, ◌-◌, ◌*◌, ◌<◌, ◌≤◌, ◌⊎◌, ◌==◌, List, [], ◌∷◌, ◌++◌, length, take, drop, Bool, true, false, IsTrue, Option, Some, None, bytes_eq, codes, option_map, unwrap_or, nat_le, ℤ}
+use Rattle.std.specs.Prelude.{◌≡◌, ℕ, zero, suc, ◌+◌, ◌-◌, ◌*◌, ◌<◌, ◌≤◌, ◌⊎◌, ◌==◌, List, [], ◌∷◌, ◌++◌, length, take, drop, true, false, IsTrue, Option, Some, bytes_eq, codes, option_map, unwrap_or, nat_le, ℤ}
 use Rattle.std.specs.List.{AllByRecursion}
 use Rattle.mp4_boxes.specs.Bytes.{field}
 use Rattle.mp4_boxes.specs.Box.{Box, box_container, first_boxes}
-use Rattle.mp4_boxes.specs.Children.{Holds, count_among, is_among, sample_sizes, of_kind, payload_if, payload_of}
+use Rattle.mp4_boxes.specs.Children.{Holds, count_among, is_among, sample_sizes}
 use Rattle.mp4_boxes.specs.Layout.{Leaf, stts, ctts, stsc, stsz, stz2, stco, co64, stss, sdtp, sbgp, sgpd, IsSound, IsReadable, version}
-use Rattle.mp4_boxes.specs.Places.{leaf_of, ruled, IsSoundAs}
+use Rattle.mp4_boxes.specs.Places.{leaf_of, ruled}
 use Rattle.mp4_boxes.specs.BoxFaults.{Fails, fault_of}
 use Rattle.mp4_boxes.specs.declared.rule.Rule.TheVariants.{SampleTable}
 use Rattle.mp4_boxes.specs.declared.fault.Fault.{Fault}
 use Rattle.mp4_boxes.specs.declared.fault.Kind.{Kind}
 use Rattle.mp4_boxes.specs.declared.fault.Kind.TheVariants.{ShortBox, BadVersion, TooManySamples}
 use Rattle.mp4_tables.specs.Repeated.{total}
-use Rattle.mp4_tables.specs.Groups.{Grouping, GroupKey, GroupRule, keys_after, key_of, grouping_of, groupings_of, group_test, group_kind, keeps}
-use Rattle.mp4_tables.specs.Tables.{Tables, sample_count, sample_sizes_of, durations_of, offsets_of, chunk_rows_of, chunk_offsets_of, tables_of}
+use Rattle.mp4_tables.specs.Groups.{Grouping, GroupKey, GroupRule, keys_after, key_of, grouping_of, group_test, group_kind, keeps}
+use Rattle.mp4_tables.specs.Tables.{Tables, sample_count, tables_of}
 use Rattle.mp4_tables.specs.Rows.{HaveRoom, HaveSizes, runs_at, chunk_rows_at, numbers_at, offsets_at, offset_width, sizes_at}
 use Rattle.mp4_tables.specs.TableRules.{Surroundings, Fit, AreReadable, IsTableFault, test, chunk_order, description_indexes, places, is_sync_order}
 use Rattle.mp4_tables.specs.PlainSamples.{in_chunks_total}

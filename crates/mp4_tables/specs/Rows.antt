@@ -1,6 +1,6 @@
 -- Rows of tables by where they lie in the payload of their `stbl`.
 use Rattle.std.specs.Prelude.{ℕ, ◌+◌, ◌*◌, ◌≤◌, List, [], ◌∷◌, length, drop, map, replicate, slice_index, Bool, true, false}
-use Rattle.mp4_boxes.specs.Bytes.{field, rows}
+use Rattle.mp4_boxes.specs.Bytes.{rows}
 use Rattle.mp4_tables.specs.Tables.{ChunkRow, first_number, half_bytes}
 use Rattle.mp4_tables.specs.declared.places.RowsAt.{RowsAt}
 use Rattle.mp4_tables.specs.declared.places.ChunksAt.{ChunksAt}

@@ -1,5 +1,5 @@
 -- Samples as they are handed out: with decode times, and with an index at each key of the track.
-use Rattle.std.specs.Prelude.{ℕ, zero, suc, ◌+◌, List, [], ◌∷◌, length, map, ℤ, pos, negsuc}
+use Rattle.std.specs.Prelude.{ℕ, zero, suc, ◌+◌, List, [], ◌∷◌, map, ℤ, pos, negsuc}
 use Rattle.mp4_tables.specs.Groups.{GroupKey, Groups, index_at, keys_after}
 use Rattle.mp4_tables.specs.Tables.{Tables}
 use Rattle.mp4_tables.specs.PlainSamples.{PlacedSample, plain_samples}

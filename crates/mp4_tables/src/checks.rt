@@ -17,11 +17,17 @@ use mp4_boxes::{BoxView, Fault, FourCc, Kind, Steps};
 use std::sync::ledger::Ledger;
 
 const STTS: FourCc = FourCc(*b"stts");
+
 const CTTS: FourCc = FourCc(*b"ctts");
+
 const STSC: FourCc = FourCc(*b"stsc");
+
 const STCO: FourCc = FourCc(*b"stco");
+
 const CO64: FourCc = FourCc(*b"co64");
+
 const STSS: FourCc = FourCc(*b"stss");
+
 const SDTP: FourCc = FourCc(*b"sdtp");
 
 // The durations of `n` samples.
@@ -182,7 +188,11 @@ pub(crate) fn read_sync<L: Ledger>(
 }
 
 // The bytes of `sdtp` for `n` samples, where there is that table.
-pub(crate) fn read_dependencies(stbl: BoxView, limits: Limits, n: u32) -> Result<Option<BytesAt>, Fault>
+pub(crate) fn read_dependencies(
+    stbl: BoxView,
+    limits: Limits,
+    n: u32,
+) -> Result<Option<BytesAt>, Fault>
     requires tables { HasTables (box_seen stbl) }
     requires sizes { SizesKnown (box_seen stbl) n }
     ensures rows { IfOk result (DependenciesRead (box_seen stbl.entry) n) }
@@ -226,7 +236,11 @@ pub(crate) fn check_places<L: Ledger>(
 }
 
 // The tables of an `stbl`.
-pub(crate) fn read_tables<L: Ledger>(stbl: BoxView, limits: Limits, steps: &mut Steps<L>) -> Result<TablesAt, Fault>
+pub(crate) fn read_tables<L: Ledger>(
+    stbl: BoxView,
+    limits: Limits,
+    steps: &mut Steps<L>,
+) -> Result<TablesAt, Fault>
     requires { HasTables (box_seen stbl) }
     ensures tables { IfOk result (TablesRead limits (box_seen stbl.entry)) }
     ensures fault { IfErr result (IsFault limits (box_seen stbl.entry)) }

@@ -49,7 +49,12 @@ pub(crate) fn next_row(payload: &[u8], rows: RowsAt, opened: u32, place: RowPlac
 #[tactic(auto, using(crate::proofs::ChunkLists::rising))]
 // Whether the rows are in order: the first begins at chunk 1, if there are chunks, and each later one behind the
 // one before.
-pub(crate) fn are_ordered<L: Ledger>(payload: &[u8], rows: RowsAt, has_chunks: bool, steps: &mut Steps<L>) -> bool
+pub(crate) fn are_ordered<L: Ledger>(
+    payload: &[u8],
+    rows: RowsAt,
+    has_chunks: bool,
+    steps: &mut Steps<L>,
+) -> bool
     requires { HaveRoom 12 payload.now rows }
     ensures same { result ≡ is_chunk_order (map (λ row. row.first) (chunk_rows_at payload.now rows)) has_chunks }
     ensures cost { steps.new ≤ steps.old + rows.count }
@@ -136,7 +141,12 @@ pub(crate) fn are_described<L: Ledger>(
 #[tactic(auto, using(crate::proofs::ChunkLists::opening))]
 // Opens chunks until a sample is left in one.
 #[inline]
-pub(crate) fn open_chunk(payload: &[u8], rows: RowsAt, chunks: ChunksAt, place: ChunkPlace) -> ChunkPlace
+pub(crate) fn open_chunk(
+    payload: &[u8],
+    rows: RowsAt,
+    chunks: ChunksAt,
+    place: ChunkPlace,
+) -> ChunkPlace
     requires room { HaveRoom 12 payload.now rows }
     requires offsets { HaveRoom (offset_width chunks.is_wide) payload.now chunks.rows }
     requires at { place.opened < chunks.rows.count → IsRowPlace (chunk_rows_at payload.now rows) place.opened place.row }
@@ -185,7 +195,13 @@ pub(crate) fn first_chunk(payload: &[u8], rows: RowsAt, chunks: ChunksAt) -> Chu
 #[tactic(auto, using(crate::proofs::ChunkLists::spots_first))]
 // Passes the next sample, which has this size.
 #[inline]
-pub(crate) fn pass_spot(payload: &[u8], rows: RowsAt, chunks: ChunksAt, place: ChunkPlace, size: u32) -> ChunkPlace
+pub(crate) fn pass_spot(
+    payload: &[u8],
+    rows: RowsAt,
+    chunks: ChunksAt,
+    place: ChunkPlace,
+    size: u32,
+) -> ChunkPlace
     requires room { HaveRoom 12 payload.now rows }
     requires offsets { HaveRoom (offset_width chunks.is_wide) payload.now chunks.rows }
     requires at { place.opened < chunks.rows.count → IsRowPlace (chunk_rows_at payload.now rows) place.opened place.row }

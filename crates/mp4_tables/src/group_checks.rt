@@ -14,6 +14,7 @@ use mp4_boxes::{BoxView, Fault, FourCc, Kind, Steps, u32_at};
 use std::sync::ledger::Ledger;
 
 const SBGP: FourCc = FourCc(*b"sbgp");
+
 const SGPD: FourCc = FourCc(*b"sgpd");
 
 // An `sgpd`: what follows its grouping type is kept unread.

@@ -72,7 +72,12 @@ fn pass_index(payload: &[u8], rows: RowsAt, place: RunPlace, number: u32) -> Run
 
 // Passes a sample in each `sbgp`.
 #[inline]
-pub(crate) fn pass_groups(payload: &[u8], groups: &GroupsAt, places: &GroupPlaces, number: u32) -> GroupPlaces
+pub(crate) fn pass_groups(
+    payload: &[u8],
+    groups: &GroupsAt,
+    places: &GroupPlaces,
+    number: u32,
+) -> GroupPlaces
     requires have { HaveGroups payload.now groups.now }
     requires at { AreGroupPlaces payload.now groups.now places.now number }
     ensures at { AreGroupPlaces payload.now groups.now result (number + 1) }

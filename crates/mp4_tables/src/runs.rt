@@ -11,7 +11,12 @@ use std::sync::ledger::Ledger;
 
 // Whether the counts of the rows add up to `n`.
 #[tactic(auto, using(crate::proofs::RunLists::counting))]
-pub(crate) fn counts_are<L: Ledger>(payload: &[u8], rows: RowsAt, n: u32, steps: &mut Steps<L>) -> bool
+pub(crate) fn counts_are<L: Ledger>(
+    payload: &[u8],
+    rows: RowsAt,
+    n: u32,
+    steps: &mut Steps<L>,
+) -> bool
     requires { HaveRoom 8 payload.now rows }
     ensures same { result ≡ (total (runs_at payload.now rows) == n) }
     ensures cost { steps.new ≤ steps.old + rows.count }
@@ -29,7 +34,12 @@ pub(crate) fn counts_are<L: Ledger>(payload: &[u8], rows: RowsAt, n: u32, steps:
 
 // Whether the counts of the rows add up to no more than `n`.
 #[tactic(auto, using(crate::proofs::RunLists::counting))]
-pub(crate) fn counts_are_within<L: Ledger>(payload: &[u8], rows: RowsAt, n: u32, steps: &mut Steps<L>) -> bool
+pub(crate) fn counts_are_within<L: Ledger>(
+    payload: &[u8],
+    rows: RowsAt,
+    n: u32,
+    steps: &mut Steps<L>,
+) -> bool
     requires { HaveRoom 8 payload.now rows }
     ensures same { IsTrue result ↔ (total (runs_at payload.now rows) ≤ n) }
     ensures cost { steps.new ≤ steps.old + rows.count }
@@ -46,7 +56,12 @@ pub(crate) fn counts_are_within<L: Ledger>(payload: &[u8], rows: RowsAt, n: u32,
 }
 
 // Whether the value of each row is below a bound.
-pub(crate) fn are_below<L: Ledger>(payload: &[u8], rows: RowsAt, bound: u32, steps: &mut Steps<L>) -> bool
+pub(crate) fn are_below<L: Ledger>(
+    payload: &[u8],
+    rows: RowsAt,
+    bound: u32,
+    steps: &mut Steps<L>,
+) -> bool
     requires { HaveRoom 8 payload.now rows }
     ensures same { result ≡ all_below bound (runs_at payload.now rows) }
     ensures cost { steps.new ≤ steps.old + rows.count }

@@ -11,6 +11,7 @@ use crate::places::{RowsAt, SizeForm, SizesAt};
 use mp4_boxes::{BoxView, Fault, FourCc, Kind, u32_at};
 
 const STSZ: FourCc = FourCc(*b"stsz");
+
 const STZ2: FourCc = FourCc(*b"stz2");
 
 // The sizes of `stsz`: one for all samples, or each.

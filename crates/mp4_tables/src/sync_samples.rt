@@ -12,7 +12,12 @@ use std::sync::ledger::Ledger;
 
 // Whether the numbers rise, from 1 to `n`.
 #[tactic(auto, using(crate::proofs::SyncLists::ordering))]
-pub(crate) fn are_numbers<L: Ledger>(payload: &[u8], rows: RowsAt, n: u32, steps: &mut Steps<L>) -> bool
+pub(crate) fn are_numbers<L: Ledger>(
+    payload: &[u8],
+    rows: RowsAt,
+    n: u32,
+    steps: &mut Steps<L>,
+) -> bool
     requires { HaveRoom 4 payload.now rows }
     ensures same { result ≡ is_sync_order n (numbers_at 4 payload.now rows) }
     ensures cost { steps.new ≤ steps.old + rows.count }

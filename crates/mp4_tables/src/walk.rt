@@ -11,7 +11,9 @@ ghost use Rattle.mp4_tables.specs.TableRules.{is_sync_order};
 
 use crate::chunks::{first_chunk, pass_spot};
 use crate::groups::{first_groups, index_here, pass_groups};
-use crate::places::{BytesAt, GroupPlaces, GroupsAt, OffsetsAt, RowsAt, RunPlace, SyncPlace, TablePlace, TablesAt};
+use crate::places::{
+    BytesAt, GroupPlaces, GroupsAt, OffsetsAt, RowsAt, RunPlace, SyncPlace, TablePlace, TablesAt,
+};
 use crate::runs::{pass, settle};
 use crate::sample::SampleAt;
 use crate::sizes::size_at;
@@ -59,13 +61,7 @@ fn non_sync_at(payload: &[u8], sync: Option<RowsAt>, place: SyncPlace, i: u32) -
     ensures small { result ≤ 1 }
 {
     match sync {
-        Some(_) => {
-            if place.next == i {
-                0
-            } else {
-                1
-            }
-        }
+        Some(_) => { if place.next == i { 0 } else { 1 } }
         None => 0,
     }
 }

@@ -1,4 +1,3 @@
-use Rattle.std.proofs.Common.{arith, sym, ap, refl, codes, ◌≡◌, ◌+◌, ◌*◌, ◌≤◌, ◌<◌, ◌∙◌, length}
 use Rattle.std.proofs.lemmas.Result.{err_from_is_err_and}
 use Rattle.mp4_boxes.specs.View.{box_seen}
 use Rattle.mp4_tables.proofs.ChunkReads.{narrow_fail, wide_fail, wide_there, narrow_read, wide_read}

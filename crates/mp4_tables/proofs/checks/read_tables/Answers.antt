@@ -34,5 +34,5 @@ returns-clause-tables g c =
       places = c.in_ok-check_places.ensures.places;
       sync = c.in_ok-sync.ensures.rows;
       dependencies = c.in_ok-dependencies.ensures.rows;
-      groups = c.in_ok-groups.ensures.groups
+      groups = c.in_ok-groups.ensures.groups;
     })

@@ -9,8 +9,8 @@ loop-opened-init g c = record {
   same = refl;
   row = row_before _ _ _ c.requires.ordered c.no_row-place.ensures;
   within = (let none = ap (λ (p : RowPlace). p.row) c.no_row-place.ensures in omega arith);
-  cost = omega arith
-  }
+  cost = omega arith;
+}
 
 pub returns-then-not-has_description-clause-same : goal.returns-then-not-has_description-clause-same
 returns-then-not-has_description-clause-same g c =
@@ -21,8 +21,8 @@ loop-opened-preserved g c = record {
   same = c.loop-opened.invariant.same ∙ described_yes _ _ _ _ _ _ c.loop-opened-test.true c.next_row-place.ensures.at (sym c.if-not-has_description.ensures);
   row = λ _. c.next_row-place.ensures.at;
   within = c.next_row-place.ensures.within;
-  cost = omega arith
-  }
+  cost = omega arith;
+}
 
 pub returns-clause-same : goal.returns-clause-same
 returns-clause-same g c = sym (c.loop-opened.invariant.same ∙ described_all c.args.payload.now c.args.chunks (chunk_rows_at c.args.payload.now c.args.rows) c.args.descriptions c.loop-opened.opened c.loop-opened-test.false)

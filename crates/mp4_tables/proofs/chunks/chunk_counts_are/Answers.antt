@@ -11,8 +11,8 @@ loop-opened-init g c = record {
   few = omega arith;
   row = row_before _ _ _ c.requires.ordered c.no_row-place.ensures;
   within = (let none = ap (λ (p : RowPlace). p.row) c.no_row-place.ensures in omega arith);
-  cost = omega arith
-  }
+  cost = omega arith;
+}
 
 pub returns-then-total-from-clause-same : goal.returns-then-total-from-clause-same
 returns-then-total-from-clause-same g c =
@@ -30,5 +30,5 @@ loop-opened-preserved g c =
       few = omega arith;
       row = λ _. c.next_row-place.ensures.at;
       within = c.next_row-place.ensures.within;
-      cost = omega arith
+      cost = omega arith;
     }

@@ -1,7 +1,6 @@
-use Rattle.std.proofs.Common.{arith, ap, ◌∙◌, ◌<◌, length}
-use Rattle.mp4_tables.specs.Rows.{chunk_rows_at, offsets_at, offset_width}
+use Rattle.std.proofs.Common.{arith, ap}
+use Rattle.mp4_tables.specs.Rows.{offset_width}
 use Rattle.mp4_tables.specs.declared.places.RowPlace.{RowPlace}
-use Rattle.mp4_tables.specs.declared.places.ChunkPlace.{ChunkPlace}
 use Rattle.mp4_tables.proofs.RowLists.{chunk_rows_length, numbers_length}
 use Rattle.mp4_tables.proofs.ChunkLists.{row_before}
 use Rattle.mp4_tables.proofs.SpotLists.{spot_first}

@@ -10,7 +10,7 @@ invariant-loop-place l = record {
   row : l.place.opened < l.chunks.rows.count → IsRowPlace (chunk_rows_at l.payload l.rows) l.place.opened l.place.row;
   opened : l.place.opened ≤ l.chunks.rows.count;
   passed : l.place.row.row ≤ l.rows.count;
-  on : (l.initial.place.opened ≤ l.place.opened) × (l.initial.place.row.row ≤ l.place.row.row)
+  on : (l.initial.place.opened ≤ l.place.opened) × (l.initial.place.row.row ≤ l.place.row.row);
 }
 
 abbrev pub decreases-loop-place : goal.decreases-loop-place

@@ -1,4 +1,4 @@
-use Rattle.std.proofs.Common.{arith, rules, sym, ap, ◌≡◌, ◌≤◌, ◌<◌, ◌∙◌, length}
+use Rattle.std.proofs.Common.{arith, sym, ◌≤◌, ◌<◌, ◌∙◌, length}
 use Rattle.mp4_tables.specs.Repeated.{total}
 use Rattle.mp4_tables.specs.Rows.{runs_at}
 use Rattle.mp4_boxes.specs.View.{box_seen}

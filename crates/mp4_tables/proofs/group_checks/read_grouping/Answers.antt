@@ -1,9 +1,6 @@
-use Rattle.std.proofs.Common.{arith, ap, sym, ◌∙◌, ◌≡◌, true, false, Some, None, length, List, ℕ, take, drop, refl}
-use Rattle.std.specs.Prelude.{◌==◌}
+use Rattle.std.proofs.Common.{arith, ap, ◌∙◌, true, false, Some, take, drop, refl}
 use Rattle.mp4_boxes.specs.Bytes.{field}
-use Rattle.mp4_boxes.specs.Layout.{version}
 use Rattle.mp4_boxes.specs.View.{box_seen}
-use Rattle.mp4_tables.specs.Keys.{key_seen}
 use Rattle.mp4_tables.proofs.LeafLists.{lies_in}
 use Rattle.mp4_tables.proofs.SizeReads.{is_zero, is_some}
 use Rattle.mp4_tables.proofs.GroupReads.{group_read}

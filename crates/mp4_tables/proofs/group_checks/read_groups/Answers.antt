@@ -1,4 +1,3 @@
-use Rattle.std.proofs.Common.{sym, ◌∙◌}
 use Rattle.std.proofs.lemmas.Result.{err_from_is_err_and}
 use Rattle.mp4_boxes.specs.View.{box_seen}
 use Rattle.mp4_tables.proofs.GroupReads.{next_child, passed_next, child_fault}

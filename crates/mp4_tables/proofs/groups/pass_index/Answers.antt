@@ -1,4 +1,4 @@
-use Rattle.std.proofs.Common.{arith, sym}
+use Rattle.std.proofs.Common.{arith}
 use Rattle.mp4_tables.specs.Repeated.{repeated}
 use Rattle.mp4_tables.specs.Rows.{runs_at}
 use Rattle.mp4_tables.proofs.RowLists.{runs_length}

@@ -1,7 +1,4 @@
-use Rattle.std.proofs.Common.{sym}
 use Rattle.mp4_boxes.specs.View.{box_seen}
-use Rattle.mp4_boxes.specs.Box.{bytes_container}
-use Rattle.mp4_boxes.proofs.Tiling.{tiles_one}
 use Rattle.mp4_tables.specs.Leaves.{boxes_of}
 use Rattle.mp4_tables.proofs.LeafLists.{tiled_as_bytes}
 use Rattle.mp4_tables.proofs.leaves.children_of.Goals as goal

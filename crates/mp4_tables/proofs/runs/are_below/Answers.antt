@@ -10,8 +10,8 @@ returns-then-run_at-bound-clause-same g c =
 pub loop-k-preserved : goal.loop-k-preserved
 loop-k-preserved g c = record {
   same = c.loop-k.invariant.same ∙ below_yes (runs_at c.args.payload.now c.args.rows) c.args.bound c.loop-k.k c.run_at.result.count c.run_at.result.value c.run_at.ensures c.if-run_at-bound.false;
-  cost = omega arith
-  }
+  cost = omega arith;
+}
 
 pub returns-clause-same : goal.returns-clause-same
 returns-clause-same g c = sym (c.loop-k.invariant.same ∙ below_all c.args.payload.now c.args.rows c.args.bound c.loop-k.k c.loop-k-test.false)

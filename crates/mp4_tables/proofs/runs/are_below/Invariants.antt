@@ -7,5 +7,5 @@ use Rattle.mp4_tables.proofs.runs.are_below.Given as goal
 abbrev pub invariant-loop-k : goal.invariant-loop-k
 invariant-loop-k g l = record {
   same : all_below l.bound (runs_at l.payload l.rows) ≡ all_below l.bound (drop l.k (runs_at l.payload l.rows));
-  cost : l.steps ≤ l.fn.steps + l.k
+  cost : l.steps ≤ l.fn.steps + l.k;
 }

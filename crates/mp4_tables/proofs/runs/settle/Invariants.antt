@@ -8,7 +8,7 @@ abbrev pub invariant-loop-place : goal.invariant-loop-place
 invariant-loop-place l = record {
   same : coming (runs_at l.payload l.rows) l.place ≡ coming (runs_at l.payload l.rows) l.initial.place;
   within : l.place.row ≤ l.rows.count;
-  on : l.initial.place.row ≤ l.place.row
+  on : l.initial.place.row ≤ l.place.row;
 }
 
 abbrev pub decreases-loop-place : goal.decreases-loop-place

@@ -1,7 +1,7 @@
-use Rattle.std.proofs.Common.{arith, sym, ap, refl, codes, ◌≡◌, ◌+◌, ◌*◌, ◌≤◌, ◌<◌, ◌∙◌, length, List, ℕ, true, false, slice_index, subst}
+use Rattle.std.proofs.Common.{arith, sym, ap, refl, codes, ◌≡◌, ◌∙◌, length, List, ℕ, slice_index, subst}
 use Rattle.std.proofs.lemmas.Result.{err_from_is_err_and}
 use Rattle.mp4_boxes.specs.Bytes.{field}
-use Rattle.mp4_boxes.specs.Layout.{stz2, rows_size, size_bits, is_size_bits}
+use Rattle.mp4_boxes.specs.Layout.{size_bits, is_size_bits}
 use Rattle.mp4_tables.specs.Leaves.{IsFormOf}
 use Rattle.mp4_boxes.specs.View.{box_seen}
 use Rattle.mp4_tables.proofs.LeafLists.{lies_in, first_is_child}

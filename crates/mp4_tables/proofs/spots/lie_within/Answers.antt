@@ -8,15 +8,15 @@ pub loop-i-init : goal.loop-i-init
 loop-i-init g c = record {
   place = c.first_chunk-place.ensures (sizes_at c.args.payload.now c.args.sizes);
   same = refl;
-  cost = omega arith
-  }
+  cost = omega arith;
+}
 
 pub returns-then-not-lies-clause-same : goal.returns-then-not-lies-clause-same
 returns-then-not-lies-clause-same g c =
     let n = sizes_length c.args.sizes.form c.args.payload.now c.args.sizes.rows in
     sym (c.loop-i.invariant.same
-      ∙ within_no (chunk_rows_at c.args.payload.now c.args.rows) (offsets_at c.args.payload.now c.args.chunks) (sizes_at c.args.payload.now c.args.sizes) c.loop-i.place c.args.file_len c.loop-i.i c.size_at-size.result
-      (c.requires.counts ∙ sym n) c.loop-i.invariant.place (omega arith) c.size_at-size.ensures (sym c.if-not-lies.ensures))
+    ∙ within_no (chunk_rows_at c.args.payload.now c.args.rows) (offsets_at c.args.payload.now c.args.chunks) (sizes_at c.args.payload.now c.args.sizes) c.loop-i.place c.args.file_len c.loop-i.i c.size_at-size.result
+    (c.requires.counts ∙ sym n) c.loop-i.invariant.place (omega arith) c.size_at-size.ensures (sym c.if-not-lies.ensures))
 
 pub pass_spot-place-requires-clause-at : goal.pass_spot-place-requires-clause-at
 pass_spot-place-requires-clause-at g c =
@@ -48,11 +48,11 @@ loop-i-preserved g c =
     let e = c.pass_spot-place.ensures in
     record {
       place = spot_passed (chunk_rows_at c.args.payload.now c.args.rows) (offsets_at c.args.payload.now c.args.chunks) (sizes_at c.args.payload.now c.args.sizes) c.loop-i.place c.pass_spot-place.result c.loop-i.i c.size_at-size.result
-      c.loop-i.invariant.place (omega arith) c.size_at-size.ensures e.next e.settled (λ h. e.at (omega arith)) (omega arith) (omega arith);
+          c.loop-i.invariant.place (omega arith) c.size_at-size.ensures e.next e.settled (λ h. e.at (omega arith)) (omega arith) (omega arith);
       same = c.loop-i.invariant.same
-      ∙ within_yes (chunk_rows_at c.args.payload.now c.args.rows) (offsets_at c.args.payload.now c.args.chunks) (sizes_at c.args.payload.now c.args.sizes) c.loop-i.place c.args.file_len c.loop-i.i c.size_at-size.result
-      (c.requires.counts ∙ sym n) c.loop-i.invariant.place (omega arith) c.size_at-size.ensures (sym c.if-not-lies.ensures);
-      cost = omega arith
+          ∙ within_yes (chunk_rows_at c.args.payload.now c.args.rows) (offsets_at c.args.payload.now c.args.chunks) (sizes_at c.args.payload.now c.args.sizes) c.loop-i.place c.args.file_len c.loop-i.i c.size_at-size.result
+          (c.requires.counts ∙ sym n) c.loop-i.invariant.place (omega arith) c.size_at-size.ensures (sym c.if-not-lies.ensures);
+      cost = omega arith;
     }
 
 pub returns-clause-same : goal.returns-clause-same

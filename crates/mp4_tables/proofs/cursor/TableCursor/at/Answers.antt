@@ -1,4 +1,3 @@
-use Rattle.std.proofs.Common.{◌≡◌, ◌-◌, length, List, ℕ}
 use Rattle.mp4_tables.proofs.PlaceLists.{samples_left}
 use Rattle.mp4_tables.proofs.cursor.TableCursor.at.Goals as goal
 

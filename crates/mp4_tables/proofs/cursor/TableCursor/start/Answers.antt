@@ -1,5 +1,3 @@
-use Rattle.std.proofs.Common.{◌≡◌, ◌-◌, ◌∙◌, length, List, ℕ, arith}
-use Rattle.mp4_tables.specs.Views.{tables_seen}
 use Rattle.mp4_tables.proofs.PlaceLists.{all_samples}
 use Rattle.mp4_tables.proofs.cursor.TableCursor.start.Goals as goal
 
