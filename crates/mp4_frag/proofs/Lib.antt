@@ -1,3 +1,5 @@
+pub mod RunsRead
+pub mod RunRows
 pub mod StateLists
 pub mod ColumnValues
 pub mod Trees

@@ -1,5 +1,6 @@
 pub mod Fragments
 pub mod ColumnsRead
+pub mod Passing
 pub mod PlacesIn
 pub mod Reading
 pub mod States

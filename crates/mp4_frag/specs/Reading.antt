@@ -1,12 +1,14 @@
 -- What is read of the leaves of a `traf`, as plain numbers.
-use Rattle.std.specs.Prelude.{◌≡◌, ℕ, ◌+◌, ◌*◌, ◌≤◌, List, [], ◌∷◌, length, drop, Option, option_map, slice_index, nat_eq}
+use Rattle.std.specs.Prelude.{◌≡◌, ℕ, ◌+◌, ◌*◌, ◌≤◌, List, [], ◌∷◌, length, drop, Bool, Option, None, unwrap_or, ℤ, option_map, slice_index, nat_eq}
 use Rattle.byteorder.specs.Endian.{twos_complement}
 use Rattle.mp4_boxes.specs.Bytes.{width_of}
 use Rattle.mp4_boxes.specs.Layout.{has, flags, version, fields, column_values, leaf_fields, tfhd, trun, sbgp, row_count, tfhd_columns, trun_columns, default_base_is_moof, IsReadable}
 use Rattle.mp4_tables.specs.Groups.{key_of}
 use Rattle.mp4_tables.specs.Keys.{key_seen}
 use Rattle.mp4_frag.specs.ColumnsRead.{row_room, rows_from}
-use Rattle.mp4_frag.specs.Fragments.{column}
+use Rattle.mp4_frag.specs.Fragments.{column, TrackFragment}
+use Rattle.mp4_frag.specs.declared.heads.Inherited.{Inherited}
+use Rattle.mp4_frag.specs.declared.trex.Trex.{Trex}
 use Rattle.mp4_frag.specs.declared.rows.Row.{Row}
 use Rattle.mp4_frag.specs.declared.runs.Run.{Run}
 use Rattle.mp4_frag.specs.declared.heads.Head.{Head}
@@ -45,3 +47,11 @@ pub record IsGroup (payload : List ℕ) (group : Group) : Type 0 where
   pub rows : group.rows ≡ width_of (fields sbgp (version payload))
   pub room : group.rows + 8 * group.count ≤ length payload
   pub readable : IsReadable sbgp payload
+
+-- a `traf` of this `tfhd`
+abbrev pub as_traf : Head → TrackFragment
+as_traf head = record { id = head.id; base_data_offset = head.base; description = head.description; duration = head.duration; size = head.size; flags = head.flags; base_is_moof = head.base_is_moof; decode_time = None; runs = []; groups = [] }
+
+-- what the samples of a `traf` inherit
+abbrev pub inheritance : TrackFragment → Trex → Inherited
+inheritance traf trex = record { description = unwrap_or traf.description trex.description; duration = unwrap_or traf.duration trex.duration; size = unwrap_or traf.size trex.size; flags = unwrap_or traf.flags trex.flags }

@@ -1,12 +1,13 @@
 //! A `moof`, checked behind what came before it (ISO/IEC 14496-12, 8.8).
 ghost use Rattle.std.specs.Prelude.{◌≡◌, ◌+◌, ◌*◌, ◌^◌, ◌<◌, ◌≤◌, length, IfOk, IfSome};
 ghost use Rattle.mp4_boxes.specs.View.{box_seen};
+ghost use Rattle.mp4_frag.specs.Passing.{IsNearer, is_late_at, start_with, due_with};
 ghost use Rattle.mp4_frag.specs.States.{HaveRoom};
 ghost use Rattle.mp4_frag.specs.Views.{moof_seen};
 
 use crate::groups::{KeysNamed, check_group};
 use crate::heads::{base_of, read_head, what_is_inherited};
-use crate::sample_runs::{Judged, Passed, check_run};
+use crate::sample_runs::{Judged, Passed, check_run, near};
 use crate::state::TrackState;
 use crate::times::read_time;
 use crate::view::FragView;
@@ -72,7 +73,8 @@ fn check_runs<L: Ledger>(
     room: &mut u32,
     steps: &mut Steps<L>,
 ) -> Result<Passed, Fault>
-    requires { room.old ≤ 2 ^ 24 }
+    requires few { room.old ≤ 2 ^ 24 }
+    requires base { IsNearer judged.base }
     ensures few { IfOk result (λ p. p.count + room.new ≡ room.old) }
     ensures duration { IfOk result (λ p. p.duration ≤ 2 ^ 32 * p.count) }
 {
@@ -113,7 +115,9 @@ fn check_groups<L: Ledger>(
 }
 
 // Whether samples begin at another time than is due. The first ones of a track say when it starts.
-fn is_late(state: TrackState, time: Option<u64>, passed: Passed) -> bool {
+fn is_late(state: TrackState, time: Option<u64>, passed: Passed) -> bool
+    ensures { result ≡ is_late_at state time passed.count }
+{
     match time {
         Some(time) => passed.count > 0 && state.count > 0 && u128::from(time) != state.time,
         None => false,
@@ -127,6 +131,8 @@ fn moved_on(state: TrackState, time: Option<u64>, passed: Passed, keys: Keys) ->
     requires duration { passed.duration ≤ 2 ^ 32 * passed.count }
     ensures count { result.count ≡ state.count + passed.count }
     ensures time { result.time ≤ 2 ^ 64 + 2 ^ 32 * result.count }
+    ensures none { passed.count ≡ 0 → result ≡ record state { keys = keys } }
+    ensures some { 0 < passed.count → result ≡ record state { start = start_with state time; count = state.count + passed.count; time = due_with state time + passed.duration; keys = keys } }
 {
     if passed.count == 0 {
         return TrackState { keys, ..state };
@@ -185,7 +191,7 @@ fn check_traf<L: Ledger>(
     };
     let judged = Judged {
         file_len,
-        base: base_of(head, moof, before),
+        base: near(base_of(head, moof, before)),
         inherited: what_is_inherited(head, trex),
     };
     let passed = check_runs(traf, judged, room, steps)?;

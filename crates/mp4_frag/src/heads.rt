@@ -5,7 +5,8 @@ ghost use Rattle.mp4_boxes.specs.BoxFaults.{Fails};
 ghost use Rattle.mp4_boxes.specs.Layout.{column_values, default_base_is_moof, tfhd, tfhd_columns};
 ghost use Rattle.mp4_boxes.specs.Layout.{has as has_flag};
 ghost use Rattle.mp4_frag.specs.ColumnsRead.{head_room};
-ghost use Rattle.mp4_frag.specs.Reading.{IsHead, head_values};
+ghost use Rattle.mp4_frag.specs.FragmentSamples.{base_of as base_by};
+ghost use Rattle.mp4_frag.specs.Reading.{IsHead, head_values, as_traf, inheritance};
 
 use crate::columns::{behind, has, number_at, wide_at};
 use crate::fronts::front;
@@ -106,7 +107,9 @@ pub(crate) fn read_head(payload: &[u8]) -> Result<Head, Kind>
 }
 
 /// What the samples of the `traf` inherit: from its `tfhd`, else from the `trex` of its track.
-pub(crate) fn what_is_inherited(head: Head, trex: Trex) -> Inherited {
+pub(crate) fn what_is_inherited(head: Head, trex: Trex) -> Inherited
+    ensures { result ≡ inheritance (as_traf head) trex }
+{
     Inherited {
         description: head.description.unwrap_or(trex.description),
         duration: head.duration.unwrap_or(trex.duration),
@@ -127,7 +130,9 @@ pub(crate) fn nothing_inherited() -> Inherited {
 
 /// Where the runs of the `traf` are counted from, in a `moof` at this place, where the data of the `traf` before
 /// ends there.
-pub(crate) fn base_of(head: Head, moof: u64, before: i128) -> i128 {
+pub(crate) fn base_of(head: Head, moof: u64, before: i128) -> i128
+    ensures { result ≡ base_by moof before (as_traf head) }
+{
     match head.base {
         Some(base) => i128::from(base),
         None if head.base_is_moof => i128::from(moof),

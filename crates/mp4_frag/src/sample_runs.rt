@@ -1,6 +1,10 @@
 //! The samples of a run, passed one by one to judge them.
-ghost use Rattle.std.specs.Prelude.{◌≡◌, ◌+◌, ◌*◌, ◌^◌, ◌≤◌, length, IfOk};
+ghost use Rattle.std.specs.Prelude.{◌≡◌, ◌+◌, ◌*◌, ◌^◌, ◌<◌, ◌≤◌, ◌∷◌, [], ◌||◌, ◌+ℤ◌, pos, true, length, IfOk, IfErr, ◌-◌, not, ◌&&◌};
+ghost use Rattle.mp4_boxes.specs.Layout.{too_large};
+ghost use Rattle.mp4_tables.specs.TableRules.{lies_within as lies_in};
 ghost use Rattle.mp4_frag.specs.ColumnsRead.{row_room};
+ghost use Rattle.mp4_frag.specs.FragmentSamples.{run_start as run_start_by};
+ghost use Rattle.mp4_frag.specs.Passing.{IsNear, IsNearer, IsRunFault, IsRunPassed, rows_left, offsets_left, row_seen, within_from, end_from, lasting};
 
 use crate::heads::Inherited;
 use crate::rows::{Row, row_at, row_size};
@@ -24,67 +28,141 @@ pub(crate) struct Judged {
     pub(crate) inherited: Inherited,
 }
 
-// What is wrong with the samples of a run.
-#[derive(Clone, Copy, PartialEq, Eq)]
-enum Wrong {
-    Nothing,
-    LargeOffset,
-    Outside,
+// Samples of a run that were judged. Where one does not lie in the file, those behind it were not passed.
+#[derive(Clone, Copy)]
+struct Samples {
+    end: i128,
+    duration: u64,
+    are_within: bool,
+    /// Whether an offset has no place in 32 bits with a sign.
+    are_large: bool,
+}
+
+/// A place that is near: the same one, where it is.
+pub(crate) fn near(at: i128) -> i128
+    ensures near { IsNearer result }
+    ensures same { IsNearer at → result ≡ at }
+{
+    const FAR: i128 = 0x8_0000_0000_0000_0000_0000_0000;
+    if at > FAR {
+        return FAR;
+    }
+    if at < -FAR {
+        return -FAR;
+    }
+    at
 }
 
 /// Where a run begins: at its offset from the base, else where the data before it ends.
-pub(crate) fn run_start(base: i128, before: i128, data_offset: Option<i32>) -> i128 {
+pub(crate) fn run_start(base: i128, before: i128, data_offset: Option<i32>) -> i128
+    requires base { IsNearer base }
+    requires before { IsNear before }
+    ensures is { result ≡ run_start_by base before data_offset }
+    ensures near { IsNear result }
+{
     match data_offset {
-        Some(offset) => base.saturating_add(i128::from(offset)),
+        Some(offset) => base + i128::from(offset),
         None => before,
     }
 }
 
 // Whether so many bytes from a place on lie in a file of this length.
 #[inline]
-fn lies_within(file_len: u64, at: i128, size: u32) -> bool {
-    0 <= at && at.saturating_add(i128::from(size)) <= i128::from(file_len)
+fn lies_within(file_len: u64, at: i128, size: u32) -> bool
+    requires { IsNear at }
+    ensures { result ≡ lies_in file_len at size }
+{
+    0 <= at && at + i128::from(size) <= i128::from(file_len)
 }
 
-// Whether the offset of the row is unsigned and has no place in 32 bits with a sign.
+// Where data ends that begins at a place.
 #[inline]
-fn is_too_large(row: Row, is_signed: bool) -> bool {
+fn data_end(at: i128, size: u32) -> i128
+    requires { IsNear at }
+    ensures { result ≡ at +ℤ pos size }
+{
+    at + i128::from(size)
+}
+
+// Whether the offset of the row has no place in 32 bits with a sign, or one before has none.
+#[inline]
+fn is_too_large(before: bool, row: Row) -> bool
+    ensures { result ≡ (before || too_large (row.offset ∷ [])) }
+{
+    if before {
+        return true;
+    }
     match row.offset {
-        Some(offset) => !is_signed && offset >= 0x8000_0000,
+        Some(offset) => offset >= 0x8000_0000,
         None => false,
     }
 }
 
-// The end and the duration of the samples of a run that begins at a place, and what is wrong with them.
+// Row `k` of a run.
+#[inline]
+fn row_of(payload: &[u8], run: Run, k: u32) -> Row
+    requires room { run.rows + run.count * row_room run.bits ≤ length payload.now }
+    requires inside { k < run.count }
+    ensures row { rows_left payload.now run k ≡ row_seen run result ∷ rows_left payload.now run (k + 1) }
+    ensures offset { offsets_left payload.now run k ≡ result.offset ∷ offsets_left payload.now run (k + 1) }
+{
+    row_at(
+        payload,
+        run.rows + k as usize * row_size(run.bits),
+        run.bits,
+    )
+}
+
+// The samples of a run that begins at a place.
 fn pass_samples<L: Ledger>(
     payload: &[u8],
     run: Run,
     at: i128,
     judged: Judged,
     steps: &mut Steps<L>,
-) -> (i128, u64, Wrong)
-    requires { run.rows + run.count * row_room run.bits ≤ length payload.now }
-    ensures duration { result.1 ≤ 2 ^ 32 * run.count }
+) -> Samples
+    requires room { run.rows + run.count * row_room run.bits ≤ length payload.now }
+    requires near { IsNear at }
+    ensures within { result.are_within ≡ within_from judged.file_len judged.inherited.size at (rows_left payload.now run 0) }
+    ensures end { result.are_within ≡ true → result.end ≡ end_from judged.inherited.size at (rows_left payload.now run 0) }
+    ensures duration { result.are_within ≡ true → result.duration ≡ lasting judged.inherited.duration (rows_left payload.now run 0) }
+    ensures large { result.are_within ≡ true → result.are_large ≡ too_large (offsets_left payload.now run 0) }
+    ensures short { result.duration ≤ 2 ^ 32 * run.count }
+    ensures near { IsNear result.end }
     ensures cost { steps.new ≤ steps.old + run.count }
 {
-    let width = row_size(run.bits);
-    let mut at = at;
-    let mut duration: u64 = 0;
-    let mut wrong = Wrong::Nothing;
+    let mut samples = Samples {
+        end: at,
+        duration: 0,
+        are_within: true,
+        are_large: false,
+    };
     for k in 0..run.count {
         steps.tick();
-        let row = row_at(payload, run.rows + k as usize * width, run.bits);
+        let row = row_of(payload, run, k);
         let size = row.size.unwrap_or(judged.inherited.size);
-        if !lies_within(judged.file_len, at, size) {
-            return (at, duration, Wrong::Outside);
+        if !lies_within(judged.file_len, samples.end, size) {
+            return Samples {
+                are_within: false,
+                ..samples
+            };
         }
-        if is_too_large(row, run.is_signed) {
-            wrong = Wrong::LargeOffset;
-        }
-        duration += u64::from(row.duration.unwrap_or(judged.inherited.duration));
-        at = at.saturating_add(i128::from(size));
+        let duration = row.duration.unwrap_or(judged.inherited.duration);
+        samples = Samples {
+            end: data_end(samples.end, size),
+            duration: samples.duration + u64::from(duration),
+            are_within: true,
+            are_large: is_too_large(samples.are_large, row),
+        };
     }
-    (at, duration, wrong)
+    samples
+}
+
+// Whether an offset is unsigned and has no place in 32 bits with a sign.
+fn have_large_offset(run: Run, samples: Samples) -> bool
+    ensures { result ≡ (not run.is_signed && samples.are_large) }
+{
+    !run.is_signed && samples.are_large
 }
 
 /// Checks a `trun`, behind others of its `traf`.
@@ -97,6 +175,11 @@ pub(crate) fn check_run<L: Ledger>(
 ) -> Result<Passed, Kind>
     requires few { passed.count + room.old ≤ 2 ^ 24 }
     requires duration { passed.duration ≤ 2 ^ 32 * passed.count }
+    requires base { IsNearer judged.base }
+    requires near { IsNear passed.at }
+    ensures near { IfOk result (λ p. IsNear p.at) }
+    ensures passed { IfOk result (λ p. IsRunPassed judged.file_len judged.inherited judged.base passed.at payload.now p.at (p.count - passed.count) (p.duration - passed.duration)) }
+    ensures fault { IfErr result (IsRunFault judged.file_len judged.inherited judged.base passed.at room.old payload.now) }
     ensures few { IfOk result (λ p. p.count + room.new ≡ passed.count + room.old) }
     ensures duration { IfOk result (λ p. p.duration ≤ 2 ^ 32 * p.count) }
     ensures cost { IfOk result (λ p. steps.new + passed.count ≤ steps.old + p.count) }
@@ -107,14 +190,16 @@ pub(crate) fn check_run<L: Ledger>(
     }
     *room -= run.count;
     let start = run_start(judged.base, passed.at, run.data_offset);
-    let (at, duration, wrong) = pass_samples(payload, run, start, judged, steps);
-    match wrong {
-        Wrong::Nothing => Ok(Passed {
-            at,
+    let samples = pass_samples(payload, run, start, judged, steps);
+    if samples.are_within {
+        if have_large_offset(run, samples) {
+            return Err(Kind::OffsetTooLarge);
+        }
+        return Ok(Passed {
+            at: samples.end,
             count: passed.count + run.count,
-            duration: passed.duration + duration,
-        }),
-        Wrong::LargeOffset => Err(Kind::OffsetTooLarge),
-        Wrong::Outside => Err(Kind::SampleOutsideFile),
+            duration: passed.duration + samples.duration,
+        });
     }
+    Err(Kind::SampleOutsideFile)
 }

@@ -230,16 +230,17 @@ fn told(fault: Option<Fault>) -> (Option<Kind>, [u8; 4], u64) {
 // Whether the samples of track 1 are three of 512 each, with these flags, of 5, 0 and 7 bytes from this place on.
 fn are_three(bytes: &Bytes, tracks: &[TrackState], dts: u64, at: u64, flags: [u32; 3]) -> bool {
     let view = FragView::again(moof_of(bytes));
-    let mut cursor = FragCursor::start(&view, tracks, 1, dts, Keys::new());
+    let first = FragCursor::start(&view, tracks, 1, dts, Keys::new());
+    let mut cursor = FragCursor::at(&view, tracks, first.place());
     let sizes = [5u32, 0, 7];
     let places = [at, at.saturating_add(5), at.saturating_add(5)];
     let mut due = dts;
     for k in 0..3usize {
-        let from = FragCursor::at(&view, tracks, cursor.place());
+        let peeked = cursor.peek();
         let Some(sample) = cursor.next() else {
             return false;
         };
-        if from.peek() != Some(sample) {
+        if peeked != Some(sample) {
             return false;
         }
         let is_it = sample.dts == due
@@ -466,5 +467,80 @@ fn too_many_samples(rt: HostRuntime) {
         let mut room = room;
         let fault = check_words(words, &[(16, count)], &mut tracks, &mut room);
         assert_eq!(rt; told(fault).0, want);
+    }
+}
+
+// Three samples in a `traf` with these `sbgp`s behind the run: six words each.
+const GROUPED: &[u32] = &[
+    0x10,
+    0x6D66_6864,
+    0,
+    1, // mfhd
+    0x80,
+    0x7472_6166, // traf
+    0x1C,
+    0x7466_6864,
+    0x0002_002A,
+    1,
+    1,
+    512,
+    0x0001_0000, // tfhd
+    0x24,
+    0x7472_756E,
+    0x0000_0205,
+    3,
+    104,
+    0,
+    5,
+    0,
+    7, // trun
+    0x1C,
+    0x7362_6770,
+    0,
+    0x726F_6C6C,
+    1,
+    2,
+    1, // sbgp: roll, two samples of index 1
+    0x1C,
+    0x7362_6770,
+    0,
+    0x7261_7020,
+    1,
+    3,
+    2, // sbgp: rap, three of index 2
+];
+
+#[test]
+fn groups(rt: HostRuntime) {
+    let mut tracks = [track(1, 0)];
+    let mut room = 10;
+    assert_eq!(rt; check_words(GROUPED, &[], &mut tracks, &mut room), None);
+    let keys = tracks[0].keys;
+    assert_eq!(rt; keys.count(), 2);
+    let bytes = spelled(GROUPED, &[]);
+    let view = FragView::again(moof_of(&bytes));
+    let mut cursor = FragCursor::start(&view, &tracks, 1, 0, keys);
+    for want in [[1, 2, 0, 0], [1, 2, 0, 0], [0, 2, 0, 0]] {
+        let groups = match cursor.next() {
+            Some(sample) => sample.groups,
+            None => [9, 9, 9, 9],
+        };
+        assert_eq!(rt; groups, want);
+    }
+    let cases = [
+        // a row more than samples, an index too large, the same key twice, another version, no room
+        (27, 4, Kind::CountMismatch, 677),
+        (28, 65_536, Kind::BadValue, 677),
+        (32, 0x726F_6C6C, Kind::DuplicateBox, 705),
+        (24, 0x0200_0000, Kind::BadVersion, 677),
+        (26, 2, Kind::ShortBox, 677),
+    ];
+    for (place, other, kind, offset) in cases {
+        let mut tracks = [track(1, 0)];
+        let mut room = 10;
+        assert_eq!(rt;
+            told(check_words(GROUPED, &[(place, other)], &mut tracks, &mut room)),
+            (Some(kind), *b"sbgp", offset)
+        );
     }
 }

@@ -1,5 +1,6 @@
 //! A walk over the samples of a track in a `moof`, from place to place.
-ghost use Rattle.std.specs.Prelude.{ℕ, List, ◌≡◌, ◌^◌, ◌<◌, ◌≤◌, length};
+ghost use Rattle.std.specs.Prelude.{ℕ, List, ◌≡◌, ◌<◌, ◌≤◌, length, None};
+ghost use Rattle.mp4_frag.specs.FragmentSamples.{flags_of as flags_by};
 ghost use Rattle.mp4_frag.specs.PlacesIn.{IsPlaceIn, IsRowPlace};
 
 use crate::check::{SBGP, TFHD, TRAF, TRUN, find_track};
@@ -9,7 +10,7 @@ use crate::indexes::{first_index, indexes_here, no_indexes, pass_indexes, with_i
 use crate::places::{FragPlace, RowPlace};
 use crate::rows::{row_at, row_size};
 use crate::runs::read_run;
-use crate::sample_runs::run_start;
+use crate::sample_runs::{near, run_start};
 use crate::state::TrackState;
 use mp4_boxes::{BoxView, FourCc, u32_at, u64_at};
 use mp4_tables::{Keys, SampleAt};
@@ -187,7 +188,7 @@ fn open_run(payload: &[u8], lying: Lying, place: FragPlace) -> FragPlace
         first_flags: run.first_flags,
     };
     let opened = FragPlace {
-        at: run_start(place.base, place.at, run.data_offset),
+        at: run_start(near(place.base), near(place.at), run.data_offset),
         next: lying.end,
         passed,
         run: rows,
@@ -252,7 +253,7 @@ pub(crate) fn settle(
 // The flags of a sample: those of its run's first sample, its own, or the inherited ones. The four highest bits are reserved.
 #[inline]
 fn flags_of(first: Option<u32>, own: Option<u32>, inherited: u32) -> u32
-    ensures { result < 2 ^ 28 }
+    ensures { result ≡ flags_by first own None inherited }
 {
     match first {
         Some(flags) => flags % 0x1000_0000,

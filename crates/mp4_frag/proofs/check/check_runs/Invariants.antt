@@ -1,4 +1,5 @@
 use Rattle.std.proofs.Common.{◌≡◌, ◌+◌, ◌*◌, ◌^◌, ◌≤◌}
+use Rattle.mp4_frag.specs.Passing.{IsNear}
 use Rattle.mp4_frag.proofs.check.check_runs.Given as goal
 
 -- what the runs took of the room
@@ -7,4 +8,5 @@ invariant-loop-child g l =
     (goal.iterator-loop-child g).can_next l.child-iterator ×
     (goal.iterator-loop-child g).is_finite l.child-iterator ×
     (l.passed.count + l.room ≡ l.fn.room) ×
+    IsNear l.passed.at ×
     (l.passed.duration ≤ 2 ^ 32 * l.passed.count)

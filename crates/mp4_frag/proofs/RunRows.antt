@@ -1,0 +1,105 @@
+-- The rows of a run from one to the next.
+use Rattle.std.proofs.Common.{◌≡◌, ℕ, suc, ◌+◌, ◌-◌, ◌*◌, ◌<◌, ◌≤◌, List, [], ◌∷◌, drop, Bool, true, false, ◌||◌, ◌&&◌, ◌^◌, nat_le, Option, Some, None, refl, sym, ap, ◌∙◌, to_z, of_z, rules, arith}
+use Rattle.std.specs.Prelude.{option_map, unwrap_or, ℤ, pos, negsuc, ◌+ℤ◌}
+use Rattle.mp4_tables.specs.TableRules.{lies_within}
+use Rattle.std.specs.Int.{w128}
+use Rattle.std.proofs.lemmas.Int.{to_z-of_z}
+use Rattle.std.proofs.lemmas.List.{drop-drop}
+use Rattle.mp4_boxes.specs.Layout.{column_values, sample_columns, run_offsets, too_large}
+use Rattle.mp4_frag.specs.ColumnsRead.{row_room}
+use Rattle.mp4_frag.specs.Fragments.{RunRow, run_rows, run_row_of}
+use Rattle.mp4_frag.specs.Reading.{row_values}
+use Rattle.mp4_frag.specs.Passing.{rows_left, offsets_left, bytes_left, row_seen, run_version, IsNear, IsNearer, within_from, end_from, lasting}
+use Rattle.mp4_frag.specs.declared.rows.Row.{Row}
+use Rattle.mp4_frag.specs.declared.runs.Run.{Run}
+
+-- one less is left behind a row
+less_left : (n k : ℕ) → k < n → n - k ≡ suc (n - (k + 1))
+less_left n k lt = omega arith
+
+-- the bytes behind a row
+bytes_behind : (payload : List ℕ) (run : Run) (k : ℕ) → drop (row_room run.bits) (bytes_left payload run k) ≡ bytes_left payload run (k + 1)
+bytes_behind payload run k = drop-drop (row_room run.bits) (run.rows + k * row_room run.bits) payload ∙ ap (λ n. drop n payload) (omega arith)
+
+-- row k stands in front of the rows behind it
+pub row_more : (payload : List ℕ) (run : Run) (k : ℕ) (row : Row) → k < run.count → row_values row ≡ column_values run.bits sample_columns (bytes_left payload run k)
+    → rows_left payload run k ≡ row_seen run row ∷ rows_left payload run (k + 1)
+unfolding rows_left
+row_more payload run k row lt e =
+    rw (less_left run.count k lt, sym e, bytes_behind payload run k) refl
+
+-- and so do the offsets
+pub offset_more : (payload : List ℕ) (run : Run) (k : ℕ) (row : Row) → k < run.count → row_values row ≡ column_values run.bits sample_columns (bytes_left payload run k)
+    → offsets_left payload run k ≡ row.offset ∷ offsets_left payload run (k + 1)
+unfolding offsets_left
+offset_more payload run k row lt e =
+    rw (less_left run.count k lt, sym e, bytes_behind payload run k) refl
+
+-- behind the last row none is left
+pub rows_none : (payload : List ℕ) (run : Run) (k : ℕ) → run.count ≤ k → rows_left payload run k ≡ []
+unfolding rows_left
+rows_none payload run k le =
+    let none : run.count - k ≡ 0 = omega arith in
+    rw none refl
+
+pub offsets_none : (payload : List ℕ) (run : Run) (k : ℕ) → run.count ≤ k → offsets_left payload run k ≡ []
+unfolding offsets_left
+offsets_none payload run k le =
+    let none : run.count - k ≡ 0 = omega arith in
+    rw none refl
+
+-- an offset in front of others
+pub large_more : (n : Option ℕ) (ns : List (Option ℕ)) → too_large (n ∷ ns) ≡ (too_large (n ∷ []) || too_large ns)
+large_more None ns = refl
+large_more (Some n) ns = elim (nat_le (2 ^ 31) n) as (λ b. (b || too_large ns) ≡ ((b || false) || too_large ns)) [ true ↦ refl | false ↦ refl ]
+
+-- ---- a row is passed
+
+pub within_step : (length size : ℕ) (at to : ℤ) (row : RunRow) (rows later : List RunRow) → rows ≡ row ∷ later → lies_within length at (unwrap_or row.size size) ≡ true → to ≡ at +ℤ pos (unwrap_or row.size size)
+    → within_from length size at rows ≡ within_from length size to later
+within_step length size at to row rows later e lies moved = rw (e, lies, moved) refl
+
+pub end_step : (size : ℕ) (at to : ℤ) (row : RunRow) (rows later : List RunRow) → rows ≡ row ∷ later → to ≡ at +ℤ pos (unwrap_or row.size size)
+    → end_from size at rows ≡ end_from size to later
+end_step size at to row rows later e moved = rw (e, moved) refl
+
+pub lasting_step : (duration : ℕ) (row : RunRow) (rows later : List RunRow) → rows ≡ row ∷ later → lasting duration rows ≡ unwrap_or row.duration duration + lasting duration later
+lasting_step duration row rows later e = rw e refl
+
+-- one of them does not lie in the file
+pub not_within : (length size : ℕ) (at : ℤ) (row : RunRow) (rows later : List RunRow) → rows ≡ row ∷ later → lies_within length at (unwrap_or row.size size) ≡ false
+    → within_from length size at rows ≡ false
+not_within length size at row rows later e lies = rw (e, lies) refl
+
+pub large_step : (n : Option ℕ) (ns later : List (Option ℕ)) → ns ≡ n ∷ later → too_large ns ≡ (too_large (n ∷ []) || too_large later)
+large_step n ns later e = rw e (large_more n later)
+
+pub or_false : (b : Bool) → (b || false) ≡ b
+or_false true = refl
+or_false false = refl
+
+pub or_before : (a b c all : Bool) → all ≡ (a || (b || c)) → all ≡ ((a || b) || c)
+or_before true b c all e = e
+or_before false b c all e = e
+
+-- data that lies in a file ends at a place that is near
+pub near_within : (length size : ℕ) (at : ℤ) → length < 2 ^ 64 → lies_within length at size ≡ true → IsNear (at +ℤ pos size)
+near_within length size (pos n) short lies =
+    let le : n + size ≤ length = search rules in
+    let low : n + size ≤ 2 ^ 100 = omega arith in
+    (search rules, search rules)
+near_within length size (negsuc n) short lies = absurd cc
+
+pub lasts_on : (a d b u e f : ℕ) → a ≡ d + b → b ≡ u + e → f ≡ u → a ≡ d + f + e
+lasts_on a d b u e f x y z = omega arith
+
+-- a place that is near keeps its value in 128 bits
+pub near_again : (at : ℤ) → IsNear at → to_z w128 (of_z w128 at) ≡ at
+near_again at near = to_z-of_z w128 at (search rules)
+
+pub nearer_again : (at : ℤ) → IsNearer at → to_z w128 (of_z w128 at) ≡ at
+nearer_again at near = to_z-of_z w128 at (search rules)
+
+-- what was added is what is more
+pub added : (before more : ℕ) → before + more - before ≡ more
+added before more = omega arith

@@ -1,0 +1,30 @@
+use Rattle.std.proofs.Common.{rules, ◌≡◌, ◌∙◌, sym, true, false, not, ◌&&◌}
+use Rattle.mp4_frag.specs.FragmentSamples.{run_start}
+use Rattle.mp4_frag.proofs.RunRows.{near_again, nearer_again, added}
+use Rattle.mp4_frag.proofs.RunsRead.{run_outside, run_passes, large_is}
+use Rattle.mp4_frag.proofs.sample_runs.check_run.Goals as goal
+
+pub returns-clause-fault : goal.returns-clause-fault
+returns-clause-fault g c =
+    let r = c.in_ok-run.ensures.run in
+    let start = rw (nearer_again c.args.judged.base c.requires.base, near_again c.args.passed.at c.requires.near) at c.run_start-start.ensures.is in
+    let within = rw (near_again c.run_start-start.result c.run_start-start.ensures.near) at c.pass_samples-samples.ensures.within in
+    (r.readable, run_outside c.args.payload.now c.in_ok-run.run' c.args.judged.file_len c.args.judged.inherited.size c.args.judged.base c.args.passed.at c.run_start-start.result _ r start within c.if-samples.false)
+
+pub returns-then-have_large_offset-clause-fault : goal.returns-then-have_large_offset-clause-fault
+returns-then-have_large_offset-clause-fault g c =
+    let r = c.in_ok-run.ensures.run in
+    let large = c.pass_samples-samples.ensures.large c.if-samples.true in
+    (r.readable, sym (large_is c.args.payload.now c.in_ok-run.run' _ r large) ∙ sym c.have_large_offset.ensures ∙ c.if-have_large_offset.true)
+
+pub returns-then-samples-clause-passed : goal.returns-then-samples-clause-passed
+returns-then-samples-clause-passed g c =
+    let r = c.in_ok-run.ensures.run in
+    let start = rw (nearer_again c.args.judged.base c.requires.base, near_again c.args.passed.at c.requires.near) at c.run_start-start.ensures.is in
+    let again = near_again c.run_start-start.result c.run_start-start.ensures.near in
+    let within = rw again at c.pass_samples-samples.ensures.within in
+    let end = rw again at c.pass_samples-samples.ensures.end c.if-samples.true in
+    let small = sym c.have_large_offset.ensures ∙ c.if-have_large_offset.false in
+    rw (added c.args.passed.count c.in_ok-run.run'.count, added c.args.passed.duration c.pass_samples-samples.result.duration, near_again c.pass_samples-samples.result.end c.pass_samples-samples.ensures.near)
+    (run_passes c.args.payload.now c.in_ok-run.run' c.args.judged.file_len c.args.judged.inherited c.args.judged.base c.args.passed.at c.run_start-start.result _ _ _ _ r start within c.if-samples.true end
+    (c.pass_samples-samples.ensures.duration c.if-samples.true) (c.pass_samples-samples.ensures.large c.if-samples.true) small)
