@@ -12,4 +12,5 @@ pub mod HeadLengths
 pub mod Above
 pub mod Walks
 pub mod EditBoxes
+pub mod Entries
 pub mod Vectors

@@ -1,4 +1,14 @@
 //! `minf`: the media header, `dinf` and `stbl` (ISO/IEC 14496-12, 8.4.4 and 8.7.1).
+ghost use Rattle.std.specs.Prelude.{◌≡◌, true, IfErr, OnOk, bytes_eq, codes};
+ghost use Rattle.mp4_boxes.specs.Layout.{dref, data_entry_url, IsSound};
+ghost use Rattle.mp4_boxes.specs.Places.{ruled, data_entries};
+ghost use Rattle.mp4_boxes.specs.View.{box_seen};
+ghost use Rattle.mp4_boxes.specs.declared.rule.Rule.TheVariants as rules;
+ghost use Rattle.mp4_head.specs.Containers.{SaysReferences, SaysDataInformation};
+ghost use Rattle.mp4_head.specs.HeadFaults.{HeadStands};
+ghost use Rattle.mp4_head.specs.Leaves.{FailsAsReference};
+ghost use Rattle.mp4_head.specs.Refuses.{StandsOrFails, place_of};
+
 use crate::kept_boxes::{Kept, keep};
 use crate::leaves::{fault, is, open};
 use crate::sample_table::{SampleTable, read_sample_table};
@@ -6,7 +16,11 @@ use mp4_boxes::{BoxView, Fault, FourCc, Kind, Refusal, Rule, check_children, cou
 use std::alloc::Global;
 
 // The one data reference: media data lies in this file (8.7.2).
-fn check_reference(entry: BoxView) -> Result<(), Fault> {
+fn check_reference(entry: BoxView) -> Result<(), Fault>
+    ensures url { OnOk result (bytes_eq (codes "url ") (box_seen entry.entry).kind ≡ true) }
+    ensures sound { OnOk result (IsSound data_entry_url (box_seen entry.entry).payload) }
+    ensures fault { IfErr result (FailsAsReference (box_seen entry.entry)) }
+{
     if !is(entry, FourCc(*b"url ")) {
         return Err(fault(Kind::OutsideData, entry));
     }
@@ -17,18 +31,25 @@ fn check_reference(entry: BoxView) -> Result<(), Fault> {
     Ok(())
 }
 
-fn check_references(dref: BoxView) -> Result<(), Fault> {
-    open(dref, 0, 8, 0)?;
-    if u32_at(dref.payload(), 4) != 1 {
-        return Err(fault(Kind::OutsideData, dref));
+// The entries of a `dref`.
+fn check_references(view: BoxView) -> Result<(), Fault>
+    ensures says { OnOk result (SaysReferences (box_seen view.entry)) }
+    ensures fault { IfErr result (StandsOrFails dref data_entries (box_seen view.entry)) }
+{
+    open(view, 0, 8, 0)?;
+    if u32_at(view.payload(), 4) != 1 {
+        return Err(fault(Kind::OutsideData, view));
     }
-    for entry in counted(dref)? {
+    for entry in counted(view)? {
         check_reference(entry)?;
     }
     Ok(())
 }
 
-fn check_data_information(dinf: BoxView) -> Result<(), Fault> {
+fn check_data_information(dinf: BoxView) -> Result<(), Fault>
+    ensures says { OnOk result (SaysDataInformation (box_seen dinf.entry)) }
+    ensures fault { IfErr result (HeadStands (place_of (ruled rules.DataInformation) (box_seen dinf.entry))) }
+{
     for child in check_children(dinf, Rule::DataInformation)? {
         if is(child, FourCc(*b"dref")) {
             check_references(child)?;
@@ -64,11 +85,9 @@ pub(crate) fn read_information<'a>(
     for child in check_children(minf, Rule::MediaInformation)? {
         if is_media_header(child) {
             header = Some(keep(child));
-        }
-        if is(child, FourCc(*b"dinf")) {
+        } else if is(child, FourCc(*b"dinf")) {
             check_data_information(child)?;
-        }
-        if is(child, FourCc(*b"stbl")) {
+        } else if is(child, FourCc(*b"stbl")) {
             tables = Some((child, read_sample_table(alloc, child)?));
         }
     }

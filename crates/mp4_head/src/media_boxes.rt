@@ -76,14 +76,11 @@ pub(crate) fn read_media<'a>(alloc: Global, mdia: BoxView<'a>) -> Result<MediaPa
     for child in check_children(mdia, Rule::Media)? {
         if is(child, FourCc(*b"mdhd")) {
             header = Some(read_media_header(child)?);
-        }
-        if is(child, FourCc(*b"hdlr")) {
+        } else if is(child, FourCc(*b"hdlr")) {
             handler = Some(read_handler(child)?);
-        }
-        if is(child, FourCc(*b"elng")) {
+        } else if is(child, FourCc(*b"elng")) {
             extended_languages.push(child.payload())?;
-        }
-        if is(child, FourCc(*b"minf")) {
+        } else if is(child, FourCc(*b"minf")) {
             information = Some(read_information(alloc, child)?);
         }
     }
