@@ -13,4 +13,5 @@ pub mod Above
 pub mod Walks
 pub mod EditBoxes
 pub mod Entries
+pub mod TableBoxes
 pub mod Vectors
