@@ -14,4 +14,6 @@ pub mod Walks
 pub mod EditBoxes
 pub mod Entries
 pub mod TableBoxes
+pub mod AmongWalks
+pub mod InformationBoxes
 pub mod Vectors

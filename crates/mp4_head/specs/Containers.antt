@@ -45,3 +45,16 @@ pub record SaysTable (stbl : Box) (descriptions : List Kept) (groups : List (Lis
   pub holds : Holds rules.SampleTable (box_container stbl) boxes
   pub entries : SaysDescriptions (first_of (codes "stsd") boxes) descriptions
   pub says : groups ≡ map (λ (b : Box). b.payload) (of_kind (codes "sgpd") boxes)
+
+-- a box as it is kept
+abbrev pub kept_of : Box → Kept
+kept_of b = record { kind = b.kind; payload = b.payload }
+
+-- the boxes of a `minf`: the media header, the `stbl` and what it says
+pub record SaysInformation (minf : Box) (header : Kept) (stbl : Box) (descriptions : List Kept) (groups : List (List ℕ)) : Type 0 where
+  pub boxes : List Box
+  pub holds : Holds rules.MediaInformation (box_container minf) boxes
+  pub reference : SaysDataInformation (first_of (codes "dinf") boxes)
+  pub header_is : header ≡ kept_of (first_among media_headers boxes)
+  pub stbl_is : stbl ≡ first_of (codes "stbl") boxes
+  pub table : SaysTable (first_of (codes "stbl") boxes) descriptions groups

@@ -1,13 +1,15 @@
 //! `minf`: the media header, `dinf` and `stbl` (ISO/IEC 14496-12, 8.4.4 and 8.7.1).
-ghost use Rattle.std.specs.Prelude.{◌≡◌, true, IfErr, OnOk, bytes_eq, codes};
+ghost use Rattle.std.specs.Prelude.{◌≡◌, true, map, IfOk, IfErr, OnOk, bytes_eq, codes};
 ghost use Rattle.mp4_boxes.specs.Layout.{dref, data_entry_url, IsSound};
 ghost use Rattle.mp4_boxes.specs.Places.{ruled, data_entries};
 ghost use Rattle.mp4_boxes.specs.View.{box_seen};
 ghost use Rattle.mp4_boxes.specs.declared.rule.Rule.TheVariants as rules;
-ghost use Rattle.mp4_head.specs.Containers.{SaysReferences, SaysDataInformation};
+ghost use Rattle.mp4_head.specs.Containers.{SaysReferences, SaysDataInformation, SaysInformation};
 ghost use Rattle.mp4_head.specs.HeadFaults.{HeadStands};
 ghost use Rattle.mp4_head.specs.Leaves.{FailsAsReference};
-ghost use Rattle.mp4_head.specs.Refuses.{StandsOrFails, place_of};
+ghost use Rattle.mp4_head.specs.Refuses.{StandsOrFails, RefusesIn, place_of};
+ghost use Rattle.mp4_head.specs.Seen.{kept_seen, description_seen};
+ghost use Rattle.mp4_boxes.specs.Children.{is_among, media_headers};
 
 use crate::kept_boxes::{Kept, keep};
 use crate::leaves::{fault, is, open};
@@ -67,7 +69,9 @@ pub(crate) struct Information<'a> {
 }
 
 // Whether the box is a media header (8.4.5).
-fn is_media_header(view: BoxView) -> bool {
+fn is_media_header(view: BoxView) -> bool
+    ensures { result ≡ is_among media_headers (box_seen view.entry).kind }
+{
     is(view, FourCc(*b"vmhd"))
         || is(view, FourCc(*b"smhd"))
         || is(view, FourCc(*b"hmhd"))
@@ -79,19 +83,25 @@ fn is_media_header(view: BoxView) -> bool {
 pub(crate) fn read_information<'a>(
     alloc: Global,
     minf: BoxView<'a>,
-) -> Result<Information<'a>, Refusal> {
+) -> Result<Information<'a>, Refusal>
+    ensures says { IfOk result (λ i. SaysInformation (box_seen minf.entry) (kept_seen i.header) (box_seen i.stbl) (map description_seen i.table.descriptions.items) (map (λ p. p.now) i.table.group_descriptions.items)) }
+    ensures refusal { IfErr result (RefusesIn (place_of (ruled rules.MediaInformation) (box_seen minf.entry))) }
+{
     let mut header = None;
     let mut tables = None;
     for child in check_children(minf, Rule::MediaInformation)? {
-        if is_media_header(child) {
-            header = Some(keep(child));
-        } else if is(child, FourCc(*b"dinf")) {
+        if is(child, FourCc(*b"dinf")) {
             check_data_information(child)?;
         } else if is(child, FourCc(*b"stbl")) {
             tables = Some((child, read_sample_table(alloc, child)?));
+        } else if is_media_header(child) {
+            header = Some(keep(child));
         }
     }
-    let (Some(header), Some((stbl, table))) = (header, tables) else {
+    let Some(header) = header else {
+        return Err(Refusal::from(fault(Kind::MissingBox, minf)));
+    };
+    let Some((stbl, table)) = tables else {
         return Err(Refusal::from(fault(Kind::MissingBox, minf)));
     };
     Ok(Information {
