@@ -16,4 +16,5 @@ pub mod Entries
 pub mod TableBoxes
 pub mod AmongWalks
 pub mod InformationBoxes
+pub mod MediaBoxes
 pub mod Vectors
