@@ -15,7 +15,8 @@ use Rattle.mp4_head.specs.Refuses.{RefusesLeaf, RefusesIn, RefusesBoth, place_of
 
 -- ---- where boxes stand
 
-lies_front : (is_open : Bool) (at : ℕ) (bytes : List ℕ) (bs cs : List Box) → LieEndToEnd is_open at bytes (bs ++ cs) → LieEndToEnd is_open at bytes bs
+-- boxes in front of others lie there by themselves
+pub lies_front : (is_open : Bool) (at : ℕ) (bytes : List ℕ) (bs cs : List Box) → LieEndToEnd is_open at bytes (bs ++ cs) → LieEndToEnd is_open at bytes bs
 lies_front is_open at bytes [] cs l = tt
 lies_front is_open at bytes (b ∷ bs) cs l = (l.0, lies_front is_open (at + size b) (drop (size b) bytes) bs cs l.1)
 

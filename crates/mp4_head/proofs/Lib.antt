@@ -12,6 +12,11 @@ pub mod HeadLengths
 pub mod Above
 pub mod Walks
 pub mod EditBoxes
+pub mod Entries
+pub mod TableBoxes
+pub mod AmongWalks
+pub mod InformationBoxes
+pub mod MediaBoxes
 pub mod Vectors
 pub mod Signed
 pub mod WrittenLeaves

@@ -132,3 +132,22 @@ of_kind_other kind passed b k = of_kind-append kind passed (b ∷ []) ∙ ap (λ
 -- one more box that is sound
 pub sound_more : (scope : Scope) (passed : List Box) (b : Box) → AreSound scope passed → IsSoundAs (leaf_of scope b.kind) b.payload → AreSound scope (passed ++ b ∷ [])
 sound_more scope passed b h s = all_append (λ (c : Box). IsSoundAs (leaf_of scope c.kind) c.payload) passed (b ∷ []) h (s, tt)
+
+-- ---- what holds of the first of a type, once it was passed
+
+abbrev pub IfPassed : (Box → Type 0) → List ℕ → List Box → Type 0
+IfPassed P kind passed = 0 < count_among (kind ∷ []) passed → P (first_of kind passed)
+
+-- a box of another type changes nothing
+pub passed_other : (P : Box → Type 0) (kind : List ℕ) (passed : List Box) (b : Box) → bytes_eq kind b.kind ≡ false → IfPassed P kind passed → IfPassed P kind (passed ++ b ∷ [])
+passed_other P kind passed b k h = λ some.
+    let s : 0 < count_among (kind ∷ []) passed = omega (arith, count_more kind passed b false k, some) in
+    subst P (sym (first_stays kind passed b s)) (h s)
+
+-- one of the type is the first
+pub passed_this : (P : Box → Type 0) (kind : List ℕ) (passed : List Box) (b : Box) → bytes_eq kind b.kind ≡ true → count_among (kind ∷ []) passed ≡ 0 → P b → IfPassed P kind (passed ++ b ∷ [])
+passed_this P kind passed b k n p = λ some. subst P (sym (first_now kind passed b n k)) p
+
+-- where one must stand, it holds of the first
+pub passed_must : (P : Box → Type 0) (kind : List ℕ) (all passed : List Box) → all ≡ passed → count_among (kind ∷ []) all ≡ 1 → IfPassed P kind passed → P (first_of kind all)
+passed_must P kind all passed e one h = rw e (h (omega (arith, sym (ap (count_among (kind ∷ [])) e) ∙ one)))

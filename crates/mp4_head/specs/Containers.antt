@@ -7,6 +7,8 @@ use Rattle.mp4_boxes.specs.Layout.{dref, stsd, hdlr, mdhd, IsSound}
 use Rattle.mp4_boxes.specs.Places.{ruled, data_entries, sample_entries, AreSound}
 use Rattle.mp4_boxes.specs.declared.rule.Rule.TheVariants as rules
 use Rattle.mp4_head.specs.Head.{Kept, Edit}
+use Rattle.mp4_head.specs.Leaves.{SaysMedia}
+use Rattle.mp4_head.specs.declared.media_boxes.MediaHeader.{MediaHeader}
 use Rattle.mp4_head.specs.Tree.{first_of, first_among, edits_of}
 
 -- the boxes of an `edts`, and its edits
@@ -45,3 +47,26 @@ pub record SaysTable (stbl : Box) (descriptions : List Kept) (groups : List (Lis
   pub holds : Holds rules.SampleTable (box_container stbl) boxes
   pub entries : SaysDescriptions (first_of (codes "stsd") boxes) descriptions
   pub says : groups ≡ map (λ (b : Box). b.payload) (of_kind (codes "sgpd") boxes)
+
+-- a box as it is kept
+abbrev pub kept_of : Box → Kept
+kept_of b = record { kind = b.kind; payload = b.payload }
+
+-- the boxes of a `minf`: the media header, the `stbl` and what it says
+pub record SaysInformation (minf : Box) (header : Kept) (stbl : Box) (descriptions : List Kept) (groups : List (List ℕ)) : Type 0 where
+  pub boxes : List Box
+  pub holds : Holds rules.MediaInformation (box_container minf) boxes
+  pub reference : SaysDataInformation (first_of (codes "dinf") boxes)
+  pub header_is : header ≡ kept_of (first_among media_headers boxes)
+  pub stbl_is : stbl ≡ first_of (codes "stbl") boxes
+  pub table : SaysTable (first_of (codes "stbl") boxes) descriptions groups
+
+-- the boxes of an `mdia`: its `mdhd`, the payload of its `hdlr`, those of its `elng`, and what its `minf` says
+pub record SaysMediaBoxes (mdia : Box) (h : MediaHeader) (handler : List ℕ) (languages : List (List ℕ)) (header : Kept) (stbl : Box) (descriptions : List Kept) (groups : List (List ℕ)) : Type 0 where
+  pub boxes : List Box
+  pub holds : Holds rules.Media (box_container mdia) boxes
+  pub sound : AreSound (ruled rules.Media) boxes
+  pub header_says : SaysMedia (first_of (codes "mdhd") boxes).payload h
+  pub handler_is : handler ≡ (first_of (codes "hdlr") boxes).payload
+  pub languages_are : languages ≡ map (λ (b : Box). b.payload) (of_kind (codes "elng") boxes)
+  pub information : SaysInformation (first_of (codes "minf") boxes) header stbl descriptions groups

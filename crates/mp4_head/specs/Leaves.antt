@@ -1,13 +1,13 @@
 -- What readers say of the leaves of a `moov`: their numbers, and in which way they can't be read.
-use Rattle.std.specs.Prelude.{◌≡◌, ℕ, ◌+◌, ◌*◌, ◌<◌, ◌≤◌, ◌⊎◌, List, [], ◌∷◌, length, drop, slice_index, slice_range, Option, Some, None}
+use Rattle.std.specs.Prelude.{◌≡◌, ℕ, ◌+◌, ◌*◌, ◌<◌, ◌≤◌, ◌⊎◌, List, [], ◌∷◌, length, drop, slice_index, slice_range, bytes_eq, codes, true, false}
 use Rattle.byteorder.specs.Endian.{twos_complement}
 use Rattle.mp4_boxes.specs.Bytes.{field}
 use Rattle.mp4_boxes.specs.Box.{Box}
 use Rattle.mp4_boxes.specs.BoxFaults.{fault_of, Fails}
-use Rattle.mp4_boxes.specs.Layout.{Leaf, mvhd, tkhd, mdhd, version, time_width, leaf_fields}
+use Rattle.mp4_boxes.specs.Layout.{Leaf, mvhd, tkhd, mdhd, data_entry_url, version, time_width, leaf_fields}
 use Rattle.mp4_boxes.specs.declared.fault.Fault.{Fault}
 use Rattle.mp4_boxes.specs.declared.fault.Kind.{Kind}
-use Rattle.mp4_boxes.specs.declared.fault.Kind.TheVariants.{ShortBox, BadVersion}
+use Rattle.mp4_boxes.specs.declared.fault.Kind.TheVariants.{ShortBox, BadVersion, OutsideData}
 use Rattle.mp4_head.specs.Tree.{matrix_of}
 use Rattle.mp4_head.specs.declared.movie_header.MovieHeader.{MovieHeader}
 use Rattle.mp4_head.specs.declared.track_header.TrackHeader.{TrackHeader}
@@ -67,3 +67,8 @@ pub record SaysMedia (payload : List ℕ) (h : MediaHeader) : Type 0 where
   pub modification : h.modification ≡ slice_index (leaf_fields mdhd payload) 3
   pub timescale : h.timescale ≡ slice_index (leaf_fields mdhd payload) 4
   pub language : h.language ≡ slice_index (leaf_fields mdhd payload) 6
+
+-- An entry of a `dref` is of another type than `url `, or is at fault as one.
+pub data FailsAsReference (b : Box) (f : Fault) : Type 0 where
+  another : bytes_eq (codes "url ") b.kind ≡ false → f ≡ fault_of OutsideData b → FailsAsReference b f
+  at_fault : bytes_eq (codes "url ") b.kind ≡ true → IsFaultOf data_entry_url b f → FailsAsReference b f

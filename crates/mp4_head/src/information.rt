@@ -1,4 +1,16 @@
 //! `minf`: the media header, `dinf` and `stbl` (ISO/IEC 14496-12, 8.4.4 and 8.7.1).
+ghost use Rattle.std.specs.Prelude.{◌≡◌, true, map, IfOk, IfErr, OnOk, bytes_eq, codes};
+ghost use Rattle.mp4_boxes.specs.Layout.{dref, data_entry_url, IsSound};
+ghost use Rattle.mp4_boxes.specs.Places.{ruled, data_entries};
+ghost use Rattle.mp4_boxes.specs.View.{box_seen};
+ghost use Rattle.mp4_boxes.specs.declared.rule.Rule.TheVariants as rules;
+ghost use Rattle.mp4_head.specs.Containers.{SaysReferences, SaysDataInformation, SaysInformation};
+ghost use Rattle.mp4_head.specs.HeadFaults.{HeadStands};
+ghost use Rattle.mp4_head.specs.Leaves.{FailsAsReference};
+ghost use Rattle.mp4_head.specs.Refuses.{StandsOrFails, RefusesIn, place_of};
+ghost use Rattle.mp4_head.specs.Seen.{kept_seen, description_seen};
+ghost use Rattle.mp4_boxes.specs.Children.{is_among, media_headers};
+
 use crate::kept_boxes::{Kept, keep};
 use crate::leaves::{fault, is, open};
 use crate::sample_table::{SampleTable, read_sample_table};
@@ -6,7 +18,11 @@ use mp4_boxes::{BoxView, Fault, FourCc, Kind, Refusal, Rule, check_children, cou
 use std::alloc::Global;
 
 // The one data reference: media data lies in this file (8.7.2).
-fn check_reference(entry: BoxView) -> Result<(), Fault> {
+fn check_reference(entry: BoxView) -> Result<(), Fault>
+    ensures url { OnOk result (bytes_eq (codes "url ") (box_seen entry.entry).kind ≡ true) }
+    ensures sound { OnOk result (IsSound data_entry_url (box_seen entry.entry).payload) }
+    ensures fault { IfErr result (FailsAsReference (box_seen entry.entry)) }
+{
     if !is(entry, FourCc(*b"url ")) {
         return Err(fault(Kind::OutsideData, entry));
     }
@@ -17,18 +33,25 @@ fn check_reference(entry: BoxView) -> Result<(), Fault> {
     Ok(())
 }
 
-fn check_references(dref: BoxView) -> Result<(), Fault> {
-    open(dref, 0, 8, 0)?;
-    if u32_at(dref.payload(), 4) != 1 {
-        return Err(fault(Kind::OutsideData, dref));
+// The entries of a `dref`.
+fn check_references(view: BoxView) -> Result<(), Fault>
+    ensures says { OnOk result (SaysReferences (box_seen view.entry)) }
+    ensures fault { IfErr result (StandsOrFails dref data_entries (box_seen view.entry)) }
+{
+    open(view, 0, 8, 0)?;
+    if u32_at(view.payload(), 4) != 1 {
+        return Err(fault(Kind::OutsideData, view));
     }
-    for entry in counted(dref)? {
+    for entry in counted(view)? {
         check_reference(entry)?;
     }
     Ok(())
 }
 
-fn check_data_information(dinf: BoxView) -> Result<(), Fault> {
+fn check_data_information(dinf: BoxView) -> Result<(), Fault>
+    ensures says { OnOk result (SaysDataInformation (box_seen dinf.entry)) }
+    ensures fault { IfErr result (HeadStands (place_of (ruled rules.DataInformation) (box_seen dinf.entry))) }
+{
     for child in check_children(dinf, Rule::DataInformation)? {
         if is(child, FourCc(*b"dref")) {
             check_references(child)?;
@@ -46,7 +69,9 @@ pub(crate) struct Information<'a> {
 }
 
 // Whether the box is a media header (8.4.5).
-fn is_media_header(view: BoxView) -> bool {
+fn is_media_header(view: BoxView) -> bool
+    ensures { result ≡ is_among media_headers (box_seen view.entry).kind }
+{
     is(view, FourCc(*b"vmhd"))
         || is(view, FourCc(*b"smhd"))
         || is(view, FourCc(*b"hmhd"))
@@ -58,21 +83,25 @@ fn is_media_header(view: BoxView) -> bool {
 pub(crate) fn read_information<'a>(
     alloc: Global,
     minf: BoxView<'a>,
-) -> Result<Information<'a>, Refusal> {
+) -> Result<Information<'a>, Refusal>
+    ensures says { IfOk result (λ i. SaysInformation (box_seen minf.entry) (kept_seen i.header) (box_seen i.stbl) (map description_seen i.table.descriptions.items) (map (λ p. p.now) i.table.group_descriptions.items)) }
+    ensures refusal { IfErr result (RefusesIn (place_of (ruled rules.MediaInformation) (box_seen minf.entry))) }
+{
     let mut header = None;
     let mut tables = None;
     for child in check_children(minf, Rule::MediaInformation)? {
-        if is_media_header(child) {
-            header = Some(keep(child));
-        }
         if is(child, FourCc(*b"dinf")) {
             check_data_information(child)?;
-        }
-        if is(child, FourCc(*b"stbl")) {
+        } else if is(child, FourCc(*b"stbl")) {
             tables = Some((child, read_sample_table(alloc, child)?));
+        } else if is_media_header(child) {
+            header = Some(keep(child));
         }
     }
-    let (Some(header), Some((stbl, table))) = (header, tables) else {
+    let Some(header) = header else {
+        return Err(Refusal::from(fault(Kind::MissingBox, minf)));
+    };
+    let Some((stbl, table)) = tables else {
         return Err(Refusal::from(fault(Kind::MissingBox, minf)));
     };
     Ok(Information {

@@ -1,4 +1,9 @@
 //! Boxes that are kept as they are.
+ghost use Rattle.std.specs.Prelude.{◌≡◌};
+ghost use Rattle.mp4_boxes.specs.View.{box_seen};
+ghost use Rattle.mp4_head.specs.Containers.{kept_of};
+ghost use Rattle.mp4_head.specs.Seen.{kept_seen};
+
 use crate::leaves::fault;
 use memchr::memmem;
 use mp4_boxes::{BoxView, Fault, FourCc, Kind};
@@ -23,7 +28,9 @@ fn names_item_location(bytes: &[u8]) -> bool {
 }
 
 // A box as it is kept.
-pub(crate) fn keep<'a>(view: BoxView<'a>) -> Kept<'a> {
+pub(crate) fn keep<'a>(view: BoxView<'a>) -> Kept<'a>
+    ensures { kept_seen result ≡ kept_of (box_seen view.entry) }
+{
     Kept {
         kind: view.kind(),
         payload: view.payload(),

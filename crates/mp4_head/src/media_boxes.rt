@@ -1,8 +1,13 @@
 //! `mdia`: `mdhd`, `hdlr`, `elng` and `minf` (ISO/IEC 14496-12, 8.4).
-ghost use Rattle.std.specs.Prelude.{◌≡◌, ◌+◌, ◌*◌, ◌≤◌, ◌⊎◌, length, IfOk, OnOk, IfErr};
+ghost use Rattle.std.specs.Prelude.{◌≡◌, ◌+◌, ◌*◌, ◌≤◌, ◌⊎◌, length, map, IfOk, OnOk, IfErr};
 ghost use Rattle.mp4_boxes.specs.Layout.{mdhd, hdlr, version, time_width, IsSound};
 ghost use Rattle.mp4_boxes.specs.View.{box_seen};
+ghost use Rattle.mp4_boxes.specs.Places.{ruled};
+ghost use Rattle.mp4_boxes.specs.declared.rule.Rule.TheVariants as rules;
+ghost use Rattle.mp4_head.specs.Containers.{SaysMediaBoxes};
 ghost use Rattle.mp4_head.specs.Leaves.{IsFaultOf, SaysMedia};
+ghost use Rattle.mp4_head.specs.Refuses.{RefusesIn, place_of};
+ghost use Rattle.mp4_head.specs.Seen.{kept_seen, description_seen};
 
 use crate::information::{Information, read_information};
 use crate::leaves::{fault, is, open, time_at};
@@ -68,7 +73,11 @@ pub(crate) struct MediaParts<'a> {
     pub(crate) information: Information<'a>,
 }
 
-pub(crate) fn read_media<'a>(alloc: Global, mdia: BoxView<'a>) -> Result<MediaParts<'a>, Refusal> {
+pub(crate) fn read_media<'a>(alloc: Global, mdia: BoxView<'a>) -> Result<MediaParts<'a>, Refusal>
+    ensures says { IfOk result (λ m. SaysMediaBoxes (box_seen mdia.entry) m.header m.handler.now (map (λ p. p.now) m.extended_languages.items) (kept_seen m.information.header) (box_seen m.information.stbl)
+        (map description_seen m.information.table.descriptions.items) (map (λ p. p.now) m.information.table.group_descriptions.items)) }
+    ensures refusal { IfErr result (RefusesIn (place_of (ruled rules.Media) (box_seen mdia.entry))) }
+{
     let mut header = None;
     let mut handler = None;
     let mut extended_languages = Vec::new(alloc);
@@ -76,18 +85,21 @@ pub(crate) fn read_media<'a>(alloc: Global, mdia: BoxView<'a>) -> Result<MediaPa
     for child in check_children(mdia, Rule::Media)? {
         if is(child, FourCc(*b"mdhd")) {
             header = Some(read_media_header(child)?);
-        }
-        if is(child, FourCc(*b"hdlr")) {
+        } else if is(child, FourCc(*b"hdlr")) {
             handler = Some(read_handler(child)?);
-        }
-        if is(child, FourCc(*b"elng")) {
+        } else if is(child, FourCc(*b"elng")) {
             extended_languages.push(child.payload())?;
-        }
-        if is(child, FourCc(*b"minf")) {
+        } else if is(child, FourCc(*b"minf")) {
             information = Some(read_information(alloc, child)?);
         }
     }
-    let (Some(header), Some(handler), Some(information)) = (header, handler, information) else {
+    let Some(header) = header else {
+        return Err(Refusal::from(fault(Kind::MissingBox, mdia)));
+    };
+    let Some(handler) = handler else {
+        return Err(Refusal::from(fault(Kind::MissingBox, mdia)));
+    };
+    let Some(information) = information else {
         return Err(Refusal::from(fault(Kind::MissingBox, mdia)));
     };
     Ok(MediaParts {

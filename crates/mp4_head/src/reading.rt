@@ -25,14 +25,11 @@ pub fn read_head<'a>(alloc: Global, moov: BoxView<'a>) -> Result<MovieHead<'a>, 
     for child in check_children(moov, Rule::Movie)? {
         if is(child, FourCc(*b"mvhd")) {
             header = Some(read_movie_header(child)?);
-        }
-        if is_kept(child) {
+        } else if is_kept(child) {
             kept.push(keep_unplaced(child)?)?;
-        }
-        if is(child, FourCc(*b"trak")) {
+        } else if is(child, FourCc(*b"trak")) {
             tracks.push(read_track(alloc, child, &mut ids)?)?;
-        }
-        if is(child, FourCc(*b"mvex")) {
+        } else if is(child, FourCc(*b"mvex")) {
             trexes = read_extends(alloc, child)?;
         }
     }

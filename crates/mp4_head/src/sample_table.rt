@@ -1,4 +1,14 @@
 //! `stbl`, as far as it is no table: `stsd` (ISO/IEC 14496-12, 8.5.2), and the payloads of `sgpd` (8.9.3).
+ghost use Rattle.std.specs.Prelude.{◌≡◌, map, IfOk, IfErr, OnOk};
+ghost use Rattle.mp4_boxes.specs.Layout.{sample_entry, stsd, IsSound};
+ghost use Rattle.mp4_boxes.specs.Places.{ruled, sample_entries};
+ghost use Rattle.mp4_boxes.specs.View.{box_seen};
+ghost use Rattle.mp4_boxes.specs.declared.rule.Rule.TheVariants as rules;
+ghost use Rattle.mp4_head.specs.Containers.{SaysDescriptions, SaysTable};
+ghost use Rattle.mp4_head.specs.Leaves.{IsFaultOf};
+ghost use Rattle.mp4_head.specs.Refuses.{RefusesBoth, RefusesIn, place_of};
+ghost use Rattle.mp4_head.specs.Seen.{description_seen};
+
 use crate::kept_boxes::Description;
 use crate::leaves::{fault, is, open};
 use mp4_boxes::{BoxView, Fault, FourCc, Kind, Refusal, Rule, check_children, counted, u16_at};
@@ -12,7 +22,11 @@ pub(crate) struct SampleTable<'a> {
 }
 
 // An entry of `stsd`, which names the first data reference.
-fn read_description<'a>(entry: BoxView<'a>) -> Result<Description<'a>, Fault> {
+fn read_description<'a>(entry: BoxView<'a>) -> Result<Description<'a>, Fault>
+    ensures says { IfOk result (λ d. description_seen d ≡ record { kind = (box_seen entry.entry).kind; payload = (box_seen entry.entry).payload }) }
+    ensures sound { OnOk result (IsSound sample_entry (box_seen entry.entry).payload) }
+    ensures fault { IfErr result (IsFaultOf sample_entry (box_seen entry.entry)) }
+{
     let payload = entry.payload();
     if payload.len() < 8 {
         return Err(fault(Kind::ShortBox, entry));
@@ -26,13 +40,17 @@ fn read_description<'a>(entry: BoxView<'a>) -> Result<Description<'a>, Fault> {
     })
 }
 
+// The entries of an `stsd`.
 fn read_descriptions<'a>(
     alloc: Global,
-    stsd: BoxView<'a>,
-) -> Result<Vec<Description<'a>>, Refusal> {
-    open(stsd, 0, 8, 0)?;
+    view: BoxView<'a>,
+) -> Result<Vec<Description<'a>>, Refusal>
+    ensures says { IfOk result (λ ds. SaysDescriptions (box_seen view.entry) (map description_seen ds.items)) }
+    ensures refusal { IfErr result (RefusesBoth stsd sample_entries (box_seen view.entry)) }
+{
+    open(view, 0, 8, 0)?;
     let mut descriptions = Vec::new(alloc);
-    for entry in counted(stsd)? {
+    for entry in counted(view)? {
         descriptions.push(read_description(entry)?)?;
     }
     Ok(descriptions)
@@ -41,14 +59,16 @@ fn read_descriptions<'a>(
 pub(crate) fn read_sample_table<'a>(
     alloc: Global,
     stbl: BoxView<'a>,
-) -> Result<SampleTable<'a>, Refusal> {
+) -> Result<SampleTable<'a>, Refusal>
+    ensures says { IfOk result (λ t. SaysTable (box_seen stbl.entry) (map description_seen t.descriptions.items) (map (λ p. p.now) t.group_descriptions.items)) }
+    ensures refusal { IfErr result (RefusesIn (place_of (ruled rules.SampleTable) (box_seen stbl.entry))) }
+{
     let mut descriptions = Vec::new(alloc);
     let mut group_descriptions = Vec::new(alloc);
     for child in check_children(stbl, Rule::SampleTable)? {
         if is(child, FourCc(*b"stsd")) {
             descriptions = read_descriptions(alloc, child)?;
-        }
-        if is(child, FourCc(*b"sgpd")) {
+        } else if is(child, FourCc(*b"sgpd")) {
             group_descriptions.push(child.payload())?;
         }
     }

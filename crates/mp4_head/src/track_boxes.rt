@@ -80,14 +80,11 @@ pub(crate) fn read_track<'a>(
     for child in check_children(trak, Rule::Track)? {
         if is(child, FourCc(*b"tkhd")) {
             header = Some((read_new_track_header(child, ids)?, child.offset()));
-        }
-        if is(child, FourCc(*b"edts")) {
+        } else if is(child, FourCc(*b"edts")) {
             edits = read_edits(alloc, child)?;
-        }
-        if is_kept(child) {
+        } else if is_kept(child) {
             kept.push(keep_unplaced(child)?)?;
-        }
-        if is(child, FourCc(*b"mdia")) {
+        } else if is(child, FourCc(*b"mdia")) {
             media = Some(read_media(alloc, child)?);
         }
     }
