@@ -1,5 +1,8 @@
 //! A `moof`, checked behind what came before it (ISO/IEC 14496-12, 8.8).
-ghost use Rattle.std.specs.Prelude.{◌≡◌, ◌+◌, ◌*◌, ◌^◌, ◌<◌, ◌≤◌, ◌==◌, length, find, slice_get, None, IfOk, IfSome};
+ghost use Rattle.std.specs.Prelude.{◌≡◌, ◌+◌, ◌*◌, ◌^◌, ◌<◌, ◌≤◌, ◌==◌, length, find, slice_get, None, IfOk, IfErr, IfSome};
+ghost use Rattle.mp4_boxes.specs.Box.{box_container};
+ghost use Rattle.mp4_boxes.specs.BoxFaults.{IsChildFault};
+ghost use Rattle.mp4_boxes.specs.declared.rule.Rule.TheVariants as rules;
 ghost use Rattle.mp4_boxes.specs.View.{box_seen};
 ghost use Rattle.mp4_frag.specs.Passing.{IsNearer, is_late_at, start_with, due_with};
 ghost use Rattle.mp4_frag.specs.States.{HaveRoom};
@@ -54,7 +57,9 @@ struct Heads<'a> {
 }
 
 // Checks which boxes stand in a `traf`.
-fn check_boxes<'a>(traf: BoxView<'a>) -> Result<Heads<'a>, Fault> {
+fn check_boxes<'a>(traf: BoxView<'a>) -> Result<Heads<'a>, Fault>
+    ensures { IfErr result (IsChildFault rules.TrackFragment (box_container (box_seen traf.entry))) }
+{
     let mut heads = Heads {
         head: None,
         time: None,
