@@ -1,3 +1,4 @@
+pub mod SamplesOfRows
 pub mod RunsRead
 pub mod RunRows
 pub mod StateLists

@@ -1,5 +1,7 @@
 -- Tracks with room for samples.
-use Rattle.std.proofs.Common.{ℕ, ◌<◌, ◌≤◌, List, [], ◌∷◌, length, slice_set, slice_index_or, zero, suc, rules, arith}
+use Rattle.std.proofs.Common.{◌≡◌, ℕ, ◌+◌, ◌*◌, ◌^◌, ◌<◌, ◌≤◌, List, [], ◌∷◌, length, drop, slice_set, slice_index_or, Bool, true, zero, suc, refl, rules, arith}
+use Rattle.std.specs.List.{AllByRecursion, slice_get}
+use Rattle.std.specs.Prelude.{find}
 use Rattle.mp4_boxes.proofs.Each.{each_weaker}
 use Rattle.mp4_frag.specs.States.{HasRoom, HaveRoom}
 use Rattle.mp4_frag.specs.declared.state.TrackState.{TrackState}
@@ -19,3 +21,9 @@ pub room_with : (room k : ℕ) (tracks : List TrackState) (t : TrackState) → H
 room_with room k [] t p h = tt
 room_with room zero (s ∷ tracks) t p h = (p, h.1)
 room_with room (suc k) (s ∷ tracks) t p h = (h.0, room_with room k tracks t p h.1)
+
+-- the first that passes from the k-th on is the k-th, if it passes
+pub found_at : (p : TrackState → Bool) (k : ℕ) (tracks : List TrackState) (d : TrackState) → k < length tracks → p (slice_index_or tracks k d) ≡ true → find p (drop k tracks) ≡ slice_get tracks k
+found_at p k [] d lt h = absurd (search rules)
+found_at p zero (t ∷ tracks) d lt h = rw h refl
+found_at p (suc k) (t ∷ tracks) d lt h = found_at p k tracks d (omega arith) h

@@ -5,6 +5,7 @@ use Rattle.mp4_boxes.specs.Bytes.{width_of}
 use Rattle.mp4_boxes.specs.Layout.{has, flags, version, fields, column_values, leaf_fields, tfhd, trun, sbgp, row_count, tfhd_columns, trun_columns, default_base_is_moof, IsReadable}
 use Rattle.mp4_tables.specs.Groups.{key_of}
 use Rattle.mp4_tables.specs.Keys.{key_seen}
+use Rattle.mp4_tables.specs.Rows.{runs_at}
 use Rattle.mp4_frag.specs.ColumnsRead.{row_room, rows_from}
 use Rattle.mp4_frag.specs.Fragments.{column, TrackFragment}
 use Rattle.mp4_frag.specs.declared.heads.Inherited.{Inherited}
@@ -47,6 +48,10 @@ pub record IsGroup (payload : List ℕ) (group : Group) : Type 0 where
   pub rows : group.rows ≡ width_of (fields sbgp (version payload))
   pub room : group.rows + 8 * group.count ≤ length payload
   pub readable : IsReadable sbgp payload
+
+-- the rows of an `sbgp`
+abbrev pub group_runs : List ℕ → Group → List (ℕ × ℕ)
+group_runs payload group = runs_at payload (record { place = group.rows; count = group.count })
 
 -- a `traf` of this `tfhd`
 abbrev pub as_traf : Head → TrackFragment

@@ -1,9 +1,13 @@
 //! A `moof`, checked behind what came before it (ISO/IEC 14496-12, 8.8).
-ghost use Rattle.std.specs.Prelude.{◌≡◌, ◌+◌, ◌*◌, ◌^◌, ◌<◌, ◌≤◌, length, IfOk, IfSome};
+ghost use Rattle.std.specs.Prelude.{◌≡◌, ◌+◌, ◌*◌, ◌^◌, ◌<◌, ◌≤◌, ◌==◌, length, find, slice_get, None, IfOk, IfErr, IfSome};
+ghost use Rattle.mp4_boxes.specs.Box.{box_container};
+ghost use Rattle.mp4_boxes.specs.BoxFaults.{IsChildFault};
+ghost use Rattle.mp4_boxes.specs.declared.rule.Rule.TheVariants as rules;
 ghost use Rattle.mp4_boxes.specs.View.{box_seen};
 ghost use Rattle.mp4_frag.specs.Passing.{IsNearer, is_late_at, start_with, due_with};
 ghost use Rattle.mp4_frag.specs.States.{HaveRoom};
 ghost use Rattle.mp4_frag.specs.Views.{moof_seen};
+ghost use Rattle.mp4_frag.specs.declared.state.TrackState.{TrackState};
 
 use crate::groups::{KeysNamed, check_group};
 use crate::heads::{base_of, read_head, what_is_inherited};
@@ -33,7 +37,9 @@ fn fault(kind: Kind, named: BoxView) -> Fault {
 /// The place of the track with this ID. It looks at one after the other: a `traf` costs as many comparisons as there
 /// are tracks before its own.
 pub(crate) fn find_track(tracks: &[TrackState], id: u32) -> Option<usize>
-    ensures { IfSome result (λ k. k < length tracks.now) }
+    ensures inside { IfSome result (λ k. k < length tracks.now) }
+    ensures found { IfSome result (λ k. find (λ (t : TrackState). t.id == id) tracks.now ≡ slice_get tracks.now k) }
+    ensures none { result ≡ None → find (λ (t : TrackState). t.id == id) tracks.now ≡ None }
 {
     for k in 0..tracks.len() {
         if tracks[k].id == id {
@@ -51,7 +57,9 @@ struct Heads<'a> {
 }
 
 // Checks which boxes stand in a `traf`.
-fn check_boxes<'a>(traf: BoxView<'a>) -> Result<Heads<'a>, Fault> {
+fn check_boxes<'a>(traf: BoxView<'a>) -> Result<Heads<'a>, Fault>
+    ensures { IfErr result (IsChildFault rules.TrackFragment (box_container (box_seen traf.entry))) }
+{
     let mut heads = Heads {
         head: None,
         time: None,

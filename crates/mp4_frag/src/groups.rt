@@ -1,11 +1,14 @@
 //! `sbgp` in a `traf`: which group description its samples have (ISO/IEC 14496-12, 8.9.2).
-ghost use Rattle.std.specs.Prelude.{◌≡◌, ◌+◌, ◌*◌, ◌≤◌, length, IfOk, IfErr};
+ghost use Rattle.std.specs.Prelude.{◌≡◌, ◌+◌, ◌*◌, ◌<◌, ◌≤◌, ◌∷◌, drop, nat_le, length, IfOk, IfErr};
 ghost use Rattle.mp4_boxes.specs.BoxFaults.{Fails};
 ghost use Rattle.mp4_boxes.specs.Layout.{sbgp};
 ghost use Rattle.mp4_boxes.specs.Layout.{version as version_of};
 ghost use Rattle.mp4_tables.specs.Groups.{key_of as key_in};
 ghost use Rattle.mp4_tables.specs.Keys.{key_seen};
-ghost use Rattle.mp4_frag.specs.Reading.{IsGroup};
+ghost use Rattle.mp4_tables.specs.Groups.{max_index};
+ghost use Rattle.mp4_tables.specs.Repeated.{total as total_of};
+ghost use Rattle.mp4_frag.specs.Reading.{IsGroup, group_runs};
+ghost use Rattle.std.specs.List.{list_all};
 
 use crate::fronts::front;
 use mp4_boxes::{FourCc, Kind, Steps, u32_at};
@@ -136,34 +139,48 @@ fn name(key: GroupKey, keys: &mut Keys, named: &mut KeysNamed) -> Result<(), Kin
     Ok(())
 }
 
-// Whether an index of the rows is too large.
-fn has_large_index<L: Ledger>(payload: &[u8], group: Group, steps: &mut Steps<L>) -> bool
+// The count and the index of row `k`.
+fn row_of(payload: &[u8], group: Group, k: u32) -> (u32, u32)
+    requires room { group.rows + 8 * group.count ≤ length payload.now }
+    requires inside { k < group.count }
+    ensures { drop k (group_runs payload.now group) ≡ (result.0, result.1) ∷ drop (k + 1) (group_runs payload.now group) }
+{
+    let at = group.rows + 8 * k as usize;
+    (u32_at(payload, at), u32_at(payload, at + 4))
+}
+
+// Whether each index of the rows is one.
+fn are_indexes<L: Ledger>(payload: &[u8], group: Group, steps: &mut Steps<L>) -> bool
     requires { group.rows + 8 * group.count ≤ length payload.now }
+    ensures same { result ≡ list_all (λ run. nat_le run.1 max_index) (group_runs payload.now group) }
     ensures cost { steps.new ≤ steps.old + group.count }
 {
     for k in 0..group.count {
         steps.tick();
-        if u32_at(payload, group.rows + 8 * k as usize + 4) > MAX_INDEX {
-            return true;
+        let (_, index) = row_of(payload, group, k);
+        if index > MAX_INDEX {
+            return false;
         }
     }
-    false
+    true
 }
 
-// Whether the rows count more than `n` samples.
-fn counts_more<L: Ledger>(payload: &[u8], group: Group, n: u32, steps: &mut Steps<L>) -> bool
+// Whether the rows count no more than `n` samples.
+fn are_within<L: Ledger>(payload: &[u8], group: Group, n: u32, steps: &mut Steps<L>) -> bool
     requires { group.rows + 8 * group.count ≤ length payload.now }
+    ensures same { result ≡ nat_le (total_of (group_runs payload.now group)) n }
     ensures cost { steps.new ≤ steps.old + group.count }
 {
     let mut total: u64 = 0;
     for k in 0..group.count {
         steps.tick();
-        total += u64::from(u32_at(payload, group.rows + 8 * k as usize));
+        let (count, _) = row_of(payload, group, k);
+        total += u64::from(count);
         if total > u64::from(n) {
-            return true;
+            return false;
         }
     }
-    false
+    true
 }
 
 /// Checks an `sbgp` of a `traf` of `n` samples, behind others that named keys.
@@ -176,10 +193,10 @@ pub(crate) fn check_group<L: Ledger>(
 ) -> Result<(), Kind> {
     let group = read_group(payload)?;
     name(group.key, keys, named)?;
-    if has_large_index(payload, group, steps) {
+    if !are_indexes(payload, group, steps) {
         return Err(Kind::BadValue);
     }
-    if counts_more(payload, group, n, steps) {
+    if !are_within(payload, group, n, steps) {
         return Err(Kind::CountMismatch);
     }
     Ok(())

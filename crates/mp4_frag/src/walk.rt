@@ -1,6 +1,7 @@
 //! A walk over the samples of a track in a `moof`, from place to place.
-ghost use Rattle.std.specs.Prelude.{ℕ, List, ◌≡◌, ◌<◌, ◌≤◌, length, None};
+ghost use Rattle.std.specs.Prelude.{ℕ, List, ◌≡◌, ◌+◌, ◌-◌, ◌<◌, ◌≤◌, length, None};
 ghost use Rattle.mp4_frag.specs.FragmentSamples.{flags_of as flags_by};
+ghost use Rattle.mp4_frag.specs.ColumnsRead.{row_room};
 ghost use Rattle.mp4_frag.specs.PlacesIn.{IsPlaceIn, IsRowPlace};
 
 use crate::check::{SBGP, TFHD, TRAF, TRUN, find_track};
@@ -280,6 +281,21 @@ pub(crate) fn sample_here(payload: &[u8], place: &FragPlace) -> SampleAt
     }
 }
 
+// The row behind: `first_sample_flags` go for the first row alone.
+#[inline]
+fn next_row(run: RowPlace) -> RowPlace
+    requires some { 0 < run.left }
+    requires fits { run.row + row_room run.bits ≤ usize.MAX }
+    ensures { result ≡ record run { row = run.row + row_room run.bits; left = run.left - 1; first_flags = None } }
+{
+    RowPlace {
+        row: run.row + row_size(run.bits),
+        left: run.left - 1,
+        first_flags: None::<u32>,
+        ..run
+    }
+}
+
 // The place one sample on.
 #[inline]
 pub(crate) fn pass_sample(
@@ -302,12 +318,7 @@ pub(crate) fn pass_sample(
         FragPlace {
             dts: place.dts.saturating_add(u64::from(duration)),
             at: place.at.saturating_add(i128::from(size)),
-            run: RowPlace {
-                row: place.run.row + row_size(place.run.bits),
-                left: place.run.left - 1,
-                first_flags: None,
-                ..place.run
-            },
+            run: next_row(place.run),
             indexes: pass_indexes(payload, &place.indexes),
             passed: place.passed.saturating_add(1),
             ..*place
