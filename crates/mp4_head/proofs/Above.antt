@@ -1,15 +1,14 @@
 -- A fault in a box stands in the container that the box stands in.
-use Rattle.std.proofs.Common.{◌≡◌, ℕ, ◌+◌, ◌⊎◌, inl, inr, Bool, true, false, List, [], ◌∷◌, ◌++◌, drop, Option, Some, None, sym, ap, subst, ◌∙◌, append_assoc, refl}
-use Rattle.std.specs.Prelude.{⊤}
-use Rattle.mp4_boxes.specs.Box.{Box, Container, Extent, to_end_of_box, size, may_be_open, LieEndToEnd, StandsAfter, IsCounted, Tiles, box_container}
+use Rattle.std.proofs.Common.{◌≡◌, ℕ, ◌+◌, inl, inr, Bool, false, List, [], ◌∷◌, ◌++◌, drop, Some, sym, subst, ◌∙◌, append_assoc, refl}
+use Rattle.mp4_boxes.specs.Box.{Box, size, LieEndToEnd, StandsAfter, Tiles, box_container}
 use Rattle.mp4_boxes.specs.Layout.{Leaf}
 use Rattle.mp4_boxes.specs.Places.{Place, Scope, ruled, leaf_of, inside, Reaches, StandsIn}
-use Rattle.mp4_boxes.specs.BoxFaults.{IsHeaderFault, IsNotInProfile, IsDuplicate, IsMissing, IsChildFault, IsLeafFault, Fails}
+use Rattle.mp4_boxes.specs.BoxFaults.{IsChildFault}
 use Rattle.mp4_boxes.specs.declared.rule.Rule.{Rule}
 use Rattle.mp4_boxes.specs.declared.fault.Fault.{Fault}
 use Rattle.mp4_boxes.specs.declared.refusal.Refusal.{Refusal}
 use Rattle.mp4_boxes.specs.declared.refusal.Refusal.TheVariants as refusals
-use Rattle.mp4_head.specs.HeadFaults.{HeaderStands, ChildStands, MissingStands, IsTakenId, IsForeignReference, IsItemLocation, LeafStands, HeadStands}
+use Rattle.mp4_head.specs.HeadFaults.{IsTakenId, HeadStands}
 use Rattle.mp4_head.specs.Leaves.{IsFaultOf}
 use Rattle.mp4_head.specs.Refuses.{RefusesLeaf, RefusesIn, RefusesBoth, place_of}
 

@@ -1,11 +1,10 @@
 -- The rows of an `elst`, one after the other.
-use Rattle.std.proofs.Common.{◌≡◌, ℕ, zero, suc, ◌+◌, ◌*◌, ◌-◌, ◌<◌, ◌≤◌, ◌⊎◌, List, [], ◌∷◌, ◌++◌, length, take, drop, map, refl, sym, ap, subst, ◌∙◌, arith, append_assoc, lit<, lit≤}
+use Rattle.std.proofs.Common.{◌≡◌, ℕ, zero, suc, ◌+◌, ◌*◌, ◌<◌, ◌≤◌, List, [], ◌∷◌, ◌++◌, length, take, drop, map, refl, sym, ap, subst, ◌∙◌, arith, append_assoc}
 use Rattle.std.specs.Prelude.{slice_index}
 use Rattle.std.proofs.lemmas.Bool.{le-leb}
 use Rattle.std.proofs.lemmas.List.{length-drop, append-nil, map-append}
-use Rattle.byteorder.specs.Endian.{twos_complement}
 use Rattle.mp4_boxes.specs.Bytes.{field, numbers, rows, width_of}
-use Rattle.mp4_boxes.specs.Layout.{elst, row, row_count, fields, version, time_width, leaf_rows, needed, IsReadable, IsSound}
+use Rattle.mp4_boxes.specs.Layout.{elst, row, row_count, version, time_width, needed, IsSound}
 use Rattle.mp4_head.specs.Head as heads
 use Rattle.mp4_head.specs.Seen.{edit_seen}
 use Rattle.mp4_head.specs.Tree.{edit_of}
@@ -69,5 +68,4 @@ edit_list_sound payload width count o n room =
     let size = row_size v width o.width_is in
     let rows_room : 8 + row_count elst payload * width_of (row elst v) ≤ length payload = rw (size, ← n) room in
     let r : needed elst payload ≤ length payload = omega arith in
-
     record { readable = record { version = le-leb (version payload) 1 o.version_is; flags = refl; room = r }; value = refl; inside = refl; offsets = refl }

@@ -1,21 +1,20 @@
 -- The entries of `dref` and `stsd`, one after the other.
-use Rattle.std.proofs.Common.{◌≡◌, ℕ, zero, suc, ◌+◌, ◌*◌, ◌<◌, ◌≤◌, inl, inr, Bool, true, false, eqb, List, [], ◌∷◌, ◌++◌, length, take, drop, map, Some, None, refl, sym, ap, subst, ◌∙◌, arith, append_assoc, lit<, lit≤, length-append}
+use Rattle.std.proofs.Common.{◌≡◌, ℕ, ◌+◌, ◌<◌, ◌≤◌, inl, inr, Bool, true, false, eqb, List, [], ◌∷◌, ◌++◌, length, drop, map, refl, sym, ap, subst, ◌∙◌, arith, append_assoc, lit<, lit≤, length-append}
 use Rattle.std.specs.Prelude.{codes, bytes_eq, slice_index, not, nat_lt, bit_and}
 use Rattle.std.specs.List.{AllByRecursion}
 use Rattle.std.proofs.lemmas.List.{map-append}
 use Rattle.std.proofs.lemmas.Bool.{eq-eqb, eqb-true, lt-ltb, le-ltb}
-use Rattle.mp4_boxes.specs.Bytes.{field, width_of}
-use Rattle.mp4_boxes.specs.Box.{Box, counted_container, size, LieEndToEnd, StandsAfter, Tiles}
+use Rattle.mp4_boxes.specs.Bytes.{field}
+use Rattle.mp4_boxes.specs.Box.{Box, counted_container, LieEndToEnd, StandsAfter, Tiles}
 use Rattle.mp4_boxes.specs.BoxFaults.{fault_of, IsHeaderFault}
 use Rattle.mp4_boxes.specs.Layout.{dref, stsd, sample_entry, data_entry_url, fields, leaf_fields, version, flags, needed, IsReadable, IsSound}
-use Rattle.mp4_boxes.specs.Places.{data_entries, sample_entries, leaf_of, AreSound}
+use Rattle.mp4_boxes.specs.Places.{data_entries, sample_entries, AreSound}
 use Rattle.mp4_boxes.specs.declared.fault.Fault.{Fault}
 use Rattle.mp4_boxes.specs.declared.fault.Kind.TheVariants.{ShortBox, BadValue, OutsideData}
 use Rattle.mp4_boxes.proofs.Among.{all_append}
 use Rattle.mp4_boxes.proofs.Sound.{same_kind}
 use Rattle.mp4_head.specs.Head.{Kept}
 use Rattle.mp4_head.specs.Containers.{SaysReferences, SaysDescriptions}
-use Rattle.mp4_head.specs.HeadFaults.{HeadStands}
 use Rattle.mp4_head.specs.Leaves.{IsFaultOf, FailsToOpen, FailsAsReference, another, at_fault, IsOpen}
 use Rattle.mp4_boxes.specs.declared.refusal.Refusal.TheVariants as refusals
 use Rattle.mp4_head.specs.Refuses.{StandsOrFails, RefusesBoth, place_of}
@@ -26,8 +25,7 @@ use Rattle.mp4_head.proofs.Walks.{Walk, walk_none, walk_more, walk_here, walk_al
 -- an entry stands behind those that were passed
 pub stands_counted : (b : Box) (all passed left : List Box) (e : Box) → Tiles (counted_container b) all → all ≡ passed ++ e ∷ left → StandsAfter (counted_container b) passed e
 stands_counted b all passed left e t w =
-    let grouped : passed ++ e ∷ left ≡ (passed ++ e ∷ []) ++ left = sym (append_assoc passed (e ∷ []) left) in
-    (
+    let grouped : passed ++ e ∷ left ≡ (passed ++ e ∷ []) ++ left = sym (append_assoc passed (e ∷ []) left) in (
       lies_front false (b.offset + b.header + 8) (drop 8 b.payload) (passed ++ e ∷ []) left (subst (λ (bs : List Box). LieEndToEnd false (b.offset + b.header + 8) (drop 8 b.payload) bs) (w ∙ grouped) t.front.0),
       omega (arith, ap length (w ∙ grouped), length-append (passed ++ e ∷ []) left, t.full),
     )

@@ -1,16 +1,16 @@
 -- How long heads are.
-use Rattle.std.proofs.Common.{◌≡◌, ℕ, zero, suc, ◌+◌, ◌*◌, ◌-◌, ◌^◌, ◌<◌, ◌≤◌, min, ℤ, List, [], ◌∷◌, ◌++◌, length, take, drop, get_or, map, refl, sym, ap, subst, ◌∙◌, arith, length-append}
-use Rattle.std.specs.Prelude.{codes, replicate}
+use Rattle.std.proofs.Common.{◌≡◌, ℕ, ◌+◌, ◌*◌, ◌^◌, ◌<◌, ◌≤◌, List, [], ◌∷◌, ◌++◌, length, drop, get_or, map, refl, ap, arith, length-append}
+use Rattle.std.specs.Prelude.{codes}
 use Rattle.std.specs.List.{flat_map}
-use Rattle.std.proofs.lemmas.List.{drop_more, drop_all, length-map}
+use Rattle.std.proofs.lemmas.List.{drop_more, drop_all}
 use Rattle.byteorder.specs.Endian.{big_bytes}
 use Rattle.byteorder.specs.Numbers.{length-bytes_high_first}
-use Rattle.mp4_boxes.specs.Bytes.{sum_of, spelled, unsigned}
-use Rattle.mp4_boxes.specs.Layout.{fields, stsd, stts, stsc, stsz, stco, elst}
+use Rattle.mp4_boxes.specs.Bytes.{sum_of, spelled}
+use Rattle.mp4_boxes.specs.Layout.{fields, stts, stsc, stsz, stco}
 use Rattle.mp4_boxes.specs.Written.{box_bytes}
 use Rattle.mp4_head.specs.Head.{Kept, Edit, Media, TrackHead, MovieHead}
 use Rattle.mp4_head.specs.Writing.{mvhd_bytes, tkhd_bytes, mdhd_bytes, edts_bytes, edit_bytes, kept_bytes, dinf_bytes, stbl_bytes, mdia_bytes, trak_bytes, trex_bytes, mvex_bytes, moov_bytes, head_bytes, ftyp_bytes, next_track_id}
-use Rattle.mp4_head.specs.Parts.{capped, edit_list_bytes, descriptions_bytes, information_bytes}
+use Rattle.mp4_head.specs.Parts.{capped, descriptions_bytes}
 use Rattle.mp4_head.proofs.Pieces.{appended, of_nine}
 
 -- A number was counted up by the members of a list before a place.

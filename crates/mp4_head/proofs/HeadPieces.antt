@@ -1,10 +1,10 @@
 -- The pieces of leaves, as they are appended, are their spellings.
-use Rattle.std.proofs.Common.{◌≡◌, ℕ, ℤ, List, [], ◌∷◌, ◌++◌, length, drop, map, refl, sym, ap, ◌∙◌}
+use Rattle.std.proofs.Common.{◌≡◌, ℕ, List, [], ◌∷◌, ◌++◌, length, map, refl}
 use Rattle.std.specs.Prelude.{replicate, codes}
 use Rattle.byteorder.specs.Endian.{big_bytes}
 use Rattle.mp4_boxes.specs.Bytes.{unsigned}
 use Rattle.mp4_boxes.specs.Written.{box_bytes}
-use Rattle.mp4_head.specs.Head.{Kept, Edit, Media, TrackHead, MovieHead}
+use Rattle.mp4_head.specs.Head.{TrackHead, MovieHead}
 use Rattle.mp4_head.specs.Writing.{mvhd_bytes, tkhd_bytes, edts_bytes}
 use Rattle.mp4_head.specs.declared.edit_list.Edit as seen
 use Rattle.mp4_head.specs.Seen.{edit_seen}

@@ -1,13 +1,12 @@
 -- What the headers of a movie, a track and its media say, by the places of their numbers.
-use Rattle.std.proofs.Common.{◌≡◌, ℕ, zero, suc, ◌+◌, ◌*◌, ◌<◌, ◌≤◌, Bool, true, false, eqb, List, [], ◌∷◌, length, take, refl, sym, ap, subst, ◌∙◌, arith, lit<, lit≤}
-use Rattle.std.specs.Prelude.{slice_index, slice_range, map}
-use Rattle.std.proofs.lemmas.Bool.{eqb-true}
+use Rattle.std.proofs.Common.{◌≡◌, ℕ, zero, suc, ◌+◌, ◌*◌, ◌<◌, ◌≤◌, false, eqb, List, [], ◌∷◌, length, take, refl, sym, ap, ◌∙◌, arith, lit<, lit≤}
+use Rattle.std.specs.Prelude.{slice_index, map}
 use Rattle.byteorder.specs.Endian.{twos_complement}
 use Rattle.std.proofs.Math.Dec.{eqb-suc-zero}
-use Rattle.mp4_boxes.specs.Bytes.{field, numbers, width_of}
+use Rattle.mp4_boxes.specs.Bytes.{field, width_of}
 use Rattle.mp4_boxes.specs.Box.{Box}
 use Rattle.mp4_boxes.specs.BoxFaults.{fault_of}
-use Rattle.mp4_boxes.specs.Layout.{Leaf, mvhd, tkhd, mdhd, hdlr, fields, leaf_fields, version, time_width, needed, IsReadable, IsSound}
+use Rattle.mp4_boxes.specs.Layout.{mvhd, tkhd, mdhd, hdlr, fields, leaf_fields, version, time_width, needed, IsReadable, IsSound}
 use Rattle.mp4_boxes.specs.declared.fault.Fault.{Fault}
 use Rattle.mp4_boxes.specs.declared.fault.Kind.TheVariants.{BadValue, ShortBox}
 use Rattle.mp4_head.specs.Tree.{matrix_of}

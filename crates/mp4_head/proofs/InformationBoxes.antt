@@ -1,8 +1,8 @@
 -- The boxes of a `minf`, one after the other.
-use Rattle.std.proofs.Common.{◌≡◌, ℕ, ◌<◌, ◌≤◌, Bool, true, false, List, [], ◌∷◌, ◌++◌, map, Option, Some, None, refl, sym, ap, subst, ◌∙◌, arith}
+use Rattle.std.proofs.Common.{◌≡◌, true, false, List, [], ◌∷◌, map, Option, Some, None, refl, subst, arith}
 use Rattle.std.specs.Prelude.{codes, bytes_eq}
 use Rattle.mp4_boxes.specs.Box.{Box, box_container}
-use Rattle.mp4_boxes.specs.Children.{Holds, is_among, count_among, media_headers}
+use Rattle.mp4_boxes.specs.Children.{Holds, is_among, media_headers}
 use Rattle.mp4_boxes.specs.Places.{ruled}
 use Rattle.mp4_boxes.specs.View.{box_seen}
 use Rattle.mp4_boxes.specs.declared.view.BoxView.{BoxView}

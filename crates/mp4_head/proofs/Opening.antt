@@ -1,11 +1,10 @@
 -- Leaves that were opened can be read; those that were not fail. And the numbers of a leaf, by their places.
-use Rattle.std.proofs.Common.{◌≡◌, ℕ, zero, suc, ◌+◌, ◌*◌, ◌<◌, ◌≤◌, Bool, true, false, leb, eqb, List, [], ◌∷◌, length, take, drop, refl, sym, ap, subst, ◌∙◌, arith}
-use Rattle.std.specs.Prelude.{nat_le, slice_index, slice_range, IsTrue, Option, Some, None}
-use Rattle.std.proofs.lemmas.Bool.{le-leb, lt-leb, eqb-true, eq-eqb}
+use Rattle.std.proofs.Common.{◌≡◌, ℕ, zero, suc, ◌+◌, ◌*◌, ◌<◌, ◌≤◌, true, List, [], ◌∷◌, length, take, drop, refl, sym, subst, ◌∙◌, arith}
+use Rattle.std.specs.Prelude.{nat_le, slice_index}
+use Rattle.std.proofs.lemmas.Bool.{le-leb, lt-leb}
 use Rattle.mp4_boxes.specs.Bytes.{field, numbers, width_of}
 use Rattle.mp4_boxes.specs.Box.{Box}
-use Rattle.mp4_boxes.specs.BoxFaults.{Fails, fault_of}
-use Rattle.mp4_boxes.specs.Layout.{Leaf, version, flags, time_width, needed, knows_version, knows_flags, IsReadable}
+use Rattle.mp4_boxes.specs.Layout.{Leaf, version, time_width, needed, knows_version, knows_flags, IsReadable}
 use Rattle.mp4_boxes.specs.declared.fault.Fault.{Fault}
 use Rattle.mp4_boxes.specs.declared.fault.Kind.TheVariants.{ShortBox, BadVersion}
 use Rattle.mp4_boxes.proofs.OfBytes.{field_dropped}

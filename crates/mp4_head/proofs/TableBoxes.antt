@@ -1,9 +1,9 @@
 -- The boxes of a `dinf` and of an `stbl`, one after the other.
-use Rattle.std.proofs.Common.{◌≡◌, ℕ, ◌<◌, ◌≤◌, inl, inr, Bool, true, false, List, [], ◌∷◌, ◌++◌, map, Some, None, refl, sym, ap, subst, ◌∙◌, arith, rules}
+use Rattle.std.proofs.Common.{◌≡◌, ℕ, inl, inr, true, false, List, [], ◌∷◌, ◌++◌, map, refl, sym, ap, subst, ◌∙◌, arith}
 use Rattle.std.specs.Prelude.{codes, bytes_eq}
 use Rattle.std.proofs.lemmas.List.{map-append}
 use Rattle.mp4_boxes.specs.Box.{Box, box_container}
-use Rattle.mp4_boxes.specs.Children.{Holds, of_kind, count_among}
+use Rattle.mp4_boxes.specs.Children.{Holds, of_kind}
 use Rattle.mp4_boxes.specs.Layout.{dref, stsd}
 use Rattle.mp4_boxes.specs.Places.{ruled, data_entries, sample_entries, AreSound}
 use Rattle.mp4_boxes.specs.declared.rule.Rule.TheVariants as kinds

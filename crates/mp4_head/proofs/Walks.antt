@@ -1,10 +1,9 @@
 -- A walk over the boxes of a container: what was passed, and what of it was read.
-use Rattle.std.proofs.Common.{◌≡◌, ℕ, zero, suc, ◌+◌, ◌<◌, ◌≤◌, Bool, true, false, List, [], ◌∷◌, ◌++◌, length, map, Option, Some, None, refl, sym, ap, subst, ◌∙◌, arith, append_assoc}
-use Rattle.std.specs.Prelude.{bytes_eq, cond, find, unwrap_or}
-use Rattle.std.specs.List.{AllByRecursion}
+use Rattle.std.proofs.Common.{◌≡◌, ℕ, ◌+◌, ◌<◌, ◌≤◌, Bool, true, false, List, [], ◌∷◌, ◌++◌, Option, Some, None, refl, sym, ap, subst, ◌∙◌, arith, append_assoc}
+use Rattle.std.specs.Prelude.{bytes_eq, cond}
 use Rattle.std.proofs.lemmas.List.{append-nil}
-use Rattle.mp4_boxes.specs.Box.{Box, Container, Tiles}
-use Rattle.mp4_boxes.specs.Children.{of_kind, payload_if, count_among, is_among}
+use Rattle.mp4_boxes.specs.Box.{Box}
+use Rattle.mp4_boxes.specs.Children.{of_kind, payload_if, count_among}
 use Rattle.mp4_boxes.specs.Places.{Scope, IsSoundAs, leaf_of, AreSound}
 use Rattle.mp4_boxes.proofs.Among.{of_kind-append, count-append, all_append}
 use Rattle.mp4_head.specs.Tree.{first_of}

@@ -1,9 +1,9 @@
 -- What readers say of the containers of a `moov`.
-use Rattle.std.specs.Prelude.{◌≡◌, ℕ, ◌<◌, List, [], ◌∷◌, map, Option, Some, None, codes}
+use Rattle.std.specs.Prelude.{◌≡◌, ℕ, List, map, codes}
 use Rattle.std.specs.List.{AllByRecursion}
 use Rattle.mp4_boxes.specs.Box.{Box, box_container, counted_container, Tiles}
-use Rattle.mp4_boxes.specs.Children.{Holds, of_kind, payload_if, payload_of, count_among, media_headers}
-use Rattle.mp4_boxes.specs.Layout.{dref, stsd, hdlr, mdhd, IsSound}
+use Rattle.mp4_boxes.specs.Children.{Holds, of_kind, payload_if, media_headers}
+use Rattle.mp4_boxes.specs.Layout.{dref, stsd, IsSound}
 use Rattle.mp4_boxes.specs.Places.{ruled, data_entries, sample_entries, AreSound}
 use Rattle.mp4_boxes.specs.declared.rule.Rule.TheVariants as rules
 use Rattle.mp4_head.specs.Head.{Kept, Edit}

@@ -1,6 +1,6 @@
 -- Which faults stand in a container: in the headers and the lists of boxes, in a leaf, in what is kept.
 use Rattle.std.specs.Prelude.{◌≡◌, ℕ, ◌<◌, ◌⊎◌, true, IsTrue, List, None, Some, slice_index}
-use Rattle.mp4_boxes.specs.Box.{Box, StandsAfter}
+use Rattle.mp4_boxes.specs.Box.{Box}
 use Rattle.mp4_boxes.specs.Children.{is_among}
 use Rattle.mp4_boxes.specs.Layout.{Leaf, tkhd, trex, leaf_fields, IsReadable}
 use Rattle.mp4_boxes.specs.Places.{ruled, data_entries, Place, kept_kinds, leaf_of, Reaches, StandsIn}

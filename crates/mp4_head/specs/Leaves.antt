@@ -1,5 +1,5 @@
 -- What readers say of the leaves of a `moov`: their numbers, and in which way they can't be read.
-use Rattle.std.specs.Prelude.{◌≡◌, ℕ, ◌+◌, ◌*◌, ◌<◌, ◌≤◌, ◌⊎◌, List, [], ◌∷◌, length, drop, slice_index, slice_range, bytes_eq, codes, true, false}
+use Rattle.std.specs.Prelude.{◌≡◌, ℕ, ◌+◌, ◌*◌, ◌<◌, ◌≤◌, ◌⊎◌, List, [], ◌∷◌, length, slice_index, bytes_eq, codes, true, false}
 use Rattle.byteorder.specs.Endian.{twos_complement}
 use Rattle.mp4_boxes.specs.Bytes.{field}
 use Rattle.mp4_boxes.specs.Box.{Box}

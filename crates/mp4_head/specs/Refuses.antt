@@ -1,6 +1,6 @@
 -- Why a reader refuses: by a fault that stands, or for want of memory.
-use Rattle.std.specs.Prelude.{◌≡◌, ◌⊎◌, List}
-use Rattle.mp4_boxes.specs.Box.{Box, StandsAfter, box_container, counted_container}
+use Rattle.std.specs.Prelude.{◌⊎◌}
+use Rattle.mp4_boxes.specs.Box.{Box}
 use Rattle.mp4_boxes.specs.Layout.{Leaf}
 use Rattle.mp4_boxes.specs.Places.{Place, Scope, as_container}
 use Rattle.mp4_boxes.specs.declared.fault.Fault.{Fault}

@@ -1,7 +1,5 @@
 -- What a clause sees of heads and their parts.
-use Rattle.std.specs.Prelude.{List, ℕ, map}
-use Rattle.mp4_boxes.specs.Box.{Box}
-use Rattle.mp4_boxes.specs.View.{box_seen}
+use Rattle.std.specs.Prelude.{List, map}
 use Rattle.mp4_head.specs.Head as heads
 use Rattle.mp4_head.specs.declared.edit_list.Edit.{Edit}
 use Rattle.mp4_head.specs.declared.kept_boxes.Kept.{Kept}

@@ -12,7 +12,9 @@ ghost use Rattle.mp4_head.specs.Containers.{SaysEdits};
 ghost use Rattle.mp4_head.specs.Refuses.{RefusesLeaf, RefusesIn, place_of};
 
 use crate::leaves::{fault, i16_at, is, open, time_at};
-use mp4_boxes::{BoxView, Fault, FourCc, Kind, Refusal, Rule, check_children, i32_at, i64_at, u32_at};
+use mp4_boxes::{
+    BoxView, Fault, FourCc, Kind, Refusal, Rule, check_children, i32_at, i64_at, u32_at,
+};
 use std::alloc::Global;
 
 /// An entry of `elst`.

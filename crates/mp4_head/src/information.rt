@@ -14,7 +14,9 @@ ghost use Rattle.mp4_boxes.specs.Children.{is_among, media_headers};
 use crate::kept_boxes::{Kept, keep};
 use crate::leaves::{fault, is, open};
 use crate::sample_table::{SampleTable, read_sample_table};
-use mp4_boxes::{BoxView, Fault, FourCc, Kind, Refusal, Rule, check_children, counted, full, u32_at};
+use mp4_boxes::{
+    BoxView, Fault, FourCc, Kind, Refusal, Rule, check_children, counted, full, u32_at,
+};
 use std::alloc::Global;
 
 // The one data reference: media data lies in this file (8.7.2).

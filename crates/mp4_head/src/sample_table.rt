@@ -41,10 +41,7 @@ fn read_description<'a>(entry: BoxView<'a>) -> Result<Description<'a>, Fault>
 }
 
 // The entries of an `stsd`.
-fn read_descriptions<'a>(
-    alloc: Global,
-    view: BoxView<'a>,
-) -> Result<Vec<Description<'a>>, Refusal>
+fn read_descriptions<'a>(alloc: Global, view: BoxView<'a>) -> Result<Vec<Description<'a>>, Refusal>
     ensures says { IfOk result (λ ds. SaysDescriptions (box_seen view.entry) (map description_seen ds.items)) }
     ensures refusal { IfErr result (RefusesBoth stsd sample_entries (box_seen view.entry)) }
 {

@@ -4,7 +4,8 @@ use std::alloc::Global;
 use std::test::Fail;
 
 const UNITY: &[u8] = &[
-    0, 1, 0, 0, 0, 0, 0, 0, 0, 0, 0, 0, 0, 0, 0, 0, 0, 1, 0, 0, 0, 0, 0, 0, 0, 0, 0, 0, 0, 0, 0, 0, 64, 0, 0, 0,
+    0, 1, 0, 0, 0, 0, 0, 0, 0, 0, 0, 0, 0, 0, 0, 0, 0, 1, 0, 0, 0, 0, 0, 0, 0, 0, 0, 0, 0, 0, 0, 0,
+    64, 0, 0, 0,
 ];
 
 // The bytes of boxes, put together by hand.
@@ -42,7 +43,9 @@ impl Bytes {
     }
 
     fn leaf(&mut self, kind: &[u8; 4], payload: &[u8]) -> Result<(), Fail> {
-        if let Ok(size) = u32::try_from(payload.len()) && size < 1000 {
+        if let Ok(size) = u32::try_from(payload.len())
+            && size < 1000
+        {
             self.header(size + 8, kind)?;
         }
         self.put(payload)
@@ -110,7 +113,9 @@ impl Bytes {
         )?;
         self.leaf(
             b"stsz",
-            &[0, 0, 0, 0, 0, 0, 0, 0, 0, 0, 0, 3, 0, 0, 0, 5, 0, 0, 0, 0, 0, 0, 0, 7],
+            &[
+                0, 0, 0, 0, 0, 0, 0, 0, 0, 0, 0, 3, 0, 0, 0, 5, 0, 0, 0, 0, 0, 0, 0, 7,
+            ],
         )?;
         self.leaf(b"stco", &[0, 0, 0, 0, 0, 0, 0, 1, 0, 0, 2, 0x25])
     }
@@ -118,7 +123,9 @@ impl Bytes {
     // The payload of the `moov` of the plain vector, with an `edts` if it is not empty.
     fn plain(&mut self, edits: &[u8]) -> Result<(), Fail> {
         self.movie_header(1000, 120, 2)?;
-        if let Ok(more) = u32::try_from(edits.len()) && more < 1000 {
+        if let Ok(more) = u32::try_from(edits.len())
+            && more < 1000
+        {
             self.header(401 + more, b"trak")?;
         }
         self.track_header(1)?;
@@ -128,8 +135,8 @@ impl Bytes {
 }
 
 const EDITS: &[u8] = &[
-    0, 0, 0, 48, b'e', b'd', b't', b's', 0, 0, 0, 40, b'e', b'l', b's', b't', 0, 0, 0, 0, 0, 0, 0, 2, 0, 0, 0, 40,
-    255, 255, 255, 255, 0, 1, 0, 0, 0, 0, 0, 120, 0, 0, 4, 0, 0, 1, 0, 0,
+    0, 0, 0, 48, b'e', b'd', b't', b's', 0, 0, 0, 40, b'e', b'l', b's', b't', 0, 0, 0, 0, 0, 0, 0,
+    2, 0, 0, 0, 40, 255, 255, 255, 255, 0, 1, 0, 0, 0, 0, 0, 120, 0, 0, 4, 0, 0, 1, 0, 0,
 ];
 
 // The `moov` with this payload, at the place 24 of a file.
@@ -164,13 +171,22 @@ fn plain_vector(rt: HostRuntime) -> Result<(), Fail> {
         assert!(rt; false);
         return Ok(());
     };
-    assert_eq!(rt; (head.timescale, head.rate, head.volume), (1000, 0x10000, 256));
+    assert_eq!(rt;
+        (head.timescale, head.rate, head.volume),
+        (1000, 0x10000, 256)
+    );
     assert_eq!(rt; head.matrix[8], 0x4000_0000);
     assert_eq!(rt; head.tracks.len(), 1);
     for track in &head.tracks {
-        assert_eq!(rt; (track.flags, track.id, track.offset, track.stbl.offset()), (3, 1, 148, 377));
+        assert_eq!(rt;
+            (track.flags, track.id, track.offset, track.stbl.offset()),
+            (3, 1, 148, 377)
+        );
         assert_eq!(rt; (track.width, track.height), (0x40_0000, 0x30_0000));
-        assert_eq!(rt; (track.media.timescale, track.media.language), (12800, 0x55c4));
+        assert_eq!(rt;
+            (track.media.timescale, track.media.language),
+            (12800, 0x55c4)
+        );
         assert_eq!(rt; track.media.handler.len(), 25);
         assert_eq!(rt; track.media.header.kind, FourCc(*b"vmhd"));
         assert_eq!(rt; track.media.descriptions.len(), 1);
@@ -184,31 +200,88 @@ fn plain_vector(rt: HostRuntime) -> Result<(), Fail> {
 fn faults_of_one_byte(rt: HostRuntime) -> Result<(), Fail> {
     let alloc = rt.alloc();
     // sizes: a header cut short, a size below 8, an overrun
-    assert_eq!(rt; refusal_with(alloc, 243, 44)?, named(Kind::ShortHeader, b"trak", 540));
-    assert_eq!(rt; refusal_with(alloc, 251, 7)?, named(Kind::BadSize, b"mdhd", 248));
-    assert_eq!(rt; refusal_with(alloc, 250, 2)?, named(Kind::Overrun, b"mdhd", 248));
+    assert_eq!(rt;
+        refusal_with(alloc, 243, 44)?,
+        named(Kind::ShortHeader, b"trak", 540)
+    );
+    assert_eq!(rt;
+        refusal_with(alloc, 251, 7)?,
+        named(Kind::BadSize, b"mdhd", 248)
+    );
+    assert_eq!(rt;
+        refusal_with(alloc, 250, 2)?,
+        named(Kind::Overrun, b"mdhd", 248)
+    );
     // versions
-    assert_eq!(rt; refusal_with(alloc, 40, 2)?, named(Kind::BadVersion, b"mvhd", 32));
-    assert_eq!(rt; refusal_with(alloc, 156, 2)?, named(Kind::BadVersion, b"tkhd", 148));
-    assert_eq!(rt; refusal_with(alloc, 256, 2)?, named(Kind::BadVersion, b"mdhd", 248));
-    assert_eq!(rt; refusal_with(alloc, 357, 1)?, named(Kind::BadVersion, b"dref", 349));
-    assert_eq!(rt; refusal_with(alloc, 393, 1)?, named(Kind::BadVersion, b"stsd", 385));
+    assert_eq!(rt;
+        refusal_with(alloc, 40, 2)?,
+        named(Kind::BadVersion, b"mvhd", 32)
+    );
+    assert_eq!(rt;
+        refusal_with(alloc, 156, 2)?,
+        named(Kind::BadVersion, b"tkhd", 148)
+    );
+    assert_eq!(rt;
+        refusal_with(alloc, 256, 2)?,
+        named(Kind::BadVersion, b"mdhd", 248)
+    );
+    assert_eq!(rt;
+        refusal_with(alloc, 357, 1)?,
+        named(Kind::BadVersion, b"dref", 349)
+    );
+    assert_eq!(rt;
+        refusal_with(alloc, 393, 1)?,
+        named(Kind::BadVersion, b"stsd", 385)
+    );
     assert_eq!(rt; refusal_with(alloc, 288, 9)?, None);
     // room: version 1 in the room of version 0
-    assert_eq!(rt; refusal_with(alloc, 40, 1)?, named(Kind::ShortBox, b"mvhd", 32));
-    assert_eq!(rt; refusal_with(alloc, 156, 1)?, named(Kind::ShortBox, b"tkhd", 148));
-    assert_eq!(rt; refusal_with(alloc, 256, 1)?, named(Kind::ShortBox, b"mdhd", 248));
+    assert_eq!(rt;
+        refusal_with(alloc, 40, 1)?,
+        named(Kind::ShortBox, b"mvhd", 32)
+    );
+    assert_eq!(rt;
+        refusal_with(alloc, 156, 1)?,
+        named(Kind::ShortBox, b"tkhd", 148)
+    );
+    assert_eq!(rt;
+        refusal_with(alloc, 256, 1)?,
+        named(Kind::ShortBox, b"mdhd", 248)
+    );
     // values: timescale 1000 is 03e8, ID 1
-    assert_eq!(rt; refusal_with(alloc, 171, 0)?, named(Kind::BadValue, b"tkhd", 148));
-    assert_eq!(rt; refusal_with(alloc, 416, 2)?, named(Kind::BadValue, b"mp4v", 401));
-    assert_eq!(rt; refusal_with(alloc, 364, 2)?, named(Kind::OutsideData, b"dref", 349));
-    assert_eq!(rt; refusal_with(alloc, 376, 0)?, named(Kind::OutsideData, b"url ", 365));
-    assert_eq!(rt; refusal_with(alloc, 372, b'x')?, named(Kind::OutsideData, b"urlx", 365));
+    assert_eq!(rt;
+        refusal_with(alloc, 171, 0)?,
+        named(Kind::BadValue, b"tkhd", 148)
+    );
+    assert_eq!(rt;
+        refusal_with(alloc, 416, 2)?,
+        named(Kind::BadValue, b"mp4v", 401)
+    );
+    assert_eq!(rt;
+        refusal_with(alloc, 364, 2)?,
+        named(Kind::OutsideData, b"dref", 349)
+    );
+    assert_eq!(rt;
+        refusal_with(alloc, 376, 0)?,
+        named(Kind::OutsideData, b"url ", 365)
+    );
+    assert_eq!(rt;
+        refusal_with(alloc, 372, b'x')?,
+        named(Kind::OutsideData, b"urlx", 365)
+    );
     // an entry that is counted and not there
-    assert_eq!(rt; refusal_with(alloc, 400, 2)?, named(Kind::ShortHeader, b"stsd", 417));
+    assert_eq!(rt;
+        refusal_with(alloc, 400, 2)?,
+        named(Kind::ShortHeader, b"stsd", 417)
+    );
     // which boxes stand where
-    assert_eq!(rt; refusal_with(alloc, 36, b'x')?, named(Kind::BoxNotInProfile, b"xvhd", 32));
-    assert_eq!(rt; refusal_with(alloc, 493, b'r')?, named(Kind::BoxNotInProfile, b"rtsz", 489));
+    assert_eq!(rt;
+        refusal_with(alloc, 36, b'x')?,
+        named(Kind::BoxNotInProfile, b"xvhd", 32)
+    );
+    assert_eq!(rt;
+        refusal_with(alloc, 493, b'r')?,
+        named(Kind::BoxNotInProfile, b"rtsz", 489)
+    );
     Ok(())
 }
 
@@ -233,7 +306,10 @@ fn edits(rt: HostRuntime) -> Result<(), Fail> {
         assert_eq!(rt; track.edits.len(), 2);
         for edit in &track.edits {
             if edit.segment_duration == 40 {
-                assert_eq!(rt; (edit.media_time, edit.rate_integer, edit.rate_fraction), (-1, 1, 0));
+                assert_eq!(rt;
+                    (edit.media_time, edit.rate_integer, edit.rate_fraction),
+                    (-1, 1, 0)
+                );
             } else {
                 assert_eq!(rt; (edit.segment_duration, edit.media_time), (120, 1024));
             }

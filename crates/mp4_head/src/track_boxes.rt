@@ -10,10 +10,7 @@ use std::alloc::Global;
 use std::collections::BTreeSet;
 
 // A `tkhd` with an ID that none has that was read before.
-fn read_new_track_header(
-    view: BoxView,
-    ids: &mut BTreeSet<u32>,
-) -> Result<TrackHeader, Refusal> {
+fn read_new_track_header(view: BoxView, ids: &mut BTreeSet<u32>) -> Result<TrackHeader, Refusal> {
     let header = read_track_header(view)?;
     if !ids.insert(header.id)? {
         return Err(Refusal::from(fault(Kind::BadValue, view)));

@@ -23,10 +23,12 @@ const TRACK_HEADER: &[u8] = b"\0\0\0\x68tkhd\x01";
 const MEDIA_HEADER: &[u8] = b"\0\0\0\x2cmdhd\x01\0\0\0";
 
 // `dinf`: one data reference, this file.
-const DATA_INFORMATION: &[u8] = b"\0\0\0\x24dinf\0\0\0\x1cdref\0\0\0\0\0\0\0\x01\0\0\0\x0curl \0\0\0\x01";
+const DATA_INFORMATION: &[u8] =
+    b"\0\0\0\x24dinf\0\0\0\x1cdref\0\0\0\0\0\0\0\x01\0\0\0\x0curl \0\0\0\x01";
 
 // `stts`, `stsc`, `stsz` and `stco` without rows.
-const TABLES: &[u8] = b"\0\0\0\x10stts\0\0\0\0\0\0\0\0\0\0\0\x10stsc\0\0\0\0\0\0\0\0\0\0\0\x14stsz\0\0\0\0\0\0\0\0\0\0\0\0\0\0\0\x10stco\0\0\0\0\0\0\0\0";
+const TABLES: &[u8] =
+    b"\0\0\0\x10stts\0\0\0\0\0\0\0\0\0\0\0\x10stsc\0\0\0\0\0\0\0\0\0\0\0\x14stsz\0\0\0\0\0\0\0\0\0\0\0\0\0\0\0\x10stco\0\0\0\0\0\0\0\0";
 
 fn put_track_header(out: &mut Vec<u8>, track: &TrackHead) -> Result<(), Memory>
     ensures { OnOk result (out.new.items ≡ out.old.items ++ written.tkhd_bytes (track_seen track.now)) }

@@ -7,7 +7,9 @@ ghost use Rattle.mp4_head.specs.Writing as written;
 use crate::heads::{MovieHead, TrackHead};
 use crate::kept_boxes::Kept;
 use crate::lengths::head_len;
-use crate::spelling::{close_box, open_box, put, put_box, put_i16, put_i32, put_matrix, put_u32, put_u64};
+use crate::spelling::{
+    close_box, open_box, put, put_box, put_i16, put_i32, put_matrix, put_u32, put_u64,
+};
 use crate::track_writing::put_track;
 use mp4_boxes::{FourCc, Memory};
 use std::alloc::Global;

@@ -2,7 +2,6 @@ use Rattle.std.proofs.Common.{◌∙◌, ap, refl, lit<, arith, rules}
 use Rattle.std.specs.Int.{w16, w64}
 use Rattle.std.proofs.lemmas.Int.{to_z-of_z}
 use Rattle.byteorder.specs.Endian.{twos_complement}
-use Rattle.mp4_boxes.specs.Layout.{time_width}
 use Rattle.mp4_head.proofs.EditRows.{row_at}
 use Rattle.mp4_head.proofs.edit_list.first_edit.Goals as goal
 

@@ -1,7 +1,7 @@
-use Rattle.std.proofs.Common.{rules, ◌≡◌, ℕ, ◌+◌, ◌*◌, ◌-◌, ◌<◌, ◌≤◌, length, drop, arith, ap, subst, sym, ◌∙◌, refl}
+use Rattle.std.proofs.Common.{◌≡◌, ◌+◌, ◌*◌, ◌-◌, length, drop, arith, ap, ◌∙◌}
 use Rattle.std.proofs.lemmas.List.{length-drop}
-use Rattle.mp4_boxes.specs.Layout.{elst, version, row_count}
-use Rattle.mp4_head.proofs.EditRows.{RowsRead, edits_in, rows_none, row_room, rows_more, rows_all}
+use Rattle.mp4_boxes.specs.Layout.{version}
+use Rattle.mp4_head.proofs.EditRows.{rows_none, row_room, rows_more, rows_all}
 use Rattle.mp4_head.proofs.edit_list.read_edit_list.Goals as goal
 
 pub loop-row-init : goal.loop-row-init

@@ -1,6 +1,5 @@
 use Rattle.std.proofs.Common.{◌-◌}
-use Rattle.mp4_boxes.specs.Layout.{elst, version, leaf_rows}
-use Rattle.mp4_boxes.specs.View.{box_seen}
+use Rattle.mp4_boxes.specs.Layout.{version}
 use Rattle.mp4_head.specs.Tree.{edits_of}
 use Rattle.std.specs.Prelude.{Some}
 use Rattle.mp4_head.proofs.EditRows.{RowsRead}

@@ -3,7 +3,6 @@ use Rattle.std.specs.Prelude.{codes, bytes_eq}
 use Rattle.std.proofs.lemmas.Result.{err_from_is_err_and}
 use Rattle.mp4_boxes.specs.Box.{box_container}
 use Rattle.mp4_boxes.specs.Children.{Holds, is_among, media_headers}
-use Rattle.mp4_boxes.specs.Places.{ruled}
 use Rattle.mp4_boxes.specs.View.{box_seen}
 use Rattle.mp4_boxes.specs.declared.rule.Rule.TheVariants as kinds
 use Rattle.mp4_boxes.specs.declared.refusal.Refusal.TheVariants as refusals

@@ -1,4 +1,4 @@
-use Rattle.std.proofs.Common.{rules, arith}
+use Rattle.std.proofs.Common.{rules}
 use Rattle.mp4_head.proofs.HeadLengths.{length_any}
 use Rattle.mp4_head.proofs.lengths.add_box.Goals as goal
 

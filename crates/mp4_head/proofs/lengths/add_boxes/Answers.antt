@@ -1,4 +1,4 @@
-use Rattle.std.proofs.Common.{rules, ◌∙◌, ◌+◌, ℕ, length, ap, arith}
+use Rattle.std.proofs.Common.{rules, ◌∙◌, ◌+◌, ℕ, length, ap}
 use Rattle.mp4_boxes.specs.Written.{box_bytes}
 use Rattle.mp4_head.specs.Parts.{capped}
 use Rattle.mp4_head.proofs.HeadLengths.{counted_none, counted_more, counted_all, length_each}

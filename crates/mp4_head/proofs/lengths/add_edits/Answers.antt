@@ -1,4 +1,4 @@
-use Rattle.std.proofs.Common.{rules, map, arith}
+use Rattle.std.proofs.Common.{rules, map}
 use Rattle.std.proofs.lemmas.List.{length-map}
 use Rattle.mp4_head.specs.Seen.{edit_seen}
 use Rattle.mp4_head.proofs.HeadLengths.{length_edits, length_no_edits}

@@ -1,4 +1,4 @@
-use Rattle.std.proofs.Common.{rules, ◌∙◌, ◌+◌, ℕ, length, ap, sym, arith}
+use Rattle.std.proofs.Common.{rules, ◌∙◌, ◌+◌, ℕ, length, ap}
 use Rattle.mp4_head.specs.Seen.{kept_seen}
 use Rattle.mp4_head.specs.Writing.{kept_bytes}
 use Rattle.mp4_head.specs.Parts.{capped}

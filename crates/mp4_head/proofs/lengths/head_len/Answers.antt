@@ -1,4 +1,4 @@
-use Rattle.std.proofs.Common.{rules, ◌∙◌, ◌+◌, ℕ, List, length, map, ap, arith, sym}
+use Rattle.std.proofs.Common.{rules, ◌∙◌, ◌+◌, ℕ, length, ap, arith}
 use Rattle.mp4_head.specs.Head as heads
 use Rattle.mp4_head.specs.Seen.{track_seen, movie_seen, tracks_seen}
 use Rattle.mp4_head.specs.declared.heads.TrackHead.{TrackHead}

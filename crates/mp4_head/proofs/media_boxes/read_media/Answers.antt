@@ -1,4 +1,4 @@
-use Rattle.std.proofs.Common.{◌≡◌, ℕ, List, [], ◌∷◌, ◌++◌, true, false, map, ap, sym, ◌∙◌, refl, rules}
+use Rattle.std.proofs.Common.{◌≡◌, ℕ, List, [], ◌∷◌, ◌++◌, true, false, map, ap, sym, ◌∙◌, rules}
 use Rattle.std.specs.Prelude.{codes, bytes_eq}
 use Rattle.std.proofs.lemmas.List.{map-append}
 use Rattle.std.proofs.lemmas.Result.{err_from_is_err_and}
@@ -29,7 +29,7 @@ pub loop-child-preserved-then-is : goal.loop-child-preserved-then-is
 loop-child-preserved-then-is c =
     let h : Holds kinds.Media (box_container (box_seen c.args.mdia)) c.into_iter-child-iterator.result = rw c.into_iter-child-iterator.ensures.into_iter_gives c.in_ok-child-items.ensures.holds in
     let k : bytes_eq (codes "mdhd") (box_seen c.in-Some.child).kind ≡ true = sym c.is.ensures ∙ c.if-is.true in
-    (tt, tt, media_header (box_seen c.args.mdia) _ c.loop-child.child-iterator c.next.new.self (box_seen c.in-Some.child) _ _ _ _ _ h c.loop-child.invariant.2 c.in-Some.ensures.steps  k c.in_ok-read_media_header.ensures.sound c.in_ok-read_media_header.ensures.says)
+    (tt, tt, media_header (box_seen c.args.mdia) _ c.loop-child.child-iterator c.next.new.self (box_seen c.in-Some.child) _ _ _ _ _ h c.loop-child.invariant.2 c.in-Some.ensures.steps k c.in_ok-read_media_header.ensures.sound c.in_ok-read_media_header.ensures.says)
 
 pub returns-in_err-read_handler-clause-refusal : goal.returns-in_err-read_handler-clause-refusal
 returns-in_err-read_handler-clause-refusal c =
@@ -50,9 +50,12 @@ loop-child-preserved-in_ok-push c =
     let h : Holds kinds.Media (box_container (box_seen c.args.mdia)) c.into_iter-child-iterator.result = rw c.into_iter-child-iterator.ensures.into_iter_gives c.in_ok-child-items.ensures.holds in
     let n0 : bytes_eq (codes "mdhd") (box_seen c.in-Some.child).kind ≡ false = sym c.is.ensures ∙ c.if-is.false in
     let n1 : bytes_eq (codes "hdlr") (box_seen c.in-Some.child).kind ≡ false = sym c.is-else-is.ensures ∙ c.if-is-2.false in
-    let k : bytes_eq (codes "elng") (box_seen c.in-Some.child).kind ≡ true = sym c.is-else-is-2.ensures ∙ c.if-is-3.true in
-    (tt, tt, media_language (box_seen c.args.mdia) _ c.loop-child.child-iterator c.next.new.self (box_seen c.in-Some.child) _ _ _ _ _ h c.loop-child.invariant.2 c.in-Some.ensures.steps n0 n1 k
-    (ap (map (λ p. p.now)) c.in_ok-push.ensures.items ∙ map-append (λ p. p.now) c.loop-child.extended_languages.items (c.payload.result ∷ []) ∙ ap (λ (x : List ℕ). map (λ p. p.now) c.loop-child.extended_languages.items ++ x ∷ []) c.payload.ensures))
+    let k : bytes_eq (codes "elng") (box_seen c.in-Some.child).kind ≡ true = sym c.is-else-is-2.ensures ∙ c.if-is-3.true in (
+      tt,
+      tt,
+      media_language (box_seen c.args.mdia) _ c.loop-child.child-iterator c.next.new.self (box_seen c.in-Some.child) _ _ _ _ _ h c.loop-child.invariant.2 c.in-Some.ensures.steps n0 n1 k
+          (ap (map (λ p. p.now)) c.in_ok-push.ensures.items ∙ map-append (λ p. p.now) c.loop-child.extended_languages.items (c.payload.result ∷ []) ∙ ap (λ (x : List ℕ). map (λ p. p.now) c.loop-child.extended_languages.items ++ x ∷ []) c.payload.ensures),
+    )
 
 pub returns-in_err-read_information-clause-refusal : goal.returns-in_err-read_information-clause-refusal
 returns-in_err-read_information-clause-refusal c =

@@ -6,7 +6,6 @@ use Rattle.mp4_boxes.specs.Box.{box_container}
 use Rattle.mp4_boxes.specs.Children.{Holds}
 use Rattle.mp4_boxes.specs.View.{box_seen}
 use Rattle.mp4_boxes.specs.declared.rule.Rule.TheVariants as kinds
-use Rattle.mp4_head.specs.Seen.{description_seen}
 use Rattle.mp4_head.proofs.Above.{child_here}
 use Rattle.mp4_head.proofs.TableBoxes.{table_none, table_descriptions, table_group, table_other, table_all, table_refuse}
 use Rattle.mp4_head.proofs.sample_table.read_sample_table.Goals as goal
@@ -35,9 +34,12 @@ loop-child-preserved-then-is c =
 pub loop-child-preserved-in-Continue-branch-3 : goal.loop-child-preserved-in-Continue-branch-3
 loop-child-preserved-in-Continue-branch-3 c =
     let n : bytes_eq (codes "stsd") (box_seen c.in-Some.child).kind ≡ false = sym c.is.ensures ∙ c.if-is.false in
-    let k : bytes_eq (codes "sgpd") (box_seen c.in-Some.child).kind ≡ true = sym c.is-else-is.ensures ∙ c.if-is-2.true in
-    (tt, tt, table_group _ c.loop-child.child-iterator c.next.new.self (box_seen c.in-Some.child) _ _ _ c.loop-child.invariant.2 c.in-Some.ensures.steps n k
-    (ap (map (λ p. p.now)) c.in_ok-push.ensures.items ∙ map-append (λ p. p.now) c.loop-child.group_descriptions.items (c.payload.result ∷ []) ∙ ap (λ (x : List ℕ). map (λ p. p.now) c.loop-child.group_descriptions.items ++ x ∷ []) c.payload.ensures))
+    let k : bytes_eq (codes "sgpd") (box_seen c.in-Some.child).kind ≡ true = sym c.is-else-is.ensures ∙ c.if-is-2.true in (
+      tt,
+      tt,
+      table_group _ c.loop-child.child-iterator c.next.new.self (box_seen c.in-Some.child) _ _ _ c.loop-child.invariant.2 c.in-Some.ensures.steps n k
+          (ap (map (λ p. p.now)) c.in_ok-push.ensures.items ∙ map-append (λ p. p.now) c.loop-child.group_descriptions.items (c.payload.result ∷ []) ∙ ap (λ (x : List ℕ). map (λ p. p.now) c.loop-child.group_descriptions.items ++ x ∷ []) c.payload.ensures),
+    )
 
 pub loop-child-preserved : goal.loop-child-preserved
 loop-child-preserved c =

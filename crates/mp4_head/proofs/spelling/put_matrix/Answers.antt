@@ -1,4 +1,4 @@
-use Rattle.std.proofs.Common.{rules, ◌+◌, ◌∙◌, ◌++◌, List, ℕ, ℤ, pos, get_or, ap, arith}
+use Rattle.std.proofs.Common.{rules, ◌∙◌, ◌++◌, ℤ, pos, get_or, ap}
 use Rattle.std.specs.Int.{w32}
 use Rattle.std.proofs.lemmas.Int.{to_z-of_z}
 use Rattle.byteorder.specs.Endian.{big_bytes}

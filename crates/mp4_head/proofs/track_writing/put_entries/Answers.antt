@@ -1,4 +1,4 @@
-use Rattle.std.proofs.Common.{rules, ◌∙◌, ◌++◌, ap, arith}
+use Rattle.std.proofs.Common.{rules, ◌∙◌, ◌++◌, ap}
 use Rattle.mp4_head.specs.Seen.{description_seen}
 use Rattle.mp4_head.specs.Writing as written
 use Rattle.mp4_head.proofs.Pieces.{put_none, put_more, put_all, seen_each}

@@ -1,14 +1,8 @@
-use Rattle.std.proofs.Common.{rules, ◌≡◌, ℕ, ◌+◌, ◌∙◌, ◌++◌, List, [], ◌∷◌, length, map, ap, sym, refl, arith}
-use Rattle.std.proofs.lemmas.List.{length-map}
-use Rattle.std.specs.Prelude.{codes, replicate}
-use Rattle.std.specs.List.{flat_map}
-use Rattle.byteorder.specs.Endian.{big_bytes}
-use Rattle.mp4_boxes.specs.Written.{box_bytes}
-use Rattle.mp4_head.specs.Seen.{kept_seen, description_seen, edit_seen, media_seen, track_seen, movie_seen}
-use Rattle.mp4_head.specs.Parts.{unsized, edit_list_bytes, descriptions_bytes, information_bytes}
+use Rattle.std.proofs.Common.{rules, [], ◌∷◌, refl}
+use Rattle.std.specs.Prelude.{codes}
+use Rattle.mp4_head.specs.Seen.{track_seen}
 use Rattle.mp4_head.specs.Writing as written
-use Rattle.mp4_head.proofs.Pieces.{appended, appended_is, joined, boxed, boxed_room}
-use Rattle.mp4_head.proofs.HeadPieces.{movie_spelled, track_spelled}
+use Rattle.mp4_head.proofs.Pieces.{appended, boxed, boxed_room}
 use Rattle.mp4_head.proofs.track_writing.put_information.Goals as goal
 
 pub close_box-requires : goal.close_box-requires

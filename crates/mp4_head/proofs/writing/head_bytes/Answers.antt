@@ -1,4 +1,4 @@
-use Rattle.std.proofs.Common.{rules, ◌≡◌, length, refl, arith, length-append}
+use Rattle.std.proofs.Common.{◌≡◌, length, refl, arith, length-append}
 use Rattle.mp4_head.specs.Seen.{movie_seen, tracks_seen}
 use Rattle.mp4_head.specs.Writing.{ftyp_bytes, moov_bytes}
 use Rattle.mp4_head.proofs.writing.head_bytes.Goals as goal
