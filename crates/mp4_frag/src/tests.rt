@@ -1,4 +1,5 @@
-ghost use Rattle.std.specs.Prelude.{◌≡◌};
+ghost use Rattle.std.specs.Prelude.{◌≡◌, ◌^◌, ◌≤◌};
+ghost use Rattle.mp4_frag.specs.States.{HaveRoom};
 
 use super::*;
 use mp4_boxes::{BoxView, Fault, FourCc, Kind, Steps};
@@ -167,7 +168,10 @@ fn spelled(words: &[u32], others: &[(usize, u32)]) -> Bytes {
     bytes
 }
 
-fn track(id: u32, flags: u32) -> TrackState {
+fn track(id: u32, flags: u32) -> TrackState
+    ensures count { result.count ≡ 0 }
+    ensures time { result.time ≡ 0 }
+{
     TrackState {
         id,
         descriptions: 1,
@@ -200,6 +204,8 @@ fn check_counted<L: Ledger>(
     requires name { blank.name ≡ L.name }
     requires parts { blank.parts ≡ L.parts }
     requires one { blank.parts ≡ 1 }
+    requires few { room.old ≤ 2 ^ 24 }
+    requires room { HaveRoom room.old tracks.old }
 {
     let mut steps = Steps::<L>::new(blank);
     match check_moof(moof_of(bytes), FILE_LEN, tracks, room, &mut steps) {
@@ -214,17 +220,21 @@ fn check_words(
     others: &[(usize, u32)],
     tracks: &mut [TrackState],
     room: &mut u32,
-) -> Option<Fault> {
+) -> Option<Fault>
+    requires few { room.old ≤ 2 ^ 24 }
+    requires room { HaveRoom room.old tracks.old }
+{
     let bytes = spelled(words, others);
     check_counted::<Brand>(&bytes, tracks, room, Blank::new(1))
 }
 
 // The kind, the type and the place of the fault.
 fn told(fault: Option<Fault>) -> (Option<Kind>, [u8; 4], u64) {
-    match fault {
-        Some(fault) => (Some(fault.kind), fault.box_type, fault.offset),
-        None => (None, *b"none", 0),
-    }
+    let Some(fault) = fault else {
+        return (None, *b"none", 0);
+    };
+    let box_type = fault.box_type;
+    (Some(fault.kind), box_type, fault.offset)
 }
 
 // Whether the samples of track 1 are three of 512 each, with these flags, of 5, 0 and 7 bytes from this place on.
@@ -286,20 +296,28 @@ fn times(rt: HostRuntime) {
         None
     );
     assert_eq!(rt; (tracks[0].start, tracks[0].time), (90_000, 91_536));
-    assert_eq!(rt;
-        check_words(NP, &[(15, 91_536)], &mut tracks, &mut room),
-        None
-    );
-    assert_eq!(rt;
-        (tracks[0].start, tracks[0].count, tracks[0].time, room),
-        (90_000, 6, 93_072, 4)
-    );
-    assert_eq!(rt;
-        told(check_words(NP, &[(15, 1024)], &mut tracks, &mut room)),
-        (Some(Kind::Gap), *b"tfdt", 633)
-    );
+    for (time, want) in [(91_536, None), (1024, Some(Kind::Gap))] {
+        let mut tracks = [TrackState {
+            start: 90_000,
+            count: 3,
+            time: 91_536,
+            ..track(1, 0)
+        }];
+        let mut room = 10;
+        let fault = told(check_words(NP, &[(15, time)], &mut tracks, &mut room));
+        assert_eq!(rt; fault.0, want);
+        if want.is_none() {
+            assert_eq!(rt;
+                (tracks[0].start, tracks[0].count, tracks[0].time),
+                (90_000, 6, 93_072)
+            );
+        } else {
+            assert_eq!(rt; fault.2, 633);
+        }
+    }
     // A `traf` without samples counts for nothing, its time neither.
     let mut tracks = [track(1, 0)];
+    let mut room = 10;
     let empty = &[
         0x10,
         0x6D66_6864,
