@@ -1,4 +1,4 @@
-use Rattle.std.proofs.Common.{◌≡◌, ◌-◌, ◌≤◌}
+use Rattle.std.proofs.Common.{◌≡◌, ◌-◌, ◌≤◌, length}
 use Rattle.mp4_frag.specs.PlacesIn.{IsPlaceIn}
 use Rattle.mp4_frag.proofs.walk.open_traf.Given as goal
 
