@@ -8,7 +8,7 @@ use std::marker::Brand;
 use std::sync::ledger::{Blank, Ledger};
 
 // The words of a `moof` at 581 behind its header: the normal form of three samples.
-const NP: &[u32] = &[
+const NORMAL: &[u32] = &[
     0x10,
     0x6D66_6864,
     0,
@@ -45,7 +45,7 @@ const NP: &[u32] = &[
 ];
 
 // The same samples with a base in the file.
-const F1: &[u32] = &[
+const WITH_BASE: &[u32] = &[
     0x10,
     0x6D66_6864,
     0,
@@ -73,7 +73,7 @@ const F1: &[u32] = &[
 ];
 
 // The same samples with the `moof` as base.
-const F2: &[u32] = &[
+const FROM_MOOF: &[u32] = &[
     0x10,
     0x6D66_6864,
     0,
@@ -99,7 +99,7 @@ const F2: &[u32] = &[
 ];
 
 // The same samples in two `traf`s, the second of which begins where the data of the first ends.
-const F3: &[u32] = &[
+const TWO_TRAFS: &[u32] = &[
     0x10,
     0x6D66_6864,
     0,
@@ -272,7 +272,12 @@ const SYNC_FIRST: [u32; 3] = [0, 0x0001_0000, 0x0001_0000];
 
 #[test]
 fn one_presentation(rt: HostRuntime) {
-    for (words, at) in [(NP, 729), (F1, 693), (F2, 685), (F3, 733)] {
+    for (words, at) in [
+        (NORMAL, 729),
+        (WITH_BASE, 693),
+        (FROM_MOOF, 685),
+        (TWO_TRAFS, 733),
+    ] {
         let mut tracks = [track(7, 0), track(1, 0)];
         let mut room = 10;
         assert_eq!(rt; check_words(words, &[], &mut tracks, &mut room), None);
@@ -292,7 +297,7 @@ fn times(rt: HostRuntime) {
     let mut tracks = [track(1, 0)];
     let mut room = 10;
     assert_eq!(rt;
-        check_words(NP, &[(15, 90_000)], &mut tracks, &mut room),
+        check_words(NORMAL, &[(15, 90_000)], &mut tracks, &mut room),
         None
     );
     assert_eq!(rt; (tracks[0].start, tracks[0].time), (90_000, 91_536));
@@ -304,7 +309,7 @@ fn times(rt: HostRuntime) {
             ..track(1, 0)
         }];
         let mut room = 10;
-        let fault = told(check_words(NP, &[(15, time)], &mut tracks, &mut room));
+        let fault = told(check_words(NORMAL, &[(15, time)], &mut tracks, &mut room));
         assert_eq!(rt; fault.0, want);
         if want.is_none() {
             assert_eq!(rt;
@@ -387,39 +392,81 @@ fn first_flags_go_for_one_sample(rt: HostRuntime) {
 fn faults(rt: HostRuntime) {
     let cases = [
         // headers and children of the `moof`, then of the `traf`
-        (F2, 0, 4, Kind::BadSize, *b"mfhd", 589),
-        (F2, 4, 0x50, Kind::Overrun, *b"traf", 605),
-        (F2, 4, 0x44, Kind::ShortHeader, *b"moof", 673),
-        (F2, 1, 0x6672_6565, Kind::MissingBox, *b"moof", 581),
-        (F2, 5, 0x6D66_6864, Kind::DuplicateBox, *b"mfhd", 605),
-        (F2, 5, 0x6D64_6174, Kind::BoxNotInProfile, *b"mdat", 605),
-        (F2, 7, 0x6672_6565, Kind::MissingBox, *b"traf", 605),
-        (F2, 14, 0x7466_6864, Kind::DuplicateBox, *b"tfhd", 641),
-        (F2, 14, 0x7364_7470, Kind::BoxNotInProfile, *b"sdtp", 641),
-        (F2, 6, 4, Kind::BadSize, *b"tfhd", 613),
-        (F2, 13, 0x28, Kind::Overrun, *b"trun", 641),
-        (F2, 13, 0x20, Kind::ShortHeader, *b"traf", 673),
+        (FROM_MOOF, 0, 4, Kind::BadSize, *b"mfhd", 589),
+        (FROM_MOOF, 4, 0x50, Kind::Overrun, *b"traf", 605),
+        (FROM_MOOF, 4, 0x44, Kind::ShortHeader, *b"moof", 673),
+        (FROM_MOOF, 1, 0x6672_6565, Kind::MissingBox, *b"moof", 581),
+        (FROM_MOOF, 5, 0x6D66_6864, Kind::DuplicateBox, *b"mfhd", 605),
+        (
+            FROM_MOOF,
+            5,
+            0x6D64_6174,
+            Kind::BoxNotInProfile,
+            *b"mdat",
+            605,
+        ),
+        (FROM_MOOF, 7, 0x6672_6565, Kind::MissingBox, *b"traf", 605),
+        (
+            FROM_MOOF,
+            14,
+            0x7466_6864,
+            Kind::DuplicateBox,
+            *b"tfhd",
+            641,
+        ),
+        (
+            FROM_MOOF,
+            14,
+            0x7364_7470,
+            Kind::BoxNotInProfile,
+            *b"sdtp",
+            641,
+        ),
+        (FROM_MOOF, 6, 4, Kind::BadSize, *b"tfhd", 613),
+        (FROM_MOOF, 13, 0x28, Kind::Overrun, *b"trun", 641),
+        (FROM_MOOF, 13, 0x20, Kind::ShortHeader, *b"traf", 673),
         // `tfhd`
-        (F2, 8, 0x0102_002A, Kind::BadVersion, *b"tfhd", 613),
-        (F2, 8, 0x0002_002E, Kind::BadFlags, *b"tfhd", 613),
-        (F2, 8, 0x0002_003A, Kind::ShortBox, *b"tfhd", 613),
-        (F2, 9, 2, Kind::UnknownTrack, *b"tfhd", 613),
-        (F2, 9, 3, Kind::UnknownTrack, *b"tfhd", 613),
-        (F2, 10, 2, Kind::BadDescriptionIndex, *b"tfhd", 613),
-        (F2, 10, 0, Kind::BadDescriptionIndex, *b"tfhd", 613),
+        (FROM_MOOF, 8, 0x0102_002A, Kind::BadVersion, *b"tfhd", 613),
+        (FROM_MOOF, 8, 0x0002_002E, Kind::BadFlags, *b"tfhd", 613),
+        (FROM_MOOF, 8, 0x0002_003A, Kind::ShortBox, *b"tfhd", 613),
+        (FROM_MOOF, 9, 2, Kind::UnknownTrack, *b"tfhd", 613),
+        (FROM_MOOF, 9, 3, Kind::UnknownTrack, *b"tfhd", 613),
+        (FROM_MOOF, 10, 2, Kind::BadDescriptionIndex, *b"tfhd", 613),
+        (FROM_MOOF, 10, 0, Kind::BadDescriptionIndex, *b"tfhd", 613),
         // `tfdt`
-        (NP, 13, 0x0200_0000, Kind::BadVersion, *b"tfdt", 633),
+        (NORMAL, 13, 0x0200_0000, Kind::BadVersion, *b"tfdt", 633),
         // `trun`
-        (F2, 15, 0x0200_0205, Kind::BadVersion, *b"trun", 641),
-        (F2, 15, 0x0000_0605, Kind::BadFlags, *b"trun", 641),
-        (F2, 15, 0x0000_0225, Kind::BadFlags, *b"trun", 641),
-        (F2, 16, 4, Kind::ShortBox, *b"trun", 641),
-        (F2, 15, 0x0000_0305, Kind::ShortBox, *b"trun", 641),
-        (F2, 17, 0x8000_0000, Kind::SampleOutsideFile, *b"trun", 641),
-        (F2, 20, 0x100, Kind::SampleOutsideFile, *b"trun", 641),
-        (F1, 10, 0xFFFF_FFFF, Kind::SampleOutsideFile, *b"trun", 649),
+        (FROM_MOOF, 15, 0x0200_0205, Kind::BadVersion, *b"trun", 641),
+        (FROM_MOOF, 15, 0x0000_0605, Kind::BadFlags, *b"trun", 641),
+        (FROM_MOOF, 15, 0x0000_0225, Kind::BadFlags, *b"trun", 641),
+        (FROM_MOOF, 16, 4, Kind::ShortBox, *b"trun", 641),
+        (FROM_MOOF, 15, 0x0000_0305, Kind::ShortBox, *b"trun", 641),
+        (
+            FROM_MOOF,
+            17,
+            0x8000_0000,
+            Kind::SampleOutsideFile,
+            *b"trun",
+            641,
+        ),
+        (FROM_MOOF, 20, 0x100, Kind::SampleOutsideFile, *b"trun", 641),
+        (
+            WITH_BASE,
+            10,
+            0xFFFF_FFFF,
+            Kind::SampleOutsideFile,
+            *b"trun",
+            649,
+        ),
         // A place comes before an offset.
-        (F2, 15, 0x0000_0805, Kind::OffsetTooLarge, *b"trun", 641),
+        (
+            FROM_MOOF,
+            15,
+            0x0000_0805,
+            Kind::OffsetTooLarge,
+            *b"trun",
+            641,
+        ),
     ];
     for (words, place, other, kind, box_type, offset) in cases {
         let mut tracks = [
