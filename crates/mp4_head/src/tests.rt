@@ -175,7 +175,8 @@ fn plain_vector(rt: HostRuntime) -> Result<(), Fail> {
         (head.timescale, head.rate, head.volume),
         (1000, 0x10000, 256)
     );
-    assert_eq!(rt; head.matrix[8], 0x4000_0000);
+    let last = head.matrix[8];
+    assert_eq!(rt; last, 0x4000_0000);
     assert_eq!(rt; head.tracks.len(), 1);
     for track in &head.tracks {
         assert_eq!(rt;
@@ -369,36 +370,5 @@ fn ids_that_were_taken(rt: HostRuntime) -> Result<(), Fail> {
     }
     let refusal = read_head(rt.alloc(), moov(extended.items.as_slice())).err();
     assert_eq!(rt; refusal, named(Kind::BadValue, b"trex", 192));
-    Ok(())
-}
-
-#[test]
-fn written_and_read_again(rt: HostRuntime) -> Result<(), Fail> {
-    let mut bytes = Bytes::new(rt.alloc());
-    bytes.plain(EDITS)?;
-    let Ok(head) = read_head(rt.alloc(), moov(bytes.items.as_slice())) else {
-        assert!(rt; false);
-        return Ok(());
-    };
-    assert!(rt; head_len(&head) <= 1000);
-    let Ok(out) = head_bytes(rt.alloc(), &head, 160) else {
-        assert!(rt; false);
-        return Ok(());
-    };
-    assert_eq!(rt; out.len(), 645);
-    let Some(payload) = out.get(32..) else {
-        assert!(rt; false);
-        return Ok(());
-    };
-    let Ok(again) = read_head(rt.alloc(), moov(payload)) else {
-        assert!(rt; false);
-        return Ok(());
-    };
-    assert_eq!(rt; head_len(&again), 645);
-    let Ok(same) = head_bytes(rt.alloc(), &again, 160) else {
-        assert!(rt; false);
-        return Ok(());
-    };
-    assert!(rt; same.as_slice() == out.as_slice());
     Ok(())
 }
