@@ -26,3 +26,4 @@ pub mod WrittenTrackHead
 pub mod WrittenMovie
 pub mod WrittenTables
 pub mod WrittenHead
+pub mod ItemLocations
