@@ -27,3 +27,4 @@ pub mod WrittenMovie
 pub mod WrittenTables
 pub mod WrittenHead
 pub mod ItemLocations
+pub mod Inside

@@ -7,3 +7,4 @@ pub mod HeadFaults
 pub mod Refuses
 pub mod Parts
 pub mod Containers
+pub mod Found
