@@ -1,15 +1,16 @@
 -- Where boxes lie in the containers that hold them.
-use Rattle.std.proofs.Common.{◌≡◌, ℕ, ◌+◌, ◌-◌, ◌≤◌, Bool, true, false, List, [], ◌∷◌, ◌++◌, length, take, drop, refl, sym, ap, subst, ◌∙◌, arith}
+use Rattle.std.proofs.Common.{◌≡◌, ℕ, ◌+◌, ◌-◌, ◌≤◌, Bool, true, false, List, [], ◌∷◌, ◌++◌, length, take, drop, refl, sym, ap, subst, ◌∙◌, append_assoc, arith}
 use Rattle.std.specs.Prelude.{bytes_eq, codes, map}
 use Rattle.std.specs.List.{AllByRecursion}
 use Rattle.std.proofs.lemmas.List.{drop-drop, drop-take, take-take, length-drop}
-use Rattle.mp4_boxes.specs.Box.{Box, size, LieEndToEnd, Tiles, box_container}
+use Rattle.mp4_boxes.specs.Box.{Box, size, LieEndToEnd, StandsAfter, Tiles, box_container}
 use Rattle.mp4_boxes.specs.Children.{count_among, of_kind}
-use Rattle.mp4_boxes.proofs.Among.{all_at}
+use Rattle.mp4_boxes.proofs.Among.{IsIn, all_at, all_in}
 use Rattle.mp4_boxes.proofs.Each.{each_from, each_weaker, each_of_kind}
 use Rattle.mp4_boxes.proofs.Refusing.{holds_only}
 use Rattle.mp4_boxes.proofs.Tiling.{header_is, box_size}
 use Rattle.mp4_head.specs.Found.{LiesIn}
+use Rattle.mp4_head.proofs.Above.{stands_of}
 use Rattle.mp4_head.specs.Tree.{first_of, TrackTree, MovieTree, stbl_of, IsTrackTree, IsMovieTree}
 
 -- the box lies in these bytes, which begin at this place
@@ -111,6 +112,25 @@ first_has P kind (b ∷ bs) n h = first_step P kind b bs (bytes_eq kind b.kind) 
 -- the one box of a type in a box lies in it
 pub first_lies : (kind : List ℕ) (outer : Box) (bs : List Box) → Tiles (box_container outer) bs → count_among (kind ∷ []) bs ≡ 1 → LiesIn outer (first_of kind bs)
 first_lies kind outer bs t n = lies_in outer (first_of kind bs) (first_has (LiesAt (outer.offset + outer.header) outer.payload) kind bs n (tiles_lie outer bs t))
+
+-- A box that was passed before the one in hand stands before it.
+pub record StandsBefore (outer c child : Box) : Type 0 where
+  pub before : List Box
+  pub stands : StandsAfter (box_container outer) before c
+  pub order : c.offset + size c ≤ child.offset
+  pub header : 8 ≤ c.header
+
+pub stands_before : (outer : Box) (all passed later : List Box) (child c : Box) → Tiles (box_container outer) all → all ≡ passed ++ child ∷ later → IsIn passed c → StandsBefore outer c child
+stands_before outer all passed later child c t split i =
+    let there : all ≡ i.before ++ c ∷ (i.after ++ child ∷ later) = split ∙ ap (λ (bs : List Box). bs ++ child ∷ later) i.is ∙ append_assoc i.before (c ∷ i.after) (child ∷ later) in
+    let lie = subst (λ (bs : List Box). LieEndToEnd false (outer.offset + outer.header) outer.payload bs) split t.front.0 in
+    let lies = all_in (LiesAt (outer.offset + outer.header) outer.payload) all c (record { before = i.before; after = i.after ++ child ∷ later; is = there }) (tiles_lie outer all t) in
+    record {
+      before = i.before;
+      stands = stands_of outer all i.before (i.after ++ child ∷ later) c t there;
+      order = all_in (λ (b : Box). b.offset + size b ≤ child.offset) passed c i (all_end (outer.offset + outer.header) outer.payload passed later child lie);
+      header = lies.header;
+    }
 
 -- the `stbl` of a track lies in its `trak`
 pub stbl_lies : (t : TrackTree) → IsTrackTree t → LiesIn t.trak (stbl_of t)

@@ -28,3 +28,5 @@ pub mod WrittenTables
 pub mod WrittenHead
 pub mod ItemLocations
 pub mod Inside
+pub mod Taken
+pub mod ExtendsBoxes

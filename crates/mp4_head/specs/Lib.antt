@@ -8,3 +8,4 @@ pub mod Refuses
 pub mod Parts
 pub mod Containers
 pub mod Found
+pub mod Ids
