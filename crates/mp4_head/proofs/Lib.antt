@@ -30,3 +30,5 @@ pub mod ItemLocations
 pub mod Inside
 pub mod Taken
 pub mod ExtendsBoxes
+pub mod KeptWalks
+pub mod TrackBoxes
