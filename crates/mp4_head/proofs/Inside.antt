@@ -6,7 +6,7 @@ use Rattle.std.proofs.lemmas.List.{drop-drop, drop-take, take-take, length-drop}
 use Rattle.mp4_boxes.specs.Box.{Box, size, LieEndToEnd, StandsAfter, Tiles, box_container}
 use Rattle.mp4_boxes.specs.Children.{count_among, of_kind}
 use Rattle.mp4_boxes.proofs.Among.{IsIn, all_at, all_in}
-use Rattle.mp4_boxes.proofs.Each.{each_from, each_weaker, each_of_kind}
+use Rattle.mp4_boxes.proofs.Each.{each_from, each_weaker, each_of_kind, each_member}
 use Rattle.mp4_boxes.proofs.Refusing.{holds_only}
 use Rattle.mp4_boxes.proofs.Tiling.{header_is, box_size}
 use Rattle.mp4_head.specs.Found.{LiesIn}
@@ -108,6 +108,22 @@ first_step P kind b bs false e n p more =
 pub first_has : (P : Box → Type 0) (kind : List ℕ) (bs : List Box) → count_among (kind ∷ []) bs ≡ 1 → AllByRecursion P bs → P (first_of kind bs)
 first_has P kind [] n h = absurd (omega (arith, n))
 first_has P kind (b ∷ bs) n h = first_step P kind b bs (bytes_eq kind b.kind) refl n h.0 (λ m. first_has P kind bs m h.1)
+
+-- the step of `first_is`, by the type of the first
+found_step : (kind : List ℕ) (b : Box) (bs : List Box) (v : Bool) → bytes_eq kind b.kind ≡ v → count_among (kind ∷ []) (b ∷ bs) ≡ 1
+    → (count_among (kind ∷ []) bs ≡ 1 → bytes_eq kind (first_of kind bs).kind ≡ true) → bytes_eq kind (first_of kind (b ∷ bs)).kind ≡ true
+found_step kind b bs true e n more = rw e e
+found_step kind b bs false e n more =
+    let fewer : 0 + count_among (kind ∷ []) bs ≡ 1 = rw e at n in
+    rw e (more (omega (arith, fewer)))
+
+found_kind : (kind : List ℕ) (bs : List Box) → count_among (kind ∷ []) bs ≡ 1 → bytes_eq kind (first_of kind bs).kind ≡ true
+found_kind kind [] n = absurd (omega (arith, n))
+found_kind kind (b ∷ bs) n = found_step kind b bs (bytes_eq kind b.kind) refl n (λ m. found_kind kind bs m)
+
+-- the one box of a type is one of the boxes, and of the type
+pub first_is : (kind : List ℕ) (bs : List Box) → count_among (kind ∷ []) bs ≡ 1 → IsIn bs (first_of kind bs) × (bytes_eq kind (first_of kind bs).kind ≡ true)
+first_is kind bs n = (first_has (IsIn bs) kind bs n (each_member (IsIn bs) bs (λ b i. i)), found_kind kind bs n)
 
 -- the one box of a type in a box lies in it
 pub first_lies : (kind : List ℕ) (outer : Box) (bs : List Box) → Tiles (box_container outer) bs → count_among (kind ∷ []) bs ≡ 1 → LiesIn outer (first_of kind bs)

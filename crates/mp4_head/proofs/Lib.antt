@@ -32,3 +32,4 @@ pub mod Taken
 pub mod ExtendsBoxes
 pub mod KeptWalks
 pub mod TrackBoxes
+pub mod MovieBoxes
