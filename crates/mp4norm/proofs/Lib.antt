@@ -3,3 +3,5 @@ pub mod TypeTexts
 pub mod Decimals
 pub mod BoxLists
 pub mod BoxLaws
+pub mod Going
+pub mod LineParts

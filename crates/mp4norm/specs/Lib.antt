@@ -2,3 +2,4 @@ pub mod Texts
 pub mod Headline
 pub mod BoxWalk
 pub mod BoxLaws
+pub mod LinesHeld

@@ -4,18 +4,24 @@
 //! 1 where a header is at fault, 2 without memory, 3 where reading or writing failed, 64 for words that it doesn't know.
 #![tactic(auto)]
 
+mod backward_line;
 mod boxes;
+mod digits;
 mod fault_text;
 mod input;
 pub mod laws;
 mod line;
+mod line_buffer;
+mod sample_lines;
 
 pub use boxes::boxes;
 pub use fault_text::{fault_line, status};
 use input::read_input;
 pub use line::Line;
+pub use line_buffer::LineBuffer;
 use mp4_boxes::Refusal;
 use mp4_store::{IoSink, MemStore};
+pub use sample_lines::put_lines;
 use std::io::Write;
 use std::process::ExitCode;
 use std::{env, io};
