@@ -3,3 +3,4 @@ pub mod Headline
 pub mod BoxWalk
 pub mod BoxLaws
 pub mod LinesHeld
+pub mod Actions

@@ -6,6 +6,7 @@
 
 mod backward_line;
 mod boxes;
+mod command_line;
 mod digits;
 mod fault_text;
 mod input;
@@ -13,8 +14,10 @@ pub mod laws;
 mod line;
 mod line_buffer;
 mod sample_lines;
+mod wanted;
 
 pub use boxes::boxes;
+pub use command_line::action;
 pub use fault_text::{fault_line, status};
 use input::read_input;
 pub use line::Line;
@@ -25,6 +28,7 @@ pub use sample_lines::put_lines;
 use std::io::Write;
 use std::process::ExitCode;
 use std::{env, io};
+pub use wanted::{Action, CommandFault};
 
 /// The most bytes that are read of standard input.
 const MOST_INPUT: usize = 1 << 30;
@@ -54,3 +58,6 @@ fn main(rt: HostRuntime) -> ExitCode {
     let _ = errors.write_all(b"\n");
     ExitCode::from(status(&refusal))
 }
+
+#[cfg(test)]
+mod tests;
