@@ -5,3 +5,4 @@ pub mod BoxLists
 pub mod BoxLaws
 pub mod Going
 pub mod LineParts
+pub mod ShownTracks

@@ -4,3 +4,4 @@ pub mod BoxWalk
 pub mod BoxLaws
 pub mod LinesHeld
 pub mod Actions
+pub mod ShowValue

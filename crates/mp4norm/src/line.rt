@@ -4,6 +4,7 @@ ghost use Rattle.std.specs.List.{list_all};
 ghost use Rattle.mp4norm.specs.Texts.{hex_digits, type_text};
 
 use crate::digits::{hex_digit, write_digits};
+use crate::type_names::is_text;
 use mp4_boxes::FourCc;
 use std::marker::Model;
 
@@ -22,12 +23,6 @@ impl Model for Line {
     ghost view = { λ s. take s.len s.bytes };
 
     ghost invariant = { λ s. s.len ≤ 64 };
-}
-
-fn is_text(kind: FourCc) -> bool
-    ensures { result ≡ list_all (λ b. nat_le 32 b && nat_le b 126) kind.0 }
-{
-    kind.0.iter().all(|byte| 32 <= *byte && *byte <= 126)
 }
 
 impl Line {
@@ -89,7 +84,7 @@ impl Line {
         ensures text { self.new ≡ self.old ++ type_text kind.0 }
         ensures short { length self.new ≤ length self.old + 8 }
     {
-        if is_text(kind) {
+        if is_text(&kind.0) {
             self.push_bytes(&kind.0);
         } else {
             for byte in kind.0 {

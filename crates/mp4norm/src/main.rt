@@ -13,7 +13,9 @@ mod input;
 pub mod laws;
 mod line;
 mod line_buffer;
+mod movie_json;
 mod sample_lines;
+mod type_names;
 mod wanted;
 
 pub use boxes::boxes;
@@ -22,6 +24,7 @@ pub use fault_text::{fault_line, status};
 use input::read_input;
 pub use line::Line;
 pub use line_buffer::LineBuffer;
+pub use movie_json::show_text;
 use mp4_boxes::Refusal;
 use mp4_store::{IoSink, MemStore};
 pub use sample_lines::put_lines;
