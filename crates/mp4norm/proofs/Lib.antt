@@ -6,3 +6,4 @@ pub mod BoxLaws
 pub mod Going
 pub mod LineParts
 pub mod ShownTracks
+pub mod SampleTexts

@@ -1,6 +1,7 @@
 -- The JSON of tracks, one by one.
 use Rattle.std.proofs.Common.{◌≡◌, ℕ, zero, suc, ◌+◌, ◌<◌, ◌≤◌, min, false, List, [], ◌∷◌, ◌++◌, length, map, take, get_or, refl, ap, arith, length-take}
 use Rattle.std.specs.Prelude.{ℤ, pos, negsuc, Result, Ok, Err, IfOk}
+use Rattle.std.specs.List.{AllZip}
 use Rattle.std.proofs.lemmas.List.{take-map, map_push, take_more, length-map}
 use Rattle.serde_json.specs.Data.{Data, number}
 use Rattle.serde_json.specs.Find.{of_integer}
@@ -10,8 +11,10 @@ use Rattle.mp4_head.specs.Head as heads
 use Rattle.mp4_head.specs.Seen.{track_seen}
 use Rattle.mp4_head.specs.declared.heads.TrackHead.{TrackHead}
 use Rattle.mp4_present.specs.declared.track_info.TrackInfo.{TrackInfo}
-use Rattle.mp4norm.specs.Texts.{edit_value, description_value, movie_data}
-use Rattle.mp4norm.specs.ShowValue.{info_value, infos_values}
+use Rattle.mp4_present.specs.Presentation.{Track, Presentation, total_duration, movie_length}
+use Rattle.mp4_present.specs.Presentation.{heads as heads_of}
+use Rattle.mp4norm.specs.Texts.{edit_value, description_value, movie_data, track_value, sample_data, show_value}
+use Rattle.mp4norm.specs.ShowValue.{info_value, infos_values, ShowValue}
 
 push_one : (hs : List heads.TrackHead) (infos : List TrackInfo) (h : heads.TrackHead) (n : TrackInfo) → length hs ≡ length infos → infos_values (hs ++ h ∷ []) (infos ++ n ∷ []) ≡ infos_values hs infos ++ info_value h n ∷ []
 push_one [] [] h n e = refl
@@ -65,3 +68,22 @@ pub text_of : {S E : Type 0} (bytes : S → List ℕ) (r : Result S E) (v d : Da
     → IfOk r (λ s. has_float v ≡ false → bytes s ≡ compact_text v) → IfOk r (λ s. bytes s ≡ compact_text d)
 text_of bytes (Ok s) v d same none h = rw (← same) (h (rw same none))
 text_of bytes (Err e) v d same none h = tt
+
+-- ---- what is shown of a presentation
+
+-- the numbers of a track
+pub record IsInfoOf (t : Track) (info : TrackInfo) : Type 0 where
+  pub bytes : info.bytes ≡ length (sample_data t)
+  pub duration : info.duration ≡ total_duration t.samples
+  pub samples : info.samples ≡ length t.samples
+  pub start : info.start ≡ t.start
+
+infos_are : (tracks : List Track) (infos : List TrackInfo) → AllZip IsInfoOf tracks infos → infos_values (map (λ (t : Track). t.head) tracks) infos ≡ map track_value tracks
+infos_are [] [] h = refl
+infos_are [] (n ∷ infos) h = absurd h
+infos_are (t ∷ tracks) [] h = absurd h
+infos_are (t ∷ tracks) (n ∷ infos) h = rw (h.0.bytes, h.0.duration, h.0.samples, h.0.start) (ap (λ (ds : List Data). track_value t ∷ ds) (infos_are tracks infos h.1))
+
+pub shown_is : (p : Presentation) (movie : heads.MovieHead) (hs : List heads.TrackHead) (length : ℕ) (infos : List TrackInfo) → movie ≡ p.movie → hs ≡ heads_of p → length ≡ movie_length p → AllZip IsInfoOf p.tracks infos
+    → ShowValue movie hs length infos ≡ show_value p
+shown_is p movie hs length infos m h l z = rw (m, h, l) (ap (λ (ds : List Data). movie_data (movie_length p) p.movie.timescale ds) (infos_are p.tracks infos z))
