@@ -1,53 +1,27 @@
--- Decimal digits, written from the last to the first.
-use Rattle.std.proofs.Common.{◌≡◌, ℕ, zero, suc, ◌+◌, ◌-◌, ◌/◌, ◌%◌, ◌^◌, ◌<◌, ◌≤◌, false, List, [], ◌∷◌, refl, ◌∙◌, arith, eqb}
-use Rattle.std.specs.Fmt.{decimal, digits, digits_onto, digit_glyph}
-use Rattle.std.proofs.lemmas.Bool.{lt-ltb, ne_eqb}
-use Rattle.std.proofs.Math.Nat.{pow-suc}
+-- Digits of numbers, written from the last to the first.
+use Rattle.std.proofs.Common.{◌≡◌, ℕ, zero, suc, ◌+◌, ◌-◌, ◌/◌, ◌%◌, ◌^◌, ◌<◌, ◌≤◌, List, ◌∷◌, ◌++◌, length, decimal, refl, ◌∙◌, arith, append_assoc}
+use Rattle.std.proofs.lemmas.Fmt.{decimal_step_wide, decimal_digit}
+use Rattle.std.proofs.Math.Nat.{pow-suc, div-div-eq-div-mul}
+use Rattle.mp4norm.specs.Texts.{hex_digits}
 
--- The digits behind a place are the last of the number; those of what is left stand before them.
-pub record Writing (number left start : ℕ) (behind : List ℕ) : Type 0 where
-  pub room : ℕ
-  pub whole : decimal number ≡ digits_onto (suc room) 10 false left behind
-  pub enough : 43 + start ≤ room
-  pub some : 0 < start
-  pub small : left < 10 ^ start
+-- the last digit of a number stands behind those of its tenth
+pub last_digit : (n : ℕ) (behind : List ℕ) → 10 ≤ n → n < 10 ^ 64 → decimal (n / 10) ++ (48 + n % 10) ∷ behind ≡ decimal n ++ behind
+last_digit n behind some small = rw (decimal_step_wide n some small, append_assoc) refl
 
--- no digit is written yet
-pub writing_first : (number : ℕ) → number < 2 ^ 64 → Writing number number 20 []
-unfolding digits
-writing_first number lt = record { room = 63; whole = refl; enough = omega arith; some = omega arith; small = omega arith }
+-- a number below 10 has one digit
+pub one_digit : (n : ℕ) (behind : List ℕ) → n / 10 ≡ 0 → (48 + n % 10) ∷ behind ≡ decimal n ++ behind
+one_digit n behind none = let e : n % 10 ≡ n = omega arith in rw (decimal_digit n (omega arith), e) refl
 
-glyph : (left : ℕ) → digit_glyph false (left % 10) ≡ 48 + left % 10
-glyph left = rw (lt-ltb (left % 10) 10 (omega arith)) refl
+-- the tenth of a number has a digit less
+pub tenth : (room n : ℕ) → n < 10 ^ room → 0 < n / 10 → (n / 10 < 10 ^ (room - 1)) × (1 < room)
+tenth zero n lt some = absurd (omega arith)
+tenth (suc zero) n lt some = absurd (omega arith)
+tenth (suc (suc room)) n lt some = (let e = pow-suc 10 (suc room) in let s : suc (suc room) - 1 ≡ suc room = omega arith in rw s (omega arith), omega arith)
 
-tenth : (start left : ℕ) → left < 10 ^ suc start → left / 10 < 10 ^ start
-tenth start left lt = let e = pow-suc 10 start in omega arith
+pub length-hex : (k n : ℕ) → length (hex_digits k n) ≡ k
+length-hex zero n = refl
+length-hex (suc k) n = let e = length-hex k n in omega arith
 
-not_one : (start n : ℕ) → n < 10 ^ start → 0 < n → 0 < start
-not_one zero n lt some = absurd (omega arith)
-not_one (suc start) n lt some = omega arith
-
-next_by : (number left behind_room start : ℕ) (behind : List ℕ) → left / 10 < 10 ^ start → 0 < left / 10 → decimal number ≡ digits_onto (suc behind_room) 10 false left behind → 44 + start ≤ behind_room
-    → Writing number (left / 10) start ((48 + left % 10) ∷ behind)
-next_by number left zero start behind lt some whole enough = absurd (omega arith)
-next_by number left (suc room) start behind lt some whole enough =
-    let more : eqb (left / 10) 0 ≡ false = ne_eqb _ _ (λ e. omega arith) in
-    record {
-      room = room;
-      whole = whole ∙ rw (more, glyph left) refl;
-      enough = omega arith;
-      some = not_one start (left / 10) lt some;
-      small = lt;
-    }
-
--- a digit before the last is written
-pub writing_next : (number left start : ℕ) (behind : List ℕ) → Writing number left start behind → 0 < left / 10 → Writing number (left / 10) (start - 1) ((48 + left % 10) ∷ behind)
-writing_next number left zero behind w more = absurd (let s = w.some in omega arith)
-writing_next number left (suc start) behind w more =
-    let e = w.enough in
-    let s : suc start - 1 ≡ start = omega arith in
-    rw s (next_by number left w.room start behind (tenth start left w.small) more w.whole (omega arith))
-
--- the first digit is written
-pub writing_last : (number left start : ℕ) (behind : List ℕ) → Writing number left start behind → left / 10 ≡ 0 → decimal number ≡ (48 + left % 10) ∷ behind
-writing_last number left start behind w none = w.whole ∙ rw (none, glyph left) refl
+-- what is left of a number without its last hexadecimal digits
+pub sixteenth : (n k : ℕ) → n / 16 ^ k / 16 ≡ n / 16 ^ (k + 1)
+sixteenth n k = let s : k + 1 ≡ suc k = omega arith in div-div-eq-div-mul n (16 ^ k) 16 ∙ rw (s, pow-suc 16 k) refl

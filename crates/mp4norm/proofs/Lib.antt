@@ -3,3 +3,7 @@ pub mod TypeTexts
 pub mod Decimals
 pub mod BoxLists
 pub mod BoxLaws
+pub mod Going
+pub mod LineParts
+pub mod ShownTracks
+pub mod SampleTexts

@@ -8,9 +8,9 @@ use std::io::Read;
 /// How many bytes are read at once.
 const PIECE: usize = 65_000;
 
-// Room for one read.
-fn room(alloc: Global, len: usize) -> Result<Vec<u8>, Refusal>
-    ensures { IfOk result (λ piece. length piece.items ≡ len) }
+/// So many bytes of room.
+pub(crate) fn room(alloc: Global, len: usize) -> Result<Vec<u8>, Refusal>
+    ensures { IfOk result (λ bytes. length bytes.items ≡ len) }
 {
     Ok(vec![in alloc; 0u8; len]?)
 }

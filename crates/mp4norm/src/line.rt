@@ -1,8 +1,10 @@
 //! One line of text, in a fixed array.
-ghost use Rattle.std.specs.Prelude.{◌≡◌, ℕ, ◌+◌, ◌<◌, ◌≤◌, [], ◌∷◌, ◌++◌, length, drop, decimal, nat_le, ◌&&◌};
+ghost use Rattle.std.specs.Prelude.{◌≡◌, ℕ, ◌+◌, ◌<◌, ◌≤◌, [], ◌∷◌, ◌++◌, length, decimal, nat_le, ◌&&◌};
 ghost use Rattle.std.specs.List.{list_all};
-ghost use Rattle.mp4norm.specs.Texts.{hex_digit, hex_digits, type_text};
+ghost use Rattle.mp4norm.specs.Texts.{hex_digits, type_text};
 
+use crate::digits::{hex_digit, write_digits};
+use crate::type_names::is_text;
 use mp4_boxes::FourCc;
 use std::marker::Model;
 
@@ -21,36 +23,6 @@ impl Model for Line {
     ghost view = { λ s. take s.len s.bytes };
 
     ghost invariant = { λ s. s.len ≤ 64 };
-}
-
-fn hex_digit(digit: u8) -> u8
-    requires { digit < 16 }
-    ensures { result ≡ hex_digit digit }
-{
-    if digit < 10 { 48 + digit } else { 87 + digit }
-}
-
-fn is_text(kind: FourCc) -> bool
-    ensures { result ≡ list_all (λ b. nat_le 32 b && nat_le b 126) kind.0 }
-{
-    kind.0.iter().all(|byte| 32 <= *byte && *byte <= 126)
-}
-
-// Writes the decimal digits of a number at the end of the array, and says where they begin.
-fn write_digits(digits: &mut [u8; 20], number: u64) -> usize
-    ensures within { result ≤ 20 }
-    ensures written { drop result digits.new ≡ decimal number }
-{
-    let mut left = number;
-    let mut start = 20;
-    loop {
-        start -= 1;
-        digits[start] = 48 + (left % 10) as u8;
-        left /= 10;
-        if left == 0 {
-            return start;
-        }
-    }
 }
 
 impl Line {
@@ -93,7 +65,7 @@ impl Line {
         ensures short { length self.new ≤ length self.old + 20 }
     {
         let mut digits = [0; 20];
-        let start = write_digits(&mut digits, number);
+        let start = write_digits(&mut digits, 20, number);
         self.push_bytes(&digits[start..]);
     }
 
@@ -112,7 +84,7 @@ impl Line {
         ensures text { self.new ≡ self.old ++ type_text kind.0 }
         ensures short { length self.new ≤ length self.old + 8 }
     {
-        if is_text(kind) {
+        if is_text(&kind.0) {
             self.push_bytes(&kind.0);
         } else {
             for byte in kind.0 {

@@ -4,21 +4,34 @@
 //! 1 where a header is at fault, 2 without memory, 3 where reading or writing failed, 64 for words that it doesn't know.
 #![tactic(auto)]
 
+mod backward_line;
 mod boxes;
+mod command_line;
+mod digits;
 mod fault_text;
 mod input;
 pub mod laws;
 mod line;
+mod line_buffer;
+mod movie_json;
+mod sample_lines;
+mod type_names;
+mod wanted;
 
 pub use boxes::boxes;
+pub use command_line::action;
 pub use fault_text::{fault_line, status};
 use input::read_input;
 pub use line::Line;
+pub use line_buffer::LineBuffer;
+pub use movie_json::show_text;
 use mp4_boxes::Refusal;
 use mp4_store::{IoSink, MemStore};
+pub use sample_lines::put_lines;
 use std::io::Write;
 use std::process::ExitCode;
 use std::{env, io};
+pub use wanted::{Action, CommandFault};
 
 /// The most bytes that are read of standard input.
 const MOST_INPUT: usize = 1 << 30;
@@ -48,3 +61,6 @@ fn main(rt: HostRuntime) -> ExitCode {
     let _ = errors.write_all(b"\n");
     ExitCode::from(status(&refusal))
 }
+
+#[cfg(test)]
+mod tests;

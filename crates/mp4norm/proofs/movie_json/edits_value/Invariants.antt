@@ -1,0 +1,8 @@
+use Rattle.std.proofs.Common.{◌≡◌, take, map}
+use Rattle.serde_json.specs.View.{view}
+use Rattle.mp4_head.specs.Seen.{edit_seen}
+use Rattle.mp4norm.specs.Texts.{edit_value}
+use Rattle.mp4norm.proofs.movie_json.edits_value.Given as goal
+
+abbrev pub invariant-loop-edit : goal.invariant-loop-edit
+invariant-loop-edit l = map view l.values.items ≡ map edit_value (map edit_seen (take l.edit-index l.edits))

@@ -1,0 +1,54 @@
+//! The lines of samples.
+ghost use Rattle.std.specs.Prelude.{◌≡◌, ◌+◌, ◌^◌, ◌<◌, [], ◌++◌, length, OnOk, OnErr};
+ghost use Rattle.mp4_store.specs.Device.{Counts, AppendsPrefix};
+ghost use Rattle.mp4norm.specs.LinesHeld.{GoesOn};
+ghost use Rattle.mp4norm.specs.Texts.{sample_at_line, sample_at_lines};
+
+use crate::backward_line::BackwardLine;
+use crate::line_buffer::LineBuffer;
+use mp4_store::{Sink, WriteFailed};
+use mp4_tables::{SampleAt, Samples};
+
+// The line of a sample: its number, decode time, composition time, duration, flags, description index, size.
+fn sample_line(number: u64, sample: &SampleAt) -> BackwardLine
+    ensures { result ≡ sample_at_line number sample.now }
+{
+    let mut line = BackwardLine::new();
+    line.push(b'\n');
+    line.push_short_number(sample.size);
+    line.push(b' ');
+    line.push_short_number(sample.description);
+    line.push(b' ');
+    line.push_hex(sample.flags);
+    line.push(b' ');
+    line.push_short_number(sample.duration);
+    line.push(b' ');
+    line.push_sum(sample.dts, sample.cto);
+    line.push(b' ');
+    line.push_number(sample.dts);
+    line.push(b' ');
+    line.push_number(number);
+    line
+}
+
+/// Adds a line for each sample still to come. The number is that of the next one; it stays at 2^64 - 1.
+pub fn put_lines<C: Samples, K: Sink>(
+    samples: &mut C,
+    number: &mut u64,
+    buffer: &mut LineBuffer,
+    sink: &mut K,
+) -> Result<(), WriteFailed>
+    ensures lines { OnOk result (number.old + length (C.rest samples.old) < 2 ^ 64 → GoesOn (K.contents sink.old) (K.contents sink.new) buffer.old buffer.new (sample_at_lines number.old (C.rest samples.old))) }
+    ensures number { OnOk result (number.old + length (C.rest samples.old) < 2 ^ 64 → number.new ≡ number.old + length (C.rest samples.old)) }
+    ensures rest { OnOk result (C.rest samples.new ≡ []) }
+    ensures prefix { OnErr result (number.old + length (C.rest samples.old) < 2 ^ 64 → AppendsPrefix (K.contents sink.old) (K.contents sink.new) (buffer.old ++ sample_at_lines number.old (C.rest samples.old))) }
+    ensures cause { Counts (K.put_failures sink.old) (K.put_failures sink.new) result }
+    ensures later { C.follows samples.old samples.new }
+{
+    while let Some(sample) = samples.next() {
+        let line = sample_line(*number, &sample);
+        buffer.push(line.as_bytes(), sink)?;
+        *number = number.saturating_add(1);
+    }
+    Ok(())
+}
