@@ -29,3 +29,6 @@ pub mod NormalTree
 pub mod GoodPieces
 pub mod NormalGroups
 pub mod NormalDenotes
+pub mod TurnOrder
+pub mod HeadLimit
+pub mod EachAt

@@ -8,3 +8,6 @@ pub mod Laws
 pub mod Ends
 pub mod Gathering
 pub mod PlannerLaws
+pub mod Sizes
+pub mod Turns
+pub mod Writers

@@ -21,6 +21,19 @@ pub struct Planned {
     pub group_rows: [u32; 4],
 }
 
+impl Planned {
+    ghost use Rattle.std.specs.Prelude.{◌≡◌, ◌<◌, slice_index};
+
+    /// The number of runs of equal indexes at the key of this place.
+    pub(crate) fn rows_at(&self, place: u8) -> u32
+        requires { place < 4 }
+        ensures { result ≡ slice_index self.now.group_rows place }
+    {
+        let rows = self.group_rows;
+        rows[place as usize]
+    }
+}
+
 /// A piece of a track's samples: as many as come before its end and have the description of the first.
 #[derive(Drop)]
 pub struct Planner {
@@ -39,7 +52,7 @@ impl Model for Planner {
 }
 
 impl Planner {
-    ghost use Rattle.std.specs.Prelude.{◌≡◌, ◌+◌, ◌^◌, ◌<◌, length, Some, None, ◌∷◌, []};
+    ghost use Rattle.std.specs.Prelude.{◌≡◌, ◌+◌, ◌*◌, ◌^◌, ◌<◌, ◌≤◌, length, Some, None, ◌∷◌, []};
     ghost use Rattle.mp4_plan.specs.Ends.{goes_in};
     ghost use Rattle.mp4_plan.specs.Gathering.{description_in, gather, piece_fed, samples_after, answer, count_of, planned_of};
 
@@ -55,7 +68,8 @@ impl Planner {
 
     /// What the piece has so far.
     pub fn piece(&self) -> Planned
-        ensures { result ≡ planned_of self.now.gathered }
+        ensures is { result ≡ planned_of self.now.gathered }
+        ensures bounded { result.bytes ≤ result.count * 4294967295 }
     {
         let Some(gathered) = &self.gathered else {
             return Planned {
@@ -116,6 +130,7 @@ impl Planner {
         ensures piece { self.new ≡ piece_fed self.old (S.rest samples.old) }
         ensures rest { S.rest samples.new ≡ samples_after self.old (S.rest samples.old) }
         ensures fed { result ≡ answer (samples_after self.old (S.rest samples.old)) }
+        ensures count { count_of self.new.gathered + length (S.rest samples.new) ≡ count_of self.old.gathered + length (S.rest samples.old) }
         ensures later { S.follows samples.old samples.new }
     {
         while let Some(sample) = samples.peek() {

@@ -64,8 +64,8 @@ impl Keys {
         self.count
     }
 
-    // The key at a place.
-    fn key_at(&self, j: u8) -> GroupKey
+    /// The key at a place, from 0.
+    pub fn key_at(&self, j: u8) -> GroupKey
         requires { j < length (keys_seen self.now) }
         ensures { drop j (keys_seen self.now) ≡ key_seen result ∷ drop (j + 1) (keys_seen self.now) }
     {

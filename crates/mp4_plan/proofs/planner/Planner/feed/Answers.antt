@@ -25,6 +25,7 @@ loop-sample-preserved g c =
       room = omega (arith, count_with _ _ _ c.take.ensures);
       piece = ap (λ xs. piece_fed c.take.new.self xs) c.next.ensures.rest ∙ fed_more _ _ _ _ c.in-Some.ensures c.take.ensures goes ∙ i.piece;
       left = ap (λ xs. samples_after c.take.new.self xs) c.next.ensures.rest ∙ after_more _ _ _ _ c.in-Some.ensures c.take.ensures goes ∙ i.left;
+      count = (let count = i.count in omega (arith, count_with _ _ _ c.take.ensures, long, count));
       later = g.met.S.Samples.follows_on _ _ _ i.later c.next.ensures.later;
     }
 

@@ -10,6 +10,7 @@ invariant-loop-sample g l =
       room : count_of l.self.gathered + length (rest l.samples) < 2 ^ 32;
       piece : piece_fed l.self (rest l.samples) ≡ piece_fed l.fn.self (rest l.fn.samples);
       left : samples_after l.self (rest l.samples) ≡ samples_after l.fn.self (rest l.fn.samples);
+      count : count_of l.self.gathered + length (rest l.samples) ≡ count_of l.fn.self.gathered + length (rest l.fn.samples);
       later : g.S.Samples.follows l.fn.samples l.samples;
     }
 

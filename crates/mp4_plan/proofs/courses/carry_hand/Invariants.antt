@@ -1,0 +1,13 @@
+use Rattle.std.proofs.Common.{◌≡◌, length}
+use Rattle.mp4_present.specs.InHand.{Follows, left_in_hand}
+use Rattle.mp4_plan.proofs.courses.carry_hand.Given as goal
+
+-- the same samples, later
+abbrev pub invariant-loop-stretch : goal.invariant-loop-stretch
+invariant-loop-stretch g l =
+    Follows l.fn.hand l.hand
+    × (g.S.Store.file l.store ≡ g.S.Store.file l.fn.store)
+    × (length l.carrier.buffer.items ≡ length l.fn.carrier.buffer.items)
+
+abbrev pub decreases-loop-stretch : goal.decreases-loop-stretch
+decreases-loop-stretch g l = length (left_in_hand l.hand)

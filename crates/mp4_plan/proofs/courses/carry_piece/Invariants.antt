@@ -1,0 +1,14 @@
+use Rattle.std.proofs.Common.{◌≡◌, ◌-◌, length}
+use Rattle.mp4_present.specs.Movies.{IsWalkOf}
+use Rattle.mp4_plan.proofs.courses.carry_piece.Given as goal
+
+-- the walk goes on
+abbrev pub invariant-loop-left : goal.invariant-loop-left
+invariant-loop-left g l =
+    IsWalkOf l.movie l.walk
+    × (length l.walk.bytes.items ≡ length l.fn.walk.bytes.items)
+    × (g.S.Store.file l.store ≡ g.S.Store.file l.fn.store)
+    × (length l.carrier.buffer.items ≡ length l.fn.carrier.buffer.items)
+
+abbrev pub decreases-loop-left : goal.decreases-loop-left
+decreases-loop-left g l = length (g.S.Store.file l.store) - l.walk.next

@@ -1,0 +1,14 @@
+use Rattle.std.proofs.Common.{◌≡◌, length}
+use Rattle.mp4_plan.specs.Turns.{to_come}
+use Rattle.mp4_plan.specs.Writers.{IsWriterOf}
+use Rattle.mp4_plan.proofs.writer.Writer.write.Given as goal
+
+-- the walks go on
+abbrev pub invariant-loop-turn : goal.invariant-loop-turn
+invariant-loop-turn g l =
+    IsWriterOf l.movie l.self
+    × (l.schedule.tracks ≡ length l.movie.tracks)
+    × (g.S.Store.file l.store ≡ g.S.Store.file l.fn.store)
+
+abbrev pub decreases-loop-turn : goal.decreases-loop-turn
+decreases-loop-turn g l = to_come l.schedule

@@ -1,0 +1,209 @@
+//! Samples of a track, taken piece by piece.
+ghost use Rattle.std.specs.Prelude.{◌≡◌, ◌+◌, ◌*◌, ◌^◌, ◌<◌, ◌≤◌, length, IfOk, OnOk};
+ghost use Rattle.mp4_present.specs.InHand.{Follows};
+ghost use Rattle.mp4_present.specs.Movies.{IsWalkOf};
+ghost use Rattle.mp4_plan.specs.Gathering.{count_of};
+
+use crate::ends::{End, Fed};
+use crate::limited::Limited;
+use crate::planner::{Planned, Planner};
+use crate::rows::{Noting, Row};
+use mp4_boxes::{Refusal, Steps};
+use mp4_present::{Carrier, InHand, Movie, Place, Walk, next_stretch};
+use mp4_store::{Sink, Store};
+use mp4_tables::{SampleAt, Samples};
+use std::sync::ledger::Ledger;
+
+/// The most samples of a presentation.
+const MOST_SAMPLES: u32 = 1 << 24;
+
+/// The next sample of a walk, which stays the next.
+pub(crate) fn peek_sample<S: Store, L: Ledger>(
+    walk: &mut Walk,
+    movie: &Movie,
+    store: &mut S,
+    steps: &mut Steps<L>,
+) -> Result<Option<SampleAt>, Refusal>
+    requires { IsWalkOf movie.now walk.old }
+    ensures walk { OnOk result (IsWalkOf movie.now walk.new) }
+    ensures room { length walk.new.bytes.items ≡ length walk.old.bytes.items }
+    ensures file { S.file store.new ≡ S.file store.old }
+{
+    let mut next = walk.in_hand(movie).peek();
+    while next.is_none() && walk.load(movie, store, steps)? {
+        next = walk.in_hand(movie).peek();
+    }
+    Ok(next)
+}
+
+// What feeding the samples in hand gave.
+#[derive(Drop)]
+struct FedHand {
+    fed: Fed,
+    place: Place,
+    /// Whether samples are left that didn't end the piece: there was no room for them.
+    is_stuck: bool,
+}
+
+// Feeds the samples in hand to a planner, at most 2^24 for a piece.
+fn feed_hand(planner: &mut Planner, walk: &Walk, movie: &Movie) -> FedHand
+    requires walk { IsWalkOf movie.now walk.now }
+    requires few { count_of planner.old.gathered ≤ MOST_SAMPLES }
+    ensures few { count_of planner.new.gathered ≤ MOST_SAMPLES }
+    ensures place { IsWalkOf movie.now (record walk.now { place = result.place }) }
+{
+    let mut hand = Limited {
+        inner: walk.in_hand(movie),
+        left: MOST_SAMPLES - planner.piece().count,
+    };
+    let fed = planner.feed(&mut hand);
+    let is_stuck = fed == Fed::More && hand.inner.peek().is_some();
+    FedHand {
+        fed,
+        place: hand.inner.place(),
+        is_stuck,
+    }
+}
+
+// Feeds the samples in hand to a planner and notes them, at most as many as there are rows.
+fn note_hand(planner: &mut Planner, walk: &Walk, movie: &Movie, rows: &mut [Row]) -> FedHand
+    requires walk { IsWalkOf movie.now walk.now }
+    requires few { count_of planner.old.gathered + length rows.old < 2 ^ 32 }
+    ensures few { count_of planner.new.gathered ≤ count_of planner.old.gathered + length rows.old }
+    ensures place { IsWalkOf movie.now (record walk.now { place = result.place }) }
+{
+    let mut hand = Noting::new(walk.in_hand(movie), rows);
+    let fed = planner.feed(&mut hand);
+    let is_stuck = fed == Fed::More && hand.inner.peek().is_some();
+    FedHand {
+        fed,
+        place: hand.inner.place(),
+        is_stuck,
+    }
+}
+
+/// Plans the next piece of a walk with this end.
+pub(crate) fn plan_piece<S: Store, L: Ledger>(
+    walk: &mut Walk,
+    end: End,
+    movie: &Movie,
+    store: &mut S,
+    steps: &mut Steps<L>,
+) -> Result<Planned, Refusal>
+    requires { IsWalkOf movie.now walk.old }
+    ensures walk { OnOk result (IsWalkOf movie.now walk.new) }
+    ensures room { length walk.new.bytes.items ≡ length walk.old.bytes.items }
+    ensures file { S.file store.new ≡ S.file store.old }
+    ensures few { IfOk result (λ p. p.count ≤ MOST_SAMPLES) }
+{
+    let mut planner = Planner::new(end);
+    loop {
+        let hand = feed_hand(&mut planner, walk, movie);
+        walk.keep(hand.place, steps);
+        if hand.is_stuck {
+            return Err(Refusal::StoreChanged);
+        }
+        if hand.fed == Fed::Closed || !walk.load(movie, store, steps)? {
+            return Ok(planner.piece());
+        }
+    }
+}
+
+/// Plans the next piece of a walk with this end, and notes its samples in the rows. Where there is no room for them,
+/// the store has changed.
+pub(crate) fn note_piece<S: Store, L: Ledger>(
+    walk: &mut Walk,
+    end: End,
+    rows: &mut [Row],
+    movie: &Movie,
+    store: &mut S,
+    steps: &mut Steps<L>,
+) -> Result<Planned, Refusal>
+    requires few { length rows.old < 2 ^ 32 }
+    requires walk { IsWalkOf movie.now walk.old }
+    ensures walk { OnOk result (IsWalkOf movie.now walk.new) }
+    ensures room { length walk.new.bytes.items ≡ length walk.old.bytes.items }
+    ensures file { S.file store.new ≡ S.file store.old }
+    ensures few { IfOk result (λ p. p.count ≤ length rows.old) }
+    ensures bytes { IfOk result (λ p. p.bytes ≤ p.count * 4294967295) }
+{
+    let mut planner = Planner::new(end);
+    loop {
+        let noted = planner.piece().count as usize;
+        let hand = note_hand(&mut planner, walk, movie, &mut rows[noted..]);
+        walk.keep(hand.place, steps);
+        if hand.is_stuck {
+            return Err(Refusal::StoreChanged);
+        }
+        if hand.fed == Fed::Closed || !walk.load(movie, store, steps)? {
+            return Ok(planner.piece());
+        }
+    }
+}
+
+// How many samples and bytes of a piece are left to be copied.
+#[derive(Clone, Copy, Debug, PartialEq, Eq)]
+pub(crate) struct Load {
+    pub(crate) samples: u32,
+    pub(crate) bytes: u64,
+}
+
+// Takes the bytes of samples in hand along, and says what is left then. Where they have more bytes than are left, the
+// store has changed.
+fn carry_hand<S: Store, K: Sink>(
+    hand: &mut InHand,
+    load: Load,
+    carrier: &mut Carrier,
+    store: &mut S,
+    sink: &mut K,
+) -> Result<Load, Refusal>
+    ensures later { OnOk result (Follows hand.old hand.new) }
+    ensures file { S.file store.new ≡ S.file store.old }
+    ensures room { length carrier.new.buffer.items ≡ length carrier.old.buffer.items }
+{
+    let mut left = load;
+    while let Some(stretch) = next_stretch(hand, left.samples) {
+        if stretch.len > left.bytes {
+            return Err(Refusal::StoreChanged);
+        }
+        carrier.carry_stretch(stretch, store, sink)?;
+        left = Load {
+            samples: left.samples - stretch.samples,
+            bytes: left.bytes - stretch.len,
+        };
+    }
+    Ok(left)
+}
+
+/// Takes the bytes of the next samples of a walk along, so many samples with so many bytes.
+pub(crate) fn carry_piece<S: Store, K: Sink, L: Ledger>(
+    walk: &mut Walk,
+    load: Load,
+    carrier: &mut Carrier,
+    movie: &Movie,
+    store: &mut S,
+    sink: &mut K,
+    steps: &mut Steps<L>,
+) -> Result<(), Refusal>
+    requires { IsWalkOf movie.now walk.old }
+    ensures walk { OnOk result (IsWalkOf movie.now walk.new) }
+    ensures room { length walk.new.bytes.items ≡ length walk.old.bytes.items }
+    ensures file { S.file store.new ≡ S.file store.old }
+    ensures buffer { length carrier.new.buffer.items ≡ length carrier.old.buffer.items }
+{
+    let mut left = load;
+    loop {
+        let place = {
+            let mut hand = walk.in_hand(movie);
+            left = carry_hand(&mut hand, left, carrier, store, sink)?;
+            hand.place()
+        };
+        walk.keep(place, steps);
+        if left.samples == 0 && left.bytes == 0 {
+            return Ok(());
+        }
+        if left.samples == 0 || !walk.load(movie, store, steps)? {
+            return Err(Refusal::StoreChanged);
+        }
+    }
+}

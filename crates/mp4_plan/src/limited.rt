@@ -1,0 +1,39 @@
+//! So many samples of a list, and no more.
+use mp4_tables::{SampleAt, Samples};
+
+/// At most so many of the samples still to come.
+#[derive(Drop)]
+pub(crate) struct Limited<C> {
+    pub(crate) inner: C,
+    pub(crate) left: u32,
+}
+
+impl<C: Samples> Samples for Limited<C> {
+    ghost use Rattle.std.specs.Prelude.{◌≡◌, take};
+
+    ghost rest = { λ s. take s.left (C.rest s.inner) };
+
+    ghost follows = { λ s t. C.follows s.inner t.inner };
+
+    #[inline]
+    fn peek(&self) -> Option<SampleAt> {
+        if self.left == 0 {
+            return None;
+        }
+        self.inner.peek()
+    }
+
+    #[inline]
+    fn next(&mut self) -> Option<SampleAt> {
+        if self.left == 0 {
+            return None;
+        }
+        let sample = self.inner.next()?;
+        self.left -= 1;
+        Some(sample)
+    }
+
+    ghost follows_itself = { λ s. C.follows_itself s.inner };
+
+    ghost follows_on = { λ s t u p q. C.follows_on s.inner t.inner u.inner p q };
+}

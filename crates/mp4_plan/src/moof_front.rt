@@ -1,0 +1,82 @@
+//! The boxes of a `moof` as far as the rows of `trun` (ISO/IEC 14496-12, 8.8.4 to 8.8.8 and 8.8.12).
+ghost use Rattle.std.specs.Prelude.{◌+◌, ◌≤◌, length};
+
+use crate::moof_sizes::{MFHD_SIZE, MoofSizes, TFDT_SIZE, short};
+use crate::planner::Planned;
+use crate::spelled::Spelled;
+use mp4_boxes::FourCc;
+
+/// What a piece says once.
+#[derive(Clone, Copy, Debug, PartialEq, Eq)]
+pub(crate) struct PieceHead {
+    pub(crate) sequence: u32,
+    pub(crate) id: u32,
+    /// The decode time and the description index of the first sample.
+    pub(crate) time: u64,
+    pub(crate) description: u32,
+    pub(crate) data_offset: i32,
+}
+
+// A bit of flags, where it is set.
+fn bit(is_set: bool, bit: u32) -> u32
+    ensures { result ≤ bit }
+{
+    if is_set { bit } else { 0 }
+}
+
+// A number that all samples have in common.
+fn push_common(out: &mut Spelled, common: Option<u32>)
+    requires { length out.old ≤ 124 }
+    ensures short { length out.new ≤ length out.old + 4 }
+{
+    if let Some(number) = common {
+        out.push_u32(number);
+    }
+}
+
+// `tfhd`: default-base-is-moof, the description index, and what all samples have in common.
+fn push_tfhd(out: &mut Spelled, head: &PieceHead, planned: &Planned, size: u32)
+    requires { length out.old ≤ 92 }
+    ensures short { length out.new ≤ length out.old + 32 }
+{
+    let durations = bit(planned.duration.is_some(), 0x8);
+    let sizes = bit(planned.size.is_some(), 0x10);
+    let flags = bit(planned.flags.is_some(), 0x20);
+    out.push_box(FourCc(*b"tfhd"), size);
+    out.push_u32(0x2_0002 + durations + sizes + flags);
+    out.push_u32(head.id);
+    out.push_u32(head.description);
+    push_common(out, planned.duration);
+    push_common(out, planned.size);
+    push_common(out, planned.flags);
+}
+
+// `trun` of version 1 as far as its rows: the columns that the samples don't have in common.
+fn push_trun(out: &mut Spelled, head: &PieceHead, planned: &Planned, size: u32)
+    requires { length out.old ≤ 104 }
+{
+    let durations = bit(planned.duration.is_none(), 0x100);
+    let sizes = bit(planned.size.is_none(), 0x200);
+    let flags = bit(planned.flags.is_none(), 0x400);
+    let offsets = bit(planned.has_offsets, 0x800);
+    out.push_box(FourCc(*b"trun"), size);
+    out.push_u32(0x100_0001 + durations + sizes + flags + offsets);
+    out.push_u32(planned.count);
+    out.push_u32(head.data_offset.cast_unsigned());
+}
+
+/// A `moof` of these sizes as far as the rows of `trun`.
+pub(crate) fn moof_front(head: &PieceHead, planned: &Planned, sizes: &MoofSizes) -> Spelled {
+    let mut out = Spelled::new();
+    out.push_box(FourCc(*b"moof"), short(sizes.moof));
+    out.push_box(FourCc(*b"mfhd"), MFHD_SIZE);
+    out.push_u32(0);
+    out.push_u32(head.sequence);
+    out.push_box(FourCc(*b"traf"), short(sizes.traf));
+    push_tfhd(&mut out, head, planned, short(sizes.tfhd));
+    out.push_box(FourCc(*b"tfdt"), TFDT_SIZE);
+    out.push_u32(0x100_0000);
+    out.push_u64(head.time);
+    push_trun(&mut out, head, planned, short(sizes.trun));
+    out
+}

@@ -1,0 +1,149 @@
+//! Which piece of a presentation comes next: in order of fragment, then track, then sample.
+ghost use Rattle.std.specs.Prelude.{◌≡◌, ◌<◌, false, true, None};
+
+use crate::ends::{End, has_ended};
+use mp4_boxes::Refusal;
+use mp4_present::TrackInfo;
+use mp4_tables::SampleAt;
+
+/// What is to come: a piece of a track with an end, or nothing more.
+#[derive(Clone, Copy, Debug, PartialEq, Eq)]
+pub(crate) struct Turn {
+    pub(crate) track: usize,
+    pub(crate) end: End,
+}
+
+/// A place in the order of pieces.
+#[derive(Clone, Copy, Debug, PartialEq, Eq)]
+pub(crate) struct Schedule {
+    /// How many tracks there are, and the timescale of the first.
+    pub(crate) tracks: usize,
+    pub(crate) first: u32,
+    /// The track whose turn it is; `tracks` at the end.
+    pub(crate) track: usize,
+    /// When the fragment began and when the next one begins, in the first track's timescale.
+    pub(crate) from: u64,
+    pub(crate) next: Option<u64>,
+    /// How many samples were not scheduled yet.
+    pub(crate) left: u64,
+}
+
+// Whether a turn without samples leads nowhere.
+fn is_stuck(count: u32, is_passed: bool) -> bool
+    ensures { result ≡ false → is_passed ≡ false → 0 < count }
+{
+    count == 0 && !is_passed
+}
+
+// Whether a track may have passed without samples: the first may only at its end.
+fn may_pass(is_over: bool, is_first: bool, sample: &Option<SampleAt>) -> bool
+    ensures over { result ≡ true → is_over ≡ true }
+    ensures first { result ≡ true → is_first ≡ true → sample.now ≡ None }
+{
+    is_over && !(is_first && sample.is_some())
+}
+
+impl Schedule {
+    ghost use Rattle.std.specs.Prelude.{◌≡◌, ◌<◌, ◌≤◌, length, option_map, IfSome, IfErr, OnOk};
+    ghost use Rattle.mp4_plan.specs.Turns.{to_come, track_passed};
+    ghost use Rattle.mp4_boxes.specs.declared.refusal.Refusal.TheVariants as refusals;
+    ghost use Rattle.mp4_tables.specs.declared.sample.SampleAt.{SampleAt};
+
+    /// The pieces of these tracks, of which the first begins at this time.
+    pub(crate) fn new(tracks: &[TrackInfo], from: u64) -> Schedule
+        ensures { result.tracks ≡ length tracks.now }
+    {
+        let mut left: u64 = 0;
+        for track in tracks {
+            left = left.saturating_add(u64::from(track.samples));
+        }
+        let first = match tracks.first() {
+            Some(track) => track.timescale,
+            None => 0,
+        };
+        Schedule {
+            tracks: tracks.len(),
+            first,
+            track: 0,
+            from,
+            next: None,
+            left,
+        }
+    }
+
+    /// Whose turn it is.
+    pub(crate) fn turn(&self, tracks: &[TrackInfo]) -> Option<Turn>
+        requires { self.now.tracks ≡ length tracks.now }
+        ensures { IfSome result (λ t. (t.track ≡ self.now.track) × (self.now.track < self.now.tracks)) }
+    {
+        if self.track >= self.tracks {
+            return None;
+        }
+        let scale = tracks[self.track].timescale;
+        let end = if self.track == 0 {
+            End::Sync {
+                from: self.from,
+                scale,
+            }
+        } else {
+            End::Before {
+                cut: self.next,
+                first: self.first,
+                scale,
+            }
+        };
+        Some(Turn {
+            track: self.track,
+            end,
+        })
+    }
+
+    // The track has no more pieces in this fragment; its next sample is this one.
+    fn pass_track(&mut self, sample: Option<SampleAt>)
+        requires { self.old.track < self.old.tracks }
+        ensures { self.new ≡ track_passed self.old (option_map (λ (s : SampleAt). s.dts) sample) }
+    {
+        if self.track == 0 {
+            self.next = match &sample {
+                Some(next) => Some(next.dts),
+                None => None,
+            };
+        }
+        self.track += 1;
+        if self.track == self.tracks {
+            if let Some(cut) = self.next {
+                self.from = cut;
+                self.next = None;
+                self.track = 0;
+            }
+        }
+    }
+
+    /// The piece of this turn took so many samples and ended before this one, or with the track. A fragment that has
+    /// no samples of the first track, and samples that nobody spoke of, are of a file that has changed.
+    pub(crate) fn pass(
+        &mut self,
+        turn: &Turn,
+        count: u32,
+        sample: Option<SampleAt>,
+    ) -> Result<(), Refusal>
+        requires { self.old.track < self.old.tracks }
+        ensures tracks { OnOk result (self.new.tracks ≡ self.old.tracks) }
+        ensures less { OnOk result (to_come self.new < to_come self.old) }
+        ensures refusal { IfErr result (λ r. r ≡ refusals.StoreChanged) }
+    {
+        let is_over = match &sample {
+            Some(next) => has_ended(&turn.end, next),
+            None => true,
+        };
+        let is_passed = may_pass(is_over, self.track == 0, &sample);
+        if u64::from(count) > self.left || is_stuck(count, is_passed) {
+            return Err(Refusal::StoreChanged);
+        }
+        self.left -= u64::from(count);
+        if is_over {
+            self.pass_track(sample);
+        }
+        Ok(())
+    }
+}

@@ -1,0 +1,249 @@
+//! The normal form of a presentation, written.
+ghost use Rattle.std.specs.Prelude.{◌≡◌, ◌+◌, ◌^◌, ◌<◌, ◌≤◌, length, IfOk, OnOk};
+ghost use Rattle.mp4_plan.specs.Writers.{AreWalksOf, IsWriterOf};
+
+use crate::courses::{Load, carry_piece, note_piece, peek_sample, plan_piece};
+use crate::moof_front::{PieceHead, moof_front};
+use crate::moof_rows::{carry_groups, carry_run};
+use crate::moof_sizes::sizes_of;
+use crate::offsets::data_offset;
+use crate::planner::Planned;
+use crate::rows::{NO_ROW, Row};
+use crate::schedule::Schedule;
+use mp4_boxes::{FourCc, Refusal, Steps, header};
+use mp4_head::{head_bytes, head_len};
+use mp4_present::{Carrier, Movie, Walk};
+use mp4_store::{Sink, Store};
+use mp4_tables::Keys;
+use std::alloc::Global;
+use std::sync::ledger::Ledger;
+
+/// How many bytes are put at once.
+const PIECE: usize = 65_000;
+
+/// The most bytes of a `moof`, and of `ftyp` and `moov`.
+const MOST_MOOF: u64 = 1 << 30;
+
+const MOST_HEAD: u128 = (1 << 30) + 24;
+
+// What all pieces of a presentation come to.
+#[derive(Clone, Copy, Debug, PartialEq, Eq)]
+struct Plan {
+    /// The most samples of a piece.
+    longest: u32,
+    /// The bytes of all pieces.
+    len: u64,
+}
+
+/// Writes the normal form of a movie. All memory that it takes is taken when it is made.
+#[derive(Drop)]
+pub struct Writer {
+    head: Vec<u8>,
+    carrier: Carrier,
+    rows: Vec<Row>,
+    /// For each track a walk that plans its pieces, and one that copies their bytes.
+    planning: Vec<Walk>,
+    copying: Vec<Walk>,
+}
+
+// A walk over each track.
+fn walks_of(alloc: Global, movie: &Movie) -> Result<Vec<Walk>, Refusal>
+    ensures { IfOk result (λ walks. AreWalksOf movie.now walks.items) }
+{
+    let mut walks = Vec::new(alloc);
+    for track in 0..movie.tracks().len() {
+        walks.push(movie.walk(alloc, track)?)?;
+    }
+    Ok(walks)
+}
+
+// When the first track begins, 0 where it has no sample.
+fn first_time<S: Store, L: Ledger>(
+    walks: &mut [Walk],
+    movie: &Movie,
+    store: &mut S,
+    steps: &mut Steps<L>,
+) -> Result<u64, Refusal>
+    requires { AreWalksOf movie.now walks.old }
+    ensures walks { OnOk result (AreWalksOf movie.now walks.new) }
+    ensures file { S.file store.new ≡ S.file store.old }
+{
+    if walks.is_empty() {
+        return Ok(0);
+    }
+    let sample = peek_sample(&mut walks[0], movie, store, steps)?;
+    Ok(sample.map_or(0, |first| first.dts))
+}
+
+// The bytes of a piece: its `moof`, and its `mdat`.
+fn piece_len(planned: &Planned, keys: &Keys) -> u64 {
+    let header = if planned.bytes < (1 << 32) - 8 { 8 } else { 16 };
+    (sizes_of(planned, keys).moof + header).saturating_add(planned.bytes)
+}
+
+impl Plan {
+    ghost use Rattle.std.specs.Prelude.{max};
+
+    // The plan with one more piece.
+    fn add(&mut self, planned: &Planned, keys: &Keys)
+        ensures { self.new.longest ≡ max self.old.longest planned.now.count }
+    {
+        if planned.count > 0 {
+            self.longest = self.longest.max(planned.count);
+            self.len = self.len.saturating_add(piece_len(planned, keys));
+        }
+    }
+}
+
+// Plans all pieces of a movie.
+fn plan_all<S: Store, L: Ledger>(
+    alloc: Global,
+    movie: &Movie,
+    store: &mut S,
+    steps: &mut Steps<L>,
+) -> Result<Plan, Refusal>
+    ensures file { S.file store.new ≡ S.file store.old }
+    ensures few { IfOk result (λ plan. plan.longest ≤ 2 ^ 24) }
+{
+    let mut walks = walks_of(alloc, movie)?;
+    let from = first_time(walks.as_mut_slice(), movie, store, steps)?;
+    let tracks = movie.tracks();
+    let mut schedule = Schedule::new(tracks, from);
+    let mut plan = Plan { longest: 0, len: 0 };
+    while let Some(turn) = schedule.turn(tracks) {
+        let walk = &mut walks[turn.track];
+        let planned = plan_piece(walk, turn.end, movie, store, steps)?;
+        let next = peek_sample(walk, movie, store, steps)?;
+        plan.add(&planned, &tracks[turn.track].keys);
+        schedule.pass(&turn, planned.count, next)?;
+    }
+    Ok(plan)
+}
+
+/// The length of the normal form of a movie.
+pub fn normal_len<S: Store, L: Ledger>(
+    alloc: Global,
+    movie: &Movie,
+    store: &mut S,
+    steps: &mut Steps<L>,
+) -> Result<u64, Refusal> {
+    let plan = plan_all(alloc, movie, store, steps)?;
+    let head = movie.head(alloc)?;
+    Ok(
+        plan.len
+            .saturating_add(head_len(&head).min(MOST_HEAD) as u64),
+    )
+}
+
+// The bytes of `ftyp` and `moov`.
+fn head_of(alloc: Global, movie: &Movie) -> Result<Vec<u8>, Refusal> {
+    let head = movie.head(alloc)?;
+    if head_len(&head) > MOST_HEAD {
+        return Err(Refusal::StoreChanged);
+    }
+    Ok(head_bytes(alloc, &head, movie.mehd())?)
+}
+
+impl Writer {
+    /// Plans the whole movie, and then takes all memory that writing it needs.
+    pub fn new<S: Store, L: Ledger>(
+        alloc: Global,
+        movie: &Movie,
+        store: &mut S,
+        steps: &mut Steps<L>,
+    ) -> Result<Writer, Refusal>
+        ensures writer { IfOk result (IsWriterOf movie.now) }
+        ensures file { S.file store.new ≡ S.file store.old }
+    {
+        let plan = plan_all(alloc, movie, store, steps)?;
+        Ok(Writer {
+            head: head_of(alloc, movie)?,
+            carrier: Carrier::new(alloc, PIECE)?,
+            rows: vec![in alloc; NO_ROW; plan.longest as usize]?,
+            planning: walks_of(alloc, movie)?,
+            copying: walks_of(alloc, movie)?,
+        })
+    }
+
+    // Takes a piece along whose samples were noted.
+    fn carry<S: Store, K: Sink, L: Ledger>(
+        &mut self,
+        track: usize,
+        head: PieceHead,
+        planned: &Planned,
+        movie: &Movie,
+        store: &mut S,
+        sink: &mut K,
+        steps: &mut Steps<L>,
+    ) -> Result<(), Refusal>
+        requires writer { IsWriterOf movie.now self.old }
+        requires track { track < length movie.now.tracks }
+        requires count { planned.now.count ≤ length self.old.rows.items }
+        requires bytes { planned.now.bytes + 16 < 2 ^ 64 }
+        ensures writer { OnOk result (IsWriterOf movie.now self.new) }
+        ensures file { S.file store.new ≡ S.file store.old }
+    {
+        let keys = movie.tracks()[track].keys;
+        let sizes = sizes_of(planned, &keys);
+        if sizes.moof > MOST_MOOF {
+            return Err(Refusal::StoreChanged);
+        }
+        let head = PieceHead {
+            data_offset: data_offset(sizes.moof as u32, planned.bytes),
+            ..head
+        };
+        let rows = &self.rows[..planned.count as usize];
+        let front = moof_front(&head, planned, &sizes);
+        self.carrier.carry(front.as_bytes(), sink)?;
+        carry_run(rows, planned, &mut self.carrier, sink)?;
+        carry_groups(rows, planned, &keys, &mut self.carrier, sink)?;
+        let mdat = header(FourCc(*b"mdat"), planned.bytes);
+        self.carrier.carry(mdat.bytes(), sink)?;
+        let walk = &mut self.copying[track];
+        let load = Load {
+            samples: planned.count,
+            bytes: planned.bytes,
+        };
+        carry_piece(walk, load, &mut self.carrier, movie, store, sink, steps)
+    }
+
+    /// Puts the normal form of the movie. It takes no memory; after an answer that isn't Ok it is of no more use.
+    pub fn write<S: Store, K: Sink, L: Ledger>(
+        &mut self,
+        movie: &Movie,
+        store: &mut S,
+        sink: &mut K,
+        steps: &mut Steps<L>,
+    ) -> Result<(), Refusal>
+        requires { IsWriterOf movie.now self.old }
+        ensures file { S.file store.new ≡ S.file store.old }
+    {
+        let tracks = movie.tracks();
+        self.carrier.carry(self.head.as_slice(), sink)?;
+        let from = first_time(self.planning.as_mut_slice(), movie, store, steps)?;
+        let mut schedule = Schedule::new(tracks, from);
+        let mut sequence: u32 = 0;
+        while let Some(turn) = schedule.turn(tracks) {
+            let walk = &mut self.planning[turn.track];
+            let first = peek_sample(walk, movie, store, steps)?;
+            let rows = self.rows.as_mut_slice();
+            let planned = note_piece(walk, turn.end, rows, movie, store, steps)?;
+            let next = peek_sample(walk, movie, store, steps)?;
+            if let Some(sample) = first {
+                if planned.count > 0 {
+                    sequence = sequence.saturating_add(1);
+                    let head = PieceHead {
+                        sequence,
+                        id: tracks[turn.track].id,
+                        time: sample.dts,
+                        description: sample.description,
+                        data_offset: 0,
+                    };
+                    self.carry(turn.track, head, &planned, movie, store, sink, steps)?;
+                }
+            }
+            schedule.pass(&turn, planned.count, next)?;
+        }
+        self.carrier.flush(sink)
+    }
+}
