@@ -166,7 +166,7 @@ module _ (b : Box) (all left later : List Box) (child : Box) (header : Option Mo
 
   -- the `mvhd` in hand is at fault
   pub header_refuse : (f : Fault) → bytes_eq (codes "mvhd") child.kind ≡ true → IsFaultOf mvhd child f → RefusesIn (place_of (ruled kinds.Movie) b) (refusals.Fault f)
-  header_refuse f k q = leaf_here (place_of (ruled kinds.Movie) b) p.walk.passed child mvhd f stands (rw k refl) q
+  header_refuse f k q = leaf_here (place_of (ruled kinds.Movie) b) p.walk.passed child mvhd f stands (rw k refl) refl q
 
   -- the box that is to be kept names file offsets of items
   pub kept_refuse : (f : Fault) → is_among (kept_kinds kinds.Movie) child.kind ≡ true → names_item_location child.payload ≡ true → f ≡ fault_of ItemLocation child → RefusesIn (place_of (ruled kinds.Movie) b) (refusals.Fault f)
