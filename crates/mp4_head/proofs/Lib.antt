@@ -33,3 +33,5 @@ pub mod ExtendsBoxes
 pub mod KeptWalks
 pub mod TrackBoxes
 pub mod MovieBoxes
+pub mod HeadPlaces
+pub mod HeadExcludes

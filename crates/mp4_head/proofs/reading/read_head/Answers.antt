@@ -10,6 +10,7 @@ use Rattle.mp4_boxes.specs.declared.rule.Rule.TheVariants as kinds
 use Rattle.mp4_head.specs.Head as heads
 use Rattle.mp4_head.specs.Seen.{kept_seen}
 use Rattle.mp4_head.proofs.Above.{child_here}
+use Rattle.mp4_head.proofs.HeadExcludes.{refused_rightly}
 use Rattle.mp4_head.proofs.MovieBoxes.{movie_none, movie_header, movie_kept, movie_track, movie_extends, movie_other, header_refuse, kept_refuse, track_refuse, extends_refuse, movie_said, movie_no_header, said_inside}
 use Rattle.mp4_head.proofs.reading.read_head.Goals as goal
 
@@ -107,3 +108,26 @@ returns-clause-inside c =
     let h : Holds kinds.Movie (box_container (box_seen c.args.moov)) c.into_iter-child-iterator.result = rw c.into_iter-child-iterator.ensures.into_iter_gives c.in_ok-child-items.ensures.holds in
     said_inside (box_seen c.args.moov) c.head_of.result
     (movie_said (box_seen c.args.moov) _ c.loop-child.child-iterator c.loop-child.header c.in-Some-header.header _ _ _ _ c.head_of.result h c.loop-child.invariant.2 c.in-None.ensures.steps.0 (search rules) c.head_of.ensures.movie c.head_of.ensures.tracks c.head_of.ensures.trexes)
+
+pub returns-in_err-read_movie_header-clause-only : goal.returns-in_err-read_movie_header-clause-only
+returns-in_err-read_movie_header-clause-only c = λ tree e t s. refused_rightly (box_seen c.args.moov) c.from_residual-in_err-read_movie_header.result tree e t s (returns-in_err-read_movie_header-clause-fault c)
+
+pub returns-in_err-keep_unplaced-clause-only : goal.returns-in_err-keep_unplaced-clause-only
+returns-in_err-keep_unplaced-clause-only c = λ tree e t s. refused_rightly (box_seen c.args.moov) c.from_residual-in_err-keep_unplaced.result tree e t s (returns-in_err-keep_unplaced-clause-fault c)
+
+pub returns-in_err-read_track-clause-only : goal.returns-in_err-read_track-clause-only
+returns-in_err-read_track-clause-only c = λ tree e t s. refused_rightly (box_seen c.args.moov) c.from_residual-in_err-read_track.result tree e t s (returns-in_err-read_track-clause-fault c)
+
+pub returns-in_err-trexes-clause-only : goal.returns-in_err-trexes-clause-only
+returns-in_err-trexes-clause-only c = λ tree e t s. refused_rightly (box_seen c.args.moov) c.from_residual-in_err-trexes.result tree e t s (returns-in_err-trexes-clause-fault c)
+
+pub returns-in_err-push-2-clause-only : goal.returns-in_err-push-2-clause-only
+returns-in_err-push-2-clause-only c =
+    λ tree e t s.
+    let p = err_from_is_err_and c.from_residual-in_err-push-2.result c.from_residual-in_err-push-2.ensures.1 in
+    rw p.1 p.2
+
+pub returns-in_default-clause-only : goal.returns-in_default-clause-only
+returns-in_default-clause-only c =
+    let h : Holds kinds.Movie (box_container (box_seen c.args.moov)) c.into_iter-child-iterator.result = rw c.into_iter-child-iterator.ensures.into_iter_gives c.in_ok-child-items.ensures.holds in
+    λ tree e t s. absurd (movie_no_header (box_seen c.args.moov) _ c.loop-child.child-iterator c.loop-child.header _ _ _ _ h c.loop-child.invariant.2 c.in-None.ensures.steps.0 (search rules))
