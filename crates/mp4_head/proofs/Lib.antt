@@ -35,3 +35,4 @@ pub mod TrackBoxes
 pub mod MovieBoxes
 pub mod HeadPlaces
 pub mod HeadExcludes
+pub mod ReadAgain
