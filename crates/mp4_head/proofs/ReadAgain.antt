@@ -1,6 +1,7 @@
--- A head that was written is read again.
+-- What is said of a `moov` is its head, and a head that was written is read again.
 use Rattle.std.proofs.Common.{◌≡◌, ℕ, ◌+◌, List, ◌++◌, length, drop, refl, sym, ap, subst, ◌∙◌, arith, length-append}
 use Rattle.std.specs.Prelude.{codes, Result, Ok, Err, IfErr}
+use Rattle.std.specs.List.{AllZip}
 use Rattle.std.proofs.lemmas.List.{drop_at}
 use Rattle.byteorder.specs.Endian.{big_bytes}
 use Rattle.byteorder.specs.Numbers.{length-bytes_high_first}
@@ -12,8 +13,9 @@ use Rattle.mp4_boxes.specs.declared.refusal.Refusal.{Refusal}
 use Rattle.mp4_boxes.specs.declared.refusal.Refusal.TheVariants as refusals
 use Rattle.mp4_boxes.proofs.WrittenBoxes.{placed_box}
 use Rattle.mp4_head.specs.Head.{TrackHead, MovieHead}
-use Rattle.mp4_head.specs.Tree.{HasHead, head_of}
-use Rattle.mp4_head.specs.Found.{SaysHead}
+use Rattle.mp4_head.specs.Tree.{HasHead, MovieTree, IsMovieTree, head_of}
+use Rattle.mp4_head.specs.Seen.{head_seen}
+use Rattle.mp4_head.specs.Found.{SaysHead, IsFoundIn}
 use Rattle.mp4_head.specs.Normal.{IsWritable, IsWrittenMoov, ReadsAgain, normal_trexes}
 use Rattle.mp4_head.specs.Refuses.{RefusesIn, place_of}
 use Rattle.mp4_head.specs.Writing.{moov_bytes}
@@ -22,6 +24,16 @@ use Rattle.mp4_head.proofs.HeadExcludes.{refused_rightly}
 use Rattle.mp4_head.proofs.Trees.{movie_tree_one}
 use Rattle.mp4_head.proofs.WrittenHead.{head_again}
 use Rattle.mp4_head.proofs.WrittenMovie.{moov_content, moov_payload}
+
+-- what is said is a head of the `moov`
+pub said_has : (b : Box) (head : declared.MovieHead) → SaysHead b head → HasHead b (head_seen head)
+said_has b head s = record { tree = s.tree; is_moov = s.is_moov; is_tree = s.is_tree; is_sound = s.is_sound; says = s.says }
+
+-- and that of any tree of it
+pub said_of : (b : Box) (head : declared.MovieHead) (m : MovieTree) → SaysHead b head → m.moov ≡ b → IsMovieTree m → (head_seen head ≡ head_of m) × AllZip IsFoundIn m.tracks head.tracks.items
+said_of b head m s e h =
+    let same = movie_tree_one s.tree m (s.is_moov ∙ sym e) s.is_tree h in
+    (s.says ∙ ap head_of same, subst (λ (t : MovieTree). AllZip IsFoundIn t.tracks head.tracks.items) same s.tracks)
 
 -- what stands behind the header of a box that was written
 behind_kind : (kind payload : List ℕ) → length kind ≡ 4 → drop 8 (box_bytes kind payload) ≡ payload
@@ -44,7 +56,7 @@ has_head b movie tracks duration w i =
 pub again_ok : (b : Box) (head : declared.MovieHead) → SaysHead b head → ReadsAgain b (Ok head)
 again_ok b head s movie tracks duration w i =
     let h = has_head b movie tracks duration w i in
-    s.says ∙ ap head_of (movie_tree_one s.tree h.tree (s.is_moov ∙ sym h.is_moov) s.is_tree h.is_tree) ∙ sym h.says
+    (said_of b head h.tree s h.is_moov h.is_tree).0 ∙ sym h.says
 
 -- or refused for want of memory
 again_err : (b : Box) (result : Result declared.MovieHead Refusal) (r : Refusal) → result ≡ Err r → IfErr result (λ x. x ≡ refusals.Memory) → ReadsAgain b result
