@@ -12,7 +12,7 @@ use Rattle.mp4_boxes.specs.declared.rule.Rule.TheVariants as rules
 use Rattle.mp4_boxes.specs.declared.refusal.Refusal.{Refusal}
 use Rattle.mp4_boxes.specs.declared.refusal.Refusal.TheVariants as refusals
 use Rattle.mp4_boxes.proofs.WrittenBoxes.{placed_box}
-use Rattle.mp4_head.specs.Head.{TrackHead, MovieHead}
+use Rattle.mp4_head.specs.Head.{MovieHead, TrackHead}
 use Rattle.mp4_head.specs.Tree.{HasHead, MovieTree, IsMovieTree, head_of}
 use Rattle.mp4_head.specs.Seen.{head_seen}
 use Rattle.mp4_head.specs.Found.{SaysHead, IsFoundIn}
@@ -25,15 +25,11 @@ use Rattle.mp4_head.proofs.Trees.{movie_tree_one}
 use Rattle.mp4_head.proofs.WrittenHead.{head_again}
 use Rattle.mp4_head.proofs.WrittenMovie.{moov_content, moov_payload}
 
--- what is said is a head of the `moov`
-pub said_has : (b : Box) (head : declared.MovieHead) → SaysHead b head → HasHead b (head_seen head)
-said_has b head s = record { tree = s.tree; is_moov = s.is_moov; is_tree = s.is_tree; is_sound = s.is_sound; says = s.says }
-
--- and that of any tree of it
+-- what is said is what any tree of the `moov` says
 pub said_of : (b : Box) (head : declared.MovieHead) (m : MovieTree) → SaysHead b head → m.moov ≡ b → IsMovieTree m → (head_seen head ≡ head_of m) × AllZip IsFoundIn m.tracks head.tracks.items
 said_of b head m s e h =
-    let same = movie_tree_one s.tree m (s.is_moov ∙ sym e) s.is_tree h in
-    (s.says ∙ ap head_of same, subst (λ (t : MovieTree). AllZip IsFoundIn t.tracks head.tracks.items) same s.tracks)
+    let same = movie_tree_one s.has.tree m (s.has.is_moov ∙ sym e) s.has.is_tree h in
+    (s.has.says ∙ ap head_of same, subst (λ (t : MovieTree). AllZip IsFoundIn t.tracks head.tracks.items) same s.tracks)
 
 -- what stands behind the header of a box that was written
 behind_kind : (kind payload : List ℕ) → length kind ≡ 4 → drop 8 (box_bytes kind payload) ≡ payload
