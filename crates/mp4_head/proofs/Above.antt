@@ -1,11 +1,12 @@
 -- A fault in a box stands in the container that the box stands in.
-use Rattle.std.proofs.Common.{◌≡◌, ℕ, ◌+◌, inl, inr, Bool, false, List, [], ◌∷◌, ◌++◌, drop, Some, sym, subst, ◌∙◌, append_assoc, refl}
-use Rattle.std.specs.Prelude.{◌⊎◌}
-use Rattle.mp4_boxes.specs.Box.{Box, size, LieEndToEnd, StandsAfter, Tiles, box_container}
+use Rattle.std.proofs.Common.{◌≡◌, ℕ, ◌+◌, inl, inr, Bool, true, false, List, [], ◌∷◌, ◌++◌, drop, Some, sym, subst, ◌∙◌, append_assoc, refl}
+use Rattle.std.specs.Prelude.{◌⊎◌, codes, bytes_eq}
+use Rattle.mp4_boxes.specs.Box.{Box, file_container, size, LieEndToEnd, StandsAfter, Tiles, box_container}
 use Rattle.mp4_boxes.specs.Layout.{Leaf}
-use Rattle.mp4_boxes.specs.Places.{Place, Scope, ruled, leaf_of, inside, Reaches, StandsIn}
+use Rattle.mp4_boxes.specs.Places.{Place, whole, Scope, ruled, leaf_of, inside, Reaches, StandsIn}
 use Rattle.mp4_boxes.specs.BoxFaults.{IsChildFault}
 use Rattle.mp4_boxes.specs.declared.rule.Rule.{Rule}
+use Rattle.mp4_boxes.specs.declared.rule.Rule.TheVariants as rules
 use Rattle.mp4_boxes.specs.declared.fault.Fault.{Fault}
 use Rattle.mp4_boxes.specs.declared.refusal.Refusal.{Refusal}
 use Rattle.mp4_boxes.specs.declared.refusal.Refusal.TheVariants as refusals
@@ -125,3 +126,8 @@ stands_whole from f (inr (inl h)) = inr (inl h)
 stands_whole from f (inr (inr (inl h))) = inr (inr (inl h))
 stands_whole from f (inr (inr (inr (inl h)))) = inr (inr (inr (inl h.fault)))
 stands_whole from f (inr (inr (inr (inr h)))) = inr (inr (inr (inr h)))
+
+-- what stands in a `moov` stands in the file that the `moov` stands in
+pub stands_in_file : (file : List ℕ) (before : List Box) (moov : Box) (f : Fault) → StandsAfter (file_container file) before moov → bytes_eq (codes "moov") moov.kind ≡ true → HeadStands (place_of (ruled rules.Movie) moov) f
+    → HeaderStands (whole file) f ⊎ (ChildStands (whole file) f ⊎ (MissingStands (whole file) f ⊎ LeafStands (whole file) f))
+stands_in_file file before moov f s k h = stands_whole (whole file) f (head_above (whole file) (place_of (ruled rules.Movie) moov) before moov f s (rw k refl) h)
