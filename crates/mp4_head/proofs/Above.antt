@@ -1,14 +1,16 @@
 -- A fault in a box stands in the container that the box stands in.
-use Rattle.std.proofs.Common.{◌≡◌, ℕ, ◌+◌, inl, inr, Bool, false, List, [], ◌∷◌, ◌++◌, drop, Some, sym, subst, ◌∙◌, append_assoc, refl}
-use Rattle.mp4_boxes.specs.Box.{Box, size, LieEndToEnd, StandsAfter, Tiles, box_container}
+use Rattle.std.proofs.Common.{◌≡◌, ℕ, ◌+◌, inl, inr, Bool, true, false, List, [], ◌∷◌, ◌++◌, drop, Some, sym, subst, ◌∙◌, append_assoc, refl}
+use Rattle.std.specs.Prelude.{◌⊎◌, codes, bytes_eq}
+use Rattle.mp4_boxes.specs.Box.{Box, file_container, size, LieEndToEnd, StandsAfter, Tiles, box_container}
 use Rattle.mp4_boxes.specs.Layout.{Leaf}
-use Rattle.mp4_boxes.specs.Places.{Place, Scope, ruled, leaf_of, inside, Reaches, StandsIn}
+use Rattle.mp4_boxes.specs.Places.{Place, whole, Scope, ruled, leaf_of, inside, Reaches, StandsIn}
 use Rattle.mp4_boxes.specs.BoxFaults.{IsChildFault}
 use Rattle.mp4_boxes.specs.declared.rule.Rule.{Rule}
+use Rattle.mp4_boxes.specs.declared.rule.Rule.TheVariants as rules
 use Rattle.mp4_boxes.specs.declared.fault.Fault.{Fault}
 use Rattle.mp4_boxes.specs.declared.refusal.Refusal.{Refusal}
 use Rattle.mp4_boxes.specs.declared.refusal.Refusal.TheVariants as refusals
-use Rattle.mp4_head.specs.HeadFaults.{IsTakenId, HeadStands}
+use Rattle.mp4_head.specs.HeadFaults.{IsTakenId, is_table, HeadStands, HeaderStands, ChildStands, MissingStands, LeafStands}
 use Rattle.mp4_head.specs.Leaves.{IsFaultOf}
 use Rattle.mp4_head.specs.Refuses.{RefusesLeaf, RefusesIn, RefusesBoth, place_of}
 
@@ -58,7 +60,8 @@ head_above from next before b f s i (inl h) = inl (record { place = h.place; rea
 head_above from next before b f s i (inr (inl h)) = inr (inl (record { place = h.place; reaches = reaches_above from next h.place before b s i h.reaches; rule = h.rule; under = h.under; fault = h.fault }))
 head_above from next before b f s i (inr (inr (inl h))) = inr (inr (inl (record { place = h.place; reaches = reaches_above from next h.place before b s i h.reaches; rule = h.rule; under = h.under; fault = h.fault })))
 head_above from next before b f s i (inr (inr (inr (inl h)))) =
-    inr (inr (inr (inl (record { place = h.place; before = h.before; b = h.b; stands = stands_above from next h.place before h.before b h.b s i h.stands; leaf = h.leaf; read = h.read; kind = h.kind; fails = h.fails; named = h.named }))))
+    let l = h.fault in
+    inr (inr (inr (inl (record { fault = record { place = l.place; before = l.before; b = l.b; stands = stands_above from next l.place before l.before b l.b s i l.stands; leaf = l.leaf; read = l.read; kind = l.kind; fails = l.fails; named = l.named }; no_table = h.no_table }))))
 head_above from next before b f s i (inr (inr (inr (inr (inl h))))) = inr (inr (inr (inr (inl (taken_above from next before b _ _ f s i h)))))
 head_above from next before b f s i (inr (inr (inr (inr (inr (inl h)))))) = inr (inr (inr (inr (inr (inl (taken_above from next before b _ _ f s i h))))))
 head_above from next before b f s i (inr (inr (inr (inr (inr (inr (inl h))))))) =
@@ -80,20 +83,20 @@ pub here : (place : Place) (before : List Box) (b : Box) → StandsAfter place.c
 here place before b s = record { reaches = ([], refl); after = s }
 
 -- a fault of a leaf
-pub leaf_here : (place : Place) (before : List Box) (b : Box) (leaf : Leaf) (f : Fault) → StandsAfter place.container before b → leaf_of place.scope b.kind ≡ Some leaf → IsFaultOf leaf b f → HeadStands place f
-leaf_here place before b leaf f s l h =
-    inr (inr (inr (inl (record { place = place; before = before; b = b; stands = here place before b s; leaf = leaf; read = l; kind = h.kind; fails = h.fails; named = h.named }))))
+pub leaf_here : (place : Place) (before : List Box) (b : Box) (leaf : Leaf) (f : Fault) → StandsAfter place.container before b → leaf_of place.scope b.kind ≡ Some leaf → is_table leaf ≡ false → IsFaultOf leaf b f → HeadStands place f
+leaf_here place before b leaf f s l n h =
+    inr (inr (inr (inl (record { fault = record { place = place; before = before; b = b; stands = here place before b s; leaf = leaf; read = l; kind = h.kind; fails = h.fails; named = h.named }; no_table = n }))))
 
 -- ---- refusals
 
 -- a leaf refuses
-pub refuses_leaf : (place : Place) (before : List Box) (b : Box) (leaf : Leaf) (r : Refusal) → StandsAfter place.container before b → leaf_of place.scope b.kind ≡ Some leaf → RefusesLeaf leaf b r → RefusesIn place r
-refuses_leaf place before b leaf (refusals.Fault f) s l h = leaf_here place before b leaf f s l h
-refuses_leaf place before b leaf refusals.Memory s l h = tt
-refuses_leaf place before b leaf refusals.StoreFailed s l h = h
-refuses_leaf place before b leaf refusals.StoreChanged s l h = h
-refuses_leaf place before b leaf refusals.WriteFailed s l h = h
-refuses_leaf place before b leaf refusals.NoSuchTrack s l h = h
+pub refuses_leaf : (place : Place) (before : List Box) (b : Box) (leaf : Leaf) (r : Refusal) → StandsAfter place.container before b → leaf_of place.scope b.kind ≡ Some leaf → is_table leaf ≡ false → RefusesLeaf leaf b r → RefusesIn place r
+refuses_leaf place before b leaf (refusals.Fault f) s l n h = leaf_here place before b leaf f s l n h
+refuses_leaf place before b leaf refusals.Memory s l n h = tt
+refuses_leaf place before b leaf refusals.StoreFailed s l n h = h
+refuses_leaf place before b leaf refusals.StoreChanged s l n h = h
+refuses_leaf place before b leaf refusals.WriteFailed s l n h = h
+refuses_leaf place before b leaf refusals.NoSuchTrack s l n h = h
 
 -- a container in it does
 pub refuses_above : (from next : Place) (before : List Box) (b : Box) (r : Refusal) → StandsAfter from.container before b → inside from b ≡ Some next → RefusesIn next r → RefusesIn from r
@@ -105,11 +108,26 @@ refuses_above from next before b refusals.WriteFailed s i h = h
 refuses_above from next before b refusals.NoSuchTrack s i h = h
 
 -- a leaf that holds boxes does
-pub refuses_both : (from next : Place) (before : List Box) (b : Box) (leaf : Leaf) (scope : Scope) (r : Refusal) → StandsAfter from.container before b → leaf_of from.scope b.kind ≡ Some leaf → inside from b ≡ Some next → next ≡ place_of scope b → RefusesBoth leaf scope b r → RefusesIn from r
-refuses_both from next before b leaf scope (refusals.Fault f) s l i e (inl h) = leaf_here from before b leaf f s l h
-refuses_both from next before b leaf scope (refusals.Fault f) s l i e (inr h) = head_above from next before b f s i (subst (λ (p : Place). HeadStands p f) (sym e) h)
-refuses_both from next before b leaf scope refusals.Memory s l i e h = tt
-refuses_both from next before b leaf scope refusals.StoreFailed s l i e h = h
-refuses_both from next before b leaf scope refusals.StoreChanged s l i e h = h
-refuses_both from next before b leaf scope refusals.WriteFailed s l i e h = h
-refuses_both from next before b leaf scope refusals.NoSuchTrack s l i e h = h
+pub refuses_both : (from next : Place) (before : List Box) (b : Box) (leaf : Leaf) (scope : Scope) (r : Refusal) → StandsAfter from.container before b → leaf_of from.scope b.kind ≡ Some leaf → is_table leaf ≡ false → inside from b ≡ Some next → next ≡ place_of scope b → RefusesBoth leaf scope b r → RefusesIn from r
+refuses_both from next before b leaf scope (refusals.Fault f) s l n i e (inl h) = leaf_here from before b leaf f s l n h
+refuses_both from next before b leaf scope (refusals.Fault f) s l n i e (inr h) = head_above from next before b f s i (subst (λ (p : Place). HeadStands p f) (sym e) h)
+refuses_both from next before b leaf scope refusals.Memory s l n i e h = tt
+refuses_both from next before b leaf scope refusals.StoreFailed s l n i e h = h
+refuses_both from next before b leaf scope refusals.StoreChanged s l n i e h = h
+refuses_both from next before b leaf scope refusals.WriteFailed s l n i e h = h
+refuses_both from next before b leaf scope refusals.NoSuchTrack s l n i e h = h
+
+-- ---- with tables
+
+-- what is said apart from tables is said of the whole
+pub stands_whole : (from : Place) (f : Fault) → HeadStands from f → HeaderStands from f ⊎ (ChildStands from f ⊎ (MissingStands from f ⊎ LeafStands from f))
+stands_whole from f (inl h) = inl h
+stands_whole from f (inr (inl h)) = inr (inl h)
+stands_whole from f (inr (inr (inl h))) = inr (inr (inl h))
+stands_whole from f (inr (inr (inr (inl h)))) = inr (inr (inr (inl h.fault)))
+stands_whole from f (inr (inr (inr (inr h)))) = inr (inr (inr (inr h)))
+
+-- what stands in a `moov` stands in the file that the `moov` stands in
+pub stands_in_file : (file : List ℕ) (before : List Box) (moov : Box) (f : Fault) → StandsAfter (file_container file) before moov → bytes_eq (codes "moov") moov.kind ≡ true → HeadStands (place_of (ruled rules.Movie) moov) f
+    → HeaderStands (whole file) f ⊎ (ChildStands (whole file) f ⊎ (MissingStands (whole file) f ⊎ LeafStands (whole file) f))
+stands_in_file file before moov f s k h = stands_whole (whole file) f (head_above (whole file) (place_of (ruled rules.Movie) moov) before moov f s (rw k refl) h)

@@ -59,4 +59,4 @@ edits_all b all left edits h p e =
 pub edits_refuse : (b : Box) (all left later : List Box) (child : Box) (edits : List heads.Edit) (r : Refusal) → Holds rules.Edits (box_container b) all → EditsPassed all left edits → left ≡ child ∷ later
     → bytes_eq (codes "elst") child.kind ≡ true → RefusesLeaf elst child r → RefusesIn (place_of (ruled rules.Edits) b) r
 edits_refuse b all left later child edits r h p e k q =
-    refuses_leaf (place_of (ruled rules.Edits) b) p.walk.passed child elst r (stands_of b all p.walk.passed later child h.tiles (walk_here all left later child p.walk e)) (rw k refl) q
+    refuses_leaf (place_of (ruled rules.Edits) b) p.walk.passed child elst r (stands_of b all p.walk.passed later child h.tiles (walk_here all left later child p.walk e)) (rw k refl) refl q

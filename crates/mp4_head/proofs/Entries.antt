@@ -120,7 +120,7 @@ references_fail b all left later e f t p w (another k named) =
     inr (inr (inr (inr (inr (inr (inr (inl (record { place = place_of data_entries b; before = p.walk.passed; b = e; stands = here (place_of data_entries b) p.walk.passed e s; in_dref = refl; foreign = rw k refl; named = named }))))))))
 references_fail b all left later e f t p w (at_fault k h) =
     let s = stands_counted b all p.walk.passed later e t (walk_here all left later e p.walk w) in
-    inr (leaf_here (place_of data_entries b) p.walk.passed e data_entry_url f s (rw k refl) h)
+    inr (leaf_here (place_of data_entries b) p.walk.passed e data_entry_url f s (rw k refl) refl h)
 
 -- ---- `stsd`
 
@@ -189,4 +189,4 @@ descriptions_all b all left read width t o p e =
 -- the entry in hand is at fault
 pub descriptions_fail : (b : Box) (all left later : List Box) (e : Box) (read : List Kept) (f : Fault) → Tiles (counted_container b) all → DescriptionsPassed all left read → left ≡ e ∷ later → IsFaultOf sample_entry e f → RefusesBoth stsd sample_entries b (refusals.Fault f)
 descriptions_fail b all left later e read f t p w h =
-    inr (leaf_here (place_of sample_entries b) p.walk.passed e sample_entry f (stands_counted b all p.walk.passed later e t (walk_here all left later e p.walk w)) refl h)
+    inr (leaf_here (place_of sample_entries b) p.walk.passed e sample_entry f (stands_counted b all p.walk.passed later e t (walk_here all left later e p.walk w)) refl refl h)

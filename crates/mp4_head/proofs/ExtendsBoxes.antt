@@ -83,7 +83,7 @@ extends_all b all left trexes ids h p e =
 pub extends_refuse : (b : Box) (all left later : List Box) (child : Box) (trexes : List Trex) (ids : BTreeSet ℕ) (f : Fault) → Holds kinds.MovieExtends (box_container b) all → ExtendsPassed all left trexes ids → left ≡ child ∷ later
     → bytes_eq (codes "trex") child.kind ≡ true → IsFaultOf trex child f → RefusesIn (place_of (ruled kinds.MovieExtends) b) (refusals.Fault f)
 extends_refuse b all left later child trexes ids f h p e k q =
-    leaf_here (place_of (ruled kinds.MovieExtends) b) p.walk.passed child trex f (stands_of b all p.walk.passed later child h.tiles (walk_here all left later child p.walk e)) (rw k refl) q
+    leaf_here (place_of (ruled kinds.MovieExtends) b) p.walk.passed child trex f (stands_of b all p.walk.passed later child h.tiles (walk_here all left later child p.walk e)) (rw k refl) refl q
 
 -- the `trex` in hand has an ID that one before it has
 pub extends_taken : (b : Box) (all left later : List Box) (child : Box) (trexes : List Trex) (ids : BTreeSet ℕ) (x : Trex) (f : Fault) → Holds kinds.MovieExtends (box_container b) all → ExtendsPassed all left trexes ids → left ≡ child ∷ later

@@ -33,3 +33,6 @@ pub mod ExtendsBoxes
 pub mod KeptWalks
 pub mod TrackBoxes
 pub mod MovieBoxes
+pub mod HeadPlaces
+pub mod HeadExcludes
+pub mod ReadAgain

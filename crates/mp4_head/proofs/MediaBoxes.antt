@@ -172,12 +172,12 @@ media_no_information b all left header handler languages information h p e a =
 -- the leaf in hand is at fault
 pub media_header_refuse : (b : Box) (all left later : List Box) (child : Box) (header : Option MediaHeader) (handler : Option (Bor (List ℕ))) (languages : List (List ℕ)) (information : Option Information) (f : Fault) → Holds kinds.Media (box_container b) all → MediaPassed all left header handler languages information → left ≡ child ∷ later → bytes_eq (codes "mdhd") child.kind ≡ true → IsFaultOf mdhd child f → RefusesIn (place_of (ruled kinds.Media) b) (refusals.Fault f)
 media_header_refuse b all left later child header handler languages information f h p e k q =
-    leaf_here (place_of (ruled kinds.Media) b) p.walk.passed child mdhd f (stands_of b all p.walk.passed later child h.tiles (walk_here all left later child p.walk e)) (rw k refl) q
+    leaf_here (place_of (ruled kinds.Media) b) p.walk.passed child mdhd f (stands_of b all p.walk.passed later child h.tiles (walk_here all left later child p.walk e)) (rw k refl) refl q
 
 pub media_handler_refuse : (b : Box) (all left later : List Box) (child : Box) (header : Option MediaHeader) (handler : Option (Bor (List ℕ))) (languages : List (List ℕ)) (information : Option Information) (f : Fault) → Holds kinds.Media (box_container b) all → MediaPassed all left header handler languages information → left ≡ child ∷ later → bytes_eq (codes "hdlr") child.kind ≡ true → IsFaultOf hdlr child f → RefusesIn (place_of (ruled kinds.Media) b) (refusals.Fault f)
 media_handler_refuse b all left later child header handler languages information f h p e k q =
     let is = same_kind (codes "hdlr") child.kind k in
-    leaf_here (place_of (ruled kinds.Media) b) p.walk.passed child hdlr f (stands_of b all p.walk.passed later child h.tiles (walk_here all left later child p.walk e)) (rw is refl) q
+    leaf_here (place_of (ruled kinds.Media) b) p.walk.passed child hdlr f (stands_of b all p.walk.passed later child h.tiles (walk_here all left later child p.walk e)) (rw is refl) refl q
 
 -- the `minf` in hand refuses
 pub media_information_refuse : (b : Box) (all left later : List Box) (child : Box) (header : Option MediaHeader) (handler : Option (Bor (List ℕ))) (languages : List (List ℕ)) (information : Option Information) (r : Refusal) → Holds kinds.Media (box_container b) all → MediaPassed all left header handler languages information → left ≡ child ∷ later → bytes_eq (codes "minf") child.kind ≡ true → RefusesIn (place_of (ruled kinds.MediaInformation) child) r → RefusesIn (place_of (ruled kinds.Media) b) r

@@ -166,7 +166,7 @@ module _ (b : Box) (all left later : List Box) (child : Box) (header : Option Mo
 
   -- the `mvhd` in hand is at fault
   pub header_refuse : (f : Fault) → bytes_eq (codes "mvhd") child.kind ≡ true → IsFaultOf mvhd child f → RefusesIn (place_of (ruled kinds.Movie) b) (refusals.Fault f)
-  header_refuse f k q = leaf_here (place_of (ruled kinds.Movie) b) p.walk.passed child mvhd f stands (rw k refl) q
+  header_refuse f k q = leaf_here (place_of (ruled kinds.Movie) b) p.walk.passed child mvhd f stands (rw k refl) refl q
 
   -- the box that is to be kept names file offsets of items
   pub kept_refuse : (f : Fault) → is_among (kept_kinds kinds.Movie) child.kind ≡ true → names_item_location child.payload ≡ true → f ≡ fault_of ItemLocation child → RefusesIn (place_of (ruled kinds.Movie) b) (refusals.Fault f)
@@ -283,18 +283,20 @@ movie_all b all left x kept ids trexes tracks head h p e m t r =
     let tracks_are = ap (map track_seen) t ∙ traks.says in
     let trexes_are = r ∙ more.says in
     record {
-      tree = record { moov = b; movie = all; extends = more.boxes; tracks = traks.trees };
-      is_moov = refl;
-      is_tree = record { movie = h; extends = more.holds; traks = traks.traks_are; tracks = traks.are_trees };
-      is_sound = record {
-        movie = subst (λ (bs : List Box). AreSound (ruled kinds.Movie) bs) (sym same) p.sound;
-        kept = keeps.1;
-        tracks = traks.are_sound;
-        track_ids = ap (λ (ts : List heads.TrackHead). are_distinct (map (λ (u : heads.TrackHead). u.id) ts)) (sym traks.says) ∙ ap are_distinct (map_twice track_seen (λ (u : heads.TrackHead). u.id) tracks) ∙ p.distinct;
-        extends = more.sound;
-        trex_ids = ap (λ (ts : List Trex). are_distinct (map (λ (u : Trex). u.id) ts)) (sym more.says) ∙ more.distinct;
+      has = record {
+        tree = record { moov = b; movie = all; extends = more.boxes; tracks = traks.trees };
+        is_moov = refl;
+        is_tree = record { movie = h; extends = more.holds; traks = traks.traks_are; tracks = traks.are_trees };
+        is_sound = record {
+          movie = subst (λ (bs : List Box). AreSound (ruled kinds.Movie) bs) (sym same) p.sound;
+          kept = keeps.1;
+          tracks = traks.are_sound;
+          track_ids = ap (λ (ts : List heads.TrackHead). are_distinct (map (λ (u : heads.TrackHead). u.id) ts)) (sym traks.says) ∙ ap are_distinct (map_twice track_seen (λ (u : heads.TrackHead). u.id) tracks) ∙ p.distinct;
+          extends = more.sound;
+          trex_ids = ap (λ (ts : List Trex). are_distinct (map (λ (u : Trex). u.id) ts)) (sym more.says) ∙ more.distinct;
+        };
+        says = λ i. record { movie = movie_is i; tracks = tracks_are i; trexes = trexes_are i };
       };
-      says = λ i. record { movie = movie_is i; tracks = tracks_are i; trexes = trexes_are i };
       tracks = subst (λ (ts : List TrackHead). AllZip IsFoundIn traks.trees ts) (sym t) traks.found;
     }
 
@@ -317,4 +319,8 @@ found_inside moov (u ∷ trees) (t ∷ tracks) l z = (subst (LiesIn moov) (sym z
 
 -- the `stbl` of each track that was found lies in the `moov`
 pub said_inside : (b : Box) (head : MovieHead) → SaysHead b head → AllByRecursion (λ (t : TrackHead). LiesIn b (box_seen t.stbl)) head.tracks.items
-said_inside b head s = subst (λ (m : Box). AllByRecursion (λ (t : TrackHead). LiesIn m (box_seen t.stbl)) head.tracks.items) s.is_moov (found_inside s.tree.moov s.tree.tracks head.tracks.items (stbls_lie s.tree s.is_tree) s.tracks)
+said_inside b head s = subst (λ (m : Box). AllByRecursion (λ (t : TrackHead). LiesIn m (box_seen t.stbl)) head.tracks.items) s.has.is_moov (found_inside s.has.tree.moov s.has.tree.tracks head.tracks.items (stbls_lie s.has.tree s.has.is_tree) s.tracks)
+
+-- the boxes of a track's tables are those of its tree
+pub tables_there : (t : TrackTree) (h : TrackHead) → IsTrackTree t → IsFoundIn t h → Holds kinds.SampleTable (box_container (box_seen h.stbl)) t.table
+tables_there t h i f = subst (λ (b : Box). Holds kinds.SampleTable (box_container b) t.table) (sym f.stbl) i.table

@@ -64,7 +64,7 @@ data_all b all left h p e =
 pub data_fail : (b : Box) (all left later : List Box) (child : Box) (f : Fault) → Holds kinds.DataInformation (box_container b) all → DataPassed all left → left ≡ child ∷ later
     → bytes_eq (codes "dref") child.kind ≡ true → StandsOrFails dref data_entries child f → HeadStands (place_of (ruled kinds.DataInformation) b) f
 data_fail b all left later child f h p e k (inl q) =
-    leaf_here (place_of (ruled kinds.DataInformation) b) p.walk.passed child dref f (stands_of b all p.walk.passed later child h.tiles (walk_here all left later child p.walk e)) (rw k refl) q
+    leaf_here (place_of (ruled kinds.DataInformation) b) p.walk.passed child dref f (stands_of b all p.walk.passed later child h.tiles (walk_here all left later child p.walk e)) (rw k refl) refl q
 data_fail b all left later child f h p e k (inr q) =
     head_above (place_of (ruled kinds.DataInformation) b) (place_of data_entries child) p.walk.passed child f (stands_of b all p.walk.passed later child h.tiles (walk_here all left later child p.walk e)) (rw k refl) q
 
@@ -125,4 +125,4 @@ table_all b all left descriptions groups h p e =
 pub table_refuse : (b : Box) (all left later : List Box) (child : Box) (descriptions : List Kept) (groups : List (List ℕ)) (r : Refusal) → Holds kinds.SampleTable (box_container b) all → TablePassed all left descriptions groups → left ≡ child ∷ later
     → bytes_eq (codes "stsd") child.kind ≡ true → RefusesBoth stsd sample_entries child r → RefusesIn (place_of (ruled kinds.SampleTable) b) r
 table_refuse b all left later child descriptions groups r h p e k q =
-    refuses_both (place_of (ruled kinds.SampleTable) b) (place_of sample_entries child) p.walk.passed child stsd sample_entries r (stands_of b all p.walk.passed later child h.tiles (walk_here all left later child p.walk e)) (rw k refl) (rw k refl) refl q
+    refuses_both (place_of (ruled kinds.SampleTable) b) (place_of sample_entries child) p.walk.passed child stsd sample_entries r (stands_of b all p.walk.passed later child h.tiles (walk_here all left later child p.walk e)) (rw k refl) refl (rw k refl) refl q

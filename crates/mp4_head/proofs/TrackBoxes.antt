@@ -160,7 +160,7 @@ module _ (b : Box) (old : BTreeSet ℕ) (all left later : List Box) (child : Box
 
   -- the `tkhd` in hand refuses
   pub header_refuse : (r : Refusal) → bytes_eq (codes "tkhd") child.kind ≡ true → RefusesTrackHeader ids child r → RefusesTrack old b r
-  header_refuse (refusals.Fault f) k (inl q) = inl (leaf_here (place_of (ruled kinds.Track) b) p.walk.passed child tkhd f stands (rw k refl) q)
+  header_refuse (refusals.Fault f) k (inl q) = inl (leaf_here (place_of (ruled kinds.Track) b) p.walk.passed child tkhd f stands (rw k refl) refl q)
   header_refuse (refusals.Fault f) k (inr q) = inr (record { before = p.walk.passed; b = child; stands = stands; is_header = k; met = subst (λ (s : BTreeSet ℕ). IsMet s child f) (ids_before k) q })
   header_refuse refusals.Memory k q = tt
   header_refuse refusals.StoreFailed k q = q

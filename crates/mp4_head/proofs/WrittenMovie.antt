@@ -17,11 +17,12 @@ use Rattle.mp4_frag.specs.declared.trex.Trex.{Trex}
 use Rattle.mp4_frag.specs.Fragments.{trex_of}
 use Rattle.mp4_head.specs.Head.{Kept, TrackHead, MovieHead, IsTrackHead, IsMovieHead}
 use Rattle.mp4_head.specs.Tree.{TrackTree, MovieTree, HoldsIfThere, IsTrackTree, IsMovieTree, kept_among, track_head_of, movie_head_of, trexes_of, are_distinct, NameNoItems, IsSoundTrack, IsSoundMovie}
-use Rattle.mp4_head.specs.Writing.{kept_bytes, trak_bytes, trex_bytes, mvhd_bytes, mvex_bytes, next_track_id, moov_bytes}
+use Rattle.mp4_head.specs.Writing.{kept_bytes, trak_bytes, trex_bytes, mvhd_bytes, mvex_bytes, next_track_id}
 use Rattle.mp4_head.proofs.WrittenLeaves.{mvhd_payload, mvhd_again, mvhd_sound, movie_again, trex_payload, trex_sound, trex_again}
 use Rattle.mp4_head.proofs.WrittenContents.{contents_of, kept_written, all_kept, fits_in, trak_payload}
 use Rattle.mp4_head.proofs.WrittenTrack.{trak_content, track_tree, track_tree_is}
 use Rattle.mp4_head.proofs.WrittenTrackHead.{kept_between, name_none, unread, sound_placed, track_head_again, track_leaves_sound}
+pub use Rattle.mp4_head.specs.Normal.{IsWritable, normal_trex, normal_trexes}
 
 -- ---- contents
 
@@ -161,14 +162,6 @@ all_sound : (at : ℕ) (tracks : List TrackHead) → AllByRecursion IsTrackHead 
 all_sound at [] h le = tt
 all_sound at (t ∷ tracks) h le = (track_leaves_sound at t h.0 le.0, all_sound (at + (8 + length (trak_payload t))) tracks h.1 le.1)
 
--- the `trex` that is written for a track
-abbrev pub normal_trex : TrackHead → Trex
-normal_trex t = record { id = t.id; description = 1; duration = 0; size = 0; flags = 0 }
-
--- those of all tracks
-abbrev pub normal_trexes : List TrackHead → List Trex
-normal_trexes tracks = map normal_trex tracks
-
 -- each `trex` is read again
 all_trexes_say : (at : ℕ) (tracks : List TrackHead) → AllByRecursion IsTrackHead tracks → map (λ (b : Box). trex_of b.payload) (of_kind (codes "trex") (placed at (trex_contents tracks))) ≡ normal_trexes tracks
 all_trexes_say at [] h = refl
@@ -183,13 +176,6 @@ trexes_sound (t ∷ tracks) = (trex_sound t.id, trexes_sound tracks)
 trex_ids_are : (tracks : List TrackHead) → map (λ (x : Trex). x.id) (normal_trexes tracks) ≡ map (λ (t : TrackHead). t.id) tracks
 trex_ids_are [] = refl
 trex_ids_are (t ∷ tracks) = ap (λ (l : List ℕ). t.id ∷ l) (trex_ids_are tracks)
-
--- The head's values are those of valid heads, and the `moov` is not too long.
-pub record IsWritable (movie : MovieHead) (tracks : List TrackHead) (duration : ℕ) : Type 0 where
-  pub is_movie : IsMovieHead movie
-  pub are_tracks : AllByRecursion IsTrackHead tracks
-  pub distinct : are_distinct (map (λ (t : TrackHead). t.id) tracks) ≡ true
-  pub small : length (moov_bytes movie tracks duration) ≤ 2 ^ 30
 
 module _ (movie : MovieHead) (tracks : List TrackHead) (duration : ℕ) (h : IsWritable movie tracks duration) where
   -- the payload of the `moov` is not too long

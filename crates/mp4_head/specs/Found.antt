@@ -4,7 +4,7 @@ use Rattle.std.specs.List.{AllZip}
 use Rattle.mp4_boxes.specs.Box.{Box, size}
 use Rattle.mp4_boxes.specs.View.{box_seen}
 use Rattle.mp4_head.specs.Head as heads
-use Rattle.mp4_head.specs.Tree.{TrackTree, IsTrackTree, IsSoundTrack, track_head_of, stbl_of, first_of, MovieTree, IsMovieTree, IsSoundMovie, head_of}
+use Rattle.mp4_head.specs.Tree.{TrackTree, IsTrackTree, IsSoundTrack, track_head_of, stbl_of, first_of, HasHead}
 use Rattle.mp4_head.specs.Seen.{kept_seen, description_seen, head_seen}
 use Rattle.mp4_head.specs.declared.movie_header.MovieHeader.{MovieHeader}
 use Rattle.mp4_head.specs.declared.track_header.TrackHeader.{TrackHeader}
@@ -65,11 +65,7 @@ pub record IsFoundIn (t : TrackTree) (h : TrackHead) : Type 0 where
   pub stbl : box_seen h.stbl ≡ stbl_of t
   pub offset : h.offset ≡ (first_of (codes "tkhd") t.track).offset
 
--- The `moov` is sound and says this head, and this is where its tracks are.
+-- The `moov` has this head, and this is where its tracks are.
 pub record SaysHead (moov : Box) (head : MovieHead) : Type 0 where
-  pub tree : MovieTree
-  pub is_moov : tree.moov ≡ moov
-  pub is_tree : IsMovieTree tree
-  pub is_sound : IsSoundMovie tree
-  pub says : head_seen head ≡ head_of tree
-  pub tracks : AllZip IsFoundIn tree.tracks head.tracks.items
+  pub has : HasHead moov (head_seen head)
+  pub tracks : AllZip IsFoundIn has.tree.tracks head.tracks.items

@@ -1,8 +1,8 @@
 -- Which faults stand in a container: in the headers and the lists of boxes, in a leaf, in what is kept.
-use Rattle.std.specs.Prelude.{◌≡◌, ℕ, ◌<◌, ◌⊎◌, true, IsTrue, List, None, Some, slice_index}
+use Rattle.std.specs.Prelude.{◌≡◌, ℕ, ◌<◌, ◌⊎◌, Bool, true, false, IsTrue, List, None, Some, slice_index}
 use Rattle.mp4_boxes.specs.Box.{Box}
 use Rattle.mp4_boxes.specs.Children.{is_among}
-use Rattle.mp4_boxes.specs.Layout.{Leaf, tkhd, trex, leaf_fields, IsReadable}
+use Rattle.mp4_boxes.specs.Layout.{Leaf, tkhd, trex, stts, ctts, stsc, stsz, stz2, stco, co64, stss, sdtp, sbgp, sgpd, leaf_fields, IsReadable}
 use Rattle.mp4_boxes.specs.Places.{ruled, data_entries, Place, kept_kinds, leaf_of, Reaches, StandsIn}
 use Rattle.mp4_boxes.specs.BoxFaults.{fault_of, IsHeaderFault, IsNotInProfile, IsDuplicate, IsMissing, IsLeafFault}
 use Rattle.mp4_boxes.specs.declared.rule.Rule.{Rule}
@@ -79,6 +79,30 @@ pub record IsItemLocation (from : Place) (f : Fault) : Type 0 where
 abbrev pub LeafStands : Place → Fault → Type 0
 LeafStands from f = IsLeafFault from f ⊎ (IsTakenId from tkhd 4 f ⊎ (IsTakenId from trex 2 f ⊎ (IsForeignReference from f ⊎ IsItemLocation from f)))
 
+-- ---- apart from tables
+
+-- the leaves of an `stbl` but its `stsd`
+abbrev pub is_table : Leaf → Bool
+is_table stts = true
+is_table ctts = true
+is_table stsc = true
+is_table stsz = true
+is_table stz2 = true
+is_table stco = true
+is_table co64 = true
+is_table stss = true
+is_table sdtp = true
+is_table sbgp = true
+is_table sgpd = true
+is_table _ = false
+
+-- a leaf is at fault that is no table
+pub record IsHeadLeafFault (from : Place) (f : Fault) : Type 0 where
+  pub fault : IsLeafFault from f
+  pub no_table : is_table fault.leaf ≡ false
+
 -- what may be said of a box and the boxes in it, apart from tables
 abbrev pub HeadStands : Place → Fault → Type 0
-HeadStands from f = HeaderStands from f ⊎ (ChildStands from f ⊎ (MissingStands from f ⊎ LeafStands from f))
+HeadStands from f =
+    HeaderStands from f
+    ⊎ (ChildStands from f ⊎ (MissingStands from f ⊎ (IsHeadLeafFault from f ⊎ (IsTakenId from tkhd 4 f ⊎ (IsTakenId from trex 2 f ⊎ (IsForeignReference from f ⊎ IsItemLocation from f))))))

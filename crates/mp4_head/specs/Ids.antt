@@ -31,7 +31,7 @@ pub record IsMet (ids : BTreeSet ℕ) (b : Box) (f : Fault) : Type 0 where
   pub met : contains nat_cmp ids (slice_index (leaf_fields tkhd b.payload) 4) ≡ true
   pub named : f ≡ fault_of BadValue b
 
--- it is at fault, its ID was met before, or no memory was to be had
+-- a `tkhd` is at fault, its ID was met before, or no memory was to be had
 abbrev pub RefusesTrackHeader : BTreeSet ℕ → Box → Refusal → Type 0
 RefusesTrackHeader ids b (refusals.Fault f) = IsFaultOf tkhd b f ⊎ IsMet ids b f
 RefusesTrackHeader ids b refusals.Memory = Unit {0}

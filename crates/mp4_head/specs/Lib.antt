@@ -9,3 +9,4 @@ pub mod Parts
 pub mod Containers
 pub mod Found
 pub mod Ids
+pub mod Normal

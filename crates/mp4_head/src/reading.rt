@@ -5,9 +5,12 @@ ghost use Rattle.mp4_boxes.specs.Children.{is_among};
 ghost use Rattle.mp4_boxes.specs.Places.{ruled, kept_kinds};
 ghost use Rattle.mp4_boxes.specs.View.{box_seen};
 ghost use Rattle.mp4_boxes.specs.declared.rule.Rule.TheVariants as rules;
+ghost use Rattle.mp4_boxes.specs.declared.refusal.Refusal.TheVariants as refusals;
 ghost use Rattle.mp4_head.specs.Found.{movie_joined, LiesIn, SaysHead};
+ghost use Rattle.mp4_head.specs.Normal.{ReadsAgain};
 ghost use Rattle.mp4_head.specs.Refuses.{RefusesIn, place_of};
 ghost use Rattle.mp4_head.specs.Seen.{kept_seen, movie_seen};
+ghost use Rattle.mp4_head.specs.Tree.{MovieTree, IsMovieTree, IsSoundMovie};
 
 use crate::extends::read_extends;
 use crate::heads::{MovieHead, TrackHead};
@@ -58,6 +61,8 @@ pub fn read_head<'a>(alloc: Global, moov: BoxView<'a>) -> Result<MovieHead<'a>, 
     ensures head { IfOk result (SaysHead (box_seen moov.entry)) }
     ensures inside { IfOk result (λ m. AllByRecursion (λ t. LiesIn (box_seen moov.entry) (box_seen t.stbl)) m.tracks.items) }
     ensures fault { IfErr result (RefusesIn (place_of (ruled rules.Movie) (box_seen moov.entry))) }
+    ensures only { (tree : MovieTree) → tree.moov ≡ box_seen moov.entry → IsMovieTree tree → IsSoundMovie tree → IfErr result (λ r. r ≡ refusals.Memory) }
+    ensures again { ReadsAgain (box_seen moov.entry) result }
 {
     let mut header = None;
     let mut kept = Vec::new(alloc);

@@ -1,5 +1,5 @@
 use super::*;
-use mp4_boxes::{BoxView, Fault, FourCc, Kind, Refusal};
+use mp4_boxes::{BoxView, Fault, FourCc, Kind, Memory, Refusal};
 use std::alloc::Global;
 use std::test::Fail;
 
@@ -317,6 +317,52 @@ fn edits(rt: HostRuntime) -> Result<(), Fail> {
         }
     }
     assert_eq!(rt; head_len(&head), 645);
+    Ok(())
+}
+
+// The head as it is written, if it is not long.
+fn written(alloc: Global, head: &MovieHead) -> Result<Vec<u8>, Memory> {
+    if head_len(head) > 100_000 {
+        return Err(Memory);
+    }
+    head_bytes(alloc, head, 120)
+}
+
+// The bytes behind an `ftyp` and the header of a `moov`.
+fn behind_headers(bytes: &[u8]) -> &[u8] {
+    if bytes.len() < 32 {
+        return &[];
+    }
+    &bytes[32..]
+}
+
+#[test]
+fn written_and_read(rt: HostRuntime) -> Result<(), Fail> {
+    let mut bytes = Bytes::new(rt.alloc());
+    bytes.plain(EDITS)?;
+    bytes.leaf(b"udta", b"one")?;
+    let Ok(head) = read_head(rt.alloc(), moov(bytes.items.as_slice())) else {
+        assert!(rt; false);
+        return Ok(());
+    };
+    let Ok(first) = written(rt.alloc(), &head) else {
+        assert!(rt; false);
+        return Ok(());
+    };
+    let Ok(again) = read_head(rt.alloc(), moov(behind_headers(first.as_slice()))) else {
+        assert!(rt; false);
+        return Ok(());
+    };
+    assert_eq!(rt;
+        (again.kept.len(), again.tracks.len(), again.trexes.len()),
+        (1, 1, 1)
+    );
+    let Ok(second) = written(rt.alloc(), &again) else {
+        assert!(rt; false);
+        return Ok(());
+    };
+    assert_eq!(rt; first.len(), 656);
+    assert!(rt; first.as_slice() == second.as_slice());
     Ok(())
 }
 

@@ -10,6 +10,8 @@ use Rattle.mp4_boxes.specs.declared.rule.Rule.TheVariants as kinds
 use Rattle.mp4_head.specs.Head as heads
 use Rattle.mp4_head.specs.Seen.{kept_seen}
 use Rattle.mp4_head.proofs.Above.{child_here}
+use Rattle.mp4_head.proofs.HeadExcludes.{refused_rightly}
+use Rattle.mp4_head.proofs.ReadAgain.{again_ok, again_refused, again_memory}
 use Rattle.mp4_head.proofs.MovieBoxes.{movie_none, movie_header, movie_kept, movie_track, movie_extends, movie_other, header_refuse, kept_refuse, track_refuse, extends_refuse, movie_said, movie_no_header, said_inside}
 use Rattle.mp4_head.proofs.reading.read_head.Goals as goal
 
@@ -107,3 +109,64 @@ returns-clause-inside c =
     let h : Holds kinds.Movie (box_container (box_seen c.args.moov)) c.into_iter-child-iterator.result = rw c.into_iter-child-iterator.ensures.into_iter_gives c.in_ok-child-items.ensures.holds in
     said_inside (box_seen c.args.moov) c.head_of.result
     (movie_said (box_seen c.args.moov) _ c.loop-child.child-iterator c.loop-child.header c.in-Some-header.header _ _ _ _ c.head_of.result h c.loop-child.invariant.2 c.in-None.ensures.steps.0 (search rules) c.head_of.ensures.movie c.head_of.ensures.tracks c.head_of.ensures.trexes)
+
+pub returns-in_err-read_movie_header-clause-only : goal.returns-in_err-read_movie_header-clause-only
+returns-in_err-read_movie_header-clause-only c = λ tree e t s. refused_rightly (box_seen c.args.moov) c.from_residual-in_err-read_movie_header.result tree e t s (returns-in_err-read_movie_header-clause-fault c)
+
+pub returns-in_err-keep_unplaced-clause-only : goal.returns-in_err-keep_unplaced-clause-only
+returns-in_err-keep_unplaced-clause-only c = λ tree e t s. refused_rightly (box_seen c.args.moov) c.from_residual-in_err-keep_unplaced.result tree e t s (returns-in_err-keep_unplaced-clause-fault c)
+
+pub returns-in_err-read_track-clause-only : goal.returns-in_err-read_track-clause-only
+returns-in_err-read_track-clause-only c = λ tree e t s. refused_rightly (box_seen c.args.moov) c.from_residual-in_err-read_track.result tree e t s (returns-in_err-read_track-clause-fault c)
+
+pub returns-in_err-trexes-clause-only : goal.returns-in_err-trexes-clause-only
+returns-in_err-trexes-clause-only c = λ tree e t s. refused_rightly (box_seen c.args.moov) c.from_residual-in_err-trexes.result tree e t s (returns-in_err-trexes-clause-fault c)
+
+pub returns-in_err-push-2-clause-only : goal.returns-in_err-push-2-clause-only
+returns-in_err-push-2-clause-only c =
+    λ tree e t s.
+    let p = err_from_is_err_and c.from_residual-in_err-push-2.result c.from_residual-in_err-push-2.ensures.1 in
+    rw p.1 p.2
+
+pub returns-in_default-clause-only : goal.returns-in_default-clause-only
+returns-in_default-clause-only c =
+    let h : Holds kinds.Movie (box_container (box_seen c.args.moov)) c.into_iter-child-iterator.result = rw c.into_iter-child-iterator.ensures.into_iter_gives c.in_ok-child-items.ensures.holds in
+    λ tree e t s. absurd (movie_no_header (box_seen c.args.moov) _ c.loop-child.child-iterator c.loop-child.header _ _ _ _ h c.loop-child.invariant.2 c.in-None.ensures.steps.0 (search rules))
+
+pub returns-in_err-child-items-clause-again : goal.returns-in_err-child-items-clause-again
+returns-in_err-child-items-clause-again c =
+    let p = err_from_is_err_and c.from_residual.result c.from_residual.ensures.1 in
+    again_refused (box_seen c.args.moov) c.from_residual.result p.0 p.1 (returns-in_err-child-items-clause-fault c)
+
+pub returns-in_err-read_movie_header-clause-again : goal.returns-in_err-read_movie_header-clause-again
+returns-in_err-read_movie_header-clause-again c =
+    let p = err_from_is_err_and c.from_residual-in_err-read_movie_header.result c.from_residual-in_err-read_movie_header.ensures.1 in
+    again_refused (box_seen c.args.moov) c.from_residual-in_err-read_movie_header.result p.0 p.1 (returns-in_err-read_movie_header-clause-fault c)
+
+pub returns-in_err-keep_unplaced-clause-again : goal.returns-in_err-keep_unplaced-clause-again
+returns-in_err-keep_unplaced-clause-again c =
+    let p = err_from_is_err_and c.from_residual-in_err-keep_unplaced.result c.from_residual-in_err-keep_unplaced.ensures.1 in
+    again_refused (box_seen c.args.moov) c.from_residual-in_err-keep_unplaced.result p.0 p.1 (returns-in_err-keep_unplaced-clause-fault c)
+
+pub returns-in_err-read_track-clause-again : goal.returns-in_err-read_track-clause-again
+returns-in_err-read_track-clause-again c =
+    let p = err_from_is_err_and c.from_residual-in_err-read_track.result c.from_residual-in_err-read_track.ensures.1 in
+    again_refused (box_seen c.args.moov) c.from_residual-in_err-read_track.result p.0 p.1 (returns-in_err-read_track-clause-fault c)
+
+pub returns-in_err-trexes-clause-again : goal.returns-in_err-trexes-clause-again
+returns-in_err-trexes-clause-again c =
+    let p = err_from_is_err_and c.from_residual-in_err-trexes.result c.from_residual-in_err-trexes.ensures.1 in
+    again_refused (box_seen c.args.moov) c.from_residual-in_err-trexes.result p.0 p.1 (returns-in_err-trexes-clause-fault c)
+
+pub returns-in_err-push-2-clause-again : goal.returns-in_err-push-2-clause-again
+returns-in_err-push-2-clause-again c =
+    let p = err_from_is_err_and c.from_residual-in_err-push-2.result c.from_residual-in_err-push-2.ensures.1 in
+    again_memory (box_seen c.args.moov) c.from_residual-in_err-push-2.result p.0 p.1 p.2
+
+pub returns-in_default-clause-again : goal.returns-in_default-clause-again
+returns-in_default-clause-again c =
+    let h : Holds kinds.Movie (box_container (box_seen c.args.moov)) c.into_iter-child-iterator.result = rw c.into_iter-child-iterator.ensures.into_iter_gives c.in_ok-child-items.ensures.holds in
+    λ movie tracks duration w i. absurd (movie_no_header (box_seen c.args.moov) _ c.loop-child.child-iterator c.loop-child.header _ _ _ _ h c.loop-child.invariant.2 c.in-None.ensures.steps.0 (search rules))
+
+pub returns-clause-again : goal.returns-clause-again
+returns-clause-again c = again_ok (box_seen c.args.moov) c.head_of.result (returns-clause-head c)

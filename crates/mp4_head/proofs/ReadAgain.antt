@@ -1,0 +1,70 @@
+-- What is said of a `moov` is its head, and a head that was written is read again.
+use Rattle.std.proofs.Common.{◌≡◌, ℕ, ◌+◌, List, ◌++◌, length, drop, refl, sym, ap, subst, ◌∙◌, arith, length-append}
+use Rattle.std.specs.Prelude.{codes, Result, Ok, Err, IfErr}
+use Rattle.std.specs.List.{AllZip}
+use Rattle.std.proofs.lemmas.List.{drop_at}
+use Rattle.byteorder.specs.Endian.{big_bytes}
+use Rattle.byteorder.specs.Numbers.{length-bytes_high_first}
+use Rattle.mp4_boxes.specs.Box.{Box}
+use Rattle.mp4_boxes.specs.Written.{box_bytes}
+use Rattle.mp4_boxes.specs.Places.{ruled}
+use Rattle.mp4_boxes.specs.declared.rule.Rule.TheVariants as rules
+use Rattle.mp4_boxes.specs.declared.refusal.Refusal.{Refusal}
+use Rattle.mp4_boxes.specs.declared.refusal.Refusal.TheVariants as refusals
+use Rattle.mp4_boxes.proofs.WrittenBoxes.{placed_box}
+use Rattle.mp4_head.specs.Head.{MovieHead, TrackHead}
+use Rattle.mp4_head.specs.Tree.{HasHead, MovieTree, IsMovieTree, head_of}
+use Rattle.mp4_head.specs.Seen.{head_seen}
+use Rattle.mp4_head.specs.Found.{SaysHead, IsFoundIn}
+use Rattle.mp4_head.specs.Normal.{IsWritable, IsWrittenMoov, ReadsAgain, normal_trexes}
+use Rattle.mp4_head.specs.Refuses.{RefusesIn, place_of}
+use Rattle.mp4_head.specs.Writing.{moov_bytes}
+use Rattle.mp4_head.specs.declared.heads.MovieHead as declared
+use Rattle.mp4_head.proofs.HeadExcludes.{refused_rightly}
+use Rattle.mp4_head.proofs.Trees.{movie_tree_one}
+use Rattle.mp4_head.proofs.WrittenHead.{head_again}
+use Rattle.mp4_head.proofs.WrittenMovie.{moov_content, moov_payload}
+
+-- what is said is what any tree of the `moov` says
+pub said_of : (b : Box) (head : declared.MovieHead) (m : MovieTree) → SaysHead b head → m.moov ≡ b → IsMovieTree m → (head_seen head ≡ head_of m) × AllZip IsFoundIn m.tracks head.tracks.items
+said_of b head m s e h =
+    let same = movie_tree_one s.has.tree m (s.has.is_moov ∙ sym e) s.has.is_tree h in
+    (s.has.says ∙ ap head_of same, subst (λ (t : MovieTree). AllZip IsFoundIn t.tracks head.tracks.items) same s.tracks)
+
+-- what stands behind the header of a box that was written
+behind_kind : (kind payload : List ℕ) → length kind ≡ 4 → drop 8 (box_bytes kind payload) ≡ payload
+behind_kind kind payload four =
+    drop_at (big_bytes 4 (8 + length payload) ++ kind) payload 8 (omega (arith, four, length-append (big_bytes 4 (8 + length payload)) kind, length-bytes_high_first 4 (8 + length payload)))
+
+behind_header : (movie : MovieHead) (tracks : List TrackHead) (duration : ℕ) → drop 8 (moov_bytes movie tracks duration) ≡ moov_payload movie tracks duration
+behind_header movie tracks duration = behind_kind (codes "moov") (moov_payload movie tracks duration) refl
+
+-- a `moov` that was written is the one whose head is known
+pub has_head : (b : Box) (movie : MovieHead) (tracks : List TrackHead) (duration : ℕ) → IsWritable movie tracks duration → IsWrittenMoov b movie tracks duration → HasHead b (record { movie = movie; tracks = tracks; trexes = normal_trexes tracks })
+has_head b movie tracks duration w i =
+    let kind = i.kind in
+    let header = i.header in
+    let payload = i.payload ∙ behind_header movie tracks duration in
+    let same : b ≡ placed_box b.offset (moov_content movie tracks duration) = λ j. record { kind = kind j; offset = b.offset; header = header j; payload = payload j } in
+    subst (λ (x : Box). HasHead x (record { movie = movie; tracks = tracks; trexes = normal_trexes tracks })) (sym same) (head_again movie tracks duration w b.offset)
+
+-- it is read
+pub again_ok : (b : Box) (head : declared.MovieHead) → SaysHead b head → ReadsAgain b (Ok head)
+again_ok b head s movie tracks duration w i =
+    let h = has_head b movie tracks duration w i in
+    (said_of b head h.tree s h.is_moov h.is_tree).0 ∙ sym h.says
+
+-- or refused for want of memory
+again_err : (b : Box) (result : Result declared.MovieHead Refusal) (r : Refusal) → result ≡ Err r → IfErr result (λ x. x ≡ refusals.Memory) → ReadsAgain b result
+again_err b (Ok head) r e q movie tracks duration w i = absurd cc
+again_err b (Err x) r e q movie tracks duration w i = q
+
+pub again_refused : (b : Box) (result : Result declared.MovieHead Refusal) (r : Refusal) → result ≡ Err r → IfErr result (RefusesIn (place_of (ruled rules.Movie) b)) → ReadsAgain b result
+again_refused b result r e q movie tracks duration w i =
+    let h = has_head b movie tracks duration w i in
+    again_err b result r e (refused_rightly b result h.tree h.is_moov h.is_tree h.is_sound q) movie tracks duration w i
+
+-- no memory was to be had
+pub again_memory : (b : Box) (result : Result declared.MovieHead Refusal) (r : Refusal) → result ≡ Err r → r ≡ refusals.Memory → ReadsAgain b result
+again_memory b (Ok head) r e m movie tracks duration w i = absurd cc
+again_memory b (Err x) r e m movie tracks duration w i = let same : x ≡ r = cc in same ∙ m
