@@ -1,3 +1,5 @@
+pub mod RunsTied
+pub mod RowsTied
 pub mod Comings
 pub mod PartsRead
 pub mod LeavesRead
