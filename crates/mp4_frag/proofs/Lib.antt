@@ -1,3 +1,4 @@
+pub mod GroupsTied
 pub mod RunsTied
 pub mod RowsTied
 pub mod Comings
