@@ -11,6 +11,7 @@ use Rattle.mp4_tables.specs.Repeated.{repeated, total}
 use Rattle.mp4_tables.specs.Timed.{padded, indexes}
 use Rattle.mp4_tables.specs.Accepted.{AreDistinct}
 use Rattle.mp4_tables.proofs.SampleLists.{NotIn, put_one, put_not_in, absent, put_there, put_beside, same_both, maps_length}
+use Rattle.mp4_frag.proofs.RowsTied.{both}
 use Rattle.mp4_frag.specs.Walks.{low_half, with_indexes, with_key, no_indexes}
 
 -- ---- one index in the map of a sample
@@ -240,3 +241,53 @@ groups_shown keys n gs h d differ few i =
     ap (λ (ls : List (List ℕ)). map (λ l. slice_index l i) (taken keys ls gs)) (sym (none_given keys 4))
     ∙ ap (λ (ls : List (List ℕ)). map (λ l. slice_index l i) ls) (all_taken keys (λ (key : GroupKey). []) gs h d)
     ∙ shown_at 4 i n (given (λ (key : GroupKey). []) gs) gs keys (λ key. ap (λ (l : List ℕ). slice_index l i) (given_is (λ (k : GroupKey). []) gs key differ) ∙ index_any n i key gs differ few)
+
+-- ---- what the rules say
+
+each_at : (P : Grouping → Type 0) (gs : List Grouping) → ((k : ℕ) (g : Grouping) → slice_get gs k ≡ Some g → P g) → AllByRecursion P gs
+each_at P [] h = tt
+each_at P (g ∷ gs) h = (h 0 g refl, each_at P gs (λ k other e. h (suc k) other e))
+
+not_any : (b : Bool) → IsTrue (not b) → b ≡ false
+not_any true h = absurd cc
+not_any false h = refl
+
+differ_from : (gs : List Grouping) → ((k : ℕ) (g : Grouping) → slice_get gs k ≡ Some g → list_any (λ (other : Grouping). same_key g.key other.key) (take k gs) ≡ false) → Differ gs
+differ_from [] h = tt
+differ_from (g ∷ gs) h = (
+      all_keys gs (each_at (λ (other : Grouping). same_key g.key other.key ≡ false) gs (λ k other e. same_both g.key other.key ∙ (or_parts (same_key other.key g.key) (list_any (λ (o : Grouping). same_key other.key o.key) (take k gs)) (h (suc k) other e)).0)),
+      differ_from gs (λ k other e. (or_parts (same_key other.key g.key) (list_any (λ (o : Grouping). same_key other.key o.key) (take k gs)) (h (suc k) other e)).1),
+    )
+  where
+    all_keys : (others : List Grouping) → AllByRecursion (λ (other : Grouping). same_key g.key other.key ≡ false) others → AllByRecursion (λ key. same_key g.key key ≡ false) (map (λ (other : Grouping). other.key) others)
+    all_keys [] a = tt
+    all_keys (o ∷ others) a = (a.0, all_keys others a.1)
+
+-- each `sbgp` of n samples keeps the rules, behind some keys
+abbrev pub KeepRules : ℕ → List Grouping → Type 0
+KeepRules n gs = (keys : List GroupKey) × ((rule : GroupRule) (k : ℕ) → IsTrue (group_test rule n keys gs k))
+
+pub rules_differ : (n : ℕ) (gs : List Grouping) → KeepRules n gs → Differ gs
+rules_differ n gs r = differ_from gs (λ k g e. let t : IsTrue (keeps one_of_key n r.0 (take k gs) g) = rw e at (r.1 one_of_key k) in not_any (list_any (λ (other : Grouping). same_key g.key other.key) (take k gs)) t)
+
+pub rules_few : (n : ℕ) (gs : List Grouping) → KeepRules n gs → AreFew n gs
+rules_few n gs r = each_at (λ (g : Grouping). total g.rows ≤ n) gs (λ k g e. let t : IsTrue (keeps group_counts n r.0 (take k gs) g) = rw e at (r.1 group_counts k) in search rules)
+
+abbrev AreSmall : List (ℕ × ℕ) → Type 0
+AreSmall rows = AllByRecursion (λ (row : ℕ × ℕ). row.1 ≤ max_index) rows
+
+small_from : (rows : List (ℕ × ℕ)) → IsTrue (list_all (λ (row : ℕ × ℕ). nat_le row.1 max_index) rows) → AreSmall rows
+small_from [] h = tt
+small_from (row ∷ rows) h = let p = both (nat_le row.1 max_index) (list_all (λ (r : ℕ × ℕ). nat_le r.1 max_index) rows) h in (search (rules, p.0), small_from rows p.1)
+
+pub rules_small : (n : ℕ) (gs : List Grouping) → KeepRules n gs → AllByRecursion (λ (g : Grouping). AreSmall g.rows) gs
+rules_small n gs r = each_at (λ (g : Grouping). AreSmall g.rows) gs (λ k g e. let t : IsTrue (keeps index_range n r.0 (take k gs) g) = rw e at (r.1 index_range k) in small_from g.rows t)
+
+-- indexes that have 16 bits
+pub low_alike : (rows : List (ℕ × ℕ)) → AreSmall rows → map low_half (repeated rows) ≡ repeated rows
+low_alike [] h = refl
+low_alike (row ∷ rows) h = row_alike row.0 row.1 (repeated rows) h.0 ∙ ap (λ more. replicate row.0 row.1 ++ more) (low_alike rows h.1)
+  where
+    row_alike : (count index : ℕ) (more : List ℕ) → index ≤ max_index → map low_half (replicate count index ++ more) ≡ replicate count index ++ map low_half more
+    row_alike zero index more le = refl
+    row_alike (suc count) index more le = let same : low_half index ≡ index = search rules in let others = row_alike count index more le in λ i. same i ∷ others i

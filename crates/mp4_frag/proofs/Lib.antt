@@ -1,3 +1,4 @@
+pub mod LeavesTied
 pub mod GroupsTied
 pub mod RunsTied
 pub mod RowsTied
