@@ -1,3 +1,4 @@
+pub mod Bounds
 pub mod LeavesTied
 pub mod GroupsTied
 pub mod RunsTied

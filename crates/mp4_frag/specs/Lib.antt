@@ -6,5 +6,6 @@ pub mod Reading
 pub mod States
 pub mod Views
 pub mod Walks
+pub mod Judged
 pub mod FragmentSamples
 pub mod FragmentRules
