@@ -1,3 +1,4 @@
+pub mod TrafsTied
 pub mod Bounds
 pub mod LeavesTied
 pub mod GroupsTied

@@ -196,7 +196,7 @@ parts_valid trexes moof before (traf ∷ trafs) x h =
 -- ---- trees
 
 -- the boxes in `traf`s
-trafs_of_bytes : (bs : List Box) (lists : List (List Box)) → AllByRecursion (λ (b : Box). AreBytes b.payload) bs → AreTrafs bs lists → AllByRecursion (AllByRecursion IsOfBytes) lists
+pub trafs_of_bytes : (bs : List Box) (lists : List (List Box)) → AllByRecursion (λ (b : Box). AreBytes b.payload) bs → AreTrafs bs lists → AllByRecursion (AllByRecursion IsOfBytes) lists
 trafs_of_bytes [] [] h z = tt
 trafs_of_bytes [] (boxes ∷ lists) h z = absurd z
 trafs_of_bytes (b ∷ bs) [] h z = tt
