@@ -15,7 +15,7 @@ use Rattle.mp4_boxes.specs.declared.rule.Rule.TheVariants as rules
 use Rattle.mp4_boxes.proofs.Each.{each_from, each_value, each_weaker}
 use Rattle.mp4_boxes.proofs.OfBytes.{IsOfBytes, signed_32, bytes_dropped, payload_of_bytes, payloads_of_bytes}
 use Rattle.mp4_boxes.proofs.Sound.{sound_one, sound_each}
-use Rattle.mp4_tables.specs.Groups.{GroupKey, groupings_of, maps_of}
+use Rattle.mp4_tables.specs.Groups.{GroupKey, Groups, groupings_of, maps_of}
 use Rattle.mp4_tables.specs.PlainSamples.{PlacedSample, with_groups}
 use Rattle.mp4_tables.specs.Timed.{timed}
 use Rattle.mp4_tables.specs.Accepted.{AreDistinct}
@@ -153,3 +153,118 @@ traf_other w L s b boxes trex more short holds good known own near within =
       ∙ ap (λ v. runs_coming (stand traf trex s.dts base v base lists) boxes more) own
       ∙ runs_passed L traf trex base more boxes short near s.dts base lists good.runs within,
     )
+
+-- ---- all `traf`s
+
+grouped_length : (maps : List Groups) (xs : List PlacedSample) → length (with_groups maps xs) ≡ length xs
+grouped_length [] [] = refl
+grouped_length [] (x ∷ xs) = refl
+grouped_length (m ∷ maps) [] = refl
+grouped_length (m ∷ maps) (x ∷ xs) = ap suc (grouped_length maps xs)
+
+up_to_base : (n : ℕ) (o : Option ℕ) → 2 ^ 64 ≤ n → IfSome o (λ at. at ≤ 2 ^ 64) → IfSome o (λ at. at ≤ n)
+up_to_base n None h f = tt
+up_to_base n (Some at) h f = omega arith
+
+-- what a walk and the definition both go by
+pub record IsReady (w : Walk) (L : ℕ) (trexes : List Trex) : Type 0 where
+  pub short : L < 2 ^ 64
+  pub moof : w.moof < 2 ^ 64
+  pub defaults : AreTrexesOf trexes w.tracks
+  pub few : length w.keys ≤ 4
+  pub distinct : AreDistinct w.keys
+
+-- the parts of the `traf`s of these boxes, behind data that ends at a place
+abbrev pub parts_at : Walk → List Trex → ℤ → List (List Box) → List Part
+parts_at w trexes at lists = parts_after trexes w.moof at (map track_fragment_of lists)
+
+-- they can be handed out
+pub record ArePlain (w : Walk) (L : ℕ) (trexes : List Trex) (at : ℤ) (lists : List (List Box)) : Type 0 where
+  pub good : AllByRecursion IsGoodTraf lists
+  pub known : AllByRecursion (λ (part : Part). IsTrue (is_known_among w.tracks part)) (parts_at w trexes at lists)
+  pub places : AllByRecursion (IsPlacedWithin L) (parts_at w trexes at lists)
+  pub groups : AllByRecursion IsGrouped (parts_at w trexes at lists)
+
+abbrev AllTied : Walk → ℕ → List Trex → List Box → List Box → Type 0
+AllTied w L trexes children trafs =
+    (lists : List (List Box)) (s : Reached) (n : ℕ) → AreTrafs trafs lists → ArePlain w L trexes s.at lists → IsUpTo n s.at → 2 ^ 64 ≤ n → n + 2 ^ 31 * length lists ≤ 2 ^ 99
+    → s.dts + duration_of (fragment_samples w.track (parts_at w trexes s.at lists)) < 2 ^ 64
+    → trafs_coming w s children ≡ timed w.keys s.dts (fragment_samples w.track (parts_at w trexes s.at lists))
+
+none_tied : (w : Walk) (L : ℕ) (trexes : List Trex) → AllTied w L trexes [] []
+none_tied w L trexes [] s n zip plain up big small fits = refl
+none_tied w L trexes (boxes ∷ lists) s n zip plain up big small fits = absurd zip
+
+-- of the first `traf` of some: its defaults, where its runs are counted from, its part, and where its data ends
+abbrev trex_at : List Trex → List Box → Trex
+trex_at trexes boxes = unwrap_or (trex_for trexes (track_fragment_of boxes).id) no_trex
+
+abbrev base_at : Walk → ℤ → List Box → ℤ
+base_at w at boxes = base_of w.moof at (track_fragment_of boxes)
+
+abbrev part_at : Walk → List Trex → ℤ → List Box → Part
+part_at w trexes at boxes = record {
+  id = (track_fragment_of boxes).id;
+  decode_time = (track_fragment_of boxes).decode_time;
+  runs = runs_samples (trex_at trexes boxes) (track_fragment_of boxes) (base_at w at boxes) (base_at w at boxes) (track_fragment_of boxes).runs;
+  groups = (track_fragment_of boxes).groups;
+}
+
+abbrev end_at : Walk → List Trex → ℤ → List Box → ℤ
+end_at w trexes at boxes = runs_end (trex_at trexes boxes) (track_fragment_of boxes) (base_at w at boxes) (base_at w at boxes) (track_fragment_of boxes).runs
+
+base_near : (w : Walk) (L : ℕ) (trexes : List Trex) (boxes : List Box) (at : ℤ) (n : ℕ) → IsReady w L trexes → IsGoodTraf boxes → IsUpTo n at → 2 ^ 64 ≤ n → IsUpTo n (base_at w at boxes)
+base_near w L trexes boxes at n ready good up big =
+    let short = ready.moof in
+    base_up_to n w.moof at (track_fragment_of boxes) (omega arith) (up_to_base n (track_fragment_of boxes).base_data_offset big good.base) up
+
+end_near : (w : Walk) (L : ℕ) (trexes : List Trex) (boxes : List Box) (at : ℤ) (n : ℕ) → IsReady w L trexes → IsGoodTraf boxes → IsPlacedWithin L (part_at w trexes at boxes) → IsUpTo n at → 2 ^ 64 ≤ n → IsUpTo (n + 2 ^ 31) (end_at w trexes at boxes)
+end_near w L trexes boxes at n ready good within up big =
+    let base = base_near w L trexes boxes at n ready good up big in
+    let short = ready.short in
+    let offsets = each_value (λ (c : Box). IsGoodRun c.payload) (λ (r : Run). IfSome r.data_offset (FitsSigned w32)) run_in (λ c g. g.1) (of_kind (codes "trun") boxes) good.runs in
+    runs_up_to n L (track_fragment_of boxes) (trex_at trexes boxes) (base_at w at boxes) (base_at w at boxes) (track_fragment_of boxes).runs (omega arith) offsets within base (up_to_more n (n + 2 ^ 31) (base_at w at boxes) (omega arith) base)
+
+-- a `traf` with those behind it, by whether it is the track's own
+tied_by : (w : Walk) (L : ℕ) (trexes : List Trex) (b : Box) (children trafs : List Box) (boxes : List Box) (lists : List (List Box)) (s : Reached) (n : ℕ) (v : Bool) → IsReady w L trexes
+    → ((track_fragment_of boxes).id == w.track) ≡ v → AllTied w L trexes children trafs → Holds rules.TrackFragment (box_container b) boxes → AreTrafs trafs lists → ArePlain w L trexes s.at (boxes ∷ lists)
+    → IsUpTo n s.at → 2 ^ 64 ≤ n → n + 2 ^ 31 * suc (length lists) ≤ 2 ^ 99
+    → s.dts + duration_of (flat_map part_samples (cond v (part_at w trexes s.at boxes ∷ parts_for w.track (parts_at w trexes (end_at w trexes s.at boxes) lists)) (parts_for w.track (parts_at w trexes (end_at w trexes s.at boxes) lists)))) < 2 ^ 64
+    → traf_coming w s b (λ t. trafs_coming w t children)
+    ≡ timed w.keys s.dts (flat_map part_samples (cond v (part_at w trexes s.at boxes ∷ parts_for w.track (parts_at w trexes (end_at w trexes s.at boxes) lists)) (parts_for w.track (parts_at w trexes (end_at w trexes s.at boxes) lists))))
+tied_by w L trexes b children trafs boxes lists s n true ready e others holds zip plain up big small fits =
+    let trex = trex_at trexes boxes in
+    let part = part_at w trexes s.at boxes in
+    let end = end_at w trexes s.at boxes in
+    let known = known_trex trexes w.tracks (track_fragment_of boxes).id ready.defaults plain.known.0 in
+    let near = up_to_near n (base_at w s.at boxes) (omega arith) (base_near w L trexes boxes s.at n ready plain.good.0 up big) in
+    let xs = flat_map (λ samples. samples) part.runs in
+    let later = fragment_samples w.track (parts_at w trexes end lists) in
+    let count = grouped_length (maps_of (length xs) part.groups) xs in
+    let kept : KeepRules (length xs) part.groups = subst (λ m. KeepRules m part.groups) count plain.groups.0 in
+    let lasts = duration_grouped (maps_of (length xs) part.groups) xs in
+    let sum = duration-append (part_samples part) later in
+    let first = traf_own w L s b boxes trex (λ t. trafs_coming w t children) (length xs) ready.short ready.few ready.distinct holds plain.good.0 known e near plain.places.0 kept (omega (arith, fits, sum, lasts)) in
+    let rest : ArePlain w L trexes end lists = record { good = plain.good.1; known = plain.known.1; places = plain.places.1; groups = plain.groups.1 } in
+    let behind = others lists (stand (track_fragment_of boxes) trex (s.dts + duration_of xs) end true (base_at w s.at boxes) first.0) (n + 2 ^ 31) zip rest (end_near w L trexes boxes s.at n ready plain.good.0 plain.places.0 up big) (omega arith) (omega arith) (omega (arith, fits, sum, lasts)) in
+    first.1 ∙ ap (λ (ss : List SampleAt). timed w.keys s.dts (part_samples part) ++ ss) (behind ∙ ap (λ m. timed w.keys (s.dts + m) later) (sym lasts))
+    ∙ sym (timed-append w.keys s.dts (part_samples part) later)
+tied_by w L trexes b children trafs boxes lists s n false ready e others holds zip plain up big small fits =
+    let trex = trex_at trexes boxes in
+    let end = end_at w trexes s.at boxes in
+    let known = known_trex trexes w.tracks (track_fragment_of boxes).id ready.defaults plain.known.0 in
+    let near = up_to_near n (base_at w s.at boxes) (omega arith) (base_near w L trexes boxes s.at n ready plain.good.0 up big) in
+    let first = traf_other w L s b boxes trex (λ t. trafs_coming w t children) ready.short holds plain.good.0 known e near plain.places.0 in
+    let rest : ArePlain w L trexes end lists = record { good = plain.good.1; known = plain.known.1; places = plain.places.1; groups = plain.groups.1 } in
+    first.1 ∙ others lists (stand (track_fragment_of boxes) trex s.dts end false (base_at w s.at boxes) first.0) (n + 2 ^ 31) zip rest (end_near w L trexes boxes s.at n ready plain.good.0 plain.places.0 up big) (omega arith) (omega arith) fits
+
+-- one more box of the `moof`
+tied_more : (w : Walk) (L : ℕ) (trexes : List Trex) (b : Box) (children trafs : List Box) (v : Bool) → IsReady w L trexes → bytes_eq (codes "traf") b.kind ≡ v → AllTied w L trexes children trafs → AllTied w L trexes (b ∷ children) (cond v (b ∷ trafs) trafs)
+tied_more w L trexes b children trafs false ready e others lists s n zip plain up big small fits = rw e (others lists s n zip plain up big small fits)
+tied_more w L trexes b children trafs true ready e others [] s n zip plain up big small fits = absurd zip
+tied_more w L trexes b children trafs true ready e others (boxes ∷ lists) s n zip plain up big small fits =
+    rw e (tied_by w L trexes b children trafs boxes lists s n ((track_fragment_of boxes).id == w.track) ready refl others zip.0 zip.1 plain up big small fits)
+
+pub trafs_tied : (w : Walk) (L : ℕ) (trexes : List Trex) (children : List Box) → IsReady w L trexes → AllTied w L trexes children (of_kind (codes "traf") children)
+trafs_tied w L trexes [] ready = none_tied w L trexes
+trafs_tied w L trexes (b ∷ children) ready = tied_more w L trexes b children (of_kind (codes "traf") children) (bytes_eq (codes "traf") b.kind) ready refl (trafs_tied w L trexes children ready)
