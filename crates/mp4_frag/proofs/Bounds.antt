@@ -1,6 +1,6 @@
 -- How far from the file the data of a `traf` can begin.
-use Rattle.std.proofs.Common.{◌≡◌, ℕ, zero, suc, ◌+◌, ◌-◌, ◌^◌, ◌<◌, ◌≤◌, Bool, true, false, cond, nat_le, List, [], ◌∷◌, Option, Some, None, IsTrue, refl, sym, ap, subst, ◌∙◌, rules, arith}
-use Rattle.std.specs.Prelude.{ℤ, pos, negsuc, ◌+ℤ◌, ◌≤ℤ◌, unwrap_or, IfSome, FitsSigned, map}
+use Rattle.std.proofs.Common.{◌≡◌, ℕ, suc, ◌+◌, ◌-◌, ◌^◌, ◌<◌, ◌≤◌, Bool, true, false, cond, nat_le, List, [], ◌∷◌, Option, Some, None, IsTrue, refl, sym, subst, ◌∙◌, rules, arith}
+use Rattle.std.specs.Prelude.{ℤ, pos, negsuc, ◌+ℤ◌, unwrap_or, IfSome, FitsSigned}
 use Rattle.std.specs.Int.{w32}
 use Rattle.std.proofs.Math.IntN.{sub_ℕ}
 use Rattle.std.specs.List.{AllByRecursion}
@@ -75,6 +75,7 @@ base_up_to n moof before traf h f b = choice traf.base_data_offset traf.base_is_
     based (Some at) is_moof = pos at
     based None true = pos moof
     based None false = before
+
     choice : (o : Option ℕ) (v : Bool) → IfSome o (λ at. at ≤ n) → IsUpTo n (based o v)
     choice (Some at) v g = g
     choice None true g = h

@@ -1,18 +1,17 @@
 -- The indexes that a walk takes from the `sbgp`s of a `traf` are the groups of its samples.
-use Rattle.std.proofs.Common.{◌≡◌, ℕ, zero, suc, ◌+◌, ◌-◌, ◌<◌, ◌≤◌, ◌==◌, ◌%◌, ◌^◌, Bool, true, false, not, cond, List, [], ◌∷◌, ◌++◌, length, take, drop, map, replicate, get_or, slice_index, Option, Some, None, refl, sym, ap, subst, ◌∙◌, rules, arith}
+use Rattle.std.proofs.Common.{◌≡◌, ℕ, zero, suc, ◌+◌, ◌-◌, ◌<◌, ◌≤◌, ◌==◌, Bool, true, false, not, cond, List, [], ◌∷◌, ◌++◌, length, take, map, replicate, get_or, slice_index, Option, Some, None, refl, sym, ap, subst, ◌∙◌, rules, arith}
 use Rattle.std.specs.Prelude.{min, nat_le, slice_set, IsTrue}
 use Rattle.std.specs.List.{AllByRecursion, list_any, list_all, slice_get, position_from}
 use Rattle.std.proofs.lemmas.Bool.{or_parts}
 use Rattle.std.proofs.lemmas.Bool.Decides.{nat_tests}
-use Rattle.mp4_boxes.specs.Bytes.{sum_of}
-use Rattle.mp4_tables.specs.Groups.{GroupKey, Grouping, Groups, GroupRule, one_of_key, index_range, group_counts, max_index, group_test, keeps, key_rank, same_key, index_at, put_group, put_indexes, maps_of}
+use Rattle.mp4_tables.specs.Groups.{GroupKey, Grouping, Groups, GroupRule, one_of_key, index_range, group_counts, max_index, group_test, keeps, same_key, index_at, put_indexes, maps_of}
 use Rattle.mp4_tables.specs.Keys.{key_place}
 use Rattle.mp4_tables.specs.Repeated.{repeated, total}
 use Rattle.mp4_tables.specs.Timed.{padded, indexes}
 use Rattle.mp4_tables.specs.Accepted.{AreDistinct}
 use Rattle.mp4_tables.proofs.SampleLists.{NotIn, put_one, put_not_in, absent, put_there, put_beside, same_both, maps_length}
 use Rattle.mp4_frag.proofs.RowsTied.{both}
-use Rattle.mp4_frag.specs.Walks.{low_half, with_indexes, with_key, no_indexes}
+use Rattle.mp4_frag.specs.Walks.{low_half, with_key, no_indexes}
 
 -- ---- one index in the map of a sample
 
@@ -255,9 +254,9 @@ not_any false h = refl
 differ_from : (gs : List Grouping) → ((k : ℕ) (g : Grouping) → slice_get gs k ≡ Some g → list_any (λ (other : Grouping). same_key g.key other.key) (take k gs) ≡ false) → Differ gs
 differ_from [] h = tt
 differ_from (g ∷ gs) h = (
-      all_keys gs (each_at (λ (other : Grouping). same_key g.key other.key ≡ false) gs (λ k other e. same_both g.key other.key ∙ (or_parts (same_key other.key g.key) (list_any (λ (o : Grouping). same_key other.key o.key) (take k gs)) (h (suc k) other e)).0)),
-      differ_from gs (λ k other e. (or_parts (same_key other.key g.key) (list_any (λ (o : Grouping). same_key other.key o.key) (take k gs)) (h (suc k) other e)).1),
-    )
+  all_keys gs (each_at (λ (other : Grouping). same_key g.key other.key ≡ false) gs (λ k other e. same_both g.key other.key ∙ (or_parts (same_key other.key g.key) (list_any (λ (o : Grouping). same_key other.key o.key) (take k gs)) (h (suc k) other e)).0)),
+  differ_from gs (λ k other e. (or_parts (same_key other.key g.key) (list_any (λ (o : Grouping). same_key other.key o.key) (take k gs)) (h (suc k) other e)).1),
+)
   where
     all_keys : (others : List Grouping) → AllByRecursion (λ (other : Grouping). same_key g.key other.key ≡ false) others → AllByRecursion (λ key. same_key g.key key ≡ false) (map (λ (other : Grouping). other.key) others)
     all_keys [] a = tt

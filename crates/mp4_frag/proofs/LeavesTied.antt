@@ -1,19 +1,19 @@
 -- What a walk takes from the boxes of a `traf` is what the definition reads of them.
-use Rattle.std.proofs.Common.{◌≡◌, ℕ, ◌+◌, ◌≤◌, ◌==◌, ◌||◌, Bool, true, false, cond, List, [], ◌∷◌, length, map, drop, Option, Some, None, refl, sym, ap, subst, ◌∙◌, arith}
+use Rattle.std.proofs.Common.{◌≡◌, ℕ, ◌+◌, ◌≤◌, ◌==◌, ◌||◌, Bool, true, false, cond, List, [], ◌∷◌, map, Some, refl, sym, ap, ◌∙◌, arith}
 use Rattle.std.specs.Prelude.{ℤ, codes, bytes_eq, unwrap_or}
 use Rattle.std.specs.List.{AllByRecursion}
 use Rattle.std.proofs.lemmas.Slice.Eq.{bytes_eq-Decides}
-use Rattle.mp4_boxes.specs.Bytes.{rows, width_of}
+use Rattle.mp4_boxes.specs.Bytes.{rows}
 use Rattle.mp4_boxes.specs.Box.{Box}
 use Rattle.mp4_boxes.specs.Children.{count_among, of_kind, payload_if, payload_of}
-use Rattle.mp4_boxes.specs.Layout.{tfhd, sbgp, fields, version, row_count, IsReadable}
+use Rattle.mp4_boxes.specs.Layout.{tfhd, sbgp, IsReadable}
 use Rattle.mp4_tables.specs.Groups.{GroupKey, Grouping, grouping_of, groupings_of, key_of, max_index}
 use Rattle.mp4_tables.specs.Keys.{key_place}
 use Rattle.mp4_tables.specs.Repeated.{repeated}
-use Rattle.mp4_tables.specs.Rows.{run_of, runs_at}
+use Rattle.mp4_tables.specs.Rows.{runs_at}
 use Rattle.mp4_frag.specs.Fragments.{TrackFragment, track_fragment_of}
 use Rattle.mp4_frag.specs.FragmentSamples.{base_of}
-use Rattle.mp4_frag.specs.Walks.{Walk, Reached, low_half, indexes_of, can_read, with_key, with_group, with_head, with_leaf, with_leaves, head_of, trex_among}
+use Rattle.mp4_frag.specs.Walks.{Walk, Reached, low_half, indexes_of, with_key, with_group, with_head, with_leaves, head_of, trex_among}
 use Rattle.mp4_frag.specs.declared.heads.Inherited.{Inherited}
 use Rattle.mp4_frag.specs.declared.trex.Trex.{Trex}
 use Rattle.mp4_frag.proofs.LeavesRead.{read}
@@ -84,7 +84,7 @@ with_one_head w traf trex dts at base to own inherited (b ∷ boxes) lists n h =
         → ((ls : List (List ℕ)) → with_head w (before_it dts at base inherited ls) (unwrap_or (cond u (Some b.payload) (payload_if (codes "tfhd") boxes)) []) ≡ stand traf trex dts to own to ls)
         → ((ls : List (List ℕ)) → count_among (codes "tfhd" ∷ []) boxes ≡ 0 → with_leaves w (stand traf trex dts to own to ls) boxes ≡ stand traf trex dts to own to (groups_taken w.keys ls (of_kind (codes "sbgp") boxes)))
         → ((ls : List (List ℕ)) → count_among (codes "tfhd" ∷ []) boxes ≡ 1 → ((more : List (List ℕ)) → with_head w (before_it dts at base inherited more) (payload_of (codes "tfhd") boxes) ≡ stand traf trex dts to own to more)
-            → with_leaves w (before_it dts at base inherited ls) boxes ≡ stand traf trex dts to own to (groups_taken w.keys ls (of_kind (codes "sbgp") boxes)))
+        → with_leaves w (before_it dts at base inherited ls) boxes ≡ stand traf trex dts to own to (groups_taken w.keys ls (of_kind (codes "sbgp") boxes)))
         → with_leaves w (cond u (with_head w (before_it dts at base inherited lists) b.payload) (cond v (before_it dts at base inherited (with_group w.keys lists b.payload)) (before_it dts at base inherited lists))) boxes
         ≡ stand traf trex dts to own to (groups_taken w.keys lists (cond v (b ∷ of_kind (codes "sbgp") boxes) (of_kind (codes "sbgp") boxes)))
     choice true true e f m k alone later =

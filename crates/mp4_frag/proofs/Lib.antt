@@ -1,3 +1,5 @@
+pub mod BoxesMoved
+pub mod MoofTied
 pub mod TrafsTied
 pub mod Bounds
 pub mod LeavesTied

@@ -1,10 +1,9 @@
 -- The samples of the runs of a `traf` as a walk hands them out are those of the definition, with times and groups.
-use Rattle.std.proofs.Common.{◌≡◌, ℕ, zero, suc, ◌+◌, ◌-◌, ◌^◌, ◌<◌, ◌≤◌, ◌&&◌, ◌==◌, nat_le, IsTrue, Bool, true, false, cond, List, [], ◌∷◌, ◌++◌, length, drop, map, Option, Some, None, refl, sym, ap, subst, ◌∙◌, rules, arith, length-append}
-use Rattle.std.specs.Prelude.{ℤ, pos, negsuc, ◌+ℤ◌, unwrap_or, IfSome, FitsSigned, flat_map, codes, bytes_eq}
+use Rattle.std.proofs.Common.{◌≡◌, ℕ, zero, suc, ◌+◌, ◌-◌, ◌^◌, ◌<◌, ◌≤◌, ◌&&◌, ◌==◌, nat_le, IsTrue, Bool, true, false, cond, List, [], ◌∷◌, ◌++◌, length, drop, map, Option, Some, None, refl, sym, ap, ◌∙◌, rules, arith, length-append}
+use Rattle.std.specs.Prelude.{ℤ, pos, negsuc, IfSome, FitsSigned, flat_map, codes, bytes_eq}
 use Rattle.std.specs.Int.{w32}
 use Rattle.std.specs.List.{AllByRecursion}
 use Rattle.std.proofs.lemmas.List.{drop-drop, append_assoc}
-use Rattle.mp4_boxes.specs.Bytes.{sum_of, width_of}
 use Rattle.mp4_boxes.specs.Box.{Box}
 use Rattle.mp4_boxes.specs.Children.{of_kind}
 use Rattle.mp4_boxes.specs.Layout.{trun, version, flags, row_count, run_offsets, too_large, IsSound}
@@ -16,12 +15,12 @@ use Rattle.mp4_frag.specs.ColumnsRead.{rows_from}
 use Rattle.mp4_frag.specs.Fragments.{RunRow, Run, TrackFragment, run_of, run_rows}
 use Rattle.mp4_frag.specs.FragmentSamples.{run_samples, run_start, runs_samples, runs_end, end_of_data, duration_of}
 use Rattle.mp4_frag.specs.FragmentRules.{is_within}
-use Rattle.mp4_frag.specs.Passing.{within_from, end_from, lasting, IsNearer}
-use Rattle.mp4_frag.specs.Walks.{Reached, held, begin, rows_of, rows_coming, run_coming, runs_coming, end_held, can_read}
+use Rattle.mp4_frag.specs.Passing.{lasting, IsNearer}
+use Rattle.mp4_frag.specs.Walks.{Reached, begin, rows_of, rows_coming, run_coming, runs_coming, end_held, can_read}
 use Rattle.mp4_frag.specs.declared.trex.Trex.{Trex}
 use Rattle.mp4_frag.proofs.LeavesRead.{read, first_taken, second_taken}
 use Rattle.mp4_frag.proofs.SamplesOfRows.{within_is, lasting_is, end_is}
-use Rattle.mp4_frag.proofs.RowsTied.{both, rows_alike, rows_tied, end_tied, AreShown, shown_later, stand, size_of, lasts_of}
+use Rattle.mp4_frag.proofs.RowsTied.{rows_alike, rows_tied, end_tied, AreShown, shown_later, stand, size_of, lasts_of}
 
 -- ---- one run
 
@@ -175,6 +174,7 @@ none_more keys L traf trex base more dts at lists maps good shown within fits =
     no_samples : (ms : List Groups) → with_groups ms [] ≡ []
     no_samples [] = refl
     no_samples (m ∷ ms) = refl
+
     no_lists : (ls : List (List ℕ)) → ls ≡ map (drop 0) ls
     no_lists [] = refl
     no_lists (l ∷ ls) = ap (λ (rest : List (List ℕ)). l ∷ rest) (no_lists ls)

@@ -1,10 +1,9 @@
 -- The samples of the `traf`s of a `moof` as a walk hands them out are those of the definition.
-use Rattle.std.proofs.Common.{◌≡◌, ℕ, zero, suc, ◌+◌, ◌-◌, ◌*◌, ◌^◌, ◌<◌, ◌≤◌, ◌==◌, Bool, true, false, cond, List, [], ◌∷◌, ◌++◌, length, drop, map, Option, Some, None, IsTrue, refl, sym, ap, subst, ◌∙◌, rules, arith}
-use Rattle.std.specs.Prelude.{slice_index, ℤ, pos, ◌+ℤ◌, codes, bytes_eq, unwrap_or, option_map, is_some, find, filter, flat_map, IfSome, FitsSigned}
+use Rattle.std.proofs.Common.{◌≡◌, ℕ, suc, ◌+◌, ◌*◌, ◌^◌, ◌<◌, ◌≤◌, ◌==◌, Bool, true, false, cond, List, [], ◌∷◌, ◌++◌, length, drop, map, Option, Some, None, IsTrue, refl, sym, ap, subst, ◌∙◌, arith}
+use Rattle.std.specs.Prelude.{slice_index, ℤ, codes, bytes_eq, unwrap_or, option_map, is_some, find, flat_map, IfSome, FitsSigned}
 use Rattle.std.specs.Int.{w32}
-use Rattle.std.specs.List.{AllByRecursion, AllZip}
+use Rattle.std.specs.List.{AllByRecursion}
 use Rattle.std.proofs.lemmas.Bool.Decides.{nat_tests}
-use Rattle.std.proofs.lemmas.List.{append_assoc}
 use Rattle.byteorder.specs.Endian.{twos_complement}
 use Rattle.mp4_boxes.specs.Bytes.{AreBytes}
 use Rattle.mp4_boxes.specs.Box.{Box, box_container}
@@ -15,14 +14,14 @@ use Rattle.mp4_boxes.specs.declared.rule.Rule.TheVariants as rules
 use Rattle.mp4_boxes.proofs.Each.{each_from, each_value, each_weaker}
 use Rattle.mp4_boxes.proofs.OfBytes.{IsOfBytes, signed_32, bytes_dropped, payload_of_bytes, payloads_of_bytes}
 use Rattle.mp4_boxes.proofs.Sound.{sound_one, sound_each}
-use Rattle.mp4_tables.specs.Groups.{GroupKey, Groups, groupings_of, maps_of}
+use Rattle.mp4_tables.specs.Groups.{Groups, maps_of}
 use Rattle.mp4_tables.specs.PlainSamples.{PlacedSample, with_groups}
 use Rattle.mp4_tables.specs.Timed.{timed}
 use Rattle.mp4_tables.specs.Accepted.{AreDistinct}
 use Rattle.mp4_tables.specs.Leaves.{boxes_of}
 use Rattle.mp4_tables.specs.declared.sample.SampleAt.{SampleAt}
 use Rattle.mp4_tables.proofs.LeafLists.{boxes_are}
-use Rattle.mp4_frag.specs.Fragments.{TrackFragment, Run, AreTrafs, column, run_of, track_fragment_of}
+use Rattle.mp4_frag.specs.Fragments.{TrackFragment, Run, AreTrafs, column, track_fragment_of}
 use Rattle.mp4_frag.specs.FragmentSamples.{Part, trex_for, no_trex, base_of, runs_samples, runs_end, parts_after, parts_for, part_samples, fragment_samples, duration_of}
 use Rattle.mp4_frag.specs.FragmentRules.{is_within}
 use Rattle.mp4_frag.specs.Judged.{AreTrexesOf, is_known_among, IsPlacedWithin, IsGrouped}
@@ -132,8 +131,8 @@ traf_own w L s b boxes trex more n short few distinct holds good known own near 
     let shown : AreShown w.keys lists (maps_of n traf.groups) = λ i. ap (λ (ls : List (List ℕ)). map (λ l. slice_index l i) ls) same ∙ groups_shown w.keys n traf.groups few distinct (rules_differ n traf.groups rules_kept) (rules_few n traf.groups rules_kept) i in (
       map (drop (length (samples_inside traf trex base boxes))) lists,
       opened w s b boxes trex more holds good known
-      ∙ ap (λ v. runs_coming (stand traf trex s.dts base v base lists) boxes more) own
-      ∙ runs_tied w.keys L traf trex base more boxes short near s.dts base lists (maps_of n traf.groups) good.runs shown within fits,
+          ∙ ap (λ v. runs_coming (stand traf trex s.dts base v base lists) boxes more) own
+          ∙ runs_tied w.keys L traf trex base more boxes short near s.dts base lists (maps_of n traf.groups) good.runs shown within fits,
     )
 
 -- one of another track is passed
@@ -150,8 +149,8 @@ traf_other w L s b boxes trex more short holds good known own near within =
     let lists = groups_taken w.keys no_indexes (of_kind (codes "sbgp") boxes) in (
       lists,
       opened w s b boxes trex more holds good known
-      ∙ ap (λ v. runs_coming (stand traf trex s.dts base v base lists) boxes more) own
-      ∙ runs_passed L traf trex base more boxes short near s.dts base lists good.runs within,
+          ∙ ap (λ v. runs_coming (stand traf trex s.dts base v base lists) boxes more) own
+          ∙ runs_passed L traf trex base more boxes short near s.dts base lists good.runs within,
     )
 
 -- ---- all `traf`s
