@@ -1,3 +1,4 @@
+pub mod RunsPassed
 pub mod BoxesMoved
 pub mod MoofTied
 pub mod TrafsTied

@@ -7,5 +7,6 @@ pub mod States
 pub mod Views
 pub mod Walks
 pub mod Judged
+pub mod RunsJudged
 pub mod FragmentSamples
 pub mod FragmentRules
