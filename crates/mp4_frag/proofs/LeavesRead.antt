@@ -113,10 +113,10 @@ rows_taken payload inside end run first h k r =
     run_rows_in_part payload inside end run.rows run.count 1 run.bits h k r.room
     ∙ (λ i. run_rows (count i) 1 (bits i) (drop (rows i) (part_of payload inside end)))
 
-first_taken : (a b : Bool) (x y z : List SampleAt) → a ≡ true → b ≡ true → cond a (cond b x y) z ≡ x
+pub first_taken : (a b : Bool) (x y z : List SampleAt) → a ≡ true → b ≡ true → cond a (cond b x y) z ≡ x
 first_taken a b x y z e f = rw (e, f) refl
 
-second_taken : (a b : Bool) (x y z : List SampleAt) → a ≡ true → b ≡ false → cond a (cond b x y) z ≡ y
+pub second_taken : (a b : Bool) (x y z : List SampleAt) → a ≡ true → b ≡ false → cond a (cond b x y) z ≡ y
 second_taken a b x y z e f = rw (e, f) refl
 
 -- the samples of one of the walk's own track

@@ -1,3 +1,12 @@
+pub mod RunsPassed
+pub mod BoxesMoved
+pub mod MoofTied
+pub mod TrafsTied
+pub mod Bounds
+pub mod LeavesTied
+pub mod GroupsTied
+pub mod RunsTied
+pub mod RowsTied
 pub mod Comings
 pub mod PartsRead
 pub mod LeavesRead

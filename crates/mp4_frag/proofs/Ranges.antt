@@ -35,7 +35,7 @@ value_choice c columns bits bytes zero false h more = tt
 value_choice c columns bits bytes (suc k) false h more = more bytes k h
 
 -- the number of a column is below what its width can't hold, if it is there
-value_below : (columns : List Column) (bits : ℕ) (bytes : List ℕ) (k : ℕ) → AreBytes bytes → IfSome (column (column_values bits columns bytes) k) (λ n. n < 256 ^ slice_index (map (λ (c : Column). c.width) columns) k)
+pub value_below : (columns : List Column) (bits : ℕ) (bytes : List ℕ) (k : ℕ) → AreBytes bytes → IfSome (column (column_values bits columns bytes) k) (λ n. n < 256 ^ slice_index (map (λ (c : Column). c.width) columns) k)
 value_below [] bits bytes k h = tt
 value_below (c ∷ columns) bits bytes k h = value_choice c columns bits bytes k (has bits c.flag) h (λ rest j r. value_below columns bits rest j r)
 
@@ -196,7 +196,7 @@ parts_valid trexes moof before (traf ∷ trafs) x h =
 -- ---- trees
 
 -- the boxes in `traf`s
-trafs_of_bytes : (bs : List Box) (lists : List (List Box)) → AllByRecursion (λ (b : Box). AreBytes b.payload) bs → AreTrafs bs lists → AllByRecursion (AllByRecursion IsOfBytes) lists
+pub trafs_of_bytes : (bs : List Box) (lists : List (List Box)) → AllByRecursion (λ (b : Box). AreBytes b.payload) bs → AreTrafs bs lists → AllByRecursion (AllByRecursion IsOfBytes) lists
 trafs_of_bytes [] [] h z = tt
 trafs_of_bytes [] (boxes ∷ lists) h z = absurd z
 trafs_of_bytes (b ∷ bs) [] h z = tt

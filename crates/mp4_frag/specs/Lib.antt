@@ -6,5 +6,7 @@ pub mod Reading
 pub mod States
 pub mod Views
 pub mod Walks
+pub mod Judged
+pub mod RunsJudged
 pub mod FragmentSamples
 pub mod FragmentRules

@@ -1,10 +1,11 @@
 //! A `moof`, checked behind what came before it (ISO/IEC 14496-12, 8.8).
 ghost use Rattle.std.specs.Prelude.{◌≡◌, ◌+◌, ◌*◌, ◌^◌, ◌<◌, ◌≤◌, ◌==◌, length, find, slice_get, None, IfOk, IfErr, IfSome};
-ghost use Rattle.mp4_boxes.specs.Box.{box_container};
-ghost use Rattle.mp4_boxes.specs.BoxFaults.{IsChildFault};
+ghost use Rattle.mp4_boxes.specs.Box.{Tiles, box_container};
+ghost use Rattle.mp4_boxes.specs.BoxFaults.{IsChildFault, fault_of};
 ghost use Rattle.mp4_boxes.specs.declared.rule.Rule.TheVariants as rules;
 ghost use Rattle.mp4_boxes.specs.View.{box_seen};
-ghost use Rattle.mp4_frag.specs.Passing.{IsNearer, is_late_at, start_with, due_with};
+ghost use Rattle.mp4_frag.specs.Passing.{IsNear, IsNearer, is_late_at, start_with, due_with};
+ghost use Rattle.mp4_frag.specs.RunsJudged.{children_of, runs_in, AreRunsSound, all_end, runs_total, runs_lasting, RunsFail};
 ghost use Rattle.mp4_frag.specs.States.{HaveRoom};
 ghost use Rattle.mp4_frag.specs.Views.{moof_seen};
 ghost use Rattle.mp4_frag.specs.declared.state.TrackState.{TrackState};
@@ -30,7 +31,9 @@ pub(crate) const TRUN: FourCc = FourCc(*b"trun");
 pub(crate) const SBGP: FourCc = FourCc(*b"sbgp");
 
 // A fault of this box.
-fn fault(kind: Kind, named: BoxView) -> Fault {
+fn fault(kind: Kind, named: BoxView) -> Fault
+    ensures { result ≡ fault_of kind (box_seen named.entry) }
+{
     Fault::new(kind, named.kind(), named.offset())
 }
 
@@ -85,6 +88,12 @@ fn check_runs<L: Ledger>(
     requires base { IsNearer judged.base }
     ensures few { IfOk result (λ p. p.count + room.new ≡ room.old) }
     ensures duration { IfOk result (λ p. p.duration ≤ 2 ^ 32 * p.count) }
+    ensures near { IfOk result (λ p. IsNear p.at) }
+    ensures sound { IfOk result (λ p. AreRunsSound judged.file_len judged.inherited judged.base judged.base (runs_in (box_seen traf.entry))) }
+    ensures end { IfOk result (λ p. p.at ≡ all_end judged.inherited judged.base judged.base (runs_in (box_seen traf.entry))) }
+    ensures count { IfOk result (λ p. p.count ≡ runs_total (runs_in (box_seen traf.entry))) }
+    ensures lasting { IfOk result (λ p. p.duration ≡ runs_lasting judged.inherited (runs_in (box_seen traf.entry))) }
+    ensures fault { IfErr result (λ f. Tiles (box_container (box_seen traf.entry)) (children_of (box_seen traf.entry)) → RunsFail judged.file_len judged.inherited judged.base judged.base room.old (runs_in (box_seen traf.entry)) f) }
 {
     let mut passed = Passed {
         at: judged.base,

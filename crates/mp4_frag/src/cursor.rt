@@ -27,8 +27,14 @@ impl<'a> Model for FragCursor<'a> {
 }
 
 impl<'a> FragCursor<'a> {
-    ghost use Rattle.std.specs.Prelude.{◌≡◌};
+    ghost use Rattle.std.specs.Prelude.{ℕ, List, ◌≡◌, ◌+◌, ◌^◌, ◌<◌};
     ghost use Rattle.mp4_boxes.specs.View.{box_seen};
+    ghost use Rattle.mp4_tables.specs.Accepted.{AreDistinct};
+    ghost use Rattle.mp4_tables.specs.Timed.{timed};
+    ghost use Rattle.mp4_frag.specs.Fragments.{FragmentTree};
+    ghost use Rattle.mp4_frag.specs.FragmentSamples.{duration_of};
+    ghost use Rattle.mp4_frag.specs.Judged.{AreTrexesOf, IsSoundMoof, samples_of_track};
+    ghost use Rattle.mp4_frag.specs.declared.trex.Trex.{Trex};
     ghost use Rattle.mp4_frag.specs.PlacesIn.{IsPlaceIn};
     ghost use Rattle.mp4_frag.specs.Views.{moof_seen};
     ghost use Rattle.mp4_frag.specs.Walks.{samples_coming, samples_in};
@@ -46,6 +52,8 @@ impl<'a> FragCursor<'a> {
         ensures moof { result.moof ≡ (moof_seen view.now).offset }
         ensures tracks { result.tracks ≡ tracks.now }
         ensures samples { samples_coming result ≡ samples_in (moof_seen view.now) tracks.now track dts (keys_seen keys) }
+        ensures definition { (file_length : ℕ) (trexes : List Trex) (t : FragmentTree) → t.moof ≡ moof_seen view.now → IsSoundMoof file_length trexes tracks.now t → AreTrexesOf trexes tracks.now → AreDistinct (keys_seen keys)
+            → dts + duration_of (samples_of_track trexes track t) < 2 ^ 64 → samples_coming result ≡ timed (keys_seen keys) dts (samples_of_track trexes track t) }
     {
         let moof = view.moof();
         let place = settle(

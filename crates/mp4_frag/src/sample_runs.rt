@@ -182,6 +182,7 @@ pub(crate) fn check_run<L: Ledger>(
     ensures fault { IfErr result (IsRunFault judged.file_len judged.inherited judged.base passed.at room.old payload.now) }
     ensures few { IfOk result (λ p. p.count + room.new ≡ passed.count + room.old) }
     ensures duration { IfOk result (λ p. p.duration ≤ 2 ^ 32 * p.count) }
+    ensures more { IfOk result (λ p. (passed.count ≤ p.count) × (passed.duration ≤ p.duration)) }
     ensures cost { IfOk result (λ p. steps.new + passed.count ≤ steps.old + p.count) }
 {
     let run = read_run(payload)?;

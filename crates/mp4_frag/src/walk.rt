@@ -1,5 +1,6 @@
 //! A walk over the samples of a track in a `moof`, from place to place.
 ghost use Rattle.std.specs.Prelude.{ℕ, List, ◌≡◌, ◌+◌, ◌-◌, ◌<◌, ◌≤◌, ◌∷◌, [], length, drop, slice_get, unwrap_or, pos, ◌+ℤ◌, option_map, None, Some, Ok, IfSome, MatchOption, IsErr, false};
+ghost use Rattle.mp4_boxes.specs.Bytes.{AreBytes};
 ghost use Rattle.mp4_boxes.specs.Box.{header_at};
 ghost use Rattle.mp4_tables.specs.Keys.{keys_seen};
 ghost use Rattle.mp4_tables.specs.Tables.{composition_offset};
@@ -304,6 +305,7 @@ pub(crate) fn settle(
     place: FragPlace,
 ) -> FragPlace
     requires { LiesIn payload.now place }
+    ensures bytes { AreBytes payload.now }
     ensures place { IsPlaceIn payload.now result }
     ensures same { (result.track ≡ place.track) × (result.keys ≡ place.keys) }
     ensures on { place.passed ≤ result.passed }

@@ -1,0 +1,82 @@
+-- How far from the file the data of a `traf` can begin.
+use Rattle.std.proofs.Common.{◌≡◌, ℕ, suc, ◌+◌, ◌-◌, ◌^◌, ◌<◌, ◌≤◌, Bool, true, false, cond, nat_le, List, [], ◌∷◌, Option, Some, None, IsTrue, refl, sym, subst, ◌∙◌, rules, arith}
+use Rattle.std.specs.Prelude.{ℤ, pos, negsuc, ◌+ℤ◌, unwrap_or, IfSome, FitsSigned}
+use Rattle.std.specs.Int.{w32}
+use Rattle.std.proofs.Math.IntN.{sub_ℕ}
+use Rattle.std.specs.List.{AllByRecursion}
+use Rattle.mp4_tables.specs.TableRules.{lies_within}
+use Rattle.mp4_frag.specs.Fragments.{RunRow, Run, TrackFragment}
+use Rattle.mp4_frag.specs.FragmentSamples.{run_samples, run_start, runs_samples, runs_end, end_of_data, base_of}
+use Rattle.mp4_frag.specs.FragmentRules.{is_within}
+use Rattle.mp4_frag.specs.Passing.{IsNearer, within_from, end_from}
+use Rattle.mp4_frag.specs.declared.trex.Trex.{Trex}
+use Rattle.mp4_frag.proofs.SamplesOfRows.{within_is, end_is}
+use Rattle.mp4_frag.proofs.RowsTied.{both}
+
+-- numbers that are no more than so far from 0
+abbrev pub IsUpTo : ℕ → ℤ → Type 0
+IsUpTo n (pos k) = k ≤ n
+IsUpTo n (negsuc k) = suc k ≤ n
+
+pub up_to_more : (n m : ℕ) (z : ℤ) → n ≤ m → IsUpTo n z → IsUpTo m z
+up_to_more n m (pos k) h b = omega arith
+up_to_more n m (negsuc k) h b = omega arith
+
+pub up_to_near : (n : ℕ) (z : ℤ) → n ≤ 2 ^ 99 → IsUpTo n z → IsNearer z
+up_to_near n (pos k) h b = let le : k ≤ 2 ^ 99 = omega arith in (search rules, search rules)
+up_to_near n (negsuc k) h b = let le : suc k ≤ 2 ^ 99 = omega arith in (search rules, search rules)
+
+less_up_to : (n a b : ℕ) → a ≤ n → b ≤ n → IsUpTo n (sub_ℕ a b)
+less_up_to n a b h k = choice (nat_le (suc a) b) refl
+  where
+    choice : (v : Bool) → nat_le (suc a) b ≡ v → IsUpTo n (cond v (negsuc (b - suc a)) (pos (a - b)))
+    choice true e = let le : suc a ≤ b = search rules in omega arith
+    choice false e = omega arith
+
+pub up_to_offset : (n : ℕ) (z o : ℤ) → FitsSigned w32 o → IsUpTo n z → IsUpTo (n + 2 ^ 31) (z +ℤ o)
+up_to_offset n (pos k) (pos m) f b = let c : m < 2 ^ 31 = search rules in omega arith
+up_to_offset n (pos k) (negsuc m) f b = let c : m < 2 ^ 31 = search rules in less_up_to (n + 2 ^ 31) k (suc m) (omega arith) (omega arith)
+up_to_offset n (negsuc k) (pos m) f b = let c : m < 2 ^ 31 = search rules in less_up_to (n + 2 ^ 31) m (suc k) (omega arith) (omega arith)
+up_to_offset n (negsuc k) (negsuc m) f b = let c : m < 2 ^ 31 = search rules in omega arith
+
+-- a sample in the file ends in it
+up_to_end : (n L size : ℕ) (at : ℤ) → L ≤ n → lies_within L at size ≡ true → IsUpTo n (at +ℤ pos size)
+up_to_end n L size (pos k) h lies = let le : k + size ≤ L = search rules in omega arith
+up_to_end n L size (negsuc k) h lies = absurd cc
+
+rows_up_to : (n L size : ℕ) (at : ℤ) (rows : List RunRow) → L ≤ n → within_from L size at rows ≡ true → IsUpTo n at → IsUpTo n (end_from size at rows)
+rows_up_to n L size at [] h within b = b
+rows_up_to n L size at (row ∷ rows) h within b =
+    let one = unwrap_or row.size size in
+    let parts = both (lies_within L at one) (within_from L size (at +ℤ pos one) rows) within in
+    rows_up_to n L size (at +ℤ pos one) rows h parts.1 (up_to_end n L one at h parts.0)
+
+start_up_to : (n : ℕ) (base before : ℤ) (offset : Option ℤ) → IfSome offset (FitsSigned w32) → IsUpTo n base → IsUpTo (n + 2 ^ 31) before → IsUpTo (n + 2 ^ 31) (run_start base before offset)
+start_up_to n base before None f b c = c
+start_up_to n base before (Some offset) f b c = up_to_offset n base offset f b
+
+-- where the data of runs ends
+pub runs_up_to : (n L : ℕ) (traf : TrackFragment) (trex : Trex) (base before : ℤ) (runs : List Run) → L ≤ n → AllByRecursion (λ (r : Run). IfSome r.data_offset (FitsSigned w32)) runs
+    → AllByRecursion (λ samples. IsTrue (is_within L samples)) (runs_samples trex traf base before runs) → IsUpTo n base → IsUpTo (n + 2 ^ 31) before → IsUpTo (n + 2 ^ 31) (runs_end trex traf base before runs)
+runs_up_to n L traf trex base before [] h f within b c = c
+runs_up_to n L traf trex base before (run ∷ runs) h f within b c =
+    let size = unwrap_or traf.size trex.size in
+    let start = run_start base before run.data_offset in
+    let inside : within_from L size start run.rows ≡ true = sym (within_is L trex traf run.first_sample_flags start run.rows) ∙ within.0 in
+    let end = rows_up_to (n + 2 ^ 31) L size start run.rows (omega arith) inside (start_up_to n base before run.data_offset f.0 b c) in
+    let same = end_is trex traf run.first_sample_flags start run.rows in
+    runs_up_to n L traf trex base (end_of_data start (run_samples trex traf run.first_sample_flags start run.rows)) runs h f.1 within.1 b (subst (IsUpTo (n + 2 ^ 31)) (sym same) end)
+
+-- where the runs of a `traf` are counted from
+pub base_up_to : (n moof : ℕ) (before : ℤ) (traf : TrackFragment) → moof ≤ n → IfSome traf.base_data_offset (λ at. at ≤ n) → IsUpTo n before → IsUpTo n (base_of moof before traf)
+base_up_to n moof before traf h f b = choice traf.base_data_offset traf.base_is_moof f
+  where
+    based : Option ℕ → Bool → ℤ
+    based (Some at) is_moof = pos at
+    based None true = pos moof
+    based None false = before
+
+    choice : (o : Option ℕ) (v : Bool) → IfSome o (λ at. at ≤ n) → IsUpTo n (based o v)
+    choice (Some at) v g = g
+    choice None true g = h
+    choice None false g = b

@@ -1,0 +1,162 @@
+-- The samples of a run as a walk hands them out are those of the definition, with times and groups.
+use Rattle.std.proofs.Common.{◌≡◌, ℕ, zero, suc, ◌+◌, ◌-◌, ◌^◌, ◌<◌, ◌≤◌, ◌&&◌, ◌%◌, Bool, true, false, leb, List, [], ◌∷◌, ◌++◌, length, drop, map, Option, Some, None, get_or, refl, sym, ap, ◌∙◌, rules, arith}
+use Rattle.std.specs.Prelude.{ℤ, pos, negsuc, ◌+ℤ◌, unwrap_or, option_map, IfSome, slice_index}
+use Rattle.std.proofs.lemmas.Bool.{leb-false, or_parts}
+use Rattle.std.proofs.lemmas.List.{get_or-drop, drop-drop}
+use Rattle.mp4_boxes.specs.Bytes.{width_of}
+use Rattle.mp4_boxes.specs.Layout.{column_values, sample_columns, present, run_offsets, too_large}
+use Rattle.mp4_tables.specs.Groups.{GroupKey, Groups}
+use Rattle.mp4_tables.specs.PlainSamples.{PlacedSample, with_groups}
+use Rattle.mp4_tables.specs.TableRules.{lies_within}
+use Rattle.mp4_tables.specs.Tables.{composition_offset}
+use Rattle.mp4_tables.specs.Timed.{indexes, place_of, sample_at, timed}
+use Rattle.mp4_tables.specs.declared.sample.SampleAt.{SampleAt}
+use Rattle.mp4_frag.specs.Fragments.{RunRow, TrackFragment, column, run_rows}
+use Rattle.mp4_frag.specs.FragmentSamples.{inherited, flags_of, run_samples}
+use Rattle.mp4_frag.specs.Passing.{within_from, end_from, lasting}
+use Rattle.mp4_frag.specs.Reading.{inheritance}
+use Rattle.mp4_frag.specs.Walks.{Reached, capped, held, first_byte, sample_of, rows_coming, end_held}
+use Rattle.mp4_frag.specs.declared.trex.Trex.{Trex}
+use Rattle.mp4_frag.proofs.SamplesOfRows.{inherited_is}
+
+-- ---- composition offsets of version 0
+
+first_small : (o : Option ℕ) (os : List (Option ℕ)) → too_large (o ∷ os) ≡ false → IfSome o (λ n. n < 2 ^ 31) × (too_large os ≡ false)
+first_small None os e = (tt, e)
+first_small (Some n) os e = let p = or_parts (leb (2 ^ 31) n) (too_large os) e in (leb-false (2 ^ 31) n p.0, p.1)
+
+offset_alike : (o : Option ℕ) → IfSome o (λ n. n < 2 ^ 31) → option_map (composition_offset 1) o ≡ option_map (composition_offset 0) o
+offset_alike None h = refl
+offset_alike (Some n) h = ap Some (search rules)
+
+-- offsets that are small are the same with a sign and without
+pub rows_alike : (n bits : ℕ) (bytes : List ℕ) → too_large (run_offsets n bits bytes) ≡ false → run_rows n 1 bits bytes ≡ run_rows n 0 bits bytes
+rows_alike zero bits bytes e = refl
+rows_alike (suc n) bits bytes e =
+    let width = width_of (present bits sample_columns) in
+    let values = column_values bits sample_columns bytes in
+    let p = first_small (column values 3) (run_offsets n bits (drop width bytes)) e in
+    let offset = offset_alike (column values 3) p.0 in
+    let more = rows_alike n bits (drop width bytes) p.1 in
+    λ i. record { duration = column values 0; size = column values 1; flags = column values 2; offset = offset i } ∷ more i
+
+-- ---- numbers that are held
+
+-- two tests that both pass
+pub both : (a b : Bool) → (a && b) ≡ true → (a ≡ true) × (b ≡ true)
+both true b e = (refl, e)
+both false b e = absurd cc
+
+-- a sample in the file
+pub in_file : (L size : ℕ) (at : ℤ) → L < 2 ^ 64 → lies_within L at size ≡ true → (held (at +ℤ pos size) ≡ at +ℤ pos size) × (first_byte at ≡ place_of at)
+in_file L size (pos n) short lies =
+    let le : n + size ≤ L = search rules in
+    let low : n + size ≤ 2 ^ 127 - 1 = omega arith in
+    let small : n < 2 ^ 64 = omega arith in
+    (search rules, search rules)
+in_file L size (negsuc n) short lies = absurd cc
+
+-- a time in 64 bits
+pub in_time : (time : ℕ) → time < 2 ^ 64 → capped time ≡ time
+in_time time h = search rules
+
+-- ---- groups
+
+-- the indexes to come are those of these groups
+abbrev pub AreShown : List GroupKey → List (List ℕ) → List Groups → Type 0
+AreShown keys lists maps = (i : ℕ) → map (λ l. slice_index l i) lists ≡ indexes keys (get_or maps i [])
+
+later_lists : (k i : ℕ) (lists : List (List ℕ)) → map (λ l. slice_index l i) (map (drop k) lists) ≡ map (λ l. slice_index l (k + i)) lists
+later_lists k i [] = refl
+later_lists k i (l ∷ lists) = let one = get_or-drop k l i 0 in let more = later_lists k i lists in λ j. one j ∷ more j
+
+-- so are the later ones
+pub shown_later : (keys : List GroupKey) (k : ℕ) (lists : List (List ℕ)) (maps : List Groups) → AreShown keys lists maps → AreShown keys (map (drop k) lists) (drop k maps)
+shown_later keys k lists maps h i = later_lists k i lists ∙ h (k + i) ∙ ap (indexes keys) (sym (get_or-drop k maps i []))
+
+none_grouped : (samples : List PlacedSample) → with_groups [] samples ≡ samples
+none_grouped [] = refl
+none_grouped (s ∷ samples) = refl
+
+first_grouped : (maps : List Groups) (s : PlacedSample) (samples : List PlacedSample) → s.groups ≡ [] → with_groups maps (s ∷ samples) ≡ record s { groups = get_or maps 0 [] } ∷ with_groups (drop 1 maps) samples
+first_grouped [] s samples e = let rest = none_grouped samples in λ i. record s { groups = e i } ∷ sym rest i
+first_grouped (m ∷ maps) s samples e = refl
+
+-- ---- rows
+
+-- what goes for the samples of a `traf`
+abbrev pub stand : TrackFragment → Trex → ℕ → ℤ → Bool → ℤ → List (List ℕ) → Reached
+stand traf trex dts at own base lists = record { dts = dts; at = at; is_own = own; base = base; inherited = inheritance traf trex; indexes = lists }
+
+abbrev pub size_of : TrackFragment → Trex → ℕ
+size_of traf trex = unwrap_or traf.size trex.size
+
+abbrev pub lasts_of : TrackFragment → Trex → ℕ
+lasts_of traf trex = unwrap_or traf.duration trex.duration
+
+flags_alike : (first own head : Option ℕ) (last : ℕ) → flags_of first own None (unwrap_or head last) ≡ flags_of first own head last
+flags_alike (Some flags) own head last = refl
+flags_alike None own head last = ap (λ n. n % 2 ^ 28) (inherited_is own None (unwrap_or head last) ∙ sym (inherited_is own head last))
+
+no_lists_passed : (lists : List (List ℕ)) → lists ≡ map (drop 0) lists
+no_lists_passed [] = refl
+no_lists_passed (l ∷ lists) = ap (λ (ls : List (List ℕ)). l ∷ ls) (no_lists_passed lists)
+
+lists_passed : (k : ℕ) (lists : List (List ℕ)) → map (drop k) (map (drop 1) lists) ≡ map (drop (suc k)) lists
+lists_passed k [] = refl
+lists_passed k (l ∷ lists) = let next : 1 + k ≡ suc k = omega arith in let one : drop k (drop 1 l) ≡ drop (suc k) l = drop-drop k 1 l ∙ ap (λ n. drop n l) next in let more = lists_passed k lists in λ i. one i ∷ more i
+
+-- the sample of a row
+sample_tied : (keys : List GroupKey) (L : ℕ) (traf : TrackFragment) (trex : Trex) (dts : ℕ) (at : ℤ) (own : Bool) (base : ℤ) (lists : List (List ℕ)) (first : Option ℕ) (row : RunRow) (maps : List Groups)
+    → L < 2 ^ 64 → AreShown keys lists maps → lies_within L at (unwrap_or row.size (size_of traf trex)) ≡ true
+    → sample_of (stand traf trex dts at own base lists) first row
+    ≡ sample_at keys dts (record { duration = inherited row.duration traf.duration trex.duration; offset = unwrap_or row.offset (pos 0); flags = flags_of first row.flags traf.flags trex.flags; description = unwrap_or traf.description trex.description; at = at; size = inherited row.size traf.size trex.size; groups = get_or maps 0 [] })
+sample_tied keys L traf trex dts at own base lists first row maps short shown lies =
+    let duration = sym (inherited_is row.duration traf.duration trex.duration) in
+    let size = sym (inherited_is row.size traf.size trex.size) in
+    let flags = flags_alike first row.flags traf.flags trex.flags in
+    let there = (in_file L (unwrap_or row.size (size_of traf trex)) at short lies).1 in
+    let groups = shown 0 in
+    λ i. record { dts = dts; duration = duration i; cto = unwrap_or row.offset (pos 0); flags = flags i; description = unwrap_or traf.description trex.description; at = there i; size = size i; groups = groups i }
+
+-- the samples of rows, and what comes behind them
+pub rows_tied : (keys : List GroupKey) (L : ℕ) (traf : TrackFragment) (trex : Trex) (dts : ℕ) (at : ℤ) (own : Bool) (base : ℤ) (lists : List (List ℕ)) (first : Option ℕ) (rows : List RunRow) (maps : List Groups) (more : Reached → List SampleAt)
+    → L < 2 ^ 64 → AreShown keys lists maps → within_from L (size_of traf trex) at rows ≡ true → dts + lasting (lasts_of traf trex) rows < 2 ^ 64
+    → rows_coming (stand traf trex dts at own base lists) first rows more
+    ≡ timed keys dts (with_groups maps (run_samples trex traf first at rows)) ++ more (stand traf trex (dts + lasting (lasts_of traf trex) rows) (end_from (size_of traf trex) at rows) own base (map (drop (length rows)) lists))
+rows_tied keys L traf trex dts at own base lists first [] maps more short shown within fits =
+    let none : with_groups maps [] ≡ [] = no_samples maps in
+    let time : dts ≡ dts + 0 = omega arith in
+    let same = no_lists_passed lists in
+    (λ i. more (stand traf trex (time i) at own base (same i))) ∙ ap (λ (ss : List PlacedSample). timed keys dts ss ++ more (stand traf trex (dts + 0) at own base (map (drop 0) lists))) (sym none)
+  where
+    no_samples : (ms : List Groups) → with_groups ms [] ≡ []
+    no_samples [] = refl
+    no_samples (m ∷ ms) = refl
+rows_tied keys L traf trex dts at own base lists first (row ∷ rows) maps more short shown within fits =
+    let size = unwrap_or row.size (size_of traf trex) in
+    let lasts = unwrap_or row.duration (lasts_of traf trex) in
+    let parts = both (lies_within L at size) (within_from L (size_of traf trex) (at +ℤ pos size) rows) within in
+    let one = sample_tied keys L traf trex dts at own base lists first row maps short shown parts.0 in
+    let time : capped (dts + lasts) ≡ dts + lasts = in_time (dts + lasts) (omega arith) in
+    let place = (in_file L size at short parts.0).0 in
+    let whole : dts + lasts + lasting (lasts_of traf trex) rows ≡ dts + (lasts + lasting (lasts_of traf trex) rows) = omega arith in
+    let passed = lists_passed (length rows) lists in
+    let duration = inherited_is row.duration traf.duration trex.duration in
+    let width = inherited_is row.size traf.size trex.size in
+    let others = rows_tied keys L traf trex (dts + lasts) (at +ℤ pos size) own base (map (drop 1) lists) None rows (drop 1 maps) more short (shown_later keys 1 lists maps shown) parts.1 (omega arith) in
+    let grouped = first_grouped maps (record { duration = inherited row.duration traf.duration trex.duration; offset = unwrap_or row.offset (pos 0); flags = flags_of first row.flags traf.flags trex.flags; description = unwrap_or traf.description trex.description; at = at; size = inherited row.size traf.size trex.size; groups = [] })
+    (run_samples trex traf None (at +ℤ pos (inherited row.size traf.size trex.size)) rows) refl in
+    (λ i. one i ∷ rows_coming (stand traf trex (time i) (place i) own base (map (drop 1) lists)) None rows more)
+    ∙ (λ i. one 1 ∷ others i)
+    ∙ (λ i. one 1 ∷ (timed keys (dts + sym duration i) (with_groups (drop 1 maps) (run_samples trex traf None (at +ℤ pos (sym width i)) rows)) ++ more (stand traf trex (whole i) (end_from (size_of traf trex) (at +ℤ pos size) rows) own base (passed i))))
+    ∙ ap (λ (ss : List PlacedSample). timed keys dts ss ++ more (stand traf trex (dts + (lasts + lasting (lasts_of traf trex) rows)) (end_from (size_of traf trex) (at +ℤ pos size) rows) own base (map (drop (suc (length rows))) lists))) (sym grouped)
+
+-- where the data of rows in a file ends
+pub end_tied : (L size : ℕ) (at : ℤ) (rows : List RunRow) → L < 2 ^ 64 → within_from L size at rows ≡ true → end_held size at rows ≡ end_from size at rows
+end_tied L size at [] short within = refl
+end_tied L size at (row ∷ rows) short within =
+    let one = unwrap_or row.size size in
+    let parts = both (lies_within L at one) (within_from L size (at +ℤ pos one) rows) within in
+    let place = (in_file L one at short parts.0).0 in
+    ap (λ (to : ℤ). end_held size to rows) place ∙ end_tied L size (at +ℤ pos one) rows short parts.1
