@@ -1,3 +1,9 @@
+pub mod Comings
+pub mod PartsRead
+pub mod LeavesRead
+pub mod RowsLeft
+pub mod BoxPlaces
+pub mod IndexPlaces
 pub mod SamplesOfRows
 pub mod RunsRead
 pub mod RunRows

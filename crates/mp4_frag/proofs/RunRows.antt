@@ -1,15 +1,15 @@
 -- The rows of a run from one to the next.
-use Rattle.std.proofs.Common.{◌≡◌, ℕ, suc, ◌+◌, ◌-◌, ◌*◌, ◌<◌, ◌≤◌, List, [], ◌∷◌, drop, Bool, true, false, ◌||◌, ◌&&◌, ◌^◌, nat_le, Option, Some, None, refl, sym, ap, ◌∙◌, to_z, of_z, rules, arith}
-use Rattle.std.specs.Prelude.{option_map, unwrap_or, ℤ, pos, negsuc, ◌+ℤ◌}
+use Rattle.std.proofs.Common.{◌≡◌, ℕ, suc, ◌+◌, ◌-◌, ◌*◌, ◌<◌, ◌≤◌, List, [], ◌∷◌, drop, Bool, true, false, ◌||◌, ◌^◌, nat_le, Option, Some, None, refl, sym, ap, ◌∙◌, to_z, of_z, rules, arith}
+use Rattle.std.specs.Prelude.{unwrap_or, ℤ, pos, negsuc, ◌+ℤ◌}
 use Rattle.mp4_tables.specs.TableRules.{lies_within}
 use Rattle.std.specs.Int.{w128}
 use Rattle.std.proofs.lemmas.Int.{to_z-of_z}
 use Rattle.std.proofs.lemmas.List.{drop-drop}
-use Rattle.mp4_boxes.specs.Layout.{column_values, sample_columns, run_offsets, too_large}
+use Rattle.mp4_boxes.specs.Layout.{column_values, sample_columns, too_large}
 use Rattle.mp4_frag.specs.ColumnsRead.{row_room}
-use Rattle.mp4_frag.specs.Fragments.{RunRow, run_rows, run_row_of}
+use Rattle.mp4_frag.specs.Fragments.{RunRow}
 use Rattle.mp4_frag.specs.Reading.{row_values}
-use Rattle.mp4_frag.specs.Passing.{rows_left, offsets_left, bytes_left, row_seen, run_version, IsNear, IsNearer, within_from, end_from, lasting}
+use Rattle.mp4_frag.specs.Passing.{rows_left, offsets_left, bytes_left, row_seen, IsNear, IsNearer, within_from, end_from, lasting}
 use Rattle.mp4_frag.specs.declared.rows.Row.{Row}
 use Rattle.mp4_frag.specs.declared.runs.Run.{Run}
 

@@ -1,6 +1,6 @@
 -- Tracks with room for samples.
-use Rattle.std.proofs.Common.{◌≡◌, ℕ, ◌+◌, ◌*◌, ◌^◌, ◌<◌, ◌≤◌, List, [], ◌∷◌, length, drop, slice_set, slice_index_or, Bool, true, zero, suc, refl, rules, arith}
-use Rattle.std.specs.List.{AllByRecursion, slice_get}
+use Rattle.std.proofs.Common.{◌≡◌, ℕ, ◌<◌, ◌≤◌, List, [], ◌∷◌, length, drop, slice_set, slice_index_or, Bool, true, zero, suc, refl, rules, arith}
+use Rattle.std.specs.List.{slice_get}
 use Rattle.std.specs.Prelude.{find}
 use Rattle.mp4_boxes.proofs.Each.{each_weaker}
 use Rattle.mp4_frag.specs.States.{HasRoom, HaveRoom}

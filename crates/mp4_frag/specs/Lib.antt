@@ -5,5 +5,6 @@ pub mod PlacesIn
 pub mod Reading
 pub mod States
 pub mod Views
+pub mod Walks
 pub mod FragmentSamples
 pub mod FragmentRules

@@ -1,8 +1,8 @@
 -- What is read of the leaves of a `traf`, as plain numbers.
-use Rattle.std.specs.Prelude.{◌≡◌, ℕ, ◌+◌, ◌*◌, ◌≤◌, List, [], ◌∷◌, length, drop, Bool, Option, None, unwrap_or, ℤ, option_map, slice_index, nat_eq}
+use Rattle.std.specs.Prelude.{◌≡◌, ℕ, ◌+◌, ◌*◌, ◌≤◌, List, [], ◌∷◌, length, drop, Option, None, unwrap_or, option_map, slice_index, nat_eq}
 use Rattle.byteorder.specs.Endian.{twos_complement}
 use Rattle.mp4_boxes.specs.Bytes.{width_of}
-use Rattle.mp4_boxes.specs.Layout.{Column, has, flags, version, fields, column_values, leaf_fields, tfhd, tfdt, trun, sbgp, row_count, tfhd_columns, trun_columns, default_base_is_moof, IsReadable}
+use Rattle.mp4_boxes.specs.Layout.{has, flags, version, fields, column_values, leaf_fields, tfhd, trun, sbgp, row_count, tfhd_columns, trun_columns, default_base_is_moof, IsReadable}
 use Rattle.mp4_tables.specs.Groups.{key_of}
 use Rattle.mp4_tables.specs.Keys.{key_seen}
 use Rattle.mp4_tables.specs.Rows.{runs_at}

@@ -3,7 +3,7 @@ use crate::places::FragPlace;
 use crate::state::TrackState;
 use crate::view::FragView;
 use crate::walk::{first_place, pass_sample, sample_here, settle};
-use mp4_tables::{Keys, SampleAt};
+use mp4_tables::{Keys, SampleAt, Samples};
 use std::marker::Model;
 
 /// The samples of a track in a `moof` from a place on.
@@ -31,6 +31,8 @@ impl<'a> FragCursor<'a> {
     ghost use Rattle.mp4_boxes.specs.View.{box_seen};
     ghost use Rattle.mp4_frag.specs.PlacesIn.{IsPlaceIn};
     ghost use Rattle.mp4_frag.specs.Views.{moof_seen};
+    ghost use Rattle.mp4_frag.specs.Walks.{samples_coming, samples_in};
+    ghost use Rattle.mp4_tables.specs.Keys.{keys_seen};
 
     /// The walk from the first sample of the track with this ID on, at this decode time.
     pub fn start(
@@ -41,7 +43,9 @@ impl<'a> FragCursor<'a> {
         keys: Keys,
     ) -> FragCursor<'a>
         ensures payload { result.payload ≡ (moof_seen view.now).payload }
+        ensures moof { result.moof ≡ (moof_seen view.now).offset }
         ensures tracks { result.tracks ≡ tracks.now }
+        ensures samples { samples_coming result ≡ samples_in (moof_seen view.now) tracks.now track dts (keys_seen keys) }
     {
         let moof = view.moof();
         let place = settle(
@@ -74,9 +78,20 @@ impl<'a> FragCursor<'a> {
     {
         self.place
     }
+}
+
+impl<'a> Samples for FragCursor<'a> {
+    ghost use Rattle.std.specs.Prelude.{◌≡◌, ◌≤◌};
+    ghost use Rattle.std.proofs.Common.{refl, ◌∙◌};
+    ghost use Rattle.std.proofs.Math.Nat.{le_refl, le_trans};
+    ghost use Rattle.mp4_frag.specs.Walks.{samples_coming};
+
+    ghost rest = { samples_coming };
+
+    ghost follows = { λ s t. (t.payload ≡ s.payload) × (t.moof ≡ s.moof) × (t.tracks ≡ s.tracks) × (s.place.passed ≤ t.place.passed) };
 
     #[inline]
-    pub fn peek(&self) -> Option<SampleAt> {
+    fn peek(&self) -> Option<SampleAt> {
         if self.place.run.left > 0 {
             Some(sample_here(self.payload, &self.place))
         } else {
@@ -85,7 +100,7 @@ impl<'a> FragCursor<'a> {
     }
 
     #[inline]
-    pub fn next(&mut self) -> Option<SampleAt> {
+    fn next(&mut self) -> Option<SampleAt> {
         if self.place.run.left > 0 {
             let sample = sample_here(self.payload, &self.place);
             self.place = pass_sample(self.payload, self.moof, self.tracks, &self.place);
@@ -94,4 +109,8 @@ impl<'a> FragCursor<'a> {
             None
         }
     }
+
+    ghost follows_itself = { λ s. (refl, refl, refl, le_refl _) };
+
+    ghost follows_on = { λ s t u p q. (q.0 ∙ p.0, q.1 ∙ p.1, q.2 ∙ p.2, le_trans p.3 q.3) };
 }

@@ -119,7 +119,9 @@ pub(crate) fn what_is_inherited(head: Head, trex: Trex) -> Inherited
 }
 
 // Before the first `traf`.
-pub(crate) fn nothing_inherited() -> Inherited {
+pub(crate) fn nothing_inherited() -> Inherited
+    ensures { result ≡ record { description = 0; duration = 0; size = 0; flags = 0 } }
+{
     Inherited {
         description: 0,
         duration: 0,

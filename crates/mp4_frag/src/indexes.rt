@@ -1,6 +1,12 @@
 //! The indexes of samples in the `sbgp`s of their `traf` (ISO/IEC 14496-12, 8.9.2).
-ghost use Rattle.std.specs.Prelude.{ℕ, List, ◌+◌, ◌*◌, ◌≤◌, length};
-ghost use Rattle.mp4_frag.specs.PlacesIn.{IsIndexPlace, AreIndexPlaces};
+ghost use Rattle.std.specs.Prelude.{ℕ, List, ◌≡◌, ◌+◌, ◌*◌, ◌≤◌, length, map, drop, slice_index};
+ghost use Rattle.mp4_tables.specs.Repeated.{repeated};
+ghost use Rattle.mp4_tables.specs.Rows.{runs_at};
+ghost use Rattle.mp4_frag.specs.PlacesIn.{HasIndexRows, IsIndexPlace, AreIndexPlaces};
+ghost use Rattle.mp4_frag.specs.Walks.{all_indexes, with_indexes};
+ghost use Rattle.mp4_frag.specs.Walks.{indexes_here as indexes_left};
+ghost use Rattle.mp4_frag.specs.Walks.{low_half as low_half_of};
+ghost use Rattle.mp4_frag.specs.Walks.{no_indexes as no_lists};
 
 use crate::groups::Group;
 use crate::places::{IndexPlace, IndexPlaces};
@@ -16,7 +22,8 @@ const NONE: IndexPlace = IndexPlace {
 
 // No `sbgp` of any key.
 pub(crate) fn no_indexes() -> IndexPlaces
-    ensures { (payload : List ℕ) → AreIndexPlaces payload result }
+    ensures place { (payload : List ℕ) → AreIndexPlaces payload result }
+    ensures none { (payload : List ℕ) → all_indexes payload result ≡ no_lists }
 {
     IndexPlaces {
         first: NONE,
@@ -28,15 +35,18 @@ pub(crate) fn no_indexes() -> IndexPlaces
 
 // An index, which has 16 bits.
 #[inline]
-fn low_half(index: u32) -> u16 {
+fn low_half(index: u32) -> u16
+    ensures { result ≡ low_half_of index }
+{
     (index % 65_536) as u16
 }
 
 // Passes rows until an index is left.
 #[inline]
 fn settle(payload: &[u8], place: IndexPlace) -> IndexPlace
-    requires { IsIndexPlace payload.now place }
-    ensures { IsIndexPlace payload.now result }
+    requires { HasIndexRows payload.now place }
+    ensures place { IsIndexPlace payload.now result }
+    ensures same { indexes_left payload.now result ≡ indexes_left payload.now place }
 {
     let mut place = place;
     while place.left == 0 && place.rows > 0 {
@@ -53,7 +63,8 @@ fn settle(payload: &[u8], place: IndexPlace) -> IndexPlace
 // The rows of an `sbgp` whose payload begins at a place.
 pub(crate) fn first_index(payload: &[u8], inside: usize, group: Group) -> IndexPlace
     requires { inside + group.rows + 8 * group.count ≤ length payload.now }
-    ensures { IsIndexPlace payload.now result }
+    ensures place { IsIndexPlace payload.now result }
+    ensures is { indexes_left payload.now result ≡ map low_half_of (repeated (runs_at payload.now (record { place = inside + group.rows; count = group.count }))) }
 {
     settle(
         payload,
@@ -68,7 +79,8 @@ pub(crate) fn first_index(payload: &[u8], inside: usize, group: Group) -> IndexP
 
 // The places with the rows of the key at this place among the track's.
 pub(crate) fn with_index(places: IndexPlaces, j: u8, place: IndexPlace) -> IndexPlaces
-    ensures { (payload : List ℕ) → AreIndexPlaces payload places → IsIndexPlace payload place → AreIndexPlaces payload result }
+    ensures place { (payload : List ℕ) → AreIndexPlaces payload places → IsIndexPlace payload place → AreIndexPlaces payload result }
+    ensures is { (payload : List ℕ) → all_indexes payload result ≡ with_indexes (all_indexes payload places) j (indexes_left payload place) }
 {
     match j {
         0 => IndexPlaces {
@@ -92,7 +104,9 @@ pub(crate) fn with_index(places: IndexPlaces, j: u8, place: IndexPlace) -> Index
 
 // The index in hand: 0 behind the last row.
 #[inline]
-fn index_here(place: IndexPlace) -> u16 {
+fn index_here(place: IndexPlace) -> u16
+    ensures { (payload : List ℕ) → IsIndexPlace payload place → result ≡ slice_index (indexes_left payload place) 0 }
+{
     if place.left > 0 { place.index } else { 0 }
 }
 
@@ -100,7 +114,8 @@ fn index_here(place: IndexPlace) -> u16 {
 #[inline]
 fn pass_index(payload: &[u8], place: IndexPlace) -> IndexPlace
     requires { IsIndexPlace payload.now place }
-    ensures { IsIndexPlace payload.now result }
+    ensures place { IsIndexPlace payload.now result }
+    ensures next { indexes_left payload.now result ≡ drop 1 (indexes_left payload.now place) }
 {
     if place.left == 0 {
         return place;
@@ -116,7 +131,9 @@ fn pass_index(payload: &[u8], place: IndexPlace) -> IndexPlace
 
 // The indexes in hand.
 #[inline]
-pub(crate) fn indexes_here(places: &IndexPlaces) -> [u16; 4] {
+pub(crate) fn indexes_here(places: &IndexPlaces) -> [u16; 4]
+    ensures { (payload : List ℕ) → AreIndexPlaces payload places.now → result ≡ map (λ indexes. slice_index indexes 0) (all_indexes payload places.now) }
+{
     [
         index_here(places.first),
         index_here(places.second),
@@ -129,7 +146,8 @@ pub(crate) fn indexes_here(places: &IndexPlaces) -> [u16; 4] {
 #[inline]
 pub(crate) fn pass_indexes(payload: &[u8], places: &IndexPlaces) -> IndexPlaces
     requires { AreIndexPlaces payload.now places.now }
-    ensures { AreIndexPlaces payload.now result }
+    ensures place { AreIndexPlaces payload.now result }
+    ensures next { all_indexes payload.now result ≡ map (drop 1) (all_indexes payload.now places.now) }
 {
     IndexPlaces {
         first: pass_index(payload, places.first),

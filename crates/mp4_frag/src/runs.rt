@@ -2,6 +2,7 @@
 ghost use Rattle.std.specs.Prelude.{◌≡◌, ◌≤◌, ◌∷◌, [], length, drop, option_map, IfOk, IfErr};
 ghost use Rattle.byteorder.specs.Endian.{twos_complement};
 ghost use Rattle.mp4_boxes.specs.BoxFaults.{Fails};
+ghost use Rattle.mp4_boxes.specs.declared.fault.Kind.TheVariants as kinds;
 ghost use Rattle.mp4_boxes.specs.Layout.{column_values, trun, trun_columns};
 ghost use Rattle.mp4_frag.specs.ColumnsRead.{rows_from};
 ghost use Rattle.mp4_frag.specs.Reading.{IsRun};
@@ -53,7 +54,8 @@ fn values_of(payload: &[u8], bits: u32) -> (Option<u32>, Option<u32>)
 }
 
 // An offset as two's complement.
-fn signed(offset: Option<u32>) -> Option<i32>
+#[inline]
+pub(crate) fn signed(offset: Option<u32>) -> Option<i32>
     ensures { result ≡ option_map (twos_complement 4) offset }
 {
     match offset {
@@ -66,6 +68,7 @@ fn signed(offset: Option<u32>) -> Option<i32>
 pub(crate) fn read_run(payload: &[u8]) -> Result<Run, Kind>
     ensures run { IfOk result (IsRun payload.now) }
     ensures fault { IfErr result (Fails trun payload.now) }
+    ensures unread { IfErr result (λ kind. kind ≡ kinds.OffsetTooLarge → ⊥) }
 {
     let (version, bits) = front(payload)?;
     if version > 1 {

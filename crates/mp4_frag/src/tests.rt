@@ -3,7 +3,7 @@ ghost use Rattle.mp4_frag.specs.States.{HaveRoom};
 
 use super::*;
 use mp4_boxes::{BoxView, Fault, FourCc, Kind, Steps};
-use mp4_tables::Keys;
+use mp4_tables::{Keys, Samples};
 use std::marker::Brand;
 use std::sync::ledger::{Blank, Ledger};
 

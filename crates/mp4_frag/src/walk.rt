@@ -1,22 +1,34 @@
 //! A walk over the samples of a track in a `moof`, from place to place.
-ghost use Rattle.std.specs.Prelude.{ℕ, List, ◌≡◌, ◌+◌, ◌-◌, ◌<◌, ◌≤◌, length, None};
+ghost use Rattle.std.specs.Prelude.{ℕ, List, ◌≡◌, ◌+◌, ◌-◌, ◌<◌, ◌≤◌, ◌∷◌, [], length, drop, slice_get, unwrap_or, pos, ◌+ℤ◌, option_map, None, Some, Ok, IfSome, MatchOption, IsErr, false};
+ghost use Rattle.mp4_boxes.specs.Box.{header_at};
+ghost use Rattle.mp4_tables.specs.Keys.{keys_seen};
+ghost use Rattle.mp4_tables.specs.Tables.{composition_offset};
 ghost use Rattle.mp4_frag.specs.FragmentSamples.{flags_of as flags_by};
 ghost use Rattle.mp4_frag.specs.ColumnsRead.{row_room};
-ghost use Rattle.mp4_frag.specs.PlacesIn.{IsPlaceIn, IsRowPlace};
+ghost use Rattle.mp4_frag.specs.PlacesIn.{LiesIn, IsPlaceIn, IsRowPlace, AreIndexPlaces};
+ghost use Rattle.mp4_frag.specs.Walks.{Walk, Reached, at_first, rows_here, trafs_coming, row_signed, first_byte, part_of, boxes_between, trex_among, with_head, all_indexes, with_group, with_leaves, before_traf, end_held, rows_coming, run_coming, reached, walk_of, coming, begin as begin_by};
 
 use crate::check::{SBGP, TFHD, TRAF, TRUN, find_track};
 use crate::groups::read_group;
 use crate::heads::{base_of, nothing_inherited, read_head, what_is_inherited};
 use crate::indexes::{first_index, indexes_here, no_indexes, pass_indexes, with_index};
-use crate::places::{FragPlace, RowPlace};
-use crate::rows::{row_at, row_size};
-use crate::runs::read_run;
-use crate::sample_runs::{near, run_start};
+use crate::places::{FragPlace, IndexPlaces, RowPlace};
+use crate::rows::{Row, row_at, row_size};
+use crate::runs::{read_run, signed};
 use crate::state::TrackState;
+use crate::trex::Trex;
 use mp4_boxes::{BoxView, FourCc, u32_at, u64_at};
 use mp4_tables::{Keys, SampleAt};
 
-/// A box among others: where it begins and ends, and where its payload begins.
+// A header that can be read: the type, how long it is, and the size of its box.
+#[derive(Clone, Copy)]
+struct Header {
+    kind: FourCc,
+    length: usize,
+    size: usize,
+}
+
+// A box among others: where it ends, and where its payload begins.
 #[derive(Clone, Copy)]
 struct Lying {
     kind: FourCc,
@@ -24,65 +36,69 @@ struct Lying {
     end: usize,
 }
 
-// The box at a place, among boxes that go to `end`.
-fn box_at(payload: &[u8], at: usize, end: usize) -> Lying
-    requires some { at < end }
-    requires within { end ≤ length payload.now }
-    ensures on { at < result.end }
-    ensures inside { (at < result.inside) × (result.inside ≤ result.end) }
-    ensures within { result.end ≤ end }
+// The header in front of these bytes, if one can be read.
+fn read_header(bytes: &[u8]) -> Option<Header>
+    ensures { MatchOption result (IsErr (header_at false bytes.now)) (λ h. header_at false bytes.now ≡ Ok (record { kind = h.kind.0; length = h.length; size = h.size })) }
 {
-    let left = end - at;
+    let left = bytes.len();
     if left < 8 {
-        return Lying {
-            kind: FourCc([0, 0, 0, 0]),
-            inside: end,
-            end,
-        };
+        return None;
     }
-    let kind = FourCc([
-        payload[at + 4],
-        payload[at + 5],
-        payload[at + 6],
-        payload[at + 7],
-    ]);
-    let small = u32_at(payload, at);
-    let (header, size) = if small == 1 && left >= 16 {
-        (16, u64_at(payload, at + 8))
-    } else {
-        (8, u64::from(small))
+    let kind = FourCc([bytes[4], bytes[5], bytes[6], bytes[7]]);
+    let (length, size) = match u32_at(bytes, 0) {
+        1 if left < 16 => return None,
+        1 => (16, u64_at(bytes, 8)),
+        small => (8, u64::from(small)),
     };
-    let whole = if size < header || size > left as u64 {
-        left
-    } else {
-        size as usize
-    };
-    Lying {
+    if size < length || size > left as u64 {
+        return None;
+    }
+    Some(Header {
         kind,
-        inside: at + header as usize,
-        end: at + whole,
-    }
+        length: length as usize,
+        size: size as usize,
+    })
 }
 
-// The place with what the `sbgp` of one of the track's keys says.
-fn open_group(payload: &[u8], lying: Lying, place: FragPlace) -> FragPlace
+// The box at a place, among boxes that go to `end`, if its header can be read.
+fn box_at(payload: &[u8], at: usize, end: usize) -> Option<Lying>
+    requires some { at < end }
+    requires within { end ≤ length payload.now }
+    ensures order { IfSome result (λ b. (at < b.inside) × (b.inside ≤ b.end) × (b.end ≤ end)) }
+    ensures some { IfSome result (λ b. boxes_between payload.now at end ≡ record { kind = b.kind.0; offset = at; header = b.inside - at; payload = part_of payload.now b.inside b.end } ∷ boxes_between payload.now b.end end) }
+    ensures none { result ≡ None → boxes_between payload.now at end ≡ [] }
+{
+    let header = read_header(&payload[at..end])?;
+    Some(Lying {
+        kind: header.kind,
+        inside: at + header.length,
+        end: at + header.size,
+    })
+}
+
+// The places with the rows of an `sbgp`, if its key is one of these.
+fn open_group(payload: &[u8], lying: Lying, keys: Keys, places: IndexPlaces) -> IndexPlaces
     requires inside { lying.inside ≤ lying.end }
     requires within { lying.end ≤ length payload.now }
-    requires place { IsPlaceIn payload.now place }
-    ensures place { IsPlaceIn payload.now result }
-    ensures next { result.next ≡ place.next }
-    ensures traf { result.traf_end ≡ place.traf_end }
+    requires places { AreIndexPlaces payload.now places }
+    ensures places { AreIndexPlaces payload.now result }
+    ensures indexes { all_indexes payload.now result ≡ with_group (keys_seen keys) (all_indexes payload.now places) (part_of payload.now lying.inside lying.end) }
 {
     let Ok(group) = read_group(&payload[lying.inside..lying.end]) else {
-        return place;
+        return places;
     };
-    let Some(j) = place.keys.place(group.key) else {
-        return place;
+    let Some(j) = keys.place(group.key) else {
+        return places;
     };
-    FragPlace {
-        indexes: with_index(place.indexes, j, first_index(payload, lying.inside, group)),
-        ..place
-    }
+    with_index(places, j, first_index(payload, lying.inside, group))
+}
+
+// What the fragments of the track with this ID inherit, if it is there.
+fn trex_of(tracks: &[TrackState], id: u32) -> Option<Trex>
+    ensures { result ≡ trex_among tracks.now id }
+{
+    let k = find_track(tracks, id)?;
+    tracks[k].trex
 }
 
 // The place with what the `tfhd` says.
@@ -95,18 +111,15 @@ fn open_head(
 ) -> FragPlace
     requires inside { lying.inside ≤ lying.end }
     requires within { lying.end ≤ length payload.now }
-    requires place { IsPlaceIn payload.now place }
-    ensures place { IsPlaceIn payload.now result }
-    ensures next { result.next ≡ place.next }
-    ensures traf { result.traf_end ≡ place.traf_end }
+    requires place { LiesIn payload.now place }
+    ensures place { LiesIn payload.now result }
+    ensures same { result ≡ record place { is_own = result.is_own; base = result.base; at = result.at; inherited = result.inherited } }
+    ensures reached { reached payload.now result ≡ with_head (walk_of moof tracks.now place) (reached payload.now place) (part_of payload.now lying.inside lying.end) }
 {
     let Ok(head) = read_head(&payload[lying.inside..lying.end]) else {
         return place;
     };
-    let Some(k) = find_track(tracks, head.id) else {
-        return place;
-    };
-    let Some(trex) = tracks[k].trex else {
+    let Some(trex) = trex_of(tracks, head.id) else {
         return place;
     };
     let base = base_of(head, moof, place.at);
@@ -129,9 +142,13 @@ fn open_traf(
 ) -> FragPlace
     requires inside { lying.inside ≤ lying.end }
     requires within { lying.end ≤ length payload.now }
-    requires place { IsPlaceIn payload.now place }
-    ensures place { IsPlaceIn payload.now result }
+    requires place { LiesIn payload.now place }
+    ensures place { LiesIn payload.now result }
     ensures next { result.next ≡ lying.inside }
+    ensures end { result.traf_end ≡ lying.end }
+    ensures same { (result.track ≡ place.track) × (result.keys ≡ place.keys) × (result.run ≡ place.run) }
+    ensures on { place.passed ≤ result.passed }
+    ensures reached { reached payload.now result ≡ with_leaves (walk_of moof tracks.now place) (before_traf (reached payload.now place)) (boxes_between payload.now lying.inside lying.end) }
 {
     let mut opened = FragPlace {
         next: lying.inside,
@@ -143,36 +160,66 @@ fn open_traf(
     };
     let mut at = lying.inside;
     while at < lying.end {
-        let child = box_at(payload, at, lying.end);
+        let Some(child) = box_at(payload, at, lying.end) else {
+            return opened;
+        };
+        at = child.end;
         if child.kind == TFHD {
             opened = open_head(payload, moof, tracks, child, opened);
         } else if child.kind == SBGP {
-            opened = open_group(payload, child, opened);
+            opened.indexes = open_group(payload, child, opened.keys, opened.indexes);
         }
-        at = child.end;
     }
     opened
+}
+
+// The next row of a run.
+#[inline]
+fn row_here(payload: &[u8], run: RowPlace) -> Row
+    requires some { 0 < run.left }
+    requires place { IsRowPlace payload.now run }
+    ensures { rows_here payload.now run ≡ row_signed result ∷ rows_here payload.now (record run { row = run.row + row_room run.bits; left = run.left - 1; first_flags = None }) }
+{
+    row_at(payload, run.row, run.bits)
 }
 
 // Where the data of a run ends that begins at a place.
 fn run_end(payload: &[u8], place: FragPlace, run: RowPlace) -> i128
     requires { IsRowPlace payload.now run }
+    ensures { result ≡ end_held place.inherited.size place.at (rows_here payload.now run) }
 {
     let mut at = place.at;
-    for k in 0..run.left {
-        let row = row_at(payload, run.row + k as usize * row_size(run.bits), run.bits);
+    let mut run = run;
+    while run.left > 0 {
+        let row = row_here(payload, run);
         at = at.saturating_add(i128::from(row.size.unwrap_or(place.inherited.size)));
+        run = next_row(run);
     }
     at
+}
+
+// Where a run begins: at its offset from the base, else where the data before it ends.
+fn begin(base: i128, before: i128, data_offset: Option<i32>) -> i128
+    ensures { result ≡ begin_by base before data_offset }
+{
+    match data_offset {
+        Some(offset) => base.saturating_add(i128::from(offset)),
+        None => before,
+    }
 }
 
 // The place before the samples of a run; behind them where they are another track's.
 fn open_run(payload: &[u8], lying: Lying, place: FragPlace) -> FragPlace
     requires inside { lying.inside ≤ lying.end }
     requires within { lying.end ≤ length payload.now }
-    requires place { IsPlaceIn payload.now place }
-    ensures place { IsPlaceIn payload.now result }
+    requires order { (place.next < lying.inside) × (lying.end ≤ place.traf_end) }
+    requires none { place.run.left ≡ 0 }
+    requires place { LiesIn payload.now place }
+    ensures place { LiesIn payload.now result }
     ensures next { result.next ≡ lying.end }
+    ensures same { (result.track ≡ place.track) × (result.keys ≡ place.keys) × (result.traf_end ≡ place.traf_end) }
+    ensures on { place.passed ≤ result.passed }
+    ensures coming { (more : Reached → List SampleAt) → rows_coming (reached payload.now result) result.run.first_flags (rows_here payload.now result.run) more ≡ run_coming (reached payload.now place) (part_of payload.now lying.inside lying.end) more }
 {
     let passed = place.passed.saturating_add(1);
     let Ok(run) = read_run(&payload[lying.inside..lying.end]) else {
@@ -189,7 +236,7 @@ fn open_run(payload: &[u8], lying: Lying, place: FragPlace) -> FragPlace
         first_flags: run.first_flags,
     };
     let opened = FragPlace {
-        at: run_start(near(place.base), near(place.at), run.data_offset),
+        at: begin(place.base, place.at, run.data_offset),
         next: lying.end,
         passed,
         run: rows,
@@ -208,13 +255,22 @@ fn open_run(payload: &[u8], lying: Lying, place: FragPlace) -> FragPlace
 
 // The place behind the next box: in the `traf` in hand, or of the `moof`.
 fn pass_box(payload: &[u8], moof: u64, tracks: &[TrackState], place: FragPlace) -> FragPlace
+    requires none { place.run.left ≡ 0 }
     requires some { place.next < length payload.now }
-    requires place { IsPlaceIn payload.now place }
-    ensures place { IsPlaceIn payload.now result }
-    ensures on { place.next < result.next }
+    requires place { LiesIn payload.now place }
+    ensures place { LiesIn payload.now result }
+    ensures next { place.next < result.next }
+    ensures same { (result.track ≡ place.track) × (result.keys ≡ place.keys) }
+    ensures on { place.passed ≤ result.passed }
+    ensures coming { coming payload.now (walk_of moof tracks.now place) result ≡ coming payload.now (walk_of moof tracks.now place) place }
 {
     if place.next < place.traf_end {
-        let child = box_at(payload, place.next, place.traf_end);
+        let Some(child) = box_at(payload, place.next, place.traf_end) else {
+            return FragPlace {
+                next: place.traf_end,
+                ..place
+            };
+        };
         if child.kind == TRUN {
             return open_run(payload, child, place);
         }
@@ -223,7 +279,13 @@ fn pass_box(payload: &[u8], moof: u64, tracks: &[TrackState], place: FragPlace) 
             ..place
         };
     }
-    let child = box_at(payload, place.next, payload.len());
+    let Some(child) = box_at(payload, place.next, payload.len()) else {
+        return FragPlace {
+            next: payload.len(),
+            traf_end: payload.len(),
+            ..place
+        };
+    };
     if child.kind == TRAF {
         return open_traf(payload, moof, tracks, child, place);
     }
@@ -241,8 +303,11 @@ pub(crate) fn settle(
     tracks: &[TrackState],
     place: FragPlace,
 ) -> FragPlace
-    requires { IsPlaceIn payload.now place }
-    ensures { IsPlaceIn payload.now result }
+    requires { LiesIn payload.now place }
+    ensures place { IsPlaceIn payload.now result }
+    ensures same { (result.track ≡ place.track) × (result.keys ≡ place.keys) }
+    ensures on { place.passed ≤ result.passed }
+    ensures coming { coming payload.now (walk_of moof tracks.now place) result ≡ coming payload.now (walk_of moof tracks.now place) place }
 {
     let mut place = place;
     while place.run.left == 0 && place.next < payload.len() {
@@ -262,20 +327,29 @@ fn flags_of(first: Option<u32>, own: Option<u32>, inherited: u32) -> u32
     }
 }
 
+// A place in a file, 0 where 64 bits have none for it.
+#[inline]
+fn file_place(at: i128) -> u64
+    ensures { result ≡ first_byte at }
+{
+    u64::try_from(at).unwrap_or(0)
+}
+
 // The sample before which the place lies.
 #[inline]
 pub(crate) fn sample_here(payload: &[u8], place: &FragPlace) -> SampleAt
     requires some { 0 < place.now.run.left }
-    requires place { IsPlaceIn payload.now place.now }
+    requires place { LiesIn payload.now place.now }
+    ensures { (w : Walk) → slice_get (coming payload.now w place.now) 0 ≡ Some result }
 {
-    let row = row_at(payload, place.run.row, place.run.bits);
+    let row = row_here(payload, place.run);
     SampleAt {
         dts: place.dts,
         duration: row.duration.unwrap_or(place.inherited.duration),
-        cto: row.offset.unwrap_or(0).cast_signed(),
+        cto: signed(row.offset).unwrap_or(0),
         flags: flags_of(place.run.first_flags, row.flags, place.inherited.flags),
         description: place.inherited.description,
-        at: u64::try_from(place.at).unwrap_or(0),
+        at: file_place(place.at),
         size: row.size.unwrap_or(place.inherited.size),
         groups: indexes_here(&place.indexes),
     }
@@ -305,10 +379,13 @@ pub(crate) fn pass_sample(
     place: &FragPlace,
 ) -> FragPlace
     requires some { 0 < place.now.run.left }
-    requires place { IsPlaceIn payload.now place.now }
-    ensures { IsPlaceIn payload.now result }
+    requires place { LiesIn payload.now place.now }
+    ensures place { IsPlaceIn payload.now result }
+    ensures same { (result.track ≡ place.now.track) × (result.keys ≡ place.now.keys) }
+    ensures on { place.now.passed ≤ result.passed }
+    ensures coming { coming payload.now (walk_of moof tracks.now place.now) result ≡ drop 1 (coming payload.now (walk_of moof tracks.now place.now) place.now) }
 {
-    let row = row_at(payload, place.run.row, place.run.bits);
+    let row = row_here(payload, place.run);
     let duration = row.duration.unwrap_or(place.inherited.duration);
     let size = row.size.unwrap_or(place.inherited.size);
     settle(
@@ -328,7 +405,9 @@ pub(crate) fn pass_sample(
 
 // Before the first sample of a track.
 pub(crate) fn first_place(moof: u64, track: u32, dts: u64, keys: Keys) -> FragPlace
-    ensures { (payload : List ℕ) → IsPlaceIn payload result }
+    ensures place { (payload : List ℕ) → LiesIn payload result }
+    ensures walk { (result.track ≡ track) × (result.keys ≡ keys) }
+    ensures coming { (payload : List ℕ) (w : Walk) → coming payload w result ≡ trafs_coming w (at_first moof dts) (boxes_between payload 0 (length payload)) }
 {
     FragPlace {
         track,

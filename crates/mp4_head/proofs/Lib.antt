@@ -26,3 +26,10 @@ pub mod WrittenTrackHead
 pub mod WrittenMovie
 pub mod WrittenTables
 pub mod WrittenHead
+pub mod ItemLocations
+pub mod Inside
+pub mod Taken
+pub mod ExtendsBoxes
+pub mod KeptWalks
+pub mod TrackBoxes
+pub mod MovieBoxes

@@ -1,15 +1,17 @@
 -- What readers say of the containers of a `moov`.
-use Rattle.std.specs.Prelude.{◌≡◌, ℕ, List, map, codes}
+use Rattle.std.specs.Prelude.{◌≡◌, ℕ, List, map, codes, true}
 use Rattle.std.specs.List.{AllByRecursion}
 use Rattle.mp4_boxes.specs.Box.{Box, box_container, counted_container, Tiles}
 use Rattle.mp4_boxes.specs.Children.{Holds, of_kind, payload_if, media_headers}
 use Rattle.mp4_boxes.specs.Layout.{dref, stsd, IsSound}
 use Rattle.mp4_boxes.specs.Places.{ruled, data_entries, sample_entries, AreSound}
 use Rattle.mp4_boxes.specs.declared.rule.Rule.TheVariants as rules
+use Rattle.mp4_frag.specs.declared.trex.Trex.{Trex}
+use Rattle.mp4_frag.specs.Fragments.{trex_of}
 use Rattle.mp4_head.specs.Head.{Kept, Edit}
 use Rattle.mp4_head.specs.Leaves.{SaysMedia}
 use Rattle.mp4_head.specs.declared.media_boxes.MediaHeader.{MediaHeader}
-use Rattle.mp4_head.specs.Tree.{first_of, first_among, edits_of}
+use Rattle.mp4_head.specs.Tree.{first_of, first_among, edits_of, are_distinct}
 
 -- the boxes of an `edts`, and its edits
 pub record SaysEdits (edts : Box) (edits : List Edit) : Type 0 where
@@ -70,3 +72,11 @@ pub record SaysMediaBoxes (mdia : Box) (h : MediaHeader) (handler : List ℕ) (l
   pub handler_is : handler ≡ (first_of (codes "hdlr") boxes).payload
   pub languages_are : languages ≡ map (λ (b : Box). b.payload) (of_kind (codes "elng") boxes)
   pub information : SaysInformation (first_of (codes "minf") boxes) header stbl descriptions groups
+
+-- the boxes of an `mvex`, and what its `trex`s say
+pub record SaysExtends (mvex : Box) (trexes : List Trex) : Type 0 where
+  pub boxes : List Box
+  pub holds : Holds rules.MovieExtends (box_container mvex) boxes
+  pub sound : AreSound (ruled rules.MovieExtends) boxes
+  pub says : trexes ≡ map (λ (b : Box). trex_of b.payload) (of_kind (codes "trex") boxes)
+  pub distinct : are_distinct (map (λ (x : Trex). x.id) trexes) ≡ true

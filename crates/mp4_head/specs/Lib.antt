@@ -7,3 +7,5 @@ pub mod HeadFaults
 pub mod Refuses
 pub mod Parts
 pub mod Containers
+pub mod Found
+pub mod Ids

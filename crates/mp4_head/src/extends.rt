@@ -1,11 +1,25 @@
 //! `mvex` and `trex`: what fragments take where they say nothing (ISO/IEC 14496-12, 8.8.1 and 8.8.3).
+ghost use Rattle.std.specs.Prelude.{◌≡◌, IfOk, OnOk, IfErr};
+ghost use Rattle.mp4_boxes.specs.Layout.{trex, IsSound};
+ghost use Rattle.mp4_boxes.specs.Places.{ruled};
+ghost use Rattle.mp4_boxes.specs.View.{box_seen};
+ghost use Rattle.mp4_boxes.specs.declared.rule.Rule.TheVariants as rules;
+ghost use Rattle.mp4_frag.specs.Fragments.{trex_of};
+ghost use Rattle.mp4_head.specs.Containers.{SaysExtends};
+ghost use Rattle.mp4_head.specs.Leaves.{IsFaultOf};
+ghost use Rattle.mp4_head.specs.Refuses.{RefusesIn, place_of};
+
 use crate::leaves::{fault, is, open};
 use mp4_boxes::{BoxView, Fault, FourCc, Kind, Refusal, Rule, check_children, u32_at};
 use mp4_frag::Trex;
 use std::alloc::Global;
 use std::collections::BTreeSet;
 
-fn read_trex(view: BoxView) -> Result<Trex, Fault> {
+fn read_trex(view: BoxView) -> Result<Trex, Fault>
+    ensures says { IfOk result (λ t. t ≡ trex_of (box_seen view.entry).payload) }
+    ensures sound { OnOk result (IsSound trex (box_seen view.entry).payload) }
+    ensures fault { IfErr result (IsFaultOf trex (box_seen view.entry)) }
+{
     open(view, 0, 24, 0)?;
     let payload = view.payload();
     Ok(Trex {
@@ -18,7 +32,10 @@ fn read_trex(view: BoxView) -> Result<Trex, Fault> {
 }
 
 // The `trex` of a `mvex`, of which no two have one ID. A `mehd` is not read.
-pub(crate) fn read_extends(alloc: Global, mvex: BoxView) -> Result<Vec<Trex>, Refusal> {
+pub(crate) fn read_extends(alloc: Global, mvex: BoxView) -> Result<Vec<Trex>, Refusal>
+    ensures says { IfOk result (λ ts. SaysExtends (box_seen mvex.entry) ts.items) }
+    ensures refusal { IfErr result (RefusesIn (place_of (ruled rules.MovieExtends) (box_seen mvex.entry))) }
+{
     let mut trexes = Vec::new(alloc);
     let mut ids = BTreeSet::new(alloc);
     for child in check_children(mvex, Rule::MovieExtends)? {

@@ -1,7 +1,10 @@
 //! Boxes that are kept as they are.
-ghost use Rattle.std.specs.Prelude.{◌≡◌};
+ghost use Rattle.std.specs.Prelude.{◌≡◌, false, true, IfOk, IfErr, OnOk, OnErr};
+ghost use Rattle.mp4_boxes.specs.BoxFaults.{fault_of};
 ghost use Rattle.mp4_boxes.specs.View.{box_seen};
+ghost use Rattle.mp4_boxes.specs.declared.fault.Kind.TheVariants as kinds;
 ghost use Rattle.mp4_head.specs.Containers.{kept_of};
+ghost use Rattle.mp4_head.specs.Head.{names_item_location};
 ghost use Rattle.mp4_head.specs.Seen.{kept_seen};
 
 use crate::leaves::fault;
@@ -23,7 +26,9 @@ pub struct Description<'a> {
 }
 
 // Whether the letters `iloc` stand somewhere in the bytes.
-fn names_item_location(bytes: &[u8]) -> bool {
+fn names_item_location(bytes: &[u8]) -> bool
+    ensures { result ≡ names_item_location bytes.now }
+{
     memmem::find(bytes, b"iloc").is_some()
 }
 
@@ -38,7 +43,12 @@ pub(crate) fn keep<'a>(view: BoxView<'a>) -> Kept<'a>
 }
 
 // A box as it is kept, where it names no file offsets of items.
-pub(crate) fn keep_unplaced<'a>(view: BoxView<'a>) -> Result<Kept<'a>, Fault> {
+pub(crate) fn keep_unplaced<'a>(view: BoxView<'a>) -> Result<Kept<'a>, Fault>
+    ensures kept { IfOk result (λ k. kept_seen k ≡ kept_of (box_seen view.entry)) }
+    ensures unplaced { OnOk result (names_item_location (box_seen view.entry).payload ≡ false) }
+    ensures names { OnErr result (names_item_location (box_seen view.entry).payload ≡ true) }
+    ensures fault { IfErr result (λ f. f ≡ fault_of kinds.ItemLocation (box_seen view.entry)) }
+{
     if names_item_location(view.payload()) {
         return Err(fault(Kind::ItemLocation, view));
     }

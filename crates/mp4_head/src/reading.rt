@@ -1,22 +1,64 @@
 //! `moov`: the head of a movie, read (ISO/IEC 14496-12, 8.2.1).
+ghost use Rattle.std.specs.Prelude.{◌≡◌, map, IfOk, IfErr};
+ghost use Rattle.std.specs.List.{AllByRecursion};
+ghost use Rattle.mp4_boxes.specs.Children.{is_among};
+ghost use Rattle.mp4_boxes.specs.Places.{ruled, kept_kinds};
+ghost use Rattle.mp4_boxes.specs.View.{box_seen};
+ghost use Rattle.mp4_boxes.specs.declared.rule.Rule.TheVariants as rules;
+ghost use Rattle.mp4_head.specs.Found.{movie_joined, LiesIn, SaysHead};
+ghost use Rattle.mp4_head.specs.Refuses.{RefusesIn, place_of};
+ghost use Rattle.mp4_head.specs.Seen.{kept_seen, movie_seen};
+
 use crate::extends::read_extends;
-use crate::heads::MovieHead;
-use crate::kept_boxes::keep_unplaced;
+use crate::heads::{MovieHead, TrackHead};
+use crate::kept_boxes::{Kept, keep_unplaced};
 use crate::leaves::{fault, is};
-use crate::movie_header::read_movie_header;
+use crate::movie_header::{MovieHeader, read_movie_header};
 use crate::track_boxes::read_track;
 use mp4_boxes::{BoxView, FourCc, Kind, Refusal, Rule, check_children};
+use mp4_frag::Trex;
 use std::alloc::Global;
 use std::collections::BTreeSet;
 
 // Whether the box is kept in a `moov`.
-fn is_kept(view: BoxView) -> bool {
+fn is_kept(view: BoxView) -> bool
+    ensures { result ≡ is_among (kept_kinds rules.Movie) (box_seen view.entry).kind }
+{
     is(view, FourCc(*b"udta")) || is(view, FourCc(*b"iods")) || is(view, FourCc(*b"meta"))
+}
+
+// What is said of a movie, put together.
+fn head_of<'a>(
+    header: MovieHeader,
+    kept: Vec<Kept<'a>>,
+    tracks: Vec<TrackHead<'a>>,
+    trexes: Vec<Trex>,
+) -> MovieHead<'a>
+    ensures movie { movie_seen result ≡ movie_joined header (map kept_seen kept.entry.items) }
+    ensures tracks { result.tracks.items ≡ tracks.entry.items }
+    ensures trexes { result.trexes.items ≡ trexes.items }
+{
+    let matrix = header.matrix;
+    MovieHead {
+        creation: header.creation,
+        modification: header.modification,
+        timescale: header.timescale,
+        rate: header.rate,
+        volume: header.volume,
+        matrix,
+        kept,
+        tracks,
+        trexes,
+    }
 }
 
 /// The head that a `moov` has. Of a container first the list of its boxes is checked, then the inside of each box in
 /// file order. Payloads are borrowed, and of an `stbl` only the descriptions are read.
-pub fn read_head<'a>(alloc: Global, moov: BoxView<'a>) -> Result<MovieHead<'a>, Refusal> {
+pub fn read_head<'a>(alloc: Global, moov: BoxView<'a>) -> Result<MovieHead<'a>, Refusal>
+    ensures head { IfOk result (SaysHead (box_seen moov.entry)) }
+    ensures inside { IfOk result (λ m. AllByRecursion (λ t. LiesIn (box_seen moov.entry) (box_seen t.stbl)) m.tracks.items) }
+    ensures fault { IfErr result (RefusesIn (place_of (ruled rules.Movie) (box_seen moov.entry))) }
+{
     let mut header = None;
     let mut kept = Vec::new(alloc);
     let mut tracks = Vec::new(alloc);
@@ -36,16 +78,5 @@ pub fn read_head<'a>(alloc: Global, moov: BoxView<'a>) -> Result<MovieHead<'a>, 
     let Some(header) = header else {
         return Err(Refusal::from(fault(Kind::MissingBox, moov)));
     };
-    let matrix = header.matrix;
-    Ok(MovieHead {
-        creation: header.creation,
-        modification: header.modification,
-        timescale: header.timescale,
-        rate: header.rate,
-        volume: header.volume,
-        matrix,
-        kept,
-        tracks,
-        trexes,
-    })
+    Ok(head_of(header, kept, tracks, trexes))
 }

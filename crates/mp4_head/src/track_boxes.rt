@@ -1,4 +1,15 @@
 //! `trak`: one track (ISO/IEC 14496-12, 8.3.1).
+ghost use Rattle.std.specs.Prelude.{◌≡◌, map, IfOk, OnOk, IfErr};
+ghost use Rattle.mp4_boxes.specs.Children.{is_among};
+ghost use Rattle.mp4_boxes.specs.Layout.{tkhd, IsSound};
+ghost use Rattle.mp4_boxes.specs.Places.{kept_kinds};
+ghost use Rattle.mp4_boxes.specs.View.{box_seen};
+ghost use Rattle.mp4_boxes.specs.declared.rule.Rule.TheVariants as rules;
+ghost use Rattle.mp4_head.specs.Found.{track_joined, HasTrackHead};
+ghost use Rattle.mp4_head.specs.Ids.{AddsId, RefusesTrackHeader, RefusesTrack};
+ghost use Rattle.mp4_head.specs.Leaves.{SaysTrack};
+ghost use Rattle.mp4_head.specs.Seen.{edit_seen, kept_seen, track_seen};
+
 use crate::edit_list::{Edit, read_edits};
 use crate::heads::{Media, TrackHead};
 use crate::kept_boxes::{Kept, keep_unplaced};
@@ -10,7 +21,12 @@ use std::alloc::Global;
 use std::collections::BTreeSet;
 
 // A `tkhd` with an ID that none has that was read before.
-fn read_new_track_header(view: BoxView, ids: &mut BTreeSet<u32>) -> Result<TrackHeader, Refusal> {
+fn read_new_track_header(view: BoxView, ids: &mut BTreeSet<u32>) -> Result<TrackHeader, Refusal>
+    ensures says { IfOk result (SaysTrack (box_seen view.entry).payload) }
+    ensures sound { OnOk result (IsSound tkhd (box_seen view.entry).payload) }
+    ensures added { IfOk result (λ h. AddsId ids.old ids.new h.id) }
+    ensures refusal { IfErr result (RefusesTrackHeader ids.old (box_seen view.entry)) }
+{
     let header = read_track_header(view)?;
     if !ids.insert(header.id)? {
         return Err(Refusal::from(fault(Kind::BadValue, view)));
@@ -25,7 +41,11 @@ fn head_of<'a>(
     edits: Vec<Edit>,
     kept: Vec<Kept<'a>>,
     parts: MediaParts<'a>,
-) -> TrackHead<'a> {
+) -> TrackHead<'a>
+    ensures head { track_seen result ≡ track_joined header (map edit_seen edits.items) (map kept_seen kept.entry.items) parts.entry }
+    ensures stbl { box_seen result.stbl ≡ box_seen parts.entry.information.stbl }
+    ensures offset { result.offset ≡ offset }
+{
     let matrix = header.matrix;
     let media = parts.header;
     let information = parts.information;
@@ -60,7 +80,9 @@ fn head_of<'a>(
 }
 
 // Whether the box is kept in a `trak`.
-fn is_kept(view: BoxView) -> bool {
+fn is_kept(view: BoxView) -> bool
+    ensures { result ≡ is_among (kept_kinds rules.Track) (box_seen view.entry).kind }
+{
     is(view, FourCc(*b"tref")) || is(view, FourCc(*b"udta")) || is(view, FourCc(*b"meta"))
 }
 
@@ -69,7 +91,11 @@ pub(crate) fn read_track<'a>(
     alloc: Global,
     trak: BoxView<'a>,
     ids: &mut BTreeSet<u32>,
-) -> Result<TrackHead<'a>, Refusal> {
+) -> Result<TrackHead<'a>, Refusal>
+    ensures says { IfOk result (λ t. HasTrackHead (box_seen trak.entry) (track_seen t) (box_seen t.stbl) t.offset) }
+    ensures added { IfOk result (λ t. AddsId ids.old ids.new t.id) }
+    ensures refusal { IfErr result (RefusesTrack ids.old (box_seen trak.entry)) }
+{
     let mut header = None;
     let mut edits = Vec::new(alloc);
     let mut kept = Vec::new(alloc);

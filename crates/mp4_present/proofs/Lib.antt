@@ -22,3 +22,7 @@ pub mod Vectors
 pub mod TopLevel
 pub mod Outlines
 pub mod Fragmented
+pub mod Payloads
+pub mod WalkPlaces
+pub mod JoinedSamples
+pub mod PlainLists

@@ -1,6 +1,10 @@
 pub mod Presentation
 pub mod Denotes
+pub mod InHand
+pub mod Movies
 pub mod Stands
 pub mod Reading
 pub mod Outline
 pub mod Again
+pub mod Joined
+pub mod Plain

@@ -1,5 +1,5 @@
 -- What reads of a file behind a store answer.
-use Rattle.std.specs.Prelude.{◌≡◌, ℕ, ◌+◌, ◌-◌, List, length, take, drop, Bool, true, IsTrue, Ok, Err, codes}
+use Rattle.std.specs.Prelude.{◌≡◌, ℕ, ◌+◌, ◌-◌, ◌<◌, List, length, take, drop, Bool, true, IsTrue, Ok, Err, codes}
 use Rattle.mp4_store.specs.Device.{HasRisen}
 use Rattle.mp4_boxes.specs.Box.{Box}
 use Rattle.mp4_boxes.specs.BoxFaults.{header_there}
@@ -7,6 +7,7 @@ use Rattle.mp4_boxes.specs.View.{top_header_seen}
 use Rattle.mp4_boxes.specs.declared.headers.TopHeader.{TopHeader}
 use Rattle.mp4_boxes.specs.declared.refusal.Refusal.{Refusal}
 use Rattle.mp4_boxes.specs.declared.refusal.Refusal.TheVariants as refusals
+use Rattle.mp4_present.specs.declared.reading.TopBox.{TopBox}
 
 -- the header that stands at this place of the file itself
 abbrev pub IsTopHeader : List ℕ → ℕ → TopHeader → Type 0
@@ -27,3 +28,14 @@ abbrev pub RefusesRead : ℕ → ℕ → Refusal → Type 0
 RefusesRead reads reads_after refusals.Memory = Unit {0}
 RefusesRead reads reads_after refusals.StoreFailed = HasRisen reads reads_after
 RefusesRead reads reads_after _ = ⊥
+
+-- Why bytes are not read to a room that is there.
+abbrev pub RefusesFront : ℕ → ℕ → Refusal → Type 0
+RefusesFront reads reads_after refusals.StoreFailed = HasRisen reads reads_after
+RefusesFront reads reads_after _ = ⊥
+
+-- Why the payload of a box is not read to a room of so many bytes.
+abbrev pub RefusesPayload : ℕ → TopBox → ℕ → ℕ → Refusal → Type 0
+RefusesPayload room top reads reads_after refusals.StoreFailed = HasRisen reads reads_after
+RefusesPayload room top reads reads_after refusals.StoreChanged = top.offset + top.header.header + room < top.header.end
+RefusesPayload room top reads reads_after _ = ⊥

@@ -1,6 +1,7 @@
 //! The fragments of a file that was read before, found again.
-ghost use Rattle.std.specs.Prelude.{◌≡◌, ◌+◌, ◌<◌, ◌≤◌, List, length, IfOk, IfErr, OnOk, IsTrue};
+ghost use Rattle.std.specs.Prelude.{◌≡◌, ◌+◌, ◌<◌, ◌≤◌, List, length, IfOk, IfErr, IfSome, OnOk, IsTrue};
 ghost use Rattle.mp4_boxes.specs.Box.{Box};
+ghost use Rattle.mp4_present.specs.Movies.{IsWhole};
 ghost use Rattle.mp4_present.specs.Reading.{IsTopHeader};
 ghost use Rattle.mp4_present.specs.Again.{AreFrom, IsNextFragment, RefusesHeaderAgain, RefusesNext};
 
@@ -31,6 +32,7 @@ pub(crate) fn next_fragment<S: Store>(store: &mut S, from: u64) -> Result<Option
     ensures honesty { S.is_honest store.new ≡ S.is_honest store.old }
     ensures file { S.file store.new ≡ S.file store.old }
     ensures next { IfOk result (λ found. IsTrue (S.is_honest store.old) → (boxes : List Box) → AreFrom (S.file store.old) from boxes → IsNextFragment (S.file store.old) from boxes found) }
+    ensures within { IfOk result (λ found. IfSome found (λ top. IsWhole (length (S.file store.old)) top × (from ≤ top.offset) × (top.offset < top.header.end))) }
     ensures reads { OnOk result (S.read_failures store.new ≡ S.read_failures store.old) }
     ensures refusal { IfErr result (RefusesNext (S.is_honest store.old) (S.file store.old) from (S.read_failures store.old) (S.read_failures store.new)) }
 {

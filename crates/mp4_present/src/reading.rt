@@ -1,9 +1,11 @@
 //! Reads of a file behind a store: one top-level header, or a stretch of bytes.
-ghost use Rattle.std.specs.Prelude.{◌≡◌, ◌+◌, ◌<◌, ◌≤◌, length, IfOk, IfErr, OnOk, IsTrue};
+ghost use Rattle.std.specs.Prelude.{◌≡◌, ◌+◌, ◌<◌, ◌≤◌, length, take, IfOk, IfErr, OnOk, IsTrue};
+ghost use Rattle.mp4_boxes.specs.View.{box_seen};
 ghost use Rattle.mp4_store.specs.Device.{range};
-ghost use Rattle.mp4_present.specs.Reading.{IsTopHeader, RefusesHeader, RefusesRead};
+ghost use Rattle.mp4_present.specs.Movies.{IsWhole, Fills};
+ghost use Rattle.mp4_present.specs.Reading.{IsTopHeader, RefusesHeader, RefusesRead, RefusesFront, RefusesPayload};
 
-use mp4_boxes::{Refusal, TopHeader, top_header};
+use mp4_boxes::{BoxView, Refusal, TopHeader, top_header};
 use mp4_store::Store;
 use std::alloc::Global;
 
@@ -13,6 +15,44 @@ pub struct TopBox {
     /// The place of its first byte.
     pub offset: u64,
     pub header: TopHeader,
+}
+
+// The place behind a header at this place.
+fn behind(at: u64, header: TopHeader) -> u64
+    requires { at + header.header ≤ header.end }
+    ensures { result ≡ at + header.header }
+{
+    at + u64::from(header.header)
+}
+
+// The box with a header at this place, and with these bytes as its payload.
+fn view_at<'a>(at: u64, header: TopHeader, payload: &'a [u8]) -> BoxView<'a>
+    requires { at + header.header + length payload.now ≡ header.end }
+    ensures { box_seen result ≡ record { kind = header.kind.0; offset = at; header = header.header; payload = payload.entry.now } }
+{
+    BoxView::new(header.kind, at, header.header, payload)
+}
+
+impl TopBox {
+    ghost use Rattle.std.specs.Prelude.{◌≡◌, ◌+◌, ◌≤◌, length};
+    ghost use Rattle.mp4_boxes.specs.View.{box_seen};
+    ghost use Rattle.mp4_present.specs.Movies.{Fills};
+
+    /// The place of the first byte of its payload.
+    pub(crate) fn payload_offset(&self) -> u64
+        requires { self.now.offset + self.now.header.header ≤ self.now.header.end }
+        ensures { result ≡ self.now.offset + self.now.header.header }
+    {
+        behind(self.offset, self.header)
+    }
+
+    /// The box with these bytes as its payload.
+    pub(crate) fn view<'a>(&self, payload: &'a [u8]) -> BoxView<'a>
+        requires { Fills (length payload.now) self.now }
+        ensures { box_seen result ≡ record { kind = self.now.header.kind.0; offset = self.now.offset; header = self.now.header.header; payload = payload.entry.now } }
+    {
+        view_at(self.offset, self.header, payload)
+    }
 }
 
 /// The top-level header at the place `at` of the file, by one read of 16 bytes, or of all that are left.
@@ -52,4 +92,43 @@ pub fn read_bytes<S: Store>(
     let mut bytes = vec![in alloc; 0u8; len as usize]?;
     store.read_at(at, bytes.as_mut_slice())?;
     Ok(bytes)
+}
+
+// Reads to the front of the room, of which the length stays.
+fn read_front<S: Store>(store: &mut S, at: u64, room: &mut [u8], len: usize) -> Result<(), Refusal>
+    requires place { at + len ≤ length (S.file store.old) }
+    requires room { len ≤ length room.old }
+    ensures honesty { S.is_honest store.new ≡ S.is_honest store.old }
+    ensures file { S.file store.new ≡ S.file store.old }
+    ensures bytes { OnOk result (IsTrue (S.is_honest store.old) → take len room.new ≡ range (S.file store.old) at len) }
+    ensures reads { OnOk result (S.read_failures store.new ≡ S.read_failures store.old) }
+    ensures refusal { IfErr result (RefusesFront (S.read_failures store.old) (S.read_failures store.new)) }
+{
+    store.read_at(at, &mut room[..len])?;
+    Ok(())
+}
+
+/// Reads the payload of a box to the front of the room, and says how long it is. Where there is no room for it, the
+/// store has changed.
+pub(crate) fn read_payload<S: Store>(
+    store: &mut S,
+    top: TopBox,
+    room: &mut [u8],
+) -> Result<usize, Refusal>
+    requires { IsWhole (length (S.file store.old)) top }
+    ensures honesty { S.is_honest store.new ≡ S.is_honest store.old }
+    ensures file { S.file store.new ≡ S.file store.old }
+    ensures fills { IfOk result (λ len. Fills len top × (len ≤ length room.new)) }
+    ensures bytes { IfOk result (λ len. IsTrue (S.is_honest store.old) → take len room.new ≡ range (S.file store.old) (top.offset + top.header.header) len) }
+    ensures reads { OnOk result (S.read_failures store.new ≡ S.read_failures store.old) }
+    ensures refusal { IfErr result (RefusesPayload (length room.old) top (S.read_failures store.old) (S.read_failures store.new)) }
+{
+    let at = top.payload_offset();
+    let len = top.header.end - at;
+    if len > room.len() as u64 {
+        return Err(Refusal::StoreChanged);
+    }
+    let len = len as usize;
+    read_front(store, at, room, len)?;
+    Ok(len)
 }

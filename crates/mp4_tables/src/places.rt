@@ -1,4 +1,5 @@
 //! Where the rows of tables lie in the payload of their `stbl`, and how far a walk has come in them: plain numbers.
+ghost use Rattle.std.specs.Prelude.{◌≡◌, ◌^◌, ◌<◌};
 
 use crate::keys::Keys;
 
@@ -122,4 +123,34 @@ pub struct TablePlace {
     pub(crate) chunk: ChunkPlace,
     pub(crate) sync: SyncPlace,
     pub(crate) groups: GroupPlaces,
+}
+
+// A number of rows, in 64 bits.
+fn rows(count: u32) -> u64
+    ensures is { result ≡ count }
+    ensures small { result < 2 ^ 32 }
+{
+    u64::from(count)
+}
+
+impl TablePlace {
+    ghost use Rattle.std.specs.Prelude.{◌≡◌};
+    ghost use Rattle.mp4_tables.specs.Accepted.{passed};
+
+    /// How many rows and samples a walk passed on its way here. Of sizes it passes one a sample.
+    pub fn passed(&self) -> u64
+        ensures { result ≡ passed self.now }
+    {
+        let groups = self.groups;
+        2 * rows(self.number)
+            + rows(self.duration.row)
+            + rows(self.offset.row)
+            + rows(self.chunk.opened)
+            + rows(self.chunk.row.row)
+            + rows(self.sync.row)
+            + rows(groups.first.row)
+            + rows(groups.second.row)
+            + rows(groups.third.row)
+            + rows(groups.fourth.row)
+    }
 }

@@ -1,4 +1,4 @@
-use Rattle.std.proofs.Common.{rules, ◌≡◌, ◌+◌, ◌^◌, ◌≤◌, arith}
+use Rattle.std.proofs.Common.{rules, ◌+◌, ◌^◌, ◌≤◌, arith}
 use Rattle.mp4_frag.specs.States.{HasRoom}
 use Rattle.mp4_frag.proofs.StateLists.{has_room, less_room, room_with}
 use Rattle.mp4_frag.proofs.check.check_traf.Goals as goal

@@ -1,4 +1,4 @@
-use Rattle.std.proofs.Common.{◌≡◌, ◌+◌, ◌≤◌, drop, [], rules, arith}
+use Rattle.std.proofs.Common.{◌≡◌, ◌≤◌, drop, [], rules, arith}
 use Rattle.mp4_tables.specs.Repeated.{total}
 use Rattle.mp4_tables.proofs.RowLists.{runs_all}
 use Rattle.mp4_frag.specs.Reading.{group_runs}

@@ -1,4 +1,3 @@
-use Rattle.std.proofs.Common.{◌∙◌}
 use Rattle.mp4_tables.proofs.RowLists.{runs_more}
 use Rattle.mp4_frag.proofs.groups.row_of.Goals as goal
 

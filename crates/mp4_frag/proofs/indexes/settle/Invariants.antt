@@ -1,8 +1,11 @@
-use Rattle.mp4_frag.specs.PlacesIn.{IsIndexPlace}
+use Rattle.std.proofs.Common.{◌≡◌}
+use Rattle.mp4_frag.specs.PlacesIn.{HasIndexRows}
+use Rattle.mp4_frag.specs.Walks.{indexes_here}
 use Rattle.mp4_frag.proofs.indexes.settle.Given as goal
 
+-- the same indexes are left
 abbrev pub invariant-loop-place : goal.invariant-loop-place
-invariant-loop-place l = IsIndexPlace l.payload l.place
+invariant-loop-place l = HasIndexRows l.payload l.place × (indexes_here l.payload l.place ≡ indexes_here l.payload l.fn.place)
 
 abbrev pub decreases-loop-place : goal.decreases-loop-place
 decreases-loop-place l = l.place.rows

@@ -1,5 +1,4 @@
-use Rattle.std.proofs.Common.{rules, ◌≡◌, ◌∙◌, sym, true, false, not, ◌&&◌}
-use Rattle.mp4_frag.specs.FragmentSamples.{run_start}
+use Rattle.std.proofs.Common.{◌∙◌, sym}
 use Rattle.mp4_frag.proofs.RunRows.{near_again, nearer_again, added}
 use Rattle.mp4_frag.proofs.RunsRead.{run_outside, run_passes, large_is}
 use Rattle.mp4_frag.proofs.sample_runs.check_run.Goals as goal

@@ -1,9 +1,19 @@
-use Rattle.std.proofs.Common.{◌≡◌, ◌-◌, ◌≤◌, length}
-use Rattle.mp4_frag.specs.PlacesIn.{IsPlaceIn}
+use Rattle.std.proofs.Common.{◌≡◌, ◌-◌, ◌≤◌}
+use Rattle.mp4_frag.specs.PlacesIn.{LiesIn}
+use Rattle.mp4_frag.specs.Walks.{walk_of, reached, before_traf, with_leaves, boxes_between}
 use Rattle.mp4_frag.proofs.walk.open_traf.Given as goal
 
+-- what the boxes passed say and those left make the whole
 abbrev pub invariant-loop-at : goal.invariant-loop-at
-invariant-loop-at l = (l.at ≤ l.lying.end) × IsPlaceIn l.payload l.opened × (l.opened.next ≡ l.lying.inside) × (l.opened.traf_end ≡ l.lying.end)
+invariant-loop-at l = record {
+  within : l.at ≤ l.lying.end;
+  lies : LiesIn l.payload l.opened;
+  places : (l.opened.next ≡ l.lying.inside) × (l.opened.traf_end ≡ l.lying.end);
+  walk : (l.opened.track ≡ l.fn.place.track) × (l.opened.keys ≡ l.fn.place.keys) × (l.opened.run ≡ l.fn.place.run);
+  on : l.fn.place.passed ≤ l.opened.passed;
+  whole : with_leaves (walk_of l.moof l.tracks l.fn.place) (reached l.payload l.opened) (boxes_between l.payload l.at l.lying.end)
+      ≡ with_leaves (walk_of l.moof l.tracks l.fn.place) (before_traf (reached l.payload l.fn.place)) (boxes_between l.payload l.lying.inside l.lying.end);
+}
 
 abbrev pub decreases-loop-at : goal.decreases-loop-at
 decreases-loop-at l = l.lying.end - l.at

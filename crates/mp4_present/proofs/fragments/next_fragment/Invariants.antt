@@ -1,4 +1,4 @@
-use Rattle.std.proofs.Common.{◌≡◌, ◌-◌, List}
+use Rattle.std.proofs.Common.{◌≡◌, ◌-◌, ◌≤◌, List}
 use Rattle.std.specs.Prelude.{IsTrue}
 use Rattle.mp4_boxes.specs.Box.{Box}
 use Rattle.mp4_present.specs.Again.{AreFrom}
@@ -12,6 +12,7 @@ invariant-loop-at g l =
     × (g.S.Store.file l.store ≡ g.S.Store.file l.fn.store)
     × (g.S.Store.read_failures l.store ≡ g.S.Store.read_failures l.fn.store)
     × (IsTrue (g.S.Store.is_honest l.fn.store) → (boxes : List Box) → AreFrom (g.S.Store.file l.fn.store) l.fn.from boxes → Passing (g.S.Store.file l.fn.store) l.fn.from l.at boxes)
+    × (l.fn.from ≤ l.at)
 
 abbrev pub decreases-loop-at : goal.decreases-loop-at
 decreases-loop-at g l = l.len - l.at

@@ -1,10 +1,10 @@
-use Rattle.std.proofs.Common.{rules, ◌∙◌, refl, arith}
+use Rattle.std.proofs.Common.{rules, ℕ, ◌≤◌, ◌∙◌, List, length, refl, subst, arith}
 use Rattle.std.proofs.lemmas.Result.{err_from_is_err_and}
 use Rattle.mp4_present.proofs.Outlines.{outlining_none, outlining_more, refuses, no_movie, outlined}
 use Rattle.mp4_present.proofs.outline.read_outline.Goals as goal
 
 pub loop-at-init : goal.loop-at-init
-loop-at-init g c = (refl, refl, refl, λ _. outlining_none (g.S.Store.file c.args.store.now))
+loop-at-init g c = (refl, refl, refl, (λ _. outlining_none (g.S.Store.file c.args.store.now)), tt)
 
 pub returns-in_err-header-clause-refusal : goal.returns-in_err-header-clause-refusal
 returns-in_err-header-clause-refusal g c =
@@ -27,6 +27,7 @@ loop-at-preserved g c =
           let read = (rw (i.0, i.1) at e.header) told in
           let seen = c.in_ok-seen.ensures.noted file o.boxes o.front o.taken read o.are_seen in
           outlining_more file c.loop-at.at c.in_ok-header.header c.in_ok-seen.seen o.boxes o.front o.taken read (omega (arith, w.0)) seen),
+      c.in_ok-seen.ensures.within (length file) (subst (λ (bs : List ℕ). c.in_ok-header.header.end ≤ length bs) i.1 w.2) i.4,
     )
 
 pub returns-in_default-clause-refusal : goal.returns-in_default-clause-refusal
@@ -38,3 +39,6 @@ returns-clause-outline g c told =
     let o = c.loop-at.invariant.3 told in
     let r = outlined (g.S.Store.file c.args.store.now) c.loop-at.at c.loop-at.seen c.in-Some.moov o (search rules) c.in-Some.is in
     (o.boxes, r.0, r.1, r.2)
+
+pub returns-clause-within : goal.returns-clause-within
+returns-clause-within g c = (rw c.in-Some.is at c.loop-at.invariant.4)

@@ -1,5 +1,6 @@
-use Rattle.std.proofs.Common.{◌≡◌, ◌-◌}
-use Rattle.std.specs.Prelude.{IsTrue}
+use Rattle.std.proofs.Common.{◌≡◌, ◌-◌, length}
+use Rattle.std.specs.Prelude.{IsTrue, IfSome}
+use Rattle.mp4_present.specs.Movies.{IsWhole}
 use Rattle.mp4_present.proofs.Outlines.{Outlining}
 use Rattle.mp4_present.proofs.outline.read_outline.Given as goal
 
@@ -10,6 +11,7 @@ invariant-loop-at g l =
     × (g.S.Store.file l.store ≡ g.S.Store.file l.fn.store)
     × (g.S.Store.read_failures l.store ≡ g.S.Store.read_failures l.fn.store)
     × (IsTrue (g.S.Store.is_honest l.fn.store) → Outlining (g.S.Store.file l.fn.store) l.at l.seen)
+    × IfSome l.seen.moov (IsWhole (length (g.S.Store.file l.fn.store)))
 
 abbrev pub decreases-loop-at : goal.decreases-loop-at
 decreases-loop-at g l = l.len - l.at

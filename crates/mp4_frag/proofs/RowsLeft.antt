@@ -1,0 +1,40 @@
+-- The rows left of a run from one to the next.
+use Rattle.std.proofs.Common.{◌≡◌, ℕ, zero, suc, ◌+◌, ◌-◌, ◌<◌, List, [], ◌∷◌, drop, Option, None, refl, sym, ap, ◌∙◌, arith}
+use Rattle.std.specs.Prelude.{ℤ, pos, ◌+ℤ◌, unwrap_or}
+use Rattle.std.proofs.lemmas.List.{drop-drop}
+use Rattle.mp4_boxes.specs.Layout.{column_values, sample_columns}
+use Rattle.mp4_frag.specs.ColumnsRead.{row_room}
+use Rattle.mp4_frag.specs.Fragments.{RunRow, run_rows, run_row_of}
+use Rattle.mp4_frag.specs.Reading.{row_values}
+use Rattle.mp4_frag.specs.Walks.{rows_here, row_signed, end_held, held}
+use Rattle.mp4_frag.specs.declared.places.RowPlace.{RowPlace}
+use Rattle.mp4_frag.specs.declared.rows.Row.{Row}
+
+rows_next : (n bits place : ℕ) (payload : List ℕ) → 0 < n
+    → run_rows n 1 bits (drop place payload) ≡ run_row_of 1 (column_values bits sample_columns (drop place payload)) ∷ run_rows (n - 1) 1 bits (drop (place + row_room bits) payload)
+rows_next zero bits place payload h = absurd (omega arith)
+rows_next (suc n) bits place payload h =
+    let less : n ≡ suc n - 1 = omega arith in
+    let behind = drop-drop (row_room bits) place payload in
+    λ i. run_row_of 1 (column_values bits sample_columns (drop place payload)) ∷ run_rows (less i) 1 bits (behind i)
+
+-- the row in hand stands in front of those behind it
+pub row_in_hand : (payload : List ℕ) (run : RowPlace) (row : Row) → 0 < run.left → row_values row ≡ column_values run.bits sample_columns (drop run.row payload)
+    → rows_here payload run ≡ row_signed row ∷ rows_here payload (record run { row = run.row + row_room run.bits; left = run.left - 1; first_flags = None })
+unfolding rows_here
+row_in_hand payload run row h e =
+    rows_next run.left run.bits run.row payload h
+    ∙ ap (λ (values : List (Option ℕ)). run_row_of 1 values ∷ run_rows (run.left - 1) 1 run.bits (drop (run.row + row_room run.bits) payload)) (sym e)
+
+-- behind the last row none is left
+pub no_rows : (payload : List ℕ) (run : RowPlace) → run.left ≡ 0 → rows_here payload run ≡ []
+unfolding rows_here
+no_rows payload run e = ap (λ n. run_rows n 1 run.bits (drop run.row payload)) e
+
+-- ---- the data of rows
+
+pub end_more : (size : ℕ) (at to : ℤ) (row : RunRow) (rows later : List RunRow) → rows ≡ row ∷ later → to ≡ held (at +ℤ pos (unwrap_or row.size size)) → end_held size at rows ≡ end_held size to later
+end_more size at to row rows later e f = rw (e, f) refl
+
+pub end_none : (size : ℕ) (at : ℤ) (rows : List RunRow) → rows ≡ [] → end_held size at rows ≡ at
+end_none size at rows e = ap (end_held size at) e

@@ -1,0 +1,24 @@
+use Rattle.mp4_frag.specs.Walks.{walk_of, reached}
+use Rattle.std.proofs.Common.{◌∙◌, sym}
+use Rattle.mp4_frag.proofs.BoxPlaces.{box_end}
+use Rattle.mp4_frag.proofs.Comings.{leaf_other, leaves_done}
+use Rattle.mp4_frag.proofs.walk.open_traf.Goals as goal
+
+pub loop-at-preserved : goal.loop-at-preserved
+loop-at-preserved c =
+    let i = c.loop-at.invariant in
+    let child = c.in-Some.child in
+    let o = c.in-Some.ensures.order in
+    record {
+      within = o.2;
+      lies = i.lies;
+      places = i.places;
+      walk = i.walk;
+      on = i.on;
+      whole = leaf_other c.args.payload.now (walk_of c.args.moof c.args.tracks.now c.args.place) (reached c.args.payload.now c.loop-at.opened) c.loop-at.at c.args.lying.end child.inside child.end child.kind.0 c.in-Some.ensures.some (sym c.if-eq.ensures) (sym c.if-eq-2.ensures) ∙ i.whole;
+    }
+
+pub returns-clause-reached : goal.returns-clause-reached
+returns-clause-reached c =
+    leaves_done c.args.payload.now (walk_of c.args.moof c.args.tracks.now c.args.place) (reached c.args.payload.now c.loop-at.opened) c.loop-at.at c.args.lying.end (box_end c.args.payload.now c.loop-at.at c.args.lying.end c.loop-at-test.false)
+    ∙ c.loop-at.invariant.whole

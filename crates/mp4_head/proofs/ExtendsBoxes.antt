@@ -1,0 +1,115 @@
+-- The boxes of an `mvex`, one after the other.
+use Rattle.std.proofs.Common.{◌≡◌, ℕ, inl, inr, true, false, List, [], ◌∷◌, ◌++◌, map, refl, sym, ap, subst, ◌∙◌, arith}
+use Rattle.std.specs.Prelude.{codes, bytes_eq, nat_eq}
+use Rattle.std.specs.List.{list_any, AllZip}
+use Rattle.std.specs.Ordering.{nat_cmp}
+use Rattle.std.specs.BTreeSet.{BTreeSet, contains}
+use Rattle.std.proofs.lemmas.List.{map-append}
+use Rattle.mp4_boxes.specs.Box.{Box, box_container}
+use Rattle.mp4_boxes.specs.BoxFaults.{fault_of}
+use Rattle.mp4_boxes.specs.Children.{Holds, of_kind}
+use Rattle.mp4_boxes.specs.Layout.{trex, IsSound}
+use Rattle.mp4_boxes.specs.Places.{ruled, AreSound, IsSoundAs, leaf_of}
+use Rattle.mp4_boxes.specs.declared.rule.Rule.TheVariants as kinds
+use Rattle.mp4_boxes.specs.declared.fault.Fault.{Fault}
+use Rattle.mp4_boxes.specs.declared.fault.Kind.TheVariants.{BadValue}
+use Rattle.mp4_boxes.specs.declared.refusal.Refusal.TheVariants as refusals
+use Rattle.mp4_boxes.proofs.Among.{all_in}
+use Rattle.mp4_frag.specs.declared.trex.Trex.{Trex}
+use Rattle.mp4_frag.specs.Fragments.{trex_of}
+use Rattle.mp4_head.specs.Tree.{are_distinct}
+use Rattle.mp4_head.specs.Containers.{SaysExtends}
+use Rattle.mp4_head.specs.Ids.{HasIds, AddsId}
+use Rattle.mp4_head.specs.Leaves.{IsFaultOf}
+use Rattle.mp4_head.specs.Refuses.{RefusesIn, place_of}
+use Rattle.mp4_head.proofs.Above.{stands_of, here, leaf_here}
+use Rattle.mp4_head.proofs.Inside.{stands_before}
+use Rattle.mp4_head.proofs.Taken.{no_ids, more_ids, distinct_more, whose, zip_values}
+use Rattle.mp4_head.proofs.Walks.{Walk, walk_none, walk_more, walk_here, walk_all, sound_more, of_kind_this, of_kind_other}
+
+-- what was read of the boxes that were passed
+pub record ExtendsPassed (all left : List Box) (trexes : List Trex) (ids : BTreeSet ℕ) : Type 0 where
+  pub walk : Walk all left
+  pub sound : AreSound (ruled kinds.MovieExtends) walk.passed
+  pub says : trexes ≡ map (λ (b : Box). trex_of b.payload) (of_kind (codes "trex") walk.passed)
+  pub distinct : are_distinct (map (λ (x : Trex). x.id) trexes) ≡ true
+  pub met : HasIds ids (map (λ (x : Trex). x.id) trexes)
+
+pub extends_none : (all : List Box) (ids : BTreeSet ℕ) → ids.keys ≡ [] → ExtendsPassed all all [] ids
+extends_none all ids e = record { walk = walk_none all; sound = tt; says = refl; distinct = refl; met = no_ids ids e }
+
+-- a `trex` with a new ID was read
+pub extends_this : (all left later : List Box) (child : Box) (trexes more : List Trex) (old new : BTreeSet ℕ) (x : Trex) → ExtendsPassed all left trexes old → left ≡ child ∷ later
+    → bytes_eq (codes "trex") child.kind ≡ true → IsSound trex child.payload → x ≡ trex_of child.payload → AddsId old new x.id → more ≡ trexes ++ x ∷ [] → ExtendsPassed all later more new
+extends_this all left later child trexes more old new x p e k s r a added =
+    let ids : map (λ (y : Trex). y.id) more ≡ map (λ (y : Trex). y.id) trexes ++ x.id ∷ [] = ap (map (λ (y : Trex). y.id)) added ∙ map-append (λ (y : Trex). y.id) trexes (x ∷ []) in
+    let none : list_any (nat_eq x.id) (map (λ (y : Trex). y.id) trexes) ≡ false = sym (p.met x.id) ∙ a.new_there in
+    record {
+      walk = walk_more all left later child p.walk e;
+      sound = sound_more (ruled kinds.MovieExtends) p.walk.passed child p.sound (rw k s);
+      says =
+          added
+          ∙ ap (λ (ts : List Trex). ts ++ x ∷ []) p.says
+          ∙ ap (λ (y : Trex). map (λ (b : Box). trex_of b.payload) (of_kind (codes "trex") p.walk.passed) ++ y ∷ []) r
+          ∙ sym (map-append (λ (b : Box). trex_of b.payload) (of_kind (codes "trex") p.walk.passed) (child ∷ []))
+          ∙ ap (map (λ (b : Box). trex_of b.payload)) (sym (of_kind_this (codes "trex") p.walk.passed child k));
+      distinct = ap are_distinct ids ∙ distinct_more (map (λ (y : Trex). y.id) trexes) x.id p.distinct none;
+      met = subst (λ (numbers : List ℕ). HasIds new numbers) (sym ids) (more_ids old new (map (λ (y : Trex). y.id) trexes) x.id p.met a);
+    }
+
+-- another box was passed
+pub extends_other : (all left later : List Box) (child : Box) (trexes : List Trex) (ids : BTreeSet ℕ) → ExtendsPassed all left trexes ids → left ≡ child ∷ later → bytes_eq (codes "trex") child.kind ≡ false → ExtendsPassed all later trexes ids
+extends_other all left later child trexes ids p e k = record {
+  walk = walk_more all left later child p.walk e;
+  sound = sound_more (ruled kinds.MovieExtends) p.walk.passed child p.sound (rw k tt);
+  says = p.says ∙ ap (map (λ (b : Box). trex_of b.payload)) (sym (of_kind_other (codes "trex") p.walk.passed child k));
+  distinct = p.distinct;
+  met = p.met;
+}
+
+-- all were
+pub extends_all : (b : Box) (all left : List Box) (trexes : List Trex) (ids : BTreeSet ℕ) → Holds kinds.MovieExtends (box_container b) all → ExtendsPassed all left trexes ids → left ≡ [] → SaysExtends b trexes
+extends_all b all left trexes ids h p e =
+    let same = walk_all all left p.walk e in
+    record {
+      boxes = all;
+      holds = h;
+      sound = subst (λ (bs : List Box). AreSound (ruled kinds.MovieExtends) bs) (sym same) p.sound;
+      says = p.says ∙ ap (λ (bs : List Box). map (λ (c : Box). trex_of c.payload) (of_kind (codes "trex") bs)) (sym same);
+      distinct = p.distinct;
+    }
+
+-- the `trex` in hand is at fault
+pub extends_refuse : (b : Box) (all left later : List Box) (child : Box) (trexes : List Trex) (ids : BTreeSet ℕ) (f : Fault) → Holds kinds.MovieExtends (box_container b) all → ExtendsPassed all left trexes ids → left ≡ child ∷ later
+    → bytes_eq (codes "trex") child.kind ≡ true → IsFaultOf trex child f → RefusesIn (place_of (ruled kinds.MovieExtends) b) (refusals.Fault f)
+extends_refuse b all left later child trexes ids f h p e k q =
+    leaf_here (place_of (ruled kinds.MovieExtends) b) p.walk.passed child trex f (stands_of b all p.walk.passed later child h.tiles (walk_here all left later child p.walk e)) (rw k refl) q
+
+-- the `trex` in hand has an ID that one before it has
+pub extends_taken : (b : Box) (all left later : List Box) (child : Box) (trexes : List Trex) (ids : BTreeSet ℕ) (x : Trex) (f : Fault) → Holds kinds.MovieExtends (box_container b) all → ExtendsPassed all left trexes ids → left ≡ child ∷ later
+    → bytes_eq (codes "trex") child.kind ≡ true → IsSound trex child.payload → x ≡ trex_of child.payload → contains nat_cmp ids x.id ≡ true → f ≡ fault_of BadValue child → RefusesIn (place_of (ruled kinds.MovieExtends) b) (refusals.Fault f)
+extends_taken b all left later child trexes ids x f h p e k s r taken named =
+    let place = place_of (ruled kinds.MovieExtends) b in
+    let passed = p.walk.passed in
+    let split = walk_here all left later child p.walk e in
+    let z = subst (λ (ts : List Trex). AllZip (λ (c : Box) (t : Trex). t ≡ trex_of c.payload) (of_kind (codes "trex") passed) ts) (sym p.says) (zip_values (λ (c : Box). trex_of c.payload) (of_kind (codes "trex") passed)) in
+    let o = whose (λ (c : Box) (t : Trex). t ≡ trex_of c.payload) (λ (t : Trex). t.id) (codes "trex") passed trexes x.id z (sym (p.met x.id) ∙ taken) in
+    let q = stands_before b all passed later child o.b h.tiles split o.among in
+    let earlier : IsSound trex o.b.payload = rw o.is_kind at (all_in (λ (c : Box). IsSoundAs (leaf_of (ruled kinds.MovieExtends) c.kind) c.payload) passed o.b o.among p.sound) in
+    inr (inr (inr (inr (inr (inl (record {
+      place = place;
+      before = passed;
+      b = child;
+      stands = here place passed child (stands_of b all passed later child h.tiles split);
+      leaf_is = rw k refl;
+      readable = s.readable;
+      earlier_place = place;
+      earlier_before = q.before;
+      earlier = o.b;
+      earlier_stands = here place q.before o.b q.stands;
+      earlier_leaf_is = rw o.is_kind refl;
+      earlier_readable = earlier.readable;
+      order = omega (arith, q.order, q.header);
+      same_id = sym (ap (λ (t : Trex). t.id) r) ∙ sym o.number ∙ ap (λ (t : Trex). t.id) o.goes;
+      named = named;
+    }))))))

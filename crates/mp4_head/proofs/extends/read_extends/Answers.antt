@@ -1,0 +1,48 @@
+use Rattle.std.proofs.Common.{◌≡◌, true, false, sym, ◌∙◌}
+use Rattle.std.specs.Prelude.{codes, bytes_eq}
+use Rattle.std.proofs.lemmas.Result.{err_from_is_err_and}
+use Rattle.mp4_boxes.specs.Box.{box_container}
+use Rattle.mp4_boxes.specs.Children.{Holds}
+use Rattle.mp4_boxes.specs.View.{box_seen}
+use Rattle.mp4_boxes.specs.declared.rule.Rule.TheVariants as kinds
+use Rattle.mp4_head.proofs.Above.{child_here}
+use Rattle.mp4_head.proofs.ExtendsBoxes.{extends_none, extends_this, extends_other, extends_all, extends_refuse, extends_taken}
+use Rattle.mp4_head.proofs.Taken.{was_there, was_not_there}
+use Rattle.mp4_head.proofs.extends.read_extends.Goals as goal
+
+pub loop-child-init : goal.loop-child-init
+loop-child-init c = (tt, tt, rw c.new-trexes.ensures.items (extends_none _ _ c.new-ids.ensures.empty))
+
+pub returns-in_err-child-items-clause-refusal : goal.returns-in_err-child-items-clause-refusal
+returns-in_err-child-items-clause-refusal c =
+    let p = err_from_is_err_and c.from_residual.result c.from_residual.ensures.1 in
+    rw (p.1, p.2) (child_here kinds.MovieExtends (box_seen c.args.mvex) c.in_err-child-items.field-0.0 c.in_err-child-items.ensures.fault)
+
+pub returns-in_err-trex-clause-refusal : goal.returns-in_err-trex-clause-refusal
+returns-in_err-trex-clause-refusal c =
+    let p = err_from_is_err_and c.from_residual-in_err-trex.result c.from_residual-in_err-trex.ensures.1 in
+    let h : Holds kinds.MovieExtends (box_container (box_seen c.args.mvex)) c.into_iter-child-iterator.result = rw c.into_iter-child-iterator.ensures.into_iter_gives c.in_ok-child-items.ensures.holds in
+    let k : bytes_eq (codes "trex") (box_seen c.in-Some.child).kind ≡ true = sym c.is.ensures ∙ c.if-is.true in
+    rw (p.1, p.2) (extends_refuse (box_seen c.args.mvex) _ c.loop-child.child-iterator c.next.new.self (box_seen c.in-Some.child) _ _ c.in_err-trex.field-0.0 h c.loop-child.invariant.2 c.in-Some.ensures.steps k c.in_err-trex.ensures.fault)
+
+pub returns-then-not-branch-clause-refusal : goal.returns-then-not-branch-clause-refusal
+returns-then-not-branch-clause-refusal c =
+    let h : Holds kinds.MovieExtends (box_container (box_seen c.args.mvex)) c.into_iter-child-iterator.result = rw c.into_iter-child-iterator.ensures.into_iter_gives c.in_ok-child-items.ensures.holds in
+    let k : bytes_eq (codes "trex") (box_seen c.in-Some.child).kind ≡ true = sym c.is.ensures ∙ c.if-is.true in
+    rw c.from.ensures
+    (extends_taken (box_seen c.args.mvex) _ c.loop-child.child-iterator c.next.new.self (box_seen c.in-Some.child) _ _ c.in_ok-trex.trex c.fault.result h c.loop-child.invariant.2 c.in-Some.ensures.steps k c.in_ok-trex.ensures.sound c.in_ok-trex.ensures.says (was_there c.in_ok-insert.field-0 _ c.in_ok-insert.ensures.added c.if-not-branch.true) c.fault.ensures)
+
+pub loop-child-preserved-in_ok-push : goal.loop-child-preserved-in_ok-push
+loop-child-preserved-in_ok-push c =
+    let k : bytes_eq (codes "trex") (box_seen c.in-Some.child).kind ≡ true = sym c.is.ensures ∙ c.if-is.true in
+    (tt, tt, extends_this _ c.loop-child.child-iterator c.next.new.self (box_seen c.in-Some.child) _ _ _ _ c.in_ok-trex.trex c.loop-child.invariant.2 c.in-Some.ensures.steps k c.in_ok-trex.ensures.sound c.in_ok-trex.ensures.says (record { new_there = was_not_there c.in_ok-insert.field-0 _ c.in_ok-insert.ensures.added c.if-not-branch.false; added = c.in_ok-insert.ensures.updates }) c.in_ok-push.ensures.items)
+
+pub loop-child-preserved : goal.loop-child-preserved
+loop-child-preserved c =
+    let k : bytes_eq (codes "trex") (box_seen c.in-Some.child).kind ≡ false = sym c.is.ensures ∙ c.if-is.false in
+    (tt, tt, extends_other _ c.loop-child.child-iterator c.next.new.self (box_seen c.in-Some.child) _ _ c.loop-child.invariant.2 c.in-Some.ensures.steps k)
+
+pub returns-clause-says : goal.returns-clause-says
+returns-clause-says c =
+    let h : Holds kinds.MovieExtends (box_container (box_seen c.args.mvex)) c.into_iter-child-iterator.result = rw c.into_iter-child-iterator.ensures.into_iter_gives c.in_ok-child-items.ensures.holds in
+    extends_all (box_seen c.args.mvex) _ c.loop-child.child-iterator _ _ h c.loop-child.invariant.2 c.in-None.ensures.steps.0

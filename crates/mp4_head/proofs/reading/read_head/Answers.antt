@@ -1,0 +1,109 @@
+use Rattle.std.proofs.Common.{◌≡◌, [], ◌∷◌, ◌++◌, true, false, map, ap, sym, ◌∙◌, rules}
+use Rattle.std.specs.Prelude.{codes, bytes_eq}
+use Rattle.std.proofs.lemmas.List.{map-append}
+use Rattle.std.proofs.lemmas.Result.{err_from_is_err_and}
+use Rattle.mp4_boxes.specs.Box.{box_container}
+use Rattle.mp4_boxes.specs.Children.{Holds, is_among}
+use Rattle.mp4_boxes.specs.Places.{kept_kinds}
+use Rattle.mp4_boxes.specs.View.{box_seen}
+use Rattle.mp4_boxes.specs.declared.rule.Rule.TheVariants as kinds
+use Rattle.mp4_head.specs.Head as heads
+use Rattle.mp4_head.specs.Seen.{kept_seen}
+use Rattle.mp4_head.proofs.Above.{child_here}
+use Rattle.mp4_head.proofs.MovieBoxes.{movie_none, movie_header, movie_kept, movie_track, movie_extends, movie_other, header_refuse, kept_refuse, track_refuse, extends_refuse, movie_said, movie_no_header, said_inside}
+use Rattle.mp4_head.proofs.reading.read_head.Goals as goal
+
+pub loop-child-init : goal.loop-child-init
+loop-child-init c = (tt, tt, rw (c.new-kept.ensures.items, c.new-tracks.ensures.items, c.new-trexes.ensures.items) (movie_none _ _ c.new-ids.ensures.empty))
+
+pub returns-in_err-child-items-clause-fault : goal.returns-in_err-child-items-clause-fault
+returns-in_err-child-items-clause-fault c =
+    let p = err_from_is_err_and c.from_residual.result c.from_residual.ensures.1 in
+    rw (p.1, p.2) (child_here kinds.Movie (box_seen c.args.moov) c.in_err-child-items.field-0.0 c.in_err-child-items.ensures.fault)
+
+pub returns-in_err-read_movie_header-clause-fault : goal.returns-in_err-read_movie_header-clause-fault
+returns-in_err-read_movie_header-clause-fault c =
+    let p = err_from_is_err_and c.from_residual-in_err-read_movie_header.result c.from_residual-in_err-read_movie_header.ensures.1 in
+    let h : Holds kinds.Movie (box_container (box_seen c.args.moov)) c.into_iter-child-iterator.result = rw c.into_iter-child-iterator.ensures.into_iter_gives c.in_ok-child-items.ensures.holds in
+    let k : bytes_eq (codes "mvhd") (box_seen c.in-Some.child).kind ≡ true = sym c.is.ensures ∙ c.if-is.true in
+    rw (p.1, p.2) (header_refuse (box_seen c.args.moov) _ c.loop-child.child-iterator c.next.new.self (box_seen c.in-Some.child) _ _ _ _ _ h c.loop-child.invariant.2 c.in-Some.ensures.steps c.in_err-read_movie_header.field-0.0 k c.in_err-read_movie_header.ensures.fault)
+
+pub loop-child-preserved-then-is : goal.loop-child-preserved-then-is
+loop-child-preserved-then-is c =
+    let h : Holds kinds.Movie (box_container (box_seen c.args.moov)) c.into_iter-child-iterator.result = rw c.into_iter-child-iterator.ensures.into_iter_gives c.in_ok-child-items.ensures.holds in
+    let k : bytes_eq (codes "mvhd") (box_seen c.in-Some.child).kind ≡ true = sym c.is.ensures ∙ c.if-is.true in
+    (tt, tt, movie_header (box_seen c.args.moov) _ c.loop-child.child-iterator c.next.new.self (box_seen c.in-Some.child) _ _ _ _ _ h c.loop-child.invariant.2 c.in-Some.ensures.steps _ k c.in_ok-read_movie_header.ensures.sound c.in_ok-read_movie_header.ensures.says)
+
+pub returns-in_err-keep_unplaced-clause-fault : goal.returns-in_err-keep_unplaced-clause-fault
+returns-in_err-keep_unplaced-clause-fault c =
+    let p = err_from_is_err_and c.from_residual-in_err-keep_unplaced.result c.from_residual-in_err-keep_unplaced.ensures.1 in
+    let h : Holds kinds.Movie (box_container (box_seen c.args.moov)) c.into_iter-child-iterator.result = rw c.into_iter-child-iterator.ensures.into_iter_gives c.in_ok-child-items.ensures.holds in
+    let k : is_among (kept_kinds kinds.Movie) (box_seen c.in-Some.child).kind ≡ true = sym c.is_kept.ensures ∙ c.if-is_kept.true in
+    rw (p.1, p.2) (kept_refuse (box_seen c.args.moov) _ c.loop-child.child-iterator c.next.new.self (box_seen c.in-Some.child) _ _ _ _ _ h c.loop-child.invariant.2 c.in-Some.ensures.steps c.in_err-keep_unplaced.field-0.0 k c.in_err-keep_unplaced.ensures.names c.in_err-keep_unplaced.ensures.fault)
+
+pub loop-child-preserved-in_ok-push : goal.loop-child-preserved-in_ok-push
+loop-child-preserved-in_ok-push c =
+    let h : Holds kinds.Movie (box_container (box_seen c.args.moov)) c.into_iter-child-iterator.result = rw c.into_iter-child-iterator.ensures.into_iter_gives c.in_ok-child-items.ensures.holds in
+    let n0 : bytes_eq (codes "mvhd") (box_seen c.in-Some.child).kind ≡ false = sym c.is.ensures ∙ c.if-is.false in
+    let k : is_among (kept_kinds kinds.Movie) (box_seen c.in-Some.child).kind ≡ true = sym c.is_kept.ensures ∙ c.if-is_kept.true in (
+      tt,
+      tt,
+      movie_kept (box_seen c.args.moov) _ c.loop-child.child-iterator c.next.new.self (box_seen c.in-Some.child) _ _ _ _ _ h c.loop-child.invariant.2 c.in-Some.ensures.steps _ n0 k c.in_ok-keep_unplaced.ensures.unplaced
+          (ap (map kept_seen) c.in_ok-push.ensures.items ∙ map-append kept_seen c.loop-child.kept.items (c.in_ok-keep_unplaced.field-0 ∷ []) ∙ ap (λ (x : heads.Kept). map kept_seen c.loop-child.kept.items ++ x ∷ []) c.in_ok-keep_unplaced.ensures.kept),
+    )
+
+pub returns-in_err-read_track-clause-fault : goal.returns-in_err-read_track-clause-fault
+returns-in_err-read_track-clause-fault c =
+    let p = err_from_is_err_and c.from_residual-in_err-read_track.result c.from_residual-in_err-read_track.ensures.1 in
+    let h : Holds kinds.Movie (box_container (box_seen c.args.moov)) c.into_iter-child-iterator.result = rw c.into_iter-child-iterator.ensures.into_iter_gives c.in_ok-child-items.ensures.holds in
+    let k : bytes_eq (codes "trak") (box_seen c.in-Some.child).kind ≡ true = sym c.is-else-is_kept.ensures ∙ c.if-is-2.true in
+    rw (p.1, p.2) (track_refuse (box_seen c.args.moov) _ c.loop-child.child-iterator c.next.new.self (box_seen c.in-Some.child) _ _ _ _ _ h c.loop-child.invariant.2 c.in-Some.ensures.steps c.in_err-read_track.field-0.0 k c.in_err-read_track.ensures.refusal)
+
+pub loop-child-preserved-in_ok-push-2 : goal.loop-child-preserved-in_ok-push-2
+loop-child-preserved-in_ok-push-2 c =
+    let h : Holds kinds.Movie (box_container (box_seen c.args.moov)) c.into_iter-child-iterator.result = rw c.into_iter-child-iterator.ensures.into_iter_gives c.in_ok-child-items.ensures.holds in
+    let n0 : bytes_eq (codes "mvhd") (box_seen c.in-Some.child).kind ≡ false = sym c.is.ensures ∙ c.if-is.false in
+    let n1 : is_among (kept_kinds kinds.Movie) (box_seen c.in-Some.child).kind ≡ false = sym c.is_kept.ensures ∙ c.if-is_kept.false in
+    let k : bytes_eq (codes "trak") (box_seen c.in-Some.child).kind ≡ true = sym c.is-else-is_kept.ensures ∙ c.if-is-2.true in
+    (tt, tt, movie_track (box_seen c.args.moov) _ c.loop-child.child-iterator c.next.new.self (box_seen c.in-Some.child) _ _ _ _ _ h c.loop-child.invariant.2 c.in-Some.ensures.steps _ c.in_ok-read_track.field-0 _ n0 n1 k (record { says = c.in_ok-read_track.ensures.says }) c.in_ok-read_track.ensures.added c.in_ok-push-2.ensures.items)
+
+pub returns-in_err-trexes-clause-fault : goal.returns-in_err-trexes-clause-fault
+returns-in_err-trexes-clause-fault c =
+    let p = err_from_is_err_and c.from_residual-in_err-trexes.result c.from_residual-in_err-trexes.ensures.1 in
+    let h : Holds kinds.Movie (box_container (box_seen c.args.moov)) c.into_iter-child-iterator.result = rw c.into_iter-child-iterator.ensures.into_iter_gives c.in_ok-child-items.ensures.holds in
+    let k : bytes_eq (codes "mvex") (box_seen c.in-Some.child).kind ≡ true = sym c.is-else-is-2.ensures ∙ c.if-is-3.true in
+    rw (p.1, p.2) (extends_refuse (box_seen c.args.moov) _ c.loop-child.child-iterator c.next.new.self (box_seen c.in-Some.child) _ _ _ _ _ h c.loop-child.invariant.2 c.in-Some.ensures.steps c.in_err-trexes.field-0.0 k c.in_err-trexes.ensures.refusal)
+
+pub loop-child-preserved-then-is-3 : goal.loop-child-preserved-then-is-3
+loop-child-preserved-then-is-3 c =
+    let h : Holds kinds.Movie (box_container (box_seen c.args.moov)) c.into_iter-child-iterator.result = rw c.into_iter-child-iterator.ensures.into_iter_gives c.in_ok-child-items.ensures.holds in
+    let n0 : bytes_eq (codes "mvhd") (box_seen c.in-Some.child).kind ≡ false = sym c.is.ensures ∙ c.if-is.false in
+    let n1 : is_among (kept_kinds kinds.Movie) (box_seen c.in-Some.child).kind ≡ false = sym c.is_kept.ensures ∙ c.if-is_kept.false in
+    let n2 : bytes_eq (codes "trak") (box_seen c.in-Some.child).kind ≡ false = sym c.is-else-is_kept.ensures ∙ c.if-is-2.false in
+    let k : bytes_eq (codes "mvex") (box_seen c.in-Some.child).kind ≡ true = sym c.is-else-is-2.ensures ∙ c.if-is-3.true in
+    (tt, tt, movie_extends (box_seen c.args.moov) _ c.loop-child.child-iterator c.next.new.self (box_seen c.in-Some.child) _ _ _ _ _ h c.loop-child.invariant.2 c.in-Some.ensures.steps _ n0 n1 n2 k c.in_ok-trexes.ensures.says)
+
+pub loop-child-preserved : goal.loop-child-preserved
+loop-child-preserved c =
+    let h : Holds kinds.Movie (box_container (box_seen c.args.moov)) c.into_iter-child-iterator.result = rw c.into_iter-child-iterator.ensures.into_iter_gives c.in_ok-child-items.ensures.holds in
+    let n0 : bytes_eq (codes "mvhd") (box_seen c.in-Some.child).kind ≡ false = sym c.is.ensures ∙ c.if-is.false in
+    let n1 : is_among (kept_kinds kinds.Movie) (box_seen c.in-Some.child).kind ≡ false = sym c.is_kept.ensures ∙ c.if-is_kept.false in
+    let n2 : bytes_eq (codes "trak") (box_seen c.in-Some.child).kind ≡ false = sym c.is-else-is_kept.ensures ∙ c.if-is-2.false in
+    let n3 : bytes_eq (codes "mvex") (box_seen c.in-Some.child).kind ≡ false = sym c.is-else-is-2.ensures ∙ c.if-is-3.false in
+    (tt, tt, movie_other (box_seen c.args.moov) _ c.loop-child.child-iterator c.next.new.self (box_seen c.in-Some.child) _ _ _ _ _ h c.loop-child.invariant.2 c.in-Some.ensures.steps n0 n1 n2 n3)
+
+pub returns-in_default-clause-fault : goal.returns-in_default-clause-fault
+returns-in_default-clause-fault c =
+    let h : Holds kinds.Movie (box_container (box_seen c.args.moov)) c.into_iter-child-iterator.result = rw c.into_iter-child-iterator.ensures.into_iter_gives c.in_ok-child-items.ensures.holds in
+    absurd (movie_no_header (box_seen c.args.moov) _ c.loop-child.child-iterator c.loop-child.header _ _ _ _ h c.loop-child.invariant.2 c.in-None.ensures.steps.0 (search rules))
+
+pub returns-clause-head : goal.returns-clause-head
+returns-clause-head c =
+    let h : Holds kinds.Movie (box_container (box_seen c.args.moov)) c.into_iter-child-iterator.result = rw c.into_iter-child-iterator.ensures.into_iter_gives c.in_ok-child-items.ensures.holds in
+    movie_said (box_seen c.args.moov) _ c.loop-child.child-iterator c.loop-child.header c.in-Some-header.header _ _ _ _ c.head_of.result h c.loop-child.invariant.2 c.in-None.ensures.steps.0 (search rules) c.head_of.ensures.movie c.head_of.ensures.tracks c.head_of.ensures.trexes
+
+pub returns-clause-inside : goal.returns-clause-inside
+returns-clause-inside c =
+    let h : Holds kinds.Movie (box_container (box_seen c.args.moov)) c.into_iter-child-iterator.result = rw c.into_iter-child-iterator.ensures.into_iter_gives c.in_ok-child-items.ensures.holds in
+    said_inside (box_seen c.args.moov) c.head_of.result
+    (movie_said (box_seen c.args.moov) _ c.loop-child.child-iterator c.loop-child.header c.in-Some-header.header _ _ _ _ c.head_of.result h c.loop-child.invariant.2 c.in-None.ensures.steps.0 (search rules) c.head_of.ensures.movie c.head_of.ensures.tracks c.head_of.ensures.trexes)

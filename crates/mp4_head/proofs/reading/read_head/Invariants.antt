@@ -1,0 +1,10 @@
+use Rattle.std.proofs.Common.{map}
+use Rattle.mp4_head.specs.Seen.{kept_seen}
+use Rattle.mp4_head.proofs.MovieBoxes.{MoviePassed}
+use Rattle.mp4_head.proofs.reading.read_head.Given as goal
+
+abbrev pub invariant-loop-child : goal.invariant-loop-child
+invariant-loop-child l =
+    (goal.iterator-loop-child).can_next l.child-iterator
+    × (goal.iterator-loop-child).is_finite l.child-iterator
+    × MoviePassed l.initial.child-iterator l.child-iterator l.header (map kept_seen l.kept.items) l.tracks.items l.ids l.trexes.items

@@ -1,0 +1,10 @@
+use Rattle.std.proofs.Common.{◌≡◌, ◌-◌, ◌≤◌, length}
+use Rattle.std.specs.Prelude.{vec_len}
+use Rattle.mp4_present.proofs.carrier.Carrier.carry.Given as goal
+
+-- so many bytes were taken along
+abbrev pub invariant-loop-done : goal.invariant-loop-done
+invariant-loop-done g l = (l.done ≤ length l.bytes) × (vec_len l.self.buffer ≡ vec_len l.fn.self.buffer)
+
+abbrev pub decreases-loop-done : goal.decreases-loop-done
+decreases-loop-done g l = length l.bytes - l.done

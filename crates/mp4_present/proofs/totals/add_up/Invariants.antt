@@ -1,0 +1,19 @@
+use Rattle.std.proofs.Common.{◌≡◌, ◌+◌, ◌-◌, ◌^◌, ◌<◌, length}
+use Rattle.std.specs.Prelude.{min}
+use Rattle.mp4_boxes.specs.Bytes.{sum_of}
+use Rattle.mp4_tables.specs.declared.sample.SampleAt.{SampleAt}
+use Rattle.mp4_present.proofs.totals.add_up.Given as goal
+
+-- with what is to come the sums are those of all
+abbrev pub invariant-loop-sample : goal.invariant-loop-sample
+invariant-loop-sample g l =
+    let rest = g.C.Samples.rest in
+    record {
+      duration : min (l.totals.duration + sum_of (λ (s : SampleAt). s.duration) (rest l.samples)) (2 ^ 64 - 1) ≡ min (sum_of (λ (s : SampleAt). s.duration) (rest l.fn.samples)) (2 ^ 64 - 1);
+      bytes : min (l.totals.bytes + sum_of (λ (s : SampleAt). s.size) (rest l.samples)) (2 ^ 64 - 1) ≡ min (sum_of (λ (s : SampleAt). s.size) (rest l.fn.samples)) (2 ^ 64 - 1);
+      small : (l.totals.duration < 2 ^ 64) × (l.totals.bytes < 2 ^ 64);
+      later : g.C.Samples.follows l.fn.samples l.samples;
+    }
+
+abbrev pub decreases-loop-sample : goal.decreases-loop-sample
+decreases-loop-sample g l = length (g.C.Samples.rest l.samples)

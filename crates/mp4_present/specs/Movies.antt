@@ -1,0 +1,103 @@
+-- A file that was opened, and a walk over the samples of one of its tracks.
+use Rattle.std.specs.Prelude.{◌≡◌, ℕ, ◌+◌, ◌^◌, ◌<◌, ◌≤◌, List, [], length, take, drop, Option, Some, None, slice_get}
+use Rattle.std.specs.List.{AllByRecursion}
+use Rattle.mp4_tables.specs.Accepted.{IsAccepted, IsPlace}
+use Rattle.mp4_tables.specs.Views.{TablesSeen}
+use Rattle.mp4_frag.specs.States.{HaveRoom}
+use Rattle.mp4_frag.specs.PlacesIn.{IsPlaceIn}
+use Rattle.mp4_frag.specs.declared.state.TrackState.{TrackState}
+use Rattle.mp4_store.specs.Device.{HasRisen}
+use Rattle.mp4_boxes.specs.declared.refusal.Refusal.{Refusal}
+use Rattle.mp4_boxes.specs.declared.refusal.Refusal.TheVariants as refusals
+use Rattle.mp4_present.specs.declared.in_hand.InHand.{InHand}
+use Rattle.mp4_present.specs.declared.in_hand.InHand.TheVariants as hands
+use Rattle.mp4_present.specs.declared.in_hand.Place.{Place}
+use Rattle.mp4_present.specs.declared.in_hand.Place.TheVariants.{Tables, Fragment}
+use Rattle.mp4_present.specs.declared.movie.TrackTables.{TrackTables}
+use Rattle.mp4_present.specs.declared.reading.TopBox.{TopBox}
+use Rattle.mp4_present.specs.declared.track_info.TrackInfo.{TrackInfo}
+use Rattle.mp4_present.specs.declared.walks.Walk.{Walk}
+
+-- a box whose header is followed by its end, which lies in a file of so many bytes
+pub record IsWhole (length : ℕ) (top : TopBox) : Type 0 where
+  pub header : top.offset + top.header.header ≤ top.header.end
+  pub within : top.header.end ≤ length
+
+-- so many bytes fill the box
+abbrev pub Fills : ℕ → TopBox → Type 0
+Fills bytes top = top.offset + top.header.header + bytes ≡ top.header.end
+
+-- the bytes of the `moov` behind its header, and what was found of the file
+pub record MovieSeen : Type 0 where
+  pub top : TopBox
+  pub moov : List ℕ
+  pub file_len : ℕ
+  pub fragments : Option ℕ
+  pub longest : ℕ
+  pub tables : List TrackTables
+  pub states : List TrackState
+  pub room : ℕ
+  pub tracks : List TrackInfo
+  pub mehd : ℕ
+
+-- the payload of the `stbl` of a track
+abbrev pub table_bytes : List ℕ → TrackTables → List ℕ
+table_bytes moov t = take t.len (drop t.place moov)
+
+abbrev pub tables_seen : List ℕ → TrackTables → TablesSeen
+tables_seen moov t = record { payload = table_bytes moov t; at = t.tables }
+
+-- the tables lie in the `moov`, and a check accepted them
+pub record LieIn (moov : List ℕ) (t : TrackTables) : Type 0 where
+  pub within : t.place + t.len ≤ length moov
+  pub accepted : IsAccepted (table_bytes moov t) t.tables
+
+pub record IsMovie (m : MovieSeen) : Type 0 where
+  pub fills : Fills (length m.moov) m.top
+  pub tables : AllByRecursion (LieIn m.moov) m.tables
+  pub each_tables : length m.tables ≡ length m.tracks
+  pub each_state : length m.states ≡ length m.tracks
+  pub states : HaveRoom m.room m.states
+  pub few : m.room ≤ 2 ^ 24
+
+-- the payload of the `moof` in hand
+abbrev pub moof_bytes : Walk → List ℕ
+moof_bytes w = take w.used w.bytes.items
+
+-- the walk stands before one of the samples in hand, or behind them
+abbrev pub StandsAt : MovieSeen → Walk → Place → Type 0
+StandsAt m w (Tables p) = (t : TrackTables) × (slice_get m.tables w.track ≡ Some t) × IsPlace (table_bytes m.moov t) t.tables p
+StandsAt m w (Fragment p) = (w.used ≤ length w.bytes.items) × Fills w.used w.moof × IsPlaceIn (moof_bytes w) p
+
+-- a walk over the samples of a track of this movie, wherever it stands
+pub record GoesOn (m : MovieSeen) (w : Walk) : Type 0 where
+  pub track : w.track < length m.tracks
+  -- where fragments may follow
+  pub each_state : w.next < m.file_len → length w.states.items ≡ length m.tracks
+  pub states : HaveRoom w.room w.states.items
+  pub few : w.room ≤ 2 ^ 24
+
+-- a walk over the samples of a track of this movie
+pub record IsWalkOf (m : MovieSeen) (w : Walk) : Type 0 where
+  pub goes_on : GoesOn m w
+  pub place : StandsAt m w w.place
+
+-- the states with which a walk begins: none where no fragments follow
+abbrev pub StatesFor : MovieSeen → List TrackState → Type 0
+StatesFor m states = (m.fragments ≡ None → states ≡ []) × ((at : ℕ) → m.fragments ≡ Some at → states ≡ m.states)
+
+-- the samples in hand of a walk that stands at a place
+abbrev pub HandAt : MovieSeen → Walk → Place → InHand → Type 0
+HandAt m w (Tables p) (hands.Tables c) = (t : TrackTables) × (slice_get m.tables w.track ≡ Some t) × (c ≡ record { tables = tables_seen m.moov t; place = p })
+HandAt m w (Fragment p) (hands.Fragment c) = c ≡ record { payload = moof_bytes w; moof = w.moof.offset; tracks = m.states; place = p }
+HandAt m w _ _ = ⊥
+
+-- what the walk has in hand
+abbrev pub InHandOf : MovieSeen → Walk → InHand → Type 0
+InHandOf m w hand = HandAt m w w.place hand
+
+-- Why no further `moof` is loaded.
+abbrev pub RefusesLoad : ℕ → ℕ → Refusal → Type 0
+RefusesLoad reads reads_after refusals.StoreFailed = HasRisen reads reads_after
+RefusesLoad reads reads_after refusals.StoreChanged = Unit {0}
+RefusesLoad reads reads_after _ = ⊥

@@ -1,0 +1,82 @@
+//! The bytes of a track's samples, copied.
+ghost use Rattle.std.specs.Prelude.{◌≡◌, ◌<◌, length, vec_len, OnOk};
+ghost use Rattle.mp4_present.specs.Movies.{IsWalkOf};
+
+use crate::carrier::Carrier;
+use crate::movie::Movie;
+use crate::stretches::{Stretch, next_stretch};
+use crate::walks::Walk;
+use mp4_boxes::{Refusal, Steps};
+use mp4_store::{Sink, Store};
+use std::alloc::Global;
+use std::sync::ledger::Ledger;
+
+/// How many bytes are put at once.
+const PIECE: usize = 65_000;
+
+impl Carrier {
+    /// Takes the bytes of some samples along. Where the store has not as many bytes, it has changed.
+    pub fn carry_stretch<S: Store, K: Sink>(
+        &mut self,
+        stretch: Stretch,
+        store: &mut S,
+        sink: &mut K,
+    ) -> Result<(), Refusal>
+        ensures room { vec_len self.new.buffer ≡ vec_len self.old.buffer }
+        ensures file { S.file store.new ≡ S.file store.old }
+    {
+        let len = store.len();
+        if stretch.at > len || stretch.len > len - stretch.at {
+            return Err(Refusal::StoreChanged);
+        }
+        self.carry_range(store, stretch.at, stretch.len, sink)
+    }
+}
+
+// Takes the bytes of all samples in hand along.
+fn carry_hand<S: Store, K: Sink, L: Ledger>(
+    movie: &Movie,
+    walk: &mut Walk,
+    carrier: &mut Carrier,
+    store: &mut S,
+    sink: &mut K,
+    steps: &mut Steps<L>,
+) -> Result<(), Refusal>
+    requires { IsWalkOf movie.now walk.old }
+    ensures walk { OnOk result (IsWalkOf movie.now walk.new) }
+    ensures next { OnOk result (walk.new.next ≡ walk.old.next) }
+    ensures file { S.file store.new ≡ S.file store.old }
+{
+    let place = {
+        let mut hand = walk.in_hand(movie);
+        while let Some(stretch) = next_stretch(&mut hand, u32::MAX) {
+            carrier.carry_stretch(stretch, store, sink)?;
+        }
+        hand.place()
+    };
+    walk.keep(place, steps);
+    Ok(())
+}
+
+impl Movie {
+    /// Puts the bytes of all samples of the track at this place among the tracks, one after the other. All memory is
+    /// taken before the first byte is put.
+    pub fn copy_track<S: Store, K: Sink, L: Ledger>(
+        &self,
+        alloc: Global,
+        track: usize,
+        store: &mut S,
+        sink: &mut K,
+        steps: &mut Steps<L>,
+    ) -> Result<(), Refusal>
+        requires { track < length self.now.tracks }
+    {
+        let mut walk = self.walk(alloc, track)?;
+        let mut carrier = Carrier::new(alloc, PIECE)?;
+        carry_hand(self, &mut walk, &mut carrier, store, sink, steps)?;
+        while walk.load(self, store, steps)? {
+            carry_hand(self, &mut walk, &mut carrier, store, sink, steps)?;
+        }
+        carrier.flush(sink)
+    }
+}

@@ -1,0 +1,85 @@
+//! The `moof`s of a file, each read, checked and given up before the next.
+ghost use Rattle.std.specs.Prelude.{◌≡◌, ◌^◌, ◌≤◌, length, IfOk};
+ghost use Rattle.mp4_frag.specs.States.{HaveRoom};
+
+use crate::fragments::next_fragment;
+use crate::outline::Outline;
+use crate::reading::read_payload;
+use crate::tables_pass::{Counted, PlainTracks};
+use crate::totals::add_up;
+use mp4_boxes::{BoxView, Refusal, Steps};
+use mp4_frag::{FragCursor, FragView, TrackState, check_moof};
+use mp4_store::Store;
+use mp4_tables::Keys;
+use std::alloc::Global;
+use std::sync::ledger::Ledger;
+
+/// The tracks of a movie behind all of their samples.
+#[derive(Drop)]
+pub(crate) struct AllTracks {
+    pub(crate) states: Vec<TrackState>,
+    pub(crate) counted: Vec<Counted>,
+}
+
+// The bytes of the samples that the track with this ID has in a `moof`.
+fn bytes_in<L: Ledger>(
+    view: &FragView,
+    states: &[TrackState],
+    id: u32,
+    steps: &mut Steps<L>,
+) -> u64 {
+    let mut cursor = FragCursor::start(view, states, id, 0, Keys::new());
+    let totals = add_up(&mut cursor);
+    steps.add(cursor.place().passed());
+    totals.bytes
+}
+
+// Counts the samples of a `moof` that was checked.
+fn count_samples<L: Ledger>(
+    view: &FragView,
+    states: &[TrackState],
+    counted: &mut [Counted],
+    steps: &mut Steps<L>,
+) {
+    for (state, counted) in states.iter().zip(counted.iter_mut()) {
+        if state.count != counted.samples {
+            let bytes = bytes_in(view, states, state.id, steps);
+            *counted = Counted {
+                samples: state.count,
+                bytes: counted.bytes.saturating_add(bytes),
+            };
+        }
+    }
+}
+
+/// Reads and checks each `moof` of the file.
+pub(crate) fn check_fragments<S: Store, L: Ledger>(
+    alloc: Global,
+    store: &mut S,
+    outline: &Outline,
+    plain: &PlainTracks,
+    steps: &mut Steps<L>,
+) -> Result<AllTracks, Refusal>
+    requires few { plain.now.room ≤ 2 ^ 24 }
+    requires room { HaveRoom plain.now.room plain.now.states.items }
+    ensures states { IfOk result (λ all. length all.states.items ≡ length plain.now.states.items) }
+    ensures counted { IfOk result (λ all. length all.counted.items ≡ length plain.now.counted.items) }
+    ensures file { S.file store.new ≡ S.file store.old }
+{
+    let mut states = Vec::new(alloc);
+    states.extend_from_slice(plain.states.as_slice())?;
+    let mut counted = Vec::new(alloc);
+    counted.extend_from_slice(plain.counted.as_slice())?;
+    let mut bytes = vec![in alloc; 0u8; outline.longest as usize]?;
+    let file_len = store.len();
+    let mut room = plain.room;
+    let mut next = outline.fragments.unwrap_or(file_len);
+    while let Some(top) = next_fragment(store, next)? {
+        let len = read_payload(store, top, bytes.as_mut_slice())?;
+        let moof = top.view(&bytes[..len]);
+        let view = check_moof(moof, file_len, states.as_mut_slice(), &mut room, steps)?;
+        count_samples(&view, states.as_slice(), counted.as_mut_slice(), steps);
+        next = top.header.end;
+    }
+    Ok(AllTracks { states, counted })
+}

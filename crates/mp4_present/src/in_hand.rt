@@ -1,0 +1,71 @@
+//! The samples of a track that are in memory: of its tables, or of one `moof`.
+ghost use Rattle.std.specs.Prelude.{◌≡◌};
+
+use mp4_frag::{FragCursor, FragPlace};
+use mp4_tables::{SampleAt, Samples, TableCursor, TablePlace};
+
+/// A place among the samples in hand: plain numbers.
+#[derive(Clone, Copy)]
+pub enum Place {
+    Tables(TablePlace),
+    Fragment(FragPlace),
+}
+
+impl Place {
+    /// How many steps a cursor took to come here.
+    pub(crate) fn passed(&self) -> u64 {
+        match self {
+            Place::Tables(place) => place.passed(),
+            Place::Fragment(place) => place.passed(),
+        }
+    }
+}
+
+/// The samples left of the tables, or of the `moof` in hand.
+#[derive(Drop)]
+pub enum InHand<'a> {
+    Tables(TableCursor<'a>),
+    Fragment(FragCursor<'a>),
+}
+
+impl<'a> InHand<'a> {
+    ghost use Rattle.mp4_present.specs.InHand.{IsPlaceOf};
+
+    /// Where it stands.
+    pub fn place(&self) -> Place
+        ensures { IsPlaceOf self.now result }
+    {
+        match self {
+            InHand::Tables(cursor) => Place::Tables(cursor.place()),
+            InHand::Fragment(cursor) => Place::Fragment(cursor.place()),
+        }
+    }
+}
+
+impl<'a> Samples for InHand<'a> {
+    ghost use Rattle.mp4_present.specs.InHand.{left_in_hand, Follows, follows_itself, follows_on};
+
+    ghost rest = { left_in_hand };
+
+    ghost follows = { Follows };
+
+    #[inline]
+    fn peek(&self) -> Option<SampleAt> {
+        match self {
+            InHand::Tables(cursor) => cursor.peek(),
+            InHand::Fragment(cursor) => cursor.peek(),
+        }
+    }
+
+    #[inline]
+    fn next(&mut self) -> Option<SampleAt> {
+        match self {
+            InHand::Tables(cursor) => cursor.next(),
+            InHand::Fragment(cursor) => cursor.next(),
+        }
+    }
+
+    ghost follows_itself = { follows_itself };
+
+    ghost follows_on = { follows_on };
+}

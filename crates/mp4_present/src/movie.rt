@@ -1,0 +1,114 @@
+//! A file that was opened: the bytes of its `moov`, and plain numbers.
+use crate::reading::TopBox;
+use crate::track_info::TrackInfo;
+use mp4_boxes::{BoxView, FourCc, Memory};
+use mp4_frag::TrackState;
+use mp4_head::{MovieHead, read_head};
+use mp4_tables::{Tables, TablesAt};
+use std::alloc::Global;
+use std::marker::Model;
+
+const STBL: FourCc = FourCc(*b"stbl");
+
+/// Where the tables of a track lie: where the payload of its `stbl` begins in that of the `moov`, its length, and the
+/// tables in it.
+#[derive(Clone, Copy)]
+pub struct TrackTables {
+    pub(crate) place: usize,
+    pub(crate) len: usize,
+    pub(crate) tables: TablesAt,
+}
+
+/// A file that denotes a presentation. It holds the bytes of its `moov`, and not the store: what reads takes it again.
+#[derive(Drop)]
+pub struct Movie {
+    pub(crate) top: TopBox,
+    pub(crate) moov: Vec<u8>,
+    pub(crate) file_len: u64,
+    /// The place of the first `moof`.
+    pub(crate) fragments: Option<u64>,
+    /// The length of the longest `moof`.
+    pub(crate) longest: u64,
+    pub(crate) tables: Vec<TrackTables>,
+    /// The tracks behind their tables, and how many samples there is room for in fragments.
+    pub(crate) states: Vec<TrackState>,
+    pub(crate) room: u32,
+    pub(crate) tracks: Vec<TrackInfo>,
+    pub(crate) mehd: u64,
+}
+
+impl Model for Movie {
+    ghost use Rattle.mp4_present.specs.Movies.{MovieSeen, IsMovie};
+
+    ghost Value = { MovieSeen };
+
+    ghost view = { λ m. record {
+      top = m.top;
+      moov = m.moov.items;
+      file_len = m.file_len;
+      fragments = m.fragments;
+      longest = m.longest;
+      tables = m.tables.items;
+      states = m.states.items;
+      room = m.room;
+      tracks = m.tracks.items;
+      mehd = m.mehd;
+    } };
+
+    ghost invariant = { λ m. IsMovie (record {
+      top = m.top;
+      moov = m.moov.items;
+      file_len = m.file_len;
+      fragments = m.fragments;
+      longest = m.longest;
+      tables = m.tables.items;
+      states = m.states.items;
+      room = m.room;
+      tracks = m.tracks.items;
+      mehd = m.mehd;
+    }) };
+}
+
+impl Movie {
+    ghost use Rattle.std.specs.Prelude.{◌≡◌, ◌<◌, length, slice_get, Some};
+    ghost use Rattle.mp4_present.specs.Movies.{IsMovie, tables_seen};
+    ghost use Rattle.mp4_present.specs.declared.movie.TrackTables.{TrackTables};
+
+    /// What the movie and its tracks say of themselves, read anew from the bytes of the `moov`.
+    pub fn head(&self, alloc: Global) -> Result<MovieHead<'_>, Memory> {
+        let view = self.top.view(self.moov.as_slice());
+        read_head(alloc, view).map_err(|_| Memory)
+    }
+
+    /// The tracks in numbers, in the order of the `moov`.
+    pub fn tracks(&self) -> &[TrackInfo]
+        ensures { result.now ≡ self.now.tracks }
+    {
+        self.tracks.as_slice()
+    }
+
+    /// The length of the longest track in the movie's timescale, 0 without tracks.
+    pub fn mehd(&self) -> u64
+        ensures { result ≡ self.now.mehd }
+    {
+        self.mehd
+    }
+
+    // The tracks behind their tables.
+    pub(crate) fn states(&self) -> &[TrackState]
+        ensures same { result.now ≡ self.now.states }
+        ensures is_movie { IsMovie self.now }
+    {
+        self.states.as_slice()
+    }
+
+    // The tables of a track.
+    pub(crate) fn tables_of(&self, track: usize) -> Tables<'_>
+        requires { track < length self.now.tracks }
+        ensures { (t : TrackTables) → slice_get self.now.tables track ≡ Some t → result ≡ tables_seen self.now.moov t }
+    {
+        let found = self.tables[track];
+        let payload = &self.moov[found.place..found.place + found.len];
+        Tables::again(BoxView::new(STBL, 0, 8, payload), found.tables)
+    }
+}

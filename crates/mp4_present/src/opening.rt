@@ -1,0 +1,114 @@
+//! A file, read to one presentation or refused.
+ghost use Rattle.std.specs.Prelude.{◌≡◌, length, IfOk};
+ghost use Rattle.mp4_present.specs.Movies.{Fills};
+ghost use Rattle.mp4_present.specs.Plain.{ArePlain};
+
+use crate::fragment_pass::{AllTracks, check_fragments};
+use crate::limit_checks::{check_limits, duration_of};
+use crate::movie::Movie;
+use crate::outline::{Outline, read_outline};
+use crate::reading::read_bytes;
+use crate::tables_pass::{Counted, PlainTracks, check_tables};
+use crate::track_info::TrackInfo;
+use mp4_boxes::{Refusal, Steps};
+use mp4_frag::TrackState;
+use mp4_head::{MovieHead, TrackHead, read_head};
+use mp4_store::Store;
+use std::alloc::Global;
+use std::sync::ledger::Ledger;
+
+// What is found of the tracks of a file.
+#[derive(Drop)]
+struct Found {
+    plain: PlainTracks,
+    tracks: Vec<TrackInfo>,
+    mehd: u64,
+}
+
+// A track in numbers.
+fn info_of(track: &TrackHead, state: TrackState, counted: Counted) -> TrackInfo {
+    TrackInfo {
+        id: state.id,
+        timescale: track.media.timescale,
+        start: state.start,
+        samples: state.count,
+        duration: duration_of(state),
+        bytes: counted.bytes,
+        keys: state.keys,
+    }
+}
+
+// The tracks in numbers.
+fn infos_of(alloc: Global, head: &MovieHead, all: &AllTracks) -> Result<Vec<TrackInfo>, Refusal>
+    requires states { length all.now.states.items ≡ length head.now.tracks.items }
+    requires counted { length all.now.counted.items ≡ length head.now.tracks.items }
+    ensures { IfOk result (λ tracks. length tracks.items ≡ length head.now.tracks.items) }
+{
+    let mut tracks = Vec::new(alloc);
+    for k in 0..head.tracks.len() {
+        let track = &head.tracks[k];
+        tracks.push(info_of(track, all.states[k], all.counted[k]))?;
+    }
+    Ok(tracks)
+}
+
+// Checks all that a file of this outline has, behind the headers of its own boxes.
+fn find<S: Store, L: Ledger>(
+    alloc: Global,
+    store: &mut S,
+    outline: &Outline,
+    moov: &[u8],
+    steps: &mut Steps<L>,
+) -> Result<Found, Refusal>
+    requires { Fills (length moov.now) outline.now.moov }
+    ensures file { S.file store.new ≡ S.file store.old }
+    ensures plain { IfOk result (λ f. ArePlain moov.now (length f.tracks.items) f.plain) }
+{
+    let view = outline.moov.view(moov);
+    let head = read_head(alloc, view)?;
+    let plain = check_tables(alloc, view, &head, store.len(), steps)?;
+    let all = check_fragments(alloc, store, outline, &plain, steps)?;
+    let mehd = check_limits(view, &head, all.states.as_slice())?;
+    let tracks = infos_of(alloc, &head, &all)?;
+    Ok(Found {
+        plain,
+        tracks,
+        mehd,
+    })
+}
+
+/// Reads a file to the presentation that it denotes, or names a fault that stands in it. The `moov` is read once and
+/// kept; each `moof` is read, checked and given up before the next; media data is not read.
+pub fn open_movie<S: Store, L: Ledger>(
+    alloc: Global,
+    store: &mut S,
+    steps: &mut Steps<L>,
+) -> Result<Movie, Refusal> {
+    let outline = read_outline(store)?;
+    let at = outline.moov.payload_offset();
+    let moov = read_bytes(alloc, store, at, outline.moov.header.end - at)?;
+    let file_len = store.len();
+    let Found {
+        plain,
+        tracks,
+        mehd,
+    } = find(alloc, store, &outline, moov.as_slice(), steps)?;
+    let PlainTracks {
+        tables,
+        states,
+        room,
+        ..
+    } = plain;
+    Ok(Movie {
+        top: outline.moov,
+        moov,
+        file_len,
+        fragments: outline.fragments,
+        longest: outline.longest,
+        tables,
+        states,
+        room,
+        tracks,
+        mehd,
+    })
+}

@@ -1,0 +1,141 @@
+//! How a walk begins and goes on.
+ghost use Rattle.std.specs.Prelude.{◌≡◌, ◌<◌, ◌≤◌, length, IfOk, IfErr, OnOk, IsTrue};
+ghost use Rattle.mp4_boxes.specs.declared.refusal.Refusal.TheVariants as refusals;
+ghost use Rattle.mp4_present.specs.Movies.{Fills, GoesOn, IsWalkOf, StatesFor, InHandOf, RefusesLoad};
+
+use crate::fragments::next_fragment;
+use crate::in_hand::{InHand, Place};
+use crate::movie::Movie;
+use crate::reading::read_payload;
+use crate::totals::in_64_bits;
+use crate::walks::Walk;
+use mp4_boxes::{Memory, Refusal, Steps};
+use mp4_frag::{FragCursor, FragView, TrackState, check_moof};
+use mp4_store::Store;
+use mp4_tables::{Samples, TableCursor};
+use std::alloc::Global;
+use std::sync::ledger::Ledger;
+
+impl Movie {
+    // The tracks behind their tables, where fragments may follow.
+    fn states_for_walk(&self, alloc: Global) -> Result<Vec<TrackState>, Memory>
+        ensures { IfOk result (λ states. StatesFor self.now states.items) }
+    {
+        let mut states = Vec::new(alloc);
+        if self.fragments.is_some() && states.extend_from_slice(self.states()).is_err() {
+            return Err(Memory);
+        }
+        Ok(states)
+    }
+
+    /// A walk over the samples of the track at this place among the tracks. All room that it needs is made here.
+    pub fn walk(&self, alloc: Global, track: usize) -> Result<Walk, Memory>
+        requires { track < length self.now.tracks }
+        ensures walk { IfOk result (IsWalkOf self.now) }
+        ensures room { IfOk result (λ walk. length walk.bytes.items ≡ self.now.longest) }
+    {
+        let states = self.states_for_walk(alloc)?;
+        let Ok(bytes) = vec![in alloc; 0u8; self.longest as usize] else {
+            return Err(Memory);
+        };
+        let cursor = TableCursor::start(&self.tables_of(track));
+        Ok(Walk {
+            track,
+            place: Place::Tables(cursor.place()),
+            moof: self.top,
+            bytes,
+            used: 0,
+            states,
+            room: self.room,
+            next: self.fragments.unwrap_or(self.file_len),
+        })
+    }
+}
+
+impl Walk {
+    /// The samples left of what is in memory: of the tables, or of a `moof`.
+    pub fn in_hand<'a>(&'a self, movie: &'a Movie) -> InHand<'a>
+        requires { IsWalkOf movie.now self.now }
+        ensures { InHandOf movie.entry.now self.entry.now result }
+    {
+        match self.place {
+            Place::Tables(place) => {
+                InHand::Tables(TableCursor::at(&movie.tables_of(self.track), place))
+            }
+            Place::Fragment(place) => {
+                let view = FragView::again(self.moof.view(&self.bytes[..self.used]));
+                InHand::Fragment(FragCursor::at(&view, movie.states(), place))
+            }
+        }
+    }
+
+    /// The walk goes on from a place of what is in hand. The steps to there are counted.
+    pub fn keep<L: Ledger>(&mut self, place: Place, steps: &mut Steps<L>)
+        ensures { self.new ≡ record self.old { place = place } }
+    {
+        steps.add(place.passed().saturating_sub(self.place.passed()));
+        self.place = place;
+    }
+
+    // Checks the `moof` in the room, and says whether it has samples of the track. These are in hand then.
+    fn take<L: Ledger>(&mut self, movie: &Movie, steps: &mut Steps<L>) -> Result<bool, Refusal>
+        requires movie { GoesOn movie.now self.old }
+        requires fills { Fills self.old.used self.old.moof }
+        requires used { self.old.used ≤ length self.old.bytes.items }
+        requires states { length self.old.states.items ≡ length movie.now.tracks }
+        ensures walk { OnOk result (IsWalkOf movie.now self.new) }
+        ensures room { self.new.bytes ≡ self.old.bytes }
+        ensures next { self.new.next ≡ self.old.next }
+        ensures refusal { IfErr result (λ r. r ≡ refusals.StoreChanged) }
+    {
+        let before = self.states[self.track];
+        let moof = self.moof.view(&self.bytes[..self.used]);
+        let len = movie.file_len;
+        let states = self.states.as_mut_slice();
+        let Ok(view) = check_moof(moof, len, states, &mut self.room, steps) else {
+            return Err(Refusal::StoreChanged);
+        };
+        let after = self.states[self.track];
+        let due = if before.count == 0 {
+            after.start
+        } else {
+            in_64_bits(before.time)
+        };
+        let keys = movie.tracks()[self.track].keys;
+        let cursor = FragCursor::start(&view, movie.states(), after.id, due, keys);
+        let has_samples = cursor.peek().is_some();
+        self.place = Place::Fragment(cursor.place());
+        Ok(has_samples)
+    }
+
+    /// Reads the next `moof` that has samples of the track, where nothing is left in hand; false where there is none.
+    /// It takes no memory. Bytes that were read before are checked again: a difference that shows is StoreChanged.
+    pub fn load<S: Store, L: Ledger>(
+        &mut self,
+        movie: &Movie,
+        store: &mut S,
+        steps: &mut Steps<L>,
+    ) -> Result<bool, Refusal>
+        requires { IsWalkOf movie.now self.old }
+        ensures honesty { S.is_honest store.new ≡ S.is_honest store.old }
+        ensures file { S.file store.new ≡ S.file store.old }
+        ensures walk { OnOk result (IsWalkOf movie.now self.new) }
+        ensures room { length self.new.bytes.items ≡ length self.old.bytes.items }
+        ensures next { IfOk result (λ more. IsTrue more → (self.old.next < self.new.next) × (self.new.next ≤ length (S.file store.old))) }
+        ensures reads { OnOk result (S.read_failures store.new ≡ S.read_failures store.old) }
+        ensures refusal { IfErr result (RefusesLoad (S.read_failures store.old) (S.read_failures store.new)) }
+    {
+        if store.len() != movie.file_len {
+            return Err(Refusal::StoreChanged);
+        }
+        while let Some(top) = next_fragment(store, self.next)? {
+            self.used = read_payload(store, top, self.bytes.as_mut_slice())?;
+            self.moof = top;
+            self.next = top.header.end;
+            if self.take(movie, steps)? {
+                return Ok(true);
+            }
+        }
+        Ok(false)
+    }
+}
