@@ -1,4 +1,4 @@
-//! `mp4norm`: the boxes of an MP4 file on standard input, a line each.
+//! `mp4norm`: the boxes of an MP4 file on standard input or in a file, a line each.
 //!
 //! With no words it reads standard input, at most 2^30 bytes, and lists the boxes on standard output. The status is 0,
 //! 1 where a header is at fault, 2 without memory, 3 where reading or writing failed, 64 for words that it doesn't know.
@@ -26,8 +26,9 @@ pub use line::Line;
 pub use line_buffer::LineBuffer;
 pub use movie_json::show_text;
 use mp4_boxes::Refusal;
-use mp4_store::{IoSink, MemStore};
+use mp4_store::{FileStore, IoSink, MemStore, Sink};
 pub use sample_lines::put_lines;
+use std::fs::File;
 use std::io::Write;
 use std::process::ExitCode;
 use std::{env, io};
@@ -39,6 +40,23 @@ const MOST_INPUT: usize = 1 << 30;
 /// The status for words that are not known.
 const USAGE: u8 = 64;
 
+// The words behind the program's name.
+fn words(rt: &HostRuntime) -> Result<Vec<String>, CommandFault> {
+    match env::args(rt) {
+        Ok(args) => Ok(args.skip(1).collect(rt.alloc())?),
+        Err(error) if error.kind() == io::ErrorKind::OutOfMemory => Err(CommandFault::Memory),
+        Err(_) => {
+            let text = String::from_str(rt.alloc(), "error: a word is not UTF-8\n")?;
+            Err(CommandFault::Usage(text))
+        }
+    }
+}
+
+fn open(rt: &HostRuntime, file: &str) -> Result<FileStore, Refusal> {
+    let file = File::open(rt, file).map_err(|_| Refusal::StoreFailed)?;
+    FileStore::new(file).map_err(|_| Refusal::StoreFailed)
+}
+
 // Lists the boxes of standard input.
 fn list_input(rt: &HostRuntime) -> Result<(), Refusal> {
     let input = read_input(rt.alloc(), &mut rt.reader(), MOST_INPUT)?;
@@ -47,19 +65,62 @@ fn list_input(rt: &HostRuntime) -> Result<(), Refusal> {
     boxes(rt.alloc(), &mut store, &mut sink)
 }
 
-fn main(rt: HostRuntime) -> ExitCode {
-    let words = env::args(&rt).map_or(0, |words| words.count());
-    if words > 1 {
-        let _ = eprintln!(rt; "usage: mp4norm < FILE");
-        return ExitCode::from(USAGE);
+// Lists the boxes of a file.
+fn list_file(rt: &HostRuntime, file: &str) -> Result<(), Refusal> {
+    let mut store = open(rt, file)?;
+    let mut sink = IoSink::new(io::writer(rt));
+    boxes(rt.alloc(), &mut store, &mut sink)
+}
+
+fn act(rt: &HostRuntime, action: Action) -> Result<(), Refusal> {
+    match action {
+        Action::BoxesInput => list_input(rt),
+        Action::Boxes { file } => list_file(rt, file),
+        Action::Show { .. }
+        | Action::Samples { .. }
+        | Action::Extract { .. }
+        | Action::Normalise { .. } => Err(Refusal::StoreFailed),
     }
-    let Err(refusal) = list_input(&rt) else {
+}
+
+fn put_text(rt: &HostRuntime, text: &str) -> Result<(), Refusal> {
+    let mut sink = IoSink::new(io::writer(rt));
+    sink.put(text.as_bytes())?;
+    Ok(())
+}
+
+// Says what there is to say of an answer, and gives the status.
+fn end(rt: &HostRuntime, answer: Result<(), Refusal>) -> ExitCode {
+    let Err(refusal) = answer else {
         return ExitCode::SUCCESS;
     };
     let mut errors = rt.stderr();
     let _ = errors.write_all(fault_line(&refusal).as_bytes());
     let _ = errors.write_all(b"\n");
     ExitCode::from(status(&refusal))
+}
+
+// Says why there is nothing to do.
+fn tell(rt: &HostRuntime, fault: CommandFault) -> ExitCode {
+    match fault {
+        CommandFault::Help(text) => end(rt, put_text(rt, text.as_str())),
+        CommandFault::Usage(text) => {
+            let _ = rt.stderr().write_all(text.as_str().as_bytes());
+            ExitCode::from(USAGE)
+        }
+        CommandFault::Memory => end(rt, Err(Refusal::Memory)),
+    }
+}
+
+fn main(rt: HostRuntime) -> ExitCode {
+    let words = match words(&rt) {
+        Ok(words) => words,
+        Err(fault) => return tell(&rt, fault),
+    };
+    match action(rt.alloc(), words.as_slice()) {
+        Ok(action) => end(&rt, act(&rt, action)),
+        Err(fault) => tell(&rt, fault),
+    }
 }
 
 #[cfg(test)]
