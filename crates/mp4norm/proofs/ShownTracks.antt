@@ -1,8 +1,8 @@
 -- The JSON of tracks, one by one.
-use Rattle.std.proofs.Common.{◌≡◌, ℕ, zero, suc, ◌+◌, ◌<◌, ◌≤◌, min, false, List, [], ◌∷◌, ◌++◌, length, map, take, get_or, refl, ap, arith, length-take}
+use Rattle.std.proofs.Common.{◌≡◌, ◌⊎◌, inl, inr, ℕ, false, List, [], ◌∷◌, ◌++◌, length, map, refl, sym, ap, ◌∙◌, append_assoc, arith}
 use Rattle.std.specs.Prelude.{ℤ, pos, negsuc, Result, Ok, Err, IfOk}
 use Rattle.std.specs.List.{AllZip}
-use Rattle.std.proofs.lemmas.List.{take-map, map_push, take_more, length-map}
+use Rattle.std.proofs.lemmas.List.{append-nil, length-map}
 use Rattle.serde_json.specs.Data.{Data, number}
 use Rattle.serde_json.specs.Find.{of_integer}
 use Rattle.serde_json.specs.View.{items_of}
@@ -16,30 +16,24 @@ use Rattle.mp4_present.specs.Presentation.{heads as heads_of}
 use Rattle.mp4norm.specs.Texts.{edit_value, description_value, movie_data, track_value, sample_data, show_value}
 use Rattle.mp4norm.specs.ShowValue.{info_value, infos_values, ShowValue}
 
-push_one : (hs : List heads.TrackHead) (infos : List TrackInfo) (h : heads.TrackHead) (n : TrackInfo) → length hs ≡ length infos → infos_values (hs ++ h ∷ []) (infos ++ n ∷ []) ≡ infos_values hs infos ++ info_value h n ∷ []
-push_one [] [] h n e = refl
-push_one [] (m ∷ infos) h n e = absurd (omega arith)
-push_one (g ∷ hs) [] h n e = absurd (omega arith)
-push_one (g ∷ hs) (m ∷ infos) h n e = ap (λ (ds : List Data). info_value g m ∷ ds) (push_one hs infos h n (omega arith))
-
 -- one track more
-pub infos_more : (hs : List TrackHead) (infos : List TrackInfo) (i bound : ℕ) (h : TrackHead) (n : TrackInfo) → bound ≡ min (length hs) (length infos) → i < bound → h ≡ get_or hs i h → n ≡ get_or infos i n
-    → infos_values (map track_seen (take (i + 1) hs)) (take (i + 1) infos) ≡ infos_values (map track_seen (take i hs)) (take i infos) ++ info_value (track_seen h) n ∷ []
-infos_more hs infos i bound h n least lt a b =
-    let same : length (map track_seen (take i hs)) ≡ length (take i infos) = rw length-map (let x = length-take i hs in let y = length-take i infos in omega arith) in
-    rw (take_more hs i h (omega arith), take_more infos i n (omega arith), ← a, ← b, map_push) (push_one (map track_seen (take i hs)) (take i infos) (track_seen h) n same)
+pub infos_more : (done done_after all : List Data) (hs hs_after : List TrackHead) (infos infos_after : List TrackInfo) (h : TrackHead) (n : TrackInfo) (d : Data)
+    → done ++ infos_values (map track_seen hs) infos ≡ all → hs ≡ h ∷ hs_after → infos ≡ n ∷ infos_after → d ≡ info_value (track_seen h) n → done_after ≡ done ++ d ∷ []
+    → done_after ++ infos_values (map track_seen hs_after) infos_after ≡ all
+infos_more done done_after all hs hs_after infos infos_after h n d e first_head first_info value more =
+    let before = rw (first_head, first_info) at e in
+    rw (more, append_assoc, value) before
 
-taken : (k : ℕ) (hs : List heads.TrackHead) (infos : List TrackInfo) → min (length hs) (length infos) ≤ k → infos_values (take k hs) (take k infos) ≡ infos_values hs infos
-taken zero [] infos le = refl
-taken zero (h ∷ hs) [] le = refl
-taken zero (h ∷ hs) (n ∷ infos) le = absurd (omega arith)
-taken (suc k) [] infos le = refl
-taken (suc k) (h ∷ hs) [] le = refl
-taken (suc k) (h ∷ hs) (n ∷ infos) le = ap (λ (ds : List Data). info_value h n ∷ ds) (taken k hs infos (omega arith))
+none_left : (hs : List heads.TrackHead) (infos : List TrackInfo) → (length hs ≡ 0) ⊎ (length infos ≡ 0) → infos_values hs infos ≡ []
+none_left [] infos e = refl
+none_left (h ∷ hs) [] e = refl
+none_left (h ∷ hs) (n ∷ infos) (inl e) = absurd (omega arith)
+none_left (h ∷ hs) (n ∷ infos) (inr e) = absurd (omega arith)
 
--- all tracks
-pub infos_all : (hs : List TrackHead) (infos : List TrackInfo) (i bound : ℕ) → bound ≡ min (length hs) (length infos) → bound ≤ i → infos_values (map track_seen (take i hs)) (take i infos) ≡ infos_values (map track_seen hs) infos
-infos_all hs infos i bound least le = rw (← take-map track_seen i hs) (taken i (map track_seen hs) infos (rw length-map (omega arith)))
+-- no track is left
+pub infos_all : (done all : List Data) (hs : List TrackHead) (infos : List TrackInfo) → done ++ infos_values (map track_seen hs) infos ≡ all → (length hs ≡ 0) ⊎ (length infos ≡ 0) → done ≡ all
+infos_all done all hs infos e (inl none) = sym (append-nil done) ∙ ap (λ (ds : List Data). done ++ ds) (sym (none_left (map track_seen hs) infos (inl (rw length-map none)))) ∙ e
+infos_all done all hs infos e (inr none) = sym (append-nil done) ∙ ap (λ (ds : List Data). done ++ ds) (sym (none_left (map track_seen hs) infos (inr none))) ∙ e
 
 -- ---- what is shown has no float
 

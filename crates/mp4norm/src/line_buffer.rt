@@ -2,7 +2,7 @@
 ghost use Rattle.std.specs.Prelude.{◌≡◌, ℕ, ◌+◌, ◌≤◌, [], ◌++◌, length, take, IfOk, OnOk, OnErr};
 ghost use Rattle.std.specs.Io.KnownBytes.{Appends};
 ghost use Rattle.mp4_store.specs.Device.{Counts, AppendsPrefix};
-ghost use Rattle.mp4norm.specs.LinesHeld.{GoesOn};
+ghost use Rattle.mp4norm.specs.LinesHeld.{TextGoesOn};
 
 use crate::input::room;
 use mp4_boxes::Refusal;
@@ -59,7 +59,7 @@ impl LineBuffer {
     /// Adds a line behind what is held.
     pub(crate) fn push<K: Sink>(&mut self, line: &[u8], sink: &mut K) -> Result<(), WriteFailed>
         requires { length line.now ≤ ROOM }
-        ensures text { OnOk result (GoesOn (K.contents sink.old) (K.contents sink.new) self.old self.new line.now) }
+        ensures text { OnOk result (TextGoesOn (K.contents sink.old) (K.contents sink.new) self.old self.new line.now) }
         ensures prefix { OnErr result (AppendsPrefix (K.contents sink.old) (K.contents sink.new) self.old) }
         ensures cause { Counts (K.put_failures sink.old) (K.put_failures sink.new) result }
     {

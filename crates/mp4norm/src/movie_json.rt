@@ -82,8 +82,8 @@ fn tracks_value(
     ensures { IfOk result (λ v. view v ≡ array (items_of (infos_values (map track_seen heads.now) infos.now))) }
 {
     let mut values = Vec::new(alloc);
-    for i in 0..heads.len().min(infos.len()) {
-        values.push(track_value(alloc, &heads[i], &infos[i])?)?;
+    for (head, info) in heads.iter().zip(infos) {
+        values.push(track_value(alloc, head, info)?)?;
     }
     Ok(Value::Array(values))
 }

@@ -1,7 +1,7 @@
 //! The lines of samples.
 ghost use Rattle.std.specs.Prelude.{◌≡◌, ◌+◌, ◌^◌, ◌<◌, [], ◌++◌, length, OnOk, OnErr};
 ghost use Rattle.mp4_store.specs.Device.{Counts, AppendsPrefix};
-ghost use Rattle.mp4norm.specs.LinesHeld.{GoesOn};
+ghost use Rattle.mp4norm.specs.LinesHeld.{TextGoesOn};
 ghost use Rattle.mp4norm.specs.Texts.{sample_at_line, sample_at_lines};
 
 use crate::backward_line::BackwardLine;
@@ -38,7 +38,7 @@ pub fn put_lines<C: Samples, K: Sink>(
     buffer: &mut LineBuffer,
     sink: &mut K,
 ) -> Result<(), WriteFailed>
-    ensures lines { OnOk result (number.old + length (C.rest samples.old) < 2 ^ 64 → GoesOn (K.contents sink.old) (K.contents sink.new) buffer.old buffer.new (sample_at_lines number.old (C.rest samples.old))) }
+    ensures lines { OnOk result (number.old + length (C.rest samples.old) < 2 ^ 64 → TextGoesOn (K.contents sink.old) (K.contents sink.new) buffer.old buffer.new (sample_at_lines number.old (C.rest samples.old))) }
     ensures number { OnOk result (number.old + length (C.rest samples.old) < 2 ^ 64 → number.new ≡ number.old + length (C.rest samples.old)) }
     ensures rest { OnOk result (C.rest samples.new ≡ []) }
     ensures prefix { OnErr result (number.old + length (C.rest samples.old) < 2 ^ 64 → AppendsPrefix (K.contents sink.old) (K.contents sink.new) (buffer.old ++ sample_at_lines number.old (C.rest samples.old))) }

@@ -1,0 +1,4 @@
+use Rattle.mp4norm.proofs.show.show.Given as goal
+
+abbrev pub ghosts-show_counted : goal.ghosts-show_counted
+ghosts-show_counted g a = record { name = a.blank.name; parts = a.blank.parts }

@@ -1,0 +1,39 @@
+//! The bytes of a track's samples.
+ghost use Rattle.std.specs.Prelude.{◌≡◌, ◌<◌};
+
+use crate::tracks::track_with;
+use mp4_boxes::{Refusal, Steps};
+use mp4_present::open_movie;
+use mp4_store::{Sink, Store};
+use std::alloc::Global;
+use std::marker::Brand;
+use std::sync::ledger::{Blank, Ledger};
+
+// As `extract`; its steps are counted in this ledger.
+fn extract_counted<S: Store, K: Sink, L: Ledger>(
+    alloc: Global,
+    store: &mut S,
+    id: u32,
+    sink: &mut K,
+    blank: Blank,
+) -> Result<(), Refusal>
+    requires name { blank.name ≡ L.name }
+    requires parts { blank.parts ≡ L.parts }
+    requires some { 0 < L.parts }
+{
+    let mut steps = Steps::<L>::new(blank);
+    let movie = open_movie(alloc, store, &mut steps)?;
+    let track = track_with(&movie, id)?;
+    movie.copy_track(alloc, track, store, sink, &mut steps)
+}
+
+/// Puts the bytes of the samples of the track with this ID, one after the other. The whole file is judged, and all memory
+/// is taken, before the first byte is put.
+pub fn extract<S: Store, K: Sink>(
+    alloc: Global,
+    store: &mut S,
+    id: u32,
+    sink: &mut K,
+) -> Result<(), Refusal> {
+    extract_counted::<S, K, Brand>(alloc, store, id, sink, Blank::new(1))
+}
