@@ -4,7 +4,7 @@ ghost use Rattle.mp4_present.specs.InHand.{Follows};
 ghost use Rattle.mp4_present.specs.Movies.{IsWalkOf};
 ghost use Rattle.mp4_plan.specs.Gathering.{count_of};
 
-use crate::ends::{End, Fed};
+use crate::ends::End;
 use crate::limited::Limited;
 use crate::planner::{Planned, Planner};
 use crate::rows::{Noting, Row};
@@ -36,13 +36,31 @@ pub(crate) fn peek_sample<S: Store, L: Ledger>(
     Ok(next)
 }
 
+// Why feeding the samples in hand came to an end.
+#[derive(Clone, Copy, Debug, PartialEq, Eq)]
+enum Stop {
+    /// None is left.
+    Empty,
+    /// The next one doesn't go into the piece.
+    Ended,
+    /// There is no room for the next one.
+    Full,
+}
+
 // What feeding the samples in hand gave.
 #[derive(Drop)]
 struct FedHand {
-    fed: Fed,
+    stop: Stop,
     place: Place,
-    /// Whether samples are left that didn't end the piece: there was no room for them.
-    is_stuck: bool,
+}
+
+// Why a piece took no more samples than those before this one.
+fn stop_at(planner: &Planner, next: Option<SampleAt>) -> Stop {
+    match next {
+        Some(sample) if planner.takes(&sample) => Stop::Full,
+        Some(_) => Stop::Ended,
+        None => Stop::Empty,
+    }
 }
 
 // Feeds the samples in hand to a planner, at most 2^24 for a piece.
@@ -56,12 +74,10 @@ fn feed_hand(planner: &mut Planner, walk: &Walk, movie: &Movie) -> FedHand
         inner: walk.in_hand(movie),
         left: MOST_SAMPLES - planner.piece().count,
     };
-    let fed = planner.feed(&mut hand);
-    let is_stuck = fed == Fed::More && hand.inner.peek().is_some();
+    let _ = planner.feed(&mut hand);
     FedHand {
-        fed,
+        stop: stop_at(planner, hand.inner.peek()),
         place: hand.inner.place(),
-        is_stuck,
     }
 }
 
@@ -73,12 +89,10 @@ fn note_hand(planner: &mut Planner, walk: &Walk, movie: &Movie, rows: &mut [Row]
     ensures place { IsWalkOf movie.now (record walk.now { place = result.place }) }
 {
     let mut hand = Noting::new(walk.in_hand(movie), rows);
-    let fed = planner.feed(&mut hand);
-    let is_stuck = fed == Fed::More && hand.inner.peek().is_some();
+    let _ = planner.feed(&mut hand);
     FedHand {
-        fed,
+        stop: stop_at(planner, hand.inner.peek()),
         place: hand.inner.place(),
-        is_stuck,
     }
 }
 
@@ -100,11 +114,14 @@ pub(crate) fn plan_piece<S: Store, L: Ledger>(
     loop {
         let hand = feed_hand(&mut planner, walk, movie);
         walk.keep(hand.place, steps);
-        if hand.is_stuck {
-            return Err(Refusal::StoreChanged);
-        }
-        if hand.fed == Fed::Closed || !walk.load(movie, store, steps)? {
-            return Ok(planner.piece());
+        match hand.stop {
+            Stop::Full => return Err(Refusal::StoreChanged),
+            Stop::Ended => return Ok(planner.piece()),
+            Stop::Empty => {
+                if !walk.load(movie, store, steps)? {
+                    return Ok(planner.piece());
+                }
+            }
         }
     }
 }
@@ -132,11 +149,14 @@ pub(crate) fn note_piece<S: Store, L: Ledger>(
         let noted = planner.piece().count as usize;
         let hand = note_hand(&mut planner, walk, movie, &mut rows[noted..]);
         walk.keep(hand.place, steps);
-        if hand.is_stuck {
-            return Err(Refusal::StoreChanged);
-        }
-        if hand.fed == Fed::Closed || !walk.load(movie, store, steps)? {
-            return Ok(planner.piece());
+        match hand.stop {
+            Stop::Full => return Err(Refusal::StoreChanged),
+            Stop::Ended => return Ok(planner.piece()),
+            Stop::Empty => {
+                if !walk.load(movie, store, steps)? {
+                    return Ok(planner.piece());
+                }
+            }
         }
     }
 }

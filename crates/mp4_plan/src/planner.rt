@@ -100,7 +100,7 @@ impl Planner {
     }
 
     // Whether a sample goes into the piece.
-    fn takes(&self, sample: &SampleAt) -> bool
+    pub(crate) fn takes(&self, sample: &SampleAt) -> bool
         ensures { result ≡ goes_in self.now.end (description_in self.now.gathered (sample.now ∷ [])) sample.now }
     {
         if has_ended(&self.end, sample) {

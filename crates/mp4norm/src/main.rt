@@ -1,4 +1,4 @@
-//! `mp4norm`: the boxes of an MP4 file, what it denotes as one line, the samples of a track, or their bytes.
+//! `mp4norm`: the normal form of an MP4 file; its boxes, what it denotes as one line, the samples of a track, their bytes.
 //!
 //! With no words it reads standard input, at most 2^30 bytes, and lists the boxes on standard output. The status is 0,
 //! 1 where the file is refused, 2 without memory, 3 where reading or writing failed, 4 where no track has the ID, 64 for
@@ -16,6 +16,7 @@ pub mod laws;
 mod line;
 mod line_buffer;
 mod movie_json;
+mod normalising;
 mod sample_lines;
 mod samples;
 mod show;
@@ -33,6 +34,7 @@ pub use line_buffer::LineBuffer;
 pub use movie_json::show_text;
 use mp4_boxes::Refusal;
 use mp4_store::{FileStore, IoSink, MemStore, Sink};
+pub use normalising::{normalise, normalise_counted};
 pub use sample_lines::put_lines;
 pub use samples::samples;
 pub use show::show;
@@ -105,6 +107,13 @@ fn extract_track(rt: &HostRuntime, file: &str, track: u32, out: &str) -> Result<
     extract(rt.alloc(), &mut store, track, &mut sink)
 }
 
+// Writes the normal form of a file to a new file.
+fn normalise_file(rt: &HostRuntime, file: &str, out: &str) -> Result<(), Refusal> {
+    let mut store = open(rt, file)?;
+    let mut sink = IoSink::new(make(rt, out)?);
+    normalise(rt.alloc(), &mut store, &mut sink)
+}
+
 fn put_text(rt: &HostRuntime, text: &str) -> Result<(), Refusal> {
     let mut sink = IoSink::new(io::writer(rt));
     sink.put(text.as_bytes())?;
@@ -130,11 +139,7 @@ fn act(rt: &HostRuntime, action: Action) -> ExitCode {
         Action::Show { file } => show_file(rt, file),
         Action::Samples { file, track } => list_samples(rt, file, track),
         Action::Extract { file, track, out } => extract_track(rt, file, track, out),
-        // normalise is not offered.
-        Action::Normalise { .. } => {
-            let _ = eprintln!(rt; "error: normalise is not offered");
-            return ExitCode::from(USAGE);
-        }
+        Action::Normalise { file, out } => normalise_file(rt, file, out),
     };
     end(rt, answer)
 }

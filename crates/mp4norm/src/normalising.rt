@@ -1,0 +1,47 @@
+//! The normal form of a file.
+ghost use Rattle.std.specs.Prelude.{◌≡◌, ◌<◌};
+
+use mp4_boxes::{Refusal, Steps};
+use mp4_plan::Writer;
+use mp4_present::open_movie;
+use mp4_store::{Sink, Store};
+use std::alloc::Global;
+use std::marker::Brand;
+use std::sync::ledger::{Blank, Ledger};
+
+/// As `normalise`, with the steps that it takes counted.
+pub fn normalise_counted<S: Store, K: Sink, L: Ledger>(
+    alloc: Global,
+    store: &mut S,
+    sink: &mut K,
+    steps: &mut Steps<L>,
+) -> Result<(), Refusal> {
+    let movie = open_movie(alloc, store, steps)?;
+    let mut writer = Writer::new(alloc, &movie, store, steps)?;
+    writer.write(&movie, store, sink, steps)
+}
+
+// As `normalise`; its steps are counted in this ledger.
+fn normalise_blank<S: Store, K: Sink, L: Ledger>(
+    alloc: Global,
+    store: &mut S,
+    sink: &mut K,
+    blank: Blank,
+) -> Result<(), Refusal>
+    requires name { blank.name ≡ L.name }
+    requires parts { blank.parts ≡ L.parts }
+    requires some { 0 < L.parts }
+{
+    let mut steps = Steps::<L>::new(blank);
+    normalise_counted(alloc, store, sink, &mut steps)
+}
+
+/// Puts the normal form of what the file denotes: one canonical fragmented file. The whole file is judged and planned,
+/// and all memory is taken, before the first byte is put.
+pub fn normalise<S: Store, K: Sink>(
+    alloc: Global,
+    store: &mut S,
+    sink: &mut K,
+) -> Result<(), Refusal> {
+    normalise_blank::<S, K, Brand>(alloc, store, sink, Blank::new(1))
+}
