@@ -1,0 +1,155 @@
+#!/usr/bin/env python3
+"""Makes the files that `bench/run` measures.
+
+usage: make_inputs.py FOLDER [NAME ..]
+
+  large      a plain file of 2 GB: one track, 250 samples of 8,000,000 bytes
+  small      a plain file of 5,000,000 samples of 20 to 200 bytes, with a row of stts and ctts for each sample
+  fragments  20,000 movie fragments of one track, 30 samples of 500 bytes each
+  tracks     one hour of three interleaved tracks: 25 pictures a second, two sounds, a chunk for each half second
+
+The files hold made-up data in correct boxes (ISO/IEC 14496-12); nothing needs to be installed.
+"""
+import os
+import random
+import struct
+import sys
+
+
+def box(kind, *parts):
+    payload = b''.join(parts)
+    return struct.pack('>I4s', 8 + len(payload), kind) + payload
+
+
+def full(kind, version, flags, *parts):
+    return box(kind, struct.pack('>I', version << 24 | flags), *parts)
+
+
+MATRIX = struct.pack('>9i', 0x10000, 0, 0, 0, 0x10000, 0, 0, 0, 0x40000000)
+URL = full(b'dref', 0, 0, struct.pack('>I', 1), full(b'url ', 0, 1))
+
+
+def mvhd(scale):
+    return full(b'mvhd', 0, 0, struct.pack('>4I', 0, 0, scale, 0), struct.pack('>IH10x', 0x10000, 0x100), MATRIX, bytes(24), struct.pack('>I', 99))
+
+
+def trak(number, kind, scale, tables):
+    tkhd = full(b'tkhd', 0, 7, struct.pack('>5I', 0, 0, number, 0, 0), bytes(8), struct.pack('>4h', 0, 0, 0x100 if kind == b'soun' else 0, 0), MATRIX, struct.pack('>2I', 0, 0))
+    mdhd = full(b'mdhd', 0, 0, struct.pack('>4I', 0, 0, scale, 0), struct.pack('>2H', 0x55c4, 0))
+    hdlr = full(b'hdlr', 0, 0, bytes(4), kind, bytes(12), b'\0')
+    header = full(b'smhd', 0, 0, bytes(4)) if kind == b'soun' else full(b'vmhd', 0, 1, bytes(8))
+    entry = box(b'mp4a' if kind == b'soun' else b'mp4v', bytes(6), struct.pack('>H', 1), bytes(20))
+    stsd = full(b'stsd', 0, 0, struct.pack('>I', 1), entry)
+    return box(b'trak', tkhd, box(b'mdia', mdhd, hdlr, box(b'minf', header, box(b'dinf', URL), box(b'stbl', stsd, *tables))))
+
+
+def words(numbers):
+    return struct.pack('>%dI' % len(numbers), *numbers)
+
+
+def table(kind, count, numbers):
+    return full(kind, 0, 0, struct.pack('>I', count), words(numbers))
+
+
+def stsz(sizes):
+    return full(b'stsz', 0, 0, struct.pack('>2I', 0, len(sizes)), words(sizes))
+
+
+def co64(places):
+    return full(b'co64', 0, 0, struct.pack('>I', len(places)), struct.pack('>%dQ' % len(places), *places))
+
+
+FTYP = box(b'ftyp', b'isom', bytes(4), b'isommp41')
+
+
+def put_data(file, total):
+    """So many bytes that don't repeat soon."""
+    block = random.Random(1).randbytes(1 << 20)
+    while total > 0:
+        file.write(block[:min(total, len(block))])
+        total -= len(block)
+
+
+def plain(path, scale, tracks, total):
+    """A plain file: `tracks` says the trak boxes for data that begins at a place."""
+    length = len(box(b'moov', mvhd(scale), *tracks(0)))
+    begin = len(FTYP) + length + 16
+    with open(path, 'wb') as file:
+        file.write(FTYP)
+        file.write(box(b'moov', mvhd(scale), *tracks(begin)))
+        file.write(struct.pack('>I4sQ', 1, b'mdat', 16 + total))
+        put_data(file, total)
+
+
+def large(path):
+    count, size = 250, 8_000_000
+    tables = lambda at: [table(b'stts', 1, [count, 512]), table(b'stss', 1, [1]), table(b'stsc', 1, [1, 1, 1]), stsz([size] * count), co64([at + size * n for n in range(count)])]
+    plain(path, 1000, lambda at: [trak(1, b'vide', 12800, tables(at))], count * size)
+
+
+def small(path):
+    source = random.Random(2)
+    count, each = 5_000_000, 30
+    sizes = [20 + source.randrange(181) for _ in range(count)]
+    places, at = [], 0
+    for n in range(0, count, each):
+        places.append(at)
+        at += sum(sizes[n:n + each])
+    rows = [number for n in range(count) for number in (1, 500 + n % 3)]
+    offsets = [number for n in range(count) for number in (1, 1000 + n % 2)]
+    keys = range(1, count, 250)
+    tables = lambda begin: [table(b'stts', count, rows), table(b'ctts', count, offsets), table(b'stss', len(keys), list(keys)), table(b'stsc', 2, [1, each, 1, len(places), count - each * (len(places) - 1), 1]), stsz(sizes), co64([begin + place for place in places])]
+    plain(path, 1000, lambda begin: [trak(1, b'vide', 12800, tables(begin))], at)
+
+
+def fragments(path):
+    count, each, size = 20_000, 30, 500
+    empty = [table(b'stts', 0, []), table(b'stsc', 0, []), full(b'stsz', 0, 0, bytes(8)), table(b'stco', 0, [])]
+    trex = full(b'trex', 0, 0, words([1, 1, 512, 0, 0x10000]))
+    with open(path, 'wb') as file:
+        file.write(FTYP)
+        file.write(box(b'moov', mvhd(1000), trak(1, b'vide', 12800, empty), box(b'mvex', trex)))
+        for n in range(count):
+            run = words([each, 0]) + words([0x2000000]) + words([size] * each)
+            boxes = lambda offset: box(b'moof', full(b'mfhd', 0, 0, words([n + 1])), box(b'traf', full(b'tfhd', 0, 0x20000, words([1])), full(b'tfdt', 1, 0, struct.pack('>Q', n * each * 512)), full(b'trun', 0, 0x205, words([each, offset]), words([0x2000000]), words([size] * each))))
+            offset = len(boxes(0)) + 8
+            file.write(boxes(offset))
+            file.write(box(b'mdat', bytes([n % 251]) * (each * size)))
+
+
+def tracks(path):
+    """Chunks of the three tracks in turn, one for each half second of an hour."""
+    source = random.Random(3)
+    kinds = [(b'vide', 12800, 512, 13, (1000, 12000)), (b'soun', 48000, 1024, 24, (300, 500)), (b'soun', 44100, 1024, 22, (200, 400))]
+    chunks = 7200
+    sizes, places, at = [[], [], []], [[], [], []], 0
+    for _ in range(chunks):
+        for k, (_, _, _, each, span) in enumerate(kinds):
+            places[k].append(at)
+            new = [source.randrange(*span) for _ in range(each)]
+            sizes[k] += new
+            at += sum(new)
+    def boxes(begin):
+        made = []
+        for k, (kind, scale, duration, each, _) in enumerate(kinds):
+            sync = [table(b'stss', len(range(1, chunks * each, 50)), list(range(1, chunks * each, 50)))] if kind == b'vide' else []
+            made.append(trak(k + 1, kind, scale, [table(b'stts', 1, [chunks * each, duration])] + sync + [table(b'stsc', 1, [1, each, 1]), stsz(sizes[k]), co64([begin + place for place in places[k]])]))
+        return made
+    plain(path, 1000, boxes, at)
+
+
+MAKERS = {'large': large, 'small': small, 'fragments': fragments, 'tracks': tracks}
+
+
+def main():
+    folder = sys.argv[1]
+    os.makedirs(folder, exist_ok=True)
+    for name in sys.argv[2:] or MAKERS:
+        path = os.path.join(folder, name + '.mp4')
+        if not os.path.exists(path):
+            MAKERS[name](path)
+        print(path, os.path.getsize(path))
+
+
+if __name__ == '__main__':
+    main()
