@@ -1,6 +1,6 @@
 -- A writer of the normal form of a movie.
-use Rattle.std.specs.Prelude.{◌≡◌, ◌^◌, ◌≤◌, List, length}
-use Rattle.std.specs.List.{AllByRecursion}
+use Rattle.std.specs.Prelude.{◌≡◌, ℕ, ◌+◌, ◌*◌, ◌^◌, ◌≤◌, List, length}
+use Rattle.std.specs.List.{AllByRecursion, sum_by}
 use Rattle.mp4_present.specs.Movies.{MovieSeen, IsWalkOf}
 use Rattle.mp4_present.specs.declared.walks.Walk.{Walk}
 use Rattle.mp4_plan.specs.declared.writer.Writer.{Writer}
@@ -15,3 +15,11 @@ pub record IsWriterOf (m : MovieSeen) (w : Writer) : Type 0 where
   pub planning : AreWalksOf m w.planning.items
   pub copying : AreWalksOf m w.copying.items
   pub few : length w.rows.items ≤ 2 ^ 24
+
+-- the room for `moof`s in some walks
+abbrev pub rooms : List Walk → ℕ
+rooms walks = sum_by (λ (walk : Walk). length walk.bytes.items) walks
+
+-- all that a writer holds: its head, what waits to be put, 24 bytes for each row, and a `moof` in each walk
+abbrev pub held : Writer → ℕ
+held w = length w.head.items + length w.carrier.buffer.items + 24 * length w.rows.items + rooms w.planning.items + rooms w.copying.items

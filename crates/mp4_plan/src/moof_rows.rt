@@ -1,5 +1,5 @@
 //! The rows of a `moof`: those of `trun`, and the `sbgp`s behind it (ISO/IEC 14496-12, 8.8.8 and 8.9.2).
-ghost use Rattle.std.specs.Prelude.{◌<◌, length, IfSome};
+ghost use Rattle.std.specs.Prelude.{◌≡◌, ◌<◌, length, IfSome};
 ghost use Rattle.mp4_tables.specs.Keys.{keys_seen};
 
 use crate::moof_sizes::{group_size, short};
@@ -35,7 +35,9 @@ pub(crate) fn carry_run<K: Sink>(
     planned: &Planned,
     carrier: &mut Carrier,
     sink: &mut K,
-) -> Result<(), Refusal> {
+) -> Result<(), Refusal>
+    ensures room { length carrier.new.buffer.items ≡ length carrier.old.buffer.items }
+{
     for row in rows {
         carrier.carry(run_row(row, planned).as_bytes(), sink)?;
     }
@@ -77,6 +79,7 @@ fn carry_indexes<K: Sink>(
     sink: &mut K,
 ) -> Result<(), Refusal>
     requires { place < 4 }
+    ensures room { length carrier.new.buffer.items ≡ length carrier.old.buffer.items }
 {
     let mut count: u32 = 0;
     let mut index = 0;
@@ -124,7 +127,9 @@ pub(crate) fn carry_groups<K: Sink>(
     keys: &Keys,
     carrier: &mut Carrier,
     sink: &mut K,
-) -> Result<(), Refusal> {
+) -> Result<(), Refusal>
+    ensures room { length carrier.new.buffer.items ≡ length carrier.old.buffer.items }
+{
     let mut behind = None;
     for _key in 0..4 {
         let Some(j) = next_key(planned, keys, behind) else {

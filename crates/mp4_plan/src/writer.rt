@@ -1,6 +1,6 @@
 //! The normal form of a presentation, written.
-ghost use Rattle.std.specs.Prelude.{◌≡◌, ◌+◌, ◌^◌, ◌<◌, ◌≤◌, length, IfOk, OnOk};
-ghost use Rattle.mp4_plan.specs.Writers.{AreWalksOf, IsWriterOf};
+ghost use Rattle.std.specs.Prelude.{◌≡◌, ◌+◌, ◌*◌, ◌^◌, ◌<◌, ◌≤◌, length, IfOk, OnOk};
+ghost use Rattle.mp4_plan.specs.Writers.{AreWalksOf, IsWriterOf, rooms, held};
 
 use crate::courses::{Load, carry_piece, note_piece, peek_sample, plan_piece};
 use crate::moof_front::{PieceHead, moof_front};
@@ -48,7 +48,8 @@ pub struct Writer {
 
 // A walk over each track.
 fn walks_of(alloc: Global, movie: &Movie) -> Result<Vec<Walk>, Refusal>
-    ensures { IfOk result (λ walks. AreWalksOf movie.now walks.items) }
+    ensures walks { IfOk result (λ walks. AreWalksOf movie.now walks.items) }
+    ensures rooms { IfOk result (λ walks. rooms walks.items ≡ length movie.now.tracks * movie.now.longest) }
 {
     let mut walks = Vec::new(alloc);
     for track in 0..movie.tracks().len() {
@@ -66,6 +67,7 @@ fn first_time<S: Store, L: Ledger>(
 ) -> Result<u64, Refusal>
     requires { AreWalksOf movie.now walks.old }
     ensures walks { OnOk result (AreWalksOf movie.now walks.new) }
+    ensures rooms { rooms walks.new ≡ rooms walks.old }
     ensures file { S.file store.new ≡ S.file store.old }
 {
     if walks.is_empty() {
@@ -153,6 +155,7 @@ impl Writer {
         steps: &mut Steps<L>,
     ) -> Result<Writer, Refusal>
         ensures writer { IfOk result (IsWriterOf movie.now) }
+        ensures held { IfOk result (λ w. held w ≡ length w.head.items + 2 * (length movie.now.tracks * movie.now.longest) + 24 * length w.rows.items + PIECE) }
         ensures file { S.file store.new ≡ S.file store.old }
     {
         let plan = plan_all(alloc, movie, store, steps)?;
@@ -181,6 +184,7 @@ impl Writer {
         requires count { planned.now.count ≤ length self.old.rows.items }
         requires bytes { planned.now.bytes + 16 < 2 ^ 64 }
         ensures writer { OnOk result (IsWriterOf movie.now self.new) }
+        ensures held { held self.new ≡ held self.old }
         ensures file { S.file store.new ≡ S.file store.old }
     {
         let keys = movie.tracks()[track].keys;
@@ -216,6 +220,7 @@ impl Writer {
         steps: &mut Steps<L>,
     ) -> Result<(), Refusal>
         requires { IsWriterOf movie.now self.old }
+        ensures held { held self.new ≡ held self.old }
         ensures file { S.file store.new ≡ S.file store.old }
     {
         let tracks = movie.tracks();

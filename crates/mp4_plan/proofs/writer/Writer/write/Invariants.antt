@@ -1,12 +1,13 @@
 use Rattle.std.proofs.Common.{◌≡◌, length}
 use Rattle.mp4_plan.specs.Turns.{to_come}
-use Rattle.mp4_plan.specs.Writers.{IsWriterOf}
+use Rattle.mp4_plan.specs.Writers.{IsWriterOf, held}
 use Rattle.mp4_plan.proofs.writer.Writer.write.Given as goal
 
 -- the walks go on
 abbrev pub invariant-loop-turn : goal.invariant-loop-turn
 invariant-loop-turn g l =
     IsWriterOf l.movie l.self
+    × (held l.self ≡ held l.fn.self)
     × (l.schedule.tracks ≡ length l.movie.tracks)
     × (g.S.Store.file l.store ≡ g.S.Store.file l.fn.store)
 
