@@ -29,6 +29,11 @@ MATRIX = struct.pack('>9i', 0x10000, 0, 0, 0, 0x10000, 0, 0, 0, 0x40000000)
 URL = full(b'dref', 0, 0, struct.pack('>I', 1), full(b'url ', 0, 1))
 
 
+# Codings that other tools copy without looking at the data: JPEG pictures of 64 by 64, MP3 sound.
+PICTURE = box(b'jpeg', bytes(6), struct.pack('>H', 1), bytes(16), struct.pack('>2H3IH32s2H', 64, 64, 0x480000, 0x480000, 0, 1, b'', 24, 0xffff))
+SOUND = box(b'.mp3', bytes(6), struct.pack('>H', 1), bytes(8), struct.pack('>2H2HI', 2, 16, 0, 0, 48000 << 16))
+
+
 def mvhd(scale):
     return full(b'mvhd', 0, 0, struct.pack('>4I', 0, 0, scale, 0), struct.pack('>IH10x', 0x10000, 0x100), MATRIX, bytes(24), struct.pack('>I', 99))
 
@@ -38,8 +43,7 @@ def trak(number, kind, scale, tables):
     mdhd = full(b'mdhd', 0, 0, struct.pack('>4I', 0, 0, scale, 0), struct.pack('>2H', 0x55c4, 0))
     hdlr = full(b'hdlr', 0, 0, bytes(4), kind, bytes(12), b'\0')
     header = full(b'smhd', 0, 0, bytes(4)) if kind == b'soun' else full(b'vmhd', 0, 1, bytes(8))
-    entry = box(b'mp4a' if kind == b'soun' else b'mp4v', bytes(6), struct.pack('>H', 1), bytes(20))
-    stsd = full(b'stsd', 0, 0, struct.pack('>I', 1), entry)
+    stsd = full(b'stsd', 0, 0, struct.pack('>I', 1), SOUND if kind == b'soun' else PICTURE)
     return box(b'trak', tkhd, box(b'mdia', mdhd, hdlr, box(b'minf', header, box(b'dinf', URL), box(b'stbl', stsd, *tables))))
 
 
