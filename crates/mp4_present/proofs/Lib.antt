@@ -26,3 +26,7 @@ pub mod Payloads
 pub mod WalkPlaces
 pub mod JoinedSamples
 pub mod PlainLists
+pub mod Carrying
+pub mod Hands
+pub mod Causes
+pub mod FragmentPass

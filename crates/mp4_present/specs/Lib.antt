@@ -8,3 +8,5 @@ pub mod Outline
 pub mod Again
 pub mod Joined
 pub mod Plain
+pub mod Carried
+pub mod Opening

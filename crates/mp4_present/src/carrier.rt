@@ -1,5 +1,7 @@
 //! Bytes on their way to a sink, through one buffer.
-ghost use Rattle.std.specs.Prelude.{◌≡◌, ◌+◌, ◌<◌, ◌≤◌, length, vec_len, IfOk, OnOk};
+ghost use Rattle.std.specs.Prelude.{◌≡◌, ◌+◌, ◌<◌, ◌≤◌, ◌++◌, length, take, vec_len, IfErr, OnOk, IsTrue};
+ghost use Rattle.mp4_boxes.specs.declared.refusal.Refusal.TheVariants as refusals;
+ghost use Rattle.mp4_store.specs.Device.{HasRisen, range};
 
 use mp4_boxes::Refusal;
 use mp4_store::{Sink, Store};
@@ -17,6 +19,7 @@ pub struct Carrier {
 // Copies bytes to a place of a buffer, of which the length stays.
 fn copy_in(buffer: &mut [u8], at: usize, bytes: &[u8])
     requires { at + length bytes.now ≤ length buffer.old }
+    ensures { take (at + length bytes.now) buffer.new ≡ take at buffer.old ++ bytes.now }
 {
     buffer[at..at + bytes.len()].copy_from_slice(bytes);
 }
@@ -31,17 +34,28 @@ fn read_in<S: Store>(
 ) -> Result<(), Refusal>
     requires place { from + len ≤ length (S.file store.old) }
     requires room { at + len ≤ length buffer.old }
+    ensures honesty { S.is_honest store.new ≡ S.is_honest store.old }
     ensures file { S.file store.new ≡ S.file store.old }
+    ensures bytes { OnOk result (IsTrue (S.is_honest store.old) → take (at + len) buffer.new ≡ take at buffer.old ++ range (S.file store.old) from len) }
+    ensures reads { OnOk result (S.read_failures store.new ≡ S.read_failures store.old) }
+    ensures refusal { IfErr result (λ r. (r ≡ refusals.StoreFailed) × HasRisen (S.read_failures store.old) (S.read_failures store.new)) }
 {
     store.read_at(from, &mut buffer[at..at + len])?;
     Ok(())
 }
 
 impl Carrier {
+    ghost use Rattle.std.specs.Prelude.{◌≡◌, ◌+◌, ◌<◌, ◌≤◌, [], ◌++◌, length, vec_len, IfOk, IfErr, OnOk, OnErr, IsTrue};
+    ghost use Rattle.std.specs.Io.KnownBytes.{Appends};
+    ghost use Rattle.mp4_boxes.specs.declared.refusal.Refusal.TheVariants as refusals;
+    ghost use Rattle.mp4_store.specs.Device.{AppendsPrefix, HasRisen, range};
+    ghost use Rattle.mp4_present.specs.Carried.{waiting, BytesGoOn, RefusesPut, RefusesRange};
+
     /// A buffer of so many bytes, at least one.
     pub fn new(alloc: Global, len: usize) -> Result<Carrier, AllocError>
         requires { 0 < len }
-        ensures { IfOk result (λ c. vec_len c.buffer ≡ len) }
+        ensures room { IfOk result (λ c. vec_len c.buffer ≡ len) }
+        ensures empty { IfOk result (λ c. waiting c ≡ []) }
     {
         let buffer = vec![in alloc; 0u8; len]?;
         Ok(Carrier { buffer, used: 0 })
@@ -51,6 +65,10 @@ impl Carrier {
     pub fn flush<K: Sink>(&mut self, sink: &mut K) -> Result<(), Refusal>
         ensures room { self.new.buffer ≡ self.old.buffer }
         ensures empty { OnOk result (self.new.used ≡ 0) }
+        ensures bytes { OnOk result (Appends (K.contents sink.old) (K.contents sink.new) (waiting self.old)) }
+        ensures prefix { OnErr result (AppendsPrefix (K.contents sink.old) (K.contents sink.new) (waiting self.old)) }
+        ensures puts { OnOk result (K.put_failures sink.new ≡ K.put_failures sink.old) }
+        ensures refusal { IfErr result (RefusesPut (K.put_failures sink.old) (K.put_failures sink.new)) }
     {
         if self.used > 0 {
             sink.put(&self.buffer[..self.used])?;
@@ -64,6 +82,10 @@ impl Carrier {
         ensures room { vec_len self.new.buffer ≡ vec_len self.old.buffer }
         ensures few { IfOk result (λ n. self.new.used + n ≤ vec_len self.new.buffer) }
         ensures some { IfOk result (λ n. (n ≤ wanted) × (0 < wanted → 0 < n)) }
+        ensures bytes { OnOk result (BytesGoOn (K.contents sink.old) (K.contents sink.new) (waiting self.old) (waiting self.new) []) }
+        ensures prefix { OnErr result (AppendsPrefix (K.contents sink.old) (K.contents sink.new) (waiting self.old)) }
+        ensures puts { OnOk result (K.put_failures sink.new ≡ K.put_failures sink.old) }
+        ensures refusal { IfErr result (RefusesPut (K.put_failures sink.old) (K.put_failures sink.new)) }
     {
         if self.used == self.buffer.len() {
             self.flush(sink)?;
@@ -76,25 +98,50 @@ impl Carrier {
         }
     }
 
+    // Adds bytes for which there is room.
+    fn add(&mut self, bytes: &[u8])
+        requires { self.old.used + length bytes.now ≤ vec_len self.old.buffer }
+        ensures room { vec_len self.new.buffer ≡ vec_len self.old.buffer }
+        ensures bytes { waiting self.new ≡ waiting self.old ++ bytes.now }
+    {
+        copy_in(self.buffer.as_mut_slice(), self.used, bytes);
+        self.used += bytes.len();
+    }
+
+    // Adds bytes of a store for which there is room. They are read straight into the buffer.
+    fn add_range<S: Store>(&mut self, store: &mut S, from: u64, len: usize) -> Result<(), Refusal>
+        requires place { from + len ≤ length (S.file store.old) }
+        requires fits { self.old.used + len ≤ vec_len self.old.buffer }
+        ensures room { vec_len self.new.buffer ≡ vec_len self.old.buffer }
+        ensures honesty { S.is_honest store.new ≡ S.is_honest store.old }
+        ensures file { S.file store.new ≡ S.file store.old }
+        ensures bytes { OnOk result (IsTrue (S.is_honest store.old) → waiting self.new ≡ waiting self.old ++ range (S.file store.old) from len) }
+        ensures reads { OnOk result (S.read_failures store.new ≡ S.read_failures store.old) }
+        ensures refusal { IfErr result (λ r. (r ≡ refusals.StoreFailed) × HasRisen (S.read_failures store.old) (S.read_failures store.new)) }
+    {
+        read_in(store, from, self.buffer.as_mut_slice(), self.used, len)?;
+        self.used += len;
+        Ok(())
+    }
+
     /// Takes these bytes along.
     pub fn carry<K: Sink>(&mut self, bytes: &[u8], sink: &mut K) -> Result<(), Refusal>
         ensures room { vec_len self.new.buffer ≡ vec_len self.old.buffer }
+        ensures bytes { OnOk result (BytesGoOn (K.contents sink.old) (K.contents sink.new) (waiting self.old) (waiting self.new) bytes.now) }
+        ensures prefix { OnErr result (AppendsPrefix (K.contents sink.old) (K.contents sink.new) (waiting self.old ++ bytes.now)) }
+        ensures puts { OnOk result (K.put_failures sink.new ≡ K.put_failures sink.old) }
+        ensures refusal { IfErr result (RefusesPut (K.put_failures sink.old) (K.put_failures sink.new)) }
     {
         let mut done = 0;
         while done < bytes.len() {
             let count = self.make_room((bytes.len() - done) as u64, sink)?;
-            copy_in(
-                self.buffer.as_mut_slice(),
-                self.used,
-                &bytes[done..done + count],
-            );
-            self.used += count;
+            self.add(&bytes[done..done + count]);
             done += count;
         }
         Ok(())
     }
 
-    /// Takes so many bytes of a store along, from the place `at` on. They are read straight into the buffer.
+    /// Takes so many bytes of a store along, from the place `at` on.
     pub fn carry_range<S: Store, K: Sink>(
         &mut self,
         store: &mut S,
@@ -104,20 +151,19 @@ impl Carrier {
     ) -> Result<(), Refusal>
         requires { at + len ≤ length (S.file store.old) }
         ensures room { vec_len self.new.buffer ≡ vec_len self.old.buffer }
+        ensures honesty { S.is_honest store.new ≡ S.is_honest store.old }
         ensures file { S.file store.new ≡ S.file store.old }
+        ensures bytes { OnOk result (IsTrue (S.is_honest store.old) → BytesGoOn (K.contents sink.old) (K.contents sink.new) (waiting self.old) (waiting self.new) (range (S.file store.old) at len)) }
+        ensures prefix { OnErr result (IsTrue (S.is_honest store.old) → AppendsPrefix (K.contents sink.old) (K.contents sink.new) (waiting self.old ++ range (S.file store.old) at len)) }
+        ensures reads { OnOk result (S.read_failures store.new ≡ S.read_failures store.old) }
+        ensures puts { OnOk result (K.put_failures sink.new ≡ K.put_failures sink.old) }
+        ensures refusal { IfErr result (RefusesRange (S.read_failures store.old) (S.read_failures store.new) (K.put_failures sink.old) (K.put_failures sink.new)) }
     {
         let _size = store.len();
         let mut done = 0;
         while done < len {
             let count = self.make_room(len - done, sink)?;
-            read_in(
-                store,
-                at + done,
-                self.buffer.as_mut_slice(),
-                self.used,
-                count,
-            )?;
-            self.used += count;
+            self.add_range(store, at + done, count)?;
             done += count as u64;
         }
         Ok(())

@@ -1,6 +1,11 @@
 //! The bytes of a track's samples, copied.
-ghost use Rattle.std.specs.Prelude.{◌≡◌, ◌<◌, length, vec_len, OnOk};
-ghost use Rattle.mp4_present.specs.Movies.{IsWalkOf};
+ghost use Rattle.std.specs.Prelude.{◌≡◌, ◌<◌, ◌++◌, length, vec_len, IfErr, OnOk, OnErr, IsTrue};
+ghost use Rattle.mp4_store.specs.Device.{AppendsPrefix, range};
+ghost use Rattle.mp4_present.specs.declared.in_hand.InHand.{InHand};
+ghost use Rattle.mp4_present.specs.InHand.{left_in_hand};
+ghost use Rattle.mp4_present.specs.Joined.{sample_bytes};
+ghost use Rattle.mp4_present.specs.Movies.{IsWalkOf, InHandOf};
+ghost use Rattle.mp4_present.specs.Carried.{waiting, BytesGoOn, RefusesStretch, RefusesCarry, RefusesCopy};
 
 use crate::carrier::Carrier;
 use crate::movie::Movie;
@@ -23,7 +28,13 @@ impl Carrier {
         sink: &mut K,
     ) -> Result<(), Refusal>
         ensures room { vec_len self.new.buffer ≡ vec_len self.old.buffer }
+        ensures honesty { S.is_honest store.new ≡ S.is_honest store.old }
         ensures file { S.file store.new ≡ S.file store.old }
+        ensures bytes { OnOk result (IsTrue (S.is_honest store.old) → BytesGoOn (K.contents sink.old) (K.contents sink.new) (waiting self.old) (waiting self.new) (range (S.file store.old) stretch.at stretch.len)) }
+        ensures prefix { OnErr result (IsTrue (S.is_honest store.old) → AppendsPrefix (K.contents sink.old) (K.contents sink.new) (waiting self.old ++ range (S.file store.old) stretch.at stretch.len)) }
+        ensures reads { OnOk result (S.read_failures store.new ≡ S.read_failures store.old) }
+        ensures puts { OnOk result (K.put_failures sink.new ≡ K.put_failures sink.old) }
+        ensures refusal { IfErr result (RefusesStretch (S.file store.old) stretch (S.read_failures store.old) (S.read_failures store.new) (K.put_failures sink.old) (K.put_failures sink.new)) }
     {
         let len = store.len();
         if stretch.at > len || stretch.len > len - stretch.at {
@@ -45,7 +56,14 @@ fn carry_hand<S: Store, K: Sink, L: Ledger>(
     requires { IsWalkOf movie.now walk.old }
     ensures walk { OnOk result (IsWalkOf movie.now walk.new) }
     ensures next { OnOk result (walk.new.next ≡ walk.old.next) }
+    ensures room { vec_len carrier.new.buffer ≡ vec_len carrier.old.buffer }
+    ensures honesty { S.is_honest store.new ≡ S.is_honest store.old }
     ensures file { S.file store.new ≡ S.file store.old }
+    ensures bytes { OnOk result (IsTrue (S.is_honest store.old) → (hand : InHand) × InHandOf movie.now walk.old hand × BytesGoOn (K.contents sink.old) (K.contents sink.new) (waiting carrier.old) (waiting carrier.new) (sample_bytes (S.file store.old) (left_in_hand hand))) }
+    ensures prefix { OnErr result (IsTrue (S.is_honest store.old) → (hand : InHand) × InHandOf movie.now walk.old hand × AppendsPrefix (K.contents sink.old) (K.contents sink.new) (waiting carrier.old ++ sample_bytes (S.file store.old) (left_in_hand hand))) }
+    ensures reads { OnOk result (S.read_failures store.new ≡ S.read_failures store.old) }
+    ensures puts { OnOk result (K.put_failures sink.new ≡ K.put_failures sink.old) }
+    ensures refusal { IfErr result (RefusesCarry (S.read_failures store.old) (S.read_failures store.new) (K.put_failures sink.old) (K.put_failures sink.new)) }
 {
     let place = {
         let mut hand = walk.in_hand(movie);
@@ -70,6 +88,11 @@ impl Movie {
         steps: &mut Steps<L>,
     ) -> Result<(), Refusal>
         requires { track < length self.now.tracks }
+        ensures honesty { S.is_honest store.new ≡ S.is_honest store.old }
+        ensures file { S.file store.new ≡ S.file store.old }
+        ensures reads { OnOk result (S.read_failures store.new ≡ S.read_failures store.old) }
+        ensures puts { OnOk result (K.put_failures sink.new ≡ K.put_failures sink.old) }
+        ensures refusal { IfErr result (RefusesCopy (K.contents sink.old) (K.contents sink.new) (S.read_failures store.old) (S.read_failures store.new) (K.put_failures sink.old) (K.put_failures sink.new)) }
     {
         let mut walk = self.walk(alloc, track)?;
         let mut carrier = Carrier::new(alloc, PIECE)?;

@@ -1,6 +1,7 @@
 //! The `moof`s of a file, each read, checked and given up before the next.
-ghost use Rattle.std.specs.Prelude.{◌≡◌, ◌^◌, ◌≤◌, length, IfOk};
+ghost use Rattle.std.specs.Prelude.{◌≡◌, ◌^◌, ◌≤◌, length, IfOk, IfErr, OnOk};
 ghost use Rattle.mp4_frag.specs.States.{HaveRoom};
+ghost use Rattle.mp4_present.specs.Opening.{HasOutline, RefusesOpen};
 
 use crate::fragments::next_fragment;
 use crate::outline::Outline;
@@ -52,6 +53,38 @@ fn count_samples<L: Ledger>(
     }
 }
 
+// Reads each `moof` of the file to the room, and checks it.
+fn pass_fragments<S: Store, L: Ledger>(
+    store: &mut S,
+    outline: &Outline,
+    states: &mut [TrackState],
+    counted: &mut [Counted],
+    bytes: &mut [u8],
+    room: u32,
+    steps: &mut Steps<L>,
+) -> Result<(), Refusal>
+    requires few { room ≤ 2 ^ 24 }
+    requires room { HaveRoom room states.old }
+    requires outline { HasOutline (S.is_honest store.old) (S.file store.old) outline.now }
+    requires longest { length bytes.old ≡ outline.now.longest }
+    ensures honesty { S.is_honest store.new ≡ S.is_honest store.old }
+    ensures file { S.file store.new ≡ S.file store.old }
+    ensures reads { OnOk result (S.read_failures store.new ≡ S.read_failures store.old) }
+    ensures refusal { IfErr result (RefusesOpen (S.is_honest store.old) (S.read_failures store.old) (S.read_failures store.new)) }
+{
+    let file_len = store.len();
+    let mut room = room;
+    let mut next = outline.fragments.unwrap_or(file_len);
+    while let Some(top) = next_fragment(store, next)? {
+        let len = read_payload(store, top, bytes)?;
+        let moof = top.view(&bytes[..len]);
+        let view = check_moof(moof, file_len, states, &mut room, steps)?;
+        count_samples(&view, states, counted, steps);
+        next = top.header.end;
+    }
+    Ok(())
+}
+
 /// Reads and checks each `moof` of the file.
 pub(crate) fn check_fragments<S: Store, L: Ledger>(
     alloc: Global,
@@ -62,24 +95,27 @@ pub(crate) fn check_fragments<S: Store, L: Ledger>(
 ) -> Result<AllTracks, Refusal>
     requires few { plain.now.room ≤ 2 ^ 24 }
     requires room { HaveRoom plain.now.room plain.now.states.items }
+    requires outline { HasOutline (S.is_honest store.old) (S.file store.old) outline.now }
     ensures states { IfOk result (λ all. length all.states.items ≡ length plain.now.states.items) }
     ensures counted { IfOk result (λ all. length all.counted.items ≡ length plain.now.counted.items) }
+    ensures honesty { S.is_honest store.new ≡ S.is_honest store.old }
     ensures file { S.file store.new ≡ S.file store.old }
+    ensures reads { OnOk result (S.read_failures store.new ≡ S.read_failures store.old) }
+    ensures refusal { IfErr result (RefusesOpen (S.is_honest store.old) (S.read_failures store.old) (S.read_failures store.new)) }
 {
     let mut states = Vec::new(alloc);
     states.extend_from_slice(plain.states.as_slice())?;
     let mut counted = Vec::new(alloc);
     counted.extend_from_slice(plain.counted.as_slice())?;
     let mut bytes = vec![in alloc; 0u8; outline.longest as usize]?;
-    let file_len = store.len();
-    let mut room = plain.room;
-    let mut next = outline.fragments.unwrap_or(file_len);
-    while let Some(top) = next_fragment(store, next)? {
-        let len = read_payload(store, top, bytes.as_mut_slice())?;
-        let moof = top.view(&bytes[..len]);
-        let view = check_moof(moof, file_len, states.as_mut_slice(), &mut room, steps)?;
-        count_samples(&view, states.as_slice(), counted.as_mut_slice(), steps);
-        next = top.header.end;
-    }
+    pass_fragments(
+        store,
+        outline,
+        states.as_mut_slice(),
+        counted.as_mut_slice(),
+        bytes.as_mut_slice(),
+        plain.room,
+        steps,
+    )?;
     Ok(AllTracks { states, counted })
 }

@@ -1,7 +1,9 @@
 //! A file, read to one presentation or refused.
-ghost use Rattle.std.specs.Prelude.{◌≡◌, length, IfOk};
+ghost use Rattle.std.specs.Prelude.{◌≡◌, length, IfOk, IfErr, OnOk};
+ghost use Rattle.mp4_boxes.specs.declared.refusal.Refusal.TheVariants as refusals;
 ghost use Rattle.mp4_present.specs.Movies.{Fills};
 ghost use Rattle.mp4_present.specs.Plain.{ArePlain};
+ghost use Rattle.mp4_present.specs.Opening.{HasOutline, RefusesOpen};
 
 use crate::fragment_pass::{AllTracks, check_fragments};
 use crate::limit_checks::{check_limits, duration_of};
@@ -42,7 +44,8 @@ fn info_of(track: &TrackHead, state: TrackState, counted: Counted) -> TrackInfo 
 fn infos_of(alloc: Global, head: &MovieHead, all: &AllTracks) -> Result<Vec<TrackInfo>, Refusal>
     requires states { length all.now.states.items ≡ length head.now.tracks.items }
     requires counted { length all.now.counted.items ≡ length head.now.tracks.items }
-    ensures { IfOk result (λ tracks. length tracks.items ≡ length head.now.tracks.items) }
+    ensures each { IfOk result (λ tracks. length tracks.items ≡ length head.now.tracks.items) }
+    ensures refusal { IfErr result (λ r. r ≡ refusals.Memory) }
 {
     let mut tracks = Vec::new(alloc);
     for k in 0..head.tracks.len() {
@@ -60,9 +63,13 @@ fn find<S: Store, L: Ledger>(
     moov: &[u8],
     steps: &mut Steps<L>,
 ) -> Result<Found, Refusal>
-    requires { Fills (length moov.now) outline.now.moov }
+    requires fills { Fills (length moov.now) outline.now.moov }
+    requires outline { HasOutline (S.is_honest store.old) (S.file store.old) outline.now }
+    ensures honesty { S.is_honest store.new ≡ S.is_honest store.old }
     ensures file { S.file store.new ≡ S.file store.old }
     ensures plain { IfOk result (λ f. ArePlain moov.now (length f.tracks.items) f.plain) }
+    ensures reads { OnOk result (S.read_failures store.new ≡ S.read_failures store.old) }
+    ensures refusal { IfErr result (RefusesOpen (S.is_honest store.old) (S.read_failures store.old) (S.read_failures store.new)) }
 {
     let view = outline.moov.view(moov);
     let head = read_head(alloc, view)?;
@@ -83,7 +90,12 @@ pub fn open_movie<S: Store, L: Ledger>(
     alloc: Global,
     store: &mut S,
     steps: &mut Steps<L>,
-) -> Result<Movie, Refusal> {
+) -> Result<Movie, Refusal>
+    ensures honesty { S.is_honest store.new ≡ S.is_honest store.old }
+    ensures file { S.file store.new ≡ S.file store.old }
+    ensures reads { OnOk result (S.read_failures store.new ≡ S.read_failures store.old) }
+    ensures refusal { IfErr result (RefusesOpen (S.is_honest store.old) (S.read_failures store.old) (S.read_failures store.new)) }
+{
     let outline = read_outline(store)?;
     let at = outline.moov.payload_offset();
     let moov = read_bytes(alloc, store, at, outline.moov.header.end - at)?;

@@ -1,7 +1,8 @@
 //! The tables of the tracks of a movie, checked one after the other.
-ghost use Rattle.std.specs.Prelude.{◌≡◌, length, IfOk};
+ghost use Rattle.std.specs.Prelude.{◌≡◌, length, IfOk, IfErr};
 ghost use Rattle.mp4_boxes.specs.View.{box_seen};
 ghost use Rattle.mp4_present.specs.Plain.{ArePlain, HaveTablesIn};
+ghost use Rattle.mp4_present.specs.Opening.{RefusesBytes};
 
 use crate::movie::TrackTables;
 use crate::totals::{Totals, add_up};
@@ -62,9 +63,10 @@ fn state_of(
 }
 
 impl PlainTracks {
-    ghost use Rattle.std.specs.Prelude.{ℕ, List, ◌+◌, OnOk};
+    ghost use Rattle.std.specs.Prelude.{ℕ, List, ◌+◌, OnOk, IfErr};
     ghost use Rattle.mp4_boxes.specs.View.{box_seen};
     ghost use Rattle.mp4_present.specs.Plain.{ArePlain, HasTablesIn};
+    ghost use Rattle.mp4_present.specs.Opening.{RefusesBytes};
 
     // No track yet.
     fn none(alloc: Global) -> PlainTracks
@@ -89,6 +91,7 @@ impl PlainTracks {
     ) -> Result<(), Refusal>
         requires inside { HasTablesIn (box_seen moov) track.now }
         ensures one_more { OnOk result ((n : ℕ) → ArePlain (box_seen moov.entry).payload n self.old → ArePlain (box_seen moov.entry).payload (n + 1) self.new) }
+        ensures refusal { IfErr result RefusesBytes }
     {
         let mut keys = Keys::new();
         let stbl = track.stbl;
@@ -123,6 +126,7 @@ pub(crate) fn check_tables<L: Ledger>(
 ) -> Result<PlainTracks, Refusal>
     requires inside { HaveTablesIn (box_seen moov) head.now.tracks.items }
     ensures plain { IfOk result (ArePlain (box_seen moov.entry).payload (length head.now.tracks.items)) }
+    ensures refusal { IfErr result RefusesBytes }
 {
     let mut plain = PlainTracks::none(alloc);
     for track in &head.tracks {

@@ -1,17 +1,59 @@
 use Rattle.std.proofs.Common.{◌∙◌, refl, rules}
-use Rattle.mp4_present.specs.InHand.{follows_itself, follows_on}
+use Rattle.std.proofs.lemmas.Result.{err_from_is_err_and}
+use Rattle.mp4_present.specs.InHand.{follows_itself, follows_on, left_in_hand}
+use Rattle.mp4_present.specs.Carried.{waiting}
+use Rattle.mp4_present.proofs.Hands.{hand_none, hand_more, hand_all, hand_fails}
 use Rattle.mp4_present.proofs.WalkPlaces.{kept_on}
 use Rattle.mp4_present.proofs.copying.carry_hand.Goals as goal
 
 pub loop-stretch-init : goal.loop-stretch-init
-loop-stretch-init g c = (refl, (c.in_hand-hand.result, c.in_hand-hand.ensures, follows_itself c.in_hand-hand.result))
+loop-stretch-init g c = record {
+  honesty = refl;
+  file = refl;
+  reads = refl;
+  puts = refl;
+  room = refl;
+  first = c.in_hand-hand.result;
+  is = c.in_hand-hand.ensures;
+  later = follows_itself c.in_hand-hand.result;
+  bytes = λ _. hand_none _ _ _ _;
+}
 
 pub loop-stretch-preserved : goal.loop-stretch-preserved
 loop-stretch-preserved g c =
     let i = c.loop-stretch.invariant in
-    (c.in_ok-carry_stretch.ensures.file ∙ i.0, (i.1.0, i.1.1, follows_on _ _ _ i.1.2 c.next_stretch.ensures.later))
+    let e = c.in_ok-carry_stretch.ensures in
+    let s = c.next_stretch.ensures in
+    record {
+      honesty = e.honesty ∙ i.honesty;
+      file = e.file ∙ i.file;
+      reads = e.reads ∙ i.reads;
+      puts = e.puts ∙ i.puts;
+      room = e.room ∙ i.room;
+      first = i.first;
+      is = i.is;
+      later = follows_on _ _ _ i.later s.later;
+      bytes = λ honest. hand_more _ _ _ _ _ _ _ _ _ _ c.in-Some.stretch.samples c.in-Some.stretch.at c.in-Some.stretch.len (i.bytes honest) c.in-Some.ensures.stretch c.in-Some.ensures.samples.3 ((rw (i.honesty, i.file) at e.bytes) honest);
+    }
 
 pub returns-clause-walk : goal.returns-clause-walk
 returns-clause-walk g c =
     let i = c.loop-stretch.invariant in
-    rw c.keep.ensures (kept_on c.args.movie.now c.args.walk.now i.1.0 _ c.place-place.result (search rules) i.1.1 (follows_on _ _ _ i.1.2 c.next_stretch.ensures.later) c.place-place.ensures)
+    rw c.keep.ensures (kept_on c.args.movie.now c.args.walk.now i.first _ c.place-place.result (search rules) i.is (follows_on _ _ _ i.later c.next_stretch.ensures.later) c.place-place.ensures)
+
+pub returns-in_err-carry_stretch-clause-prefix : goal.returns-in_err-carry_stretch-clause-prefix
+returns-in_err-carry_stretch-clause-prefix g c =
+    let p = err_from_is_err_and c.from_residual.result c.from_residual.ensures.1 in
+    let i = c.loop-stretch.invariant in
+    let x = c.in-Some.stretch in
+    rw p.1 (λ honest. (
+      i.first,
+      i.is,
+      hand_fails (g.S.Store.file c.args.store.now) _ _ _ (waiting c.args.carrier.now) (waiting c.loop-stretch.carrier) (left_in_hand i.first) (left_in_hand c.loop-stretch.hand) x.samples x.at x.len (i.bytes honest) c.in-Some.ensures.stretch
+          ((rw (i.honesty, i.file) at c.in_err-carry_stretch.ensures.prefix) honest),
+    ))
+
+pub returns-clause-bytes : goal.returns-clause-bytes
+returns-clause-bytes g c =
+    let i = c.loop-stretch.invariant in
+    λ honest. (i.first, i.is, hand_all (g.S.Store.file c.args.store.now) _ _ (waiting c.args.carrier.now) (waiting c.loop-stretch.carrier) (left_in_hand i.first) (left_in_hand c.loop-stretch.hand) (i.bytes honest) (search rules))

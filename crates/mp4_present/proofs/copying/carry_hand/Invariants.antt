@@ -1,14 +1,26 @@
 use Rattle.std.proofs.Common.{◌≡◌, length}
+use Rattle.std.specs.Prelude.{vec_len, IsTrue}
+use Rattle.mp4_present.specs.Carried.{waiting}
 use Rattle.mp4_present.specs.InHand.{Follows, left_in_hand}
 use Rattle.mp4_present.specs.Movies.{InHandOf}
 use Rattle.mp4_present.specs.declared.in_hand.InHand.{InHand}
+use Rattle.mp4_present.proofs.Hands.{HandGoesOn}
 use Rattle.mp4_present.proofs.copying.carry_hand.Given as goal
 
--- the samples in hand are those of the walk, later
+-- the samples in hand are those of the walk, later, and the bytes of those before are taken along
 abbrev pub invariant-loop-stretch : goal.invariant-loop-stretch
 invariant-loop-stretch g l =
-    (g.S.Store.file l.store ≡ g.S.Store.file l.fn.store)
-    × ((first : InHand) × InHandOf l.movie l.fn.walk first × Follows first l.hand)
+    record {
+      honesty : g.S.Store.is_honest l.store ≡ g.S.Store.is_honest l.fn.store;
+      file : g.S.Store.file l.store ≡ g.S.Store.file l.fn.store;
+      reads : g.S.Store.read_failures l.store ≡ g.S.Store.read_failures l.fn.store;
+      puts : g.K.Sink.put_failures l.sink ≡ g.K.Sink.put_failures l.fn.sink;
+      room : vec_len l.carrier.buffer ≡ vec_len l.fn.carrier.buffer;
+      first : InHand;
+      is : InHandOf l.movie l.fn.walk first;
+      later : Follows first l.hand;
+      bytes : IsTrue (g.S.Store.is_honest l.fn.store) → HandGoesOn (g.S.Store.file l.fn.store) (g.K.Sink.contents l.fn.sink) (g.K.Sink.contents l.sink) (waiting l.fn.carrier) (waiting l.carrier) (left_in_hand first) (left_in_hand l.hand);
+    }
 
 abbrev pub decreases-loop-stretch : goal.decreases-loop-stretch
 decreases-loop-stretch g l = length (left_in_hand l.hand)

@@ -1,0 +1,59 @@
+-- Bytes on their way to a sink.
+use Rattle.std.proofs.Common.{◌≡◌, ℕ, ◌+◌, ◌-◌, ◌≤◌, List, [], ◌++◌, take, drop, refl, sym, ap, ◌∙◌, append_assoc, arith}
+use Rattle.std.proofs.lemmas.Grind.{common_steps}
+use Rattle.std.proofs.lemmas.List.{append-nil}
+use Rattle.std.specs.Prelude.{Option}
+use Rattle.std.specs.Io.KnownBytes.{Appends}
+use Rattle.mp4_store.specs.Device.{AppendsPrefix, range}
+use Rattle.mp4_store.proofs.Known.{Appends-then, Appends-nothing, AppendsPrefix-then, AppendsPrefix-longer, AppendsPrefix-whole, range-add}
+use Rattle.mp4_present.specs.Carried.{BytesGoOn}
+
+-- nothing follows
+pub BytesGoOn-nothing : (known : Option (List ℕ)) (held : List ℕ) → BytesGoOn known known held held []
+BytesGoOn-nothing known held = ([], Appends-nothing known, sym (append-nil held))
+
+-- one after the other
+pub BytesGoOn-then : (a b c : Option (List ℕ)) (held held_b held_c xs ys zs : List ℕ) → BytesGoOn a b held held_b xs → BytesGoOn b c held_b held_c ys → zs ≡ xs ++ ys → BytesGoOn a c held held_c zs
+BytesGoOn-then a b c held held_b held_c xs ys zs p q e = (
+  p.0 ++ q.0,
+  Appends-then a b c p.0 q.0 (p.0 ++ q.0) p.1 q.1 refl,
+  append_assoc p.0 q.0 held_c ∙ ap (λ (bs : List ℕ). p.0 ++ bs) q.2 ∙ sym (append_assoc p.0 held_b ys) ∙ ap (λ (bs : List ℕ). bs ++ ys) p.2 ∙ append_assoc held xs ys ∙ ap (λ (bs : List ℕ). held ++ bs) (sym e),
+)
+
+-- at last all is put
+pub BytesGoOn-all : (a b c : Option (List ℕ)) (held held_b bytes : List ℕ) → BytesGoOn a b held held_b bytes → Appends b c held_b → Appends a c (held ++ bytes)
+BytesGoOn-all a b c held held_b bytes p q = Appends-then a b c p.0 held_b (held ++ bytes) p.1 q (sym p.2)
+
+-- a put of what waits fails
+pub BytesGoOn-fails : (a b c : Option (List ℕ)) (held held_b bytes more : List ℕ) → BytesGoOn a b held held_b bytes → AppendsPrefix b c (held_b ++ more) → AppendsPrefix a c (held ++ (bytes ++ more))
+BytesGoOn-fails a b c held held_b bytes more p q =
+    AppendsPrefix-then a b c p.0 (held_b ++ more) (held ++ (bytes ++ more)) p.1 q
+    (sym (append_assoc held bytes more) ∙ ap (λ (bs : List ℕ). bs ++ more) (sym p.2) ∙ append_assoc p.0 held_b more)
+
+-- what was put so far is a front
+pub BytesGoOn-front : (a b : Option (List ℕ)) (held held_b bytes more : List ℕ) → BytesGoOn a b held held_b bytes → AppendsPrefix a b (held ++ (bytes ++ more))
+BytesGoOn-front a b held held_b bytes more p =
+    let whole : held ++ (bytes ++ more) ≡ p.0 ++ (held_b ++ more) = sym (append_assoc held bytes more) ∙ ap (λ (bs : List ℕ). bs ++ more) (sym p.2) ∙ append_assoc p.0 held_b more in
+    rw whole (AppendsPrefix-longer a b p.0 (held_b ++ more) (AppendsPrefix-whole a b p.0 p.1))
+
+-- room is made, and a piece waits behind the others
+pub piece_waits : (a b c : Option (List ℕ)) (held held_b held_c held_d done piece next : List ℕ) → BytesGoOn a b held held_b done → BytesGoOn b c held_b held_c [] → held_d ≡ held_c ++ piece → next ≡ done ++ piece → BytesGoOn a c held held_d next
+piece_waits a b c held held_b held_c held_d done piece next p q e n =
+    let whole : BytesGoOn c c held_c held_d piece = ([], Appends-nothing c, e) in
+    BytesGoOn-then a c c held held_c held_d done piece next (BytesGoOn-then a b c held held_b held_c done [] done p q (sym (append-nil done))) whole n
+
+-- no room is made
+pub no_room : (a b c : Option (List ℕ)) (held held_b done more whole : List ℕ) → BytesGoOn a b held held_b done → AppendsPrefix b c held_b → whole ≡ done ++ more → AppendsPrefix a c (held ++ whole)
+no_room a b c held held_b done more whole p q e = rw e (BytesGoOn-fails a b c held held_b done more p (AppendsPrefix-longer b c held_b more q))
+
+-- room is made, and a piece isn't read
+pub not_read : (a b c : Option (List ℕ)) (held held_b held_c done more whole : List ℕ) → BytesGoOn a b held held_b done → BytesGoOn b c held_b held_c [] → whole ≡ done ++ more → AppendsPrefix a c (held ++ whole)
+not_read a b c held held_b held_c done more whole p q e =
+    rw e (BytesGoOn-front a c held held_c done more (BytesGoOn-then a b c held held_b held_c done [] done p q (sym (append-nil done))))
+
+-- a front and the rest
+pub front_and_rest : (bytes : List ℕ) (n : ℕ) → bytes ≡ take n bytes ++ drop n bytes
+front_and_rest bytes n = grind (arith, common_steps)
+
+pub range_and_rest : (file : List ℕ) (at n len : ℕ) → n ≤ len → range file at len ≡ range file at n ++ range file (at + n) (len - n)
+range_and_rest file at n len le = let e : len ≡ n + (len - n) = omega (arith, le) in ap (range file at) e ∙ range-add file at n (len - n)

@@ -1,0 +1,97 @@
+-- The `moof`s of a file whose outline is known, one after the other.
+use Rattle.std.proofs.Common.{◌≡◌, ℕ, ◌+◌, ◌-◌, ◌≤◌, true, List, [], ◌∷◌, ◌++◌, Option, Some, None, length, drop, max, refl, length-take, length-drop, sym, ap, subst, ◌∙◌, arith}
+use Rattle.std.specs.Prelude.{codes, unwrap_or, fold, bytes_eq, Bool, IsTrue}
+use Rattle.std.proofs.lemmas.List.{drop-drop}
+use Rattle.mp4_boxes.specs.Box.{Box, LieEndToEnd, file_container, size, sizes}
+use Rattle.mp4_boxes.specs.Children.{of_kind, Holds}
+use Rattle.mp4_boxes.specs.declared.rule.Rule.TheVariants.{File}
+use Rattle.mp4_boxes.specs.declared.refusal.Refusal.{Refusal}
+use Rattle.mp4_boxes.specs.declared.refusal.Refusal.TheVariants as refusals
+use Rattle.mp4_boxes.proofs.Among.{of_kind-append, of_kind-split}
+use Rattle.mp4_boxes.proofs.Tiling.{lies_behind, sizes-append, sizes-cons}
+use Rattle.mp4_present.specs.Again.{AreFrom, IsNextFragment}
+use Rattle.mp4_present.specs.Movies.{IsWhole}
+use Rattle.mp4_present.specs.Reading.{RefusesPayload}
+use Rattle.mp4_present.specs.Opening.{RefusesOpen}
+use Rattle.mp4_present.specs.Outline.{BeginAt, IsOutline, box_at, longest}
+use Rattle.mp4_present.specs.declared.reading.TopBox.{TopBox}
+use Rattle.mp4_present.specs.declared.outline.Outline.{Outline}
+
+-- the boxes of the file from a place on, of which no `moof` is longer than so many bytes
+pub record Left (file : List ℕ) (at most : ℕ) : Type 0 where
+  pub boxes : List Box
+  pub are_from : AreFrom file at boxes
+  pub short : longest (of_kind (codes "moof") boxes) ≤ most
+
+-- the boxes behind some first ones
+behind : (file : List ℕ) (at : ℕ) (before after : List Box) → AreFrom file at (before ++ after) → AreFrom file (at + sizes before) after
+behind file at before after a =
+    let w = a.whole in
+    let same : drop (sizes before) (drop at file) ≡ drop (at + sizes before) file = drop-drop (sizes before) at file in
+    record {
+      lie = subst (λ (bytes : List ℕ). LieEndToEnd true (at + sizes before) bytes after) same (lies_behind true at (drop at file) before after a.lie);
+      whole = omega (arith, w, sizes-append before after);
+    }
+
+-- all boxes of a file
+pub whole_file : (file : List ℕ) (boxes : List Box) → Holds File (file_container file) boxes → AreFrom file 0 boxes
+whole_file file boxes h = let full = h.tiles.full in record { lie = h.tiles.front.0; whole = omega (arith, full) }
+
+-- the longest of some boxes, and of one more
+longest_from : (m : ℕ) (boxes : List Box) → fold (λ (most : ℕ) (b : Box). max most (size b)) m boxes ≡ max m (longest boxes)
+longest_from m [] = omega arith
+longest_from m (b ∷ boxes) = omega (arith, longest_from (max m (size b)) boxes, longest_from (max 0 (size b)) boxes)
+
+longest_cons : (b : Box) (boxes : List Box) → longest (b ∷ boxes) ≡ max (size b) (longest boxes)
+longest_cons b boxes = omega (arith, longest_from (max 0 (size b)) boxes)
+
+-- where the first `moof` is looked for
+left_at : (file : List ℕ) (boxes : List Box) (first : Option ℕ) → AreFrom file 0 boxes → BeginAt first boxes → Left file (unwrap_or first (length file)) (longest (of_kind (codes "moof") boxes))
+left_at file boxes None a b = record { boxes = []; are_from = record { lie = tt; whole = omega arith }; short = omega arith }
+left_at file boxes (Some at) a b =
+    let after = behind file 0 b.0 b.1 (subst (AreFrom file 0) (sym b.2) a) in
+    let place : 0 + sizes b.0 ≡ at = omega (arith, b.4) in
+    let none : of_kind (codes "moof") boxes ≡ of_kind (codes "moof") b.1 = ap (of_kind (codes "moof")) (sym b.2) ∙ of_kind-append (codes "moof") b.0 b.1 ∙ ap (λ (bs : List Box). bs ++ of_kind (codes "moof") b.1) b.3 in
+    let same = ap longest none in
+    record { boxes = b.1; are_from = subst (λ (k : ℕ). AreFrom file k b.1) place after; short = omega (arith, same) }
+
+pub left_first : (file : List ℕ) (boxes : List Box) (o : Outline) → Holds File (file_container file) boxes → IsOutline file boxes o → Left file (unwrap_or o.fragments (length file)) o.longest
+left_first file boxes o h i = rw i.longest (left_at file boxes o.fragments (whole_file file boxes h) i.fragments)
+
+-- the size of a box that lies in a file
+size_at : (file : List ℕ) (top : TopBox) → IsWhole (length file) top → size (box_at file top) ≡ top.header.end - top.offset
+size_at file top w = let header = w.header in let within = w.within in grind (arith, length-take, length-drop)
+
+-- the next `moof`, which is no longer, and what lies behind it
+pub record Next (file : List ℕ) (top : TopBox) (most : ℕ) : Type 0 where
+  pub left : Left file top.header.end most
+  pub short : top.header.end ≤ top.offset + most
+
+pub left_next : (file : List ℕ) (at most : ℕ) (top : TopBox) (l : Left file at most) → IsWhole (length file) top → IsNextFragment file at l.boxes (Some top) → Next file top most
+left_next file at most top l w n =
+    let b = box_at file top in
+    let begins = behind file at n.0 (b ∷ n.1) (subst (AreFrom file at) n.2 l.are_from) in
+    let next = behind file (at + sizes n.0) (b ∷ []) n.1 begins in
+    let big = size_at file top w in
+    let header = w.header in
+    let one : sizes (b ∷ []) ≡ size b = omega (arith, sizes-cons b []) in
+    let offset = n.4 in
+    let place : at + sizes n.0 + sizes (b ∷ []) ≡ top.header.end = omega (arith, big, one, offset, header) in
+    let kind : bytes_eq (codes "moof") b.kind ≡ true = rw n.5 refl in
+    let all : of_kind (codes "moof") l.boxes ≡ b ∷ of_kind (codes "moof") n.1 = ap (of_kind (codes "moof")) n.2 ∙ of_kind-split (codes "moof") n.0 n.1 b kind ∙ ap (λ (bs : List Box). bs ++ b ∷ of_kind (codes "moof") n.1) n.3 in
+    let longer = ap longest all ∙ longest_cons b (of_kind (codes "moof") n.1) in
+    let short = l.short in
+    record {
+      left = record { boxes = n.1; are_from = subst (λ (k : ℕ). AreFrom file k n.1) place next; short = omega (arith, longer, short) };
+      short = omega (arith, longer, short, big, header);
+    }
+
+-- the room is as long as the longest `moof`
+pub open_not_read : (honest : Bool) (file : List ℕ) (top : TopBox) (most room reads reads_after : ℕ) (r : Refusal) → (IsTrue honest → Next file top most) → room ≡ most
+    → RefusesPayload room top reads reads_after r → RefusesOpen honest reads reads_after r
+open_not_read honest file top most room reads reads_after (refusals.Fault f) n e w = tt
+open_not_read honest file top most room reads reads_after refusals.Memory n e w = tt
+open_not_read honest file top most room reads reads_after refusals.StoreFailed n e w = w
+open_not_read honest file top most room reads reads_after refusals.StoreChanged n e w = λ told. let short = (n told).short in omega (arith, short, e, w)
+open_not_read honest file top most room reads reads_after refusals.WriteFailed n e w = w
+open_not_read honest file top most room reads reads_after refusals.NoSuchTrack n e w = w
