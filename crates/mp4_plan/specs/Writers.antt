@@ -1,6 +1,9 @@
 -- A writer of the normal form of a movie.
 use Rattle.std.specs.Prelude.{◌≡◌, ℕ, ◌+◌, ◌*◌, ◌^◌, ◌≤◌, List, length}
 use Rattle.std.specs.List.{AllByRecursion, sum_by}
+use Rattle.mp4_store.specs.Device.{HasRisen}
+use Rattle.mp4_boxes.specs.declared.refusal.Refusal.{Refusal}
+use Rattle.mp4_boxes.specs.declared.refusal.Refusal.TheVariants as refusals
 use Rattle.mp4_present.specs.Movies.{MovieSeen, IsWalkOf}
 use Rattle.mp4_present.specs.declared.walks.Walk.{Walk}
 use Rattle.mp4_plan.specs.declared.writer.Writer.{Writer}
@@ -23,3 +26,16 @@ rooms walks = sum_by (λ (walk : Walk). length walk.bytes.items) walks
 -- all that a writer holds: its head, what waits to be put, 24 bytes for each row, and a `moof` in each walk
 abbrev pub held : Writer → ℕ
 held w = length w.head.items + length w.carrier.buffer.items + 24 * length w.rows.items + rooms w.planning.items + rooms w.copying.items
+
+-- Why what was read before is not made again: there is no memory, or the bytes are others.
+abbrev pub RefusesMemory : Refusal → Type 0
+RefusesMemory refusals.Memory = Unit {0}
+RefusesMemory refusals.StoreChanged = Unit {0}
+RefusesMemory _ = ⊥
+
+-- Why a movie is not planned. The numbers are counts of failed reads, before and after.
+abbrev pub RefusesPlan : ℕ → ℕ → Refusal → Type 0
+RefusesPlan reads reads_after refusals.Memory = Unit {0}
+RefusesPlan reads reads_after refusals.StoreFailed = HasRisen reads reads_after
+RefusesPlan reads reads_after refusals.StoreChanged = Unit {0}
+RefusesPlan reads reads_after _ = ⊥

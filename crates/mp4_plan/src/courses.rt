@@ -1,7 +1,8 @@
 //! Samples of a track, taken piece by piece.
-ghost use Rattle.std.specs.Prelude.{◌≡◌, ◌+◌, ◌*◌, ◌^◌, ◌<◌, ◌≤◌, length, IfOk, OnOk};
+ghost use Rattle.std.specs.Prelude.{◌≡◌, ◌+◌, ◌*◌, ◌^◌, ◌<◌, ◌≤◌, length, IfOk, IfErr, OnOk};
 ghost use Rattle.mp4_present.specs.InHand.{Follows};
-ghost use Rattle.mp4_present.specs.Movies.{IsWalkOf};
+ghost use Rattle.mp4_present.specs.Carried.{RefusesCarry};
+ghost use Rattle.mp4_present.specs.Movies.{IsWalkOf, RefusesLoad};
 ghost use Rattle.mp4_plan.specs.Gathering.{count_of};
 
 use crate::ends::End;
@@ -28,6 +29,8 @@ pub(crate) fn peek_sample<S: Store, L: Ledger>(
     ensures walk { OnOk result (IsWalkOf movie.now walk.new) }
     ensures room { length walk.new.bytes.items ≡ length walk.old.bytes.items }
     ensures file { S.file store.new ≡ S.file store.old }
+    ensures reads { OnOk result (S.read_failures store.new ≡ S.read_failures store.old) }
+    ensures refusal { IfErr result (RefusesLoad (S.read_failures store.old) (S.read_failures store.new)) }
 {
     let mut next = walk.in_hand(movie).peek();
     while next.is_none() && walk.load(movie, store, steps)? {
@@ -109,6 +112,8 @@ pub(crate) fn plan_piece<S: Store, L: Ledger>(
     ensures room { length walk.new.bytes.items ≡ length walk.old.bytes.items }
     ensures file { S.file store.new ≡ S.file store.old }
     ensures few { IfOk result (λ p. p.count ≤ MOST_SAMPLES) }
+    ensures reads { OnOk result (S.read_failures store.new ≡ S.read_failures store.old) }
+    ensures refusal { IfErr result (RefusesLoad (S.read_failures store.old) (S.read_failures store.new)) }
 {
     let mut planner = Planner::new(end);
     loop {
@@ -143,6 +148,8 @@ pub(crate) fn note_piece<S: Store, L: Ledger>(
     ensures file { S.file store.new ≡ S.file store.old }
     ensures few { IfOk result (λ p. p.count ≤ length rows.old) }
     ensures bytes { IfOk result (λ p. p.bytes ≤ p.count * 4294967295) }
+    ensures reads { OnOk result (S.read_failures store.new ≡ S.read_failures store.old) }
+    ensures refusal { IfErr result (RefusesLoad (S.read_failures store.old) (S.read_failures store.new)) }
 {
     let mut planner = Planner::new(end);
     loop {
@@ -180,6 +187,9 @@ fn carry_hand<S: Store, K: Sink>(
     ensures later { OnOk result (Follows hand.old hand.new) }
     ensures file { S.file store.new ≡ S.file store.old }
     ensures room { length carrier.new.buffer.items ≡ length carrier.old.buffer.items }
+    ensures reads { OnOk result (S.read_failures store.new ≡ S.read_failures store.old) }
+    ensures puts { OnOk result (K.put_failures sink.new ≡ K.put_failures sink.old) }
+    ensures refusal { IfErr result (RefusesCarry (S.read_failures store.old) (S.read_failures store.new) (K.put_failures sink.old) (K.put_failures sink.new)) }
 {
     let mut left = load;
     while let Some(stretch) = next_stretch(hand, left.samples) {
@@ -210,6 +220,9 @@ pub(crate) fn carry_piece<S: Store, K: Sink, L: Ledger>(
     ensures room { length walk.new.bytes.items ≡ length walk.old.bytes.items }
     ensures file { S.file store.new ≡ S.file store.old }
     ensures buffer { length carrier.new.buffer.items ≡ length carrier.old.buffer.items }
+    ensures reads { OnOk result (S.read_failures store.new ≡ S.read_failures store.old) }
+    ensures puts { OnOk result (K.put_failures sink.new ≡ K.put_failures sink.old) }
+    ensures refusal { IfErr result (RefusesCarry (S.read_failures store.old) (S.read_failures store.new) (K.put_failures sink.old) (K.put_failures sink.new)) }
 {
     let mut left = load;
     loop {

@@ -1,6 +1,7 @@
 //! The rows of a `moof`: those of `trun`, and the `sbgp`s behind it (ISO/IEC 14496-12, 8.8.8 and 8.9.2).
-ghost use Rattle.std.specs.Prelude.{◌≡◌, ◌<◌, length, IfSome};
+ghost use Rattle.std.specs.Prelude.{◌≡◌, ◌<◌, length, IfSome, IfErr, OnOk};
 ghost use Rattle.mp4_tables.specs.Keys.{keys_seen};
+ghost use Rattle.mp4_present.specs.Carried.{RefusesPut};
 
 use crate::moof_sizes::{group_size, short};
 use crate::planner::Planned;
@@ -37,6 +38,8 @@ pub(crate) fn carry_run<K: Sink>(
     sink: &mut K,
 ) -> Result<(), Refusal>
     ensures room { length carrier.new.buffer.items ≡ length carrier.old.buffer.items }
+    ensures puts { OnOk result (K.put_failures sink.new ≡ K.put_failures sink.old) }
+    ensures refusal { IfErr result (RefusesPut (K.put_failures sink.old) (K.put_failures sink.new)) }
 {
     for row in rows {
         carrier.carry(run_row(row, planned).as_bytes(), sink)?;
@@ -80,6 +83,8 @@ fn carry_indexes<K: Sink>(
 ) -> Result<(), Refusal>
     requires { place < 4 }
     ensures room { length carrier.new.buffer.items ≡ length carrier.old.buffer.items }
+    ensures puts { OnOk result (K.put_failures sink.new ≡ K.put_failures sink.old) }
+    ensures refusal { IfErr result (RefusesPut (K.put_failures sink.old) (K.put_failures sink.new)) }
 {
     let mut count: u32 = 0;
     let mut index = 0;
@@ -129,6 +134,8 @@ pub(crate) fn carry_groups<K: Sink>(
     sink: &mut K,
 ) -> Result<(), Refusal>
     ensures room { length carrier.new.buffer.items ≡ length carrier.old.buffer.items }
+    ensures puts { OnOk result (K.put_failures sink.new ≡ K.put_failures sink.old) }
+    ensures refusal { IfErr result (RefusesPut (K.put_failures sink.old) (K.put_failures sink.new)) }
 {
     let mut behind = None;
     for _key in 0..4 {

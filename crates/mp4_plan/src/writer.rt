@@ -1,6 +1,8 @@
 //! The normal form of a presentation, written.
-ghost use Rattle.std.specs.Prelude.{◌≡◌, ◌+◌, ◌*◌, ◌^◌, ◌<◌, ◌≤◌, length, IfOk, OnOk};
-ghost use Rattle.mp4_plan.specs.Writers.{AreWalksOf, IsWriterOf, rooms, held};
+ghost use Rattle.std.specs.Prelude.{◌≡◌, ◌+◌, ◌*◌, ◌^◌, ◌<◌, ◌≤◌, length, IfOk, IfErr, OnOk};
+ghost use Rattle.mp4_present.specs.Carried.{RefusesCarry};
+ghost use Rattle.mp4_present.specs.Movies.{RefusesLoad};
+ghost use Rattle.mp4_plan.specs.Writers.{RefusesMemory, RefusesPlan, AreWalksOf, IsWriterOf, rooms, held};
 
 use crate::courses::{Load, carry_piece, note_piece, peek_sample, plan_piece};
 use crate::moof_front::{PieceHead, moof_front};
@@ -50,6 +52,7 @@ pub struct Writer {
 fn walks_of(alloc: Global, movie: &Movie) -> Result<Vec<Walk>, Refusal>
     ensures walks { IfOk result (λ walks. AreWalksOf movie.now walks.items) }
     ensures rooms { IfOk result (λ walks. rooms walks.items ≡ length movie.now.tracks * movie.now.longest) }
+    ensures refusal { IfErr result RefusesMemory }
 {
     let mut walks = Vec::new(alloc);
     for track in 0..movie.tracks().len() {
@@ -69,6 +72,8 @@ fn first_time<S: Store, L: Ledger>(
     ensures walks { OnOk result (AreWalksOf movie.now walks.new) }
     ensures rooms { rooms walks.new ≡ rooms walks.old }
     ensures file { S.file store.new ≡ S.file store.old }
+    ensures reads { OnOk result (S.read_failures store.new ≡ S.read_failures store.old) }
+    ensures refusal { IfErr result (RefusesLoad (S.read_failures store.old) (S.read_failures store.new)) }
 {
     if walks.is_empty() {
         return Ok(0);
@@ -106,6 +111,8 @@ fn plan_all<S: Store, L: Ledger>(
 ) -> Result<Plan, Refusal>
     ensures file { S.file store.new ≡ S.file store.old }
     ensures few { IfOk result (λ plan. plan.longest ≤ 2 ^ 24) }
+    ensures reads { OnOk result (S.read_failures store.new ≡ S.read_failures store.old) }
+    ensures refusal { IfErr result (RefusesPlan (S.read_failures store.old) (S.read_failures store.new)) }
 {
     let mut walks = walks_of(alloc, movie)?;
     let from = first_time(walks.as_mut_slice(), movie, store, steps)?;
@@ -128,7 +135,11 @@ pub fn normal_len<S: Store, L: Ledger>(
     movie: &Movie,
     store: &mut S,
     steps: &mut Steps<L>,
-) -> Result<u64, Refusal> {
+) -> Result<u64, Refusal>
+    ensures file { S.file store.new ≡ S.file store.old }
+    ensures reads { OnOk result (S.read_failures store.new ≡ S.read_failures store.old) }
+    ensures refusal { IfErr result (RefusesPlan (S.read_failures store.old) (S.read_failures store.new)) }
+{
     let plan = plan_all(alloc, movie, store, steps)?;
     let head = movie.head(alloc)?;
     Ok(
@@ -138,7 +149,9 @@ pub fn normal_len<S: Store, L: Ledger>(
 }
 
 // The bytes of `ftyp` and `moov`.
-fn head_of(alloc: Global, movie: &Movie) -> Result<Vec<u8>, Refusal> {
+fn head_of(alloc: Global, movie: &Movie) -> Result<Vec<u8>, Refusal>
+    ensures refusal { IfErr result RefusesMemory }
+{
     let head = movie.head(alloc)?;
     if head_len(&head) > MOST_HEAD {
         return Err(Refusal::StoreChanged);
@@ -157,6 +170,8 @@ impl Writer {
         ensures writer { IfOk result (IsWriterOf movie.now) }
         ensures held { IfOk result (λ w. held w ≡ length w.head.items + 2 * (length movie.now.tracks * movie.now.longest) + 24 * length w.rows.items + PIECE) }
         ensures file { S.file store.new ≡ S.file store.old }
+        ensures reads { OnOk result (S.read_failures store.new ≡ S.read_failures store.old) }
+        ensures refusal { IfErr result (RefusesPlan (S.read_failures store.old) (S.read_failures store.new)) }
     {
         let plan = plan_all(alloc, movie, store, steps)?;
         Ok(Writer {
@@ -186,6 +201,9 @@ impl Writer {
         ensures writer { OnOk result (IsWriterOf movie.now self.new) }
         ensures held { held self.new ≡ held self.old }
         ensures file { S.file store.new ≡ S.file store.old }
+        ensures reads { OnOk result (S.read_failures store.new ≡ S.read_failures store.old) }
+        ensures puts { OnOk result (K.put_failures sink.new ≡ K.put_failures sink.old) }
+        ensures refusal { IfErr result (RefusesCarry (S.read_failures store.old) (S.read_failures store.new) (K.put_failures sink.old) (K.put_failures sink.new)) }
     {
         let keys = movie.tracks()[track].keys;
         let sizes = sizes_of(planned, &keys);
@@ -222,6 +240,9 @@ impl Writer {
         requires { IsWriterOf movie.now self.old }
         ensures held { held self.new ≡ held self.old }
         ensures file { S.file store.new ≡ S.file store.old }
+        ensures reads { OnOk result (S.read_failures store.new ≡ S.read_failures store.old) }
+        ensures puts { OnOk result (K.put_failures sink.new ≡ K.put_failures sink.old) }
+        ensures refusal { IfErr result (RefusesCarry (S.read_failures store.old) (S.read_failures store.new) (K.put_failures sink.old) (K.put_failures sink.new)) }
     {
         let tracks = movie.tracks();
         self.carrier.carry(self.head.as_slice(), sink)?;

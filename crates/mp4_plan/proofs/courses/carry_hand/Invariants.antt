@@ -7,6 +7,8 @@ abbrev pub invariant-loop-stretch : goal.invariant-loop-stretch
 invariant-loop-stretch g l =
     Follows l.fn.hand l.hand
     × (g.S.Store.file l.store ≡ g.S.Store.file l.fn.store)
+    × (g.S.Store.read_failures l.store ≡ g.S.Store.read_failures l.fn.store)
+    × (g.K.Sink.put_failures l.sink ≡ g.K.Sink.put_failures l.fn.sink)
     × (length l.carrier.buffer.items ≡ length l.fn.carrier.buffer.items)
 
 abbrev pub decreases-loop-stretch : goal.decreases-loop-stretch

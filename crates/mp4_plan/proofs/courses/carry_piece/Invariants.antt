@@ -8,6 +8,8 @@ invariant-loop-left g l =
     IsWalkOf l.movie l.walk
     × (length l.walk.bytes.items ≡ length l.fn.walk.bytes.items)
     × (g.S.Store.file l.store ≡ g.S.Store.file l.fn.store)
+    × (g.S.Store.read_failures l.store ≡ g.S.Store.read_failures l.fn.store)
+    × (g.K.Sink.put_failures l.sink ≡ g.K.Sink.put_failures l.fn.sink)
     × (length l.carrier.buffer.items ≡ length l.fn.carrier.buffer.items)
 
 abbrev pub decreases-loop-left : goal.decreases-loop-left

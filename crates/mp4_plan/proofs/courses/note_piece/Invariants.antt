@@ -9,6 +9,7 @@ invariant-loop-planner g l =
     IsWalkOf l.movie l.walk
     × (length l.walk.bytes.items ≡ length l.fn.walk.bytes.items)
     × (g.S.Store.file l.store ≡ g.S.Store.file l.fn.store)
+    × (g.S.Store.read_failures l.store ≡ g.S.Store.read_failures l.fn.store)
     × (count_of l.planner.gathered ≤ length l.rows)
     × (length l.rows ≡ length l.fn.rows)
 

@@ -9,6 +9,7 @@ invariant-loop-planner g l =
     IsWalkOf l.movie l.walk
     × (length l.walk.bytes.items ≡ length l.fn.walk.bytes.items)
     × (g.S.Store.file l.store ≡ g.S.Store.file l.fn.store)
+    × (g.S.Store.read_failures l.store ≡ g.S.Store.read_failures l.fn.store)
     × (count_of l.planner.gathered ≤ 16777216)
 
 abbrev pub decreases-loop-planner : goal.decreases-loop-planner

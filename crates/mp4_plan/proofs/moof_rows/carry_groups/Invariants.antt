@@ -3,4 +3,6 @@ use Rattle.mp4_plan.proofs.moof_rows.carry_groups.Given as goal
 
 -- the buffer keeps its length
 abbrev pub invariant-loop-key : goal.invariant-loop-key
-invariant-loop-key g l = length l.carrier.buffer.items ≡ length l.fn.carrier.buffer.items
+invariant-loop-key g l =
+    (length l.carrier.buffer.items ≡ length l.fn.carrier.buffer.items)
+    × (g.K.Sink.put_failures l.sink ≡ g.K.Sink.put_failures l.fn.sink)

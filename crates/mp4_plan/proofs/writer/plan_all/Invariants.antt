@@ -9,6 +9,7 @@ invariant-loop-turn g l =
     AreWalksOf l.movie l.walks.items
     × (l.schedule.tracks ≡ length l.movie.tracks)
     × (g.S.Store.file l.store ≡ g.S.Store.file l.fn.store)
+    × (g.S.Store.read_failures l.store ≡ g.S.Store.read_failures l.fn.store)
     × (l.plan.longest ≤ 2 ^ 24)
 
 abbrev pub decreases-loop-turn : goal.decreases-loop-turn

@@ -10,6 +10,8 @@ invariant-loop-turn g l =
     × (held l.self ≡ held l.fn.self)
     × (l.schedule.tracks ≡ length l.movie.tracks)
     × (g.S.Store.file l.store ≡ g.S.Store.file l.fn.store)
+    × (g.S.Store.read_failures l.store ≡ g.S.Store.read_failures l.fn.store)
+    × (g.K.Sink.put_failures l.sink ≡ g.K.Sink.put_failures l.fn.sink)
 
 abbrev pub decreases-loop-turn : goal.decreases-loop-turn
 decreases-loop-turn g l = to_come l.schedule
