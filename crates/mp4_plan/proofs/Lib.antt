@@ -32,3 +32,5 @@ pub mod NormalDenotes
 pub mod TurnOrder
 pub mod HeadLimit
 pub mod EachAt
+pub mod RowBytes
+pub mod RunsResumed

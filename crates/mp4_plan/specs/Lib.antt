@@ -11,3 +11,4 @@ pub mod PlannerLaws
 pub mod Sizes
 pub mod Turns
 pub mod Writers
+pub mod Spelling

@@ -1,5 +1,5 @@
 //! Samples of a track, taken piece by piece.
-ghost use Rattle.std.specs.Prelude.{◌≡◌, ◌+◌, ◌*◌, ◌^◌, ◌<◌, ◌≤◌, length, IfOk, IfErr, OnOk};
+ghost use Rattle.std.specs.Prelude.{◌≡◌, ◌+◌, ◌*◌, ◌^◌, ◌<◌, ◌≤◌, length, vec_len, IfOk, IfErr, OnOk};
 ghost use Rattle.mp4_present.specs.InHand.{Follows};
 ghost use Rattle.mp4_present.specs.Carried.{RefusesCarry};
 ghost use Rattle.mp4_present.specs.Movies.{IsWalkOf, RefusesLoad};
@@ -186,7 +186,7 @@ fn carry_hand<S: Store, K: Sink>(
 ) -> Result<Load, Refusal>
     ensures later { OnOk result (Follows hand.old hand.new) }
     ensures file { S.file store.new ≡ S.file store.old }
-    ensures room { length carrier.new.buffer.items ≡ length carrier.old.buffer.items }
+    ensures room { vec_len carrier.new.buffer ≡ vec_len carrier.old.buffer }
     ensures reads { OnOk result (S.read_failures store.new ≡ S.read_failures store.old) }
     ensures puts { OnOk result (K.put_failures sink.new ≡ K.put_failures sink.old) }
     ensures refusal { IfErr result (RefusesCarry (S.read_failures store.old) (S.read_failures store.new) (K.put_failures sink.old) (K.put_failures sink.new)) }
@@ -219,7 +219,7 @@ pub(crate) fn carry_piece<S: Store, K: Sink, L: Ledger>(
     ensures walk { OnOk result (IsWalkOf movie.now walk.new) }
     ensures room { length walk.new.bytes.items ≡ length walk.old.bytes.items }
     ensures file { S.file store.new ≡ S.file store.old }
-    ensures buffer { length carrier.new.buffer.items ≡ length carrier.old.buffer.items }
+    ensures buffer { vec_len carrier.new.buffer ≡ vec_len carrier.old.buffer }
     ensures reads { OnOk result (S.read_failures store.new ≡ S.read_failures store.old) }
     ensures puts { OnOk result (K.put_failures sink.new ≡ K.put_failures sink.old) }
     ensures refusal { IfErr result (RefusesCarry (S.read_failures store.old) (S.read_failures store.new) (K.put_failures sink.old) (K.put_failures sink.new)) }

@@ -24,16 +24,6 @@ fn bit(is_set: bool, bit: u32) -> u32
     if is_set { bit } else { 0 }
 }
 
-// A number that all samples have in common.
-fn push_common(out: &mut Spelled, common: Option<u32>)
-    requires { length out.old ≤ 124 }
-    ensures short { length out.new ≤ length out.old + 4 }
-{
-    if let Some(number) = common {
-        out.push_u32(number);
-    }
-}
-
 // `tfhd`: default-base-is-moof, the description index, and what all samples have in common.
 fn push_tfhd(out: &mut Spelled, head: &PieceHead, planned: &Planned, size: u32)
     requires { length out.old ≤ 92 }
@@ -46,9 +36,9 @@ fn push_tfhd(out: &mut Spelled, head: &PieceHead, planned: &Planned, size: u32)
     out.push_u32(0x2_0002 + durations + sizes + flags);
     out.push_u32(head.id);
     out.push_u32(head.description);
-    push_common(out, planned.duration);
-    push_common(out, planned.size);
-    push_common(out, planned.flags);
+    out.push_option(planned.duration);
+    out.push_option(planned.size);
+    out.push_option(planned.flags);
 }
 
 // `trun` of version 1 as far as its rows: the columns that the samples don't have in common.

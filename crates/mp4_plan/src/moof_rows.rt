@@ -1,7 +1,9 @@
 //! The rows of a `moof`: those of `trun`, and the `sbgp`s behind it (ISO/IEC 14496-12, 8.8.8 and 8.9.2).
-ghost use Rattle.std.specs.Prelude.{◌≡◌, ◌<◌, length, IfSome, IfErr, OnOk};
+ghost use Rattle.std.specs.Prelude.{◌≡◌, ℕ, ◌+◌, ◌-◌, ◌^◌, ◌<◌, ◌≤◌, List, [], flat_map, vec_len, length, IfSome, IfOk, IfErr, OnOk};
 ghost use Rattle.mp4_tables.specs.Keys.{keys_seen};
-ghost use Rattle.mp4_present.specs.Carried.{RefusesPut};
+ghost use Rattle.mp4_present.specs.Carried.{RefusesPut, BytesGoOn, waiting};
+ghost use Rattle.mp4_plan.specs.Normal.{own};
+ghost use Rattle.mp4_plan.specs.Spelling.{offset_of, run_row, run_rows, group_row, group_rows, runs_left, WritesRuns};
 
 use crate::moof_sizes::{group_size, short};
 use crate::planner::Planned;
@@ -12,21 +14,36 @@ use mp4_present::Carrier;
 use mp4_store::Sink;
 use mp4_tables::{GroupKey, Keys};
 
+// A number of a row, where it isn't common to all.
+fn own(common: Option<u32>, number: u32) -> Option<u32>
+    ensures { result ≡ own common number }
+{
+    match common {
+        Some(_) => None,
+        None => Some(number),
+    }
+}
+
+// The composition offset of a row, where some offset isn't 0.
+fn offset_of(has_offsets: bool, row: &Row) -> Option<u32>
+    ensures { result ≡ offset_of has_offsets row.now }
+{
+    if has_offsets {
+        Some(row.cto.cast_unsigned())
+    } else {
+        None
+    }
+}
+
 // A row of `trun`: what the samples don't have in common.
-fn run_row(row: &Row, planned: &Planned) -> Spelled {
+fn run_row(row: &Row, planned: &Planned) -> Spelled
+    ensures { result ≡ run_row planned.now row.now }
+{
     let mut out = Spelled::new();
-    if planned.duration.is_none() {
-        out.push_u32(row.duration);
-    }
-    if planned.size.is_none() {
-        out.push_u32(row.size);
-    }
-    if planned.flags.is_none() {
-        out.push_u32(row.flags);
-    }
-    if planned.has_offsets {
-        out.push_u32(row.cto.cast_unsigned());
-    }
+    out.push_option(own(planned.duration, row.duration));
+    out.push_option(own(planned.size, row.size));
+    out.push_option(own(planned.flags, row.flags));
+    out.push_option(offset_of(planned.has_offsets, row));
     out
 }
 
@@ -37,7 +54,8 @@ pub(crate) fn carry_run<K: Sink>(
     carrier: &mut Carrier,
     sink: &mut K,
 ) -> Result<(), Refusal>
-    ensures room { length carrier.new.buffer.items ≡ length carrier.old.buffer.items }
+    ensures room { vec_len carrier.new.buffer ≡ vec_len carrier.old.buffer }
+    ensures bytes { OnOk result (BytesGoOn (K.contents sink.old) (K.contents sink.new) (waiting carrier.old) (waiting carrier.new) (run_rows planned.now rows.now)) }
     ensures puts { OnOk result (K.put_failures sink.new ≡ K.put_failures sink.old) }
     ensures refusal { IfErr result (RefusesPut (K.put_failures sink.old) (K.put_failures sink.new)) }
 {
@@ -67,11 +85,61 @@ fn group_front(key: GroupKey, rows: u32) -> Spelled {
 }
 
 // A row of `sbgp`.
-fn group_row(count: u32, index: u16) -> Spelled {
+fn group_row(count: u32, index: u16) -> Spelled
+    ensures { result ≡ group_row (count, index) }
+{
     let mut out = Spelled::new();
     out.push_u32(count);
     out.push_u32(u32::from(index));
     out
+}
+
+// A run of equal indexes; none where its count is 0.
+#[derive(Clone, Copy, Debug, PartialEq, Eq)]
+pub(crate) struct IndexRun {
+    pub(crate) count: u32,
+    pub(crate) index: u16,
+}
+
+// Takes a run along, where there is one.
+fn carry_index_run<K: Sink>(
+    run: IndexRun,
+    carrier: &mut Carrier,
+    sink: &mut K,
+) -> Result<(), Refusal>
+    ensures room { vec_len carrier.new.buffer ≡ vec_len carrier.old.buffer }
+    ensures bytes { OnOk result (BytesGoOn (K.contents sink.old) (K.contents sink.new) (waiting carrier.old) (waiting carrier.new) (flat_map group_row (runs_left run.count run.index []))) }
+    ensures puts { OnOk result (K.put_failures sink.new ≡ K.put_failures sink.old) }
+    ensures refusal { IfErr result (RefusesPut (K.put_failures sink.old) (K.put_failures sink.new)) }
+{
+    if run.count > 0 {
+        carrier.carry(group_row(run.count, run.index).as_bytes(), sink)?;
+    }
+    Ok(())
+}
+
+// The run in hand with one index more. Where that is another one, the run is taken along.
+fn carry_index<K: Sink>(
+    run: IndexRun,
+    index: u16,
+    carrier: &mut Carrier,
+    sink: &mut K,
+) -> Result<IndexRun, Refusal>
+    requires { run.count + 1 < 2 ^ 32 }
+    ensures room { vec_len carrier.new.buffer ≡ vec_len carrier.old.buffer }
+    ensures count { IfOk result (λ next. next.count ≤ run.count + 1) }
+    ensures bytes { IfOk result (λ next. (values : List ℕ) → WritesRuns (K.contents sink.old) (K.contents sink.new) (waiting carrier.old) (waiting carrier.new) run next index values) }
+    ensures puts { OnOk result (K.put_failures sink.new ≡ K.put_failures sink.old) }
+    ensures refusal { IfErr result (RefusesPut (K.put_failures sink.old) (K.put_failures sink.new)) }
+{
+    if run.count > 0 && run.index == index {
+        return Ok(IndexRun {
+            count: run.count + 1,
+            index,
+        });
+    }
+    carry_index_run(run, carrier, sink)?;
+    Ok(IndexRun { count: 1, index })
 }
 
 // Takes the rows of an `sbgp` along: the longest runs of equal indexes at the key of this place.
@@ -81,25 +149,18 @@ fn carry_indexes<K: Sink>(
     carrier: &mut Carrier,
     sink: &mut K,
 ) -> Result<(), Refusal>
-    requires { place < 4 }
-    ensures room { length carrier.new.buffer.items ≡ length carrier.old.buffer.items }
+    requires place { place < 4 }
+    requires few { length rows.now < 2 ^ 32 - 1 }
+    ensures room { vec_len carrier.new.buffer ≡ vec_len carrier.old.buffer }
+    ensures bytes { OnOk result (BytesGoOn (K.contents sink.old) (K.contents sink.new) (waiting carrier.old) (waiting carrier.new) (group_rows place rows.now)) }
     ensures puts { OnOk result (K.put_failures sink.new ≡ K.put_failures sink.old) }
     ensures refusal { IfErr result (RefusesPut (K.put_failures sink.old) (K.put_failures sink.new)) }
 {
-    let mut count: u32 = 0;
-    let mut index = 0;
+    let mut run = IndexRun { count: 0, index: 0 };
     for row in rows {
-        let next = row.index_at(place);
-        if count > 0 && next != index {
-            carrier.carry(group_row(count, index).as_bytes(), sink)?;
-            count = 0;
-        }
-        index = next;
-        count = count.saturating_add(1);
+        run = carry_index(run, row.index_at(place), carrier, sink)?;
     }
-    if count > 0 {
-        carrier.carry(group_row(count, index).as_bytes(), sink)?;
-    }
+    carry_index_run(run, carrier, sink)?;
     Ok(())
 }
 
@@ -133,7 +194,8 @@ pub(crate) fn carry_groups<K: Sink>(
     carrier: &mut Carrier,
     sink: &mut K,
 ) -> Result<(), Refusal>
-    ensures room { length carrier.new.buffer.items ≡ length carrier.old.buffer.items }
+    requires { length rows.now < 2 ^ 32 - 1 }
+    ensures room { vec_len carrier.new.buffer ≡ vec_len carrier.old.buffer }
     ensures puts { OnOk result (K.put_failures sink.new ≡ K.put_failures sink.old) }
     ensures refusal { IfErr result (RefusesPut (K.put_failures sink.old) (K.put_failures sink.new)) }
 {

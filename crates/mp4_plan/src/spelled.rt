@@ -1,6 +1,7 @@
 //! A few bytes, spelled one number after the other.
 ghost use Rattle.std.specs.Prelude.{◌≡◌, ◌+◌, ◌≤◌, ◌++◌, [], length};
 ghost use Rattle.byteorder.specs.Endian.{big_bytes};
+ghost use Rattle.mp4_plan.specs.Spelling.{option_bytes};
 
 use mp4_boxes::FourCc;
 use std::marker::Model;
@@ -71,5 +72,16 @@ impl Spelled {
     {
         self.push_u32(size);
         self.push(&kind.0);
+    }
+
+    /// A number, where there is one.
+    pub(crate) fn push_option(&mut self, number: Option<u32>)
+        requires { length self.old + 4 ≤ 128 }
+        ensures is { self.new ≡ self.old ++ option_bytes number }
+        ensures length { length self.new ≤ length self.old + 4 }
+    {
+        if let Some(number) = number {
+            self.push_u32(number);
+        }
     }
 }

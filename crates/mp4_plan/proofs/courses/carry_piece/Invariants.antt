@@ -1,3 +1,4 @@
+use Rattle.std.specs.Prelude.{vec_len}
 use Rattle.std.proofs.Common.{◌≡◌, ◌-◌, length}
 use Rattle.mp4_present.specs.Movies.{IsWalkOf}
 use Rattle.mp4_plan.proofs.courses.carry_piece.Given as goal
@@ -10,7 +11,7 @@ invariant-loop-left g l =
     × (g.S.Store.file l.store ≡ g.S.Store.file l.fn.store)
     × (g.S.Store.read_failures l.store ≡ g.S.Store.read_failures l.fn.store)
     × (g.K.Sink.put_failures l.sink ≡ g.K.Sink.put_failures l.fn.sink)
-    × (length l.carrier.buffer.items ≡ length l.fn.carrier.buffer.items)
+    × (vec_len l.carrier.buffer ≡ vec_len l.fn.carrier.buffer)
 
 abbrev pub decreases-loop-left : goal.decreases-loop-left
 decreases-loop-left g l = length (g.S.Store.file l.store) - l.walk.next

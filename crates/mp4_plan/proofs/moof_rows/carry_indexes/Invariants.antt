@@ -1,8 +1,17 @@
-use Rattle.std.proofs.Common.{◌≡◌, length}
+use Rattle.std.proofs.Common.{◌≡◌, ℕ, ◌≤◌, List, ◌++◌, drop, map}
+use Rattle.std.specs.Prelude.{flat_map, slice_index, vec_len}
+use Rattle.mp4_present.specs.Carried.{BytesGoOn, waiting}
+use Rattle.mp4_plan.specs.Normal.{longest_runs}
+use Rattle.mp4_plan.specs.Spelling.{group_row, runs_left}
+use Rattle.mp4_plan.specs.declared.rows.Row.{Row}
 use Rattle.mp4_plan.proofs.moof_rows.carry_indexes.Given as goal
 
--- the buffer keeps its length
+-- the first runs are written, and with the one in hand the others come
 abbrev pub invariant-loop-row : goal.invariant-loop-row
 invariant-loop-row g l =
-    (length l.carrier.buffer.items ≡ length l.fn.carrier.buffer.items)
+    let index = λ (row : Row). slice_index row.groups l.place in
+    (vec_len l.carrier.buffer ≡ vec_len l.fn.carrier.buffer)
     × (g.K.Sink.put_failures l.sink ≡ g.K.Sink.put_failures l.fn.sink)
+    × (l.run.count ≤ l.row-index)
+    × ((done : List (ℕ × ℕ)) × BytesGoOn (g.K.Sink.contents l.fn.sink) (g.K.Sink.contents l.sink) (waiting l.fn.carrier) (waiting l.carrier) (flat_map group_row done)
+    × (done ++ runs_left l.run.count l.run.index (map index (drop l.row-index l.rows)) ≡ longest_runs (map index l.rows)))

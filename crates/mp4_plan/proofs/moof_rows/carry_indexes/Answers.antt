@@ -1,0 +1,26 @@
+use Rattle.std.proofs.Common.{◌+◌, [], ◌++◌, map, drop, refl, ◌∙◌, rules}
+use Rattle.std.specs.Prelude.{slice_index, flat_map}
+use Rattle.std.proofs.Math.Nat.{le_refl}
+use Rattle.mp4_present.proofs.Carrying.{BytesGoOn-nothing, BytesGoOn-then}
+use Rattle.mp4_plan.specs.Spelling.{group_row, runs_left}
+use Rattle.mp4_plan.specs.declared.rows.Row.{Row}
+use Rattle.mp4_plan.proofs.RunsResumed.{written_more, written_all}
+use Rattle.mp4_plan.proofs.moof_rows.carry_indexes.Goals as goal
+
+pub loop-row-init : goal.loop-row-init
+loop-row-init g c = (refl, refl, le_refl 0, ([], BytesGoOn-nothing _ _, refl))
+
+pub loop-row-preserved : goal.loop-row-preserved
+loop-row-preserved g c =
+    let i = c.loop-row.invariant in
+    let index = λ (row : Row). slice_index row.groups c.args.place in
+    let e = c.in_ok-run.ensures.bytes (map index (drop (c.loop-row.row-index + 1) c.args.rows.now)) in
+    let w = written_more group_row i.3.0 e.0 c.loop-row.run c.in_ok-run.run' index c.args.rows.now c.loop-row.row-index _ _ c.loop-row-test.true c.index_at.ensures i.3.2 e.2 in
+    (c.in_ok-run.ensures.room ∙ i.0, c.in_ok-run.ensures.puts ∙ i.1, search rules, (i.3.0 ++ e.0, BytesGoOn-then _ _ _ _ _ _ (flat_map group_row i.3.0) (flat_map group_row e.0) _ i.3.1 e.1 w.0, w.1))
+
+pub returns-clause-bytes : goal.returns-clause-bytes
+returns-clause-bytes g c =
+    let i = c.loop-row.invariant in
+    let index = λ (row : Row). slice_index row.groups c.args.place in
+    BytesGoOn-then _ _ _ _ _ _ (flat_map group_row i.3.0) (flat_map group_row (runs_left c.loop-row.run.count c.loop-row.run.index [])) _ i.3.1 c.in_ok-carry_index_run.ensures.bytes
+    (written_all group_row i.3.0 c.loop-row.run index c.args.rows.now c.loop-row.row-index (search rules) i.3.2)

@@ -1,0 +1,13 @@
+use Rattle.std.proofs.Common.{◌∙◌, List, ℕ, rules}
+use Rattle.mp4_present.proofs.Carrying.{BytesGoOn-then}
+use Rattle.mp4_plan.specs.Spelling.{run_row, run_rows}
+use Rattle.mp4_plan.proofs.RowBytes.{row_more}
+use Rattle.mp4_plan.proofs.moof_rows.carry_run.Goals as goal
+
+pub loop-row-preserved : goal.loop-row-preserved
+loop-row-preserved g c =
+    let i = c.loop-row.invariant in
+    let e = c.run_row.ensures in
+    let f = c.as_bytes.ensures in
+    let piece : List ℕ = c.as_bytes.result.now in
+    (search rules, c.in_ok-carry.ensures.puts ∙ i.1, BytesGoOn-then _ _ _ _ _ _ (run_rows c.args.planned.now _) piece (run_rows c.args.planned.now _) i.2 c.in_ok-carry.ensures.bytes (row_more (run_row c.args.planned.now) c.args.rows.now c.loop-row.row-index _ piece c.loop-row-test.true (f ∙ e)))

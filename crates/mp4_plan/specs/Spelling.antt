@@ -1,0 +1,50 @@
+-- What is written of a piece, by what was planned and noted of it (ISO/IEC 14496-12, 8.8.4 to 8.8.8, 8.9.2).
+use Rattle.std.specs.Prelude.{◌≡◌, ℕ, zero, suc, ◌==◌, Bool, true, false, if◌then◌else◌, List, [], ◌∷◌, ◌++◌, map, flat_map, slice_index, Option, Some, None}
+use Rattle.byteorder.specs.Endian.{big_bytes}
+use Rattle.mp4_boxes.specs.Bytes.{unsigned}
+use Rattle.mp4_present.specs.Carried.{BytesGoOn}
+use Rattle.mp4_plan.specs.declared.moof_rows.IndexRun.{IndexRun}
+use Rattle.mp4_plan.specs.Normal.{own, longest_runs}
+use Rattle.mp4_plan.specs.declared.planner.Planned.{Planned}
+use Rattle.mp4_plan.specs.declared.rows.Row.{Row}
+
+-- a number of 32 bits, where there is one
+abbrev pub option_bytes : Option ℕ → List ℕ
+option_bytes None = []
+option_bytes (Some n) = big_bytes 4 n
+
+-- the composition offset of a row, where some offset is not 0
+abbrev pub offset_of : Bool → Row → Option ℕ
+offset_of true row = Some (unsigned 4 row.cto)
+offset_of false row = None
+
+-- a row of `trun`: what the samples don't have in common
+abbrev pub run_row : Planned → Row → List ℕ
+run_row p row = option_bytes (own p.duration row.duration) ++ option_bytes (own p.size row.size) ++ option_bytes (own p.flags row.flags) ++ option_bytes (offset_of p.has_offsets row)
+
+abbrev pub run_rows : Planned → List Row → List ℕ
+run_rows p rows = flat_map (run_row p) rows
+
+-- a row of `sbgp`
+abbrev pub group_row : ℕ × ℕ → List ℕ
+group_row run = big_bytes 4 run.0 ++ big_bytes 4 run.1
+
+-- the rows of an `sbgp` for the indexes at a place
+abbrev pub group_rows : ℕ → List Row → List ℕ
+group_rows place rows = flat_map group_row (longest_runs (map (λ (row : Row). slice_index row.groups place) rows))
+
+-- the runs that are still to come, with one of so many in hand
+abbrev pub resumed : ℕ → ℕ → List ℕ → List (ℕ × ℕ)
+resumed count index [] = (count, index) ∷ []
+resumed count index (v ∷ vs) = if index == v then resumed (suc count) v vs else (count, index) ∷ resumed 1 v vs
+
+-- the runs that are to come, with the one in hand if there is one
+abbrev pub runs_left : ℕ → ℕ → List ℕ → List (ℕ × ℕ)
+runs_left zero index values = longest_runs values
+runs_left (suc count) index values = resumed (suc count) index values
+
+-- With one index more some of the runs that were to come are written.
+abbrev pub WritesRuns : Option (List ℕ) → Option (List ℕ) → List ℕ → List ℕ → IndexRun → IndexRun → ℕ → List ℕ → Type 0
+WritesRuns before after held held_after run next index values =
+    (done : List (ℕ × ℕ)) × BytesGoOn before after held held_after (flat_map group_row done)
+    × (runs_left run.count run.index (index ∷ values) ≡ done ++ runs_left next.count next.index values)
