@@ -1,3 +1,5 @@
+pub mod GroupsPassed
+pub mod NamesKept
 pub mod RunsPassed
 pub mod BoxesMoved
 pub mod MoofTied

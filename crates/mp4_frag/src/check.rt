@@ -1,9 +1,12 @@
 //! A `moof`, checked behind what came before it (ISO/IEC 14496-12, 8.8).
-ghost use Rattle.std.specs.Prelude.{◌≡◌, ◌+◌, ◌*◌, ◌^◌, ◌<◌, ◌≤◌, ◌==◌, length, find, slice_get, None, IfOk, IfErr, IfSome};
+ghost use Rattle.std.specs.Prelude.{◌≡◌, ◌+◌, ◌*◌, ◌^◌, ◌<◌, ◌≤◌, ◌==◌, [], length, find, slice_get, None, IfOk, IfErr, IfSome};
 ghost use Rattle.mp4_boxes.specs.Box.{Tiles, box_container};
 ghost use Rattle.mp4_boxes.specs.BoxFaults.{IsChildFault, fault_of};
 ghost use Rattle.mp4_boxes.specs.declared.rule.Rule.TheVariants as rules;
 ghost use Rattle.mp4_boxes.specs.View.{box_seen};
+ghost use Rattle.mp4_tables.specs.Groups.{groupings_of, keys_after};
+ghost use Rattle.mp4_tables.specs.Keys.{keys_seen};
+ghost use Rattle.mp4_frag.specs.GroupsJudged.{groups_in, AreGroupsSound, GroupsFail};
 ghost use Rattle.mp4_frag.specs.Passing.{IsNear, IsNearer, is_late_at, start_with, due_with};
 ghost use Rattle.mp4_frag.specs.RunsJudged.{children_of, runs_in, AreRunsSound, all_end, runs_total, runs_lasting, RunsFail};
 ghost use Rattle.mp4_frag.specs.States.{HaveRoom};
@@ -118,7 +121,11 @@ fn check_groups<L: Ledger>(
     n: u32,
     keys: Keys,
     steps: &mut Steps<L>,
-) -> Result<Keys, Fault> {
+) -> Result<Keys, Fault>
+    ensures sound { IfOk result (λ k. AreGroupsSound n (keys_seen keys) [] (groups_in (box_seen traf.entry))) }
+    ensures keys { IfOk result (λ k. keys_seen k ≡ keys_after (keys_seen keys) (groupings_of (groups_in (box_seen traf.entry)))) }
+    ensures fault { IfErr result (λ f. Tiles (box_container (box_seen traf.entry)) (children_of (box_seen traf.entry)) → GroupsFail n (keys_seen keys) [] (groups_in (box_seen traf.entry)) f) }
+{
     let mut keys = keys;
     let mut named = KeysNamed::none();
     for child in children(traf.payload(), traf.payload_offset(), traf.kind())? {
