@@ -1,3 +1,4 @@
+pub mod HeadsFound
 pub mod GroupsPassed
 pub mod NamesKept
 pub mod RunsPassed

@@ -1,5 +1,5 @@
 //! A `moof`, checked behind what came before it (ISO/IEC 14496-12, 8.8).
-ghost use Rattle.std.specs.Prelude.{◌≡◌, ◌+◌, ◌*◌, ◌^◌, ◌<◌, ◌≤◌, ◌==◌, [], length, find, slice_get, None, IfOk, IfErr, IfSome};
+ghost use Rattle.std.specs.Prelude.{◌≡◌, ◌+◌, ◌*◌, ◌^◌, ◌<◌, ◌≤◌, ◌==◌, [], length, find, slice_get, None, option_map, codes, IfOk, IfErr, IfSome};
 ghost use Rattle.mp4_boxes.specs.Box.{Tiles, box_container};
 ghost use Rattle.mp4_boxes.specs.BoxFaults.{IsChildFault, fault_of};
 ghost use Rattle.mp4_boxes.specs.declared.rule.Rule.TheVariants as rules;
@@ -8,7 +8,8 @@ ghost use Rattle.mp4_tables.specs.Groups.{groupings_of, keys_after};
 ghost use Rattle.mp4_tables.specs.Keys.{keys_seen};
 ghost use Rattle.mp4_frag.specs.GroupsJudged.{groups_in, AreGroupsSound, GroupsFail};
 ghost use Rattle.mp4_frag.specs.Passing.{IsNear, IsNearer, is_late_at, start_with, due_with};
-ghost use Rattle.mp4_frag.specs.RunsJudged.{children_of, runs_in, AreRunsSound, all_end, runs_total, runs_lasting, RunsFail};
+ghost use Rattle.mp4_boxes.specs.Children.{Holds, of_kind};
+ghost use Rattle.mp4_frag.specs.RunsJudged.{children_of, only_list, runs_in, AreRunsSound, all_end, runs_total, runs_lasting, RunsFail};
 ghost use Rattle.mp4_frag.specs.States.{HaveRoom};
 ghost use Rattle.mp4_frag.specs.Views.{moof_seen};
 ghost use Rattle.mp4_frag.specs.declared.state.TrackState.{TrackState};
@@ -64,7 +65,10 @@ struct Heads<'a> {
 
 // Checks which boxes stand in a `traf`.
 fn check_boxes<'a>(traf: BoxView<'a>) -> Result<Heads<'a>, Fault>
-    ensures { IfErr result (IsChildFault rules.TrackFragment (box_container (box_seen traf.entry))) }
+    ensures holds { IfOk result (λ h. Holds rules.TrackFragment (box_container (box_seen traf.entry)) (children_of (box_seen traf.entry))) }
+    ensures head { IfOk result (λ h. only_list (option_map box_seen h.head) ≡ of_kind (codes "tfhd") (children_of (box_seen traf.entry))) }
+    ensures time { IfOk result (λ h. only_list (option_map box_seen h.time) ≡ of_kind (codes "tfdt") (children_of (box_seen traf.entry))) }
+    ensures fault { IfErr result (IsChildFault rules.TrackFragment (box_container (box_seen traf.entry))) }
 {
     let mut heads = Heads {
         head: None,
