@@ -8,15 +8,10 @@ use Rattle.mp4_tables.specs.TableRules.{lies_within}
 use Rattle.mp4_frag.specs.Fragments.{RunRow, Run, TrackFragment}
 use Rattle.mp4_frag.specs.FragmentSamples.{run_samples, run_start, runs_samples, runs_end, end_of_data, base_of}
 use Rattle.mp4_frag.specs.FragmentRules.{is_within}
-use Rattle.mp4_frag.specs.Passing.{IsNearer, within_from, end_from}
+use Rattle.mp4_frag.specs.Passing.{IsNearer, IsUpTo, within_from, end_from}
 use Rattle.mp4_frag.specs.declared.trex.Trex.{Trex}
 use Rattle.mp4_frag.proofs.SamplesOfRows.{within_is, end_is}
 use Rattle.mp4_frag.proofs.RowsTied.{both}
-
--- numbers that are no more than so far from 0
-abbrev pub IsUpTo : ℕ → ℤ → Type 0
-IsUpTo n (pos k) = k ≤ n
-IsUpTo n (negsuc k) = suc k ≤ n
 
 pub up_to_more : (n m : ℕ) (z : ℤ) → n ≤ m → IsUpTo n z → IsUpTo m z
 up_to_more n m (pos k) h b = omega arith

@@ -1,3 +1,4 @@
+pub mod TrafPassed
 pub mod HeadsFound
 pub mod GroupsPassed
 pub mod NamesKept

@@ -26,10 +26,10 @@ use Rattle.mp4_frag.specs.FragmentSamples.{Part, trex_for, no_trex, base_of, run
 use Rattle.mp4_frag.specs.FragmentRules.{is_within}
 use Rattle.mp4_frag.specs.Judged.{AreTrexesOf, is_known_among, IsPlacedWithin, IsGrouped}
 use Rattle.mp4_frag.specs.Walks.{Walk, Reached, boxes_in, before_traf, no_indexes, runs_coming, traf_coming, trafs_coming, trex_among, with_leaves}
-use Rattle.mp4_frag.specs.Passing.{IsNearer}
+use Rattle.mp4_frag.specs.Passing.{IsNearer, IsUpTo}
 use Rattle.mp4_frag.specs.declared.state.TrackState.{TrackState}
 use Rattle.mp4_frag.specs.declared.trex.Trex.{Trex}
-use Rattle.mp4_frag.proofs.Bounds.{IsUpTo, up_to_more, up_to_near, runs_up_to, base_up_to}
+use Rattle.mp4_frag.proofs.Bounds.{up_to_more, up_to_near, runs_up_to, base_up_to}
 use Rattle.mp4_frag.proofs.GroupsTied.{KeepRules, groups_shown, rules_differ, rules_few, rules_small}
 use Rattle.mp4_frag.proofs.LeavesTied.{groups_taken, groups_are, leaves_tied}
 use Rattle.mp4_frag.proofs.Ranges.{value_below}
