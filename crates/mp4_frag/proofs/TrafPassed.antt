@@ -1,5 +1,5 @@
 -- A `traf` whose runs and `sbgp`s were checked.
-use Rattle.std.proofs.Common.{◌≡◌, ℕ, zero, suc, ◌+◌, ◌≤◌, ◌==◌, Bool, true, false, cond, List, [], ◌∷◌, ◌++◌, length, take, map, drop, Option, Some, None, IsTrue, refl, sym, ap, subst, ◌∙◌, rules, arith, slice_set, slice_index_or, length-append}
+use Rattle.std.proofs.Common.{◌≡◌, ℕ, zero, suc, ◌+◌, ◌<◌, ◌≤◌, ◌==◌, Bool, true, false, cond, List, [], ◌∷◌, ◌++◌, length, take, map, drop, Option, Some, None, IsTrue, refl, sym, ap, subst, ◌∙◌, rules, arith, slice_set, slice_index_or, length-append}
 use Rattle.std.specs.Prelude.{ℤ, codes, bytes_eq, unwrap_or, option_map, find, flat_map, ⊤}
 use Rattle.std.specs.List.{AllByRecursion, slice_get}
 use Rattle.std.proofs.lemmas.List.{append_assoc}
@@ -19,6 +19,17 @@ use Rattle.mp4_frag.specs.Passing.{lasting}
 use Rattle.mp4_frag.specs.Reading.{inheritance}
 use Rattle.mp4_frag.specs.RunsJudged.{run_begins, run_ends, IsRunSound, AreRunsSound, all_end, runs_total, runs_lasting}
 use Rattle.mp4_frag.specs.declared.trex.Trex.{Trex}
+use Rattle.mp4_tables.specs.Groups.{maps_of}
+use Rattle.mp4_frag.specs.Fragments.{track_fragment_of}
+use Rattle.mp4_frag.specs.FragmentSamples.{base_of, part_samples}
+use Rattle.mp4_frag.specs.Judged.{part_with, IsTrafSound}
+use Rattle.mp4_frag.specs.Reading.{IsHead, as_traf}
+use Rattle.mp4_frag.specs.Walks.{head_of, trex_among}
+use Rattle.mp4_frag.specs.declared.heads.Head.{Head}
+use Rattle.mp4_frag.specs.declared.heads.Inherited.{Inherited}
+use Rattle.mp4_frag.specs.declared.state.TrackState.{TrackState}
+use Rattle.mp4_frag.proofs.LeavesRead.{head_is, got}
+use Rattle.mp4_frag.proofs.TrafsTied.{grouped_length}
 use Rattle.mp4_frag.proofs.RunsTied.{run_in, duration-append}
 use Rattle.mp4_frag.proofs.SamplesOfRows.{within_is, lasting_is, end_is}
 
@@ -152,3 +163,67 @@ payload_by kind b c boxes kept o false e h = h e
 pub payload_there : (kind : List ℕ) (b : Box) (boxes : List Box) → of_kind kind boxes ≡ b ∷ [] → payload_if kind boxes ≡ Some b.payload
 payload_there kind b [] e = absurd cc
 payload_there kind b (c ∷ boxes) e = payload_by kind b c boxes (of_kind kind boxes) (payload_if kind boxes) (bytes_eq kind c.kind) e (payload_there kind b boxes)
+
+pub payload_is : (kind : List ℕ) (b : Box) (boxes : List Box) → of_kind kind boxes ≡ b ∷ [] → payload_of kind boxes ≡ b.payload
+payload_is kind b boxes e = ap (λ (o : Option (List ℕ)). unwrap_or o []) (payload_there kind b boxes e)
+
+-- the only box of a type, if there is one, is sound
+pub only_sound : (kind : List ℕ) (leaf : Leaf) (b : Box) (boxes : List Box) → of_kind kind boxes ≡ b ∷ [] → IsSound leaf b.payload → AllByRecursion (λ (c : Box). IsSound leaf c.payload) (of_kind kind boxes)
+only_sound kind leaf b boxes e s = subst (AllByRecursion (λ (c : Box). IsSound leaf c.payload)) (sym e) (s, tt)
+
+pub none_sound : (kind : List ℕ) (leaf : Leaf) (boxes : List Box) → of_kind kind boxes ≡ [] → AllByRecursion (λ (c : Box). IsSound leaf c.payload) (of_kind kind boxes)
+none_sound kind leaf boxes e = subst (AllByRecursion (λ (c : Box). IsSound leaf c.payload)) (sym e) tt
+
+runs_leaves : (L : ℕ) (inherited : Inherited) (base before : ℤ) (runs : List Box) → AreRunsSound L inherited base before runs → AllByRecursion (λ (b : Box). IsSound trun b.payload) runs
+runs_leaves L inherited base before [] h = tt
+runs_leaves L inherited base before (b ∷ runs) h = (h.0.sound, runs_leaves L inherited base (run_ends inherited base before b.payload) runs h.1)
+
+-- ---- the whole `traf`
+
+pub traf_sound : (L moof n : ℕ) (before base ends : ℤ) (tracks : List TrackState) (boxes : List Box) (b : Box) (head : Head) (trex : Trex) (inherited : Inherited) (keys : List GroupKey)
+    → of_kind (codes "tfhd") boxes ≡ b ∷ [] → IsHead b.payload head → trex_among tracks head.id ≡ Some trex → AllByRecursion (λ (c : Box). IsSound tfdt c.payload) (of_kind (codes "tfdt") boxes)
+    → base ≡ base_of moof before (as_traf head) → inherited ≡ inheritance (as_traf head) trex
+    → AreRunsSound L inherited base base (of_kind (codes "trun") boxes) → ends ≡ all_end inherited base base (of_kind (codes "trun") boxes) → n ≡ runs_total (of_kind (codes "trun") boxes)
+    → AreGroupsSound n keys [] (of_kind (codes "sbgp") boxes) → IsTrafSound L moof before tracks boxes ends
+traf_sound L moof n before base ends tracks boxes b head trex inherited keys one h known times eb ei sound ee en groups =
+    let traf = track_fragment_of boxes in
+    let runs = of_kind (codes "trun") boxes in
+    let there = payload_is (codes "tfhd") b boxes one in
+    let same : as_traf head ≡ head_of (payload_of (codes "tfhd") boxes) = head_is b.payload head h ∙ ap head_of (sym there) in
+    let from : base ≡ base_of moof before traf = eb ∙ ap (base_of moof before) same in
+    let taken : inherited ≡ inheritance traf trex = ei ∙ ap (λ (t : TrackFragment). inheritance t trex) same in
+    let start = base_of moof before traf in
+    let all : AreRunsSound L (inheritance traf trex) start start runs = subst (λ (inh : Inherited). AreRunsSound L inh start start runs) taken (subst (λ (place : ℤ). AreRunsSound L inherited place place runs) from sound) in
+    let end : ends ≡ all_end (inheritance traf trex) start start runs = ee ∙ (λ i. all_end (taken i) (from i) (from i) runs) in
+    let part = part_with moof before trex traf in
+    let flat = flat_map (λ samples. samples) part.runs in
+    let count : n ≡ length (part_samples part) = en ∙ runs_count traf trex start start runs ∙ sym (grouped_length (maps_of (length flat) part.groups) flat) in
+    record {
+      leaves = leaves_sound boxes (only_sound (codes "tfhd") tfhd b boxes one (head_sound b.payload h.readable)) times (runs_leaves L inherited base base runs sound) (groups_readable n keys [] (of_kind (codes "sbgp") boxes) groups);
+      trex = trex;
+      known = ap (λ (t : TrackFragment). trex_among tracks t.id) (sym same) ∙ known;
+      places = runs_placed L traf trex start start runs all;
+      groups = (keys, λ rule k. subst (λ m. IsTrue (group_test rule m keys part.groups k)) count (rules_kept n keys (of_kind (codes "sbgp") boxes) groups rule k));
+      end = end ∙ runs_end_are traf trex start start runs;
+    }
+
+-- the track found has these defaults
+pub found_trex : (tracks : List TrackState) (id k : ℕ) (d : TrackState) (trex : Trex) → k < length tracks → find (λ (t : TrackState). t.id == id) tracks ≡ slice_get tracks k → (slice_index_or tracks k d).trex ≡ Some trex → trex_among tracks id ≡ Some trex
+found_trex tracks id k d trex lt f e = ap (λ (o : Option TrackState). unwrap_or (option_map (λ (t : TrackState). t.trex) o) None) (f ∙ got k tracks d lt) ∙ e
+
+-- another state of a track with the same ID and defaults
+first_same : (id : ℕ) (s t : TrackState) (more : Option TrackState) (u v : Bool) → u ≡ v → t.trex ≡ s.trex → unwrap_or (option_map (λ (x : TrackState). x.trex) (cond u (Some t) more)) None ≡ unwrap_or (option_map (λ (x : TrackState). x.trex) (cond v (Some s) more)) None
+first_same id s t more true true e f = f
+first_same id s t more true false e f = absurd cc
+first_same id s t more false true e f = absurd cc
+first_same id s t more false false e f = refl
+
+later_same : (s : TrackState) (more less : Option TrackState) (v : Bool) → unwrap_or (option_map (λ (x : TrackState). x.trex) more) None ≡ unwrap_or (option_map (λ (x : TrackState). x.trex) less) None
+    → unwrap_or (option_map (λ (x : TrackState). x.trex) (cond v (Some s) more)) None ≡ unwrap_or (option_map (λ (x : TrackState). x.trex) (cond v (Some s) less)) None
+later_same s more less true e = refl
+later_same s more less false e = e
+
+pub trex_same : (tracks : List TrackState) (k : ℕ) (d t : TrackState) (id : ℕ) → k < length tracks → t.id ≡ (slice_index_or tracks k d).id → t.trex ≡ (slice_index_or tracks k d).trex → trex_among (slice_set tracks k t) id ≡ trex_among tracks id
+trex_same [] k d t id lt e f = refl
+trex_same (s ∷ tracks) zero d t id lt e f = first_same id s t (find (λ (u : TrackState). u.id == id) tracks) (t.id == id) (s.id == id) (ap (λ n. n == id) e) f
+trex_same (s ∷ tracks) (suc k) d t id lt e f = later_same s (find (λ (u : TrackState). u.id == id) (slice_set tracks k t)) (find (λ (u : TrackState). u.id == id) tracks) (s.id == id) (trex_same tracks k d t id (omega arith) e f)

@@ -155,7 +155,7 @@ traf_other w L s b boxes trex more short holds good known own near within =
 
 -- ---- all `traf`s
 
-grouped_length : (maps : List Groups) (xs : List PlacedSample) → length (with_groups maps xs) ≡ length xs
+pub grouped_length : (maps : List Groups) (xs : List PlacedSample) → length (with_groups maps xs) ≡ length xs
 grouped_length [] [] = refl
 grouped_length [] (x ∷ xs) = refl
 grouped_length (m ∷ maps) [] = refl

@@ -1,5 +1,5 @@
 //! A `moof`, checked behind what came before it (ISO/IEC 14496-12, 8.8).
-ghost use Rattle.std.specs.Prelude.{◌≡◌, ◌+◌, ◌*◌, ◌^◌, ◌<◌, ◌≤◌, ◌==◌, [], length, find, slice_get, None, option_map, codes, IfOk, IfErr, IfSome};
+ghost use Rattle.std.specs.Prelude.{ℕ, ◌≡◌, ◌+◌, ◌*◌, ◌^◌, ◌<◌, ◌≤◌, ◌==◌, [], length, find, slice_get, None, option_map, codes, IfOk, IfErr, IfSome};
 ghost use Rattle.mp4_boxes.specs.Box.{Tiles, box_container};
 ghost use Rattle.mp4_boxes.specs.BoxFaults.{IsChildFault, fault_of};
 ghost use Rattle.mp4_boxes.specs.declared.rule.Rule.TheVariants as rules;
@@ -7,16 +7,18 @@ ghost use Rattle.mp4_boxes.specs.View.{box_seen};
 ghost use Rattle.mp4_tables.specs.Groups.{groupings_of, keys_after};
 ghost use Rattle.mp4_tables.specs.Keys.{keys_seen};
 ghost use Rattle.mp4_frag.specs.GroupsJudged.{groups_in, AreGroupsSound, GroupsFail};
-ghost use Rattle.mp4_frag.specs.Passing.{IsNear, IsNearer, is_late_at, start_with, due_with};
+ghost use Rattle.mp4_frag.specs.Passing.{IsNear, IsNearer, IsUpTo, is_late_at, start_with, due_with};
 ghost use Rattle.mp4_boxes.specs.Children.{Holds, of_kind};
 ghost use Rattle.mp4_frag.specs.RunsJudged.{children_of, only_list, runs_in, AreRunsSound, all_end, runs_total, runs_lasting, RunsFail};
+ghost use Rattle.mp4_frag.specs.Judged.{IsTrafSound};
+ghost use Rattle.mp4_frag.specs.Walks.{trex_among};
 ghost use Rattle.mp4_frag.specs.States.{HaveRoom};
 ghost use Rattle.mp4_frag.specs.Views.{moof_seen};
 ghost use Rattle.mp4_frag.specs.declared.state.TrackState.{TrackState};
 
 use crate::groups::{KeysNamed, check_group};
 use crate::heads::{base_of, read_head, what_is_inherited};
-use crate::sample_runs::{Judged, Passed, check_run, near};
+use crate::sample_runs::{Judged, Passed, check_run};
 use crate::state::TrackState;
 use crate::times::read_time;
 use crate::view::FragView;
@@ -96,6 +98,7 @@ fn check_runs<L: Ledger>(
     ensures few { IfOk result (λ p. p.count + room.new ≡ room.old) }
     ensures duration { IfOk result (λ p. p.duration ≤ 2 ^ 32 * p.count) }
     ensures near { IfOk result (λ p. IsNear p.at) }
+    ensures bound { IfOk result (λ p. (n : ℕ) → 2 ^ 64 ≤ n → IsUpTo n judged.base → IsUpTo (n + 2 ^ 31) p.at) }
     ensures sound { IfOk result (λ p. AreRunsSound judged.file_len judged.inherited judged.base judged.base (runs_in (box_seen traf.entry))) }
     ensures end { IfOk result (λ p. p.at ≡ all_end judged.inherited judged.base judged.base (runs_in (box_seen traf.entry))) }
     ensures count { IfOk result (λ p. p.count ≡ runs_total (runs_in (box_seen traf.entry))) }
@@ -157,6 +160,7 @@ fn moved_on(state: TrackState, time: Option<u64>, passed: Passed, keys: Keys) ->
     requires few { state.count + passed.count ≤ 2 ^ 24 }
     requires time { state.time ≤ 2 ^ 64 + 2 ^ 32 * state.count }
     requires duration { passed.duration ≤ 2 ^ 32 * passed.count }
+    ensures same { (result.id ≡ state.id) × (result.trex ≡ state.trex) }
     ensures count { result.count ≡ state.count + passed.count }
     ensures time { result.time ≤ 2 ^ 64 + 2 ^ 32 * result.count }
     ensures none { passed.count ≡ 0 → result ≡ record state { keys = keys } }
@@ -192,8 +196,13 @@ fn check_traf<L: Ledger>(
 ) -> Result<i128, Fault>
     requires few { room.old ≤ 2 ^ 24 }
     requires room { HaveRoom room.old tracks.old }
+    requires near { IsUpTo (2 ^ 98) before }
     ensures few { IfOk result (λ at. room.new ≤ room.old) }
     ensures room { IfOk result (λ at. HaveRoom room.new tracks.new) }
+    ensures holds { IfOk result (λ at. Holds rules.TrackFragment (box_container (box_seen traf.entry)) (children_of (box_seen traf.entry))) }
+    ensures sound { IfOk result (λ at. IsTrafSound file_len moof before tracks.old (children_of (box_seen traf.entry)) at) }
+    ensures bound { IfOk result (λ at. (n : ℕ) → 2 ^ 64 ≤ n → IsUpTo n before → IsUpTo (n + 2 ^ 31) at) }
+    ensures same { IfOk result (λ at. (id : ℕ) → trex_among tracks.new id ≡ trex_among tracks.old id) }
 {
     let heads = check_boxes(traf)?;
     let Some(tfhd) = heads.head else {
@@ -219,7 +228,7 @@ fn check_traf<L: Ledger>(
     };
     let judged = Judged {
         file_len,
-        base: near(base_of(head, moof, before)),
+        base: base_of(head, moof, before),
         inherited: what_is_inherited(head, trex),
     };
     let passed = check_runs(traf, judged, room, steps)?;
