@@ -1,11 +1,9 @@
 -- The boxes of which a `traf` has one.
-use Rattle.std.proofs.Common.{◌≡◌, ℕ, suc, ◌+◌, ◌≤◌, ◌||◌, Bool, true, false, cond, List, [], ◌∷◌, length, Option, Some, None, refl, sym, ap, subst, ◌∙◌, arith}
-use Rattle.std.specs.Prelude.{codes, bytes_eq, option_map}
+use Rattle.std.proofs.Common.{◌≡◌, ℕ, ◌+◌, ◌≤◌, ◌||◌, Bool, true, false, cond, List, [], ◌∷◌, length, Option, Some, None, refl, sym, ap, ◌∙◌, arith}
+use Rattle.std.specs.Prelude.{codes, bytes_eq}
 use Rattle.mp4_boxes.specs.Box.{Box, box_container}
 use Rattle.mp4_boxes.specs.Children.{of_kind, count_among, Holds}
 use Rattle.mp4_boxes.specs.declared.rule.Rule.TheVariants as rules
-use Rattle.mp4_boxes.specs.View.{box_seen}
-use Rattle.mp4_boxes.specs.declared.view.BoxView.{BoxView}
 use Rattle.mp4_boxes.specs.declared.rule.Rule.{Rule}
 use Rattle.mp4_tables.specs.Leaves.{boxes_of}
 use Rattle.mp4_tables.proofs.LeafLists.{boxes_are}

@@ -1,3 +1,4 @@
+pub mod MoofPassed
 pub mod TrafPassed
 pub mod HeadsFound
 pub mod GroupsPassed

@@ -1,23 +1,22 @@
 -- A `traf` whose runs and `sbgp`s were checked.
-use Rattle.std.proofs.Common.{◌≡◌, ℕ, zero, suc, ◌+◌, ◌<◌, ◌≤◌, ◌==◌, Bool, true, false, cond, List, [], ◌∷◌, ◌++◌, length, take, map, drop, Option, Some, None, IsTrue, refl, sym, ap, subst, ◌∙◌, rules, arith, slice_set, slice_index_or, length-append}
-use Rattle.std.specs.Prelude.{ℤ, codes, bytes_eq, unwrap_or, option_map, find, flat_map, ⊤}
+use Rattle.std.proofs.Common.{◌≡◌, ℕ, zero, suc, ◌<◌, ◌==◌, Bool, true, false, cond, List, [], ◌∷◌, ◌++◌, length, take, map, drop, Option, Some, None, IsTrue, refl, sym, ap, subst, ◌∙◌, rules, arith, slice_set, slice_index_or, length-append}
+use Rattle.std.specs.Prelude.{ℤ, codes, bytes_eq, unwrap_or, option_map, find, flat_map}
 use Rattle.std.specs.List.{AllByRecursion, slice_get}
 use Rattle.std.proofs.lemmas.List.{append_assoc}
 use Rattle.mp4_boxes.specs.Bytes.{width_of}
 use Rattle.mp4_boxes.specs.Box.{Box}
 use Rattle.mp4_boxes.specs.Children.{of_kind, payload_if, payload_of}
-use Rattle.mp4_boxes.specs.Layout.{Leaf, tfhd, tfdt, trun, sbgp, row_count, present, sample_columns, flags, version, IsSound, IsReadable}
-use Rattle.mp4_boxes.specs.Places.{ruled, leaf_of, IsSoundAs, AreSound}
+use Rattle.mp4_boxes.specs.Layout.{Leaf, tfhd, tfdt, trun, sbgp, row_count, present, sample_columns, IsSound, IsReadable}
+use Rattle.mp4_boxes.specs.Places.{ruled, IsSoundAs, AreSound}
 use Rattle.mp4_boxes.specs.declared.rule.Rule.TheVariants as rules
 use Rattle.mp4_tables.specs.Groups.{GroupKey, Grouping, GroupRule, grouping_of, groupings_of, group_test, keeps}
 use Rattle.mp4_tables.specs.PlainSamples.{PlacedSample}
 use Rattle.mp4_frag.specs.Fragments.{RunRow, TrackFragment, run_rows, run_of}
 use Rattle.mp4_frag.specs.FragmentSamples.{run_samples, runs_samples, runs_end, end_of_data, duration_of}
 use Rattle.mp4_frag.specs.FragmentRules.{is_within}
-use Rattle.mp4_frag.specs.GroupsJudged.{IsGroupSound, AreGroupsSound}
-use Rattle.mp4_frag.specs.Passing.{lasting}
+use Rattle.mp4_frag.specs.GroupsJudged.{AreGroupsSound}
 use Rattle.mp4_frag.specs.Reading.{inheritance}
-use Rattle.mp4_frag.specs.RunsJudged.{run_begins, run_ends, IsRunSound, AreRunsSound, all_end, runs_total, runs_lasting}
+use Rattle.mp4_frag.specs.RunsJudged.{run_begins, run_ends, AreRunsSound, all_end, runs_total, runs_lasting}
 use Rattle.mp4_frag.specs.declared.trex.Trex.{Trex}
 use Rattle.mp4_tables.specs.Groups.{maps_of}
 use Rattle.mp4_frag.specs.Fragments.{track_fragment_of}
@@ -48,7 +47,7 @@ runs_placed L traf trex base before (b ∷ runs) h =
     let run = run_of b.payload in (
       within_is L trex traf run.first_sample_flags (run_begins base before b.payload) run.rows ∙ h.0.within,
       runs_placed L traf trex base (end_of_data (run_begins base before b.payload) (samples_at traf trex base before b)) runs
-      (subst (λ (place : ℤ). AreRunsSound L (inheritance traf trex) base place runs) (sym (ends_are traf trex base before b)) h.1),
+          (subst (λ (place : ℤ). AreRunsSound L (inheritance traf trex) base place runs) (sym (ends_are traf trex base before b)) h.1),
     )
 
 -- where their data ends
@@ -142,6 +141,7 @@ leaves_sound (b ∷ boxes) h t r g =
         rest_of : (P : Box → Type 0) (kept : List Box) (w : Bool) → AllByRecursion P (cond w (b ∷ kept) kept) → AllByRecursion P kept
         rest_of P kept true k = k.1
         rest_of P kept false k = k
+
         this : (u v x y : Bool) → AllByRecursion (λ (c : Box). IsSound tfhd c.payload) (cond u (b ∷ of_kind (codes "tfhd") boxes) (of_kind (codes "tfhd") boxes))
             → AllByRecursion (λ (c : Box). IsSound tfdt c.payload) (cond v (b ∷ of_kind (codes "tfdt") boxes) (of_kind (codes "tfdt") boxes))
             → AllByRecursion (λ (c : Box). IsSound trun c.payload) (cond x (b ∷ of_kind (codes "trun") boxes) (of_kind (codes "trun") boxes))

@@ -44,7 +44,7 @@ found_choice : (trexes : List Trex) (id : ℕ) (trex : Trex) (t : TrackState) (l
 found_choice trexes id trex t later true f own more g = let same : t.id ≡ id = grind (arith, nat_tests) in ap (trex_for trexes) (sym same) ∙ sym own ∙ g
 found_choice trexes id trex t later false f own more g = more g
 
-trex_found : (trexes : List Trex) (tracks : List TrackState) (id : ℕ) (trex : Trex) → AreTrexesOf trexes tracks → trex_among tracks id ≡ Some trex → trex_for trexes id ≡ Some trex
+pub trex_found : (trexes : List Trex) (tracks : List TrackState) (id : ℕ) (trex : Trex) → AreTrexesOf trexes tracks → trex_among tracks id ≡ Some trex → trex_for trexes id ≡ Some trex
 trex_found trexes [] id trex h e = absurd cc
 trex_found trexes (t ∷ tracks) id trex h e = found_choice trexes id trex t (find (λ (s : TrackState). s.id == id) tracks) (t.id == id) refl h.0 (trex_found trexes tracks id trex h.1) e
 

@@ -1,4 +1,4 @@
-use Rattle.std.proofs.Common.{◌≡◌, ◌+◌, ◌*◌, ◌^◌, ◌<◌, ◌≤◌, ◌∙◌, length, List, [], ◌∷◌, Option, None, Some, sym, ap, to_z, of_z, rules, arith}
+use Rattle.std.proofs.Common.{◌≡◌, ◌+◌, ◌^◌, ◌≤◌, ◌∙◌, [], ◌∷◌, Option, Some, sym, ap, to_z, of_z, rules, arith}
 use Rattle.std.specs.Prelude.{codes, option_map}
 use Rattle.std.specs.Int.{w128}
 use Rattle.std.specs.List.{AllByRecursion}
