@@ -1,5 +1,5 @@
 //! A `moof`, checked behind what came before it (ISO/IEC 14496-12, 8.8).
-ghost use Rattle.std.specs.Prelude.{ℕ, List, ◌≡◌, ◌+◌, ◌*◌, ◌^◌, ◌<◌, ◌≤◌, ◌==◌, [], length, find, slice_get, None, option_map, codes, IfOk, IfErr, IfSome};
+ghost use Rattle.std.specs.Prelude.{ℕ, List, nat_lt, not, ◌&&◌, ◌≡◌, ◌+◌, ◌*◌, ◌^◌, ◌<◌, ◌≤◌, ◌==◌, [], length, find, slice_get, None, option_map, codes, IfOk, IfErr, IfSome};
 ghost use Rattle.mp4_boxes.specs.Box.{Tiles, box_container};
 ghost use Rattle.mp4_boxes.specs.BoxFaults.{IsChildFault, fault_of};
 ghost use Rattle.mp4_boxes.specs.declared.rule.Rule.TheVariants as rules;
@@ -10,7 +10,8 @@ ghost use Rattle.mp4_frag.specs.GroupsJudged.{groups_in, AreGroupsSound, GroupsF
 ghost use Rattle.mp4_frag.specs.Passing.{IsNear, IsNearer, IsUpTo, is_late_at, start_with, due_with};
 ghost use Rattle.mp4_boxes.specs.Children.{Holds, of_kind};
 ghost use Rattle.mp4_frag.specs.RunsJudged.{children_of, only_list, runs_in, AreRunsSound, all_end, runs_total, runs_lasting, RunsFail};
-ghost use Rattle.mp4_frag.specs.Judged.{AreTrexesOf, IsSoundMoof, IsTrafSound, tree_of};
+ghost use Rattle.mp4_frag.specs.Judged.{AreTrexesOf, IsSoundMoof, IsTrafSound, IsMovedOn, tree_of};
+ghost use Rattle.mp4_tables.specs.TableRules.{is_index};
 ghost use Rattle.mp4_frag.specs.declared.trex.Trex.{Trex};
 ghost use Rattle.mp4_frag.specs.Walks.{trex_among};
 ghost use Rattle.mp4_frag.specs.States.{HaveRoom};
@@ -146,6 +147,13 @@ fn check_groups<L: Ledger>(
     Ok(keys)
 }
 
+// Whether samples have a description that their track has not.
+fn lacks_description(state: TrackState, index: u32, passed: Passed) -> bool
+    ensures { result ≡ (nat_lt 0 passed.count && not (is_index state.descriptions index)) }
+{
+    passed.count > 0 && (index < 1 || index > state.descriptions)
+}
+
 // Whether samples begin at another time than is due. The first ones of a track say when it starts.
 fn is_late(state: TrackState, time: Option<u64>, passed: Passed) -> bool
     ensures { result ≡ is_late_at state time passed.count }
@@ -204,6 +212,7 @@ fn check_traf<L: Ledger>(
     ensures sound { IfOk result (λ at. IsTrafSound file_len moof before tracks.old (children_of (box_seen traf.entry)) at) }
     ensures bound { IfOk result (λ at. (n : ℕ) → 2 ^ 64 ≤ n → IsUpTo n before → IsUpTo (n + 2 ^ 31) at) }
     ensures same { IfOk result (λ at. (id : ℕ) → trex_among tracks.new id ≡ trex_among tracks.old id) }
+    ensures moved { IfOk result (λ at. IsMovedOn moof before (children_of (box_seen traf.entry)) tracks.old tracks.new room.old room.new) }
 {
     let heads = check_boxes(traf)?;
     let Some(tfhd) = heads.head else {
@@ -233,8 +242,7 @@ fn check_traf<L: Ledger>(
         inherited: what_is_inherited(head, trex),
     };
     let passed = check_runs(traf, judged, room, steps)?;
-    let index = judged.inherited.description;
-    if passed.count > 0 && (index < 1 || index > state.descriptions) {
+    if lacks_description(state, judged.inherited.description, passed) {
         return Err(fault(Kind::BadDescriptionIndex, tfhd));
     }
     let keys = check_groups(traf, passed.count, state.keys, steps)?;

@@ -1,4 +1,4 @@
-use Rattle.std.proofs.Common.{◌≡◌, ◌+◌, ◌^◌, ◌≤◌, ◌∙◌, [], ◌∷◌, Option, Some, sym, ap, to_z, of_z, rules, arith}
+use Rattle.std.proofs.Common.{◌≡◌, ℕ, false, ◌+◌, ◌^◌, ◌≤◌, ◌∙◌, [], ◌∷◌, Option, Some, sym, ap, to_z, of_z, rules, arith}
 use Rattle.std.specs.Prelude.{codes, option_map}
 use Rattle.std.specs.Int.{w128}
 use Rattle.std.specs.List.{AllByRecursion}
@@ -9,6 +9,9 @@ use Rattle.mp4_boxes.specs.View.{box_seen}
 use Rattle.mp4_boxes.specs.declared.view.BoxView.{BoxView}
 use Rattle.mp4_tables.specs.Keys.{keys_seen}
 use Rattle.mp4_frag.specs.Passing.{IsUpTo}
+use Rattle.mp4_frag.specs.Fragments.{track_fragment_of}
+use Rattle.mp4_frag.specs.Passing.{is_late_at}
+use Rattle.mp4_frag.proofs.TracksMoved.{traf_moved, its_time, no_time}
 use Rattle.mp4_frag.specs.RunsJudged.{children_of, only_list}
 use Rattle.mp4_frag.specs.States.{HasRoom}
 use Rattle.mp4_frag.specs.Walks.{trex_among}
@@ -16,7 +19,7 @@ use Rattle.mp4_frag.proofs.Bounds.{up_to_near}
 use Rattle.mp4_frag.proofs.StateLists.{has_room, less_room, room_with}
 use Rattle.mp4_frag.proofs.TrafPassed.{traf_sound, found_trex, trex_same, only_sound, none_sound, time_sound}
 use Rattle.mp4_frag.proofs.check.check_traf.Goals as goal
-use Rattle.mp4_frag.proofs.check.check_traf.Goals.{in-Some-time+in-Ok-read_time, in-None}
+use Rattle.mp4_frag.proofs.check.check_traf.Goals.{in-Some-time+in-Ok-read_time, in-None, in-Some-time-2+else-is_late, in_default-time}
 
 pub check_runs-requires-clause-base : goal.check_runs-requires-clause-base
 check_runs-requires-clause-base g c =
@@ -78,3 +81,28 @@ returns-clause-sound g c =
     ] in
     rw kept (traf_sound c.args.file_len c.args.moof c.in_ok-passed.passed.count c.args.before c.base_of.result c.in_ok-passed.passed.at c.args.tracks.now boxes (box_seen c.in-Some.tfhd) c.in-Ok.head c.in-Some-trex.trex c.what_is_inherited.result (keys_seen c.index-tracks-k.result.keys)
     head (rw c.payload.ensures at c.in-Ok.ensures.head) known times (rw before at c.base_of.ensures.is) c.what_is_inherited.ensures (rw same at c.in_ok-passed.ensures.sound) (rw same at c.in_ok-passed.ensures.end) c.in_ok-passed.ensures.count c.in_ok-keys.ensures.sound)
+
+pub returns-clause-moved : goal.returns-clause-moved
+returns-clause-moved g c =
+    let boxes = children_of (box_seen c.args.traf) in
+    let head : of_kind (codes "tfhd") boxes ≡ box_seen c.in-Some.tfhd ∷ [] = sym c.in_ok-heads.ensures.head ∙ ap (λ (o : Option BoxView). only_list (option_map box_seen o)) c.in-Some.is in
+    let m = c.moved_on.ensures in
+    let late : is_late_at c.index-tracks-k.result c.match-heads-2.time c.in_ok-passed.passed.count ≡ false =
+    elim c.match-heads-3.branch [
+      | in-Some-time-2+else-is_late w ↦ sym w.if-is_late.ensures
+      | in_default-time w ↦
+          elim c.match-heads-2.branch [
+            | in-Some-time+in-Ok-read_time v ↦ absurd (w.in_default-time.not-Some _ v.in-Some-time.is)
+            | in-None v ↦ ap (λ (o : Option ℕ). is_late_at c.index-tracks-k.result o c.in_ok-passed.passed.count) v.time-is
+          ]
+    ] in
+    let time : (track_fragment_of boxes).decode_time ≡ c.match-heads-2.time =
+    elim c.match-heads-2.branch [
+      | in-Some-time+in-Ok-read_time w ↦
+          let there = sym c.in_ok-heads.ensures.time ∙ ap (λ (o : Option BoxView). only_list (option_map box_seen o)) w.in-Some-time.is in
+          its_time _ boxes _ there (rw w.payload-in-Some-time.ensures at w.in-Ok-read_time.ensures.time) ∙ sym w.time-is
+      | in-None w ↦ no_time boxes (sym c.in_ok-heads.ensures.time ∙ ap (λ (o : Option BoxView). only_list (option_map box_seen o)) w.in-None.is) ∙ sym w.time-is
+    ] in
+    traf_moved c.args.moof c.in_ok-passed.passed.count c.in_ok-passed.passed.duration c.in-Some-find_track.k c.args.room.now c.check_runs.new.room c.args.before c.args.tracks.now _ c.index-tracks-k.result c.moved_on.result boxes (box_seen c.in-Some.tfhd) c.in-Ok.head c.in-Some-trex.trex c.what_is_inherited.result c.in_ok-keys.keys c.match-heads-2.time
+    head (rw c.payload.ensures at c.in-Ok.ensures.head) c.in-Some-find_track.ensures.inside c.in-Some-find_track.ensures.found c.index-tracks-k.is c.in-Some-trex.is c.what_is_inherited.ensures c.in_ok-passed.ensures.count c.in_ok-passed.ensures.lasting
+    c.in_ok-keys.ensures.sound c.in_ok-keys.ensures.keys (sym c.if-lacks_description.ensures) late time m.none m.some c.in_ok-passed.ensures.few
