@@ -1,5 +1,5 @@
 -- What a `moof` has to keep behind what came before it, by what is known of the tracks.
-use Rattle.std.specs.Prelude.{◌≡◌, ℕ, ◌+◌, ◌^◌, ◌<◌, ◌==◌, cond, if◌then◌else◌, ℤ, List, length, map, find, slice_get, slice_set, codes, Bool, Option, Some, is_some, unwrap_or, IsTrue}
+use Rattle.std.specs.Prelude.{◌≡◌, ℕ, ◌+◌, ◌^◌, ◌<◌, ◌==◌, cond, if◌then◌else◌, ℤ, List, [], ◌∷◌, length, map, find, slice_get, slice_set, codes, Bool, Option, Some, is_some, unwrap_or, IsTrue}
 use Rattle.std.specs.List.{AllByRecursion, list_all}
 use Rattle.mp4_boxes.specs.Box.{Box}
 use Rattle.mp4_boxes.specs.Children.{of_kind}
@@ -113,3 +113,10 @@ pub record IsMovedOn (moof : ℕ) (before : ℤ) (boxes : List Box) (old new : L
   pub due : IsDue (track_seen track) (part_with moof before trex (track_fragment_of boxes))
   pub moved : map track_seen new ≡ slice_set (map track_seen old) place (track_behind (track_seen track) (part_with moof before trex (track_fragment_of boxes)))
   pub taken : less + length (part_samples (part_with moof before trex (track_fragment_of boxes))) ≡ room
+
+-- the same behind all `traf`s of a `moof`, one after the other
+abbrev pub AreMovedOn : ℕ → ℤ → List Box → List TrackState → List TrackState → ℕ → ℕ → Type 0
+AreMovedOn moof before [] old new room less = (new ≡ old) × (less ≡ room)
+AreMovedOn moof before (b ∷ trafs) old new room less =
+    (between : List TrackState) × (rest : ℕ)
+    × ((m : IsMovedOn moof before (children_of b) old between room rest) × AreMovedOn moof (end_with moof before m.trex (track_fragment_of (children_of b))) trafs between new rest less)

@@ -1,7 +1,7 @@
 use Rattle.std.proofs.Common.{◌≤◌}
 use Rattle.mp4_boxes.specs.View.{box_seen}
 use Rattle.mp4_frag.specs.States.{HaveRoom}
-use Rattle.mp4_frag.proofs.MoofPassed.{MoofSeen}
+use Rattle.mp4_frag.proofs.MoofPassed.{MoofSeen, MovesSeen}
 use Rattle.mp4_frag.proofs.check.check_moof.Given as goal
 
 -- there is room for what is left of the room, and the `traf`s so far are sound
@@ -12,3 +12,4 @@ invariant-loop-child g l =
     × (l.room ≤ l.fn.room)
     × HaveRoom l.room l.tracks
     × MoofSeen l.file_len (box_seen l.moof).offset l.fn.tracks l.initial.child-iterator l.child-iterator l.before l.tracks
+    × MovesSeen (box_seen l.moof).offset l.fn.tracks l.fn.room l.initial.child-iterator l.child-iterator l.before l.tracks l.room
