@@ -1,22 +1,23 @@
 -- How far from the file the data of a `traf` can begin.
 use Rattle.std.proofs.Common.{◌≡◌, ℕ, suc, ◌+◌, ◌-◌, ◌^◌, ◌<◌, ◌≤◌, Bool, true, false, cond, nat_le, List, [], ◌∷◌, Option, Some, None, IsTrue, refl, sym, subst, ◌∙◌, rules, arith}
-use Rattle.std.specs.Prelude.{ℤ, pos, negsuc, ◌+ℤ◌, unwrap_or, IfSome, FitsSigned}
+use Rattle.std.specs.Prelude.{ℤ, pos, negsuc, ◌+ℤ◌, unwrap_or, IfSome, FitsSigned, option_map, drop}
 use Rattle.std.specs.Int.{w32}
 use Rattle.std.proofs.Math.IntN.{sub_ℕ}
 use Rattle.std.specs.List.{AllByRecursion}
 use Rattle.mp4_tables.specs.TableRules.{lies_within}
-use Rattle.mp4_frag.specs.Fragments.{RunRow, Run, TrackFragment}
+use Rattle.byteorder.specs.Endian.{twos_complement}
+use Rattle.mp4_boxes.specs.Bytes.{AreBytes}
+use Rattle.mp4_boxes.specs.Layout.{flags, column_values, trun_columns}
+use Rattle.mp4_boxes.proofs.OfBytes.{signed_32, bytes_dropped}
+use Rattle.mp4_frag.specs.Fragments.{RunRow, Run, TrackFragment, column, run_of}
+use Rattle.mp4_frag.specs.declared.heads.Inherited.{Inherited}
+use Rattle.mp4_frag.proofs.Ranges.{value_below}
 use Rattle.mp4_frag.specs.FragmentSamples.{run_samples, run_start, runs_samples, runs_end, end_of_data, base_of}
 use Rattle.mp4_frag.specs.FragmentRules.{is_within}
-use Rattle.mp4_frag.specs.Passing.{IsNearer, within_from, end_from}
+use Rattle.mp4_frag.specs.Passing.{IsNearer, IsUpTo, within_from, end_from, IsRunPassed}
 use Rattle.mp4_frag.specs.declared.trex.Trex.{Trex}
 use Rattle.mp4_frag.proofs.SamplesOfRows.{within_is, end_is}
 use Rattle.mp4_frag.proofs.RowsTied.{both}
-
--- numbers that are no more than so far from 0
-abbrev pub IsUpTo : ℕ → ℤ → Type 0
-IsUpTo n (pos k) = k ≤ n
-IsUpTo n (negsuc k) = suc k ≤ n
 
 pub up_to_more : (n m : ℕ) (z : ℤ) → n ≤ m → IsUpTo n z → IsUpTo m z
 up_to_more n m (pos k) h b = omega arith
@@ -80,3 +81,20 @@ base_up_to n moof before traf h f b = choice traf.base_data_offset traf.base_is_
     choice (Some at) v g = g
     choice None true g = h
     choice None false g = b
+
+-- ---- one run
+
+offset_fits : (o : Option ℕ) → IfSome o (λ n. n < 2 ^ 32) → IfSome (option_map (twos_complement 4) o) (FitsSigned w32)
+offset_fits None h = tt
+offset_fits (Some n) h = signed_32 n h
+
+-- the offset of a `trun` of bytes is one of 32 bits
+pub offset_of_bytes : (payload : List ℕ) → AreBytes payload → IfSome (run_of payload).data_offset (FitsSigned w32)
+offset_of_bytes payload bytes = offset_fits (column (column_values (flags payload) trun_columns (drop 8 payload)) 0) (value_below trun_columns (flags payload) (drop 8 payload) 0 (bytes_dropped 8 payload bytes))
+
+-- where the data of a run that passes ends
+pub run_up_to : (n L : ℕ) (inherited : Inherited) (base before : ℤ) (payload : List ℕ) (ends : ℤ) (samples lasts : ℕ) → AreBytes payload → L < 2 ^ 64 → IsRunPassed L inherited base before payload ends samples lasts → 2 ^ 64 ≤ n → IsUpTo n base → IsUpTo (n + 2 ^ 31) before → IsUpTo (n + 2 ^ 31) ends
+run_up_to n L inherited base before payload ends samples lasts bytes short p big b c =
+    let run = run_of payload in
+    let start = start_up_to n base before run.data_offset (offset_of_bytes payload bytes) b c in
+    subst (IsUpTo (n + 2 ^ 31)) (sym p.end) (rows_up_to (n + 2 ^ 31) L inherited.size (run_start base before run.data_offset) run.rows (omega arith) p.within start)

@@ -1,3 +1,9 @@
+pub mod TracksMoved
+pub mod MoofPassed
+pub mod TrafPassed
+pub mod HeadsFound
+pub mod GroupsPassed
+pub mod NamesKept
 pub mod RunsPassed
 pub mod BoxesMoved
 pub mod MoofTied

@@ -25,7 +25,7 @@ use Rattle.mp4_frag.proofs.Ranges.{trafs_of_bytes}
 use Rattle.mp4_frag.proofs.TrafsTied.{IsGoodTraf, good_traf, trafs_tied}
 
 -- there are no more boxes than bytes
-boxes_few : (is_open : Bool) (at : ℕ) (bytes : List ℕ) (boxes : List Box) → LieEndToEnd is_open at bytes boxes → length boxes ≤ sizes boxes
+pub boxes_few : (is_open : Bool) (at : ℕ) (bytes : List ℕ) (boxes : List Box) → LieEndToEnd is_open at bytes boxes → length boxes ≤ sizes boxes
 boxes_few is_open at bytes [] l = omega arith
 boxes_few is_open at bytes (b ∷ boxes) l =
     omega (arith, sizes-cons b boxes, boxes_few is_open (at + size b) (drop (size b) bytes) boxes l.1, (first_fits is_open at bytes b boxes l).0)

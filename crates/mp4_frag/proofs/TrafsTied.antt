@@ -26,10 +26,10 @@ use Rattle.mp4_frag.specs.FragmentSamples.{Part, trex_for, no_trex, base_of, run
 use Rattle.mp4_frag.specs.FragmentRules.{is_within}
 use Rattle.mp4_frag.specs.Judged.{AreTrexesOf, is_known_among, IsPlacedWithin, IsGrouped}
 use Rattle.mp4_frag.specs.Walks.{Walk, Reached, boxes_in, before_traf, no_indexes, runs_coming, traf_coming, trafs_coming, trex_among, with_leaves}
-use Rattle.mp4_frag.specs.Passing.{IsNearer}
+use Rattle.mp4_frag.specs.Passing.{IsNearer, IsUpTo}
 use Rattle.mp4_frag.specs.declared.state.TrackState.{TrackState}
 use Rattle.mp4_frag.specs.declared.trex.Trex.{Trex}
-use Rattle.mp4_frag.proofs.Bounds.{IsUpTo, up_to_more, up_to_near, runs_up_to, base_up_to}
+use Rattle.mp4_frag.proofs.Bounds.{up_to_more, up_to_near, runs_up_to, base_up_to}
 use Rattle.mp4_frag.proofs.GroupsTied.{KeepRules, groups_shown, rules_differ, rules_few, rules_small}
 use Rattle.mp4_frag.proofs.LeavesTied.{groups_taken, groups_are, leaves_tied}
 use Rattle.mp4_frag.proofs.Ranges.{value_below}
@@ -44,7 +44,7 @@ found_choice : (trexes : List Trex) (id : ℕ) (trex : Trex) (t : TrackState) (l
 found_choice trexes id trex t later true f own more g = let same : t.id ≡ id = grind (arith, nat_tests) in ap (trex_for trexes) (sym same) ∙ sym own ∙ g
 found_choice trexes id trex t later false f own more g = more g
 
-trex_found : (trexes : List Trex) (tracks : List TrackState) (id : ℕ) (trex : Trex) → AreTrexesOf trexes tracks → trex_among tracks id ≡ Some trex → trex_for trexes id ≡ Some trex
+pub trex_found : (trexes : List Trex) (tracks : List TrackState) (id : ℕ) (trex : Trex) → AreTrexesOf trexes tracks → trex_among tracks id ≡ Some trex → trex_for trexes id ≡ Some trex
 trex_found trexes [] id trex h e = absurd cc
 trex_found trexes (t ∷ tracks) id trex h e = found_choice trexes id trex t (find (λ (s : TrackState). s.id == id) tracks) (t.id == id) refl h.0 (trex_found trexes tracks id trex h.1) e
 
@@ -155,7 +155,7 @@ traf_other w L s b boxes trex more short holds good known own near within =
 
 -- ---- all `traf`s
 
-grouped_length : (maps : List Groups) (xs : List PlacedSample) → length (with_groups maps xs) ≡ length xs
+pub grouped_length : (maps : List Groups) (xs : List PlacedSample) → length (with_groups maps xs) ≡ length xs
 grouped_length [] [] = refl
 grouped_length [] (x ∷ xs) = refl
 grouped_length (m ∷ maps) [] = refl

@@ -8,5 +8,6 @@ pub mod Views
 pub mod Walks
 pub mod Judged
 pub mod RunsJudged
+pub mod GroupsJudged
 pub mod FragmentSamples
 pub mod FragmentRules

@@ -1,5 +1,5 @@
 -- Rows of a `trun`, passed one by one, and tracks moved on by samples.
-use Rattle.std.specs.Prelude.{◌≡◌, ℕ, ◌+◌, ◌-◌, ◌<◌, ◌*◌, ◌^◌, nat_lt, ◌==◌, ◌&&◌, not, Bool, true, false, if◌then◌else◌, List, [], ◌∷◌, drop, Option, Some, None, unwrap_or, option_map, ℤ, pos, ◌+ℤ◌, ◌≤ℤ◌}
+use Rattle.std.specs.Prelude.{◌≡◌, ℕ, suc, ◌+◌, ◌-◌, ◌<◌, ◌≤◌, ◌*◌, ◌^◌, nat_lt, ◌==◌, ◌&&◌, not, Bool, true, false, if◌then◌else◌, List, [], ◌∷◌, drop, Option, Some, None, unwrap_or, option_map, ℤ, pos, negsuc, ◌+ℤ◌, ◌≤ℤ◌}
 use Rattle.mp4_tables.specs.TableRules.{lies_within}
 use Rattle.mp4_frag.specs.ColumnsRead.{row_room}
 use Rattle.mp4_frag.specs.Fragments.{RunRow, run_rows, run_of}
@@ -21,6 +21,11 @@ IsNear at = (at ≤ℤ pos (2 ^ 100)) × (pos 0 ≤ℤ (at +ℤ pos (2 ^ 100)))
 -- and so far that an offset of 32 bits does not lead past them
 abbrev pub IsNearer : ℤ → Type 0
 IsNearer at = (at ≤ℤ pos (2 ^ 99)) × (pos 0 ≤ℤ (at +ℤ pos (2 ^ 99)))
+
+-- numbers that are no more than so far from 0
+abbrev pub IsUpTo : ℕ → ℤ → Type 0
+IsUpTo n (pos k) = k ≤ n
+IsUpTo n (negsuc k) = suc k ≤ n
 
 -- the version of a `trun` by whether its offsets are signed
 abbrev pub run_version : Run → ℕ

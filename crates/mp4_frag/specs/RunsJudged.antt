@@ -1,5 +1,5 @@
 -- The runs of a `traf` judged one after the other, in file order.
-use Rattle.std.specs.Prelude.{◌≡◌, ℕ, ◌+◌, ◌-◌, ◌≤◌, ◌⊎◌, true, List, [], ◌∷◌, ℤ, codes, ⊤}
+use Rattle.std.specs.Prelude.{◌≡◌, ℕ, ◌+◌, ◌-◌, ◌≤◌, ◌⊎◌, true, List, [], ◌∷◌, Option, Some, None, ℤ, codes, ⊤}
 use Rattle.mp4_boxes.specs.Bytes.{sum_of}
 use Rattle.mp4_boxes.specs.Box.{Box}
 use Rattle.mp4_boxes.specs.BoxFaults.{fault_of}
@@ -16,6 +16,11 @@ use Rattle.mp4_frag.specs.declared.heads.Inherited.{Inherited}
 -- the boxes in a box
 abbrev pub children_of : Box → List Box
 children_of b = boxes_in (b.offset + b.header) b.payload
+
+-- the one box that there is, or none
+abbrev pub only_list : Option Box → List Box
+only_list None = []
+only_list (Some b) = b ∷ []
 
 -- the runs in a `traf`
 abbrev pub runs_in : Box → List Box

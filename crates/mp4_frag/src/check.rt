@@ -1,18 +1,26 @@
 //! A `moof`, checked behind what came before it (ISO/IEC 14496-12, 8.8).
-ghost use Rattle.std.specs.Prelude.{◌≡◌, ◌+◌, ◌*◌, ◌^◌, ◌<◌, ◌≤◌, ◌==◌, length, find, slice_get, None, IfOk, IfErr, IfSome};
+ghost use Rattle.std.specs.Prelude.{ℕ, pos, List, nat_lt, not, ◌&&◌, ◌≡◌, ◌+◌, ◌*◌, ◌^◌, ◌<◌, ◌≤◌, ◌==◌, [], length, find, slice_get, None, option_map, codes, IfOk, IfErr, IfSome};
 ghost use Rattle.mp4_boxes.specs.Box.{Tiles, box_container};
 ghost use Rattle.mp4_boxes.specs.BoxFaults.{IsChildFault, fault_of};
 ghost use Rattle.mp4_boxes.specs.declared.rule.Rule.TheVariants as rules;
 ghost use Rattle.mp4_boxes.specs.View.{box_seen};
-ghost use Rattle.mp4_frag.specs.Passing.{IsNear, IsNearer, is_late_at, start_with, due_with};
-ghost use Rattle.mp4_frag.specs.RunsJudged.{children_of, runs_in, AreRunsSound, all_end, runs_total, runs_lasting, RunsFail};
+ghost use Rattle.mp4_tables.specs.Groups.{groupings_of, keys_after};
+ghost use Rattle.mp4_tables.specs.Keys.{keys_seen};
+ghost use Rattle.mp4_frag.specs.GroupsJudged.{groups_in, AreGroupsSound, GroupsFail};
+ghost use Rattle.mp4_frag.specs.Passing.{IsNear, IsNearer, IsUpTo, is_late_at, start_with, due_with};
+ghost use Rattle.mp4_boxes.specs.Children.{Holds, of_kind};
+ghost use Rattle.mp4_frag.specs.RunsJudged.{children_of, only_list, runs_in, AreRunsSound, all_end, runs_total, runs_lasting, RunsFail};
+ghost use Rattle.mp4_frag.specs.Judged.{AreTrexesOf, IsSoundMoof, IsTrafSound, IsMovedOn, AreMovedOn, tree_of};
+ghost use Rattle.mp4_tables.specs.TableRules.{is_index};
+ghost use Rattle.mp4_frag.specs.declared.trex.Trex.{Trex};
+ghost use Rattle.mp4_frag.specs.Walks.{trex_among};
 ghost use Rattle.mp4_frag.specs.States.{HaveRoom};
 ghost use Rattle.mp4_frag.specs.Views.{moof_seen};
 ghost use Rattle.mp4_frag.specs.declared.state.TrackState.{TrackState};
 
 use crate::groups::{KeysNamed, check_group};
 use crate::heads::{base_of, read_head, what_is_inherited};
-use crate::sample_runs::{Judged, Passed, check_run, near};
+use crate::sample_runs::{Judged, Passed, check_run};
 use crate::state::TrackState;
 use crate::times::read_time;
 use crate::view::FragView;
@@ -61,7 +69,10 @@ struct Heads<'a> {
 
 // Checks which boxes stand in a `traf`.
 fn check_boxes<'a>(traf: BoxView<'a>) -> Result<Heads<'a>, Fault>
-    ensures { IfErr result (IsChildFault rules.TrackFragment (box_container (box_seen traf.entry))) }
+    ensures holds { IfOk result (λ h. Holds rules.TrackFragment (box_container (box_seen traf.entry)) (children_of (box_seen traf.entry))) }
+    ensures head { IfOk result (λ h. only_list (option_map box_seen h.head) ≡ of_kind (codes "tfhd") (children_of (box_seen traf.entry))) }
+    ensures time { IfOk result (λ h. only_list (option_map box_seen h.time) ≡ of_kind (codes "tfdt") (children_of (box_seen traf.entry))) }
+    ensures fault { IfErr result (IsChildFault rules.TrackFragment (box_container (box_seen traf.entry))) }
 {
     let mut heads = Heads {
         head: None,
@@ -89,6 +100,7 @@ fn check_runs<L: Ledger>(
     ensures few { IfOk result (λ p. p.count + room.new ≡ room.old) }
     ensures duration { IfOk result (λ p. p.duration ≤ 2 ^ 32 * p.count) }
     ensures near { IfOk result (λ p. IsNear p.at) }
+    ensures bound { IfOk result (λ p. (n : ℕ) → 2 ^ 64 ≤ n → IsUpTo n judged.base → IsUpTo (n + 2 ^ 31) p.at) }
     ensures sound { IfOk result (λ p. AreRunsSound judged.file_len judged.inherited judged.base judged.base (runs_in (box_seen traf.entry))) }
     ensures end { IfOk result (λ p. p.at ≡ all_end judged.inherited judged.base judged.base (runs_in (box_seen traf.entry))) }
     ensures count { IfOk result (λ p. p.count ≡ runs_total (runs_in (box_seen traf.entry))) }
@@ -118,7 +130,11 @@ fn check_groups<L: Ledger>(
     n: u32,
     keys: Keys,
     steps: &mut Steps<L>,
-) -> Result<Keys, Fault> {
+) -> Result<Keys, Fault>
+    ensures sound { IfOk result (λ k. AreGroupsSound n (keys_seen keys) [] (groups_in (box_seen traf.entry))) }
+    ensures keys { IfOk result (λ k. keys_seen k ≡ keys_after (keys_seen keys) (groupings_of (groups_in (box_seen traf.entry)))) }
+    ensures fault { IfErr result (λ f. Tiles (box_container (box_seen traf.entry)) (children_of (box_seen traf.entry)) → GroupsFail n (keys_seen keys) [] (groups_in (box_seen traf.entry)) f) }
+{
     let mut keys = keys;
     let mut named = KeysNamed::none();
     for child in children(traf.payload(), traf.payload_offset(), traf.kind())? {
@@ -129,6 +145,13 @@ fn check_groups<L: Ledger>(
         }
     }
     Ok(keys)
+}
+
+// Whether samples have a description that their track has not.
+fn lacks_description(state: TrackState, index: u32, passed: Passed) -> bool
+    ensures { result ≡ (nat_lt 0 passed.count && not (is_index state.descriptions index)) }
+{
+    passed.count > 0 && (index < 1 || index > state.descriptions)
 }
 
 // Whether samples begin at another time than is due. The first ones of a track say when it starts.
@@ -146,6 +169,7 @@ fn moved_on(state: TrackState, time: Option<u64>, passed: Passed, keys: Keys) ->
     requires few { state.count + passed.count ≤ 2 ^ 24 }
     requires time { state.time ≤ 2 ^ 64 + 2 ^ 32 * state.count }
     requires duration { passed.duration ≤ 2 ^ 32 * passed.count }
+    ensures same { (result.id ≡ state.id) × (result.trex ≡ state.trex) }
     ensures count { result.count ≡ state.count + passed.count }
     ensures time { result.time ≤ 2 ^ 64 + 2 ^ 32 * result.count }
     ensures none { passed.count ≡ 0 → result ≡ record state { keys = keys } }
@@ -181,8 +205,14 @@ fn check_traf<L: Ledger>(
 ) -> Result<i128, Fault>
     requires few { room.old ≤ 2 ^ 24 }
     requires room { HaveRoom room.old tracks.old }
+    requires near { IsUpTo (2 ^ 98) before }
     ensures few { IfOk result (λ at. room.new ≤ room.old) }
     ensures room { IfOk result (λ at. HaveRoom room.new tracks.new) }
+    ensures holds { IfOk result (λ at. Holds rules.TrackFragment (box_container (box_seen traf.entry)) (children_of (box_seen traf.entry))) }
+    ensures sound { IfOk result (λ at. IsTrafSound file_len moof before tracks.old (children_of (box_seen traf.entry)) at) }
+    ensures bound { IfOk result (λ at. (n : ℕ) → 2 ^ 64 ≤ n → IsUpTo n before → IsUpTo (n + 2 ^ 31) at) }
+    ensures same { IfOk result (λ at. (id : ℕ) → trex_among tracks.new id ≡ trex_among tracks.old id) }
+    ensures moved { IfOk result (λ at. IsMovedOn moof before (children_of (box_seen traf.entry)) tracks.old tracks.new room.old room.new) }
 {
     let heads = check_boxes(traf)?;
     let Some(tfhd) = heads.head else {
@@ -208,12 +238,11 @@ fn check_traf<L: Ledger>(
     };
     let judged = Judged {
         file_len,
-        base: near(base_of(head, moof, before)),
+        base: base_of(head, moof, before),
         inherited: what_is_inherited(head, trex),
     };
     let passed = check_runs(traf, judged, room, steps)?;
-    let index = judged.inherited.description;
-    if passed.count > 0 && (index < 1 || index > state.descriptions) {
+    if lacks_description(state, judged.inherited.description, passed) {
         return Err(fault(Kind::BadDescriptionIndex, tfhd));
     }
     let keys = check_groups(traf, passed.count, state.keys, steps)?;
@@ -238,6 +267,9 @@ pub fn check_moof<'a, L: Ledger>(
     requires few { room.old ≤ 2 ^ 24 }
     requires room { HaveRoom room.old tracks.old }
     ensures view { IfOk result (λ view. moof_seen view ≡ box_seen moof.entry) }
+    ensures sound { IfOk result (λ view. (trexes : List Trex) → AreTrexesOf trexes tracks.old → IsSoundMoof file_len trexes tracks.old (tree_of (box_seen moof.entry))) }
+    ensures same { IfOk result (λ view. (id : ℕ) → trex_among tracks.new id ≡ trex_among tracks.old id) }
+    ensures moved { IfOk result (λ view. AreMovedOn (box_seen moof.entry).offset (pos (box_seen moof.entry).offset) (of_kind (codes "traf") (children_of (box_seen moof.entry))) tracks.old tracks.new room.old room.new) }
     ensures few { IfOk result (λ view. room.new ≤ room.old) }
     ensures room { IfOk result (λ view. HaveRoom room.new tracks.new) }
 {

@@ -1,5 +1,5 @@
 //! `sbgp` in a `traf`: which group description its samples have (ISO/IEC 14496-12, 8.9.2).
-ghost use Rattle.std.specs.Prelude.{◌≡◌, ◌+◌, ◌*◌, ◌<◌, ◌≤◌, ◌∷◌, drop, nat_le, length, IfOk, IfErr};
+ghost use Rattle.std.specs.Prelude.{◌≡◌, ◌+◌, ◌*◌, ◌<◌, ◌≤◌, ◌∷◌, drop, nat_le, length, List, OnOk, IfOk, IfErr, ◌++◌, []};
 ghost use Rattle.mp4_boxes.specs.BoxFaults.{Fails};
 ghost use Rattle.mp4_boxes.specs.Layout.{sbgp};
 ghost use Rattle.mp4_boxes.specs.Layout.{version as version_of};
@@ -9,6 +9,10 @@ ghost use Rattle.mp4_tables.specs.Groups.{max_index};
 ghost use Rattle.mp4_tables.specs.Repeated.{total as total_of};
 ghost use Rattle.mp4_frag.specs.Reading.{IsGroup, group_runs};
 ghost use Rattle.std.specs.List.{list_all};
+ghost use Rattle.mp4_tables.specs.Groups.{GroupKey as GroupKeyOf};
+ghost use Rattle.mp4_tables.specs.Groups.{Grouping, grouping_of};
+ghost use Rattle.mp4_tables.specs.Keys.{keys_seen};
+ghost use Rattle.mp4_frag.specs.GroupsJudged.{AreNamed, NamesOneMore, IsNameFault, IsGroupSound, IsGroupFault};
 
 use crate::fronts::front;
 use mp4_boxes::{FourCc, Kind, Steps, u32_at};
@@ -36,8 +40,13 @@ pub(crate) struct KeysNamed {
 }
 
 impl KeysNamed {
+    ghost use Rattle.std.specs.Prelude.{◌≡◌, false};
+    ghost use Rattle.mp4_frag.specs.GroupsJudged.{is_named_at, with_name};
+
     // None yet.
-    pub(crate) fn none() -> KeysNamed {
+    pub(crate) fn none() -> KeysNamed
+        ensures { result ≡ record { first = false; second = false; third = false; fourth = false } }
+    {
         KeysNamed {
             first: false,
             second: false,
@@ -46,7 +55,9 @@ impl KeysNamed {
         }
     }
 
-    fn has(&self, j: u8) -> bool {
+    fn has(&self, j: u8) -> bool
+        ensures { result ≡ is_named_at self.now j }
+    {
         match j {
             0 => self.first,
             1 => self.second,
@@ -55,7 +66,9 @@ impl KeysNamed {
         }
     }
 
-    fn with(self, j: u8) -> KeysNamed {
+    fn with(self, j: u8) -> KeysNamed
+        ensures { result ≡ with_name self j }
+    {
         match j {
             0 => KeysNamed {
                 first: true,
@@ -118,7 +131,10 @@ pub(crate) fn read_group(payload: &[u8]) -> Result<Group, Kind>
 }
 
 // Names the key of an `sbgp`, which no other of the `traf` may have, and which may not be the fifth of the track.
-fn name(key: GroupKey, keys: &mut Keys, named: &mut KeysNamed) -> Result<(), Kind> {
+fn name(key: GroupKey, keys: &mut Keys, named: &mut KeysNamed) -> Result<(), Kind>
+    ensures named { OnOk result ((first : List GroupKeyOf) (before : List Grouping) (g : Grouping) → g.key ≡ key_seen key → AreNamed first before (keys_seen keys.old) named.old → NamesOneMore first before g (keys_seen keys.new) named.new) }
+    ensures fault { IfErr result (λ kind. (first : List GroupKeyOf) (before : List Grouping) (g : Grouping) → g.key ≡ key_seen key → AreNamed first before (keys_seen keys.old) named.old → IsNameFault first before g kind) }
+{
     let place = match keys.place(key) {
         Some(j) => {
             if named.has(j) {
@@ -190,7 +206,11 @@ pub(crate) fn check_group<L: Ledger>(
     keys: &mut Keys,
     named: &mut KeysNamed,
     steps: &mut Steps<L>,
-) -> Result<(), Kind> {
+) -> Result<(), Kind>
+    ensures sound { OnOk result ((first : List GroupKeyOf) (before : List Grouping) → AreNamed first before (keys_seen keys.old) named.old → IsGroupSound n first before payload.now) }
+    ensures named { OnOk result ((first : List GroupKeyOf) (before : List Grouping) → AreNamed first before (keys_seen keys.old) named.old → AreNamed first (before ++ grouping_of payload.now ∷ []) (keys_seen keys.new) named.new) }
+    ensures fault { IfErr result (λ kind. (first : List GroupKeyOf) (before : List Grouping) → AreNamed first before (keys_seen keys.old) named.old → IsGroupFault n first before payload.now kind) }
+{
     let group = read_group(payload)?;
     name(group.key, keys, named)?;
     if !are_indexes(payload, group, steps) {

@@ -1,10 +1,10 @@
 //! The samples of a run, passed one by one to judge them.
-ghost use Rattle.std.specs.Prelude.{◌≡◌, ◌+◌, ◌*◌, ◌^◌, ◌<◌, ◌≤◌, ◌∷◌, [], ◌||◌, ◌+ℤ◌, pos, true, length, IfOk, IfErr, ◌-◌, not, ◌&&◌};
+ghost use Rattle.std.specs.Prelude.{ℕ, ◌≡◌, ◌+◌, ◌*◌, ◌^◌, ◌<◌, ◌≤◌, ◌∷◌, [], ◌||◌, ◌+ℤ◌, pos, true, length, IfOk, IfErr, ◌-◌, not, ◌&&◌};
 ghost use Rattle.mp4_boxes.specs.Layout.{too_large};
 ghost use Rattle.mp4_tables.specs.TableRules.{lies_within as lies_in};
 ghost use Rattle.mp4_frag.specs.ColumnsRead.{row_room};
 ghost use Rattle.mp4_frag.specs.FragmentSamples.{run_start as run_start_by};
-ghost use Rattle.mp4_frag.specs.Passing.{IsNear, IsNearer, IsRunFault, IsRunPassed, rows_left, offsets_left, row_seen, within_from, end_from, lasting};
+ghost use Rattle.mp4_frag.specs.Passing.{IsNear, IsNearer, IsUpTo, IsRunFault, IsRunPassed, rows_left, offsets_left, row_seen, within_from, end_from, lasting};
 
 use crate::heads::Inherited;
 use crate::rows::{Row, row_at, row_size};
@@ -36,21 +36,6 @@ struct Samples {
     are_within: bool,
     /// Whether an offset has no place in 32 bits with a sign.
     are_large: bool,
-}
-
-/// A place that is near: the same one, where it is.
-pub(crate) fn near(at: i128) -> i128
-    ensures near { IsNearer result }
-    ensures same { IsNearer at → result ≡ at }
-{
-    const FAR: i128 = 0x8_0000_0000_0000_0000_0000_0000;
-    if at > FAR {
-        return FAR;
-    }
-    if at < -FAR {
-        return -FAR;
-    }
-    at
 }
 
 /// Where a run begins: at its offset from the base, else where the data before it ends.
@@ -179,6 +164,7 @@ pub(crate) fn check_run<L: Ledger>(
     requires near { IsNear passed.at }
     ensures near { IfOk result (λ p. IsNear p.at) }
     ensures passed { IfOk result (λ p. IsRunPassed judged.file_len judged.inherited judged.base passed.at payload.now p.at (p.count - passed.count) (p.duration - passed.duration)) }
+    ensures bound { IfOk result (λ p. (n : ℕ) → 2 ^ 64 ≤ n → IsUpTo n judged.base → IsUpTo (n + 2 ^ 31) passed.at → IsUpTo (n + 2 ^ 31) p.at) }
     ensures fault { IfErr result (IsRunFault judged.file_len judged.inherited judged.base passed.at room.old payload.now) }
     ensures few { IfOk result (λ p. p.count + room.new ≡ passed.count + room.old) }
     ensures duration { IfOk result (λ p. p.duration ≤ 2 ^ 32 * p.count) }

@@ -1,10 +1,15 @@
 use Rattle.std.proofs.Common.{◌≤◌}
+use Rattle.mp4_boxes.specs.View.{box_seen}
 use Rattle.mp4_frag.specs.States.{HaveRoom}
+use Rattle.mp4_frag.proofs.MoofPassed.{MoofSeen, MovesSeen}
 use Rattle.mp4_frag.proofs.check.check_moof.Given as goal
 
--- there is room for what is left of the room
+-- there is room for what is left of the room, and the `traf`s so far are sound
 abbrev pub invariant-loop-child : goal.invariant-loop-child
 invariant-loop-child g l =
-    (goal.iterator-loop-child g).can_next l.child-iterator ×
-    (goal.iterator-loop-child g).is_finite l.child-iterator ×
-    (l.room ≤ l.fn.room) × HaveRoom l.room l.tracks
+    (goal.iterator-loop-child g).can_next l.child-iterator
+    × (goal.iterator-loop-child g).is_finite l.child-iterator
+    × (l.room ≤ l.fn.room)
+    × HaveRoom l.room l.tracks
+    × MoofSeen l.file_len (box_seen l.moof).offset l.fn.tracks l.initial.child-iterator l.child-iterator l.before l.tracks
+    × MovesSeen (box_seen l.moof).offset l.fn.tracks l.fn.room l.initial.child-iterator l.child-iterator l.before l.tracks l.room

@@ -12,25 +12,26 @@ loop-child-preserved-then-eq g c =
       search rules,
       r.near,
       r.duration,
-      seen_run _ _ _ _ _ _ (box_seen c.in-Some.child) _ _ _ _ _ _ _ _ _ i.5 c.in-Some.ensures.steps (rw c.kind-in-loop-child.ensures at (sym c.if-eq.ensures)) (rw c.payload-then-eq.ensures at r.passed) r.more.0 r.more.1 r.few,
+      (λ n big base. r.bound n big base (i.5 n big base)),
+      seen_run _ _ _ _ _ _ (box_seen c.in-Some.child) _ _ _ _ _ _ _ _ _ i.6 c.in-Some.ensures.steps (rw c.kind-in-loop-child.ensures at (sym c.if-eq.ensures)) (rw c.payload-then-eq.ensures at r.passed) r.more.0 r.more.1 r.few,
     )
 
 pub returns-clause-sound : goal.returns-clause-sound
 returns-clause-sound g c =
     let all = all_children (box_seen c.args.traf) _ _ _ _ c.payload.ensures c.payload_offset.ensures c.in_ok-child-items.ensures.tiles in
-    runs_sound _ _ _ _ _ _ _ _ _ _ _ c.loop-child.invariant.5 c.in-None.ensures.steps.0 (c.into_iter-child-iterator.ensures.into_iter_gives ∙ all)
+    runs_sound _ _ _ _ _ _ _ _ _ _ _ c.loop-child.invariant.6 c.in-None.ensures.steps.0 (c.into_iter-child-iterator.ensures.into_iter_gives ∙ all)
 
 pub returns-clause-end : goal.returns-clause-end
 returns-clause-end g c =
     let all = all_children (box_seen c.args.traf) _ _ _ _ c.payload.ensures c.payload_offset.ensures c.in_ok-child-items.ensures.tiles in
-    (runs_ended _ _ _ _ _ _ _ _ _ _ _ c.loop-child.invariant.5 c.in-None.ensures.steps.0 (c.into_iter-child-iterator.ensures.into_iter_gives ∙ all)).0
+    (runs_ended _ _ _ _ _ _ _ _ _ _ _ c.loop-child.invariant.6 c.in-None.ensures.steps.0 (c.into_iter-child-iterator.ensures.into_iter_gives ∙ all)).0
 
 pub returns-clause-count : goal.returns-clause-count
 returns-clause-count g c =
     let all = all_children (box_seen c.args.traf) _ _ _ _ c.payload.ensures c.payload_offset.ensures c.in_ok-child-items.ensures.tiles in
-    (runs_ended _ _ _ _ _ _ _ _ _ _ _ c.loop-child.invariant.5 c.in-None.ensures.steps.0 (c.into_iter-child-iterator.ensures.into_iter_gives ∙ all)).1
+    (runs_ended _ _ _ _ _ _ _ _ _ _ _ c.loop-child.invariant.6 c.in-None.ensures.steps.0 (c.into_iter-child-iterator.ensures.into_iter_gives ∙ all)).1
 
 pub returns-clause-lasting : goal.returns-clause-lasting
 returns-clause-lasting g c =
     let all = all_children (box_seen c.args.traf) _ _ _ _ c.payload.ensures c.payload_offset.ensures c.in_ok-child-items.ensures.tiles in
-    (runs_ended _ _ _ _ _ _ _ _ _ _ _ c.loop-child.invariant.5 c.in-None.ensures.steps.0 (c.into_iter-child-iterator.ensures.into_iter_gives ∙ all)).2
+    (runs_ended _ _ _ _ _ _ _ _ _ _ _ c.loop-child.invariant.6 c.in-None.ensures.steps.0 (c.into_iter-child-iterator.ensures.into_iter_gives ∙ all)).2

@@ -1,5 +1,5 @@
-use Rattle.std.proofs.Common.{◌≡◌, ◌+◌, ◌*◌, ◌^◌, ◌≤◌}
-use Rattle.mp4_frag.specs.Passing.{IsNear}
+use Rattle.std.proofs.Common.{◌≡◌, ℕ, ◌+◌, ◌*◌, ◌^◌, ◌≤◌}
+use Rattle.mp4_frag.specs.Passing.{IsNear, IsUpTo}
 use Rattle.mp4_frag.proofs.RunsPassed.{RunsSeen}
 use Rattle.mp4_frag.proofs.check.check_runs.Given as goal
 
@@ -11,4 +11,5 @@ invariant-loop-child g l =
     × (l.passed.count + l.room ≡ l.fn.room)
     × IsNear l.passed.at
     × (l.passed.duration ≤ 2 ^ 32 * l.passed.count)
+    × ((n : ℕ) → 2 ^ 64 ≤ n → IsUpTo n l.judged.base → IsUpTo (n + 2 ^ 31) l.passed.at)
     × RunsSeen l.judged.file_len l.judged.inherited l.judged.base l.initial.child-iterator l.child-iterator l.fn.room l.room l.passed.at l.passed.count l.passed.duration

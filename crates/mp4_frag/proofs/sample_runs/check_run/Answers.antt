@@ -1,4 +1,6 @@
-use Rattle.std.proofs.Common.{◌∙◌, sym}
+use Rattle.std.proofs.Common.{◌<◌, ◌^◌, ◌∙◌, sym, rules}
+use Rattle.mp4_boxes.specs.Bytes.{AreBytes}
+use Rattle.mp4_frag.proofs.Bounds.{run_up_to}
 use Rattle.mp4_frag.proofs.RunRows.{near_again, nearer_again, added}
 use Rattle.mp4_frag.proofs.RunsRead.{run_outside, run_passes, large_is}
 use Rattle.mp4_frag.proofs.sample_runs.check_run.Goals as goal
@@ -27,3 +29,9 @@ returns-then-samples-clause-passed g c =
     rw (added c.args.passed.count c.in_ok-run.run'.count, added c.args.passed.duration c.pass_samples-samples.result.duration, near_again c.pass_samples-samples.result.end c.pass_samples-samples.ensures.near)
     (run_passes c.args.payload.now c.in_ok-run.run' c.args.judged.file_len c.args.judged.inherited c.args.judged.base c.args.passed.at c.run_start-start.result _ _ _ _ r start within c.if-samples.true end
     (c.pass_samples-samples.ensures.duration c.if-samples.true) (c.pass_samples-samples.ensures.large c.if-samples.true) small)
+
+pub returns-then-samples-clause-bound : goal.returns-then-samples-clause-bound
+returns-then-samples-clause-bound g c n big base before =
+    let bytes : AreBytes c.args.payload.now = λ i. search rules in
+    let short : c.args.judged.file_len < 2 ^ 64 = search rules in
+    run_up_to n c.args.judged.file_len c.args.judged.inherited c.args.judged.base c.args.passed.at c.args.payload.now _ _ _ bytes short (returns-then-samples-clause-passed g c) big base before

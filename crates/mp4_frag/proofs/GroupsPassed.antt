@@ -1,0 +1,133 @@
+-- The `sbgp`s of a `traf`, passed one by one.
+use Rattle.std.proofs.Common.{◌≡◌, ℕ, zero, suc, ◌≤◌, length, true, false, nat_le, List, [], ◌∷◌, ◌++◌, map, drop, inl, inr, refl, sym, ap, subst, ◌∙◌}
+use Rattle.std.specs.Prelude.{codes, bytes_eq, IsTrue}
+use Rattle.std.specs.List.{list_all}
+use Rattle.std.proofs.lemmas.List.{append_assoc, append-nil}
+use Rattle.mp4_boxes.specs.Bytes.{rows}
+use Rattle.mp4_boxes.specs.Box.{Box}
+use Rattle.mp4_boxes.specs.BoxFaults.{fault_of}
+use Rattle.mp4_boxes.specs.Children.{of_kind}
+use Rattle.mp4_boxes.specs.declared.fault.Fault.{Fault}
+use Rattle.mp4_boxes.specs.declared.fault.Kind.{Kind}
+use Rattle.mp4_boxes.specs.declared.fault.Kind.TheVariants as kinds
+use Rattle.mp4_tables.specs.Groups.{GroupKey, Grouping, GroupRule, one_of_key, few_keys, index_range, group_counts, max_index, grouping_of, groupings_of, keeps, keys_after}
+use Rattle.mp4_tables.specs.Keys.{key_seen}
+use Rattle.mp4_tables.specs.Repeated.{total}
+use Rattle.mp4_tables.specs.Rows.{run_of, runs_at}
+use Rattle.mp4_frag.specs.GroupsJudged.{IsGroupSound, AreGroupsSound, IsGroupFault, GroupsFail, AreNamed, NamesOneMore, IsNameFault, is_named_at}
+use Rattle.mp4_frag.specs.Reading.{IsGroup, group_runs}
+use Rattle.mp4_frag.specs.declared.groups.Group.{Group}
+use Rattle.mp4_frag.specs.declared.groups.KeysNamed.{KeysNamed}
+use Rattle.mp4_frag.proofs.Comings.{turned}
+
+-- ---- one `sbgp`
+
+rows_are : (payload : List ℕ) (group : Group) → IsGroup payload group → group_runs payload group ≡ (grouping_of payload).rows
+unfolding runs_at
+rows_are payload group g = let place = g.rows in let count = g.count in λ i. map run_of (rows (count i) (4 ∷ 4 ∷ []) (drop (place i) payload))
+
+pub key_is : (payload : List ℕ) (group : Group) → IsGroup payload group → (grouping_of payload).key ≡ key_seen group.key
+key_is payload group g = sym g.key
+
+-- a rule of keys is broken
+pub name_fault : (n : ℕ) (first : List GroupKey) (before : List Grouping) (payload : List ℕ) (group : Group) (kind : Kind) → IsGroup payload group → IsNameFault first before (grouping_of payload) kind → IsGroupFault n first before payload kind
+name_fault n first before payload group kind g (inl f) = inr (g.readable, (one_of_key, f.0, f.1))
+name_fault n first before payload group kind g (inr f) = inr (g.readable, (few_keys, f.0, f.1))
+
+-- an index is out of range
+pub index_fault : (n : ℕ) (first : List GroupKey) (before : List Grouping) (payload : List ℕ) (group : Group) → IsGroup payload group → false ≡ list_all (λ run. nat_le run.1 max_index) (group_runs payload group) → IsGroupFault n first before payload kinds.BadValue
+index_fault n first before payload group g e = inr (g.readable, (index_range, refl, ap (list_all (λ run. nat_le run.1 max_index)) (sym (rows_are payload group g)) ∙ sym e))
+
+-- it counts more samples than there are
+pub count_fault : (n : ℕ) (first : List GroupKey) (before : List Grouping) (payload : List ℕ) (group : Group) → IsGroup payload group → false ≡ nat_le (total (group_runs payload group)) n → IsGroupFault n first before payload kinds.CountMismatch
+count_fault n first before payload group g e = inr (g.readable, (group_counts, refl, ap (λ runs. nat_le (total runs) n) (sym (rows_are payload group g)) ∙ sym e))
+
+-- it keeps all rules
+pub group_sound : (n : ℕ) (first now : List GroupKey) (before : List Grouping) (payload : List ℕ) (group : Group) (named : KeysNamed) → IsGroup payload group → NamesOneMore first before (grouping_of payload) now named
+    → true ≡ list_all (λ run. nat_le run.1 max_index) (group_runs payload group) → true ≡ nat_le (total (group_runs payload group)) n → IsGroupSound n first before payload
+group_sound n first now before payload group named g m e f = record { readable = g.readable; rules = rule }
+  where
+    rule : (r : GroupRule) → IsTrue (keeps r n first before (grouping_of payload))
+    rule one_of_key = m.once
+    rule few_keys = m.room
+    rule index_range = ap (list_all (λ run. nat_le run.1 max_index)) (sym (rows_are payload group g)) ∙ sym e
+    rule group_counts = ap (λ runs. nat_le (total runs) n) (sym (rows_are payload group g)) ∙ sym f
+
+-- ---- all of them
+
+abbrev groups_of : List Box → List Box
+groups_of boxes = of_kind (codes "sbgp") boxes
+
+-- Of all boxes these are left; the groupings passed named the keys.
+pub record GroupsSeen (n : ℕ) (first : List GroupKey) (all left : List Box) (now : List GroupKey) (named : KeysNamed) : Type 0 where
+  pub before : List Grouping
+  pub names : AreNamed first before now named
+  pub groupings : groupings_of (groups_of all) ≡ before ++ groupings_of (groups_of left)
+  pub sound : AreGroupsSound n first before (groups_of left) → AreGroupsSound n first [] (groups_of all)
+  pub fails : (f : Fault) → GroupsFail n first before (groups_of left) f → GroupsFail n first [] (groups_of all) f
+
+none_named : (j : ℕ) → is_named_at (record { first = false; second = false; third = false; fourth = false }) j ≡ false
+none_named zero = refl
+none_named (suc zero) = refl
+none_named (suc (suc zero)) = refl
+none_named (suc (suc (suc j))) = refl
+
+-- none was passed
+pub groups_none : (n : ℕ) (first : List GroupKey) (all : List Box) (named : KeysNamed) → length first ≤ 4 → named ≡ record { first = false; second = false; third = false; fourth = false } → GroupsSeen n first all all first named
+groups_none n first all named few e = record {
+  before = [];
+  names = record { keys_now = refl; few = few; there = λ key j f. ap (λ (m : KeysNamed). is_named_at m j) e ∙ none_named j; missing = λ key f. refl };
+  groupings = refl;
+  sound = λ h. h;
+  fails = λ f h. h;
+}
+
+other_kept : (b : Box) (boxes : List Box) → bytes_eq b.kind (codes "sbgp") ≡ false → groups_of (b ∷ boxes) ≡ groups_of boxes
+other_kept b boxes e = rw (turned (codes "sbgp") b.kind ∙ e) refl
+
+group_kept : (b : Box) (boxes : List Box) → bytes_eq b.kind (codes "sbgp") ≡ true → groups_of (b ∷ boxes) ≡ b ∷ groups_of boxes
+group_kept b boxes e = rw (turned (codes "sbgp") b.kind ∙ e) refl
+
+-- another box
+pub groups_other : (n : ℕ) (first : List GroupKey) (all left later : List Box) (b : Box) (now : List GroupKey) (named : KeysNamed) → GroupsSeen n first all left now named → left ≡ b ∷ later → bytes_eq b.kind (codes "sbgp") ≡ false → GroupsSeen n first all later now named
+groups_other n first all left later b now named s e k =
+    let same : groups_of left ≡ groups_of later = ap groups_of e ∙ other_kept b later k in
+    record {
+      before = s.before;
+      names = s.names;
+      groupings = s.groupings ∙ ap (λ boxes. s.before ++ groupings_of boxes) same;
+      sound = λ h. s.sound (subst (AreGroupsSound n first s.before) (sym same) h);
+      fails = λ f h. s.fails f (subst (λ boxes. GroupsFail n first s.before boxes f) (sym same) h);
+    }
+
+-- an `sbgp` that is sound
+pub groups_more : (n : ℕ) (first : List GroupKey) (all left later : List Box) (b : Box) (now then_now : List GroupKey) (named then_named : KeysNamed) → GroupsSeen n first all left now named → left ≡ b ∷ later → bytes_eq b.kind (codes "sbgp") ≡ true
+    → ((keys : List GroupKey) (before : List Grouping) → AreNamed keys before now named → IsGroupSound n keys before b.payload)
+    → ((keys : List GroupKey) (before : List Grouping) → AreNamed keys before now named → AreNamed keys (before ++ grouping_of b.payload ∷ []) then_now then_named)
+    → GroupsSeen n first all later then_now then_named
+groups_more n first all left later b now then_now named then_named s e k is_sound is_named =
+    let same : groups_of left ≡ b ∷ groups_of later = ap groups_of e ∙ group_kept b later k in
+    let one = is_sound first s.before s.names in
+    record {
+      before = s.before ++ grouping_of b.payload ∷ [];
+      names = is_named first s.before s.names;
+      groupings = s.groupings ∙ ap (λ boxes. s.before ++ groupings_of boxes) same ∙ sym (append_assoc s.before (grouping_of b.payload ∷ []) (groupings_of (groups_of later)));
+      sound = λ h. s.sound (subst (AreGroupsSound n first s.before) (sym same) (one, h));
+      fails = λ f h. s.fails f (subst (λ boxes. GroupsFail n first s.before boxes f) (sym same) (inr (one, h)));
+    }
+
+-- one that is not
+pub groups_fault : (n : ℕ) (first : List GroupKey) (all left later : List Box) (b : Box) (now : List GroupKey) (named : KeysNamed) (kind : Kind) (f : Fault) → GroupsSeen n first all left now named → left ≡ b ∷ later → bytes_eq b.kind (codes "sbgp") ≡ true
+    → ((keys : List GroupKey) (before : List Grouping) → AreNamed keys before now named → IsGroupFault n keys before b.payload kind) → f ≡ fault_of kind b → GroupsFail n first [] (groups_of all) f
+groups_fault n first all left later b now named kind f s e k h m =
+    let same : groups_of left ≡ b ∷ groups_of later = ap groups_of e ∙ group_kept b later k in
+    s.fails f (subst (λ boxes. GroupsFail n first s.before boxes f) (sym same) (inl (kind, m, h first s.before s.names)))
+
+-- behind the last box
+pub groups_sound : (n : ℕ) (first : List GroupKey) (all left boxes : List Box) (now : List GroupKey) (named : KeysNamed) → GroupsSeen n first all left now named → left ≡ [] → all ≡ boxes → AreGroupsSound n first [] (groups_of boxes)
+groups_sound n first all left boxes now named s e f = subst (λ bs. AreGroupsSound n first [] (groups_of bs)) f (s.sound (subst (λ bs. AreGroupsSound n first s.before (groups_of bs)) (sym e) tt))
+
+pub groups_keys : (n : ℕ) (first : List GroupKey) (all left boxes : List Box) (now : List GroupKey) (named : KeysNamed) → GroupsSeen n first all left now named → left ≡ [] → all ≡ boxes → now ≡ keys_after first (groupings_of (groups_of boxes))
+groups_keys n first all left boxes now named s e f =
+    let whole : groupings_of (groups_of all) ≡ s.before = s.groupings ∙ ap (λ bs. s.before ++ groupings_of (groups_of bs)) e ∙ append-nil s.before in
+    s.names.keys_now ∙ ap (keys_after first) (sym whole) ∙ ap (λ bs. keys_after first (groupings_of (groups_of bs))) f

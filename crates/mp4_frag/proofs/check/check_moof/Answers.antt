@@ -1,0 +1,42 @@
+use Rattle.std.proofs.Common.{◌≡◌, ◌^◌, ◌<◌, ◌≤◌, ◌∙◌, List, sym, subst, to_z, of_z, rules, arith}
+use Rattle.std.specs.Int.{w128}
+use Rattle.mp4_boxes.specs.Box.{Box, box_container}
+use Rattle.mp4_boxes.specs.Children.{Holds}
+use Rattle.mp4_boxes.specs.View.{box_seen}
+use Rattle.mp4_boxes.specs.declared.rule.Rule.TheVariants as rules
+use Rattle.mp4_frag.proofs.HeadsFound.{holds_children}
+use Rattle.mp4_frag.proofs.MoofPassed.{moof_traf, moof_ended, moof_sound, moves_traf, moves_ended}
+use Rattle.mp4_frag.proofs.check.check_moof.Goals as goal
+
+pub loop-child-preserved-then-eq : goal.loop-child-preserved-then-eq
+loop-child-preserved-then-eq g c =
+    let i = c.loop-child.invariant in
+    let r = c.in_ok-before.ensures in
+    let kept : to_z w128 (of_z w128 c.in_ok-before.before) ≡ c.in_ok-before.before = search rules in
+    let room = i.2 in
+    let less = r.few in
+    let fits : c.check_traf.new.room ≤ c.args.room.now = omega arith in
+    let is_traf = rw c.kind.ensures at (sym c.if-eq.ensures) in
+    let sound = rw c.offset-then-eq.ensures at r.sound in (
+      tt,
+      tt,
+      fits,
+      r.room,
+      rw kept (moof_traf c.args.file_len _ _ _ _ _ (box_seen c.in-Some.child) _ c.in_ok-before.before _ _ i.4 c.in-Some.ensures.steps is_traf r.holds sound r.bound r.same),
+      rw kept (moves_traf c.args.file_len _ _ _ _ _ _ (box_seen c.in-Some.child) _ c.in_ok-before.before _ _ _ _ i.5 c.in-Some.ensures.steps is_traf sound (rw c.offset-then-eq.ensures at r.moved)),
+    )
+
+pub returns-clause-sound : goal.returns-clause-sound
+returns-clause-sound g c trexes defaults =
+    let moof = box_seen c.args.moof in
+    let h = c.in_ok-child-items.ensures.holds in
+    let all = holds_children rules.MovieFragment moof _ h in
+    let held = subst (λ (boxes : List Box). Holds rules.MovieFragment (box_container moof) boxes) all h in
+    let short : c.args.file_len < 2 ^ 64 = search rules in
+    moof_sound trexes c.args.file_len moof c.args.tracks.now short held
+    (moof_ended _ _ _ _ _ _ _ _ c.loop-child.invariant.4 c.in-None.ensures.steps.0 (c.into_iter-child-iterator.ensures.into_iter_gives ∙ all)) defaults
+
+pub returns-clause-moved : goal.returns-clause-moved
+returns-clause-moved g c =
+    let all = holds_children rules.MovieFragment (box_seen c.args.moof) _ c.in_ok-child-items.ensures.holds in
+    moves_ended _ _ _ _ _ _ _ _ _ c.loop-child.invariant.5 c.in-None.ensures.steps.0 (c.into_iter-child-iterator.ensures.into_iter_gives ∙ all)

@@ -1,0 +1,27 @@
+use Rattle.std.proofs.lemmas.Result.{err_from_is_err_and}
+use Rattle.mp4_tables.specs.Groups.{grouping_of}
+use Rattle.mp4_frag.proofs.GroupsPassed.{key_is, name_fault, index_fault, count_fault, group_sound}
+use Rattle.mp4_frag.proofs.groups.check_group.Goals as goal
+
+pub returns-in_err-name-clause-fault : goal.returns-in_err-name-clause-fault
+returns-in_err-name-clause-fault g c =
+    let p = err_from_is_err_and c.from_residual-in_err-name.result c.from_residual-in_err-name.ensures.1 in
+    let r = c.in_ok-group.ensures.group in
+    rw (p.1, p.2) (λ first before a. name_fault c.args.n first before c.args.payload.now c.in_ok-group.group c.in_err-name.field-0.0 r (c.in_err-name.ensures.fault first before (grouping_of c.args.payload.now) (key_is c.args.payload.now c.in_ok-group.group r) a))
+
+pub returns-then-not-are_indexes-clause-fault : goal.returns-then-not-are_indexes-clause-fault
+returns-then-not-are_indexes-clause-fault g c first before a = index_fault c.args.n first before c.args.payload.now c.in_ok-group.group c.in_ok-group.ensures.group c.if-not-are_indexes.ensures.same
+
+pub returns-then-not-are_within-clause-fault : goal.returns-then-not-are_within-clause-fault
+returns-then-not-are_within-clause-fault g c first before a = count_fault c.args.n first before c.args.payload.now c.in_ok-group.group c.in_ok-group.ensures.group c.if-not-are_within.ensures.same
+
+pub returns-clause-sound : goal.returns-clause-sound
+returns-clause-sound g c first before a =
+    let r = c.in_ok-group.ensures.group in
+    let names = c.in_ok-name.ensures.named first before (grouping_of c.args.payload.now) (key_is c.args.payload.now c.in_ok-group.group r) a in
+    group_sound c.args.n first _ before c.args.payload.now c.in_ok-group.group _ r names c.if-not-are_indexes.ensures.same c.if-not-are_within.ensures.same
+
+pub returns-clause-named : goal.returns-clause-named
+returns-clause-named g c first before a =
+    let r = c.in_ok-group.ensures.group in
+    (c.in_ok-name.ensures.named first before (grouping_of c.args.payload.now) (key_is c.args.payload.now c.in_ok-group.group r) a).names
