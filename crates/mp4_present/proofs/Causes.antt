@@ -4,7 +4,7 @@ use Rattle.std.specs.Prelude.{Option}
 use Rattle.mp4_boxes.specs.declared.refusal.Refusal.{Refusal}
 use Rattle.mp4_boxes.specs.declared.refusal.Refusal.TheVariants as refusals
 use Rattle.mp4_present.specs.Movies.{RefusesLoad}
-use Rattle.mp4_present.specs.Carried.{RefusesPut, RefusesCarry, RefusesCopy}
+use Rattle.mp4_present.specs.Carried.{RefusesCarry, RefusesCopy}
 
 pub copy_not_loaded : (a b : Option (List ℕ)) (reads reads_after puts puts_after : ℕ) (r : Refusal) → RefusesLoad reads reads_after r → RefusesCopy a b reads reads_after puts puts_after r
 copy_not_loaded a b reads reads_after puts puts_after (refusals.Fault f) w = w
@@ -21,11 +21,3 @@ copy_not_carried a b reads reads_after puts puts_after refusals.StoreFailed w = 
 copy_not_carried a b reads reads_after puts puts_after refusals.StoreChanged w = w
 copy_not_carried a b reads reads_after puts puts_after refusals.WriteFailed w = w
 copy_not_carried a b reads reads_after puts puts_after refusals.NoSuchTrack w = w
-
-pub copy_not_put : (a b : Option (List ℕ)) (reads reads_after puts puts_after : ℕ) (r : Refusal) → RefusesPut puts puts_after r → RefusesCopy a b reads reads_after puts puts_after r
-copy_not_put a b reads reads_after puts puts_after (refusals.Fault f) w = w
-copy_not_put a b reads reads_after puts puts_after refusals.Memory w = absurd w
-copy_not_put a b reads reads_after puts puts_after refusals.StoreFailed w = absurd w
-copy_not_put a b reads reads_after puts puts_after refusals.StoreChanged w = absurd w
-copy_not_put a b reads reads_after puts puts_after refusals.WriteFailed w = w
-copy_not_put a b reads reads_after puts puts_after refusals.NoSuchTrack w = w

@@ -12,7 +12,7 @@ use Rattle.mp4_boxes.proofs.Tiling.{lies_behind, sizes-append, sizes-cons}
 use Rattle.mp4_present.specs.Again.{AreFrom, IsNextFragment}
 use Rattle.mp4_present.specs.Movies.{IsWhole}
 use Rattle.mp4_present.specs.Reading.{RefusesPayload}
-use Rattle.mp4_present.specs.Opening.{RefusesOpen}
+use Rattle.mp4_present.specs.Opening.{RefusesFragments}
 use Rattle.mp4_present.specs.Outline.{BeginAt, IsOutline, box_at, longest}
 use Rattle.mp4_present.specs.declared.reading.TopBox.{TopBox}
 use Rattle.mp4_present.specs.declared.outline.Outline.{Outline}
@@ -87,11 +87,11 @@ left_next file at most top l w n =
     }
 
 -- the room is as long as the longest `moof`
-pub open_not_read : (honest : Bool) (file : List ℕ) (top : TopBox) (most room reads reads_after : ℕ) (r : Refusal) → (IsTrue honest → Next file top most) → room ≡ most
-    → RefusesPayload room top reads reads_after r → RefusesOpen honest reads reads_after r
-open_not_read honest file top most room reads reads_after (refusals.Fault f) n e w = tt
-open_not_read honest file top most room reads reads_after refusals.Memory n e w = tt
-open_not_read honest file top most room reads reads_after refusals.StoreFailed n e w = w
-open_not_read honest file top most room reads reads_after refusals.StoreChanged n e w = λ told. let short = (n told).short in omega (arith, short, e, w)
-open_not_read honest file top most room reads reads_after refusals.WriteFailed n e w = w
-open_not_read honest file top most room reads reads_after refusals.NoSuchTrack n e w = w
+pub not_passed : (honest : Bool) (file : List ℕ) (top : TopBox) (most room reads reads_after : ℕ) (r : Refusal) → (IsTrue honest → Next file top most) → room ≡ most
+    → RefusesPayload room top reads reads_after r → RefusesFragments honest reads reads_after r
+not_passed honest file top most room reads reads_after (refusals.Fault f) n e w = tt
+not_passed honest file top most room reads reads_after refusals.Memory n e w = tt
+not_passed honest file top most room reads reads_after refusals.StoreFailed n e w = w
+not_passed honest file top most room reads reads_after refusals.StoreChanged n e w = λ told. let short = (n told).short in omega (arith, short, e, w)
+not_passed honest file top most room reads reads_after refusals.WriteFailed n e w = w
+not_passed honest file top most room reads reads_after refusals.NoSuchTrack n e w = w

@@ -30,3 +30,4 @@ pub mod Carrying
 pub mod Hands
 pub mod Causes
 pub mod FragmentPass
+pub mod Opened

@@ -1,7 +1,7 @@
 -- Bytes on their way to a sink: some of them are put, and the rest wait.
 use Rattle.std.specs.Prelude.{◌≡◌, ◌+◌, ◌<◌, ℕ, List, ◌++◌, length, take, Option}
 use Rattle.std.specs.Io.KnownBytes.{Appends}
-use Rattle.mp4_store.specs.Device.{HasRisen}
+use Rattle.mp4_store.specs.Device.{HasRisen, count_after}
 use Rattle.mp4_boxes.specs.declared.refusal.Refusal.{Refusal}
 use Rattle.mp4_boxes.specs.declared.refusal.Refusal.TheVariants as refusals
 use Rattle.mp4_present.specs.declared.carrier.Carrier.{Carrier}
@@ -16,9 +16,9 @@ waiting c = take c.used c.buffer.items
 abbrev pub BytesGoOn : Option (List ℕ) → Option (List ℕ) → List ℕ → List ℕ → List ℕ → Type 0
 BytesGoOn before after held held_after bytes = (put : List ℕ) × Appends before after put × (put ++ held_after ≡ held ++ bytes)
 
--- Why bytes are not taken along. The numbers are counts of failed puts, before and after.
+-- Why bytes are not taken along: one more put failed. The numbers are counts of failed puts, before and after.
 abbrev pub RefusesPut : ℕ → ℕ → Refusal → Type 0
-RefusesPut puts puts_after refusals.WriteFailed = HasRisen puts puts_after
+RefusesPut puts puts_after refusals.WriteFailed = puts_after ≡ count_after puts
 RefusesPut puts puts_after _ = ⊥
 
 -- Why bytes of a store are not taken along: counts of failed reads, and of failed puts.

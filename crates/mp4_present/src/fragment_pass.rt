@@ -1,7 +1,7 @@
 //! The `moof`s of a file, each read, checked and given up before the next.
 ghost use Rattle.std.specs.Prelude.{◌≡◌, ◌^◌, ◌≤◌, length, IfOk, IfErr, OnOk};
 ghost use Rattle.mp4_frag.specs.States.{HaveRoom};
-ghost use Rattle.mp4_present.specs.Opening.{HasOutline, RefusesOpen};
+ghost use Rattle.mp4_present.specs.Opening.{HasOutline, RefusesFragments};
 
 use crate::fragments::next_fragment;
 use crate::outline::Outline;
@@ -70,7 +70,7 @@ fn pass_fragments<S: Store, L: Ledger>(
     ensures honesty { S.is_honest store.new ≡ S.is_honest store.old }
     ensures file { S.file store.new ≡ S.file store.old }
     ensures reads { OnOk result (S.read_failures store.new ≡ S.read_failures store.old) }
-    ensures refusal { IfErr result (RefusesOpen (S.is_honest store.old) (S.read_failures store.old) (S.read_failures store.new)) }
+    ensures refusal { IfErr result (RefusesFragments (S.is_honest store.old) (S.read_failures store.old) (S.read_failures store.new)) }
 {
     let file_len = store.len();
     let mut room = room;
@@ -101,7 +101,7 @@ pub(crate) fn check_fragments<S: Store, L: Ledger>(
     ensures honesty { S.is_honest store.new ≡ S.is_honest store.old }
     ensures file { S.file store.new ≡ S.file store.old }
     ensures reads { OnOk result (S.read_failures store.new ≡ S.read_failures store.old) }
-    ensures refusal { IfErr result (RefusesOpen (S.is_honest store.old) (S.read_failures store.old) (S.read_failures store.new)) }
+    ensures refusal { IfErr result (RefusesFragments (S.is_honest store.old) (S.read_failures store.old) (S.read_failures store.new)) }
 {
     let mut states = Vec::new(alloc);
     states.extend_from_slice(plain.states.as_slice())?;

@@ -1,9 +1,12 @@
 //! A file, read to one presentation or refused.
-ghost use Rattle.std.specs.Prelude.{◌≡◌, length, IfOk, IfErr, OnOk};
+ghost use Rattle.std.specs.Prelude.{◌≡◌, ◌+◌, length, map, IfOk, IfErr, OnOk, IsTrue};
 ghost use Rattle.mp4_boxes.specs.declared.refusal.Refusal.TheVariants as refusals;
 ghost use Rattle.mp4_present.specs.Movies.{Fills};
 ghost use Rattle.mp4_present.specs.Plain.{ArePlain};
-ghost use Rattle.mp4_present.specs.Opening.{HasOutline, RefusesOpen};
+ghost use Rattle.mp4_head.specs.declared.heads.TrackHead.{TrackHead};
+ghost use Rattle.mp4_store.specs.Device.{range};
+ghost use Rattle.mp4_present.specs.declared.track_info.TrackInfo.{TrackInfo};
+ghost use Rattle.mp4_present.specs.Opening.{HasOutline, HasMovie, RefusesOpen};
 
 use crate::fragment_pass::{AllTracks, check_fragments};
 use crate::limit_checks::{check_limits, duration_of};
@@ -28,9 +31,11 @@ struct Found {
 }
 
 // A track in numbers.
-fn info_of(track: &TrackHead, state: TrackState, counted: Counted) -> TrackInfo {
+fn info_of(track: &TrackHead, state: TrackState, counted: Counted) -> TrackInfo
+    ensures { result.id ≡ track.now.id }
+{
     TrackInfo {
-        id: state.id,
+        id: track.id,
         timescale: track.media.timescale,
         start: state.start,
         samples: state.count,
@@ -45,6 +50,7 @@ fn infos_of(alloc: Global, head: &MovieHead, all: &AllTracks) -> Result<Vec<Trac
     requires states { length all.now.states.items ≡ length head.now.tracks.items }
     requires counted { length all.now.counted.items ≡ length head.now.tracks.items }
     ensures each { IfOk result (λ tracks. length tracks.items ≡ length head.now.tracks.items) }
+    ensures ids { IfOk result (λ tracks. map (λ (t : TrackInfo). t.id) tracks.items ≡ map (λ (t : TrackHead). t.id) head.now.tracks.items) }
     ensures refusal { IfErr result (λ r. r ≡ refusals.Memory) }
 {
     let mut tracks = Vec::new(alloc);
@@ -64,12 +70,14 @@ fn find<S: Store, L: Ledger>(
     steps: &mut Steps<L>,
 ) -> Result<Found, Refusal>
     requires fills { Fills (length moov.now) outline.now.moov }
+    requires bytes { IsTrue (S.is_honest store.old) → moov.now ≡ range (S.file store.old) (outline.now.moov.offset + outline.now.moov.header.header) (length moov.now) }
     requires outline { HasOutline (S.is_honest store.old) (S.file store.old) outline.now }
     ensures honesty { S.is_honest store.new ≡ S.is_honest store.old }
     ensures file { S.file store.new ≡ S.file store.old }
     ensures plain { IfOk result (λ f. ArePlain moov.now (length f.tracks.items) f.plain) }
+    ensures ids { IfOk result (λ f. IsTrue (S.is_honest store.old) → HasMovie (S.file store.old) (map (λ (t : TrackInfo). t.id) f.tracks.items)) }
     ensures reads { OnOk result (S.read_failures store.new ≡ S.read_failures store.old) }
-    ensures refusal { IfErr result (RefusesOpen (S.is_honest store.old) (S.read_failures store.old) (S.read_failures store.new)) }
+    ensures refusal { IfErr result (RefusesOpen (S.is_honest store.old) (S.file store.old) (S.read_failures store.old) (S.read_failures store.new)) }
 {
     let view = outline.moov.view(moov);
     let head = read_head(alloc, view)?;
@@ -93,8 +101,9 @@ pub fn open_movie<S: Store, L: Ledger>(
 ) -> Result<Movie, Refusal>
     ensures honesty { S.is_honest store.new ≡ S.is_honest store.old }
     ensures file { S.file store.new ≡ S.file store.old }
+    ensures ids { IfOk result (λ m. IsTrue (S.is_honest store.old) → HasMovie (S.file store.old) (map (λ (t : TrackInfo). t.id) m.tracks)) }
     ensures reads { OnOk result (S.read_failures store.new ≡ S.read_failures store.old) }
-    ensures refusal { IfErr result (RefusesOpen (S.is_honest store.old) (S.read_failures store.old) (S.read_failures store.new)) }
+    ensures refusal { IfErr result (RefusesOpen (S.is_honest store.old) (S.file store.old) (S.read_failures store.old) (S.read_failures store.new)) }
 {
     let outline = read_outline(store)?;
     let at = outline.moov.payload_offset();

@@ -2,6 +2,6 @@ pub mod Texts
 pub mod Headline
 pub mod BoxWalk
 pub mod BoxLaws
-pub mod LinesHeld
 pub mod Actions
 pub mod ShowValue
+pub mod Commands

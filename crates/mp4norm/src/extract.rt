@@ -1,5 +1,6 @@
 //! The bytes of a track's samples.
-ghost use Rattle.std.specs.Prelude.{◌≡◌, ◌<◌};
+ghost use Rattle.std.specs.Prelude.{◌≡◌, ◌<◌, IfErr, OnOk};
+ghost use Rattle.mp4norm.specs.Commands.{RefusesTrack};
 
 use crate::tracks::track_with;
 use mp4_boxes::{Refusal, Steps};
@@ -20,10 +21,16 @@ fn extract_counted<S: Store, K: Sink, L: Ledger>(
     requires name { blank.name ≡ L.name }
     requires parts { blank.parts ≡ L.parts }
     requires some { 0 < L.parts }
+    ensures honesty { S.is_honest store.new ≡ S.is_honest store.old }
+    ensures file { S.file store.new ≡ S.file store.old }
+    ensures reads { OnOk result (S.read_failures store.new ≡ S.read_failures store.old) }
+    ensures puts { OnOk result (K.put_failures sink.new ≡ K.put_failures sink.old) }
+    ensures refusal { IfErr result (RefusesTrack (S.is_honest store.old) (S.file store.old) id (K.contents sink.old) (K.contents sink.new)
+        (S.read_failures store.old) (S.read_failures store.new) (K.put_failures sink.old) (K.put_failures sink.new)) }
 {
     let mut steps = Steps::<L>::new(blank);
     let movie = open_movie(alloc, store, &mut steps)?;
-    let track = track_with(&movie, id)?;
+    let track = track_with(movie.tracks(), id)?;
     movie.copy_track(alloc, track, store, sink, &mut steps)
 }
 
@@ -34,6 +41,13 @@ pub fn extract<S: Store, K: Sink>(
     store: &mut S,
     id: u32,
     sink: &mut K,
-) -> Result<(), Refusal> {
+) -> Result<(), Refusal>
+    ensures honesty { S.is_honest store.new ≡ S.is_honest store.old }
+    ensures file { S.file store.new ≡ S.file store.old }
+    ensures reads { OnOk result (S.read_failures store.new ≡ S.read_failures store.old) }
+    ensures puts { OnOk result (K.put_failures sink.new ≡ K.put_failures sink.old) }
+    ensures refusal { IfErr result (RefusesTrack (S.is_honest store.old) (S.file store.old) id (K.contents sink.old) (K.contents sink.new)
+        (S.read_failures store.old) (S.read_failures store.new) (K.put_failures sink.old) (K.put_failures sink.new)) }
+{
     extract_counted::<S, K, Brand>(alloc, store, id, sink, Blank::new(1))
 }

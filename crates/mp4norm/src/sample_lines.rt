@@ -1,12 +1,13 @@
 //! The lines of samples.
-ghost use Rattle.std.specs.Prelude.{◌≡◌, ◌+◌, ◌^◌, ◌<◌, [], ◌++◌, length, OnOk, OnErr};
-ghost use Rattle.mp4_store.specs.Device.{Counts, AppendsPrefix};
-ghost use Rattle.mp4norm.specs.LinesHeld.{TextGoesOn};
+ghost use Rattle.std.specs.Prelude.{◌≡◌, ◌+◌, ◌^◌, ◌<◌, [], ◌++◌, length, IfErr, OnOk, OnErr};
+ghost use Rattle.mp4_store.specs.Device.{AppendsPrefix};
+ghost use Rattle.mp4_present.specs.Carried.{waiting, BytesGoOn, RefusesPut};
 ghost use Rattle.mp4norm.specs.Texts.{sample_at_line, sample_at_lines};
 
 use crate::backward_line::BackwardLine;
-use crate::line_buffer::LineBuffer;
-use mp4_store::{Sink, WriteFailed};
+use mp4_boxes::Refusal;
+use mp4_present::Carrier;
+use mp4_store::Sink;
 use mp4_tables::{SampleAt, Samples};
 
 // The line of a sample: its number, decode time, composition time, duration, flags, description index, size.
@@ -31,23 +32,24 @@ fn sample_line(number: u64, sample: &SampleAt) -> BackwardLine
     line
 }
 
-/// Adds a line for each sample still to come. The number is that of the next one; it stays at 2^64 - 1.
+/// Takes a line for each sample still to come along. The number is that of the next one; it stays at 2^64 - 1.
 pub fn put_lines<C: Samples, K: Sink>(
     samples: &mut C,
     number: &mut u64,
-    buffer: &mut LineBuffer,
+    carrier: &mut Carrier,
     sink: &mut K,
-) -> Result<(), WriteFailed>
-    ensures lines { OnOk result (number.old + length (C.rest samples.old) < 2 ^ 64 → TextGoesOn (K.contents sink.old) (K.contents sink.new) buffer.old buffer.new (sample_at_lines number.old (C.rest samples.old))) }
+) -> Result<(), Refusal>
+    ensures lines { OnOk result (number.old + length (C.rest samples.old) < 2 ^ 64 → BytesGoOn (K.contents sink.old) (K.contents sink.new) (waiting carrier.old) (waiting carrier.new) (sample_at_lines number.old (C.rest samples.old))) }
     ensures number { OnOk result (number.old + length (C.rest samples.old) < 2 ^ 64 → number.new ≡ number.old + length (C.rest samples.old)) }
     ensures rest { OnOk result (C.rest samples.new ≡ []) }
-    ensures prefix { OnErr result (number.old + length (C.rest samples.old) < 2 ^ 64 → AppendsPrefix (K.contents sink.old) (K.contents sink.new) (buffer.old ++ sample_at_lines number.old (C.rest samples.old))) }
-    ensures cause { Counts (K.put_failures sink.old) (K.put_failures sink.new) result }
+    ensures prefix { OnErr result (number.old + length (C.rest samples.old) < 2 ^ 64 → AppendsPrefix (K.contents sink.old) (K.contents sink.new) (waiting carrier.old ++ sample_at_lines number.old (C.rest samples.old))) }
+    ensures puts { OnOk result (K.put_failures sink.new ≡ K.put_failures sink.old) }
+    ensures refusal { IfErr result (RefusesPut (K.put_failures sink.old) (K.put_failures sink.new)) }
     ensures later { C.follows samples.old samples.new }
 {
     while let Some(sample) = samples.next() {
         let line = sample_line(*number, &sample);
-        buffer.push(line.as_bytes(), sink)?;
+        carrier.carry(line.as_bytes(), sink)?;
         *number = number.saturating_add(1);
     }
     Ok(())

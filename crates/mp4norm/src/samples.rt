@@ -1,33 +1,47 @@
 //! The samples of a track, a line each.
-ghost use Rattle.std.specs.Prelude.{◌≡◌, ◌<◌, OnOk};
-ghost use Rattle.mp4_present.specs.Movies.{IsWalkOf};
+ghost use Rattle.std.specs.Prelude.{◌≡◌, ◌+◌, ◌^◌, ◌<◌, ◌++◌, length, IfErr, OnOk, OnErr};
+ghost use Rattle.mp4_store.specs.Device.{AppendsPrefix};
+ghost use Rattle.mp4_present.specs.declared.in_hand.InHand.{InHand};
+ghost use Rattle.mp4_present.specs.InHand.{left_in_hand};
+ghost use Rattle.mp4_present.specs.Movies.{IsWalkOf, InHandOf};
+ghost use Rattle.mp4_present.specs.Carried.{waiting, BytesGoOn, RefusesPut, RefusesCarry};
+ghost use Rattle.mp4norm.specs.Texts.{sample_at_lines};
+ghost use Rattle.mp4norm.specs.Commands.{RefusesTrack};
 
-use crate::line_buffer::LineBuffer;
 use crate::sample_lines::put_lines;
 use crate::tracks::track_with;
 use mp4_boxes::{Refusal, Steps};
-use mp4_present::{Movie, Walk, open_movie};
+use mp4_present::{Carrier, Movie, Walk, open_movie};
 use mp4_store::{Sink, Store};
 use std::alloc::Global;
 use std::marker::Brand;
 use std::sync::ledger::{Blank, Ledger};
+
+/// How many bytes are put at once.
+const ROOM: usize = 65_000;
 
 // Puts the lines of all samples in hand. The number is that of the next one.
 fn put_hand<K: Sink, L: Ledger>(
     movie: &Movie,
     walk: &mut Walk,
     number: &mut u64,
-    buffer: &mut LineBuffer,
+    carrier: &mut Carrier,
     sink: &mut K,
     steps: &mut Steps<L>,
 ) -> Result<(), Refusal>
     requires { IsWalkOf movie.now walk.old }
     ensures walk { OnOk result (IsWalkOf movie.now walk.new) }
     ensures next { OnOk result (walk.new.next ≡ walk.old.next) }
+    ensures lines { OnOk result ((hand : InHand) × InHandOf movie.now walk.old hand × (number.old + length (left_in_hand hand) < 2 ^ 64
+        → BytesGoOn (K.contents sink.old) (K.contents sink.new) (waiting carrier.old) (waiting carrier.new) (sample_at_lines number.old (left_in_hand hand)) × (number.new ≡ number.old + length (left_in_hand hand)))) }
+    ensures prefix { OnErr result ((hand : InHand) × InHandOf movie.now walk.old hand × (number.old + length (left_in_hand hand) < 2 ^ 64
+        → AppendsPrefix (K.contents sink.old) (K.contents sink.new) (waiting carrier.old ++ sample_at_lines number.old (left_in_hand hand)))) }
+    ensures puts { OnOk result (K.put_failures sink.new ≡ K.put_failures sink.old) }
+    ensures refusal { IfErr result (RefusesPut (K.put_failures sink.old) (K.put_failures sink.new)) }
 {
     let place = {
         let mut hand = walk.in_hand(movie);
-        put_lines(&mut hand, number, buffer, sink)?;
+        put_lines(&mut hand, number, carrier, sink)?;
         hand.place()
     };
     walk.keep(place, steps);
@@ -38,20 +52,24 @@ fn put_hand<K: Sink, L: Ledger>(
 fn put_walk<S: Store, K: Sink, L: Ledger>(
     movie: &Movie,
     walk: &mut Walk,
-    buffer: &mut LineBuffer,
+    carrier: &mut Carrier,
     store: &mut S,
     sink: &mut K,
     steps: &mut Steps<L>,
 ) -> Result<(), Refusal>
     requires { IsWalkOf movie.now walk.old }
+    ensures honesty { S.is_honest store.new ≡ S.is_honest store.old }
+    ensures file { S.file store.new ≡ S.file store.old }
+    ensures reads { OnOk result (S.read_failures store.new ≡ S.read_failures store.old) }
+    ensures puts { OnOk result (K.put_failures sink.new ≡ K.put_failures sink.old) }
+    ensures refusal { IfErr result (RefusesCarry (S.read_failures store.old) (S.read_failures store.new) (K.put_failures sink.old) (K.put_failures sink.new)) }
 {
     let mut number = 1;
-    put_hand(movie, walk, &mut number, buffer, sink, steps)?;
+    put_hand(movie, walk, &mut number, carrier, sink, steps)?;
     while walk.load(movie, store, steps)? {
-        put_hand(movie, walk, &mut number, buffer, sink, steps)?;
+        put_hand(movie, walk, &mut number, carrier, sink, steps)?;
     }
-    buffer.flush(sink)?;
-    Ok(())
+    carrier.flush(sink)
 }
 
 // As `samples`; its steps are counted in this ledger.
@@ -65,13 +83,19 @@ fn samples_counted<S: Store, K: Sink, L: Ledger>(
     requires name { blank.name ≡ L.name }
     requires parts { blank.parts ≡ L.parts }
     requires some { 0 < L.parts }
+    ensures honesty { S.is_honest store.new ≡ S.is_honest store.old }
+    ensures file { S.file store.new ≡ S.file store.old }
+    ensures reads { OnOk result (S.read_failures store.new ≡ S.read_failures store.old) }
+    ensures puts { OnOk result (K.put_failures sink.new ≡ K.put_failures sink.old) }
+    ensures refusal { IfErr result (RefusesTrack (S.is_honest store.old) (S.file store.old) id (K.contents sink.old) (K.contents sink.new)
+        (S.read_failures store.old) (S.read_failures store.new) (K.put_failures sink.old) (K.put_failures sink.new)) }
 {
     let mut steps = Steps::<L>::new(blank);
     let movie = open_movie(alloc, store, &mut steps)?;
-    let track = track_with(&movie, id)?;
+    let track = track_with(movie.tracks(), id)?;
     let mut walk = movie.walk(alloc, track)?;
-    let mut buffer = LineBuffer::new(alloc)?;
-    put_walk(&movie, &mut walk, &mut buffer, store, sink, &mut steps)
+    let mut carrier = Carrier::new(alloc, ROOM)?;
+    put_walk(&movie, &mut walk, &mut carrier, store, sink, &mut steps)
 }
 
 /// Puts a line for each sample of the track with this ID: number, decode time, composition time, duration, flags,
@@ -81,6 +105,13 @@ pub fn samples<S: Store, K: Sink>(
     store: &mut S,
     id: u32,
     sink: &mut K,
-) -> Result<(), Refusal> {
+) -> Result<(), Refusal>
+    ensures honesty { S.is_honest store.new ≡ S.is_honest store.old }
+    ensures file { S.file store.new ≡ S.file store.old }
+    ensures reads { OnOk result (S.read_failures store.new ≡ S.read_failures store.old) }
+    ensures puts { OnOk result (K.put_failures sink.new ≡ K.put_failures sink.old) }
+    ensures refusal { IfErr result (RefusesTrack (S.is_honest store.old) (S.file store.old) id (K.contents sink.old) (K.contents sink.new)
+        (S.read_failures store.old) (S.read_failures store.new) (K.put_failures sink.old) (K.put_failures sink.new)) }
+{
     samples_counted::<S, K, Brand>(alloc, store, id, sink, Blank::new(1))
 }

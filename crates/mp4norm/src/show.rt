@@ -1,5 +1,7 @@
 //! A movie and its tracks, shown.
-ghost use Rattle.std.specs.Prelude.{◌≡◌, ◌<◌};
+ghost use Rattle.std.specs.Prelude.{◌≡◌, ◌<◌, IfErr, OnOk};
+ghost use Rattle.mp4_present.specs.Opening.{RefusesOpen};
+ghost use Rattle.mp4norm.specs.Commands.{RefusesShow};
 
 use crate::movie_json::show_text;
 use mp4_boxes::{Refusal, Steps};
@@ -14,7 +16,12 @@ fn movie_line<S: Store, L: Ledger>(
     alloc: Global,
     store: &mut S,
     steps: &mut Steps<L>,
-) -> Result<String, Refusal> {
+) -> Result<String, Refusal>
+    ensures honesty { S.is_honest store.new ≡ S.is_honest store.old }
+    ensures file { S.file store.new ≡ S.file store.old }
+    ensures reads { OnOk result (S.read_failures store.new ≡ S.read_failures store.old) }
+    ensures refusal { IfErr result (RefusesOpen (S.is_honest store.old) (S.file store.old) (S.read_failures store.old) (S.read_failures store.new)) }
+{
     let movie = open_movie(alloc, store, steps)?;
     let head = movie.head(alloc)?;
     let mut text = show_text(alloc, &head, movie.mehd(), movie.tracks())?;
@@ -32,6 +39,12 @@ fn show_counted<S: Store, K: Sink, L: Ledger>(
     requires name { blank.name ≡ L.name }
     requires parts { blank.parts ≡ L.parts }
     requires some { 0 < L.parts }
+    ensures honesty { S.is_honest store.new ≡ S.is_honest store.old }
+    ensures file { S.file store.new ≡ S.file store.old }
+    ensures reads { OnOk result (S.read_failures store.new ≡ S.read_failures store.old) }
+    ensures puts { OnOk result (K.put_failures sink.new ≡ K.put_failures sink.old) }
+    ensures refusal { IfErr result (RefusesShow (S.is_honest store.old) (S.file store.old) (K.contents sink.old) (K.contents sink.new)
+        (S.read_failures store.old) (S.read_failures store.new) (K.put_failures sink.old) (K.put_failures sink.new)) }
 {
     let mut steps = Steps::<L>::new(blank);
     let text = movie_line(alloc, store, &mut steps)?;
@@ -40,6 +53,13 @@ fn show_counted<S: Store, K: Sink, L: Ledger>(
 }
 
 /// Puts one line of compact JSON: what the movie and its tracks say of themselves, in numbers. The file is judged first.
-pub fn show<S: Store, K: Sink>(alloc: Global, store: &mut S, sink: &mut K) -> Result<(), Refusal> {
+pub fn show<S: Store, K: Sink>(alloc: Global, store: &mut S, sink: &mut K) -> Result<(), Refusal>
+    ensures honesty { S.is_honest store.new ≡ S.is_honest store.old }
+    ensures file { S.file store.new ≡ S.file store.old }
+    ensures reads { OnOk result (S.read_failures store.new ≡ S.read_failures store.old) }
+    ensures puts { OnOk result (K.put_failures sink.new ≡ K.put_failures sink.old) }
+    ensures refusal { IfErr result (RefusesShow (S.is_honest store.old) (S.file store.old) (K.contents sink.old) (K.contents sink.new)
+        (S.read_failures store.old) (S.read_failures store.new) (K.put_failures sink.old) (K.put_failures sink.new)) }
+{
     show_counted::<S, K, Brand>(alloc, store, sink, Blank::new(1))
 }

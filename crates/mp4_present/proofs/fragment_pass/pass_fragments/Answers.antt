@@ -1,7 +1,7 @@
 use Rattle.std.proofs.Common.{◌≡◌, rules, length, refl, subst, ℕ}
 use Rattle.std.specs.Prelude.{unwrap_or}
 use Rattle.std.proofs.lemmas.Result.{err_from_is_err_and}
-use Rattle.mp4_present.proofs.FragmentPass.{Left, left_first, left_next, open_not_read}
+use Rattle.mp4_present.proofs.FragmentPass.{Left, left_first, left_next, not_passed}
 use Rattle.mp4_present.proofs.fragment_pass.pass_fragments.Goals as goal
 
 pub loop-top-init : goal.loop-top-init
@@ -27,7 +27,7 @@ returns-in_err-len-clause-refusal g c =
     let file = g.S.Store.file c.args.store.now in
     let next = rw (i.honesty, i.file, c.in-Some.is) at c.in_ok-top.ensures.next in
     let within = rw (i.file, c.in-Some.is) at c.in_ok-top.ensures.within in
-    rw (p.1, p.2) (open_not_read (g.S.Store.is_honest c.args.store.now) file c.in-Some.top c.args.outline.now.longest _ _ _ _ (λ told. let l = i.left told in left_next file _ _ c.in-Some.top l within.0 (next told l.boxes l.are_from)) (search rules)
+    rw (p.1, p.2) (not_passed (g.S.Store.is_honest c.args.store.now) file c.in-Some.top c.args.outline.now.longest _ _ _ _ (λ told. let l = i.left told in left_next file _ _ c.in-Some.top l within.0 (next told l.boxes l.are_from)) (search rules)
     (rw (c.in_ok-top.ensures.reads, i.reads) at c.in_err-len.ensures.refusal))
 
 pub loop-top-preserved : goal.loop-top-preserved
