@@ -1,16 +1,18 @@
 -- What was read of `ctts`, of the chunks and of where the samples lie, and the faults of these.
-use Rattle.std.proofs.Common.{◌≡◌, ℕ, zero, suc, ◌+◌, ◌*◌, ◌^◌, ◌<◌, ◌≤◌, List, [], ◌∷◌, length, take, drop, map, refl, ap, sym, ◌∙◌, arith, Bool, true, false, Option, Some, None, length-drop, length-take}
-use Rattle.std.specs.Prelude.{codes, unwrap_or, option_map, nat_eq, nat_le, nat_lt, ◌==◌, ◌||◌, ◌&&◌, not, slice_index, ℤ, pos, ◌+ℤ◌}
+use Rattle.std.proofs.Common.{◌≡◌, ℕ, zero, suc, ◌+◌, ◌*◌, ◌^◌, ◌<◌, ◌≤◌, List, [], ◌∷◌, length, take, drop, map, subst, refl, ap, sym, ◌∙◌, arith, Bool, true, false, Option, Some, None, length-drop, length-take}
+use Rattle.std.specs.Prelude.{bytes_eq, codes, unwrap_or, option_map, nat_eq, nat_le, nat_lt, ◌==◌, ◌||◌, ◌&&◌, not, slice_index, ℤ, pos, ◌+ℤ◌}
 use Rattle.std.specs.List.{AllByRecursion, list_all}
 use Rattle.std.proofs.lemmas.Bool.Decides.{nat_tests}
 use Rattle.std.proofs.lemmas.List.Folds.{list_all-append}
 use Rattle.mp4_boxes.specs.Bytes.{field, rows}
-use Rattle.mp4_boxes.specs.Box.{Box}
-use Rattle.mp4_boxes.specs.Children.{count_among, payload_of, sample_sizes, chunk_offsets, one}
-use Rattle.mp4_boxes.specs.Layout.{ctts, stsc, stco, co64, IsSound, IsReadable, version, leaf_rows, needed, too_large, has_large_offset}
+use Rattle.mp4_boxes.specs.Box.{Box, box_container}
+use Rattle.mp4_boxes.specs.Children.{Holds, count_among, payload_of, sample_sizes, chunk_offsets, one}
+use Rattle.mp4_boxes.specs.Layout.{ctts, stsd, stsc, stco, co64, IsSound, IsReadable, version, leaf_rows, needed, too_large, has_large_offset}
 use Rattle.mp4_boxes.specs.BoxFaults.{fault_of}
 use Rattle.mp4_boxes.specs.declared.fault.Fault.{Fault}
 use Rattle.mp4_boxes.specs.declared.fault.Kind.TheVariants.{OffsetTooLarge}
+use Rattle.mp4_boxes.specs.declared.rule.Rule.TheVariants.{SampleTable}
+use Rattle.mp4_boxes.proofs.Among.{true_false}
 use Rattle.mp4_boxes.proofs.Refusing.{holds_only, holds_few, line_has}
 use Rattle.mp4_tables.specs.Repeated.{total}
 use Rattle.mp4_tables.specs.Tables.{ChunkRow, first_number, composition_offset, offsets_of, chunk_rows_of, chunk_offsets_of}
@@ -19,14 +21,14 @@ use Rattle.mp4_tables.specs.Rows.{HaveRoom, run_of, chunk_row_of, runs_at, chunk
 use Rattle.mp4_tables.specs.TableRules.{offset_counts, chunk_counts, chunk_order, description_indexes, test, kind_of, AreReadable, is_chunk_order, is_index}
 use Rattle.mp4_tables.specs.Coming.{all_below, are_described}
 use Rattle.mp4_tables.specs.Accepted.{composition_offsets_at, AreSmall, offset_version}
-use Rattle.mp4_tables.specs.Leaves.{boxes_of, HasTables, AllOf, IsFirstOf, IsFault, surroundings_of, ShapeFails, RowsRead, tables_in, SizesKnown, OffsetsRead, ChunksRead, ChunkRowsRead}
+use Rattle.mp4_tables.specs.Leaves.{boxes_of, HasTables, HasDescriptions, AllOf, IsFirstOf, IsFault, surroundings_of, ShapeFails, RowsRead, tables_in, SizesKnown, OffsetsRead, ChunksRead, ChunkRowsRead}
 use Rattle.mp4_tables.specs.declared.leaves.Limits.{Limits}
 use Rattle.mp4_tables.specs.declared.places.RowsAt.{RowsAt}
 use Rattle.mp4_tables.specs.declared.places.ChunksAt.{ChunksAt}
 use Rattle.mp4_tables.proofs.ChunkLists.{lt_yes, both}
 use Rattle.mp4_tables.proofs.RowLists.{numbers_length}
 use Rattle.mp4_tables.proofs.Counts.{eqb_is}
-use Rattle.mp4_tables.proofs.LeafLists.{payload_first, payload_none, all_first, all_none, count_each, lies_in, first_is_child, runs_there, chunk_rows_there, numbers_there, shape_fails, shape_readable}
+use Rattle.mp4_tables.proofs.LeafLists.{boxes_are, hit_counts, payload_first, payload_none, all_first, all_none, count_each, lies_in, first_is_child, runs_there, chunk_rows_there, numbers_there, shape_fails, shape_readable}
 use Rattle.mp4_tables.proofs.TableReads.{payload_is, readable_more, readable_join, named_by, rule_fault, first_fault, all_readable, rows_have}
 
 -- ---- composition offsets
@@ -34,7 +36,7 @@ ctts_needed : (payload : List ℕ) → needed ctts payload ≡ 8 + 8 * field pay
 ctts_needed payload = omega arith
 
 pub offsets_fail : (l : Limits) (stbl b : Box) (f : Fault) → IsFirstOf (codes "ctts") (boxes_of stbl) b → ShapeFails 1 8 8 b f → IsFault l stbl f
-offsets_fail l stbl b f i s = first_fault l stbl b (codes "ctts") ctts f i refl (shape_fails ctts 1 8 8 b f refl (ctts_needed b.payload) (omega arith) s)
+offsets_fail l stbl b f i s = first_fault l stbl b (codes "ctts") ctts f i refl refl (shape_fails ctts 1 8 8 b f refl (ctts_needed b.payload) (omega arith) s)
 
 offsets_readable : (stbl b : Box) (r : RowsAt) → RowsRead 1 8 8 stbl b r → IsReadable ctts b.payload
 offsets_readable stbl b r read = shape_readable ctts 1 8 8 stbl b r refl refl (ctts_needed b.payload) read
@@ -82,7 +84,7 @@ pub offsets_mismatch : (l : Limits) (stbl b : Box) (r : RowsAt) (n : ℕ) (f : F
     → f ≡ fault_of (kind_of offset_counts) b → IsFault l stbl f
 offsets_mismatch l stbl b r n f h i read k t s =
     rule_fault l stbl b (codes "ctts") offset_counts f h i
-    (λ _. readable_more (codes "ctts") sample_sizes (boxes_of stbl) (all_offsets_readable stbl b r h i read) k.readable) tt (λ e. absurd (no_chunks e))
+    (readable_more (codes "ctts") sample_sizes (boxes_of stbl) (all_offsets_readable stbl b r h i read) k.readable) tt (λ e. absurd (no_chunks e))
     (total_of stbl b r n (length (tables_in stbl).sizes) false h i read k.count t) (named_by (codes "ctts") (boxes_of stbl) b i []) s
   where
     no_chunks : false ≡ true → ⊥
@@ -115,7 +117,7 @@ offset_is_large stbl b r v h i read z t =
 pub offsets_large : (l : Limits) (stbl b : Box) (r : RowsAt) (f : Fault) → HasTables stbl → IsFirstOf (codes "ctts") (boxes_of stbl) b → RowsRead 1 8 8 stbl b r → version b.payload ≡ 0 → all_below (2 ^ 31) (runs_at stbl.payload r) ≡ false
     → f ≡ fault_of OffsetTooLarge b → IsFault l stbl f
 offsets_large l stbl b r f h i read z t s =
-    first_fault l stbl b (codes "ctts") ctts f i refl (record { kind = OffsetTooLarge; fails = (offsets_readable stbl b r read, offset_is_large stbl b r true h i read z t); named = s })
+    first_fault l stbl b (codes "ctts") ctts f i refl refl (record { kind = OffsetTooLarge; fails = (offsets_readable stbl b r read, offset_is_large stbl b r true h i read z t); named = s })
 
 small_rows : (runs : List (ℕ × ℕ)) → all_below (2 ^ 31) runs ≡ true → AllByRecursion (λ (run : ℕ × ℕ). run.1 < 2 ^ 31) runs
 small_rows [] e = tt
@@ -159,10 +161,10 @@ co64_needed : (payload : List ℕ) → needed co64 payload ≡ 8 + 8 * field pay
 co64_needed payload = omega arith
 
 pub narrow_fail : (l : Limits) (stbl b : Box) (f : Fault) → IsFirstOf (codes "stco") (boxes_of stbl) b → ShapeFails 0 8 4 b f → IsFault l stbl f
-narrow_fail l stbl b f i s = first_fault l stbl b (codes "stco") stco f i refl (shape_fails stco 0 8 4 b f refl (stco_needed b.payload) (omega arith) s)
+narrow_fail l stbl b f i s = first_fault l stbl b (codes "stco") stco f i refl refl (shape_fails stco 0 8 4 b f refl (stco_needed b.payload) (omega arith) s)
 
 pub wide_fail : (l : Limits) (stbl b : Box) (f : Fault) → IsFirstOf (codes "co64") (boxes_of stbl) b → ShapeFails 0 8 8 b f → IsFault l stbl f
-wide_fail l stbl b f i s = first_fault l stbl b (codes "co64") co64 f i refl (shape_fails co64 0 8 8 b f refl (co64_needed b.payload) (omega arith) s)
+wide_fail l stbl b f i s = first_fault l stbl b (codes "co64") co64 f i refl refl (shape_fails co64 0 8 8 b f refl (co64_needed b.payload) (omega arith) s)
 
 one_of_both : (stbl : Box) → HasTables stbl → count_among (codes "stco" ∷ []) (boxes_of stbl) + count_among (codes "co64" ∷ []) (boxes_of stbl) ≡ 1
 one_of_both stbl h = count_each (codes "stco") (codes "co64") (boxes_of stbl) refl ∙ line_has h (codes "stco") (record { kinds = chunk_offsets; quantity = one }) refl
@@ -207,7 +209,7 @@ stsc_needed : (payload : List ℕ) → needed stsc payload ≡ 8 + 12 * field pa
 stsc_needed payload = omega arith
 
 pub chunk_rows_fail : (l : Limits) (stbl b : Box) (f : Fault) → IsFirstOf (codes "stsc") (boxes_of stbl) b → ShapeFails 0 8 12 b f → IsFault l stbl f
-chunk_rows_fail l stbl b f i s = first_fault l stbl b (codes "stsc") stsc f i refl (shape_fails stsc 0 8 12 b f refl (stsc_needed b.payload) (omega arith) s)
+chunk_rows_fail l stbl b f i s = first_fault l stbl b (codes "stsc") stsc f i refl refl (shape_fails stsc 0 8 12 b f refl (stsc_needed b.payload) (omega arith) s)
 
 chunk_rows_sound : (stbl b : Box) (r : RowsAt) → HasTables stbl → IsFirstOf (codes "stsc") (boxes_of stbl) b → RowsRead 0 8 12 stbl b r → AllOf (codes "stsc") (IsSound stsc) (boxes_of stbl)
 chunk_rows_sound stbl b r h i read =
@@ -243,10 +245,25 @@ no_readable (b ∷ boxes) = ((λ m. absurd (never m)), no_readable boxes)
     never : false ≡ true → ⊥
     never m = cc
 
+-- of at most one box of a type, what holds of the payload that is read holds of all
+only_all : (kind : List ℕ) (P : List ℕ → Type 0) (boxes : List Box) → count_among (kind ∷ []) boxes ≤ 1 → P (payload_of kind boxes) → AllOf kind P boxes
+only_all kind P [] n p = tt
+only_all kind P (c ∷ boxes) n p = either (bytes_eq kind c.kind) refl (only_all kind P boxes)
+  where
+    either : (v : Bool) → bytes_eq kind c.kind ≡ v → (count_among (kind ∷ []) boxes ≤ 1 → P (payload_of kind boxes) → AllOf kind P boxes) → AllOf kind P (c ∷ boxes)
+    either true e more = (λ _. (rw e at p), all_none kind P boxes (omega (arith, n, hit_counts kind c boxes e)))
+    either false e more = let m : 0 + count_among (kind ∷ []) boxes ≤ 1 = rw e at n in (λ f. absurd (true_false (bytes_eq kind c.kind) f e), more (omega (arith, m)) (rw e at p))
+
+-- a sound `stsd` counts the descriptions
+pub has_descriptions : (stbl : Box) (boxes : List Box) → Holds SampleTable (box_container stbl) boxes → IsSound stsd (payload_of (codes "stsd") boxes) → HasDescriptions stbl
+has_descriptions stbl boxes h s =
+    let readable = readable_more (codes "stsd") [] boxes (only_all (codes "stsd") (IsReadable stsd) boxes (omega (arith, holds_only h (codes "stsd") refl)) s.readable) (no_readable boxes) in
+    subst (λ (bs : List Box). AreReadable (codes "stsd" ∷ []) bs) (sym (boxes_are stbl boxes h.tiles)) readable
+
 pub chunk_rows_disorder : (l : Limits) (stbl b : Box) (at : ChunksAt) (r : RowsAt) (f : Fault) → HasTables stbl → IsFirstOf (codes "stsc") (boxes_of stbl) b → RowsRead 0 8 12 stbl b r → ChunksRead stbl at
     → is_chunk_order (map (λ (row : ChunkRow). row.first) (chunk_rows_at stbl.payload r)) (nat_lt 0 at.rows.count) ≡ false → f ≡ fault_of (kind_of chunk_order) b → IsFault l stbl f
 chunk_rows_disorder l stbl b at r f h i read k t s =
-    rule_fault l stbl b (codes "stsc") chunk_order f h i (λ _. chunks_readable stbl b at r [] h i read k (no_readable (boxes_of stbl))) tt (λ e. absurd (never e))
+    rule_fault l stbl b (codes "stsc") chunk_order f h i (chunks_readable stbl b at r [] h i read k (no_readable (boxes_of stbl))) tt (λ e. absurd (never e))
     (order_as l stbl b at r false h i read k t) (named_by (codes "stsc") (boxes_of stbl) b i []) s
   where
     never : false ≡ true → ⊥
@@ -261,7 +278,7 @@ pub chunk_rows_mismatch : (l : Limits) (stbl b : Box) (at : ChunksAt) (r : RowsA
     → is_chunk_order (map (λ (row : ChunkRow). row.first) (chunk_rows_at stbl.payload r)) (nat_lt 0 at.rows.count) ≡ true
     → (in_chunks_total (chunk_rows_at stbl.payload r) 1 (offsets_at stbl.payload at) == n) ≡ false → f ≡ fault_of (kind_of chunk_counts) b → IsFault l stbl f
 chunk_rows_mismatch l stbl b at r n f h i read k sizes o t s =
-    rule_fault l stbl b (codes "stsc") chunk_counts f h i (λ _. chunks_readable stbl b at r sample_sizes h i read k sizes.readable) tt (λ _. order_as l stbl b at r true h i read k o)
+    rule_fault l stbl b (codes "stsc") chunk_counts f h i (chunks_readable stbl b at r sample_sizes h i read k sizes.readable) tt (λ _. order_as l stbl b at r true h i read k o)
     (counts_as stbl b at r n (length (tables_in stbl).sizes) false h i read k sizes.count t) (named_by (codes "stsc") (boxes_of stbl) b i []) s
 
 laid_described : (n : ℕ) (at : ℤ) (description : ℕ) (sizes : List ℕ) → list_all (λ (spot : Spot). is_index n spot.description) (laid_out at description sizes) ≡ (nat_eq (length sizes) 0 || is_index n description)
@@ -289,7 +306,7 @@ spots_described n rows c (offset ∷ offsets) sizes h =
     list_all-append (λ (spot : Spot). is_index n spot.description) (laid_out (pos offset) r.description (take r.count sizes)) (in_chunks rows (c + 1) offsets (drop r.count sizes))
     ∙ (λ j. first j && more j)
 
-described_as : (l : Limits) (stbl b : Box) (at : ChunksAt) (r : RowsAt) (n : ℕ) (v : Bool) → HasTables stbl → IsFirstOf (codes "stsc") (boxes_of stbl) b → RowsRead 0 8 12 stbl b r → ChunksRead stbl at → SizesKnown stbl n
+pub described_as : (l : Limits) (stbl b : Box) (at : ChunksAt) (r : RowsAt) (n : ℕ) (v : Bool) → HasTables stbl → IsFirstOf (codes "stsc") (boxes_of stbl) b → RowsRead 0 8 12 stbl b r → ChunksRead stbl at → SizesKnown stbl n
     → (in_chunks_total (chunk_rows_at stbl.payload r) 1 (offsets_at stbl.payload at) == n) ≡ true → are_described l.descriptions (chunk_rows_at stbl.payload r) 1 (offsets_at stbl.payload at) ≡ v → test description_indexes (surroundings_of l) (tables_in stbl) ≡ v
 described_as l stbl b at r n v h i read k sizes e t =
     let same = eqb_is (in_chunks_total (tables_in stbl).chunk_rows 1 (tables_in stbl).chunk_offsets) n (counts_as stbl b at r n n true h i read k refl e) in
@@ -297,12 +314,12 @@ described_as l stbl b at r n v h i read k sizes e t =
     spots_described l.descriptions (tables_in stbl).chunk_rows 1 (tables_in stbl).chunk_offsets (tables_in stbl).sizes (omega arith)
     ∙ (let c = sym k.same in let d = sym (chunk_rows_same stbl b r h i read) in λ j. are_described l.descriptions (d j) 1 (c j)) ∙ t
 
-pub chunk_rows_undescribed : (l : Limits) (stbl b : Box) (at : ChunksAt) (r : RowsAt) (n : ℕ) (f : Fault) → HasTables stbl → IsFirstOf (codes "stsc") (boxes_of stbl) b → RowsRead 0 8 12 stbl b r → ChunksRead stbl at → SizesKnown stbl n
+pub chunk_rows_undescribed : (l : Limits) (stbl b : Box) (at : ChunksAt) (r : RowsAt) (n : ℕ) (f : Fault) → HasTables stbl → HasDescriptions stbl → IsFirstOf (codes "stsc") (boxes_of stbl) b → RowsRead 0 8 12 stbl b r → ChunksRead stbl at → SizesKnown stbl n
     → is_chunk_order (map (λ (row : ChunkRow). row.first) (chunk_rows_at stbl.payload r)) (nat_lt 0 at.rows.count) ≡ true → (in_chunks_total (chunk_rows_at stbl.payload r) 1 (offsets_at stbl.payload at) == n) ≡ true
     → are_described l.descriptions (chunk_rows_at stbl.payload r) 1 (offsets_at stbl.payload at) ≡ false → f ≡ fault_of (kind_of description_indexes) b → IsFault l stbl f
-chunk_rows_undescribed l stbl b at r n f h i read k sizes o e t s =
+chunk_rows_undescribed l stbl b at r n f h d i read k sizes o e t s =
     rule_fault l stbl b (codes "stsc") description_indexes f h i
-    (λ d. readable_join (codes "stsd") (codes "stsc" ∷ codes "stco" ∷ codes "co64" ∷ sample_sizes) (boxes_of stbl) d (chunks_readable stbl b at r sample_sizes h i read k sizes.readable)) tt (λ _. order_as l stbl b at r true h i read k o)
+    (readable_join (codes "stsd") (codes "stsc" ∷ codes "stco" ∷ codes "co64" ∷ sample_sizes) (boxes_of stbl) d (chunks_readable stbl b at r sample_sizes h i read k sizes.readable)) tt (λ _. order_as l stbl b at r true h i read k o)
     (described_as l stbl b at r n false h i read k sizes e t) (named_by (codes "stsc") (boxes_of stbl) b i []) s
 
 pub chunk_rows_read : (l : Limits) (stbl b : Box) (at : ChunksAt) (r : RowsAt) (n : ℕ) → HasTables stbl → IsFirstOf (codes "stsc") (boxes_of stbl) b → RowsRead 0 8 12 stbl b r → ChunksRead stbl at → SizesKnown stbl n

@@ -304,6 +304,7 @@ child_fault l stbl b n at left later f h s p e (inl d) = inl (record {
   b = b;
   after = later;
   stands = p.is ∙ ap (λ bs. p.passed ++ bs) e;
+  table = ap (bytes_eq (codes "stsd")) (same_kind (codes "sgpd") b.kind d.0);
   leaf = sgpd;
   read = ap (leaf_of (ruled SampleTable)) (same_kind (codes "sgpd") b.kind d.0);
   fails = d.1;
@@ -313,6 +314,7 @@ child_fault l stbl b n at left later f h s p e (inr (k, inl d)) = inl (record {
   b = b;
   after = later;
   stands = p.is ∙ ap (λ bs. p.passed ++ bs) e;
+  table = ap (bytes_eq (codes "stsd")) (same_kind (codes "sbgp") b.kind k);
   leaf = sbgp;
   read = ap (leaf_of (ruled SampleTable)) (same_kind (codes "sbgp") b.kind k);
   fails = d;
@@ -328,7 +330,7 @@ child_fault l stbl b n at left later f h s p e (inr (k, inr r)) =
     let front : take (length G) gs ≡ groupings_of G = ap (λ bs. take (length G) (groupings_of bs)) split ∙ taken_in (λ (c : Box). grouping_of c.payload) G (b ∷ M) in
     let fails : group_test r.rule (length (tables_in stbl).sizes) [] gs (length G) ≡ false =
     ap (λ x. group_test r.rule x [] gs (length G)) m ∙ test_at r.rule n (length G) gs (grouping_of b.payload) false found (ap (λ before. keeps r.rule n [] before (grouping_of b.payload)) front ∙ r.fails (groupings_of G) p.so) in
-    inr (inl (λ d. record {
+    inr (inl (record {
       children = boxes_of stbl;
       holds = h;
       rule = table_group r.rule (length G);

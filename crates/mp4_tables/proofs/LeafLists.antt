@@ -1,6 +1,6 @@
 -- The children of an `stbl`: the first of a type, where it lies, and what holds of all of a type.
 use Rattle.std.proofs.Common.{◌≡◌, ℕ, zero, suc, ◌+◌, ◌-◌, ◌*◌, ◌≤◌, inl, inr, List, [], ◌∷◌, ◌++◌, length, take, drop, subst, refl, ap, sym, ◌∙◌, arith, Bool, true, false, Some, None, length-take, length-drop, append_assoc}
-use Rattle.std.specs.Prelude.{bytes_eq, nat_eq, Result, Ok, Err, map}
+use Rattle.std.specs.Prelude.{bytes_eq, codes, nat_eq, Result, Ok, Err, map}
 use Rattle.std.specs.List.{AllByRecursion}
 use Rattle.std.proofs.lemmas.List.{drop-drop, drop-take}
 use Rattle.std.proofs.lemmas.Bool.Decides.{nat_tests}
@@ -27,7 +27,7 @@ use Rattle.mp4_tables.specs.TableRules.{AreReadable, IsReadableAs}
 use Rattle.mp4_tables.specs.Leaves.{boxes_of, HasTables, AllOf, IsFirstOf, LiesIn, IsChild, FailsAs, IsLeafFaultAmong, VersionFails, ShapeFails, RowsRead}
 
 -- a box of a type counts
-hit_counts : (kind : List ℕ) (b : Box) (bs : List Box) → bytes_eq kind b.kind ≡ true → count_among (kind ∷ []) (b ∷ bs) ≡ 1 + count_among (kind ∷ []) bs
+pub hit_counts : (kind : List ℕ) (b : Box) (bs : List Box) → bytes_eq kind b.kind ≡ true → count_among (kind ∷ []) (b ∷ bs) ≡ 1 + count_among (kind ∷ []) bs
 hit_counts kind b bs e = rw e refl
 
 -- a box in front, where its header can be read
@@ -179,12 +179,13 @@ count_each a b (c ∷ boxes) e = step (bytes_eq a c.kind) (bytes_eq b c.kind) re
     step false false f g h = rw (f, g) (omega (arith, h))
 
 -- a fault of the first of a type
-pub leaf_fault : (kind : List ℕ) (boxes : List Box) (b : Box) (leaf : Leaf) (f : Fault) → IsFirstOf kind boxes b → leaf_of (ruled SampleTable) kind ≡ Some leaf → FailsAs leaf b f → IsLeafFaultAmong boxes f
-leaf_fault kind boxes b leaf f i e h = record {
+pub leaf_fault : (kind : List ℕ) (boxes : List Box) (b : Box) (leaf : Leaf) (f : Fault) → IsFirstOf kind boxes b → bytes_eq (codes "stsd") kind ≡ false → leaf_of (ruled SampleTable) kind ≡ Some leaf → FailsAs leaf b f → IsLeafFaultAmong boxes f
+leaf_fault kind boxes b leaf f i t e h = record {
   before = i.before;
   b = b;
   after = i.after;
   stands = i.is;
+  table = ap (bytes_eq (codes "stsd")) (same_kind kind b.kind i.same) ∙ t;
   leaf = leaf;
   read = ap (leaf_of (ruled SampleTable)) (same_kind kind b.kind i.same) ∙ e;
   fails = h;

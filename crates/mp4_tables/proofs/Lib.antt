@@ -1,6 +1,7 @@
 pub mod Counts
 pub mod RowLists
 pub mod Assembly
+pub mod Excludes
 pub mod GroupReads
 pub mod PlaceReads
 pub mod SizeReads

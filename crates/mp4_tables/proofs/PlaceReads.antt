@@ -41,9 +41,9 @@ places_readable l stbl n sizes at r s k h =
 pub places_outside : (l : Limits) (stbl b : Box) (n : ℕ) (sizes : SizesAt) (at : ChunksAt) (r : RowsAt) (f : Fault) → HasTables stbl → IsOffsetsLeaf stbl b → SizesRead l stbl sizes → ChunksRead stbl at → ChunkRowsRead l stbl n r
     → all_lie_within l.file_len (in_chunks (chunk_rows_at stbl.payload r) 1 (offsets_at stbl.payload at) (sizes_at stbl.payload sizes)) ≡ false → f ≡ fault_of (kind_of places) b → IsFault l stbl f
 places_outside l stbl b n sizes at r f h (inl i) s k c t e =
-    rule_fault l stbl b (codes "stco") places f h i (λ _. places_readable l stbl n sizes at r s k c) tt (λ _. c.ordered) (places_as l stbl n sizes at r false s k c t) (rw i.same refl) e
+    rule_fault l stbl b (codes "stco") places f h i (places_readable l stbl n sizes at r s k c) tt (λ _. c.ordered) (places_as l stbl n sizes at r false s k c t) (rw i.same refl) e
 places_outside l stbl b n sizes at r f h (inr i) s k c t e =
-    rule_fault l stbl b (codes "co64") places f h i (λ _. places_readable l stbl n sizes at r s k c) tt (λ _. c.ordered) (places_as l stbl n sizes at r false s k c t) (either (bytes_eq (codes "stco") b.kind) refl) e
+    rule_fault l stbl b (codes "co64") places f h i (places_readable l stbl n sizes at r s k c) tt (λ _. c.ordered) (places_as l stbl n sizes at r false s k c t) (either (bytes_eq (codes "stco") b.kind) refl) e
   where
     either : (v : Bool) → bytes_eq (codes "stco") b.kind ≡ v → is_among (codes "stco" ∷ codes "co64" ∷ []) b.kind ≡ true
     either true g = rw g refl

@@ -125,7 +125,7 @@ half_odd (suc m) (suc (suc n)) bytes h =
     let up : 1 + m ≡ suc m = omega arith in
     rw (f, e) (half_odd m n (drop 1 bytes) (omega arith) ∙ ap (λ x. x % 16 ∷ drop (2 * m + 2) (half_bytes n (drop 1 bytes))) (field_behind 1 m 1 bytes ∙ ap (λ j. field bytes j 1) up))
 
-half_length : (n : ℕ) (bytes : List ℕ) → length (half_bytes n bytes) ≡ n
+pub half_length : (n : ℕ) (bytes : List ℕ) → length (half_bytes n bytes) ≡ n
 half_length zero bytes = refl
 half_length (suc zero) bytes = refl
 half_length (suc (suc n)) bytes = ap suc (ap suc (half_length n (drop 1 bytes)))

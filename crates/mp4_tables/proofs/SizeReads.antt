@@ -27,7 +27,7 @@ use Rattle.mp4_tables.proofs.LeafLists.{payload_first, payload_none, all_first, 
 use Rattle.mp4_tables.proofs.TableReads.{payload_is, readable_more, first_fault, all_readable}
 use Rattle.mp4_tables.proofs.ChunkReads.{first_counts, no_readable}
 
-one_of_both : (stbl : Box) → HasTables stbl → count_among (codes "stsz" ∷ []) (boxes_of stbl) + count_among (codes "stz2" ∷ []) (boxes_of stbl) ≡ 1
+pub one_of_both : (stbl : Box) → HasTables stbl → count_among (codes "stsz" ∷ []) (boxes_of stbl) + count_among (codes "stz2" ∷ []) (boxes_of stbl) ≡ 1
 one_of_both stbl h = count_each (codes "stsz") (codes "stz2") (boxes_of stbl) refl ∙ line_has h (codes "stsz") (record { kinds = sample_sizes; quantity = one }) refl
 
 -- without `stsz` there is `stz2`
@@ -51,16 +51,16 @@ words_needed payload v e =
     let c = ap (λ b. cond b (field payload 8 4) 0) e in omega arith
 
 pub words_version : (l : Limits) (stbl b : Box) (f : Fault) → IsFirstOf (codes "stsz") (boxes_of stbl) b → VersionFails 0 b f → IsFault l stbl f
-words_version l stbl b f i s = first_fault l stbl b (codes "stsz") stsz f i refl (version_fails stsz 0 b f refl (omega arith) s)
+words_version l stbl b f i s = first_fault l stbl b (codes "stsz") stsz f i refl refl (version_fails stsz 0 b f refl (omega arith) s)
 
 pub words_short : (l : Limits) (stbl b : Box) (f : Fault) → IsFirstOf (codes "stsz") (boxes_of stbl) b → length b.payload < 12 → f ≡ fault_of ShortBox b → IsFault l stbl f
-words_short l stbl b f i s n = first_fault l stbl b (codes "stsz") stsz f i refl (record { kind = ShortBox; fails = omega arith; named = n })
+words_short l stbl b f i s n = first_fault l stbl b (codes "stsz") stsz f i refl refl (record { kind = ShortBox; fails = omega arith; named = n })
 
 pub words_rows_short : (l : Limits) (stbl b : Box) (f : Fault) → IsFirstOf (codes "stsz") (boxes_of stbl) b → field b.payload 4 4 ≡ 0 → length b.payload < 12 + 4 * field b.payload 8 4 → f ≡ fault_of ShortBox b → IsFault l stbl f
 words_rows_short l stbl b f i z s n =
     let y : (field b.payload 4 4 == 0) ≡ true = grind (arith, nat_tests) in
     let m = words_needed b.payload true y in
-    first_fault l stbl b (codes "stsz") stsz f i refl (record { kind = ShortBox; fails = omega arith; named = n })
+    first_fault l stbl b (codes "stsz") stsz f i refl refl (record { kind = ShortBox; fails = omega arith; named = n })
 
 -- there is room for the sizes of a `stsz`, where it has them
 abbrev pub WordsHave : Box → Bool → Type 0
@@ -129,10 +129,10 @@ compact_needed : (payload : List ℕ) → needed stz2 payload ≡ 12 + rows_size
 compact_needed payload = omega arith
 
 pub compact_version : (l : Limits) (stbl b : Box) (f : Fault) → IsFirstOf (codes "stz2") (boxes_of stbl) b → VersionFails 0 b f → IsFault l stbl f
-compact_version l stbl b f i s = first_fault l stbl b (codes "stz2") stz2 f i refl (version_fails stz2 0 b f refl (let n = compact_needed b.payload in omega arith) s)
+compact_version l stbl b f i s = first_fault l stbl b (codes "stz2") stz2 f i refl refl (version_fails stz2 0 b f refl (let n = compact_needed b.payload in omega arith) s)
 
 pub compact_short : (l : Limits) (stbl b : Box) (f : Fault) → IsFirstOf (codes "stz2") (boxes_of stbl) b → length b.payload < 12 + rows_size stz2 b.payload → f ≡ fault_of ShortBox b → IsFault l stbl f
-compact_short l stbl b f i s n = first_fault l stbl b (codes "stz2") stz2 f i refl (record { kind = ShortBox; fails = (let m = compact_needed b.payload in omega arith); named = n })
+compact_short l stbl b f i s n = first_fault l stbl b (codes "stz2") stz2 f i refl refl (record { kind = ShortBox; fails = (let m = compact_needed b.payload in omega arith); named = n })
 
 compact_readable : (b : Box) → version b.payload ≤ 0 → 12 + rows_size stz2 b.payload ≤ length b.payload → IsReadable stz2 b.payload
 compact_readable b v h = record { version = yes_le (version b.payload) 0 v; flags = refl; room = (let n = compact_needed b.payload in omega arith) }
@@ -157,7 +157,7 @@ compact_many l stbl b f h none i v w many s = inr (inr (record {
     among false e = rw (e, i.same) refl
 
 pub compact_value : (l : Limits) (stbl b : Box) (f : Fault) → IsFirstOf (codes "stz2") (boxes_of stbl) b → version b.payload ≤ 0 → 12 + rows_size stz2 b.payload ≤ length b.payload → is_size_bits (size_bits b.payload) ≡ false → f ≡ fault_of BadValue b → IsFault l stbl f
-compact_value l stbl b f i v w e n = first_fault l stbl b (codes "stz2") stz2 f i refl (record { kind = BadValue; fails = (compact_readable b v w, ap not e); named = n })
+compact_value l stbl b f i v w e n = first_fault l stbl b (codes "stz2") stz2 f i refl refl (record { kind = BadValue; fails = (compact_readable b v w, ap not e); named = n })
 
 half_cut : (n m : ℕ) (bytes : List ℕ) → n ≤ 2 * m → half_bytes n (take m bytes) ≡ half_bytes n bytes
 half_cut zero m bytes h = refl

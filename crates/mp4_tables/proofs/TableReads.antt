@@ -53,15 +53,15 @@ named_by kind boxes b i kinds = rw i.same refl
 
 -- a rule that fails is a fault of the first of a type
 pub rule_fault : (l : Limits) (stbl b : Box) (kind : List ℕ) (rule : TableRule) (f : Fault) → HasTables stbl → IsFirstOf kind (boxes_of stbl) b
-    → (AreReadable (codes "stsd" ∷ []) (boxes_of stbl) → AreReadable (reads rule) (boxes_of stbl))
+    → AreReadable (reads rule) (boxes_of stbl)
     → GroupsReadable (reads_groups rule (of_kind (codes "sbgp") (boxes_of stbl)))
     → (goes_by_chunks rule ≡ true → IsTrue (test chunk_order (surroundings_of l) (tables_in stbl)))
     → test rule (surroundings_of l) (tables_in stbl) ≡ false → IsNamed rule (boxes_of stbl) b → f ≡ fault_of (kind_of rule) b → IsFault l stbl f
-rule_fault l stbl b kind rule f h i r g o t n s = inr (inl (λ d. record {
+rule_fault l stbl b kind rule f h i r g o t n s = inr (inl (record {
   children = boxes_of stbl;
   holds = h;
   rule = rule;
-  readable = r d;
+  readable = r;
   groups_readable = g;
   ordered = o;
   fails = t;
@@ -74,15 +74,15 @@ rule_fault l stbl b kind rule f h i r g o t n s = inr (inl (λ d. record {
 }))
 
 -- a fault of the first of a type
-pub first_fault : (l : Limits) (stbl b : Box) (kind : List ℕ) (leaf : Leaf) (f : Fault) → IsFirstOf kind (boxes_of stbl) b → leaf_of (ruled SampleTable) kind ≡ Some leaf → FailsAs leaf b f → IsFault l stbl f
-first_fault l stbl b kind leaf f i e h = inl (leaf_fault kind (boxes_of stbl) b leaf f i e h)
+pub first_fault : (l : Limits) (stbl b : Box) (kind : List ℕ) (leaf : Leaf) (f : Fault) → IsFirstOf kind (boxes_of stbl) b → bytes_eq (codes "stsd") kind ≡ false → leaf_of (ruled SampleTable) kind ≡ Some leaf → FailsAs leaf b f → IsFault l stbl f
+first_fault l stbl b kind leaf f i t e h = inl (leaf_fault kind (boxes_of stbl) b leaf f i t e h)
 
 -- ---- durations
 stts_needed : (payload : List ℕ) → needed stts payload ≡ 8 + 8 * field payload 4 4
 stts_needed payload = omega arith
 
 pub durations_fail : (l : Limits) (stbl b : Box) (f : Fault) → IsFirstOf (codes "stts") (boxes_of stbl) b → ShapeFails 0 8 8 b f → IsFault l stbl f
-durations_fail l stbl b f i s = first_fault l stbl b (codes "stts") stts f i refl (shape_fails stts 0 8 8 b f refl (stts_needed b.payload) (omega arith) s)
+durations_fail l stbl b f i s = first_fault l stbl b (codes "stts") stts f i refl refl (shape_fails stts 0 8 8 b f refl (stts_needed b.payload) (omega arith) s)
 
 durations_sound : (stbl b : Box) (r : RowsAt) → HasTables stbl → IsFirstOf (codes "stts") (boxes_of stbl) b → RowsRead 0 8 8 stbl b r → AllOf (codes "stts") (IsSound stts) (boxes_of stbl)
 durations_sound stbl b r h i read =
@@ -111,7 +111,7 @@ pub durations_mismatch : (l : Limits) (stbl b : Box) (r : RowsAt) (n : ℕ) (f :
     → f ≡ fault_of (kind_of duration_counts) b → IsFault l stbl f
 durations_mismatch l stbl b r n f h i read k t s =
     rule_fault l stbl b (codes "stts") duration_counts f h i
-    (λ _. readable_more (codes "stts") sample_sizes (boxes_of stbl) (all_readable (codes "stts") stts (boxes_of stbl) (durations_sound stbl b r h i read)) k.readable) tt (λ e. absurd (no_chunks e))
+    (readable_more (codes "stts") sample_sizes (boxes_of stbl) (all_readable (codes "stts") stts (boxes_of stbl) (durations_sound stbl b r h i read)) k.readable) tt (λ e. absurd (no_chunks e))
     ((let c = k.count in let d = sym (durations_same stbl b r h i read) in λ j. total (d j) == c j) ∙ t) (named_by (codes "stts") (boxes_of stbl) b i []) s
   where
     no_chunks : false ≡ true → ⊥
@@ -126,7 +126,7 @@ stss_needed : (payload : List ℕ) → needed stss payload ≡ 8 + 4 * field pay
 stss_needed payload = omega arith
 
 pub sync_fail : (l : Limits) (stbl b : Box) (f : Fault) → IsFirstOf (codes "stss") (boxes_of stbl) b → ShapeFails 0 8 4 b f → IsFault l stbl f
-sync_fail l stbl b f i s = first_fault l stbl b (codes "stss") stss f i refl (shape_fails stss 0 8 4 b f refl (stss_needed b.payload) (omega arith) s)
+sync_fail l stbl b f i s = first_fault l stbl b (codes "stss") stss f i refl refl (shape_fails stss 0 8 4 b f refl (stss_needed b.payload) (omega arith) s)
 
 sync_sound : (stbl b : Box) (r : RowsAt) → HasTables stbl → IsFirstOf (codes "stss") (boxes_of stbl) b → RowsRead 0 8 4 stbl b r → AllOf (codes "stss") (IsSound stss) (boxes_of stbl)
 sync_sound stbl b r h i read =
@@ -155,7 +155,7 @@ pub sync_disorder : (l : Limits) (stbl b : Box) (r : RowsAt) (n : ℕ) (f : Faul
     → f ≡ fault_of (kind_of sync_order) b → IsFault l stbl f
 sync_disorder l stbl b r n f h i read k t s =
     rule_fault l stbl b (codes "stss") sync_order f h i
-    (λ _. readable_more (codes "stss") sample_sizes (boxes_of stbl) (all_readable (codes "stss") stss (boxes_of stbl) (sync_sound stbl b r h i read)) k.readable) tt (λ e. absurd (no_chunks e))
+    (readable_more (codes "stss") sample_sizes (boxes_of stbl) (all_readable (codes "stss") stss (boxes_of stbl) (sync_sound stbl b r h i read)) k.readable) tt (λ e. absurd (no_chunks e))
     ((let c = k.count in let d = sync_is stbl b r h i read in λ j. unwrap_or (option_map (is_sync_order (c j)) (d j)) true) ∙ t) (named_by (codes "stss") (boxes_of stbl) b i []) s
   where
     no_chunks : false ≡ true → ⊥
@@ -163,7 +163,7 @@ sync_disorder l stbl b r n f h i read k t s =
 
 -- ---- dependencies
 pub dependencies_version : (l : Limits) (stbl b : Box) (f : Fault) → IsFirstOf (codes "sdtp") (boxes_of stbl) b → VersionFails 0 b f → IsFault l stbl f
-dependencies_version l stbl b f i s = first_fault l stbl b (codes "sdtp") sdtp f i refl (version_fails sdtp 0 b f refl (omega arith) s)
+dependencies_version l stbl b f i s = first_fault l stbl b (codes "sdtp") sdtp f i refl refl (version_fails sdtp 0 b f refl (omega arith) s)
 
 dependencies_sound : (stbl b : Box) → HasTables stbl → IsFirstOf (codes "sdtp") (boxes_of stbl) b → version b.payload ≤ 0 → 4 ≤ length b.payload → AllOf (codes "sdtp") (IsSound sdtp) (boxes_of stbl)
 dependencies_sound stbl b h i v n =
@@ -198,7 +198,7 @@ pub dependencies_short : (l : Limits) (stbl b : Box) (n : ℕ) (f : Fault) → H
 dependencies_short l stbl b n f h i v long k short s =
     let few : nat_le n (length (drop 4 b.payload)) ≡ false = no_le n (length (drop 4 b.payload)) (omega (arith, length-drop 4 b.payload)) in
     rule_fault l stbl b (codes "sdtp") dependency_room f h i
-    (λ _. readable_more (codes "sdtp") sample_sizes (boxes_of stbl) (all_readable (codes "sdtp") sdtp (boxes_of stbl) (dependencies_sound stbl b h i v long)) k.readable) tt (λ e. absurd (no_chunks e))
+    (readable_more (codes "sdtp") sample_sizes (boxes_of stbl) (all_readable (codes "sdtp") sdtp (boxes_of stbl) (dependencies_sound stbl b h i v long)) k.readable) tt (λ e. absurd (no_chunks e))
     ((let c = k.count in let d = dependencies_is stbl b i in λ j. unwrap_or (option_map (λ (bytes : List ℕ). nat_le (c j) (length bytes)) (d j)) true) ∙ few) (named_by (codes "sdtp") (boxes_of stbl) b i []) s
   where
     no_chunks : false ≡ true → ⊥

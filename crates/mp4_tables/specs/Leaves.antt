@@ -69,12 +69,13 @@ pub record FailsAs (leaf : Leaf) (b : Box) (f : Fault) : Type 0 where
   pub fails : Fails leaf b.payload kind
   pub named : f ≡ fault_of kind b
 
--- it is true of one of these boxes
+-- it is true of one of these boxes, which is not the `stsd`
 pub record IsLeafFaultAmong (boxes : List Box) (f : Fault) : Type 0 where
   pub before : List Box
   pub b : Box
   pub after : List Box
   pub stands : boxes ≡ before ++ b ∷ after
+  pub table : bytes_eq (codes "stsd") b.kind ≡ false
   pub leaf : Leaf
   pub read : leaf_of (ruled SampleTable) b.kind ≡ Some leaf
   pub fails : FailsAs leaf b f
@@ -93,9 +94,13 @@ pub record IsTooMany (room : ℕ) (boxes : List Box) (f : Fault) : Type 0 where
 abbrev pub surroundings_of : Limits → Surroundings
 surroundings_of l = record { file_length = l.file_len; descriptions = l.descriptions }
 
--- A fault that a check of the tables names: of one leaf, of a rule that they keep together (where `stsd`, which counts the descriptions, can be read), or of their number.
+-- the `stsd`, which counts the descriptions, can be read
+abbrev pub HasDescriptions : Box → Type 0
+HasDescriptions stbl = AreReadable (codes "stsd" ∷ []) (boxes_of stbl)
+
+-- A fault that a check of the tables names: of one leaf, of a rule that they keep together, or of their number.
 abbrev pub IsFault : Limits → Box → Fault → Type 0
-IsFault l stbl f = IsLeafFaultAmong (boxes_of stbl) f ⊎ ((AreReadable (codes "stsd" ∷ []) (boxes_of stbl) → IsTableFault (surroundings_of l) (box_container stbl) f) ⊎ IsTooMany l.room (boxes_of stbl) f)
+IsFault l stbl f = IsLeafFaultAmong (boxes_of stbl) f ⊎ (IsTableFault (surroundings_of l) (box_container stbl) f ⊎ IsTooMany l.room (boxes_of stbl) f)
 
 -- a full box that is too short for its version and flags, or of a version past the last
 abbrev pub VersionFails : ℕ → Box → Fault → Type 0

@@ -1,8 +1,8 @@
 //! The tables of a track, read and held against each other, in the order in which a file is judged.
-ghost use Rattle.std.specs.Prelude.{◌≡◌, ◌+◌, ◌*◌, ◌≤◌, length, nat_eq, IfOk, IfErr};
+ghost use Rattle.std.specs.Prelude.{◌≡◌, ◌+◌, ◌*◌, ◌≤◌, length, nat_eq, IfOk, IfErr, IsOk};
 ghost use Rattle.mp4_boxes.specs.Layout.{version};
 ghost use Rattle.mp4_boxes.specs.View.{box_seen};
-ghost use Rattle.mp4_tables.specs.Leaves.{HasTables, SizesKnown, DurationsRead, OffsetsRead, ChunksRead, ChunkRowsRead, IsOffsetsLeaf, SyncRead, DependenciesRead, SizesRead, PlacesRead, TablesRead, IsFault};
+ghost use Rattle.mp4_tables.specs.Leaves.{HasTables, SizesKnown, DurationsRead, OffsetsRead, ChunksRead, ChunkRowsRead, IsOffsetsLeaf, SyncRead, DependenciesRead, SizesRead, PlacesRead, TablesRead, IsFault, HasDescriptions, AreAccepted, boxes_of};
 ghost use Rattle.mp4_tables.specs.Accepted.{offset_rows, count_of};
 
 use crate::chunks::{are_described, are_ordered, chunk_counts_are};
@@ -144,7 +144,8 @@ pub(crate) fn read_chunk_rows<L: Ledger>(
     requires sizes { SizesKnown (box_seen stbl) n }
     requires chunks { ChunksRead (box_seen stbl) chunks }
     ensures rows { IfOk result (ChunkRowsRead limits (box_seen stbl.entry) n) }
-    ensures fault { IfErr result (IsFault limits (box_seen stbl.entry)) }
+    ensures fault { HasDescriptions (box_seen stbl.entry) → IfErr result (IsFault limits (box_seen stbl.entry)) }
+    ensures only { AreAccepted limits (box_seen stbl.entry) (boxes_of (box_seen stbl.entry)) → IsOk result }
     ensures passed { IfOk result (λ r. steps.new ≤ steps.old + r.count + 4 * chunks.rows.count) }
     ensures work { steps.new ≤ steps.old + 2 * length (box_seen stbl.entry).payload }
 {
@@ -243,7 +244,8 @@ pub(crate) fn read_tables<L: Ledger>(
 ) -> Result<TablesAt, Fault>
     requires { HasTables (box_seen stbl) }
     ensures tables { IfOk result (TablesRead limits (box_seen stbl.entry)) }
-    ensures fault { IfErr result (IsFault limits (box_seen stbl.entry)) }
+    ensures fault { HasDescriptions (box_seen stbl.entry) → IfErr result (IsFault limits (box_seen stbl.entry)) }
+    ensures only { AreAccepted limits (box_seen stbl.entry) (boxes_of (box_seen stbl.entry)) → IsOk result }
 {
     let sizes = read_sizes(stbl, limits)?;
     let n = sizes.rows.count;

@@ -27,11 +27,11 @@ impl<'a> Model for Tables<'a> {
 }
 
 impl<'a> Tables<'a> {
-    ghost use Rattle.std.specs.Prelude.{◌≡◌, [], length, IfOk, IfErr};
+    ghost use Rattle.std.specs.Prelude.{◌≡◌, [], length, IfOk, IfErr, IsOk};
     ghost use Rattle.mp4_boxes.specs.View.{box_seen};
     ghost use Rattle.mp4_tables.specs.Groups.{keys_after};
     ghost use Rattle.mp4_tables.specs.Keys.{keys_seen};
-    ghost use Rattle.mp4_tables.specs.Leaves.{HasTables, TablesRead, tables_in, IsFault};
+    ghost use Rattle.mp4_tables.specs.Leaves.{HasTables, TablesRead, tables_in, HasDescriptions, IsFault, AreAccepted, boxes_of};
     ghost use Rattle.mp4_tables.specs.Views.{tables_seen};
     ghost use Rattle.mp4_tables.specs.Accepted.{IsAccepted};
 
@@ -50,7 +50,8 @@ impl<'a> Tables<'a> {
         ensures payload { IfOk result (λ t. t.payload ≡ (box_seen stbl.entry).payload) }
         ensures tables { IfOk result (λ t. TablesRead (record { file_len = file_len; descriptions = descriptions; room = room }) (box_seen stbl.entry) t.at) }
         ensures keys { IfOk result (λ _. keys_seen keys.new ≡ keys_after [] (tables_in (box_seen stbl.entry)).groups) }
-        ensures fault { IfErr result (IsFault (record { file_len = file_len; descriptions = descriptions; room = room }) (box_seen stbl.entry)) }
+        ensures fault { HasDescriptions (box_seen stbl.entry) → IfErr result (IsFault (record { file_len = file_len; descriptions = descriptions; room = room }) (box_seen stbl.entry)) }
+        ensures only { AreAccepted (record { file_len = file_len; descriptions = descriptions; room = room }) (box_seen stbl.entry) (boxes_of (box_seen stbl.entry)) → IsOk result }
     {
         let limits = Limits {
             file_len,
