@@ -1,5 +1,6 @@
 //! The boxes of a `moof` as far as the rows of `trun` (ISO/IEC 14496-12, 8.8.4 to 8.8.8 and 8.8.12).
-ghost use Rattle.std.specs.Prelude.{◌+◌, ◌≤◌, length};
+ghost use Rattle.std.specs.Prelude.{◌≡◌, ◌+◌, ◌≤◌, ◌++◌, length};
+ghost use Rattle.mp4_plan.specs.Spelling.{bit_of, bit_without, bit_if, tfhd_front, trun_front, moof_front};
 
 use crate::moof_sizes::{MFHD_SIZE, MoofSizes, TFDT_SIZE, short};
 use crate::planner::Planned;
@@ -17,9 +18,26 @@ pub(crate) struct PieceHead {
     pub(crate) data_offset: i32,
 }
 
-// A bit of flags, where it is set.
-fn bit(is_set: bool, bit: u32) -> u32
-    ensures { result ≤ bit }
+// A bit of flags, set where the number is there.
+fn bit_of(number: Option<u32>, bit: u32) -> u32
+    ensures is { result ≡ bit_of number bit }
+    ensures small { result ≤ bit }
+{
+    if number.is_some() { bit } else { 0 }
+}
+
+// A bit of flags, set where the number is not there.
+fn bit_without(number: Option<u32>, bit: u32) -> u32
+    ensures is { result ≡ bit_without number bit }
+    ensures small { result ≤ bit }
+{
+    if number.is_none() { bit } else { 0 }
+}
+
+// A bit of flags, set where it says so.
+fn bit_if(is_set: bool, bit: u32) -> u32
+    ensures is { result ≡ bit_if is_set bit }
+    ensures small { result ≤ bit }
 {
     if is_set { bit } else { 0 }
 }
@@ -27,11 +45,12 @@ fn bit(is_set: bool, bit: u32) -> u32
 // `tfhd`: default-base-is-moof, the description index, and what all samples have in common.
 fn push_tfhd(out: &mut Spelled, head: &PieceHead, planned: &Planned, size: u32)
     requires { length out.old ≤ 92 }
+    ensures is { out.new ≡ out.old ++ tfhd_front head.now planned.now size }
     ensures short { length out.new ≤ length out.old + 32 }
 {
-    let durations = bit(planned.duration.is_some(), 0x8);
-    let sizes = bit(planned.size.is_some(), 0x10);
-    let flags = bit(planned.flags.is_some(), 0x20);
+    let durations = bit_of(planned.duration, 0x8);
+    let sizes = bit_of(planned.size, 0x10);
+    let flags = bit_of(planned.flags, 0x20);
     out.push_box(FourCc(*b"tfhd"), size);
     out.push_u32(0x2_0002 + durations + sizes + flags);
     out.push_u32(head.id);
@@ -44,11 +63,12 @@ fn push_tfhd(out: &mut Spelled, head: &PieceHead, planned: &Planned, size: u32)
 // `trun` of version 1 as far as its rows: the columns that the samples don't have in common.
 fn push_trun(out: &mut Spelled, head: &PieceHead, planned: &Planned, size: u32)
     requires { length out.old ≤ 104 }
+    ensures { out.new ≡ out.old ++ trun_front head.now planned.now size }
 {
-    let durations = bit(planned.duration.is_none(), 0x100);
-    let sizes = bit(planned.size.is_none(), 0x200);
-    let flags = bit(planned.flags.is_none(), 0x400);
-    let offsets = bit(planned.has_offsets, 0x800);
+    let durations = bit_without(planned.duration, 0x100);
+    let sizes = bit_without(planned.size, 0x200);
+    let flags = bit_without(planned.flags, 0x400);
+    let offsets = bit_if(planned.has_offsets, 0x800);
     out.push_box(FourCc(*b"trun"), size);
     out.push_u32(0x100_0001 + durations + sizes + flags + offsets);
     out.push_u32(planned.count);
@@ -56,7 +76,9 @@ fn push_trun(out: &mut Spelled, head: &PieceHead, planned: &Planned, size: u32)
 }
 
 /// A `moof` of these sizes as far as the rows of `trun`.
-pub(crate) fn moof_front(head: &PieceHead, planned: &Planned, sizes: &MoofSizes) -> Spelled {
+pub(crate) fn moof_front(head: &PieceHead, planned: &Planned, sizes: &MoofSizes) -> Spelled
+    ensures { result ≡ moof_front head.now planned.now sizes.now }
+{
     let mut out = Spelled::new();
     out.push_box(FourCc(*b"moof"), short(sizes.moof));
     out.push_box(FourCc(*b"mfhd"), MFHD_SIZE);
