@@ -1,6 +1,7 @@
 -- A file that was opened, and a walk over the samples of one of its tracks.
 use Rattle.std.specs.Prelude.{◌≡◌, ℕ, ◌+◌, ◌^◌, ◌<◌, ◌≤◌, List, [], length, take, drop, Option, Some, None, slice_get}
 use Rattle.std.specs.List.{AllByRecursion}
+use Rattle.mp4_boxes.specs.Box.{Box}
 use Rattle.mp4_tables.specs.Accepted.{IsAccepted, IsPlace}
 use Rattle.mp4_tables.specs.Views.{TablesSeen}
 use Rattle.mp4_frag.specs.States.{HaveRoom}
@@ -59,6 +60,10 @@ pub record IsMovie (m : MovieSeen) : Type 0 where
   pub each_state : length m.states ≡ length m.tracks
   pub states : HaveRoom m.room m.states
   pub few : m.room ≤ 2 ^ 24
+
+-- the `moov` that is kept
+abbrev pub moov_box : MovieSeen → Box
+moov_box m = record { kind = m.top.header.kind.0; offset = m.top.offset; header = m.top.header.header; payload = m.moov }
 
 -- the payload of the `moof` in hand
 abbrev pub moof_bytes : Walk → List ℕ

@@ -1,5 +1,5 @@
 -- What is known of a file while it is opened, and why it is not opened.
-use Rattle.std.specs.Prelude.{◌≡◌, ◌⊎◌, ℕ, List, [], ◌∷◌, map, Bool, true, IsTrue, codes}
+use Rattle.std.specs.Prelude.{◌≡◌, ◌⊎◌, ℕ, List, [], ◌∷◌, length, map, Bool, true, IsTrue, codes}
 use Rattle.mp4_store.specs.Device.{HasRisen}
 use Rattle.mp4_boxes.specs.Box.{Box, file_container}
 use Rattle.mp4_boxes.specs.Children.{Holds, of_kind}
@@ -10,12 +10,23 @@ use Rattle.mp4_boxes.specs.declared.fault.Fault.{Fault}
 use Rattle.mp4_head.specs.Tree.{TrackTree, MovieTree, IsMovieTree, IsSoundMovie, track_head_of}
 use Rattle.mp4_present.specs.Denotes.{begins_with_movie}
 use Rattle.mp4_present.specs.Stands.{Stands}
-use Rattle.mp4_present.specs.Outline.{IsOutline}
+use Rattle.mp4_present.specs.Movies.{MovieSeen, moov_box}
+use Rattle.mp4_present.specs.Outline.{IsOutline, BeginAt, longest}
 use Rattle.mp4_present.specs.declared.outline.Outline.{Outline}
 
 -- the file of an honest store has the boxes of the table, with this outline
 abbrev pub HasOutline : Bool → List ℕ → Outline → Type 0
 HasOutline honest file o = IsTrue honest → (boxes : List Box) × Holds File (file_container file) boxes × (begins_with_movie boxes ≡ true) × IsOutline file boxes o
+
+-- What is kept of the file: its length, its `moov`, where its first `moof` begins, and how long its longest is.
+pub record IsOpened (file : List ℕ) (m : MovieSeen) : Type 0 where
+  pub boxes : List Box
+  pub holds : Holds File (file_container file) boxes
+  pub order : begins_with_movie boxes ≡ true
+  pub whole : m.file_len ≡ length file
+  pub moov : of_kind (codes "moov") boxes ≡ moov_box m ∷ []
+  pub fragments : BeginAt m.fragments boxes
+  pub longest_is : m.longest ≡ longest (of_kind (codes "moof") boxes)
 
 -- Why bytes in memory are refused: they are at fault, or there is no memory.
 abbrev pub RefusesBytes : Refusal → Type 0

@@ -70,12 +70,15 @@ impl Model for Movie {
 }
 
 impl Movie {
-    ghost use Rattle.std.specs.Prelude.{◌≡◌, ◌<◌, length, slice_get, Some};
-    ghost use Rattle.mp4_present.specs.Movies.{IsMovie, tables_seen};
+    ghost use Rattle.std.specs.Prelude.{◌≡◌, ◌<◌, length, slice_get, Some, IfOk};
+    ghost use Rattle.mp4_head.specs.Found.{SaysHead};
+    ghost use Rattle.mp4_present.specs.Movies.{IsMovie, moov_box, tables_seen};
     ghost use Rattle.mp4_present.specs.declared.movie.TrackTables.{TrackTables};
 
     /// What the movie and its tracks say of themselves, read anew from the bytes of the `moov`.
-    pub fn head(&self, alloc: Global) -> Result<MovieHead<'_>, Memory> {
+    pub fn head(&self, alloc: Global) -> Result<MovieHead<'_>, Memory>
+        ensures { IfOk result (SaysHead (moov_box self.entry.now)) }
+    {
         let view = self.top.view(self.moov.as_slice());
         read_head(alloc, view).map_err(|_| Memory)
     }

@@ -6,7 +6,7 @@ ghost use Rattle.mp4_present.specs.Plain.{ArePlain};
 ghost use Rattle.mp4_head.specs.declared.heads.TrackHead.{TrackHead};
 ghost use Rattle.mp4_store.specs.Device.{range};
 ghost use Rattle.mp4_present.specs.declared.track_info.TrackInfo.{TrackInfo};
-ghost use Rattle.mp4_present.specs.Opening.{HasOutline, HasMovie, RefusesOpen};
+ghost use Rattle.mp4_present.specs.Opening.{HasOutline, HasMovie, IsOpened, RefusesOpen};
 
 use crate::fragment_pass::{AllTracks, check_fragments};
 use crate::limit_checks::{check_limits, duration_of};
@@ -101,6 +101,7 @@ pub fn open_movie<S: Store, L: Ledger>(
 ) -> Result<Movie, Refusal>
     ensures honesty { S.is_honest store.new ≡ S.is_honest store.old }
     ensures file { S.file store.new ≡ S.file store.old }
+    ensures opened { IfOk result (λ m. IsTrue (S.is_honest store.old) → IsOpened (S.file store.old) m) }
     ensures ids { IfOk result (λ m. IsTrue (S.is_honest store.old) → HasMovie (S.file store.old) (map (λ (t : TrackInfo). t.id) m.tracks)) }
     ensures reads { OnOk result (S.read_failures store.new ≡ S.read_failures store.old) }
     ensures refusal { IfErr result (RefusesOpen (S.is_honest store.old) (S.file store.old) (S.read_failures store.old) (S.read_failures store.new)) }
