@@ -10,7 +10,7 @@ use Rattle.mp4_boxes.specs.declared.rule.Rule.TheVariants.{File, Movie}
 use Rattle.mp4_boxes.specs.declared.fault.Fault.{Fault}
 use Rattle.mp4_boxes.specs.declared.refusal.Refusal.{Refusal}
 use Rattle.mp4_boxes.specs.declared.refusal.Refusal.TheVariants as refusals
-use Rattle.mp4_head.specs.HeadFaults.{HeadStands}
+use Rattle.mp4_head.specs.HeadFaults.{HeadStands, HeaderStands, ChildStands, MissingStands, LeafStands}
 use Rattle.mp4_head.specs.Refuses.{place_of, RefusesIn}
 use Rattle.mp4_head.specs.Head as heads
 use Rattle.mp4_head.specs.Tree.{TrackTree, track_head_of}
@@ -18,7 +18,7 @@ use Rattle.mp4_head.specs.Found.{SaysHead}
 use Rattle.mp4_head.specs.Seen.{track_seen}
 use Rattle.mp4_head.specs.declared.heads.TrackHead.{TrackHead}
 use Rattle.mp4_head.specs.declared.heads.MovieHead.{MovieHead}
-use Rattle.mp4_head.proofs.Above.{head_above}
+use Rattle.mp4_head.proofs.Above.{stands_in_file}
 use Rattle.mp4_present.specs.Movies.{Fills}
 use Rattle.mp4_present.specs.Outline.{box_at}
 use Rattle.mp4_present.specs.Opening.{HasOutline, HasMovie, RefusesBytes, RefusesOpen, RefusesFragments}
@@ -66,7 +66,7 @@ moov_is file moov top b is fills bytes =
     is ∙ ap (λ (xs : List ℕ). record { kind = top.header.kind.0; offset = top.offset; header = top.header.header; payload = xs }) same
 
 -- a fault in the `moov` stands in the file
-by_reason : (file : List ℕ) (f : Fault) → HeadStands (whole file) f → Stands file f
+by_reason : (file : List ℕ) (f : Fault) → HeaderStands (whole file) f ⊎ (ChildStands (whole file) f ⊎ (MissingStands (whole file) f ⊎ LeafStands (whole file) f)) → Stands file f
 by_reason file f (inl h) = (header, h)
 by_reason file f (inr (inl h)) = (child, h)
 by_reason file f (inr (inr (inl h))) = (missing, h)
@@ -77,7 +77,7 @@ head_stands file boxes b f holds one h =
     let i = is_among (codes "moov") boxes b [] one in
     let all : LieEndToEnd true 0 file ((i.before ++ b ∷ []) ++ i.after) = subst (λ (bs : List Box). LieEndToEnd true 0 file bs) (i.is ∙ sym (append_assoc i.before (b ∷ []) i.after)) holds.tiles.front.0 in
     let stands : StandsAfter (file_container file) i.before b = (lies_first true 0 file (i.before ++ b ∷ []) i.after all, tt) in
-    by_reason file f (head_above (whole file) (place_of (ruled Movie) b) i.before b f stands (rw i.kind_is refl) h)
+    by_reason file f (stands_in_file file i.before b f stands (rw i.kind_is refl) h)
 
 -- ---- the IDs
 
@@ -96,11 +96,11 @@ has_movie file boxes b head ids holds order one says are = record {
   boxes = boxes;
   holds = holds;
   order = order;
-  tree = says.tree;
-  is_moov = one ∙ ap (λ (x : Box). x ∷ []) (sym says.is_moov);
-  is_tree = says.is_tree;
-  is_sound = says.is_sound;
-  ids_are = are ∙ sym (ids_seen head.tracks.items) ∙ ap (λ (h : heads.Head). map (λ (t : heads.TrackHead). t.id) h.tracks) says.says ∙ ids_of says.tree.tracks;
+  tree = says.has.tree;
+  is_moov = one ∙ ap (λ (x : Box). x ∷ []) (sym says.has.is_moov);
+  is_tree = says.has.is_tree;
+  is_sound = says.has.is_sound;
+  ids_are = are ∙ sym (ids_seen head.tracks.items) ∙ ap (λ (h : heads.Head). map (λ (t : heads.TrackHead). t.id) h.tracks) says.has.says ∙ ids_of says.has.tree.tracks;
 }
 
 -- ---- the `moov` that was read
