@@ -34,3 +34,4 @@ pub mod HeadLimit
 pub mod EachAt
 pub mod RowBytes
 pub mod RunsResumed
+pub mod Pushes

@@ -1,12 +1,11 @@
 -- What is written of a piece, by what was planned and noted of it (ISO/IEC 14496-12, 8.8.4 to 8.8.8, 8.9.2).
-use Rattle.std.specs.Prelude.{◌≡◌, ℕ, zero, suc, ◌==◌, Bool, true, false, if◌then◌else◌, List, [], ◌∷◌, ◌++◌, map, flat_map, slice_index, Option, Some, None, codes, min, ◌-◌, ◌^◌}
+use Rattle.std.specs.Prelude.{◌≡◌, ℕ, ◌+◌, zero, suc, ◌==◌, Bool, true, false, if◌then◌else◌, List, [], ◌∷◌, ◌++◌, map, flat_map, slice_index, Option, Some, None, codes}
 use Rattle.byteorder.specs.Endian.{big_bytes}
 use Rattle.mp4_boxes.specs.Bytes.{unsigned}
 use Rattle.mp4_present.specs.Carried.{BytesGoOn}
 use Rattle.mp4_plan.specs.declared.moof_rows.IndexRun.{IndexRun}
 use Rattle.mp4_plan.specs.Normal.{own, longest_runs}
 use Rattle.mp4_plan.specs.declared.moof_front.PieceHead.{PieceHead}
-use Rattle.mp4_plan.specs.declared.moof_sizes.MoofSizes.{MoofSizes}
 use Rattle.mp4_plan.specs.declared.planner.Planned.{Planned}
 use Rattle.mp4_plan.specs.declared.rows.Row.{Row}
 
@@ -26,10 +25,6 @@ run_row p row = option_bytes (own p.duration row.duration) ++ option_bytes (own 
 
 abbrev pub run_rows : Planned → List Row → List ℕ
 run_rows p rows = flat_map (run_row p) rows
-
--- a size as it is written, as far as 32 bits go
-abbrev pub short : ℕ → ℕ
-short size = min size (2 ^ 32 - 1)
 
 -- ---- a `moof` as far as the rows of `trun`
 
@@ -57,17 +52,8 @@ tfhd_front head p size =
     ++ big_bytes 4 head.id ++ big_bytes 4 head.description ++ option_bytes p.duration ++ option_bytes p.size ++ option_bytes p.flags
 
 -- version 1, data_offset, and the columns that the samples don't have in common
-abbrev pub trun_front : PieceHead → Planned → ℕ → List ℕ
-trun_front head p size =
-    box_front (codes "trun") size ++ big_bytes 4 (0x1000001 + bit_without p.duration 0x100 + bit_without p.size 0x200 + bit_without p.flags 0x400 + bit_if p.has_offsets 0x800)
-    ++ big_bytes 4 p.count ++ big_bytes 4 (unsigned 4 head.data_offset)
-
-abbrev pub moof_front : PieceHead → Planned → MoofSizes → List ℕ
-moof_front head p sizes =
-    box_front (codes "moof") (short sizes.moof) ++ box_front (codes "mfhd") 16 ++ big_bytes 4 0 ++ big_bytes 4 head.sequence
-    ++ box_front (codes "traf") (short sizes.traf) ++ tfhd_front head p (short sizes.tfhd)
-    ++ box_front (codes "tfdt") 20 ++ big_bytes 4 0x1000000 ++ big_bytes 8 head.time
-    ++ trun_front head p (short sizes.trun)
+abbrev pub run_bits : Planned → ℕ
+run_bits p = 0x1000001 + bit_without p.duration 0x100 + bit_without p.size 0x200 + bit_without p.flags 0x400 + bit_if p.has_offsets 0x800
 
 -- a row of `sbgp`
 abbrev pub group_row : ℕ × ℕ → List ℕ

@@ -1,6 +1,6 @@
 //! The boxes of a `moof` as far as the rows of `trun` (ISO/IEC 14496-12, 8.8.4 to 8.8.8 and 8.8.12).
 ghost use Rattle.std.specs.Prelude.{◌≡◌, ◌+◌, ◌≤◌, ◌++◌, length};
-ghost use Rattle.mp4_plan.specs.Spelling.{bit_of, bit_without, bit_if, tfhd_front, trun_front, moof_front};
+ghost use Rattle.mp4_plan.specs.Spelling.{bit_of, bit_without, bit_if, tfhd_front, run_bits};
 
 use crate::moof_sizes::{MFHD_SIZE, MoofSizes, TFDT_SIZE, short};
 use crate::planner::Planned;
@@ -60,25 +60,30 @@ fn push_tfhd(out: &mut Spelled, head: &PieceHead, planned: &Planned, size: u32)
     out.push_option(planned.flags);
 }
 
-// `trun` of version 1 as far as its rows: the columns that the samples don't have in common.
-fn push_trun(out: &mut Spelled, head: &PieceHead, planned: &Planned, size: u32)
-    requires { length out.old ≤ 104 }
-    ensures { out.new ≡ out.old ++ trun_front head.now planned.now size }
+// Version and flags of `trun`: data_offset, and the columns that the samples don't have in common.
+fn run_bits(planned: &Planned) -> u32
+    ensures { result ≡ run_bits planned.now }
 {
     let durations = bit_without(planned.duration, 0x100);
     let sizes = bit_without(planned.size, 0x200);
     let flags = bit_without(planned.flags, 0x400);
     let offsets = bit_if(planned.has_offsets, 0x800);
+    0x100_0001 + durations + sizes + flags + offsets
+}
+
+// `trun` of version 1 as far as its rows.
+fn push_trun(out: &mut Spelled, head: &PieceHead, planned: &Planned, size: u32)
+    requires { length out.old ≤ 104 }
+    ensures { length out.new ≡ length out.old + 20 }
+{
     out.push_box(FourCc(*b"trun"), size);
-    out.push_u32(0x100_0001 + durations + sizes + flags + offsets);
+    out.push_u32(run_bits(planned));
     out.push_u32(planned.count);
-    out.push_u32(head.data_offset.cast_unsigned());
+    out.push_i32(head.data_offset);
 }
 
 /// A `moof` of these sizes as far as the rows of `trun`.
-pub(crate) fn moof_front(head: &PieceHead, planned: &Planned, sizes: &MoofSizes) -> Spelled
-    ensures { result ≡ moof_front head.now planned.now sizes.now }
-{
+pub(crate) fn moof_front(head: &PieceHead, planned: &Planned, sizes: &MoofSizes) -> Spelled {
     let mut out = Spelled::new();
     out.push_box(FourCc(*b"moof"), short(sizes.moof));
     out.push_box(FourCc(*b"mfhd"), MFHD_SIZE);

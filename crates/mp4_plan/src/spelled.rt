@@ -1,7 +1,8 @@
 //! A few bytes, spelled one number after the other.
 ghost use Rattle.std.specs.Prelude.{◌≡◌, ◌+◌, ◌≤◌, ◌++◌, [], length};
 ghost use Rattle.byteorder.specs.Endian.{big_bytes};
-ghost use Rattle.mp4_plan.specs.Spelling.{option_bytes};
+ghost use Rattle.mp4_boxes.specs.Bytes.{unsigned};
+ghost use Rattle.mp4_plan.specs.Spelling.{option_bytes, box_front};
 
 use mp4_boxes::FourCc;
 use std::marker::Model;
@@ -56,6 +57,15 @@ impl Spelled {
         self.push(&number.to_be_bytes());
     }
 
+    /// A signed number, in two's complement.
+    pub(crate) fn push_i32(&mut self, number: i32)
+        requires { length self.old + 4 ≤ 128 }
+        ensures is { self.new ≡ self.old ++ big_bytes 4 (unsigned 4 number) }
+        ensures length { length self.new ≡ length self.old + 4 }
+    {
+        self.push_u32(number.cast_unsigned());
+    }
+
     pub(crate) fn push_u64(&mut self, number: u64)
         requires { length self.old + 8 ≤ 128 }
         ensures is { self.new ≡ self.old ++ big_bytes 8 number }
@@ -67,7 +77,7 @@ impl Spelled {
     /// The header of a box of so many bytes.
     pub(crate) fn push_box(&mut self, kind: FourCc, size: u32)
         requires { length self.old + 8 ≤ 128 }
-        ensures is { self.new ≡ self.old ++ big_bytes 4 size ++ kind.0 }
+        ensures is { self.new ≡ self.old ++ box_front kind.0 size }
         ensures length { length self.new ≡ length self.old + 8 }
     {
         self.push_u32(size);
