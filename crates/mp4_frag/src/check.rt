@@ -15,6 +15,7 @@ ghost use Rattle.mp4_tables.specs.TableRules.{is_index};
 ghost use Rattle.mp4_frag.specs.declared.trex.Trex.{Trex};
 ghost use Rattle.mp4_frag.specs.Walks.{trex_among};
 ghost use Rattle.mp4_frag.specs.States.{HaveRoom};
+ghost use Rattle.mp4_frag.specs.TrafFaults.{TrafFails};
 ghost use Rattle.mp4_frag.specs.Views.{moof_seen};
 ghost use Rattle.mp4_frag.specs.declared.state.TrackState.{TrackState};
 
@@ -212,6 +213,7 @@ fn check_traf<L: Ledger>(
     ensures sound { IfOk result (λ at. IsTrafSound file_len moof before tracks.old (children_of (box_seen traf.entry)) at) }
     ensures bound { IfOk result (λ at. (n : ℕ) → 2 ^ 64 ≤ n → IsUpTo n before → IsUpTo (n + 2 ^ 31) at) }
     ensures same { IfOk result (λ at. (id : ℕ) → trex_among tracks.new id ≡ trex_among tracks.old id) }
+    ensures fault { IfErr result (λ f. TrafFails file_len moof before tracks.old room.old (box_seen traf.entry) f) }
     ensures moved { IfOk result (λ at. IsMovedOn moof before (children_of (box_seen traf.entry)) tracks.old tracks.new room.old room.new) }
 {
     let heads = check_boxes(traf)?;
