@@ -1,5 +1,5 @@
 -- What is wrong with a `traf` where a fault is named, behind what is known of the tracks.
-use Rattle.std.specs.Prelude.{◌≡◌, ℕ, ◌<◌, ◌==◌, true, false, ℤ, List, [], ◌∷◌, Some, None, find, codes}
+use Rattle.std.specs.Prelude.{◌≡◌, ◌⊎◌, ℕ, pos, ◌<◌, ◌==◌, true, false, ℤ, List, [], ◌∷◌, Some, None, find, codes}
 use Rattle.mp4_boxes.specs.Box.{Box, box_container}
 use Rattle.mp4_boxes.specs.BoxFaults.{fault_of, Fails, IsChildFault}
 use Rattle.mp4_boxes.specs.Children.{of_kind}
@@ -13,6 +13,7 @@ use Rattle.mp4_tables.specs.TableRules.{is_index}
 use Rattle.mp4_frag.specs.Fragments.{TrackFragment, track_fragment_of}
 use Rattle.mp4_frag.specs.FragmentSamples.{base_of}
 use Rattle.mp4_frag.specs.GroupsJudged.{groups_in, AreGroupsSound, GroupsFail}
+use Rattle.mp4_frag.specs.Judged.{IsTrafSound, IsMovedOn}
 use Rattle.mp4_frag.specs.Passing.{is_late_at}
 use Rattle.mp4_frag.specs.Reading.{inheritance}
 use Rattle.mp4_frag.specs.RunsJudged.{children_of, runs_in, AreRunsSound, runs_total, RunsFail}
@@ -51,3 +52,16 @@ pub data TrafFails (file_length moof : ℕ) (before : ℤ) (tracks : List TrackS
       → GroupsFail (runs_total (runs_in b)) (keys_seen t.keys) [] (groups_in b) f → TrafFails file_length moof before tracks room b f
   not_due : (h : Box) (t : TrackState) (trex : Trex) → IsOnly (codes "tfdt") b h → IsTrackOf b tracks t trex → HasSoundRuns file_length moof before b trex
       → AreGroupsSound (runs_total (runs_in b)) (keys_seen t.keys) [] (groups_in b) → is_late_at t (traf_in b).decode_time (runs_total (runs_in b)) ≡ true → f ≡ fault_of Gap h → TrafFails file_length moof before tracks room b f
+
+-- The fault is one of these `traf`s: of the first, or of one behind it, where the first is accepted and the tracks are moved on by it.
+abbrev pub TrafsFail : ℕ → ℕ → ℤ → List TrackState → ℕ → List Box → Fault → Type 0
+TrafsFail file_length moof before tracks room [] f = ⊥
+TrafsFail file_length moof before tracks room (b ∷ trafs) f =
+    TrafFails file_length moof before tracks room b f
+    ⊎ ((ends : ℤ) × (between : List TrackState) × (rest : ℕ)
+    × (IsTrafSound file_length moof before tracks (children_of b) ends × IsMovedOn moof before (children_of b) tracks between room rest × TrafsFail file_length moof ends between rest trafs f))
+
+-- The fault is one of the `moof`: of its children, or of its `traf`s.
+abbrev pub MoofFails : ℕ → List TrackState → ℕ → Box → Fault → Type 0
+MoofFails file_length tracks room moof f =
+    IsChildFault rules.MovieFragment (box_container moof) f ⊎ TrafsFail file_length moof.offset (pos moof.offset) tracks room (of_kind (codes "traf") (children_of moof)) f
