@@ -1,3 +1,4 @@
+pub mod TrafRefused
 pub mod TracksMoved
 pub mod MoofPassed
 pub mod TrafPassed

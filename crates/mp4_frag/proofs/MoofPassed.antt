@@ -1,5 +1,5 @@
 -- The `traf`s of a `moof`, passed one by one.
-use Rattle.std.proofs.Common.{◌≡◌, ℕ, suc, ◌+◌, ◌*◌, ◌^◌, ◌<◌, ◌≤◌, true, false, List, [], ◌∷◌, length, map, Option, Some, None, IsTrue, refl, sym, ap, subst, ◌∙◌, arith}
+use Rattle.std.proofs.Common.{◌≡◌, ℕ, suc, ◌+◌, ◌*◌, ◌^◌, ◌<◌, ◌≤◌, true, false, List, [], ◌∷◌, length, map, Option, Some, None, IsTrue, inl, inr, refl, sym, ap, subst, ◌∙◌, arith}
 use Rattle.std.specs.Prelude.{ℤ, pos, codes, bytes_eq, unwrap_or, option_map, is_some, ⊤}
 use Rattle.std.specs.List.{AllByRecursion}
 use Rattle.mp4_boxes.specs.Box.{Box, box_container}
@@ -11,6 +11,8 @@ use Rattle.mp4_frag.specs.FragmentSamples.{Part, parts_after, trex_for, no_trex}
 use Rattle.mp4_frag.specs.Judged.{AreTrexesOf, is_known_among, IsPlacedWithin, IsGrouped, IsSoundMoof, IsTrafSound, IsMovedOn, AreMovedOn, part_with, end_with, tree_of}
 use Rattle.mp4_frag.specs.Passing.{IsUpTo}
 use Rattle.mp4_frag.specs.RunsJudged.{children_of}
+use Rattle.mp4_boxes.specs.declared.fault.Fault.{Fault}
+use Rattle.mp4_frag.specs.TrafFaults.{TrafFails, TrafsFail}
 use Rattle.mp4_frag.specs.Walks.{trex_among}
 use Rattle.mp4_frag.specs.declared.state.TrackState.{TrackState}
 use Rattle.mp4_frag.specs.declared.trex.Trex.{Trex}
@@ -146,17 +148,18 @@ moof_sound trexes L moof tracks short holds s h =
 -- ---- how the tracks move on
 
 -- Of all boxes these are left; the tracks were moved on by those passed.
-pub record MovesSeen (moof : ℕ) (first : List TrackState) (whole : ℕ) (all left : List Box) (before : ℤ) (tracks : List TrackState) (room : ℕ) : Type 0 where
+pub record MovesSeen (L moof : ℕ) (first : List TrackState) (whole : ℕ) (all left : List Box) (before : ℤ) (tracks : List TrackState) (room : ℕ) : Type 0 where
   pub moves : (new : List TrackState) (less : ℕ) → AreMovedOn moof before (of_kind (codes "traf") left) tracks new room less → AreMovedOn moof (pos moof) (of_kind (codes "traf") all) first new whole less
+  pub fails : (f : Fault) → TrafsFail L moof before tracks room (of_kind (codes "traf") left) f → TrafsFail L moof (pos moof) first whole (of_kind (codes "traf") all) f
 
-pub moves_none : (moof : ℕ) (first : List TrackState) (whole : ℕ) (all : List Box) → MovesSeen moof first whole all all (pos moof) first whole
-moves_none moof first whole all = record { moves = λ new less h. h }
+pub moves_none : (L moof : ℕ) (first : List TrackState) (whole : ℕ) (all : List Box) → MovesSeen L moof first whole all all (pos moof) first whole
+moves_none L moof first whole all = record { moves = λ new less h. h; fails = λ f h. h }
 
-pub moves_other : (moof : ℕ) (first : List TrackState) (whole : ℕ) (all left later : List Box) (b : Box) (before : ℤ) (tracks : List TrackState) (room : ℕ) → MovesSeen moof first whole all left before tracks room → left ≡ b ∷ later → bytes_eq b.kind (codes "traf") ≡ false
-    → MovesSeen moof first whole all later before tracks room
-moves_other moof first whole all left later b before tracks room s e k =
+pub moves_other : (L moof : ℕ) (first : List TrackState) (whole : ℕ) (all left later : List Box) (b : Box) (before : ℤ) (tracks : List TrackState) (room : ℕ) → MovesSeen L moof first whole all left before tracks room → left ≡ b ∷ later → bytes_eq b.kind (codes "traf") ≡ false
+    → MovesSeen L moof first whole all later before tracks room
+moves_other L moof first whole all left later b before tracks room s e k =
     let kept : of_kind (codes "traf") left ≡ of_kind (codes "traf") later = ap (of_kind (codes "traf")) e ∙ other_kept b later k in
-    record { moves = λ new less h. s.moves new less (subst (λ (bs : List Box). AreMovedOn moof before bs tracks new room less) (sym kept) h) }
+    record { moves = λ new less h. s.moves new less (subst (λ (bs : List Box). AreMovedOn moof before bs tracks new room less) (sym kept) h); fails = λ f h. s.fails f (subst (λ (bs : List Box). TrafsFail L moof before tracks room bs f) (sym kept) h) }
 
 some_trex : (x y : Trex) → ◌≡◌ {A = Option Trex} (Some x) (Some y) → x ≡ y
 some_trex x y e = cc
@@ -165,15 +168,23 @@ some_trex x y e = cc
 same_trex : (L moof : ℕ) (before ends : ℤ) (boxes : List Box) (tracks now : List TrackState) (room less : ℕ) (t : IsTrafSound L moof before tracks boxes ends) (m : IsMovedOn moof before boxes tracks now room less) → t.trex ≡ m.trex
 same_trex L moof before ends boxes tracks now room less t m = some_trex t.trex m.trex (sym t.known ∙ ap (λ (o : Option TrackState). unwrap_or (option_map (λ (s : TrackState). s.trex) o) None) m.found ∙ m.defaults)
 
-pub moves_traf : (L moof : ℕ) (first : List TrackState) (whole : ℕ) (all left later : List Box) (b : Box) (before ends : ℤ) (tracks now : List TrackState) (room rest : ℕ) → MovesSeen moof first whole all left before tracks room → left ≡ b ∷ later → bytes_eq b.kind (codes "traf") ≡ true
-    → IsTrafSound L moof before tracks (children_of b) ends → IsMovedOn moof before (children_of b) tracks now room rest → MovesSeen moof first whole all later ends now rest
+pub moves_traf : (L moof : ℕ) (first : List TrackState) (whole : ℕ) (all left later : List Box) (b : Box) (before ends : ℤ) (tracks now : List TrackState) (room rest : ℕ) → MovesSeen L moof first whole all left before tracks room → left ≡ b ∷ later → bytes_eq b.kind (codes "traf") ≡ true
+    → IsTrafSound L moof before tracks (children_of b) ends → IsMovedOn moof before (children_of b) tracks now room rest → MovesSeen L moof first whole all later ends now rest
 moves_traf L moof first whole all left later b before ends tracks now room rest s e k t m =
     let kept : of_kind (codes "traf") left ≡ b ∷ of_kind (codes "traf") later = ap (of_kind (codes "traf")) e ∙ traf_kept b later k in
     let end : ends ≡ end_with moof before m.trex (track_fragment_of (children_of b)) = t.end ∙ ap (λ (x : Trex). end_with moof before x (track_fragment_of (children_of b))) (same_trex L moof before ends (children_of b) tracks now room rest t m) in
     record {
       moves = λ new less h. s.moves new less (subst (λ (bs : List Box). AreMovedOn moof before bs tracks new room less) (sym kept) (now, rest, (m, subst (λ (at : ℤ). AreMovedOn moof at (of_kind (codes "traf") later) now new rest less) end h)));
+      fails = λ f h. s.fails f (subst (λ (bs : List Box). TrafsFail L moof before tracks room bs f) (sym kept) (inr (ends, now, rest, (t, m, h))));
     }
 
-pub moves_ended : (moof : ℕ) (first : List TrackState) (whole : ℕ) (all left boxes : List Box) (before : ℤ) (tracks : List TrackState) (room : ℕ) → MovesSeen moof first whole all left before tracks room → left ≡ [] → all ≡ boxes → AreMovedOn moof (pos moof) (of_kind (codes "traf") boxes) first tracks whole room
-moves_ended moof first whole all left boxes before tracks room s e f =
+-- a `traf` that is refused
+pub moves_fault : (L moof : ℕ) (first : List TrackState) (whole : ℕ) (all left later boxes : List Box) (b : Box) (before : ℤ) (tracks : List TrackState) (room : ℕ) (f : Fault) → MovesSeen L moof first whole all left before tracks room → left ≡ b ∷ later → bytes_eq b.kind (codes "traf") ≡ true → all ≡ boxes
+    → TrafFails L moof before tracks room b f → TrafsFail L moof (pos moof) first whole (of_kind (codes "traf") boxes) f
+moves_fault L moof first whole all left later boxes b before tracks room f s e k same h =
+    let kept : of_kind (codes "traf") left ≡ b ∷ of_kind (codes "traf") later = ap (of_kind (codes "traf")) e ∙ traf_kept b later k in
+    subst (λ (bs : List Box). TrafsFail L moof (pos moof) first whole (of_kind (codes "traf") bs) f) same (s.fails f (subst (λ (bs : List Box). TrafsFail L moof before tracks room bs f) (sym kept) (inl h)))
+
+pub moves_ended : (L moof : ℕ) (first : List TrackState) (whole : ℕ) (all left boxes : List Box) (before : ℤ) (tracks : List TrackState) (room : ℕ) → MovesSeen L moof first whole all left before tracks room → left ≡ [] → all ≡ boxes → AreMovedOn moof (pos moof) (of_kind (codes "traf") boxes) first tracks whole room
+moves_ended L moof first whole all left boxes before tracks room s e f =
     subst (λ (bs : List Box). AreMovedOn moof (pos moof) (of_kind (codes "traf") bs) first tracks whole room) f (s.moves tracks room (subst (λ (bs : List Box). AreMovedOn moof before (of_kind (codes "traf") bs) tracks tracks room room) (sym e) (refl, refl)))

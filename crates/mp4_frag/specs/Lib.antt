@@ -7,6 +7,7 @@ pub mod States
 pub mod Views
 pub mod Walks
 pub mod Judged
+pub mod TrafFaults
 pub mod RunsJudged
 pub mod GroupsJudged
 pub mod FragmentSamples

@@ -15,6 +15,7 @@ ghost use Rattle.mp4_tables.specs.TableRules.{is_index};
 ghost use Rattle.mp4_frag.specs.declared.trex.Trex.{Trex};
 ghost use Rattle.mp4_frag.specs.Walks.{trex_among};
 ghost use Rattle.mp4_frag.specs.States.{HaveRoom};
+ghost use Rattle.mp4_frag.specs.TrafFaults.{TrafFails, MoofFails};
 ghost use Rattle.mp4_frag.specs.Views.{moof_seen};
 ghost use Rattle.mp4_frag.specs.declared.state.TrackState.{TrackState};
 
@@ -212,6 +213,7 @@ fn check_traf<L: Ledger>(
     ensures sound { IfOk result (λ at. IsTrafSound file_len moof before tracks.old (children_of (box_seen traf.entry)) at) }
     ensures bound { IfOk result (λ at. (n : ℕ) → 2 ^ 64 ≤ n → IsUpTo n before → IsUpTo (n + 2 ^ 31) at) }
     ensures same { IfOk result (λ at. (id : ℕ) → trex_among tracks.new id ≡ trex_among tracks.old id) }
+    ensures fault { IfErr result (λ f. TrafFails file_len moof before tracks.old room.old (box_seen traf.entry) f) }
     ensures moved { IfOk result (λ at. IsMovedOn moof before (children_of (box_seen traf.entry)) tracks.old tracks.new room.old room.new) }
 {
     let heads = check_boxes(traf)?;
@@ -268,6 +270,7 @@ pub fn check_moof<'a, L: Ledger>(
     requires room { HaveRoom room.old tracks.old }
     ensures view { IfOk result (λ view. moof_seen view ≡ box_seen moof.entry) }
     ensures sound { IfOk result (λ view. (trexes : List Trex) → AreTrexesOf trexes tracks.old → IsSoundMoof file_len trexes tracks.old (tree_of (box_seen moof.entry))) }
+    ensures fault { IfErr result (λ f. MoofFails file_len tracks.old room.old (box_seen moof.entry) f) }
     ensures same { IfOk result (λ view. (id : ℕ) → trex_among tracks.new id ≡ trex_among tracks.old id) }
     ensures moved { IfOk result (λ view. AreMovedOn (box_seen moof.entry).offset (pos (box_seen moof.entry).offset) (of_kind (codes "traf") (children_of (box_seen moof.entry))) tracks.old tracks.new room.old room.new) }
     ensures few { IfOk result (λ view. room.new ≤ room.old) }

@@ -1,11 +1,12 @@
-use Rattle.std.proofs.Common.{◌≡◌, ◌^◌, ◌<◌, ◌≤◌, ◌∙◌, List, sym, subst, to_z, of_z, rules, arith}
+use Rattle.std.proofs.Common.{◌≡◌, ◌^◌, ◌<◌, ◌≤◌, ◌∙◌, List, sym, inr, subst, to_z, of_z, rules, arith}
+use Rattle.std.proofs.lemmas.Result.{err_from_is_err_and}
 use Rattle.std.specs.Int.{w128}
 use Rattle.mp4_boxes.specs.Box.{Box, box_container}
 use Rattle.mp4_boxes.specs.Children.{Holds}
 use Rattle.mp4_boxes.specs.View.{box_seen}
 use Rattle.mp4_boxes.specs.declared.rule.Rule.TheVariants as rules
 use Rattle.mp4_frag.proofs.HeadsFound.{holds_children}
-use Rattle.mp4_frag.proofs.MoofPassed.{moof_traf, moof_ended, moof_sound, moves_traf, moves_ended}
+use Rattle.mp4_frag.proofs.MoofPassed.{moof_traf, moof_ended, moof_sound, moves_traf, moves_fault, moves_ended}
 use Rattle.mp4_frag.proofs.check.check_moof.Goals as goal
 
 pub loop-child-preserved-then-eq : goal.loop-child-preserved-then-eq
@@ -39,4 +40,11 @@ returns-clause-sound g c trexes defaults =
 pub returns-clause-moved : goal.returns-clause-moved
 returns-clause-moved g c =
     let all = holds_children rules.MovieFragment (box_seen c.args.moof) _ c.in_ok-child-items.ensures.holds in
-    moves_ended _ _ _ _ _ _ _ _ _ c.loop-child.invariant.5 c.in-None.ensures.steps.0 (c.into_iter-child-iterator.ensures.into_iter_gives ∙ all)
+    moves_ended _ _ _ _ _ _ _ _ _ _ c.loop-child.invariant.5 c.in-None.ensures.steps.0 (c.into_iter-child-iterator.ensures.into_iter_gives ∙ all)
+
+pub returns-in_err-before-clause-fault : goal.returns-in_err-before-clause-fault
+returns-in_err-before-clause-fault g c =
+    let p = err_from_is_err_and c.from_residual-in_err-before.result c.from_residual-in_err-before.ensures.1 in
+    let all = holds_children rules.MovieFragment (box_seen c.args.moof) _ c.in_ok-child-items.ensures.holds in
+    rw (p.1, p.2) (inr (moves_fault c.args.file_len _ _ _ _ _ _ _ (box_seen c.in-Some.child) _ _ _ c.in_err-before.field-0.0 c.loop-child.invariant.5 c.in-Some.ensures.steps (rw c.kind.ensures at (sym c.if-eq.ensures))
+    (c.into_iter-child-iterator.ensures.into_iter_gives ∙ all) (rw c.offset-then-eq.ensures at c.in_err-before.ensures.fault)))

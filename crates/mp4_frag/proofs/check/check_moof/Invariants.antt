@@ -12,4 +12,4 @@ invariant-loop-child g l =
     × (l.room ≤ l.fn.room)
     × HaveRoom l.room l.tracks
     × MoofSeen l.file_len (box_seen l.moof).offset l.fn.tracks l.initial.child-iterator l.child-iterator l.before l.tracks
-    × MovesSeen (box_seen l.moof).offset l.fn.tracks l.fn.room l.initial.child-iterator l.child-iterator l.before l.tracks l.room
+    × MovesSeen l.file_len (box_seen l.moof).offset l.fn.tracks l.fn.room l.initial.child-iterator l.child-iterator l.before l.tracks l.room

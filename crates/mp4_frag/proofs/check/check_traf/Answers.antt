@@ -1,5 +1,6 @@
-use Rattle.std.proofs.Common.{◌≡◌, ℕ, false, ◌+◌, ◌^◌, ◌≤◌, ◌∙◌, [], ◌∷◌, Option, Some, sym, ap, to_z, of_z, rules, arith}
+use Rattle.std.proofs.Common.{◌≡◌, ℕ, false, ◌+◌, ◌^◌, ◌≤◌, ◌∙◌, [], ◌∷◌, Option, Some, sym, ap, refl, to_z, of_z, rules, arith}
 use Rattle.std.specs.Prelude.{codes, option_map}
+use Rattle.std.proofs.lemmas.Result.{err_from_is_err_and}
 use Rattle.std.specs.Int.{w128}
 use Rattle.std.specs.List.{AllByRecursion}
 use Rattle.mp4_boxes.specs.Box.{Box}
@@ -11,6 +12,8 @@ use Rattle.mp4_tables.specs.Keys.{keys_seen}
 use Rattle.mp4_frag.specs.Passing.{IsUpTo}
 use Rattle.mp4_frag.specs.Fragments.{track_fragment_of}
 use Rattle.mp4_frag.specs.Passing.{is_late_at}
+use Rattle.mp4_frag.specs.TrafFaults.{head_fails, time_fails}
+use Rattle.mp4_frag.proofs.TrafRefused.{no_head, unknown_id, unknown_trex, opened, runs_refused, description_refused, groups_refused, time_refused}
 use Rattle.mp4_frag.proofs.TracksMoved.{traf_moved, its_time, no_time}
 use Rattle.mp4_frag.specs.RunsJudged.{children_of, only_list}
 use Rattle.mp4_frag.specs.States.{HasRoom}
@@ -106,3 +109,76 @@ returns-clause-moved g c =
     traf_moved c.args.moof c.in_ok-passed.passed.count c.in_ok-passed.passed.duration c.in-Some-find_track.k c.args.room.now c.check_runs.new.room c.args.before c.args.tracks.now _ c.index-tracks-k.result c.moved_on.result boxes (box_seen c.in-Some.tfhd) c.in-Ok.head c.in-Some-trex.trex c.what_is_inherited.result c.in_ok-keys.keys c.match-heads-2.time
     head (rw c.payload.ensures at c.in-Ok.ensures.head) c.in-Some-find_track.ensures.inside c.in-Some-find_track.ensures.found c.index-tracks-k.is c.in-Some-trex.is c.what_is_inherited.ensures c.in_ok-passed.ensures.count c.in_ok-passed.ensures.lasting
     c.in_ok-keys.ensures.sound c.in_ok-keys.ensures.keys (sym c.if-lacks_description.ensures) late time m.none m.some c.in_ok-passed.ensures.few
+
+pub returns-in_default-clause-fault : goal.returns-in_default-clause-fault
+returns-in_default-clause-fault g c =
+    let none : [] ≡ of_kind (codes "tfhd") (children_of (box_seen c.args.traf)) = ap (λ (o : Option BoxView). only_list (option_map box_seen o)) (sym c.in_default.is) ∙ c.in_ok-heads.ensures.head in
+    absurd (no_head (box_seen c.args.traf) (children_of (box_seen c.args.traf)) c.in_ok-heads.ensures.holds (sym none))
+
+pub returns-in-Err-clause-fault : goal.returns-in-Err-clause-fault
+returns-in-Err-clause-fault g c =
+    let head = sym c.in_ok-heads.ensures.head ∙ ap (λ (o : Option BoxView). only_list (option_map box_seen o)) c.in-Some.is in
+    head_fails (box_seen c.in-Some.tfhd) c.in-Err.kind head (rw c.payload.ensures at c.in-Err.ensures.fault) c.fault-in-Err.ensures
+
+pub returns-in_default-find_track-clause-fault : goal.returns-in_default-find_track-clause-fault
+returns-in_default-find_track-clause-fault g c =
+    let head = sym c.in_ok-heads.ensures.head ∙ ap (λ (o : Option BoxView). only_list (option_map box_seen o)) c.in-Some.is in
+    unknown_id c.args.file_len c.args.moof c.args.room.now c.args.before c.args.tracks.now (box_seen c.args.traf) (box_seen c.in-Some.tfhd) c.in-Ok.head _ head (rw c.payload.ensures at c.in-Ok.ensures.head) (c.in_default-find_track.ensures.none refl) c.fault-in_default-find_track.ensures
+
+pub returns-in_default-trex-clause-fault : goal.returns-in_default-trex-clause-fault
+returns-in_default-trex-clause-fault g c =
+    let head = sym c.in_ok-heads.ensures.head ∙ ap (λ (o : Option BoxView). only_list (option_map box_seen o)) c.in-Some.is in
+    unknown_trex c.args.file_len c.args.moof c.args.room.now c.in-Some-find_track.k c.args.before c.args.tracks.now _ c.index-tracks-k.result (box_seen c.args.traf) (box_seen c.in-Some.tfhd) c.in-Ok.head _ head (rw c.payload.ensures at c.in-Ok.ensures.head)
+    c.in-Some-find_track.ensures.inside c.in-Some-find_track.ensures.found c.index-tracks-k.is c.in_default-trex.is c.fault-in_default-trex.ensures
+
+pub returns-in-Err-read_time-clause-fault : goal.returns-in-Err-read_time-clause-fault
+returns-in-Err-read_time-clause-fault g c =
+    let there = sym c.in_ok-heads.ensures.time ∙ ap (λ (o : Option BoxView). only_list (option_map box_seen o)) c.in-Some-time.is in
+    time_fails (box_seen c.in-Some-time.tfdt) c.in-Err-read_time.kind there (rw c.payload-in-Some-time.ensures at c.in-Err-read_time.ensures.fault) c.fault-in-Err-read_time.ensures
+
+pub returns-in_err-passed-clause-fault : goal.returns-in_err-passed-clause-fault
+returns-in_err-passed-clause-fault g c =
+    let p = err_from_is_err_and c.from_residual-in_err-passed.result c.from_residual-in_err-passed.ensures.1 in
+    let head = sym c.in_ok-heads.ensures.head ∙ ap (λ (o : Option BoxView). only_list (option_map box_seen o)) c.in-Some.is in
+    let same : to_z w128 (of_z w128 c.base_of.result) ≡ c.base_of.result = search rules in
+    let before : to_z w128 (of_z w128 c.args.before) ≡ c.args.before = search rules in
+    let o = opened c.args.moof c.in-Some-find_track.k c.args.before c.base_of.result c.args.tracks.now _ c.index-tracks-k.result (box_seen c.args.traf) (box_seen c.in-Some.tfhd) c.in-Ok.head c.in-Some-trex.trex c.what_is_inherited.result head (rw c.payload.ensures at c.in-Ok.ensures.head)
+    c.in-Some-find_track.ensures.inside c.in-Some-find_track.ensures.found c.index-tracks-k.is c.in-Some-trex.is (rw before at c.base_of.ensures.is) c.what_is_inherited.ensures in
+    rw (p.1, p.2) (runs_refused c.args.file_len c.args.moof c.args.room.now c.args.before c.base_of.result c.args.tracks.now (box_seen c.args.traf) (box_seen c.in-Some.tfhd) c.index-tracks-k.result c.in-Some-trex.trex c.what_is_inherited.result c.in_err-passed.field-0.0 o ((rw same at c.in_err-passed.ensures.fault) c.in_ok-heads.ensures.holds.tiles))
+
+pub returns-then-lacks_description-clause-fault : goal.returns-then-lacks_description-clause-fault
+returns-then-lacks_description-clause-fault g c =
+    let head = sym c.in_ok-heads.ensures.head ∙ ap (λ (o : Option BoxView). only_list (option_map box_seen o)) c.in-Some.is in
+    let same : to_z w128 (of_z w128 c.base_of.result) ≡ c.base_of.result = search rules in
+    let before : to_z w128 (of_z w128 c.args.before) ≡ c.args.before = search rules in
+    let o = opened c.args.moof c.in-Some-find_track.k c.args.before c.base_of.result c.args.tracks.now _ c.index-tracks-k.result (box_seen c.args.traf) (box_seen c.in-Some.tfhd) c.in-Ok.head c.in-Some-trex.trex c.what_is_inherited.result head (rw c.payload.ensures at c.in-Ok.ensures.head)
+    c.in-Some-find_track.ensures.inside c.in-Some-find_track.ensures.found c.index-tracks-k.is c.in-Some-trex.is (rw before at c.base_of.ensures.is) c.what_is_inherited.ensures in
+    description_refused c.args.file_len c.args.moof c.args.room.now c.in_ok-passed.passed.count c.args.before c.base_of.result c.args.tracks.now (box_seen c.args.traf) (box_seen c.in-Some.tfhd) c.index-tracks-k.result c.in-Some-trex.trex c.what_is_inherited.result _ o (rw same at c.in_ok-passed.ensures.sound) c.in_ok-passed.ensures.count (sym c.if-lacks_description.ensures) c.fault-then-lacks_description.ensures
+
+pub returns-in_err-keys-clause-fault : goal.returns-in_err-keys-clause-fault
+returns-in_err-keys-clause-fault g c =
+    let p = err_from_is_err_and c.from_residual-in_err-keys.result c.from_residual-in_err-keys.ensures.1 in
+    let head = sym c.in_ok-heads.ensures.head ∙ ap (λ (o : Option BoxView). only_list (option_map box_seen o)) c.in-Some.is in
+    let same : to_z w128 (of_z w128 c.base_of.result) ≡ c.base_of.result = search rules in
+    let before : to_z w128 (of_z w128 c.args.before) ≡ c.args.before = search rules in
+    let o = opened c.args.moof c.in-Some-find_track.k c.args.before c.base_of.result c.args.tracks.now _ c.index-tracks-k.result (box_seen c.args.traf) (box_seen c.in-Some.tfhd) c.in-Ok.head c.in-Some-trex.trex c.what_is_inherited.result head (rw c.payload.ensures at c.in-Ok.ensures.head)
+    c.in-Some-find_track.ensures.inside c.in-Some-find_track.ensures.found c.index-tracks-k.is c.in-Some-trex.is (rw before at c.base_of.ensures.is) c.what_is_inherited.ensures in
+    rw (p.1, p.2) (groups_refused c.args.file_len c.args.moof c.args.room.now c.in_ok-passed.passed.count c.args.before c.base_of.result c.args.tracks.now (box_seen c.args.traf) (box_seen c.in-Some.tfhd) c.index-tracks-k.result c.in-Some-trex.trex c.what_is_inherited.result c.in_err-keys.field-0.0 o (rw same at c.in_ok-passed.ensures.sound) c.in_ok-passed.ensures.count (c.in_err-keys.ensures.fault c.in_ok-heads.ensures.holds.tiles))
+
+pub returns-then-is_late-clause-fault : goal.returns-then-is_late-clause-fault
+returns-then-is_late-clause-fault g c =
+    let boxes = children_of (box_seen c.args.traf) in
+    let there = sym c.in_ok-heads.ensures.time ∙ ap (λ (o : Option BoxView). only_list (option_map box_seen o)) c.in-Some-time-2.is in
+    let time : (track_fragment_of boxes).decode_time ≡ c.match-heads-2.time =
+    elim c.match-heads-2.branch [
+      | in-Some-time+in-Ok-read_time w ↦
+          let at = sym c.in_ok-heads.ensures.time ∙ ap (λ (o : Option BoxView). only_list (option_map box_seen o)) w.in-Some-time.is in
+          its_time _ boxes _ at (rw w.payload-in-Some-time.ensures at w.in-Ok-read_time.ensures.time) ∙ sym w.time-is
+      | in-None w ↦ no_time boxes (sym c.in_ok-heads.ensures.time ∙ ap (λ (o : Option BoxView). only_list (option_map box_seen o)) w.in-None.is) ∙ sym w.time-is
+    ] in
+    let head = sym c.in_ok-heads.ensures.head ∙ ap (λ (o : Option BoxView). only_list (option_map box_seen o)) c.in-Some.is in
+    let same : to_z w128 (of_z w128 c.base_of.result) ≡ c.base_of.result = search rules in
+    let before : to_z w128 (of_z w128 c.args.before) ≡ c.args.before = search rules in
+    let o = opened c.args.moof c.in-Some-find_track.k c.args.before c.base_of.result c.args.tracks.now _ c.index-tracks-k.result (box_seen c.args.traf) (box_seen c.in-Some.tfhd) c.in-Ok.head c.in-Some-trex.trex c.what_is_inherited.result head (rw c.payload.ensures at c.in-Ok.ensures.head)
+    c.in-Some-find_track.ensures.inside c.in-Some-find_track.ensures.found c.index-tracks-k.is c.in-Some-trex.is (rw before at c.base_of.ensures.is) c.what_is_inherited.ensures in
+    time_refused c.args.file_len c.args.moof c.args.room.now c.in_ok-passed.passed.count c.args.before c.base_of.result c.args.tracks.now (box_seen c.args.traf) (box_seen c.in-Some.tfhd) (box_seen c.in-Some-time-2.tfdt) c.index-tracks-k.result c.in-Some-trex.trex c.what_is_inherited.result c.match-heads-2.time _ o (rw same at c.in_ok-passed.ensures.sound) c.in_ok-passed.ensures.count c.in_ok-keys.ensures.sound there time (sym c.if-is_late.ensures) c.fault-then-is_late.ensures
