@@ -5,14 +5,14 @@ use Rattle.std.specs.List.{AllByRecursion, list_all, list_any, slice_get}
 use Rattle.std.proofs.lemmas.Bool.{cases_lt}
 use Rattle.std.proofs.lemmas.Bool.Decides.{nat_tests}
 use Rattle.std.proofs.lemmas.List.{append-nil, append_assoc}
-use Rattle.mp4_tables.proofs.RowLists.{runs_all}
+use Rattle.mp4_tables.proofs.RowLists.{runs_all, runs_length}
 use Rattle.mp4_boxes.proofs.Among.{all_append, of_kind-split, of_kind-append}
 use Rattle.mp4_tables.specs.Repeated.{total}
 use Rattle.mp4_tables.specs.Groups.{GroupKey, Grouping, GroupRule, one_of_key, few_keys, index_range, group_counts, same_key, keys_after, grouping_of, groupings_of, keeps, group_test, group_reads, group_kind}
 use Rattle.mp4_tables.specs.Keys.{keys_seen}
 use Rattle.mp4_tables.specs.Rows.{HaveRoom, run_of, runs_at}
 use Rattle.mp4_tables.specs.Coming.{all_below}
-use Rattle.mp4_tables.specs.Accepted.{grouped, group_rows, groupings_at, AreDistinct, AreUsed, AreIndexes, HaveGroup, HaveGroups}
+use Rattle.mp4_tables.specs.Accepted.{group_count, grouped, group_rows, groupings_at, AreDistinct, AreUsed, AreIndexes, HaveGroup, HaveGroups}
 use Rattle.mp4_boxes.specs.Bytes.{field, rows, width_of}
 use Rattle.mp4_boxes.specs.Box.{Box}
 use Rattle.mp4_boxes.specs.Children.{of_kind}
@@ -26,7 +26,7 @@ use Rattle.mp4_tables.proofs.ChunkReads.{no_readable}
 use Rattle.mp4_boxes.specs.BoxFaults.{fault_of}
 use Rattle.mp4_boxes.specs.declared.fault.Fault.{Fault}
 use Rattle.mp4_boxes.specs.declared.fault.Kind.TheVariants.{ShortBox}
-use Rattle.mp4_tables.specs.Leaves.{GroupsSo, SlotTaken, GroupRead, HasTables, IsChild, LiesIn, FailsAs, VersionFails, RowsFail, RowsRead, boxes_of, AllOf, tables_in, SizesKnown, IsFault, ChildFails, ChildRead, GroupNext, GroupFails, GroupsRead}
+use Rattle.mp4_tables.specs.Leaves.{GroupsSo, GroupPassed, SlotTaken, GroupRead, HasTables, IsChild, LiesIn, FailsAs, VersionFails, RowsFail, RowsRead, boxes_of, AllOf, tables_in, SizesKnown, IsFault, ChildFails, ChildRead, GroupNext, GroupFails, GroupsRead}
 use Rattle.mp4_tables.proofs.LeafLists.{lies_in, room_there, runs_there, version_fails}
 use Rattle.mp4_tables.specs.declared.places.RowsAt.{RowsAt}
 use Rattle.mp4_tables.specs.declared.places.GroupsAt.{GroupsAt}
@@ -473,3 +473,34 @@ passed_all stbl n at left p e =
       groups = subst (AllOf (codes "sbgp") (IsReadable sbgp)) all p.groups;
       described = subst (AllOf (codes "sgpd") (IsSound sgpd)) all p.described;
     }
+
+-- ---- rows that were passed
+
+-- a slot that no key has is empty
+none_counted : (payload : List ℕ) (r : RowsAt) → runs_at payload r ≡ [] → r.count ≡ 0
+none_counted payload r e = sym (runs_length payload r) ∙ ap (λ (xs : List (ℕ × ℕ)). length xs) e
+
+-- one more `sbgp` has its rows in an empty slot
+slot_counted : (payload : List ℕ) (keys : List GroupKey) (at after : GroupsAt) (r : RowsAt) → AreUsed keys (group_rows payload at) → SlotTaken (length keys) at r after → length keys < 4 → group_count after ≡ group_count at + r.count
+slot_counted payload [] at after r u (a, b, c, d) h =
+    let z = none_counted payload at.first u.0 in
+    omega (arith, z, ap (λ (x : RowsAt). x.count) a, ap (λ (x : RowsAt). x.count) b, ap (λ (x : RowsAt). x.count) c, ap (λ (x : RowsAt). x.count) d)
+slot_counted payload (k ∷ []) at after r u (a, b, c, d) h =
+    let z = none_counted payload at.second u.0 in
+    omega (arith, z, ap (λ (x : RowsAt). x.count) a, ap (λ (x : RowsAt). x.count) b, ap (λ (x : RowsAt). x.count) c, ap (λ (x : RowsAt). x.count) d)
+slot_counted payload (k ∷ l ∷ []) at after r u (a, b, c, d) h =
+    let z = none_counted payload at.third u.0 in
+    omega (arith, z, ap (λ (x : RowsAt). x.count) a, ap (λ (x : RowsAt). x.count) b, ap (λ (x : RowsAt). x.count) c, ap (λ (x : RowsAt). x.count) d)
+slot_counted payload (k ∷ l ∷ m ∷ []) at after r u (a, b, c, d) h =
+    let z = none_counted payload at.fourth u.0 in
+    omega (arith, z, ap (λ (x : RowsAt). x.count) a, ap (λ (x : RowsAt). x.count) b, ap (λ (x : RowsAt). x.count) c, ap (λ (x : RowsAt). x.count) d)
+slot_counted payload (k ∷ l ∷ m ∷ o ∷ keys) at after r u s h = absurd (omega (arith, h))
+
+pub group_passed : (payload : List ℕ) (n old new : ℕ) (at after : GroupsAt) (r : RowsAt) → SlotTaken (length (keys_seen at.keys)) at r after → length (keys_seen at.keys) < 4 → new ≤ old + 2 * r.count → GroupPassed payload n at after old new
+group_passed payload n old new at after r s few h = λ gs so. let e = slot_counted payload (keys_seen at.keys) at after r so.have.used s few in omega arith
+
+-- all rows that were read lie in the payload
+pub rows_bounded : (payload : List ℕ) (at : GroupsAt) → HaveGroups payload at → 2 * group_count at ≤ length payload
+rows_bounded payload at h =
+    let a = h.first.0 in let b = h.second.0 in let c = h.third.0 in let d = h.fourth.0 in
+    omega arith

@@ -3,7 +3,7 @@ ghost use Rattle.std.specs.Prelude.{◌≡◌, ◌+◌, ◌*◌, ◌≤◌, leng
 ghost use Rattle.mp4_boxes.specs.Layout.{version};
 ghost use Rattle.mp4_boxes.specs.View.{box_seen};
 ghost use Rattle.mp4_tables.specs.Leaves.{HasTables, SizesKnown, DurationsRead, OffsetsRead, ChunksRead, ChunkRowsRead, IsOffsetsLeaf, SyncRead, DependenciesRead, SizesRead, PlacesRead, TablesRead, IsFault, HasDescriptions, AreAccepted, boxes_of};
-ghost use Rattle.mp4_tables.specs.Accepted.{offset_rows, count_of};
+ghost use Rattle.mp4_tables.specs.Accepted.{offset_rows, count_of, rows_in};
 
 use crate::chunks::{are_described, are_ordered, chunk_counts_are};
 use crate::group_checks::read_groups;
@@ -246,6 +246,8 @@ pub(crate) fn read_tables<L: Ledger>(
     ensures tables { IfOk result (TablesRead limits (box_seen stbl.entry)) }
     ensures fault { HasDescriptions (box_seen stbl.entry) → IfErr result (IsFault limits (box_seen stbl.entry)) }
     ensures only { AreAccepted limits (box_seen stbl.entry) (boxes_of (box_seen stbl.entry)) → IsOk result }
+    ensures passed { IfOk result (λ at. steps.new ≤ steps.old + 6 * rows_in at + 2 * at.sizes.rows.count) }
+    ensures work { steps.new ≤ steps.old + 8 * length (box_seen stbl.entry).payload + 2 * limits.room }
 {
     let sizes = read_sizes(stbl, limits)?;
     let n = sizes.rows.count;
