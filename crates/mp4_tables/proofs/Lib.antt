@@ -1,5 +1,6 @@
 pub mod Counts
 pub mod RowLists
+pub mod Passed
 pub mod Assembly
 pub mod Excludes
 pub mod GroupReads
