@@ -110,7 +110,7 @@ fn read_group<L: Ledger>(
     ensures next { IfOk result (GroupNext (box_seen stbl.entry).payload n groups (box_seen leaf.entry)) }
     ensures fault { IfErr result (GroupFails (box_seen stbl.entry).payload n groups (box_seen leaf.entry)) }
     ensures passed { IfOk result (λ next. GroupPassed (box_seen stbl.entry).payload n groups next steps.old steps.new) }
-    ensures work { steps.new ≤ steps.old + length (box_seen stbl.entry).payload }
+    ensures work { 4 * steps.new ≤ 4 * steps.old + length (box_seen stbl.entry).payload }
 {
     let (key, rows) = read_grouping(stbl, leaf)?;
     let payload = stbl.payload();
@@ -142,7 +142,7 @@ fn read_child<L: Ledger>(
     ensures next { IfOk result (ChildRead (box_seen stbl.entry).payload n groups (box_seen child.entry)) }
     ensures fault { IfErr result (ChildFails (box_seen stbl.entry).payload n groups (box_seen child.entry)) }
     ensures passed { IfOk result (λ next. GroupPassed (box_seen stbl.entry).payload n groups next steps.old steps.new) }
-    ensures work { steps.new ≤ steps.old + length (box_seen stbl.entry).payload }
+    ensures work { 4 * steps.new ≤ 4 * steps.old + length (box_seen stbl.entry).payload }
 {
     if child.kind() == SBGP {
         let next = read_group(stbl, child, groups, n, steps)?;
@@ -182,7 +182,7 @@ pub(crate) fn read_groups<L: Ledger>(
     ensures groups { IfOk result (GroupsRead (box_seen stbl.entry) n) }
     ensures fault { IfErr result (IsFault limits (box_seen stbl.entry)) }
     ensures passed { IfOk result (λ groups. steps.new ≤ steps.old + 2 * group_count groups) }
-    ensures work { steps.new ≤ steps.old + 2 * length (box_seen stbl.entry).payload }
+    ensures work { 2 * steps.new ≤ 2 * steps.old + 3 * length (box_seen stbl.entry).payload }
 {
     let mut groups = no_groups(stbl.payload(), n);
     for child in children_of(stbl) {

@@ -53,7 +53,8 @@ impl<'a> Tables<'a> {
         ensures fault { HasDescriptions (box_seen stbl.entry) → IfErr result (IsFault (record { file_len = file_len; descriptions = descriptions; room = room }) (box_seen stbl.entry)) }
         ensures only { AreAccepted (record { file_len = file_len; descriptions = descriptions; room = room }) (box_seen stbl.entry) (boxes_of (box_seen stbl.entry)) → IsOk result }
         ensures passed { IfOk result (λ t. steps.new ≤ steps.old + 6 * rows_in t.at + 2 * t.at.sizes.rows.count) }
-        ensures work { steps.new ≤ steps.old + 8 * length (box_seen stbl.entry).payload + 2 * room }
+        ensures within { IfOk result (λ t. steps.new ≤ steps.old + 4 * length (box_seen stbl.entry).payload + 2 * t.at.sizes.rows.count) }
+        ensures work { steps.new ≤ steps.old + 4 * length (box_seen stbl.entry).payload + 2 * room }
     {
         let limits = Limits {
             file_len,
