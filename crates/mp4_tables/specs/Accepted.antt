@@ -191,6 +191,6 @@ count_of (Some at) = at.count
 abbrev pub group_count : GroupsAt → ℕ
 group_count at = at.first.count + at.second.count + at.third.count + at.fourth.count
 
--- how many rows the tables have, but for those of one sample each
+-- how many rows the tables have, beside the sizes and the bytes of `sdtp`, which are one a sample
 abbrev pub rows_in : TablesAt → ℕ
 rows_in at = at.durations.count + (offset_rows at.offsets).count + at.chunk_rows.count + at.chunks.rows.count + count_of at.sync + group_count at.groups
