@@ -3,7 +3,9 @@ pub mod RowLists
 pub mod Passed
 pub mod Assembly
 pub mod Excludes
+pub mod GroupWalks
 pub mod GroupReads
+pub mod GroupsKept
 pub mod PlaceReads
 pub mod SizeReads
 pub mod ChunkReads

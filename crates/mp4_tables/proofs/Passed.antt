@@ -9,7 +9,7 @@ use Rattle.mp4_tables.specs.declared.places.SyncPlace.{SyncPlace}
 use Rattle.mp4_tables.specs.declared.places.TablesAt.{TablesAt}
 use Rattle.mp4_tables.specs.declared.places.TablePlace.{TablePlace}
 use Rattle.mp4_tables.proofs.RowLists.{runs_length, numbers_length, chunk_rows_length}
-use Rattle.mp4_tables.proofs.GroupReads.{rows_bounded}
+use Rattle.mp4_tables.proofs.GroupWalks.{rows_bounded}
 
 run_within : (payload : List ℕ) (r : RowsAt) (p : RunPlace) (k : ℕ) → IsRunPlaceAt (runs_at payload r) p k → p.row ≤ r.count
 run_within payload r p k h = let n = runs_length payload r in let w = h.within in omega arith
