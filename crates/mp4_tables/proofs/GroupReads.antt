@@ -15,7 +15,7 @@ use Rattle.mp4_boxes.specs.BoxFaults.{fault_of}
 use Rattle.mp4_boxes.specs.declared.fault.Fault.{Fault}
 use Rattle.mp4_boxes.specs.declared.fault.Kind.TheVariants.{ShortBox}
 use Rattle.mp4_tables.specs.Leaves.{GroupsSo, SlotTaken, GroupRead, HasTables, IsChild, LiesIn, FailsAs, VersionFails, RowsFail, RowsRead, GroupNext, GroupFails}
-use Rattle.mp4_tables.proofs.LeafLists.{lies_in, room_there, runs_there, version_fails}
+use Rattle.mp4_tables.proofs.LeafRows.{lies_in, room_there, runs_there, version_fails}
 use Rattle.mp4_tables.specs.declared.places.RowsAt.{RowsAt}
 use Rattle.mp4_tables.specs.declared.places.GroupsAt.{GroupsAt}
 use Rattle.mp4_tables.proofs.ChunkLists.{yes_le, no_le}

@@ -9,7 +9,9 @@ pub mod GroupsKept
 pub mod PlaceReads
 pub mod SizeReads
 pub mod ChunkReads
+pub mod OffsetReads
 pub mod TableReads
+pub mod LeafRows
 pub mod LeafLists
 pub mod PlaceLists
 pub mod IndexLists
