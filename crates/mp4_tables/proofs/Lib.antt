@@ -1,12 +1,17 @@
 pub mod Counts
 pub mod RowLists
+pub mod Passed
 pub mod Assembly
 pub mod Excludes
+pub mod GroupWalks
 pub mod GroupReads
+pub mod GroupsKept
 pub mod PlaceReads
 pub mod SizeReads
 pub mod ChunkReads
+pub mod OffsetReads
 pub mod TableReads
+pub mod LeafRows
 pub mod LeafLists
 pub mod PlaceLists
 pub mod IndexLists

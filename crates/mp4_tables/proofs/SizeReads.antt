@@ -23,7 +23,8 @@ use Rattle.mp4_tables.specs.declared.places.SizeForm.{SizeForm}
 use Rattle.mp4_tables.specs.declared.places.SizeForm.TheVariants as forms
 use Rattle.mp4_tables.proofs.ChunkLists.{yes_le}
 use Rattle.mp4_tables.proofs.RowLists.{sizes_length}
-use Rattle.mp4_tables.proofs.LeafLists.{payload_first, payload_none, all_first, all_none, count_each, lies_in, first_is_child, rows_there, version_fails}
+use Rattle.mp4_tables.proofs.LeafLists.{payload_first, payload_none, all_first, all_none, count_each}
+use Rattle.mp4_tables.proofs.LeafRows.{lies_in, first_is_child, rows_there, version_fails}
 use Rattle.mp4_tables.proofs.TableReads.{payload_is, readable_more, first_fault, all_readable}
 use Rattle.mp4_tables.proofs.ChunkReads.{first_counts, no_readable}
 

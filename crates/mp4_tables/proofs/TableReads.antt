@@ -20,7 +20,8 @@ use Rattle.mp4_tables.specs.declared.leaves.Limits.{Limits}
 use Rattle.mp4_tables.specs.Accepted.{bytes_at}
 use Rattle.mp4_tables.specs.declared.places.RowsAt.{RowsAt}
 use Rattle.mp4_tables.specs.declared.places.BytesAt.{BytesAt}
-use Rattle.mp4_tables.proofs.LeafLists.{payload_first, payload_none, all_first, all_none, leaf_fault, lies_in, first_is_child, room_there, runs_there, numbers_there, shape_fails, shape_readable, version_fails, bytes_there}
+use Rattle.mp4_tables.proofs.LeafLists.{payload_first, payload_none, all_first, all_none, leaf_fault}
+use Rattle.mp4_tables.proofs.LeafRows.{lies_in, first_is_child, room_there, runs_there, numbers_there, shape_fails, shape_readable, version_fails, bytes_there}
 use Rattle.mp4_tables.proofs.ChunkLists.{yes_le, no_le}
 
 -- the payload of the first of a type

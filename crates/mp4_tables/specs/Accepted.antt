@@ -186,3 +186,11 @@ passed p = 2 * p.number + p.duration.row + p.offset.row + p.chunk.opened + p.chu
 abbrev pub count_of : Option RowsAt → ℕ
 count_of None = 0
 count_of (Some at) = at.count
+
+-- how many rows all `sbgp`s have
+abbrev pub group_count : GroupsAt → ℕ
+group_count at = at.first.count + at.second.count + at.third.count + at.fourth.count
+
+-- how many rows the tables have, beside the sizes and the bytes of `sdtp`, which are one a sample
+abbrev pub rows_in : TablesAt → ℕ
+rows_in at = at.durations.count + (offset_rows at.offsets).count + at.chunk_rows.count + at.chunks.rows.count + count_of at.sync + group_count at.groups

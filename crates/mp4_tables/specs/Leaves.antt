@@ -17,7 +17,7 @@ use Rattle.mp4_tables.specs.Tables.{Tables, sample_count, tables_of}
 use Rattle.mp4_tables.specs.Rows.{HaveRoom, HaveSizes, runs_at, chunk_rows_at, numbers_at, offsets_at, offset_width, sizes_at}
 use Rattle.mp4_tables.specs.TableRules.{Surroundings, Fit, AreReadable, IsTableFault, test, chunk_order, description_indexes, places, is_sync_order}
 use Rattle.mp4_tables.specs.PlainSamples.{in_chunks_total}
-use Rattle.mp4_tables.specs.Accepted.{HaveOffsets, HaveSync, HaveBytes, composition_offsets_at, bytes_at, groupings_at, HaveGroups, IsAccepted, tables_at}
+use Rattle.mp4_tables.specs.Accepted.{HaveOffsets, HaveSync, HaveBytes, composition_offsets_at, bytes_at, groupings_at, HaveGroups, IsAccepted, tables_at, group_count}
 use Rattle.mp4_tables.specs.Keys.{keys_seen}
 use Rattle.mp4_tables.specs.declared.leaves.Limits.{Limits}
 use Rattle.mp4_tables.specs.declared.places.RowsAt.{RowsAt}
@@ -228,6 +228,10 @@ GroupFails payload n at b f = FailsAs sbgp b f ⊎ GroupRuleFails payload n at b
 pub record GroupNext (payload : List ℕ) (n : ℕ) (at : GroupsAt) (b : Box) (after : GroupsAt) : Type 0 where
   pub readable : IsReadable sbgp b.payload
   pub so : (gs : List Grouping) → GroupsSo payload n gs at → GroupsSo payload n (gs ++ grouping_of b.payload ∷ []) after
+
+-- behind those that were read, two steps were taken for each row of one more
+abbrev pub GroupPassed : List ℕ → ℕ → GroupsAt → GroupsAt → ℕ → ℕ → Type 0
+GroupPassed payload n at after old new = (gs : List Grouping) → GroupsSo payload n gs at → new + 2 * group_count at ≤ old + 2 * group_count after
 
 -- a child that is no `sbgp`, and if it is an `sgpd`, a sound one
 pub record OtherChild (at : GroupsAt) (b : Box) (after : GroupsAt) : Type 0 where

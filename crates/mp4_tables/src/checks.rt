@@ -3,7 +3,7 @@ ghost use Rattle.std.specs.Prelude.{◌≡◌, ◌+◌, ◌*◌, ◌≤◌, leng
 ghost use Rattle.mp4_boxes.specs.Layout.{version};
 ghost use Rattle.mp4_boxes.specs.View.{box_seen};
 ghost use Rattle.mp4_tables.specs.Leaves.{HasTables, SizesKnown, DurationsRead, OffsetsRead, ChunksRead, ChunkRowsRead, IsOffsetsLeaf, SyncRead, DependenciesRead, SizesRead, PlacesRead, TablesRead, IsFault, HasDescriptions, AreAccepted, boxes_of};
-ghost use Rattle.mp4_tables.specs.Accepted.{offset_rows, count_of};
+ghost use Rattle.mp4_tables.specs.Accepted.{offset_rows, count_of, rows_in};
 
 use crate::chunks::{are_described, are_ordered, chunk_counts_are};
 use crate::group_checks::read_groups;
@@ -42,7 +42,7 @@ pub(crate) fn read_durations<L: Ledger>(
     ensures rows { IfOk result (DurationsRead (box_seen stbl.entry) n) }
     ensures fault { IfErr result (IsFault limits (box_seen stbl.entry)) }
     ensures passed { IfOk result (λ r. steps.new ≤ steps.old + r.count) }
-    ensures work { steps.new ≤ steps.old + length (box_seen stbl.entry).payload }
+    ensures work { 4 * steps.new ≤ 4 * steps.old + length (box_seen stbl.entry).payload }
 {
     let leaf = only_of(stbl, STTS);
     let rows = table_rows(stbl, leaf, 0, 8)?;
@@ -72,7 +72,7 @@ pub(crate) fn read_offsets<L: Ledger>(
     ensures rows { IfOk result (OffsetsRead (box_seen stbl.entry) n) }
     ensures fault { IfErr result (IsFault limits (box_seen stbl.entry)) }
     ensures passed { IfOk result (λ o. steps.new ≤ steps.old + 2 * (offset_rows o).count) }
-    ensures work { steps.new ≤ steps.old + length (box_seen stbl.entry).payload }
+    ensures work { 4 * steps.new ≤ 4 * steps.old + length (box_seen stbl.entry).payload }
 {
     let Some(leaf) = first_of(stbl, CTTS) else {
         return Ok(None);
@@ -147,7 +147,7 @@ pub(crate) fn read_chunk_rows<L: Ledger>(
     ensures fault { HasDescriptions (box_seen stbl.entry) → IfErr result (IsFault limits (box_seen stbl.entry)) }
     ensures only { AreAccepted limits (box_seen stbl.entry) (boxes_of (box_seen stbl.entry)) → IsOk result }
     ensures passed { IfOk result (λ r. steps.new ≤ steps.old + r.count + 4 * chunks.rows.count) }
-    ensures work { steps.new ≤ steps.old + 2 * length (box_seen stbl.entry).payload }
+    ensures work { 4 * steps.new ≤ 4 * steps.old + 5 * length (box_seen stbl.entry).payload }
 {
     let leaf = only_of(stbl, STSC);
     let rows = table_rows(stbl, leaf, 0, 12)?;
@@ -176,7 +176,7 @@ pub(crate) fn read_sync<L: Ledger>(
     ensures rows { IfOk result (SyncRead (box_seen stbl.entry) n) }
     ensures fault { IfErr result (IsFault limits (box_seen stbl.entry)) }
     ensures passed { IfOk result (λ o. steps.new ≤ steps.old + count_of o) }
-    ensures work { steps.new ≤ steps.old + length (box_seen stbl.entry).payload }
+    ensures work { 4 * steps.new ≤ 4 * steps.old + length (box_seen stbl.entry).payload }
 {
     let Some(leaf) = first_of(stbl, STSS) else {
         return Ok(None);
@@ -246,6 +246,9 @@ pub(crate) fn read_tables<L: Ledger>(
     ensures tables { IfOk result (TablesRead limits (box_seen stbl.entry)) }
     ensures fault { HasDescriptions (box_seen stbl.entry) → IfErr result (IsFault limits (box_seen stbl.entry)) }
     ensures only { AreAccepted limits (box_seen stbl.entry) (boxes_of (box_seen stbl.entry)) → IsOk result }
+    ensures passed { IfOk result (λ at. steps.new ≤ steps.old + 6 * rows_in at + 2 * at.sizes.rows.count) }
+    ensures within { IfOk result (λ at. steps.new ≤ steps.old + 4 * length (box_seen stbl.entry).payload + 2 * at.sizes.rows.count) }
+    ensures work { steps.new ≤ steps.old + 4 * length (box_seen stbl.entry).payload + 2 * limits.room }
 {
     let sizes = read_sizes(stbl, limits)?;
     let n = sizes.rows.count;

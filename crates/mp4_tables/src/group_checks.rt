@@ -3,7 +3,8 @@ ghost use Rattle.std.specs.Prelude.{◌≡◌, ◌+◌, ◌*◌, ◌≤◌, ◌<
 ghost use Rattle.mp4_boxes.specs.Layout.{sbgp, sgpd, IsSound};
 ghost use Rattle.mp4_boxes.specs.View.{box_seen};
 ghost use Rattle.mp4_tables.specs.Keys.{key_seen, keys_seen};
-ghost use Rattle.mp4_tables.specs.Leaves.{HasTables, IsChild, FailsAs, SlotTaken, GroupRead, GroupFails, GroupNext, ChildRead, ChildFails, GroupsRead, GroupsSo, SizesKnown, IsFault};
+ghost use Rattle.mp4_tables.specs.Leaves.{HasTables, IsChild, FailsAs, SlotTaken, GroupRead, GroupFails, GroupNext, ChildRead, ChildFails, GroupsRead, GroupsSo, GroupPassed, SizesKnown, IsFault};
+ghost use Rattle.mp4_tables.specs.Accepted.{group_count};
 
 use crate::groups::NO_ROWS;
 use crate::keys::{GroupKey, Keys};
@@ -108,6 +109,8 @@ fn read_group<L: Ledger>(
     requires child { IsChild (box_seen stbl) (box_seen leaf) }
     ensures next { IfOk result (GroupNext (box_seen stbl.entry).payload n groups (box_seen leaf.entry)) }
     ensures fault { IfErr result (GroupFails (box_seen stbl.entry).payload n groups (box_seen leaf.entry)) }
+    ensures passed { IfOk result (λ next. GroupPassed (box_seen stbl.entry).payload n groups next steps.old steps.new) }
+    ensures work { 4 * steps.new ≤ 4 * steps.old + length (box_seen stbl.entry).payload }
 {
     let (key, rows) = read_grouping(stbl, leaf)?;
     let payload = stbl.payload();
@@ -138,6 +141,8 @@ fn read_child<L: Ledger>(
     requires child { IsChild (box_seen stbl) (box_seen child) }
     ensures next { IfOk result (ChildRead (box_seen stbl.entry).payload n groups (box_seen child.entry)) }
     ensures fault { IfErr result (ChildFails (box_seen stbl.entry).payload n groups (box_seen child.entry)) }
+    ensures passed { IfOk result (λ next. GroupPassed (box_seen stbl.entry).payload n groups next steps.old steps.new) }
+    ensures work { 4 * steps.new ≤ 4 * steps.old + length (box_seen stbl.entry).payload }
 {
     if child.kind() == SBGP {
         let next = read_group(stbl, child, groups, n, steps)?;
@@ -176,6 +181,8 @@ pub(crate) fn read_groups<L: Ledger>(
     requires sizes { SizesKnown (box_seen stbl) n }
     ensures groups { IfOk result (GroupsRead (box_seen stbl.entry) n) }
     ensures fault { IfErr result (IsFault limits (box_seen stbl.entry)) }
+    ensures passed { IfOk result (λ groups. steps.new ≤ steps.old + 2 * group_count groups) }
+    ensures work { 2 * steps.new ≤ 2 * steps.old + 3 * length (box_seen stbl.entry).payload }
 {
     let mut groups = no_groups(stbl.payload(), n);
     for child in children_of(stbl) {

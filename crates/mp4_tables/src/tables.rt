@@ -27,13 +27,13 @@ impl<'a> Model for Tables<'a> {
 }
 
 impl<'a> Tables<'a> {
-    ghost use Rattle.std.specs.Prelude.{◌≡◌, [], length, IfOk, IfErr, IsOk};
+    ghost use Rattle.std.specs.Prelude.{◌≡◌, ◌+◌, ◌*◌, ◌≤◌, [], length, IfOk, IfErr, IsOk};
     ghost use Rattle.mp4_boxes.specs.View.{box_seen};
     ghost use Rattle.mp4_tables.specs.Groups.{keys_after};
     ghost use Rattle.mp4_tables.specs.Keys.{keys_seen};
     ghost use Rattle.mp4_tables.specs.Leaves.{HasTables, TablesRead, tables_in, HasDescriptions, IsFault, AreAccepted, boxes_of};
     ghost use Rattle.mp4_tables.specs.Views.{tables_seen};
-    ghost use Rattle.mp4_tables.specs.Accepted.{IsAccepted};
+    ghost use Rattle.mp4_tables.specs.Accepted.{IsAccepted, rows_in};
 
     /// The tables of an `stbl` with the children of the profile, in a file of so many bytes, for a track with so many
     /// descriptions, where so many samples are still allowed: if each has its shape and they agree with each other and
@@ -52,6 +52,9 @@ impl<'a> Tables<'a> {
         ensures keys { IfOk result (λ _. keys_seen keys.new ≡ keys_after [] (tables_in (box_seen stbl.entry)).groups) }
         ensures fault { HasDescriptions (box_seen stbl.entry) → IfErr result (IsFault (record { file_len = file_len; descriptions = descriptions; room = room }) (box_seen stbl.entry)) }
         ensures only { AreAccepted (record { file_len = file_len; descriptions = descriptions; room = room }) (box_seen stbl.entry) (boxes_of (box_seen stbl.entry)) → IsOk result }
+        ensures passed { IfOk result (λ t. steps.new ≤ steps.old + 6 * rows_in t.at + 2 * t.at.sizes.rows.count) }
+        ensures within { IfOk result (λ t. steps.new ≤ steps.old + 4 * length (box_seen stbl.entry).payload + 2 * t.at.sizes.rows.count) }
+        ensures work { steps.new ≤ steps.old + 4 * length (box_seen stbl.entry).payload + 2 * room }
     {
         let limits = Limits {
             file_len,

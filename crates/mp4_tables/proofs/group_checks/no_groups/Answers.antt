@@ -1,5 +1,5 @@
 use Rattle.std.proofs.Common.{arith}
-use Rattle.mp4_tables.proofs.GroupReads.{no_groups_so}
+use Rattle.mp4_tables.proofs.GroupWalks.{no_groups_so}
 use Rattle.mp4_tables.proofs.group_checks.no_groups.Goals as goal
 
 pub returns : goal.returns

@@ -4,6 +4,7 @@ use Rattle.mp4_tables.specs.Rows.{runs_at}
 use Rattle.mp4_boxes.specs.View.{box_seen}
 use Rattle.mp4_tables.specs.Keys.{key_seen, keys_seen}
 use Rattle.mp4_tables.proofs.GroupReads.{group_twice, group_fifth, group_range, group_many, group_next, not_true}
+use Rattle.mp4_tables.proofs.GroupWalks.{group_passed}
 use Rattle.mp4_tables.proofs.group_checks.read_group.Goals as goal
 
 pub returns-then-names-clause-fault : goal.returns-then-names-clause-fault
@@ -34,3 +35,12 @@ returns-clause-next g c =
     let l : length (keys_seen c.args.groups.keys) < 4 = omega arith in
     group_next (box_seen c.args.stbl) (box_seen c.args.leaf) (key_seen c.in_ok-key.key) c.in_ok-key.rows c.args.n c.args.groups c.add_group.result c.in_ok-key.ensures.read (sym c.if-names.ensures) (λ h. t (e ∙ h))
     (rw c.payload-payload.ensures at (sym c.if-not-are_below.ensures.same)) (rw c.payload-payload.ensures at (c.counts_are_within.ensures.same.0 c.if-not-counts_are_within.false)) l c.add_group.ensures.keys c.add_group.ensures.slot
+
+pub returns-clause-passed : goal.returns-clause-passed
+returns-clause-passed g c =
+    let e = c.count.ensures.is in
+    let t = c.if-count-eq4.false in
+    let f = c.count.ensures.few in
+    let a = c.are_below.ensures.cost in
+    let b = c.counts_are_within.ensures.cost in
+    group_passed (box_seen c.args.stbl).payload c.args.n c.args.steps.now c.counts_are_within.new.steps c.args.groups c.add_group.result c.in_ok-key.rows c.add_group.ensures.slot (omega arith) (omega arith)

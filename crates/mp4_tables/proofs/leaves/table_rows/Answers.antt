@@ -1,6 +1,6 @@
 use Rattle.std.proofs.Common.{arith}
 use Rattle.mp4_boxes.specs.View.{box_seen}
-use Rattle.mp4_tables.proofs.LeafLists.{lies_in}
+use Rattle.mp4_tables.proofs.LeafRows.{lies_in}
 use Rattle.mp4_tables.proofs.leaves.table_rows.Goals as goal
 
 pub rows_of-requires-clause-inside : goal.rows_of-requires-clause-inside

@@ -1,0 +1,228 @@
+-- Sample groups child by child: what was read so far, the faults of the next child, and the rows that were passed.
+use Rattle.std.proofs.Common.{◌≡◌, ℕ, suc, ◌+◌, ◌*◌, ◌<◌, ◌≤◌, inl, inr, List, [], ◌∷◌, ◌++◌, length, take, drop, map, subst, refl, ap, sym, ◌∙◌, arith, Bool, true, false, Some}
+use Rattle.std.specs.Prelude.{bytes_eq, codes}
+use Rattle.std.specs.List.{AllByRecursion, slice_get}
+use Rattle.std.proofs.lemmas.List.{append-nil, append_assoc}
+use Rattle.mp4_tables.proofs.RowLists.{runs_all, runs_length}
+use Rattle.mp4_boxes.proofs.Among.{all_append, of_kind-split, of_kind-append}
+use Rattle.mp4_tables.specs.Groups.{GroupKey, GroupRule, one_of_key, few_keys, index_range, group_counts, grouping_of, groupings_of, keeps, group_test, group_reads}
+use Rattle.mp4_tables.specs.Keys.{keys_seen}
+use Rattle.mp4_tables.specs.Rows.{runs_at}
+use Rattle.mp4_tables.specs.Accepted.{group_count, grouped, group_rows, AreDistinct, AreUsed, AreIndexes, HaveGroups}
+use Rattle.mp4_boxes.specs.Box.{Box}
+use Rattle.mp4_boxes.specs.Children.{of_kind}
+use Rattle.mp4_boxes.specs.Places.{leaf_of, ruled}
+use Rattle.mp4_boxes.specs.declared.rule.Rule.TheVariants.{SampleTable}
+use Rattle.mp4_boxes.specs.Layout.{sbgp, sgpd, IsReadable, IsSound}
+use Rattle.mp4_boxes.proofs.Sound.{same_kind}
+use Rattle.mp4_tables.specs.TableRules.{table_group, reads, AreReadable, GroupsReadable}
+use Rattle.mp4_tables.specs.declared.leaves.Limits.{Limits}
+use Rattle.mp4_tables.proofs.ChunkReads.{no_readable}
+use Rattle.mp4_boxes.specs.declared.fault.Fault.{Fault}
+use Rattle.mp4_tables.specs.Leaves.{GroupsSo, GroupPassed, SlotTaken, HasTables, IsChild, boxes_of, AllOf, tables_in, SizesKnown, IsFault, ChildFails, ChildRead, GroupsRead}
+use Rattle.mp4_tables.specs.declared.places.RowsAt.{RowsAt}
+use Rattle.mp4_tables.specs.declared.places.GroupsAt.{GroupsAt}
+use Rattle.mp4_tables.proofs.GroupsKept.{found_none, test_at, test_none}
+
+-- ---- lifting to the children of an `stbl`
+found_in : {A B : Type 0} (f : A → B) (xs ys : List A) (y : A) → slice_get (map f (xs ++ y ∷ ys)) (length xs) ≡ Some (f y)
+found_in f [] ys y = refl
+found_in f (x ∷ xs) ys y = found_in f xs ys y
+
+found_there : {A : Type 0} (xs ys : List A) (y : A) → slice_get (xs ++ y ∷ ys) (length xs) ≡ Some y
+found_there [] ys y = refl
+found_there (x ∷ xs) ys y = found_there xs ys y
+
+taken_in : {A B : Type 0} (f : A → B) (xs ys : List A) → take (length xs) (map f (xs ++ ys)) ≡ map f xs
+taken_in f [] ys = refl
+taken_in f (x ∷ xs) ys = ap (λ zs. f x ∷ zs) (taken_in f xs ys)
+
+taken_with : {A : Type 0} (xs ys : List A) (y : A) → take (suc (length xs)) (xs ++ y ∷ ys) ≡ xs ++ y ∷ []
+taken_with [] ys y = refl
+taken_with (x ∷ xs) ys y = ap (λ zs. x ∷ zs) (taken_with xs ys y)
+
+dropped_to : {A : Type 0} (xs : List A) (y : A) → drop (length xs) (xs ++ y ∷ []) ≡ y ∷ []
+dropped_to [] y = refl
+dropped_to (x ∷ xs) y = dropped_to xs y
+
+kept_all : (kind : List ℕ) (P : List ℕ → Type 0) (boxes : List Box) → AllOf kind P boxes → AllByRecursion (λ (b : Box). P b.payload) (of_kind kind boxes)
+kept_all kind P [] h = tt
+kept_all kind P (b ∷ boxes) h = choose (bytes_eq kind b.kind) refl h.0 (kept_all kind P boxes h.1)
+  where
+    choose : (v : Bool) → bytes_eq kind b.kind ≡ v → (bytes_eq kind b.kind ≡ true → P b.payload) → AllByRecursion (λ (c : Box). P c.payload) (of_kind kind boxes) → AllByRecursion (λ (c : Box). P c.payload) (of_kind kind (b ∷ boxes))
+    choose true e p more = rw e (p e, more)
+    choose false e p more = rw e more
+
+pub record GroupsPassed (stbl : Box) (n : ℕ) (at : GroupsAt) (left : List Box) : Type 0 where
+  pub passed : List Box
+  pub is : boxes_of stbl ≡ passed ++ left
+  pub so : GroupsSo stbl.payload n (groupings_of (of_kind (codes "sbgp") passed)) at
+  pub groups : AllOf (codes "sbgp") (IsReadable sbgp) passed
+  pub described : AllOf (codes "sgpd") (IsSound sgpd) passed
+
+group_readable : (rule : GroupRule) (stbl : Box) (n k : ℕ) → SizesKnown stbl n → AreReadable (reads (table_group rule k)) (boxes_of stbl)
+group_readable one_of_key stbl n k s = no_readable (boxes_of stbl)
+group_readable few_keys stbl n k s = no_readable (boxes_of stbl)
+group_readable index_range stbl n k s = no_readable (boxes_of stbl)
+group_readable group_counts stbl n k s = s.readable
+
+groups_readable : (rule : GroupRule) (gs more : List Box) (b : Box) → GroupsReadable gs → IsReadable sbgp b.payload → GroupsReadable (group_reads rule (length gs) (gs ++ b ∷ more))
+groups_readable one_of_key gs more b h k = subst GroupsReadable (sym (taken_with gs more b)) (all_append (λ (c : Box). IsReadable sbgp c.payload) gs (b ∷ []) h (k, tt))
+groups_readable few_keys gs more b h k = subst GroupsReadable (sym (taken_with gs more b)) (all_append (λ (c : Box). IsReadable sbgp c.payload) gs (b ∷ []) h (k, tt))
+groups_readable index_range gs more b h k = subst GroupsReadable (sym (ap (drop (length gs)) (taken_with gs more b) ∙ dropped_to gs b)) (k, tt)
+groups_readable group_counts gs more b h k = subst GroupsReadable (sym (ap (drop (length gs)) (taken_with gs more b) ∙ dropped_to gs b)) (k, tt)
+
+-- a fault of the next child is a fault of the check
+pub child_fault : (l : Limits) (stbl b : Box) (n : ℕ) (at : GroupsAt) (left later : List Box) (f : Fault) → HasTables stbl → SizesKnown stbl n → GroupsPassed stbl n at left → left ≡ b ∷ later → ChildFails stbl.payload n at b f → IsFault l stbl f
+child_fault l stbl b n at left later f h s p e (inl d) = inl (record {
+  before = p.passed;
+  b = b;
+  after = later;
+  stands = p.is ∙ ap (λ bs. p.passed ++ bs) e;
+  table = ap (bytes_eq (codes "stsd")) (same_kind (codes "sgpd") b.kind d.0);
+  leaf = sgpd;
+  read = ap (leaf_of (ruled SampleTable)) (same_kind (codes "sgpd") b.kind d.0);
+  fails = d.1;
+})
+child_fault l stbl b n at left later f h s p e (inr (k, inl d)) = inl (record {
+  before = p.passed;
+  b = b;
+  after = later;
+  stands = p.is ∙ ap (λ bs. p.passed ++ bs) e;
+  table = ap (bytes_eq (codes "stsd")) (same_kind (codes "sbgp") b.kind k);
+  leaf = sbgp;
+  read = ap (leaf_of (ruled SampleTable)) (same_kind (codes "sbgp") b.kind k);
+  fails = d;
+})
+child_fault l stbl b n at left later f h s p e (inr (k, inr r)) =
+    let G = of_kind (codes "sbgp") p.passed in
+    let M = of_kind (codes "sbgp") later in
+    let all : boxes_of stbl ≡ p.passed ++ b ∷ later = p.is ∙ ap (λ bs. p.passed ++ bs) e in
+    let split : of_kind (codes "sbgp") (boxes_of stbl) ≡ G ++ b ∷ M = ap (of_kind (codes "sbgp")) all ∙ of_kind-split (codes "sbgp") p.passed later b k in
+    let m = s.count in
+    let gs = (tables_in stbl).groups in
+    let found : slice_get gs (length G) ≡ Some (grouping_of b.payload) = ap (λ bs. slice_get (groupings_of bs) (length G)) split ∙ found_in (λ (c : Box). grouping_of c.payload) G M b in
+    let front : take (length G) gs ≡ groupings_of G = ap (λ bs. take (length G) (groupings_of bs)) split ∙ taken_in (λ (c : Box). grouping_of c.payload) G (b ∷ M) in
+    let fails : group_test r.rule (length (tables_in stbl).sizes) [] gs (length G) ≡ false =
+    ap (λ x. group_test r.rule x [] gs (length G)) m ∙ test_at r.rule n (length G) gs (grouping_of b.payload) false found (ap (λ before. keeps r.rule n [] before (grouping_of b.payload)) front ∙ r.fails (groupings_of G) p.so) in
+    inr (inl (record {
+      children = boxes_of stbl;
+      holds = h;
+      rule = table_group r.rule (length G);
+      readable = group_readable r.rule stbl n (length G) s;
+      groups_readable = subst (λ bs. GroupsReadable (group_reads r.rule (length G) bs)) (sym split) (groups_readable r.rule G M b (kept_all (codes "sbgp") (IsReadable sbgp) p.passed p.groups) r.readable);
+      ordered = λ x. absurd (never x);
+      fails = fails;
+      before = p.passed;
+      b = b;
+      after = later;
+      stands = all;
+      is_named = ap (λ bs. slice_get bs (length G)) split ∙ found_there G M b;
+      same = r.named;
+    }))
+  where
+    never : false ≡ true → ⊥
+    never x = cc
+
+-- ---- walking over the children
+pub no_groups_so : (payload : List ℕ) (n : ℕ) (at : GroupsAt) → keys_seen at.keys ≡ [] → at.first.count ≡ 0 → at.second.count ≡ 0 → at.third.count ≡ 0 → at.fourth.count ≡ 0
+    → at.first.place ≡ 0 → at.second.place ≡ 0 → at.third.place ≡ 0 → at.fourth.place ≡ 0 → GroupsSo payload n [] at
+no_groups_so payload n at k a b c d e f g h = record {
+  same = ap (λ ks. grouped ks (group_rows payload at)) k;
+  have = record {
+    first = (omega arith, none_index payload at.first a);
+    second = (omega arith, none_index payload at.second b);
+    third = (omega arith, none_index payload at.third c);
+    fourth = (omega arith, none_index payload at.fourth d);
+    distinct = subst AreDistinct (sym k) tt;
+    used = subst (λ ks. AreUsed ks (group_rows payload at)) (sym k) (no_rows payload at.first a, (no_rows payload at.second b, (no_rows payload at.third c, (no_rows payload at.fourth d, tt))));
+  };
+  tests = λ rule i. test_none rule n i [] (found_none [] i (omega arith));
+}
+  where
+    no_rows : (payload : List ℕ) (r : RowsAt) → r.count ≡ 0 → runs_at payload r ≡ []
+    no_rows payload r z = runs_all payload r 0 (omega arith)
+
+    none_index : (payload : List ℕ) (r : RowsAt) → r.count ≡ 0 → AreIndexes (runs_at payload r)
+    none_index payload r z = subst AreIndexes (sym (runs_all payload r 0 (omega arith))) tt
+
+pub passed_first : (stbl : Box) (n : ℕ) (at : GroupsAt) (left : List Box) → GroupsSo stbl.payload n [] at → left ≡ boxes_of stbl → GroupsPassed stbl n at left
+passed_first stbl n at left s e = record { passed = []; is = sym e; so = s; groups = tt; described = tt }
+
+pub next_child : (stbl b : Box) (n : ℕ) (at : GroupsAt) (left later : List Box) → GroupsPassed stbl n at left → left ≡ b ∷ later → IsChild stbl b
+next_child stbl b n at left later p e = record { before = p.passed; after = later; is = p.is ∙ ap (λ bs. p.passed ++ bs) e }
+
+all_snoc : (kind : List ℕ) (P : List ℕ → Type 0) (boxes : List Box) (b : Box) → AllOf kind P boxes → (bytes_eq kind b.kind ≡ true → P b.payload) → AllOf kind P (boxes ++ b ∷ [])
+all_snoc kind P boxes b h p = all_append (λ (c : Box). bytes_eq kind c.kind ≡ true → P c.payload) boxes (b ∷ []) h (p, tt)
+
+kind_snoc_other : (kind : List ℕ) (boxes : List Box) (b : Box) → bytes_eq kind b.kind ≡ false → of_kind kind (boxes ++ b ∷ []) ≡ of_kind kind boxes
+kind_snoc_other kind boxes b e = of_kind-append kind boxes (b ∷ []) ∙ rw e (append-nil (of_kind kind boxes))
+
+kind_snoc : (kind : List ℕ) (boxes : List Box) (b : Box) → bytes_eq kind b.kind ≡ true → of_kind kind (boxes ++ b ∷ []) ≡ of_kind kind boxes ++ b ∷ []
+kind_snoc kind boxes b e = of_kind-append kind boxes (b ∷ []) ∙ rw e refl
+
+mapped_snoc : (gs : List Box) (b : Box) → groupings_of (gs ++ b ∷ []) ≡ groupings_of gs ++ grouping_of b.payload ∷ []
+mapped_snoc [] b = refl
+mapped_snoc (g ∷ gs) b = ap (λ xs. grouping_of g.payload ∷ xs) (mapped_snoc gs b)
+
+pub passed_next : (stbl b : Box) (n : ℕ) (at after : GroupsAt) (left later : List Box) → GroupsPassed stbl n at left → left ≡ b ∷ later → ChildRead stbl.payload n at b after → GroupsPassed stbl n after later
+passed_next stbl b n at after left later p e (inl o) = record {
+  passed = p.passed ++ b ∷ [];
+  is = p.is ∙ ap (λ bs. p.passed ++ bs) e ∙ sym (append_assoc p.passed (b ∷ []) later);
+  so = subst (λ bs. GroupsSo stbl.payload n (groupings_of bs) after) (sym (kind_snoc_other (codes "sbgp") p.passed b o.other)) (subst (GroupsSo stbl.payload n (groupings_of (of_kind (codes "sbgp") p.passed))) (sym o.same) p.so);
+  groups = all_snoc (codes "sbgp") (IsReadable sbgp) p.passed b p.groups (λ k. absurd (clash k o.other));
+  described = all_snoc (codes "sgpd") (IsSound sgpd) p.passed b p.described o.described;
+}
+  where
+    clash : {c : Bool} → c ≡ true → c ≡ false → ⊥
+    clash x y = cc
+passed_next stbl b n at after left later p e (inr (k, g)) = record {
+  passed = p.passed ++ b ∷ [];
+  is = p.is ∙ ap (λ bs. p.passed ++ bs) e ∙ sym (append_assoc p.passed (b ∷ []) later);
+  so = subst (λ bs. GroupsSo stbl.payload n bs after) (sym (ap groupings_of (kind_snoc (codes "sbgp") p.passed b k) ∙ mapped_snoc (of_kind (codes "sbgp") p.passed) b)) (g.so (groupings_of (of_kind (codes "sbgp") p.passed)) p.so);
+  groups = all_snoc (codes "sbgp") (IsReadable sbgp) p.passed b p.groups (λ _. g.readable);
+  described = all_snoc (codes "sgpd") (IsSound sgpd) p.passed b p.described (λ d. absurd (two_kinds (same_kind (codes "sbgp") b.kind k) d));
+}
+  where
+    two_kinds : b.kind ≡ codes "sbgp" → bytes_eq (codes "sgpd") b.kind ≡ true → ⊥
+    two_kinds s d = let f : false ≡ true = subst (λ x. bytes_eq (codes "sgpd") x ≡ true) s d in cc
+
+pub passed_all : (stbl : Box) (n : ℕ) (at : GroupsAt) (left : List Box) → GroupsPassed stbl n at left → left ≡ [] → GroupsRead stbl n at
+passed_all stbl n at left p e =
+    let all : p.passed ≡ boxes_of stbl = sym (p.is ∙ ap (λ bs. p.passed ++ bs) e ∙ append-nil p.passed) in
+    record {
+      so = subst (λ bs. GroupsSo stbl.payload n (groupings_of (of_kind (codes "sbgp") bs)) at) all p.so;
+      groups = subst (AllOf (codes "sbgp") (IsReadable sbgp)) all p.groups;
+      described = subst (AllOf (codes "sgpd") (IsSound sgpd)) all p.described;
+    }
+
+-- ---- rows that were passed
+
+-- a slot that no key has is empty
+none_counted : (payload : List ℕ) (r : RowsAt) → runs_at payload r ≡ [] → r.count ≡ 0
+none_counted payload r e = sym (runs_length payload r) ∙ ap (λ (xs : List (ℕ × ℕ)). length xs) e
+
+-- one more `sbgp` has its rows in an empty slot
+slot_counted : (payload : List ℕ) (keys : List GroupKey) (at after : GroupsAt) (r : RowsAt) → AreUsed keys (group_rows payload at) → SlotTaken (length keys) at r after → length keys < 4 → group_count after ≡ group_count at + r.count
+slot_counted payload [] at after r u (a, b, c, d) h =
+    let z = none_counted payload at.first u.0 in
+    omega (arith, z, ap (λ (x : RowsAt). x.count) a, ap (λ (x : RowsAt). x.count) b, ap (λ (x : RowsAt). x.count) c, ap (λ (x : RowsAt). x.count) d)
+slot_counted payload (k ∷ []) at after r u (a, b, c, d) h =
+    let z = none_counted payload at.second u.0 in
+    omega (arith, z, ap (λ (x : RowsAt). x.count) a, ap (λ (x : RowsAt). x.count) b, ap (λ (x : RowsAt). x.count) c, ap (λ (x : RowsAt). x.count) d)
+slot_counted payload (k ∷ l ∷ []) at after r u (a, b, c, d) h =
+    let z = none_counted payload at.third u.0 in
+    omega (arith, z, ap (λ (x : RowsAt). x.count) a, ap (λ (x : RowsAt). x.count) b, ap (λ (x : RowsAt). x.count) c, ap (λ (x : RowsAt). x.count) d)
+slot_counted payload (k ∷ l ∷ m ∷ []) at after r u (a, b, c, d) h =
+    let z = none_counted payload at.fourth u.0 in
+    omega (arith, z, ap (λ (x : RowsAt). x.count) a, ap (λ (x : RowsAt). x.count) b, ap (λ (x : RowsAt). x.count) c, ap (λ (x : RowsAt). x.count) d)
+slot_counted payload (k ∷ l ∷ m ∷ o ∷ keys) at after r u s h = absurd (omega (arith, h))
+
+pub group_passed : (payload : List ℕ) (n old new : ℕ) (at after : GroupsAt) (r : RowsAt) → SlotTaken (length (keys_seen at.keys)) at r after → length (keys_seen at.keys) < 4 → new ≤ old + 2 * r.count → GroupPassed payload n at after old new
+group_passed payload n old new at after r s few h = λ gs so. let e = slot_counted payload (keys_seen at.keys) at after r so.have.used s few in omega arith
+
+-- all rows that were read lie in the payload
+pub rows_bounded : (payload : List ℕ) (at : GroupsAt) → HaveGroups payload at → 2 * group_count at ≤ length payload
+rows_bounded payload at h =
+    let a = h.first.0 in let b = h.second.0 in let c = h.third.0 in let d = h.fourth.0 in
+    omega arith
