@@ -6,8 +6,9 @@ use Rattle.mp4_boxes.specs.Box.{Box, box_container}
 use Rattle.mp4_boxes.specs.Children.{of_kind, Holds}
 use Rattle.mp4_boxes.specs.Places.{ruled, AreSound}
 use Rattle.mp4_boxes.specs.declared.rule.Rule.TheVariants as rules
-use Rattle.mp4_frag.specs.Fragments.{AreTrafs, track_fragment_of}
-use Rattle.mp4_frag.specs.FragmentSamples.{Part, parts_after, trex_for, no_trex}
+use Rattle.mp4_boxes.proofs.Each.{each_weaker}
+use Rattle.mp4_frag.specs.Fragments.{FragmentTree, AreTrafs, fragment_of, track_fragment_of}
+use Rattle.mp4_frag.specs.FragmentSamples.{Part, parts_of, parts_after, trex_for, no_trex}
 use Rattle.mp4_frag.specs.Judged.{AreTrexesOf, is_known_among, IsPlacedWithin, IsGrouped, IsSoundMoof, IsTrafSound, IsMovedOn, AreMovedOn, part_with, end_with, tree_of}
 use Rattle.mp4_frag.specs.Passing.{IsUpTo}
 use Rattle.mp4_frag.specs.RunsJudged.{children_of}
@@ -188,3 +189,14 @@ moves_fault L moof first whole all left later boxes b before tracks room f s e k
 pub moves_ended : (L moof : ℕ) (first : List TrackState) (whole : ℕ) (all left boxes : List Box) (before : ℤ) (tracks : List TrackState) (room : ℕ) → MovesSeen L moof first whole all left before tracks room → left ≡ [] → all ≡ boxes → AreMovedOn moof (pos moof) (of_kind (codes "traf") boxes) first tracks whole room
 moves_ended L moof first whole all left boxes before tracks room s e f =
     subst (λ (bs : List Box). AreMovedOn moof (pos moof) (of_kind (codes "traf") bs) first tracks whole room) f (s.moves tracks room (subst (λ (bs : List Box). AreMovedOn moof before (of_kind (codes "traf") bs) tracks tracks room room) (sym e) (refl, refl)))
+
+-- A `moof` that is sound by some tracks is sound by others of the same IDs and defaults, as they are later.
+pub sound_alike : (L : ℕ) (trexes : List Trex) (tracks now : List TrackState) (t : FragmentTree) → ((id : ℕ) → trex_among now id ≡ trex_among tracks id) → IsSoundMoof L trexes tracks t → IsSoundMoof L trexes now t
+sound_alike L trexes tracks now t same s = record {
+  short = s.short;
+  tree = s.tree;
+  leaves = s.leaves;
+  known = each_weaker (λ (part : Part). IsTrue (is_known_among tracks part)) (λ (part : Part). IsTrue (is_known_among now part)) (λ part h. ap is_some (same part.id) ∙ h) (parts_of trexes (fragment_of t)) s.known;
+  places = s.places;
+  groups = s.groups;
+}

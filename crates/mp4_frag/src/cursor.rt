@@ -28,7 +28,6 @@ impl<'a> Model for FragCursor<'a> {
 
 impl<'a> FragCursor<'a> {
     ghost use Rattle.std.specs.Prelude.{ℕ, List, ◌≡◌, ◌+◌, ◌^◌, ◌<◌};
-    ghost use Rattle.mp4_boxes.specs.View.{box_seen};
     ghost use Rattle.mp4_tables.specs.Accepted.{AreDistinct};
     ghost use Rattle.mp4_tables.specs.Timed.{timed};
     ghost use Rattle.mp4_frag.specs.Fragments.{FragmentTree};

@@ -1,9 +1,8 @@
 //! A walk over the samples of a track in a `moof`, from place to place.
-ghost use Rattle.std.specs.Prelude.{ℕ, List, ◌≡◌, ◌+◌, ◌-◌, ◌<◌, ◌≤◌, ◌∷◌, [], length, drop, slice_get, unwrap_or, pos, ◌+ℤ◌, option_map, None, Some, Ok, IfSome, MatchOption, IsErr, false};
+ghost use Rattle.std.specs.Prelude.{ℕ, List, ◌≡◌, ◌+◌, ◌-◌, ◌<◌, ◌≤◌, ◌∷◌, [], length, drop, slice_get, None, Some, Ok, IfSome, MatchOption, IsErr, false};
 ghost use Rattle.mp4_boxes.specs.Bytes.{AreBytes};
 ghost use Rattle.mp4_boxes.specs.Box.{header_at};
 ghost use Rattle.mp4_tables.specs.Keys.{keys_seen};
-ghost use Rattle.mp4_tables.specs.Tables.{composition_offset};
 ghost use Rattle.mp4_frag.specs.FragmentSamples.{flags_of as flags_by};
 ghost use Rattle.mp4_frag.specs.ColumnsRead.{row_room};
 ghost use Rattle.mp4_frag.specs.PlacesIn.{LiesIn, IsPlaceIn, IsRowPlace, AreIndexPlaces};
