@@ -7,6 +7,7 @@ usage: make_inputs.py FOLDER [NAME ..]
   small      a plain file of 5,000,000 samples of 20 to 200 bytes, with a row of stts and ctts for each sample
   fragments  20,000 movie fragments of one track, 30 samples of 500 bytes each
   tracks     one hour of three interleaved tracks: 25 pictures a second, two sounds, a chunk for each half second
+  heads      1,000 tracks without samples: nothing but heads to read and write
 
 The files hold made-up data in correct boxes (ISO/IEC 14496-12); nothing needs to be installed.
 """
@@ -142,7 +143,12 @@ def tracks(path):
     plain(path, 1000, boxes, at)
 
 
-MAKERS = {'large': large, 'small': small, 'fragments': fragments, 'tracks': tracks}
+def heads(path):
+    empty = [table(b'stts', 0, []), table(b'stsc', 0, []), full(b'stsz', 0, 0, bytes(8)), table(b'stco', 0, [])]
+    plain(path, 1000, lambda begin: [trak(k + 1, b'vide', 12800, empty) for k in range(1000)], 0)
+
+
+MAKERS = {'large': large, 'small': small, 'fragments': fragments, 'tracks': tracks, 'heads': heads}
 
 
 def main():

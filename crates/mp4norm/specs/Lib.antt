@@ -5,3 +5,4 @@ pub mod BoxLaws
 pub mod Actions
 pub mod ShowValue
 pub mod Commands
+pub mod MainJob

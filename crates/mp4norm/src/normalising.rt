@@ -1,5 +1,6 @@
 //! The normal form of a file.
-ghost use Rattle.std.specs.Prelude.{◌≡◌, ◌<◌};
+ghost use Rattle.std.specs.Prelude.{◌≡◌, ◌<◌, IfErr, OnOk};
+ghost use Rattle.mp4norm.specs.MainJob.{RefusesNormalise};
 
 use mp4_boxes::{Refusal, Steps};
 use mp4_plan::Writer;
@@ -15,7 +16,13 @@ pub fn normalise_counted<S: Store, K: Sink, L: Ledger>(
     store: &mut S,
     sink: &mut K,
     steps: &mut Steps<L>,
-) -> Result<(), Refusal> {
+) -> Result<(), Refusal>
+    ensures file { S.file store.new ≡ S.file store.old }
+    ensures reads { OnOk result (S.read_failures store.new ≡ S.read_failures store.old) }
+    ensures puts { OnOk result (K.put_failures sink.new ≡ K.put_failures sink.old) }
+    ensures refusal { IfErr result (RefusesNormalise (S.is_honest store.old) (S.file store.old) (K.contents sink.old) (K.contents sink.new)
+        (S.read_failures store.old) (S.read_failures store.new) (K.put_failures sink.old) (K.put_failures sink.new)) }
+{
     let movie = open_movie(alloc, store, steps)?;
     let mut writer = Writer::new(alloc, &movie, store, steps)?;
     writer.write(&movie, store, sink, steps)
@@ -31,6 +38,11 @@ fn normalise_blank<S: Store, K: Sink, L: Ledger>(
     requires name { blank.name ≡ L.name }
     requires parts { blank.parts ≡ L.parts }
     requires some { 0 < L.parts }
+    ensures file { S.file store.new ≡ S.file store.old }
+    ensures reads { OnOk result (S.read_failures store.new ≡ S.read_failures store.old) }
+    ensures puts { OnOk result (K.put_failures sink.new ≡ K.put_failures sink.old) }
+    ensures refusal { IfErr result (RefusesNormalise (S.is_honest store.old) (S.file store.old) (K.contents sink.old) (K.contents sink.new)
+        (S.read_failures store.old) (S.read_failures store.new) (K.put_failures sink.old) (K.put_failures sink.new)) }
 {
     let mut steps = Steps::<L>::new(blank);
     normalise_counted(alloc, store, sink, &mut steps)
@@ -42,6 +54,12 @@ pub fn normalise<S: Store, K: Sink>(
     alloc: Global,
     store: &mut S,
     sink: &mut K,
-) -> Result<(), Refusal> {
+) -> Result<(), Refusal>
+    ensures file { S.file store.new ≡ S.file store.old }
+    ensures reads { OnOk result (S.read_failures store.new ≡ S.read_failures store.old) }
+    ensures puts { OnOk result (K.put_failures sink.new ≡ K.put_failures sink.old) }
+    ensures refusal { IfErr result (RefusesNormalise (S.is_honest store.old) (S.file store.old) (K.contents sink.old) (K.contents sink.new)
+        (S.read_failures store.old) (S.read_failures store.new) (K.put_failures sink.old) (K.put_failures sink.new)) }
+{
     normalise_blank::<S, K, Brand>(alloc, store, sink, Blank::new(1))
 }
