@@ -192,7 +192,7 @@ fn stbl_of(bytes: &Bytes) -> BoxView<'_> {
     BoxView::new(FourCc(*b"stbl"), 377, 8, &bytes.all[..len])
 }
 
-// Whether these are the samples.
+// Whether these are the samples, to a walk that begins anew behind each.
 fn are_samples(tables: &Tables, samples: &[SampleAt]) -> bool {
     let mut cursor = TableCursor::start(tables);
     for sample in samples {
@@ -200,6 +200,7 @@ fn are_samples(tables: &Tables, samples: &[SampleAt]) -> bool {
         if peeked != Some(*sample) || cursor.next() != peeked {
             return false;
         }
+        cursor = TableCursor::at(tables, cursor.place());
     }
     cursor.next().is_none()
 }
