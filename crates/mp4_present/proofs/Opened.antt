@@ -90,7 +90,7 @@ ids_of [] = refl
 ids_of (t ∷ ts) = ap (λ (ns : List ℕ). (track_head_of t).id ∷ ns) (ids_of ts)
 
 -- the `moov` of the file was read to this head
-pub has_movie : (file : List ℕ) (boxes : List Box) (b : Box) (head : MovieHead) (ids : List ℕ) → Holds File (file_container file) boxes → begins_with_movie boxes ≡ true → of_kind (codes "moov") boxes ≡ b ∷ []
+has_movie : (file : List ℕ) (boxes : List Box) (b : Box) (head : MovieHead) (ids : List ℕ) → Holds File (file_container file) boxes → begins_with_movie boxes ≡ true → of_kind (codes "moov") boxes ≡ b ∷ []
     → SaysHead b head → ids ≡ map (λ (t : TrackHead). t.id) head.tracks.items → HasMovie file ids
 has_movie file boxes b head ids holds order one says are = record {
   boxes = boxes;

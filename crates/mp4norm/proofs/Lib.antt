@@ -7,3 +7,4 @@ pub mod Going
 pub mod LineParts
 pub mod ShownTracks
 pub mod SampleTexts
+pub mod ShownLines

@@ -1,7 +1,8 @@
 //! A movie and its tracks, shown.
-ghost use Rattle.std.specs.Prelude.{◌≡◌, ◌<◌, IfErr, OnOk};
+ghost use Rattle.std.specs.Prelude.{◌≡◌, ℕ, ◌<◌, List, IfOk, IfErr, OnOk, IsTrue, string_bytes};
+ghost use Rattle.std.specs.Io.KnownBytes.{Appends};
 ghost use Rattle.mp4_present.specs.Opening.{RefusesOpen};
-ghost use Rattle.mp4norm.specs.Commands.{RefusesShow};
+ghost use Rattle.mp4norm.specs.Commands.{ShowsLine, RefusesShow};
 
 use crate::movie_json::show_text;
 use mp4_boxes::{Refusal, Steps};
@@ -20,6 +21,7 @@ fn movie_line<S: Store, L: Ledger>(
     ensures honesty { S.is_honest store.new ≡ S.is_honest store.old }
     ensures file { S.file store.new ≡ S.file store.old }
     ensures reads { OnOk result (S.read_failures store.new ≡ S.read_failures store.old) }
+    ensures line { IfOk result (λ text. IsTrue (S.is_honest store.old) → ShowsLine (S.file store.old) (string_bytes text)) }
     ensures refusal { IfErr result (RefusesOpen (S.is_honest store.old) (S.file store.old) (S.read_failures store.old) (S.read_failures store.new)) }
 {
     let movie = open_movie(alloc, store, steps)?;
@@ -43,6 +45,7 @@ fn show_counted<S: Store, K: Sink, L: Ledger>(
     ensures file { S.file store.new ≡ S.file store.old }
     ensures reads { OnOk result (S.read_failures store.new ≡ S.read_failures store.old) }
     ensures puts { OnOk result (K.put_failures sink.new ≡ K.put_failures sink.old) }
+    ensures line { OnOk result (IsTrue (S.is_honest store.old) → (line : List ℕ) × ShowsLine (S.file store.old) line × Appends (K.contents sink.old) (K.contents sink.new) line) }
     ensures refusal { IfErr result (RefusesShow (S.is_honest store.old) (S.file store.old) (K.contents sink.old) (K.contents sink.new)
         (S.read_failures store.old) (S.read_failures store.new) (K.put_failures sink.old) (K.put_failures sink.new)) }
 {
@@ -58,6 +61,7 @@ pub fn show<S: Store, K: Sink>(alloc: Global, store: &mut S, sink: &mut K) -> Re
     ensures file { S.file store.new ≡ S.file store.old }
     ensures reads { OnOk result (S.read_failures store.new ≡ S.read_failures store.old) }
     ensures puts { OnOk result (K.put_failures sink.new ≡ K.put_failures sink.old) }
+    ensures line { OnOk result (IsTrue (S.is_honest store.old) → (line : List ℕ) × ShowsLine (S.file store.old) line × Appends (K.contents sink.old) (K.contents sink.new) line) }
     ensures refusal { IfErr result (RefusesShow (S.is_honest store.old) (S.file store.old) (K.contents sink.old) (K.contents sink.new)
         (S.read_failures store.old) (S.read_failures store.new) (K.put_failures sink.old) (K.put_failures sink.new)) }
 {
