@@ -19,15 +19,15 @@ use Rattle.mp4norm.specs.Commands.{ShowsLine}
 pub shows : (file : List ℕ) (m : MovieSeen) (head : MovieHead) (mehd : ℕ) (infos : List TrackInfo) (text line : List ℕ) → IsOpened file m → SaysHead (moov_box m) head
     → text ≡ compact_text (ShowValue (movie_seen head) (tracks_seen head) mehd infos) → line ≡ text ++ line_feed → ShowsLine file line
 shows file m head mehd infos text line o says t l =
-    let ids = map (λ (t : TrackTree). (track_head_of t).id) says.tree.tracks in
+    let ids = map (λ (t : TrackTree). (track_head_of t).id) says.has.tree.tracks in
     let movie : HasMovie file ids = record {
       boxes = o.boxes;
       holds = o.holds;
       order = o.order;
-      tree = says.tree;
-      is_moov = o.moov ∙ ap (λ (b : Box). b ∷ []) (sym says.is_moov);
-      is_tree = says.is_tree;
-      is_sound = says.is_sound;
+      tree = says.has.tree;
+      is_moov = o.moov ∙ ap (λ (b : Box). b ∷ []) (sym says.has.is_moov);
+      is_tree = says.has.is_tree;
+      is_sound = says.has.is_sound;
       ids_are = refl;
     } in
-    (ids, movie, mehd, infos, l ∙ ap (λ (bs : List ℕ). bs ++ line_feed) (t ∙ ap (λ (h : Head). compact_text (ShowValue h.movie h.tracks mehd infos)) says.says))
+    (ids, movie, mehd, infos, l ∙ ap (λ (bs : List ℕ). bs ++ line_feed) (t ∙ ap (λ (h : Head). compact_text (ShowValue h.movie h.tracks mehd infos)) says.has.says))
