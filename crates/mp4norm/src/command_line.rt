@@ -110,9 +110,9 @@ fn normalise_command<'a>(alloc: Global) -> Result<Command<'a>, AllocError> {
 fn top_command<'a>(alloc: Global) -> Result<Command<'a>, AllocError> {
     Command::new(alloc, "mp4norm")
         .about(
-            "Shows, extracts and normalises MP4 files. With no words it lists the boxes of standard input",
+            "Rewrites MP4 files in one normal form, and shows what they hold. With no words it lists the boxes of standard input",
         )
-        .after_help("Example: mp4norm < movie.mp4")
+        .after_help("Example: mp4norm normalise movie.mp4 --out normal.mp4")
         .version(VERSION)
         .no_binary_name(true)
         .subcommand_required(true)

@@ -46,7 +46,7 @@ fn command_lines(rt: HostRuntime) -> Result<(), Fail> {
         ),
         ("play a", "usage: error: unrecognized subcommand 'play'"),
         ("--", "usage: error: 'mp4norm' requires a subcommand"),
-        ("--help", "help: Shows, extracts and normalises MP4 files"),
+        ("--help", "help: Rewrites MP4 files in one normal form"),
         (
             "extract --help",
             "help: Writes the bytes of a track's samples",
