@@ -166,4 +166,8 @@ fn main(rt: HostRuntime) -> ExitCode {
 }
 
 #[cfg(test)]
+mod failures;
+#[cfg(test)]
+mod fixtures;
+#[cfg(test)]
 mod tests;

@@ -1,0 +1,352 @@
+//! Reads and puts that fail in turn, a store that changes, and one that computes its bytes.
+ghost use Rattle.std.specs.Prelude.{ℕ, true, false, None, replicate};
+
+use super::*;
+use crate::fixtures::{EDITS, FRAGMENT, LARGE_HEAD, PLAIN, TWO_FRAGMENTS, TWO_TRACKS};
+use mp4_store::{Store, StoreFailed, WriteFailed};
+use std::alloc::Global;
+
+/// More reads and puts than any of the runs has.
+const MANY: u64 = 1000;
+
+// A store over bytes in memory, of which one read fails: the one that this number of reads leads to, none where it is 0.
+#[derive(Drop)]
+struct FailingStore<'a> {
+    bytes: &'a [u8],
+    left: u64,
+    failed: u64,
+}
+
+impl Store for FailingStore<'_> {
+    ghost is_honest = { λ _. true };
+
+    ghost file = { λ s. s.bytes.now };
+
+    ghost read_failures = { λ s. s.failed };
+
+    fn len(&self) -> u64 {
+        self.bytes.len() as u64
+    }
+
+    fn read_at(&mut self, at: u64, out: &mut [u8]) -> Result<(), StoreFailed> {
+        if self.left == 1 {
+            self.left = 0;
+            self.failed = self.failed.saturating_add(1);
+            return Err(StoreFailed);
+        }
+        self.left = self.left.saturating_sub(1);
+        let from = at as usize;
+        out.copy_from_slice(&self.bytes[from..from + out.len()]);
+        Ok(())
+    }
+}
+
+// How many bytes of a piece are taken by the put that fails.
+#[derive(Clone, Copy, Debug, PartialEq, Eq)]
+enum Taken {
+    Nothing,
+    One,
+    AllButOne,
+}
+
+// The first 4,096 bytes of what was put, in room of their own.
+#[derive(Drop)]
+struct Kept {
+    held: [u8; 4096],
+    len: usize,
+}
+
+impl Kept {
+    fn keep(&mut self, piece: &[u8]) {
+        for byte in piece {
+            if self.len < 4096 {
+                self.held[self.len] = *byte;
+                self.len += 1;
+            }
+        }
+    }
+
+    // Whether these are the first of those bytes.
+    fn begins(&self, whole: &Kept) -> bool {
+        for k in 0..4096 {
+            if k < self.len && (k >= whole.len || self.held[k] != whole.held[k]) {
+                return false;
+            }
+        }
+        true
+    }
+}
+
+// Keeps what is put. One put fails: the one that this number of puts leads to, none where it is 0.
+#[derive(Drop)]
+struct FailingSink {
+    kept: Kept,
+    left: u64,
+    taken: Taken,
+    failed: u64,
+}
+
+impl FailingSink {
+    fn new(left: u64, taken: Taken) -> FailingSink {
+        FailingSink {
+            kept: Kept {
+                held: [0; 4096],
+                len: 0,
+            },
+            left,
+            taken,
+            failed: 0,
+        }
+    }
+}
+
+impl Sink for FailingSink {
+    ghost contents = { λ _. None };
+
+    ghost put_failures = { λ s. s.failed };
+
+    fn put(&mut self, piece: &[u8]) -> Result<(), WriteFailed> {
+        if self.left == 1 {
+            let taken = match self.taken {
+                Taken::Nothing => 0,
+                Taken::One => piece.len().min(1),
+                Taken::AllButOne => piece.len().saturating_sub(1),
+            };
+            self.left = 0;
+            self.kept.keep(&piece[..taken]);
+            self.failed = self.failed.saturating_add(1);
+            return Err(WriteFailed);
+        }
+        self.left = self.left.saturating_sub(1);
+        self.kept.keep(piece);
+        Ok(())
+    }
+}
+
+// What is run over a file.
+#[derive(Clone, Copy, Debug, PartialEq, Eq)]
+enum Job {
+    Normalise,
+    Extract,
+    Samples,
+}
+
+fn run<S: Store>(
+    alloc: Global,
+    job: Job,
+    store: &mut S,
+    sink: &mut FailingSink,
+) -> Result<(), Refusal> {
+    match job {
+        Job::Normalise => normalise(alloc, store, sink),
+        Job::Extract => extract(alloc, store, 1, sink),
+        Job::Samples => samples(alloc, store, 1, sink),
+    }
+}
+
+const JOBS: [(&[u8], Job); 6] = [
+    (PLAIN, Job::Normalise),
+    (TWO_FRAGMENTS, Job::Normalise),
+    (TWO_TRACKS, Job::Normalise),
+    (EDITS, Job::Normalise),
+    (PLAIN, Job::Extract),
+    (PLAIN, Job::Samples),
+];
+
+// Runs the job where the read and the put that these numbers lead to fail.
+fn run_on(
+    alloc: Global,
+    bytes: &[u8],
+    job: Job,
+    read: u64,
+    sink: &mut FailingSink,
+) -> Result<(), Refusal> {
+    let mut store = FailingStore {
+        bytes,
+        left: read,
+        failed: 0,
+    };
+    run(alloc, job, &mut store, sink)
+}
+
+#[test]
+fn each_read_fails(rt: HostRuntime) {
+    for (bytes, job) in JOBS {
+        let mut whole = FailingSink::new(0, Taken::Nothing);
+        assert_eq!(rt; run_on(rt.alloc(), bytes, job, 0, &mut whole), Ok(()));
+        let mut reads = 0;
+        for k in 1..MANY {
+            let mut sink = FailingSink::new(0, Taken::Nothing);
+            let answer = run_on(rt.alloc(), bytes, job, k, &mut sink);
+            assert!(rt; sink.kept.begins(&whole.kept), "{job:?}, read {k}");
+            if answer == Ok(()) {
+                assert_eq!(rt; sink.kept.len, whole.kept.len);
+                reads = k - 1;
+                break;
+            }
+            assert_eq!(rt; answer, Err(Refusal::StoreFailed));
+        }
+        assert!(rt; reads > 0, "{job:?}");
+    }
+}
+
+#[test]
+fn each_put_fails(rt: HostRuntime) {
+    for (bytes, job) in JOBS {
+        let mut whole = FailingSink::new(0, Taken::Nothing);
+        assert_eq!(rt; run_on(rt.alloc(), bytes, job, 0, &mut whole), Ok(()));
+        for taken in [Taken::Nothing, Taken::One, Taken::AllButOne] {
+            let mut puts = 0;
+            for k in 1..MANY {
+                let mut sink = FailingSink::new(k, taken);
+                let answer = run_on(rt.alloc(), bytes, job, 0, &mut sink);
+                assert!(rt; sink.kept.begins(&whole.kept), "{job:?}, put {k}");
+                if answer == Ok(()) {
+                    assert_eq!(rt; sink.kept.len, whole.kept.len);
+                    puts = k - 1;
+                    break;
+                }
+                assert_eq!(rt; answer, Err(Refusal::WriteFailed));
+            }
+            assert!(rt; puts > 0, "{job:?}");
+        }
+    }
+}
+
+// A store over a file of one fragment of three samples. From the second read on that covers their number, that is 4.
+#[derive(Drop)]
+struct ChangingStore<'a> {
+    bytes: &'a [u8],
+    reads: u64,
+    failed: u64,
+}
+
+impl Store for ChangingStore<'_> {
+    ghost is_honest = { λ _. false };
+
+    ghost file = { λ s. s.bytes.now };
+
+    ghost read_failures = { λ s. s.failed };
+
+    fn len(&self) -> u64 {
+        self.bytes.len() as u64
+    }
+
+    fn read_at(&mut self, at: u64, out: &mut [u8]) -> Result<(), StoreFailed> {
+        let end = at + out.len() as u64;
+        let covers = at <= 665 && 669 <= end;
+        let from = at as usize;
+        out.copy_from_slice(&self.bytes[from..from + out.len()]);
+        if covers {
+            self.reads = self.reads.saturating_add(1);
+            if self.reads > 1 {
+                out[668 - from] = 4;
+            }
+        }
+        Ok(())
+    }
+}
+
+#[test]
+fn a_number_that_changes(rt: HostRuntime) {
+    let mut store = ChangingStore {
+        bytes: FRAGMENT,
+        reads: 0,
+        failed: 0,
+    };
+    let mut sink = FailingSink::new(0, Taken::Nothing);
+    let answer = normalise(rt.alloc(), &mut store, &mut sink);
+    assert_eq!(rt; answer, Err(Refusal::StoreChanged));
+}
+
+// The bytes of the large file, and of its media data.
+const LARGE: u64 = 12_583_449;
+
+const LARGE_DATA: u64 = 12_582_912;
+
+// A byte of media data, by its place there.
+fn data_byte(place: u64) -> u8 {
+    (place % 251) as u8
+}
+
+// A store over a file of three samples of 4,194,304 bytes. Its bytes are computed from their places.
+#[derive(Drop)]
+struct LargeStore {
+    size: u64,
+    failed: u64,
+}
+
+impl Store for LargeStore {
+    ghost is_honest = { λ _. false };
+
+    ghost file = { λ s. replicate s.size 0 };
+
+    ghost read_failures = { λ s. s.failed };
+
+    fn len(&self) -> u64 {
+        self.size
+    }
+
+    fn read_at(&mut self, at: u64, out: &mut [u8]) -> Result<(), StoreFailed> {
+        for k in 0..out.len() {
+            let place = at + k as u64;
+            out[k] = if place < 537 {
+                LARGE_HEAD[place as usize]
+            } else {
+                data_byte(place - 537)
+            };
+        }
+        Ok(())
+    }
+}
+
+// Counts what is put, and says whether the head and the media data are those of the large file's normal form.
+#[derive(Drop)]
+struct LargeSink {
+    count: u64,
+    is_right: bool,
+    failed: u64,
+}
+
+// The head and the media data of the normal form: 581 bytes, and those behind 701.
+fn is_right(place: u64, byte: u8) -> bool {
+    if place < 581 {
+        byte == FRAGMENT[place as usize]
+    } else {
+        place < 701 || byte == data_byte(place - 701)
+    }
+}
+
+impl Sink for LargeSink {
+    ghost contents = { λ _. None };
+
+    ghost put_failures = { λ s. s.failed };
+
+    fn put(&mut self, piece: &[u8]) -> Result<(), WriteFailed> {
+        let mut count = self.count;
+        let mut is_right_so_far = self.is_right;
+        for byte in piece {
+            is_right_so_far = is_right_so_far && is_right(count, *byte);
+            count = count.saturating_add(1);
+        }
+        self.count = count;
+        self.is_right = is_right_so_far;
+        Ok(())
+    }
+}
+
+#[test]
+fn large_samples(rt: HostRuntime) {
+    let mut store = LargeStore {
+        size: LARGE,
+        failed: 0,
+    };
+    let mut sink = LargeSink {
+        count: 0,
+        is_right: true,
+        failed: 0,
+    };
+    assert_eq!(rt; normalise(rt.alloc(), &mut store, &mut sink), Ok(()));
+    assert_eq!(rt; sink.count, 701 + LARGE_DATA);
+    assert!(rt; sink.is_right);
+}
