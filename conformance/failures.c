@@ -1,0 +1,75 @@
+/* Put before the C library, this makes one call of a program fail: an allocation, a read of a file, or a write.
+ * FAIL_CALL says of which kind (alloc, read, write), FAIL_AT which one, from 1 on, and FAIL_TAKEN how many bytes of the
+ * write that fails are taken first. At the end the number of calls of that kind is written to the file FAIL_TOLD. */
+#define _GNU_SOURCE
+#include <dlfcn.h>
+#include <errno.h>
+#include <stdio.h>
+#include <stdlib.h>
+#include <string.h>
+#include <sys/types.h>
+#include <unistd.h>
+
+static long calls;
+
+/* Whether this call of the kind is the one that fails. */
+static int fails(const char *kind) {
+    const char *wanted = getenv("FAIL_CALL"), *at = getenv("FAIL_AT");
+    if (!wanted || !at || strcmp(wanted, kind) != 0) return 0;
+    return ++calls == atol(at);
+}
+
+__attribute__((destructor)) static void tell(void) {
+    const char *told = getenv("FAIL_TOLD");
+    long count = calls;
+    FILE *file = told ? fopen(told, "w") : NULL;
+    if (!file) return;
+    fprintf(file, "%ld\n", count);
+    fclose(file);
+}
+
+void *malloc(size_t size) {
+    static void *(*real)(size_t);
+    if (!real) real = (void *(*)(size_t))dlsym(RTLD_NEXT, "malloc");
+    return fails("alloc") ? NULL : real(size);
+}
+
+void *realloc(void *old, size_t size) {
+    static void *(*real)(void *, size_t);
+    if (!real) real = (void *(*)(void *, size_t))dlsym(RTLD_NEXT, "realloc");
+    return fails("alloc") ? NULL : real(old, size);
+}
+
+ssize_t pread(int file, void *out, size_t count, off_t at) {
+    static ssize_t (*real)(int, void *, size_t, off_t);
+    if (!real) real = (ssize_t (*)(int, void *, size_t, off_t))dlsym(RTLD_NEXT, "pread");
+    if (fails("read")) {
+        errno = EIO;
+        return -1;
+    }
+    return real(file, out, count, at);
+}
+
+/* A write that fails may take some bytes; the call after it then fails with nothing taken. Standard error always works. */
+ssize_t write(int file, const void *bytes, size_t count) {
+    static ssize_t (*real)(int, const void *, size_t);
+    static int is_broken;
+    if (!real) real = (ssize_t (*)(int, const void *, size_t))dlsym(RTLD_NEXT, "write");
+    if (file == 2) return real(file, bytes, count);
+    if (is_broken) {
+        is_broken = 0;
+        errno = ENOSPC;
+        return -1;
+    }
+    if (fails("write")) {
+        const char *said = getenv("FAIL_TAKEN");
+        size_t taken = said ? (size_t)atol(said) : 0;
+        if (taken == 0 || taken >= count) {
+            errno = ENOSPC;
+            return -1;
+        }
+        is_broken = 1;
+        return real(file, bytes, taken);
+    }
+    return real(file, bytes, count);
+}
