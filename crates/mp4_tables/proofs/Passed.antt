@@ -18,8 +18,8 @@ sync_within : (payload : List ℕ) (o : Option RowsAt) (p : SyncPlace) (i : ℕ)
 sync_within payload None p i h = omega arith
 sync_within payload (Some r) p i h = let n = numbers_length 4 payload r in let w = h.within in omega arith
 
--- a walk passes each row once, and each sample twice: in its box of sizes and as a sample
-pub passed_within : (payload : List ℕ) (at : TablesAt) (p : TablePlace) → IsPlace payload at p → passed p ≤ rows_in at + 2 * at.sizes.rows.count
+-- a walk passes each row once, and each sample at most three times: in its box of sizes, in `sdtp`, and as a sample
+pub passed_within : (payload : List ℕ) (at : TablesAt) (p : TablePlace) → IsPlace payload at p → passed p ≤ rows_in at + 3 * at.sizes.rows.count
 passed_within payload at p h =
     let samples = h.within in
     let duration = run_within payload at.durations p.duration p.number h.duration in

@@ -178,9 +178,9 @@ flags_here payload at p = slice_index (bytes_for (p.number + 1) (option_map (byt
 abbrev pub indexes_here : List ℕ → GroupsAt → ℕ → List ℕ
 indexes_here payload at k = map (λ (runs : List (ℕ × ℕ)). slice_index (repeated runs) k) (group_rows payload at)
 
--- the rows and samples that a walk passed on its way to a place: of sizes and of samples as many as its number
+-- the rows and samples that a walk passed on its way to a place: of sizes, of bytes of `sdtp` and of samples at most as many as its number each
 abbrev pub passed : TablePlace → ℕ
-passed p = 2 * p.number + p.duration.row + p.offset.row + p.chunk.opened + p.chunk.row.row + p.sync.row + p.groups.first.row + p.groups.second.row + p.groups.third.row + p.groups.fourth.row
+passed p = 3 * p.number + p.duration.row + p.offset.row + p.chunk.opened + p.chunk.row.row + p.sync.row + p.groups.first.row + p.groups.second.row + p.groups.third.row + p.groups.fourth.row
 
 -- how many rows a table has, if there is one
 abbrev pub count_of : Option RowsAt → ℕ

@@ -137,12 +137,13 @@ impl TablePlace {
     ghost use Rattle.std.specs.Prelude.{◌≡◌};
     ghost use Rattle.mp4_tables.specs.Accepted.{passed};
 
-    /// How many rows and samples a walk passed on its way here. Of sizes it passes one a sample.
+    /// How many rows and samples a walk passed on its way here. It passes a size with each sample, and
+    /// a byte of `sdtp`.
     pub fn passed(&self) -> u64
         ensures { result ≡ passed self.now }
     {
         let groups = self.groups;
-        2 * rows(self.number)
+        3 * rows(self.number)
             + rows(self.duration.row)
             + rows(self.offset.row)
             + rows(self.chunk.opened)
