@@ -28,6 +28,9 @@ pub mod JoinedSamples
 pub mod PlainLists
 pub mod Carrying
 pub mod Hands
+pub mod TablesKept
+pub mod TracksPassed
+pub mod TablesStand
 pub mod Causes
 pub mod FragmentPass
 pub mod Opened

@@ -11,3 +11,4 @@ pub mod Plain
 pub mod Carried
 pub mod Opening
 pub mod OpenedMovie
+pub mod TrackTrees

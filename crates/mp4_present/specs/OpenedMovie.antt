@@ -9,7 +9,8 @@ use Rattle.mp4_tables.specs.PlainSamples.{PlacedSample}
 use Rattle.mp4_tables.specs.Tables.{tables_of}
 use Rattle.mp4_frag.specs.FragmentSamples.{trex_for, duration_of, keys_behind}
 use Rattle.mp4_frag.specs.Judged.{TrackSeen, track_seen}
-use Rattle.mp4_head.specs.Tree.{TrackTree, MovieTree, stbl_of, track_head_of, trexes_of}
+use Rattle.mp4_frag.specs.declared.trex.Trex.{Trex}
+use Rattle.mp4_head.specs.Tree.{TrackTree, stbl_of, track_head_of, trexes_of}
 use Rattle.mp4_present.specs.Presentation.{IsWithinLimits, max_samples, movie_length, total_duration}
 use Rattle.mp4_present.specs.Denotes.{FileTree, IsFileTree, IsSoundFile, IsConsistent, plain_of, plain_keys, file_parts, parts_of_track, placed_of, track_of, presentation_of}
 use Rattle.mp4_present.specs.Stands.{table_total}
@@ -23,12 +24,12 @@ pub record AreTablesOf (moov : List ℕ) (t : TrackTree) (found : TrackTables) :
   pub bytes : table_bytes moov found ≡ (stbl_of t).payload
   pub says : tables_at (stbl_of t).payload found.tables ≡ tables_of t.table
 
--- a track behind the samples of its tables, which begin at decode time 0
-abbrev pub plain_seen : MovieTree → TrackTree → TrackSeen
-plain_seen movie t = record {
+-- a track behind the samples of its tables, which begin at decode time 0; what its fragments inherit is one of these
+abbrev pub plain_seen : List Trex → TrackTree → TrackSeen
+plain_seen trexes t = record {
   id = (track_head_of t).id;
   descriptions = length t.descriptions;
-  trex = trex_for (trexes_of movie) (track_head_of t).id;
+  trex = trex_for trexes (track_head_of t).id;
   start = 0;
   count = length (plain_of t);
   time = duration_of (plain_of t);
@@ -58,7 +59,7 @@ pub record IsOpenedAs (file : List ℕ) (m : MovieSeen) (t : FileTree) : Type 0 
   pub longest_is : m.longest ≡ longest (of_kind (codes "moof") t.top)
   -- for each track in order
   pub tables : AllZip (AreTablesOf m.moov) t.movie.tracks m.tables
-  pub states : map track_seen m.states ≡ map (plain_seen t.movie) t.movie.tracks
+  pub states : map track_seen m.states ≡ map (plain_seen (trexes_of t.movie)) t.movie.tracks
   pub room : m.room + table_total t.movie.tracks ≡ max_samples
   pub tracks : AllZip (IsInfoOf file t) t.movie.tracks m.tracks
   pub mehd : m.mehd ≡ movie_length (presentation_of file t)
