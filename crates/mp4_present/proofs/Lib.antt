@@ -31,3 +31,4 @@ pub mod Hands
 pub mod Causes
 pub mod FragmentPass
 pub mod Opened
+pub mod TracksBehind

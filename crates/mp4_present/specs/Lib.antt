@@ -10,3 +10,4 @@ pub mod Joined
 pub mod Plain
 pub mod Carried
 pub mod Opening
+pub mod Passing
