@@ -32,3 +32,5 @@ pub mod Causes
 pub mod FragmentPass
 pub mod Opened
 pub mod TracksBehind
+pub mod PartsBehind
+pub mod MoofBehind
