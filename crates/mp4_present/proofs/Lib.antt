@@ -34,3 +34,6 @@ pub mod TablesStand
 pub mod Causes
 pub mod FragmentPass
 pub mod Opened
+pub mod TracksBehind
+pub mod PartsBehind
+pub mod MoofBehind

@@ -12,3 +12,4 @@ pub mod Carried
 pub mod Opening
 pub mod OpenedMovie
 pub mod TrackTrees
+pub mod Passing
