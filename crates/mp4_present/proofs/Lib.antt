@@ -31,6 +31,7 @@ pub mod Hands
 pub mod TablesKept
 pub mod TracksPassed
 pub mod TablesStand
+pub mod Lengths
 pub mod Causes
 pub mod FragmentPass
 pub mod Opened

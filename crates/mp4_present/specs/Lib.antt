@@ -12,4 +12,5 @@ pub mod Carried
 pub mod Opening
 pub mod OpenedMovie
 pub mod TrackTrees
+pub mod Measured
 pub mod Passing
