@@ -166,7 +166,7 @@ some_trex : (x y : Trex) → ◌≡◌ {A = Option Trex} (Some x) (Some y) → x
 some_trex x y e = cc
 
 -- the defaults of the track that moved on are those known of it
-same_trex : (L moof : ℕ) (before ends : ℤ) (boxes : List Box) (tracks now : List TrackState) (room less : ℕ) (t : IsTrafSound L moof before tracks boxes ends) (m : IsMovedOn moof before boxes tracks now room less) → t.trex ≡ m.trex
+pub same_trex : (L moof : ℕ) (before ends : ℤ) (boxes : List Box) (tracks now : List TrackState) (room less : ℕ) (t : IsTrafSound L moof before tracks boxes ends) (m : IsMovedOn moof before boxes tracks now room less) → t.trex ≡ m.trex
 same_trex L moof before ends boxes tracks now room less t m = some_trex t.trex m.trex (sym t.known ∙ ap (λ (o : Option TrackState). unwrap_or (option_map (λ (s : TrackState). s.trex) o) None) m.found ∙ m.defaults)
 
 pub moves_traf : (L moof : ℕ) (first : List TrackState) (whole : ℕ) (all left later : List Box) (b : Box) (before ends : ℤ) (tracks now : List TrackState) (room rest : ℕ) → MovesSeen L moof first whole all left before tracks room → left ≡ b ∷ later → bytes_eq b.kind (codes "traf") ≡ true
