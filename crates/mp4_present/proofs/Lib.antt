@@ -38,3 +38,6 @@ pub mod Opened
 pub mod TracksBehind
 pub mod PartsBehind
 pub mod MoofBehind
+pub mod TrafPlaces
+pub mod TrafStands
+pub mod MoofRefused

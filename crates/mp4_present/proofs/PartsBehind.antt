@@ -112,7 +112,7 @@ for_miss id c e = rw e refl
 itself : (m n : ℕ) → m ≡ n → (n == m) ≡ true
 itself m n e = search rules
 
-own_more : (id : ℕ) (ps : List Part) (part : Part) → id ≡ part.id → parts_for id (ps ++ part ∷ []) ≡ parts_for id ps ++ part ∷ []
+pub own_more : (id : ℕ) (ps : List Part) (part : Part) → id ≡ part.id → parts_for id (ps ++ part ∷ []) ≡ parts_for id ps ++ part ∷ []
 own_more id ps part e = for-append id ps (part ∷ []) ∙ ap (λ (qs : List Part). parts_for id ps ++ qs) (for_hit id part (itself id part.id e))
 
 other_more : (id : ℕ) (ps : List Part) (part : Part) → (part.id == id) ≡ false → parts_for id (ps ++ part ∷ []) ≡ parts_for id ps

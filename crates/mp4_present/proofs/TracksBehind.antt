@@ -83,7 +83,7 @@ start_first : (plain : List PlacedSample) (own : List Part) (part : Part) → le
 start_first [] own part e h = start_by [] (own ++ part ∷ []) (part ∷ []) (find_behind own (part ∷ []) e) ∙ one_starts part h
 start_first (s ∷ plain) own part e h = absurd (omega arith)
 
-start_came : (plain : List PlacedSample) (own : List Part) (part : Part) → 0 < length (plain ++ samples_of own) → start_of plain (own ++ part ∷ []) ≡ start_of plain own
+pub start_came : (plain : List PlacedSample) (own : List Part) (part : Part) → 0 < length (plain ++ samples_of own) → start_of plain (own ++ part ∷ []) ≡ start_of plain own
 start_came [] own part h = start_by [] (own ++ part ∷ []) own (find_came own (part ∷ []) h)
 start_came (s ∷ plain) own part h = refl
 
