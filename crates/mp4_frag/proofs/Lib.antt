@@ -1,4 +1,7 @@
 pub mod TrafRefused
+pub mod RunReasons
+pub mod GroupReasons
+pub mod PartReasons
 pub mod TracksMoved
 pub mod MoofPassed
 pub mod TrafPassed

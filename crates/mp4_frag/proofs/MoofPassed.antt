@@ -13,7 +13,7 @@ use Rattle.mp4_frag.specs.Judged.{AreTrexesOf, is_known_among, IsPlacedWithin, I
 use Rattle.mp4_frag.specs.Passing.{IsUpTo}
 use Rattle.mp4_frag.specs.RunsJudged.{children_of}
 use Rattle.mp4_boxes.specs.declared.fault.Fault.{Fault}
-use Rattle.mp4_frag.specs.TrafFaults.{TrafFails, TrafsFail}
+use Rattle.mp4_frag.specs.TrafFaults.{HoldsBoxes, TrafFails, TrafsFail}
 use Rattle.mp4_frag.specs.Walks.{trex_among}
 use Rattle.mp4_frag.specs.declared.state.TrackState.{TrackState}
 use Rattle.mp4_frag.specs.declared.trex.Trex.{Trex}
@@ -166,17 +166,17 @@ some_trex : (x y : Trex) → ◌≡◌ {A = Option Trex} (Some x) (Some y) → x
 some_trex x y e = cc
 
 -- the defaults of the track that moved on are those known of it
-same_trex : (L moof : ℕ) (before ends : ℤ) (boxes : List Box) (tracks now : List TrackState) (room less : ℕ) (t : IsTrafSound L moof before tracks boxes ends) (m : IsMovedOn moof before boxes tracks now room less) → t.trex ≡ m.trex
+pub same_trex : (L moof : ℕ) (before ends : ℤ) (boxes : List Box) (tracks now : List TrackState) (room less : ℕ) (t : IsTrafSound L moof before tracks boxes ends) (m : IsMovedOn moof before boxes tracks now room less) → t.trex ≡ m.trex
 same_trex L moof before ends boxes tracks now room less t m = some_trex t.trex m.trex (sym t.known ∙ ap (λ (o : Option TrackState). unwrap_or (option_map (λ (s : TrackState). s.trex) o) None) m.found ∙ m.defaults)
 
 pub moves_traf : (L moof : ℕ) (first : List TrackState) (whole : ℕ) (all left later : List Box) (b : Box) (before ends : ℤ) (tracks now : List TrackState) (room rest : ℕ) → MovesSeen L moof first whole all left before tracks room → left ≡ b ∷ later → bytes_eq b.kind (codes "traf") ≡ true
-    → IsTrafSound L moof before tracks (children_of b) ends → IsMovedOn moof before (children_of b) tracks now room rest → MovesSeen L moof first whole all later ends now rest
-moves_traf L moof first whole all left later b before ends tracks now room rest s e k t m =
+    → HoldsBoxes b → IsTrafSound L moof before tracks (children_of b) ends → IsMovedOn moof before (children_of b) tracks now room rest → MovesSeen L moof first whole all later ends now rest
+moves_traf L moof first whole all left later b before ends tracks now room rest s e k holds t m =
     let kept : of_kind (codes "traf") left ≡ b ∷ of_kind (codes "traf") later = ap (of_kind (codes "traf")) e ∙ traf_kept b later k in
     let end : ends ≡ end_with moof before m.trex (track_fragment_of (children_of b)) = t.end ∙ ap (λ (x : Trex). end_with moof before x (track_fragment_of (children_of b))) (same_trex L moof before ends (children_of b) tracks now room rest t m) in
     record {
       moves = λ new less h. s.moves new less (subst (λ (bs : List Box). AreMovedOn moof before bs tracks new room less) (sym kept) (now, rest, (m, subst (λ (at : ℤ). AreMovedOn moof at (of_kind (codes "traf") later) now new rest less) end h)));
-      fails = λ f h. s.fails f (subst (λ (bs : List Box). TrafsFail L moof before tracks room bs f) (sym kept) (inr (ends, now, rest, (t, m, h))));
+      fails = λ f h. s.fails f (subst (λ (bs : List Box). TrafsFail L moof before tracks room bs f) (sym kept) (inr (ends, now, rest, (holds, t, m, h))));
     }
 
 -- a `traf` that is refused

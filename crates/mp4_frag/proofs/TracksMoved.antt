@@ -28,7 +28,7 @@ use Rattle.mp4_frag.proofs.TrafsTied.{grouped_length}
 
 -- ---- descriptions
 
-abbrev IsTested : (ℕ → Bool) → List PlacedSample → Type 0
+abbrev pub IsTested : (ℕ → Bool) → List PlacedSample → Type 0
 IsTested test samples = list_all (λ (s : PlacedSample). test s.description) samples ≡ true
 
 run_tested : (test : ℕ → Bool) (trex : Trex) (traf : TrackFragment) (first : Option ℕ) (at : ℤ) (rows : List RunRow) → test (unwrap_or traf.description trex.description) ≡ true → IsTested test (run_samples trex traf first at rows)
@@ -64,7 +64,7 @@ none_tested : (test : ℕ → Bool) (xs : List PlacedSample) → length xs ≡ 0
 none_tested test [] e = refl
 none_tested test (x ∷ xs) e = absurd (omega arith)
 
-part_tested : (test : ℕ → Bool) (moof : ℕ) (before : ℤ) (trex : Trex) (traf : TrackFragment) (v : Bool) → nat_lt 0 (length (part_samples (part_with moof before trex traf))) ≡ v → (v && not (test (unwrap_or traf.description trex.description))) ≡ false → IsTested test (part_samples (part_with moof before trex traf))
+pub part_tested : (test : ℕ → Bool) (moof : ℕ) (before : ℤ) (trex : Trex) (traf : TrackFragment) (v : Bool) → nat_lt 0 (length (part_samples (part_with moof before trex traf))) ≡ v → (v && not (test (unwrap_or traf.description trex.description))) ≡ false → IsTested test (part_samples (part_with moof before trex traf))
 part_tested test moof before trex traf false e h = none_tested test (part_samples (part_with moof before trex traf)) (let le : length (part_samples (part_with moof before trex traf)) ≤ 0 = search rules in omega arith)
 part_tested test moof before trex traf true e h =
     let samples = flat_map (λ ss. ss) (part_with moof before trex traf).runs in

@@ -34,10 +34,10 @@ use Rattle.mp4_frag.proofs.SamplesOfRows.{within_is, lasting_is, end_is}
 
 -- ---- runs
 
-abbrev samples_at : TrackFragment → Trex → ℤ → ℤ → Box → List PlacedSample
+abbrev pub samples_at : TrackFragment → Trex → ℤ → ℤ → Box → List PlacedSample
 samples_at traf trex base before b = run_samples trex traf (run_of b.payload).first_sample_flags (run_begins base before b.payload) (run_of b.payload).rows
 
-ends_are : (traf : TrackFragment) (trex : Trex) (base before : ℤ) (b : Box) → end_of_data (run_begins base before b.payload) (samples_at traf trex base before b) ≡ run_ends (inheritance traf trex) base before b.payload
+pub ends_are : (traf : TrackFragment) (trex : Trex) (base before : ℤ) (b : Box) → end_of_data (run_begins base before b.payload) (samples_at traf trex base before b) ≡ run_ends (inheritance traf trex) base before b.payload
 ends_are traf trex base before b = end_is trex traf (run_of b.payload).first_sample_flags (run_begins base before b.payload) (run_of b.payload).rows
 
 -- their samples lie in the file
@@ -118,7 +118,7 @@ head_sound payload r = record { readable = r; value = refl; inside = refl; offse
 pub time_sound : (payload : List ℕ) → IsReadable tfdt payload → IsSound tfdt payload
 time_sound payload r = record { readable = r; value = refl; inside = refl; offsets = refl }
 
-group_is_sound : (payload : List ℕ) → IsReadable sbgp payload → IsSound sbgp payload
+pub group_is_sound : (payload : List ℕ) → IsReadable sbgp payload → IsSound sbgp payload
 group_is_sound payload r = record { readable = r; value = refl; inside = refl; offsets = refl }
 
 abbrev AllOf : List ℕ → Leaf → List Box → Type 0

@@ -89,7 +89,7 @@ track_length_is file parts u few fit =
     length-map (placed_of parts u) (sample_of file) ∙ length-append (plain_of u) (fragment_samples (track_head_of u).id parts)
     ∙ ap (λ (n : ℕ). n + length (fragment_samples (track_head_of u).id parts)) (samples_counted (surroundings file u) u.table few fit)
 
-sizes_few : {c : Container} {bs : List Box} → Holds SampleTable c bs → count_among sample_sizes bs ≤ 1
+pub sizes_few : {c : Container} {bs : List Box} → Holds SampleTable c bs → count_among sample_sizes bs ≤ 1
 sizes_few h = omega (arith, line_has h (codes "stsz") (record { kinds = sample_sizes; quantity = one }) refl)
 
 shuffle : (a b c d : ℕ) → (a + b) + (c + d) ≡ (a + c) + (b + d)

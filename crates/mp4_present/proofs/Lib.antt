@@ -28,6 +28,16 @@ pub mod JoinedSamples
 pub mod PlainLists
 pub mod Carrying
 pub mod Hands
+pub mod TablesKept
+pub mod TracksPassed
+pub mod TablesStand
+pub mod Lengths
 pub mod Causes
 pub mod FragmentPass
 pub mod Opened
+pub mod TracksBehind
+pub mod PartsBehind
+pub mod MoofBehind
+pub mod TrafPlaces
+pub mod TrafStands
+pub mod MoofRefused

@@ -13,15 +13,19 @@ use Rattle.mp4_boxes.specs.declared.refusal.Refusal.TheVariants as refusals
 use Rattle.mp4_head.specs.HeadFaults.{HeadStands, HeaderStands, ChildStands, MissingStands, LeafStands}
 use Rattle.mp4_head.specs.Refuses.{place_of, RefusesIn}
 use Rattle.mp4_head.specs.Head as heads
-use Rattle.mp4_head.specs.Tree.{TrackTree, track_head_of}
-use Rattle.mp4_head.specs.Found.{SaysHead}
+use Rattle.mp4_head.specs.Tree.{TrackTree, MovieTree, IsTrackTree, IsSoundTrack, track_head_of}
+use Rattle.mp4_head.specs.Found.{SaysHead, IsFoundIn}
+use Rattle.mp4_boxes.proofs.Among.{head_is, tail_is}
+use Rattle.std.specs.List.{AllByRecursion, AllZip}
 use Rattle.mp4_head.specs.Seen.{track_seen}
 use Rattle.mp4_head.specs.declared.heads.TrackHead.{TrackHead}
 use Rattle.mp4_head.specs.declared.heads.MovieHead.{MovieHead}
 use Rattle.mp4_head.proofs.Above.{stands_in_file}
 use Rattle.mp4_present.specs.Movies.{Fills}
 use Rattle.mp4_present.specs.Outline.{box_at}
-use Rattle.mp4_present.specs.Opening.{HasOutline, HasMovie, RefusesBytes, RefusesOpen, RefusesFragments}
+use Rattle.mp4_present.specs.Opening.{HasOutline, HasMovie, RefusesOpen, RefusesFragments}
+use Rattle.mp4_present.specs.TrackTrees.{AreTracksOf, RefusesTables, TablesFail}
+use Rattle.mp4_present.proofs.TablesStand.{tables_stand}
 use Rattle.mp4_present.specs.Denotes.{begins_with_movie}
 use Rattle.mp4_present.specs.Stands.{Stands, header, child, missing, leaf}
 use Rattle.mp4_present.specs.declared.reading.TopBox.{TopBox}
@@ -131,14 +135,44 @@ open_not_sound honest file o moov b reads refusals.StoreChanged i w = absurd w
 open_not_sound honest file o moov b reads refusals.WriteFailed i w = w
 open_not_sound honest file o moov b reads refusals.NoSuchTrack i w = w
 
--- what comes behind it is at fault
-pub open_not_fit : (honest : Bool) (file ids : List ℕ) (reads : ℕ) (r : Refusal) → (IsTrue honest → HasMovie file ids) → RefusesBytes r → RefusesOpen honest file reads reads r
-open_not_fit honest file ids reads (refusals.Fault f) m w = λ told. inr (ids, m told)
-open_not_fit honest file ids reads refusals.Memory m w = tt
-open_not_fit honest file ids reads refusals.StoreFailed m w = absurd w
-open_not_fit honest file ids reads refusals.StoreChanged m w = absurd w
-open_not_fit honest file ids reads refusals.WriteFailed m w = w
-open_not_fit honest file ids reads refusals.NoSuchTrack m w = w
+-- where the `moov` stands in the file
+pub record IsThere (file : List ℕ) (m : MovieTree) : Type 0 where
+  pub before : List Box
+  pub stands : StandsAfter (file_container file) before m.moov
+  pub kind : m.moov.kind ≡ codes "moov"
+
+moov_there : (file : List ℕ) (boxes : List Box) (b : Box) (m : MovieTree) → Holds File (file_container file) boxes → of_kind (codes "moov") boxes ≡ b ∷ [] → m.moov ≡ b → IsThere file m
+moov_there file boxes b m holds one e =
+    let i = is_among (codes "moov") boxes b [] one in
+    let all : LieEndToEnd true 0 file ((i.before ++ b ∷ []) ++ i.after) = subst (λ (bs : List Box). LieEndToEnd true 0 file bs) (i.is ∙ sym (append_assoc i.before (b ∷ []) i.after)) holds.tiles.front.0 in
+    let stands : StandsAfter (file_container file) i.before b = (lies_first true 0 file (i.before ++ b ∷ []) i.after all, tt) in
+    record { before = i.before; stands = subst (λ (c : Box). StandsAfter (file_container file) i.before c) (sym e) stands; kind = subst (λ (c : Box). c.kind ≡ codes "moov") (sym e) i.kind_is }
+
+-- what is said of a head is said of each track by its tree
+are_tracks : (trees : List TrackTree) (tracks : List TrackHead) → AllByRecursion IsTrackTree trees → AllByRecursion IsSoundTrack trees → AllZip IsFoundIn trees tracks → map track_seen tracks ≡ map track_head_of trees → AreTracksOf trees tracks
+are_tracks [] [] h s z e = tt
+are_tracks [] (x ∷ tracks) h s z e = absurd z
+are_tracks (t ∷ trees) [] h s z e = absurd z
+are_tracks (t ∷ trees) (x ∷ tracks) h s z e = (
+  record { tree = h.0; sound = s.0; found = z.0; says = head_is (track_seen x) (track_head_of t) (map track_seen tracks) (map track_head_of trees) e },
+  are_tracks trees tracks h.1 s.1 z.1 (tail_is (track_seen x) (track_head_of t) (map track_seen tracks) (map track_head_of trees) e),
+)
+
+pub tracks_read : (b : Box) (head : MovieHead) (says : SaysHead b head) → AreTracksOf says.has.tree.tracks head.tracks.items
+tracks_read b head says = are_tracks says.has.tree.tracks head.tracks.items says.has.is_tree.tracks says.has.is_sound.tracks says.tracks (ap (λ (x : heads.Head). x.tracks) says.has.says)
+
+-- its tables are at fault
+pub open_not_fit : (honest : Bool) (file : List ℕ) (o : Outline) (moov : List ℕ) (b : Box) (head : MovieHead) (file_length reads : ℕ) (r : Refusal) → IsRead honest file o moov b → SaysHead b head → file_length ≡ length file
+    → RefusesTables file_length head.tracks.items r → RefusesOpen honest file reads reads r
+open_not_fit honest file o moov b head file_length reads (refusals.Fault f) i says e w = λ told.
+    let k = i.outline told in
+    let there = moov_there file k.0 b says.has.tree k.1 (its_moov honest file o moov b i told) says.has.is_moov in
+    inl (tables_stand file there.before says.has.tree f there.stands there.kind says.has.is_tree (subst (λ (n : ℕ). TablesFail n says.has.tree.tracks f) e (w says.has.tree.tracks (tracks_read b head says))))
+open_not_fit honest file o moov b head file_length reads refusals.Memory i says e w = tt
+open_not_fit honest file o moov b head file_length reads refusals.StoreFailed i says e w = absurd w
+open_not_fit honest file o moov b head file_length reads refusals.StoreChanged i says e w = absurd w
+open_not_fit honest file o moov b head file_length reads refusals.WriteFailed i says e w = w
+open_not_fit honest file o moov b head file_length reads refusals.NoSuchTrack i says e w = w
 
 pub open_not_passed : (honest : Bool) (file ids : List ℕ) (reads reads_after : ℕ) (r : Refusal) → (IsTrue honest → HasMovie file ids) → RefusesFragments honest reads reads_after r → RefusesOpen honest file reads reads_after r
 open_not_passed honest file ids reads reads_after (refusals.Fault f) m w = λ told. inr (ids, m told)

@@ -10,3 +10,7 @@ pub mod Joined
 pub mod Plain
 pub mod Carried
 pub mod Opening
+pub mod OpenedMovie
+pub mod TrackTrees
+pub mod Measured
+pub mod Passing

@@ -1,5 +1,14 @@
 //! The limits that hold of a presentation as a whole.
-ghost use Rattle.std.specs.Prelude.{◌≡◌, ◌-◌, ◌^◌, min};
+ghost use Rattle.std.specs.Prelude.{◌≡◌, ◌-◌, ◌^◌, ◌<◌, ◌≤◌, if◌then◌else◌, min, max, length, map, Some, None, IfOk, IfErr, codes};
+ghost use Rattle.std.specs.List.{AllByRecursion};
+ghost use Rattle.mp4_boxes.specs.Bytes.{sum_of};
+ghost use Rattle.mp4_boxes.specs.View.{box_seen};
+ghost use Rattle.mp4_boxes.specs.declared.fault.Kind.TheVariants.{TimeTooLarge};
+ghost use Rattle.mp4_head.specs.Head as heads;
+ghost use Rattle.mp4_head.specs.Seen.{edit_seen};
+ghost use Rattle.mp4_present.specs.Presentation.{Presentation, Track, IsInTime, max_moov, movie_length, normal_moov_length, says_all};
+ghost use Rattle.mp4_present.specs.Presentation as presented;
+ghost use Rattle.mp4_present.specs.Measured.{length_by, IsMeasured, IsMeasure, LimitFails};
 
 use crate::totals::in_64_bits;
 use mp4_boxes::{BoxView, Fault, FourCc, Kind};
@@ -15,7 +24,9 @@ const MOST_MOOV: u128 = 1 << 30;
 const FILE_TYPE: u128 = 24;
 
 // The length of a track by its edits, where there are some and each says how long it is.
-fn length_of_edits(edits: &[Edit]) -> Option<u128> {
+fn length_of_edits(edits: &[Edit]) -> Option<u128>
+    ensures { result ≡ (if says_all (map edit_seen edits.now) then Some (sum_of (λ (e : heads.Edit). e.segment_duration) (map edit_seen edits.now)) else None) }
+{
     if edits.is_empty() {
         return None;
     }
@@ -30,7 +41,9 @@ fn length_of_edits(edits: &[Edit]) -> Option<u128> {
 }
 
 // The length of a track in the movie's timescale: by its edits, else by the durations of its samples, rounded up.
-fn track_length(track: &TrackHead, duration: u64, timescale: u32) -> u128 {
+fn track_length(track: &TrackHead, duration: u64, timescale: u32) -> u128
+    ensures { 0 < track.now.media.timescale → result ≡ length_by (map edit_seen track.now.edits.items) duration timescale track.now.media.timescale }
+{
     match length_of_edits(track.edits.as_slice()) {
         Some(length) => length,
         None => {
@@ -48,7 +61,11 @@ pub(crate) fn duration_of(state: TrackState) -> u64
 }
 
 // The length of a track, if it is within its limits.
-fn checked_length(track: &TrackHead, state: TrackState, timescale: u32) -> Result<u64, Fault> {
+fn checked_length(track: &TrackHead, state: TrackState, timescale: u32) -> Result<u64, Fault>
+    ensures within { IfOk result (λ n. (t : Track) → IsMeasured t track.now state → IsInTime timescale t × (n ≡ presented.track_length timescale t)) }
+    ensures passes { IfErr result (λ f. (t : Track) → IsMeasured t track.now state → IsInTime timescale t → ⊥) }
+    ensures named { IfErr result (λ f. f ≡ record { kind = TimeTooLarge; box_type = codes "tkhd"; offset = track.now.offset }) }
+{
     let length = track_length(track, duration_of(state), timescale);
     if state.time > MOST_TIME || length > MOST_TIME {
         return Err(Fault::new(Kind::TimeTooLarge, FourCc(*b"tkhd"), track.offset));
@@ -61,10 +78,14 @@ pub(crate) fn check_limits(
     moov: BoxView,
     head: &MovieHead,
     states: &[TrackState],
-) -> Result<u64, Fault> {
+) -> Result<u64, Fault>
+    requires { length states.now ≡ length head.now.tracks.items }
+    ensures within { IfOk result (λ n. (p : Presentation) → IsMeasure p head.now states.now → AllByRecursion (IsInTime p.movie.timescale) p.tracks × (n ≡ movie_length p) × (normal_moov_length p ≤ max_moov)) }
+    ensures fault { IfErr result (λ f. (p : Presentation) → IsMeasure p head.now states.now → LimitFails p head.now (box_seen moov.entry) f) }
+{
     let mut longest = 0;
-    for (track, state) in head.tracks.iter().zip(states) {
-        longest = checked_length(track, *state, head.timescale)?.max(longest);
+    for k in 0..states.len() {
+        longest = checked_length(&head.tracks[k], states[k], head.timescale)?.max(longest);
     }
     if head_len(head) > MOST_MOOV + FILE_TYPE {
         return Err(Fault::new(Kind::MovieTooLarge, moov.kind(), moov.offset()));

@@ -1,8 +1,11 @@
 //! The tables of the tracks of a movie, checked one after the other.
-ghost use Rattle.std.specs.Prelude.{◌≡◌, length, IfOk, IfErr};
+ghost use Rattle.std.specs.Prelude.{ℕ, ◌≡◌, ◌-◌, ◌^◌, min, length, List, IfOk, IfErr};
+ghost use Rattle.mp4_boxes.specs.Bytes.{AreBytes};
 ghost use Rattle.mp4_boxes.specs.View.{box_seen};
+ghost use Rattle.mp4_frag.specs.FragmentSamples as fragments;
+ghost use Rattle.mp4_head.specs.Tree.{TrackTree};
 ghost use Rattle.mp4_present.specs.Plain.{ArePlain, HaveTablesIn};
-ghost use Rattle.mp4_present.specs.Opening.{RefusesBytes};
+ghost use Rattle.mp4_present.specs.TrackTrees.{AreTracksOf, HaveTables, RefusesTables};
 
 use crate::movie::TrackTables;
 use crate::totals::{Totals, add_up};
@@ -31,13 +34,30 @@ pub(crate) struct PlainTracks {
 }
 
 // What fragments of the track with this ID inherit.
-fn trex_for(trexes: &[Trex], id: u32) -> Option<Trex> {
-    trexes.iter().find(|trex| trex.id == id).copied()
+fn trex_for(trexes: &[Trex], id: u32) -> Option<Trex>
+    ensures { result ≡ fragments.trex_for trexes.now id }
+{
+    for trex in trexes {
+        if trex.id == id {
+            return Some(*trex);
+        }
+    }
+    None
 }
 
 // How many descriptions a track has, as far as 32 bits go: `stsd` counts them so.
-fn description_count(track: &TrackHead) -> u32 {
+fn description_count(track: &TrackHead) -> u32
+    ensures { result ≡ min (length track.now.media.descriptions.items) (2 ^ 32 - 1) }
+{
     track.media.descriptions.len().min(0xFFFF_FFFF) as u32
+}
+
+// How many bytes there are.
+fn length_of(payload: &[u8]) -> usize
+    ensures length { result ≡ length payload.now }
+    ensures bytes { AreBytes payload.now }
+{
+    payload.len()
 }
 
 // The state of a track behind the samples of its tables.
@@ -48,8 +68,13 @@ fn state_of(
     count: u32,
     keys: Keys,
 ) -> TrackState
+    ensures id { result.id ≡ track.now.id }
+    ensures descriptions { result.descriptions ≡ min (length track.now.media.descriptions.items) (2 ^ 32 - 1) }
+    ensures trex { result.trex ≡ fragments.trex_for trexes.now track.now.id }
+    ensures start { result.start ≡ 0 }
     ensures count { result.count ≡ count }
     ensures time { result.time ≡ totals.duration }
+    ensures keys { result.keys ≡ keys }
 {
     TrackState {
         id: track.id,
@@ -63,14 +88,17 @@ fn state_of(
 }
 
 impl PlainTracks {
-    ghost use Rattle.std.specs.Prelude.{ℕ, List, ◌+◌, OnOk, IfErr};
+    ghost use Rattle.std.specs.Prelude.{ℕ, List, [], ◌∷◌, ◌++◌, ◌+◌, OnOk, IfErr};
     ghost use Rattle.mp4_boxes.specs.View.{box_seen};
+    ghost use Rattle.mp4_frag.specs.declared.trex.Trex.{Trex};
+    ghost use Rattle.mp4_head.specs.Tree.{TrackTree};
     ghost use Rattle.mp4_present.specs.Plain.{ArePlain, HasTablesIn};
-    ghost use Rattle.mp4_present.specs.Opening.{RefusesBytes};
+    ghost use Rattle.mp4_present.specs.TrackTrees.{IsTrackOf, HaveTables, RefusesTable};
 
     // No track yet.
     fn none(alloc: Global) -> PlainTracks
-        ensures { (moov : List ℕ) → ArePlain moov 0 result }
+        ensures plain { (moov : List ℕ) → ArePlain moov 0 result }
+        ensures says { (file_length : ℕ) (moov : List ℕ) (trexes : List Trex) → HaveTables file_length moov trexes [] result }
     {
         PlainTracks {
             tables: Vec::new(alloc),
@@ -91,10 +119,12 @@ impl PlainTracks {
     ) -> Result<(), Refusal>
         requires inside { HasTablesIn (box_seen moov) track.now }
         ensures one_more { OnOk result ((n : ℕ) → ArePlain (box_seen moov.entry).payload n self.old → ArePlain (box_seen moov.entry).payload (n + 1) self.new) }
-        ensures refusal { IfErr result RefusesBytes }
+        ensures says { OnOk result ((t : TrackTree) (trees : List TrackTree) → IsTrackOf t track.now → HaveTables file_len (box_seen moov.entry).payload trexes.now trees self.old → HaveTables file_len (box_seen moov.entry).payload trexes.now (trees ++ t ∷ []) self.new) }
+        ensures refusal { IfErr result (RefusesTable file_len self.old.room track.now) }
     {
         let mut keys = Keys::new();
         let stbl = track.stbl;
+        let len = length_of(stbl.payload());
         let descriptions = description_count(track);
         let tables = Tables::check(stbl, file_len, descriptions, self.room, &mut keys, steps)?;
         let mut cursor = TableCursor::start(&tables);
@@ -103,7 +133,7 @@ impl PlainTracks {
         self.room -= tables.count();
         self.tables.push(TrackTables {
             place: (stbl.payload_offset() - moov.payload_offset()) as usize,
-            len: stbl.payload().len(),
+            len,
             tables: tables.places(),
         })?;
         self.states
@@ -126,7 +156,8 @@ pub(crate) fn check_tables<L: Ledger>(
 ) -> Result<PlainTracks, Refusal>
     requires inside { HaveTablesIn (box_seen moov) head.now.tracks.items }
     ensures plain { IfOk result (ArePlain (box_seen moov.entry).payload (length head.now.tracks.items)) }
-    ensures refusal { IfErr result RefusesBytes }
+    ensures says { IfOk result (λ p. (trees : List TrackTree) → AreTracksOf trees head.now.tracks.items → HaveTables file_len (box_seen moov.entry).payload head.now.trexes.items trees p) }
+    ensures refusal { IfErr result (RefusesTables file_len head.now.tracks.items) }
 {
     let mut plain = PlainTracks::none(alloc);
     for track in &head.tracks {

@@ -24,7 +24,7 @@ loop-child-preserved-then-eq g c =
       fits,
       r.room,
       rw kept (moof_traf c.args.file_len _ _ _ _ _ (box_seen c.in-Some.child) _ c.in_ok-before.before _ _ i.4 c.in-Some.ensures.steps is_traf r.holds sound r.bound r.same),
-      rw kept (moves_traf c.args.file_len _ _ _ _ _ _ (box_seen c.in-Some.child) _ c.in_ok-before.before _ _ _ _ i.5 c.in-Some.ensures.steps is_traf sound (rw c.offset-then-eq.ensures at r.moved)),
+      rw kept (moves_traf c.args.file_len _ _ _ _ _ _ (box_seen c.in-Some.child) _ c.in_ok-before.before _ _ _ _ i.5 c.in-Some.ensures.steps is_traf r.holds sound (rw c.offset-then-eq.ensures at r.moved)),
     )
 
 pub returns-clause-sound : goal.returns-clause-sound
@@ -46,5 +46,9 @@ pub returns-in_err-before-clause-fault : goal.returns-in_err-before-clause-fault
 returns-in_err-before-clause-fault g c =
     let p = err_from_is_err_and c.from_residual-in_err-before.result c.from_residual-in_err-before.ensures.1 in
     let all = holds_children rules.MovieFragment (box_seen c.args.moof) _ c.in_ok-child-items.ensures.holds in
-    rw (p.1, p.2) (inr (moves_fault c.args.file_len _ _ _ _ _ _ _ (box_seen c.in-Some.child) _ _ _ c.in_err-before.field-0.0 c.loop-child.invariant.5 c.in-Some.ensures.steps (rw c.kind.ensures at (sym c.if-eq.ensures))
-    (c.into_iter-child-iterator.ensures.into_iter_gives ∙ all) (rw c.offset-then-eq.ensures at c.in_err-before.ensures.fault)))
+    let held = subst (λ (boxes : List Box). Holds rules.MovieFragment (box_container (box_seen c.args.moof)) boxes) all c.in_ok-child-items.ensures.holds in
+    rw (p.1, p.2) (inr (
+      held,
+      moves_fault c.args.file_len _ _ _ _ _ _ _ (box_seen c.in-Some.child) _ _ _ c.in_err-before.field-0.0 c.loop-child.invariant.5 c.in-Some.ensures.steps (rw c.kind.ensures at (sym c.if-eq.ensures))
+          (c.into_iter-child-iterator.ensures.into_iter_gives ∙ all) (rw c.offset-then-eq.ensures at c.in_err-before.ensures.fault),
+    ))

@@ -118,23 +118,23 @@ returns-in_default-clause-fault g c =
 pub returns-in-Err-clause-fault : goal.returns-in-Err-clause-fault
 returns-in-Err-clause-fault g c =
     let head = sym c.in_ok-heads.ensures.head ∙ ap (λ (o : Option BoxView). only_list (option_map box_seen o)) c.in-Some.is in
-    head_fails (box_seen c.in-Some.tfhd) c.in-Err.kind head (rw c.payload.ensures at c.in-Err.ensures.fault) c.fault-in-Err.ensures
+    head_fails (box_seen c.in-Some.tfhd) c.in-Err.kind c.in_ok-heads.ensures.holds head (rw c.payload.ensures at c.in-Err.ensures.fault) c.fault-in-Err.ensures
 
 pub returns-in_default-find_track-clause-fault : goal.returns-in_default-find_track-clause-fault
 returns-in_default-find_track-clause-fault g c =
     let head = sym c.in_ok-heads.ensures.head ∙ ap (λ (o : Option BoxView). only_list (option_map box_seen o)) c.in-Some.is in
-    unknown_id c.args.file_len c.args.moof c.args.room.now c.args.before c.args.tracks.now (box_seen c.args.traf) (box_seen c.in-Some.tfhd) c.in-Ok.head _ head (rw c.payload.ensures at c.in-Ok.ensures.head) (c.in_default-find_track.ensures.none refl) c.fault-in_default-find_track.ensures
+    unknown_id c.args.file_len c.args.moof c.args.room.now c.args.before c.args.tracks.now (box_seen c.args.traf) (box_seen c.in-Some.tfhd) c.in-Ok.head _ c.in_ok-heads.ensures.holds head (rw c.payload.ensures at c.in-Ok.ensures.head) (c.in_default-find_track.ensures.none refl) c.fault-in_default-find_track.ensures
 
 pub returns-in_default-trex-clause-fault : goal.returns-in_default-trex-clause-fault
 returns-in_default-trex-clause-fault g c =
     let head = sym c.in_ok-heads.ensures.head ∙ ap (λ (o : Option BoxView). only_list (option_map box_seen o)) c.in-Some.is in
-    unknown_trex c.args.file_len c.args.moof c.args.room.now c.in-Some-find_track.k c.args.before c.args.tracks.now _ c.index-tracks-k.result (box_seen c.args.traf) (box_seen c.in-Some.tfhd) c.in-Ok.head _ head (rw c.payload.ensures at c.in-Ok.ensures.head)
+    unknown_trex c.args.file_len c.args.moof c.args.room.now c.in-Some-find_track.k c.args.before c.args.tracks.now _ c.index-tracks-k.result (box_seen c.args.traf) (box_seen c.in-Some.tfhd) c.in-Ok.head _ c.in_ok-heads.ensures.holds head (rw c.payload.ensures at c.in-Ok.ensures.head)
     c.in-Some-find_track.ensures.inside c.in-Some-find_track.ensures.found c.index-tracks-k.is c.in_default-trex.is c.fault-in_default-trex.ensures
 
 pub returns-in-Err-read_time-clause-fault : goal.returns-in-Err-read_time-clause-fault
 returns-in-Err-read_time-clause-fault g c =
     let there = sym c.in_ok-heads.ensures.time ∙ ap (λ (o : Option BoxView). only_list (option_map box_seen o)) c.in-Some-time.is in
-    time_fails (box_seen c.in-Some-time.tfdt) c.in-Err-read_time.kind there (rw c.payload-in-Some-time.ensures at c.in-Err-read_time.ensures.fault) c.fault-in-Err-read_time.ensures
+    time_fails (box_seen c.in-Some-time.tfdt) c.in-Err-read_time.kind c.in_ok-heads.ensures.holds there (rw c.payload-in-Some-time.ensures at c.in-Err-read_time.ensures.fault) c.fault-in-Err-read_time.ensures
 
 pub returns-in_err-passed-clause-fault : goal.returns-in_err-passed-clause-fault
 returns-in_err-passed-clause-fault g c =
@@ -142,7 +142,7 @@ returns-in_err-passed-clause-fault g c =
     let head = sym c.in_ok-heads.ensures.head ∙ ap (λ (o : Option BoxView). only_list (option_map box_seen o)) c.in-Some.is in
     let same : to_z w128 (of_z w128 c.base_of.result) ≡ c.base_of.result = search rules in
     let before : to_z w128 (of_z w128 c.args.before) ≡ c.args.before = search rules in
-    let o = opened c.args.moof c.in-Some-find_track.k c.args.before c.base_of.result c.args.tracks.now _ c.index-tracks-k.result (box_seen c.args.traf) (box_seen c.in-Some.tfhd) c.in-Ok.head c.in-Some-trex.trex c.what_is_inherited.result head (rw c.payload.ensures at c.in-Ok.ensures.head)
+    let o = opened c.args.moof c.in-Some-find_track.k c.args.before c.base_of.result c.args.tracks.now _ c.index-tracks-k.result (box_seen c.args.traf) (box_seen c.in-Some.tfhd) c.in-Ok.head c.in-Some-trex.trex c.what_is_inherited.result c.in_ok-heads.ensures.holds head (rw c.payload.ensures at c.in-Ok.ensures.head)
     c.in-Some-find_track.ensures.inside c.in-Some-find_track.ensures.found c.index-tracks-k.is c.in-Some-trex.is (rw before at c.base_of.ensures.is) c.what_is_inherited.ensures in
     rw (p.1, p.2) (runs_refused c.args.file_len c.args.moof c.args.room.now c.args.before c.base_of.result c.args.tracks.now (box_seen c.args.traf) (box_seen c.in-Some.tfhd) c.index-tracks-k.result c.in-Some-trex.trex c.what_is_inherited.result c.in_err-passed.field-0.0 o ((rw same at c.in_err-passed.ensures.fault) c.in_ok-heads.ensures.holds.tiles))
 
@@ -151,7 +151,7 @@ returns-then-lacks_description-clause-fault g c =
     let head = sym c.in_ok-heads.ensures.head ∙ ap (λ (o : Option BoxView). only_list (option_map box_seen o)) c.in-Some.is in
     let same : to_z w128 (of_z w128 c.base_of.result) ≡ c.base_of.result = search rules in
     let before : to_z w128 (of_z w128 c.args.before) ≡ c.args.before = search rules in
-    let o = opened c.args.moof c.in-Some-find_track.k c.args.before c.base_of.result c.args.tracks.now _ c.index-tracks-k.result (box_seen c.args.traf) (box_seen c.in-Some.tfhd) c.in-Ok.head c.in-Some-trex.trex c.what_is_inherited.result head (rw c.payload.ensures at c.in-Ok.ensures.head)
+    let o = opened c.args.moof c.in-Some-find_track.k c.args.before c.base_of.result c.args.tracks.now _ c.index-tracks-k.result (box_seen c.args.traf) (box_seen c.in-Some.tfhd) c.in-Ok.head c.in-Some-trex.trex c.what_is_inherited.result c.in_ok-heads.ensures.holds head (rw c.payload.ensures at c.in-Ok.ensures.head)
     c.in-Some-find_track.ensures.inside c.in-Some-find_track.ensures.found c.index-tracks-k.is c.in-Some-trex.is (rw before at c.base_of.ensures.is) c.what_is_inherited.ensures in
     description_refused c.args.file_len c.args.moof c.args.room.now c.in_ok-passed.passed.count c.args.before c.base_of.result c.args.tracks.now (box_seen c.args.traf) (box_seen c.in-Some.tfhd) c.index-tracks-k.result c.in-Some-trex.trex c.what_is_inherited.result _ o (rw same at c.in_ok-passed.ensures.sound) c.in_ok-passed.ensures.count (sym c.if-lacks_description.ensures) c.fault-then-lacks_description.ensures
 
@@ -161,7 +161,7 @@ returns-in_err-keys-clause-fault g c =
     let head = sym c.in_ok-heads.ensures.head ∙ ap (λ (o : Option BoxView). only_list (option_map box_seen o)) c.in-Some.is in
     let same : to_z w128 (of_z w128 c.base_of.result) ≡ c.base_of.result = search rules in
     let before : to_z w128 (of_z w128 c.args.before) ≡ c.args.before = search rules in
-    let o = opened c.args.moof c.in-Some-find_track.k c.args.before c.base_of.result c.args.tracks.now _ c.index-tracks-k.result (box_seen c.args.traf) (box_seen c.in-Some.tfhd) c.in-Ok.head c.in-Some-trex.trex c.what_is_inherited.result head (rw c.payload.ensures at c.in-Ok.ensures.head)
+    let o = opened c.args.moof c.in-Some-find_track.k c.args.before c.base_of.result c.args.tracks.now _ c.index-tracks-k.result (box_seen c.args.traf) (box_seen c.in-Some.tfhd) c.in-Ok.head c.in-Some-trex.trex c.what_is_inherited.result c.in_ok-heads.ensures.holds head (rw c.payload.ensures at c.in-Ok.ensures.head)
     c.in-Some-find_track.ensures.inside c.in-Some-find_track.ensures.found c.index-tracks-k.is c.in-Some-trex.is (rw before at c.base_of.ensures.is) c.what_is_inherited.ensures in
     rw (p.1, p.2) (groups_refused c.args.file_len c.args.moof c.args.room.now c.in_ok-passed.passed.count c.args.before c.base_of.result c.args.tracks.now (box_seen c.args.traf) (box_seen c.in-Some.tfhd) c.index-tracks-k.result c.in-Some-trex.trex c.what_is_inherited.result c.in_err-keys.field-0.0 o (rw same at c.in_ok-passed.ensures.sound) c.in_ok-passed.ensures.count (c.in_err-keys.ensures.fault c.in_ok-heads.ensures.holds.tiles))
 
@@ -176,9 +176,16 @@ returns-then-is_late-clause-fault g c =
           its_time _ boxes _ at (rw w.payload-in-Some-time.ensures at w.in-Ok-read_time.ensures.time) ∙ sym w.time-is
       | in-None w ↦ no_time boxes (sym c.in_ok-heads.ensures.time ∙ ap (λ (o : Option BoxView). only_list (option_map box_seen o)) w.in-None.is) ∙ sym w.time-is
     ] in
+    let times : AllByRecursion (λ (b : Box). IsSound tfdt b.payload) (of_kind (codes "tfdt") boxes) =
+    elim c.match-heads-2.branch [
+      | in-Some-time+in-Ok-read_time w ↦
+          let found = sym c.in_ok-heads.ensures.time ∙ ap (λ (o : Option BoxView). only_list (option_map box_seen o)) w.in-Some-time.is in
+          only_sound (codes "tfdt") tfdt _ boxes found (time_sound _ (rw w.payload-in-Some-time.ensures at w.in-Ok-read_time.ensures.readable))
+      | in-None w ↦ none_sound (codes "tfdt") tfdt boxes (sym c.in_ok-heads.ensures.time ∙ ap (λ (o : Option BoxView). only_list (option_map box_seen o)) w.in-None.is)
+    ] in
     let head = sym c.in_ok-heads.ensures.head ∙ ap (λ (o : Option BoxView). only_list (option_map box_seen o)) c.in-Some.is in
     let same : to_z w128 (of_z w128 c.base_of.result) ≡ c.base_of.result = search rules in
     let before : to_z w128 (of_z w128 c.args.before) ≡ c.args.before = search rules in
-    let o = opened c.args.moof c.in-Some-find_track.k c.args.before c.base_of.result c.args.tracks.now _ c.index-tracks-k.result (box_seen c.args.traf) (box_seen c.in-Some.tfhd) c.in-Ok.head c.in-Some-trex.trex c.what_is_inherited.result head (rw c.payload.ensures at c.in-Ok.ensures.head)
+    let o = opened c.args.moof c.in-Some-find_track.k c.args.before c.base_of.result c.args.tracks.now _ c.index-tracks-k.result (box_seen c.args.traf) (box_seen c.in-Some.tfhd) c.in-Ok.head c.in-Some-trex.trex c.what_is_inherited.result c.in_ok-heads.ensures.holds head (rw c.payload.ensures at c.in-Ok.ensures.head)
     c.in-Some-find_track.ensures.inside c.in-Some-find_track.ensures.found c.index-tracks-k.is c.in-Some-trex.is (rw before at c.base_of.ensures.is) c.what_is_inherited.ensures in
-    time_refused c.args.file_len c.args.moof c.args.room.now c.in_ok-passed.passed.count c.args.before c.base_of.result c.args.tracks.now (box_seen c.args.traf) (box_seen c.in-Some.tfhd) (box_seen c.in-Some-time-2.tfdt) c.index-tracks-k.result c.in-Some-trex.trex c.what_is_inherited.result c.match-heads-2.time _ o (rw same at c.in_ok-passed.ensures.sound) c.in_ok-passed.ensures.count c.in_ok-keys.ensures.sound there time (sym c.if-is_late.ensures) c.fault-then-is_late.ensures
+    time_refused c.args.file_len c.args.moof c.args.room.now c.in_ok-passed.passed.count c.args.before c.base_of.result c.args.tracks.now (box_seen c.args.traf) (box_seen c.in-Some.tfhd) (box_seen c.in-Some-time-2.tfdt) c.index-tracks-k.result c.in-Some-trex.trex c.what_is_inherited.result c.match-heads-2.time _ o (rw same at c.in_ok-passed.ensures.sound) c.in_ok-passed.ensures.count c.in_ok-keys.ensures.sound there times time (sym c.if-is_late.ensures) c.fault-then-is_late.ensures

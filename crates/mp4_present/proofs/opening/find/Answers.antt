@@ -18,7 +18,7 @@ pub returns-in_err-plain-clause-refusal : goal.returns-in_err-plain-clause-refus
 returns-in_err-plain-clause-refusal g c =
     let p = err_from_is_err_and c.from_residual-in_err-plain.result c.from_residual-in_err-plain.ensures.1 in
     let r : IsRead (g.S.Store.is_honest c.args.store.now) (g.S.Store.file c.args.store.now) c.args.outline.now c.args.moov.now _ = record { outline = c.requires.outline; is = c.view-view.ensures; fills = c.requires.fills; bytes = c.requires.bytes } in
-    rw (p.1, p.2) (open_not_fit _ _ _ _ _ (its_movie _ _ c.args.outline.now c.args.moov.now _ c.in_ok-head.head _ r c.in_ok-head.ensures.head refl) c.in_err-plain.ensures.refusal)
+    rw (p.1, p.2) (open_not_fit _ _ c.args.outline.now c.args.moov.now _ c.in_ok-head.head _ _ _ r c.in_ok-head.ensures.head c.len.ensures c.in_err-plain.ensures.refusal)
 
 pub returns-in_err-all-clause-refusal : goal.returns-in_err-all-clause-refusal
 returns-in_err-all-clause-refusal g c =

@@ -2,12 +2,25 @@ use Rattle.std.proofs.Common.{ℕ, drop, subst}
 use Rattle.mp4_boxes.specs.View.{box_seen}
 use Rattle.mp4_present.specs.Plain.{HasTablesIn, HaveTablesIn}
 use Rattle.mp4_present.proofs.PlainLists.{from_next, next_of}
+use Rattle.std.proofs.lemmas.Result.{err_from_is_err_and}
+use Rattle.mp4_present.proofs.TracksPassed.{passed_more, passed_all, passed_refused}
 use Rattle.mp4_present.proofs.tables_pass.check_tables.Goals as goal
 
 pub loop-track-init : goal.loop-track-init
-loop-track-init g c = (c.none-plain.ensures _, rw c.deref-track-items.ensures.value c.requires.inside)
+loop-track-init g c = (c.none-plain.ensures.plain _, rw c.deref-track-items.ensures.value c.requires.inside, λ trees a. c.none-plain.ensures.says _ _ _)
 
 pub loop-track-preserved : goal.loop-track-preserved
 loop-track-preserved g c =
-    let i = c.loop-track.invariant in
-    (c.in_ok-push.ensures.one_more _ i.0, subst (λ (k : ℕ). HaveTablesIn (box_seen c.args.moov) (drop k c.deref-track-items.result.now)) (next_of c.loop-track.track-index) (from_next (HasTablesIn (box_seen c.args.moov)) c.deref-track-items.result.now c.loop-track.track-index i.1))
+    let i = c.loop-track.invariant in (
+      c.in_ok-push.ensures.one_more _ i.0,
+      subst (λ (k : ℕ). HaveTablesIn (box_seen c.args.moov) (drop k c.deref-track-items.result.now)) (next_of c.loop-track.track-index) (from_next (HasTablesIn (box_seen c.args.moov)) c.deref-track-items.result.now c.loop-track.track-index i.1),
+      passed_more _ _ _ _ _ _ i.2 c.track-item.result c.push.new.self c.loop-track-test.true c.track-item.is (rw c.deref.ensures.value at c.in_ok-push.ensures.says),
+    )
+
+pub returns-in_err-push-clause-refusal : goal.returns-in_err-push-clause-refusal
+returns-in_err-push-clause-refusal g c =
+    let p = err_from_is_err_and c.from_residual.result c.from_residual.ensures.1 in
+    rw (p.1, p.2) (rw c.deref-track-items.ensures.value at (passed_refused _ _ _ _ _ _ c.loop-track.invariant.2 c.track-item.result c.in_err-push.field-0.0 c.loop-track-test.true c.track-item.is c.in_err-push.ensures.refusal))
+
+pub returns-clause-says : goal.returns-clause-says
+returns-clause-says g c = rw c.deref-track-items.ensures.value at (passed_all _ _ _ _ _ _ c.loop-track.invariant.2 c.loop-track-test.false)

@@ -1,0 +1,278 @@
+-- One more track behind its tables: what was read of them is what its tree says.
+use Rattle.std.proofs.Common.{◌≡◌, ℕ, ◌+◌, ◌-◌, ◌*◌, ◌^◌, ◌<◌, ◌≤◌, Bool, true, false, List, [], ◌∷◌, ◌++◌, length, take, drop, min, map, refl, sym, ap, subst, ◌∙◌, arith}
+use Rattle.std.specs.Prelude.{bytes_eq, codes}
+use Rattle.std.specs.List.{AllByRecursion, AllZip}
+use Rattle.std.proofs.lemmas.List.{length-map, map-append}
+use Rattle.mp4_boxes.specs.Bytes.{AreBytes, field, sum_of}
+use Rattle.mp4_boxes.specs.Box.{Box, box_container}
+use Rattle.mp4_boxes.specs.Children.{payload_of, payload_among, sample_sizes}
+use Rattle.mp4_boxes.specs.Layout.{Leaf, stts, ctts, stsc, stsz, stz2, stco, co64, stss, sdtp, sbgp, sgpd, stsd, IsSound, IsReadable}
+use Rattle.mp4_boxes.specs.Places.{at_kind, ruled, AreSound, IsSoundAs}
+use Rattle.mp4_boxes.specs.View.{box_seen}
+use Rattle.mp4_boxes.specs.declared.rule.Rule.TheVariants.{SampleTable}
+use Rattle.mp4_boxes.proofs.Among.{IsIn, all_in, all_append}
+use Rattle.mp4_boxes.proofs.Each.{each_member, each_weaker}
+use Rattle.mp4_boxes.proofs.OfBytes.{field_below, tiled_of_bytes, payload_of_bytes}
+use Rattle.mp4_boxes.proofs.Refusing.{holds_only}
+use Rattle.mp4_tables.specs.Accepted.{tables_at}
+use Rattle.mp4_tables.specs.Groups.{GroupKey, keys_after}
+use Rattle.mp4_tables.specs.Keys.{keys_seen}
+use Rattle.mp4_tables.specs.declared.keys.Keys.{Keys}
+use Rattle.mp4_tables.specs.Views.{TablesSeen, CursorSeen, tables_seen, samples_from}
+use Rattle.mp4_tables.specs.Leaves.{AllOf, AreAccepted, TablesRead, boxes_of, tables_in, HasDescriptions, IsFault}
+use Rattle.mp4_tables.proofs.ChunkReads.{has_descriptions}
+use Rattle.mp4_boxes.specs.declared.fault.Fault.{Fault}
+use Rattle.mp4_tables.specs.PlainSamples.{PlacedSample, plain_samples}
+use Rattle.mp4_tables.specs.TableRules.{Fit}
+use Rattle.mp4_tables.specs.Tables.{Tables, tables_of, sample_count}
+use Rattle.mp4_tables.specs.Timed.{timed, samples_of}
+use Rattle.mp4_tables.specs.declared.places.TablesAt.{TablesAt}
+use Rattle.mp4_tables.specs.declared.sample.SampleAt.{SampleAt}
+use Rattle.mp4_tables.proofs.Counts.{samples_counted, plain_length}
+use Rattle.mp4_tables.proofs.SampleLists.{timed_first}
+use Rattle.mp4_tables.proofs.LeafLists.{boxes_are}
+use Rattle.mp4_tables.proofs.Placed.{plain_placed}
+use Rattle.mp4_frag.specs.FragmentSamples.{trex_for, duration_of}
+use Rattle.mp4_frag.specs.Judged.{track_seen}
+use Rattle.mp4_frag.specs.declared.state.TrackState.{TrackState}
+use Rattle.mp4_frag.specs.declared.trex.Trex.{Trex}
+use Rattle.mp4_head.specs.Found.{LiesIn}
+use Rattle.mp4_head.specs.Head as heads
+use Rattle.mp4_head.specs.Tree.{TrackTree, IsTrackTree, IsSoundTrack, stbl_of, track_head_of}
+use Rattle.mp4_head.specs.declared.heads.TrackHead.{TrackHead}
+use Rattle.mp4_head.proofs.Distinct.{payload_first}
+use Rattle.mp4_present.specs.Denotes.{plain_of, plain_keys}
+use Rattle.mp4_present.specs.OpenedMovie.{AreTablesOf, plain_seen}
+use Rattle.mp4_present.specs.Presentation.{max_samples}
+use Rattle.mp4_present.specs.Stands.{table_total}
+use Rattle.mp4_present.specs.TrackTrees.{IsTrackOf, IsCountOf, HaveTables, TableFails, surroundings_in}
+use Rattle.mp4_present.specs.declared.movie.TrackTables.{TrackTables}
+use Rattle.mp4_present.specs.declared.tables_pass.Counted.{Counted}
+use Rattle.mp4_present.specs.declared.tables_pass.PlainTracks.{PlainTracks}
+use Rattle.mp4_present.proofs.Chain.{is_first}
+use Rattle.mp4_present.proofs.Counts.{sizes_few, sum-append}
+use Rattle.mp4_present.proofs.TableReasons.{descriptions_counted}
+
+-- ---- leaves
+
+-- where the boxes of each type are sound, each box is sound as what it is read as
+leaf_sound : (entries : List (List ℕ × Leaf)) (boxes : List Box) (b : Box) → AllByRecursion (λ (entry : List ℕ × Leaf). AllOf entry.0 (IsSound entry.1) boxes) entries → IsIn boxes b → IsSoundAs (at_kind entries b.kind) b.payload
+leaf_sound [] boxes b a i = tt
+leaf_sound (entry ∷ entries) boxes b a i = either (bytes_eq entry.0 b.kind) refl (leaf_sound entries boxes b a.1 i)
+  where
+    either : (v : Bool) → bytes_eq entry.0 b.kind ≡ v → IsSoundAs (at_kind entries b.kind) b.payload → IsSoundAs (at_kind (entry ∷ entries) b.kind) b.payload
+    either true e more = rw e (all_in (λ (c : Box). bytes_eq entry.0 c.kind ≡ true → IsSound entry.1 c.payload) boxes b i a.0 e)
+    either false e more = rw e more
+
+-- an `sbgp` that can be read is sound
+sound_groups : (boxes : List Box) → AllOf (codes "sbgp") (IsReadable sbgp) boxes → AllOf (codes "sbgp") (IsSound sbgp) boxes
+sound_groups [] h = tt
+sound_groups (b ∷ boxes) h = ((λ e. record { readable = h.0 e; value = refl; inside = refl; offsets = refl }), sound_groups boxes h.1)
+
+-- the one `stsd`
+sound_stsd : (t : TrackTree) → IsTrackTree t → IsSoundTrack t → AllOf (codes "stsd") (IsSound stsd) t.table
+sound_stsd t i s =
+    each_member (λ (b : Box). bytes_eq (codes "stsd") b.kind ≡ true → IsSound stsd b.payload) t.table
+    (λ b j e. subst (λ (payload : List ℕ). IsSound stsd payload) (payload_first (codes "stsd") t.table ∙ ap (λ (c : Box). c.payload) (is_first (codes "stsd") t.table b j e (holds_only i.table (codes "stsd") refl))) s.stsd)
+
+-- the leaves of tables that were accepted are sound
+all_sound : (file_length n room : ℕ) (stbl : Box) (t : TrackTree) → IsTrackTree t → IsSoundTrack t → AreAccepted (record { file_len = file_length; descriptions = n; room = room }) stbl t.table → AreSound (ruled SampleTable) t.table
+all_sound file_length n room stbl t i s a =
+    each_member (λ (b : Box). IsSoundAs (at_kind entries b.kind) b.payload) t.table (λ b j. leaf_sound entries t.table b all j)
+  where
+    entries : List (List ℕ × Leaf)
+    entries = (codes "stsd", stsd) ∷ (codes "stts", stts) ∷ (codes "ctts", ctts) ∷ (codes "stsc", stsc) ∷ (codes "stsz", stsz) ∷ (codes "stz2", stz2) ∷ (codes "stco", stco) ∷ (codes "co64", co64) ∷ (codes "stss", stss) ∷ (codes "sdtp", sdtp) ∷ (codes "sbgp", sbgp) ∷ (codes "sgpd", sgpd) ∷ []
+
+    all : AllByRecursion (λ (entry : List ℕ × Leaf). AllOf entry.0 (IsSound entry.1) t.table) entries
+    all = (sound_stsd t i s, (a.durations, (a.offsets, (a.chunk_rows, (a.sizes, (a.compact, (a.narrow, (a.wide, (a.sync, (a.dependencies, (sound_groups t.table a.groups, (a.described, tt))))))))))))
+
+-- ---- samples
+
+-- samples handed out one after the other last as long, and have as many bytes
+pub timed_lasts : (keys : List GroupKey) (dts : ℕ) (samples : List PlacedSample) → sum_of (λ (s : SampleAt). s.duration) (timed keys dts samples) ≡ duration_of samples
+timed_lasts keys dts [] = refl
+timed_lasts keys dts (s ∷ samples) = ap (λ (n : ℕ). s.duration + n) (timed_lasts keys (dts + s.duration) samples)
+
+pub timed_bytes : (keys : List GroupKey) (dts : ℕ) (samples : List PlacedSample) → sum_of (λ (s : SampleAt). s.size) (timed keys dts samples) ≡ sum_of (λ (s : PlacedSample). s.size) samples
+timed_bytes keys dts [] = refl
+timed_bytes keys dts (s ∷ samples) = ap (λ (n : ℕ). s.size + n) (timed_bytes keys (dts + s.duration) samples)
+
+-- samples that each last less than 2^32
+pub short_sum : (samples : List PlacedSample) → AllByRecursion (λ (s : PlacedSample). s.duration < 2 ^ 32) samples → duration_of samples ≤ 2 ^ 32 * length samples
+short_sum [] h = omega arith
+short_sum (s ∷ samples) h = let own = h.0 in omega (arith, own, short_sum samples h.1)
+
+-- ---- descriptions
+
+-- a track has as many as its head, which 32 bits count
+pub as_many : (t : TrackTree) (h : TrackHead) (n : ℕ) → IsTrackOf t h → AreBytes (stbl_of t).payload → n ≡ min (length h.media.descriptions.items) (2 ^ 32 - 1) → n ≡ length t.descriptions
+as_many t h n i bytes e =
+    let boxes = tiled_of_bytes (box_container (stbl_of t)) t.table bytes i.tree.table.tiles in
+    let below : field (payload_of (codes "stsd") t.table) 4 4 < 2 ^ 32 = field_below (payload_of (codes "stsd") t.table) 4 4 (payload_of_bytes (codes "stsd") t.table boxes) in
+    let count = descriptions_counted t i.tree in
+    let items : length h.media.descriptions.items ≡ length t.descriptions =
+    sym (length-map h.media.descriptions.items _) ∙ ap (λ (x : heads.TrackHead). length x.media.descriptions) i.says ∙ length-map t.descriptions _ in
+    capped n (length h.media.descriptions.items) (length t.descriptions) _ e items count below
+  where
+    capped : (n m d f : ℕ) → n ≡ min m (2 ^ 32 - 1) → m ≡ d → d ≡ f → f < 2 ^ 32 → n ≡ d
+    capped n m d f e i c b = omega arith
+
+-- ---- one track
+
+-- lists with one more
+each_more : {A : Type 0} (P : A → Type 0) (xs : List A) (x : A) → AllByRecursion P xs → P x → AllByRecursion P (xs ++ x ∷ [])
+each_more P xs x h p = all_append P xs (x ∷ []) h (p, tt)
+
+zip_more : {A B : Type 0} (R : A → B → Type 0) (xs : List A) (ys : List B) (x : A) (y : B) → AllZip R xs ys → R x y → AllZip R (xs ++ x ∷ []) (ys ++ y ∷ [])
+zip_more R [] [] x y z r = (r, tt)
+zip_more R [] (w ∷ ys) x y z r = absurd z
+zip_more R (v ∷ xs) [] x y z r = absurd z
+zip_more R (v ∷ xs) (w ∷ ys) x y z r = (z.0, zip_more R xs ys x y z.1 r)
+
+-- what was read of the tables of a track, and what a walk over their samples came to
+pub record IsRead (file_length n room count lasts bytes : ℕ) (h : TrackHead) (v : TablesSeen) (cursor : CursorSeen) (keys : Keys) : Type 0 where
+  pub of_bytes : AreBytes (box_seen h.stbl).payload
+  pub descriptions : n ≡ min (length h.media.descriptions.items) (2 ^ 32 - 1)
+  pub payload : v.payload ≡ (box_seen h.stbl).payload
+  pub read : TablesRead (record { file_len = file_length; descriptions = n; room = room }) (box_seen h.stbl) v.at
+  pub named : keys_seen keys ≡ keys_after [] (tables_in (box_seen h.stbl)).groups
+  pub count_is : count ≡ length (tables_seen v).sizes
+  pub tables : cursor.tables ≡ v
+  pub first : cursor.place.number ≡ 0
+  pub duration : lasts ≡ min (sum_of (λ (s : SampleAt). s.duration) (samples_from cursor)) (2 ^ 64 - 1)
+  pub size : bytes ≡ min (sum_of (λ (s : SampleAt). s.size) (samples_from cursor)) (2 ^ 64 - 1)
+
+-- a number that no cap changes
+uncapped : (a b c n : ℕ) → a ≡ min b (2 ^ 64 - 1) → b ≡ c → c ≤ 2 ^ 32 * n → n ≤ 2 ^ 24 → a ≡ c
+uncapped a b c n e f h k = omega arith
+
+module _ (file_length n room count lasts bytes : ℕ) (moov : Box) (h : TrackHead) (v : TablesSeen) (cursor : CursorSeen) (keys : Keys) (t : TrackTree)
+    (i : IsTrackOf t h) (r : IsRead file_length n room count lasts bytes h v cursor keys) where
+  stbl_is : box_seen h.stbl ≡ stbl_of t
+  stbl_is = i.found.stbl
+
+  bytes_are : AreBytes (stbl_of t).payload
+  bytes_are = subst (λ (b : Box). AreBytes b.payload) stbl_is r.of_bytes
+
+  pub descriptions_are : n ≡ length t.descriptions
+  descriptions_are = as_many t h n i bytes_are r.descriptions
+
+  boxes_same : boxes_of (stbl_of t) ≡ t.table
+  boxes_same = boxes_are (stbl_of t) t.table i.tree.table.tiles
+
+  -- by the tree
+  read_as : TablesRead (record { file_len = file_length; descriptions = n; room = room }) (stbl_of t) v.at
+  read_as = subst (λ (b : Box). TablesRead (record { file_len = file_length; descriptions = n; room = room }) b v.at) stbl_is r.read
+
+  accepted : AreAccepted (record { file_len = file_length; descriptions = length t.descriptions; room = room }) (stbl_of t) t.table
+  accepted =
+      subst (λ (m : ℕ). AreAccepted (record { file_len = file_length; descriptions = m; room = room }) (stbl_of t) t.table) descriptions_are
+      (subst (λ (bs : List Box). AreAccepted (record { file_len = file_length; descriptions = n; room = room }) (stbl_of t) bs) boxes_same read_as.all)
+
+  pub sound_is : AreSound (ruled SampleTable) t.table
+  sound_is = all_sound file_length (length t.descriptions) room (stbl_of t) t i.tree i.sound accepted
+
+  pub fit_is : Fit (surroundings_in file_length t) (tables_of t.table)
+  fit_is = accepted.fit
+
+  tables_same : tables_at (stbl_of t).payload v.at ≡ tables_of t.table
+  tables_same = read_as.same ∙ ap tables_of boxes_same
+
+  payload_is : v.payload ≡ (stbl_of t).payload
+  payload_is = r.payload ∙ ap (λ (b : Box). b.payload) stbl_is
+
+  seen_same : tables_seen v ≡ tables_of t.table
+  seen_same = ap (λ (payload : List ℕ). tables_at payload v.at) payload_is ∙ tables_same
+
+  keys_are : keys_seen keys ≡ plain_keys t
+  keys_are = r.named ∙ ap (λ (b : Box). keys_after [] (tables_in b).groups) stbl_is ∙ ap (λ (bs : List Box). keys_after [] (tables_of bs).groups) boxes_same
+
+  -- the walk went over the samples of the tables
+  coming : samples_from cursor ≡ timed (plain_keys t) 0 (plain_of t)
+  coming =
+      (λ j. drop (r.first j) (samples_of (tables_seen (r.tables j)))) ∙ timed_first (tables_seen v) ∙ ap (λ (x : Tables). timed (keys_after [] x.groups) 0 (plain_samples x)) seen_same
+
+  pub count_are : count ≡ length (plain_of t)
+  count_are = r.count_is ∙ ap (λ (x : Tables). length x.sizes) seen_same ∙ sym (plain_length (surroundings_in file_length t) (tables_of t.table) fit_is)
+
+  few : length (plain_of t) ≤ room
+  few = let k = accepted.few in let e = plain_length (surroundings_in file_length t) (tables_of t.table) fit_is in omega (arith, k, e)
+
+  short : AllByRecursion (λ (s : PlacedSample). s.duration < 2 ^ 32) (plain_of t)
+  short =
+      let boxes = tiled_of_bytes (box_container (stbl_of t)) t.table bytes_are i.tree.table.tiles in
+      each_weaker _ (λ (s : PlacedSample). s.duration < 2 ^ 32) (λ s k. k.duration) (plain_of t) (plain_placed (surroundings_in file_length t) t.table boxes sound_is fit_is)
+
+  pub lasts_are : room ≤ 2 ^ 24 → lasts ≡ duration_of (plain_of t)
+  lasts_are k =
+      let same : sum_of (λ (s : SampleAt). s.duration) (samples_from cursor) ≡ duration_of (plain_of t) = ap (λ (ss : List SampleAt). sum_of (λ (s : SampleAt). s.duration) ss) coming ∙ timed_lasts (plain_keys t) 0 (plain_of t) in
+      uncapped lasts _ (duration_of (plain_of t)) (length (plain_of t)) r.duration same (short_sum (plain_of t) short) (omega (arith, few, k))
+
+  pub counted_are : (c : Counted) → c.samples ≡ count → c.bytes ≡ bytes → IsCountOf (plain_of t) c
+  counted_are c e f =
+      let same : sum_of (λ (s : SampleAt). s.size) (samples_from cursor) ≡ sum_of (λ (s : PlacedSample). s.size) (plain_of t) = ap (λ (ss : List SampleAt). sum_of (λ (s : SampleAt). s.size) ss) coming ∙ timed_bytes (plain_keys t) 0 (plain_of t) in
+      record { samples_are = e ∙ count_are; bytes_are = f ∙ r.size ∙ ap (λ (m : ℕ). min m (2 ^ 64 - 1)) same }
+
+  pub tables_are : (x : TrackTables) → LiesIn moov (box_seen h.stbl) → x.place ≡ ((box_seen h.stbl).offset + (box_seen h.stbl).header) - (moov.offset + moov.header) → x.len ≡ length (box_seen h.stbl).payload → x.tables ≡ v.at → AreTablesOf moov.payload t x
+  tables_are x lies place len at = record {
+    bytes = (λ j. take (len j) (drop (place j) moov.payload)) ∙ sym lies.payload ∙ ap (λ (b : Box). b.payload) stbl_is;
+    says = ap (λ (a : TablesAt). tables_at (stbl_of t).payload a) at ∙ tables_same;
+  }
+
+  pub state_is : (trexes : List Trex) (s : TrackState) → room ≤ 2 ^ 24 → s.id ≡ h.id → s.descriptions ≡ n → s.trex ≡ trex_for trexes h.id → s.start ≡ 0 → s.count ≡ count → s.time ≡ lasts → s.keys ≡ keys → track_seen s ≡ plain_seen trexes t
+  state_is trexes s k id descriptions trex start counted time named =
+      let same : h.id ≡ (track_head_of t).id = ap (λ (x : heads.TrackHead). x.id) i.says in
+      let id_is : s.id ≡ (track_head_of t).id = id ∙ same in
+      let descriptions_is : s.descriptions ≡ length t.descriptions = descriptions ∙ descriptions_are in
+      let trex_is : s.trex ≡ trex_for trexes (track_head_of t).id = trex ∙ ap (trex_for trexes) same in
+      let count_is : s.count ≡ length (plain_of t) = counted ∙ count_are in
+      let time_is : s.time ≡ duration_of (plain_of t) = time ∙ lasts_are k in
+      let keys_is : keys_seen s.keys ≡ plain_keys t = ap keys_seen named ∙ keys_are in
+      λ j. record { id = id_is j; descriptions = descriptions_is j; trex = trex_is j; start = start j; count = count_is j; time = time_is j; keys = keys_is j }
+
+  -- the room falls by the samples of the track
+  left_is : (old new : ℕ) (before : ℕ) → old + before ≡ max_samples → new ≡ old - count → old ≡ room → new + (before + (sample_count (payload_among sample_sizes t.table) + 0)) ≡ max_samples
+  left_is old new before e f g =
+      let k = few in
+      let c = count_are in
+      let m = samples_counted (surroundings_in file_length t) t.table (sizes_few i.tree.table) fit_is in
+      omega (arith, e, f, g, k, c, m)
+
+  -- One more track is behind its tables.
+  pub tables_more : (trexes : List Trex) (trees : List TrackTree) (old new : PlainTracks) (x : TrackTables) (s : TrackState) (c : Counted)
+      → HaveTables file_length moov.payload trexes trees old → room ≤ 2 ^ 24 → old.room ≡ room → new.room ≡ old.room - count
+      → AreTablesOf moov.payload t x → track_seen s ≡ plain_seen trexes t → IsCountOf (plain_of t) c
+      → new.tables.items ≡ old.tables.items ++ x ∷ [] → new.states.items ≡ old.states.items ++ s ∷ [] → new.counted.items ≡ old.counted.items ++ c ∷ []
+      → HaveTables file_length moov.payload trexes (trees ++ t ∷ []) new
+  tables_more trexes trees old new x s c a k e f tables state counted xs ss cs =
+      let total : table_total (trees ++ t ∷ []) ≡ table_total trees + (sample_count (payload_among sample_sizes t.table) + 0) = sum-append (λ (u : TrackTree). sample_count (payload_among sample_sizes u.table)) trees (t ∷ []) in
+      let left = left_is old.room new.room (table_total trees) a.room f e in
+      record {
+        sound = each_more (λ (u : TrackTree). AreSound (ruled SampleTable) u.table) trees t a.sound sound_is;
+        fit = each_more (λ (u : TrackTree). Fit (surroundings_in file_length u) (tables_of u.table)) trees t a.fit fit_is;
+        tables = subst (λ (ys : List TrackTables). AllZip (AreTablesOf moov.payload) (trees ++ t ∷ []) ys) (sym xs) (zip_more (AreTablesOf moov.payload) trees old.tables.items t x a.tables tables);
+        states = ap (map track_seen) ss ∙ map-append track_seen old.states.items (s ∷ []) ∙ (λ j. a.states j ++ state j ∷ []) ∙ sym (map-append (plain_seen trexes) trees (t ∷ []));
+        counted = subst (λ (ys : List Counted). AllZip (λ (u : TrackTree) (d : Counted). IsCountOf (plain_of u) d) (trees ++ t ∷ []) ys) (sym cs) (zip_more (λ (u : TrackTree) (d : Counted). IsCountOf (plain_of u) d) trees old.counted.items t c a.counted counted);
+        room = ap (λ (m : ℕ). new.room + m) total ∙ left;
+      }
+
+-- no track yet
+pub tables_none : (file_length : ℕ) (moov : List ℕ) (trexes : List Trex) (p : PlainTracks) → p.tables.items ≡ [] → p.states.items ≡ [] → p.counted.items ≡ [] → p.room ≡ 2 ^ 24 → HaveTables file_length moov trexes [] p
+tables_none file_length moov trexes p ts ss cs e = record {
+  sound = tt;
+  fit = tt;
+  tables = subst (λ (ys : List TrackTables). AllZip (AreTablesOf moov) [] ys) (sym ts) tt;
+  states = ap (map track_seen) ss;
+  counted = subst (λ (ys : List Counted). AllZip (λ (u : TrackTree) (d : Counted). IsCountOf (plain_of u) d) [] ys) (sym cs) tt;
+  room = omega (arith, e);
+}
+
+-- The fault that a check names is one of the tables of the track.
+pub table_fails : (file_length n room : ℕ) (h : TrackHead) (t : TrackTree) (f : Fault) → IsTrackOf t h → AreBytes (box_seen h.stbl).payload → n ≡ min (length h.media.descriptions.items) (2 ^ 32 - 1)
+    → (HasDescriptions (box_seen h.stbl) → IsFault (record { file_len = file_length; descriptions = n; room = room }) (box_seen h.stbl) f) → TableFails file_length room t f
+table_fails file_length n room h t f i bytes e fault =
+    let stbl = i.found.stbl in
+    let count = as_many t h n i (subst (λ (b : Box). AreBytes b.payload) stbl bytes) e in
+    let own : HasDescriptions (box_seen h.stbl) = subst HasDescriptions (sym stbl) (has_descriptions (stbl_of t) t.table i.tree.table i.sound.stsd) in
+    subst (λ (m : ℕ). IsFault (record { file_len = file_length; descriptions = m; room = room }) (stbl_of t) f) count
+    (subst (λ (b : Box). IsFault (record { file_len = file_length; descriptions = n; room = room }) b f) stbl (fault own))

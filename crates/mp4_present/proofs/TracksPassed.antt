@@ -1,0 +1,65 @@
+-- The tracks of a movie, passed one after the other beside their trees.
+use Rattle.std.proofs.Common.{◌≡◌, ℕ, zero, suc, ◌+◌, ◌<◌, ◌≤◌, List, [], ◌∷◌, ◌++◌, length, take, drop, slice_index_or, refl, sym, ap, subst, arith}
+use Rattle.std.specs.List.{AllZip}
+use Rattle.std.proofs.lemmas.List.{take_all}
+use Rattle.mp4_boxes.specs.declared.refusal.Refusal.{Refusal}
+use Rattle.mp4_boxes.specs.declared.refusal.Refusal.TheVariants as refusals
+use Rattle.mp4_frag.specs.declared.trex.Trex.{Trex}
+use Rattle.mp4_head.specs.Tree.{TrackTree}
+use Rattle.mp4_head.specs.declared.heads.TrackHead.{TrackHead}
+use Rattle.mp4_present.specs.TrackTrees.{IsTrackOf, AreTracksOf, HaveTables, RefusesTable, RefusesTables}
+use Rattle.mp4_present.specs.declared.tables_pass.PlainTracks.{PlainTracks}
+
+-- the value beside the k-th of a list
+pub record IsBeside {A B : Type 0} (R : A → B → Type 0) (xs : List A) (k : ℕ) (y : B) : Type 0 where
+  pub x : A
+  pub goes : R x y
+  pub split : xs ≡ take k xs ++ x ∷ drop (suc k) xs
+  pub first : take (suc k) xs ≡ take k xs ++ x ∷ []
+
+pub beside : {A B : Type 0} (R : A → B → Type 0) (xs : List A) (ys : List B) (k : ℕ) (d : B) → AllZip R xs ys → k < length ys → IsBeside R xs k (slice_index_or ys k d)
+beside R [] [] k d z lt = absurd (omega (arith, lt))
+beside R [] (y ∷ ys) k d z lt = absurd z
+beside R (x ∷ xs) [] k d z lt = absurd z
+beside R (x ∷ xs) (y ∷ ys) zero d z lt = record { x = x; goes = z.0; split = refl; first = refl }
+beside {A} R (x ∷ xs) (y ∷ ys) (suc k) d z lt =
+    let r = beside R xs ys k d z.1 (omega (arith, lt)) in
+    record { x = r.x; goes = r.goes; split = ap (λ (l : List A). x ∷ l) r.split; first = ap (λ (l : List A). x ∷ l) r.first }
+
+pub zip_length : {A B : Type 0} (R : A → B → Type 0) (xs : List A) (ys : List B) → AllZip R xs ys → length xs ≡ length ys
+zip_length R [] [] z = refl
+zip_length R [] (y ∷ ys) z = absurd z
+zip_length R (x ∷ xs) [] z = absurd z
+zip_length R (x ∷ xs) (y ∷ ys) z = ap suc (zip_length R xs ys z.1)
+
+one_more : (k : ℕ) → suc k ≡ k + 1
+one_more k = omega arith
+
+module _ (file_length : ℕ) (moov : List ℕ) (trexes : List Trex) (tracks : List TrackHead) (k : ℕ) (plain : PlainTracks)
+    (so : (trees : List TrackTree) → AreTracksOf trees tracks → HaveTables file_length moov trexes (take k trees) plain) where
+  -- the next one was checked
+  pub passed_more : (h : TrackHead) (new : PlainTracks) → k < length tracks → h ≡ slice_index_or tracks k h
+      → ((t : TrackTree) (trees : List TrackTree) → IsTrackOf t h → HaveTables file_length moov trexes trees plain → HaveTables file_length moov trexes (trees ++ t ∷ []) new)
+      → (trees : List TrackTree) → AreTracksOf trees tracks → HaveTables file_length moov trexes (take (k + 1) trees) new
+  passed_more h new lt e more trees a =
+      let b = beside IsTrackOf trees tracks k h a lt in
+      let next = more b.x (take k trees) (subst (IsTrackOf b.x) (sym e) b.goes) (so trees a) in
+      subst (λ (n : ℕ). HaveTables file_length moov trexes (take n trees) new) (one_more k) (subst (λ (ts : List TrackTree). HaveTables file_length moov trexes ts new) (sym b.first) next)
+
+  -- all of them were
+  pub passed_all : length tracks ≤ k → (trees : List TrackTree) → AreTracksOf trees tracks → HaveTables file_length moov trexes trees plain
+  passed_all le trees a =
+      let n = zip_length IsTrackOf trees tracks a in
+      subst (λ (ts : List TrackTree). HaveTables file_length moov trexes ts plain) (take_all k trees (omega (arith, n, le))) (so trees a)
+
+  -- the next one was refused
+  pub passed_refused : (h : TrackHead) (r : Refusal) → k < length tracks → h ≡ slice_index_or tracks k h → RefusesTable file_length plain.room h r → RefusesTables file_length tracks r
+  passed_refused h (refusals.Fault f) lt e w = λ trees a.
+      let b = beside IsTrackOf trees tracks k h a lt in
+      let p = so trees a in
+      record { before = take k trees; t = b.x; after = drop (suc k) trees; are = b.split; sound = p.sound; room = plain.room; left = p.room; fails = w b.x (subst (IsTrackOf b.x) (sym e) b.goes) }
+  passed_refused h refusals.Memory lt e w = tt
+  passed_refused h refusals.StoreFailed lt e w = w
+  passed_refused h refusals.StoreChanged lt e w = w
+  passed_refused h refusals.WriteFailed lt e w = w
+  passed_refused h refusals.NoSuchTrack lt e w = w

@@ -1,0 +1,113 @@
+-- Where a fault stands that a `moof`, or a `traf` of one, has in its boxes and leaves.
+use Rattle.std.proofs.Common.{◌≡◌, true, false, Bool, cond, List, [], ◌∷◌, ◌++◌, Some, inl, inr, refl, sym, ap, subst, ◌∙◌}
+use Rattle.std.specs.Prelude.{ℕ, codes, bytes_eq, option_map}
+use Rattle.std.specs.List.{AllByRecursion}
+use Rattle.std.proofs.lemmas.Slice.Eq.{bytes_eq-Decides}
+use Rattle.mp4_boxes.specs.Box.{Box, box_container, file_container, StandsAfter}
+use Rattle.mp4_boxes.specs.BoxFaults.{fault_of, Fails, IsChildFault}
+use Rattle.mp4_boxes.specs.Children.{of_kind, Holds}
+use Rattle.mp4_boxes.specs.Layout.{Leaf, IsSound}
+use Rattle.mp4_boxes.specs.Places.{ruled, Place, whole, at_kind, containers, as_container, inside, leaf_of, IsSoundAs, AreSound, Reaches}
+use Rattle.mp4_boxes.specs.declared.rule.Rule.{Rule}
+use Rattle.mp4_boxes.specs.declared.rule.Rule.TheVariants as rules
+use Rattle.mp4_boxes.specs.declared.fault.Fault.{Fault}
+use Rattle.mp4_boxes.specs.declared.fault.Kind.{Kind}
+use Rattle.mp4_boxes.proofs.Among.{tail_is}
+use Rattle.mp4_frag.specs.RunsJudged.{children_of}
+use Rattle.mp4_frag.specs.TrafFaults.{HoldsBoxes}
+use Rattle.mp4_head.proofs.Above.{stands_of}
+use Rattle.mp4_present.specs.Stands.{Stands, header, child, missing, leaf as of_leaf}
+
+-- ---- places
+
+-- a box that holds boxes under a rule
+abbrev pub place_of : Rule → Box → Place
+place_of rule b = record { scope = ruled rule; container = box_container b }
+
+moof_inside : (file : List ℕ) (moof : Box) → moof.kind ≡ codes "moof" → inside (whole file) moof ≡ Some (place_of rules.MovieFragment moof)
+moof_inside file moof e = ap (λ kind. option_map (λ scope. record { scope = scope; container = as_container scope moof }) (at_kind (containers (ruled rules.File)) kind)) e
+
+traf_inside : (moof b : Box) → bytes_eq (codes "traf") b.kind ≡ true → inside (place_of rules.MovieFragment moof) b ≡ Some (place_of rules.TrackFragment b)
+traf_inside moof b e = rw e refl
+
+-- the `moof` is in the file
+pub moof_reached : (file : List ℕ) (before : List Box) (moof : Box) → StandsAfter (file_container file) before moof → moof.kind ≡ codes "moof" → Reaches (whole file) (place_of rules.MovieFragment moof)
+moof_reached file before moof s e = (moof ∷ [], (before, s, place_of rules.MovieFragment moof, moof_inside file moof e, refl))
+
+-- what a box of a type among others is, and where it stands
+pub record IsKept (kind : List ℕ) (boxes : List Box) (b : Box) : Type 0 where
+  pub before : List Box
+  pub after : List Box
+  pub are : boxes ≡ before ++ b ∷ after
+  pub of_it : bytes_eq kind b.kind ≡ true
+
+first_is : (x y : Box) (xs ys : List Box) → ◌≡◌ {A = List Box} (x ∷ xs) (y ∷ ys) → x ≡ y
+first_is x y xs ys e = cc
+
+kept_behind : (kind : List ℕ) (c : Box) (boxes : List Box) (b : Box) → IsKept kind boxes b → IsKept kind (c ∷ boxes) b
+kept_behind kind c boxes b k = record { before = c ∷ k.before; after = k.after; are = ap (λ bs. c ∷ bs) k.are; of_it = k.of_it }
+
+pub kept : (kind : List ℕ) (boxes front : List Box) (b : Box) (after : List Box) → of_kind kind boxes ≡ front ++ b ∷ after → IsKept kind boxes b
+kept kind [] [] b after e = absurd cc
+kept kind [] (d ∷ front) b after e = absurd cc
+kept kind (c ∷ boxes) front b after e = choice (bytes_eq kind c.kind) refl front e (λ rest h. kept kind boxes rest b after h)
+  where
+    choice : (v : Bool) → bytes_eq kind c.kind ≡ v → (front : List Box) → cond v (c ∷ of_kind kind boxes) (of_kind kind boxes) ≡ front ++ b ∷ after → ((rest : List Box) → of_kind kind boxes ≡ rest ++ b ∷ after → IsKept kind boxes b)
+        → IsKept kind (c ∷ boxes) b
+    choice true h [] e more =
+        let same = first_is c b (of_kind kind boxes) after e in
+        record { before = []; after = boxes; are = ap (λ x. x ∷ boxes) same; of_it = ap (λ (x : Box). bytes_eq kind x.kind) (sym same) ∙ h }
+    choice true h (d ∷ front) e more = kept_behind kind c boxes b (more front (tail_is c d (of_kind kind boxes) (front ++ b ∷ after) e))
+    choice false h front e more = kept_behind kind c boxes b (more front e)
+
+-- a `traf` of the `moof` is in the file
+pub traf_reached : (file : List ℕ) (before : List Box) (moof : Box) (front : List Box) (b : Box) (after : List Box) → StandsAfter (file_container file) before moof → moof.kind ≡ codes "moof"
+    → Holds rules.MovieFragment (box_container moof) (children_of moof) → of_kind (codes "traf") (children_of moof) ≡ front ++ b ∷ after → Reaches (whole file) (place_of rules.TrackFragment b)
+traf_reached file before moof front b after s e holds are =
+    let k = kept (codes "traf") (children_of moof) front b after are in
+    (moof ∷ b ∷ [], (before, s, place_of rules.MovieFragment moof, moof_inside file moof e, (k.before, stands_of moof (children_of moof) k.before k.after b holds.tiles k.are, place_of rules.TrackFragment b, traf_inside moof b k.of_it, refl)))
+
+-- ---- faults
+
+-- a fault of the children
+pub child_stands : (file : List ℕ) (rule : Rule) (b : Box) (f : Fault) → Reaches (whole file) (place_of rule b) → IsChildFault rule (box_container b) f → Stands file f
+child_stands file rule b f r (inl h) = (header, record { place = place_of rule b; reaches = r; fault = h })
+child_stands file rule b f r (inr (inl h)) = (child, record { place = place_of rule b; reaches = r; rule = rule; under = refl; fault = inl h })
+child_stands file rule b f r (inr (inr (inl h))) = (child, record { place = place_of rule b; reaches = r; rule = rule; under = refl; fault = inr h })
+child_stands file rule b f r (inr (inr (inr h))) = (missing, record { place = place_of rule b; reaches = r; rule = rule; under = refl; fault = h })
+
+-- a box of this type is read as this leaf
+read_as : (kind : List ℕ) (leaf : Leaf) (b : Box) → leaf_of (ruled rules.TrackFragment) kind ≡ Some leaf → bytes_eq kind b.kind ≡ true → leaf_of (ruled rules.TrackFragment) b.kind ≡ Some leaf
+read_as kind leaf b e k = ap (leaf_of (ruled rules.TrackFragment)) (sym ((bytes_eq-Decides kind b.kind).0 k)) ∙ e
+
+-- a fault of a leaf
+pub leaf_stands : (file : List ℕ) (b : Box) (f : Fault) → Reaches (whole file) (place_of rules.TrackFragment b) → HoldsBoxes b → (type : List ℕ) (leaf : Leaf) → leaf_of (ruled rules.TrackFragment) type ≡ Some leaf
+    → (front : List Box) (h : Box) (after : List Box) → of_kind type (children_of b) ≡ front ++ h ∷ after → (kind : Kind) → Fails leaf h.payload kind → f ≡ fault_of kind h → Stands file f
+leaf_stands file b f r holds type leaf e front h after are kind fails named =
+    let k = kept type (children_of b) front h after are in (
+      of_leaf,
+      inl (record {
+        place = place_of rules.TrackFragment b;
+        before = k.before;
+        b = h;
+        stands = record { reaches = r; after = stands_of b (children_of b) k.before k.after h holds.tiles k.are };
+        leaf = leaf;
+        read = read_as type leaf h e k.of_it;
+        kind = kind;
+        fails = fails;
+        named = named;
+      }),
+    )
+
+-- ---- leaves that can be read
+
+sound_choice : (type : List ℕ) (leaf : Leaf) (c : Box) (boxes : List Box) (v : Bool) → bytes_eq type c.kind ≡ v → leaf_of (ruled rules.TrackFragment) type ≡ Some leaf
+    → AllByRecursion (λ (b : Box). IsSound leaf b.payload) (cond v (c ∷ of_kind type boxes) (of_kind type boxes))
+    → (AllByRecursion (λ (b : Box). IsSound leaf b.payload) (of_kind type boxes) → AreSound (ruled rules.TrackFragment) (of_kind type boxes)) → AreSound (ruled rules.TrackFragment) (cond v (c ∷ of_kind type boxes) (of_kind type boxes))
+sound_choice type leaf c boxes true h e s more = (subst (λ o. IsSoundAs o c.payload) (sym (read_as type leaf c e h)) s.0, more s.1)
+sound_choice type leaf c boxes false h e s more = more s
+
+-- the leaves of a type are sound as such leaves
+pub sound_of : (type : List ℕ) (leaf : Leaf) (boxes : List Box) → leaf_of (ruled rules.TrackFragment) type ≡ Some leaf → AllByRecursion (λ (b : Box). IsSound leaf b.payload) (of_kind type boxes) → AreSound (ruled rules.TrackFragment) (of_kind type boxes)
+sound_of type leaf [] e s = tt
+sound_of type leaf (c ∷ boxes) e s = sound_choice type leaf c boxes (bytes_eq type c.kind) refl e s (sound_of type leaf boxes e)

@@ -1,0 +1,65 @@
+-- What an opened movie is of the file that it was opened from.
+use Rattle.std.specs.Prelude.{◌≡◌, ℕ, ◌+◌, ◌-◌, ◌^◌, min, List, length, map, codes}
+use Rattle.std.specs.List.{AllZip}
+use Rattle.mp4_boxes.specs.Bytes.{sum_of}
+use Rattle.mp4_boxes.specs.Children.{of_kind}
+use Rattle.mp4_tables.specs.Accepted.{tables_at}
+use Rattle.mp4_tables.specs.Keys.{keys_seen}
+use Rattle.mp4_tables.specs.PlainSamples.{PlacedSample}
+use Rattle.mp4_tables.specs.Tables.{tables_of}
+use Rattle.mp4_frag.specs.FragmentSamples.{trex_for, duration_of, keys_behind}
+use Rattle.mp4_frag.specs.Judged.{TrackSeen, track_seen}
+use Rattle.mp4_frag.specs.declared.trex.Trex.{Trex}
+use Rattle.mp4_head.specs.Tree.{TrackTree, stbl_of, track_head_of, trexes_of}
+use Rattle.mp4_present.specs.Presentation.{IsWithinLimits, max_samples, movie_length, total_duration}
+use Rattle.mp4_present.specs.Denotes.{FileTree, IsFileTree, IsSoundFile, IsConsistent, plain_of, plain_keys, file_parts, parts_of_track, placed_of, track_of, presentation_of}
+use Rattle.mp4_present.specs.Stands.{table_total}
+use Rattle.mp4_present.specs.Movies.{MovieSeen, moov_box, table_bytes}
+use Rattle.mp4_present.specs.Outline.{BeginAt, longest}
+use Rattle.mp4_present.specs.declared.movie.TrackTables.{TrackTables}
+use Rattle.mp4_present.specs.declared.track_info.TrackInfo.{TrackInfo}
+
+-- The tables lie where the payload of the track's `stbl` lies in that of the `moov`, and are those of its boxes.
+pub record AreTablesOf (moov : List ℕ) (t : TrackTree) (found : TrackTables) : Type 0 where
+  pub bytes : table_bytes moov found ≡ (stbl_of t).payload
+  pub says : tables_at (stbl_of t).payload found.tables ≡ tables_of t.table
+
+-- a track behind the samples of its tables, which begin at decode time 0; what its fragments inherit is one of these
+abbrev pub plain_seen : List Trex → TrackTree → TrackSeen
+plain_seen trexes t = record {
+  id = (track_head_of t).id;
+  descriptions = length t.descriptions;
+  trex = trex_for trexes (track_head_of t).id;
+  start = 0;
+  count = length (plain_of t);
+  time = duration_of (plain_of t);
+  keys = plain_keys t;
+}
+
+-- A track in numbers: those of the track that the file's boxes say.
+pub record IsInfoOf (file : List ℕ) (tree : FileTree) (t : TrackTree) (info : TrackInfo) : Type 0 where
+  pub id : info.id ≡ (track_head_of t).id
+  pub timescale : info.timescale ≡ (track_head_of t).media.timescale
+  pub start : info.start ≡ (track_of file (file_parts tree) t).start
+  pub samples : info.samples ≡ length (track_of file (file_parts tree) t).samples
+  pub duration : info.duration ≡ total_duration (track_of file (file_parts tree) t).samples
+  -- as far as 64 bits go
+  pub bytes : info.bytes ≡ min (sum_of (λ (s : PlacedSample). s.size) (placed_of (file_parts tree) t)) (2 ^ 64 - 1)
+  pub keys : keys_seen info.keys ≡ keys_behind (plain_keys t) (parts_of_track (file_parts tree) t)
+
+-- The file denotes the presentation of its boxes, and this is what is kept of it.
+pub record IsOpenedAs (file : List ℕ) (m : MovieSeen) (t : FileTree) : Type 0 where
+  pub is_tree : IsFileTree file t
+  pub is_sound : IsSoundFile t
+  pub is_consistent : IsConsistent file t
+  pub limits : IsWithinLimits (presentation_of file t)
+  pub whole : m.file_len ≡ length file
+  pub moov : moov_box m ≡ t.movie.moov
+  pub fragments : BeginAt m.fragments t.top
+  pub longest_is : m.longest ≡ longest (of_kind (codes "moof") t.top)
+  -- for each track in order
+  pub tables : AllZip (AreTablesOf m.moov) t.movie.tracks m.tables
+  pub states : map track_seen m.states ≡ map (plain_seen (trexes_of t.movie)) t.movie.tracks
+  pub room : m.room + table_total t.movie.tracks ≡ max_samples
+  pub tracks : AllZip (IsInfoOf file t) t.movie.tracks m.tracks
+  pub mehd : m.mehd ≡ movie_length (presentation_of file t)
