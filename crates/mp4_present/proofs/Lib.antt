@@ -41,3 +41,5 @@ pub mod MoofBehind
 pub mod TrafPlaces
 pub mod TrafStands
 pub mod MoofRefused
+pub mod DueBehind
+pub mod KeysExtended

@@ -20,7 +20,7 @@ samples_of parts = flat_map part_samples parts
 samples_more : (own : List Part) (part : Part) → samples_of (own ++ part ∷ []) ≡ samples_of own ++ part_samples part
 samples_more own part = flat_map-append part_samples own (part ∷ []) ∙ ap (λ ss. samples_of own ++ ss) (append-nil (part_samples part))
 
-empty : (xs : List PlacedSample) → length xs ≡ 0 → xs ≡ []
+pub empty : (xs : List PlacedSample) → length xs ≡ 0 → xs ≡ []
 empty [] e = refl
 empty (x ∷ xs) e = absurd (omega arith)
 
@@ -43,7 +43,7 @@ none_came (c ∷ own) e =
     let none : has_samples c ≡ false = ap (nat_lt 0) first in
     ap (λ v. cond v (Some c) (find has_samples own)) none ∙ none_came own (omega arith)
 
-find_behind : (own more : List Part) → length (samples_of own) ≡ 0 → find has_samples (own ++ more) ≡ find has_samples more
+pub find_behind : (own more : List Part) → length (samples_of own) ≡ 0 → find has_samples (own ++ more) ≡ find has_samples more
 find_behind [] more e = refl
 find_behind (c ∷ own) more e =
     let both = length-append (part_samples c) (samples_of own) in
@@ -51,7 +51,7 @@ find_behind (c ∷ own) more e =
     let none : has_samples c ≡ false = ap (nat_lt 0) first in
     ap (λ v. cond v (Some c) (find has_samples (own ++ more))) none ∙ find_behind own more (omega arith)
 
-find_came : (own more : List Part) → 0 < length (samples_of own) → find has_samples (own ++ more) ≡ find has_samples own
+pub find_came : (own more : List Part) → 0 < length (samples_of own) → find has_samples (own ++ more) ≡ find has_samples own
 find_came [] more h = absurd (omega arith)
 find_came (c ∷ own) more h = choice (has_samples c) refl (λ some. find_came own more some)
   where
@@ -72,7 +72,7 @@ find_other (c ∷ own) part e = ap (λ o. cond (has_samples c) (Some c) o) (find
 abbrev pub says_time : Part → ℕ
 says_time part = unwrap_or part.decode_time 0
 
-start_by : (plain : List PlacedSample) (xs ys : List Part) → find has_samples xs ≡ find has_samples ys → start_of plain xs ≡ start_of plain ys
+pub start_by : (plain : List PlacedSample) (xs ys : List Part) → find has_samples xs ≡ find has_samples ys → start_of plain xs ≡ start_of plain ys
 start_by (s ∷ plain) xs ys e = refl
 start_by [] xs ys e = rw e refl
 
@@ -121,10 +121,10 @@ first_choice v x y e = ap (λ w. cond w x y) e
 other_choice : (v : Bool) (x y : TrackSeen) → v ≡ false → cond v x y ≡ y
 other_choice v x y e = ap (λ w. cond w x y) e
 
-at_none : (n a b : ℕ) → n ≡ 0 → (if n == 0 then a else b) ≡ a
+pub at_none : (n a b : ℕ) → n ≡ 0 → (if n == 0 then a else b) ≡ a
 at_none n a b e = ap (λ m. if m == 0 then a else b) e
 
-at_some : (n a b : ℕ) → 0 < n → (if n == 0 then a else b) ≡ b
+pub at_some : (n a b : ℕ) → 0 < n → (if n == 0 then a else b) ≡ b
 at_some zero a b h = absurd (omega arith)
 at_some (suc n) a b h = ap (λ v. cond v a b) (let other : (suc n == 0) ≡ false = search rules in other)
 

@@ -106,11 +106,11 @@ differs_step : (k a : GroupKey) (keys : List GroupKey) (v : Bool) → same_key k
 differs_step k a keys true f e more = let g : true ≡ false = rw f at e in absurd cc
 differs_step k a keys false f e more = (f, more (rw f at e))
 
-differs_from : (k : GroupKey) (keys : List GroupKey) → list_any (same_key k) keys ≡ false → AllByRecursion (λ other. same_key k other ≡ false) keys
+pub differs_from : (k : GroupKey) (keys : List GroupKey) → list_any (same_key k) keys ≡ false → AllByRecursion (λ other. same_key k other ≡ false) keys
 differs_from k [] e = tt
 differs_from k (a ∷ keys) e = differs_step k a keys (same_key k a) refl e (differs_from k keys)
 
-snoc_distinct : (keys : List GroupKey) (k : GroupKey) → AreDistinct keys → AllByRecursion (λ other. same_key k other ≡ false) keys → AreDistinct (keys ++ k ∷ [])
+pub snoc_distinct : (keys : List GroupKey) (k : GroupKey) → AreDistinct keys → AllByRecursion (λ other. same_key k other ≡ false) keys → AreDistinct (keys ++ k ∷ [])
 snoc_distinct [] k d h = (tt, tt)
 snoc_distinct (a ∷ keys) k d h = (all_append (λ other. same_key a other ≡ false) keys (k ∷ []) d.0 (same_both a k ∙ h.0, tt), snoc_distinct keys k d.1 h.1)
 
