@@ -13,7 +13,7 @@ use Rattle.mp4_frag.proofs.RunsTied.{duration-append}
 use Rattle.mp4_head.specs.Tree.{MovieTree, TrackTree, track_head_of, trexes_of}
 use Rattle.mp4_present.specs.Denotes.{FileTree, plain_of, file_parts, parts_of_track, first_due, placed_of}
 use Rattle.mp4_present.specs.Passing.{parts_behind, seen_behind}
-use Rattle.mp4_present.specs.Coming.{due_behind}
+use Rattle.mp4_present.specs.Coming.{due_behind, due_of}
 use Rattle.mp4_present.proofs.FragmentReasons.{for-append}
 use Rattle.mp4_present.proofs.TracksBehind.{samples_of, find_came, start_by, empty, at_none, at_some}
 
@@ -39,10 +39,6 @@ one_moof id movie f = ap (fragment_samples id) (append-nil (parts_of (trexes_of 
 start_stays : (plain : List PlacedSample) (xs ys : List Part) → 0 < length (plain ++ samples_of xs) → start_of plain (xs ++ ys) ≡ start_of plain xs
 start_stays [] xs ys h = start_by [] (xs ++ ys) xs (find_came xs ys h)
 start_stays (s ∷ plain) xs ys h = refl
-
--- what the walk takes for the time that is due: the start behind the `moof` where no sample came before, else the time before it
-abbrev pub due_of : TrackSeen → TrackSeen → ℕ
-due_of before after = if before.count == 0 then after.start else min before.time (2 ^ 64 - 1)
 
 due_none : (before after : TrackSeen) → before.count ≡ 0 → due_of before after ≡ after.start
 due_none before after e = at_none before.count after.start (min before.time (2 ^ 64 - 1)) e

@@ -26,6 +26,9 @@ pub distinct_with : (keys more : List GroupKey) → AreDistinct keys → AreDist
 distinct_with keys [] d = d
 distinct_with keys (key ∷ more) d = with_one keys more key (list_any (same_key key) keys) refl d (λ ks e. distinct_with ks more e)
 
+pub distinct_keys : (xs ys : List Grouping) → AreDistinct (keys_after (keys_after [] xs) ys)
+distinct_keys xs ys = distinct_with (keys_after [] xs) (map (λ (g : Grouping). g.key) ys) (distinct_with [] (map (λ (g : Grouping). g.key) xs) tt)
+
 -- ---- samples that have no index at other keys
 
 abbrev Lacks : GroupKey → Groups → Type 0

@@ -43,3 +43,4 @@ pub mod TrafStands
 pub mod MoofRefused
 pub mod DueBehind
 pub mod KeysExtended
+pub mod MoofTaken

@@ -1,5 +1,5 @@
 -- The samples of a track that are still to come in a walk over the file that its movie was opened from.
-use Rattle.std.specs.Prelude.{◌≡◌, ℕ, ◌+◌, List, [], ◌∷◌, ◌++◌, length, map, Bool, true, false, Some, slice_get, IsTrue, codes}
+use Rattle.std.specs.Prelude.{◌≡◌, ℕ, ◌+◌, ◌-◌, ◌^◌, ◌==◌, min, if◌then◌else◌, List, [], ◌∷◌, ◌++◌, length, map, Bool, true, false, Some, slice_get, IsTrue, codes}
 use Rattle.mp4_boxes.specs.Box.{Box, size, sizes}
 use Rattle.mp4_boxes.specs.Children.{of_kind}
 use Rattle.mp4_boxes.specs.declared.refusal.Refusal.{Refusal}
@@ -9,6 +9,7 @@ use Rattle.mp4_tables.specs.Timed.{timed}
 use Rattle.mp4_tables.specs.declared.sample.SampleAt.{SampleAt}
 use Rattle.mp4_frag.specs.Fragments.{FragmentTree}
 use Rattle.mp4_frag.specs.FragmentSamples.{start_of, duration_of, keys_behind, fragment_samples}
+use Rattle.mp4_frag.specs.Judged.{TrackSeen}
 use Rattle.mp4_head.specs.Tree.{TrackTree, track_head_of}
 use Rattle.mp4_present.specs.Denotes.{FileTree, plain_of, plain_keys, file_parts, parts_of_track, first_due, placed_of}
 use Rattle.mp4_present.specs.Passing.{AreBehind, parts_behind}
@@ -72,7 +73,12 @@ pub record HoldsNext (file : List ℕ) (tree : FileTree) (t : TrackTree) (earlie
   pub moov : of_kind (codes "moov") passed ≡ tree.movie.moov ∷ []
   pub behind : AreBehind file tree.movie earlier w.states.items w.room
   pub room : length w.bytes.items ≡ longest (of_kind (codes "moof") tree.top)
+  pub is_moof : next.moof.kind ≡ codes "moof"
   pub bytes : moof_box w ≡ next.moof
+
+-- what a walk takes for the time that is due: the start behind the `moof` where no sample came before it, else the time before it
+abbrev pub due_of : TrackSeen → TrackSeen → ℕ
+due_of before after = if before.count == 0 then after.start else min before.time (2 ^ 64 - 1)
 
 -- What is in hand once the next `moof` was taken: its samples of the track, some or none.
 abbrev pub Takes : List ℕ → FileTree → TrackTree → List FragmentTree → FragmentTree → List FragmentTree → MovieSeen → Walk → Bool → Type 0

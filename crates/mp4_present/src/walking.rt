@@ -1,5 +1,11 @@
 //! How a walk begins and goes on.
-ghost use Rattle.std.specs.Prelude.{◌≡◌, ◌<◌, ◌≤◌, length, IfOk, IfErr, OnOk, IsTrue};
+ghost use Rattle.std.specs.Prelude.{ℕ, ◌≡◌, ◌<◌, ◌≤◌, List, length, Some, slice_get, IfOk, IfErr, OnOk, IsTrue, IsOkAnd};
+ghost use Rattle.mp4_frag.specs.Fragments.{FragmentTree};
+ghost use Rattle.mp4_frag.specs.Judged.{track_seen};
+ghost use Rattle.mp4_head.specs.Tree.{TrackTree};
+ghost use Rattle.mp4_present.specs.Denotes.{FileTree};
+ghost use Rattle.mp4_present.specs.OpenedMovie.{IsOpenedAs};
+ghost use Rattle.mp4_present.specs.Coming.{HoldsNext, Takes, due_of};
 ghost use Rattle.mp4_boxes.specs.declared.refusal.Refusal.TheVariants as refusals;
 ghost use Rattle.mp4_present.specs.Movies.{Fills, GoesOn, IsWalkOf, StatesFor, InHandOf, RefusesLoad};
 
@@ -52,6 +58,18 @@ impl Movie {
     }
 }
 
+// When the first sample of a track in a `moof` is due: where it starts, if no sample came before; else where the samples
+// before end.
+fn due_of(before: TrackState, after: TrackState) -> u64
+    ensures { result ≡ due_of (track_seen before) (track_seen after) }
+{
+    if before.count == 0 {
+        after.start
+    } else {
+        in_64_bits(before.time)
+    }
+}
+
 impl Walk {
     /// The samples left of what is in memory: of the tables, or of a `moof`.
     pub fn in_hand<'a>(&'a self, movie: &'a Movie) -> InHand<'a>
@@ -87,6 +105,8 @@ impl Walk {
         ensures room { self.new.bytes ≡ self.old.bytes }
         ensures next { self.new.next ≡ self.old.next }
         ensures refusal { IfErr result (λ r. r ≡ refusals.StoreChanged) }
+        ensures taken { (file : List ℕ) (tree : FileTree) (t : TrackTree) (earlier later : List FragmentTree) (next : FragmentTree) → IsOpenedAs file movie.now tree → HoldsNext file tree t earlier next later self.old
+            → IsOkAnd result (λ some. Takes file tree t earlier next later movie.now self.new some) }
     {
         let before = self.states[self.track];
         let moof = self.moof.view(&self.bytes[..self.used]);
@@ -96,13 +116,9 @@ impl Walk {
             return Err(Refusal::StoreChanged);
         };
         let after = self.states[self.track];
-        let due = if before.count == 0 {
-            after.start
-        } else {
-            in_64_bits(before.time)
-        };
-        let keys = movie.tracks()[self.track].keys;
-        let cursor = FragCursor::start(&view, movie.states(), after.id, due, keys);
+        let due = due_of(before, after);
+        let info = movie.tracks()[self.track];
+        let cursor = FragCursor::start(&view, movie.states(), after.id, due, info.keys);
         let has_samples = cursor.peek().is_some();
         self.place = Place::Fragment(cursor.place());
         Ok(has_samples)
