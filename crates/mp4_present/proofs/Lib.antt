@@ -32,12 +32,16 @@ pub mod TablesKept
 pub mod TracksPassed
 pub mod TablesStand
 pub mod Lengths
+pub mod Counting
 pub mod Causes
 pub mod FragmentPass
 pub mod Opened
 pub mod TracksBehind
 pub mod PartsBehind
 pub mod MoofBehind
+pub mod MoofsPassed
 pub mod TrafPlaces
 pub mod TrafStands
 pub mod MoofRefused
+pub mod SampleTotals
+pub mod Assembled

@@ -14,3 +14,4 @@ pub mod OpenedMovie
 pub mod TrackTrees
 pub mod Measured
 pub mod Passing
+pub mod PassedMoofs
