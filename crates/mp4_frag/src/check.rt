@@ -1,5 +1,5 @@
 //! A `moof`, checked behind what came before it (ISO/IEC 14496-12, 8.8).
-ghost use Rattle.std.specs.Prelude.{ℕ, pos, List, nat_lt, not, ◌&&◌, ◌≡◌, ◌+◌, ◌*◌, ◌^◌, ◌<◌, ◌≤◌, ◌==◌, [], length, find, slice_get, None, option_map, codes, IfOk, IfErr, IfSome};
+ghost use Rattle.std.specs.Prelude.{ℕ, pos, List, nat_lt, not, ◌&&◌, ◌≡◌, ◌+◌, ◌*◌, ◌^◌, ◌<◌, ◌≤◌, ◌==◌, [], length, take, find, slice_get, None, option_map, codes, IfOk, IfErr, IfSome};
 ghost use Rattle.mp4_boxes.specs.Box.{Tiles, box_container};
 ghost use Rattle.mp4_boxes.specs.BoxFaults.{IsChildFault, fault_of};
 ghost use Rattle.mp4_boxes.specs.declared.rule.Rule.TheVariants as rules;
@@ -10,7 +10,7 @@ ghost use Rattle.mp4_frag.specs.GroupsJudged.{groups_in, AreGroupsSound, GroupsF
 ghost use Rattle.mp4_frag.specs.Passing.{IsNear, IsNearer, IsUpTo, is_late_at, start_with, due_with};
 ghost use Rattle.mp4_boxes.specs.Children.{Holds, of_kind};
 ghost use Rattle.mp4_frag.specs.RunsJudged.{children_of, only_list, runs_in, AreRunsSound, all_end, runs_total, runs_lasting, RunsFail};
-ghost use Rattle.mp4_frag.specs.Judged.{AreTrexesOf, IsSoundMoof, IsTrafSound, IsMovedOn, AreMovedOn, tree_of};
+ghost use Rattle.mp4_frag.specs.Judged.{AreTrexesOf, IsAcceptable, IsSoundMoof, IsTrafSound, IsMovedOn, AreMovedOn, tree_of};
 ghost use Rattle.mp4_tables.specs.TableRules.{is_index};
 ghost use Rattle.mp4_frag.specs.declared.trex.Trex.{Trex};
 ghost use Rattle.mp4_frag.specs.Walks.{trex_among};
@@ -51,6 +51,7 @@ fn fault(kind: Kind, named: BoxView) -> Fault
 pub(crate) fn find_track(tracks: &[TrackState], id: u32) -> Option<usize>
     ensures inside { IfSome result (λ k. k < length tracks.now) }
     ensures found { IfSome result (λ k. find (λ (t : TrackState). t.id == id) tracks.now ≡ slice_get tracks.now k) }
+    ensures first { IfSome result (λ k. find (λ (t : TrackState). t.id == id) (take k tracks.now) ≡ None) }
     ensures none { result ≡ None → find (λ (t : TrackState). t.id == id) tracks.now ≡ None }
 {
     for k in 0..tracks.len() {
@@ -271,6 +272,7 @@ pub fn check_moof<'a, L: Ledger>(
     ensures view { IfOk result (λ view. moof_seen view ≡ box_seen moof.entry) }
     ensures sound { IfOk result (λ view. (trexes : List Trex) → AreTrexesOf trexes tracks.old → IsSoundMoof file_len trexes tracks.old (tree_of (box_seen moof.entry))) }
     ensures fault { IfErr result (λ f. MoofFails file_len tracks.old room.old (box_seen moof.entry) f) }
+    ensures only { IfErr result (λ f. IsAcceptable file_len tracks.old room.old (box_seen moof.entry) → ⊥) }
     ensures same { IfOk result (λ view. (id : ℕ) → trex_among tracks.new id ≡ trex_among tracks.old id) }
     ensures moved { IfOk result (λ view. AreMovedOn (box_seen moof.entry).offset (pos (box_seen moof.entry).offset) (of_kind (codes "traf") (children_of (box_seen moof.entry))) tracks.old tracks.new room.old room.new) }
     ensures few { IfOk result (λ view. room.new ≤ room.old) }

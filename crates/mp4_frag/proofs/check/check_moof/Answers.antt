@@ -6,6 +6,7 @@ use Rattle.mp4_boxes.specs.Children.{Holds}
 use Rattle.mp4_boxes.specs.View.{box_seen}
 use Rattle.mp4_boxes.specs.declared.rule.Rule.TheVariants as rules
 use Rattle.mp4_frag.proofs.HeadsFound.{holds_children}
+use Rattle.mp4_frag.proofs.MoofExcludes.{moof_excluded}
 use Rattle.mp4_frag.proofs.MoofPassed.{moof_traf, moof_ended, moof_sound, moves_traf, moves_fault, moves_ended}
 use Rattle.mp4_frag.proofs.check.check_moof.Goals as goal
 
@@ -52,3 +53,14 @@ returns-in_err-before-clause-fault g c =
       moves_fault c.args.file_len _ _ _ _ _ _ _ (box_seen c.in-Some.child) _ _ _ c.in_err-before.field-0.0 c.loop-child.invariant.5 c.in-Some.ensures.steps (rw c.kind.ensures at (sym c.if-eq.ensures))
           (c.into_iter-child-iterator.ensures.into_iter_gives ∙ all) (rw c.offset-then-eq.ensures at c.in_err-before.ensures.fault),
     ))
+
+pub returns-in_err-before-clause-only : goal.returns-in_err-before-clause-only
+returns-in_err-before-clause-only g c =
+    let p = err_from_is_err_and c.from_residual-in_err-before.result c.from_residual-in_err-before.ensures.1 in
+    let all = holds_children rules.MovieFragment (box_seen c.args.moof) _ c.in_ok-child-items.ensures.holds in
+    let held = subst (λ (boxes : List Box). Holds rules.MovieFragment (box_container (box_seen c.args.moof)) boxes) all c.in_ok-child-items.ensures.holds in
+    rw p.1 (moof_excluded c.args.file_len c.args.tracks.now c.args.room.now (box_seen c.args.moof) c.in_err-before.field-0.0 (inr (
+      held,
+      moves_fault c.args.file_len _ _ _ _ _ _ _ (box_seen c.in-Some.child) _ _ _ c.in_err-before.field-0.0 c.loop-child.invariant.5 c.in-Some.ensures.steps (rw c.kind.ensures at (sym c.if-eq.ensures))
+          (c.into_iter-child-iterator.ensures.into_iter_gives ∙ all) (rw c.offset-then-eq.ensures at c.in_err-before.ensures.fault),
+    )))
