@@ -4,6 +4,7 @@ pub mod GroupReasons
 pub mod PartReasons
 pub mod SeenLists
 pub mod MoofExcludes
+pub mod Costs
 pub mod TracksMoved
 pub mod MoofPassed
 pub mod TrafPassed
