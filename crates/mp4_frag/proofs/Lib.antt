@@ -6,6 +6,7 @@ pub mod SeenLists
 pub mod MoofExcludes
 pub mod Costs
 pub mod WalkWork
+pub mod WalkBound
 pub mod TracksMoved
 pub mod MoofPassed
 pub mod TrafPassed
