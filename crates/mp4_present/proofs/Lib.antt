@@ -45,3 +45,4 @@ pub mod TrafStands
 pub mod MoofRefused
 pub mod SampleTotals
 pub mod Assembled
+pub mod DenotedOpens

@@ -45,3 +45,9 @@ RefusesOpen honest file reads reads_after refusals.Memory = Unit {0}
 RefusesOpen honest file reads reads_after refusals.StoreFailed = HasRisen reads reads_after
 RefusesOpen honest file reads reads_after refusals.StoreChanged = IsTrue honest → ⊥
 RefusesOpen honest file reads reads_after _ = ⊥
+
+-- Why a file that denotes a presentation is not opened: there is no memory, or a read failed.
+abbrev pub RefusesDenoted : ℕ → ℕ → Refusal → Type 0
+RefusesDenoted reads reads_after refusals.Memory = Unit {0}
+RefusesDenoted reads reads_after refusals.StoreFailed = HasRisen reads reads_after
+RefusesDenoted reads reads_after _ = ⊥

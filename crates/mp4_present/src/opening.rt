@@ -6,9 +6,10 @@ ghost use Rattle.mp4_present.specs.Plain.{ArePlain};
 ghost use Rattle.mp4_head.specs.declared.heads.TrackHead.{TrackHead};
 ghost use Rattle.mp4_store.specs.Device.{range};
 ghost use Rattle.mp4_present.specs.declared.track_info.TrackInfo.{TrackInfo};
-ghost use Rattle.mp4_present.specs.Denotes.{FileTree};
+ghost use Rattle.mp4_present.specs.Presentation.{Presentation};
+ghost use Rattle.mp4_present.specs.Denotes.{Denotes, FileTree};
 ghost use Rattle.mp4_present.specs.OpenedMovie.{AreInfosBy, IsInfoBy, IsOpenedAs, kept_of};
-ghost use Rattle.mp4_present.specs.Opening.{HasOutline, HasMovie, IsOpened, RefusesOpen};
+ghost use Rattle.mp4_present.specs.Opening.{HasOutline, HasMovie, IsOpened, RefusesDenoted, RefusesOpen};
 
 use crate::fragment_pass::{AllTracks, check_fragments};
 use crate::limit_checks::{check_limits, duration_of};
@@ -110,6 +111,7 @@ pub fn open_movie<S: Store, L: Ledger>(
     ensures opened { IfOk result (λ m. IsTrue (S.is_honest store.old) → IsOpened (S.file store.old) m) }
     ensures movie { IfOk result (λ m. IsTrue (S.is_honest store.old) → (t : FileTree) × IsOpenedAs (S.file store.old) m t) }
     ensures ids { IfOk result (λ m. IsTrue (S.is_honest store.old) → HasMovie (S.file store.old) (map (λ (t : TrackInfo). t.id) m.tracks)) }
+    ensures only { (p : Presentation) → IsTrue (S.is_honest store.old) → Denotes (S.file store.old) p → IfErr result (RefusesDenoted (S.read_failures store.old) (S.read_failures store.new)) }
     ensures reads { OnOk result (S.read_failures store.new ≡ S.read_failures store.old) }
     ensures refusal { IfErr result (RefusesOpen (S.is_honest store.old) (S.file store.old) (S.read_failures store.old) (S.read_failures store.new)) }
 {
