@@ -2,6 +2,11 @@ pub mod TrafRefused
 pub mod RunReasons
 pub mod GroupReasons
 pub mod PartReasons
+pub mod SeenLists
+pub mod MoofExcludes
+pub mod Costs
+pub mod WalkWork
+pub mod WalkBound
 pub mod TracksMoved
 pub mod MoofPassed
 pub mod TrafPassed

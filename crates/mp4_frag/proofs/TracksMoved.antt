@@ -1,5 +1,5 @@
 -- How a track moves on by a `traf`.
-use Rattle.std.proofs.Common.{◌≡◌, ℕ, zero, suc, ◌+◌, ◌<◌, ◌≤◌, ◌==◌, ◌&&◌, ◌||◌, not, nat_lt, Bool, true, false, cond, List, [], ◌∷◌, ◌++◌, length, map, Option, Some, None, IsTrue, refl, sym, ap, subst, ◌∙◌, rules, arith, slice_set, slice_index_or}
+use Rattle.std.proofs.Common.{◌≡◌, ℕ, zero, suc, ◌+◌, ◌<◌, ◌≤◌, ◌==◌, ◌&&◌, ◌||◌, not, nat_lt, Bool, true, false, cond, List, [], ◌∷◌, ◌++◌, length, take, map, Option, Some, None, IsTrue, refl, sym, ap, subst, ◌∙◌, rules, arith, slice_set, slice_index_or}
 use Rattle.std.specs.Prelude.{ℤ, codes, bytes_eq, unwrap_or, option_map, flat_map, find}
 use Rattle.std.specs.List.{list_all, slice_get}
 use Rattle.mp4_boxes.specs.Box.{Box}
@@ -131,14 +131,14 @@ its_time b boxes time e t = ap (option_map decode_time_of) (payload_there (codes
 -- ---- the whole `traf`
 
 pub traf_moved : (moof n lasts k room less : ℕ) (before : ℤ) (tracks : List TrackState) (d state new : TrackState) (boxes : List Box) (b : Box) (head : Head) (trex : Trex) (inherited : Inherited) (keys : Keys) (time : Option ℕ)
-    → of_kind (codes "tfhd") boxes ≡ b ∷ [] → IsHead b.payload head → k < length tracks → find (λ (t : TrackState). t.id == head.id) tracks ≡ slice_get tracks k → state ≡ slice_index_or tracks k d → state.trex ≡ Some trex
+    → of_kind (codes "tfhd") boxes ≡ b ∷ [] → IsHead b.payload head → k < length tracks → find (λ (t : TrackState). t.id == head.id) tracks ≡ slice_get tracks k → find (λ (t : TrackState). t.id == head.id) (take k tracks) ≡ None → state ≡ slice_index_or tracks k d → state.trex ≡ Some trex
     → inherited ≡ inheritance (as_traf head) trex → n ≡ runs_total (of_kind (codes "trun") boxes) → lasts ≡ runs_lasting inherited (of_kind (codes "trun") boxes)
     → AreGroupsSound n (keys_seen state.keys) [] (of_kind (codes "sbgp") boxes) → keys_seen keys ≡ keys_after (keys_seen state.keys) (groupings_of (of_kind (codes "sbgp") boxes))
     → (nat_lt 0 n && not (is_index state.descriptions inherited.description)) ≡ false → is_late_at state time n ≡ false → (track_fragment_of boxes).decode_time ≡ time
     → (n ≡ 0 → new ≡ record state { keys = keys })
     → (0 < n → new ≡ record state { start = start_with state time; count = state.count + n; time = due_with state time + lasts; keys = keys })
     → n + less ≡ room → IsMovedOn moof before boxes tracks (slice_set tracks k new) room less
-traf_moved moof n lasts k room less before tracks d state new boxes b head trex inherited keys time one h lt found at defaults ei en el groups ek described late et none some taken =
+traf_moved moof n lasts k room less before tracks d state new boxes b head trex inherited keys time one h lt found before_it at defaults ei en el groups ek described late et none some taken =
     let traf = track_fragment_of boxes in
     let runs = of_kind (codes "trun") boxes in
     let start = base_of moof before traf in
@@ -155,6 +155,7 @@ traf_moved moof n lasts k room less before tracks d state new boxes b head trex 
       trex = trex;
       found = ap (λ (t : TrackFragment). find (λ (s : TrackState). s.id == t.id) tracks) (sym same) ∙ found ∙ there;
       there = there;
+      first = ap (λ (t : TrackFragment). find (λ (s : TrackState). s.id == t.id) (take k tracks)) (sym same) ∙ before_it;
       defaults = defaults;
       due = record {
         indexes = part_tested (is_index state.descriptions) moof before trex traf (nat_lt 0 (length (part_samples part))) refl

@@ -1,5 +1,5 @@
 -- What a `moof` has to keep behind what came before it, by what is known of the tracks.
-use Rattle.std.specs.Prelude.{◌≡◌, ℕ, ◌+◌, ◌^◌, ◌<◌, ◌==◌, cond, if◌then◌else◌, ℤ, List, [], ◌∷◌, length, map, find, slice_get, slice_set, codes, Bool, Option, Some, is_some, unwrap_or, IsTrue}
+use Rattle.std.specs.Prelude.{◌≡◌, ℕ, ◌+◌, ◌^◌, ◌<◌, ◌==◌, cond, if◌then◌else◌, ℤ, pos, List, [], ◌∷◌, length, take, map, find, slice_get, slice_set, codes, Bool, Option, Some, None, is_some, unwrap_or, IsTrue}
 use Rattle.std.specs.List.{AllByRecursion, list_all}
 use Rattle.mp4_boxes.specs.Box.{Box}
 use Rattle.mp4_boxes.specs.Children.{of_kind}
@@ -109,6 +109,8 @@ pub record IsMovedOn (moof : ℕ) (before : ℤ) (boxes : List Box) (old new : L
   pub trex : Trex
   pub found : find (λ (t : TrackState). t.id == (track_fragment_of boxes).id) old ≡ Some track
   pub there : slice_get old place ≡ Some track
+  -- none before it has this ID
+  pub first : find (λ (t : TrackState). t.id == (track_fragment_of boxes).id) (take place old) ≡ None
   pub defaults : track.trex ≡ Some trex
   pub due : IsDue (track_seen track) (part_with moof before trex (track_fragment_of boxes))
   pub moved : map track_seen new ≡ slice_set (map track_seen old) place (track_behind (track_seen track) (part_with moof before trex (track_fragment_of boxes)))
@@ -120,3 +122,12 @@ AreMovedOn moof before [] old new room less = (new ≡ old) × (less ≡ room)
 AreMovedOn moof before (b ∷ trafs) old new room less =
     (between : List TrackState) × (rest : ℕ)
     × ((m : IsMovedOn moof before (children_of b) old between room rest) × AreMovedOn moof (end_with moof before m.trex (track_fragment_of (children_of b))) trafs between new rest less)
+
+-- a `moof` that is accepted behind these tracks, where there is room for so many samples: it is sound, and each of its parts was due
+pub record IsAcceptable (file_length : ℕ) (tracks : List TrackState) (room : ℕ) (moof : Box) : Type 0 where
+  pub trexes : List Trex
+  pub defaults : AreTrexesOf trexes tracks
+  pub sound : IsSoundMoof file_length trexes tracks (tree_of moof)
+  pub after : List TrackState
+  pub less : ℕ
+  pub moved : AreMovedOn moof.offset (pos moof.offset) (of_kind (codes "traf") (children_of moof)) tracks after room less

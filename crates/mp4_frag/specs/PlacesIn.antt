@@ -1,6 +1,9 @@
--- Places in the payload of a `moof`.
-use Rattle.std.specs.Prelude.{◌≡◌, ℕ, ◌+◌, ◌*◌, ◌≤◌, List, length}
+-- Places in the payload of a `moof`, and what a walk costs.
+use Rattle.std.specs.Prelude.{◌≡◌, ℕ, suc, ◌+◌, ◌*◌, ◌≤◌, cond, List, [], ◌∷◌, length, codes, bytes_eq}
+use Rattle.mp4_boxes.specs.Box.{Box}
+use Rattle.mp4_boxes.specs.Layout.{trun, row_count}
 use Rattle.mp4_frag.specs.ColumnsRead.{row_room}
+use Rattle.mp4_frag.specs.Walks.{can_read, boxes_in, boxes_between}
 use Rattle.mp4_frag.specs.declared.places.FragPlace.{FragPlace}
 use Rattle.mp4_frag.specs.declared.places.IndexPlace.{IndexPlace}
 use Rattle.mp4_frag.specs.declared.places.IndexPlaces.{IndexPlaces}
@@ -22,12 +25,35 @@ AreIndexPlaces payload places = IsIndexPlace payload places.first × IsIndexPlac
 abbrev pub IsRowPlace : List ℕ → RowPlace → Type 0
 IsRowPlace payload place = place.row + place.left * row_room place.bits ≤ length payload
 
+-- a step for a run, and one for each of its rows, if it can be read
+abbrev pub run_work : List ℕ → ℕ
+run_work payload = suc (cond (can_read trun payload) (row_count trun payload) 0)
+
+abbrev pub runs_work : List Box → ℕ
+runs_work [] = 0
+runs_work (b ∷ boxes) = cond (bytes_eq (codes "trun") b.kind) (run_work b.payload) 0 + runs_work boxes
+
+-- a step for a `traf`, and those for its runs
+abbrev pub trafs_work : List Box → ℕ
+trafs_work [] = 0
+trafs_work (b ∷ boxes) = cond (bytes_eq (codes "traf") b.kind) (suc (runs_work (boxes_in (b.offset + b.header) b.payload))) 0 + trafs_work boxes
+
+-- what all boxes of a `moof` cost
+unfoldable pub moof_work : List ℕ → ℕ
+moof_work payload = trafs_work (boxes_between payload 0 (length payload))
+
+-- what the boxes from a place on cost, where a `traf` goes up to another
+unfoldable pub work_behind : List ℕ → ℕ → ℕ → ℕ
+work_behind payload next end = runs_work (boxes_between payload next end) + trafs_work (boxes_between payload end (length payload))
+
 -- all that the place speaks of lies in the payload
 pub record LiesIn (payload : List ℕ) (place : FragPlace) : Type 0 where
   pub next : place.next ≤ place.traf_end
   pub traf : place.traf_end ≤ length payload
   pub rows : IsRowPlace payload place.run
   pub indexes : AreIndexPlaces payload place.indexes
+  -- what was passed and what is left cost no more than all
+  pub work : place.passed + place.run.left + work_behind payload place.next place.traf_end ≤ moof_work payload
 
 -- so it does, and a sample is in hand, or no box is left
 pub record IsPlaceIn (payload : List ℕ) (place : FragPlace) : Type 0 where

@@ -1,5 +1,5 @@
 //! A `moof`, checked behind what came before it (ISO/IEC 14496-12, 8.8).
-ghost use Rattle.std.specs.Prelude.{ℕ, pos, List, nat_lt, not, ◌&&◌, ◌≡◌, ◌+◌, ◌*◌, ◌^◌, ◌<◌, ◌≤◌, ◌==◌, [], length, find, slice_get, None, option_map, codes, IfOk, IfErr, IfSome};
+ghost use Rattle.std.specs.Prelude.{ℕ, pos, List, nat_lt, not, ◌&&◌, ◌≡◌, ◌+◌, ◌*◌, ◌^◌, ◌<◌, ◌≤◌, ◌==◌, [], length, take, find, slice_get, None, option_map, codes, IfOk, IfErr, IfSome};
 ghost use Rattle.mp4_boxes.specs.Box.{Tiles, box_container};
 ghost use Rattle.mp4_boxes.specs.BoxFaults.{IsChildFault, fault_of};
 ghost use Rattle.mp4_boxes.specs.declared.rule.Rule.TheVariants as rules;
@@ -10,7 +10,7 @@ ghost use Rattle.mp4_frag.specs.GroupsJudged.{groups_in, AreGroupsSound, GroupsF
 ghost use Rattle.mp4_frag.specs.Passing.{IsNear, IsNearer, IsUpTo, is_late_at, start_with, due_with};
 ghost use Rattle.mp4_boxes.specs.Children.{Holds, of_kind};
 ghost use Rattle.mp4_frag.specs.RunsJudged.{children_of, only_list, runs_in, AreRunsSound, all_end, runs_total, runs_lasting, RunsFail};
-ghost use Rattle.mp4_frag.specs.Judged.{AreTrexesOf, IsSoundMoof, IsTrafSound, IsMovedOn, AreMovedOn, tree_of};
+ghost use Rattle.mp4_frag.specs.Judged.{AreTrexesOf, IsAcceptable, IsSoundMoof, IsTrafSound, IsMovedOn, AreMovedOn, tree_of};
 ghost use Rattle.mp4_tables.specs.TableRules.{is_index};
 ghost use Rattle.mp4_frag.specs.declared.trex.Trex.{Trex};
 ghost use Rattle.mp4_frag.specs.Walks.{trex_among};
@@ -51,6 +51,7 @@ fn fault(kind: Kind, named: BoxView) -> Fault
 pub(crate) fn find_track(tracks: &[TrackState], id: u32) -> Option<usize>
     ensures inside { IfSome result (λ k. k < length tracks.now) }
     ensures found { IfSome result (λ k. find (λ (t : TrackState). t.id == id) tracks.now ≡ slice_get tracks.now k) }
+    ensures first { IfSome result (λ k. find (λ (t : TrackState). t.id == id) (take k tracks.now) ≡ None) }
     ensures none { result ≡ None → find (λ (t : TrackState). t.id == id) tracks.now ≡ None }
 {
     for k in 0..tracks.len() {
@@ -107,6 +108,8 @@ fn check_runs<L: Ledger>(
     ensures count { IfOk result (λ p. p.count ≡ runs_total (runs_in (box_seen traf.entry))) }
     ensures lasting { IfOk result (λ p. p.duration ≡ runs_lasting judged.inherited (runs_in (box_seen traf.entry))) }
     ensures fault { IfErr result (λ f. Tiles (box_container (box_seen traf.entry)) (children_of (box_seen traf.entry)) → RunsFail judged.file_len judged.inherited judged.base judged.base room.old (runs_in (box_seen traf.entry)) f) }
+    ensures cost { IfOk result (λ p. 8 * steps.new ≤ 8 * steps.old + length (box_seen traf.entry).payload + 8 * p.count) }
+    ensures work { 8 * steps.new ≤ 8 * steps.old + length (box_seen traf.entry).payload + 8 * room.old }
 {
     let mut passed = Passed {
         at: judged.base,
@@ -135,6 +138,7 @@ fn check_groups<L: Ledger>(
     ensures sound { IfOk result (λ k. AreGroupsSound n (keys_seen keys) [] (groups_in (box_seen traf.entry))) }
     ensures keys { IfOk result (λ k. keys_seen k ≡ keys_after (keys_seen keys) (groupings_of (groups_in (box_seen traf.entry)))) }
     ensures fault { IfErr result (λ f. Tiles (box_container (box_seen traf.entry)) (children_of (box_seen traf.entry)) → GroupsFail n (keys_seen keys) [] (groups_in (box_seen traf.entry)) f) }
+    ensures work { 4 * steps.new ≤ 4 * steps.old + length (box_seen traf.entry).payload }
 {
     let mut keys = keys;
     let mut named = KeysNamed::none();
@@ -215,6 +219,8 @@ fn check_traf<L: Ledger>(
     ensures same { IfOk result (λ at. (id : ℕ) → trex_among tracks.new id ≡ trex_among tracks.old id) }
     ensures fault { IfErr result (λ f. TrafFails file_len moof before tracks.old room.old (box_seen traf.entry) f) }
     ensures moved { IfOk result (λ at. IsMovedOn moof before (children_of (box_seen traf.entry)) tracks.old tracks.new room.old room.new) }
+    ensures cost { IfOk result (λ at. 8 * steps.new + 8 * room.new ≤ 8 * steps.old + 8 * room.old + 3 * length (box_seen traf.entry).payload) }
+    ensures work { 8 * steps.new ≤ 8 * steps.old + 8 * room.old + 3 * length (box_seen traf.entry).payload }
 {
     let heads = check_boxes(traf)?;
     let Some(tfhd) = heads.head else {
@@ -271,10 +277,13 @@ pub fn check_moof<'a, L: Ledger>(
     ensures view { IfOk result (λ view. moof_seen view ≡ box_seen moof.entry) }
     ensures sound { IfOk result (λ view. (trexes : List Trex) → AreTrexesOf trexes tracks.old → IsSoundMoof file_len trexes tracks.old (tree_of (box_seen moof.entry))) }
     ensures fault { IfErr result (λ f. MoofFails file_len tracks.old room.old (box_seen moof.entry) f) }
+    ensures only { IfErr result (λ f. IsAcceptable file_len tracks.old room.old (box_seen moof.entry) → ⊥) }
     ensures same { IfOk result (λ view. (id : ℕ) → trex_among tracks.new id ≡ trex_among tracks.old id) }
     ensures moved { IfOk result (λ view. AreMovedOn (box_seen moof.entry).offset (pos (box_seen moof.entry).offset) (of_kind (codes "traf") (children_of (box_seen moof.entry))) tracks.old tracks.new room.old room.new) }
     ensures few { IfOk result (λ view. room.new ≤ room.old) }
     ensures room { IfOk result (λ view. HaveRoom room.new tracks.new) }
+    ensures cost { IfOk result (λ view. 2 * steps.new + 2 * room.new ≤ 2 * steps.old + 2 * room.old + length (box_seen moof.entry).payload) }
+    ensures work { 2 * steps.new ≤ 2 * steps.old + 2 * room.old + length (box_seen moof.entry).payload }
 {
     let mut before = i128::from(moof.offset());
     for child in check_children(moof, Rule::MovieFragment)? {

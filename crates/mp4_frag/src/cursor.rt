@@ -27,14 +27,14 @@ impl<'a> Model for FragCursor<'a> {
 }
 
 impl<'a> FragCursor<'a> {
-    ghost use Rattle.std.specs.Prelude.{ℕ, List, ◌≡◌, ◌+◌, ◌^◌, ◌<◌};
+    ghost use Rattle.std.specs.Prelude.{ℕ, List, ◌≡◌, ◌+◌, ◌^◌, ◌<◌, ◌≤◌};
     ghost use Rattle.mp4_tables.specs.Accepted.{AreDistinct};
     ghost use Rattle.mp4_tables.specs.Timed.{timed};
     ghost use Rattle.mp4_frag.specs.Fragments.{FragmentTree};
     ghost use Rattle.mp4_frag.specs.FragmentSamples.{duration_of};
     ghost use Rattle.mp4_frag.specs.Judged.{AreTrexesOf, IsSoundMoof, samples_of_track};
     ghost use Rattle.mp4_frag.specs.declared.trex.Trex.{Trex};
-    ghost use Rattle.mp4_frag.specs.PlacesIn.{IsPlaceIn};
+    ghost use Rattle.mp4_frag.specs.PlacesIn.{IsPlaceIn, moof_work};
     ghost use Rattle.mp4_frag.specs.Views.{moof_seen};
     ghost use Rattle.mp4_frag.specs.Walks.{samples_coming, samples_in};
     ghost use Rattle.mp4_tables.specs.Keys.{keys_seen};
@@ -82,6 +82,7 @@ impl<'a> FragCursor<'a> {
     pub fn place(&self) -> FragPlace
         ensures is { result ≡ self.now.place }
         ensures place { IsPlaceIn self.now.payload result }
+        ensures work { result.passed ≤ moof_work self.now.payload }
     {
         self.place
     }

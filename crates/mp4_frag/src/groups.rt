@@ -210,6 +210,7 @@ pub(crate) fn check_group<L: Ledger>(
     ensures sound { OnOk result ((first : List GroupKeyOf) (before : List Grouping) → AreNamed first before (keys_seen keys.old) named.old → IsGroupSound n first before payload.now) }
     ensures named { OnOk result ((first : List GroupKeyOf) (before : List Grouping) → AreNamed first before (keys_seen keys.old) named.old → AreNamed first (before ++ grouping_of payload.now ∷ []) (keys_seen keys.new) named.new) }
     ensures fault { IfErr result (λ kind. (first : List GroupKeyOf) (before : List Grouping) → AreNamed first before (keys_seen keys.old) named.old → IsGroupFault n first before payload.now kind) }
+    ensures cost { 4 * steps.new ≤ 4 * steps.old + length payload.now }
 {
     let group = read_group(payload)?;
     name(group.key, keys, named)?;

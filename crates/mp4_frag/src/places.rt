@@ -55,8 +55,12 @@ pub struct FragPlace {
 }
 
 impl FragPlace {
+    ghost use Rattle.std.specs.Prelude.{◌≡◌};
+
     /// How many steps the walk took to come here.
-    pub fn passed(&self) -> u64 {
+    pub fn passed(&self) -> u64
+        ensures { result ≡ self.now.passed }
+    {
         self.passed
     }
 }

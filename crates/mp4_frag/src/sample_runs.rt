@@ -170,6 +170,7 @@ pub(crate) fn check_run<L: Ledger>(
     ensures duration { IfOk result (λ p. p.duration ≤ 2 ^ 32 * p.count) }
     ensures more { IfOk result (λ p. (passed.count ≤ p.count) × (passed.duration ≤ p.duration)) }
     ensures cost { IfOk result (λ p. steps.new + passed.count ≤ steps.old + p.count) }
+    ensures work { steps.new ≤ steps.old + room.old }
 {
     let run = read_run(payload)?;
     if run.count > *room {

@@ -5,7 +5,7 @@ ghost use Rattle.mp4_boxes.specs.Box.{header_at};
 ghost use Rattle.mp4_tables.specs.Keys.{keys_seen};
 ghost use Rattle.mp4_frag.specs.FragmentSamples.{flags_of as flags_by};
 ghost use Rattle.mp4_frag.specs.ColumnsRead.{row_room};
-ghost use Rattle.mp4_frag.specs.PlacesIn.{LiesIn, IsPlaceIn, IsRowPlace, AreIndexPlaces};
+ghost use Rattle.mp4_frag.specs.PlacesIn.{LiesIn, IsPlaceIn, IsRowPlace, AreIndexPlaces, run_work, work_behind, moof_work};
 ghost use Rattle.mp4_frag.specs.Walks.{Walk, Reached, at_first, rows_here, trafs_coming, row_signed, first_byte, part_of, boxes_between, trex_among, with_head, all_indexes, with_group, with_leaves, before_traf, end_held, rows_coming, run_coming, reached, walk_of, coming, begin as begin_by};
 
 use crate::check::{SBGP, TFHD, TRAF, TRUN, find_track};
@@ -143,6 +143,7 @@ fn open_traf(
     requires inside { lying.inside ≤ lying.end }
     requires within { lying.end ≤ length payload.now }
     requires place { LiesIn payload.now place }
+    requires work { place.passed + 1 + place.run.left + work_behind payload.now lying.inside lying.end ≤ moof_work payload.now }
     ensures place { LiesIn payload.now result }
     ensures next { result.next ≡ lying.inside }
     ensures end { result.traf_end ≡ lying.end }
@@ -215,6 +216,7 @@ fn open_run(payload: &[u8], lying: Lying, place: FragPlace) -> FragPlace
     requires order { (place.next < lying.inside) × (lying.end ≤ place.traf_end) }
     requires none { place.run.left ≡ 0 }
     requires place { LiesIn payload.now place }
+    requires work { place.passed + run_work (part_of payload.now lying.inside lying.end) + work_behind payload.now lying.end place.traf_end ≤ moof_work payload.now }
     ensures place { LiesIn payload.now result }
     ensures next { result.next ≡ lying.end }
     ensures same { (result.track ≡ place.track) × (result.keys ≡ place.keys) × (result.traf_end ≡ place.traf_end) }

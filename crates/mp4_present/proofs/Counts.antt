@@ -71,7 +71,7 @@ trafs_length trexes moof before (inside ∷ trafs) =
     let own = groups_length (maps_of (length plain) traf.groups) plain ∙ runs_length trex traf base base (of_kind (codes "trun") inside) in
     λ i. own i + trafs_length trexes moof (runs_end trex traf base base traf.runs) trafs i
 
-fragments_length : (trexes : List Trex) (es : List FragmentTree) → parts_total (all_parts trexes (map fragment_of es)) ≡ sum_of (λ (e : FragmentTree). trafs_total e.trafs) es
+pub fragments_length : (trexes : List Trex) (es : List FragmentTree) → parts_total (all_parts trexes (map fragment_of es)) ≡ sum_of (λ (e : FragmentTree). trafs_total e.trafs) es
 fragments_length trexes [] = refl
 fragments_length trexes (e ∷ es) =
     sum-append (λ (q : Part). length (part_samples q)) (parts_of trexes (fragment_of e)) (all_parts trexes (map fragment_of es))
@@ -105,7 +105,7 @@ total_is file parts (u ∷ tracks) g h =
 
 -- ---- each part belongs to a track
 
-with_part : (id : ℕ) (q : Part) (parts : List Part) (v : Bool) → eqb q.id id ≡ v → length (fragment_samples id (q ∷ parts)) ≡ cond v (length (part_samples q)) 0 + length (fragment_samples id parts)
+pub with_part : (id : ℕ) (q : Part) (parts : List Part) (v : Bool) → eqb q.id id ≡ v → length (fragment_samples id (q ∷ parts)) ≡ cond v (length (part_samples q)) 0 + length (fragment_samples id parts)
 with_part id q parts true e = rw e (length-append (part_samples q) (fragment_samples id parts))
 with_part id q parts false e = rw e (sym (none (length (fragment_samples id parts))))
   where

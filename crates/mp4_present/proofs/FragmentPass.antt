@@ -1,18 +1,14 @@
 -- The `moof`s of a file whose outline is known, one after the other.
 use Rattle.std.proofs.Common.{◌≡◌, ℕ, ◌+◌, ◌-◌, ◌≤◌, true, List, [], ◌∷◌, ◌++◌, Option, Some, None, length, drop, max, refl, length-take, length-drop, sym, ap, subst, ◌∙◌, arith}
-use Rattle.std.specs.Prelude.{codes, unwrap_or, fold, bytes_eq, Bool, IsTrue}
-use Rattle.std.proofs.lemmas.List.{drop-drop}
+use Rattle.std.specs.Prelude.{codes, unwrap_or, fold, bytes_eq}
+use Rattle.std.proofs.lemmas.List.{drop-drop, append-nil}
 use Rattle.mp4_boxes.specs.Box.{Box, LieEndToEnd, file_container, size, sizes}
 use Rattle.mp4_boxes.specs.Children.{of_kind, Holds}
 use Rattle.mp4_boxes.specs.declared.rule.Rule.TheVariants.{File}
-use Rattle.mp4_boxes.specs.declared.refusal.Refusal.{Refusal}
-use Rattle.mp4_boxes.specs.declared.refusal.Refusal.TheVariants as refusals
 use Rattle.mp4_boxes.proofs.Among.{of_kind-append, of_kind-split}
 use Rattle.mp4_boxes.proofs.Tiling.{lies_behind, sizes-append, sizes-cons}
 use Rattle.mp4_present.specs.Again.{AreFrom, IsNextFragment}
 use Rattle.mp4_present.specs.Movies.{IsWhole}
-use Rattle.mp4_present.specs.Reading.{RefusesPayload}
-use Rattle.mp4_present.specs.Opening.{RefusesFragments}
 use Rattle.mp4_present.specs.Outline.{BeginAt, IsOutline, box_at, longest}
 use Rattle.mp4_present.specs.declared.reading.TopBox.{TopBox}
 use Rattle.mp4_present.specs.declared.outline.Outline.{Outline}
@@ -46,7 +42,7 @@ longest_cons : (b : Box) (boxes : List Box) → longest (b ∷ boxes) ≡ max (s
 longest_cons b boxes = omega (arith, longest_from (max 0 (size b)) boxes)
 
 -- where the first `moof` is looked for
-left_at : (file : List ℕ) (boxes : List Box) (first : Option ℕ) → AreFrom file 0 boxes → BeginAt first boxes → Left file (unwrap_or first (length file)) (longest (of_kind (codes "moof") boxes))
+pub left_at : (file : List ℕ) (boxes : List Box) (first : Option ℕ) → AreFrom file 0 boxes → BeginAt first boxes → Left file (unwrap_or first (length file)) (longest (of_kind (codes "moof") boxes))
 left_at file boxes None a b = record { boxes = []; are_from = record { lie = tt; whole = omega arith }; short = omega arith }
 left_at file boxes (Some at) a b =
     let after = behind file 0 b.0 b.1 (subst (AreFrom file 0) (sym b.2) a) in
@@ -86,12 +82,13 @@ left_next file at most top l w n =
       short = omega (arith, longer, short, big, header);
     }
 
--- the room is as long as the longest `moof`
-pub not_passed : (honest : Bool) (file : List ℕ) (top : TopBox) (most room reads reads_after : ℕ) (r : Refusal) → (IsTrue honest → Next file top most) → room ≡ most
-    → RefusesPayload room top reads reads_after r → RefusesFragments honest reads reads_after r
-not_passed honest file top most room reads reads_after (refusals.Fault f) n e w = tt
-not_passed honest file top most room reads reads_after refusals.Memory n e w = tt
-not_passed honest file top most room reads reads_after refusals.StoreFailed n e w = w
-not_passed honest file top most room reads reads_after refusals.StoreChanged n e w = λ told. let short = (n told).short in omega (arith, short, e, w)
-not_passed honest file top most room reads reads_after refusals.WriteFailed n e w = w
-not_passed honest file top most room reads reads_after refusals.NoSuchTrack n e w = w
+-- the boxes behind it are those that are left
+pub next_boxes : (file : List ℕ) (at most : ℕ) (top : TopBox) (l : Left file at most) (w : IsWhole (length file) top) (n : IsNextFragment file at l.boxes (Some top)) → (left_next file at most top l w n).left.boxes ≡ n.1
+unfolding left_next
+next_boxes file at most top l w n = refl
+
+-- the boxes in front of those that are left, where the first `moof` is looked for
+pub first_passed : (file : List ℕ) (boxes : List Box) (first : Option ℕ) (a : AreFrom file 0 boxes) (b : BeginAt first boxes) → (passed : List Box) × (boxes ≡ passed ++ (left_at file boxes first a b).boxes) × (of_kind (codes "moof") passed ≡ [])
+unfolding left_at
+first_passed file boxes None a b = (boxes, sym (append-nil boxes), b)
+first_passed file boxes (Some at) a b = (b.0, sym b.2, b.3)

@@ -152,7 +152,7 @@ inside_none file movie earlier moof states room h =
     no_more : (n : ℕ) → n + 0 ≡ n
     no_more n = omega arith
 
-parts_joined : (movie : MovieTree) (earlier : List FragmentTree) (t : FragmentTree) → parts_behind movie (earlier ++ t ∷ []) ≡ parts_behind movie earlier ++ parts_of (trexes_of movie) (fragment_of t)
+pub parts_joined : (movie : MovieTree) (earlier : List FragmentTree) (t : FragmentTree) → parts_behind movie (earlier ++ t ∷ []) ≡ parts_behind movie earlier ++ parts_of (trexes_of movie) (fragment_of t)
 parts_joined movie earlier t =
     ap (flat_map (parts_of (trexes_of movie))) (map-append fragment_of earlier (t ∷ [])) ∙ flat_map-append (parts_of (trexes_of movie)) (map fragment_of earlier) (fragment_of t ∷ [])
     ∙ ap (λ ps. parts_behind movie earlier ++ ps) (append-nil (parts_of (trexes_of movie) (fragment_of t)))

@@ -23,7 +23,10 @@ use Rattle.mp4_head.specs.declared.heads.MovieHead.{MovieHead}
 use Rattle.mp4_head.proofs.Above.{stands_in_file}
 use Rattle.mp4_present.specs.Movies.{Fills}
 use Rattle.mp4_present.specs.Outline.{box_at}
-use Rattle.mp4_present.specs.Opening.{HasOutline, HasMovie, RefusesOpen, RefusesFragments}
+use Rattle.mp4_present.specs.Opening.{HasOutline, HasMovie, RefusesOpen}
+use Rattle.mp4_present.specs.PassedMoofs.{IsBegun, RefusesFragments}
+use Rattle.mp4_present.specs.declared.tables_pass.Counted.{Counted}
+use Rattle.mp4_frag.specs.declared.state.TrackState.{TrackState}
 use Rattle.mp4_present.specs.TrackTrees.{AreTracksOf, RefusesTables, TablesFail}
 use Rattle.mp4_present.proofs.TablesStand.{tables_stand}
 use Rattle.mp4_present.specs.Denotes.{begins_with_movie}
@@ -116,7 +119,7 @@ pub record IsRead (honest : Bool) (file : List ℕ) (o : Outline) (moov : List �
   pub fills : Fills (length moov) o.moov
   pub bytes : IsTrue honest → moov ≡ range file (o.moov.offset + o.moov.header.header) (length moov)
 
-its_moov : (honest : Bool) (file : List ℕ) (o : Outline) (moov : List ℕ) (b : Box) (r : IsRead honest file o moov b) (told : IsTrue honest) → of_kind (codes "moov") (r.outline told).0 ≡ b ∷ []
+pub its_moov : (honest : Bool) (file : List ℕ) (o : Outline) (moov : List ℕ) (b : Box) (r : IsRead honest file o moov b) (told : IsTrue honest) → of_kind (codes "moov") (r.outline told).0 ≡ b ∷ []
 its_moov honest file o moov b r told =
     let k = r.outline told in
     k.3.moov ∙ ap (λ (x : Box). x ∷ []) (sym (moov_is file moov o.moov b r.is r.fills (r.bytes told)))
@@ -128,7 +131,7 @@ its_movie honest file o moov b head ids r says are told = let k = r.outline told
 
 -- its head is at fault
 pub open_not_sound : (honest : Bool) (file : List ℕ) (o : Outline) (moov : List ℕ) (b : Box) (reads : ℕ) (r : Refusal) → IsRead honest file o moov b → RefusesIn (place_of (ruled Movie) b) r → RefusesOpen honest file reads reads r
-open_not_sound honest file o moov b reads (refusals.Fault f) i w = λ told. let k = i.outline told in inl (head_stands file k.0 b f k.1 (its_moov honest file o moov b i told) w)
+open_not_sound honest file o moov b reads (refusals.Fault f) i w = λ told. let k = i.outline told in head_stands file k.0 b f k.1 (its_moov honest file o moov b i told) w
 open_not_sound honest file o moov b reads refusals.Memory i w = tt
 open_not_sound honest file o moov b reads refusals.StoreFailed i w = absurd w
 open_not_sound honest file o moov b reads refusals.StoreChanged i w = absurd w
@@ -167,17 +170,18 @@ pub open_not_fit : (honest : Bool) (file : List ℕ) (o : Outline) (moov : List 
 open_not_fit honest file o moov b head file_length reads (refusals.Fault f) i says e w = λ told.
     let k = i.outline told in
     let there = moov_there file k.0 b says.has.tree k.1 (its_moov honest file o moov b i told) says.has.is_moov in
-    inl (tables_stand file there.before says.has.tree f there.stands there.kind says.has.is_tree (subst (λ (n : ℕ). TablesFail n says.has.tree.tracks f) e (w says.has.tree.tracks (tracks_read b head says))))
+    (tables_stand file there.before says.has.tree f there.stands there.kind says.has.is_tree (subst (λ (n : ℕ). TablesFail n says.has.tree.tracks f) e (w says.has.tree.tracks (tracks_read b head says))))
 open_not_fit honest file o moov b head file_length reads refusals.Memory i says e w = tt
 open_not_fit honest file o moov b head file_length reads refusals.StoreFailed i says e w = absurd w
 open_not_fit honest file o moov b head file_length reads refusals.StoreChanged i says e w = absurd w
 open_not_fit honest file o moov b head file_length reads refusals.WriteFailed i says e w = w
 open_not_fit honest file o moov b head file_length reads refusals.NoSuchTrack i says e w = w
 
-pub open_not_passed : (honest : Bool) (file ids : List ℕ) (reads reads_after : ℕ) (r : Refusal) → (IsTrue honest → HasMovie file ids) → RefusesFragments honest reads reads_after r → RefusesOpen honest file reads reads_after r
-open_not_passed honest file ids reads reads_after (refusals.Fault f) m w = λ told. inr (ids, m told)
-open_not_passed honest file ids reads reads_after refusals.Memory m w = tt
-open_not_passed honest file ids reads reads_after refusals.StoreFailed m w = w
-open_not_passed honest file ids reads reads_after refusals.StoreChanged m w = w
-open_not_passed honest file ids reads reads_after refusals.WriteFailed m w = w
-open_not_passed honest file ids reads reads_after refusals.NoSuchTrack m w = w
+pub open_not_passed : (honest : Bool) (file : List ℕ) (states : List TrackState) (counted : List Counted) (room reads reads_after : ℕ) (r : Refusal) → (IsTrue honest → (movie : MovieTree) × (boxes : List Box) × IsBegun file movie boxes states counted room)
+    → RefusesFragments honest file states counted room reads reads_after r → RefusesOpen honest file reads reads_after r
+open_not_passed honest file states counted room reads reads_after (refusals.Fault f) m w = λ told. let k = m told in w told k.0 k.1 k.2
+open_not_passed honest file states counted room reads reads_after refusals.Memory m w = tt
+open_not_passed honest file states counted room reads reads_after refusals.StoreFailed m w = w
+open_not_passed honest file states counted room reads reads_after refusals.StoreChanged m w = w
+open_not_passed honest file states counted room reads reads_after refusals.WriteFailed m w = w
+open_not_passed honest file states counted room reads reads_after refusals.NoSuchTrack m w = w

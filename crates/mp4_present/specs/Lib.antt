@@ -15,3 +15,4 @@ pub mod TrackTrees
 pub mod Measured
 pub mod Passing
 pub mod Coming
+pub mod PassedMoofs

@@ -1,5 +1,5 @@
 -- What an opened movie is of the file that it was opened from.
-use Rattle.std.specs.Prelude.{◌≡◌, ℕ, ◌+◌, ◌-◌, ◌^◌, min, List, length, map, codes}
+use Rattle.std.specs.Prelude.{◌≡◌, ℕ, ◌+◌, ◌-◌, ◌^◌, min, List, [], ◌∷◌, ⊤, length, map, codes}
 use Rattle.std.specs.List.{AllZip}
 use Rattle.mp4_boxes.specs.Bytes.{sum_of}
 use Rattle.mp4_boxes.specs.Children.{of_kind}
@@ -16,6 +16,11 @@ use Rattle.mp4_present.specs.Denotes.{FileTree, IsFileTree, IsSoundFile, IsConsi
 use Rattle.mp4_present.specs.Stands.{table_total}
 use Rattle.mp4_present.specs.Movies.{MovieSeen, moov_box, table_bytes}
 use Rattle.mp4_present.specs.Outline.{BeginAt, longest}
+use Rattle.mp4_frag.specs.declared.state.TrackState.{TrackState}
+use Rattle.mp4_head.specs.declared.heads.TrackHead.{TrackHead}
+use Rattle.mp4_present.specs.declared.opening.Found.{Found}
+use Rattle.mp4_present.specs.declared.outline.Outline.{Outline}
+use Rattle.mp4_present.specs.declared.tables_pass.Counted.{Counted}
 use Rattle.mp4_present.specs.declared.movie.TrackTables.{TrackTables}
 use Rattle.mp4_present.specs.declared.track_info.TrackInfo.{TrackInfo}
 
@@ -47,6 +52,22 @@ pub record IsInfoOf (file : List ℕ) (tree : FileTree) (t : TrackTree) (info : 
   pub bytes : info.bytes ≡ min (sum_of (λ (s : PlacedSample). s.size) (placed_of (file_parts tree) t)) (2 ^ 64 - 1)
   pub keys : keys_seen info.keys ≡ keys_behind (plain_keys t) (parts_of_track (file_parts tree) t)
 
+-- What was read of a track, and counted of its samples, in numbers.
+pub record IsInfoBy (h : TrackHead) (s : TrackState) (c : Counted) (info : TrackInfo) : Type 0 where
+  pub id : info.id ≡ h.id
+  pub timescale : info.timescale ≡ h.media.timescale
+  pub start : info.start ≡ s.start
+  pub samples : info.samples ≡ s.count
+  pub duration : info.duration ≡ min (s.time - s.start) (2 ^ 64 - 1)
+  pub bytes : info.bytes ≡ c.bytes
+  pub keys : info.keys ≡ s.keys
+
+-- the same of all tracks
+abbrev pub AreInfosBy : List TrackHead → List TrackState → List Counted → List TrackInfo → Type 0
+AreInfosBy [] [] [] [] = ⊤
+AreInfosBy (h ∷ heads) (s ∷ states) (c ∷ counted) (info ∷ infos) = IsInfoBy h s c info × AreInfosBy heads states counted infos
+AreInfosBy _ _ _ _ = ⊥
+
 -- The file denotes the presentation of its boxes, and this is what is kept of it.
 pub record IsOpenedAs (file : List ℕ) (m : MovieSeen) (t : FileTree) : Type 0 where
   pub is_tree : IsFileTree file t
@@ -63,3 +84,18 @@ pub record IsOpenedAs (file : List ℕ) (m : MovieSeen) (t : FileTree) : Type 0 
   pub room : m.room + table_total t.movie.tracks ≡ max_samples
   pub tracks : AllZip (IsInfoOf file t) t.movie.tracks m.tracks
   pub mehd : m.mehd ≡ movie_length (presentation_of file t)
+
+-- what is kept of a file of so many bytes, with this outline and this `moov`, of which this was found
+abbrev pub kept_of : Outline → List ℕ → ℕ → Found → MovieSeen
+kept_of o moov file_length f = record {
+  top = o.moov;
+  moov = moov;
+  file_len = file_length;
+  fragments = o.fragments;
+  longest = o.longest;
+  tables = f.plain.tables.items;
+  states = f.plain.states.items;
+  room = f.plain.room;
+  tracks = f.tracks.items;
+  mehd = f.mehd;
+}

@@ -1,12 +1,11 @@
 -- What is known of a file while it is opened, and why it is not opened.
-use Rattle.std.specs.Prelude.{◌≡◌, ◌⊎◌, ℕ, List, [], ◌∷◌, length, map, Bool, true, IsTrue, codes}
+use Rattle.std.specs.Prelude.{◌≡◌, ℕ, List, [], ◌∷◌, length, map, Bool, true, IsTrue, codes}
 use Rattle.mp4_store.specs.Device.{HasRisen}
 use Rattle.mp4_boxes.specs.Box.{Box, file_container}
 use Rattle.mp4_boxes.specs.Children.{Holds, of_kind}
 use Rattle.mp4_boxes.specs.declared.rule.Rule.TheVariants.{File}
 use Rattle.mp4_boxes.specs.declared.refusal.Refusal.{Refusal}
 use Rattle.mp4_boxes.specs.declared.refusal.Refusal.TheVariants as refusals
-use Rattle.mp4_boxes.specs.declared.fault.Fault.{Fault}
 use Rattle.mp4_head.specs.Tree.{TrackTree, MovieTree, IsMovieTree, IsSoundMovie, track_head_of}
 use Rattle.mp4_present.specs.Denotes.{begins_with_movie}
 use Rattle.mp4_present.specs.Stands.{Stands}
@@ -28,12 +27,6 @@ pub record IsOpened (file : List ℕ) (m : MovieSeen) : Type 0 where
   pub fragments : BeginAt m.fragments boxes
   pub longest_is : m.longest ≡ longest (of_kind (codes "moof") boxes)
 
--- Why bytes in memory are refused: they are at fault, or there is no memory.
-abbrev pub RefusesBytes : Refusal → Type 0
-RefusesBytes (refusals.Fault f) = Unit {0}
-RefusesBytes refusals.Memory = Unit {0}
-RefusesBytes _ = ⊥
-
 -- The file's own boxes are those of the table, its `moov` is sound apart from sample tables, and its tracks have these IDs, in order.
 pub record HasMovie (file : List ℕ) (ids : List ℕ) : Type 0 where
   pub boxes : List Box
@@ -45,22 +38,16 @@ pub record HasMovie (file : List ℕ) (ids : List ℕ) : Type 0 where
   pub is_sound : IsSoundMovie tree
   pub ids_are : ids ≡ map (λ (t : TrackTree). (track_head_of t).id) tree.tracks
 
--- The fault stands in the file, or all is sound down to sample tables, and the fault is in these, in fragments, or of a limit.
-abbrev pub IsFaultOfFile : List ℕ → Fault → Type 0
-IsFaultOfFile file f = Stands file f ⊎ ((ids : List ℕ) × HasMovie file ids)
-
 -- Why a file is not opened. The numbers are counts of failed reads, before and after.
 abbrev pub RefusesOpen : Bool → List ℕ → ℕ → ℕ → Refusal → Type 0
-RefusesOpen honest file reads reads_after (refusals.Fault f) = IsTrue honest → IsFaultOfFile file f
+RefusesOpen honest file reads reads_after (refusals.Fault f) = IsTrue honest → Stands file f
 RefusesOpen honest file reads reads_after refusals.Memory = Unit {0}
 RefusesOpen honest file reads reads_after refusals.StoreFailed = HasRisen reads reads_after
 RefusesOpen honest file reads reads_after refusals.StoreChanged = IsTrue honest → ⊥
 RefusesOpen honest file reads reads_after _ = ⊥
 
--- Why the `moof`s of a file are not passed.
-abbrev pub RefusesFragments : Bool → ℕ → ℕ → Refusal → Type 0
-RefusesFragments honest reads reads_after (refusals.Fault f) = Unit {0}
-RefusesFragments honest reads reads_after refusals.Memory = Unit {0}
-RefusesFragments honest reads reads_after refusals.StoreFailed = HasRisen reads reads_after
-RefusesFragments honest reads reads_after refusals.StoreChanged = IsTrue honest → ⊥
-RefusesFragments honest reads reads_after _ = ⊥
+-- Why a file that denotes a presentation is not opened: there is no memory, or a read failed.
+abbrev pub RefusesDenoted : ℕ → ℕ → Refusal → Type 0
+RefusesDenoted reads reads_after refusals.Memory = Unit {0}
+RefusesDenoted reads reads_after refusals.StoreFailed = HasRisen reads reads_after
+RefusesDenoted reads reads_after _ = ⊥

@@ -1,7 +1,17 @@
 //! The `moof`s of a file, each read, checked and given up before the next.
-ghost use Rattle.std.specs.Prelude.{◌≡◌, ◌^◌, ◌≤◌, length, IfOk, IfErr, OnOk};
+ghost use Rattle.std.specs.Prelude.{ℕ, ◌≡◌, ◌^◌, ◌-◌, ◌<◌, ◌≤◌, ◌++◌, min, List, length, IfOk, IfErr, OnOk, IsTrue};
+ghost use Rattle.mp4_boxes.specs.Bytes.{sum_of};
+ghost use Rattle.mp4_tables.specs.PlainSamples.{PlacedSample};
+ghost use Rattle.mp4_frag.specs.Fragments.{FragmentTree, fragment_of};
+ghost use Rattle.mp4_frag.specs.FragmentSamples.{Part, parts_of, duration_of};
+ghost use Rattle.mp4_frag.specs.Judged.{AreTrexesOf, IsSoundMoof, samples_of_track};
+ghost use Rattle.mp4_frag.specs.Views.{moof_seen};
+ghost use Rattle.mp4_frag.specs.declared.trex.Trex.{Trex};
+ghost use Rattle.mp4_head.specs.Tree.{MovieTree, trexes_of};
+ghost use Rattle.mp4_boxes.specs.Box.{Box};
+ghost use Rattle.mp4_present.specs.PassedMoofs.{AreCounted, CountsOne, IsBegun, IsCheckedMoof, IsPassed, RefusesFragments};
 ghost use Rattle.mp4_frag.specs.States.{HaveRoom};
-ghost use Rattle.mp4_present.specs.Opening.{HasOutline, RefusesFragments};
+ghost use Rattle.mp4_present.specs.Opening.{HasOutline};
 
 use crate::fragments::next_fragment;
 use crate::outline::Outline;
@@ -23,16 +33,34 @@ pub(crate) struct AllTracks {
 }
 
 // The bytes of the samples that the track with this ID has in a `moof`.
-fn bytes_in<L: Ledger>(
-    view: &FragView,
-    states: &[TrackState],
-    id: u32,
-    steps: &mut Steps<L>,
-) -> u64 {
+fn bytes_in<L: Ledger>(view: &FragView, states: &[TrackState], id: u32, steps: &mut Steps<L>) -> u64
+    ensures { (file_length : ℕ) (trexes : List Trex) (t : FragmentTree) → t.moof ≡ moof_seen view.now → IsSoundMoof file_length trexes states.now t → AreTrexesOf trexes states.now → duration_of (samples_of_track trexes id t) < 2 ^ 64
+        → result ≡ min (sum_of (λ (s : PlacedSample). s.size) (samples_of_track trexes id t)) (2 ^ 64 - 1) }
+{
     let mut cursor = FragCursor::start(view, states, id, 0, Keys::new());
     let totals = add_up(&mut cursor);
     steps.add(cursor.place().passed());
     totals.bytes
+}
+
+// The samples of a track that is in this state behind a `moof` that was checked.
+fn counted_with<L: Ledger>(
+    view: &FragView,
+    states: &[TrackState],
+    state: TrackState,
+    counted: Counted,
+    steps: &mut Steps<L>,
+) -> Counted
+    ensures { (file_length : ℕ) → CountsOne file_length states.now (moof_seen view.now) state counted result }
+{
+    if state.count == counted.samples {
+        return counted;
+    }
+    let bytes = bytes_in(view, states, state.id, steps);
+    Counted {
+        samples: state.count,
+        bytes: counted.bytes.saturating_add(bytes),
+    }
 }
 
 // Counts the samples of a `moof` that was checked.
@@ -41,15 +69,14 @@ fn count_samples<L: Ledger>(
     states: &[TrackState],
     counted: &mut [Counted],
     steps: &mut Steps<L>,
-) {
-    for (state, counted) in states.iter().zip(counted.iter_mut()) {
-        if state.count != counted.samples {
-            let bytes = bytes_in(view, states, state.id, steps);
-            *counted = Counted {
-                samples: state.count,
-                bytes: counted.bytes.saturating_add(bytes),
-            };
-        }
+)
+    requires { length counted.old ≡ length states.now }
+    ensures { (file_length : ℕ) (movie : MovieTree) (parts : List Part) (t : FragmentTree) → IsCheckedMoof file_length movie parts t (moof_seen view.now) states.now → AreCounted movie.tracks parts counted.old
+        → AreCounted movie.tracks (parts ++ parts_of (trexes_of movie) (fragment_of t)) counted.new }
+{
+    for k in 0..counted.len() {
+        let old = counted[k];
+        counted[k] = counted_with(view, states, states[k], old, steps);
     }
 }
 
@@ -67,10 +94,12 @@ fn pass_fragments<S: Store, L: Ledger>(
     requires room { HaveRoom room states.old }
     requires outline { HasOutline (S.is_honest store.old) (S.file store.old) outline.now }
     requires longest { length bytes.old ≡ outline.now.longest }
+    requires counted { length counted.old ≡ length states.old }
     ensures honesty { S.is_honest store.new ≡ S.is_honest store.old }
     ensures file { S.file store.new ≡ S.file store.old }
+    ensures passed { OnOk result (IsTrue (S.is_honest store.old) → (movie : MovieTree) (boxes : List Box) → IsBegun (S.file store.old) movie boxes states.old counted.old room → IsPassed (S.file store.old) movie boxes states.new counted.new) }
     ensures reads { OnOk result (S.read_failures store.new ≡ S.read_failures store.old) }
-    ensures refusal { IfErr result (RefusesFragments (S.is_honest store.old) (S.read_failures store.old) (S.read_failures store.new)) }
+    ensures refusal { IfErr result (RefusesFragments (S.is_honest store.old) (S.file store.old) states.old counted.old room (S.read_failures store.old) (S.read_failures store.new)) }
 {
     let file_len = store.len();
     let mut room = room;
@@ -96,12 +125,15 @@ pub(crate) fn check_fragments<S: Store, L: Ledger>(
     requires few { plain.now.room ≤ 2 ^ 24 }
     requires room { HaveRoom plain.now.room plain.now.states.items }
     requires outline { HasOutline (S.is_honest store.old) (S.file store.old) outline.now }
+    requires counted { length plain.now.counted.items ≡ length plain.now.states.items }
     ensures states { IfOk result (λ all. length all.states.items ≡ length plain.now.states.items) }
     ensures counted { IfOk result (λ all. length all.counted.items ≡ length plain.now.counted.items) }
     ensures honesty { S.is_honest store.new ≡ S.is_honest store.old }
     ensures file { S.file store.new ≡ S.file store.old }
+    ensures passed { IfOk result (λ all. IsTrue (S.is_honest store.old) → (movie : MovieTree) (boxes : List Box) → IsBegun (S.file store.old) movie boxes plain.now.states.items plain.now.counted.items plain.now.room
+        → IsPassed (S.file store.old) movie boxes all.states.items all.counted.items) }
     ensures reads { OnOk result (S.read_failures store.new ≡ S.read_failures store.old) }
-    ensures refusal { IfErr result (RefusesFragments (S.is_honest store.old) (S.read_failures store.old) (S.read_failures store.new)) }
+    ensures refusal { IfErr result (RefusesFragments (S.is_honest store.old) (S.file store.old) plain.now.states.items plain.now.counted.items plain.now.room (S.read_failures store.old) (S.read_failures store.new)) }
 {
     let mut states = Vec::new(alloc);
     states.extend_from_slice(plain.states.as_slice())?;

@@ -6,7 +6,10 @@ ghost use Rattle.mp4_present.specs.Plain.{ArePlain};
 ghost use Rattle.mp4_head.specs.declared.heads.TrackHead.{TrackHead};
 ghost use Rattle.mp4_store.specs.Device.{range};
 ghost use Rattle.mp4_present.specs.declared.track_info.TrackInfo.{TrackInfo};
-ghost use Rattle.mp4_present.specs.Opening.{HasOutline, HasMovie, IsOpened, RefusesOpen};
+ghost use Rattle.mp4_present.specs.Presentation.{Presentation};
+ghost use Rattle.mp4_present.specs.Denotes.{Denotes, FileTree};
+ghost use Rattle.mp4_present.specs.OpenedMovie.{AreInfosBy, IsInfoBy, IsOpenedAs, kept_of};
+ghost use Rattle.mp4_present.specs.Opening.{HasOutline, HasMovie, IsOpened, RefusesDenoted, RefusesOpen};
 
 use crate::fragment_pass::{AllTracks, check_fragments};
 use crate::limit_checks::{check_limits, duration_of};
@@ -32,7 +35,7 @@ struct Found {
 
 // A track in numbers.
 fn info_of(track: &TrackHead, state: TrackState, counted: Counted) -> TrackInfo
-    ensures { result.id ≡ track.now.id }
+    ensures { IsInfoBy track.now state counted result }
 {
     TrackInfo {
         id: track.id,
@@ -51,12 +54,15 @@ fn infos_of(alloc: Global, head: &MovieHead, all: &AllTracks) -> Result<Vec<Trac
     requires counted { length all.now.counted.items ≡ length head.now.tracks.items }
     ensures each { IfOk result (λ tracks. length tracks.items ≡ length head.now.tracks.items) }
     ensures ids { IfOk result (λ tracks. map (λ (t : TrackInfo). t.id) tracks.items ≡ map (λ (t : TrackHead). t.id) head.now.tracks.items) }
+    ensures infos { IfOk result (λ tracks. AreInfosBy head.now.tracks.items all.now.states.items all.now.counted.items tracks.items) }
     ensures refusal { IfErr result (λ r. r ≡ refusals.Memory) }
 {
     let mut tracks = Vec::new(alloc);
     for k in 0..head.tracks.len() {
         let track = &head.tracks[k];
-        tracks.push(info_of(track, all.states[k], all.counted[k]))?;
+        let state = all.states[k];
+        let counted = all.counted[k];
+        tracks.push(info_of(track, state, counted))?;
     }
     Ok(tracks)
 }
@@ -75,6 +81,7 @@ fn find<S: Store, L: Ledger>(
     ensures honesty { S.is_honest store.new ≡ S.is_honest store.old }
     ensures file { S.file store.new ≡ S.file store.old }
     ensures plain { IfOk result (λ f. ArePlain moov.now (length f.tracks.items) f.plain) }
+    ensures movie { IfOk result (λ f. IsTrue (S.is_honest store.old) → (t : FileTree) × IsOpenedAs (S.file store.old) (kept_of outline.now moov.now (length (S.file store.old)) f) t) }
     ensures ids { IfOk result (λ f. IsTrue (S.is_honest store.old) → HasMovie (S.file store.old) (map (λ (t : TrackInfo). t.id) f.tracks.items)) }
     ensures reads { OnOk result (S.read_failures store.new ≡ S.read_failures store.old) }
     ensures refusal { IfErr result (RefusesOpen (S.is_honest store.old) (S.file store.old) (S.read_failures store.old) (S.read_failures store.new)) }
@@ -102,7 +109,9 @@ pub fn open_movie<S: Store, L: Ledger>(
     ensures honesty { S.is_honest store.new ≡ S.is_honest store.old }
     ensures file { S.file store.new ≡ S.file store.old }
     ensures opened { IfOk result (λ m. IsTrue (S.is_honest store.old) → IsOpened (S.file store.old) m) }
+    ensures movie { IfOk result (λ m. IsTrue (S.is_honest store.old) → (t : FileTree) × IsOpenedAs (S.file store.old) m t) }
     ensures ids { IfOk result (λ m. IsTrue (S.is_honest store.old) → HasMovie (S.file store.old) (map (λ (t : TrackInfo). t.id) m.tracks)) }
+    ensures only { (p : Presentation) → IsTrue (S.is_honest store.old) → Denotes (S.file store.old) p → IfErr result (RefusesDenoted (S.read_failures store.old) (S.read_failures store.new)) }
     ensures reads { OnOk result (S.read_failures store.new ≡ S.read_failures store.old) }
     ensures refusal { IfErr result (RefusesOpen (S.is_honest store.old) (S.file store.old) (S.read_failures store.old) (S.read_failures store.new)) }
 {

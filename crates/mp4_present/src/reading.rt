@@ -1,6 +1,7 @@
 //! Reads of a file behind a store: one top-level header, or a stretch of bytes.
 ghost use Rattle.std.specs.Prelude.{◌≡◌, ◌+◌, ◌<◌, ◌≤◌, length, take, IfOk, IfErr, OnOk, IsTrue};
 ghost use Rattle.mp4_boxes.specs.View.{box_seen};
+ghost use Rattle.mp4_boxes.specs.Bytes.{AreBytes};
 ghost use Rattle.mp4_store.specs.Device.{range};
 ghost use Rattle.mp4_present.specs.Movies.{IsWhole, Fills};
 ghost use Rattle.mp4_present.specs.Reading.{IsTopHeader, RefusesHeader, RefusesRead, RefusesFront, RefusesPayload};
@@ -119,6 +120,7 @@ pub(crate) fn read_payload<S: Store>(
     ensures honesty { S.is_honest store.new ≡ S.is_honest store.old }
     ensures file { S.file store.new ≡ S.file store.old }
     ensures fills { IfOk result (λ len. Fills len top × (len ≤ length room.new)) }
+    ensures room { AreBytes room.new }
     ensures bytes { IfOk result (λ len. IsTrue (S.is_honest store.old) → take len room.new ≡ range (S.file store.old) (top.offset + top.header.header) len) }
     ensures reads { OnOk result (S.read_failures store.new ≡ S.read_failures store.old) }
     ensures refusal { IfErr result (RefusesPayload (length room.old) top (S.read_failures store.old) (S.read_failures store.new)) }

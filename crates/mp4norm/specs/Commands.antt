@@ -7,7 +7,8 @@ use Rattle.mp4_boxes.specs.declared.refusal.Refusal.{Refusal}
 use Rattle.mp4_boxes.specs.declared.refusal.Refusal.TheVariants as refusals
 use Rattle.mp4_head.specs.Tree.{movie_head_of, track_head_of}
 use Rattle.mp4_present.specs.declared.track_info.TrackInfo.{TrackInfo}
-use Rattle.mp4_present.specs.Opening.{HasMovie, IsFaultOfFile}
+use Rattle.mp4_present.specs.Opening.{HasMovie}
+use Rattle.mp4_present.specs.Stands.{Stands}
 use Rattle.mp4norm.specs.Texts.{line_feed}
 use Rattle.mp4norm.specs.ShowValue.{ShowValue}
 
@@ -26,7 +27,7 @@ ShowsLine file line =
 
 -- Why a movie is not shown: its line is made whole before it is put.
 abbrev pub RefusesShow : Bool → List ℕ → Option (List ℕ) → Option (List ℕ) → ℕ → ℕ → ℕ → ℕ → Refusal → Type 0
-RefusesShow honest file before after reads reads_after puts puts_after (refusals.Fault f) = (IsTrue honest → IsFaultOfFile file f) × (after ≡ before)
+RefusesShow honest file before after reads reads_after puts puts_after (refusals.Fault f) = (IsTrue honest → Stands file f) × (after ≡ before)
 RefusesShow honest file before after reads reads_after puts puts_after refusals.Memory = after ≡ before
 RefusesShow honest file before after reads reads_after puts puts_after refusals.StoreFailed = HasRisen reads reads_after × (after ≡ before)
 RefusesShow honest file before after reads reads_after puts puts_after refusals.StoreChanged = (IsTrue honest → ⊥) × (after ≡ before)
@@ -35,7 +36,7 @@ RefusesShow honest file before after reads reads_after puts puts_after refusals.
 
 -- Why the samples of the track with this ID are not listed, or not written: the file is judged, and all memory is taken, before the first byte is put.
 abbrev pub RefusesTrack : Bool → List ℕ → ℕ → Option (List ℕ) → Option (List ℕ) → ℕ → ℕ → ℕ → ℕ → Refusal → Type 0
-RefusesTrack honest file id before after reads reads_after puts puts_after (refusals.Fault f) = (IsTrue honest → IsFaultOfFile file f) × (after ≡ before)
+RefusesTrack honest file id before after reads reads_after puts puts_after (refusals.Fault f) = (IsTrue honest → Stands file f) × (after ≡ before)
 RefusesTrack honest file id before after reads reads_after puts puts_after refusals.Memory = after ≡ before
 RefusesTrack honest file id before after reads reads_after puts puts_after refusals.StoreFailed = HasRisen reads reads_after
 RefusesTrack honest file id before after reads reads_after puts puts_after refusals.StoreChanged = Unit {0}

@@ -2,6 +2,7 @@ use Rattle.std.proofs.Common.{◌≤◌, length, take, ◌∙◌, sym, arith}
 use Rattle.std.proofs.lemmas.List.{length-map, length-take}
 use Rattle.mp4_boxes.specs.View.{box_seen}
 use Rattle.mp4_tables.specs.Keys.{key_seen, keys_seen}
+use Rattle.mp4_frag.proofs.Costs.{groups_cost_none, groups_cost_more}
 use Rattle.mp4_frag.proofs.GroupsPassed.{groups_none, groups_more, groups_sound, groups_keys}
 use Rattle.mp4_frag.proofs.RunsPassed.{all_children}
 use Rattle.mp4_frag.proofs.check.check_groups.Goals as goal
@@ -10,7 +11,7 @@ pub loop-child-init : goal.loop-child-init
 loop-child-init g c =
     let keys = c.args.keys in
     let few : length (keys_seen keys) ≤ 4 = omega (arith, length-map (take keys.count keys.named) key_seen, length-take keys.count keys.named, keys.few) in
-    (tt, tt, groups_none c.args.n (keys_seen keys) c.into_iter-child-iterator.result c.none-named.result few c.none-named.ensures)
+    (tt, tt, groups_none c.args.n (keys_seen keys) c.into_iter-child-iterator.result c.none-named.result few c.none-named.ensures, groups_cost_none _ _)
 
 pub loop-child-preserved-in_default : goal.loop-child-preserved-in_default
 loop-child-preserved-in_default g c = (
@@ -18,6 +19,7 @@ loop-child-preserved-in_default g c = (
   tt,
   groups_more c.args.n (keys_seen c.args.keys) _ _ _ (box_seen c.in-Some.child) _ _ _ _ c.loop-child.invariant.2 c.in-Some.ensures.steps (rw c.kind-in-loop-child.ensures at (sym c.if-eq.ensures))
       (rw c.payload-then-eq.ensures at c.in_default.ensures.sound) (rw c.payload-then-eq.ensures at c.in_default.ensures.named),
+  groups_cost_more _ _ _ (box_seen c.in-Some.child) _ _ _ _ c.loop-child.invariant.3 c.in-Some.ensures.steps c.payload-then-eq.ensures c.in_default.ensures.cost,
 )
 
 pub returns-clause-sound : goal.returns-clause-sound

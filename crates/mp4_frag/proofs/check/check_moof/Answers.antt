@@ -6,6 +6,8 @@ use Rattle.mp4_boxes.specs.Children.{Holds}
 use Rattle.mp4_boxes.specs.View.{box_seen}
 use Rattle.mp4_boxes.specs.declared.rule.Rule.TheVariants as rules
 use Rattle.mp4_frag.proofs.HeadsFound.{holds_children}
+use Rattle.mp4_frag.proofs.MoofExcludes.{moof_excluded}
+use Rattle.mp4_frag.proofs.Costs.{moof_cost_traf, moof_cost_ended, moof_cost_fault}
 use Rattle.mp4_frag.proofs.MoofPassed.{moof_traf, moof_ended, moof_sound, moves_traf, moves_fault, moves_ended}
 use Rattle.mp4_frag.proofs.check.check_moof.Goals as goal
 
@@ -25,6 +27,7 @@ loop-child-preserved-then-eq g c =
       r.room,
       rw kept (moof_traf c.args.file_len _ _ _ _ _ (box_seen c.in-Some.child) _ c.in_ok-before.before _ _ i.4 c.in-Some.ensures.steps is_traf r.holds sound r.bound r.same),
       rw kept (moves_traf c.args.file_len _ _ _ _ _ _ (box_seen c.in-Some.child) _ c.in_ok-before.before _ _ _ _ i.5 c.in-Some.ensures.steps is_traf r.holds sound (rw c.offset-then-eq.ensures at r.moved)),
+      moof_cost_traf _ _ _ (box_seen c.in-Some.child) _ _ _ _ _ _ i.6 c.in-Some.ensures.steps (rw c.tick.ensures.one_more at r.cost),
     )
 
 pub returns-clause-sound : goal.returns-clause-sound
@@ -52,3 +55,27 @@ returns-in_err-before-clause-fault g c =
       moves_fault c.args.file_len _ _ _ _ _ _ _ (box_seen c.in-Some.child) _ _ _ c.in_err-before.field-0.0 c.loop-child.invariant.5 c.in-Some.ensures.steps (rw c.kind.ensures at (sym c.if-eq.ensures))
           (c.into_iter-child-iterator.ensures.into_iter_gives ∙ all) (rw c.offset-then-eq.ensures at c.in_err-before.ensures.fault),
     ))
+
+pub returns-in_err-before-clause-only : goal.returns-in_err-before-clause-only
+returns-in_err-before-clause-only g c =
+    let p = err_from_is_err_and c.from_residual-in_err-before.result c.from_residual-in_err-before.ensures.1 in
+    let all = holds_children rules.MovieFragment (box_seen c.args.moof) _ c.in_ok-child-items.ensures.holds in
+    let held = subst (λ (boxes : List Box). Holds rules.MovieFragment (box_container (box_seen c.args.moof)) boxes) all c.in_ok-child-items.ensures.holds in
+    rw p.1 (moof_excluded c.args.file_len c.args.tracks.now c.args.room.now (box_seen c.args.moof) c.in_err-before.field-0.0 (inr (
+      held,
+      moves_fault c.args.file_len _ _ _ _ _ _ _ (box_seen c.in-Some.child) _ _ _ c.in_err-before.field-0.0 c.loop-child.invariant.5 c.in-Some.ensures.steps (rw c.kind.ensures at (sym c.if-eq.ensures))
+          (c.into_iter-child-iterator.ensures.into_iter_gives ∙ all) (rw c.offset-then-eq.ensures at c.in_err-before.ensures.fault),
+    )))
+
+pub returns-clause-cost : goal.returns-clause-cost
+returns-clause-cost g c = moof_cost_ended _ _ _ rules.MovieFragment (box_seen c.args.moof) _ _ _ _ c.loop-child.invariant.6 c.into_iter-child-iterator.ensures.into_iter_gives c.in_ok-child-items.ensures.holds
+
+pub returns-clause-work : goal.returns-clause-work
+returns-clause-work g c =
+    let most = moof_cost_ended _ _ _ rules.MovieFragment (box_seen c.args.moof) _ _ _ _ c.loop-child.invariant.6 c.into_iter-child-iterator.ensures.into_iter_gives c.in_ok-child-items.ensures.holds in
+    omega (arith, most)
+
+pub returns-in_err-before-clause-work : goal.returns-in_err-before-clause-work
+returns-in_err-before-clause-work g c =
+    moof_cost_fault _ _ _ _ (box_seen c.in-Some.child) rules.MovieFragment (box_seen c.args.moof) _ _ _ _ _ c.loop-child.invariant.6 c.in-Some.ensures.steps c.into_iter-child-iterator.ensures.into_iter_gives c.in_ok-child-items.ensures.holds
+    (rw c.tick.ensures.one_more at c.in_err-before.ensures.work)

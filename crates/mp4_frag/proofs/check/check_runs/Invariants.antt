@@ -1,5 +1,6 @@
 use Rattle.std.proofs.Common.{◌≡◌, ℕ, ◌+◌, ◌*◌, ◌^◌, ◌≤◌}
 use Rattle.mp4_frag.specs.Passing.{IsNear, IsUpTo}
+use Rattle.mp4_frag.proofs.Costs.{RunsCost}
 use Rattle.mp4_frag.proofs.RunsPassed.{RunsSeen}
 use Rattle.mp4_frag.proofs.check.check_runs.Given as goal
 
@@ -13,3 +14,4 @@ invariant-loop-child g l =
     × (l.passed.duration ≤ 2 ^ 32 * l.passed.count)
     × ((n : ℕ) → 2 ^ 64 ≤ n → IsUpTo n l.judged.base → IsUpTo (n + 2 ^ 31) l.passed.at)
     × RunsSeen l.judged.file_len l.judged.inherited l.judged.base l.initial.child-iterator l.child-iterator l.fn.room l.room l.passed.at l.passed.count l.passed.duration
+    × RunsCost l.initial.child-iterator l.child-iterator l.fn.steps l.steps l.passed.count

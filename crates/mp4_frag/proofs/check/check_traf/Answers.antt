@@ -107,7 +107,7 @@ returns-clause-moved g c =
       | in-None w ↦ no_time boxes (sym c.in_ok-heads.ensures.time ∙ ap (λ (o : Option BoxView). only_list (option_map box_seen o)) w.in-None.is) ∙ sym w.time-is
     ] in
     traf_moved c.args.moof c.in_ok-passed.passed.count c.in_ok-passed.passed.duration c.in-Some-find_track.k c.args.room.now c.check_runs.new.room c.args.before c.args.tracks.now _ c.index-tracks-k.result c.moved_on.result boxes (box_seen c.in-Some.tfhd) c.in-Ok.head c.in-Some-trex.trex c.what_is_inherited.result c.in_ok-keys.keys c.match-heads-2.time
-    head (rw c.payload.ensures at c.in-Ok.ensures.head) c.in-Some-find_track.ensures.inside c.in-Some-find_track.ensures.found c.index-tracks-k.is c.in-Some-trex.is c.what_is_inherited.ensures c.in_ok-passed.ensures.count c.in_ok-passed.ensures.lasting
+    head (rw c.payload.ensures at c.in-Ok.ensures.head) c.in-Some-find_track.ensures.inside c.in-Some-find_track.ensures.found c.in-Some-find_track.ensures.first c.index-tracks-k.is c.in-Some-trex.is c.what_is_inherited.ensures c.in_ok-passed.ensures.count c.in_ok-passed.ensures.lasting
     c.in_ok-keys.ensures.sound c.in_ok-keys.ensures.keys (sym c.if-lacks_description.ensures) late time m.none m.some c.in_ok-passed.ensures.few
 
 pub returns-in_default-clause-fault : goal.returns-in_default-clause-fault

@@ -1,8 +1,9 @@
-use Rattle.std.proofs.Common.{◌≡◌, ◌+◌, to_z, of_z, refl, rules}
+use Rattle.std.proofs.Common.{◌≡◌, ◌+◌, ◌≤◌, to_z, of_z, refl, rules}
 use Rattle.std.specs.Int.{w128}
 use Rattle.mp4_frag.specs.Walks.{reached, part_of}
 use Rattle.mp4_frag.proofs.LeavesRead.{run_skipped, run_room, rows_taken, run_own, run_other}
 use Rattle.mp4_frag.proofs.RowsLeft.{no_rows}
+use Rattle.mp4_frag.proofs.WalkWork.{run_cost, own_work}
 use Rattle.mp4_frag.proofs.walk.open_run.Goals as goal
 
 pub returns-in_default-clause-coming : goal.returns-in_default-clause-coming
@@ -20,6 +21,7 @@ returns-then-place-clause-place c =
       traf = p.traf;
       rows = run_room c.args.payload.now c.args.lying.inside c.args.lying.end c.in-Ok.run' c.requires.inside c.requires.within c.in-Ok.ensures.run;
       indexes = p.indexes;
+      work = own_work _ c.args.place.passed _ c.in-Ok.run'.count _ _ (run_cost (part_of c.args.payload.now c.args.lying.inside c.args.lying.end) c.in-Ok.run' c.in-Ok.ensures.run) (let more : c.saturating_add-passed.result ≤ c.args.place.passed + 1 = search rules in more) c.requires.work;
     }
 
 pub returns-then-place-clause-coming : goal.returns-then-place-clause-coming
@@ -41,6 +43,7 @@ returns-clause-place c =
       traf = p.traf;
       rows = search rules;
       indexes = p.indexes;
+      work = search rules;
     }
 
 pub returns-clause-coming : goal.returns-clause-coming

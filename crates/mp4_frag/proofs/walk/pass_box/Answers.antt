@@ -3,6 +3,7 @@ use Rattle.std.specs.Int.{w128}
 use Rattle.mp4_frag.specs.Walks.{walk_of, reached, boxes_coming}
 use Rattle.mp4_frag.specs.declared.places.RowPlace.{RowPlace}
 use Rattle.mp4_frag.proofs.Comings.{rows_done, traf_ends, other_leaf, run_opened, moof_ends, other_box, traf_box}
+use Rattle.mp4_frag.proofs.WalkWork.{work_traf_ends, work_leaf, work_run, work_moof_ends, work_box, work_traf}
 use Rattle.mp4_frag.proofs.walk.pass_box.Goals as goal
 
 pub returns-in_default-clause-coming : goal.returns-in_default-clause-coming
@@ -69,3 +70,55 @@ returns-clause-coming c =
     rw (at, base) (rows_done payload w (record p { next = child.end; traf_end = child.end }) c.requires.none
     ∙ other_box payload w (reached payload p) p.next p.traf_end child.inside child.end child.kind.0 same c.in-Some-box_at.ensures.some (sym c.if-eq-2.ensures)
     ∙ sym (rows_done payload w p c.requires.none))
+
+pub returns-in_default-clause-place : goal.returns-in_default-clause-place
+returns-in_default-clause-place c =
+    let p = c.requires.place in
+    let work = p.work in
+    record { next = search rules; traf = p.traf; rows = p.rows; indexes = p.indexes; work = omega (arith, work, work_traf_ends c.args.payload.now c.args.place.next c.args.place.traf_end) }
+
+pub open_run-requires-clause-work : goal.open_run-requires-clause-work
+open_run-requires-clause-work c =
+    work_run c.args.payload.now c.args.place.passed c.args.place.run.left c.args.place.next c.args.place.traf_end c.in-Some.child.inside c.in-Some.child.end c.in-Some.child.kind.0 c.in-Some.ensures.some (sym c.if-eq.ensures) c.requires.place.work
+
+pub returns-then-place-clause-place : goal.returns-then-place-clause-place
+returns-then-place-clause-place c =
+    let p = c.requires.place in
+    let work = p.work in
+    let child = c.in-Some.child in
+    record {
+      next = c.in-Some.ensures.order.2;
+      traf = p.traf;
+      rows = p.rows;
+      indexes = p.indexes;
+      work = omega (arith, work, work_leaf c.args.payload.now c.args.place.next c.args.place.traf_end child.inside child.end child.kind.0 c.in-Some.ensures.some);
+    }
+
+pub returns-in_default-box_at-clause-place : goal.returns-in_default-box_at-clause-place
+returns-in_default-box_at-clause-place c =
+    let p = c.requires.place in
+    let work = p.work in
+    record { next = search rules; traf = search rules; rows = p.rows; indexes = p.indexes; work = omega (arith, work, work_moof_ends c.args.payload.now c.args.place.next c.args.place.traf_end) }
+
+pub open_traf-requires-clause-work : goal.open_traf-requires-clause-work
+open_traf-requires-clause-work c =
+    let p = c.requires.place in
+    let le = p.next in
+    let same : c.args.place.next ≡ c.args.place.traf_end = omega (arith, c.if-place.false) in
+    let child = c.in-Some-box_at.child in
+    work_traf c.args.payload.now c.args.place.passed c.args.place.run.left c.args.place.next c.args.place.traf_end child.inside child.end child.kind.0 same c.in-Some-box_at.ensures.order.0 c.in-Some-box_at.ensures.some (sym c.if-eq-2.ensures) p.work
+
+pub returns-clause-place : goal.returns-clause-place
+returns-clause-place c =
+    let p = c.requires.place in
+    let work = p.work in
+    let le = p.next in
+    let same : c.args.place.next ≡ c.args.place.traf_end = omega (arith, c.if-place.false) in
+    let child = c.in-Some-box_at.child in
+    record {
+      next = search rules;
+      traf = c.in-Some-box_at.ensures.order.2;
+      rows = p.rows;
+      indexes = p.indexes;
+      work = omega (arith, work, work_box c.args.payload.now c.args.place.next c.args.place.traf_end child.inside child.end child.kind.0 same c.in-Some-box_at.ensures.some);
+    }

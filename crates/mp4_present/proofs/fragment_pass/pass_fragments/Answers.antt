@@ -1,7 +1,10 @@
 use Rattle.std.proofs.Common.{◌≡◌, rules, length, refl, subst, ℕ}
 use Rattle.std.specs.Prelude.{unwrap_or}
 use Rattle.std.proofs.lemmas.Result.{err_from_is_err_and}
-use Rattle.mp4_present.proofs.FragmentPass.{Left, left_first, left_next, not_passed}
+use Rattle.mp4_present.proofs.FragmentPass.{Left, left_first, left_next}
+use Rattle.mp4_present.proofs.MoofsPassed.{IsUnderWay, IsRead, under_way_first, not_read, all_passed, next_passed, next_refused}
+use Rattle.mp4_boxes.specs.View.{box_seen}
+use Rattle.mp4_frag.specs.Views.{moof_seen}
 use Rattle.mp4_present.proofs.fragment_pass.pass_fragments.Goals as goal
 
 pub loop-top-init : goal.loop-top-init
@@ -18,6 +21,13 @@ loop-top-init g c = record {
       let outline = c.args.outline.now in
       let next : unwrap_or outline.fragments (length file) ≡ c.unwrap_or-next.result = search rules in
       subst (λ (k : ℕ). Left file k outline.longest) next (left_first file o.0 outline o.1 o.3);
+  each = search rules;
+  so = λ told movie boxes b.
+      let o = c.requires.outline told in
+      let file = g.S.Store.file c.args.store.now in
+      let outline = c.args.outline.now in
+      let next : unwrap_or outline.fragments (length file) ≡ c.unwrap_or-next.result = search rules in
+      subst (λ (k : ℕ). IsUnderWay file movie boxes k outline.longest c.args.states.now c.args.counted.now c.args.room) next (under_way_first file movie boxes o.0 outline c.args.states.now c.args.counted.now c.args.room o.1 o.3 b);
 }
 
 pub returns-in_err-len-clause-refusal : goal.returns-in_err-len-clause-refusal
@@ -27,7 +37,7 @@ returns-in_err-len-clause-refusal g c =
     let file = g.S.Store.file c.args.store.now in
     let next = rw (i.honesty, i.file, c.in-Some.is) at c.in_ok-top.ensures.next in
     let within = rw (i.file, c.in-Some.is) at c.in_ok-top.ensures.within in
-    rw (p.1, p.2) (not_passed (g.S.Store.is_honest c.args.store.now) file c.in-Some.top c.args.outline.now.longest _ _ _ _ (λ told. let l = i.left told in left_next file _ _ c.in-Some.top l within.0 (next told l.boxes l.are_from)) (search rules)
+    rw (p.1, p.2) (not_read (g.S.Store.is_honest c.args.store.now) file c.args.states.now c.args.counted.now c.args.room c.in-Some.top c.args.outline.now.longest _ _ _ _ (λ told. let l = i.left told in left_next file _ _ c.in-Some.top l within.0 (next told l.boxes l.are_from)) (search rules)
     (rw (c.in_ok-top.ensures.reads, i.reads) at c.in_err-len.ensures.refusal))
 
 pub loop-top-preserved : goal.loop-top-preserved
@@ -44,4 +54,43 @@ loop-top-preserved g c =
       few = search rules;
       longest = search rules;
       left = λ told. let l = i.left told in (left_next file _ _ c.in-Some.top l within.0 (next told l.boxes l.are_from)).left;
+      each = search rules;
+      so = λ told movie boxes b.
+          let u = i.so told movie boxes b in
+          let r : IsRead file c.in-Some.top (box_seen c.view-moof.result) c.read_payload.new.room c.in_ok-len.len = record {
+            is = c.view-moof.ensures;
+            fills = c.in_ok-len.ensures.fills.0;
+            within = c.in_ok-len.ensures.fills.1;
+            read = (rw (c.in_ok-top.ensures.honesty, i.honesty, c.in_ok-top.ensures.file, i.file) at c.in_ok-len.ensures.bytes) told;
+            of_bytes = c.in_ok-len.ensures.room;
+          } in
+          next_passed file movie boxes c.loop-top.next c.args.outline.now.longest c.args.states.now c.loop-top.states c.args.counted.now c.loop-top.counted c.args.room c.loop-top.room b u c.in-Some.top within.0 (next told u.left.boxes u.left.are_from)
+          (box_seen c.view-moof.result) c.read_payload.new.room c.in_ok-len.len c.len-file_len.result r c.len-file_len.ensures
+          (moof_seen c.in_ok-view.view) c.check_moof.new.tracks c.count_samples.new.counted c.check_moof.new.room c.in_ok-view.ensures.view c.in_ok-view.ensures.sound c.in_ok-view.ensures.same c.in_ok-view.ensures.moved c.in_ok-view.ensures.room c.count_samples.ensures;
     }
+
+pub returns-in_err-view-clause-refusal : goal.returns-in_err-view-clause-refusal
+returns-in_err-view-clause-refusal g c =
+    let p = err_from_is_err_and c.from_residual-in_err-view.result c.from_residual-in_err-view.ensures.1 in
+    let i = c.loop-top.invariant in
+    let file = g.S.Store.file c.args.store.now in
+    let next = rw (i.honesty, i.file, c.in-Some.is) at c.in_ok-top.ensures.next in
+    let within = rw (i.file, c.in-Some.is) at c.in_ok-top.ensures.within in
+    rw (p.1, p.2) (λ told movie boxes b.
+    let u = i.so told movie boxes b in
+    let r : IsRead file c.in-Some.top (box_seen c.view-moof.result) c.read_payload.new.room c.in_ok-len.len = record {
+      is = c.view-moof.ensures;
+      fills = c.in_ok-len.ensures.fills.0;
+      within = c.in_ok-len.ensures.fills.1;
+      read = (rw (c.in_ok-top.ensures.honesty, i.honesty, c.in_ok-top.ensures.file, i.file) at c.in_ok-len.ensures.bytes) told;
+      of_bytes = c.in_ok-len.ensures.room;
+    } in
+    next_refused file movie boxes c.loop-top.next c.args.outline.now.longest c.args.states.now c.loop-top.states c.args.counted.now c.loop-top.counted c.args.room c.loop-top.room b u c.in-Some.top within.0 (next told u.left.boxes u.left.are_from)
+    (box_seen c.view-moof.result) c.read_payload.new.room c.in_ok-len.len c.len-file_len.result r c.len-file_len.ensures c.in_err-view.field-0.0 c.in_err-view.ensures.fault)
+
+pub returns-clause-passed : goal.returns-clause-passed
+returns-clause-passed g c = λ told movie boxes b.
+    let i = c.loop-top.invariant in
+    let u = i.so told movie boxes b in
+    let file = g.S.Store.file c.args.store.now in
+    all_passed file movie boxes c.loop-top.next c.args.outline.now.longest c.loop-top.states c.loop-top.counted c.loop-top.room u ((rw (i.honesty, i.file, c.in_default.is) at c.in_ok-top.ensures.next) told u.left.boxes u.left.are_from)

@@ -1,4 +1,8 @@
-use Rattle.std.proofs.Common.{◌≡◌, ◌-◌, ◌^◌, ◌≤◌, length}
+use Rattle.std.proofs.Common.{◌≡◌, ◌-◌, ◌^◌, ◌≤◌, List, length}
+use Rattle.mp4_boxes.specs.Box.{Box}
+use Rattle.mp4_head.specs.Tree.{MovieTree}
+use Rattle.mp4_present.specs.PassedMoofs.{IsBegun}
+use Rattle.mp4_present.proofs.MoofsPassed.{IsUnderWay}
 use Rattle.std.specs.Prelude.{IsTrue}
 use Rattle.mp4_frag.specs.States.{HaveRoom}
 use Rattle.mp4_present.proofs.FragmentPass.{Left}
@@ -15,6 +19,8 @@ invariant-loop-top g l =
       few : l.room ≤ 2 ^ 24;
       longest : length l.bytes ≡ l.outline.longest;
       left : IsTrue (g.S.Store.is_honest l.fn.store) → Left (g.S.Store.file l.fn.store) l.next l.outline.longest;
+      each : length l.counted ≡ length l.states;
+      so : IsTrue (g.S.Store.is_honest l.fn.store) → (movie : MovieTree) (boxes : List Box) → IsBegun (g.S.Store.file l.fn.store) movie boxes l.fn.states l.fn.counted l.fn.room → IsUnderWay (g.S.Store.file l.fn.store) movie boxes l.next l.outline.longest l.states l.counted l.room;
     }
 
 abbrev pub decreases-loop-top : goal.decreases-loop-top

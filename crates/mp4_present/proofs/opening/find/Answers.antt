@@ -1,6 +1,9 @@
-use Rattle.std.proofs.Common.{refl}
+use Rattle.std.proofs.Common.{rules, refl, length}
+use Rattle.mp4_boxes.specs.View.{box_seen}
+use Rattle.mp4_present.specs.declared.opening.Found.{Found}
+use Rattle.mp4_boxes.specs.Bytes.{AreBytes}
+use Rattle.mp4_present.proofs.Assembled.{movie, begun, have, opened_as, limit_stands, measure}
 use Rattle.std.proofs.lemmas.Result.{err_from_is_err_and}
-use Rattle.std.proofs.Common.{inr}
 use Rattle.mp4_present.proofs.Opened.{IsRead, its_movie, open_not_sound, open_not_fit, open_not_passed}
 use Rattle.mp4_present.proofs.PlainLists.{found_tables}
 use Rattle.mp4_present.proofs.opening.find.Goals as goal
@@ -23,14 +26,58 @@ returns-in_err-plain-clause-refusal g c =
 pub returns-in_err-all-clause-refusal : goal.returns-in_err-all-clause-refusal
 returns-in_err-all-clause-refusal g c =
     let p = err_from_is_err_and c.from_residual-in_err-all.result c.from_residual-in_err-all.ensures.1 in
-    let r : IsRead (g.S.Store.is_honest c.args.store.now) (g.S.Store.file c.args.store.now) c.args.outline.now c.args.moov.now _ = record { outline = c.requires.outline; is = c.view-view.ensures; fills = c.requires.fills; bytes = c.requires.bytes } in
-    rw (p.1, p.2) (open_not_passed _ _ _ _ _ _ (its_movie _ _ c.args.outline.now c.args.moov.now _ c.in_ok-head.head _ r c.in_ok-head.ensures.head refl) c.in_err-all.ensures.refusal)
+    let honest = g.S.Store.is_honest c.args.store.now in
+    let file = g.S.Store.file c.args.store.now in
+    let r : IsRead honest file c.args.outline.now c.args.moov.now _ = record { outline = c.requires.outline; is = c.view-view.ensures; fills = c.requires.fills; bytes = c.requires.bytes } in
+    let bytes : AreBytes c.args.moov.now = λ k. search rules in
+    let says = c.in_ok-head.ensures.head in
+    rw (p.1, p.2) (open_not_passed honest file _ _ _ _ _ _
+    (λ told. (movie honest file c.args.outline.now c.args.moov.now _ c.in_ok-head.head c.in_ok-plain.plain r says bytes _ c.len.ensures c.in_ok-plain.ensures.says told, _, begun honest file c.args.outline.now c.args.moov.now _ c.in_ok-head.head c.in_ok-plain.plain r says bytes _ c.len.ensures c.in_ok-plain.ensures.says told))
+    c.in_err-all.ensures.refusal)
 
 pub returns-in_err-mehd-clause-refusal : goal.returns-in_err-mehd-clause-refusal
 returns-in_err-mehd-clause-refusal g c =
-    let p = err_from_is_err_and c.from_residual-in_err-mehd.result c.from_residual-in_err-mehd.ensures.1 in
-    let r : IsRead (g.S.Store.is_honest c.args.store.now) (g.S.Store.file c.args.store.now) c.args.outline.now c.args.moov.now _ = record { outline = c.requires.outline; is = c.view-view.ensures; fills = c.requires.fills; bytes = c.requires.bytes } in
-    rw (p.1, p.2) (λ told. inr (_, its_movie _ _ c.args.outline.now c.args.moov.now _ c.in_ok-head.head _ r c.in_ok-head.ensures.head refl told))
+    let q = err_from_is_err_and c.from_residual-in_err-mehd.result c.from_residual-in_err-mehd.ensures.1 in
+    let honest = g.S.Store.is_honest c.args.store.now in
+    let file = g.S.Store.file c.args.store.now in
+    let b = box_seen c.view-view.result in
+    let r : IsRead honest file c.args.outline.now c.args.moov.now b = record { outline = c.requires.outline; is = c.view-view.ensures; fills = c.requires.fills; bytes = c.requires.bytes } in
+    let bytes : AreBytes c.args.moov.now = λ k. search rules in
+    let says = c.in_ok-head.ensures.head in
+    let outline = c.args.outline.now in
+    let moov = c.args.moov.now in
+    let head = c.in_ok-head.head in
+    let plain = c.in_ok-plain.plain in
+    let all = c.in_ok-all.all in
+    rw (q.1, q.2) (λ told.
+    let own = have honest file outline moov b head plain r says bytes _ c.len.ensures c.in_ok-plain.ensures.says told in
+    let begin = begun honest file outline moov b head plain r says bytes _ c.len.ensures c.in_ok-plain.ensures.says told in
+    let passed = c.in_ok-all.ensures.passed told _ _ begin in
+    let fails = rw c.as_slice.ensures.value at c.in_err-mehd.ensures.fault in
+    limit_stands honest file outline moov b head plain r says told own begin all.states.items all.counted.items passed c.in_err-mehd.field-0.0
+    (fails _ (measure honest file outline moov b head plain r says told own begin all.states.items all.counted.items passed)))
+
+pub returns-clause-movie : goal.returns-clause-movie
+returns-clause-movie g c =
+    let honest = g.S.Store.is_honest c.args.store.now in
+    let file = g.S.Store.file c.args.store.now in
+    let b = box_seen c.view-view.result in
+    let r : IsRead honest file c.args.outline.now c.args.moov.now b = record { outline = c.requires.outline; is = c.view-view.ensures; fills = c.requires.fills; bytes = c.requires.bytes } in
+    let bytes : AreBytes c.args.moov.now = λ k. search rules in
+    let says = c.in_ok-head.ensures.head in
+    let outline = c.args.outline.now in
+    let moov = c.args.moov.now in
+    let head = c.in_ok-head.head in
+    let plain = c.in_ok-plain.plain in
+    let all = c.in_ok-all.all in
+    λ told.
+    let own = have honest file outline moov b head plain r says bytes _ c.len.ensures c.in_ok-plain.ensures.says told in
+    let begin = begun honest file outline moov b head plain r says bytes _ c.len.ensures c.in_ok-plain.ensures.says told in
+    let passed = c.in_ok-all.ensures.passed told _ _ begin in
+    let within = rw c.as_slice.ensures.value at c.in_ok-mehd.ensures.within in
+    let w = within _ (measure honest file outline moov b head plain r says told own begin all.states.items all.counted.items passed) in
+    let found : Found = record { plain = plain; tracks = c.in_ok-tracks.tracks; mehd = c.in_ok-mehd.mehd } in
+    (_, opened_as honest file outline moov b head plain r says told own begin all.states.items all.counted.items passed found (length file) refl w.0 w.1 w.2 c.in_ok-tracks.ensures.infos refl)
 
 pub returns-clause-ids : goal.returns-clause-ids
 returns-clause-ids g c =

@@ -1,9 +1,9 @@
 use Rattle.std.proofs.Common.{◌≡◌, length, take}
-use Rattle.std.specs.Prelude.{map}
-use Rattle.mp4_head.specs.declared.heads.TrackHead.{TrackHead}
-use Rattle.mp4_present.specs.declared.track_info.TrackInfo.{TrackInfo}
+use Rattle.mp4_present.specs.OpenedMovie.{AreInfosBy}
 use Rattle.mp4_present.proofs.opening.infos_of.Given as goal
 
--- one for each track so far, with its ID
+-- one for each track so far, with its numbers
 abbrev pub invariant-loop-k : goal.invariant-loop-k
-invariant-loop-k l = (length l.tracks.items ≡ l.k) × (map (λ (t : TrackInfo). t.id) l.tracks.items ≡ map (λ (t : TrackHead). t.id) (take l.k l.head.tracks.items))
+invariant-loop-k l =
+    (length l.tracks.items ≡ l.k)
+    × AreInfosBy (take l.k l.head.tracks.items) (take l.k l.all.states.items) (take l.k l.all.counted.items) l.tracks.items

@@ -1,0 +1,112 @@
+-- A walk over a `moof` that was accepted costs no more than its bytes and its samples allow.
+use Rattle.std.proofs.Common.{◌≡◌, ℕ, zero, suc, ◌+◌, ◌*◌, ◌≤◌, false, Bool, true, cond, List, [], ◌∷◌, length, drop, map, Result, Ok, Err, refl, ap, ◌∙◌, arith}
+use Rattle.std.specs.Prelude.{ℤ, pos, codes, bytes_eq}
+use Rattle.std.specs.List.{AllByRecursion}
+use Rattle.mp4_boxes.specs.Bytes.{sum_of}
+use Rattle.mp4_boxes.specs.Box.{Box, Header, header_at, box_of, box_and_more, first_boxes, size, sizes}
+use Rattle.mp4_boxes.specs.Children.{of_kind}
+use Rattle.mp4_boxes.specs.Layout.{trun, row_count}
+use Rattle.mp4_boxes.specs.declared.fault.Kind.{Kind}
+use Rattle.mp4_boxes.proofs.Tiling.{sizes_fit}
+use Rattle.mp4_frag.specs.Fragments.{AreTrafs, track_fragment_of}
+use Rattle.mp4_frag.specs.Judged.{IsSoundMoof, AreMovedOn, end_with, tree_of}
+use Rattle.mp4_frag.specs.PlacesIn.{run_work, runs_work, trafs_work, moof_work}
+use Rattle.mp4_frag.specs.RunsJudged.{children_of, runs_in, runs_total}
+use Rattle.mp4_frag.specs.TrafFaults.{HoldsBoxes}
+use Rattle.mp4_frag.specs.Walks.{can_read}
+use Rattle.mp4_frag.specs.declared.state.TrackState.{TrackState}
+use Rattle.mp4_frag.specs.declared.trex.Trex.{Trex}
+use Rattle.mp4_frag.proofs.BoxPlaces.{all_boxes}
+use Rattle.mp4_frag.proofs.Costs.{boxes_eight}
+use Rattle.mp4_frag.proofs.PartReasons.{part_counts}
+
+-- ---- what boxes cost does not depend on where they are said to lie
+
+runs_by : (at to : ℕ) (bytes : List ℕ) (r : Result Header Kind) (f g : Header → List Box) → ((h : Header) → runs_work (f h) ≡ runs_work (g h)) → runs_work (box_and_more at bytes r f) ≡ runs_work (box_and_more to bytes r g)
+runs_by at to bytes (Ok h) f g e = λ i. cond (bytes_eq (codes "trun") h.kind) (run_work (box_of at bytes h).payload) 0 + e h i
+runs_by at to bytes (Err kind) f g e = refl
+
+runs_same : (n at to : ℕ) (bytes : List ℕ) → runs_work (first_boxes n at bytes) ≡ runs_work (first_boxes n to bytes)
+runs_same zero at to bytes = refl
+runs_same (suc n) at to bytes =
+    runs_by at to bytes (header_at false bytes) (λ h. first_boxes n (at + h.size) (drop h.size bytes)) (λ h. first_boxes n (to + h.size) (drop h.size bytes)) (λ h. runs_same n (at + h.size) (to + h.size) (drop h.size bytes))
+
+trafs_by : (at to : ℕ) (bytes : List ℕ) (r : Result Header Kind) (f g : Header → List Box) → ((h : Header) → trafs_work (f h) ≡ trafs_work (g h)) → trafs_work (box_and_more at bytes r f) ≡ trafs_work (box_and_more to bytes r g)
+trafs_by at to bytes (Ok h) f g e =
+    let payload = (box_of at bytes h).payload in
+    let inner = runs_same (length payload) (at + h.length) (to + h.length) payload in
+    λ i. cond (bytes_eq (codes "traf") h.kind) (suc (inner i)) 0 + e h i
+trafs_by at to bytes (Err kind) f g e = refl
+
+trafs_same : (n at to : ℕ) (bytes : List ℕ) → trafs_work (first_boxes n at bytes) ≡ trafs_work (first_boxes n to bytes)
+trafs_same zero at to bytes = refl
+trafs_same (suc n) at to bytes =
+    trafs_by at to bytes (header_at false bytes) (λ h. first_boxes n (at + h.size) (drop h.size bytes)) (λ h. first_boxes n (to + h.size) (drop h.size bytes)) (λ h. trafs_same n (at + h.size) (to + h.size) (drop h.size bytes))
+
+-- a walk costs what the boxes of the `moof` do
+work_is : (moof : Box) → moof_work moof.payload ≡ trafs_work (children_of moof)
+unfolding moof_work
+work_is moof = ap trafs_work (all_boxes moof.payload) ∙ trafs_same (length moof.payload) 0 (moof.offset + moof.header) moof.payload
+
+-- ---- by boxes and rows
+
+no_more : (v : Bool) (n : ℕ) → cond v n 0 ≤ n
+no_more true n = omega arith
+no_more false n = omega arith
+
+few_run : (v : Bool) (b : Box) (boxes kept : List Box) → runs_work boxes ≤ length boxes + runs_total kept → cond v (run_work b.payload) 0 + runs_work boxes ≤ suc (length boxes) + runs_total (cond v (b ∷ kept) kept)
+few_run true b boxes kept h = let few = no_more (can_read trun b.payload) (row_count trun b.payload) in omega arith
+few_run false b boxes kept h = omega arith
+
+few_runs : (boxes : List Box) → runs_work boxes ≤ length boxes + runs_total (of_kind (codes "trun") boxes)
+few_runs [] = omega arith
+few_runs (b ∷ boxes) = few_run (bytes_eq (codes "trun") b.kind) b boxes (of_kind (codes "trun") boxes) (few_runs boxes)
+
+-- how many samples the runs of `traf`s have
+abbrev pub trafs_samples : List Box → ℕ
+trafs_samples trafs = sum_of (λ (b : Box). runs_total (runs_in b)) trafs
+
+few_inside : (b : Box) → HoldsBoxes b → 8 * runs_work (children_of b) ≤ length b.payload + 8 * runs_total (runs_in b)
+few_inside b h =
+    let t = h.tiles in
+    let eight = boxes_eight false (b.offset + b.header) b.payload (children_of b) t.front.0 in
+    let fit = sizes_fit false (b.offset + b.header) b.payload (children_of b) t.front.0 in
+    let few = few_runs (children_of b) in
+    omega arith
+
+few_traf : (v : Bool) (b : Box) (boxes kept : List Box) → AllByRecursion HoldsBoxes (cond v (b ∷ kept) kept) → (AllByRecursion HoldsBoxes kept → 8 * trafs_work boxes ≤ 8 * length boxes + sizes boxes + 8 * trafs_samples kept)
+    → 8 * (cond v (suc (runs_work (children_of b))) 0 + trafs_work boxes) ≤ 8 * suc (length boxes) + (size b + sizes boxes) + 8 * trafs_samples (cond v (b ∷ kept) kept)
+few_traf true b boxes kept h more = let inside = few_inside b h.0 in let rest = more h.1 in omega arith
+few_traf false b boxes kept h more = let rest = more h in omega arith
+
+few_trafs : (boxes : List Box) → AllByRecursion HoldsBoxes (of_kind (codes "traf") boxes) → 8 * trafs_work boxes ≤ 8 * length boxes + sizes boxes + 8 * trafs_samples (of_kind (codes "traf") boxes)
+few_trafs [] h = omega arith
+few_trafs (b ∷ boxes) h = few_traf (bytes_eq (codes "traf") b.kind) b boxes (of_kind (codes "traf") boxes) h (few_trafs boxes)
+
+-- ---- what was accepted
+
+held_each : (trafs : List Box) → AreTrafs trafs (map children_of trafs) → AllByRecursion HoldsBoxes trafs
+held_each [] h = tt
+held_each (b ∷ trafs) h = (h.0, held_each trafs h.1)
+
+taken_one : (less rest n m more room : ℕ) → rest + n ≡ room → n ≡ m → less + more ≡ rest → less + (m + more) ≡ room
+taken_one less rest n m more room a b c = omega arith
+
+-- their samples were taken of the room
+pub samples_taken : (moof : ℕ) (before : ℤ) (trafs : List Box) (old new : List TrackState) (room less : ℕ) → AreMovedOn moof before trafs old new room less → less + trafs_samples trafs ≡ room
+samples_taken moof before [] old new room less m = let same = m.1 in omega arith
+samples_taken moof before (b ∷ trafs) old new room less m =
+    let one = m.2.0 in
+    taken_one less m.1 _ (runs_total (runs_in b)) (trafs_samples trafs) room one.taken (part_counts moof before one.trex (children_of b))
+    (samples_taken moof (end_with moof before one.trex (track_fragment_of (children_of b))) trafs m.0 new m.1 less m.2.1)
+
+-- four times as many steps as a walk takes are no more than the bytes of the `moof`, and four times its samples
+pub walk_bounded : (L : ℕ) (trexes : List Trex) (tracks after : List TrackState) (moof : Box) (room less : ℕ) → IsSoundMoof L trexes tracks (tree_of moof) → AreMovedOn moof.offset (pos moof.offset) (of_kind (codes "traf") (children_of moof)) tracks after room less
+    → 4 * moof_work moof.payload + 4 * less ≤ length moof.payload + 4 * room
+walk_bounded L trexes tracks after moof room less s m =
+    let t = s.tree.children.tiles in
+    let eight = boxes_eight false (moof.offset + moof.header) moof.payload (children_of moof) t.front.0 in
+    let fit = sizes_fit false (moof.offset + moof.header) moof.payload (children_of moof) t.front.0 in
+    let few = few_trafs (children_of moof) (held_each (of_kind (codes "traf") (children_of moof)) s.tree.trafs) in
+    let taken = samples_taken moof.offset (pos moof.offset) (of_kind (codes "traf") (children_of moof)) tracks after room less m in
+    omega (arith, eight, fit, few, taken, work_is moof)

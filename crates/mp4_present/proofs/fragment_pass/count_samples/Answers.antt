@@ -1,0 +1,16 @@
+use Rattle.std.proofs.Common.{rules, refl, ◌<◌, ◌≤◌, length}
+use Rattle.mp4_frag.specs.Views.{moof_seen}
+use Rattle.mp4_present.proofs.Counting.{Old, New, count_more, mixed_all}
+use Rattle.mp4_present.proofs.fragment_pass.count_samples.Goals as goal
+
+pub loop-k-preserved : goal.loop-k-preserved
+loop-k-preserved g c =
+    let i = c.loop-k.invariant in
+    let there : c.loop-k.k < length c.loop-k.counted = search rules in
+    let state : c.loop-k.k < length c.args.states.now = search rules in
+    (search rules, λ file_length movie parts t k a. count_more file_length movie parts t (moof_seen c.args.view.now) c.args.states.now k c.loop-k.k c.loop-k.counted c.index-states-k.result _ _ c.counted_with.result (i.1 file_length movie parts t k a) there state c.index-states-k.is refl (c.counted_with.ensures file_length))
+
+pub returns : goal.returns
+returns g c = λ file_length movie parts t k a.
+    let all : length c.loop-k.counted ≤ c.loop-k.k = search rules in
+    mixed_all (New file_length movie parts t (moof_seen c.args.view.now) c.args.states.now k) (Old file_length movie parts t (moof_seen c.args.view.now) c.args.states.now k) c.loop-k.k movie.tracks c.loop-k.counted (c.loop-k.invariant.1 file_length movie parts t k a) all

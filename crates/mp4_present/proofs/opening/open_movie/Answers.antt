@@ -1,0 +1,36 @@
+use Rattle.std.proofs.Common.{◌≡◌, ℕ, length, subst, sym, ap, ◌∙◌}
+use Rattle.std.proofs.lemmas.Result.{err_from_is_err_and}
+use Rattle.mp4_present.proofs.DenotedOpens.{denoted_opens, outline_refuses, read_refuses}
+use Rattle.mp4_present.specs.OpenedMovie.{IsOpenedAs, kept_of}
+use Rattle.mp4_present.proofs.opening.open_movie.Goals as goal
+
+pub returns-clause-movie : goal.returns-clause-movie
+returns-clause-movie g c = λ told.
+    let outline = c.in_ok-outline.ensures in
+    let moov = c.in_ok-moov.ensures in
+    let file = g.S.Store.file c.args.store.now in
+    let found = c.in_ok-plain.field-0 in
+    let r = (rw (moov.honesty, outline.honesty, moov.file, outline.file, c.as_slice.ensures.value) at c.in_ok-plain.ensures.movie) told in
+    let len : length file ≡ c.len-file_len.result = ap length (sym (moov.file ∙ outline.file)) ∙ sym c.len-file_len.ensures in
+    (r.0, subst (λ (n : ℕ). IsOpenedAs file (kept_of c.in_ok-outline.outline c.in_ok-moov.moov.items n found) r.0) len r.1)
+
+pub returns-in_err-outline-clause-only : goal.returns-in_err-outline-clause-only
+returns-in_err-outline-clause-only g c = λ p told d.
+    let q = err_from_is_err_and c.from_residual.result c.from_residual.ensures.1 in
+    let honest = g.S.Store.is_honest c.args.store.now in
+    let file = g.S.Store.file c.args.store.now in
+    rw (q.1, q.2) (denoted_opens honest file p _ _ _ told d (outline_refuses honest file _ _ _ c.in_err-outline.ensures.refusal))
+
+pub returns-in_err-moov-clause-only : goal.returns-in_err-moov-clause-only
+returns-in_err-moov-clause-only g c = λ p told d.
+    let q = err_from_is_err_and c.from_residual-in_err-moov.result c.from_residual-in_err-moov.ensures.1 in
+    rw (q.1, q.2) (read_refuses _ _ _ (rw c.in_ok-outline.ensures.reads at c.in_err-moov.ensures.refusal))
+
+pub returns-in_err-plain-clause-only : goal.returns-in_err-plain-clause-only
+returns-in_err-plain-clause-only g c = λ p told d.
+    let q = err_from_is_err_and c.from_residual-in_err-plain.result c.from_residual-in_err-plain.ensures.1 in
+    let outline = c.in_ok-outline.ensures in
+    let moov = c.in_ok-moov.ensures in
+    let honest = g.S.Store.is_honest c.args.store.now in
+    let file = g.S.Store.file c.args.store.now in
+    rw (q.1, q.2) (denoted_opens honest file p _ _ _ told d (rw (moov.honesty, outline.honesty, moov.file, outline.file, moov.reads, outline.reads) at c.in_err-plain.ensures.refusal))
