@@ -8,15 +8,14 @@ use Rattle.std.proofs.lemmas.Option.{slice_get-map}
 use Rattle.mp4_boxes.specs.Bytes.{sum_of}
 use Rattle.mp4_boxes.specs.Box.{Box}
 use Rattle.mp4_boxes.specs.Children.{of_kind}
-use Rattle.mp4_tables.specs.Groups.{maps_of}
 use Rattle.mp4_frag.specs.declared.state.TrackState.{TrackState}
 use Rattle.mp4_frag.specs.declared.trex.Trex.{Trex}
 use Rattle.mp4_frag.specs.Fragments.{FragmentTree, IsFragmentTree, TrackFragment, fragment_of, track_fragment_of}
-use Rattle.mp4_frag.specs.FragmentSamples.{Part, part_samples, parts_after, parts_of, trex_for, no_trex, base_of}
+use Rattle.mp4_frag.specs.FragmentSamples.{Part, parts_after, parts_of, trex_for, no_trex}
 use Rattle.mp4_frag.specs.Judged.{TrackSeen, track_seen, track_behind, IsPlacedWithin, IsMovedOn, AreMovedOn, AreTrexesOf, part_with, end_with, tree_of}
 use Rattle.mp4_frag.specs.RunsJudged.{children_of}
-use Rattle.mp4_frag.proofs.TrafPassed.{runs_count}
-use Rattle.mp4_frag.proofs.TrafsTied.{grouped_length}
+use Rattle.mp4_frag.proofs.PartReasons.{part_counts}
+use Rattle.mp4_frag.proofs.SeenLists.{find_map}
 use Rattle.mp4_head.specs.Tree.{TrackTree, MovieTree, trexes_of, are_distinct}
 use Rattle.mp4_present.specs.Denotes.{IsSoundFragment}
 use Rattle.mp4_present.specs.Presentation.{max_samples}
@@ -25,7 +24,7 @@ use Rattle.mp4_present.specs.Passing.{AreBehind, BeginsBehind, PassesMoof, Trexe
 use Rattle.mp4_boxes.proofs.Among.{head_is, tail_is}
 use Rattle.mp4_present.proofs.Counts.{sum-append}
 use Rattle.mp4_present.proofs.PlainLists.{all_push}
-use Rattle.mp4_present.proofs.PartsBehind.{HavePassed, ComesNext, find_map, tracked, trex_known, part_passes, ids_of}
+use Rattle.mp4_present.proofs.PartsBehind.{HavePassed, ComesNext, tracked, trex_known, part_passes, ids_of}
 
 -- what `traf`s say
 abbrev pub said_by : List Box → List TrackFragment
@@ -50,15 +49,6 @@ pub next_part : (trexes : List Trex) (moof : ℕ) (before : ℤ) (trex : Trex) (
     → parts_after trexes moof before (traf ∷ more) ≡ part_with moof before trex traf ∷ parts_after trexes moof (end_with moof before trex traf) more
 next_part trexes moof before trex traf more e =
     ap (λ o. part_with moof before (unwrap_or o no_trex) traf ∷ parts_after trexes moof (end_with moof before (unwrap_or o no_trex) traf) more) e
-
--- how many samples a `traf` has
-pub samples_named : (moof : ℕ) (before : ℤ) (trex : Trex) (boxes : List Box) → length (part_samples (part_with moof before trex (track_fragment_of boxes))) ≡ run_total (of_kind (codes "trun") boxes)
-samples_named moof before trex boxes =
-    let traf = track_fragment_of boxes in
-    let start = base_of moof before traf in
-    let part = part_with moof before trex traf in
-    let flat = flat_map (λ samples. samples) part.runs in
-    grouped_length (maps_of (length flat) part.groups) flat ∙ sym (runs_count traf trex start start (of_kind (codes "trun") boxes))
 
 said_more : (done : List Box) (b : Box) → said_by (done ++ b ∷ []) ≡ said_by done ++ track_fragment_of (children_of b) ∷ []
 said_more done b = ap (map track_fragment_of) (map-append children_of done (b ∷ [])) ∙ map-append track_fragment_of (map children_of done) (children_of b ∷ [])
@@ -112,7 +102,7 @@ module _ (file : List ℕ) (movie : MovieTree) (earlier : List FragmentTree) (mo
       ap (λ ps. parts_behind movie earlier ++ ps) with_it ∙ sym (append_assoc (parts_behind movie earlier) front (part ∷ [])) in
       let next = part_passes file movie (parts_until movie earlier moof done) (map track_seen states) part m.place (track_seen m.track) m.trex distinct h.passed (comes_next done before b states new room less m placed) in
       let counts = total_more done b in
-      let n : less + run_total (of_kind (codes "trun") (children_of b)) ≡ room = ap (λ k. less + k) (sym (samples_named moof before m.trex (children_of b))) ∙ m.taken in
+      let n : less + run_total (of_kind (codes "trun") (children_of b)) ≡ room = ap (λ k. less + k) (sym (part_counts moof before m.trex (children_of b))) ∙ m.taken in
       let total : counted movie earlier + trafs_total (map children_of (done ++ b ∷ [])) ≡ (counted movie earlier + trafs_total (map children_of done)) + run_total (of_kind (codes "trun") (children_of b)) =
       ap (λ k. counted movie earlier + k) counts ∙ added (counted movie earlier) (trafs_total (map children_of done)) (run_total (of_kind (codes "trun") (children_of b))) in
       record {

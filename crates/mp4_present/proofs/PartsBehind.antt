@@ -10,6 +10,7 @@ use Rattle.mp4_frag.specs.declared.trex.Trex.{Trex}
 use Rattle.mp4_frag.specs.FragmentSamples.{Part, part_samples, parts_for, trex_for, start_of, duration_of, AreOnTime, AreGrouped}
 use Rattle.mp4_frag.specs.FragmentRules.{TrackInfo, track_for, is_known, has_indexes, is_within}
 use Rattle.mp4_frag.specs.Judged.{TrackSeen, track_behind, IsDue, IsPlacedWithin}
+use Rattle.mp4_frag.proofs.SeenLists.{find_map, some_is}
 use Rattle.mp4_head.specs.Head.{TrackHead}
 use Rattle.mp4_head.specs.Tree.{TrackTree, MovieTree, track_head_of, trexes_of, are_distinct}
 use Rattle.mp4_present.specs.Denotes.{plain_of, plain_keys, track_infos}
@@ -24,18 +25,6 @@ use Rattle.mp4_present.proofs.TracksBehind.{seen_after, track_more, grouped_more
 mapped : {A B : Type 0} (f : A → B) (o : Option A) (y : B) → option_map f o ≡ Some y → (x : A) × (o ≡ Some x) × (f x ≡ y)
 mapped f None y e = absurd cc
 mapped f (Some x) y e = (x, refl, cc)
-
--- the first value that passes is that of the first whose value passes
-pub find_map : {A B : Type 0} (f : A → B) (p : B → Bool) (xs : List A) → find p (map f xs) ≡ option_map f (find (λ x. p (f x)) xs)
-find_map f p [] = refl
-find_map f p (x ∷ xs) = choice (p (f x)) (find_map f p xs)
-  where
-    choice : (v : Bool) → find p (map f xs) ≡ option_map f (find (λ x. p (f x)) xs) → cond v (Some (f x)) (find p (map f xs)) ≡ option_map f (cond v (Some x) (find (λ x. p (f x)) xs))
-    choice true e = refl
-    choice false e = e
-
-some_is : {A : Type 0} (x y : A) → ◌≡◌ {A = Option A} (Some x) (Some y) → x ≡ y
-some_is x y e = cc
 
 -- what is found passes
 pub found_passes : {A : Type 0} (p : A → Bool) (xs : List A) (x : A) → find p xs ≡ Some x → p x ≡ true

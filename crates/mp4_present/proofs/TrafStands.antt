@@ -30,6 +30,7 @@ use Rattle.mp4_frag.specs.declared.state.TrackState.{TrackState}
 use Rattle.mp4_frag.specs.declared.trex.Trex.{Trex}
 use Rattle.mp4_frag.proofs.PartReasons.{part_counts, lacks_description, not_on_time}
 use Rattle.mp4_frag.proofs.GroupReasons.{rule_broken}
+use Rattle.mp4_frag.proofs.SeenLists.{find_map}
 use Rattle.mp4_frag.proofs.TrafPassed.{head_sound, time_sound}
 use Rattle.mp4_head.specs.Tree.{TrackTree, MovieTree, first_of, trexes_of}
 use Rattle.mp4_present.specs.Denotes.{IsSoundFragment, plain_of, plain_keys, track_infos}
@@ -37,7 +38,7 @@ use Rattle.mp4_present.specs.Presentation.{max_samples}
 use Rattle.mp4_present.specs.Stands.{Stands, fragment, count, Behind, parts_with, unknown_track, description_index, place, fragment_group, decode_time, AreSoundOf, RunsReadable, LeavesReadable, run_total, trafs_total}
 use Rattle.mp4_present.specs.Passing.{IsMovieOf, IsNextMoof, parts_behind, seen_behind}
 use Rattle.mp4_present.proofs.MoofBehind.{IsInside, counted, next_part, parts_until, said_by}
-use Rattle.mp4_present.proofs.PartsBehind.{IsTracked, find_map, id_of, indexes_same, own_more, part_known, tracked, trex_known}
+use Rattle.mp4_present.proofs.PartsBehind.{IsTracked, id_of, indexes_same, own_more, part_known, tracked, trex_known}
 use Rattle.mp4_present.proofs.TracksBehind.{samples_of, start_came}
 use Rattle.mp4_present.proofs.TrafPlaces.{sound_of}
 
