@@ -50,3 +50,4 @@ pub mod SampleTotals
 pub mod Assembled
 pub mod DenotedOpens
 pub mod MoofLoaded
+pub mod WalkBegun

@@ -84,7 +84,7 @@ pub seen_at : {A : Type 0} (f : A → TrackSeen) (states : List TrackState) (tra
 seen_at f states tracks k s t e a b =
     some_is (track_seen s) (f t) (sym (slice_get-map track_seen states k ∙ ap (option_map track_seen) a) ∙ ap (λ xs. slice_get xs k) e ∙ slice_get-map f tracks k ∙ ap (option_map f) b)
 
-zipped_at : {A B : Type 0} (R : A → B → Type 0) (xs : List A) (ys : List B) (k : ℕ) (x : A) (y : B) → AllZip R xs ys → slice_get xs k ≡ Some x → slice_get ys k ≡ Some y → R x y
+pub zipped_at : {A B : Type 0} (R : A → B → Type 0) (xs : List A) (ys : List B) (k : ℕ) (x : A) (y : B) → AllZip R xs ys → slice_get xs k ≡ Some x → slice_get ys k ≡ Some y → R x y
 zipped_at R [] ys k x y h a b = absurd (cc)
 zipped_at R (v ∷ xs) [] k x y h a b = absurd h
 zipped_at R (v ∷ xs) (w ∷ ys) zero x y h a b = subst (λ c. R c y) (some_is v x a) (subst (R v) (some_is w y b) h.0)
