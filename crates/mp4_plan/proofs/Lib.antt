@@ -35,3 +35,4 @@ pub mod EachAt
 pub mod RowBytes
 pub mod RunsResumed
 pub mod Pushes
+pub mod NextKeys

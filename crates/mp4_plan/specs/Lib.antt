@@ -12,3 +12,4 @@ pub mod Sizes
 pub mod Turns
 pub mod Writers
 pub mod Spelling
+pub mod UsedKeys

@@ -8,7 +8,6 @@ use crate::courses::{Load, carry_piece, note_piece, peek_sample, plan_piece};
 use crate::moof_front::{PieceHead, moof_front};
 use crate::moof_rows::{carry_groups, carry_run};
 use crate::moof_sizes::sizes_of;
-use crate::offsets::data_offset;
 use crate::planner::Planned;
 use crate::rows::{NO_ROW, Row};
 use crate::schedule::Schedule;
@@ -210,10 +209,6 @@ impl Writer {
         if sizes.moof > MOST_MOOF {
             return Err(Refusal::StoreChanged);
         }
-        let head = PieceHead {
-            data_offset: data_offset(sizes.moof as u32, planned.bytes),
-            ..head
-        };
         let rows = &self.rows[..planned.count as usize];
         let front = moof_front(&head, planned, &sizes);
         self.carrier.carry(front.as_bytes(), sink)?;
@@ -263,7 +258,6 @@ impl Writer {
                         id: tracks[turn.track].id,
                         time: sample.dts,
                         description: sample.description,
-                        data_offset: 0,
                     };
                     self.carry(turn.track, head, &planned, movie, store, sink, steps)?;
                 }
