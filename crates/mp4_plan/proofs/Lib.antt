@@ -36,3 +36,7 @@ pub mod RowBytes
 pub mod RunsResumed
 pub mod Pushes
 pub mod NextKeys
+pub mod SpelledBoxes
+pub mod UsedLists
+pub mod SpelledGroups
+pub mod SpelledPiece

@@ -43,7 +43,7 @@ put_has key x [] h (inr m) = absurd m
 put_has key x (other ∷ keys) h m = put_has_by key other x keys (same_key key other) (ltb (key_rank key) (key_rank other)) refl h.0 m (put_has key x keys h.1)
 
 -- of another rank than each
-each_other : (key : GroupKey) (keys : List GroupKey) → HasNone keys key → AllByRecursion (λ other. same_key key other ≡ false) keys
+pub each_other : (key : GroupKey) (keys : List GroupKey) → HasNone keys key → AllByRecursion (λ other. same_key key other ≡ false) keys
 each_other key [] h = tt
 each_other key (other ∷ keys) h = let p = or_parts (same_key key other) (list_any (same_key key) keys) h in (p.0, each_other key keys p.1)
 
@@ -224,10 +224,10 @@ few_used rows keys = let a = order_count (used_from rows 0 keys) in let b = used
 
 -- ---- places
 
-key_behind : (k : GroupKey) (keys : List GroupKey) (place : ℕ) (key : GroupKey) → IsKeyAt (k ∷ keys) (suc place) key → IsKeyAt keys place key
+pub key_behind : (k : GroupKey) (keys : List GroupKey) (place : ℕ) (key : GroupKey) → IsKeyAt (k ∷ keys) (suc place) key → IsKeyAt keys place key
 key_behind k keys place key e = let n : suc place + 1 ≡ suc (place + 1) = omega arith in e ∙ ap (λ m. key ∷ drop m (k ∷ keys)) n
 
-has_at : (keys : List GroupKey) (place : ℕ) (key : GroupKey) → IsKeyAt keys place key → Has keys key
+pub has_at : (keys : List GroupKey) (place : ℕ) (key : GroupKey) → IsKeyAt keys place key → Has keys key
 has_at [] zero key e = absurd (cc)
 has_at [] (suc place) key e = absurd (cc)
 has_at (k ∷ keys) zero key e = let same : k ≡ key = cc in inl (sym same)

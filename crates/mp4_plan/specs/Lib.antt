@@ -13,3 +13,4 @@ pub mod Turns
 pub mod Writers
 pub mod Spelling
 pub mod UsedKeys
+pub mod Taken

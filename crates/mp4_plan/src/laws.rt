@@ -3,6 +3,7 @@
 ghost use Rattle.mp4_plan.specs.Laws.{DenotedIsValid, DenotesOne, FaultRefuses, NormalDenotes, NormalIsExact, NormalIsFixed};
 ghost use Rattle.mp4_plan.specs.PieceLaws.{CutsAreLeast, FragmentsAreLast, PiecesAreDue, PiecesAreLongest, PiecesJoin};
 ghost use Rattle.mp4_plan.specs.PlannerLaws.{GatheringSumsUp};
+ghost use Rattle.mp4_plan.specs.Taken.{PieceIsSpelled};
 ghost use Rattle.mp4_plan.specs.HeadLaws.{MovieLengthIsLargest, NextTrackIdIsLeast};
 ghost use Rattle.mp4_plan.specs.SpellingLaws.{ColumnsAreSpelledOnce, GroupRowsAreLongest, PieceKeysAreThose};
 ghost use Rattle.mp4_plan.specs.TableLaws.{GroupsAreIndexes, SamplesLieInChunks};
@@ -146,4 +147,9 @@ pub fn fault_refuses()
 /// What a planner gathers of the samples of a piece is what they have: how many, how many bytes, what they share, which rows their groups make.
 pub fn gathering_sums_up()
     ensures { GatheringSumsUp }
+{}
+
+/// What is written of the samples of a piece, by what was gathered and noted of them, and then their bytes, is the piece of the normal form.
+pub fn piece_is_spelled()
+    ensures { PieceIsSpelled }
 {}

@@ -1,5 +1,6 @@
 //! What is kept of the samples of a piece while it is planned, so that its `moof` can be written.
-ghost use Rattle.std.specs.Prelude.{◌≤◌, length};
+ghost use Rattle.std.specs.Prelude.{◌≡◌, ◌≤◌, length};
+ghost use Rattle.mp4_plan.specs.Taken.{row_seen};
 
 use mp4_tables::{SampleAt, Samples};
 
@@ -36,7 +37,9 @@ pub(crate) const NO_ROW: Row = Row {
 };
 
 /// What is written of this sample.
-pub(crate) fn row_of(sample: &SampleAt) -> Row {
+pub(crate) fn row_of(sample: &SampleAt) -> Row
+    ensures { result ≡ row_seen sample.now }
+{
     let groups = sample.groups;
     Row {
         duration: sample.duration,
