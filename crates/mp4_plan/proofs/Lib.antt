@@ -40,3 +40,6 @@ pub mod SpelledBoxes
 pub mod UsedLists
 pub mod SpelledGroups
 pub mod SpelledPiece
+pub mod FrontLists
+pub mod FragmentsLeft
+pub mod TurnSteps

@@ -14,3 +14,5 @@ pub mod Writers
 pub mod Spelling
 pub mod UsedKeys
 pub mod Taken
+pub mod Coming
+pub mod TurnLaws
