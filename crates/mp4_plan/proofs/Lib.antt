@@ -43,3 +43,7 @@ pub mod SpelledPiece
 pub mod FrontLists
 pub mod FragmentsLeft
 pub mod TurnSteps
+pub mod HandsCarried
+pub mod HandSteps
+pub mod HandsTaken
+pub mod TakenTurns

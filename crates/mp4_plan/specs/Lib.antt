@@ -16,3 +16,4 @@ pub mod UsedKeys
 pub mod Taken
 pub mod Coming
 pub mod TurnLaws
+pub mod HandsFed

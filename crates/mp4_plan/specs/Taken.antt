@@ -1,5 +1,5 @@
 -- Samples of a file as they are handed out, as those of a presentation; and how a piece of them is spelled.
-use Rattle.std.specs.Prelude.{◌≡◌, ℕ, ◌^◌, ◌≤◌, true, List, ◌∷◌, ◌++◌, length, map, codes, None}
+use Rattle.std.specs.Prelude.{◌≡◌, ℕ, ◌^◌, ◌≤◌, true, List, ◌∷◌, ◌++◌, length, map, codes, None, take, drop}
 use Rattle.std.specs.List.{AllByRecursion, AllZip, list_any}
 use Rattle.mp4_boxes.specs.Bytes.{AreBytes}
 use Rattle.mp4_boxes.specs.Written.{header_bytes}
@@ -11,10 +11,12 @@ use Rattle.mp4_present.specs.Joined.{sample_bytes}
 use Rattle.mp4_present.specs.Presentation.{IsGroup, IsParameter}
 use Rattle.mp4_plan.specs.Pieces.{TimedSample}
 use Rattle.mp4_plan.specs.Normal.{first_time, first_description, piece_bytes}
-use Rattle.mp4_plan.specs.Gathering.{gather_all, planned_of}
+use Rattle.mp4_plan.specs.Gathering.{gather_all, more_of, planned_of}
 use Rattle.mp4_plan.specs.Sizes.{moof_sizes}
 use Rattle.mp4_plan.specs.Spelling.{run_rows, moof_front}
 use Rattle.mp4_plan.specs.UsedKeys.{AreApart, groups_bytes}
+use Rattle.mp4_plan.specs.TurnLaws.{turn_count}
+use Rattle.mp4_plan.specs.declared.ends.End.{End}
 use Rattle.mp4_plan.specs.declared.moof_front.PieceHead.{PieceHead}
 use Rattle.mp4_plan.specs.declared.planner.Planned.{Planned}
 use Rattle.mp4_plan.specs.declared.rows.Row.{Row}
@@ -61,3 +63,12 @@ PieceIsSpelled = (file : List ℕ) (keys : List GroupKey) (sequence id : ℕ) (a
     → (let p = planned_of (gather_all None (a ∷ more)) in
     (moof_sizes p keys).moof ≤ 2 ^ 30
     → piece_front (head_of sequence id samples) p keys (map row_seen (a ∷ more)) ++ sample_bytes file (a ∷ more) ≡ piece_bytes sequence (record { id = id; samples = samples }))
+
+-- A piece of samples that are those of a presentation takes as many as a turn takes of these, and the others are those again.
+pub record TakesAlike (file : List ℕ) (keys : List GroupKey) (end : End) (taken : List SampleAt) (samples : List TimedSample) : Type 0 where
+  pub count : more_of (record { end = end; gathered = None }) taken ≡ turn_count end samples
+  pub front : AreTaken file keys (take (turn_count end samples) taken) (take (turn_count end samples) samples)
+  pub behind : AreTaken file keys (drop (turn_count end samples) taken) (drop (turn_count end samples) samples)
+
+abbrev pub PiecesTakeAlike : Type 0
+PiecesTakeAlike = (file : List ℕ) (keys : List GroupKey) (end : End) (taken : List SampleAt) (samples : List TimedSample) → AreTaken file keys taken samples → TakesAlike file keys end taken samples

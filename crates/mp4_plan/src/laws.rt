@@ -4,7 +4,7 @@ ghost use Rattle.mp4_plan.specs.Laws.{DenotedIsValid, DenotesOne, FaultRefuses, 
 ghost use Rattle.mp4_plan.specs.PieceLaws.{CutsAreLeast, FragmentsAreLast, PiecesAreDue, PiecesAreLongest, PiecesJoin};
 ghost use Rattle.mp4_plan.specs.PlannerLaws.{GatheringSumsUp};
 ghost use Rattle.mp4_plan.specs.Coming.{TurnsBeginWithAll};
-ghost use Rattle.mp4_plan.specs.Taken.{PieceIsSpelled};
+ghost use Rattle.mp4_plan.specs.Taken.{PieceIsSpelled, PiecesTakeAlike};
 ghost use Rattle.mp4_plan.specs.TurnLaws.{TurnsTakeAll};
 ghost use Rattle.mp4_plan.specs.HeadLaws.{MovieLengthIsLargest, NextTrackIdIsLeast};
 ghost use Rattle.mp4_plan.specs.SpellingLaws.{ColumnsAreSpelledOnce, GroupRowsAreLongest, PieceKeysAreThose};
@@ -164,4 +164,9 @@ pub fn turns_begin_with_all()
 /// Turns take the pieces that are left, one after the other.
 pub fn turns_take_all()
     ensures { TurnsTakeAll }
+{}
+
+/// A piece of samples that are those of a presentation takes as many as a turn takes of these.
+pub fn pieces_take_alike()
+    ensures { PiecesTakeAlike }
 {}
