@@ -46,3 +46,4 @@ pub mod MoofRefused
 pub mod SampleTotals
 pub mod Assembled
 pub mod DenotedOpens
+pub mod TrexPlaces
