@@ -51,3 +51,4 @@ pub mod Assembled
 pub mod DenotedOpens
 pub mod MoofLoaded
 pub mod WalkBegun
+pub mod TrexPlaces
