@@ -373,6 +373,29 @@ fn next_row(run: RowPlace) -> RowPlace
     }
 }
 
+// The place behind a sample, which may be the last of its run.
+#[inline]
+fn behind_sample(payload: &[u8], place: &FragPlace) -> FragPlace
+    requires some { 0 < place.now.run.left }
+    requires place { LiesIn payload.now place.now }
+    ensures place { LiesIn payload.now result }
+    ensures same { (result.track ≡ place.now.track) × (result.keys ≡ place.now.keys) }
+    ensures on { place.now.passed ≤ result.passed }
+    ensures coming { (w : Walk) → coming payload.now w result ≡ drop 1 (coming payload.now w place.now) }
+{
+    let row = row_here(payload, place.run);
+    let duration = row.duration.unwrap_or(place.inherited.duration);
+    let size = row.size.unwrap_or(place.inherited.size);
+    FragPlace {
+        dts: place.dts.saturating_add(u64::from(duration)),
+        at: place.at.saturating_add(i128::from(size)),
+        run: next_row(place.run),
+        indexes: pass_indexes(payload, &place.indexes),
+        passed: place.passed.saturating_add(1),
+        ..*place
+    }
+}
+
 // The place one sample on.
 #[inline]
 pub(crate) fn pass_sample(
@@ -388,22 +411,11 @@ pub(crate) fn pass_sample(
     ensures on { place.now.passed ≤ result.passed }
     ensures coming { coming payload.now (walk_of moof tracks.now place.now) result ≡ drop 1 (coming payload.now (walk_of moof tracks.now place.now) place.now) }
 {
-    let row = row_here(payload, place.run);
-    let duration = row.duration.unwrap_or(place.inherited.duration);
-    let size = row.size.unwrap_or(place.inherited.size);
-    settle(
-        payload,
-        moof,
-        tracks,
-        FragPlace {
-            dts: place.dts.saturating_add(u64::from(duration)),
-            at: place.at.saturating_add(i128::from(size)),
-            run: next_row(place.run),
-            indexes: pass_indexes(payload, &place.indexes),
-            passed: place.passed.saturating_add(1),
-            ..*place
-        },
-    )
+    let next = behind_sample(payload, place);
+    if next.run.left > 0 {
+        return next;
+    }
+    settle(payload, moof, tracks, next)
 }
 
 // Before the first sample of a track.

@@ -2,13 +2,13 @@ use Rattle.std.proofs.Common.{◌≡◌, ◌+◌, ◌-◌, ◌∙◌, ap, sym, r
 use Rattle.std.specs.Prelude.{pos, ◌+ℤ◌}
 use Rattle.std.specs.Int.{w128}
 use Rattle.mp4_frag.specs.ColumnsRead.{row_room}
-use Rattle.mp4_frag.specs.Walks.{walk_of, row_signed, rows_here, held, capped}
+use Rattle.mp4_frag.specs.Walks.{row_signed, rows_here, held, capped}
 use Rattle.mp4_frag.specs.declared.places.RowPlace.{RowPlace}
 use Rattle.mp4_frag.proofs.Comings.{sample_passed}
-use Rattle.mp4_frag.proofs.walk.pass_sample.Goals as goal
+use Rattle.mp4_frag.proofs.walk.behind_sample.Goals as goal
 
 pub returns-clause-coming : goal.returns-clause-coming
-returns-clause-coming c =
+returns-clause-coming c w =
     let payload = c.args.payload.now in
     let place = c.args.place.now in
     let row = row_signed c.row_here-row.result in
@@ -21,8 +21,7 @@ returns-clause-coming c =
     let at = kept ∙ c.saturating_add-2.ensures ∙ (λ i. held (before i +ℤ size i)) in
     let indexes = c.pass_indexes.ensures.next in
     let next : c.next_row.result ≡ record place.run { row = place.run.row + row_room place.run.bits; left = place.run.left - 1; first_flags = None } = c.next_row.ensures in
-    c.settle.ensures.coming
-    ∙ sample_passed payload (walk_of c.args.moof c.args.tracks.now place) place _ row
+    sample_passed payload w place _ row
     (c.row_here-row.ensures ∙ ap (λ (r : RowPlace). row_signed c.row_here-row.result ∷ rows_here payload r) (sym next))
     (ap (λ (r : RowPlace). r.first_flags) next)
     (λ i. record { dts = dts i; at = at i; is_own = place.is_own; base = base i; inherited = place.inherited; indexes = indexes i })
