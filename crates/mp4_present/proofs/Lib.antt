@@ -49,3 +49,4 @@ pub mod MoofTaken
 pub mod SampleTotals
 pub mod Assembled
 pub mod DenotedOpens
+pub mod SamplesLie
