@@ -5,12 +5,11 @@ use Rattle.serde_json.specs.Written.{compact_text}
 use Rattle.mp4_store.specs.Device.{HasRisen, AppendsPrefix}
 use Rattle.mp4_boxes.specs.declared.refusal.Refusal.{Refusal}
 use Rattle.mp4_boxes.specs.declared.refusal.Refusal.TheVariants as refusals
-use Rattle.mp4_head.specs.Tree.{movie_head_of, track_head_of}
-use Rattle.mp4_present.specs.declared.track_info.TrackInfo.{TrackInfo}
 use Rattle.mp4_present.specs.Opening.{HasMovie}
+use Rattle.mp4_present.specs.Denotes.{Denotes}
+use Rattle.mp4_present.specs.Presentation.{Presentation}
 use Rattle.mp4_present.specs.Stands.{Stands}
-use Rattle.mp4norm.specs.Texts.{line_feed}
-use Rattle.mp4norm.specs.ShowValue.{ShowValue}
+use Rattle.mp4norm.specs.Texts.{line_feed, show_value}
 
 -- no track of the file has the ID
 abbrev pub AreOthers : ℕ → List ℕ → Type 0
@@ -19,11 +18,9 @@ AreOthers id ids = AllByRecursion (λ (n : ℕ). n ≡ id → ⊥) ids
 abbrev pub LacksTrack : List ℕ → ℕ → Type 0
 LacksTrack file id = (ids : List ℕ) × HasMovie file ids × AreOthers id ids
 
--- the line that shows what the `moov` of the file says, with these numbers of its samples
+-- the line that shows the presentation that the file denotes
 abbrev pub ShowsLine : List ℕ → List ℕ → Type 0
-ShowsLine file line =
-    (ids : List ℕ) × (movie : HasMovie file ids) × (mehd : ℕ) × (infos : List TrackInfo)
-    × (line ≡ compact_text (ShowValue (movie_head_of movie.tree) (map track_head_of movie.tree.tracks) mehd infos) ++ line_feed)
+ShowsLine file line = (p : Presentation) × Denotes file p × (line ≡ compact_text (show_value p) ++ line_feed)
 
 -- Why a movie is not shown: its line is made whole before it is put.
 abbrev pub RefusesShow : Bool → List ℕ → Option (List ℕ) → Option (List ℕ) → ℕ → ℕ → ℕ → ℕ → Refusal → Type 0
