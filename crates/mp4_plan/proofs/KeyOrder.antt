@@ -172,16 +172,16 @@ rising_once (key ∷ keys) h = (above_none key keys h.0, rising_once keys h.1)
 
 -- ---- maps that are covered
 
--- a key among some is above what all of them are above
-among_above : (key x : GroupKey) (keys : List GroupKey) → KeysAbove key keys → IsAmong keys x → key_rank key < key_rank x
+-- A key among some is above what all of them are above.
+pub among_above : (key x : GroupKey) (keys : List GroupKey) → KeysAbove key keys → IsAmong keys x → key_rank key < key_rank x
 among_above key x [] h a = absurd (cc)
 among_above key x (other ∷ keys) h a = elim (or_cases (same_key x other) (list_any (same_key x) keys) a) [
   | inl s ↦ omega (arith, h.0, eqb-true (key_rank x) (key_rank other) s)
   | inr r ↦ among_above key x keys h.1 r
 ]
 
--- a key of another rank than the first is among the rest
-among_rest : (key x : GroupKey) (keys : List GroupKey) → (key_rank x ≡ key_rank key → ⊥) → IsAmong (key ∷ keys) x → IsAmong keys x
+-- A key of another rank than the first is among the rest.
+pub among_rest : (key x : GroupKey) (keys : List GroupKey) → (key_rank x ≡ key_rank key → ⊥) → IsAmong (key ∷ keys) x → IsAmong keys x
 among_rest key x keys ne a = elim (or_cases (same_key x key) (list_any (same_key x) keys) a) [
   | inl s ↦ absurd (ne (eqb-true (key_rank x) (key_rank key) s))
   | inr r ↦ r

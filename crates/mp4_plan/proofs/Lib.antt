@@ -35,3 +35,15 @@ pub mod EachAt
 pub mod RowBytes
 pub mod RunsResumed
 pub mod Pushes
+pub mod NextKeys
+pub mod SpelledBoxes
+pub mod UsedLists
+pub mod SpelledGroups
+pub mod SpelledPiece
+pub mod FrontLists
+pub mod FragmentsLeft
+pub mod TurnSteps
+pub mod HandsCarried
+pub mod HandSteps
+pub mod HandsTaken
+pub mod TakenTurns

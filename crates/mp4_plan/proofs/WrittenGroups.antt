@@ -58,7 +58,7 @@ runs_again runs n e h =
     ∙ runs_read runs
 
 -- a row takes 8 bytes
-length-runs : (runs : List (ℕ × ℕ)) → length (row_bytes runs) ≡ 8 * length runs
+pub length-runs : (runs : List (ℕ × ℕ)) → length (row_bytes runs) ≡ 8 * length runs
 length-runs [] = refl
 length-runs (r ∷ runs) = omega (arith, length-append (spelled (row sbgp 0) (r.0 ∷ r.1 ∷ [])) (row_bytes runs), length-runs runs)
 

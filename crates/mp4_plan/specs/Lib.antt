@@ -12,3 +12,8 @@ pub mod Sizes
 pub mod Turns
 pub mod Writers
 pub mod Spelling
+pub mod UsedKeys
+pub mod Taken
+pub mod Coming
+pub mod TurnLaws
+pub mod HandsFed

@@ -1,5 +1,10 @@
 -- The order in which pieces come, and why it ends.
-use Rattle.std.specs.Prelude.{ℕ, ◌+◌, ◌-◌, ◌*◌, ◌==◌, if◌then◌else◌, Option, Some, None}
+use Rattle.std.specs.Prelude.{ℕ, ◌+◌, ◌-◌, ◌*◌, ◌==◌, Bool, true, if◌then◌else◌, List, [], ◌∷◌, Option, Some, None, option_map}
+use Rattle.mp4_tables.specs.declared.sample.SampleAt.{SampleAt}
+use Rattle.mp4_present.specs.declared.track_info.TrackInfo.{TrackInfo}
+use Rattle.mp4_plan.specs.Ends.{has_ended}
+use Rattle.mp4_plan.specs.declared.ends.End.{End}
+use Rattle.mp4_plan.specs.declared.ends.End.TheVariants.{Sync, Before}
 use Rattle.mp4_plan.specs.declared.schedule.Schedule.{Schedule}
 
 -- another fragment follows, and its first sample was met in the first track
@@ -19,3 +24,23 @@ wrapped s (Some cut) = if s.track == s.tracks then record s { from = cut; next =
 -- the first track says when the next fragment begins
 abbrev pub track_passed : Schedule → Option ℕ → Schedule
 track_passed s time = if s.track == 0 then wrapped (record s { next = time; track = 1 }) time else wrapped (record s { track = s.track + 1 }) s.next
+
+-- the timescale of the first of some tracks, 0 without one
+abbrev pub first_scale : List TrackInfo → ℕ
+first_scale [] = 0
+first_scale (t ∷ tracks) = t.timescale
+
+-- where a piece of this turn ends, in a track of this timescale
+abbrev pub turn_end : Schedule → ℕ → End
+turn_end s scale = if s.track == 0 then Sync s.from scale else Before s.next s.first scale
+
+-- the track's pieces of this fragment are over: no sample is left, or the next one is behind the end
+abbrev pub is_over : End → Option SampleAt → Bool
+is_over end None = true
+is_over end (Some s) = has_ended end s
+
+-- behind a turn that took so many samples, before this one
+abbrev pub turned : Schedule → End → ℕ → Option SampleAt → Schedule
+turned s end count sample =
+    let rest = record s { left = s.left - count } in
+    if is_over end sample then track_passed rest (option_map (λ (next : SampleAt). next.dts) sample) else rest

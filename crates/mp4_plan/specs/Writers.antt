@@ -1,11 +1,13 @@
 -- A writer of the normal form of a movie.
-use Rattle.std.specs.Prelude.{◌≡◌, ℕ, ◌+◌, ◌*◌, ◌^◌, ◌≤◌, List, length}
+use Rattle.std.specs.Prelude.{◌≡◌, ℕ, ◌+◌, ◌-◌, ◌*◌, ◌^◌, ◌≤◌, min, nat_lt, if◌then◌else◌, List, length, Option, Some, None}
 use Rattle.std.specs.List.{AllByRecursion, sum_by}
 use Rattle.mp4_store.specs.Device.{HasRisen}
 use Rattle.mp4_boxes.specs.declared.refusal.Refusal.{Refusal}
 use Rattle.mp4_boxes.specs.declared.refusal.Refusal.TheVariants as refusals
 use Rattle.mp4_present.specs.Movies.{MovieSeen, IsWalkOf}
 use Rattle.mp4_present.specs.declared.walks.Walk.{Walk}
+use Rattle.mp4_tables.specs.declared.sample.SampleAt.{SampleAt}
+use Rattle.mp4_plan.specs.declared.moof_front.PieceHead.{PieceHead}
 use Rattle.mp4_plan.specs.declared.writer.Writer.{Writer}
 
 -- a walk for each track of the movie
@@ -39,3 +41,13 @@ RefusesPlan reads reads_after refusals.Memory = Unit {0}
 RefusesPlan reads reads_after refusals.StoreFailed = HasRisen reads reads_after
 RefusesPlan reads reads_after refusals.StoreChanged = Unit {0}
 RefusesPlan reads reads_after _ = ⊥
+
+-- what a piece of so many samples says once, of which the first is this one
+abbrev pub turn_head : ℕ → ℕ → ℕ → Option SampleAt → Option PieceHead
+turn_head sequence id count None = None
+turn_head sequence id count (Some s) = if nat_lt 0 count then Some (record { sequence = sequence; id = id; time = s.dts; description = s.description }) else None
+
+-- the sequence number behind a piece, as far as 32 bits go
+abbrev pub sequence_behind : ℕ → Option PieceHead → ℕ
+sequence_behind sequence None = sequence
+sequence_behind sequence (Some head) = min (sequence + 1) (2 ^ 32 - 1)

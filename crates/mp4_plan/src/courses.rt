@@ -1,9 +1,10 @@
 //! Samples of a track, taken piece by piece.
-ghost use Rattle.std.specs.Prelude.{◌≡◌, ◌+◌, ◌*◌, ◌^◌, ◌<◌, ◌≤◌, length, vec_len, IfOk, IfErr, OnOk};
-ghost use Rattle.mp4_present.specs.InHand.{Follows};
-ghost use Rattle.mp4_present.specs.Carried.{RefusesCarry};
+ghost use Rattle.std.specs.Prelude.{◌≡◌, ◌+◌, ◌*◌, ◌^◌, ◌<◌, ◌≤◌, [], length, vec_len, IsTrue, IfOk, IfErr, OnOk};
+ghost use Rattle.mp4_present.specs.InHand.{Follows, left_in_hand};
+ghost use Rattle.mp4_present.specs.Carried.{RefusesCarry, waiting};
 ghost use Rattle.mp4_present.specs.Movies.{IsWalkOf, RefusesLoad};
 ghost use Rattle.mp4_plan.specs.Gathering.{count_of};
+ghost use Rattle.mp4_plan.specs.HandsFed.{BytesCarried, stop_of, HandFed};
 
 use crate::ends::End;
 use crate::limited::Limited;
@@ -58,7 +59,9 @@ struct FedHand {
 }
 
 // Why a piece took no more samples than those before this one.
-fn stop_at(planner: &Planner, next: Option<SampleAt>) -> Stop {
+fn stop_at(planner: &Planner, next: Option<SampleAt>) -> Stop
+    ensures { result ≡ stop_of planner.now next }
+{
     match next {
         Some(sample) if planner.takes(&sample) => Stop::Full,
         Some(_) => Stop::Ended,
@@ -70,6 +73,7 @@ fn stop_at(planner: &Planner, next: Option<SampleAt>) -> Stop {
 fn feed_hand(planner: &mut Planner, walk: &Walk, movie: &Movie) -> FedHand
     requires walk { IsWalkOf movie.now walk.now }
     requires few { count_of planner.old.gathered ≤ MOST_SAMPLES }
+    ensures fed { HandFed movie.now walk.now planner.old planner.new result.stop result.place }
     ensures few { count_of planner.new.gathered ≤ MOST_SAMPLES }
     ensures place { IsWalkOf movie.now (record walk.now { place = result.place }) }
 {
@@ -88,6 +92,7 @@ fn feed_hand(planner: &mut Planner, walk: &Walk, movie: &Movie) -> FedHand
 fn note_hand(planner: &mut Planner, walk: &Walk, movie: &Movie, rows: &mut [Row]) -> FedHand
     requires walk { IsWalkOf movie.now walk.now }
     requires few { count_of planner.old.gathered + length rows.old < 2 ^ 32 }
+    ensures fed { HandFed movie.now walk.now planner.old planner.new result.stop result.place }
     ensures few { count_of planner.new.gathered ≤ count_of planner.old.gathered + length rows.old }
     ensures place { IsWalkOf movie.now (record walk.now { place = result.place }) }
 {
@@ -185,6 +190,9 @@ fn carry_hand<S: Store, K: Sink>(
     sink: &mut K,
 ) -> Result<Load, Refusal>
     ensures later { OnOk result (Follows hand.old hand.new) }
+    ensures bytes { IfOk result (λ left. IsTrue (S.is_honest store.old) → BytesCarried (S.file store.old) (K.contents sink.old) (K.contents sink.new) (waiting carrier.old) (waiting carrier.new) (left_in_hand hand.old) (left_in_hand hand.new) load left) }
+    ensures ends { IfOk result (λ left. 0 < left.samples → left_in_hand hand.new ≡ []) }
+    ensures honesty { S.is_honest store.new ≡ S.is_honest store.old }
     ensures file { S.file store.new ≡ S.file store.old }
     ensures room { vec_len carrier.new.buffer ≡ vec_len carrier.old.buffer }
     ensures reads { OnOk result (S.read_failures store.new ≡ S.read_failures store.old) }

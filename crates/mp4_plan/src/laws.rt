@@ -3,6 +3,9 @@
 ghost use Rattle.mp4_plan.specs.Laws.{DenotedIsValid, DenotesOne, FaultRefuses, NormalDenotes, NormalIsExact, NormalIsFixed};
 ghost use Rattle.mp4_plan.specs.PieceLaws.{CutsAreLeast, FragmentsAreLast, PiecesAreDue, PiecesAreLongest, PiecesJoin};
 ghost use Rattle.mp4_plan.specs.PlannerLaws.{GatheringSumsUp};
+ghost use Rattle.mp4_plan.specs.Coming.{TurnsBeginWithAll};
+ghost use Rattle.mp4_plan.specs.Taken.{PieceIsSpelled, PiecesTakeAlike};
+ghost use Rattle.mp4_plan.specs.TurnLaws.{TurnsTakeAll};
 ghost use Rattle.mp4_plan.specs.HeadLaws.{MovieLengthIsLargest, NextTrackIdIsLeast};
 ghost use Rattle.mp4_plan.specs.SpellingLaws.{ColumnsAreSpelledOnce, GroupRowsAreLongest, PieceKeysAreThose};
 ghost use Rattle.mp4_plan.specs.TableLaws.{GroupsAreIndexes, SamplesLieInChunks};
@@ -146,4 +149,24 @@ pub fn fault_refuses()
 /// What a planner gathers of the samples of a piece is what they have: how many, how many bytes, what they share, which rows their groups make.
 pub fn gathering_sums_up()
     ensures { GatheringSumsUp }
+{}
+
+/// What is written of the samples of a piece, by what was gathered and noted of them, and then their bytes, is the piece of the normal form.
+pub fn piece_is_spelled()
+    ensures { PieceIsSpelled }
+{}
+
+/// From the first turn on, the pieces that are left are all pieces.
+pub fn turns_begin_with_all()
+    ensures { TurnsBeginWithAll }
+{}
+
+/// Turns take the pieces that are left, one after the other.
+pub fn turns_take_all()
+    ensures { TurnsTakeAll }
+{}
+
+/// A piece of samples that are those of a presentation takes as many as a turn takes of these.
+pub fn pieces_take_alike()
+    ensures { PiecesTakeAlike }
 {}

@@ -1,9 +1,10 @@
 //! The rows of a `moof`: those of `trun`, and the `sbgp`s behind it (ISO/IEC 14496-12, 8.8.8 and 8.9.2).
-ghost use Rattle.std.specs.Prelude.{◌≡◌, ℕ, ◌+◌, ◌-◌, ◌^◌, ◌<◌, ◌≤◌, List, [], flat_map, vec_len, length, IfSome, IfOk, IfErr, OnOk};
-ghost use Rattle.mp4_tables.specs.Keys.{keys_seen};
+ghost use Rattle.std.specs.Prelude.{◌≡◌, ℕ, ◌+◌, ◌-◌, ◌^◌, ◌<◌, ◌≤◌, List, [], ◌++◌, None, flat_map, vec_len, length, IfSome, IfOk, IfErr, OnOk};
+ghost use Rattle.mp4_tables.specs.Keys.{key_seen, keys_seen};
 ghost use Rattle.mp4_present.specs.Carried.{RefusesPut, BytesGoOn, waiting};
 ghost use Rattle.mp4_plan.specs.Normal.{own};
 ghost use Rattle.mp4_plan.specs.Spelling.{offset_of, run_row, run_rows, group_row, group_rows, runs_left, WritesRuns};
+ghost use Rattle.mp4_plan.specs.UsedKeys.{used_seen, is_above, is_below, least_above, used_from, IsKeyAt, AreApart, key_front, group_front, group_bytes, groups_bytes};
 
 use crate::moof_sizes::{group_size, short};
 use crate::planner::Planned;
@@ -65,10 +66,12 @@ pub(crate) fn carry_run<K: Sink>(
     Ok(())
 }
 
-// `sbgp` as far as its rows.
-fn group_front(key: GroupKey, rows: u32) -> Spelled {
-    let mut out = Spelled::new();
-    out.push_box(FourCc(*b"sbgp"), short(group_size(key.parameter, rows)));
+// The version of `sbgp`, its type, and in version 1 its parameter.
+fn push_key(out: &mut Spelled, key: GroupKey)
+    requires { length out.old ≤ 104 }
+    ensures is { out.new ≡ out.old ++ key_front (key_seen key) }
+    ensures short { length out.new ≤ length out.old + 12 }
+{
     match key.parameter {
         Some(parameter) => {
             out.push_u32(0x100_0000);
@@ -80,6 +83,15 @@ fn group_front(key: GroupKey, rows: u32) -> Spelled {
             out.push(&key.kind.0);
         }
     }
+}
+
+// `sbgp` as far as its rows.
+fn group_front(key: GroupKey, rows: u32) -> Spelled
+    ensures { result ≡ group_front (key_seen key) rows }
+{
+    let mut out = Spelled::new();
+    out.push_box(FourCc(*b"sbgp"), short(group_size(key.parameter, rows)));
+    push_key(&mut out, key);
     out.push_u32(rows);
     out
 }
@@ -164,26 +176,67 @@ fn carry_indexes<K: Sink>(
     Ok(())
 }
 
-// The place of the used key that is next in the order of keys.
-fn next_key(planned: &Planned, keys: &Keys, behind: Option<u128>) -> Option<u8>
-    ensures { IfSome result (λ j. j < length (keys_seen keys.now)) }
+// A key that a piece uses, and its place among those of the track.
+#[derive(Clone, Copy, Debug, PartialEq, Eq)]
+pub(crate) struct UsedKey {
+    pub(crate) place: u8,
+    pub(crate) key: GroupKey,
+}
+
+// Whether a key is above the last one that was written.
+fn is_above(behind: Option<u128>, key: GroupKey) -> bool
+    ensures { result ≡ is_above behind (key_seen key) }
 {
-    let mut found: Option<u8> = None;
-    for j in 0..keys.count() {
-        let rank = keys.key_at(j).rank();
-        let is_behind = match behind {
-            Some(last) => rank > last,
-            None => true,
-        };
-        let is_first = match found {
-            Some(best) => rank < keys.key_at(best).rank(),
-            None => true,
-        };
-        if planned.rows_at(j) > 0 && is_behind && is_first {
-            found = Some(j);
+    match behind {
+        Some(last) => last < key.rank(),
+        None => true,
+    }
+}
+
+// Whether a key is below the one that was found.
+fn is_below(found: Option<UsedKey>, key: GroupKey) -> bool
+    ensures { result ≡ is_below (used_seen found) (key_seen key) }
+{
+    match found {
+        Some(best) => key.rank() < best.key.rank(),
+        None => true,
+    }
+}
+
+// The used key that is next in the order of keys.
+fn next_key(planned: &Planned, keys: &Keys, behind: Option<u128>) -> Option<UsedKey>
+    ensures place { IfSome result (λ u. (u.place < 4) × IsKeyAt (keys_seen keys.now) u.place (key_seen u.key)) }
+    ensures next { used_seen result ≡ least_above behind None (used_from planned.now.group_rows 0 (keys_seen keys.now)) }
+{
+    let mut found: Option<UsedKey> = None;
+    for place in 0..keys.count() {
+        let key = keys.key_at(place);
+        if planned.rows_at(place) > 0 && is_above(behind, key) && is_below(found, key) {
+            found = Some(UsedKey { place, key });
         }
     }
     found
+}
+
+// Takes the `sbgp` of a used key along.
+fn carry_group<K: Sink>(
+    used: UsedKey,
+    rows: &[Row],
+    planned: &Planned,
+    carrier: &mut Carrier,
+    sink: &mut K,
+) -> Result<(), Refusal>
+    requires place { used.place < 4 }
+    requires few { length rows.now < 2 ^ 32 - 1 }
+    ensures room { vec_len carrier.new.buffer ≡ vec_len carrier.old.buffer }
+    ensures bytes { OnOk result (BytesGoOn (K.contents sink.old) (K.contents sink.new) (waiting carrier.old) (waiting carrier.new) (group_bytes rows.now planned.now used.place (key_seen used.key))) }
+    ensures puts { OnOk result (K.put_failures sink.new ≡ K.put_failures sink.old) }
+    ensures refusal { IfErr result (RefusesPut (K.put_failures sink.old) (K.put_failures sink.new)) }
+{
+    let front = group_front(used.key, planned.rows_at(used.place));
+    carrier.carry(front.as_bytes(), sink)?;
+    carry_indexes(rows, used.place, carrier, sink)?;
+    Ok(())
 }
 
 /// Takes an `sbgp` along for each key that is used, in the order of keys.
@@ -196,18 +249,17 @@ pub(crate) fn carry_groups<K: Sink>(
 ) -> Result<(), Refusal>
     requires { length rows.now < 2 ^ 32 - 1 }
     ensures room { vec_len carrier.new.buffer ≡ vec_len carrier.old.buffer }
+    ensures bytes { OnOk result (AreApart (keys_seen keys.now) → BytesGoOn (K.contents sink.old) (K.contents sink.new) (waiting carrier.old) (waiting carrier.new) (groups_bytes rows.now planned.now (keys_seen keys.now))) }
     ensures puts { OnOk result (K.put_failures sink.new ≡ K.put_failures sink.old) }
     ensures refusal { IfErr result (RefusesPut (K.put_failures sink.old) (K.put_failures sink.new)) }
 {
     let mut behind = None;
-    for _key in 0..4 {
-        let Some(j) = next_key(planned, keys, behind) else {
+    for _key in 0..keys.count() {
+        let Some(used) = next_key(planned, keys, behind) else {
             return Ok(());
         };
-        let key = keys.key_at(j);
-        carrier.carry(group_front(key, planned.rows_at(j)).as_bytes(), sink)?;
-        carry_indexes(rows, j, carrier, sink)?;
-        behind = Some(key.rank());
+        carry_group(used, rows, planned, carrier, sink)?;
+        behind = Some(used.key.rank());
     }
     Ok(())
 }

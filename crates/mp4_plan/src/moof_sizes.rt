@@ -1,6 +1,7 @@
 //! How many bytes the boxes of a piece's `moof` take.
 ghost use Rattle.std.specs.Prelude.{◌≡◌, ◌-◌, ◌^◌, ◌<◌, ◌≤◌, min};
-ghost use Rattle.mp4_plan.specs.Sizes.{own_size, row_size, group_size};
+ghost use Rattle.mp4_tables.specs.Keys.{keys_seen};
+ghost use Rattle.mp4_plan.specs.Sizes.{own_size, row_size, group_size, groups_size, moof_sizes};
 
 use crate::planner::Planned;
 use mp4_tables::Keys;
@@ -51,6 +52,7 @@ pub(crate) fn group_size(parameter: Option<u32>, rows: u32) -> u64
 
 // The sizes of all `sbgp`s.
 fn groups_size(planned: &Planned, keys: &Keys) -> u64
+    ensures is { result ≡ groups_size planned.now.group_rows 0 (keys_seen keys.now) }
     ensures small { result ≤ 2 ^ 38 }
 {
     let mut total = 0;
@@ -65,6 +67,7 @@ fn groups_size(planned: &Planned, keys: &Keys) -> u64
 
 /// The sizes of the boxes of a piece with samples.
 pub(crate) fn sizes_of(planned: &Planned, keys: &Keys) -> MoofSizes
+    ensures is { result ≡ moof_sizes planned.now (keys_seen keys.now) }
     ensures short { result.moof < 2 ^ 40 }
 {
     let tfhd = 32 - own(planned.duration) - own(planned.size) - own(planned.flags);

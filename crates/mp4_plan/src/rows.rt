@@ -1,5 +1,6 @@
 //! What is kept of the samples of a piece while it is planned, so that its `moof` can be written.
-ghost use Rattle.std.specs.Prelude.{◌≤◌, length};
+ghost use Rattle.std.specs.Prelude.{◌≡◌, ◌≤◌, length};
+ghost use Rattle.mp4_plan.specs.Taken.{row_seen};
 
 use mp4_tables::{SampleAt, Samples};
 
@@ -36,7 +37,9 @@ pub(crate) const NO_ROW: Row = Row {
 };
 
 /// What is written of this sample.
-pub(crate) fn row_of(sample: &SampleAt) -> Row {
+pub(crate) fn row_of(sample: &SampleAt) -> Row
+    ensures { result ≡ row_seen sample.now }
+{
     let groups = sample.groups;
     Row {
         duration: sample.duration,
@@ -63,7 +66,8 @@ impl<'r, C: Samples> Noting<'r, C> {
     pub(crate) fn new(inner: C, rows: &'r mut [Row]) -> Noting<'r, C>
         ensures inner { result.inner ≡ inner }
         ensures noted { result.noted ≡ 0 }
-        ensures room { length result.rows.now ≡ length rows.old }
+        ensures rows { result.rows.now ≡ rows.old }
+        ensures same_reference { result.rows.ghost_name ≡ rows.entry.ghost_name }
     {
         Noting {
             inner,
@@ -75,10 +79,11 @@ impl<'r, C: Samples> Noting<'r, C> {
 
 impl<'r, C: Samples> Samples for Noting<'r, C> {
     ghost use Rattle.std.specs.Prelude.{◌≡◌, ◌-◌, take, length};
+    ghost use Rattle.mp4_plan.specs.HandsFed.{NotesFirst, notes_itself, notes_on, same_itself, same_on};
 
     ghost rest = { λ s. take (length s.rows.now - s.noted) (C.rest s.inner) };
 
-    ghost follows = { λ s t. C.follows s.inner t.inner };
+    ghost follows = { λ s t. C.follows s.inner t.inner × NotesFirst s.noted t.noted s.rows.now t.rows.now (C.rest s.inner) (C.rest t.inner) × (t.rows.ghost_name ≡ s.rows.ghost_name) };
 
     #[inline]
     fn peek(&self) -> Option<SampleAt> {
@@ -99,7 +104,7 @@ impl<'r, C: Samples> Samples for Noting<'r, C> {
         Some(sample)
     }
 
-    ghost follows_itself = { λ s. C.follows_itself s.inner };
+    ghost follows_itself = { λ s. (C.follows_itself s.inner, notes_itself s.noted s.rows.now (C.rest s.inner), same_itself s.rows.ghost_name) };
 
-    ghost follows_on = { λ s t u p q. C.follows_on s.inner t.inner u.inner p q };
+    ghost follows_on = { λ s t u p q. (C.follows_on s.inner t.inner u.inner p.0 q.0, notes_on s.noted t.noted u.noted s.rows.now t.rows.now u.rows.now (C.rest s.inner) (C.rest t.inner) (C.rest u.inner) p.1 q.1, same_on s.rows.ghost_name t.rows.ghost_name u.rows.ghost_name p.2 q.2) };
 }

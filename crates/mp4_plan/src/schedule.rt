@@ -44,14 +44,17 @@ fn may_pass(is_over: bool, is_first: bool, sample: &Option<SampleAt>) -> bool
 }
 
 impl Schedule {
-    ghost use Rattle.std.specs.Prelude.{◌≡◌, ◌<◌, ◌≤◌, length, option_map, IfSome, IfErr, OnOk};
-    ghost use Rattle.mp4_plan.specs.Turns.{to_come, track_passed};
+    ghost use Rattle.std.specs.Prelude.{◌≡◌, ◌<◌, ◌≤◌, length, option_map, slice_get, Some, None, IfSome, IfErr, OnOk};
+    ghost use Rattle.mp4_present.specs.declared.track_info.TrackInfo.{TrackInfo};
+    ghost use Rattle.mp4_plan.specs.Turns.{to_come, track_passed, first_scale, turn_end, turned};
     ghost use Rattle.mp4_boxes.specs.declared.refusal.Refusal.TheVariants as refusals;
     ghost use Rattle.mp4_tables.specs.declared.sample.SampleAt.{SampleAt};
 
     /// The pieces of these tracks, of which the first begins at this time.
     pub(crate) fn new(tracks: &[TrackInfo], from: u64) -> Schedule
-        ensures { result.tracks ≡ length tracks.now }
+        ensures tracks { result.tracks ≡ length tracks.now }
+        ensures first { result.first ≡ first_scale tracks.now }
+        ensures starts { (result.track ≡ 0) × (result.from ≡ from) × (result.next ≡ None) }
     {
         let mut left: u64 = 0;
         for track in tracks {
@@ -74,7 +77,9 @@ impl Schedule {
     /// Whose turn it is.
     pub(crate) fn turn(&self, tracks: &[TrackInfo]) -> Option<Turn>
         requires { self.now.tracks ≡ length tracks.now }
-        ensures { IfSome result (λ t. (t.track ≡ self.now.track) × (self.now.track < self.now.tracks)) }
+        ensures track { IfSome result (λ t. (t.track ≡ self.now.track) × (self.now.track < self.now.tracks)) }
+        ensures end { IfSome result (λ t. (info : TrackInfo) → slice_get tracks.now self.now.track ≡ Some info → t.end ≡ turn_end self.now info.timescale) }
+        ensures none { result ≡ None → self.now.tracks ≤ self.now.track }
     {
         if self.track >= self.tracks {
             return None;
@@ -129,6 +134,7 @@ impl Schedule {
     ) -> Result<(), Refusal>
         requires { self.old.track < self.old.tracks }
         ensures tracks { OnOk result (self.new.tracks ≡ self.old.tracks) }
+        ensures turned { OnOk result (self.new ≡ turned self.old turn.now.end count sample) }
         ensures less { OnOk result (to_come self.new < to_come self.old) }
         ensures refusal { IfErr result (λ r. r ≡ refusals.StoreChanged) }
     {

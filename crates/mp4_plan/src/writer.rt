@@ -2,13 +2,12 @@
 ghost use Rattle.std.specs.Prelude.{◌≡◌, ◌+◌, ◌*◌, ◌^◌, ◌<◌, ◌≤◌, length, IfOk, IfErr, OnOk};
 ghost use Rattle.mp4_present.specs.Carried.{RefusesCarry};
 ghost use Rattle.mp4_present.specs.Movies.{RefusesLoad};
-ghost use Rattle.mp4_plan.specs.Writers.{RefusesMemory, RefusesPlan, AreWalksOf, IsWriterOf, rooms, held};
+ghost use Rattle.mp4_plan.specs.Writers.{RefusesMemory, RefusesPlan, AreWalksOf, IsWriterOf, rooms, held, turn_head, sequence_behind};
 
 use crate::courses::{Load, carry_piece, note_piece, peek_sample, plan_piece};
 use crate::moof_front::{PieceHead, moof_front};
 use crate::moof_rows::{carry_groups, carry_run};
 use crate::moof_sizes::sizes_of;
-use crate::offsets::data_offset;
 use crate::planner::Planned;
 use crate::rows::{NO_ROW, Row};
 use crate::schedule::Schedule;
@@ -16,7 +15,7 @@ use mp4_boxes::{FourCc, Refusal, Steps, header};
 use mp4_head::{head_bytes, head_len};
 use mp4_present::{Carrier, Movie, Walk};
 use mp4_store::{Sink, Store};
-use mp4_tables::Keys;
+use mp4_tables::{Keys, SampleAt};
 use std::alloc::Global;
 use std::sync::ledger::Ledger;
 
@@ -159,6 +158,32 @@ fn head_of(alloc: Global, movie: &Movie) -> Result<Vec<u8>, Refusal>
     Ok(head_bytes(alloc, &head, movie.mehd())?)
 }
 
+// What a piece of so many samples says once, of which the first is this one; nothing where it has none.
+fn turn_head(sequence: u32, id: u32, count: u32, first: &Option<SampleAt>) -> Option<PieceHead>
+    ensures { result ≡ turn_head sequence id count first.now }
+{
+    match first {
+        Some(sample) if count > 0 => Some(PieceHead {
+            sequence,
+            id,
+            time: sample.dts,
+            description: sample.description,
+        }),
+        _ => None,
+    }
+}
+
+// The sequence number behind a piece, as far as 32 bits go.
+fn sequence_behind(sequence: u32, head: &Option<PieceHead>) -> u32
+    ensures { result ≡ sequence_behind sequence head.now }
+{
+    if head.is_some() {
+        sequence.saturating_add(1)
+    } else {
+        sequence
+    }
+}
+
 impl Writer {
     /// Plans the whole movie, and then takes all memory that writing it needs.
     pub fn new<S: Store, L: Ledger>(
@@ -210,10 +235,6 @@ impl Writer {
         if sizes.moof > MOST_MOOF {
             return Err(Refusal::StoreChanged);
         }
-        let head = PieceHead {
-            data_offset: data_offset(sizes.moof as u32, planned.bytes),
-            ..head
-        };
         let rows = &self.rows[..planned.count as usize];
         let front = moof_front(&head, planned, &sizes);
         self.carrier.carry(front.as_bytes(), sink)?;
@@ -227,6 +248,34 @@ impl Writer {
             bytes: planned.bytes,
         };
         carry_piece(walk, load, &mut self.carrier, movie, store, sink, steps)
+    }
+
+    // Takes the piece of a turn along whose samples were noted, where it has some.
+    fn carry_turn<S: Store, K: Sink, L: Ledger>(
+        &mut self,
+        track: usize,
+        head: Option<PieceHead>,
+        planned: &Planned,
+        movie: &Movie,
+        store: &mut S,
+        sink: &mut K,
+        steps: &mut Steps<L>,
+    ) -> Result<(), Refusal>
+        requires writer { IsWriterOf movie.now self.old }
+        requires track { track < length movie.now.tracks }
+        requires count { planned.now.count ≤ length self.old.rows.items }
+        requires bytes { planned.now.bytes + 16 < 2 ^ 64 }
+        ensures writer { OnOk result (IsWriterOf movie.now self.new) }
+        ensures held { held self.new ≡ held self.old }
+        ensures file { S.file store.new ≡ S.file store.old }
+        ensures reads { OnOk result (S.read_failures store.new ≡ S.read_failures store.old) }
+        ensures puts { OnOk result (K.put_failures sink.new ≡ K.put_failures sink.old) }
+        ensures refusal { IfErr result (RefusesCarry (S.read_failures store.old) (S.read_failures store.new) (K.put_failures sink.old) (K.put_failures sink.new)) }
+    {
+        if let Some(head) = head {
+            self.carry(track, head, planned, movie, store, sink, steps)?;
+        }
+        Ok(())
     }
 
     /// Puts the normal form of the movie. It takes no memory; after an answer that isn't Ok it is of no more use.
@@ -248,26 +297,16 @@ impl Writer {
         self.carrier.carry(self.head.as_slice(), sink)?;
         let from = first_time(self.planning.as_mut_slice(), movie, store, steps)?;
         let mut schedule = Schedule::new(tracks, from);
-        let mut sequence: u32 = 0;
+        let mut sequence: u32 = 1;
         while let Some(turn) = schedule.turn(tracks) {
             let walk = &mut self.planning[turn.track];
             let first = peek_sample(walk, movie, store, steps)?;
             let rows = self.rows.as_mut_slice();
             let planned = note_piece(walk, turn.end, rows, movie, store, steps)?;
             let next = peek_sample(walk, movie, store, steps)?;
-            if let Some(sample) = first {
-                if planned.count > 0 {
-                    sequence = sequence.saturating_add(1);
-                    let head = PieceHead {
-                        sequence,
-                        id: tracks[turn.track].id,
-                        time: sample.dts,
-                        description: sample.description,
-                        data_offset: 0,
-                    };
-                    self.carry(turn.track, head, &planned, movie, store, sink, steps)?;
-                }
-            }
+            let head = turn_head(sequence, tracks[turn.track].id, planned.count, &first);
+            sequence = sequence_behind(sequence, &head);
+            self.carry_turn(turn.track, head, &planned, movie, store, sink, steps)?;
             schedule.pass(&turn, planned.count, next)?;
         }
         self.carrier.flush(sink)

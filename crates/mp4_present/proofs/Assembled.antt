@@ -63,7 +63,7 @@ seen_same movie t =
     last : (n : ℕ) → n ≡ (0 + n) + 0
     last n = omega arith
 
-all_same : (movie : MovieTree) (tracks : List TrackTree) → map (plain_seen (trexes_of movie)) tracks ≡ map (seen_behind movie []) tracks
+pub all_same : (movie : MovieTree) (tracks : List TrackTree) → map (plain_seen (trexes_of movie)) tracks ≡ map (seen_behind movie []) tracks
 all_same movie [] = refl
 all_same movie (t ∷ tracks) = λ i. seen_same movie t i ∷ all_same movie tracks i
 

@@ -19,7 +19,7 @@ use Rattle.mp4_present.proofs.Order.{order_refuses}
 use Rattle.mp4_present.proofs.TableReasons.{tables_refuse}
 
 -- where a fault stands, nothing is denoted
-stands_refuses : (reason : Reason) (file : List ℕ) (f : Fault) (p : Presentation) → StandsBy reason file f → Denotes file p → ⊥
+pub stands_refuses : (reason : Reason) (file : List ℕ) (f : Fault) (p : Presentation) → StandsBy reason file f → Denotes file p → ⊥
 stands_refuses header = header_refuses
 stands_refuses child = child_refuses
 stands_refuses missing = missing_stands_refuses

@@ -20,7 +20,7 @@ pub record Left (file : List ℕ) (at most : ℕ) : Type 0 where
   pub short : longest (of_kind (codes "moof") boxes) ≤ most
 
 -- the boxes behind some first ones
-behind : (file : List ℕ) (at : ℕ) (before after : List Box) → AreFrom file at (before ++ after) → AreFrom file (at + sizes before) after
+pub behind : (file : List ℕ) (at : ℕ) (before after : List Box) → AreFrom file at (before ++ after) → AreFrom file (at + sizes before) after
 behind file at before after a =
     let w = a.whole in
     let same : drop (sizes before) (drop at file) ≡ drop (at + sizes before) file = drop-drop (sizes before) at file in
@@ -34,7 +34,7 @@ pub whole_file : (file : List ℕ) (boxes : List Box) → Holds File (file_conta
 whole_file file boxes h = let full = h.tiles.full in record { lie = h.tiles.front.0; whole = omega (arith, full) }
 
 -- the longest of some boxes, and of one more
-longest_from : (m : ℕ) (boxes : List Box) → fold (λ (most : ℕ) (b : Box). max most (size b)) m boxes ≡ max m (longest boxes)
+pub longest_from : (m : ℕ) (boxes : List Box) → fold (λ (most : ℕ) (b : Box). max most (size b)) m boxes ≡ max m (longest boxes)
 longest_from m [] = omega arith
 longest_from m (b ∷ boxes) = omega (arith, longest_from (max m (size b)) boxes, longest_from (max 0 (size b)) boxes)
 
@@ -55,7 +55,7 @@ pub left_first : (file : List ℕ) (boxes : List Box) (o : Outline) → Holds Fi
 left_first file boxes o h i = rw i.longest (left_at file boxes o.fragments (whole_file file boxes h) i.fragments)
 
 -- the size of a box that lies in a file
-size_at : (file : List ℕ) (top : TopBox) → IsWhole (length file) top → size (box_at file top) ≡ top.header.end - top.offset
+pub size_at : (file : List ℕ) (top : TopBox) → IsWhole (length file) top → size (box_at file top) ≡ top.header.end - top.offset
 size_at file top w = let header = w.header in let within = w.within in grind (arith, length-take, length-drop)
 
 -- the next `moof`, which is no longer, and what lies behind it

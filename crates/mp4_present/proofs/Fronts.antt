@@ -31,7 +31,7 @@ split_map f (x ∷ xs) (y ∷ ys) zs e =
     (x ∷ r.0, r.1, ap (λ ws. x ∷ ws) r.2, λ i. first i ∷ r.3 i, r.4)
 
 -- a list whose values begin with one begins with a member
-next_map : {A B : Type 0} (f : A → B) (xs : List A) (y : B) (ys : List B) → map f xs ≡ y ∷ ys → (x : A) × (more : List A) × (xs ≡ x ∷ more) × (f x ≡ y)
+pub next_map : {A B : Type 0} (f : A → B) (xs : List A) (y : B) (ys : List B) → map f xs ≡ y ∷ ys → (x : A) × (more : List A) × (xs ≡ x ∷ more) × (f x ≡ y)
 next_map f [] y ys e = absurd (no_member y ys e)
 next_map f (x ∷ xs) y ys e = (x, xs, refl, head_is (f x) y (map f xs) ys e)
 

@@ -50,3 +50,6 @@ pub mod SampleTotals
 pub mod Assembled
 pub mod DenotedOpens
 pub mod SamplesLie
+pub mod MoofLoaded
+pub mod WalkBegun
+pub mod TrexPlaces

@@ -30,7 +30,7 @@ use Rattle.mp4_frag.proofs.Trees.{fragment_tree_one}
 use Rattle.mp4_head.specs.Tree.{TrackTree, track_head_of, trexes_of}
 use Rattle.mp4_head.proofs.Above.{lies_front}
 use Rattle.mp4_present.specs.Presentation.{IsInTime, Sample, total_duration, end_time, max_time}
-use Rattle.mp4_present.specs.Denotes.{FileTree, Denotes, plain_of, file_parts, parts_of_track, placed_of, sample_of, track_of, presentation_of}
+use Rattle.mp4_present.specs.Denotes.{FileTree, Denotes, begins_with_movie, plain_of, file_parts, parts_of_track, placed_of, sample_of, track_of, presentation_of}
 use Rattle.mp4_present.specs.Passing.{AreBehind, IsMovieOf, IsNextMoof, parts_behind, seen_behind}
 use Rattle.mp4_present.specs.Stands.{Stands, StandsBy, Reason, header, child, missing, leaf, tables, fragment, count, limit, order}
 use Rattle.mp4_present.specs.OpenedMovie.{IsOpenedAs, IsInfoOf, plain_seen}
@@ -45,6 +45,7 @@ use Rattle.mp4_present.proofs.FragmentReasons.{fragment_refuses}
 use Rattle.mp4_present.proofs.Counts.{count_refuses}
 use Rattle.mp4_present.proofs.Limits.{limit_refuses}
 use Rattle.mp4_present.proofs.Order.{order_refuses}
+use Rattle.mp4_present.proofs.MoofsPassed.{moov_before}
 use Rattle.mp4_present.proofs.MoofBehind.{passes_moof, trexes_behind}
 use Rattle.mp4_present.proofs.MoofRefused.{refuses_moof}
 use Rattle.mp4_present.proofs.DueBehind.{own_samples, one_moof, due_now}
@@ -83,7 +84,7 @@ pub seen_at : {A : Type 0} (f : A → TrackSeen) (states : List TrackState) (tra
 seen_at f states tracks k s t e a b =
     some_is (track_seen s) (f t) (sym (slice_get-map track_seen states k ∙ ap (option_map track_seen) a) ∙ ap (λ xs. slice_get xs k) e ∙ slice_get-map f tracks k ∙ ap (option_map f) b)
 
-zipped_at : {A B : Type 0} (R : A → B → Type 0) (xs : List A) (ys : List B) (k : ℕ) (x : A) (y : B) → AllZip R xs ys → slice_get xs k ≡ Some x → slice_get ys k ≡ Some y → R x y
+pub zipped_at : {A B : Type 0} (R : A → B → Type 0) (xs : List A) (ys : List B) (k : ℕ) (x : A) (y : B) → AllZip R xs ys → slice_get xs k ≡ Some x → slice_get ys k ≡ Some y → R x y
 zipped_at R [] ys k x y h a b = absurd (cc)
 zipped_at R (v ∷ xs) [] k x y h a b = absurd h
 zipped_at R (v ∷ xs) (w ∷ ys) zero x y h a b = subst (λ c. R c y) (some_is v x a) (subst (R v) (some_is w y b) h.0)
@@ -156,10 +157,6 @@ hit_choice : (kind : List ℕ) (b : Box) (v : Bool) → bytes_eq kind b.kind ≡
 hit_choice kind b true e h = rw e refl
 hit_choice kind b false e h = absurd cc
 
-miss_choice : (kind : List ℕ) (b : Box) (v : Bool) → bytes_eq kind b.kind ≡ v → v ≡ false → of_kind kind (b ∷ []) ≡ []
-miss_choice kind b true e h = absurd cc
-miss_choice kind b false e h = rw e refl
-
 module _ (file : List ℕ) (m : MovieSeen) (tree : FileTree) (t : TrackTree) (earlier : List FragmentTree) (next : FragmentTree) (later : List FragmentTree) (w : Walk) (o : IsOpenedAs file m tree) (h : HoldsNext file tree t earlier next later w) where
   movie_is : IsMovieOf file tree.movie
   movie_is = record { tree = o.is_tree.movie; sound = o.is_sound.movie; tables_sound = o.is_sound.tables; tables_fit = o.is_consistent.tables }
@@ -171,7 +168,7 @@ module _ (file : List ℕ) (m : MovieSeen) (tree : FileTree) (t : TrackTree) (ea
   is_next = record {
     stands = (lies_front true 0 file (h.passed ++ next.moof ∷ []) h.boxes (subst (λ (bs : List Box). LieEndToEnd true 0 file bs) joined o.is_tree.top.tiles.front.0), tt);
     is_moof = h.is_moof;
-    is_moov = h.moov;
+    is_moov = moov_before h.passed h.boxes next.moof tree.movie.moov h.is_moof (subst (λ (bs : List Box). begins_with_movie bs ≡ true) h.top o.is_tree.order) (subst (λ (bs : List Box). of_kind (codes "moov") bs ≡ tree.movie.moov ∷ []) h.top o.is_tree.moov);
     earlier_moofs = h.moofs_passed;
   }
 
@@ -230,8 +227,6 @@ module _ (file : List ℕ) (m : MovieSeen) (tree : FileTree) (t : TrackTree) (ea
           moofs_passed = map-append (λ (f : FragmentTree). f.moof) earlier (next ∷ []) ∙ ap (λ (bs : List Box). bs ++ next.moof ∷ []) h.moofs_passed
               ∙ ap (λ (bs : List Box). of_kind (codes "moof") h.passed ++ bs) (sym (hit_choice (codes "moof") next.moof (bytes_eq (codes "moof") next.moof.kind) refl (rw h.is_moof refl))) ∙ sym (of_kind-append (codes "moof") h.passed (next.moof ∷ []));
           moofs_left = h.moofs_left;
-          moov = λ some. of_kind-append (codes "moov") h.passed (next.moof ∷ []) ∙ ap (λ (bs : List Box). of_kind (codes "moov") h.passed ++ bs) (miss_choice (codes "moov") next.moof (bytes_eq (codes "moov") next.moof.kind) refl (rw h.is_moof refl))
-              ∙ append-nil (of_kind (codes "moov") h.passed) ∙ h.moov;
           behind = λ some. subst (λ (n : ℕ). AreBehind file tree.movie (earlier ++ next ∷ []) now.states.items n) (sym room) (subst (λ (ss : List TrackState). AreBehind file tree.movie (earlier ++ next ∷ []) ss less) (sym states) behind);
           room = bytes ∙ h.room;
         }

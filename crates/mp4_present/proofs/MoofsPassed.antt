@@ -98,7 +98,7 @@ no_second : (c v : Box) (cs ds : List Box) → c ∷ cs ++ ds ≡ v ∷ [] → c
 no_second c v [] ds e = ap (λ (x : Box). x ∷ []) (head_is c v ds [] e)
 no_second c v (d ∷ cs) ds e = let f : d ∷ cs ++ ds ≡ [] = tail_is c v (d ∷ cs ++ ds) [] e in absurd cc
 
-moov_before : (before after : List Box) (moof v : Box) → moof.kind ≡ codes "moof" → begins_with_movie (before ++ moof ∷ after) ≡ true → of_kind (codes "moov") (before ++ moof ∷ after) ≡ v ∷ [] → of_kind (codes "moov") before ≡ v ∷ []
+pub moov_before : (before after : List Box) (moof v : Box) → moof.kind ≡ codes "moof" → begins_with_movie (before ++ moof ∷ after) ≡ true → of_kind (codes "moov") (before ++ moof ∷ after) ≡ v ∷ [] → of_kind (codes "moov") before ≡ v ∷ []
 moov_before before after moof v kind order one = by (of_kind (codes "moov") before) refl
   where
     by : (found : List Box) → of_kind (codes "moov") before ≡ found → of_kind (codes "moov") before ≡ v ∷ []

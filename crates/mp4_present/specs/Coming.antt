@@ -46,7 +46,6 @@ pub record StandsBefore (file : List ℕ) (tree : FileTree) (t : TrackTree) (ear
   pub place : w.next ≡ sizes passed
   pub moofs_passed : map (λ (f : FragmentTree). f.moof) earlier ≡ of_kind (codes "moof") passed
   pub moofs_left : map (λ (f : FragmentTree). f.moof) later ≡ of_kind (codes "moof") boxes
-  pub moov : (later ≡ [] → ⊥) → of_kind (codes "moov") passed ≡ tree.movie.moov ∷ []
   pub behind : (later ≡ [] → ⊥) → AreBehind file tree.movie earlier w.states.items w.room
   pub room : length w.bytes.items ≡ longest (of_kind (codes "moof") tree.top)
 
@@ -70,7 +69,6 @@ pub record HoldsNext (file : List ℕ) (tree : FileTree) (t : TrackTree) (earlie
   pub place : w.next ≡ sizes passed + size next.moof
   pub moofs_passed : map (λ (f : FragmentTree). f.moof) earlier ≡ of_kind (codes "moof") passed
   pub moofs_left : map (λ (f : FragmentTree). f.moof) later ≡ of_kind (codes "moof") boxes
-  pub moov : of_kind (codes "moov") passed ≡ tree.movie.moov ∷ []
   pub behind : AreBehind file tree.movie earlier w.states.items w.room
   pub room : length w.bytes.items ≡ longest (of_kind (codes "moof") tree.top)
   pub is_moof : next.moof.kind ≡ codes "moof"

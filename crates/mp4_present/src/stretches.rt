@@ -32,6 +32,7 @@ pub fn next_stretch<C: Samples>(samples: &mut C, most: u32) -> Option<Stretch>
     ensures stretch { IfSome result (λ s. AreJoined (take s.samples (C.rest samples.old)) s.at s.len) }
     ensures samples { IfSome result (λ s. (0 < s.samples) × (s.samples ≤ most) × (s.samples ≤ length (C.rest samples.old)) × (C.rest samples.new ≡ drop s.samples (C.rest samples.old))) }
     ensures none { result ≡ None → 0 < most → C.rest samples.old ≡ [] }
+    ensures kept { result ≡ None → C.rest samples.new ≡ C.rest samples.old }
     ensures later { C.follows samples.old samples.new }
 {
     if most == 0 {

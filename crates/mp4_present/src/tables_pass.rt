@@ -1,9 +1,10 @@
 //! The tables of the tracks of a movie, checked one after the other.
-ghost use Rattle.std.specs.Prelude.{ℕ, ◌≡◌, ◌-◌, ◌^◌, min, length, List, IfOk, IfErr};
+ghost use Rattle.std.specs.Prelude.{ℕ, ◌≡◌, ◌-◌, ◌^◌, min, true, length, map, List, IfOk, IfErr};
 ghost use Rattle.mp4_boxes.specs.Bytes.{AreBytes};
 ghost use Rattle.mp4_boxes.specs.View.{box_seen};
 ghost use Rattle.mp4_frag.specs.FragmentSamples as fragments;
-ghost use Rattle.mp4_head.specs.Tree.{TrackTree};
+ghost use Rattle.mp4_frag.specs.declared.trex.Trex.{Trex};
+ghost use Rattle.mp4_head.specs.Tree.{TrackTree, are_distinct};
 ghost use Rattle.mp4_present.specs.Plain.{ArePlain, HaveTablesIn};
 ghost use Rattle.mp4_present.specs.TrackTrees.{AreTracksOf, HaveTables, RefusesTables};
 
@@ -33,10 +34,15 @@ pub(crate) struct PlainTracks {
     pub(crate) room: u32,
 }
 
-// What fragments of the track with this ID inherit.
-fn trex_for(trexes: &[Trex], id: u32) -> Option<Trex>
+// What fragments of the track with this ID inherit. Files mostly have them in the order of the tracks: that at the
+// track's own place is tried first, so that many tracks cost no more than one look each.
+fn trex_for(trexes: &[Trex], place: usize, id: u32) -> Option<Trex>
+    requires { are_distinct (map (λ (t : Trex). t.id) trexes.now) ≡ true }
     ensures { result ≡ fragments.trex_for trexes.now id }
 {
+    if place < trexes.len() && trexes[place].id == id {
+        return Some(trexes[place]);
+    }
     for trex in trexes {
         if trex.id == id {
             return Some(*trex);
@@ -64,10 +70,12 @@ fn length_of(payload: &[u8]) -> usize
 fn state_of(
     track: &TrackHead,
     trexes: &[Trex],
+    place: usize,
     totals: Totals,
     count: u32,
     keys: Keys,
 ) -> TrackState
+    requires { are_distinct (map (λ (t : Trex). t.id) trexes.now) ≡ true }
     ensures id { result.id ≡ track.now.id }
     ensures descriptions { result.descriptions ≡ min (length track.now.media.descriptions.items) (2 ^ 32 - 1) }
     ensures trex { result.trex ≡ fragments.trex_for trexes.now track.now.id }
@@ -79,7 +87,7 @@ fn state_of(
     TrackState {
         id: track.id,
         descriptions: description_count(track),
-        trex: trex_for(trexes, track.id),
+        trex: trex_for(trexes, place, track.id),
         start: 0,
         count,
         time: u128::from(totals.duration),
@@ -88,10 +96,10 @@ fn state_of(
 }
 
 impl PlainTracks {
-    ghost use Rattle.std.specs.Prelude.{ℕ, List, [], ◌∷◌, ◌++◌, ◌+◌, OnOk, IfErr};
+    ghost use Rattle.std.specs.Prelude.{◌≡◌, ℕ, true, map, List, [], ◌∷◌, ◌++◌, ◌+◌, OnOk, IfErr};
     ghost use Rattle.mp4_boxes.specs.View.{box_seen};
     ghost use Rattle.mp4_frag.specs.declared.trex.Trex.{Trex};
-    ghost use Rattle.mp4_head.specs.Tree.{TrackTree};
+    ghost use Rattle.mp4_head.specs.Tree.{TrackTree, are_distinct};
     ghost use Rattle.mp4_present.specs.Plain.{ArePlain, HasTablesIn};
     ghost use Rattle.mp4_present.specs.TrackTrees.{IsTrackOf, HaveTables, RefusesTable};
 
@@ -118,6 +126,7 @@ impl PlainTracks {
         steps: &mut Steps<L>,
     ) -> Result<(), Refusal>
         requires inside { HasTablesIn (box_seen moov) track.now }
+        requires distinct { are_distinct (map (λ (t : Trex). t.id) trexes.now) ≡ true }
         ensures one_more { OnOk result ((n : ℕ) → ArePlain (box_seen moov.entry).payload n self.old → ArePlain (box_seen moov.entry).payload (n + 1) self.new) }
         ensures says { OnOk result ((t : TrackTree) (trees : List TrackTree) → IsTrackOf t track.now → HaveTables file_len (box_seen moov.entry).payload trexes.now trees self.old → HaveTables file_len (box_seen moov.entry).payload trexes.now (trees ++ t ∷ []) self.new) }
         ensures refusal { IfErr result (RefusesTable file_len self.old.room track.now) }
@@ -136,8 +145,8 @@ impl PlainTracks {
             len,
             tables: tables.places(),
         })?;
-        self.states
-            .push(state_of(track, trexes, totals, tables.count(), keys))?;
+        let place = self.states.len();
+        self.states.push(state_of(track, trexes, place, totals, tables.count(), keys))?;
         self.counted.push(Counted {
             samples: tables.count(),
             bytes: totals.bytes,
@@ -155,6 +164,7 @@ pub(crate) fn check_tables<L: Ledger>(
     steps: &mut Steps<L>,
 ) -> Result<PlainTracks, Refusal>
     requires inside { HaveTablesIn (box_seen moov) head.now.tracks.items }
+    requires distinct { are_distinct (map (λ (t : Trex). t.id) head.now.trexes.items) ≡ true }
     ensures plain { IfOk result (ArePlain (box_seen moov.entry).payload (length head.now.tracks.items)) }
     ensures says { IfOk result (λ p. (trees : List TrackTree) → AreTracksOf trees head.now.tracks.items → HaveTables file_len (box_seen moov.entry).payload head.now.trexes.items trees p) }
     ensures refusal { IfErr result (RefusesTables file_len head.now.tracks.items) }

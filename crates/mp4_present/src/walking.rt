@@ -5,7 +5,7 @@ ghost use Rattle.mp4_frag.specs.Judged.{track_seen};
 ghost use Rattle.mp4_head.specs.Tree.{TrackTree};
 ghost use Rattle.mp4_present.specs.Denotes.{FileTree};
 ghost use Rattle.mp4_present.specs.OpenedMovie.{IsOpenedAs};
-ghost use Rattle.mp4_present.specs.Coming.{HoldsNext, Takes, due_of};
+ghost use Rattle.mp4_present.specs.Coming.{track_samples, samples_behind, StandsBefore, Comes, HoldsNext, Takes, Loads, due_of};
 ghost use Rattle.mp4_boxes.specs.declared.refusal.Refusal.TheVariants as refusals;
 ghost use Rattle.mp4_present.specs.Movies.{Fills, GoesOn, IsWalkOf, StatesFor, InHandOf, RefusesLoad};
 
@@ -39,6 +39,7 @@ impl Movie {
         requires { track < length self.now.tracks }
         ensures walk { IfOk result (IsWalkOf self.now) }
         ensures room { IfOk result (λ walk. length walk.bytes.items ≡ self.now.longest) }
+        ensures coming { IfOk result (λ walk. (file : List ℕ) (tree : FileTree) (t : TrackTree) → IsOpenedAs file self.now tree → slice_get tree.movie.tracks track ≡ Some t → Comes file tree t self.now walk (track_samples tree t)) }
     {
         let states = self.states_for_walk(alloc)?;
         let Ok(bytes) = vec![in alloc; 0u8; self.longest as usize] else {
@@ -137,6 +138,10 @@ impl Walk {
         ensures file { S.file store.new ≡ S.file store.old }
         ensures walk { OnOk result (IsWalkOf movie.now self.new) }
         ensures room { length self.new.bytes.items ≡ length self.old.bytes.items }
+        ensures loaded { IsTrue (S.is_honest store.old) → (tree : FileTree) (t : TrackTree) (earlier later : List FragmentTree) → IsOpenedAs (S.file store.old) movie.now tree → StandsBefore (S.file store.old) tree t earlier later self.old
+            → IfOk result (λ more. Loads (S.file store.old) tree t movie.now (samples_behind tree t earlier later) self.new more) }
+        ensures unchanged { IsTrue (S.is_honest store.old) → (tree : FileTree) (t : TrackTree) (earlier later : List FragmentTree) → IsOpenedAs (S.file store.old) movie.now tree → StandsBefore (S.file store.old) tree t earlier later self.old
+            → IfErr result (λ r. r ≡ refusals.StoreChanged → ⊥) }
         ensures next { IfOk result (λ more. IsTrue more → (self.old.next < self.new.next) × (self.new.next ≤ length (S.file store.old))) }
         ensures reads { OnOk result (S.read_failures store.new ≡ S.read_failures store.old) }
         ensures refusal { IfErr result (RefusesLoad (S.read_failures store.old) (S.read_failures store.new)) }

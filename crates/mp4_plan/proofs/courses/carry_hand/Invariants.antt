@@ -1,16 +1,23 @@
-use Rattle.std.specs.Prelude.{vec_len}
+use Rattle.std.specs.Prelude.{vec_len, IsTrue}
 use Rattle.std.proofs.Common.{◌≡◌, length}
+use Rattle.mp4_present.specs.Carried.{waiting}
 use Rattle.mp4_present.specs.InHand.{Follows, left_in_hand}
+use Rattle.mp4_plan.specs.HandsFed.{BytesCarried}
 use Rattle.mp4_plan.proofs.courses.carry_hand.Given as goal
 
--- the same samples, later
+-- the same samples, later, and the bytes of those before are taken along
 abbrev pub invariant-loop-stretch : goal.invariant-loop-stretch
 invariant-loop-stretch g l =
-    Follows l.fn.hand l.hand
-    × (g.S.Store.file l.store ≡ g.S.Store.file l.fn.store)
-    × (g.S.Store.read_failures l.store ≡ g.S.Store.read_failures l.fn.store)
-    × (g.K.Sink.put_failures l.sink ≡ g.K.Sink.put_failures l.fn.sink)
-    × (vec_len l.carrier.buffer ≡ vec_len l.fn.carrier.buffer)
+    record {
+      later : Follows l.fn.hand l.hand;
+      honesty : g.S.Store.is_honest l.store ≡ g.S.Store.is_honest l.fn.store;
+      file : g.S.Store.file l.store ≡ g.S.Store.file l.fn.store;
+      reads : g.S.Store.read_failures l.store ≡ g.S.Store.read_failures l.fn.store;
+      puts : g.K.Sink.put_failures l.sink ≡ g.K.Sink.put_failures l.fn.sink;
+      room : vec_len l.carrier.buffer ≡ vec_len l.fn.carrier.buffer;
+      bytes : IsTrue (g.S.Store.is_honest l.fn.store)
+          → BytesCarried (g.S.Store.file l.fn.store) (g.K.Sink.contents l.fn.sink) (g.K.Sink.contents l.sink) (waiting l.fn.carrier) (waiting l.carrier) (left_in_hand l.fn.hand) (left_in_hand l.hand) l.fn.load l.left;
+    }
 
 abbrev pub decreases-loop-stretch : goal.decreases-loop-stretch
 decreases-loop-stretch g l = length (left_in_hand l.hand)

@@ -1,5 +1,15 @@
 use Rattle.mp4_present.proofs.WalkPlaces.{kept_on}
+use Rattle.mp4_plan.proofs.HandsTaken.{fed_stops, hand_kept}
 use Rattle.mp4_plan.proofs.courses.feed_hand.Goals as goal
 
 pub returns-clause-place : goal.returns-clause-place
-returns-clause-place c = kept_on c.args.movie.now c.args.walk.now c.in_hand.result _ c.place.result c.requires.walk c.in_hand.ensures c.feed.ensures.later c.place.ensures
+returns-clause-place c = kept_on c.args.movie.now c.args.walk.now c.in_hand.result _ c.place.result c.requires.walk c.in_hand.ensures c.feed.ensures.later.0 c.place.ensures
+
+pub returns-clause-fed : goal.returns-clause-fed
+returns-clause-fed c = record {
+  hand = c.in_hand.result;
+  is_hand = c.in_hand.ensures;
+  later = c.feed.new.samples.inner;
+  is_later = hand_kept c.args.movie.now c.args.walk.now c.in_hand.result c.feed.new.samples.inner c.place.result c.in_hand.ensures c.feed.ensures.later.0 c.place.ensures;
+  taken = rw (c.stop_at.ensures, c.peek.ensures) (fed_stops c.args.planner.now c.feed.new.self _ _ _ _ c.feed.ensures.piece c.feed.ensures.rest c.feed.ensures.later.1);
+}

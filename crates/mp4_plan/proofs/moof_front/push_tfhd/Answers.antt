@@ -1,13 +1,14 @@
+use Rattle.mp4_plan.specs.Spelling.{tfhd_front}
 use Rattle.mp4_plan.proofs.Pushes.{behind}
 use Rattle.mp4_plan.proofs.moof_front.push_tfhd.Goals as goal
 
 pub returns-clause-is : goal.returns-clause-is
+unfolding tfhd_front
 returns-clause-is c =
     let start = c.args.out.now in
-    rw (← c.bit_of-durations.ensures.is, ← c.bit_of-sizes.ensures.is, ← c.bit_of-flags.ensures.is)
-    (behind start c.push_option-2.new.self c.push_option-3.new.self _ _
+    behind start c.push_option-2.new.self c.push_option-3.new.self _ _
     (behind start c.push_option.new.self c.push_option-2.new.self _ _
     (behind start c.push_u32-3.new.self c.push_option.new.self _ _
     (behind start c.push_u32-2.new.self c.push_u32-3.new.self _ _
     (behind start c.push_u32.new.self c.push_u32-2.new.self _ _
-    (behind start c.push_box.new.self c.push_u32.new.self _ _ c.push_box.ensures.is c.push_u32.ensures.is) c.push_u32-2.ensures.is) c.push_u32-3.ensures.is) c.push_option.ensures.is) c.push_option-2.ensures.is) c.push_option-3.ensures.is)
+    (behind start c.push_box.new.self c.push_u32.new.self _ _ c.push_box.ensures.is c.push_u32.ensures.is) c.push_u32-2.ensures.is) c.push_u32-3.ensures.is) c.push_option.ensures.is) c.push_option-2.ensures.is) c.push_option-3.ensures.is

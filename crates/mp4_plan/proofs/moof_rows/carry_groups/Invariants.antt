@@ -1,9 +1,20 @@
-use Rattle.std.specs.Prelude.{vec_len}
-use Rattle.std.proofs.Common.{◌≡◌}
+use Rattle.std.specs.Prelude.{vec_len, flat_map, filter}
+use Rattle.std.proofs.Common.{◌≡◌, ◌+◌, ◌≤◌, List, ◌++◌, length}
+use Rattle.mp4_tables.specs.Groups.{GroupKey}
+use Rattle.mp4_tables.specs.Keys.{keys_seen}
+use Rattle.mp4_present.specs.Carried.{BytesGoOn, waiting}
+use Rattle.mp4_plan.specs.Normal.{in_key_order}
+use Rattle.mp4_plan.specs.UsedKeys.{AreApart, is_above, used_from, place_at, group_bytes}
 use Rattle.mp4_plan.proofs.moof_rows.carry_groups.Given as goal
 
--- the buffer keeps its length
+-- the groups of the first keys are written, and those above the last are to come
 abbrev pub invariant-loop-key : goal.invariant-loop-key
 invariant-loop-key g l =
+    let keys = keys_seen l.keys in
+    let order = in_key_order (used_from l.planned.group_rows 0 keys) in
     (vec_len l.carrier.buffer ≡ vec_len l.fn.carrier.buffer)
     × (g.K.Sink.put_failures l.sink ≡ g.K.Sink.put_failures l.fn.sink)
+    × (AreApart keys → (done : List GroupKey)
+    × BytesGoOn (g.K.Sink.contents l.fn.sink) (g.K.Sink.contents l.sink) (waiting l.fn.carrier) (waiting l.carrier) (flat_map (λ key. group_bytes l.rows l.planned (place_at keys key) key) done)
+    × (done ++ filter (is_above l.behind) order ≡ order)
+    × (length (filter (is_above l.behind) order) + l._key ≤ length keys))

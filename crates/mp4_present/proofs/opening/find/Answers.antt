@@ -1,4 +1,7 @@
-use Rattle.std.proofs.Common.{rules, refl, length}
+use Rattle.mp4_frag.specs.declared.trex.Trex.{Trex}
+use Rattle.mp4_head.specs.Head.{Head}
+use Rattle.mp4_head.specs.Tree.{are_distinct}
+use Rattle.std.proofs.Common.{◌≡◌, List, map, true, subst, sym, ap, rules, refl, length}
 use Rattle.mp4_boxes.specs.View.{box_seen}
 use Rattle.mp4_present.specs.declared.opening.Found.{Found}
 use Rattle.mp4_boxes.specs.Bytes.{AreBytes}
@@ -9,7 +12,7 @@ use Rattle.mp4_present.proofs.PlainLists.{found_tables}
 use Rattle.mp4_present.proofs.opening.find.Goals as goal
 
 pub check_tables-requires : goal.check_tables-requires
-check_tables-requires g c = record { inside = found_tables _ c.in_ok-head.head c.in_ok-head.ensures.head c.in_ok-head.ensures.inside }
+check_tables-requires g c = record { inside = found_tables _ c.in_ok-head.head c.in_ok-head.ensures.head c.in_ok-head.ensures.inside; distinct = subst (λ (xs : List Trex). are_distinct (map (λ (t : Trex). t.id) xs) ≡ true) (sym (ap (λ (x : Head). x.trexes) c.in_ok-head.ensures.head.has.says)) c.in_ok-head.ensures.head.has.is_sound.trex_ids }
 
 pub returns-in_err-head-clause-refusal : goal.returns-in_err-head-clause-refusal
 returns-in_err-head-clause-refusal g c =

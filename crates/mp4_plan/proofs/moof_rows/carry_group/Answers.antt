@@ -1,0 +1,14 @@
+use Rattle.std.proofs.Common.{ℕ, List, ap, ◌∙◌, ◌++◌, sym}
+use Rattle.mp4_present.proofs.Carrying.{BytesGoOn-then}
+use Rattle.mp4_tables.specs.Keys.{key_seen}
+use Rattle.mp4_plan.specs.Spelling.{group_rows}
+use Rattle.mp4_plan.specs.UsedKeys.{group_front, group_bytes}
+use Rattle.mp4_plan.proofs.moof_rows.carry_group.Goals as goal
+
+pub returns-clause-bytes : goal.returns-clause-bytes
+unfolding group_bytes
+returns-clause-bytes g c =
+    let front : List ℕ = c.as_bytes.result.now in
+    let rows = group_rows c.args.used.place c.args.rows.now in
+    let is = c.as_bytes.ensures ∙ c.group_front-front.ensures ∙ ap (group_front (key_seen c.args.used.key)) c.rows_at.ensures in
+    BytesGoOn-then _ _ _ _ _ _ front rows _ c.in_ok-carry.ensures.bytes c.in_ok-carry_indexes.ensures.bytes (ap (λ (l : List ℕ). l ++ rows) (sym is))

@@ -1,0 +1,58 @@
+use Rattle.std.proofs.Common.{◌∙◌, refl, ap, [], ◌∷◌, ◌++◌, length, rules, arith}
+use Rattle.std.specs.Prelude.{flat_map}
+use Rattle.mp4_present.proofs.Carrying.{BytesGoOn-nothing, BytesGoOn-then}
+use Rattle.mp4_tables.specs.Groups.{GroupKey}
+use Rattle.mp4_tables.specs.Keys.{key_seen, keys_seen}
+use Rattle.mp4_plan.specs.Normal.{in_key_order}
+use Rattle.mp4_plan.specs.UsedKeys.{used_from, place_at, group_bytes}
+use Rattle.mp4_plan.proofs.NextKeys.{all_to_come, few_used, used_apart, found_first, none_above, place_is, key_written, keys_written, one_less, none_left}
+use Rattle.mp4_plan.proofs.Pushes.{goes_on_as}
+use Rattle.mp4_plan.proofs.moof_rows.carry_groups.Goals as goal
+
+pub loop-key-init : goal.loop-key-init
+loop-key-init g c =
+    let keys = keys_seen c.args.keys.now in
+    let order = in_key_order (used_from c.args.planned.now.group_rows 0 keys) in
+    let all = all_to_come order in
+    (refl, refl, λ apart. ([], BytesGoOn-nothing _ _, all, (let few = few_used c.args.planned.now.group_rows keys in let same = ap length all in omega (arith, few, same))))
+
+pub loop-key-preserved : goal.loop-key-preserved
+loop-key-preserved g c =
+    let i = c.loop-key.invariant in
+    let keys = keys_seen c.args.keys.now in
+    let rows = c.args.planned.now.group_rows in
+    let order = in_key_order (used_from rows 0 keys) in
+    let key = key_seen c.in-Some.used.key in
+    let f = λ (k : GroupKey). group_bytes c.args.rows.now c.args.planned.now (place_at keys k) k in (
+      c.in_ok-carry_group.ensures.room ∙ i.0,
+      c.in_ok-carry_group.ensures.puts ∙ i.1,
+      λ apart.
+          let found = found_first c.loop-key.behind (used_from rows 0 keys) key (used_apart rows 0 keys apart) c.in-Some.ensures.next in
+          let next = key_written f order (i.2 apart).0 c.loop-key.behind key (i.2 apart).2 found in
+          let place = place_is keys c.in-Some.used.place key apart c.in-Some.ensures.place.1 in
+          rw c.rank.ensures (
+            (i.2 apart).0 ++ key ∷ [],
+            BytesGoOn-then _ _ _ _ _ _ (flat_map f (i.2 apart).0) (group_bytes c.args.rows.now c.args.planned.now c.in-Some.used.place key) _ (i.2 apart).1 c.in_ok-carry_group.ensures.bytes
+                (next.0 ∙ ap (λ p. flat_map f (i.2 apart).0 ++ group_bytes c.args.rows.now c.args.planned.now p key) place),
+            next.1,
+            one_less order c.loop-key.behind key c.loop-key._key (length keys) found (i.2 apart).3,
+          ),
+    )
+
+pub returns-in_default-clause-bytes : goal.returns-in_default-clause-bytes
+returns-in_default-clause-bytes g c =
+    let i = c.loop-key.invariant in
+    let keys = keys_seen c.args.keys.now in
+    let rows = c.args.planned.now.group_rows in
+    let order = in_key_order (used_from rows 0 keys) in
+    let f = λ (k : GroupKey). group_bytes c.args.rows.now c.args.planned.now (place_at keys k) k in
+    λ apart. goes_on_as _ _ _ _ _ _ (i.2 apart).1 (keys_written f order (i.2 apart).0 _ (i.2 apart).2 (none_above c.loop-key.behind (used_from rows 0 keys) c.in_default.ensures.next))
+
+pub returns-clause-bytes : goal.returns-clause-bytes
+returns-clause-bytes g c =
+    let i = c.loop-key.invariant in
+    let keys = keys_seen c.args.keys.now in
+    let rows = c.args.planned.now.group_rows in
+    let order = in_key_order (used_from rows 0 keys) in
+    let f = λ (k : GroupKey). group_bytes c.args.rows.now c.args.planned.now (place_at keys k) k in
+    λ apart. goes_on_as _ _ _ _ _ _ (i.2 apart).1 (keys_written f order (i.2 apart).0 _ (i.2 apart).2 (none_left order c.loop-key.behind c.loop-key._key (length keys) (search rules) (i.2 apart).3))

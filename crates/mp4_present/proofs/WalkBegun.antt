@@ -1,0 +1,123 @@
+-- A walk that begins: the samples of the tables are in hand, and those of all `moof`s come behind them.
+use Rattle.std.proofs.Common.{◌≡◌, ℕ, zero, suc, ◌+◌, ◌≤◌, List, [], ◌∷◌, ◌++◌, Option, Some, None, length, drop, map, refl, sym, ap, subst, ◌∙◌, rules, arith, slice_get}
+use Rattle.std.specs.Prelude.{codes, flat_map, ℤ, unwrap_or}
+use Rattle.std.proofs.lemmas.List.{append-nil}
+use Rattle.mp4_boxes.specs.Box.{Box, sizes}
+use Rattle.mp4_boxes.specs.Children.{of_kind}
+use Rattle.mp4_boxes.proofs.Among.{of_kind-append}
+use Rattle.mp4_tables.specs.Groups.{GroupKey, Grouping, maps_of}
+use Rattle.mp4_tables.specs.PlainSamples.{PlacedSample, Spot, joined, plain_samples}
+use Rattle.mp4_tables.specs.Tables.{Tables, tables_of}
+use Rattle.mp4_tables.specs.Timed.{timed, samples_of}
+use Rattle.mp4_tables.specs.Accepted.{tables_at}
+use Rattle.mp4_tables.specs.Views.{TablesSeen, CursorSeen, samples_from}
+use Rattle.mp4_tables.specs.Views as views
+use Rattle.mp4_tables.specs.declared.sample.SampleAt.{SampleAt}
+use Rattle.mp4_tables.specs.declared.places.TablePlace.{TablePlace}
+use Rattle.mp4_frag.specs.Fragments.{FragmentTree}
+use Rattle.mp4_frag.specs.FragmentSamples.{Part, start_of, duration_of, fragment_samples}
+use Rattle.mp4_frag.specs.Judged.{TrackSeen, track_seen}
+use Rattle.mp4_frag.specs.declared.state.TrackState.{TrackState}
+use Rattle.mp4_frag.proofs.RunsTied.{timed-append}
+use Rattle.mp4_head.specs.Tree.{TrackTree, stbl_of, track_head_of, trexes_of}
+use Rattle.mp4_present.specs.Denotes.{FileTree, plain_of, plain_keys, file_parts, parts_of_track, placed_of}
+use Rattle.mp4_present.specs.Presentation.{max_samples}
+use Rattle.mp4_present.specs.Stands.{table_total}
+use Rattle.mp4_present.specs.Outline.{BeginAt, longest}
+use Rattle.mp4_present.specs.OpenedMovie.{IsOpenedAs, AreTablesOf, plain_seen}
+use Rattle.mp4_present.specs.Movies.{MovieSeen, StatesFor, table_bytes, tables_seen}
+use Rattle.mp4_present.specs.Passing.{AreBehind, parts_behind, seen_behind}
+use Rattle.mp4_present.specs.Coming.{track_keys, track_samples, due_behind, samples_behind, StandsBefore}
+use Rattle.mp4_present.specs.declared.movie.TrackTables.{TrackTables}
+use Rattle.mp4_present.specs.declared.walks.Walk.{Walk}
+use Rattle.mp4_present.proofs.Assembled.{all_same}
+use Rattle.mp4_present.proofs.FragmentPass.{whole_file}
+use Rattle.mp4_present.proofs.KeysExtended.{HaveNone, grouped_within, timed_with}
+use Rattle.mp4_present.proofs.MoofBehind.{begins_behind}
+use Rattle.mp4_present.proofs.MoofTaken.{zipped_at}
+
+-- ---- the samples of the tables
+
+joined_none : (ds : List ℕ) (os : List ℤ) (fs : List ℕ) (ss : List Spot) → HaveNone (joined ds os fs ss)
+joined_none [] os fs ss = tt
+joined_none (d ∷ ds) [] fs ss = tt
+joined_none (d ∷ ds) (o ∷ os) [] ss = tt
+joined_none (d ∷ ds) (o ∷ os) (f ∷ fs) [] = tt
+joined_none (d ∷ ds) (o ∷ os) (f ∷ fs) (s ∷ ss) = (refl, joined_none ds os fs ss)
+
+from_start : (keys : List GroupKey) (ss : List PlacedSample) (parts : List Part) → timed keys 0 ss ≡ timed keys (start_of ss parts) ss
+from_start keys [] parts = refl
+from_start keys (s ∷ ss) parts = refl
+
+-- those of the tables are the first of the track's
+pub plain_first : (tree : FileTree) (t : TrackTree) → samples_of (tables_of t.table) ++ samples_behind tree t [] tree.fragments ≡ track_samples tree t
+unfolding samples_of
+plain_first tree t = ap (λ ss. ss ++ timed keys (start + duration_of plain + 0) more) first ∙ ap (λ n. timed keys start plain ++ timed keys n more) (no_more (start + duration_of plain)) ∙ sym (timed-append keys start plain more)
+  where
+    keys : List GroupKey
+    keys = track_keys tree t
+
+    plain : List PlacedSample
+    plain = plain_of t
+
+    start : ℕ
+    start = start_of (plain_of t) (parts_of_track (file_parts tree) t)
+
+    more : List PlacedSample
+    more = fragment_samples (track_head_of t).id (parts_behind tree.movie tree.fragments)
+
+    no_more : (n : ℕ) → n + 0 ≡ n
+    no_more n = omega arith
+
+    first : timed (plain_keys t) 0 (plain_of t) ≡ timed (track_keys tree t) (start_of (plain_of t) (parts_of_track (file_parts tree) t)) (plain_of t)
+    first =
+        sym (timed_with (plain_keys t) (map (λ (g : Grouping). g.key) (flat_map (λ (part : Part). part.groups) (parts_of_track (file_parts tree) t))) 0 (plain_of t)
+        (grouped_within (length (tables_of t.table).sizes) (tables_of t.table).groups _ (joined_none _ _ _ _)))
+        ∙ from_start (track_keys tree t) (plain_of t) (parts_of_track (file_parts tree) t)
+
+-- what is in hand before the first sample of the tables
+pub tables_in_hand : (file : List ℕ) (m : MovieSeen) (tree : FileTree) (t : TrackTree) (k : ℕ) (found : TrackTables) (c : CursorSeen) → IsOpenedAs file m tree → slice_get tree.movie.tracks k ≡ Some t → slice_get m.tables k ≡ Some found
+    → c.tables ≡ tables_seen m.moov found → c.place.number ≡ 0 → samples_from c ≡ samples_of (tables_of t.table)
+tables_in_hand file m tree t k found c o at there is none =
+    let a = zipped_at (AreTablesOf m.moov) tree.movie.tracks m.tables k t found o.tables at there in
+    let tables : tables_at (table_bytes m.moov found) found.tables ≡ tables_of t.table = ap (λ bytes. tables_at bytes found.tables) a.bytes ∙ a.says in
+    ap (λ n. drop n (samples_of (views.tables_seen c.tables))) none ∙ ap (λ (s : TablesSeen). samples_of (views.tables_seen s)) is ∙ ap samples_of tables
+
+-- ---- the `moof`s
+
+no_moofs : (fs : List FragmentTree) → ◌≡◌ {A = List Box} (map (λ (f : FragmentTree). f.moof) fs) [] → fs ≡ []
+no_moofs [] e = refl
+no_moofs (f ∷ fs) e = absurd cc
+
+module _ (file : List ℕ) (m : MovieSeen) (tree : FileTree) (t : TrackTree) (o : IsOpenedAs file m tree) (w : Walk) (at : slice_get tree.movie.tracks w.track ≡ Some t) (bytes : length w.bytes.items ≡ m.longest) (states : StatesFor m w.states.items) (room : w.room ≡ m.room) where
+  behind_none : (ss : List TrackState) (r : ℕ) → ss ≡ m.states → r ≡ m.room → AreBehind file tree.movie [] ss r
+  behind_none ss r e f =
+      let left = o.room in
+      begins_behind file tree.movie ss r (ap (map track_seen) e ∙ o.states ∙ all_same tree.movie tree.movie.tracks) (subst (λ n. n + table_total tree.movie.tracks ≡ max_samples) (sym f) left)
+
+  -- it stands before the first one
+  pub stands_first : (first : Option ℕ) → m.fragments ≡ first → w.next ≡ unwrap_or first m.file_len → BeginAt first tree.top → StandsBefore file tree t [] tree.fragments w
+  stands_first None e next b = record {
+    is_track = at;
+    split = refl;
+    passed = tree.top;
+    boxes = [];
+    top = sym (append-nil tree.top);
+    place = let whole = (whole_file file tree.top o.is_tree.top).whole in let len = o.whole in omega (arith, whole, len, next);
+    moofs_passed = sym b;
+    moofs_left = o.is_tree.moofs ∙ b;
+    behind = λ some. absurd (some (no_moofs tree.fragments (o.is_tree.moofs ∙ b)));
+    room = bytes ∙ o.longest_is;
+  }
+  stands_first (Some from) e next b = record {
+    is_track = at;
+    split = refl;
+    passed = b.0;
+    boxes = b.1;
+    top = sym b.2;
+    place = next ∙ sym b.4;
+    moofs_passed = sym b.3;
+    moofs_left = o.is_tree.moofs ∙ ap (of_kind (codes "moof")) (sym b.2) ∙ of_kind-append (codes "moof") b.0 b.1 ∙ ap (λ (bs : List Box). bs ++ of_kind (codes "moof") b.1) b.3;
+    behind = λ some. behind_none w.states.items w.room (states.1 from e) room;
+    room = bytes ∙ o.longest_is;
+  }

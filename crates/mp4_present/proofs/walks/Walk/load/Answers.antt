@@ -1,0 +1,113 @@
+use Rattle.std.proofs.Common.{rules, ◌≡◌, length, refl, sym, ◌∙◌}
+use Rattle.std.proofs.lemmas.Result.{err_from_is_err_and}
+use Rattle.std.proofs.lemmas.List.{with_items_is}
+use Rattle.mp4_present.proofs.MoofLoaded.{boxes_from, none_more, fits, first_later, holds_next, next_unchanged, payload_unchanged, goes_past, comes_next, nothing_comes, later_is}
+use Rattle.mp4_present.proofs.walks.Walk.load.Goals as goal
+
+pub loop-top-init : goal.loop-top-init
+loop-top-init g c = record {
+  honesty = refl;
+  file = refl;
+  reads = refl;
+  walk = search rules;
+  room = refl;
+  on = search rules;
+  going = λ told tree t earlier later o h. (earlier, later, (h, refl));
+}
+
+pub returns-in_err-top-clause-unchanged : goal.returns-in_err-top-clause-unchanged
+returns-in_err-top-clause-unchanged g c told tree t earlier later o h =
+    let p = err_from_is_err_and c.from_residual.result c.from_residual.ensures.1 in
+    let i = c.loop-top.invariant in
+    let file = g.S.Store.file c.args.store.now in
+    let u = i.going told tree t earlier later o h in
+    let a = boxes_from file c.args.movie.now tree t u.0 u.1 c.loop-top.self o u.2.0 in
+    rw (p.1, p.2) (next_unchanged _ file c.loop-top.self.next _ _ u.2.0.boxes c.in_err-top.field-0.0 told a (rw (i.honesty, i.file) at c.in_err-top.ensures.refusal))
+
+pub returns-in_err-self-clause-unchanged : goal.returns-in_err-self-clause-unchanged
+returns-in_err-self-clause-unchanged g c told tree t earlier later o h =
+    let p = err_from_is_err_and c.from_residual-in_err-self.result c.from_residual-in_err-self.ensures.1 in
+    let i = c.loop-top.invariant in
+    let file = g.S.Store.file c.args.store.now in
+    let m = c.args.movie.now in
+    let u = i.going told tree t earlier later o h in
+    let a = boxes_from file m tree t u.0 u.1 c.loop-top.self o u.2.0 in
+    let next = rw (i.honesty, i.file, c.in-Some.is) at c.in_ok-top.ensures.next in
+    let within = rw (i.file, c.in-Some.is) at c.in_ok-top.ensures.within in
+    let short = fits file m tree t u.0 u.1 c.loop-top.self o u.2.0 c.in-Some.top within.0 (next told u.2.0.boxes a) in
+    rw (p.1, p.2) (payload_unchanged _ _ _ c.in-Some.top c.in_err-self.field-0.0 short (rw c.as_mut_slice.ensures.value at c.in_err-self.ensures.refusal))
+
+pub returns-in_err-take-clause-unchanged : goal.returns-in_err-take-clause-unchanged
+returns-in_err-take-clause-unchanged g c told tree t earlier later o h =
+    let i = c.loop-top.invariant in
+    let file = g.S.Store.file c.args.store.now in
+    let m = c.args.movie.now in
+    let next = rw (i.honesty, i.file, c.in-Some.is) at c.in_ok-top.ensures.next in
+    let within = rw (i.file, c.in-Some.is) at c.in_ok-top.ensures.within in
+    let u = i.going told tree t earlier later o h in
+    let w = c.loop-top.self in
+    let s = u.2.0 in
+    let n = next told s.boxes (boxes_from file m tree t u.0 u.1 w o s) in
+    let f = first_later file m tree t u.0 u.1 w o s c.in-Some.top within.0 n in
+    let bytes = c.read_payload.new.room in
+    let same : length bytes ≡ length w.bytes.items = search rules in
+    let read = (rw (c.in_ok-top.ensures.honesty, i.honesty, c.in_ok-top.ensures.file, i.file) at c.in_ok-self.ensures.bytes) told in
+    let fills = c.in_ok-self.ensures.fills in
+    let held = holds_next file m tree t u.0 u.1 w o s c.in-Some.top within.0 n _ bytes c.in_ok-self.field-0 refl refl refl (with_items_is w.bytes bytes (same ∙ sym w.bytes.ok.0)) same fills.1 fills.0 read refl refl refl in
+    absurd (c.in_err-take.ensures.taken file tree t u.0 f.1 f.0 o held)
+
+pub returns-then-branch-clause-loaded : goal.returns-then-branch-clause-loaded
+returns-then-branch-clause-loaded g c told tree t earlier later o h =
+    let i = c.loop-top.invariant in
+    let file = g.S.Store.file c.args.store.now in
+    let m = c.args.movie.now in
+    let next = rw (i.honesty, i.file, c.in-Some.is) at c.in_ok-top.ensures.next in
+    let within = rw (i.file, c.in-Some.is) at c.in_ok-top.ensures.within in
+    let u = i.going told tree t earlier later o h in
+    let w = c.loop-top.self in
+    let s = u.2.0 in
+    let n = next told s.boxes (boxes_from file m tree t u.0 u.1 w o s) in
+    let f = first_later file m tree t u.0 u.1 w o s c.in-Some.top within.0 n in
+    let bytes = c.read_payload.new.room in
+    let same : length bytes ≡ length w.bytes.items = search rules in
+    let read = (rw (c.in_ok-top.ensures.honesty, i.honesty, c.in_ok-top.ensures.file, i.file) at c.in_ok-self.ensures.bytes) told in
+    let fills = c.in_ok-self.ensures.fills in
+    let held = holds_next file m tree t u.0 u.1 w o s c.in-Some.top within.0 n _ bytes c.in_ok-self.field-0 refl refl refl (with_items_is w.bytes bytes (same ∙ sym w.bytes.ok.0)) same fills.1 fills.0 read refl refl refl in
+    comes_next file tree t m _ u.0 f.0 f.1 c.take.new.self c.in_ok-take.field-0 (later_is tree t _ u.0 u.1 f.0 f.1 f.2 u.2.1) (c.in_ok-take.ensures.taken file tree t u.0 f.1 f.0 o held)
+
+pub loop-top-preserved : goal.loop-top-preserved
+loop-top-preserved g c =
+    let i = c.loop-top.invariant in
+    let file = g.S.Store.file c.args.store.now in
+    let m = c.args.movie.now in
+    let next = rw (i.honesty, i.file, c.in-Some.is) at c.in_ok-top.ensures.next in
+    let within = rw (i.file, c.in-Some.is) at c.in_ok-top.ensures.within in
+    record {
+      honesty = search rules;
+      file = search rules;
+      reads = search rules;
+      walk = search rules;
+      room = search rules;
+      on = search rules;
+      going = λ told tree t earlier later o h.
+          let u = i.going told tree t earlier later o h in
+          let w = c.loop-top.self in
+          let s = u.2.0 in
+          let n = next told s.boxes (boxes_from file m tree t u.0 u.1 w o s) in
+          let f = first_later file m tree t u.0 u.1 w o s c.in-Some.top within.0 n in
+          let bytes = c.read_payload.new.room in
+          let same : length bytes ≡ length w.bytes.items = search rules in
+          let read = (rw (c.in_ok-top.ensures.honesty, i.honesty, c.in_ok-top.ensures.file, i.file) at c.in_ok-self.ensures.bytes) told in
+          let fills = c.in_ok-self.ensures.fills in
+          let held = holds_next file m tree t u.0 u.1 w o s c.in-Some.top within.0 n _ bytes c.in_ok-self.field-0 refl refl refl (with_items_is w.bytes bytes (same ∙ sym w.bytes.ok.0)) same fills.1 fills.0 read refl refl refl in
+          goes_past file tree t m _ u.0 f.0 f.1 c.take.new.self c.in_ok-take.field-0 (later_is tree t _ u.0 u.1 f.0 f.1 f.2 u.2.1) c.if-branch.false (c.in_ok-take.ensures.taken file tree t u.0 f.1 f.0 o held);
+    }
+
+pub returns-clause-loaded : goal.returns-clause-loaded
+returns-clause-loaded g c told tree t earlier later o h =
+    let i = c.loop-top.invariant in
+    let file = g.S.Store.file c.args.store.now in
+    let m = c.args.movie.now in
+    let u = i.going told tree t earlier later o h in
+    let n = (rw (i.honesty, i.file, c.in_default.is) at c.in_ok-top.ensures.next) told u.2.0.boxes (boxes_from file m tree t u.0 u.1 c.loop-top.self o u.2.0) in
+    nothing_comes tree t _ u.0 u.1 (none_more file m tree t u.0 u.1 c.loop-top.self o u.2.0 n) u.2.1
