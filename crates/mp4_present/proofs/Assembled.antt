@@ -1,10 +1,10 @@
 -- A file that was read whole: what was kept is what its boxes say.
-use Rattle.std.proofs.Common.{◌≡◌, ℕ, zero, suc, ◌+◌, ◌-◌, ◌^◌, ◌<◌, ◌≤◌, min, Bool, false, eqb, List, [], ◌∷◌, ◌++◌, length, take, drop, slice_index_or, slice_get, Option, Some, inl, inr, map, refl, sym, ap, subst, ◌∙◌, arith}
+use Rattle.std.proofs.Common.{◌≡◌, ℕ, zero, suc, ◌+◌, ◌-◌, ◌*◌, ◌^◌, ◌<◌, ◌≤◌, min, Bool, false, eqb, List, [], ◌∷◌, ◌++◌, length, take, drop, slice_index_or, slice_get, Option, Some, inl, inr, map, refl, sym, ap, subst, ◌∙◌, arith}
 use Rattle.std.specs.Prelude.{codes, IsTrue}
 use Rattle.std.specs.List.{AllByRecursion, AllZip}
 use Rattle.std.proofs.lemmas.Bool.{eqb-false}
 use Rattle.std.proofs.lemmas.List.{append-nil, length-map, take_all}
-use Rattle.mp4_boxes.specs.Bytes.{AreBytes}
+use Rattle.mp4_boxes.specs.Bytes.{AreBytes, sum_of}
 use Rattle.mp4_boxes.specs.Box.{Box}
 use Rattle.mp4_boxes.specs.Layout.{mdhd}
 use Rattle.mp4_boxes.specs.Places.{ruled}
@@ -43,6 +43,7 @@ use Rattle.mp4_present.specs.declared.track_info.TrackInfo.{TrackInfo}
 use Rattle.mp4_present.proofs.Counts.{sum-append}
 use Rattle.mp4_present.proofs.MoofBehind.{begins_behind}
 use Rattle.mp4_present.proofs.SampleTotals.{few_samples}
+use Rattle.mp4_present.proofs.TablesKept.{short_sum}
 use Rattle.mp4_present.proofs.Opened.{IsRead, its_moov, tracks_read}
 
 -- ---- behind the tables
@@ -140,19 +141,27 @@ module _ (file : List ℕ) (tree : FileTree) (t : TrackTree) (h : TrackHead) (s 
   measured : IsMeasured track h s
   measured = record { head = sym i.says; timescale = subst (λ (x : heads.TrackHead). 0 < x.media.timescale) (sym i.says) (timescale_there t i.tree i.sound); start = start_is; end = end_is }
 
-  info_is : (c : Counted) (info : TrackInfo) (timescale : ℕ) → IsInTime timescale track → IsCountOf (placed_of (file_parts tree) t) c → IsInfoBy h s c info → IsInfoOf file tree t info
-  info_is c info timescale within count by = record {
+  info_is : (c : Counted) (info : TrackInfo) (timescale : ℕ) → IsInTime timescale track → length track.samples ≤ 2 ^ 24 → IsCountOf (placed_of (file_parts tree) t) c → IsInfoBy h s c info → IsInfoOf file tree t info
+  info_is c info timescale within few count by = record {
     id = by.id ∙ ap (λ (x : heads.TrackHead). x.id) i.says;
     timescale = by.timescale ∙ ap (λ (x : heads.TrackHead). x.media.timescale) i.says;
     start = by.start ∙ start_is;
     samples = by.samples ∙ ap (λ (x : TrackSeen). x.count) e ∙ sym (length-map (placed_of (file_parts tree) t) (sample_of file));
     duration = lasts info.duration s.time s.start track.start (total_duration track.samples) by.duration start_is end_is within.0;
-    bytes = by.bytes ∙ count.bytes_are;
+    bytes = whole info.bytes c.bytes _ (length (placed_of (file_parts tree) t)) (length track.samples) by.bytes count.bytes_are (short_sum (λ (x : PlacedSample). x.size) (placed_of (file_parts tree) t) count.small) (length-map (placed_of (file_parts tree) t) (sample_of file)) few;
     keys = ap keys_seen by.keys ∙ ap (λ (x : TrackSeen). x.keys) e;
   }
     where
       lasts : (d time start begun total : ℕ) → d ≡ min (time - start) (2 ^ 64 - 1) → start ≡ begun → time ≡ begun + total → begun + total ≤ 2 ^ 63 - 1 → d ≡ total
       lasts d time start begun total p q r w = omega arith
+
+      whole : (b n sum samples many : ℕ) → b ≡ n → n ≡ min sum (2 ^ 64 - 1) → sum ≤ 2 ^ 32 * samples → many ≡ samples → many ≤ 2 ^ 24 → b ≡ sum
+      whole b n sum samples many p q r e w = omega arith
+
+-- no track has more samples than all together
+each_few : (tracks : List Track) → sum_of (λ (x : Track). length x.samples) tracks ≤ 2 ^ 24 → AllByRecursion (λ (x : Track). length x.samples ≤ 2 ^ 24) tracks
+each_few [] le = tt
+each_few (x ∷ tracks) le = (omega arith, each_few tracks (omega arith))
 
 -- the same of all tracks
 pub all_measured : (file : List ℕ) (tree : FileTree) (trees : List TrackTree) (hs : List TrackHead) (ss : List TrackState) → AreTracksOf trees hs → map track_seen ss ≡ map (seen_behind tree.movie (file_parts tree)) trees
@@ -167,20 +176,20 @@ all_measured file tree (t ∷ trees) (h ∷ hs) (s ∷ ss) z e =
     (measured file tree t h s z.0 (head_is (track_seen s) (f t) (map track_seen ss) (map f trees) e), all_measured file tree trees hs ss z.1 (tail_is (track_seen s) (f t) (map track_seen ss) (map f trees) e))
 
 pub all_infos : (file : List ℕ) (tree : FileTree) (timescale : ℕ) (trees : List TrackTree) (hs : List TrackHead) (ss : List TrackState) (cs : List Counted) (infos : List TrackInfo) → AreTracksOf trees hs → map track_seen ss ≡ map (seen_behind tree.movie (file_parts tree)) trees
-    → AreCounted trees (file_parts tree) cs → AllByRecursion (IsInTime timescale) (map (track_of file (file_parts tree)) trees) → AreInfosBy hs ss cs infos → AllZip (IsInfoOf file tree) trees infos
-all_infos file tree timescale [] [] [] [] [] z e k w q = tt
-all_infos file tree timescale [] [] [] [] (x ∷ infos) z e k w q = absurd q
-all_infos file tree timescale [] [] [] (c ∷ cs) infos z e k w q = absurd k
-all_infos file tree timescale [] [] (s ∷ ss) cs infos z e k w q = absurd cc
-all_infos file tree timescale [] (h ∷ hs) ss cs infos z e k w q = absurd z
-all_infos file tree timescale (t ∷ trees) [] ss cs infos z e k w q = absurd z
-all_infos file tree timescale (t ∷ trees) (h ∷ hs) [] cs infos z e k w q = absurd cc
-all_infos file tree timescale (t ∷ trees) (h ∷ hs) (s ∷ ss) [] infos z e k w q = absurd k
-all_infos file tree timescale (t ∷ trees) (h ∷ hs) (s ∷ ss) (c ∷ cs) [] z e k w q = absurd q
-all_infos file tree timescale (t ∷ trees) (h ∷ hs) (s ∷ ss) (c ∷ cs) (x ∷ infos) z e k w q =
+    → AreCounted trees (file_parts tree) cs → AllByRecursion (IsInTime timescale) (map (track_of file (file_parts tree)) trees) → AllByRecursion (λ (x : Track). length x.samples ≤ 2 ^ 24) (map (track_of file (file_parts tree)) trees) → AreInfosBy hs ss cs infos → AllZip (IsInfoOf file tree) trees infos
+all_infos file tree timescale [] [] [] [] [] z e k w few q = tt
+all_infos file tree timescale [] [] [] [] (x ∷ infos) z e k w few q = absurd q
+all_infos file tree timescale [] [] [] (c ∷ cs) infos z e k w few q = absurd k
+all_infos file tree timescale [] [] (s ∷ ss) cs infos z e k w few q = absurd cc
+all_infos file tree timescale [] (h ∷ hs) ss cs infos z e k w few q = absurd z
+all_infos file tree timescale (t ∷ trees) [] ss cs infos z e k w few q = absurd z
+all_infos file tree timescale (t ∷ trees) (h ∷ hs) [] cs infos z e k w few q = absurd cc
+all_infos file tree timescale (t ∷ trees) (h ∷ hs) (s ∷ ss) [] infos z e k w few q = absurd k
+all_infos file tree timescale (t ∷ trees) (h ∷ hs) (s ∷ ss) (c ∷ cs) [] z e k w few q = absurd q
+all_infos file tree timescale (t ∷ trees) (h ∷ hs) (s ∷ ss) (c ∷ cs) (x ∷ infos) z e k w few q =
     let f = seen_behind tree.movie (file_parts tree) in (
-      info_is file tree t h s z.0 (head_is (track_seen s) (f t) (map track_seen ss) (map f trees) e) c x timescale w.0 k.0 q.0,
-      all_infos file tree timescale trees hs ss cs infos z.1 (tail_is (track_seen s) (f t) (map track_seen ss) (map f trees) e) k.1 w.1 q.1,
+      info_is file tree t h s z.0 (head_is (track_seen s) (f t) (map track_seen ss) (map f trees) e) c x timescale w.0 few.0 k.0 q.0,
+      all_infos file tree timescale trees hs ss cs infos z.1 (tail_is (track_seen s) (f t) (map track_seen ss) (map f trees) e) k.1 w.1 few.1 q.1,
     )
 
 -- the k-th track, its tree and its head
@@ -304,7 +313,7 @@ module _ (honest : Bool) (file : List ℕ) (o : Outline) (moov : List ℕ) (b : 
         tables = kept.tables;
         states = kept.states;
         room = kept.room;
-        tracks = all_infos file tree (presentation_of file tree).movie.timescale says.has.tree.tracks head.tracks.items states counted found.tracks.items tracks_are p.behind.seen p.counts times infos;
+        tracks = all_infos file tree (presentation_of file tree).movie.timescale says.has.tree.tracks head.tracks.items states counted found.tracks.items tracks_are p.behind.seen p.counts times (each_few (presentation_of file tree).tracks (few_samples file tree states p.room begin.movie_is p.behind)) infos;
         mehd = longest;
       }
 

@@ -6,7 +6,7 @@ use Rattle.std.proofs.lemmas.List.{append-nil}
 use Rattle.std.proofs.lemmas.Grind.{flat_map-append}
 use Rattle.mp4_boxes.specs.Bytes.{sum_of}
 use Rattle.mp4_boxes.specs.Box.{Box}
-use Rattle.mp4_boxes.proofs.Among.{head_is, tail_is}
+use Rattle.mp4_boxes.proofs.Among.{head_is, tail_is, all_append}
 use Rattle.mp4_boxes.proofs.Each.{each_joined, each_kept, each_weaker}
 use Rattle.mp4_tables.specs.PlainSamples.{PlacedSample}
 use Rattle.mp4_frag.specs.FragmentSamples.{Part, parts_of, parts_for, part_samples, fragment_samples, duration_of}
@@ -35,10 +35,11 @@ count_same before more c n i e f = subst (λ (ss : List PlacedSample). IsCountOf
 
 -- with more samples
 pub count_with : (before more : List PlacedSample) (c new : Counted) (n bytes : ℕ) → IsCountOf before c → n ≡ length (before ++ more) → bytes ≡ min (sum_of (λ (s : PlacedSample). s.size) more) (2 ^ 64 - 1)
-    → new.samples ≡ n → new.bytes ≡ min (c.bytes + bytes) (2 ^ 64 - 1) → IsCountOf (before ++ more) new
-count_with before more c new n bytes i e b f g = record {
+    → AllByRecursion (λ (s : PlacedSample). s.size < 2 ^ 32) more → new.samples ≡ n → new.bytes ≡ min (c.bytes + bytes) (2 ^ 64 - 1) → IsCountOf (before ++ more) new
+count_with before more c new n bytes i e b w f g = record {
   samples_are = f ∙ e;
   bytes_are = capped new.bytes c.bytes bytes _ _ _ i.bytes_are b g (sum-append (λ (s : PlacedSample). s.size) before more);
+  small = all_append (λ (s : PlacedSample). s.size < 2 ^ 32) before more i.small w;
 }
   where
     capped : (a b c x y z : ℕ) → b ≡ min x (2 ^ 64 - 1) → c ≡ min y (2 ^ 64 - 1) → a ≡ min (b + c) (2 ^ 64 - 1) → z ≡ x + y → a ≡ min z (2 ^ 64 - 1)
@@ -53,15 +54,12 @@ placed_more movie parts t u =
     let joined : fragment_samples id (parts ++ ps) ≡ fragment_samples id parts ++ fragment_samples id ps = ap (flat_map part_samples) (for-append id parts ps) ∙ flat_map-append part_samples (parts_for id parts) (parts_for id ps) in
     ap (λ (ss : List PlacedSample). plain_of u ++ ss) joined ∙ sym (append_assoc (plain_of u) (fragment_samples id parts) (fragment_samples id ps))
 
--- the samples of each part are short
-abbrev AreShort : List Part → Type 0
-AreShort parts = AllByRecursion (λ (part : Part). AllByRecursion (λ (s : PlacedSample). s.duration < 2 ^ 32) (part_samples part)) parts
-
-short_for : (id : ℕ) (parts : List Part) → AreShort parts → AllByRecursion (λ (s : PlacedSample). s.duration < 2 ^ 32) (fragment_samples id parts)
-short_for id parts h =
-    let P = λ (part : Part). AllByRecursion (λ (s : PlacedSample). s.duration < 2 ^ 32) (part_samples part) in
-    each_joined P (λ (s : PlacedSample). s.duration < 2 ^ 32) part_samples (λ part x. x) (parts_for id parts)
-    (each_weaker (λ (part : Part). P part × ((part.id == id) ≡ true)) P (λ part x. x.0) (parts_for id parts) (each_kept P (λ (part : Part). part.id == id) parts h))
+-- what is so of the samples of each part is so of those of a track
+all_for : (P : PlacedSample → Type 0) (id : ℕ) (parts : List Part) → AllByRecursion (λ (part : Part). AllByRecursion P (part_samples part)) parts → AllByRecursion P (fragment_samples id parts)
+all_for P id parts h =
+    let Q = λ (part : Part). AllByRecursion P (part_samples part) in
+    each_joined Q P part_samples (λ part x. x) (parts_for id parts)
+    (each_weaker (λ (part : Part). Q part × ((part.id == id) ≡ true)) Q (λ part x. x.0) (parts_for id parts) (each_kept Q (λ (part : Part). part.id == id) parts h))
 
 -- ---- track by track
 
@@ -118,9 +116,9 @@ module _ (file_length : ℕ) (movie : MovieTree) (parts : List Part) (t : Fragme
       placed_more movie parts t u ∙ ap (λ (ss : List PlacedSample). placed_of parts u ++ ss) (sym own) in
       let count : s.count ≡ length (placed_of parts u ++ samples_of_track (trexes_of movie) s.id t) = ap (λ (x : TrackSeen). x.count) e ∙ ap (λ (ss : List PlacedSample). length ss) all in
       let long = length-append (placed_of parts u) (samples_of_track (trexes_of movie) s.id t) in
-      let short = short_sum (samples_of_track (trexes_of movie) s.id t) (short_for s.id (parts_of (trexes_of movie) (fragment_of t)) c.short) in
+      let short = short_sum (λ (x : PlacedSample). x.duration) (samples_of_track (trexes_of movie) s.id t) (all_for (λ (x : PlacedSample). x.duration < 2 ^ 32) s.id (parts_of (trexes_of movie) (fragment_of t)) c.short) in
       let lasts : duration_of (samples_of_track (trexes_of movie) s.id t) < 2 ^ 64 = omega (arith, few, count, long, short) in
-      subst (λ (ss : List PlacedSample). IsCountOf ss new) (sym all) (step (trexes_of movie) t (placed_of parts u) c.is_moof c.sound c.trexes lasts count i)
+      subst (λ (ss : List PlacedSample). IsCountOf ss new) (sym all) (step (trexes_of movie) t (placed_of parts u) c.is_moof c.sound c.trexes lasts (all_for (λ (x : PlacedSample). x.size < 2 ^ 32) s.id (parts_of (trexes_of movie) (fragment_of t)) c.small) count i)
 
   -- one more track is counted
   pub count_more : (k : ℕ) (counted : List Counted) (s : TrackState) (d old new : Counted) → IsMixed New Old k movie.tracks counted → k < length counted → k < length states → s ≡ slice_index_or states k s → old ≡ slice_index_or counted k d

@@ -19,7 +19,7 @@ pub record HandGoesOn (file : List ℕ) (before after : Option (List ℕ)) (held
 pub hand_none : (file : List ℕ) (known : Option (List ℕ)) (held : List ℕ) (all : List SampleAt) → HandGoesOn file known known held held all all
 hand_none file known held all = record { done = []; whole = refl; bytes = BytesGoOn-nothing known held }
 
-bytes_of_two : (file : List ℕ) (xs ys : List SampleAt) → sample_bytes file (xs ++ ys) ≡ sample_bytes file xs ++ sample_bytes file ys
+pub bytes_of_two : (file : List ℕ) (xs ys : List SampleAt) → sample_bytes file (xs ++ ys) ≡ sample_bytes file xs ++ sample_bytes file ys
 bytes_of_two file xs ys = flat_map-append _ xs ys
 
 -- one more stretch

@@ -1,14 +1,15 @@
 -- Samples that are taken one by one: their sums, and their bytes.
 use Rattle.std.proofs.Common.{◌≡◌, ℕ, ◌+◌, ◌-◌, ◌^◌, ◌<◌, ◌≤◌, List, [], ◌∷◌, ◌++◌, length, take, drop, Some, None, refl, sym, ap, subst, ◌∙◌, zero, suc, arith}
 use Rattle.std.specs.Prelude.{min}
-use Rattle.std.specs.List.{slice_get}
+use Rattle.std.specs.List.{slice_get, AllByRecursion}
 use Rattle.mp4_boxes.specs.Bytes.{sum_of}
+use Rattle.mp4_boxes.proofs.Each.{each_dropped}
 use Rattle.std.proofs.lemmas.Grind.{flat_map-append}
 use Rattle.std.proofs.lemmas.List.{append-nil}
 use Rattle.mp4_store.specs.Device.{range}
 use Rattle.mp4_store.proofs.Known.{range-add}
 use Rattle.mp4_tables.specs.declared.sample.SampleAt.{SampleAt}
-use Rattle.mp4_present.specs.Joined.{AreJoined, sample_bytes}
+use Rattle.mp4_present.specs.Joined.{AreJoined, IsBelow, sample_bytes}
 
 -- the first and the rest
 pub first_of : (xs : List SampleAt) (s : SampleAt) → Some s ≡ slice_get xs 0 → xs ≡ s ∷ drop 1 xs
@@ -69,3 +70,15 @@ pub joined_one : (xs left : List SampleAt) (s : SampleAt) → Some s ≡ slice_g
 joined_one xs left s e l =
     let r = one_more 0 xs s (first_of xs s e) in
     (r.0, λ file. ap (sample_bytes file) r.1 ∙ append-nil (range file s.at s.size))
+
+-- what is so of all samples is so of the one that is given
+pub first_has : (P : SampleAt → Type 0) (xs : List SampleAt) (s : SampleAt) → Some s ≡ slice_get xs 0 → AllByRecursion P xs → P s
+first_has P [] s e h = absurd (cc)
+first_has P (x ∷ xs) s e h = let same : s ≡ x = cc in subst P (sym same) h.0
+
+pub given_has : (P : SampleAt → Type 0) (k : ℕ) (xs now : List SampleAt) (s : SampleAt) → now ≡ drop k xs → Some s ≡ slice_get now 0 → AllByRecursion P xs → P s
+given_has P k xs now s e g h = first_has P now s g (subst (λ ys. AllByRecursion P ys) (sym e) (each_dropped P k xs h))
+
+-- a stretch that ends there, and a sample behind it
+pub ends_within : (n at len place size : ℕ) → place ≡ at + len → place + size ≤ n → at + (len + size) ≤ n
+ends_within n at len place size e h = omega (arith, e, h)

@@ -49,6 +49,8 @@ pub mod MoofTaken
 pub mod SampleTotals
 pub mod Assembled
 pub mod DenotedOpens
+pub mod SamplesLie
+pub mod WalkCopied
 pub mod MoofLoaded
 pub mod WalkBegun
 pub mod TrexPlaces

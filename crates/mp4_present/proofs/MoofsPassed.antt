@@ -15,7 +15,10 @@ use Rattle.mp4_boxes.proofs.Among.{of_kind-append, head_is, tail_is}
 use Rattle.mp4_boxes.proofs.Each.{each_from, each_value, each_weaker}
 use Rattle.mp4_boxes.proofs.OfBytes.{bytes_taken, payloads_of_bytes}
 use Rattle.mp4_boxes.proofs.Tiling.{tiles_one}
+use Rattle.mp4_tables.specs.Groups.{GroupKey}
 use Rattle.mp4_tables.specs.PlainSamples.{PlacedSample}
+use Rattle.mp4_tables.proofs.GroupMaps.{IsMap, keys_named}
+use Rattle.mp4_tables.proofs.Placed.{IsPlaced, IsIndex}
 use Rattle.mp4_frag.specs.FragmentSamples.{Part, parts_of, part_samples}
 use Rattle.mp4_frag.specs.Fragments.{FragmentTree, trex_of, fragment_of}
 use Rattle.mp4_frag.specs.Judged.{AreTrexesOf, IsSoundMoof, IsGrouped, AreMovedOn, tree_of, is_known_among}
@@ -131,20 +134,18 @@ module _ (file : List ℕ) (movie : MovieTree) (boxes : List Box) (at most : ℕ
   pub moof_refused : (f : Fault) → MoofFails (length file) states room moof f → Stands file f
   moof_refused f fails = refuses_moof file movie u.fragments (u.passed ++ n.0) moof states room f b.movie_is u.behind stands_next fails
 
-  -- the samples of its parts last less than 2^32 each
   trexes_valid : AllByRecursion IsTrex (trexes_of movie)
   trexes_valid =
       let of_bytes = movie_of_bytes movie b.bytes b.movie_is.tree in
       each_value (λ (x : Box). AreBytes x.payload) IsTrex (λ (x : Box). trex_of x.payload) (λ x k. trex_valid x.payload k) (of_kind (codes "trex") movie.extends) (payloads_of_bytes (codes "trex") movie.extends of_bytes.extends)
 
-  abbrev pub IsShort : Part → Type 0
-  IsShort part = AllByRecursion (λ (s : PlacedSample). s.duration < 2 ^ 32) (part_samples part)
-
-  shorts : (t : FragmentTree) → AreBytes t.moof.payload → IsSoundMoof (length file) (trexes_of movie) states t → AllByRecursion IsShort (parts_of (trexes_of movie) (fragment_of t))
-  shorts t bytes sound =
+  -- what is so of samples in their ranges is so of those of its parts
+  in_ranges : (P : PlacedSample → Type 0) → ((keys : List GroupKey) (s : PlacedSample) → IsPlaced (λ d. Unit {0}) (IsMap IsIndex keys) s → P s) → (t : FragmentTree) → AreBytes t.moof.payload → IsSoundMoof (length file) (trexes_of movie) states t
+      → AllByRecursion (λ (part : Part). AllByRecursion P (part_samples part)) (parts_of (trexes_of movie) (fragment_of t))
+  in_ranges P so t bytes sound =
       let parts = parts_of (trexes_of movie) (fragment_of t) in
       let valid : AllByRecursion IsPart parts = subst (λ (ps : List Part). AllByRecursion IsPart ps) (append-nil parts) (fragments_valid (trexes_of movie) (t ∷ []) trexes_valid (bytes, tt) (sound.tree, tt) (sound.leaves, tt)) in
-      each_from IsPart IsGrouped IsShort (λ part x y. each_weaker _ (λ (s : PlacedSample). s.duration < 2 ^ 32) (λ s k. k.duration) (part_samples part) (part_placed y.0 part x y.1)) parts valid sound.groups
+      each_from IsPart IsGrouped (λ (part : Part). AllByRecursion P (part_samples part)) (λ part x y. each_weaker _ P (so (keys_named part.groups)) (part_samples part) (part_placed y.0 part x y.1)) parts valid sound.groups
 
   module _ (new : List TrackState) (less : ℕ) (sound : IsSoundMoof (length file) (trexes_of movie) states (tree_of moof)) (same : (id : ℕ) → trex_among new id ≡ trex_among states id)
       (moved : AreMovedOn moof.offset (pos moof.offset) (of_kind (codes "traf") (children_of moof)) states new room less) (have : HaveRoom less new) (bytes : AreBytes moof.payload) where
@@ -168,7 +169,8 @@ module _ (file : List ℕ) (movie : MovieTree) (boxes : List Box) (at most : ℕ
       sound = sound_after;
       trexes = trexes_behind file movie (u.fragments ++ tree_of moof ∷ []) new less behind_it;
       seen = behind_it.seen ∙ ap (λ (ps : List Part). map (seen_behind movie ps) movie.tracks) (parts_joined movie u.fragments (tree_of moof));
-      short = shorts (tree_of moof) bytes sound;
+      short = in_ranges (λ (s : PlacedSample). s.duration < 2 ^ 32) (λ keys s k. k.duration) (tree_of moof) bytes sound;
+      small = in_ranges (λ (s : PlacedSample). s.size < 2 ^ 32) (λ keys s k. k.size) (tree_of moof) bytes sound;
       few = each_weaker (HasRoom less) (λ (s : TrackState). s.count ≤ 2 ^ 24) (λ s k. (let few = k.few in omega (arith, few))) new have;
     }
 

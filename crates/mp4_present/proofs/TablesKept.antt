@@ -97,10 +97,10 @@ pub timed_bytes : (keys : List GroupKey) (dts : ℕ) (samples : List PlacedSampl
 timed_bytes keys dts [] = refl
 timed_bytes keys dts (s ∷ samples) = ap (λ (n : ℕ). s.size + n) (timed_bytes keys (dts + s.duration) samples)
 
--- samples that each last less than 2^32
-pub short_sum : (samples : List PlacedSample) → AllByRecursion (λ (s : PlacedSample). s.duration < 2 ^ 32) samples → duration_of samples ≤ 2 ^ 32 * length samples
-short_sum [] h = omega arith
-short_sum (s ∷ samples) h = let own = h.0 in omega (arith, own, short_sum samples h.1)
+-- the sum of a number of each sample, all of them below 2^32
+pub short_sum : (f : PlacedSample → ℕ) (samples : List PlacedSample) → AllByRecursion (λ (s : PlacedSample). f s < 2 ^ 32) samples → sum_of f samples ≤ 2 ^ 32 * length samples
+short_sum f [] h = omega arith
+short_sum f (s ∷ samples) h = let own = h.0 in omega (arith, own, short_sum f samples h.1)
 
 -- ---- descriptions
 
@@ -203,15 +203,20 @@ module _ (file_length n room count lasts bytes : ℕ) (moov : Box) (h : TrackHea
       let boxes = tiled_of_bytes (box_container (stbl_of t)) t.table bytes_are i.tree.table.tiles in
       each_weaker _ (λ (s : PlacedSample). s.duration < 2 ^ 32) (λ s k. k.duration) (plain_of t) (plain_placed (surroundings_in file_length t) t.table boxes sound_is fit_is)
 
+  small_sizes : AllByRecursion (λ (s : PlacedSample). s.size < 2 ^ 32) (plain_of t)
+  small_sizes =
+      let boxes = tiled_of_bytes (box_container (stbl_of t)) t.table bytes_are i.tree.table.tiles in
+      each_weaker _ (λ (s : PlacedSample). s.size < 2 ^ 32) (λ s k. k.size) (plain_of t) (plain_placed (surroundings_in file_length t) t.table boxes sound_is fit_is)
+
   pub lasts_are : room ≤ 2 ^ 24 → lasts ≡ duration_of (plain_of t)
   lasts_are k =
       let same : sum_of (λ (s : SampleAt). s.duration) (samples_from cursor) ≡ duration_of (plain_of t) = ap (λ (ss : List SampleAt). sum_of (λ (s : SampleAt). s.duration) ss) coming ∙ timed_lasts (plain_keys t) 0 (plain_of t) in
-      uncapped lasts _ (duration_of (plain_of t)) (length (plain_of t)) r.duration same (short_sum (plain_of t) short) (omega (arith, few, k))
+      uncapped lasts _ (duration_of (plain_of t)) (length (plain_of t)) r.duration same (short_sum (λ (s : PlacedSample). s.duration) (plain_of t) short) (omega (arith, few, k))
 
   pub counted_are : (c : Counted) → c.samples ≡ count → c.bytes ≡ bytes → IsCountOf (plain_of t) c
   counted_are c e f =
       let same : sum_of (λ (s : SampleAt). s.size) (samples_from cursor) ≡ sum_of (λ (s : PlacedSample). s.size) (plain_of t) = ap (λ (ss : List SampleAt). sum_of (λ (s : SampleAt). s.size) ss) coming ∙ timed_bytes (plain_keys t) 0 (plain_of t) in
-      record { samples_are = e ∙ count_are; bytes_are = f ∙ r.size ∙ ap (λ (m : ℕ). min m (2 ^ 64 - 1)) same }
+      record { samples_are = e ∙ count_are; bytes_are = f ∙ r.size ∙ ap (λ (m : ℕ). min m (2 ^ 64 - 1)) same; small = small_sizes }
 
   pub tables_are : (x : TrackTables) → LiesIn moov (box_seen h.stbl) → x.place ≡ ((box_seen h.stbl).offset + (box_seen h.stbl).header) - (moov.offset + moov.header) → x.len ≡ length (box_seen h.stbl).payload → x.tables ≡ v.at → AreTablesOf moov.payload t x
   tables_are x lies place len at = record {

@@ -48,8 +48,7 @@ pub record IsInfoOf (file : List ℕ) (tree : FileTree) (t : TrackTree) (info : 
   pub start : info.start ≡ (track_of file (file_parts tree) t).start
   pub samples : info.samples ≡ length (track_of file (file_parts tree) t).samples
   pub duration : info.duration ≡ total_duration (track_of file (file_parts tree) t).samples
-  -- as far as 64 bits go
-  pub bytes : info.bytes ≡ min (sum_of (λ (s : PlacedSample). s.size) (placed_of (file_parts tree) t)) (2 ^ 64 - 1)
+  pub bytes : info.bytes ≡ sum_of (λ (s : PlacedSample). s.size) (placed_of (file_parts tree) t)
   pub keys : keys_seen info.keys ≡ keys_behind (plain_keys t) (parts_of_track (file_parts tree) t)
 
 -- What was read of a track, and counted of its samples, in numbers.

@@ -29,7 +29,7 @@ AreCounted tracks parts counted = AllZip (λ t c. IsCountOf (placed_of parts t) 
 abbrev pub CountsOne : ℕ → List TrackState → Box → TrackState → Counted → Counted → Type 0
 CountsOne file_length states moof state old new =
     (trexes : List Trex) (t : FragmentTree) (before : List PlacedSample) → t.moof ≡ moof → IsSoundMoof file_length trexes states t → AreTrexesOf trexes states → duration_of (samples_of_track trexes state.id t) < 2 ^ 64
-    → state.count ≡ length (before ++ samples_of_track trexes state.id t) → IsCountOf before old → IsCountOf (before ++ samples_of_track trexes state.id t) new
+    → AllByRecursion (λ (s : PlacedSample). s.size < 2 ^ 32) (samples_of_track trexes state.id t) → state.count ≡ length (before ++ samples_of_track trexes state.id t) → IsCountOf before old → IsCountOf (before ++ samples_of_track trexes state.id t) new
 
 -- a `moof` that was checked behind these parts, and the tracks behind it, which have no more samples than the limit allows
 pub record IsCheckedMoof (file_length : ℕ) (movie : MovieTree) (parts : List Part) (t : FragmentTree) (moof : Box) (states : List TrackState) : Type 0 where
@@ -38,6 +38,7 @@ pub record IsCheckedMoof (file_length : ℕ) (movie : MovieTree) (parts : List P
   pub trexes : AreTrexesOf (trexes_of movie) states
   pub seen : map track_seen states ≡ map (seen_behind movie (parts ++ parts_of (trexes_of movie) (fragment_of t))) movie.tracks
   pub short : AllByRecursion (λ (part : Part). AllByRecursion (λ (s : PlacedSample). s.duration < 2 ^ 32) (part_samples part)) (parts_of (trexes_of movie) (fragment_of t))
+  pub small : AllByRecursion (λ (part : Part). AllByRecursion (λ (s : PlacedSample). s.size < 2 ^ 32) (part_samples part)) (parts_of (trexes_of movie) (fragment_of t))
   pub few : AllByRecursion (λ (s : TrackState). s.count ≤ 2 ^ 24) states
 
 -- The file's boxes, its `moov`, and the tracks behind their tables.

@@ -1,5 +1,5 @@
 -- The tracks of a movie by their trees, and what is known of them behind their tables.
-use Rattle.std.specs.Prelude.{◌≡◌, ℕ, ◌+◌, ◌-◌, ◌^◌, min, List, ◌∷◌, ◌++◌, length, map}
+use Rattle.std.specs.Prelude.{◌≡◌, ℕ, ◌+◌, ◌-◌, ◌^◌, ◌<◌, min, List, ◌∷◌, ◌++◌, length, map}
 use Rattle.std.specs.List.{AllByRecursion, AllZip}
 use Rattle.mp4_boxes.specs.Bytes.{sum_of}
 use Rattle.mp4_boxes.specs.Places.{ruled, AreSound}
@@ -42,10 +42,11 @@ surroundings_in file_length t = record { file_length = file_length; descriptions
 abbrev pub TableFails : ℕ → ℕ → TrackTree → Fault → Type 0
 TableFails file_length room t f = IsFault (record { file_len = file_length; descriptions = length t.descriptions; room = room }) (stbl_of t) f
 
--- their number, and the sum of their bytes, as far as 64 bits go
+-- their number, and the sum of their bytes, as far as 64 bits go; 32 bits hold the size of each
 pub record IsCountOf (samples : List PlacedSample) (c : Counted) : Type 0 where
   pub samples_are : c.samples ≡ length samples
   pub bytes_are : c.bytes ≡ min (sum_of (λ (s : PlacedSample). s.size) samples) (2 ^ 64 - 1)
+  pub small : AllByRecursion (λ (s : PlacedSample). s.size < 2 ^ 32) samples
 
 -- The tables of these tracks can be read and fit, and this is what is kept of them.
 pub record HaveTables (file_length : ℕ) (moov : List ℕ) (trexes : List Trex) (trees : List TrackTree) (plain : PlainTracks) : Type 0 where

@@ -1,9 +1,17 @@
 //! The bytes of a track's samples, copied.
-ghost use Rattle.std.specs.Prelude.{◌≡◌, ◌<◌, ◌++◌, length, vec_len, IfErr, OnOk, OnErr, IsTrue};
+ghost use Rattle.std.specs.Prelude.{◌≡◌, ℕ, ◌<◌, List, ◌++◌, length, vec_len, Some, slice_get, IfErr, OnOk, OnErr, IsTrue};
+ghost use Rattle.std.specs.Io.KnownBytes.{Appends};
+ghost use Rattle.std.specs.List.{AllByRecursion};
+ghost use Rattle.mp4_boxes.specs.declared.refusal.Refusal.TheVariants as refusals;
+ghost use Rattle.mp4_frag.specs.Fragments.{FragmentTree};
+ghost use Rattle.mp4_head.specs.Tree.{TrackTree};
+ghost use Rattle.mp4_present.specs.Coming.{StandsBefore, track_samples};
+ghost use Rattle.mp4_present.specs.Denotes.{FileTree};
+ghost use Rattle.mp4_present.specs.OpenedMovie.{IsOpenedAs};
 ghost use Rattle.mp4_store.specs.Device.{AppendsPrefix, range};
 ghost use Rattle.mp4_present.specs.declared.in_hand.InHand.{InHand};
 ghost use Rattle.mp4_present.specs.InHand.{left_in_hand};
-ghost use Rattle.mp4_present.specs.Joined.{sample_bytes};
+ghost use Rattle.mp4_present.specs.Joined.{IsBelow, sample_bytes};
 ghost use Rattle.mp4_present.specs.Movies.{IsWalkOf, InHandOf};
 ghost use Rattle.mp4_present.specs.Carried.{waiting, BytesGoOn, RefusesStretch, RefusesCarry, RefusesCopy};
 
@@ -63,6 +71,8 @@ fn carry_hand<S: Store, K: Sink, L: Ledger>(
     ensures prefix { OnErr result (IsTrue (S.is_honest store.old) → (hand : InHand) × InHandOf movie.now walk.old hand × AppendsPrefix (K.contents sink.old) (K.contents sink.new) (waiting carrier.old ++ sample_bytes (S.file store.old) (left_in_hand hand))) }
     ensures reads { OnOk result (S.read_failures store.new ≡ S.read_failures store.old) }
     ensures puts { OnOk result (K.put_failures sink.new ≡ K.put_failures sink.old) }
+    ensures stands { OnOk result ((file : List ℕ) (tree : FileTree) (t : TrackTree) (earlier later : List FragmentTree) → StandsBefore file tree t earlier later walk.old → StandsBefore file tree t earlier later walk.new) }
+    ensures unchanged { (hand : InHand) × InHandOf movie.now walk.old hand × (AllByRecursion (IsBelow (length (S.file store.old))) (left_in_hand hand) → IfErr result (λ r. r ≡ refusals.StoreChanged → ⊥)) }
     ensures refusal { IfErr result (RefusesCarry (S.read_failures store.old) (S.read_failures store.new) (K.put_failures sink.old) (K.put_failures sink.new)) }
 {
     let place = {
@@ -92,6 +102,11 @@ impl Movie {
         ensures file { S.file store.new ≡ S.file store.old }
         ensures reads { OnOk result (S.read_failures store.new ≡ S.read_failures store.old) }
         ensures puts { OnOk result (K.put_failures sink.new ≡ K.put_failures sink.old) }
+        ensures bytes { OnOk result (IsTrue (S.is_honest store.old) → (tree : FileTree) (t : TrackTree) → IsOpenedAs (S.file store.old) self.now tree → slice_get tree.movie.tracks track ≡ Some t
+            → Appends (K.contents sink.old) (K.contents sink.new) (sample_bytes (S.file store.old) (track_samples tree t))) }
+        ensures prefix { OnErr result (IsTrue (S.is_honest store.old) → (tree : FileTree) (t : TrackTree) → IsOpenedAs (S.file store.old) self.now tree → slice_get tree.movie.tracks track ≡ Some t
+            → AppendsPrefix (K.contents sink.old) (K.contents sink.new) (sample_bytes (S.file store.old) (track_samples tree t))) }
+        ensures unchanged { IsTrue (S.is_honest store.old) → (tree : FileTree) (t : TrackTree) → IsOpenedAs (S.file store.old) self.now tree → slice_get tree.movie.tracks track ≡ Some t → IfErr result (λ r. r ≡ refusals.StoreChanged → ⊥) }
         ensures refusal { IfErr result (RefusesCopy (K.contents sink.old) (K.contents sink.new) (S.read_failures store.old) (S.read_failures store.new) (K.put_failures sink.old) (K.put_failures sink.new)) }
     {
         let mut walk = self.walk(alloc, track)?;

@@ -1,6 +1,7 @@
 //! Neighbouring samples, joined.
-ghost use Rattle.std.specs.Prelude.{◌≡◌, ◌<◌, ◌≤◌, [], take, drop, length, None, IfSome};
-ghost use Rattle.mp4_present.specs.Joined.{AreJoined};
+ghost use Rattle.std.specs.Prelude.{ℕ, ◌≡◌, ◌+◌, ◌<◌, ◌≤◌, [], take, drop, length, None, IfSome};
+ghost use Rattle.std.specs.List.{AllByRecursion};
+ghost use Rattle.mp4_present.specs.Joined.{AreJoined, IsBelow};
 
 use mp4_tables::{SampleAt, Samples};
 
@@ -30,6 +31,7 @@ impl Stretch {
 /// The bytes of the next samples that lie one after the other, of so many samples at most. These are taken.
 pub fn next_stretch<C: Samples>(samples: &mut C, most: u32) -> Option<Stretch>
     ensures stretch { IfSome result (λ s. AreJoined (take s.samples (C.rest samples.old)) s.at s.len) }
+    ensures within { IfSome result (λ s. (n : ℕ) → AllByRecursion (IsBelow n) (C.rest samples.old) → s.at + s.len ≤ n) }
     ensures samples { IfSome result (λ s. (0 < s.samples) × (s.samples ≤ most) × (s.samples ≤ length (C.rest samples.old)) × (C.rest samples.new ≡ drop s.samples (C.rest samples.old))) }
     ensures none { result ≡ None → 0 < most → C.rest samples.old ≡ [] }
     ensures kept { result ≡ None → C.rest samples.new ≡ C.rest samples.old }

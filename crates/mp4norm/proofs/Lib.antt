@@ -8,3 +8,5 @@ pub mod LineParts
 pub mod ShownTracks
 pub mod SampleTexts
 pub mod ShownLines
+pub mod WalkLines
+pub mod TrackTexts

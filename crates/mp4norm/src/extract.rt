@@ -1,6 +1,7 @@
 //! The bytes of a track's samples.
-ghost use Rattle.std.specs.Prelude.{◌≡◌, ◌<◌, IfErr, OnOk};
-ghost use Rattle.mp4norm.specs.Commands.{RefusesTrack};
+ghost use Rattle.std.specs.Prelude.{◌≡◌, ℕ, ◌<◌, List, IfErr, OnOk, IsTrue};
+ghost use Rattle.std.specs.Io.KnownBytes.{Appends};
+ghost use Rattle.mp4norm.specs.Commands.{HasData, RefusesTrack};
 
 use crate::tracks::track_with;
 use mp4_boxes::{Refusal, Steps};
@@ -25,7 +26,8 @@ fn extract_counted<S: Store, K: Sink, L: Ledger>(
     ensures file { S.file store.new ≡ S.file store.old }
     ensures reads { OnOk result (S.read_failures store.new ≡ S.read_failures store.old) }
     ensures puts { OnOk result (K.put_failures sink.new ≡ K.put_failures sink.old) }
-    ensures refusal { IfErr result (RefusesTrack (S.is_honest store.old) (S.file store.old) id (K.contents sink.old) (K.contents sink.new)
+    ensures bytes { OnOk result (IsTrue (S.is_honest store.old) → (text : List ℕ) × HasData (S.file store.old) id text × Appends (K.contents sink.old) (K.contents sink.new) text) }
+    ensures refusal { IfErr result (RefusesTrack (S.is_honest store.old) (S.file store.old) id (HasData (S.file store.old) id) (K.contents sink.old) (K.contents sink.new)
         (S.read_failures store.old) (S.read_failures store.new) (K.put_failures sink.old) (K.put_failures sink.new)) }
 {
     let mut steps = Steps::<L>::new(blank);
@@ -46,7 +48,8 @@ pub fn extract<S: Store, K: Sink>(
     ensures file { S.file store.new ≡ S.file store.old }
     ensures reads { OnOk result (S.read_failures store.new ≡ S.read_failures store.old) }
     ensures puts { OnOk result (K.put_failures sink.new ≡ K.put_failures sink.old) }
-    ensures refusal { IfErr result (RefusesTrack (S.is_honest store.old) (S.file store.old) id (K.contents sink.old) (K.contents sink.new)
+    ensures bytes { OnOk result (IsTrue (S.is_honest store.old) → (text : List ℕ) × HasData (S.file store.old) id text × Appends (K.contents sink.old) (K.contents sink.new) text) }
+    ensures refusal { IfErr result (RefusesTrack (S.is_honest store.old) (S.file store.old) id (HasData (S.file store.old) id) (K.contents sink.old) (K.contents sink.new)
         (S.read_failures store.old) (S.read_failures store.new) (K.put_failures sink.old) (K.put_failures sink.new)) }
 {
     extract_counted::<S, K, Brand>(alloc, store, id, sink, Blank::new(1))

@@ -1,12 +1,20 @@
 //! The samples of a track, a line each.
-ghost use Rattle.std.specs.Prelude.{◌≡◌, ◌+◌, ◌^◌, ◌<◌, ◌++◌, length, IfErr, OnOk, OnErr};
+ghost use Rattle.std.specs.Prelude.{◌≡◌, ℕ, ◌+◌, ◌^◌, ◌<◌, List, ◌++◌, length, IfErr, OnOk, OnErr, IsTrue};
+ghost use Rattle.std.specs.Io.KnownBytes.{Appends};
+ghost use Rattle.mp4_boxes.specs.declared.refusal.Refusal.TheVariants as refusals;
+ghost use Rattle.mp4_frag.specs.Fragments.{FragmentTree};
+ghost use Rattle.mp4_head.specs.Tree.{TrackTree};
+ghost use Rattle.mp4_tables.specs.declared.sample.SampleAt.{SampleAt};
 ghost use Rattle.mp4_store.specs.Device.{AppendsPrefix};
 ghost use Rattle.mp4_present.specs.declared.in_hand.InHand.{InHand};
+ghost use Rattle.mp4_present.specs.Coming.{Comes, StandsBefore};
+ghost use Rattle.mp4_present.specs.Denotes.{FileTree};
 ghost use Rattle.mp4_present.specs.InHand.{left_in_hand};
+ghost use Rattle.mp4_present.specs.OpenedMovie.{IsOpenedAs};
 ghost use Rattle.mp4_present.specs.Movies.{IsWalkOf, InHandOf};
 ghost use Rattle.mp4_present.specs.Carried.{waiting, BytesGoOn, RefusesPut, RefusesCarry};
 ghost use Rattle.mp4norm.specs.Texts.{sample_at_lines};
-ghost use Rattle.mp4norm.specs.Commands.{RefusesTrack};
+ghost use Rattle.mp4norm.specs.Commands.{ListsSamples, RefusesTrack};
 
 use crate::sample_lines::put_lines;
 use crate::tracks::track_with;
@@ -37,6 +45,7 @@ fn put_hand<K: Sink, L: Ledger>(
     ensures prefix { OnErr result ((hand : InHand) × InHandOf movie.now walk.old hand × (number.old + length (left_in_hand hand) < 2 ^ 64
         → AppendsPrefix (K.contents sink.old) (K.contents sink.new) (waiting carrier.old ++ sample_at_lines number.old (left_in_hand hand)))) }
     ensures puts { OnOk result (K.put_failures sink.new ≡ K.put_failures sink.old) }
+    ensures stands { OnOk result ((file : List ℕ) (tree : FileTree) (t : TrackTree) (earlier later : List FragmentTree) → StandsBefore file tree t earlier later walk.old → StandsBefore file tree t earlier later walk.new) }
     ensures refusal { IfErr result (RefusesPut (K.put_failures sink.old) (K.put_failures sink.new)) }
 {
     let place = {
@@ -62,6 +71,11 @@ fn put_walk<S: Store, K: Sink, L: Ledger>(
     ensures file { S.file store.new ≡ S.file store.old }
     ensures reads { OnOk result (S.read_failures store.new ≡ S.read_failures store.old) }
     ensures puts { OnOk result (K.put_failures sink.new ≡ K.put_failures sink.old) }
+    ensures lines { OnOk result (IsTrue (S.is_honest store.old) → (tree : FileTree) (t : TrackTree) (samples : List SampleAt) → IsOpenedAs (S.file store.old) movie.now tree → Comes (S.file store.old) tree t movie.now walk.old samples → length samples < 2 ^ 32
+        → Appends (K.contents sink.old) (K.contents sink.new) (waiting carrier.old ++ sample_at_lines 1 samples)) }
+    ensures prefix { OnErr result (IsTrue (S.is_honest store.old) → (tree : FileTree) (t : TrackTree) (samples : List SampleAt) → IsOpenedAs (S.file store.old) movie.now tree → Comes (S.file store.old) tree t movie.now walk.old samples → length samples < 2 ^ 32
+        → AppendsPrefix (K.contents sink.old) (K.contents sink.new) (waiting carrier.old ++ sample_at_lines 1 samples)) }
+    ensures unchanged { IsTrue (S.is_honest store.old) → (tree : FileTree) (t : TrackTree) (samples : List SampleAt) → IsOpenedAs (S.file store.old) movie.now tree → Comes (S.file store.old) tree t movie.now walk.old samples → length samples < 2 ^ 32 → IfErr result (λ r. r ≡ refusals.StoreChanged → ⊥) }
     ensures refusal { IfErr result (RefusesCarry (S.read_failures store.old) (S.read_failures store.new) (K.put_failures sink.old) (K.put_failures sink.new)) }
 {
     let mut number = 1;
@@ -87,7 +101,8 @@ fn samples_counted<S: Store, K: Sink, L: Ledger>(
     ensures file { S.file store.new ≡ S.file store.old }
     ensures reads { OnOk result (S.read_failures store.new ≡ S.read_failures store.old) }
     ensures puts { OnOk result (K.put_failures sink.new ≡ K.put_failures sink.old) }
-    ensures refusal { IfErr result (RefusesTrack (S.is_honest store.old) (S.file store.old) id (K.contents sink.old) (K.contents sink.new)
+    ensures lines { OnOk result (IsTrue (S.is_honest store.old) → (text : List ℕ) × ListsSamples (S.file store.old) id text × Appends (K.contents sink.old) (K.contents sink.new) text) }
+    ensures refusal { IfErr result (RefusesTrack (S.is_honest store.old) (S.file store.old) id (ListsSamples (S.file store.old) id) (K.contents sink.old) (K.contents sink.new)
         (S.read_failures store.old) (S.read_failures store.new) (K.put_failures sink.old) (K.put_failures sink.new)) }
 {
     let mut steps = Steps::<L>::new(blank);
@@ -110,7 +125,8 @@ pub fn samples<S: Store, K: Sink>(
     ensures file { S.file store.new ≡ S.file store.old }
     ensures reads { OnOk result (S.read_failures store.new ≡ S.read_failures store.old) }
     ensures puts { OnOk result (K.put_failures sink.new ≡ K.put_failures sink.old) }
-    ensures refusal { IfErr result (RefusesTrack (S.is_honest store.old) (S.file store.old) id (K.contents sink.old) (K.contents sink.new)
+    ensures lines { OnOk result (IsTrue (S.is_honest store.old) → (text : List ℕ) × ListsSamples (S.file store.old) id text × Appends (K.contents sink.old) (K.contents sink.new) text) }
+    ensures refusal { IfErr result (RefusesTrack (S.is_honest store.old) (S.file store.old) id (ListsSamples (S.file store.old) id) (K.contents sink.old) (K.contents sink.new)
         (S.read_failures store.old) (S.read_failures store.new) (K.put_failures sink.old) (K.put_failures sink.new)) }
 {
     samples_counted::<S, K, Brand>(alloc, store, id, sink, Blank::new(1))

@@ -1,4 +1,9 @@
-use Rattle.std.proofs.Common.{◌∙◌, refl, rules}
+use Rattle.std.proofs.Common.{List, ◌∙◌, refl, sym, subst, rules, length}
+use Rattle.std.specs.List.{AllByRecursion}
+use Rattle.mp4_boxes.proofs.Each.{each_dropped}
+use Rattle.mp4_tables.specs.declared.sample.SampleAt.{SampleAt}
+use Rattle.mp4_present.specs.Joined.{IsBelow}
+use Rattle.mp4_present.proofs.WalkCopied.{kept_before, stretch_there}
 use Rattle.std.proofs.lemmas.Result.{err_from_is_err_and}
 use Rattle.mp4_present.specs.InHand.{follows_itself, follows_on, left_in_hand}
 use Rattle.mp4_present.specs.Carried.{waiting}
@@ -16,6 +21,7 @@ loop-stretch-init g c = record {
   first = c.in_hand-hand.result;
   is = c.in_hand-hand.ensures;
   later = follows_itself c.in_hand-hand.result;
+  within = λ n h. h;
   bytes = λ _. hand_none _ _ _ _;
 }
 
@@ -33,6 +39,7 @@ loop-stretch-preserved g c =
       first = i.first;
       is = i.is;
       later = follows_on _ _ _ i.later s.later;
+      within = λ n h. subst (λ (ss : List SampleAt). AllByRecursion (IsBelow n) ss) (sym c.in-Some.ensures.samples.3) (each_dropped (IsBelow n) c.in-Some.stretch.samples _ (i.within n h));
       bytes = λ honest. hand_more _ _ _ _ _ _ _ _ _ _ c.in-Some.stretch.samples c.in-Some.stretch.at c.in-Some.stretch.len (i.bytes honest) c.in-Some.ensures.stretch c.in-Some.ensures.samples.3 ((rw (i.honesty, i.file) at e.bytes) honest);
     }
 
@@ -57,3 +64,18 @@ pub returns-clause-bytes : goal.returns-clause-bytes
 returns-clause-bytes g c =
     let i = c.loop-stretch.invariant in
     λ honest. (i.first, i.is, hand_all (g.S.Store.file c.args.store.now) _ _ (waiting c.args.carrier.now) (waiting c.loop-stretch.carrier) (left_in_hand i.first) (left_in_hand c.loop-stretch.hand) (i.bytes honest) (search rules))
+
+pub returns-clause-stands : goal.returns-clause-stands
+returns-clause-stands g c file tree t earlier later s = rw c.keep.ensures (kept_before file tree t earlier later c.args.walk.now c.place-place.result s)
+
+pub returns-clause-unchanged : goal.returns-clause-unchanged
+returns-clause-unchanged g c =
+    let i = c.loop-stretch.invariant in
+    (i.first, i.is, λ h. tt)
+
+pub returns-in_err-carry_stretch-clause-unchanged : goal.returns-in_err-carry_stretch-clause-unchanged
+returns-in_err-carry_stretch-clause-unchanged g c =
+    let p = err_from_is_err_and c.from_residual.result c.from_residual.ensures.1 in
+    let i = c.loop-stretch.invariant in
+    let file = g.S.Store.file c.args.store.now in
+    rw (p.1, p.2) (i.first, i.is, λ h. stretch_there file c.in-Some.stretch _ _ _ _ c.in_err-carry_stretch.field-0.0 (c.in-Some.ensures.within (length file) (i.within (length file) h)) (rw i.file at c.in_err-carry_stretch.ensures.refusal))

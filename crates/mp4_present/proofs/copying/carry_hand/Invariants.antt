@@ -1,7 +1,9 @@
-use Rattle.std.proofs.Common.{◌≡◌, length}
+use Rattle.std.proofs.Common.{ℕ, ◌≡◌, length}
+use Rattle.std.specs.List.{AllByRecursion}
 use Rattle.std.specs.Prelude.{vec_len, IsTrue}
 use Rattle.mp4_present.specs.Carried.{waiting}
 use Rattle.mp4_present.specs.InHand.{Follows, left_in_hand}
+use Rattle.mp4_present.specs.Joined.{IsBelow}
 use Rattle.mp4_present.specs.Movies.{InHandOf}
 use Rattle.mp4_present.specs.declared.in_hand.InHand.{InHand}
 use Rattle.mp4_present.proofs.Hands.{HandGoesOn}
@@ -19,6 +21,7 @@ invariant-loop-stretch g l =
       first : InHand;
       is : InHandOf l.movie l.fn.walk first;
       later : Follows first l.hand;
+      within : (n : ℕ) → AllByRecursion (IsBelow n) (left_in_hand first) → AllByRecursion (IsBelow n) (left_in_hand l.hand);
       bytes : IsTrue (g.S.Store.is_honest l.fn.store) → HandGoesOn (g.S.Store.file l.fn.store) (g.K.Sink.contents l.fn.sink) (g.K.Sink.contents l.sink) (waiting l.fn.carrier) (waiting l.carrier) (left_in_hand first) (left_in_hand l.hand);
     }
 

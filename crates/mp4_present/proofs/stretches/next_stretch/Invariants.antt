@@ -1,5 +1,6 @@
-use Rattle.std.proofs.Common.{◌≡◌, ◌-◌, ◌^◌, ◌<◌, ◌≤◌, take, drop, length}
-use Rattle.mp4_present.specs.Joined.{AreJoined}
+use Rattle.std.proofs.Common.{ℕ, ◌≡◌, ◌+◌, ◌-◌, ◌^◌, ◌<◌, ◌≤◌, take, drop, length}
+use Rattle.std.specs.List.{AllByRecursion}
+use Rattle.mp4_present.specs.Joined.{AreJoined, IsBelow}
 use Rattle.mp4_present.proofs.stretches.next_stretch.Given as goal
 
 -- the first samples are taken, and their bytes joined
@@ -12,6 +13,7 @@ invariant-loop-stretch g l =
       there : l.stretch.samples ≤ length (rest l.fn.samples);
       left : rest l.samples ≡ drop l.stretch.samples (rest l.fn.samples);
       joined : AreJoined (take l.stretch.samples (rest l.fn.samples)) l.stretch.at l.stretch.len;
+      within : (n : ℕ) → AllByRecursion (IsBelow n) (rest l.fn.samples) → l.stretch.at + l.stretch.len ≤ n;
       short : l.stretch.len < 2 ^ 33;
       later : g.C.Samples.follows l.fn.samples l.samples;
     }

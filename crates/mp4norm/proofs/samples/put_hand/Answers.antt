@@ -1,4 +1,5 @@
 use Rattle.std.proofs.lemmas.Result.{err_from_is_err_and}
+use Rattle.mp4_present.proofs.WalkCopied.{kept_before}
 use Rattle.mp4_present.proofs.WalkPlaces.{kept_on}
 use Rattle.mp4norm.proofs.samples.put_hand.Goals as goal
 
@@ -15,3 +16,6 @@ pub returns-clause-lines : goal.returns-clause-lines
 returns-clause-lines g c =
     let e = c.in_ok-put_lines.ensures in
     (c.in_hand-hand.result, c.in_hand-hand.ensures, λ fits. (e.lines fits, e.number fits))
+
+pub returns-clause-stands : goal.returns-clause-stands
+returns-clause-stands g c file tree t earlier later s = rw c.keep.ensures (kept_before file tree t earlier later c.args.walk.now c.place-place.result s)

@@ -1,8 +1,16 @@
-use Rattle.std.proofs.Common.{◌≡◌, ◌-◌, length}
+use Rattle.std.proofs.Common.{◌≡◌, ◌-◌, ◌^◌, ◌<◌, List, length}
+use Rattle.std.specs.Prelude.{IsTrue}
+use Rattle.mp4_head.specs.Tree.{TrackTree}
+use Rattle.mp4_tables.specs.declared.sample.SampleAt.{SampleAt}
+use Rattle.mp4_present.specs.Carried.{waiting}
+use Rattle.mp4_present.specs.Coming.{Comes}
+use Rattle.mp4_present.specs.Denotes.{FileTree}
 use Rattle.mp4_present.specs.Movies.{IsWalkOf}
+use Rattle.mp4_present.specs.OpenedMovie.{IsOpenedAs}
+use Rattle.mp4norm.proofs.WalkLines.{LinesGoOn}
 use Rattle.mp4norm.proofs.samples.put_walk.Given as goal
 
--- the walk goes on, and nothing failed
+-- the walk goes on, nothing failed, and the lines of the samples so far are put or wait
 abbrev pub invariant-loop-walk : goal.invariant-loop-walk
 invariant-loop-walk g l =
     record {
@@ -11,6 +19,8 @@ invariant-loop-walk g l =
       file : g.S.Store.file l.store ≡ g.S.Store.file l.fn.store;
       reads : g.S.Store.read_failures l.store ≡ g.S.Store.read_failures l.fn.store;
       puts : g.K.Sink.put_failures l.sink ≡ g.K.Sink.put_failures l.fn.sink;
+      going : IsTrue (g.S.Store.is_honest l.fn.store) → (tree : FileTree) (t : TrackTree) (samples : List SampleAt) → IsOpenedAs (g.S.Store.file l.fn.store) l.movie tree → Comes (g.S.Store.file l.fn.store) tree t l.movie l.fn.walk samples → length samples < 2 ^ 32
+          → LinesGoOn (g.S.Store.file l.fn.store) tree t (g.K.Sink.contents l.fn.sink) (g.K.Sink.contents l.sink) (waiting l.fn.carrier) (waiting l.carrier) l.number l.walk samples;
     }
 
 abbrev pub decreases-loop-walk : goal.decreases-loop-walk

@@ -1,4 +1,11 @@
-use Rattle.std.proofs.Common.{◌≡◌, ◌-◌, length}
+use Rattle.std.proofs.Common.{◌≡◌, ◌-◌, length, Some}
+use Rattle.std.specs.Prelude.{IsTrue, slice_get}
+use Rattle.mp4_head.specs.Tree.{TrackTree}
+use Rattle.mp4_present.specs.Carried.{waiting}
+use Rattle.mp4_present.specs.Coming.{track_samples}
+use Rattle.mp4_present.specs.Denotes.{FileTree}
+use Rattle.mp4_present.specs.OpenedMovie.{IsOpenedAs}
+use Rattle.mp4_present.proofs.WalkCopied.{TrackGoesOn}
 use Rattle.mp4_present.specs.Movies.{IsWalkOf}
 use Rattle.mp4_present.proofs.movie.Movie.copy_track.Given as goal
 
@@ -11,6 +18,8 @@ invariant-loop-carrier g l =
       file : g.S.Store.file l.store ≡ g.S.Store.file l.fn.store;
       reads : g.S.Store.read_failures l.store ≡ g.S.Store.read_failures l.fn.store;
       puts : g.K.Sink.put_failures l.sink ≡ g.K.Sink.put_failures l.fn.sink;
+      going : IsTrue (g.S.Store.is_honest l.fn.store) → (tree : FileTree) (t : TrackTree) → IsOpenedAs (g.S.Store.file l.fn.store) l.self tree → slice_get tree.movie.tracks l.track ≡ Some t
+          → TrackGoesOn (g.S.Store.file l.fn.store) tree t (g.K.Sink.contents l.fn.sink) (g.K.Sink.contents l.sink) (waiting l.carrier) l.walk (track_samples tree t);
     }
 
 abbrev pub decreases-loop-carrier : goal.decreases-loop-carrier

@@ -1,0 +1,186 @@
+-- The samples of a walk, of which the bytes are carried along: hand after hand, from the first sample of the track to its last.
+use Rattle.std.proofs.Common.{◌≡◌, ℕ, ◌+◌, ◌≤◌, ◌<◌, List, [], ◌∷◌, ◌++◌, length, Some, refl, sym, ap, subst, ◌∙◌, arith, append_assoc}
+use Rattle.std.proofs.lemmas.List.{append-nil}
+use Rattle.std.specs.List.{AllByRecursion, slice_get}
+use Rattle.std.specs.Prelude.{Option, Bool, true, false, Result, Ok, Err, IfErr, OnOk, OnErr}
+use Rattle.std.specs.Io.KnownBytes.{Appends}
+use Rattle.mp4_boxes.proofs.Each.{each_member}
+use Rattle.mp4_boxes.proofs.Joined.{all_first, all_last}
+use Rattle.mp4_boxes.specs.declared.refusal.Refusal.{Refusal}
+use Rattle.mp4_boxes.specs.declared.refusal.Refusal.TheVariants as refusals
+use Rattle.mp4_store.specs.Device.{AppendsPrefix}
+use Rattle.mp4_store.proofs.Known.{AppendsPrefix-longer}
+use Rattle.mp4_tables.specs.declared.sample.SampleAt.{SampleAt}
+use Rattle.mp4_tables.specs.Views.{CursorSeen as TableView}
+use Rattle.mp4_frag.specs.Fragments.{FragmentTree}
+use Rattle.mp4_head.specs.Tree.{TrackTree}
+use Rattle.mp4_present.specs.Carried.{BytesGoOn, RefusesPut, RefusesStretch}
+use Rattle.mp4_present.specs.Coming.{StandsBefore, Comes, Loads, samples_behind, track_samples}
+use Rattle.mp4_present.specs.Denotes.{FileTree, file_parts, placed_of}
+use Rattle.mp4_present.specs.InHand.{left_in_hand}
+use Rattle.mp4_present.specs.Joined.{IsBelow, sample_bytes}
+use Rattle.mp4_present.specs.Movies.{MovieSeen, HandAt, InHandOf, tables_seen}
+use Rattle.mp4_present.specs.OpenedMovie.{IsOpenedAs}
+use Rattle.mp4_present.specs.declared.in_hand.InHand.{InHand}
+use Rattle.mp4_present.specs.declared.in_hand.InHand.TheVariants as hands
+use Rattle.mp4_present.specs.declared.in_hand.Place.{Place}
+use Rattle.mp4_present.specs.declared.in_hand.Place.TheVariants.{Tables, Fragment}
+use Rattle.mp4_present.specs.declared.movie.TrackTables.{TrackTables}
+use Rattle.mp4_present.specs.declared.stretches.Stretch.{Stretch}
+use Rattle.mp4_present.specs.declared.walks.Walk.{Walk}
+use Rattle.mp4_present.proofs.Carrying.{BytesGoOn-then, BytesGoOn-all, BytesGoOn-fails, BytesGoOn-front}
+use Rattle.mp4_present.proofs.Hands.{HandGoesOn, hand_all, bytes_of_two}
+use Rattle.mp4_present.proofs.SamplesLie.{IsInFile, placed_lie, timed_lie}
+use Rattle.mp4_present.proofs.WalkPlaces.{of_got}
+
+-- ---- what is in hand
+
+some_is : {A : Type 0} (x y : A) → ◌≡◌ {A = Option A} (Some x) (Some y) → x ≡ y
+some_is x y e = cc
+
+one_at : (m : MovieSeen) (w : Walk) (p : Place) (a b : InHand) → HandAt m w p a → HandAt m w p b → a ≡ b
+one_at m w (Tables p) (hands.Tables x) (hands.Tables y) h k =
+    let same : h.0 ≡ k.0 = some_is h.0 k.0 (sym h.1 ∙ k.1) in
+    let view : TrackTables → TableView = λ t. record { tables = tables_seen m.moov t; place = p } in
+    ap (λ (c : TableView). hands.Tables c) (h.2 ∙ ap view same ∙ sym k.2)
+one_at m w (Fragment p) (hands.Fragment x) (hands.Fragment y) h k = let same = h ∙ sym k in λ i. hands.Fragment (same i)
+one_at m w (Tables p) (hands.Tables x) (hands.Fragment y) h k = absurd k
+one_at m w (Tables p) (hands.Fragment x) b h k = absurd h
+one_at m w (Fragment p) (hands.Fragment x) (hands.Tables y) h k = absurd k
+one_at m w (Fragment p) (hands.Tables x) b h k = absurd h
+
+-- a walk has one thing in hand
+pub hand_one : (m : MovieSeen) (w : Walk) (a b : InHand) → InHandOf m w a → InHandOf m w b → a ≡ b
+hand_one m w a b h k = one_at m w w.place a b h k
+
+-- between which `moof`s a walk stands doesn't depend on its place in what is in hand
+pub kept_before : (file : List ℕ) (tree : FileTree) (t : TrackTree) (earlier later : List FragmentTree) (w : Walk) (p : Place) → StandsBefore file tree t earlier later w → StandsBefore file tree t earlier later (record w { place = p })
+kept_before file tree t earlier later w p s = record {
+  is_track = s.is_track;
+  split = s.split;
+  passed = s.passed;
+  boxes = s.boxes;
+  top = s.top;
+  place = s.place;
+  moofs_passed = s.moofs_passed;
+  moofs_left = s.moofs_left;
+  behind = s.behind;
+  room = s.room;
+}
+
+-- ---- hand after hand
+
+-- The bytes of the first samples of a track follow, from the first on; those behind these `moof`s are to come.
+pub record TrackGoesOn (file : List ℕ) (tree : FileTree) (t : TrackTree) (before after : Option (List ℕ)) (held_after : List ℕ) (w : Walk) (all : List SampleAt) : Type 0 where
+  pub earlier : List FragmentTree
+  pub later : List FragmentTree
+  pub stands : StandsBefore file tree t earlier later w
+  pub goes : HandGoesOn file before after [] held_after all (samples_behind tree t earlier later)
+
+-- where a walk keeps its place, it stands before the same `moof`s
+abbrev pub StandsOn : Walk → Walk → Type 0
+StandsOn w later_w = (file : List ℕ) (tree : FileTree) (t : TrackTree) (earlier later : List FragmentTree) → StandsBefore file tree t earlier later w → StandsBefore file tree t earlier later later_w
+
+-- what is in hand is carried along
+pub track_next : (file : List ℕ) (tree : FileTree) (t : TrackTree) (m : MovieSeen) (a b c : Option (List ℕ)) (held_b held_c : List ℕ) (w later_w : Walk) (all to_come : List SampleAt) → HandGoesOn file a b [] held_b all to_come → Comes file tree t m w to_come
+    → (x : InHand) → InHandOf m w x → BytesGoOn b c held_b held_c (sample_bytes file (left_in_hand x)) → StandsOn w later_w → TrackGoesOn file tree t a c held_c later_w all
+track_next file tree t m a b c held_b held_c w later_w all to_come h k x i bytes on =
+    let left = left_in_hand k.2 in
+    let own : BytesGoOn b c held_b held_c (sample_bytes file left) = subst (λ (y : InHand). BytesGoOn b c held_b held_c (sample_bytes file (left_in_hand y))) (hand_one m w x k.2 i k.3.1) bytes in
+    record {
+      earlier = k.0;
+      later = k.1;
+      stands = on file tree t k.0 k.1 k.3.0;
+      goes = record {
+        done = h.done ++ left;
+        whole = append_assoc h.done left (samples_behind tree t k.0 k.1) ∙ ap (λ (ss : List SampleAt). h.done ++ ss) (sym k.3.2) ∙ h.whole;
+        bytes = BytesGoOn-then a b c [] held_b held_c (sample_bytes file h.done) (sample_bytes file left) (sample_bytes file (h.done ++ left)) h.bytes own (bytes_of_two file h.done left);
+      };
+    }
+
+-- the bytes of all samples are those of the first and of those to come
+whole_bytes : (file : List ℕ) (a b : Option (List ℕ)) (held_b : List ℕ) (all to_come : List SampleAt) → (h : HandGoesOn file a b [] held_b all to_come) → sample_bytes file all ≡ sample_bytes file h.done ++ sample_bytes file to_come
+whole_bytes file a b held_b all to_come h = ap (sample_bytes file) (sym h.whole) ∙ bytes_of_two file h.done to_come
+
+-- it isn't carried along whole
+pub track_fails : (file : List ℕ) (tree : FileTree) (t : TrackTree) (m : MovieSeen) (a b c : Option (List ℕ)) (held_b : List ℕ) (w : Walk) (all to_come : List SampleAt) → HandGoesOn file a b [] held_b all to_come → Comes file tree t m w to_come
+    → (x : InHand) → InHandOf m w x → AppendsPrefix b c (held_b ++ sample_bytes file (left_in_hand x)) → AppendsPrefix a c (sample_bytes file all)
+track_fails file tree t m a b c held_b w all to_come h k x i p =
+    let own = sample_bytes file (left_in_hand x) in
+    let rest = sample_bytes file (samples_behind tree t k.0 k.1) in
+    let two : sample_bytes file to_come ≡ own ++ rest =
+    ap (sample_bytes file) (k.3.2 ∙ ap (λ (y : InHand). left_in_hand y ++ samples_behind tree t k.0 k.1) (hand_one m w k.2 x k.3.1 i)) ∙ bytes_of_two file (left_in_hand x) (samples_behind tree t k.0 k.1) in
+    let all_is : sample_bytes file all ≡ sample_bytes file h.done ++ (own ++ rest) = whole_bytes file a b held_b all to_come h ∙ ap (λ (bs : List ℕ). sample_bytes file h.done ++ bs) two in
+    rw all_is (BytesGoOn-fails a b c [] held_b (sample_bytes file h.done) (own ++ rest) h.bytes (rw (← append_assoc held_b own rest) (AppendsPrefix-longer b c (held_b ++ own) rest p)))
+
+-- what was put so far is a front of all
+pub track_stops : (file : List ℕ) (a b : Option (List ℕ)) (held_b : List ℕ) (all to_come : List SampleAt) → HandGoesOn file a b [] held_b all to_come → AppendsPrefix a b (sample_bytes file all)
+track_stops file a b held_b all to_come h = rw (whole_bytes file a b held_b all to_come h) (BytesGoOn-front a b [] held_b (sample_bytes file h.done) (sample_bytes file to_come) h.bytes)
+
+-- nothing is to come, and what waits is put
+pub track_whole : (file : List ℕ) (a b c : Option (List ℕ)) (held_b : List ℕ) (all to_come : List SampleAt) → HandGoesOn file a b [] held_b all to_come → to_come ≡ [] → Appends b c held_b → Appends a c (sample_bytes file all)
+track_whole file a b c held_b all to_come h none p = BytesGoOn-all a b c [] held_b (sample_bytes file all) (hand_all file a b [] held_b all to_come h none) p
+
+-- or is not put whole
+pub track_not_put : (file : List ℕ) (a b c : Option (List ℕ)) (held_b : List ℕ) (all to_come : List SampleAt) → HandGoesOn file a b [] held_b all to_come → to_come ≡ [] → AppendsPrefix b c held_b → AppendsPrefix a c (sample_bytes file all)
+track_not_put file a b c held_b all to_come h none p =
+    let bytes = sample_bytes file all in
+    let q : AppendsPrefix a c (bytes ++ []) = BytesGoOn-fails a b c [] held_b bytes [] (hand_all file a b [] held_b all to_come h none) (AppendsPrefix-longer b c held_b [] p) in
+    rw (append-nil bytes) at q
+
+-- ---- an honest store has not changed
+
+-- the samples of a track end within the file
+pub track_lies : (file : List ℕ) (m : MovieSeen) (tree : FileTree) (t : TrackTree) (k : ℕ) → IsOpenedAs file m tree → slice_get tree.movie.tracks k ≡ Some t → AllByRecursion (IsBelow (length file)) (track_samples tree t)
+track_lies file m tree t k o is =
+    let Lie : TrackTree → Type 0 = λ u. AllByRecursion (IsInFile (length file)) (placed_of (file_parts tree) u) in
+    timed_lie (length file) _ _ (placed_of (file_parts tree) t) (of_got Lie tree.movie.tracks k t is (each_member Lie tree.movie.tracks (λ u i. placed_lie file tree u o.is_consistent i)))
+
+-- what follows where those in hand do
+pub in_hand_lies : (file : List ℕ) (tree : FileTree) (t : TrackTree) (m : MovieSeen) (a b : Option (List ℕ)) (held_b : List ℕ) (w : Walk) (all to_come : List SampleAt) (n : ℕ) (X : Type 0) → HandGoesOn file a b [] held_b all to_come → Comes file tree t m w to_come
+    → AllByRecursion (IsBelow n) all → (x : InHand) → InHandOf m w x → (AllByRecursion (IsBelow n) (left_in_hand x) → X) → X
+in_hand_lies file tree t m a b held_b w all to_come n X h k lie x i then =
+    let coming : AllByRecursion (IsBelow n) to_come = all_last (IsBelow n) h.done to_come (subst (λ (ss : List SampleAt). AllByRecursion (IsBelow n) ss) (sym h.whole) lie) in
+    let own = all_first (IsBelow n) (left_in_hand k.2) (samples_behind tree t k.0 k.1) (subst (λ (ss : List SampleAt). AllByRecursion (IsBelow n) ss) k.3.2 coming) in
+    then (subst (λ (y : InHand). AllByRecursion (IsBelow n) (left_in_hand y)) (hand_one m w k.2 x k.3.1 i) own)
+
+-- a stretch that lies in the file shows no change
+pub stretch_there : (file : List ℕ) (s : Stretch) (reads reads_after puts puts_after : ℕ) (r : Refusal) → s.at + s.len ≤ length file → RefusesStretch file s reads reads_after puts puts_after r → r ≡ refusals.StoreChanged → ⊥
+stretch_there file s reads reads_after puts puts_after (refusals.Fault f) le w e = w
+stretch_there file s reads reads_after puts puts_after refusals.Memory le w e = w
+stretch_there file s reads reads_after puts puts_after refusals.StoreFailed le w e = absurd cc
+stretch_there file s reads reads_after puts puts_after refusals.StoreChanged le w e = absurd (omega (arith, le, w))
+stretch_there file s reads reads_after puts puts_after refusals.WriteFailed le w e = absurd cc
+stretch_there file s reads reads_after puts puts_after refusals.NoSuchTrack le w e = w
+
+-- ---- answers
+
+pub on_ok : {T E : Type 0} (A B : Type 0) (r : Result T E) → (A → B) → OnOk r A → OnOk r B
+on_ok A B (Ok x) f a = f a
+on_ok A B (Err x) f a = tt
+
+pub on_err : {T E : Type 0} (A B : Type 0) (r : Result T E) → (A → B) → OnErr r A → OnErr r B
+on_err A B (Ok x) f a = tt
+on_err A B (Err x) f a = f a
+
+pub if_err : {T E : Type 0} (P Q : E → Type 0) (r : Result T E) → ((e : E) → P e → Q e) → IfErr r P → IfErr r Q
+if_err P Q (Ok x) f a = tt
+if_err P Q (Err e) f a = f e a
+
+-- a put shows no change
+pub put_unchanged : (puts puts_after : ℕ) (r : Refusal) → RefusesPut puts puts_after r → r ≡ refusals.StoreChanged → ⊥
+put_unchanged puts puts_after (refusals.Fault f) w e = w
+put_unchanged puts puts_after refusals.Memory w e = w
+put_unchanged puts puts_after refusals.StoreFailed w e = w
+put_unchanged puts puts_after refusals.StoreChanged w e = w
+put_unchanged puts puts_after refusals.WriteFailed w e = absurd cc
+put_unchanged puts puts_after refusals.NoSuchTrack w e = w
+
+-- what was loaded, by whether there was something
+pub loads_more : (file : List ℕ) (tree : FileTree) (t : TrackTree) (m : MovieSeen) (samples : List SampleAt) (w : Walk) (more : Bool) → more ≡ true → Loads file tree t m samples w more → Comes file tree t m w samples
+loads_more file tree t m samples w true e l = l
+loads_more file tree t m samples w false e l = absurd cc
+
+pub loads_none : (file : List ℕ) (tree : FileTree) (t : TrackTree) (m : MovieSeen) (samples : List SampleAt) (w : Walk) (more : Bool) → more ≡ false → Loads file tree t m samples w more → samples ≡ []
+loads_none file tree t m samples w true e l = absurd cc
+loads_none file tree t m samples w false e l = l

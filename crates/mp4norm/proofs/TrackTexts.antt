@@ -1,0 +1,116 @@
+-- The texts of a track: those of the presentation that the file denotes, and why they are not put.
+use Rattle.std.proofs.Common.{◌≡◌, inl, inr, ℕ, zero, suc, ◌^◌, ◌<◌, ◌≤◌, List, [], ◌∷◌, length, Some, refl, sym, ap, subst, ◌∙◌, arith}
+use Rattle.std.proofs.lemmas.List.{length-map}
+use Rattle.std.specs.List.{AllZip, slice_get}
+use Rattle.std.specs.Prelude.{Option, Bool, Result, Ok, Err, IfErr, OnErr, IfSome, IsTrue, map}
+use Rattle.mp4_boxes.specs.Bytes.{sum_of}
+use Rattle.mp4_boxes.specs.declared.refusal.Refusal.{Refusal}
+use Rattle.mp4_boxes.specs.declared.refusal.Refusal.TheVariants as refusals
+use Rattle.mp4_head.specs.Head.{TrackHead}
+use Rattle.mp4_head.specs.Tree.{TrackTree, track_head_of}
+use Rattle.mp4_present.specs.Carried.{RefusesCopy}
+use Rattle.mp4_present.specs.Coming.{track_samples}
+use Rattle.mp4_present.specs.Denotes.{FileTree, file_parts, placed_of, sample_of, track_of, presentation_of}
+use Rattle.mp4_present.specs.Joined.{sample_bytes}
+use Rattle.mp4_present.specs.Movies.{MovieSeen}
+use Rattle.mp4_present.specs.OpenedMovie.{IsInfoOf, IsOpenedAs}
+use Rattle.mp4_present.specs.Opening.{RefusesOpen}
+use Rattle.mp4_present.specs.Presentation.{Track}
+use Rattle.mp4_present.specs.declared.track_info.TrackInfo.{TrackInfo}
+use Rattle.mp4_present.proofs.SamplesLie.{all_whole, timed_data, timed_length}
+use Rattle.mp4_present.proofs.WalkPlaces.{of_got}
+use Rattle.mp4norm.specs.Commands.{AreOthers, LacksTrack, IsTrackWith, ListsSamples, HasData, PutsFrontOf, RefusesTrack}
+use Rattle.mp4norm.specs.Texts.{sample_at_lines}
+use Rattle.mp4norm.proofs.SampleTexts.{lines_of_placed}
+use Rattle.mp4norm.proofs.ShownLines.{denoted, LieInFile, each_lies}
+
+-- ---- the track with an ID
+
+-- the tree at the place of the numbers
+got_track : (file : List ℕ) (tree : FileTree) (trees : List TrackTree) (infos : List TrackInfo) (k id : ℕ) → AllZip (IsInfoOf file tree) trees infos → k < length infos → IfSome (slice_get infos k) (λ i. i.id ≡ id)
+    → (t : TrackTree) × (slice_get trees k ≡ Some t) × ((track_head_of t).id ≡ id)
+got_track file tree [] [] k id z lt e = absurd (omega (arith, lt))
+got_track file tree [] (x ∷ infos) k id z lt e = absurd z
+got_track file tree (t ∷ trees) [] k id z lt e = absurd z
+got_track file tree (t ∷ trees) (x ∷ infos) zero id z lt e = (t, refl, sym z.0.id ∙ e)
+got_track file tree (t ∷ trees) (x ∷ infos) (suc k) id z lt e = got_track file tree trees infos k id z.1 (omega (arith, lt)) e
+
+got_map : {A B : Type 0} (f : A → B) (xs : List A) (k : ℕ) (x : A) → slice_get xs k ≡ Some x → slice_get (map f xs) k ≡ Some (f x)
+got_map f [] k x e = absurd cc
+got_map f (y ∷ xs) zero x e = let same : y ≡ x = cc in ap (λ z. Some (f z)) same
+got_map f (y ∷ xs) (suc k) x e = got_map f xs k x e
+
+few_at : (tracks : List Track) (k : ℕ) (t : Track) → slice_get tracks k ≡ Some t → length t.samples ≤ sum_of (λ (x : Track). length x.samples) tracks
+few_at [] k t e = absurd cc
+few_at (y ∷ tracks) zero t e = let same : y ≡ t = cc in let long = ap (λ (x : Track). length x.samples) same in omega arith
+few_at (y ∷ tracks) (suc k) t e = let r = few_at tracks k t e in omega arith
+
+-- the track of the file at this place has the ID
+pub record IsFound (file : List ℕ) (tree : FileTree) (k id : ℕ) : Type 0 where
+  pub t : TrackTree
+  pub is_there : slice_get tree.movie.tracks k ≡ Some t
+  pub with_id : IsTrackWith file id (track_of file (file_parts tree) t)
+  pub lies : LieInFile file tree t
+  pub few : length (track_samples tree t) < 2 ^ 32
+
+pub track_found : (file : List ℕ) (m : MovieSeen) (tree : FileTree) (k id : ℕ) → IsOpenedAs file m tree → k < length m.tracks → IfSome (slice_get m.tracks k) (λ i. i.id ≡ id) → IsFound file tree k id
+track_found file m tree k id o lt e =
+    let r = got_track file tree tree.movie.tracks m.tracks k id o.tracks lt e in
+    let there = got_map (track_of file (file_parts tree)) tree.movie.tracks k r.0 r.1 in
+    record {
+      t = r.0;
+      is_there = r.1;
+      with_id = record { p = presentation_of file tree; denotes = denoted file m tree o; place = k; is_there = there; id_is = r.2 };
+      lies = of_got (LieInFile file tree) tree.movie.tracks k r.0 r.1 (each_lies file m tree o);
+      few = below _ _ _ _ (few_at (presentation_of file tree).tracks k (track_of file (file_parts tree) r.0) there) o.limits.samples (length-map (placed_of (file_parts tree) r.0) (sample_of file)) (timed_length _ _ (placed_of (file_parts tree) r.0));
+    }
+  where
+    below : (samples all placed n : ℕ) → samples ≤ all → all ≤ 2 ^ 24 → samples ≡ placed → n ≡ placed → n < 2 ^ 32
+    below samples all placed n a b e f = omega (arith, a, b, e, f)
+
+-- the IDs of the numbers are those of the presentation's tracks
+ids_are : (file : List ℕ) (tree : FileTree) (trees : List TrackTree) (infos : List TrackInfo) → AllZip (IsInfoOf file tree) trees infos
+    → map (λ (i : TrackInfo). i.id) infos ≡ map (λ (h : TrackHead). h.id) (map (λ (u : Track). u.head) (map (track_of file (file_parts tree)) trees))
+ids_are file tree [] [] z = refl
+ids_are file tree [] (x ∷ infos) z = absurd z
+ids_are file tree (t ∷ trees) [] z = absurd z
+ids_are file tree (t ∷ trees) (x ∷ infos) z = λ j. z.0.id j ∷ ids_are file tree trees infos z.1 j
+
+-- no track has the ID
+pub lacks : (file : List ℕ) (m : MovieSeen) (tree : FileTree) (id : ℕ) → IsOpenedAs file m tree → AreOthers id (map (λ (i : TrackInfo). i.id) m.tracks) → LacksTrack file id
+lacks file m tree id o h = (presentation_of file tree, denoted file m tree o, subst (AreOthers id) (ids_are file tree tree.movie.tracks m.tracks o.tracks) h)
+
+-- ---- its texts
+
+pub lists : (file : List ℕ) (tree : FileTree) (k id : ℕ) → (f : IsFound file tree k id) → ListsSamples file id (sample_at_lines 1 (track_samples tree f.t))
+lists file tree k id f = (track_of file (file_parts tree) f.t, f.with_id, lines_of_placed file _ 1 _ (placed_of (file_parts tree) f.t) (all_whole file (placed_of (file_parts tree) f.t) f.lies))
+
+pub has_data : (file : List ℕ) (tree : FileTree) (k id : ℕ) → (f : IsFound file tree k id) → HasData file id (sample_bytes file (track_samples tree f.t))
+has_data file tree k id f = (track_of file (file_parts tree) f.t, f.with_id, timed_data file _ _ (placed_of (file_parts tree) f.t) f.lies)
+
+-- ---- why a text is not put
+
+pub open_refuses : (honest : Bool) (file : List ℕ) (id : ℕ) (IsText : List ℕ → Type 0) (known : Option (List ℕ)) (reads reads_after puts : ℕ) (r : Refusal) → RefusesOpen honest file reads reads_after r
+    → RefusesTrack honest file id IsText known known reads reads_after puts puts r
+open_refuses honest file id IsText known reads reads_after puts (refusals.Fault f) w = (w, refl)
+open_refuses honest file id IsText known reads reads_after puts refusals.Memory w = refl
+open_refuses honest file id IsText known reads reads_after puts refusals.StoreFailed w = (w, λ told. inl refl)
+open_refuses honest file id IsText known reads reads_after puts refusals.StoreChanged w = w
+open_refuses honest file id IsText known reads reads_after puts refusals.WriteFailed w = absurd w
+open_refuses honest file id IsText known reads reads_after puts refusals.NoSuchTrack w = absurd w
+
+text_refused : (honest : Bool) (file : List ℕ) (id : ℕ) (IsText : List ℕ → Type 0) (before after : Option (List ℕ)) (reads reads_after puts puts_after : ℕ) (r : Refusal) → RefusesCopy before after reads reads_after puts puts_after r
+    → (IsTrue honest → PutsFrontOf IsText before after) → (IsTrue honest → r ≡ refusals.StoreChanged → ⊥) → RefusesTrack honest file id IsText before after reads reads_after puts puts_after r
+text_refused honest file id IsText before after reads reads_after puts puts_after (refusals.Fault f) w p u = absurd w
+text_refused honest file id IsText before after reads reads_after puts puts_after refusals.Memory w p u = w
+text_refused honest file id IsText before after reads reads_after puts puts_after refusals.StoreFailed w p u = (w, λ told. inr (p told))
+text_refused honest file id IsText before after reads reads_after puts puts_after refusals.StoreChanged w p u = λ told. u told refl
+text_refused honest file id IsText before after reads reads_after puts puts_after refusals.WriteFailed w p u = (w, p)
+text_refused honest file id IsText before after reads reads_after puts puts_after refusals.NoSuchTrack w p u = absurd w
+
+-- of an answer
+pub text_refuses : {T : Type 0} (answer : Result T Refusal) (honest : Bool) (file : List ℕ) (id : ℕ) (IsText : List ℕ → Type 0) (before after : Option (List ℕ)) (reads reads_after puts puts_after : ℕ)
+    → IfErr answer (RefusesCopy before after reads reads_after puts puts_after) → (IsTrue honest → OnErr answer (PutsFrontOf IsText before after)) → (IsTrue honest → IfErr answer (λ r. r ≡ refusals.StoreChanged → ⊥))
+    → IfErr answer (RefusesTrack honest file id IsText before after reads reads_after puts puts_after)
+text_refuses (Ok x) honest file id IsText before after reads reads_after puts puts_after w p u = tt
+text_refuses (Err r) honest file id IsText before after reads reads_after puts puts_after w p u = text_refused honest file id IsText before after reads reads_after puts puts_after r w p u

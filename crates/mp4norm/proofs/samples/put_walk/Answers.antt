@@ -1,0 +1,113 @@
+use Rattle.std.proofs.Common.{refl, ◌∙◌}
+use Rattle.std.proofs.lemmas.Result.{err_from_is_err_and}
+use Rattle.mp4_present.specs.Carried.{waiting}
+use Rattle.mp4_present.specs.Coming.{samples_behind}
+use Rattle.mp4_present.proofs.WalkCopied.{on_ok, on_err, if_err, put_unchanged, loads_more, loads_none}
+use Rattle.mp4norm.specs.Texts.{sample_at_lines}
+use Rattle.mp4norm.proofs.Going.{going_none}
+use Rattle.mp4norm.proofs.WalkLines.{lines_next, lines_fail, lines_stop, lines_whole, lines_not_put}
+use Rattle.mp4norm.proofs.samples.put_walk.Goals as goal
+
+pub returns-in_err-put_hand-clause-prefix : goal.returns-in_err-put_hand-clause-prefix
+returns-in_err-put_hand-clause-prefix g c =
+    let p = err_from_is_err_and c.from_residual.result c.from_residual.ensures.1 in
+    let file = g.S.Store.file c.args.store.now in
+    let contents = g.K.Sink.contents c.args.sink.now in
+    let held = waiting c.args.carrier.now in
+    let x = c.in_err-put_hand.ensures.prefix in
+    rw p.1 (λ told tree t samples o k few. lines_fail file tree t c.args.movie.now contents contents _ held held c.args.walk.now 1 samples samples (going_none contents held (sample_at_lines 1 samples)) refl few k x.0 x.1 x.2)
+
+pub returns-in_err-put_hand-clause-unchanged : goal.returns-in_err-put_hand-clause-unchanged
+returns-in_err-put_hand-clause-unchanged g c told tree t samples o k few =
+    let p = err_from_is_err_and c.from_residual.result c.from_residual.ensures.1 in
+    rw (p.1, p.2) (put_unchanged _ _ c.in_err-put_hand.field-0.0 c.in_err-put_hand.ensures.refusal)
+
+pub loop-walk-init : goal.loop-walk-init
+loop-walk-init g c =
+    let e = c.in_ok-put_hand.ensures in
+    let file = g.S.Store.file c.args.store.now in
+    let contents = g.K.Sink.contents c.args.sink.now in
+    let held = waiting c.args.carrier.now in
+    record {
+      walk = e.walk;
+      honesty = refl;
+      file = refl;
+      reads = refl;
+      puts = e.puts;
+      going = λ told tree t samples o k few.
+          lines_next file tree t c.args.movie.now contents contents _ held held c.args.walk.now 1 samples samples (going_none contents held (sample_at_lines 1 samples)) refl few k e.lines.0 e.lines.1 (waiting c.put_hand.new.carrier) c.put_hand.new.walk c.put_hand.new.number e.lines.2 e.stands;
+    }
+
+pub returns-in_err-load-clause-prefix : goal.returns-in_err-load-clause-prefix
+returns-in_err-load-clause-prefix g c =
+    let p = err_from_is_err_and c.from_residual-in_err-load.result c.from_residual-in_err-load.ensures.1 in
+    rw p.1 (λ told tree t samples o k few. let u = c.loop-walk.invariant.going told tree t samples o k few in lines_stop _ _ (waiting c.args.carrier.now) (waiting c.loop-walk.carrier) c.loop-walk.number (samples_behind tree t u.earlier u.later) samples u.goes)
+
+pub returns-in_err-load-clause-unchanged : goal.returns-in_err-load-clause-unchanged
+returns-in_err-load-clause-unchanged g c told tree t samples o k few =
+    let p = err_from_is_err_and c.from_residual-in_err-load.result c.from_residual-in_err-load.ensures.1 in
+    let i = c.loop-walk.invariant in
+    let u = i.going told tree t samples o k few in
+    rw (p.1, p.2) ((rw (i.honesty, i.file) at c.in_err-load.ensures.unchanged) told tree t u.earlier u.later o u.stands)
+
+pub loop-walk-preserved : goal.loop-walk-preserved
+loop-walk-preserved g c =
+    let i = c.loop-walk.invariant in
+    let l = c.in_ok-load.ensures in
+    let e = c.in_ok-put_hand-2.ensures in
+    let file = g.S.Store.file c.args.store.now in
+    let m = c.args.movie.now in
+    record {
+      walk = e.walk;
+      honesty = l.honesty ∙ i.honesty;
+      file = l.file ∙ i.file;
+      reads = l.reads ∙ i.reads;
+      puts = e.puts ∙ i.puts;
+      going = λ told tree t samples o k few.
+          let u = i.going told tree t samples o k few in
+          let to_come = samples_behind tree t u.earlier u.later in
+          let comes = loads_more file tree t m to_come c.load.new.self c.in_ok-load.field-0 c.if-branch.true ((rw (i.honesty, i.file) at l.loaded) told tree t u.earlier u.later o u.stands) in
+          lines_next file tree t m _ _ _ (waiting c.args.carrier.now) (waiting c.loop-walk.carrier) c.load.new.self c.loop-walk.number samples to_come u.goes u.count few comes e.lines.0 e.lines.1 (waiting c.put_hand-in-loop-walk.new.carrier) c.put_hand-in-loop-walk.new.walk c.put_hand-in-loop-walk.new.number e.lines.2 e.stands;
+    }
+
+pub returns-in_err-put_hand-2-clause-prefix : goal.returns-in_err-put_hand-2-clause-prefix
+returns-in_err-put_hand-2-clause-prefix g c =
+    let p = err_from_is_err_and c.from_residual-in_err-put_hand-2.result c.from_residual-in_err-put_hand-2.ensures.1 in
+    let i = c.loop-walk.invariant in
+    let l = c.in_ok-load.ensures in
+    let file = g.S.Store.file c.args.store.now in
+    let m = c.args.movie.now in
+    let x = c.in_err-put_hand-2.ensures.prefix in
+    rw p.1 (λ told tree t samples o k few.
+    let u = i.going told tree t samples o k few in
+    let to_come = samples_behind tree t u.earlier u.later in
+    let comes = loads_more file tree t m to_come c.load.new.self c.in_ok-load.field-0 c.if-branch.true ((rw (i.honesty, i.file) at l.loaded) told tree t u.earlier u.later o u.stands) in
+    lines_fail file tree t m _ _ _ (waiting c.args.carrier.now) (waiting c.loop-walk.carrier) c.load.new.self c.loop-walk.number samples to_come u.goes u.count few comes x.0 x.1 x.2)
+
+pub returns-in_err-put_hand-2-clause-unchanged : goal.returns-in_err-put_hand-2-clause-unchanged
+returns-in_err-put_hand-2-clause-unchanged g c told tree t samples o k few =
+    let p = err_from_is_err_and c.from_residual-in_err-put_hand-2.result c.from_residual-in_err-put_hand-2.ensures.1 in
+    rw (p.1, p.2) (put_unchanged _ _ c.in_err-put_hand-2.field-0.0 c.in_err-put_hand-2.ensures.refusal)
+
+pub returns-clause-lines : goal.returns-clause-lines
+returns-clause-lines g c =
+    let i = c.loop-walk.invariant in
+    let file = g.S.Store.file c.args.store.now in
+    on_ok _ _ c.flush.result (λ p told tree t samples o k few.
+    let u = i.going told tree t samples o k few in
+    let to_come = samples_behind tree t u.earlier u.later in
+    let none = loads_none file tree t c.args.movie.now to_come c.load.new.self c.in_ok-load.field-0 c.if-branch.false ((rw (i.honesty, i.file) at c.in_ok-load.ensures.loaded) told tree t u.earlier u.later o u.stands) in
+    lines_whole _ _ _ (waiting c.args.carrier.now) (waiting c.loop-walk.carrier) c.loop-walk.number to_come samples u.goes none p) c.flush.ensures.bytes
+
+pub returns-clause-prefix : goal.returns-clause-prefix
+returns-clause-prefix g c =
+    let i = c.loop-walk.invariant in
+    let file = g.S.Store.file c.args.store.now in
+    on_err _ _ c.flush.result (λ p told tree t samples o k few.
+    let u = i.going told tree t samples o k few in
+    let to_come = samples_behind tree t u.earlier u.later in
+    let none = loads_none file tree t c.args.movie.now to_come c.load.new.self c.in_ok-load.field-0 c.if-branch.false ((rw (i.honesty, i.file) at c.in_ok-load.ensures.loaded) told tree t u.earlier u.later o u.stands) in
+    lines_not_put _ _ _ (waiting c.args.carrier.now) (waiting c.loop-walk.carrier) c.loop-walk.number to_come samples u.goes none p) c.flush.ensures.prefix
+
+pub returns-clause-unchanged : goal.returns-clause-unchanged
+returns-clause-unchanged g c told tree t samples o k few = if_err _ _ c.flush.result (λ r w. put_unchanged _ _ r w) c.flush.ensures.refusal

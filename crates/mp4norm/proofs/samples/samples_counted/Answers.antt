@@ -1,0 +1,47 @@
+use Rattle.std.proofs.Common.{refl}
+use Rattle.std.proofs.lemmas.Result.{err_from_is_err_and}
+use Rattle.mp4_present.specs.Coming.{track_samples}
+use Rattle.mp4_present.proofs.WalkCopied.{on_ok, on_err, if_err}
+use Rattle.mp4_present.proofs.Causes.{copy_not_carried}
+use Rattle.mp4norm.specs.Commands.{ListsSamples}
+use Rattle.mp4norm.specs.Texts.{sample_at_lines}
+use Rattle.mp4norm.proofs.TrackTexts.{track_found, lacks, lists, open_refuses, text_refuses}
+use Rattle.mp4norm.proofs.samples.samples_counted.Goals as goal
+
+pub returns-in_err-movie-clause-refusal : goal.returns-in_err-movie-clause-refusal
+returns-in_err-movie-clause-refusal g c =
+    let p = err_from_is_err_and c.from_residual.result c.from_residual.ensures.1 in
+    rw (p.1, p.2) (open_refuses _ _ _ _ _ _ _ _ c.in_err-movie.field-0.0 c.in_err-movie.ensures.refusal)
+
+pub returns-in_err-track-clause-refusal : goal.returns-in_err-track-clause-refusal
+returns-in_err-track-clause-refusal g c =
+    let p = err_from_is_err_and c.from_residual-in_err-track.result c.from_residual-in_err-track.ensures.1 in
+    let n = rw c.tracks.ensures at c.in_err-track.ensures.none in
+    rw (p.1, p.2, n.0) (λ told. (let o = c.in_ok-movie.ensures.movie told in lacks (g.S.Store.file c.args.store.now) c.in_ok-movie.movie o.0 c.args.id o.1 n.1), refl)
+
+pub returns-clause-lines : goal.returns-clause-lines
+returns-clause-lines g c =
+    let file = g.S.Store.file c.args.store.now in
+    on_ok _ _ c.put_walk.result (λ all told.
+    let o = c.in_ok-movie.ensures.movie told in
+    let f = track_found file c.in_ok-movie.movie o.0 c.in_ok-track.track c.args.id o.1 (rw c.tracks.ensures at c.in_ok-track.ensures.within) (rw c.tracks.ensures at c.in_ok-track.ensures.track) in
+    let samples = track_samples o.0 f.t in
+    (sample_at_lines 1 samples, lists file o.0 c.in_ok-track.track c.args.id f, all told o.0 f.t samples o.1 (c.in_ok-walk.ensures.coming file o.0 f.t o.1 f.is_there) f.few))
+    (rw (c.in_ok-movie.ensures.honesty, c.in_ok-movie.ensures.file, c.in_ok-carrier.ensures.empty) at c.put_walk.ensures.lines)
+
+pub returns-clause-refusal : goal.returns-clause-refusal
+returns-clause-refusal g c =
+    let file = g.S.Store.file c.args.store.now in
+    let prefix = rw (c.in_ok-movie.ensures.honesty, c.in_ok-movie.ensures.file, c.in_ok-carrier.ensures.empty) at c.put_walk.ensures.prefix in
+    let unchanged = rw (c.in_ok-movie.ensures.honesty, c.in_ok-movie.ensures.file) at c.put_walk.ensures.unchanged in
+    let cause = rw c.in_ok-movie.ensures.reads at c.put_walk.ensures.refusal in
+    text_refuses c.put_walk.result (g.S.Store.is_honest c.args.store.now) file c.args.id (ListsSamples file c.args.id) _ _ _ _ _ _ (if_err _ _ c.put_walk.result (λ r x. copy_not_carried _ _ _ _ _ _ r x) cause)
+    (λ told.
+    let o = c.in_ok-movie.ensures.movie told in
+    let f = track_found file c.in_ok-movie.movie o.0 c.in_ok-track.track c.args.id o.1 (rw c.tracks.ensures at c.in_ok-track.ensures.within) (rw c.tracks.ensures at c.in_ok-track.ensures.track) in
+    let samples = track_samples o.0 f.t in
+    on_err _ _ c.put_walk.result (λ all. (sample_at_lines 1 samples, lists file o.0 c.in_ok-track.track c.args.id f, all told o.0 f.t samples o.1 (c.in_ok-walk.ensures.coming file o.0 f.t o.1 f.is_there) f.few)) prefix)
+    (λ told.
+    let o = c.in_ok-movie.ensures.movie told in
+    let f = track_found file c.in_ok-movie.movie o.0 c.in_ok-track.track c.args.id o.1 (rw c.tracks.ensures at c.in_ok-track.ensures.within) (rw c.tracks.ensures at c.in_ok-track.ensures.track) in
+    unchanged told o.0 f.t (track_samples o.0 f.t) o.1 (c.in_ok-walk.ensures.coming file o.0 f.t o.1 f.is_there) f.few)
