@@ -21,6 +21,7 @@ pub mod Gatherings
 pub mod Vectors
 pub mod WrittenGroups
 pub mod WrittenRun
+mod WalksOn
 pub mod WrittenFragment
 pub mod PieceTree
 pub mod PieceSays

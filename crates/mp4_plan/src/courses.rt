@@ -1,5 +1,11 @@
 //! Samples of a track, taken piece by piece.
-ghost use Rattle.std.specs.Prelude.{◌≡◌, ◌+◌, ◌*◌, ◌^◌, ◌<◌, ◌≤◌, [], length, vec_len, IsTrue, IfOk, IfErr, OnOk};
+ghost use Rattle.std.specs.Prelude.{◌≡◌, ◌+◌, ◌*◌, ◌^◌, ◌<◌, ◌≤◌, List, [], length, slice_get, vec_len, IsTrue, IfOk, IfErr, OnOk};
+ghost use Rattle.mp4_boxes.specs.declared.refusal.Refusal.TheVariants as refusals;
+ghost use Rattle.mp4_head.specs.Tree.{TrackTree};
+ghost use Rattle.mp4_present.specs.Denotes.{FileTree};
+ghost use Rattle.mp4_present.specs.OpenedMovie.{IsOpenedAs};
+ghost use Rattle.mp4_present.specs.Coming.{Comes};
+ghost use Rattle.mp4_tables.specs.declared.sample.SampleAt.{SampleAt};
 ghost use Rattle.mp4_present.specs.InHand.{Follows, left_in_hand};
 ghost use Rattle.mp4_present.specs.Carried.{RefusesCarry, waiting};
 ghost use Rattle.mp4_present.specs.Movies.{IsWalkOf, RefusesLoad};
@@ -29,7 +35,12 @@ pub(crate) fn peek_sample<S: Store, L: Ledger>(
     requires { IsWalkOf movie.now walk.old }
     ensures walk { OnOk result (IsWalkOf movie.now walk.new) }
     ensures room { length walk.new.bytes.items ≡ length walk.old.bytes.items }
+    ensures honesty { S.is_honest store.new ≡ S.is_honest store.old }
     ensures file { S.file store.new ≡ S.file store.old }
+    ensures coming { IsTrue (S.is_honest store.old) → (tree : FileTree) (t : TrackTree) (samples : List SampleAt) → IsOpenedAs (S.file store.old) movie.now tree → Comes (S.file store.old) tree t movie.now walk.old samples
+        → IfOk result (λ next. Comes (S.file store.old) tree t movie.now walk.new samples × (next ≡ slice_get samples 0)) }
+    ensures unchanged { IsTrue (S.is_honest store.old) → (tree : FileTree) (t : TrackTree) (samples : List SampleAt) → IsOpenedAs (S.file store.old) movie.now tree → Comes (S.file store.old) tree t movie.now walk.old samples
+        → IfErr result (λ r. r ≡ refusals.StoreChanged → ⊥) }
     ensures reads { OnOk result (S.read_failures store.new ≡ S.read_failures store.old) }
     ensures refusal { IfErr result (RefusesLoad (S.read_failures store.old) (S.read_failures store.new)) }
 {
