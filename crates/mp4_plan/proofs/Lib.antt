@@ -22,6 +22,7 @@ pub mod Vectors
 pub mod WrittenGroups
 pub mod WrittenRun
 mod WalksOn
+mod PieceCarried
 pub mod WrittenFragment
 pub mod PieceTree
 pub mod PieceSays
