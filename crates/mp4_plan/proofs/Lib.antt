@@ -21,6 +21,8 @@ pub mod Gatherings
 pub mod Vectors
 pub mod WrittenGroups
 pub mod WrittenRun
+mod WalksOn
+mod PieceCarried
 pub mod WrittenFragment
 pub mod PieceTree
 pub mod PieceSays

@@ -1,7 +1,14 @@
 //! Samples of a track, taken piece by piece.
-ghost use Rattle.std.specs.Prelude.{◌≡◌, ◌+◌, ◌*◌, ◌^◌, ◌<◌, ◌≤◌, [], length, vec_len, IsTrue, IfOk, IfErr, OnOk};
+ghost use Rattle.std.specs.Prelude.{◌≡◌, ◌+◌, ◌*◌, ◌^◌, ◌<◌, ◌≤◌, List, [], length, take, drop, slice_get, vec_len, IsTrue, IfOk, IfErr, OnOk};
+ghost use Rattle.mp4_boxes.specs.declared.refusal.Refusal.TheVariants as refusals;
+ghost use Rattle.mp4_head.specs.Tree.{TrackTree};
+ghost use Rattle.mp4_present.specs.Denotes.{FileTree};
+ghost use Rattle.mp4_present.specs.OpenedMovie.{IsOpenedAs};
+ghost use Rattle.mp4_present.specs.Coming.{Comes};
+ghost use Rattle.mp4_tables.specs.declared.sample.SampleAt.{SampleAt};
 ghost use Rattle.mp4_present.specs.InHand.{Follows, left_in_hand};
-ghost use Rattle.mp4_present.specs.Carried.{RefusesCarry, waiting};
+ghost use Rattle.mp4_present.specs.Carried.{BytesGoOn, RefusesCarry, waiting};
+ghost use Rattle.mp4_present.specs.Joined.{sample_bytes};
 ghost use Rattle.mp4_present.specs.Movies.{IsWalkOf, RefusesLoad};
 ghost use Rattle.mp4_plan.specs.Gathering.{count_of};
 ghost use Rattle.mp4_plan.specs.HandsFed.{BytesCarried, stop_of, HandFed};
@@ -29,7 +36,12 @@ pub(crate) fn peek_sample<S: Store, L: Ledger>(
     requires { IsWalkOf movie.now walk.old }
     ensures walk { OnOk result (IsWalkOf movie.now walk.new) }
     ensures room { length walk.new.bytes.items ≡ length walk.old.bytes.items }
+    ensures honesty { S.is_honest store.new ≡ S.is_honest store.old }
     ensures file { S.file store.new ≡ S.file store.old }
+    ensures coming { IsTrue (S.is_honest store.old) → (tree : FileTree) (t : TrackTree) (samples : List SampleAt) → IsOpenedAs (S.file store.old) movie.now tree → Comes (S.file store.old) tree t movie.now walk.old samples
+        → IfOk result (λ next. Comes (S.file store.old) tree t movie.now walk.new samples × (next ≡ slice_get samples 0)) }
+    ensures unchanged { IsTrue (S.is_honest store.old) → (tree : FileTree) (t : TrackTree) (samples : List SampleAt) → IsOpenedAs (S.file store.old) movie.now tree → Comes (S.file store.old) tree t movie.now walk.old samples
+        → IfErr result (λ r. r ≡ refusals.StoreChanged → ⊥) }
     ensures reads { OnOk result (S.read_failures store.new ≡ S.read_failures store.old) }
     ensures refusal { IfErr result (RefusesLoad (S.read_failures store.old) (S.read_failures store.new)) }
 {
@@ -226,7 +238,10 @@ pub(crate) fn carry_piece<S: Store, K: Sink, L: Ledger>(
     requires { IsWalkOf movie.now walk.old }
     ensures walk { OnOk result (IsWalkOf movie.now walk.new) }
     ensures room { length walk.new.bytes.items ≡ length walk.old.bytes.items }
+    ensures honesty { S.is_honest store.new ≡ S.is_honest store.old }
     ensures file { S.file store.new ≡ S.file store.old }
+    ensures carried { IsTrue (S.is_honest store.old) → (tree : FileTree) (t : TrackTree) (samples : List SampleAt) → IsOpenedAs (S.file store.old) movie.now tree → Comes (S.file store.old) tree t movie.now walk.old samples
+        → OnOk result (BytesGoOn (K.contents sink.old) (K.contents sink.new) (waiting carrier.old) (waiting carrier.new) (sample_bytes (S.file store.old) (take load.samples samples)) × Comes (S.file store.old) tree t movie.now walk.new (drop load.samples samples)) }
     ensures buffer { vec_len carrier.new.buffer ≡ vec_len carrier.old.buffer }
     ensures reads { OnOk result (S.read_failures store.new ≡ S.read_failures store.old) }
     ensures puts { OnOk result (K.put_failures sink.new ≡ K.put_failures sink.old) }

@@ -1,8 +1,7 @@
 -- The keys of a track once more keys were named: they differ from one another, and samples of before have index 0 at those that are new.
-use Rattle.std.proofs.Common.{◌≡◌, ℕ, zero, suc, ◌+◌, Bool, true, false, cond, List, [], ◌∷◌, ◌++◌, length, map, refl, sym, ap, subst, ◌∙◌, rules, inl, inr}
-use Rattle.std.specs.Prelude.{◌==◌, if◌then◌else◌, replicate}
+use Rattle.std.proofs.Common.{◌≡◌, ℕ, zero, suc, ◌+◌, Bool, true, false, cond, List, [], ◌∷◌, ◌++◌, map, refl, ap, ◌∙◌, rules}
+use Rattle.std.specs.Prelude.{◌==◌, replicate}
 use Rattle.std.specs.List.{AllByRecursion, list_any}
-use Rattle.std.proofs.lemmas.Bool.{or_parts}
 use Rattle.std.proofs.lemmas.List.{map-append}
 use Rattle.mp4_boxes.proofs.Among.{true_false}
 use Rattle.mp4_tables.specs.Accepted.{AreDistinct}
@@ -10,7 +9,6 @@ use Rattle.mp4_tables.specs.Repeated.{repeated}
 use Rattle.mp4_tables.specs.Groups.{GroupKey, Grouping, Groups, key_rank, same_key, keys_with, keys_after, index_at, put_group, put_indexes, maps_of}
 use Rattle.mp4_tables.specs.PlainSamples.{PlacedSample, with_groups}
 use Rattle.mp4_tables.specs.Timed.{padded, indexes, sample_at, timed}
-use Rattle.mp4_tables.specs.declared.sample.SampleAt.{SampleAt}
 use Rattle.mp4_tables.proofs.GroupsKept.{snoc_distinct, differs_from}
 use Rattle.mp4_tables.proofs.SampleLists.{put_not_in, absent}
 use Rattle.mp4_tables.proofs.NamedKeys.{IsAmong, by_rank, each_named}

@@ -1,6 +1,6 @@
 -- The next `moof` of a walk, read again to its room.
-use Rattle.std.proofs.Common.{◌≡◌, ℕ, zero, suc, ◌+◌, ◌-◌, ◌<◌, ◌≤◌, true, false, List, [], ◌∷◌, ◌++◌, Option, Some, None, max, length, take, drop, map, refl, sym, ap, subst, ◌∙◌, rules, arith, append_assoc, slice_get, length-take}
-use Rattle.std.specs.Prelude.{codes, fold, bytes_eq, flat_map, Bool, IsTrue}
+use Rattle.std.proofs.Common.{◌≡◌, ℕ, ◌+◌, ◌≤◌, true, false, List, [], ◌∷◌, ◌++◌, Some, None, max, length, take, map, refl, sym, ap, subst, ◌∙◌, arith, append_assoc, slice_get, length-take}
+use Rattle.std.specs.Prelude.{codes, fold, bytes_eq, Bool, IsTrue}
 use Rattle.std.proofs.lemmas.List.{append-nil}
 use Rattle.mp4_store.specs.Device.{range}
 use Rattle.mp4_boxes.specs.Box.{Box, size, sizes}
@@ -9,7 +9,6 @@ use Rattle.mp4_boxes.specs.declared.refusal.Refusal.{Refusal}
 use Rattle.mp4_boxes.specs.declared.refusal.Refusal.TheVariants as refusals
 use Rattle.mp4_boxes.proofs.Among.{of_kind-append}
 use Rattle.mp4_boxes.proofs.Tiling.{sizes-append}
-use Rattle.mp4_tables.specs.PlainSamples.{PlacedSample}
 use Rattle.mp4_tables.specs.Timed.{timed}
 use Rattle.mp4_tables.specs.declared.sample.SampleAt.{SampleAt}
 use Rattle.mp4_frag.specs.Fragments.{FragmentTree}
@@ -20,7 +19,9 @@ use Rattle.mp4_present.specs.Again.{AreFrom, IsNextFragment, RefusesNext}
 use Rattle.mp4_present.specs.Denotes.{FileTree, file_parts, first_due}
 use Rattle.mp4_present.specs.Outline.{box_at, longest}
 use Rattle.mp4_present.specs.OpenedMovie.{IsOpenedAs}
-use Rattle.mp4_present.specs.Movies.{MovieSeen, IsWhole, Fills, moof_bytes}
+use Rattle.mp4_present.specs.InHand.{left_in_hand}
+use Rattle.mp4_present.specs.Movies.{MovieSeen, InHandOf, IsWhole, Fills}
+use Rattle.mp4_present.specs.declared.in_hand.InHand.{InHand}
 use Rattle.mp4_present.specs.Passing.{AreBehind, parts_behind}
 use Rattle.mp4_present.specs.Reading.{RefusesPayload}
 use Rattle.mp4_present.specs.Coming.{track_keys, due_behind, samples_behind, StandsBefore, Comes, HoldsNext, Takes, moof_box}
@@ -151,6 +152,15 @@ abbrev pub GoesOnBefore : List ℕ → MovieSeen → Walk → Walk → Type 0
 GoesOnBefore file m begun w =
     (tree : FileTree) (t : TrackTree) (earlier later : List FragmentTree) → IsOpenedAs file m tree → StandsBefore file tree t earlier later begun → Going file tree t (samples_behind tree t earlier later) w
 
+-- a walk behind some `moof`s, with nothing left in hand
+abbrev pub Idles : List ℕ → FileTree → TrackTree → MovieSeen → Walk → Type 0
+Idles file tree t m w = (earlier later : List FragmentTree) × (hand : InHand) × (StandsBefore file tree t earlier later w × InHandOf m w hand × (left_in_hand hand ≡ []))
+
+-- the same, for each tree that the movie was opened as, where nothing was left in hand
+abbrev pub IdlesBefore : List ℕ → MovieSeen → Walk → Walk → Type 0
+IdlesBefore file m begun w =
+    (tree : FileTree) (t : TrackTree) (earlier later : List FragmentTree) (hand : InHand) → IsOpenedAs file m tree → StandsBefore file tree t earlier later begun → InHandOf m begun hand → left_in_hand hand ≡ [] → Idles file tree t m w
+
 -- ---- why nothing is loaded
 
 pub next_unchanged : (honest : Bool) (file : List ℕ) (from reads reads_after : ℕ) (boxes : List Box) (r : Refusal) → IsTrue honest → AreFrom file from boxes → RefusesNext honest file from reads reads_after r → r ≡ refusals.StoreChanged → ⊥
@@ -167,6 +177,10 @@ pub goes_past : (file : List ℕ) (tree : FileTree) (t : TrackTree) (m : MovieSe
 goes_past file tree t m samples earlier next more w some e none h =
     (earlier ++ next ∷ [], more, (h.1.0, e ∙ behind_split tree t earlier next more ∙ ap (λ ss. ss ++ samples_behind tree t (earlier ++ next ∷ []) more) (sym h.1.2 ∙ h.1.3 none)))
 
+pub goes_idle : (file : List ℕ) (tree : FileTree) (t : TrackTree) (m : MovieSeen) (earlier : List FragmentTree) (next : FragmentTree) (more : List FragmentTree) (w : Walk) (some : Bool) → some ≡ false → Takes file tree t earlier next more m w some
+    → Idles file tree t m w
+goes_idle file tree t m earlier next more w some none h = (earlier ++ next ∷ [], more, h.0, (h.1.0, h.1.1, h.1.3 none))
+
 -- it has some
 pub comes_next : (file : List ℕ) (tree : FileTree) (t : TrackTree) (m : MovieSeen) (samples : List SampleAt) (earlier : List FragmentTree) (next : FragmentTree) (more : List FragmentTree) (w : Walk) (some : Bool)
     → samples ≡ samples_behind tree t earlier (next ∷ more) → Takes file tree t earlier next more m w some → Comes file tree t m w samples
@@ -179,3 +193,8 @@ nothing_comes tree t samples earlier later none e = e ∙ ap (samples_behind tre
 
 pub later_is : (tree : FileTree) (t : TrackTree) (samples : List SampleAt) (earlier later : List FragmentTree) (next : FragmentTree) (more : List FragmentTree) → later ≡ next ∷ more → samples ≡ samples_behind tree t earlier later → samples ≡ samples_behind tree t earlier (next ∷ more)
 later_is tree t samples earlier later next more e f = f ∙ ap (samples_behind tree t earlier) e
+
+-- nothing is left in hand, and no `moof` is left
+pub ends_idle : (file : List ℕ) (tree : FileTree) (t : TrackTree) (m : MovieSeen) (earlier later : List FragmentTree) (hand : InHand) (w : Walk) → later ≡ [] → StandsBefore file tree t earlier later w → InHandOf m w hand → left_in_hand hand ≡ []
+    → Comes file tree t m w []
+ends_idle file tree t m earlier later hand w none h i z = (earlier, later, hand, (h, i, sym (ap (λ ss. ss ++ samples_behind tree t earlier later) z ∙ ap (samples_behind tree t earlier) none)))

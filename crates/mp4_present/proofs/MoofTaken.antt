@@ -1,11 +1,10 @@
 -- The next `moof` of a walk, checked again: it is not refused, and its samples of the track are in hand.
-use Rattle.std.proofs.Common.{◌≡◌, ℕ, zero, suc, ◌+◌, ◌-◌, ◌^◌, ◌<◌, ◌≤◌, Bool, true, false, cond, List, [], ◌∷◌, ◌++◌, Option, Some, None, length, map, pos, refl, sym, ap, subst, ◌∙◌, rules, arith, append_assoc, slice_get, slice_index_or}
+use Rattle.std.proofs.Common.{◌≡◌, ℕ, zero, suc, ◌+◌, ◌^◌, ◌<◌, ◌≤◌, Bool, true, false, cond, List, [], ◌∷◌, ◌++◌, Option, Some, None, length, map, pos, refl, sym, ap, subst, ◌∙◌, arith, append_assoc, slice_get, slice_index_or}
 use Rattle.std.specs.Prelude.{codes, bytes_eq, is_some, ◌==◌, find, flat_map, option_map, unwrap_or}
 use Rattle.std.specs.List.{AllByRecursion, AllZip}
-use Rattle.std.proofs.lemmas.List.{append-nil, map-append}
+use Rattle.std.proofs.lemmas.List.{map-append}
 use Rattle.std.proofs.lemmas.Option.{slice_get-map}
-use Rattle.mp4_boxes.specs.Bytes.{sum_of}
-use Rattle.mp4_boxes.specs.Box.{Box, LieEndToEnd, file_container, size, sizes}
+use Rattle.mp4_boxes.specs.Box.{Box, LieEndToEnd, size, sizes}
 use Rattle.mp4_boxes.specs.Children.{of_kind}
 use Rattle.mp4_boxes.specs.declared.fault.Fault.{Fault}
 use Rattle.mp4_boxes.proofs.Among.{head_is, tail_is, all_at, of_kind-append}
@@ -29,7 +28,7 @@ use Rattle.mp4_frag.proofs.RunsTied.{duration-append}
 use Rattle.mp4_frag.proofs.Trees.{fragment_tree_one}
 use Rattle.mp4_head.specs.Tree.{TrackTree, track_head_of, trexes_of}
 use Rattle.mp4_head.proofs.Above.{lies_front}
-use Rattle.mp4_present.specs.Presentation.{IsInTime, Sample, total_duration, end_time, max_time}
+use Rattle.mp4_present.specs.Presentation.{IsInTime, total_duration, max_time}
 use Rattle.mp4_present.specs.Denotes.{FileTree, Denotes, begins_with_movie, plain_of, file_parts, parts_of_track, placed_of, sample_of, track_of, presentation_of}
 use Rattle.mp4_present.specs.Passing.{AreBehind, IsMovieOf, IsNextMoof, parts_behind, seen_behind}
 use Rattle.mp4_present.specs.Stands.{Stands, StandsBy, Reason, header, child, missing, leaf, tables, fragment, count, limit, order}

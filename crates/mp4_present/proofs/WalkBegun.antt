@@ -1,33 +1,31 @@
 -- A walk that begins: the samples of the tables are in hand, and those of all `moof`s come behind them.
-use Rattle.std.proofs.Common.{◌≡◌, ℕ, zero, suc, ◌+◌, ◌≤◌, List, [], ◌∷◌, ◌++◌, Option, Some, None, length, drop, map, refl, sym, ap, subst, ◌∙◌, rules, arith, slice_get}
+use Rattle.std.proofs.Common.{◌≡◌, ℕ, ◌+◌, List, [], ◌∷◌, ◌++◌, Option, Some, None, length, drop, map, refl, sym, ap, subst, ◌∙◌, arith, slice_get}
 use Rattle.std.specs.Prelude.{codes, flat_map, ℤ, unwrap_or}
 use Rattle.std.proofs.lemmas.List.{append-nil}
-use Rattle.mp4_boxes.specs.Box.{Box, sizes}
+use Rattle.mp4_boxes.specs.Box.{Box}
 use Rattle.mp4_boxes.specs.Children.{of_kind}
 use Rattle.mp4_boxes.proofs.Among.{of_kind-append}
-use Rattle.mp4_tables.specs.Groups.{GroupKey, Grouping, maps_of}
-use Rattle.mp4_tables.specs.PlainSamples.{PlacedSample, Spot, joined, plain_samples}
-use Rattle.mp4_tables.specs.Tables.{Tables, tables_of}
+use Rattle.mp4_tables.specs.Groups.{GroupKey, Grouping}
+use Rattle.mp4_tables.specs.PlainSamples.{PlacedSample, Spot, joined}
+use Rattle.mp4_tables.specs.Tables.{tables_of}
 use Rattle.mp4_tables.specs.Timed.{timed, samples_of}
 use Rattle.mp4_tables.specs.Accepted.{tables_at}
 use Rattle.mp4_tables.specs.Views.{TablesSeen, CursorSeen, samples_from}
 use Rattle.mp4_tables.specs.Views as views
-use Rattle.mp4_tables.specs.declared.sample.SampleAt.{SampleAt}
-use Rattle.mp4_tables.specs.declared.places.TablePlace.{TablePlace}
 use Rattle.mp4_frag.specs.Fragments.{FragmentTree}
 use Rattle.mp4_frag.specs.FragmentSamples.{Part, start_of, duration_of, fragment_samples}
-use Rattle.mp4_frag.specs.Judged.{TrackSeen, track_seen}
+use Rattle.mp4_frag.specs.Judged.{track_seen}
 use Rattle.mp4_frag.specs.declared.state.TrackState.{TrackState}
 use Rattle.mp4_frag.proofs.RunsTied.{timed-append}
-use Rattle.mp4_head.specs.Tree.{TrackTree, stbl_of, track_head_of, trexes_of}
-use Rattle.mp4_present.specs.Denotes.{FileTree, plain_of, plain_keys, file_parts, parts_of_track, placed_of}
+use Rattle.mp4_head.specs.Tree.{TrackTree, track_head_of}
+use Rattle.mp4_present.specs.Denotes.{FileTree, plain_of, plain_keys, file_parts, parts_of_track}
 use Rattle.mp4_present.specs.Presentation.{max_samples}
 use Rattle.mp4_present.specs.Stands.{table_total}
-use Rattle.mp4_present.specs.Outline.{BeginAt, longest}
-use Rattle.mp4_present.specs.OpenedMovie.{IsOpenedAs, AreTablesOf, plain_seen}
+use Rattle.mp4_present.specs.Outline.{BeginAt}
+use Rattle.mp4_present.specs.OpenedMovie.{IsOpenedAs, AreTablesOf}
 use Rattle.mp4_present.specs.Movies.{MovieSeen, StatesFor, table_bytes, tables_seen}
-use Rattle.mp4_present.specs.Passing.{AreBehind, parts_behind, seen_behind}
-use Rattle.mp4_present.specs.Coming.{track_keys, track_samples, due_behind, samples_behind, StandsBefore}
+use Rattle.mp4_present.specs.Passing.{AreBehind, parts_behind}
+use Rattle.mp4_present.specs.Coming.{track_keys, track_samples, samples_behind, StandsBefore}
 use Rattle.mp4_present.specs.declared.movie.TrackTables.{TrackTables}
 use Rattle.mp4_present.specs.declared.walks.Walk.{Walk}
 use Rattle.mp4_present.proofs.Assembled.{all_same}

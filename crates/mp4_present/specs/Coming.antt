@@ -1,9 +1,7 @@
 -- The samples of a track that are still to come in a walk over the file that its movie was opened from.
-use Rattle.std.specs.Prelude.{◌≡◌, ℕ, ◌+◌, ◌-◌, ◌^◌, ◌==◌, min, if◌then◌else◌, List, [], ◌∷◌, ◌++◌, length, map, Bool, true, false, Some, slice_get, IsTrue, codes}
+use Rattle.std.specs.Prelude.{◌≡◌, ℕ, ◌+◌, ◌-◌, ◌^◌, ◌==◌, min, if◌then◌else◌, List, [], ◌∷◌, ◌++◌, length, map, Bool, true, false, Some, slice_get, codes}
 use Rattle.mp4_boxes.specs.Box.{Box, size, sizes}
 use Rattle.mp4_boxes.specs.Children.{of_kind}
-use Rattle.mp4_boxes.specs.declared.refusal.Refusal.{Refusal}
-use Rattle.mp4_boxes.specs.declared.refusal.Refusal.TheVariants as refusals
 use Rattle.mp4_tables.specs.Groups.{GroupKey}
 use Rattle.mp4_tables.specs.Timed.{timed}
 use Rattle.mp4_tables.specs.declared.sample.SampleAt.{SampleAt}
@@ -16,7 +14,6 @@ use Rattle.mp4_present.specs.Passing.{AreBehind, parts_behind}
 use Rattle.mp4_present.specs.Outline.{longest}
 use Rattle.mp4_present.specs.InHand.{left_in_hand}
 use Rattle.mp4_present.specs.Movies.{MovieSeen, InHandOf, moof_bytes}
-use Rattle.mp4_present.specs.OpenedMovie.{IsOpenedAs}
 use Rattle.mp4_present.specs.declared.in_hand.InHand.{InHand}
 use Rattle.mp4_present.specs.declared.walks.Walk.{Walk}
 

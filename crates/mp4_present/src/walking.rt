@@ -1,5 +1,5 @@
 //! How a walk begins and goes on.
-ghost use Rattle.std.specs.Prelude.{ℕ, ◌≡◌, ◌<◌, ◌≤◌, List, length, Some, slice_get, IfOk, IfErr, OnOk, IsTrue, IsOkAnd};
+ghost use Rattle.std.specs.Prelude.{ℕ, ◌≡◌, ◌<◌, ◌≤◌, List, [], length, false, Some, slice_get, IfOk, IfErr, OnOk, IsTrue, IsOkAnd};
 ghost use Rattle.mp4_frag.specs.Fragments.{FragmentTree};
 ghost use Rattle.mp4_frag.specs.Judged.{track_seen};
 ghost use Rattle.mp4_head.specs.Tree.{TrackTree};
@@ -7,6 +7,7 @@ ghost use Rattle.mp4_present.specs.Denotes.{FileTree};
 ghost use Rattle.mp4_present.specs.OpenedMovie.{IsOpenedAs};
 ghost use Rattle.mp4_present.specs.Coming.{track_samples, samples_behind, StandsBefore, Comes, HoldsNext, Takes, Loads, due_of};
 ghost use Rattle.mp4_boxes.specs.declared.refusal.Refusal.TheVariants as refusals;
+ghost use Rattle.mp4_present.specs.InHand.{left_in_hand};
 ghost use Rattle.mp4_present.specs.Movies.{Fills, GoesOn, IsWalkOf, StatesFor, InHandOf, RefusesLoad};
 
 use crate::fragments::next_fragment;
@@ -142,6 +143,8 @@ impl Walk {
             → IfOk result (λ more. Loads (S.file store.old) tree t movie.now (samples_behind tree t earlier later) self.new more) }
         ensures unchanged { IsTrue (S.is_honest store.old) → (tree : FileTree) (t : TrackTree) (earlier later : List FragmentTree) → IsOpenedAs (S.file store.old) movie.now tree → StandsBefore (S.file store.old) tree t earlier later self.old
             → IfErr result (λ r. r ≡ refusals.StoreChanged → ⊥) }
+        ensures ended { IsTrue (S.is_honest store.old) → (tree : FileTree) (t : TrackTree) (earlier later : List FragmentTree) (hand : InHand) → IsOpenedAs (S.file store.old) movie.now tree → StandsBefore (S.file store.old) tree t earlier later self.old
+            → InHandOf movie.now self.old hand → left_in_hand hand ≡ [] → IfOk result (λ more. more ≡ false → Comes (S.file store.old) tree t movie.now self.new []) }
         ensures next { IfOk result (λ more. IsTrue more → (self.old.next < self.new.next) × (self.new.next ≤ length (S.file store.old))) }
         ensures reads { OnOk result (S.read_failures store.new ≡ S.read_failures store.old) }
         ensures refusal { IfErr result (RefusesLoad (S.read_failures store.old) (S.read_failures store.new)) }

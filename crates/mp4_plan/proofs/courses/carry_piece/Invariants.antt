@@ -1,17 +1,23 @@
-use Rattle.std.specs.Prelude.{vec_len}
+use Rattle.std.specs.Prelude.{vec_len, IsTrue}
 use Rattle.std.proofs.Common.{◌≡◌, ◌-◌, length}
+use Rattle.mp4_present.specs.Carried.{waiting}
 use Rattle.mp4_present.specs.Movies.{IsWalkOf}
+use Rattle.mp4_plan.proofs.PieceCarried.{CarriesOn}
 use Rattle.mp4_plan.proofs.courses.carry_piece.Given as goal
 
--- the walk goes on
+-- the walk goes on, and the bytes of the samples before are taken along
 abbrev pub invariant-loop-left : goal.invariant-loop-left
-invariant-loop-left g l =
-    IsWalkOf l.movie l.walk
-    × (length l.walk.bytes.items ≡ length l.fn.walk.bytes.items)
-    × (g.S.Store.file l.store ≡ g.S.Store.file l.fn.store)
-    × (g.S.Store.read_failures l.store ≡ g.S.Store.read_failures l.fn.store)
-    × (g.K.Sink.put_failures l.sink ≡ g.K.Sink.put_failures l.fn.sink)
-    × (vec_len l.carrier.buffer ≡ vec_len l.fn.carrier.buffer)
+invariant-loop-left g l = record {
+  walk : IsWalkOf l.movie l.walk;
+  room : length l.walk.bytes.items ≡ length l.fn.walk.bytes.items;
+  honesty : g.S.Store.is_honest l.store ≡ g.S.Store.is_honest l.fn.store;
+  file : g.S.Store.file l.store ≡ g.S.Store.file l.fn.store;
+  reads : g.S.Store.read_failures l.store ≡ g.S.Store.read_failures l.fn.store;
+  puts : g.K.Sink.put_failures l.sink ≡ g.K.Sink.put_failures l.fn.sink;
+  buffer : vec_len l.carrier.buffer ≡ vec_len l.fn.carrier.buffer;
+  carried : IsTrue (g.S.Store.is_honest l.fn.store)
+      → CarriesOn (g.S.Store.file l.fn.store) l.movie l.fn.walk l.walk (g.K.Sink.contents l.fn.sink) (g.K.Sink.contents l.sink) (waiting l.fn.carrier) (waiting l.carrier) l.fn.load l.left;
+}
 
 abbrev pub decreases-loop-left : goal.decreases-loop-left
 decreases-loop-left g l = length (g.S.Store.file l.store) - l.walk.next
