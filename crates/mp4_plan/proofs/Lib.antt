@@ -23,6 +23,7 @@ pub mod WrittenGroups
 pub mod WrittenRun
 mod WalksOn
 mod PieceCarried
+mod PieceFed
 pub mod WrittenFragment
 pub mod PieceTree
 pub mod PieceSays

@@ -1,5 +1,5 @@
 -- The bytes of a piece, taken along over the `moof`s that its samples are in.
-use Rattle.std.proofs.Common.{◌≡◌, ℕ, ◌+◌, ◌<◌, Bool, true, List, [], ◌++◌, length, take, drop, refl, sym, ap, subst, ◌∙◌, append_assoc, length-append, arith}
+use Rattle.std.proofs.Common.{◌≡◌, ℕ, ◌+◌, ◌<◌, Bool, true, false, List, [], ◌++◌, length, take, drop, refl, sym, ap, subst, ◌∙◌, append_assoc, length-append, arith}
 use Rattle.std.specs.Prelude.{Option}
 use Rattle.std.proofs.lemmas.Grind.{flat_map-append}
 use Rattle.std.proofs.lemmas.List.{take_at, drop_at}
@@ -77,6 +77,11 @@ hand_carried file m begun w now a b c held held_b held_c load left next hand lat
 -- what is loaded of a walk, whatever the file's tree is
 abbrev pub LoadsFor : List ℕ → MovieSeen → Walk → Walk → Bool → Type 0
 LoadsFor file m w next more = (tree : FileTree) (t : TrackTree) (earlier later : List FragmentTree) → IsOpenedAs file m tree → StandsBefore file tree t earlier later w → Loads file tree t m (samples_behind tree t earlier later) next more
+
+-- then nothing comes, where nothing was
+abbrev pub EndsFor : List ℕ → MovieSeen → Walk → Walk → Bool → Type 0
+EndsFor file m w next more =
+    (tree : FileTree) (t : TrackTree) (earlier later : List FragmentTree) (hand : InHand) → IsOpenedAs file m tree → StandsBefore file tree t earlier later w → InHandOf m w hand → left_in_hand hand ≡ [] → more ≡ false → Comes file tree t m next []
 
 -- more was loaded
 pub next_carried : (file : List ℕ) (m : MovieSeen) (begun w next : Walk) (a b : Option (List ℕ)) (held held_b : List ℕ) (load left : Load) (hand : InHand) (more : Bool) → CarriesOn file m begun w a b held held_b load left → InHandOf m w hand

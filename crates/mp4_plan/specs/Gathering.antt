@@ -77,6 +77,10 @@ pub record Planning : Type 0 where
   pub end : End
   pub gathered : Option Gathered
 
+-- one without samples
+abbrev pub piece_from : End → Planning
+piece_from end = record { end = end; gathered = None }
+
 -- the description of a piece: that of its samples, or of the next where it has none
 abbrev pub description_in : Option Gathered → List SampleAt → ℕ
 description_in (Some g) samples = g.description

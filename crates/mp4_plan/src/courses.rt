@@ -10,7 +10,7 @@ ghost use Rattle.mp4_present.specs.InHand.{Follows, left_in_hand};
 ghost use Rattle.mp4_present.specs.Carried.{BytesGoOn, RefusesCarry, waiting};
 ghost use Rattle.mp4_present.specs.Joined.{sample_bytes};
 ghost use Rattle.mp4_present.specs.Movies.{IsWalkOf, RefusesLoad};
-ghost use Rattle.mp4_plan.specs.Gathering.{count_of};
+ghost use Rattle.mp4_plan.specs.Gathering.{count_of, planned_of, piece_from, piece_fed, samples_after};
 ghost use Rattle.mp4_plan.specs.HandsFed.{BytesCarried, stop_of, HandFed};
 
 use crate::ends::End;
@@ -127,7 +127,10 @@ pub(crate) fn plan_piece<S: Store, L: Ledger>(
     requires { IsWalkOf movie.now walk.old }
     ensures walk { OnOk result (IsWalkOf movie.now walk.new) }
     ensures room { length walk.new.bytes.items ≡ length walk.old.bytes.items }
+    ensures honesty { S.is_honest store.new ≡ S.is_honest store.old }
     ensures file { S.file store.new ≡ S.file store.old }
+    ensures planned { IsTrue (S.is_honest store.old) → (tree : FileTree) (t : TrackTree) (samples : List SampleAt) → IsOpenedAs (S.file store.old) movie.now tree → Comes (S.file store.old) tree t movie.now walk.old samples
+        → IfOk result (λ p. (p ≡ planned_of (piece_fed (piece_from end) samples).gathered) × Comes (S.file store.old) tree t movie.now walk.new (samples_after (piece_from end) samples)) }
     ensures few { IfOk result (λ p. p.count ≤ MOST_SAMPLES) }
     ensures reads { OnOk result (S.read_failures store.new ≡ S.read_failures store.old) }
     ensures refusal { IfErr result (RefusesLoad (S.read_failures store.old) (S.read_failures store.new)) }
@@ -162,7 +165,10 @@ pub(crate) fn note_piece<S: Store, L: Ledger>(
     requires walk { IsWalkOf movie.now walk.old }
     ensures walk { OnOk result (IsWalkOf movie.now walk.new) }
     ensures room { length walk.new.bytes.items ≡ length walk.old.bytes.items }
+    ensures honesty { S.is_honest store.new ≡ S.is_honest store.old }
     ensures file { S.file store.new ≡ S.file store.old }
+    ensures planned { IsTrue (S.is_honest store.old) → (tree : FileTree) (t : TrackTree) (samples : List SampleAt) → IsOpenedAs (S.file store.old) movie.now tree → Comes (S.file store.old) tree t movie.now walk.old samples
+        → IfOk result (λ p. (p ≡ planned_of (piece_fed (piece_from end) samples).gathered) × Comes (S.file store.old) tree t movie.now walk.new (samples_after (piece_from end) samples)) }
     ensures few { IfOk result (λ p. p.count ≤ length rows.old) }
     ensures bytes { IfOk result (λ p. p.bytes ≤ p.count * 4294967295) }
     ensures reads { OnOk result (S.read_failures store.new ≡ S.read_failures store.old) }

@@ -1,17 +1,22 @@
+use Rattle.std.specs.Prelude.{IsTrue}
 use Rattle.std.proofs.Common.{◌≡◌, ◌-◌, ◌≤◌, length}
 use Rattle.mp4_present.specs.Movies.{IsWalkOf}
-use Rattle.mp4_plan.specs.Gathering.{count_of}
+use Rattle.mp4_plan.specs.Gathering.{count_of, piece_from}
+use Rattle.mp4_plan.proofs.PieceFed.{FeedsOn}
 use Rattle.mp4_plan.proofs.courses.note_piece.Given as goal
 
--- the walk goes on
+-- the walk goes on, and the piece is fed
 abbrev pub invariant-loop-planner : goal.invariant-loop-planner
-invariant-loop-planner g l =
-    IsWalkOf l.movie l.walk
-    × (length l.walk.bytes.items ≡ length l.fn.walk.bytes.items)
-    × (g.S.Store.file l.store ≡ g.S.Store.file l.fn.store)
-    × (g.S.Store.read_failures l.store ≡ g.S.Store.read_failures l.fn.store)
-    × (count_of l.planner.gathered ≤ length l.rows)
-    × (length l.rows ≡ length l.fn.rows)
+invariant-loop-planner g l = record {
+  walk : IsWalkOf l.movie l.walk;
+  room : length l.walk.bytes.items ≡ length l.fn.walk.bytes.items;
+  honesty : g.S.Store.is_honest l.store ≡ g.S.Store.is_honest l.fn.store;
+  file : g.S.Store.file l.store ≡ g.S.Store.file l.fn.store;
+  reads : g.S.Store.read_failures l.store ≡ g.S.Store.read_failures l.fn.store;
+  few : count_of l.planner.gathered ≤ length l.rows;
+  rows : length l.rows ≡ length l.fn.rows;
+  fed : IsTrue (g.S.Store.is_honest l.fn.store) → FeedsOn (g.S.Store.file l.fn.store) l.movie l.fn.walk l.walk (piece_from l.fn.end) l.planner;
+}
 
 abbrev pub decreases-loop-planner : goal.decreases-loop-planner
 decreases-loop-planner g l = length (g.S.Store.file l.store) - l.walk.next

@@ -1,0 +1,63 @@
+use Rattle.std.proofs.Common.{rules, ◌≡◌, refl, sym, ap, subst, ◌∙◌}
+use Rattle.mp4_present.specs.Movies.{InHandOf}
+use Rattle.mp4_plan.specs.Gathering.{Planning, planned_of, count_of}
+use Rattle.mp4_plan.proofs.PieceFed.{hand_fed, hand_ended, next_fed, none_fed, feeds_new}
+use Rattle.mp4_plan.proofs.courses.note_piece.Goals as goal
+
+pub loop-planner-init : goal.loop-planner-init
+loop-planner-init g c = record {
+  walk = c.requires.walk;
+  room = refl;
+  honesty = refl;
+  file = refl;
+  reads = refl;
+  few = search rules;
+  rows = refl;
+  fed = λ told. feeds_new (g.S.Store.file c.args.store.now) c.args.movie.now c.args.walk.now c.args.end c.new-planner.result c.new-planner.ensures;
+}
+
+pub returns-in-Ended-clause-planned : goal.returns-in-Ended-clause-planned
+returns-in-Ended-clause-planned g c told tree t samples o h =
+    let i = c.loop-planner.invariant in
+    let file = g.S.Store.file c.args.store.now in
+    let fed = rw c.in-Ended.is at c.note_hand-hand.ensures.fed in
+    let r = hand_ended file c.args.movie.now c.args.walk.now c.loop-planner.walk c.keep.new.self _ c.loop-planner.planner c.note_hand-hand.new.planner c.note_hand-hand.result.place (i.fed told) fed c.keep.ensures tree t samples o h in
+    (c.piece-in-Ended.ensures.is ∙ ap (λ (p : Planning). planned_of p.gathered) r.0, r.1)
+
+pub returns-then-not-branch-clause-planned : goal.returns-then-not-branch-clause-planned
+returns-then-not-branch-clause-planned g c told tree t samples o h =
+    let i = c.loop-planner.invariant in
+    let file = g.S.Store.file c.args.store.now in
+    let m = c.args.movie.now in
+    let place = c.note_hand-hand.result.place in
+    let planner = c.note_hand-hand.new.planner in
+    let fed = rw c.in-Empty.is at c.note_hand-hand.ensures.fed in
+    let on = hand_fed file m c.args.walk.now c.loop-planner.walk c.keep.new.self _ c.loop-planner.planner planner place (i.fed told) fed c.keep.ensures in
+    let is_hand = subst (λ w. InHandOf m w fed.later) (sym c.keep.ensures) fed.is_later in
+    let l = c.in_ok-load-in-Empty.ensures in
+    let r = none_fed file m c.args.walk.now c.keep.new.self c.load.new.self _ planner fed.later c.in_ok-load-in-Empty.field-0 on is_hand fed.taken.2 ((rw (i.honesty, i.file) at l.loaded) told) c.if-not-branch.true
+    ((rw (i.honesty, i.file) at l.ended) told) tree t samples o h in
+    (c.piece-then-not-branch.ensures.is ∙ ap (λ (p : Planning). planned_of p.gathered) r.0, r.1)
+
+pub loop-planner-preserved : goal.loop-planner-preserved
+loop-planner-preserved g c =
+    let i = c.loop-planner.invariant in
+    let l = c.in_ok-load-in-Empty.ensures in
+    record {
+      walk = l.walk;
+      room = search rules;
+      honesty = l.honesty ∙ i.honesty;
+      file = l.file ∙ i.file;
+      reads = l.reads ∙ i.reads;
+      few = search rules;
+      rows = search rules;
+      fed = λ told.
+          let file = g.S.Store.file c.args.store.now in
+          let m = c.args.movie.now in
+          let place = c.note_hand-hand.result.place in
+          let planner = c.note_hand-hand.new.planner in
+          let fed = rw c.in-Empty.is at c.note_hand-hand.ensures.fed in
+          let on = hand_fed file m c.args.walk.now c.loop-planner.walk c.keep.new.self _ c.loop-planner.planner planner place (i.fed told) fed c.keep.ensures in
+          let is_hand = subst (λ w. InHandOf m w fed.later) (sym c.keep.ensures) fed.is_later in
+          next_fed file m c.args.walk.now c.keep.new.self c.load.new.self _ planner fed.later c.in_ok-load-in-Empty.field-0 on is_hand fed.taken.2 ((rw (i.honesty, i.file) at l.loaded) told) (search rules);
+    }
