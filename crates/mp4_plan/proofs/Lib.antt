@@ -50,3 +50,8 @@ pub mod HandsCarried
 pub mod HandSteps
 pub mod HandsTaken
 pub mod TakenTurns
+pub mod Lefts
+pub mod FrontsPut
+pub mod SizesSmall
+pub mod ComeAt
+pub mod PieceWritten

@@ -1,8 +1,22 @@
 //! The normal form of a presentation, written.
-ghost use Rattle.std.specs.Prelude.{◌≡◌, ◌+◌, ◌*◌, ◌^◌, ◌<◌, ◌≤◌, length, IfOk, IfErr, OnOk};
+ghost use Rattle.std.specs.Prelude.{◌≡◌, ℕ, ◌+◌, ◌*◌, ◌^◌, ◌<◌, ◌≤◌, List, ◌++◌, length, take, slice_index, slice_get, Some, IfOk, IfErr, OnOk, OnErr, IsTrue};
+ghost use Rattle.std.specs.Io.KnownBytes.{Appends};
+ghost use Rattle.std.specs.List.{AllByRecursion, sum_by};
+ghost use Rattle.mp4_boxes.specs.declared.refusal.Refusal.TheVariants as refusals;
+ghost use Rattle.mp4_store.specs.Device.{AppendsPrefix};
+ghost use Rattle.mp4_tables.specs.Keys.{keys_seen};
+ghost use Rattle.mp4_tables.specs.declared.sample.SampleAt.{SampleAt};
+ghost use Rattle.mp4_present.specs.declared.track_info.TrackInfo.{TrackInfo};
+ghost use Rattle.mp4_present.specs.Carried.{BytesGoOn, waiting};
+ghost use Rattle.mp4_present.specs.Coming.{Comes};
+ghost use Rattle.mp4_present.specs.Denotes.{FileTree, presentation_of};
+ghost use Rattle.mp4_present.specs.Joined.{IsBelow};
+ghost use Rattle.mp4_present.specs.OpenedMovie.{IsOpenedAs};
+ghost use Rattle.mp4_plan.specs.Normal.{normal};
+ghost use Rattle.mp4_plan.specs.UsedKeys.{AreApart};
 ghost use Rattle.mp4_present.specs.Carried.{RefusesCarry};
 ghost use Rattle.mp4_present.specs.Movies.{RefusesLoad};
-ghost use Rattle.mp4_plan.specs.Writers.{RefusesMemory, RefusesPlan, AreWalksOf, IsWriterOf, rooms, held, turn_head, sequence_behind};
+ghost use Rattle.mp4_plan.specs.Writers.{RefusesMemory, RefusesPlan, AreWalksOf, IsWriterOf, rooms, held, turn_head, sequence_behind, AllCome, AllBegin, first_dts, head_of_normal, IsReady, bytes_of_piece, IsNoted, HaveCopied, IsPlanOf, WhereOpened};
 
 use crate::courses::{Load, carry_piece, note_piece, peek_sample, plan_piece};
 use crate::moof_front::{PieceHead, moof_front};
@@ -22,9 +36,7 @@ use std::sync::ledger::Ledger;
 /// How many bytes are put at once.
 const PIECE: usize = 65_000;
 
-/// The most bytes of a `moof`, and of `ftyp` and `moov`.
-const MOST_MOOF: u64 = 1 << 30;
-
+/// The most bytes of `ftyp` and `moov`.
 const MOST_HEAD: u128 = (1 << 30) + 24;
 
 // What all pieces of a presentation come to.
@@ -51,6 +63,7 @@ pub struct Writer {
 fn walks_of(alloc: Global, movie: &Movie) -> Result<Vec<Walk>, Refusal>
     ensures walks { IfOk result (λ walks. AreWalksOf movie.now walks.items) }
     ensures rooms { IfOk result (λ walks. rooms walks.items ≡ length movie.now.tracks * movie.now.longest) }
+    ensures begin { IfOk result (λ walks. (file : List ℕ) (tree : FileTree) → IsOpenedAs file movie.now tree → AllBegin file tree movie.now walks.items) }
     ensures refusal { IfErr result RefusesMemory }
 {
     let mut walks = Vec::new(alloc);
@@ -70,7 +83,10 @@ fn first_time<S: Store, L: Ledger>(
     requires { AreWalksOf movie.now walks.old }
     ensures walks { OnOk result (AreWalksOf movie.now walks.new) }
     ensures rooms { rooms walks.new ≡ rooms walks.old }
+    ensures honesty { S.is_honest store.new ≡ S.is_honest store.old }
     ensures file { S.file store.new ≡ S.file store.old }
+    ensures time { WhereOpened (S.is_honest store.old) (S.file store.old) movie.now (λ tree. (lefts : List (List SampleAt)) → AllCome (S.file store.old) tree movie.now tree.movie.tracks walks.old lefts → IfOk result (λ time. (time ≡ first_dts lefts) × AllCome (S.file store.old) tree movie.now tree.movie.tracks walks.new lefts)) }
+    ensures unchanged { WhereOpened (S.is_honest store.old) (S.file store.old) movie.now (λ tree. (lefts : List (List SampleAt)) → AllCome (S.file store.old) tree movie.now tree.movie.tracks walks.old lefts → IfErr result (λ r. r ≡ refusals.StoreChanged → ⊥)) }
     ensures reads { OnOk result (S.read_failures store.new ≡ S.read_failures store.old) }
     ensures refusal { IfErr result (RefusesLoad (S.read_failures store.old) (S.read_failures store.new)) }
 {
@@ -108,8 +124,11 @@ fn plan_all<S: Store, L: Ledger>(
     store: &mut S,
     steps: &mut Steps<L>,
 ) -> Result<Plan, Refusal>
+    ensures honesty { S.is_honest store.new ≡ S.is_honest store.old }
     ensures file { S.file store.new ≡ S.file store.old }
     ensures few { IfOk result (λ plan. plan.longest ≤ 2 ^ 24) }
+    ensures plan { WhereOpened (S.is_honest store.old) (S.file store.old) movie.now (λ tree. IfOk result (IsPlanOf (presentation_of (S.file store.old) tree))) }
+    ensures unchanged { WhereOpened (S.is_honest store.old) (S.file store.old) movie.now (λ tree. IfErr result (λ r. r ≡ refusals.StoreChanged → ⊥)) }
     ensures reads { OnOk result (S.read_failures store.new ≡ S.read_failures store.old) }
     ensures refusal { IfErr result (RefusesPlan (S.read_failures store.old) (S.read_failures store.new)) }
 {
@@ -135,7 +154,10 @@ pub fn normal_len<S: Store, L: Ledger>(
     store: &mut S,
     steps: &mut Steps<L>,
 ) -> Result<u64, Refusal>
+    ensures honesty { S.is_honest store.new ≡ S.is_honest store.old }
     ensures file { S.file store.new ≡ S.file store.old }
+    ensures length { WhereOpened (S.is_honest store.old) (S.file store.old) movie.now (λ tree. IfOk result (λ len. len ≡ length (normal (presentation_of (S.file store.old) tree)))) }
+    ensures unchanged { WhereOpened (S.is_honest store.old) (S.file store.old) movie.now (λ tree. IfErr result (λ r. r ≡ refusals.StoreChanged → ⊥)) }
     ensures reads { OnOk result (S.read_failures store.new ≡ S.read_failures store.old) }
     ensures refusal { IfErr result (RefusesPlan (S.read_failures store.old) (S.read_failures store.new)) }
 {
@@ -149,6 +171,8 @@ pub fn normal_len<S: Store, L: Ledger>(
 
 // The bytes of `ftyp` and `moov`.
 fn head_of(alloc: Global, movie: &Movie) -> Result<Vec<u8>, Refusal>
+    ensures head { (file : List ℕ) (tree : FileTree) → IsOpenedAs file movie.now tree → IfOk result (λ bytes. bytes.items ≡ head_of_normal (presentation_of file tree)) }
+    ensures unchanged { (file : List ℕ) (tree : FileTree) → IsOpenedAs file movie.now tree → IfErr result (λ r. r ≡ refusals.StoreChanged → ⊥) }
     ensures refusal { IfErr result RefusesMemory }
 {
     let head = movie.head(alloc)?;
@@ -194,7 +218,10 @@ impl Writer {
     ) -> Result<Writer, Refusal>
         ensures writer { IfOk result (IsWriterOf movie.now) }
         ensures held { IfOk result (λ w. held w ≡ length w.head.items + 2 * (length movie.now.tracks * movie.now.longest) + 24 * length w.rows.items + PIECE) }
+        ensures honesty { S.is_honest store.new ≡ S.is_honest store.old }
         ensures file { S.file store.new ≡ S.file store.old }
+        ensures ready { WhereOpened (S.is_honest store.old) (S.file store.old) movie.now (λ tree. IfOk result (IsReady (S.file store.old) tree movie.now)) }
+        ensures unchanged { WhereOpened (S.is_honest store.old) (S.file store.old) movie.now (λ tree. IfErr result (λ r. r ≡ refusals.StoreChanged → ⊥)) }
         ensures reads { OnOk result (S.read_failures store.new ≡ S.read_failures store.old) }
         ensures refusal { IfErr result (RefusesPlan (S.read_failures store.old) (S.read_failures store.new)) }
     {
@@ -223,18 +250,22 @@ impl Writer {
         requires track { track < length movie.now.tracks }
         requires count { planned.now.count ≤ length self.old.rows.items }
         requires bytes { planned.now.bytes + 16 < 2 ^ 64 }
+        requires rows { (j : ℕ) → slice_index planned.now.group_rows j ≤ planned.now.count }
         ensures writer { OnOk result (IsWriterOf movie.now self.new) }
         ensures held { held self.new ≡ held self.old }
+        ensures honesty { S.is_honest store.new ≡ S.is_honest store.old }
         ensures file { S.file store.new ≡ S.file store.old }
+        ensures put { WhereOpened (S.is_honest store.old) (S.file store.old) movie.now (λ tree. (samples : List SampleAt) → IsNoted (S.file store.old) tree movie.now track planned.now.count samples self.old → (info : TrackInfo) → slice_get movie.now.tracks track ≡ Some info → AreApart (keys_seen info.keys) → OnOk result (BytesGoOn (K.contents sink.old) (K.contents sink.new) (waiting self.old.carrier) (waiting self.new.carrier) (bytes_of_piece (S.file store.old) head planned.now (keys_seen info.keys) (take planned.now.count samples)))) }
+        ensures prefix { WhereOpened (S.is_honest store.old) (S.file store.old) movie.now (λ tree. (samples : List SampleAt) → IsNoted (S.file store.old) tree movie.now track planned.now.count samples self.old → (info : TrackInfo) → slice_get movie.now.tracks track ≡ Some info → AreApart (keys_seen info.keys) → OnErr result (AppendsPrefix (K.contents sink.old) (K.contents sink.new) (waiting self.old.carrier ++ bytes_of_piece (S.file store.old) head planned.now (keys_seen info.keys) (take planned.now.count samples)))) }
+        ensures copied { WhereOpened (S.is_honest store.old) (S.file store.old) movie.now (λ tree. (samples : List SampleAt) → OnOk result (HaveCopied (S.file store.old) tree movie.now track planned.now.count samples self.old self.new)) }
+        ensures keeps { OnOk result ((self.new.planning ≡ self.old.planning) × (self.new.rows ≡ self.old.rows)) }
+        ensures unchanged { WhereOpened (S.is_honest store.old) (S.file store.old) movie.now (λ tree. (samples : List SampleAt) → IsNoted (S.file store.old) tree movie.now track planned.now.count samples self.old → planned.now.count ≤ length samples → planned.now.bytes ≡ sum_by (λ (s : SampleAt). s.size) (take planned.now.count samples) → AllByRecursion (IsBelow (length (S.file store.old))) samples → IfErr result (λ r. r ≡ refusals.StoreChanged → ⊥)) }
         ensures reads { OnOk result (S.read_failures store.new ≡ S.read_failures store.old) }
         ensures puts { OnOk result (K.put_failures sink.new ≡ K.put_failures sink.old) }
         ensures refusal { IfErr result (RefusesCarry (S.read_failures store.old) (S.read_failures store.new) (K.put_failures sink.old) (K.put_failures sink.new)) }
     {
         let keys = movie.tracks()[track].keys;
         let sizes = sizes_of(planned, &keys);
-        if sizes.moof > MOST_MOOF {
-            return Err(Refusal::StoreChanged);
-        }
         let rows = &self.rows[..planned.count as usize];
         let front = moof_front(&head, planned, &sizes);
         self.carrier.carry(front.as_bytes(), sink)?;
