@@ -55,3 +55,4 @@ pub mod FrontsPut
 pub mod SizesSmall
 pub mod ComeAt
 pub mod PieceWritten
+pub mod PartsPut

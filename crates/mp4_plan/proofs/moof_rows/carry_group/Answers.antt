@@ -26,7 +26,7 @@ returns-in_err-carry-clause-prefix g c =
 pub returns-in_err-carry_indexes-clause-prefix : goal.returns-in_err-carry_indexes-clause-prefix
 unfolding group_bytes
 returns-in_err-carry_indexes-clause-prefix g c =
-    let p = err_from_is_err_and c.from_residual.result c.from_residual.ensures.1 in
+    let p = err_from_is_err_and c.from_residual-in_err-carry_indexes.result c.from_residual-in_err-carry_indexes.ensures.1 in
     let rows = group_rows c.args.used.place c.args.rows.now in
     let is = c.as_bytes.ensures ∙ c.group_front-front.ensures ∙ ap (group_front (key_seen c.args.used.key)) c.rows_at.ensures in
     rw p.1 (stopped_last _ _ _ _ _ c.as_bytes.result.now rows _ c.in_ok-carry.ensures.bytes c.in_err-carry_indexes.ensures.prefix (ap (λ (l : List ℕ). l ++ rows) (sym is)))

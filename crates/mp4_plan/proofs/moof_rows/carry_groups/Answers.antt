@@ -1,4 +1,4 @@
-use Rattle.std.proofs.Common.{◌∙◌, refl, ap, [], ◌∷◌, ◌++◌, length, rules, arith}
+use Rattle.std.proofs.Common.{Some, ◌∙◌, refl, ap, [], ◌∷◌, ◌++◌, length, rules, arith}
 use Rattle.std.specs.Prelude.{flat_map}
 use Rattle.mp4_present.proofs.Carrying.{BytesGoOn-nothing, BytesGoOn-then}
 use Rattle.mp4_tables.specs.Groups.{GroupKey}

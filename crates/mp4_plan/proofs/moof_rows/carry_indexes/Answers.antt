@@ -1,4 +1,4 @@
-use Rattle.std.proofs.Common.{◌+◌, [], ◌++◌, map, drop, refl, ◌∙◌, rules}
+use Rattle.std.proofs.Common.{◌+◌, [], ◌∷◌, ◌++◌, map, drop, refl, ◌∙◌, rules}
 use Rattle.std.specs.Prelude.{slice_index, flat_map}
 use Rattle.std.proofs.Math.Nat.{le_refl}
 use Rattle.mp4_present.proofs.Carrying.{BytesGoOn-nothing, BytesGoOn-then}
@@ -45,7 +45,7 @@ returns-in_err-run-clause-prefix g c =
 
 pub returns-in_err-carry_index_run-clause-prefix : goal.returns-in_err-carry_index_run-clause-prefix
 returns-in_err-carry_index_run-clause-prefix g c =
-    let p = err_from_is_err_and c.from_residual.result c.from_residual.ensures.1 in
+    let p = err_from_is_err_and c.from_residual-in_err-carry_index_run.result c.from_residual-in_err-carry_index_run.ensures.1 in
     let i = c.loop-row.invariant in
     let index = λ (row : Row). slice_index row.groups c.args.place in
     rw p.1 (stopped_last _ _ _ _ _ _ _ _ i.3.1 c.in_err-carry_index_run.ensures.prefix (written_all group_row i.3.0 c.loop-row.run index c.args.rows.now c.loop-row.row-index (search rules) i.3.2))

@@ -1,4 +1,4 @@
-use Rattle.std.proofs.Common.{◌∙◌, List, ℕ, rules}
+use Rattle.std.proofs.Common.{◌+◌, ◌∙◌, List, ℕ, rules}
 use Rattle.mp4_present.proofs.Carrying.{BytesGoOn-then}
 use Rattle.mp4_plan.specs.Spelling.{run_row, run_rows}
 use Rattle.mp4_plan.proofs.RowBytes.{row_more}
