@@ -50,3 +50,4 @@ pub mod HandsCarried
 pub mod HandSteps
 pub mod HandsTaken
 pub mod TakenTurns
+pub mod Lefts
