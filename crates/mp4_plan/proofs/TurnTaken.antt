@@ -1,5 +1,5 @@
 -- A turn takes the first of the pieces that are left, and those behind it are left then.
-use Rattle.std.proofs.Common.{length-append, ◌≡◌, ℕ, zero, suc, ◌+◌, ◌-◌, ◌<◌, ◌≤◌, ◌==◌, nat_le, ◌&&◌, not, Bool, true, false, cond, List, [], ◌∷◌, ◌++◌, length, take, drop, Option, Some, None, inl, inr, refl, sym, ap, subst, ◌∙◌, arith, rules, true≢false, slice_get, slice_set}
+use Rattle.std.proofs.Common.{◌≡◌, ℕ, zero, suc, ◌+◌, ◌-◌, ◌<◌, ◌≤◌, ◌==◌, nat_le, ◌&&◌, not, Bool, true, false, cond, List, [], ◌∷◌, ◌++◌, length, take, drop, Option, Some, None, inl, inr, refl, sym, ap, subst, ◌∙◌, length-append, arith, rules, true≢false, slice_get, slice_set}
 use Rattle.std.specs.Prelude.{option_map, nat_lt}
 use Rattle.std.specs.List.{AllByRecursion, prefix_len}
 use Rattle.std.proofs.lemmas.Bool.{eq-eqb, ne_eqb, eqb-true}
@@ -12,16 +12,16 @@ use Rattle.mp4_present.specs.declared.track_info.TrackInfo.{TrackInfo}
 use Rattle.mp4_plan.specs.Pieces.{TimedSample, is_sync, Piece}
 use Rattle.mp4_plan.specs.Ends.{has_ended, goes_in}
 use Rattle.mp4_plan.specs.Gathering.{Planning, piece_from, more_of, samples_after}
-use Rattle.mp4_plan.specs.Coming.{Coming, stops, end_of_first, end_of_other, pieces_left}
+use Rattle.mp4_plan.specs.Coming.{Coming, end_of_first, end_of_other, pieces_left}
 use Rattle.mp4_plan.specs.Taken.{AreTaken}
 use Rattle.mp4_plan.specs.Turns.{turn_end, turned, track_passed, wrapped, is_over, MayPass, Sticks, to_come}
-use Rattle.mp4_plan.specs.TurnLaws.{IsAmong, IsOver, next_time, piece_if, turn_count, taken_by, after_turn}
+use Rattle.mp4_plan.specs.TurnLaws.{IsAmong, IsOver, next_time, piece_if, turn_count, after_turn}
 use Rattle.mp4_plan.specs.declared.ends.End.{End}
 use Rattle.mp4_plan.specs.declared.ends.End.TheVariants.{Sync, Before}
 use Rattle.mp4_plan.specs.declared.schedule.Schedule.{Schedule}
-use Rattle.mp4_plan.proofs.Filters.{all_append, all_weaker}
+use Rattle.mp4_plan.proofs.Filters.{all_append}
 use Rattle.mp4_plan.proofs.FragmentsLeft.{not_itself}
-use Rattle.mp4_plan.proofs.Lefts.{IsLeft, AreLeft, left_count, IsFresh, StandsIn, StandsAmong, pieces_from, IsTurn}
+use Rattle.mp4_plan.proofs.Lefts.{IsLeft, AreLeft, left_count, IsFresh, StandsIn, pieces_from, IsTurn}
 use Rattle.mp4_plan.proofs.TakenTurns.{ended_same, turn_same, taken_front, taken_behind}
 use Rattle.mp4_plan.proofs.TurnOrder.{less_on, less_over}
 use Rattle.mp4_plan.proofs.TurnSteps.{turns_take_all}
@@ -479,3 +479,26 @@ pieces_few (suc fuel) most file infos s lefts comings less le h = by (nat_lt s.t
 pub counts_bounded : (file : List ℕ) (infos : List TrackInfo) (s : Schedule) (lefts : List (List SampleAt)) (comings : List Coming) → IsTurn file infos s lefts comings
     → AllByRecursion (λ (p : Piece). length p.samples ≤ left_count lefts) (pieces_from s comings) × (length (pieces_from s comings) ≤ left_count lefts)
 counts_bounded file infos s lefts comings h = pieces_few (suc (to_come s)) (left_count lefts) file infos s lefts comings (omega arith) (omega arith) h
+
+-- Where no piece that is left has more than so many samples, a turn takes no more, and no piece behind it has more.
+pub turn_fits : (most : ℕ) (file : List ℕ) (infos : List TrackInfo) (s : Schedule) (lefts : List (List SampleAt)) (comings : List Coming) (info : TrackInfo) (left : List SampleAt) → (t : TurnTaken file infos s lefts comings info left)
+    → AllByRecursion (λ (p : Piece). length p.samples ≤ most) (pieces_from s comings)
+    → (let end = turn_end s info.timescale in
+    (more_of (piece_from end) left ≤ most) × AllByRecursion (λ (p : Piece). length p.samples ≤ most) (pieces_from (turned s end (more_of (piece_from end) left) (slice_get (samples_after (piece_from end) left) 0)) t.later))
+turn_fits most file infos s lefts comings info left t h =
+    let end = turn_end s info.timescale in
+    let n = more_of (piece_from end) left in
+    let behind = pieces_from (turned s end n (slice_get (drop n left) 0)) t.later in
+    let parts = all_parts (λ (p : Piece). length p.samples ≤ most) (piece_if info.id t.samples) behind (subst (λ l. AllByRecursion (λ (p : Piece). length p.samples ≤ most) l) t.pieces h) in
+    let a = length-take-le n left (more_few (piece_from end) left) in
+    let b = taken_many file (keys_seen info.keys) (take n left) t.samples t.taken in
+    let c = one_fits info.id t.samples parts.0 in
+    (omega (arith, a, b, c), parts.1)
+  where
+    all_parts : (P : Piece → Type 0) (xs ys : List Piece) → AllByRecursion P (xs ++ ys) → AllByRecursion P xs × AllByRecursion P ys
+    all_parts P [] ys k = (tt, k)
+    all_parts P (x ∷ xs) ys k = let r = all_parts P xs ys k.1 in ((k.0, r.0), r.1)
+
+    one_fits : (id : ℕ) (samples : List TimedSample) → AllByRecursion (λ (p : Piece). length p.samples ≤ most) (piece_if id samples) → length samples ≤ most
+    one_fits id [] k = omega arith
+    one_fits id (x ∷ samples) k = k.0
