@@ -56,3 +56,4 @@ pub mod SizesSmall
 pub mod ComeAt
 pub mod PieceWritten
 pub mod PartsPut
+pub mod TurnTaken
