@@ -52,3 +52,4 @@ pub mod HandsTaken
 pub mod TakenTurns
 pub mod Lefts
 pub mod TakenFrom
+pub mod FirstTurn
