@@ -1,5 +1,5 @@
 -- What an opened file says of its tracks: their samples are those of the presentation that it denotes, and lie in it; their keys differ, and are at most four.
-use Rattle.std.proofs.Common.{◌≡◌, ℕ, ◌+◌, ◌-◌, ◌^◌, ◌<◌, ◌≤◌, false, List, [], ◌∷◌, length, Option, Some, None, refl, sym, subst, ◌∙◌, arith}
+use Rattle.std.proofs.Common.{◌≡◌, ℕ, zero, suc, ◌+◌, ◌-◌, ◌^◌, ◌<◌, ◌≤◌, false, List, [], ◌∷◌, length, Option, Some, None, refl, sym, ap, subst, ◌∙◌, arith}
 use Rattle.std.specs.Prelude.{map, min, IfSome, IsTrue, ℤ, pos, negsuc}
 use Rattle.std.specs.List.{AllByRecursion, AllZip, list_any, slice_get, sum_by}
 use Rattle.std.proofs.lemmas.Bool.{or_from}
@@ -125,6 +125,30 @@ track_facts file m tree b o =
 pub track_facts_at : (file : List ℕ) (m : MovieSeen) (tree : FileTree) (k : ℕ) (info : TrackInfo) (t : TrackTree) → AreOfBytes tree → IsOpenedAs file m tree
     → slice_get m.tracks k ≡ Some info → slice_get tree.movie.tracks k ≡ Some t → TrackFacts file tree info t
 track_facts_at file m tree k info t b o e f = zipped_at (TrackFacts file tree) m.tracks tree.movie.tracks k info t (track_facts file m tree b o) e f
+
+got_map : {A B : Type 0} (f : A → B) (xs : List A) (k : ℕ) (x : A) → slice_get xs k ≡ Some x → slice_get (map f xs) k ≡ Some (f x)
+got_map f [] k x e = absurd cc
+got_map f (y ∷ xs) zero x e = let same : y ≡ x = cc in ap (λ z. Some (f z)) same
+got_map f (y ∷ xs) (suc k) x e = got_map f xs k x e
+
+-- the partner of what stands at a place
+partner : {A B : Type 0} (R : A → B → Type 0) (xs : List A) (ys : List B) (k : ℕ) (x : A) → AllZip R xs ys → slice_get xs k ≡ Some x → (y : B) × (slice_get ys k ≡ Some y)
+partner R [] ys k x z e = absurd cc
+partner R (a ∷ xs) [] k x z e = absurd z
+partner R (a ∷ xs) (b ∷ ys) zero x z e = (b, refl)
+partner R (a ∷ xs) (b ∷ ys) (suc k) x z e = partner R xs ys k x z.1 e
+
+-- A track of which this is kept stands at this place of the file's tracks, and its samples at this place of theirs.
+pub record HasTrack (file : List ℕ) (tree : FileTree) (k : ℕ) (info : TrackInfo) : Type 0 where
+  pub t : TrackTree
+  pub is_there : slice_get tree.movie.tracks k ≡ Some t
+  pub samples : slice_get (map (track_samples tree) tree.movie.tracks) k ≡ Some (track_samples tree t)
+  pub facts : TrackFacts file tree info t
+
+pub has_track : (file : List ℕ) (m : MovieSeen) (tree : FileTree) (k : ℕ) (info : TrackInfo) → AreOfBytes tree → IsOpenedAs file m tree → slice_get m.tracks k ≡ Some info → HasTrack file tree k info
+has_track file m tree k info b o e =
+    let r = partner (TrackFacts file tree) m.tracks tree.movie.tracks k info (track_facts file m tree b o) e in
+    record { t = r.0; is_there = r.1; samples = got_map (track_samples tree) tree.movie.tracks k r.0 r.1; facts = track_facts_at file m tree k info r.0 b o e r.1 }
 
 -- ---- how many samples there are
 
