@@ -57,3 +57,5 @@ pub mod ComeAt
 pub mod PieceWritten
 pub mod PartsPut
 pub mod TurnTaken
+pub mod TakenFrom
+pub mod FirstTurn

@@ -18,6 +18,7 @@ pub mod FragmentReasons
 pub mod Counts
 pub mod ValidSamples
 pub mod DenotedValid
+pub mod PlacedTracks
 pub mod Vectors
 pub mod TopLevel
 pub mod Outlines
