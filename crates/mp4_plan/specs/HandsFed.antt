@@ -2,6 +2,7 @@
 use Rattle.std.specs.Prelude.{◌≡◌, ℕ, ◌+◌, ◌<◌, if◌then◌else◌, List, [], ◌∷◌, ◌++◌, length, take, map, Option, Some, None}
 use Rattle.std.proofs.Common.{◌∙◌, refl, sym, ap, append_assoc, append-nil, length-append, zero-add, add-zero, add_assoc}
 use Rattle.std.proofs.lemmas.List.{map-append}
+use Rattle.mp4_boxes.specs.Bytes.{sum_of}
 use Rattle.mp4_tables.specs.declared.sample.SampleAt.{SampleAt}
 use Rattle.mp4_present.specs.Carried.{BytesGoOn}
 use Rattle.mp4_present.specs.Joined.{sample_bytes}
@@ -18,11 +19,16 @@ use Rattle.mp4_plan.specs.declared.courses.Stop.TheVariants.{Empty, Ended, Full}
 use Rattle.mp4_plan.specs.declared.courses.Load.{Load}
 use Rattle.mp4_plan.specs.declared.rows.Row.{Row}
 
+-- the number of bytes of some samples
+abbrev pub sizes_of : List SampleAt → ℕ
+sizes_of samples = sum_of (λ (s : SampleAt). s.size) samples
+
 -- Of all these samples the bytes of the first follow, as many as the load has become less by; the others are to come.
 pub record BytesCarried (file : List ℕ) (before after : Option (List ℕ)) (held held_after : List ℕ) (all to_come : List SampleAt) (load left : Load) : Type 0 where
   pub done : List SampleAt
   pub whole : all ≡ done ++ to_come
   pub count : load.samples ≡ length done + left.samples
+  pub sizes : load.bytes ≡ sizes_of done + left.bytes
   pub bytes : BytesGoOn before after held held_after (sample_bytes file done)
 
 -- ---- samples that are taken one by one

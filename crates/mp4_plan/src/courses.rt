@@ -1,5 +1,6 @@
 //! Samples of a track, taken piece by piece.
-ghost use Rattle.std.specs.Prelude.{◌≡◌, ◌+◌, ◌*◌, ◌^◌, ◌<◌, ◌≤◌, List, [], length, take, drop, slice_get, vec_len, IsTrue, IfOk, IfErr, OnOk};
+ghost use Rattle.std.specs.Prelude.{◌≡◌, ◌+◌, ◌*◌, ◌^◌, ◌<◌, ◌≤◌, List, [], length, take, drop, slice_get, vec_len, ◌++◌, IsTrue, IfOk, IfErr, OnOk, OnErr};
+ghost use Rattle.std.specs.List.{AllByRecursion};
 ghost use Rattle.mp4_boxes.specs.declared.refusal.Refusal.TheVariants as refusals;
 ghost use Rattle.mp4_head.specs.Tree.{TrackTree};
 ghost use Rattle.mp4_present.specs.Denotes.{FileTree};
@@ -8,10 +9,11 @@ ghost use Rattle.mp4_present.specs.Coming.{Comes};
 ghost use Rattle.mp4_tables.specs.declared.sample.SampleAt.{SampleAt};
 ghost use Rattle.mp4_present.specs.InHand.{Follows, left_in_hand};
 ghost use Rattle.mp4_present.specs.Carried.{BytesGoOn, RefusesCarry, waiting};
-ghost use Rattle.mp4_present.specs.Joined.{sample_bytes};
+ghost use Rattle.mp4_present.specs.Joined.{IsBelow, sample_bytes};
 ghost use Rattle.mp4_present.specs.Movies.{IsWalkOf, RefusesLoad};
 ghost use Rattle.mp4_plan.specs.Gathering.{count_of, planned_of, piece_from, piece_fed, samples_after};
-ghost use Rattle.mp4_plan.specs.HandsFed.{BytesCarried, stop_of, HandFed};
+ghost use Rattle.mp4_store.specs.Device.{AppendsPrefix};
+ghost use Rattle.mp4_plan.specs.HandsFed.{BytesCarried, sizes_of, stop_of, HandFed};
 
 use crate::ends::End;
 use crate::limited::Limited;
@@ -209,7 +211,10 @@ fn carry_hand<S: Store, K: Sink>(
 ) -> Result<Load, Refusal>
     ensures later { OnOk result (Follows hand.old hand.new) }
     ensures bytes { IfOk result (λ left. IsTrue (S.is_honest store.old) → BytesCarried (S.file store.old) (K.contents sink.old) (K.contents sink.new) (waiting carrier.old) (waiting carrier.new) (left_in_hand hand.old) (left_in_hand hand.new) load left) }
+    ensures prefix { OnErr result (IsTrue (S.is_honest store.old) → AppendsPrefix (K.contents sink.old) (K.contents sink.new) (waiting carrier.old ++ sample_bytes (S.file store.old) (take load.samples (left_in_hand hand.old)))) }
     ensures ends { IfOk result (λ left. 0 < left.samples → left_in_hand hand.new ≡ []) }
+    ensures unchanged { IsTrue (S.is_honest store.old) → AllByRecursion (IsBelow (length (S.file store.old))) (left_in_hand hand.old) → sizes_of (take load.samples (left_in_hand hand.old)) ≤ load.bytes
+        → IfErr result (λ r. r ≡ refusals.StoreChanged → ⊥) }
     ensures honesty { S.is_honest store.new ≡ S.is_honest store.old }
     ensures file { S.file store.new ≡ S.file store.old }
     ensures room { vec_len carrier.new.buffer ≡ vec_len carrier.old.buffer }
@@ -248,6 +253,10 @@ pub(crate) fn carry_piece<S: Store, K: Sink, L: Ledger>(
     ensures file { S.file store.new ≡ S.file store.old }
     ensures carried { IsTrue (S.is_honest store.old) → (tree : FileTree) (t : TrackTree) (samples : List SampleAt) → IsOpenedAs (S.file store.old) movie.now tree → Comes (S.file store.old) tree t movie.now walk.old samples
         → OnOk result (BytesGoOn (K.contents sink.old) (K.contents sink.new) (waiting carrier.old) (waiting carrier.new) (sample_bytes (S.file store.old) (take load.samples samples)) × Comes (S.file store.old) tree t movie.now walk.new (drop load.samples samples)) }
+    ensures prefix { IsTrue (S.is_honest store.old) → (tree : FileTree) (t : TrackTree) (samples : List SampleAt) → IsOpenedAs (S.file store.old) movie.now tree → Comes (S.file store.old) tree t movie.now walk.old samples
+        → OnErr result (AppendsPrefix (K.contents sink.old) (K.contents sink.new) (waiting carrier.old ++ sample_bytes (S.file store.old) (take load.samples samples))) }
+    ensures unchanged { IsTrue (S.is_honest store.old) → (tree : FileTree) (t : TrackTree) (samples : List SampleAt) → IsOpenedAs (S.file store.old) movie.now tree → Comes (S.file store.old) tree t movie.now walk.old samples
+        → load.samples ≤ length samples → load.bytes ≡ sizes_of (take load.samples samples) → AllByRecursion (IsBelow (length (S.file store.old))) samples → IfErr result (λ r. r ≡ refusals.StoreChanged → ⊥) }
     ensures buffer { vec_len carrier.new.buffer ≡ vec_len carrier.old.buffer }
     ensures reads { OnOk result (S.read_failures store.new ≡ S.read_failures store.old) }
     ensures puts { OnOk result (K.put_failures sink.new ≡ K.put_failures sink.old) }
