@@ -56,6 +56,7 @@ pub mod SizesSmall
 pub mod ComeAt
 pub mod PieceWritten
 pub mod PartsPut
+pub mod CarriedParts
 pub mod TurnTaken
 pub mod TakenFrom
 pub mod FirstTurn

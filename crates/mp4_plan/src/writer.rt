@@ -1,7 +1,8 @@
 //! The normal form of a presentation, written.
 ghost use Rattle.std.specs.Prelude.{◌≡◌, ℕ, ◌+◌, ◌*◌, ◌^◌, ◌<◌, ◌≤◌, List, ◌++◌, length, take, slice_index, slice_get, Some, IfOk, IfErr, OnOk, OnErr, IsTrue};
 ghost use Rattle.std.specs.Io.KnownBytes.{Appends};
-ghost use Rattle.std.specs.List.{AllByRecursion, sum_by};
+ghost use Rattle.std.specs.List.{AllByRecursion};
+ghost use Rattle.mp4_boxes.specs.Bytes.{sum_of};
 ghost use Rattle.mp4_boxes.specs.declared.refusal.Refusal.TheVariants as refusals;
 ghost use Rattle.mp4_store.specs.Device.{AppendsPrefix};
 ghost use Rattle.mp4_tables.specs.Keys.{keys_seen};
@@ -259,7 +260,7 @@ impl Writer {
         ensures prefix { WhereOpened (S.is_honest store.old) (S.file store.old) movie.now (λ tree. (samples : List SampleAt) → IsNoted (S.file store.old) tree movie.now track planned.now.count samples self.old → (info : TrackInfo) → slice_get movie.now.tracks track ≡ Some info → AreApart (keys_seen info.keys) → OnErr result (AppendsPrefix (K.contents sink.old) (K.contents sink.new) (waiting self.old.carrier ++ bytes_of_piece (S.file store.old) head planned.now (keys_seen info.keys) (take planned.now.count samples)))) }
         ensures copied { WhereOpened (S.is_honest store.old) (S.file store.old) movie.now (λ tree. (samples : List SampleAt) → OnOk result (HaveCopied (S.file store.old) tree movie.now track planned.now.count samples self.old self.new)) }
         ensures keeps { OnOk result ((self.new.planning ≡ self.old.planning) × (self.new.rows ≡ self.old.rows)) }
-        ensures unchanged { WhereOpened (S.is_honest store.old) (S.file store.old) movie.now (λ tree. (samples : List SampleAt) → IsNoted (S.file store.old) tree movie.now track planned.now.count samples self.old → planned.now.count ≤ length samples → planned.now.bytes ≡ sum_by (λ (s : SampleAt). s.size) (take planned.now.count samples) → AllByRecursion (IsBelow (length (S.file store.old))) samples → IfErr result (λ r. r ≡ refusals.StoreChanged → ⊥)) }
+        ensures unchanged { WhereOpened (S.is_honest store.old) (S.file store.old) movie.now (λ tree. (samples : List SampleAt) → IsNoted (S.file store.old) tree movie.now track planned.now.count samples self.old → planned.now.count ≤ length samples → planned.now.bytes ≡ sum_of (λ (s : SampleAt). s.size) (take planned.now.count samples) → AllByRecursion (IsBelow (length (S.file store.old))) samples → IfErr result (λ r. r ≡ refusals.StoreChanged → ⊥)) }
         ensures reads { OnOk result (S.read_failures store.new ≡ S.read_failures store.old) }
         ensures puts { OnOk result (K.put_failures sink.new ≡ K.put_failures sink.old) }
         ensures refusal { IfErr result (RefusesCarry (S.read_failures store.old) (S.read_failures store.new) (K.put_failures sink.old) (K.put_failures sink.new)) }
