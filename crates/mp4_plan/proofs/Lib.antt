@@ -51,3 +51,4 @@ pub mod HandSteps
 pub mod HandsTaken
 pub mod TakenTurns
 pub mod Lefts
+pub mod PieceCounts
