@@ -60,3 +60,4 @@ pub mod CarriedParts
 pub mod TurnTaken
 pub mod TakenFrom
 pub mod FirstTurn
+pub mod PieceCounts
