@@ -53,7 +53,7 @@ impl Model for Planner {
 }
 
 impl Planner {
-    ghost use Rattle.std.specs.Prelude.{◌≡◌, ◌+◌, ◌*◌, ◌^◌, ◌<◌, ◌≤◌, length, Some, None, ◌∷◌, []};
+    ghost use Rattle.std.specs.Prelude.{◌≡◌, ℕ, ◌+◌, ◌*◌, ◌^◌, ◌<◌, ◌≤◌, length, slice_index, Some, None, ◌∷◌, []};
     ghost use Rattle.mp4_plan.specs.Ends.{goes_in};
     ghost use Rattle.mp4_plan.specs.Gathering.{description_in, gather, piece_fed, samples_after, answer, count_of, planned_of};
     ghost use Rattle.mp4_plan.specs.HandsFed.{Notes};
@@ -72,6 +72,7 @@ impl Planner {
     pub fn piece(&self) -> Planned
         ensures is { result ≡ planned_of self.now.gathered }
         ensures bounded { result.bytes ≤ result.count * 4294967295 }
+        ensures rows { (j : ℕ) → slice_index result.group_rows j ≤ result.count }
     {
         let Some(gathered) = &self.gathered else {
             return Planned {
