@@ -59,3 +59,5 @@ pub mod PartsPut
 pub mod TurnTaken
 pub mod TakenFrom
 pub mod FirstTurn
+pub mod Planning
+pub mod HeadAgain
