@@ -23,7 +23,6 @@ use Rattle.mp4_present.specs.Movies.{MovieSeen}
 use Rattle.mp4_present.specs.OpenedMovie.{IsOpenedAs}
 use Rattle.mp4_present.specs.Presentation.{Track}
 use Rattle.mp4_present.specs.declared.track_info.TrackInfo.{TrackInfo}
-use Rattle.mp4_present.proofs.PlacedTracks.{AreOfBytes}
 use Rattle.mp4_present.proofs.ValidSamples.{starts_at_0}
 use Rattle.mp4_plan.specs.Coming.{Coming, coming_of, stops, all_left, pieces_left}
 use Rattle.mp4_plan.specs.Pieces.{TimedSample, pieces}
@@ -132,10 +131,10 @@ all_pieces file tree infos movie (t ∷ trees) s lt h =
     at_first s first others e = rw e refl
 
 -- At the first turn all samples and all pieces of the presentation are left.
-pub first_turn : (file : List ℕ) (m : MovieSeen) (tree : FileTree) (s : Schedule) → AreOfBytes tree → IsOpenedAs file m tree → IsFirst m.tracks (map (track_samples tree) tree.movie.tracks) s
+pub first_turn : (file : List ℕ) (m : MovieSeen) (tree : FileTree) (s : Schedule) → IsOpenedAs file m tree → IsFirst m.tracks (map (track_samples tree) tree.movie.tracks) s
     → IsTurn file m.tracks s (map (track_samples tree) tree.movie.tracks) (map coming_of (presentation_of file tree).tracks) × (pieces_from s (map coming_of (presentation_of file tree).tracks) ≡ pieces (presentation_of file tree))
-first_turn file m tree s b o h =
-    let facts = track_facts file m tree b o in
+first_turn file m tree s o h =
+    let facts = track_facts file m tree o in
     let scales = each_from IsTrackTree IsSoundTrack (λ (t : TrackTree). 0 < (track_head_of t).media.timescale) has_scale tree.movie.tracks o.is_tree.movie.tracks o.is_sound.movie.tracks in (
       record { each = lefts_of file tree m.tracks tree.movie.tracks facts; among = stands file tree m.tracks tree.movie.tracks s facts scales h; left = h.left },
       all_pieces file tree m.tracks (movie_head_of tree.movie) tree.movie.tracks s scales h,

@@ -1,5 +1,5 @@
 -- What was put when bytes could not be taken along further: a front of all that was to follow.
-use Rattle.std.proofs.Common.{◌≡◌, ℕ, List, [], ◌++◌, take, drop, refl, sym, ap, ◌∙◌, append_assoc}
+use Rattle.std.proofs.Common.{◌≡◌, ℕ, List, [], ◌++◌, take, drop, refl, sym, ap, subst, ◌∙◌, append_assoc}
 use Rattle.std.specs.Prelude.{Option, flat_map}
 use Rattle.std.proofs.lemmas.Grind.{flat_map-append}
 use Rattle.std.proofs.lemmas.List.{take-append-drop}
@@ -29,3 +29,7 @@ stopped_behind a b held held_b done rest whole p e = rw e (BytesGoOn-front a b h
 -- the bytes of the first of a list and of the others
 pub bytes_of_both : {A : Type 0} (f : A → List ℕ) (n : ℕ) (xs : List A) → flat_map f xs ≡ flat_map f (take n xs) ++ flat_map f (drop n xs)
 bytes_of_both {A} f n xs = ap (λ (ys : List A). flat_map f ys) (sym (take-append-drop n xs)) ∙ flat_map-append f (take n xs) (drop n xs)
+
+-- a front of the same bytes
+pub front_as : (a b : Option (List ℕ)) (held xs ys : List ℕ) → AppendsPrefix a b (held ++ xs) → xs ≡ ys → AppendsPrefix a b (held ++ ys)
+front_as a b held xs ys p e = subst (λ (bs : List ℕ). AppendsPrefix a b (held ++ bs)) e p

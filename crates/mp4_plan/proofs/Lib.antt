@@ -56,8 +56,10 @@ pub mod SizesSmall
 pub mod ComeAt
 pub mod PieceWritten
 pub mod PartsPut
+pub mod CarriedParts
 pub mod TurnTaken
 pub mod TakenFrom
 pub mod FirstTurn
 pub mod Planning
 pub mod HeadAgain
+pub mod PieceCounts

@@ -11,7 +11,7 @@ use Rattle.mp4_plan.specs.Sizes.{moof_sizes}
 use Rattle.mp4_plan.specs.Taken.{AreTaken, IsNamed, head_of}
 use Rattle.mp4_plan.specs.TurnLaws.{piece_if}
 use Rattle.mp4_plan.specs.UsedKeys.{AreApart}
-use Rattle.mp4_plan.specs.Writers.{turn_head, sequence_behind, bytes_of_piece}
+use Rattle.mp4_plan.specs.Writers.{turn_head, sequence_behind, bytes_of_piece, turn_bytes}
 use Rattle.mp4_plan.specs.declared.moof_front.PieceHead.{PieceHead}
 use Rattle.mp4_plan.specs.declared.planner.Planned.{Planned}
 use Rattle.mp4_plan.proofs.SizesSmall.{moof_small}
@@ -27,11 +27,6 @@ pub record AreKeys (keys : List GroupKey) : Type 0 where
 pub record IsFew (p : Planned) : Type 0 where
   pub count : p.count ≤ 2 ^ 24
   pub rows : (j : ℕ) → slice_index p.group_rows j ≤ p.count
-
--- what is written where a turn has a head, or nothing
-abbrev pub turn_bytes : List ℕ → Option PieceHead → Planned → List GroupKey → List SampleAt → List ℕ
-turn_bytes file None p keys taken = []
-turn_bytes file (Some head) p keys taken = bytes_of_piece file head p keys taken
 
 module _ (file : List ℕ) (keys : List GroupKey) where
   head_same : (sequence id : ℕ) (a : SampleAt) (s : TimedSample) (more : List SampleAt) (samples : List TimedSample) → AreTaken file keys (a ∷ more) (s ∷ samples)

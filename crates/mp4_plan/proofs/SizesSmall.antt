@@ -26,7 +26,7 @@ one_small None rows n true le = omega (arith, le)
 one_small (Some q) rows n true le = omega (arith, le)
 one_small q rows n false le = omega arith
 
-groups_small : (rows : List ℕ) (j n : ℕ) (keys : List GroupKey) → ((k : ℕ) → slice_index rows k ≤ n) → groups_size rows j keys ≤ length keys * (24 + 8 * n)
+pub groups_small : (rows : List ℕ) (j n : ℕ) (keys : List GroupKey) → ((k : ℕ) → slice_index rows k ≤ n) → groups_size rows j keys ≤ length keys * (24 + 8 * n)
 groups_small rows j n [] le = omega arith
 groups_small rows j n (key ∷ keys) le =
     let first = one_small key.parameter (slice_index rows j) n (nat_lt 0 (slice_index rows j)) (le j) in

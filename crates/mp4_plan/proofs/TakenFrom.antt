@@ -25,7 +25,7 @@ use Rattle.mp4_present.specs.OpenedMovie.{IsInfoOf, IsOpenedAs}
 use Rattle.mp4_present.specs.Presentation.{Track, IsGroup, IsParameter}
 use Rattle.mp4_present.specs.declared.track_info.TrackInfo.{TrackInfo}
 use Rattle.mp4_present.proofs.MoofTaken.{zipped_at}
-use Rattle.mp4_present.proofs.PlacedTracks.{AreOfBytes, IsTrackPlaced, track_placed}
+use Rattle.mp4_present.proofs.PlacedTracks.{IsTrackPlaced, track_placed}
 use Rattle.mp4_present.proofs.SamplesLie.{IsInFile, placed_lie, bytes_whole, timed_lie, timed_length}
 use Rattle.mp4_present.proofs.ValidSamples.{IsOfTrack}
 use Rattle.mp4_plan.specs.Coming.{coming_of}
@@ -114,17 +114,17 @@ turned R Q [] (y ∷ ys) h z = absurd z
 turned R Q (x ∷ xs) [] h z = absurd z
 turned R Q (x ∷ xs) (y ∷ ys) h z = (h.0 y z.0, turned R Q xs ys h.1 z.1)
 
--- The facts of all tracks in order, where the `moov` and the `moof`s are of bytes.
-pub track_facts : (file : List ℕ) (m : MovieSeen) (tree : FileTree) → AreOfBytes tree → IsOpenedAs file m tree → AllZip (TrackFacts file tree) m.tracks tree.movie.tracks
-track_facts file m tree b o =
+-- The facts of all tracks in order.
+pub track_facts : (file : List ℕ) (m : MovieSeen) (tree : FileTree) → IsOpenedAs file m tree → AllZip (TrackFacts file tree) m.tracks tree.movie.tracks
+track_facts file m tree o =
     turned (IsInfoOf file tree) (TrackFacts file tree) tree.movie.tracks m.tracks
     (each_member (λ (t : TrackTree). (info : TrackInfo) → IsInfoOf file tree t info → TrackFacts file tree info t) tree.movie.tracks
-    (λ t i info h. facts_of file tree t info (placed_lie file tree t o.is_consistent i) (track_placed file tree o.is_tree o.is_sound o.is_consistent b t i) h)) o.tracks
+    (λ t i info h. facts_of file tree t info (placed_lie file tree t o.is_consistent i) (track_placed file tree o.is_tree o.is_sound o.is_consistent o.bytes t i) h)) o.tracks
 
 -- and of the track at a place
-pub track_facts_at : (file : List ℕ) (m : MovieSeen) (tree : FileTree) (k : ℕ) (info : TrackInfo) (t : TrackTree) → AreOfBytes tree → IsOpenedAs file m tree
+pub track_facts_at : (file : List ℕ) (m : MovieSeen) (tree : FileTree) (k : ℕ) (info : TrackInfo) (t : TrackTree) → IsOpenedAs file m tree
     → slice_get m.tracks k ≡ Some info → slice_get tree.movie.tracks k ≡ Some t → TrackFacts file tree info t
-track_facts_at file m tree k info t b o e f = zipped_at (TrackFacts file tree) m.tracks tree.movie.tracks k info t (track_facts file m tree b o) e f
+track_facts_at file m tree k info t o e f = zipped_at (TrackFacts file tree) m.tracks tree.movie.tracks k info t (track_facts file m tree o) e f
 
 got_map : {A B : Type 0} (f : A → B) (xs : List A) (k : ℕ) (x : A) → slice_get xs k ≡ Some x → slice_get (map f xs) k ≡ Some (f x)
 got_map f [] k x e = absurd cc
@@ -145,10 +145,10 @@ pub record HasTrack (file : List ℕ) (tree : FileTree) (k : ℕ) (info : TrackI
   pub samples : slice_get (map (track_samples tree) tree.movie.tracks) k ≡ Some (track_samples tree t)
   pub facts : TrackFacts file tree info t
 
-pub has_track : (file : List ℕ) (m : MovieSeen) (tree : FileTree) (k : ℕ) (info : TrackInfo) → AreOfBytes tree → IsOpenedAs file m tree → slice_get m.tracks k ≡ Some info → HasTrack file tree k info
-has_track file m tree k info b o e =
-    let r = partner (TrackFacts file tree) m.tracks tree.movie.tracks k info (track_facts file m tree b o) e in
-    record { t = r.0; is_there = r.1; samples = got_map (track_samples tree) tree.movie.tracks k r.0 r.1; facts = track_facts_at file m tree k info r.0 b o e r.1 }
+pub has_track : (file : List ℕ) (m : MovieSeen) (tree : FileTree) (k : ℕ) (info : TrackInfo) → IsOpenedAs file m tree → slice_get m.tracks k ≡ Some info → HasTrack file tree k info
+has_track file m tree k info o e =
+    let r = partner (TrackFacts file tree) m.tracks tree.movie.tracks k info (track_facts file m tree o) e in
+    record { t = r.0; is_there = r.1; samples = got_map (track_samples tree) tree.movie.tracks k r.0 r.1; facts = track_facts_at file m tree k info r.0 o e r.1 }
 
 -- ---- how many samples there are
 

@@ -103,6 +103,11 @@ pub record IsReady (file : List ℕ) (tree : FileTree) (m : MovieSeen) (w : Writ
 abbrev pub bytes_of_piece : List ℕ → PieceHead → Planned → List GroupKey → List SampleAt → List ℕ
 bytes_of_piece file head p keys samples = piece_front head p keys (map row_seen samples) ++ sample_bytes file samples
 
+-- what is written at a turn: a piece, or nothing where it has no head
+abbrev pub turn_bytes : List ℕ → Option PieceHead → Planned → List GroupKey → List SampleAt → List ℕ
+turn_bytes file None p keys samples = []
+turn_bytes file (Some head) p keys samples = bytes_of_piece file head p keys samples
+
 -- The samples of a track that come in its copying walk were noted, so many of them.
 pub record IsNoted (file : List ℕ) (tree : FileTree) (m : MovieSeen) (track count : ℕ) (samples : List SampleAt) (w : Writer) : Type 0 where
   pub t : TrackTree

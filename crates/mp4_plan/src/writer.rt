@@ -1,7 +1,8 @@
 //! The normal form of a presentation, written.
-ghost use Rattle.std.specs.Prelude.{◌≡◌, ℕ, ◌+◌, ◌*◌, ◌^◌, ◌<◌, ◌≤◌, List, ◌++◌, length, take, slice_index, slice_get, Some, IfOk, IfErr, OnOk, OnErr, IsTrue};
+ghost use Rattle.std.specs.Prelude.{◌≡◌, ℕ, ◌+◌, ◌*◌, ◌^◌, ◌<◌, ◌≤◌, List, ◌++◌, length, take, drop, slice_index, slice_get, Some, None, IfOk, IfErr, OnOk, OnErr, IsTrue};
 ghost use Rattle.std.specs.Io.KnownBytes.{Appends};
-ghost use Rattle.std.specs.List.{AllByRecursion, sum_by};
+ghost use Rattle.std.specs.List.{AllByRecursion};
+ghost use Rattle.mp4_boxes.specs.Bytes.{sum_of};
 ghost use Rattle.mp4_boxes.specs.declared.refusal.Refusal.TheVariants as refusals;
 ghost use Rattle.mp4_store.specs.Device.{AppendsPrefix};
 ghost use Rattle.mp4_tables.specs.Keys.{keys_seen};
@@ -16,7 +17,7 @@ ghost use Rattle.mp4_plan.specs.Normal.{normal};
 ghost use Rattle.mp4_plan.specs.UsedKeys.{AreApart};
 ghost use Rattle.mp4_present.specs.Carried.{RefusesCarry};
 ghost use Rattle.mp4_present.specs.Movies.{RefusesLoad};
-ghost use Rattle.mp4_plan.specs.Writers.{RefusesMemory, RefusesPlan, AreWalksOf, IsWriterOf, rooms, held, turn_head, sequence_behind, AllCome, AllBegin, first_dts, head_of_normal, IsReady, bytes_of_piece, IsNoted, HaveCopied, IsPlanOf, WhereOpened};
+ghost use Rattle.mp4_plan.specs.Writers.{RefusesMemory, RefusesPlan, AreWalksOf, IsWriterOf, rooms, held, turn_head, sequence_behind, AllCome, AllBegin, first_dts, head_of_normal, IsReady, bytes_of_piece, turn_bytes, IsNoted, HaveCopied, IsPlanOf, WhereOpened};
 
 use crate::courses::{Load, carry_piece, note_piece, peek_sample, plan_piece};
 use crate::moof_front::{PieceHead, moof_front};
@@ -261,7 +262,7 @@ impl Writer {
         ensures prefix { WhereOpened (S.is_honest store.old) (S.file store.old) movie.now (λ tree. (samples : List SampleAt) → IsNoted (S.file store.old) tree movie.now track planned.now.count samples self.old → (info : TrackInfo) → slice_get movie.now.tracks track ≡ Some info → AreApart (keys_seen info.keys) → OnErr result (AppendsPrefix (K.contents sink.old) (K.contents sink.new) (waiting self.old.carrier ++ bytes_of_piece (S.file store.old) head planned.now (keys_seen info.keys) (take planned.now.count samples)))) }
         ensures copied { WhereOpened (S.is_honest store.old) (S.file store.old) movie.now (λ tree. (samples : List SampleAt) → OnOk result (HaveCopied (S.file store.old) tree movie.now track planned.now.count samples self.old self.new)) }
         ensures keeps { OnOk result ((self.new.planning ≡ self.old.planning) × (self.new.rows ≡ self.old.rows)) }
-        ensures unchanged { WhereOpened (S.is_honest store.old) (S.file store.old) movie.now (λ tree. (samples : List SampleAt) → IsNoted (S.file store.old) tree movie.now track planned.now.count samples self.old → planned.now.count ≤ length samples → planned.now.bytes ≡ sum_by (λ (s : SampleAt). s.size) (take planned.now.count samples) → AllByRecursion (IsBelow (length (S.file store.old))) samples → IfErr result (λ r. r ≡ refusals.StoreChanged → ⊥)) }
+        ensures unchanged { WhereOpened (S.is_honest store.old) (S.file store.old) movie.now (λ tree. (samples : List SampleAt) → IsNoted (S.file store.old) tree movie.now track planned.now.count samples self.old → planned.now.count ≤ length samples → planned.now.bytes ≡ sum_of (λ (s : SampleAt). s.size) (take planned.now.count samples) → AllByRecursion (IsBelow (length (S.file store.old))) samples → IfErr result (λ r. r ≡ refusals.StoreChanged → ⊥)) }
         ensures reads { OnOk result (S.read_failures store.new ≡ S.read_failures store.old) }
         ensures puts { OnOk result (K.put_failures sink.new ≡ K.put_failures sink.old) }
         ensures refusal { IfErr result (RefusesCarry (S.read_failures store.old) (S.read_failures store.new) (K.put_failures sink.old) (K.put_failures sink.new)) }
@@ -298,9 +299,16 @@ impl Writer {
         requires track { track < length movie.now.tracks }
         requires count { planned.now.count ≤ length self.old.rows.items }
         requires bytes { planned.now.bytes + 16 < 2 ^ 64 }
+        requires rows { (j : ℕ) → slice_index planned.now.group_rows j ≤ planned.now.count }
         ensures writer { OnOk result (IsWriterOf movie.now self.new) }
         ensures held { held self.new ≡ held self.old }
+        ensures honesty { S.is_honest store.new ≡ S.is_honest store.old }
         ensures file { S.file store.new ≡ S.file store.old }
+        ensures put { WhereOpened (S.is_honest store.old) (S.file store.old) movie.now (λ tree. (samples : List SampleAt) → IsNoted (S.file store.old) tree movie.now track planned.now.count samples self.old → (info : TrackInfo) → slice_get movie.now.tracks track ≡ Some info → AreApart (keys_seen info.keys) → OnOk result (BytesGoOn (K.contents sink.old) (K.contents sink.new) (waiting self.old.carrier) (waiting self.new.carrier) (turn_bytes (S.file store.old) head planned.now (keys_seen info.keys) (take planned.now.count samples)))) }
+        ensures prefix { WhereOpened (S.is_honest store.old) (S.file store.old) movie.now (λ tree. (samples : List SampleAt) → IsNoted (S.file store.old) tree movie.now track planned.now.count samples self.old → (info : TrackInfo) → slice_get movie.now.tracks track ≡ Some info → AreApart (keys_seen info.keys) → OnErr result (AppendsPrefix (K.contents sink.old) (K.contents sink.new) (waiting self.old.carrier ++ turn_bytes (S.file store.old) head planned.now (keys_seen info.keys) (take planned.now.count samples)))) }
+        ensures copied { WhereOpened (S.is_honest store.old) (S.file store.old) movie.now (λ tree. (samples : List SampleAt) → (head ≡ None → drop planned.now.count samples ≡ samples) → OnOk result (HaveCopied (S.file store.old) tree movie.now track planned.now.count samples self.old self.new)) }
+        ensures keeps { OnOk result ((self.new.planning ≡ self.old.planning) × (self.new.rows ≡ self.old.rows)) }
+        ensures unchanged { WhereOpened (S.is_honest store.old) (S.file store.old) movie.now (λ tree. (samples : List SampleAt) → IsNoted (S.file store.old) tree movie.now track planned.now.count samples self.old → planned.now.count ≤ length samples → planned.now.bytes ≡ sum_of (λ (s : SampleAt). s.size) (take planned.now.count samples) → AllByRecursion (IsBelow (length (S.file store.old))) samples → IfErr result (λ r. r ≡ refusals.StoreChanged → ⊥)) }
         ensures reads { OnOk result (S.read_failures store.new ≡ S.read_failures store.old) }
         ensures puts { OnOk result (K.put_failures sink.new ≡ K.put_failures sink.old) }
         ensures refusal { IfErr result (RefusesCarry (S.read_failures store.old) (S.read_failures store.new) (K.put_failures sink.old) (K.put_failures sink.new)) }
@@ -321,7 +329,11 @@ impl Writer {
     ) -> Result<(), Refusal>
         requires { IsWriterOf movie.now self.old }
         ensures held { held self.new ≡ held self.old }
+        ensures honesty { S.is_honest store.new ≡ S.is_honest store.old }
         ensures file { S.file store.new ≡ S.file store.old }
+        ensures bytes { WhereOpened (S.is_honest store.old) (S.file store.old) movie.now (λ tree. IsReady (S.file store.old) tree movie.now self.old → OnOk result (Appends (K.contents sink.old) (K.contents sink.new) (normal (presentation_of (S.file store.old) tree)))) }
+        ensures prefix { WhereOpened (S.is_honest store.old) (S.file store.old) movie.now (λ tree. IsReady (S.file store.old) tree movie.now self.old → OnErr result (AppendsPrefix (K.contents sink.old) (K.contents sink.new) (normal (presentation_of (S.file store.old) tree)))) }
+        ensures unchanged { WhereOpened (S.is_honest store.old) (S.file store.old) movie.now (λ tree. IsReady (S.file store.old) tree movie.now self.old → IfErr result (λ r. r ≡ refusals.StoreChanged → ⊥)) }
         ensures reads { OnOk result (S.read_failures store.new ≡ S.read_failures store.old) }
         ensures puts { OnOk result (K.put_failures sink.new ≡ K.put_failures sink.old) }
         ensures refusal { IfErr result (RefusesCarry (S.read_failures store.old) (S.read_failures store.new) (K.put_failures sink.old) (K.put_failures sink.new)) }

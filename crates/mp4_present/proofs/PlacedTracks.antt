@@ -1,16 +1,16 @@
 -- The samples and the keys of each track, where the `moov` and each `moof` of the file are of bytes.
-use Rattle.std.proofs.Common.{◌≡◌, ℕ, ◌≤◌, Bool, true, false, cond, eqb, List, [], ◌∷◌, ◌++◌, length, refl, sym, ap, subst, ◌∙◌, lit≤}
+use Rattle.std.proofs.Common.{◌≡◌, ℕ, ◌≤◌, Bool, true, false, cond, eqb, List, [], ◌∷◌, ◌++◌, length, refl, sym, ap, ◌∙◌, lit≤}
 use Rattle.std.specs.Prelude.{codes, map, flat_map, IsTrue}
 use Rattle.std.specs.List.{AllByRecursion, list_any}
 use Rattle.mp4_boxes.specs.Bytes.{AreBytes}
-use Rattle.mp4_boxes.specs.Box.{Box, file_container}
+use Rattle.mp4_boxes.specs.Box.{Box}
 use Rattle.mp4_boxes.specs.Children.{of_kind}
 use Rattle.mp4_boxes.specs.Layout.{sbgp}
 use Rattle.mp4_boxes.specs.Places.{ruled, AreSound}
 use Rattle.mp4_boxes.specs.declared.rule.Rule.TheVariants as rules
 use Rattle.mp4_boxes.proofs.Among.{IsIn, all_in, all_append}
 use Rattle.mp4_boxes.proofs.Each.{each_value, each_weaker, each_from, each_joined, each_kept, each_member}
-use Rattle.mp4_boxes.proofs.OfBytes.{tiled_of_bytes, payloads_of_bytes}
+use Rattle.mp4_boxes.proofs.OfBytes.{payloads_of_bytes}
 use Rattle.mp4_boxes.proofs.Sound.{sound_each}
 use Rattle.mp4_tables.specs.Accepted.{AreDistinct}
 use Rattle.mp4_tables.specs.Groups.{GroupKey, Grouping, same_key, keys_with, max_keys}
@@ -29,20 +29,9 @@ use Rattle.mp4_head.proofs.Distinct.{map_twice}
 use Rattle.mp4_head.proofs.TreeBytes.{TrackOfBytes, MovieOfBytes, movie_of_bytes}
 use Rattle.mp4_present.specs.Coming.{track_keys}
 use Rattle.mp4_present.specs.Denotes.{FileTree, IsFileTree, IsSoundFile, IsConsistent, surroundings, track_infos, plain_of, plain_keys, file_parts, parts_of_track, placed_of}
+use Rattle.mp4_present.specs.OpenedMovie.{AreOfBytes}
 use Rattle.mp4_present.proofs.KeysExtended.{distinct_keys}
 use Rattle.mp4_present.proofs.ValidSamples.{IsOfTrack, more_keys, named_with, parts_placed, parts_few, part_indexed}
-
--- the `moov` and each `moof` is of bytes
-pub record AreOfBytes (t : FileTree) : Type 0 where
-  pub moov : AreBytes t.movie.moov.payload
-  pub moofs : AllByRecursion (λ (b : Box). AreBytes b.payload) (map (λ (f : FragmentTree). f.moof) t.fragments)
-
--- so it is in a file of bytes
-pub tree_of_bytes : (file : List ℕ) (t : FileTree) → IsFileTree file t → AreBytes file → AreOfBytes t
-tree_of_bytes file t h bytes =
-    let top = tiled_of_bytes (file_container file) t.top bytes h.top.tiles in
-    let each = λ (bs : List Box). AllByRecursion (λ (b : Box). AreBytes b.payload) bs in
-    record { moov = (subst each h.moov (payloads_of_bytes (codes "moov") t.top top)).0; moofs = subst each (sym h.moofs) (payloads_of_bytes (codes "moof") t.top top) }
 
 -- what holds of keys and of more holds of those of both
 next_each : (P : GroupKey → Type 0) (keys : List GroupKey) (key : GroupKey) (v : Bool) → AllByRecursion P keys → P key → AllByRecursion P (cond v keys (keys ++ key ∷ []))
@@ -75,7 +64,9 @@ module _ (file : List ℕ) (t : FileTree) (h : IsFileTree file t) (sound : IsSou
       each_value (λ (x : Box). AreBytes x.payload) IsTrex (λ (x : Box). trex_of x.payload) (λ x k. trex_valid x.payload k) (of_kind (codes "trex") t.movie.extends) (payloads_of_bytes (codes "trex") t.movie.extends movie.extends)
 
   parts : AllByRecursion IsPart (file_parts t)
-  parts = fragments_valid (trexes_of t.movie) t.fragments trexes b.moofs h.fragments sound.fragments
+  parts =
+      let moofs = each_value (λ (f : FragmentTree). AreBytes f.moof.payload) (λ (x : Box). AreBytes x.payload) (λ (f : FragmentTree). f.moof) (λ f k. k) t.fragments b.moofs in
+      fragments_valid (trexes_of t.movie) t.fragments trexes moofs h.fragments sound.fragments
 
   -- the parts of one track: those with its ID, which have its descriptions
   track_parts : (u : TrackTree) → IsIn t.movie.tracks u
