@@ -1,7 +1,6 @@
 -- A walk for each track, and the samples that come in it: at one place, and with another walk there.
-use Rattle.std.proofs.Common.{◌≡◌, ℕ, zero, suc, ◌+◌, ◌<◌, ◌≤◌, List, [], ◌∷◌, ◌++◌, length, take, drop, map, Some, None, refl, sym, ap, subst, ◌∙◌, arith, slice_set}
-use Rattle.std.specs.Prelude.{Option, slice_get}
-use Rattle.std.specs.List.{AllByRecursion}
+use Rattle.std.proofs.Common.{◌≡◌, ℕ, zero, suc, ◌+◌, ◌<◌, List, [], ◌∷◌, ◌++◌, length, take, map, Some, refl, ap, subst, arith, slice_set}
+use Rattle.std.specs.Prelude.{slice_get}
 use Rattle.mp4_head.specs.Tree.{TrackTree}
 use Rattle.mp4_tables.specs.declared.sample.SampleAt.{SampleAt}
 use Rattle.mp4_present.specs.Coming.{Comes}
@@ -47,15 +46,21 @@ module _ (file : List ℕ) (tree : FileTree) (m : MovieSeen) where
   come_with (u ∷ trees) (w ∷ walks) (l ∷ lefts) zero t walk left h is c = let same : t ≡ u = cc in (subst (λ (v : TrackTree). Comes file tree v m walk left) same c, h.1)
   come_with (u ∷ trees) (w ∷ walks) (l ∷ lefts) (suc k) t walk left h is c = (h.0, come_with trees walks lefts k t walk left h.1 is c)
 
+  more_behind : (trees : List TrackTree) (walks : List Walk) (lefts : TrackTree → List SampleAt) (k : ℕ) (t : TrackTree) (walk : Walk) → AllCome file tree m (take k trees) walks (map lefts (take k trees)) → length walks ≡ k → slice_get trees k ≡ Some t → Comes file tree t m walk (lefts t)
+      → AllCome file tree m (take (suc k) trees) (walks ++ walk ∷ []) (map lefts (take (suc k) trees))
+  more_behind [] walks lefts zero t walk h n is c = absurd cc
+  more_behind [] walks lefts (suc k) t walk h n is c = absurd cc
+  more_behind (u ∷ trees) [] lefts zero t walk h n is c = let same : t ≡ u = cc in (subst (λ (v : TrackTree). Comes file tree v m walk (lefts v)) same c, tt)
+  more_behind (u ∷ trees) (w ∷ walks) lefts zero t walk h n is c = absurd (omega (arith, n))
+  more_behind (u ∷ trees) [] lefts (suc k) t walk h n is c = absurd (omega (arith, n))
+  more_behind (u ∷ trees) (w ∷ walks) lefts (suc k) t walk h n is c = (h.0, more_behind trees walks lefts k t walk h.1 (omega (arith, n)) is c)
+
   -- one more behind the others
   pub come_more : (trees : List TrackTree) (walks : List Walk) (lefts : TrackTree → List SampleAt) (k : ℕ) (t : TrackTree) (walk : Walk) → AllCome file tree m (take k trees) walks (map lefts (take k trees)) → length walks ≡ k → slice_get trees k ≡ Some t → Comes file tree t m walk (lefts t)
       → AllCome file tree m (take (k + 1) trees) (walks ++ walk ∷ []) (map lefts (take (k + 1) trees))
-  come_more [] walks lefts zero t walk h n is c = absurd cc
-  come_more [] walks lefts (suc k) t walk h n is c = absurd cc
-  come_more (u ∷ trees) [] lefts zero t walk h n is c = let same : t ≡ u = cc in (subst (λ (v : TrackTree). Comes file tree v m walk (lefts v)) same c, tt)
-  come_more (u ∷ trees) (w ∷ walks) lefts zero t walk h n is c = absurd (omega (arith, n))
-  come_more (u ∷ trees) [] lefts (suc k) t walk h n is c = absurd (omega (arith, n))
-  come_more (u ∷ trees) (w ∷ walks) lefts (suc k) t walk h n is c = (h.0, come_more trees walks lefts k t walk h.1 (omega (arith, n)) is c)
+  come_more trees walks lefts k t walk h n is c =
+      let next : suc k ≡ k + 1 = omega arith in
+      subst (λ i. AllCome file tree m (take i trees) (walks ++ walk ∷ []) (map lefts (take i trees))) next (more_behind trees walks lefts k t walk h n is c)
 
 -- a member that stays the same
 pub set_same : {A : Type 0} (xs : List A) (k : ℕ) (x : A) → slice_get xs k ≡ Some x → slice_set xs k x ≡ xs

@@ -60,4 +60,6 @@ pub mod CarriedParts
 pub mod TurnTaken
 pub mod TakenFrom
 pub mod FirstTurn
+pub mod Planning
+pub mod HeadAgain
 pub mod PieceCounts

@@ -94,8 +94,10 @@ fn first_time<S: Store, L: Ledger>(
     if walks.is_empty() {
         return Ok(0);
     }
-    let sample = peek_sample(&mut walks[0], movie, store, steps)?;
-    Ok(sample.map_or(0, |first| first.dts))
+    match peek_sample(&mut walks[0], movie, store, steps)? {
+        Some(first) => Ok(first.dts),
+        None => Ok(0),
+    }
 }
 
 // The bytes of a piece: its `moof`, and its `mdat`.

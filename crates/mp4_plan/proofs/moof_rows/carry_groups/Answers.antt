@@ -74,10 +74,10 @@ returns-in_err-carry_group-clause-prefix g c =
     let key = key_seen c.in-Some.used.key in
     let f = λ (k : GroupKey). group_bytes c.args.rows.now c.args.planned.now (place_at keys k) k in
     rw p.1 (λ apart.
-        let done = (i.2 apart).0 in
-        let later = filter (is_above (Some (key_rank key))) order in
-        let found = found_first c.loop-key.behind (used_from rows 0 keys) key (used_apart rows 0 keys apart) c.in-Some.ensures.next in
-        let next = key_written f order done c.loop-key.behind key (i.2 apart).2 found in
-        let place = place_is keys c.in-Some.used.place key apart c.in-Some.ensures.place.1 in
-        stopped_at _ _ _ _ _ (flat_map f done) (group_bytes c.args.rows.now c.args.planned.now c.in-Some.used.place key) (flat_map f (done ++ key ∷ [])) (flat_map f later) (flat_map f order) (i.2 apart).1 c.in_err-carry_group.ensures.prefix
-            (next.0 ∙ ap (λ q. flat_map f done ++ group_bytes c.args.rows.now c.args.planned.now q key) place) (ap (flat_map f) (sym next.1) ∙ flat_map-append f (done ++ key ∷ []) later))
+    let done = (i.2 apart).0 in
+    let later = filter (is_above (Some (key_rank key))) order in
+    let found = found_first c.loop-key.behind (used_from rows 0 keys) key (used_apart rows 0 keys apart) c.in-Some.ensures.next in
+    let next = key_written f order done c.loop-key.behind key (i.2 apart).2 found in
+    let place = place_is keys c.in-Some.used.place key apart c.in-Some.ensures.place.1 in
+    stopped_at _ _ _ _ _ (flat_map f done) (group_bytes c.args.rows.now c.args.planned.now c.in-Some.used.place key) (flat_map f (done ++ key ∷ [])) (flat_map f later) (flat_map f order) (i.2 apart).1 c.in_err-carry_group.ensures.prefix
+    (next.0 ∙ ap (λ q. flat_map f done ++ group_bytes c.args.rows.now c.args.planned.now q key) place) (ap (flat_map f) (sym next.1) ∙ flat_map-append f (done ++ key ∷ []) later))
