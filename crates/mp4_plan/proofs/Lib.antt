@@ -58,6 +58,7 @@ pub mod PieceWritten
 pub mod PartsPut
 pub mod CarriedParts
 pub mod WritesOn
+pub mod WriterTurns
 pub mod TurnTaken
 pub mod TakenFrom
 pub mod FirstTurn
