@@ -57,6 +57,7 @@ pub mod ComeAt
 pub mod PieceWritten
 pub mod PartsPut
 pub mod CarriedParts
+pub mod WritesOn
 pub mod TurnTaken
 pub mod TakenFrom
 pub mod FirstTurn

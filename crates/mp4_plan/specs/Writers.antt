@@ -22,6 +22,10 @@ use Rattle.mp4_plan.specs.Pieces.{Piece, pieces}
 use Rattle.mp4_plan.specs.Taken.{piece_front, row_seen}
 use Rattle.mp4_plan.specs.declared.moof_front.PieceHead.{PieceHead}
 use Rattle.mp4_plan.specs.declared.planner.Planned.{Planned}
+use Rattle.mp4_plan.specs.declared.rows.Row.{Row}
+use Rattle.mp4_plan.specs.Gathering.{planned_of, piece_fed, piece_from, samples_after}
+use Rattle.mp4_plan.specs.declared.schedule.Turn.{Turn}
+use Rattle.mp4_plan.specs.declared.writer.Noted.{Noted}
 use Rattle.mp4_plan.specs.declared.writer.Plan.{Plan}
 use Rattle.mp4_plan.specs.declared.writer.Writer.{Writer}
 use Rattle.mp4_plan.specs.Normal.{pieces_bytes}
@@ -99,6 +103,16 @@ pub record IsReady (file : List ℕ) (tree : FileTree) (m : MovieSeen) (w : Writ
   pub planning : AllBegin file tree m w.planning.items
   pub copying : AllBegin file tree m w.copying.items
   pub nothing : waiting w.carrier ≡ []
+
+-- What was noted at a turn, of a track of which these samples come: a piece of them, and its walk stands behind it.
+pub record HasNoted (file : List ℕ) (tree : FileTree) (t : TrackTree) (m : MovieSeen) (turn : Turn) (sequence id : ℕ) (left : List SampleAt) (before after : Writer) (n : Noted) : Type 0 where
+  pub planned : n.planned ≡ planned_of (piece_fed (piece_from turn.end) left).gathered
+  pub head : n.head ≡ turn_head sequence id n.planned.count (slice_get left 0)
+  pub next : n.next ≡ slice_get (samples_after (piece_from turn.end) left) 0
+  pub rows : take n.planned.count after.rows.items ≡ map row_seen (take n.planned.count left)
+  pub walk : Walk
+  pub planning : after.planning.items ≡ slice_set before.planning.items turn.track walk
+  pub comes : Comes file tree t m walk (samples_after (piece_from turn.end) left)
 
 -- what is written of a piece, by what was planned of its samples
 abbrev pub bytes_of_piece : List ℕ → PieceHead → Planned → List GroupKey → List SampleAt → List ℕ

@@ -5,6 +5,7 @@ ghost use Rattle.std.specs.List.{AllByRecursion};
 ghost use Rattle.mp4_boxes.specs.Bytes.{sum_of};
 ghost use Rattle.mp4_boxes.specs.declared.refusal.Refusal.TheVariants as refusals;
 ghost use Rattle.mp4_store.specs.Device.{AppendsPrefix};
+ghost use Rattle.mp4_head.specs.Tree.{TrackTree};
 ghost use Rattle.mp4_tables.specs.Keys.{keys_seen};
 ghost use Rattle.mp4_tables.specs.declared.sample.SampleAt.{SampleAt};
 ghost use Rattle.mp4_present.specs.declared.track_info.TrackInfo.{TrackInfo};
@@ -16,8 +17,10 @@ ghost use Rattle.mp4_present.specs.OpenedMovie.{IsOpenedAs};
 ghost use Rattle.mp4_plan.specs.Normal.{normal};
 ghost use Rattle.mp4_plan.specs.UsedKeys.{AreApart};
 ghost use Rattle.mp4_present.specs.Carried.{RefusesCarry};
+ghost use Rattle.mp4_present.specs.declared.walks.Walk.{Walk};
+ghost use Rattle.mp4_plan.specs.Gathering.{more_of, piece_from};
 ghost use Rattle.mp4_present.specs.Movies.{RefusesLoad};
-ghost use Rattle.mp4_plan.specs.Writers.{RefusesMemory, RefusesPlan, AreWalksOf, IsWriterOf, rooms, held, turn_head, sequence_behind, AllCome, AllBegin, first_dts, head_of_normal, IsReady, bytes_of_piece, turn_bytes, IsNoted, HaveCopied, IsPlanOf, WhereOpened, planned_length};
+ghost use Rattle.mp4_plan.specs.Writers.{RefusesMemory, RefusesPlan, AreWalksOf, IsWriterOf, rooms, held, turn_head, sequence_behind, AllCome, AllBegin, first_dts, head_of_normal, IsReady, bytes_of_piece, turn_bytes, HasNoted, IsNoted, HaveCopied, IsPlanOf, WhereOpened, planned_length};
 
 use crate::courses::{Load, carry_piece, note_piece, peek_sample, plan_piece};
 use crate::moof_front::{PieceHead, moof_front};
@@ -25,7 +28,7 @@ use crate::moof_rows::{carry_groups, carry_run};
 use crate::moof_sizes::sizes_of;
 use crate::planner::Planned;
 use crate::rows::{NO_ROW, Row};
-use crate::schedule::Schedule;
+use crate::schedule::{Schedule, Turn};
 use mp4_boxes::{FourCc, Refusal, Steps, header};
 use mp4_head::{head_bytes, head_len};
 use mp4_present::{Carrier, Movie, Walk};
@@ -47,6 +50,14 @@ struct Plan {
     longest: u32,
     /// The bytes of all pieces.
     len: u64,
+}
+
+// What a turn comes to: what was planned of its samples, what its piece says once where it has some, and the next sample.
+#[derive(Clone, Copy, Debug, PartialEq, Eq)]
+struct Noted {
+    planned: Planned,
+    head: Option<PieceHead>,
+    next: Option<SampleAt>,
 }
 
 /// Writes the normal form of a movie. All memory that it takes is taken when it is made.
@@ -243,6 +254,41 @@ impl Writer {
         })
     }
 
+    // Plans the piece of a turn, and notes its samples. The next piece has this sequence number, the track this ID.
+    fn note_turn<S: Store, L: Ledger>(
+        &mut self,
+        turn: &Turn,
+        sequence: u32,
+        id: u32,
+        movie: &Movie,
+        store: &mut S,
+        steps: &mut Steps<L>,
+    ) -> Result<Noted, Refusal>
+        requires writer { IsWriterOf movie.now self.old }
+        requires track { turn.now.track < length movie.now.tracks }
+        ensures writer { OnOk result (IsWriterOf movie.now self.new) }
+        ensures held { held self.new ≡ held self.old }
+        ensures keeps { (self.new.copying ≡ self.old.copying) × (self.new.carrier ≡ self.old.carrier) × (length self.new.rows.items ≡ length self.old.rows.items) }
+        ensures honesty { S.is_honest store.new ≡ S.is_honest store.old }
+        ensures file { S.file store.new ≡ S.file store.old }
+        ensures noted { WhereOpened (S.is_honest store.old) (S.file store.old) movie.now (λ tree. (t : TrackTree) (walk : Walk) (left : List SampleAt) → slice_get self.old.planning.items turn.now.track ≡ Some walk → Comes (S.file store.old) tree t movie.now walk left → IfOk result (HasNoted (S.file store.old) tree t movie.now turn.now sequence id left self.old self.new)) }
+        ensures unchanged { WhereOpened (S.is_honest store.old) (S.file store.old) movie.now (λ tree. (t : TrackTree) (walk : Walk) (left : List SampleAt) → slice_get self.old.planning.items turn.now.track ≡ Some walk → Comes (S.file store.old) tree t movie.now walk left → more_of (piece_from turn.now.end) left ≤ length self.old.rows.items → IfErr result (λ r. r ≡ refusals.StoreChanged → ⊥)) }
+        ensures few { IfOk result (λ n. (n.planned.count ≤ length self.old.rows.items) × (n.planned.bytes + 16 < 2 ^ 64) × ((j : ℕ) → slice_index n.planned.group_rows j ≤ n.planned.count)) }
+        ensures reads { OnOk result (S.read_failures store.new ≡ S.read_failures store.old) }
+        ensures refusal { IfErr result (RefusesLoad (S.read_failures store.old) (S.read_failures store.new)) }
+    {
+        let walk = &mut self.planning[turn.track];
+        let first = peek_sample(walk, movie, store, steps)?;
+        let rows = self.rows.as_mut_slice();
+        let planned = note_piece(walk, turn.end, rows, movie, store, steps)?;
+        let next = peek_sample(walk, movie, store, steps)?;
+        Ok(Noted {
+            planned,
+            head: turn_head(sequence, id, planned.count, &first),
+            next,
+        })
+    }
+
     // Takes a piece along whose samples were noted.
     fn carry<S: Store, K: Sink, L: Ledger>(
         &mut self,
@@ -349,15 +395,19 @@ impl Writer {
         let mut schedule = Schedule::new(tracks, from);
         let mut sequence: u32 = 1;
         while let Some(turn) = schedule.turn(tracks) {
-            let walk = &mut self.planning[turn.track];
-            let first = peek_sample(walk, movie, store, steps)?;
-            let rows = self.rows.as_mut_slice();
-            let planned = note_piece(walk, turn.end, rows, movie, store, steps)?;
-            let next = peek_sample(walk, movie, store, steps)?;
-            let head = turn_head(sequence, tracks[turn.track].id, planned.count, &first);
-            sequence = sequence_behind(sequence, &head);
-            self.carry_turn(turn.track, head, &planned, movie, store, sink, steps)?;
-            schedule.pass(&turn, planned.count, next)?;
+            let id = tracks[turn.track].id;
+            let noted = self.note_turn(&turn, sequence, id, movie, store, steps)?;
+            sequence = sequence_behind(sequence, &noted.head);
+            self.carry_turn(
+                turn.track,
+                noted.head,
+                &noted.planned,
+                movie,
+                store,
+                sink,
+                steps,
+            )?;
+            schedule.pass(&turn, noted.planned.count, noted.next)?;
         }
         self.carrier.flush(sink)
     }
