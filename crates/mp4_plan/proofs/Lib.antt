@@ -65,3 +65,4 @@ pub mod FirstTurn
 pub mod Planning
 pub mod HeadAgain
 pub mod PieceCounts
+pub mod PlannedTurns

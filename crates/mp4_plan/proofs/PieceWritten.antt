@@ -1,6 +1,7 @@
 -- What is written of the samples that a turn takes is the piece of the normal form, where it takes some.
-use Rattle.std.proofs.Common.{true, nat_lt, le-leb, min, ◌-◌, ◌≡◌, ℕ, zero, suc, ◌+◌, ◌^◌, ◌<◌, ◌≤◌, List, [], ◌∷◌, ◌++◌, length, take, Option, Some, None, refl, sym, ap, subst, ◌∙◌, append-nil, append_assoc, arith}
-use Rattle.std.specs.Prelude.{slice_get, slice_index, if◌then◌else◌}
+use Rattle.std.proofs.Common.{◌≡◌, ℕ, zero, suc, ◌+◌, ◌^◌, ◌<◌, ◌≤◌, nat_lt, true, cond, List, [], ◌∷◌, ◌++◌, length, take, Some, None, refl, sym, ap, subst, ◌∙◌, append-nil, append_assoc, arith}
+use Rattle.std.proofs.lemmas.Bool.{lt-ltb}
+use Rattle.std.specs.Prelude.{slice_get, slice_index}
 use Rattle.std.specs.List.{AllByRecursion}
 use Rattle.mp4_tables.specs.Groups.{GroupKey}
 use Rattle.mp4_tables.specs.declared.sample.SampleAt.{SampleAt}
@@ -28,9 +29,12 @@ pub record IsFew (p : Planned) : Type 0 where
   pub count : p.count ≤ 2 ^ 24
   pub rows : (j : ℕ) → slice_index p.group_rows j ≤ p.count
 
+some_counted : (k n : ℕ) → k ≡ suc n → nat_lt 0 k ≡ true
+some_counted k n e = lt-ltb 0 k (omega (arith, e))
+
 -- a turn that takes samples has a head
 pub head_some : (sequence id n : ℕ) (a : SampleAt) → turn_head sequence id (suc n) (Some a) ≡ Some (record { sequence = sequence; id = id; time = a.dts; description = a.description })
-head_some sequence id n a = let some : nat_lt 0 (suc n) ≡ true = le-leb (omega arith) in ap (λ v. if v then Some (record { sequence = sequence; id = id; time = a.dts; description = a.description }) else None) some
+head_some sequence id n a = let head : PieceHead = record { sequence = sequence; id = id; time = a.dts; description = a.description } in ap (λ v. cond v (Some head) None) (some_counted (suc n) n refl)
 
 module _ (file : List ℕ) (keys : List GroupKey) where
   head_same : (sequence id : ℕ) (a : SampleAt) (s : TimedSample) (more : List SampleAt) (samples : List TimedSample) → AreTaken file keys (a ∷ more) (s ∷ samples)
@@ -49,9 +53,11 @@ module _ (file : List ℕ) (keys : List GroupKey) where
   turn_written sequence id (suc n) (a ∷ left) (s ∷ samples) p k z is count le few =
       let small = moof_small p keys few.count few.rows k.few in
       let written = piece_is_spelled file keys sequence id a (take n left) (s ∷ samples) k.apart k.named k.few z (subst (λ (q : Planned). (moof_sizes q keys).moof ≤ 2 ^ 30) is small) in
-      let by_head : bytes_of_piece file (record { sequence = sequence; id = id; time = a.dts; description = a.description }) p keys (a ∷ take n left) ≡ bytes_of_piece file (head_of sequence id (s ∷ samples)) (planned_of (gather_all None (a ∷ take n left))) keys (a ∷ take n left) =
-      λ i. bytes_of_piece file (head_same sequence id a s (take n left) samples z i) (is i) keys (a ∷ take n left) in
-      rw count (ap (λ (o : Option PieceHead). turn_bytes file o p keys (a ∷ take n left)) (head_some sequence id n a) ∙ by_head ∙ written ∙ sym (append-nil (piece_bytes sequence (record { id = id; samples = s ∷ samples }))))
+      let more = take n left in
+      let head : PieceHead = record { sequence = sequence; id = id; time = a.dts; description = a.description } in
+      let by_head : bytes_of_piece file head p keys (a ∷ more) ≡ bytes_of_piece file (head_of sequence id (s ∷ samples)) (planned_of (gather_all None (a ∷ more))) keys (a ∷ more) = λ i. bytes_of_piece file (head_same sequence id a s more samples z i) (is i) keys (a ∷ more) in
+      ap (λ v. turn_bytes file (cond v (Some head) None) p keys (take p.count (a ∷ left))) (some_counted p.count n count)
+      ∙ ap (λ k. bytes_of_piece file head p keys (take k (a ∷ left))) count ∙ by_head ∙ written ∙ sym (append-nil (piece_bytes sequence (record { id = id; samples = s ∷ samples })))
 
 -- a turn has a head where it takes samples
 pub head_counts : (sequence id n : ℕ) (left : List SampleAt) (samples : List TimedSample) (file : List ℕ) (keys : List GroupKey) → AreTaken file keys (take n left) samples → n ≤ length left → sequence + length (piece_if id samples) < 2 ^ 32
@@ -62,7 +68,9 @@ head_counts sequence id (suc n) [] (s ∷ samples) file keys z le lt = absurd (o
 head_counts sequence id zero (a ∷ left) [] file keys z le lt = omega arith
 head_counts sequence id zero (a ∷ left) (s ∷ samples) file keys z le lt = absurd z
 head_counts sequence id (suc n) (a ∷ left) [] file keys z le lt = absurd z
-head_counts sequence id (suc n) (a ∷ left) (s ∷ samples) file keys z le lt = let capped : min (sequence + 1) (2 ^ 32 - 1) ≡ sequence + 1 = omega (arith, lt) in ap (sequence_behind sequence) (head_some sequence id n a) ∙ capped
+head_counts sequence id (suc n) (a ∷ left) (s ∷ samples) file keys z le lt =
+    let head : PieceHead = record { sequence = sequence; id = id; time = a.dts; description = a.description } in
+    ap (λ v. sequence_behind sequence (cond v (Some head) None)) (some_counted (suc n) n refl) ∙ omega (arith, lt)
 
 -- the bytes of pieces, and of those behind them
 pub bytes_of_two : (sequence : ℕ) (xs ys : List Piece) → pieces_bytes sequence (xs ++ ys) ≡ pieces_bytes sequence xs ++ pieces_bytes (sequence + length xs) ys

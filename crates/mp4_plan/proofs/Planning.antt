@@ -1,6 +1,7 @@
 -- Walks over the tracks of an opened file, and what is planned of the pieces that come in them.
-use Rattle.std.proofs.Common.{◌≡◌, ℕ, zero, suc, ◌+◌, ◌*◌, ◌<◌, ◌≤◌, ◌==◌, Bool, true, false, List, [], ◌∷◌, ◌++◌, length, take, drop, map, Some, None, refl, sym, ap, subst, ◌∙◌, arith, true≢false}
+use Rattle.std.proofs.Common.{◌≡◌, ℕ, zero, suc, ◌+◌, ◌*◌, ◌<◌, ◌≤◌, ◌==◌, Bool, false, List, [], ◌∷◌, ◌++◌, length, take, map, Some, refl, sym, ap, subst, ◌∙◌, arith, true≢false, length-set}
 use Rattle.std.specs.Prelude.{slice_get, slice_set, slice_index_or, Option}
+use Rattle.std.specs.List.{AllByRecursion}
 use Rattle.std.specs.Option.{MatchOption}
 use Rattle.std.proofs.lemmas.Bool.{eq-eqb}
 use Rattle.std.proofs.lemmas.List.{take_all}
@@ -9,11 +10,11 @@ use Rattle.mp4_head.specs.Tree.{TrackTree}
 use Rattle.mp4_tables.specs.declared.sample.SampleAt.{SampleAt}
 use Rattle.mp4_present.specs.Coming.{Comes, track_samples}
 use Rattle.mp4_present.specs.Denotes.{FileTree}
-use Rattle.mp4_present.specs.Movies.{MovieSeen}
+use Rattle.mp4_present.specs.Movies.{MovieSeen, IsWalkOf}
 use Rattle.mp4_present.specs.OpenedMovie.{IsInfoOf, IsOpenedAs}
 use Rattle.mp4_present.specs.declared.walks.Walk.{Walk}
 use Rattle.mp4_present.proofs.TracksPassed.{zip_length}
-use Rattle.mp4_plan.specs.Writers.{AllCome, AllBegin, rooms, first_dts}
+use Rattle.mp4_plan.specs.Writers.{AreWalksOf, AllCome, AllBegin, rooms, first_dts}
 use Rattle.mp4_plan.proofs.ComeAt.{come_at, come_with, come_more, set_same}
 use Rattle.mp4_plan.proofs.TurnTaken.{there_is}
 
@@ -76,6 +77,15 @@ pub same_come : (file : List ℕ) (tree : FileTree) (m : MovieSeen) (walks : Lis
     → Comes file tree r.t m next r.left → AllCome file tree m tree.movie.tracks (slice_set walks k next) lefts
 same_come file tree m walks lefts k walk next h r c =
     subst (λ (ls : List (List SampleAt)). AllCome file tree m tree.movie.tracks (slice_set walks k next) ls) (set_same lefts k r.left r.is_left) (come_with file tree m tree.movie.tracks walks lefts k r.t next r.left h r.is_tree c)
+
+-- a walk of the same movie at a place
+each_set : {A : Type 0} (P : A → Type 0) (xs : List A) (k : ℕ) (x : A) → AllByRecursion P xs → P x → AllByRecursion P (slice_set xs k x)
+each_set P [] k x h p = tt
+each_set P (y ∷ xs) zero x h p = (p, h.1)
+each_set P (y ∷ xs) (suc k) x h p = (h.0, each_set P xs k x h.1 p)
+
+pub walks_set : (m : MovieSeen) (walks : List Walk) (k : ℕ) (next : Walk) → AreWalksOf m walks → IsWalkOf m next → AreWalksOf m (slice_set walks k next)
+walks_set m walks k next h w = record { each = each_set (IsWalkOf m) walks k next h.each w; count = length-set walks k next ∙ h.count }
 
 -- ---- when the first track begins
 

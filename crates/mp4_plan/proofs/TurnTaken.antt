@@ -61,7 +61,7 @@ unfolding more_of
 more_few p xs = prefix_few _ xs
 
 -- So many fewer are left behind it.
-count_behind : (lefts : List (List SampleAt)) (k n : ℕ) (left : List SampleAt) → slice_get lefts k ≡ Some left → n ≤ length left → left_count lefts - n ≡ left_count (slice_set lefts k (drop n left))
+pub count_behind : (lefts : List (List SampleAt)) (k n : ℕ) (left : List SampleAt) → slice_get lefts k ≡ Some left → n ≤ length left → left_count lefts - n ≡ left_count (slice_set lefts k (drop n left))
 count_behind lefts k n left e le =
     let a = count_set lefts k left (drop n left) e in
     let b = length-drop n left in
@@ -257,7 +257,7 @@ pub record TurnTakes (file : List ℕ) (infos : List TrackInfo) (s : Schedule) (
 abbrev pub TurnTaken : List ℕ → List TrackInfo → Schedule → List (List SampleAt) → List Coming → TrackInfo → List SampleAt → Type 0
 TurnTaken file infos s lefts comings info left = TurnTakes file infos s lefts comings info left (turn_end s info.timescale)
 
-few_left : (lefts : List (List SampleAt)) (k n : ℕ) (left : List SampleAt) → slice_get lefts k ≡ Some left → n ≤ length left → n ≤ left_count lefts
+pub few_left : (lefts : List (List SampleAt)) (k n : ℕ) (left : List SampleAt) → slice_get lefts k ≡ Some left → n ≤ length left → n ≤ left_count lefts
 few_left lefts k n left e le = let a = count_set lefts k left [] e in omega (arith, a, le)
 
 -- in the first track a turn takes samples, as the next one does not end its piece

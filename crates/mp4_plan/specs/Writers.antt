@@ -4,6 +4,7 @@ use Rattle.std.specs.List.{AllByRecursion, sum_by}
 use Rattle.mp4_store.specs.Device.{HasRisen}
 use Rattle.mp4_boxes.specs.declared.refusal.Refusal.{Refusal}
 use Rattle.mp4_boxes.specs.declared.refusal.Refusal.TheVariants as refusals
+use Rattle.mp4_boxes.specs.Written.{header_length}
 use Rattle.mp4_head.specs.Tree.{TrackTree}
 use Rattle.mp4_head.specs.Writing as written
 use Rattle.mp4_tables.specs.Groups.{GroupKey}
@@ -16,6 +17,7 @@ use Rattle.mp4_present.specs.OpenedMovie.{IsOpenedAs}
 use Rattle.mp4_present.specs.Presentation.{Presentation, heads, movie_length}
 use Rattle.mp4_present.specs.declared.walks.Walk.{Walk}
 use Rattle.mp4_tables.specs.declared.sample.SampleAt.{SampleAt}
+use Rattle.mp4_plan.specs.Sizes.{moof_sizes}
 use Rattle.mp4_plan.specs.Pieces.{Piece, pieces}
 use Rattle.mp4_plan.specs.Taken.{piece_front, row_seen}
 use Rattle.mp4_plan.specs.declared.moof_front.PieceHead.{PieceHead}
@@ -145,3 +147,8 @@ first_dts ((s ∷ samples) ∷ lefts) = s.dts
 pub record IsPlanOf (p : Presentation) (plan : Plan) : Type 0 where
   pub longest : plan.longest ≡ longest_piece (pieces p)
   pub len : plan.len ≡ length (pieces_bytes 1 (pieces p))
+  pub within : plan.len ≤ 2 ^ 57
+
+-- the bytes of a piece, by what was planned of it
+abbrev pub planned_length : Planned → List GroupKey → ℕ
+planned_length p keys = (moof_sizes p keys).moof + header_length p.bytes + p.bytes

@@ -137,6 +137,8 @@ pub(crate) fn plan_piece<S: Store, L: Ledger>(
     ensures unchanged { IsTrue (S.is_honest store.old) → (tree : FileTree) (t : TrackTree) (samples : List SampleAt) → IsOpenedAs (S.file store.old) movie.now tree → Comes (S.file store.old) tree t movie.now walk.old samples
         → length samples ≤ MOST_SAMPLES → IfErr result (λ r. r ≡ refusals.StoreChanged → ⊥) }
     ensures few { IfOk result (λ p. p.count ≤ MOST_SAMPLES) }
+    ensures rows { IfOk result (λ p. (j : ℕ) → slice_index p.group_rows j ≤ p.count) }
+    ensures bytes { IfOk result (λ p. p.bytes ≤ p.count * 4294967295) }
     ensures reads { OnOk result (S.read_failures store.new ≡ S.read_failures store.old) }
     ensures refusal { IfErr result (RefusesLoad (S.read_failures store.old) (S.read_failures store.new)) }
 {

@@ -1,5 +1,5 @@
 //! The normal form of a presentation, written.
-ghost use Rattle.std.specs.Prelude.{◌≡◌, ℕ, ◌+◌, ◌*◌, ◌^◌, ◌<◌, ◌≤◌, List, ◌++◌, length, take, drop, slice_index, slice_get, Some, None, IfOk, IfErr, OnOk, OnErr, IsTrue};
+ghost use Rattle.std.specs.Prelude.{◌≡◌, ℕ, ◌+◌, ◌*◌, ◌-◌, ◌^◌, ◌<◌, ◌≤◌, min, List, ◌++◌, length, take, drop, slice_index, slice_get, Some, None, IfOk, IfErr, OnOk, OnErr, IsTrue};
 ghost use Rattle.std.specs.Io.KnownBytes.{Appends};
 ghost use Rattle.std.specs.List.{AllByRecursion};
 ghost use Rattle.mp4_boxes.specs.Bytes.{sum_of};
@@ -20,7 +20,7 @@ ghost use Rattle.mp4_present.specs.Carried.{RefusesCarry};
 ghost use Rattle.mp4_present.specs.declared.walks.Walk.{Walk};
 ghost use Rattle.mp4_plan.specs.Gathering.{more_of, piece_from};
 ghost use Rattle.mp4_present.specs.Movies.{RefusesLoad};
-ghost use Rattle.mp4_plan.specs.Writers.{RefusesMemory, RefusesPlan, AreWalksOf, IsWriterOf, rooms, held, turn_head, sequence_behind, AllCome, AllBegin, first_dts, head_of_normal, IsReady, bytes_of_piece, turn_bytes, HasNoted, IsNoted, HaveCopied, IsPlanOf, WhereOpened};
+ghost use Rattle.mp4_plan.specs.Writers.{RefusesMemory, RefusesPlan, AreWalksOf, IsWriterOf, rooms, held, turn_head, sequence_behind, AllCome, AllBegin, first_dts, head_of_normal, IsReady, bytes_of_piece, turn_bytes, HasNoted, IsNoted, HaveCopied, IsPlanOf, WhereOpened, planned_length};
 
 use crate::courses::{Load, carry_piece, note_piece, peek_sample, plan_piece};
 use crate::moof_front::{PieceHead, moof_front};
@@ -76,6 +76,7 @@ fn walks_of(alloc: Global, movie: &Movie) -> Result<Vec<Walk>, Refusal>
     ensures walks { IfOk result (λ walks. AreWalksOf movie.now walks.items) }
     ensures rooms { IfOk result (λ walks. rooms walks.items ≡ length movie.now.tracks * movie.now.longest) }
     ensures begin { IfOk result (λ walks. (file : List ℕ) (tree : FileTree) → IsOpenedAs file movie.now tree → AllBegin file tree movie.now walks.items) }
+    ensures memory { IfErr result (λ r. r ≡ refusals.Memory) }
     ensures refusal { IfErr result RefusesMemory }
 {
     let mut walks = Vec::new(alloc);
@@ -111,8 +112,10 @@ fn first_time<S: Store, L: Ledger>(
     }
 }
 
-// The bytes of a piece: its `moof`, and its `mdat`.
-fn piece_len(planned: &Planned, keys: &Keys) -> u64 {
+// The bytes of a piece, as far as 64 bits go: its `moof`, and its `mdat`.
+fn piece_len(planned: &Planned, keys: &Keys) -> u64
+    ensures { result ≡ min (planned_length planned.now (keys_seen keys.now)) (2 ^ 64 - 1) }
+{
     let header = if planned.bytes < (1 << 32) - 8 { 8 } else { 16 };
     (sizes_of(planned, keys).moof + header).saturating_add(planned.bytes)
 }
@@ -122,7 +125,9 @@ impl Plan {
 
     // The plan with one more piece.
     fn add(&mut self, planned: &Planned, keys: &Keys)
-        ensures { self.new.longest ≡ max self.old.longest planned.now.count }
+        ensures longest { self.new.longest ≡ max self.old.longest planned.now.count }
+        ensures none { planned.now.count ≡ 0 → self.new.len ≡ self.old.len }
+        ensures some { 0 < planned.now.count → self.new.len ≡ min (self.old.len + planned_length planned.now (keys_seen keys.now)) (2 ^ 64 - 1) }
     {
         if planned.count > 0 {
             self.longest = self.longest.max(planned.count);

@@ -1,4 +1,4 @@
-use Rattle.std.proofs.Common.{rules, ◌≡◌, Some, None, refl, sym, ◌∙◌, length}
+use Rattle.std.proofs.Common.{rules, Some, None, refl, sym, ◌∙◌, length}
 use Rattle.std.proofs.lemmas.Result.{err_from_is_err_and}
 use Rattle.mp4_plan.proofs.Planning.{comes_there, some_walk, same_come, no_walks, begins_with}
 use Rattle.mp4_plan.proofs.writer.first_time.Goals as goal
