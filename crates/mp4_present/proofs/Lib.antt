@@ -17,8 +17,8 @@ pub mod Fronts
 pub mod FragmentReasons
 pub mod Counts
 pub mod ValidSamples
-pub mod DenotedValid
 pub mod PlacedTracks
+pub mod DenotedValid
 pub mod Vectors
 pub mod TopLevel
 pub mod Outlines
