@@ -1,4 +1,4 @@
-use Rattle.std.proofs.Common.{rules, ◌≡◌, ℕ, ◌≤◌, List, length, map, take, refl, sym, ap, subst, ◌∙◌, arith}
+use Rattle.std.proofs.Common.{get_or, rules, ◌≡◌, ℕ, ◌≤◌, List, length, map, take, refl, sym, ap, subst, ◌∙◌, arith}
 use Rattle.std.specs.Vec.{with_items}
 use Rattle.std.proofs.lemmas.List.{with_items_is}
 use Rattle.std.proofs.lemmas.Result.{err_from_is_err_and}
@@ -7,7 +7,9 @@ use Rattle.mp4_present.specs.Coming.{track_samples}
 use Rattle.mp4_present.specs.declared.track_info.TrackInfo.{TrackInfo}
 use Rattle.mp4_present.specs.declared.walks.Walk.{Walk}
 use Rattle.mp4_present.proofs.WalkCopied.{put_unchanged, on_ok, on_err, if_err}
-use Rattle.mp4_plan.specs.Writers.{AllCome}
+use Rattle.std.specs.Prelude.{Some, slice_get}
+use Rattle.mp4_plan.specs.Turns.{turn_end}
+use Rattle.mp4_plan.specs.Writers.{AllCome, rooms}
 use Rattle.mp4_plan.proofs.CarriedParts.{read_at}
 use Rattle.mp4_plan.proofs.PieceWritten.{IsFew}
 use Rattle.mp4_plan.proofs.TurnTaken.{turns_end}
@@ -41,7 +43,13 @@ loop-turn-init g c =
     let walks = with_items_is w.planning c.first_time.new.walks many in
     record {
       writer = record { planning = rw walks come; copying = c.requires.copying; few = c.requires.few };
-      held = ?;
+      held =
+          let room = c.in_ok-carry.ensures.room in
+          let old = w.carrier.buffer.ok.0 in
+          let new = c.carry.new.self.buffer.ok.0 in
+          let rooms_are = c.in_ok-from.ensures.rooms in
+          let planning = ap rooms walks ∙ rooms_are ∙ ap rooms c.as_mut_slice.ensures.value in
+          omega (arith, room, old, new, planning);
       tracks = rw c.tracks-tracks.ensures at c.new-schedule.ensures.tracks;
       honesty = c.in_ok-from.ensures.honesty;
       file = c.in_ok-from.ensures.file;
@@ -82,7 +90,7 @@ returns-in_err-noted-clause-unchanged g c told tree o ready =
     let before = g.K.Sink.contents c.args.sink.now in
     let after = g.K.Sink.contents c.loop-turn.sink in
     let here = c.in-Some.ensures.track in
-    let ends = λ (info : TrackInfo) is. c.in-Some.ensures.end info (rw c.tracks-tracks.ensures is) in
+    let ends : (info : TrackInfo) → slice_get m.tracks s.track ≡ Some info → c.in-Some.turn.end ≡ turn_end s info.timescale = λ info is. c.in-Some.ensures.end info (rw c.tracks-tracks.ensures is) in
     rw (e.1, e.2) (note_lacks file tree m o s c.loop-turn.sequence w before after h c.in-Some.turn here ends i.tracks i.writer _ ((rw (i.honesty, i.file) at c.in_err-noted.ensures.unchanged) told tree o))
 
 pub returns-in_err-carry_turn-clause-prefix : goal.returns-in_err-carry_turn-clause-prefix
@@ -97,11 +105,11 @@ returns-in_err-carry_turn-clause-prefix g c told tree o ready =
     let before = g.K.Sink.contents c.args.sink.now in
     let after = g.K.Sink.contents c.loop-turn.sink in
     let here = c.in-Some.ensures.track in
-    let ends = λ (info : TrackInfo) is. c.in-Some.ensures.end info (rw c.tracks-tracks.ensures is) in
+    let ends : (info : TrackInfo) → slice_get m.tracks s.track ≡ Some info → c.in-Some.turn.end ≡ turn_end s info.timescale = λ info is. c.in-Some.ensures.end info (rw c.tracks-tracks.ensures is) in
     let noted = (rw (i.honesty, i.file) at c.in_ok-noted.ensures.noted) told tree o in
     let few : IsFew c.in_ok-noted.noted.planned = record { count = (let n = c.in_ok-noted.ensures.few.0 in let r = i.writer.few in omega (arith, n, r)); rows = c.in_ok-noted.ensures.few.2 } in
-    let is_id = λ (info : TrackInfo) is. ap (λ (x : TrackInfo). x.id) (read_at m.tracks s.track info c.index-tracks-turn.result is (rw (here.0, c.tracks-tracks.ensures) at c.index-tracks-turn.is)) in
-    rw e.1 (carry_stops file tree m o s c.loop-turn.sequence w before after h c.in-Some.turn here ends i.tracks i.writer c.note_turn.new.self c.in_ok-noted.noted c.index-tracks-turn.result.id noted c.in_ok-noted.ensures.keeps few is_id (g.K.Sink.contents c.carry_turn.new.sink) ((rw (c.in_ok-noted.ensures.honesty, c.in_ok-noted.ensures.file, i.honesty, i.file) at c.in_err-carry_turn.ensures.prefix) told tree o))
+    let is_id : (info : TrackInfo) → slice_get m.tracks s.track ≡ Some info → (get_or c.tracks-tracks.result.now c.in-Some.turn.track c.index-tracks-turn.result).id ≡ info.id = λ info is. ap (λ (x : TrackInfo). x.id) (sym c.index-tracks-turn.is ∙ read_at m.tracks s.track info c.index-tracks-turn.result is (rw (here.0, c.tracks-tracks.ensures) at c.index-tracks-turn.is)) in
+    rw e.1 (carry_stops file tree m o s c.loop-turn.sequence w before after h c.in-Some.turn here ends i.tracks i.writer c.note_turn.new.self c.in_ok-noted.noted (get_or c.tracks-tracks.result.now c.in-Some.turn.track c.index-tracks-turn.result).id noted c.in_ok-noted.ensures.keeps few is_id (g.K.Sink.contents c.carry_turn.new.sink) ((rw (c.in_ok-noted.ensures.honesty, c.in_ok-noted.ensures.file, i.honesty, i.file) at c.in_err-carry_turn.ensures.prefix) told tree o))
 
 pub returns-in_err-carry_turn-clause-unchanged : goal.returns-in_err-carry_turn-clause-unchanged
 returns-in_err-carry_turn-clause-unchanged g c told tree o ready =
@@ -115,11 +123,11 @@ returns-in_err-carry_turn-clause-unchanged g c told tree o ready =
     let before = g.K.Sink.contents c.args.sink.now in
     let after = g.K.Sink.contents c.loop-turn.sink in
     let here = c.in-Some.ensures.track in
-    let ends = λ (info : TrackInfo) is. c.in-Some.ensures.end info (rw c.tracks-tracks.ensures is) in
+    let ends : (info : TrackInfo) → slice_get m.tracks s.track ≡ Some info → c.in-Some.turn.end ≡ turn_end s info.timescale = λ info is. c.in-Some.ensures.end info (rw c.tracks-tracks.ensures is) in
     let noted = (rw (i.honesty, i.file) at c.in_ok-noted.ensures.noted) told tree o in
     let few : IsFew c.in_ok-noted.noted.planned = record { count = (let n = c.in_ok-noted.ensures.few.0 in let r = i.writer.few in omega (arith, n, r)); rows = c.in_ok-noted.ensures.few.2 } in
-    let is_id = λ (info : TrackInfo) is. ap (λ (x : TrackInfo). x.id) (read_at m.tracks s.track info c.index-tracks-turn.result is (rw (here.0, c.tracks-tracks.ensures) at c.index-tracks-turn.is)) in
-    rw (e.1, e.2) (carry_lacks file tree m o s c.loop-turn.sequence w before after h c.in-Some.turn here ends i.tracks i.writer c.note_turn.new.self c.in_ok-noted.noted c.index-tracks-turn.result.id noted c.in_ok-noted.ensures.keeps few is_id _ ((rw (c.in_ok-noted.ensures.honesty, c.in_ok-noted.ensures.file, i.honesty, i.file) at c.in_err-carry_turn.ensures.unchanged) told tree o))
+    let is_id : (info : TrackInfo) → slice_get m.tracks s.track ≡ Some info → (get_or c.tracks-tracks.result.now c.in-Some.turn.track c.index-tracks-turn.result).id ≡ info.id = λ info is. ap (λ (x : TrackInfo). x.id) (sym c.index-tracks-turn.is ∙ read_at m.tracks s.track info c.index-tracks-turn.result is (rw (here.0, c.tracks-tracks.ensures) at c.index-tracks-turn.is)) in
+    rw (e.1, e.2) (carry_lacks file tree m o s c.loop-turn.sequence w before after h c.in-Some.turn here ends i.tracks i.writer c.note_turn.new.self c.in_ok-noted.noted (get_or c.tracks-tracks.result.now c.in-Some.turn.track c.index-tracks-turn.result).id noted c.in_ok-noted.ensures.keeps few is_id _ ((rw (c.in_ok-noted.ensures.honesty, c.in_ok-noted.ensures.file, i.honesty, i.file) at c.in_err-carry_turn.ensures.unchanged) told tree o))
 
 pub returns-in_err-pass-clause-prefix : goal.returns-in_err-pass-clause-prefix
 returns-in_err-pass-clause-prefix g c told tree o ready =
@@ -133,13 +141,13 @@ returns-in_err-pass-clause-prefix g c told tree o ready =
     let before = g.K.Sink.contents c.args.sink.now in
     let after = g.K.Sink.contents c.loop-turn.sink in
     let here = c.in-Some.ensures.track in
-    let ends = λ (info : TrackInfo) is. c.in-Some.ensures.end info (rw c.tracks-tracks.ensures is) in
+    let ends : (info : TrackInfo) → slice_get m.tracks s.track ≡ Some info → c.in-Some.turn.end ≡ turn_end s info.timescale = λ info is. c.in-Some.ensures.end info (rw c.tracks-tracks.ensures is) in
     let noted = (rw (i.honesty, i.file) at c.in_ok-noted.ensures.noted) told tree o in
     let few : IsFew c.in_ok-noted.noted.planned = record { count = (let n = c.in_ok-noted.ensures.few.0 in let r = i.writer.few in omega (arith, n, r)); rows = c.in_ok-noted.ensures.few.2 } in
-    let is_id = λ (info : TrackInfo) is. ap (λ (x : TrackInfo). x.id) (read_at m.tracks s.track info c.index-tracks-turn.result is (rw (here.0, c.tracks-tracks.ensures) at c.index-tracks-turn.is)) in
+    let is_id : (info : TrackInfo) → slice_get m.tracks s.track ≡ Some info → (get_or c.tracks-tracks.result.now c.in-Some.turn.track c.index-tracks-turn.result).id ≡ info.id = λ info is. ap (λ (x : TrackInfo). x.id) (sym c.index-tracks-turn.is ∙ read_at m.tracks s.track info c.index-tracks-turn.result is (rw (here.0, c.tracks-tracks.ensures) at c.index-tracks-turn.is)) in
     let put = (rw (c.in_ok-noted.ensures.honesty, c.in_ok-noted.ensures.file, i.honesty, i.file) at c.in_ok-carry_turn.ensures.put) told tree o in
     let copied = (rw (c.in_ok-noted.ensures.honesty, c.in_ok-noted.ensures.file, i.honesty, i.file) at c.in_ok-carry_turn.ensures.copied) told tree o in
-    let on = turn_goes file tree m o s c.loop-turn.sequence w before after h c.in-Some.turn here ends i.tracks i.writer c.note_turn.new.self c.in_ok-noted.noted c.index-tracks-turn.result.id noted c.in_ok-noted.ensures.keeps few is_id c.carry_turn.new.self (g.K.Sink.contents c.carry_turn.new.sink) _ put copied c.in_ok-carry_turn.ensures.keeps refl in
+    let on = turn_goes file tree m o s c.loop-turn.sequence w before after h c.in-Some.turn here ends i.tracks i.writer c.note_turn.new.self c.in_ok-noted.noted (get_or c.tracks-tracks.result.now c.in-Some.turn.track c.index-tracks-turn.result).id noted c.in_ok-noted.ensures.keeps few is_id c.carry_turn.new.self (g.K.Sink.contents c.carry_turn.new.sink) _ put copied c.in_ok-carry_turn.ensures.keeps refl in
     rw e.1 (stopped file tree m _ _ _ _ _ _ _ _ on)
 
 pub returns-in_err-pass-clause-unchanged : goal.returns-in_err-pass-clause-unchanged
@@ -154,11 +162,11 @@ returns-in_err-pass-clause-unchanged g c told tree o ready =
     let before = g.K.Sink.contents c.args.sink.now in
     let after = g.K.Sink.contents c.loop-turn.sink in
     let here = c.in-Some.ensures.track in
-    let ends = λ (info : TrackInfo) is. c.in-Some.ensures.end info (rw c.tracks-tracks.ensures is) in
+    let ends : (info : TrackInfo) → slice_get m.tracks s.track ≡ Some info → c.in-Some.turn.end ≡ turn_end s info.timescale = λ info is. c.in-Some.ensures.end info (rw c.tracks-tracks.ensures is) in
     let noted = (rw (i.honesty, i.file) at c.in_ok-noted.ensures.noted) told tree o in
     let few : IsFew c.in_ok-noted.noted.planned = record { count = (let n = c.in_ok-noted.ensures.few.0 in let r = i.writer.few in omega (arith, n, r)); rows = c.in_ok-noted.ensures.few.2 } in
-    let is_id = λ (info : TrackInfo) is. ap (λ (x : TrackInfo). x.id) (read_at m.tracks s.track info c.index-tracks-turn.result is (rw (here.0, c.tracks-tracks.ensures) at c.index-tracks-turn.is)) in
-    rw (e.1, e.2) (λ r. pass_lacks file tree m o s c.loop-turn.sequence w before after h c.in-Some.turn here ends i.tracks i.writer c.note_turn.new.self c.in_ok-noted.noted c.index-tracks-turn.result.id noted c.in_ok-noted.ensures.keeps few is_id c.in_err-pass.ensures.refusal.1)
+    let is_id : (info : TrackInfo) → slice_get m.tracks s.track ≡ Some info → (get_or c.tracks-tracks.result.now c.in-Some.turn.track c.index-tracks-turn.result).id ≡ info.id = λ info is. ap (λ (x : TrackInfo). x.id) (sym c.index-tracks-turn.is ∙ read_at m.tracks s.track info c.index-tracks-turn.result is (rw (here.0, c.tracks-tracks.ensures) at c.index-tracks-turn.is)) in
+    rw (e.1, e.2) (λ r. pass_lacks file tree m o s c.loop-turn.sequence w before after h c.in-Some.turn here ends i.tracks i.writer c.note_turn.new.self c.in_ok-noted.noted (get_or c.tracks-tracks.result.now c.in-Some.turn.track c.index-tracks-turn.result).id noted c.in_ok-noted.ensures.keeps few is_id c.in_err-pass.ensures.refusal.1)
 
 pub loop-turn-preserved : goal.loop-turn-preserved
 loop-turn-preserved g c =
@@ -181,13 +189,13 @@ loop-turn-preserved g c =
           let before = g.K.Sink.contents c.args.sink.now in
           let after = g.K.Sink.contents c.loop-turn.sink in
           let here = c.in-Some.ensures.track in
-          let ends = λ (info : TrackInfo) is. c.in-Some.ensures.end info (rw c.tracks-tracks.ensures is) in
+          let ends : (info : TrackInfo) → slice_get m.tracks s.track ≡ Some info → c.in-Some.turn.end ≡ turn_end s info.timescale = λ info is. c.in-Some.ensures.end info (rw c.tracks-tracks.ensures is) in
           let noted = (rw (i.honesty, i.file) at c.in_ok-noted.ensures.noted) told tree o in
           let few : IsFew c.in_ok-noted.noted.planned = record { count = (let n = c.in_ok-noted.ensures.few.0 in let r = i.writer.few in omega (arith, n, r)); rows = c.in_ok-noted.ensures.few.2 } in
-          let is_id = λ (info : TrackInfo) is. ap (λ (x : TrackInfo). x.id) (read_at m.tracks s.track info c.index-tracks-turn.result is (rw (here.0, c.tracks-tracks.ensures) at c.index-tracks-turn.is)) in
+          let is_id : (info : TrackInfo) → slice_get m.tracks s.track ≡ Some info → (get_or c.tracks-tracks.result.now c.in-Some.turn.track c.index-tracks-turn.result).id ≡ info.id = λ info is. ap (λ (x : TrackInfo). x.id) (sym c.index-tracks-turn.is ∙ read_at m.tracks s.track info c.index-tracks-turn.result is (rw (here.0, c.tracks-tracks.ensures) at c.index-tracks-turn.is)) in
           let put = (rw (c.in_ok-noted.ensures.honesty, c.in_ok-noted.ensures.file, i.honesty, i.file) at c.in_ok-carry_turn.ensures.put) told tree o in
           let copied = (rw (c.in_ok-noted.ensures.honesty, c.in_ok-noted.ensures.file, i.honesty, i.file) at c.in_ok-carry_turn.ensures.copied) told tree o in
-          rw c.sequence_behind-sequence.ensures (turn_goes file tree m o s c.loop-turn.sequence w before after h c.in-Some.turn here ends i.tracks i.writer c.note_turn.new.self c.in_ok-noted.noted c.index-tracks-turn.result.id noted c.in_ok-noted.ensures.keeps few is_id c.carry_turn.new.self (g.K.Sink.contents c.carry_turn.new.sink) c.pass.new.self put copied c.in_ok-carry_turn.ensures.keeps c.in_ok-pass.ensures.turned);
+          rw c.sequence_behind-sequence.ensures (turn_goes file tree m o s c.loop-turn.sequence w before after h c.in-Some.turn here ends i.tracks i.writer c.note_turn.new.self c.in_ok-noted.noted (get_or c.tracks-tracks.result.now c.in-Some.turn.track c.index-tracks-turn.result).id noted c.in_ok-noted.ensures.keeps few is_id c.carry_turn.new.self (g.K.Sink.contents c.carry_turn.new.sink) c.pass.new.self put copied c.in_ok-carry_turn.ensures.keeps c.in_ok-pass.ensures.turned);
     }
 
 pub returns-clause-bytes : goal.returns-clause-bytes
@@ -200,7 +208,7 @@ returns-clause-bytes g c told tree o ready =
     let h = i.on told tree o ready in
     let before = g.K.Sink.contents c.args.sink.now in
     let after = g.K.Sink.contents c.loop-turn.sink in
-    let none = turns_end file m.tracks s h.lefts h.comings h.turn (c.in_default.ensures.none ?) in
+    let none = turns_end file m.tracks s h.lefts h.comings h.turn (c.in_default.ensures.none refl) in
     on_ok _ _ c.flush.result (λ x. all_put file tree m s c.loop-turn.sequence w.planning.items w.copying.items (length w.rows.items) before after (waiting w.carrier) h _ none x) c.flush.ensures.bytes
 
 pub returns-clause-prefix : goal.returns-clause-prefix
@@ -213,7 +221,7 @@ returns-clause-prefix g c told tree o ready =
     let h = i.on told tree o ready in
     let before = g.K.Sink.contents c.args.sink.now in
     let after = g.K.Sink.contents c.loop-turn.sink in
-    let none = turns_end file m.tracks s h.lefts h.comings h.turn (c.in_default.ensures.none ?) in
+    let none = turns_end file m.tracks s h.lefts h.comings h.turn (c.in_default.ensures.none refl) in
     on_err _ _ c.flush.result (λ x. not_all_put file tree m s c.loop-turn.sequence w.planning.items w.copying.items (length w.rows.items) before after (waiting w.carrier) h _ none x) c.flush.ensures.prefix
 
 pub returns-clause-unchanged : goal.returns-clause-unchanged
