@@ -1,5 +1,5 @@
 -- The parts of a piece that a writer takes along are what is written of it.
-use Rattle.std.proofs.Common.{◌≡◌, ℕ, zero, suc, ◌<◌, List, [], ◌∷◌, ◌++◌, Some, map, refl, sym, ap, ◌∙◌, arith}
+use Rattle.std.proofs.Common.{◌≡◌, ℕ, zero, suc, List, [], ◌∷◌, ◌++◌, Some, ap, ◌∙◌}
 use Rattle.std.specs.Prelude.{slice_get, slice_set, slice_index_or, codes, Result, Ok, Err, OnOk, drop}
 use Rattle.mp4_boxes.specs.Written.{header_bytes}
 use Rattle.mp4_head.specs.Tree.{TrackTree}

@@ -1,5 +1,5 @@
 -- Five parts that are taken along one after the other: four in front, and what lies behind them.
-use Rattle.std.proofs.Common.{◌≡◌, ℕ, List, ◌++◌, refl, sym, ap, ◌∙◌, append_assoc}
+use Rattle.std.proofs.Common.{◌≡◌, ℕ, List, ◌++◌, refl, ◌∙◌, append_assoc}
 use Rattle.std.specs.Prelude.{Option}
 use Rattle.mp4_store.specs.Device.{AppendsPrefix}
 use Rattle.mp4_present.specs.Carried.{BytesGoOn}

@@ -1,6 +1,6 @@
 -- One turn of the writer, by what its steps promise.
-use Rattle.std.proofs.Common.{◌≡◌, ℕ, ◌+◌, ◌<◌, ◌≤◌, List, ◌++◌, length, take, drop, Some, None, refl, sym, ap, subst, ◌∙◌, slice_set}
-use Rattle.std.specs.Prelude.{Option, map, slice_get}
+use Rattle.std.proofs.Common.{◌≡◌, ℕ, ◌<◌, ◌≤◌, List, ◌++◌, length, take, drop, Some, None, sym, ap, subst, ◌∙◌, slice_set}
+use Rattle.std.specs.Prelude.{Option, slice_get}
 use Rattle.std.specs.List.{AllByRecursion}
 use Rattle.mp4_boxes.specs.Bytes.{sum_of}
 use Rattle.mp4_head.specs.Tree.{TrackTree}
@@ -120,6 +120,6 @@ module _ (file : List ℕ) (tree : FileTree) (m : MovieSeen) (o : IsOpenedAs fil
         let schedule : turned s end n.planned.count (slice_get (samples_after (piece_from end) at.left) 0) ≡ later = (λ i. turned s (sym end_is i) n.planned.count (sym next_is i)) ∙ sym is in
         subst (λ (k : ℕ). WritesOn file tree m later (sequence_behind sequence n.head) w2.planning.items w2.copying.items k before last (waiting w2.carrier)) rows
         (subst (λ (ws : List Walk). WritesOn file tree m later (sequence_behind sequence n.head) w2.planning.items ws (length w.rows.items) before last (waiting w2.carrier)) copy
-            (subst (λ (ws : List Walk). WritesOn file tree m later (sequence_behind sequence n.head) ws (slice_set w.copying.items s.track x.0) (length w.rows.items) before last (waiting w2.carrier)) plan
-                (subst (λ (k : ℕ). WritesOn file tree m later k (slice_set w.planning.items s.track it.walk) (slice_set w.copying.items s.track x.0) (length w.rows.items) before last (waiting w2.carrier)) number
-                    (subst (λ (r : Schedule). WritesOn file tree m r (sequence_behind sequence (turn_head sequence at.info.id n.planned.count (slice_get at.left 0))) (slice_set w.planning.items s.track it.walk) (slice_set w.copying.items s.track x.0) (length w.rows.items) before last (waiting w2.carrier)) schedule on))))
+        (subst (λ (ws : List Walk). WritesOn file tree m later (sequence_behind sequence n.head) ws (slice_set w.copying.items s.track x.0) (length w.rows.items) before last (waiting w2.carrier)) plan
+        (subst (λ (k : ℕ). WritesOn file tree m later k (slice_set w.planning.items s.track it.walk) (slice_set w.copying.items s.track x.0) (length w.rows.items) before last (waiting w2.carrier)) number
+        (subst (λ (r : Schedule). WritesOn file tree m r (sequence_behind sequence (turn_head sequence at.info.id n.planned.count (slice_get at.left 0))) (slice_set w.planning.items s.track it.walk) (slice_set w.copying.items s.track x.0) (length w.rows.items) before last (waiting w2.carrier)) schedule on))))

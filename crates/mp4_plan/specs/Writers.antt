@@ -22,7 +22,6 @@ use Rattle.mp4_plan.specs.Pieces.{Piece, pieces}
 use Rattle.mp4_plan.specs.Taken.{piece_front, row_seen}
 use Rattle.mp4_plan.specs.declared.moof_front.PieceHead.{PieceHead}
 use Rattle.mp4_plan.specs.declared.planner.Planned.{Planned}
-use Rattle.mp4_plan.specs.declared.rows.Row.{Row}
 use Rattle.mp4_plan.specs.Gathering.{planned_of, piece_fed, piece_from, samples_after}
 use Rattle.mp4_plan.specs.declared.schedule.Turn.{Turn}
 use Rattle.mp4_plan.specs.declared.writer.Noted.{Noted}

@@ -8,7 +8,6 @@ use Rattle.mp4_plan.proofs.RunsResumed.{written_more, written_all}
 use Rattle.std.proofs.lemmas.Result.{err_from_is_err_and}
 use Rattle.std.proofs.Common.{sym, ap}
 use Rattle.std.proofs.lemmas.Grind.{flat_map-append}
-use Rattle.mp4_plan.specs.Normal.{longest_runs}
 use Rattle.mp4_plan.proofs.FrontsPut.{stopped_last}
 use Rattle.mp4_plan.proofs.RunsResumed.{index_first}
 use Rattle.mp4_plan.proofs.moof_rows.carry_indexes.Goals as goal

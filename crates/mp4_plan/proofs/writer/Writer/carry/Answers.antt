@@ -1,13 +1,10 @@
-use Rattle.std.proofs.Common.{get_or, ℕ, ◌≤◌, ◌^◌, List, ◌++◌, take, map, refl, sym, ap, subst, ◌∙◌, arith}
+use Rattle.std.proofs.Common.{get_or, ℕ, List, take, map, refl, sym, ap, subst, ◌∙◌, arith}
 use Rattle.std.specs.Prelude.{codes}
 use Rattle.std.specs.Vec.{with_item}
 use Rattle.std.proofs.lemmas.Result.{err_from_is_err_and}
 use Rattle.mp4_boxes.specs.Written.{header_bytes}
-use Rattle.mp4_store.specs.Device.{AppendsPrefix}
 use Rattle.mp4_tables.specs.Keys.{keys_seen}
-use Rattle.mp4_tables.specs.declared.sample.SampleAt.{SampleAt}
 use Rattle.mp4_present.specs.Coming.{Comes}
-use Rattle.mp4_present.specs.Denotes.{FileTree}
 use Rattle.mp4_present.specs.Joined.{sample_bytes}
 use Rattle.mp4_present.specs.declared.track_info.TrackInfo.{TrackInfo}
 use Rattle.mp4_present.specs.declared.walks.Walk.{Walk}
@@ -122,9 +119,9 @@ returns-clause-copied g c told_honest tree o samples =
     let file = g.S.Store.file c.args.store.now in
     let walks = c.args.self.now.copying.items in
     copied_from c.carry_piece.result file tree c.args.movie.now c.args.track c.args.planned.now.count samples c.args.self.now (record c.args.self.now { carrier = c.carry_piece.new.carrier; copying = with_item c.args.self.now.copying c.args.track c.carry_piece.new.walk }) c.carry_piece.new.walk refl (λ t walk is comes.
-        let same = read_at walks c.args.track walk c.index_mut-walk.result.now is c.index_mut-walk.ensures.value in
-        let own = subst (λ (w : Walk). Comes file tree t c.args.movie.now w samples) (sym same) comes in
-        on_ok _ _ c.carry_piece.result (λ x. x.1) (c.carry_piece.ensures.carried told_honest tree t samples o own))
+    let same = read_at walks c.args.track walk c.index_mut-walk.result.now is c.index_mut-walk.ensures.value in
+    let own = subst (λ (w : Walk). Comes file tree t c.args.movie.now w samples) (sym same) comes in
+    on_ok _ _ c.carry_piece.result (λ x. x.1) (c.carry_piece.ensures.carried told_honest tree t samples o own))
 
 pub returns-clause-unchanged : goal.returns-clause-unchanged
 returns-clause-unchanged g c told_honest tree o samples noted_are few bytes lie =

@@ -1,11 +1,10 @@
-use Rattle.std.proofs.Common.{rules, ◌≡◌, ℕ, List, length, take, refl, sym, ap, subst, ◌∙◌}
+use Rattle.std.proofs.Common.{rules, ◌≡◌, length, take, refl, sym, ap, subst, ◌∙◌}
 use Rattle.std.proofs.lemmas.List.{with_items_is}
 use Rattle.std.proofs.lemmas.Result.{err_from_is_err_and}
 use Rattle.mp4_present.specs.Coming.{Comes}
 use Rattle.mp4_present.specs.declared.walks.Walk.{Walk}
-use Rattle.mp4_plan.specs.Gathering.{piece_from, samples_after, more_of}
+use Rattle.mp4_plan.specs.Gathering.{piece_from, samples_after}
 use Rattle.mp4_plan.specs.Writers.{turn_head}
-use Rattle.mp4_plan.specs.declared.rows.Row.{Row}
 use Rattle.mp4_plan.proofs.CarriedParts.{read_at}
 use Rattle.mp4_plan.proofs.writer.Writer.note_turn.Goals as goal
 

@@ -17,8 +17,8 @@ invariant-loop-turn g l = record {
   puts : g.K.Sink.put_failures l.sink ≡ g.K.Sink.put_failures l.fn.sink;
   rows : length l.self.rows.items ≡ length l.fn.self.rows.items;
   on : WhereOpened (g.S.Store.is_honest l.fn.store) (g.S.Store.file l.fn.store) l.movie
-    (λ tree. IsReady (g.S.Store.file l.fn.store) tree l.movie l.fn.self
-        → WritesOn (g.S.Store.file l.fn.store) tree l.movie l.schedule l.sequence l.self.planning.items l.self.copying.items (length l.self.rows.items) (g.K.Sink.contents l.fn.sink) (g.K.Sink.contents l.sink) (waiting l.self.carrier));
+      (λ tree. IsReady (g.S.Store.file l.fn.store) tree l.movie l.fn.self
+      → WritesOn (g.S.Store.file l.fn.store) tree l.movie l.schedule l.sequence l.self.planning.items l.self.copying.items (length l.self.rows.items) (g.K.Sink.contents l.fn.sink) (g.K.Sink.contents l.sink) (waiting l.self.carrier));
 }
 
 abbrev pub decreases-loop-turn : goal.decreases-loop-turn
