@@ -1,13 +1,17 @@
 -- The bytes of a piece, taken along over the `moof`s that its samples are in.
-use Rattle.std.proofs.Common.{◌≡◌, ℕ, ◌+◌, ◌<◌, Bool, true, false, List, [], ◌++◌, length, take, drop, refl, sym, ap, subst, ◌∙◌, append_assoc, length-append, arith}
+use Rattle.std.proofs.Common.{◌≡◌, ℕ, zero, suc, ◌-◌, ◌≤◌, Bool, true, false, List, [], ◌∷◌, ◌++◌, length, take, drop, refl, sym, ap, subst, ◌∙◌, append_assoc, length-append, arith}
 use Rattle.std.specs.Prelude.{Option}
+use Rattle.std.specs.List.{AllByRecursion}
 use Rattle.std.proofs.lemmas.Grind.{flat_map-append}
-use Rattle.std.proofs.lemmas.List.{take_at, drop_at}
+use Rattle.std.proofs.lemmas.List.{take_at, drop_at, append-nil}
+use Rattle.std.proofs.Math.Seq.{take-nil}
+use Rattle.mp4_boxes.proofs.Joined.{all_first}
+use Rattle.mp4_store.specs.Device.{AppendsPrefix}
 use Rattle.mp4_tables.specs.declared.sample.SampleAt.{SampleAt}
 use Rattle.mp4_frag.specs.Fragments.{FragmentTree}
 use Rattle.mp4_head.specs.Tree.{TrackTree}
 use Rattle.mp4_present.specs.Carried.{BytesGoOn}
-use Rattle.mp4_present.specs.Joined.{sample_bytes}
+use Rattle.mp4_present.specs.Joined.{IsBelow, sample_bytes}
 use Rattle.mp4_present.specs.Denotes.{FileTree}
 use Rattle.mp4_present.specs.Coming.{Comes, Loads, StandsBefore, samples_behind}
 use Rattle.mp4_present.specs.InHand.{Follows, IsPlaceOf, left_in_hand}
@@ -17,10 +21,12 @@ use Rattle.mp4_present.specs.declared.in_hand.InHand.{InHand}
 use Rattle.mp4_present.specs.declared.in_hand.Place.{Place}
 use Rattle.mp4_present.specs.declared.walks.Walk.{Walk}
 use Rattle.mp4_present.proofs.Carrying.{BytesGoOn-then}
-use Rattle.mp4_plan.specs.HandsFed.{BytesCarried}
+use Rattle.mp4_present.proofs.Counts.{sum-append}
+use Rattle.mp4_present.proofs.Hands.{bytes_of_two}
+use Rattle.mp4_plan.specs.HandsFed.{BytesCarried, sizes_of}
 use Rattle.mp4_plan.specs.declared.courses.Load.{Load}
-use Rattle.mp4_plan.proofs.HandsCarried.{carried_none}
-use Rattle.mp4_plan.proofs.WalksOn.{hand_first, loads_on, kept_coming}
+use Rattle.mp4_plan.proofs.HandsCarried.{carried_front, carried_fails, load_is, next_below}
+use Rattle.mp4_plan.proofs.WalksOn.{hand_first, loads_on, loads_none, kept_coming}
 
 -- The bytes of some samples that were to come are taken along, and the others still come.
 abbrev pub CarriesOn : List ℕ → MovieSeen → Walk → Walk → Option (List ℕ) → Option (List ℕ) → List ℕ → List ℕ → Load → Load → Type 0
@@ -32,7 +38,7 @@ CarriesOn file m begun w before after held held_after load left =
 pub carried_behind : (file : List ℕ) (a b : Option (List ℕ)) (held held_b : List ℕ) (all to_come behind : List SampleAt) (load left : Load) → BytesCarried file a b held held_b all to_come load left
     → BytesCarried file a b held held_b (all ++ behind) (to_come ++ behind) load left
 carried_behind file a b held held_b all to_come behind load left h =
-    record { done = h.done; whole = ap (λ (ss : List SampleAt). ss ++ behind) h.whole ∙ append_assoc h.done to_come behind; count = h.count; bytes = h.bytes }
+    record { done = h.done; whole = ap (λ (ss : List SampleAt). ss ++ behind) h.whole ∙ append_assoc h.done to_come behind; count = h.count; sizes = h.sizes; bytes = h.bytes }
 
 -- one after the other
 pub carried_on : (file : List ℕ) (a b c : Option (List ℕ)) (held held_b held_c : List ℕ) (all rest later : List SampleAt) (load left next : Load) → BytesCarried file a b held held_b all rest load left
@@ -40,10 +46,13 @@ pub carried_on : (file : List ℕ) (a b c : Option (List ℕ)) (held held_b held
 carried_on file a b c held held_b held_c all rest later load left next p q =
     let m = p.count in
     let n = q.count in
+    let x = p.sizes in
+    let y = q.sizes in
     record {
       done = p.done ++ q.done;
       whole = p.whole ∙ ap (λ (ss : List SampleAt). p.done ++ ss) q.whole ∙ sym (append_assoc p.done q.done later);
       count = omega (arith, m, n, length-append p.done q.done);
+      sizes = omega (arith, x, y, sum-append (λ (s : SampleAt). s.size) p.done q.done);
       bytes = BytesGoOn-then a b c held held_b held_c (sample_bytes file p.done) (sample_bytes file q.done) (sample_bytes file (p.done ++ q.done)) p.bytes q.bytes (flat_map-append _ p.done q.done);
     }
 
@@ -90,3 +99,84 @@ next_carried file m begun w next a b held held_b load left hand more on is_hand 
     let u = on tree t samples o h in
     let k = u.1.0 in
     (u.0, (loads_on file m tree t w next u.0 k hand is_hand none more e (loads tree t k.0 k.1 o k.3.0), u.1.1))
+
+-- ---- where not all are taken along
+
+-- the first of two lists
+take_of_two : {A : Type 0} (n : ℕ) (xs ys : List A) → take n (xs ++ ys) ≡ take n xs ++ take (n - length xs) ys
+take_of_two n [] ys = let e : n - 0 ≡ n = omega arith in λ i. sym (take-nil n) i ++ take (sym e i) ys
+take_of_two zero (x ∷ xs) ys = let e : 0 - suc (length xs) ≡ 0 = omega arith in sym (ap (λ k. take k ys) e)
+take_of_two (suc n) (x ∷ xs) ys = let e : suc n - suc (length xs) ≡ n - length xs = omega arith in ap (λ l. x ∷ l) (take_of_two n xs ys) ∙ sym (ap (λ k. x ∷ take n xs ++ take k ys) e)
+
+-- what was put so far is a front of the bytes of the samples that were to be taken along
+pub front_carried : (file : List ℕ) (m : MovieSeen) (begun w : Walk) (a b : Option (List ℕ)) (held held_b : List ℕ) (load left : Load) → CarriesOn file m begun w a b held held_b load left
+    → (tree : FileTree) (t : TrackTree) (samples : List SampleAt) → IsOpenedAs file m tree → Comes file tree t m begun samples → AppendsPrefix a b (held ++ sample_bytes file (take load.samples samples))
+front_carried file m begun w a b held held_b load left on tree t samples o h = let u = on tree t samples o h in carried_front file a b held held_b samples u.0 load left u.1.1
+
+-- the bytes of those in hand are not taken along whole
+pub hand_fails : (file : List ℕ) (m : MovieSeen) (begun w : Walk) (a b c : Option (List ℕ)) (held held_b : List ℕ) (load left : Load) (hand : InHand) → CarriesOn file m begun w a b held held_b load left → InHandOf m w hand
+    → AppendsPrefix b c (held_b ++ sample_bytes file (take left.samples (left_in_hand hand)))
+    → (tree : FileTree) (t : TrackTree) (samples : List SampleAt) → IsOpenedAs file m tree → Comes file tree t m begun samples → AppendsPrefix a c (held ++ sample_bytes file (take load.samples samples))
+hand_fails file m begun w a b c held held_b load left hand on is_hand p tree t samples o h =
+    let u = on tree t samples o h in
+    let k = u.1.0 in
+    let xs = left_in_hand hand in
+    let behind = samples_behind tree t k.0 k.1 in
+    let n = left.samples in
+    let two : take n u.0 ≡ take n xs ++ take (n - length xs) behind = ap (take n) (hand_first file m tree t w u.0 k hand is_hand) ∙ take_of_two n xs behind in
+    carried_fails file a b held held_b samples u.0 load left u.1.1 c (sample_bytes file (take n xs)) (sample_bytes file (take (n - length xs) behind)) (ap (sample_bytes file) two ∙ bytes_of_two file (take n xs) (take (n - length xs) behind)) p
+
+-- ---- an honest store has not changed
+
+-- Samples that lie in the file, with as many bytes as are to be taken along.
+pub record AreThere (file : List ℕ) (load : Load) (samples : List SampleAt) : Type 0 where
+  pub many : load.samples ≤ length samples
+  pub sizes : load.bytes ≡ sizes_of (take load.samples samples)
+  pub below : AllByRecursion (IsBelow (length file)) samples
+
+-- Those in hand lie in the file, and have no more bytes than are left.
+pub hand_there : (file : List ℕ) (m : MovieSeen) (begun w : Walk) (a b : Option (List ℕ)) (held held_b : List ℕ) (load left : Load) (hand : InHand) → CarriesOn file m begun w a b held held_b load left → InHandOf m w hand
+    → (tree : FileTree) (t : TrackTree) (samples : List SampleAt) → IsOpenedAs file m tree → Comes file tree t m begun samples → AreThere file load samples
+    → AllByRecursion (IsBelow (length file)) (left_in_hand hand) × (sizes_of (take left.samples (left_in_hand hand)) ≤ left.bytes)
+hand_there file m begun w a b held held_b load left hand on is_hand tree t samples o h there =
+    let u = on tree t samples o h in
+    let k = u.1.0 in
+    let xs = left_in_hand hand in
+    let behind = samples_behind tree t k.0 k.1 in
+    let n = left.samples in
+    let first = hand_first file m tree t w u.0 k hand is_hand in
+    let below = next_below file a b held held_b samples u.0 load left u.1.1 (length file) there.below in
+    let size : SampleAt → ℕ = λ s. s.size in
+    let two = ap sizes_of (ap (take n) first ∙ take_of_two n xs behind) ∙ sum-append size (take n xs) (take (n - length xs) behind) in
+    let all = ap sizes_of (load_is file a b held held_b samples u.0 load left u.1.1) ∙ sum-append size u.1.1.done (take n u.0) in
+    let before = u.1.1.sizes in
+    let sizes = there.sizes in
+    (all_first (IsBelow (length file)) xs behind (subst (λ (ss : List SampleAt). AllByRecursion (IsBelow (length file)) ss) first below), omega (arith, two, all, before, sizes))
+
+-- none is left to be taken along, so no bytes are
+pub no_bytes_left : (file : List ℕ) (m : MovieSeen) (begun w : Walk) (a b : Option (List ℕ)) (held held_b : List ℕ) (load left : Load) → CarriesOn file m begun w a b held held_b load left → left.samples ≡ 0
+    → (tree : FileTree) (t : TrackTree) (samples : List SampleAt) → IsOpenedAs file m tree → Comes file tree t m begun samples → AreThere file load samples → left.bytes ≡ 0
+no_bytes_left file m begun w a b held held_b load left on none tree t samples o h there =
+    let u = on tree t samples o h in
+    let size : SampleAt → ℕ = λ s. s.size in
+    let done = u.1.1.done in
+    let nothing : take left.samples u.0 ≡ [] = ap (λ n. take n u.0) none in
+    let all : sizes_of (take load.samples samples) ≡ sizes_of done = ap sizes_of (load_is file a b held held_b samples u.0 load left u.1.1 ∙ ap (λ (ss : List SampleAt). done ++ ss) nothing ∙ append-nil done) in
+    let before = u.1.1.sizes in
+    let sizes = there.sizes in
+    omega (arith, all, before, sizes)
+
+-- nothing more comes, so none is left to be taken along
+pub none_left_to_carry : (file : List ℕ) (m : MovieSeen) (begun w next : Walk) (a b : Option (List ℕ)) (held held_b : List ℕ) (load left : Load) (hand : InHand) (more : Bool) → CarriesOn file m begun w a b held held_b load left → InHandOf m w hand
+    → left_in_hand hand ≡ [] → LoadsFor file m w next more → more ≡ false
+    → (tree : FileTree) (t : TrackTree) (samples : List SampleAt) → IsOpenedAs file m tree → Comes file tree t m begun samples → AreThere file load samples → left.samples ≡ 0
+none_left_to_carry file m begun w next a b held held_b load left hand more on is_hand none loads e tree t samples o h there =
+    let u = on tree t samples o h in
+    let k = u.1.0 in
+    let z : u.0 ≡ [] = loads_none file m tree t w next u.0 k hand is_hand none more e (loads tree t k.0 k.1 o k.3.0) in
+    let done = u.1.1.done in
+    let whole : samples ≡ done = u.1.1.whole ∙ ap (λ (ss : List SampleAt). done ++ ss) z ∙ append-nil done in
+    let long = ap (λ (ss : List SampleAt). length ss) whole in
+    let count = u.1.1.count in
+    let many = there.many in
+    omega (arith, long, count, many)

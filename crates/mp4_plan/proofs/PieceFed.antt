@@ -1,5 +1,8 @@
 -- A piece that is fed over the `moof`s that its samples are in.
-use Rattle.std.proofs.Common.{◌≡◌, ℕ, ◌<◌, Bool, true, false, List, [], ◌∷◌, ◌++◌, length, refl, sym, ap, subst, ◌∙◌, arith}
+use Rattle.std.proofs.Common.{◌≡◌, ℕ, ◌+◌, ◌<◌, ◌≤◌, Bool, true, false, List, [], ◌∷◌, ◌++◌, length, take, drop, refl, sym, ap, subst, ◌∙◌, append_assoc, length-append, arith}
+use Rattle.std.specs.Prelude.{map}
+use Rattle.std.proofs.Math.Seq.{take-add, take-append-add}
+use Rattle.std.proofs.lemmas.List.{drop-drop, drop_at, take_at, take-append-le, length-take, length-drop, length-map, map-append}
 use Rattle.mp4_tables.specs.declared.sample.SampleAt.{SampleAt}
 use Rattle.mp4_head.specs.Tree.{TrackTree}
 use Rattle.mp4_present.specs.Denotes.{FileTree}
@@ -11,12 +14,16 @@ use Rattle.mp4_present.specs.declared.in_hand.InHand.{InHand}
 use Rattle.mp4_present.specs.declared.in_hand.Place.{Place}
 use Rattle.mp4_present.specs.declared.walks.Walk.{Walk}
 use Rattle.mp4_plan.specs.Ends.{goes_in}
-use Rattle.mp4_plan.specs.Gathering.{Planning, description_in, gather, piece_from, piece_fed, samples_after}
-use Rattle.mp4_plan.specs.HandsFed.{HandFed}
+use Rattle.mp4_plan.specs.Gathering.{Planning, description_in, gather, piece_from, count_of, more_of, piece_fed, samples_after}
+use Rattle.mp4_plan.specs.HandsFed.{HandFed, HandNoted}
+use Rattle.mp4_plan.specs.Taken.{row_seen}
 use Rattle.mp4_plan.specs.declared.ends.End.{End}
-use Rattle.mp4_plan.specs.declared.courses.Stop.TheVariants.{Empty, Ended}
+use Rattle.mp4_plan.specs.declared.courses.Stop.{Stop}
+use Rattle.mp4_plan.specs.declared.courses.Stop.TheVariants.{Empty, Ended, Full}
+use Rattle.mp4_plan.specs.declared.rows.Row.{Row}
 use Rattle.mp4_plan.proofs.PlannerSteps.{fed_more, after_more, fed_none, after_none, more_of_no, more_of-nil}
-use Rattle.mp4_plan.proofs.WalksOn.{hand_first, kept_before, loads_on, loads_none, ends_none, hand_none}
+use Rattle.mp4_plan.proofs.HandsTaken.{more_with, counted_fed}
+use Rattle.mp4_plan.proofs.WalksOn.{hand_first, kept_before, loads_on, loads_none, hand_none}
 use Rattle.mp4_plan.proofs.PieceCarried.{LoadsFor, EndsFor}
 
 -- a piece with one sample more
@@ -64,10 +71,14 @@ fed_stopped p (x ∷ xs) ys lt = by (goes_in p.end (description_in p.gathered (x
 
 -- ---- over a walk
 
--- What a piece takes of the samples that were to come is what the piece that has some of them takes of those that still come.
+-- A piece has as many of the first samples that were to come as it counts, and the others still come. What goes into it of all is what goes into it further of those.
+pub record Feeds (file : List ℕ) (tree : FileTree) (t : TrackTree) (m : MovieSeen) (w : Walk) (start p : Planning) (samples : List SampleAt) : Type 0 where
+  pub few : count_of p.gathered ≤ length samples
+  pub comes : Comes file tree t m w (drop (count_of p.gathered) samples)
+  pub same : SameFeed start samples p (drop (count_of p.gathered) samples)
+
 abbrev pub FeedsOn : List ℕ → MovieSeen → Walk → Walk → Planning → Planning → Type 0
-FeedsOn file m begun w start p =
-    (tree : FileTree) (t : TrackTree) (samples : List SampleAt) → IsOpenedAs file m tree → Comes file tree t m begun samples → (rest : List SampleAt) × (Comes file tree t m w rest × SameFeed start samples p rest)
+FeedsOn file m begun w start p = (tree : FileTree) (t : TrackTree) (samples : List SampleAt) → IsOpenedAs file m tree → Comes file tree t m begun samples → Feeds file tree t m w start p samples
 
 -- The piece has all that go into it of the samples that were to come, and the others still come.
 abbrev pub HasFed : List ℕ → FileTree → TrackTree → MovieSeen → Walk → Planning → Planning → List SampleAt → Type 0
@@ -75,7 +86,8 @@ HasFed file tree t m w start p samples = (p ≡ piece_fed start samples) × Come
 
 -- a piece without samples
 pub feeds_new : (file : List ℕ) (m : MovieSeen) (w : Walk) (end : End) (p : Planning) → p ≡ piece_from end → FeedsOn file m w w (piece_from end) p
-feeds_new file m w end p is tree t samples o c = (samples, (c, (ap (λ (q : Planning). piece_fed q samples) (sym is), ap (λ (q : Planning). samples_after q samples) (sym is))))
+feeds_new file m w end p is tree t samples o c =
+    subst (λ (q : Planning). Feeds file tree t m w (piece_from end) q samples) (sym is) (record { few = omega arith; comes = c; same = (refl, refl) })
 
 -- the samples behind those in hand come behind later ones in hand
 fed_coming : (file : List ℕ) (m : MovieSeen) (tree : FileTree) (t : TrackTree) (w now : Walk) (place : Place) (rest : List SampleAt) (k : Comes file tree t m w rest) (later : InHand) → InHandOf m (record w { place = place }) later → now ≡ record w { place = place }
@@ -83,52 +95,115 @@ fed_coming : (file : List ℕ) (m : MovieSeen) (tree : FileTree) (t : TrackTree)
 fed_coming file m tree t w now place rest k later is_later is =
     subst (λ (w' : Walk). Comes file tree t m w' (left_in_hand later ++ samples_behind tree t k.0 k.1)) (sym is) (k.0, k.1, later, (kept_before file tree t k.0 k.1 w place k.3.0, is_later, refl))
 
+-- behind those that were taken of a list, the others come
+later_first : (n n' : ℕ) (samples xs done ys behind : List SampleAt) → drop n samples ≡ xs ++ behind → xs ≡ done ++ ys → n' ≡ n + length done → drop n' samples ≡ ys ++ behind
+later_first n n' samples xs done ys behind first whole count =
+    ap (λ k. drop k samples) count ∙ sym (drop-drop (length done) n samples) ∙ ap (drop (length done)) (first ∙ ap (λ (l : List SampleAt). l ++ behind) whole ∙ append_assoc done ys behind) ∙ drop_at done (ys ++ behind) (length done) refl
+
+-- they are no more than there are
+few_first : (n n' : ℕ) (samples xs done ys behind : List SampleAt) → n ≤ length samples → drop n samples ≡ xs ++ behind → xs ≡ done ++ ys → n' ≡ n + length done → n' ≤ length samples
+few_first n n' samples xs done ys behind few first whole count =
+    let a = length-drop n samples in
+    let b = ap (λ (l : List SampleAt). length l) first in
+    let d = ap (λ (l : List SampleAt). length l) whole in
+    omega (arith, few, count, a, b, d, length-append xs behind, length-append done ys)
+
 -- the hand was fed, and is empty
-pub hand_fed : (file : List ℕ) (m : MovieSeen) (begun w now : Walk) (start p q : Planning) (place : Place) → FeedsOn file m begun w start p → HandFed m w p q Empty place → now ≡ record w { place = place } → FeedsOn file m begun now start q
-hand_fed file m begun w now start p q place on h is tree t samples o c =
+pub hand_fed : (file : List ℕ) (m : MovieSeen) (begun w now : Walk) (room : ℕ) (start p q : Planning) (place : Place) → FeedsOn file m begun w start p → HandFed m w room p q Empty place → now ≡ record w { place = place } → FeedsOn file m begun now start q
+hand_fed file m begun w now room start p q place on h is tree t samples o c =
     let u = on tree t samples o c in
-    let k = u.1.0 in
+    let k = u.comes in
+    let n = count_of p.gathered in
+    let xs = left_in_hand h.hand in
     let behind = samples_behind tree t k.0 k.1 in
-    let whole = hand_first file m tree t w u.0 k h.hand h.is_hand in
-    let f = fed_on p (left_in_hand h.hand) behind (sym h.taken.1 ∙ h.taken.2) in (
-      left_in_hand h.later ++ behind,
-      (
-        fed_coming file m tree t w now place u.0 k h.later h.is_later is,
-        (
-          u.1.1.0 ∙ ap (λ (l : List SampleAt). piece_fed p l) whole ∙ f.0 ∙ (λ i. piece_fed (sym h.taken.0 i) (sym (ap (λ (l : List SampleAt). l ++ behind) h.taken.2) i)),
-          u.1.1.1 ∙ ap (λ (l : List SampleAt). samples_after p l) whole ∙ f.1 ∙ (λ i. samples_after (sym h.taken.0 i) (sym (ap (λ (l : List SampleAt). l ++ behind) h.taken.2) i)),
-        ),
-      ),
-    )
+    let whole = hand_first file m tree t w (drop n samples) k h.hand h.is_hand in
+    let f = fed_on p xs behind (sym h.taken.1 ∙ h.taken.2) in
+    let rest = later_first n (count_of q.gathered) samples xs h.done (left_in_hand h.later) behind whole h.whole h.count in
+    let none : behind ≡ drop (count_of q.gathered) samples = sym (ap (λ (l : List SampleAt). l ++ behind) h.taken.2) ∙ sym rest in
+    record {
+      few = few_first n (count_of q.gathered) samples xs h.done (left_in_hand h.later) behind u.few whole h.whole h.count;
+      comes = subst (λ (l : List SampleAt). Comes file tree t m now l) (sym rest) (fed_coming file m tree t w now place (drop n samples) k h.later h.is_later is);
+      same = (
+        u.same.0 ∙ ap (λ (l : List SampleAt). piece_fed p l) whole ∙ f.0 ∙ (λ i. piece_fed (sym h.taken.0 i) (none i)),
+        u.same.1 ∙ ap (λ (l : List SampleAt). samples_after p l) whole ∙ f.1 ∙ (λ i. samples_after (sym h.taken.0 i) (none i)),
+      );
+    }
 
 -- the piece has ended within the hand
-pub hand_ended : (file : List ℕ) (m : MovieSeen) (begun w now : Walk) (start p q : Planning) (place : Place) → FeedsOn file m begun w start p → HandFed m w p q Ended place → now ≡ record w { place = place }
+pub hand_ended : (file : List ℕ) (m : MovieSeen) (begun w now : Walk) (room : ℕ) (start p q : Planning) (place : Place) → FeedsOn file m begun w start p → HandFed m w room p q Ended place → now ≡ record w { place = place }
     → (tree : FileTree) (t : TrackTree) (samples : List SampleAt) → IsOpenedAs file m tree → Comes file tree t m begun samples → HasFed file tree t m now start q samples
-hand_ended file m begun w now start p q place on h is tree t samples o c =
+hand_ended file m begun w now room start p q place on h is tree t samples o c =
     let u = on tree t samples o c in
-    let k = u.1.0 in
+    let k = u.comes in
+    let rest = drop (count_of p.gathered) samples in
     let behind = samples_behind tree t k.0 k.1 in
-    let whole = hand_first file m tree t w u.0 k h.hand h.is_hand in
+    let whole = hand_first file m tree t w rest k h.hand h.is_hand in
     let f = fed_stopped p (left_in_hand h.hand) behind (subst (λ (l : List SampleAt). 0 < length l) h.taken.1 h.taken.2) in
-    let left : left_in_hand h.later ++ behind ≡ samples_after start samples = ap (λ (l : List SampleAt). l ++ behind) h.taken.1 ∙ sym f.1 ∙ ap (λ (l : List SampleAt). samples_after p l) (sym whole) ∙ sym u.1.1.1 in
-    (h.taken.0 ∙ sym f.0 ∙ ap (λ (l : List SampleAt). piece_fed p l) (sym whole) ∙ sym u.1.1.0, subst (λ (l : List SampleAt). Comes file tree t m now l) left (fed_coming file m tree t w now place u.0 k h.later h.is_later is))
+    let left : left_in_hand h.later ++ behind ≡ samples_after start samples = ap (λ (l : List SampleAt). l ++ behind) h.taken.1 ∙ sym f.1 ∙ ap (λ (l : List SampleAt). samples_after p l) (sym whole) ∙ sym u.same.1 in
+    (h.taken.0 ∙ sym f.0 ∙ ap (λ (l : List SampleAt). piece_fed p l) (sym whole) ∙ sym u.same.0, subst (λ (l : List SampleAt). Comes file tree t m now l) left (fed_coming file m tree t w now place rest k h.later h.is_later is))
+
+-- there was less room than the piece has samples
+pub hand_full : (file : List ℕ) (m : MovieSeen) (begun w : Walk) (room : ℕ) (start p q : Planning) (place : Place) → FeedsOn file m begun w start p → HandFed m w room p q Full place
+    → (tree : FileTree) (t : TrackTree) (samples : List SampleAt) → IsOpenedAs file m tree → Comes file tree t m begun samples → count_of p.gathered + room < count_of start.gathered + more_of start samples
+hand_full file m begun w room start p q place on h tree t samples o c =
+    let u = on tree t samples o c in
+    let k = u.comes in
+    let rest = drop (count_of p.gathered) samples in
+    let xs = left_in_hand h.hand in
+    let behind = samples_behind tree t k.0 k.1 in
+    let whole = ap (more_of p) (hand_first file m tree t w rest k h.hand h.is_hand) in
+    let counts = sym (counted_fed start samples) ∙ ap (λ (r : Planning). count_of r.gathered) u.same.0 ∙ counted_fed p rest in
+    let full = h.taken in
+    omega (arith, counts, whole, more_with p xs behind, full)
 
 -- more was loaded
 pub next_fed : (file : List ℕ) (m : MovieSeen) (begun w next : Walk) (start p : Planning) (hand : InHand) (more : Bool) → FeedsOn file m begun w start p → InHandOf m w hand → left_in_hand hand ≡ [] → LoadsFor file m w next more → more ≡ true
     → FeedsOn file m begun next start p
 next_fed file m begun w next start p hand more on is_hand none loads e tree t samples o c =
     let u = on tree t samples o c in
-    let k = u.1.0 in
-    (u.0, (loads_on file m tree t w next u.0 k hand is_hand none more e (loads tree t k.0 k.1 o k.3.0), u.1.1))
+    let k = u.comes in
+    record { few = u.few; comes = loads_on file m tree t w next (drop (count_of p.gathered) samples) k hand is_hand none more e (loads tree t k.0 k.1 o k.3.0); same = u.same }
 
 -- nothing was loaded
 pub none_fed : (file : List ℕ) (m : MovieSeen) (begun w next : Walk) (start p : Planning) (hand : InHand) (more : Bool) → FeedsOn file m begun w start p → InHandOf m w hand → left_in_hand hand ≡ [] → LoadsFor file m w next more → more ≡ false
     → EndsFor file m w next more → (tree : FileTree) (t : TrackTree) (samples : List SampleAt) → IsOpenedAs file m tree → Comes file tree t m begun samples → HasFed file tree t m next start p samples
 none_fed file m begun w next start p hand more on is_hand none loads e ends tree t samples o c =
     let u = on tree t samples o c in
-    let k = u.1.0 in
-    let z = loads_none file m tree t w next u.0 k hand is_hand none more e (loads tree t k.0 k.1 o k.3.0) in
-    let after : samples_after start samples ≡ [] = u.1.1.1 ∙ ap (samples_after p) z ∙ after_none p [] (more_of-nil p) in (
-      sym (u.1.1.0 ∙ ap (piece_fed p) z ∙ fed_none p [] (more_of-nil p)),
-      subst (λ (l : List SampleAt). Comes file tree t m next l) (sym after) (ends tree t k.0 k.1 k.2 o k.3.0 k.3.1 (hand_none file m tree t w next u.0 k hand is_hand none) e),
+    let k = u.comes in
+    let rest = drop (count_of p.gathered) samples in
+    let z = loads_none file m tree t w next rest k hand is_hand none more e (loads tree t k.0 k.1 o k.3.0) in
+    let after : samples_after start samples ≡ [] = u.same.1 ∙ ap (samples_after p) z ∙ after_none p [] (more_of-nil p) in (
+      sym (u.same.0 ∙ ap (piece_fed p) z ∙ fed_none p [] (more_of-nil p)),
+      subst (λ (l : List SampleAt). Comes file tree t m next l) (sym after) (ends tree t k.0 k.1 k.2 o k.3.0 k.3.1 (hand_none file m tree t w next rest k hand is_hand none) e),
     )
+
+-- ---- rows
+
+-- Those that a piece has of the samples that were to come are noted in the first rows.
+abbrev pub NotesOn : List ℕ → MovieSeen → Walk → Planning → List Row → Type 0
+NotesOn file m begun p rows =
+    (tree : FileTree) (t : TrackTree) (samples : List SampleAt) → IsOpenedAs file m tree → Comes file tree t m begun samples → take (count_of p.gathered) rows ≡ map row_seen (take (count_of p.gathered) samples)
+
+-- nothing is noted yet
+pub notes_new : (file : List ℕ) (m : MovieSeen) (w : Walk) (end : End) (p : Planning) (rows : List Row) → p ≡ piece_from end → NotesOn file m w p rows
+notes_new file m w end p rows is tree t samples o c = let none = ap (λ (q : Planning). count_of q.gathered) is in ap (λ n. take n rows) none ∙ sym (ap (λ n. map row_seen (take n samples)) none)
+
+-- those in hand that were taken are noted behind the others, in a part of the rows
+pub hand_noted : (file : List ℕ) (m : MovieSeen) (begun w : Walk) (room n : ℕ) (start p q : Planning) (stop : Stop) (place : Place) (rows part behind_it : List Row) → FeedsOn file m begun w start p → NotesOn file m begun p rows
+    → HandNoted m w room p q stop place part → n ≡ count_of p.gathered → n ≤ length rows → NotesOn file m begun q (take n rows ++ (part ++ behind_it))
+hand_noted file m begun w room n start p q stop place rows part behind_it on noted h is few tree t samples o c =
+    let u = on tree t samples o c in
+    let k = u.comes in
+    let d = h.0.done in
+    let behind = samples_behind tree t k.0 k.1 in
+    let at = h.0.count in
+    let first = ap (λ i. drop i samples) is ∙ hand_first file m tree t w (drop (count_of p.gathered) samples) k h.0.hand h.0.is_hand in
+    let long : length (take n rows) ≡ n = (let e = length-take n rows in omega (arith, e, few)) in
+    let room_for : length d ≤ length part = (let e = ap (λ (l : List Row). length l) h.1 in omega (arith, e, length-take (length d) part, length-map d row_seen)) in
+    let in_part : take (count_of q.gathered) (take n rows ++ (part ++ behind_it)) ≡ take n rows ++ map row_seen d =
+    (let e : count_of q.gathered ≡ length (take n rows) + length d = omega (arith, at, long, is) in ap (λ i. take i (take n rows ++ (part ++ behind_it))) e ∙ take-append-add (take n rows) (part ++ behind_it) (length d))
+    ∙ ap (λ (l : List Row). take n rows ++ l) (take-append-le (length d) part behind_it room_for ∙ h.1) in
+    let those : take (count_of q.gathered) samples ≡ take n samples ++ d =
+    (let e : count_of q.gathered ≡ n + length d = omega (arith, at, is) in ap (λ i. take i samples) e ∙ take-add n (length d) samples)
+    ∙ ap (λ (l : List SampleAt). take n samples ++ l) (ap (take (length d)) (first ∙ ap (λ (l : List SampleAt). l ++ behind) h.0.whole ∙ append_assoc d (left_in_hand h.0.later) behind) ∙ take_at d (left_in_hand h.0.later ++ behind) (length d) refl) in
+    in_part ∙ ap (λ (l : List Row). l ++ map row_seen d) (ap (λ i. take i rows) is ∙ noted tree t samples o c ∙ ap (λ i. map row_seen (take i samples)) (sym is)) ∙ sym (map-append row_seen (take n samples) d) ∙ ap (map row_seen) (sym those)

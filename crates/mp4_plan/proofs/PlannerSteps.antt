@@ -6,7 +6,7 @@ use Rattle.mp4_tables.specs.declared.sample.SampleAt.{SampleAt}
 use Rattle.mp4_plan.specs.Ends.{goes_in}
 use Rattle.mp4_plan.specs.declared.gathered.Gathered.{Gathered}
 use Rattle.mp4_plan.specs.declared.gathered.GroupRuns.{GroupRuns}
-use Rattle.mp4_plan.specs.Gathering.{runs_first, runs_more, gathered_first, gathered_more, gather, gather_all, Planning, description_in, more_of, piece_fed, samples_after, IsBounded, runs_at, index_of, count_of}
+use Rattle.mp4_plan.specs.Gathering.{runs_first, runs_more, gathered_first, gathered_more, gather, gather_all, Planning, description_in, more_of, piece_fed, samples_after, IsBounded, runs_at, index_of, count_of, planned_of}
 
 -- ---- sums and rows stay small
 
@@ -113,6 +113,16 @@ one_counted (Some g) s = refl
 
 pub count_with : (p q : Planning) (s : SampleAt) → q ≡ with_sample p s → count_of q.gathered ≡ count_of p.gathered + 1
 count_with p q s e = ap (λ (r : Planning). count_of r.gathered) e ∙ one_counted p.gathered s
+
+-- those that are gathered are counted
+pub all_counted : (g : Option Gathered) (samples : List SampleAt) → count_of (gather_all g samples) ≡ count_of g + length samples
+all_counted g [] = omega arith
+all_counted g (s ∷ samples) = let e = all_counted (gather g s) samples in let one = one_counted g s in omega (arith, e, one)
+
+-- and answered
+pub planned_counts : (g : Option Gathered) → (planned_of g).count ≡ count_of g
+planned_counts None = refl
+planned_counts (Some g) = refl
 
 pub length_rest : (xs ys : List SampleAt) (s : SampleAt) → Some s ≡ slice_get xs 0 → ys ≡ drop 1 xs → length xs ≡ length ys + 1
 length_rest [] ys s first e = cc

@@ -9,6 +9,7 @@ use Rattle.mp4_boxes.specs.Written.{box_bytes, column_bytes, header_bytes, heade
 use Rattle.mp4_tables.specs.Groups.{GroupKey}
 use Rattle.mp4_tables.specs.declared.sample.SampleAt.{SampleAt}
 use Rattle.mp4_present.specs.Joined.{sample_bytes}
+use Rattle.mp4_boxes.proofs.LyingData.{length-header_bytes}
 use Rattle.mp4_plan.specs.Pieces.{TimedSample, Piece}
 use Rattle.mp4_plan.specs.Normal.{Shared, common, own, shared_by, trun_row, trun_bytes, tfhd_bytes, sbgp_bytes, piece_keys, traf_bytes, moof_bytes, moof_length, piece_bytes, first_time, first_description, longest_runs}
 use Rattle.mp4_plan.specs.Gathering.{gather_all, planned_of, used_rows, runs_at}
@@ -163,6 +164,12 @@ gathered_plan a more =
 
 -- ---- the whole piece
 
+box_length : (payload : List ℕ) → 8 + length payload ≡ length (box_bytes (codes "moof") payload)
+box_length payload = omega arith
+
+joined_length : (a b c : List ℕ) (x y z : ℕ) → length a ≡ x → length b ≡ y → length c ≡ z → length (a ++ b ++ c) ≡ x + y + z
+joined_length a b c x y z e f g = let outer = length-append (a ++ b) c in let inner = length-append a b in omega (arith, e, f, g, outer, inner)
+
 -- a `moof` as far as its rows, with sizes that fit, and where the data lie
 abbrev front_said : PieceHead → Planned → List GroupKey → ℕ → List ℕ
 front_said head p keys place =
@@ -307,7 +314,22 @@ module _ (file : List ℕ) (keys : List GroupKey) (sequence id : ℕ) (p : Plann
       (λ i. front_is i ++ run_rows p (map row_seen taken) ++ groups_bytes (map row_seen taken) p keys ++ header_bytes (codes "mdat") (payload i) ++ bytes_are file keys taken samples z i)
       ∙ ap (λ (bs : List ℕ). bs ++ header_bytes (codes "mdat") (length (data_of samples)) ++ data_of samples) (moof_is place)
 
+  -- It has so many bytes, whatever its sequence number.
+  pub piece_long : (number : ℕ) → length (piece_bytes number piece) ≡ (moof_sizes p keys).moof + header_length p.bytes + p.bytes
+  piece_long number =
+      let bytes = data_of samples in
+      let place = moof_length piece + header_length (length bytes) in
+      let payload : p.bytes ≡ length bytes = plan.bytes ∙ sizes_are file keys taken samples z in
+      joined_length (moof_bytes number place piece) (header_bytes (codes "mdat") (length bytes)) bytes (24 + traf_size p keys) (header_length p.bytes) p.bytes
+      (sym (moof_long number place ∙ box_length (moof_payload number place))) (length-header_bytes (codes "mdat") (length bytes) refl ∙ ap header_length (sym payload)) (sym payload)
+
 -- What is written of some samples and then their bytes is the piece of the normal form.
 pub piece_is_spelled : PieceIsSpelled
 piece_is_spelled file keys sequence id a more samples apart are_keys few z small =
     piece_is file keys sequence id (planned_of (gather_all None (a ∷ more))) (a ∷ more) samples apart are_keys few z (gathered_plan a more) small
+
+-- So many bytes has the piece of the normal form, by what was gathered of its samples.
+pub piece_length : (file : List ℕ) (keys : List GroupKey) (number id : ℕ) (a : SampleAt) (more : List SampleAt) (samples : List TimedSample) → AreApart keys → AllByRecursion IsNamed keys → length keys ≤ 4 → AreTaken file keys (a ∷ more) samples
+    → (moof_sizes (planned_of (gather_all None (a ∷ more))) keys).moof ≤ 2 ^ 30 → (let p = planned_of (gather_all None (a ∷ more)) in length (piece_bytes number (record { id = id; samples = samples })) ≡ (moof_sizes p keys).moof + header_length p.bytes + p.bytes)
+piece_length file keys number id a more samples apart are_keys few z small =
+    piece_long file keys number id (planned_of (gather_all None (a ∷ more))) (a ∷ more) samples apart are_keys few z (gathered_plan a more) small number

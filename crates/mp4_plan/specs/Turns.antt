@@ -1,5 +1,5 @@
 -- The order in which pieces come, and why it ends.
-use Rattle.std.specs.Prelude.{ℕ, ◌+◌, ◌-◌, ◌*◌, ◌==◌, Bool, true, if◌then◌else◌, List, [], ◌∷◌, Option, Some, None, option_map}
+use Rattle.std.specs.Prelude.{◌≡◌, ◌<◌, ◌⊎◌, ℕ, ◌+◌, ◌-◌, ◌*◌, ◌==◌, Bool, true, if◌then◌else◌, List, [], ◌∷◌, Option, Some, None, option_map}
 use Rattle.mp4_tables.specs.declared.sample.SampleAt.{SampleAt}
 use Rattle.mp4_present.specs.declared.track_info.TrackInfo.{TrackInfo}
 use Rattle.mp4_plan.specs.Ends.{has_ended}
@@ -44,3 +44,11 @@ abbrev pub turned : Schedule → End → ℕ → Option SampleAt → Schedule
 turned s end count sample =
     let rest = record s { left = s.left - count } in
     if is_over end sample then track_passed rest (option_map (λ (next : SampleAt). next.dts) sample) else rest
+
+-- a turn without samples may pass the track: its pieces are over, and in the first track no sample is left
+abbrev pub MayPass : Schedule → End → Option SampleAt → Type 0
+MayPass s end sample = (is_over end sample ≡ true) × (s.track ≡ 0 → sample ≡ None)
+
+-- a turn that no file has: more samples than are left, or none where the track may not pass
+abbrev pub Sticks : Schedule → End → ℕ → Option SampleAt → Type 0
+Sticks s end count sample = (s.left < count) ⊎ ((count ≡ 0) × ¬ MayPass s end sample)

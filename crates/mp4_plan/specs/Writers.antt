@@ -1,14 +1,33 @@
 -- A writer of the normal form of a movie.
-use Rattle.std.specs.Prelude.{◌≡◌, ℕ, ◌+◌, ◌-◌, ◌*◌, ◌^◌, ◌≤◌, min, nat_lt, if◌then◌else◌, List, length, Option, Some, None}
+use Rattle.std.specs.Prelude.{◌≡◌, ℕ, ◌+◌, ◌-◌, ◌*◌, ◌^◌, ◌≤◌, max, min, nat_lt, if◌then◌else◌, List, [], ◌∷◌, ◌++◌, length, take, drop, map, fold, Option, Some, None, slice_get, slice_set, Bool, IsTrue}
 use Rattle.std.specs.List.{AllByRecursion, sum_by}
 use Rattle.mp4_store.specs.Device.{HasRisen}
 use Rattle.mp4_boxes.specs.declared.refusal.Refusal.{Refusal}
 use Rattle.mp4_boxes.specs.declared.refusal.Refusal.TheVariants as refusals
+use Rattle.mp4_boxes.specs.Written.{header_length}
+use Rattle.mp4_head.specs.Tree.{TrackTree}
+use Rattle.mp4_head.specs.Writing as written
+use Rattle.mp4_tables.specs.Groups.{GroupKey}
+use Rattle.mp4_present.specs.Carried.{waiting}
+use Rattle.mp4_present.specs.Coming.{Comes, track_samples}
+use Rattle.mp4_present.specs.Denotes.{FileTree, presentation_of}
+use Rattle.mp4_present.specs.Joined.{sample_bytes}
 use Rattle.mp4_present.specs.Movies.{MovieSeen, IsWalkOf}
+use Rattle.mp4_present.specs.OpenedMovie.{IsOpenedAs}
+use Rattle.mp4_present.specs.Presentation.{Presentation, heads, movie_length}
 use Rattle.mp4_present.specs.declared.walks.Walk.{Walk}
 use Rattle.mp4_tables.specs.declared.sample.SampleAt.{SampleAt}
+use Rattle.mp4_plan.specs.Sizes.{moof_sizes}
+use Rattle.mp4_plan.specs.Pieces.{Piece, pieces}
+use Rattle.mp4_plan.specs.Taken.{piece_front, row_seen}
 use Rattle.mp4_plan.specs.declared.moof_front.PieceHead.{PieceHead}
+use Rattle.mp4_plan.specs.declared.planner.Planned.{Planned}
+use Rattle.mp4_plan.specs.Gathering.{planned_of, piece_fed, piece_from, samples_after}
+use Rattle.mp4_plan.specs.declared.schedule.Turn.{Turn}
+use Rattle.mp4_plan.specs.declared.writer.Noted.{Noted}
+use Rattle.mp4_plan.specs.declared.writer.Plan.{Plan}
 use Rattle.mp4_plan.specs.declared.writer.Writer.{Writer}
+use Rattle.mp4_plan.specs.Normal.{pieces_bytes}
 
 -- a walk for each track of the movie
 pub record AreWalksOf (m : MovieSeen) (walks : List Walk) : Type 0 where
@@ -51,3 +70,84 @@ turn_head sequence id count (Some s) = if nat_lt 0 count then Some (record { seq
 abbrev pub sequence_behind : ℕ → Option PieceHead → ℕ
 sequence_behind sequence None = sequence
 sequence_behind sequence (Some head) = min (sequence + 1) (2 ^ 32 - 1)
+
+-- ---- over an opened file
+
+-- over an honest store, of a movie that was opened from its file: this is true of the file's boxes
+abbrev pub WhereOpened : Bool → List ℕ → MovieSeen → (FileTree → Type 0) → Type 0
+WhereOpened honest file m P = IsTrue honest → (tree : FileTree) → IsOpenedAs file m tree → P tree
+
+-- for each track a walk of which these samples come
+abbrev pub AllCome : List ℕ → FileTree → MovieSeen → List TrackTree → List Walk → List (List SampleAt) → Type 0
+AllCome file tree m [] [] [] = Unit {0}
+AllCome file tree m (t ∷ trees) (w ∷ walks) (samples ∷ more) = Comes file tree t m w samples × AllCome file tree m trees walks more
+AllCome file tree m _ _ _ = ⊥
+
+-- for each track a walk from its first sample on
+abbrev pub AllBegin : List ℕ → FileTree → MovieSeen → List Walk → Type 0
+AllBegin file tree m walks = AllCome file tree m tree.movie.tracks walks (map (track_samples tree) tree.movie.tracks)
+
+-- the most samples of a piece
+abbrev pub longest_piece : List Piece → ℕ
+longest_piece pieces = fold (λ most (piece : Piece). max most (length piece.samples)) 0 pieces
+
+-- `ftyp` and `moov` of the normal form
+abbrev pub head_of_normal : Presentation → List ℕ
+head_of_normal p = written.head_bytes p.movie (heads p) (movie_length p)
+
+-- A writer that has put nothing yet: it holds the head of the normal form and as many rows as the longest piece has samples.
+pub record IsReady (file : List ℕ) (tree : FileTree) (m : MovieSeen) (w : Writer) : Type 0 where
+  pub head : w.head.items ≡ head_of_normal (presentation_of file tree)
+  pub rows : length w.rows.items ≡ longest_piece (pieces (presentation_of file tree))
+  pub planning : AllBegin file tree m w.planning.items
+  pub copying : AllBegin file tree m w.copying.items
+  pub nothing : waiting w.carrier ≡ []
+
+-- What was noted at a turn, of a track of which these samples come: a piece of them, and its walk stands behind it.
+pub record HasNoted (file : List ℕ) (tree : FileTree) (t : TrackTree) (m : MovieSeen) (turn : Turn) (sequence id : ℕ) (left : List SampleAt) (before after : Writer) (n : Noted) : Type 0 where
+  pub planned : n.planned ≡ planned_of (piece_fed (piece_from turn.end) left).gathered
+  pub head : n.head ≡ turn_head sequence id n.planned.count (slice_get left 0)
+  pub next : n.next ≡ slice_get (samples_after (piece_from turn.end) left) 0
+  pub rows : take n.planned.count after.rows.items ≡ map row_seen (take n.planned.count left)
+  pub walk : Walk
+  pub planning : after.planning.items ≡ slice_set before.planning.items turn.track walk
+  pub comes : Comes file tree t m walk (samples_after (piece_from turn.end) left)
+
+-- what is written of a piece, by what was planned of its samples
+abbrev pub bytes_of_piece : List ℕ → PieceHead → Planned → List GroupKey → List SampleAt → List ℕ
+bytes_of_piece file head p keys samples = piece_front head p keys (map row_seen samples) ++ sample_bytes file samples
+
+-- what is written at a turn: a piece, or nothing where it has no head
+abbrev pub turn_bytes : List ℕ → Option PieceHead → Planned → List GroupKey → List SampleAt → List ℕ
+turn_bytes file None p keys samples = []
+turn_bytes file (Some head) p keys samples = bytes_of_piece file head p keys samples
+
+-- The samples of a track that come in its copying walk were noted, so many of them.
+pub record IsNoted (file : List ℕ) (tree : FileTree) (m : MovieSeen) (track count : ℕ) (samples : List SampleAt) (w : Writer) : Type 0 where
+  pub t : TrackTree
+  pub walk : Walk
+  pub is_walk : slice_get w.copying.items track ≡ Some walk
+  pub comes : Comes file tree t m walk samples
+  pub rows : take count w.rows.items ≡ map row_seen (take count samples)
+
+-- so many samples of a track were copied
+abbrev pub HaveCopied : List ℕ → FileTree → MovieSeen → ℕ → ℕ → List SampleAt → Writer → Writer → Type 0
+HaveCopied file tree m track count samples before after =
+    (t : TrackTree) (walk : Walk) → slice_get before.copying.items track ≡ Some walk → Comes file tree t m walk samples
+    → (next : Walk) × (after.copying.items ≡ slice_set before.copying.items track next) × Comes file tree t m next (drop count samples)
+
+-- when the first of the first of some tracks begins, 0 where there is none
+abbrev pub first_dts : List (List SampleAt) → ℕ
+first_dts [] = 0
+first_dts ([] ∷ lefts) = 0
+first_dts ((s ∷ samples) ∷ lefts) = s.dts
+
+-- The plan of a presentation: the most samples of a piece, and the bytes of all pieces.
+pub record IsPlanOf (p : Presentation) (plan : Plan) : Type 0 where
+  pub longest : plan.longest ≡ longest_piece (pieces p)
+  pub len : plan.len ≡ length (pieces_bytes 1 (pieces p))
+  pub within : plan.len ≤ 2 ^ 57
+
+-- the bytes of a piece, by what was planned of it
+abbrev pub planned_length : Planned → List GroupKey → ℕ
+planned_length p keys = (moof_sizes p keys).moof + header_length p.bytes + p.bytes

@@ -1,5 +1,6 @@
 //! Samples of a track, taken piece by piece.
-ghost use Rattle.std.specs.Prelude.{◌≡◌, ◌+◌, ◌*◌, ◌^◌, ◌<◌, ◌≤◌, List, [], length, take, drop, slice_get, vec_len, IsTrue, IfOk, IfErr, OnOk};
+ghost use Rattle.std.specs.Prelude.{◌≡◌, ℕ, ◌+◌, ◌-◌, ◌*◌, ◌^◌, ◌<◌, ◌≤◌, List, [], length, map, take, drop, slice_get, slice_index, vec_len, ◌++◌, IsTrue, IfOk, IfErr, OnOk, OnErr};
+ghost use Rattle.std.specs.List.{AllByRecursion};
 ghost use Rattle.mp4_boxes.specs.declared.refusal.Refusal.TheVariants as refusals;
 ghost use Rattle.mp4_head.specs.Tree.{TrackTree};
 ghost use Rattle.mp4_present.specs.Denotes.{FileTree};
@@ -8,15 +9,17 @@ ghost use Rattle.mp4_present.specs.Coming.{Comes};
 ghost use Rattle.mp4_tables.specs.declared.sample.SampleAt.{SampleAt};
 ghost use Rattle.mp4_present.specs.InHand.{Follows, left_in_hand};
 ghost use Rattle.mp4_present.specs.Carried.{BytesGoOn, RefusesCarry, waiting};
-ghost use Rattle.mp4_present.specs.Joined.{sample_bytes};
+ghost use Rattle.mp4_present.specs.Joined.{IsBelow, sample_bytes};
 ghost use Rattle.mp4_present.specs.Movies.{IsWalkOf, RefusesLoad};
-ghost use Rattle.mp4_plan.specs.Gathering.{count_of, planned_of, piece_from, piece_fed, samples_after};
-ghost use Rattle.mp4_plan.specs.HandsFed.{BytesCarried, stop_of, HandFed};
+ghost use Rattle.mp4_plan.specs.Gathering.{count_of, more_of, planned_of, piece_from, piece_fed, samples_after};
+ghost use Rattle.mp4_store.specs.Device.{AppendsPrefix};
+ghost use Rattle.mp4_plan.specs.HandsFed.{BytesCarried, sizes_of, stop_of, HandFed, HandNoted};
+ghost use Rattle.mp4_plan.specs.Taken.{row_seen};
 
 use crate::ends::End;
 use crate::limited::Limited;
 use crate::planner::{Planned, Planner};
-use crate::rows::{Noting, Row};
+use crate::rows::Row;
 use mp4_boxes::{Refusal, Steps};
 use mp4_present::{Carrier, InHand, Movie, Place, Walk, next_stretch};
 use mp4_store::{Sink, Store};
@@ -85,7 +88,7 @@ fn stop_at(planner: &Planner, next: Option<SampleAt>) -> Stop
 fn feed_hand(planner: &mut Planner, walk: &Walk, movie: &Movie) -> FedHand
     requires walk { IsWalkOf movie.now walk.now }
     requires few { count_of planner.old.gathered ≤ MOST_SAMPLES }
-    ensures fed { HandFed movie.now walk.now planner.old planner.new result.stop result.place }
+    ensures fed { HandFed movie.now walk.now (MOST_SAMPLES - count_of planner.old.gathered) planner.old planner.new result.stop result.place }
     ensures few { count_of planner.new.gathered ≤ MOST_SAMPLES }
     ensures place { IsWalkOf movie.now (record walk.now { place = result.place }) }
 {
@@ -104,15 +107,15 @@ fn feed_hand(planner: &mut Planner, walk: &Walk, movie: &Movie) -> FedHand
 fn note_hand(planner: &mut Planner, walk: &Walk, movie: &Movie, rows: &mut [Row]) -> FedHand
     requires walk { IsWalkOf movie.now walk.now }
     requires few { count_of planner.old.gathered + length rows.old < 2 ^ 32 }
-    ensures fed { HandFed movie.now walk.now planner.old planner.new result.stop result.place }
+    ensures fed { HandNoted movie.now walk.now (length rows.old) planner.old planner.new result.stop result.place rows.new }
     ensures few { count_of planner.new.gathered ≤ count_of planner.old.gathered + length rows.old }
     ensures place { IsWalkOf movie.now (record walk.now { place = result.place }) }
 {
-    let mut hand = Noting::new(walk.in_hand(movie), rows);
-    let _ = planner.feed(&mut hand);
+    let mut hand = walk.in_hand(movie);
+    planner.note(&mut hand, rows);
     FedHand {
-        stop: stop_at(planner, hand.inner.peek()),
-        place: hand.inner.place(),
+        stop: stop_at(planner, hand.peek()),
+        place: hand.place(),
     }
 }
 
@@ -131,7 +134,11 @@ pub(crate) fn plan_piece<S: Store, L: Ledger>(
     ensures file { S.file store.new ≡ S.file store.old }
     ensures planned { IsTrue (S.is_honest store.old) → (tree : FileTree) (t : TrackTree) (samples : List SampleAt) → IsOpenedAs (S.file store.old) movie.now tree → Comes (S.file store.old) tree t movie.now walk.old samples
         → IfOk result (λ p. (p ≡ planned_of (piece_fed (piece_from end) samples).gathered) × Comes (S.file store.old) tree t movie.now walk.new (samples_after (piece_from end) samples)) }
+    ensures unchanged { IsTrue (S.is_honest store.old) → (tree : FileTree) (t : TrackTree) (samples : List SampleAt) → IsOpenedAs (S.file store.old) movie.now tree → Comes (S.file store.old) tree t movie.now walk.old samples
+        → length samples ≤ MOST_SAMPLES → IfErr result (λ r. r ≡ refusals.StoreChanged → ⊥) }
     ensures few { IfOk result (λ p. p.count ≤ MOST_SAMPLES) }
+    ensures rows { IfOk result (λ p. (j : ℕ) → slice_index p.group_rows j ≤ p.count) }
+    ensures bytes { IfOk result (λ p. p.bytes ≤ p.count * 4294967295) }
     ensures reads { OnOk result (S.read_failures store.new ≡ S.read_failures store.old) }
     ensures refusal { IfErr result (RefusesLoad (S.read_failures store.old) (S.read_failures store.new)) }
 {
@@ -169,7 +176,12 @@ pub(crate) fn note_piece<S: Store, L: Ledger>(
     ensures file { S.file store.new ≡ S.file store.old }
     ensures planned { IsTrue (S.is_honest store.old) → (tree : FileTree) (t : TrackTree) (samples : List SampleAt) → IsOpenedAs (S.file store.old) movie.now tree → Comes (S.file store.old) tree t movie.now walk.old samples
         → IfOk result (λ p. (p ≡ planned_of (piece_fed (piece_from end) samples).gathered) × Comes (S.file store.old) tree t movie.now walk.new (samples_after (piece_from end) samples)) }
+    ensures noted { IsTrue (S.is_honest store.old) → (tree : FileTree) (t : TrackTree) (samples : List SampleAt) → IsOpenedAs (S.file store.old) movie.now tree → Comes (S.file store.old) tree t movie.now walk.old samples
+        → IfOk result (λ p. take p.count rows.new ≡ map row_seen (take p.count samples)) }
+    ensures unchanged { IsTrue (S.is_honest store.old) → (tree : FileTree) (t : TrackTree) (samples : List SampleAt) → IsOpenedAs (S.file store.old) movie.now tree → Comes (S.file store.old) tree t movie.now walk.old samples
+        → more_of (piece_from end) samples ≤ length rows.old → IfErr result (λ r. r ≡ refusals.StoreChanged → ⊥) }
     ensures few { IfOk result (λ p. p.count ≤ length rows.old) }
+    ensures rows { IfOk result (λ p. (j : ℕ) → slice_index p.group_rows j ≤ p.count) }
     ensures bytes { IfOk result (λ p. p.bytes ≤ p.count * 4294967295) }
     ensures reads { OnOk result (S.read_failures store.new ≡ S.read_failures store.old) }
     ensures refusal { IfErr result (RefusesLoad (S.read_failures store.old) (S.read_failures store.new)) }
@@ -209,7 +221,10 @@ fn carry_hand<S: Store, K: Sink>(
 ) -> Result<Load, Refusal>
     ensures later { OnOk result (Follows hand.old hand.new) }
     ensures bytes { IfOk result (λ left. IsTrue (S.is_honest store.old) → BytesCarried (S.file store.old) (K.contents sink.old) (K.contents sink.new) (waiting carrier.old) (waiting carrier.new) (left_in_hand hand.old) (left_in_hand hand.new) load left) }
+    ensures prefix { OnErr result (IsTrue (S.is_honest store.old) → AppendsPrefix (K.contents sink.old) (K.contents sink.new) (waiting carrier.old ++ sample_bytes (S.file store.old) (take load.samples (left_in_hand hand.old)))) }
     ensures ends { IfOk result (λ left. 0 < left.samples → left_in_hand hand.new ≡ []) }
+    ensures unchanged { IsTrue (S.is_honest store.old) → AllByRecursion (IsBelow (length (S.file store.old))) (left_in_hand hand.old) → sizes_of (take load.samples (left_in_hand hand.old)) ≤ load.bytes
+        → IfErr result (λ r. r ≡ refusals.StoreChanged → ⊥) }
     ensures honesty { S.is_honest store.new ≡ S.is_honest store.old }
     ensures file { S.file store.new ≡ S.file store.old }
     ensures room { vec_len carrier.new.buffer ≡ vec_len carrier.old.buffer }
@@ -248,6 +263,10 @@ pub(crate) fn carry_piece<S: Store, K: Sink, L: Ledger>(
     ensures file { S.file store.new ≡ S.file store.old }
     ensures carried { IsTrue (S.is_honest store.old) → (tree : FileTree) (t : TrackTree) (samples : List SampleAt) → IsOpenedAs (S.file store.old) movie.now tree → Comes (S.file store.old) tree t movie.now walk.old samples
         → OnOk result (BytesGoOn (K.contents sink.old) (K.contents sink.new) (waiting carrier.old) (waiting carrier.new) (sample_bytes (S.file store.old) (take load.samples samples)) × Comes (S.file store.old) tree t movie.now walk.new (drop load.samples samples)) }
+    ensures prefix { IsTrue (S.is_honest store.old) → (tree : FileTree) (t : TrackTree) (samples : List SampleAt) → IsOpenedAs (S.file store.old) movie.now tree → Comes (S.file store.old) tree t movie.now walk.old samples
+        → OnErr result (AppendsPrefix (K.contents sink.old) (K.contents sink.new) (waiting carrier.old ++ sample_bytes (S.file store.old) (take load.samples samples))) }
+    ensures unchanged { IsTrue (S.is_honest store.old) → (tree : FileTree) (t : TrackTree) (samples : List SampleAt) → IsOpenedAs (S.file store.old) movie.now tree → Comes (S.file store.old) tree t movie.now walk.old samples
+        → load.samples ≤ length samples → load.bytes ≡ sizes_of (take load.samples samples) → AllByRecursion (IsBelow (length (S.file store.old))) samples → IfErr result (λ r. r ≡ refusals.StoreChanged → ⊥) }
     ensures buffer { vec_len carrier.new.buffer ≡ vec_len carrier.old.buffer }
     ensures reads { OnOk result (S.read_failures store.new ≡ S.read_failures store.old) }
     ensures puts { OnOk result (K.put_failures sink.new ≡ K.put_failures sink.old) }

@@ -1,5 +1,6 @@
 //! The rows of a `moof`: those of `trun`, and the `sbgp`s behind it (ISO/IEC 14496-12, 8.8.8 and 8.9.2).
-ghost use Rattle.std.specs.Prelude.{◌≡◌, ℕ, ◌+◌, ◌-◌, ◌^◌, ◌<◌, ◌≤◌, List, [], ◌++◌, None, flat_map, vec_len, length, IfSome, IfOk, IfErr, OnOk};
+ghost use Rattle.std.specs.Prelude.{◌≡◌, ℕ, ◌+◌, ◌-◌, ◌^◌, ◌<◌, ◌≤◌, List, [], ◌∷◌, ◌++◌, None, flat_map, vec_len, length, IfSome, IfOk, IfErr, OnOk, OnErr};
+ghost use Rattle.mp4_store.specs.Device.{AppendsPrefix};
 ghost use Rattle.mp4_tables.specs.Keys.{key_seen, keys_seen};
 ghost use Rattle.mp4_present.specs.Carried.{RefusesPut, BytesGoOn, waiting};
 ghost use Rattle.mp4_plan.specs.Normal.{own};
@@ -57,6 +58,7 @@ pub(crate) fn carry_run<K: Sink>(
 ) -> Result<(), Refusal>
     ensures room { vec_len carrier.new.buffer ≡ vec_len carrier.old.buffer }
     ensures bytes { OnOk result (BytesGoOn (K.contents sink.old) (K.contents sink.new) (waiting carrier.old) (waiting carrier.new) (run_rows planned.now rows.now)) }
+    ensures prefix { OnErr result (AppendsPrefix (K.contents sink.old) (K.contents sink.new) (waiting carrier.old ++ run_rows planned.now rows.now)) }
     ensures puts { OnOk result (K.put_failures sink.new ≡ K.put_failures sink.old) }
     ensures refusal { IfErr result (RefusesPut (K.put_failures sink.old) (K.put_failures sink.new)) }
 {
@@ -121,6 +123,7 @@ fn carry_index_run<K: Sink>(
 ) -> Result<(), Refusal>
     ensures room { vec_len carrier.new.buffer ≡ vec_len carrier.old.buffer }
     ensures bytes { OnOk result (BytesGoOn (K.contents sink.old) (K.contents sink.new) (waiting carrier.old) (waiting carrier.new) (flat_map group_row (runs_left run.count run.index []))) }
+    ensures prefix { OnErr result (AppendsPrefix (K.contents sink.old) (K.contents sink.new) (waiting carrier.old ++ flat_map group_row (runs_left run.count run.index []))) }
     ensures puts { OnOk result (K.put_failures sink.new ≡ K.put_failures sink.old) }
     ensures refusal { IfErr result (RefusesPut (K.put_failures sink.old) (K.put_failures sink.new)) }
 {
@@ -141,6 +144,7 @@ fn carry_index<K: Sink>(
     ensures room { vec_len carrier.new.buffer ≡ vec_len carrier.old.buffer }
     ensures count { IfOk result (λ next. next.count ≤ run.count + 1) }
     ensures bytes { IfOk result (λ next. (values : List ℕ) → WritesRuns (K.contents sink.old) (K.contents sink.new) (waiting carrier.old) (waiting carrier.new) run next index values) }
+    ensures prefix { OnErr result ((values : List ℕ) → AppendsPrefix (K.contents sink.old) (K.contents sink.new) (waiting carrier.old ++ flat_map group_row (runs_left run.count run.index (index ∷ values)))) }
     ensures puts { OnOk result (K.put_failures sink.new ≡ K.put_failures sink.old) }
     ensures refusal { IfErr result (RefusesPut (K.put_failures sink.old) (K.put_failures sink.new)) }
 {
@@ -165,6 +169,7 @@ fn carry_indexes<K: Sink>(
     requires few { length rows.now < 2 ^ 32 - 1 }
     ensures room { vec_len carrier.new.buffer ≡ vec_len carrier.old.buffer }
     ensures bytes { OnOk result (BytesGoOn (K.contents sink.old) (K.contents sink.new) (waiting carrier.old) (waiting carrier.new) (group_rows place rows.now)) }
+    ensures prefix { OnErr result (AppendsPrefix (K.contents sink.old) (K.contents sink.new) (waiting carrier.old ++ group_rows place rows.now)) }
     ensures puts { OnOk result (K.put_failures sink.new ≡ K.put_failures sink.old) }
     ensures refusal { IfErr result (RefusesPut (K.put_failures sink.old) (K.put_failures sink.new)) }
 {
@@ -230,6 +235,7 @@ fn carry_group<K: Sink>(
     requires few { length rows.now < 2 ^ 32 - 1 }
     ensures room { vec_len carrier.new.buffer ≡ vec_len carrier.old.buffer }
     ensures bytes { OnOk result (BytesGoOn (K.contents sink.old) (K.contents sink.new) (waiting carrier.old) (waiting carrier.new) (group_bytes rows.now planned.now used.place (key_seen used.key))) }
+    ensures prefix { OnErr result (AppendsPrefix (K.contents sink.old) (K.contents sink.new) (waiting carrier.old ++ group_bytes rows.now planned.now used.place (key_seen used.key))) }
     ensures puts { OnOk result (K.put_failures sink.new ≡ K.put_failures sink.old) }
     ensures refusal { IfErr result (RefusesPut (K.put_failures sink.old) (K.put_failures sink.new)) }
 {
@@ -250,6 +256,7 @@ pub(crate) fn carry_groups<K: Sink>(
     requires { length rows.now < 2 ^ 32 - 1 }
     ensures room { vec_len carrier.new.buffer ≡ vec_len carrier.old.buffer }
     ensures bytes { OnOk result (AreApart (keys_seen keys.now) → BytesGoOn (K.contents sink.old) (K.contents sink.new) (waiting carrier.old) (waiting carrier.new) (groups_bytes rows.now planned.now (keys_seen keys.now))) }
+    ensures prefix { OnErr result (AreApart (keys_seen keys.now) → AppendsPrefix (K.contents sink.old) (K.contents sink.new) (waiting carrier.old ++ groups_bytes rows.now planned.now (keys_seen keys.now))) }
     ensures puts { OnOk result (K.put_failures sink.new ≡ K.put_failures sink.old) }
     ensures refusal { IfErr result (RefusesPut (K.put_failures sink.old) (K.put_failures sink.new)) }
 {

@@ -1,5 +1,5 @@
 //! How many bytes the boxes of a piece's `moof` take.
-ghost use Rattle.std.specs.Prelude.{◌≡◌, ◌-◌, ◌^◌, ◌<◌, ◌≤◌, min};
+ghost use Rattle.std.specs.Prelude.{◌≡◌, ℕ, ◌-◌, ◌^◌, ◌<◌, ◌≤◌, length, slice_index, min};
 ghost use Rattle.mp4_tables.specs.Keys.{keys_seen};
 ghost use Rattle.mp4_plan.specs.Sizes.{own_size, row_size, group_size, groups_size, moof_sizes};
 
@@ -54,6 +54,7 @@ pub(crate) fn group_size(parameter: Option<u32>, rows: u32) -> u64
 fn groups_size(planned: &Planned, keys: &Keys) -> u64
     ensures is { result ≡ groups_size planned.now.group_rows 0 (keys_seen keys.now) }
     ensures small { result ≤ 2 ^ 38 }
+    ensures four { length (keys_seen keys.now) ≤ 4 }
 {
     let mut total = 0;
     for j in 0..keys.count() {
@@ -69,6 +70,7 @@ fn groups_size(planned: &Planned, keys: &Keys) -> u64
 pub(crate) fn sizes_of(planned: &Planned, keys: &Keys) -> MoofSizes
     ensures is { result ≡ moof_sizes planned.now (keys_seen keys.now) }
     ensures short { result.moof < 2 ^ 40 }
+    ensures small { planned.now.count ≤ 2 ^ 24 → ((j : ℕ) → slice_index planned.now.group_rows j ≤ planned.now.count) → result.moof ≤ 2 ^ 30 }
 {
     let tfhd = 32 - own(planned.duration) - own(planned.size) - own(planned.flags);
     let trun = 20 + row_size(planned) * u64::from(planned.count);

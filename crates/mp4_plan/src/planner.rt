@@ -1,6 +1,7 @@
 //! A piece that is fed with samples.
 use crate::ends::{End, Fed, has_ended};
 use crate::gathered::{Gathered, gathered_first, gathered_more};
+use crate::rows::{Row, row_of};
 use mp4_tables::{SampleAt, Samples};
 use std::marker::Model;
 
@@ -52,9 +53,10 @@ impl Model for Planner {
 }
 
 impl Planner {
-    ghost use Rattle.std.specs.Prelude.{◌≡◌, ◌+◌, ◌*◌, ◌^◌, ◌<◌, ◌≤◌, length, Some, None, ◌∷◌, []};
+    ghost use Rattle.std.specs.Prelude.{◌≡◌, ℕ, ◌+◌, ◌*◌, ◌^◌, ◌<◌, ◌≤◌, length, slice_index, Some, None, ◌∷◌, []};
     ghost use Rattle.mp4_plan.specs.Ends.{goes_in};
     ghost use Rattle.mp4_plan.specs.Gathering.{description_in, gather, piece_fed, samples_after, answer, count_of, planned_of};
+    ghost use Rattle.mp4_plan.specs.HandsFed.{Notes};
 
     /// A piece without samples.
     pub fn new(end: End) -> Planner
@@ -70,6 +72,7 @@ impl Planner {
     pub fn piece(&self) -> Planned
         ensures is { result ≡ planned_of self.now.gathered }
         ensures bounded { result.bytes ≤ result.count * 4294967295 }
+        ensures rows { (j : ℕ) → slice_index result.group_rows j ≤ result.count }
     {
         let Some(gathered) = &self.gathered else {
             return Planned {
@@ -141,5 +144,27 @@ impl Planner {
             let _ = samples.next();
         }
         Fed::More
+    }
+
+    /// Takes samples and notes them in rows, until the piece ends or no sample or no row is left.
+    pub(crate) fn note<S: Samples>(&mut self, samples: &mut S, rows: &mut [Row])
+        requires { count_of self.old.gathered + length rows.old < 2 ^ 32 }
+        ensures noted { Notes self.old self.new (S.rest samples.old) (S.rest samples.new) rows.old rows.new }
+        ensures few { count_of self.new.gathered ≤ count_of self.old.gathered + length rows.old }
+        ensures later { S.follows samples.old samples.new }
+    {
+        let mut noted = 0;
+        while noted < rows.len() {
+            let Some(sample) = samples.peek() else {
+                return;
+            };
+            if !self.takes(&sample) {
+                return;
+            }
+            rows[noted] = row_of(&sample);
+            noted += 1;
+            self.take(sample);
+            let _ = samples.next();
+        }
     }
 }

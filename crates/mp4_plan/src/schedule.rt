@@ -30,7 +30,8 @@ pub(crate) struct Schedule {
 
 // Whether a turn without samples leads nowhere.
 fn is_stuck(count: u32, is_passed: bool) -> bool
-    ensures { result ≡ false → is_passed ≡ false → 0 < count }
+    ensures goes { result ≡ false → is_passed ≡ false → 0 < count }
+    ensures stuck { result ≡ true → (count ≡ 0) × (is_passed ≡ false) }
 {
     count == 0 && !is_passed
 }
@@ -39,14 +40,16 @@ fn is_stuck(count: u32, is_passed: bool) -> bool
 fn may_pass(is_over: bool, is_first: bool, sample: &Option<SampleAt>) -> bool
     ensures over { result ≡ true → is_over ≡ true }
     ensures first { result ≡ true → is_first ≡ true → sample.now ≡ None }
+    ensures may { is_over ≡ true → (is_first ≡ true → sample.now ≡ None) → result ≡ true }
 {
     is_over && !(is_first && sample.is_some())
 }
 
 impl Schedule {
-    ghost use Rattle.std.specs.Prelude.{◌≡◌, ◌<◌, ◌≤◌, length, option_map, slice_get, Some, None, IfSome, IfErr, OnOk};
+    ghost use Rattle.std.specs.Prelude.{◌≡◌, ◌-◌, ◌^◌, ◌<◌, ◌≤◌, min, length, option_map, slice_get, Some, None, IfSome, IfErr, OnOk};
+    ghost use Rattle.std.specs.List.{sum_by};
     ghost use Rattle.mp4_present.specs.declared.track_info.TrackInfo.{TrackInfo};
-    ghost use Rattle.mp4_plan.specs.Turns.{to_come, track_passed, first_scale, turn_end, turned};
+    ghost use Rattle.mp4_plan.specs.Turns.{to_come, track_passed, first_scale, turn_end, turned, Sticks};
     ghost use Rattle.mp4_boxes.specs.declared.refusal.Refusal.TheVariants as refusals;
     ghost use Rattle.mp4_tables.specs.declared.sample.SampleAt.{SampleAt};
 
@@ -54,6 +57,7 @@ impl Schedule {
     pub(crate) fn new(tracks: &[TrackInfo], from: u64) -> Schedule
         ensures tracks { result.tracks ≡ length tracks.now }
         ensures first { result.first ≡ first_scale tracks.now }
+        ensures left { result.left ≡ min (sum_by (λ (i : TrackInfo). i.samples) tracks.now) (2 ^ 64 - 1) }
         ensures starts { (result.track ≡ 0) × (result.from ≡ from) × (result.next ≡ None) }
     {
         let mut left: u64 = 0;
@@ -136,7 +140,7 @@ impl Schedule {
         ensures tracks { OnOk result (self.new.tracks ≡ self.old.tracks) }
         ensures turned { OnOk result (self.new ≡ turned self.old turn.now.end count sample) }
         ensures less { OnOk result (to_come self.new < to_come self.old) }
-        ensures refusal { IfErr result (λ r. r ≡ refusals.StoreChanged) }
+        ensures refusal { IfErr result (λ r. (r ≡ refusals.StoreChanged) × Sticks self.old turn.now.end count sample) }
     {
         let is_over = match &sample {
             Some(next) => has_ended(&turn.end, next),

@@ -1,8 +1,26 @@
 //! The normal form of a presentation, written.
-ghost use Rattle.std.specs.Prelude.{◌≡◌, ◌+◌, ◌*◌, ◌^◌, ◌<◌, ◌≤◌, length, IfOk, IfErr, OnOk};
+ghost use Rattle.std.specs.Prelude.{◌≡◌, ℕ, ◌+◌, ◌*◌, ◌-◌, ◌^◌, ◌<◌, ◌≤◌, min, List, ◌++◌, length, take, drop, slice_index, slice_get, Some, None, IfOk, IfErr, OnOk, OnErr, IsTrue};
+ghost use Rattle.std.specs.Io.KnownBytes.{Appends};
+ghost use Rattle.std.specs.List.{AllByRecursion};
+ghost use Rattle.mp4_boxes.specs.Bytes.{sum_of};
+ghost use Rattle.mp4_boxes.specs.declared.refusal.Refusal.TheVariants as refusals;
+ghost use Rattle.mp4_store.specs.Device.{AppendsPrefix};
+ghost use Rattle.mp4_head.specs.Tree.{TrackTree};
+ghost use Rattle.mp4_tables.specs.Keys.{keys_seen};
+ghost use Rattle.mp4_tables.specs.declared.sample.SampleAt.{SampleAt};
+ghost use Rattle.mp4_present.specs.declared.track_info.TrackInfo.{TrackInfo};
+ghost use Rattle.mp4_present.specs.Carried.{BytesGoOn, waiting};
+ghost use Rattle.mp4_present.specs.Coming.{Comes};
+ghost use Rattle.mp4_present.specs.Denotes.{FileTree, presentation_of};
+ghost use Rattle.mp4_present.specs.Joined.{IsBelow};
+ghost use Rattle.mp4_present.specs.OpenedMovie.{IsOpenedAs};
+ghost use Rattle.mp4_plan.specs.Normal.{normal};
+ghost use Rattle.mp4_plan.specs.UsedKeys.{AreApart};
 ghost use Rattle.mp4_present.specs.Carried.{RefusesCarry};
+ghost use Rattle.mp4_present.specs.declared.walks.Walk.{Walk};
+ghost use Rattle.mp4_plan.specs.Gathering.{more_of, piece_from};
 ghost use Rattle.mp4_present.specs.Movies.{RefusesLoad};
-ghost use Rattle.mp4_plan.specs.Writers.{RefusesMemory, RefusesPlan, AreWalksOf, IsWriterOf, rooms, held, turn_head, sequence_behind};
+ghost use Rattle.mp4_plan.specs.Writers.{RefusesMemory, RefusesPlan, AreWalksOf, IsWriterOf, rooms, held, turn_head, sequence_behind, AllCome, AllBegin, first_dts, head_of_normal, IsReady, bytes_of_piece, turn_bytes, HasNoted, IsNoted, HaveCopied, IsPlanOf, WhereOpened, planned_length};
 
 use crate::courses::{Load, carry_piece, note_piece, peek_sample, plan_piece};
 use crate::moof_front::{PieceHead, moof_front};
@@ -10,7 +28,7 @@ use crate::moof_rows::{carry_groups, carry_run};
 use crate::moof_sizes::sizes_of;
 use crate::planner::Planned;
 use crate::rows::{NO_ROW, Row};
-use crate::schedule::Schedule;
+use crate::schedule::{Schedule, Turn};
 use mp4_boxes::{FourCc, Refusal, Steps, header};
 use mp4_head::{head_bytes, head_len};
 use mp4_present::{Carrier, Movie, Walk};
@@ -22,9 +40,7 @@ use std::sync::ledger::Ledger;
 /// How many bytes are put at once.
 const PIECE: usize = 65_000;
 
-/// The most bytes of a `moof`, and of `ftyp` and `moov`.
-const MOST_MOOF: u64 = 1 << 30;
-
+/// The most bytes of `ftyp` and `moov`.
 const MOST_HEAD: u128 = (1 << 30) + 24;
 
 // What all pieces of a presentation come to.
@@ -34,6 +50,14 @@ struct Plan {
     longest: u32,
     /// The bytes of all pieces.
     len: u64,
+}
+
+// What a turn comes to: what was planned of its samples, what its piece says once where it has some, and the next sample.
+#[derive(Clone, Copy, Debug, PartialEq, Eq)]
+struct Noted {
+    planned: Planned,
+    head: Option<PieceHead>,
+    next: Option<SampleAt>,
 }
 
 /// Writes the normal form of a movie. All memory that it takes is taken when it is made.
@@ -51,6 +75,8 @@ pub struct Writer {
 fn walks_of(alloc: Global, movie: &Movie) -> Result<Vec<Walk>, Refusal>
     ensures walks { IfOk result (λ walks. AreWalksOf movie.now walks.items) }
     ensures rooms { IfOk result (λ walks. rooms walks.items ≡ length movie.now.tracks * movie.now.longest) }
+    ensures begin { IfOk result (λ walks. (file : List ℕ) (tree : FileTree) → IsOpenedAs file movie.now tree → AllBegin file tree movie.now walks.items) }
+    ensures memory { IfErr result (λ r. r ≡ refusals.Memory) }
     ensures refusal { IfErr result RefusesMemory }
 {
     let mut walks = Vec::new(alloc);
@@ -70,19 +96,26 @@ fn first_time<S: Store, L: Ledger>(
     requires { AreWalksOf movie.now walks.old }
     ensures walks { OnOk result (AreWalksOf movie.now walks.new) }
     ensures rooms { rooms walks.new ≡ rooms walks.old }
+    ensures honesty { S.is_honest store.new ≡ S.is_honest store.old }
     ensures file { S.file store.new ≡ S.file store.old }
+    ensures time { WhereOpened (S.is_honest store.old) (S.file store.old) movie.now (λ tree. (lefts : List (List SampleAt)) → AllCome (S.file store.old) tree movie.now tree.movie.tracks walks.old lefts → IfOk result (λ time. (time ≡ first_dts lefts) × AllCome (S.file store.old) tree movie.now tree.movie.tracks walks.new lefts)) }
+    ensures unchanged { WhereOpened (S.is_honest store.old) (S.file store.old) movie.now (λ tree. (lefts : List (List SampleAt)) → AllCome (S.file store.old) tree movie.now tree.movie.tracks walks.old lefts → IfErr result (λ r. r ≡ refusals.StoreChanged → ⊥)) }
     ensures reads { OnOk result (S.read_failures store.new ≡ S.read_failures store.old) }
     ensures refusal { IfErr result (RefusesLoad (S.read_failures store.old) (S.read_failures store.new)) }
 {
     if walks.is_empty() {
         return Ok(0);
     }
-    let sample = peek_sample(&mut walks[0], movie, store, steps)?;
-    Ok(sample.map_or(0, |first| first.dts))
+    match peek_sample(&mut walks[0], movie, store, steps)? {
+        Some(first) => Ok(first.dts),
+        None => Ok(0),
+    }
 }
 
-// The bytes of a piece: its `moof`, and its `mdat`.
-fn piece_len(planned: &Planned, keys: &Keys) -> u64 {
+// The bytes of a piece, as far as 64 bits go: its `moof`, and its `mdat`.
+fn piece_len(planned: &Planned, keys: &Keys) -> u64
+    ensures { result ≡ min (planned_length planned.now (keys_seen keys.now)) (2 ^ 64 - 1) }
+{
     let header = if planned.bytes < (1 << 32) - 8 { 8 } else { 16 };
     (sizes_of(planned, keys).moof + header).saturating_add(planned.bytes)
 }
@@ -92,7 +125,9 @@ impl Plan {
 
     // The plan with one more piece.
     fn add(&mut self, planned: &Planned, keys: &Keys)
-        ensures { self.new.longest ≡ max self.old.longest planned.now.count }
+        ensures longest { self.new.longest ≡ max self.old.longest planned.now.count }
+        ensures none { planned.now.count ≡ 0 → self.new.len ≡ self.old.len }
+        ensures some { 0 < planned.now.count → self.new.len ≡ min (self.old.len + planned_length planned.now (keys_seen keys.now)) (2 ^ 64 - 1) }
     {
         if planned.count > 0 {
             self.longest = self.longest.max(planned.count);
@@ -108,8 +143,11 @@ fn plan_all<S: Store, L: Ledger>(
     store: &mut S,
     steps: &mut Steps<L>,
 ) -> Result<Plan, Refusal>
+    ensures honesty { S.is_honest store.new ≡ S.is_honest store.old }
     ensures file { S.file store.new ≡ S.file store.old }
     ensures few { IfOk result (λ plan. plan.longest ≤ 2 ^ 24) }
+    ensures plan { WhereOpened (S.is_honest store.old) (S.file store.old) movie.now (λ tree. IfOk result (IsPlanOf (presentation_of (S.file store.old) tree))) }
+    ensures unchanged { WhereOpened (S.is_honest store.old) (S.file store.old) movie.now (λ tree. IfErr result (λ r. r ≡ refusals.StoreChanged → ⊥)) }
     ensures reads { OnOk result (S.read_failures store.new ≡ S.read_failures store.old) }
     ensures refusal { IfErr result (RefusesPlan (S.read_failures store.old) (S.read_failures store.new)) }
 {
@@ -135,7 +173,10 @@ pub fn normal_len<S: Store, L: Ledger>(
     store: &mut S,
     steps: &mut Steps<L>,
 ) -> Result<u64, Refusal>
+    ensures honesty { S.is_honest store.new ≡ S.is_honest store.old }
     ensures file { S.file store.new ≡ S.file store.old }
+    ensures length { WhereOpened (S.is_honest store.old) (S.file store.old) movie.now (λ tree. IfOk result (λ len. len ≡ length (normal (presentation_of (S.file store.old) tree)))) }
+    ensures unchanged { WhereOpened (S.is_honest store.old) (S.file store.old) movie.now (λ tree. IfErr result (λ r. r ≡ refusals.StoreChanged → ⊥)) }
     ensures reads { OnOk result (S.read_failures store.new ≡ S.read_failures store.old) }
     ensures refusal { IfErr result (RefusesPlan (S.read_failures store.old) (S.read_failures store.new)) }
 {
@@ -149,6 +190,8 @@ pub fn normal_len<S: Store, L: Ledger>(
 
 // The bytes of `ftyp` and `moov`.
 fn head_of(alloc: Global, movie: &Movie) -> Result<Vec<u8>, Refusal>
+    ensures head { (file : List ℕ) (tree : FileTree) → IsOpenedAs file movie.now tree → IfOk result (λ bytes. bytes.items ≡ head_of_normal (presentation_of file tree)) }
+    ensures unchanged { (file : List ℕ) (tree : FileTree) → IsOpenedAs file movie.now tree → IfErr result (λ r. r ≡ refusals.StoreChanged → ⊥) }
     ensures refusal { IfErr result RefusesMemory }
 {
     let head = movie.head(alloc)?;
@@ -194,7 +237,10 @@ impl Writer {
     ) -> Result<Writer, Refusal>
         ensures writer { IfOk result (IsWriterOf movie.now) }
         ensures held { IfOk result (λ w. held w ≡ length w.head.items + 2 * (length movie.now.tracks * movie.now.longest) + 24 * length w.rows.items + PIECE) }
+        ensures honesty { S.is_honest store.new ≡ S.is_honest store.old }
         ensures file { S.file store.new ≡ S.file store.old }
+        ensures ready { WhereOpened (S.is_honest store.old) (S.file store.old) movie.now (λ tree. IfOk result (IsReady (S.file store.old) tree movie.now)) }
+        ensures unchanged { WhereOpened (S.is_honest store.old) (S.file store.old) movie.now (λ tree. IfErr result (λ r. r ≡ refusals.StoreChanged → ⊥)) }
         ensures reads { OnOk result (S.read_failures store.new ≡ S.read_failures store.old) }
         ensures refusal { IfErr result (RefusesPlan (S.read_failures store.old) (S.read_failures store.new)) }
     {
@@ -205,6 +251,41 @@ impl Writer {
             rows: vec![in alloc; NO_ROW; plan.longest as usize]?,
             planning: walks_of(alloc, movie)?,
             copying: walks_of(alloc, movie)?,
+        })
+    }
+
+    // Plans the piece of a turn, and notes its samples. The next piece has this sequence number, the track this ID.
+    fn note_turn<S: Store, L: Ledger>(
+        &mut self,
+        turn: &Turn,
+        sequence: u32,
+        id: u32,
+        movie: &Movie,
+        store: &mut S,
+        steps: &mut Steps<L>,
+    ) -> Result<Noted, Refusal>
+        requires writer { IsWriterOf movie.now self.old }
+        requires track { turn.now.track < length movie.now.tracks }
+        ensures writer { OnOk result (IsWriterOf movie.now self.new) }
+        ensures held { held self.new ≡ held self.old }
+        ensures keeps { (self.new.copying ≡ self.old.copying) × (self.new.carrier ≡ self.old.carrier) × (length self.new.rows.items ≡ length self.old.rows.items) }
+        ensures honesty { S.is_honest store.new ≡ S.is_honest store.old }
+        ensures file { S.file store.new ≡ S.file store.old }
+        ensures noted { WhereOpened (S.is_honest store.old) (S.file store.old) movie.now (λ tree. (t : TrackTree) (walk : Walk) (left : List SampleAt) → slice_get self.old.planning.items turn.now.track ≡ Some walk → Comes (S.file store.old) tree t movie.now walk left → IfOk result (HasNoted (S.file store.old) tree t movie.now turn.now sequence id left self.old self.new)) }
+        ensures unchanged { WhereOpened (S.is_honest store.old) (S.file store.old) movie.now (λ tree. (t : TrackTree) (walk : Walk) (left : List SampleAt) → slice_get self.old.planning.items turn.now.track ≡ Some walk → Comes (S.file store.old) tree t movie.now walk left → more_of (piece_from turn.now.end) left ≤ length self.old.rows.items → IfErr result (λ r. r ≡ refusals.StoreChanged → ⊥)) }
+        ensures few { IfOk result (λ n. (n.planned.count ≤ length self.old.rows.items) × (n.planned.bytes + 16 < 2 ^ 64) × ((j : ℕ) → slice_index n.planned.group_rows j ≤ n.planned.count)) }
+        ensures reads { OnOk result (S.read_failures store.new ≡ S.read_failures store.old) }
+        ensures refusal { IfErr result (RefusesLoad (S.read_failures store.old) (S.read_failures store.new)) }
+    {
+        let walk = &mut self.planning[turn.track];
+        let first = peek_sample(walk, movie, store, steps)?;
+        let rows = self.rows.as_mut_slice();
+        let planned = note_piece(walk, turn.end, rows, movie, store, steps)?;
+        let next = peek_sample(walk, movie, store, steps)?;
+        Ok(Noted {
+            planned,
+            head: turn_head(sequence, id, planned.count, &first),
+            next,
         })
     }
 
@@ -223,18 +304,22 @@ impl Writer {
         requires track { track < length movie.now.tracks }
         requires count { planned.now.count ≤ length self.old.rows.items }
         requires bytes { planned.now.bytes + 16 < 2 ^ 64 }
+        requires rows { (j : ℕ) → slice_index planned.now.group_rows j ≤ planned.now.count }
         ensures writer { OnOk result (IsWriterOf movie.now self.new) }
         ensures held { held self.new ≡ held self.old }
+        ensures honesty { S.is_honest store.new ≡ S.is_honest store.old }
         ensures file { S.file store.new ≡ S.file store.old }
+        ensures put { WhereOpened (S.is_honest store.old) (S.file store.old) movie.now (λ tree. (samples : List SampleAt) → IsNoted (S.file store.old) tree movie.now track planned.now.count samples self.old → (info : TrackInfo) → slice_get movie.now.tracks track ≡ Some info → AreApart (keys_seen info.keys) → OnOk result (BytesGoOn (K.contents sink.old) (K.contents sink.new) (waiting self.old.carrier) (waiting self.new.carrier) (bytes_of_piece (S.file store.old) head planned.now (keys_seen info.keys) (take planned.now.count samples)))) }
+        ensures prefix { WhereOpened (S.is_honest store.old) (S.file store.old) movie.now (λ tree. (samples : List SampleAt) → IsNoted (S.file store.old) tree movie.now track planned.now.count samples self.old → (info : TrackInfo) → slice_get movie.now.tracks track ≡ Some info → AreApart (keys_seen info.keys) → OnErr result (AppendsPrefix (K.contents sink.old) (K.contents sink.new) (waiting self.old.carrier ++ bytes_of_piece (S.file store.old) head planned.now (keys_seen info.keys) (take planned.now.count samples)))) }
+        ensures copied { WhereOpened (S.is_honest store.old) (S.file store.old) movie.now (λ tree. (samples : List SampleAt) → OnOk result (HaveCopied (S.file store.old) tree movie.now track planned.now.count samples self.old self.new)) }
+        ensures keeps { OnOk result ((self.new.planning ≡ self.old.planning) × (self.new.rows ≡ self.old.rows)) }
+        ensures unchanged { WhereOpened (S.is_honest store.old) (S.file store.old) movie.now (λ tree. (samples : List SampleAt) → IsNoted (S.file store.old) tree movie.now track planned.now.count samples self.old → planned.now.count ≤ length samples → planned.now.bytes ≡ sum_of (λ (s : SampleAt). s.size) (take planned.now.count samples) → AllByRecursion (IsBelow (length (S.file store.old))) samples → IfErr result (λ r. r ≡ refusals.StoreChanged → ⊥)) }
         ensures reads { OnOk result (S.read_failures store.new ≡ S.read_failures store.old) }
         ensures puts { OnOk result (K.put_failures sink.new ≡ K.put_failures sink.old) }
         ensures refusal { IfErr result (RefusesCarry (S.read_failures store.old) (S.read_failures store.new) (K.put_failures sink.old) (K.put_failures sink.new)) }
     {
         let keys = movie.tracks()[track].keys;
         let sizes = sizes_of(planned, &keys);
-        if sizes.moof > MOST_MOOF {
-            return Err(Refusal::StoreChanged);
-        }
         let rows = &self.rows[..planned.count as usize];
         let front = moof_front(&head, planned, &sizes);
         self.carrier.carry(front.as_bytes(), sink)?;
@@ -265,9 +350,16 @@ impl Writer {
         requires track { track < length movie.now.tracks }
         requires count { planned.now.count ≤ length self.old.rows.items }
         requires bytes { planned.now.bytes + 16 < 2 ^ 64 }
+        requires rows { (j : ℕ) → slice_index planned.now.group_rows j ≤ planned.now.count }
         ensures writer { OnOk result (IsWriterOf movie.now self.new) }
         ensures held { held self.new ≡ held self.old }
+        ensures honesty { S.is_honest store.new ≡ S.is_honest store.old }
         ensures file { S.file store.new ≡ S.file store.old }
+        ensures put { WhereOpened (S.is_honest store.old) (S.file store.old) movie.now (λ tree. (samples : List SampleAt) → IsNoted (S.file store.old) tree movie.now track planned.now.count samples self.old → (info : TrackInfo) → slice_get movie.now.tracks track ≡ Some info → AreApart (keys_seen info.keys) → OnOk result (BytesGoOn (K.contents sink.old) (K.contents sink.new) (waiting self.old.carrier) (waiting self.new.carrier) (turn_bytes (S.file store.old) head planned.now (keys_seen info.keys) (take planned.now.count samples)))) }
+        ensures prefix { WhereOpened (S.is_honest store.old) (S.file store.old) movie.now (λ tree. (samples : List SampleAt) → IsNoted (S.file store.old) tree movie.now track planned.now.count samples self.old → (info : TrackInfo) → slice_get movie.now.tracks track ≡ Some info → AreApart (keys_seen info.keys) → OnErr result (AppendsPrefix (K.contents sink.old) (K.contents sink.new) (waiting self.old.carrier ++ turn_bytes (S.file store.old) head planned.now (keys_seen info.keys) (take planned.now.count samples)))) }
+        ensures copied { WhereOpened (S.is_honest store.old) (S.file store.old) movie.now (λ tree. (samples : List SampleAt) → (head ≡ None → drop planned.now.count samples ≡ samples) → OnOk result (HaveCopied (S.file store.old) tree movie.now track planned.now.count samples self.old self.new)) }
+        ensures keeps { OnOk result ((self.new.planning ≡ self.old.planning) × (self.new.rows ≡ self.old.rows)) }
+        ensures unchanged { WhereOpened (S.is_honest store.old) (S.file store.old) movie.now (λ tree. (samples : List SampleAt) → IsNoted (S.file store.old) tree movie.now track planned.now.count samples self.old → planned.now.count ≤ length samples → planned.now.bytes ≡ sum_of (λ (s : SampleAt). s.size) (take planned.now.count samples) → AllByRecursion (IsBelow (length (S.file store.old))) samples → IfErr result (λ r. r ≡ refusals.StoreChanged → ⊥)) }
         ensures reads { OnOk result (S.read_failures store.new ≡ S.read_failures store.old) }
         ensures puts { OnOk result (K.put_failures sink.new ≡ K.put_failures sink.old) }
         ensures refusal { IfErr result (RefusesCarry (S.read_failures store.old) (S.read_failures store.new) (K.put_failures sink.old) (K.put_failures sink.new)) }
@@ -288,7 +380,11 @@ impl Writer {
     ) -> Result<(), Refusal>
         requires { IsWriterOf movie.now self.old }
         ensures held { held self.new ≡ held self.old }
+        ensures honesty { S.is_honest store.new ≡ S.is_honest store.old }
         ensures file { S.file store.new ≡ S.file store.old }
+        ensures bytes { WhereOpened (S.is_honest store.old) (S.file store.old) movie.now (λ tree. IsReady (S.file store.old) tree movie.now self.old → OnOk result (Appends (K.contents sink.old) (K.contents sink.new) (normal (presentation_of (S.file store.old) tree)))) }
+        ensures prefix { WhereOpened (S.is_honest store.old) (S.file store.old) movie.now (λ tree. IsReady (S.file store.old) tree movie.now self.old → OnErr result (AppendsPrefix (K.contents sink.old) (K.contents sink.new) (normal (presentation_of (S.file store.old) tree)))) }
+        ensures unchanged { WhereOpened (S.is_honest store.old) (S.file store.old) movie.now (λ tree. IsReady (S.file store.old) tree movie.now self.old → IfErr result (λ r. r ≡ refusals.StoreChanged → ⊥)) }
         ensures reads { OnOk result (S.read_failures store.new ≡ S.read_failures store.old) }
         ensures puts { OnOk result (K.put_failures sink.new ≡ K.put_failures sink.old) }
         ensures refusal { IfErr result (RefusesCarry (S.read_failures store.old) (S.read_failures store.new) (K.put_failures sink.old) (K.put_failures sink.new)) }
@@ -299,15 +395,19 @@ impl Writer {
         let mut schedule = Schedule::new(tracks, from);
         let mut sequence: u32 = 1;
         while let Some(turn) = schedule.turn(tracks) {
-            let walk = &mut self.planning[turn.track];
-            let first = peek_sample(walk, movie, store, steps)?;
-            let rows = self.rows.as_mut_slice();
-            let planned = note_piece(walk, turn.end, rows, movie, store, steps)?;
-            let next = peek_sample(walk, movie, store, steps)?;
-            let head = turn_head(sequence, tracks[turn.track].id, planned.count, &first);
-            sequence = sequence_behind(sequence, &head);
-            self.carry_turn(turn.track, head, &planned, movie, store, sink, steps)?;
-            schedule.pass(&turn, planned.count, next)?;
+            let id = tracks[turn.track].id;
+            let noted = self.note_turn(&turn, sequence, id, movie, store, steps)?;
+            sequence = sequence_behind(sequence, &noted.head);
+            self.carry_turn(
+                turn.track,
+                noted.head,
+                &noted.planned,
+                movie,
+                store,
+                sink,
+                steps,
+            )?;
+            schedule.pass(&turn, noted.planned.count, noted.next)?;
         }
         self.carrier.flush(sink)
     }

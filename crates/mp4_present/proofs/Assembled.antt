@@ -305,6 +305,7 @@ module _ (honest : Bool) (file : List ℕ) (o : Outline) (moov : List ℕ) (b : 
         is_tree = is_file_tree;
         is_sound = is_sound_file;
         is_consistent = is_consistent_file;
+        bytes = record { moov = begin.bytes; moofs = p.bytes };
         limits = record { samples = few_samples file tree states p.room begin.movie_is p.behind; times = times; moov = short };
         whole = e;
         moov = sym r.is ∙ sym says.has.is_moov;

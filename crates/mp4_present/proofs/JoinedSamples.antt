@@ -9,7 +9,7 @@ use Rattle.std.proofs.lemmas.List.{append-nil}
 use Rattle.mp4_store.specs.Device.{range}
 use Rattle.mp4_store.proofs.Known.{range-add}
 use Rattle.mp4_tables.specs.declared.sample.SampleAt.{SampleAt}
-use Rattle.mp4_present.specs.Joined.{AreJoined, IsBelow, sample_bytes}
+use Rattle.mp4_present.specs.Joined.{AreJoined, sample_bytes}
 
 -- the first and the rest
 pub first_of : (xs : List SampleAt) (s : SampleAt) → Some s ≡ slice_get xs 0 → xs ≡ s ∷ drop 1 xs

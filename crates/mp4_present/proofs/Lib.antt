@@ -17,6 +17,7 @@ pub mod Fronts
 pub mod FragmentReasons
 pub mod Counts
 pub mod ValidSamples
+pub mod PlacedTracks
 pub mod DenotedValid
 pub mod Vectors
 pub mod TopLevel

@@ -11,7 +11,7 @@ use Rattle.mp4_boxes.specs.declared.fault.Fault.{Fault}
 use Rattle.mp4_boxes.specs.declared.refusal.Refusal.{Refusal}
 use Rattle.mp4_boxes.specs.declared.refusal.Refusal.TheVariants as refusals
 use Rattle.mp4_boxes.specs.declared.rule.Rule.TheVariants.{File}
-use Rattle.mp4_boxes.proofs.Among.{of_kind-append, head_is, tail_is}
+use Rattle.mp4_boxes.proofs.Among.{of_kind-append, head_is, tail_is, all_append}
 use Rattle.mp4_boxes.proofs.Each.{each_from, each_value, each_weaker}
 use Rattle.mp4_boxes.proofs.OfBytes.{bytes_taken, payloads_of_bytes}
 use Rattle.mp4_boxes.proofs.Tiling.{tiles_one}
@@ -53,6 +53,7 @@ use Rattle.mp4_present.proofs.Order.{not_first}
 -- the boxes of the file up to a place were passed, and the `moof`s among them are as they should be
 pub record IsUnderWay (file : List ℕ) (movie : MovieTree) (boxes : List Box) (at most : ℕ) (states : List TrackState) (counted : List Counted) (room : ℕ) : Type 0 where
   pub fragments : List FragmentTree
+  pub bytes : AllByRecursion (λ (t : FragmentTree). AreBytes t.moof.payload) fragments
   pub behind : AreBehind file movie fragments states room
   pub counts : AreCounted movie.tracks (parts_behind movie fragments) counted
   pub passed : List Box
@@ -71,6 +72,7 @@ under_way_first file movie boxes known o states counted room holds i b =
     let f = first_passed file known o.fragments a i.fragments in
     record {
       fragments = [];
+      bytes = tt;
       behind = b.behind;
       counts = b.counts;
       passed = f.0;
@@ -85,6 +87,7 @@ pub all_passed : (file : List ℕ) (movie : MovieTree) (boxes : List Box) (at mo
     → IsPassed file movie boxes states counted
 all_passed file movie boxes at most states counted room u n = record {
   fragments = u.fragments;
+  bytes = u.bytes;
   moofs = u.moofs ∙ sym (append-nil (of_kind (codes "moof") u.passed)) ∙ ap (λ (bs : List Box). of_kind (codes "moof") u.passed ++ bs) (sym n) ∙ sym (of_kind-append (codes "moof") u.passed u.left.boxes) ∙ ap (of_kind (codes "moof")) (sym u.are);
   room = room;
   behind = u.behind;
@@ -180,6 +183,7 @@ module _ (file : List ℕ) (movie : MovieTree) (boxes : List Box) (at most : ℕ
         let next = left_next file at most top u.left w n in
         record {
           fragments = u.fragments ++ tree_of moof ∷ [];
+          bytes = all_append (λ (t : FragmentTree). AreBytes t.moof.payload) u.fragments (tree_of moof ∷ []) u.bytes (bytes, tt);
           behind = behind_it;
           counts = subst (λ (ps : List Part). AreCounted movie.tracks ps after) (sym (parts_joined movie u.fragments (tree_of moof))) counts;
           passed = (u.passed ++ n.0) ++ moof ∷ [];

@@ -1,12 +1,13 @@
 -- What an opened movie is of the file that it was opened from.
 use Rattle.std.specs.Prelude.{◌≡◌, ℕ, ◌+◌, ◌-◌, ◌^◌, min, List, [], ◌∷◌, ⊤, length, map, codes}
-use Rattle.std.specs.List.{AllZip}
-use Rattle.mp4_boxes.specs.Bytes.{sum_of}
+use Rattle.std.specs.List.{AllByRecursion, AllZip}
+use Rattle.mp4_boxes.specs.Bytes.{sum_of, AreBytes}
 use Rattle.mp4_boxes.specs.Children.{of_kind}
 use Rattle.mp4_tables.specs.Accepted.{tables_at}
 use Rattle.mp4_tables.specs.Keys.{keys_seen}
 use Rattle.mp4_tables.specs.PlainSamples.{PlacedSample}
 use Rattle.mp4_tables.specs.Tables.{tables_of}
+use Rattle.mp4_frag.specs.Fragments.{FragmentTree}
 use Rattle.mp4_frag.specs.FragmentSamples.{trex_for, duration_of, keys_behind}
 use Rattle.mp4_frag.specs.Judged.{TrackSeen, track_seen}
 use Rattle.mp4_frag.specs.declared.trex.Trex.{Trex}
@@ -67,11 +68,17 @@ AreInfosBy [] [] [] [] = ⊤
 AreInfosBy (h ∷ heads) (s ∷ states) (c ∷ counted) (info ∷ infos) = IsInfoBy h s c info × AreInfosBy heads states counted infos
 AreInfosBy _ _ _ _ = ⊥
 
+-- the `moov` and each `moof` is of bytes
+pub record AreOfBytes (t : FileTree) : Type 0 where
+  pub moov : AreBytes t.movie.moov.payload
+  pub moofs : AllByRecursion (λ (f : FragmentTree). AreBytes f.moof.payload) t.fragments
+
 -- The file denotes the presentation of its boxes, and this is what is kept of it.
 pub record IsOpenedAs (file : List ℕ) (m : MovieSeen) (t : FileTree) : Type 0 where
   pub is_tree : IsFileTree file t
   pub is_sound : IsSoundFile t
   pub is_consistent : IsConsistent file t
+  pub bytes : AreOfBytes t
   pub limits : IsWithinLimits (presentation_of file t)
   pub whole : m.file_len ≡ length file
   pub moov : moov_box m ≡ t.movie.moov

@@ -54,6 +54,7 @@ pub record IsBegun (file : List ℕ) (movie : MovieTree) (boxes : List Box) (sta
 -- All of its `moof`s were passed: they are as they should be, and these are the tracks behind them.
 pub record IsPassed (file : List ℕ) (movie : MovieTree) (boxes : List Box) (states : List TrackState) (counted : List Counted) : Type 0 where
   pub fragments : List FragmentTree
+  pub bytes : AllByRecursion (λ (t : FragmentTree). AreBytes t.moof.payload) fragments
   pub moofs : map (λ (t : FragmentTree). t.moof) fragments ≡ of_kind (codes "moof") boxes
   pub room : ℕ
   pub behind : AreBehind file movie fragments states room

@@ -1,6 +1,8 @@
-use Rattle.std.proofs.Common.{◌∙◌, refl}
+use Rattle.std.proofs.Common.{◌∙◌, refl, rules, length, arith}
+use Rattle.std.proofs.lemmas.Result.{err_from_is_err_and}
 use Rattle.mp4_present.specs.InHand.{follows_itself, follows_on}
-use Rattle.mp4_plan.proofs.HandsCarried.{carried_none, carried_more, carried_as}
+use Rattle.mp4_plan.proofs.HandsCarried.{carried_none, carried_more, carried_as, carried_front, stretch_fails, stretch_fits, next_below}
+use Rattle.mp4_present.proofs.WalkCopied.{stretch_there}
 use Rattle.mp4_plan.proofs.courses.carry_hand.Goals as goal
 
 pub loop-stretch-init : goal.loop-stretch-init
@@ -27,8 +29,8 @@ loop-stretch-preserved g c =
       puts = e.puts ∙ i.puts;
       room = e.room ∙ i.room;
       bytes = λ honest.
-          carried_more _ _ _ _ _ _ _ _ _ _ _ _ _ c.in-Some.stretch.samples c.in-Some.stretch.at c.in-Some.stretch.len (i.bytes honest) c.in-Some.ensures.stretch c.in-Some.ensures.samples.2 c.in-Some.ensures.samples.1 refl
-          c.in-Some.ensures.samples.3 ((rw (i.honesty, i.file) at e.bytes) honest);
+          carried_more _ _ _ _ _ _ _ _ _ _ _ _ _ c.in-Some.stretch.samples c.in-Some.stretch.at c.in-Some.stretch.len (i.bytes honest) c.in-Some.ensures.stretch c.in-Some.ensures.within c.in-Some.ensures.samples.2 c.in-Some.ensures.samples.1
+          (search rules) refl refl c.in-Some.ensures.samples.3 ((rw (i.honesty, i.file) at e.bytes) honest);
     }
 
 pub returns-clause-bytes : goal.returns-clause-bytes
@@ -36,3 +38,27 @@ returns-clause-bytes g c = λ honest. carried_as _ _ _ _ _ _ _ _ _ _ (c.loop-str
 
 pub returns-clause-ends : goal.returns-clause-ends
 returns-clause-ends g c = λ some. c.in_default.ensures.kept refl ∙ c.in_default.ensures.none refl some
+
+pub returns-in_err-carry_stretch-clause-prefix : goal.returns-in_err-carry_stretch-clause-prefix
+returns-in_err-carry_stretch-clause-prefix g c =
+    let p = err_from_is_err_and c.from_residual.result c.from_residual.ensures.1 in
+    let i = c.loop-stretch.invariant in
+    let x = c.in-Some.stretch in
+    rw p.1 (λ honest. stretch_fails _ _ _ _ _ _ _ _ _ (i.bytes honest) _ x.samples x.at x.len c.in-Some.ensures.stretch c.in-Some.ensures.samples.1 ((rw (i.honesty, i.file) at c.in_err-carry_stretch.ensures.prefix) honest))
+
+pub returns-in_err-carry_stretch-clause-unchanged : goal.returns-in_err-carry_stretch-clause-unchanged
+returns-in_err-carry_stretch-clause-unchanged g c honest below fits =
+    let p = err_from_is_err_and c.from_residual.result c.from_residual.ensures.1 in
+    let i = c.loop-stretch.invariant in
+    let file = g.S.Store.file c.args.store.now in
+    rw (p.1, p.2) (stretch_there file c.in-Some.stretch _ _ _ _ c.in_err-carry_stretch.field-0.0 (c.in-Some.ensures.within (length file) (next_below _ _ _ _ _ _ _ _ _ (i.bytes honest) (length file) below)) (rw i.file at c.in_err-carry_stretch.ensures.refusal))
+
+pub returns-then-stretch-left-clause-prefix : goal.returns-then-stretch-left-clause-prefix
+returns-then-stretch-left-clause-prefix g c honest = carried_front _ _ _ _ _ _ _ _ _ (c.loop-stretch.invariant.bytes honest)
+
+pub returns-then-stretch-left-clause-unchanged : goal.returns-then-stretch-left-clause-unchanged
+returns-then-stretch-left-clause-unchanged g c honest below fits e =
+    let x = c.in-Some.stretch in
+    let room = stretch_fits _ _ _ _ _ _ _ _ _ (c.loop-stretch.invariant.bytes honest) x.samples x.at x.len c.in-Some.ensures.stretch c.in-Some.ensures.within c.in-Some.ensures.samples.1 fits in
+    let more = c.if-stretch-left.true in
+    absurd (omega (arith, room, more))

@@ -1,11 +1,13 @@
-use Rattle.std.proofs.Common.{rules, ◌≡◌, refl, sym, ap, subst, ◌∙◌}
+use Rattle.std.proofs.Common.{rules, refl, sym, subst, ◌∙◌, arith}
+use Rattle.std.proofs.lemmas.Result.{err_from_is_err_and}
 use Rattle.mp4_present.proofs.WalkPlaces.{kept_on}
 use Rattle.mp4_plan.proofs.HandsCarried.{carried_none}
-use Rattle.mp4_plan.proofs.PieceCarried.{hand_carried, carried_all, next_carried}
+use Rattle.mp4_plan.proofs.PieceCarried.{hand_carried, carried_all, next_carried, hand_fails, hand_there, front_carried, no_bytes_left, none_left_to_carry, AreThere}
 use Rattle.mp4_plan.proofs.HandsTaken.{hand_kept}
 use Rattle.mp4_present.specs.Coming.{Comes}
 use Rattle.mp4_present.specs.Movies.{InHandOf}
 use Rattle.mp4_plan.proofs.courses.carry_piece.Goals as goal
+use Rattle.mp4_plan.proofs.courses.carry_piece.Goals.{else-left-eq0-via-then-left-eq0+else-left-eq0-2, else-left-eq0-via-else-left-eq0, then-left-eq0-3-via-then-left-eq0-3, then-left-eq0-3-via-else-left-eq0-3+in_ok-load+then-not-branch}
 
 pub returns-then-left-eq0-2-clause-walk : goal.returns-then-left-eq0-2-clause-walk
 returns-then-left-eq0-2-clause-walk g c =
@@ -61,3 +63,77 @@ loop-left-preserved g c =
           let is_hand = subst (λ w. InHandOf m w later) (sym c.keep.ensures) (hand_kept m c.loop-left.walk c.in_hand-hand.result later place c.in_hand-hand.ensures e.later c.place-place.ensures) in
           next_carried file m c.args.walk.now c.keep.new.self c.load.new.self _ _ _ _ c.args.load c.in_ok-left.left later c.in_ok-load.field-0 on is_hand (e.ends (search rules)) ((rw (e.honesty, i.honesty, e.file, i.file) at l.loaded) told) (search rules);
     }
+
+pub returns-in_err-left-clause-prefix : goal.returns-in_err-left-clause-prefix
+returns-in_err-left-clause-prefix g c told tree t samples o h =
+    let p = err_from_is_err_and c.from_residual.result c.from_residual.ensures.1 in
+    let i = c.loop-left.invariant in
+    rw p.1 (hand_fails (g.S.Store.file c.args.store.now) c.args.movie.now c.args.walk.now c.loop-left.walk _ _ _ _ _ c.args.load c.loop-left.left c.in_hand-hand.result (i.carried told) c.in_hand-hand.ensures
+    ((rw (i.honesty, i.file) at c.in_err-left.ensures.prefix) told) tree t samples o h)
+
+pub returns-in_err-left-clause-unchanged : goal.returns-in_err-left-clause-unchanged
+returns-in_err-left-clause-unchanged g c told tree t samples o h many sizes below =
+    let p = err_from_is_err_and c.from_residual.result c.from_residual.ensures.1 in
+    let i = c.loop-left.invariant in
+    let x = hand_there (g.S.Store.file c.args.store.now) c.args.movie.now c.args.walk.now c.loop-left.walk _ _ _ _ c.args.load c.loop-left.left c.in_hand-hand.result (i.carried told) c.in_hand-hand.ensures tree t samples o h
+    (record { many = many; sizes = sizes; below = below }) in
+    rw (p.1, p.2) ((rw (i.honesty, i.file) at c.in_err-left.ensures.unchanged) told x.0 x.1)
+
+pub returns-in_err-load-clause-prefix : goal.returns-in_err-load-clause-prefix
+returns-in_err-load-clause-prefix g c told tree t samples o h =
+    let p = err_from_is_err_and c.from_residual-in_err-load.result c.from_residual-in_err-load.ensures.1 in
+    let i = c.loop-left.invariant in
+    let e = c.in_ok-left.ensures in
+    let file = g.S.Store.file c.args.store.now in
+    let m = c.args.movie.now in
+    let on = hand_carried file m c.args.walk.now c.loop-left.walk c.keep.new.self _ _ _ _ _ _ c.args.load c.loop-left.left c.in_ok-left.left c.in_hand-hand.result c.carry_hand.new.hand c.place-place.result (i.carried told) c.in_hand-hand.ensures e.later c.place-place.ensures
+    ((rw (i.honesty, i.file) at e.bytes) told) c.keep.ensures in
+    rw p.1 (front_carried file m c.args.walk.now c.keep.new.self _ _ _ _ c.args.load c.in_ok-left.left on tree t samples o h)
+
+pub returns-in_err-load-clause-unchanged : goal.returns-in_err-load-clause-unchanged
+returns-in_err-load-clause-unchanged g c told tree t samples o h many sizes below =
+    let p = err_from_is_err_and c.from_residual-in_err-load.result c.from_residual-in_err-load.ensures.1 in
+    let i = c.loop-left.invariant in
+    let e = c.in_ok-left.ensures in
+    let file = g.S.Store.file c.args.store.now in
+    let m = c.args.movie.now in
+    let on = hand_carried file m c.args.walk.now c.loop-left.walk c.keep.new.self _ _ _ _ _ _ c.args.load c.loop-left.left c.in_ok-left.left c.in_hand-hand.result c.carry_hand.new.hand c.place-place.result (i.carried told) c.in_hand-hand.ensures e.later c.place-place.ensures
+    ((rw (i.honesty, i.file) at e.bytes) told) c.keep.ensures in
+    let k = (on tree t samples o h).1.0 in
+    rw (p.1, p.2) ((rw (e.honesty, i.honesty, e.file, i.file) at c.in_err-load.ensures.unchanged) told tree t k.0 k.1 o k.3.0)
+
+pub returns-then-left-eq0-3-clause-prefix : goal.returns-then-left-eq0-3-clause-prefix
+returns-then-left-eq0-3-clause-prefix g c told tree t samples o h =
+    let i = c.loop-left.invariant in
+    let e = c.in_ok-left.ensures in
+    let file = g.S.Store.file c.args.store.now in
+    let m = c.args.movie.now in
+    let on = hand_carried file m c.args.walk.now c.loop-left.walk c.keep.new.self _ _ _ _ _ _ c.args.load c.loop-left.left c.in_ok-left.left c.in_hand-hand.result c.carry_hand.new.hand c.place-place.result (i.carried told) c.in_hand-hand.ensures e.later c.place-place.ensures
+    ((rw (i.honesty, i.file) at e.bytes) told) c.keep.ensures in
+    front_carried file m c.args.walk.now c.keep.new.self _ _ _ _ c.args.load c.in_ok-left.left on tree t samples o h
+
+pub returns-then-left-eq0-3-clause-unchanged : goal.returns-then-left-eq0-3-clause-unchanged
+returns-then-left-eq0-3-clause-unchanged g c told tree t samples o h many sizes below z =
+    let i = c.loop-left.invariant in
+    let e = c.in_ok-left.ensures in
+    let file = g.S.Store.file c.args.store.now in
+    let m = c.args.movie.now in
+    let on = hand_carried file m c.args.walk.now c.loop-left.walk c.keep.new.self _ _ _ _ _ _ c.args.load c.loop-left.left c.in_ok-left.left c.in_hand-hand.result c.carry_hand.new.hand c.place-place.result (i.carried told) c.in_hand-hand.ensures e.later c.place-place.ensures
+    ((rw (i.honesty, i.file) at e.bytes) told) c.keep.ensures in
+    let left = c.in_ok-left.left in
+    let later = c.carry_hand.new.hand in
+    let there : AreThere file c.args.load samples = record { many = many; sizes = sizes; below = below } in
+    elim c.then-left-eq0-3.branch [
+      | then-left-eq0-3-via-then-left-eq0-3 w ↦
+          (let none = no_bytes_left file m c.args.walk.now c.keep.new.self _ _ _ _ c.args.load left on w.if-left-eq0-3.true tree t samples o h there in
+          elim c.else-left-eq0.branch [
+            | else-left-eq0-via-then-left-eq0+else-left-eq0-2 v ↦ v.if-left-eq0-2.false none
+            | else-left-eq0-via-else-left-eq0 v ↦ v.if-left-eq0.false w.if-left-eq0-3.true
+          ])
+      | then-left-eq0-3-via-else-left-eq0-3+in_ok-load+then-not-branch w ↦
+          (let is_hand = subst (λ w'. InHandOf m w' later) (sym c.keep.ensures) (hand_kept m c.loop-left.walk c.in_hand-hand.result later c.place-place.result c.in_hand-hand.ensures e.later c.place-place.ensures) in
+          let not_none = w.if-left-eq0-3.false in
+          let none = none_left_to_carry file m c.args.walk.now c.keep.new.self w.load.new.self _ _ _ _ c.args.load left later w.in_ok-load.field-0 on is_hand (e.ends (omega (arith, not_none))) ((rw (e.honesty, i.honesty, e.file, i.file) at w.in_ok-load.ensures.loaded) told)
+          w.if-not-branch.true tree t samples o h there in
+          not_none none)
+    ]

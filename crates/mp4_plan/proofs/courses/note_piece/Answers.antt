@@ -1,7 +1,11 @@
-use Rattle.std.proofs.Common.{rules, ◌≡◌, refl, sym, ap, subst, ◌∙◌}
+use Rattle.std.proofs.Common.{rules, ◌-◌, length, take, drop, refl, sym, ap, subst, ◌∙◌, arith}
+use Rattle.std.proofs.lemmas.List.{length-take, length-drop}
+use Rattle.std.proofs.lemmas.Result.{err_from_is_err_and}
 use Rattle.mp4_present.specs.Movies.{InHandOf}
-use Rattle.mp4_plan.specs.Gathering.{Planning, planned_of, count_of}
-use Rattle.mp4_plan.proofs.PieceFed.{hand_fed, hand_ended, next_fed, none_fed, feeds_new}
+use Rattle.mp4_plan.specs.Gathering.{Planning, planned_of}
+use Rattle.mp4_plan.proofs.PieceFed.{hand_fed, hand_ended, hand_full, hand_noted, notes_new, next_fed, none_fed, feeds_new}
+use Rattle.mp4_plan.proofs.PlannerSteps.{planned_counts}
+use Rattle.mp4_plan.specs.declared.planner.Planned.{Planned}
 use Rattle.mp4_plan.proofs.courses.note_piece.Goals as goal
 
 pub loop-planner-init : goal.loop-planner-init
@@ -14,14 +18,15 @@ loop-planner-init g c = record {
   few = search rules;
   rows = refl;
   fed = λ told. feeds_new (g.S.Store.file c.args.store.now) c.args.movie.now c.args.walk.now c.args.end c.new-planner.result c.new-planner.ensures;
+  noted = λ told. notes_new (g.S.Store.file c.args.store.now) c.args.movie.now c.args.walk.now c.args.end c.new-planner.result c.args.rows.now c.new-planner.ensures;
 }
 
 pub returns-in-Ended-clause-planned : goal.returns-in-Ended-clause-planned
 returns-in-Ended-clause-planned g c told tree t samples o h =
     let i = c.loop-planner.invariant in
     let file = g.S.Store.file c.args.store.now in
-    let fed = rw c.in-Ended.is at c.note_hand-hand.ensures.fed in
-    let r = hand_ended file c.args.movie.now c.args.walk.now c.loop-planner.walk c.keep.new.self _ c.loop-planner.planner c.note_hand-hand.new.planner c.note_hand-hand.result.place (i.fed told) fed c.keep.ensures tree t samples o h in
+    let fed = (rw c.in-Ended.is at c.note_hand-hand.ensures.fed).0 in
+    let r = hand_ended file c.args.movie.now c.args.walk.now c.loop-planner.walk c.keep.new.self _ _ c.loop-planner.planner c.note_hand-hand.new.planner c.note_hand-hand.result.place (i.fed told) fed c.keep.ensures tree t samples o h in
     (c.piece-in-Ended.ensures.is ∙ ap (λ (p : Planning). planned_of p.gathered) r.0, r.1)
 
 pub returns-then-not-branch-clause-planned : goal.returns-then-not-branch-clause-planned
@@ -31,8 +36,8 @@ returns-then-not-branch-clause-planned g c told tree t samples o h =
     let m = c.args.movie.now in
     let place = c.note_hand-hand.result.place in
     let planner = c.note_hand-hand.new.planner in
-    let fed = rw c.in-Empty.is at c.note_hand-hand.ensures.fed in
-    let on = hand_fed file m c.args.walk.now c.loop-planner.walk c.keep.new.self _ c.loop-planner.planner planner place (i.fed told) fed c.keep.ensures in
+    let fed = (rw c.in-Empty.is at c.note_hand-hand.ensures.fed).0 in
+    let on = hand_fed file m c.args.walk.now c.loop-planner.walk c.keep.new.self _ _ c.loop-planner.planner planner place (i.fed told) fed c.keep.ensures in
     let is_hand = subst (λ w. InHandOf m w fed.later) (sym c.keep.ensures) fed.is_later in
     let l = c.in_ok-load-in-Empty.ensures in
     let r = none_fed file m c.args.walk.now c.keep.new.self c.load.new.self _ planner fed.later c.in_ok-load-in-Empty.field-0 on is_hand fed.taken.2 ((rw (i.honesty, i.file) at l.loaded) told) c.if-not-branch.true
@@ -56,8 +61,51 @@ loop-planner-preserved g c =
           let m = c.args.movie.now in
           let place = c.note_hand-hand.result.place in
           let planner = c.note_hand-hand.new.planner in
-          let fed = rw c.in-Empty.is at c.note_hand-hand.ensures.fed in
-          let on = hand_fed file m c.args.walk.now c.loop-planner.walk c.keep.new.self _ c.loop-planner.planner planner place (i.fed told) fed c.keep.ensures in
+          let fed = (rw c.in-Empty.is at c.note_hand-hand.ensures.fed).0 in
+          let on = hand_fed file m c.args.walk.now c.loop-planner.walk c.keep.new.self _ _ c.loop-planner.planner planner place (i.fed told) fed c.keep.ensures in
           let is_hand = subst (λ w. InHandOf m w fed.later) (sym c.keep.ensures) fed.is_later in
           next_fed file m c.args.walk.now c.keep.new.self c.load.new.self _ planner fed.later c.in_ok-load-in-Empty.field-0 on is_hand fed.taken.2 ((rw (i.honesty, i.file) at l.loaded) told) (search rules);
+      noted = λ told. (let rows = c.loop-planner.rows in
+          let counted = ap (λ (p : Planned). p.count) c.piece.ensures.is ∙ planned_counts c.loop-planner.planner.gathered in
+          hand_noted (g.S.Store.file c.args.store.now) c.args.movie.now c.args.walk.now c.loop-planner.walk _ c.piece.result.count _ c.loop-planner.planner c.note_hand-hand.new.planner c.note_hand-hand.result.stop c.note_hand-hand.result.place rows c.note_hand-hand.new.rows _ (i.fed told) (i.noted told) c.note_hand-hand.ensures.fed counted (search rules));
     }
+
+pub returns-in_err-load-in-Empty-clause-unchanged : goal.returns-in_err-load-in-Empty-clause-unchanged
+returns-in_err-load-in-Empty-clause-unchanged g c told tree t samples o h few =
+    let p = err_from_is_err_and c.from_residual.result c.from_residual.ensures.1 in
+    let i = c.loop-planner.invariant in
+    let fed = (rw c.in-Empty.is at c.note_hand-hand.ensures.fed).0 in
+    let on = hand_fed (g.S.Store.file c.args.store.now) c.args.movie.now c.args.walk.now c.loop-planner.walk c.keep.new.self _ _ c.loop-planner.planner c.note_hand-hand.new.planner c.note_hand-hand.result.place (i.fed told) fed c.keep.ensures in
+    let k = (on tree t samples o h).comes in
+    rw (p.1, p.2) ((rw (i.honesty, i.file) at c.in_err-load-in-Empty.ensures.unchanged) told tree t k.0 k.1 o k.3.0)
+
+pub returns-in-Full-clause-unchanged : goal.returns-in-Full-clause-unchanged
+returns-in-Full-clause-unchanged g c told tree t samples o h few =
+    let i = c.loop-planner.invariant in
+    let file = g.S.Store.file c.args.store.now in
+    let fed = (rw c.in-Full.is at c.note_hand-hand.ensures.fed).0 in
+    let rows = c.loop-planner.rows in
+    let n = c.piece.result.count in
+    let counted = ap (λ (p : Planned). p.count) c.piece.ensures.is ∙ planned_counts c.loop-planner.planner.gathered in
+    let full = hand_full file c.args.movie.now c.args.walk.now c.loop-planner.walk (length (take (length rows - n) (drop n rows))) _ c.loop-planner.planner c.note_hand-hand.new.planner c.note_hand-hand.result.place (i.fed told) fed tree t samples o h in
+    let within = i.few in
+    let as_many = i.rows in
+    λ e. absurd (omega (arith, full, few, within, as_many, counted, length-take (length rows - n) (drop n rows), length-drop n rows))
+
+pub returns-in-Ended-clause-noted : goal.returns-in-Ended-clause-noted
+returns-in-Ended-clause-noted g c told tree t samples o h =
+    let i = c.loop-planner.invariant in
+    let counted = ap (λ (p : Planned). p.count) c.piece.ensures.is ∙ planned_counts c.loop-planner.planner.gathered in
+    let counted_now = ap (λ (p : Planned). p.count) c.piece-in-Ended.ensures.is ∙ planned_counts c.note_hand-hand.new.planner.gathered in
+    let on = hand_noted (g.S.Store.file c.args.store.now) c.args.movie.now c.args.walk.now c.loop-planner.walk _ c.piece.result.count _ c.loop-planner.planner c.note_hand-hand.new.planner c.note_hand-hand.result.stop c.note_hand-hand.result.place c.loop-planner.rows c.note_hand-hand.new.rows _
+    (i.fed told) (i.noted told) c.note_hand-hand.ensures.fed counted (search rules) in
+    rw counted_now (on tree t samples o h)
+
+pub returns-then-not-branch-clause-noted : goal.returns-then-not-branch-clause-noted
+returns-then-not-branch-clause-noted g c told tree t samples o h =
+    let i = c.loop-planner.invariant in
+    let counted = ap (λ (p : Planned). p.count) c.piece.ensures.is ∙ planned_counts c.loop-planner.planner.gathered in
+    let counted_now = ap (λ (p : Planned). p.count) c.piece-then-not-branch.ensures.is ∙ planned_counts c.note_hand-hand.new.planner.gathered in
+    let on = hand_noted (g.S.Store.file c.args.store.now) c.args.movie.now c.args.walk.now c.loop-planner.walk _ c.piece.result.count _ c.loop-planner.planner c.note_hand-hand.new.planner c.note_hand-hand.result.stop c.note_hand-hand.result.place c.loop-planner.rows c.note_hand-hand.new.rows _
+    (i.fed told) (i.noted told) c.note_hand-hand.ensures.fed counted (search rules) in
+    rw counted_now (on tree t samples o h)

@@ -2,10 +2,10 @@ use Rattle.std.specs.Prelude.{IsTrue}
 use Rattle.std.proofs.Common.{◌≡◌, ◌-◌, ◌≤◌, length}
 use Rattle.mp4_present.specs.Movies.{IsWalkOf}
 use Rattle.mp4_plan.specs.Gathering.{count_of, piece_from}
-use Rattle.mp4_plan.proofs.PieceFed.{FeedsOn}
+use Rattle.mp4_plan.proofs.PieceFed.{FeedsOn, NotesOn}
 use Rattle.mp4_plan.proofs.courses.note_piece.Given as goal
 
--- the walk goes on, and the piece is fed
+-- the walk goes on, and the piece is fed and noted
 abbrev pub invariant-loop-planner : goal.invariant-loop-planner
 invariant-loop-planner g l = record {
   walk : IsWalkOf l.movie l.walk;
@@ -16,6 +16,7 @@ invariant-loop-planner g l = record {
   few : count_of l.planner.gathered ≤ length l.rows;
   rows : length l.rows ≡ length l.fn.rows;
   fed : IsTrue (g.S.Store.is_honest l.fn.store) → FeedsOn (g.S.Store.file l.fn.store) l.movie l.fn.walk l.walk (piece_from l.fn.end) l.planner;
+  noted : IsTrue (g.S.Store.is_honest l.fn.store) → NotesOn (g.S.Store.file l.fn.store) l.movie l.fn.walk l.planner l.rows;
 }
 
 abbrev pub decreases-loop-planner : goal.decreases-loop-planner

@@ -3,6 +3,8 @@ use Rattle.mp4_present.proofs.Carrying.{BytesGoOn-then}
 use Rattle.mp4_tables.specs.Keys.{key_seen}
 use Rattle.mp4_plan.specs.Spelling.{group_rows}
 use Rattle.mp4_plan.specs.UsedKeys.{group_front, group_bytes}
+use Rattle.std.proofs.lemmas.Result.{err_from_is_err_and}
+use Rattle.mp4_plan.proofs.FrontsPut.{stopped_first, stopped_last}
 use Rattle.mp4_plan.proofs.moof_rows.carry_group.Goals as goal
 
 pub returns-clause-bytes : goal.returns-clause-bytes
@@ -12,3 +14,19 @@ returns-clause-bytes g c =
     let rows = group_rows c.args.used.place c.args.rows.now in
     let is = c.as_bytes.ensures ∙ c.group_front-front.ensures ∙ ap (group_front (key_seen c.args.used.key)) c.rows_at.ensures in
     BytesGoOn-then _ _ _ _ _ _ front rows _ c.in_ok-carry.ensures.bytes c.in_ok-carry_indexes.ensures.bytes (ap (λ (l : List ℕ). l ++ rows) (sym is))
+
+pub returns-in_err-carry-clause-prefix : goal.returns-in_err-carry-clause-prefix
+unfolding group_bytes
+returns-in_err-carry-clause-prefix g c =
+    let p = err_from_is_err_and c.from_residual.result c.from_residual.ensures.1 in
+    let rows = group_rows c.args.used.place c.args.rows.now in
+    let is = c.as_bytes.ensures ∙ c.group_front-front.ensures ∙ ap (group_front (key_seen c.args.used.key)) c.rows_at.ensures in
+    rw p.1 (stopped_first _ _ _ c.as_bytes.result.now rows _ c.in_err-carry.ensures.prefix (ap (λ (l : List ℕ). l ++ rows) (sym is)))
+
+pub returns-in_err-carry_indexes-clause-prefix : goal.returns-in_err-carry_indexes-clause-prefix
+unfolding group_bytes
+returns-in_err-carry_indexes-clause-prefix g c =
+    let p = err_from_is_err_and c.from_residual-in_err-carry_indexes.result c.from_residual-in_err-carry_indexes.ensures.1 in
+    let rows = group_rows c.args.used.place c.args.rows.now in
+    let is = c.as_bytes.ensures ∙ c.group_front-front.ensures ∙ ap (group_front (key_seen c.args.used.key)) c.rows_at.ensures in
+    rw p.1 (stopped_last _ _ _ _ _ c.as_bytes.result.now rows _ c.in_ok-carry.ensures.bytes c.in_err-carry_indexes.ensures.prefix (ap (λ (l : List ℕ). l ++ rows) (sym is)))

@@ -1,4 +1,4 @@
-use Rattle.std.proofs.Common.{◌∙◌, refl, ap, [], ◌∷◌, ◌++◌, length, rules, arith}
+use Rattle.std.proofs.Common.{Some, ◌∙◌, refl, ap, [], ◌∷◌, ◌++◌, length, rules, arith}
 use Rattle.std.specs.Prelude.{flat_map}
 use Rattle.mp4_present.proofs.Carrying.{BytesGoOn-nothing, BytesGoOn-then}
 use Rattle.mp4_tables.specs.Groups.{GroupKey}
@@ -7,6 +7,13 @@ use Rattle.mp4_plan.specs.Normal.{in_key_order}
 use Rattle.mp4_plan.specs.UsedKeys.{used_from, place_at, group_bytes}
 use Rattle.mp4_plan.proofs.NextKeys.{all_to_come, few_used, used_apart, found_first, none_above, place_is, key_written, keys_written, one_less, none_left}
 use Rattle.mp4_plan.proofs.Pushes.{goes_on_as}
+use Rattle.std.proofs.lemmas.Result.{err_from_is_err_and}
+use Rattle.std.proofs.Common.{sym}
+use Rattle.std.specs.Prelude.{filter}
+use Rattle.std.proofs.lemmas.Grind.{flat_map-append}
+use Rattle.mp4_tables.specs.Groups.{key_rank}
+use Rattle.mp4_plan.specs.UsedKeys.{is_above}
+use Rattle.mp4_plan.proofs.FrontsPut.{stopped_at}
 use Rattle.mp4_plan.proofs.moof_rows.carry_groups.Goals as goal
 
 pub loop-key-init : goal.loop-key-init
@@ -56,3 +63,21 @@ returns-clause-bytes g c =
     let order = in_key_order (used_from rows 0 keys) in
     let f = λ (k : GroupKey). group_bytes c.args.rows.now c.args.planned.now (place_at keys k) k in
     λ apart. goes_on_as _ _ _ _ _ _ (i.2 apart).1 (keys_written f order (i.2 apart).0 _ (i.2 apart).2 (none_left order c.loop-key.behind c.loop-key._key (length keys) (search rules) (i.2 apart).3))
+
+pub returns-in_err-carry_group-clause-prefix : goal.returns-in_err-carry_group-clause-prefix
+returns-in_err-carry_group-clause-prefix g c =
+    let p = err_from_is_err_and c.from_residual.result c.from_residual.ensures.1 in
+    let i = c.loop-key.invariant in
+    let keys = keys_seen c.args.keys.now in
+    let rows = c.args.planned.now.group_rows in
+    let order = in_key_order (used_from rows 0 keys) in
+    let key = key_seen c.in-Some.used.key in
+    let f = λ (k : GroupKey). group_bytes c.args.rows.now c.args.planned.now (place_at keys k) k in
+    rw p.1 (λ apart.
+    let done = (i.2 apart).0 in
+    let later = filter (is_above (Some (key_rank key))) order in
+    let found = found_first c.loop-key.behind (used_from rows 0 keys) key (used_apart rows 0 keys apart) c.in-Some.ensures.next in
+    let next = key_written f order done c.loop-key.behind key (i.2 apart).2 found in
+    let place = place_is keys c.in-Some.used.place key apart c.in-Some.ensures.place.1 in
+    stopped_at _ _ _ _ _ (flat_map f done) (group_bytes c.args.rows.now c.args.planned.now c.in-Some.used.place key) (flat_map f (done ++ key ∷ [])) (flat_map f later) (flat_map f order) (i.2 apart).1 c.in_err-carry_group.ensures.prefix
+    (next.0 ∙ ap (λ q. flat_map f done ++ group_bytes c.args.rows.now c.args.planned.now q key) place) (ap (flat_map f) (sym next.1) ∙ flat_map-append f (done ++ key ∷ []) later))

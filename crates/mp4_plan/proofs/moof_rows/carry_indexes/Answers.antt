@@ -1,10 +1,15 @@
-use Rattle.std.proofs.Common.{◌+◌, [], ◌++◌, map, drop, refl, ◌∙◌, rules}
+use Rattle.std.proofs.Common.{◌+◌, [], ◌∷◌, ◌++◌, map, drop, refl, ◌∙◌, rules}
 use Rattle.std.specs.Prelude.{slice_index, flat_map}
 use Rattle.std.proofs.Math.Nat.{le_refl}
 use Rattle.mp4_present.proofs.Carrying.{BytesGoOn-nothing, BytesGoOn-then}
 use Rattle.mp4_plan.specs.Spelling.{group_row, runs_left}
 use Rattle.mp4_plan.specs.declared.rows.Row.{Row}
 use Rattle.mp4_plan.proofs.RunsResumed.{written_more, written_all}
+use Rattle.std.proofs.lemmas.Result.{err_from_is_err_and}
+use Rattle.std.proofs.Common.{sym, ap}
+use Rattle.std.proofs.lemmas.Grind.{flat_map-append}
+use Rattle.mp4_plan.proofs.FrontsPut.{stopped_last}
+use Rattle.mp4_plan.proofs.RunsResumed.{index_first}
 use Rattle.mp4_plan.proofs.moof_rows.carry_indexes.Goals as goal
 
 pub loop-row-init : goal.loop-row-init
@@ -24,3 +29,22 @@ returns-clause-bytes g c =
     let index = λ (row : Row). slice_index row.groups c.args.place in
     BytesGoOn-then _ _ _ _ _ _ (flat_map group_row i.3.0) (flat_map group_row (runs_left c.loop-row.run.count c.loop-row.run.index [])) _ i.3.1 c.in_ok-carry_index_run.ensures.bytes
     (written_all group_row i.3.0 c.loop-row.run index c.args.rows.now c.loop-row.row-index (search rules) i.3.2)
+
+pub returns-in_err-run-clause-prefix : goal.returns-in_err-run-clause-prefix
+returns-in_err-run-clause-prefix g c =
+    let p = err_from_is_err_and c.from_residual.result c.from_residual.ensures.1 in
+    let i = c.loop-row.invariant in
+    let run = c.loop-row.run in
+    let rows = c.args.rows.now in
+    let k = c.loop-row.row-index in
+    let index = λ (row : Row). slice_index row.groups c.args.place in
+    let first = index_first index rows k _ _ c.loop-row-test.true c.index_at.ensures in
+    let whole = ap (flat_map group_row) (sym i.3.2 ∙ ap (λ values. i.3.0 ++ runs_left run.count run.index values) first) ∙ flat_map-append group_row i.3.0 (runs_left run.count run.index (c.index_at.result ∷ map index (drop (k + 1) rows))) in
+    rw p.1 (stopped_last _ _ _ _ _ _ _ _ i.3.1 (c.in_err-run.ensures.prefix (map index (drop (k + 1) rows))) whole)
+
+pub returns-in_err-carry_index_run-clause-prefix : goal.returns-in_err-carry_index_run-clause-prefix
+returns-in_err-carry_index_run-clause-prefix g c =
+    let p = err_from_is_err_and c.from_residual-in_err-carry_index_run.result c.from_residual-in_err-carry_index_run.ensures.1 in
+    let i = c.loop-row.invariant in
+    let index = λ (row : Row). slice_index row.groups c.args.place in
+    rw p.1 (stopped_last _ _ _ _ _ _ _ _ i.3.1 c.in_err-carry_index_run.ensures.prefix (written_all group_row i.3.0 c.loop-row.run index c.args.rows.now c.loop-row.row-index (search rules) i.3.2))

@@ -1,9 +1,13 @@
+use Rattle.std.specs.Prelude.{IsTrue}
 use Rattle.std.proofs.Common.{◌≡◌, ◌^◌, ◌≤◌, length}
+use Rattle.mp4_present.specs.Denotes.{FileTree}
+use Rattle.mp4_present.specs.OpenedMovie.{IsOpenedAs}
 use Rattle.mp4_plan.specs.Turns.{to_come}
 use Rattle.mp4_plan.specs.Writers.{AreWalksOf}
+use Rattle.mp4_plan.proofs.PlannedTurns.{IsPlanning}
 use Rattle.mp4_plan.proofs.writer.plan_all.Given as goal
 
--- the walks go on
+-- the walks go on, and what was passed is planned
 abbrev pub invariant-loop-turn : goal.invariant-loop-turn
 invariant-loop-turn g l =
     AreWalksOf l.movie l.walks.items
@@ -11,6 +15,8 @@ invariant-loop-turn g l =
     × (g.S.Store.file l.store ≡ g.S.Store.file l.fn.store)
     × (g.S.Store.read_failures l.store ≡ g.S.Store.read_failures l.fn.store)
     × (l.plan.longest ≤ 2 ^ 24)
+    × (g.S.Store.is_honest l.store ≡ g.S.Store.is_honest l.fn.store)
+    × (IsTrue (g.S.Store.is_honest l.fn.store) → (tree : FileTree) → IsOpenedAs (g.S.Store.file l.fn.store) l.movie tree → IsPlanning (g.S.Store.file l.fn.store) tree l.movie l.schedule l.walks.items l.plan)
 
 abbrev pub decreases-loop-turn : goal.decreases-loop-turn
 decreases-loop-turn g l = to_come l.schedule

@@ -2,8 +2,11 @@ use Rattle.std.proofs.Common.{◌≡◌, ◌*◌, length}
 use Rattle.mp4_plan.specs.Writers.{rooms}
 use Rattle.std.specs.List.{AllByRecursion}
 use Rattle.mp4_present.specs.Movies.{IsWalkOf}
+use Rattle.mp4_plan.proofs.Planning.{BeginSoFar}
 use Rattle.mp4_plan.proofs.writer.walks_of.Given as goal
 
 -- one for each track so far
 abbrev pub invariant-loop-track : goal.invariant-loop-track
-invariant-loop-track l = AllByRecursion (IsWalkOf l.movie) l.walks.items × (length l.walks.items ≡ l.track) × (rooms l.walks.items ≡ l.track * l.movie.longest)
+invariant-loop-track l =
+    AllByRecursion (IsWalkOf l.movie) l.walks.items × (length l.walks.items ≡ l.track) × (rooms l.walks.items ≡ l.track * l.movie.longest)
+    × BeginSoFar l.movie l.track l.walks.items

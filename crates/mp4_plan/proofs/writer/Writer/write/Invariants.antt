@@ -1,17 +1,25 @@
 use Rattle.std.proofs.Common.{◌≡◌, length}
+use Rattle.mp4_present.specs.Carried.{waiting}
 use Rattle.mp4_plan.specs.Turns.{to_come}
-use Rattle.mp4_plan.specs.Writers.{IsWriterOf, held}
+use Rattle.mp4_plan.specs.Writers.{IsWriterOf, WhereOpened, IsReady, held}
+use Rattle.mp4_plan.proofs.WritesOn.{WritesOn}
 use Rattle.mp4_plan.proofs.writer.Writer.write.Given as goal
 
--- the walks go on
+-- the walks go on, and what was put and what waits are the pieces of the turns before
 abbrev pub invariant-loop-turn : goal.invariant-loop-turn
-invariant-loop-turn g l =
-    IsWriterOf l.movie l.self
-    × (held l.self ≡ held l.fn.self)
-    × (l.schedule.tracks ≡ length l.movie.tracks)
-    × (g.S.Store.file l.store ≡ g.S.Store.file l.fn.store)
-    × (g.S.Store.read_failures l.store ≡ g.S.Store.read_failures l.fn.store)
-    × (g.K.Sink.put_failures l.sink ≡ g.K.Sink.put_failures l.fn.sink)
+invariant-loop-turn g l = record {
+  writer : IsWriterOf l.movie l.self;
+  held : held l.self ≡ held l.fn.self;
+  tracks : l.schedule.tracks ≡ length l.movie.tracks;
+  honesty : g.S.Store.is_honest l.store ≡ g.S.Store.is_honest l.fn.store;
+  file : g.S.Store.file l.store ≡ g.S.Store.file l.fn.store;
+  reads : g.S.Store.read_failures l.store ≡ g.S.Store.read_failures l.fn.store;
+  puts : g.K.Sink.put_failures l.sink ≡ g.K.Sink.put_failures l.fn.sink;
+  rows : length l.self.rows.items ≡ length l.fn.self.rows.items;
+  on : WhereOpened (g.S.Store.is_honest l.fn.store) (g.S.Store.file l.fn.store) l.movie
+      (λ tree. IsReady (g.S.Store.file l.fn.store) tree l.movie l.fn.self
+      → WritesOn (g.S.Store.file l.fn.store) tree l.movie l.schedule l.sequence l.self.planning.items l.self.copying.items (length l.self.rows.items) (g.K.Sink.contents l.fn.sink) (g.K.Sink.contents l.sink) (waiting l.self.carrier));
+}
 
 abbrev pub decreases-loop-turn : goal.decreases-loop-turn
 decreases-loop-turn g l = to_come l.schedule

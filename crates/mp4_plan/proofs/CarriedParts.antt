@@ -1,0 +1,40 @@
+-- The parts of a piece that a writer takes along are what is written of it.
+use Rattle.std.proofs.Common.{◌≡◌, ℕ, zero, suc, List, [], ◌∷◌, ◌++◌, Some, ap, ◌∙◌}
+use Rattle.std.specs.Prelude.{slice_get, slice_set, slice_index_or, codes, Result, Ok, Err, OnOk, drop}
+use Rattle.mp4_boxes.specs.Written.{header_bytes}
+use Rattle.mp4_head.specs.Tree.{TrackTree}
+use Rattle.mp4_present.specs.Coming.{Comes}
+use Rattle.mp4_present.specs.Denotes.{FileTree}
+use Rattle.mp4_present.specs.Movies.{MovieSeen}
+use Rattle.mp4_present.specs.declared.walks.Walk.{Walk}
+use Rattle.mp4_plan.specs.Writers.{HaveCopied}
+use Rattle.mp4_plan.specs.declared.writer.Writer.{Writer}
+use Rattle.mp4_tables.specs.declared.sample.SampleAt.{SampleAt}
+use Rattle.mp4_tables.specs.Groups.{GroupKey}
+use Rattle.mp4_plan.specs.Sizes.{moof_sizes}
+use Rattle.mp4_plan.specs.Spelling.{moof_front, run_rows}
+use Rattle.mp4_plan.specs.Taken.{piece_front}
+use Rattle.mp4_plan.specs.UsedKeys.{groups_bytes}
+use Rattle.mp4_plan.specs.declared.moof_front.PieceHead.{PieceHead}
+use Rattle.mp4_plan.specs.declared.moof_sizes.MoofSizes.{MoofSizes}
+use Rattle.mp4_plan.specs.declared.planner.Planned.{Planned}
+use Rattle.mp4_plan.specs.declared.rows.Row.{Row}
+
+-- the parts together
+pub parts_are : (head : PieceHead) (p : Planned) (sizes : MoofSizes) (keys told : List GroupKey) (rows noted : List Row) (front mdat bytes_there : List ℕ) → front ≡ moof_front head p sizes → sizes ≡ moof_sizes p told → told ≡ keys → noted ≡ rows → mdat ≡ header_bytes (codes "mdat") p.bytes
+    → (front ++ run_rows p noted ++ groups_bytes noted p told ++ mdat) ++ bytes_there ≡ piece_front head p keys rows ++ bytes_there
+parts_are head p sizes keys told rows noted front mdat bytes_there f s k r m =
+    let whole : front ≡ moof_front head p (moof_sizes p keys) = f ∙ ap (moof_front head p) (s ∙ ap (moof_sizes p) k) in
+    λ i. (whole i ++ run_rows p (r i) ++ groups_bytes (r i) p (k i) ++ m i) ++ bytes_there
+
+-- what stands at a place is what was read there
+pub read_at : {A : Type 0} (xs : List A) (k : ℕ) (x y : A) → slice_get xs k ≡ Some x → y ≡ slice_index_or xs k y → y ≡ x
+read_at [] k x y is e = absurd cc
+read_at (z ∷ xs) zero x y is e = let same : z ≡ x = cc in e ∙ same
+read_at (z ∷ xs) (suc k) x y is e = read_at xs k x y is e
+
+-- what was copied of a track, whichever walk it has
+pub copied_from : {T E : Type 0} (r : Result T E) (file : List ℕ) (tree : FileTree) (m : MovieSeen) (track count : ℕ) (samples : List SampleAt) (before after : Writer) (next : Walk) → after.copying.items ≡ slice_set before.copying.items track next
+    → ((t : TrackTree) (walk : Walk) → slice_get before.copying.items track ≡ Some walk → Comes file tree t m walk samples → OnOk r (Comes file tree t m next (drop count samples))) → OnOk r (HaveCopied file tree m track count samples before after)
+copied_from (Ok x) file tree m track count samples before after next e f = λ t walk is comes. (next, e, f t walk is comes)
+copied_from (Err x) file tree m track count samples before after next e f = tt

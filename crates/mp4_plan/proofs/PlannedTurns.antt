@@ -1,0 +1,293 @@
+-- What is planned of the pieces of an opened file, turn by turn.
+use Rattle.std.proofs.Common.{◌≡◌, ℕ, zero, suc, ◌+◌, ◌-◌, ◌*◌, ◌^◌, ◌<◌, ◌≤◌, nat_lt, Bool, true, false, cond, List, [], ◌∷◌, ◌++◌, length, take, map, Option, Some, None, refl, sym, ap, subst, ◌∙◌, arith, length-append, append-nil}
+use Rattle.std.specs.Prelude.{slice_get, slice_set, slice_index_or, min, max, fold}
+use Rattle.std.specs.List.{sum_by}
+use Rattle.std.proofs.lemmas.List.{length-take-le}
+use Rattle.mp4_boxes.specs.Written.{header_length}
+use Rattle.mp4_head.specs.Tree.{TrackTree}
+use Rattle.mp4_tables.specs.Groups.{GroupKey}
+use Rattle.mp4_tables.specs.Keys.{keys_seen}
+use Rattle.mp4_tables.specs.declared.sample.SampleAt.{SampleAt}
+use Rattle.mp4_present.specs.Coming.{Comes, track_samples}
+use Rattle.mp4_present.specs.Denotes.{FileTree, presentation_of}
+use Rattle.mp4_present.specs.Movies.{MovieSeen}
+use Rattle.mp4_present.specs.OpenedMovie.{IsOpenedAs}
+use Rattle.mp4_present.specs.declared.track_info.TrackInfo.{TrackInfo}
+use Rattle.mp4_present.specs.declared.walks.Walk.{Walk}
+use Rattle.mp4_plan.specs.Coming.{Coming, coming_of}
+use Rattle.mp4_plan.specs.Gathering.{gather_all, planned_of, more_of, piece_from, piece_fed, samples_after}
+use Rattle.mp4_plan.specs.Normal.{pieces_bytes, piece_bytes}
+use Rattle.mp4_plan.specs.Pieces.{TimedSample, Piece, pieces}
+use Rattle.mp4_plan.specs.Sizes.{moof_sizes}
+use Rattle.mp4_plan.specs.Taken.{AreTaken}
+use Rattle.mp4_plan.specs.TurnLaws.{piece_if}
+use Rattle.mp4_plan.specs.Turns.{first_scale, turn_end, turned, Sticks}
+use Rattle.mp4_plan.specs.Writers.{AllCome, AllBegin, IsPlanOf, longest_piece, planned_length}
+use Rattle.mp4_plan.specs.Writers as writers
+use Rattle.mp4_plan.specs.declared.ends.End.{End}
+use Rattle.mp4_plan.specs.declared.planner.Planned.{Planned}
+use Rattle.mp4_plan.specs.declared.schedule.Schedule.{Schedule}
+use Rattle.mp4_plan.specs.declared.writer.Plan.{Plan}
+use Rattle.mp4_plan.proofs.ComeAt.{come_with}
+use Rattle.mp4_plan.proofs.FirstTurn.{begins_at, first_turn}
+use Rattle.mp4_plan.proofs.Lefts.{left_count, pieces_from, IsTurn}
+use Rattle.mp4_plan.proofs.PieceCounts.{piece_counts}
+use Rattle.mp4_plan.proofs.PieceWritten.{AreKeys, IsFew, bytes_of_two}
+use Rattle.mp4_plan.proofs.Planning.{comes_there}
+use Rattle.mp4_plan.proofs.SizesSmall.{moof_small}
+use Rattle.mp4_plan.proofs.SpelledPiece.{piece_length, taken_count}
+use Rattle.mp4_plan.proofs.TakenFrom.{track_facts_at, all_counted}
+use Rattle.mp4_plan.proofs.TakenFrom as taken_from
+use Rattle.mp4_plan.proofs.TurnTaken.{TurnTakes, turn_taken, turn_moves, turns_end, turn_tracks, there_is, more_few, few_left, count_behind}
+
+-- ---- the longest piece
+
+longest_from : (most : ℕ) (ps : List Piece) → fold (λ n (piece : Piece). max n (length piece.samples)) most ps ≡ max most (longest_piece ps)
+longest_from most [] = omega arith
+longest_from most (p ∷ ps) =
+    let a = longest_from (max most (length p.samples)) ps in
+    let b = longest_from (max 0 (length p.samples)) ps in
+    omega (arith, a, b)
+
+turn_longest : (most id n : ℕ) (samples : List TimedSample) (behind : List Piece) → length samples ≡ n → max most (longest_piece (piece_if id samples ++ behind)) ≡ max (max most n) (longest_piece behind)
+turn_longest most id n [] behind e = let z : 0 ≡ n = e in omega (arith, z)
+turn_longest most id n (s ∷ samples) behind e = let a = longest_from (max 0 (length (s ∷ samples))) behind in omega (arith, a, e)
+
+-- ---- the bytes of a turn
+
+header_small : (n : ℕ) → header_length n ≤ 16
+header_small n = by (nat_lt (8 + n) (2 ^ 32))
+  where
+    by : (v : Bool) → cond v 8 16 ≤ 16
+    by true = omega arith
+    by false = omega arith
+
+-- few samples were planned, each with less than 2^32 bytes
+pub record IsSmall (p : Planned) : Type 0 where
+  pub few : IsFew p
+  pub bytes : p.bytes ≤ p.count * 4294967295
+
+planned_small : (p : Planned) (keys : List GroupKey) → length keys ≤ 4 → IsSmall p → 0 < p.count → planned_length p keys ≤ p.count * 2 ^ 33
+planned_small p keys four small some =
+    let moof = moof_small p keys small.few.count small.few.rows four in
+    let header = header_small p.bytes in
+    let bytes = small.bytes in
+    omega (arith, moof, header, bytes, some)
+
+module _ (file : List ℕ) (keys : List GroupKey) (number id : ℕ) where
+  none_long : (n : ℕ) (left : List SampleAt) (samples : List TimedSample) → AreTaken file keys (take n left) samples → n ≡ 0 → length (pieces_bytes number (piece_if id samples)) ≡ 0
+  none_long n left [] z e = refl
+  none_long zero [] (s ∷ samples) z e = absurd z
+  none_long zero (a ∷ left) (s ∷ samples) z e = absurd z
+  none_long (suc n) left (s ∷ samples) z e = absurd (omega (arith, e))
+
+  some_long : (n : ℕ) (left : List SampleAt) (samples : List TimedSample) (p : Planned) → AreKeys keys → AreTaken file keys (take n left) samples → p ≡ planned_of (gather_all None (take n left)) → 0 < n → n ≤ length left → IsFew p
+      → length (pieces_bytes number (piece_if id samples)) ≡ planned_length p keys
+  some_long zero left samples p k z is some le few = absurd (omega (arith, some))
+  some_long (suc n) [] samples p k z is some le few = absurd (omega (arith, le))
+  some_long (suc n) (a ∷ left) [] p k z is some le few = absurd z
+  some_long (suc n) (a ∷ left) (s ∷ samples) p k z is some le few =
+      let small = subst (λ (q : Planned). (moof_sizes q keys).moof ≤ 2 ^ 30) is (moof_small p keys few.count few.rows k.few) in
+      ap (λ (bs : List ℕ). length bs) (append-nil (piece_bytes number (record { id = id; samples = s ∷ samples })))
+      ∙ piece_length file keys number id a (take n left) (s ∷ samples) k.apart k.named k.few z small ∙ ap (λ (q : Planned). planned_length q keys) (sym is)
+
+-- what is kept of the track at a place
+pub kept_there : (infos : List TrackInfo) (k place : ℕ) (info d : TrackInfo) → k ≡ place → slice_get infos place ≡ Some info → d ≡ slice_index_or infos k d → d ≡ info
+kept_there infos k place info d e is at = at ∙ by infos k (subst (λ j. slice_get infos j ≡ Some info) (sym e) is)
+  where
+    by : (infos : List TrackInfo) (k : ℕ) → slice_get infos k ≡ Some info → slice_index_or infos k d ≡ info
+    by [] k f = absurd cc
+    by (x ∷ infos) zero f = let same : x ≡ info = cc in same
+    by (x ∷ infos) (suc k) f = by infos k f
+
+-- The plan with what a turn takes.
+pub record Adds (keys : List GroupKey) (p : Planned) (plan next : Plan) : Type 0 where
+  pub longest : next.longest ≡ max plan.longest p.count
+  pub none : p.count ≡ 0 → next.len ≡ plan.len
+  pub some : 0 < p.count → next.len ≡ min (plan.len + planned_length p keys) (2 ^ 64 - 1)
+
+-- a sum that stays below 2^57 is that of all bytes
+added : (keys : List GroupKey) (p : Planned) (plan next : Plan) (long left : ℕ) → Adds keys p plan next → length keys ≤ 4 → IsSmall p → (p.count ≡ 0 → long ≡ 0) → (0 < p.count → long ≡ planned_length p keys) → p.count ≤ left
+    → plan.len + left * 2 ^ 33 ≤ 2 ^ 57 → (next.len ≡ plan.len + long) × (long ≤ p.count * 2 ^ 33)
+added keys p plan next long left adds four small none some le fits = by p.count refl
+  where
+    by : (n : ℕ) → p.count ≡ n → (next.len ≡ plan.len + long) × (long ≤ p.count * 2 ^ 33)
+    by zero e =
+        let a = adds.none e in
+        let b = none e in
+        (omega (arith, a, b), omega (arith, b))
+    by (suc n) e =
+        let lt : 0 < p.count = omega (arith, e) in
+        let a = adds.some lt in
+        let b = some lt in
+        let c = planned_small p keys four small lt in
+        let d : p.count * 2 ^ 33 ≤ left * 2 ^ 33 = omega (arith, le) in
+        (omega (arith, a, b, c, d, fits), omega (arith, b, c))
+
+-- ---- all turns
+
+-- What was planned of the pieces before a turn, and the walks that go on from it.
+pub record IsPlanning (file : List ℕ) (tree : FileTree) (m : MovieSeen) (s : Schedule) (walks : List Walk) (plan : Plan) : Type 0 where
+  pub lefts : List (List SampleAt)
+  pub comings : List Coming
+  pub come : AllCome file tree m tree.movie.tracks walks lefts
+  pub turn : IsTurn file m.tracks s lefts comings
+  pub few : left_count lefts ≤ 2 ^ 24
+  pub fits : plan.len + left_count lefts * 2 ^ 33 ≤ 2 ^ 57
+  pub longest : max plan.longest (longest_piece (pieces_from s comings)) ≡ longest_piece (pieces (presentation_of file tree))
+  pub number : ℕ
+  pub len : plan.len + length (pieces_bytes number (pieces_from s comings)) ≡ length (pieces_bytes 1 (pieces (presentation_of file tree)))
+
+begins_same : (lefts : List (List SampleAt)) → writers.first_dts lefts ≡ begins_at lefts
+begins_same [] = refl
+begins_same ([] ∷ lefts) = refl
+begins_same ((s ∷ samples) ∷ lefts) = refl
+
+no_plan : Plan
+no_plan = record { longest = 0; len = 0 }
+
+-- Before the first turn nothing is planned.
+pub planning_first : (file : List ℕ) (tree : FileTree) (m : MovieSeen) (s : Schedule) (walks : List Walk) (from : ℕ) → IsOpenedAs file m tree → AllBegin file tree m walks → from ≡ writers.first_dts (map (track_samples tree) tree.movie.tracks)
+    → s.tracks ≡ length m.tracks → s.first ≡ first_scale m.tracks → s.left ≡ min (sum_by (λ (i : TrackInfo). i.samples) m.tracks) (2 ^ 64 - 1) → (s.track ≡ 0) × (s.from ≡ from) × (s.next ≡ None) → IsPlanning file tree m s walks (record { longest = 0; len = 0 })
+planning_first file tree m s walks from o come time tracks first left starts =
+    let lefts = map (track_samples tree) tree.movie.tracks in
+    let count = all_counted file m tree s.left o left in
+    let is = first_turn file m tree s o (record { tracks = tracks; first = first; track = starts.0; from = starts.1 ∙ time ∙ begins_same lefts; next = starts.2; left = count }) in
+    let few = taken_from.few_left file m tree o in
+    record {
+      lefts = lefts;
+      comings = map coming_of (presentation_of file tree).tracks;
+      come = come;
+      turn = is.0;
+      few = few;
+      fits = omega (arith, few);
+      longest = (let n : max 0 (longest_piece (pieces_from s (map coming_of (presentation_of file tree).tracks))) ≡ longest_piece (pieces_from s (map coming_of (presentation_of file tree).tracks)) = omega arith in n) ∙ ap longest_piece is.1;
+      number = 1;
+      len = (let n : 0 + length (pieces_bytes 1 (pieces_from s (map coming_of (presentation_of file tree).tracks))) ≡ length (pieces_bytes 1 (pieces_from s (map coming_of (presentation_of file tree).tracks))) = omega arith in n) ∙ ap (λ ps. length (pieces_bytes 1 ps)) is.1;
+    }
+
+module _ (file : List ℕ) (tree : FileTree) (m : MovieSeen) (s : Schedule) (walks : List Walk) (plan : Plan) (o : IsOpenedAs file m tree) (h : IsPlanning file tree m s walks plan) where
+  -- Behind the last turn all is planned.
+  pub planning_end : s.tracks ≤ s.track → IsPlanOf (presentation_of file tree) plan
+  planning_end le =
+      let none = turns_end file m.tracks s h.lefts h.comings h.turn le in
+      let longest = subst (λ ps. max plan.longest (longest_piece ps) ≡ longest_piece (pieces (presentation_of file tree))) none h.longest in
+      let len = subst (λ ps. plan.len + length (pieces_bytes h.number ps) ≡ length (pieces_bytes 1 (pieces (presentation_of file tree)))) none h.len in
+      let fits = h.fits in
+      record { longest = (let n : plan.longest ≡ max plan.longest 0 = omega arith in n) ∙ longest; len = (let n : plan.len ≡ plan.len + 0 = omega arith in n) ∙ len; within = omega (arith, fits) }
+
+  -- The turn of a track: what is kept of it, and what comes of it.
+  pub record HasTurn (k : ℕ) (walk : Walk) (end : End) : Type 0 where
+    pub info : TrackInfo
+    pub left : List SampleAt
+    pub t : TrackTree
+    pub is_info : slice_get m.tracks s.track ≡ Some info
+    pub is_tree : slice_get tree.movie.tracks s.track ≡ Some t
+    pub is_left : slice_get h.lefts s.track ≡ Some left
+    pub place : k ≡ s.track
+    pub end_is : end ≡ turn_end s info.timescale
+    pub comes : Comes file tree t m walk left
+    pub few : length left ≤ 2 ^ 24
+
+  pub has_turn : (k : ℕ) (walk : Walk) (end : End) → (k ≡ s.track) × (s.track < s.tracks) → walk ≡ slice_index_or walks k walk → length walks ≡ length m.tracks → ((info : TrackInfo) → slice_get m.tracks s.track ≡ Some info → end ≡ turn_end s info.timescale) → HasTurn k walk end
+  has_turn k walk end at is_walk many is_end =
+      let lt = at.1 in
+      let tracks = turn_tracks file m.tracks s h.lefts h.comings h.turn in
+      let info = there_is m.tracks s.track (omega (arith, lt, tracks)) in
+      let r = comes_there file tree m walks h.lefts s.track walk h.come (omega (arith, lt, tracks, many)) in
+      let fits = few_left h.lefts s.track (length r.left) r.left r.is_left (omega arith) in
+      let all = h.few in
+      record {
+        info = info.0;
+        left = r.left;
+        t = r.t;
+        is_info = info.1;
+        is_tree = r.is_tree;
+        is_left = r.is_left;
+        place = at.0;
+        end_is = is_end info.0 info.1;
+        comes = subst (λ w. Comes file tree r.t m w r.left) (sym is_walk) (subst (λ j. Comes file tree r.t m (slice_index_or walks j walk) r.left) (sym at.0) r.comes);
+        few = omega (arith, fits, all);
+      }
+
+  module _ (k : ℕ) (walk : Walk) (end : End) (t : HasTurn k walk end) (lt : s.track < s.tracks) where
+    taken : TurnTakes file m.tracks s h.lefts h.comings t.info t.left end
+    taken = subst (λ e. TurnTakes file m.tracks s h.lefts h.comings t.info t.left e) (sym t.end_is) (turn_taken file m.tracks s h.lefts h.comings t.info t.left h.turn lt t.is_info t.is_left)
+
+    -- it leads on
+    pub planning_moves : (p : Planned) (next : Option SampleAt) → p ≡ planned_of (piece_fed (piece_from end) t.left).gathered → next ≡ slice_get (samples_after (piece_from end) t.left) 0 → ¬ Sticks s end p.count next
+    planning_moves p next is after =
+        let count = ap (λ (q : Planned). q.count) is ∙ piece_counts end t.left in
+        let at_end = subst (λ e. ¬ Sticks s e (more_of (piece_from e) t.left) (slice_get (samples_after (piece_from e) t.left) 0)) (sym t.end_is) (turn_moves file m.tracks s h.lefts h.comings t.info t.left (turn_taken file m.tracks s h.lefts h.comings t.info t.left h.turn lt t.is_info t.is_left)) in
+        subst (λ n. ¬ Sticks s end n next) (sym count) (subst (λ x. ¬ Sticks s end (more_of (piece_from end) t.left) x) (sym after) at_end)
+
+    -- Behind it one more piece is planned, if it took samples.
+    pub planning_next : (p : Planned) (now : Walk) (next : Option SampleAt) (later : Plan) (on : Schedule) → p ≡ planned_of (piece_fed (piece_from end) t.left).gathered → Comes file tree t.t m now (samples_after (piece_from end) t.left)
+        → next ≡ slice_get (samples_after (piece_from end) t.left) 0 → IsSmall p → Adds (keys_seen t.info.keys) p plan later → on ≡ turned s end p.count next → IsPlanning file tree m on (slice_set walks k now) later
+    planning_next p now next later on is comes after small adds goes =
+        subst (λ j. IsPlanning file tree m on (slice_set walks j now) later) (sym t.place) (subst (λ (r : Schedule). IsPlanning file tree m r (slice_set walks s.track now) later) (sym turned_is) planned)
+      where
+        n : ℕ
+        n = more_of (piece_from end) t.left
+
+        behind : List SampleAt
+        behind = samples_after (piece_from end) t.left
+
+        count : p.count ≡ n
+        count = ap (λ (q : Planned). q.count) is ∙ piece_counts end t.left
+
+        turned_is : on ≡ turned s end n (slice_get behind 0)
+        turned_is = goes ∙ (λ i. turned s end (count i) (after i))
+
+        u : TurnTakes file m.tracks s h.lefts h.comings t.info t.left end
+        u = taken
+
+        xs : List Piece
+        xs = piece_if t.info.id u.samples
+
+        ys : List Piece
+        ys = pieces_from (turned s end n (slice_get behind 0)) u.later
+
+        le : n ≤ length t.left
+        le = more_few (piece_from end) t.left
+
+        fewer : n ≤ left_count h.lefts
+        fewer = few_left h.lefts s.track n t.left t.is_left le
+
+        left_is : left_count h.lefts - n ≡ left_count (slice_set h.lefts s.track behind)
+        left_is = count_behind h.lefts s.track n t.left t.is_left le
+
+        facts : taken_from.TrackFacts file tree t.info t.t
+        facts = track_facts_at file m tree s.track t.info t.t o t.is_info t.is_tree
+
+        keys : AreKeys (keys_seen t.info.keys)
+        keys = record { apart = facts.apart; named = facts.named; few = facts.few_keys }
+
+        long : ℕ
+        long = length (pieces_bytes h.number xs)
+
+        sum : (later.len ≡ plan.len + long) × (long ≤ p.count * 2 ^ 33)
+        sum =
+            added (keys_seen t.info.keys) p plan later long (left_count h.lefts) adds keys.few small (λ e. none_long file (keys_seen t.info.keys) h.number t.info.id n t.left u.samples u.taken (sym count ∙ e))
+            (λ some. some_long file (keys_seen t.info.keys) h.number t.info.id n t.left u.samples p keys u.taken is (omega (arith, some, count)) le small.few) (omega (arith, count, fewer)) h.fits
+
+        many : length u.samples ≡ n
+        many = sym (taken_count file (keys_seen t.info.keys) (take n t.left) u.samples u.taken) ∙ length-take-le n t.left le
+
+        planned : IsPlanning file tree m (turned s end n (slice_get behind 0)) (slice_set walks s.track now) later
+        planned = record {
+          lefts = slice_set h.lefts s.track behind;
+          comings = u.later;
+          come = come_with file tree m tree.movie.tracks walks h.lefts s.track t.t now behind h.come t.is_tree comes;
+          turn = u.on;
+          few = (let all = h.few in omega (arith, all, left_is));
+          fits = (let a = h.fits in let b = sum.0 in let c = sum.1 in omega (arith, a, b, c, left_is, fewer, count));
+          longest = (λ i. max ((adds.longest ∙ ap (max plan.longest) count) i) (longest_piece ys)) ∙ sym (turn_longest plan.longest t.info.id n u.samples ys many) ∙ ap (λ ps. max plan.longest (longest_piece ps)) (sym u.pieces) ∙ h.longest;
+          number = h.number + length xs;
+          len =
+              (let a = sum.0 in
+              let two = ap (λ (bs : List ℕ). length bs) (bytes_of_two h.number xs ys) ∙ length-append (pieces_bytes h.number xs) (pieces_bytes (h.number + length xs) ys) in
+              let n : later.len + length (pieces_bytes (h.number + length xs) ys) ≡ plan.len + length (pieces_bytes h.number (xs ++ ys)) = omega (arith, a, two) in
+              n)
+              ∙ ap (λ ps. plan.len + length (pieces_bytes h.number ps)) (sym u.pieces) ∙ h.len;
+        }

@@ -1,0 +1,194 @@
+-- What an opened file says of its tracks: their samples are those of the presentation that it denotes, and lie in it; their keys differ, and are at most four.
+use Rattle.std.proofs.Common.{◌≡◌, ℕ, zero, suc, ◌+◌, ◌-◌, ◌^◌, ◌<◌, ◌≤◌, false, List, [], ◌∷◌, length, Option, Some, None, refl, sym, ap, subst, ◌∙◌, arith}
+use Rattle.std.specs.Prelude.{map, min, IfSome, IsTrue, ℤ, pos, negsuc}
+use Rattle.std.specs.List.{AllByRecursion, AllZip, list_any, slice_get, sum_by}
+use Rattle.std.proofs.lemmas.Bool.{or_from}
+use Rattle.std.proofs.lemmas.List.{length-map}
+use Rattle.std.proofs.lemmas.List.Sums.{sum_by-cons}
+use Rattle.mp4_boxes.specs.Bytes.{sum_of}
+use Rattle.mp4_boxes.proofs.Each.{each_weaker, each_member}
+use Rattle.mp4_store.specs.Device.{range}
+use Rattle.mp4_tables.specs.Accepted.{AreDistinct}
+use Rattle.mp4_tables.specs.Groups.{GroupKey, same_key}
+use Rattle.mp4_tables.specs.Keys.{keys_seen}
+use Rattle.mp4_tables.specs.PlainSamples.{PlacedSample}
+use Rattle.mp4_tables.specs.TableRules.{lies_within}
+use Rattle.mp4_tables.specs.Timed.{timed, sample_at, place_of}
+use Rattle.mp4_tables.specs.declared.sample.SampleAt.{SampleAt}
+use Rattle.mp4_tables.proofs.Placed.{IsKey, IsIndex}
+use Rattle.mp4_head.specs.Tree.{TrackTree}
+use Rattle.mp4_present.specs.Coming.{track_keys, track_samples}
+use Rattle.mp4_present.specs.Denotes.{FileTree, file_parts, placed_of, bytes_at, sample_of, track_of}
+use Rattle.mp4_present.specs.Joined.{IsBelow}
+use Rattle.mp4_present.specs.Movies.{MovieSeen}
+use Rattle.mp4_present.specs.OpenedMovie.{IsInfoOf, IsOpenedAs}
+use Rattle.mp4_present.specs.Presentation.{Track, IsGroup, IsParameter}
+use Rattle.mp4_present.specs.declared.track_info.TrackInfo.{TrackInfo}
+use Rattle.mp4_present.proofs.MoofTaken.{zipped_at}
+use Rattle.mp4_present.proofs.PlacedTracks.{IsTrackPlaced, track_placed}
+use Rattle.mp4_present.proofs.SamplesLie.{IsInFile, placed_lie, bytes_whole, timed_lie, timed_length}
+use Rattle.mp4_present.proofs.ValidSamples.{IsOfTrack}
+use Rattle.mp4_plan.specs.Coming.{coming_of}
+use Rattle.mp4_plan.specs.Pieces.{timed_from}
+use Rattle.mp4_plan.specs.Taken.{IsTaken, AreTaken, IsNamed}
+use Rattle.mp4_plan.specs.UsedKeys.{AreApart}
+use Rattle.mp4_plan.proofs.Lefts.{IsLeft, left_count}
+
+-- ---- samples
+
+-- the bytes from the place of a sample on that lies in the file
+bytes_there : (file : List ℕ) (at : ℤ) (size : ℕ) → IsTrue (lies_within (length file) at size) → range file (place_of at) size ≡ bytes_at file at size
+bytes_there file (pos at) size h = refl
+bytes_there file (negsuc below) size h = absurd cc
+
+is_parameter : (o : Option ℕ) → IfSome o (λ n. n < 2 ^ 32) → IsParameter o
+is_parameter None h = tt
+is_parameter (Some n) h = h
+
+is_named : (key : GroupKey) → IsKey key → IsNamed key
+is_named key h = record { kind_length = h.kind_length; kind = h.kind; parameter = is_parameter key.parameter h.parameter }
+
+is_group : (group : GroupKey × ℕ) → IsIndex group → IsGroup group
+is_group group h = record { kind_length = h.0.kind_length; kind = h.0.kind; parameter = is_parameter group.0.parameter h.0.parameter; index_from_1 = h.1; index = h.2 }
+
+-- a sample that lies in the file, with its decode time, is that of the presentation
+is_taken : (file : List ℕ) (descriptions : ℕ) (keys : List GroupKey) (number dts : ℕ) (s : PlacedSample) → IsInFile (length file) s → IsOfTrack descriptions keys s
+    → IsTaken file keys (sample_at keys dts s) (record { sample = sample_of file s; number = number; time = dts })
+is_taken file descriptions keys number dts s h k = record {
+  time = refl;
+  duration = refl;
+  offset = refl;
+  flags = refl;
+  description = refl;
+  size = sym (bytes_whole file s.at s.size h);
+  bytes = bytes_there file s.at s.size h;
+  groups = refl;
+  named = k.groups.named;
+  are_groups = each_weaker IsIndex IsGroup is_group s.groups k.groups.each;
+}
+
+-- so are samples one after the other
+are_taken : (file : List ℕ) (descriptions : ℕ) (keys : List GroupKey) (number dts : ℕ) (placed : List PlacedSample) → AllByRecursion (IsInFile (length file)) placed → AllByRecursion (IsOfTrack descriptions keys) placed
+    → AreTaken file keys (timed keys dts placed) (timed_from number dts (map (sample_of file) placed))
+are_taken file descriptions keys number dts [] h k = tt
+are_taken file descriptions keys number dts (s ∷ placed) h k = (is_taken file descriptions keys number dts s h.0 k.0, are_taken file descriptions keys (number + 1) (dts + s.duration) placed h.1 k.1)
+
+-- ---- keys
+
+none_same : (key : GroupKey) (keys : List GroupKey) → AllByRecursion (λ other. same_key key other ≡ false) keys → list_any (same_key key) keys ≡ false
+none_same key [] d = refl
+none_same key (other ∷ keys) d = or_from (same_key key other) (list_any (same_key key) keys) d.0 (none_same key keys d.1)
+
+are_apart : (keys : List GroupKey) → AreDistinct keys → AreApart keys
+are_apart [] d = tt
+are_apart (key ∷ keys) d = (none_same key keys d.0, are_apart keys d.1)
+
+-- ---- tracks
+
+-- What is kept of a track of a file, and the track that the file's boxes say.
+pub record TrackFacts (file : List ℕ) (tree : FileTree) (info : TrackInfo) (t : TrackTree) : Type 0 where
+  pub left : IsLeft file info (track_samples tree t) (coming_of (track_of file (file_parts tree) t))
+  pub apart : AreApart (keys_seen info.keys)
+  pub named : AllByRecursion IsNamed (keys_seen info.keys)
+  pub few_keys : length (keys_seen info.keys) ≤ 4
+  pub lies : AllByRecursion (IsBelow (length file)) (track_samples tree t)
+
+facts_of : (file : List ℕ) (tree : FileTree) (t : TrackTree) (info : TrackInfo) → AllByRecursion (IsInFile (length file)) (placed_of (file_parts tree) t) → IsTrackPlaced tree t → IsInfoOf file tree t info → TrackFacts file tree info t
+facts_of file tree t info h p i =
+    let placed = placed_of (file_parts tree) t in
+    let u : Track = track_of file (file_parts tree) t in
+    let keys = sym i.keys in
+    let taken = are_taken file (length t.descriptions) (track_keys tree t) 1 u.start placed h p.placed in
+    record {
+      left = record { id = sym i.id; timescale = sym i.timescale; taken = subst (λ ks. AreTaken file ks (track_samples tree t) (coming_of u).samples) keys taken };
+      apart = subst AreApart keys (are_apart (track_keys tree t) p.distinct);
+      named = subst (λ ks. AllByRecursion IsNamed ks) keys (each_weaker IsKey IsNamed is_named (track_keys tree t) p.keys);
+      few_keys = subst (λ (ks : List GroupKey). length ks ≤ 4) keys p.few;
+      lies = timed_lie (length file) (track_keys tree t) u.start placed h;
+    }
+
+-- each of the first list with its partner in the second, where it is so of all that go with it
+turned : {A B : Type 0} (R : A → B → Type 0) (Q : B → A → Type 0) (xs : List A) (ys : List B) → AllByRecursion (λ x. (y : B) → R x y → Q y x) xs → AllZip R xs ys → AllZip Q ys xs
+turned R Q [] [] h z = tt
+turned R Q [] (y ∷ ys) h z = absurd z
+turned R Q (x ∷ xs) [] h z = absurd z
+turned R Q (x ∷ xs) (y ∷ ys) h z = (h.0 y z.0, turned R Q xs ys h.1 z.1)
+
+-- The facts of all tracks in order.
+pub track_facts : (file : List ℕ) (m : MovieSeen) (tree : FileTree) → IsOpenedAs file m tree → AllZip (TrackFacts file tree) m.tracks tree.movie.tracks
+track_facts file m tree o =
+    turned (IsInfoOf file tree) (TrackFacts file tree) tree.movie.tracks m.tracks
+    (each_member (λ (t : TrackTree). (info : TrackInfo) → IsInfoOf file tree t info → TrackFacts file tree info t) tree.movie.tracks
+    (λ t i info h. facts_of file tree t info (placed_lie file tree t o.is_consistent i) (track_placed file tree o.is_tree o.is_sound o.is_consistent o.bytes t i) h)) o.tracks
+
+-- and of the track at a place
+pub track_facts_at : (file : List ℕ) (m : MovieSeen) (tree : FileTree) (k : ℕ) (info : TrackInfo) (t : TrackTree) → IsOpenedAs file m tree
+    → slice_get m.tracks k ≡ Some info → slice_get tree.movie.tracks k ≡ Some t → TrackFacts file tree info t
+track_facts_at file m tree k info t o e f = zipped_at (TrackFacts file tree) m.tracks tree.movie.tracks k info t (track_facts file m tree o) e f
+
+got_map : {A B : Type 0} (f : A → B) (xs : List A) (k : ℕ) (x : A) → slice_get xs k ≡ Some x → slice_get (map f xs) k ≡ Some (f x)
+got_map f [] k x e = absurd cc
+got_map f (y ∷ xs) zero x e = let same : y ≡ x = cc in ap (λ z. Some (f z)) same
+got_map f (y ∷ xs) (suc k) x e = got_map f xs k x e
+
+-- the partner of what stands at a place
+partner : {A B : Type 0} (R : A → B → Type 0) (xs : List A) (ys : List B) (k : ℕ) (x : A) → AllZip R xs ys → slice_get xs k ≡ Some x → (y : B) × (slice_get ys k ≡ Some y)
+partner R [] ys k x z e = absurd cc
+partner R (a ∷ xs) [] k x z e = absurd z
+partner R (a ∷ xs) (b ∷ ys) zero x z e = (b, refl)
+partner R (a ∷ xs) (b ∷ ys) (suc k) x z e = partner R xs ys k x z.1 e
+
+-- A track of which this is kept stands at this place of the file's tracks, and its samples at this place of theirs.
+pub record HasTrack (file : List ℕ) (tree : FileTree) (k : ℕ) (info : TrackInfo) : Type 0 where
+  pub t : TrackTree
+  pub is_there : slice_get tree.movie.tracks k ≡ Some t
+  pub samples : slice_get (map (track_samples tree) tree.movie.tracks) k ≡ Some (track_samples tree t)
+  pub facts : TrackFacts file tree info t
+
+pub has_track : (file : List ℕ) (m : MovieSeen) (tree : FileTree) (k : ℕ) (info : TrackInfo) → IsOpenedAs file m tree → slice_get m.tracks k ≡ Some info → HasTrack file tree k info
+has_track file m tree k info o e =
+    let r = partner (TrackFacts file tree) m.tracks tree.movie.tracks k info (track_facts file m tree o) e in
+    record { t = r.0; is_there = r.1; samples = got_map (track_samples tree) tree.movie.tracks k r.0 r.1; facts = track_facts_at file m tree k info r.0 o e r.1 }
+
+-- ---- how many samples there are
+
+as_many : (file : List ℕ) (tree : FileTree) (t : TrackTree) → length (track_samples tree t) ≡ length (track_of file (file_parts tree) t).samples
+as_many file tree t =
+    let placed = placed_of (file_parts tree) t in
+    timed_length (track_keys tree t) (track_of file (file_parts tree) t).start placed ∙ sym (length-map placed (sample_of file))
+
+-- as many as the presentation has
+left_total : (file : List ℕ) (tree : FileTree) (trees : List TrackTree) → left_count (map (track_samples tree) trees) ≡ sum_of (λ (u : Track). length u.samples) (map (track_of file (file_parts tree)) trees)
+left_total file tree [] = refl
+left_total file tree (t ∷ trees) =
+    let first = sum_by-cons (λ (left : List SampleAt). length left) (track_samples tree t) (map (track_samples tree) trees) in
+    let more = left_total file tree trees in
+    let same = as_many file tree t in
+    omega (arith, first, more, same)
+
+-- and as are kept
+kept_total : (file : List ℕ) (tree : FileTree) (trees : List TrackTree) (infos : List TrackInfo) → AllZip (IsInfoOf file tree) trees infos → sum_by (λ (i : TrackInfo). i.samples) infos ≡ left_count (map (track_samples tree) trees)
+kept_total file tree [] [] z = refl
+kept_total file tree [] (info ∷ infos) z = absurd z
+kept_total file tree (t ∷ trees) [] z = absurd z
+kept_total file tree (t ∷ trees) (info ∷ infos) z =
+    let kept = sum_by-cons (λ (i : TrackInfo). i.samples) info infos in
+    let left = sum_by-cons (λ (xs : List SampleAt). length xs) (track_samples tree t) (map (track_samples tree) trees) in
+    let more = kept_total file tree trees infos z.1 in
+    let own = z.0.samples in
+    let same = as_many file tree t in
+    omega (arith, kept, left, more, own, same)
+
+-- The samples that are kept of all tracks are those of the file, which are no more than the limit allows.
+pub samples_left : (file : List ℕ) (m : MovieSeen) (tree : FileTree) → IsOpenedAs file m tree → sum_by (λ (i : TrackInfo). i.samples) m.tracks ≡ left_count (map (track_samples tree) tree.movie.tracks)
+samples_left file m tree o = kept_total file tree tree.movie.tracks m.tracks o.tracks
+
+pub few_left : (file : List ℕ) (m : MovieSeen) (tree : FileTree) → IsOpenedAs file m tree → left_count (map (track_samples tree) tree.movie.tracks) ≤ 2 ^ 24
+few_left file m tree o = subst (λ n. n ≤ 2 ^ 24) (sym (left_total file tree tree.movie.tracks)) o.limits.samples
+
+-- a sum of them that stops at the largest number of 64 bits is all
+pub all_counted : (file : List ℕ) (m : MovieSeen) (tree : FileTree) (n : ℕ) → IsOpenedAs file m tree → n ≡ min (sum_by (λ (i : TrackInfo). i.samples) m.tracks) (2 ^ 64 - 1) → n ≡ left_count (map (track_samples tree) tree.movie.tracks)
+all_counted file m tree n o e = few_enough n _ _ e (samples_left file m tree o) (few_left file m tree o)
+  where
+    few_enough : (n total left : ℕ) → n ≡ min total (2 ^ 64 - 1) → total ≡ left → left ≤ 2 ^ 24 → n ≡ left
+    few_enough n total left e f g = omega (arith, e, f, g)

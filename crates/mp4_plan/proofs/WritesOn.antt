@@ -1,0 +1,332 @@
+-- The writer from turn to turn: what was put and what waits are the head and the pieces so far, and the walks stand before the samples that are left.
+use Rattle.std.proofs.Common.{◌≡◌, ℕ, zero, suc, ◌+◌, ◌-◌, ◌^◌, ◌<◌, ◌≤◌, max, min, ◌==◌, Bool, true, false, List, [], ◌∷◌, ◌++◌, length, take, drop, Some, None, refl, sym, ap, subst, ◌∙◌, append_assoc, append-nil, arith, slice_set}
+use Rattle.std.specs.Prelude.{Option, option_map, if◌then◌else◌, map, slice_get, fold}
+use Rattle.std.specs.Io.KnownBytes.{Appends}
+use Rattle.std.specs.List.{AllByRecursion, AllZip, sum_by}
+use Rattle.mp4_boxes.proofs.Each.{each_dropped}
+use Rattle.mp4_head.specs.Tree.{TrackTree}
+use Rattle.mp4_store.specs.Device.{AppendsPrefix}
+use Rattle.mp4_tables.specs.Groups.{GroupKey}
+use Rattle.mp4_tables.specs.Keys.{keys_seen}
+use Rattle.mp4_tables.specs.declared.sample.SampleAt.{SampleAt}
+use Rattle.mp4_present.specs.Carried.{BytesGoOn, waiting}
+use Rattle.mp4_present.specs.Coming.{Comes, track_samples}
+use Rattle.mp4_present.specs.Denotes.{FileTree, presentation_of}
+use Rattle.mp4_present.specs.Joined.{IsBelow}
+use Rattle.mp4_present.specs.Movies.{MovieSeen}
+use Rattle.mp4_present.specs.OpenedMovie.{IsOpenedAs}
+use Rattle.mp4_present.specs.declared.track_info.TrackInfo.{TrackInfo}
+use Rattle.mp4_present.specs.declared.walks.Walk.{Walk}
+use Rattle.mp4_present.proofs.Carrying.{BytesGoOn-then, BytesGoOn-all, BytesGoOn-fails}
+use Rattle.mp4_store.proofs.Known.{AppendsPrefix-longer}
+use Rattle.mp4_plan.specs.Coming.{Coming, coming_of}
+use Rattle.mp4_plan.specs.Gathering.{piece_from, piece_fed, samples_after, more_of, planned_of}
+use Rattle.mp4_plan.specs.Normal.{normal, pieces_bytes}
+use Rattle.mp4_plan.specs.Pieces.{TimedSample, Piece, pieces}
+use Rattle.mp4_plan.specs.Taken.{AreTaken}
+use Rattle.mp4_plan.specs.TurnLaws.{piece_if}
+use Rattle.mp4_plan.specs.Turns.{first_scale, turn_end, turned, track_passed, wrapped, is_over}
+use Rattle.mp4_plan.specs.Writers.{AllCome, AllBegin, IsReady, first_dts, longest_piece, head_of_normal, turn_head, sequence_behind, turn_bytes}
+use Rattle.mp4_plan.specs.declared.ends.End.{End}
+use Rattle.mp4_plan.specs.declared.moof_front.PieceHead.{PieceHead}
+use Rattle.mp4_plan.specs.declared.planner.Planned.{Planned}
+use Rattle.mp4_plan.specs.declared.schedule.Schedule.{Schedule}
+use Rattle.mp4_plan.specs.declared.writer.Writer.{Writer}
+use Rattle.mp4_plan.proofs.ComeAt.{come_at, come_with}
+use Rattle.mp4_plan.proofs.EachAt.{holds_with}
+use Rattle.mp4_plan.proofs.FirstTurn.{IsFirst, begins_at, first_turn}
+use Rattle.mp4_plan.proofs.FrontsPut.{stopped_at, stopped_behind}
+use Rattle.mp4_plan.proofs.Lefts.{left_count, pieces_from, IsTurn}
+use Rattle.mp4_plan.proofs.PieceCounts.{piece_counts, piece_within, piece_gathers}
+use Rattle.mp4_plan.proofs.PieceWritten.{AreKeys, IsFew, turn_written, head_some, head_counts, bytes_of_two}
+use Rattle.mp4_plan.proofs.TakenFrom.{TrackFacts, track_facts, has_track, few_left, all_counted}
+use Rattle.mp4_plan.proofs.TurnTaken.{TurnTaken, turn_taken, turn_fits, there_is}
+
+-- ---- lists
+
+-- each piece has no more samples than the longest
+most_from : (most : ℕ) (ps : List Piece) → most ≤ fold (λ n (p : Piece). max n (length p.samples)) most ps
+most_from most [] = omega arith
+most_from most (p ∷ ps) = let r = most_from (max most (length p.samples)) ps in omega (arith, r)
+
+each_from : (most : ℕ) (ps : List Piece) → AllByRecursion (λ (p : Piece). length p.samples ≤ fold (λ n (q : Piece). max n (length q.samples)) most ps) ps
+each_from most [] = tt
+each_from most (p ∷ ps) = let r = most_from (max most (length p.samples)) ps in (omega (arith, r), each_from (max most (length p.samples)) ps)
+
+pub no_longer : (ps : List Piece) → AllByRecursion (λ (p : Piece). length p.samples ≤ longest_piece ps) ps
+no_longer ps = each_from 0 ps
+
+-- what holds of a member at a place
+member_at : {A : Type 0} (P : A → Type 0) (xs : List A) (k : ℕ) (x : A) → slice_get xs k ≡ Some x → AllByRecursion P xs → P x
+member_at P [] k x is h = absurd cc
+member_at P (y ∷ xs) zero x is h = let same : y ≡ x = cc in subst P same h.0
+member_at P (y ∷ xs) (suc k) x is h = member_at P xs k x is h.1
+
+-- two members at one place
+one_member : {A : Type 0} (xs : List A) (k : ℕ) (x y : A) → slice_get xs k ≡ Some x → slice_get xs k ≡ Some y → x ≡ y
+one_member xs k x y p q = let same : Some x ≡ Some y = sym p ∙ q in cc
+
+-- how many samples a schedule has left behind a turn
+passed_left : (s : Schedule) (time : Option ℕ) → (track_passed s time).left ≡ s.left
+passed_left s time = by_first (s.track == 0)
+  where
+    by_wrap : (r : Schedule) (next : Option ℕ) → (wrapped r next).left ≡ r.left
+    by_wrap r None = refl
+    by_wrap r (Some cut) = by_last (r.track == r.tracks)
+      where
+        by_last : (v : Bool) → (if v then record r { from = cut; next = None; track = 0 } else r).left ≡ r.left
+        by_last true = refl
+        by_last false = refl
+
+    by_first : (v : Bool) → (if v then wrapped (record s { next = time; track = 1 }) time else wrapped (record s { track = s.track + 1 }) s.next).left ≡ s.left
+    by_first true = by_wrap (record s { next = time; track = 1 }) time
+    by_first false = by_wrap (record s { track = s.track + 1 }) s.next
+
+turned_left : (s : Schedule) (end : End) (n : ℕ) (next : Option SampleAt) → (turned s end n next).left ≡ s.left - n
+turned_left s end n next = by_over (is_over end next)
+  where
+    time : Option ℕ
+    time = option_map (λ (x : SampleAt). x.dts) next
+
+    by_over : (v : Bool) → (if v then track_passed (record s { left = s.left - n }) time else record s { left = s.left - n }).left ≡ s.left - n
+    by_over true = passed_left (record s { left = s.left - n }) time
+    by_over false = refl
+
+-- a turn without samples has no piece
+piece_small : (id n : ℕ) (left : List SampleAt) (samples : List TimedSample) (file : List ℕ) (keys : List GroupKey) → AreTaken file keys (take n left) samples → length (piece_if id samples) ≤ n
+piece_small id zero left [] file keys z = omega arith
+piece_small id zero left (s ∷ samples) file keys z = absurd z
+piece_small id (suc n) left [] file keys z = omega arith
+piece_small id (suc n) left (s ∷ samples) file keys z = omega arith
+
+-- ---- at a turn
+
+module _ (file : List ℕ) (tree : FileTree) (m : MovieSeen) where
+  pub record WritesOn (s : Schedule) (sequence : ℕ) (planning copying : List Walk) (rows : ℕ) (before after : Option (List ℕ)) (held : List ℕ) : Type 0 where
+    pub lefts : List (List SampleAt)
+    pub comings : List Coming
+    pub plan : AllCome file tree m tree.movie.tracks planning lefts
+    pub copy : AllCome file tree m tree.movie.tracks copying lefts
+    pub turn : IsTurn file m.tracks s lefts comings
+    pub lie : AllByRecursion (λ (left : List SampleAt). AllByRecursion (IsBelow (length file)) left) lefts
+    pub fits : AllByRecursion (λ (p : Piece). length p.samples ≤ rows) (pieces_from s comings)
+    pub small : sequence + left_count lefts ≤ 2 ^ 24 + 1
+    pub done : List ℕ
+    pub goes : BytesGoOn before after [] held done
+    pub whole : normal (presentation_of file tree) ≡ done ++ pieces_bytes sequence (pieces_from s comings)
+
+  -- the track whose turn it is, and what its turn takes
+  pub record AtTurn (s : Schedule) (planning copying : List Walk) (rows : ℕ) (lefts : List (List SampleAt)) (comings : List Coming) : Type 0 where
+    pub t : TrackTree
+    pub walk : Walk
+    pub copied : Walk
+    pub left : List SampleAt
+    pub info : TrackInfo
+    pub is_tree : slice_get tree.movie.tracks s.track ≡ Some t
+    pub is_walk : slice_get planning s.track ≡ Some walk
+    pub is_copied : slice_get copying s.track ≡ Some copied
+    pub is_info : slice_get m.tracks s.track ≡ Some info
+    pub comes : Comes file tree t m walk left
+    pub copies : Comes file tree t m copied left
+    pub keys : AreKeys (keys_seen info.keys)
+    pub taken : TurnTaken file m.tracks s lefts comings info left
+    pub below : AllByRecursion (IsBelow (length file)) left
+    pub fits : more_of (piece_from (turn_end s info.timescale)) left ≤ rows
+
+  pub at_turn : (s : Schedule) (sequence : ℕ) (planning copying : List Walk) (rows : ℕ) (before after : Option (List ℕ)) (held : List ℕ) → IsOpenedAs file m tree → (h : WritesOn s sequence planning copying rows before after held)
+      → s.track < s.tracks → s.tracks ≡ length m.tracks → length planning ≡ length m.tracks → length copying ≡ length m.tracks → AtTurn s planning copying rows h.lefts h.comings
+  at_turn s sequence planning copying rows before after held o h lt tracks plans copies =
+      let a = come_at file tree m tree.movie.tracks planning h.lefts s.track h.plan (omega (arith, lt, tracks, plans)) in
+      let b = come_at file tree m tree.movie.tracks copying h.lefts s.track h.copy (omega (arith, lt, tracks, copies)) in
+      let i = there_is m.tracks s.track (omega (arith, lt, tracks)) in
+      let f = (has_track file m tree s.track i.0 o i.1).facts in
+      let taken = turn_taken file m.tracks s h.lefts h.comings i.0 a.left h.turn lt i.1 a.is_left in
+      let same_tree = one_member tree.movie.tracks s.track b.t a.t b.is_tree a.is_tree in
+      let same_left = one_member h.lefts s.track b.left a.left b.is_left a.is_left in
+      record {
+        t = a.t;
+        walk = a.walk;
+        copied = b.walk;
+        left = a.left;
+        info = i.0;
+        is_tree = a.is_tree;
+        is_walk = a.is_walk;
+        is_copied = b.is_walk;
+        is_info = i.1;
+        comes = a.comes;
+        copies = subst (λ (left : List SampleAt). Comes file tree a.t m b.walk left) same_left (subst (λ (u : TrackTree). Comes file tree u m b.walk b.left) same_tree b.comes);
+        keys = record { apart = f.apart; named = f.named; few = f.few_keys };
+        taken = taken;
+        below = member_at (λ (left : List SampleAt). AllByRecursion (IsBelow (length file)) left) h.lefts s.track a.left a.is_left h.lie;
+        fits = (turn_fits rows file m.tracks s h.lefts h.comings i.0 a.left taken h.fits).0;
+      }
+
+  module _ (s : Schedule) (sequence : ℕ) (planning copying : List Walk) (rows : ℕ) (before after : Option (List ℕ)) (held : List ℕ) (h : WritesOn s sequence planning copying rows before after held) where
+    -- what was put so far is a front
+    pub stopped : AppendsPrefix before after (normal (presentation_of file tree))
+    stopped = stopped_behind before after [] held h.done (pieces_bytes sequence (pieces_from s h.comings)) (normal (presentation_of file tree)) h.goes h.whole
+
+    -- no piece is left, and what waits is put, or a front of it
+    all_done : pieces_from s h.comings ≡ [] → normal (presentation_of file tree) ≡ h.done
+    all_done none = h.whole ∙ ap (λ (ps : List Piece). h.done ++ pieces_bytes sequence ps) none ∙ append-nil h.done
+
+    pub all_put : (last : Option (List ℕ)) → pieces_from s h.comings ≡ [] → Appends after last held → Appends before last (normal (presentation_of file tree))
+    all_put last none p = rw (all_done none) (BytesGoOn-all before after last [] held h.done h.goes p)
+
+    pub not_all_put : (last : Option (List ℕ)) → pieces_from s h.comings ≡ [] → AppendsPrefix after last held → AppendsPrefix before last (normal (presentation_of file tree))
+    not_all_put last none p =
+        let q : AppendsPrefix before last (h.done ++ []) = BytesGoOn-fails before after last [] held h.done [] h.goes (AppendsPrefix-longer after last held [] p) in
+        subst (λ (bs : List ℕ). AppendsPrefix before last bs) (append-nil h.done ∙ sym (all_done none)) q
+
+    module _ (a : AtTurn s planning copying rows h.lefts h.comings) (p : Planned) (is : p ≡ planned_of (piece_fed (piece_from (turn_end s a.info.timescale)) a.left).gathered) (few : IsFew p) where
+      abbrev end : End
+      end = turn_end s a.info.timescale
+
+      abbrev count : ℕ
+      count = more_of (piece_from end) a.left
+
+      abbrev keys : List GroupKey
+      keys = keys_seen a.info.keys
+
+      abbrev piece : List Piece
+      piece = piece_if a.info.id a.taken.samples
+
+      abbrev behind : List SampleAt
+      behind = samples_after (piece_from end) a.left
+
+      abbrev next : Schedule
+      next = turned s end count (slice_get behind 0)
+
+      counted : p.count ≡ count
+      counted = ap (λ (q : Planned). q.count) is ∙ piece_counts end a.left
+
+      abbrev head : Option PieceHead
+      head = turn_head sequence a.info.id p.count (slice_get a.left 0)
+
+      -- what is written at this turn
+      written : turn_bytes file head p keys (take p.count a.left) ≡ pieces_bytes sequence piece
+      written = turn_written file keys sequence a.info.id count a.left a.taken.samples p a.keys a.taken.taken (is ∙ ap planned_of (piece_gathers end a.left)) counted (piece_within end a.left) few
+
+      small_piece : length piece ≤ count
+      small_piece = piece_small a.info.id count a.left a.taken.samples file keys a.taken.taken
+
+      -- the number of the piece behind it
+      numbered : sequence_behind sequence head ≡ sequence + length piece
+      numbered =
+          let small = h.small in
+          let few_pieces = small_piece in
+          let n = a.taken.few in
+          let left = h.turn.left in
+          ap (λ k. sequence_behind sequence (turn_head sequence a.info.id k (slice_get a.left 0))) counted
+          ∙ head_counts sequence a.info.id count a.left a.taken.samples file keys a.taken.taken (piece_within end a.left) (omega (arith, small, few_pieces, n, left))
+
+      -- what is to come behind it
+      rest_is : normal (presentation_of file tree) ≡ (h.done ++ pieces_bytes sequence piece) ++ pieces_bytes (sequence_behind sequence head) (pieces_from next a.taken.later)
+      rest_is =
+          h.whole ∙ ap (λ (ps : List Piece). h.done ++ pieces_bytes sequence ps) a.taken.pieces
+          ∙ ap (λ (bs : List ℕ). h.done ++ bs) (bytes_of_two sequence piece (pieces_from next a.taken.later) ∙ ap (λ n. pieces_bytes sequence piece ++ pieces_bytes n (pieces_from next a.taken.later)) (sym numbered))
+          ∙ sym (append_assoc h.done (pieces_bytes sequence piece) (pieces_bytes (sequence_behind sequence head) (pieces_from next a.taken.later)))
+
+      -- it is not taken along whole
+      pub turn_stops : (last : Option (List ℕ)) → AppendsPrefix after last (held ++ turn_bytes file head p keys (take p.count a.left)) → AppendsPrefix before last (normal (presentation_of file tree))
+      turn_stops last q = stopped_at before after last [] held h.done (turn_bytes file head p keys (take p.count a.left)) (h.done ++ pieces_bytes sequence piece) (pieces_bytes (sequence_behind sequence head) (pieces_from next a.taken.later)) (normal (presentation_of file tree)) h.goes q
+          (ap (λ (bs : List ℕ). h.done ++ bs) (sym written)) rest_is
+
+      -- it is taken along
+      pub turn_over : (later copied : Walk) (last : Option (List ℕ)) (held_later : List ℕ) → Comes file tree a.t m later behind → Comes file tree a.t m copied (drop p.count a.left)
+          → BytesGoOn after last held held_later (turn_bytes file head p keys (take p.count a.left))
+          → WritesOn (turned s end p.count (slice_get behind 0)) (sequence_behind sequence head) (slice_set planning s.track later) (slice_set copying s.track copied) rows before last held_later
+      turn_over later copied last held_later comes copies bytes =
+          let walks = come_with file tree m tree.movie.tracks planning h.lefts s.track a.t later behind h.plan a.is_tree comes in
+          let own = subst (λ n. Comes file tree a.t m copied (drop n a.left)) counted copies in
+          let copying_walks = come_with file tree m tree.movie.tracks copying h.lefts s.track a.t copied behind h.copy a.is_tree own in
+          let small = h.small in
+          let few_pieces = small_piece in
+          let n = a.taken.few in
+          let left = h.turn.left in
+          let later_left = a.taken.on.left in
+          let by = turned_left s end count (slice_get behind 0) in
+          let number = numbered in
+          let same : next ≡ turned s end p.count (slice_get behind 0) = ap (λ k. turned s end k (slice_get behind 0)) (sym counted) in
+          subst (λ (r : Schedule). WritesOn r (sequence_behind sequence head) (slice_set planning s.track later) (slice_set copying s.track copied) rows before last held_later) same (record {
+            lefts = slice_set h.lefts s.track behind;
+            comings = a.taken.later;
+            plan = walks;
+            copy = copying_walks;
+            turn = a.taken.on;
+            lie = holds_with (λ (l : List SampleAt). AllByRecursion (IsBelow (length file)) l) h.lefts s.track behind (each_dropped (IsBelow (length file)) count a.left a.below) h.lie;
+            fits = (turn_fits rows file m.tracks s h.lefts h.comings a.info a.left a.taken h.fits).1;
+            small = omega (arith, small, few_pieces, n, left, later_left, by, number);
+            done = h.done ++ pieces_bytes sequence piece;
+            goes = BytesGoOn-then before after last [] held held_later h.done (turn_bytes file head p keys (take p.count a.left)) (h.done ++ pieces_bytes sequence piece) h.goes bytes (ap (λ (bs : List ℕ). h.done ++ bs) (sym written));
+            whole = rest_is;
+          })
+
+  all_lie : (infos : List TrackInfo) (trees : List TrackTree) → AllZip (TrackFacts file tree) infos trees → AllByRecursion (λ (left : List SampleAt). AllByRecursion (IsBelow (length file)) left) (map (track_samples tree) trees)
+  all_lie [] [] z = tt
+  all_lie [] (t ∷ trees) z = absurd z
+  all_lie (i ∷ infos) [] z = absurd z
+  all_lie (i ∷ infos) (t ∷ trees) z = (z.0.lies, all_lie infos trees z.1)
+
+  -- the first turn
+  pub begins : (s : Schedule) (w : Writer) (planning copying : List Walk) (before after : Option (List ℕ)) (held : List ℕ) → IsOpenedAs file m tree → IsReady file tree m w → IsFirst m.tracks (map (track_samples tree) tree.movie.tracks) s
+      → AllBegin file tree m planning → AllBegin file tree m copying → BytesGoOn before after (waiting w.carrier) held w.head.items → WritesOn s 1 planning copying (length w.rows.items) before after held
+  begins s w planning copying before after held o r first plan copy goes =
+      let all = first_turn file m tree s o first in
+      let p = presentation_of file tree in
+      let few = few_left file m tree o in
+      record {
+        lefts = map (track_samples tree) tree.movie.tracks;
+        comings = map coming_of p.tracks;
+        plan = plan;
+        copy = copy;
+        turn = all.0;
+        lie = all_lie m.tracks tree.movie.tracks (track_facts file m tree o);
+        fits = subst (λ (ps : List Piece). AllByRecursion (λ (q : Piece). length q.samples ≤ length w.rows.items) ps) (sym all.1) (subst (λ n. AllByRecursion (λ (q : Piece). length q.samples ≤ n) (pieces p)) (sym r.rows) (no_longer (pieces p)));
+        small = omega (arith, few);
+        done = w.head.items;
+        goes = subst (λ (bs : List ℕ). BytesGoOn before after bs held w.head.items) r.nothing goes;
+        whole = (let head = sym r.head in let ps = sym all.1 in λ i. head i ++ pieces_bytes 1 (ps i));
+      }
+
+  -- ---- before the first turn
+
+  -- the head is not put whole
+  pub head_stops : (w : Writer) (before last : Option (List ℕ)) (bytes : List ℕ) → IsReady file tree m w → bytes ≡ w.head.items → AppendsPrefix before last (waiting w.carrier ++ bytes) → AppendsPrefix before last (normal (presentation_of file tree))
+  head_stops w before last bytes r e q =
+      let p = presentation_of file tree in
+      let own : AppendsPrefix before last (head_of_normal p) = subst (λ (bs : List ℕ). AppendsPrefix before last bs) (ap (λ (bs : List ℕ). bs ++ bytes) r.nothing ∙ e ∙ r.head) q in
+      AppendsPrefix-longer before last (head_of_normal p) (pieces_bytes 1 (pieces p)) own
+
+  -- nothing behind the head is put
+  pub head_put : (w : Writer) (before after : Option (List ℕ)) (held bytes : List ℕ) → IsReady file tree m w → bytes ≡ w.head.items → BytesGoOn before after (waiting w.carrier) held bytes → AppendsPrefix before after (normal (presentation_of file tree))
+  head_put w before after held bytes r e q =
+      let p = presentation_of file tree in
+      let own : BytesGoOn before after [] held bytes = subst (λ (bs : List ℕ). BytesGoOn before after bs held bytes) r.nothing q in
+      stopped_behind before after [] held bytes (pieces_bytes 1 (pieces p)) (normal p) own (ap (λ (bs : List ℕ). bs ++ pieces_bytes 1 (pieces p)) (sym (e ∙ r.head)))
+
+  -- a new schedule stands at the first turn
+  pub is_first : (s : Schedule) (from : ℕ) → IsOpenedAs file m tree → s.tracks ≡ length m.tracks → s.first ≡ first_scale m.tracks → (s.track ≡ 0) × (s.from ≡ from) × (s.next ≡ None) → s.left ≡ min (sum_by (λ (i : TrackInfo). i.samples) m.tracks) (2 ^ 64 - 1)
+      → from ≡ first_dts (map (track_samples tree) tree.movie.tracks) → IsFirst m.tracks (map (track_samples tree) tree.movie.tracks) s
+  is_first s from o tracks first starts left time = record {
+    tracks = tracks;
+    first = first;
+    track = starts.0;
+    from = starts.1 ∙ time ∙ same_dts (map (track_samples tree) tree.movie.tracks);
+    next = starts.2;
+    left = all_counted file m tree s.left o left;
+  }
+    where
+      same_dts : (lefts : List (List SampleAt)) → first_dts lefts ≡ begins_at lefts
+      same_dts [] = refl
+      same_dts ([] ∷ lefts) = refl
+      same_dts ((x ∷ samples) ∷ lefts) = refl
+
+-- a turn without a head takes no samples
+pub head_none : (sequence id count : ℕ) (left : List SampleAt) → turn_head sequence id count (slice_get left 0) ≡ None → drop count left ≡ left
+head_none sequence id zero left e = refl
+head_none sequence id (suc count) [] e = refl
+head_none sequence id (suc count) (x ∷ left) e = absurd (none_is_some (sym (head_some sequence id count x) ∙ e))
+  where
+    none_is_some : {A : Type 0} {y : A} → Some y ≡ None → ⊥
+    none_is_some q = absurd cc

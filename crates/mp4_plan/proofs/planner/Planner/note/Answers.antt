@@ -1,0 +1,23 @@
+use Rattle.std.proofs.Common.{sym, arith, rules}
+use Rattle.mp4_plan.proofs.HandSteps.{notes_one, notes_empty, notes_ended, notes_full}
+use Rattle.mp4_plan.proofs.PlannerSteps.{count_with}
+use Rattle.mp4_plan.proofs.planner.Planner.note.Goals as goal
+
+pub returns-in_default-clause-noted : goal.returns-in_default-clause-noted
+returns-in_default-clause-noted g c = notes_empty _ _ c.loop-noted.noted _ _ _ _ c.loop-noted.invariant.notes c.in_default.ensures
+
+pub returns-then-not-takes-clause-noted : goal.returns-then-not-takes-clause-noted
+returns-then-not-takes-clause-noted g c = notes_ended _ _ c.loop-noted.noted _ _ _ _ c.in-Some.sample c.loop-noted.invariant.notes (search rules) c.in-Some.ensures (sym c.if-not-takes.ensures)
+
+pub loop-noted-preserved : goal.loop-noted-preserved
+loop-noted-preserved g c =
+    let i = c.loop-noted.invariant in
+    let count = i.count in
+    record {
+      notes = notes_one _ c.loop-noted.self c.take.new.self c.loop-noted.noted _ _ _ _ _ c.in-Some.sample c.row_of.result i.notes (search rules) c.in-Some.ensures (sym c.if-not-takes.ensures) c.take.ensures c.next.ensures.rest c.row_of.ensures;
+      count = omega (arith, count, count_with _ _ _ c.take.ensures);
+      later = g.met.S.Samples.follows_on _ _ _ i.later c.next.ensures.later;
+    }
+
+pub returns-clause-noted : goal.returns-clause-noted
+returns-clause-noted g c = notes_full _ _ c.loop-noted.noted _ _ _ _ c.loop-noted.invariant.notes (search rules)

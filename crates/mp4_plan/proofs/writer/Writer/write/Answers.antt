@@ -1,0 +1,228 @@
+use Rattle.std.proofs.Common.{get_or, ◌≡◌, length, map, refl, sym, ap, ◌∙◌, arith}
+use Rattle.std.specs.Vec.{with_items}
+use Rattle.std.proofs.lemmas.List.{with_items_is}
+use Rattle.std.proofs.lemmas.Result.{err_from_is_err_and}
+use Rattle.mp4_present.specs.Carried.{waiting}
+use Rattle.mp4_present.specs.Coming.{track_samples}
+use Rattle.mp4_present.specs.declared.track_info.TrackInfo.{TrackInfo}
+use Rattle.mp4_present.proofs.WalkCopied.{put_unchanged, on_ok, on_err, if_err}
+use Rattle.std.specs.Prelude.{Some, slice_get}
+use Rattle.mp4_plan.specs.Turns.{turn_end}
+use Rattle.mp4_plan.specs.Writers.{rooms}
+use Rattle.mp4_plan.proofs.CarriedParts.{read_at}
+use Rattle.mp4_plan.proofs.PieceWritten.{IsFew}
+use Rattle.mp4_plan.proofs.TurnTaken.{turns_end}
+use Rattle.mp4_plan.proofs.WritesOn.{stopped, all_put, not_all_put, begins, head_stops, head_put, is_first}
+use Rattle.mp4_plan.proofs.WriterTurns.{note_lacks, carry_stops, carry_lacks, pass_lacks, turn_goes}
+use Rattle.mp4_plan.proofs.writer.Writer.write.Goals as goal
+
+pub returns-in_err-carry-clause-prefix : goal.returns-in_err-carry-clause-prefix
+returns-in_err-carry-clause-prefix g c told tree o ready =
+    let e = err_from_is_err_and c.from_residual.result c.from_residual.ensures.1 in
+    rw e.1 (head_stops (g.S.Store.file c.args.store.now) tree c.args.movie.now c.args.self.now _ _ c.as_slice.result.now ready c.as_slice.ensures.value c.in_err-carry.ensures.prefix)
+
+pub returns-in_err-from-clause-prefix : goal.returns-in_err-from-clause-prefix
+returns-in_err-from-clause-prefix g c told tree o ready =
+    let e = err_from_is_err_and c.from_residual-in_err-from.result c.from_residual-in_err-from.ensures.1 in
+    rw e.1 (head_put (g.S.Store.file c.args.store.now) tree c.args.movie.now c.args.self.now _ _ _ c.as_slice.result.now ready c.as_slice.ensures.value c.in_ok-carry.ensures.bytes)
+
+pub returns-in_err-from-clause-unchanged : goal.returns-in_err-from-clause-unchanged
+returns-in_err-from-clause-unchanged g c told tree o ready =
+    let e = err_from_is_err_and c.from_residual-in_err-from.result c.from_residual-in_err-from.ensures.1 in
+    rw (e.1, e.2) (c.in_err-from.ensures.unchanged told tree o (map (track_samples tree) tree.movie.tracks) (rw c.as_mut_slice.ensures.value ready.planning))
+
+pub loop-turn-init : goal.loop-turn-init
+loop-turn-init g c =
+    let w = c.args.self.now in
+    let come = c.in_ok-from.ensures.walks in
+    let count = come.count in
+    let planned = c.requires.planning.count in
+    let len = w.planning.ok.0 in
+    let many : length c.first_time.new.walks ≡ w.planning.len = omega (arith, count, planned, len) in
+    let walks = with_items_is w.planning c.first_time.new.walks many in
+    record {
+      writer = record { planning = rw walks come; copying = c.requires.copying; few = c.requires.few };
+      held =
+          let room = c.in_ok-carry.ensures.room in
+          let old = w.carrier.buffer.ok.0 in
+          let new = c.carry.new.self.buffer.ok.0 in
+          let rooms_are = c.in_ok-from.ensures.rooms in
+          let planning = ap rooms walks ∙ rooms_are ∙ ap rooms c.as_mut_slice.ensures.value in
+          omega (arith, room, old, new, planning);
+      tracks = rw c.tracks-tracks.ensures at c.new-schedule.ensures.tracks;
+      honesty = c.in_ok-from.ensures.honesty;
+      file = c.in_ok-from.ensures.file;
+      reads = c.in_ok-from.ensures.reads;
+      puts = c.in_ok-carry.ensures.puts;
+      rows = refl;
+      on = λ told tree o ready.
+          let file = g.S.Store.file c.args.store.now in
+          let m = c.args.movie.now in
+          let times = c.in_ok-from.ensures.time told tree o (map (track_samples tree) tree.movie.tracks) (rw c.as_mut_slice.ensures.value ready.planning) in
+          let tracks = c.tracks-tracks.ensures in
+          let first = is_first file tree m c.new-schedule.result c.in_ok-from.from o (rw tracks at c.new-schedule.ensures.tracks) (rw tracks at c.new-schedule.ensures.first) c.new-schedule.ensures.starts (rw tracks at c.new-schedule.ensures.left) times.0 in
+          begins file tree m c.new-schedule.result w (with_items w.planning c.first_time.new.walks).items w.copying.items (g.K.Sink.contents c.args.sink.now) (g.K.Sink.contents c.carry.new.sink) (waiting c.carry.new.self) o ready first (rw walks times.1) ready.copying (rw c.as_slice.ensures.value at c.in_ok-carry.ensures.bytes);
+    }
+
+pub returns-in_err-noted-clause-prefix : goal.returns-in_err-noted-clause-prefix
+returns-in_err-noted-clause-prefix g c told tree o ready =
+    let e = err_from_is_err_and c.from_residual-in_err-noted.result c.from_residual-in_err-noted.ensures.1 in
+    let i = c.loop-turn.invariant in
+    let file = g.S.Store.file c.args.store.now in
+    let m = c.args.movie.now in
+    let s = c.loop-turn.schedule in
+    let w = c.loop-turn.self in
+    let h = i.on told tree o ready in
+    let before = g.K.Sink.contents c.args.sink.now in
+    let after = g.K.Sink.contents c.loop-turn.sink in
+    rw e.1 (stopped file tree m s c.loop-turn.sequence w.planning.items w.copying.items (length w.rows.items) before after (waiting w.carrier) h)
+
+pub returns-in_err-noted-clause-unchanged : goal.returns-in_err-noted-clause-unchanged
+returns-in_err-noted-clause-unchanged g c told tree o ready =
+    let e = err_from_is_err_and c.from_residual-in_err-noted.result c.from_residual-in_err-noted.ensures.1 in
+    let i = c.loop-turn.invariant in
+    let file = g.S.Store.file c.args.store.now in
+    let m = c.args.movie.now in
+    let s = c.loop-turn.schedule in
+    let w = c.loop-turn.self in
+    let h = i.on told tree o ready in
+    let before = g.K.Sink.contents c.args.sink.now in
+    let after = g.K.Sink.contents c.loop-turn.sink in
+    let here = c.in-Some.ensures.track in
+    let ends : (info : TrackInfo) → slice_get m.tracks s.track ≡ Some info → c.in-Some.turn.end ≡ turn_end s info.timescale = λ info is. c.in-Some.ensures.end info (rw c.tracks-tracks.ensures is) in
+    rw (e.1, e.2) (note_lacks file tree m o s c.loop-turn.sequence w before after h c.in-Some.turn here ends i.tracks i.writer _ ((rw (i.honesty, i.file) at c.in_err-noted.ensures.unchanged) told tree o))
+
+pub returns-in_err-carry_turn-clause-prefix : goal.returns-in_err-carry_turn-clause-prefix
+returns-in_err-carry_turn-clause-prefix g c told tree o ready =
+    let e = err_from_is_err_and c.from_residual-in_err-carry_turn.result c.from_residual-in_err-carry_turn.ensures.1 in
+    let i = c.loop-turn.invariant in
+    let file = g.S.Store.file c.args.store.now in
+    let m = c.args.movie.now in
+    let s = c.loop-turn.schedule in
+    let w = c.loop-turn.self in
+    let h = i.on told tree o ready in
+    let before = g.K.Sink.contents c.args.sink.now in
+    let after = g.K.Sink.contents c.loop-turn.sink in
+    let here = c.in-Some.ensures.track in
+    let ends : (info : TrackInfo) → slice_get m.tracks s.track ≡ Some info → c.in-Some.turn.end ≡ turn_end s info.timescale = λ info is. c.in-Some.ensures.end info (rw c.tracks-tracks.ensures is) in
+    let noted = (rw (i.honesty, i.file) at c.in_ok-noted.ensures.noted) told tree o in
+    let few : IsFew c.in_ok-noted.noted.planned = record { count = (let n = c.in_ok-noted.ensures.few.0 in let r = i.writer.few in omega (arith, n, r)); rows = c.in_ok-noted.ensures.few.2 } in
+    let is_id : (info : TrackInfo) → slice_get m.tracks s.track ≡ Some info → (get_or c.tracks-tracks.result.now c.in-Some.turn.track c.index-tracks-turn.result).id ≡ info.id = λ info is. ap (λ (x : TrackInfo). x.id) (sym c.index-tracks-turn.is ∙ read_at m.tracks s.track info c.index-tracks-turn.result is (rw (here.0, c.tracks-tracks.ensures) at c.index-tracks-turn.is)) in
+    rw e.1 (carry_stops file tree m o s c.loop-turn.sequence w before after h c.in-Some.turn here ends i.tracks i.writer c.note_turn.new.self c.in_ok-noted.noted (get_or c.tracks-tracks.result.now c.in-Some.turn.track c.index-tracks-turn.result).id noted c.in_ok-noted.ensures.keeps few is_id (g.K.Sink.contents c.carry_turn.new.sink) ((rw (c.in_ok-noted.ensures.honesty, c.in_ok-noted.ensures.file, i.honesty, i.file) at c.in_err-carry_turn.ensures.prefix) told tree o))
+
+pub returns-in_err-carry_turn-clause-unchanged : goal.returns-in_err-carry_turn-clause-unchanged
+returns-in_err-carry_turn-clause-unchanged g c told tree o ready =
+    let e = err_from_is_err_and c.from_residual-in_err-carry_turn.result c.from_residual-in_err-carry_turn.ensures.1 in
+    let i = c.loop-turn.invariant in
+    let file = g.S.Store.file c.args.store.now in
+    let m = c.args.movie.now in
+    let s = c.loop-turn.schedule in
+    let w = c.loop-turn.self in
+    let h = i.on told tree o ready in
+    let before = g.K.Sink.contents c.args.sink.now in
+    let after = g.K.Sink.contents c.loop-turn.sink in
+    let here = c.in-Some.ensures.track in
+    let ends : (info : TrackInfo) → slice_get m.tracks s.track ≡ Some info → c.in-Some.turn.end ≡ turn_end s info.timescale = λ info is. c.in-Some.ensures.end info (rw c.tracks-tracks.ensures is) in
+    let noted = (rw (i.honesty, i.file) at c.in_ok-noted.ensures.noted) told tree o in
+    let few : IsFew c.in_ok-noted.noted.planned = record { count = (let n = c.in_ok-noted.ensures.few.0 in let r = i.writer.few in omega (arith, n, r)); rows = c.in_ok-noted.ensures.few.2 } in
+    let is_id : (info : TrackInfo) → slice_get m.tracks s.track ≡ Some info → (get_or c.tracks-tracks.result.now c.in-Some.turn.track c.index-tracks-turn.result).id ≡ info.id = λ info is. ap (λ (x : TrackInfo). x.id) (sym c.index-tracks-turn.is ∙ read_at m.tracks s.track info c.index-tracks-turn.result is (rw (here.0, c.tracks-tracks.ensures) at c.index-tracks-turn.is)) in
+    rw (e.1, e.2) (carry_lacks file tree m o s c.loop-turn.sequence w before after h c.in-Some.turn here ends i.tracks i.writer c.note_turn.new.self c.in_ok-noted.noted (get_or c.tracks-tracks.result.now c.in-Some.turn.track c.index-tracks-turn.result).id noted c.in_ok-noted.ensures.keeps few is_id _ ((rw (c.in_ok-noted.ensures.honesty, c.in_ok-noted.ensures.file, i.honesty, i.file) at c.in_err-carry_turn.ensures.unchanged) told tree o))
+
+pub returns-in_err-pass-clause-prefix : goal.returns-in_err-pass-clause-prefix
+returns-in_err-pass-clause-prefix g c told tree o ready =
+    let e = err_from_is_err_and c.from_residual-in_err-pass.result c.from_residual-in_err-pass.ensures.1 in
+    let i = c.loop-turn.invariant in
+    let file = g.S.Store.file c.args.store.now in
+    let m = c.args.movie.now in
+    let s = c.loop-turn.schedule in
+    let w = c.loop-turn.self in
+    let h = i.on told tree o ready in
+    let before = g.K.Sink.contents c.args.sink.now in
+    let after = g.K.Sink.contents c.loop-turn.sink in
+    let here = c.in-Some.ensures.track in
+    let ends : (info : TrackInfo) → slice_get m.tracks s.track ≡ Some info → c.in-Some.turn.end ≡ turn_end s info.timescale = λ info is. c.in-Some.ensures.end info (rw c.tracks-tracks.ensures is) in
+    let noted = (rw (i.honesty, i.file) at c.in_ok-noted.ensures.noted) told tree o in
+    let few : IsFew c.in_ok-noted.noted.planned = record { count = (let n = c.in_ok-noted.ensures.few.0 in let r = i.writer.few in omega (arith, n, r)); rows = c.in_ok-noted.ensures.few.2 } in
+    let is_id : (info : TrackInfo) → slice_get m.tracks s.track ≡ Some info → (get_or c.tracks-tracks.result.now c.in-Some.turn.track c.index-tracks-turn.result).id ≡ info.id = λ info is. ap (λ (x : TrackInfo). x.id) (sym c.index-tracks-turn.is ∙ read_at m.tracks s.track info c.index-tracks-turn.result is (rw (here.0, c.tracks-tracks.ensures) at c.index-tracks-turn.is)) in
+    let put = (rw (c.in_ok-noted.ensures.honesty, c.in_ok-noted.ensures.file, i.honesty, i.file) at c.in_ok-carry_turn.ensures.put) told tree o in
+    let copied = (rw (c.in_ok-noted.ensures.honesty, c.in_ok-noted.ensures.file, i.honesty, i.file) at c.in_ok-carry_turn.ensures.copied) told tree o in
+    let on = turn_goes file tree m o s c.loop-turn.sequence w before after h c.in-Some.turn here ends i.tracks i.writer c.note_turn.new.self c.in_ok-noted.noted (get_or c.tracks-tracks.result.now c.in-Some.turn.track c.index-tracks-turn.result).id noted c.in_ok-noted.ensures.keeps few is_id c.carry_turn.new.self (g.K.Sink.contents c.carry_turn.new.sink) _ put copied c.in_ok-carry_turn.ensures.keeps refl in
+    rw e.1 (stopped file tree m _ _ _ _ _ _ _ _ on)
+
+pub returns-in_err-pass-clause-unchanged : goal.returns-in_err-pass-clause-unchanged
+returns-in_err-pass-clause-unchanged g c told tree o ready =
+    let e = err_from_is_err_and c.from_residual-in_err-pass.result c.from_residual-in_err-pass.ensures.1 in
+    let i = c.loop-turn.invariant in
+    let file = g.S.Store.file c.args.store.now in
+    let m = c.args.movie.now in
+    let s = c.loop-turn.schedule in
+    let w = c.loop-turn.self in
+    let h = i.on told tree o ready in
+    let before = g.K.Sink.contents c.args.sink.now in
+    let after = g.K.Sink.contents c.loop-turn.sink in
+    let here = c.in-Some.ensures.track in
+    let ends : (info : TrackInfo) → slice_get m.tracks s.track ≡ Some info → c.in-Some.turn.end ≡ turn_end s info.timescale = λ info is. c.in-Some.ensures.end info (rw c.tracks-tracks.ensures is) in
+    let noted = (rw (i.honesty, i.file) at c.in_ok-noted.ensures.noted) told tree o in
+    let few : IsFew c.in_ok-noted.noted.planned = record { count = (let n = c.in_ok-noted.ensures.few.0 in let r = i.writer.few in omega (arith, n, r)); rows = c.in_ok-noted.ensures.few.2 } in
+    let is_id : (info : TrackInfo) → slice_get m.tracks s.track ≡ Some info → (get_or c.tracks-tracks.result.now c.in-Some.turn.track c.index-tracks-turn.result).id ≡ info.id = λ info is. ap (λ (x : TrackInfo). x.id) (sym c.index-tracks-turn.is ∙ read_at m.tracks s.track info c.index-tracks-turn.result is (rw (here.0, c.tracks-tracks.ensures) at c.index-tracks-turn.is)) in
+    rw (e.1, e.2) (λ r. pass_lacks file tree m o s c.loop-turn.sequence w before after h c.in-Some.turn here ends i.tracks i.writer c.note_turn.new.self c.in_ok-noted.noted (get_or c.tracks-tracks.result.now c.in-Some.turn.track c.index-tracks-turn.result).id noted c.in_ok-noted.ensures.keeps few is_id c.in_err-pass.ensures.refusal.1)
+
+pub loop-turn-preserved : goal.loop-turn-preserved
+loop-turn-preserved g c =
+    let i = c.loop-turn.invariant in
+    record {
+      writer = c.in_ok-carry_turn.ensures.writer;
+      held = c.in_ok-carry_turn.ensures.held ∙ c.in_ok-noted.ensures.held ∙ i.held;
+      tracks = c.in_ok-pass.ensures.tracks ∙ i.tracks;
+      honesty = c.in_ok-carry_turn.ensures.honesty ∙ c.in_ok-noted.ensures.honesty ∙ i.honesty;
+      file = c.in_ok-carry_turn.ensures.file ∙ c.in_ok-noted.ensures.file ∙ i.file;
+      reads = c.in_ok-carry_turn.ensures.reads ∙ c.in_ok-noted.ensures.reads ∙ i.reads;
+      puts = c.in_ok-carry_turn.ensures.puts ∙ i.puts;
+      rows = ap (λ v. length v.items) c.in_ok-carry_turn.ensures.keeps.1 ∙ c.in_ok-noted.ensures.keeps.2 ∙ i.rows;
+      on = λ told tree o ready.
+          let file = g.S.Store.file c.args.store.now in
+          let m = c.args.movie.now in
+          let s = c.loop-turn.schedule in
+          let w = c.loop-turn.self in
+          let h = i.on told tree o ready in
+          let before = g.K.Sink.contents c.args.sink.now in
+          let after = g.K.Sink.contents c.loop-turn.sink in
+          let here = c.in-Some.ensures.track in
+          let ends : (info : TrackInfo) → slice_get m.tracks s.track ≡ Some info → c.in-Some.turn.end ≡ turn_end s info.timescale = λ info is. c.in-Some.ensures.end info (rw c.tracks-tracks.ensures is) in
+          let noted = (rw (i.honesty, i.file) at c.in_ok-noted.ensures.noted) told tree o in
+          let few : IsFew c.in_ok-noted.noted.planned = record { count = (let n = c.in_ok-noted.ensures.few.0 in let r = i.writer.few in omega (arith, n, r)); rows = c.in_ok-noted.ensures.few.2 } in
+          let is_id : (info : TrackInfo) → slice_get m.tracks s.track ≡ Some info → (get_or c.tracks-tracks.result.now c.in-Some.turn.track c.index-tracks-turn.result).id ≡ info.id = λ info is. ap (λ (x : TrackInfo). x.id) (sym c.index-tracks-turn.is ∙ read_at m.tracks s.track info c.index-tracks-turn.result is (rw (here.0, c.tracks-tracks.ensures) at c.index-tracks-turn.is)) in
+          let put = (rw (c.in_ok-noted.ensures.honesty, c.in_ok-noted.ensures.file, i.honesty, i.file) at c.in_ok-carry_turn.ensures.put) told tree o in
+          let copied = (rw (c.in_ok-noted.ensures.honesty, c.in_ok-noted.ensures.file, i.honesty, i.file) at c.in_ok-carry_turn.ensures.copied) told tree o in
+          rw c.sequence_behind-sequence.ensures (turn_goes file tree m o s c.loop-turn.sequence w before after h c.in-Some.turn here ends i.tracks i.writer c.note_turn.new.self c.in_ok-noted.noted (get_or c.tracks-tracks.result.now c.in-Some.turn.track c.index-tracks-turn.result).id noted c.in_ok-noted.ensures.keeps few is_id c.carry_turn.new.self (g.K.Sink.contents c.carry_turn.new.sink) c.pass.new.self put copied c.in_ok-carry_turn.ensures.keeps c.in_ok-pass.ensures.turned);
+    }
+
+pub returns-clause-bytes : goal.returns-clause-bytes
+returns-clause-bytes g c told tree o ready =
+    let i = c.loop-turn.invariant in
+    let file = g.S.Store.file c.args.store.now in
+    let m = c.args.movie.now in
+    let s = c.loop-turn.schedule in
+    let w = c.loop-turn.self in
+    let h = i.on told tree o ready in
+    let before = g.K.Sink.contents c.args.sink.now in
+    let after = g.K.Sink.contents c.loop-turn.sink in
+    let none = turns_end file m.tracks s h.lefts h.comings h.turn (c.in_default.ensures.none refl) in
+    on_ok _ _ c.flush.result (λ x. all_put file tree m s c.loop-turn.sequence w.planning.items w.copying.items (length w.rows.items) before after (waiting w.carrier) h _ none x) c.flush.ensures.bytes
+
+pub returns-clause-prefix : goal.returns-clause-prefix
+returns-clause-prefix g c told tree o ready =
+    let i = c.loop-turn.invariant in
+    let file = g.S.Store.file c.args.store.now in
+    let m = c.args.movie.now in
+    let s = c.loop-turn.schedule in
+    let w = c.loop-turn.self in
+    let h = i.on told tree o ready in
+    let before = g.K.Sink.contents c.args.sink.now in
+    let after = g.K.Sink.contents c.loop-turn.sink in
+    let none = turns_end file m.tracks s h.lefts h.comings h.turn (c.in_default.ensures.none refl) in
+    on_err _ _ c.flush.result (λ x. not_all_put file tree m s c.loop-turn.sequence w.planning.items w.copying.items (length w.rows.items) before after (waiting w.carrier) h _ none x) c.flush.ensures.prefix
+
+pub returns-clause-unchanged : goal.returns-clause-unchanged
+returns-clause-unchanged g c told tree o ready =
+    if_err _ _ c.flush.result (λ r x. put_unchanged _ _ r x) c.flush.ensures.refusal

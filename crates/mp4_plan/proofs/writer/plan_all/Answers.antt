@@ -1,0 +1,112 @@
+use Rattle.std.proofs.Common.{get_or, length, map, arith, ap, sym, subst, refl, ◌∙◌, slice_get}
+use Rattle.std.proofs.lemmas.List.{with_items_is}
+use Rattle.std.proofs.lemmas.Result.{err_from_is_err_and}
+use Rattle.mp4_tables.specs.Keys.{keys_seen}
+use Rattle.mp4_present.specs.Coming.{track_samples}
+use Rattle.mp4_present.specs.declared.track_info.TrackInfo.{TrackInfo}
+use Rattle.mp4_plan.proofs.Planning.{walks_set}
+use Rattle.mp4_plan.proofs.PlannedTurns.{Adds, planning_first, planning_end, kept_there, has_turn, planning_moves, planning_next}
+use Rattle.mp4_plan.proofs.writer.plan_all.Goals as goal
+
+pub loop-turn-init : goal.loop-turn-init
+loop-turn-init g c =
+    let m = c.args.movie.now in
+    let walks = c.in_ok-walks.walks in
+    let before = c.in_ok-walks.ensures.walks.count in
+    let after = c.in_ok-from.ensures.walks.count in
+    let same = with_items_is walks c.first_time.new.walks (after ∙ sym before ∙ sym walks.ok.0) in
+    rw same (
+      c.in_ok-from.ensures.walks,
+      c.new-schedule.ensures.tracks ∙ ap length c.tracks-tracks.ensures,
+      c.in_ok-from.ensures.file,
+      c.in_ok-from.ensures.reads,
+      omega arith,
+      c.in_ok-from.ensures.honesty,
+      λ told tree o.
+          let file = g.S.Store.file c.args.store.now in
+          let begin = c.in_ok-walks.ensures.begin file tree o in
+          let time = c.in_ok-from.ensures.time told tree o (map (track_samples tree) tree.movie.tracks) (rw c.as_mut_slice.ensures.value begin) in
+          let s = rw c.tracks-tracks.ensures at c.new-schedule.ensures in
+          planning_first file tree m c.new-schedule.result c.first_time.new.walks c.in_ok-from.from o time.1 time.0 s.tracks s.first s.left s.starts,
+    )
+
+pub returns-in_err-planned-clause-unchanged : goal.returns-in_err-planned-clause-unchanged
+returns-in_err-planned-clause-unchanged g c told tree o =
+    let e = err_from_is_err_and c.from_residual-in_err-planned.result c.from_residual-in_err-planned.ensures.1 in
+    let file = g.S.Store.file c.args.store.now in
+    let m = c.args.movie.now in
+    let i = c.loop-turn.invariant in
+    let s = c.loop-turn.schedule in
+    let turn = c.in-Some.turn in
+    let at = c.in-Some.ensures.track in
+    let t = has_turn file tree m s c.loop-turn.walks.items c.loop-turn.plan o (i.6 told tree o) turn.track c.index_mut-walk.result.now turn.end at c.index_mut-walk.ensures.value i.0.count (λ info is. c.in-Some.ensures.end info (ap (λ ts. slice_get ts s.track) c.tracks-tracks.ensures ∙ is)) in
+    rw (e.1, e.2) ((rw (i.5, i.2) at c.in_err-planned.ensures.unchanged) told tree t.t t.left o t.comes t.few)
+
+pub returns-in_err-next-clause-unchanged : goal.returns-in_err-next-clause-unchanged
+returns-in_err-next-clause-unchanged g c told tree o =
+    let e = err_from_is_err_and c.from_residual-in_err-next.result c.from_residual-in_err-next.ensures.1 in
+    let file = g.S.Store.file c.args.store.now in
+    let m = c.args.movie.now in
+    let i = c.loop-turn.invariant in
+    let s = c.loop-turn.schedule in
+    let turn = c.in-Some.turn in
+    let at = c.in-Some.ensures.track in
+    let t = has_turn file tree m s c.loop-turn.walks.items c.loop-turn.plan o (i.6 told tree o) turn.track c.index_mut-walk.result.now turn.end at c.index_mut-walk.ensures.value i.0.count (λ info is. c.in-Some.ensures.end info (ap (λ ts. slice_get ts s.track) c.tracks-tracks.ensures ∙ is)) in
+    let p = c.in_ok-planned.ensures in
+    let planned = (rw (i.5, i.2) at p.planned) told tree t.t t.left o t.comes in
+    rw (e.1, e.2) ((rw (p.honesty ∙ i.5, p.file ∙ i.2) at c.in_err-next.ensures.unchanged) told tree t.t _ o planned.1)
+
+pub loop-turn-preserved : goal.loop-turn-preserved
+loop-turn-preserved g c =
+    let file = g.S.Store.file c.args.store.now in
+    let m = c.args.movie.now in
+    let i = c.loop-turn.invariant in
+    let s = c.loop-turn.schedule in
+    let walks = c.loop-turn.walks.items in
+    let p = c.in_ok-planned.ensures in
+    let n = c.in_ok-next.ensures in
+    let few = p.few in
+    let longest = i.4 in
+    let most = c.add.ensures.longest in (
+      walks_set m walks c.in-Some.turn.track c.peek_sample.new.walk i.0 n.walk,
+      c.in_ok-pass.ensures.tracks ∙ i.1,
+      n.file ∙ p.file ∙ i.2,
+      n.reads ∙ p.reads ∙ i.3,
+      omega (arith, few, longest, most),
+      n.honesty ∙ p.honesty ∙ i.5,
+      λ told tree o.
+          let turn = c.in-Some.turn in
+          let at = c.in-Some.ensures.track in
+          let h = i.6 told tree o in
+          let t = has_turn file tree m s walks c.loop-turn.plan o h turn.track c.index_mut-walk.result.now turn.end at c.index_mut-walk.ensures.value i.0.count (λ info is. c.in-Some.ensures.end info (ap (λ ts. slice_get ts s.track) c.tracks-tracks.ensures ∙ is)) in
+          let planned = (rw (i.5, i.2) at p.planned) told tree t.t t.left o t.comes in
+          let next = (rw (p.honesty ∙ i.5, p.file ∙ i.2) at n.coming) told tree t.t _ o planned.1 in
+          let there = get_or c.tracks-tracks.result.now turn.track c.index-tracks-turn.result in
+          let kept = sym c.index-tracks-turn.is ∙ kept_there m.tracks turn.track s.track t.info c.index-tracks-turn.result t.place t.is_info (rw c.tracks-tracks.ensures at c.index-tracks-turn.is) in
+          let adds : Adds (keys_seen there.keys) c.in_ok-planned.planned c.loop-turn.plan c.add.new.self = record { longest = most; none = c.add.ensures.none; some = c.add.ensures.some } in
+          planning_next file tree m s walks c.loop-turn.plan o h turn.track c.index_mut-walk.result.now turn.end t at.1 c.in_ok-planned.planned c.peek_sample.new.walk c.in_ok-next.next c.add.new.self c.pass.new.self planned.0 next.0 next.1
+          (record { few = record { count = few; rows = p.rows }; bytes = p.bytes }) (subst (λ (info : TrackInfo). Adds (keys_seen info.keys) c.in_ok-planned.planned c.loop-turn.plan c.add.new.self) kept adds) c.in_ok-pass.ensures.turned,
+    )
+
+pub returns-in_err-pass-clause-unchanged : goal.returns-in_err-pass-clause-unchanged
+returns-in_err-pass-clause-unchanged g c told tree o =
+    let e = err_from_is_err_and c.from_residual-in_err-pass.result c.from_residual-in_err-pass.ensures.1 in
+    let file = g.S.Store.file c.args.store.now in
+    let m = c.args.movie.now in
+    let i = c.loop-turn.invariant in
+    let s = c.loop-turn.schedule in
+    let walks = c.loop-turn.walks.items in
+    let p = c.in_ok-planned.ensures in
+    let n = c.in_ok-next.ensures in
+    let turn = c.in-Some.turn in
+    let at = c.in-Some.ensures.track in
+    let h = i.6 told tree o in
+    let t = has_turn file tree m s walks c.loop-turn.plan o h turn.track c.index_mut-walk.result.now turn.end at c.index_mut-walk.ensures.value i.0.count (λ info is. c.in-Some.ensures.end info (ap (λ ts. slice_get ts s.track) c.tracks-tracks.ensures ∙ is)) in
+    let planned = (rw (i.5, i.2) at p.planned) told tree t.t t.left o t.comes in
+    let next = (rw (p.honesty ∙ i.5, p.file ∙ i.2) at n.coming) told tree t.t _ o planned.1 in
+    absurd (planning_moves file tree m s walks c.loop-turn.plan o h turn.track c.index_mut-walk.result.now turn.end t at.1 c.in_ok-planned.planned c.in_ok-next.next planned.0 next.1 c.in_err-pass.ensures.refusal.1)
+
+pub returns-clause-plan : goal.returns-clause-plan
+returns-clause-plan g c told tree o =
+    let i = c.loop-turn.invariant in
+    planning_end (g.S.Store.file c.args.store.now) tree c.args.movie.now c.loop-turn.schedule c.loop-turn.walks.items c.loop-turn.plan o (i.6 told tree o) (c.in_default.ensures.none refl)

@@ -1,0 +1,22 @@
+use Rattle.std.proofs.Common.{rules, ◌<◌, [], ◌∷◌, length}
+use Rattle.mp4_present.specs.Movies.{IsWalkOf}
+use Rattle.mp4_plan.proofs.Filters.{all_append}
+use Rattle.mp4_plan.proofs.Planning.{one_room, one_begins, all_begin}
+use Rattle.mp4_plan.proofs.writer.walks_of.Goals as goal
+
+pub loop-track-preserved : goal.loop-track-preserved
+loop-track-preserved c =
+    let i = c.loop-track.invariant in
+    let m = c.args.movie.now in
+    let walk = c.in_ok-walk.field-0 in
+    let e = c.in_ok-walk.ensures in
+    let lt : c.loop-track.track < length m.tracks = search rules in
+    rw c.in_ok-push.ensures.items (
+      all_append (IsWalkOf m) c.loop-track.walks.items (walk ∷ []) i.0 (e.walk, tt),
+      search rules,
+      one_room c.loop-track.walks.items walk c.loop-track.track m.longest i.2 e.room,
+      one_begins m c.loop-track.track c.loop-track.walks.items walk i.3 i.1 lt (λ file tree t o. e.coming file tree t o),
+    )
+
+pub returns-clause-begin : goal.returns-clause-begin
+returns-clause-begin c = all_begin c.args.movie.now c.loop-track.track c.loop-track.walks.items c.loop-track.invariant.3 (search rules)
