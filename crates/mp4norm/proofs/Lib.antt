@@ -10,3 +10,4 @@ pub mod SampleTexts
 pub mod ShownLines
 pub mod WalkLines
 pub mod TrackTexts
+pub mod Normalised

@@ -1,5 +1,7 @@
 //! The normal form of a file.
-ghost use Rattle.std.specs.Prelude.{◌≡◌, ◌<◌, IfErr, OnOk};
+ghost use Rattle.std.specs.Prelude.{◌≡◌, ℕ, ◌<◌, List, Some, IfErr, IfSome, OnOk, IsTrue};
+ghost use Rattle.std.specs.Io.KnownBytes.{Appends};
+ghost use Rattle.mp4norm.specs.Headline.{HasNormalForm, Normalises};
 ghost use Rattle.mp4norm.specs.MainJob.{RefusesNormalise};
 
 use mp4_boxes::{Refusal, Steps};
@@ -17,9 +19,11 @@ pub fn normalise_counted<S: Store, K: Sink, L: Ledger>(
     sink: &mut K,
     steps: &mut Steps<L>,
 ) -> Result<(), Refusal>
+    ensures honesty { S.is_honest store.new ≡ S.is_honest store.old }
     ensures file { S.file store.new ≡ S.file store.old }
     ensures reads { OnOk result (S.read_failures store.new ≡ S.read_failures store.old) }
     ensures puts { OnOk result (K.put_failures sink.new ≡ K.put_failures sink.old) }
+    ensures written { OnOk result (IsTrue (S.is_honest store.old) → (bytes : List ℕ) × HasNormalForm (S.file store.old) bytes × Appends (K.contents sink.old) (K.contents sink.new) bytes) }
     ensures refusal { IfErr result (RefusesNormalise (S.is_honest store.old) (S.file store.old) (K.contents sink.old) (K.contents sink.new)
         (S.read_failures store.old) (S.read_failures store.new) (K.put_failures sink.old) (K.put_failures sink.new)) }
 {
@@ -38,9 +42,11 @@ fn normalise_blank<S: Store, K: Sink, L: Ledger>(
     requires name { blank.name ≡ L.name }
     requires parts { blank.parts ≡ L.parts }
     requires some { 0 < L.parts }
+    ensures honesty { S.is_honest store.new ≡ S.is_honest store.old }
     ensures file { S.file store.new ≡ S.file store.old }
     ensures reads { OnOk result (S.read_failures store.new ≡ S.read_failures store.old) }
     ensures puts { OnOk result (K.put_failures sink.new ≡ K.put_failures sink.old) }
+    ensures written { OnOk result (IsTrue (S.is_honest store.old) → (bytes : List ℕ) × HasNormalForm (S.file store.old) bytes × Appends (K.contents sink.old) (K.contents sink.new) bytes) }
     ensures refusal { IfErr result (RefusesNormalise (S.is_honest store.old) (S.file store.old) (K.contents sink.old) (K.contents sink.new)
         (S.read_failures store.old) (S.read_failures store.new) (K.put_failures sink.old) (K.put_failures sink.new)) }
 {
@@ -55,11 +61,14 @@ pub fn normalise<S: Store, K: Sink>(
     store: &mut S,
     sink: &mut K,
 ) -> Result<(), Refusal>
+    ensures honesty { S.is_honest store.new ≡ S.is_honest store.old }
     ensures file { S.file store.new ≡ S.file store.old }
     ensures reads { OnOk result (S.read_failures store.new ≡ S.read_failures store.old) }
     ensures puts { OnOk result (K.put_failures sink.new ≡ K.put_failures sink.old) }
+    ensures written { OnOk result (IsTrue (S.is_honest store.old) → (bytes : List ℕ) × HasNormalForm (S.file store.old) bytes × Appends (K.contents sink.old) (K.contents sink.new) bytes) }
     ensures refusal { IfErr result (RefusesNormalise (S.is_honest store.old) (S.file store.old) (K.contents sink.old) (K.contents sink.new)
         (S.read_failures store.old) (S.read_failures store.new) (K.put_failures sink.old) (K.put_failures sink.new)) }
+    ensures headline { IsTrue (S.is_honest store.old) → IfSome (K.contents sink.old) (λ before. (after : List ℕ) × (K.contents sink.new ≡ Some after) × Normalises (S.file store.old) before after result) }
 {
     normalise_blank::<S, K, Brand>(alloc, store, sink, Blank::new(1))
 }
