@@ -1,19 +1,20 @@
--- A walk over a `moof` that was accepted costs no more than its bytes and its samples allow.
+-- A walk over a `moof` costs no more than its boxes say, and where it was accepted, no more than its bytes and its samples allow.
 use Rattle.std.proofs.Common.{◌≡◌, ℕ, zero, suc, ◌+◌, ◌*◌, ◌≤◌, false, Bool, true, cond, List, [], ◌∷◌, length, drop, map, Result, Ok, Err, refl, ap, ◌∙◌, arith}
 use Rattle.std.specs.Prelude.{ℤ, pos, codes, bytes_eq}
 use Rattle.std.specs.List.{AllByRecursion}
-use Rattle.mp4_boxes.specs.Bytes.{sum_of}
+use Rattle.mp4_boxes.specs.Bytes.{sum_of, width_of}
 use Rattle.mp4_boxes.specs.Box.{Box, Header, header_at, box_of, box_and_more, first_boxes, size, sizes}
 use Rattle.mp4_boxes.specs.Children.{of_kind}
-use Rattle.mp4_boxes.specs.Layout.{trun, row_count}
+use Rattle.mp4_boxes.specs.Layout.{trun, row_count, present, sample_columns}
 use Rattle.mp4_boxes.specs.declared.fault.Kind.{Kind}
 use Rattle.mp4_boxes.proofs.Tiling.{sizes_fit}
-use Rattle.mp4_frag.specs.Fragments.{AreTrafs, track_fragment_of}
+use Rattle.mp4_frag.specs.Fragments.{Run, TrackFragment, AreTrafs, run_of, run_rows, track_fragment_of}
 use Rattle.mp4_frag.specs.Judged.{IsSoundMoof, AreMovedOn, end_with, tree_of}
 use Rattle.mp4_frag.specs.PlacesIn.{run_work, runs_work, trafs_work, moof_work}
 use Rattle.mp4_frag.specs.RunsJudged.{children_of, runs_in, runs_total}
 use Rattle.mp4_frag.specs.TrafFaults.{HoldsBoxes}
 use Rattle.mp4_frag.specs.Walks.{can_read}
+use Rattle.mp4_frag.specs.Work.{traf_rows, fragment_rows, fragment_length, moof_says}
 use Rattle.mp4_frag.specs.declared.state.TrackState.{TrackState}
 use Rattle.mp4_frag.specs.declared.trex.Trex.{Trex}
 use Rattle.mp4_frag.proofs.BoxPlaces.{all_boxes}
@@ -110,3 +111,57 @@ walk_bounded L trexes tracks after moof room less s m =
     let few = few_trafs (children_of moof) (held_each (of_kind (codes "traf") (children_of moof)) s.tree.trafs) in
     let taken = samples_taken moof.offset (pos moof.offset) (of_kind (codes "traf") (children_of moof)) tracks after room less m in
     omega (arith, eight, fit, few, taken, work_is moof)
+
+-- ---- by what the boxes say
+
+rows_count : (n v bits : ℕ) (bytes : List ℕ) → length (run_rows n v bits bytes) ≡ n
+rows_count zero v bits bytes = refl
+rows_count (suc n) v bits bytes = ap suc (rows_count n v bits (drop (width_of (present bits sample_columns)) bytes))
+
+-- runs, and their samples
+abbrev runs_say : List Run → ℕ
+runs_say runs = length runs + sum_of (λ (run : Run). length run.rows) runs
+
+said_run : (v : Bool) (b : Box) (boxes kept : List Box) → runs_work boxes ≤ runs_say (map (λ (c : Box). run_of c.payload) kept) → cond v (run_work b.payload) 0 + runs_work boxes ≤ runs_say (map (λ (c : Box). run_of c.payload) (cond v (b ∷ kept) kept))
+said_run true b boxes kept h =
+    let few = no_more (can_read trun b.payload) (row_count trun b.payload) in
+    let count : length (run_of b.payload).rows ≡ row_count trun b.payload = rows_count (row_count trun b.payload) _ _ _ in
+    omega (arith, h, few, count)
+said_run false b boxes kept h = omega (arith, h)
+
+said_runs : (boxes : List Box) → runs_work boxes ≤ runs_say (map (λ (c : Box). run_of c.payload) (of_kind (codes "trun") boxes))
+said_runs [] = omega arith
+said_runs (b ∷ boxes) = said_run (bytes_eq (codes "trun") b.kind) b boxes (of_kind (codes "trun") boxes) (said_runs boxes)
+
+-- `traf`s with what stands in them, and their samples
+abbrev trafs_say : List TrackFragment → ℕ
+trafs_say trafs = sum_of traf_rows trafs + sum_of (λ (traf : TrackFragment). sum_of (λ (run : Run). length run.rows) traf.runs) trafs
+
+said_traf : (v : Bool) (b : Box) (boxes kept : List Box) → trafs_work boxes ≤ trafs_say (map track_fragment_of (map children_of kept)) → cond v (suc (runs_work (children_of b))) 0 + trafs_work boxes ≤ trafs_say (map track_fragment_of (map children_of (cond v (b ∷ kept) kept)))
+said_traf true b boxes kept h = let inside = said_runs (children_of b) in omega (arith, h, inside)
+said_traf false b boxes kept h = omega (arith, h)
+
+said_trafs : (boxes : List Box) → trafs_work boxes ≤ trafs_say (map track_fragment_of (map children_of (of_kind (codes "traf") boxes)))
+said_trafs [] = omega arith
+said_trafs (b ∷ boxes) = said_traf (bytes_eq (codes "traf") b.kind) b boxes (of_kind (codes "traf") boxes) (said_trafs boxes)
+
+-- a walk takes no more steps than there are `traf`s, runs, rows of `sbgp` and samples
+pub walk_said : (moof : Box) → moof_work moof.payload ≤ fragment_rows (moof_says moof) + fragment_length (moof_says moof)
+walk_said moof = let all = said_trafs (children_of moof) in omega (arith, all, work_is moof)
+
+length_said : (trafs : List Box) → sum_of (λ (traf : TrackFragment). sum_of (λ (run : Run). length run.rows) traf.runs) (map track_fragment_of (map children_of trafs)) ≡ trafs_samples trafs
+length_said [] = refl
+length_said (b ∷ trafs) = let one = runs_length (runs_in b) in let others = length_said trafs in omega (arith, one, others)
+  where
+    runs_length : (runs : List Box) → sum_of (λ (run : Run). length run.rows) (map (λ (c : Box). run_of c.payload) runs) ≡ runs_total runs
+    runs_length [] = refl
+    runs_length (c ∷ runs) =
+        let count : length (run_of c.payload).rows ≡ row_count trun c.payload = rows_count (row_count trun c.payload) _ _ _ in
+        let others = runs_length runs in
+        omega (arith, count, others)
+
+-- the samples of a `moof` that was accepted were taken of the room
+pub length_taken : (tracks after : List TrackState) (moof : Box) (room less : ℕ) → AreMovedOn moof.offset (pos moof.offset) (of_kind (codes "traf") (children_of moof)) tracks after room less → less + fragment_length (moof_says moof) ≡ room
+length_taken tracks after moof room less m =
+    let trafs = of_kind (codes "traf") (children_of moof) in
+    omega (arith, samples_taken moof.offset (pos moof.offset) trafs tracks after room less m, length_said trafs)
