@@ -1,0 +1,40 @@
+-- The samples that the boxes of a `moof` say are those of its parts.
+use Rattle.std.proofs.Common.{◌≡◌, ℕ, suc, List, [], ◌∷◌, length, Option, None, refl, ap, arith}
+use Rattle.std.specs.Prelude.{ℤ, pos, flat_map, unwrap_or}
+use Rattle.std.proofs.lemmas.List.{length-append}
+use Rattle.mp4_boxes.specs.Bytes.{sum_of}
+use Rattle.mp4_tables.specs.Groups.{maps_of}
+use Rattle.mp4_frag.specs.Fragments.{RunRow, Run, TrackFragment, Fragment}
+use Rattle.mp4_frag.specs.FragmentSamples.{Part, part_samples, parts_after, parts_of, run_samples, run_start, runs_samples, runs_end, end_of_data, base_of, trex_for, no_trex}
+use Rattle.mp4_frag.specs.Work.{fragment_length}
+use Rattle.mp4_frag.specs.declared.trex.Trex.{Trex}
+use Rattle.mp4_frag.proofs.TrafsTied.{grouped_length}
+
+rows_said : (trex : Trex) (traf : TrackFragment) (first : Option ℕ) (at : ℤ) (rows : List RunRow) → length (run_samples trex traf first at rows) ≡ length rows
+rows_said trex traf first at [] = refl
+rows_said trex traf first at (row ∷ rows) = ap suc (rows_said trex traf None _ rows)
+
+runs_said : (trex : Trex) (traf : TrackFragment) (base before : ℤ) (runs : List Run) → length (flat_map (λ samples. samples) (runs_samples trex traf base before runs)) ≡ sum_of (λ (run : Run). length run.rows) runs
+runs_said trex traf base before [] = refl
+runs_said trex traf base before (run ∷ runs) =
+    let samples = run_samples trex traf run.first_sample_flags (run_start base before run.data_offset) run.rows in
+    let more = flat_map (λ samples. samples) (runs_samples trex traf base (end_of_data (run_start base before run.data_offset) samples) runs) in
+    let one = rows_said trex traf run.first_sample_flags (run_start base before run.data_offset) run.rows in
+    let others = runs_said trex traf base (end_of_data (run_start base before run.data_offset) samples) runs in
+    omega (arith, length-append samples more, one, others)
+
+trafs_said : (trexes : List Trex) (moof : ℕ) (before : ℤ) (trafs : List TrackFragment)
+    → sum_of (λ (part : Part). length (part_samples part)) (parts_after trexes moof before trafs) ≡ sum_of (λ (traf : TrackFragment). sum_of (λ (run : Run). length run.rows) traf.runs) trafs
+trafs_said trexes moof before [] = refl
+trafs_said trexes moof before (traf ∷ trafs) =
+    let trex = unwrap_or (trex_for trexes traf.id) no_trex in
+    let base = base_of moof before traf in
+    let flat = flat_map (λ samples. samples) (runs_samples trex traf base base traf.runs) in
+    let grouped = grouped_length (maps_of (length flat) traf.groups) flat in
+    let one = runs_said trex traf base base traf.runs in
+    let others = trafs_said trexes moof (runs_end trex traf base base traf.runs) trafs in
+    omega (arith, grouped, one, others)
+
+-- each sample of the parts
+pub parts_said : (trexes : List Trex) (f : Fragment) → sum_of (λ (part : Part). length (part_samples part)) (parts_of trexes f) ≡ fragment_length f
+parts_said trexes f = trafs_said trexes f.at (pos f.at) f.trafs
