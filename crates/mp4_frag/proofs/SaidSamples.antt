@@ -1,13 +1,18 @@
--- The samples that the boxes of a `moof` say are those of its parts.
-use Rattle.std.proofs.Common.{◌≡◌, ℕ, suc, List, [], ◌∷◌, length, Option, None, refl, ap, arith}
-use Rattle.std.specs.Prelude.{ℤ, pos, flat_map, unwrap_or}
+-- What the boxes of a `moof` say is what its tree says, and their samples are those of its parts.
+use Rattle.std.proofs.Common.{◌≡◌, ℕ, suc, List, [], ◌∷◌, length, map, Option, None, refl, ap, ◌∙◌, arith}
+use Rattle.std.specs.Prelude.{ℤ, pos, flat_map, unwrap_or, codes}
 use Rattle.std.proofs.lemmas.List.{length-append}
 use Rattle.mp4_boxes.specs.Bytes.{sum_of}
+use Rattle.mp4_boxes.specs.Box.{Box}
+use Rattle.mp4_boxes.specs.Children.{of_kind}
+use Rattle.mp4_boxes.specs.declared.rule.Rule.TheVariants as rules
 use Rattle.mp4_tables.specs.Groups.{maps_of}
-use Rattle.mp4_frag.specs.Fragments.{RunRow, Run, TrackFragment, Fragment}
+use Rattle.mp4_frag.specs.Fragments.{RunRow, Run, TrackFragment, Fragment, FragmentTree, AreTrafs, IsFragmentTree, fragment_of, track_fragment_of}
 use Rattle.mp4_frag.specs.FragmentSamples.{Part, part_samples, parts_after, parts_of, run_samples, run_start, runs_samples, runs_end, end_of_data, base_of, trex_for, no_trex}
-use Rattle.mp4_frag.specs.Work.{fragment_length}
+use Rattle.mp4_frag.specs.RunsJudged.{children_of}
+use Rattle.mp4_frag.specs.Work.{fragment_length, moof_says}
 use Rattle.mp4_frag.specs.declared.trex.Trex.{Trex}
+use Rattle.mp4_frag.proofs.HeadsFound.{holds_children}
 use Rattle.mp4_frag.proofs.TrafsTied.{grouped_length}
 
 rows_said : (trex : Trex) (traf : TrackFragment) (first : Option ℕ) (at : ℤ) (rows : List RunRow) → length (run_samples trex traf first at rows) ≡ length rows
@@ -38,3 +43,17 @@ trafs_said trexes moof before (traf ∷ trafs) =
 -- each sample of the parts
 pub parts_said : (trexes : List Trex) (f : Fragment) → sum_of (λ (part : Part). length (part_samples part)) (parts_of trexes f) ≡ fragment_length f
 parts_said trexes f = trafs_said trexes f.at (pos f.at) f.trafs
+
+-- ---- the tree of a `moof`
+
+trafs_are : (trafs : List Box) (lists : List (List Box)) → AreTrafs trafs lists → lists ≡ map children_of trafs
+trafs_are [] [] h = refl
+trafs_are (b ∷ trafs) (boxes ∷ lists) h = λ i. holds_children rules.TrackFragment b boxes h.0 i ∷ trafs_are trafs lists h.1 i
+trafs_are [] (boxes ∷ lists) h = absurd h
+trafs_are (b ∷ trafs) [] h = absurd h
+
+pub tree_said : (t : FragmentTree) → IsFragmentTree t → fragment_of t ≡ moof_says t.moof
+tree_said t h =
+    let inside = holds_children rules.MovieFragment t.moof t.children h.children in
+    let lists = trafs_are (of_kind (codes "traf") t.children) t.trafs h.trafs ∙ ap (λ boxes. map children_of (of_kind (codes "traf") boxes)) inside in
+    ap (λ (boxes : List (List Box)). record { at = t.moof.offset; trafs = map track_fragment_of boxes }) lists

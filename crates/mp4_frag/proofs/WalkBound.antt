@@ -12,11 +12,12 @@ use Rattle.mp4_boxes.proofs.Tiling.{header_is, sizes_fit}
 use Rattle.mp4_tables.specs.Groups.{grouping_of, groupings_of}
 use Rattle.mp4_frag.specs.Fragments.{Run, TrackFragment, AreTrafs, run_of, run_rows, track_fragment_of}
 use Rattle.mp4_frag.specs.Judged.{IsSoundMoof, AreMovedOn, end_with, tree_of}
-use Rattle.mp4_frag.specs.PlacesIn.{run_work, runs_work, group_work, groups_work, traf_work, trafs_work, moof_work}
+use Rattle.mp4_frag.specs.PlacesIn.{run_work, runs_work, group_work, groups_work, traf_work, trafs_work, moof_work, IsPlaceIn}
 use Rattle.mp4_frag.specs.RunsJudged.{children_of, runs_in, runs_total}
 use Rattle.mp4_frag.specs.TrafFaults.{HoldsBoxes}
 use Rattle.mp4_frag.specs.Walks.{can_read}
 use Rattle.mp4_frag.specs.Work.{group_rows, traf_rows, fragment_rows, fragment_length, moof_says}
+use Rattle.mp4_frag.specs.declared.places.FragPlace.{FragPlace}
 use Rattle.mp4_frag.specs.declared.state.TrackState.{TrackState}
 use Rattle.mp4_frag.specs.declared.trex.Trex.{Trex}
 use Rattle.mp4_frag.proofs.BoxPlaces.{all_boxes}
@@ -197,6 +198,10 @@ said_trafs (b ∷ boxes) = said_traf (bytes_eq (codes "traf") b.kind) b boxes (o
 -- a walk takes no more steps than there are `traf`s, runs, rows of `sbgp` and samples
 pub walk_said : (moof : Box) → moof_work moof.payload ≤ fragment_rows (moof_says moof) + fragment_length (moof_says moof)
 walk_said moof = let all = said_trafs (children_of moof) in omega (arith, all, work_is moof)
+
+-- so to each of its places
+pub place_said : (moof : Box) (place : FragPlace) → IsPlaceIn moof.payload place → place.passed ≤ fragment_rows (moof_says moof) + fragment_length (moof_says moof)
+place_said moof place p = let work = p.lies.work in omega (arith, work, walk_said moof)
 
 length_said : (trafs : List Box) → sum_of (λ (traf : TrackFragment). sum_of (λ (run : Run). length run.rows) traf.runs) (map track_fragment_of (map children_of trafs)) ≡ trafs_samples trafs
 length_said [] = refl
