@@ -1,9 +1,18 @@
--- How many steps the check of a `moof` takes, by the bytes and the samples that were passed.
-use Rattle.std.proofs.Common.{◌≡◌, ℕ, suc, ◌+◌, ◌*◌, ◌≤◌, false, Bool, List, [], ◌∷◌, length, drop, ap, ◌∙◌, arith}
+-- How many steps the check of a `moof` takes: by what its boxes say and the samples that were passed, and by its bytes.
+use Rattle.std.proofs.Common.{◌≡◌, ℕ, zero, suc, ◌+◌, ◌*◌, ◌≤◌, true, false, Bool, cond, List, [], ◌∷◌, length, drop, map, refl, ap, ◌∙◌, arith}
+use Rattle.std.specs.Prelude.{codes, bytes_eq, slice_index}
+use Rattle.mp4_boxes.specs.Bytes.{rows, sum_of, width_of}
+use Rattle.mp4_boxes.specs.Layout.{sbgp, row_count}
 use Rattle.mp4_boxes.specs.Box.{Box, LieEndToEnd, Tiles, box_container, bytes_container, size, sizes}
-use Rattle.mp4_boxes.specs.Children.{Holds}
+use Rattle.mp4_boxes.specs.Children.{Holds, of_kind}
 use Rattle.mp4_boxes.specs.declared.rule.Rule.{Rule}
 use Rattle.mp4_boxes.proofs.Tiling.{box_size, header_is, sizes-cons, sizes_fit}
+use Rattle.mp4_tables.specs.Groups.{grouping_of, groupings_of}
+use Rattle.mp4_frag.specs.Fragments.{run_of, track_fragment_of}
+use Rattle.mp4_frag.specs.RunsJudged.{children_of}
+use Rattle.mp4_frag.specs.TrafFaults.{traf_in}
+use Rattle.mp4_frag.specs.Work.{group_rows, traf_rows, fragment_rows, moof_says}
+use Rattle.mp4_frag.proofs.Comings.{turned}
 
 -- a box takes 8 bytes at least
 pub boxes_eight : (is_open : Bool) (at : ℕ) (bytes : List ℕ) (boxes : List Box) → LieEndToEnd is_open at bytes boxes → 8 * length boxes ≤ sizes boxes
@@ -19,26 +28,65 @@ one_longer left later b e = ap (λ (bs : List Box). length bs) e
 one_larger : (left later : List Box) (b : Box) → left ≡ b ∷ later → sizes left ≡ size b + sizes later
 one_larger left later b e = ap sizes e ∙ sizes-cons b later
 
+-- ---- sums over the boxes of a type
+
+no_more : (v : Bool) (f : Box → ℕ) (b : Box) (boxes : List Box) → sum_of f boxes ≤ sum_of f (cond v (b ∷ boxes) boxes)
+no_more true f b boxes = omega arith
+no_more false f b boxes = omega arith
+
+-- what is left of them falls from box to box
+sum_less : (kind : List ℕ) (f : Box → ℕ) (left later : List Box) (b : Box) → left ≡ b ∷ later → sum_of f (of_kind kind later) ≤ sum_of f (of_kind kind left)
+sum_less kind f left later b e =
+    let all = ap (λ boxes. sum_of f (of_kind kind boxes)) e in
+    omega (arith, all, no_more (bytes_eq kind b.kind) f b (of_kind kind later))
+
+kept : (kind : List ℕ) (b : Box) (boxes : List Box) → bytes_eq b.kind kind ≡ true → of_kind kind (b ∷ boxes) ≡ b ∷ of_kind kind boxes
+kept kind b boxes e = rw (turned kind b.kind ∙ e) refl
+
+-- by what one of them adds
+sum_one : (kind : List ℕ) (f : Box → ℕ) (left later : List Box) (b : Box) → left ≡ b ∷ later → bytes_eq b.kind kind ≡ true → sum_of f (of_kind kind left) ≡ f b + sum_of f (of_kind kind later)
+sum_one kind f left later b e k = ap (λ boxes. sum_of f (of_kind kind boxes)) e ∙ ap (sum_of f) (kept kind b later k)
+
 -- ---- the runs of a `traf`
+
+abbrev pub runs_among : List Box → ℕ
+runs_among boxes = sum_of (λ (b : Box). 1) (of_kind (codes "trun") boxes)
+
+runs_said : (runs : List Box) → sum_of (λ (b : Box). 1) runs ≡ length (map (λ (b : Box). run_of b.payload) runs)
+runs_said [] = refl
+runs_said (b ∷ runs) = let others = runs_said runs in omega (arith, others)
 
 -- one step for each run, and one for each of their samples
 pub record RunsCost (all left : List Box) (first steps count : ℕ) : Type 0 where
   pub most : steps + length left ≤ first + count + length all
+  pub said : steps + runs_among left ≤ first + count + runs_among all
 
 pub runs_cost_none : (all : List Box) (steps : ℕ) → RunsCost all all steps steps 0
-runs_cost_none all steps = record { most = omega arith }
+runs_cost_none all steps = record { most = omega arith; said = omega arith }
 
 pub runs_cost_other : (all left later : List Box) (b : Box) (first steps count : ℕ) → RunsCost all left first steps count → left ≡ b ∷ later → RunsCost all later first steps count
-runs_cost_other all left later b first steps count h e = let most = h.most in record { most = omega (arith, most, one_longer left later b e) }
+runs_cost_other all left later b first steps count h e =
+    let most = h.most in
+    let said = h.said in
+    record { most = omega (arith, most, one_longer left later b e); said = omega (arith, said, sum_less (codes "trun") (λ (c : Box). 1) left later b e) }
 
-pub runs_cost_run : (all left later : List Box) (b : Box) (first steps more count longer : ℕ) → RunsCost all left first steps count → left ≡ b ∷ later → more + count ≤ steps + 1 + longer → RunsCost all later first more longer
-runs_cost_run all left later b first steps more count longer h e k = let most = h.most in record { most = omega (arith, most, one_longer left later b e, k) }
+pub runs_cost_run : (all left later : List Box) (b : Box) (first steps more count longer : ℕ) → RunsCost all left first steps count → left ≡ b ∷ later → bytes_eq b.kind (codes "trun") ≡ true → more + count ≤ steps + 1 + longer → RunsCost all later first more longer
+runs_cost_run all left later b first steps more count longer h e is_run k =
+    let most = h.most in
+    let said = h.said in
+    record { most = omega (arith, most, one_longer left later b e, k); said = omega (arith, said, sum_one (codes "trun") (λ (c : Box). 1) left later b e is_run, k) }
 
 runs_fit : (all boxes : List Box) (kind : List ℕ) (base : ℕ) (payload : List ℕ) → all ≡ boxes → Tiles (bytes_container kind base payload) boxes → 8 * length all ≤ length payload
 runs_fit all boxes kind base payload same t =
     let eight = boxes_eight false base payload boxes t.front.0 in
     let fit = sizes_fit false base payload boxes t.front.0 in
     omega (arith, eight, fit, ap (λ (bs : List Box). length bs) same)
+
+-- behind the last box
+pub runs_cost_said : (all left boxes : List Box) (first steps count : ℕ) → RunsCost all left first steps count → all ≡ boxes → steps ≤ first + length (map (λ (b : Box). run_of b.payload) (of_kind (codes "trun") boxes)) + count
+runs_cost_said all left boxes first steps count h same =
+    let said = h.said in
+    omega (arith, said, ap runs_among same, runs_said (of_kind (codes "trun") boxes))
 
 pub runs_cost_ended : (all left boxes : List Box) (kind : List ℕ) (base : ℕ) (payload bytes : List ℕ) (first steps count : ℕ) → RunsCost all left first steps count → all ≡ boxes → Tiles (bytes_container kind base payload) boxes → payload ≡ bytes
     → 8 * steps ≤ 8 * first + length bytes + 8 * count
@@ -55,37 +103,82 @@ runs_cost_fault all left later boxes b kind base payload bytes first steps more 
 
 -- ---- its `sbgp`s
 
--- two steps for each row of 8 bytes
+abbrev pub rows_among : List Box → ℕ
+rows_among boxes = sum_of (λ (b : Box). row_count sbgp b.payload) (of_kind (codes "sbgp") boxes)
+
+many_rows : (n : ℕ) (widths bytes : List ℕ) → length {A = ℕ × ℕ} (map (λ row. (slice_index row 0, slice_index row 1)) (rows n widths bytes)) ≡ n
+many_rows zero widths bytes = refl
+many_rows (suc n) widths bytes = ap suc (many_rows n widths (drop (width_of widths) bytes))
+
+rows_said : (groups : List Box) → sum_of (λ (b : Box). row_count sbgp b.payload) groups ≡ group_rows (groupings_of groups)
+rows_said [] = refl
+rows_said (b ∷ groups) =
+    let one : length (grouping_of b.payload).rows ≡ row_count sbgp b.payload = many_rows (row_count sbgp b.payload) _ _ in
+    let others = rows_said groups in
+    omega (arith, one, others)
+
+-- a step for each row, which takes 8 bytes
 pub record GroupsCost (all left : List Box) (first steps : ℕ) : Type 0 where
-  pub most : 4 * steps + sizes left ≤ 4 * first + sizes all
+  pub most : 8 * steps + sizes left ≤ 8 * first + sizes all
+  pub said : steps + rows_among left ≤ first + rows_among all
 
 pub groups_cost_none : (all : List Box) (steps : ℕ) → GroupsCost all all steps steps
-groups_cost_none all steps = record { most = omega arith }
+groups_cost_none all steps = record { most = omega arith; said = omega arith }
 
 pub groups_cost_other : (all left later : List Box) (b : Box) (first steps : ℕ) → GroupsCost all left first steps → left ≡ b ∷ later → GroupsCost all later first steps
-groups_cost_other all left later b first steps h e = let most = h.most in record { most = omega (arith, most, one_larger left later b e) }
+groups_cost_other all left later b first steps h e =
+    let most = h.most in
+    let said = h.said in
+    record { most = omega (arith, most, one_larger left later b e); said = omega (arith, said, sum_less (codes "sbgp") (λ (c : Box). row_count sbgp c.payload) left later b e) }
 
-pub groups_cost_more : (all left later : List Box) (b : Box) (payload : List ℕ) (first steps more : ℕ) → GroupsCost all left first steps → left ≡ b ∷ later → payload ≡ b.payload → 4 * more ≤ 4 * steps + length payload → GroupsCost all later first more
-groups_cost_more all left later b payload first steps more h e p k = let most = h.most in record { most = omega (arith, most, one_larger left later b e, k, ap (λ (bs : List ℕ). length bs) p) }
+pub groups_cost_more : (all left later : List Box) (b : Box) (payload : List ℕ) (first steps more : ℕ) → GroupsCost all left first steps → left ≡ b ∷ later → bytes_eq b.kind (codes "sbgp") ≡ true → payload ≡ b.payload
+    → more ≤ steps + row_count sbgp payload → 8 * more ≤ 8 * steps + length payload → GroupsCost all later first more
+groups_cost_more all left later b payload first steps more h e is_group p k l =
+    let most = h.most in
+    let said = h.said in
+    record {
+      most = omega (arith, most, one_larger left later b e, l, ap (λ (bs : List ℕ). length bs) p);
+      said = omega (arith, said, sum_one (codes "sbgp") (λ (c : Box). row_count sbgp c.payload) left later b e is_group, k, ap (row_count sbgp) p);
+    }
 
-pub groups_cost_ended : (all left boxes : List Box) (kind : List ℕ) (base : ℕ) (payload : List ℕ) (first steps : ℕ) → GroupsCost all left first steps → all ≡ boxes → Tiles (bytes_container kind base payload) boxes → 4 * steps ≤ 4 * first + length payload
+-- behind the last box, or an `sbgp` that is refused
+pub groups_cost_said : (all left boxes : List Box) (first steps : ℕ) → GroupsCost all left first steps → all ≡ boxes → steps ≤ first + group_rows (groupings_of (of_kind (codes "sbgp") boxes))
+groups_cost_said all left boxes first steps h same =
+    let said = h.said in
+    omega (arith, said, ap rows_among same, rows_said (of_kind (codes "sbgp") boxes))
+
+pub groups_cost_ended : (all left boxes : List Box) (kind : List ℕ) (base : ℕ) (payload : List ℕ) (first steps : ℕ) → GroupsCost all left first steps → all ≡ boxes → Tiles (bytes_container kind base payload) boxes → 8 * steps ≤ 8 * first + length payload
 groups_cost_ended all left boxes kind base payload first steps h same t = let most = h.most in omega (arith, most, sizes_fit false base payload boxes t.front.0, ap sizes same)
 
 -- ---- the `traf`s of a `moof`
 
+abbrev pub trafs_among : List Box → ℕ
+trafs_among boxes = sum_of (λ (b : Box). traf_rows (traf_in b)) (of_kind (codes "traf") boxes)
+
+trafs_said : (trafs : List Box) → sum_of (λ (b : Box). traf_rows (traf_in b)) trafs ≡ sum_of traf_rows (map track_fragment_of (map children_of trafs))
+trafs_said [] = refl
+trafs_said (b ∷ trafs) = ap (λ n. traf_rows (traf_in b) + n) (trafs_said trafs)
+
 -- what they cost, with a step for each
 pub record MoofCost (all left : List Box) (first whole steps room : ℕ) : Type 0 where
   pub most : 8 * steps + 8 * room + (8 * length left + 3 * sizes left) ≤ 8 * first + 8 * whole + (8 * length all + 3 * sizes all)
+  pub said : steps + room + trafs_among left ≤ first + whole + trafs_among all
 
 pub moof_cost_none : (all : List Box) (steps room : ℕ) → MoofCost all all steps room steps room
-moof_cost_none all steps room = record { most = omega arith }
+moof_cost_none all steps room = record { most = omega arith; said = omega arith }
 
 pub moof_cost_other : (all left later : List Box) (b : Box) (first whole steps room : ℕ) → MoofCost all left first whole steps room → left ≡ b ∷ later → MoofCost all later first whole steps room
-moof_cost_other all left later b first whole steps room h e = let most = h.most in record { most = omega (arith, most, one_larger left later b e, one_longer left later b e) }
+moof_cost_other all left later b first whole steps room h e =
+    let most = h.most in
+    let said = h.said in
+    record { most = omega (arith, most, one_larger left later b e, one_longer left later b e); said = omega (arith, said, sum_less (codes "traf") (λ (c : Box). traf_rows (traf_in c)) left later b e) }
 
-pub moof_cost_traf : (all left later : List Box) (b : Box) (first whole steps more room less : ℕ) → MoofCost all left first whole steps room → left ≡ b ∷ later → 8 * more + 8 * less ≤ 8 * (steps + 1) + 8 * room + 3 * length b.payload
-    → MoofCost all later first whole more less
-moof_cost_traf all left later b first whole steps more room less h e k = let most = h.most in record { most = omega (arith, most, one_larger left later b e, one_longer left later b e, k) }
+pub moof_cost_traf : (all left later : List Box) (b : Box) (first whole steps more room less : ℕ) → MoofCost all left first whole steps room → left ≡ b ∷ later → bytes_eq b.kind (codes "traf") ≡ true
+    → more + less + 1 ≤ steps + 1 + room + traf_rows (traf_in b) → 8 * more + 8 * less ≤ 8 * (steps + 1) + 8 * room + 3 * length b.payload → MoofCost all later first whole more less
+moof_cost_traf all left later b first whole steps more room less h e is_traf k l =
+    let most = h.most in
+    let said = h.said in
+    record { most = omega (arith, most, one_larger left later b e, one_longer left later b e, l); said = omega (arith, said, sum_one (codes "traf") (λ (c : Box). traf_rows (traf_in c)) left later b e is_traf, k) }
 
 trafs_fit : (all boxes : List Box) (rule : Rule) (moof : Box) → all ≡ boxes → Holds rule (box_container moof) boxes → 8 * length all + 3 * sizes all ≤ 4 * length moof.payload
 trafs_fit all boxes rule moof same holds =
@@ -93,6 +186,12 @@ trafs_fit all boxes rule moof same holds =
     let eight = boxes_eight false (moof.offset + moof.header) moof.payload boxes t.front.0 in
     let fit = sizes_fit false (moof.offset + moof.header) moof.payload boxes t.front.0 in
     omega (arith, eight, fit, ap (λ (bs : List Box). length bs) same, ap sizes same)
+
+-- behind the last box
+pub moof_cost_said : (all left : List Box) (moof : Box) (first whole steps room : ℕ) → MoofCost all left first whole steps room → all ≡ children_of moof → steps + room ≤ first + whole + fragment_rows (moof_says moof)
+moof_cost_said all left moof first whole steps room h same =
+    let said = h.said in
+    omega (arith, said, ap trafs_among same, trafs_said (of_kind (codes "traf") (children_of moof)))
 
 pub moof_cost_ended : (all left boxes : List Box) (rule : Rule) (moof : Box) (first whole steps room : ℕ) → MoofCost all left first whole steps room → all ≡ boxes → Holds rule (box_container moof) boxes
     → 2 * steps + 2 * room ≤ 2 * first + 2 * whole + length moof.payload

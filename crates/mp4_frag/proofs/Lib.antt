@@ -7,6 +7,7 @@ pub mod MoofExcludes
 pub mod Costs
 pub mod WalkWork
 pub mod WalkBound
+pub mod SaidSamples
 pub mod TracksMoved
 pub mod MoofPassed
 pub mod TrafPassed

@@ -2,10 +2,11 @@
 use Rattle.std.proofs.Common.{◌≡◌, ℕ, suc, ◌+◌, ◌-◌, ◌<◌, ◌≤◌, true, cond, List, [], ◌∷◌, length, refl, sym, ap, ◌∙◌, arith}
 use Rattle.std.specs.Prelude.{codes, bytes_eq}
 use Rattle.mp4_boxes.specs.Box.{Box}
-use Rattle.mp4_boxes.specs.Layout.{trun, row_count}
-use Rattle.mp4_frag.specs.PlacesIn.{run_work, runs_work, trafs_work, moof_work, work_behind}
-use Rattle.mp4_frag.specs.Reading.{IsRun}
+use Rattle.mp4_boxes.specs.Layout.{trun, sbgp, row_count}
+use Rattle.mp4_frag.specs.PlacesIn.{run_work, runs_work, group_work, groups_work, traf_work, trafs_work, moof_work, work_behind}
+use Rattle.mp4_frag.specs.Reading.{IsRun, IsGroup}
 use Rattle.mp4_frag.specs.Walks.{boxes_in, boxes_between, part_of}
+use Rattle.mp4_frag.specs.declared.groups.Group.{Group}
 use Rattle.mp4_frag.specs.declared.runs.Run.{Run}
 use Rattle.mp4_frag.proofs.BoxPlaces.{box_end}
 use Rattle.mp4_frag.proofs.Comings.{turned}
@@ -65,7 +66,7 @@ work_box payload next end inside behind kind same e =
     let there : trafs_work (boxes_between payload next (length payload)) ≡ trafs_work (boxes_between payload end (length payload)) = ap (λ n. trafs_work (boxes_between payload n (length payload))) same in
     omega (arith, none, all, there)
 
-one_traf : (b : Box) (boxes : List Box) → bytes_eq b.kind (codes "traf") ≡ true → trafs_work (b ∷ boxes) ≡ suc (runs_work (boxes_in (b.offset + b.header) b.payload)) + trafs_work boxes
+one_traf : (b : Box) (boxes : List Box) → bytes_eq b.kind (codes "traf") ≡ true → trafs_work (b ∷ boxes) ≡ traf_work (boxes_in (b.offset + b.header) b.payload) + trafs_work boxes
 one_traf b boxes e = rw (turned (codes "traf") b.kind ∙ e) refl
 
 inside_it : (payload : List ℕ) (at inside end : ℕ) → at < inside → boxes_in (at + (inside - at)) (part_of payload inside end) ≡ boxes_between payload inside end
@@ -74,15 +75,15 @@ inside_it payload at inside end lt = let same : at + (inside - at) ≡ inside = 
 
 -- a `traf` of it
 pub work_traf : (payload : List ℕ) (passed left next end inside behind : ℕ) (kind : List ℕ) → next ≡ end → next < inside → boxes_between payload next (length payload) ≡ box_here payload next inside behind kind ∷ boxes_between payload behind (length payload)
-    → bytes_eq kind (codes "traf") ≡ true → passed + left + work_behind payload next end ≤ moof_work payload → passed + 1 + left + work_behind payload inside behind ≤ moof_work payload
+    → bytes_eq kind (codes "traf") ≡ true → passed + left + work_behind payload next end ≤ moof_work payload → passed + 1 + left + groups_work (boxes_between payload inside behind) + work_behind payload inside behind ≤ moof_work payload
 unfolding work_behind
 work_traf payload passed left next end inside behind kind same lt e k h =
     let all = ap (λ n. trafs_work (boxes_between payload n (length payload))) (sym same) ∙ ap trafs_work e ∙ one_traf (box_here payload next inside behind kind) (boxes_between payload behind (length payload)) k
-    ∙ ap (λ bs. suc (runs_work bs) + trafs_work (boxes_between payload behind (length payload))) (inside_it payload next inside behind lt) in
-    sums passed left (runs_work (boxes_between payload next end)) (trafs_work (boxes_between payload end (length payload))) (runs_work (boxes_between payload inside behind)) (trafs_work (boxes_between payload behind (length payload))) (moof_work payload) all h
+    ∙ ap (λ bs. traf_work bs + trafs_work (boxes_between payload behind (length payload))) (inside_it payload next inside behind lt) in
+    sums passed left (runs_work (boxes_between payload next end)) (trafs_work (boxes_between payload end (length payload))) (groups_work (boxes_between payload inside behind)) (runs_work (boxes_between payload inside behind)) (trafs_work (boxes_between payload behind (length payload))) (moof_work payload) all h
   where
-    sums : (passed left runs all inner rest most : ℕ) → all ≡ suc inner + rest → passed + left + (runs + all) ≤ most → passed + 1 + left + (inner + rest) ≤ most
-    sums passed left runs all inner rest most e h = omega arith
+    sums : (passed left runs all groups inner rest most : ℕ) → all ≡ suc (groups + inner) + rest → passed + left + (runs + all) ≤ most → passed + 1 + left + groups + (inner + rest) ≤ most
+    sums passed left runs all groups inner rest most e h = omega arith
 
 -- a run that can be read costs a step, and one for each of its rows
 pub run_cost : (payload : List ℕ) (run : Run) → IsRun payload run → run_work payload ≡ suc run.count
@@ -91,3 +92,23 @@ run_cost payload run r = ap (λ v. suc (cond v (row_count trun payload) 0)) (rea
 -- before the rows of a run, and behind them
 pub own_work : (run passed more rows rest most : ℕ) → run ≡ suc rows → more ≤ passed + 1 → passed + run + rest ≤ most → more + rows + rest ≤ most
 own_work run passed more rows rest most e l h = omega arith
+
+-- an `sbgp` that can be read costs a step for each of its rows
+pub group_cost : (payload : List ℕ) (group : Group) → IsGroup payload group → group_work payload ≡ group.count
+group_cost payload group g = ap (λ v. cond v (row_count sbgp payload) 0) (read sbgp payload g.readable) ∙ sym g.count
+
+-- what the `sbgp`s left of a `traf` cost falls from box to box
+pub groups_fall : (payload : List ℕ) (at inside behind end : ℕ) (kind : List ℕ) → boxes_between payload at end ≡ box_here payload at inside behind kind ∷ boxes_between payload behind end → groups_work (boxes_between payload behind end) ≤ groups_work (boxes_between payload at end)
+groups_fall payload at inside behind end kind e = let all = ap groups_work e in omega (arith, all)
+
+one_group : (b : Box) (boxes : List Box) → bytes_eq b.kind (codes "sbgp") ≡ true → groups_work (b ∷ boxes) ≡ group_work b.payload + groups_work boxes
+one_group b boxes e = rw (turned (codes "sbgp") b.kind ∙ e) refl
+
+-- by what one of them costs
+pub groups_pass : (payload : List ℕ) (passed more left rest most at inside behind end : ℕ) (kind : List ℕ) → boxes_between payload at end ≡ box_here payload at inside behind kind ∷ boxes_between payload behind end → bytes_eq kind (codes "sbgp") ≡ true
+    → more ≤ passed + group_work (part_of payload inside behind) → passed + left + groups_work (boxes_between payload at end) + rest ≤ most → more + left + groups_work (boxes_between payload behind end) + rest ≤ most
+groups_pass payload passed more left rest most at inside behind end kind e k l h =
+    sums passed more left rest most (groups_work (boxes_between payload at end)) (group_work (part_of payload inside behind)) (groups_work (boxes_between payload behind end)) (ap groups_work e ∙ one_group (box_here payload at inside behind kind) (boxes_between payload behind end) k) l h
+  where
+    sums : (passed more left rest most all one others : ℕ) → all ≡ one + others → more ≤ passed + one → passed + left + all + rest ≤ most → more + left + others + rest ≤ most
+    sums passed more left rest most all one others e l h = omega arith

@@ -1,4 +1,5 @@
 pub mod Fragments
+pub mod Work
 pub mod ColumnsRead
 pub mod Passing
 pub mod PlacesIn

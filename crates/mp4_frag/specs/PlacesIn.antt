@@ -1,7 +1,7 @@
 -- Places in the payload of a `moof`, and what a walk costs.
 use Rattle.std.specs.Prelude.{◌≡◌, ℕ, suc, ◌+◌, ◌*◌, ◌≤◌, cond, List, [], ◌∷◌, length, codes, bytes_eq}
 use Rattle.mp4_boxes.specs.Box.{Box}
-use Rattle.mp4_boxes.specs.Layout.{trun, row_count}
+use Rattle.mp4_boxes.specs.Layout.{trun, sbgp, row_count}
 use Rattle.mp4_frag.specs.ColumnsRead.{row_room}
 use Rattle.mp4_frag.specs.Walks.{can_read, boxes_in, boxes_between}
 use Rattle.mp4_frag.specs.declared.places.FragPlace.{FragPlace}
@@ -33,10 +33,21 @@ abbrev pub runs_work : List Box → ℕ
 runs_work [] = 0
 runs_work (b ∷ boxes) = cond (bytes_eq (codes "trun") b.kind) (run_work b.payload) 0 + runs_work boxes
 
--- a step for a `traf`, and those for its runs
+-- a step for each row of an `sbgp`, if it can be read
+abbrev pub group_work : List ℕ → ℕ
+group_work payload = cond (can_read sbgp payload) (row_count sbgp payload) 0
+
+abbrev pub groups_work : List Box → ℕ
+groups_work [] = 0
+groups_work (b ∷ boxes) = cond (bytes_eq (codes "sbgp") b.kind) (group_work b.payload) 0 + groups_work boxes
+
+-- a step for a `traf`, and those for its `sbgp`s and runs
+abbrev pub traf_work : List Box → ℕ
+traf_work boxes = suc (groups_work boxes + runs_work boxes)
+
 abbrev pub trafs_work : List Box → ℕ
 trafs_work [] = 0
-trafs_work (b ∷ boxes) = cond (bytes_eq (codes "traf") b.kind) (suc (runs_work (boxes_in (b.offset + b.header) b.payload))) 0 + trafs_work boxes
+trafs_work (b ∷ boxes) = cond (bytes_eq (codes "traf") b.kind) (traf_work (boxes_in (b.offset + b.header) b.payload)) 0 + trafs_work boxes
 
 -- what all boxes of a `moof` cost
 unfoldable pub moof_work : List ℕ → ℕ

@@ -15,7 +15,8 @@ ghost use Rattle.mp4_tables.specs.TableRules.{is_index};
 ghost use Rattle.mp4_frag.specs.declared.trex.Trex.{Trex};
 ghost use Rattle.mp4_frag.specs.Walks.{trex_among};
 ghost use Rattle.mp4_frag.specs.States.{HaveRoom};
-ghost use Rattle.mp4_frag.specs.TrafFaults.{TrafFails, MoofFails};
+ghost use Rattle.mp4_frag.specs.TrafFaults.{TrafFails, MoofFails, traf_in};
+ghost use Rattle.mp4_frag.specs.Work.{group_rows, traf_rows, fragment_rows, moof_says};
 ghost use Rattle.mp4_frag.specs.Views.{moof_seen};
 ghost use Rattle.mp4_frag.specs.declared.state.TrackState.{TrackState};
 
@@ -108,7 +109,8 @@ fn check_runs<L: Ledger>(
     ensures count { IfOk result (λ p. p.count ≡ runs_total (runs_in (box_seen traf.entry))) }
     ensures lasting { IfOk result (λ p. p.duration ≡ runs_lasting judged.inherited (runs_in (box_seen traf.entry))) }
     ensures fault { IfErr result (λ f. Tiles (box_container (box_seen traf.entry)) (children_of (box_seen traf.entry)) → RunsFail judged.file_len judged.inherited judged.base judged.base room.old (runs_in (box_seen traf.entry)) f) }
-    ensures cost { IfOk result (λ p. 8 * steps.new ≤ 8 * steps.old + length (box_seen traf.entry).payload + 8 * p.count) }
+    ensures cost { IfOk result (λ p. steps.new ≤ steps.old + length (traf_in (box_seen traf.entry)).runs + p.count) }
+    ensures within { IfOk result (λ p. 8 * steps.new ≤ 8 * steps.old + length (box_seen traf.entry).payload + 8 * p.count) }
     ensures work { 8 * steps.new ≤ 8 * steps.old + length (box_seen traf.entry).payload + 8 * room.old }
 {
     let mut passed = Passed {
@@ -138,7 +140,8 @@ fn check_groups<L: Ledger>(
     ensures sound { IfOk result (λ k. AreGroupsSound n (keys_seen keys) [] (groups_in (box_seen traf.entry))) }
     ensures keys { IfOk result (λ k. keys_seen k ≡ keys_after (keys_seen keys) (groupings_of (groups_in (box_seen traf.entry)))) }
     ensures fault { IfErr result (λ f. Tiles (box_container (box_seen traf.entry)) (children_of (box_seen traf.entry)) → GroupsFail n (keys_seen keys) [] (groups_in (box_seen traf.entry)) f) }
-    ensures work { 4 * steps.new ≤ 4 * steps.old + length (box_seen traf.entry).payload }
+    ensures cost { IfOk result (λ k. steps.new ≤ steps.old + group_rows (traf_in (box_seen traf.entry)).groups) }
+    ensures work { 8 * steps.new ≤ 8 * steps.old + length (box_seen traf.entry).payload }
 {
     let mut keys = keys;
     let mut named = KeysNamed::none();
@@ -219,7 +222,8 @@ fn check_traf<L: Ledger>(
     ensures same { IfOk result (λ at. (id : ℕ) → trex_among tracks.new id ≡ trex_among tracks.old id) }
     ensures fault { IfErr result (λ f. TrafFails file_len moof before tracks.old room.old (box_seen traf.entry) f) }
     ensures moved { IfOk result (λ at. IsMovedOn moof before (children_of (box_seen traf.entry)) tracks.old tracks.new room.old room.new) }
-    ensures cost { IfOk result (λ at. 8 * steps.new + 8 * room.new ≤ 8 * steps.old + 8 * room.old + 3 * length (box_seen traf.entry).payload) }
+    ensures cost { IfOk result (λ at. steps.new + room.new + 1 ≤ steps.old + room.old + traf_rows (traf_in (box_seen traf.entry))) }
+    ensures within { IfOk result (λ at. 8 * steps.new + 8 * room.new ≤ 8 * steps.old + 8 * room.old + 3 * length (box_seen traf.entry).payload) }
     ensures work { 8 * steps.new ≤ 8 * steps.old + 8 * room.old + 3 * length (box_seen traf.entry).payload }
 {
     let heads = check_boxes(traf)?;
@@ -282,7 +286,8 @@ pub fn check_moof<'a, L: Ledger>(
     ensures moved { IfOk result (λ view. AreMovedOn (box_seen moof.entry).offset (pos (box_seen moof.entry).offset) (of_kind (codes "traf") (children_of (box_seen moof.entry))) tracks.old tracks.new room.old room.new) }
     ensures few { IfOk result (λ view. room.new ≤ room.old) }
     ensures room { IfOk result (λ view. HaveRoom room.new tracks.new) }
-    ensures cost { IfOk result (λ view. 2 * steps.new + 2 * room.new ≤ 2 * steps.old + 2 * room.old + length (box_seen moof.entry).payload) }
+    ensures cost { IfOk result (λ view. steps.new + room.new ≤ steps.old + room.old + fragment_rows (moof_says (box_seen moof.entry))) }
+    ensures within { IfOk result (λ view. 2 * steps.new + 2 * room.new ≤ 2 * steps.old + 2 * room.old + length (box_seen moof.entry).payload) }
     ensures work { 2 * steps.new ≤ 2 * steps.old + 2 * room.old + length (box_seen moof.entry).payload }
 {
     let mut before = i128::from(moof.offset());

@@ -28,6 +28,7 @@ impl<'a> Model for FragCursor<'a> {
 
 impl<'a> FragCursor<'a> {
     ghost use Rattle.std.specs.Prelude.{ℕ, List, ◌≡◌, ◌+◌, ◌^◌, ◌<◌, ◌≤◌};
+    ghost use Rattle.mp4_boxes.specs.Box.{Box};
     ghost use Rattle.mp4_tables.specs.Accepted.{AreDistinct};
     ghost use Rattle.mp4_tables.specs.Timed.{timed};
     ghost use Rattle.mp4_frag.specs.Fragments.{FragmentTree};
@@ -36,6 +37,7 @@ impl<'a> FragCursor<'a> {
     ghost use Rattle.mp4_frag.specs.declared.trex.Trex.{Trex};
     ghost use Rattle.mp4_frag.specs.PlacesIn.{IsPlaceIn, moof_work};
     ghost use Rattle.mp4_frag.specs.Views.{moof_seen};
+    ghost use Rattle.mp4_frag.specs.Work.{fragment_rows, fragment_length, moof_says};
     ghost use Rattle.mp4_frag.specs.Walks.{samples_coming, samples_in};
     ghost use Rattle.mp4_tables.specs.Keys.{keys_seen};
 
@@ -83,6 +85,7 @@ impl<'a> FragCursor<'a> {
         ensures is { result ≡ self.now.place }
         ensures place { IsPlaceIn self.now.payload result }
         ensures work { result.passed ≤ moof_work self.now.payload }
+        ensures said { (moof : Box) → self.now.payload ≡ moof.payload → result.passed ≤ fragment_rows (moof_says moof) + fragment_length (moof_says moof) }
     {
         self.place
     }

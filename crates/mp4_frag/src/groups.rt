@@ -1,7 +1,7 @@
 //! `sbgp` in a `traf`: which group description its samples have (ISO/IEC 14496-12, 8.9.2).
-ghost use Rattle.std.specs.Prelude.{◌≡◌, ◌+◌, ◌*◌, ◌<◌, ◌≤◌, ◌∷◌, drop, nat_le, length, List, OnOk, IfOk, IfErr, ◌++◌, []};
+ghost use Rattle.std.specs.Prelude.{◌≡◌, ◌+◌, ◌*◌, ◌<◌, ◌≤◌, ◌∷◌, drop, nat_le, length, List, is_some, OnOk, IfOk, IfErr, IfSome, ◌++◌, []};
 ghost use Rattle.mp4_boxes.specs.BoxFaults.{Fails};
-ghost use Rattle.mp4_boxes.specs.Layout.{sbgp};
+ghost use Rattle.mp4_boxes.specs.Layout.{sbgp, row_count};
 ghost use Rattle.mp4_boxes.specs.Layout.{version as version_of};
 ghost use Rattle.mp4_tables.specs.Groups.{key_of as key_in};
 ghost use Rattle.mp4_tables.specs.Keys.{key_seen};
@@ -165,38 +165,23 @@ fn row_of(payload: &[u8], group: Group, k: u32) -> (u32, u32)
     (u32_at(payload, at), u32_at(payload, at + 4))
 }
 
-// Whether each index of the rows is one.
-fn are_indexes<L: Ledger>(payload: &[u8], group: Group, steps: &mut Steps<L>) -> bool
+// How many samples the rows count, if each index is one.
+fn count_samples<L: Ledger>(payload: &[u8], group: Group, steps: &mut Steps<L>) -> Option<u64>
     requires { group.rows + 8 * group.count ≤ length payload.now }
-    ensures same { result ≡ list_all (λ run. nat_le run.1 max_index) (group_runs payload.now group) }
-    ensures cost { steps.new ≤ steps.old + group.count }
-{
-    for k in 0..group.count {
-        steps.tick();
-        let (_, index) = row_of(payload, group, k);
-        if index > MAX_INDEX {
-            return false;
-        }
-    }
-    true
-}
-
-// Whether the rows count no more than `n` samples.
-fn are_within<L: Ledger>(payload: &[u8], group: Group, n: u32, steps: &mut Steps<L>) -> bool
-    requires { group.rows + 8 * group.count ≤ length payload.now }
-    ensures same { result ≡ nat_le (total_of (group_runs payload.now group)) n }
+    ensures indexes { is_some result ≡ list_all (λ run. nat_le run.1 max_index) (group_runs payload.now group) }
+    ensures total { IfSome result (λ n. n ≡ total_of (group_runs payload.now group)) }
     ensures cost { steps.new ≤ steps.old + group.count }
 {
     let mut total: u64 = 0;
     for k in 0..group.count {
         steps.tick();
-        let (count, _) = row_of(payload, group, k);
-        total += u64::from(count);
-        if total > u64::from(n) {
-            return false;
+        let (count, index) = row_of(payload, group, k);
+        if index > MAX_INDEX {
+            return None;
         }
+        total += u64::from(count);
     }
-    true
+    Some(total)
 }
 
 /// Checks an `sbgp` of a `traf` of `n` samples, behind others that named keys.
@@ -210,14 +195,15 @@ pub(crate) fn check_group<L: Ledger>(
     ensures sound { OnOk result ((first : List GroupKeyOf) (before : List Grouping) → AreNamed first before (keys_seen keys.old) named.old → IsGroupSound n first before payload.now) }
     ensures named { OnOk result ((first : List GroupKeyOf) (before : List Grouping) → AreNamed first before (keys_seen keys.old) named.old → AreNamed first (before ++ grouping_of payload.now ∷ []) (keys_seen keys.new) named.new) }
     ensures fault { IfErr result (λ kind. (first : List GroupKeyOf) (before : List Grouping) → AreNamed first before (keys_seen keys.old) named.old → IsGroupFault n first before payload.now kind) }
-    ensures cost { 4 * steps.new ≤ 4 * steps.old + length payload.now }
+    ensures cost { steps.new ≤ steps.old + row_count sbgp payload.now }
+    ensures work { 8 * steps.new ≤ 8 * steps.old + length payload.now }
 {
     let group = read_group(payload)?;
     name(group.key, keys, named)?;
-    if !are_indexes(payload, group, steps) {
+    let Some(total) = count_samples(payload, group, steps) else {
         return Err(Kind::BadValue);
-    }
-    if !are_within(payload, group, n, steps) {
+    };
+    if total > u64::from(n) {
         return Err(Kind::CountMismatch);
     }
     Ok(())

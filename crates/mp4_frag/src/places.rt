@@ -50,7 +50,7 @@ pub struct FragPlace {
     pub(crate) inherited: Inherited,
     pub(crate) run: RowPlace,
     pub(crate) indexes: IndexPlaces,
-    /// How many `traf`s, runs and samples were passed.
+    /// How many `traf`s, rows of `sbgp`, runs and samples were passed: all rows of an `sbgp` where its `traf` is opened.
     pub(crate) passed: u64,
 }
 

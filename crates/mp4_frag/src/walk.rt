@@ -5,14 +5,14 @@ ghost use Rattle.mp4_boxes.specs.Box.{header_at};
 ghost use Rattle.mp4_tables.specs.Keys.{keys_seen};
 ghost use Rattle.mp4_frag.specs.FragmentSamples.{flags_of as flags_by};
 ghost use Rattle.mp4_frag.specs.ColumnsRead.{row_room};
-ghost use Rattle.mp4_frag.specs.PlacesIn.{LiesIn, IsPlaceIn, IsRowPlace, AreIndexPlaces, run_work, work_behind, moof_work};
+ghost use Rattle.mp4_frag.specs.PlacesIn.{LiesIn, IsPlaceIn, IsRowPlace, AreIndexPlaces, run_work, group_work, groups_work, work_behind, moof_work};
 ghost use Rattle.mp4_frag.specs.Walks.{Walk, Reached, at_first, rows_here, trafs_coming, row_signed, first_byte, part_of, boxes_between, trex_among, with_head, all_indexes, with_group, with_leaves, before_traf, end_held, rows_coming, run_coming, reached, walk_of, coming, begin as begin_by};
 
 use crate::check::{SBGP, TFHD, TRAF, TRUN, find_track};
 use crate::groups::read_group;
 use crate::heads::{base_of, nothing_inherited, read_head, what_is_inherited};
 use crate::indexes::{first_index, indexes_here, no_indexes, pass_indexes, with_index};
-use crate::places::{FragPlace, IndexPlaces, RowPlace};
+use crate::places::{FragPlace, RowPlace};
 use crate::rows::{Row, row_at, row_size};
 use crate::runs::{read_run, signed};
 use crate::state::TrackState;
@@ -76,21 +76,29 @@ fn box_at(payload: &[u8], at: usize, end: usize) -> Option<Lying>
     })
 }
 
-// The places with the rows of an `sbgp`, if its key is one of these.
-fn open_group(payload: &[u8], lying: Lying, keys: Keys, places: IndexPlaces) -> IndexPlaces
+// The place with the rows of an `sbgp`, if its key is one of the track's.
+fn open_group(payload: &[u8], lying: Lying, place: FragPlace) -> FragPlace
     requires inside { lying.inside ≤ lying.end }
     requires within { lying.end ≤ length payload.now }
-    requires places { AreIndexPlaces payload.now places }
-    ensures places { AreIndexPlaces payload.now result }
-    ensures indexes { all_indexes payload.now result ≡ with_group (keys_seen keys) (all_indexes payload.now places) (part_of payload.now lying.inside lying.end) }
+    requires places { AreIndexPlaces payload.now place.indexes }
+    ensures places { AreIndexPlaces payload.now result.indexes }
+    ensures same { result ≡ record place { indexes = result.indexes; passed = result.passed } }
+    ensures on { place.passed ≤ result.passed }
+    ensures work { result.passed ≤ place.passed + group_work (part_of payload.now lying.inside lying.end) }
+    ensures indexes { all_indexes payload.now result.indexes ≡ with_group (keys_seen place.keys) (all_indexes payload.now place.indexes) (part_of payload.now lying.inside lying.end) }
 {
     let Ok(group) = read_group(&payload[lying.inside..lying.end]) else {
-        return places;
+        return place;
     };
-    let Some(j) = keys.place(group.key) else {
-        return places;
+    let Some(j) = place.keys.place(group.key) else {
+        return place;
     };
-    with_index(places, j, first_index(payload, lying.inside, group))
+    let rows = first_index(payload, lying.inside, group);
+    FragPlace {
+        indexes: with_index(place.indexes, j, rows),
+        passed: place.passed.saturating_add(u64::from(group.count)),
+        ..place
+    }
 }
 
 // What the fragments of the track with this ID inherit, if it is there.
@@ -143,7 +151,7 @@ fn open_traf(
     requires inside { lying.inside ≤ lying.end }
     requires within { lying.end ≤ length payload.now }
     requires place { LiesIn payload.now place }
-    requires work { place.passed + 1 + place.run.left + work_behind payload.now lying.inside lying.end ≤ moof_work payload.now }
+    requires work { place.passed + 1 + place.run.left + groups_work (boxes_between payload.now lying.inside lying.end) + work_behind payload.now lying.inside lying.end ≤ moof_work payload.now }
     ensures place { LiesIn payload.now result }
     ensures next { result.next ≡ lying.inside }
     ensures end { result.traf_end ≡ lying.end }
@@ -168,7 +176,7 @@ fn open_traf(
         if child.kind == TFHD {
             opened = open_head(payload, moof, tracks, child, opened);
         } else if child.kind == SBGP {
-            opened.indexes = open_group(payload, child, opened.keys, opened.indexes);
+            opened = open_group(payload, child, opened);
         }
     }
     opened

@@ -7,7 +7,7 @@ use Rattle.mp4_boxes.specs.View.{box_seen}
 use Rattle.mp4_boxes.specs.declared.rule.Rule.TheVariants as rules
 use Rattle.mp4_frag.proofs.HeadsFound.{holds_children}
 use Rattle.mp4_frag.proofs.MoofExcludes.{moof_excluded}
-use Rattle.mp4_frag.proofs.Costs.{moof_cost_traf, moof_cost_ended, moof_cost_fault}
+use Rattle.mp4_frag.proofs.Costs.{moof_cost_traf, moof_cost_said, moof_cost_ended, moof_cost_fault}
 use Rattle.mp4_frag.proofs.MoofPassed.{moof_traf, moof_ended, moof_sound, moves_traf, moves_fault, moves_ended}
 use Rattle.mp4_frag.proofs.check.check_moof.Goals as goal
 
@@ -27,7 +27,7 @@ loop-child-preserved-then-eq g c =
       r.room,
       rw kept (moof_traf c.args.file_len _ _ _ _ _ (box_seen c.in-Some.child) _ c.in_ok-before.before _ _ i.4 c.in-Some.ensures.steps is_traf r.holds sound r.bound r.same),
       rw kept (moves_traf c.args.file_len _ _ _ _ _ _ (box_seen c.in-Some.child) _ c.in_ok-before.before _ _ _ _ i.5 c.in-Some.ensures.steps is_traf r.holds sound (rw c.offset-then-eq.ensures at r.moved)),
-      moof_cost_traf _ _ _ (box_seen c.in-Some.child) _ _ _ _ _ _ i.6 c.in-Some.ensures.steps (rw c.tick.ensures.one_more at r.cost),
+      moof_cost_traf _ _ _ (box_seen c.in-Some.child) _ _ _ _ _ _ i.6 c.in-Some.ensures.steps is_traf (rw c.tick.ensures.one_more at r.cost) (rw c.tick.ensures.one_more at r.within),
     )
 
 pub returns-clause-sound : goal.returns-clause-sound
@@ -68,7 +68,12 @@ returns-in_err-before-clause-only g c =
     )))
 
 pub returns-clause-cost : goal.returns-clause-cost
-returns-clause-cost g c = moof_cost_ended _ _ _ rules.MovieFragment (box_seen c.args.moof) _ _ _ _ c.loop-child.invariant.6 c.into_iter-child-iterator.ensures.into_iter_gives c.in_ok-child-items.ensures.holds
+returns-clause-cost g c =
+    let all = holds_children rules.MovieFragment (box_seen c.args.moof) _ c.in_ok-child-items.ensures.holds in
+    moof_cost_said _ _ (box_seen c.args.moof) _ _ _ _ c.loop-child.invariant.6 (c.into_iter-child-iterator.ensures.into_iter_gives ∙ all)
+
+pub returns-clause-within : goal.returns-clause-within
+returns-clause-within g c = moof_cost_ended _ _ _ rules.MovieFragment (box_seen c.args.moof) _ _ _ _ c.loop-child.invariant.6 c.into_iter-child-iterator.ensures.into_iter_gives c.in_ok-child-items.ensures.holds
 
 pub returns-clause-work : goal.returns-clause-work
 returns-clause-work g c =

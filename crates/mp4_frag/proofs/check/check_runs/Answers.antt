@@ -1,6 +1,6 @@
 use Rattle.std.proofs.Common.{◌∙◌, sym, rules}
 use Rattle.mp4_boxes.specs.View.{box_seen}
-use Rattle.mp4_frag.proofs.Costs.{runs_cost_run, runs_cost_ended, runs_work_ended, runs_cost_fault}
+use Rattle.mp4_frag.proofs.Costs.{runs_cost_run, runs_cost_said, runs_cost_ended, runs_work_ended, runs_cost_fault}
 use Rattle.mp4_frag.proofs.RunsPassed.{all_children, seen_run, runs_sound, runs_ended}
 use Rattle.mp4_frag.proofs.check.check_runs.Goals as goal
 
@@ -15,7 +15,7 @@ loop-child-preserved-then-eq g c =
       r.duration,
       (λ n big base. r.bound n big base (i.5 n big base)),
       seen_run _ _ _ _ _ _ (box_seen c.in-Some.child) _ _ _ _ _ _ _ _ _ i.6 c.in-Some.ensures.steps (rw c.kind-in-loop-child.ensures at (sym c.if-eq.ensures)) (rw c.payload-then-eq.ensures at r.passed) r.more.0 r.more.1 r.few,
-      runs_cost_run _ _ _ (box_seen c.in-Some.child) _ _ _ _ _ i.7 c.in-Some.ensures.steps (rw c.tick.ensures.one_more at r.cost),
+      runs_cost_run _ _ _ (box_seen c.in-Some.child) _ _ _ _ _ i.7 c.in-Some.ensures.steps (rw c.kind-in-loop-child.ensures at (sym c.if-eq.ensures)) (rw c.tick.ensures.one_more at r.cost),
     )
 
 pub returns-clause-sound : goal.returns-clause-sound
@@ -39,7 +39,12 @@ returns-clause-lasting g c =
     (runs_ended _ _ _ _ _ _ _ _ _ _ _ c.loop-child.invariant.6 c.in-None.ensures.steps.0 (c.into_iter-child-iterator.ensures.into_iter_gives ∙ all)).2
 
 pub returns-clause-cost : goal.returns-clause-cost
-returns-clause-cost g c = runs_cost_ended _ _ _ _ _ _ _ _ _ _ c.loop-child.invariant.7 c.into_iter-child-iterator.ensures.into_iter_gives c.in_ok-child-items.ensures.tiles c.payload.ensures
+returns-clause-cost g c =
+    let all = all_children (box_seen c.args.traf) _ _ _ _ c.payload.ensures c.payload_offset.ensures c.in_ok-child-items.ensures.tiles in
+    runs_cost_said _ _ _ _ _ _ c.loop-child.invariant.7 (c.into_iter-child-iterator.ensures.into_iter_gives ∙ all)
+
+pub returns-clause-within : goal.returns-clause-within
+returns-clause-within g c = runs_cost_ended _ _ _ _ _ _ _ _ _ _ c.loop-child.invariant.7 c.into_iter-child-iterator.ensures.into_iter_gives c.in_ok-child-items.ensures.tiles c.payload.ensures
 
 pub returns-clause-work : goal.returns-clause-work
 returns-clause-work g c = runs_work_ended _ _ _ _ _ _ _ _ _ _ _ _ c.loop-child.invariant.7 c.into_iter-child-iterator.ensures.into_iter_gives c.in_ok-child-items.ensures.tiles c.payload.ensures c.loop-child.invariant.2

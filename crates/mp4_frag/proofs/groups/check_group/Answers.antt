@@ -1,3 +1,4 @@
+use Rattle.std.proofs.Common.{◌≡◌, true, false, nat_le, ap, ◌∙◌, rules}
 use Rattle.std.proofs.lemmas.Result.{err_from_is_err_and}
 use Rattle.mp4_tables.specs.Groups.{grouping_of}
 use Rattle.mp4_frag.proofs.GroupsPassed.{key_is, name_fault, index_fault, count_fault, group_sound}
@@ -9,17 +10,21 @@ returns-in_err-name-clause-fault g c =
     let r = c.in_ok-group.ensures.group in
     rw (p.1, p.2) (λ first before a. name_fault c.args.n first before c.args.payload.now c.in_ok-group.group c.in_err-name.field-0.0 r (c.in_err-name.ensures.fault first before (grouping_of c.args.payload.now) (key_is c.args.payload.now c.in_ok-group.group r) a))
 
-pub returns-then-not-are_indexes-clause-fault : goal.returns-then-not-are_indexes-clause-fault
-returns-then-not-are_indexes-clause-fault g c first before a = index_fault c.args.n first before c.args.payload.now c.in_ok-group.group c.in_ok-group.ensures.group c.if-not-are_indexes.ensures.same
+pub returns-in_default-clause-fault : goal.returns-in_default-clause-fault
+returns-in_default-clause-fault g c first before a =
+    index_fault c.args.n first before c.args.payload.now c.in_ok-group.group c.in_ok-group.ensures.group c.in_default.ensures.indexes
 
-pub returns-then-not-are_within-clause-fault : goal.returns-then-not-are_within-clause-fault
-returns-then-not-are_within-clause-fault g c first before a = count_fault c.args.n first before c.args.payload.now c.in_ok-group.group c.in_ok-group.ensures.group c.if-not-are_within.ensures.same
+pub returns-then-total-from-clause-fault : goal.returns-then-total-from-clause-fault
+returns-then-total-from-clause-fault g c first before a =
+    let more : false ≡ nat_le c.in-Some.total c.args.n = search rules in
+    count_fault c.args.n first before c.args.payload.now c.in_ok-group.group c.in_ok-group.ensures.group (more ∙ ap (λ m. nat_le m c.args.n) c.in-Some.ensures.total)
 
 pub returns-clause-sound : goal.returns-clause-sound
 returns-clause-sound g c first before a =
     let r = c.in_ok-group.ensures.group in
     let names = c.in_ok-name.ensures.named first before (grouping_of c.args.payload.now) (key_is c.args.payload.now c.in_ok-group.group r) a in
-    group_sound c.args.n first _ before c.args.payload.now c.in_ok-group.group _ r names c.if-not-are_indexes.ensures.same c.if-not-are_within.ensures.same
+    let few : true ≡ nat_le c.in-Some.total c.args.n = search rules in
+    group_sound c.args.n first _ before c.args.payload.now c.in_ok-group.group _ r names c.in-Some.ensures.indexes (few ∙ ap (λ m. nat_le m c.args.n) c.in-Some.ensures.total)
 
 pub returns-clause-named : goal.returns-clause-named
 returns-clause-named g c first before a =

@@ -1,7 +1,9 @@
 use Rattle.mp4_frag.specs.Walks.{walk_of, reached}
-use Rattle.std.proofs.Common.{◌∙◌, sym}
+use Rattle.std.proofs.Common.{◌≡◌, ◌∙◌, sym, ap, rules, arith}
+use Rattle.mp4_frag.specs.declared.places.FragPlace.{FragPlace}
 use Rattle.mp4_frag.proofs.BoxPlaces.{box_end}
 use Rattle.mp4_frag.proofs.Comings.{leaf_other, leaves_done}
+use Rattle.mp4_frag.proofs.WalkWork.{groups_fall}
 use Rattle.mp4_frag.proofs.walk.open_traf.Goals as goal
 
 pub loop-at-preserved : goal.loop-at-preserved
@@ -9,13 +11,33 @@ loop-at-preserved c =
     let i = c.loop-at.invariant in
     let child = c.in-Some.child in
     let o = c.in-Some.ensures.order in
+    let work = i.work in
     record {
       within = o.2;
       lies = i.lies;
+      work = omega (arith, work, groups_fall c.args.payload.now c.loop-at.at child.inside child.end c.args.lying.end child.kind.0 c.in-Some.ensures.some);
       places = i.places;
       walk = i.walk;
       on = i.on;
       whole = leaf_other c.args.payload.now (walk_of c.args.moof c.args.tracks.now c.args.place) (reached c.args.payload.now c.loop-at.opened) c.loop-at.at c.args.lying.end child.inside child.end child.kind.0 c.in-Some.ensures.some (sym c.if-eq.ensures) (sym c.if-eq-2.ensures) ∙ i.whole;
+    }
+
+pub loop-at-preserved-then-eq : goal.loop-at-preserved-then-eq
+loop-at-preserved-then-eq c =
+    let i = c.loop-at.invariant in
+    let child = c.in-Some.child in
+    let o = c.in-Some.ensures.order in
+    let work = i.work in
+    let passed : c.open_head-opened.result.passed ≡ c.loop-at.opened.passed = ap (λ (p : FragPlace). p.passed) c.open_head-opened.ensures.same in
+    let left : c.open_head-opened.result.run.left ≡ c.loop-at.opened.run.left = ap (λ (p : FragPlace). p.run.left) c.open_head-opened.ensures.same in
+    record {
+      within = o.2;
+      lies = c.open_head-opened.ensures.place;
+      work = omega (arith, work, passed, left, groups_fall c.args.payload.now c.loop-at.at child.inside child.end c.args.lying.end child.kind.0 c.in-Some.ensures.some);
+      places = search rules;
+      walk = search rules;
+      on = search rules;
+      whole = search rules;
     }
 
 pub returns-clause-reached : goal.returns-clause-reached
