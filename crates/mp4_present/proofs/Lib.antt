@@ -55,3 +55,4 @@ pub mod WalkCopied
 pub mod MoofLoaded
 pub mod WalkBegun
 pub mod TrexPlaces
+pub mod WalkWork

@@ -1,0 +1,20 @@
+-- The steps of a walk: a check of each `moof` that it passes, and one way through it.
+use Rattle.std.proofs.Common.{◌≡◌, ℕ, ◌+◌, ◌≤◌, List, subst, arith}
+use Rattle.mp4_boxes.specs.Box.{Box}
+use Rattle.mp4_frag.specs.Work.{fragment_rows, fragment_length, moof_says}
+use Rattle.mp4_frag.specs.declared.state.TrackState.{TrackState}
+use Rattle.mp4_frag.proofs.WalkBound.{length_taken}
+use Rattle.mp4_present.specs.Work.{moof_steps}
+use Rattle.mp4_present.proofs.MoofTaken.{MovedBy}
+
+-- a check takes no more steps than the boxes say
+pub checked_within : (old new : List TrackState) (room less before after : ℕ) (view box : Box) → view ≡ box → MovedBy view old new room less → after + less ≤ before + room + fragment_rows (moof_says view) → after ≤ before + moof_steps box
+unfolding moof_steps
+checked_within old new room less before after view box e m cost =
+    let taken = length_taken old new view room less m in
+    subst (λ (b : Box). after ≤ before + (fragment_rows (moof_says b) + fragment_length (moof_says b))) e (omega (arith, taken, cost))
+
+-- nor is a place in it farther
+pub place_within : (moof : Box) (payload : List ℕ) (n : ℕ) → payload ≡ moof.payload → ((b : Box) → payload ≡ b.payload → n ≤ fragment_rows (moof_says b) + fragment_length (moof_says b)) → n ≤ moof_steps moof
+unfolding moof_steps
+place_within moof payload n e said = said moof e
