@@ -1,10 +1,14 @@
 -- The steps of a walk, and of the checks of the `moof`s that it passes.
-use Rattle.std.specs.Prelude.{ℕ, ◌+◌, List}
+use Rattle.std.specs.Prelude.{ℕ, ◌+◌, ◌-◌, ◌*◌, ◌≤◌, List, Bool, true, false}
 use Rattle.mp4_boxes.specs.Bytes.{sum_of}
 use Rattle.mp4_boxes.specs.Box.{Box}
 use Rattle.mp4_tables.specs.Accepted.{passed}
 use Rattle.mp4_frag.specs.Fragments.{FragmentTree}
 use Rattle.mp4_frag.specs.Work.{fragment_rows, fragment_length, moof_says}
+use Rattle.mp4_head.specs.Tree.{TrackTree}
+use Rattle.mp4_present.specs.Denotes.{FileTree}
+use Rattle.mp4_present.specs.Coming.{StandsBefore, moof_box}
+use Rattle.mp4_present.specs.declared.walks.Walk.{Walk}
 use Rattle.mp4_present.specs.declared.in_hand.Place.{Place}
 use Rattle.mp4_present.specs.declared.in_hand.Place.TheVariants as places
 
@@ -20,3 +24,13 @@ moof_steps moof = fragment_rows (moof_says moof) + fragment_length (moof_says mo
 -- the same of all of these
 abbrev pub moofs_steps : List FragmentTree → ℕ
 moofs_steps moofs = sum_of (λ (t : FragmentTree). moof_steps t.moof) moofs
+
+-- The walk stands before these `moof`s, and so many steps were taken: for each of those that it passed no more than twice what its boxes say.
+abbrev pub PassesWithin : List ℕ → FileTree → TrackTree → List FragmentTree → Walk → ℕ → ℕ → Type 0
+PassesWithin file tree t later w old new =
+    (earlier left : List FragmentTree) × (StandsBefore file tree t earlier left w × (new + 2 * moofs_steps left ≤ old + 2 * moofs_steps later))
+
+-- The same where the next `moof` with samples of the track was loaded, or there is none: of the one in hand, the way from the walk's place on was not taken.
+abbrev pub LoadsWithin : List ℕ → FileTree → TrackTree → List FragmentTree → Walk → ℕ → ℕ → Bool → Type 0
+LoadsWithin file tree t later w old new true = PassesWithin file tree t later w old (new + (moof_steps (moof_box w) - steps_to w.place)) × (steps_to w.place ≤ moof_steps (moof_box w))
+LoadsWithin file tree t later w old new false = PassesWithin file tree t later w old new

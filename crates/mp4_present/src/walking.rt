@@ -6,7 +6,7 @@ ghost use Rattle.mp4_head.specs.Tree.{TrackTree};
 ghost use Rattle.mp4_present.specs.Denotes.{FileTree};
 ghost use Rattle.mp4_present.specs.OpenedMovie.{IsOpenedAs};
 ghost use Rattle.mp4_present.specs.Coming.{track_samples, samples_behind, StandsBefore, Comes, HoldsNext, Takes, Loads, due_of, moof_box};
-ghost use Rattle.mp4_present.specs.Work.{steps_to, moof_steps};
+ghost use Rattle.mp4_present.specs.Work.{steps_to, moof_steps, LoadsWithin};
 ghost use Rattle.mp4_boxes.specs.declared.refusal.Refusal.TheVariants as refusals;
 ghost use Rattle.mp4_present.specs.InHand.{left_in_hand};
 ghost use Rattle.mp4_present.specs.Movies.{Fills, GoesOn, IsWalkOf, StatesFor, InHandOf, RefusesLoad};
@@ -151,6 +151,8 @@ impl Walk {
             → IfErr result (λ r. r ≡ refusals.StoreChanged → ⊥) }
         ensures ended { IsTrue (S.is_honest store.old) → (tree : FileTree) (t : TrackTree) (earlier later : List FragmentTree) (hand : InHand) → IsOpenedAs (S.file store.old) movie.now tree → StandsBefore (S.file store.old) tree t earlier later self.old
             → InHandOf movie.now self.old hand → left_in_hand hand ≡ [] → IfOk result (λ more. more ≡ false → Comes (S.file store.old) tree t movie.now self.new []) }
+        ensures work { IsTrue (S.is_honest store.old) → (tree : FileTree) (t : TrackTree) (earlier later : List FragmentTree) → IsOpenedAs (S.file store.old) movie.now tree → StandsBefore (S.file store.old) tree t earlier later self.old
+            → IfOk result (λ more. LoadsWithin (S.file store.old) tree t later self.new steps.old steps.new more) }
         ensures next { IfOk result (λ more. IsTrue more → (self.old.next < self.new.next) × (self.new.next ≤ length (S.file store.old))) }
         ensures reads { OnOk result (S.read_failures store.new ≡ S.read_failures store.old) }
         ensures refusal { IfErr result (RefusesLoad (S.read_failures store.old) (S.read_failures store.new)) }
