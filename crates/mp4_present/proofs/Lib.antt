@@ -56,3 +56,4 @@ pub mod MoofLoaded
 pub mod WalkBegun
 pub mod TrexPlaces
 pub mod WalkWork
+pub mod ChecksCounted

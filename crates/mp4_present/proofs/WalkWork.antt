@@ -1,5 +1,5 @@
 -- The steps of a walk: a check of each `moof` that it passes, and one way through it.
-use Rattle.std.proofs.Common.{◌≡◌, ℕ, ◌+◌, ◌*◌, ◌≤◌, Bool, true, List, [], ◌∷◌, ◌++◌, ap, sym, subst, ◌∙◌, arith}
+use Rattle.std.proofs.Common.{◌≡◌, ℕ, ◌+◌, ◌*◌, ◌≤◌, Bool, true, List, [], ◌∷◌, ◌++◌, ap, sym, subst, ◌∙◌, arith, mul-le-mul_right}
 use Rattle.mp4_boxes.specs.Box.{Box}
 use Rattle.mp4_frag.specs.Work.{fragment_rows, fragment_length, moof_says}
 use Rattle.mp4_frag.specs.declared.state.TrackState.{TrackState}
@@ -46,3 +46,11 @@ module _ (file : List ℕ) (tree : FileTree) (t : TrackTree) (m : MovieSeen) (ea
   pub loads_next : moof_box now ≡ moof_box w → LoadsWithin file tree t later now old after true
   loads_next same =
       let box = ap moof_steps same in ((earlier ++ next ∷ [], more, (takes.1.0, omega (arith, steps, way, work, all_left, box))), omega (arith, way, box))
+
+-- ---- as many turns, each of no more steps
+
+pub one_more : (each k start before after : ℕ) → before ≤ start + k * each → after ≤ before + each → after ≤ start + (k + 1) * each
+one_more each k start before after h more = omega (arith, h, more)
+
+pub all_turns : (each k n start now : ℕ) → k ≤ n → now ≤ start + k * each → now ≤ start + n * each
+all_turns each k n start now few h = let all = mul-le-mul_right each few in omega (arith, h, all)

@@ -1,7 +1,9 @@
 -- The steps of a walk, and of the checks of the `moof`s that it passes.
-use Rattle.std.specs.Prelude.{ℕ, ◌+◌, ◌-◌, ◌*◌, ◌≤◌, List, Bool, true, false}
+use Rattle.std.specs.Prelude.{ℕ, ◌+◌, ◌-◌, ◌*◌, ◌≤◌, List, Bool, true, false, codes}
 use Rattle.mp4_boxes.specs.Bytes.{sum_of}
-use Rattle.mp4_boxes.specs.Box.{Box}
+use Rattle.mp4_boxes.specs.Box.{Box, file_container}
+use Rattle.mp4_boxes.specs.Children.{Holds, of_kind}
+use Rattle.mp4_boxes.specs.declared.rule.Rule.TheVariants.{File}
 use Rattle.mp4_tables.specs.Accepted.{passed}
 use Rattle.mp4_frag.specs.Fragments.{FragmentTree}
 use Rattle.mp4_frag.specs.Work.{fragment_rows, fragment_length, moof_says}
@@ -25,6 +27,9 @@ moof_steps moof = fragment_rows (moof_says moof) + fragment_length (moof_says mo
 abbrev pub moofs_steps : List FragmentTree → ℕ
 moofs_steps moofs = sum_of (λ (t : FragmentTree). moof_steps t.moof) moofs
 
+abbrev pub boxes_steps : List Box → ℕ
+boxes_steps moofs = sum_of moof_steps moofs
+
 -- The walk stands before these `moof`s, and so many steps were taken: for each of those that it passed no more than twice what its boxes say.
 abbrev pub PassesWithin : List ℕ → FileTree → TrackTree → List FragmentTree → Walk → ℕ → ℕ → Type 0
 PassesWithin file tree t later w old new =
@@ -34,3 +39,7 @@ PassesWithin file tree t later w old new =
 abbrev pub LoadsWithin : List ℕ → FileTree → TrackTree → List FragmentTree → Walk → ℕ → ℕ → Bool → Type 0
 LoadsWithin file tree t later w old new true = PassesWithin file tree t later w old (new + (moof_steps (moof_box w) - steps_to w.place)) × (steps_to w.place ≤ moof_steps (moof_box w))
 LoadsWithin file tree t later w old new false = PassesWithin file tree t later w old new
+
+-- So many steps were taken of a file with these boxes, and for each of its `moof`s no more than so many times what it says.
+abbrev pub ChecksWithin : ℕ → List ℕ → ℕ → ℕ → Type 0
+ChecksWithin times file old new = (boxes : List Box) → Holds File (file_container file) boxes → new ≤ old + times * boxes_steps (of_kind (codes "moof") boxes)
