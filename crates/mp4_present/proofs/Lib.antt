@@ -57,3 +57,4 @@ pub mod WalkBegun
 pub mod TrexPlaces
 pub mod WalkWork
 pub mod ChecksCounted
+pub mod TablesWork

@@ -4,12 +4,13 @@ use Rattle.mp4_boxes.specs.Bytes.{sum_of}
 use Rattle.mp4_boxes.specs.Box.{Box, file_container}
 use Rattle.mp4_boxes.specs.Children.{Holds, of_kind}
 use Rattle.mp4_boxes.specs.declared.rule.Rule.TheVariants.{File}
-use Rattle.mp4_tables.specs.Accepted.{passed}
+use Rattle.mp4_tables.specs.Accepted.{passed, rows_in}
 use Rattle.mp4_frag.specs.Fragments.{FragmentTree}
 use Rattle.mp4_frag.specs.Work.{fragment_rows, fragment_length, moof_says}
 use Rattle.mp4_head.specs.Tree.{TrackTree}
 use Rattle.mp4_present.specs.Denotes.{FileTree}
 use Rattle.mp4_present.specs.Coming.{StandsBefore, moof_box}
+use Rattle.mp4_present.specs.declared.movie.TrackTables.{TrackTables}
 use Rattle.mp4_present.specs.declared.walks.Walk.{Walk}
 use Rattle.mp4_present.specs.declared.in_hand.Place.{Place}
 use Rattle.mp4_present.specs.declared.in_hand.Place.TheVariants as places
@@ -43,3 +44,7 @@ LoadsWithin file tree t later w old new false = PassesWithin file tree t later w
 -- So many steps were taken of a file with these boxes, and for each of its `moof`s no more than so many times what it says.
 abbrev pub ChecksWithin : ℕ → List ℕ → ℕ → ℕ → Type 0
 ChecksWithin times file old new = (boxes : List Box) → Holds File (file_container file) boxes → new ≤ old + times * boxes_steps (of_kind (codes "moof") boxes)
+
+-- a check of tables and a walk over their samples: each row and each sample, as often as both of them look at it
+unfoldable pub tables_steps : List TrackTables → ℕ
+tables_steps tables = sum_of (λ (t : TrackTables). 7 * rows_in t.tables + 5 * t.tables.sizes.rows.count) tables
