@@ -55,3 +55,6 @@ pub mod WalkCopied
 pub mod MoofLoaded
 pub mod WalkBegun
 pub mod TrexPlaces
+pub mod WalkWork
+pub mod ChecksCounted
+pub mod TablesWork

@@ -204,7 +204,7 @@ pub record IsRead (file : List ℕ) (top : TopBox) (m : Box) (bytes : List ℕ) 
   pub of_bytes : AreBytes bytes
 
 -- it is the one in the file
-read_is : (file : List ℕ) (top : TopBox) (m : Box) (bytes : List ℕ) (len : ℕ) → IsRead file top m bytes len → m ≡ box_at file top
+pub read_is : (file : List ℕ) (top : TopBox) (m : Box) (bytes : List ℕ) (len : ℕ) → IsRead file top m bytes len → m ≡ box_at file top
 read_is file top m bytes len r =
     let within = r.within in
     let n : length (take len bytes) ≡ len = omega (arith, length-take len bytes, within) in

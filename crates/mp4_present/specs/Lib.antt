@@ -16,3 +16,4 @@ pub mod Measured
 pub mod Passing
 pub mod Coming
 pub mod PassedMoofs
+pub mod Work

@@ -1,5 +1,5 @@
 //! The `moof`s of a file, each read, checked and given up before the next.
-ghost use Rattle.std.specs.Prelude.{ℕ, ◌≡◌, ◌^◌, ◌-◌, ◌<◌, ◌≤◌, ◌++◌, min, List, length, IfOk, IfErr, OnOk, IsTrue};
+ghost use Rattle.std.specs.Prelude.{ℕ, ◌≡◌, ◌+◌, ◌*◌, ◌^◌, ◌-◌, ◌<◌, ◌≤◌, ◌++◌, min, List, length, IfOk, IfErr, OnOk, IsTrue};
 ghost use Rattle.mp4_boxes.specs.Bytes.{sum_of};
 ghost use Rattle.mp4_tables.specs.PlainSamples.{PlacedSample};
 ghost use Rattle.mp4_frag.specs.Fragments.{FragmentTree, fragment_of};
@@ -12,6 +12,7 @@ ghost use Rattle.mp4_boxes.specs.Box.{Box};
 ghost use Rattle.mp4_present.specs.PassedMoofs.{AreCounted, CountsOne, IsBegun, IsCheckedMoof, IsPassed, RefusesFragments};
 ghost use Rattle.mp4_frag.specs.States.{HaveRoom};
 ghost use Rattle.mp4_present.specs.Opening.{HasOutline};
+ghost use Rattle.mp4_present.specs.Work.{moof_steps, ChecksWithin};
 
 use crate::fragments::next_fragment;
 use crate::outline::Outline;
@@ -34,8 +35,9 @@ pub(crate) struct AllTracks {
 
 // The bytes of the samples that the track with this ID has in a `moof`.
 fn bytes_in<L: Ledger>(view: &FragView, states: &[TrackState], id: u32, steps: &mut Steps<L>) -> u64
-    ensures { (file_length : ℕ) (trexes : List Trex) (t : FragmentTree) → t.moof ≡ moof_seen view.now → IsSoundMoof file_length trexes states.now t → AreTrexesOf trexes states.now → duration_of (samples_of_track trexes id t) < 2 ^ 64
+    ensures bytes { (file_length : ℕ) (trexes : List Trex) (t : FragmentTree) → t.moof ≡ moof_seen view.now → IsSoundMoof file_length trexes states.now t → AreTrexesOf trexes states.now → duration_of (samples_of_track trexes id t) < 2 ^ 64
         → result ≡ min (sum_of (λ (s : PlacedSample). s.size) (samples_of_track trexes id t)) (2 ^ 64 - 1) }
+    ensures work { steps.new ≤ steps.old + moof_steps (moof_seen view.now) }
 {
     let mut cursor = FragCursor::start(view, states, id, 0, Keys::new());
     let totals = add_up(&mut cursor);
@@ -51,7 +53,8 @@ fn counted_with<L: Ledger>(
     counted: Counted,
     steps: &mut Steps<L>,
 ) -> Counted
-    ensures { (file_length : ℕ) → CountsOne file_length states.now (moof_seen view.now) state counted result }
+    ensures counts { (file_length : ℕ) → CountsOne file_length states.now (moof_seen view.now) state counted result }
+    ensures work { steps.new ≤ steps.old + moof_steps (moof_seen view.now) }
 {
     if state.count == counted.samples {
         return counted;
@@ -71,8 +74,9 @@ fn count_samples<L: Ledger>(
     steps: &mut Steps<L>,
 )
     requires { length counted.old ≡ length states.now }
-    ensures { (file_length : ℕ) (movie : MovieTree) (parts : List Part) (t : FragmentTree) → IsCheckedMoof file_length movie parts t (moof_seen view.now) states.now → AreCounted movie.tracks parts counted.old
+    ensures counts { (file_length : ℕ) (movie : MovieTree) (parts : List Part) (t : FragmentTree) → IsCheckedMoof file_length movie parts t (moof_seen view.now) states.now → AreCounted movie.tracks parts counted.old
         → AreCounted movie.tracks (parts ++ parts_of (trexes_of movie) (fragment_of t)) counted.new }
+    ensures work { steps.new ≤ steps.old + length counted.old * moof_steps (moof_seen view.now) }
 {
     for k in 0..counted.len() {
         let old = counted[k];
@@ -98,6 +102,7 @@ fn pass_fragments<S: Store, L: Ledger>(
     ensures honesty { S.is_honest store.new ≡ S.is_honest store.old }
     ensures file { S.file store.new ≡ S.file store.old }
     ensures passed { OnOk result (IsTrue (S.is_honest store.old) → (movie : MovieTree) (boxes : List Box) → IsBegun (S.file store.old) movie boxes states.old counted.old room → IsPassed (S.file store.old) movie boxes states.new counted.new) }
+    ensures work { OnOk result (IsTrue (S.is_honest store.old) → ChecksWithin (length counted.old + 1) (S.file store.old) steps.old steps.new) }
     ensures reads { OnOk result (S.read_failures store.new ≡ S.read_failures store.old) }
     ensures refusal { IfErr result (RefusesFragments (S.is_honest store.old) (S.file store.old) states.old counted.old room (S.read_failures store.old) (S.read_failures store.new)) }
 {
@@ -132,6 +137,7 @@ pub(crate) fn check_fragments<S: Store, L: Ledger>(
     ensures file { S.file store.new ≡ S.file store.old }
     ensures passed { IfOk result (λ all. IsTrue (S.is_honest store.old) → (movie : MovieTree) (boxes : List Box) → IsBegun (S.file store.old) movie boxes plain.now.states.items plain.now.counted.items plain.now.room
         → IsPassed (S.file store.old) movie boxes all.states.items all.counted.items) }
+    ensures work { OnOk result (IsTrue (S.is_honest store.old) → ChecksWithin (length plain.now.counted.items + 1) (S.file store.old) steps.old steps.new) }
     ensures reads { OnOk result (S.read_failures store.new ≡ S.read_failures store.old) }
     ensures refusal { IfErr result (RefusesFragments (S.is_honest store.old) (S.file store.old) plain.now.states.items plain.now.counted.items plain.now.room (S.read_failures store.old) (S.read_failures store.new)) }
 {

@@ -12,8 +12,13 @@ pub enum Place {
 }
 
 impl Place {
+    ghost use Rattle.std.specs.Prelude.{◌≡◌};
+    ghost use Rattle.mp4_present.specs.Work.{steps_to};
+
     /// How many steps a cursor took to come here.
-    pub(crate) fn passed(&self) -> u64 {
+    pub(crate) fn passed(&self) -> u64
+        ensures { result ≡ steps_to self.now }
+    {
         match self {
             Place::Tables(place) => place.passed(),
             Place::Fragment(place) => place.passed(),

@@ -1,11 +1,12 @@
 //! How a walk begins and goes on.
-ghost use Rattle.std.specs.Prelude.{ℕ, ◌≡◌, ◌<◌, ◌≤◌, List, [], length, false, Some, slice_get, IfOk, IfErr, OnOk, IsTrue, IsOkAnd};
+ghost use Rattle.std.specs.Prelude.{ℕ, ◌≡◌, ◌+◌, ◌-◌, ◌<◌, ◌≤◌, List, [], length, false, Some, slice_get, IfOk, IfErr, OnOk, IsTrue, IsOkAnd};
 ghost use Rattle.mp4_frag.specs.Fragments.{FragmentTree};
 ghost use Rattle.mp4_frag.specs.Judged.{track_seen};
 ghost use Rattle.mp4_head.specs.Tree.{TrackTree};
 ghost use Rattle.mp4_present.specs.Denotes.{FileTree};
 ghost use Rattle.mp4_present.specs.OpenedMovie.{IsOpenedAs};
-ghost use Rattle.mp4_present.specs.Coming.{track_samples, samples_behind, StandsBefore, Comes, HoldsNext, Takes, Loads, due_of};
+ghost use Rattle.mp4_present.specs.Coming.{track_samples, samples_behind, StandsBefore, Comes, HoldsNext, Takes, Loads, due_of, moof_box};
+ghost use Rattle.mp4_present.specs.Work.{steps_to, moof_steps, LoadsWithin};
 ghost use Rattle.mp4_boxes.specs.declared.refusal.Refusal.TheVariants as refusals;
 ghost use Rattle.mp4_present.specs.InHand.{left_in_hand};
 ghost use Rattle.mp4_present.specs.Movies.{Fills, GoesOn, IsWalkOf, StatesFor, InHandOf, RefusesLoad};
@@ -91,7 +92,8 @@ impl Walk {
 
     /// The walk goes on from a place of what is in hand. The steps to there are counted.
     pub fn keep<L: Ledger>(&mut self, place: Place, steps: &mut Steps<L>)
-        ensures { self.new ≡ record self.old { place = place } }
+        ensures place { self.new ≡ record self.old { place = place } }
+        ensures work { steps.new ≡ steps.old + (steps_to place - steps_to self.old.place) }
     {
         steps.add(place.passed().saturating_sub(self.place.passed()));
         self.place = place;
@@ -109,6 +111,9 @@ impl Walk {
         ensures refusal { IfErr result (λ r. r ≡ refusals.StoreChanged) }
         ensures taken { (file : List ℕ) (tree : FileTree) (t : TrackTree) (earlier later : List FragmentTree) (next : FragmentTree) → IsOpenedAs file movie.now tree → HoldsNext file tree t earlier next later self.old
             → IsOkAnd result (λ some. Takes file tree t earlier next later movie.now self.new some) }
+        ensures moof { OnOk result (moof_box self.new ≡ moof_box self.old) }
+        ensures way { OnOk result (steps_to self.new.place ≤ moof_steps (moof_box self.old)) }
+        ensures work { OnOk result (steps.new ≤ steps.old + moof_steps (moof_box self.old) + steps_to self.new.place) }
     {
         let before = self.states[self.track];
         let moof = self.moof.view(&self.bytes[..self.used]);
@@ -123,6 +128,7 @@ impl Walk {
         let cursor = FragCursor::start(&view, movie.states(), after.id, due, info.keys);
         let has_samples = cursor.peek().is_some();
         self.place = Place::Fragment(cursor.place());
+        steps.add(self.place.passed());
         Ok(has_samples)
     }
 
@@ -145,6 +151,8 @@ impl Walk {
             → IfErr result (λ r. r ≡ refusals.StoreChanged → ⊥) }
         ensures ended { IsTrue (S.is_honest store.old) → (tree : FileTree) (t : TrackTree) (earlier later : List FragmentTree) (hand : InHand) → IsOpenedAs (S.file store.old) movie.now tree → StandsBefore (S.file store.old) tree t earlier later self.old
             → InHandOf movie.now self.old hand → left_in_hand hand ≡ [] → IfOk result (λ more. more ≡ false → Comes (S.file store.old) tree t movie.now self.new []) }
+        ensures work { IsTrue (S.is_honest store.old) → (tree : FileTree) (t : TrackTree) (earlier later : List FragmentTree) → IsOpenedAs (S.file store.old) movie.now tree → StandsBefore (S.file store.old) tree t earlier later self.old
+            → IfOk result (λ more. LoadsWithin (S.file store.old) tree t later self.new steps.old steps.new more) }
         ensures next { IfOk result (λ more. IsTrue more → (self.old.next < self.new.next) × (self.new.next ≤ length (S.file store.old))) }
         ensures reads { OnOk result (S.read_failures store.new ≡ S.read_failures store.old) }
         ensures refusal { IfErr result (RefusesLoad (S.read_failures store.old) (S.read_failures store.new)) }

@@ -46,7 +46,7 @@ loop-stretch-preserved g c =
 pub returns-clause-walk : goal.returns-clause-walk
 returns-clause-walk g c =
     let i = c.loop-stretch.invariant in
-    rw c.keep.ensures (kept_on c.args.movie.now c.args.walk.now i.first _ c.place-place.result (search rules) i.is (follows_on _ _ _ i.later c.next_stretch.ensures.later) c.place-place.ensures)
+    rw c.keep.ensures.place (kept_on c.args.movie.now c.args.walk.now i.first _ c.place-place.result (search rules) i.is (follows_on _ _ _ i.later c.next_stretch.ensures.later) c.place-place.ensures)
 
 pub returns-in_err-carry_stretch-clause-prefix : goal.returns-in_err-carry_stretch-clause-prefix
 returns-in_err-carry_stretch-clause-prefix g c =
@@ -66,7 +66,7 @@ returns-clause-bytes g c =
     λ honest. (i.first, i.is, hand_all (g.S.Store.file c.args.store.now) _ _ (waiting c.args.carrier.now) (waiting c.loop-stretch.carrier) (left_in_hand i.first) (left_in_hand c.loop-stretch.hand) (i.bytes honest) (search rules))
 
 pub returns-clause-stands : goal.returns-clause-stands
-returns-clause-stands g c file tree t earlier later s = rw c.keep.ensures (kept_before file tree t earlier later c.args.walk.now c.place-place.result s)
+returns-clause-stands g c file tree t earlier later s = rw c.keep.ensures.place (kept_before file tree t earlier later c.args.walk.now c.place-place.result s)
 
 pub returns-clause-unchanged : goal.returns-clause-unchanged
 returns-clause-unchanged g c =

@@ -1,10 +1,11 @@
-use Rattle.std.proofs.Common.{◌≡◌, rules, length, refl, subst, ℕ}
+use Rattle.std.proofs.Common.{◌≡◌, ◌+◌, rules, length, refl, subst, ℕ}
 use Rattle.std.specs.Prelude.{unwrap_or}
 use Rattle.std.proofs.lemmas.Result.{err_from_is_err_and}
 use Rattle.mp4_present.proofs.FragmentPass.{Left, left_first, left_next}
 use Rattle.mp4_present.proofs.MoofsPassed.{IsUnderWay, IsRead, under_way_first, not_read, all_passed, next_passed, next_refused}
 use Rattle.mp4_boxes.specs.View.{box_seen}
 use Rattle.mp4_frag.specs.Views.{moof_seen}
+use Rattle.mp4_present.proofs.ChecksCounted.{within_first, next_within, within_all}
 use Rattle.mp4_present.proofs.fragment_pass.pass_fragments.Goals as goal
 
 pub loop-top-init : goal.loop-top-init
@@ -28,6 +29,13 @@ loop-top-init g c = record {
       let outline = c.args.outline.now in
       let next : unwrap_or outline.fragments (length file) ≡ c.unwrap_or-next.result = search rules in
       subst (λ (k : ℕ). IsUnderWay file movie boxes k outline.longest c.args.states.now c.args.counted.now c.args.room) next (under_way_first file movie boxes o.0 outline c.args.states.now c.args.counted.now c.args.room o.1 o.3 b);
+  counted = refl;
+  work = λ told.
+      let o = c.requires.outline told in
+      let file = g.S.Store.file c.args.store.now in
+      let outline = c.args.outline.now in
+      let next : unwrap_or outline.fragments (length file) ≡ c.unwrap_or-next.result = search rules in
+      within_first (length c.args.counted.now + 1) file o.0 outline _ _ o.1 o.3 next;
 }
 
 pub returns-in_err-len-clause-refusal : goal.returns-in_err-len-clause-refusal
@@ -66,7 +74,20 @@ loop-top-preserved g c =
           } in
           next_passed file movie boxes c.loop-top.next c.args.outline.now.longest c.args.states.now c.loop-top.states c.args.counted.now c.loop-top.counted c.args.room c.loop-top.room b u c.in-Some.top within.0 (next told u.left.boxes u.left.are_from)
           (box_seen c.view-moof.result) c.read_payload.new.room c.in_ok-len.len c.len-file_len.result r c.len-file_len.ensures
-          (moof_seen c.in_ok-view.view) c.check_moof.new.tracks c.count_samples.new.counted c.check_moof.new.room c.in_ok-view.ensures.view c.in_ok-view.ensures.sound c.in_ok-view.ensures.same c.in_ok-view.ensures.moved c.in_ok-view.ensures.room c.count_samples.ensures;
+          (moof_seen c.in_ok-view.view) c.check_moof.new.tracks c.count_samples.new.counted c.check_moof.new.room c.in_ok-view.ensures.view c.in_ok-view.ensures.sound c.in_ok-view.ensures.same c.in_ok-view.ensures.moved c.in_ok-view.ensures.room c.count_samples.ensures.counts;
+      counted = search rules;
+      work = λ told all h.
+          let u = i.work told all h in
+          let r : IsRead file c.in-Some.top (box_seen c.view-moof.result) c.read_payload.new.room c.in_ok-len.len = record {
+            is = c.view-moof.ensures;
+            fills = c.in_ok-len.ensures.fills.0;
+            within = c.in_ok-len.ensures.fills.1;
+            read = (rw (c.in_ok-top.ensures.honesty, i.honesty, c.in_ok-top.ensures.file, i.file) at c.in_ok-len.ensures.bytes) told;
+            of_bytes = c.in_ok-len.ensures.room;
+          } in
+          let e = c.in_ok-view.ensures in
+          next_within (length c.args.counted.now) file c.loop-top.next c.in-Some.top all within.0 u.0 u.1.0 (next told u.0 u.1.0) (box_seen c.view-moof.result) (moof_seen c.in_ok-view.view) c.read_payload.new.room c.in_ok-len.len r e.view
+          _ _ _ _ _ _ _ _ _ e.moved e.cost c.count_samples.ensures.work i.counted u.1.1;
     }
 
 pub returns-in_err-view-clause-refusal : goal.returns-in_err-view-clause-refusal
@@ -94,3 +115,6 @@ returns-clause-passed g c = λ told movie boxes b.
     let u = i.so told movie boxes b in
     let file = g.S.Store.file c.args.store.now in
     all_passed file movie boxes c.loop-top.next c.args.outline.now.longest c.loop-top.states c.loop-top.counted c.loop-top.room u ((rw (i.honesty, i.file, c.in_default.is) at c.in_ok-top.ensures.next) told u.left.boxes u.left.are_from)
+
+pub returns-clause-work : goal.returns-clause-work
+returns-clause-work g c = λ told all h. within_all (length c.args.counted.now + 1) all _ _ _ (c.loop-top.invariant.work told all h).1.1

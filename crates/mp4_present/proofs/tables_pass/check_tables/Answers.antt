@@ -1,4 +1,4 @@
-use Rattle.std.proofs.Common.{ℕ, drop, subst}
+use Rattle.std.proofs.Common.{ℕ, drop, subst, rules, arith}
 use Rattle.mp4_boxes.specs.View.{box_seen}
 use Rattle.mp4_present.specs.Plain.{HasTablesIn, HaveTablesIn}
 use Rattle.mp4_present.proofs.PlainLists.{from_next, next_of}
@@ -7,7 +7,7 @@ use Rattle.mp4_present.proofs.TracksPassed.{passed_more, passed_all, passed_refu
 use Rattle.mp4_present.proofs.tables_pass.check_tables.Goals as goal
 
 pub loop-track-init : goal.loop-track-init
-loop-track-init g c = (c.none-plain.ensures.plain _, rw c.deref-track-items.ensures.value c.requires.inside, λ trees a. c.none-plain.ensures.says _ _ _)
+loop-track-init g c = (c.none-plain.ensures.plain _, rw c.deref-track-items.ensures.value c.requires.inside, λ trees a. c.none-plain.ensures.says _ _ _, search rules)
 
 pub loop-track-preserved : goal.loop-track-preserved
 loop-track-preserved g c =
@@ -15,6 +15,7 @@ loop-track-preserved g c =
       c.in_ok-push.ensures.one_more _ i.0,
       subst (λ (k : ℕ). HaveTablesIn (box_seen c.args.moov) (drop k c.deref-track-items.result.now)) (next_of c.loop-track.track-index) (from_next (HasTablesIn (box_seen c.args.moov)) c.deref-track-items.result.now c.loop-track.track-index i.1),
       passed_more _ _ _ _ _ _ i.2 c.track-item.result c.push.new.self c.loop-track-test.true c.track-item.is (rw c.deref.ensures.value at c.in_ok-push.ensures.says),
+      (let more = c.in_ok-push.ensures.work in let some = i.3 in omega (arith, more, some)),
     )
 
 pub returns-in_err-push-clause-refusal : goal.returns-in_err-push-clause-refusal

@@ -8,6 +8,7 @@ use Rattle.mp4_boxes.specs.Bytes.{AreBytes}
 use Rattle.mp4_present.proofs.PlainLists.{lie_in, plain_more}
 use Rattle.mp4_present.proofs.TablesKept.{IsRead, tables_are, state_is, counted_are, tables_more, table_fails}
 use Rattle.mp4_boxes.specs.View.{box_seen}
+use Rattle.mp4_present.proofs.TablesWork.{tables_within}
 use Rattle.mp4_present.proofs.tables_pass.PlainTracks.push.Goals as goal
 
 pub returns-clause-one_more : goal.returns-clause-one_more
@@ -56,3 +57,8 @@ pub returns-in_err-tables-clause-refusal : goal.returns-in_err-tables-clause-ref
 returns-in_err-tables-clause-refusal g c =
     let p = err_from_is_err_and c.from_residual.result c.from_residual.ensures.1 in
     rw (p.1, p.2) (λ t i. table_fails _ _ _ c.args.track.now t c.in_err-tables.field-0.0 i (subst AreBytes c.payload.ensures c.length_of-len.ensures.bytes) c.description_count-descriptions.ensures c.in_err-tables.ensures.fault)
+
+pub returns-clause-work : goal.returns-clause-work
+returns-clause-work g c =
+    let t : TrackTables = record { place = c.payload_offset.result - c.payload_offset-2.result; len = c.length_of-len.result; tables = c.places.result } in
+    tables_within c.args.self.now.tables.items c.push.new.self.items t c.in_ok-tables.tables _ c.place.result _ _ _ c.in_ok-push.ensures.items c.places.ensures.at (c.add_up-totals.ensures.later.0 ∙ c.start-cursor.ensures.tables) c.place.ensures.place c.in_ok-tables.ensures.passed (search rules)

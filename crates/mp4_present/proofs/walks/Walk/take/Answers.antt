@@ -10,6 +10,7 @@ use Rattle.mp4_present.specs.declared.walks.Walk.{Walk}
 use Rattle.mp4_present.specs.declared.in_hand.InHand.TheVariants as hands
 use Rattle.mp4_present.specs.declared.in_hand.Place.TheVariants as places
 use Rattle.mp4_present.proofs.MoofTaken.{not_refused, as_many, stands_behind, taken, at_place, fails_like, sound_like, moved_like, none_left}
+use Rattle.mp4_present.proofs.WalkWork.{checked_within, place_within}
 use Rattle.mp4_present.proofs.walks.Walk.take.Goals as goal
 
 pub returns-in_default-clause-taken : goal.returns-in_default-clause-taken
@@ -55,3 +56,17 @@ returns-clause-taken g c file tree t earlier later next o h =
         none_left _ c.peek.result c.is_some-has_samples.result c.is_some-has_samples.ensures c.peek.ensures,
       ),
     )
+
+pub returns-clause-way : goal.returns-clause-way
+returns-clause-way g c =
+    let view : box_seen c.view-moof.result ≡ moof_box c.args.self.now = rw c.deref.ensures.value at c.view-moof.ensures in
+    let seen : moof_seen c.in-Ok.view ≡ moof_box c.args.self.now = c.in-Ok.ensures.view ∙ view in
+    place_within (moof_box c.args.self.now) _ _ (c.start-cursor.ensures.payload ∙ ap (λ (b : Box). b.payload) seen) c.place.ensures.said
+
+pub returns-clause-work : goal.returns-clause-work
+returns-clause-work g c =
+    let view : box_seen c.view-moof.result ≡ moof_box c.args.self.now = rw c.deref.ensures.value at c.view-moof.ensures in
+    let cost = checked_within _ _ _ _ _ _ _ _ view c.in-Ok.ensures.moved c.in-Ok.ensures.cost in
+    let way = c.passed.ensures in
+    let more = c.add.ensures in
+    omega (arith, cost, way, more)
