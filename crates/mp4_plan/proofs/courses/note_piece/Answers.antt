@@ -26,7 +26,7 @@ returns-in-Ended-clause-planned g c told tree t samples o h =
     let i = c.loop-planner.invariant in
     let file = g.S.Store.file c.args.store.now in
     let fed = (rw c.in-Ended.is at c.note_hand-hand.ensures.fed).0 in
-    let r = hand_ended file c.args.movie.now c.args.walk.now c.loop-planner.walk c.keep.new.self _ _ c.loop-planner.planner c.note_hand-hand.new.planner c.note_hand-hand.result.place (i.fed told) fed c.keep.ensures tree t samples o h in
+    let r = hand_ended file c.args.movie.now c.args.walk.now c.loop-planner.walk c.keep.new.self _ _ c.loop-planner.planner c.note_hand-hand.new.planner c.note_hand-hand.result.place (i.fed told) fed c.keep.ensures.place tree t samples o h in
     (c.piece-in-Ended.ensures.is ∙ ap (λ (p : Planning). planned_of p.gathered) r.0, r.1)
 
 pub returns-then-not-branch-clause-planned : goal.returns-then-not-branch-clause-planned
@@ -37,8 +37,8 @@ returns-then-not-branch-clause-planned g c told tree t samples o h =
     let place = c.note_hand-hand.result.place in
     let planner = c.note_hand-hand.new.planner in
     let fed = (rw c.in-Empty.is at c.note_hand-hand.ensures.fed).0 in
-    let on = hand_fed file m c.args.walk.now c.loop-planner.walk c.keep.new.self _ _ c.loop-planner.planner planner place (i.fed told) fed c.keep.ensures in
-    let is_hand = subst (λ w. InHandOf m w fed.later) (sym c.keep.ensures) fed.is_later in
+    let on = hand_fed file m c.args.walk.now c.loop-planner.walk c.keep.new.self _ _ c.loop-planner.planner planner place (i.fed told) fed c.keep.ensures.place in
+    let is_hand = subst (λ w. InHandOf m w fed.later) (sym c.keep.ensures.place) fed.is_later in
     let l = c.in_ok-load-in-Empty.ensures in
     let r = none_fed file m c.args.walk.now c.keep.new.self c.load.new.self _ planner fed.later c.in_ok-load-in-Empty.field-0 on is_hand fed.taken.2 ((rw (i.honesty, i.file) at l.loaded) told) c.if-not-branch.true
     ((rw (i.honesty, i.file) at l.ended) told) tree t samples o h in
@@ -62,8 +62,8 @@ loop-planner-preserved g c =
           let place = c.note_hand-hand.result.place in
           let planner = c.note_hand-hand.new.planner in
           let fed = (rw c.in-Empty.is at c.note_hand-hand.ensures.fed).0 in
-          let on = hand_fed file m c.args.walk.now c.loop-planner.walk c.keep.new.self _ _ c.loop-planner.planner planner place (i.fed told) fed c.keep.ensures in
-          let is_hand = subst (λ w. InHandOf m w fed.later) (sym c.keep.ensures) fed.is_later in
+          let on = hand_fed file m c.args.walk.now c.loop-planner.walk c.keep.new.self _ _ c.loop-planner.planner planner place (i.fed told) fed c.keep.ensures.place in
+          let is_hand = subst (λ w. InHandOf m w fed.later) (sym c.keep.ensures.place) fed.is_later in
           next_fed file m c.args.walk.now c.keep.new.self c.load.new.self _ planner fed.later c.in_ok-load-in-Empty.field-0 on is_hand fed.taken.2 ((rw (i.honesty, i.file) at l.loaded) told) (search rules);
       noted = λ told. (let rows = c.loop-planner.rows in
           let counted = ap (λ (p : Planned). p.count) c.piece.ensures.is ∙ planned_counts c.loop-planner.planner.gathered in
@@ -75,7 +75,7 @@ returns-in_err-load-in-Empty-clause-unchanged g c told tree t samples o h few =
     let p = err_from_is_err_and c.from_residual.result c.from_residual.ensures.1 in
     let i = c.loop-planner.invariant in
     let fed = (rw c.in-Empty.is at c.note_hand-hand.ensures.fed).0 in
-    let on = hand_fed (g.S.Store.file c.args.store.now) c.args.movie.now c.args.walk.now c.loop-planner.walk c.keep.new.self _ _ c.loop-planner.planner c.note_hand-hand.new.planner c.note_hand-hand.result.place (i.fed told) fed c.keep.ensures in
+    let on = hand_fed (g.S.Store.file c.args.store.now) c.args.movie.now c.args.walk.now c.loop-planner.walk c.keep.new.self _ _ c.loop-planner.planner c.note_hand-hand.new.planner c.note_hand-hand.result.place (i.fed told) fed c.keep.ensures.place in
     let k = (on tree t samples o h).comes in
     rw (p.1, p.2) ((rw (i.honesty, i.file) at c.in_err-load-in-Empty.ensures.unchanged) told tree t k.0 k.1 o k.3.0)
 

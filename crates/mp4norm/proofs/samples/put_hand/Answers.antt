@@ -5,7 +5,7 @@ use Rattle.mp4norm.proofs.samples.put_hand.Goals as goal
 
 pub returns-clause-walk : goal.returns-clause-walk
 returns-clause-walk g c =
-    rw c.keep.ensures (kept_on c.args.movie.now c.args.walk.now c.in_hand-hand.result _ c.place-place.result c.requires c.in_hand-hand.ensures c.put_lines.ensures.later c.place-place.ensures)
+    rw c.keep.ensures.place (kept_on c.args.movie.now c.args.walk.now c.in_hand-hand.result _ c.place-place.result c.requires c.in_hand-hand.ensures c.put_lines.ensures.later c.place-place.ensures)
 
 pub returns-in_err-put_lines-clause-prefix : goal.returns-in_err-put_lines-clause-prefix
 returns-in_err-put_lines-clause-prefix g c =
@@ -18,4 +18,4 @@ returns-clause-lines g c =
     (c.in_hand-hand.result, c.in_hand-hand.ensures, λ fits. (e.lines fits, e.number fits))
 
 pub returns-clause-stands : goal.returns-clause-stands
-returns-clause-stands g c file tree t earlier later s = rw c.keep.ensures (kept_before file tree t earlier later c.args.walk.now c.place-place.result s)
+returns-clause-stands g c file tree t earlier later s = rw c.keep.ensures.place (kept_before file tree t earlier later c.args.walk.now c.place-place.result s)
