@@ -11,10 +11,10 @@ usage: make_inputs.py FOLDER [NAME ..]
 
 The files hold made-up data in correct boxes (ISO/IEC 14496-12); nothing needs to be installed.
 """
+import argparse
 import os
 import random
 import struct
-import sys
 
 
 def box(kind, *parts):
@@ -152,10 +152,16 @@ MAKERS = {'large': large, 'small': small, 'fragments': fragments, 'tracks': trac
 
 
 def main():
-    folder = sys.argv[1]
-    os.makedirs(folder, exist_ok=True)
-    for name in sys.argv[2:] or MAKERS:
-        path = os.path.join(folder, name + '.mp4')
+    parser = argparse.ArgumentParser(description=__doc__, formatter_class=argparse.RawDescriptionHelpFormatter)
+    parser.add_argument('folder', help='where the files are made')
+    parser.add_argument('names', nargs='*', help=f'some of {", ".join(MAKERS)}; all where none is named')
+    args = parser.parse_args()
+    unknown = [name for name in args.names if name not in MAKERS]
+    if unknown:
+        parser.error(f'no such file: {", ".join(unknown)}')
+    os.makedirs(args.folder, exist_ok=True)
+    for name in args.names or MAKERS:
+        path = os.path.join(args.folder, name + '.mp4')
         if not os.path.exists(path):
             MAKERS[name](path)
         print(path, os.path.getsize(path))
