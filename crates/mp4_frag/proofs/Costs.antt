@@ -106,7 +106,8 @@ runs_cost_fault all left later boxes b kind base payload bytes first steps more 
 abbrev pub rows_among : List Box → ℕ
 rows_among boxes = sum_of (λ (b : Box). row_count sbgp b.payload) (of_kind (codes "sbgp") boxes)
 
-many_rows : (n : ℕ) (widths bytes : List ℕ) → length {A = ℕ × ℕ} (map (λ row. (slice_index row 0, slice_index row 1)) (rows n widths bytes)) ≡ n
+-- as many rows are read as were asked for
+pub many_rows : (n : ℕ) (widths bytes : List ℕ) → length {A = ℕ × ℕ} (map (λ row. (slice_index row 0, slice_index row 1)) (rows n widths bytes)) ≡ n
 many_rows zero widths bytes = refl
 many_rows (suc n) widths bytes = ap suc (many_rows n widths (drop (width_of widths) bytes))
 

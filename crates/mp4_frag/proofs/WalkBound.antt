@@ -1,9 +1,9 @@
 -- A walk over a `moof` costs no more than its boxes say, and where it was accepted, no more than its bytes and its samples allow.
 use Rattle.std.proofs.Common.{◌≡◌, ℕ, zero, suc, ◌+◌, ◌*◌, ◌≤◌, nat_le, ◌&&◌, false, Bool, true, cond, List, [], ◌∷◌, length, drop, map, Result, Ok, Err, refl, ap, ◌∙◌, rules, arith}
-use Rattle.std.specs.Prelude.{ℤ, pos, codes, bytes_eq, slice_index}
+use Rattle.std.specs.Prelude.{ℤ, pos, codes, bytes_eq}
 use Rattle.std.specs.List.{AllByRecursion}
 use Rattle.std.proofs.lemmas.Bool.{and_parts}
-use Rattle.mp4_boxes.specs.Bytes.{rows, sum_of, width_of}
+use Rattle.mp4_boxes.specs.Bytes.{sum_of, width_of}
 use Rattle.mp4_boxes.specs.Box.{Box, Header, LieEndToEnd, header_at, box_of, box_and_more, first_boxes, size, sizes}
 use Rattle.mp4_boxes.specs.Children.{of_kind}
 use Rattle.mp4_boxes.specs.Layout.{trun, sbgp, row_count, needed, knows_version, knows_flags, present, sample_columns}
@@ -21,7 +21,7 @@ use Rattle.mp4_frag.specs.declared.places.FragPlace.{FragPlace}
 use Rattle.mp4_frag.specs.declared.state.TrackState.{TrackState}
 use Rattle.mp4_frag.specs.declared.trex.Trex.{Trex}
 use Rattle.mp4_frag.proofs.BoxPlaces.{all_boxes}
-use Rattle.mp4_frag.proofs.Costs.{boxes_eight}
+use Rattle.mp4_frag.proofs.Costs.{boxes_eight, many_rows}
 use Rattle.mp4_frag.proofs.PartReasons.{part_counts}
 
 -- ---- what boxes cost does not depend on where they are said to lie
@@ -164,10 +164,6 @@ said_run false b boxes kept h = omega (arith, h)
 said_runs : (boxes : List Box) → runs_work boxes ≤ runs_say (map (λ (c : Box). run_of c.payload) (of_kind (codes "trun") boxes))
 said_runs [] = omega arith
 said_runs (b ∷ boxes) = said_run (bytes_eq (codes "trun") b.kind) b boxes (of_kind (codes "trun") boxes) (said_runs boxes)
-
-many_rows : (n : ℕ) (widths bytes : List ℕ) → length {A = ℕ × ℕ} (map (λ row. (slice_index row 0, slice_index row 1)) (rows n widths bytes)) ≡ n
-many_rows zero widths bytes = refl
-many_rows (suc n) widths bytes = ap suc (many_rows n widths (drop (width_of widths) bytes))
 
 said_group : (v : Bool) (b : Box) (boxes kept : List Box) → groups_work boxes ≤ group_rows (groupings_of kept) → cond v (group_work b.payload) 0 + groups_work boxes ≤ group_rows (groupings_of (cond v (b ∷ kept) kept))
 said_group true b boxes kept h =
