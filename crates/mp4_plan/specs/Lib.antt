@@ -17,3 +17,4 @@ pub mod Taken
 pub mod Coming
 pub mod TurnLaws
 pub mod HandsFed
+pub mod Work

@@ -10,3 +10,4 @@ pub mod Timed
 pub mod Accepted
 pub mod Views
 pub mod Leaves
+pub mod Work
