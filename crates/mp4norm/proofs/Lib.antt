@@ -11,3 +11,5 @@ pub mod ShownLines
 pub mod WalkLines
 pub mod TrackTexts
 pub mod Normalised
+pub mod StepSums
+pub mod StepsTaken

@@ -6,3 +6,4 @@ pub mod Actions
 pub mod ShowValue
 pub mod Commands
 pub mod MainJob
+pub mod Steps

@@ -1,10 +1,15 @@
-//! Reads and puts that fail in turn, a store that changes, and one that computes its bytes.
-ghost use Rattle.std.specs.Prelude.{ℕ, true, false, None, replicate};
+//! Reads and puts that fail in turn, a store that changes, one that computes its bytes; lengths of normal forms.
+ghost use Rattle.std.specs.Prelude.{◌≡◌, ◌<◌, ℕ, true, false, None, replicate};
 
 use super::*;
 use crate::fixtures::{EDITS, FRAGMENT, LARGE_HEAD, PLAIN, TWO_FRAGMENTS, TWO_TRACKS};
+use mp4_boxes::Steps;
+use mp4_plan::normal_len;
+use mp4_present::open_movie;
 use mp4_store::{Store, StoreFailed, WriteFailed};
 use std::alloc::Global;
+use std::marker::Brand;
+use std::sync::ledger::{Blank, Ledger};
 
 /// More reads and puts than any of the runs has.
 const MANY: u64 = 1000;
@@ -349,4 +354,28 @@ fn large_samples(rt: HostRuntime) {
     assert_eq!(rt; normalise(rt.alloc(), &mut store, &mut sink), Ok(()));
     assert_eq!(rt; sink.count, 701 + LARGE_DATA);
     assert!(rt; sink.is_right);
+}
+
+// The length of the normal form of a file in memory; the steps are counted in this ledger.
+fn length_in<L: Ledger>(alloc: Global, bytes: &[u8], blank: Blank) -> Result<u64, Refusal>
+    requires name { blank.name ≡ L.name }
+    requires parts { blank.parts ≡ L.parts }
+    requires some { 0 < L.parts }
+{
+    let mut steps = Steps::<L>::new(blank);
+    let mut store = MemStore::new(bytes);
+    let movie = open_movie(alloc, &mut store, &mut steps)?;
+    normal_len(alloc, &movie, &mut store, &mut steps)
+}
+
+#[test]
+fn lengths(rt: HostRuntime) {
+    for (bytes, len) in [
+        (PLAIN, 721),
+        (EDITS, 785),
+        (TWO_FRAGMENTS, 757),
+        (TWO_TRACKS, 1782),
+    ] {
+        assert_eq!(rt; length_in::<Brand>(rt.alloc(), bytes, Blank::new(1)), Ok(len));
+    }
 }

@@ -1,0 +1,95 @@
+-- The steps of opening a file and of three walks over each of its tracks are within the bound.
+use Rattle.std.proofs.Common.{◌≡◌, ℕ, zero, suc, ◌+◌, ◌*◌, ◌≤◌, List, [], ◌∷◌, length, map, refl, sym, ap, subst, ◌∙◌, arith, mul-le-mul_left}
+use Rattle.std.proofs.lemmas.List.{length-append, length-map}
+use Rattle.std.specs.List.{AllByRecursion}
+use Rattle.mp4_boxes.specs.Bytes.{sum_of}
+use Rattle.mp4_boxes.specs.Children.{payload_among, sample_sizes}
+use Rattle.mp4_tables.specs.TableRules.{Fit}
+use Rattle.mp4_tables.specs.Tables.{tables_of, sample_count}
+use Rattle.mp4_tables.specs.Work.{table_rows}
+use Rattle.mp4_tables.proofs.Counts.{samples_counted}
+use Rattle.mp4_frag.specs.Fragments.{FragmentTree, IsFragmentTree, fragment_of}
+use Rattle.mp4_frag.specs.FragmentSamples.{Part, all_parts, parts_of, part_samples}
+use Rattle.mp4_frag.specs.Work.{fragment_rows, fragment_length, moof_says}
+use Rattle.mp4_frag.specs.declared.trex.Trex.{Trex}
+use Rattle.mp4_frag.proofs.SaidSamples.{tree_said, parts_said}
+use Rattle.mp4_head.specs.Tree.{TrackTree, IsTrackTree, trexes_of}
+use Rattle.mp4_present.specs.Denotes.{FileTree, IsFileTree, IsConsistent, Denotes, plain_of, surroundings, file_parts, presentation_of, track_of}
+use Rattle.mp4_present.specs.Presentation.{Presentation, Track, sample_total}
+use Rattle.mp4_present.specs.Stands.{table_total}
+use Rattle.mp4_present.specs.Work.{moof_steps, moofs_steps, table_steps, opening_steps, table_way, walk_steps, walks_steps}
+use Rattle.mp4_present.proofs.Counts.{parts_total, sum-append, sizes_few, fragments_total, total_is, all_belong}
+use Rattle.mp4norm.specs.Steps.{row_total, most_steps}
+
+-- ---- sums over tracks
+
+abbrev rows_of : List TrackTree → ℕ
+rows_of tracks = sum_of (λ (t : TrackTree). table_rows (tables_of t.table)) tracks
+
+abbrev plain_total : List TrackTree → ℕ
+plain_total tracks = sum_of (λ (t : TrackTree). length (plain_of t)) tracks
+
+checks_sum : (tracks : List TrackTree) → sum_of table_steps tracks ≡ 7 * rows_of tracks + 5 * plain_total tracks
+unfolding table_steps
+checks_sum [] = refl
+checks_sum (t ∷ tracks) = let more = checks_sum tracks in omega (arith, more)
+
+ways_sum : (m : ℕ) (tracks : List TrackTree) → sum_of (λ (t : TrackTree). table_way t + m) tracks ≡ rows_of tracks + 3 * plain_total tracks + length tracks * m
+unfolding table_way
+ways_sum m [] = refl
+ways_sum m (t ∷ tracks) = let more = ways_sum m tracks in omega (arith, more)
+
+plain_counted : (file : List ℕ) (tracks : List TrackTree) → AllByRecursion IsTrackTree tracks → AllByRecursion (λ (t : TrackTree). Fit (surroundings file t) (tables_of t.table)) tracks → plain_total tracks ≡ table_total tracks
+plain_counted file [] trees fit = refl
+plain_counted file (t ∷ tracks) trees fit = λ i. samples_counted (surroundings file t) t.table (sizes_few trees.0.table) fit.0 i + plain_counted file tracks trees.1 fit.1 i
+
+-- ---- sums over `moof`s
+
+abbrev fragment_rows_of : List FragmentTree → ℕ
+fragment_rows_of fragments = sum_of (λ (f : FragmentTree). fragment_rows (fragment_of f)) fragments
+
+one_moof : (f : FragmentTree) → IsFragmentTree f → moof_steps f.moof ≡ fragment_rows (fragment_of f) + fragment_length (fragment_of f)
+unfolding moof_steps
+one_moof f h = λ i. fragment_rows (tree_said f h (~ i)) + fragment_length (tree_said f h (~ i))
+
+moofs_sum : (trexes : List Trex) (fragments : List FragmentTree) → AllByRecursion IsFragmentTree fragments → moofs_steps fragments ≡ fragment_rows_of fragments + parts_total (all_parts trexes (map fragment_of fragments))
+moofs_sum trexes [] h = refl
+moofs_sum trexes (f ∷ fragments) h =
+    let own = one_moof f h.0 in
+    let others = moofs_sum trexes fragments h.1 in
+    let split = sum-append (λ (q : Part). length (part_samples q)) (parts_of trexes (fragment_of f)) (all_parts trexes (map fragment_of fragments)) in
+    let samples = parts_said trexes (fragment_of f) in
+    omega (arith, own, others, split, samples)
+
+-- ---- the bound
+
+-- of tracks with so many samples and rows in tables, where each `moof`'s steps are within the other samples and rows
+bounded : (k m s f r more checks ways : ℕ) → (k ≡ 0 → r + s ≡ 0) → m ≤ f + more → checks ≡ 7 * r + 5 * s → ways ≡ r + 3 * s + k * (2 * m) → (checks + (k + 1) * m) + 3 * ways ≤ 8 * ((k + 1) * ((s + f) + (r + more)))
+bounded zero m s f r more checks ways none le c w = let n = none refl in omega (arith, n, le, c, w)
+bounded (suc k) m s f r more checks ways none le c w =
+    let grow = mul-le-mul_left (suc k) le in
+    let small : r + s ≤ (suc k) * (r + s) = omega arith in
+    omega (arith, grow, small, le, c, w)
+
+none_of : (tracks : List TrackTree) → length tracks ≡ 0 → rows_of tracks + plain_total tracks ≡ 0
+none_of [] e = refl
+none_of (t ∷ tracks) e = absurd (omega (arith, e))
+
+tree_within : (file : List ℕ) (tree : FileTree) → IsFileTree file tree → IsConsistent file tree → opening_steps tree + 3 * walks_steps tree ≤ most_steps (length (presentation_of file tree).tracks) (sample_total (presentation_of file tree)) (row_total tree)
+tree_within file tree h c =
+    let tracks = tree.movie.tracks in
+    let fragments = tree.fragments in
+    let parts = file_parts tree in
+    let count : length (presentation_of file tree).tracks ≡ length tracks = length-map tracks (track_of file parts) in
+    let total : sample_total (presentation_of file tree) ≡ plain_total tracks + fragments_total parts tracks =
+    total_is file parts tracks h.movie.tracks c.tables ∙ ap (λ n. n + fragments_total parts tracks) (sym (plain_counted file tracks h.movie.tracks c.tables)) in
+    let moofs = moofs_sum (trexes_of tree.movie) fragments h.fragments in
+    let known = all_belong tree.movie parts c.known in
+    let few : moofs_steps fragments ≤ fragments_total parts tracks + fragment_rows_of fragments = omega (arith, moofs, known) in
+    let all = bounded (length tracks) (moofs_steps fragments) (plain_total tracks) (fragments_total parts tracks) (rows_of tracks) (fragment_rows_of fragments) (sum_of table_steps tracks) (walks_steps tree) (none_of tracks) few (checks_sum tracks) (ways_sum (2 * moofs_steps fragments) tracks) in
+    subst (λ n. opening_steps tree + 3 * walks_steps tree ≤ most_steps n (sample_total (presentation_of file tree)) (row_total tree)) (sym count)
+    (subst (λ n. opening_steps tree + 3 * walks_steps tree ≤ most_steps (length tracks) n (row_total tree)) (sym total) all)
+
+-- opening a file and three walks over each of its tracks
+pub all_within : (file : List ℕ) (p : Presentation) (d : Denotes file p) → opening_steps d.tree + 3 * walks_steps d.tree ≤ most_steps (length p.tracks) (sample_total p) (row_total d.tree)
+all_within file p d = subst (λ (q : Presentation). opening_steps d.tree + 3 * walks_steps d.tree ≤ most_steps (length q.tracks) (sample_total q) (row_total d.tree)) (sym d.says) (tree_within file d.tree d.is_tree d.is_consistent)
