@@ -10,7 +10,7 @@ ghost use Rattle.mp4_tables.specs.Accepted.{offset_rows as rows_of_offsets};
 ghost use Rattle.mp4_tables.specs.TableRules.{is_sync_order};
 
 use crate::chunks::{first_chunk, pass_spot};
-use crate::groups::{are_over, first_groups, index_here, pass_groups};
+use crate::groups::{first_groups, index_here, pass_groups};
 use crate::places::{
     BytesAt, GroupPlaces, GroupsAt, OffsetsAt, RowsAt, RunPlace, SyncPlace, TablePlace, TablesAt,
 };
@@ -89,9 +89,6 @@ fn indexes_at(payload: &[u8], groups: &GroupsAt, places: &GroupPlaces, number: u
     requires at { AreGroupPlaces payload.now groups.now places.now number }
     ensures { result ≡ indexes_here payload.now groups.now number }
 {
-    if are_over(places) {
-        return [0; 4];
-    }
     [
         index_here(payload, groups.first, places.first, number),
         index_here(payload, groups.second, places.second, number),
