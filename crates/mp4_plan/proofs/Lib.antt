@@ -66,3 +66,4 @@ pub mod Planning
 pub mod HeadAgain
 pub mod PieceCounts
 pub mod PlannedTurns
+pub mod CourseSteps
