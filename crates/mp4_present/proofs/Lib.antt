@@ -58,3 +58,4 @@ pub mod TrexPlaces
 pub mod WalkWork
 pub mod ChecksCounted
 pub mod TablesWork
+pub mod WayThrough

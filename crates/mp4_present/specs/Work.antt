@@ -1,5 +1,5 @@
 -- The steps of opening a file, and of walks over its samples: one for each row, `traf`, run or sample that a check or a cursor passes.
-use Rattle.std.specs.Prelude.{◌≡◌, ◌⊎◌, ℕ, ◌+◌, ◌-◌, ◌*◌, ◌^◌, ◌≤◌, List, length, Bool, true, false, codes, Result, Ok, Err}
+use Rattle.std.specs.Prelude.{◌≡◌, ◌⊎◌, ℕ, ◌+◌, ◌*◌, ◌^◌, ◌≤◌, List, length, codes, Result, Ok, Err}
 use Rattle.mp4_boxes.specs.Bytes.{sum_of}
 use Rattle.mp4_boxes.specs.Box.{Box, file_container}
 use Rattle.mp4_boxes.specs.Children.{Holds, of_kind}
@@ -94,13 +94,3 @@ walk_steps tree t = table_way t + 2 * moofs_steps tree.fragments
 -- the same of all its tracks
 abbrev pub walks_steps : FileTree → ℕ
 walks_steps tree = sum_of (walk_steps tree) tree.movie.tracks
-
--- The walk stands before these `moof`s, and so many steps were taken: for each of those that it passed no more than twice what its boxes say.
-abbrev pub PassesWithin : List ℕ → FileTree → TrackTree → List FragmentTree → Walk → ℕ → ℕ → Type 0
-PassesWithin file tree t later w old new =
-    (earlier left : List FragmentTree) × (StandsBefore file tree t earlier left w × (new + 2 * moofs_steps left ≤ old + 2 * moofs_steps later))
-
--- The same where the next `moof` with samples of the track was loaded, or there is none: of the one in hand, the way from the walk's place on was not taken.
-abbrev pub LoadsWithin : List ℕ → FileTree → TrackTree → List FragmentTree → Walk → ℕ → ℕ → Bool → Type 0
-LoadsWithin file tree t later w old new true = PassesWithin file tree t later w old (new + (moof_steps (moof_box w) - steps_to w.place)) × (steps_to w.place ≤ moof_steps (moof_box w))
-LoadsWithin file tree t later w old new false = PassesWithin file tree t later w old new

@@ -6,10 +6,10 @@ ghost use Rattle.mp4_head.specs.Tree.{TrackTree};
 ghost use Rattle.mp4_present.specs.Denotes.{FileTree};
 ghost use Rattle.mp4_present.specs.OpenedMovie.{IsOpenedAs};
 ghost use Rattle.mp4_present.specs.Coming.{track_samples, samples_behind, StandsBefore, Comes, HoldsNext, Takes, Loads, due_of, moof_box};
-ghost use Rattle.mp4_present.specs.Work.{steps_to, moof_steps, LoadsWithin};
+ghost use Rattle.mp4_present.specs.Work.{steps_to, moof_steps, way_through, walk_steps, MayTake, TakesOn};
 ghost use Rattle.mp4_boxes.specs.declared.refusal.Refusal.TheVariants as refusals;
 ghost use Rattle.mp4_present.specs.InHand.{left_in_hand};
-ghost use Rattle.mp4_present.specs.Movies.{Fills, GoesOn, IsWalkOf, StatesFor, InHandOf, RefusesLoad};
+ghost use Rattle.mp4_present.specs.Movies.{Fills, IsMovie, GoesOn, IsWalkOf, StatesFor, InHandOf, RefusesLoad};
 
 use crate::fragments::next_fragment;
 use crate::in_hand::{InHand, Place};
@@ -42,6 +42,7 @@ impl Movie {
         ensures walk { IfOk result (IsWalkOf self.now) }
         ensures room { IfOk result (λ walk. length walk.bytes.items ≡ self.now.longest) }
         ensures coming { IfOk result (λ walk. (file : List ℕ) (tree : FileTree) (t : TrackTree) → IsOpenedAs file self.now tree → slice_get tree.movie.tracks track ≡ Some t → Comes file tree t self.now walk (track_samples tree t)) }
+        ensures may { IfOk result (λ walk. (file : List ℕ) (tree : FileTree) (t : TrackTree) → IsOpenedAs file self.now tree → slice_get tree.movie.tracks track ≡ Some t → (n : ℕ) × MayTake file tree t walk n × (n ≤ walk_steps tree t)) }
     {
         let states = self.states_for_walk(alloc)?;
         let Ok(bytes) = vec![in alloc; 0u8; self.longest as usize] else {
@@ -77,15 +78,17 @@ impl Walk {
     /// The samples left of what is in memory: of the tables, or of a `moof`.
     pub fn in_hand<'a>(&'a self, movie: &'a Movie) -> InHand<'a>
         requires { IsWalkOf movie.now self.now }
-        ensures { InHandOf movie.entry.now self.entry.now result }
+        ensures hand { InHandOf movie.entry.now self.entry.now result }
+        ensures movie { IsMovie movie.entry.now }
     {
+        let states = movie.states();
         match self.place {
             Place::Tables(place) => {
                 InHand::Tables(TableCursor::at(&movie.tables_of(self.track), place))
             }
             Place::Fragment(place) => {
                 let view = FragView::again(self.moof.view(&self.bytes[..self.used]));
-                InHand::Fragment(FragCursor::at(&view, movie.states(), place))
+                InHand::Fragment(FragCursor::at(&view, states, place))
             }
         }
     }
@@ -113,6 +116,7 @@ impl Walk {
             → IsOkAnd result (λ some. Takes file tree t earlier next later movie.now self.new some) }
         ensures moof { OnOk result (moof_box self.new ≡ moof_box self.old) }
         ensures way { OnOk result (steps_to self.new.place ≤ moof_steps (moof_box self.old)) }
+        ensures through { OnOk result ((t : TrackTree) → way_through t self.new self.new.place ≡ moof_steps (moof_box self.new)) }
         ensures work { OnOk result (steps.new ≤ steps.old + moof_steps (moof_box self.old) + steps_to self.new.place) }
     {
         let before = self.states[self.track];
@@ -151,8 +155,10 @@ impl Walk {
             → IfErr result (λ r. r ≡ refusals.StoreChanged → ⊥) }
         ensures ended { IsTrue (S.is_honest store.old) → (tree : FileTree) (t : TrackTree) (earlier later : List FragmentTree) (hand : InHand) → IsOpenedAs (S.file store.old) movie.now tree → StandsBefore (S.file store.old) tree t earlier later self.old
             → InHandOf movie.now self.old hand → left_in_hand hand ≡ [] → IfOk result (λ more. more ≡ false → Comes (S.file store.old) tree t movie.now self.new []) }
-        ensures work { IsTrue (S.is_honest store.old) → (tree : FileTree) (t : TrackTree) (earlier later : List FragmentTree) → IsOpenedAs (S.file store.old) movie.now tree → StandsBefore (S.file store.old) tree t earlier later self.old
-            → IfOk result (λ more. LoadsWithin (S.file store.old) tree t later self.new steps.old steps.new more) }
+        ensures work { IsTrue (S.is_honest store.old) → (tree : FileTree) (t : TrackTree) (n : ℕ) → IsOpenedAs (S.file store.old) movie.now tree → MayTake (S.file store.old) tree t self.old n
+            → IfOk result (λ more. TakesOn (S.file store.old) tree t n self.new steps.old steps.new) }
+        ensures most { IsTrue (S.is_honest store.old) → (tree : FileTree) (t : TrackTree) (n : ℕ) → IsOpenedAs (S.file store.old) movie.now tree → MayTake (S.file store.old) tree t self.old n
+            → IfErr result (λ r. steps.new ≤ steps.old + n) }
         ensures next { IfOk result (λ more. IsTrue more → (self.old.next < self.new.next) × (self.new.next ≤ length (S.file store.old))) }
         ensures reads { OnOk result (S.read_failures store.new ≡ S.read_failures store.old) }
         ensures refusal { IfErr result (RefusesLoad (S.read_failures store.old) (S.read_failures store.new)) }

@@ -11,11 +11,11 @@ use Rattle.mp4_plan.proofs.courses.carry_piece.Goals.{else-left-eq0-via-then-lef
 
 pub returns-then-left-eq0-2-clause-walk : goal.returns-then-left-eq0-2-clause-walk
 returns-then-left-eq0-2-clause-walk g c =
-    rw c.keep.ensures.place (kept_on c.args.movie.now c.loop-left.walk c.in_hand-hand.result _ c.place-place.result c.loop-left.invariant.walk c.in_hand-hand.ensures c.in_ok-left.ensures.later c.place-place.ensures)
+    rw c.keep.ensures.place (kept_on c.args.movie.now c.loop-left.walk c.in_hand-hand.result _ c.place-place.result c.loop-left.invariant.walk c.in_hand-hand.ensures.hand c.in_ok-left.ensures.later c.place-place.ensures)
 
 pub load-requires : goal.load-requires
 load-requires g c =
-    rw c.keep.ensures.place (kept_on c.args.movie.now c.loop-left.walk c.in_hand-hand.result _ c.place-place.result c.loop-left.invariant.walk c.in_hand-hand.ensures c.in_ok-left.ensures.later c.place-place.ensures)
+    rw c.keep.ensures.place (kept_on c.args.movie.now c.loop-left.walk c.in_hand-hand.result _ c.place-place.result c.loop-left.invariant.walk c.in_hand-hand.ensures.hand c.in_ok-left.ensures.later c.place-place.ensures)
 
 pub loop-left-init : goal.loop-left-init
 loop-left-init g c = record {
@@ -35,7 +35,7 @@ returns-then-left-eq0-2-clause-carried g c told tree t samples o h =
     let e = c.in_ok-left.ensures in
     let file = g.S.Store.file c.args.store.now in
     let m = c.args.movie.now in
-    let u = hand_carried file m c.args.walk.now c.loop-left.walk c.keep.new.self _ _ _ _ _ _ c.args.load c.loop-left.left c.in_ok-left.left c.in_hand-hand.result _ c.place-place.result (i.carried told) c.in_hand-hand.ensures e.later
+    let u = hand_carried file m c.args.walk.now c.loop-left.walk c.keep.new.self _ _ _ _ _ _ c.args.load c.loop-left.left c.in_ok-left.left c.in_hand-hand.result _ c.place-place.result (i.carried told) c.in_hand-hand.ensures.hand e.later
     c.place-place.ensures ((rw (i.honesty, i.file) at e.bytes) told) c.keep.ensures.place tree t samples o h in
     let all = carried_all file _ _ _ _ samples u.0 c.args.load c.in_ok-left.left (search rules) u.1.1 in
     (all.0, subst (λ ss. Comes file tree t m c.keep.new.self ss) all.1 u.1.0)
@@ -58,9 +58,9 @@ loop-left-preserved g c =
           let m = c.args.movie.now in
           let place = c.place-place.result in
           let later = c.carry_hand.new.hand in
-          let on = hand_carried file m c.args.walk.now c.loop-left.walk c.keep.new.self _ _ _ _ _ _ c.args.load c.loop-left.left c.in_ok-left.left c.in_hand-hand.result later place (i.carried told) c.in_hand-hand.ensures e.later c.place-place.ensures
+          let on = hand_carried file m c.args.walk.now c.loop-left.walk c.keep.new.self _ _ _ _ _ _ c.args.load c.loop-left.left c.in_ok-left.left c.in_hand-hand.result later place (i.carried told) c.in_hand-hand.ensures.hand e.later c.place-place.ensures
           ((rw (i.honesty, i.file) at e.bytes) told) c.keep.ensures.place in
-          let is_hand = subst (λ w. InHandOf m w later) (sym c.keep.ensures.place) (hand_kept m c.loop-left.walk c.in_hand-hand.result later place c.in_hand-hand.ensures e.later c.place-place.ensures) in
+          let is_hand = subst (λ w. InHandOf m w later) (sym c.keep.ensures.place) (hand_kept m c.loop-left.walk c.in_hand-hand.result later place c.in_hand-hand.ensures.hand e.later c.place-place.ensures) in
           next_carried file m c.args.walk.now c.keep.new.self c.load.new.self _ _ _ _ c.args.load c.in_ok-left.left later c.in_ok-load.field-0 on is_hand (e.ends (search rules)) ((rw (e.honesty, i.honesty, e.file, i.file) at l.loaded) told) (search rules);
     }
 
@@ -68,14 +68,14 @@ pub returns-in_err-left-clause-prefix : goal.returns-in_err-left-clause-prefix
 returns-in_err-left-clause-prefix g c told tree t samples o h =
     let p = err_from_is_err_and c.from_residual.result c.from_residual.ensures.1 in
     let i = c.loop-left.invariant in
-    rw p.1 (hand_fails (g.S.Store.file c.args.store.now) c.args.movie.now c.args.walk.now c.loop-left.walk _ _ _ _ _ c.args.load c.loop-left.left c.in_hand-hand.result (i.carried told) c.in_hand-hand.ensures
+    rw p.1 (hand_fails (g.S.Store.file c.args.store.now) c.args.movie.now c.args.walk.now c.loop-left.walk _ _ _ _ _ c.args.load c.loop-left.left c.in_hand-hand.result (i.carried told) c.in_hand-hand.ensures.hand
     ((rw (i.honesty, i.file) at c.in_err-left.ensures.prefix) told) tree t samples o h)
 
 pub returns-in_err-left-clause-unchanged : goal.returns-in_err-left-clause-unchanged
 returns-in_err-left-clause-unchanged g c told tree t samples o h many sizes below =
     let p = err_from_is_err_and c.from_residual.result c.from_residual.ensures.1 in
     let i = c.loop-left.invariant in
-    let x = hand_there (g.S.Store.file c.args.store.now) c.args.movie.now c.args.walk.now c.loop-left.walk _ _ _ _ c.args.load c.loop-left.left c.in_hand-hand.result (i.carried told) c.in_hand-hand.ensures tree t samples o h
+    let x = hand_there (g.S.Store.file c.args.store.now) c.args.movie.now c.args.walk.now c.loop-left.walk _ _ _ _ c.args.load c.loop-left.left c.in_hand-hand.result (i.carried told) c.in_hand-hand.ensures.hand tree t samples o h
     (record { many = many; sizes = sizes; below = below }) in
     rw (p.1, p.2) ((rw (i.honesty, i.file) at c.in_err-left.ensures.unchanged) told x.0 x.1)
 
@@ -86,7 +86,7 @@ returns-in_err-load-clause-prefix g c told tree t samples o h =
     let e = c.in_ok-left.ensures in
     let file = g.S.Store.file c.args.store.now in
     let m = c.args.movie.now in
-    let on = hand_carried file m c.args.walk.now c.loop-left.walk c.keep.new.self _ _ _ _ _ _ c.args.load c.loop-left.left c.in_ok-left.left c.in_hand-hand.result c.carry_hand.new.hand c.place-place.result (i.carried told) c.in_hand-hand.ensures e.later c.place-place.ensures
+    let on = hand_carried file m c.args.walk.now c.loop-left.walk c.keep.new.self _ _ _ _ _ _ c.args.load c.loop-left.left c.in_ok-left.left c.in_hand-hand.result c.carry_hand.new.hand c.place-place.result (i.carried told) c.in_hand-hand.ensures.hand e.later c.place-place.ensures
     ((rw (i.honesty, i.file) at e.bytes) told) c.keep.ensures.place in
     rw p.1 (front_carried file m c.args.walk.now c.keep.new.self _ _ _ _ c.args.load c.in_ok-left.left on tree t samples o h)
 
@@ -97,7 +97,7 @@ returns-in_err-load-clause-unchanged g c told tree t samples o h many sizes belo
     let e = c.in_ok-left.ensures in
     let file = g.S.Store.file c.args.store.now in
     let m = c.args.movie.now in
-    let on = hand_carried file m c.args.walk.now c.loop-left.walk c.keep.new.self _ _ _ _ _ _ c.args.load c.loop-left.left c.in_ok-left.left c.in_hand-hand.result c.carry_hand.new.hand c.place-place.result (i.carried told) c.in_hand-hand.ensures e.later c.place-place.ensures
+    let on = hand_carried file m c.args.walk.now c.loop-left.walk c.keep.new.self _ _ _ _ _ _ c.args.load c.loop-left.left c.in_ok-left.left c.in_hand-hand.result c.carry_hand.new.hand c.place-place.result (i.carried told) c.in_hand-hand.ensures.hand e.later c.place-place.ensures
     ((rw (i.honesty, i.file) at e.bytes) told) c.keep.ensures.place in
     let k = (on tree t samples o h).1.0 in
     rw (p.1, p.2) ((rw (e.honesty, i.honesty, e.file, i.file) at c.in_err-load.ensures.unchanged) told tree t k.0 k.1 o k.3.0)
@@ -108,7 +108,7 @@ returns-then-left-eq0-3-clause-prefix g c told tree t samples o h =
     let e = c.in_ok-left.ensures in
     let file = g.S.Store.file c.args.store.now in
     let m = c.args.movie.now in
-    let on = hand_carried file m c.args.walk.now c.loop-left.walk c.keep.new.self _ _ _ _ _ _ c.args.load c.loop-left.left c.in_ok-left.left c.in_hand-hand.result c.carry_hand.new.hand c.place-place.result (i.carried told) c.in_hand-hand.ensures e.later c.place-place.ensures
+    let on = hand_carried file m c.args.walk.now c.loop-left.walk c.keep.new.self _ _ _ _ _ _ c.args.load c.loop-left.left c.in_ok-left.left c.in_hand-hand.result c.carry_hand.new.hand c.place-place.result (i.carried told) c.in_hand-hand.ensures.hand e.later c.place-place.ensures
     ((rw (i.honesty, i.file) at e.bytes) told) c.keep.ensures.place in
     front_carried file m c.args.walk.now c.keep.new.self _ _ _ _ c.args.load c.in_ok-left.left on tree t samples o h
 
@@ -118,7 +118,7 @@ returns-then-left-eq0-3-clause-unchanged g c told tree t samples o h many sizes 
     let e = c.in_ok-left.ensures in
     let file = g.S.Store.file c.args.store.now in
     let m = c.args.movie.now in
-    let on = hand_carried file m c.args.walk.now c.loop-left.walk c.keep.new.self _ _ _ _ _ _ c.args.load c.loop-left.left c.in_ok-left.left c.in_hand-hand.result c.carry_hand.new.hand c.place-place.result (i.carried told) c.in_hand-hand.ensures e.later c.place-place.ensures
+    let on = hand_carried file m c.args.walk.now c.loop-left.walk c.keep.new.self _ _ _ _ _ _ c.args.load c.loop-left.left c.in_ok-left.left c.in_hand-hand.result c.carry_hand.new.hand c.place-place.result (i.carried told) c.in_hand-hand.ensures.hand e.later c.place-place.ensures
     ((rw (i.honesty, i.file) at e.bytes) told) c.keep.ensures.place in
     let left = c.in_ok-left.left in
     let later = c.carry_hand.new.hand in
@@ -131,7 +131,7 @@ returns-then-left-eq0-3-clause-unchanged g c told tree t samples o h many sizes 
             | else-left-eq0-via-else-left-eq0 v ↦ v.if-left-eq0.false w.if-left-eq0-3.true
           ])
       | then-left-eq0-3-via-else-left-eq0-3+in_ok-load+then-not-branch w ↦
-          (let is_hand = subst (λ w'. InHandOf m w' later) (sym c.keep.ensures.place) (hand_kept m c.loop-left.walk c.in_hand-hand.result later c.place-place.result c.in_hand-hand.ensures e.later c.place-place.ensures) in
+          (let is_hand = subst (λ w'. InHandOf m w' later) (sym c.keep.ensures.place) (hand_kept m c.loop-left.walk c.in_hand-hand.result later c.place-place.result c.in_hand-hand.ensures.hand e.later c.place-place.ensures) in
           let not_none = w.if-left-eq0-3.false in
           let none = none_left_to_carry file m c.args.walk.now c.keep.new.self w.load.new.self _ _ _ _ c.args.load left later w.in_ok-load.field-0 on is_hand (e.ends (omega (arith, not_none))) ((rw (e.honesty, i.honesty, e.file, i.file) at w.in_ok-load.ensures.loaded) told)
           w.if-not-branch.true tree t samples o h there in

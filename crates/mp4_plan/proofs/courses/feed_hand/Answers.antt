@@ -6,7 +6,7 @@ use Rattle.mp4_plan.proofs.HandsTaken.{fed_stops, fed_counts, hand_kept}
 use Rattle.mp4_plan.proofs.courses.feed_hand.Goals as goal
 
 pub returns-clause-place : goal.returns-clause-place
-returns-clause-place c = kept_on c.args.movie.now c.args.walk.now c.in_hand.result _ c.place.result c.requires.walk c.in_hand.ensures c.feed.ensures.later.0 c.place.ensures
+returns-clause-place c = kept_on c.args.movie.now c.args.walk.now c.in_hand.result _ c.place.result c.requires.walk c.in_hand.ensures.hand c.feed.ensures.later.0 c.place.ensures
 
 pub returns-clause-fed : goal.returns-clause-fed
 returns-clause-fed c =
@@ -14,9 +14,9 @@ returns-clause-fed c =
     let count = ap (λ (p : Planned). p.count) c.piece.ensures.is ∙ planned_counts c.args.planner.now.gathered in
     record {
       hand = c.in_hand.result;
-      is_hand = c.in_hand.ensures;
+      is_hand = c.in_hand.ensures.hand;
       later = c.feed.new.samples.inner;
-      is_later = hand_kept c.args.movie.now c.args.walk.now c.in_hand.result c.feed.new.samples.inner c.place.result c.in_hand.ensures c.feed.ensures.later.0 c.place.ensures;
+      is_later = hand_kept c.args.movie.now c.args.walk.now c.in_hand.result c.feed.new.samples.inner c.place.result c.in_hand.ensures.hand c.feed.ensures.later.0 c.place.ensures;
       done = t.taken;
       whole = t.whole;
       count = fed_counts c.args.planner.now c.feed.new.self _ _ _ _ c.feed.ensures.piece c.feed.ensures.rest t;

@@ -4,7 +4,7 @@ use Rattle.mp4_plan.proofs.HandsTaken.{fed_stops, fed_counts, hand_kept}
 use Rattle.mp4_plan.proofs.courses.note_hand.Goals as goal
 
 pub returns-clause-place : goal.returns-clause-place
-returns-clause-place c = kept_on c.args.movie.now c.args.walk.now c.in_hand-hand.result _ c.place.result c.requires.walk c.in_hand-hand.ensures c.note.ensures.later c.place.ensures
+returns-clause-place c = kept_on c.args.movie.now c.args.walk.now c.in_hand-hand.result _ c.place.result c.requires.walk c.in_hand-hand.ensures.hand c.note.ensures.later c.place.ensures
 
 pub returns-clause-fed : goal.returns-clause-fed
 returns-clause-fed c =
@@ -13,9 +13,9 @@ returns-clause-fed c =
     let left = notes_left _ _ _ _ _ _ h in (
       record {
         hand = c.in_hand-hand.result;
-        is_hand = c.in_hand-hand.ensures;
+        is_hand = c.in_hand-hand.ensures.hand;
         later = c.note.new.samples;
-        is_later = hand_kept c.args.movie.now c.args.walk.now c.in_hand-hand.result c.note.new.samples c.place.result c.in_hand-hand.ensures c.note.ensures.later c.place.ensures;
+        is_later = hand_kept c.args.movie.now c.args.walk.now c.in_hand-hand.result c.note.new.samples c.place.result c.in_hand-hand.ensures.hand c.note.ensures.later c.place.ensures;
         done = t.taken;
         whole = t.whole;
         count = fed_counts c.args.planner.now c.note.new.self _ _ _ _ h.piece left t;

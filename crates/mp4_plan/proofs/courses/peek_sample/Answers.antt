@@ -11,7 +11,7 @@ loop-walk-init g c = record {
   honesty = refl;
   file = refl;
   reads = refl;
-  first = (c.in_hand.result, (c.in_hand.ensures, c.peek-next.ensures));
+  first = (c.in_hand.result, (c.in_hand.ensures.hand, c.peek-next.ensures));
   coming = λ told tree t samples o h. h;
 }
 
@@ -33,7 +33,7 @@ loop-walk-preserved g c =
       honesty = e.honesty ∙ i.honesty;
       file = e.file ∙ i.file;
       reads = e.reads ∙ i.reads;
-      first = (c.in_hand-in-loop-walk.result, (c.in_hand-in-loop-walk.ensures, c.peek-next-in-loop-walk.ensures));
+      first = (c.in_hand-in-loop-walk.result, (c.in_hand-in-loop-walk.ensures.hand, c.peek-next-in-loop-walk.ensures));
       coming = λ told tree t samples o h.
           let k = i.coming told tree t samples o h in
           loads_on (g.S.Store.file c.args.store.now) c.args.movie.now tree t c.loop-walk.walk c.load.new.self samples k i.first.0 i.first.1.0 (none_left i.first.0 c.loop-walk.next i.first.1.1 is_none) c.in_ok-load.field-0 c.if-branch.true

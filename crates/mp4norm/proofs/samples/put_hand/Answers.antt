@@ -5,17 +5,17 @@ use Rattle.mp4norm.proofs.samples.put_hand.Goals as goal
 
 pub returns-clause-walk : goal.returns-clause-walk
 returns-clause-walk g c =
-    rw c.keep.ensures.place (kept_on c.args.movie.now c.args.walk.now c.in_hand-hand.result _ c.place-place.result c.requires c.in_hand-hand.ensures c.put_lines.ensures.later c.place-place.ensures)
+    rw c.keep.ensures.place (kept_on c.args.movie.now c.args.walk.now c.in_hand-hand.result _ c.place-place.result c.requires c.in_hand-hand.ensures.hand c.put_lines.ensures.later c.place-place.ensures)
 
 pub returns-in_err-put_lines-clause-prefix : goal.returns-in_err-put_lines-clause-prefix
 returns-in_err-put_lines-clause-prefix g c =
     let p = err_from_is_err_and c.from_residual.result c.from_residual.ensures.1 in
-    rw p.1 (c.in_hand-hand.result, c.in_hand-hand.ensures, λ fits. c.in_err-put_lines.ensures.prefix fits)
+    rw p.1 (c.in_hand-hand.result, c.in_hand-hand.ensures.hand, λ fits. c.in_err-put_lines.ensures.prefix fits)
 
 pub returns-clause-lines : goal.returns-clause-lines
 returns-clause-lines g c =
     let e = c.in_ok-put_lines.ensures in
-    (c.in_hand-hand.result, c.in_hand-hand.ensures, λ fits. (e.lines fits, e.number fits))
+    (c.in_hand-hand.result, c.in_hand-hand.ensures.hand, λ fits. (e.lines fits, e.number fits))
 
 pub returns-clause-stands : goal.returns-clause-stands
 returns-clause-stands g c file tree t earlier later s = rw c.keep.ensures.place (kept_before file tree t earlier later c.args.walk.now c.place-place.result s)

@@ -5,6 +5,7 @@ use Rattle.mp4_tables.specs.Views.{TablesSeen}
 use Rattle.mp4_present.specs.Movies.{MovieSeen, IsMovie, tables_seen}
 use Rattle.mp4_present.proofs.WalkPlaces.{begun, got}
 use Rattle.mp4_present.proofs.WalkBegun.{stands_first, tables_in_hand, plain_first}
+use Rattle.mp4_present.proofs.WayThrough.{begins}
 use Rattle.mp4_present.specs.Coming.{samples_behind}
 use Rattle.mp4_present.specs.declared.in_hand.InHand.TheVariants as hands
 use Rattle.mp4_present.proofs.movie.Movie.walk.Goals as goal
@@ -30,3 +31,15 @@ returns-clause-coming c file tree t o at =
     let tables : c.start-cursor.result.tables ≡ tables_seen m.moov found.0 = c.start-cursor.ensures.tables ∙ c.tables_of.ensures found.0 found.1 in
     let list = tables_in_hand file m tree t c.args.track found.0 c.start-cursor.result o at found.1 tables c.start-cursor.ensures.first in
     ([], tree.fragments, hands.Tables c.start-cursor.result, (stands, (found.0, found.1, (λ i. record { tables = tables i; place = sym c.place.ensures.is i })), sym (plain_first tree t) ∙ ap (λ ss. ss ++ samples_behind tree t [] tree.fragments) (sym list)))
+
+pub returns-clause-may : goal.returns-clause-may
+returns-clause-may c file tree t o at =
+    let m = c.args.self.now in
+    let i = subst IsMovie c.self.view_is c.self.invariant in
+    let each = i.each_tables in
+    let inside = c.requires in
+    let found = got m.tables c.args.track (omega (arith, each, inside)) in
+    let bytes : length c.in-Ok.bytes.items ≡ m.longest = search rules in
+    let stands = stands_first file m tree t o _ at bytes c.in_ok-states.ensures (ap (λ (n : MovieSeen). n.room) c.self.view_is) m.fragments refl (c.unwrap_or.ensures ∙ ap (λ (n : MovieSeen). unwrap_or n.fragments n.file_len) c.self.view_is) o.fragments in
+    let place = subst (λ (s : TablesSeen). IsPlace s.payload s.at c.place.result) (c.start-cursor.ensures.tables ∙ c.tables_of.ensures found.0 found.1) c.place.ensures.place in
+    begins file m tree t _ c.place.result o i stands refl (found.0, found.1, place)

@@ -1,8 +1,8 @@
-use Rattle.std.proofs.Common.{rules, ◌≡◌, length, refl, sym, ◌∙◌}
+use Rattle.std.proofs.Common.{rules, arith, ◌≡◌, length, refl, sym, ◌∙◌}
 use Rattle.std.proofs.lemmas.Result.{err_from_is_err_and}
 use Rattle.std.proofs.lemmas.List.{with_items_is}
 use Rattle.mp4_present.proofs.MoofLoaded.{boxes_from, none_more, fits, first_later, holds_next, next_unchanged, payload_unchanged, goes_past, comes_next, nothing_comes, later_is, goes_idle, ends_idle}
-use Rattle.mp4_present.proofs.WalkWork.{passes_next, loads_next}
+use Rattle.mp4_present.proofs.WayThrough.{takes_none, takes_next, takes_most}
 use Rattle.mp4_present.proofs.walks.Walk.load.Goals as goal
 
 pub loop-top-init : goal.loop-top-init
@@ -15,7 +15,7 @@ loop-top-init g c = record {
   on = search rules;
   going = λ told tree t earlier later o h. (earlier, later, (h, refl));
   idle = λ told tree t earlier later hand o h i z. (earlier, later, hand, (h, i, z));
-  passes = λ told tree t earlier later o h. (earlier, later, (h, search rules));
+  takes = λ told tree t n o h. takes_none (g.S.Store.file c.args.store.now) tree t n c.args.steps.now c.args.self.now h;
 }
 
 pub returns-in_err-top-clause-unchanged : goal.returns-in_err-top-clause-unchanged
@@ -116,19 +116,21 @@ loop-top-preserved g c =
           let fills = c.in_ok-self.ensures.fills in
           let held = holds_next file m tree t u.0 u.1 w o s c.in-Some.top within.0 n _ bytes c.in_ok-self.field-0 refl refl refl (with_items_is w.bytes bytes (same ∙ sym w.bytes.ok.0)) same fills.1 fills.0 read refl refl refl in
           goes_idle file tree t m u.0 f.0 f.1 c.take.new.self c.in_ok-take.field-0 c.if-branch.false (c.in_ok-take.ensures.taken file tree t u.0 f.1 f.0 o held);
-      passes = λ told tree t earlier later o h.
-          let u = i.passes told tree t earlier later o h in
+      takes = λ told tree t n o h.
+          let u = i.takes told tree t n o h in
           let w = c.loop-top.self in
-          let s = u.2.0 in
-          let n = next told s.boxes (boxes_from file m tree t u.0 u.1 w o s) in
-          let f = first_later file m tree t u.0 u.1 w o s c.in-Some.top within.0 n in
+          let s = u.1.stands in
+          let earlier = u.1.earlier in
+          let later = u.1.later in
+          let is_next = next told s.boxes (boxes_from file m tree t earlier later w o s) in
+          let f = first_later file m tree t earlier later w o s c.in-Some.top within.0 is_next in
           let bytes = c.read_payload.new.room in
           let same : length bytes ≡ length w.bytes.items = search rules in
           let read = (rw (c.in_ok-top.ensures.honesty, i.honesty, c.in_ok-top.ensures.file, i.file) at c.in_ok-self.ensures.bytes) told in
           let fills = c.in_ok-self.ensures.fills in
-          let held = holds_next file m tree t u.0 u.1 w o s c.in-Some.top within.0 n _ bytes c.in_ok-self.field-0 refl refl refl (with_items_is w.bytes bytes (same ∙ sym w.bytes.ok.0)) same fills.1 fills.0 read refl refl refl in
+          let held = holds_next file m tree t earlier later w o s c.in-Some.top within.0 is_next _ bytes c.in_ok-self.field-0 refl refl refl (with_items_is w.bytes bytes (same ∙ sym w.bytes.ok.0)) same fills.1 fills.0 read refl refl refl in
           let e = c.in_ok-take.ensures in
-          passes_next file tree t m u.0 f.0 f.1 later u.1 _ c.take.new.self _ _ _ c.in_ok-take.field-0 f.2 u.2.1 held (e.taken file tree t u.0 f.1 f.0 o held) e.way e.work;
+          takes_next file tree t m n _ _ _ w _ c.take.new.self u f.0 f.1 c.in_ok-take.field-0 f.2 held (e.taken file tree t earlier f.1 f.0 o held) e.moof (e.through t) e.way e.work;
     }
 
 pub returns-clause-loaded : goal.returns-clause-loaded
@@ -150,24 +152,60 @@ returns-clause-ended g c told tree t earlier later hand o h at z = λ _.
     ends_idle file tree t m u.0 u.1 u.2 c.loop-top.self (none_more file m tree t u.0 u.1 c.loop-top.self o u.3.0 n) u.3.0 u.3.1 u.3.2
 
 pub returns-then-branch-clause-work : goal.returns-then-branch-clause-work
-returns-then-branch-clause-work g c told tree t earlier later o h =
+returns-then-branch-clause-work g c told tree t n o h =
     let i = c.loop-top.invariant in
     let file = g.S.Store.file c.args.store.now in
     let m = c.args.movie.now in
     let next = rw (i.honesty, i.file, c.in-Some.is) at c.in_ok-top.ensures.next in
     let within = rw (i.file, c.in-Some.is) at c.in_ok-top.ensures.within in
-    let u = i.passes told tree t earlier later o h in
+    let u = i.takes told tree t n o h in
     let w = c.loop-top.self in
-    let s = u.2.0 in
-    let n = next told s.boxes (boxes_from file m tree t u.0 u.1 w o s) in
-    let f = first_later file m tree t u.0 u.1 w o s c.in-Some.top within.0 n in
+    let s = u.1.stands in
+    let earlier = u.1.earlier in
+    let later = u.1.later in
+    let is_next = next told s.boxes (boxes_from file m tree t earlier later w o s) in
+    let f = first_later file m tree t earlier later w o s c.in-Some.top within.0 is_next in
     let bytes = c.read_payload.new.room in
     let same : length bytes ≡ length w.bytes.items = search rules in
     let read = (rw (c.in_ok-top.ensures.honesty, i.honesty, c.in_ok-top.ensures.file, i.file) at c.in_ok-self.ensures.bytes) told in
     let fills = c.in_ok-self.ensures.fills in
-    let held = holds_next file m tree t u.0 u.1 w o s c.in-Some.top within.0 n _ bytes c.in_ok-self.field-0 refl refl refl (with_items_is w.bytes bytes (same ∙ sym w.bytes.ok.0)) same fills.1 fills.0 read refl refl refl in
+    let held = holds_next file m tree t earlier later w o s c.in-Some.top within.0 is_next _ bytes c.in_ok-self.field-0 refl refl refl (with_items_is w.bytes bytes (same ∙ sym w.bytes.ok.0)) same fills.1 fills.0 read refl refl refl in
     let e = c.in_ok-take.ensures in
-    loads_next file tree t m u.0 f.0 f.1 later u.1 _ c.take.new.self _ _ _ c.in_ok-take.field-0 f.2 u.2.1 held (e.taken file tree t u.0 f.1 f.0 o held) e.way e.work e.moof
+    takes_next file tree t m n _ _ _ w _ c.take.new.self u f.0 f.1 c.in_ok-take.field-0 f.2 held (e.taken file tree t earlier f.1 f.0 o held) e.moof (e.through t) e.way e.work
 
 pub returns-clause-work : goal.returns-clause-work
-returns-clause-work g c told tree t earlier later o h = c.loop-top.invariant.passes told tree t earlier later o h
+returns-clause-work g c told tree t n o h = c.loop-top.invariant.takes told tree t n o h
+
+pub returns-in_err-top-clause-most : goal.returns-in_err-top-clause-most
+returns-in_err-top-clause-most g c told tree t n o h =
+    let p = err_from_is_err_and c.from_residual.result c.from_residual.ensures.1 in
+    rw p.1 (takes_most (g.S.Store.file c.args.store.now) tree t n _ _ c.loop-top.self (c.loop-top.invariant.takes told tree t n o h))
+
+pub returns-in_err-self-clause-most : goal.returns-in_err-self-clause-most
+returns-in_err-self-clause-most g c told tree t n o h =
+    let p = err_from_is_err_and c.from_residual-in_err-self.result c.from_residual-in_err-self.ensures.1 in
+    rw p.1 (takes_most (g.S.Store.file c.args.store.now) tree t n _ _ c.loop-top.self (c.loop-top.invariant.takes told tree t n o h))
+
+pub returns-in_err-take-clause-most : goal.returns-in_err-take-clause-most
+returns-in_err-take-clause-most g c told tree t n o h =
+    let i = c.loop-top.invariant in
+    let file = g.S.Store.file c.args.store.now in
+    let m = c.args.movie.now in
+    let next = rw (i.honesty, i.file, c.in-Some.is) at c.in_ok-top.ensures.next in
+    let within = rw (i.file, c.in-Some.is) at c.in_ok-top.ensures.within in
+    let u = i.takes told tree t n o h in
+    let w = c.loop-top.self in
+    let s = u.1.stands in
+    let earlier = u.1.earlier in
+    let later = u.1.later in
+    let is_next = next told s.boxes (boxes_from file m tree t earlier later w o s) in
+    let f = first_later file m tree t earlier later w o s c.in-Some.top within.0 is_next in
+    let bytes = c.read_payload.new.room in
+    let same : length bytes ≡ length w.bytes.items = search rules in
+    let read = (rw (c.in_ok-top.ensures.honesty, i.honesty, c.in_ok-top.ensures.file, i.file) at c.in_ok-self.ensures.bytes) told in
+    let fills = c.in_ok-self.ensures.fills in
+    let held = holds_next file m tree t earlier later w o s c.in-Some.top within.0 is_next _ bytes c.in_ok-self.field-0 refl refl refl (with_items_is w.bytes bytes (same ∙ sym w.bytes.ok.0)) same fills.1 fills.0 read refl refl refl in
+    absurd (c.in_err-take.ensures.taken file tree t earlier f.1 f.0 o held)
+
+pub returns-then-len-movie-clause-most : goal.returns-then-len-movie-clause-most
+returns-then-len-movie-clause-most g c told tree t n o h = omega arith

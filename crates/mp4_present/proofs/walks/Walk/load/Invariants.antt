@@ -2,7 +2,7 @@ use Rattle.std.proofs.Common.{◌≡◌, ◌-◌, ◌≤◌, length}
 use Rattle.std.specs.Prelude.{IsTrue}
 use Rattle.mp4_present.specs.Movies.{IsWalkOf}
 use Rattle.mp4_present.proofs.MoofLoaded.{GoesOnBefore, IdlesBefore}
-use Rattle.mp4_present.proofs.WalkWork.{PassesBefore}
+use Rattle.mp4_present.proofs.WayThrough.{TakesBefore}
 use Rattle.mp4_present.proofs.walks.Walk.load.Given as goal
 
 -- the walk goes on, and stands before the samples that are still to come
@@ -16,7 +16,7 @@ invariant-loop-top g l = record {
   on : l.fn.self.next ≤ l.self.next;
   going : IsTrue (g.S.Store.is_honest l.fn.store) → GoesOnBefore (g.S.Store.file l.fn.store) l.movie l.fn.self l.self;
   idle : IsTrue (g.S.Store.is_honest l.fn.store) → IdlesBefore (g.S.Store.file l.fn.store) l.movie l.fn.self l.self;
-  passes : IsTrue (g.S.Store.is_honest l.fn.store) → PassesBefore (g.S.Store.file l.fn.store) l.movie l.fn.self l.self l.fn.steps l.steps;
+  takes : IsTrue (g.S.Store.is_honest l.fn.store) → TakesBefore (g.S.Store.file l.fn.store) l.movie l.fn.self l.self l.fn.steps l.steps;
 }
 
 abbrev pub decreases-loop-top : goal.decreases-loop-top

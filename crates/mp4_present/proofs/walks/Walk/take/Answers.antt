@@ -70,3 +70,6 @@ returns-clause-work g c =
     let way = c.passed.ensures in
     let more = c.add.ensures in
     omega (arith, cost, way, more)
+
+pub returns-clause-through : goal.returns-clause-through
+returns-clause-through g c t = refl
