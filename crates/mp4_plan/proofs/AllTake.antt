@@ -7,10 +7,10 @@ use Rattle.mp4_head.specs.Tree.{TrackTree}
 use Rattle.mp4_present.specs.Denotes.{FileTree}
 use Rattle.mp4_present.specs.Movies.{MovieSeen}
 use Rattle.mp4_present.specs.OpenedMovie.{IsInfoOf, IsOpenedAs}
-use Rattle.mp4_present.specs.Work.{MayTake, TakesOn, walk_steps, walks_steps}
+use Rattle.mp4_present.specs.Work.{MayTake, TakesOn, walk_steps}
 use Rattle.mp4_present.specs.declared.walks.Walk.{Walk}
 use Rattle.mp4_present.proofs.TracksPassed.{zip_length}
-use Rattle.mp4_plan.specs.Work.{MayAllTake, AllTakeOn}
+use Rattle.mp4_plan.specs.Work.{MayAllTake, AllTakeOn, MayAllBegin}
 use Rattle.mp4_plan.proofs.TurnTaken.{there_is}
 
 module _ (file : List ℕ) (tree : FileTree) where
@@ -100,34 +100,41 @@ module _ (file : List ℕ) (tree : FileTree) where
       let all = h.4 in
       (h.0, h.1 + most, h.2, more_behind trees walks k t w h.1 most h.3 (omega (arith, many)) is m, omega (arith, all))
 
+  -- no more steps than so many for each track
+  abbrev pub TakeWithin : (TrackTree → ℕ) → List TrackTree → List Walk → Type 0
+  TakeWithin most trees walks = (n : ℕ) × MayAllTake file tree trees walks n × (n ≤ sum_of most trees)
+
   -- one more behind the others
-  pub take_more : (trees : List TrackTree) (walks : List Walk) (k : ℕ) (t : TrackTree) (w : Walk) (most : TrackTree → ℕ) → MayAllTake file tree (take k trees) walks (sum_of most (take k trees)) → length walks ≡ k → slice_get trees k ≡ Some t
-      → MayTake file tree t w (most t) → MayAllTake file tree (take (k + 1) trees) (walks ++ w ∷ []) (sum_of most (take (k + 1) trees))
+  pub take_more : (trees : List TrackTree) (walks : List Walk) (k : ℕ) (t : TrackTree) (w : Walk) (most : TrackTree → ℕ) → TakeWithin most (take k trees) walks → length walks ≡ k → slice_get trees k ≡ Some t
+      → (n : ℕ) × MayTake file tree t w n × (n ≤ most t) → TakeWithin most (take (k + 1) trees) (walks ++ w ∷ [])
   take_more trees walks k t w most h many is m =
       let next : suc k ≡ k + 1 = omega arith in
-      let both = more_behind trees walks k t w (sum_of most (take k trees)) (most t) h many is m in
-      subst (λ i. MayAllTake file tree (take i trees) (walks ++ w ∷ []) (sum_of most (take i trees))) next (subst (λ n. MayAllTake file tree (take (suc k) trees) (walks ++ w ∷ []) n) (sym (sum_behind trees k is)) both)
+      let both = more_behind trees walks k t w h.0 m.0 h.1 many is m.1 in
+      let sum = sum_behind trees k is in
+      let first = h.2 in
+      let second = m.2 in
+      subst (λ i. TakeWithin most (take i trees) (walks ++ w ∷ [])) next (h.0 + m.0, both, omega (arith, sum, first, second))
     where
       sum_behind : (trees : List TrackTree) (k : ℕ) → slice_get trees k ≡ Some t → sum_of most (take (suc k) trees) ≡ sum_of most (take k trees) + most t
       sum_behind [] k is = absurd cc
       sum_behind (u ∷ trees) zero is = let same : most u ≡ most t = ap most (let e : u ≡ t = cc in e) in omega (arith, same)
       sum_behind (u ∷ trees) (suc k) is = let rest = sum_behind trees k is in omega (arith, rest)
 
--- walks over the first tracks of a file may take what those over their samples do
+-- walks over the first tracks of a file may take no more than those over their samples
 abbrev pub BeginToTake : MovieSeen → ℕ → List Walk → Type 0
-BeginToTake m k walks = (file : List ℕ) (tree : FileTree) → IsOpenedAs file m tree → MayAllTake file tree (take k tree.movie.tracks) walks (sum_of (walk_steps tree) (take k tree.movie.tracks))
+BeginToTake m k walks = (file : List ℕ) (tree : FileTree) → IsOpenedAs file m tree → TakeWithin file tree (walk_steps tree) (take k tree.movie.tracks) walks
 
 -- a walk over one track more
 pub one_to_take : (m : MovieSeen) (k : ℕ) (walks : List Walk) (walk : Walk) → BeginToTake m k walks → length walks ≡ k → k < length m.tracks
-    → ((file : List ℕ) (tree : FileTree) (t : TrackTree) → IsOpenedAs file m tree → slice_get tree.movie.tracks k ≡ Some t → MayTake file tree t walk (walk_steps tree t)) → BeginToTake m (k + 1) (walks ++ walk ∷ [])
+    → ((file : List ℕ) (tree : FileTree) (t : TrackTree) → IsOpenedAs file m tree → slice_get tree.movie.tracks k ≡ Some t → (n : ℕ) × MayTake file tree t walk n × (n ≤ walk_steps tree t)) → BeginToTake m (k + 1) (walks ++ walk ∷ [])
 one_to_take m k walks walk h n lt may file tree o =
     let many = zip_length (IsInfoOf file tree) tree.movie.tracks m.tracks o.tracks in
     let t = there_is tree.movie.tracks k (omega (arith, lt, many)) in
     take_more file tree tree.movie.tracks walks k t.0 walk (walk_steps tree) (h file tree o) n t.1 (may file tree t.0 o t.1)
 
 -- all tracks have walks
-pub all_to_take : (m : MovieSeen) (k : ℕ) (walks : List Walk) → BeginToTake m k walks → length m.tracks ≤ k → (file : List ℕ) (tree : FileTree) → IsOpenedAs file m tree → MayAllTake file tree tree.movie.tracks walks (walks_steps tree)
+pub all_to_take : (m : MovieSeen) (k : ℕ) (walks : List Walk) → BeginToTake m k walks → length m.tracks ≤ k → (file : List ℕ) (tree : FileTree) → IsOpenedAs file m tree → MayAllBegin file tree walks
 all_to_take m k walks h le file tree o =
     let many = zip_length (IsInfoOf file tree) tree.movie.tracks m.tracks o.tracks in
     let all = take_all k tree.movie.tracks (omega (arith, le, many)) in
-    subst (λ (ts : List TrackTree). MayAllTake file tree ts walks (sum_of (walk_steps tree) ts)) all (h file tree o)
+    subst (λ (ts : List TrackTree). TakeWithin file tree (walk_steps tree) ts walks) all (h file tree o)

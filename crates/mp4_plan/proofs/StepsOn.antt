@@ -35,6 +35,10 @@ module _ (file : List ℕ) (tree : FileTree) where
   pub all_taken : (walks : List Walk) (n old new : ℕ) → AllTakeOn file tree n walks old new → new ≤ old + n
   all_taken walks n old new h = let within = h.2 in omega (arith, within)
 
+  -- no more may be taken
+  pub all_within : (walks : List Walk) (n most old new : ℕ) → n ≤ most → AllTakeOn file tree n walks old new → AllTakeOn file tree most walks old new
+  all_within walks n most old new few h = let within = h.2 in (h.0, h.1, omega (arith, within, few))
+
   -- so many were taken before
   pub all_then : (walks later : List Walk) (n old before after : ℕ) → AllTakeOn file tree n walks old before → ((rest : ℕ) → MayAllTake file tree tree.movie.tracks walks rest → AllTakeOn file tree rest later before after) → AllTakeOn file tree n later old after
   all_then walks later n old before after h takes =

@@ -15,6 +15,7 @@ ghost use Rattle.mp4_present.specs.Denotes.{FileTree, presentation_of};
 ghost use Rattle.mp4_present.specs.Joined.{IsBelow};
 ghost use Rattle.mp4_present.specs.OpenedMovie.{IsOpenedAs};
 ghost use Rattle.mp4_plan.specs.Normal.{normal};
+ghost use Rattle.mp4_plan.specs.Work.{MayAllBegin};
 ghost use Rattle.mp4_plan.specs.UsedKeys.{AreApart};
 ghost use Rattle.mp4_present.specs.Carried.{RefusesCarry};
 ghost use Rattle.mp4_present.specs.declared.walks.Walk.{Walk};
@@ -78,6 +79,7 @@ fn walks_of(alloc: Global, movie: &Movie) -> Result<Vec<Walk>, Refusal>
     ensures begin { IfOk result (λ walks. (file : List ℕ) (tree : FileTree) → IsOpenedAs file movie.now tree → AllBegin file tree movie.now walks.items) }
     ensures memory { IfErr result (λ r. r ≡ refusals.Memory) }
     ensures refusal { IfErr result RefusesMemory }
+    ensures may { IfOk result (λ walks. (file : List ℕ) (tree : FileTree) → IsOpenedAs file movie.now tree → MayAllBegin file tree walks.items) }
 {
     let mut walks = Vec::new(alloc);
     for track in 0..movie.tracks().len() {
