@@ -68,3 +68,4 @@ pub mod Planning
 pub mod HeadAgain
 pub mod PieceCounts
 pub mod PlannedTurns
+pub mod CourseSteps

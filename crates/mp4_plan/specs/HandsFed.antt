@@ -1,12 +1,16 @@
 -- What becomes of the samples in hand: they are taken into a piece and noted, and their bytes taken along.
-use Rattle.std.specs.Prelude.{◌≡◌, ℕ, ◌+◌, ◌<◌, if◌then◌else◌, List, [], ◌∷◌, ◌++◌, length, take, drop, map, Option, Some, None}
+use Rattle.std.specs.Prelude.{◌≡◌, ℕ, ◌+◌, ◌-◌, ◌<◌, if◌then◌else◌, List, [], ◌∷◌, ◌++◌, length, take, drop, map, Option, Some, None}
 use Rattle.std.proofs.Common.{◌∙◌, refl, sym, ap, append_assoc, length-append, zero-add, add_assoc}
 use Rattle.mp4_boxes.specs.Bytes.{sum_of}
 use Rattle.mp4_tables.specs.declared.sample.SampleAt.{SampleAt}
+use Rattle.mp4_head.specs.Tree.{TrackTree}
 use Rattle.mp4_present.specs.Carried.{BytesGoOn}
+use Rattle.mp4_present.specs.Denotes.{FileTree}
 use Rattle.mp4_present.specs.Joined.{sample_bytes}
 use Rattle.mp4_present.specs.InHand.{left_in_hand}
 use Rattle.mp4_present.specs.Movies.{MovieSeen, InHandOf}
+use Rattle.mp4_present.specs.OpenedMovie.{IsOpenedAs}
+use Rattle.mp4_present.specs.Work.{steps_to, MayTake, TakesOn}
 use Rattle.mp4_present.specs.declared.in_hand.InHand.{InHand}
 use Rattle.mp4_present.specs.declared.in_hand.Place.{Place}
 use Rattle.mp4_present.specs.declared.walks.Walk.{Walk}
@@ -82,3 +86,8 @@ pub record HandFed (m : MovieSeen) (w : Walk) (room : ℕ) (before after : Plann
 -- They were noted in the first rows, too.
 abbrev pub HandNoted : MovieSeen → Walk → ℕ → Planning → Planning → Stop → Place → List Row → Type 0
 HandNoted m w room before after stop place rows = (fed : HandFed m w room before after stop place) × (take (length fed.done) rows ≡ map row_seen fed.done)
+
+-- A walk that goes on from this place of what it has in hand took the steps to there, and may take the others.
+abbrev pub KeepsOn : MovieSeen → Walk → Place → Type 0
+KeepsOn m w place =
+    (file : List ℕ) (tree : FileTree) (t : TrackTree) (n old : ℕ) → IsOpenedAs file m tree → MayTake file tree t w n → TakesOn file tree t n (record w { place = place }) old (old + (steps_to place - steps_to w.place))

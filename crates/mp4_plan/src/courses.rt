@@ -13,7 +13,8 @@ ghost use Rattle.mp4_present.specs.Joined.{IsBelow, sample_bytes};
 ghost use Rattle.mp4_present.specs.Movies.{IsWalkOf, RefusesLoad};
 ghost use Rattle.mp4_plan.specs.Gathering.{count_of, more_of, planned_of, piece_from, piece_fed, samples_after};
 ghost use Rattle.mp4_store.specs.Device.{AppendsPrefix};
-ghost use Rattle.mp4_plan.specs.HandsFed.{BytesCarried, sizes_of, stop_of, HandFed, HandNoted};
+ghost use Rattle.mp4_present.specs.Work.{MayTake, TakesOn};
+ghost use Rattle.mp4_plan.specs.HandsFed.{BytesCarried, sizes_of, stop_of, HandFed, HandNoted, KeepsOn};
 ghost use Rattle.mp4_plan.specs.Taken.{row_seen};
 
 use crate::ends::End;
@@ -45,6 +46,10 @@ pub(crate) fn peek_sample<S: Store, L: Ledger>(
         → IfOk result (λ next. Comes (S.file store.old) tree t movie.now walk.new samples × (next ≡ slice_get samples 0)) }
     ensures unchanged { IsTrue (S.is_honest store.old) → (tree : FileTree) (t : TrackTree) (samples : List SampleAt) → IsOpenedAs (S.file store.old) movie.now tree → Comes (S.file store.old) tree t movie.now walk.old samples
         → IfErr result (λ r. r ≡ refusals.StoreChanged → ⊥) }
+    ensures work { IsTrue (S.is_honest store.old) → (tree : FileTree) (t : TrackTree) (n : ℕ) → IsOpenedAs (S.file store.old) movie.now tree → MayTake (S.file store.old) tree t walk.old n
+        → OnOk result (TakesOn (S.file store.old) tree t n walk.new steps.old steps.new) }
+    ensures most { IsTrue (S.is_honest store.old) → (tree : FileTree) (t : TrackTree) (n : ℕ) → IsOpenedAs (S.file store.old) movie.now tree → MayTake (S.file store.old) tree t walk.old n
+        → OnErr result (steps.new ≤ steps.old + n) }
     ensures reads { OnOk result (S.read_failures store.new ≡ S.read_failures store.old) }
     ensures refusal { IfErr result (RefusesLoad (S.read_failures store.old) (S.read_failures store.new)) }
 {
@@ -91,6 +96,7 @@ fn feed_hand(planner: &mut Planner, walk: &Walk, movie: &Movie) -> FedHand
     ensures fed { HandFed movie.now walk.now (MOST_SAMPLES - count_of planner.old.gathered) planner.old planner.new result.stop result.place }
     ensures few { count_of planner.new.gathered ≤ MOST_SAMPLES }
     ensures place { IsWalkOf movie.now (record walk.now { place = result.place }) }
+    ensures keeps { KeepsOn movie.now walk.now result.place }
 {
     let mut hand = Limited {
         inner: walk.in_hand(movie),
@@ -110,6 +116,7 @@ fn note_hand(planner: &mut Planner, walk: &Walk, movie: &Movie, rows: &mut [Row]
     ensures fed { HandNoted movie.now walk.now (length rows.old) planner.old planner.new result.stop result.place rows.new }
     ensures few { count_of planner.new.gathered ≤ count_of planner.old.gathered + length rows.old }
     ensures place { IsWalkOf movie.now (record walk.now { place = result.place }) }
+    ensures keeps { KeepsOn movie.now walk.now result.place }
 {
     let mut hand = walk.in_hand(movie);
     planner.note(&mut hand, rows);
@@ -139,6 +146,10 @@ pub(crate) fn plan_piece<S: Store, L: Ledger>(
     ensures few { IfOk result (λ p. p.count ≤ MOST_SAMPLES) }
     ensures rows { IfOk result (λ p. (j : ℕ) → slice_index p.group_rows j ≤ p.count) }
     ensures bytes { IfOk result (λ p. p.bytes ≤ p.count * 4294967295) }
+    ensures work { IsTrue (S.is_honest store.old) → (tree : FileTree) (t : TrackTree) (n : ℕ) → IsOpenedAs (S.file store.old) movie.now tree → MayTake (S.file store.old) tree t walk.old n
+        → OnOk result (TakesOn (S.file store.old) tree t n walk.new steps.old steps.new) }
+    ensures most { IsTrue (S.is_honest store.old) → (tree : FileTree) (t : TrackTree) (n : ℕ) → IsOpenedAs (S.file store.old) movie.now tree → MayTake (S.file store.old) tree t walk.old n
+        → OnErr result (steps.new ≤ steps.old + n) }
     ensures reads { OnOk result (S.read_failures store.new ≡ S.read_failures store.old) }
     ensures refusal { IfErr result (RefusesLoad (S.read_failures store.old) (S.read_failures store.new)) }
 {
@@ -183,6 +194,10 @@ pub(crate) fn note_piece<S: Store, L: Ledger>(
     ensures few { IfOk result (λ p. p.count ≤ length rows.old) }
     ensures rows { IfOk result (λ p. (j : ℕ) → slice_index p.group_rows j ≤ p.count) }
     ensures bytes { IfOk result (λ p. p.bytes ≤ p.count * 4294967295) }
+    ensures work { IsTrue (S.is_honest store.old) → (tree : FileTree) (t : TrackTree) (n : ℕ) → IsOpenedAs (S.file store.old) movie.now tree → MayTake (S.file store.old) tree t walk.old n
+        → OnOk result (TakesOn (S.file store.old) tree t n walk.new steps.old steps.new) }
+    ensures most { IsTrue (S.is_honest store.old) → (tree : FileTree) (t : TrackTree) (n : ℕ) → IsOpenedAs (S.file store.old) movie.now tree → MayTake (S.file store.old) tree t walk.old n
+        → OnErr result (steps.new ≤ steps.old + n) }
     ensures reads { OnOk result (S.read_failures store.new ≡ S.read_failures store.old) }
     ensures refusal { IfErr result (RefusesLoad (S.read_failures store.old) (S.read_failures store.new)) }
 {
@@ -268,6 +283,10 @@ pub(crate) fn carry_piece<S: Store, K: Sink, L: Ledger>(
     ensures unchanged { IsTrue (S.is_honest store.old) → (tree : FileTree) (t : TrackTree) (samples : List SampleAt) → IsOpenedAs (S.file store.old) movie.now tree → Comes (S.file store.old) tree t movie.now walk.old samples
         → load.samples ≤ length samples → load.bytes ≡ sizes_of (take load.samples samples) → AllByRecursion (IsBelow (length (S.file store.old))) samples → IfErr result (λ r. r ≡ refusals.StoreChanged → ⊥) }
     ensures buffer { vec_len carrier.new.buffer ≡ vec_len carrier.old.buffer }
+    ensures work { IsTrue (S.is_honest store.old) → (tree : FileTree) (t : TrackTree) (n : ℕ) → IsOpenedAs (S.file store.old) movie.now tree → MayTake (S.file store.old) tree t walk.old n
+        → OnOk result (TakesOn (S.file store.old) tree t n walk.new steps.old steps.new) }
+    ensures most { IsTrue (S.is_honest store.old) → (tree : FileTree) (t : TrackTree) (n : ℕ) → IsOpenedAs (S.file store.old) movie.now tree → MayTake (S.file store.old) tree t walk.old n
+        → OnErr result (steps.new ≤ steps.old + n) }
     ensures reads { OnOk result (S.read_failures store.new ≡ S.read_failures store.old) }
     ensures puts { OnOk result (K.put_failures sink.new ≡ K.put_failures sink.old) }
     ensures refusal { IfErr result (RefusesCarry (S.read_failures store.old) (S.read_failures store.new) (K.put_failures sink.old) (K.put_failures sink.new)) }

@@ -6,6 +6,8 @@ use Rattle.mp4_plan.proofs.PieceCarried.{hand_carried, carried_all, next_carried
 use Rattle.mp4_plan.proofs.HandsTaken.{hand_kept}
 use Rattle.mp4_present.specs.Coming.{Comes}
 use Rattle.mp4_present.specs.Movies.{InHandOf}
+use Rattle.mp4_present.proofs.WayThrough.{takes_none}
+use Rattle.mp4_plan.proofs.CourseSteps.{hand_keeps, keeps_before, loads_before, most_before, fails_before, as_many}
 use Rattle.mp4_plan.proofs.courses.carry_piece.Goals as goal
 use Rattle.mp4_plan.proofs.courses.carry_piece.Goals.{else-left-eq0-via-then-left-eq0+else-left-eq0-2, else-left-eq0-via-else-left-eq0, then-left-eq0-3-via-then-left-eq0-3, then-left-eq0-3-via-else-left-eq0-3+in_ok-load+then-not-branch}
 
@@ -27,6 +29,7 @@ loop-left-init g c = record {
   puts = refl;
   buffer = refl;
   carried = λ told tree t samples o h. (samples, (h, carried_none _ _ _ _ _));
+  takes = λ told tree t n o h. takes_none (g.S.Store.file c.args.store.now) tree t n c.args.steps.now c.args.walk.now h;
 }
 
 pub returns-then-left-eq0-2-clause-carried : goal.returns-then-left-eq0-2-clause-carried
@@ -62,6 +65,12 @@ loop-left-preserved g c =
           ((rw (i.honesty, i.file) at e.bytes) told) c.keep.ensures.place in
           let is_hand = subst (λ w. InHandOf m w later) (sym c.keep.ensures.place) (hand_kept m c.loop-left.walk c.in_hand-hand.result later place c.in_hand-hand.ensures.hand e.later c.place-place.ensures) in
           next_carried file m c.args.walk.now c.keep.new.self c.load.new.self _ _ _ _ c.args.load c.in_ok-left.left later c.in_ok-load.field-0 on is_hand (e.ends (search rules)) ((rw (e.honesty, i.honesty, e.file, i.file) at l.loaded) told) (search rules);
+      takes = λ told.
+          let file = g.S.Store.file c.args.store.now in
+          let m = c.args.movie.now in
+          let on = hand_keeps m c.loop-left.walk c.in_hand-hand.result c.carry_hand.new.hand c.place-place.result c.in_hand-hand.ensures.movie i.walk c.in_hand-hand.ensures.hand e.later c.place-place.ensures in
+          let kept = keeps_before file m c.args.walk.now c.loop-left.walk _ _ (i.takes told) c.place-place.result c.keep.new.self _ on c.keep.ensures.place c.keep.ensures.work in
+          loads_before file m c.args.walk.now c.keep.new.self _ _ kept c.load.new.self _ ((rw (e.honesty, i.honesty, e.file, i.file) at l.work) told);
     }
 
 pub returns-in_err-left-clause-prefix : goal.returns-in_err-left-clause-prefix
@@ -136,4 +145,45 @@ returns-then-left-eq0-3-clause-unchanged g c told tree t samples o h many sizes 
           let none = none_left_to_carry file m c.args.walk.now c.keep.new.self w.load.new.self _ _ _ _ c.args.load left later w.in_ok-load.field-0 on is_hand (e.ends (omega (arith, not_none))) ((rw (e.honesty, i.honesty, e.file, i.file) at w.in_ok-load.ensures.loaded) told)
           w.if-not-branch.true tree t samples o h there in
           not_none none)
+    ]
+
+pub returns-then-left-eq0-2-clause-work : goal.returns-then-left-eq0-2-clause-work
+returns-then-left-eq0-2-clause-work g c told tree t n o h =
+    let i = c.loop-left.invariant in
+    let e = c.in_ok-left.ensures in
+    let file = g.S.Store.file c.args.store.now in
+    let m = c.args.movie.now in
+    let on = hand_keeps m c.loop-left.walk c.in_hand-hand.result c.carry_hand.new.hand c.place-place.result c.in_hand-hand.ensures.movie i.walk c.in_hand-hand.ensures.hand e.later c.place-place.ensures in
+    let kept = keeps_before file m c.args.walk.now c.loop-left.walk _ _ (i.takes told) c.place-place.result c.keep.new.self _ on c.keep.ensures.place c.keep.ensures.work in
+    kept tree t n o h
+
+pub returns-in_err-left-clause-most : goal.returns-in_err-left-clause-most
+returns-in_err-left-clause-most g c told tree t n o h =
+    let p = err_from_is_err_and c.from_residual.result c.from_residual.ensures.1 in
+    rw p.1 (most_before (g.S.Store.file c.args.store.now) c.args.movie.now c.args.walk.now c.loop-left.walk _ _ (c.loop-left.invariant.takes told) tree t n o h)
+
+pub returns-in_err-load-clause-most : goal.returns-in_err-load-clause-most
+returns-in_err-load-clause-most g c told tree t n o h =
+    let p = err_from_is_err_and c.from_residual-in_err-load.result c.from_residual-in_err-load.ensures.1 in
+    let i = c.loop-left.invariant in
+    let e = c.in_ok-left.ensures in
+    let file = g.S.Store.file c.args.store.now in
+    let m = c.args.movie.now in
+    let on = hand_keeps m c.loop-left.walk c.in_hand-hand.result c.carry_hand.new.hand c.place-place.result c.in_hand-hand.ensures.movie i.walk c.in_hand-hand.ensures.hand e.later c.place-place.ensures in
+    let kept = keeps_before file m c.args.walk.now c.loop-left.walk _ _ (i.takes told) c.place-place.result c.keep.new.self _ on c.keep.ensures.place c.keep.ensures.work in
+    rw p.1 (fails_before file m c.args.walk.now c.keep.new.self _ _ kept _ ((rw (e.honesty, i.honesty, e.file, i.file) at c.in_err-load.ensures.most) told) tree t n o h)
+
+pub returns-then-left-eq0-3-clause-most : goal.returns-then-left-eq0-3-clause-most
+returns-then-left-eq0-3-clause-most g c told tree t n o h =
+    let i = c.loop-left.invariant in
+    let e = c.in_ok-left.ensures in
+    let file = g.S.Store.file c.args.store.now in
+    let m = c.args.movie.now in
+    let on = hand_keeps m c.loop-left.walk c.in_hand-hand.result c.carry_hand.new.hand c.place-place.result c.in_hand-hand.ensures.movie i.walk c.in_hand-hand.ensures.hand e.later c.place-place.ensures in
+    let kept = keeps_before file m c.args.walk.now c.loop-left.walk _ _ (i.takes told) c.place-place.result c.keep.new.self _ on c.keep.ensures.place c.keep.ensures.work in
+    elim c.then-left-eq0-3.branch [
+      | then-left-eq0-3-via-then-left-eq0-3 w ↦ as_many _ _ _ w.steps-is (most_before file m c.args.walk.now c.keep.new.self _ _ kept tree t n o h)
+      | then-left-eq0-3-via-else-left-eq0-3+in_ok-load+then-not-branch w ↦
+          (let all = loads_before file m c.args.walk.now c.keep.new.self _ _ kept w.load.new.self _ ((rw (e.honesty, i.honesty, e.file, i.file) at w.in_ok-load.ensures.work) told) in
+          as_many _ _ _ w.steps-is (most_before file m c.args.walk.now w.load.new.self _ _ all tree t n o h))
     ]

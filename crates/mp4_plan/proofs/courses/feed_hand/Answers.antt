@@ -3,6 +3,7 @@ use Rattle.mp4_present.proofs.WalkPlaces.{kept_on}
 use Rattle.mp4_plan.specs.declared.planner.Planned.{Planned}
 use Rattle.mp4_plan.proofs.PlannerSteps.{planned_counts}
 use Rattle.mp4_plan.proofs.HandsTaken.{fed_stops, fed_counts, hand_kept}
+use Rattle.mp4_plan.proofs.CourseSteps.{hand_keeps}
 use Rattle.mp4_plan.proofs.courses.feed_hand.Goals as goal
 
 pub returns-clause-place : goal.returns-clause-place
@@ -22,3 +23,6 @@ returns-clause-fed c =
       count = fed_counts c.args.planner.now c.feed.new.self _ _ _ _ c.feed.ensures.piece c.feed.ensures.rest t;
       taken = rw (c.stop_at.ensures, c.peek.ensures, ← count) (fed_stops c.args.planner.now c.feed.new.self _ _ _ _ c.feed.ensures.piece c.feed.ensures.rest t);
     }
+
+pub returns-clause-keeps : goal.returns-clause-keeps
+returns-clause-keeps c = hand_keeps c.args.movie.now c.args.walk.now c.in_hand.result _ c.place.result c.in_hand.ensures.movie c.requires.walk c.in_hand.ensures.hand c.feed.ensures.later.0 c.place.ensures

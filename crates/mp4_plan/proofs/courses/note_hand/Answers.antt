@@ -1,6 +1,7 @@
 use Rattle.mp4_present.proofs.WalkPlaces.{kept_on}
 use Rattle.mp4_plan.proofs.HandSteps.{notes_take, notes_left, notes_seen}
 use Rattle.mp4_plan.proofs.HandsTaken.{fed_stops, fed_counts, hand_kept}
+use Rattle.mp4_plan.proofs.CourseSteps.{hand_keeps}
 use Rattle.mp4_plan.proofs.courses.note_hand.Goals as goal
 
 pub returns-clause-place : goal.returns-clause-place
@@ -23,3 +24,6 @@ returns-clause-fed c =
       },
       notes_seen _ _ _ _ _ _ h,
     )
+
+pub returns-clause-keeps : goal.returns-clause-keeps
+returns-clause-keeps c = hand_keeps c.args.movie.now c.args.walk.now c.in_hand-hand.result _ c.place.result c.in_hand-hand.ensures.movie c.requires.walk c.in_hand-hand.ensures.hand c.note.ensures.later c.place.ensures

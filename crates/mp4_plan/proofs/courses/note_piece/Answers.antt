@@ -6,6 +6,8 @@ use Rattle.mp4_plan.specs.Gathering.{Planning, planned_of}
 use Rattle.mp4_plan.proofs.PieceFed.{hand_fed, hand_ended, hand_full, hand_noted, notes_new, next_fed, none_fed, feeds_new}
 use Rattle.mp4_plan.proofs.PlannerSteps.{planned_counts}
 use Rattle.mp4_plan.specs.declared.planner.Planned.{Planned}
+use Rattle.mp4_present.proofs.WayThrough.{takes_none}
+use Rattle.mp4_plan.proofs.CourseSteps.{keeps_before, loads_before, most_before, fails_before}
 use Rattle.mp4_plan.proofs.courses.note_piece.Goals as goal
 
 pub loop-planner-init : goal.loop-planner-init
@@ -19,6 +21,7 @@ loop-planner-init g c = record {
   rows = refl;
   fed = λ told. feeds_new (g.S.Store.file c.args.store.now) c.args.movie.now c.args.walk.now c.args.end c.new-planner.result c.new-planner.ensures;
   noted = λ told. notes_new (g.S.Store.file c.args.store.now) c.args.movie.now c.args.walk.now c.args.end c.new-planner.result c.args.rows.now c.new-planner.ensures;
+  takes = λ told tree t n o h. takes_none (g.S.Store.file c.args.store.now) tree t n c.args.steps.now c.args.walk.now h;
 }
 
 pub returns-in-Ended-clause-planned : goal.returns-in-Ended-clause-planned
@@ -68,6 +71,11 @@ loop-planner-preserved g c =
       noted = λ told. (let rows = c.loop-planner.rows in
           let counted = ap (λ (p : Planned). p.count) c.piece.ensures.is ∙ planned_counts c.loop-planner.planner.gathered in
           hand_noted (g.S.Store.file c.args.store.now) c.args.movie.now c.args.walk.now c.loop-planner.walk _ c.piece.result.count _ c.loop-planner.planner c.note_hand-hand.new.planner c.note_hand-hand.result.stop c.note_hand-hand.result.place rows c.note_hand-hand.new.rows _ (i.fed told) (i.noted told) c.note_hand-hand.ensures.fed counted (search rules));
+      takes = λ told.
+          let file = g.S.Store.file c.args.store.now in
+          let m = c.args.movie.now in
+          let kept = keeps_before file m c.args.walk.now c.loop-planner.walk _ _ (i.takes told) c.note_hand-hand.result.place c.keep.new.self _ c.note_hand-hand.ensures.keeps c.keep.ensures.place c.keep.ensures.work in
+          loads_before file m c.args.walk.now c.keep.new.self _ _ kept c.load.new.self _ ((rw (i.honesty, i.file) at l.work) told);
     }
 
 pub returns-in_err-load-in-Empty-clause-unchanged : goal.returns-in_err-load-in-Empty-clause-unchanged
@@ -109,3 +117,35 @@ returns-then-not-branch-clause-noted g c told tree t samples o h =
     let on = hand_noted (g.S.Store.file c.args.store.now) c.args.movie.now c.args.walk.now c.loop-planner.walk _ c.piece.result.count _ c.loop-planner.planner c.note_hand-hand.new.planner c.note_hand-hand.result.stop c.note_hand-hand.result.place c.loop-planner.rows c.note_hand-hand.new.rows _
     (i.fed told) (i.noted told) c.note_hand-hand.ensures.fed counted (search rules) in
     rw counted_now (on tree t samples o h)
+
+pub returns-in-Ended-clause-work : goal.returns-in-Ended-clause-work
+returns-in-Ended-clause-work g c told tree t n o h =
+    let i = c.loop-planner.invariant in
+    let file = g.S.Store.file c.args.store.now in
+    let m = c.args.movie.now in
+    keeps_before file m c.args.walk.now c.loop-planner.walk _ _ (i.takes told) c.note_hand-hand.result.place c.keep.new.self _ c.note_hand-hand.ensures.keeps c.keep.ensures.place c.keep.ensures.work tree t n o h
+
+pub returns-then-not-branch-clause-work : goal.returns-then-not-branch-clause-work
+returns-then-not-branch-clause-work g c told tree t n o h =
+    let i = c.loop-planner.invariant in
+    let file = g.S.Store.file c.args.store.now in
+    let m = c.args.movie.now in
+    let kept = keeps_before file m c.args.walk.now c.loop-planner.walk _ _ (i.takes told) c.note_hand-hand.result.place c.keep.new.self _ c.note_hand-hand.ensures.keeps c.keep.ensures.place c.keep.ensures.work in
+    loads_before file m c.args.walk.now c.keep.new.self _ _ kept c.load.new.self _ ((rw (i.honesty, i.file) at c.in_ok-load-in-Empty.ensures.work) told) tree t n o h
+
+pub returns-in-Full-clause-most : goal.returns-in-Full-clause-most
+returns-in-Full-clause-most g c told tree t n o h =
+    let i = c.loop-planner.invariant in
+    let file = g.S.Store.file c.args.store.now in
+    let m = c.args.movie.now in
+    let kept = keeps_before file m c.args.walk.now c.loop-planner.walk _ _ (i.takes told) c.note_hand-hand.result.place c.keep.new.self _ c.note_hand-hand.ensures.keeps c.keep.ensures.place c.keep.ensures.work in
+    most_before file m c.args.walk.now c.keep.new.self _ _ kept tree t n o h
+
+pub returns-in_err-load-in-Empty-clause-most : goal.returns-in_err-load-in-Empty-clause-most
+returns-in_err-load-in-Empty-clause-most g c told tree t n o h =
+    let p = err_from_is_err_and c.from_residual.result c.from_residual.ensures.1 in
+    let i = c.loop-planner.invariant in
+    let file = g.S.Store.file c.args.store.now in
+    let m = c.args.movie.now in
+    let kept = keeps_before file m c.args.walk.now c.loop-planner.walk _ _ (i.takes told) c.note_hand-hand.result.place c.keep.new.self _ c.note_hand-hand.ensures.keeps c.keep.ensures.place c.keep.ensures.work in
+    rw p.1 (fails_before file m c.args.walk.now c.keep.new.self _ _ kept _ ((rw (i.honesty, i.file) at c.in_err-load-in-Empty.ensures.most) told) tree t n o h)

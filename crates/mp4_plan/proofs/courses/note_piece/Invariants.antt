@@ -3,6 +3,7 @@ use Rattle.std.proofs.Common.{◌≡◌, ◌-◌, ◌≤◌, length}
 use Rattle.mp4_present.specs.Movies.{IsWalkOf}
 use Rattle.mp4_plan.specs.Gathering.{count_of, piece_from}
 use Rattle.mp4_plan.proofs.PieceFed.{FeedsOn, NotesOn}
+use Rattle.mp4_present.proofs.WayThrough.{TakesBefore}
 use Rattle.mp4_plan.proofs.courses.note_piece.Given as goal
 
 -- the walk goes on, and the piece is fed and noted
@@ -17,6 +18,7 @@ invariant-loop-planner g l = record {
   rows : length l.rows ≡ length l.fn.rows;
   fed : IsTrue (g.S.Store.is_honest l.fn.store) → FeedsOn (g.S.Store.file l.fn.store) l.movie l.fn.walk l.walk (piece_from l.fn.end) l.planner;
   noted : IsTrue (g.S.Store.is_honest l.fn.store) → NotesOn (g.S.Store.file l.fn.store) l.movie l.fn.walk l.planner l.rows;
+  takes : IsTrue (g.S.Store.is_honest l.fn.store) → TakesBefore (g.S.Store.file l.fn.store) l.movie l.fn.walk l.walk l.fn.steps l.steps;
 }
 
 abbrev pub decreases-loop-planner : goal.decreases-loop-planner

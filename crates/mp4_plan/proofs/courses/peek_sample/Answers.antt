@@ -2,6 +2,8 @@ use Rattle.std.proofs.Common.{rules, ◌≡◌, None, refl, sym, ap, ◌∙◌}
 use Rattle.std.specs.Prelude.{slice_get}
 use Rattle.std.proofs.lemmas.Result.{err_from_is_err_and}
 use Rattle.mp4_plan.proofs.WalksOn.{none_left, loads_on, loads_none, ends_none, hand_none, peeked, by_test}
+use Rattle.mp4_present.proofs.WayThrough.{takes_none}
+use Rattle.mp4_plan.proofs.CourseSteps.{loads_before, fails_before}
 use Rattle.mp4_plan.proofs.courses.peek_sample.Goals as goal
 
 pub loop-walk-init : goal.loop-walk-init
@@ -13,6 +15,7 @@ loop-walk-init g c = record {
   reads = refl;
   first = (c.in_hand.result, (c.in_hand.ensures.hand, c.peek-next.ensures));
   coming = λ told tree t samples o h. h;
+  takes = λ told tree t n o h. takes_none (g.S.Store.file c.args.store.now) tree t n c.args.steps.now c.args.walk.now h;
 }
 
 pub returns-in_err-load-clause-unchanged : goal.returns-in_err-load-clause-unchanged
@@ -38,6 +41,7 @@ loop-walk-preserved g c =
           let k = i.coming told tree t samples o h in
           loads_on (g.S.Store.file c.args.store.now) c.args.movie.now tree t c.loop-walk.walk c.load.new.self samples k i.first.0 i.first.1.0 (none_left i.first.0 c.loop-walk.next i.first.1.1 is_none) c.in_ok-load.field-0 c.if-branch.true
           ((rw (i.honesty, i.file) at e.loaded) told tree t k.0 k.1 o k.3.0);
+      takes = λ told. loads_before (g.S.Store.file c.args.store.now) c.args.movie.now c.args.walk.now c.loop-walk.walk _ _ (i.takes told) c.load.new.self _ ((rw (i.honesty, i.file) at e.work) told);
     }
 
 pub returns-else-branch-clause-coming : goal.returns-else-branch-clause-coming
@@ -60,3 +64,17 @@ returns-after-loop-walk-clause-coming g c told tree t samples o h =
     let i = c.loop-walk.invariant in
     let k = i.coming told tree t samples o h in
     (k, peeked (g.S.Store.file c.args.store.now) c.args.movie.now tree t c.loop-walk.walk samples k i.first.0 i.first.1.0 c.loop-walk.next i.first.1.1 (search rules))
+
+pub returns-in_err-load-clause-most : goal.returns-in_err-load-clause-most
+returns-in_err-load-clause-most g c told tree t n o h =
+    let p = err_from_is_err_and c.from_residual.result c.from_residual.ensures.1 in
+    let i = c.loop-walk.invariant in
+    rw p.1 (fails_before (g.S.Store.file c.args.store.now) c.args.movie.now c.args.walk.now c.loop-walk.walk _ _ (i.takes told) _ ((rw (i.honesty, i.file) at c.in_err-load.ensures.most) told) tree t n o h)
+
+pub returns-else-branch-clause-work : goal.returns-else-branch-clause-work
+returns-else-branch-clause-work g c told tree t n o h =
+    let i = c.loop-walk.invariant in
+    loads_before (g.S.Store.file c.args.store.now) c.args.movie.now c.args.walk.now c.loop-walk.walk _ _ (i.takes told) c.load.new.self _ ((rw (i.honesty, i.file) at c.in_ok-load.ensures.work) told) tree t n o h
+
+pub returns-after-loop-walk-clause-work : goal.returns-after-loop-walk-clause-work
+returns-after-loop-walk-clause-work g c told tree t n o h = c.loop-walk.invariant.takes told tree t n o h

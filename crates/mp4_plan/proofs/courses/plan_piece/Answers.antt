@@ -4,6 +4,8 @@ use Rattle.mp4_present.specs.Movies.{InHandOf}
 use Rattle.mp4_plan.specs.Gathering.{Planning, planned_of, piece_from}
 use Rattle.mp4_plan.proofs.PieceFed.{hand_fed, hand_ended, hand_full, next_fed, none_fed, feeds_new}
 use Rattle.mp4_plan.proofs.HandsTaken.{few_more}
+use Rattle.mp4_present.proofs.WayThrough.{takes_none}
+use Rattle.mp4_plan.proofs.CourseSteps.{keeps_before, loads_before, most_before, fails_before}
 use Rattle.mp4_plan.proofs.courses.plan_piece.Goals as goal
 
 pub loop-planner-init : goal.loop-planner-init
@@ -15,6 +17,7 @@ loop-planner-init g c = record {
   reads = refl;
   few = search rules;
   fed = λ told. feeds_new (g.S.Store.file c.args.store.now) c.args.movie.now c.args.walk.now c.args.end c.new-planner.result c.new-planner.ensures;
+  takes = λ told tree t n o h. takes_none (g.S.Store.file c.args.store.now) tree t n c.args.steps.now c.args.walk.now h;
 }
 
 pub returns-in-Ended-clause-planned : goal.returns-in-Ended-clause-planned
@@ -60,6 +63,11 @@ loop-planner-preserved g c =
           let on = hand_fed file m c.args.walk.now c.loop-planner.walk c.keep.new.self _ _ c.loop-planner.planner planner place (i.fed told) fed c.keep.ensures.place in
           let is_hand = subst (λ w. InHandOf m w fed.later) (sym c.keep.ensures.place) fed.is_later in
           next_fed file m c.args.walk.now c.keep.new.self c.load.new.self _ planner fed.later c.in_ok-load-in-Empty.field-0 on is_hand fed.taken.2 ((rw (i.honesty, i.file) at l.loaded) told) (search rules);
+      takes = λ told.
+          let file = g.S.Store.file c.args.store.now in
+          let m = c.args.movie.now in
+          let kept = keeps_before file m c.args.walk.now c.loop-planner.walk _ _ (i.takes told) c.feed_hand-hand.result.place c.keep.new.self _ c.feed_hand-hand.ensures.keeps c.keep.ensures.place c.keep.ensures.work in
+          loads_before file m c.args.walk.now c.keep.new.self _ _ kept c.load.new.self _ ((rw (i.honesty, i.file) at l.work) told);
     }
 
 pub returns-in_err-load-in-Empty-clause-unchanged : goal.returns-in_err-load-in-Empty-clause-unchanged
@@ -78,3 +86,35 @@ returns-in-Full-clause-unchanged g c told tree t samples o h few =
     let fed = rw c.in-Full.is at c.feed_hand-hand.ensures.fed in
     let full = hand_full file c.args.movie.now c.args.walk.now c.loop-planner.walk _ _ c.loop-planner.planner c.feed_hand-hand.new.planner c.feed_hand-hand.result.place (i.fed told) fed tree t samples o h in
     λ e. absurd (omega (arith, full, few, i.few, few_more (piece_from c.args.end) samples))
+
+pub returns-in-Ended-clause-work : goal.returns-in-Ended-clause-work
+returns-in-Ended-clause-work g c told tree t n o h =
+    let i = c.loop-planner.invariant in
+    let file = g.S.Store.file c.args.store.now in
+    let m = c.args.movie.now in
+    keeps_before file m c.args.walk.now c.loop-planner.walk _ _ (i.takes told) c.feed_hand-hand.result.place c.keep.new.self _ c.feed_hand-hand.ensures.keeps c.keep.ensures.place c.keep.ensures.work tree t n o h
+
+pub returns-then-not-branch-clause-work : goal.returns-then-not-branch-clause-work
+returns-then-not-branch-clause-work g c told tree t n o h =
+    let i = c.loop-planner.invariant in
+    let file = g.S.Store.file c.args.store.now in
+    let m = c.args.movie.now in
+    let kept = keeps_before file m c.args.walk.now c.loop-planner.walk _ _ (i.takes told) c.feed_hand-hand.result.place c.keep.new.self _ c.feed_hand-hand.ensures.keeps c.keep.ensures.place c.keep.ensures.work in
+    loads_before file m c.args.walk.now c.keep.new.self _ _ kept c.load.new.self _ ((rw (i.honesty, i.file) at c.in_ok-load-in-Empty.ensures.work) told) tree t n o h
+
+pub returns-in-Full-clause-most : goal.returns-in-Full-clause-most
+returns-in-Full-clause-most g c told tree t n o h =
+    let i = c.loop-planner.invariant in
+    let file = g.S.Store.file c.args.store.now in
+    let m = c.args.movie.now in
+    let kept = keeps_before file m c.args.walk.now c.loop-planner.walk _ _ (i.takes told) c.feed_hand-hand.result.place c.keep.new.self _ c.feed_hand-hand.ensures.keeps c.keep.ensures.place c.keep.ensures.work in
+    most_before file m c.args.walk.now c.keep.new.self _ _ kept tree t n o h
+
+pub returns-in_err-load-in-Empty-clause-most : goal.returns-in_err-load-in-Empty-clause-most
+returns-in_err-load-in-Empty-clause-most g c told tree t n o h =
+    let p = err_from_is_err_and c.from_residual.result c.from_residual.ensures.1 in
+    let i = c.loop-planner.invariant in
+    let file = g.S.Store.file c.args.store.now in
+    let m = c.args.movie.now in
+    let kept = keeps_before file m c.args.walk.now c.loop-planner.walk _ _ (i.takes told) c.feed_hand-hand.result.place c.keep.new.self _ c.feed_hand-hand.ensures.keeps c.keep.ensures.place c.keep.ensures.work in
+    rw p.1 (fails_before file m c.args.walk.now c.keep.new.self _ _ kept _ ((rw (i.honesty, i.file) at c.in_err-load-in-Empty.ensures.most) told) tree t n o h)

@@ -3,6 +3,7 @@ use Rattle.std.proofs.Common.{◌≡◌, ◌-◌, ◌≤◌, length}
 use Rattle.mp4_present.specs.Movies.{IsWalkOf}
 use Rattle.mp4_plan.specs.Gathering.{count_of, piece_from}
 use Rattle.mp4_plan.proofs.PieceFed.{FeedsOn}
+use Rattle.mp4_present.proofs.WayThrough.{TakesBefore}
 use Rattle.mp4_plan.proofs.courses.plan_piece.Given as goal
 
 -- the walk goes on, and the piece is fed
@@ -15,6 +16,7 @@ invariant-loop-planner g l = record {
   reads : g.S.Store.read_failures l.store ≡ g.S.Store.read_failures l.fn.store;
   few : count_of l.planner.gathered ≤ 16777216;
   fed : IsTrue (g.S.Store.is_honest l.fn.store) → FeedsOn (g.S.Store.file l.fn.store) l.movie l.fn.walk l.walk (piece_from l.fn.end) l.planner;
+  takes : IsTrue (g.S.Store.is_honest l.fn.store) → TakesBefore (g.S.Store.file l.fn.store) l.movie l.fn.walk l.walk l.fn.steps l.steps;
 }
 
 abbrev pub decreases-loop-planner : goal.decreases-loop-planner
