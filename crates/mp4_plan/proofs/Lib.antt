@@ -35,6 +35,8 @@ pub mod NormalDenotes
 pub mod TurnOrder
 pub mod HeadLimit
 pub mod EachAt
+pub mod AllTake
+pub mod StepsOn
 pub mod RowBytes
 pub mod RunsResumed
 pub mod Pushes

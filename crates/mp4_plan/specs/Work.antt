@@ -2,7 +2,7 @@
 use Rattle.std.specs.Prelude.{◌≡◌, ℕ, ◌+◌, ◌≤◌, List, [], ◌∷◌}
 use Rattle.mp4_head.specs.Tree.{TrackTree}
 use Rattle.mp4_present.specs.Denotes.{FileTree}
-use Rattle.mp4_present.specs.Work.{MayTake}
+use Rattle.mp4_present.specs.Work.{MayTake, walks_steps}
 use Rattle.mp4_present.specs.declared.walks.Walk.{Walk}
 
 -- these walks, one for each track, may take so many steps together
@@ -14,3 +14,7 @@ MayAllTake file tree _ _ n = ⊥
 -- Of so many steps some were taken, and the walks over all tracks may take the others.
 abbrev pub AllTakeOn : List ℕ → FileTree → ℕ → List Walk → ℕ → ℕ → Type 0
 AllTakeOn file tree n walks old new = (rest : ℕ) × MayAllTake file tree tree.movie.tracks walks rest × (new + rest ≤ old + n)
+
+-- these walks begin: they may take no more steps together than walks over all samples of all tracks
+abbrev pub MayAllBegin : List ℕ → FileTree → List Walk → Type 0
+MayAllBegin file tree walks = (n : ℕ) × MayAllTake file tree tree.movie.tracks walks n × (n ≤ walks_steps tree)

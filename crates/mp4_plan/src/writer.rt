@@ -14,7 +14,9 @@ ghost use Rattle.mp4_present.specs.Coming.{Comes};
 ghost use Rattle.mp4_present.specs.Denotes.{FileTree, presentation_of};
 ghost use Rattle.mp4_present.specs.Joined.{IsBelow};
 ghost use Rattle.mp4_present.specs.OpenedMovie.{IsOpenedAs};
+ghost use Rattle.mp4_present.specs.Work.{walks_steps};
 ghost use Rattle.mp4_plan.specs.Normal.{normal};
+ghost use Rattle.mp4_plan.specs.Work.{MayAllTake, AllTakeOn, MayAllBegin};
 ghost use Rattle.mp4_plan.specs.UsedKeys.{AreApart};
 ghost use Rattle.mp4_present.specs.Carried.{RefusesCarry};
 ghost use Rattle.mp4_present.specs.declared.walks.Walk.{Walk};
@@ -78,6 +80,7 @@ fn walks_of(alloc: Global, movie: &Movie) -> Result<Vec<Walk>, Refusal>
     ensures begin { IfOk result (λ walks. (file : List ℕ) (tree : FileTree) → IsOpenedAs file movie.now tree → AllBegin file tree movie.now walks.items) }
     ensures memory { IfErr result (λ r. r ≡ refusals.Memory) }
     ensures refusal { IfErr result RefusesMemory }
+    ensures may { IfOk result (λ walks. (file : List ℕ) (tree : FileTree) → IsOpenedAs file movie.now tree → MayAllBegin file tree walks.items) }
 {
     let mut walks = Vec::new(alloc);
     for track in 0..movie.tracks().len() {
@@ -102,6 +105,8 @@ fn first_time<S: Store, L: Ledger>(
     ensures unchanged { WhereOpened (S.is_honest store.old) (S.file store.old) movie.now (λ tree. (lefts : List (List SampleAt)) → AllCome (S.file store.old) tree movie.now tree.movie.tracks walks.old lefts → IfErr result (λ r. r ≡ refusals.StoreChanged → ⊥)) }
     ensures reads { OnOk result (S.read_failures store.new ≡ S.read_failures store.old) }
     ensures refusal { IfErr result (RefusesLoad (S.read_failures store.old) (S.read_failures store.new)) }
+    ensures work { WhereOpened (S.is_honest store.old) (S.file store.old) movie.now (λ tree. (n : ℕ) → MayAllTake (S.file store.old) tree tree.movie.tracks walks.old n → OnOk result (AllTakeOn (S.file store.old) tree n walks.new steps.old steps.new)) }
+    ensures most { WhereOpened (S.is_honest store.old) (S.file store.old) movie.now (λ tree. (n : ℕ) → MayAllTake (S.file store.old) tree tree.movie.tracks walks.old n → OnErr result (steps.new ≤ steps.old + n)) }
 {
     if walks.is_empty() {
         return Ok(0);
@@ -150,6 +155,7 @@ fn plan_all<S: Store, L: Ledger>(
     ensures unchanged { WhereOpened (S.is_honest store.old) (S.file store.old) movie.now (λ tree. IfErr result (λ r. r ≡ refusals.StoreChanged → ⊥)) }
     ensures reads { OnOk result (S.read_failures store.new ≡ S.read_failures store.old) }
     ensures refusal { IfErr result (RefusesPlan (S.read_failures store.old) (S.read_failures store.new)) }
+    ensures work { WhereOpened (S.is_honest store.old) (S.file store.old) movie.now (λ tree. steps.new ≤ steps.old + walks_steps tree) }
 {
     let mut walks = walks_of(alloc, movie)?;
     let from = first_time(walks.as_mut_slice(), movie, store, steps)?;
@@ -179,6 +185,7 @@ pub fn normal_len<S: Store, L: Ledger>(
     ensures unchanged { WhereOpened (S.is_honest store.old) (S.file store.old) movie.now (λ tree. IfErr result (λ r. r ≡ refusals.StoreChanged → ⊥)) }
     ensures reads { OnOk result (S.read_failures store.new ≡ S.read_failures store.old) }
     ensures refusal { IfErr result (RefusesPlan (S.read_failures store.old) (S.read_failures store.new)) }
+    ensures work { WhereOpened (S.is_honest store.old) (S.file store.old) movie.now (λ tree. steps.new ≤ steps.old + walks_steps tree) }
 {
     let plan = plan_all(alloc, movie, store, steps)?;
     let head = movie.head(alloc)?;
@@ -243,6 +250,8 @@ impl Writer {
         ensures unchanged { WhereOpened (S.is_honest store.old) (S.file store.old) movie.now (λ tree. IfErr result (λ r. r ≡ refusals.StoreChanged → ⊥)) }
         ensures reads { OnOk result (S.read_failures store.new ≡ S.read_failures store.old) }
         ensures refusal { IfErr result (RefusesPlan (S.read_failures store.old) (S.read_failures store.new)) }
+        ensures work { WhereOpened (S.is_honest store.old) (S.file store.old) movie.now (λ tree. steps.new ≤ steps.old + walks_steps tree) }
+        ensures may { WhereOpened (S.is_honest store.old) (S.file store.old) movie.now (λ tree. IfOk result (λ w. MayAllBegin (S.file store.old) tree w.planning.items × MayAllBegin (S.file store.old) tree w.copying.items)) }
     {
         let plan = plan_all(alloc, movie, store, steps)?;
         Ok(Writer {
@@ -276,6 +285,8 @@ impl Writer {
         ensures few { IfOk result (λ n. (n.planned.count ≤ length self.old.rows.items) × (n.planned.bytes + 16 < 2 ^ 64) × ((j : ℕ) → slice_index n.planned.group_rows j ≤ n.planned.count)) }
         ensures reads { OnOk result (S.read_failures store.new ≡ S.read_failures store.old) }
         ensures refusal { IfErr result (RefusesLoad (S.read_failures store.old) (S.read_failures store.new)) }
+        ensures work { WhereOpened (S.is_honest store.old) (S.file store.old) movie.now (λ tree. (n : ℕ) → MayAllTake (S.file store.old) tree tree.movie.tracks self.old.planning.items n → OnOk result (AllTakeOn (S.file store.old) tree n self.new.planning.items steps.old steps.new)) }
+        ensures most { WhereOpened (S.is_honest store.old) (S.file store.old) movie.now (λ tree. (n : ℕ) → MayAllTake (S.file store.old) tree tree.movie.tracks self.old.planning.items n → OnErr result (steps.new ≤ steps.old + n)) }
     {
         let walk = &mut self.planning[turn.track];
         let first = peek_sample(walk, movie, store, steps)?;
@@ -317,6 +328,8 @@ impl Writer {
         ensures reads { OnOk result (S.read_failures store.new ≡ S.read_failures store.old) }
         ensures puts { OnOk result (K.put_failures sink.new ≡ K.put_failures sink.old) }
         ensures refusal { IfErr result (RefusesCarry (S.read_failures store.old) (S.read_failures store.new) (K.put_failures sink.old) (K.put_failures sink.new)) }
+        ensures work { WhereOpened (S.is_honest store.old) (S.file store.old) movie.now (λ tree. (n : ℕ) → MayAllTake (S.file store.old) tree tree.movie.tracks self.old.copying.items n → OnOk result (AllTakeOn (S.file store.old) tree n self.new.copying.items steps.old steps.new)) }
+        ensures most { WhereOpened (S.is_honest store.old) (S.file store.old) movie.now (λ tree. (n : ℕ) → MayAllTake (S.file store.old) tree tree.movie.tracks self.old.copying.items n → OnErr result (steps.new ≤ steps.old + n)) }
     {
         let keys = movie.tracks()[track].keys;
         let sizes = sizes_of(planned, &keys);
@@ -363,6 +376,8 @@ impl Writer {
         ensures reads { OnOk result (S.read_failures store.new ≡ S.read_failures store.old) }
         ensures puts { OnOk result (K.put_failures sink.new ≡ K.put_failures sink.old) }
         ensures refusal { IfErr result (RefusesCarry (S.read_failures store.old) (S.read_failures store.new) (K.put_failures sink.old) (K.put_failures sink.new)) }
+        ensures work { WhereOpened (S.is_honest store.old) (S.file store.old) movie.now (λ tree. (n : ℕ) → MayAllTake (S.file store.old) tree tree.movie.tracks self.old.copying.items n → OnOk result (AllTakeOn (S.file store.old) tree n self.new.copying.items steps.old steps.new)) }
+        ensures most { WhereOpened (S.is_honest store.old) (S.file store.old) movie.now (λ tree. (n : ℕ) → MayAllTake (S.file store.old) tree tree.movie.tracks self.old.copying.items n → OnErr result (steps.new ≤ steps.old + n)) }
     {
         if let Some(head) = head {
             self.carry(track, head, planned, movie, store, sink, steps)?;
@@ -388,6 +403,7 @@ impl Writer {
         ensures reads { OnOk result (S.read_failures store.new ≡ S.read_failures store.old) }
         ensures puts { OnOk result (K.put_failures sink.new ≡ K.put_failures sink.old) }
         ensures refusal { IfErr result (RefusesCarry (S.read_failures store.old) (S.read_failures store.new) (K.put_failures sink.old) (K.put_failures sink.new)) }
+        ensures work { WhereOpened (S.is_honest store.old) (S.file store.old) movie.now (λ tree. (n c : ℕ) → MayAllTake (S.file store.old) tree tree.movie.tracks self.old.planning.items n → MayAllTake (S.file store.old) tree tree.movie.tracks self.old.copying.items c → steps.new ≤ steps.old + n + c) }
     {
         let tracks = movie.tracks();
         self.carrier.carry(self.head.as_slice(), sink)?;

@@ -1,4 +1,4 @@
-use Rattle.std.proofs.Common.{get_or, length, map, arith, ap, sym, subst, refl, ◌∙◌, slice_get}
+use Rattle.std.proofs.Common.{rules, ◌<◌, slice_set, get_or, length, map, arith, ap, sym, subst, refl, ◌∙◌, slice_get}
 use Rattle.std.proofs.lemmas.List.{with_items_is}
 use Rattle.std.proofs.lemmas.Result.{err_from_is_err_and}
 use Rattle.mp4_tables.specs.Keys.{keys_seen}
@@ -6,6 +6,10 @@ use Rattle.mp4_present.specs.Coming.{track_samples}
 use Rattle.mp4_present.specs.declared.track_info.TrackInfo.{TrackInfo}
 use Rattle.mp4_plan.proofs.Planning.{walks_set}
 use Rattle.mp4_plan.proofs.PlannedTurns.{Adds, planning_first, planning_end, kept_there, has_turn, planning_moves, planning_next}
+use Rattle.mp4_present.specs.Work.{walks_steps}
+use Rattle.mp4_plan.proofs.AllTake.{one_takes, one_stops}
+use Rattle.mp4_plan.proofs.StepsOn.{then_takes, then_stops, all_taken, all_within, all_then, all_then_stop}
+use Rattle.std.proofs.lemmas.Option.{slice_get_read}
 use Rattle.mp4_plan.proofs.writer.plan_all.Goals as goal
 
 pub loop-turn-init : goal.loop-turn-init
@@ -28,6 +32,9 @@ loop-turn-init g c =
           let time = c.in_ok-from.ensures.time told tree o (map (track_samples tree) tree.movie.tracks) (rw c.as_mut_slice.ensures.value begin) in
           let s = rw c.tracks-tracks.ensures at c.new-schedule.ensures in
           planning_first file tree m c.new-schedule.result c.first_time.new.walks c.in_ok-from.from o time.1 time.0 s.tracks s.first s.left s.starts,
+      λ told tree o.
+          let begin = c.in_ok-walks.ensures.may (g.S.Store.file c.args.store.now) tree o in
+          all_within (g.S.Store.file c.args.store.now) tree c.first_time.new.walks begin.0 (walks_steps tree) _ _ begin.2 (c.in_ok-from.ensures.work told tree o begin.0 (rw c.as_mut_slice.ensures.value begin.1)),
     )
 
 pub returns-in_err-planned-clause-unchanged : goal.returns-in_err-planned-clause-unchanged
@@ -86,6 +93,12 @@ loop-turn-preserved g c =
           let adds : Adds (keys_seen there.keys) c.in_ok-planned.planned c.loop-turn.plan c.add.new.self = record { longest = most; none = c.add.ensures.none; some = c.add.ensures.some } in
           planning_next file tree m s walks c.loop-turn.plan o h turn.track c.index_mut-walk.result.now turn.end t at.1 c.in_ok-planned.planned c.peek_sample.new.walk c.in_ok-next.next c.add.new.self c.pass.new.self planned.0 next.0 next.1
           (record { few = record { count = few; rows = p.rows }; bytes = p.bytes }) (subst (λ (info : TrackInfo). Adds (keys_seen info.keys) c.in_ok-planned.planned c.loop-turn.plan c.add.new.self) kept adds) c.in_ok-pass.ensures.turned,
+      λ told tree o.
+          let k = c.in-Some.turn.track in
+          let lt : k < length walks = search rules in
+          let there = slice_get_read walks (length walks) k c.index_mut-walk.result.now refl lt c.index_mut-walk.ensures.value in
+          all_then file tree walks (slice_set walks k c.peek_sample.new.walk) (walks_steps tree) _ _ _ (i.7 told tree o) (λ rest h. one_takes file tree tree.movie.tracks walks k c.index_mut-walk.result.now c.peek_sample.new.walk rest _ _ h there (λ t own may.
+          then_takes file tree t own _ c.plan_piece.new.walk c.peek_sample.new.walk _ _ ((rw (i.5, i.2) at p.work) told tree t own o may) (λ left more. (rw (p.honesty ∙ i.5, p.file ∙ i.2) at n.work) told tree t left o more))),
     )
 
 pub returns-in_err-pass-clause-unchanged : goal.returns-in_err-pass-clause-unchanged
@@ -110,3 +123,48 @@ pub returns-clause-plan : goal.returns-clause-plan
 returns-clause-plan g c told tree o =
     let i = c.loop-turn.invariant in
     planning_end (g.S.Store.file c.args.store.now) tree c.args.movie.now c.loop-turn.schedule c.loop-turn.walks.items c.loop-turn.plan o (i.6 told tree o) (c.in_default.ensures.none refl)
+
+pub returns-in_err-from-clause-work : goal.returns-in_err-from-clause-work
+returns-in_err-from-clause-work g c told tree o =
+    let begin = c.in_ok-walks.ensures.may (g.S.Store.file c.args.store.now) tree o in
+    let most = c.in_err-from.ensures.most told tree o begin.0 (rw c.as_mut_slice.ensures.value begin.1) in
+    let few = begin.2 in
+    omega (arith, most, few)
+
+pub returns-in_err-planned-clause-work : goal.returns-in_err-planned-clause-work
+returns-in_err-planned-clause-work g c told tree o =
+    let file = g.S.Store.file c.args.store.now in
+    let i = c.loop-turn.invariant in
+    let walks = c.loop-turn.walks.items in
+    let k = c.in-Some.turn.track in
+    let lt : k < length walks = search rules in
+    let there = slice_get_read walks (length walks) k c.index_mut-walk.result.now refl lt c.index_mut-walk.ensures.value in
+    all_then_stop file tree walks (walks_steps tree) _ _ _ (i.7 told tree o) (λ rest h. one_stops file tree tree.movie.tracks walks k c.index_mut-walk.result.now rest _ _ h there (λ t own may. (rw (i.5, i.2) at c.in_err-planned.ensures.most) told tree t own o may))
+
+pub returns-in_err-next-clause-work : goal.returns-in_err-next-clause-work
+returns-in_err-next-clause-work g c told tree o =
+    let file = g.S.Store.file c.args.store.now in
+    let i = c.loop-turn.invariant in
+    let walks = c.loop-turn.walks.items in
+    let k = c.in-Some.turn.track in
+    let lt : k < length walks = search rules in
+    let there = slice_get_read walks (length walks) k c.index_mut-walk.result.now refl lt c.index_mut-walk.ensures.value in
+    let p = c.in_ok-planned.ensures in
+    all_then_stop file tree walks (walks_steps tree) _ _ _ (i.7 told tree o) (λ rest h. one_stops file tree tree.movie.tracks walks k c.index_mut-walk.result.now rest _ _ h there (λ t own may.
+    then_stops file tree t own _ c.plan_piece.new.walk _ _ ((rw (i.5, i.2) at p.work) told tree t own o may) (λ left more. (rw (p.honesty ∙ i.5, p.file ∙ i.2) at c.in_err-next.ensures.most) told tree t left o more)))
+
+pub returns-in_err-pass-clause-work : goal.returns-in_err-pass-clause-work
+returns-in_err-pass-clause-work g c told tree o =
+    let file = g.S.Store.file c.args.store.now in
+    let i = c.loop-turn.invariant in
+    let walks = c.loop-turn.walks.items in
+    let k = c.in-Some.turn.track in
+    let lt : k < length walks = search rules in
+    let there = slice_get_read walks (length walks) k c.index_mut-walk.result.now refl lt c.index_mut-walk.ensures.value in
+    let p = c.in_ok-planned.ensures in
+    let on = all_then file tree walks (slice_set walks k c.peek_sample.new.walk) (walks_steps tree) _ _ _ (i.7 told tree o) (λ rest h. one_takes file tree tree.movie.tracks walks k c.index_mut-walk.result.now c.peek_sample.new.walk rest _ _ h there (λ t own may.
+    then_takes file tree t own _ c.plan_piece.new.walk c.peek_sample.new.walk _ _ ((rw (i.5, i.2) at p.work) told tree t own o may) (λ left more. (rw (p.honesty ∙ i.5, p.file ∙ i.2) at c.in_ok-next.ensures.work) told tree t left o more))) in
+    all_taken file tree (slice_set walks k c.peek_sample.new.walk) (walks_steps tree) _ _ on
+
+pub returns-clause-work : goal.returns-clause-work
+returns-clause-work g c told tree o = all_taken (g.S.Store.file c.args.store.now) tree c.loop-turn.walks.items (walks_steps tree) _ _ (c.loop-turn.invariant.7 told tree o)

@@ -5,9 +5,11 @@ use Rattle.mp4_present.specs.OpenedMovie.{IsOpenedAs}
 use Rattle.mp4_plan.specs.Turns.{to_come}
 use Rattle.mp4_plan.specs.Writers.{AreWalksOf}
 use Rattle.mp4_plan.proofs.PlannedTurns.{IsPlanning}
+use Rattle.mp4_present.specs.Work.{walks_steps}
+use Rattle.mp4_plan.specs.Work.{AllTakeOn}
 use Rattle.mp4_plan.proofs.writer.plan_all.Given as goal
 
--- the walks go on, and what was passed is planned
+-- the walks go on, what was passed is planned, and they took no more steps than they may
 abbrev pub invariant-loop-turn : goal.invariant-loop-turn
 invariant-loop-turn g l =
     AreWalksOf l.movie l.walks.items
@@ -17,6 +19,7 @@ invariant-loop-turn g l =
     × (l.plan.longest ≤ 2 ^ 24)
     × (g.S.Store.is_honest l.store ≡ g.S.Store.is_honest l.fn.store)
     × (IsTrue (g.S.Store.is_honest l.fn.store) → (tree : FileTree) → IsOpenedAs (g.S.Store.file l.fn.store) l.movie tree → IsPlanning (g.S.Store.file l.fn.store) tree l.movie l.schedule l.walks.items l.plan)
+    × (IsTrue (g.S.Store.is_honest l.fn.store) → (tree : FileTree) → IsOpenedAs (g.S.Store.file l.fn.store) l.movie tree → AllTakeOn (g.S.Store.file l.fn.store) tree (walks_steps tree) l.walks.items l.fn.steps l.steps)
 
 abbrev pub decreases-loop-turn : goal.decreases-loop-turn
 decreases-loop-turn g l = to_come l.schedule

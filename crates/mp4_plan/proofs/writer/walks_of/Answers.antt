@@ -2,6 +2,7 @@ use Rattle.std.proofs.Common.{rules, ◌<◌, [], ◌∷◌, length}
 use Rattle.mp4_present.specs.Movies.{IsWalkOf}
 use Rattle.mp4_plan.proofs.Filters.{all_append}
 use Rattle.mp4_plan.proofs.Planning.{one_room, one_begins, all_begin}
+use Rattle.mp4_plan.proofs.AllTake.{one_to_take, all_to_take}
 use Rattle.mp4_plan.proofs.writer.walks_of.Goals as goal
 
 pub loop-track-preserved : goal.loop-track-preserved
@@ -16,7 +17,11 @@ loop-track-preserved c =
       search rules,
       one_room c.loop-track.walks.items walk c.loop-track.track m.longest i.2 e.room,
       one_begins m c.loop-track.track c.loop-track.walks.items walk i.3 i.1 lt (λ file tree t o. e.coming file tree t o),
+      one_to_take m c.loop-track.track c.loop-track.walks.items walk i.4 i.1 lt (λ file tree t o. e.may file tree t o),
     )
 
 pub returns-clause-begin : goal.returns-clause-begin
 returns-clause-begin c = all_begin c.args.movie.now c.loop-track.track c.loop-track.walks.items c.loop-track.invariant.3 (search rules)
+
+pub returns-clause-may : goal.returns-clause-may
+returns-clause-may c = all_to_take c.args.movie.now c.loop-track.track c.loop-track.walks.items c.loop-track.invariant.4 (search rules)

@@ -1,4 +1,4 @@
-use Rattle.std.proofs.Common.{get_or, ℕ, List, take, map, refl, sym, ap, subst, ◌∙◌, arith}
+use Rattle.std.proofs.Common.{length, get_or, ℕ, List, take, map, refl, sym, ap, subst, ◌∙◌, arith}
 use Rattle.std.specs.Prelude.{codes}
 use Rattle.std.specs.Vec.{with_item}
 use Rattle.std.proofs.lemmas.Result.{err_from_is_err_and}
@@ -17,6 +17,8 @@ use Rattle.mp4_plan.proofs.PartsPut.{go_five, stop_one, stop_two, stop_three, st
 use Rattle.mp4_plan.proofs.FrontsPut.{front_as}
 use Rattle.mp4_plan.proofs.Pushes.{goes_on_as}
 use Rattle.mp4_present.specs.Carried.{waiting}
+use Rattle.mp4_plan.proofs.AllTake.{ok_takes, err_stops}
+use Rattle.std.proofs.lemmas.Option.{slice_get_read}
 use Rattle.mp4_plan.proofs.writer.Writer.carry.Goals as goal
 
 pub moof_front-front-requires : goal.moof_front-front-requires
@@ -149,3 +151,23 @@ pub returns-in_err-carry-2-clause-unchanged : goal.returns-in_err-carry-2-clause
 returns-in_err-carry-2-clause-unchanged g c told_honest tree o samples noted_are few bytes lie =
     let e = err_from_is_err_and c.from_residual-in_err-carry-2.result c.from_residual-in_err-carry-2.ensures.1 in
     rw (e.1, e.2) (put_unchanged _ _ _ c.in_err-carry-2.ensures.refusal)
+
+pub returns-clause-work : goal.returns-clause-work
+returns-clause-work g c told_honest tree o n h =
+    let file = g.S.Store.file c.args.store.now in
+    let walks = c.args.self.now.copying.items in
+    let k = c.args.track in
+    let lt = c.requires.track in
+    let many = c.requires.writer.copying.count in
+    let there = slice_get_read walks (length walks) k c.index_mut-walk.result.now refl (omega (arith, lt, many)) c.index_mut-walk.ensures.value in
+    ok_takes file tree c.carry_piece.result walks k c.index_mut-walk.result.now c.carry_piece.new.walk n _ _ h there (λ t own may. c.carry_piece.ensures.work told_honest tree t own o may)
+
+pub returns-clause-most : goal.returns-clause-most
+returns-clause-most g c told_honest tree o n h =
+    let file = g.S.Store.file c.args.store.now in
+    let walks = c.args.self.now.copying.items in
+    let k = c.args.track in
+    let lt = c.requires.track in
+    let many = c.requires.writer.copying.count in
+    let there = slice_get_read walks (length walks) k c.index_mut-walk.result.now refl (omega (arith, lt, many)) c.index_mut-walk.ensures.value in
+    err_stops file tree c.carry_piece.result walks k c.index_mut-walk.result.now n _ _ h there (λ t own may. c.carry_piece.ensures.most told_honest tree t own o may)

@@ -4,6 +4,7 @@ use Rattle.mp4_tables.specs.declared.sample.SampleAt.{SampleAt}
 use Rattle.mp4_present.specs.Coming.{Comes}
 use Rattle.mp4_present.proofs.Carrying.{BytesGoOn-nothing}
 use Rattle.mp4_plan.proofs.ComeAt.{set_same}
+use Rattle.mp4_plan.proofs.StepsOn.{none_taken}
 use Rattle.mp4_plan.proofs.writer.Writer.carry_turn.Goals as goal
 
 pub returns-in_err-carry-clause-prefix : goal.returns-in_err-carry-clause-prefix
@@ -31,3 +32,14 @@ returns-in_default-clause-copied g c told tree o samples none t walk is comes = 
   sym (set_same c.args.self.now.copying.items c.args.track walk is),
   subst (λ (ss : List SampleAt). Comes (g.S.Store.file c.args.store.now) tree t c.args.movie.now walk ss) (sym (none c.in_default.is)) comes,
 )
+
+pub returns-in_err-carry-clause-most : goal.returns-in_err-carry-clause-most
+returns-in_err-carry-clause-most g c told tree o n h =
+    let e = err_from_is_err_and c.from_residual.result c.from_residual.ensures.1 in
+    rw e.1 (c.in_err-carry.ensures.most told tree o n h)
+
+pub returns-in_ok-carry-clause-work : goal.returns-in_ok-carry-clause-work
+returns-in_ok-carry-clause-work g c told tree o n h = c.in_ok-carry.ensures.work told tree o n h
+
+pub returns-in_default-clause-work : goal.returns-in_default-clause-work
+returns-in_default-clause-work g c told tree o n h = none_taken (g.S.Store.file c.args.store.now) tree c.args.self.now.copying.items n _ h

@@ -11,3 +11,8 @@ returns-clause-ready g c told tree o =
       copying = c.in_ok-walks_of-2.ensures.begin file tree o;
       nothing = c.in_ok-new.ensures.empty;
     }
+
+pub returns-clause-may : goal.returns-clause-may
+returns-clause-may g c told tree o =
+    let file = g.S.Store.file c.args.store.now in
+    (c.in_ok-walks_of.ensures.may file tree o, c.in_ok-walks_of-2.ensures.may file tree o)

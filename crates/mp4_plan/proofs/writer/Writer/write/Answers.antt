@@ -14,6 +14,7 @@ use Rattle.mp4_plan.proofs.PieceWritten.{IsFew}
 use Rattle.mp4_plan.proofs.TurnTaken.{turns_end}
 use Rattle.mp4_plan.proofs.WritesOn.{stopped, all_put, not_all_put, begins, head_stops, head_put, is_first}
 use Rattle.mp4_plan.proofs.WriterTurns.{note_lacks, carry_stops, carry_lacks, pass_lacks, turn_goes}
+use Rattle.mp4_plan.proofs.StepsOn.{both_begin, both_taken, note_within, copy_within, turn_within}
 use Rattle.mp4_plan.proofs.writer.Writer.write.Goals as goal
 
 pub returns-in_err-carry-clause-prefix : goal.returns-in_err-carry-clause-prefix
@@ -62,6 +63,9 @@ loop-turn-init g c =
           let tracks = c.tracks-tracks.ensures in
           let first = is_first file tree m c.new-schedule.result c.in_ok-from.from o (rw tracks at c.new-schedule.ensures.tracks) (rw tracks at c.new-schedule.ensures.first) c.new-schedule.ensures.starts (rw tracks at c.new-schedule.ensures.left) times.0 in
           begins file tree m c.new-schedule.result w (with_items w.planning c.first_time.new.walks).items w.copying.items (g.K.Sink.contents c.args.sink.now) (g.K.Sink.contents c.carry.new.sink) (waiting c.carry.new.self) o ready first (rw walks times.1) ready.copying (rw c.as_slice.ensures.value at c.in_ok-carry.ensures.bytes);
+      within = λ told tree o n k plan copy.
+          let on = c.in_ok-from.ensures.work told tree o n (rw c.as_mut_slice.ensures.value plan) in
+          both_begin (g.S.Store.file c.args.store.now) tree (with_items w.planning c.first_time.new.walks).items w.copying.items n k _ _ (rw walks on) copy;
     }
 
 pub returns-in_err-noted-clause-prefix : goal.returns-in_err-noted-clause-prefix
@@ -195,6 +199,8 @@ loop-turn-preserved g c =
           let put = (rw (c.in_ok-noted.ensures.honesty, c.in_ok-noted.ensures.file, i.honesty, i.file) at c.in_ok-carry_turn.ensures.put) told tree o in
           let copied = (rw (c.in_ok-noted.ensures.honesty, c.in_ok-noted.ensures.file, i.honesty, i.file) at c.in_ok-carry_turn.ensures.copied) told tree o in
           rw c.sequence_behind-sequence.ensures (turn_goes file tree m o s c.loop-turn.sequence w before after h c.in-Some.turn here ends i.tracks i.writer c.note_turn.new.self c.in_ok-noted.noted (get_or c.tracks-tracks.result.now c.in-Some.turn.track c.index-tracks-turn.result).id noted c.in_ok-noted.ensures.keeps few is_id c.carry_turn.new.self (g.K.Sink.contents c.carry_turn.new.sink) c.pass.new.self put copied c.in_ok-carry_turn.ensures.keeps c.in_ok-pass.ensures.turned);
+      within = λ told tree o n k plan copy.
+          turn_within (g.S.Store.file c.args.store.now) tree n k _ _ c.loop-turn.self (i.within told tree o n k plan copy) c.note_turn.new.self _ ((rw (i.honesty, i.file) at c.in_ok-noted.ensures.work) told tree o) c.in_ok-noted.ensures.keeps.0 c.carry_turn.new.self _ ((rw (c.in_ok-noted.ensures.honesty, c.in_ok-noted.ensures.file, i.honesty, i.file) at c.in_ok-carry_turn.ensures.work) told tree o) c.in_ok-carry_turn.ensures.keeps.0;
     }
 
 pub returns-clause-bytes : goal.returns-clause-bytes
@@ -226,3 +232,28 @@ returns-clause-prefix g c told tree o ready =
 pub returns-clause-unchanged : goal.returns-clause-unchanged
 returns-clause-unchanged g c told tree o ready =
     if_err _ _ c.flush.result (λ r x. put_unchanged _ _ r x) c.flush.ensures.refusal
+
+pub returns-in_err-from-clause-work : goal.returns-in_err-from-clause-work
+returns-in_err-from-clause-work g c told tree o n k plan copy =
+    let most = c.in_err-from.ensures.most told tree o n (rw c.as_mut_slice.ensures.value plan) in
+    omega (arith, most)
+
+pub returns-in_err-noted-clause-work : goal.returns-in_err-noted-clause-work
+returns-in_err-noted-clause-work g c told tree o n k plan copy =
+    let i = c.loop-turn.invariant in
+    note_within (g.S.Store.file c.args.store.now) tree n k _ _ c.loop-turn.self (i.within told tree o n k plan copy) _ ((rw (i.honesty, i.file) at c.in_err-noted.ensures.most) told tree o)
+
+pub returns-in_err-carry_turn-clause-work : goal.returns-in_err-carry_turn-clause-work
+returns-in_err-carry_turn-clause-work g c told tree o n k plan copy =
+    let i = c.loop-turn.invariant in
+    copy_within (g.S.Store.file c.args.store.now) tree n k _ _ c.loop-turn.self (i.within told tree o n k plan copy) c.note_turn.new.self _ ((rw (i.honesty, i.file) at c.in_ok-noted.ensures.work) told tree o) c.in_ok-noted.ensures.keeps.0 _ ((rw (c.in_ok-noted.ensures.honesty, c.in_ok-noted.ensures.file, i.honesty, i.file) at c.in_err-carry_turn.ensures.most) told tree o)
+
+pub returns-in_err-pass-clause-work : goal.returns-in_err-pass-clause-work
+returns-in_err-pass-clause-work g c told tree o n k plan copy =
+    let i = c.loop-turn.invariant in
+    let file = g.S.Store.file c.args.store.now in
+    let on = turn_within file tree n k _ _ c.loop-turn.self (i.within told tree o n k plan copy) c.note_turn.new.self _ ((rw (i.honesty, i.file) at c.in_ok-noted.ensures.work) told tree o) c.in_ok-noted.ensures.keeps.0 c.carry_turn.new.self _ ((rw (c.in_ok-noted.ensures.honesty, c.in_ok-noted.ensures.file, i.honesty, i.file) at c.in_ok-carry_turn.ensures.work) told tree o) c.in_ok-carry_turn.ensures.keeps.0 in
+    both_taken file tree n k _ _ c.carry_turn.new.self on
+
+pub returns-clause-work : goal.returns-clause-work
+returns-clause-work g c told tree o n k plan copy = both_taken (g.S.Store.file c.args.store.now) tree n k _ _ c.loop-turn.self (c.loop-turn.invariant.within told tree o n k plan copy)

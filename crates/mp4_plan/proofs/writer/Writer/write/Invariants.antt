@@ -3,9 +3,12 @@ use Rattle.mp4_present.specs.Carried.{waiting}
 use Rattle.mp4_plan.specs.Turns.{to_come}
 use Rattle.mp4_plan.specs.Writers.{IsWriterOf, WhereOpened, IsReady, held}
 use Rattle.mp4_plan.proofs.WritesOn.{WritesOn}
+use Rattle.std.specs.Prelude.{ℕ}
+use Rattle.mp4_plan.specs.Work.{MayAllTake}
+use Rattle.mp4_plan.proofs.StepsOn.{BothTakeOn}
 use Rattle.mp4_plan.proofs.writer.Writer.write.Given as goal
 
--- the walks go on, and what was put and what waits are the pieces of the turns before
+-- the walks go on, what was put and what waits are the pieces of the turns before, and they took no more steps than they may
 abbrev pub invariant-loop-turn : goal.invariant-loop-turn
 invariant-loop-turn g l = record {
   writer : IsWriterOf l.movie l.self;
@@ -19,6 +22,9 @@ invariant-loop-turn g l = record {
   on : WhereOpened (g.S.Store.is_honest l.fn.store) (g.S.Store.file l.fn.store) l.movie
       (λ tree. IsReady (g.S.Store.file l.fn.store) tree l.movie l.fn.self
       → WritesOn (g.S.Store.file l.fn.store) tree l.movie l.schedule l.sequence l.self.planning.items l.self.copying.items (length l.self.rows.items) (g.K.Sink.contents l.fn.sink) (g.K.Sink.contents l.sink) (waiting l.self.carrier));
+  within : WhereOpened (g.S.Store.is_honest l.fn.store) (g.S.Store.file l.fn.store) l.movie
+      (λ tree. (n c : ℕ) → MayAllTake (g.S.Store.file l.fn.store) tree tree.movie.tracks l.fn.self.planning.items n → MayAllTake (g.S.Store.file l.fn.store) tree tree.movie.tracks l.fn.self.copying.items c
+      → BothTakeOn (g.S.Store.file l.fn.store) tree n c l.self.planning.items l.self.copying.items l.fn.steps l.steps);
 }
 
 abbrev pub decreases-loop-turn : goal.decreases-loop-turn
