@@ -37,6 +37,7 @@ pub mod Counting
 pub mod Causes
 pub mod FragmentPass
 pub mod Opened
+pub mod OpeningSteps
 pub mod TracksBehind
 pub mod PartsBehind
 pub mod MoofBehind

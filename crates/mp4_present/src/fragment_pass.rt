@@ -12,7 +12,7 @@ ghost use Rattle.mp4_boxes.specs.Box.{Box};
 ghost use Rattle.mp4_present.specs.PassedMoofs.{AreCounted, CountsOne, IsBegun, IsCheckedMoof, IsPassed, RefusesFragments};
 ghost use Rattle.mp4_frag.specs.States.{HaveRoom};
 ghost use Rattle.mp4_present.specs.Opening.{HasOutline};
-ghost use Rattle.mp4_present.specs.Work.{moof_steps, ChecksWithin};
+ghost use Rattle.mp4_present.specs.Work.{moof_steps, ChecksWithin, IfNoFault};
 
 use crate::fragments::next_fragment;
 use crate::outline::Outline;
@@ -102,7 +102,7 @@ fn pass_fragments<S: Store, L: Ledger>(
     ensures honesty { S.is_honest store.new ≡ S.is_honest store.old }
     ensures file { S.file store.new ≡ S.file store.old }
     ensures passed { OnOk result (IsTrue (S.is_honest store.old) → (movie : MovieTree) (boxes : List Box) → IsBegun (S.file store.old) movie boxes states.old counted.old room → IsPassed (S.file store.old) movie boxes states.new counted.new) }
-    ensures work { OnOk result (IsTrue (S.is_honest store.old) → ChecksWithin (length counted.old + 1) (S.file store.old) steps.old steps.new) }
+    ensures work { IsTrue (S.is_honest store.old) → IfNoFault result (ChecksWithin (length counted.old + 1) (S.file store.old) steps.old steps.new) }
     ensures reads { OnOk result (S.read_failures store.new ≡ S.read_failures store.old) }
     ensures refusal { IfErr result (RefusesFragments (S.is_honest store.old) (S.file store.old) states.old counted.old room (S.read_failures store.old) (S.read_failures store.new)) }
 {
@@ -137,7 +137,7 @@ pub(crate) fn check_fragments<S: Store, L: Ledger>(
     ensures file { S.file store.new ≡ S.file store.old }
     ensures passed { IfOk result (λ all. IsTrue (S.is_honest store.old) → (movie : MovieTree) (boxes : List Box) → IsBegun (S.file store.old) movie boxes plain.now.states.items plain.now.counted.items plain.now.room
         → IsPassed (S.file store.old) movie boxes all.states.items all.counted.items) }
-    ensures work { OnOk result (IsTrue (S.is_honest store.old) → ChecksWithin (length plain.now.counted.items + 1) (S.file store.old) steps.old steps.new) }
+    ensures work { IsTrue (S.is_honest store.old) → IfNoFault result (ChecksWithin (length plain.now.counted.items + 1) (S.file store.old) steps.old steps.new) }
     ensures reads { OnOk result (S.read_failures store.new ≡ S.read_failures store.old) }
     ensures refusal { IfErr result (RefusesFragments (S.is_honest store.old) (S.file store.old) plain.now.states.items plain.now.counted.items plain.now.room (S.read_failures store.old) (S.read_failures store.new)) }
 {

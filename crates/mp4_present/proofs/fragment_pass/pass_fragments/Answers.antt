@@ -5,7 +5,8 @@ use Rattle.mp4_present.proofs.FragmentPass.{Left, left_first, left_next}
 use Rattle.mp4_present.proofs.MoofsPassed.{IsUnderWay, IsRead, under_way_first, not_read, all_passed, next_passed, next_refused}
 use Rattle.mp4_boxes.specs.View.{box_seen}
 use Rattle.mp4_frag.specs.Views.{moof_seen}
-use Rattle.mp4_present.proofs.ChecksCounted.{within_first, next_within, within_all}
+use Rattle.mp4_present.proofs.ChecksCounted.{within_first, next_within, checks_done}
+use Rattle.mp4_present.proofs.TablesWork.{if_no_fault}
 use Rattle.mp4_present.proofs.fragment_pass.pass_fragments.Goals as goal
 
 pub loop-top-init : goal.loop-top-init
@@ -117,4 +118,10 @@ returns-clause-passed g c = λ told movie boxes b.
     all_passed file movie boxes c.loop-top.next c.args.outline.now.longest c.loop-top.states c.loop-top.counted c.loop-top.room u ((rw (i.honesty, i.file, c.in_default.is) at c.in_ok-top.ensures.next) told u.left.boxes u.left.are_from)
 
 pub returns-clause-work : goal.returns-clause-work
-returns-clause-work g c = λ told all h. within_all (length c.args.counted.now + 1) all _ _ _ (c.loop-top.invariant.work told all h).1.1
+returns-clause-work g c = λ told. checks_done _ _ _ _ _ (c.loop-top.invariant.work told)
+
+pub returns-in_err-top-clause-work : goal.returns-in_err-top-clause-work
+returns-in_err-top-clause-work g c = λ told. if_no_fault _ _ (checks_done _ _ _ _ _ (c.loop-top.invariant.work told))
+
+pub returns-in_err-len-clause-work : goal.returns-in_err-len-clause-work
+returns-in_err-len-clause-work g c = λ told. if_no_fault _ _ (checks_done _ _ _ _ _ (c.loop-top.invariant.work told))
