@@ -38,6 +38,7 @@ pub mod Causes
 pub mod FragmentPass
 pub mod Opened
 pub mod OpeningSteps
+pub mod OpeningBytes
 pub mod TracksBehind
 pub mod PartsBehind
 pub mod MoofBehind

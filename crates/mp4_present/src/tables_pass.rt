@@ -1,5 +1,5 @@
 //! The tables of the tracks of a movie, checked one after the other.
-ghost use Rattle.std.specs.Prelude.{ℕ, ◌≡◌, ◌+◌, ◌≤◌, ◌-◌, ◌^◌, min, true, length, map, List, IfOk, IfErr};
+ghost use Rattle.std.specs.Prelude.{ℕ, ◌≡◌, ◌+◌, ◌*◌, ◌≤◌, ◌-◌, ◌^◌, min, true, length, map, List, IfOk, IfErr};
 ghost use Rattle.mp4_boxes.specs.Bytes.{AreBytes, sum_of};
 ghost use Rattle.mp4_boxes.specs.View.{box_seen};
 ghost use Rattle.mp4_frag.specs.FragmentSamples as fragments;
@@ -97,7 +97,7 @@ fn state_of(
 }
 
 impl PlainTracks {
-    ghost use Rattle.std.specs.Prelude.{◌≡◌, ℕ, true, map, List, [], ◌∷◌, ◌++◌, ◌+◌, ◌≤◌, OnOk, IfErr};
+    ghost use Rattle.std.specs.Prelude.{◌≡◌, ℕ, true, map, List, [], ◌∷◌, ◌++◌, ◌+◌, ◌*◌, ◌≤◌, length, OnOk, IfErr};
     ghost use Rattle.mp4_boxes.specs.View.{box_seen};
     ghost use Rattle.mp4_frag.specs.declared.trex.Trex.{Trex};
     ghost use Rattle.mp4_head.specs.Tree.{TrackTree, are_distinct};
@@ -132,6 +132,8 @@ impl PlainTracks {
         ensures one_more { OnOk result ((n : ℕ) → ArePlain (box_seen moov.entry).payload n self.old → ArePlain (box_seen moov.entry).payload (n + 1) self.new) }
         ensures says { OnOk result ((t : TrackTree) (trees : List TrackTree) → IsTrackOf t track.now → HaveTables file_len (box_seen moov.entry).payload trexes.now trees self.old → HaveTables file_len (box_seen moov.entry).payload trexes.now (trees ++ t ∷ []) self.new) }
         ensures work { IfNoFault result ((t : TrackTree) → IsTrackOf t track.now → steps.new ≤ steps.old + table_steps t) }
+        ensures within { steps.new ≤ steps.old + 5 * self.old.room + 6 * length (box_seen moov.entry).payload }
+        ensures less { OnOk result (steps.new + 5 * self.new.room ≤ steps.old + 5 * self.old.room + 6 * length (box_seen moov.entry).payload) }
         ensures refusal { IfErr result (RefusesTable file_len self.old.room track.now) }
     {
         let mut keys = Keys::new();
@@ -171,6 +173,7 @@ pub(crate) fn check_tables<L: Ledger>(
     ensures plain { IfOk result (ArePlain (box_seen moov.entry).payload (length head.now.tracks.items)) }
     ensures says { IfOk result (λ p. (trees : List TrackTree) → AreTracksOf trees head.now.tracks.items → HaveTables file_len (box_seen moov.entry).payload head.now.trexes.items trees p) }
     ensures work { IfNoFault result ((trees : List TrackTree) → AreTracksOf trees head.now.tracks.items → steps.new ≤ steps.old + sum_of table_steps trees) }
+    ensures within { steps.new ≤ steps.old + 5 * 2 ^ 24 + 6 * (length head.now.tracks.items * length (box_seen moov.entry).payload) }
     ensures refusal { IfErr result (RefusesTables file_len head.now.tracks.items) }
 {
     let mut plain = PlainTracks::none(alloc);

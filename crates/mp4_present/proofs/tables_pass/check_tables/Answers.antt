@@ -1,15 +1,16 @@
-use Rattle.std.proofs.Common.{ℕ, drop, subst, rules}
+use Rattle.std.proofs.Common.{ℕ, ◌≤◌, [], length, drop, subst, rules}
 use Rattle.mp4_boxes.specs.View.{box_seen}
 use Rattle.mp4_present.specs.Plain.{HasTablesIn, HaveTablesIn}
 use Rattle.mp4_present.proofs.PlainLists.{from_next, next_of}
 use Rattle.std.proofs.lemmas.Result.{err_from_is_err_and}
 use Rattle.mp4_present.proofs.TracksPassed.{passed_more, passed_all, passed_refused}
+use Rattle.mp4_present.proofs.OpeningBytes.{none_fit, next_fit, all_fit, last_fit}
 use Rattle.mp4_present.proofs.TablesWork.{handed_on, next_left, next_done, tracks_done}
 use Rattle.mp4_present.specs.declared.tables_pass.PlainTracks.{PlainTracks}
 use Rattle.mp4_present.proofs.tables_pass.check_tables.Goals as goal
 
 pub loop-track-init : goal.loop-track-init
-loop-track-init g c = (c.none-plain.ensures.plain _, rw c.deref-track-items.ensures.value c.requires.inside, λ trees a. c.none-plain.ensures.says _ _ _, λ trees a. search rules)
+loop-track-init g c = (c.none-plain.ensures.plain _, rw c.deref-track-items.ensures.value c.requires.inside, λ trees a. c.none-plain.ensures.says _ _ _, λ trees a. search rules, none_fit _ _ _ (c.none-plain.ensures.plain []).few)
 
 pub loop-track-preserved : goal.loop-track-preserved
 loop-track-preserved g c =
@@ -18,6 +19,7 @@ loop-track-preserved g c =
       subst (λ (k : ℕ). HaveTablesIn (box_seen c.args.moov) (drop k c.deref-track-items.result.now)) (next_of c.loop-track.track-index) (from_next (HasTablesIn (box_seen c.args.moov)) c.deref-track-items.result.now c.loop-track.track-index i.1),
       passed_more _ _ _ _ _ _ i.2 c.track-item.result c.push.new.self c.loop-track-test.true c.track-item.is (rw c.deref.ensures.value at c.in_ok-push.ensures.says),
       next_left _ _ _ _ _ c.track-item.result c.loop-track-test.true c.track-item.is c.in_ok-push.ensures.work i.3,
+      next_fit _ _ _ _ _ _ _ i.4 c.in_ok-push.ensures.less,
     )
 
 pub returns-in_err-push-clause-refusal : goal.returns-in_err-push-clause-refusal
@@ -36,3 +38,11 @@ returns-in_err-push-clause-work g c =
 
 pub returns-clause-work : goal.returns-clause-work
 returns-clause-work g c = rw c.deref-track-items.ensures.value at (tracks_done _ _ _ _ c.loop-track.invariant.3)
+
+pub returns-in_err-push-clause-within : goal.returns-in_err-push-clause-within
+returns-in_err-push-clause-within g c = rw c.deref-track-items.ensures.value at (last_fit _ _ _ _ _ _ _ c.loop-track-test.true c.loop-track.invariant.4 c.push.ensures.within)
+
+pub returns-clause-within : goal.returns-clause-within
+returns-clause-within g c =
+    let few : c.loop-track.track-index ≤ length c.args.head.now.tracks.items = search rules in
+    all_fit _ _ _ _ _ _ few c.loop-track.invariant.4
