@@ -59,4 +59,5 @@ pub mod WalkBegun
 pub mod TrexPlaces
 pub mod WalkWork
 pub mod ChecksCounted
+pub mod MoofBytes
 pub mod TablesWork
