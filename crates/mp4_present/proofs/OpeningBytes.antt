@@ -1,5 +1,8 @@
 -- The steps of opening a file, by its bytes: whatever the file says.
-use Rattle.std.proofs.Common.{◌≡◌, ℕ, ◌+◌, ◌-◌, ◌*◌, ◌^◌, ◌<◌, ◌≤◌, length, sym, ap, subst, ◌∙◌, arith, mul-le-mul_right}
+use Rattle.std.proofs.Common.{Bool, List, map, take, drop, inl, inr, refl, length-take, length-drop, ◌≡◌, ℕ, ◌+◌, ◌-◌, ◌*◌, ◌^◌, ◌<◌, ◌≤◌, length, sym, ap, subst, ◌∙◌, arith, mul-le-mul_right}
+use Rattle.std.specs.Prelude.{IsTrue}
+use Rattle.std.proofs.Math.Nat.{mul-add, mul-le-mul_left}
+use Rattle.std.proofs.lemmas.List.{length-map}
 use Rattle.mp4_boxes.specs.Box.{Box}
 use Rattle.mp4_tables.specs.Accepted.{IsPlace, passed, rows_in, tables_at}
 use Rattle.mp4_tables.specs.Leaves.{TablesRead}
@@ -8,7 +11,12 @@ use Rattle.mp4_tables.specs.Views.{TablesSeen, tables_seen}
 use Rattle.mp4_tables.specs.declared.places.TablePlace.{TablePlace}
 use Rattle.mp4_tables.proofs.Passed.{passed_within, rows_fit}
 use Rattle.mp4_tables.proofs.PlaceLists.{count_is}
-use Rattle.mp4_head.specs.Found.{LiesIn}
+use Rattle.mp4_head.specs.Found.{LiesIn, SaysHead}
+use Rattle.mp4_head.specs.declared.heads.MovieHead.{MovieHead}
+use Rattle.mp4_head.specs.declared.heads.TrackHead.{TrackHead}
+use Rattle.mp4_present.specs.Work.{OpensWithin}
+use Rattle.mp4_present.specs.declared.outline.Outline.{Outline}
+use Rattle.mp4_present.proofs.Opened.{IsRead, its_movie}
 
 -- ---- the tables of one track
 
@@ -57,3 +65,46 @@ all_fit k n bytes room old new few h = let all = mul-le-mul_right bytes few in o
 -- one that was not checked to its end
 pub last_fit : (k n bytes room old now new : ℕ) → k < n → TracksFit k bytes room old now → new ≤ now + 5 * room + 6 * bytes → new ≤ old + 5 * 2 ^ 24 + 6 * (n * bytes)
 last_fit k n bytes room old now new lt h more = all_fit (k + 1) n bytes 0 old new (omega (arith, lt)) (next_fit k bytes room 0 old now new h (omega (arith, more)))
+
+-- ---- a file whose head was read
+
+tables_sum : (tracks whole payload before after : ℕ) → after ≤ before + 5 * 2 ^ 24 + 6 * (tracks * payload) → payload ≤ whole → after ≤ before + 7 * ((tracks + 1) * (2 ^ 24 + whole))
+tables_sum tracks whole payload before after h short =
+    let each = mul-le-mul_left tracks short in
+    let two = mul-add (tracks + 1) (2 ^ 24) whole in
+    omega (arith, h, each, two)
+
+open_sum : (all before checked after : ℕ) → checked ≤ before + 7 * all → after ≤ checked + all → after ≤ before + 8 * all
+open_sum all before checked after h more = omega (arith, h, more)
+
+module _ (honest : Bool) (file : List ℕ) (o : Outline) (moov : List ℕ) (b : Box) (head : MovieHead) (r : IsRead honest file o moov b) (says : SaysHead b head) (told : IsTrue honest) where
+  abbrev ids : List ℕ
+  ids = map (λ (t : TrackHead). t.id) head.tracks.items
+
+  -- the tables of so many tracks lie in the `moov`, and this in the file
+  tables_few : (before after : ℕ) → after ≤ before + 5 * 2 ^ 24 + 6 * (length head.tracks.items * length b.payload) → after ≤ before + 7 * ((length head.tracks.items + 1) * (2 ^ 24 + length file))
+  tables_few before after h =
+      let n = length head.tracks.items in
+      let at = o.moov.offset + o.moov.header.header in
+      let payload : length b.payload ≡ length moov = ap (λ (x : Box). length x.payload) r.is in
+      let read : length moov ≡ length (take (length moov) (drop at file)) = ap (λ (bs : List ℕ). length bs) (r.bytes told) in
+      let short : length b.payload ≤ length file = omega (arith, payload, read, length-take (length moov) (drop at file), length-drop at file) in
+      tables_sum n (length file) (length b.payload) before after h short
+
+  opens : (before after : ℕ) → after ≤ before + 8 * ((length head.tracks.items + 1) * (2 ^ 24 + length file)) → OpensWithin file before after
+  opens before after h =
+      let has = its_movie honest file o moov b head ids r says refl told in
+      let many : length head.tracks.items ≡ length ids = sym (length-map head.tracks.items (λ (t : TrackHead). t.id)) in
+      inr (ids, has, subst (λ (n : ℕ). after ≤ before + 8 * ((n + 1) * (2 ^ 24 + length file))) many h)
+
+  -- the tables were checked, and no `moof`
+  pub tables_open : (before after : ℕ) → after ≤ before + 5 * 2 ^ 24 + 6 * (length head.tracks.items * length b.payload) → OpensWithin file before after
+  tables_open before after h = let few = tables_few before after h in opens before after (omega (arith, few))
+
+  -- `moof`s were checked too
+  pub moofs_open : (n before checked after : ℕ) → n ≡ length head.tracks.items → checked ≤ before + 5 * 2 ^ 24 + 6 * (length head.tracks.items * length b.payload) → after ≤ checked + (n + 1) * (2 ^ 24 + length file) → OpensWithin file before after
+  moofs_open n before checked after e h more = opens before after (open_sum _ before checked after (tables_few before checked h) (subst (λ (k : ℕ). after ≤ checked + (k + 1) * (2 ^ 24 + length file)) e more))
+
+-- no step was taken
+pub none_open : (file : List ℕ) (start : ℕ) → OpensWithin file start start
+none_open file start = inl refl

@@ -10,7 +10,7 @@ ghost use Rattle.mp4_present.specs.Presentation.{Presentation};
 ghost use Rattle.mp4_present.specs.Denotes.{Denotes, FileTree, IsFileTree};
 ghost use Rattle.mp4_present.specs.OpenedMovie.{AreInfosBy, IsInfoBy, IsOpenedAs, kept_of};
 ghost use Rattle.mp4_present.specs.Opening.{HasOutline, HasMovie, IsOpened, RefusesDenoted, RefusesOpen};
-ghost use Rattle.mp4_present.specs.Work.{IfNoFault, opening_steps};
+ghost use Rattle.mp4_present.specs.Work.{IfNoFault, OpensWithin, opening_steps};
 
 use crate::fragment_pass::{AllTracks, check_fragments};
 use crate::limit_checks::{check_limits, duration_of};
@@ -85,6 +85,7 @@ fn find<S: Store, L: Ledger>(
     ensures movie { IfOk result (λ f. IsTrue (S.is_honest store.old) → (t : FileTree) × IsOpenedAs (S.file store.old) (kept_of outline.now moov.now (length (S.file store.old)) f) t) }
     ensures ids { IfOk result (λ f. IsTrue (S.is_honest store.old) → HasMovie (S.file store.old) (map (λ (t : TrackInfo). t.id) f.tracks.items)) }
     ensures work { IsTrue (S.is_honest store.old) → (tree : FileTree) → IsFileTree (S.file store.old) tree → IfNoFault result (steps.new ≤ steps.old + opening_steps tree) }
+    ensures within { IsTrue (S.is_honest store.old) → OpensWithin (S.file store.old) steps.old steps.new }
     ensures reads { OnOk result (S.read_failures store.new ≡ S.read_failures store.old) }
     ensures refusal { IfErr result (RefusesOpen (S.is_honest store.old) (S.file store.old) (S.read_failures store.old) (S.read_failures store.new)) }
 {
@@ -115,6 +116,7 @@ pub fn open_movie<S: Store, L: Ledger>(
     ensures ids { IfOk result (λ m. IsTrue (S.is_honest store.old) → HasMovie (S.file store.old) (map (λ (t : TrackInfo). t.id) m.tracks)) }
     ensures only { (p : Presentation) → IsTrue (S.is_honest store.old) → Denotes (S.file store.old) p → IfErr result (RefusesDenoted (S.read_failures store.old) (S.read_failures store.new)) }
     ensures work { IsTrue (S.is_honest store.old) → (tree : FileTree) → IsFileTree (S.file store.old) tree → IfNoFault result (steps.new ≤ steps.old + opening_steps tree) }
+    ensures within { IsTrue (S.is_honest store.old) → OpensWithin (S.file store.old) steps.old steps.new }
     ensures reads { OnOk result (S.read_failures store.new ≡ S.read_failures store.old) }
     ensures refusal { IfErr result (RefusesOpen (S.is_honest store.old) (S.file store.old) (S.read_failures store.old) (S.read_failures store.new)) }
 {

@@ -1,6 +1,7 @@
 use Rattle.std.proofs.Common.{◌≡◌, ℕ, length, subst, sym, ap, ◌∙◌}
 use Rattle.std.proofs.lemmas.Result.{err_from_is_err_and}
 use Rattle.mp4_present.proofs.DenotedOpens.{denoted_opens, outline_refuses, read_refuses}
+use Rattle.mp4_present.proofs.OpeningBytes.{none_open}
 use Rattle.mp4_present.proofs.OpeningSteps.{opened_of}
 use Rattle.mp4_present.proofs.TablesWork.{if_no_fault, none_taken}
 use Rattle.mp4_present.specs.OpenedMovie.{IsOpenedAs, kept_of}
@@ -65,3 +66,21 @@ returns-clause-work g c =
     let outline = c.in_ok-outline.ensures in
     let moov = c.in_ok-moov.ensures in
     rw (moov.honesty, outline.honesty, moov.file, outline.file) at c.in_ok-plain.ensures.work
+
+pub returns-in_err-outline-clause-within : goal.returns-in_err-outline-clause-within
+returns-in_err-outline-clause-within g c = λ told. none_open _ _
+
+pub returns-in_err-moov-clause-within : goal.returns-in_err-moov-clause-within
+returns-in_err-moov-clause-within g c = λ told. none_open _ _
+
+pub returns-in_err-plain-clause-within : goal.returns-in_err-plain-clause-within
+returns-in_err-plain-clause-within g c =
+    let outline = c.in_ok-outline.ensures in
+    let moov = c.in_ok-moov.ensures in
+    rw (moov.honesty, outline.honesty, moov.file, outline.file) at c.in_err-plain.ensures.within
+
+pub returns-clause-within : goal.returns-clause-within
+returns-clause-within g c =
+    let outline = c.in_ok-outline.ensures in
+    let moov = c.in_ok-moov.ensures in
+    rw (moov.honesty, outline.honesty, moov.file, outline.file) at c.in_ok-plain.ensures.within
