@@ -12,7 +12,7 @@ use Rattle.mp4_frag.specs.declared.state.TrackState.{TrackState}
 use Rattle.mp4_present.specs.Again.{AreFrom, IsNextFragment}
 use Rattle.mp4_present.specs.Movies.{IsWhole}
 use Rattle.mp4_present.specs.Outline.{IsOutline, box_at, longest}
-use Rattle.mp4_present.specs.Work.{moof_steps, boxes_steps}
+use Rattle.mp4_present.specs.Work.{moof_steps, boxes_steps, ChecksWithin}
 use Rattle.mp4_present.specs.declared.outline.Outline.{Outline}
 use Rattle.mp4_present.specs.declared.reading.TopBox.{TopBox}
 use Rattle.mp4_present.proofs.FragmentPass.{Left, left_at, left_next, next_boxes, first_passed, whole_file}
@@ -37,9 +37,9 @@ within_first times file known o at start holds i e all h =
     let steps = ap (λ (bs : List Box). times * boxes_steps bs) moofs in
     (l.boxes, (subst (λ (k : ℕ). AreFrom file k l.boxes) e l.are_from, omega (arith, steps)))
 
--- behind the last one
-pub within_all : (times : ℕ) (all : List Box) (left old new : ℕ) → new + left ≤ old + times * boxes_steps (of_kind (codes "moof") all) → new ≤ old + times * boxes_steps (of_kind (codes "moof") all)
-within_all times all left old new h = omega (arith, h)
+-- where no further one is checked
+pub checks_done : (times : ℕ) (file : List ℕ) (at old new : ℕ) → LeftWithin times file at old new → ChecksWithin times file old new
+checks_done times file at old new left all h = let some = (left all h).1.1 in omega (arith, some)
 
 one_less : (n w rest all before checked after old : ℕ) → checked ≤ before + w → after ≤ checked + n * w → before + (n + 1) * (w + rest) ≤ old + all → after + (n + 1) * rest ≤ old + all
 one_less n w rest all before checked after old a b h = let e = mul-add (n + 1) w rest in omega (arith, a, b, h, e)

@@ -37,6 +37,8 @@ pub mod Counting
 pub mod Causes
 pub mod FragmentPass
 pub mod Opened
+pub mod OpeningSteps
+pub mod OpeningBytes
 pub mod TracksBehind
 pub mod PartsBehind
 pub mod MoofBehind
@@ -57,5 +59,6 @@ pub mod WalkBegun
 pub mod TrexPlaces
 pub mod WalkWork
 pub mod ChecksCounted
+pub mod MoofBytes
 pub mod TablesWork
 pub mod WayThrough

@@ -1,25 +1,112 @@
 -- The steps of the checks of tables, and of the walks over their samples.
-use Rattle.std.proofs.Common.{◌≡◌, ℕ, ◌+◌, ◌*◌, ◌≤◌, List, [], ◌∷◌, ◌++◌, subst, sym, arith}
+use Rattle.std.proofs.Common.{◌≡◌, ℕ, zero, suc, ◌+◌, ◌*◌, ◌<◌, ◌≤◌, List, [], ◌∷◌, length, drop, slice_index_or, refl, sym, ap, subst, ◌∙◌, arith}
+use Rattle.std.specs.Prelude.{Result, Ok, Err}
 use Rattle.mp4_boxes.specs.Bytes.{sum_of}
-use Rattle.mp4_tables.specs.Accepted.{IsPlace, passed, rows_in}
+use Rattle.mp4_boxes.specs.Box.{Box}
+use Rattle.mp4_boxes.specs.View.{box_seen}
+use Rattle.mp4_boxes.specs.declared.refusal.Refusal.{Refusal}
+use Rattle.mp4_boxes.specs.declared.refusal.Refusal.TheVariants as refusals
+use Rattle.mp4_tables.specs.Accepted.{IsPlace, passed, rows_in, tables_at}
+use Rattle.mp4_tables.specs.Leaves.{TablesRead, boxes_of}
+use Rattle.mp4_tables.specs.TableRules.{Surroundings, Fit}
+use Rattle.mp4_tables.specs.Tables.{Tables, tables_of}
 use Rattle.mp4_tables.specs.Views.{TablesSeen}
+use Rattle.mp4_tables.specs.Work.{table_rows}
 use Rattle.mp4_tables.specs.declared.places.TablePlace.{TablePlace}
+use Rattle.mp4_tables.proofs.Counts.{plain_length}
+use Rattle.mp4_tables.proofs.LeafLists.{boxes_are}
 use Rattle.mp4_tables.proofs.Passed.{passed_within}
-use Rattle.mp4_present.specs.Work.{tables_steps}
-use Rattle.mp4_present.specs.declared.movie.TrackTables.{TrackTables}
+use Rattle.mp4_tables.proofs.PlaceLists.{count_is}
+use Rattle.mp4_tables.proofs.TableRows.{rows_are}
+use Rattle.mp4_head.specs.Tree.{TrackTree, stbl_of}
+use Rattle.mp4_head.specs.declared.heads.TrackHead.{TrackHead}
+use Rattle.mp4_present.specs.Denotes.{plain_of}
+use Rattle.mp4_present.specs.TrackTrees.{IsTrackOf, AreTracksOf}
+use Rattle.mp4_present.specs.Work.{IfNoFault, table_steps}
 
-abbrev cost : TrackTables → ℕ
-cost t = 7 * rows_in t.tables + 5 * t.tables.sizes.rows.count
+-- ---- answers
 
-one_more : (ts : List TrackTables) (t : TrackTables) → sum_of cost (ts ++ t ∷ []) ≡ sum_of cost ts + cost t
-one_more [] t = omega arith
-one_more (u ∷ ts) t = let more = one_more ts t in omega (arith, more)
+-- what is so is so of every answer but a fault
+pub if_no_fault : {A : Type 0} (P : Type 0) (r : Result A Refusal) → P → IfNoFault r P
+if_no_fault P (Ok x) p = p
+if_no_fault P (Err (refusals.Fault f)) p = tt
+if_no_fault P (Err refusals.Memory) p = p
+if_no_fault P (Err refusals.StoreFailed) p = p
+if_no_fault P (Err refusals.StoreChanged) p = p
+if_no_fault P (Err refusals.WriteFailed) p = p
+if_no_fault P (Err refusals.NoSuchTrack) p = p
 
--- the tables of one more track
-pub tables_within : (old new : List TrackTables) (t : TrackTables) (v w : TablesSeen) (p : TablePlace) (before checked after : ℕ) → new ≡ old ++ t ∷ [] → t.tables ≡ v.at → w ≡ v → IsPlace w.payload w.at p
-    → checked ≤ before + 6 * rows_in v.at + 2 * v.at.sizes.rows.count → after ≡ checked + passed p → after + tables_steps old ≤ before + tables_steps new
-unfolding tables_steps
-tables_within old new t v w p before checked after e at same place check more =
+-- a refusal that is handed on
+pub handed_on : (A P Q : Type 0) (r : Refusal) → (P → Q) → IfNoFault {A = A} (Err r) P → IfNoFault {A = A} (Err r) Q
+handed_on A P Q (refusals.Fault f) so p = tt
+handed_on A P Q refusals.Memory so p = so p
+handed_on A P Q refusals.StoreFailed so p = so p
+handed_on A P Q refusals.StoreChanged so p = so p
+handed_on A P Q refusals.WriteFailed so p = so p
+handed_on A P Q refusals.NoSuchTrack so p = so p
+
+-- no step was taken
+pub none_taken : (n more : ℕ) → n ≤ n + more
+none_taken n more = omega arith
+
+-- ---- one track
+
+track_sum : (rows count said samples way before checked after : ℕ) → rows ≡ said → samples ≡ count → way ≤ rows + 3 * count → checked ≤ before + 6 * rows + 2 * count → after ≡ checked + way → after ≤ before + (7 * said + 5 * samples)
+track_sum rows count said samples way before checked after r s w c a = omega (arith, r, s, w, c, a)
+
+-- the check of a track's tables, and the walk over their samples
+pub track_within : (file_length n room : ℕ) (h : TrackHead) (v w : TablesSeen) (p : TablePlace) (before checked after : ℕ) → TablesRead (record { file_len = file_length; descriptions = n; room = room }) (box_seen h.stbl) v.at → w ≡ v → IsPlace w.payload w.at p
+    → checked ≤ before + 6 * rows_in v.at + 2 * v.at.sizes.rows.count → after ≡ checked + passed p → (t : TrackTree) → IsTrackOf t h → after ≤ before + table_steps t
+unfolding table_steps
+track_within file_length n room h v w p before checked after read same place check more t i =
+    let round : Surroundings = record { file_length = file_length; descriptions = n } in
     let way = passed_within v.payload v.at p (subst (λ (s : TablesSeen). IsPlace s.payload s.at p) same place) in
-    let own : cost t ≡ 7 * rows_in v.at + 5 * v.at.sizes.rows.count = λ i. 7 * rows_in (at i) + 5 * (at i).sizes.rows.count in
-    subst (λ (ts : List TrackTables). after + sum_of cost old ≤ before + sum_of cost ts) (sym e) (let all = one_more old t in omega (arith, way, own, all, check, more))
+    let own : TablesRead (record { file_len = file_length; descriptions = n; room = room }) (stbl_of t) v.at = subst (λ (b : Box). TablesRead (record { file_len = file_length; descriptions = n; room = room }) b v.at) i.found.stbl read in
+    let boxes : boxes_of (stbl_of t) ≡ t.table = boxes_are (stbl_of t) t.table i.tree.table.tiles in
+    let tables : tables_at (stbl_of t).payload v.at ≡ tables_of t.table = own.same ∙ ap tables_of boxes in
+    let fit : Fit round (tables_of t.table) = subst (λ (bs : List Box). Fit round (tables_of bs)) boxes own.all.fit in
+    let rows : rows_in v.at ≡ table_rows (tables_of t.table) = rows_are (stbl_of t).payload v.at own.accepted.have ∙ ap table_rows tables in
+    let samples : length (plain_of t) ≡ v.at.sizes.rows.count = plain_length round (tables_of t.table) fit ∙ ap (λ (x : Tables). length x.sizes) (sym tables) ∙ count_is (stbl_of t).payload v.at in
+    track_sum (rows_in v.at) v.at.sizes.rows.count (table_rows (tables_of t.table)) (length (plain_of t)) (passed p) before checked after rows samples way check more
+
+-- ---- one track after the other
+
+-- the k-th track, and the steps of those from it on
+record Next (trees : List TrackTree) (k : ℕ) (h : TrackHead) : Type 0 where
+  t : TrackTree
+  goes : IsTrackOf t h
+  steps : sum_of table_steps (drop k trees) ≡ table_steps t + sum_of table_steps (drop (suc k) trees)
+
+next_track : (trees : List TrackTree) (tracks : List TrackHead) (k : ℕ) (d : TrackHead) → AreTracksOf trees tracks → k < length tracks → Next trees k (slice_index_or tracks k d)
+next_track [] [] k d z lt = absurd (omega (arith, lt))
+next_track [] (h ∷ tracks) k d z lt = absurd z
+next_track (t ∷ trees) [] k d z lt = absurd z
+next_track (t ∷ trees) (h ∷ tracks) zero d z lt = record { t = t; goes = z.0; steps = refl }
+next_track (t ∷ trees) (h ∷ tracks) (suc k) d z lt = let n = next_track trees tracks k d z.1 (omega (arith, lt)) in record { t = n.t; goes = n.goes; steps = n.steps }
+
+one_less : (start now new rest own left all : ℕ) → now + rest ≤ start + all → rest ≡ own + left → new ≤ now + own → new + left ≤ start + all
+one_less start now new rest own left all h e more = omega (arith, h, e, more)
+
+next_of : (k : ℕ) → suc k ≡ k + 1
+next_of k = omega arith
+
+-- so many steps were taken, and those of the tracks from one on are left of those of all
+abbrev pub TracksLeft : List TrackHead → ℕ → ℕ → ℕ → Type 0
+TracksLeft tracks k old new = (trees : List TrackTree) → AreTracksOf trees tracks → new + sum_of table_steps (drop k trees) ≤ old + sum_of table_steps trees
+
+-- the same where all of them were taken
+abbrev pub TracksDone : List TrackHead → ℕ → ℕ → Type 0
+TracksDone tracks old new = (trees : List TrackTree) → AreTracksOf trees tracks → new ≤ old + sum_of table_steps trees
+
+pub tracks_done : (tracks : List TrackHead) (k old new : ℕ) → TracksLeft tracks k old new → TracksDone tracks old new
+tracks_done tracks k old new left trees a = let some = left trees a in omega (arith, some)
+
+pub next_left : (tracks : List TrackHead) (k old now new : ℕ) (h : TrackHead) → k < length tracks → h ≡ slice_index_or tracks k h → ((t : TrackTree) → IsTrackOf t h → new ≤ now + table_steps t) → TracksLeft tracks k old now → TracksLeft tracks (k + 1) old new
+next_left tracks k old now new h lt e more left trees a =
+    let n = next_track trees tracks k h a lt in
+    subst (λ (j : ℕ). new + sum_of table_steps (drop j trees) ≤ old + sum_of table_steps trees) (next_of k)
+    (one_less old now new (sum_of table_steps (drop k trees)) (table_steps n.t) (sum_of table_steps (drop (suc k) trees)) (sum_of table_steps trees) (left trees a) n.steps (more n.t (subst (IsTrackOf n.t) (sym e) n.goes)))
+
+-- one that was not checked to its end
+pub next_done : (tracks : List TrackHead) (k old now new : ℕ) (h : TrackHead) → k < length tracks → h ≡ slice_index_or tracks k h → TracksLeft tracks k old now → ((t : TrackTree) → IsTrackOf t h → new ≤ now + table_steps t) → TracksDone tracks old new
+next_done tracks k old now new h lt e left more = tracks_done tracks (k + 1) old new (next_left tracks k old now new h lt e more left)

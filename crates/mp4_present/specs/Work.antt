@@ -6,7 +6,7 @@ use Rattle.mp4_boxes.specs.Children.{Holds, of_kind}
 use Rattle.mp4_boxes.specs.declared.refusal.Refusal.{Refusal}
 use Rattle.mp4_boxes.specs.declared.refusal.Refusal.TheVariants as refusals
 use Rattle.mp4_boxes.specs.declared.rule.Rule.TheVariants.{File}
-use Rattle.mp4_tables.specs.Accepted.{passed, rows_in}
+use Rattle.mp4_tables.specs.Accepted.{passed}
 use Rattle.mp4_tables.specs.Tables.{tables_of}
 use Rattle.mp4_tables.specs.Work.{table_rows}
 use Rattle.mp4_frag.specs.Fragments.{FragmentTree}
@@ -15,7 +15,6 @@ use Rattle.mp4_head.specs.Tree.{TrackTree}
 use Rattle.mp4_present.specs.Denotes.{FileTree, plain_of}
 use Rattle.mp4_present.specs.Opening.{HasMovie}
 use Rattle.mp4_present.specs.Coming.{StandsBefore, moof_box}
-use Rattle.mp4_present.specs.declared.movie.TrackTables.{TrackTables}
 use Rattle.mp4_present.specs.declared.walks.Walk.{Walk}
 use Rattle.mp4_present.specs.declared.in_hand.Place.{Place}
 use Rattle.mp4_present.specs.declared.in_hand.Place.TheVariants as places
@@ -59,10 +58,6 @@ ChecksWithin times file old new = (boxes : List Box) → Holds File (file_contai
 -- By bytes, whatever the file says: no step was taken, or its `moov` holds some tracks, and for each of these, and once more, no more than 8 for each byte and each sample that a file may have.
 abbrev pub OpensWithin : List ℕ → ℕ → ℕ → Type 0
 OpensWithin file old new = (new ≡ old) ⊎ ((ids : List ℕ) × HasMovie file ids × (new ≤ old + 8 * ((length ids + 1) * (2 ^ 24 + length file))))
-
--- a check of tables and a walk over their samples: each row and each sample, as often as both of them look at it
-unfoldable pub tables_steps : List TrackTables → ℕ
-tables_steps tables = sum_of (λ (t : TrackTables). 7 * rows_in t.tables + 5 * t.tables.sizes.rows.count) tables
 
 -- ---- walks
 

@@ -5,6 +5,7 @@ ghost use Rattle.mp4_tables.specs.PlainSamples.{PlacedSample};
 ghost use Rattle.mp4_frag.specs.Fragments.{FragmentTree, fragment_of};
 ghost use Rattle.mp4_frag.specs.FragmentSamples.{Part, parts_of, duration_of};
 ghost use Rattle.mp4_frag.specs.Judged.{AreTrexesOf, IsSoundMoof, samples_of_track};
+ghost use Rattle.mp4_frag.specs.PlacesIn.{moof_work};
 ghost use Rattle.mp4_frag.specs.Views.{moof_seen};
 ghost use Rattle.mp4_frag.specs.declared.trex.Trex.{Trex};
 ghost use Rattle.mp4_head.specs.Tree.{MovieTree, trexes_of};
@@ -12,7 +13,7 @@ ghost use Rattle.mp4_boxes.specs.Box.{Box};
 ghost use Rattle.mp4_present.specs.PassedMoofs.{AreCounted, CountsOne, IsBegun, IsCheckedMoof, IsPassed, RefusesFragments};
 ghost use Rattle.mp4_frag.specs.States.{HaveRoom};
 ghost use Rattle.mp4_present.specs.Opening.{HasOutline};
-ghost use Rattle.mp4_present.specs.Work.{moof_steps, ChecksWithin};
+ghost use Rattle.mp4_present.specs.Work.{moof_steps, ChecksWithin, IfNoFault};
 
 use crate::fragments::next_fragment;
 use crate::outline::Outline;
@@ -38,6 +39,7 @@ fn bytes_in<L: Ledger>(view: &FragView, states: &[TrackState], id: u32, steps: &
     ensures bytes { (file_length : ℕ) (trexes : List Trex) (t : FragmentTree) → t.moof ≡ moof_seen view.now → IsSoundMoof file_length trexes states.now t → AreTrexesOf trexes states.now → duration_of (samples_of_track trexes id t) < 2 ^ 64
         → result ≡ min (sum_of (λ (s : PlacedSample). s.size) (samples_of_track trexes id t)) (2 ^ 64 - 1) }
     ensures work { steps.new ≤ steps.old + moof_steps (moof_seen view.now) }
+    ensures within { steps.new ≤ steps.old + moof_work (moof_seen view.now).payload }
 {
     let mut cursor = FragCursor::start(view, states, id, 0, Keys::new());
     let totals = add_up(&mut cursor);
@@ -55,6 +57,7 @@ fn counted_with<L: Ledger>(
 ) -> Counted
     ensures counts { (file_length : ℕ) → CountsOne file_length states.now (moof_seen view.now) state counted result }
     ensures work { steps.new ≤ steps.old + moof_steps (moof_seen view.now) }
+    ensures within { steps.new ≤ steps.old + moof_work (moof_seen view.now).payload }
 {
     if state.count == counted.samples {
         return counted;
@@ -77,6 +80,7 @@ fn count_samples<L: Ledger>(
     ensures counts { (file_length : ℕ) (movie : MovieTree) (parts : List Part) (t : FragmentTree) → IsCheckedMoof file_length movie parts t (moof_seen view.now) states.now → AreCounted movie.tracks parts counted.old
         → AreCounted movie.tracks (parts ++ parts_of (trexes_of movie) (fragment_of t)) counted.new }
     ensures work { steps.new ≤ steps.old + length counted.old * moof_steps (moof_seen view.now) }
+    ensures within { steps.new ≤ steps.old + length counted.old * moof_work (moof_seen view.now).payload }
 {
     for k in 0..counted.len() {
         let old = counted[k];
@@ -102,7 +106,8 @@ fn pass_fragments<S: Store, L: Ledger>(
     ensures honesty { S.is_honest store.new ≡ S.is_honest store.old }
     ensures file { S.file store.new ≡ S.file store.old }
     ensures passed { OnOk result (IsTrue (S.is_honest store.old) → (movie : MovieTree) (boxes : List Box) → IsBegun (S.file store.old) movie boxes states.old counted.old room → IsPassed (S.file store.old) movie boxes states.new counted.new) }
-    ensures work { OnOk result (IsTrue (S.is_honest store.old) → ChecksWithin (length counted.old + 1) (S.file store.old) steps.old steps.new) }
+    ensures work { IsTrue (S.is_honest store.old) → IfNoFault result (ChecksWithin (length counted.old + 1) (S.file store.old) steps.old steps.new) }
+    ensures within { IsTrue (S.is_honest store.old) → (movie : MovieTree) (boxes : List Box) → IsBegun (S.file store.old) movie boxes states.old counted.old room → steps.new ≤ steps.old + (length counted.old + 1) * (2 ^ 24 + length (S.file store.old)) }
     ensures reads { OnOk result (S.read_failures store.new ≡ S.read_failures store.old) }
     ensures refusal { IfErr result (RefusesFragments (S.is_honest store.old) (S.file store.old) states.old counted.old room (S.read_failures store.old) (S.read_failures store.new)) }
 {
@@ -137,7 +142,8 @@ pub(crate) fn check_fragments<S: Store, L: Ledger>(
     ensures file { S.file store.new ≡ S.file store.old }
     ensures passed { IfOk result (λ all. IsTrue (S.is_honest store.old) → (movie : MovieTree) (boxes : List Box) → IsBegun (S.file store.old) movie boxes plain.now.states.items plain.now.counted.items plain.now.room
         → IsPassed (S.file store.old) movie boxes all.states.items all.counted.items) }
-    ensures work { OnOk result (IsTrue (S.is_honest store.old) → ChecksWithin (length plain.now.counted.items + 1) (S.file store.old) steps.old steps.new) }
+    ensures work { IsTrue (S.is_honest store.old) → IfNoFault result (ChecksWithin (length plain.now.counted.items + 1) (S.file store.old) steps.old steps.new) }
+    ensures within { IsTrue (S.is_honest store.old) → (movie : MovieTree) (boxes : List Box) → IsBegun (S.file store.old) movie boxes plain.now.states.items plain.now.counted.items plain.now.room → steps.new ≤ steps.old + (length plain.now.counted.items + 1) * (2 ^ 24 + length (S.file store.old)) }
     ensures reads { OnOk result (S.read_failures store.new ≡ S.read_failures store.old) }
     ensures refusal { IfErr result (RefusesFragments (S.is_honest store.old) (S.file store.old) plain.now.states.items plain.now.counted.items plain.now.room (S.read_failures store.old) (S.read_failures store.new)) }
 {

@@ -1,5 +1,5 @@
 //! A file, read to one presentation or refused.
-ghost use Rattle.std.specs.Prelude.{◌≡◌, ◌+◌, length, map, IfOk, IfErr, OnOk, IsTrue};
+ghost use Rattle.std.specs.Prelude.{◌≡◌, ◌+◌, ◌≤◌, length, map, IfOk, IfErr, OnOk, IsTrue};
 ghost use Rattle.mp4_boxes.specs.declared.refusal.Refusal.TheVariants as refusals;
 ghost use Rattle.mp4_present.specs.Movies.{Fills};
 ghost use Rattle.mp4_present.specs.Plain.{ArePlain};
@@ -7,9 +7,10 @@ ghost use Rattle.mp4_head.specs.declared.heads.TrackHead.{TrackHead};
 ghost use Rattle.mp4_store.specs.Device.{range};
 ghost use Rattle.mp4_present.specs.declared.track_info.TrackInfo.{TrackInfo};
 ghost use Rattle.mp4_present.specs.Presentation.{Presentation};
-ghost use Rattle.mp4_present.specs.Denotes.{Denotes, FileTree};
+ghost use Rattle.mp4_present.specs.Denotes.{Denotes, FileTree, IsFileTree};
 ghost use Rattle.mp4_present.specs.OpenedMovie.{AreInfosBy, IsInfoBy, IsOpenedAs, kept_of};
 ghost use Rattle.mp4_present.specs.Opening.{HasOutline, HasMovie, IsOpened, RefusesDenoted, RefusesOpen};
+ghost use Rattle.mp4_present.specs.Work.{IfNoFault, OpensWithin, opening_steps};
 
 use crate::fragment_pass::{AllTracks, check_fragments};
 use crate::limit_checks::{check_limits, duration_of};
@@ -83,6 +84,8 @@ fn find<S: Store, L: Ledger>(
     ensures plain { IfOk result (λ f. ArePlain moov.now (length f.tracks.items) f.plain) }
     ensures movie { IfOk result (λ f. IsTrue (S.is_honest store.old) → (t : FileTree) × IsOpenedAs (S.file store.old) (kept_of outline.now moov.now (length (S.file store.old)) f) t) }
     ensures ids { IfOk result (λ f. IsTrue (S.is_honest store.old) → HasMovie (S.file store.old) (map (λ (t : TrackInfo). t.id) f.tracks.items)) }
+    ensures work { IsTrue (S.is_honest store.old) → (tree : FileTree) → IsFileTree (S.file store.old) tree → IfNoFault result (steps.new ≤ steps.old + opening_steps tree) }
+    ensures within { IsTrue (S.is_honest store.old) → OpensWithin (S.file store.old) steps.old steps.new }
     ensures reads { OnOk result (S.read_failures store.new ≡ S.read_failures store.old) }
     ensures refusal { IfErr result (RefusesOpen (S.is_honest store.old) (S.file store.old) (S.read_failures store.old) (S.read_failures store.new)) }
 {
@@ -112,6 +115,8 @@ pub fn open_movie<S: Store, L: Ledger>(
     ensures movie { IfOk result (λ m. IsTrue (S.is_honest store.old) → (t : FileTree) × IsOpenedAs (S.file store.old) m t) }
     ensures ids { IfOk result (λ m. IsTrue (S.is_honest store.old) → HasMovie (S.file store.old) (map (λ (t : TrackInfo). t.id) m.tracks)) }
     ensures only { (p : Presentation) → IsTrue (S.is_honest store.old) → Denotes (S.file store.old) p → IfErr result (RefusesDenoted (S.read_failures store.old) (S.read_failures store.new)) }
+    ensures work { IsTrue (S.is_honest store.old) → (tree : FileTree) → IsFileTree (S.file store.old) tree → IfNoFault result (steps.new ≤ steps.old + opening_steps tree) }
+    ensures within { IsTrue (S.is_honest store.old) → OpensWithin (S.file store.old) steps.old steps.new }
     ensures reads { OnOk result (S.read_failures store.new ≡ S.read_failures store.old) }
     ensures refusal { IfErr result (RefusesOpen (S.is_honest store.old) (S.file store.old) (S.read_failures store.old) (S.read_failures store.new)) }
 {

@@ -1,13 +1,13 @@
 //! The tables of the tracks of a movie, checked one after the other.
-ghost use Rattle.std.specs.Prelude.{ℕ, ◌≡◌, ◌+◌, ◌≤◌, ◌-◌, ◌^◌, min, true, length, map, List, IfOk, IfErr};
-ghost use Rattle.mp4_boxes.specs.Bytes.{AreBytes};
+ghost use Rattle.std.specs.Prelude.{ℕ, ◌≡◌, ◌+◌, ◌*◌, ◌≤◌, ◌-◌, ◌^◌, min, true, length, map, List, IfOk, IfErr};
+ghost use Rattle.mp4_boxes.specs.Bytes.{AreBytes, sum_of};
 ghost use Rattle.mp4_boxes.specs.View.{box_seen};
 ghost use Rattle.mp4_frag.specs.FragmentSamples as fragments;
 ghost use Rattle.mp4_frag.specs.declared.trex.Trex.{Trex};
 ghost use Rattle.mp4_head.specs.Tree.{TrackTree, are_distinct};
 ghost use Rattle.mp4_present.specs.Plain.{ArePlain, HaveTablesIn};
 ghost use Rattle.mp4_present.specs.TrackTrees.{AreTracksOf, HaveTables, RefusesTables};
-ghost use Rattle.mp4_present.specs.Work.{tables_steps};
+ghost use Rattle.mp4_present.specs.Work.{IfNoFault, table_steps};
 
 use crate::movie::TrackTables;
 use crate::totals::{Totals, add_up};
@@ -97,13 +97,13 @@ fn state_of(
 }
 
 impl PlainTracks {
-    ghost use Rattle.std.specs.Prelude.{◌≡◌, ℕ, true, map, List, [], ◌∷◌, ◌++◌, ◌+◌, ◌≤◌, OnOk, IfErr};
+    ghost use Rattle.std.specs.Prelude.{◌≡◌, ℕ, true, map, List, [], ◌∷◌, ◌++◌, ◌+◌, ◌*◌, ◌≤◌, length, OnOk, IfErr};
     ghost use Rattle.mp4_boxes.specs.View.{box_seen};
     ghost use Rattle.mp4_frag.specs.declared.trex.Trex.{Trex};
     ghost use Rattle.mp4_head.specs.Tree.{TrackTree, are_distinct};
     ghost use Rattle.mp4_present.specs.Plain.{ArePlain, HasTablesIn};
     ghost use Rattle.mp4_present.specs.TrackTrees.{IsTrackOf, HaveTables, RefusesTable};
-    ghost use Rattle.mp4_present.specs.Work.{tables_steps};
+    ghost use Rattle.mp4_present.specs.Work.{IfNoFault, table_steps};
 
     // No track yet.
     fn none(alloc: Global) -> PlainTracks
@@ -131,7 +131,9 @@ impl PlainTracks {
         requires distinct { are_distinct (map (λ (t : Trex). t.id) trexes.now) ≡ true }
         ensures one_more { OnOk result ((n : ℕ) → ArePlain (box_seen moov.entry).payload n self.old → ArePlain (box_seen moov.entry).payload (n + 1) self.new) }
         ensures says { OnOk result ((t : TrackTree) (trees : List TrackTree) → IsTrackOf t track.now → HaveTables file_len (box_seen moov.entry).payload trexes.now trees self.old → HaveTables file_len (box_seen moov.entry).payload trexes.now (trees ++ t ∷ []) self.new) }
-        ensures work { OnOk result (steps.new + tables_steps self.old.tables.items ≤ steps.old + tables_steps self.new.tables.items) }
+        ensures work { IfNoFault result ((t : TrackTree) → IsTrackOf t track.now → steps.new ≤ steps.old + table_steps t) }
+        ensures within { steps.new ≤ steps.old + 5 * self.old.room + 6 * length (box_seen moov.entry).payload }
+        ensures less { OnOk result (steps.new + 5 * self.new.room ≤ steps.old + 5 * self.old.room + 6 * length (box_seen moov.entry).payload) }
         ensures refusal { IfErr result (RefusesTable file_len self.old.room track.now) }
     {
         let mut keys = Keys::new();
@@ -170,7 +172,8 @@ pub(crate) fn check_tables<L: Ledger>(
     requires distinct { are_distinct (map (λ (t : Trex). t.id) head.now.trexes.items) ≡ true }
     ensures plain { IfOk result (ArePlain (box_seen moov.entry).payload (length head.now.tracks.items)) }
     ensures says { IfOk result (λ p. (trees : List TrackTree) → AreTracksOf trees head.now.tracks.items → HaveTables file_len (box_seen moov.entry).payload head.now.trexes.items trees p) }
-    ensures work { IfOk result (λ p. steps.new ≤ steps.old + tables_steps p.tables.items) }
+    ensures work { IfNoFault result ((trees : List TrackTree) → AreTracksOf trees head.now.tracks.items → steps.new ≤ steps.old + sum_of table_steps trees) }
+    ensures within { steps.new ≤ steps.old + 5 * 2 ^ 24 + 6 * (length head.now.tracks.items * length (box_seen moov.entry).payload) }
     ensures refusal { IfErr result (RefusesTables file_len head.now.tracks.items) }
 {
     let mut plain = PlainTracks::none(alloc);

@@ -6,6 +6,7 @@ use Rattle.mp4_tables.specs.declared.sample.SampleAt.{SampleAt}
 use Rattle.mp4_frag.specs.Judged.{samples_of_track}
 use Rattle.mp4_present.proofs.TablesKept.{timed_bytes}
 use Rattle.mp4_frag.specs.Views.{moof_seen}
+use Rattle.mp4_present.proofs.MoofBytes.{place_by_bytes}
 use Rattle.mp4_present.proofs.WalkWork.{place_within}
 use Rattle.mp4_present.proofs.fragment_pass.bytes_in.Goals as goal
 
@@ -18,6 +19,13 @@ returns-clause-bytes g c = λ file_length trexes t e sound defaults lasts.
 pub returns-clause-work : goal.returns-clause-work
 returns-clause-work g c =
     let way = place_within (moof_seen c.args.view.now) _ _ (c.add_up-totals.ensures.later.0 ∙ c.start-cursor.ensures.payload) c.place.ensures.said in
+    let more = c.add.ensures in
+    let passed = c.passed.ensures in
+    omega (arith, way, more, passed)
+
+pub returns-clause-within : goal.returns-clause-within
+returns-clause-within g c =
+    let way = place_by_bytes (moof_seen c.args.view.now) _ _ (c.add_up-totals.ensures.later.0 ∙ c.start-cursor.ensures.payload) c.place.ensures.work in
     let more = c.add.ensures in
     let passed = c.passed.ensures in
     omega (arith, way, more, passed)

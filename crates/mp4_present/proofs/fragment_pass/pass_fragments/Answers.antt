@@ -5,7 +5,9 @@ use Rattle.mp4_present.proofs.FragmentPass.{Left, left_first, left_next}
 use Rattle.mp4_present.proofs.MoofsPassed.{IsUnderWay, IsRead, under_way_first, not_read, all_passed, next_passed, next_refused}
 use Rattle.mp4_boxes.specs.View.{box_seen}
 use Rattle.mp4_frag.specs.Views.{moof_seen}
-use Rattle.mp4_present.proofs.ChecksCounted.{within_first, next_within, within_all}
+use Rattle.mp4_present.proofs.ChecksCounted.{within_first, next_within, checks_done}
+use Rattle.mp4_present.proofs.MoofBytes.{none_fit, next_fits, all_fit, refused_fits}
+use Rattle.mp4_present.proofs.TablesWork.{if_no_fault}
 use Rattle.mp4_present.proofs.fragment_pass.pass_fragments.Goals as goal
 
 pub loop-top-init : goal.loop-top-init
@@ -36,6 +38,7 @@ loop-top-init g c = record {
       let outline = c.args.outline.now in
       let next : unwrap_or outline.fragments (length file) ≡ c.unwrap_or-next.result = search rules in
       within_first (length c.args.counted.now + 1) file o.0 outline _ _ o.1 o.3 next;
+  fit = λ told movie boxes b. none_fit _ _ _ _ _ c.requires.few;
 }
 
 pub returns-in_err-len-clause-refusal : goal.returns-in_err-len-clause-refusal
@@ -88,6 +91,17 @@ loop-top-preserved g c =
           let e = c.in_ok-view.ensures in
           next_within (length c.args.counted.now) file c.loop-top.next c.in-Some.top all within.0 u.0 u.1.0 (next told u.0 u.1.0) (box_seen c.view-moof.result) (moof_seen c.in_ok-view.view) c.read_payload.new.room c.in_ok-len.len r e.view
           _ _ _ _ _ _ _ _ _ e.moved e.cost c.count_samples.ensures.work i.counted u.1.1;
+      fit = λ told movie boxes b.
+          let r : IsRead file c.in-Some.top (box_seen c.view-moof.result) c.read_payload.new.room c.in_ok-len.len = record {
+            is = c.view-moof.ensures;
+            fills = c.in_ok-len.ensures.fills.0;
+            within = c.in_ok-len.ensures.fills.1;
+            read = (rw (c.in_ok-top.ensures.honesty, i.honesty, c.in_ok-top.ensures.file, i.file) at c.in_ok-len.ensures.bytes) told;
+            of_bytes = c.in_ok-len.ensures.room;
+          } in
+          let e = c.in_ok-view.ensures in
+          next_fits file c.loop-top.next c.in-Some.top within.0 within.1 (box_seen c.view-moof.result) c.read_payload.new.room c.in_ok-len.len r (length c.args.counted.now) movie boxes c.args.outline.now.longest c.loop-top.room c.check_moof.new.room c.len-file_len.result c.loop-top.states c.check_moof.new.tracks c.loop-top.counted (moof_seen c.in_ok-view.view)
+          _ _ _ _ _ (i.so told movie boxes b) e.view e.sound e.moved e.within c.count_samples.ensures.within i.counted e.few (i.fit told movie boxes b);
     }
 
 pub returns-in_err-view-clause-refusal : goal.returns-in_err-view-clause-refusal
@@ -117,4 +131,34 @@ returns-clause-passed g c = λ told movie boxes b.
     all_passed file movie boxes c.loop-top.next c.args.outline.now.longest c.loop-top.states c.loop-top.counted c.loop-top.room u ((rw (i.honesty, i.file, c.in_default.is) at c.in_ok-top.ensures.next) told u.left.boxes u.left.are_from)
 
 pub returns-clause-work : goal.returns-clause-work
-returns-clause-work g c = λ told all h. within_all (length c.args.counted.now + 1) all _ _ _ (c.loop-top.invariant.work told all h).1.1
+returns-clause-work g c = λ told. checks_done _ _ _ _ _ (c.loop-top.invariant.work told)
+
+pub returns-in_err-top-clause-work : goal.returns-in_err-top-clause-work
+returns-in_err-top-clause-work g c = λ told. if_no_fault _ _ (checks_done _ _ _ _ _ (c.loop-top.invariant.work told))
+
+pub returns-in_err-len-clause-work : goal.returns-in_err-len-clause-work
+returns-in_err-len-clause-work g c = λ told. if_no_fault _ _ (checks_done _ _ _ _ _ (c.loop-top.invariant.work told))
+
+pub returns-clause-within : goal.returns-clause-within
+returns-clause-within g c = λ told movie boxes b. all_fit _ _ _ _ _ _ (c.loop-top.invariant.fit told movie boxes b)
+
+pub returns-in_err-top-clause-within : goal.returns-in_err-top-clause-within
+returns-in_err-top-clause-within g c = λ told movie boxes b. all_fit _ _ _ _ _ _ (c.loop-top.invariant.fit told movie boxes b)
+
+pub returns-in_err-len-clause-within : goal.returns-in_err-len-clause-within
+returns-in_err-len-clause-within g c = λ told movie boxes b. all_fit _ _ _ _ _ _ (c.loop-top.invariant.fit told movie boxes b)
+
+pub returns-in_err-view-clause-within : goal.returns-in_err-view-clause-within
+returns-in_err-view-clause-within g c =
+    let i = c.loop-top.invariant in
+    let file = g.S.Store.file c.args.store.now in
+    let within = rw (i.file, c.in-Some.is) at c.in_ok-top.ensures.within in
+    λ told movie boxes b.
+    let r : IsRead file c.in-Some.top (box_seen c.view-moof.result) c.read_payload.new.room c.in_ok-len.len = record {
+      is = c.view-moof.ensures;
+      fills = c.in_ok-len.ensures.fills.0;
+      within = c.in_ok-len.ensures.fills.1;
+      read = (rw (c.in_ok-top.ensures.honesty, i.honesty, c.in_ok-top.ensures.file, i.file) at c.in_ok-len.ensures.bytes) told;
+      of_bytes = c.in_ok-len.ensures.room;
+    } in
+    refused_fits file c.loop-top.next c.in-Some.top within.0 within.1 (box_seen c.view-moof.result) c.read_payload.new.room c.in_ok-len.len r (length c.args.counted.now) _ _ _ _ c.check_moof.ensures.work (i.fit told movie boxes b)

@@ -7,6 +7,7 @@ use Rattle.std.specs.Prelude.{IsTrue}
 use Rattle.mp4_frag.specs.States.{HaveRoom}
 use Rattle.mp4_present.proofs.FragmentPass.{Left}
 use Rattle.mp4_present.proofs.ChecksCounted.{LeftWithin}
+use Rattle.mp4_present.proofs.MoofBytes.{MoofsFit}
 use Rattle.mp4_present.proofs.fragment_pass.pass_fragments.Given as goal
 
 -- there is room for more samples, and the `moof`s to come are known
@@ -24,6 +25,7 @@ invariant-loop-top g l =
       so : IsTrue (g.S.Store.is_honest l.fn.store) → (movie : MovieTree) (boxes : List Box) → IsBegun (g.S.Store.file l.fn.store) movie boxes l.fn.states l.fn.counted l.fn.room → IsUnderWay (g.S.Store.file l.fn.store) movie boxes l.next l.outline.longest l.states l.counted l.room;
       counted : length l.counted ≡ length l.fn.counted;
       work : IsTrue (g.S.Store.is_honest l.fn.store) → LeftWithin (length l.fn.counted + 1) (g.S.Store.file l.fn.store) l.next l.fn.steps l.steps;
+      fit : IsTrue (g.S.Store.is_honest l.fn.store) → (movie : MovieTree) (boxes : List Box) → IsBegun (g.S.Store.file l.fn.store) movie boxes l.fn.states l.fn.counted l.fn.room → MoofsFit (length l.fn.counted + 1) (length (g.S.Store.file l.fn.store)) l.next l.room l.fn.steps l.steps;
     }
 
 abbrev pub decreases-loop-top : goal.decreases-loop-top

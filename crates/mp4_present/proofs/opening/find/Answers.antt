@@ -8,7 +8,10 @@ use Rattle.mp4_boxes.specs.Bytes.{AreBytes}
 use Rattle.mp4_present.proofs.Assembled.{movie, begun, have, opened_as, limit_stands, measure}
 use Rattle.std.proofs.lemmas.Result.{err_from_is_err_and}
 use Rattle.mp4_present.proofs.Opened.{IsRead, its_movie, open_not_sound, open_not_fit, open_not_passed}
+use Rattle.mp4_present.proofs.OpeningBytes.{tables_open, moofs_open, none_open}
+use Rattle.mp4_present.proofs.OpeningSteps.{tables_counted, moofs_counted}
 use Rattle.mp4_present.proofs.PlainLists.{found_tables}
+use Rattle.mp4_present.proofs.TablesWork.{if_no_fault, handed_on, none_taken}
 use Rattle.mp4_present.proofs.opening.find.Goals as goal
 
 pub check_tables-requires : goal.check_tables-requires
@@ -86,3 +89,135 @@ pub returns-clause-ids : goal.returns-clause-ids
 returns-clause-ids g c =
     let r : IsRead (g.S.Store.is_honest c.args.store.now) (g.S.Store.file c.args.store.now) c.args.outline.now c.args.moov.now _ = record { outline = c.requires.outline; is = c.view-view.ensures; fills = c.requires.fills; bytes = c.requires.bytes } in
     its_movie _ _ c.args.outline.now c.args.moov.now _ c.in_ok-head.head _ r c.in_ok-head.ensures.head c.in_ok-tracks.ensures.ids
+
+pub returns-in_err-head-clause-work : goal.returns-in_err-head-clause-work
+returns-in_err-head-clause-work g c = λ told tree is. if_no_fault _ _ (none_taken _ _)
+
+pub returns-in_err-plain-clause-work : goal.returns-in_err-plain-clause-work
+returns-in_err-plain-clause-work g c =
+    let p = err_from_is_err_and c.from_residual-in_err-plain.result c.from_residual-in_err-plain.ensures.1 in
+    let honest = g.S.Store.is_honest c.args.store.now in
+    let file = g.S.Store.file c.args.store.now in
+    let outline = c.args.outline.now in
+    let moov = c.args.moov.now in
+    let b = box_seen c.view-view.result in
+    let r : IsRead honest file outline moov b = record { outline = c.requires.outline; is = c.view-view.ensures; fills = c.requires.fills; bytes = c.requires.bytes } in
+    rw (p.1, p.2) (λ told tree is. handed_on Found _ _ _ (tables_counted honest file outline moov b c.in_ok-head.head r c.in_ok-head.ensures.head told tree is _ _) c.in_err-plain.ensures.work)
+
+pub returns-in_err-all-clause-work : goal.returns-in_err-all-clause-work
+returns-in_err-all-clause-work g c =
+    let p = err_from_is_err_and c.from_residual-in_err-all.result c.from_residual-in_err-all.ensures.1 in
+    let honest = g.S.Store.is_honest c.args.store.now in
+    let file = g.S.Store.file c.args.store.now in
+    let outline = c.args.outline.now in
+    let moov = c.args.moov.now in
+    let b = box_seen c.view-view.result in
+    let r : IsRead honest file outline moov b = record { outline = c.requires.outline; is = c.view-view.ensures; fills = c.requires.fills; bytes = c.requires.bytes } in
+    rw (p.1, p.2) (λ told tree is. handed_on Found _ _ _ (moofs_counted honest file outline moov b c.in_ok-head.head r c.in_ok-head.ensures.head told tree is _ _ _ _ c.in_ok-plain.ensures.plain.each_count c.in_ok-plain.ensures.work) (c.in_err-all.ensures.work told))
+
+pub returns-in_err-mehd-clause-work : goal.returns-in_err-mehd-clause-work
+returns-in_err-mehd-clause-work g c =
+    let honest = g.S.Store.is_honest c.args.store.now in
+    let file = g.S.Store.file c.args.store.now in
+    let outline = c.args.outline.now in
+    let moov = c.args.moov.now in
+    let b = box_seen c.view-view.result in
+    let r : IsRead honest file outline moov b = record { outline = c.requires.outline; is = c.view-view.ensures; fills = c.requires.fills; bytes = c.requires.bytes } in
+    λ told tree is. if_no_fault _ _ (moofs_counted honest file outline moov b c.in_ok-head.head r c.in_ok-head.ensures.head told tree is _ _ _ _ c.in_ok-plain.ensures.plain.each_count c.in_ok-plain.ensures.work (c.in_ok-all.ensures.work told))
+
+pub returns-in_err-tracks-clause-work : goal.returns-in_err-tracks-clause-work
+returns-in_err-tracks-clause-work g c =
+    let honest = g.S.Store.is_honest c.args.store.now in
+    let file = g.S.Store.file c.args.store.now in
+    let outline = c.args.outline.now in
+    let moov = c.args.moov.now in
+    let b = box_seen c.view-view.result in
+    let r : IsRead honest file outline moov b = record { outline = c.requires.outline; is = c.view-view.ensures; fills = c.requires.fills; bytes = c.requires.bytes } in
+    λ told tree is. if_no_fault _ _ (moofs_counted honest file outline moov b c.in_ok-head.head r c.in_ok-head.ensures.head told tree is _ _ _ _ c.in_ok-plain.ensures.plain.each_count c.in_ok-plain.ensures.work (c.in_ok-all.ensures.work told))
+
+pub returns-clause-work : goal.returns-clause-work
+returns-clause-work g c =
+    let honest = g.S.Store.is_honest c.args.store.now in
+    let file = g.S.Store.file c.args.store.now in
+    let outline = c.args.outline.now in
+    let moov = c.args.moov.now in
+    let b = box_seen c.view-view.result in
+    let r : IsRead honest file outline moov b = record { outline = c.requires.outline; is = c.view-view.ensures; fills = c.requires.fills; bytes = c.requires.bytes } in
+    λ told tree is. moofs_counted honest file outline moov b c.in_ok-head.head r c.in_ok-head.ensures.head told tree is _ _ _ _ c.in_ok-plain.ensures.plain.each_count c.in_ok-plain.ensures.work (c.in_ok-all.ensures.work told)
+
+pub returns-in_err-head-clause-within : goal.returns-in_err-head-clause-within
+returns-in_err-head-clause-within g c = λ told. none_open _ _
+
+pub returns-in_err-plain-clause-within : goal.returns-in_err-plain-clause-within
+returns-in_err-plain-clause-within g c =
+    let honest = g.S.Store.is_honest c.args.store.now in
+    let file = g.S.Store.file c.args.store.now in
+    let outline = c.args.outline.now in
+    let moov = c.args.moov.now in
+    let b = box_seen c.view-view.result in
+    let r : IsRead honest file outline moov b = record { outline = c.requires.outline; is = c.view-view.ensures; fills = c.requires.fills; bytes = c.requires.bytes } in
+    λ told. tables_open honest file outline moov b c.in_ok-head.head r c.in_ok-head.ensures.head told _ _ c.in_err-plain.ensures.within
+
+pub returns-in_err-all-clause-within : goal.returns-in_err-all-clause-within
+returns-in_err-all-clause-within g c =
+    let honest = g.S.Store.is_honest c.args.store.now in
+    let file = g.S.Store.file c.args.store.now in
+    let outline = c.args.outline.now in
+    let moov = c.args.moov.now in
+    let b = box_seen c.view-view.result in
+    let r : IsRead honest file outline moov b = record { outline = c.requires.outline; is = c.view-view.ensures; fills = c.requires.fills; bytes = c.requires.bytes } in
+    let bytes : AreBytes moov = λ k. search rules in
+    let head = c.in_ok-head.head in
+    let says = c.in_ok-head.ensures.head in
+    let plain = c.in_ok-plain.plain in
+    λ told.
+    let begin = begun honest file outline moov b head plain r says bytes _ c.len.ensures c.in_ok-plain.ensures.says told in
+    moofs_open honest file outline moov b head r says told _ _ _ _ c.in_ok-plain.ensures.plain.each_count c.in_ok-plain.ensures.within (c.in_err-all.ensures.within told _ _ begin)
+
+pub returns-in_err-mehd-clause-within : goal.returns-in_err-mehd-clause-within
+returns-in_err-mehd-clause-within g c =
+    let honest = g.S.Store.is_honest c.args.store.now in
+    let file = g.S.Store.file c.args.store.now in
+    let outline = c.args.outline.now in
+    let moov = c.args.moov.now in
+    let b = box_seen c.view-view.result in
+    let r : IsRead honest file outline moov b = record { outline = c.requires.outline; is = c.view-view.ensures; fills = c.requires.fills; bytes = c.requires.bytes } in
+    let bytes : AreBytes moov = λ k. search rules in
+    let head = c.in_ok-head.head in
+    let says = c.in_ok-head.ensures.head in
+    let plain = c.in_ok-plain.plain in
+    λ told.
+    let begin = begun honest file outline moov b head plain r says bytes _ c.len.ensures c.in_ok-plain.ensures.says told in
+    moofs_open honest file outline moov b head r says told _ _ _ _ c.in_ok-plain.ensures.plain.each_count c.in_ok-plain.ensures.within (c.in_ok-all.ensures.within told _ _ begin)
+
+pub returns-in_err-tracks-clause-within : goal.returns-in_err-tracks-clause-within
+returns-in_err-tracks-clause-within g c =
+    let honest = g.S.Store.is_honest c.args.store.now in
+    let file = g.S.Store.file c.args.store.now in
+    let outline = c.args.outline.now in
+    let moov = c.args.moov.now in
+    let b = box_seen c.view-view.result in
+    let r : IsRead honest file outline moov b = record { outline = c.requires.outline; is = c.view-view.ensures; fills = c.requires.fills; bytes = c.requires.bytes } in
+    let bytes : AreBytes moov = λ k. search rules in
+    let head = c.in_ok-head.head in
+    let says = c.in_ok-head.ensures.head in
+    let plain = c.in_ok-plain.plain in
+    λ told.
+    let begin = begun honest file outline moov b head plain r says bytes _ c.len.ensures c.in_ok-plain.ensures.says told in
+    moofs_open honest file outline moov b head r says told _ _ _ _ c.in_ok-plain.ensures.plain.each_count c.in_ok-plain.ensures.within (c.in_ok-all.ensures.within told _ _ begin)
+
+pub returns-clause-within : goal.returns-clause-within
+returns-clause-within g c =
+    let honest = g.S.Store.is_honest c.args.store.now in
+    let file = g.S.Store.file c.args.store.now in
+    let outline = c.args.outline.now in
+    let moov = c.args.moov.now in
+    let b = box_seen c.view-view.result in
+    let r : IsRead honest file outline moov b = record { outline = c.requires.outline; is = c.view-view.ensures; fills = c.requires.fills; bytes = c.requires.bytes } in
+    let bytes : AreBytes moov = λ k. search rules in
+    let head = c.in_ok-head.head in
+    let says = c.in_ok-head.ensures.head in
+    let plain = c.in_ok-plain.plain in
+    λ told.
+    let begin = begun honest file outline moov b head plain r says bytes _ c.len.ensures c.in_ok-plain.ensures.says told in
+    moofs_open honest file outline moov b head r says told _ _ _ _ c.in_ok-plain.ensures.plain.each_count c.in_ok-plain.ensures.within (c.in_ok-all.ensures.within told _ _ begin)

@@ -1,13 +1,16 @@
-use Rattle.std.proofs.Common.{ℕ, drop, subst, rules, arith}
+use Rattle.std.proofs.Common.{ℕ, ◌≤◌, [], length, drop, subst, rules}
 use Rattle.mp4_boxes.specs.View.{box_seen}
 use Rattle.mp4_present.specs.Plain.{HasTablesIn, HaveTablesIn}
 use Rattle.mp4_present.proofs.PlainLists.{from_next, next_of}
 use Rattle.std.proofs.lemmas.Result.{err_from_is_err_and}
 use Rattle.mp4_present.proofs.TracksPassed.{passed_more, passed_all, passed_refused}
+use Rattle.mp4_present.proofs.OpeningBytes.{none_fit, next_fit, all_fit, last_fit}
+use Rattle.mp4_present.proofs.TablesWork.{handed_on, next_left, next_done, tracks_done}
+use Rattle.mp4_present.specs.declared.tables_pass.PlainTracks.{PlainTracks}
 use Rattle.mp4_present.proofs.tables_pass.check_tables.Goals as goal
 
 pub loop-track-init : goal.loop-track-init
-loop-track-init g c = (c.none-plain.ensures.plain _, rw c.deref-track-items.ensures.value c.requires.inside, λ trees a. c.none-plain.ensures.says _ _ _, search rules)
+loop-track-init g c = (c.none-plain.ensures.plain _, rw c.deref-track-items.ensures.value c.requires.inside, λ trees a. c.none-plain.ensures.says _ _ _, λ trees a. search rules, none_fit _ _ _ (c.none-plain.ensures.plain []).few)
 
 pub loop-track-preserved : goal.loop-track-preserved
 loop-track-preserved g c =
@@ -15,7 +18,8 @@ loop-track-preserved g c =
       c.in_ok-push.ensures.one_more _ i.0,
       subst (λ (k : ℕ). HaveTablesIn (box_seen c.args.moov) (drop k c.deref-track-items.result.now)) (next_of c.loop-track.track-index) (from_next (HasTablesIn (box_seen c.args.moov)) c.deref-track-items.result.now c.loop-track.track-index i.1),
       passed_more _ _ _ _ _ _ i.2 c.track-item.result c.push.new.self c.loop-track-test.true c.track-item.is (rw c.deref.ensures.value at c.in_ok-push.ensures.says),
-      (let more = c.in_ok-push.ensures.work in let some = i.3 in omega (arith, more, some)),
+      next_left _ _ _ _ _ c.track-item.result c.loop-track-test.true c.track-item.is c.in_ok-push.ensures.work i.3,
+      next_fit _ _ _ _ _ _ _ i.4 c.in_ok-push.ensures.less,
     )
 
 pub returns-in_err-push-clause-refusal : goal.returns-in_err-push-clause-refusal
@@ -25,3 +29,20 @@ returns-in_err-push-clause-refusal g c =
 
 pub returns-clause-says : goal.returns-clause-says
 returns-clause-says g c = rw c.deref-track-items.ensures.value at (passed_all _ _ _ _ _ _ c.loop-track.invariant.2 c.loop-track-test.false)
+
+pub returns-in_err-push-clause-work : goal.returns-in_err-push-clause-work
+returns-in_err-push-clause-work g c =
+    let p = err_from_is_err_and c.from_residual.result c.from_residual.ensures.1 in
+    let done = rw c.deref-track-items.ensures.value at (next_done c.deref-track-items.result.now c.loop-track.track-index c.args.steps.now c.loop-track.steps c.push.new.steps c.track-item.result c.loop-track-test.true c.track-item.is c.loop-track.invariant.3) in
+    rw (p.1, p.2) (handed_on PlainTracks _ _ c.in_err-push.field-0.0 done c.in_err-push.ensures.work)
+
+pub returns-clause-work : goal.returns-clause-work
+returns-clause-work g c = rw c.deref-track-items.ensures.value at (tracks_done _ _ _ _ c.loop-track.invariant.3)
+
+pub returns-in_err-push-clause-within : goal.returns-in_err-push-clause-within
+returns-in_err-push-clause-within g c = rw c.deref-track-items.ensures.value at (last_fit _ _ _ _ _ _ _ c.loop-track-test.true c.loop-track.invariant.4 c.push.ensures.within)
+
+pub returns-clause-within : goal.returns-clause-within
+returns-clause-within g c =
+    let few : c.loop-track.track-index ≤ length c.args.head.now.tracks.items = search rules in
+    all_fit _ _ _ _ _ _ few c.loop-track.invariant.4

@@ -1,9 +1,10 @@
-use Rattle.std.proofs.Common.{◌+◌, ◌≤◌, List, drop, take}
+use Rattle.std.proofs.Common.{List, drop, take, length}
 use Rattle.mp4_boxes.specs.View.{box_seen}
 use Rattle.mp4_head.specs.Tree.{TrackTree}
 use Rattle.mp4_present.specs.Plain.{ArePlain, HaveTablesIn}
 use Rattle.mp4_present.specs.TrackTrees.{AreTracksOf, HaveTables}
-use Rattle.mp4_present.specs.Work.{tables_steps}
+use Rattle.mp4_present.proofs.OpeningBytes.{TracksFit}
+use Rattle.mp4_present.proofs.TablesWork.{TracksLeft}
 use Rattle.mp4_present.proofs.tables_pass.check_tables.Given as goal
 
 -- the first tracks were checked
@@ -11,4 +12,5 @@ abbrev pub invariant-loop-track : goal.invariant-loop-track
 invariant-loop-track g l =
     ArePlain (box_seen l.moov).payload l.track-index l.plain × HaveTablesIn (box_seen l.moov) (drop l.track-index l.track-items)
     × ((trees : List TrackTree) → AreTracksOf trees l.track-items → HaveTables l.file_len (box_seen l.moov).payload l.head.trexes.items (take l.track-index trees) l.plain)
-    × (l.steps ≤ l.fn.steps + tables_steps l.plain.tables.items)
+    × TracksLeft l.track-items l.track-index l.fn.steps l.steps
+    × TracksFit l.track-index (length (box_seen l.moov).payload) l.plain.room l.fn.steps l.steps

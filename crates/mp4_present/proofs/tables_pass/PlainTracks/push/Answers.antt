@@ -8,7 +8,8 @@ use Rattle.mp4_boxes.specs.Bytes.{AreBytes}
 use Rattle.mp4_present.proofs.PlainLists.{lie_in, plain_more}
 use Rattle.mp4_present.proofs.TablesKept.{IsRead, tables_are, state_is, counted_are, tables_more, table_fails}
 use Rattle.mp4_boxes.specs.View.{box_seen}
-use Rattle.mp4_present.proofs.TablesWork.{tables_within}
+use Rattle.mp4_present.proofs.OpeningBytes.{track_fits, of_less, refused_fits}
+use Rattle.mp4_present.proofs.TablesWork.{if_no_fault, track_within}
 use Rattle.mp4_present.proofs.tables_pass.PlainTracks.push.Goals as goal
 
 pub returns-clause-one_more : goal.returns-clause-one_more
@@ -60,5 +61,48 @@ returns-in_err-tables-clause-refusal g c =
 
 pub returns-clause-work : goal.returns-clause-work
 returns-clause-work g c =
-    let t : TrackTables = record { place = c.payload_offset.result - c.payload_offset-2.result; len = c.length_of-len.result; tables = c.places.result } in
-    tables_within c.args.self.now.tables.items c.push.new.self.items t c.in_ok-tables.tables _ c.place.result _ _ _ c.in_ok-push.ensures.items c.places.ensures.at (c.add_up-totals.ensures.later.0 ∙ c.start-cursor.ensures.tables) c.place.ensures.place c.in_ok-tables.ensures.passed (search rules)
+    let e = c.in_ok-tables.ensures in
+    track_within _ _ _ c.args.track.now c.in_ok-tables.tables _ c.place.result _ _ _ e.tables (c.add_up-totals.ensures.later.0 ∙ c.start-cursor.ensures.tables) c.place.ensures.place e.passed (search rules)
+
+pub returns-in_err-push-clause-work : goal.returns-in_err-push-clause-work
+returns-in_err-push-clause-work g c =
+    let e = c.in_ok-tables.ensures in
+    if_no_fault _ _ (track_within _ _ _ c.args.track.now c.in_ok-tables.tables _ c.place.result _ _ _ e.tables (c.add_up-totals.ensures.later.0 ∙ c.start-cursor.ensures.tables) c.place.ensures.place e.passed (search rules))
+
+pub returns-in_err-push-2-clause-work : goal.returns-in_err-push-2-clause-work
+returns-in_err-push-2-clause-work g c =
+    let e = c.in_ok-tables.ensures in
+    if_no_fault _ _ (track_within _ _ _ c.args.track.now c.in_ok-tables.tables _ c.place.result _ _ _ e.tables (c.add_up-totals.ensures.later.0 ∙ c.start-cursor.ensures.tables) c.place.ensures.place e.passed (search rules))
+
+pub returns-in_err-push-3-clause-work : goal.returns-in_err-push-3-clause-work
+returns-in_err-push-3-clause-work g c =
+    let e = c.in_ok-tables.ensures in
+    if_no_fault _ _ (track_within _ _ _ c.args.track.now c.in_ok-tables.tables _ c.place.result _ _ _ e.tables (c.add_up-totals.ensures.later.0 ∙ c.start-cursor.ensures.tables) c.place.ensures.place e.passed (search rules))
+
+pub returns-clause-less : goal.returns-clause-less
+returns-clause-less g c =
+    let e = c.in_ok-tables.ensures in
+    track_fits _ _ _ (box_seen c.args.moov) (box_seen c.args.track.now.stbl) c.in_ok-tables.tables _ c.place.result c.count.result _ _ _ c.requires.inside.inside e.tables e.payload c.count.ensures (c.add_up-totals.ensures.later.0 ∙ c.start-cursor.ensures.tables) c.place.ensures.place e.within (search rules)
+
+pub returns-clause-within : goal.returns-clause-within
+returns-clause-within g c =
+    let e = c.in_ok-tables.ensures in
+    of_less _ _ _ _ _ (track_fits _ _ _ (box_seen c.args.moov) (box_seen c.args.track.now.stbl) c.in_ok-tables.tables _ c.place.result c.count.result _ _ _ c.requires.inside.inside e.tables e.payload c.count.ensures (c.add_up-totals.ensures.later.0 ∙ c.start-cursor.ensures.tables) c.place.ensures.place e.within (search rules))
+
+pub returns-in_err-push-clause-within : goal.returns-in_err-push-clause-within
+returns-in_err-push-clause-within g c =
+    let e = c.in_ok-tables.ensures in
+    of_less _ _ _ _ _ (track_fits _ _ _ (box_seen c.args.moov) (box_seen c.args.track.now.stbl) c.in_ok-tables.tables _ c.place.result c.count.result _ _ _ c.requires.inside.inside e.tables e.payload c.count.ensures (c.add_up-totals.ensures.later.0 ∙ c.start-cursor.ensures.tables) c.place.ensures.place e.within (search rules))
+
+pub returns-in_err-push-2-clause-within : goal.returns-in_err-push-2-clause-within
+returns-in_err-push-2-clause-within g c =
+    let e = c.in_ok-tables.ensures in
+    of_less _ _ _ _ _ (track_fits _ _ _ (box_seen c.args.moov) (box_seen c.args.track.now.stbl) c.in_ok-tables.tables _ c.place.result c.count.result _ _ _ c.requires.inside.inside e.tables e.payload c.count.ensures (c.add_up-totals.ensures.later.0 ∙ c.start-cursor.ensures.tables) c.place.ensures.place e.within (search rules))
+
+pub returns-in_err-push-3-clause-within : goal.returns-in_err-push-3-clause-within
+returns-in_err-push-3-clause-within g c =
+    let e = c.in_ok-tables.ensures in
+    of_less _ _ _ _ _ (track_fits _ _ _ (box_seen c.args.moov) (box_seen c.args.track.now.stbl) c.in_ok-tables.tables _ c.place.result c.count.result _ _ _ c.requires.inside.inside e.tables e.payload c.count.ensures (c.add_up-totals.ensures.later.0 ∙ c.start-cursor.ensures.tables) c.place.ensures.place e.within (search rules))
+
+pub returns-in_err-tables-clause-within : goal.returns-in_err-tables-clause-within
+returns-in_err-tables-clause-within g c = refused_fits (box_seen c.args.moov) (box_seen c.args.track.now.stbl) _ _ _ c.requires.inside.inside c.check.ensures.work
