@@ -26,3 +26,4 @@ pub mod NamedKeys
 pub mod GroupMaps
 pub mod Placed
 pub mod Vectors
+pub mod GroupsOver
