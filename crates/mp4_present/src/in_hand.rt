@@ -54,7 +54,7 @@ impl<'a> Samples for InHand<'a> {
 
     ghost follows = { Follows };
 
-    #[inline]
+    #[inline(always)]
     fn peek(&self) -> Option<SampleAt> {
         match self {
             InHand::Tables(cursor) => cursor.peek(),
@@ -62,7 +62,7 @@ impl<'a> Samples for InHand<'a> {
         }
     }
 
-    #[inline]
+    #[inline(always)]
     fn next(&mut self) -> Option<SampleAt> {
         match self {
             InHand::Tables(cursor) => cursor.next(),

@@ -73,7 +73,7 @@ impl<'a> Samples for TableCursor<'a> {
 
     ghost follows = { λ s t. (t.tables ≡ s.tables) × (passed s.place ≤ passed t.place) };
 
-    #[inline]
+    #[inline(always)]
     fn peek(&self) -> Option<SampleAt> {
         if self.place.number < self.at.sizes.rows.count {
             Some(sample_here(self.payload, &self.at, &self.place))
@@ -82,7 +82,7 @@ impl<'a> Samples for TableCursor<'a> {
         }
     }
 
-    #[inline]
+    #[inline(always)]
     fn next(&mut self) -> Option<SampleAt> {
         if self.place.number < self.at.sizes.rows.count {
             let sample = sample_here(self.payload, &self.at, &self.place);

@@ -1,5 +1,5 @@
 //! Sample groups: which index a sample has (ISO/IEC 14496-12, 8.9.2).
-ghost use Rattle.std.specs.Prelude.{◌≡◌, ◌+◌, ◌<◌, ◌≤◌, [], drop, slice_index};
+ghost use Rattle.std.specs.Prelude.{◌≡◌, ◌+◌, ◌<◌, ◌≤◌, [], drop, slice_index, IsTrue};
 ghost use Rattle.mp4_tables.specs.Repeated.{repeated};
 ghost use Rattle.mp4_tables.specs.Rows.{HaveRoom, runs_at};
 ghost use Rattle.mp4_tables.specs.Coming.{coming};
@@ -70,6 +70,17 @@ fn pass_index(payload: &[u8], rows: RowsAt, place: RunPlace, number: u32) -> Run
     }
 }
 
+// Whether no index is left in hand: where there are no `sbgp`s, and behind their last rows.
+#[inline(always)]
+pub(crate) fn are_over(places: &GroupPlaces) -> bool
+    ensures { IsTrue result → (places.now.first.left ≡ 0) × (places.now.second.left ≡ 0) × (places.now.third.left ≡ 0) × (places.now.fourth.left ≡ 0) }
+{
+    places.first.left == 0
+        && places.second.left == 0
+        && places.third.left == 0
+        && places.fourth.left == 0
+}
+
 // Passes a sample in each `sbgp`.
 #[inline]
 pub(crate) fn pass_groups(
@@ -83,6 +94,9 @@ pub(crate) fn pass_groups(
     ensures at { AreGroupPlaces payload.now groups.now result (number + 1) }
     ensures on { (places.now.first.row ≤ result.first.row) × (places.now.second.row ≤ result.second.row) × (places.now.third.row ≤ result.third.row) × (places.now.fourth.row ≤ result.fourth.row) }
 {
+    if are_over(places) {
+        return *places;
+    }
     GroupPlaces {
         first: pass_index(payload, groups.first, places.first, number),
         second: pass_index(payload, groups.second, places.second, number),

@@ -23,7 +23,7 @@ fn half_at(payload: &[u8], rows: RowsAt, i: u32) -> u32
 }
 
 /// The size of sample `i`, from 0.
-#[inline]
+#[inline(always)]
 #[tactic(auto, using(crate::proofs::RowLists::whole_sizes))]
 pub(crate) fn size_at(payload: &[u8], sizes: SizesAt, i: u32) -> u32
     requires room { HaveSizes payload.now sizes.form sizes.rows }

@@ -10,7 +10,7 @@ ghost use Rattle.mp4_tables.specs.Accepted.{offset_rows as rows_of_offsets};
 ghost use Rattle.mp4_tables.specs.TableRules.{is_sync_order};
 
 use crate::chunks::{first_chunk, pass_spot};
-use crate::groups::{first_groups, index_here, pass_groups};
+use crate::groups::{are_over, first_groups, index_here, pass_groups};
 use crate::places::{
     BytesAt, GroupPlaces, GroupsAt, OffsetsAt, RowsAt, RunPlace, SyncPlace, TablePlace, TablesAt,
 };
@@ -67,7 +67,7 @@ fn non_sync_at(payload: &[u8], sync: Option<RowsAt>, place: SyncPlace, i: u32) -
 }
 
 // The flags of the sample before which the place lies.
-#[inline]
+#[inline(always)]
 fn flags_at(payload: &[u8], at: &TablesAt, place: &TablePlace) -> u32
     requires ok { IsAccepted payload.now at.now }
     requires place { IsPlace payload.now at.now place.now }
@@ -83,12 +83,15 @@ fn flags_at(payload: &[u8], at: &TablesAt, place: &TablePlace) -> u32
 }
 
 // Its index in each `sbgp`.
-#[inline]
+#[inline(always)]
 fn indexes_at(payload: &[u8], groups: &GroupsAt, places: &GroupPlaces, number: u32) -> [u16; 4]
     requires have { HaveGroups payload.now groups.now }
     requires at { AreGroupPlaces payload.now groups.now places.now number }
     ensures { result ≡ indexes_here payload.now groups.now number }
 {
+    if are_over(places) {
+        return [0; 4];
+    }
     [
         index_here(payload, groups.first, places.first, number),
         index_here(payload, groups.second, places.second, number),
@@ -98,7 +101,7 @@ fn indexes_at(payload: &[u8], groups: &GroupsAt, places: &GroupPlaces, number: u
 }
 
 // The sample before which the place lies.
-#[inline]
+#[inline(always)]
 pub(crate) fn sample_here(payload: &[u8], at: &TablesAt, place: &TablePlace) -> SampleAt
     requires ok { IsAccepted payload.now at.now }
     requires place { IsPlace payload.now at.now place.now }
@@ -133,7 +136,7 @@ fn pass_sync_in(payload: &[u8], sync: Option<RowsAt>, place: SyncPlace, i: u32) 
 }
 
 // The place one sample on.
-#[inline]
+#[inline(never)]
 pub(crate) fn pass_place(payload: &[u8], at: &TablesAt, place: &TablePlace) -> TablePlace
     requires ok { IsAccepted payload.now at.now }
     requires place { IsPlace payload.now at.now place.now }
