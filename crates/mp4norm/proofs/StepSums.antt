@@ -1,23 +1,22 @@
 -- The steps of opening a file and of three walks over each of its tracks are within the bound.
 use Rattle.std.proofs.Common.{◌≡◌, ℕ, zero, suc, ◌+◌, ◌*◌, ◌≤◌, List, [], ◌∷◌, length, map, refl, sym, ap, subst, ◌∙◌, arith, mul-le-mul_left}
-use Rattle.std.proofs.lemmas.List.{length-append, length-map}
+use Rattle.std.proofs.lemmas.List.{length-map}
 use Rattle.std.specs.List.{AllByRecursion}
 use Rattle.mp4_boxes.specs.Bytes.{sum_of}
-use Rattle.mp4_boxes.specs.Children.{payload_among, sample_sizes}
 use Rattle.mp4_tables.specs.TableRules.{Fit}
-use Rattle.mp4_tables.specs.Tables.{tables_of, sample_count}
+use Rattle.mp4_tables.specs.Tables.{tables_of}
 use Rattle.mp4_tables.specs.Work.{table_rows}
 use Rattle.mp4_tables.proofs.Counts.{samples_counted}
-use Rattle.mp4_frag.specs.Fragments.{FragmentTree, IsFragmentTree, fragment_of}
+use Rattle.mp4_frag.specs.Fragments.{Fragment, FragmentTree, IsFragmentTree, fragment_of}
 use Rattle.mp4_frag.specs.FragmentSamples.{Part, all_parts, parts_of, part_samples}
-use Rattle.mp4_frag.specs.Work.{fragment_rows, fragment_length, moof_says}
+use Rattle.mp4_frag.specs.Work.{fragment_rows, fragment_length}
 use Rattle.mp4_frag.specs.declared.trex.Trex.{Trex}
 use Rattle.mp4_frag.proofs.SaidSamples.{tree_said, parts_said}
 use Rattle.mp4_head.specs.Tree.{TrackTree, IsTrackTree, trexes_of}
 use Rattle.mp4_present.specs.Denotes.{FileTree, IsFileTree, IsConsistent, Denotes, plain_of, surroundings, file_parts, presentation_of, track_of}
-use Rattle.mp4_present.specs.Presentation.{Presentation, Track, sample_total}
+use Rattle.mp4_present.specs.Presentation.{Presentation, sample_total}
 use Rattle.mp4_present.specs.Stands.{table_total}
-use Rattle.mp4_present.specs.Work.{moof_steps, moofs_steps, table_steps, opening_steps, table_way, walk_steps, walks_steps}
+use Rattle.mp4_present.specs.Work.{moof_steps, moofs_steps, table_steps, opening_steps, table_way, walks_steps}
 use Rattle.mp4_present.proofs.Counts.{parts_total, sum-append, sizes_few, fragments_total, total_is, all_belong}
 use Rattle.mp4norm.specs.Steps.{row_total, most_steps}
 
@@ -36,7 +35,7 @@ checks_sum (t ∷ tracks) = let more = checks_sum tracks in omega (arith, more)
 
 ways_sum : (m : ℕ) (tracks : List TrackTree) → sum_of (λ (t : TrackTree). table_way t + m) tracks ≡ rows_of tracks + 3 * plain_total tracks + length tracks * m
 unfolding table_way
-ways_sum m [] = refl
+ways_sum m [] = omega arith
 ways_sum m (t ∷ tracks) = let more = ways_sum m tracks in omega (arith, more)
 
 plain_counted : (file : List ℕ) (tracks : List TrackTree) → AllByRecursion IsTrackTree tracks → AllByRecursion (λ (t : TrackTree). Fit (surroundings file t) (tables_of t.table)) tracks → plain_total tracks ≡ table_total tracks
@@ -50,7 +49,7 @@ fragment_rows_of fragments = sum_of (λ (f : FragmentTree). fragment_rows (fragm
 
 one_moof : (f : FragmentTree) → IsFragmentTree f → moof_steps f.moof ≡ fragment_rows (fragment_of f) + fragment_length (fragment_of f)
 unfolding moof_steps
-one_moof f h = λ i. fragment_rows (tree_said f h (~ i)) + fragment_length (tree_said f h (~ i))
+one_moof f h = ap (λ (x : Fragment). fragment_rows x + fragment_length x) (sym (tree_said f h))
 
 moofs_sum : (trexes : List Trex) (fragments : List FragmentTree) → AllByRecursion IsFragmentTree fragments → moofs_steps fragments ≡ fragment_rows_of fragments + parts_total (all_parts trexes (map fragment_of fragments))
 moofs_sum trexes [] h = refl

@@ -1,16 +1,16 @@
 -- The steps of `normalise`, by what its parts promise.
-use Rattle.std.proofs.Common.{◌≡◌, ℕ, ◌+◌, ◌*◌, ◌≤◌, List, refl, subst, arith}
-use Rattle.std.specs.Prelude.{Result, Err}
-use Rattle.mp4_boxes.specs.declared.fault.Fault.{Fault}
+use Rattle.std.proofs.Common.{ℕ, ◌+◌, ◌*◌, ◌≤◌, List, subst, arith}
+use Rattle.std.specs.Prelude.{Bool, Err, IsTrue}
 use Rattle.mp4_boxes.specs.declared.refusal.Refusal.{Refusal}
 use Rattle.mp4_boxes.specs.declared.refusal.Refusal.TheVariants as refusals
 use Rattle.mp4_present.specs.Denotes.{FileTree, IsFileTree, presentation_of}
 use Rattle.mp4_present.specs.Movies.{MovieSeen}
 use Rattle.mp4_present.specs.OpenedMovie.{IsOpenedAs}
-use Rattle.mp4_present.specs.Stands.{Stands}
+use Rattle.mp4_present.specs.Opening.{RefusesOpen}
 use Rattle.mp4_present.specs.Work.{IfNoFault, OpensWithin, opening_steps, walks_steps}
 use Rattle.mp4_present.proofs.One.{file_tree_one}
-use Rattle.mp4norm.specs.Headline.{DenotesNothing}
+use Rattle.mp4_present.specs.declared.walks.Walk.{Walk}
+use Rattle.mp4_plan.specs.Work.{MayAllTake, MayAllBegin}
 use Rattle.mp4norm.specs.Steps.{WorksWithin}
 use Rattle.mp4norm.proofs.Normalised.{denotes_nothing}
 use Rattle.mp4norm.proofs.ShownLines.{denoted}
@@ -25,16 +25,16 @@ module _ (file : List ℕ) (old new : ℕ) where
   }
 
   -- a file that isn't opened
-  pub not_opened : {A : Type 0} (r : Refusal) → ((f : Fault) → r ≡ refusals.Fault f → Stands file f) → ((tree : FileTree) → IsFileTree file tree → IfNoFault {A} (Err r) (new ≤ old + opening_steps tree)) → OpensWithin file old new → WorksWithin file old new
-  not_opened (refusals.Fault f) stands work within = record {
-    denoted = λ p d. absurd (denotes_nothing file f (stands f refl) p d);
+  pub not_opened : (honest : Bool) (reads reads_after : ℕ) (r : Refusal) → IsTrue honest → RefusesOpen honest file reads reads_after r → ((tree : FileTree) → IsFileTree file tree → IfNoFault {A = Unit {0}} (Err r) (new ≤ old + opening_steps tree)) → OpensWithin file old new → WorksWithin file old new
+  not_opened honest reads reads_after (refusals.Fault f) told refuses work within = record {
+    denoted = λ p d. absurd (denotes_nothing file f (refuses told) p d);
     refused = λ nothing. within;
   }
-  not_opened refusals.Memory stands work within = opening_only work within
-  not_opened refusals.StoreFailed stands work within = opening_only work within
-  not_opened refusals.StoreChanged stands work within = opening_only work within
-  not_opened refusals.WriteFailed stands work within = opening_only work within
-  not_opened refusals.NoSuchTrack stands work within = opening_only work within
+  not_opened honest reads reads_after refusals.Memory told refuses work within = opening_only work within
+  not_opened honest reads reads_after refusals.StoreFailed told refuses work within = opening_only work within
+  not_opened honest reads reads_after refusals.StoreChanged told refuses work within = opening_only work within
+  not_opened honest reads reads_after refusals.WriteFailed told refuses work within = opening_only work within
+  not_opened honest reads reads_after refusals.NoSuchTrack told refuses work within = opening_only work within
 
   -- a file that is opened, and walked over at most three times
   pub opened_within : (m : MovieSeen) (tree : FileTree) (behind : ℕ) → IsOpenedAs file m tree → behind ≤ old + opening_steps tree → new ≤ behind + 3 * walks_steps tree → WorksWithin file old new
@@ -46,3 +46,28 @@ module _ (file : List ℕ) (old new : ℕ) where
         omega (arith, own, all);
     refused = λ nothing. absurd (nothing (presentation_of file tree) (denoted file m tree o));
   }
+
+-- a movie that isn't planned
+pub not_planned : (file : List ℕ) (m : MovieSeen) (old behind new : ℕ) → ((tree : FileTree) × IsOpenedAs file m tree) → ((tree : FileTree) → IsFileTree file tree → behind ≤ old + opening_steps tree)
+    → ((tree : FileTree) → IsOpenedAs file m tree → new ≤ behind + walks_steps tree) → WorksWithin file old new
+not_planned file m old behind new opened opening plan =
+    let tree = opened.0 in
+    let first = opening tree opened.1.is_tree in
+    let own = plan tree opened.1 in
+    opened_within file old new m tree behind opened.1 first (omega (arith, own))
+
+-- a movie that is planned, and written or not
+pub written_within : (file : List ℕ) (m : MovieSeen) (planning copying : List Walk) (old opened_at behind new : ℕ) → ((tree : FileTree) × IsOpenedAs file m tree)
+    → ((tree : FileTree) → IsFileTree file tree → opened_at ≤ old + opening_steps tree) → ((tree : FileTree) → IsOpenedAs file m tree → behind ≤ opened_at + walks_steps tree)
+    → ((tree : FileTree) → IsOpenedAs file m tree → MayAllBegin file tree planning × MayAllBegin file tree copying)
+    → ((tree : FileTree) → IsOpenedAs file m tree → (n c : ℕ) → MayAllTake file tree tree.movie.tracks planning n → MayAllTake file tree tree.movie.tracks copying c → new ≤ behind + n + c) → WorksWithin file old new
+written_within file m planning copying old opened_at behind new opened opening plan may write =
+    let tree = opened.0 in
+    let o = opened.1 in
+    let first = opening tree o.is_tree in
+    let planned = plan tree o in
+    let begin = may tree o in
+    let few = begin.0.2 in
+    let fewer = begin.1.2 in
+    let own = write tree o begin.0.0 begin.1.0 begin.0.1 begin.1.1 in
+    opened_within file old new m tree opened_at o first (omega (arith, planned, few, fewer, own))

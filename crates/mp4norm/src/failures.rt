@@ -376,6 +376,9 @@ fn lengths(rt: HostRuntime) {
         (TWO_FRAGMENTS, 757),
         (TWO_TRACKS, 1782),
     ] {
-        assert_eq!(rt; length_in::<Brand>(rt.alloc(), bytes, Blank::new(1)), Ok(len));
+        assert_eq!(rt;
+            length_in::<Brand>(rt.alloc(), bytes, Blank::new(1)),
+            Ok(len)
+        );
     }
 }

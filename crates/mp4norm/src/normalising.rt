@@ -3,6 +3,7 @@ ghost use Rattle.std.specs.Prelude.{◌≡◌, ℕ, ◌<◌, List, Some, IfErr, 
 ghost use Rattle.std.specs.Io.KnownBytes.{Appends};
 ghost use Rattle.mp4norm.specs.Headline.{HasNormalForm, Normalises};
 ghost use Rattle.mp4norm.specs.MainJob.{RefusesNormalise};
+ghost use Rattle.mp4norm.specs.Steps.{WorksWithin};
 
 use mp4_boxes::{Refusal, Steps};
 use mp4_plan::Writer;
@@ -12,7 +13,8 @@ use std::alloc::Global;
 use std::marker::Brand;
 use std::sync::ledger::{Blank, Ledger};
 
-/// As `normalise`, with the steps that it takes counted.
+/// As `normalise`, with the steps that it takes counted: one for each table row, `traf`, run and sample that is passed. At
+/// most eight for each sample and row of the file, and eight more for each of its tracks.
 pub fn normalise_counted<S: Store, K: Sink, L: Ledger>(
     alloc: Global,
     store: &mut S,
@@ -26,6 +28,7 @@ pub fn normalise_counted<S: Store, K: Sink, L: Ledger>(
     ensures written { OnOk result (IsTrue (S.is_honest store.old) → (bytes : List ℕ) × HasNormalForm (S.file store.old) bytes × Appends (K.contents sink.old) (K.contents sink.new) bytes) }
     ensures refusal { IfErr result (RefusesNormalise (S.is_honest store.old) (S.file store.old) (K.contents sink.old) (K.contents sink.new)
         (S.read_failures store.old) (S.read_failures store.new) (K.put_failures sink.old) (K.put_failures sink.new)) }
+    ensures work { IsTrue (S.is_honest store.old) → WorksWithin (S.file store.old) steps.old steps.new }
 {
     let movie = open_movie(alloc, store, steps)?;
     let mut writer = Writer::new(alloc, &movie, store, steps)?;

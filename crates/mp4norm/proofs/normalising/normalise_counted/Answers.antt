@@ -1,6 +1,7 @@
 use Rattle.std.proofs.Common.{◌≡◌, ◌∙◌}
 use Rattle.std.proofs.lemmas.Result.{err_from_is_err_and}
 use Rattle.mp4_plan.specs.Writers.{IsReady}
+use Rattle.mp4norm.proofs.StepsTaken.{not_opened, not_planned, written_within}
 use Rattle.mp4norm.proofs.Normalised.{open_refuses, plan_refuses, write_refuses, all_written, front_written, unchanged_written}
 use Rattle.mp4norm.proofs.normalising.normalise_counted.Goals as goal
 
@@ -33,3 +34,21 @@ returns-clause-refusal g c =
     write_refuses c.write.result _ _ _ _ _ _ _ _ cause
     (front_written _ _ _ _ _ (λ file t. IsReady file t c.in_ok-movie.movie c.in_ok-writer.writer) honesty same c.in_ok-movie.ensures.movie ready c.write.result _ _ c.write.ensures.prefix)
     (unchanged_written _ _ _ _ _ (λ file t. IsReady file t c.in_ok-movie.movie c.in_ok-writer.writer) honesty same c.in_ok-movie.ensures.movie ready c.write.result c.write.ensures.unchanged)
+
+pub returns-in_err-movie-clause-work : goal.returns-in_err-movie-clause-work
+returns-in_err-movie-clause-work g c = λ told.
+    not_opened _ _ _ _ _ _ c.in_err-movie.field-0.0 told c.in_err-movie.ensures.refusal (c.in_err-movie.ensures.work told) (c.in_err-movie.ensures.within told)
+
+pub returns-in_err-writer-clause-work : goal.returns-in_err-writer-clause-work
+returns-in_err-writer-clause-work g c = λ told.
+    let plan = rw (c.in_ok-movie.ensures.honesty, c.in_ok-movie.ensures.file) at c.in_err-writer.ensures.work in
+    not_planned _ _ _ _ _ (c.in_ok-movie.ensures.movie told) (c.in_ok-movie.ensures.work told) (plan told)
+
+pub returns-clause-work : goal.returns-clause-work
+returns-clause-work g c = λ told.
+    let honesty : g.S.Store.is_honest c.new.new.store ≡ g.S.Store.is_honest c.args.store.now = c.in_ok-writer.ensures.honesty ∙ c.in_ok-movie.ensures.honesty in
+    let same : g.S.Store.file c.new.new.store ≡ g.S.Store.file c.args.store.now = c.in_ok-writer.ensures.file ∙ c.in_ok-movie.ensures.file in
+    let plan = rw (c.in_ok-movie.ensures.honesty, c.in_ok-movie.ensures.file) at c.in_ok-writer.ensures.work in
+    let may = rw (c.in_ok-movie.ensures.honesty, c.in_ok-movie.ensures.file) at c.in_ok-writer.ensures.may in
+    let write = rw (honesty, same) at c.write.ensures.work in
+    written_within _ _ _ _ _ _ _ _ (c.in_ok-movie.ensures.movie told) (c.in_ok-movie.ensures.work told) (plan told) (may told) (write told)
