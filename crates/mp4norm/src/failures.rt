@@ -368,14 +368,17 @@ fn length_in<L: Ledger>(alloc: Global, bytes: &[u8], blank: Blank) -> Result<u64
     normal_len(alloc, &movie, &mut store, &mut steps)
 }
 
+/// Files, and how long their normal forms are.
+const LENGTHS: [(&[u8], u64); 4] = [
+    (PLAIN, 721),
+    (EDITS, 785),
+    (TWO_FRAGMENTS, 757),
+    (TWO_TRACKS, 1782),
+];
+
 #[test]
 fn lengths(rt: HostRuntime) {
-    for (bytes, len) in [
-        (PLAIN, 721),
-        (EDITS, 785),
-        (TWO_FRAGMENTS, 757),
-        (TWO_TRACKS, 1782),
-    ] {
+    for (bytes, len) in LENGTHS {
         assert_eq!(rt;
             length_in::<Brand>(rt.alloc(), bytes, Blank::new(1)),
             Ok(len)
