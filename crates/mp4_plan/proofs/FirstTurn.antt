@@ -23,6 +23,7 @@ use Rattle.mp4_present.specs.Movies.{MovieSeen}
 use Rattle.mp4_present.specs.OpenedMovie.{IsOpenedAs}
 use Rattle.mp4_present.specs.Presentation.{Track}
 use Rattle.mp4_present.specs.declared.track_info.TrackInfo.{TrackInfo}
+use Rattle.mp4_present.proofs.Assembled.{timescale_there}
 use Rattle.mp4_present.proofs.ValidSamples.{starts_at_0}
 use Rattle.mp4_plan.specs.Coming.{Coming, coming_of, stops, all_left, pieces_left}
 use Rattle.mp4_plan.specs.Pieces.{TimedSample, pieces}
@@ -34,6 +35,7 @@ use Rattle.mp4_plan.specs.declared.schedule.Schedule.{Schedule}
 use Rattle.mp4_plan.proofs.FragmentsLeft.{not_itself, turns_begin_with_all}
 use Rattle.mp4_plan.proofs.Lefts.{AreLeft, left_count, IsFresh, StandsAmong, pieces_from, IsTurn}
 use Rattle.mp4_plan.proofs.TakenFrom.{TrackFacts, track_facts}
+use Rattle.mp4_plan.proofs.TurnSteps.{at_first}
 
 -- the decode time of the first of some samples, 0 without one
 abbrev pub first_dts : List SampleAt → ℕ
@@ -54,13 +56,6 @@ pub record IsFirst (infos : List TrackInfo) (lefts : List (List SampleAt)) (s : 
   pub left : s.left ≡ left_count lefts
 
 -- ---- the first track
-
--- the timescale of a sound track is not 0
-has_scale : (t : TrackTree) → IsTrackTree t → IsSoundTrack t → 0 < (track_head_of t).media.timescale
-has_scale t h s =
-    let sound = sound_one (ruled rules.Media) (codes "mdhd") mdhd refl t.media s.media (holds_only h.media (codes "mdhd") refl) in
-    let ne = eqb-false (track_head_of t).media.timescale 0 sound.value in
-    omega (arith, ne)
 
 -- a track begins with its first sample; one without samples at 0
 begins : (file : List ℕ) (tree : FileTree) (t : TrackTree) → first_dts (track_samples tree t) ≡ (track_of file (file_parts tree) t).start
@@ -126,16 +121,13 @@ all_pieces file tree infos movie (t ∷ trees) s lt h =
     at_first s (coming_of first) (map coming_of others) h.track
     ∙ ap (λ n. all_left n (coming_of first) (map coming_of others)) (h.from ∙ begins file tree t)
     ∙ sym (turns_begin_with_all (record { movie = movie; tracks = first ∷ others }) lt.0)
-  where
-    at_first : (s : Schedule) (first : Coming) (others : List Coming) → s.track ≡ 0 → pieces_left s first others ≡ all_left s.from first others
-    at_first s first others e = rw e refl
 
 -- At the first turn all samples and all pieces of the presentation are left.
 pub first_turn : (file : List ℕ) (m : MovieSeen) (tree : FileTree) (s : Schedule) → IsOpenedAs file m tree → IsFirst m.tracks (map (track_samples tree) tree.movie.tracks) s
     → IsTurn file m.tracks s (map (track_samples tree) tree.movie.tracks) (map coming_of (presentation_of file tree).tracks) × (pieces_from s (map coming_of (presentation_of file tree).tracks) ≡ pieces (presentation_of file tree))
 first_turn file m tree s o h =
     let facts = track_facts file m tree o in
-    let scales = each_from IsTrackTree IsSoundTrack (λ (t : TrackTree). 0 < (track_head_of t).media.timescale) has_scale tree.movie.tracks o.is_tree.movie.tracks o.is_sound.movie.tracks in (
+    let scales = each_from IsTrackTree IsSoundTrack (λ (t : TrackTree). 0 < (track_head_of t).media.timescale) timescale_there tree.movie.tracks o.is_tree.movie.tracks o.is_sound.movie.tracks in (
       record { each = lefts_of file tree m.tracks tree.movie.tracks facts; among = stands file tree m.tracks tree.movie.tracks s facts scales h; left = h.left },
       all_pieces file tree m.tracks (movie_head_of tree.movie) tree.movie.tracks s scales h,
     )

@@ -27,7 +27,7 @@ use Rattle.mp4_present.specs.declared.track_info.TrackInfo.{TrackInfo}
 use Rattle.mp4_present.proofs.MoofTaken.{zipped_at}
 use Rattle.mp4_present.proofs.PlacedTracks.{IsTrackPlaced, track_placed}
 use Rattle.mp4_present.proofs.SamplesLie.{IsInFile, placed_lie, bytes_whole, timed_lie, timed_length}
-use Rattle.mp4_present.proofs.ValidSamples.{IsOfTrack}
+use Rattle.mp4_present.proofs.ValidSamples.{IsOfTrack, is_parameter, is_group}
 use Rattle.mp4_plan.specs.Coming.{coming_of}
 use Rattle.mp4_plan.specs.Pieces.{timed_from}
 use Rattle.mp4_plan.specs.Taken.{IsTaken, AreTaken, IsNamed}
@@ -41,15 +41,8 @@ bytes_there : (file : List ℕ) (at : ℤ) (size : ℕ) → IsTrue (lies_within 
 bytes_there file (pos at) size h = refl
 bytes_there file (negsuc below) size h = absurd cc
 
-is_parameter : (o : Option ℕ) → IfSome o (λ n. n < 2 ^ 32) → IsParameter o
-is_parameter None h = tt
-is_parameter (Some n) h = h
-
 is_named : (key : GroupKey) → IsKey key → IsNamed key
 is_named key h = record { kind_length = h.kind_length; kind = h.kind; parameter = is_parameter key.parameter h.parameter }
-
-is_group : (group : GroupKey × ℕ) → IsIndex group → IsGroup group
-is_group group h = record { kind_length = h.0.kind_length; kind = h.0.kind; parameter = is_parameter group.0.parameter h.0.parameter; index_from_1 = h.1; index = h.2 }
 
 -- a sample that lies in the file, with its decode time, is that of the presentation
 is_taken : (file : List ℕ) (descriptions : ℕ) (keys : List GroupKey) (number dts : ℕ) (s : PlacedSample) → IsInFile (length file) s → IsOfTrack descriptions keys s
@@ -126,7 +119,8 @@ pub track_facts_at : (file : List ℕ) (m : MovieSeen) (tree : FileTree) (k : �
     → slice_get m.tracks k ≡ Some info → slice_get tree.movie.tracks k ≡ Some t → TrackFacts file tree info t
 track_facts_at file m tree k info t o e f = zipped_at (TrackFacts file tree) m.tracks tree.movie.tracks k info t (track_facts file m tree o) e f
 
-got_map : {A B : Type 0} (f : A → B) (xs : List A) (k : ℕ) (x : A) → slice_get xs k ≡ Some x → slice_get (map f xs) k ≡ Some (f x)
+-- what stands at a place of a map
+pub got_map : {A B : Type 0} (f : A → B) (xs : List A) (k : ℕ) (x : A) → slice_get xs k ≡ Some x → slice_get (map f xs) k ≡ Some (f x)
 got_map f [] k x e = absurd cc
 got_map f (y ∷ xs) zero x e = let same : y ≡ x = cc in ap (λ z. Some (f z)) same
 got_map f (y ∷ xs) (suc k) x e = got_map f xs k x e

@@ -149,7 +149,7 @@ over_rest end (x ∷ xs) h = rw h refl
 
 -- ---- by the track whose turn it is
 
-at_first : (s : Schedule) (first : Coming) (others : List Coming) → s.track ≡ 0 → pieces_left s first others ≡ all_left s.from first others
+pub at_first : (s : Schedule) (first : Coming) (others : List Coming) → s.track ≡ 0 → pieces_left s first others ≡ all_left s.from first others
 at_first s first others e = rw e refl
 
 at_other : (s : Schedule) (first : Coming) (others : List Coming) (i : ℕ) → s.track ≡ suc i → pieces_left s first others ≡ others_before s.next first.timescale (drop i others) ++ next_left s.next first others

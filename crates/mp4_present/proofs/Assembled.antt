@@ -119,7 +119,7 @@ not_0 : (n : ℕ) → eqb n 0 ≡ false → 0 < n
 not_0 n e = let ne = eqb-false n 0 e in omega arith
 
 -- a track's timescale is not 0
-timescale_there : (t : TrackTree) → IsTrackTree t → IsSoundTrack t → 0 < (track_head_of t).media.timescale
+pub timescale_there : (t : TrackTree) → IsTrackTree t → IsSoundTrack t → 0 < (track_head_of t).media.timescale
 timescale_there t k s = not_0 _ (sound_one (ruled rules.Media) (codes "mdhd") mdhd refl t.media s.media (holds_only k.media (codes "mdhd") refl)).value
 
 module _ (file : List ℕ) (tree : FileTree) (t : TrackTree) (h : TrackHead) (s : TrackState) (i : IsTrackOf t h) (e : track_seen s ≡ seen_behind tree.movie (file_parts tree) t) where

@@ -36,12 +36,12 @@ no_longer file (pos at) n = omega (arith, length-take n (drop at file))
 no_longer file (negsuc below) n = omega arith
 
 -- a parameter of 32 bits
-is_parameter : (o : Option ℕ) → IfSome o (λ n. n < 2 ^ 32) → IsParameter o
+pub is_parameter : (o : Option ℕ) → IfSome o (λ n. n < 2 ^ 32) → IsParameter o
 is_parameter None h = tt
 is_parameter (Some n) h = h
 
 -- an index at a key
-is_group : (group : GroupKey × ℕ) → IsIndex group → IsGroup group
+pub is_group : (group : GroupKey × ℕ) → IsIndex group → IsGroup group
 is_group group h = record { kind_length = h.0.kind_length; kind = h.0.kind; parameter = is_parameter group.0.parameter h.0.parameter; index_from_1 = h.1; index = h.2 }
 
 -- all of a map

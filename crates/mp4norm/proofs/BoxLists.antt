@@ -11,6 +11,7 @@ use Rattle.mp4_boxes.specs.declared.rule.Rule.TheVariants.{File, Movie, Track, E
 use Rattle.mp4_boxes.specs.declared.fault.Fault.{Fault}
 use Rattle.mp4_boxes.specs.declared.refusal.Refusal.{Refusal}
 use Rattle.mp4_boxes.specs.declared.refusal.Refusal.TheVariants as refusals
+use Rattle.mp4_head.proofs.Above.{lies_front}
 use Rattle.mp4norm.specs.Texts.{descends, IsPart, AreBoxLines, box_line}
 use Rattle.mp4_store.specs.Device.{range}
 use Rattle.mp4_present.specs.Reading.{RefusesHeader}
@@ -148,11 +149,6 @@ pub listed_alone : (rule : Rule) (depth : ℕ) (b : Box) → rule_inside rule b.
 listed_alone rule depth b e = rw e refl
 
 -- ---- faults
-
--- boxes in front of others lie there by themselves
-pub lies_front : (is_open : Bool) (at : ℕ) (bytes : List ℕ) (bs cs : List Box) → LieEndToEnd is_open at bytes (bs ++ cs) → LieEndToEnd is_open at bytes bs
-lies_front is_open at bytes [] cs l = tt
-lies_front is_open at bytes (b ∷ bs) cs l = (l.0, lies_front is_open (at + size b) (drop (size b) bytes) bs cs l.1)
 
 -- a box of a tiled container of boxes stands there
 stands_of : (c : Container) (all passed left : List Box) (b : Box) → Tiles c all → all ≡ passed ++ b ∷ left → ((bs : List Box) → IsCounted c.extent bs) → StandsAfter c passed b

@@ -19,6 +19,7 @@ use Rattle.mp4_present.specs.Presentation.{Track}
 use Rattle.mp4_present.specs.declared.track_info.TrackInfo.{TrackInfo}
 use Rattle.mp4_present.proofs.SamplesLie.{all_whole, timed_data, timed_length}
 use Rattle.mp4_present.proofs.WalkPlaces.{of_got}
+use Rattle.mp4_plan.proofs.TakenFrom.{got_map}
 use Rattle.mp4norm.specs.Commands.{AreOthers, LacksTrack, IsTrackWith, ListsSamples, HasData, PutsFrontOf, RefusesTrack}
 use Rattle.mp4norm.specs.Texts.{sample_at_lines}
 use Rattle.mp4norm.proofs.SampleTexts.{lines_of_placed}
@@ -34,11 +35,6 @@ got_track file tree [] (x ∷ infos) k id z lt e = absurd z
 got_track file tree (t ∷ trees) [] k id z lt e = absurd z
 got_track file tree (t ∷ trees) (x ∷ infos) zero id z lt e = (t, refl, sym z.0.id ∙ e)
 got_track file tree (t ∷ trees) (x ∷ infos) (suc k) id z lt e = got_track file tree trees infos k id z.1 (omega (arith, lt)) e
-
-got_map : {A B : Type 0} (f : A → B) (xs : List A) (k : ℕ) (x : A) → slice_get xs k ≡ Some x → slice_get (map f xs) k ≡ Some (f x)
-got_map f [] k x e = absurd cc
-got_map f (y ∷ xs) zero x e = let same : y ≡ x = cc in ap (λ z. Some (f z)) same
-got_map f (y ∷ xs) (suc k) x e = got_map f xs k x e
 
 few_at : (tracks : List Track) (k : ℕ) (t : Track) → slice_get tracks k ≡ Some t → length t.samples ≤ sum_of (λ (x : Track). length x.samples) tracks
 few_at [] k t e = absurd cc
