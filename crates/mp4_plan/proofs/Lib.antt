@@ -69,3 +69,4 @@ pub mod HeadAgain
 pub mod PieceCounts
 pub mod PlannedTurns
 pub mod CourseSteps
+pub mod AllPut

@@ -18,7 +18,7 @@ ghost use Rattle.mp4_present.specs.Work.{walks_steps};
 ghost use Rattle.mp4_plan.specs.Normal.{normal};
 ghost use Rattle.mp4_plan.specs.Work.{MayAllTake, AllTakeOn, MayAllBegin};
 ghost use Rattle.mp4_plan.specs.UsedKeys.{AreApart};
-ghost use Rattle.mp4_present.specs.Carried.{RefusesCarry};
+ghost use Rattle.mp4_present.specs.Carried.{RefusesCarry, RefusesCopy};
 ghost use Rattle.mp4_present.specs.declared.walks.Walk.{Walk};
 ghost use Rattle.mp4_plan.specs.Gathering.{more_of, piece_from};
 ghost use Rattle.mp4_present.specs.Movies.{RefusesLoad};
@@ -427,4 +427,27 @@ impl Writer {
         }
         self.carrier.flush(sink)
     }
+}
+
+/// Puts the normal form of a movie: it is planned, all memory that writing it needs is taken, and then it is written. Want
+/// of memory comes before the first byte.
+pub fn write_normal<S: Store, K: Sink, L: Ledger>(
+    alloc: Global,
+    movie: &Movie,
+    store: &mut S,
+    sink: &mut K,
+    steps: &mut Steps<L>,
+) -> Result<(), Refusal>
+    ensures honesty { S.is_honest store.new ≡ S.is_honest store.old }
+    ensures file { S.file store.new ≡ S.file store.old }
+    ensures bytes { WhereOpened (S.is_honest store.old) (S.file store.old) movie.now (λ tree. OnOk result (Appends (K.contents sink.old) (K.contents sink.new) (normal (presentation_of (S.file store.old) tree)))) }
+    ensures prefix { WhereOpened (S.is_honest store.old) (S.file store.old) movie.now (λ tree. OnErr result (AppendsPrefix (K.contents sink.old) (K.contents sink.new) (normal (presentation_of (S.file store.old) tree)))) }
+    ensures unchanged { WhereOpened (S.is_honest store.old) (S.file store.old) movie.now (λ tree. IfErr result (λ r. r ≡ refusals.StoreChanged → ⊥)) }
+    ensures work { WhereOpened (S.is_honest store.old) (S.file store.old) movie.now (λ tree. steps.new ≤ steps.old + 3 * walks_steps tree) }
+    ensures reads { OnOk result (S.read_failures store.new ≡ S.read_failures store.old) }
+    ensures puts { OnOk result (K.put_failures sink.new ≡ K.put_failures sink.old) }
+    ensures refusal { IfErr result (RefusesCopy (K.contents sink.old) (K.contents sink.new) (S.read_failures store.old) (S.read_failures store.new) (K.put_failures sink.old) (K.put_failures sink.new)) }
+{
+    let mut writer = Writer::new(alloc, movie, store, steps)?;
+    writer.write(movie, store, sink, steps)
 }

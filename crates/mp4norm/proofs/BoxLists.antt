@@ -3,7 +3,7 @@ use Rattle.std.proofs.Common.{◌≡◌, ℕ, zero, suc, ◌+◌, ◌-◌, ◌<�
 use Rattle.std.specs.Prelude.{option_map, length, take, drop, IsTrue, Result, Ok, Err, IfErr}
 use Rattle.std.specs.List.{AllZip, concat}
 use Rattle.std.proofs.lemmas.List.{append-nil, drop_more}
-use Rattle.mp4_boxes.specs.Box.{Box, Container, Tiles, LieEndToEnd, may_be_open, size, box_container, bytes_container, file_container, IsCounted, StandsAfter}
+use Rattle.mp4_boxes.specs.Box.{Box, Container, Tiles, LieEndToEnd, may_be_open, box_container, bytes_container, file_container, IsCounted, StandsAfter}
 use Rattle.mp4_boxes.specs.BoxFaults.{IsHeaderFault}
 use Rattle.mp4_boxes.specs.Places.{Scope, ruled, data_entries, sample_entries, containers, at_kind, inside, as_container}
 use Rattle.mp4_boxes.specs.declared.rule.Rule.{Rule}

@@ -6,7 +6,7 @@ use Rattle.mp4_store.specs.Device.{AppendsPrefix}
 use Rattle.mp4_boxes.specs.declared.fault.Fault.{Fault}
 use Rattle.mp4_boxes.specs.declared.refusal.Refusal.{Refusal}
 use Rattle.mp4_boxes.specs.declared.refusal.Refusal.TheVariants as refusals
-use Rattle.mp4_present.specs.Carried.{RefusesCarry}
+use Rattle.mp4_present.specs.Carried.{RefusesCopy}
 use Rattle.mp4_present.specs.Denotes.{FileTree, presentation_of}
 use Rattle.mp4_present.specs.Movies.{MovieSeen}
 use Rattle.mp4_present.specs.OpenedMovie.{IsOpenedAs}
@@ -15,7 +15,6 @@ use Rattle.mp4_present.specs.Stands.{Stands}
 use Rattle.mp4_present.proofs.DenotedOpens.{stands_refuses}
 use Rattle.mp4_present.proofs.WalkCopied.{on_err}
 use Rattle.mp4_plan.specs.Normal.{normal}
-use Rattle.mp4_plan.specs.Writers.{RefusesPlan}
 use Rattle.mp4norm.specs.Commands.{PutsFrontOf}
 use Rattle.mp4norm.specs.Headline.{HasNormalForm, DenotesNothing, PutsFront, Normalises}
 use Rattle.mp4norm.specs.MainJob.{RefusesNormalise}
@@ -41,45 +40,34 @@ open_refuses honest file held reads reads_after puts refusals.StoreChanged w = w
 open_refuses honest file held reads reads_after puts refusals.WriteFailed w = absurd w
 open_refuses honest file held reads reads_after puts refusals.NoSuchTrack w = absurd w
 
--- a movie that isn't planned
-pub plan_refuses : (honest : Bool) (file : List ℕ) (held : Option (List ℕ)) (reads reads_after puts : ℕ) (r : Refusal) → RefusesPlan reads reads_after r → (IsTrue honest → r ≡ refusals.StoreChanged → ⊥)
-    → RefusesNormalise honest file held held reads reads_after puts puts r
-plan_refuses honest file held reads reads_after puts (refusals.Fault f) w u = absurd w
-plan_refuses honest file held reads reads_after puts refusals.Memory w u = refl
-plan_refuses honest file held reads reads_after puts refusals.StoreFailed w u = (w, λ told. inl refl)
-plan_refuses honest file held reads reads_after puts refusals.StoreChanged w u = λ told. u told refl
-plan_refuses honest file held reads reads_after puts refusals.WriteFailed w u = absurd w
-plan_refuses honest file held reads reads_after puts refusals.NoSuchTrack w u = absurd w
-
-write_refused : (honest : Bool) (file : List ℕ) (before after : Option (List ℕ)) (reads reads_after puts puts_after : ℕ) (r : Refusal) → RefusesCarry reads reads_after puts puts_after r
+write_refused : (honest : Bool) (file : List ℕ) (before after : Option (List ℕ)) (reads reads_after puts puts_after : ℕ) (r : Refusal) → RefusesCopy before after reads reads_after puts puts_after r
     → (IsTrue honest → PutsFrontOf (HasNormalForm file) before after) → (IsTrue honest → r ≡ refusals.StoreChanged → ⊥) → RefusesNormalise honest file before after reads reads_after puts puts_after r
 write_refused honest file before after reads reads_after puts puts_after (refusals.Fault f) w p u = absurd w
-write_refused honest file before after reads reads_after puts puts_after refusals.Memory w p u = absurd w
+write_refused honest file before after reads reads_after puts puts_after refusals.Memory w p u = w
 write_refused honest file before after reads reads_after puts puts_after refusals.StoreFailed w p u = (w, λ told. inr (p told))
 write_refused honest file before after reads reads_after puts puts_after refusals.StoreChanged w p u = λ told. u told refl
 write_refused honest file before after reads reads_after puts puts_after refusals.WriteFailed w p u = (w, p)
 write_refused honest file before after reads reads_after puts puts_after refusals.NoSuchTrack w p u = absurd w
 
--- bytes that aren't written
+-- a movie that isn't written
 pub write_refuses : {T : Type 0} (answer : Result T Refusal) (honest : Bool) (file : List ℕ) (before after : Option (List ℕ)) (reads reads_after puts puts_after : ℕ)
-    → IfErr answer (RefusesCarry reads reads_after puts puts_after) → (IsTrue honest → OnErr answer (PutsFrontOf (HasNormalForm file) before after)) → (IsTrue honest → IfErr answer (λ r. r ≡ refusals.StoreChanged → ⊥))
+    → IfErr answer (RefusesCopy before after reads reads_after puts puts_after) → (IsTrue honest → OnErr answer (PutsFrontOf (HasNormalForm file) before after)) → (IsTrue honest → IfErr answer (λ r. r ≡ refusals.StoreChanged → ⊥))
     → IfErr answer (RefusesNormalise honest file before after reads reads_after puts puts_after)
 write_refuses (Ok x) honest file before after reads reads_after puts puts_after w p u = tt
 write_refuses (Err r) honest file before after reads reads_after puts puts_after w p u = write_refused honest file before after reads reads_after puts puts_after r w p u
 
 -- ---- what is so of the boxes of a file that was opened, is so of what it denotes
 
--- what is ready once the file is opened, and the store and its file as they are when it is written
-module _ (honest honest_then : Bool) (file file_then : List ℕ) (m : MovieSeen) (Ready : List ℕ → FileTree → Type 0) (same_honesty : honest_then ≡ honest) (same_file : file_then ≡ file)
-    (opened : IsTrue honest → (t : FileTree) × IsOpenedAs file m t) (ready : IsTrue honest → (t : FileTree) → IsOpenedAs file m t → Ready file t) where
-  -- what is so where it is ready
+-- the store and its file as they are when the file is opened, and when it is written
+module _ (honest honest_then : Bool) (file file_then : List ℕ) (m : MovieSeen) (same_honesty : honest_then ≡ honest) (same_file : file_then ≡ file) (opened : IsTrue honest → (t : FileTree) × IsOpenedAs file m t) where
+  -- what is so of the boxes that were opened
   abbrev Then : Bool → List ℕ → (List ℕ → FileTree → Type 0) → Type 0
-  Then told f P = IsTrue told → (t : FileTree) → IsOpenedAs f m t → Ready f t → P f t
+  Then told f P = IsTrue told → (t : FileTree) → IsOpenedAs f m t → P f t
 
   so : (P : List ℕ → FileTree → Type 0) → Then honest_then file_then P → (told : IsTrue honest) → P file (opened told).0
   so P p told =
       let here : Then honest file P = subst (λ b. Then b file P) same_honesty (subst (λ f. Then honest_then f P) same_file p) in
-      here told (opened told).0 (opened told).1 (ready told (opened told).0 (opened told).1)
+      here told (opened told).0 (opened told).1
 
   pub all_written : {T : Type 0} (answer : Result T Refusal) (before after : Option (List ℕ)) → Then honest_then file_then (λ f t. OnOk answer (Appends before after (normal (presentation_of f t))))
       → OnOk answer (IsTrue honest → (bytes : List ℕ) × HasNormalForm file bytes × Appends before after bytes)

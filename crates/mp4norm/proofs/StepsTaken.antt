@@ -9,8 +9,6 @@ use Rattle.mp4_present.specs.OpenedMovie.{IsOpenedAs}
 use Rattle.mp4_present.specs.Opening.{RefusesOpen}
 use Rattle.mp4_present.specs.Work.{IfNoFault, OpensWithin, opening_steps, walks_steps}
 use Rattle.mp4_present.proofs.One.{file_tree_one}
-use Rattle.mp4_present.specs.declared.walks.Walk.{Walk}
-use Rattle.mp4_plan.specs.Work.{MayAllTake, MayAllBegin}
 use Rattle.mp4norm.specs.Steps.{WorksWithin}
 use Rattle.mp4norm.proofs.Normalised.{denotes_nothing}
 use Rattle.mp4norm.proofs.ShownLines.{denoted}
@@ -47,27 +45,7 @@ module _ (file : List ℕ) (old new : ℕ) where
     refused = λ nothing. absurd (nothing (presentation_of file tree) (denoted file m tree o));
   }
 
--- a movie that isn't planned
-pub not_planned : (file : List ℕ) (m : MovieSeen) (old behind new : ℕ) → ((tree : FileTree) × IsOpenedAs file m tree) → ((tree : FileTree) → IsFileTree file tree → behind ≤ old + opening_steps tree)
-    → ((tree : FileTree) → IsOpenedAs file m tree → new ≤ behind + walks_steps tree) → WorksWithin file old new
-not_planned file m old behind new opened opening plan =
-    let tree = opened.0 in
-    let first = opening tree opened.1.is_tree in
-    let own = plan tree opened.1 in
-    opened_within file old new m tree behind opened.1 first (omega (arith, own))
-
--- a movie that is planned, and written or not
-pub written_within : (file : List ℕ) (m : MovieSeen) (planning copying : List Walk) (old opened_at behind new : ℕ) → ((tree : FileTree) × IsOpenedAs file m tree)
-    → ((tree : FileTree) → IsFileTree file tree → opened_at ≤ old + opening_steps tree) → ((tree : FileTree) → IsOpenedAs file m tree → behind ≤ opened_at + walks_steps tree)
-    → ((tree : FileTree) → IsOpenedAs file m tree → MayAllBegin file tree planning × MayAllBegin file tree copying)
-    → ((tree : FileTree) → IsOpenedAs file m tree → (n c : ℕ) → MayAllTake file tree tree.movie.tracks planning n → MayAllTake file tree tree.movie.tracks copying c → new ≤ behind + n + c) → WorksWithin file old new
-written_within file m planning copying old opened_at behind new opened opening plan may write =
-    let tree = opened.0 in
-    let o = opened.1 in
-    let first = opening tree o.is_tree in
-    let planned = plan tree o in
-    let begin = may tree o in
-    let few = begin.0.2 in
-    let fewer = begin.1.2 in
-    let own = write tree o begin.0.0 begin.1.0 begin.0.1 begin.1.1 in
-    opened_within file old new m tree opened_at o first (omega (arith, planned, few, fewer, own))
+-- a movie that is written or not
+pub written_within : (file : List ℕ) (m : MovieSeen) (old behind new : ℕ) → ((tree : FileTree) × IsOpenedAs file m tree) → ((tree : FileTree) → IsFileTree file tree → behind ≤ old + opening_steps tree)
+    → ((tree : FileTree) → IsOpenedAs file m tree → new ≤ behind + 3 * walks_steps tree) → WorksWithin file old new
+written_within file m old behind new opened opening write = opened_within file old new m opened.0 behind opened.1 (opening opened.0 opened.1.is_tree) (write opened.0 opened.1)

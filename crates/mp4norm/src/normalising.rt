@@ -6,7 +6,7 @@ ghost use Rattle.mp4norm.specs.MainJob.{RefusesNormalise};
 ghost use Rattle.mp4norm.specs.Steps.{WorksWithin};
 
 use mp4_boxes::{Refusal, Steps};
-use mp4_plan::Writer;
+use mp4_plan::write_normal;
 use mp4_present::open_movie;
 use mp4_store::{Sink, Store};
 use std::alloc::Global;
@@ -31,8 +31,7 @@ pub fn normalise_counted<S: Store, K: Sink, L: Ledger>(
     ensures work { IsTrue (S.is_honest store.old) → WorksWithin (S.file store.old) steps.old steps.new }
 {
     let movie = open_movie(alloc, store, steps)?;
-    let mut writer = Writer::new(alloc, &movie, store, steps)?;
-    writer.write(&movie, store, sink, steps)
+    write_normal(alloc, &movie, store, sink, steps)
 }
 
 // As `normalise`; its steps are counted in this ledger.
