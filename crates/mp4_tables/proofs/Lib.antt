@@ -27,4 +27,3 @@ pub mod GroupMaps
 pub mod Placed
 pub mod Vectors
 pub mod TableRows
-pub mod GroupsOver

@@ -199,32 +199,27 @@ pub(crate) fn pass_spot(
     payload: &[u8],
     rows: RowsAt,
     chunks: ChunksAt,
-    place: ChunkPlace,
+    place: &mut ChunkPlace,
     size: u32,
-) -> ChunkPlace
+)
     requires room { HaveRoom 12 payload.now rows }
     requires offsets { HaveRoom (offset_width chunks.is_wide) payload.now chunks.rows }
-    requires at { place.opened < chunks.rows.count → IsRowPlace (chunk_rows_at payload.now rows) place.opened place.row }
-    requires opened { place.opened ≤ chunks.rows.count }
-    requires passed { place.row.row ≤ rows.count }
-    requires some { 0 < place.left }
-    requires fits { place.at + size < 2 ^ 64 }
-    ensures next { (sizes : List ℕ) → spots_coming (chunk_rows_at payload.now rows) (offsets_at payload.now chunks) place (size ∷ sizes)
-        ≡ next_spot place size ∷ spots_coming (chunk_rows_at payload.now rows) (offsets_at payload.now chunks) result sizes }
-    ensures settled { result.left ≡ 0 → spots_coming (chunk_rows_at payload.now rows) (offsets_at payload.now chunks) result ≡ no_spots }
-    ensures at { result.opened < chunks.rows.count → IsRowPlace (chunk_rows_at payload.now rows) result.opened result.row }
-    ensures opened { result.opened ≤ chunks.rows.count }
-    ensures passed { result.row.row ≤ rows.count }
-    ensures on { (place.opened ≤ result.opened) × (place.row.row ≤ result.row.row) }
+    requires at { place.old.opened < chunks.rows.count → IsRowPlace (chunk_rows_at payload.now rows) place.old.opened place.old.row }
+    requires opened { place.old.opened ≤ chunks.rows.count }
+    requires passed { place.old.row.row ≤ rows.count }
+    requires some { 0 < place.old.left }
+    requires fits { place.old.at + size < 2 ^ 64 }
+    ensures next { (sizes : List ℕ) → spots_coming (chunk_rows_at payload.now rows) (offsets_at payload.now chunks) place.old (size ∷ sizes)
+        ≡ next_spot place.old size ∷ spots_coming (chunk_rows_at payload.now rows) (offsets_at payload.now chunks) place.new sizes }
+    ensures settled { place.new.left ≡ 0 → spots_coming (chunk_rows_at payload.now rows) (offsets_at payload.now chunks) place.new ≡ no_spots }
+    ensures at { place.new.opened < chunks.rows.count → IsRowPlace (chunk_rows_at payload.now rows) place.new.opened place.new.row }
+    ensures opened { place.new.opened ≤ chunks.rows.count }
+    ensures passed { place.new.row.row ≤ rows.count }
+    ensures on { (place.old.opened ≤ place.new.opened) × (place.old.row.row ≤ place.new.row.row) }
 {
-    open_chunk(
-        payload,
-        rows,
-        chunks,
-        ChunkPlace {
-            left: place.left - 1,
-            at: place.at + u64::from(size),
-            ..place
-        },
-    )
+    place.left -= 1;
+    place.at += u64::from(size);
+    if place.left == 0 {
+        *place = open_chunk(payload, rows, chunks, *place);
+    }
 }
