@@ -27,3 +27,4 @@ pub mod GroupMaps
 pub mod Placed
 pub mod Vectors
 pub mod TableRows
+pub mod GroupsOver

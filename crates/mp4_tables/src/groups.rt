@@ -79,9 +79,10 @@ pub(crate) fn are_over(places: &GroupPlaces) -> bool
         && places.fourth.left == 0
 }
 
-// Passes a sample in each `sbgp`.
-#[inline]
-pub(crate) fn pass_groups(payload: &[u8], groups: &GroupsAt, places: &mut GroupPlaces, number: u32)
+// Passes a sample in each `sbgp`, where an index is left in one.
+#[cold]
+#[inline(never)]
+fn pass_indexes(payload: &[u8], groups: &GroupsAt, places: &mut GroupPlaces, number: u32)
     requires have { HaveGroups payload.now groups.now }
     requires at { AreGroupPlaces payload.now groups.now places.old number }
     ensures at { AreGroupPlaces payload.now groups.now places.new (number + 1) }
@@ -91,4 +92,18 @@ pub(crate) fn pass_groups(payload: &[u8], groups: &GroupsAt, places: &mut GroupP
     pass_index(payload, groups.second, &mut places.second, number);
     pass_index(payload, groups.third, &mut places.third, number);
     pass_index(payload, groups.fourth, &mut places.fourth, number);
+}
+
+// Passes a sample in each `sbgp`.
+#[inline(always)]
+pub(crate) fn pass_groups(payload: &[u8], groups: &GroupsAt, places: &mut GroupPlaces, number: u32)
+    requires have { HaveGroups payload.now groups.now }
+    requires at { AreGroupPlaces payload.now groups.now places.old number }
+    ensures at { AreGroupPlaces payload.now groups.now places.new (number + 1) }
+    ensures on { (places.old.first.row ≤ places.new.first.row) × (places.old.second.row ≤ places.new.second.row) × (places.old.third.row ≤ places.new.third.row) × (places.old.fourth.row ≤ places.new.fourth.row) }
+{
+    if are_over(places) {
+        return;
+    }
+    pass_indexes(payload, groups, places, number);
 }

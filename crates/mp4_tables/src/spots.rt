@@ -44,7 +44,7 @@ pub(crate) fn lie_within<L: Ledger>(
         if !lies(place.at, size, file_len) {
             return false;
         }
-        pass_spot(payload, rows, chunks, &mut place, size);
+        pass_spot(payload, &rows, &chunks, &mut place, size);
     }
     true
 }

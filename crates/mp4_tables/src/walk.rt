@@ -152,7 +152,7 @@ pub(crate) fn pass_place(payload: &[u8], at: &TablesAt, place: &mut TablePlace)
     place.dts += u64::from(place.duration.value);
     pass(payload, at.durations, &mut place.duration);
     pass(payload, offset_rows(at.offsets), &mut place.offset);
-    pass_spot(payload, at.chunk_rows, at.chunks, &mut place.chunk, size);
+    pass_spot(payload, &at.chunk_rows, &at.chunks, &mut place.chunk, size);
     pass_sync_in(payload, at.sync, &mut place.sync, number + 1);
     pass_groups(payload, &at.groups, &mut place.groups, number);
 }
