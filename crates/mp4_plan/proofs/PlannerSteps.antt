@@ -1,47 +1,11 @@
 -- A piece that is fed one sample at a time.
-use Rattle.std.proofs.Common.{◌≡◌, ℕ, zero, suc, ◌+◌, ◌<◌, ◌≤◌, ◌^◌, List, [], ◌∷◌, length, take, drop, Bool, true, false, cond, refl, ap, sym, ◌∙◌, arith}
-use Rattle.std.specs.Prelude.{Option, Some, None, slice_get, slice_index_or, ◌==◌}
+use Rattle.std.proofs.Common.{◌≡◌, suc, ◌+◌, List, [], ◌∷◌, length, take, drop, true, false, cond, refl, ap, sym, ◌∙◌, arith}
+use Rattle.std.specs.Prelude.{Option, Some, None, slice_get}
 use Rattle.std.specs.List.{prefix_len}
 use Rattle.mp4_tables.specs.declared.sample.SampleAt.{SampleAt}
 use Rattle.mp4_plan.specs.Ends.{goes_in}
 use Rattle.mp4_plan.specs.declared.gathered.Gathered.{Gathered}
-use Rattle.mp4_plan.specs.declared.gathered.GroupRuns.{GroupRuns}
-use Rattle.mp4_plan.specs.Gathering.{runs_first, runs_more, gathered_first, gathered_more, gather, gather_all, Planning, description_in, more_of, piece_fed, samples_after, IsBounded, runs_at, index_of, count_of, planned_of}
-
--- ---- sums and rows stay small
-
-first_row : (index n : ℕ) → 1 ≤ n → (runs_first index).rows ≤ n
-first_row index n le = le
-
-more_rows : (runs : GroupRuns) (index n : ℕ) → runs.rows ≤ n → (runs_more runs index).rows ≤ n + 1
-more_rows runs index n le = by (runs.last == index)
-  where
-    by : (v : Bool) → cond v runs.rows (runs.rows + 1) ≤ n + 1
-    by true = omega arith
-    by false = omega arith
-
-four : (P : GroupRuns → Type 0) (a b c d none : GroupRuns) → P a → P b → P c → P d → P none → (j : ℕ) → P (slice_index_or (a ∷ b ∷ c ∷ d ∷ []) j none)
-four P a b c d none pa pb pc pd p zero = pa
-four P a b c d none pa pb pc pd p (suc zero) = pb
-four P a b c d none pa pb pc pd p (suc (suc zero)) = pc
-four P a b c d none pa pb pc pd p (suc (suc (suc zero))) = pd
-four P a b c d none pa pb pc pd p (suc (suc (suc (suc j)))) = p
-
--- one sample
-pub bounded_first : (s : SampleAt) → s.size < 2 ^ 32 → IsBounded (gathered_first s)
-bounded_first s lt = record {
-  bytes = omega arith;
-  rows = four (λ (r : GroupRuns). r.rows ≤ 1) _ _ _ _ _ (omega arith) (omega arith) (omega arith) (omega arith) (omega arith);
-}
-
--- one more
-pub bounded_more : (g : Gathered) (s : SampleAt) → s.size < 2 ^ 32 → IsBounded g → IsBounded (gathered_more g s)
-bounded_more g s lt b =
-    let m = b.bytes in
-    record {
-      bytes = omega arith;
-      rows = four (λ (r : GroupRuns). r.rows ≤ g.count + 1) _ _ _ _ _ (more_rows (runs_at g 0) (index_of s 0) g.count (b.rows 0)) (more_rows (runs_at g 1) (index_of s 1) g.count (b.rows 1)) (more_rows (runs_at g 2) (index_of s 2) g.count (b.rows 2)) (more_rows (runs_at g 3) (index_of s 3) g.count (b.rows 3)) (omega arith);
-    }
+use Rattle.mp4_plan.specs.Gathering.{gather, gather_all, Planning, description_in, more_of, piece_fed, samples_after, count_of, planned_of}
 
 -- ---- one sample after the other
 

@@ -46,12 +46,15 @@ impl GroupRuns {
     }
 }
 
-fn common_more(common: Option<u32>, number: u32) -> Option<u32>
-    ensures { result ≡ common_more common number }
+// One more number: what all have stays where this one is the same.
+#[inline]
+fn add_common(common: &mut Option<u32>, number: u32)
+    ensures { common.new ≡ common_more common.old number }
 {
-    match common {
-        Some(shared) if shared == number => common,
-        _ => None,
+    if let Some(shared) = *common {
+        if shared != number {
+            *common = None;
+        }
     }
 }
 
@@ -65,19 +68,18 @@ fn runs_first(index: u16) -> GroupRuns
     }
 }
 
-fn runs_more(runs: GroupRuns, index: u16) -> GroupRuns
-    requires { runs.rows + 1 < 2 ^ 32 }
-    ensures { result ≡ runs_more runs index }
+// One more index.
+#[inline]
+fn add_index(runs: &mut GroupRuns, index: u16)
+    requires { runs.old.rows + 1 < 2 ^ 32 }
+    ensures { runs.new ≡ runs_more runs.old index }
 {
-    let rows = if runs.last == index {
-        runs.rows
-    } else {
-        runs.rows + 1
-    };
-    GroupRuns {
-        last: index,
-        rows,
-        is_used: runs.is_used || index != 0,
+    if runs.last != index {
+        runs.last = index;
+        runs.rows += 1;
+    }
+    if index != 0 {
+        runs.is_used = true;
     }
 }
 
@@ -102,26 +104,23 @@ pub(crate) fn gathered_first(sample: &SampleAt) -> Gathered
     }
 }
 
-/// What is known with one more sample.
-pub(crate) fn gathered_more(gathered: &Gathered, sample: &SampleAt) -> Gathered
-    requires bounded { IsBounded gathered.now }
-    requires room { gathered.now.count + 1 < 2 ^ 32 }
-    ensures { result ≡ gathered_more gathered.now sample.now }
+/// One more sample.
+#[inline]
+pub(crate) fn gather_more(gathered: &mut Gathered, sample: &SampleAt)
+    requires bounded { IsBounded gathered.old }
+    requires room { gathered.old.count + 1 < 2 ^ 32 }
+    ensures { gathered.new ≡ gathered_more gathered.old sample.now }
 {
-    let groups = gathered.groups;
-    Gathered {
-        description: gathered.description,
-        count: gathered.count + 1,
-        bytes: gathered.bytes + u64::from(sample.size),
-        duration: common_more(gathered.duration, sample.duration),
-        size: common_more(gathered.size, sample.size),
-        flags: common_more(gathered.flags, sample.flags),
-        has_offsets: gathered.has_offsets || sample.cto.cast_unsigned() != 0,
-        groups: [
-            runs_more(groups[0], sample.groups[0]),
-            runs_more(groups[1], sample.groups[1]),
-            runs_more(groups[2], sample.groups[2]),
-            runs_more(groups[3], sample.groups[3]),
-        ],
+    gathered.count += 1;
+    gathered.bytes += u64::from(sample.size);
+    add_common(&mut gathered.duration, sample.duration);
+    add_common(&mut gathered.size, sample.size);
+    add_common(&mut gathered.flags, sample.flags);
+    if sample.cto.cast_unsigned() != 0 {
+        gathered.has_offsets = true;
     }
+    add_index(&mut gathered.groups[0], sample.groups[0]);
+    add_index(&mut gathered.groups[1], sample.groups[1]);
+    add_index(&mut gathered.groups[2], sample.groups[2]);
+    add_index(&mut gathered.groups[3], sample.groups[3]);
 }

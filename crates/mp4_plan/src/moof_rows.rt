@@ -37,16 +37,16 @@ fn offset_of(has_offsets: bool, row: &Row) -> Option<u32>
     }
 }
 
-// A row of `trun`: what the samples don't have in common.
-fn run_row(row: &Row, planned: &Planned) -> Spelled
-    ensures { result ≡ run_row planned.now row.now }
+// Spells a row of `trun`: what the samples don't have in common.
+#[inline]
+fn spell_row(row: &Row, planned: &Planned, out: &mut Spelled)
+    ensures { out.new ≡ run_row planned.now row.now }
 {
-    let mut out = Spelled::new();
+    out.clear();
     out.push_option(own(planned.duration, row.duration));
     out.push_option(own(planned.size, row.size));
     out.push_option(own(planned.flags, row.flags));
     out.push_option(offset_of(planned.has_offsets, row));
-    out
 }
 
 /// Takes the rows of `trun` along.
@@ -62,8 +62,10 @@ pub(crate) fn carry_run<K: Sink>(
     ensures puts { OnOk result (K.put_failures sink.new ≡ K.put_failures sink.old) }
     ensures refusal { IfErr result (RefusesPut (K.put_failures sink.old) (K.put_failures sink.new)) }
 {
+    let mut out = Spelled::new();
     for row in rows {
-        carrier.carry(run_row(row, planned).as_bytes(), sink)?;
+        spell_row(row, planned, &mut out);
+        carrier.carry(out.as_bytes(), sink)?;
     }
     Ok(())
 }

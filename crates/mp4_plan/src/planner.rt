@@ -1,6 +1,6 @@
 //! A piece that is fed with samples.
 use crate::ends::{End, Fed, has_ended};
-use crate::gathered::{Gathered, gathered_first, gathered_more};
+use crate::gathered::{Gathered, gather_more, gathered_first};
 use crate::rows::{Row, row_of};
 use mp4_tables::{SampleAt, Samples};
 use std::marker::Model;
@@ -120,11 +120,10 @@ impl Planner {
         requires { count_of self.old.gathered + 1 < 2 ^ 32 }
         ensures { self.new ≡ record { end = self.old.end; gathered = gather self.old.gathered sample } }
     {
-        let gathered = match &self.gathered {
-            Some(gathered) => gathered_more(gathered, &sample),
-            None => gathered_first(&sample),
-        };
-        self.gathered = Some(gathered);
+        match &mut self.gathered {
+            Some(gathered) => gather_more(gathered, &sample),
+            None => self.gathered = Some(gathered_first(&sample)),
+        }
     }
 
     /// Takes samples until the piece ends or no sample is left.

@@ -140,36 +140,31 @@ pub(crate) fn are_described<L: Ledger>(
 
 #[tactic(auto, using(crate::proofs::ChunkLists::opening))]
 // Opens chunks until a sample is left in one.
-#[inline]
-pub(crate) fn open_chunk(
-    payload: &[u8],
-    rows: RowsAt,
-    chunks: ChunksAt,
-    place: ChunkPlace,
-) -> ChunkPlace
-    requires room { HaveRoom 12 payload.now rows }
-    requires offsets { HaveRoom (offset_width chunks.is_wide) payload.now chunks.rows }
-    requires at { place.opened < chunks.rows.count → IsRowPlace (chunk_rows_at payload.now rows) place.opened place.row }
-    requires opened { place.opened ≤ chunks.rows.count }
-    requires passed { place.row.row ≤ rows.count }
-    ensures same { spots_coming (chunk_rows_at payload.now rows) (offsets_at payload.now chunks) result ≡ spots_coming (chunk_rows_at payload.now rows) (offsets_at payload.now chunks) place }
-    ensures settled { result.left ≡ 0 → spots_coming (chunk_rows_at payload.now rows) (offsets_at payload.now chunks) result ≡ no_spots }
-    ensures at { result.opened < chunks.rows.count → IsRowPlace (chunk_rows_at payload.now rows) result.opened result.row }
-    ensures opened { result.opened ≤ chunks.rows.count }
-    ensures passed { result.row.row ≤ rows.count }
-    ensures on { (place.opened ≤ result.opened) × (place.row.row ≤ result.row.row) }
+#[cold]
+#[inline(never)]
+pub(crate) fn open_chunk(payload: &[u8], rows: &RowsAt, chunks: &ChunksAt, place: &mut ChunkPlace)
+    requires room { HaveRoom 12 payload.now rows.now }
+    requires offsets { HaveRoom (offset_width chunks.now.is_wide) payload.now chunks.now.rows }
+    requires at { place.old.opened < chunks.now.rows.count → IsRowPlace (chunk_rows_at payload.now rows.now) place.old.opened place.old.row }
+    requires opened { place.old.opened ≤ chunks.now.rows.count }
+    requires passed { place.old.row.row ≤ rows.now.count }
+    ensures same { spots_coming (chunk_rows_at payload.now rows.now) (offsets_at payload.now chunks.now) place.new ≡ spots_coming (chunk_rows_at payload.now rows.now) (offsets_at payload.now chunks.now) place.old }
+    ensures settled { place.new.left ≡ 0 → spots_coming (chunk_rows_at payload.now rows.now) (offsets_at payload.now chunks.now) place.new ≡ no_spots }
+    ensures at { place.new.opened < chunks.now.rows.count → IsRowPlace (chunk_rows_at payload.now rows.now) place.new.opened place.new.row }
+    ensures opened { place.new.opened ≤ chunks.now.rows.count }
+    ensures passed { place.new.row.row ≤ rows.now.count }
+    ensures on { (place.old.opened ≤ place.new.opened) × (place.old.row.row ≤ place.new.row.row) }
 {
-    let mut place = place;
     while place.left == 0 && place.opened < chunks.rows.count {
-        let row = next_row(payload, rows, place.opened, place.row);
-        place = ChunkPlace {
-            opened: place.opened + 1,
+        let opened = place.opened;
+        let row = next_row(payload, *rows, opened, place.row);
+        *place = ChunkPlace {
+            opened: opened + 1,
             row,
             left: row.samples,
-            at: offset_at(payload, chunks, place.opened),
+            at: offset_at(payload, *chunks, opened),
         };
     }
-    place
 }
 
 // Before the first sample.
@@ -179,17 +174,14 @@ pub(crate) fn first_chunk(payload: &[u8], rows: RowsAt, chunks: ChunksAt) -> Chu
     requires ordered { is_chunk_order (map (λ row. row.first) (chunk_rows_at payload.now rows)) (nat_lt 0 chunks.rows.count) ≡ true }
     ensures { (sizes : List ℕ) → IsChunkPlace (chunk_rows_at payload.now rows) (offsets_at payload.now chunks) sizes result 0 }
 {
-    open_chunk(
-        payload,
-        rows,
-        chunks,
-        ChunkPlace {
-            opened: 0,
-            row: no_row(),
-            left: 0,
-            at: 0,
-        },
-    )
+    let mut place = ChunkPlace {
+        opened: 0,
+        row: no_row(),
+        left: 0,
+        at: 0,
+    };
+    open_chunk(payload, &rows, &chunks, &mut place);
+    place
 }
 
 #[tactic(auto, using(crate::proofs::ChunkLists::spots_first))]
@@ -197,34 +189,29 @@ pub(crate) fn first_chunk(payload: &[u8], rows: RowsAt, chunks: ChunksAt) -> Chu
 #[inline]
 pub(crate) fn pass_spot(
     payload: &[u8],
-    rows: RowsAt,
-    chunks: ChunksAt,
-    place: ChunkPlace,
+    rows: &RowsAt,
+    chunks: &ChunksAt,
+    place: &mut ChunkPlace,
     size: u32,
-) -> ChunkPlace
-    requires room { HaveRoom 12 payload.now rows }
-    requires offsets { HaveRoom (offset_width chunks.is_wide) payload.now chunks.rows }
-    requires at { place.opened < chunks.rows.count → IsRowPlace (chunk_rows_at payload.now rows) place.opened place.row }
-    requires opened { place.opened ≤ chunks.rows.count }
-    requires passed { place.row.row ≤ rows.count }
-    requires some { 0 < place.left }
-    requires fits { place.at + size < 2 ^ 64 }
-    ensures next { (sizes : List ℕ) → spots_coming (chunk_rows_at payload.now rows) (offsets_at payload.now chunks) place (size ∷ sizes)
-        ≡ next_spot place size ∷ spots_coming (chunk_rows_at payload.now rows) (offsets_at payload.now chunks) result sizes }
-    ensures settled { result.left ≡ 0 → spots_coming (chunk_rows_at payload.now rows) (offsets_at payload.now chunks) result ≡ no_spots }
-    ensures at { result.opened < chunks.rows.count → IsRowPlace (chunk_rows_at payload.now rows) result.opened result.row }
-    ensures opened { result.opened ≤ chunks.rows.count }
-    ensures passed { result.row.row ≤ rows.count }
-    ensures on { (place.opened ≤ result.opened) × (place.row.row ≤ result.row.row) }
+)
+    requires room { HaveRoom 12 payload.now rows.now }
+    requires offsets { HaveRoom (offset_width chunks.now.is_wide) payload.now chunks.now.rows }
+    requires at { place.old.opened < chunks.now.rows.count → IsRowPlace (chunk_rows_at payload.now rows.now) place.old.opened place.old.row }
+    requires opened { place.old.opened ≤ chunks.now.rows.count }
+    requires passed { place.old.row.row ≤ rows.now.count }
+    requires some { 0 < place.old.left }
+    requires fits { place.old.at + size < 2 ^ 64 }
+    ensures next { (sizes : List ℕ) → spots_coming (chunk_rows_at payload.now rows.now) (offsets_at payload.now chunks.now) place.old (size ∷ sizes)
+        ≡ next_spot place.old size ∷ spots_coming (chunk_rows_at payload.now rows.now) (offsets_at payload.now chunks.now) place.new sizes }
+    ensures settled { place.new.left ≡ 0 → spots_coming (chunk_rows_at payload.now rows.now) (offsets_at payload.now chunks.now) place.new ≡ no_spots }
+    ensures at { place.new.opened < chunks.now.rows.count → IsRowPlace (chunk_rows_at payload.now rows.now) place.new.opened place.new.row }
+    ensures opened { place.new.opened ≤ chunks.now.rows.count }
+    ensures passed { place.new.row.row ≤ rows.now.count }
+    ensures on { (place.old.opened ≤ place.new.opened) × (place.old.row.row ≤ place.new.row.row) }
 {
-    open_chunk(
-        payload,
-        rows,
-        chunks,
-        ChunkPlace {
-            left: place.left - 1,
-            at: place.at + u64::from(size),
-            ..place
-        },
-    )
+    place.left -= 1;
+    place.at += u64::from(size);
+    if place.left == 0 {
+        open_chunk(payload, rows, chunks, place);
+    }
 }

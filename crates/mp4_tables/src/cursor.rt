@@ -86,7 +86,7 @@ impl<'a> Samples for TableCursor<'a> {
     fn next(&mut self) -> Option<SampleAt> {
         if self.place.number < self.at.sizes.rows.count {
             let sample = sample_here(self.payload, &self.at, &self.place);
-            self.place = pass_place(self.payload, &self.at, &self.place);
+            pass_place(self.payload, &self.at, &mut self.place);
             Some(sample)
         } else {
             None

@@ -57,16 +57,14 @@ pub(crate) fn index_here(payload: &[u8], rows: RowsAt, place: RunPlace, number: 
 
 // Passes a sample: behind the last row there is nothing to pass.
 #[inline]
-fn pass_index(payload: &[u8], rows: RowsAt, place: RunPlace, number: u32) -> RunPlace
+fn pass_index(payload: &[u8], rows: RowsAt, place: &mut RunPlace, number: u32)
     requires have { HaveGroup payload.now rows }
-    requires at { IsRunPlaceAt (runs_at payload.now rows) place number }
-    ensures at { IsRunPlaceAt (runs_at payload.now rows) result (number + 1) }
-    ensures on { place.row ≤ result.row }
+    requires at { IsRunPlaceAt (runs_at payload.now rows) place.old number }
+    ensures at { IsRunPlaceAt (runs_at payload.now rows) place.new (number + 1) }
+    ensures on { place.old.row ≤ place.new.row }
 {
     if place.left > 0 {
-        pass(payload, rows, place)
-    } else {
-        place
+        pass(payload, rows, place);
     }
 }
 
@@ -81,26 +79,31 @@ pub(crate) fn are_over(places: &GroupPlaces) -> bool
         && places.fourth.left == 0
 }
 
-// Passes a sample in each `sbgp`.
-#[inline]
-pub(crate) fn pass_groups(
-    payload: &[u8],
-    groups: &GroupsAt,
-    places: &GroupPlaces,
-    number: u32,
-) -> GroupPlaces
+// Passes a sample in each `sbgp`, where an index is left in one.
+#[cold]
+#[inline(never)]
+fn pass_indexes(payload: &[u8], groups: &GroupsAt, places: &mut GroupPlaces, number: u32)
     requires have { HaveGroups payload.now groups.now }
-    requires at { AreGroupPlaces payload.now groups.now places.now number }
-    ensures at { AreGroupPlaces payload.now groups.now result (number + 1) }
-    ensures on { (places.now.first.row ≤ result.first.row) × (places.now.second.row ≤ result.second.row) × (places.now.third.row ≤ result.third.row) × (places.now.fourth.row ≤ result.fourth.row) }
+    requires at { AreGroupPlaces payload.now groups.now places.old number }
+    ensures at { AreGroupPlaces payload.now groups.now places.new (number + 1) }
+    ensures on { (places.old.first.row ≤ places.new.first.row) × (places.old.second.row ≤ places.new.second.row) × (places.old.third.row ≤ places.new.third.row) × (places.old.fourth.row ≤ places.new.fourth.row) }
+{
+    pass_index(payload, groups.first, &mut places.first, number);
+    pass_index(payload, groups.second, &mut places.second, number);
+    pass_index(payload, groups.third, &mut places.third, number);
+    pass_index(payload, groups.fourth, &mut places.fourth, number);
+}
+
+// Passes a sample in each `sbgp`.
+#[inline(always)]
+pub(crate) fn pass_groups(payload: &[u8], groups: &GroupsAt, places: &mut GroupPlaces, number: u32)
+    requires have { HaveGroups payload.now groups.now }
+    requires at { AreGroupPlaces payload.now groups.now places.old number }
+    ensures at { AreGroupPlaces payload.now groups.now places.new (number + 1) }
+    ensures on { (places.old.first.row ≤ places.new.first.row) × (places.old.second.row ≤ places.new.second.row) × (places.old.third.row ≤ places.new.third.row) × (places.old.fourth.row ≤ places.new.fourth.row) }
 {
     if are_over(places) {
-        return *places;
+        return;
     }
-    GroupPlaces {
-        first: pass_index(payload, groups.first, places.first, number),
-        second: pass_index(payload, groups.second, places.second, number),
-        third: pass_index(payload, groups.third, places.third, number),
-        fourth: pass_index(payload, groups.fourth, places.fourth, number),
-    }
+    pass_indexes(payload, groups, places, number);
 }

@@ -101,21 +101,17 @@ pub(crate) fn settle(payload: &[u8], rows: RowsAt, place: RunPlace) -> RunPlace
 // Passes the value in hand.
 #[inline]
 #[tactic(auto, using(crate::proofs::RunLists::settling))]
-pub(crate) fn pass(payload: &[u8], rows: RowsAt, place: RunPlace) -> RunPlace
+pub(crate) fn pass(payload: &[u8], rows: RowsAt, place: &mut RunPlace)
     requires room { HaveRoom 8 payload.now rows }
-    requires within { place.row ≤ rows.count }
-    requires some { 0 < place.left }
-    ensures next { coming (runs_at payload.now rows) place ≡ place.value ∷ coming (runs_at payload.now rows) result }
-    ensures settled { result.left ≡ 0 → coming (runs_at payload.now rows) result ≡ [] }
-    ensures within { result.row ≤ rows.count }
-    ensures on { place.row ≤ result.row }
+    requires within { place.old.row ≤ rows.count }
+    requires some { 0 < place.old.left }
+    ensures next { coming (runs_at payload.now rows) place.old ≡ place.old.value ∷ coming (runs_at payload.now rows) place.new }
+    ensures settled { place.new.left ≡ 0 → coming (runs_at payload.now rows) place.new ≡ [] }
+    ensures within { place.new.row ≤ rows.count }
+    ensures on { place.old.row ≤ place.new.row }
 {
-    settle(
-        payload,
-        rows,
-        RunPlace {
-            left: place.left - 1,
-            ..place
-        },
-    )
+    place.left -= 1;
+    if place.left == 0 {
+        *place = settle(payload, rows, *place);
+    }
 }

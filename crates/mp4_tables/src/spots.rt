@@ -44,7 +44,7 @@ pub(crate) fn lie_within<L: Ledger>(
         if !lies(place.at, size, file_len) {
             return false;
         }
-        place = pass_spot(payload, rows, chunks, place, size);
+        pass_spot(payload, &rows, &chunks, &mut place, size);
     }
     true
 }

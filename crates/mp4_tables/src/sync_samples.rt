@@ -63,20 +63,20 @@ pub(crate) fn first_sync(payload: &[u8], rows: RowsAt, n: u32) -> SyncPlace
 
 // Passes sample number `i`, from 1.
 #[inline]
-pub(crate) fn pass_sync(payload: &[u8], rows: RowsAt, place: SyncPlace, i: u32) -> SyncPlace
+pub(crate) fn pass_sync(payload: &[u8], rows: RowsAt, place: &mut SyncPlace, i: u32)
     requires room { HaveRoom 4 payload.now rows }
-    requires at { IsSyncPlace (numbers_at 4 payload.now rows) place i }
+    requires at { IsSyncPlace (numbers_at 4 payload.now rows) place.old i }
     requires some { 0 < i }
-    ensures at { IsSyncPlace (numbers_at 4 payload.now rows) result (i + 1) }
-    ensures on { place.row ≤ result.row }
+    ensures at { IsSyncPlace (numbers_at 4 payload.now rows) place.new (i + 1) }
+    ensures on { place.old.row ≤ place.new.row }
 {
-    if place.row < rows.count {
-        if place.next == i {
-            return SyncPlace {
-                row: place.row + 1,
-                next: number_in(payload, rows, place.row + 1),
+    if place.next == i {
+        if place.row < rows.count {
+            let row = place.row + 1;
+            *place = SyncPlace {
+                row,
+                next: number_in(payload, rows, row),
             };
         }
     }
-    place
 }

@@ -122,47 +122,39 @@ pub(crate) fn sample_here(payload: &[u8], at: &TablesAt, place: &TablePlace) -> 
 
 // Passes sample number `i`, from 1, where there is a table of sync samples.
 #[inline]
-fn pass_sync_in(payload: &[u8], sync: Option<RowsAt>, place: SyncPlace, i: u32) -> SyncPlace
+fn pass_sync_in(payload: &[u8], sync: Option<RowsAt>, place: &mut SyncPlace, i: u32)
     requires have { HaveSync payload.now sync }
-    requires at { IsSyncPlaceIn payload.now sync place i }
+    requires at { IsSyncPlaceIn payload.now sync place.old i }
     requires some { 0 < i }
-    ensures at { IsSyncPlaceIn payload.now sync result (i + 1) }
-    ensures on { place.row ≤ result.row }
+    ensures at { IsSyncPlaceIn payload.now sync place.new (i + 1) }
+    ensures on { place.old.row ≤ place.new.row }
 {
-    match sync {
-        Some(rows) => pass_sync(payload, rows, place, i),
-        None => place,
+    if let Some(rows) = sync {
+        pass_sync(payload, rows, place, i);
     }
 }
 
-// The place one sample on.
+// Goes one sample on.
 #[inline(never)]
-pub(crate) fn pass_place(payload: &[u8], at: &TablesAt, place: &TablePlace) -> TablePlace
+pub(crate) fn pass_place(payload: &[u8], at: &TablesAt, place: &mut TablePlace)
     requires ok { IsAccepted payload.now at.now }
-    requires place { IsPlace payload.now at.now place.now }
-    requires inside { place.now.number < at.now.sizes.rows.count }
-    ensures place { IsPlace payload.now at.now result }
-    ensures number { result.number ≡ place.now.number + 1 }
-    ensures on { passed place.now ≤ passed result }
+    requires place { IsPlace payload.now at.now place.old }
+    requires inside { place.old.number < at.now.sizes.rows.count }
+    ensures place { IsPlace payload.now at.now place.new }
+    ensures number { place.new.number ≡ place.old.number + 1 }
+    ensures on { passed place.old ≤ passed place.new }
 {
     let count = at.sizes.rows.count;
-    prove!(place.number < count);
-    let number = place.number + 1;
-    let size = size_at(payload, at.sizes, place.number);
-    let duration = pass(payload, at.durations, place.duration);
-    let offset = pass(payload, offset_rows(at.offsets), place.offset);
-    let chunk = pass_spot(payload, at.chunk_rows, at.chunks, place.chunk, size);
-    let sync = pass_sync_in(payload, at.sync, place.sync, number);
-    let groups = pass_groups(payload, &at.groups, &place.groups, place.number);
-    TablePlace {
-        number,
-        dts: place.dts + u64::from(place.duration.value),
-        duration,
-        offset,
-        chunk,
-        sync,
-        groups,
-    }
+    let number = place.number;
+    prove!(number < count);
+    let size = size_at(payload, at.sizes, number);
+    place.number = number + 1;
+    place.dts += u64::from(place.duration.value);
+    pass(payload, at.durations, &mut place.duration);
+    pass(payload, offset_rows(at.offsets), &mut place.offset);
+    pass_spot(payload, &at.chunk_rows, &at.chunks, &mut place.chunk, size);
+    pass_sync_in(payload, at.sync, &mut place.sync, number + 1);
+    pass_groups(payload, &at.groups, &mut place.groups, number);
 }
 
 // Before the first composition offset: one 0 for each sample where there is no table.

@@ -9,7 +9,7 @@ use Rattle.mp4_plan.proofs.moof_rows.carry_run.Goals as goal
 pub loop-row-preserved : goal.loop-row-preserved
 loop-row-preserved g c =
     let i = c.loop-row.invariant in
-    let e = c.run_row.ensures in
+    let e = c.spell_row.ensures in
     let f = c.as_bytes.ensures in
     let piece : List ℕ = c.as_bytes.result.now in
     (search rules, c.in_ok-carry.ensures.puts ∙ i.1, BytesGoOn-then _ _ _ _ _ _ (run_rows c.args.planned.now _) piece (run_rows c.args.planned.now _) i.2 c.in_ok-carry.ensures.bytes (row_more (run_row c.args.planned.now) c.args.rows.now c.loop-row.row-index _ piece c.loop-row-test.true (f ∙ e)))
@@ -21,4 +21,4 @@ returns-in_err-carry-clause-prefix g c =
     let row = run_row c.args.planned.now in
     let rows = c.args.rows.now in
     let piece : List ℕ = c.as_bytes.result.now in
-    rw p.1 (stopped_at _ _ _ _ _ _ piece _ _ _ i.2 c.in_err-carry.ensures.prefix (row_more row rows c.loop-row.row-index _ piece c.loop-row-test.true (c.as_bytes.ensures ∙ c.run_row.ensures)) (bytes_of_both row (c.loop-row.row-index + 1) rows))
+    rw p.1 (stopped_at _ _ _ _ _ _ piece _ _ _ i.2 c.in_err-carry.ensures.prefix (row_more row rows c.loop-row.row-index _ piece c.loop-row-test.true (c.as_bytes.ensures ∙ c.spell_row.ensures)) (bytes_of_both row (c.loop-row.row-index + 1) rows))

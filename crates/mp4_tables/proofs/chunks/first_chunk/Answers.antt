@@ -16,5 +16,5 @@ pub returns : goal.returns
 returns c sizes =
     let rows = chunk_rows_length c.args.payload.now c.args.rows in
     let offsets = numbers_length (offset_width c.args.chunks.is_wide) c.args.payload.now c.args.chunks.rows in
-    spot_first _ _ sizes c.open_chunk.result _ (ap (λ (r : RowPlace). record { opened = 0; row = r; left = 0; at = 0 }) c.no_row.ensures)
+    spot_first _ _ sizes c.open_chunk.new.place _ (ap (λ (r : RowPlace). record { opened = 0; row = r; left = 0; at = 0 }) c.no_row.ensures)
     c.open_chunk.ensures.same c.open_chunk.ensures.settled (λ h. c.open_chunk.ensures.at (omega arith)) (omega arith) (omega arith)

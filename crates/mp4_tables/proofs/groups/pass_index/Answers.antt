@@ -10,7 +10,7 @@ pass-requires-clause-within c = let n = runs_length c.args.payload.now c.args.ro
 
 pub returns-then-place-gt0-clause-at : goal.returns-then-place-gt0-clause-at
 returns-then-place-gt0-clause-at c =
-    run_passed c.args.payload.now c.args.rows c.args.place c.pass.result (repeated (runs_at c.args.payload.now c.args.rows)) c.args.number c.requires.at c.pass.ensures.next c.pass.ensures.settled c.pass.ensures.within
+    run_passed c.args.payload.now c.args.rows c.args.place.now c.pass.new.place (repeated (runs_at c.args.payload.now c.args.rows)) c.args.number c.requires.at c.pass.ensures.next c.pass.ensures.settled c.pass.ensures.within
 
 pub returns-else-place-gt0-clause-at : goal.returns-else-place-gt0-clause-at
-returns-else-place-gt0-clause-at c = run_ended (runs_at c.args.payload.now c.args.rows) c.args.place (repeated (runs_at c.args.payload.now c.args.rows)) c.args.number c.requires.at (omega arith)
+returns-else-place-gt0-clause-at c = run_ended (runs_at c.args.payload.now c.args.rows) c.args.place.now (repeated (runs_at c.args.payload.now c.args.rows)) c.args.number c.requires.at (omega arith)

@@ -18,25 +18,25 @@ returns-then-not-lies-clause-same g c =
     ∙ within_no (chunk_rows_at c.args.payload.now c.args.rows) (offsets_at c.args.payload.now c.args.chunks) (sizes_at c.args.payload.now c.args.sizes) c.loop-i.place c.args.file_len c.loop-i.i c.size_at-size.result
     (c.requires.counts ∙ sym n) c.loop-i.invariant.place (omega arith) c.size_at-size.ensures (sym c.if-not-lies.ensures))
 
-pub pass_spot-place-requires-clause-at : goal.pass_spot-place-requires-clause-at
-pass_spot-place-requires-clause-at g c =
+pub pass_spot-requires-clause-at : goal.pass_spot-requires-clause-at
+pass_spot-requires-clause-at g c =
     let m = numbers_length (offset_width c.args.chunks.is_wide) c.args.payload.now c.args.chunks.rows in
     λ h. c.loop-i.invariant.place.row (omega arith)
 
-pub pass_spot-place-requires-clause-opened : goal.pass_spot-place-requires-clause-opened
-pass_spot-place-requires-clause-opened g c =
+pub pass_spot-requires-clause-opened : goal.pass_spot-requires-clause-opened
+pass_spot-requires-clause-opened g c =
     let m = numbers_length (offset_width c.args.chunks.is_wide) c.args.payload.now c.args.chunks.rows in
     let h = c.loop-i.invariant.place.opened in
     omega arith
 
-pub pass_spot-place-requires-clause-passed : goal.pass_spot-place-requires-clause-passed
-pass_spot-place-requires-clause-passed g c =
+pub pass_spot-requires-clause-passed : goal.pass_spot-requires-clause-passed
+pass_spot-requires-clause-passed g c =
     let m = chunk_rows_length c.args.payload.now c.args.rows in
     let h = c.loop-i.invariant.place.passed in
     omega arith
 
-pub pass_spot-place-requires-clause-some : goal.pass_spot-place-requires-clause-some
-pass_spot-place-requires-clause-some g c =
+pub pass_spot-requires-clause-some : goal.pass_spot-requires-clause-some
+pass_spot-requires-clause-some g c =
     let n = sizes_length c.args.sizes.form c.args.payload.now c.args.sizes.rows in
     spot_left (chunk_rows_at c.args.payload.now c.args.rows) (offsets_at c.args.payload.now c.args.chunks) (sizes_at c.args.payload.now c.args.sizes) c.loop-i.place c.loop-i.i (c.requires.counts ∙ sym n) c.loop-i.invariant.place (omega arith)
 
@@ -45,9 +45,9 @@ loop-i-preserved g c =
     let n = sizes_length c.args.sizes.form c.args.payload.now c.args.sizes.rows in
     let m = numbers_length (offset_width c.args.chunks.is_wide) c.args.payload.now c.args.chunks.rows in
     let k = chunk_rows_length c.args.payload.now c.args.rows in
-    let e = c.pass_spot-place.ensures in
+    let e = c.pass_spot.ensures in
     record {
-      place = spot_passed (chunk_rows_at c.args.payload.now c.args.rows) (offsets_at c.args.payload.now c.args.chunks) (sizes_at c.args.payload.now c.args.sizes) c.loop-i.place c.pass_spot-place.result c.loop-i.i c.size_at-size.result
+      place = spot_passed (chunk_rows_at c.args.payload.now c.args.rows) (offsets_at c.args.payload.now c.args.chunks) (sizes_at c.args.payload.now c.args.sizes) c.loop-i.place c.pass_spot.new.place c.loop-i.i c.size_at-size.result
           c.loop-i.invariant.place (omega arith) c.size_at-size.ensures e.next e.settled (λ h. e.at (omega arith)) (omega arith) (omega arith);
       same = c.loop-i.invariant.same
           ∙ within_yes (chunk_rows_at c.args.payload.now c.args.rows) (offsets_at c.args.payload.now c.args.chunks) (sizes_at c.args.payload.now c.args.sizes) c.loop-i.place c.args.file_len c.loop-i.i c.size_at-size.result

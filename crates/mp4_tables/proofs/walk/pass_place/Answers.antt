@@ -4,46 +4,46 @@ use Rattle.mp4_tables.proofs.RowLists.{numbers_length, chunk_rows_length}
 use Rattle.mp4_tables.proofs.PlaceLists.{duration_left, duration_within, offset_left, offset_within, chunk_left, end_fits, place_passed}
 use Rattle.mp4_tables.proofs.walk.pass_place.Goals as goal
 
-pub pass-duration-requires-clause-within : goal.pass-duration-requires-clause-within
-pass-duration-requires-clause-within c = duration_within c.args.payload.now c.args.at.now c.args.place.now c.requires.place
+pub pass-requires-clause-within : goal.pass-requires-clause-within
+pass-requires-clause-within c = duration_within c.args.payload.now c.args.at.now c.args.place.now c.requires.place
 
-pub pass-duration-requires-clause-some : goal.pass-duration-requires-clause-some
-pass-duration-requires-clause-some c = duration_left c.args.payload.now c.args.at.now c.args.place.now c.requires.ok c.requires.place c.requires.inside
+pub pass-requires-clause-some : goal.pass-requires-clause-some
+pass-requires-clause-some c = duration_left c.args.payload.now c.args.at.now c.args.place.now c.requires.ok c.requires.place c.requires.inside
 
-pub pass-offset-requires-clause-within : goal.pass-offset-requires-clause-within
-pass-offset-requires-clause-within c = offset_within c.args.payload.now c.args.at.now c.args.place.now c.offset_rows.result c.requires.place c.offset_rows.ensures
+pub pass-requires-2-clause-within : goal.pass-requires-2-clause-within
+pass-requires-2-clause-within c = offset_within c.args.payload.now c.args.at.now c.args.place.now c.offset_rows.result c.requires.place c.offset_rows.ensures
 
-pub pass-offset-requires-clause-some : goal.pass-offset-requires-clause-some
-pass-offset-requires-clause-some c = offset_left c.args.payload.now c.args.at.now c.args.place.now c.requires.ok c.requires.place c.requires.inside
+pub pass-requires-2-clause-some : goal.pass-requires-2-clause-some
+pass-requires-2-clause-some c = offset_left c.args.payload.now c.args.at.now c.args.place.now c.requires.ok c.requires.place c.requires.inside
 
-pub pass_spot-chunk-requires-clause-at : goal.pass_spot-chunk-requires-clause-at
-pass_spot-chunk-requires-clause-at c =
+pub pass_spot-requires-clause-at : goal.pass_spot-requires-clause-at
+pass_spot-requires-clause-at c =
     let m = numbers_length (offset_width c.args.at.now.chunks.is_wide) c.args.payload.now c.args.at.now.chunks.rows in
     λ h. c.requires.place.chunk.row (omega arith)
 
-pub pass_spot-chunk-requires-clause-opened : goal.pass_spot-chunk-requires-clause-opened
-pass_spot-chunk-requires-clause-opened c =
+pub pass_spot-requires-clause-opened : goal.pass_spot-requires-clause-opened
+pass_spot-requires-clause-opened c =
     let m = numbers_length (offset_width c.args.at.now.chunks.is_wide) c.args.payload.now c.args.at.now.chunks.rows in
     let h = c.requires.place.chunk.opened in omega arith
 
-pub pass_spot-chunk-requires-clause-passed : goal.pass_spot-chunk-requires-clause-passed
-pass_spot-chunk-requires-clause-passed c =
+pub pass_spot-requires-clause-passed : goal.pass_spot-requires-clause-passed
+pass_spot-requires-clause-passed c =
     let m = chunk_rows_length c.args.payload.now c.args.at.now.chunk_rows in
     let h = c.requires.place.chunk.passed in omega arith
 
-pub pass_spot-chunk-requires-clause-some : goal.pass_spot-chunk-requires-clause-some
-pass_spot-chunk-requires-clause-some c = chunk_left c.args.payload.now c.args.at.now c.args.place.now c.requires.ok c.requires.place c.requires.inside
+pub pass_spot-requires-clause-some : goal.pass_spot-requires-clause-some
+pass_spot-requires-clause-some c = chunk_left c.args.payload.now c.args.at.now c.args.place.now c.requires.ok c.requires.place c.requires.inside
 
-pub pass_spot-chunk-requires-clause-fits : goal.pass_spot-chunk-requires-clause-fits
-pass_spot-chunk-requires-clause-fits c = end_fits c.args.payload.now c.args.at.now c.args.place.now c.size_at-size.result c.requires.ok c.requires.place c.requires.inside c.size_at-size.ensures
+pub pass_spot-requires-clause-fits : goal.pass_spot-requires-clause-fits
+pass_spot-requires-clause-fits c = end_fits c.args.payload.now c.args.at.now c.args.place.now c.size_at-size.result c.requires.ok c.requires.place c.requires.inside c.size_at-size.ensures
 
 pub returns-clause-place : goal.returns-clause-place
 returns-clause-place c =
     let p = c.args.place.now in
     let small : p.duration.value < 2 ^ 32 = search rules in
-    let d = c.pass-duration.ensures in
-    let o = c.pass-offset.ensures in
-    let s = c.pass_spot-chunk.ensures in
-    rw c.from.ensures (place_passed c.args.payload.now c.args.at.now p c.size_at-size.result c.offset_rows.result c.pass-duration.result c.pass-offset.result c.pass_spot-chunk.result c.pass_sync_in-sync.result c.pass_groups-groups.result
+    let d = c.pass.ensures in
+    let o = c.pass-2.ensures in
+    let s = c.pass_spot.ensures in
+    rw c.from.ensures (place_passed c.args.payload.now c.args.at.now p c.size_at-size.result c.offset_rows.result c.pass.new.place c.pass-2.new.place c.pass_spot.new.place c.pass_sync_in.new.place c.pass_groups.new.places
     c.requires.ok c.requires.place c.requires.inside c.size_at-size.ensures small c.offset_rows.ensures d.next d.settled d.within o.next o.settled o.within s.next s.settled s.at s.opened s.passed
-    c.pass_sync_in-sync.ensures.at c.pass_groups-groups.ensures.at)
+    c.pass_sync_in.ensures.at c.pass_groups.ensures.at)
