@@ -1,14 +1,8 @@
 -- The first turn over the tracks of an opened file: all of their samples are left, and so are all pieces.
 use Rattle.std.proofs.Common.{◌≡◌, ℕ, suc, ◌<◌, false, List, [], ◌∷◌, length, None, refl, sym, ap, subst, ◌∙◌, arith}
-use Rattle.std.specs.Prelude.{codes, map, unwrap_or, option_map}
+use Rattle.std.specs.Prelude.{map, unwrap_or, option_map}
 use Rattle.std.specs.List.{AllByRecursion, AllZip, slice_get}
-use Rattle.std.proofs.lemmas.Bool.{eqb-false}
-use Rattle.mp4_boxes.specs.Layout.{mdhd}
-use Rattle.mp4_boxes.specs.Places.{ruled}
-use Rattle.mp4_boxes.specs.declared.rule.Rule.TheVariants as rules
 use Rattle.mp4_boxes.proofs.Each.{each_from}
-use Rattle.mp4_boxes.proofs.Refusing.{holds_only}
-use Rattle.mp4_boxes.proofs.Sound.{sound_one}
 use Rattle.mp4_tables.specs.Groups.{GroupKey}
 use Rattle.mp4_tables.specs.Keys.{keys_seen}
 use Rattle.mp4_tables.specs.PlainSamples.{PlacedSample}
@@ -25,7 +19,7 @@ use Rattle.mp4_present.specs.Presentation.{Track}
 use Rattle.mp4_present.specs.declared.track_info.TrackInfo.{TrackInfo}
 use Rattle.mp4_present.proofs.Assembled.{timescale_there}
 use Rattle.mp4_present.proofs.ValidSamples.{starts_at_0}
-use Rattle.mp4_plan.specs.Coming.{Coming, coming_of, stops, all_left, pieces_left}
+use Rattle.mp4_plan.specs.Coming.{coming_of, stops, all_left}
 use Rattle.mp4_plan.specs.Pieces.{TimedSample, pieces}
 use Rattle.mp4_plan.specs.Taken.{AreTaken}
 use Rattle.mp4_plan.specs.TurnLaws.{HavePassed}

@@ -1,6 +1,6 @@
 -- What an opened file says of its tracks: their samples are those of the presentation that it denotes, and lie in it; their keys differ, and are at most four.
-use Rattle.std.proofs.Common.{◌≡◌, ℕ, zero, suc, ◌+◌, ◌-◌, ◌^◌, ◌<◌, ◌≤◌, false, List, [], ◌∷◌, length, Option, Some, None, refl, sym, ap, subst, ◌∙◌, arith}
-use Rattle.std.specs.Prelude.{map, min, IfSome, IsTrue, ℤ, pos, negsuc}
+use Rattle.std.proofs.Common.{◌≡◌, ℕ, zero, suc, ◌+◌, ◌-◌, ◌^◌, ◌≤◌, false, List, [], ◌∷◌, length, Some, refl, sym, ap, subst, ◌∙◌, arith}
+use Rattle.std.specs.Prelude.{map, min, IsTrue, ℤ, pos, negsuc}
 use Rattle.std.specs.List.{AllByRecursion, AllZip, list_any, slice_get, sum_by}
 use Rattle.std.proofs.lemmas.Bool.{or_from}
 use Rattle.std.proofs.lemmas.List.{length-map}
@@ -22,7 +22,7 @@ use Rattle.mp4_present.specs.Denotes.{FileTree, file_parts, placed_of, bytes_at,
 use Rattle.mp4_present.specs.Joined.{IsBelow}
 use Rattle.mp4_present.specs.Movies.{MovieSeen}
 use Rattle.mp4_present.specs.OpenedMovie.{IsInfoOf, IsOpenedAs}
-use Rattle.mp4_present.specs.Presentation.{Track, IsGroup, IsParameter}
+use Rattle.mp4_present.specs.Presentation.{Track, IsGroup}
 use Rattle.mp4_present.specs.declared.track_info.TrackInfo.{TrackInfo}
 use Rattle.mp4_present.proofs.MoofTaken.{zipped_at}
 use Rattle.mp4_present.proofs.PlacedTracks.{IsTrackPlaced, track_placed}

@@ -1,11 +1,10 @@
-use Rattle.std.proofs.Common.{◌≤◌, ◌+◌, ◌*◌, arith}
+use Rattle.std.proofs.Common.{arith}
 use Rattle.std.proofs.lemmas.Result.{err_from_is_err_and}
 use Rattle.std.specs.Io.KnownBytes.{Appends}
 use Rattle.std.specs.Prelude.{OnOk, OnErr}
 use Rattle.mp4_store.specs.Device.{AppendsPrefix}
 use Rattle.mp4_store.proofs.Known.{AppendsPrefix-nothing}
 use Rattle.mp4_present.specs.Denotes.{presentation_of}
-use Rattle.mp4_present.specs.Work.{walks_steps}
 use Rattle.mp4_plan.specs.Normal.{normal}
 use Rattle.mp4_plan.specs.Writers.{IsReady}
 use Rattle.mp4_plan.proofs.AllPut.{still_opened}
