@@ -14,7 +14,7 @@ use std::marker::Brand;
 use std::sync::ledger::{Blank, Ledger};
 
 /// As `normalise`, with the steps that it takes counted: one for each table row, `traf`, run and sample that is passed. At
-/// most eight for each sample and row of the file, and eight more for each of its tracks.
+/// most 8 * (k + 1) for each sample and each row of a file with k tracks.
 pub fn normalise_counted<S: Store, K: Sink, L: Ledger>(
     alloc: Global,
     store: &mut S,
