@@ -5,8 +5,10 @@ use Rattle.mp4_boxes.specs.Bytes.{field, rows}
 use Rattle.mp4_boxes.proofs.OfBytes.{field_dropped}
 use Rattle.mp4_tables.specs.Repeated.{repeated}
 use Rattle.mp4_tables.specs.Rows.{run_of, runs_at}
-use Rattle.mp4_frag.specs.Walks.{low_half, indexes_here}
+use Rattle.mp4_frag.specs.PlacesIn.{AreIndexPlaces}
+use Rattle.mp4_frag.specs.Walks.{low_half, indexes_here, all_indexes}
 use Rattle.mp4_frag.specs.declared.places.IndexPlace.{IndexPlace}
+use Rattle.mp4_frag.specs.declared.places.IndexPlaces.{IndexPlaces}
 
 abbrev index_place : ℕ → ℕ → ℕ → ℕ → IndexPlace
 index_place row rows left index = record { row = row; rows = rows; left = left; index = index }
@@ -74,3 +76,23 @@ passed_some payload p h = ap (drop 1) (sym (index_first payload p h))
 
 pub passed_none : (payload : List ℕ) (p : IndexPlace) → p.left ≡ 0 → p.rows ≡ 0 → indexes_here payload p ≡ drop 1 (indexes_here payload p)
 passed_none payload p e f = index_none payload p e f ∙ ap (drop 1) (sym (index_none payload p e f))
+
+-- ---- no index is left
+
+-- no index is left in hand
+abbrev AreOver : IndexPlaces → Type 0
+AreOver p = (p.first.left ≡ 0) × (p.second.left ≡ 0) × (p.third.left ≡ 0) × (p.fourth.left ≡ 0)
+
+all_over : (payload : List ℕ) (p : IndexPlaces) → AreIndexPlaces payload p → AreOver p → all_indexes payload p ≡ [] ∷ [] ∷ [] ∷ [] ∷ []
+all_over payload p h over =
+    let first = index_none payload p.first over.0 (h.0.settled over.0) in
+    let second = index_none payload p.second over.1 (h.1.settled over.1) in
+    let third = index_none payload p.third over.2 (h.2.settled over.2) in
+    let fourth = index_none payload p.fourth over.3 (h.3.settled over.3) in
+    λ i. first i ∷ second i ∷ third i ∷ fourth i ∷ []
+
+pub over_here : (payload : List ℕ) (p : IndexPlaces) → AreIndexPlaces payload p → AreOver p → replicate 4 0 ≡ map (λ indexes. slice_index indexes 0) (all_indexes payload p)
+over_here payload p h over = ap (map (λ (indexes : List ℕ). slice_index indexes 0)) (sym (all_over payload p h over))
+
+pub over_passed : (payload : List ℕ) (p : IndexPlaces) → AreIndexPlaces payload p → AreOver p → all_indexes payload p ≡ map (drop 1) (all_indexes payload p)
+over_passed payload p h over = all_over payload p h over ∙ ap (map (drop 1)) (sym (all_over payload p h over))

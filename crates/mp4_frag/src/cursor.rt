@@ -6,7 +6,7 @@ use crate::walk::{first_place, pass_sample, sample_here, settle};
 use mp4_tables::{Keys, SampleAt, Samples};
 use std::marker::Model;
 
-/// The samples of a track in a `moof` from a place on.
+/// The samples of a track in a `moof` from a place on. No step takes memory.
 #[derive(Drop)]
 pub struct FragCursor<'a> {
     payload: &'a [u8],
@@ -101,7 +101,7 @@ impl<'a> Samples for FragCursor<'a> {
 
     ghost follows = { λ s t. (t.payload ≡ s.payload) × (t.moof ≡ s.moof) × (t.tracks ≡ s.tracks) × (s.place.passed ≤ t.place.passed) };
 
-    #[inline]
+    #[inline(always)]
     fn peek(&self) -> Option<SampleAt> {
         if self.place.run.left > 0 {
             Some(sample_here(self.payload, &self.place))
@@ -110,11 +110,11 @@ impl<'a> Samples for FragCursor<'a> {
         }
     }
 
-    #[inline]
+    #[inline(always)]
     fn next(&mut self) -> Option<SampleAt> {
         if self.place.run.left > 0 {
             let sample = sample_here(self.payload, &self.place);
-            self.place = pass_sample(self.payload, self.moof, self.tracks, &self.place);
+            pass_sample(self.payload, self.moof, self.tracks, &mut self.place);
             Some(sample)
         } else {
             None

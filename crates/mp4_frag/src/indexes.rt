@@ -1,5 +1,5 @@
 //! The indexes of samples in the `sbgp`s of their `traf` (ISO/IEC 14496-12, 8.9.2).
-ghost use Rattle.std.specs.Prelude.{ℕ, List, ◌≡◌, ◌+◌, ◌*◌, ◌≤◌, length, map, drop, slice_index};
+ghost use Rattle.std.specs.Prelude.{ℕ, List, ◌≡◌, ◌+◌, ◌*◌, ◌≤◌, length, map, drop, slice_index, IsTrue};
 ghost use Rattle.mp4_tables.specs.Repeated.{repeated};
 ghost use Rattle.mp4_tables.specs.Rows.{runs_at};
 ghost use Rattle.mp4_frag.specs.PlacesIn.{HasIndexRows, IsIndexPlace, AreIndexPlaces};
@@ -112,28 +112,41 @@ fn index_here(place: IndexPlace) -> u16
 
 // Passes a sample: behind the last row there is nothing to pass.
 #[inline]
-fn pass_index(payload: &[u8], place: IndexPlace) -> IndexPlace
-    requires { IsIndexPlace payload.now place }
-    ensures place { IsIndexPlace payload.now result }
-    ensures next { indexes_left payload.now result ≡ drop 1 (indexes_left payload.now place) }
+fn pass_index(payload: &[u8], place: &mut IndexPlace)
+    requires { IsIndexPlace payload.now place.old }
+    ensures place { IsIndexPlace payload.now place.new }
+    ensures next { indexes_left payload.now place.new ≡ drop 1 (indexes_left payload.now place.old) }
 {
-    if place.left == 0 {
-        return place;
+    if place.left > 0 {
+        *place = settle(
+            payload,
+            IndexPlace {
+                left: place.left - 1,
+                ..*place
+            },
+        );
     }
-    settle(
-        payload,
-        IndexPlace {
-            left: place.left - 1,
-            ..place
-        },
-    )
+}
+
+// Whether no index is left in hand: where there are no `sbgp`s, and behind their last rows.
+#[inline(always)]
+fn are_over(places: &IndexPlaces) -> bool
+    ensures { IsTrue result → (places.now.first.left ≡ 0) × (places.now.second.left ≡ 0) × (places.now.third.left ≡ 0) × (places.now.fourth.left ≡ 0) }
+{
+    places.first.left == 0
+        && places.second.left == 0
+        && places.third.left == 0
+        && places.fourth.left == 0
 }
 
 // The indexes in hand.
-#[inline]
+#[inline(always)]
 pub(crate) fn indexes_here(places: &IndexPlaces) -> [u16; 4]
     ensures { (payload : List ℕ) → AreIndexPlaces payload places.now → result ≡ map (λ indexes. slice_index indexes 0) (all_indexes payload places.now) }
 {
+    if are_over(places) {
+        return [0; 4];
+    }
     [
         index_here(places.first),
         index_here(places.second),
@@ -142,17 +155,29 @@ pub(crate) fn indexes_here(places: &IndexPlaces) -> [u16; 4]
     ]
 }
 
-// Passes a sample in each.
-#[inline]
-pub(crate) fn pass_indexes(payload: &[u8], places: &IndexPlaces) -> IndexPlaces
-    requires { AreIndexPlaces payload.now places.now }
-    ensures place { AreIndexPlaces payload.now result }
-    ensures next { all_indexes payload.now result ≡ map (drop 1) (all_indexes payload.now places.now) }
+// Passes a sample in each, where an index is left in one.
+#[cold]
+#[inline(never)]
+fn pass_each(payload: &[u8], places: &mut IndexPlaces)
+    requires { AreIndexPlaces payload.now places.old }
+    ensures place { AreIndexPlaces payload.now places.new }
+    ensures next { all_indexes payload.now places.new ≡ map (drop 1) (all_indexes payload.now places.old) }
 {
-    IndexPlaces {
-        first: pass_index(payload, places.first),
-        second: pass_index(payload, places.second),
-        third: pass_index(payload, places.third),
-        fourth: pass_index(payload, places.fourth),
+    pass_index(payload, &mut places.first);
+    pass_index(payload, &mut places.second);
+    pass_index(payload, &mut places.third);
+    pass_index(payload, &mut places.fourth);
+}
+
+// Passes a sample in each.
+#[inline(always)]
+pub(crate) fn pass_indexes(payload: &[u8], places: &mut IndexPlaces)
+    requires { AreIndexPlaces payload.now places.old }
+    ensures place { AreIndexPlaces payload.now places.new }
+    ensures next { all_indexes payload.now places.new ≡ map (drop 1) (all_indexes payload.now places.old) }
+{
+    if are_over(places) {
+        return;
     }
+    pass_each(payload, places);
 }

@@ -307,6 +307,8 @@ fn pass_box(payload: &[u8], moof: u64, tracks: &[TrackState], place: FragPlace) 
 }
 
 // Passes boxes until a sample of the track is left.
+#[cold]
+#[inline(never)]
 pub(crate) fn settle(
     payload: &[u8],
     moof: u64,
@@ -347,7 +349,7 @@ fn file_place(at: i128) -> u64
 }
 
 // The sample before which the place lies.
-#[inline]
+#[inline(always)]
 pub(crate) fn sample_here(payload: &[u8], place: &FragPlace) -> SampleAt
     requires some { 0 < place.now.run.left }
     requires place { LiesIn payload.now place.now }
@@ -381,49 +383,40 @@ fn next_row(run: RowPlace) -> RowPlace
     }
 }
 
-// The place behind a sample, which may be the last of its run.
-#[inline]
-fn behind_sample(payload: &[u8], place: &FragPlace) -> FragPlace
-    requires some { 0 < place.now.run.left }
-    requires place { LiesIn payload.now place.now }
-    ensures place { LiesIn payload.now result }
-    ensures same { (result.track ≡ place.now.track) × (result.keys ≡ place.now.keys) }
-    ensures on { place.now.passed ≤ result.passed }
-    ensures coming { (w : Walk) → coming payload.now w result ≡ drop 1 (coming payload.now w place.now) }
+// Passes a sample, which may be the last of its run.
+#[inline(always)]
+fn pass_row(payload: &[u8], place: &mut FragPlace)
+    requires some { 0 < place.old.run.left }
+    requires place { LiesIn payload.now place.old }
+    ensures place { LiesIn payload.now place.new }
+    ensures same { (place.new.track ≡ place.old.track) × (place.new.keys ≡ place.old.keys) }
+    ensures on { place.old.passed ≤ place.new.passed }
+    ensures coming { (w : Walk) → coming payload.now w place.new ≡ drop 1 (coming payload.now w place.old) }
 {
     let row = row_here(payload, place.run);
     let duration = row.duration.unwrap_or(place.inherited.duration);
     let size = row.size.unwrap_or(place.inherited.size);
-    FragPlace {
-        dts: place.dts.saturating_add(u64::from(duration)),
-        at: place.at.saturating_add(i128::from(size)),
-        run: next_row(place.run),
-        indexes: pass_indexes(payload, &place.indexes),
-        passed: place.passed.saturating_add(1),
-        ..*place
-    }
+    place.dts = place.dts.saturating_add(u64::from(duration));
+    place.at = place.at.saturating_add(i128::from(size));
+    place.run = next_row(place.run);
+    place.passed = place.passed.saturating_add(1);
+    pass_indexes(payload, &mut place.indexes);
 }
 
-// The place one sample on.
-#[inline]
-pub(crate) fn pass_sample(
-    payload: &[u8],
-    moof: u64,
-    tracks: &[TrackState],
-    place: &FragPlace,
-) -> FragPlace
-    requires some { 0 < place.now.run.left }
-    requires place { LiesIn payload.now place.now }
-    ensures place { IsPlaceIn payload.now result }
-    ensures same { (result.track ≡ place.now.track) × (result.keys ≡ place.now.keys) }
-    ensures on { place.now.passed ≤ result.passed }
-    ensures coming { coming payload.now (walk_of moof tracks.now place.now) result ≡ drop 1 (coming payload.now (walk_of moof tracks.now place.now) place.now) }
+// Goes one sample on.
+#[inline(never)]
+pub(crate) fn pass_sample(payload: &[u8], moof: u64, tracks: &[TrackState], place: &mut FragPlace)
+    requires some { 0 < place.old.run.left }
+    requires place { LiesIn payload.now place.old }
+    ensures place { IsPlaceIn payload.now place.new }
+    ensures same { (place.new.track ≡ place.old.track) × (place.new.keys ≡ place.old.keys) }
+    ensures on { place.old.passed ≤ place.new.passed }
+    ensures coming { coming payload.now (walk_of moof tracks.now place.old) place.new ≡ drop 1 (coming payload.now (walk_of moof tracks.now place.old) place.old) }
 {
-    let next = behind_sample(payload, place);
-    if next.run.left > 0 {
-        return next;
+    pass_row(payload, place);
+    if place.run.left == 0 {
+        *place = settle(payload, moof, tracks, *place);
     }
-    settle(payload, moof, tracks, next)
 }
 
 // Before the first sample of a track.

@@ -5,7 +5,7 @@ use crate::tables::Tables;
 use crate::walk::{first_place, pass_place, sample_here};
 use std::marker::Model;
 
-/// The samples of tables from a place on. A step takes 10 to 20 ns and no memory.
+/// The samples of tables from a place on. No step takes memory, and all steps together pass each row once.
 #[derive(Drop)]
 pub struct TableCursor<'a> {
     payload: &'a [u8],

@@ -5,7 +5,7 @@ use Rattle.mp4_frag.specs.ColumnsRead.{row_room}
 use Rattle.mp4_frag.specs.Walks.{row_signed, rows_here, held, capped}
 use Rattle.mp4_frag.specs.declared.places.RowPlace.{RowPlace}
 use Rattle.mp4_frag.proofs.Comings.{sample_passed}
-use Rattle.mp4_frag.proofs.walk.behind_sample.Goals as goal
+use Rattle.mp4_frag.proofs.walk.pass_row.Goals as goal
 
 pub returns-clause-coming : goal.returns-clause-coming
 returns-clause-coming c w =
@@ -13,16 +13,15 @@ returns-clause-coming c w =
     let place = c.args.place.now in
     let row = row_signed c.row_here-row.result in
     let before : to_z w128 (of_z w128 place.at) ≡ place.at = search rules in
-    let kept : to_z w128 (of_z w128 c.saturating_add-2.result) ≡ c.saturating_add-2.result = search rules in
-    let base : to_z w128 (of_z w128 place.base) ≡ place.base = search rules in
-    let dts = c.saturating_add.ensures ∙ ap (λ n. capped (place.dts + n)) (c.from.ensures ∙ c.unwrap_or-duration.ensures) in
+    let kept : to_z w128 (of_z w128 c.saturating_add-place-2.result) ≡ c.saturating_add-place-2.result = search rules in
+    let dts = c.saturating_add-place.ensures ∙ ap (λ n. capped (place.dts + n)) (c.from.ensures ∙ c.unwrap_or-duration.ensures) in
     let wide : to_z w128 (of_z w128 c.from-2.result) ≡ c.from-2.result = search rules in
     let size = wide ∙ c.from-2.ensures ∙ ap pos c.unwrap_or-size.ensures in
-    let at = kept ∙ c.saturating_add-2.ensures ∙ (λ i. held (before i +ℤ size i)) in
+    let at = kept ∙ c.saturating_add-place-2.ensures ∙ (λ i. held (before i +ℤ size i)) in
     let indexes = c.pass_indexes.ensures.next in
-    let next : c.next_row.result ≡ record place.run { row = place.run.row + row_room place.run.bits; left = place.run.left - 1; first_flags = None } = c.next_row.ensures in
-    sample_passed payload w place _ row
+    let next : c.next_row-place.result ≡ record place.run { row = place.run.row + row_room place.run.bits; left = place.run.left - 1; first_flags = None } = c.next_row-place.ensures in
+    sample_passed payload w place (record place { dts = c.saturating_add-place.result; at = to_z w128 (of_z w128 c.saturating_add-place-2.result); run = c.next_row-place.result; passed = c.saturating_add-place-3.result; indexes = c.pass_indexes.new.places }) row
     (c.row_here-row.ensures ∙ ap (λ (r : RowPlace). row_signed c.row_here-row.result ∷ rows_here payload r) (sym next))
     (ap (λ (r : RowPlace). r.first_flags) next)
-    (λ i. record { dts = dts i; at = at i; is_own = place.is_own; base = base i; inherited = place.inherited; indexes = indexes i })
+    (λ i. record { dts = dts i; at = at i; is_own = place.is_own; base = place.base; inherited = place.inherited; indexes = indexes i })
     refl refl
