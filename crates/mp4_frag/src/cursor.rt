@@ -57,12 +57,8 @@ impl<'a> FragCursor<'a> {
             → dts + duration_of (samples_of_track trexes track t) < 2 ^ 64 → samples_coming result ≡ timed (keys_seen keys) dts (samples_of_track trexes track t) }
     {
         let moof = view.moof();
-        let place = settle(
-            moof.payload(),
-            moof.offset(),
-            tracks,
-            first_place(moof.offset(), track, dts, keys),
-        );
+        let mut place = first_place(moof.offset(), track, dts, keys);
+        settle(moof.payload(), moof.offset(), tracks, &mut place);
         FragCursor::at(view, tracks, place)
     }
 

@@ -309,24 +309,17 @@ fn pass_box(payload: &[u8], moof: u64, tracks: &[TrackState], place: FragPlace) 
 // Passes boxes until a sample of the track is left.
 #[cold]
 #[inline(never)]
-pub(crate) fn settle(
-    payload: &[u8],
-    moof: u64,
-    tracks: &[TrackState],
-    place: FragPlace,
-) -> FragPlace
-    requires { LiesIn payload.now place }
+pub(crate) fn settle(payload: &[u8], moof: u64, tracks: &[TrackState], place: &mut FragPlace)
+    requires { LiesIn payload.now place.old }
     ensures bytes { AreBytes payload.now }
-    ensures place { IsPlaceIn payload.now result }
-    ensures same { (result.track ≡ place.track) × (result.keys ≡ place.keys) }
-    ensures on { place.passed ≤ result.passed }
-    ensures coming { coming payload.now (walk_of moof tracks.now place) result ≡ coming payload.now (walk_of moof tracks.now place) place }
+    ensures place { IsPlaceIn payload.now place.new }
+    ensures same { (place.new.track ≡ place.old.track) × (place.new.keys ≡ place.old.keys) }
+    ensures on { place.old.passed ≤ place.new.passed }
+    ensures coming { coming payload.now (walk_of moof tracks.now place.old) place.new ≡ coming payload.now (walk_of moof tracks.now place.old) place.old }
 {
-    let mut place = place;
     while place.run.left == 0 && place.next < payload.len() {
-        place = pass_box(payload, moof, tracks, place);
+        *place = pass_box(payload, moof, tracks, *place);
     }
-    place
 }
 
 // The flags of a sample: those of its run's first sample, its own, or the inherited ones. The four highest bits are reserved.
@@ -415,7 +408,7 @@ pub(crate) fn pass_sample(payload: &[u8], moof: u64, tracks: &[TrackState], plac
 {
     pass_row(payload, place);
     if place.run.left == 0 {
-        *place = settle(payload, moof, tracks, *place);
+        settle(payload, moof, tracks, place);
     }
 }
 

@@ -12,22 +12,22 @@ use Rattle.mp4_frag.proofs.cursor.FragCursor.start.Goals as goal
 pub returns-clause-samples : goal.returns-clause-samples
 returns-clause-samples c =
     let moof = c.moof-moof.ensures in
-    let first = c.first_place.ensures in
-    let settled = c.settle-place.ensures in
+    let first = c.first_place-place.ensures in
+    let settled = c.settle.ensures in
     ap samples_coming c.at.ensures
-    ∙ started (moof_seen c.args.view.now).payload c.payload.result.now (moof_seen c.args.view.now).offset c.offset.result c.offset-2.result c.args.dts c.args.tracks.now c.first_place.result c.settle-place.result c.args.track c.args.keys
-    (c.payload.ensures ∙ ap (λ (b : Box). b.payload) moof) (c.offset.ensures ∙ ap (λ (b : Box). b.offset) moof) (c.offset-2.ensures ∙ ap (λ (b : Box). b.offset) moof)
+    ∙ started (moof_seen c.args.view.now).payload c.payload.result.now (moof_seen c.args.view.now).offset c.offset-2.result c.offset.result c.args.dts c.args.tracks.now c.first_place-place.result c.settle.new.place c.args.track c.args.keys
+    (c.payload.ensures ∙ ap (λ (b : Box). b.payload) moof) (c.offset-2.ensures ∙ ap (λ (b : Box). b.offset) moof) (c.offset.ensures ∙ ap (λ (b : Box). b.offset) moof)
     first.walk.0 first.walk.1 settled.same.0 settled.same.1 settled.coming first.coming
 
 pub returns-clause-definition : goal.returns-clause-definition
 returns-clause-definition c file_length trexes t is sound defaults distinct fits =
     let moof = c.moof-moof.ensures in
     let seen = moof_seen c.args.view.now in
-    let first = c.first_place.ensures in
-    let settled = c.settle-place.ensures in
+    let first = c.first_place-place.ensures in
+    let settled = c.settle.ensures in
     let samples = ap samples_coming c.at.ensures
-    ∙ started seen.payload c.payload.result.now seen.offset c.offset.result c.offset-2.result c.args.dts c.args.tracks.now c.first_place.result c.settle-place.result c.args.track c.args.keys
-    (c.payload.ensures ∙ ap (λ (b : Box). b.payload) moof) (c.offset.ensures ∙ ap (λ (b : Box). b.offset) moof) (c.offset-2.ensures ∙ ap (λ (b : Box). b.offset) moof)
+    ∙ started seen.payload c.payload.result.now seen.offset c.offset-2.result c.offset.result c.args.dts c.args.tracks.now c.first_place-place.result c.settle.new.place c.args.track c.args.keys
+    (c.payload.ensures ∙ ap (λ (b : Box). b.payload) moof) (c.offset-2.ensures ∙ ap (λ (b : Box). b.offset) moof) (c.offset.ensures ∙ ap (λ (b : Box). b.offset) moof)
     first.walk.0 first.walk.1 settled.same.0 settled.same.1 settled.coming first.coming in
     let whole = c.args.view.now.moof.fits in
     let early : seen.offset < 2 ^ 64 = omega arith in
