@@ -39,8 +39,8 @@ use mp4_tables::{Keys, SampleAt};
 use std::alloc::Global;
 use std::sync::ledger::Ledger;
 
-/// How many bytes are put at once.
-const PIECE: usize = 65_000;
+/// How many bytes are put at once: a power of two, so that each put fills whole pages, which a file system keeps together.
+const PIECE: usize = 32_768;
 
 /// The most bytes of `ftyp` and `moov`.
 const MOST_HEAD: u128 = (1 << 30) + 24;

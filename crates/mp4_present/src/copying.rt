@@ -24,8 +24,8 @@ use mp4_store::{Sink, Store};
 use std::alloc::Global;
 use std::sync::ledger::Ledger;
 
-/// How many bytes are put at once.
-const PIECE: usize = 65_000;
+/// How many bytes are put at once: a power of two, so that each put fills whole pages, which a file system keeps together.
+const PIECE: usize = 32_768;
 
 impl Carrier {
     /// Takes the bytes of some samples along. Where the store has not as many bytes, it has changed.

@@ -25,8 +25,8 @@ use std::alloc::Global;
 use std::marker::Brand;
 use std::sync::ledger::{Blank, Ledger};
 
-/// How many bytes are put at once.
-const ROOM: usize = 65_000;
+/// How many bytes are put at once: a power of two, so that each put fills whole pages.
+const ROOM: usize = 32_768;
 
 // Puts the lines of all samples in hand. The number is that of the next one.
 fn put_hand<K: Sink, L: Ledger>(
