@@ -15,7 +15,7 @@ use Rattle.mp4norm.specs.Headline.{DenotesNothing}
 abbrev pub row_total : FileTree → ℕ
 row_total tree = sum_of (λ (t : TrackTree). table_rows (tables_of t.table)) tree.movie.tracks + sum_of (λ (f : FragmentTree). fragment_rows (fragment_of f)) tree.fragments
 
--- for each sample and each row 8, and 8 more for every track that there is
+-- 8 for each sample and each row, times one more than there are tracks
 abbrev pub most_steps : ℕ → ℕ → ℕ → ℕ
 most_steps tracks samples rows = 8 * ((tracks + 1) * (samples + rows))
 
