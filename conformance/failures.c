@@ -1,6 +1,7 @@
-/* Put before the C library, this makes one call of a program fail: an allocation, a read of a file, or a write.
- * FAIL_CALL says of which kind (alloc, read, write), FAIL_AT which one, from 1 on, and FAIL_TAKEN how many bytes of the
- * write that fails are taken first. At the end the number of calls of that kind is written to the file FAIL_TOLD. */
+/* Put before the C library, this makes calls of a program fail: an allocation, a read of a file, or a write.
+ * FAIL_CALL says of which kind (alloc, read, write), FAIL_AT which one, from 1 on; with FAIL_REST all behind it fail too.
+ * FAIL_TAKEN says how many bytes of the write that fails are taken first. At the end the number of calls of that kind is
+ * written to the file FAIL_TOLD. */
 #define _GNU_SOURCE
 #include <dlfcn.h>
 #include <errno.h>
@@ -12,11 +13,12 @@
 
 static long calls;
 
-/* Whether this call of the kind is the one that fails. */
+/* Whether this call of the kind fails. */
 static int fails(const char *kind) {
     const char *wanted = getenv("FAIL_CALL"), *at = getenv("FAIL_AT");
     if (!wanted || !at || strcmp(wanted, kind) != 0) return 0;
-    return ++calls == atol(at);
+    calls++;
+    return calls == atol(at) || (getenv("FAIL_REST") && atol(at) > 0 && calls > atol(at));
 }
 
 __attribute__((destructor)) static void tell(void) {

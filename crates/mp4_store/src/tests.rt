@@ -1,3 +1,6 @@
+//! Stores and sinks: real files, slow writers, bytes in memory, and a store that reads ahead.
+ghost use Rattle.std.specs.Prelude.{◌≡◌, ◌<◌, ℕ, false, replicate};
+
 use super::*;
 use std::fs::File;
 use std::io::Write;
@@ -94,5 +97,163 @@ fn bytes_in_memory(rt: HostRuntime) -> Result<(), Fail> {
     assert_eq!(rt; sink.put(&out), Ok(()));
     assert_eq!(rt; sink.put(b"d"), Ok(()));
     assert_eq!(rt; sink.bytes(), b"bcd".as_slice());
+    Ok(())
+}
+
+// A store in which each place says its byte. It counts its reads, keeps the length of the last one, and fails those of
+// more than `most` bytes.
+#[derive(Drop)]
+struct Places {
+    most: usize,
+    reads: u64,
+    last: usize,
+    failed: u64,
+}
+
+// None was read yet.
+fn below_for(most: usize) -> Places {
+    Places {
+        most,
+        reads: 0,
+        last: 0,
+        failed: 0,
+    }
+}
+
+// The byte at a place.
+fn byte_at(place: u64) -> u8 {
+    (place % 251) as u8
+}
+
+// Whether these are the bytes from a place on.
+fn are_from(at: u64, bytes: &[u8]) -> bool {
+    let mut place = at;
+    for byte in bytes {
+        if *byte != byte_at(place) {
+            return false;
+        }
+        place = place.saturating_add(1);
+    }
+    true
+}
+
+impl Store for &mut Places {
+    ghost is_honest = { λ _. false };
+
+    ghost file = { λ _. replicate 100000 0 };
+
+    ghost read_failures = { λ s. s.now.failed };
+
+    fn len(&self) -> u64 {
+        100_000
+    }
+
+    fn read_at(&mut self, at: u64, out: &mut [u8]) -> Result<(), StoreFailed> {
+        self.reads = self.reads.saturating_add(1);
+        self.last = out.len();
+        if out.len() > self.most {
+            self.failed = self.failed.saturating_add(1);
+            return Err(StoreFailed);
+        }
+        let mut place = at;
+        for byte in out.iter_mut() {
+            *byte = byte_at(place);
+            place = place.saturating_add(1);
+        }
+        Ok(())
+    }
+}
+
+#[test]
+fn short_reads_read_ahead(rt: HostRuntime) {
+    let mut below = below_for(usize::MAX);
+    let mut header = [0u8; 16];
+    let mut payload = [0u8; 300];
+    {
+        let mut store = BufferedStore::new(&mut below);
+        assert_eq!(rt; store.len(), 100_000);
+        assert!(rt; 100_000 <= store.len());
+        assert_eq!(rt; store.read_at(5000, &mut header), Ok(()));
+        assert!(rt; are_from(5000, &header));
+        assert_eq!(rt; store.read_at(5016, &mut payload), Ok(()));
+        assert!(rt; are_from(5016, &payload));
+        assert_eq!(rt; store.read_at(20_464, &mut header), Ok(()));
+        assert!(rt; are_from(20_464, &header));
+    }
+    // From the page of the first place on: 4096 to 20,480.
+    assert_eq!(rt; (below.reads, below.last), (1, 16_384));
+}
+
+#[test]
+fn other_reads_go_below(rt: HostRuntime) {
+    let mut below = below_for(usize::MAX);
+    let mut header = [0u8; 16];
+    let mut payload = [0u8; 300];
+    {
+        let mut store = BufferedStore::new(&mut below);
+        assert!(rt; 100_000 <= store.len());
+        // More than a header, and nothing was read ahead.
+        assert_eq!(rt; store.read_at(100, &mut payload), Ok(()));
+        assert!(rt; are_from(100, &payload));
+        assert_eq!(rt; store.read_at(8000, &mut header), Ok(()));
+        // Its last byte lies behind 20,480.
+        assert_eq!(rt; store.read_at(20_181, &mut payload), Ok(()));
+        assert!(rt; are_from(20_181, &payload));
+    }
+    assert_eq!(rt; (below.reads, below.last), (3, 300));
+}
+
+#[test]
+fn how_far_is_read_ahead(rt: HostRuntime) {
+    let mut header = [0u8; 16];
+    // Far behind what was read; before it; at the end of the store.
+    for (first, second, want) in [
+        (0u64, 50_000u64, 8192usize),
+        (50_000, 0, 8192),
+        (90_000, 99_984, 1696),
+    ] {
+        let mut below = below_for(usize::MAX);
+        {
+            let mut store = BufferedStore::new(&mut below);
+            assert!(rt; 100_000 <= store.len());
+            assert_eq!(rt; store.read_at(first, &mut header), Ok(()));
+            assert_eq!(rt; store.read_at(second, &mut header), Ok(()));
+            assert!(rt; are_from(second, &header));
+        }
+        assert_eq!(rt; (below.reads, below.last), (2, want));
+    }
+}
+
+#[test]
+fn what_cannot_be_read_ahead(rt: HostRuntime) {
+    let mut below = below_for(16);
+    let mut header = [0u8; 16];
+    let mut payload = [0u8; 17];
+    {
+        let mut store = BufferedStore::new(&mut below);
+        assert!(rt; 100_000 <= store.len());
+        // Just the bytes that are asked for are read, and that works.
+        assert_eq!(rt; store.read_at(40_000, &mut header), Ok(()));
+        assert!(rt; are_from(40_000, &header));
+        assert_eq!(rt; store.read_at(40_000, &mut payload), Err(StoreFailed));
+        assert_eq!(rt; store.read_at(0, &mut header), Ok(()));
+        assert!(rt; are_from(0, &header));
+    }
+    assert_eq!(rt; (below.reads, below.failed), (5, 3));
+}
+
+#[test]
+fn a_real_file_read_ahead(rt: HostRuntime) -> Result<(), Fail> {
+    fs::write(&rt, "ahead.bin", b"0123456789".as_slice())?;
+    let mut store = BufferedStore::new(FileStore::new(File::open(&rt, "ahead.bin")?)?);
+    assert_eq!(rt; store.len(), 10);
+    let mut out = [0u8; 4];
+    assert!(rt; 10 <= store.len());
+    assert_eq!(rt; store.read_at(6, &mut out), Ok(()));
+    assert_eq!(rt; out, *b"6789");
+    // What was read ahead is still there.
+    fs::write(&rt, "ahead.bin", b"xxxx".as_slice())?;
+    assert_eq!(rt; store.read_at(0, &mut out), Ok(()));
+    assert_eq!(rt; out, *b"0123");
     Ok(())
 }

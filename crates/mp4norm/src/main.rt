@@ -31,7 +31,7 @@ use input::read_input;
 pub use line::Line;
 pub use movie_json::show_text;
 use mp4_boxes::Refusal;
-use mp4_store::{FileStore, IoSink, MemStore, Sink};
+use mp4_store::{BufferedStore, FileStore, IoSink, MemStore, Sink};
 pub use normalising::{normalise, normalise_counted};
 pub use sample_lines::put_lines;
 pub use samples::samples;
@@ -60,9 +60,10 @@ fn words(rt: &HostRuntime) -> Result<Vec<String>, CommandFault> {
     }
 }
 
-fn open(rt: &HostRuntime, file: &str) -> Result<FileStore, Refusal> {
+fn open(rt: &HostRuntime, file: &str) -> Result<BufferedStore<FileStore>, Refusal> {
     let file = File::open(rt, file).map_err(|_| Refusal::StoreFailed)?;
-    FileStore::new(file).map_err(|_| Refusal::StoreFailed)
+    let store = FileStore::new(file).map_err(|_| Refusal::StoreFailed)?;
+    Ok(BufferedStore::new(store))
 }
 
 fn make(rt: &HostRuntime, out: &str) -> Result<File, Refusal> {
