@@ -5,24 +5,23 @@ ghost use Rattle.mp4_store.specs.Device.{Counts, range};
 use crate::store::{Store, StoreFailed};
 use std::marker::Model;
 
-/// The most bytes that are read ahead at once.
+/// So many bytes are read ahead where a file is read for the first time, one part after the other.
 const MOST: usize = 16_384;
 
-/// So many are read where the last ones lie further away.
-const FIRST: usize = 8192;
-
-/// What is read ahead begins at a multiple of this, as a page of the system's memory does.
-const PAGE: u64 = 4096;
+/// So many are read ahead elsewhere: where bytes are read again, and far from those that were read.
+const FEW: usize = 4096;
 
 /// Reads of at most so many bytes read ahead: that of a box header is one.
 const SHORT: usize = 16;
 
-// Bytes of a store that were read ahead: the first `len`, from the place `start` on.
+// Bytes of a store that were read ahead: the first `len`, from the place `start` on. Nothing that lies at `furthest` or
+// behind it was read ahead so far.
 #[derive(Drop)]
 struct Window {
     bytes: [u8; MOST],
     start: u64,
     len: usize,
+    furthest: u64,
 }
 
 // Reads to the front of the room.
@@ -56,34 +55,33 @@ impl Window {
         self.start <= at && at <= end && count as u64 <= end - at
     }
 
-    // How many bytes are read ahead from a place on: all that there is room for where the last ones lie near.
-    fn reach(&self, start: u64) -> usize
+    // How many bytes are read ahead from a place on.
+    fn reach(&self, at: u64) -> usize
         ensures most { result ≤ 16384 }
-        ensures least { 8192 ≤ result }
+        ensures least { 4096 ≤ result }
     {
-        let end = self.start.saturating_add(self.len as u64);
-        if self.start <= start && start <= end.saturating_add(MOST as u64) {
+        if self.furthest <= at && at - self.furthest <= MOST as u64 {
             MOST
         } else {
-            FIRST
+            FEW
         }
     }
 
-    // Reads ahead from the page on in which a place lies. After `Err` it has no bytes.
+    // Reads ahead from a place on. After `Err` it has no bytes.
     fn fill<S: Store>(&mut self, store: &mut S, at: u64) -> Result<(), StoreFailed>
         requires { at ≤ length (S.file store.old) }
         ensures honesty { S.is_honest store.new ≡ S.is_honest store.old }
         ensures file { S.file store.new ≡ S.file store.old }
         ensures window { IsWindowOf (S.is_honest store.old) (S.file store.old) self.new }
-        ensures ahead { OnOk result ((self.new.start ≤ at) × (min (at + 16) (length (S.file store.old)) ≤ self.new.start + self.new.len)) }
+        ensures ahead { OnOk result ((self.new.start ≤ at) × (min (at + 4096) (length (S.file store.old)) ≤ self.new.start + self.new.len)) }
         ensures cause { Counts (S.read_failures store.old) (S.read_failures store.new) result }
     {
-        let start = at - at % PAGE;
-        let len = (store.len() - start).min(self.reach(start) as u64) as usize;
+        let len = (store.len() - at).min(self.reach(at) as u64) as usize;
+        self.start = at;
         self.len = 0;
-        self.start = start;
-        read_front(store, start, &mut self.bytes, len)?;
+        read_front(store, at, &mut self.bytes, len)?;
         self.len = len;
+        self.furthest = self.furthest.max(at + len as u64);
         Ok(())
     }
 
@@ -98,9 +96,9 @@ impl Window {
     }
 }
 
-/// A store over another one, with the same bytes. A read of at most 16 bytes reads up to 16,384 ahead, and each read
-/// whose bytes are there is answered from them; all others go to the store below. Where reading ahead fails, just the
-/// bytes that are asked for are read.
+/// A store over another one, with the same bytes. A read of at most 16 bytes reads up to 16,384 from its place on, and
+/// each read whose bytes are among these is answered from them; all others go to the store below. Where reading ahead
+/// fails, just the bytes that are asked for are read.
 #[derive(Drop)]
 pub struct BufferedStore<S: Store> {
     store: S,
@@ -131,6 +129,7 @@ impl<S: Store> BufferedStore<S> {
             bytes: [0; MOST],
             start: 0,
             len: 0,
+            furthest: 0,
         };
         BufferedStore {
             store,

@@ -177,10 +177,9 @@ fn short_reads_read_ahead(rt: HostRuntime) {
         assert!(rt; are_from(5000, &header));
         assert_eq!(rt; store.read_at(5016, &mut payload), Ok(()));
         assert!(rt; are_from(5016, &payload));
-        assert_eq!(rt; store.read_at(20_464, &mut header), Ok(()));
-        assert!(rt; are_from(20_464, &header));
+        assert_eq!(rt; store.read_at(21_368, &mut header), Ok(()));
+        assert!(rt; are_from(21_368, &header));
     }
-    // From the page of the first place on: 4096 to 20,480.
     assert_eq!(rt; (below.reads, below.last), (1, 16_384));
 }
 
@@ -196,9 +195,9 @@ fn other_reads_go_below(rt: HostRuntime) {
         assert_eq!(rt; store.read_at(100, &mut payload), Ok(()));
         assert!(rt; are_from(100, &payload));
         assert_eq!(rt; store.read_at(8000, &mut header), Ok(()));
-        // Its last byte lies behind 20,480.
-        assert_eq!(rt; store.read_at(20_181, &mut payload), Ok(()));
-        assert!(rt; are_from(20_181, &payload));
+        // Its last byte lies behind those that were read ahead.
+        assert_eq!(rt; store.read_at(24_085, &mut payload), Ok(()));
+        assert!(rt; are_from(24_085, &payload));
     }
     assert_eq!(rt; (below.reads, below.last), (3, 300));
 }
@@ -206,11 +205,13 @@ fn other_reads_go_below(rt: HostRuntime) {
 #[test]
 fn how_far_is_read_ahead(rt: HostRuntime) {
     let mut header = [0u8; 16];
-    // Far behind what was read; before it; at the end of the store.
-    for (first, second, want) in [
-        (0u64, 50_000u64, 8192usize),
-        (50_000, 0, 8192),
-        (90_000, 99_984, 1696),
+    // Each place is read in turn; of the last one it counts whether it lies near behind the others, is read again, lies far
+    // behind them, or at the end of the store.
+    for (first, second, third, want) in [
+        (0u64, 20_000u64, 50_000u64, 16_384usize),
+        (0, 20_000, 0, 4096),
+        (0, 20_000, 60_000, 4096),
+        (60_000, 80_000, 99_984, 16),
     ] {
         let mut below = below_for(usize::MAX);
         {
@@ -218,9 +219,10 @@ fn how_far_is_read_ahead(rt: HostRuntime) {
             assert!(rt; 100_000 <= store.len());
             assert_eq!(rt; store.read_at(first, &mut header), Ok(()));
             assert_eq!(rt; store.read_at(second, &mut header), Ok(()));
-            assert!(rt; are_from(second, &header));
+            assert_eq!(rt; store.read_at(third, &mut header), Ok(()));
+            assert!(rt; are_from(third, &header));
         }
-        assert_eq!(rt; (below.reads, below.last), (2, want));
+        assert_eq!(rt; (below.reads, below.last), (3, want));
     }
 }
 
@@ -249,11 +251,13 @@ fn a_real_file_read_ahead(rt: HostRuntime) -> Result<(), Fail> {
     assert_eq!(rt; store.len(), 10);
     let mut out = [0u8; 4];
     assert!(rt; 10 <= store.len());
+    assert_eq!(rt; store.read_at(2, &mut out), Ok(()));
+    assert_eq!(rt; out, *b"2345");
+    // What was read ahead is still there, what lies before it is not.
+    fs::write(&rt, "ahead.bin", b"xxxxxxxxxx".as_slice())?;
     assert_eq!(rt; store.read_at(6, &mut out), Ok(()));
     assert_eq!(rt; out, *b"6789");
-    // What was read ahead is still there.
-    fs::write(&rt, "ahead.bin", b"xxxx".as_slice())?;
     assert_eq!(rt; store.read_at(0, &mut out), Ok(()));
-    assert_eq!(rt; out, *b"0123");
+    assert_eq!(rt; out, *b"xxxx");
     Ok(())
 }
