@@ -284,8 +284,8 @@ module _ (file : List ℕ) (tree : FileTree) (m : MovieSeen) where
         lie = all_lie m.tracks tree.movie.tracks (track_facts file m tree o);
         fits = subst (λ (ps : List Piece). AllByRecursion (λ (q : Piece). length q.samples ≤ length w.rows.items) ps) (sym all.1) (subst (λ n. AllByRecursion (λ (q : Piece). length q.samples ≤ n) (pieces p)) (sym r.rows) (no_longer (pieces p)));
         small = omega (arith, few);
-        done = w.head.items;
-        goes = subst (λ (bs : List ℕ). BytesGoOn before after bs held w.head.items) r.nothing goes;
+        done = waiting w.carrier ++ w.head.items;
+        goes = goes;
         whole = (let head = sym r.head in let ps = sym all.1 in λ i. head i ++ pieces_bytes 1 (ps i));
       }
 
@@ -295,15 +295,15 @@ module _ (file : List ℕ) (tree : FileTree) (m : MovieSeen) where
   pub head_stops : (w : Writer) (before last : Option (List ℕ)) (bytes : List ℕ) → IsReady file tree m w → bytes ≡ w.head.items → AppendsPrefix before last (waiting w.carrier ++ bytes) → AppendsPrefix before last (normal (presentation_of file tree))
   head_stops w before last bytes r e q =
       let p = presentation_of file tree in
-      let own : AppendsPrefix before last (head_of_normal p) = subst (λ (bs : List ℕ). AppendsPrefix before last bs) (ap (λ (bs : List ℕ). bs ++ bytes) r.nothing ∙ e ∙ r.head) q in
+      let own : AppendsPrefix before last (head_of_normal p) = subst (λ (bs : List ℕ). AppendsPrefix before last bs) (ap (λ (bs : List ℕ). waiting w.carrier ++ bs) e ∙ r.head) q in
       AppendsPrefix-longer before last (head_of_normal p) (pieces_bytes 1 (pieces p)) own
 
   -- nothing behind the head is put
   pub head_put : (w : Writer) (before after : Option (List ℕ)) (held bytes : List ℕ) → IsReady file tree m w → bytes ≡ w.head.items → BytesGoOn before after (waiting w.carrier) held bytes → AppendsPrefix before after (normal (presentation_of file tree))
   head_put w before after held bytes r e q =
       let p = presentation_of file tree in
-      let own : BytesGoOn before after [] held bytes = subst (λ (bs : List ℕ). BytesGoOn before after bs held bytes) r.nothing q in
-      stopped_behind before after [] held bytes (pieces_bytes 1 (pieces p)) (normal p) own (ap (λ (bs : List ℕ). bs ++ pieces_bytes 1 (pieces p)) (sym (e ∙ r.head)))
+      let whole : waiting w.carrier ++ bytes ≡ head_of_normal p = ap (λ (bs : List ℕ). waiting w.carrier ++ bs) e ∙ r.head in
+      stopped_behind before after [] held (waiting w.carrier ++ bytes) (pieces_bytes 1 (pieces p)) (normal p) q (ap (λ (bs : List ℕ). bs ++ pieces_bytes 1 (pieces p)) (sym whole))
 
   -- a new schedule stands at the first turn
   pub is_first : (s : Schedule) (from : ℕ) → IsOpenedAs file m tree → s.tracks ≡ length m.tracks → s.first ≡ first_scale m.tracks → (s.track ≡ 0) × (s.from ≡ from) × (s.next ≡ None) → s.left ≡ min (sum_by (λ (i : TrackInfo). i.samples) m.tracks) (2 ^ 64 - 1)

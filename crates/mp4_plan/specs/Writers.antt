@@ -44,7 +44,7 @@ pub record IsWriterOf (m : MovieSeen) (w : Writer) : Type 0 where
 abbrev pub rooms : List Walk → ℕ
 rooms walks = sum_by (λ (walk : Walk). length walk.bytes.items) walks
 
--- all that a writer holds: its head, what waits to be put, 24 bytes for each row, and a `moof` in each walk
+-- all that a writer holds: what of the head doesn't wait yet, the buffer in which bytes wait, 24 bytes for each row, and a `moof` in each walk
 abbrev pub held : Writer → ℕ
 held w = length w.head.items + length w.carrier.buffer.items + 24 * length w.rows.items + rooms w.planning.items + rooms w.copying.items
 
@@ -95,13 +95,12 @@ longest_piece pieces = fold (λ most (piece : Piece). max most (length piece.sam
 abbrev pub head_of_normal : Presentation → List ℕ
 head_of_normal p = written.head_bytes p.movie (heads p) (movie_length p)
 
--- A writer that has put nothing yet: it holds the head of the normal form and as many rows as the longest piece has samples.
+-- A writer that has put nothing yet: the head of the normal form waits, or its front, with the rest behind it, and there are as many rows as the longest piece has samples.
 pub record IsReady (file : List ℕ) (tree : FileTree) (m : MovieSeen) (w : Writer) : Type 0 where
-  pub head : w.head.items ≡ head_of_normal (presentation_of file tree)
+  pub head : waiting w.carrier ++ w.head.items ≡ head_of_normal (presentation_of file tree)
   pub rows : length w.rows.items ≡ longest_piece (pieces (presentation_of file tree))
   pub planning : AllBegin file tree m w.planning.items
   pub copying : AllBegin file tree m w.copying.items
-  pub nothing : waiting w.carrier ≡ []
 
 -- What was noted at a turn, of a track of which these samples come: a piece of them, and its walk stands behind it.
 pub record HasNoted (file : List ℕ) (tree : FileTree) (t : TrackTree) (m : MovieSeen) (turn : Turn) (sequence id : ℕ) (left : List SampleAt) (before after : Writer) (n : Noted) : Type 0 where

@@ -25,7 +25,7 @@ use std::alloc::Global;
 use std::sync::ledger::Ledger;
 
 /// How many bytes are put at once: a power of two, so that each put fills whole pages, which a file system keeps together.
-const PIECE: usize = 32_768;
+const PIECE: usize = 65_536;
 
 impl Carrier {
     /// Takes the bytes of some samples along. Where the store has not as many bytes, it has changed.
