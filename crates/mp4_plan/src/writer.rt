@@ -248,7 +248,8 @@ impl Writer {
         steps: &mut Steps<L>,
     ) -> Result<Writer, Refusal>
         ensures writer { IfOk result (IsWriterOf movie.now) }
-        ensures held { IfOk result (λ w. held w ≤ length (waiting w.carrier ++ w.head.items) + 2 * (length movie.now.tracks * movie.now.longest) + 24 * length w.rows.items + MOST_WAITING) }
+        ensures held { IfOk result (λ w. held w ≡ length w.head.items + 2 * (length movie.now.tracks * movie.now.longest) + 24 * length w.rows.items + min PIECE (length (waiting w.carrier ++ w.head.items) + MOST_WAITING)) }
+        ensures bound { IfOk result (λ w. held w ≤ length (waiting w.carrier ++ w.head.items) + 2 * (length movie.now.tracks * movie.now.longest) + 24 * length w.rows.items + MOST_WAITING) }
         ensures honesty { S.is_honest store.new ≡ S.is_honest store.old }
         ensures file { S.file store.new ≡ S.file store.old }
         ensures ready { WhereOpened (S.is_honest store.old) (S.file store.old) movie.now (λ tree. IfOk result (IsReady (S.file store.old) tree movie.now)) }
