@@ -16,9 +16,8 @@ use Rattle.mp4_present.specs.Work.{moof_steps, boxes_steps, ChecksWithin}
 use Rattle.mp4_present.specs.declared.outline.Outline.{Outline}
 use Rattle.mp4_present.specs.declared.reading.TopBox.{TopBox}
 use Rattle.mp4_present.proofs.FragmentPass.{Left, left_at, left_next, next_boxes, first_passed, whole_file}
-use Rattle.mp4_present.proofs.MoofTaken.{MovedBy}
 use Rattle.mp4_present.proofs.MoofsPassed.{IsRead, read_is}
-use Rattle.mp4_present.proofs.WalkWork.{checked_within}
+use Rattle.mp4_present.proofs.WalkWork.{MovedBy, checked_within}
 
 -- so many steps were taken, and for each `moof` from a place on no more than so many times what it says are left of those for all
 abbrev pub LeftWithin : ℕ → List ℕ → ℕ → ℕ → ℕ → Type 0

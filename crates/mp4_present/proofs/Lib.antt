@@ -48,6 +48,7 @@ pub mod TrafStands
 pub mod MoofRefused
 pub mod DueBehind
 pub mod KeysExtended
+pub mod MoofSound
 pub mod MoofTaken
 pub mod SampleTotals
 pub mod Assembled

@@ -22,7 +22,7 @@ use Rattle.mp4_present.specs.OpenedMovie.{IsOpenedAs}
 use Rattle.mp4_present.specs.InHand.{left_in_hand}
 use Rattle.mp4_present.specs.Movies.{MovieSeen, InHandOf, IsWhole, Fills}
 use Rattle.mp4_present.specs.declared.in_hand.InHand.{InHand}
-use Rattle.mp4_present.specs.Passing.{AreBehind, parts_behind}
+use Rattle.mp4_present.specs.Passing.{parts_behind}
 use Rattle.mp4_present.specs.Reading.{RefusesPayload}
 use Rattle.mp4_present.specs.Coming.{track_keys, due_behind, samples_behind, StandsBefore, Comes, HoldsNext, Takes, moof_box}
 use Rattle.mp4_present.specs.declared.reading.TopBox.{TopBox}
@@ -34,7 +34,7 @@ use Rattle.mp4_present.proofs.DueBehind.{own_samples}
 
 -- ---- samples of a `moof` and of those behind it
 
-due_more : (tree : FileTree) (t : TrackTree) (earlier : List FragmentTree) (next : FragmentTree)
+pub due_more : (tree : FileTree) (t : TrackTree) (earlier : List FragmentTree) (next : FragmentTree)
     → due_behind tree t (earlier ++ next ∷ []) ≡ due_behind tree t earlier + duration_of (fragment_samples (track_head_of t).id (parts_behind tree.movie (next ∷ [])))
 due_more tree t earlier next =
     let id = (track_head_of t).id in
@@ -110,8 +110,8 @@ module _ (file : List ℕ) (m : MovieSeen) (tree : FileTree) (t : TrackTree) (ea
 
     -- the walk holds it, once it was read
     pub holds_next : (now : Walk) (bytes : List ℕ) (len : ℕ) → now.track ≡ w.track → now.moof ≡ top → now.used ≡ len → now.bytes.items ≡ bytes → length bytes ≡ length w.bytes.items → len ≤ length bytes → Fills len top
-        → take len bytes ≡ range file (top.offset + top.header.header) len → now.states.items ≡ w.states.items → now.room ≡ w.room → now.next ≡ top.header.end → HoldsNext file tree t earlier first_later.0 first_later.1 now
-    holds_next now bytes len track moof used items same within fills read states room at =
+        → take len bytes ≡ range file (top.offset + top.header.header) len → now.due ≡ w.due → now.left ≡ w.left → now.next ≡ top.header.end → HoldsNext file tree t earlier first_later.0 first_later.1 now
+    holds_next now bytes len track moof used items same within fills read due left at =
         let next = first_later.0 in
         let kind : next.moof.kind ≡ codes "moof" = ap (λ (b : Box). b.kind) first_later.3 ∙ n.5 in
         let long : length (take len bytes) ≡ len = omega (arith, length-take len bytes, within) in
@@ -132,14 +132,12 @@ module _ (file : List ℕ) (m : MovieSeen) (tree : FileTree) (t : TrackTree) (ea
           place = omega (arith, at, own, big, offset, place, header, sizes-append h.passed n.0);
           moofs_passed = h.moofs_passed ∙ sym (append-nil (of_kind (codes "moof") h.passed)) ∙ ap (λ (bs : List Box). of_kind (codes "moof") h.passed ++ bs) (sym n.3) ∙ sym (of_kind-append (codes "moof") h.passed n.0);
           moofs_left = others;
-          behind = subst (λ (k : ℕ). AreBehind file tree.movie earlier now.states.items k) (sym room) (subst (λ ss. AreBehind file tree.movie earlier ss w.room) (sym states) (h.behind (λ none. some first_later.0 first_later.1 (sym first_later.2 ∙ none))));
+          due = due ∙ h.due;
+          left = left ∙ h.left ∙ ap (λ fs. length (samples_behind tree t earlier fs)) first_later.2;
           room = ap (λ xs. length xs) items ∙ same ∙ h.room;
           is_moof = kind;
           bytes = box ∙ sym first_later.3;
         }
-      where
-        some : (f : FragmentTree) (fs : List FragmentTree) → ◌≡◌ {A = List FragmentTree} (f ∷ fs) [] → ⊥
-        some f fs e = cc
 
 -- ---- the loop
 
@@ -198,3 +196,24 @@ later_is tree t samples earlier later next more e f = f ∙ ap (samples_behind t
 pub ends_idle : (file : List ℕ) (tree : FileTree) (t : TrackTree) (m : MovieSeen) (earlier later : List FragmentTree) (hand : InHand) (w : Walk) → later ≡ [] → StandsBefore file tree t earlier later w → InHandOf m w hand → left_in_hand hand ≡ []
     → Comes file tree t m w []
 ends_idle file tree t m earlier later hand w none h i z = (earlier, later, hand, (h, i, sym (ap (λ ss. ss ++ samples_behind tree t earlier later) z ∙ ap (samples_behind tree t earlier) none)))
+
+-- where no sample is left, none comes
+pub no_samples : (file : List ℕ) (tree : FileTree) (t : TrackTree) (earlier later : List FragmentTree) (w : Walk) → StandsBefore file tree t earlier later w → w.left ≡ 0 → samples_behind tree t earlier later ≡ []
+no_samples file tree t earlier later w h none = empty (samples_behind tree t earlier later) (sym h.left ∙ none)
+  where
+    empty : (ss : List SampleAt) → length ss ≡ 0 → ss ≡ []
+    empty [] e = refl
+    empty (s ∷ ss) e = absurd cc
+
+-- where some are left, a `moof` is
+pub some_left : (file : List ℕ) (tree : FileTree) (t : TrackTree) (earlier later : List FragmentTree) (w : Walk) → StandsBefore file tree t earlier later w → later ≡ [] → w.left ≡ 0
+some_left file tree t earlier later w h none = h.left ∙ ap (λ fs. length (samples_behind tree t earlier fs)) none
+
+-- nothing is left in hand, and no sample behind it
+pub ends_empty : (file : List ℕ) (tree : FileTree) (t : TrackTree) (m : MovieSeen) (earlier later : List FragmentTree) (hand : InHand) (w : Walk) → samples_behind tree t earlier later ≡ [] → StandsBefore file tree t earlier later w → InHandOf m w hand
+    → left_in_hand hand ≡ [] → Comes file tree t m w []
+ends_empty file tree t m earlier later hand w none h i z = (earlier, later, hand, (h, i, sym (ap (λ ss. ss ++ samples_behind tree t earlier later) z ∙ none)))
+
+-- a walk that went on past some `moof`s has as many samples left as where it began
+pub left_stays : (file : List ℕ) (tree : FileTree) (t : TrackTree) (earlier later : List FragmentTree) (begun w : Walk) → StandsBefore file tree t earlier later begun → (u : Going file tree t (samples_behind tree t earlier later) w) → w.left ≡ begun.left
+left_stays file tree t earlier later begun w h u = u.2.0.left ∙ ap (λ (ss : List SampleAt). length ss) (sym u.2.1) ∙ sym h.left

@@ -1,5 +1,5 @@
--- The next `moof` of a walk, checked again: it is not refused, and its samples of the track are in hand.
-use Rattle.std.proofs.Common.{◌≡◌, ℕ, zero, suc, ◌+◌, ◌^◌, ◌<◌, ◌≤◌, Bool, true, false, cond, List, [], ◌∷◌, ◌++◌, Option, Some, None, length, map, pos, refl, sym, ap, subst, ◌∙◌, arith, append_assoc, slice_get, slice_index_or}
+-- The next `moof` of a walk: its samples of the track are in hand.
+use Rattle.std.proofs.Common.{rules, ◌≡◌, ℕ, zero, suc, ◌+◌, ◌-◌, ◌^◌, ◌<◌, ◌≤◌, min, nat_lt, length-append, Bool, true, false, cond, List, [], ◌∷◌, ◌++◌, Option, Some, None, length, map, pos, refl, sym, ap, subst, ◌∙◌, arith, append_assoc, slice_get, slice_index_or}
 use Rattle.std.specs.Prelude.{codes, bytes_eq, is_some, ◌==◌, find, flat_map, option_map, unwrap_or}
 use Rattle.std.specs.List.{AllByRecursion, AllZip}
 use Rattle.std.proofs.lemmas.List.{map-append}
@@ -29,12 +29,12 @@ use Rattle.mp4_frag.proofs.Trees.{fragment_tree_one}
 use Rattle.mp4_head.specs.Tree.{TrackTree, track_head_of, trexes_of}
 use Rattle.mp4_head.proofs.Above.{lies_front}
 use Rattle.mp4_present.specs.Presentation.{IsInTime, total_duration, max_time}
-use Rattle.mp4_present.specs.Denotes.{FileTree, Denotes, begins_with_movie, plain_of, file_parts, parts_of_track, placed_of, sample_of, track_of, presentation_of}
+use Rattle.mp4_present.specs.Denotes.{FileTree, plain_of, file_parts, first_due, parts_of_track, placed_of, sample_of, track_of, presentation_of}
 use Rattle.mp4_present.specs.Passing.{AreBehind, IsMovieOf, IsNextMoof, parts_behind, seen_behind}
 use Rattle.mp4_present.specs.Stands.{Stands, StandsBy, Reason, header, child, missing, leaf, tables, fragment, count, limit, order}
 use Rattle.mp4_present.specs.OpenedMovie.{IsOpenedAs, IsInfoOf, plain_seen}
 use Rattle.mp4_present.specs.Movies.{MovieSeen}
-use Rattle.mp4_present.specs.Coming.{track_keys, due_behind, samples_behind, StandsBefore, HoldsNext, moof_box, due_of}
+use Rattle.mp4_present.specs.Coming.{track_keys, due_behind, samples_behind, StandsBefore, HoldsNext, moof_box}
 use Rattle.mp4_present.specs.declared.track_info.TrackInfo.{TrackInfo}
 use Rattle.mp4_present.specs.declared.walks.Walk.{Walk}
 use Rattle.mp4_present.proofs.BoxReasons.{header_refuses, child_refuses, missing_stands_refuses}
@@ -47,31 +47,14 @@ use Rattle.mp4_present.proofs.Order.{order_refuses}
 use Rattle.mp4_present.proofs.MoofsPassed.{moov_before}
 use Rattle.mp4_present.proofs.MoofBehind.{passes_moof, trexes_behind}
 use Rattle.mp4_present.proofs.MoofRefused.{refuses_moof}
-use Rattle.mp4_present.proofs.DueBehind.{own_samples, one_moof, due_now}
+use Rattle.mp4_present.proofs.DueBehind.{own_samples, one_moof}
+use Rattle.mp4_present.proofs.MoofLoaded.{behind_split, due_more}
+use Rattle.mp4_present.proofs.MoofSound.{moof_sound, kept_trexes}
+use Rattle.mp4_present.proofs.TablesKept.{timed_lasts}
+use Rattle.mp4_boxes.specs.Bytes.{sum_of}
 use Rattle.mp4_present.proofs.KeysExtended.{distinct_keys}
 use Rattle.mp4_present.proofs.JoinedSamples.{none_is}
 use Rattle.mp4_present.proofs.WalkPlaces.{of_got}
-
--- ---- what an opened file denotes
-
--- what it denotes
-pub denoted : (file : List ℕ) (m : MovieSeen) (tree : FileTree) → IsOpenedAs file m tree → Denotes file (presentation_of file tree)
-denoted file m tree o = record { tree = tree; is_tree = o.is_tree; is_sound = o.is_sound; is_consistent = o.is_consistent; says = refl; limits = o.limits }
-
--- no fault stands in it
-pub no_fault : (file : List ℕ) (f : Fault) (m : MovieSeen) (tree : FileTree) → IsOpenedAs file m tree → Stands file f → ⊥
-no_fault file f m tree o s = by s.0 s.1
-  where
-    by : (reason : Reason) → StandsBy reason file f → ⊥
-    by header h = header_refuses file f (presentation_of file tree) h (denoted file m tree o)
-    by child h = child_refuses file f (presentation_of file tree) h (denoted file m tree o)
-    by missing h = missing_stands_refuses file f (presentation_of file tree) h (denoted file m tree o)
-    by leaf h = leaf_refuses file f (presentation_of file tree) h (denoted file m tree o)
-    by tables h = tables_refuse file f (presentation_of file tree) h (denoted file m tree o)
-    by fragment h = fragment_refuses file f (presentation_of file tree) h (denoted file m tree o)
-    by count h = count_refuses file f (presentation_of file tree) h (denoted file m tree o)
-    by limit h = limit_refuses file f (presentation_of file tree) h (denoted file m tree o)
-    by order h = order_refuses file f (presentation_of file tree) h (denoted file m tree o)
 
 -- ---- a track at its place
 
@@ -88,29 +71,6 @@ zipped_at R [] ys k x y h a b = absurd (cc)
 zipped_at R (v ∷ xs) [] k x y h a b = absurd h
 zipped_at R (v ∷ xs) (w ∷ ys) zero x y h a b = subst (λ c. R c y) (some_is v x a) (subst (R v) (some_is w y b) h.0)
 zipped_at R (v ∷ xs) (w ∷ ys) (suc k) x y h a b = zipped_at R xs ys k x y h.1 a b
-
--- tracks of the same IDs and defaults
-among_choice : (id : ℕ) (x y : TrackState) (xs ys : List TrackState) (v : Bool) → (x.id == id) ≡ v → x.id ≡ y.id → x.trex ≡ y.trex → trex_among xs id ≡ trex_among ys id → trex_among (x ∷ xs) id ≡ trex_among (y ∷ ys) id
-among_choice id x y xs ys true e i d next =
-    ap (λ w. unwrap_or (option_map (λ (t : TrackState). t.trex) (cond w (Some x) (find (λ (t : TrackState). t.id == id) xs))) None) e ∙ d
-    ∙ sym (ap (λ w. unwrap_or (option_map (λ (t : TrackState). t.trex) (cond w (Some y) (find (λ (t : TrackState). t.id == id) ys))) None) (ap (λ n. n == id) (sym i) ∙ e))
-among_choice id x y xs ys false e i d next =
-    ap (λ w. unwrap_or (option_map (λ (t : TrackState). t.trex) (cond w (Some x) (find (λ (t : TrackState). t.id == id) xs))) None) e ∙ next
-    ∙ sym (ap (λ w. unwrap_or (option_map (λ (t : TrackState). t.trex) (cond w (Some y) (find (λ (t : TrackState). t.id == id) ys))) None) (ap (λ n. n == id) (sym i) ∙ e))
-
-among_same : {A : Type 0} (id : ℕ) (xs ys : List TrackState) (tracks : List A) (f g : A → TrackSeen) → ((t : A) → (f t).id ≡ (g t).id) → ((t : A) → (f t).trex ≡ (g t).trex)
-    → map track_seen xs ≡ map f tracks → map track_seen ys ≡ map g tracks → trex_among xs id ≡ trex_among ys id
-among_same id [] [] tracks f g i d a b = refl
-among_same id [] (y ∷ ys) [] f g i d a b = absurd (cc)
-among_same id [] (y ∷ ys) (t ∷ tracks) f g i d a b = absurd (cc)
-among_same id (x ∷ xs) [] [] f g i d a b = absurd (cc)
-among_same id (x ∷ xs) [] (t ∷ tracks) f g i d a b = absurd (cc)
-among_same id (x ∷ xs) (y ∷ ys) [] f g i d a b = absurd (cc)
-among_same id (x ∷ xs) (y ∷ ys) (t ∷ tracks) f g i d a b =
-    let one = head_is (track_seen x) (f t) (map track_seen xs) (map f tracks) a in
-    let other = head_is (track_seen y) (g t) (map track_seen ys) (map g tracks) b in
-    among_choice id x y xs ys (x.id == id) refl (ap (λ (s : TrackSeen). s.id) one ∙ i t ∙ sym (ap (λ (s : TrackSeen). s.id) other)) (ap (λ (s : TrackSeen). s.trex) one ∙ d t ∙ sym (ap (λ (s : TrackSeen). s.trex) other))
-    (among_same id xs ys tracks f g i d (tail_is (track_seen x) (f t) (map track_seen xs) (map f tracks) a) (tail_is (track_seen y) (g t) (map track_seen ys) (map g tracks) b))
 
 -- ---- times
 
@@ -140,9 +100,14 @@ module _ (file : List ℕ) (m : MovieSeen) (tree : FileTree) (t : TrackTree) (ea
       ∙ ap (λ n. duration_of (plain_of t) + n) (duration-append (own earlier) (own (next ∷ []) ++ own later) ∙ ap (λ n. duration_of (own earlier) + n) (duration-append (own (next ∷ [])) (own later))) in
       sums (start_of (plain_of t) (parts_of_track (file_parts tree) t)) _ _ _ _ max_time (subst (λ n. start_of (plain_of t) (parts_of_track (file_parts tree) t) + n ≤ max_time) total ends)
 
-mapped_length : {A B : Type 0} (f : A → B) (xs : List A) → length (map f xs) ≡ length xs
-mapped_length f [] = refl
-mapped_length f (x ∷ xs) = ap suc (mapped_length f xs)
+module _ (file : List ℕ) (m : MovieSeen) (tree : FileTree) (t : TrackTree) (o : IsOpenedAs file m tree) (k : ℕ) (at : slice_get tree.movie.tracks k ≡ Some t) where
+  -- the samples of the tables end in time
+  pub tables_in_time : first_due (file_parts tree) t ≤ max_time
+  tables_in_time =
+      let ends = (of_got (λ track. IsInTime (presentation_of file tree).movie.timescale track) (presentation_of file tree).tracks k (track_of file (file_parts tree) t)
+      (slice_get-map (track_of file (file_parts tree)) tree.movie.tracks k ∙ ap (option_map (track_of file (file_parts tree))) at) o.limits.times).0 in
+      let total = lasts_mapped file (placed_of (file_parts tree) t) ∙ duration-append (plain_of t) (fragment_samples (track_head_of t).id (file_parts tree)) in
+      omega (arith, ends, total)
 
 -- an element as it was read
 pub at_place : {A : Type 0} (xs : List A) (k : ℕ) (x : A) → k < length xs → x ≡ slice_index_or xs k x → slice_get xs k ≡ Some x
@@ -157,166 +122,81 @@ hit_choice kind b true e h = rw e refl
 hit_choice kind b false e h = absurd cc
 
 module _ (file : List ℕ) (m : MovieSeen) (tree : FileTree) (t : TrackTree) (earlier : List FragmentTree) (next : FragmentTree) (later : List FragmentTree) (w : Walk) (o : IsOpenedAs file m tree) (h : HoldsNext file tree t earlier next later w) where
-  movie_is : IsMovieOf file tree.movie
-  movie_is = record { tree = o.is_tree.movie; sound = o.is_sound.movie; tables_sound = o.is_sound.tables; tables_fit = o.is_consistent.tables }
-
   joined : tree.top ≡ (h.passed ++ next.moof ∷ []) ++ h.boxes
   joined = h.top ∙ sym (append_assoc h.passed (next.moof ∷ []) h.boxes)
 
-  is_next : IsNextMoof file tree.movie earlier h.passed next.moof
-  is_next = record {
-    stands = (lies_front true 0 file (h.passed ++ next.moof ∷ []) h.boxes (subst (λ (bs : List Box). LieEndToEnd true 0 file bs) joined o.is_tree.top.tiles.front.0), tt);
-    is_moof = h.is_moof;
-    is_moov = moov_before h.passed h.boxes next.moof tree.movie.moov h.is_moof (subst (λ (bs : List Box). begins_with_movie bs ≡ true) h.top o.is_tree.order) (subst (λ (bs : List Box). of_kind (codes "moov") bs ≡ tree.movie.moov ∷ []) h.top o.is_tree.moov);
-    earlier_moofs = h.moofs_passed;
-  }
+  abbrev mine : List PlacedSample
+  mine = fragment_samples (track_head_of t).id (parts_behind tree.movie (next ∷ []))
 
-  -- it is not refused
-  pub not_refused : (f : Fault) → MoofFails m.file_len w.states.items w.room (moof_box w) f → ⊥
-  not_refused f fails =
-      no_fault file f m tree o (refuses_moof file tree.movie earlier h.passed next.moof w.states.items w.room f movie_is h.behind is_next
-      (subst (λ (n : ℕ). MoofFails n w.states.items w.room next.moof f) o.whole (subst (λ (b : Box). MoofFails m.file_len w.states.items w.room b f) h.bytes fails)))
+  -- its samples, and those of the `moof`s behind it
+  both : length (samples_behind tree t earlier (next ∷ later)) ≡ length (samples_behind tree t earlier (next ∷ [])) + length (samples_behind tree t (earlier ++ next ∷ []) later)
+  both = ap (λ (ss : List SampleAt). length ss) (behind_split tree t earlier next later) ∙ length-append (samples_behind tree t earlier (next ∷ [])) (samples_behind tree t (earlier ++ next ∷ []) later)
 
-  next_tree : IsFragmentTree next
-  next_tree = all_at IsFragmentTree earlier later next (subst (λ (fs : List FragmentTree). AllByRecursion IsFragmentTree fs) h.split o.is_tree.fragments)
+  -- no more than are left
+  pub few : length (samples_behind tree t earlier (next ∷ [])) ≤ w.left
+  few = let left = h.left in let all = both in omega (arith, left, all)
 
-  trexes : List Trex
-  trexes = trexes_of tree.movie
+  lasts : sum_of (λ (s : SampleAt). s.duration) (samples_behind tree t earlier (next ∷ [])) ≡ duration_of mine
+  lasts = timed_lasts (track_keys tree t) (due_behind tree t earlier) mine
 
-  module _ (view : Box) (new : List TrackState) (less : ℕ) (is_view : view ≡ moof_box w) (sound_by : (ts : List Trex) → AreTrexesOf ts w.states.items → IsSoundMoof m.file_len ts w.states.items (tree_of view))
-      (moved : AreMovedOn view.offset (pos view.offset) (of_kind (codes "traf") (children_of view)) w.states.items new w.room less) where
-    same_view : view ≡ next.moof
-    same_view = is_view ∙ h.bytes
+  -- the walk stands behind it
+  pub stands_behind : (now : Walk) → now.track ≡ w.track → now.next ≡ w.next → length now.bytes.items ≡ length w.bytes.items
+      → now.due ≡ min (w.due + min (sum_of (λ (s : SampleAt). s.duration) (samples_behind tree t earlier (next ∷ []))) (2 ^ 64 - 1)) (2 ^ 64 - 1)
+      → now.left ≡ w.left - length (samples_behind tree t earlier (next ∷ [])) → StandsBefore file tree t (earlier ++ next ∷ []) later now
+  stands_behind now track at bytes due left =
+      let one : sizes (next.moof ∷ []) ≡ size next.moof = omega (arith, sizes-cons next.moof []) in
+      let place = h.place in
+      let ends = in_time file m tree t earlier next later o w.track h.is_track h.split in
+      let behind = due_more tree t earlier next in
+      let before = h.due in
+      let lasting = lasts in
+      let all = both in
+      let had = h.left in
+      record {
+        is_track = subst (λ (k : ℕ). slice_get tree.movie.tracks k ≡ Some t) (sym track) h.is_track;
+        split = h.split ∙ sym (append_assoc earlier (next ∷ []) later);
+        passed = h.passed ++ next.moof ∷ [];
+        boxes = h.boxes;
+        top = joined;
+        place = omega (arith, sizes-append h.passed (next.moof ∷ []), one, place, at);
+        moofs_passed = map-append (λ (f : FragmentTree). f.moof) earlier (next ∷ []) ∙ ap (λ (bs : List Box). bs ++ next.moof ∷ []) h.moofs_passed
+            ∙ ap (λ (bs : List Box). of_kind (codes "moof") h.passed ++ bs) (sym (hit_choice (codes "moof") next.moof (bytes_eq (codes "moof") next.moof.kind) refl (rw h.is_moof refl))) ∙ sym (of_kind-append (codes "moof") h.passed (next.moof ∷ []));
+        moofs_left = h.moofs_left;
+        due = due_is _ _ _ _ _ (due_behind tree t earlier) due before lasting behind ends;
+        left = omega (arith, left, all, had);
+        room = bytes ∙ h.room;
+      }
+    where
+      due_is : (now was sum own next due : ℕ) → now ≡ min (was + min sum (2 ^ 64 - 1)) (2 ^ 64 - 1) → was ≡ due → sum ≡ own → next ≡ due + own → due + own ≤ max_time → now ≡ next
+      due_is now was sum own next due a b c d e = omega arith
 
-    sound_first : IsSoundMoof m.file_len (trexes_of tree.movie) w.states.items (tree_of next.moof)
-    sound_first = subst (λ (b : Box). IsSoundMoof m.file_len (trexes_of tree.movie) w.states.items (tree_of b)) same_view (sound_by (trexes_of tree.movie) (trexes_behind file tree.movie earlier w.states.items w.room h.behind))
+  module _ (info : TrackInfo) (info_at : slice_get m.tracks w.track ≡ Some info) where
+    info_is : IsInfoOf file tree t info
+    info_is = zipped_at (IsInfoOf file tree) tree.movie.tracks m.tracks w.track t info o.tracks h.is_track info_at
 
-    tree_is : tree_of next.moof ≡ next
-    tree_is = fragment_tree_one (tree_of next.moof) next refl sound_first.tree next_tree
+    mine_is : samples_of_track (trexes_of tree.movie) info.id next ≡ mine
+    mine_is = ap (λ n. samples_of_track (trexes_of tree.movie) n next) info_is.id ∙ sym (one_moof (track_head_of t).id tree.movie next)
 
-    pub sound : IsSoundMoof m.file_len (trexes_of tree.movie) w.states.items next
-    sound = subst (λ (f : FragmentTree). IsSoundMoof m.file_len (trexes_of tree.movie) w.states.items f) tree_is sound_first
+    ends_small : w.due + duration_of mine < 2 ^ 64
+    ends_small =
+        let due = h.due in
+        let ends = in_time file m tree t earlier next later o w.track h.is_track h.split in
+        omega (arith, due, ends)
 
-    pub behind : AreBehind file tree.movie (earlier ++ next ∷ []) new less
-    behind =
-        let on = subst (λ (b : Box). AreMovedOn b.offset (pos b.offset) (of_kind (codes "traf") (children_of b)) w.states.items new w.room less) same_view moved in
-        let s = subst (λ (n : ℕ). IsSoundMoof n (trexes_of tree.movie) w.states.items (tree_of next.moof)) o.whole sound_first in
-        subst (λ (f : FragmentTree). AreBehind file tree.movie (earlier ++ f ∷ []) new less) tree_is (passes_moof file tree.movie earlier next.moof w.states.items new w.room less movie_is h.behind s on)
-
-    -- as many tracks as before
-    pub as_many : length new ≡ length w.states.items
-    as_many =
-        let after = ap (λ xs. length xs) behind.seen in
-        let before = ap (λ xs. length xs) h.behind.seen in
-        sym (mapped_length track_seen new) ∙ after ∙ mapped_length (seen_behind tree.movie (parts_behind tree.movie (earlier ++ next ∷ []))) tree.movie.tracks
-        ∙ sym (mapped_length (seen_behind tree.movie (parts_behind tree.movie earlier)) tree.movie.tracks) ∙ sym before ∙ mapped_length track_seen w.states.items
-
-    -- the walk stands behind it
-    pub stands_behind : (now : Walk) → now.track ≡ w.track → now.next ≡ w.next → now.states.items ≡ new → now.room ≡ less → length now.bytes.items ≡ length w.bytes.items → StandsBefore file tree t (earlier ++ next ∷ []) later now
-    stands_behind now track at states room bytes =
-        let one : sizes (next.moof ∷ []) ≡ size next.moof = omega (arith, sizes-cons next.moof []) in
-        let place = h.place in
-        record {
-          is_track = subst (λ (k : ℕ). slice_get tree.movie.tracks k ≡ Some t) (sym track) h.is_track;
-          split = h.split ∙ sym (append_assoc earlier (next ∷ []) later);
-          passed = h.passed ++ next.moof ∷ [];
-          boxes = h.boxes;
-          top = joined;
-          place = omega (arith, sizes-append h.passed (next.moof ∷ []), one, place, at);
-          moofs_passed = map-append (λ (f : FragmentTree). f.moof) earlier (next ∷ []) ∙ ap (λ (bs : List Box). bs ++ next.moof ∷ []) h.moofs_passed
-              ∙ ap (λ (bs : List Box). of_kind (codes "moof") h.passed ++ bs) (sym (hit_choice (codes "moof") next.moof (bytes_eq (codes "moof") next.moof.kind) refl (rw h.is_moof refl))) ∙ sym (of_kind-append (codes "moof") h.passed (next.moof ∷ []));
-          moofs_left = h.moofs_left;
-          behind = λ some. subst (λ (n : ℕ). AreBehind file tree.movie (earlier ++ next ∷ []) now.states.items n) (sym room) (subst (λ (ss : List TrackState). AreBehind file tree.movie (earlier ++ next ∷ []) ss less) (sym states) behind);
-          room = bytes ∙ h.room;
-        }
-
-    -- so can its samples be handed out by the states that the movie keeps
-    kept_sound : IsSoundMoof m.file_len (trexes_of tree.movie) m.states next
-    kept_sound = sound_alike m.file_len (trexes_of tree.movie) w.states.items m.states next
-        (λ id. among_same id m.states w.states.items tree.movie.tracks (plain_seen (trexes_of tree.movie)) (seen_behind tree.movie (parts_behind tree.movie earlier)) (λ u. refl) (λ u. refl) o.states h.behind.seen) sound
-
-    kept_trexes : (ss : List TrackState) (tracks : List TrackTree) → map track_seen ss ≡ map (plain_seen (trexes_of tree.movie)) tracks → AreTrexesOf (trexes_of tree.movie) ss
-    kept_trexes [] tracks e = tt
-    kept_trexes (s ∷ ss) [] e = absurd cc
-    kept_trexes (s ∷ ss) (u ∷ tracks) e =
-        let same = head_is (track_seen s) (plain_seen (trexes_of tree.movie) u) (map track_seen ss) (map (plain_seen (trexes_of tree.movie)) tracks) e in (
-          ap (λ (x : TrackSeen). x.trex) same ∙ ap (λ n. trex_for (trexes_of tree.movie) n) (sym (ap (λ (x : TrackSeen). x.id) same)),
-          kept_trexes ss tracks (tail_is (track_seen s) (plain_seen (trexes_of tree.movie) u) (map track_seen ss) (map (plain_seen (trexes_of tree.movie)) tracks) e),
-        )
-
-    module _ (before after : TrackState) (info : TrackInfo) (due : ℕ) (before_at : slice_get w.states.items w.track ≡ Some before) (after_at : slice_get new w.track ≡ Some after) (info_at : slice_get m.tracks w.track ≡ Some info)
-        (due_is : due ≡ due_of (track_seen before) (track_seen after)) (small : due < 2 ^ 64) where
-      before_is : track_seen before ≡ seen_behind tree.movie (parts_behind tree.movie earlier) t
-      before_is = seen_at (seen_behind tree.movie (parts_behind tree.movie earlier)) w.states.items tree.movie.tracks w.track before t h.behind.seen before_at h.is_track
-
-      after_is : track_seen after ≡ seen_behind tree.movie (parts_behind tree.movie (earlier ++ next ∷ [])) t
-      after_is = seen_at (seen_behind tree.movie (parts_behind tree.movie (earlier ++ next ∷ []))) new tree.movie.tracks w.track after t behind.seen after_at h.is_track
-
-      due_seen : due ≡ due_of (seen_behind tree.movie (parts_behind tree.movie earlier) t) (seen_behind tree.movie (parts_behind tree.movie (earlier ++ next ∷ [])) t)
-      due_seen = due_is ∙ ap (λ (s : TrackSeen). due_of s (track_seen after)) before_is ∙ ap (due_of (seen_behind tree.movie (parts_behind tree.movie earlier) t)) after_is
-
-      id_is : after.id ≡ (track_head_of t).id
-      id_is = ap (λ (s : TrackSeen). s.id) after_is
-
-      abbrev mine : List PlacedSample
-      mine = fragment_samples (track_head_of t).id (parts_behind tree.movie (next ∷ []))
-
-      mine_is : samples_of_track (trexes_of tree.movie) after.id next ≡ mine
-      mine_is = ap (λ n. samples_of_track (trexes_of tree.movie) n next) id_is ∙ sym (one_moof (track_head_of t).id tree.movie next)
-
-      keys_are : keys_seen info.keys ≡ track_keys tree t
-      keys_are = (zipped_at (IsInfoOf file tree) tree.movie.tracks m.tracks w.track t info o.tracks h.is_track info_at).keys
-
-      due_small : due_behind tree t earlier < 2 ^ 64
-      due_small = let e = in_time file m tree t earlier next later o w.track h.is_track h.split in omega (arith, e)
-
-      -- what is due, where there are samples
-      due_right : (ss : List PlacedSample) → ss ≡ mine → timed (track_keys tree t) due ss ≡ timed (track_keys tree t) (due_behind tree t earlier) ss
-      due_right [] e = refl
-      due_right (s ∷ ss) e =
-          let some = ap (λ xs. length xs) e in
-          ap (λ n. timed (track_keys tree t) n (s ∷ ss)) (due_seen ∙ due_now tree t earlier next later h.split (length (plain_of t ++ fragment_samples (track_head_of t).id (parts_behind tree.movie earlier))) refl (omega (arith, some)) due_small)
-
-      ends_small : (ss : List PlacedSample) → ss ≡ mine → due + duration_of ss < 2 ^ 64
-      ends_small [] e = omega (arith, small)
-      ends_small (s ∷ ss) e =
-          let some = ap (λ xs. length xs) e in
-          let same = due_seen ∙ due_now tree t earlier next later h.split (length (plain_of t ++ fragment_samples (track_head_of t).id (parts_behind tree.movie earlier))) refl (omega (arith, some)) due_small in
-          let total = ap duration_of e in
-          let ends = in_time file m tree t earlier next later o w.track h.is_track h.split in
-          omega (arith, same, total, ends)
-
-      -- the samples that the cursor hands out are those that are due
-      pub taken : (coming : List SampleAt)
-          → ((L : ℕ) (ts : List Trex) (f : FragmentTree) → f.moof ≡ view → IsSoundMoof L ts m.states f → AreTrexesOf ts m.states → AreDistinct (keys_seen info.keys) → due + duration_of (samples_of_track ts after.id f) < 2 ^ 64
-          → coming ≡ timed (keys_seen info.keys) due (samples_of_track ts after.id f))
-          → coming ≡ samples_behind tree t earlier (next ∷ [])
-      taken coming by =
-          let distinct : AreDistinct (keys_seen info.keys) = subst AreDistinct (sym keys_are) (distinct_keys (tables_of t.table).groups (flat_map (λ (part : Part). part.groups) (parts_of_track (file_parts tree) t))) in
-          let ends = subst (λ (ss : List PlacedSample). due + duration_of ss < 2 ^ 64) (sym mine_is) (ends_small mine refl) in
-          by m.file_len (trexes_of tree.movie) next (sym same_view) kept_sound (kept_trexes m.states tree.movie.tracks o.states) distinct ends
-          ∙ ap (λ ss. timed (keys_seen info.keys) due ss) mine_is ∙ ap (λ ks. timed ks due mine) keys_are ∙ due_right mine refl
-
--- ---- the same of what is equal to it
-
-pub fails_like : (L M : ℕ) (old now : List TrackState) (room : ℕ) (view box : Box) (f : Fault) → L ≡ M → old ≡ now → view ≡ box → MoofFails L old room view f → MoofFails M now room box f
-fails_like L M old now room view box f a b c h = subst (λ (n : ℕ). MoofFails n now room box f) a (subst (λ (ss : List TrackState). MoofFails L ss room box f) b (subst (λ (x : Box). MoofFails L old room x f) c h))
-
-abbrev pub SoundBy : ℕ → List TrackState → Box → Type 0
-SoundBy L states view = (ts : List Trex) → AreTrexesOf ts states → IsSoundMoof L ts states (tree_of view)
-
-pub sound_like : (L M : ℕ) (old now : List TrackState) (view box : Box) → L ≡ M → old ≡ now → view ≡ box → SoundBy L old view → SoundBy M now box
-sound_like L M old now view box a b c h = subst (λ (n : ℕ). SoundBy n now box) a (subst (λ (ss : List TrackState). SoundBy L ss box) b (subst (λ (x : Box). SoundBy L old x) c h))
-
-abbrev pub MovedBy : Box → List TrackState → List TrackState → ℕ → ℕ → Type 0
-MovedBy view old new room less = AreMovedOn view.offset (pos view.offset) (of_kind (codes "traf") (children_of view)) old new room less
-
-pub moved_like : (old now new : List TrackState) (room less : ℕ) (view box : Box) → old ≡ now → view ≡ box → MovedBy view old new room less → MovedBy box now new room less
-moved_like old now new room less view box b c h = subst (λ (ss : List TrackState). MovedBy box ss new room less) b (subst (λ (x : Box). MovedBy x old new room less) c h)
+    -- the samples that the cursor hands out are those that are due
+    pub taken : m.file_len < 2 ^ 64 → (view : Box) → view ≡ moof_box w → (coming : List SampleAt)
+        → ((L : ℕ) (ts : List Trex) (f : FragmentTree) → f.moof ≡ view → IsSoundMoof L ts m.states f → AreTrexesOf ts m.states → AreDistinct (keys_seen info.keys) → w.due + duration_of (samples_of_track ts info.id f) < 2 ^ 64
+        → coming ≡ timed (keys_seen info.keys) w.due (samples_of_track ts info.id f))
+        → coming ≡ samples_behind tree t earlier (next ∷ [])
+    taken short view seen coming by =
+        let distinct : AreDistinct (keys_seen info.keys) = subst AreDistinct (sym info_is.keys) (distinct_keys (tables_of t.table).groups (flat_map (λ (part : Part). part.groups) (parts_of_track (file_parts tree) t))) in
+        let ends = subst (λ (ss : List PlacedSample). w.due + duration_of ss < 2 ^ 64) (sym mine_is) ends_small in
+        by m.file_len (trexes_of tree.movie) next (sym (seen ∙ h.bytes)) (moof_sound file m tree earlier next later o h.split short) (kept_trexes (trexes_of tree.movie) m.states tree.movie.tracks o.states) distinct ends
+        ∙ ap (λ ss. timed (keys_seen info.keys) w.due ss) mine_is ∙ ap (λ ks. timed ks w.due mine) info_is.keys ∙ ap (λ n. timed (track_keys tree t) n mine) h.due
 
 -- ---- what is in hand then
 
--- nothing, where there is no first one
-pub none_left : (xs : List SampleAt) (o : Option SampleAt) (v : Bool) → v ≡ is_some o → o ≡ slice_get xs 0 → v ≡ false → xs ≡ []
-none_left xs None v e f h = none_is xs f
-none_left xs (Some s) v e f h = let g : true ≡ false = sym e ∙ h in absurd cc
+-- nothing, where none is counted
+pub none_left : (xs : List SampleAt) (n : ℕ) → n ≡ length xs → nat_lt 0 n ≡ false → xs ≡ []
+none_left [] n e h = refl
+none_left (x ∷ xs) n e h = let lt : 0 < n = omega (arith, e) in absurd (search rules)

@@ -1,7 +1,8 @@
 -- A walk that begins: the samples of the tables are in hand, and those of all `moof`s come behind them.
-use Rattle.std.proofs.Common.{◌≡◌, ℕ, ◌+◌, List, [], ◌∷◌, ◌++◌, Option, Some, None, length, drop, map, refl, sym, ap, subst, ◌∙◌, arith, slice_get}
+use Rattle.std.proofs.Common.{◌≡◌, ℕ, ◌+◌, ◌-◌, ◌^◌, min, length-append, List, [], ◌∷◌, ◌++◌, Option, Some, None, length, drop, map, refl, sym, ap, subst, ◌∙◌, arith, slice_get}
 use Rattle.std.specs.Prelude.{codes, flat_map, ℤ, unwrap_or}
 use Rattle.std.proofs.lemmas.List.{append-nil}
+use Rattle.std.proofs.lemmas.List.{length-map}
 use Rattle.mp4_boxes.specs.Box.{Box}
 use Rattle.mp4_boxes.specs.Children.{of_kind}
 use Rattle.mp4_boxes.proofs.Among.{of_kind-append}
@@ -14,25 +15,27 @@ use Rattle.mp4_tables.specs.Views.{TablesSeen, CursorSeen, samples_from}
 use Rattle.mp4_tables.specs.Views as views
 use Rattle.mp4_frag.specs.Fragments.{FragmentTree}
 use Rattle.mp4_frag.specs.FragmentSamples.{Part, start_of, duration_of, fragment_samples}
-use Rattle.mp4_frag.specs.Judged.{track_seen}
+use Rattle.mp4_frag.specs.Judged.{TrackSeen, track_seen}
 use Rattle.mp4_frag.specs.declared.state.TrackState.{TrackState}
 use Rattle.mp4_frag.proofs.RunsTied.{timed-append}
-use Rattle.mp4_head.specs.Tree.{TrackTree, track_head_of}
-use Rattle.mp4_present.specs.Denotes.{FileTree, plain_of, plain_keys, file_parts, parts_of_track}
+use Rattle.mp4_head.specs.Tree.{TrackTree, track_head_of, trexes_of}
+use Rattle.mp4_present.specs.Denotes.{FileTree, plain_of, plain_keys, file_parts, parts_of_track, placed_of, sample_of}
 use Rattle.mp4_present.specs.Presentation.{max_samples}
 use Rattle.mp4_present.specs.Stands.{table_total}
 use Rattle.mp4_present.specs.Outline.{BeginAt}
-use Rattle.mp4_present.specs.OpenedMovie.{IsOpenedAs, AreTablesOf}
-use Rattle.mp4_present.specs.Movies.{MovieSeen, StatesFor, table_bytes, tables_seen}
+use Rattle.mp4_present.specs.OpenedMovie.{IsOpenedAs, IsInfoOf, AreTablesOf, plain_seen}
+use Rattle.mp4_present.specs.Movies.{MovieSeen, table_bytes, tables_seen}
 use Rattle.mp4_present.specs.Passing.{AreBehind, parts_behind}
-use Rattle.mp4_present.specs.Coming.{track_keys, track_samples, samples_behind, StandsBefore}
+use Rattle.mp4_present.specs.Coming.{track_keys, track_samples, due_behind, samples_behind, StandsBefore}
+use Rattle.mp4_present.specs.declared.track_info.TrackInfo.{TrackInfo}
 use Rattle.mp4_present.specs.declared.movie.TrackTables.{TrackTables}
 use Rattle.mp4_present.specs.declared.walks.Walk.{Walk}
 use Rattle.mp4_present.proofs.Assembled.{all_same}
 use Rattle.mp4_present.proofs.FragmentPass.{whole_file}
 use Rattle.mp4_present.proofs.KeysExtended.{HaveNone, grouped_within, timed_with}
 use Rattle.mp4_present.proofs.MoofBehind.{begins_behind}
-use Rattle.mp4_present.proofs.MoofTaken.{zipped_at}
+use Rattle.mp4_present.proofs.MoofTaken.{zipped_at, seen_at, tables_in_time}
+use Rattle.mp4_present.proofs.SamplesLie.{timed_length}
 
 -- ---- the samples of the tables
 
@@ -81,18 +84,34 @@ tables_in_hand file m tree t k found c o at there is none =
     let tables : tables_at (table_bytes m.moov found) found.tables ≡ tables_of t.table = ap (λ bytes. tables_at bytes found.tables) a.bytes ∙ a.says in
     ap (λ n. drop n (samples_of (views.tables_seen c.tables))) none ∙ ap (λ (s : TablesSeen). samples_of (views.tables_seen s)) is ∙ ap samples_of tables
 
--- ---- the `moof`s
+-- ---- what is due behind the tables
 
-no_moofs : (fs : List FragmentTree) → ◌≡◌ {A = List Box} (map (λ (f : FragmentTree). f.moof) fs) [] → fs ≡ []
-no_moofs [] e = refl
-no_moofs (f ∷ fs) e = absurd cc
+module _ (file : List ℕ) (m : MovieSeen) (tree : FileTree) (t : TrackTree) (o : IsOpenedAs file m tree) (k : ℕ) (at : slice_get tree.movie.tracks k ≡ Some t) (info : TrackInfo) (info_at : slice_get m.tracks k ≡ Some info) (state : TrackState)
+    (state_at : slice_get m.states k ≡ Some state) where
+  info_is : IsInfoOf file tree t info
+  info_is = zipped_at (IsInfoOf file tree) tree.movie.tracks m.tracks k t info o.tracks at info_at
 
-module _ (file : List ℕ) (m : MovieSeen) (tree : FileTree) (t : TrackTree) (o : IsOpenedAs file m tree) (w : Walk) (at : slice_get tree.movie.tracks w.track ≡ Some t) (bytes : length w.bytes.items ≡ m.longest) (states : StatesFor m w.states.items) (room : w.room ≡ m.room) where
-  behind_none : (ss : List TrackState) (r : ℕ) → ss ≡ m.states → r ≡ m.room → AreBehind file tree.movie [] ss r
-  behind_none ss r e f =
-      let left = o.room in
-      begins_behind file tree.movie ss r (ap (map track_seen) e ∙ o.states ∙ all_same tree.movie tree.movie.tracks) (subst (λ n. n + table_total tree.movie.tracks ≡ max_samples) (sym f) left)
+  state_is : track_seen state ≡ plain_seen (trexes_of tree.movie) t
+  state_is = seen_at (plain_seen (trexes_of tree.movie)) m.states tree.movie.tracks k state t o.states state_at at
 
+  -- when the first sample of the fragments is due
+  pub due_is : min (info.start + state.time) (2 ^ 64 - 1) ≡ due_behind tree t []
+  due_is =
+      let start = info_is.start in
+      let time = ap (λ (s : TrackSeen). s.time) state_is in
+      let ends = tables_in_time file m tree t o k at in
+      omega (arith, start, time, ends)
+
+  -- how many there are
+  pub left_is : info.samples - state.count ≡ length (samples_behind tree t [] tree.fragments)
+  left_is =
+      let all = info_is.samples ∙ length-map (placed_of (file_parts tree) t) (sample_of file) ∙ length-append (plain_of t) (fragment_samples (track_head_of t).id (file_parts tree)) in
+      let plain = ap (λ (s : TrackSeen). s.count) state_is in
+      let own = timed_length (track_keys tree t) (due_behind tree t []) (fragment_samples (track_head_of t).id (parts_behind tree.movie tree.fragments)) in
+      omega (arith, all, plain, own)
+
+module _ (file : List ℕ) (m : MovieSeen) (tree : FileTree) (t : TrackTree) (o : IsOpenedAs file m tree) (w : Walk) (at : slice_get tree.movie.tracks w.track ≡ Some t) (bytes : length w.bytes.items ≡ m.longest) (due : w.due ≡ due_behind tree t [])
+    (left : w.left ≡ length (samples_behind tree t [] tree.fragments)) where
   -- it stands before the first one
   pub stands_first : (first : Option ℕ) → m.fragments ≡ first → w.next ≡ unwrap_or first m.file_len → BeginAt first tree.top → StandsBefore file tree t [] tree.fragments w
   stands_first None e next b = record {
@@ -104,7 +123,8 @@ module _ (file : List ℕ) (m : MovieSeen) (tree : FileTree) (t : TrackTree) (o 
     place = let whole = (whole_file file tree.top o.is_tree.top).whole in let len = o.whole in omega (arith, whole, len, next);
     moofs_passed = sym b;
     moofs_left = o.is_tree.moofs ∙ b;
-    behind = λ some. absurd (some (no_moofs tree.fragments (o.is_tree.moofs ∙ b)));
+    due = due;
+    left = left;
     room = bytes ∙ o.longest_is;
   }
   stands_first (Some from) e next b = record {
@@ -116,6 +136,7 @@ module _ (file : List ℕ) (m : MovieSeen) (tree : FileTree) (t : TrackTree) (o 
     place = next ∙ sym b.4;
     moofs_passed = sym b.3;
     moofs_left = o.is_tree.moofs ∙ ap (of_kind (codes "moof")) (sym b.2) ∙ of_kind-append (codes "moof") b.0 b.1 ∙ ap (λ (bs : List Box). bs ++ of_kind (codes "moof") b.1) b.3;
-    behind = λ some. behind_none w.states.items w.room (states.1 from e) room;
+    due = due;
+    left = left;
     room = bytes ∙ o.longest_is;
   }

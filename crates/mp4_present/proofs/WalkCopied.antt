@@ -64,7 +64,8 @@ kept_before file tree t earlier later w p s = record {
   place = s.place;
   moofs_passed = s.moofs_passed;
   moofs_left = s.moofs_left;
-  behind = s.behind;
+  due = s.due;
+  left = s.left;
   room = s.room;
 }
 

@@ -16,7 +16,7 @@ use Rattle.mp4_present.specs.declared.walks.Walk.{Walk}
 use Rattle.mp4_tables.specs.Accepted.{IsPlace}
 use Rattle.mp4_tables.specs.declared.places.TablePlace.{TablePlace}
 use Rattle.mp4_frag.specs.declared.state.TrackState.{TrackState}
-use Rattle.mp4_present.specs.Movies.{MovieSeen, IsMovie, IsWalkOf, StandsAt, StatesFor, HandAt, InHandOf, table_bytes}
+use Rattle.mp4_present.specs.Movies.{MovieSeen, IsMovie, IsWalkOf, StandsAt, HandAt, InHandOf, table_bytes}
 use Rattle.mp4_present.specs.declared.movie.TrackTables.{TrackTables}
 
 -- an element at a place below the length
@@ -34,26 +34,15 @@ of_got P [] k x e h = absurd (cc)
 of_got P (y ∷ ys) zero x e h = subst P (some_is y x e) h.0
 of_got P (y ∷ ys) (suc k) x e h = of_got P ys k x e h.1
 
--- where a walk begins, there are the states that it wants
-states_with : (m : MovieSeen) (states : List TrackState) (next : ℕ) (f : Option ℕ) → f ≡ m.fragments → IsMovie m → StatesFor m states → next ≡ unwrap_or f m.file_len
-    → (next < m.file_len → length states ≡ length m.tracks) × HaveRoom m.room states
-states_with m states next None e i s n =
-    let none : states ≡ [] = s.0 (sym e) in
-    ((λ lt. absurd (omega (arith, n, lt))), subst (λ (ts : List TrackState). HaveRoom m.room ts) (sym none) tt)
-states_with m states next (Some at) e i s n =
-    let same : states ≡ m.states = s.1 at (sym e) in
-    ((λ lt. ap length same ∙ i.each_state), subst (λ (ts : List TrackState). HaveRoom m.room ts) (sym same) i.states)
-
 -- a walk before the first sample of the tables
 pub begun : (m : MovieSeen) (w : Walk) (p : TablePlace) → IsMovie m → w.track < length m.tracks → w.place ≡ Tables p
     → ((t : TrackTables) → slice_get m.tables w.track ≡ Some t → IsPlace (table_bytes m.moov t) t.tables p)
-    → StatesFor m w.states.items → w.room ≡ m.room → w.next ≡ unwrap_or m.fragments m.file_len → IsWalkOf m w
-begun m w p i lt at place s r n =
+    → IsWalkOf m w
+begun m w p i lt at place =
     let tables = i.each_tables in
     let t = got m.tables w.track (omega (arith, lt, tables)) in
-    let states = states_with m w.states.items w.next m.fragments refl i s n in
     record {
-      goes_on = record { track = lt; each_state = states.0; states = subst (λ (k : ℕ). HaveRoom k w.states.items) (sym r) states.1; few = rw r i.few };
+      goes_on = record { track = lt };
       place = subst (λ (q : Place). StandsAt m w q) (sym at) (t.0, t.1, place t.0 t.1);
     }
 
@@ -76,4 +65,4 @@ placed m w (Fragment p) s = s
 
 -- a walk that goes on from a place of what was in hand
 pub kept_on : (m : MovieSeen) (w : Walk) (a b : InHand) (p : Place) → IsWalkOf m w → InHandOf m w a → Follows a b → IsPlaceOf b p → IsWalkOf m (record w { place = p })
-kept_on m w a b p i h f at = let g = i.goes_on in record { goes_on = record { track = g.track; each_state = g.each_state; states = g.states; few = g.few }; place = placed m w p (stands_on m w w.place a b p i.place h f at) }
+kept_on m w a b p i h f at = record { goes_on = record { track = i.goes_on.track }; place = placed m w p (stands_on m w w.place a b p i.place h f at) }

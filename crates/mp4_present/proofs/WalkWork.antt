@@ -5,7 +5,14 @@ use Rattle.mp4_frag.specs.Work.{fragment_rows, fragment_length, moof_says}
 use Rattle.mp4_frag.specs.declared.state.TrackState.{TrackState}
 use Rattle.mp4_frag.proofs.WalkBound.{length_taken}
 use Rattle.mp4_present.specs.Work.{moof_steps}
-use Rattle.mp4_present.proofs.MoofTaken.{MovedBy}
+use Rattle.mp4_frag.specs.Judged.{AreMovedOn}
+use Rattle.mp4_boxes.specs.Children.{of_kind}
+use Rattle.mp4_frag.specs.RunsJudged.{children_of}
+use Rattle.std.specs.Prelude.{pos, codes}
+
+-- the tracks are moved on by all `traf`s of the `moof`
+abbrev pub MovedBy : Box → List TrackState → List TrackState → ℕ → ℕ → Type 0
+MovedBy view old new room less = AreMovedOn view.offset (pos view.offset) (of_kind (codes "traf") (children_of view)) old new room less
 
 -- a check takes no more steps than the boxes say
 pub checked_within : (old new : List TrackState) (room less before after : ℕ) (view box : Box) → view ≡ box → MovedBy view old new room less → after + less ≤ before + room + fragment_rows (moof_says view) → after ≤ before + moof_steps box

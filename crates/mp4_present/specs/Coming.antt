@@ -7,10 +7,9 @@ use Rattle.mp4_tables.specs.Timed.{timed}
 use Rattle.mp4_tables.specs.declared.sample.SampleAt.{SampleAt}
 use Rattle.mp4_frag.specs.Fragments.{FragmentTree}
 use Rattle.mp4_frag.specs.FragmentSamples.{start_of, duration_of, keys_behind, fragment_samples}
-use Rattle.mp4_frag.specs.Judged.{TrackSeen}
 use Rattle.mp4_head.specs.Tree.{TrackTree, track_head_of}
 use Rattle.mp4_present.specs.Denotes.{FileTree, plain_of, plain_keys, file_parts, parts_of_track, first_due, placed_of}
-use Rattle.mp4_present.specs.Passing.{AreBehind, parts_behind}
+use Rattle.mp4_present.specs.Passing.{parts_behind}
 use Rattle.mp4_present.specs.Outline.{longest}
 use Rattle.mp4_present.specs.InHand.{left_in_hand}
 use Rattle.mp4_present.specs.Movies.{MovieSeen, InHandOf, moof_bytes}
@@ -43,7 +42,8 @@ pub record StandsBefore (file : List ℕ) (tree : FileTree) (t : TrackTree) (ear
   pub place : w.next ≡ sizes passed
   pub moofs_passed : map (λ (f : FragmentTree). f.moof) earlier ≡ of_kind (codes "moof") passed
   pub moofs_left : map (λ (f : FragmentTree). f.moof) later ≡ of_kind (codes "moof") boxes
-  pub behind : (later ≡ [] → ⊥) → AreBehind file tree.movie earlier w.states.items w.room
+  pub due : w.due ≡ due_behind tree t earlier
+  pub left : w.left ≡ length (samples_behind tree t earlier later)
   pub room : length w.bytes.items ≡ longest (of_kind (codes "moof") tree.top)
 
 -- the samples in hand, and then those of the `moof`s behind, are these
@@ -66,14 +66,11 @@ pub record HoldsNext (file : List ℕ) (tree : FileTree) (t : TrackTree) (earlie
   pub place : w.next ≡ sizes passed + size next.moof
   pub moofs_passed : map (λ (f : FragmentTree). f.moof) earlier ≡ of_kind (codes "moof") passed
   pub moofs_left : map (λ (f : FragmentTree). f.moof) later ≡ of_kind (codes "moof") boxes
-  pub behind : AreBehind file tree.movie earlier w.states.items w.room
+  pub due : w.due ≡ due_behind tree t earlier
+  pub left : w.left ≡ length (samples_behind tree t earlier (next ∷ later))
   pub room : length w.bytes.items ≡ longest (of_kind (codes "moof") tree.top)
   pub is_moof : next.moof.kind ≡ codes "moof"
   pub bytes : moof_box w ≡ next.moof
-
--- what a walk takes for the time that is due: the start behind the `moof` where no sample came before it, else the time before it
-abbrev pub due_of : TrackSeen → TrackSeen → ℕ
-due_of before after = if before.count == 0 then after.start else min before.time (2 ^ 64 - 1)
 
 -- What is in hand once the next `moof` was taken: its samples of the track, some or none.
 abbrev pub Takes : List ℕ → FileTree → TrackTree → List FragmentTree → FragmentTree → List FragmentTree → MovieSeen → Walk → Bool → Type 0

@@ -60,6 +60,7 @@ pub record IsMovie (m : MovieSeen) : Type 0 where
   pub each_state : length m.states ≡ length m.tracks
   pub states : HaveRoom m.room m.states
   pub few : m.room ≤ 2 ^ 24
+  pub short : m.file_len < 2 ^ 64
 
 -- the `moov` that is kept
 abbrev pub moov_box : MovieSeen → Box
@@ -77,19 +78,11 @@ StandsAt m w (Fragment p) = (w.used ≤ length w.bytes.items) × Fills w.used w.
 -- a walk over the samples of a track of this movie, wherever it stands
 pub record GoesOn (m : MovieSeen) (w : Walk) : Type 0 where
   pub track : w.track < length m.tracks
-  -- where fragments may follow
-  pub each_state : w.next < m.file_len → length w.states.items ≡ length m.tracks
-  pub states : HaveRoom w.room w.states.items
-  pub few : w.room ≤ 2 ^ 24
 
 -- a walk over the samples of a track of this movie
 pub record IsWalkOf (m : MovieSeen) (w : Walk) : Type 0 where
   pub goes_on : GoesOn m w
   pub place : StandsAt m w w.place
-
--- the states with which a walk begins: none where no fragments follow
-abbrev pub StatesFor : MovieSeen → List TrackState → Type 0
-StatesFor m states = (m.fragments ≡ None → states ≡ []) × ((at : ℕ) → m.fragments ≡ Some at → states ≡ m.states)
 
 -- the samples in hand of a walk that stands at a place
 abbrev pub HandAt : MovieSeen → Walk → Place → InHand → Type 0

@@ -1,41 +1,29 @@
 //! How a walk begins and goes on.
-ghost use Rattle.std.specs.Prelude.{ℕ, ◌≡◌, ◌+◌, ◌-◌, ◌<◌, ◌≤◌, List, [], length, false, Some, slice_get, IfOk, IfErr, OnOk, IsTrue, IsOkAnd};
+ghost use Rattle.std.specs.Prelude.{ℕ, ◌≡◌, ◌+◌, ◌-◌, ◌^◌, ◌<◌, ◌≤◌, min, List, [], length, false, Some, slice_get, IfOk, IfErr, OnOk, IsTrue, IsOkAnd};
 ghost use Rattle.mp4_frag.specs.Fragments.{FragmentTree};
-ghost use Rattle.mp4_frag.specs.Judged.{track_seen};
 ghost use Rattle.mp4_head.specs.Tree.{TrackTree};
 ghost use Rattle.mp4_present.specs.Denotes.{FileTree};
 ghost use Rattle.mp4_present.specs.OpenedMovie.{IsOpenedAs};
-ghost use Rattle.mp4_present.specs.Coming.{track_samples, samples_behind, StandsBefore, Comes, HoldsNext, Takes, Loads, due_of, moof_box};
+ghost use Rattle.mp4_present.specs.Coming.{track_samples, samples_behind, StandsBefore, Comes, HoldsNext, Takes, Loads, moof_box};
 ghost use Rattle.mp4_present.specs.Work.{steps_to, moof_steps, way_through, walk_steps, MayTake, TakesOn};
 ghost use Rattle.mp4_boxes.specs.declared.refusal.Refusal.TheVariants as refusals;
 ghost use Rattle.mp4_present.specs.InHand.{left_in_hand};
-ghost use Rattle.mp4_present.specs.Movies.{Fills, IsMovie, GoesOn, IsWalkOf, StatesFor, InHandOf, RefusesLoad};
+ghost use Rattle.mp4_present.specs.Movies.{Fills, IsMovie, GoesOn, IsWalkOf, InHandOf, RefusesLoad};
 
 use crate::fragments::next_fragment;
 use crate::in_hand::{InHand, Place};
 use crate::movie::Movie;
 use crate::reading::read_payload;
-use crate::totals::in_64_bits;
+use crate::totals::{count_up_to, in_64_bits};
 use crate::walks::Walk;
 use mp4_boxes::{Memory, Refusal, Steps};
-use mp4_frag::{FragCursor, FragView, TrackState, check_moof};
+use mp4_frag::{FragCursor, FragView};
 use mp4_store::Store;
-use mp4_tables::{Samples, TableCursor};
+use mp4_tables::TableCursor;
 use std::alloc::Global;
 use std::sync::ledger::Ledger;
 
 impl Movie {
-    // The tracks behind their tables, where fragments may follow.
-    fn states_for_walk(&self, alloc: Global) -> Result<Vec<TrackState>, Memory>
-        ensures { IfOk result (λ states. StatesFor self.now states.items) }
-    {
-        let mut states = Vec::new(alloc);
-        if self.fragments.is_some() && states.extend_from_slice(self.states()).is_err() {
-            return Err(Memory);
-        }
-        Ok(states)
-    }
-
     /// A walk over the samples of the track at this place among the tracks. All room that it needs is made here.
     pub fn walk(&self, alloc: Global, track: usize) -> Result<Walk, Memory>
         requires { track < length self.now.tracks }
@@ -44,34 +32,30 @@ impl Movie {
         ensures coming { IfOk result (λ walk. (file : List ℕ) (tree : FileTree) (t : TrackTree) → IsOpenedAs file self.now tree → slice_get tree.movie.tracks track ≡ Some t → Comes file tree t self.now walk (track_samples tree t)) }
         ensures may { IfOk result (λ walk. (file : List ℕ) (tree : FileTree) (t : TrackTree) → IsOpenedAs file self.now tree → slice_get tree.movie.tracks track ≡ Some t → (n : ℕ) × MayTake file tree t walk n × (n ≤ walk_steps tree t)) }
     {
-        let states = self.states_for_walk(alloc)?;
         let Ok(bytes) = vec![in alloc; 0u8; self.longest as usize] else {
             return Err(Memory);
         };
         let cursor = TableCursor::start(&self.tables_of(track));
+        let info = self.tracks[track];
+        let state = self.states[track];
         Ok(Walk {
             track,
             place: Place::Tables(cursor.place()),
             moof: self.top,
             bytes,
             used: 0,
-            states,
-            room: self.room,
+            due: due_first(info.start, state.time),
+            left: info.samples.saturating_sub(state.count),
             next: self.fragments.unwrap_or(self.file_len),
         })
     }
 }
 
-// When the first sample of a track in a `moof` is due: where it starts, if no sample came before; else where the samples
-// before end.
-fn due_of(before: TrackState, after: TrackState) -> u64
-    ensures { result ≡ due_of (track_seen before) (track_seen after) }
+// When the first sample behind the tables is due, of a track that starts at a time and whose tables last so long.
+fn due_first(start: u64, time: u128) -> u64
+    ensures { result ≡ min (start + time) (2 ^ 64 - 1) }
 {
-    if before.count == 0 {
-        after.start
-    } else {
-        in_64_bits(before.time)
-    }
+    in_64_bits(u128::from(start).saturating_add(time))
 }
 
 impl Walk {
@@ -102,12 +86,12 @@ impl Walk {
         self.place = place;
     }
 
-    // Checks the `moof` in the room, and says whether it has samples of the track. These are in hand then.
+    // Takes the samples of the `moof` in the room into hand, and says whether there are any. Where there are more than
+    // are left, the store has changed.
     fn take<L: Ledger>(&mut self, movie: &Movie, steps: &mut Steps<L>) -> Result<bool, Refusal>
         requires movie { GoesOn movie.now self.old }
         requires fills { Fills self.old.used self.old.moof }
         requires used { self.old.used ≤ length self.old.bytes.items }
-        requires states { length self.old.states.items ≡ length movie.now.tracks }
         ensures walk { OnOk result (IsWalkOf movie.now self.new) }
         ensures room { self.new.bytes ≡ self.old.bytes }
         ensures next { self.new.next ≡ self.old.next }
@@ -119,21 +103,20 @@ impl Walk {
         ensures through { OnOk result ((t : TrackTree) → way_through t self.new self.new.place ≡ moof_steps (moof_box self.new)) }
         ensures work { OnOk result (steps.new ≤ steps.old + moof_steps (moof_box self.old) + steps_to self.new.place) }
     {
-        let before = self.states[self.track];
-        let moof = self.moof.view(&self.bytes[..self.used]);
-        let len = movie.file_len;
-        let states = self.states.as_mut_slice();
-        let Ok(view) = check_moof(moof, len, states, &mut self.room, steps) else {
+        let view = FragView::again(self.moof.view(&self.bytes[..self.used]));
+        let info = movie.tracks()[self.track];
+        let cursor = FragCursor::start(&view, movie.states(), info.id, self.due, info.keys);
+        let place = cursor.place();
+        let mut all = FragCursor::at(&view, movie.states(), place);
+        let Some(counts) = count_up_to(&mut all, self.left) else {
             return Err(Refusal::StoreChanged);
         };
-        let after = self.states[self.track];
-        let due = due_of(before, after);
-        let info = movie.tracks()[self.track];
-        let cursor = FragCursor::start(&view, movie.states(), after.id, due, info.keys);
-        let has_samples = cursor.peek().is_some();
-        self.place = Place::Fragment(cursor.place());
+        steps.add(all.place().passed());
+        self.place = Place::Fragment(place);
+        self.due = self.due.saturating_add(counts.duration);
+        self.left -= counts.samples;
         steps.add(self.place.passed());
-        Ok(has_samples)
+        Ok(counts.samples > 0)
     }
 
     /// Reads the next `moof` that has samples of the track, where nothing is left in hand; false where there is none.
@@ -166,6 +149,9 @@ impl Walk {
         if store.len() != movie.file_len {
             return Err(Refusal::StoreChanged);
         }
+        if self.left == 0 {
+            return Ok(false);
+        }
         while let Some(top) = next_fragment(store, self.next)? {
             self.used = read_payload(store, top, self.bytes.as_mut_slice())?;
             self.moof = top;
@@ -174,6 +160,6 @@ impl Walk {
                 return Ok(true);
             }
         }
-        Ok(false)
+        Err(Refusal::StoreChanged)
     }
 }

@@ -1,7 +1,6 @@
 //! A walk over all samples of a track: of its tables, then of each `moof`.
 use crate::in_hand::Place;
 use crate::reading::TopBox;
-use mp4_frag::TrackState;
 
 /// A walk over the samples of a track. It has room for one `moof`, and holds neither the movie nor the store: what
 /// reads takes them again.
@@ -13,9 +12,9 @@ pub struct Walk {
     pub(crate) moof: TopBox,
     pub(crate) bytes: Vec<u8>,
     pub(crate) used: usize,
-    /// The tracks behind the `moof`s so far, and how many samples there is room for.
-    pub(crate) states: Vec<TrackState>,
-    pub(crate) room: u32,
+    /// When the first sample behind what is in hand is due, and how many samples of the track lie there.
+    pub(crate) due: u64,
+    pub(crate) left: u32,
     /// Where the next `moof` is looked for.
     pub(crate) next: u64,
 }

@@ -1,12 +1,15 @@
-use Rattle.std.proofs.Common.{rules, length, ◌≡◌, ◌++◌, [], subst, refl, sym, ap, arith, ◌∙◌}
+use Rattle.std.proofs.Common.{rules, List, slice_index_or, length, ◌≡◌, ◌++◌, [], subst, refl, sym, ap, arith, ◌∙◌}
 use Rattle.std.specs.Prelude.{unwrap_or}
 use Rattle.mp4_tables.specs.Accepted.{IsPlace}
 use Rattle.mp4_tables.specs.Views.{TablesSeen}
 use Rattle.mp4_present.specs.Movies.{MovieSeen, IsMovie, tables_seen}
 use Rattle.mp4_present.proofs.WalkPlaces.{begun, got}
-use Rattle.mp4_present.proofs.WalkBegun.{stands_first, tables_in_hand, plain_first}
+use Rattle.mp4_present.proofs.WalkBegun.{stands_first, tables_in_hand, plain_first, due_is, left_is}
+use Rattle.mp4_present.proofs.MoofTaken.{at_place}
 use Rattle.mp4_present.proofs.WayThrough.{begins}
 use Rattle.mp4_present.specs.Coming.{samples_behind}
+use Rattle.mp4_frag.specs.declared.state.TrackState.{TrackState}
+use Rattle.mp4_present.specs.declared.track_info.TrackInfo.{TrackInfo}
 use Rattle.mp4_present.specs.declared.in_hand.InHand.TheVariants as hands
 use Rattle.mp4_present.proofs.movie.Movie.walk.Goals as goal
 
@@ -15,9 +18,6 @@ returns-clause-walk c =
     let m = c.args.self.now in
     begun m _ c.place.result (subst IsMovie c.self.view_is c.self.invariant) c.requires refl
     (λ t e. subst (λ (s : TablesSeen). IsPlace s.payload s.at c.place.result) (c.start-cursor.ensures.tables ∙ c.tables_of.ensures t e) c.place.ensures.place)
-    c.in_ok-states.ensures
-    (ap (λ (n : MovieSeen). n.room) c.self.view_is)
-    (c.unwrap_or.ensures ∙ ap (λ (n : MovieSeen). unwrap_or n.fragments n.file_len) c.self.view_is)
 
 pub returns-clause-coming : goal.returns-clause-coming
 returns-clause-coming c file tree t o at =
@@ -27,7 +27,12 @@ returns-clause-coming c file tree t o at =
     let inside = c.requires in
     let found = got m.tables c.args.track (omega (arith, each, inside)) in
     let bytes : length c.in-Ok.bytes.items ≡ m.longest = search rules in
-    let stands = stands_first file m tree t o _ at bytes c.in_ok-states.ensures (ap (λ (n : MovieSeen). n.room) c.self.view_is) m.fragments refl (c.unwrap_or.ensures ∙ ap (λ (n : MovieSeen). unwrap_or n.fragments n.file_len) c.self.view_is) o.fragments in
+    let states = i.each_state in
+    let info_at = at_place m.tracks c.args.track c.index-info.result.now inside (subst (λ (xs : List TrackInfo). c.index-info.result.now ≡ slice_index_or xs c.args.track c.index-info.result.now) (ap (λ (n : MovieSeen). n.tracks) c.self.view_is) c.index-info.ensures) in
+    let state_at = at_place m.states c.args.track c.index-state.result.now (omega (arith, states, inside)) (subst (λ (xs : List TrackState). c.index-state.result.now ≡ slice_index_or xs c.args.track c.index-state.result.now) (ap (λ (n : MovieSeen). n.states) c.self.view_is) c.index-state.ensures) in
+    let due = c.due_first.ensures ∙ due_is file m tree t o c.args.track at c.index-info.result.now info_at c.index-state.result.now state_at in
+    let left = c.saturating_sub.ensures ∙ left_is file m tree t o c.args.track at c.index-info.result.now info_at c.index-state.result.now state_at in
+    let stands = stands_first file m tree t o _ at bytes due left m.fragments refl (c.unwrap_or.ensures ∙ ap (λ (n : MovieSeen). unwrap_or n.fragments n.file_len) c.self.view_is) o.fragments in
     let tables : c.start-cursor.result.tables ≡ tables_seen m.moov found.0 = c.start-cursor.ensures.tables ∙ c.tables_of.ensures found.0 found.1 in
     let list = tables_in_hand file m tree t c.args.track found.0 c.start-cursor.result o at found.1 tables c.start-cursor.ensures.first in
     ([], tree.fragments, hands.Tables c.start-cursor.result, (stands, (found.0, found.1, (λ i. record { tables = tables i; place = sym c.place.ensures.is i })), sym (plain_first tree t) ∙ ap (λ ss. ss ++ samples_behind tree t [] tree.fragments) (sym list)))
@@ -40,6 +45,11 @@ returns-clause-may c file tree t o at =
     let inside = c.requires in
     let found = got m.tables c.args.track (omega (arith, each, inside)) in
     let bytes : length c.in-Ok.bytes.items ≡ m.longest = search rules in
-    let stands = stands_first file m tree t o _ at bytes c.in_ok-states.ensures (ap (λ (n : MovieSeen). n.room) c.self.view_is) m.fragments refl (c.unwrap_or.ensures ∙ ap (λ (n : MovieSeen). unwrap_or n.fragments n.file_len) c.self.view_is) o.fragments in
+    let states = i.each_state in
+    let info_at = at_place m.tracks c.args.track c.index-info.result.now inside (subst (λ (xs : List TrackInfo). c.index-info.result.now ≡ slice_index_or xs c.args.track c.index-info.result.now) (ap (λ (n : MovieSeen). n.tracks) c.self.view_is) c.index-info.ensures) in
+    let state_at = at_place m.states c.args.track c.index-state.result.now (omega (arith, states, inside)) (subst (λ (xs : List TrackState). c.index-state.result.now ≡ slice_index_or xs c.args.track c.index-state.result.now) (ap (λ (n : MovieSeen). n.states) c.self.view_is) c.index-state.ensures) in
+    let due = c.due_first.ensures ∙ due_is file m tree t o c.args.track at c.index-info.result.now info_at c.index-state.result.now state_at in
+    let left = c.saturating_sub.ensures ∙ left_is file m tree t o c.args.track at c.index-info.result.now info_at c.index-state.result.now state_at in
+    let stands = stands_first file m tree t o _ at bytes due left m.fragments refl (c.unwrap_or.ensures ∙ ap (λ (n : MovieSeen). unwrap_or n.fragments n.file_len) c.self.view_is) o.fragments in
     let place = subst (λ (s : TablesSeen). IsPlace s.payload s.at c.place.result) (c.start-cursor.ensures.tables ∙ c.tables_of.ensures found.0 found.1) c.place.ensures.place in
     begins file m tree t _ c.place.result o i stands refl (found.0, found.1, place)

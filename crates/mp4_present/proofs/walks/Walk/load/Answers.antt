@@ -1,7 +1,7 @@
 use Rattle.std.proofs.Common.{rules, arith, ◌≡◌, length, refl, sym, ◌∙◌}
 use Rattle.std.proofs.lemmas.Result.{err_from_is_err_and}
 use Rattle.std.proofs.lemmas.List.{with_items_is}
-use Rattle.mp4_present.proofs.MoofLoaded.{boxes_from, none_more, fits, first_later, holds_next, next_unchanged, payload_unchanged, goes_past, comes_next, nothing_comes, later_is, goes_idle, ends_idle}
+use Rattle.mp4_present.proofs.MoofLoaded.{boxes_from, none_more, fits, first_later, holds_next, next_unchanged, payload_unchanged, goes_past, comes_next, later_is, goes_idle, no_samples, some_left, ends_empty, left_stays}
 use Rattle.mp4_present.proofs.WayThrough.{takes_none, takes_next, takes_most}
 use Rattle.mp4_present.proofs.walks.Walk.load.Goals as goal
 
@@ -133,23 +133,26 @@ loop-top-preserved g c =
           takes_next file tree t m n _ _ _ w _ c.take.new.self u f.0 f.1 c.in_ok-take.field-0 f.2 held (e.taken file tree t earlier f.1 f.0 o held) e.moof (e.through t) e.way e.work;
     }
 
-pub returns-clause-loaded : goal.returns-clause-loaded
-returns-clause-loaded g c told tree t earlier later o h =
+pub returns-then-self-eq0-clause-loaded : goal.returns-then-self-eq0-clause-loaded
+returns-then-self-eq0-clause-loaded g c told tree t earlier later o h = no_samples (g.S.Store.file c.args.store.now) tree t earlier later c.args.self.now h c.if-self-eq0.true
+
+pub returns-then-self-eq0-clause-ended : goal.returns-then-self-eq0-clause-ended
+returns-then-self-eq0-clause-ended g c told tree t earlier later hand o h at z = λ _.
+    let file = g.S.Store.file c.args.store.now in
+    ends_empty file tree t c.args.movie.now earlier later hand c.args.self.now (no_samples file tree t earlier later c.args.self.now h c.if-self-eq0.true) h at z
+
+pub returns-clause-unchanged : goal.returns-clause-unchanged
+returns-clause-unchanged g c told tree t earlier later o h = λ _.
     let i = c.loop-top.invariant in
     let file = g.S.Store.file c.args.store.now in
     let m = c.args.movie.now in
     let u = i.going told tree t earlier later o h in
     let n = (rw (i.honesty, i.file, c.in_default.is) at c.in_ok-top.ensures.next) told u.2.0.boxes (boxes_from file m tree t u.0 u.1 c.loop-top.self o u.2.0) in
-    nothing_comes tree t _ u.0 u.1 (none_more file m tree t u.0 u.1 c.loop-top.self o u.2.0 n) u.2.1
+    let none = some_left file tree t u.0 u.1 c.loop-top.self u.2.0 (none_more file m tree t u.0 u.1 c.loop-top.self o u.2.0 n) in
+    c.if-self-eq0.false (sym (left_stays file tree t earlier later c.args.self.now c.loop-top.self h u) ∙ none)
 
-pub returns-clause-ended : goal.returns-clause-ended
-returns-clause-ended g c told tree t earlier later hand o h at z = λ _.
-    let i = c.loop-top.invariant in
-    let file = g.S.Store.file c.args.store.now in
-    let m = c.args.movie.now in
-    let u = i.idle told tree t earlier later hand o h at z in
-    let n = (rw (i.honesty, i.file, c.in_default.is) at c.in_ok-top.ensures.next) told u.3.0.boxes (boxes_from file m tree t u.0 u.1 c.loop-top.self o u.3.0) in
-    ends_idle file tree t m u.0 u.1 u.2 c.loop-top.self (none_more file m tree t u.0 u.1 c.loop-top.self o u.3.0 n) u.3.0 u.3.1 u.3.2
+pub returns-clause-most : goal.returns-clause-most
+returns-clause-most g c told tree t n o h = takes_most (g.S.Store.file c.args.store.now) tree t n _ _ c.loop-top.self (c.loop-top.invariant.takes told tree t n o h)
 
 pub returns-then-branch-clause-work : goal.returns-then-branch-clause-work
 returns-then-branch-clause-work g c told tree t n o h =
@@ -172,9 +175,6 @@ returns-then-branch-clause-work g c told tree t n o h =
     let held = holds_next file m tree t earlier later w o s c.in-Some.top within.0 is_next _ bytes c.in_ok-self.field-0 refl refl refl (with_items_is w.bytes bytes (same ∙ sym w.bytes.ok.0)) same fills.1 fills.0 read refl refl refl in
     let e = c.in_ok-take.ensures in
     takes_next file tree t m n _ _ _ w _ c.take.new.self u f.0 f.1 c.in_ok-take.field-0 f.2 held (e.taken file tree t earlier f.1 f.0 o held) e.moof (e.through t) e.way e.work
-
-pub returns-clause-work : goal.returns-clause-work
-returns-clause-work g c told tree t n o h = c.loop-top.invariant.takes told tree t n o h
 
 pub returns-in_err-top-clause-most : goal.returns-in_err-top-clause-most
 returns-in_err-top-clause-most g c told tree t n o h =

@@ -1,48 +1,35 @@
-use Rattle.std.proofs.Common.{arith, ◌≡◌, ◌<◌, ◌∙◌, length, ap, refl, sym}
-use Rattle.std.specs.Vec.{with_items}
-use Rattle.std.proofs.lemmas.List.{with_items_is}
+use Rattle.std.proofs.Common.{arith, ◌≡◌, ◌+◌, ◌-◌, ◌^◌, ◌<◌, ◌≤◌, ◌∙◌, length, List, min, ap, refl, subst, sym}
 use Rattle.mp4_boxes.specs.Box.{Box}
+use Rattle.mp4_boxes.specs.Bytes.{sum_of}
 use Rattle.mp4_boxes.specs.View.{box_seen}
-use Rattle.mp4_frag.specs.Views.{moof_seen}
+use Rattle.mp4_frag.specs.Views.{moof_seen, CursorSeen}
+use Rattle.mp4_frag.specs.Walks.{samples_coming}
+use Rattle.mp4_tables.specs.declared.sample.SampleAt.{SampleAt}
 use Rattle.mp4_present.specs.Coming.{moof_box}
-use Rattle.mp4_present.specs.Movies.{MovieSeen}
-use Rattle.mp4_present.specs.declared.walks.Walk.{Walk}
 use Rattle.mp4_present.specs.declared.in_hand.InHand.TheVariants as hands
-use Rattle.mp4_present.specs.declared.in_hand.Place.TheVariants as places
-use Rattle.mp4_present.proofs.MoofTaken.{not_refused, as_many, stands_behind, taken, at_place, fails_like, sound_like, moved_like, none_left}
-use Rattle.mp4_present.proofs.WalkWork.{checked_within, place_within}
+use Rattle.mp4_present.proofs.MoofTaken.{few, stands_behind, taken, at_place, none_left}
+use Rattle.mp4_present.proofs.WalkWork.{place_within}
 use Rattle.mp4_present.proofs.walks.Walk.take.Goals as goal
-
-pub returns-in_default-clause-taken : goal.returns-in_default-clause-taken
-returns-in_default-clause-taken g c file tree t earlier later next o h =
-    let view : box_seen c.view-moof.result ≡ moof_box c.args.self.now = rw c.deref.ensures.value at c.view-moof.ensures in
-    let len : c.movie.inside.file_len ≡ c.args.movie.now.file_len = ap (λ (m : MovieSeen). m.file_len) c.movie.view_is in
-    not_refused file c.args.movie.now tree t earlier next later c.args.self.now o h c.in_default.field-0
-    (fails_like _ _ _ _ _ _ _ _ len c.as_mut_slice-states.ensures.value view c.in_default.ensures.fault)
 
 pub returns-clause-taken : goal.returns-clause-taken
 returns-clause-taken g c file tree t earlier later next o h =
     let w = c.args.self.now in
     let m = c.args.movie.now in
-    let view : box_seen c.view-moof.result ≡ moof_box c.args.self.now = rw c.deref.ensures.value at c.view-moof.ensures in
-    let len : c.movie.inside.file_len ≡ c.args.movie.now.file_len = ap (λ (m : MovieSeen). m.file_len) c.movie.view_is in
-    let old = c.as_mut_slice-states.ensures.value in
-    let sound = sound_like _ _ _ _ _ _ len old refl c.in-Ok.ensures.sound in
-    let new = c.check_moof.new.tracks in
-    let less = c.check_moof.new.room in
-    let moved = moved_like _ _ new w.room less (box_seen c.view-moof.result) (box_seen c.view-moof.result) old refl c.in-Ok.ensures.moved in
-    let seen : moof_seen c.in-Ok.view ≡ moof_box c.args.self.now = c.in-Ok.ensures.view ∙ view in
-    let track = c.requires.movie.track in
-    let each = c.requires.states in
-    let many = as_many file m tree t earlier next later w o h (box_seen c.view-moof.result) new less view sound moved in
-    let inside : w.track < length w.states.items = omega (arith, track, each) in
-    let inside_new : w.track < length new = omega (arith, inside, many) in
-    let items : (with_items w.states new).items ≡ new = with_items_is w.states new (many ∙ sym w.states.ok.0) in
-    let now : Walk = record { track = w.track; place = places.Fragment c.place.result; moof = w.moof; bytes = w.bytes; used = w.used; states = with_items w.states new; room = less; next = w.next } in
-    let stands = stands_behind file m tree t earlier next later w o h (box_seen c.view-moof.result) new less view sound moved now refl refl items refl refl in
-    let list = taken file m tree t earlier next later w o h (box_seen c.view-moof.result) new less view sound moved
-    c.index-before.result.now c.index-after.result.now c.index-tracks-self.result c.due_of-due.result (at_place w.states.items w.track _ inside c.index-before.ensures) (at_place new w.track _ inside_new (rw items at c.index-after.ensures)) (at_place m.tracks w.track _ track (rw c.tracks.ensures at c.index-tracks-self.is)) c.due_of-due.ensures c.due_of-due.type_inv _
-    (λ L ts f e s d k n. (rw c.states.ensures.same at c.start-cursor.ensures.definition) L ts f (e ∙ sym c.in-Ok.ensures.view) s d k n) in (
+    let view : box_seen c.view.result ≡ moof_box w = rw c.deref.ensures.value at c.view.ensures in
+    let seen : moof_seen c.again-view.result ≡ moof_box w = c.again-view.ensures ∙ view in
+    let info_at = at_place m.tracks w.track c.index-tracks-self.result c.requires.movie.track (rw c.tracks.ensures at c.index-tracks-self.is) in
+    let list = taken file m tree t earlier next later w o h c.index-tracks-self.result info_at c.states.ensures.is_movie.short (moof_seen c.again-view.result) seen (samples_coming c.start-cursor.result)
+    (rw c.states.ensures.same at c.start-cursor.ensures.definition) in
+    let same : c.at-all.result ≡ c.start-cursor.result = c.at-all.ensures ∙ (λ i. record {
+      payload = sym c.start-cursor.ensures.payload i;
+      moof = sym c.start-cursor.ensures.moof i;
+      tracks = (c.states-2.ensures.same ∙ sym c.states.ensures.same ∙ sym c.start-cursor.ensures.tracks) i;
+      place = c.place-place.ensures.is i;
+    }) in
+    let all = ap samples_coming same ∙ list in
+    let counted = c.in-Some.ensures.samples ∙ ap (λ (ss : List SampleAt). length ss) all in
+    let lasting = c.in-Some.ensures.duration ∙ ap (λ (ss : List SampleAt). min (sum_of (λ (s : SampleAt). s.duration) ss) (2 ^ 64 - 1)) all in
+    let stands = stands_behind file m tree t earlier next later w o h _ refl refl refl (c.saturating_add-self.ensures ∙ ap (λ n. min (w.due + n) (2 ^ 64 - 1)) lasting) (ap (λ n. w.left - n) counted) in (
       hands.Fragment c.start-cursor.result,
       (
         stands,
@@ -50,26 +37,49 @@ returns-clause-taken g c file tree t earlier later next o h =
           payload = (c.start-cursor.ensures.payload ∙ ap (λ (b : Box). b.payload) seen) i;
           moof = (c.start-cursor.ensures.moof ∙ ap (λ (b : Box). b.offset) seen) i;
           tracks = (c.start-cursor.ensures.tracks ∙ c.states.ensures.same) i;
-          place = sym c.place.ensures.is i;
+          place = sym c.place-place.ensures.is i;
         }),
         list,
-        none_left _ c.peek.result c.is_some-has_samples.result c.is_some-has_samples.ensures c.peek.ensures,
+        none_left (samples_coming c.start-cursor.result) c.in-Some.counts.samples (c.in-Some.ensures.samples ∙ ap (λ (v : CursorSeen). length (samples_coming v)) same),
       ),
     )
 
+pub returns-in_default-clause-taken : goal.returns-in_default-clause-taken
+returns-in_default-clause-taken g c file tree t earlier later next o h =
+    let w = c.args.self.now in
+    let m = c.args.movie.now in
+    let view : box_seen c.view.result ≡ moof_box w = rw c.deref.ensures.value at c.view.ensures in
+    let seen : moof_seen c.again-view.result ≡ moof_box w = c.again-view.ensures ∙ view in
+    let info_at = at_place m.tracks w.track c.index-tracks-self.result c.requires.movie.track (rw c.tracks.ensures at c.index-tracks-self.is) in
+    let list = taken file m tree t earlier next later w o h c.index-tracks-self.result info_at c.states.ensures.is_movie.short (moof_seen c.again-view.result) seen (samples_coming c.start-cursor.result)
+    (rw c.states.ensures.same at c.start-cursor.ensures.definition) in
+    let same : c.at-all.result ≡ c.start-cursor.result = c.at-all.ensures ∙ (λ i. record {
+      payload = sym c.start-cursor.ensures.payload i;
+      moof = sym c.start-cursor.ensures.moof i;
+      tracks = (c.states-2.ensures.same ∙ sym c.states.ensures.same ∙ sym c.start-cursor.ensures.tracks) i;
+      place = c.place-place.ensures.is i;
+    }) in
+    let long = c.count_up_to.ensures.many c.in_default.is in
+    let all = ap (λ (ss : List SampleAt). length ss) (ap samples_coming same ∙ list) in
+    let least = few file m tree t earlier next later w o h in
+    omega (arith, long, all, least)
+
 pub returns-clause-way : goal.returns-clause-way
 returns-clause-way g c =
-    let view : box_seen c.view-moof.result ≡ moof_box c.args.self.now = rw c.deref.ensures.value at c.view-moof.ensures in
-    let seen : moof_seen c.in-Ok.view ≡ moof_box c.args.self.now = c.in-Ok.ensures.view ∙ view in
-    place_within (moof_box c.args.self.now) _ _ (c.start-cursor.ensures.payload ∙ ap (λ (b : Box). b.payload) seen) c.place.ensures.said
+    let view : box_seen c.view.result ≡ moof_box c.args.self.now = rw c.deref.ensures.value at c.view.ensures in
+    let seen : moof_seen c.again-view.result ≡ moof_box c.args.self.now = c.again-view.ensures ∙ view in
+    place_within (moof_box c.args.self.now) _ _ (c.start-cursor.ensures.payload ∙ ap (λ (b : Box). b.payload) seen) c.place-place.ensures.said
 
 pub returns-clause-work : goal.returns-clause-work
 returns-clause-work g c =
-    let view : box_seen c.view-moof.result ≡ moof_box c.args.self.now = rw c.deref.ensures.value at c.view-moof.ensures in
-    let cost = checked_within _ _ _ _ _ _ _ _ view c.in-Ok.ensures.moved c.in-Ok.ensures.cost in
-    let way = c.passed.ensures in
-    let more = c.add.ensures in
-    omega (arith, cost, way, more)
+    let view : box_seen c.view.result ≡ moof_box c.args.self.now = rw c.deref.ensures.value at c.view.ensures in
+    let seen : moof_seen c.again-view.result ≡ moof_box c.args.self.now = c.again-view.ensures ∙ view in
+    let way = place_within (moof_box c.args.self.now) _ _ (c.count_up_to.ensures.later.0 ∙ ap (λ (v : CursorSeen). v.payload) c.at-all.ensures ∙ ap (λ (b : Box). b.payload) seen) c.place.ensures.said in
+    let through = c.passed.ensures in
+    let one = c.add.ensures.more in
+    let first = c.passed-2.ensures in
+    let two = c.add-2.ensures.more in
+    omega (arith, way, through, one, first, two)
 
 pub returns-clause-through : goal.returns-clause-through
 returns-clause-through g c t = refl
