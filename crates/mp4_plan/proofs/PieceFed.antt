@@ -23,7 +23,8 @@ use Rattle.mp4_plan.specs.declared.courses.Stop.TheVariants.{Empty, Ended, Full}
 use Rattle.mp4_plan.specs.declared.rows.Row.{Row}
 use Rattle.mp4_plan.proofs.PlannerSteps.{fed_more, after_more, fed_none, after_none, more_of_no, more_of-nil}
 use Rattle.mp4_plan.proofs.HandsTaken.{more_with, counted_fed}
-use Rattle.mp4_plan.proofs.WalksOn.{hand_first, kept_before, loads_on, loads_none, hand_none}
+use Rattle.mp4_present.proofs.WalkCopied.{kept_before}
+use Rattle.mp4_plan.proofs.WalksOn.{hand_first, loads_on, loads_none, hand_none}
 use Rattle.mp4_plan.proofs.PieceCarried.{LoadsFor, EndsFor}
 
 -- a piece with one sample more

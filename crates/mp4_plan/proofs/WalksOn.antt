@@ -6,6 +6,7 @@ use Rattle.mp4_tables.specs.declared.sample.SampleAt.{SampleAt}
 use Rattle.mp4_frag.specs.Fragments.{FragmentTree}
 use Rattle.mp4_head.specs.Tree.{TrackTree}
 use Rattle.mp4_present.specs.Denotes.{FileTree}
+use Rattle.mp4_present.proofs.WalkCopied.{kept_before}
 use Rattle.mp4_present.specs.Coming.{Comes, Loads, StandsBefore, samples_behind}
 use Rattle.mp4_present.specs.InHand.{Follows, IsPlaceOf, left_in_hand}
 use Rattle.mp4_present.specs.Movies.{MovieSeen, HandAt, InHandOf, tables_seen}
@@ -92,11 +93,6 @@ module _ (file : List ℕ) (m : MovieSeen) (tree : FileTree) (t : TrackTree) (w 
 pub by_test : (o : Option SampleAt) (v : Bool) → is_some o ≡ not v → v ≡ true → o ≡ None
 by_test None v e f = refl
 by_test (Some s) v e f = absurd cc
-
--- a walk that goes on from another place stands before the same `moof`s
-pub kept_before : (file : List ℕ) (tree : FileTree) (t : TrackTree) (earlier later : List FragmentTree) (w : Walk) (place : Place) → StandsBefore file tree t earlier later w → StandsBefore file tree t earlier later (record w { place = place })
-kept_before file tree t earlier later w place h =
-    record { is_track = h.is_track; split = h.split; passed = h.passed; boxes = h.boxes; top = h.top; place = h.place; moofs_passed = h.moofs_passed; moofs_left = h.moofs_left; behind = h.behind; room = h.room }
 
 -- a walk that goes on from a later place has the later samples to come
 pub kept_coming : (file : List ℕ) (m : MovieSeen) (tree : FileTree) (t : TrackTree) (w : Walk) (earlier later : List FragmentTree) (hand left : InHand) (place : Place) → StandsBefore file tree t earlier later w → InHandOf m w hand → Follows hand left

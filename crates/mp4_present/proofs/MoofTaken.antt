@@ -200,3 +200,6 @@ module _ (file : List ℕ) (m : MovieSeen) (tree : FileTree) (t : TrackTree) (ea
 pub none_left : (xs : List SampleAt) (n : ℕ) → n ≡ length xs → nat_lt 0 n ≡ false → xs ≡ []
 none_left [] n e h = refl
 none_left (x ∷ xs) n e h = let lt : 0 < n = omega (arith, e) in absurd (search rules)
+
+pub some_counted : (n k : ℕ) → nat_lt 0 n ≡ true → n ≡ k → 0 < k
+some_counted n k some e = let lt : 0 < n = search rules in omega (arith, lt, e)

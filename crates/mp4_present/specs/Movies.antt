@@ -10,6 +10,7 @@ use Rattle.mp4_frag.specs.declared.state.TrackState.{TrackState}
 use Rattle.mp4_store.specs.Device.{HasRisen}
 use Rattle.mp4_boxes.specs.declared.refusal.Refusal.{Refusal}
 use Rattle.mp4_boxes.specs.declared.refusal.Refusal.TheVariants as refusals
+use Rattle.mp4_present.specs.InHand.{left_in_hand}
 use Rattle.mp4_present.specs.declared.in_hand.InHand.{InHand}
 use Rattle.mp4_present.specs.declared.in_hand.InHand.TheVariants as hands
 use Rattle.mp4_present.specs.declared.in_hand.Place.{Place}
@@ -93,6 +94,10 @@ HandAt m w _ _ = ⊥
 -- what the walk has in hand
 abbrev pub InHandOf : MovieSeen → Walk → InHand → Type 0
 InHandOf m w hand = HandAt m w w.place hand
+
+-- it has a sample in hand
+abbrev pub HasSome : MovieSeen → Walk → Type 0
+HasSome m w = (hand : InHand) × InHandOf m w hand × (0 < length (left_in_hand hand))
 
 -- Why no further `moof` is loaded.
 abbrev pub RefusesLoad : ℕ → ℕ → Refusal → Type 0

@@ -1,5 +1,5 @@
 //! How a walk begins and goes on.
-ghost use Rattle.std.specs.Prelude.{ℕ, ◌≡◌, ◌+◌, ◌-◌, ◌^◌, ◌<◌, ◌≤◌, min, List, [], length, false, Some, slice_get, IfOk, IfErr, OnOk, IsTrue, IsOkAnd};
+ghost use Rattle.std.specs.Prelude.{ℕ, ◌≡◌, ◌+◌, ◌-◌, ◌^◌, ◌<◌, ◌≤◌, min, List, [], length, false, Some, Err, slice_get, IfOk, IfErr, OnOk, IsTrue, IsOkAnd};
 ghost use Rattle.mp4_frag.specs.Fragments.{FragmentTree};
 ghost use Rattle.mp4_head.specs.Tree.{TrackTree};
 ghost use Rattle.mp4_present.specs.Denotes.{FileTree};
@@ -8,7 +8,7 @@ ghost use Rattle.mp4_present.specs.Coming.{track_samples, samples_behind, Stands
 ghost use Rattle.mp4_present.specs.Work.{steps_to, moof_steps, way_through, walk_steps, MayTake, TakesOn};
 ghost use Rattle.mp4_boxes.specs.declared.refusal.Refusal.TheVariants as refusals;
 ghost use Rattle.mp4_present.specs.InHand.{left_in_hand};
-ghost use Rattle.mp4_present.specs.Movies.{Fills, IsMovie, GoesOn, IsWalkOf, InHandOf, RefusesLoad};
+ghost use Rattle.mp4_present.specs.Movies.{Fills, IsMovie, GoesOn, IsWalkOf, InHandOf, HasSome, RefusesLoad};
 
 use crate::fragments::next_fragment;
 use crate::in_hand::{InHand, Place};
@@ -98,6 +98,7 @@ impl Walk {
         ensures refusal { IfErr result (λ r. r ≡ refusals.StoreChanged) }
         ensures taken { (file : List ℕ) (tree : FileTree) (t : TrackTree) (earlier later : List FragmentTree) (next : FragmentTree) → IsOpenedAs file movie.now tree → HoldsNext file tree t earlier next later self.old
             → IsOkAnd result (λ some. Takes file tree t earlier next later movie.now self.new some) }
+        ensures some { IfOk result (λ some. IsTrue some → HasSome movie.now self.new) }
         ensures moof { OnOk result (moof_box self.new ≡ moof_box self.old) }
         ensures way { OnOk result (steps_to self.new.place ≤ moof_steps (moof_box self.old)) }
         ensures through { OnOk result ((t : TrackTree) → way_through t self.new self.new.place ≡ moof_steps (moof_box self.new)) }
@@ -120,7 +121,8 @@ impl Walk {
     }
 
     /// Reads the next `moof` that has samples of the track, where nothing is left in hand; false where there is none.
-    /// It takes no memory. Bytes that were read before are checked again: a difference that shows is StoreChanged.
+    /// It takes no memory. Where the store has another length, or other samples than it had when the movie was opened,
+    /// so far as their number shows it, the answer is StoreChanged.
     pub fn load<S: Store, L: Ledger>(
         &mut self,
         movie: &Movie,
@@ -142,6 +144,10 @@ impl Walk {
             → IfOk result (λ more. TakesOn (S.file store.old) tree t n self.new steps.old steps.new) }
         ensures most { IsTrue (S.is_honest store.old) → (tree : FileTree) (t : TrackTree) (n : ℕ) → IsOpenedAs (S.file store.old) movie.now tree → MayTake (S.file store.old) tree t self.old n
             → IfErr result (λ r. steps.new ≤ steps.old + n) }
+        ensures some { IfOk result (λ more. IsTrue more → HasSome movie.now self.new) }
+        ensures none { IfOk result (λ more. more ≡ false → self.new.left ≡ 0) }
+        ensures length { (length (S.file store.old) ≡ movie.now.file_len → ⊥)
+            → result ≡ Err refusals.StoreChanged }
         ensures next { IfOk result (λ more. IsTrue more → (self.old.next < self.new.next) × (self.new.next ≤ length (S.file store.old))) }
         ensures reads { OnOk result (S.read_failures store.new ≡ S.read_failures store.old) }
         ensures refusal { IfErr result (RefusesLoad (S.read_failures store.old) (S.read_failures store.new)) }

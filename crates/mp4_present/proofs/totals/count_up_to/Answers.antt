@@ -1,5 +1,5 @@
-use Rattle.std.proofs.Common.{◌∙◌, ap, drop, rules, length, arith, ◌≡◌, ◌+◌}
-use Rattle.mp4_present.proofs.JoinedSamples.{one_less, sum_more, capped_more, capped_all, none_is}
+use Rattle.std.proofs.Common.{rules, arith}
+use Rattle.mp4_present.proofs.JoinedSamples.{one_less, sum_more, capped_more}
 use Rattle.mp4_present.proofs.totals.count_up_to.Goals as goal
 
 pub loop-sample-preserved : goal.loop-sample-preserved

@@ -209,3 +209,6 @@ returns-in_err-take-clause-most g c told tree t n o h =
 
 pub returns-then-len-movie-clause-most : goal.returns-then-len-movie-clause-most
 returns-then-len-movie-clause-most g c told tree t n o h = omega arith
+
+pub returns-then-branch-clause-some : goal.returns-then-branch-clause-some
+returns-then-branch-clause-some g c more = c.in_ok-take.ensures.some c.if-branch.true

@@ -1,4 +1,4 @@
-use Rattle.std.proofs.Common.{arith, ◌≡◌, ◌+◌, ◌-◌, ◌^◌, ◌<◌, ◌≤◌, ◌∙◌, length, List, min, ap, refl, subst, sym}
+use Rattle.std.proofs.Common.{arith, ◌≡◌, ◌+◌, ◌-◌, ◌^◌, ◌∙◌, length, List, min, ap, refl, sym}
 use Rattle.mp4_boxes.specs.Box.{Box}
 use Rattle.mp4_boxes.specs.Bytes.{sum_of}
 use Rattle.mp4_boxes.specs.View.{box_seen}
@@ -7,7 +7,7 @@ use Rattle.mp4_frag.specs.Walks.{samples_coming}
 use Rattle.mp4_tables.specs.declared.sample.SampleAt.{SampleAt}
 use Rattle.mp4_present.specs.Coming.{moof_box}
 use Rattle.mp4_present.specs.declared.in_hand.InHand.TheVariants as hands
-use Rattle.mp4_present.proofs.MoofTaken.{few, stands_behind, taken, at_place, none_left}
+use Rattle.mp4_present.proofs.MoofTaken.{few, stands_behind, taken, at_place, none_left, some_counted}
 use Rattle.mp4_present.proofs.WalkWork.{place_within}
 use Rattle.mp4_present.proofs.walks.Walk.take.Goals as goal
 
@@ -83,3 +83,25 @@ returns-clause-work g c =
 
 pub returns-clause-through : goal.returns-clause-through
 returns-clause-through g c t = refl
+
+pub returns-clause-some : goal.returns-clause-some
+returns-clause-some g c some =
+    let w = c.args.self.now in
+    let view : box_seen c.view.result ≡ moof_box w = rw c.deref.ensures.value at c.view.ensures in
+    let seen : moof_seen c.again-view.result ≡ moof_box w = c.again-view.ensures ∙ view in
+    let same : c.at-all.result ≡ c.start-cursor.result = c.at-all.ensures ∙ (λ i. record {
+      payload = sym c.start-cursor.ensures.payload i;
+      moof = sym c.start-cursor.ensures.moof i;
+      tracks = (c.states-2.ensures.same ∙ sym c.states.ensures.same ∙ sym c.start-cursor.ensures.tracks) i;
+      place = c.place-place.ensures.is i;
+    }) in
+    let counted = c.in-Some.ensures.samples ∙ ap (λ (v : CursorSeen). length (samples_coming v)) same in (
+      hands.Fragment c.start-cursor.result,
+      (λ i. record {
+        payload = (c.start-cursor.ensures.payload ∙ ap (λ (b : Box). b.payload) seen) i;
+        moof = (c.start-cursor.ensures.moof ∙ ap (λ (b : Box). b.offset) seen) i;
+        tracks = (c.start-cursor.ensures.tracks ∙ c.states.ensures.same) i;
+        place = sym c.place-place.ensures.is i;
+      }),
+      some_counted c.in-Some.counts.samples _ some counted,
+    )
