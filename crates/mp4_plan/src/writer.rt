@@ -39,8 +39,8 @@ use mp4_tables::{Keys, SampleAt};
 use std::alloc::Global;
 use std::sync::ledger::Ledger;
 
-/// How many bytes are put at once: a power of two, so that each put fills whole pages, which a file system keeps together.
-const PIECE: usize = 65_536;
+/// How many bytes are put at once: fifteen pages, so that each put fills whole ones.
+const PIECE: usize = 61_440;
 
 /// The most bytes that a writer holds beside the head, its rows and its walks.
 const MOST_WAITING: usize = 65_000;
@@ -68,9 +68,9 @@ struct Noted {
 /// Writes the normal form of a movie. All memory that it takes is taken when it is made.
 #[derive(Drop)]
 pub struct Writer {
-    /// What waits to be put; before the first put the head, or its front.
+    /// What waits to be put.
     carrier: Carrier,
-    /// The rest of the head.
+    /// The bytes of `ftyp` and `moov`.
     head: Vec<u8>,
     rows: Vec<Row>,
     /// For each track a walk that plans its pieces, and one that copies their bytes.
@@ -248,7 +248,7 @@ impl Writer {
         steps: &mut Steps<L>,
     ) -> Result<Writer, Refusal>
         ensures writer { IfOk result (IsWriterOf movie.now) }
-        ensures held { IfOk result (λ w. held w ≡ length w.head.items + 2 * (length movie.now.tracks * movie.now.longest) + 24 * length w.rows.items + min PIECE (length (waiting w.carrier ++ w.head.items) + MOST_WAITING)) }
+        ensures held { IfOk result (λ w. held w ≡ length w.head.items + 2 * (length movie.now.tracks * movie.now.longest) + 24 * length w.rows.items + PIECE) }
         ensures bound { IfOk result (λ w. held w ≤ length (waiting w.carrier ++ w.head.items) + 2 * (length movie.now.tracks * movie.now.longest) + 24 * length w.rows.items + MOST_WAITING) }
         ensures honesty { S.is_honest store.new ≡ S.is_honest store.old }
         ensures file { S.file store.new ≡ S.file store.old }
@@ -260,12 +260,9 @@ impl Writer {
         ensures may { WhereOpened (S.is_honest store.old) (S.file store.old) movie.now (λ tree. IfOk result (λ w. MayAllBegin (S.file store.old) tree w.planning.items × MayAllBegin (S.file store.old) tree w.copying.items)) }
     {
         let plan = plan_all(alloc, movie, store, steps)?;
-        let head = head_of(alloc, movie)?;
-        let room = PIECE.min(head.len() + MOST_WAITING);
-        let (front, rest) = head.split_at(room.min(head.len()));
         Ok(Writer {
-            carrier: Carrier::holding(alloc, room, front)?,
-            head: rest.to_vec(alloc)?,
+            carrier: Carrier::new(alloc, PIECE)?,
+            head: head_of(alloc, movie)?,
             rows: vec![in alloc; NO_ROW; plan.longest as usize]?,
             planning: walks_of(alloc, movie)?,
             copying: walks_of(alloc, movie)?,

@@ -61,18 +61,6 @@ impl Carrier {
         Ok(Carrier { buffer, used: 0 })
     }
 
-    /// A buffer of so many bytes, at least one, in which these wait.
-    pub fn holding(alloc: Global, len: usize, bytes: &[u8]) -> Result<Carrier, AllocError>
-        requires some { 0 < len }
-        requires fits { length bytes.now ≤ len }
-        ensures room { IfOk result (λ c. vec_len c.buffer ≡ len) }
-        ensures waits { IfOk result (λ c. waiting c ≡ bytes.now) }
-    {
-        let mut carrier = Carrier::new(alloc, len)?;
-        carrier.add(bytes);
-        Ok(carrier)
-    }
-
     /// Puts what waits.
     pub fn flush<K: Sink>(&mut self, sink: &mut K) -> Result<(), Refusal>
         ensures room { self.new.buffer ≡ self.old.buffer }
