@@ -64,6 +64,7 @@ pub mod WriterTurns
 pub mod TurnTaken
 pub mod TakenFrom
 pub mod FirstTurn
+pub mod NextSamples
 pub mod Planning
 pub mod HeadAgain
 pub mod PieceCounts

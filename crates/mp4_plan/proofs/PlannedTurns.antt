@@ -22,7 +22,7 @@ use Rattle.mp4_plan.specs.Sizes.{moof_sizes}
 use Rattle.mp4_plan.specs.Taken.{AreTaken}
 use Rattle.mp4_plan.specs.TurnLaws.{piece_if}
 use Rattle.mp4_plan.specs.Turns.{first_scale, turn_end, turned, Sticks}
-use Rattle.mp4_plan.specs.Writers.{AllCome, AllBegin, IsPlanOf, longest_piece, planned_length}
+use Rattle.mp4_plan.specs.Writers.{AllCome, AllBegin, firsts, IsPlanOf, longest_piece, planned_length}
 use Rattle.mp4_plan.specs.Writers as writers
 use Rattle.mp4_plan.specs.declared.ends.End.{End}
 use Rattle.mp4_plan.specs.declared.planner.Planned.{Planned}
@@ -31,6 +31,7 @@ use Rattle.mp4_plan.specs.declared.writer.Plan.{Plan}
 use Rattle.mp4_plan.proofs.ComeAt.{come_with}
 use Rattle.mp4_plan.proofs.FirstTurn.{begins_at, first_turn}
 use Rattle.mp4_plan.proofs.Lefts.{left_count, pieces_from, IsTurn}
+use Rattle.mp4_plan.proofs.NextSamples.{first_at, firsts_set}
 use Rattle.mp4_plan.proofs.PieceCounts.{piece_counts}
 use Rattle.mp4_plan.proofs.PieceWritten.{AreKeys, IsFew, bytes_of_two}
 use Rattle.mp4_plan.proofs.Planning.{comes_there}
@@ -127,10 +128,11 @@ added keys p plan next long left adds four small none some le fits = by p.count 
 -- ---- all turns
 
 -- What was planned of the pieces before a turn, and the walks that go on from it.
-pub record IsPlanning (file : List ℕ) (tree : FileTree) (m : MovieSeen) (s : Schedule) (walks : List Walk) (plan : Plan) : Type 0 where
+pub record IsPlanning (file : List ℕ) (tree : FileTree) (m : MovieSeen) (s : Schedule) (walks : List Walk) (nexts : List (Option SampleAt)) (plan : Plan) : Type 0 where
   pub lefts : List (List SampleAt)
   pub comings : List Coming
   pub come : AllCome file tree m tree.movie.tracks walks lefts
+  pub shown : nexts ≡ firsts lefts
   pub turn : IsTurn file m.tracks s lefts comings
   pub few : left_count lefts ≤ 2 ^ 24
   pub fits : plan.len + left_count lefts * 2 ^ 33 ≤ 2 ^ 57
@@ -147,9 +149,9 @@ no_plan : Plan
 no_plan = record { longest = 0; len = 0 }
 
 -- Before the first turn nothing is planned.
-pub planning_first : (file : List ℕ) (tree : FileTree) (m : MovieSeen) (s : Schedule) (walks : List Walk) (from : ℕ) → IsOpenedAs file m tree → AllBegin file tree m walks → from ≡ writers.first_dts (map (track_samples tree) tree.movie.tracks)
-    → s.tracks ≡ length m.tracks → s.first ≡ first_scale m.tracks → s.left ≡ min (sum_by (λ (i : TrackInfo). i.samples) m.tracks) (2 ^ 64 - 1) → (s.track ≡ 0) × (s.from ≡ from) × (s.next ≡ None) → IsPlanning file tree m s walks (record { longest = 0; len = 0 })
-planning_first file tree m s walks from o come time tracks first left starts =
+pub planning_first : (file : List ℕ) (tree : FileTree) (m : MovieSeen) (s : Schedule) (walks : List Walk) (nexts : List (Option SampleAt)) (from : ℕ) → IsOpenedAs file m tree → AllBegin file tree m walks → nexts ≡ firsts (map (track_samples tree) tree.movie.tracks) → from ≡ writers.first_dts (map (track_samples tree) tree.movie.tracks)
+    → s.tracks ≡ length m.tracks → s.first ≡ first_scale m.tracks → s.left ≡ min (sum_by (λ (i : TrackInfo). i.samples) m.tracks) (2 ^ 64 - 1) → (s.track ≡ 0) × (s.from ≡ from) × (s.next ≡ None) → IsPlanning file tree m s walks nexts (record { longest = 0; len = 0 })
+planning_first file tree m s walks nexts from o come shown time tracks first left starts =
     let lefts = map (track_samples tree) tree.movie.tracks in
     let count = all_counted file m tree s.left o left in
     let is = first_turn file m tree s o (record { tracks = tracks; first = first; track = starts.0; from = starts.1 ∙ time ∙ begins_same lefts; next = starts.2; left = count }) in
@@ -158,6 +160,7 @@ planning_first file tree m s walks from o come time tracks first left starts =
       lefts = lefts;
       comings = map coming_of (presentation_of file tree).tracks;
       come = come;
+      shown = shown;
       turn = is.0;
       few = few;
       fits = omega (arith, few);
@@ -166,7 +169,7 @@ planning_first file tree m s walks from o come time tracks first left starts =
       len = (let n : 0 + length (pieces_bytes 1 (pieces_from s (map coming_of (presentation_of file tree).tracks))) ≡ length (pieces_bytes 1 (pieces_from s (map coming_of (presentation_of file tree).tracks))) = omega arith in n) ∙ ap (λ ps. length (pieces_bytes 1 ps)) is.1;
     }
 
-module _ (file : List ℕ) (tree : FileTree) (m : MovieSeen) (s : Schedule) (walks : List Walk) (plan : Plan) (o : IsOpenedAs file m tree) (h : IsPlanning file tree m s walks plan) where
+module _ (file : List ℕ) (tree : FileTree) (m : MovieSeen) (s : Schedule) (walks : List Walk) (nexts : List (Option SampleAt)) (plan : Plan) (o : IsOpenedAs file m tree) (h : IsPlanning file tree m s walks nexts plan) where
   -- Behind the last turn all is planned.
   pub planning_end : s.tracks ≤ s.track → IsPlanOf (presentation_of file tree) plan
   planning_end le =
@@ -188,6 +191,7 @@ module _ (file : List ℕ) (tree : FileTree) (m : MovieSeen) (s : Schedule) (wal
     pub end_is : end ≡ turn_end s info.timescale
     pub comes : Comes file tree t m walk left
     pub few : length left ≤ 2 ^ 24
+    pub shown : slice_get nexts s.track ≡ Some (slice_get left 0)
 
   pub has_turn : (k : ℕ) (walk : Walk) (end : End) → (k ≡ s.track) × (s.track < s.tracks) → walk ≡ slice_index_or walks k walk → length walks ≡ length m.tracks → ((info : TrackInfo) → slice_get m.tracks s.track ≡ Some info → end ≡ turn_end s info.timescale) → HasTurn k walk end
   has_turn k walk end at is_walk many is_end =
@@ -208,6 +212,7 @@ module _ (file : List ℕ) (tree : FileTree) (m : MovieSeen) (s : Schedule) (wal
         end_is = is_end info.0 info.1;
         comes = subst (λ w. Comes file tree r.t m w r.left) (sym is_walk) (subst (λ j. Comes file tree r.t m (slice_index_or walks j walk) r.left) (sym at.0) r.comes);
         few = omega (arith, fits, all);
+        shown = ap (λ xs. slice_get xs s.track) h.shown ∙ first_at h.lefts s.track r.left r.is_left;
       }
 
   module _ (k : ℕ) (walk : Walk) (end : End) (t : HasTurn k walk end) (lt : s.track < s.tracks) where
@@ -223,9 +228,9 @@ module _ (file : List ℕ) (tree : FileTree) (m : MovieSeen) (s : Schedule) (wal
 
     -- Behind it one more piece is planned, if it took samples.
     pub planning_next : (p : Planned) (now : Walk) (next : Option SampleAt) (later : Plan) (on : Schedule) → p ≡ planned_of (piece_fed (piece_from end) t.left).gathered → Comes file tree t.t m now (samples_after (piece_from end) t.left)
-        → next ≡ slice_get (samples_after (piece_from end) t.left) 0 → IsSmall p → Adds (keys_seen t.info.keys) p plan later → on ≡ turned s end p.count next → IsPlanning file tree m on (slice_set walks k now) later
+        → next ≡ slice_get (samples_after (piece_from end) t.left) 0 → IsSmall p → Adds (keys_seen t.info.keys) p plan later → on ≡ turned s end p.count next → IsPlanning file tree m on (slice_set walks k now) (slice_set nexts k next) later
     planning_next p now next later on is comes after small adds goes =
-        subst (λ j. IsPlanning file tree m on (slice_set walks j now) later) (sym t.place) (subst (λ (r : Schedule). IsPlanning file tree m r (slice_set walks s.track now) later) (sym turned_is) planned)
+        subst (λ j. IsPlanning file tree m on (slice_set walks j now) (slice_set nexts j next) later) (sym t.place) (subst (λ (r : Schedule). IsPlanning file tree m r (slice_set walks s.track now) (slice_set nexts s.track next) later) (sym turned_is) planned)
       where
         n : ℕ
         n = more_of (piece_from end) t.left
@@ -274,11 +279,12 @@ module _ (file : List ℕ) (tree : FileTree) (m : MovieSeen) (s : Schedule) (wal
         many : length u.samples ≡ n
         many = sym (taken_count file (keys_seen t.info.keys) (take n t.left) u.samples u.taken) ∙ length-take-le n t.left le
 
-        planned : IsPlanning file tree m (turned s end n (slice_get behind 0)) (slice_set walks s.track now) later
+        planned : IsPlanning file tree m (turned s end n (slice_get behind 0)) (slice_set walks s.track now) (slice_set nexts s.track next) later
         planned = record {
           lefts = slice_set h.lefts s.track behind;
           comings = u.later;
           come = come_with file tree m tree.movie.tracks walks h.lefts s.track t.t now behind h.come t.is_tree comes;
+          shown = (λ i. slice_set (h.shown i) s.track (after i)) ∙ sym (firsts_set h.lefts s.track behind);
           turn = u.on;
           few = (let all = h.few in omega (arith, all, left_is));
           fits = (let a = h.fits in let b = sum.0 in let c = sum.1 in omega (arith, a, b, c, left_is, fewer, count));

@@ -26,7 +26,7 @@ use Rattle.mp4_plan.specs.Pieces.{TimedSample, Piece, pieces}
 use Rattle.mp4_plan.specs.Taken.{AreTaken}
 use Rattle.mp4_plan.specs.TurnLaws.{piece_if}
 use Rattle.mp4_plan.specs.Turns.{first_scale, turn_end, turned, track_passed, wrapped, is_over}
-use Rattle.mp4_plan.specs.Writers.{AllCome, AllBegin, IsReady, first_dts, longest_piece, head_of_normal, turn_head, sequence_behind, turn_bytes}
+use Rattle.mp4_plan.specs.Writers.{AllCome, AllBegin, IsReady, firsts, first_dts, longest_piece, head_of_normal, turn_head, sequence_behind, turn_bytes}
 use Rattle.mp4_plan.specs.declared.ends.End.{End}
 use Rattle.mp4_plan.specs.declared.moof_front.PieceHead.{PieceHead}
 use Rattle.mp4_plan.specs.declared.planner.Planned.{Planned}
@@ -36,6 +36,7 @@ use Rattle.mp4_plan.proofs.ComeAt.{come_at, come_with}
 use Rattle.mp4_plan.proofs.EachAt.{holds_with}
 use Rattle.mp4_plan.proofs.FirstTurn.{IsFirst, begins_at, first_turn}
 use Rattle.mp4_plan.proofs.FrontsPut.{stopped_at, stopped_behind}
+use Rattle.mp4_plan.proofs.NextSamples.{first_at, firsts_set}
 use Rattle.mp4_plan.proofs.Lefts.{left_count, pieces_from, IsTurn}
 use Rattle.mp4_plan.proofs.PieceCounts.{piece_counts, piece_within, piece_gathers}
 use Rattle.mp4_plan.proofs.PieceWritten.{AreKeys, IsFew, turn_written, head_some, head_counts, bytes_of_two}
@@ -102,11 +103,12 @@ piece_small id (suc n) left (s ∷ samples) file keys z = omega arith
 -- ---- at a turn
 
 module _ (file : List ℕ) (tree : FileTree) (m : MovieSeen) where
-  pub record WritesOn (s : Schedule) (sequence : ℕ) (planning copying : List Walk) (rows : ℕ) (before after : Option (List ℕ)) (held : List ℕ) : Type 0 where
+  pub record WritesOn (s : Schedule) (sequence : ℕ) (planning copying : List Walk) (nexts : List (Option SampleAt)) (rows : ℕ) (before after : Option (List ℕ)) (held : List ℕ) : Type 0 where
     pub lefts : List (List SampleAt)
     pub comings : List Coming
     pub plan : AllCome file tree m tree.movie.tracks planning lefts
     pub copy : AllCome file tree m tree.movie.tracks copying lefts
+    pub shown : nexts ≡ firsts lefts
     pub turn : IsTurn file m.tracks s lefts comings
     pub lie : AllByRecursion (λ (left : List SampleAt). AllByRecursion (IsBelow (length file)) left) lefts
     pub fits : AllByRecursion (λ (p : Piece). length p.samples ≤ rows) (pieces_from s comings)
@@ -116,7 +118,7 @@ module _ (file : List ℕ) (tree : FileTree) (m : MovieSeen) where
     pub whole : normal (presentation_of file tree) ≡ done ++ pieces_bytes sequence (pieces_from s comings)
 
   -- the track whose turn it is, and what its turn takes
-  pub record AtTurn (s : Schedule) (planning copying : List Walk) (rows : ℕ) (lefts : List (List SampleAt)) (comings : List Coming) : Type 0 where
+  pub record AtTurn (s : Schedule) (planning copying : List Walk) (nexts : List (Option SampleAt)) (rows : ℕ) (lefts : List (List SampleAt)) (comings : List Coming) : Type 0 where
     pub t : TrackTree
     pub walk : Walk
     pub copied : Walk
@@ -132,10 +134,11 @@ module _ (file : List ℕ) (tree : FileTree) (m : MovieSeen) where
     pub taken : TurnTaken file m.tracks s lefts comings info left
     pub below : AllByRecursion (IsBelow (length file)) left
     pub fits : more_of (piece_from (turn_end s info.timescale)) left ≤ rows
+    pub shown : slice_get nexts s.track ≡ Some (slice_get left 0)
 
-  pub at_turn : (s : Schedule) (sequence : ℕ) (planning copying : List Walk) (rows : ℕ) (before after : Option (List ℕ)) (held : List ℕ) → IsOpenedAs file m tree → (h : WritesOn s sequence planning copying rows before after held)
-      → s.track < s.tracks → s.tracks ≡ length m.tracks → length planning ≡ length m.tracks → length copying ≡ length m.tracks → AtTurn s planning copying rows h.lefts h.comings
-  at_turn s sequence planning copying rows before after held o h lt tracks plans copies =
+  pub at_turn : (s : Schedule) (sequence : ℕ) (planning copying : List Walk) (nexts : List (Option SampleAt)) (rows : ℕ) (before after : Option (List ℕ)) (held : List ℕ) → IsOpenedAs file m tree → (h : WritesOn s sequence planning copying nexts rows before after held)
+      → s.track < s.tracks → s.tracks ≡ length m.tracks → length planning ≡ length m.tracks → length copying ≡ length m.tracks → AtTurn s planning copying nexts rows h.lefts h.comings
+  at_turn s sequence planning copying nexts rows before after held o h lt tracks plans copies =
       let a = come_at file tree m tree.movie.tracks planning h.lefts s.track h.plan (omega (arith, lt, tracks, plans)) in
       let b = come_at file tree m tree.movie.tracks copying h.lefts s.track h.copy (omega (arith, lt, tracks, copies)) in
       let i = there_is m.tracks s.track (omega (arith, lt, tracks)) in
@@ -159,9 +162,10 @@ module _ (file : List ℕ) (tree : FileTree) (m : MovieSeen) where
         taken = taken;
         below = member_at (λ (left : List SampleAt). AllByRecursion (IsBelow (length file)) left) h.lefts s.track a.left a.is_left h.lie;
         fits = (turn_fits rows file m.tracks s h.lefts h.comings i.0 a.left taken h.fits).0;
+        shown = ap (λ xs. slice_get xs s.track) h.shown ∙ first_at h.lefts s.track a.left a.is_left;
       }
 
-  module _ (s : Schedule) (sequence : ℕ) (planning copying : List Walk) (rows : ℕ) (before after : Option (List ℕ)) (held : List ℕ) (h : WritesOn s sequence planning copying rows before after held) where
+  module _ (s : Schedule) (sequence : ℕ) (planning copying : List Walk) (nexts : List (Option SampleAt)) (rows : ℕ) (before after : Option (List ℕ)) (held : List ℕ) (h : WritesOn s sequence planning copying nexts rows before after held) where
     -- what was put so far is a front
     pub stopped : AppendsPrefix before after (normal (presentation_of file tree))
     stopped = stopped_behind before after [] held h.done (pieces_bytes sequence (pieces_from s h.comings)) (normal (presentation_of file tree)) h.goes h.whole
@@ -178,7 +182,7 @@ module _ (file : List ℕ) (tree : FileTree) (m : MovieSeen) where
         let q : AppendsPrefix before last (h.done ++ []) = BytesGoOn-fails before after last [] held h.done [] h.goes (AppendsPrefix-longer after last held [] p) in
         subst (λ (bs : List ℕ). AppendsPrefix before last bs) (append-nil h.done ∙ sym (all_done none)) q
 
-    module _ (a : AtTurn s planning copying rows h.lefts h.comings) (p : Planned) (is : p ≡ planned_of (piece_fed (piece_from (turn_end s a.info.timescale)) a.left).gathered) (few : IsFew p) where
+    module _ (a : AtTurn s planning copying nexts rows h.lefts h.comings) (p : Planned) (is : p ≡ planned_of (piece_fed (piece_from (turn_end s a.info.timescale)) a.left).gathered) (few : IsFew p) where
       abbrev end : End
       end = turn_end s a.info.timescale
 
@@ -235,7 +239,7 @@ module _ (file : List ℕ) (tree : FileTree) (m : MovieSeen) where
       -- it is taken along
       pub turn_over : (later copied : Walk) (last : Option (List ℕ)) (held_later : List ℕ) → Comes file tree a.t m later behind → Comes file tree a.t m copied (drop p.count a.left)
           → BytesGoOn after last held held_later (turn_bytes file head p keys (take p.count a.left))
-          → WritesOn (turned s end p.count (slice_get behind 0)) (sequence_behind sequence head) (slice_set planning s.track later) (slice_set copying s.track copied) rows before last held_later
+          → WritesOn (turned s end p.count (slice_get behind 0)) (sequence_behind sequence head) (slice_set planning s.track later) (slice_set copying s.track copied) (slice_set nexts s.track (slice_get behind 0)) rows before last held_later
       turn_over later copied last held_later comes copies bytes =
           let walks = come_with file tree m tree.movie.tracks planning h.lefts s.track a.t later behind h.plan a.is_tree comes in
           let own = subst (λ n. Comes file tree a.t m copied (drop n a.left)) counted copies in
@@ -248,11 +252,12 @@ module _ (file : List ℕ) (tree : FileTree) (m : MovieSeen) where
           let by = turned_left s end count (slice_get behind 0) in
           let number = numbered in
           let same : next ≡ turned s end p.count (slice_get behind 0) = ap (λ k. turned s end k (slice_get behind 0)) (sym counted) in
-          subst (λ (r : Schedule). WritesOn r (sequence_behind sequence head) (slice_set planning s.track later) (slice_set copying s.track copied) rows before last held_later) same (record {
+          subst (λ (r : Schedule). WritesOn r (sequence_behind sequence head) (slice_set planning s.track later) (slice_set copying s.track copied) (slice_set nexts s.track (slice_get behind 0)) rows before last held_later) same (record {
             lefts = slice_set h.lefts s.track behind;
             comings = a.taken.later;
             plan = walks;
             copy = copying_walks;
+            shown = ap (λ xs. slice_set xs s.track (slice_get behind 0)) h.shown ∙ sym (firsts_set h.lefts s.track behind);
             turn = a.taken.on;
             lie = holds_with (λ (l : List SampleAt). AllByRecursion (IsBelow (length file)) l) h.lefts s.track behind (each_dropped (IsBelow (length file)) count a.left a.below) h.lie;
             fits = (turn_fits rows file m.tracks s h.lefts h.comings a.info a.left a.taken h.fits).1;
@@ -269,9 +274,9 @@ module _ (file : List ℕ) (tree : FileTree) (m : MovieSeen) where
   all_lie (i ∷ infos) (t ∷ trees) z = (z.0.lies, all_lie infos trees z.1)
 
   -- the first turn
-  pub begins : (s : Schedule) (w : Writer) (planning copying : List Walk) (before after : Option (List ℕ)) (held : List ℕ) → IsOpenedAs file m tree → IsReady file tree m w → IsFirst m.tracks (map (track_samples tree) tree.movie.tracks) s
-      → AllBegin file tree m planning → AllBegin file tree m copying → BytesGoOn before after (waiting w.carrier) held w.head.items → WritesOn s 1 planning copying (length w.rows.items) before after held
-  begins s w planning copying before after held o r first plan copy goes =
+  pub begins : (s : Schedule) (w : Writer) (planning copying : List Walk) (nexts : List (Option SampleAt)) (before after : Option (List ℕ)) (held : List ℕ) → IsOpenedAs file m tree → IsReady file tree m w → IsFirst m.tracks (map (track_samples tree) tree.movie.tracks) s
+      → AllBegin file tree m planning → AllBegin file tree m copying → nexts ≡ firsts (map (track_samples tree) tree.movie.tracks) → BytesGoOn before after (waiting w.carrier) held w.head.items → WritesOn s 1 planning copying nexts (length w.rows.items) before after held
+  begins s w planning copying nexts before after held o r first plan copy shown goes =
       let all = first_turn file m tree s o first in
       let p = presentation_of file tree in
       let few = few_left file m tree o in
@@ -280,6 +285,7 @@ module _ (file : List ℕ) (tree : FileTree) (m : MovieSeen) where
         comings = map coming_of p.tracks;
         plan = plan;
         copy = copy;
+        shown = shown;
         turn = all.0;
         lie = all_lie m.tracks tree.movie.tracks (track_facts file m tree o);
         fits = subst (λ (ps : List Piece). AllByRecursion (λ (q : Piece). length q.samples ≤ length w.rows.items) ps) (sym all.1) (subst (λ n. AllByRecursion (λ (q : Piece). length q.samples ≤ n) (pieces p)) (sym r.rows) (no_longer (pieces p)));

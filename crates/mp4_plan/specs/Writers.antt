@@ -39,6 +39,7 @@ pub record IsWriterOf (m : MovieSeen) (w : Writer) : Type 0 where
   pub planning : AreWalksOf m w.planning.items
   pub copying : AreWalksOf m w.copying.items
   pub few : length w.rows.items ≤ 2 ^ 24
+  pub nexts : length w.nexts.items ≡ length m.tracks
 
 -- the room for `moof`s in some walks
 abbrev pub rooms : List Walk → ℕ
@@ -110,6 +111,7 @@ pub record HasNoted (file : List ℕ) (tree : FileTree) (t : TrackTree) (m : Mov
   pub rows : take n.planned.count after.rows.items ≡ map row_seen (take n.planned.count left)
   pub walk : Walk
   pub planning : after.planning.items ≡ slice_set before.planning.items turn.track walk
+  pub nexts : after.nexts.items ≡ slice_set before.nexts.items turn.track n.next
   pub comes : Comes file tree t m walk (samples_after (piece_from turn.end) left)
 
 -- what is written of a piece, by what was planned of its samples
@@ -134,6 +136,10 @@ abbrev pub HaveCopied : List ℕ → FileTree → MovieSeen → ℕ → ℕ → 
 HaveCopied file tree m track count samples before after =
     (t : TrackTree) (walk : Walk) → slice_get before.copying.items track ≡ Some walk → Comes file tree t m walk samples
     → (next : Walk) × (after.copying.items ≡ slice_set before.copying.items track next) × Comes file tree t m next (drop count samples)
+
+-- the next sample of each track
+abbrev pub firsts : List (List SampleAt) → List (Option SampleAt)
+firsts lefts = map (λ (left : List SampleAt). slice_get left 0) lefts
 
 -- when the first of the first of some tracks begins, 0 where there is none
 abbrev pub first_dts : List (List SampleAt) → ℕ

@@ -17,7 +17,7 @@ ghost use Rattle.mp4_present.specs.Work.{MayTake, TakesOn};
 ghost use Rattle.mp4_plan.specs.HandsFed.{BytesCarried, sizes_of, stop_of, HandFed, HandNoted, KeepsOn};
 ghost use Rattle.mp4_plan.specs.Taken.{row_seen};
 
-use crate::ends::End;
+use crate::ends::{End, first_goes};
 use crate::limited::Limited;
 use crate::planner::{Planned, Planner};
 use crate::rows::Row;
@@ -167,6 +167,49 @@ pub(crate) fn plan_piece<S: Store, L: Ledger>(
             }
         }
     }
+}
+
+/// Plans the piece of a turn, which may have no samples, of a walk of which this sample is the next.
+pub(crate) fn plan_turn<S: Store, L: Ledger>(
+    walk: &mut Walk,
+    next: &mut Option<SampleAt>,
+    end: End,
+    movie: &Movie,
+    store: &mut S,
+    steps: &mut Steps<L>,
+) -> Result<Planned, Refusal>
+    requires { IsWalkOf movie.now walk.old }
+    ensures walk { OnOk result (IsWalkOf movie.now walk.new) }
+    ensures room { length walk.new.bytes.items ≡ length walk.old.bytes.items }
+    ensures honesty { S.is_honest store.new ≡ S.is_honest store.old }
+    ensures file { S.file store.new ≡ S.file store.old }
+    ensures planned { IsTrue (S.is_honest store.old) → (tree : FileTree) (t : TrackTree) (samples : List SampleAt)
+        → IsOpenedAs (S.file store.old) movie.now tree → Comes (S.file store.old) tree t movie.now walk.old samples
+        → next.old ≡ slice_get samples 0
+        → IfOk result (λ p. (p ≡ planned_of (piece_fed (piece_from end) samples).gathered)
+        × Comes (S.file store.old) tree t movie.now walk.new (samples_after (piece_from end) samples)
+        × (next.new ≡ slice_get (samples_after (piece_from end) samples) 0)) }
+    ensures unchanged { IsTrue (S.is_honest store.old) → (tree : FileTree) (t : TrackTree) (samples : List SampleAt)
+        → IsOpenedAs (S.file store.old) movie.now tree → Comes (S.file store.old) tree t movie.now walk.old samples
+        → length samples ≤ MOST_SAMPLES → IfErr result (λ r. r ≡ refusals.StoreChanged → ⊥) }
+    ensures few { IfOk result (λ p. p.count ≤ MOST_SAMPLES) }
+    ensures rows { IfOk result (λ p. (j : ℕ) → slice_index p.group_rows j ≤ p.count) }
+    ensures bytes { IfOk result (λ p. p.bytes ≤ p.count * 4294967295) }
+    ensures work { IsTrue (S.is_honest store.old) → (tree : FileTree) (t : TrackTree) (n : ℕ)
+        → IsOpenedAs (S.file store.old) movie.now tree → MayTake (S.file store.old) tree t walk.old n
+        → OnOk result (TakesOn (S.file store.old) tree t n walk.new steps.old steps.new) }
+    ensures most { IsTrue (S.is_honest store.old) → (tree : FileTree) (t : TrackTree) (n : ℕ)
+        → IsOpenedAs (S.file store.old) movie.now tree → MayTake (S.file store.old) tree t walk.old n
+        → OnErr result (steps.new ≤ steps.old + n) }
+    ensures reads { OnOk result (S.read_failures store.new ≡ S.read_failures store.old) }
+    ensures refusal { IfErr result (RefusesLoad (S.read_failures store.old) (S.read_failures store.new)) }
+{
+    if !first_goes(&end, next) {
+        return Ok(Planner::new(end).piece());
+    }
+    let planned = plan_piece(walk, end, movie, store, steps)?;
+    *next = peek_sample(walk, movie, store, steps)?;
+    Ok(planned)
 }
 
 /// Plans the next piece of a walk with this end, and notes its samples in the rows. Where there is no room for them,

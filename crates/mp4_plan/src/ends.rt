@@ -1,6 +1,6 @@
 //! The ends of pieces.
 ghost use Rattle.std.specs.Prelude.{◌≡◌};
-ghost use Rattle.mp4_plan.specs.Ends.{has_ended};
+ghost use Rattle.mp4_plan.specs.Ends.{first_goes, has_ended};
 
 use mp4_tables::SampleAt;
 
@@ -28,6 +28,16 @@ pub enum Fed {
     More,
     /// The piece has ended; the next sample is not taken.
     Closed,
+}
+
+/// Whether the next sample, if there is one, goes into a new piece with this end.
+pub(crate) fn first_goes(end: &End, next: &Option<SampleAt>) -> bool
+    ensures { result ≡ first_goes end.now next.now }
+{
+    match next {
+        Some(sample) => !has_ended(end, sample),
+        None => false,
+    }
 }
 
 /// Whether a piece with this end has ended where the sample comes.

@@ -22,13 +22,14 @@ ghost use Rattle.mp4_present.specs.Carried.{RefusesCarry, RefusesCopy};
 ghost use Rattle.mp4_present.specs.declared.walks.Walk.{Walk};
 ghost use Rattle.mp4_plan.specs.Gathering.{more_of, piece_from};
 ghost use Rattle.mp4_present.specs.Movies.{RefusesLoad};
-ghost use Rattle.mp4_plan.specs.Writers.{RefusesMemory, RefusesPlan, AreWalksOf, IsWriterOf, rooms, held, turn_head, sequence_behind, AllCome, AllBegin, first_dts, head_of_normal, IsReady, bytes_of_piece, turn_bytes, HasNoted, IsNoted, HaveCopied, IsPlanOf, WhereOpened, planned_length};
+ghost use Rattle.mp4_plan.specs.Writers.{RefusesMemory, RefusesPlan, AreWalksOf, IsWriterOf, rooms, held, turn_head, sequence_behind, AllCome, AllBegin, first_dts, head_of_normal, IsReady, bytes_of_piece, turn_bytes, firsts, HasNoted, IsNoted, HaveCopied, IsPlanOf, WhereOpened, planned_length};
 
-use crate::courses::{Load, carry_piece, note_piece, peek_sample, plan_piece};
+use crate::courses::{Load, carry_piece, note_piece, peek_sample, plan_turn};
+use crate::ends::first_goes;
 use crate::moof_front::{PieceHead, moof_front};
 use crate::moof_rows::{carry_groups, carry_run};
 use crate::moof_sizes::sizes_of;
-use crate::planner::Planned;
+use crate::planner::{Planned, Planner};
 use crate::rows::{NO_ROW, Row};
 use crate::schedule::{Schedule, Turn};
 use mp4_boxes::{FourCc, Refusal, Steps, header};
@@ -76,6 +77,8 @@ pub struct Writer {
     /// For each track a walk that plans its pieces, and one that copies their bytes.
     planning: Vec<Walk>,
     copying: Vec<Walk>,
+    /// The next sample of each track.
+    nexts: Vec<Option<SampleAt>>,
 }
 
 // A walk over each track.
@@ -94,31 +97,48 @@ fn walks_of(alloc: Global, movie: &Movie) -> Result<Vec<Walk>, Refusal>
     Ok(walks)
 }
 
-// When the first track begins, 0 where it has no sample.
-fn first_time<S: Store, L: Ledger>(
+// Notes the next sample of each walk.
+fn peek_each<S: Store, L: Ledger>(
     walks: &mut [Walk],
+    nexts: &mut [Option<SampleAt>],
     movie: &Movie,
     store: &mut S,
     steps: &mut Steps<L>,
-) -> Result<u64, Refusal>
-    requires { AreWalksOf movie.now walks.old }
+) -> Result<(), Refusal>
+    requires walks { AreWalksOf movie.now walks.old }
+    requires nexts { length nexts.old ≡ length walks.old }
     ensures walks { OnOk result (AreWalksOf movie.now walks.new) }
     ensures rooms { rooms walks.new ≡ rooms walks.old }
     ensures honesty { S.is_honest store.new ≡ S.is_honest store.old }
     ensures file { S.file store.new ≡ S.file store.old }
-    ensures time { WhereOpened (S.is_honest store.old) (S.file store.old) movie.now (λ tree. (lefts : List (List SampleAt)) → AllCome (S.file store.old) tree movie.now tree.movie.tracks walks.old lefts → IfOk result (λ time. (time ≡ first_dts lefts) × AllCome (S.file store.old) tree movie.now tree.movie.tracks walks.new lefts)) }
-    ensures unchanged { WhereOpened (S.is_honest store.old) (S.file store.old) movie.now (λ tree. (lefts : List (List SampleAt)) → AllCome (S.file store.old) tree movie.now tree.movie.tracks walks.old lefts → IfErr result (λ r. r ≡ refusals.StoreChanged → ⊥)) }
+    ensures shown { WhereOpened (S.is_honest store.old) (S.file store.old) movie.now (λ tree. (lefts : List (List SampleAt))
+        → AllCome (S.file store.old) tree movie.now tree.movie.tracks walks.old lefts
+        → OnOk result ((nexts.new ≡ firsts lefts) × AllCome (S.file store.old) tree movie.now tree.movie.tracks walks.new lefts)) }
+    ensures unchanged { WhereOpened (S.is_honest store.old) (S.file store.old) movie.now (λ tree. (lefts : List (List SampleAt))
+        → AllCome (S.file store.old) tree movie.now tree.movie.tracks walks.old lefts
+        → IfErr result (λ r. r ≡ refusals.StoreChanged → ⊥)) }
     ensures reads { OnOk result (S.read_failures store.new ≡ S.read_failures store.old) }
     ensures refusal { IfErr result (RefusesLoad (S.read_failures store.old) (S.read_failures store.new)) }
-    ensures work { WhereOpened (S.is_honest store.old) (S.file store.old) movie.now (λ tree. (n : ℕ) → MayAllTake (S.file store.old) tree tree.movie.tracks walks.old n → OnOk result (AllTakeOn (S.file store.old) tree n walks.new steps.old steps.new)) }
-    ensures most { WhereOpened (S.is_honest store.old) (S.file store.old) movie.now (λ tree. (n : ℕ) → MayAllTake (S.file store.old) tree tree.movie.tracks walks.old n → OnErr result (steps.new ≤ steps.old + n)) }
+    ensures work { WhereOpened (S.is_honest store.old) (S.file store.old) movie.now (λ tree. (n : ℕ)
+        → MayAllTake (S.file store.old) tree tree.movie.tracks walks.old n
+        → OnOk result (AllTakeOn (S.file store.old) tree n walks.new steps.old steps.new)) }
+    ensures most { WhereOpened (S.is_honest store.old) (S.file store.old) movie.now (λ tree. (n : ℕ)
+        → MayAllTake (S.file store.old) tree tree.movie.tracks walks.old n
+        → OnErr result (steps.new ≤ steps.old + n)) }
 {
-    if walks.is_empty() {
-        return Ok(0);
+    for k in 0..walks.len() {
+        nexts[k] = peek_sample(&mut walks[k], movie, store, steps)?;
     }
-    match peek_sample(&mut walks[0], movie, store, steps)? {
-        Some(first) => Ok(first.dts),
-        None => Ok(0),
+    Ok(())
+}
+
+// When the first track begins, 0 where it has no sample.
+fn first_time(nexts: &[Option<SampleAt>]) -> u64
+    ensures { (lefts : List (List SampleAt)) → nexts.now ≡ firsts lefts → result ≡ first_dts lefts }
+{
+    match nexts.first() {
+        Some(Some(first)) => first.dts,
+        _ => 0,
     }
 }
 
@@ -162,17 +182,25 @@ fn plan_all<S: Store, L: Ledger>(
     ensures refusal { IfErr result (RefusesPlan (S.read_failures store.old) (S.read_failures store.new)) }
     ensures work { WhereOpened (S.is_honest store.old) (S.file store.old) movie.now (λ tree. steps.new ≤ steps.old + walks_steps tree) }
 {
-    let mut walks = walks_of(alloc, movie)?;
-    let from = first_time(walks.as_mut_slice(), movie, store, steps)?;
     let tracks = movie.tracks();
-    let mut schedule = Schedule::new(tracks, from);
+    let mut walks = walks_of(alloc, movie)?;
+    let mut nexts = vec![in alloc; None; tracks.len()]?;
+    peek_each(
+        walks.as_mut_slice(),
+        nexts.as_mut_slice(),
+        movie,
+        store,
+        steps,
+    )?;
+    let mut schedule = Schedule::new(tracks, first_time(nexts.as_slice()));
     let mut plan = Plan { longest: 0, len: 0 };
     while let Some(turn) = schedule.turn(tracks) {
         let walk = &mut walks[turn.track];
-        let planned = plan_piece(walk, turn.end, movie, store, steps)?;
-        let next = peek_sample(walk, movie, store, steps)?;
+        let next = &mut nexts[turn.track];
+        let planned = plan_turn(walk, next, turn.end, movie, store, steps)?;
+        let sample = *next;
         plan.add(&planned, &tracks[turn.track].keys);
-        schedule.pass(&turn, planned.count, next)?;
+        schedule.pass(&turn, planned.count, sample)?;
     }
     Ok(plan)
 }
@@ -266,6 +294,7 @@ impl Writer {
             rows: vec![in alloc; NO_ROW; plan.longest as usize]?,
             planning: walks_of(alloc, movie)?,
             copying: walks_of(alloc, movie)?,
+            nexts: vec![in alloc; None; movie.tracks().len()]?,
         })
     }
 
@@ -286,7 +315,7 @@ impl Writer {
         ensures keeps { (self.new.copying ≡ self.old.copying) × (self.new.carrier ≡ self.old.carrier) × (length self.new.rows.items ≡ length self.old.rows.items) }
         ensures honesty { S.is_honest store.new ≡ S.is_honest store.old }
         ensures file { S.file store.new ≡ S.file store.old }
-        ensures noted { WhereOpened (S.is_honest store.old) (S.file store.old) movie.now (λ tree. (t : TrackTree) (walk : Walk) (left : List SampleAt) → slice_get self.old.planning.items turn.now.track ≡ Some walk → Comes (S.file store.old) tree t movie.now walk left → IfOk result (HasNoted (S.file store.old) tree t movie.now turn.now sequence id left self.old self.new)) }
+        ensures noted { WhereOpened (S.is_honest store.old) (S.file store.old) movie.now (λ tree. (t : TrackTree) (walk : Walk) (left : List SampleAt) → slice_get self.old.planning.items turn.now.track ≡ Some walk → Comes (S.file store.old) tree t movie.now walk left → slice_get self.old.nexts.items turn.now.track ≡ Some (slice_get left 0) → IfOk result (HasNoted (S.file store.old) tree t movie.now turn.now sequence id left self.old self.new)) }
         ensures unchanged { WhereOpened (S.is_honest store.old) (S.file store.old) movie.now (λ tree. (t : TrackTree) (walk : Walk) (left : List SampleAt) → slice_get self.old.planning.items turn.now.track ≡ Some walk → Comes (S.file store.old) tree t movie.now walk left → more_of (piece_from turn.now.end) left ≤ length self.old.rows.items → IfErr result (λ r. r ≡ refusals.StoreChanged → ⊥)) }
         ensures few { IfOk result (λ n. (n.planned.count ≤ length self.old.rows.items) × (n.planned.bytes + 16 < 2 ^ 64) × ((j : ℕ) → slice_index n.planned.group_rows j ≤ n.planned.count)) }
         ensures reads { OnOk result (S.read_failures store.new ≡ S.read_failures store.old) }
@@ -294,11 +323,19 @@ impl Writer {
         ensures work { WhereOpened (S.is_honest store.old) (S.file store.old) movie.now (λ tree. (n : ℕ) → MayAllTake (S.file store.old) tree tree.movie.tracks self.old.planning.items n → OnOk result (AllTakeOn (S.file store.old) tree n self.new.planning.items steps.old steps.new)) }
         ensures most { WhereOpened (S.is_honest store.old) (S.file store.old) movie.now (λ tree. (n : ℕ) → MayAllTake (S.file store.old) tree tree.movie.tracks self.old.planning.items n → OnErr result (steps.new ≤ steps.old + n)) }
     {
+        let first = self.nexts[turn.track];
+        if !first_goes(&turn.end, &first) {
+            return Ok(Noted {
+                planned: Planner::new(turn.end).piece(),
+                head: None,
+                next: first,
+            });
+        }
         let walk = &mut self.planning[turn.track];
-        let first = peek_sample(walk, movie, store, steps)?;
         let rows = self.rows.as_mut_slice();
         let planned = note_piece(walk, turn.end, rows, movie, store, steps)?;
         let next = peek_sample(walk, movie, store, steps)?;
+        self.nexts[turn.track] = next;
         Ok(Noted {
             planned,
             head: turn_head(sequence, id, planned.count, &first),
@@ -329,7 +366,7 @@ impl Writer {
         ensures put { WhereOpened (S.is_honest store.old) (S.file store.old) movie.now (λ tree. (samples : List SampleAt) → IsNoted (S.file store.old) tree movie.now track planned.now.count samples self.old → (info : TrackInfo) → slice_get movie.now.tracks track ≡ Some info → AreApart (keys_seen info.keys) → OnOk result (BytesGoOn (K.contents sink.old) (K.contents sink.new) (waiting self.old.carrier) (waiting self.new.carrier) (bytes_of_piece (S.file store.old) head planned.now (keys_seen info.keys) (take planned.now.count samples)))) }
         ensures prefix { WhereOpened (S.is_honest store.old) (S.file store.old) movie.now (λ tree. (samples : List SampleAt) → IsNoted (S.file store.old) tree movie.now track planned.now.count samples self.old → (info : TrackInfo) → slice_get movie.now.tracks track ≡ Some info → AreApart (keys_seen info.keys) → OnErr result (AppendsPrefix (K.contents sink.old) (K.contents sink.new) (waiting self.old.carrier ++ bytes_of_piece (S.file store.old) head planned.now (keys_seen info.keys) (take planned.now.count samples)))) }
         ensures copied { WhereOpened (S.is_honest store.old) (S.file store.old) movie.now (λ tree. (samples : List SampleAt) → OnOk result (HaveCopied (S.file store.old) tree movie.now track planned.now.count samples self.old self.new)) }
-        ensures keeps { OnOk result ((self.new.planning ≡ self.old.planning) × (self.new.rows ≡ self.old.rows)) }
+        ensures keeps { OnOk result ((self.new.planning ≡ self.old.planning) × (self.new.rows ≡ self.old.rows) × (self.new.nexts ≡ self.old.nexts)) }
         ensures unchanged { WhereOpened (S.is_honest store.old) (S.file store.old) movie.now (λ tree. (samples : List SampleAt) → IsNoted (S.file store.old) tree movie.now track planned.now.count samples self.old → planned.now.count ≤ length samples → planned.now.bytes ≡ sum_of (λ (s : SampleAt). s.size) (take planned.now.count samples) → AllByRecursion (IsBelow (length (S.file store.old))) samples → IfErr result (λ r. r ≡ refusals.StoreChanged → ⊥)) }
         ensures reads { OnOk result (S.read_failures store.new ≡ S.read_failures store.old) }
         ensures puts { OnOk result (K.put_failures sink.new ≡ K.put_failures sink.old) }
@@ -377,7 +414,7 @@ impl Writer {
         ensures put { WhereOpened (S.is_honest store.old) (S.file store.old) movie.now (λ tree. (samples : List SampleAt) → IsNoted (S.file store.old) tree movie.now track planned.now.count samples self.old → (info : TrackInfo) → slice_get movie.now.tracks track ≡ Some info → AreApart (keys_seen info.keys) → OnOk result (BytesGoOn (K.contents sink.old) (K.contents sink.new) (waiting self.old.carrier) (waiting self.new.carrier) (turn_bytes (S.file store.old) head planned.now (keys_seen info.keys) (take planned.now.count samples)))) }
         ensures prefix { WhereOpened (S.is_honest store.old) (S.file store.old) movie.now (λ tree. (samples : List SampleAt) → IsNoted (S.file store.old) tree movie.now track planned.now.count samples self.old → (info : TrackInfo) → slice_get movie.now.tracks track ≡ Some info → AreApart (keys_seen info.keys) → OnErr result (AppendsPrefix (K.contents sink.old) (K.contents sink.new) (waiting self.old.carrier ++ turn_bytes (S.file store.old) head planned.now (keys_seen info.keys) (take planned.now.count samples)))) }
         ensures copied { WhereOpened (S.is_honest store.old) (S.file store.old) movie.now (λ tree. (samples : List SampleAt) → (head ≡ None → drop planned.now.count samples ≡ samples) → OnOk result (HaveCopied (S.file store.old) tree movie.now track planned.now.count samples self.old self.new)) }
-        ensures keeps { OnOk result ((self.new.planning ≡ self.old.planning) × (self.new.rows ≡ self.old.rows)) }
+        ensures keeps { OnOk result ((self.new.planning ≡ self.old.planning) × (self.new.rows ≡ self.old.rows) × (self.new.nexts ≡ self.old.nexts)) }
         ensures unchanged { WhereOpened (S.is_honest store.old) (S.file store.old) movie.now (λ tree. (samples : List SampleAt) → IsNoted (S.file store.old) tree movie.now track planned.now.count samples self.old → planned.now.count ≤ length samples → planned.now.bytes ≡ sum_of (λ (s : SampleAt). s.size) (take planned.now.count samples) → AllByRecursion (IsBelow (length (S.file store.old))) samples → IfErr result (λ r. r ≡ refusals.StoreChanged → ⊥)) }
         ensures reads { OnOk result (S.read_failures store.new ≡ S.read_failures store.old) }
         ensures puts { OnOk result (K.put_failures sink.new ≡ K.put_failures sink.old) }
@@ -413,8 +450,9 @@ impl Writer {
     {
         let tracks = movie.tracks();
         self.carrier.carry(self.head.as_slice(), sink)?;
-        let from = first_time(self.planning.as_mut_slice(), movie, store, steps)?;
-        let mut schedule = Schedule::new(tracks, from);
+        let walks = self.planning.as_mut_slice();
+        peek_each(walks, self.nexts.as_mut_slice(), movie, store, steps)?;
+        let mut schedule = Schedule::new(tracks, first_time(self.nexts.as_slice()));
         let mut sequence: u32 = 1;
         while let Some(turn) = schedule.turn(tracks) {
             let id = tracks[turn.track].id;

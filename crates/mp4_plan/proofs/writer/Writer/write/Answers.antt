@@ -1,4 +1,4 @@
-use Rattle.std.proofs.Common.{get_or, ◌≡◌, length, map, refl, sym, ap, ◌∙◌, arith}
+use Rattle.std.proofs.Common.{rules, get_or, ◌≡◌, length, map, refl, sym, ap, ◌∙◌, arith}
 use Rattle.std.specs.Vec.{with_items}
 use Rattle.std.proofs.lemmas.List.{with_items_is}
 use Rattle.std.proofs.lemmas.Result.{err_from_is_err_and}
@@ -22,50 +22,58 @@ returns-in_err-carry-clause-prefix g c told tree o ready =
     let e = err_from_is_err_and c.from_residual.result c.from_residual.ensures.1 in
     rw e.1 (head_stops (g.S.Store.file c.args.store.now) tree c.args.movie.now c.args.self.now _ _ c.as_slice.result.now ready c.as_slice.ensures.value c.in_err-carry.ensures.prefix)
 
-pub returns-in_err-from-clause-prefix : goal.returns-in_err-from-clause-prefix
-returns-in_err-from-clause-prefix g c told tree o ready =
-    let e = err_from_is_err_and c.from_residual-in_err-from.result c.from_residual-in_err-from.ensures.1 in
+pub returns-in_err-peek_each-clause-prefix : goal.returns-in_err-peek_each-clause-prefix
+returns-in_err-peek_each-clause-prefix g c told tree o ready =
+    let e = err_from_is_err_and c.from_residual-in_err-peek_each.result c.from_residual-in_err-peek_each.ensures.1 in
     rw e.1 (head_put (g.S.Store.file c.args.store.now) tree c.args.movie.now c.args.self.now _ _ _ c.as_slice.result.now ready c.as_slice.ensures.value c.in_ok-carry.ensures.bytes)
 
-pub returns-in_err-from-clause-unchanged : goal.returns-in_err-from-clause-unchanged
-returns-in_err-from-clause-unchanged g c told tree o ready =
-    let e = err_from_is_err_and c.from_residual-in_err-from.result c.from_residual-in_err-from.ensures.1 in
-    rw (e.1, e.2) (c.in_err-from.ensures.unchanged told tree o (map (track_samples tree) tree.movie.tracks) (rw c.as_mut_slice.ensures.value ready.planning))
+pub returns-in_err-peek_each-clause-unchanged : goal.returns-in_err-peek_each-clause-unchanged
+returns-in_err-peek_each-clause-unchanged g c told tree o ready =
+    let e = err_from_is_err_and c.from_residual-in_err-peek_each.result c.from_residual-in_err-peek_each.ensures.1 in
+    rw (e.1, e.2) (c.in_err-peek_each.ensures.unchanged told tree o (map (track_samples tree) tree.movie.tracks) (rw c.as_mut_slice-walks.ensures.value ready.planning))
 
 pub loop-turn-init : goal.loop-turn-init
 loop-turn-init g c =
     let w = c.args.self.now in
-    let come = c.in_ok-from.ensures.walks in
-    let count = come.count in
+    let e = c.in_ok-peek_each.ensures in
+    let count = e.walks.count in
     let planned = c.requires.planning.count in
     let len = w.planning.ok.0 in
-    let many : length c.first_time.new.walks ≡ w.planning.len = omega (arith, count, planned, len) in
-    let walks = with_items_is w.planning c.first_time.new.walks many in
+    let many : length c.peek_each.new.walks ≡ w.planning.len = omega (arith, count, planned, len) in
+    let walks = with_items_is w.planning c.peek_each.new.walks many in
+    let each : length c.peek_each.new.nexts ≡ w.nexts.len = search rules in
+    let nexts = with_items_is w.nexts c.peek_each.new.nexts each in
+    let next_count = c.requires.nexts in
+    let next_len = w.nexts.ok.0 in
+    let next_many = ap length nexts in
     record {
-      writer = record { planning = rw walks come; copying = c.requires.copying; few = c.requires.few };
+      writer = record { planning = rw walks e.walks; copying = c.requires.copying; few = c.requires.few; nexts = omega (arith, each, next_count, next_len, next_many) };
       held =
           let room = c.in_ok-carry.ensures.room in
           let old = w.carrier.buffer.ok.0 in
           let new = c.carry.new.self.buffer.ok.0 in
-          let rooms_are = c.in_ok-from.ensures.rooms in
-          let planning = ap rooms walks ∙ rooms_are ∙ ap rooms c.as_mut_slice.ensures.value in
+          let rooms_are = e.rooms in
+          let planning = ap rooms walks ∙ rooms_are ∙ ap rooms c.as_mut_slice-walks.ensures.value in
           omega (arith, room, old, new, planning);
       tracks = rw c.tracks-tracks.ensures at c.new-schedule.ensures.tracks;
-      honesty = c.in_ok-from.ensures.honesty;
-      file = c.in_ok-from.ensures.file;
-      reads = c.in_ok-from.ensures.reads;
+      honesty = e.honesty;
+      file = e.file;
+      reads = e.reads;
       puts = c.in_ok-carry.ensures.puts;
       rows = refl;
       on = λ told tree o ready.
           let file = g.S.Store.file c.args.store.now in
           let m = c.args.movie.now in
-          let times = c.in_ok-from.ensures.time told tree o (map (track_samples tree) tree.movie.tracks) (rw c.as_mut_slice.ensures.value ready.planning) in
+          let lefts = map (track_samples tree) tree.movie.tracks in
+          let shown = e.shown told tree o lefts (rw c.as_mut_slice-walks.ensures.value ready.planning) in
+          let time = c.first_time.ensures lefts (c.as_slice-2.ensures.value ∙ nexts ∙ shown.0) in
           let tracks = c.tracks-tracks.ensures in
-          let first = is_first file tree m c.new-schedule.result c.in_ok-from.from o (rw tracks at c.new-schedule.ensures.tracks) (rw tracks at c.new-schedule.ensures.first) c.new-schedule.ensures.starts (rw tracks at c.new-schedule.ensures.left) times.0 in
-          begins file tree m c.new-schedule.result w (with_items w.planning c.first_time.new.walks).items w.copying.items (g.K.Sink.contents c.args.sink.now) (g.K.Sink.contents c.carry.new.sink) (waiting c.carry.new.self) o ready first (rw walks times.1) ready.copying (rw c.as_slice.ensures.value at c.in_ok-carry.ensures.bytes);
+          let first = is_first file tree m c.new-schedule.result c.first_time.result o (rw tracks at c.new-schedule.ensures.tracks) (rw tracks at c.new-schedule.ensures.first) c.new-schedule.ensures.starts (rw tracks at c.new-schedule.ensures.left) time in
+          begins file tree m c.new-schedule.result w (with_items w.planning c.peek_each.new.walks).items w.copying.items (with_items w.nexts c.peek_each.new.nexts).items (g.K.Sink.contents c.args.sink.now) (g.K.Sink.contents c.carry.new.sink) (waiting c.carry.new.self) o ready first
+          (rw walks shown.1) ready.copying (nexts ∙ shown.0) (rw c.as_slice.ensures.value at c.in_ok-carry.ensures.bytes);
       within = λ told tree o n k plan copy.
-          let on = c.in_ok-from.ensures.work told tree o n (rw c.as_mut_slice.ensures.value plan) in
-          both_begin (g.S.Store.file c.args.store.now) tree (with_items w.planning c.first_time.new.walks).items w.copying.items n k _ _ (rw walks on) copy;
+          let on = e.work told tree o n (rw c.as_mut_slice-walks.ensures.value plan) in
+          both_begin (g.S.Store.file c.args.store.now) tree (with_items w.planning c.peek_each.new.walks).items w.copying.items n k _ _ (rw walks on) copy;
     }
 
 pub returns-in_err-noted-clause-prefix : goal.returns-in_err-noted-clause-prefix
@@ -79,7 +87,7 @@ returns-in_err-noted-clause-prefix g c told tree o ready =
     let h = i.on told tree o ready in
     let before = g.K.Sink.contents c.args.sink.now in
     let after = g.K.Sink.contents c.loop-turn.sink in
-    rw e.1 (stopped file tree m s c.loop-turn.sequence w.planning.items w.copying.items (length w.rows.items) before after (waiting w.carrier) h)
+    rw e.1 (stopped file tree m s c.loop-turn.sequence w.planning.items w.copying.items w.nexts.items (length w.rows.items) before after (waiting w.carrier) h)
 
 pub returns-in_err-noted-clause-unchanged : goal.returns-in_err-noted-clause-unchanged
 returns-in_err-noted-clause-unchanged g c told tree o ready =
@@ -151,7 +159,7 @@ returns-in_err-pass-clause-prefix g c told tree o ready =
     let put = (rw (c.in_ok-noted.ensures.honesty, c.in_ok-noted.ensures.file, i.honesty, i.file) at c.in_ok-carry_turn.ensures.put) told tree o in
     let copied = (rw (c.in_ok-noted.ensures.honesty, c.in_ok-noted.ensures.file, i.honesty, i.file) at c.in_ok-carry_turn.ensures.copied) told tree o in
     let on = turn_goes file tree m o s c.loop-turn.sequence w before after h c.in-Some.turn here ends i.tracks i.writer c.note_turn.new.self c.in_ok-noted.noted (get_or c.tracks-tracks.result.now c.in-Some.turn.track c.index-tracks-turn.result).id noted c.in_ok-noted.ensures.keeps few is_id c.carry_turn.new.self (g.K.Sink.contents c.carry_turn.new.sink) _ put copied c.in_ok-carry_turn.ensures.keeps refl in
-    rw e.1 (stopped file tree m _ _ _ _ _ _ _ _ on)
+    rw e.1 (stopped file tree m _ _ _ _ _ _ _ _ _ on)
 
 pub returns-in_err-pass-clause-unchanged : goal.returns-in_err-pass-clause-unchanged
 returns-in_err-pass-clause-unchanged g c told tree o ready =
@@ -214,7 +222,7 @@ returns-clause-bytes g c told tree o ready =
     let before = g.K.Sink.contents c.args.sink.now in
     let after = g.K.Sink.contents c.loop-turn.sink in
     let none = turns_end file m.tracks s h.lefts h.comings h.turn (c.in_default.ensures.none refl) in
-    on_ok _ _ c.flush.result (λ x. all_put file tree m s c.loop-turn.sequence w.planning.items w.copying.items (length w.rows.items) before after (waiting w.carrier) h _ none x) c.flush.ensures.bytes
+    on_ok _ _ c.flush.result (λ x. all_put file tree m s c.loop-turn.sequence w.planning.items w.copying.items w.nexts.items (length w.rows.items) before after (waiting w.carrier) h _ none x) c.flush.ensures.bytes
 
 pub returns-clause-prefix : goal.returns-clause-prefix
 returns-clause-prefix g c told tree o ready =
@@ -227,15 +235,15 @@ returns-clause-prefix g c told tree o ready =
     let before = g.K.Sink.contents c.args.sink.now in
     let after = g.K.Sink.contents c.loop-turn.sink in
     let none = turns_end file m.tracks s h.lefts h.comings h.turn (c.in_default.ensures.none refl) in
-    on_err _ _ c.flush.result (λ x. not_all_put file tree m s c.loop-turn.sequence w.planning.items w.copying.items (length w.rows.items) before after (waiting w.carrier) h _ none x) c.flush.ensures.prefix
+    on_err _ _ c.flush.result (λ x. not_all_put file tree m s c.loop-turn.sequence w.planning.items w.copying.items w.nexts.items (length w.rows.items) before after (waiting w.carrier) h _ none x) c.flush.ensures.prefix
 
 pub returns-clause-unchanged : goal.returns-clause-unchanged
 returns-clause-unchanged g c told tree o ready =
     if_err _ _ c.flush.result (λ r x. put_unchanged _ _ r x) c.flush.ensures.refusal
 
-pub returns-in_err-from-clause-work : goal.returns-in_err-from-clause-work
-returns-in_err-from-clause-work g c told tree o n k plan copy =
-    let most = c.in_err-from.ensures.most told tree o n (rw c.as_mut_slice.ensures.value plan) in
+pub returns-in_err-peek_each-clause-work : goal.returns-in_err-peek_each-clause-work
+returns-in_err-peek_each-clause-work g c told tree o n k plan copy =
+    let most = c.in_err-peek_each.ensures.most told tree o n (rw c.as_mut_slice-walks.ensures.value plan) in
     omega (arith, most)
 
 pub returns-in_err-noted-clause-work : goal.returns-in_err-noted-clause-work

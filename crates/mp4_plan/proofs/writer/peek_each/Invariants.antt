@@ -1,0 +1,20 @@
+use Rattle.std.proofs.Common.{◌≡◌, ℕ, List, length, take}
+use Rattle.mp4_tables.specs.declared.sample.SampleAt.{SampleAt}
+use Rattle.mp4_plan.specs.Work.{MayAllTake, AllTakeOn}
+use Rattle.mp4_plan.specs.Writers.{AreWalksOf, AllCome, WhereOpened, firsts, rooms}
+use Rattle.mp4_plan.proofs.writer.peek_each.Given as goal
+
+-- the walks stand where they stood, and the next samples of the first of them are noted
+abbrev pub invariant-loop-k : goal.invariant-loop-k
+invariant-loop-k g l = record {
+  walks : AreWalksOf l.movie l.walks;
+  nexts : length l.nexts ≡ length l.walks;
+  many : length l.walks ≡ length l.fn.walks;
+  rooms : rooms l.walks ≡ rooms l.fn.walks;
+  honesty : g.S.Store.is_honest l.store ≡ g.S.Store.is_honest l.fn.store;
+  file : g.S.Store.file l.store ≡ g.S.Store.file l.fn.store;
+  reads : g.S.Store.read_failures l.store ≡ g.S.Store.read_failures l.fn.store;
+  shown : WhereOpened (g.S.Store.is_honest l.fn.store) (g.S.Store.file l.fn.store) l.movie (λ tree. (lefts : List (List SampleAt)) → AllCome (g.S.Store.file l.fn.store) tree l.movie tree.movie.tracks l.fn.walks lefts
+      → AllCome (g.S.Store.file l.fn.store) tree l.movie tree.movie.tracks l.walks lefts × (take l.k l.nexts ≡ firsts (take l.k lefts)));
+  takes : WhereOpened (g.S.Store.is_honest l.fn.store) (g.S.Store.file l.fn.store) l.movie (λ tree. (n : ℕ) → MayAllTake (g.S.Store.file l.fn.store) tree tree.movie.tracks l.fn.walks n → AllTakeOn (g.S.Store.file l.fn.store) tree n l.walks l.fn.steps l.steps);
+}
