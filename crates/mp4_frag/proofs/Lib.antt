@@ -24,6 +24,7 @@ pub mod GroupsTied
 pub mod RunsTied
 pub mod RowsTied
 pub mod Comings
+pub mod TimesKept
 pub mod PartsRead
 pub mod LeavesRead
 pub mod RowsLeft

@@ -63,4 +63,11 @@ impl FragPlace {
     {
         self.passed
     }
+
+    /// The decode time of the next sample; behind the last, that at which the next one is due.
+    pub fn dts(&self) -> u64
+        ensures { result ≡ self.now.dts }
+    {
+        self.dts
+    }
 }

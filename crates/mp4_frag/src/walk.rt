@@ -6,6 +6,7 @@ ghost use Rattle.mp4_tables.specs.Keys.{keys_seen};
 ghost use Rattle.mp4_frag.specs.FragmentSamples.{flags_of as flags_by};
 ghost use Rattle.mp4_frag.specs.ColumnsRead.{row_room};
 ghost use Rattle.mp4_frag.specs.PlacesIn.{LiesIn, IsPlaceIn, IsRowPlace, AreIndexPlaces, run_work, group_work, groups_work, work_behind, moof_work};
+ghost use Rattle.mp4_frag.specs.Times.{time_behind};
 ghost use Rattle.mp4_frag.specs.Walks.{Walk, Reached, at_first, rows_here, trafs_coming, row_signed, first_byte, part_of, boxes_between, trex_among, with_head, all_indexes, with_group, with_leaves, before_traf, end_held, rows_coming, run_coming, reached, walk_of, coming, begin as begin_by};
 
 use crate::check::{SBGP, TFHD, TRAF, TRUN, find_track};
@@ -156,6 +157,7 @@ fn open_traf(
     ensures next { result.next ≡ lying.inside }
     ensures end { result.traf_end ≡ lying.end }
     ensures same { (result.track ≡ place.track) × (result.keys ≡ place.keys) × (result.run ≡ place.run) }
+    ensures time { result.dts ≡ place.dts }
     ensures on { place.passed ≤ result.passed }
     ensures reached { reached payload.now result ≡ with_leaves (walk_of moof tracks.now place) (before_traf (reached payload.now place)) (boxes_between payload.now lying.inside lying.end) }
 {
@@ -228,6 +230,7 @@ fn open_run(payload: &[u8], lying: Lying, place: FragPlace) -> FragPlace
     ensures place { LiesIn payload.now result }
     ensures next { result.next ≡ lying.end }
     ensures same { (result.track ≡ place.track) × (result.keys ≡ place.keys) × (result.traf_end ≡ place.traf_end) }
+    ensures time { result.dts ≡ place.dts }
     ensures on { place.passed ≤ result.passed }
     ensures coming { (more : Reached → List SampleAt) → rows_coming (reached payload.now result) result.run.first_flags (rows_here payload.now result.run) more ≡ run_coming (reached payload.now place) (part_of payload.now lying.inside lying.end) more }
 {
@@ -271,6 +274,7 @@ fn pass_box(payload: &[u8], moof: u64, tracks: &[TrackState], place: FragPlace) 
     ensures place { LiesIn payload.now result }
     ensures next { place.next < result.next }
     ensures same { (result.track ≡ place.track) × (result.keys ≡ place.keys) }
+    ensures time { result.dts ≡ place.dts }
     ensures on { place.passed ≤ result.passed }
     ensures coming { coming payload.now (walk_of moof tracks.now place) result ≡ coming payload.now (walk_of moof tracks.now place) place }
 {
@@ -314,6 +318,7 @@ pub(crate) fn settle(payload: &[u8], moof: u64, tracks: &[TrackState], place: &m
     ensures bytes { AreBytes payload.now }
     ensures place { IsPlaceIn payload.now place.new }
     ensures same { (place.new.track ≡ place.old.track) × (place.new.keys ≡ place.old.keys) }
+    ensures time { place.new.dts ≡ place.old.dts }
     ensures on { place.old.passed ≤ place.new.passed }
     ensures coming { coming payload.now (walk_of moof tracks.now place.old) place.new ≡ coming payload.now (walk_of moof tracks.now place.old) place.old }
 {
@@ -384,6 +389,7 @@ fn pass_row(payload: &[u8], place: &mut FragPlace)
     ensures place { LiesIn payload.now place.new }
     ensures same { (place.new.track ≡ place.old.track) × (place.new.keys ≡ place.old.keys) }
     ensures on { place.old.passed ≤ place.new.passed }
+    ensures time { (w : Walk) → time_behind payload.now w place.new ≡ time_behind payload.now w place.old }
     ensures coming { (w : Walk) → coming payload.now w place.new ≡ drop 1 (coming payload.now w place.old) }
 {
     let row = row_here(payload, place.run);
@@ -404,6 +410,8 @@ pub(crate) fn pass_sample(payload: &[u8], moof: u64, tracks: &[TrackState], plac
     ensures place { IsPlaceIn payload.now place.new }
     ensures same { (place.new.track ≡ place.old.track) × (place.new.keys ≡ place.old.keys) }
     ensures on { place.old.passed ≤ place.new.passed }
+    ensures time { time_behind payload.now (walk_of moof tracks.now place.old) place.new
+        ≡ time_behind payload.now (walk_of moof tracks.now place.old) place.old }
     ensures coming { coming payload.now (walk_of moof tracks.now place.old) place.new ≡ drop 1 (coming payload.now (walk_of moof tracks.now place.old) place.old) }
 {
     pass_row(payload, place);
@@ -416,6 +424,7 @@ pub(crate) fn pass_sample(payload: &[u8], moof: u64, tracks: &[TrackState], plac
 pub(crate) fn first_place(moof: u64, track: u32, dts: u64, keys: Keys) -> FragPlace
     ensures place { (payload : List ℕ) → LiesIn payload result }
     ensures walk { (result.track ≡ track) × (result.keys ≡ keys) }
+    ensures time { result.dts ≡ dts }
     ensures coming { (payload : List ℕ) (w : Walk) → coming payload w result ≡ trafs_coming w (at_first moof dts) (boxes_between payload 0 (length payload)) }
 {
     FragPlace {

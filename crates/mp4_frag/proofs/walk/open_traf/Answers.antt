@@ -18,6 +18,7 @@ loop-at-preserved c =
       work = omega (arith, work, groups_fall c.args.payload.now c.loop-at.at child.inside child.end c.args.lying.end child.kind.0 c.in-Some.ensures.some);
       places = i.places;
       walk = i.walk;
+      time = i.time;
       on = i.on;
       whole = leaf_other c.args.payload.now (walk_of c.args.moof c.args.tracks.now c.args.place) (reached c.args.payload.now c.loop-at.opened) c.loop-at.at c.args.lying.end child.inside child.end child.kind.0 c.in-Some.ensures.some (sym c.if-eq.ensures) (sym c.if-eq-2.ensures) ∙ i.whole;
     }
@@ -36,6 +37,7 @@ loop-at-preserved-then-eq c =
       work = omega (arith, work, passed, left, groups_fall c.args.payload.now c.loop-at.at child.inside child.end c.args.lying.end child.kind.0 c.in-Some.ensures.some);
       places = search rules;
       walk = search rules;
+      time = search rules;
       on = search rules;
       whole = search rules;
     }

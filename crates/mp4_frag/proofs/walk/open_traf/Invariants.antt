@@ -11,6 +11,7 @@ invariant-loop-at l = record {
   work : l.opened.passed + l.opened.run.left + groups_work (boxes_between l.payload l.at l.lying.end) + work_behind l.payload l.lying.inside l.lying.end ≤ moof_work l.payload;
   places : (l.opened.next ≡ l.lying.inside) × (l.opened.traf_end ≡ l.lying.end);
   walk : (l.opened.track ≡ l.fn.place.track) × (l.opened.keys ≡ l.fn.place.keys) × (l.opened.run ≡ l.fn.place.run);
+  time : l.opened.dts ≡ l.fn.place.dts;
   on : l.fn.place.passed ≤ l.opened.passed;
   whole : with_leaves (walk_of l.moof l.tracks l.fn.place) (reached l.payload l.opened) (boxes_between l.payload l.at l.lying.end)
       ≡ with_leaves (walk_of l.moof l.tracks l.fn.place) (before_traf (reached l.payload l.fn.place)) (boxes_between l.payload l.lying.inside l.lying.end);
