@@ -25,6 +25,9 @@ pub mod RunsTied
 pub mod RowsTied
 pub mod Comings
 pub mod TimesKept
+pub mod LooksRead
+pub mod TrafsSkipped
+pub mod LooksAhead
 pub mod PartsRead
 pub mod LeavesRead
 pub mod RowsLeft
