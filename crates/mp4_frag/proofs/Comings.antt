@@ -54,27 +54,16 @@ run_leaf payload w s next end inside behind kind e k = rw (e, turned (codes "tru
 traf_over : (payload : List ℕ) (w : Walk) (s : Reached) (end : ℕ) → boxes_coming payload w s end end ≡ trafs_coming w s (boxes_between payload end (length payload))
 traf_over payload w s end = ap (λ boxes. runs_coming s boxes (λ t. trafs_coming w t (boxes_between payload end (length payload)))) (box_end payload end end (omega arith))
 
-over_at : (payload : List ℕ) (w : Walk) (s : Reached) (next end : ℕ) → next ≡ end → boxes_coming payload w s next end ≡ trafs_coming w s (boxes_between payload next (length payload))
+-- and those of the `moof` come next
+pub over_at : (payload : List ℕ) (w : Walk) (s : Reached) (next end : ℕ) → next ≡ end → boxes_coming payload w s next end ≡ trafs_coming w s (boxes_between payload next (length payload))
 over_at payload w s next end e = ap (λ n. boxes_coming payload w s next n) (sym e) ∙ traf_over payload w s next
 
--- none can be read
-pub moof_ends : (payload : List ℕ) (w : Walk) (s : Reached) (next end : ℕ) → next ≡ end → boxes_between payload next (length payload) ≡ [] → boxes_coming payload w s (length payload) (length payload) ≡ boxes_coming payload w s next end
-moof_ends payload w s next end n e =
-    traf_over payload w s (length payload) ∙ ap (trafs_coming w s) (box_end payload (length payload) (length payload) (omega arith) ∙ sym e) ∙ sym (over_at payload w s next end n)
-
--- it is no `traf`
-pub other_box : (payload : List ℕ) (w : Walk) (s : Reached) (next end inside behind : ℕ) (kind : List ℕ) → next ≡ end
-    → boxes_between payload next (length payload) ≡ box_at_place payload kind next inside behind ∷ boxes_between payload behind (length payload) → bytes_eq kind (codes "traf") ≡ false
-    → boxes_coming payload w s behind behind ≡ boxes_coming payload w s next end
-other_box payload w s next end inside behind kind n e k =
-    let passed : trafs_coming w s (boxes_between payload behind (length payload)) ≡ trafs_coming w s (boxes_between payload next (length payload)) = rw (e, turned (codes "traf") kind ∙ k) refl in
-    traf_over payload w s behind ∙ passed ∙ sym (over_at payload w s next end n)
-
-boxes_inside : (payload : List ℕ) (at inside end : ℕ) → at < inside → boxes_between payload inside end ≡ boxes_in (at + (inside - at)) (part_of payload inside end)
+-- the boxes of one lie where its payload does
+pub boxes_inside : (payload : List ℕ) (at inside end : ℕ) → at < inside → boxes_between payload inside end ≡ boxes_in (at + (inside - at)) (part_of payload inside end)
 unfolding boxes_between
 boxes_inside payload at inside end h = ap (λ n. boxes_in n (part_of payload inside end)) (omega arith)
 
--- it is one
+-- a `traf`
 pub traf_box : (payload : List ℕ) (w : Walk) (s opened : Reached) (next end inside behind : ℕ) (kind : List ℕ) → next ≡ end → next < inside
     → boxes_between payload next (length payload) ≡ box_at_place payload kind next inside behind ∷ boxes_between payload behind (length payload) → bytes_eq kind (codes "traf") ≡ true
     → opened ≡ with_leaves w (before_traf s) (boxes_between payload inside behind)

@@ -11,6 +11,7 @@ use Rattle.mp4_tables.specs.declared.sample.SampleAt.{SampleAt}
 use Rattle.mp4_frag.specs.ColumnsRead.{row_room}
 use Rattle.mp4_frag.specs.Fragments.{RunRow, run_of, run_rows}
 use Rattle.mp4_frag.proofs.BoxPlaces.{part_length}
+use Rattle.mp4_frag.specs.Looks.{over_run}
 use Rattle.mp4_frag.specs.Reading.{IsGroup, IsHead, IsRun, as_traf, head_values}
 use Rattle.mp4_frag.specs.Walks.{can_read, low_half, indexes_of, with_indexes, with_group, part_of, Walk, Reached, head_of, with_trex, trex_among, with_head, rows_here, rows_of, rows_coming, run_coming, begin, end_held}
 use Rattle.mp4_boxes.specs.BoxFaults.{Fails}
@@ -78,11 +79,11 @@ got (suc k) (t ∷ tracks) d lt = got k tracks d (omega arith)
 
 -- ---- runs
 
-nothing : (a : Bool) → (a && false) ≡ false
+pub nothing : (a : Bool) → (a && false) ≡ false
 nothing true = refl
 nothing false = refl
 
-nor_then : (a b : Bool) → (a && (b && false)) ≡ false
+pub nor_then : (a b : Bool) → (a && (b && false)) ≡ false
 nor_then a b = ap (λ v. a && v) (nothing b) ∙ nothing a
 
 -- a `trun` that can't be read
@@ -128,14 +129,16 @@ run_own s part run at rows more own r ea er =
     let first = r.first_flags in
     (λ i. rows_coming (record s { at = from i }) (first i) (er i) more) ∙ sym (first_taken (can_read trun part) s.is_own _ _ _ there own)
 
--- one of another track is passed
-pub run_other : (s : Reached) (part : List ℕ) (run : Run) (at end : ℤ) (first : Option ℕ) (none rows : List RunRow) (more : Reached → List SampleAt) → s.is_own ≡ false → IsRun part run → at ≡ begin s.base s.at run.data_offset
-    → rows ≡ rows_of part → end ≡ end_held s.inherited.size at rows → none ≡ [] → rows_coming (record s { at = end }) first none more ≡ run_coming s part more
-run_other s part run at end first none rows more own r ea er ee en =
+-- one that gives no samples is passed
+pub over_unread : (s : Reached) (part : List ℕ) (kind : Kind) → Fails trun part kind → (kind ≡ kinds.OffsetTooLarge → ⊥) → s ≡ over_run s part
+over_unread s part kind f d = rw (run_unread part kind f d) refl
+
+pub over_read : (s : Reached) (part : List ℕ) (run : Run) (at end : ℤ) (rows : List RunRow) → IsRun part run → at ≡ begin s.base s.at run.data_offset → rows ≡ rows_of part → end ≡ end_held s.inherited.size at rows → record s { at = end } ≡ over_run s part
+over_read s part run at end rows r ea er ee =
     let there = read trun part r.readable in
     let from : at ≡ begin s.base s.at (run_of part).data_offset = ea ∙ ap (begin s.base s.at) r.data_offset in
     let ends : end ≡ end_held s.inherited.size (begin s.base s.at (run_of part).data_offset) (rows_of part) = ee ∙ (λ i. end_held s.inherited.size (from i) (er i)) in
-    (λ i. rows_coming (record s { at = ends i }) first (en i) more) ∙ sym (second_taken (can_read trun part) s.is_own _ _ _ there own)
+    rw there (λ i. record s { at = ends i })
 
 -- there is room for them
 pub run_room : (payload : List ℕ) (inside end : ℕ) (run : Run) → inside ≤ end → end ≤ length payload → IsRun (part_of payload inside end) run → inside + run.rows + run.count * row_room run.bits ≤ length payload

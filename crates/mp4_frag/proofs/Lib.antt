@@ -24,6 +24,10 @@ pub mod GroupsTied
 pub mod RunsTied
 pub mod RowsTied
 pub mod Comings
+pub mod TimesKept
+pub mod LooksRead
+pub mod TrafsSkipped
+pub mod LooksAhead
 pub mod PartsRead
 pub mod LeavesRead
 pub mod RowsLeft

@@ -48,42 +48,14 @@ work_run payload passed left next end inside behind kind e k h =
     sums : (passed left all run rest trafs most : ℕ) → all ≡ run + rest → passed + left + (all + trafs) ≤ most → passed + run + (rest + trafs) ≤ most
     sums passed left all run rest trafs most e h = omega arith
 
--- the end of the `moof`
-pub work_moof_ends : (payload : List ℕ) (next end : ℕ) → work_behind payload (length payload) (length payload) ≤ work_behind payload next end
-unfolding work_behind
-work_moof_ends payload next end =
-    let none : runs_work (boxes_between payload (length payload) (length payload)) ≡ 0 = ap runs_work (none_here payload (length payload)) in
-    let none_behind : trafs_work (boxes_between payload (length payload) (length payload)) ≡ 0 = ap trafs_work (none_here payload (length payload)) in
-    omega (arith, none, none_behind)
-
--- another box of it
-pub work_box : (payload : List ℕ) (next end inside behind : ℕ) (kind : List ℕ) → next ≡ end → boxes_between payload next (length payload) ≡ box_here payload next inside behind kind ∷ boxes_between payload behind (length payload)
-    → work_behind payload behind behind ≤ work_behind payload next end
-unfolding work_behind
-work_box payload next end inside behind kind same e =
-    let none : runs_work (boxes_between payload behind behind) ≡ 0 = ap runs_work (none_here payload behind) in
-    let all = ap trafs_work e in
-    let there : trafs_work (boxes_between payload next (length payload)) ≡ trafs_work (boxes_between payload end (length payload)) = ap (λ n. trafs_work (boxes_between payload n (length payload))) same in
-    omega (arith, none, all, there)
-
-one_traf : (b : Box) (boxes : List Box) → bytes_eq b.kind (codes "traf") ≡ true → trafs_work (b ∷ boxes) ≡ traf_work (boxes_in (b.offset + b.header) b.payload) + trafs_work boxes
+-- one that is a `traf` costs what stands in it
+pub one_traf : (b : Box) (boxes : List Box) → bytes_eq b.kind (codes "traf") ≡ true → trafs_work (b ∷ boxes) ≡ traf_work (boxes_in (b.offset + b.header) b.payload) + trafs_work boxes
 one_traf b boxes e = rw (turned (codes "traf") b.kind ∙ e) refl
 
-inside_it : (payload : List ℕ) (at inside end : ℕ) → at < inside → boxes_in (at + (inside - at)) (part_of payload inside end) ≡ boxes_between payload inside end
+-- the boxes in it lie where its payload does
+pub inside_it : (payload : List ℕ) (at inside end : ℕ) → at < inside → boxes_in (at + (inside - at)) (part_of payload inside end) ≡ boxes_between payload inside end
 unfolding boxes_between
 inside_it payload at inside end lt = let same : at + (inside - at) ≡ inside = omega arith in ap (λ n. boxes_in n (part_of payload inside end)) same
-
--- a `traf` of it
-pub work_traf : (payload : List ℕ) (passed left next end inside behind : ℕ) (kind : List ℕ) → next ≡ end → next < inside → boxes_between payload next (length payload) ≡ box_here payload next inside behind kind ∷ boxes_between payload behind (length payload)
-    → bytes_eq kind (codes "traf") ≡ true → passed + left + work_behind payload next end ≤ moof_work payload → passed + 1 + left + groups_work (boxes_between payload inside behind) + work_behind payload inside behind ≤ moof_work payload
-unfolding work_behind
-work_traf payload passed left next end inside behind kind same lt e k h =
-    let all = ap (λ n. trafs_work (boxes_between payload n (length payload))) (sym same) ∙ ap trafs_work e ∙ one_traf (box_here payload next inside behind kind) (boxes_between payload behind (length payload)) k
-    ∙ ap (λ bs. traf_work bs + trafs_work (boxes_between payload behind (length payload))) (inside_it payload next inside behind lt) in
-    sums passed left (runs_work (boxes_between payload next end)) (trafs_work (boxes_between payload end (length payload))) (groups_work (boxes_between payload inside behind)) (runs_work (boxes_between payload inside behind)) (trafs_work (boxes_between payload behind (length payload))) (moof_work payload) all h
-  where
-    sums : (passed left runs all groups inner rest most : ℕ) → all ≡ suc (groups + inner) + rest → passed + left + (runs + all) ≤ most → passed + 1 + left + groups + (inner + rest) ≤ most
-    sums passed left runs all groups inner rest most e h = omega arith
 
 -- a run that can be read costs a step, and one for each of its rows
 pub run_cost : (payload : List ℕ) (run : Run) → IsRun payload run → run_work payload ≡ suc run.count
@@ -105,10 +77,18 @@ one_group : (b : Box) (boxes : List Box) → bytes_eq b.kind (codes "sbgp") ≡ 
 one_group b boxes e = rw (turned (codes "sbgp") b.kind ∙ e) refl
 
 -- by what one of them costs
-pub groups_pass : (payload : List ℕ) (passed more left rest most at inside behind end : ℕ) (kind : List ℕ) → boxes_between payload at end ≡ box_here payload at inside behind kind ∷ boxes_between payload behind end → bytes_eq kind (codes "sbgp") ≡ true
-    → more ≤ passed + group_work (part_of payload inside behind) → passed + left + groups_work (boxes_between payload at end) + rest ≤ most → more + left + groups_work (boxes_between payload behind end) + rest ≤ most
-groups_pass payload passed more left rest most at inside behind end kind e k l h =
-    sums passed more left rest most (groups_work (boxes_between payload at end)) (group_work (part_of payload inside behind)) (groups_work (boxes_between payload behind end)) (ap groups_work e ∙ one_group (box_here payload at inside behind kind) (boxes_between payload behind end) k) l h
-  where
-    sums : (passed more left rest most all one others : ℕ) → all ≡ one + others → more ≤ passed + one → passed + left + all + rest ≤ most → more + left + others + rest ≤ most
-    sums passed more left rest most all one others e l h = omega arith
+pub groups_pass : (payload : List ℕ) (passed more most at inside behind end : ℕ) (kind : List ℕ) → boxes_between payload at end ≡ box_here payload at inside behind kind ∷ boxes_between payload behind end → bytes_eq kind (codes "sbgp") ≡ true
+    → more ≤ passed + group_work (part_of payload inside behind) → passed + groups_work (boxes_between payload at end) ≤ most → more + groups_work (boxes_between payload behind end) ≤ most
+groups_pass payload passed more most at inside behind end kind e k l h =
+    let all = ap groups_work e ∙ one_group (box_here payload at inside behind kind) (boxes_between payload behind end) k in
+    omega (arith, all, l, h)
+
+-- so that of its runs
+pub runs_fall : (payload : List ℕ) (at inside behind end : ℕ) (kind : List ℕ) → boxes_between payload at end ≡ box_here payload at inside behind kind ∷ boxes_between payload behind end → runs_work (boxes_between payload behind end) ≤ runs_work (boxes_between payload at end)
+runs_fall payload at inside behind end kind e = let all = ap runs_work e in omega (arith, all)
+
+pub runs_pass : (payload : List ℕ) (passed more most at inside behind end : ℕ) (kind : List ℕ) → boxes_between payload at end ≡ box_here payload at inside behind kind ∷ boxes_between payload behind end → bytes_eq kind (codes "trun") ≡ true
+    → more ≤ passed + run_work (part_of payload inside behind) → passed + runs_work (boxes_between payload at end) ≤ most → more + runs_work (boxes_between payload behind end) ≤ most
+runs_pass payload passed more most at inside behind end kind e k l h =
+    let all = ap runs_work e ∙ one_run (box_here payload at inside behind kind) (boxes_between payload behind end) k in
+    omega (arith, all, l, h)

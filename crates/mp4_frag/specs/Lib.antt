@@ -7,6 +7,8 @@ pub mod Reading
 pub mod States
 pub mod Views
 pub mod Walks
+pub mod Times
+pub mod Looks
 pub mod Judged
 pub mod TrafFaults
 pub mod RunsJudged

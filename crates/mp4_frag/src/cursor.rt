@@ -52,6 +52,7 @@ impl<'a> FragCursor<'a> {
         ensures payload { result.payload ≡ (moof_seen view.now).payload }
         ensures moof { result.moof ≡ (moof_seen view.now).offset }
         ensures tracks { result.tracks ≡ tracks.now }
+        ensures time { result.place.dts ≡ dts }
         ensures samples { samples_coming result ≡ samples_in (moof_seen view.now) tracks.now track dts (keys_seen keys) }
         ensures definition { (file_length : ℕ) (trexes : List Trex) (t : FragmentTree) → t.moof ≡ moof_seen view.now → IsSoundMoof file_length trexes tracks.now t → AreTrexesOf trexes tracks.now → AreDistinct (keys_seen keys)
             → dts + duration_of (samples_of_track trexes track t) < 2 ^ 64 → samples_coming result ≡ timed (keys_seen keys) dts (samples_of_track trexes track t) }
@@ -91,11 +92,13 @@ impl<'a> Samples for FragCursor<'a> {
     ghost use Rattle.std.specs.Prelude.{◌≡◌, ◌≤◌};
     ghost use Rattle.std.proofs.Common.{refl, ◌∙◌};
     ghost use Rattle.std.proofs.Math.Nat.{le_refl, le_trans};
+    ghost use Rattle.mp4_frag.specs.Times.{TimeGoesOn};
     ghost use Rattle.mp4_frag.specs.Walks.{samples_coming};
 
     ghost rest = { samples_coming };
 
-    ghost follows = { λ s t. (t.payload ≡ s.payload) × (t.moof ≡ s.moof) × (t.tracks ≡ s.tracks) × (s.place.passed ≤ t.place.passed) };
+    ghost follows = { λ s t. (t.payload ≡ s.payload) × (t.moof ≡ s.moof) × (t.tracks ≡ s.tracks)
+        × (s.place.passed ≤ t.place.passed) × TimeGoesOn s t };
 
     #[inline(always)]
     fn peek(&self) -> Option<SampleAt> {
@@ -117,7 +120,7 @@ impl<'a> Samples for FragCursor<'a> {
         }
     }
 
-    ghost follows_itself = { λ s. (refl, refl, refl, le_refl _) };
+    ghost follows_itself = { λ s. (refl, refl, refl, le_refl _, refl) };
 
-    ghost follows_on = { λ s t u p q. (q.0 ∙ p.0, q.1 ∙ p.1, q.2 ∙ p.2, le_trans p.3 q.3) };
+    ghost follows_on = { λ s t u p q. (q.0 ∙ p.0, q.1 ∙ p.1, q.2 ∙ p.2, le_trans p.3 q.3, q.4 ∙ p.4) };
 }

@@ -50,7 +50,8 @@ pub struct FragPlace {
     pub(crate) inherited: Inherited,
     pub(crate) run: RowPlace,
     pub(crate) indexes: IndexPlaces,
-    /// How many `traf`s, rows of `sbgp`, runs and samples were passed: all rows of an `sbgp` where its `traf` is opened.
+    /// How many `traf`s, rows of `sbgp`, runs and samples were passed: all rows of an `sbgp` where its `traf` is opened,
+    /// and of a `traf` that names another track one step, unless a later one's data begins where its own ends.
     pub(crate) passed: u64,
 }
 
@@ -62,5 +63,12 @@ impl FragPlace {
         ensures { result ≡ self.now.passed }
     {
         self.passed
+    }
+
+    /// The decode time of the next sample; behind the last, that at which the next one is due.
+    pub fn dts(&self) -> u64
+        ensures { result ≡ self.now.dts }
+    {
+        self.dts
     }
 }

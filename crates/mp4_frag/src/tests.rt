@@ -291,6 +291,30 @@ fn one_presentation(rt: HostRuntime) {
     }
 }
 
+// The places and sizes of a track's samples in these two `traf`s, its time behind them, and the steps of the walk.
+fn walked(bytes: &Bytes, track: u32, tracks: &[TrackState]) -> ([(u64, u32); 2], u64, u64) {
+    let view = FragView::again(moof_of(bytes));
+    let mut cursor = FragCursor::start(&view, tracks, track, 7, Keys::new());
+    let mut seen = [(0, 0); 2];
+    for k in 0..2usize {
+        if let Some(sample) = cursor.next() {
+            seen[k] = (sample.at, sample.size);
+        }
+    }
+    (seen, cursor.place().dts(), cursor.place().passed())
+}
+
+#[test]
+fn other_tracks(rt: HostRuntime) {
+    let tracks = [track(7, 0), track(1, 0)];
+    // The first `traf` is of track 7: its run is passed only where the data of the second begins behind its data.
+    let bytes = spelled(TWO_TRAFS, &[(9, 7)]);
+    assert_eq!(rt; walked(&bytes, 1, &tracks), ([(738, 0), (738, 7)], 1031, 7));
+    assert_eq!(rt; walked(&bytes, 7, &tracks), ([(733, 5), (0, 0)], 519, 4));
+    let bytes = spelled(TWO_TRAFS, &[(9, 7), (23, 0x0002_002A)]);
+    assert_eq!(rt; walked(&bytes, 1, &tracks), ([(581, 0), (581, 7)], 1031, 5));
+}
+
 #[test]
 fn times(rt: HostRuntime) {
     // The first time is the start of the track, and each later one is that which is due.

@@ -1,80 +1,26 @@
 //! A walk over the samples of a track in a `moof`, from place to place.
 ghost use Rattle.std.specs.Prelude.{ℕ, List, ◌≡◌, ◌+◌, ◌-◌, ◌<◌, ◌≤◌, ◌∷◌, [], length, drop, slice_get, None, Some, Ok, IfSome, MatchOption, IsErr, false};
 ghost use Rattle.mp4_boxes.specs.Bytes.{AreBytes};
-ghost use Rattle.mp4_boxes.specs.Box.{header_at};
 ghost use Rattle.mp4_tables.specs.Keys.{keys_seen};
 ghost use Rattle.mp4_frag.specs.FragmentSamples.{flags_of as flags_by};
 ghost use Rattle.mp4_frag.specs.ColumnsRead.{row_room};
-ghost use Rattle.mp4_frag.specs.PlacesIn.{LiesIn, IsPlaceIn, IsRowPlace, AreIndexPlaces, run_work, group_work, groups_work, work_behind, moof_work};
-ghost use Rattle.mp4_frag.specs.Walks.{Walk, Reached, at_first, rows_here, trafs_coming, row_signed, first_byte, part_of, boxes_between, trex_among, with_head, all_indexes, with_group, with_leaves, before_traf, end_held, rows_coming, run_coming, reached, walk_of, coming, begin as begin_by};
+ghost use Rattle.mp4_frag.specs.PlacesIn.{LiesIn, IsPlaceIn, IsRowPlace, AreIndexPlaces, run_work, runs_work, group_work, groups_work, work_behind, moof_work};
+ghost use Rattle.mp4_frag.specs.Looks.{AreOthers, is_named, over_run, over_work};
+ghost use Rattle.mp4_frag.specs.Times.{time_behind};
+ghost use Rattle.mp4_frag.specs.Walks.{Walk, Reached, at_first, rows_here, trafs_coming, row_signed, first_byte, part_of, boxes_between, trex_among, with_head, all_indexes, with_group, with_leaves, before_traf, end_held, rows_coming, run_coming, runs_coming, reached, walk_of, coming, begin as begin_by};
 
 use crate::check::{SBGP, TFHD, TRAF, TRUN, find_track};
 use crate::groups::read_group;
 use crate::heads::{base_of, nothing_inherited, read_head, what_is_inherited};
 use crate::indexes::{first_index, indexes_here, no_indexes, pass_indexes, with_index};
+use crate::looks::look_ahead;
+use crate::lying::{Lying, box_at};
 use crate::places::{FragPlace, RowPlace};
 use crate::rows::{Row, row_at, row_size};
 use crate::runs::{read_run, signed};
 use crate::state::TrackState;
 use crate::trex::Trex;
-use mp4_boxes::{BoxView, FourCc, u32_at, u64_at};
 use mp4_tables::{Keys, SampleAt};
-
-// A header that can be read: the type, how long it is, and the size of its box.
-#[derive(Clone, Copy)]
-struct Header {
-    kind: FourCc,
-    length: usize,
-    size: usize,
-}
-
-// A box among others: where it ends, and where its payload begins.
-#[derive(Clone, Copy)]
-struct Lying {
-    kind: FourCc,
-    inside: usize,
-    end: usize,
-}
-
-// The header in front of these bytes, if one can be read.
-fn read_header(bytes: &[u8]) -> Option<Header>
-    ensures { MatchOption result (IsErr (header_at false bytes.now)) (λ h. header_at false bytes.now ≡ Ok (record { kind = h.kind.0; length = h.length; size = h.size })) }
-{
-    let left = bytes.len();
-    if left < 8 {
-        return None;
-    }
-    let kind = FourCc([bytes[4], bytes[5], bytes[6], bytes[7]]);
-    let (length, size) = match u32_at(bytes, 0) {
-        1 if left < 16 => return None,
-        1 => (16, u64_at(bytes, 8)),
-        small => (8, u64::from(small)),
-    };
-    if size < length || size > left as u64 {
-        return None;
-    }
-    Some(Header {
-        kind,
-        length: length as usize,
-        size: size as usize,
-    })
-}
-
-// The box at a place, among boxes that go to `end`, if its header can be read.
-fn box_at(payload: &[u8], at: usize, end: usize) -> Option<Lying>
-    requires some { at < end }
-    requires within { end ≤ length payload.now }
-    ensures order { IfSome result (λ b. (at < b.inside) × (b.inside ≤ b.end) × (b.end ≤ end)) }
-    ensures some { IfSome result (λ b. boxes_between payload.now at end ≡ record { kind = b.kind.0; offset = at; header = b.inside - at; payload = part_of payload.now b.inside b.end } ∷ boxes_between payload.now b.end end) }
-    ensures none { result ≡ None → boxes_between payload.now at end ≡ [] }
-{
-    let header = read_header(&payload[at..end])?;
-    Some(Lying {
-        kind: header.kind,
-        inside: at + header.length,
-        end: at + header.size,
-    })
-}
 
 // The place with the rows of an `sbgp`, if its key is one of the track's.
 fn open_group(payload: &[u8], lying: Lying, place: FragPlace) -> FragPlace
@@ -119,8 +65,6 @@ fn open_head(
 ) -> FragPlace
     requires inside { lying.inside ≤ lying.end }
     requires within { lying.end ≤ length payload.now }
-    requires place { LiesIn payload.now place }
-    ensures place { LiesIn payload.now result }
     ensures same { result ≡ record place { is_own = result.is_own; base = result.base; at = result.at; inherited = result.inherited } }
     ensures reached { reached payload.now result ≡ with_head (walk_of moof tracks.now place) (reached payload.now place) (part_of payload.now lying.inside lying.end) }
 {
@@ -150,13 +94,14 @@ fn open_traf(
 ) -> FragPlace
     requires inside { lying.inside ≤ lying.end }
     requires within { lying.end ≤ length payload.now }
-    requires place { LiesIn payload.now place }
-    requires work { place.passed + 1 + place.run.left + groups_work (boxes_between payload.now lying.inside lying.end) + work_behind payload.now lying.inside lying.end ≤ moof_work payload.now }
-    ensures place { LiesIn payload.now result }
     ensures next { result.next ≡ lying.inside }
     ensures end { result.traf_end ≡ lying.end }
     ensures same { (result.track ≡ place.track) × (result.keys ≡ place.keys) × (result.run ≡ place.run) }
+    ensures time { result.dts ≡ place.dts }
+    ensures indexes { AreIndexPlaces payload.now result.indexes }
     ensures on { place.passed ≤ result.passed }
+    ensures work { result.passed
+        ≤ place.passed + groups_work (boxes_between payload.now lying.inside lying.end) }
     ensures reached { reached payload.now result ≡ with_leaves (walk_of moof tracks.now place) (before_traf (reached payload.now place)) (boxes_between payload.now lying.inside lying.end) }
 {
     let mut opened = FragPlace {
@@ -164,7 +109,6 @@ fn open_traf(
         traf_end: lying.end,
         is_own: false,
         indexes: no_indexes(),
-        passed: place.passed.saturating_add(1),
         ..place
     };
     let mut at = lying.inside;
@@ -217,6 +161,37 @@ fn begin(base: i128, before: i128, data_offset: Option<i32>) -> i128
     }
 }
 
+// The place behind a run that gives no samples.
+fn pass_run(payload: &[u8], lying: Lying, place: FragPlace) -> FragPlace
+    requires inside { lying.inside ≤ lying.end }
+    requires within { lying.end ≤ length payload.now }
+    ensures same { result ≡ record place { at = result.at; passed = result.passed } }
+    ensures on { place.passed ≤ result.passed }
+    ensures work { result.passed ≤ place.passed + run_work (part_of payload.now lying.inside lying.end) }
+    ensures reached { reached payload.now result
+        ≡ over_run (reached payload.now place) (part_of payload.now lying.inside lying.end) }
+{
+    let passed = place.passed.saturating_add(1);
+    let Ok(run) = read_run(&payload[lying.inside..lying.end]) else {
+        return FragPlace { passed, ..place };
+    };
+    let rows = RowPlace {
+        row: lying.inside + run.rows,
+        left: run.count,
+        bits: run.bits,
+        first_flags: run.first_flags,
+    };
+    let begun = FragPlace {
+        at: begin(place.base, place.at, run.data_offset),
+        ..place
+    };
+    FragPlace {
+        at: run_end(payload, begun, rows),
+        passed: passed.saturating_add(u64::from(run.count)),
+        ..begun
+    }
+}
+
 // The place before the samples of a run; behind them where they are another track's.
 fn open_run(payload: &[u8], lying: Lying, place: FragPlace) -> FragPlace
     requires inside { lying.inside ≤ lying.end }
@@ -228,38 +203,144 @@ fn open_run(payload: &[u8], lying: Lying, place: FragPlace) -> FragPlace
     ensures place { LiesIn payload.now result }
     ensures next { result.next ≡ lying.end }
     ensures same { (result.track ≡ place.track) × (result.keys ≡ place.keys) × (result.traf_end ≡ place.traf_end) }
+    ensures time { result.dts ≡ place.dts }
     ensures on { place.passed ≤ result.passed }
     ensures coming { (more : Reached → List SampleAt) → rows_coming (reached payload.now result) result.run.first_flags (rows_here payload.now result.run) more ≡ run_coming (reached payload.now place) (part_of payload.now lying.inside lying.end) more }
 {
+    let next = lying.end;
+    if !place.is_own {
+        return FragPlace {
+            next,
+            ..pass_run(payload, lying, place)
+        };
+    }
     let passed = place.passed.saturating_add(1);
     let Ok(run) = read_run(&payload[lying.inside..lying.end]) else {
         return FragPlace {
-            next: lying.end,
+            next,
             passed,
             ..place
         };
     };
-    let rows = RowPlace {
-        row: lying.inside + run.rows,
-        left: run.count,
-        bits: run.bits,
-        first_flags: run.first_flags,
-    };
-    let opened = FragPlace {
+    FragPlace {
         at: begin(place.base, place.at, run.data_offset),
-        next: lying.end,
+        next,
         passed,
-        run: rows,
+        run: RowPlace {
+            row: lying.inside + run.rows,
+            left: run.count,
+            bits: run.bits,
+            first_flags: run.first_flags,
+        },
+        ..place
+    }
+}
+
+// The place behind a `traf` of another track, for the one behind it, whose data may begin where that of this one ends.
+fn pass_traf(
+    payload: &[u8],
+    moof: u64,
+    tracks: &[TrackState],
+    lying: Lying,
+    place: FragPlace,
+) -> FragPlace
+    requires inside { lying.inside ≤ lying.end }
+    requires within { lying.end ≤ length payload.now }
+    requires other { is_named place.track (boxes_between payload.now lying.inside lying.end) ≡ false }
+    ensures same { (result.track ≡ place.track) × (result.keys ≡ place.keys) × (result.run ≡ place.run) }
+    ensures time { result.dts ≡ place.dts }
+    ensures on { place.passed ≤ result.passed }
+    ensures work { result.passed ≤ place.passed
+        + (groups_work (boxes_between payload.now lying.inside lying.end)
+        + runs_work (boxes_between payload.now lying.inside lying.end)) }
+    ensures coming { (more : Reached → List SampleAt)
+        → runs_coming (with_leaves (walk_of moof tracks.now place) (before_traf (reached payload.now place))
+        (boxes_between payload.now lying.inside lying.end)) (boxes_between payload.now lying.inside lying.end) more
+        ≡ more (reached payload.now result) }
+{
+    let mut passed = open_traf(payload, moof, tracks, lying, place);
+    let mut at = lying.inside;
+    while at < lying.end {
+        let Some(child) = box_at(payload, at, lying.end) else {
+            return passed;
+        };
+        at = child.end;
+        if child.kind == TRUN {
+            passed = pass_run(payload, child, passed);
+        }
+    }
+    passed
+}
+
+// The place behind so many boxes of the `moof` from one on, none of which is a `traf` of the track.
+fn pass_others(
+    payload: &[u8],
+    moof: u64,
+    tracks: &[TrackState],
+    from: usize,
+    boxes: usize,
+    place: FragPlace,
+) -> FragPlace
+    requires others { AreOthers place.track boxes (boxes_between payload.now from (length payload.now)) }
+    ensures same { (result.track ≡ place.track) × (result.keys ≡ place.keys) × (result.run ≡ place.run) }
+    ensures time { result.dts ≡ place.dts }
+    ensures on { place.passed ≤ result.passed }
+    ensures work { result.passed
+        ≤ place.passed + over_work boxes (boxes_between payload.now from (length payload.now)) }
+    ensures coming { trafs_coming (walk_of moof tracks.now place) (reached payload.now result)
+        (drop boxes (boxes_between payload.now from (length payload.now)))
+        ≡ trafs_coming (walk_of moof tracks.now place) (reached payload.now place)
+        (boxes_between payload.now from (length payload.now)) }
+{
+    let mut passed = place;
+    let mut at = from;
+    let mut left = boxes;
+    while left > 0 && at < payload.len() {
+        let Some(child) = box_at(payload, at, payload.len()) else {
+            return passed;
+        };
+        if child.kind == TRAF {
+            passed = pass_traf(payload, moof, tracks, child, passed);
+        }
+        at = child.end;
+        left -= 1;
+    }
+    passed
+}
+
+// The place in the next `traf` that names the track. Others are passed by a look; where data begins where theirs ends, all that stands in them is passed too.
+fn next_traf(payload: &[u8], moof: u64, tracks: &[TrackState], place: FragPlace) -> FragPlace
+    requires none { place.run.left ≡ 0 }
+    requires end { place.next ≡ place.traf_end }
+    requires some { place.next < length payload.now }
+    requires place { LiesIn payload.now place }
+    ensures place { LiesIn payload.now result }
+    ensures next { place.next < result.next }
+    ensures same { (result.track ≡ place.track) × (result.keys ≡ place.keys) }
+    ensures time { result.dts ≡ place.dts }
+    ensures on { place.passed ≤ result.passed }
+    ensures coming { coming payload.now (walk_of moof tracks.now place) result
+        ≡ coming payload.now (walk_of moof tracks.now place) place }
+{
+    let ahead = look_ahead(payload, place.next, place.track);
+    let looked = FragPlace {
+        passed: place.passed.saturating_add(ahead.looks),
         ..place
     };
-    if place.is_own {
-        return opened;
-    }
-    FragPlace {
-        at: run_end(payload, opened, rows),
-        run: RowPlace { left: 0, ..rows },
-        passed: passed.saturating_add(u64::from(run.count)),
-        ..opened
+    match ahead.traf {
+        None => FragPlace {
+            next: payload.len(),
+            traf_end: payload.len(),
+            ..looked
+        },
+        Some(traf) => {
+            let behind = if ahead.is_based {
+                looked
+            } else {
+                pass_others(payload, moof, tracks, place.next, ahead.boxes, looked)
+            };
+            open_traf(payload, moof, tracks, traf, behind)
+        }
     }
 }
 
@@ -271,6 +352,7 @@ fn pass_box(payload: &[u8], moof: u64, tracks: &[TrackState], place: FragPlace) 
     ensures place { LiesIn payload.now result }
     ensures next { place.next < result.next }
     ensures same { (result.track ≡ place.track) × (result.keys ≡ place.keys) }
+    ensures time { result.dts ≡ place.dts }
     ensures on { place.passed ≤ result.passed }
     ensures coming { coming payload.now (walk_of moof tracks.now place) result ≡ coming payload.now (walk_of moof tracks.now place) place }
 {
@@ -289,21 +371,7 @@ fn pass_box(payload: &[u8], moof: u64, tracks: &[TrackState], place: FragPlace) 
             ..place
         };
     }
-    let Some(child) = box_at(payload, place.next, payload.len()) else {
-        return FragPlace {
-            next: payload.len(),
-            traf_end: payload.len(),
-            ..place
-        };
-    };
-    if child.kind == TRAF {
-        return open_traf(payload, moof, tracks, child, place);
-    }
-    FragPlace {
-        next: child.end,
-        traf_end: child.end,
-        ..place
-    }
+    next_traf(payload, moof, tracks, place)
 }
 
 // Passes boxes until a sample of the track is left.
@@ -314,6 +382,7 @@ pub(crate) fn settle(payload: &[u8], moof: u64, tracks: &[TrackState], place: &m
     ensures bytes { AreBytes payload.now }
     ensures place { IsPlaceIn payload.now place.new }
     ensures same { (place.new.track ≡ place.old.track) × (place.new.keys ≡ place.old.keys) }
+    ensures time { place.new.dts ≡ place.old.dts }
     ensures on { place.old.passed ≤ place.new.passed }
     ensures coming { coming payload.now (walk_of moof tracks.now place.old) place.new ≡ coming payload.now (walk_of moof tracks.now place.old) place.old }
 {
@@ -384,6 +453,7 @@ fn pass_row(payload: &[u8], place: &mut FragPlace)
     ensures place { LiesIn payload.now place.new }
     ensures same { (place.new.track ≡ place.old.track) × (place.new.keys ≡ place.old.keys) }
     ensures on { place.old.passed ≤ place.new.passed }
+    ensures time { (w : Walk) → time_behind payload.now w place.new ≡ time_behind payload.now w place.old }
     ensures coming { (w : Walk) → coming payload.now w place.new ≡ drop 1 (coming payload.now w place.old) }
 {
     let row = row_here(payload, place.run);
@@ -404,6 +474,8 @@ pub(crate) fn pass_sample(payload: &[u8], moof: u64, tracks: &[TrackState], plac
     ensures place { IsPlaceIn payload.now place.new }
     ensures same { (place.new.track ≡ place.old.track) × (place.new.keys ≡ place.old.keys) }
     ensures on { place.old.passed ≤ place.new.passed }
+    ensures time { time_behind payload.now (walk_of moof tracks.now place.old) place.new
+        ≡ time_behind payload.now (walk_of moof tracks.now place.old) place.old }
     ensures coming { coming payload.now (walk_of moof tracks.now place.old) place.new ≡ drop 1 (coming payload.now (walk_of moof tracks.now place.old) place.old) }
 {
     pass_row(payload, place);
@@ -416,6 +488,7 @@ pub(crate) fn pass_sample(payload: &[u8], moof: u64, tracks: &[TrackState], plac
 pub(crate) fn first_place(moof: u64, track: u32, dts: u64, keys: Keys) -> FragPlace
     ensures place { (payload : List ℕ) → LiesIn payload result }
     ensures walk { (result.track ≡ track) × (result.keys ≡ keys) }
+    ensures time { result.dts ≡ dts }
     ensures coming { (payload : List ℕ) (w : Walk) → coming payload w result ≡ trafs_coming w (at_first moof dts) (boxes_between payload 0 (length payload)) }
 {
     FragPlace {

@@ -14,10 +14,11 @@ loop-at-preserved c =
     let work = i.work in
     record {
       within = o.2;
-      lies = i.lies;
+      indexes = i.indexes;
       work = omega (arith, work, groups_fall c.args.payload.now c.loop-at.at child.inside child.end c.args.lying.end child.kind.0 c.in-Some.ensures.some);
       places = i.places;
       walk = i.walk;
+      time = i.time;
       on = i.on;
       whole = leaf_other c.args.payload.now (walk_of c.args.moof c.args.tracks.now c.args.place) (reached c.args.payload.now c.loop-at.opened) c.loop-at.at c.args.lying.end child.inside child.end child.kind.0 c.in-Some.ensures.some (sym c.if-eq.ensures) (sym c.if-eq-2.ensures) ∙ i.whole;
     }
@@ -29,13 +30,13 @@ loop-at-preserved-then-eq c =
     let o = c.in-Some.ensures.order in
     let work = i.work in
     let passed : c.open_head-opened.result.passed ≡ c.loop-at.opened.passed = ap (λ (p : FragPlace). p.passed) c.open_head-opened.ensures.same in
-    let left : c.open_head-opened.result.run.left ≡ c.loop-at.opened.run.left = ap (λ (p : FragPlace). p.run.left) c.open_head-opened.ensures.same in
     record {
       within = o.2;
-      lies = c.open_head-opened.ensures.place;
-      work = omega (arith, work, passed, left, groups_fall c.args.payload.now c.loop-at.at child.inside child.end c.args.lying.end child.kind.0 c.in-Some.ensures.some);
+      indexes = search rules;
+      work = omega (arith, work, passed, groups_fall c.args.payload.now c.loop-at.at child.inside child.end c.args.lying.end child.kind.0 c.in-Some.ensures.some);
       places = search rules;
       walk = search rules;
+      time = search rules;
       on = search rules;
       whole = search rules;
     }

@@ -1,5 +1,5 @@
 use Rattle.std.proofs.Common.{◌≡◌, ◌+◌, ◌-◌, ◌≤◌}
-use Rattle.mp4_frag.specs.PlacesIn.{LiesIn, groups_work, work_behind, moof_work}
+use Rattle.mp4_frag.specs.PlacesIn.{AreIndexPlaces, groups_work}
 use Rattle.mp4_frag.specs.Walks.{walk_of, reached, before_traf, with_leaves, boxes_between}
 use Rattle.mp4_frag.proofs.walk.open_traf.Given as goal
 
@@ -7,10 +7,11 @@ use Rattle.mp4_frag.proofs.walk.open_traf.Given as goal
 abbrev pub invariant-loop-at : goal.invariant-loop-at
 invariant-loop-at l = record {
   within : l.at ≤ l.lying.end;
-  lies : LiesIn l.payload l.opened;
-  work : l.opened.passed + l.opened.run.left + groups_work (boxes_between l.payload l.at l.lying.end) + work_behind l.payload l.lying.inside l.lying.end ≤ moof_work l.payload;
+  indexes : AreIndexPlaces l.payload l.opened.indexes;
+  work : l.opened.passed + groups_work (boxes_between l.payload l.at l.lying.end) ≤ l.fn.place.passed + groups_work (boxes_between l.payload l.lying.inside l.lying.end);
   places : (l.opened.next ≡ l.lying.inside) × (l.opened.traf_end ≡ l.lying.end);
   walk : (l.opened.track ≡ l.fn.place.track) × (l.opened.keys ≡ l.fn.place.keys) × (l.opened.run ≡ l.fn.place.run);
+  time : l.opened.dts ≡ l.fn.place.dts;
   on : l.fn.place.passed ≤ l.opened.passed;
   whole : with_leaves (walk_of l.moof l.tracks l.fn.place) (reached l.payload l.opened) (boxes_between l.payload l.at l.lying.end)
       ≡ with_leaves (walk_of l.moof l.tracks l.fn.place) (before_traf (reached l.payload l.fn.place)) (boxes_between l.payload l.lying.inside l.lying.end);

@@ -2,9 +2,10 @@ use Rattle.std.proofs.Common.{◌≡◌, ◌+◌, ◌-◌, ◌∙◌, ap, sym, r
 use Rattle.std.specs.Prelude.{pos, ◌+ℤ◌}
 use Rattle.std.specs.Int.{w128}
 use Rattle.mp4_frag.specs.ColumnsRead.{row_room}
-use Rattle.mp4_frag.specs.Walks.{row_signed, rows_here, held, capped}
+use Rattle.mp4_frag.specs.Walks.{row_signed, rows_here, held, capped, coming, reached, sample_of}
 use Rattle.mp4_frag.specs.declared.places.RowPlace.{RowPlace}
-use Rattle.mp4_frag.proofs.Comings.{sample_passed}
+use Rattle.mp4_frag.proofs.Comings.{sample_first, sample_passed}
+use Rattle.mp4_frag.proofs.TimesKept.{time_kept}
 use Rattle.mp4_frag.proofs.walk.pass_row.Goals as goal
 
 pub returns-clause-coming : goal.returns-clause-coming
@@ -25,3 +26,13 @@ returns-clause-coming c w =
     (ap (λ (r : RowPlace). r.first_flags) next)
     (λ i. record { dts = dts i; at = at i; is_own = place.is_own; base = place.base; inherited = place.inherited; indexes = indexes i })
     refl refl
+
+pub returns-clause-time : goal.returns-clause-time
+returns-clause-time c w =
+    let payload = c.args.payload.now in
+    let place = c.args.place.now in
+    let row = row_signed c.row_here-row.result in
+    let first = sample_of (reached payload place) place.run.first_flags row in
+    let dts = c.saturating_add-place.ensures ∙ ap (λ n. capped (place.dts + n)) (c.from.ensures ∙ c.unwrap_or-duration.ensures) in
+    time_kept place.dts c.saturating_add-place.result first (coming payload w place) _
+    (sample_first payload w place row _ first c.row_here-row.ensures refl) (returns-clause-coming c w) dts

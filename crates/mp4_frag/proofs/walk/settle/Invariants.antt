@@ -8,6 +8,7 @@ abbrev pub invariant-loop-place : goal.invariant-loop-place
 invariant-loop-place l = record {
   lies : LiesIn l.payload l.place;
   walk : (l.place.track ≡ l.fn.place.track) × (l.place.keys ≡ l.fn.place.keys);
+  time : l.place.dts ≡ l.fn.place.dts;
   on : l.fn.place.passed ≤ l.place.passed;
   coming : coming l.payload (walk_of l.moof l.tracks l.fn.place) l.place ≡ coming l.payload (walk_of l.moof l.tracks l.fn.place) l.fn.place;
 }

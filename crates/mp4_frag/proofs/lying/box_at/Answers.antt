@@ -1,6 +1,6 @@
 use Rattle.std.proofs.Common.{◌≤◌, arith}
 use Rattle.mp4_frag.proofs.BoxPlaces.{box_there, box_none}
-use Rattle.mp4_frag.proofs.walk.box_at.Goals as goal
+use Rattle.mp4_frag.proofs.lying.box_at.Goals as goal
 
 pub returns-in_err-header-clause-none : goal.returns-in_err-header-clause-none
 returns-in_err-header-clause-none c e = box_none c.args.payload.now c.args.at c.args.end c.in_err-header.ensures

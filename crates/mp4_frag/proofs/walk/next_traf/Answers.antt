@@ -1,0 +1,97 @@
+use Rattle.std.proofs.Common.{◌≡◌, ◌+◌, ◌≤◌, suc, length, refl, sym, ap, ◌∙◌, to_z, of_z, rules, arith}
+use Rattle.std.specs.Int.{w128}
+use Rattle.mp4_tables.specs.Keys.{keys_seen}
+use Rattle.mp4_frag.specs.Looks.{looks, over_work}
+use Rattle.mp4_frag.specs.Walks.{walk_of, reached, boxes_between, trafs_coming}
+use Rattle.mp4_frag.specs.PlacesIn.{groups_work}
+use Rattle.mp4_frag.specs.declared.places.FragPlace.{FragPlace}
+use Rattle.mp4_frag.specs.declared.places.RowPlace.{RowPlace}
+use Rattle.mp4_frag.proofs.LooksAhead.{work_none, work_found, next_none, next_found, based_found}
+use Rattle.mp4_frag.proofs.walk.next_traf.Goals as goal
+use Rattle.mp4_frag.proofs.walk.next_traf.Goals.{then-ahead, else-ahead}
+
+pub returns-in-None-clause-place : goal.returns-in-None-clause-place
+returns-in-None-clause-place c =
+    let p = c.args.place in
+    let q = c.requires.place in
+    let a = c.look_ahead-ahead in
+    let few = a.ensures.few c.in-None.is in
+    let more : c.saturating_add.result ≤ p.passed + looks a.result.boxes (boxes_between c.args.payload.now p.next (length c.args.payload.now)) = search (rules, few) in
+    record {
+      next = search rules;
+      traf = search rules;
+      rows = q.rows;
+      indexes = q.indexes;
+      work = work_none c.args.payload.now p.passed _ p.run.left p.next p.traf_end a.result.boxes c.requires.end c.requires.none more q.work;
+    }
+
+pub returns-in-None-clause-coming : goal.returns-in-None-clause-coming
+returns-in-None-clause-coming c =
+    let p = c.args.place in
+    let payload = c.args.payload.now in
+    let w = walk_of c.args.moof c.args.tracks.now p in
+    let a = c.look_ahead-ahead in
+    next_none payload w p _ a.result.boxes a.result.at c.requires.none c.requires.end c.requires.none refl refl a.ensures.others a.ensures.rest (a.ensures.none c.in-None.is)
+
+pub returns-after-ahead-clause-place : goal.returns-after-ahead-clause-place
+returns-after-ahead-clause-place c =
+    let p = c.args.place in
+    let payload = c.args.payload.now in
+    let q = c.requires.place in
+    let a = c.look_ahead-ahead in
+    let r = c.open_traf.result in
+    let opened = c.open_traf.ensures in
+    let traf = c.in-Some.traf in
+    let all = boxes_between payload p.next (length payload) in
+    let few = a.ensures.looks in
+    let looked : c.saturating_add.result ≤ p.passed + suc (looks a.result.boxes all) = search (rules, few) in
+    let behind : c.if-ahead.behind.passed ≤ p.passed + suc (looks a.result.boxes all) + over_work a.result.boxes all =
+    elim c.if-ahead.branch [ then-ahead w ↦ rw w.behind-is (omega (arith, looked)) | else-ahead w ↦ rw w.behind-is (let over = w.pass_others-behind.ensures.work in omega (arith, looked, over)) ] in
+    let run : c.if-ahead.behind.run ≡ p.run = elim c.if-ahead.branch [ then-ahead w ↦ ap (λ (f : FragPlace). f.run) w.behind-is | else-ahead w ↦ ap (λ (f : FragPlace). f.run) w.behind-is ∙ w.pass_others-behind.ensures.same.2 ] in
+    let same : r.run ≡ p.run = opened.same.2 ∙ run in
+    let none : r.run.left ≡ 0 = ap (λ (row : RowPlace). row.left) same ∙ c.requires.none in
+    let inside = rw c.in-Some.is at a.ensures.inside in
+    let some = rw c.in-Some.is at a.ensures.some in
+    let kind = rw c.in-Some.is at a.ensures.kind in
+    let cost = opened.work in
+    let more : r.passed ≤ p.passed + suc (looks a.result.boxes all) + over_work a.result.boxes all + groups_work (boxes_between payload traf.inside traf.end) = omega (arith, behind, cost) in
+    record {
+      next = rw (opened.next, opened.end) inside.1;
+      traf = rw opened.end inside.2;
+      rows = rw same q.rows;
+      indexes = opened.indexes;
+      work = rw (opened.next, opened.end) (work_found payload p.passed r.passed p.run.left r.run.left p.next p.traf_end a.result.boxes a.result.at traf.inside traf.end traf.kind.0 c.requires.end none a.ensures.rest inside.0 some kind more q.work);
+    }
+
+pub returns-after-ahead-clause-coming : goal.returns-after-ahead-clause-coming
+returns-after-ahead-clause-coming c =
+    let p = c.args.place in
+    let payload = c.args.payload.now in
+    let w = walk_of c.args.moof c.args.tracks.now p in
+    let a = c.look_ahead-ahead in
+    let behind = c.if-ahead.behind in
+    let r = c.open_traf.result in
+    let opened = c.open_traf.ensures in
+    let traf = c.in-Some.traf in
+    let all = boxes_between payload p.next (length payload) in
+    let there = boxes_between payload a.result.at (length payload) in
+    let at : to_z w128 (of_z w128 p.at) ≡ p.at = search rules in
+    let base : to_z w128 (of_z w128 p.base) ≡ p.base = search rules in
+    let inside = rw c.in-Some.is at a.ensures.inside in
+    let some = rw c.in-Some.is at a.ensures.some in
+    let kind = rw c.in-Some.is at a.ensures.kind in
+    let run : behind.run ≡ p.run = elim c.if-ahead.branch [ then-ahead v ↦ ap (λ (f : FragPlace). f.run) v.behind-is | else-ahead v ↦ ap (λ (f : FragPlace). f.run) v.behind-is ∙ v.pass_others-behind.ensures.same.2 ] in
+    let track : behind.track ≡ p.track = elim c.if-ahead.branch [ then-ahead v ↦ ap (λ (f : FragPlace). f.track) v.behind-is | else-ahead v ↦ ap (λ (f : FragPlace). f.track) v.behind-is ∙ v.pass_others-behind.ensures.same.0 ] in
+    let keys : behind.keys ≡ p.keys = elim c.if-ahead.branch [ then-ahead v ↦ ap (λ (f : FragPlace). f.keys) v.behind-is | else-ahead v ↦ ap (λ (f : FragPlace). f.keys) v.behind-is ∙ v.pass_others-behind.ensures.same.1 ] in
+    let none : r.run.left ≡ 0 = ap (λ (row : RowPlace). row.left) (opened.same.2 ∙ run) ∙ c.requires.none in
+    let same : walk_of c.args.moof c.args.tracks.now behind ≡ w = λ k. record { moof = c.args.moof; tracks = c.args.tracks.now; track = track k; keys = keys_seen (keys k) } in
+    let on : trafs_coming w (reached payload behind) there ≡ trafs_coming w (reached payload p) all =
+    elim c.if-ahead.branch [
+      | then-ahead v ↦
+          let based = rw c.in-Some.is at a.ensures.based in
+          rw (v.behind-is, at, base) (based_found payload w (reached payload p) p.next a.result.boxes a.result.at traf.inside traf.end traf.kind.0 a.ensures.others a.ensures.rest inside.0 some kind (sym based ∙ v.if-ahead.true))
+      | else-ahead v ↦
+          let over = rw (at, base) at v.pass_others-behind.ensures.coming in
+          rw v.behind-is (ap (trafs_coming w (reached payload v.pass_others-behind.result)) (sym a.ensures.rest) ∙ over)
+    ] in
+    next_found payload w p r (reached payload behind) a.result.at traf.inside traf.end traf.kind.0 c.requires.none c.requires.end none opened.next opened.end inside.0 some kind (rw same at opened.reached) on
