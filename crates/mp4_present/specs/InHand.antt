@@ -7,6 +7,7 @@ use Rattle.mp4_tables.specs.Views.{samples_from}
 use Rattle.mp4_tables.specs.declared.sample.SampleAt.{SampleAt}
 use Rattle.mp4_frag.specs.PlacesIn.{IsPlaceIn}
 use Rattle.mp4_frag.specs.Walks.{samples_coming}
+use Rattle.mp4_frag.specs.Times.{TimeGoesOn}
 use Rattle.mp4_present.specs.declared.in_hand.InHand.{InHand}
 use Rattle.mp4_present.specs.declared.in_hand.InHand.TheVariants as hands
 use Rattle.mp4_present.specs.declared.in_hand.Place.{Place}
@@ -20,7 +21,7 @@ left_in_hand (hands.Fragment c) = samples_coming c
 -- the same samples later
 abbrev pub Follows : InHand → InHand → Type 0
 Follows (hands.Tables a) (hands.Tables b) = (b.tables ≡ a.tables) × (passed a.place ≤ passed b.place)
-Follows (hands.Fragment a) (hands.Fragment b) = (b.payload ≡ a.payload) × (b.moof ≡ a.moof) × (b.tracks ≡ a.tracks) × (a.place.passed ≤ b.place.passed)
+Follows (hands.Fragment a) (hands.Fragment b) = (b.payload ≡ a.payload) × (b.moof ≡ a.moof) × (b.tracks ≡ a.tracks) × (a.place.passed ≤ b.place.passed) × TimeGoesOn a b
 Follows _ _ = ⊥
 
 -- it is a place among these samples, and theirs
@@ -32,11 +33,11 @@ IsPlaceOf _ _ = ⊥
 -- they are the same as themselves, and later ones of later ones are later ones
 pub follows_itself : (s : InHand) → Follows s s
 follows_itself (hands.Tables c) = (refl, le_refl _)
-follows_itself (hands.Fragment c) = (refl, refl, refl, le_refl _)
+follows_itself (hands.Fragment c) = (refl, refl, refl, le_refl _, refl)
 
 pub follows_on : (s t u : InHand) → Follows s t → Follows t u → Follows s u
 follows_on (hands.Tables a) (hands.Tables b) (hands.Tables c) p q = (q.0 ∙ p.0, le_trans p.1 q.1)
-follows_on (hands.Fragment a) (hands.Fragment b) (hands.Fragment c) p q = (q.0 ∙ p.0, q.1 ∙ p.1, q.2 ∙ p.2, le_trans p.3 q.3)
+follows_on (hands.Fragment a) (hands.Fragment b) (hands.Fragment c) p q = (q.0 ∙ p.0, q.1 ∙ p.1, q.2 ∙ p.2, le_trans p.3 q.3, q.4 ∙ p.4)
 follows_on (hands.Tables a) (hands.Tables b) (hands.Fragment c) p q = absurd q
 follows_on (hands.Tables a) (hands.Fragment b) c p q = absurd p
 follows_on (hands.Fragment a) (hands.Fragment b) (hands.Tables c) p q = absurd q
