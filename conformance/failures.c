@@ -1,7 +1,7 @@
 /* Put before the C library, this makes calls of a program fail: an allocation, a read of a file, or a write.
  * FAIL_CALL says of which kind (alloc, read, write), FAIL_AT which one, from 1 on; with FAIL_REST all behind it fail too.
- * FAIL_TAKEN says how many bytes of the write that fails are taken first. At the end the number of calls of that kind is
- * written to the file FAIL_TOLD. */
+ * FAIL_TAKEN says how many bytes of the write that fails are taken first; -1 is all but one. At the end the number of calls
+ * of that kind is written to the file FAIL_TOLD, and for writes the length of each. */
 #define _GNU_SOURCE
 #include <dlfcn.h>
 #include <errno.h>
@@ -12,6 +12,10 @@
 #include <unistd.h>
 
 static long calls;
+
+/* Lengths of writes, as many as there is room for. */
+static size_t lengths[4096];
+static long noted;
 
 /* Whether this call of the kind fails. */
 static int fails(const char *kind) {
@@ -27,6 +31,7 @@ __attribute__((destructor)) static void tell(void) {
     FILE *file = told ? fopen(told, "w") : NULL;
     if (!file) return;
     fprintf(file, "%ld\n", count);
+    for (long k = 0; k < noted; k++) fprintf(file, "%zu\n", lengths[k]);
     fclose(file);
 }
 
@@ -63,9 +68,11 @@ ssize_t write(int file, const void *bytes, size_t count) {
         errno = ENOSPC;
         return -1;
     }
+    if (noted < 4096) lengths[noted++] = count;
     if (fails("write")) {
         const char *said = getenv("FAIL_TAKEN");
-        size_t taken = said ? (size_t)atol(said) : 0;
+        long asked = said ? atol(said) : 0;
+        size_t taken = asked < 0 ? count - 1 : (size_t)asked;
         if (taken == 0 || taken >= count) {
             errno = ENOSPC;
             return -1;

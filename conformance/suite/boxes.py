@@ -139,6 +139,11 @@ class File:
         self.settle()
         return b''.join(box.spelled() for box in self.children)
 
+    def filled(self):
+        """All bytes, those of holes too."""
+        self.settle()
+        return b''.join(box.spelled().ljust(box.length(), b'\0') for box in self.children)
+
     def write(self, path):
         """Makes the file on the disk, with its holes."""
         length = self.settle()

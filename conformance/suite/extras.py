@@ -288,6 +288,8 @@ def of_leaves():
               put_over(STBL + '/stco', 12, u32(LARGE))),
         Extra('stsz-short-and-too-many', 'ShortBox before TooManySamples', 'ShortBox',
               put_over(STBL + '/stsz', 8, u32(2**24 + 1))),
+        Extra('stsz-of-many-rows', '2^24 + 1 sizes, all there', 'TooManySamples',
+              fields(STBL + '/stsz', full(0) + u32(0) + u32(2**24 + 1) + bytes(4 * (2**24 + 1)))),
         Extra('stz2-short-and-too-many', 'ShortBox before TooManySamples', 'ShortBox',
               put_over(STBL + '/stz2', 8, u32(2**24 + 1)), is_wide=True),
         Extra('stz2-too-many-of-five-bits', 'TooManySamples before BadValue', 'TooManySamples',
