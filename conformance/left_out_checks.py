@@ -1,7 +1,7 @@
 """Edits of the program that each leave a check out, or swap two; and the cases that then fail.
 
-Each edit: the source file, its old text (which stands there once), its new text, what it takes out, and
-the names of cases of which each must fail.
+Each edit: the source file, its old text (which stands there once), its new text, what it takes
+out, and the names of cases of which each must fail.
 """
 
 
@@ -32,10 +32,6 @@ TWICE = ('mvhd-in-moov', 'mvex-in-moov', 'tkhd-in-trak', 'edts-in-trak', 'mdia-i
          'stsc-in-stbl', 'stsz-in-stbl', 'stco-in-stbl', 'ctts-in-stbl', 'stss-in-stbl',
          'sdtp-in-stbl', 'cslg-in-stbl', 'mehd-in-mvex', 'mfhd-in-moof', 'tfhd-in-traf',
          'tfdt-in-traf')
-MISSING = ('mvhd-in-moov', 'tkhd-in-trak', 'mdia-in-trak', 'mdhd-in-mdia', 'hdlr-in-mdia',
-           'minf-in-mdia', 'vmhd-in-minf', 'dinf-in-minf', 'stbl-in-minf', 'dref-in-dinf',
-           'stsd-in-stbl', 'stts-in-stbl', 'stsc-in-stbl', 'stsz-in-stbl', 'stco-in-stbl',
-           'mfhd-in-moof', 'tfhd-in-traf')
 
 # Conditions of the sources.
 LIST = 'mp4_boxes/src/listing.rt'
@@ -55,8 +51,8 @@ LIMITS = 'mp4_present/src/limit_checks.rt'
 STORE = 'mp4_store/src/file.rt'
 DREF = 'mp4_head/src/information.rt'
 STSD = 'mp4_head/src/sample_table.rt'
-TOO_MANY = ('if count > limits.room {\n            return Err(fault_at(leaf, Kind::TooManySamples));\n'
-            '        }\n')
+TOO_MANY = ('if count > limits.room {\n'
+            '            return Err(fault_at(leaf, Kind::TooManySamples));\n        }\n')
 SHORT_SIZES = ('if payload.len() - 12 < 4 * count as usize {\n'
                '            return Err(fault_at(leaf, Kind::ShortBox));\n        }\n')
 COUNTS = 'if !counts_are(stbl.payload(), rows, n, steps) {'
@@ -74,13 +70,15 @@ def of_boxes():
              'BadSize of size 7', *[f'narrow-size-seven-in-{name}' for name in CONTAINERS]),
         unless(HEADERS, 'left < size', 'Overrun',
                *[f'narrow-overrun-in-{name}' for name in CONTAINERS]),
-        Edit(HEADERS, '1 if left < 16 =>', '1 if left < 9 =>', 'ShortHeader of a header of 16 bytes',
+        Edit(HEADERS, '1 if left < 16 =>', '1 if left < 9 =>',
+             'ShortHeader of a header of 16 bytes',
              'long-header-cut-short-in-moov', 'long-header-cut-short-in-traf'),
         Edit(HEADERS, '0 if is_open =>', '0 =>', 'BadSize of size 0 in a container',
              'size-zero-in-moov', 'size-zero-in-stbl', 'size-zero-in-traf'),
         Edit(HEADERS, 'if left < 8 {', 'if left < 1 {', 'ShortHeader',
              *[f'narrow-bytes-behind-the-boxes-of-{name}' for name in CONTAINERS]),
-        unless('mp4_boxes/src/full_boxes.rt', 'payload.len() < 4', 'ShortBox for the first four bytes',
+        unless('mp4_boxes/src/full_boxes.rt', 'payload.len() < 4',
+               'ShortBox for the first four bytes',
                'narrow-mvhd-of-three-bytes', 'narrow-reference-of-three-bytes'),
     ]
 
@@ -97,7 +95,8 @@ def of_heads():
                                                'trex-of-version-1')]),
         unless(LEAVES, 'view.payload().len() < fixed + times * width',
                'ShortBox of the boxes of the moov',
-               *[f'narrow-{name}-with-short-fields' for name in ('mvhd', 'tkhd', 'mdhd', 'elst', 'dref',
+               *[f'narrow-{name}-with-short-fields' for name in ('mvhd', 'tkhd', 'mdhd', 'elst',
+                                                                 'dref',
                                                                  'stsd', 'trex')]),
         Edit(LEAVES, version + width + short, width + short + version,
              'BadVersion before ShortBox in the boxes of the moov',
@@ -133,7 +132,8 @@ def of_heads():
         Edit(STSD, 'if u16_at(payload, 6) != 1 {', 'if u16_at(payload, 6) == 0 {',
              'BadValue of a description of reference 2', 'narrow-description-of-reference-two'),
         unless('mp4_head/src/edit_list.rt',
-               'view.payload().len() - 8 < count * (2 * width + 4)', 'ShortBox of the rows of elst',
+               'view.payload().len() - 8 < count * (2 * width + 4)',
+               'ShortBox of the rows of elst',
                'narrow-elst-with-a-short-row', 'elst-that-claims-all-rows'),
     ]
 
@@ -164,7 +164,8 @@ def of_sizes():
                                                'sbgp-of-version-2')]),
         unless(TABLE_LEAVES, 'payload.len() - fields < width as usize * count as usize',
                'ShortBox of the rows of tables',
-               *[f'narrow-{name}-with-a-short-row' for name in ('stts', 'ctts', 'stco', 'stsc', 'stss',
+               *[f'narrow-{name}-with-a-short-row' for name in ('stts', 'ctts', 'stco', 'stsc',
+                                                                'stss',
                                                                 'sbgp')]),
         unless(TABLE_LEAVES, 'payload.len() < fields', 'ShortBox of the count of tables',
                *[f'narrow-{name}-with-short-fields' for name in ('stts', 'ctts', 'stco', 'stsc',
@@ -234,7 +235,8 @@ def of_groups():
                'BadValue of an index in stbl', 'narrow-group-index-65536-in-sbgp'),
         unless(GROUPS, '!counts_are_within(payload, rows, n, steps)',
                'CountMismatch of sbgp in stbl', 'narrow-groups-count-too-many-in-sbgp'),
-        unless(GROUPS, 'leaf.payload().len() < 8', 'ShortBox of sgpd', 'narrow-sgpd-with-short-fields'),
+        unless(GROUPS, 'leaf.payload().len() < 8', 'ShortBox of sgpd',
+               'narrow-sgpd-with-short-fields'),
         Edit(GROUPS, twice + fifth + index, index + twice + fifth,
              'DuplicateBox before BadValue in sbgp', 'key-twice-before-its-index'),
         swapped(GROUPS, index, '', counts, 'BadValue before CountMismatch in sbgp',
@@ -243,7 +245,8 @@ def of_groups():
                'narrow-fragment-sbgp-of-version-2'),
         unless(FRAGMENT_GROUPS, 'named.has(j)', 'DuplicateBox of sbgp in traf',
                'narrow-two-fragment-sbgp-of-one-key'),
-        unless(FRAGMENT_GROUPS, 'count >= 4', 'BadValue of a fifth key in traf', 'fifth-key-in-traf'),
+        unless(FRAGMENT_GROUPS, 'count >= 4', 'BadValue of a fifth key in traf',
+               'fifth-key-in-traf'),
         unless(FRAGMENT_GROUPS, 'index > MAX_INDEX', 'BadValue of an index in traf',
                'narrow-group-index-65536-in-fragment-sbgp'),
         unless(FRAGMENT_GROUPS, 'total > u64::from(n)', 'CountMismatch of sbgp in traf',
@@ -264,7 +267,8 @@ def of_fragments():
     return [
         unless(HEADS, 'version != 0', 'BadVersion of tfhd', 'narrow-tfhd-of-version-1',
                'narrow-second-tfhd-of-version-1'),
-        unless(HEADS, 'bits & KNOWN != bits', 'BadFlags of tfhd', 'narrow-tfhd-with-an-unknown-flag'),
+        unless(HEADS, 'bits & KNOWN != bits', 'BadFlags of tfhd',
+               'narrow-tfhd-with-an-unknown-flag'),
         unless(HEADS, 'payload.len() < head_size(bits)', 'ShortBox of tfhd',
                'narrow-tfhd-with-short-fields', 'wide-tfhd-with-short-fields'),
         swapped(HEADS, flags, '', short, 'BadFlags before ShortBox in tfhd',
@@ -281,12 +285,14 @@ def of_fragments():
                'narrow-trun-with-short-fields'),
         unless(RUN_CHECKS, 'run.count > *room', 'TooManySamples of trun',
                'narrow-too-many-samples-in-trun', 'too-many-samples-with-those-of-tables'),
-        Edit(RUN_CHECKS, '    if samples.are_within {', '    if samples.are_within || run.count < 100 {',
+        Edit(RUN_CHECKS, '    if samples.are_within {',
+             '    if samples.are_within || run.count < 100 {',
              'SampleOutsideFile of trun', 'narrow-sample-outside-the-file-in-trun',
              'sample-one-byte-past-the-file', 'empty-sample-past-the-file'),
         unless(RUN_CHECKS, 'have_large_offset(run, samples)', 'OffsetTooLarge of trun',
                'narrow-offset-too-large-in-trun'),
-        Edit(RUN_CHECKS, '    if samples.are_within {', '    if have_large_offset(run, samples) {\n'
+        Edit(RUN_CHECKS, '    if samples.are_within {',
+             '    if have_large_offset(run, samples) {\n'
              '        return Err(Kind::OffsetTooLarge);\n    }\n    if samples.are_within {',
              'SampleOutsideFile before OffsetTooLarge in trun',
              'narrow-sample-outside-the-file-in-trun-and-offset-too-large-in-trun'),
@@ -301,14 +307,17 @@ def of_fragments():
              'description-zero-in-tfhd'),
         Edit(TRAF, 'Some(time) => passed.count > 0 &&', 'Some(time) => passed.count > 9 &&', 'Gap',
              'narrow-gap', 'narrow-gap-in-a-later-fragment', 'gap-of-a-track-of-tables'),
-        swapped(TRAF, described, '', groups, 'BadDescriptionIndex before the checks of sbgp in traf',
+        swapped(TRAF, described, '', groups,
+                'BadDescriptionIndex before the checks of sbgp in traf',
                 'bad-description-before-groups'),
-        swapped(TRAF, groups, '', gap, 'the checks of sbgp in traf before Gap', 'groups-before-a-gap'),
+        swapped(TRAF, groups, '', gap, 'the checks of sbgp in traf before Gap',
+                'groups-before-a-gap'),
         unless('mp4_frag/src/times.rt', 'version > 1', 'BadVersion of tfdt',
                'narrow-tfdt-of-version-2'),
         unless('mp4_frag/src/times.rt', 'payload.len() < needed', 'ShortBox of tfdt',
                'narrow-tfdt-with-short-fields'),
-        unless('mp4_frag/src/fronts.rt', 'payload.len() < 4', 'ShortBox for the first four bytes in traf',
+        unless('mp4_frag/src/fronts.rt', 'payload.len() < 4',
+               'ShortBox for the first four bytes in traf',
                'narrow-tfhd-of-three-bytes', 'narrow-tfdt-of-three-bytes',
                'narrow-trun-of-three-bytes', 'narrow-fragment-sbgp-of-three-bytes'),
     ]

@@ -108,7 +108,10 @@ class Raw(Box):
 
 
 class Hole(Box):
-    """A box of so many bytes of zero, which take no room on the disk."""
+    """A box whose content is zeros, which take no room on the disk.
+
+    It stands in the file itself, or is the last box in all that it is in.
+    """
 
     def __init__(self, kind, size):
         super().__init__(kind, wide=True)
@@ -124,6 +127,8 @@ class Hole(Box):
 
 class File:
     """A file: its boxes, one after the other."""
+
+    place = 0
 
     def __init__(self, boxes):
         self.children = list(boxes)

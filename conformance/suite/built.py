@@ -8,7 +8,8 @@ FAR = 5 * 2**30
 
 
 class Built:
-    """A file: its name, what it is for, how it is made, and the line that refuses it, if one does."""
+    """A file: its name, what it is for, how it is made, and the line that refuses it, if one
+    does."""
 
     def __init__(self, name, reason, make):
         self.name, self.reason, self.make = name, reason, make
@@ -54,7 +55,8 @@ def single_faults():
     """A file for each fault in the order of checks, in both forms."""
     for is_wide in (False, True):
         for fault in faults.in_order(is_wide):
-            yield Built(f'{form(is_wide)}-{fault.name}', 'this fault alone', broken(is_wide, fault))
+            yield Built(f'{form(is_wide)}-{fault.name}', 'this fault alone',
+                        broken(is_wide, fault))
 
 
 def neighbouring_faults():
@@ -85,10 +87,33 @@ def with_hole(kind, before, size):
 
 
 def far_files():
-    """Files whose movie or fragments lie far behind, by name. Without its hole each is the wide file."""
+    """Files whose movie or fragments lie far behind, by name. Without its hole each is the wide
+    file."""
     return [
         ('movie-behind-five-gigabytes', with_hole('free', 'moov', FAR)),
         ('fragments-behind-five-gigabytes', with_hole('mdat', 'moof', FAR)),
         ('movie-behind-eight-terabytes', with_hole('free', 'moov', 2**43 - 2**20)),
         ('movie-behind-2-to-the-48', with_hole('free', 'moov', 2**48)),
+    ]
+
+
+def with_long_movie():
+    """The wide file without fragments, whose last box is a `moov` that ends in user data of 2^30
+    bytes."""
+    file = wide()
+    movie = file.at('moov')
+    file.children = [file.at('ftyp'), file.at('mdat'), movie]
+    movie.children.append(Hole('udta', 2**30))
+    return file
+
+
+def large_files():
+    """Files of more than 2^30 bytes that are refused: name, file, line."""
+    too_long, both = with_long_movie(), with_long_movie()
+    named = faults.long_edit('moov/trak[1]')(both)
+    too_long.settle()
+    both.settle()
+    return [
+        ('movie-too-long', too_long, line_of('MovieTooLarge', ('moov', too_long.at('moov')))),
+        ('track-too-long-and-movie-too-long', both, line_of('TimeTooLarge', named)),
     ]

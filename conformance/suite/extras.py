@@ -1,14 +1,15 @@
-"""Further files: more ways to have a fault, pairs of faults that the order's neighbours leave out, and files
-that are just within what is allowed."""
+"""Further files: more ways to have a fault, pairs of faults that the order's neighbours leave out,
+and files that are just within what is allowed."""
 from .boxes import Box, full, i32, u8, u16, u32, u64
-from .faults import (LARGE, added, added_bytes, added_copy, cut, name_of, one_more_counted, put_over,
-                     removed, said)
-from .movies import table, whole
+from .faults import (LARGE, added, added_bytes, added_copy, name_of, one_more_counted, put_over,
+                     removed)
+from .movies import whole
 
 STBL = 'moov/trak/mdia/minf/stbl'
 SECOND_STBL = 'moov/trak[1]/mdia/minf/stbl'
 TRAF = 'moof/traf'
-# The length of a `moof` of `fragment` with a `tfhd` of one field and a `trun` of a data offset alone.
+# The length of a `moof` of `fragment` with a `tfhd` of one field and a `trun` of a data offset
+# alone.
 LAST = 72
 
 
@@ -116,7 +117,8 @@ def head(flags, number, rest=b''):
 
 
 def fragment(*boxes):
-    """A `traf` of these boxes, in a `moof` of its own at the end of the file; the fault names its first box."""
+    """A `traf` of these boxes, in a `moof` of its own at the end of the file; the fault names its
+    first box."""
     def breaks(file):
         copies = [box.copied() for box in boxes]
         traf = Box('traf', b'', copies)
@@ -162,7 +164,8 @@ def headers():
     for path in ('', 'moov', 'moov/trak/edts', STBL, 'moov/mvex', 'moof', TRAF):
         label = name_of(path)
         found += [
-            Extra(f'long-header-of-size-15-in-{label}', 'a size of eight bytes below 16', 'BadSize',
+            Extra(f'long-header-of-size-15-in-{label}', 'a size of eight bytes below 16',
+                  'BadSize',
                   added(path, wide_free, 15)),
             Extra(f'long-header-cut-short-in-{label}', 'fewer than 16 bytes for a header of 16',
                   'ShortHeader', added_bytes(path, cut_wide)),
@@ -172,13 +175,15 @@ def headers():
         if path:
             found.append(Extra(f'size-zero-in-{label}', '"to the end of the file" in a container',
                                'BadSize', added(path, Box('free', bytes(8)), 0)))
-            found.append(Extra(f'one-byte-past-{label}', 'a box ends one byte behind its container',
+            found.append(Extra(f'one-byte-past-{label}',
+                               'a box ends one byte behind its container',
                                'Overrun', added(path, Box('free', bytes(8)), 17)))
     return found
 
 
 def pairs_of_headers():
-    """The same box has both faults; or the box before has the one, and the box behind it the other."""
+    """The same box has both faults; or the box before has the one, and the box behind it the
+    other."""
     found = []
     for path in ('', 'moov', STBL, 'moof', TRAF):
         label, free = name_of(path), Box('free', bytes(8))
@@ -193,6 +198,9 @@ def pairs_of_headers():
                   'BoxNotInProfile', added(path, Box('emsg', bytes(8))), added_bytes(path, b'\0')),
         ]
     return found + [
+        Extra('no-moov', 'a file without fragments', 'MissingBox', removed('', 'moov'), moof_free),
+        Extra('no-moov-but-a-moof', 'FragmentBeforeMovie before MissingBox', 'FragmentBeforeMovie',
+              same('moof', removed('', 'moov'))),
         Extra('second-moov-past-the-file', 'Overrun before DuplicateBox', 'Overrun',
               added('', Box('moov'), LARGE)),
         Extra('second-moov-before-an-unknown-box', 'one box after the other', 'DuplicateBox',
@@ -206,13 +214,15 @@ def pairs_of_headers():
         Extra('unknown-box-of-stbl-and-dref-of-version-1', 'one child of minf after the other',
               'BadVersion', put_over('moov/trak/mdia/minf/dinf/dref', 0, u8(1)),
               added(STBL, Box('uuid'))),
-        Extra('bad-mvhd-and-an-unknown-box-of-trak', 'one child of moov after the other', 'BadVersion',
+        Extra('bad-mvhd-and-an-unknown-box-of-trak', 'one child of moov after the other',
+              'BadVersion',
               put_over('moov/mvhd', 0, u8(2)), added('moov/trak', Box('uuid'))),
         Extra('bad-tables-and-a-bad-second-track', 'the moov before all tables', 'BadValue',
               put_over('moov/trak[1]/mdia/mdhd', 12, u32(0)), put_over(STBL + '/stsz', 0, u8(1))),
         Extra('bad-tables-and-a-bad-trex', 'the moov before all tables', 'BadValue',
               put_over('moov/mvex/trex[1]', 4, u32(1)), put_over(STBL + '/stts', 8, u32(9))),
-        Extra('bad-second-tables-and-a-bad-fragment', 'all tables before fragments', 'CountMismatch',
+        Extra('bad-second-tables-and-a-bad-fragment', 'all tables before fragments',
+              'CountMismatch',
               put_over(SECOND_STBL + '/stts', 8, u32(9)), added('moof', Box('uuid'))),
         Extra('gap-and-a-bad-second-fragment', 'one moof after the other', 'Gap',
               put_over(TRAF + '/tfdt', 4, u32(9)), added('moof[1]', Box('uuid'))),
@@ -231,7 +241,8 @@ def of_leaves():
     head_at = TRAF + '/tfhd'
     return [
         Extra('description-of-reference-zero', 'index 0', 'BadValue', put_over(entry, 6, u16(0))),
-        Extra('both-descriptions-at-fault', 'all counted headers before the inside of the first entry',
+        Extra('both-descriptions-at-fault',
+              'all counted headers before the inside of the first entry',
               'ShortHeader', one_more_counted(STBL + '/stsd'), put_over(entry, 6, u16(2))),
         Extra('three-references', 'more than one', 'OutsideData',
               put_over('moov/trak/mdia/minf/dinf/dref', 4, u32(3))),
@@ -239,11 +250,14 @@ def of_leaves():
               replaced('moov/trak/mdia/minf/dinf/dref/url ', Box('urn ', b'\0'))),
         Extra('mvhd-of-version-255', 'the largest version', 'BadVersion',
               put_over('moov/mvhd', 0, u8(255))),
-        Extra('mvhd-of-version-1-with-the-room-of-version-0', 'fields of eight bytes need more room',
+        Extra('mvhd-of-version-1-with-the-room-of-version-0',
+              'fields of eight bytes need more room',
               'ShortBox', put_over('moov/mvhd', 0, u8(1))),
-        Extra('tkhd-of-version-1-with-the-room-of-version-0', 'fields of eight bytes need more room',
+        Extra('tkhd-of-version-1-with-the-room-of-version-0',
+              'fields of eight bytes need more room',
               'ShortBox', put_over('moov/trak/tkhd', 0, u8(1))),
-        Extra('mdhd-of-version-1-with-the-room-of-version-0', 'fields of eight bytes need more room',
+        Extra('mdhd-of-version-1-with-the-room-of-version-0',
+              'fields of eight bytes need more room',
               'ShortBox', put_over('moov/trak/mdia/mdhd', 0, u8(1))),
         Extra('elst-of-version-1-with-the-room-of-version-0', 'rows of 20 bytes need more room',
               'ShortBox', put_over('moov/trak/edts/elst', 0, u8(1))),
@@ -300,7 +314,8 @@ def of_leaves():
               put_over(STBL + '/stz2', 7, u8(0)), is_wide=True),
         Extra('field-size-32', 'sizes of 32 bits', 'BadValue',
               put_over(STBL + '/stz2', 7, u8(32)), is_wide=True),
-        Extra('too-many-samples-in-the-second-track', 'all tracks count together', 'TooManySamples',
+        Extra('too-many-samples-in-the-second-track', 'all tracks count together',
+              'TooManySamples',
               fields(SECOND_STBL + '/stsz', full(0) + u32(1) + u32(2**24 - 2))),
         Extra('trex-of-two-descriptions-too-many', 'the index of trex, where tfhd has none',
               'BadDescriptionIndex', replaced(TRAF + '/tfhd', head(0x020038, 1, u32(512) + u32(4)
@@ -314,10 +329,12 @@ def of_leaves():
               same(head_at, removed('moov', 'mvex'))),
         Extra('unknown-track-before-tfdt', 'tfhd before tfdt', 'UnknownTrack',
               put_over(head_at, 4, u32(3)), put_over(TRAF + '/tfdt', 0, u8(2))),
-        Extra('unknown-track-without-runs', 'a traf without samples must be readable', 'UnknownTrack',
+        Extra('unknown-track-without-runs', 'a traf without samples must be readable',
+              'UnknownTrack',
               fragment(head(0, 7))),
         Extra('bad-description-before-groups', 'BadDescriptionIndex before the sbgp of a traf',
-              'BadDescriptionIndex', put_over(head_at, 16, u32(0)), put_over(TRAF + '/sbgp', 0, u8(2))),
+              'BadDescriptionIndex', put_over(head_at, 16, u32(0)),
+              put_over(TRAF + '/sbgp', 0, u8(2))),
         Extra('groups-before-a-gap', 'the sbgp of a traf before Gap', 'CountMismatch',
               put_over(TRAF + '/sbgp', 12, u32(9)), put_over(TRAF + '/tfdt', 4, u32(0))),
         Extra('flags-before-room-in-tfhd', 'BadFlags before ShortBox', 'BadFlags',
@@ -339,7 +356,8 @@ def of_leaves():
               naming(1, fragment(head(0x020010, 1, u32(0)), run(1, 1, i32(LAST + 1))))),
         Extra('sample-before-the-file', 'a place below 0', 'SampleOutsideFile',
               replaced(TRAF + '/trun', run(1, 1, i32(-1 << 31)))),
-        Extra('gap-without-tfdt-before', 'the first fragment has no tfdt, the next one is late', 'Gap',
+        Extra('gap-without-tfdt-before', 'the first fragment has no tfdt, the next one is late',
+              'Gap',
               put_over('moof[1]/traf/tfdt', 4, u32(3061)), removed(TRAF, 'tfdt')),
         Extra('gap-of-a-track-of-tables', 'tfdt 0 behind samples of tables', 'Gap',
               put_over(TRAF + '/tfdt', 4, u32(0))),
@@ -358,15 +376,18 @@ def of_leaves():
               added(STBL, Box('sbgp', full(0) + b'roll' + u32(1)))),
         Extra('key-twice-that-is-short-in-traf', 'ShortBox before DuplicateBox', 'ShortBox',
               added(TRAF, Box('sbgp', full(0) + b'roll' + u32(1)))),
-        Extra('index-before-counts-in-traf', 'BadValue of a late row before CountMismatch', 'BadValue',
+        Extra('index-before-counts-in-traf', 'BadValue of a late row before CountMismatch',
+              'BadValue',
               fields(TRAF + '/sbgp', full(0) + b'roll' + u32(2) + u32(9) + u32(1) + u32(0)
                      + u32(65536))),
         Extra('sgpd-behind-a-bad-sbgp', 'sgpd and sbgp in file order', 'CountMismatch',
-              added(STBL, grouping(b'late', ((9, 1),))), added(STBL, Box('sgpd', full(2) + bytes(4)))),
+              added(STBL, grouping(b'late', ((9, 1),))),
+              added(STBL, Box('sgpd', full(2) + bytes(4)))),
         Extra('iloc-at-the-end', 'the last four bytes', 'ItemLocation',
               fields('moov/udta', b'a movie with iloc')),
         Extra('end-at-2-to-the-63', 'a track that ends at 2^63', 'TimeTooLarge',
-              same('moov/trak/tkhd', emptied(0), emptied(1), put_over(TRAF + '/tfdt', 4, u64(2**63 - 3072)),
+              same('moov/trak/tkhd', emptied(0), emptied(1),
+                   put_over(TRAF + '/tfdt', 4, u64(2**63 - 3072)),
                    put_over('moof[1]/traf/tfdt', 4, u64(2**63 - 1536))), is_wide=True),
     ]
 
@@ -377,9 +398,11 @@ def accepted():
     return [
         Extra('narrow', 'the file that the cases break', none),
         Extra('wide', 'the file that the cases break, in larger forms', none, is_wide=True),
-        Extra('four-keys', 'four grouping keys', none, groupings_added(STBL, b'one ', b'two ', b'thre')),
+        Extra('four-keys', 'four grouping keys', none,
+              groupings_added(STBL, b'one ', b'two ', b'thre')),
         Extra('two-keys-of-one-type', 'no parameter, and parameter 0, are two keys', none,
-              added(STBL, grouping(b'roll', ((2, 5),), 1, 0)), added(TRAF, grouping(b'roll', ((1, 6),), 1))),
+              added(STBL, grouping(b'roll', ((2, 5),), 1, 0)),
+              added(TRAF, grouping(b'roll', ((1, 6),), 1))),
         Extra('keys-in-file-order', 'keys that do not stand in the order of the normal form', none,
               groupings_added(STBL, b'zzzz', b'aaaa'), added(TRAF, grouping(b'aaaa', ((2, 3),)))),
         Extra('group-index-65535', 'the largest index', none,
@@ -396,7 +419,8 @@ def accepted():
               fields(STBL + '/stsc', chunk_rows((1, 2, 1), (2, 1, 1), (9, 4, 7)))),
         Extra('chunks-without-samples', 'a description that no sample has', none,
               fields(STBL + '/stsc', chunk_rows((1, 3, 1), (2, 0, 7)))),
-        Extra('traf-without-samples', 'its time, its description and its flags count for nothing', none,
+        Extra('traf-without-samples', 'its time, its description and its flags count for nothing',
+              none,
               fragment(head(2, 1, u32(9)), Box('tfdt', full(0) + u32(77)), run(1, 0, i32(5)))),
         Extra('empty-sample-at-the-end', 'a sample of size 0 at the end of the file', none,
               fragment(head(0x020010, 1, u32(0)), run(1, 1, i32(LAST)))),
@@ -419,13 +443,17 @@ def accepted():
                                     ('moov/trak', ('tref', 'udta', 'meta')),
                                     ('moov/trak/mdia', ('elng',))) for kind in kinds]),
         Extra('edts-without-elst', 'no edits', none, removed('moov/trak/edts', 'elst')),
-        Extra('elst-without-rows', 'no edits', none, fields('moov/trak/edts/elst', full(0) + u32(0))),
+        Extra('elst-without-rows', 'no edits', none,
+              fields('moov/trak/edts/elst', full(0) + u32(0))),
         Extra('edit-of-no-duration', 'the length is that of the samples', none,
-              put_over('moov/trak/edts/elst', 8, u32(0)), put_over('moov/trak[1]/edts/elst', 8, u32(0))),
-        Extra('movie-at-the-end', 'a plain file whose moov is its last box', none, moved_to_end('moov'),
+              put_over('moov/trak/edts/elst', 8, u32(0)),
+              put_over('moov/trak[1]/edts/elst', 8, u32(0))),
+        Extra('movie-at-the-end', 'a plain file whose moov is its last box', none,
+              moved_to_end('moov'),
               moof_free),
         Extra('no-tracks', 'a movie header alone', none, without_tracks),
-        Extra('tracks-without-tables', 'all samples in fragments, the second track from 1524 on', none,
+        Extra('tracks-without-tables', 'all samples in fragments, the second track from 1524 on',
+              none,
               emptied(0), emptied(1)),
         Extra('flags-of-32-bits', 'the four highest bits of flags are ignored', none,
               put_over(TRAF + '/trun', 16, u32(0xf2000000))),
@@ -435,22 +463,25 @@ def accepted():
               longer('moov/trak/tkhd'), longer(STBL + '/stsz'), longer(TRAF + '/tfhd'),
               longer(STBL + '/sbgp')),
         Extra('flags-that-are-ignored', 'flags of full boxes count in four of them alone', none,
-              put_over('moov/mvhd', 1, b'\xff\xff\xff'), put_over(STBL + '/stts', 1, b'\xff\xff\xff'),
+              put_over('moov/mvhd', 1, b'\xff\xff\xff'),
+              put_over(STBL + '/stts', 1, b'\xff\xff\xff'),
               put_over(TRAF + '/tfdt', 1, b'\xff\xff\xff'),
               put_over('moov/trak/mdia/minf/dinf/dref/url ', 1, b'\xff\xff\xff'),
               put_over(TRAF + '/tfhd', 1, b'\x01')),
-        Extra('end-at-2-to-the-63-less-one', 'the latest end of a track', none, emptied(0), emptied(1),
+        Extra('end-at-2-to-the-63-less-one', 'the latest end of a track', none, emptied(0),
+              emptied(1),
               put_over(TRAF + '/tfdt', 4, u64(2**63 - 3073)),
               put_over('moof[1]/traf/tfdt', 4, u64(2**63 - 1537)), is_wide=True),
         Extra('time-that-is-due-in-eight-bytes', 'a tfdt of version 1', none,
               fields(TRAF + '/tfdt', full(1) + u64(1524))),
-        Extra('base-behind-the-traf-before', 'a traf without base data begins behind the one before',
+        Extra('base-behind-the-traf-before',
+              'a traf without base data begins behind the one before',
               none, chained_fragments),
     ]
 
 
 def moof_free(file):
-    """The file without its fragments."""
+    """A file without its fragments."""
     file.children = [child for child in file.children if child.kind != 'moof']
     return 'file', file
 
@@ -466,7 +497,8 @@ def longer(path):
 
 
 def chained_fragments(file):
-    """A `moof` of two `traf`s: data of the second stands behind that of the first, in the next box."""
+    """A `moof` of two `traf`s: data of the second stands behind that of the first, in the next
+    box."""
     data = Box('mdat', b'hhhhiii')
     first = Box('traf', b'', [head(0x000010, 1, u32(4)), None])
     second = Box('traf', b'', [head(0x000010, 2, u32(3)), run(0, 1)])

@@ -1,6 +1,7 @@
 """The faults that the two files of `movies` can have, in the order in which they are looked for.
 
-Each makes a file with this fault alone. Two neighbours in the order, in one file, show that the first is named.
+Each makes a file with this fault alone. Two neighbours in the order, in one file, show that the
+first is named.
 """
 from .boxes import Box, Raw, i32, u8, u16, u32, u64
 from .movies import time
@@ -11,8 +12,9 @@ LARGE = 0x7fffffff
 class Fault:
     """A fault: its name, its kind, the path of the box that it is in, and how a file gets it.
 
-    `breaks` changes a file; it answers the type and the box (or bytes) that the fault names. `gone` is the
-    path of what is not there, or not read, in the broken file; with `/` at its end, only of what is inside.
+    `breaks` changes a file; it answers the type and the box (or bytes) that the fault names.
+    `gone` is the path of what is not there, or not read, in the broken file; with `/` at its end,
+    only of what is inside.
     """
 
     def __init__(self, name, kind, path, breaks, gone=None):
@@ -137,7 +139,8 @@ def headers_in(path, unknown, singles, needed=(), others=()):
         found.append(Fault(f'second-{kind}-in-{label}', 'DuplicateBox', f'{path}/{kind}[1]',
                            added_copy(path, kind)))
     for kind, other in others:
-        found.append(Fault(f'{other}-beside-{kind}-in-{label}', 'DuplicateBox', f'{path}/{other}[1]',
+        found.append(Fault(f'{other}-beside-{kind}-in-{label}', 'DuplicateBox',
+                           f'{path}/{other}[1]',
                            added_copy(path, kind, other)))
     found.append(Fault(f'bytes-behind-the-boxes-of-{label}', 'ShortHeader', path + '/none',
                        added_bytes(path, b'\0\0\0')))
@@ -156,7 +159,8 @@ def leaf(path, label, last_version, fields, rows=True):
         Fault(f'{label}-with-short-fields', 'ShortBox', path, cut(path, fields - 1), path + '/'),
     ]
     if rows:
-        found.append(Fault(f'{label}-with-a-short-row', 'ShortBox', path + '/rows', cut_by_one(path)))
+        found.append(Fault(f'{label}-with-a-short-row', 'ShortBox', path + '/rows',
+                           cut_by_one(path)))
     return found
 
 
@@ -356,14 +360,16 @@ def of_groupings(is_wide, path, label):
         *leaf(path + '/sbgp', own, 1, rows),
         value(path + '/sbgp', f'group-index-65536-in-{own}', 'BadValue', rows + 4, u32(65536)),
         value(path + '/sbgp', f'groups-count-too-many-in-{own}', 'CountMismatch', rows, u32(4)),
-        Fault(f'two-{own}-of-one-key', 'DuplicateBox', path + '/sbgp[1]', added_copy(path, 'sbgp')),
+        Fault(f'two-{own}-of-one-key', 'DuplicateBox', path + '/sbgp[1]',
+              added_copy(path, 'sbgp')),
     ]
 
 
 def of_second_tables(is_wide, path):
     return [
         value(path + '/stts', 'second-durations-count-too-many', 'CountMismatch', 8, u32(3)),
-        value(path + '/stsc', 'description-zero-in-second-stsc', 'BadDescriptionIndex', 16, u32(0)),
+        value(path + '/stsc', 'description-zero-in-second-stsc', 'BadDescriptionIndex', 16,
+              u32(0)),
         value(path + '/stss', 'sync-samples-that-fall', 'BadOrder', 12, u32(1)),
     ]
 
@@ -420,7 +426,8 @@ def of_later_fragments(is_wide):
         value('moof/traf[1]/tfdt', 'gap-in-the-second-track', 'Gap', 4, time(is_wide, 1523)),
         Fault('second-mfhd-in-second-moof', 'DuplicateBox', 'moof[1]/mfhd[1]',
               added_copy('moof[1]', 'mfhd')),
-        value('moof[1]/traf/tfhd', 'tfhd-of-a-later-fragment-of-version-1', 'BadVersion', 0, u8(1)),
+        value('moof[1]/traf/tfhd', 'tfhd-of-a-later-fragment-of-version-1', 'BadVersion', 0,
+              u8(1)),
         value('moof[1]/traf/tfdt', 'gap-in-a-later-fragment', 'Gap', 4, time(is_wide, 3059)),
     ]
 

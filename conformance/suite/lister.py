@@ -1,4 +1,5 @@
-"""The boxes of a file as text, read from its headers alone; and the fault of the first header that has one."""
+"""The boxes of a file as text, read from its headers alone; and the fault of the first header that
+has one."""
 
 # Which boxes are looked into, by the path of their types; the empty path is the file.
 INSIDE = {

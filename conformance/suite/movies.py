@@ -1,8 +1,8 @@
 """The two files that the cases break: `narrow` and `wide`.
 
-Both have every box that is read, two tracks with samples in tables and in fragments, and no fault. They differ in the
-form of the boxes: `narrow` has version 0 and small forms, `wide` has version 1, places of eight bytes and compact
-sizes.
+Both have every box that is read, two tracks with samples in tables and in fragments, and no fault.
+They differ in the form of the boxes: `narrow` has version 0 and small forms, `wide` has version 1,
+places of eight bytes and compact sizes.
 """
 from .boxes import Box, File, full, i32, i64, u8, u16, u32, u64
 
@@ -32,7 +32,8 @@ def movie_header(is_wide):
 def track_header(is_wide, number):
     fields = full(int(is_wide), 3) + time(is_wide, 13) + time(is_wide, 14)
     fields += u32(number) + bytes(4) + time(is_wide, 0) + bytes(8)
-    return Box('tkhd', fields + u16(1) + u16(2) + u16(0x100) + bytes(2) + MATRIX + u32(64) + u32(48))
+    return Box('tkhd',
+               fields + u16(1) + u16(2) + u16(0x100) + bytes(2) + MATRIX + u32(64) + u32(48))
 
 
 def edits(is_wide):
@@ -130,7 +131,8 @@ def run_row(is_wide, size, flags, offset):
 
 
 def track_fragment(is_wide, number, due, moof, data, start):
-    """Two runs, of two samples and of one, whose data begins at a byte of a data box: 4, 3 and 2 bytes."""
+    """Two runs, of two samples and of one, whose data begins at a byte of a data box: 4, 3 and 2
+    bytes."""
     if is_wide:
         head = full(0, 0x02003a) + u32(number) + u32(1) + u32(512) + u32(4) + u32(0x01010000)
     else:

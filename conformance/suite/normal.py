@@ -98,7 +98,8 @@ def with_times(track):
 
 
 def first_fragments(track):
-    """The fragment of each sample of the first track, and the decode times at which fragments begin."""
+    """The fragment of each sample of the first track, and the decode times at which fragments
+    begin."""
     numbers, cuts = [], []
     for time, sample in with_times(track):
         is_sync = not sample.flags & 1 << 16
@@ -112,7 +113,8 @@ def later_fragments(track, first, cuts):
     """The fragment of each sample of another track: the last that has begun by its decode time."""
     numbers = []
     for time, _ in with_times(track):
-        begun = [k for k, cut in enumerate(cuts) if time * first.timescale >= cut * track.timescale]
+        begun = [k for k,
+                 cut in enumerate(cuts) if time * first.timescale >= cut * track.timescale]
         numbers.append(begun[-1] if begun else 0)
     return numbers
 

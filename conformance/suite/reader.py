@@ -1,4 +1,5 @@
-"""Reads a file that the profile accepts, by the description of the format, and says what it denotes.
+"""Reads a file that the profile accepts, by the description of the format, and says what it
+denotes.
 
 It looks for no faults: it is for the wanted answers of files that are known to have none.
 """
@@ -56,7 +57,8 @@ def nodes(data, start, end, is_file=False):
 
 
 class Sample:
-    """A sample: its numbers, where its bytes lie, and its index at each grouping key that has one."""
+    """A sample: its numbers, where its bytes lie, and its index at each grouping key that has
+    one."""
 
     def __init__(self, duration, offset, flags, description, place, size):
         self.duration, self.offset, self.flags = duration, offset, flags
@@ -215,7 +217,8 @@ def group(container, samples):
 
 
 def optional(box, flags, at, *bits):
-    """The fields of 4 bytes that these flags say are there; nothing in the place of one that isn't."""
+    """The fields of 4 bytes that these flags say are there; nothing in the place of one that
+    isn't."""
     values = []
     for bit in bits:
         values.append(box.number(at) if flags & bit else None)
