@@ -1,10 +1,12 @@
 """All files that are built when the suite runs."""
-from . import answers, extras, faults
-from .boxes import Hole
+from . import answers, extras, faults, normal, reader
+from .boxes import Box, File, Hole, u32
 from .movies import wide, whole
 
 # Bytes before a movie and its data, past all numbers of 32 bits.
 FAR = 5 * 2**30
+# The largest number of samples.
+MOST = 2**24
 
 
 class Built:
@@ -76,6 +78,36 @@ def all_files():
     yield from further()
     yield from single_faults()
     yield from neighbouring_faults()
+
+
+def with_run_of(count):
+    """A track without tables, and a run of so many samples of no bytes and no duration."""
+    file = wide()
+    movie = file.at('moov')
+    extras.emptied(0)(file)
+    movie.children.remove(file.at('moov/trak[1]'))
+    boxes = [extras.head(0x020038, 1, bytes(12)), extras.run(0, count)]
+    moof = Box('moof', b'', [Box('mfhd'), Box('traf', b'', boxes)])
+    return File([movie, moof])
+
+
+def of_most_samples():
+    """The file of 2^24 samples, and what is wanted of it.
+
+    All samples are alike, so what is written of them is what is written of two, but for their
+    count. Their list would be too long to compare.
+    """
+    movie = reader.Movie(with_run_of(2).spelled())
+    normal_form, shown = normal.normal_form(movie), reader.shown(movie)
+    # The count stands before the data offset and the header of the empty data.
+    place = len(normal_form) - 8 - 4 - 4
+    normal_form = normal_form[:place] + u32(MOST) + normal_form[place + 4:]
+    shown = shown.replace('"samples":2,', f'"samples":{MOST},')
+    data = with_run_of(MOST).spelled()
+    return data, [*answers.of_boxes(data),
+                  answers.Asked('show', None, answers.Answer(0, None, shown.encode())),
+                  answers.Asked('normalise', None, answers.Answer(0, None, normal_form)),
+                  answers.Asked('extract', 1, answers.Answer(0))]
 
 
 def with_hole(kind, before, size):

@@ -302,6 +302,8 @@ def of_leaves():
               put_over(STBL + '/stco', 12, u32(LARGE))),
         Extra('stsz-short-and-too-many', 'ShortBox before TooManySamples', 'ShortBox',
               put_over(STBL + '/stsz', 8, u32(2**24 + 1))),
+        Extra('one-sample-too-many-in-a-run', '2^24 + 1 samples', 'TooManySamples',
+              naming(1, fragment(head(0x020038, 1, bytes(12)), run(0, 2**24 - 14)))),
         Extra('stsz-of-many-rows', '2^24 + 1 sizes, all there', 'TooManySamples',
               fields(STBL + '/stsz', full(0) + u32(0) + u32(2**24 + 1) + bytes(4 * (2**24 + 1)))),
         Extra('stz2-short-and-too-many', 'ShortBox before TooManySamples', 'ShortBox',
