@@ -1,5 +1,5 @@
-/* Put before the C library, this makes calls of a program fail: an allocation, a read of a file, or a write.
- * FAIL_CALL says of which kind (alloc, read, write), FAIL_AT which one, from 1 on; with FAIL_REST all behind it fail too.
+/* Put before the C library, this makes calls of a program fail: an allocation, a read of a file, a read of
+ * standard input, asking for the length of a file, or a write. FAIL_CALL says of which kind (alloc, read, input, length, write), FAIL_AT which one, from 1 on; with FAIL_REST all behind it fail too.
  * FAIL_TAKEN says how many bytes of the write that fails are taken first; -1 is all but one. At the end the number of calls
  * of that kind is written to the file FAIL_TOLD, and for writes the length of each. */
 #define _GNU_SOURCE
@@ -8,6 +8,7 @@
 #include <stdio.h>
 #include <stdlib.h>
 #include <string.h>
+#include <sys/stat.h>
 #include <sys/types.h>
 #include <unistd.h>
 
@@ -55,6 +56,26 @@ ssize_t pread(int file, void *out, size_t count, off_t at) {
         return -1;
     }
     return real(file, out, count, at);
+}
+
+ssize_t read(int file, void *out, size_t count) {
+    static ssize_t (*real)(int, void *, size_t);
+    if (!real) real = (ssize_t (*)(int, void *, size_t))dlsym(RTLD_NEXT, "read");
+    if (fails("input")) {
+        errno = EIO;
+        return -1;
+    }
+    return real(file, out, count);
+}
+
+int statx(int folder, const char *restrict path, int flags, unsigned int mask, struct statx *restrict out) {
+    static int (*real)(int, const char *, int, unsigned int, struct statx *);
+    if (!real) real = (int (*)(int, const char *, int, unsigned int, struct statx *))dlsym(RTLD_NEXT, "statx");
+    if (fails("length")) {
+        errno = EIO;
+        return -1;
+    }
+    return real(folder, path, flags, mask, out);
 }
 
 /* A write that fails may take some bytes; the call after it then fails with nothing taken. Standard error always works. */
