@@ -295,7 +295,7 @@ def of_fragments():
              '    if have_large_offset(run, samples) {\n'
              '        return Err(Kind::OffsetTooLarge);\n    }\n    if samples.are_within {',
              'SampleOutsideFile before OffsetTooLarge in trun',
-             'narrow-sample-outside-the-file-in-trun-and-offset-too-large-in-trun'),
+             'late-sample-outside-before-a-large-offset'),
         Edit(TRAF, 'if tracks[k].id == id {', 'if tracks[k].id == id || id > 2 {',
              'UnknownTrack: no track', 'narrow-tfhd-of-no-track', 'unknown-track-without-runs'),
         Edit('mp4_present/src/tables_pass.rt', '        if trex.id == id {',
