@@ -1,17 +1,22 @@
-/* Put before the C library, this makes calls of a program fail: an allocation, a read of a file, or a write.
- * FAIL_CALL says of which kind (alloc, read, write), FAIL_AT which one, from 1 on; with FAIL_REST all behind it fail too.
- * FAIL_TAKEN says how many bytes of the write that fails are taken first. At the end the number of calls of that kind is
- * written to the file FAIL_TOLD. */
+/* Put before the C library, this makes calls of a program fail: an allocation, a read of a file, a read of
+ * standard input, asking for the length of a file, or a write. FAIL_CALL says of which kind (alloc, read, input, length, write), FAIL_AT which one, from 1 on; with FAIL_REST all behind it fail too.
+ * FAIL_TAKEN says how many bytes of the write that fails are taken first; -1 is all but one. At the end the number of calls
+ * of that kind is written to the file FAIL_TOLD, and for writes the length of each. */
 #define _GNU_SOURCE
 #include <dlfcn.h>
 #include <errno.h>
 #include <stdio.h>
 #include <stdlib.h>
 #include <string.h>
+#include <sys/stat.h>
 #include <sys/types.h>
 #include <unistd.h>
 
 static long calls;
+
+/* Lengths of writes, as many as there is room for. */
+static size_t lengths[4096];
+static long noted;
 
 /* Whether this call of the kind fails. */
 static int fails(const char *kind) {
@@ -27,6 +32,7 @@ __attribute__((destructor)) static void tell(void) {
     FILE *file = told ? fopen(told, "w") : NULL;
     if (!file) return;
     fprintf(file, "%ld\n", count);
+    for (long k = 0; k < noted; k++) fprintf(file, "%zu\n", lengths[k]);
     fclose(file);
 }
 
@@ -52,6 +58,26 @@ ssize_t pread(int file, void *out, size_t count, off_t at) {
     return real(file, out, count, at);
 }
 
+ssize_t read(int file, void *out, size_t count) {
+    static ssize_t (*real)(int, void *, size_t);
+    if (!real) real = (ssize_t (*)(int, void *, size_t))dlsym(RTLD_NEXT, "read");
+    if (fails("input")) {
+        errno = EIO;
+        return -1;
+    }
+    return real(file, out, count);
+}
+
+int statx(int folder, const char *restrict path, int flags, unsigned int mask, struct statx *restrict out) {
+    static int (*real)(int, const char *, int, unsigned int, struct statx *);
+    if (!real) real = (int (*)(int, const char *, int, unsigned int, struct statx *))dlsym(RTLD_NEXT, "statx");
+    if (fails("length")) {
+        errno = EIO;
+        return -1;
+    }
+    return real(folder, path, flags, mask, out);
+}
+
 /* A write that fails may take some bytes; the call after it then fails with nothing taken. Standard error always works. */
 ssize_t write(int file, const void *bytes, size_t count) {
     static ssize_t (*real)(int, const void *, size_t);
@@ -63,9 +89,11 @@ ssize_t write(int file, const void *bytes, size_t count) {
         errno = ENOSPC;
         return -1;
     }
+    if (noted < 4096) lengths[noted++] = count;
     if (fails("write")) {
         const char *said = getenv("FAIL_TAKEN");
-        size_t taken = said ? (size_t)atol(said) : 0;
+        long asked = said ? atol(said) : 0;
+        size_t taken = asked < 0 ? count - 1 : (size_t)asked;
         if (taken == 0 || taken >= count) {
             errno = ENOSPC;
             return -1;

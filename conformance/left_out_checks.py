@@ -1,0 +1,350 @@
+"""Edits of the program that each leave a check out, or swap two; and the cases that then fail.
+
+Each edit: the source file, its old text (which stands there once), its new text, what it takes
+out, and the names of cases of which each must fail.
+"""
+
+
+class Edit:
+    def __init__(self, file, old, new, takes_out, *cases):
+        self.file, self.old, self.new = file, old, new
+        self.takes_out, self.cases = takes_out, cases
+
+
+def unless(file, condition, takes_out, *cases):
+    """A condition that never holds."""
+    return Edit(file, f'if {condition} {{', f'if {condition} && false {{', takes_out, *cases)
+
+
+def swapped(file, first, between, second, takes_out, *cases):
+    """Two pieces of text in the other order."""
+    return Edit(file, first + between + second, second + between + first, takes_out, *cases)
+
+
+def refuses(condition, answer):
+    return f'    if {condition} {{\n        return Err({answer});\n    }}\n'
+
+
+CONTAINERS = ('moov', 'trak', 'edts', 'mdia', 'minf', 'dinf', 'stbl', 'mvex', 'moof', 'traf')
+TWICE = ('mvhd-in-moov', 'mvex-in-moov', 'tkhd-in-trak', 'edts-in-trak', 'mdia-in-trak',
+         'elst-in-edts', 'mdhd-in-mdia', 'hdlr-in-mdia', 'minf-in-mdia', 'vmhd-in-minf',
+         'dinf-in-minf', 'stbl-in-minf', 'dref-in-dinf', 'stsd-in-stbl', 'stts-in-stbl',
+         'stsc-in-stbl', 'stsz-in-stbl', 'stco-in-stbl', 'ctts-in-stbl', 'stss-in-stbl',
+         'sdtp-in-stbl', 'cslg-in-stbl', 'mehd-in-mvex', 'mfhd-in-moof', 'tfhd-in-traf',
+         'tfdt-in-traf')
+
+# Conditions of the sources.
+LIST = 'mp4_boxes/src/listing.rt'
+HEADERS = 'mp4_boxes/src/headers.rt'
+LEAVES = 'mp4_head/src/leaves.rt'
+CHECKS = 'mp4_tables/src/checks.rt'
+SIZES = 'mp4_tables/src/size_checks.rt'
+GROUPS = 'mp4_tables/src/group_checks.rt'
+TABLE_LEAVES = 'mp4_tables/src/leaves.rt'
+HEADS = 'mp4_frag/src/heads.rt'
+RUNS = 'mp4_frag/src/runs.rt'
+RUN_CHECKS = 'mp4_frag/src/sample_runs.rt'
+TRAF = 'mp4_frag/src/check.rt'
+FRAGMENT_GROUPS = 'mp4_frag/src/groups.rt'
+OUTLINE = 'mp4_present/src/outline.rt'
+LIMITS = 'mp4_present/src/limit_checks.rt'
+STORE = 'mp4_store/src/file.rt'
+DREF = 'mp4_head/src/information.rt'
+STSD = 'mp4_head/src/sample_table.rt'
+TOO_MANY = ('if count > limits.room {\n'
+            '            return Err(fault_at(leaf, Kind::TooManySamples));\n        }\n')
+SHORT_SIZES = ('if payload.len() - 12 < 4 * count as usize {\n'
+               '            return Err(fault_at(leaf, Kind::ShortBox));\n        }\n')
+COUNTS = 'if !counts_are(stbl.payload(), rows, n, steps) {'
+
+
+def of_boxes():
+    return [
+        unless(LIST, '!rule.allows(header.kind)', 'BoxNotInProfile in every container',
+               *[f'narrow-unknown-box-in-{name}' for name in CONTAINERS]),
+        unless(LIST, 'repeats(rule, header.kind, bytes, base, count)',
+               'DuplicateBox in every container', *[f'narrow-second-{name}' for name in TWICE]),
+        unless(LIST, 'lacks(rule, bytes, base, count)', 'MissingBox in every container',
+               'narrow-no-dref-in-dinf', 'narrow-no-dinf-in-minf', 'narrow-no-mfhd-in-moof'),
+        Edit(HEADERS, 'if size < u64::from(length) {', 'if size < u64::from(length) && size < 7 {',
+             'BadSize of size 7', *[f'narrow-size-seven-in-{name}' for name in CONTAINERS]),
+        unless(HEADERS, 'left < size', 'Overrun',
+               *[f'narrow-overrun-in-{name}' for name in CONTAINERS]),
+        Edit(HEADERS, '1 if left < 16 =>', '1 if left < 9 =>',
+             'ShortHeader of a header of 16 bytes',
+             'long-header-cut-short-in-moov', 'long-header-cut-short-in-traf'),
+        Edit(HEADERS, '0 if is_open =>', '0 =>', 'BadSize of size 0 in a container',
+             'size-zero-in-moov', 'size-zero-in-stbl', 'size-zero-in-traf'),
+        Edit(HEADERS, 'if left < 8 {', 'if left < 1 {', 'ShortHeader',
+             *[f'narrow-bytes-behind-the-boxes-of-{name}' for name in CONTAINERS]),
+        unless('mp4_boxes/src/full_boxes.rt', 'payload.len() < 4',
+               'ShortBox for the first four bytes',
+               'narrow-mvhd-of-three-bytes', 'narrow-reference-of-three-bytes'),
+    ]
+
+
+def of_heads():
+    version = refuses('version > last', 'fault(Kind::BadVersion, view)')
+    short = refuses('view.payload().len() < fixed + times * width', 'fault(Kind::ShortBox, view)')
+    width = '    let width = width_of_times(version);\n'
+    return [
+        unless(LEAVES, 'version > last', 'BadVersion of the boxes of the moov',
+               *[f'narrow-{name}' for name in ('mvhd-of-version-2', 'tkhd-of-version-2',
+                                               'mdhd-of-version-2', 'elst-of-version-2',
+                                               'dref-of-version-1', 'stsd-of-version-1',
+                                               'trex-of-version-1')]),
+        unless(LEAVES, 'view.payload().len() < fixed + times * width',
+               'ShortBox of the boxes of the moov',
+               *[f'narrow-{name}-with-short-fields' for name in ('mvhd', 'tkhd', 'mdhd', 'elst',
+                                                                 'dref',
+                                                                 'stsd', 'trex')]),
+        Edit(LEAVES, version + width + short, width + short + version,
+             'BadVersion before ShortBox in the boxes of the moov',
+             'narrow-mvhd-of-version-2-and-mvhd-with-short-fields',
+             'narrow-trex-of-version-1-and-trex-with-short-fields'),
+        unless('mp4_head/src/movie_header.rt', 'header.timescale == 0', 'BadValue of mvhd',
+               'narrow-mvhd-of-timescale-zero', 'wide-mvhd-of-timescale-zero'),
+        unless('mp4_head/src/media_boxes.rt', 'header.timescale == 0', 'BadValue of mdhd',
+               'narrow-mdhd-of-timescale-zero', 'narrow-second-mdhd-of-timescale-zero'),
+        Edit('mp4_head/src/media_boxes.rt', 'if payload.len() < 24 {', 'if payload.len() < 23 {',
+             'ShortBox of hdlr', 'narrow-short-hdlr'),
+        unless('mp4_head/src/track_header.rt', 'header.id == 0', 'BadValue of tkhd: ID 0',
+               'narrow-tkhd-of-id-zero'),
+        unless('mp4_head/src/track_boxes.rt', '!ids.insert(header.id)?',
+               'BadValue of tkhd: a taken ID', 'narrow-tkhd-of-a-taken-id'),
+        unless('mp4_head/src/extends.rt', '!ids.insert(trex.id)?', 'BadValue of trex: a taken ID',
+               'narrow-trex-of-a-taken-id'),
+        unless('mp4_head/src/kept_boxes.rt', 'names_item_location(view.payload())', 'ItemLocation',
+               *[f'narrow-{name}-with-iloc' for name in (
+                   'udta-of-moov', 'iods-of-moov', 'meta-of-moov', 'tref-of-trak', 'udta-of-trak',
+                   'meta-of-trak')]),
+        Edit(DREF, 'if u32_at(view.payload(), 4) != 1 {', 'if u32_at(view.payload(), 4) == 0 {',
+             'OutsideData of dref: two references', 'narrow-two-references', 'three-references'),
+        Edit(DREF, 'if u32_at(view.payload(), 4) != 1 { '.rstrip(),
+             'if u32_at(view.payload(), 4) > 1 {', 'OutsideData of dref: no reference',
+             'narrow-no-reference'),
+        unless(DREF, '!is(entry, FourCc(*b"url "))', 'OutsideData of an entry of another type',
+               'narrow-reference-of-type-urn'),
+        unless(DREF, 'flags & 1 == 0', 'OutsideData of a url to another file',
+               'narrow-reference-to-another-file'),
+        Edit(STSD, 'if payload.len() < 8 {', 'if payload.len() < 7 {', 'ShortBox of a description',
+             'narrow-short-description'),
+        Edit(STSD, 'if u16_at(payload, 6) != 1 {', 'if u16_at(payload, 6) == 0 {',
+             'BadValue of a description of reference 2', 'narrow-description-of-reference-two'),
+        unless('mp4_head/src/edit_list.rt',
+               'view.payload().len() - 8 < count * (2 * width + 4)',
+               'ShortBox of the rows of elst',
+               'narrow-elst-with-a-short-row', 'elst-that-claims-all-rows'),
+    ]
+
+
+def of_sizes():
+    in_words, in_one = '        ' + TOO_MANY, '    }\n    ' + TOO_MANY.replace('\n    ', '\n')
+    return [
+        Edit(SIZES, in_words + '        return Ok(SizesAt {', '        return Ok(SizesAt {',
+             'TooManySamples of a stsz with a size for each', 'stsz-of-many-rows'),
+        Edit(SIZES, in_one + '    Ok(SizesAt {', '    }\n    Ok(SizesAt {',
+             'TooManySamples of a stsz with one size', 'narrow-too-many-samples-in-stsz',
+             'too-many-samples-in-the-second-track'),
+        Edit(SIZES, '    ' + TOO_MANY.replace('\n    ', '\n') + '    match compact_form',
+             '    match compact_form', 'TooManySamples of stz2', 'too-many-samples-in-stz2',
+             'stz2-too-many-of-five-bits'),
+        swapped(SIZES, SHORT_SIZES, '        ', TOO_MANY, 'ShortBox before TooManySamples in stsz',
+                'stsz-short-and-too-many'),
+        Edit(SIZES, '_ => None,', '_ => Some(SizeForm::Bytes),', 'BadValue of stz2',
+             'wide-field-size-of-five-bits', 'field-size-zero', 'field-size-32'),
+        Edit('mp4_present/src/tables_pass.rt', 'self.room -= tables.count();',
+             'self.room -= tables.count() / 100;', 'TooManySamples over all tables together',
+             'too-many-samples-in-the-second-track'),
+        unless(TABLE_LEAVES, 'payload[0] > last', 'BadVersion of tables',
+               *[f'narrow-{name}' for name in ('stsz-of-version-1', 'stts-of-version-1',
+                                               'ctts-of-version-2', 'stco-of-version-1',
+                                               'stsc-of-version-1', 'stss-of-version-1',
+                                               'sdtp-of-version-1', 'sgpd-of-version-2',
+                                               'sbgp-of-version-2')]),
+        unless(TABLE_LEAVES, 'payload.len() - fields < width as usize * count as usize',
+               'ShortBox of the rows of tables',
+               *[f'narrow-{name}-with-a-short-row' for name in ('stts', 'ctts', 'stco', 'stsc',
+                                                                'stss',
+                                                                'sbgp')]),
+        unless(TABLE_LEAVES, 'payload.len() < fields', 'ShortBox of the count of tables',
+               *[f'narrow-{name}-with-short-fields' for name in ('stts', 'ctts', 'stco', 'stsc',
+                                                                 'stss', 'sbgp')]),
+    ]
+
+
+def of_tables():
+    order = refuses('!are_ordered(payload, rows, 0 < chunks.rows.count, steps)',
+                    'fault_at(leaf, Kind::BadOrder)')
+    counts = refuses('!chunk_counts_are(payload, rows, chunks, n, steps)',
+                     'fault_at(leaf, Kind::CountMismatch)')
+    described = refuses('!are_described(payload, rows, chunks, limits.descriptions, steps)',
+                        'fault_at(leaf, Kind::BadDescriptionIndex)')
+    places = '    check_places(stbl, limits, sizes, chunks, chunk_rows, steps)?;\n'
+    sync = '    let sync = read_sync(stbl, limits, n, steps)?;\n'
+    durations = '    let durations = read_durations(stbl, limits, n, steps)?;\n'
+    offsets = '    let offsets = read_offsets(stbl, limits, n, steps)?;\n'
+    return [
+        Edit(CHECKS, 'leaf, 0, 8)?;\n    ' + COUNTS, 'leaf, 0, 8)?;\n    '
+             + COUNTS.replace(' {', ' && false {'), 'CountMismatch of stts',
+             'narrow-durations-count-too-many', 'durations-count-too-few'),
+        Edit(CHECKS, 'leaf, 1, 8)?;\n    ' + COUNTS, 'leaf, 1, 8)?;\n    '
+             + COUNTS.replace(' {', ' && false {'), 'CountMismatch of ctts',
+             'narrow-offsets-count-too-few', 'offsets-count-too-many'),
+        unless(CHECKS, '!are_below(stbl.payload(), rows, 0x8000_0000, steps)',
+               'OffsetTooLarge of ctts', 'narrow-offset-too-large-in-ctts',
+               'large-offset-of-no-sample'),
+        unless(CHECKS, '!are_ordered(payload, rows, 0 < chunks.rows.count, steps)',
+               'BadOrder of stsc', 'narrow-chunk-rows-that-stay',
+               'chunk-rows-that-fall-behind-the-last-chunk'),
+        unless(CHECKS, '!chunk_counts_are(payload, rows, chunks, n, steps)',
+               'CountMismatch of stsc', 'narrow-chunks-count-too-many', 'chunks-count-too-few'),
+        unless(CHECKS, '!are_described(payload, rows, chunks, limits.descriptions, steps)',
+               'BadDescriptionIndex of stsc', 'narrow-description-two-in-stsc',
+               'description-zero-in-stsc'),
+        unless(CHECKS, '!lie_within(stbl.payload(), sizes, rows, chunks, limits.file_len, steps)',
+               'SampleOutsideFile of stco', 'narrow-sample-outside-the-file-in-stco',
+               'wide-sample-outside-the-file-in-co64'),
+        unless(CHECKS, '!are_numbers(stbl.payload(), rows, n, steps)', 'BadOrder of stss',
+               'narrow-sync-sample-zero', 'sync-sample-past-the-last'),
+        unless(CHECKS, 'length < n as usize', 'ShortBox of the rows of sdtp',
+               'narrow-sdtp-with-short-fields'),
+        swapped(CHECKS, order, '', counts, 'BadOrder before CountMismatch in stsc',
+                'chunk-order-before-counts'),
+        swapped(CHECKS, counts, '', described, 'CountMismatch before BadDescriptionIndex in stsc',
+                'chunk-counts-before-descriptions'),
+        swapped(CHECKS, places, '', sync, 'SampleOutsideFile before the checks of stss',
+                'places-before-sync-samples'),
+        swapped(CHECKS, durations, '', offsets, 'stts before ctts',
+                'narrow-durations-count-too-many-and-ctts-of-three-bytes'),
+    ]
+
+
+def of_groups():
+    twice = refuses('groups.keys.names(key)', 'fault_at(leaf, Kind::DuplicateBox)')
+    fifth = refuses('groups.keys.count() == 4', 'fault_at(leaf, Kind::BadValue)')
+    index = refuses('!are_below(payload, rows, 0x1_0000, steps)', 'fault_at(leaf, Kind::BadValue)')
+    counts = refuses('!counts_are_within(payload, rows, n, steps)',
+                     'fault_at(leaf, Kind::CountMismatch)')
+    return [
+        unless(GROUPS, 'groups.keys.names(key)', 'DuplicateBox of sbgp in stbl',
+               'narrow-two-sbgp-of-one-key'),
+        unless(GROUPS, 'groups.keys.count() == 4', 'BadValue of a fifth key in stbl',
+               'five-keys-in-stbl'),
+        unless(GROUPS, '!are_below(payload, rows, 0x1_0000, steps)',
+               'BadValue of an index in stbl', 'narrow-group-index-65536-in-sbgp'),
+        unless(GROUPS, '!counts_are_within(payload, rows, n, steps)',
+               'CountMismatch of sbgp in stbl', 'narrow-groups-count-too-many-in-sbgp'),
+        unless(GROUPS, 'leaf.payload().len() < 8', 'ShortBox of sgpd',
+               'narrow-sgpd-with-short-fields'),
+        Edit(GROUPS, twice + fifth + index, index + twice + fifth,
+             'DuplicateBox before BadValue in sbgp', 'key-twice-before-its-index'),
+        swapped(GROUPS, index, '', counts, 'BadValue before CountMismatch in sbgp',
+                'narrow-group-index-65536-in-sbgp-and-groups-count-too-many-in-sbgp'),
+        unless(FRAGMENT_GROUPS, 'version > 1', 'BadVersion of sbgp in traf',
+               'narrow-fragment-sbgp-of-version-2'),
+        unless(FRAGMENT_GROUPS, 'named.has(j)', 'DuplicateBox of sbgp in traf',
+               'narrow-two-fragment-sbgp-of-one-key'),
+        unless(FRAGMENT_GROUPS, 'count >= 4', 'BadValue of a fifth key in traf',
+               'fifth-key-in-traf'),
+        unless(FRAGMENT_GROUPS, 'index > MAX_INDEX', 'BadValue of an index in traf',
+               'narrow-group-index-65536-in-fragment-sbgp'),
+        unless(FRAGMENT_GROUPS, 'total > u64::from(n)', 'CountMismatch of sbgp in traf',
+               'narrow-groups-count-too-many-in-fragment-sbgp'),
+        unless(FRAGMENT_GROUPS, 'payload.len() < rows + 8 * count as usize',
+               'ShortBox of the rows of sbgp in traf', 'narrow-fragment-sbgp-with-a-short-row'),
+    ]
+
+
+def of_fragments():
+    flags = refuses('bits & KNOWN != bits', 'Kind::BadFlags')
+    short = refuses('payload.len() < head_size(bits)', 'Kind::ShortBox')
+    described = refuses('lacks_description(state, judged.inherited.description, passed)',
+                        'fault(Kind::BadDescriptionIndex, tfhd)')
+    groups = '    let keys = check_groups(traf, passed.count, state.keys, steps)?;\n'
+    gap = ('    if let Some(tfdt) = heads.time {\n        if is_late(state, time, passed) {\n'
+           '            return Err(fault(Kind::Gap, tfdt));\n        }\n    }\n')
+    return [
+        unless(HEADS, 'version != 0', 'BadVersion of tfhd', 'narrow-tfhd-of-version-1',
+               'narrow-second-tfhd-of-version-1'),
+        unless(HEADS, 'bits & KNOWN != bits', 'BadFlags of tfhd',
+               'narrow-tfhd-with-an-unknown-flag'),
+        unless(HEADS, 'payload.len() < head_size(bits)', 'ShortBox of tfhd',
+               'narrow-tfhd-with-short-fields', 'wide-tfhd-with-short-fields'),
+        swapped(HEADS, flags, '', short, 'BadFlags before ShortBox in tfhd',
+                'flags-before-room-in-tfhd'),
+        unless(RUNS, 'version > 1', 'BadVersion of trun', 'narrow-trun-of-version-2',
+               'narrow-second-trun-of-version-2'),
+        unless(RUNS, 'bits & KNOWN != bits', 'BadFlags of trun: an unknown flag',
+               'narrow-trun-with-an-unknown-flag'),
+        unless(RUNS, 'has(bits, FIRST_FLAGS) && has(bits, ROW_FLAGS)',
+               'BadFlags of trun: flags twice', 'narrow-trun-with-flags-twice'),
+        unless(RUNS, 'payload.len() < rows + count as usize * row_size(bits)',
+               'ShortBox of the rows of trun', 'narrow-trun-with-a-short-row'),
+        unless(RUNS, 'payload.len() < rows', 'ShortBox of the fields of trun',
+               'narrow-trun-with-short-fields'),
+        unless(RUN_CHECKS, 'run.count > *room', 'TooManySamples of trun',
+               'narrow-too-many-samples-in-trun', 'too-many-samples-with-those-of-tables'),
+        Edit(RUN_CHECKS, '    if samples.are_within {',
+             '    if samples.are_within || run.count < 100 {',
+             'SampleOutsideFile of trun', 'narrow-sample-outside-the-file-in-trun',
+             'sample-one-byte-past-the-file', 'empty-sample-past-the-file'),
+        unless(RUN_CHECKS, 'have_large_offset(run, samples)', 'OffsetTooLarge of trun',
+               'narrow-offset-too-large-in-trun'),
+        Edit(RUN_CHECKS, '    if samples.are_within {',
+             '    if have_large_offset(run, samples) {\n'
+             '        return Err(Kind::OffsetTooLarge);\n    }\n    if samples.are_within {',
+             'SampleOutsideFile before OffsetTooLarge in trun',
+             'late-sample-outside-before-a-large-offset'),
+        Edit(TRAF, 'if tracks[k].id == id {', 'if tracks[k].id == id || id > 2 {',
+             'UnknownTrack: no track', 'narrow-tfhd-of-no-track', 'unknown-track-without-runs'),
+        Edit('mp4_present/src/tables_pass.rt', '        if trex.id == id {',
+             '        if trex.id == id || trex.id > 2 {', 'UnknownTrack: no trex',
+             'no-trex-for-the-track'),
+        Edit(TRAF, 'passed.count > 0 && (index < 1 || index > state.descriptions)',
+             'passed.count > 9 && (index < 1 || index > state.descriptions)',
+             'BadDescriptionIndex of tfhd', 'narrow-description-two-in-tfhd',
+             'description-zero-in-tfhd'),
+        Edit(TRAF, 'Some(time) => passed.count > 0 &&', 'Some(time) => passed.count > 9 &&', 'Gap',
+             'narrow-gap', 'narrow-gap-in-a-later-fragment', 'gap-of-a-track-of-tables'),
+        swapped(TRAF, described, '', groups,
+                'BadDescriptionIndex before the checks of sbgp in traf',
+                'bad-description-before-groups'),
+        swapped(TRAF, groups, '', gap, 'the checks of sbgp in traf before Gap',
+                'groups-before-a-gap'),
+        unless('mp4_frag/src/times.rt', 'version > 1', 'BadVersion of tfdt',
+               'narrow-tfdt-of-version-2'),
+        unless('mp4_frag/src/times.rt', 'payload.len() < needed', 'ShortBox of tfdt',
+               'narrow-tfdt-with-short-fields'),
+        unless('mp4_frag/src/fronts.rt', 'payload.len() < 4',
+               'ShortBox for the first four bytes in traf',
+               'narrow-tfhd-of-three-bytes', 'narrow-tfdt-of-three-bytes',
+               'narrow-trun-of-three-bytes', 'narrow-fragment-sbgp-of-three-bytes'),
+    ]
+
+
+def of_the_file():
+    return [
+        unless(OUTLINE, '!Rule::File.allows(header.kind)', 'BoxNotInProfile of the file',
+               'narrow-unknown-box-in-file'),
+        Edit(OUTLINE, 'Some(_) => Err(Fault::new(Kind::DuplicateBox, header.kind, at)),',
+             'Some(_) => Ok(seen),', 'DuplicateBox of moov', 'narrow-second-moov-in-file'),
+        unless(OUTLINE, 'seen.moov.is_none()', 'FragmentBeforeMovie',
+               'narrow-fragment-before-the-moov', 'fragment-before-the-movie'),
+        Edit(LIMITS, 'state.time > MOST_TIME || length', 'length',
+             'TimeTooLarge of the end of a track', 'end-at-2-to-the-63'),
+        Edit(LIMITS, ' || length > MOST_TIME', '', 'TimeTooLarge of the length of a track',
+             'wide-track-too-long', 'wide-second-track-too-long'),
+        unless(LIMITS, 'head_len(head) > MOST_MOOV + FILE_TYPE', 'MovieTooLarge',
+               'movie-one-byte-too-long'),
+        Edit(STORE, 'self.file.read_exact_at(out, at)',
+             'self.file.read_exact_at(out, at % 0x1_0000_0000)', 'places of more than 32 bits',
+             'movie-behind-five-gigabytes', 'fragments-behind-five-gigabytes'),
+        Edit(STORE, 'file.metadata()?.len();', 'file.metadata()?.len() % 0x1_0000_0000_0000;',
+             'lengths of 2^48 and more', 'movie-behind-2-to-the-48'),
+    ]
+
+
+def all_edits():
+    return [*of_boxes(), *of_heads(), *of_sizes(), *of_tables(), *of_groups(), *of_fragments(),
+            *of_the_file()]

@@ -1,0 +1,168 @@
+"""Boxes as trees, and the bytes that they spell.
+
+A file is built as a tree of boxes, so that a case knows where it put the box that it breaks.
+"""
+import struct
+
+
+def u8(number):
+    return struct.pack('>B', number)
+
+
+def u16(number):
+    return struct.pack('>H', number)
+
+
+def u32(number):
+    return struct.pack('>I', number)
+
+
+def i32(number):
+    """Four bytes; of any number, since places are not yet right when lengths are asked for."""
+    return u32(number % 2**32)
+
+
+def u64(number):
+    return struct.pack('>Q', number)
+
+
+def i64(number):
+    return struct.pack('>q', number)
+
+
+def full(version, flags=0):
+    """The first four bytes of a full box."""
+    return u32(version << 24 | flags)
+
+
+class Box:
+    """A box: its type, the bytes of its fields, and the boxes behind these.
+
+    `fields` may be a function without arguments, for numbers that are places of other boxes: it is
+    called again when all boxes have their places, and must give as many bytes as before.
+    """
+
+    def __init__(self, kind, fields=b'', children=(), wide=False):
+        self.kind = kind
+        self.fields = fields
+        self.children = list(children)
+        # Whether the header has a size of eight bytes.
+        self.wide = wide
+        # The size that the header says, where it isn't that of the box.
+        self.said = None
+        # Bytes put over those of the fields, and how many of these then stay.
+        self.patches = []
+        self.kept = None
+        self.place = 0
+
+    def field_bytes(self):
+        fields = bytearray(self.fields() if callable(self.fields) else self.fields)
+        for at, new in self.patches:
+            assert at + len(new) <= len(fields), (self.kind, at)
+            fields[at:at + len(new)] = new
+        return bytes(fields) if self.kept is None else bytes(fields[:self.kept])
+
+    def header_length(self):
+        return 16 if self.wide else 8
+
+    def length(self):
+        inner = sum(child.length() for child in self.children)
+        return self.header_length() + len(self.field_bytes()) + inner
+
+    def settle(self, place):
+        """Gives this box and those in it their places; answers the place behind it."""
+        self.place = place
+        place += self.header_length() + len(self.field_bytes())
+        for child in self.children:
+            place = child.settle(place)
+        return place
+
+    def header(self):
+        size = self.length() if self.said is None else self.said
+        if self.wide:
+            return u32(1) + self.kind.encode('latin-1') + u64(size)
+        return u32(size) + self.kind.encode('latin-1')
+
+    def spelled(self):
+        return self.header() + self.field_bytes() + b''.join(map(Box.spelled, self.children))
+
+    def copied(self):
+        """Another box like this one."""
+        children = [child.copied() for child in self.children]
+        copy = Box(self.kind, self.fields, children, self.wide)
+        copy.patches, copy.kept, copy.said = list(self.patches), self.kept, self.said
+        return copy
+
+
+class Raw(Box):
+    """Bytes where a box is due."""
+
+    def __init__(self, content):
+        super().__init__('none', content)
+
+    def header_length(self):
+        return 0
+
+    def header(self):
+        return b''
+
+
+class Hole(Box):
+    """A box whose content is zeros, which take no room on the disk.
+
+    It stands in the file itself, or is the last box in all that it is in.
+    """
+
+    def __init__(self, kind, size):
+        super().__init__(kind, wide=True)
+        self.size = size
+
+    def length(self):
+        return self.size
+
+    def settle(self, place):
+        self.place = place
+        return place + self.size
+
+
+class File:
+    """A file: its boxes, one after the other."""
+
+    place = 0
+
+    def __init__(self, boxes):
+        self.children = list(boxes)
+
+    def settle(self):
+        """Gives all boxes their places; answers the length of the file."""
+        place = 0
+        for box in self.children:
+            place = box.settle(place)
+        return place
+
+    def spelled(self):
+        self.settle()
+        return b''.join(box.spelled() for box in self.children)
+
+    def filled(self):
+        """All bytes, those of holes too."""
+        self.settle()
+        return b''.join(box.spelled().ljust(box.length(), b'\0') for box in self.children)
+
+    def write(self, path):
+        """Makes the file on the disk, with its holes."""
+        length = self.settle()
+        with open(path, 'wb') as file:
+            for box in self.children:
+                file.seek(box.place)
+                file.write(box.spelled())
+            file.truncate(length)
+
+    def at(self, path):
+        """The box at a path such as `moov/trak[1]/tkhd`; the empty path is the file itself."""
+        found = self
+        for step in filter(None, path.split('/')):
+            kind, _, number = step.partition('[')
+            same = [child for child in found.children if child.kind == kind]
+            found = same[int(number.rstrip(']') or 0)]
+        return found

@@ -1,0 +1,202 @@
+"""The normal form of what a file denotes, by its description."""
+from .boxes import Box, full, i32, u16, u32, u64
+
+
+def spelled(boxes):
+    return b''.join(box.spelled() for box in boxes)
+
+
+def kept(boxes):
+    """Boxes with the type and the content of these."""
+    return [Box(box.kind, bytes(box.payload())) for box in boxes]
+
+
+def normal_form(movie):
+    head = [file_type(), movie_box(movie)]
+    return spelled(head) + b''.join(pieces(movie))
+
+
+def file_type():
+    return Box('ftyp', b'iso6' + u32(0) + b'iso6mp41')
+
+
+def times_of(box):
+    """Creation and modification, each in eight bytes."""
+    width = 8 if box.version() else 4
+    return u64(box.number(4, width)) + u64(box.number(4 + width, width))
+
+
+def movie_header(movie):
+    box = movie.header
+    largest = max([track.id for track in movie.tracks], default=0)
+    behind = box.inner + (32 if box.version() else 20)
+    rate_and_volume, matrix = box.data[behind:behind + 6], box.data[behind + 16:behind + 52]
+    fields = full(1) + times_of(box) + u32(movie.timescale) + u64(0)
+    fields += rate_and_volume + bytes(10) + matrix + bytes(24)
+    return Box('mvhd', fields + u32(min(largest + 1, 2**32 - 1)))
+
+
+def movie_box(movie):
+    boxes = [movie_header(movie)] + kept(movie.moov.all('udta', 'iods', 'meta'))
+    boxes += [track_box(track) for track in movie.tracks]
+    extends = [Box('mehd', full(1) + u64(movie.length()))]
+    for track in movie.tracks:
+        extends.append(Box('trex', full(0) + u32(track.id) + u32(1) + bytes(12)))
+    return Box('moov', b'', boxes + [Box('mvex', b'', extends)])
+
+
+def track_header(track):
+    box = track.header
+    behind = box.inner + (36 if track.long_times else 24)
+    numbers, rest = box.data[behind + 8:behind + 14], box.data[behind + 16:behind + 60]
+    fields = full(1, box.flags()) + times_of(box) + u32(track.id) + bytes(4 + 8 + 8)
+    return Box('tkhd', fields + numbers + bytes(2) + rest)
+
+
+def edits(track):
+    if not track.edits:
+        return []
+    rows = b''
+    for duration, time, integer, fraction in track.edits:
+        rows += u64(duration) + u64(time % 2**64) + u16(integer % 2**16) + u16(fraction % 2**16)
+    return [Box('edts', b'', [Box('elst', full(1) + u32(len(track.edits)) + rows)])]
+
+
+def track_box(track):
+    boxes = [track_header(track)] + edits(track)
+    boxes += kept(track.trak.all('tref', 'udta', 'meta'))
+    return Box('trak', b'', boxes + [media_box(track)])
+
+
+def media_box(track):
+    box = track.media.one('mdhd')
+    behind = box.inner + (32 if box.version() else 20)
+    fields = full(1) + times_of(box) + u32(track.timescale) + u64(0)
+    boxes = [Box('mdhd', fields + box.data[behind:behind + 2] + bytes(2))]
+    boxes += kept(track.media.all('hdlr')) + kept(track.media.all('elng'))
+    header = track.information.all('vmhd', 'smhd', 'hmhd', 'nmhd', 'sthd', 'gmhd')
+    reference = Box('dref', full(0) + u32(1), [Box('url ', full(0, 1))])
+    inner = kept(header) + [Box('dinf', b'', [reference]), sample_table(track)]
+    return Box('mdia', b'', boxes + [Box('minf', b'', inner)])
+
+
+def sample_table(track):
+    descriptions = kept(track.descriptions)
+    boxes = [Box('stsd', full(0) + u32(len(descriptions)), descriptions)]
+    boxes += [Box('stts', bytes(8)), Box('stsc', bytes(8)), Box('stsz', bytes(12))]
+    boxes.append(Box('stco', bytes(8)))
+    return Box('stbl', b'', boxes + kept(track.tables.all('sgpd')))
+
+
+def with_times(track):
+    """Each sample with its decode time."""
+    timed, time = [], track.start
+    for sample in track.samples:
+        timed.append((time, sample))
+        time += sample.duration
+    return timed
+
+
+def first_fragments(track):
+    """The fragment of each sample of the first track, and the decode times at which fragments
+    begin."""
+    numbers, cuts = [], []
+    for time, sample in with_times(track):
+        is_sync = not sample.flags & 1 << 16
+        if not cuts or (is_sync and time >= cuts[-1] + track.timescale):
+            cuts.append(time)
+        numbers.append(len(cuts) - 1)
+    return numbers, cuts
+
+
+def later_fragments(track, first, cuts):
+    """The fragment of each sample of another track: the last that has begun by its decode time."""
+    numbers = []
+    for time, _ in with_times(track):
+        begun = [k for k,
+                 cut in enumerate(cuts) if time * first.timescale >= cut * track.timescale]
+        numbers.append(begun[-1] if begun else 0)
+    return numbers
+
+
+def pieces(movie):
+    """The `moof` and the `mdat` of each piece, in order of fragments and then of tracks."""
+    if not movie.tracks:
+        return []
+    first = movie.tracks[0]
+    numbers, cuts = first_fragments(first)
+    found = pieces_of(first, numbers)
+    for track in movie.tracks[1:]:
+        found += pieces_of(track, later_fragments(track, first, cuts))
+    found.sort(key=lambda one: one[0])
+    return [piece(movie, number, *one[1:]) for number, one in enumerate(found, 1)]
+
+
+def pieces_of(track, numbers):
+    """The fragment, the track, the first decode time and the samples of each piece of a track."""
+    found, last = [], None
+    for number, (time, sample) in zip(numbers, with_times(track)):
+        if last != (number, sample.description):
+            found.append((number, track, time, []))
+            last = number, sample.description
+        found[-1][-1].append(sample)
+    return found
+
+
+def shared(values):
+    """The value that all have, if they have one."""
+    return values[0] if len(set(values)) == 1 else None
+
+
+def piece(movie, number, track, time, samples):
+    columns = [(0x100, 0x8, [sample.duration for sample in samples]),
+               (0x200, 0x10, [sample.size for sample in samples]),
+               (0x400, 0x20, [sample.flags for sample in samples])]
+    head_flags, head = 0x020002, u32(track.id) + u32(samples[0].description)
+    run_flags, own = 1, []
+    for column, default, values in columns:
+        if shared(values) is None:
+            run_flags |= column
+            own.append([u32(value) for value in values])
+        else:
+            head_flags |= default
+            head += u32(values[0])
+    if any(sample.offset for sample in samples):
+        run_flags |= 0x800
+        own.append([i32(sample.offset) for sample in samples])
+    rows = b''.join(b''.join(row) for row in zip(*own))
+    content = b''.join(map(movie.bytes_of, samples))
+    data = Box('mdat', content)
+
+    def run_fields():
+        return (full(1, run_flags) + u32(len(samples)) + i32(data.place - moof.place + 8) + rows)
+
+    boxes = [Box('tfhd', full(0, head_flags) + head), Box('tfdt', full(1) + u64(time)),
+             Box('trun', run_fields)] + groupings(samples)
+    moof = Box('moof', b'', [Box('mfhd', full(0) + u32(number)), Box('traf', b'', boxes)])
+    data.place = moof.length()
+    return moof.spelled() + data.spelled()
+
+
+def groupings(samples):
+    """An `sbgp` for each key at which some sample has an index."""
+    keys = {key for sample in samples for key in sample.groups}
+    boxes = []
+    for kind, parameter in sorted(keys, key=key_order):
+        rows = []
+        for sample in samples:
+            index = sample.groups.get((kind, parameter), 0)
+            if rows and rows[-1][1] == index:
+                rows[-1][0] += 1
+            else:
+                rows.append([1, index])
+        fields = full(0 if parameter is None else 1) + kind
+        fields += b'' if parameter is None else u32(parameter)
+        fields += u32(len(rows)) + b''.join(u32(count) + u32(index) for count, index in rows)
+        boxes.append(Box('sbgp', fields))
+    return boxes
+
+
+def key_order(key):
+    kind, parameter = key
+    return kind, -1 if parameter is None else parameter

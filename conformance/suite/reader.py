@@ -1,0 +1,317 @@
+"""Reads a file that the profile accepts, by the description of the format, and says what it
+denotes.
+
+It looks for no faults: it is for the wanted answers of files that are known to have none.
+"""
+import json
+
+from . import lister
+
+
+class Node:
+    """A box that was read: its type, its place, its bytes."""
+
+    def __init__(self, data, header):
+        kind, self.place, self.inner, self.end = header
+        self.kind = kind.decode('latin-1')
+        self.data = data
+
+    def payload(self):
+        return self.data[self.inner:self.end]
+
+    def number(self, at, length=4, signed=False):
+        start = self.inner + at
+        return int.from_bytes(self.data[start:start + length], 'big', signed=signed)
+
+    def version(self):
+        return self.number(0, 1)
+
+    def flags(self):
+        return self.number(1, 3)
+
+    def boxes(self, skipped=0):
+        """The boxes in it, behind so many bytes."""
+        return nodes(self.data, self.inner + skipped, self.end)
+
+    def all(self, *kinds):
+        return [box for box in self.boxes() if box.kind in kinds]
+
+    def one(self, *kinds):
+        found = self.all(*kinds)
+        return found[0] if found else None
+
+    def rows(self, at, count, *widths):
+        """So many rows of numbers of these widths; a negative width is of a signed number."""
+        rows = []
+        for _ in range(count):
+            row = []
+            for width in widths:
+                row.append(self.number(at, abs(width), width < 0))
+                at += abs(width)
+            rows.append(row)
+        return rows
+
+
+def nodes(data, start, end, is_file=False):
+    return [Node(data, header) for header in lister.headers(data, start, end, '', is_file)]
+
+
+class Sample:
+    """A sample: its numbers, where its bytes lie, and its index at each grouping key that has
+    one."""
+
+    def __init__(self, duration, offset, flags, description, place, size):
+        self.duration, self.offset, self.flags = duration, offset, flags
+        self.description, self.place, self.size = description, place, size
+        self.groups = {}
+
+
+class Track:
+    """A track: the boxes that say it, and its samples."""
+
+    def __init__(self, trak):
+        self.trak = trak
+        self.header = trak.one('tkhd')
+        self.media = trak.one('mdia')
+        self.information = self.media.one('minf')
+        self.tables = self.information.one('stbl')
+        self.long_times = self.header.version() == 1
+        self.id = self.header.number(20 if self.long_times else 12)
+        media_header = self.media.one('mdhd')
+        self.timescale = media_header.number(20 if media_header.version() else 12)
+        descriptions = self.tables.one('stsd')
+        count = descriptions.number(4)
+        self.descriptions = first_boxes(descriptions, count)
+        self.edits = edits_of(trak)
+        self.samples = plain_samples(self.tables)
+        self.start = 0
+
+    def duration(self):
+        return sum(sample.duration for sample in self.samples)
+
+    def length(self, movie_timescale):
+        """Its length in the movie's time scale."""
+        if self.edits and all(edit[0] for edit in self.edits):
+            return sum(edit[0] for edit in self.edits)
+        return -(-self.duration() * movie_timescale // self.timescale)
+
+
+class Movie:
+    """What a file denotes."""
+
+    def __init__(self, data, length=None):
+        self.data = data
+        top = nodes(data, 0, len(data) if length is None else length, is_file=True)
+        (self.moov,) = [box for box in top if box.kind == 'moov']
+        self.header = self.moov.one('mvhd')
+        self.timescale = self.header.number(20 if self.header.version() else 12)
+        self.tracks = [Track(trak) for trak in self.moov.all('trak')]
+        extends = self.moov.one('mvex')
+        self.defaults = {}
+        for trex in extends.all('trex') if extends else []:
+            self.defaults[trex.number(4)] = [trex.number(at) for at in (8, 12, 16, 20)]
+        for moof in top:
+            if moof.kind == 'moof':
+                read_fragment(moof, self)
+
+    def length(self):
+        return max([track.length(self.timescale) for track in self.tracks], default=0)
+
+    def bytes_of(self, sample):
+        return bytes(self.data[sample.place:sample.place + sample.size])
+
+    def track(self, number):
+        found = [track for track in self.tracks if track.id == number]
+        return found[0] if found else None
+
+
+def first_boxes(box, count):
+    """The boxes behind the count of an `stsd`; bytes behind these are not looked at."""
+    found, place = [], box.inner + 8
+    while len(found) < count:
+        header = lister.header_at(box.data, place, box.end, '', False)
+        found.append(Node(box.data, (header[0], place, *header[1:])))
+        place = header[2]
+    return found
+
+
+def edits_of(trak):
+    edits = trak.one('edts')
+    rows = edits.one('elst') if edits else None
+    if not rows:
+        return []
+    width = 8 if rows.version() else 4
+    return rows.rows(8, rows.number(4), width, -width, -2, -2)
+
+
+def sizes_of(tables):
+    table = tables.one('stsz', 'stz2')
+    count = table.number(8)
+    if table.kind == 'stsz':
+        if table.number(4):
+            return [table.number(4)] * count
+        return [row[0] for row in table.rows(12, count, 4)]
+    bits = table.number(7, 1)
+    whole = int.from_bytes(table.data[table.inner + 12:table.end], 'big')
+    room = 8 * (table.end - table.inner - 12)
+    return [whole >> room - bits * (k + 1) & (1 << bits) - 1 for k in range(count)]
+
+
+def spread(table, default, count, width=4):
+    """The value of each sample, of rows that each count some samples."""
+    values = []
+    for repeated, value in table.rows(8, table.number(4), 4, width) if table else []:
+        values += [value] * repeated
+    return values + [default] * (count - len(values))
+
+
+def chunks_of(tables):
+    """Of each chunk its place, the number of its samples, and their description."""
+    table = tables.one('stco', 'co64')
+    places = table.rows(8, table.number(4), 4 if table.kind == 'stco' else 8)
+    rows = tables.one('stsc')
+    rows = rows.rows(8, rows.number(4), 4, 4, 4)
+    chunks = []
+    for number, (place,) in enumerate(places, 1):
+        _, count, description = [row for row in rows if row[0] <= number][-1]
+        chunks.append((place, count, description))
+    return chunks
+
+
+def plain_samples(tables):
+    sizes = sizes_of(tables)
+    count = len(sizes)
+    durations = spread(tables.one('stts'), 0, count)
+    offsets = tables.one('ctts')
+    offsets = spread(offsets, 0, count, -4 if offsets and offsets.version() else 4)
+    sync = tables.one('stss')
+    named = [row[0] for row in sync.rows(8, sync.number(4), 4)] if sync else range(1, count + 1)
+    depends = tables.one('sdtp')
+    samples = []
+    for place, chunk_count, description in chunks_of(tables):
+        for _ in range(chunk_count):
+            k = len(samples)
+            flags = (depends.number(4 + k, 1) if depends else 0) << 20
+            flags = (flags | (k + 1 not in named) << 16) & 0x0FFFFFFF
+            samples.append(
+                Sample(durations[k], offsets[k], flags, description, place, sizes[k])
+            )
+            place += sizes[k]
+    group(tables, samples)
+    return samples
+
+
+def group(container, samples):
+    """Gives samples the indexes that the `sbgp` of an `stbl` or a `traf` say."""
+    for box in container.all('sbgp'):
+        has_parameter = box.version() == 1
+        kind = bytes(box.data[box.inner + 4:box.inner + 8])
+        key = (kind, box.number(8) if has_parameter else None)
+        at = 12 if has_parameter else 8
+        first = 0
+        for count, index in box.rows(at + 4, box.number(at), 4, 4):
+            for sample in samples[first:first + count]:
+                if index:
+                    sample.groups[key] = index
+            first += count
+
+
+def optional(box, flags, at, *bits):
+    """The fields of 4 bytes that these flags say are there; nothing in the place of one that
+    isn't."""
+    values = []
+    for bit in bits:
+        values.append(box.number(at) if flags & bit else None)
+        at += 4 if flags & bit else 0
+    return values, at
+
+
+def read_fragment(moof, movie):
+    base = moof.place
+    for traf in moof.all('traf'):
+        base = read_track_fragment(traf, moof.place, base, movie)
+
+
+def read_track_fragment(traf, moof_place, base, movie):
+    """Adds the samples of a `traf` to its track; answers where its data ends."""
+    head = traf.one('tfhd')
+    track, flags = movie.track(head.number(4)), head.flags()
+    at = 8
+    if flags & 1:
+        base, at = head.number(8, 8), 16
+    elif flags & 0x020000:
+        base = moof_place
+    own, _ = optional(head, flags, at, 0x2, 0x8, 0x10, 0x20)
+    defaults = [theirs if mine is None else mine
+                for mine, theirs in zip(own, movie.defaults[track.id])]
+    samples, place = [], base
+    for run in traf.all('trun'):
+        place = read_run(run, base, place, defaults, samples)
+    group(traf, samples)
+    time = traf.one('tfdt')
+    if samples and not track.samples and time:
+        track.start = time.number(4, 8 if time.version() else 4)
+    track.samples += samples
+    return place
+
+
+def read_run(run, base, place, defaults, samples):
+    """Adds the samples of a run; answers where its data ends."""
+    flags, at = run.flags(), 8
+    if flags & 1:
+        place, at = base + run.number(8, 4, signed=True), 12
+    (first_flags,), at = optional(run, flags, at, 0x4)
+    for number in range(run.number(4)):
+        row, at = optional(run, flags, at, 0x100, 0x200, 0x400, 0x800)
+        duration, size, own_flags, offset = row
+        if number == 0 and first_flags is not None:
+            own_flags = first_flags
+        said = zip((duration, size, own_flags), defaults[1:])
+        duration, size, own_flags = [theirs if mine is None else mine for mine, theirs in said]
+        offset = offset or 0
+        if run.version() == 1 and offset >= 1 << 31:
+            offset -= 1 << 32
+        samples.append(
+            Sample(duration, offset, own_flags & 0x0FFFFFFF, defaults[0], place, size)
+        )
+        place += size
+    return place
+
+
+def shown(movie):
+    """The line of JSON that `show` writes."""
+    tracks = [{
+        'bytes': sum(sample.size for sample in track.samples),
+        'descriptions': [lister.printed(box.kind.encode('latin-1')) for box in track.descriptions],
+        'duration': track.duration(),
+        'edits': track.edits,
+        'handler': handler_of(track),
+        'id': track.id,
+        'samples': len(track.samples),
+        'start': track.start,
+        'timescale': track.timescale,
+    } for track in movie.tracks]
+    whole = {'mehd': movie.length(), 'timescale': movie.timescale, 'tracks': tracks}
+    return json.dumps(whole, separators=(',', ':'), sort_keys=True) + '\n'
+
+
+def handler_of(track):
+    payload = track.media.one('hdlr').payload()
+    return lister.printed(bytes(payload[8:12]))
+
+
+def lines_of(track):
+    """The lines that `samples` writes."""
+    lines, time = [], track.start
+    for number, sample in enumerate(track.samples, 1):
+        lines.append(
+            f'{number} {time} {time + sample.offset} {sample.duration} {sample.flags:08x}'
+            f' {sample.description} {sample.size}\n'
+        )
+        time += sample.duration
+    return ''.join(lines)
+
+
+def extracted(movie, track):
+    """The bytes that `extract` writes."""
+    return b''.join(map(movie.bytes_of, track.samples))
