@@ -39,7 +39,7 @@ pub use show::show;
 use std::fs::File;
 use std::io::Write;
 use std::process::ExitCode;
-use std::{env, io};
+use std::{env, fs, io};
 pub use wanted::{Action, CommandFault};
 
 /// The most bytes that are read of standard input.
@@ -60,7 +60,13 @@ fn words(rt: &HostRuntime) -> Result<Vec<String>, CommandFault> {
     }
 }
 
+// Opens a regular file. Whatever else there is can't be read by place, or its length isn't known; its kind is looked at first,
+// since opening a pipe would wait for whoever writes it.
 fn open(rt: &HostRuntime, file: &str) -> Result<BufferedStore<FileStore>, Refusal> {
+    match fs::metadata(rt, file) {
+        Ok(metadata) if metadata.is_file() => {}
+        _ => return Err(Refusal::StoreFailed),
+    }
     let file = File::open(rt, file).map_err(|_| Refusal::StoreFailed)?;
     let store = FileStore::new(file).map_err(|_| Refusal::StoreFailed)?;
     Ok(BufferedStore::new(store))

@@ -58,3 +58,10 @@ fn command_lines(rt: HostRuntime) -> Result<(), Fail> {
     }
     Ok(())
 }
+
+#[test]
+fn only_regular_files(rt: HostRuntime) {
+    for file in ["/dev/null", "/dev/zero", "/", "no such file"] {
+        assert_eq!(rt; list_file(&rt, file), Err(Refusal::StoreFailed), "{file}");
+    }
+}

@@ -1,0 +1,36 @@
+# Completion of mp4norm for bash.
+
+_mp4norm() {
+    local current=$2 previous=$3 command='' word words
+    COMPREPLY=()
+    for word in "${COMP_WORDS[@]:1:COMP_CWORD-1}"; do
+        case $word in
+        normalise | show | samples | extract | boxes | help)
+            command=$word
+            break
+            ;;
+        esac
+    done
+    case $previous in
+    --track)
+        compopt +o default 2>/dev/null
+        return
+        ;;
+    --out) return ;;
+    esac
+    case $command in
+    '') words='normalise show samples extract boxes help --help --version' ;;
+    normalise) words='--out --help' ;;
+    show) words='--help' ;;
+    samples) words='--track --help' ;;
+    extract) words='--track --out --help' ;;
+    boxes) words='--help' ;;
+    help) words='normalise show samples extract boxes' ;;
+    esac
+    # Behind a command that reads a file, words without a dash are files: bash completes them by itself.
+    if [[ -z $command || $command = help || $current = -* ]]; then
+        mapfile -t COMPREPLY < <(compgen -W "$words" -- "$current")
+    fi
+}
+
+complete -o default -F _mp4norm mp4norm

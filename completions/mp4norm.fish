@@ -1,0 +1,15 @@
+# Completion of mp4norm for fish.
+
+complete -c mp4norm -f
+complete -c mp4norm -n __fish_use_subcommand -a normalise -d 'Write the normal form of a file'
+complete -c mp4norm -n __fish_use_subcommand -a show -d 'Show a movie and its tracks as one line of JSON'
+complete -c mp4norm -n __fish_use_subcommand -a samples -d 'List the samples of a track'
+complete -c mp4norm -n __fish_use_subcommand -a extract -d 'Write the bytes of the samples of a track'
+complete -c mp4norm -n __fish_use_subcommand -a boxes -d 'List the boxes of a file'
+complete -c mp4norm -n __fish_use_subcommand -a help -d 'Print help'
+complete -c mp4norm -n '__fish_seen_subcommand_from normalise show samples extract boxes' -F
+complete -c mp4norm -n '__fish_seen_subcommand_from help' -a 'normalise show samples extract boxes'
+complete -c mp4norm -n '__fish_seen_subcommand_from samples extract' -l track -x -d 'The ID of the track'
+complete -c mp4norm -n '__fish_seen_subcommand_from normalise extract' -l out -rF -d 'The file to make'
+complete -c mp4norm -n 'not __fish_seen_subcommand_from help' -s h -l help -d 'Print help'
+complete -c mp4norm -n __fish_use_subcommand -s V -l version -d 'Print the version'
