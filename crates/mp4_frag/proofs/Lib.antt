@@ -10,6 +10,7 @@ pub mod WalkBound
 pub mod SaidSamples
 pub mod TracksMoved
 pub mod MoofPassed
+pub mod OwnTrexes
 pub mod TrafPassed
 pub mod HeadsFound
 pub mod GroupsPassed

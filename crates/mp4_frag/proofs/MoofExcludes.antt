@@ -15,10 +15,10 @@ use Rattle.mp4_tables.specs.Groups.{group_test, groupings_of}
 use Rattle.mp4_tables.specs.Keys.{keys_seen}
 use Rattle.mp4_tables.specs.TableRules.{is_index}
 use Rattle.mp4_frag.specs.Fragments.{AreTrafs, TrackFragment, track_fragment_of}
-use Rattle.mp4_frag.specs.FragmentSamples.{part_samples, parts_after, trex_for, no_trex, base_of, runs_samples, is_on_time}
+use Rattle.mp4_frag.specs.FragmentSamples.{part_samples, parts_after, base_of, runs_samples, is_on_time}
 use Rattle.mp4_frag.specs.FragmentRules.{is_within}
 use Rattle.mp4_frag.specs.GroupsJudged.{groups_in}
-use Rattle.mp4_frag.specs.Judged.{AreTrexesOf, IsAcceptable, IsPlacedWithin, IsMovedOn, AreMovedOn, TrackSeen, track_seen, track_behind, part_with, end_with}
+use Rattle.mp4_frag.specs.Judged.{own_trexes, IsAcceptable, IsPlacedWithin, IsMovedOn, AreMovedOn, TrackSeen, track_seen, track_behind, part_with, end_with}
 use Rattle.mp4_frag.specs.Reading.{inheritance}
 use Rattle.mp4_frag.specs.RunsJudged.{children_of, runs_in, runs_total, all_end}
 use Rattle.mp4_frag.specs.TrafFaults.{HoldsBoxes, IsTrackOf, IsOnly, traf_in, TrafFails, TrafsFail, MoofFails, children_fail, head_fails, no_track, time_fails, runs_fail, no_description, groups_fail, not_due}
@@ -30,8 +30,8 @@ use Rattle.mp4_frag.proofs.MoofPassed.{same_trex}
 use Rattle.mp4_frag.proofs.PartReasons.{part_counts, lacks_description, not_on_time}
 use Rattle.mp4_frag.proofs.RunReasons.{FailingRun, failing_run, run_reason, run_there, run_outside}
 use Rattle.mp4_frag.proofs.RunsTied.{run_in}
-use Rattle.mp4_frag.proofs.SeenLists.{IsFirst, find_map, first_seen, same_place, some_is, trexes_kept}
-use Rattle.mp4_frag.proofs.TrafsTied.{trex_found}
+use Rattle.mp4_frag.proofs.OwnTrexes.{Agree, own_agree}
+use Rattle.mp4_frag.proofs.SeenLists.{IsFirst, find_map, first_seen, same_place, some_is, trex_kept}
 
 all_got : {A : Type 0} (P : A → Type 0) (xs : List A) (k : ℕ) (x : A) → AllByRecursion P xs → slice_get xs k ≡ Some x → P x
 all_got P [] k x h e = absurd cc
@@ -144,37 +144,36 @@ moved_alike moof before boxes now other new later room less rest alike m n same 
       same_room less rest _ _ room m.taken n.taken (ap (λ x. length (part_samples (part_with moof before x (track_fragment_of boxes)))) same),
     )
 
-next_part : (trexes : List Trex) (moof : ℕ) (before : ℤ) (trex : Trex) (traf : TrackFragment) (more : List TrackFragment) → trex_for trexes traf.id ≡ Some trex
-    → parts_after trexes moof before (traf ∷ more) ≡ part_with moof before trex traf ∷ parts_after trexes moof (end_with moof before trex traf) more
-next_part trexes moof before trex traf more e = ap (λ o. part_with moof before (unwrap_or o no_trex) traf ∷ parts_after trexes moof (end_with moof before (unwrap_or o no_trex) traf) more) e
+-- by a list that agrees with the tracks, the parts begin with that of the track that moves on
+next_part : (trexes : List Trex) (moof : ℕ) (before : ℤ) (boxes : List Box) (now new : List TrackState) (room less : ℕ) (more : List TrackFragment) → Agree trexes now → (m : IsMovedOn moof before boxes now new room less)
+    → parts_after trexes moof before (track_fragment_of boxes ∷ more) ≡ part_with moof before m.trex (track_fragment_of boxes) ∷ parts_after trexes moof (end_with moof before m.trex (track_fragment_of boxes)) more
+next_part trexes moof before boxes now new room less more h m =
+    let known : trex_among now (track_fragment_of boxes).id ≡ Some m.trex = ap (λ (o : Option TrackState). unwrap_or (option_map (λ (s : TrackState). s.trex) o) None) m.found ∙ m.defaults in
+    let same = h (track_fragment_of boxes).id m.trex known moof before (track_fragment_of boxes) in
+    λ i. sym same.0 i ∷ parts_after trexes moof (sym same.1 i) more
 
--- the `trex` of the track that moves on is that of the list
-listed : (trexes : List Trex) (moof : ℕ) (before : ℤ) (boxes : List Box) (now new : List TrackState) (room less : ℕ) → AreTrexesOf trexes now → (m : IsMovedOn moof before boxes now new room less) → trex_for trexes (track_fragment_of boxes).id ≡ Some m.trex
-listed trexes moof before boxes now new room less h m =
-    trex_found trexes now (track_fragment_of boxes).id m.trex h (ap (λ (o : Option TrackState). unwrap_or (option_map (λ (s : TrackState). s.trex) o) None) m.found ∙ m.defaults)
-
-trafs_excluded : (L moof : ℕ) (trexes : List Trex) (f : Fault) (trafs : List Box) (before : ℤ) (now other after : List TrackState) (room less : ℕ) → map track_seen other ≡ map track_seen now → AreTrexesOf trexes now
+trafs_excluded : (L moof : ℕ) (trexes : List Trex) (f : Fault) (trafs : List Box) (before : ℤ) (now other after : List TrackState) (room less : ℕ) → map track_seen other ≡ map track_seen now → Agree trexes now
     → AreTrafs trafs (map children_of trafs) → AllByRecursion (AreSound (ruled rules.TrackFragment)) (map children_of trafs) → AllByRecursion (IsPlacedWithin L) (parts_after trexes moof before (map track_fragment_of (map children_of trafs)))
     → AreMovedOn moof before trafs now after room less → TrafsFail L moof before other room trafs f → ⊥
 trafs_excluded L moof trexes f [] before now other after room less alike defaults held leaves placed moved fails = fails
 trafs_excluded L moof trexes f (b ∷ trafs) before now other after room less alike defaults held leaves placed moved (inl fails) =
     let m = moved.2.0 in
-    let split = subst (AllByRecursion (IsPlacedWithin L)) (next_part trexes moof before m.trex (traf_in b) (map track_fragment_of (map children_of trafs)) (listed trexes moof before (children_of b) now moved.0 room moved.1 defaults m)) placed in
+    let split = subst (AllByRecursion (IsPlacedWithin L)) (next_part trexes moof before (children_of b) now moved.0 room moved.1 (map track_fragment_of (map children_of trafs)) defaults m) placed in
     traf_excluded L moof before now other moved.0 room moved.1 b f alike held.0 leaves.0 m split.0 fails
 trafs_excluded L moof trexes f (b ∷ trafs) before now other after room less alike defaults held leaves placed moved (inr (ends, between, rest, (boxes, t, n, fails))) =
     let m = moved.2.0 in
     let traf = traf_in b in
-    let known = listed trexes moof before (children_of b) now moved.0 room moved.1 defaults m in
-    let split = subst (AllByRecursion (IsPlacedWithin L)) (next_part trexes moof before m.trex traf (map track_fragment_of (map children_of trafs)) known) placed in
+    let split = subst (AllByRecursion (IsPlacedWithin L)) (next_part trexes moof before (children_of b) now moved.0 room moved.1 (map track_fragment_of (map children_of trafs)) defaults m) placed in
     let track = track_alike L moof before now other moved.0 room moved.1 b f alike held.0 leaves.0 m split.0 n.track n.found in
     let same : m.trex ≡ n.trex = same_some m.trex n.trex (sym m.defaults ∙ sym (ap (λ (s : TrackSeen). s.trex) track) ∙ n.defaults) in
     let r = moved_alike moof before (children_of b) now other moved.0 between room moved.1 rest alike m n same track in
     let end : ends ≡ end_with moof before m.trex traf = t.end ∙ ap (λ x. end_with moof before x traf) (same_trex L moof before ends (children_of b) other between room rest t n ∙ sym same) in
-    trafs_excluded L moof trexes f trafs (end_with moof before m.trex traf) moved.0 between after moved.1 less r.0 (trexes_kept trexes now moved.0 m.place m.track (part_with moof before m.trex traf) defaults m.there m.moved) held.1 leaves.1 split.1 moved.2.1
+    let kept : Agree trexes moved.0 = λ id trex e. defaults id trex (sym (trex_kept id now moved.0 m.place m.track (part_with moof before m.trex traf) m.there m.moved) ∙ e) in
+    trafs_excluded L moof trexes f trafs (end_with moof before m.trex traf) moved.0 between after moved.1 less r.0 kept held.1 leaves.1 split.1 moved.2.1
     (subst (λ e. TrafsFail L moof e between moved.1 trafs f) end (subst (λ k. TrafsFail L moof ends between k trafs f) (sym r.1) fails))
 
 -- what may be accepted has no fault
 pub moof_excluded : (L : ℕ) (tracks : List TrackState) (room : ℕ) (moof : Box) (f : Fault) → MoofFails L tracks room moof f → IsAcceptable L tracks room moof → ⊥
 moof_excluded L tracks room moof f (inl h) a = child_fault_refuses rules.MovieFragment (box_container moof) f (children_of moof) h a.sound.tree.children
 moof_excluded L tracks room moof f (inr (holds, h)) a =
-    trafs_excluded L moof.offset a.trexes f (of_kind (codes "traf") (children_of moof)) (pos moof.offset) tracks tracks a.after room a.less refl a.defaults a.sound.tree.trafs a.sound.leaves a.sound.places a.moved h
+    trafs_excluded L moof.offset (own_trexes tracks) f (of_kind (codes "traf") (children_of moof)) (pos moof.offset) tracks tracks a.after room a.less refl (own_agree tracks) a.sound.tree.trafs a.sound.leaves a.sound.places a.moved h

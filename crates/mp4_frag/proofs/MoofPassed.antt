@@ -9,7 +9,7 @@ use Rattle.mp4_boxes.specs.declared.rule.Rule.TheVariants as rules
 use Rattle.mp4_boxes.proofs.Each.{each_weaker}
 use Rattle.mp4_frag.specs.Fragments.{FragmentTree, AreTrafs, fragment_of, track_fragment_of}
 use Rattle.mp4_frag.specs.FragmentSamples.{Part, parts_of, parts_after, trex_for, no_trex}
-use Rattle.mp4_frag.specs.Judged.{AreTrexesOf, is_known_among, IsPlacedWithin, IsGrouped, IsSoundMoof, IsTrafSound, IsMovedOn, AreMovedOn, part_with, end_with, tree_of}
+use Rattle.mp4_frag.specs.Judged.{is_known_among, IsPlacedWithin, IsGrouped, IsSoundMoof, IsTrafSound, IsMovedOn, AreMovedOn, end_with, tree_of}
 use Rattle.mp4_frag.specs.Passing.{IsUpTo}
 use Rattle.mp4_frag.specs.RunsJudged.{children_of}
 use Rattle.mp4_boxes.specs.declared.fault.Fault.{Fault}
@@ -20,7 +20,7 @@ use Rattle.mp4_frag.specs.declared.trex.Trex.{Trex}
 use Rattle.mp4_frag.proofs.Comings.{turned}
 use Rattle.mp4_frag.proofs.Bounds.{up_to_more}
 use Rattle.mp4_frag.proofs.MoofTied.{boxes_few}
-use Rattle.mp4_frag.proofs.TrafsTied.{trex_found}
+use Rattle.mp4_frag.proofs.OwnTrexes.{Agree}
 
 -- each `traf` is sound, behind data that ends at a place
 abbrev pub AreTrafsSound : ℕ → ℕ → ℤ → List TrackState → List Box → Type 0
@@ -102,14 +102,11 @@ leaves_of L moof before tracks (b ∷ trafs) h = (h.1.1.leaves, leaves_of L moof
 abbrev parts_from : List Trex → ℕ → ℤ → List Box → List Part
 parts_from trexes moof before trafs = parts_after trexes moof before (map track_fragment_of (map children_of trafs))
 
-trex_is : (trexes : List Trex) (tracks : List TrackState) (id : ℕ) (trex : Trex) → AreTrexesOf trexes tracks → trex_among tracks id ≡ Some trex → trex ≡ unwrap_or (trex_for trexes id) no_trex
-trex_is trexes tracks id trex h e = ap (λ (o : Option Trex). unwrap_or o no_trex) (sym (trex_found trexes tracks id trex h e))
-
-ends_is : (trexes : List Trex) (L moof : ℕ) (before ends : ℤ) (tracks : List TrackState) (boxes : List Box) → AreTrexesOf trexes tracks → (t : IsTrafSound L moof before tracks boxes ends)
+ends_is : (trexes : List Trex) (L moof : ℕ) (before ends : ℤ) (tracks : List TrackState) (boxes : List Box) → Agree trexes tracks → (t : IsTrafSound L moof before tracks boxes ends)
     → ends ≡ end_with moof before (unwrap_or (trex_for trexes (track_fragment_of boxes).id) no_trex) (track_fragment_of boxes)
-ends_is trexes L moof before ends tracks boxes h t = t.end ∙ ap (λ (x : Trex). end_with moof before x (track_fragment_of boxes)) (trex_is trexes tracks (track_fragment_of boxes).id t.trex h t.known)
+ends_is trexes L moof before ends tracks boxes h t = t.end ∙ (h (track_fragment_of boxes).id t.trex t.known moof before (track_fragment_of boxes)).1
 
-all_known : (trexes : List Trex) (L moof : ℕ) (before : ℤ) (tracks : List TrackState) (trafs : List Box) → AreTrexesOf trexes tracks → AreTrafsSound L moof before tracks trafs → AllByRecursion (λ (part : Part). IsTrue (is_known_among tracks part)) (parts_from trexes moof before trafs)
+all_known : (trexes : List Trex) (L moof : ℕ) (before : ℤ) (tracks : List TrackState) (trafs : List Box) → Agree trexes tracks → AreTrafsSound L moof before tracks trafs → AllByRecursion (λ (part : Part). IsTrue (is_known_among tracks part)) (parts_from trexes moof before trafs)
 all_known trexes L moof before tracks [] h s = tt
 all_known trexes L moof before tracks (b ∷ trafs) h s =
     let t = s.1.1 in (
@@ -117,24 +114,24 @@ all_known trexes L moof before tracks (b ∷ trafs) h s =
       subst (λ (at : ℤ). AllByRecursion (λ (part : Part). IsTrue (is_known_among tracks part)) (parts_from trexes moof at trafs)) (ends_is trexes L moof before s.1.0 tracks (children_of b) h t) (all_known trexes L moof s.1.0 tracks trafs h s.1.2),
     )
 
-all_placed : (trexes : List Trex) (L moof : ℕ) (before : ℤ) (tracks : List TrackState) (trafs : List Box) → AreTrexesOf trexes tracks → AreTrafsSound L moof before tracks trafs → AllByRecursion (IsPlacedWithin L) (parts_from trexes moof before trafs)
+all_placed : (trexes : List Trex) (L moof : ℕ) (before : ℤ) (tracks : List TrackState) (trafs : List Box) → Agree trexes tracks → AreTrafsSound L moof before tracks trafs → AllByRecursion (IsPlacedWithin L) (parts_from trexes moof before trafs)
 all_placed trexes L moof before tracks [] h s = tt
 all_placed trexes L moof before tracks (b ∷ trafs) h s =
     let t = s.1.1 in (
-      subst (λ (x : Trex). IsPlacedWithin L (part_with moof before x (track_fragment_of (children_of b)))) (trex_is trexes tracks (track_fragment_of (children_of b)).id t.trex h t.known) t.places,
+      subst (IsPlacedWithin L) (h (track_fragment_of (children_of b)).id t.trex t.known moof before (track_fragment_of (children_of b))).0 t.places,
       subst (λ (at : ℤ). AllByRecursion (IsPlacedWithin L) (parts_from trexes moof at trafs)) (ends_is trexes L moof before s.1.0 tracks (children_of b) h t) (all_placed trexes L moof s.1.0 tracks trafs h s.1.2),
     )
 
-all_grouped : (trexes : List Trex) (L moof : ℕ) (before : ℤ) (tracks : List TrackState) (trafs : List Box) → AreTrexesOf trexes tracks → AreTrafsSound L moof before tracks trafs → AllByRecursion IsGrouped (parts_from trexes moof before trafs)
+all_grouped : (trexes : List Trex) (L moof : ℕ) (before : ℤ) (tracks : List TrackState) (trafs : List Box) → Agree trexes tracks → AreTrafsSound L moof before tracks trafs → AllByRecursion IsGrouped (parts_from trexes moof before trafs)
 all_grouped trexes L moof before tracks [] h s = tt
 all_grouped trexes L moof before tracks (b ∷ trafs) h s =
     let t = s.1.1 in (
-      subst (λ (x : Trex). IsGrouped (part_with moof before x (track_fragment_of (children_of b)))) (trex_is trexes tracks (track_fragment_of (children_of b)).id t.trex h t.known) t.groups,
+      subst IsGrouped (h (track_fragment_of (children_of b)).id t.trex t.known moof before (track_fragment_of (children_of b))).0 t.groups,
       subst (λ (at : ℤ). AllByRecursion IsGrouped (parts_from trexes moof at trafs)) (ends_is trexes L moof before s.1.0 tracks (children_of b) h t) (all_grouped trexes L moof s.1.0 tracks trafs h s.1.2),
     )
 
 pub moof_sound : (trexes : List Trex) (L : ℕ) (moof : Box) (tracks : List TrackState) → L < 2 ^ 64 → Holds rules.MovieFragment (box_container moof) (children_of moof) → AreTrafsSound L moof.offset (pos moof.offset) tracks (of_kind (codes "traf") (children_of moof))
-    → AreTrexesOf trexes tracks → IsSoundMoof L trexes tracks (tree_of moof)
+    → Agree trexes tracks → IsSoundMoof L trexes tracks (tree_of moof)
 moof_sound trexes L moof tracks short holds s h =
     let trafs = of_kind (codes "traf") (children_of moof) in
     record {

@@ -1,10 +1,10 @@
 -- Tracks as a clause sees them: two lists that look alike.
-use Rattle.std.proofs.Common.{◌≡◌, ℕ, zero, suc, ◌==◌, Bool, true, false, cond, List, [], ◌∷◌, map, take, Option, Some, None, refl, sym, ap, subst, ◌∙◌, slice_set}
-use Rattle.std.specs.Prelude.{find, option_map, slice_get}
-use Rattle.std.specs.List.{AllByRecursion}
+use Rattle.std.proofs.Common.{◌≡◌, ℕ, zero, suc, ◌==◌, Bool, true, false, cond, List, [], ◌∷◌, map, take, Option, Some, None, refl, sym, ap, ◌∙◌, slice_set}
+use Rattle.std.specs.Prelude.{find, option_map, unwrap_or, slice_get}
+use Rattle.mp4_frag.specs.Walks.{trex_among}
 use Rattle.std.proofs.lemmas.Option.{slice_get-map}
-use Rattle.mp4_frag.specs.FragmentSamples.{Part, has_samples, trex_for}
-use Rattle.mp4_frag.specs.Judged.{AreTrexesOf, TrackSeen, track_seen, track_behind}
+use Rattle.mp4_frag.specs.FragmentSamples.{Part, has_samples}
+use Rattle.mp4_frag.specs.Judged.{TrackSeen, track_seen, track_behind}
 use Rattle.mp4_frag.specs.declared.state.TrackState.{TrackState}
 use Rattle.mp4_frag.specs.declared.trex.Trex.{Trex}
 
@@ -77,33 +77,44 @@ kept_choice : (t : TrackSeen) (part : Part) (v : Bool) → has_samples part ≡ 
 kept_choice t part true e = rw e (refl, refl)
 kept_choice t part false e = rw e (refl, refl)
 
--- what the fragments of each track inherit, as a clause sees it
-abbrev AreTrexesSeen : List Trex → List TrackSeen → Type 0
-AreTrexesSeen trexes seen = AllByRecursion (λ (t : TrackSeen). t.trex ≡ trex_for trexes t.id) seen
+-- what the fragments of the track with this ID inherit, as a clause sees it
+abbrev seen_trex : ℕ → List TrackSeen → Option Trex
+seen_trex id seen = unwrap_or (option_map (λ (s : TrackSeen). s.trex) (find (λ (s : TrackSeen). s.id == id) seen)) None
 
-to_seen : (trexes : List Trex) (tracks : List TrackState) → AreTrexesOf trexes tracks → AreTrexesSeen trexes (map track_seen tracks)
-to_seen trexes [] h = tt
-to_seen trexes (t ∷ tracks) h = (h.0, to_seen trexes tracks h.1)
+as_seen : (id : ℕ) (tracks : List TrackState) → trex_among tracks id ≡ seen_trex id (map track_seen tracks)
+as_seen id [] = refl
+as_seen id (t ∷ tracks) = choice (t.id == id) (as_seen id tracks)
+  where
+    choice : (v : Bool) → trex_among tracks id ≡ seen_trex id (map track_seen tracks)
+        → unwrap_or (option_map (λ (s : TrackState). s.trex) (cond v (Some t) (find (λ (s : TrackState). s.id == id) tracks))) None ≡ unwrap_or (option_map (λ (s : TrackSeen). s.trex) (cond v (Some (track_seen t)) (find (λ (s : TrackSeen). s.id == id) (map track_seen tracks)))) None
+    choice true e = refl
+    choice false e = e
 
-of_seen : (trexes : List Trex) (tracks : List TrackState) → AreTrexesSeen trexes (map track_seen tracks) → AreTrexesOf trexes tracks
-of_seen trexes [] h = tt
-of_seen trexes (t ∷ tracks) h = (h.0, of_seen trexes tracks h.1)
+set_kept : (id : ℕ) (seen : List TrackSeen) (k : ℕ) (s t : TrackSeen) → slice_get seen k ≡ Some s → t.id ≡ s.id → t.trex ≡ s.trex → seen_trex id (slice_set seen k t) ≡ seen_trex id seen
+set_kept id [] k s t e i x = absurd cc
+set_kept id (r ∷ seen) zero s t e i x =
+    let same : r ≡ s = some_is r s e in
+    let one : t.id ≡ r.id = i ∙ ap (λ (q : TrackSeen). q.id) (sym same) in
+    let own : t.trex ≡ r.trex = x ∙ ap (λ (q : TrackSeen). q.trex) (sym same) in
+    first (t.id == id) (r.id == id) (ap (λ n. n == id) one) own
+  where
+    first : (u v : Bool) → u ≡ v → t.trex ≡ r.trex → unwrap_or (option_map (λ (q : TrackSeen). q.trex) (cond u (Some t) (find (λ (q : TrackSeen). q.id == id) seen))) None ≡ unwrap_or (option_map (λ (q : TrackSeen). q.trex) (cond v (Some r) (find (λ (q : TrackSeen). q.id == id) seen))) None
+    first true true a b = b
+    first true false a b = absurd cc
+    first false true a b = absurd cc
+    first false false a b = refl
+set_kept id (r ∷ seen) (suc k) s t e i x = later (r.id == id) (set_kept id seen k s t e i x)
+  where
+    later : (v : Bool) → seen_trex id (slice_set seen k t) ≡ seen_trex id seen
+        → unwrap_or (option_map (λ (q : TrackSeen). q.trex) (cond v (Some r) (find (λ (q : TrackSeen). q.id == id) (slice_set seen k t)))) None ≡ unwrap_or (option_map (λ (q : TrackSeen). q.trex) (cond v (Some r) (find (λ (q : TrackSeen). q.id == id) seen))) None
+    later true e = refl
+    later false e = e
 
-set_seen : (trexes : List Trex) (seen : List TrackSeen) (k : ℕ) (t : TrackSeen) → AreTrexesSeen trexes seen → t.trex ≡ trex_for trexes t.id → AreTrexesSeen trexes (slice_set seen k t)
-set_seen trexes [] k t h e = tt
-set_seen trexes (s ∷ seen) zero t h e = (e, h.1)
-set_seen trexes (s ∷ seen) (suc k) t h e = (h.0, set_seen trexes seen k t h.1 e)
-
-seen_at : (trexes : List Trex) (seen : List TrackSeen) (k : ℕ) (t : TrackSeen) → AreTrexesSeen trexes seen → slice_get seen k ≡ Some t → t.trex ≡ trex_for trexes t.id
-seen_at trexes [] k t h e = absurd cc
-seen_at trexes (s ∷ seen) zero t h e = subst (λ (x : TrackSeen). x.trex ≡ trex_for trexes x.id) (some_is s t e) h.0
-seen_at trexes (s ∷ seen) (suc k) t h e = seen_at trexes seen k t h.1 e
-
--- they are the same behind a part of the track at a place
-pub trexes_kept : (trexes : List Trex) (old new : List TrackState) (place : ℕ) (t : TrackState) (part : Part) → AreTrexesOf trexes old → slice_get old place ≡ Some t → map track_seen new ≡ slice_set (map track_seen old) place (track_behind (track_seen t) part)
-    → AreTrexesOf trexes new
-trexes_kept trexes old new place t part h there moved =
-    let seen = to_seen trexes old h in
-    let at = seen_at trexes (map track_seen old) place (track_seen t) seen (slice_get-map track_seen old place ∙ ap (option_map track_seen) there) in
+-- it is the same behind a part of the track at a place
+pub trex_kept : (id : ℕ) (old new : List TrackState) (place : ℕ) (t : TrackState) (part : Part) → slice_get old place ≡ Some t → map track_seen new ≡ slice_set (map track_seen old) place (track_behind (track_seen t) part)
+    → trex_among new id ≡ trex_among old id
+trex_kept id old new place t part there moved =
     let same = kept_choice (track_seen t) part (has_samples part) refl in
-    of_seen trexes new (subst (AreTrexesSeen trexes) (sym moved) (set_seen trexes (map track_seen old) place (track_behind (track_seen t) part) seen (same.1 ∙ at ∙ ap (trex_for trexes) (sym same.0))))
+    as_seen id new ∙ ap (seen_trex id) moved
+    ∙ set_kept id (map track_seen old) place (track_seen t) (track_behind (track_seen t) part) (slice_get-map track_seen old place ∙ ap (option_map track_seen) there) same.0 same.1
+    ∙ sym (as_seen id old)

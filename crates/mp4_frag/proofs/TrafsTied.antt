@@ -48,7 +48,7 @@ pub trex_found : (trexes : List Trex) (tracks : List TrackState) (id : ℕ) (tre
 trex_found trexes [] id trex h e = absurd cc
 trex_found trexes (t ∷ tracks) id trex h e = found_choice trexes id trex t (find (λ (s : TrackState). s.id == id) tracks) (t.id == id) refl h.0 (trex_found trexes tracks id trex h.1) e
 
-some_known : (o : Option Trex) → IsTrue (is_some o) → (trex : Trex) × (o ≡ Some trex)
+pub some_known : (o : Option Trex) → IsTrue (is_some o) → (trex : Trex) × (o ≡ Some trex)
 some_known None h = absurd cc
 some_known (Some trex) h = (trex, refl)
 

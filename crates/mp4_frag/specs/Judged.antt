@@ -21,6 +21,15 @@ use Rattle.mp4_frag.specs.declared.trex.Trex.{Trex}
 abbrev pub AreTrexesOf : List Trex → List TrackState → Type 0
 AreTrexesOf trexes tracks = AllByRecursion (λ (t : TrackState). t.trex ≡ trex_for trexes t.id) tracks
 
+-- what the fragments of each track inherit by its state, under the track's ID, whatever ID the `trex` names
+abbrev pub own_trexes : List TrackState → List Trex
+own_trexes [] = []
+own_trexes (t ∷ tracks) = with_own t.id t.trex (own_trexes tracks)
+  where
+    with_own : ℕ → Option Trex → List Trex → List Trex
+    with_own id None trexes = trexes
+    with_own id (Some trex) trexes = record trex { id = id } ∷ trexes
+
 -- the part is one of a track that has a `trex`
 abbrev pub is_known_among : List TrackState → Part → Bool
 is_known_among tracks part = is_some (trex_among tracks part.id)
@@ -125,9 +134,7 @@ AreMovedOn moof before (b ∷ trafs) old new room less =
 
 -- a `moof` that is accepted behind these tracks, where there is room for so many samples: it is sound, and each of its parts was due
 pub record IsAcceptable (file_length : ℕ) (tracks : List TrackState) (room : ℕ) (moof : Box) : Type 0 where
-  pub trexes : List Trex
-  pub defaults : AreTrexesOf trexes tracks
-  pub sound : IsSoundMoof file_length trexes tracks (tree_of moof)
+  pub sound : IsSoundMoof file_length (own_trexes tracks) tracks (tree_of moof)
   pub after : List TrackState
   pub less : ℕ
   pub moved : AreMovedOn moof.offset (pos moof.offset) (of_kind (codes "traf") (children_of moof)) tracks after room less

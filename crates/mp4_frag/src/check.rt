@@ -10,7 +10,7 @@ ghost use Rattle.mp4_frag.specs.GroupsJudged.{groups_in, AreGroupsSound, GroupsF
 ghost use Rattle.mp4_frag.specs.Passing.{IsNear, IsNearer, IsUpTo, is_late_at, start_with, due_with};
 ghost use Rattle.mp4_boxes.specs.Children.{Holds, of_kind};
 ghost use Rattle.mp4_frag.specs.RunsJudged.{children_of, only_list, runs_in, AreRunsSound, all_end, runs_total, runs_lasting, RunsFail};
-ghost use Rattle.mp4_frag.specs.Judged.{AreTrexesOf, IsAcceptable, IsSoundMoof, IsTrafSound, IsMovedOn, AreMovedOn, tree_of};
+ghost use Rattle.mp4_frag.specs.Judged.{AreTrexesOf, own_trexes, IsAcceptable, IsSoundMoof, IsTrafSound, IsMovedOn, AreMovedOn, tree_of};
 ghost use Rattle.mp4_tables.specs.TableRules.{is_index};
 ghost use Rattle.mp4_frag.specs.declared.trex.Trex.{Trex};
 ghost use Rattle.mp4_frag.specs.Walks.{trex_among};
@@ -280,6 +280,8 @@ pub fn check_moof<'a, L: Ledger>(
     requires room { HaveRoom room.old tracks.old }
     ensures view { IfOk result (λ view. moof_seen view ≡ box_seen moof.entry) }
     ensures sound { IfOk result (λ view. (trexes : List Trex) → AreTrexesOf trexes tracks.old → IsSoundMoof file_len trexes tracks.old (tree_of (box_seen moof.entry))) }
+    ensures own { IfOk result (λ view.
+        IsSoundMoof file_len (own_trexes tracks.old) tracks.old (tree_of (box_seen moof.entry))) }
     ensures fault { IfErr result (λ f. MoofFails file_len tracks.old room.old (box_seen moof.entry) f) }
     ensures only { IfErr result (λ f. IsAcceptable file_len tracks.old room.old (box_seen moof.entry) → ⊥) }
     ensures same { IfOk result (λ view. (id : ℕ) → trex_among tracks.new id ≡ trex_among tracks.old id) }

@@ -453,6 +453,9 @@ fn faults(rt: HostRuntime) {
         (FROM_MOOF, 8, 0x0102_002A, Kind::BadVersion, *b"tfhd", 613),
         (FROM_MOOF, 8, 0x0002_002E, Kind::BadFlags, *b"tfhd", 613),
         (FROM_MOOF, 8, 0x0002_003A, Kind::ShortBox, *b"tfhd", 613),
+        // Its version comes before its flags, and these before its length.
+        (FROM_MOOF, 8, 0x0102_003E, Kind::BadVersion, *b"tfhd", 613),
+        (FROM_MOOF, 8, 0x0002_003E, Kind::BadFlags, *b"tfhd", 613),
         (FROM_MOOF, 9, 2, Kind::UnknownTrack, *b"tfhd", 613),
         (FROM_MOOF, 9, 3, Kind::UnknownTrack, *b"tfhd", 613),
         (FROM_MOOF, 10, 2, Kind::BadDescriptionIndex, *b"tfhd", 613),
@@ -632,4 +635,11 @@ fn groups(rt: HostRuntime) {
             (Some(kind), *b"sbgp", offset)
         );
     }
+    // The description comes before each `sbgp`.
+    let mut tracks = [track(1, 0)];
+    let mut room = 10;
+    assert_eq!(rt;
+        told(check_words(GROUPED, &[(10, 2), (27, 4)], &mut tracks, &mut room)),
+        (Some(Kind::BadDescriptionIndex), *b"tfhd", 613)
+    );
 }

@@ -9,6 +9,8 @@ use Rattle.mp4_frag.proofs.HeadsFound.{holds_children}
 use Rattle.mp4_frag.proofs.MoofExcludes.{moof_excluded}
 use Rattle.mp4_frag.proofs.Costs.{moof_cost_traf, moof_cost_said, moof_cost_ended, moof_cost_fault}
 use Rattle.mp4_frag.proofs.MoofPassed.{moof_traf, moof_ended, moof_sound, moves_traf, moves_fault, moves_ended}
+use Rattle.mp4_frag.specs.Judged.{own_trexes}
+use Rattle.mp4_frag.proofs.OwnTrexes.{agree_of, own_agree}
 use Rattle.mp4_frag.proofs.check.check_moof.Goals as goal
 
 pub loop-child-preserved-then-eq : goal.loop-child-preserved-then-eq
@@ -38,7 +40,17 @@ returns-clause-sound g c trexes defaults =
     let held = subst (λ (boxes : List Box). Holds rules.MovieFragment (box_container moof) boxes) all h in
     let short : c.args.file_len < 2 ^ 64 = search rules in
     moof_sound trexes c.args.file_len moof c.args.tracks.now short held
-    (moof_ended _ _ _ _ _ _ _ _ c.loop-child.invariant.4 c.in-None.ensures.steps.0 (c.into_iter-child-iterator.ensures.into_iter_gives ∙ all)) defaults
+    (moof_ended _ _ _ _ _ _ _ _ c.loop-child.invariant.4 c.in-None.ensures.steps.0 (c.into_iter-child-iterator.ensures.into_iter_gives ∙ all)) (agree_of trexes c.args.tracks.now defaults)
+
+pub returns-clause-own : goal.returns-clause-own
+returns-clause-own g c =
+    let moof = box_seen c.args.moof in
+    let h = c.in_ok-child-items.ensures.holds in
+    let all = holds_children rules.MovieFragment moof _ h in
+    let held = subst (λ (boxes : List Box). Holds rules.MovieFragment (box_container moof) boxes) all h in
+    let short : c.args.file_len < 2 ^ 64 = search rules in
+    moof_sound (own_trexes c.args.tracks.now) c.args.file_len moof c.args.tracks.now short held
+    (moof_ended _ _ _ _ _ _ _ _ c.loop-child.invariant.4 c.in-None.ensures.steps.0 (c.into_iter-child-iterator.ensures.into_iter_gives ∙ all)) (own_agree c.args.tracks.now)
 
 pub returns-clause-moved : goal.returns-clause-moved
 returns-clause-moved g c =
