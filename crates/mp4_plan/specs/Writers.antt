@@ -45,7 +45,7 @@ pub record IsWriterOf (m : MovieSeen) (w : Writer) : Type 0 where
 abbrev pub rooms : List Walk → ℕ
 rooms walks = sum_by (λ (walk : Walk). length walk.bytes.items) walks
 
--- all that a writer holds: what of the head doesn't wait yet, the buffer in which bytes wait, 24 bytes for each row, and a `moof` in each walk
+-- all that a writer holds: its head, the buffer in which bytes wait, 24 bytes for each row, and a `moof` in each walk
 abbrev pub held : Writer → ℕ
 held w = length w.head.items + length w.carrier.buffer.items + 24 * length w.rows.items + rooms w.planning.items + rooms w.copying.items
 

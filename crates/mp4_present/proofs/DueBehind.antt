@@ -1,17 +1,14 @@
 -- When the samples of a track in a `moof` are due, by what is known of it before the `moof` and behind it.
-use Rattle.std.proofs.Common.{◌≡◌, ℕ, zero, suc, ◌+◌, ◌-◌, ◌^◌, ◌<◌, min, List, [], ◌∷◌, ◌++◌, length, map, refl, sym, ap, ◌∙◌, arith, length-append, append_assoc}
+use Rattle.std.proofs.Common.{◌≡◌, ℕ, List, [], ◌∷◌, ◌++◌, map, ap, ◌∙◌}
 use Rattle.std.specs.Prelude.{flat_map}
 use Rattle.std.proofs.lemmas.Grind.{flat_map-append}
 use Rattle.std.proofs.lemmas.List.{append-nil, map-append}
-use Rattle.mp4_tables.specs.PlainSamples.{PlacedSample}
 use Rattle.mp4_frag.specs.Fragments.{FragmentTree, fragment_of}
-use Rattle.mp4_frag.specs.FragmentSamples.{Part, part_samples, parts_of, parts_for, start_of, duration_of, fragment_samples}
-use Rattle.mp4_frag.specs.Judged.{TrackSeen, samples_of_track}
-use Rattle.mp4_head.specs.Tree.{MovieTree, TrackTree, track_head_of, trexes_of}
-use Rattle.mp4_present.specs.Denotes.{FileTree, plain_of, file_parts, parts_of_track}
-use Rattle.mp4_present.specs.Passing.{parts_behind, seen_behind}
+use Rattle.mp4_frag.specs.FragmentSamples.{part_samples, parts_of, parts_for, fragment_samples}
+use Rattle.mp4_frag.specs.Judged.{samples_of_track}
+use Rattle.mp4_head.specs.Tree.{MovieTree, trexes_of}
+use Rattle.mp4_present.specs.Passing.{parts_behind}
 use Rattle.mp4_present.proofs.FragmentReasons.{for-append}
-use Rattle.mp4_present.proofs.TracksBehind.{samples_of, find_came, start_by, empty, at_none, at_some}
 
 -- ---- the samples of some `moof`s and of more
 

@@ -1,13 +1,12 @@
 -- The next `moof` of a walk: its samples of the track are in hand.
-use Rattle.std.proofs.Common.{rules, ◌≡◌, ℕ, zero, suc, ◌+◌, ◌-◌, ◌^◌, ◌<◌, ◌≤◌, min, nat_lt, length-append, Bool, true, false, cond, List, [], ◌∷◌, ◌++◌, Option, Some, None, length, map, pos, refl, sym, ap, subst, ◌∙◌, arith, append_assoc, slice_get, slice_index_or}
-use Rattle.std.specs.Prelude.{codes, bytes_eq, is_some, ◌==◌, find, flat_map, option_map, unwrap_or}
-use Rattle.std.specs.List.{AllByRecursion, AllZip}
+use Rattle.std.proofs.Common.{rules, ◌≡◌, ℕ, zero, suc, ◌+◌, ◌-◌, ◌^◌, ◌<◌, ◌≤◌, min, nat_lt, length-append, Bool, true, false, List, [], ◌∷◌, ◌++◌, Some, length, map, refl, sym, ap, subst, ◌∙◌, arith, append_assoc, slice_get, slice_index_or}
+use Rattle.std.specs.Prelude.{codes, bytes_eq, flat_map, option_map}
+use Rattle.std.specs.List.{AllZip}
 use Rattle.std.proofs.lemmas.List.{map-append}
 use Rattle.std.proofs.lemmas.Option.{slice_get-map}
-use Rattle.mp4_boxes.specs.Box.{Box, LieEndToEnd, size, sizes}
+use Rattle.mp4_boxes.specs.Box.{Box, size, sizes}
 use Rattle.mp4_boxes.specs.Children.{of_kind}
-use Rattle.mp4_boxes.specs.declared.fault.Fault.{Fault}
-use Rattle.mp4_boxes.proofs.Among.{head_is, tail_is, all_at, of_kind-append}
+use Rattle.mp4_boxes.proofs.Among.{of_kind-append}
 use Rattle.mp4_boxes.proofs.Tiling.{sizes-append, sizes-cons}
 use Rattle.mp4_tables.specs.Accepted.{AreDistinct}
 use Rattle.mp4_tables.specs.Keys.{keys_seen}
@@ -15,45 +14,27 @@ use Rattle.mp4_tables.specs.PlainSamples.{PlacedSample}
 use Rattle.mp4_tables.specs.Tables.{tables_of}
 use Rattle.mp4_tables.specs.Timed.{timed}
 use Rattle.mp4_tables.specs.declared.sample.SampleAt.{SampleAt}
-use Rattle.mp4_frag.specs.Fragments.{FragmentTree, IsFragmentTree}
-use Rattle.mp4_frag.specs.FragmentSamples.{Part, start_of, duration_of, fragment_samples, trex_for}
-use Rattle.mp4_frag.specs.Judged.{AreTrexesOf, IsSoundMoof, AreMovedOn, TrackSeen, track_seen, tree_of, samples_of_track}
-use Rattle.mp4_frag.specs.RunsJudged.{children_of}
-use Rattle.mp4_frag.specs.TrafFaults.{MoofFails}
-use Rattle.mp4_frag.specs.Walks.{trex_among}
+use Rattle.mp4_frag.specs.Fragments.{FragmentTree}
+use Rattle.mp4_frag.specs.FragmentSamples.{Part, start_of, duration_of, fragment_samples}
+use Rattle.mp4_frag.specs.Judged.{AreTrexesOf, IsSoundMoof, TrackSeen, track_seen, samples_of_track}
 use Rattle.mp4_frag.specs.declared.state.TrackState.{TrackState}
 use Rattle.mp4_frag.specs.declared.trex.Trex.{Trex}
-use Rattle.mp4_frag.proofs.MoofPassed.{sound_alike}
 use Rattle.mp4_frag.proofs.RunsTied.{duration-append}
-use Rattle.mp4_frag.proofs.Trees.{fragment_tree_one}
 use Rattle.mp4_head.specs.Tree.{TrackTree, track_head_of, trexes_of}
-use Rattle.mp4_head.proofs.Above.{lies_front}
 use Rattle.mp4_present.specs.Presentation.{IsInTime, total_duration, max_time}
 use Rattle.mp4_present.specs.Denotes.{FileTree, plain_of, file_parts, first_due, parts_of_track, placed_of, sample_of, track_of, presentation_of}
-use Rattle.mp4_present.specs.Passing.{AreBehind, IsMovieOf, IsNextMoof, parts_behind, seen_behind}
-use Rattle.mp4_present.specs.Stands.{Stands, StandsBy, Reason, header, child, missing, leaf, tables, fragment, count, limit, order}
-use Rattle.mp4_present.specs.OpenedMovie.{IsOpenedAs, IsInfoOf, plain_seen}
+use Rattle.mp4_present.specs.Passing.{parts_behind}
+use Rattle.mp4_present.specs.OpenedMovie.{IsOpenedAs, IsInfoOf}
 use Rattle.mp4_present.specs.Movies.{MovieSeen}
 use Rattle.mp4_present.specs.Coming.{track_keys, due_behind, samples_behind, StandsBefore, HoldsNext, moof_box}
 use Rattle.mp4_present.specs.declared.track_info.TrackInfo.{TrackInfo}
 use Rattle.mp4_present.specs.declared.walks.Walk.{Walk}
-use Rattle.mp4_present.proofs.BoxReasons.{header_refuses, child_refuses, missing_stands_refuses}
-use Rattle.mp4_present.proofs.Leaves.{leaf_refuses}
-use Rattle.mp4_present.proofs.TableReasons.{tables_refuse}
-use Rattle.mp4_present.proofs.FragmentReasons.{fragment_refuses}
-use Rattle.mp4_present.proofs.Counts.{count_refuses}
-use Rattle.mp4_present.proofs.Limits.{limit_refuses}
-use Rattle.mp4_present.proofs.Order.{order_refuses}
-use Rattle.mp4_present.proofs.MoofsPassed.{moov_before}
-use Rattle.mp4_present.proofs.MoofBehind.{passes_moof, trexes_behind}
-use Rattle.mp4_present.proofs.MoofRefused.{refuses_moof}
 use Rattle.mp4_present.proofs.DueBehind.{own_samples, one_moof}
 use Rattle.mp4_present.proofs.MoofLoaded.{behind_split, due_more}
 use Rattle.mp4_present.proofs.MoofSound.{moof_sound, kept_trexes}
 use Rattle.mp4_present.proofs.TablesKept.{timed_lasts}
 use Rattle.mp4_boxes.specs.Bytes.{sum_of}
 use Rattle.mp4_present.proofs.KeysExtended.{distinct_keys}
-use Rattle.mp4_present.proofs.JoinedSamples.{none_is}
 use Rattle.mp4_present.proofs.WalkPlaces.{of_got}
 
 -- ---- a track at its place

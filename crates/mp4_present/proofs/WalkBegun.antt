@@ -1,5 +1,5 @@
 -- A walk that begins: the samples of the tables are in hand, and those of all `moof`s come behind them.
-use Rattle.std.proofs.Common.{◌≡◌, ℕ, ◌+◌, ◌-◌, ◌^◌, min, length-append, List, [], ◌∷◌, ◌++◌, Option, Some, None, length, drop, map, refl, sym, ap, subst, ◌∙◌, arith, slice_get}
+use Rattle.std.proofs.Common.{◌≡◌, ℕ, ◌+◌, ◌-◌, ◌^◌, min, length-append, List, [], ◌∷◌, ◌++◌, Option, Some, None, length, drop, map, refl, sym, ap, ◌∙◌, arith, slice_get}
 use Rattle.std.specs.Prelude.{codes, flat_map, ℤ, unwrap_or}
 use Rattle.std.proofs.lemmas.List.{append-nil}
 use Rattle.std.proofs.lemmas.List.{length-map}
@@ -13,27 +13,22 @@ use Rattle.mp4_tables.specs.Timed.{timed, samples_of}
 use Rattle.mp4_tables.specs.Accepted.{tables_at}
 use Rattle.mp4_tables.specs.Views.{TablesSeen, CursorSeen, samples_from}
 use Rattle.mp4_tables.specs.Views as views
-use Rattle.mp4_frag.specs.Fragments.{FragmentTree}
 use Rattle.mp4_frag.specs.FragmentSamples.{Part, start_of, duration_of, fragment_samples}
 use Rattle.mp4_frag.specs.Judged.{TrackSeen, track_seen}
 use Rattle.mp4_frag.specs.declared.state.TrackState.{TrackState}
 use Rattle.mp4_frag.proofs.RunsTied.{timed-append}
 use Rattle.mp4_head.specs.Tree.{TrackTree, track_head_of, trexes_of}
 use Rattle.mp4_present.specs.Denotes.{FileTree, plain_of, plain_keys, file_parts, parts_of_track, placed_of, sample_of}
-use Rattle.mp4_present.specs.Presentation.{max_samples}
-use Rattle.mp4_present.specs.Stands.{table_total}
 use Rattle.mp4_present.specs.Outline.{BeginAt}
 use Rattle.mp4_present.specs.OpenedMovie.{IsOpenedAs, IsInfoOf, AreTablesOf, plain_seen}
 use Rattle.mp4_present.specs.Movies.{MovieSeen, table_bytes, tables_seen}
-use Rattle.mp4_present.specs.Passing.{AreBehind, parts_behind}
+use Rattle.mp4_present.specs.Passing.{parts_behind}
 use Rattle.mp4_present.specs.Coming.{track_keys, track_samples, due_behind, samples_behind, StandsBefore}
 use Rattle.mp4_present.specs.declared.track_info.TrackInfo.{TrackInfo}
 use Rattle.mp4_present.specs.declared.movie.TrackTables.{TrackTables}
 use Rattle.mp4_present.specs.declared.walks.Walk.{Walk}
-use Rattle.mp4_present.proofs.Assembled.{all_same}
 use Rattle.mp4_present.proofs.FragmentPass.{whole_file}
 use Rattle.mp4_present.proofs.KeysExtended.{HaveNone, grouped_within, timed_with}
-use Rattle.mp4_present.proofs.MoofBehind.{begins_behind}
 use Rattle.mp4_present.proofs.MoofTaken.{zipped_at, seen_at, tables_in_time}
 use Rattle.mp4_present.proofs.SamplesLie.{timed_length}
 

@@ -1,8 +1,6 @@
 -- Walks over the samples of a track: how they begin, and what they have in hand.
-use Rattle.std.proofs.Common.{◌≡◌, ℕ, ◌<◌, zero, suc, List, [], ◌∷◌, length, Some, None, refl, sym, ap, subst, ◌∙◌, arith}
+use Rattle.std.proofs.Common.{◌≡◌, ℕ, ◌<◌, zero, suc, List, [], ◌∷◌, length, Some, refl, sym, ap, subst, ◌∙◌, arith}
 use Rattle.std.specs.List.{AllByRecursion, slice_get}
-use Rattle.std.specs.Prelude.{Option, unwrap_or}
-use Rattle.mp4_frag.specs.States.{HaveRoom}
 use Rattle.mp4_tables.specs.Views.{TablesSeen}
 use Rattle.mp4_tables.specs.Views.{CursorSeen as TableView}
 use Rattle.mp4_frag.specs.Views.{CursorSeen as MoofView}
@@ -15,7 +13,6 @@ use Rattle.mp4_present.specs.declared.in_hand.Place.TheVariants.{Tables, Fragmen
 use Rattle.mp4_present.specs.declared.walks.Walk.{Walk}
 use Rattle.mp4_tables.specs.Accepted.{IsPlace}
 use Rattle.mp4_tables.specs.declared.places.TablePlace.{TablePlace}
-use Rattle.mp4_frag.specs.declared.state.TrackState.{TrackState}
 use Rattle.mp4_present.specs.Movies.{MovieSeen, IsMovie, IsWalkOf, StandsAt, HandAt, InHandOf, table_bytes}
 use Rattle.mp4_present.specs.declared.movie.TrackTables.{TrackTables}
 

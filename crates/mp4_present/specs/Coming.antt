@@ -1,5 +1,5 @@
 -- The samples of a track that are still to come in a walk over the file that its movie was opened from.
-use Rattle.std.specs.Prelude.{◌≡◌, ℕ, ◌+◌, ◌-◌, ◌^◌, ◌==◌, min, if◌then◌else◌, List, [], ◌∷◌, ◌++◌, length, map, Bool, true, false, Some, slice_get, codes}
+use Rattle.std.specs.Prelude.{◌≡◌, ℕ, ◌+◌, List, [], ◌∷◌, ◌++◌, length, map, Bool, true, false, Some, slice_get, codes}
 use Rattle.mp4_boxes.specs.Box.{Box, size, sizes}
 use Rattle.mp4_boxes.specs.Children.{of_kind}
 use Rattle.mp4_tables.specs.Groups.{GroupKey}
