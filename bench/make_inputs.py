@@ -92,14 +92,19 @@ def large(path):
     plain(path, 1000, lambda at: [trak(1, b'vide', 12800, tables(at))], count * size)
 
 
-def small(path):
-    source = random.Random(2)
-    count, each = 5_000_000, 30
-    sizes = [20 + source.randrange(181) for _ in range(count)]
+def chunk_places(sizes, each):
+    """Where chunks of so many samples begin, one behind the other, and where the last ends."""
     places, at = [], 0
-    for n in range(0, count, each):
+    for n in range(0, len(sizes), each):
         places.append(at)
         at += sum(sizes[n:n + each])
+    return places, at
+
+
+def small(path, count=5_000_000):
+    source, each = random.Random(2), 30
+    sizes = [20 + source.randrange(181) for _ in range(count)]
+    places, at = chunk_places(sizes, each)
     rows = [number for n in range(count) for number in (1, 500 + n % 3)]
     offsets = [number for n in range(count) for number in (1, 1000 + n % 2)]
     keys = range(1, count, 250)
@@ -107,8 +112,8 @@ def small(path):
     plain(path, 1000, lambda begin: [trak(1, b'vide', 12800, tables(begin))], at)
 
 
-def fragments(path):
-    count, each, size = 20_000, 30, 500
+def fragments(path, count=20_000):
+    each, size = 30, 500
     empty = [table(b'stts', 0, []), table(b'stsc', 0, []), full(b'stsz', 0, 0, bytes(8)), table(b'stco', 0, [])]
     trex = full(b'trex', 0, 0, words([1, 1, 512, 0, 0x10000]))
     with open(path, 'wb') as file:

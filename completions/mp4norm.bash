@@ -5,7 +5,7 @@ _mp4norm() {
     COMPREPLY=()
     for word in "${COMP_WORDS[@]:1:COMP_CWORD-1}"; do
         case $word in
-        normalise | show | samples | extract | boxes | help)
+        normalise | show | samples | extract | boxes | check | help)
             command=$word
             break
             ;;
@@ -16,16 +16,17 @@ _mp4norm() {
         compopt +o default 2>/dev/null
         return
         ;;
-    --out) return ;;
+    --out | --names-from) return ;;
     esac
     case $command in
-    '') words='normalise show samples extract boxes help --help --version' ;;
-    normalise) words='--out --help' ;;
-    show) words='--help' ;;
-    samples) words='--track --help' ;;
-    extract) words='--track --out --help' ;;
-    boxes) words='--help' ;;
-    help) words='normalise show samples extract boxes' ;;
+    '') words='normalise show samples extract boxes check help --help --version' ;;
+    normalise) words='--out --replace --explain --help' ;;
+    show) words='--explain --help' ;;
+    samples) words='--track --explain --help' ;;
+    extract) words='--track --out --replace --explain --help' ;;
+    boxes) words='--explain --help' ;;
+    check) words='--names-from --zero --help' ;;
+    help) words='normalise show samples extract boxes check' ;;
     esac
     # Behind a command that reads a file, words without a dash are files: bash completes them by itself.
     if [[ -z $command || $command = help || $current = -* ]]; then

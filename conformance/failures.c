@@ -1,5 +1,7 @@
 /* Put before the C library, this makes calls of a program fail: an allocation, a read of a file, a read of
- * standard input, asking for the length of a file, or a write. FAIL_CALL says of which kind (alloc, read, input, length, write), FAIL_AT which one, from 1 on; with FAIL_REST all behind it fail too.
+ * standard input, asking for the length of a file, a write, bringing a file to the disk, or renaming one. FAIL_CALL says of
+ * which kind (alloc, read, input, length, write, sync, rename), FAIL_AT which one, from 1 on; with FAIL_REST all behind it
+ * fail too.
  * FAIL_TAKEN says how many bytes of the write that fails are taken first; -1 is all but one. At the end the number of calls
  * of that kind is written to the file FAIL_TOLD, and for writes the length of each. */
 #define _GNU_SOURCE
@@ -102,4 +104,24 @@ ssize_t write(int file, const void *bytes, size_t count) {
         return real(file, bytes, taken);
     }
     return real(file, bytes, count);
+}
+
+int fsync(int file) {
+    static int (*real)(int);
+    if (!real) real = (int (*)(int))dlsym(RTLD_NEXT, "fsync");
+    if (fails("sync")) {
+        errno = EIO;
+        return -1;
+    }
+    return real(file);
+}
+
+int rename(const char *from, const char *to) {
+    static int (*real)(const char *, const char *);
+    if (!real) real = (int (*)(const char *, const char *))dlsym(RTLD_NEXT, "rename");
+    if (fails("rename")) {
+        errno = EACCES;
+        return -1;
+    }
+    return real(from, to);
 }

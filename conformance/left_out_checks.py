@@ -113,7 +113,7 @@ def of_heads():
         unless('mp4_head/src/track_boxes.rt', '!ids.insert(header.id)?',
                'BadValue of tkhd: a taken ID', 'narrow-tkhd-of-a-taken-id'),
         unless('mp4_head/src/extends.rt', '!ids.insert(trex.id)?', 'BadValue of trex: a taken ID',
-               'narrow-trex-of-a-taken-id'),
+               'narrow-trex-of-a-taken-id', 'two-trexes-of-no-track'),
         unless('mp4_head/src/kept_boxes.rt', 'names_item_location(view.payload())', 'ItemLocation',
                *[f'narrow-{name}-with-iloc' for name in (
                    'udta-of-moov', 'iods-of-moov', 'meta-of-moov', 'tref-of-trak', 'udta-of-trak',
@@ -201,7 +201,7 @@ def of_tables():
                'CountMismatch of stsc', 'narrow-chunks-count-too-many', 'chunks-count-too-few'),
         unless(CHECKS, '!are_described(payload, rows, chunks, limits.descriptions, steps)',
                'BadDescriptionIndex of stsc', 'narrow-description-two-in-stsc',
-               'description-zero-in-stsc'),
+               'description-zero-in-stsc', 'no-descriptions'),
         unless(CHECKS, '!lie_within(stbl.payload(), sizes, rows, chunks, limits.file_len, steps)',
                'SampleOutsideFile of stco', 'narrow-sample-outside-the-file-in-stco',
                'wide-sample-outside-the-file-in-co64'),
@@ -227,14 +227,19 @@ def of_groups():
     counts = refuses('!counts_are_within(payload, rows, n, steps)',
                      'fault_at(leaf, Kind::CountMismatch)')
     return [
-        unless(GROUPS, 'groups.keys.names(key)', 'DuplicateBox of sbgp in stbl',
-               'narrow-two-sbgp-of-one-key'),
-        unless(GROUPS, 'groups.keys.count() == 4', 'BadValue of a fifth key in stbl',
-               'five-keys-in-stbl'),
-        unless(GROUPS, '!are_below(payload, rows, 0x1_0000, steps)',
-               'BadValue of an index in stbl', 'narrow-group-index-65536-in-sbgp'),
-        unless(GROUPS, '!counts_are_within(payload, rows, n, steps)',
-               'CountMismatch of sbgp in stbl', 'narrow-groups-count-too-many-in-sbgp'),
+        *of_groupings(GROUPS, 'stbl', '', 'five-keys-in-stbl',
+                      ('groups.keys.names(key)', 'groups.keys.count() == 4',
+                       '!are_below(payload, rows, 0x1_0000, steps)',
+                       '!counts_are_within(payload, rows, n, steps)')),
+        Edit('mp4_tables/src/runs.rt', 'if run_at(payload, rows, k).value >= bound {',
+             'let run = run_at(payload, rows, k);\n        if run.value >= bound && run.count > 0 {',
+             'rows of count 0 in ctts and sbgp', 'large-offset-of-no-sample',
+             'large-index-of-no-sample'),
+        Edit(FRAGMENT_GROUPS, 'if index > MAX_INDEX {', 'if index > MAX_INDEX && count > 0 {',
+             'rows of count 0 of an sbgp in traf', 'large-index-of-no-sample-in-traf'),
+        Edit(GROUPS, 'if groups.keys.count() == 4 {',
+             'if groups.keys.count() == 4 && rows.count > 0 {', 'a fifth key without rows',
+             'five-keys-without-rows'),
         unless(GROUPS, 'leaf.payload().len() < 8', 'ShortBox of sgpd',
                'narrow-sgpd-with-short-fields'),
         Edit(GROUPS, twice + fifth + index, index + twice + fifth,
@@ -243,16 +248,25 @@ def of_groups():
                 'narrow-group-index-65536-in-sbgp-and-groups-count-too-many-in-sbgp'),
         unless(FRAGMENT_GROUPS, 'version > 1', 'BadVersion of sbgp in traf',
                'narrow-fragment-sbgp-of-version-2'),
-        unless(FRAGMENT_GROUPS, 'named.has(j)', 'DuplicateBox of sbgp in traf',
-               'narrow-two-fragment-sbgp-of-one-key'),
-        unless(FRAGMENT_GROUPS, 'count >= 4', 'BadValue of a fifth key in traf',
-               'fifth-key-in-traf'),
-        unless(FRAGMENT_GROUPS, 'index > MAX_INDEX', 'BadValue of an index in traf',
-               'narrow-group-index-65536-in-fragment-sbgp'),
-        unless(FRAGMENT_GROUPS, 'total > u64::from(n)', 'CountMismatch of sbgp in traf',
-               'narrow-groups-count-too-many-in-fragment-sbgp'),
+        *of_groupings(FRAGMENT_GROUPS, 'traf', 'fragment-', 'fifth-key-in-traf',
+                      ('named.has(j)', 'count >= 4', 'index > MAX_INDEX',
+                       'total > u64::from(n)')),
         unless(FRAGMENT_GROUPS, 'payload.len() < rows + 8 * count as usize',
                'ShortBox of the rows of sbgp in traf', 'narrow-fragment-sbgp-with-a-short-row'),
+    ]
+
+
+def of_groupings(file, where, label, fifth_case, conditions):
+    """The four rules of an `sbgp`, by their conditions: its key, a fifth key, indexes, counts."""
+    twice, fifth, index, counts = conditions
+    return [
+        unless(file, twice, f'DuplicateBox of sbgp in {where}',
+               f'narrow-two-{label}sbgp-of-one-key'),
+        unless(file, fifth, f'BadValue of a fifth key in {where}', fifth_case),
+        unless(file, index, f'BadValue of an index in {where}',
+               f'narrow-group-index-65536-in-{label}sbgp'),
+        unless(file, counts, f'CountMismatch of sbgp in {where}',
+               f'narrow-groups-count-too-many-in-{label}sbgp'),
     ]
 
 

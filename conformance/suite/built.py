@@ -1,7 +1,7 @@
 """All files that are built when the suite runs."""
 from . import answers, extras, faults, normal, reader
 from .boxes import Box, File, Hole, u32
-from .movies import wide, whole
+from .movies import table, wide, whole
 
 # Bytes before a movie and its data, past all numbers of 32 bits.
 FAR = 5 * 2**30
@@ -91,23 +91,39 @@ def with_run_of(count):
     return File([movie, moof])
 
 
-def of_most_samples():
-    """The file of 2^24 samples, and what is wanted of it.
+def with_tables_of(count):
+    """A track with tables of so many samples of no bytes and no duration, in one chunk."""
+    file = wide()
+    movie = file.at('moov')
+    stbl = file.at(extras.STBL)
+    stbl.children = [file.at(extras.STBL + '/stsd'), table('stts', [u32(count) + u32(0)]),
+                     table('stsc', [u32(1) + u32(count) + u32(1)]), table('stco', [u32(0)]),
+                     extras.compact(4, count, bytes(count // 2))]
+    movie.children.remove(file.at('moov/trak[1]'))
+    return File([movie])
+
+
+def of_most_samples(make):
+    """A file of 2^24 samples, and what is wanted of it.
 
     All samples are alike, so what is written of them is what is written of two, but for their
     count. Their list would be too long to compare.
     """
-    movie = reader.Movie(with_run_of(2).spelled())
+    movie = reader.Movie(make(2).spelled())
     normal_form, shown = normal.normal_form(movie), reader.shown(movie)
     # The count stands before the data offset and the header of the empty data.
     place = len(normal_form) - 8 - 4 - 4
     normal_form = normal_form[:place] + u32(MOST) + normal_form[place + 4:]
     shown = shown.replace('"samples":2,', f'"samples":{MOST},')
-    data = with_run_of(MOST).spelled()
+    data = make(MOST).spelled()
     return data, [*answers.of_boxes(data),
                   answers.Asked('show', None, answers.Answer(0, None, shown.encode())),
                   answers.Asked('normalise', None, answers.Answer(0, None, normal_form)),
                   answers.Asked('extract', 1, answers.Answer(0))]
+
+
+# Files of the largest number of samples: name, and how a file of so many is made.
+FULL_FILES = [('most-samples', with_run_of), ('most-samples-in-tables', with_tables_of)]
 
 
 def with_hole(kind, before, size):

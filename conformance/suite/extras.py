@@ -1,13 +1,15 @@
 """Further files: more ways to have a fault, pairs of faults that the order's neighbours leave out,
 and files that are just within what is allowed."""
 from .boxes import Box, full, i32, u8, u16, u32, u64
-from .faults import (LARGE, added, added_bytes, added_copy, name_of, one_more_counted, put_over,
-                     removed)
+from .faults import (LARGE, added, added_bytes, added_copy, changed, name_of, one_more_counted,
+                     put_over, removed)
 from .movies import whole
 
 STBL = 'moov/trak/mdia/minf/stbl'
 SECOND_STBL = 'moov/trak[1]/mdia/minf/stbl'
 TRAF = 'moof/traf'
+CONTAINERS = ('', 'moov', 'moov/trak', 'moov/trak/edts', 'moov/trak/mdia', 'moov/trak/mdia/minf',
+              'moov/trak/mdia/minf/dinf', STBL, 'moov/mvex', 'moof', TRAF)
 # The length of a `moof` of `fragment` with a `tfhd` of one field and a `trun` of a data offset
 # alone.
 LAST = 72
@@ -42,11 +44,9 @@ def same(path, *breaks):
 
 def fields(path, new):
     """Other fields."""
-    def breaks(file):
-        box = file.at(path)
+    def change(box):
         box.fields, box.patches = new, []
-        return box.kind, box
-    return breaks
+    return changed(path, change)
 
 
 def replaced(path, new):
@@ -71,6 +71,13 @@ def before(path, kind, box, size=None):
     return breaks
 
 
+def without_descriptions(stbl):
+    """A track whose `stsd` has no entry."""
+    def change(box):
+        box.fields, box.children = full(0) + u32(0), []
+    return changed(stbl + '/stsd', change)
+
+
 def moved_to_end(kind):
     """The first box of a type of the file itself, at the end of the file."""
     def breaks(file):
@@ -81,10 +88,18 @@ def moved_to_end(kind):
     return breaks
 
 
-def grouping(kind, rows=((1, 1),), version=0, parameter=0):
+def grouping_fields(kind, rows, version=0, parameter=0):
     numbers = b''.join(u32(count) + u32(index) for count, index in rows)
     start = full(version) + kind + (u32(parameter) if version else b'')
-    return Box('sbgp', start + u32(len(rows)) + numbers)
+    return start + u32(len(rows)) + numbers
+
+
+def grouping(kind, rows=((1, 1),), version=0, parameter=0):
+    return Box('sbgp', grouping_fields(kind, rows, version, parameter))
+
+
+def trex_of(number):
+    return Box('trex', full(0) + u32(number) + bytes(16))
 
 
 def groupings_added(path, *kinds):
@@ -116,13 +131,20 @@ def head(flags, number, rest=b''):
     return Box('tfhd', full(0, flags) + u32(number) + rest)
 
 
+def time_of(number):
+    return Box('tfdt', full(0) + u32(number))
+
+
+def moof_of(*boxes):
+    """A `moof` of one `traf` of these boxes."""
+    return Box('moof', b'', [Box('mfhd', full(0) + u32(3)), Box('traf', b'', boxes)])
+
+
 def fragment(*boxes):
-    """A `traf` of these boxes, in a `moof` of its own at the end of the file; the fault names its
-    first box."""
+    """A `moof` of these boxes at the end of the file; the fault names the first of them."""
     def breaks(file):
         copies = [box.copied() for box in boxes]
-        traf = Box('traf', b'', copies)
-        file.children.append(Box('moof', b'', [Box('mfhd', full(0) + u32(3)), traf]))
+        file.children.append(moof_of(*copies))
         return copies[0].kind, copies[0]
     return breaks
 
@@ -291,6 +313,8 @@ def of_leaves():
               fields(STBL + '/stsc', chunk_rows((1, 1, 1)))),
         Extra('description-zero-in-stsc', 'index 0', 'BadDescriptionIndex',
               put_over(STBL + '/stsc', 28, u32(0))),
+        Extra('no-descriptions', 'samples, and no entry in stsd', 'BadDescriptionIndex',
+              same(STBL + '/stsc', without_descriptions(STBL))),
         Extra('sync-sample-past-the-last', 'number N + 1', 'BadOrder',
               fields(STBL + '/stss', sync(1, 4))),
         Extra('sync-samples-that-stay', 'the same number twice', 'BadOrder',
@@ -327,6 +351,8 @@ def of_leaves():
               put_over(head_at, 16, u32(0))),
         Extra('no-trex-for-the-track', 'the movie does not extend the track', 'UnknownTrack',
               same(head_at, put_over('moov/mvex/trex', 4, u32(8)))),
+        Extra('two-trexes-of-no-track', 'an ID that no track has, twice', 'BadValue',
+              added('moov/mvex', trex_of(99)), before('moov/mvex', 'trex', trex_of(99))),
         Extra('no-mvex', 'the movie extends no track', 'UnknownTrack',
               same(head_at, removed('moov', 'mvex'))),
         Extra('unknown-track-before-tfdt', 'tfhd before tfdt', 'UnknownTrack',
@@ -367,9 +393,19 @@ def of_leaves():
               groupings_added(STBL, b'one ', b'two ', b'thre', b'four')),
         Extra('fifth-key-in-traf', 'four keys of the tables, one more in a fragment', 'BadValue',
               groupings_added(TRAF, b'new '), groupings_added(STBL, b'one ', b'two ', b'thre')),
+        Extra('five-keys-without-rows', 'a grouping without rows names its key', 'BadValue',
+              added(STBL, grouping(b'four', ())),
+              *[before(STBL, 'sgpd', grouping(kind, ())) for kind in (b'one ', b'two ', b'thre')]),
+        Extra('fifth-key-in-traf-without-samples', 'its groupings name their keys', 'BadValue',
+              naming(4, fragment(head(0, 1), *[grouping(kind, ()) for kind in (
+                  b'one ', b'two ', b'thre', b'four')]))),
         Extra('fifth-key-before-counts', 'BadValue before CountMismatch', 'BadValue',
               added(STBL, grouping(b'five', ((9, 1),))), before(STBL, 'sgpd', grouping(b'one ')),
               before(STBL, 'sgpd', grouping(b'two ')), before(STBL, 'sgpd', grouping(b'thre'))),
+        Extra('large-index-of-no-sample', 'a row of count 0 is looked at', 'BadValue',
+              fields(STBL + '/sbgp', grouping_fields(b'roll', ((3, 1), (0, 65536))))),
+        Extra('large-index-of-no-sample-in-traf', 'a row of count 0 is looked at', 'BadValue',
+              fields(TRAF + '/sbgp', grouping_fields(b'roll', ((3, 1), (0, 65536))))),
         Extra('key-twice-before-its-index', 'DuplicateBox before BadValue', 'DuplicateBox',
               added(STBL, grouping(b'roll', ((1, 65536),)))),
         Extra('key-twice-before-its-index-in-traf', 'DuplicateBox before BadValue', 'DuplicateBox',
@@ -380,8 +416,7 @@ def of_leaves():
               added(TRAF, Box('sbgp', full(0) + b'roll' + u32(1)))),
         Extra('index-before-counts-in-traf', 'BadValue of a late row before CountMismatch',
               'BadValue',
-              fields(TRAF + '/sbgp', full(0) + b'roll' + u32(2) + u32(9) + u32(1) + u32(0)
-                     + u32(65536))),
+              fields(TRAF + '/sbgp', grouping_fields(b'roll', ((9, 1), (0, 65536))))),
         Extra('sgpd-behind-a-bad-sbgp', 'sgpd and sbgp in file order', 'CountMismatch',
               added(STBL, grouping(b'late', ((9, 1),))),
               added(STBL, Box('sgpd', full(2) + bytes(4)))),
@@ -423,7 +458,7 @@ def accepted():
               fields(STBL + '/stsc', chunk_rows((1, 3, 1), (2, 0, 7)))),
         Extra('traf-without-samples', 'its time, its description and its flags count for nothing',
               none,
-              fragment(head(2, 1, u32(9)), Box('tfdt', full(0) + u32(77)), run(1, 0, i32(5)))),
+              fragment(head(2, 1, u32(9)), time_of(77), run(1, 0, i32(5)))),
         Extra('empty-sample-at-the-end', 'a sample of size 0 at the end of the file', none,
               fragment(head(0x020010, 1, u32(0)), run(1, 1, i32(LAST)))),
         Extra('sample-of-a-fragment-header', 'a sample need not lie in an mdat', none,
@@ -433,10 +468,9 @@ def accepted():
               fields('moov/mvex/mehd', b'')),
         Extra('free-space-in-every-container', 'free, skip and wide may stand everywhere', none,
               *[added(path, Box(kind, b'?'))
-                for path in ('', 'moov', 'moov/trak', 'moov/trak/edts', 'moov/trak/mdia',
-                             'moov/trak/mdia/minf', 'moov/trak/mdia/minf/dinf', STBL, 'moov/mvex',
-                             'moof', TRAF)
-                for kind in ('free', 'skip', 'wide')]),
+                for path in CONTAINERS for kind in ('free', 'skip', 'wide')]),
+        Extra('iloc-in-free-space', 'what is not kept may name places', none,
+              *[added(path, Box('free', b'iloc')) for path in CONTAINERS]),
         Extra('dropped-boxes', 'styp, sidx and mfra of the file', none, added('', Box('styp')),
               added('', Box('sidx', b'?')), added('', Box('mfra', b'??')), added('', Box('ftyp'))),
         Extra('two-of-each-kept-box', 'in any number, in file order', none,
@@ -457,10 +491,12 @@ def accepted():
         Extra('tracks-without-tables', 'all samples in fragments, the second track from 1524 on',
               none,
               emptied(0), emptied(1)),
+        Extra('start-behind-a-traf-without-samples', 'its time is not the start of the track', none,
+              emptied(0), emptied(1), before('', 'moof', moof_of(head(0, 1), time_of(5)))),
         Extra('flags-of-32-bits', 'the four highest bits of flags are ignored', none,
               put_over(TRAF + '/trun', 16, u32(0xf2000000))),
         Extra('trex-of-no-track', 'a trex that no track has is ignored', none,
-              added('moov/mvex', Box('trex', full(0) + u32(99) + bytes(16)))),
+              added('moov/mvex', trex_of(99))),
         Extra('bytes-behind-the-fields', 'these are ignored', none, longer('moov/mvhd'),
               longer('moov/trak/tkhd'), longer(STBL + '/stsz'), longer(TRAF + '/tfhd'),
               longer(STBL + '/sbgp')),
@@ -470,6 +506,13 @@ def accepted():
               put_over(TRAF + '/tfdt', 1, b'\xff\xff\xff'),
               put_over('moov/trak/mdia/minf/dinf/dref/url ', 1, b'\xff\xff\xff'),
               put_over(TRAF + '/tfhd', 1, b'\x01')),
+        Extra('versions-that-are-ignored', 'of boxes that say the same in each version', none,
+              put_over('moov/trak/mdia/hdlr', 0, u8(9)),
+              put_over('moov/trak/mdia/minf/dinf/dref/url ', 0, u8(9)),
+              put_over('moov/mvex/mehd', 0, u8(9)), put_over(STBL + '/cslg', 0, u8(9)),
+              put_over('moof/mfhd', 0, u8(9))),
+        Extra('no-descriptions-and-no-samples', 'an index is wanted of samples alone', none,
+              emptied(0), without_descriptions(STBL), moof_free),
         Extra('end-at-2-to-the-63-less-one', 'the latest end of a track', none, emptied(0),
               emptied(1),
               put_over(TRAF + '/tfdt', 4, u64(2**63 - 3073)),
@@ -478,7 +521,9 @@ def accepted():
               fields(TRAF + '/tfdt', full(1) + u64(1524))),
         Extra('base-behind-the-traf-before',
               'a traf without base data begins behind the one before',
-              none, chained_fragments),
+              none, chained_fragments(0)),
+        Extra('base-at-the-moof', 'a later traf with default-base-is-moof begins at the moof',
+              none, chained_fragments(0x020000)),
     ]
 
 
@@ -490,24 +535,23 @@ def moof_free(file):
 
 def longer(path):
     """A leaf with bytes behind its fields."""
+    def change(box):
+        box.fields, box.patches = box.field_bytes() + b'behind', []
+    return changed(path, change)
+
+
+def chained_fragments(later_flags):
+    """A `moof` of two `traf`s, of which the second has no place of its own but by these flags."""
     def breaks(file):
-        box = file.at(path)
-        old = box.field_bytes()
-        box.fields, box.patches = old + b'behind', []
-        return box.kind, box
+        data = Box('mdat', b'hhhhiii')
+        first = Box('traf', b'', [head(0x000010, 1, u32(4)), None])
+        second = Box('traf', b'', [head(0x000010 | later_flags, 2, u32(3)), run(0, 1)])
+        moof = Box('moof', b'', [Box('mfhd'), first, second])
+        first.children[1] = Box('trun',
+                                lambda: full(0, 1) + u32(1) + i32(data.place + 8 - moof.place))
+        file.children += [moof, data]
+        return 'moof', moof
     return breaks
-
-
-def chained_fragments(file):
-    """A `moof` of two `traf`s: data of the second stands behind that of the first, in the next
-    box."""
-    data = Box('mdat', b'hhhhiii')
-    first = Box('traf', b'', [head(0x000010, 1, u32(4)), None])
-    second = Box('traf', b'', [head(0x000010, 2, u32(3)), run(0, 1)])
-    moof = Box('moof', b'', [Box('mfhd'), first, second])
-    first.children[1] = Box('trun', lambda: full(0, 1) + u32(1) + i32(data.place + 8 - moof.place))
-    file.children += [moof, data]
-    return 'moof', moof
 
 
 def all_extras():

@@ -27,7 +27,6 @@ class Fault:
                 return False
         return (self.kind, self.path) != (other.kind, other.path)
 
-
     def takes(self, path):
         """Whether this fault leaves nothing at a path."""
         if self.gone.endswith('/'):
@@ -40,31 +39,32 @@ def name_of(path):
     return path.split('/')[-1].partition('[')[0] or 'file'
 
 
-def put_over(path, at, new):
-    """Other bytes in the fields of a box."""
+def changed(path, change):
+    """A box that is changed where it stands; it is the one that is named."""
     def breaks(file):
         box = file.at(path)
-        box.patches.append((at, new))
+        change(box)
         return box.kind, box
     return breaks
+
+
+def put_over(path, at, new):
+    """Other bytes in the fields of a box."""
+    return changed(path, lambda box: box.patches.append((at, new)))
 
 
 def cut(path, length):
     """Fields cut short; nothing behind them."""
-    def breaks(file):
-        box = file.at(path)
+    def change(box):
         box.kept, box.children = length, []
-        return box.kind, box
-    return breaks
+    return changed(path, change)
 
 
 def cut_by_one(path):
     """A leaf that ends one byte early."""
-    def breaks(file):
-        box = file.at(path)
+    def change(box):
         box.kept = len(box.field_bytes()) - 1
-        return box.kind, box
-    return breaks
+    return changed(path, change)
 
 
 def added(path, box, said=None):
@@ -108,11 +108,9 @@ def removed(path, kind):
 
 def said(path, size):
     """A box whose header says another size."""
-    def breaks(file):
-        box = file.at(path)
+    def change(box):
         box.said = size
-        return box.kind, box
-    return breaks
+    return changed(path, change)
 
 
 def before_the_movie(file):
@@ -253,11 +251,9 @@ def few_bytes(path):
 
 
 def renamed(path, kind):
-    def breaks(file):
-        box = file.at(path)
+    def change(box):
         box.kind = kind
-        return kind, box
-    return breaks
+    return changed(path, change)
 
 
 def one_more_counted(path):

@@ -9,6 +9,7 @@ pub mod WalkWork
 pub mod WalkBound
 pub mod SaidSamples
 pub mod TracksMoved
+pub mod TracksFound
 pub mod MoofPassed
 pub mod OwnTrexes
 pub mod TrafPassed

@@ -9,7 +9,7 @@ use Rattle.mp4_boxes.specs.Layout.{column_values, sample_columns, too_large}
 use Rattle.mp4_frag.specs.ColumnsRead.{row_room}
 use Rattle.mp4_frag.specs.Fragments.{RunRow}
 use Rattle.mp4_frag.specs.Reading.{row_values}
-use Rattle.mp4_frag.specs.Passing.{rows_left, offsets_left, bytes_left, row_seen, IsNear, IsNearer, within_from, end_from, lasting}
+use Rattle.mp4_frag.specs.Passing.{rows_left, offsets_left, bytes_left, row_seen, IsNear, IsNearer, within_from, end_from, lasting, filling}
 use Rattle.mp4_frag.specs.declared.rows.Row.{Row}
 use Rattle.mp4_frag.specs.declared.runs.Run.{Run}
 
@@ -65,6 +65,9 @@ end_step size at to row rows later e moved = rw (e, moved) refl
 
 pub lasting_step : (duration : ℕ) (row : RunRow) (rows later : List RunRow) → rows ≡ row ∷ later → lasting duration rows ≡ unwrap_or row.duration duration + lasting duration later
 lasting_step duration row rows later e = rw e refl
+
+pub filling_step : (size : ℕ) (row : RunRow) (rows later : List RunRow) → rows ≡ row ∷ later → filling size rows ≡ unwrap_or row.size size + filling size later
+filling_step size row rows later e = rw e refl
 
 -- one of them does not lie in the file
 pub not_within : (length size : ℕ) (at : ℤ) (row : RunRow) (rows later : List RunRow) → rows ≡ row ∷ later → lies_within length at (unwrap_or row.size size) ≡ false

@@ -10,25 +10,26 @@ use Rattle.mp4_boxes.specs.Layout.{trun, row_count}
 use Rattle.mp4_boxes.specs.declared.fault.Fault.{Fault}
 use Rattle.mp4_boxes.specs.declared.fault.Kind.{Kind}
 use Rattle.mp4_frag.specs.Fragments.{run_of}
-use Rattle.mp4_frag.specs.Passing.{lasting, IsRunFault, IsRunPassed}
-use Rattle.mp4_frag.specs.RunsJudged.{children_of, run_ends, IsRunSound, AreRunsSound, all_end, runs_total, runs_lasting, RunsFail}
+use Rattle.mp4_frag.specs.Passing.{lasting, filling, IsRunFault, IsRunPassed}
+use Rattle.mp4_frag.specs.RunsJudged.{children_of, run_ends, IsRunSound, AreRunsSound, all_end, runs_total, runs_lasting, runs_filling, RunsFail}
 use Rattle.mp4_frag.specs.declared.heads.Inherited.{Inherited}
 use Rattle.mp4_frag.proofs.Comings.{turned}
 
 abbrev runs_of : List Box → List Box
 runs_of boxes = of_kind (codes "trun") boxes
 
--- Of all boxes these are left. What was passed has so many samples, which last so long, and its data ends at a place; there is room for so many more.
-pub record RunsSeen (file_length : ℕ) (inherited : Inherited) (base : ℤ) (all left : List Box) (whole room : ℕ) (at : ℤ) (count lasts : ℕ) : Type 0 where
+-- Of all boxes these are left. What was passed has so many samples, which last so long and take so many bytes, and its data ends at a place; there is room for so many more.
+pub record RunsSeen (file_length : ℕ) (inherited : Inherited) (base : ℤ) (all left : List Box) (whole room : ℕ) (at : ℤ) (count lasts fills : ℕ) : Type 0 where
   pub sound : AreRunsSound file_length inherited base at (runs_of left) → AreRunsSound file_length inherited base base (runs_of all)
   pub end : all_end inherited base base (runs_of all) ≡ all_end inherited base at (runs_of left)
   pub total : runs_total (runs_of all) ≡ count + runs_total (runs_of left)
   pub lasting : runs_lasting inherited (runs_of all) ≡ lasts + runs_lasting inherited (runs_of left)
+  pub filling : runs_filling inherited (runs_of all) ≡ fills + runs_filling inherited (runs_of left)
   pub fails : (f : Fault) → RunsFail file_length inherited base at room (runs_of left) f → RunsFail file_length inherited base base whole (runs_of all) f
 
 -- none was passed
-pub seen_none : (L : ℕ) (inherited : Inherited) (base : ℤ) (all : List Box) (room : ℕ) → RunsSeen L inherited base all all room room base 0 0
-seen_none L inherited base all room = record { sound = λ h. h; end = refl; total = omega arith; lasting = omega arith; fails = λ f h. h }
+pub seen_none : (L : ℕ) (inherited : Inherited) (base : ℤ) (all : List Box) (room : ℕ) → RunsSeen L inherited base all all room room base 0 0 0
+seen_none L inherited base all room = record { sound = λ h. h; end = refl; total = omega arith; lasting = omega arith; filling = omega arith; fails = λ f h. h }
 
 other_kept : (b : Box) (boxes : List Box) → bytes_eq b.kind (codes "trun") ≡ false → runs_of (b ∷ boxes) ≡ runs_of boxes
 other_kept b boxes e = rw (turned (codes "trun") b.kind ∙ e) refl
@@ -37,15 +38,16 @@ run_kept : (b : Box) (boxes : List Box) → bytes_eq b.kind (codes "trun") ≡ t
 run_kept b boxes e = rw (turned (codes "trun") b.kind ∙ e) refl
 
 -- another box
-pub seen_other : (L : ℕ) (inherited : Inherited) (base : ℤ) (all left later : List Box) (b : Box) (whole room : ℕ) (at : ℤ) (count lasts : ℕ) → RunsSeen L inherited base all left whole room at count lasts → left ≡ b ∷ later → bytes_eq b.kind (codes "trun") ≡ false
-    → RunsSeen L inherited base all later whole room at count lasts
-seen_other L inherited base all left later b whole room at count lasts s e k =
+pub seen_other : (L : ℕ) (inherited : Inherited) (base : ℤ) (all left later : List Box) (b : Box) (whole room : ℕ) (at : ℤ) (count lasts fills : ℕ) → RunsSeen L inherited base all left whole room at count lasts fills → left ≡ b ∷ later → bytes_eq b.kind (codes "trun") ≡ false
+    → RunsSeen L inherited base all later whole room at count lasts fills
+seen_other L inherited base all left later b whole room at count lasts fills s e k =
     let same : runs_of left ≡ runs_of later = ap runs_of e ∙ other_kept b later k in
     record {
       sound = λ h. s.sound (subst (AreRunsSound L inherited base at) (sym same) h);
       end = s.end ∙ ap (all_end inherited base at) same;
       total = s.total ∙ ap (λ runs. count + runs_total runs) same;
       lasting = s.lasting ∙ ap (λ runs. lasts + runs_lasting inherited runs) same;
+      filling = s.filling ∙ ap (λ runs. fills + runs_filling inherited runs) same;
       fails = λ f h. s.fails f (subst (λ runs. RunsFail L inherited base at room runs f) (sym same) h);
     }
 
@@ -53,37 +55,43 @@ passed_total : (whole n more rest : ℕ) → whole ≡ n + (more + rest) → who
 passed_total whole n more rest e = omega arith
 
 -- a run that passes
-pub seen_run : (L : ℕ) (inherited : Inherited) (base : ℤ) (all left later : List Box) (b : Box) (whole room less : ℕ) (at to : ℤ) (count more lasts longer : ℕ) → RunsSeen L inherited base all left whole room at count lasts → left ≡ b ∷ later → bytes_eq b.kind (codes "trun") ≡ true
-    → IsRunPassed L inherited base at b.payload to (more - count) (longer - lasts) → count ≤ more → lasts ≤ longer → more + less ≡ count + room
-    → RunsSeen L inherited base all later whole less to more longer
-seen_run L inherited base all left later b whole room less at to count more lasts longer s e k p few short kept =
+pub seen_run : (L : ℕ) (inherited : Inherited) (base : ℤ) (all left later : List Box) (b : Box) (whole room less : ℕ) (at to : ℤ) (count more lasts longer fills larger : ℕ) → RunsSeen L inherited base all left whole room at count lasts fills → left ≡ b ∷ later → bytes_eq b.kind (codes "trun") ≡ true
+    → IsRunPassed L inherited base at b.payload to (more - count) (longer - lasts) (larger - fills) → count ≤ more → lasts ≤ longer → fills ≤ larger → more + less ≡ count + room
+    → RunsSeen L inherited base all later whole less to more longer larger
+seen_run L inherited base all left later b whole room less at to count more lasts longer fills larger s e k p few short small kept =
     let same : runs_of left ≡ b ∷ runs_of later = ap runs_of e ∙ run_kept b later k in
     let one : IsRunSound L inherited base at b.payload = record { sound = p.sound; within = p.within } in
     let ends : to ≡ run_ends inherited base at b.payload = p.end in
     let samples = p.count in
     let lasting = p.duration in
+    let filled = p.bytes in
     let room_left : less ≡ room - row_count trun b.payload = omega arith in
     let fits : row_count trun b.payload ≤ room = omega arith in
     let n : more ≡ count + row_count trun b.payload = omega arith in
     let d : longer ≡ lasts + lasting_of b = omega arith in
+    let z : larger ≡ fills + filling_of b = omega arith in
     record {
       sound = λ h. s.sound (subst (AreRunsSound L inherited base at) (sym same) (one, subst (λ (place : ℤ). AreRunsSound L inherited base place (runs_of later)) ends h));
       end = s.end ∙ ap (all_end inherited base at) same ∙ ap (λ (place : ℤ). all_end inherited base place (runs_of later)) (sym ends);
       total = passed_total (runs_total (runs_of all)) count (row_count trun b.payload) (runs_total (runs_of later)) (s.total ∙ ap (λ runs. count + runs_total runs) same) ∙ ap (λ m. m + runs_total (runs_of later)) (sym n);
       lasting = passed_total (runs_lasting inherited (runs_of all)) lasts (lasting_of b) (runs_lasting inherited (runs_of later)) (s.lasting ∙ ap (λ runs. lasts + runs_lasting inherited runs) same) ∙ ap (λ m. m + runs_lasting inherited (runs_of later)) (sym d);
+      filling = passed_total (runs_filling inherited (runs_of all)) fills (filling_of b) (runs_filling inherited (runs_of later)) (s.filling ∙ ap (λ runs. fills + runs_filling inherited runs) same) ∙ ap (λ m. m + runs_filling inherited (runs_of later)) (sym z);
       fails = λ f h. s.fails f (subst (λ runs. RunsFail L inherited base at room runs f) (sym same) (inr (one, fits, behind f ends room_left h)));
     }
   where
     lasting_of : Box → ℕ
     lasting_of c = lasting inherited.duration (run_of c.payload).rows
 
+    filling_of : Box → ℕ
+    filling_of c = filling inherited.size (run_of c.payload).rows
+
     behind : (f : Fault) → to ≡ run_ends inherited base at b.payload → less ≡ room - row_count trun b.payload → RunsFail L inherited base to less (runs_of later) f → RunsFail L inherited base (run_ends inherited base at b.payload) (room - row_count trun b.payload) (runs_of later) f
     behind f ends room_left h = subst (λ m. RunsFail L inherited base (run_ends inherited base at b.payload) m (runs_of later) f) room_left (subst (λ (place : ℤ). RunsFail L inherited base place less (runs_of later) f) ends h)
 
 -- one that does not
-pub seen_fault : (L : ℕ) (inherited : Inherited) (base : ℤ) (all left later : List Box) (b : Box) (whole room : ℕ) (at : ℤ) (count lasts : ℕ) (kind : Kind) (f : Fault) → RunsSeen L inherited base all left whole room at count lasts → left ≡ b ∷ later → bytes_eq b.kind (codes "trun") ≡ true
+pub seen_fault : (L : ℕ) (inherited : Inherited) (base : ℤ) (all left later : List Box) (b : Box) (whole room : ℕ) (at : ℤ) (count lasts fills : ℕ) (kind : Kind) (f : Fault) → RunsSeen L inherited base all left whole room at count lasts fills → left ≡ b ∷ later → bytes_eq b.kind (codes "trun") ≡ true
     → IsRunFault L inherited base at room b.payload kind → f ≡ fault_of kind b → RunsFail L inherited base base whole (runs_of all) f
-seen_fault L inherited base all left later b whole room at count lasts kind f s e k h n =
+seen_fault L inherited base all left later b whole room at count lasts fills kind f s e k h n =
     let same : runs_of left ≡ b ∷ runs_of later = ap runs_of e ∙ run_kept b later k in
     s.fails f (subst (λ runs. RunsFail L inherited base at room runs f) (sym same) (inl (kind, n, h)))
 
@@ -103,13 +111,14 @@ as_bytes b kind payload base p o t =
 
 -- ---- behind the last box
 
-pub runs_sound : (L : ℕ) (inherited : Inherited) (base : ℤ) (all left boxes : List Box) (whole room : ℕ) (at : ℤ) (count lasts : ℕ) → RunsSeen L inherited base all left whole room at count lasts → left ≡ [] → all ≡ boxes → AreRunsSound L inherited base base (runs_of boxes)
-runs_sound L inherited base all left boxes whole room at count lasts s e f = subst (λ bs. AreRunsSound L inherited base base (runs_of bs)) f (s.sound (subst (λ bs. AreRunsSound L inherited base at (runs_of bs)) (sym e) tt))
+pub runs_sound : (L : ℕ) (inherited : Inherited) (base : ℤ) (all left boxes : List Box) (whole room : ℕ) (at : ℤ) (count lasts fills : ℕ) → RunsSeen L inherited base all left whole room at count lasts fills → left ≡ [] → all ≡ boxes → AreRunsSound L inherited base base (runs_of boxes)
+runs_sound L inherited base all left boxes whole room at count lasts fills s e f = subst (λ bs. AreRunsSound L inherited base base (runs_of bs)) f (s.sound (subst (λ bs. AreRunsSound L inherited base at (runs_of bs)) (sym e) tt))
 
-pub runs_ended : (L : ℕ) (inherited : Inherited) (base : ℤ) (all left boxes : List Box) (whole room : ℕ) (at : ℤ) (count lasts : ℕ) → RunsSeen L inherited base all left whole room at count lasts → left ≡ [] → all ≡ boxes
-    → (at ≡ all_end inherited base base (runs_of boxes)) × (count ≡ runs_total (runs_of boxes)) × (lasts ≡ runs_lasting inherited (runs_of boxes))
-runs_ended L inherited base all left boxes whole room at count lasts s e f =
+pub runs_ended : (L : ℕ) (inherited : Inherited) (base : ℤ) (all left boxes : List Box) (whole room : ℕ) (at : ℤ) (count lasts fills : ℕ) → RunsSeen L inherited base all left whole room at count lasts fills → left ≡ [] → all ≡ boxes
+    → (at ≡ all_end inherited base base (runs_of boxes)) × (count ≡ runs_total (runs_of boxes)) × (lasts ≡ runs_lasting inherited (runs_of boxes)) × (fills ≡ runs_filling inherited (runs_of boxes))
+runs_ended L inherited base all left boxes whole room at count lasts fills s e f =
     let end = s.end ∙ ap (λ bs. all_end inherited base at (runs_of bs)) e in
     let total : runs_total (runs_of all) ≡ count + 0 = s.total ∙ ap (λ bs. count + runs_total (runs_of bs)) e in
     let lasting : runs_lasting inherited (runs_of all) ≡ lasts + 0 = s.lasting ∙ ap (λ bs. lasts + runs_lasting inherited (runs_of bs)) e in
-    (sym end ∙ ap (λ bs. all_end inherited base base (runs_of bs)) f, omega (arith, total) ∙ ap (λ bs. runs_total (runs_of bs)) f, omega (arith, lasting) ∙ ap (λ bs. runs_lasting inherited (runs_of bs)) f)
+    let filling : runs_filling inherited (runs_of all) ≡ fills + 0 = s.filling ∙ ap (λ bs. fills + runs_filling inherited (runs_of bs)) e in
+    (sym end ∙ ap (λ bs. all_end inherited base base (runs_of bs)) f, omega (arith, total) ∙ ap (λ bs. runs_total (runs_of bs)) f, omega (arith, lasting) ∙ ap (λ bs. runs_lasting inherited (runs_of bs)) f, omega (arith, filling) ∙ ap (λ bs. runs_filling inherited (runs_of bs)) f)

@@ -6,7 +6,7 @@ use Rattle.mp4_frag.specs.ColumnsRead.{row_room, rows_from}
 use Rattle.mp4_frag.specs.Fragments.{run_of, run_rows}
 use Rattle.mp4_frag.specs.FragmentSamples.{run_start}
 use Rattle.mp4_frag.specs.Reading.{IsRun}
-use Rattle.mp4_frag.specs.Passing.{rows_left, offsets_left, run_version, within_from, end_from, lasting, IsRunPassed}
+use Rattle.mp4_frag.specs.Passing.{rows_left, offsets_left, run_version, within_from, end_from, lasting, filling, IsRunPassed}
 use Rattle.mp4_frag.specs.declared.heads.Inherited.{Inherited}
 use Rattle.mp4_frag.specs.declared.runs.Run.{Run}
 
@@ -78,13 +78,14 @@ pub run_outside : (payload : List ℕ) (run : Run) (length size : ℕ) (base bef
 run_outside payload run length size base before at b r ea eb e = sym (within_same payload run length size base before at b r ea eb) ∙ e
 
 -- all of it is as it should be
-pub run_passes : (payload : List ℕ) (run : Run) (length : ℕ) (inherited : Inherited) (base before at end : ℤ) (b large : Bool) (duration : ℕ) → IsRun payload run → at ≡ run_start base before run.data_offset
+pub run_passes : (payload : List ℕ) (run : Run) (length : ℕ) (inherited : Inherited) (base before at end : ℤ) (b large : Bool) (duration bytes : ℕ) → IsRun payload run → at ≡ run_start base before run.data_offset
     → b ≡ within_from length inherited.size at (rows_left payload run 0) → b ≡ true
     → end ≡ end_from inherited.size at (rows_left payload run 0)
     → duration ≡ lasting inherited.duration (rows_left payload run 0)
+    → bytes ≡ filling inherited.size (rows_left payload run 0)
     → large ≡ too_large (offsets_left payload run 0) → (not run.is_signed && large) ≡ false
-    → IsRunPassed length inherited base before payload end run.count duration
-run_passes payload run length inherited base before at end b large duration r ea eb e ee ed el small =
+    → IsRunPassed length inherited base before payload end run.count duration bytes
+run_passes payload run length inherited base before at end b large duration bytes r ea eb e ee ed ef el small =
     let from = ea ∙ ap (run_start base before) r.data_offset in
     let rows = all_rows payload run r in
     record {
@@ -93,4 +94,5 @@ run_passes payload run length inherited base before at end b large duration r ea
       end = ee ∙ (λ i. end_from inherited.size (from i) (rows i));
       count = r.count;
       duration = ed ∙ ap (lasting inherited.duration) rows;
+      bytes = ef ∙ ap (filling inherited.size) rows;
     }

@@ -13,7 +13,7 @@ use Rattle.mp4_tables.specs.Timed.{timed, sample_at}
 use Rattle.mp4_tables.specs.declared.sample.SampleAt.{SampleAt}
 use Rattle.mp4_frag.specs.ColumnsRead.{rows_from}
 use Rattle.mp4_frag.specs.Fragments.{RunRow, Run, TrackFragment, run_of, run_rows}
-use Rattle.mp4_frag.specs.FragmentSamples.{run_samples, run_start, runs_samples, runs_end, end_of_data, duration_of}
+use Rattle.mp4_frag.specs.FragmentSamples.{run_samples, run_start, runs_samples, runs_end, end_of_data, duration_of, bytes_of}
 use Rattle.mp4_frag.specs.FragmentRules.{is_within}
 use Rattle.mp4_frag.specs.Passing.{lasting, IsNearer}
 use Rattle.mp4_frag.specs.Walks.{Reached, begin, rows_of, rows_coming, run_coming, runs_coming, end_held, can_read}
@@ -124,6 +124,16 @@ duration_grouped [] [] = refl
 duration_grouped [] (x ∷ xs) = refl
 duration_grouped (m ∷ maps) [] = refl
 duration_grouped (m ∷ maps) (x ∷ xs) = ap (λ n. x.duration + n) (duration_grouped maps xs)
+
+pub bytes-append : (xs ys : List PlacedSample) → bytes_of (xs ++ ys) ≡ bytes_of xs + bytes_of ys
+bytes-append [] ys = omega arith
+bytes-append (x ∷ xs) ys = omega (arith, bytes-append xs ys)
+
+pub bytes_grouped : (maps : List Groups) (xs : List PlacedSample) → bytes_of (with_groups maps xs) ≡ bytes_of xs
+bytes_grouped [] [] = refl
+bytes_grouped [] (x ∷ xs) = refl
+bytes_grouped (m ∷ maps) [] = refl
+bytes_grouped (m ∷ maps) (x ∷ xs) = ap (λ n. x.size + n) (bytes_grouped maps xs)
 
 pub timed-append : (keys : List GroupKey) (dts : ℕ) (xs ys : List PlacedSample) → timed keys dts (xs ++ ys) ≡ timed keys dts xs ++ timed keys (dts + duration_of xs) ys
 timed-append keys dts [] ys = let e : dts ≡ dts + 0 = omega arith in ap (λ n. timed keys n ys) e

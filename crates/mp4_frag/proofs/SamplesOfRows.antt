@@ -5,9 +5,9 @@ use Rattle.std.proofs.Math.IntN.{+ℤ_assoc, +ℤ_idr}
 use Rattle.mp4_boxes.specs.Bytes.{sum_of}
 use Rattle.mp4_tables.specs.TableRules.{lies_within}
 use Rattle.mp4_frag.specs.Fragments.{RunRow, TrackFragment}
-use Rattle.mp4_frag.specs.FragmentSamples.{inherited, run_samples, end_of_data, duration_of}
+use Rattle.mp4_frag.specs.FragmentSamples.{inherited, run_samples, end_of_data, duration_of, bytes_of}
 use Rattle.mp4_frag.specs.FragmentRules.{is_within}
-use Rattle.mp4_frag.specs.Passing.{within_from, end_from, lasting}
+use Rattle.mp4_frag.specs.Passing.{within_from, end_from, lasting, filling}
 use Rattle.mp4_frag.specs.declared.trex.Trex.{Trex}
 
 -- what a row has, else what its `traf` inherits
@@ -31,6 +31,14 @@ lasting_is trex traf first at [] = refl
 lasting_is trex traf first at (row ∷ rows) =
     rw (inherited_is row.duration traf.duration trex.duration)
     (ap (λ n. unwrap_or row.duration (unwrap_or traf.duration trex.duration) + n) (lasting_is trex traf None _ rows))
+
+-- how many bytes they take
+pub filling_is : (trex : Trex) (traf : TrackFragment) (first : Option ℕ) (at : ℤ) (rows : List RunRow)
+    → bytes_of (run_samples trex traf first at rows) ≡ filling (unwrap_or traf.size trex.size) rows
+filling_is trex traf first at [] = refl
+filling_is trex traf first at (row ∷ rows) =
+    rw (inherited_is row.size traf.size trex.size)
+    (ap (λ n. unwrap_or row.size (unwrap_or traf.size trex.size) + n) (filling_is trex traf None _ rows))
 
 -- where their data ends
 pub end_is : (trex : Trex) (traf : TrackFragment) (first : Option ℕ) (at : ℤ) (rows : List RunRow)

@@ -1,5 +1,5 @@
 -- Tracks with room for samples.
-use Rattle.std.proofs.Common.{◌≡◌, ℕ, ◌+◌, ◌<◌, ◌≤◌, List, [], ◌∷◌, length, drop, take, slice_set, slice_index_or, Bool, true, false, cond, Some, None, zero, suc, refl, subst, ◌∙◌, rules, arith}
+use Rattle.std.proofs.Common.{◌≡◌, ℕ, ◌<◌, ◌≤◌, List, [], ◌∷◌, length, drop, take, slice_set, slice_index_or, Bool, true, false, cond, Some, None, zero, suc, refl, rules, arith}
 use Rattle.std.specs.List.{slice_get}
 use Rattle.std.specs.Prelude.{find}
 use Rattle.mp4_boxes.proofs.Each.{each_weaker}
@@ -8,7 +8,7 @@ use Rattle.mp4_frag.specs.declared.state.TrackState.{TrackState}
 
 -- less room is there too
 pub less_room : (room less : ℕ) (tracks : List TrackState) → less ≤ room → HaveRoom room tracks → HaveRoom less tracks
-less_room room less tracks le h = each_weaker (HasRoom room) (HasRoom less) (λ t p. record { few = (let few = p.few in omega arith); time = p.time }) tracks h
+less_room room less tracks le h = each_weaker (HasRoom room) (HasRoom less) (λ t p. record { few = (let few = p.few in omega arith); time = p.time; bytes = p.bytes }) tracks h
 
 -- the k-th track has room
 pub has_room : (room k : ℕ) (tracks : List TrackState) (d : TrackState) → k < length tracks → HaveRoom room tracks → HasRoom room (slice_index_or tracks k d)
@@ -28,15 +28,8 @@ found_at p k [] d lt h = absurd (search rules)
 found_at p zero (t ∷ tracks) d lt h = rw h refl
 found_at p (suc k) (t ∷ tracks) d lt h = found_at p k tracks d (omega arith) h
 
-next_of : (k : ℕ) → suc k ≡ k + 1
-next_of k = omega arith
-
-past_here : (p : TrackState → Bool) (k : ℕ) (tracks : List TrackState) (d : TrackState) → k < length tracks → p (slice_index_or tracks k d) ≡ false → find p (drop k tracks) ≡ find p (drop (suc k) tracks)
-past_here p k [] d lt h = absurd (search rules)
-past_here p zero (t ∷ tracks) d lt h = rw h refl
-past_here p (suc k) (t ∷ tracks) d lt h = past_here p k tracks d (omega arith) h
-
-none_up_to : (p : TrackState → Bool) (k : ℕ) (tracks : List TrackState) (d : TrackState) → k < length tracks → p (slice_index_or tracks k d) ≡ false → find p (take k tracks) ≡ None → find p (take (suc k) tracks) ≡ None
+-- none up to the k-th passes, if none before it does, nor it itself
+pub none_up_to : (p : TrackState → Bool) (k : ℕ) (tracks : List TrackState) (d : TrackState) → k < length tracks → p (slice_index_or tracks k d) ≡ false → find p (take k tracks) ≡ None → find p (take (suc k) tracks) ≡ None
 none_up_to p k [] d lt h e = absurd (search rules)
 none_up_to p zero (t ∷ tracks) d lt h e = rw h refl
 none_up_to p (suc k) (t ∷ tracks) d lt h e = choice (p t) refl e (λ f. none_up_to p k tracks d (omega arith) h f)
@@ -44,8 +37,3 @@ none_up_to p (suc k) (t ∷ tracks) d lt h e = choice (p t) refl e (λ f. none_u
     choice : (v : Bool) → p t ≡ v → cond v (Some t) (find p (take k tracks)) ≡ None → (find p (take k tracks) ≡ None → find p (take (suc k) tracks) ≡ None) → cond v (Some t) (find p (take (suc k) tracks)) ≡ None
     choice true g e later = absurd cc
     choice false g e later = later e
-
--- the k-th does not pass, nor does one before it
-pub passed_by : (p : TrackState → Bool) (k : ℕ) (tracks : List TrackState) (d : TrackState) → k < length tracks → p (slice_index_or tracks k d) ≡ false → (find p tracks ≡ find p (drop k tracks)) × (find p (take k tracks) ≡ None)
-    → (find p tracks ≡ find p (drop (k + 1) tracks)) × (find p (take (k + 1) tracks) ≡ None)
-passed_by p k tracks d lt h e = subst (λ n. (find p tracks ≡ find p (drop n tracks)) × (find p (take n tracks) ≡ None)) (next_of k) (e.0 ∙ past_here p k tracks d lt h, none_up_to p k tracks d lt h e.1)

@@ -10,20 +10,20 @@ use Rattle.mp4_tables.specs.PlainSamples.{PlacedSample, with_groups}
 use Rattle.mp4_tables.specs.TableRules.{is_index}
 use Rattle.mp4_tables.specs.declared.keys.Keys.{Keys}
 use Rattle.mp4_frag.specs.Fragments.{RunRow, Run, TrackFragment, track_fragment_of, decode_time_of}
-use Rattle.mp4_frag.specs.FragmentSamples.{Part, run_samples, runs_samples, part_samples, has_samples, duration_of, base_of, run_start, end_of_data}
+use Rattle.mp4_frag.specs.FragmentSamples.{Part, run_samples, runs_samples, part_samples, has_samples, duration_of, bytes_of, base_of, run_start, end_of_data}
 use Rattle.mp4_frag.specs.GroupsJudged.{AreGroupsSound}
 use Rattle.mp4_frag.specs.Judged.{part_with, TrackSeen, track_seen, track_behind, IsMovedOn}
 use Rattle.mp4_frag.specs.Passing.{is_late_at, start_with, due_with}
 use Rattle.mp4_frag.specs.Reading.{IsHead, as_traf, inheritance}
-use Rattle.mp4_frag.specs.RunsJudged.{runs_total, runs_lasting}
+use Rattle.mp4_frag.specs.RunsJudged.{runs_total, runs_lasting, runs_filling}
 use Rattle.mp4_frag.specs.Walks.{head_of}
 use Rattle.mp4_frag.specs.declared.heads.Head.{Head}
 use Rattle.mp4_frag.specs.declared.heads.Inherited.{Inherited}
 use Rattle.mp4_frag.specs.declared.state.TrackState.{TrackState}
 use Rattle.mp4_frag.specs.declared.trex.Trex.{Trex}
 use Rattle.mp4_frag.proofs.LeavesRead.{head_is, got}
-use Rattle.mp4_frag.proofs.RunsTied.{duration_grouped}
-use Rattle.mp4_frag.proofs.TrafPassed.{runs_count, runs_last, rules_kept, payload_is, payload_there}
+use Rattle.mp4_frag.proofs.RunsTied.{duration_grouped, bytes_grouped}
+use Rattle.mp4_frag.proofs.TrafPassed.{runs_count, runs_last, runs_fill, rules_kept, payload_is, payload_there}
 use Rattle.mp4_frag.proofs.TrafsTied.{grouped_length}
 
 -- ---- descriptions
@@ -97,20 +97,20 @@ seen_set [] (suc k) t = refl
 seen_set (s ∷ tracks) zero t = refl
 seen_set (s ∷ tracks) (suc k) t = ap (λ (ts : List TrackSeen). track_seen s ∷ ts) (seen_set tracks k t)
 
-behind_is : (state new : TrackState) (time : Option ℕ) (part : Part) (keys : Keys) (n lasts : ℕ) (v : Bool) → nat_lt 0 (length (part_samples part)) ≡ v → part.decode_time ≡ time → n ≡ length (part_samples part) → lasts ≡ duration_of (part_samples part)
+behind_is : (state new : TrackState) (time : Option ℕ) (part : Part) (keys : Keys) (n lasts fills : ℕ) (v : Bool) → nat_lt 0 (length (part_samples part)) ≡ v → part.decode_time ≡ time → n ≡ length (part_samples part) → lasts ≡ duration_of (part_samples part) → fills ≡ bytes_of (part_samples part)
     → keys_seen keys ≡ keys_after (keys_seen state.keys) part.groups → (n ≡ 0 → new ≡ record state { keys = keys })
-    → (0 < n → new ≡ record state { start = start_with state time; count = state.count + n; time = due_with state time + lasts; keys = keys }) → track_seen new ≡ track_behind (track_seen state) part
-behind_is state new time part keys n lasts true e et en ed ek none some =
+    → (0 < n → new ≡ record state { start = start_with state time; count = state.count + n; time = due_with state time + lasts; bytes = state.bytes + fills; keys = keys }) → track_seen new ≡ track_behind (track_seen state) part
+behind_is state new time part keys n lasts fills true e et en ed ef ek none some =
     let there : 0 < length (part_samples part) = search rules in
     let lt : 0 < n = omega arith in
     ap track_seen (some lt)
-    ∙ (λ i. record { id = state.id; descriptions = state.descriptions; trex = state.trex; start = start_with state (sym et i); count = state.count + en i; time = due_with state (sym et i) + ed i; keys = ek i })
+    ∙ (λ i. record { id = state.id; descriptions = state.descriptions; trex = state.trex; start = start_with state (sym et i); count = state.count + en i; time = due_with state (sym et i) + ed i; bytes = state.bytes + ef i; keys = ek i })
     ∙ (rw e refl)
-behind_is state new time part keys n lasts false e et en ed ek none some =
+behind_is state new time part keys n lasts fills false e et en ed ef ek none some =
     let le : length (part_samples part) ≤ 0 = search rules in
     let zero_is : n ≡ 0 = omega arith in
     ap track_seen (none zero_is)
-    ∙ (λ i. record { id = state.id; descriptions = state.descriptions; trex = state.trex; start = state.start; count = state.count; time = state.time; keys = ek i })
+    ∙ (λ i. record { id = state.id; descriptions = state.descriptions; trex = state.trex; start = state.start; count = state.count; time = state.time; bytes = state.bytes; keys = ek i })
     ∙ (rw e refl)
 
 payload_none : (kind : List ℕ) (boxes : List Box) → of_kind kind boxes ≡ [] → payload_if kind boxes ≡ None
@@ -130,15 +130,16 @@ its_time b boxes time e t = ap (option_map decode_time_of) (payload_there (codes
 
 -- ---- the whole `traf`
 
-pub traf_moved : (moof n lasts k room less : ℕ) (before : ℤ) (tracks : List TrackState) (d state new : TrackState) (boxes : List Box) (b : Box) (head : Head) (trex : Trex) (inherited : Inherited) (keys : Keys) (time : Option ℕ)
+pub traf_moved : (moof n lasts fills k room less : ℕ) (before : ℤ) (tracks : List TrackState) (d state new : TrackState) (boxes : List Box) (b : Box) (head : Head) (trex : Trex) (inherited : Inherited) (keys : Keys) (time : Option ℕ)
     → of_kind (codes "tfhd") boxes ≡ b ∷ [] → IsHead b.payload head → k < length tracks → find (λ (t : TrackState). t.id == head.id) tracks ≡ slice_get tracks k → find (λ (t : TrackState). t.id == head.id) (take k tracks) ≡ None → state ≡ slice_index_or tracks k d → state.trex ≡ Some trex
     → inherited ≡ inheritance (as_traf head) trex → n ≡ runs_total (of_kind (codes "trun") boxes) → lasts ≡ runs_lasting inherited (of_kind (codes "trun") boxes)
+    → fills ≡ runs_filling inherited (of_kind (codes "trun") boxes)
     → AreGroupsSound n (keys_seen state.keys) [] (of_kind (codes "sbgp") boxes) → keys_seen keys ≡ keys_after (keys_seen state.keys) (groupings_of (of_kind (codes "sbgp") boxes))
     → (nat_lt 0 n && not (is_index state.descriptions inherited.description)) ≡ false → is_late_at state time n ≡ false → (track_fragment_of boxes).decode_time ≡ time
     → (n ≡ 0 → new ≡ record state { keys = keys })
-    → (0 < n → new ≡ record state { start = start_with state time; count = state.count + n; time = due_with state time + lasts; keys = keys })
+    → (0 < n → new ≡ record state { start = start_with state time; count = state.count + n; time = due_with state time + lasts; bytes = state.bytes + fills; keys = keys })
     → n + less ≡ room → IsMovedOn moof before boxes tracks (slice_set tracks k new) room less
-traf_moved moof n lasts k room less before tracks d state new boxes b head trex inherited keys time one h lt found before_it at defaults ei en el groups ek described late et none some taken =
+traf_moved moof n lasts fills k room less before tracks d state new boxes b head trex inherited keys time one h lt found before_it at defaults ei en el ez groups ek described late et none some taken =
     let traf = track_fragment_of boxes in
     let runs = of_kind (codes "trun") boxes in
     let start = base_of moof before traf in
@@ -148,6 +149,7 @@ traf_moved moof n lasts k room less before tracks d state new boxes b head trex 
     let flat = flat_map (λ samples. samples) part.runs in
     let count : n ≡ length (part_samples part) = en ∙ runs_count traf trex start start runs ∙ sym (grouped_length (maps_of (length flat) part.groups) flat) in
     let lasting : lasts ≡ duration_of (part_samples part) = el ∙ ap (λ (inh : Inherited). runs_lasting inh runs) taken_over ∙ runs_last traf trex start start runs ∙ sym (duration_grouped (maps_of (length flat) part.groups) flat) in
+    let filling : fills ≡ bytes_of (part_samples part) = ez ∙ ap (λ (inh : Inherited). runs_filling inh runs) taken_over ∙ runs_fill traf trex start start runs ∙ sym (bytes_grouped (maps_of (length flat) part.groups) flat) in
     let there : slice_get tracks k ≡ Some state = got k tracks d lt ∙ ap Some (sym at) in
     record {
       place = k;
@@ -163,6 +165,6 @@ traf_moved moof n lasts k room less before tracks d state new boxes b head trex 
         groups = λ rule j. subst (λ m. IsTrue (group_test rule m (keys_seen state.keys) part.groups j)) count (rules_kept n (keys_seen state.keys) (of_kind (codes "sbgp") boxes) groups rule j);
         time = λ came. ap (λ o. not (has_samples part) || unwrap_or (option_map (λ t. t == state.time) o) true) et ∙ on_time state time (has_samples part) came n (ap (nat_lt 0) count) late;
       };
-      moved = seen_set tracks k new ∙ ap (slice_set (map track_seen tracks) k) (behind_is state new time part keys n lasts (nat_lt 0 (length (part_samples part))) refl et count lasting ek none some);
+      moved = seen_set tracks k new ∙ ap (slice_set (map track_seen tracks) k) (behind_is state new time part keys n lasts fills (nat_lt 0 (length (part_samples part))) refl et count lasting filling ek none some);
       taken = omega (arith, taken, count);
     }

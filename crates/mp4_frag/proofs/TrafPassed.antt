@@ -12,11 +12,11 @@ use Rattle.mp4_boxes.specs.declared.rule.Rule.TheVariants as rules
 use Rattle.mp4_tables.specs.Groups.{GroupKey, Grouping, GroupRule, grouping_of, groupings_of, group_test, keeps}
 use Rattle.mp4_tables.specs.PlainSamples.{PlacedSample}
 use Rattle.mp4_frag.specs.Fragments.{RunRow, TrackFragment, run_rows, run_of}
-use Rattle.mp4_frag.specs.FragmentSamples.{run_samples, runs_samples, runs_end, end_of_data, duration_of}
+use Rattle.mp4_frag.specs.FragmentSamples.{run_samples, runs_samples, runs_end, end_of_data, duration_of, bytes_of}
 use Rattle.mp4_frag.specs.FragmentRules.{is_within}
 use Rattle.mp4_frag.specs.GroupsJudged.{AreGroupsSound}
 use Rattle.mp4_frag.specs.Reading.{inheritance}
-use Rattle.mp4_frag.specs.RunsJudged.{run_begins, run_ends, AreRunsSound, all_end, runs_total, runs_lasting}
+use Rattle.mp4_frag.specs.RunsJudged.{run_begins, run_ends, AreRunsSound, all_end, runs_total, runs_lasting, runs_filling}
 use Rattle.mp4_frag.specs.declared.trex.Trex.{Trex}
 use Rattle.mp4_tables.specs.Groups.{maps_of}
 use Rattle.mp4_frag.specs.Fragments.{track_fragment_of}
@@ -29,8 +29,8 @@ use Rattle.mp4_frag.specs.declared.heads.Inherited.{Inherited}
 use Rattle.mp4_frag.specs.declared.state.TrackState.{TrackState}
 use Rattle.mp4_frag.proofs.LeavesRead.{head_is, got}
 use Rattle.mp4_frag.proofs.TrafsTied.{grouped_length}
-use Rattle.mp4_frag.proofs.RunsTied.{run_in, duration-append}
-use Rattle.mp4_frag.proofs.SamplesOfRows.{within_is, lasting_is, end_is}
+use Rattle.mp4_frag.proofs.RunsTied.{run_in, duration-append, bytes-append}
+use Rattle.mp4_frag.proofs.SamplesOfRows.{within_is, lasting_is, end_is, filling_is}
 
 -- ---- runs
 
@@ -84,6 +84,17 @@ runs_last traf trex base before (b ∷ runs) =
     let one = lasting_is trex traf (run_of b.payload).first_sample_flags (run_begins base before b.payload) (run_of b.payload).rows in
     let others = runs_last traf trex base (end_of_data (run_begins base before b.payload) samples) runs in
     let both = duration-append samples more in
+    omega arith
+
+-- and how many bytes they take
+pub runs_fill : (traf : TrackFragment) (trex : Trex) (base before : ℤ) (runs : List Box) → runs_filling (inheritance traf trex) runs ≡ bytes_of (flat_map (λ samples. samples) (runs_samples trex traf base before (map run_in runs)))
+runs_fill traf trex base before [] = refl
+runs_fill traf trex base before (b ∷ runs) =
+    let samples = samples_at traf trex base before b in
+    let more = flat_map (λ samples. samples) (runs_samples trex traf base (end_of_data (run_begins base before b.payload) samples) (map run_in runs)) in
+    let one = filling_is trex traf (run_of b.payload).first_sample_flags (run_begins base before b.payload) (run_of b.payload).rows in
+    let others = runs_fill traf trex base (end_of_data (run_begins base before b.payload) samples) runs in
+    let both = bytes-append samples more in
     omega arith
 
 -- ---- groups

@@ -112,6 +112,9 @@ fragment_samples id parts = flat_map part_samples (parts_for id parts)
 abbrev pub duration_of : List PlacedSample → ℕ
 duration_of samples = sum_of (λ s. s.duration) samples
 
+abbrev pub bytes_of : List PlacedSample → ℕ
+bytes_of samples = sum_of (λ s. s.size) samples
+
 abbrev pub has_samples : Part → Bool
 has_samples part = nat_lt 0 (length (part_samples part))
 

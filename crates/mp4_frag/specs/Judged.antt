@@ -10,7 +10,7 @@ use Rattle.mp4_tables.specs.Keys.{keys_seen}
 use Rattle.mp4_tables.specs.TableRules.{is_index}
 use Rattle.mp4_tables.specs.PlainSamples.{PlacedSample}
 use Rattle.mp4_frag.specs.Fragments.{TrackFragment, FragmentTree, IsFragmentTree, fragment_of, track_fragment_of}
-use Rattle.mp4_frag.specs.FragmentSamples.{Part, parts_of, trex_for, has_groups, fragment_samples, base_of, runs_samples, runs_end, part_samples, has_samples, is_on_time, duration_of}
+use Rattle.mp4_frag.specs.FragmentSamples.{Part, parts_of, trex_for, has_groups, fragment_samples, base_of, runs_samples, runs_end, part_samples, has_samples, is_on_time, duration_of, bytes_of}
 use Rattle.mp4_frag.specs.FragmentRules.{is_within}
 use Rattle.mp4_frag.specs.RunsJudged.{children_of}
 use Rattle.mp4_frag.specs.Walks.{trex_among}
@@ -88,10 +88,11 @@ pub record TrackSeen : Type 0 where
   pub start : ℕ
   pub count : ℕ
   pub time : ℕ
+  pub bytes : ℕ
   pub keys : List GroupKey
 
 abbrev pub track_seen : TrackState → TrackSeen
-track_seen t = record { id = t.id; descriptions = t.descriptions; trex = t.trex; start = t.start; count = t.count; time = t.time; keys = keys_seen t.keys }
+track_seen t = record { id = t.id; descriptions = t.descriptions; trex = t.trex; start = t.start; count = t.count; time = t.time; bytes = t.bytes; keys = keys_seen t.keys }
 
 -- the track behind a part: its first samples say when it starts, and are due then
 abbrev pub track_behind : TrackSeen → Part → TrackSeen
@@ -101,6 +102,7 @@ track_behind t part =
       start = if t.count == 0 then unwrap_or part.decode_time 0 else t.start;
       count = t.count + length (part_samples part);
       time = (if t.count == 0 then unwrap_or part.decode_time 0 else t.time) + duration_of (part_samples part);
+      bytes = t.bytes + bytes_of (part_samples part);
       keys = keys_after t.keys part.groups;
     })
     (record t { keys = keys_after t.keys part.groups })

@@ -15,3 +15,4 @@ pub mod RunsJudged
 pub mod GroupsJudged
 pub mod FragmentSamples
 pub mod FragmentRules
+pub mod Finding

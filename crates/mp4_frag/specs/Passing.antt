@@ -62,6 +62,11 @@ abbrev pub lasting : ℕ → List RunRow → ℕ
 lasting duration [] = 0
 lasting duration (row ∷ rows) = unwrap_or row.duration duration + lasting duration rows
 
+-- how many bytes they take; a size that is not there is this one
+abbrev pub filling : ℕ → List RunRow → ℕ
+filling size [] = 0
+filling size (row ∷ rows) = unwrap_or row.size size + filling size rows
+
 -- samples begin at another time than is due; the first ones of a track begin when they say
 abbrev pub is_late_at : TrackState → Option ℕ → ℕ → Bool
 is_late_at state None samples = false
@@ -81,10 +86,11 @@ IsRunFault file_length inherited base before room payload TooManySamples = IsRea
 IsRunFault file_length inherited base before room payload SampleOutsideFile = IsReadable trun payload × (within_from file_length inherited.size (run_start base before (run_of payload).data_offset) (run_of payload).rows ≡ false)
 IsRunFault file_length inherited base before room payload kind = Fails trun payload kind
 
--- what a `trun` keeps there: where its data ends, how many samples it has, and how long they last
-pub record IsRunPassed (file_length : ℕ) (inherited : Inherited) (base before : ℤ) (payload : List ℕ) (ends : ℤ) (samples lasts : ℕ) : Type 0 where
+-- what a `trun` keeps there: where its data ends, how many samples it has, how long they last, and how many bytes they take
+pub record IsRunPassed (file_length : ℕ) (inherited : Inherited) (base before : ℤ) (payload : List ℕ) (ends : ℤ) (samples lasts fills : ℕ) : Type 0 where
   pub sound : IsSound trun payload
   pub within : within_from file_length inherited.size (run_start base before (run_of payload).data_offset) (run_of payload).rows ≡ true
   pub end : ends ≡ end_from inherited.size (run_start base before (run_of payload).data_offset) (run_of payload).rows
   pub count : samples ≡ row_count trun payload
   pub duration : lasts ≡ lasting inherited.duration (run_of payload).rows
+  pub bytes : fills ≡ filling inherited.size (run_of payload).rows

@@ -9,7 +9,7 @@ use Rattle.mp4_boxes.specs.declared.fault.Fault.{Fault}
 use Rattle.mp4_boxes.specs.declared.fault.Kind.{Kind}
 use Rattle.mp4_frag.specs.Fragments.{run_of}
 use Rattle.mp4_frag.specs.FragmentSamples.{run_start}
-use Rattle.mp4_frag.specs.Passing.{within_from, end_from, lasting, IsRunFault}
+use Rattle.mp4_frag.specs.Passing.{within_from, end_from, lasting, filling, IsRunFault}
 use Rattle.mp4_frag.specs.Walks.{boxes_in}
 use Rattle.mp4_frag.specs.declared.heads.Inherited.{Inherited}
 
@@ -48,12 +48,15 @@ abbrev pub all_end : Inherited → ℤ → ℤ → List Box → ℤ
 all_end inherited base before [] = before
 all_end inherited base before (b ∷ runs) = all_end inherited base (run_ends inherited base before b.payload) runs
 
--- how many samples they have, and how long these last
+-- how many samples they have, how long these last, and how many bytes they take
 abbrev pub runs_total : List Box → ℕ
 runs_total runs = sum_of (λ (b : Box). row_count trun b.payload) runs
 
 abbrev pub runs_lasting : Inherited → List Box → ℕ
 runs_lasting inherited runs = sum_of (λ (b : Box). lasting inherited.duration (run_of b.payload).rows) runs
+
+abbrev pub runs_filling : Inherited → List Box → ℕ
+runs_filling inherited runs = sum_of (λ (b : Box). filling inherited.size (run_of b.payload).rows) runs
 
 -- The fault is one of the runs, where there is room for so many samples: of the first, or of one behind it, where the first is sound and there is room for its samples.
 abbrev pub RunsFail : ℕ → Inherited → ℤ → ℤ → ℕ → List Box → Fault → Type 0

@@ -6,10 +6,11 @@ ghost use Rattle.mp4_boxes.specs.declared.rule.Rule.TheVariants as rules;
 ghost use Rattle.mp4_boxes.specs.View.{box_seen};
 ghost use Rattle.mp4_tables.specs.Groups.{groupings_of, keys_after};
 ghost use Rattle.mp4_tables.specs.Keys.{keys_seen};
+ghost use Rattle.mp4_frag.specs.Finding.{IsKnown};
 ghost use Rattle.mp4_frag.specs.GroupsJudged.{groups_in, AreGroupsSound, GroupsFail};
 ghost use Rattle.mp4_frag.specs.Passing.{IsNear, IsNearer, IsUpTo, is_late_at, start_with, due_with};
 ghost use Rattle.mp4_boxes.specs.Children.{Holds, of_kind};
-ghost use Rattle.mp4_frag.specs.RunsJudged.{children_of, only_list, runs_in, AreRunsSound, all_end, runs_total, runs_lasting, RunsFail};
+ghost use Rattle.mp4_frag.specs.RunsJudged.{children_of, only_list, runs_in, AreRunsSound, all_end, runs_total, runs_lasting, runs_filling, RunsFail};
 ghost use Rattle.mp4_frag.specs.Judged.{AreTrexesOf, own_trexes, IsAcceptable, IsSoundMoof, IsTrafSound, IsMovedOn, AreMovedOn, tree_of};
 ghost use Rattle.mp4_tables.specs.TableRules.{is_index};
 ghost use Rattle.mp4_frag.specs.declared.trex.Trex.{Trex};
@@ -20,6 +21,7 @@ ghost use Rattle.mp4_frag.specs.Work.{group_rows, traf_rows, fragment_rows, moof
 ghost use Rattle.mp4_frag.specs.Views.{moof_seen};
 ghost use Rattle.mp4_frag.specs.declared.state.TrackState.{TrackState};
 
+use crate::finding::{Known, find_track};
 use crate::groups::{KeysNamed, check_group};
 use crate::heads::{base_of, read_head, what_is_inherited};
 use crate::sample_runs::{Judged, Passed, check_run};
@@ -45,22 +47,6 @@ fn fault(kind: Kind, named: BoxView) -> Fault
     ensures { result ≡ fault_of kind (box_seen named.entry) }
 {
     Fault::new(kind, named.kind(), named.offset())
-}
-
-/// The place of the track with this ID. It looks at one after the other: a `traf` costs as many comparisons as there
-/// are tracks before its own.
-pub(crate) fn find_track(tracks: &[TrackState], id: u32) -> Option<usize>
-    ensures inside { IfSome result (λ k. k < length tracks.now) }
-    ensures found { IfSome result (λ k. find (λ (t : TrackState). t.id == id) tracks.now ≡ slice_get tracks.now k) }
-    ensures first { IfSome result (λ k. find (λ (t : TrackState). t.id == id) (take k tracks.now) ≡ None) }
-    ensures none { result ≡ None → find (λ (t : TrackState). t.id == id) tracks.now ≡ None }
-{
-    for k in 0..tracks.len() {
-        if tracks[k].id == id {
-            return Some(k);
-        }
-    }
-    None
 }
 
 // The `tfhd` of a `traf`, and its `tfdt` if there is one.
@@ -102,12 +88,15 @@ fn check_runs<L: Ledger>(
     requires base { IsNearer judged.base }
     ensures few { IfOk result (λ p. p.count + room.new ≡ room.old) }
     ensures duration { IfOk result (λ p. p.duration ≤ 2 ^ 32 * p.count) }
+    ensures bytes { IfOk result (λ p. p.bytes ≤ 2 ^ 32 * p.count) }
     ensures near { IfOk result (λ p. IsNear p.at) }
     ensures bound { IfOk result (λ p. (n : ℕ) → 2 ^ 64 ≤ n → IsUpTo n judged.base → IsUpTo (n + 2 ^ 31) p.at) }
     ensures sound { IfOk result (λ p. AreRunsSound judged.file_len judged.inherited judged.base judged.base (runs_in (box_seen traf.entry))) }
     ensures end { IfOk result (λ p. p.at ≡ all_end judged.inherited judged.base judged.base (runs_in (box_seen traf.entry))) }
     ensures count { IfOk result (λ p. p.count ≡ runs_total (runs_in (box_seen traf.entry))) }
     ensures lasting { IfOk result (λ p. p.duration ≡ runs_lasting judged.inherited (runs_in (box_seen traf.entry))) }
+    ensures filling { IfOk result (λ p. p.bytes ≡ runs_filling judged.inherited
+        (runs_in (box_seen traf.entry))) }
     ensures fault { IfErr result (λ f. Tiles (box_container (box_seen traf.entry)) (children_of (box_seen traf.entry)) → RunsFail judged.file_len judged.inherited judged.base judged.base room.old (runs_in (box_seen traf.entry)) f) }
     ensures cost { IfOk result (λ p. steps.new ≤ steps.old + length (traf_in (box_seen traf.entry)).runs + p.count) }
     ensures within { IfOk result (λ p. 8 * steps.new ≤ 8 * steps.old + length (box_seen traf.entry).payload + 8 * p.count) }
@@ -117,6 +106,7 @@ fn check_runs<L: Ledger>(
         at: judged.base,
         count: 0,
         duration: 0,
+        bytes: 0,
     };
     for child in children(traf.payload(), traf.payload_offset(), traf.kind())? {
         if child.kind() == TRUN {
@@ -177,11 +167,20 @@ fn moved_on(state: TrackState, time: Option<u64>, passed: Passed, keys: Keys) ->
     requires few { state.count + passed.count ≤ 2 ^ 24 }
     requires time { state.time ≤ 2 ^ 64 + 2 ^ 32 * state.count }
     requires duration { passed.duration ≤ 2 ^ 32 * passed.count }
+    requires bytes { state.bytes ≤ 2 ^ 32 * state.count }
+    requires size { passed.bytes ≤ 2 ^ 32 * passed.count }
     ensures same { (result.id ≡ state.id) × (result.trex ≡ state.trex) }
     ensures count { result.count ≡ state.count + passed.count }
     ensures time { result.time ≤ 2 ^ 64 + 2 ^ 32 * result.count }
+    ensures bytes { result.bytes ≤ 2 ^ 32 * result.count }
     ensures none { passed.count ≡ 0 → result ≡ record state { keys = keys } }
-    ensures some { 0 < passed.count → result ≡ record state { start = start_with state time; count = state.count + passed.count; time = due_with state time + passed.duration; keys = keys } }
+    ensures some { 0 < passed.count → result ≡ record state {
+      start = start_with state time;
+      count = state.count + passed.count;
+      time = due_with state time + passed.duration;
+      bytes = state.bytes + passed.bytes;
+      keys = keys;
+    } }
 {
     if passed.count == 0 {
         return TrackState { keys, ..state };
@@ -196,6 +195,7 @@ fn moved_on(state: TrackState, time: Option<u64>, passed: Passed, keys: Keys) ->
         start,
         count: state.count + passed.count,
         time: due + u128::from(passed.duration),
+        bytes: state.bytes + passed.bytes,
         keys,
         ..state
     }
@@ -208,12 +208,15 @@ fn check_traf<L: Ledger>(
     before: i128,
     file_len: u64,
     tracks: &mut [TrackState],
+    known: &mut Known,
     room: &mut u32,
     steps: &mut Steps<L>,
 ) -> Result<i128, Fault>
     requires few { room.old ≤ 2 ^ 24 }
     requires room { HaveRoom room.old tracks.old }
     requires near { IsUpTo (2 ^ 98) before }
+    requires known { IsKnown tracks.old known.old }
+    ensures known { IfOk result (λ at. IsKnown tracks.new known.new) }
     ensures few { IfOk result (λ at. room.new ≤ room.old) }
     ensures room { IfOk result (λ at. HaveRoom room.new tracks.new) }
     ensures holds { IfOk result (λ at. Holds rules.TrackFragment (box_container (box_seen traf.entry)) (children_of (box_seen traf.entry))) }
@@ -234,7 +237,7 @@ fn check_traf<L: Ledger>(
         Ok(head) => head,
         Err(kind) => return Err(fault(kind, tfhd)),
     };
-    let Some(k) = find_track(tracks, head.id) else {
+    let Some(k) = find_track(tracks, head.id, known) else {
         return Err(fault(Kind::UnknownTrack, tfhd));
     };
     let state = tracks[k];
@@ -293,10 +296,20 @@ pub fn check_moof<'a, L: Ledger>(
     ensures work { 2 * steps.new ≤ 2 * steps.old + 2 * room.old + length (box_seen moof.entry).payload }
 {
     let mut before = i128::from(moof.offset());
+    let mut known = Known::first();
     for child in check_children(moof, Rule::MovieFragment)? {
         if child.kind() == TRAF {
             steps.tick();
-            before = check_traf(child, moof.offset(), before, file_len, tracks, room, steps)?;
+            before = check_traf(
+                child,
+                moof.offset(),
+                before,
+                file_len,
+                tracks,
+                &mut known,
+                room,
+                steps,
+            )?;
         }
     }
     Ok(FragView::again(moof))

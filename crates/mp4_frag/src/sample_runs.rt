@@ -4,7 +4,7 @@ ghost use Rattle.mp4_boxes.specs.Layout.{too_large};
 ghost use Rattle.mp4_tables.specs.TableRules.{lies_within as lies_in};
 ghost use Rattle.mp4_frag.specs.ColumnsRead.{row_room};
 ghost use Rattle.mp4_frag.specs.FragmentSamples.{run_start as run_start_by};
-ghost use Rattle.mp4_frag.specs.Passing.{IsNear, IsNearer, IsUpTo, IsRunFault, IsRunPassed, rows_left, offsets_left, row_seen, within_from, end_from, lasting};
+ghost use Rattle.mp4_frag.specs.Passing.{IsNear, IsNearer, IsUpTo, IsRunFault, IsRunPassed, rows_left, offsets_left, row_seen, within_from, end_from, lasting, filling};
 
 use crate::heads::Inherited;
 use crate::rows::{Row, row_at, row_size};
@@ -12,12 +12,14 @@ use crate::runs::{Run, read_run};
 use mp4_boxes::{Kind, Steps};
 use std::sync::ledger::Ledger;
 
-/// Samples that were passed: where their data ends, how many there are, how long they last.
+/// Samples that were passed: where their data ends, how many there are, how long they last, and how many bytes they
+/// take.
 #[derive(Clone, Copy)]
 pub(crate) struct Passed {
     pub(crate) at: i128,
     pub(crate) count: u32,
     pub(crate) duration: u64,
+    pub(crate) bytes: u64,
 }
 
 /// What a run is judged by: the file's length, where the runs of its `traf` are counted from, what its samples inherit.
@@ -33,6 +35,7 @@ pub(crate) struct Judged {
 struct Samples {
     end: i128,
     duration: u64,
+    bytes: u64,
     are_within: bool,
     /// Whether an offset has no place in 32 bits with a sign.
     are_large: bool,
@@ -111,14 +114,18 @@ fn pass_samples<L: Ledger>(
     ensures within { result.are_within ≡ within_from judged.file_len judged.inherited.size at (rows_left payload.now run 0) }
     ensures end { result.are_within ≡ true → result.end ≡ end_from judged.inherited.size at (rows_left payload.now run 0) }
     ensures duration { result.are_within ≡ true → result.duration ≡ lasting judged.inherited.duration (rows_left payload.now run 0) }
+    ensures bytes { result.are_within ≡ true
+        → result.bytes ≡ filling judged.inherited.size (rows_left payload.now run 0) }
     ensures large { result.are_within ≡ true → result.are_large ≡ too_large (offsets_left payload.now run 0) }
     ensures short { result.duration ≤ 2 ^ 32 * run.count }
+    ensures small { result.bytes ≤ 2 ^ 32 * run.count }
     ensures near { IsNear result.end }
     ensures cost { steps.new ≤ steps.old + run.count }
 {
     let mut samples = Samples {
         end: at,
         duration: 0,
+        bytes: 0,
         are_within: true,
         are_large: false,
     };
@@ -136,6 +143,7 @@ fn pass_samples<L: Ledger>(
         samples = Samples {
             end: data_end(samples.end, size),
             duration: samples.duration + u64::from(duration),
+            bytes: samples.bytes + u64::from(size),
             are_within: true,
             are_large: is_too_large(samples.are_large, row),
         };
@@ -160,15 +168,19 @@ pub(crate) fn check_run<L: Ledger>(
 ) -> Result<Passed, Kind>
     requires few { passed.count + room.old ≤ 2 ^ 24 }
     requires duration { passed.duration ≤ 2 ^ 32 * passed.count }
+    requires bytes { passed.bytes ≤ 2 ^ 32 * passed.count }
     requires base { IsNearer judged.base }
     requires near { IsNear passed.at }
     ensures near { IfOk result (λ p. IsNear p.at) }
-    ensures passed { IfOk result (λ p. IsRunPassed judged.file_len judged.inherited judged.base passed.at payload.now p.at (p.count - passed.count) (p.duration - passed.duration)) }
+    ensures passed { IfOk result (λ p. IsRunPassed judged.file_len judged.inherited judged.base passed.at payload.now p.at (p.count - passed.count) (p.duration - passed.duration)
+        (p.bytes - passed.bytes)) }
     ensures bound { IfOk result (λ p. (n : ℕ) → 2 ^ 64 ≤ n → IsUpTo n judged.base → IsUpTo (n + 2 ^ 31) passed.at → IsUpTo (n + 2 ^ 31) p.at) }
     ensures fault { IfErr result (IsRunFault judged.file_len judged.inherited judged.base passed.at room.old payload.now) }
     ensures few { IfOk result (λ p. p.count + room.new ≡ passed.count + room.old) }
     ensures duration { IfOk result (λ p. p.duration ≤ 2 ^ 32 * p.count) }
-    ensures more { IfOk result (λ p. (passed.count ≤ p.count) × (passed.duration ≤ p.duration)) }
+    ensures bytes { IfOk result (λ p. p.bytes ≤ 2 ^ 32 * p.count) }
+    ensures more { IfOk result (λ p. (passed.count ≤ p.count) × (passed.duration ≤ p.duration)
+        × (passed.bytes ≤ p.bytes)) }
     ensures cost { IfOk result (λ p. steps.new + passed.count ≤ steps.old + p.count) }
     ensures work { steps.new ≤ steps.old + room.old }
 {
@@ -187,6 +199,7 @@ pub(crate) fn check_run<L: Ledger>(
             at: samples.end,
             count: passed.count + run.count,
             duration: passed.duration + samples.duration,
+            bytes: passed.bytes + samples.bytes,
         });
     }
     Err(Kind::SampleOutsideFile)

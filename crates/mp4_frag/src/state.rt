@@ -16,6 +16,8 @@ pub struct TrackState {
     pub count: u32,
     /// The decode time at which the next one is due.
     pub time: u128,
+    /// How many bytes the samples so far take.
+    pub bytes: u64,
     /// The keys by which its samples are grouped.
     pub keys: Keys,
 }

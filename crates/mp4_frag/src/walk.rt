@@ -9,7 +9,8 @@ ghost use Rattle.mp4_frag.specs.Looks.{AreOthers, is_named, over_run, over_work}
 ghost use Rattle.mp4_frag.specs.Times.{time_behind};
 ghost use Rattle.mp4_frag.specs.Walks.{Walk, Reached, at_first, rows_here, trafs_coming, row_signed, first_byte, part_of, boxes_between, trex_among, with_head, all_indexes, with_group, with_leaves, before_traf, end_held, rows_coming, run_coming, runs_coming, reached, walk_of, coming, begin as begin_by};
 
-use crate::check::{SBGP, TFHD, TRAF, TRUN, find_track};
+use crate::check::{SBGP, TFHD, TRAF, TRUN};
+use crate::finding::{Known, find_track};
 use crate::groups::read_group;
 use crate::heads::{base_of, nothing_inherited, read_head, what_is_inherited};
 use crate::indexes::{first_index, indexes_here, no_indexes, pass_indexes, with_index};
@@ -22,108 +23,86 @@ use crate::state::TrackState;
 use crate::trex::Trex;
 use mp4_tables::{Keys, SampleAt};
 
-// The place with the rows of an `sbgp`, if its key is one of the track's.
-fn open_group(payload: &[u8], lying: Lying, place: FragPlace) -> FragPlace
+// Takes the rows of an `sbgp`, if its key is one of the track's.
+fn open_group(payload: &[u8], lying: Lying, place: &mut FragPlace)
     requires inside { lying.inside ≤ lying.end }
     requires within { lying.end ≤ length payload.now }
-    requires places { AreIndexPlaces payload.now place.indexes }
-    ensures places { AreIndexPlaces payload.now result.indexes }
-    ensures same { result ≡ record place { indexes = result.indexes; passed = result.passed } }
-    ensures on { place.passed ≤ result.passed }
-    ensures work { result.passed ≤ place.passed + group_work (part_of payload.now lying.inside lying.end) }
-    ensures indexes { all_indexes payload.now result.indexes ≡ with_group (keys_seen place.keys) (all_indexes payload.now place.indexes) (part_of payload.now lying.inside lying.end) }
+    requires places { AreIndexPlaces payload.now place.old.indexes }
+    ensures places { AreIndexPlaces payload.now place.new.indexes }
+    ensures same { place.new ≡ record place.old { indexes = place.new.indexes; passed = place.new.passed } }
+    ensures on { place.old.passed ≤ place.new.passed }
+    ensures work { place.new.passed ≤ place.old.passed + group_work (part_of payload.now lying.inside lying.end) }
+    ensures indexes { all_indexes payload.now place.new.indexes ≡ with_group (keys_seen place.old.keys) (all_indexes payload.now place.old.indexes) (part_of payload.now lying.inside lying.end) }
 {
     let Ok(group) = read_group(&payload[lying.inside..lying.end]) else {
-        return place;
+        return;
     };
     let Some(j) = place.keys.place(group.key) else {
-        return place;
+        return;
     };
     let rows = first_index(payload, lying.inside, group);
-    FragPlace {
-        indexes: with_index(place.indexes, j, rows),
-        passed: place.passed.saturating_add(u64::from(group.count)),
-        ..place
-    }
+    place.indexes = with_index(place.indexes, j, rows);
+    place.passed = place.passed.saturating_add(u64::from(group.count));
 }
 
 // What the fragments of the track with this ID inherit, if it is there.
 fn trex_of(tracks: &[TrackState], id: u32) -> Option<Trex>
     ensures { result ≡ trex_among tracks.now id }
 {
-    let k = find_track(tracks, id)?;
+    let k = find_track(tracks, id, &mut Known::first())?;
     tracks[k].trex
 }
 
-// The place with what the `tfhd` says.
-fn open_head(
-    payload: &[u8],
-    moof: u64,
-    tracks: &[TrackState],
-    lying: Lying,
-    place: FragPlace,
-) -> FragPlace
+// Takes what the `tfhd` says.
+fn open_head(payload: &[u8], moof: u64, tracks: &[TrackState], lying: Lying, place: &mut FragPlace)
     requires inside { lying.inside ≤ lying.end }
     requires within { lying.end ≤ length payload.now }
-    ensures same { result ≡ record place { is_own = result.is_own; base = result.base; at = result.at; inherited = result.inherited } }
-    ensures reached { reached payload.now result ≡ with_head (walk_of moof tracks.now place) (reached payload.now place) (part_of payload.now lying.inside lying.end) }
+    ensures same { place.new ≡ record place.old { is_own = place.new.is_own; base = place.new.base; at = place.new.at; inherited = place.new.inherited } }
+    ensures reached { reached payload.now place.new ≡ with_head (walk_of moof tracks.now place.old) (reached payload.now place.old) (part_of payload.now lying.inside lying.end) }
 {
     let Ok(head) = read_head(&payload[lying.inside..lying.end]) else {
-        return place;
+        return;
     };
     let Some(trex) = trex_of(tracks, head.id) else {
-        return place;
+        return;
     };
     let base = base_of(head, moof, place.at);
-    FragPlace {
-        is_own: head.id == place.track,
-        base,
-        at: base,
-        inherited: what_is_inherited(head, trex),
-        ..place
-    }
+    place.is_own = head.id == place.track;
+    place.base = base;
+    place.at = base;
+    place.inherited = what_is_inherited(head, trex);
 }
 
-// The place before the first run of a `traf`: its `tfhd` and each `sbgp` may stand behind runs.
-fn open_traf(
-    payload: &[u8],
-    moof: u64,
-    tracks: &[TrackState],
-    lying: Lying,
-    place: FragPlace,
-) -> FragPlace
+// Goes before the first run of a `traf`: its `tfhd` and each `sbgp` may stand behind runs.
+fn open_traf(payload: &[u8], moof: u64, tracks: &[TrackState], lying: Lying, place: &mut FragPlace)
     requires inside { lying.inside ≤ lying.end }
     requires within { lying.end ≤ length payload.now }
-    ensures next { result.next ≡ lying.inside }
-    ensures end { result.traf_end ≡ lying.end }
-    ensures same { (result.track ≡ place.track) × (result.keys ≡ place.keys) × (result.run ≡ place.run) }
-    ensures time { result.dts ≡ place.dts }
-    ensures indexes { AreIndexPlaces payload.now result.indexes }
-    ensures on { place.passed ≤ result.passed }
-    ensures work { result.passed
-        ≤ place.passed + groups_work (boxes_between payload.now lying.inside lying.end) }
-    ensures reached { reached payload.now result ≡ with_leaves (walk_of moof tracks.now place) (before_traf (reached payload.now place)) (boxes_between payload.now lying.inside lying.end) }
+    ensures next { place.new.next ≡ lying.inside }
+    ensures end { place.new.traf_end ≡ lying.end }
+    ensures same { (place.new.track ≡ place.old.track) × (place.new.keys ≡ place.old.keys) × (place.new.run ≡ place.old.run) }
+    ensures time { place.new.dts ≡ place.old.dts }
+    ensures indexes { AreIndexPlaces payload.now place.new.indexes }
+    ensures on { place.old.passed ≤ place.new.passed }
+    ensures work { place.new.passed
+        ≤ place.old.passed + groups_work (boxes_between payload.now lying.inside lying.end) }
+    ensures reached { reached payload.now place.new ≡ with_leaves (walk_of moof tracks.now place.old) (before_traf (reached payload.now place.old)) (boxes_between payload.now lying.inside lying.end) }
 {
-    let mut opened = FragPlace {
-        next: lying.inside,
-        traf_end: lying.end,
-        is_own: false,
-        indexes: no_indexes(),
-        ..place
-    };
+    place.next = lying.inside;
+    place.traf_end = lying.end;
+    place.is_own = false;
+    place.indexes = no_indexes();
     let mut at = lying.inside;
     while at < lying.end {
         let Some(child) = box_at(payload, at, lying.end) else {
-            return opened;
+            return;
         };
         at = child.end;
         if child.kind == TFHD {
-            opened = open_head(payload, moof, tracks, child, opened);
+            open_head(payload, moof, tracks, child, place);
         } else if child.kind == SBGP {
-            opened = open_group(payload, child, opened);
+            open_group(payload, child, place);
         }
     }
-    opened
 }
 
 // The next row of a run.
@@ -192,48 +171,38 @@ fn pass_run(payload: &[u8], lying: Lying, place: FragPlace) -> FragPlace
     }
 }
 
-// The place before the samples of a run; behind them where they are another track's.
-fn open_run(payload: &[u8], lying: Lying, place: FragPlace) -> FragPlace
+// Goes to the samples of a run; behind them where they are another track's.
+fn open_run(payload: &[u8], lying: Lying, place: &mut FragPlace)
     requires inside { lying.inside ≤ lying.end }
     requires within { lying.end ≤ length payload.now }
-    requires order { (place.next < lying.inside) × (lying.end ≤ place.traf_end) }
-    requires none { place.run.left ≡ 0 }
-    requires place { LiesIn payload.now place }
-    requires work { place.passed + run_work (part_of payload.now lying.inside lying.end) + work_behind payload.now lying.end place.traf_end ≤ moof_work payload.now }
-    ensures place { LiesIn payload.now result }
-    ensures next { result.next ≡ lying.end }
-    ensures same { (result.track ≡ place.track) × (result.keys ≡ place.keys) × (result.traf_end ≡ place.traf_end) }
-    ensures time { result.dts ≡ place.dts }
-    ensures on { place.passed ≤ result.passed }
-    ensures coming { (more : Reached → List SampleAt) → rows_coming (reached payload.now result) result.run.first_flags (rows_here payload.now result.run) more ≡ run_coming (reached payload.now place) (part_of payload.now lying.inside lying.end) more }
+    requires order { (place.old.next < lying.inside) × (lying.end ≤ place.old.traf_end) }
+    requires none { place.old.run.left ≡ 0 }
+    requires place { LiesIn payload.now place.old }
+    requires work { place.old.passed + run_work (part_of payload.now lying.inside lying.end) + work_behind payload.now lying.end place.old.traf_end ≤ moof_work payload.now }
+    ensures place { LiesIn payload.now place.new }
+    ensures next { place.new.next ≡ lying.end }
+    ensures same { (place.new.track ≡ place.old.track) × (place.new.keys ≡ place.old.keys) × (place.new.traf_end ≡ place.old.traf_end) }
+    ensures time { place.new.dts ≡ place.old.dts }
+    ensures on { place.old.passed ≤ place.new.passed }
+    ensures coming { (more : Reached → List SampleAt) → rows_coming (reached payload.now place.new) place.new.run.first_flags (rows_here payload.now place.new.run) more ≡ run_coming (reached payload.now place.old) (part_of payload.now lying.inside lying.end) more }
 {
-    let next = lying.end;
     if !place.is_own {
-        return FragPlace {
-            next,
-            ..pass_run(payload, lying, place)
-        };
+        *place = pass_run(payload, lying, *place);
+        place.next = lying.end;
+        return;
     }
-    let passed = place.passed.saturating_add(1);
+    place.next = lying.end;
+    place.passed = place.passed.saturating_add(1);
     let Ok(run) = read_run(&payload[lying.inside..lying.end]) else {
-        return FragPlace {
-            next,
-            passed,
-            ..place
-        };
+        return;
     };
-    FragPlace {
-        at: begin(place.base, place.at, run.data_offset),
-        next,
-        passed,
-        run: RowPlace {
-            row: lying.inside + run.rows,
-            left: run.count,
-            bits: run.bits,
-            first_flags: run.first_flags,
-        },
-        ..place
-    }
+    place.at = begin(place.base, place.at, run.data_offset);
+    place.run = RowPlace {
+        row: lying.inside + run.rows,
+        left: run.count,
+        bits: run.bits,
+        first_flags: run.first_flags,
+    };
 }
 
 // The place behind a `traf` of another track, for the one behind it, whose data may begin where that of this one ends.
@@ -258,7 +227,8 @@ fn pass_traf(
         (boxes_between payload.now lying.inside lying.end)) (boxes_between payload.now lying.inside lying.end) more
         ≡ more (reached payload.now result) }
 {
-    let mut passed = open_traf(payload, moof, tracks, lying, place);
+    let mut passed = place;
+    open_traf(payload, moof, tracks, lying, &mut passed);
     let mut at = lying.inside;
     while at < lying.end {
         let Some(child) = box_at(payload, at, lying.end) else {
@@ -309,69 +279,57 @@ fn pass_others(
 }
 
 // The place in the next `traf` that names the track. Others are passed by a look; where data begins where theirs ends, all that stands in them is passed too.
-fn next_traf(payload: &[u8], moof: u64, tracks: &[TrackState], place: FragPlace) -> FragPlace
-    requires none { place.run.left ≡ 0 }
-    requires end { place.next ≡ place.traf_end }
-    requires some { place.next < length payload.now }
-    requires place { LiesIn payload.now place }
-    ensures place { LiesIn payload.now result }
-    ensures next { place.next < result.next }
-    ensures same { (result.track ≡ place.track) × (result.keys ≡ place.keys) }
-    ensures time { result.dts ≡ place.dts }
-    ensures on { place.passed ≤ result.passed }
-    ensures coming { coming payload.now (walk_of moof tracks.now place) result
-        ≡ coming payload.now (walk_of moof tracks.now place) place }
+fn next_traf(payload: &[u8], moof: u64, tracks: &[TrackState], place: &mut FragPlace)
+    requires none { place.old.run.left ≡ 0 }
+    requires end { place.old.next ≡ place.old.traf_end }
+    requires some { place.old.next < length payload.now }
+    requires place { LiesIn payload.now place.old }
+    ensures place { LiesIn payload.now place.new }
+    ensures next { place.old.next < place.new.next }
+    ensures same { (place.new.track ≡ place.old.track) × (place.new.keys ≡ place.old.keys) }
+    ensures time { place.new.dts ≡ place.old.dts }
+    ensures on { place.old.passed ≤ place.new.passed }
+    ensures coming { coming payload.now (walk_of moof tracks.now place.old) place.new
+        ≡ coming payload.now (walk_of moof tracks.now place.old) place.old }
 {
     let ahead = look_ahead(payload, place.next, place.track);
-    let looked = FragPlace {
-        passed: place.passed.saturating_add(ahead.looks),
-        ..place
+    place.passed = place.passed.saturating_add(ahead.looks);
+    let Some(traf) = ahead.traf else {
+        place.next = payload.len();
+        place.traf_end = payload.len();
+        return;
     };
-    match ahead.traf {
-        None => FragPlace {
-            next: payload.len(),
-            traf_end: payload.len(),
-            ..looked
-        },
-        Some(traf) => {
-            let behind = if ahead.is_based {
-                looked
-            } else {
-                pass_others(payload, moof, tracks, place.next, ahead.boxes, looked)
-            };
-            open_traf(payload, moof, tracks, traf, behind)
-        }
+    if !ahead.is_based {
+        *place = pass_others(payload, moof, tracks, place.next, ahead.boxes, *place);
     }
+    open_traf(payload, moof, tracks, traf, place);
 }
 
-// The place behind the next box: in the `traf` in hand, or of the `moof`.
-fn pass_box(payload: &[u8], moof: u64, tracks: &[TrackState], place: FragPlace) -> FragPlace
-    requires none { place.run.left ≡ 0 }
-    requires some { place.next < length payload.now }
-    requires place { LiesIn payload.now place }
-    ensures place { LiesIn payload.now result }
-    ensures next { place.next < result.next }
-    ensures same { (result.track ≡ place.track) × (result.keys ≡ place.keys) }
-    ensures time { result.dts ≡ place.dts }
-    ensures on { place.passed ≤ result.passed }
-    ensures coming { coming payload.now (walk_of moof tracks.now place) result ≡ coming payload.now (walk_of moof tracks.now place) place }
+// Goes behind the next box: in the `traf` in hand, or of the `moof`.
+fn pass_box(payload: &[u8], moof: u64, tracks: &[TrackState], place: &mut FragPlace)
+    requires none { place.old.run.left ≡ 0 }
+    requires some { place.old.next < length payload.now }
+    requires place { LiesIn payload.now place.old }
+    ensures place { LiesIn payload.now place.new }
+    ensures next { place.old.next < place.new.next }
+    ensures same { (place.new.track ≡ place.old.track) × (place.new.keys ≡ place.old.keys) }
+    ensures time { place.new.dts ≡ place.old.dts }
+    ensures on { place.old.passed ≤ place.new.passed }
+    ensures coming { coming payload.now (walk_of moof tracks.now place.old) place.new ≡ coming payload.now (walk_of moof tracks.now place.old) place.old }
 {
-    if place.next < place.traf_end {
-        let Some(child) = box_at(payload, place.next, place.traf_end) else {
-            return FragPlace {
-                next: place.traf_end,
-                ..place
-            };
-        };
-        if child.kind == TRUN {
-            return open_run(payload, child, place);
-        }
-        return FragPlace {
-            next: child.end,
-            ..place
-        };
+    if place.next >= place.traf_end {
+        next_traf(payload, moof, tracks, place);
+        return;
     }
-    next_traf(payload, moof, tracks, place)
+    let Some(child) = box_at(payload, place.next, place.traf_end) else {
+        place.next = place.traf_end;
+        return;
+    };
+    if child.kind == TRUN {
+        open_run(payload, child, place);
+    } else {
+        place.next = child.end;
+    }
 }
 
 // Passes boxes until a sample of the track is left.
@@ -387,7 +345,7 @@ pub(crate) fn settle(payload: &[u8], moof: u64, tracks: &[TrackState], place: &m
     ensures coming { coming payload.now (walk_of moof tracks.now place.old) place.new ≡ coming payload.now (walk_of moof tracks.now place.old) place.old }
 {
     while place.run.left == 0 && place.next < payload.len() {
-        *place = pass_box(payload, moof, tracks, *place);
+        pass_box(payload, moof, tracks, place);
     }
 }
 

@@ -149,7 +149,3 @@ length_head m tracks mehd n =
     let d : length inner ≡ length header + (length (flat_map kept_bytes m.kept) + (length (flat_map trak_bytes tracks) + (length (mvex_bytes tracks mehd) + 0))) = length_appended header (flat_map kept_bytes m.kept ∷ flat_map trak_bytes tracks ∷ mvex_bytes tracks mehd ∷ []) in
     let e : length (moov_bytes m tracks mehd) ≡ 8 + length inner = length_box (codes "moov") inner refl in
     omega (arith, ftyp, a, b, c, d, e, length_movie_header m (next_track_id tracks) n, length-append ftyp_bytes (moov_bytes m tracks mehd), length_both trak_bytes trex_bytes tracks)
-
--- where a head is known not to be long, its `moov` can be written
-pub moov_fits : (movie : MovieHead) (tracks : List TrackHead) (mehd n : ℕ) → n ≡ capped (length (head_bytes movie tracks mehd)) → n ≤ 2 ^ 30 → length (moov_bytes movie tracks mehd) ≤ 2 ^ 30
-moov_fits movie tracks mehd n e few = omega (arith, e, few, length-append ftyp_bytes (moov_bytes movie tracks mehd))

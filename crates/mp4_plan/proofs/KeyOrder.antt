@@ -8,16 +8,11 @@ use Rattle.mp4_boxes.proofs.Among.{true_false}
 use Rattle.mp4_tables.specs.Groups.{GroupKey, Groups, key_rank, parameter_rank, same_key, is_in_order}
 use Rattle.mp4_tables.proofs.NamedKeys.{IsAmong, IsNone, AreOnce, among_more, among_first}
 use Rattle.mp4_present.specs.Presentation.{IsParameter, IsGroup}
+use Rattle.mp4_plan.specs.TableLaws.{IsKey, KeysAreRanked}
 use Rattle.mp4_plan.specs.Normal.{put_key, in_key_order}
 use Rattle.mp4_plan.proofs.Maps.{AreAbove, KeysAbove, Covers, none, without, with_index}
 
 -- ---- a key is known by its rank
-
--- the type and the parameter fit their fields
-pub record IsKey (key : GroupKey) : Type 0 where
-  pub kind_length : length key.kind ≡ 4
-  pub kind : AreBytes key.kind
-  pub parameter : IsParameter key.parameter
 
 -- the key of a group is one
 pub key_of_group : (group : GroupKey × ℕ) → IsGroup group → IsKey group.0
@@ -65,6 +60,9 @@ key_same a b h k e =
     let p = kind_same a.kind b.kind h.kind_length k.kind_length h.kind k.kind kinds in
     let q = parameter_same a.parameter b.parameter parameters in
     λ i. record { kind = p i; parameter = q i }
+
+pub keys_are_ranked : KeysAreRanked
+keys_are_ranked a b h k = (key_same a b h k, λ e. ap key_rank e)
 
 -- ---- keys in their order
 

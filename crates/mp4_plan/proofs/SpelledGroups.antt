@@ -21,7 +21,8 @@ use Rattle.mp4_plan.specs.UsedKeys.{AreApart, IsKeyAt, place_at, used_from, key_
 use Rattle.mp4_plan.specs.declared.planner.Planned.{Planned}
 use Rattle.mp4_plan.specs.declared.rows.Row.{Row}
 use Rattle.mp4_plan.proofs.Filters.{flat_map_agree, all_append, all_weaker}
-use Rattle.mp4_plan.proofs.KeyOrder.{IsKey, key_of_group, order_each}
+use Rattle.mp4_plan.specs.TableLaws.{IsKey}
+use Rattle.mp4_plan.proofs.KeyOrder.{key_of_group, order_each}
 use Rattle.mp4_plan.proofs.NextKeys.{one_of, each_other, used_apart, place_is, key_behind, has_at}
 use Rattle.mp4_plan.proofs.UsedLists.{same_order, at_within, next_from, used_each, indexes_are, are_none, some_named, named_index}
 use Rattle.mp4_plan.proofs.WrittenGroups.{length-runs}

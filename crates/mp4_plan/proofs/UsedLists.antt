@@ -17,7 +17,8 @@ use Rattle.mp4_plan.specs.PlannerLaws.{indexes as indexes_of}
 use Rattle.mp4_plan.specs.Taken.{AreTaken}
 use Rattle.mp4_plan.specs.UsedKeys.{IsKeyAt, used_from}
 use Rattle.mp4_plan.proofs.Maps.{KeysAbove}
-use Rattle.mp4_plan.proofs.KeyOrder.{IsKey, key_same, AreRising, order_rises, order_has, order_each, among_above, among_rest}
+use Rattle.mp4_plan.specs.TableLaws.{IsKey}
+use Rattle.mp4_plan.proofs.KeyOrder.{key_same, AreRising, order_rises, order_has, order_each, among_above, among_rest}
 use Rattle.mp4_plan.proofs.NextKeys.{has_at, key_behind}
 
 -- ---- lists of keys that rise

@@ -16,7 +16,8 @@ use Rattle.mp4_present.specs.Presentation.{IsGroup}
 use Rattle.mp4_plan.specs.Pieces.{TimedSample, Piece}
 use Rattle.mp4_plan.specs.Normal.{shared_by, first_time, first_description, piece_keys, longest_runs, tfhd_bytes, trun_bytes, sbgp_bytes, traf_bytes, moof_bytes, moof_length}
 use Rattle.mp4_plan.proofs.Maps.{Covers}
-use Rattle.mp4_plan.proofs.KeyOrder.{IsKey, key_of_group, order_rises, order_each, order_has, covers, AreRising}
+use Rattle.mp4_plan.specs.TableLaws.{IsKey}
+use Rattle.mp4_plan.proofs.KeyOrder.{key_of_group, order_rises, order_each, order_has, covers, AreRising}
 use Rattle.mp4_plan.proofs.RunRows.{FitsRow}
 use Rattle.mp4_plan.proofs.WrittenGroups.{group_payload, ReadsGroup, group_again, few_runs, runs_within, indexes_at, grouped_by}
 use Rattle.mp4_plan.proofs.WrittenRun.{run_payload, run_short, HeadFlags, head_flags_are, head_payload, head_short, time_payload, common_has}

@@ -15,7 +15,8 @@ use Rattle.mp4_present.specs.Denotes.{sample_of}
 use Rattle.mp4_plan.specs.Pieces.{TimedSample}
 use Rattle.mp4_plan.specs.Normal.{key_bytes, put_run, longest_runs}
 use Rattle.mp4_plan.proofs.Maps.{made, made_again, Covers}
-use Rattle.mp4_plan.proofs.KeyOrder.{IsKey, four_bytes}
+use Rattle.mp4_plan.specs.TableLaws.{IsKey}
+use Rattle.mp4_plan.proofs.KeyOrder.{four_bytes}
 use Rattle.mp4_plan.proofs.RunLists.{IsFoundAs}
 use Rattle.mp4_plan.proofs.Shared.{longest_runs_again}
 

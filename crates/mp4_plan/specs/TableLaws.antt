@@ -1,10 +1,11 @@
 -- Laws of what tables name: where the samples of a chunk lie, and which index a sample has at a key.
-use Rattle.std.specs.Prelude.{◌≡◌, ℕ, ◌+◌, ◌<◌, ◌≤◌, List, [], ◌∷◌, length, take, drop, get_or, slice_index, IsTrue, if◌then◌else◌, pos}
-use Rattle.mp4_boxes.specs.Bytes.{sum_of}
+use Rattle.std.specs.Prelude.{◌≡◌, ◌↔◌, ℕ, ◌+◌, ◌<◌, ◌≤◌, List, [], ◌∷◌, length, take, drop, get_or, slice_index, IsTrue, if◌then◌else◌, pos}
+use Rattle.mp4_boxes.specs.Bytes.{sum_of, AreBytes}
 use Rattle.mp4_tables.specs.Repeated.{repeated}
-use Rattle.mp4_tables.specs.Groups.{GroupKey, Grouping, GroupRule, same_key, index_at, maps_of, group_test}
+use Rattle.mp4_tables.specs.Groups.{GroupKey, Grouping, GroupRule, key_rank, same_key, index_at, maps_of, group_test}
 use Rattle.mp4_tables.specs.Tables.{ChunkRow}
 use Rattle.mp4_tables.specs.PlainSamples.{Spot, row_of_chunk, in_chunks, in_chunks_total}
+use Rattle.mp4_present.specs.Presentation.{IsParameter}
 
 -- ---- chunks
 
@@ -38,3 +39,13 @@ index_by key (g ∷ groupings) i = if same_key key g.key then slice_index (repea
 abbrev pub GroupsAreIndexes : Type 0
 GroupsAreIndexes = (n : ℕ) (keys : List GroupKey) (groupings : List Grouping) → ((rule : GroupRule) (k : ℕ) → IsTrue (group_test rule n keys groupings k))
     → (i : ℕ) → i < n → (key : GroupKey) → index_at key (get_or (maps_of n groupings) i []) ≡ index_by key groupings i
+
+-- a type of four bytes, and a parameter of 32 bits, where there is one
+pub record IsKey (key : GroupKey) : Type 0 where
+  pub kind_length : length key.kind ≡ 4
+  pub kind : AreBytes key.kind
+  pub parameter : IsParameter key.parameter
+
+-- Keys are the same exactly if their ranks are.
+abbrev pub KeysAreRanked : Type 0
+KeysAreRanked = (a b : GroupKey) → IsKey a → IsKey b → (key_rank a ≡ key_rank b) ↔ (a ≡ b)

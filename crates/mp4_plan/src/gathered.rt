@@ -47,7 +47,7 @@ impl GroupRuns {
 }
 
 // One more number: what all have stays where this one is the same.
-#[inline]
+#[inline(always)]
 fn add_common(common: &mut Option<u32>, number: u32)
     ensures { common.new ≡ common_more common.old number }
 {
@@ -69,7 +69,7 @@ fn runs_first(index: u16) -> GroupRuns
 }
 
 // One more index.
-#[inline]
+#[inline(always)]
 fn add_index(runs: &mut GroupRuns, index: u16)
     requires { runs.old.rows + 1 < 2 ^ 32 }
     ensures { runs.new ≡ runs_more runs.old index }
@@ -105,7 +105,7 @@ pub(crate) fn gathered_first(sample: &SampleAt) -> Gathered
 }
 
 /// One more sample.
-#[inline]
+#[inline(always)]
 pub(crate) fn gather_more(gathered: &mut Gathered, sample: &SampleAt)
     requires bounded { IsBounded gathered.old }
     requires room { gathered.old.count + 1 < 2 ^ 32 }

@@ -8,7 +8,7 @@ ghost use Rattle.mp4_plan.specs.Taken.{PieceIsSpelled, PiecesTakeAlike};
 ghost use Rattle.mp4_plan.specs.TurnLaws.{TurnsTakeAll};
 ghost use Rattle.mp4_plan.specs.HeadLaws.{MovieLengthIsLargest, NextTrackIdIsLeast};
 ghost use Rattle.mp4_plan.specs.SpellingLaws.{ColumnsAreSpelledOnce, GroupRowsAreLongest, PieceKeysAreThose};
-ghost use Rattle.mp4_plan.specs.TableLaws.{GroupsAreIndexes, SamplesLieInChunks};
+ghost use Rattle.mp4_plan.specs.TableLaws.{GroupsAreIndexes, KeysAreRanked, SamplesLieInChunks};
 ghost use Rattle.mp4_present.specs.Stands.{Reason, header, child, missing, leaf, tables, fragment, count, limit, order};
 
 /// A file denotes at most one presentation.
@@ -44,6 +44,11 @@ pub fn samples_lie_in_chunks()
 /// Where `sbgp`s keep their rules, each sample has at each key the index that the `sbgp` of the key gives it.
 pub fn groups_are_indexes()
     ensures { GroupsAreIndexes }
+{}
+
+/// Keys of sample groups are the same exactly if their ranks are.
+pub fn keys_are_ranked()
+    ensures { KeysAreRanked }
 {}
 
 /// No track is longer than the movie, and the movie has the length of some track, or 0.

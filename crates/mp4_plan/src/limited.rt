@@ -16,7 +16,7 @@ impl<C: Samples> Samples for Limited<C> {
 
     ghost follows = { λ s t. C.follows s.inner t.inner × TakesFirst s.left t.left (C.rest s.inner) (C.rest t.inner) };
 
-    #[inline]
+    #[inline(always)]
     fn peek(&self) -> Option<SampleAt> {
         if self.left == 0 {
             return None;
@@ -24,7 +24,7 @@ impl<C: Samples> Samples for Limited<C> {
         self.inner.peek()
     }
 
-    #[inline]
+    #[inline(always)]
     fn next(&mut self) -> Option<SampleAt> {
         if self.left == 0 {
             return None;

@@ -37,16 +37,32 @@ fn offset_of(has_offsets: bool, row: &Row) -> Option<u32>
     }
 }
 
-// Spells a row of `trun`: what the samples don't have in common.
+/// How many rows of `trun` are spelled at once: of sixteen bytes at most each.
+const BLOCK: usize = 8;
+
+// Spells a row of `trun` behind others: what the samples don't have in common.
 #[inline]
-fn spell_row(row: &Row, planned: &Planned, out: &mut Spelled)
-    ensures { out.new ≡ run_row planned.now row.now }
+fn push_row(row: &Row, planned: &Planned, out: &mut Spelled)
+    requires { length out.old ≤ 112 }
+    ensures is { out.new ≡ out.old ++ run_row planned.now row.now }
+    ensures length { length out.new ≤ length out.old + 16 }
 {
-    out.clear();
     out.push_option(own(planned.duration, row.duration));
     out.push_option(own(planned.size, row.size));
     out.push_option(own(planned.flags, row.flags));
     out.push_option(offset_of(planned.has_offsets, row));
+}
+
+// Spells a few rows of `trun`.
+#[inline]
+fn spell_rows(rows: &[Row], planned: &Planned, out: &mut Spelled)
+    requires { length rows.now ≤ BLOCK }
+    ensures { out.new ≡ run_rows planned.now rows.now }
+{
+    out.clear();
+    for row in rows {
+        push_row(row, planned, out);
+    }
 }
 
 /// Takes the rows of `trun` along.
@@ -62,10 +78,13 @@ pub(crate) fn carry_run<K: Sink>(
     ensures puts { OnOk result (K.put_failures sink.new ≡ K.put_failures sink.old) }
     ensures refusal { IfErr result (RefusesPut (K.put_failures sink.old) (K.put_failures sink.new)) }
 {
-    let mut out = Spelled::new();
-    for row in rows {
-        spell_row(row, planned, &mut out);
-        carrier.carry(out.as_bytes(), sink)?;
+    let mut block = Spelled::new();
+    let mut done = 0;
+    while done < rows.len() {
+        let end = rows.len().min(done + BLOCK);
+        spell_rows(&rows[done..end], planned, &mut block);
+        carrier.carry(block.as_bytes(), sink)?;
+        done = end;
     }
     Ok(())
 }

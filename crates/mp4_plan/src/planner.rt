@@ -103,6 +103,7 @@ impl Planner {
     }
 
     // Whether a sample goes into the piece.
+    #[inline(always)]
     pub(crate) fn takes(&self, sample: &SampleAt) -> bool
         ensures { result ≡ goes_in self.now.end (description_in self.now.gathered (sample.now ∷ [])) sample.now }
     {
@@ -116,6 +117,7 @@ impl Planner {
     }
 
     // Takes a sample into the piece.
+    #[inline(always)]
     fn take(&mut self, sample: SampleAt)
         requires { count_of self.old.gathered + 1 < 2 ^ 32 }
         ensures { self.new ≡ record { end = self.old.end; gathered = gather self.old.gathered sample } }
@@ -127,6 +129,7 @@ impl Planner {
     }
 
     /// Takes samples until the piece ends or no sample is left.
+    #[inline(always)]
     pub fn feed<S: Samples>(&mut self, samples: &mut S) -> Fed
         requires { count_of self.old.gathered + length (S.rest samples.old) < 2 ^ 32 }
         ensures piece { self.new ≡ piece_fed self.old (S.rest samples.old) }
@@ -146,6 +149,7 @@ impl Planner {
     }
 
     /// Takes samples and notes them in rows, until the piece ends or no sample or no row is left.
+    #[inline(always)]
     pub(crate) fn note<S: Samples>(&mut self, samples: &mut S, rows: &mut [Row])
         requires { count_of self.old.gathered + length rows.old < 2 ^ 32 }
         ensures noted { Notes self.old self.new (S.rest samples.old) (S.rest samples.new) rows.old rows.new }

@@ -1,10 +1,10 @@
 -- A file that was read whole: what was kept is what its boxes say.
-use Rattle.std.proofs.Common.{◌≡◌, ℕ, zero, suc, ◌+◌, ◌-◌, ◌*◌, ◌^◌, ◌<◌, ◌≤◌, min, Bool, false, eqb, List, [], ◌∷◌, ◌++◌, length, take, drop, slice_index_or, slice_get, Option, Some, inl, inr, map, refl, sym, ap, subst, ◌∙◌, arith}
+use Rattle.std.proofs.Common.{◌≡◌, ℕ, zero, suc, ◌+◌, ◌-◌, ◌^◌, ◌<◌, ◌≤◌, min, Bool, false, eqb, List, [], ◌∷◌, ◌++◌, length, take, drop, slice_index_or, slice_get, Option, Some, inl, inr, map, refl, sym, ap, subst, ◌∙◌, arith}
 use Rattle.std.specs.Prelude.{codes, IsTrue}
 use Rattle.std.specs.List.{AllByRecursion, AllZip}
 use Rattle.std.proofs.lemmas.Bool.{eqb-false}
 use Rattle.std.proofs.lemmas.List.{append-nil, length-map, take_all}
-use Rattle.mp4_boxes.specs.Bytes.{AreBytes, sum_of}
+use Rattle.mp4_boxes.specs.Bytes.{AreBytes}
 use Rattle.mp4_boxes.specs.Box.{Box}
 use Rattle.mp4_boxes.specs.Layout.{mdhd}
 use Rattle.mp4_boxes.specs.Places.{ruled}
@@ -14,7 +14,7 @@ use Rattle.mp4_boxes.proofs.Refusing.{holds_only}
 use Rattle.mp4_boxes.proofs.Sound.{sound_one, same_kind}
 use Rattle.mp4_tables.specs.Keys.{keys_seen}
 use Rattle.mp4_tables.specs.PlainSamples.{PlacedSample}
-use Rattle.mp4_frag.specs.FragmentSamples.{Part, start_of, duration_of, fragment_samples}
+use Rattle.mp4_frag.specs.FragmentSamples.{Part, start_of, duration_of, bytes_of, fragment_samples}
 use Rattle.mp4_frag.specs.Judged.{TrackSeen, track_seen}
 use Rattle.mp4_frag.specs.declared.state.TrackState.{TrackState}
 use Rattle.mp4_frag.specs.declared.trex.Trex.{Trex}
@@ -32,18 +32,16 @@ use Rattle.mp4_boxes.specs.declared.fault.Fault.{Fault}
 use Rattle.mp4_boxes.specs.declared.fault.Kind.TheVariants.{TimeTooLarge, MovieTooLarge}
 use Rattle.mp4_head.proofs.Inside.{first_is}
 use Rattle.mp4_present.specs.OpenedMovie.{IsInfoBy, AreInfosBy, IsInfoOf, IsOpenedAs, kept_of, plain_seen}
-use Rattle.mp4_present.specs.PassedMoofs.{AreCounted, IsBegun, IsPassed}
+use Rattle.mp4_present.specs.PassedMoofs.{IsBegun, IsPassed}
 use Rattle.mp4_present.specs.Passing.{seen_behind}
 use Rattle.mp4_present.specs.Presentation.{Track, IsInTime, total_duration, end_time, movie_length, normal_moov_length, max_moov}
-use Rattle.mp4_present.specs.TrackTrees.{IsTrackOf, AreTracksOf, IsCountOf, HaveTables}
+use Rattle.mp4_present.specs.TrackTrees.{IsTrackOf, AreTracksOf, HaveTables}
 use Rattle.mp4_present.specs.declared.outline.Outline.{Outline}
-use Rattle.mp4_present.specs.declared.tables_pass.Counted.{Counted}
 use Rattle.mp4_present.specs.declared.tables_pass.PlainTracks.{PlainTracks}
 use Rattle.mp4_present.specs.declared.track_info.TrackInfo.{TrackInfo}
 use Rattle.mp4_present.proofs.Counts.{sum-append}
 use Rattle.mp4_present.proofs.MoofBehind.{begins_behind}
 use Rattle.mp4_present.proofs.SampleTotals.{few_samples}
-use Rattle.mp4_present.proofs.TablesKept.{short_sum}
 use Rattle.mp4_present.proofs.Opened.{IsRead, its_moov, tracks_read}
 
 -- ---- behind the tables
@@ -58,20 +56,18 @@ seen_same movie t =
     let start = sym (start_none (plain_of t)) in
     let count : length (plain_of t) ≡ length (placed_of [] t) = ap (λ (ss : List PlacedSample). length ss) (sym (append-nil (plain_of t))) in
     let time : duration_of (plain_of t) ≡ first_due [] t + duration_of (fragment_samples (track_head_of t).id []) = last (duration_of (plain_of t)) ∙ ap (λ (n : ℕ). (n + duration_of (plain_of t)) + 0) start in
-    λ i. record (seen_behind movie [] t) { start = start i; count = count i; time = time i }
+    let bytes : bytes_of (plain_of t) ≡ bytes_of (plain_of t) + bytes_of (fragment_samples (track_head_of t).id []) = none_more (bytes_of (plain_of t)) in
+    λ i. record (seen_behind movie [] t) { start = start i; count = count i; time = time i; bytes = bytes i }
   where
     last : (n : ℕ) → n ≡ (0 + n) + 0
     last n = omega arith
 
+    none_more : (n : ℕ) → n ≡ n + 0
+    none_more n = omega arith
+
 pub all_same : (movie : MovieTree) (tracks : List TrackTree) → map (plain_seen (trexes_of movie)) tracks ≡ map (seen_behind movie []) tracks
 all_same movie [] = refl
 all_same movie (t ∷ tracks) = λ i. seen_same movie t i ∷ all_same movie tracks i
-
-plain_counts : (tracks : List TrackTree) (counted : List Counted) → AllZip (λ t c. IsCountOf (plain_of t) c) tracks counted → AreCounted tracks [] counted
-plain_counts [] [] z = tt
-plain_counts [] (c ∷ counted) z = absurd z
-plain_counts (t ∷ tracks) [] z = absurd z
-plain_counts (t ∷ tracks) (c ∷ counted) z = (subst (λ (ss : List PlacedSample). IsCountOf ss c) (sym (append-nil (plain_of t))) z.0, plain_counts tracks counted z.1)
 
 module _ (honest : Bool) (file : List ℕ) (o : Outline) (moov : List ℕ) (b : Box) (head : MovieHead) (plain : PlainTracks) (r : IsRead honest file o moov b) (says : SaysHead b head) (bytes : AreBytes moov)
     (file_length : ℕ) (e : file_length ≡ length file) (tables : (trees : List TrackTree) → AreTracksOf trees head.tracks.items → HaveTables file_length b.payload head.trexes.items trees plain) (told : IsTrue honest) where
@@ -93,7 +89,7 @@ module _ (honest : Bool) (file : List ℕ) (o : Outline) (moov : List ℕ) (b : 
       (subst (λ (xs : List Trex). HaveTables file_length moov xs movie.tracks plain) trexes_are
       (subst (λ (bs : List ℕ). HaveTables file_length bs head.trexes.items movie.tracks plain) payload_is (tables movie.tracks (tracks_read b head says))))
 
-  pub begun : IsBegun file movie boxes plain.states.items plain.counted.items plain.room
+  pub begun : IsBegun file movie boxes plain.states.items plain.room
   begun =
       let k = r.outline told in
       record {
@@ -103,7 +99,6 @@ module _ (honest : Bool) (file : List ℕ) (o : Outline) (moov : List ℕ) (b : 
         movie_is = record { tree = says.has.is_tree; sound = says.has.is_sound; tables_sound = have.sound; tables_fit = have.fit };
         bytes = subst (λ (x : Box). AreBytes x.payload) (sym says.has.is_moov) (subst AreBytes (sym payload_is) bytes);
         behind = begins_behind file movie plain.states.items plain.room (have.states ∙ all_same movie movie.tracks) have.room;
-        counts = plain_counts movie.tracks plain.counted.items have.counted;
       }
 
 -- ---- behind all samples
@@ -141,27 +136,19 @@ module _ (file : List ℕ) (tree : FileTree) (t : TrackTree) (h : TrackHead) (s 
   measured : IsMeasured track h s
   measured = record { head = sym i.says; timescale = subst (λ (x : heads.TrackHead). 0 < x.media.timescale) (sym i.says) (timescale_there t i.tree i.sound); start = start_is; end = end_is }
 
-  info_is : (c : Counted) (info : TrackInfo) (timescale : ℕ) → IsInTime timescale track → length track.samples ≤ 2 ^ 24 → IsCountOf (placed_of (file_parts tree) t) c → IsInfoBy h s c info → IsInfoOf file tree t info
-  info_is c info timescale within few count by = record {
+  info_is : (info : TrackInfo) (timescale : ℕ) → IsInTime timescale track → IsInfoBy h s info → IsInfoOf file tree t info
+  info_is info timescale within by = record {
     id = by.id ∙ ap (λ (x : heads.TrackHead). x.id) i.says;
     timescale = by.timescale ∙ ap (λ (x : heads.TrackHead). x.media.timescale) i.says;
     start = by.start ∙ start_is;
     samples = by.samples ∙ ap (λ (x : TrackSeen). x.count) e ∙ sym (length-map (placed_of (file_parts tree) t) (sample_of file));
     duration = lasts info.duration s.time s.start track.start (total_duration track.samples) by.duration start_is end_is within.0;
-    bytes = whole info.bytes c.bytes _ (length (placed_of (file_parts tree) t)) (length track.samples) by.bytes count.bytes_are (short_sum (λ (x : PlacedSample). x.size) (placed_of (file_parts tree) t) count.small) (length-map (placed_of (file_parts tree) t) (sample_of file)) few;
+    bytes = by.bytes ∙ ap (λ (x : TrackSeen). x.bytes) e ∙ sym (sum-append (λ (x : PlacedSample). x.size) (plain_of t) (fragment_samples (track_head_of t).id (file_parts tree)));
     keys = ap keys_seen by.keys ∙ ap (λ (x : TrackSeen). x.keys) e;
   }
     where
       lasts : (d time start begun total : ℕ) → d ≡ min (time - start) (2 ^ 64 - 1) → start ≡ begun → time ≡ begun + total → begun + total ≤ 2 ^ 63 - 1 → d ≡ total
       lasts d time start begun total p q r w = omega arith
-
-      whole : (b n sum samples many : ℕ) → b ≡ n → n ≡ min sum (2 ^ 64 - 1) → sum ≤ 2 ^ 32 * samples → many ≡ samples → many ≤ 2 ^ 24 → b ≡ sum
-      whole b n sum samples many p q r e w = omega arith
-
--- no track has more samples than all together
-each_few : (tracks : List Track) → sum_of (λ (x : Track). length x.samples) tracks ≤ 2 ^ 24 → AllByRecursion (λ (x : Track). length x.samples ≤ 2 ^ 24) tracks
-each_few [] le = tt
-each_few (x ∷ tracks) le = (omega arith, each_few tracks (omega arith))
 
 -- the same of all tracks
 pub all_measured : (file : List ℕ) (tree : FileTree) (trees : List TrackTree) (hs : List TrackHead) (ss : List TrackState) → AreTracksOf trees hs → map track_seen ss ≡ map (seen_behind tree.movie (file_parts tree)) trees
@@ -175,21 +162,19 @@ all_measured file tree (t ∷ trees) (h ∷ hs) (s ∷ ss) z e =
     let f = seen_behind tree.movie (file_parts tree) in
     (measured file tree t h s z.0 (head_is (track_seen s) (f t) (map track_seen ss) (map f trees) e), all_measured file tree trees hs ss z.1 (tail_is (track_seen s) (f t) (map track_seen ss) (map f trees) e))
 
-pub all_infos : (file : List ℕ) (tree : FileTree) (timescale : ℕ) (trees : List TrackTree) (hs : List TrackHead) (ss : List TrackState) (cs : List Counted) (infos : List TrackInfo) → AreTracksOf trees hs → map track_seen ss ≡ map (seen_behind tree.movie (file_parts tree)) trees
-    → AreCounted trees (file_parts tree) cs → AllByRecursion (IsInTime timescale) (map (track_of file (file_parts tree)) trees) → AllByRecursion (λ (x : Track). length x.samples ≤ 2 ^ 24) (map (track_of file (file_parts tree)) trees) → AreInfosBy hs ss cs infos → AllZip (IsInfoOf file tree) trees infos
-all_infos file tree timescale [] [] [] [] [] z e k w few q = tt
-all_infos file tree timescale [] [] [] [] (x ∷ infos) z e k w few q = absurd q
-all_infos file tree timescale [] [] [] (c ∷ cs) infos z e k w few q = absurd k
-all_infos file tree timescale [] [] (s ∷ ss) cs infos z e k w few q = absurd cc
-all_infos file tree timescale [] (h ∷ hs) ss cs infos z e k w few q = absurd z
-all_infos file tree timescale (t ∷ trees) [] ss cs infos z e k w few q = absurd z
-all_infos file tree timescale (t ∷ trees) (h ∷ hs) [] cs infos z e k w few q = absurd cc
-all_infos file tree timescale (t ∷ trees) (h ∷ hs) (s ∷ ss) [] infos z e k w few q = absurd k
-all_infos file tree timescale (t ∷ trees) (h ∷ hs) (s ∷ ss) (c ∷ cs) [] z e k w few q = absurd q
-all_infos file tree timescale (t ∷ trees) (h ∷ hs) (s ∷ ss) (c ∷ cs) (x ∷ infos) z e k w few q =
+pub all_infos : (file : List ℕ) (tree : FileTree) (timescale : ℕ) (trees : List TrackTree) (hs : List TrackHead) (ss : List TrackState) (infos : List TrackInfo) → AreTracksOf trees hs → map track_seen ss ≡ map (seen_behind tree.movie (file_parts tree)) trees
+    → AllByRecursion (IsInTime timescale) (map (track_of file (file_parts tree)) trees) → AreInfosBy hs ss infos → AllZip (IsInfoOf file tree) trees infos
+all_infos file tree timescale [] [] [] [] z e w q = tt
+all_infos file tree timescale [] [] [] (x ∷ infos) z e w q = absurd q
+all_infos file tree timescale [] [] (s ∷ ss) infos z e w q = absurd cc
+all_infos file tree timescale [] (h ∷ hs) ss infos z e w q = absurd z
+all_infos file tree timescale (t ∷ trees) [] ss infos z e w q = absurd z
+all_infos file tree timescale (t ∷ trees) (h ∷ hs) [] infos z e w q = absurd cc
+all_infos file tree timescale (t ∷ trees) (h ∷ hs) (s ∷ ss) [] z e w q = absurd q
+all_infos file tree timescale (t ∷ trees) (h ∷ hs) (s ∷ ss) (x ∷ infos) z e w q =
     let f = seen_behind tree.movie (file_parts tree) in (
-      info_is file tree t h s z.0 (head_is (track_seen s) (f t) (map track_seen ss) (map f trees) e) c x timescale w.0 few.0 k.0 q.0,
-      all_infos file tree timescale trees hs ss cs infos z.1 (tail_is (track_seen s) (f t) (map track_seen ss) (map f trees) e) k.1 w.1 few.1 q.1,
+      info_is file tree t h s z.0 (head_is (track_seen s) (f t) (map track_seen ss) (map f trees) e) x timescale w.0 q.0,
+      all_infos file tree timescale trees hs ss infos z.1 (tail_is (track_seen s) (f t) (map track_seen ss) (map f trees) e) w.1 q.1,
     )
 
 -- the k-th track, its tree and its head
@@ -218,15 +203,13 @@ all_front f P (suc k) (x ∷ xs) h = (h.0, all_front f P k xs h.1)
 
 -- ---- one more track in numbers
 
-pub infos_more : (hs : List TrackHead) (ss : List TrackState) (cs : List Counted) (infos : List TrackInfo) (h : TrackHead) (s : TrackState) (c : Counted) (x : TrackInfo) → AreInfosBy hs ss cs infos → IsInfoBy h s c x → AreInfosBy (hs ++ h ∷ []) (ss ++ s ∷ []) (cs ++ c ∷ []) (infos ++ x ∷ [])
-infos_more [] [] [] [] h s c x a i = (i, tt)
-infos_more [] [] [] (y ∷ infos) h s c x a i = absurd a
-infos_more [] [] (d ∷ cs) infos h s c x a i = absurd a
-infos_more [] (t ∷ ss) cs infos h s c x a i = absurd a
-infos_more (g ∷ hs) [] cs infos h s c x a i = absurd a
-infos_more (g ∷ hs) (t ∷ ss) [] infos h s c x a i = absurd a
-infos_more (g ∷ hs) (t ∷ ss) (d ∷ cs) [] h s c x a i = absurd a
-infos_more (g ∷ hs) (t ∷ ss) (d ∷ cs) (y ∷ infos) h s c x a i = (a.0, infos_more hs ss cs infos h s c x a.1 i)
+pub infos_more : (hs : List TrackHead) (ss : List TrackState) (infos : List TrackInfo) (h : TrackHead) (s : TrackState) (x : TrackInfo) → AreInfosBy hs ss infos → IsInfoBy h s x → AreInfosBy (hs ++ h ∷ []) (ss ++ s ∷ []) (infos ++ x ∷ [])
+infos_more [] [] [] h s x a i = (i, tt)
+infos_more [] [] (y ∷ infos) h s x a i = absurd a
+infos_more [] (t ∷ ss) infos h s x a i = absurd a
+infos_more (g ∷ hs) [] infos h s x a i = absurd a
+infos_more (g ∷ hs) (t ∷ ss) [] h s x a i = absurd a
+infos_more (g ∷ hs) (t ∷ ss) (y ∷ infos) h s x a i = (a.0, infos_more hs ss infos h s x a.1 i)
 
 -- the first values of a list, and one more
 pub take_one : {A : Type 0} (xs : List A) (k : ℕ) (x : A) → k < length xs → x ≡ slice_index_or xs k x → take (suc k) xs ≡ take k xs ++ x ∷ []
@@ -234,41 +217,36 @@ take_one [] k x lt e = absurd (omega (arith, lt))
 take_one (y ∷ xs) zero x lt e = ap (λ z. z ∷ []) (sym e)
 take_one (y ∷ xs) (suc k) x lt e = ap (λ zs. y ∷ zs) (take_one xs k x (omega (arith, lt)) e)
 
-pub infos_next : (hs : List TrackHead) (ss : List TrackState) (cs : List Counted) (infos new : List TrackInfo) (k : ℕ) (h : TrackHead) (s : TrackState) (c : Counted) (x : TrackInfo) → length ss ≡ length hs → length cs ≡ length hs → k < length hs
-    → h ≡ slice_index_or hs k h → s ≡ slice_index_or ss k s → c ≡ slice_index_or cs k c → AreInfosBy (take k hs) (take k ss) (take k cs) infos → IsInfoBy h s c x → new ≡ infos ++ x ∷ [] → AreInfosBy (take (k + 1) hs) (take (k + 1) ss) (take (k + 1) cs) new
-infos_next hs ss cs infos new k h s c x n m lt eh es ec a i e =
-    let all = infos_more (take k hs) (take k ss) (take k cs) infos h s c x a i in
+pub infos_next : (hs : List TrackHead) (ss : List TrackState) (infos new : List TrackInfo) (k : ℕ) (h : TrackHead) (s : TrackState) (x : TrackInfo) → length ss ≡ length hs → k < length hs
+    → h ≡ slice_index_or hs k h → s ≡ slice_index_or ss k s → AreInfosBy (take k hs) (take k ss) infos → IsInfoBy h s x → new ≡ infos ++ x ∷ [] → AreInfosBy (take (k + 1) hs) (take (k + 1) ss) new
+infos_next hs ss infos new k h s x n lt eh es a i e =
+    let all = infos_more (take k hs) (take k ss) infos h s x a i in
     let first = take_one hs k h lt eh in
     let second = take_one ss k s (omega (arith, lt, n)) es in
-    let third = take_one cs k c (omega (arith, lt, m)) ec in
     let next : suc k ≡ k + 1 = omega arith in
-    subst (λ (j : ℕ). AreInfosBy (take j hs) (take j ss) (take j cs) new) next (subst (λ (xs : List TrackInfo). AreInfosBy (take (suc k) hs) (take (suc k) ss) (take (suc k) cs) xs) (sym e)
-    (subst (λ (hs' : List TrackHead). AreInfosBy hs' (take (suc k) ss) (take (suc k) cs) (infos ++ x ∷ [])) (sym first)
-    (subst (λ (ss' : List TrackState). AreInfosBy (take k hs ++ h ∷ []) ss' (take (suc k) cs) (infos ++ x ∷ [])) (sym second)
-    (subst (λ (cs' : List Counted). AreInfosBy (take k hs ++ h ∷ []) (take k ss ++ s ∷ []) cs' (infos ++ x ∷ [])) (sym third) all))))
+    subst (λ (j : ℕ). AreInfosBy (take j hs) (take j ss) new) next (subst (λ (xs : List TrackInfo). AreInfosBy (take (suc k) hs) (take (suc k) ss) xs) (sym e)
+    (subst (λ (hs' : List TrackHead). AreInfosBy hs' (take (suc k) ss) (infos ++ x ∷ [])) (sym first)
+    (subst (λ (ss' : List TrackState). AreInfosBy (take k hs ++ h ∷ []) ss' (infos ++ x ∷ [])) (sym second) all)))
 
-pub infos_whole : (hs : List TrackHead) (ss : List TrackState) (cs : List Counted) (infos : List TrackInfo) (k : ℕ) → length ss ≡ length hs → length cs ≡ length hs → length hs ≤ k → AreInfosBy (take k hs) (take k ss) (take k cs) infos → AreInfosBy hs ss cs infos
-infos_whole hs ss cs infos k n m le a =
-    subst (λ (cs' : List Counted). AreInfosBy hs ss cs' infos) (take_all k cs (omega (arith, m, le)))
-    (subst (λ (ss' : List TrackState). AreInfosBy hs ss' (take k cs) infos) (take_all k ss (omega (arith, n, le)))
-    (subst (λ (hs' : List TrackHead). AreInfosBy hs' (take k ss) (take k cs) infos) (take_all k hs le) a))
+pub infos_whole : (hs : List TrackHead) (ss : List TrackState) (infos : List TrackInfo) (k : ℕ) → length ss ≡ length hs → length hs ≤ k → AreInfosBy (take k hs) (take k ss) infos → AreInfosBy hs ss infos
+infos_whole hs ss infos k n le a =
+    subst (λ (ss' : List TrackState). AreInfosBy hs ss' infos) (take_all k ss (omega (arith, n, le)))
+    (subst (λ (hs' : List TrackHead). AreInfosBy hs' (take k ss) infos) (take_all k hs le) a)
 
 -- they have the IDs of their heads
-pub infos_ids : (hs : List TrackHead) (ss : List TrackState) (cs : List Counted) (infos : List TrackInfo) → AreInfosBy hs ss cs infos → map (λ (i : TrackInfo). i.id) infos ≡ map (λ (h : TrackHead). h.id) hs
-infos_ids [] [] [] [] a = refl
-infos_ids [] [] [] (y ∷ infos) a = absurd a
-infos_ids [] [] (d ∷ cs) infos a = absurd a
-infos_ids [] (t ∷ ss) cs infos a = absurd a
-infos_ids (g ∷ hs) [] cs infos a = absurd a
-infos_ids (g ∷ hs) (t ∷ ss) [] infos a = absurd a
-infos_ids (g ∷ hs) (t ∷ ss) (d ∷ cs) [] a = absurd a
-infos_ids (g ∷ hs) (t ∷ ss) (d ∷ cs) (y ∷ infos) a = λ i. a.0.id i ∷ infos_ids hs ss cs infos a.1 i
+pub infos_ids : (hs : List TrackHead) (ss : List TrackState) (infos : List TrackInfo) → AreInfosBy hs ss infos → map (λ (i : TrackInfo). i.id) infos ≡ map (λ (h : TrackHead). h.id) hs
+infos_ids [] [] [] a = refl
+infos_ids [] [] (y ∷ infos) a = absurd a
+infos_ids [] (t ∷ ss) infos a = absurd a
+infos_ids (g ∷ hs) [] infos a = absurd a
+infos_ids (g ∷ hs) (t ∷ ss) [] a = absurd a
+infos_ids (g ∷ hs) (t ∷ ss) (y ∷ infos) a = λ i. a.0.id i ∷ infos_ids hs ss infos a.1 i
 
 -- ---- the whole file
 
 module _ (honest : Bool) (file : List ℕ) (o : Outline) (moov : List ℕ) (b : Box) (head : MovieHead) (plain : PlainTracks) (r : IsRead honest file o moov b) (says : SaysHead b head) (told : IsTrue honest)
-    (have : HaveTables (length file) moov (trexes_of says.has.tree) says.has.tree.tracks plain) (begin : IsBegun file says.has.tree (r.outline told).0 plain.states.items plain.counted.items plain.room)
-    (states : List TrackState) (counted : List Counted) (p : IsPassed file says.has.tree (r.outline told).0 states counted) where
+    (have : HaveTables (length file) moov (trexes_of says.has.tree) says.has.tree.tracks plain) (begin : IsBegun file says.has.tree (r.outline told).0 plain.states.items plain.room)
+    (states : List TrackState) (p : IsPassed file says.has.tree (r.outline told).0 states) where
   abbrev pub tree : FileTree
   tree = record { top = (r.outline told).0; movie = says.has.tree; fragments = p.fragments }
 
@@ -297,7 +275,7 @@ module _ (honest : Bool) (file : List ℕ) (o : Outline) (moov : List ℕ) (b : 
 
   -- within the limits
   pub opened_as : (found : Found) (file_length : ℕ) → found.plain ≡ plain → AllByRecursion (IsInTime (presentation_of file tree).movie.timescale) (presentation_of file tree).tracks → found.mehd ≡ movie_length (presentation_of file tree) → normal_moov_length (presentation_of file tree) ≤ max_moov
-      → AreInfosBy head.tracks.items states counted found.tracks.items → file_length ≡ length file → IsOpenedAs file (kept_of o moov file_length found) tree
+      → AreInfosBy head.tracks.items states found.tracks.items → file_length ≡ length file → IsOpenedAs file (kept_of o moov file_length found) tree
   opened_as found file_length same times longest short infos e =
       let k = r.outline told in
       let kept : HaveTables (length file) moov (trexes_of says.has.tree) says.has.tree.tracks found.plain = subst (λ (x : PlainTracks). HaveTables (length file) moov (trexes_of says.has.tree) says.has.tree.tracks x) (sym same) have in
@@ -314,7 +292,7 @@ module _ (honest : Bool) (file : List ℕ) (o : Outline) (moov : List ℕ) (b : 
         tables = kept.tables;
         states = kept.states;
         room = kept.room;
-        tracks = all_infos file tree (presentation_of file tree).movie.timescale says.has.tree.tracks head.tracks.items states counted found.tracks.items tracks_are p.behind.seen p.counts times (each_few (presentation_of file tree).tracks (few_samples file tree states p.room begin.movie_is p.behind)) infos;
+        tracks = all_infos file tree (presentation_of file tree).movie.timescale says.has.tree.tracks head.tracks.items states found.tracks.items tracks_are p.behind.seen times infos;
         mehd = longest;
       }
 

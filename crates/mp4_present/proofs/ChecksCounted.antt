@@ -1,6 +1,6 @@
 -- The steps of the checks of all `moof`s of a file.
-use Rattle.std.proofs.Common.{◌≡◌, ℕ, ◌+◌, ◌*◌, ◌≤◌, true, List, ◌∷◌, ◌++◌, Some, length, refl, sym, ap, subst, ◌∙◌, arith}
-use Rattle.std.proofs.Math.Nat.{mul-add, le_refl}
+use Rattle.std.proofs.Common.{◌≡◌, ℕ, ◌+◌, ◌≤◌, true, List, ◌∷◌, ◌++◌, Some, length, refl, sym, ap, subst, ◌∙◌, arith}
+use Rattle.std.proofs.Math.Nat.{le_refl}
 use Rattle.std.specs.Prelude.{codes, unwrap_or, bytes_eq}
 use Rattle.mp4_boxes.specs.Box.{Box, file_container}
 use Rattle.mp4_boxes.specs.Children.{Holds, of_kind}
@@ -19,37 +19,36 @@ use Rattle.mp4_present.proofs.FragmentPass.{Left, left_at, left_next, next_boxes
 use Rattle.mp4_present.proofs.MoofsPassed.{IsRead, read_is}
 use Rattle.mp4_present.proofs.WalkWork.{MovedBy, checked_within}
 
--- so many steps were taken, and for each `moof` from a place on no more than so many times what it says are left of those for all
-abbrev pub LeftWithin : ℕ → List ℕ → ℕ → ℕ → ℕ → Type 0
-LeftWithin times file at old new =
-    (all : List Box) → Holds File (file_container file) all → (boxes : List Box) × (AreFrom file at boxes × (new + times * boxes_steps (of_kind (codes "moof") boxes) ≤ old + times * boxes_steps (of_kind (codes "moof") all)))
+-- so many steps were taken, and for each `moof` from a place on no more than it says are left of those for all
+abbrev pub LeftWithin : List ℕ → ℕ → ℕ → ℕ → Type 0
+LeftWithin file at old new =
+    (all : List Box) → Holds File (file_container file) all → (boxes : List Box) × (AreFrom file at boxes × (new + boxes_steps (of_kind (codes "moof") boxes) ≤ old + boxes_steps (of_kind (codes "moof") all)))
 
 -- before the first one
-pub within_first : (times : ℕ) (file : List ℕ) (known : List Box) (o : Outline) (at start : ℕ) → Holds File (file_container file) known → IsOutline file known o → unwrap_or o.fragments (length file) ≡ at → LeftWithin times file at start start
-within_first times file known o at start holds i e all h =
+pub within_first : (file : List ℕ) (known : List Box) (o : Outline) (at start : ℕ) → Holds File (file_container file) known → IsOutline file known o → unwrap_or o.fragments (length file) ≡ at → LeftWithin file at start start
+within_first file known o at start holds i e all h =
     let same : known ≡ all = tiles_one (file_container file) known all holds.tiles h.tiles in
     let a = whole_file file known holds in
     let l = left_at file known o.fragments a i.fragments in
     let f = first_passed file known o.fragments a i.fragments in
     let moofs : of_kind (codes "moof") all ≡ of_kind (codes "moof") l.boxes =
     ap (of_kind (codes "moof")) (sym same ∙ f.1) ∙ of_kind-append (codes "moof") f.0 l.boxes ∙ ap (λ (bs : List Box). bs ++ of_kind (codes "moof") l.boxes) f.2 in
-    let steps = ap (λ (bs : List Box). times * boxes_steps bs) moofs in
+    let steps = ap boxes_steps moofs in
     (l.boxes, (subst (λ (k : ℕ). AreFrom file k l.boxes) e l.are_from, omega (arith, steps)))
 
 -- where no further one is checked
-pub checks_done : (times : ℕ) (file : List ℕ) (at old new : ℕ) → LeftWithin times file at old new → ChecksWithin times file old new
-checks_done times file at old new left all h = let some = (left all h).1.1 in omega (arith, some)
+pub checks_done : (file : List ℕ) (at old new : ℕ) → LeftWithin file at old new → ChecksWithin file old new
+checks_done file at old new left all h = let some = (left all h).1.1 in omega (arith, some)
 
-one_less : (n w rest all before checked after old : ℕ) → checked ≤ before + w → after ≤ checked + n * w → before + (n + 1) * (w + rest) ≤ old + all → after + (n + 1) * rest ≤ old + all
-one_less n w rest all before checked after old a b h = let e = mul-add (n + 1) w rest in omega (arith, a, b, h, e)
+one_less : (w rest all before after old : ℕ) → after ≤ before + w → before + (w + rest) ≤ old + all → after + rest ≤ old + all
+one_less w rest all before after old a h = omega (arith, a, h)
 
--- one more was checked, and its samples were counted for each of the tracks
-pub next_within : (n : ℕ) (file : List ℕ) (at : ℕ) (top : TopBox) (all : List Box) (w : IsWhole (length file) top) (boxes : List Box) (a : AreFrom file at boxes) → IsNextFragment file at boxes (Some top)
-    → (m view : Box) (bytes : List ℕ) (len : ℕ) → IsRead file top m bytes len → view ≡ m
-    → (old new : List TrackState) (room less before checked after start tracks : ℕ) → MovedBy m old new room less → checked + less ≤ before + room + fragment_rows (moof_says m) → after ≤ checked + tracks * moof_steps view → tracks ≡ n
-    → before + (n + 1) * boxes_steps (of_kind (codes "moof") boxes) ≤ start + (n + 1) * boxes_steps (of_kind (codes "moof") all)
-    → (left : List Box) × (AreFrom file top.header.end left × (after + (n + 1) * boxes_steps (of_kind (codes "moof") left) ≤ start + (n + 1) * boxes_steps (of_kind (codes "moof") all)))
-next_within n file at top all w boxes a next m view bytes len r seen old new room less before checked after start tracks moved cost counted each h =
+-- one more was checked
+pub next_within : (file : List ℕ) (at : ℕ) (top : TopBox) (all : List Box) (w : IsWhole (length file) top) (boxes : List Box) (a : AreFrom file at boxes) → IsNextFragment file at boxes (Some top)
+    → (m : Box) (bytes : List ℕ) (len : ℕ) → IsRead file top m bytes len → (old new : List TrackState) (room less before after start : ℕ) → MovedBy m old new room less → after + less ≤ before + room + fragment_rows (moof_says m)
+    → before + boxes_steps (of_kind (codes "moof") boxes) ≤ start + boxes_steps (of_kind (codes "moof") all)
+    → (left : List Box) × (AreFrom file top.header.end left × (after + boxes_steps (of_kind (codes "moof") left) ≤ start + boxes_steps (of_kind (codes "moof") all)))
+next_within file at top all w boxes a next m bytes len r old new room less before after start moved cost h =
     let b = box_at file top in
     let there : m ≡ b = read_is file top m bytes len r in
     let l : Left file at (longest (of_kind (codes "moof") boxes)) = record { boxes = boxes; are_from = a; short = le_refl _ } in
@@ -58,7 +57,6 @@ next_within n file at top all w boxes a next m view bytes len r seen old new roo
     let kind : bytes_eq (codes "moof") b.kind ≡ true = rw next.5 refl in
     let moofs : of_kind (codes "moof") boxes ≡ b ∷ of_kind (codes "moof") next.1 =
     ap (of_kind (codes "moof")) next.2 ∙ of_kind-split (codes "moof") next.0 next.1 b kind ∙ ap (λ (bs : List Box). bs ++ b ∷ of_kind (codes "moof") next.1) next.3 in
-    let check = checked_within old new room less before checked m b there moved cost in
-    let count = subst (λ (k : ℕ). after ≤ checked + k * moof_steps b) each (subst (λ (x : Box). after ≤ checked + tracks * moof_steps x) (seen ∙ there) counted) in
-    let sum = subst (λ (bs : List Box). before + (n + 1) * boxes_steps bs ≤ start + (n + 1) * boxes_steps (of_kind (codes "moof") all)) moofs h in
-    (next.1, (subst (λ (bs : List Box). AreFrom file top.header.end bs) same on.are_from, one_less n (moof_steps b) (boxes_steps (of_kind (codes "moof") next.1)) _ before checked after start check count sum))
+    let check = checked_within old new room less before after m b there moved cost in
+    let sum = subst (λ (bs : List Box). before + boxes_steps bs ≤ start + boxes_steps (of_kind (codes "moof") all)) moofs h in
+    (next.1, (subst (λ (bs : List Box). AreFrom file top.header.end bs) same on.are_from, one_less (moof_steps b) (boxes_steps (of_kind (codes "moof") next.1)) _ before after start check sum))

@@ -1,5 +1,5 @@
 -- Samples that are taken one by one: their sums, and their bytes.
-use Rattle.std.proofs.Common.{◌≡◌, ℕ, ◌+◌, ◌-◌, ◌^◌, ◌<◌, ◌≤◌, List, [], ◌∷◌, ◌++◌, length, take, drop, Some, None, refl, sym, ap, subst, ◌∙◌, zero, suc, arith}
+use Rattle.std.proofs.Common.{◌≡◌, ℕ, ◌+◌, ◌<◌, ◌≤◌, List, [], ◌∷◌, ◌++◌, length, take, drop, Some, refl, sym, ap, subst, ◌∙◌, zero, suc, arith}
 use Rattle.std.specs.Prelude.{min}
 use Rattle.std.specs.List.{slice_get, AllByRecursion}
 use Rattle.mp4_boxes.specs.Bytes.{sum_of}
@@ -33,16 +33,6 @@ one_less xs ys s e d =
 -- one more number is added to a sum that stays at its most
 pub capped_more : (now one sum left next most total : ℕ) → sum ≡ one + left → next ≡ min (now + one) most → min (now + sum) most ≡ total → min (next + left) most ≡ total
 capped_more now one sum left next most total e n t = omega (arith, e, n, t)
-
--- none is given where none is left
-pub none_is : (xs : List SampleAt) → None ≡ slice_get xs 0 → xs ≡ []
-none_is [] e = refl
-none_is (x ∷ xs) e = absurd (cc)
-
--- the sum is whole where none is left
-pub capped_all : (f : SampleAt → ℕ) (xs : List SampleAt) (now total : ℕ) → None ≡ slice_get xs 0 → now < 2 ^ 64 → min (now + sum_of f xs) (2 ^ 64 - 1) ≡ min total (2 ^ 64 - 1) → now ≡ min total (2 ^ 64 - 1)
-capped_all f [] now total e lt s = omega (arith, lt, s)
-capped_all f (x ∷ xs) now total e lt s = absurd (cc)
 
 some_is : (x y : SampleAt) → Some x ≡ Some y → x ≡ y
 some_is x y e = cc

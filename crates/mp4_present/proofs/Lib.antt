@@ -33,7 +33,6 @@ pub mod TablesKept
 pub mod TracksPassed
 pub mod TablesStand
 pub mod Lengths
-pub mod Counting
 pub mod Causes
 pub mod FragmentPass
 pub mod Opened
@@ -63,3 +62,4 @@ pub mod ChecksCounted
 pub mod MoofBytes
 pub mod TablesWork
 pub mod WayThrough
+pub mod OpenedDenotes

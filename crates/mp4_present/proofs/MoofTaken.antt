@@ -32,7 +32,7 @@ use Rattle.mp4_present.specs.declared.walks.Walk.{Walk}
 use Rattle.mp4_present.proofs.DueBehind.{own_samples, one_moof}
 use Rattle.mp4_present.proofs.MoofLoaded.{behind_split, due_more}
 use Rattle.mp4_present.proofs.MoofSound.{moof_sound, kept_trexes}
-use Rattle.mp4_present.proofs.TablesKept.{timed_lasts}
+use Rattle.mp4_tables.proofs.Sums.{timed_lasts}
 use Rattle.mp4_boxes.specs.Bytes.{sum_of}
 use Rattle.mp4_present.proofs.KeysExtended.{distinct_keys}
 use Rattle.mp4_present.proofs.WalkPlaces.{of_got}

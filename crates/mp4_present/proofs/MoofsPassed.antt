@@ -1,6 +1,6 @@
 -- The `moof`s of a file, passed one after the other behind its `moov`.
-use Rattle.std.proofs.Common.{◌≡◌, ℕ, ◌+◌, ◌^◌, ◌<◌, ◌≤◌, true, false, Bool, List, [], ◌∷◌, ◌++◌, Option, Some, None, length, take, map, pos, refl, sym, ap, subst, ◌∙◌, arith, append_assoc, length-take}
-use Rattle.std.specs.Prelude.{codes, unwrap_or, IsTrue, is_some, bytes_eq}
+use Rattle.std.proofs.Common.{◌≡◌, ℕ, ◌+◌, ◌≤◌, true, false, Bool, List, [], ◌∷◌, ◌++◌, Some, None, length, take, map, pos, refl, sym, ap, subst, ◌∙◌, arith, append_assoc, length-take}
+use Rattle.std.specs.Prelude.{codes, unwrap_or, IsTrue, bytes_eq}
 use Rattle.std.specs.List.{AllByRecursion}
 use Rattle.std.proofs.lemmas.List.{append-nil, map-append}
 use Rattle.mp4_store.specs.Device.{range}
@@ -12,50 +12,38 @@ use Rattle.mp4_boxes.specs.declared.refusal.Refusal.{Refusal}
 use Rattle.mp4_boxes.specs.declared.refusal.Refusal.TheVariants as refusals
 use Rattle.mp4_boxes.specs.declared.rule.Rule.TheVariants.{File}
 use Rattle.mp4_boxes.proofs.Among.{of_kind-append, head_is, tail_is, all_append}
-use Rattle.mp4_boxes.proofs.Each.{each_from, each_value, each_weaker}
-use Rattle.mp4_boxes.proofs.OfBytes.{bytes_taken, payloads_of_bytes}
+use Rattle.mp4_boxes.proofs.OfBytes.{bytes_taken}
 use Rattle.mp4_boxes.proofs.Tiling.{tiles_one}
-use Rattle.mp4_tables.specs.Groups.{GroupKey}
-use Rattle.mp4_tables.specs.PlainSamples.{PlacedSample}
-use Rattle.mp4_tables.proofs.GroupMaps.{IsMap, keys_named}
-use Rattle.mp4_tables.proofs.Placed.{IsPlaced, IsIndex}
-use Rattle.mp4_frag.specs.FragmentSamples.{Part, parts_of, part_samples}
-use Rattle.mp4_frag.specs.Fragments.{FragmentTree, trex_of, fragment_of}
-use Rattle.mp4_frag.specs.Judged.{AreTrexesOf, IsSoundMoof, IsGrouped, AreMovedOn, tree_of, is_known_among}
+use Rattle.mp4_frag.specs.Fragments.{FragmentTree}
+use Rattle.mp4_frag.specs.Judged.{AreTrexesOf, IsSoundMoof, AreMovedOn, tree_of}
 use Rattle.mp4_frag.specs.RunsJudged.{children_of}
-use Rattle.mp4_frag.specs.States.{HasRoom, HaveRoom}
 use Rattle.mp4_frag.specs.TrafFaults.{MoofFails}
-use Rattle.mp4_frag.specs.Walks.{trex_among}
 use Rattle.mp4_frag.specs.declared.state.TrackState.{TrackState}
 use Rattle.mp4_frag.specs.declared.trex.Trex.{Trex}
-use Rattle.mp4_frag.proofs.Ranges.{IsTrex, IsPart, trex_valid, part_placed, fragments_valid}
 use Rattle.mp4_head.specs.Tree.{MovieTree, trexes_of}
 use Rattle.mp4_head.proofs.Above.{lies_front}
-use Rattle.mp4_head.proofs.TreeBytes.{movie_of_bytes}
 use Rattle.mp4_present.specs.Again.{IsNextFragment}
 use Rattle.mp4_present.specs.Denotes.{begins_with_movie}
 use Rattle.mp4_present.specs.Movies.{IsWhole}
 use Rattle.mp4_present.specs.Outline.{IsOutline, box_at, longest}
-use Rattle.mp4_present.specs.PassedMoofs.{AreCounted, IsBegun, IsCheckedMoof, IsPassed, RefusesFragments}
-use Rattle.mp4_present.specs.Passing.{AreBehind, IsNextMoof, parts_behind, seen_behind}
+use Rattle.mp4_present.specs.PassedMoofs.{IsBegun, IsPassed, RefusesFragments}
+use Rattle.mp4_present.specs.Passing.{AreBehind, IsNextMoof}
 use Rattle.mp4_present.specs.Reading.{RefusesPayload}
 use Rattle.mp4_present.specs.Stands.{Stands}
 use Rattle.mp4_present.specs.declared.outline.Outline.{Outline}
 use Rattle.mp4_present.specs.declared.reading.TopBox.{TopBox}
-use Rattle.mp4_present.specs.declared.tables_pass.Counted.{Counted}
 use Rattle.mp4_present.proofs.FragmentPass.{Left, Next, left_at, left_next, next_boxes, first_passed, whole_file}
 use Rattle.mp4_present.proofs.Opened.{moov_is}
 use Rattle.mp4_present.specs.Movies.{Fills}
-use Rattle.mp4_present.proofs.MoofBehind.{passes_moof, trexes_behind, parts_joined}
+use Rattle.mp4_present.proofs.MoofBehind.{passes_moof, trexes_behind}
 use Rattle.mp4_present.proofs.MoofRefused.{refuses_moof}
 use Rattle.mp4_present.proofs.Order.{not_first}
 
 -- the boxes of the file up to a place were passed, and the `moof`s among them are as they should be
-pub record IsUnderWay (file : List ℕ) (movie : MovieTree) (boxes : List Box) (at most : ℕ) (states : List TrackState) (counted : List Counted) (room : ℕ) : Type 0 where
+pub record IsUnderWay (file : List ℕ) (movie : MovieTree) (boxes : List Box) (at most : ℕ) (states : List TrackState) (room : ℕ) : Type 0 where
   pub fragments : List FragmentTree
   pub bytes : AllByRecursion (λ (t : FragmentTree). AreBytes t.moof.payload) fragments
   pub behind : AreBehind file movie fragments states room
-  pub counts : AreCounted movie.tracks (parts_behind movie fragments) counted
   pub passed : List Box
   pub left : Left file at most
   pub are : boxes ≡ passed ++ left.boxes
@@ -63,9 +51,9 @@ pub record IsUnderWay (file : List ℕ) (movie : MovieTree) (boxes : List Box) (
 
 -- ---- before the first `moof`
 
-pub under_way_first : (file : List ℕ) (movie : MovieTree) (boxes known : List Box) (o : Outline) (states : List TrackState) (counted : List Counted) (room : ℕ) → Holds File (file_container file) known → IsOutline file known o → IsBegun file movie boxes states counted room
-    → IsUnderWay file movie boxes (unwrap_or o.fragments (length file)) o.longest states counted room
-under_way_first file movie boxes known o states counted room holds i b =
+pub under_way_first : (file : List ℕ) (movie : MovieTree) (boxes known : List Box) (o : Outline) (states : List TrackState) (room : ℕ) → Holds File (file_container file) known → IsOutline file known o → IsBegun file movie boxes states room
+    → IsUnderWay file movie boxes (unwrap_or o.fragments (length file)) o.longest states room
+under_way_first file movie boxes known o states room holds i b =
     let same : known ≡ boxes = tiles_one (file_container file) known boxes holds.tiles b.holds.tiles in
     let a = whole_file file known holds in
     let l = left_at file known o.fragments a i.fragments in
@@ -74,7 +62,6 @@ under_way_first file movie boxes known o states counted room holds i b =
       fragments = [];
       bytes = tt;
       behind = b.behind;
-      counts = b.counts;
       passed = f.0;
       left = record { boxes = l.boxes; are_from = l.are_from; short = subst (λ (n : ℕ). longest (of_kind (codes "moof") l.boxes) ≤ n) (sym i.longest) l.short };
       are = sym same ∙ f.1;
@@ -83,15 +70,14 @@ under_way_first file movie boxes known o states counted room holds i b =
 
 -- ---- behind the last one
 
-pub all_passed : (file : List ℕ) (movie : MovieTree) (boxes : List Box) (at most : ℕ) (states : List TrackState) (counted : List Counted) (room : ℕ) → (u : IsUnderWay file movie boxes at most states counted room) → IsNextFragment file at u.left.boxes None
-    → IsPassed file movie boxes states counted
-all_passed file movie boxes at most states counted room u n = record {
+pub all_passed : (file : List ℕ) (movie : MovieTree) (boxes : List Box) (at most : ℕ) (states : List TrackState) (room : ℕ) → (u : IsUnderWay file movie boxes at most states room) → IsNextFragment file at u.left.boxes None
+    → IsPassed file movie boxes states
+all_passed file movie boxes at most states room u n = record {
   fragments = u.fragments;
   bytes = u.bytes;
   moofs = u.moofs ∙ sym (append-nil (of_kind (codes "moof") u.passed)) ∙ ap (λ (bs : List Box). of_kind (codes "moof") u.passed ++ bs) (sym n) ∙ sym (of_kind-append (codes "moof") u.passed u.left.boxes) ∙ ap (of_kind (codes "moof")) (sym u.are);
   room = room;
   behind = u.behind;
-  counts = u.counts;
 }
 
 -- ---- one `moof`
@@ -110,8 +96,8 @@ moov_before before after moof v kind order one = by (of_kind (codes "moov") befo
         let joined : c ∷ cs ++ of_kind (codes "moov") (moof ∷ after) ≡ v ∷ [] = ap (λ (bs : List Box). bs ++ of_kind (codes "moov") (moof ∷ after)) (sym e) ∙ sym (of_kind-append (codes "moov") before (moof ∷ after)) ∙ one in
         e ∙ no_second c v cs (of_kind (codes "moov") (moof ∷ after)) joined
 
-module _ (file : List ℕ) (movie : MovieTree) (boxes : List Box) (at most : ℕ) (start states : List TrackState) (begun counted : List Counted) (whole room : ℕ) (b : IsBegun file movie boxes start begun whole)
-    (u : IsUnderWay file movie boxes at most states counted room) (top : TopBox) (w : IsWhole (length file) top) (n : IsNextFragment file at u.left.boxes (Some top)) where
+module _ (file : List ℕ) (movie : MovieTree) (boxes : List Box) (at most : ℕ) (start states : List TrackState) (whole room : ℕ) (b : IsBegun file movie boxes start whole)
+    (u : IsUnderWay file movie boxes at most states room) (top : TopBox) (w : IsWhole (length file) top) (n : IsNextFragment file at u.left.boxes (Some top)) where
   abbrev moof : Box
   moof = box_at file top
 
@@ -137,55 +123,19 @@ module _ (file : List ℕ) (movie : MovieTree) (boxes : List Box) (at most : ℕ
   pub moof_refused : (f : Fault) → MoofFails (length file) states room moof f → Stands file f
   moof_refused f fails = refuses_moof file movie u.fragments (u.passed ++ n.0) moof states room f b.movie_is u.behind stands_next fails
 
-  trexes_valid : AllByRecursion IsTrex (trexes_of movie)
-  trexes_valid =
-      let of_bytes = movie_of_bytes movie b.bytes b.movie_is.tree in
-      each_value (λ (x : Box). AreBytes x.payload) IsTrex (λ (x : Box). trex_of x.payload) (λ x k. trex_valid x.payload k) (of_kind (codes "trex") movie.extends) (payloads_of_bytes (codes "trex") movie.extends of_bytes.extends)
-
-  -- what is so of samples in their ranges is so of those of its parts
-  in_ranges : (P : PlacedSample → Type 0) → ((keys : List GroupKey) (s : PlacedSample) → IsPlaced (λ d. Unit {0}) (IsMap IsIndex keys) s → P s) → (t : FragmentTree) → AreBytes t.moof.payload → IsSoundMoof (length file) (trexes_of movie) states t
-      → AllByRecursion (λ (part : Part). AllByRecursion P (part_samples part)) (parts_of (trexes_of movie) (fragment_of t))
-  in_ranges P so t bytes sound =
-      let parts = parts_of (trexes_of movie) (fragment_of t) in
-      let valid : AllByRecursion IsPart parts = subst (λ (ps : List Part). AllByRecursion IsPart ps) (append-nil parts) (fragments_valid (trexes_of movie) (t ∷ []) trexes_valid (bytes, tt) (sound.tree, tt) (sound.leaves, tt)) in
-      each_from IsPart IsGrouped (λ (part : Part). AllByRecursion P (part_samples part)) (λ part x y. each_weaker _ P (so (keys_named part.groups)) (part_samples part) (part_placed y.0 part x y.1)) parts valid sound.groups
-
-  module _ (new : List TrackState) (less : ℕ) (sound : IsSoundMoof (length file) (trexes_of movie) states (tree_of moof)) (same : (id : ℕ) → trex_among new id ≡ trex_among states id)
-      (moved : AreMovedOn moof.offset (pos moof.offset) (of_kind (codes "traf") (children_of moof)) states new room less) (have : HaveRoom less new) (bytes : AreBytes moof.payload) where
+  module _ (new : List TrackState) (less : ℕ) (sound : IsSoundMoof (length file) (trexes_of movie) states (tree_of moof))
+      (moved : AreMovedOn moof.offset (pos moof.offset) (of_kind (codes "traf") (children_of moof)) states new room less) (bytes : AreBytes moof.payload) where
     behind_it : AreBehind file movie (u.fragments ++ tree_of moof ∷ []) new less
     behind_it = passes_moof file movie u.fragments moof states new room less b.movie_is u.behind sound moved
 
-    sound_after : IsSoundMoof (length file) (trexes_of movie) new (tree_of moof)
-    sound_after = record {
-      short = sound.short;
-      tree = sound.tree;
-      leaves = sound.leaves;
-      known = each_weaker (λ (part : Part). IsTrue (is_known_among states part)) (λ (part : Part). IsTrue (is_known_among new part)) (λ part k. subst (λ (o : Option Trex). IsTrue (is_some o)) (sym (same part.id)) k) (parts_of (trexes_of movie) (fragment_of (tree_of moof))) sound.known;
-      places = sound.places;
-      groups = sound.groups;
-    }
-
     -- it was accepted
-    pub moof_checked : IsCheckedMoof (length file) movie (parts_behind movie u.fragments) (tree_of moof) moof new
-    moof_checked = record {
-      is_moof = refl;
-      sound = sound_after;
-      trexes = trexes_behind file movie (u.fragments ++ tree_of moof ∷ []) new less behind_it;
-      seen = behind_it.seen ∙ ap (λ (ps : List Part). map (seen_behind movie ps) movie.tracks) (parts_joined movie u.fragments (tree_of moof));
-      short = in_ranges (λ (s : PlacedSample). s.duration < 2 ^ 32) (λ keys s k. k.duration) (tree_of moof) bytes sound;
-      small = in_ranges (λ (s : PlacedSample). s.size < 2 ^ 32) (λ keys s k. k.size) (tree_of moof) bytes sound;
-      few = each_weaker (HasRoom less) (λ (s : TrackState). s.count ≤ 2 ^ 24) (λ s k. (let few = k.few in omega (arith, few))) new have;
-    }
-
-    -- and its samples were counted
-    pub under_way_more : (after : List Counted) → AreCounted movie.tracks (parts_behind movie u.fragments ++ parts_of (trexes_of movie) (fragment_of (tree_of moof))) after → IsUnderWay file movie boxes top.header.end most new after less
-    under_way_more after counts =
+    pub under_way_more : IsUnderWay file movie boxes top.header.end most new less
+    under_way_more =
         let next = left_next file at most top u.left w n in
         record {
           fragments = u.fragments ++ tree_of moof ∷ [];
           bytes = all_append (λ (t : FragmentTree). AreBytes t.moof.payload) u.fragments (tree_of moof ∷ []) u.bytes (bytes, tt);
           behind = behind_it;
-          counts = subst (λ (ps : List Part). AreCounted movie.tracks ps after) (sym (parts_joined movie u.fragments (tree_of moof))) counts;
           passed = (u.passed ++ n.0) ++ moof ∷ [];
           left = next.left;
           are = split ∙ ap (λ (bs : List Box). ((u.passed ++ n.0) ++ moof ∷ []) ++ bs) (sym (next_boxes file at most top u.left w n));
@@ -210,37 +160,33 @@ read_is file top m bytes len r =
     let n : length (take len bytes) ≡ len = omega (arith, length-take len bytes, within) in
     moov_is file (take len bytes) top m r.is (subst (λ (k : ℕ). Fills k top) (sym n) r.fills) (r.read ∙ ap (range file (top.offset + top.header.header)) (sym n))
 
-module _ (file : List ℕ) (movie : MovieTree) (boxes : List Box) (at most : ℕ) (start states : List TrackState) (begun counted : List Counted) (whole room : ℕ) (b : IsBegun file movie boxes start begun whole)
-    (u : IsUnderWay file movie boxes at most states counted room) (top : TopBox) (w : IsWhole (length file) top) (n : IsNextFragment file at u.left.boxes (Some top)) (m : Box) (bytes : List ℕ) (len L : ℕ) (r : IsRead file top m bytes len) (e : L ≡ length file) where
+module _ (file : List ℕ) (movie : MovieTree) (boxes : List Box) (at most : ℕ) (start states : List TrackState) (whole room : ℕ) (b : IsBegun file movie boxes start whole)
+    (u : IsUnderWay file movie boxes at most states room) (top : TopBox) (w : IsWhole (length file) top) (n : IsNextFragment file at u.left.boxes (Some top)) (m : Box) (bytes : List ℕ) (len L : ℕ) (r : IsRead file top m bytes len) (e : L ≡ length file) where
   there : m ≡ box_at file top
   there = read_is file top m bytes len r
 
   -- one more was passed
-  pub next_passed : (view : Box) (new : List TrackState) (after : List Counted) (less : ℕ) → view ≡ m → ((trexes : List Trex) → AreTrexesOf trexes states → IsSoundMoof L trexes states (tree_of m)) → ((id : ℕ) → trex_among new id ≡ trex_among states id)
-      → AreMovedOn m.offset (pos m.offset) (of_kind (codes "traf") (children_of m)) states new room less → HaveRoom less new
-      → ((file_length : ℕ) (film : MovieTree) (parts : List Part) (t : FragmentTree) → IsCheckedMoof file_length film parts t view new → AreCounted film.tracks parts counted → AreCounted film.tracks (parts ++ parts_of (trexes_of film) (fragment_of t)) after)
-      → IsUnderWay file movie boxes top.header.end most new after less
-  next_passed view new after less same sound_by keep moved have counts =
+  pub next_passed : (new : List TrackState) (less : ℕ) → ((trexes : List Trex) → AreTrexesOf trexes states → IsSoundMoof L trexes states (tree_of m)) → AreMovedOn m.offset (pos m.offset) (of_kind (codes "traf") (children_of m)) states new room less
+      → IsUnderWay file movie boxes top.header.end most new less
+  next_passed new less sound_by moved =
       let own = sound_by (trexes_of movie) (trexes_behind file movie u.fragments states room u.behind) in
       let sound : IsSoundMoof (length file) (trexes_of movie) states (tree_of (box_at file top)) = subst (λ (k : ℕ). IsSoundMoof k (trexes_of movie) states (tree_of (box_at file top))) e (subst (λ (x : Box). IsSoundMoof L (trexes_of movie) states (tree_of x)) there own) in
       let on = subst (λ (x : Box). AreMovedOn x.offset (pos x.offset) (of_kind (codes "traf") (children_of x)) states new room less) there moved in
       let of_bytes : AreBytes (box_at file top).payload = subst (λ (x : Box). AreBytes x.payload) there (subst (λ (x : Box). AreBytes x.payload) (sym r.is) (bytes_taken len bytes r.of_bytes)) in
-      let checked = moof_checked file movie boxes at most start states begun counted whole room b u top w n new less sound keep on have of_bytes in
-      let seen : IsCheckedMoof (length file) movie (parts_behind movie u.fragments) (tree_of (box_at file top)) view new = subst (λ (x : Box). IsCheckedMoof (length file) movie (parts_behind movie u.fragments) (tree_of (box_at file top)) x new) (sym (same ∙ there)) checked in
-      under_way_more file movie boxes at most start states begun counted whole room b u top w n new less sound keep on have of_bytes after (counts (length file) movie (parts_behind movie u.fragments) (tree_of (box_at file top)) seen u.counts)
+      under_way_more file movie boxes at most start states whole room b u top w n new less sound on of_bytes
 
   -- it was refused
   pub next_refused : (f : Fault) → MoofFails L states room m f → Stands file f
-  next_refused f fails = moof_refused file movie boxes at most start states begun counted whole room b u top w n f (subst (λ (k : ℕ). MoofFails k states room (box_at file top) f) e (subst (λ (x : Box). MoofFails L states room x f) there fails))
+  next_refused f fails = moof_refused file movie boxes at most start states whole room b u top w n f (subst (λ (k : ℕ). MoofFails k states room (box_at file top) f) e (subst (λ (x : Box). MoofFails L states room x f) there fails))
 
 -- ---- why one is not passed
 
 -- the room is as long as the longest `moof`
-pub not_read : (honest : Bool) (file : List ℕ) (states : List TrackState) (counted : List Counted) (whole : ℕ) (top : TopBox) (most room reads reads_after : ℕ) (r : Refusal) → (IsTrue honest → Next file top most) → room ≡ most
-    → RefusesPayload room top reads reads_after r → RefusesFragments honest file states counted whole reads reads_after r
-not_read honest file states counted whole top most room reads reads_after (refusals.Fault f) n e w = absurd w
-not_read honest file states counted whole top most room reads reads_after refusals.Memory n e w = absurd w
-not_read honest file states counted whole top most room reads reads_after refusals.StoreFailed n e w = w
-not_read honest file states counted whole top most room reads reads_after refusals.StoreChanged n e w = λ told. let short = (n told).short in omega (arith, short, e, w)
-not_read honest file states counted whole top most room reads reads_after refusals.WriteFailed n e w = w
-not_read honest file states counted whole top most room reads reads_after refusals.NoSuchTrack n e w = w
+pub not_read : (honest : Bool) (file : List ℕ) (states : List TrackState) (whole : ℕ) (top : TopBox) (most room reads reads_after : ℕ) (r : Refusal) → (IsTrue honest → Next file top most) → room ≡ most
+    → RefusesPayload room top reads reads_after r → RefusesFragments honest file states whole reads reads_after r
+not_read honest file states whole top most room reads reads_after (refusals.Fault f) n e w = absurd w
+not_read honest file states whole top most room reads reads_after refusals.Memory n e w = absurd w
+not_read honest file states whole top most room reads reads_after refusals.StoreFailed n e w = w
+not_read honest file states whole top most room reads reads_after refusals.StoreChanged n e w = λ told. let short = (n told).short in omega (arith, short, e, w)
+not_read honest file states whole top most room reads reads_after refusals.WriteFailed n e w = w
+not_read honest file states whole top most room reads reads_after refusals.NoSuchTrack n e w = w

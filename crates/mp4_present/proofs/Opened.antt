@@ -25,7 +25,6 @@ use Rattle.mp4_present.specs.Movies.{Fills}
 use Rattle.mp4_present.specs.Outline.{box_at}
 use Rattle.mp4_present.specs.Opening.{HasOutline, HasMovie, RefusesOpen}
 use Rattle.mp4_present.specs.PassedMoofs.{IsBegun, RefusesFragments}
-use Rattle.mp4_present.specs.declared.tables_pass.Counted.{Counted}
 use Rattle.mp4_frag.specs.declared.state.TrackState.{TrackState}
 use Rattle.mp4_present.specs.TrackTrees.{AreTracksOf, RefusesTables, TablesFail}
 use Rattle.mp4_present.proofs.TablesStand.{tables_stand}
@@ -177,11 +176,11 @@ open_not_fit honest file o moov b head file_length reads refusals.StoreChanged i
 open_not_fit honest file o moov b head file_length reads refusals.WriteFailed i says e w = w
 open_not_fit honest file o moov b head file_length reads refusals.NoSuchTrack i says e w = w
 
-pub open_not_passed : (honest : Bool) (file : List ℕ) (states : List TrackState) (counted : List Counted) (room reads reads_after : ℕ) (r : Refusal) → (IsTrue honest → (movie : MovieTree) × (boxes : List Box) × IsBegun file movie boxes states counted room)
-    → RefusesFragments honest file states counted room reads reads_after r → RefusesOpen honest file reads reads_after r
-open_not_passed honest file states counted room reads reads_after (refusals.Fault f) m w = λ told. let k = m told in w told k.0 k.1 k.2
-open_not_passed honest file states counted room reads reads_after refusals.Memory m w = tt
-open_not_passed honest file states counted room reads reads_after refusals.StoreFailed m w = w
-open_not_passed honest file states counted room reads reads_after refusals.StoreChanged m w = w
-open_not_passed honest file states counted room reads reads_after refusals.WriteFailed m w = w
-open_not_passed honest file states counted room reads reads_after refusals.NoSuchTrack m w = w
+pub open_not_passed : (honest : Bool) (file : List ℕ) (states : List TrackState) (room reads reads_after : ℕ) (r : Refusal) → (IsTrue honest → (movie : MovieTree) × (boxes : List Box) × IsBegun file movie boxes states room)
+    → RefusesFragments honest file states room reads reads_after r → RefusesOpen honest file reads reads_after r
+open_not_passed honest file states room reads reads_after (refusals.Fault f) m w = λ told. let k = m told in w told k.0 k.1 k.2
+open_not_passed honest file states room reads reads_after refusals.Memory m w = tt
+open_not_passed honest file states room reads reads_after refusals.StoreFailed m w = w
+open_not_passed honest file states room reads reads_after refusals.StoreChanged m w = w
+open_not_passed honest file states room reads reads_after refusals.WriteFailed m w = w
+open_not_passed honest file states room reads reads_after refusals.NoSuchTrack m w = w

@@ -4,12 +4,11 @@ use Rattle.std.specs.Prelude.{IsTrue}
 use Rattle.std.proofs.Math.Nat.{mul-add, mul-le-mul_left}
 use Rattle.std.proofs.lemmas.List.{length-map}
 use Rattle.mp4_boxes.specs.Box.{Box}
-use Rattle.mp4_tables.specs.Accepted.{IsPlace, passed, rows_in, tables_at}
+use Rattle.mp4_tables.specs.Accepted.{rows_in, tables_at}
 use Rattle.mp4_tables.specs.Leaves.{TablesRead}
 use Rattle.mp4_tables.specs.Tables.{Tables}
 use Rattle.mp4_tables.specs.Views.{TablesSeen, tables_seen}
-use Rattle.mp4_tables.specs.declared.places.TablePlace.{TablePlace}
-use Rattle.mp4_tables.proofs.Passed.{passed_within, rows_fit}
+use Rattle.mp4_tables.proofs.Passed.{rows_fit}
 use Rattle.mp4_tables.proofs.PlaceLists.{count_is}
 use Rattle.mp4_head.specs.Found.{LiesIn, SaysHead}
 use Rattle.mp4_head.specs.declared.heads.MovieHead.{MovieHead}
@@ -24,21 +23,20 @@ use Rattle.mp4_present.proofs.Opened.{IsRead, its_movie}
 shorter : (moov stbl : Box) → LiesIn moov stbl → length stbl.payload ≤ length moov.payload
 shorter moov stbl i = let begins = i.begins in let ends = i.ends in omega (arith, begins, ends)
 
-track_sum : (rows count room way len whole before checked after : ℕ) → 3 * rows ≤ 4 * len → count ≤ room → way ≤ rows + 3 * count → len ≤ whole → checked ≤ before + 4 * len + 2 * count → after ≡ checked + way
+track_sum : (rows count room way len whole before checked after : ℕ) → 3 * rows ≤ 4 * len → count ≤ room → way ≤ rows → len ≤ whole → checked ≤ before + 4 * len + 2 * count → after ≤ checked + way + count
     → after + 5 * (room - count) ≤ before + 5 * room + 6 * whole
 track_sum rows count room way len whole before checked after r f w l c a = omega (arith, r, f, w, l, c, a)
 
--- they were accepted, and a walk went over their samples
-pub track_fits : (file_length n room : ℕ) (moov stbl : Box) (v w : TablesSeen) (p : TablePlace) (count before checked after : ℕ) → LiesIn moov stbl → TablesRead (record { file_len = file_length; descriptions = n; room = room }) stbl v.at → v.payload ≡ stbl.payload → count ≡ length (tables_seen v).sizes
-    → w ≡ v → IsPlace w.payload w.at p → checked ≤ before + 4 * length stbl.payload + 2 * v.at.sizes.rows.count → after ≡ checked + passed p → after + 5 * (room - count) ≤ before + 5 * room + 6 * length moov.payload
-track_fits file_length n room moov stbl v w p count before checked after lies read payload many same place check more =
-    let way = passed_within v.payload v.at p (subst (λ (s : TablesSeen). IsPlace s.payload s.at p) same place) in
+-- they were accepted, and their samples were added up
+pub track_fits : (file_length n room : ℕ) (moov stbl : Box) (v : TablesSeen) (count before checked after : ℕ) → LiesIn moov stbl → TablesRead (record { file_len = file_length; descriptions = n; room = room }) stbl v.at → v.payload ≡ stbl.payload → count ≡ length (tables_seen v).sizes
+    → checked ≤ before + 4 * length stbl.payload + 2 * v.at.sizes.rows.count → after ≤ checked + v.at.durations.count + v.at.sizes.rows.count → after + 5 * (room - count) ≤ before + 5 * room + 6 * length moov.payload
+track_fits file_length n room moov stbl v count before checked after lies read payload many check more =
     let fit = rows_fit stbl.payload v.at read.accepted.have in
     let number : v.at.sizes.rows.count ≡ count = sym (many ∙ count_is v.payload v.at) in
     let own : count ≡ length (tables_at stbl.payload v.at).sizes = many ∙ ap (λ bytes. length (tables_at bytes v.at).sizes) payload in
     let few : count ≤ room = subst (λ (k : ℕ). k ≤ room) (sym (own ∙ ap (λ (t : Tables). length t.sizes) read.same)) read.all.few in
-    track_sum (rows_in v.at) count room (passed p) (length stbl.payload) (length moov.payload) before checked after fit few (subst (λ (k : ℕ). passed p ≤ rows_in v.at + 3 * k) number way) (shorter moov stbl lies)
-    (subst (λ (k : ℕ). checked ≤ before + 4 * length stbl.payload + 2 * k) number check) more
+    track_sum (rows_in v.at) count room v.at.durations.count (length stbl.payload) (length moov.payload) before checked after fit few (omega arith) (shorter moov stbl lies)
+    (subst (λ (k : ℕ). checked ≤ before + 4 * length stbl.payload + 2 * k) number check) (subst (λ (k : ℕ). after ≤ checked + v.at.durations.count + k) number more)
 
 pub of_less : (room less L before after : ℕ) → after + 5 * less ≤ before + 5 * room + 6 * L → after ≤ before + 5 * room + 6 * L
 of_less room less L before after h = omega (arith, h)
@@ -74,8 +72,10 @@ tables_sum tracks whole payload before after h short =
     let two = mul-add (tracks + 1) (2 ^ 24) whole in
     omega (arith, h, each, two)
 
-open_sum : (all before checked after : ℕ) → checked ≤ before + 7 * all → after ≤ checked + all → after ≤ before + 8 * all
-open_sum all before checked after h more = omega (arith, h, more)
+open_sum : (tracks one before checked after : ℕ) → checked ≤ before + 7 * ((tracks + 1) * one) → after ≤ checked + one → after ≤ before + 8 * ((tracks + 1) * one)
+open_sum tracks one before checked after h more =
+    let some : one ≤ (tracks + 1) * one = omega arith in
+    omega (arith, h, more, some)
 
 module _ (honest : Bool) (file : List ℕ) (o : Outline) (moov : List ℕ) (b : Box) (head : MovieHead) (r : IsRead honest file o moov b) (says : SaysHead b head) (told : IsTrue honest) where
   abbrev ids : List ℕ
@@ -102,8 +102,8 @@ module _ (honest : Bool) (file : List ℕ) (o : Outline) (moov : List ℕ) (b : 
   tables_open before after h = let few = tables_few before after h in opens before after (omega (arith, few))
 
   -- `moof`s were checked too
-  pub moofs_open : (n before checked after : ℕ) → n ≡ length head.tracks.items → checked ≤ before + 5 * 2 ^ 24 + 6 * (length head.tracks.items * length b.payload) → after ≤ checked + (n + 1) * (2 ^ 24 + length file) → OpensWithin file before after
-  moofs_open n before checked after e h more = opens before after (open_sum _ before checked after (tables_few before checked h) (subst (λ (k : ℕ). after ≤ checked + (k + 1) * (2 ^ 24 + length file)) e more))
+  pub moofs_open : (before checked after : ℕ) → checked ≤ before + 5 * 2 ^ 24 + 6 * (length head.tracks.items * length b.payload) → after ≤ checked + (2 ^ 24 + length file) → OpensWithin file before after
+  moofs_open before checked after h more = opens before after (open_sum (length head.tracks.items) (2 ^ 24 + length file) before checked after (tables_few before checked h) more)
 
 -- no step was taken
 pub none_open : (file : List ℕ) (start : ℕ) → OpensWithin file start start

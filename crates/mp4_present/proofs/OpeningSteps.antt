@@ -1,5 +1,5 @@
 -- The steps of opening a file.
-use Rattle.std.proofs.Common.{◌≡◌, ℕ, ◌+◌, ◌*◌, ◌≤◌, Bool, List, [], ◌∷◌, length, refl, sym, ap, subst, ◌∙◌, arith}
+use Rattle.std.proofs.Common.{◌≡◌, ℕ, ◌+◌, ◌≤◌, Bool, List, [], ◌∷◌, refl, sym, ap, subst, ◌∙◌, arith}
 use Rattle.std.specs.Prelude.{codes, map, IsTrue}
 use Rattle.mp4_boxes.specs.Bytes.{sum_of}
 use Rattle.mp4_boxes.specs.Box.{Box, file_container}
@@ -15,12 +15,11 @@ use Rattle.mp4_present.specs.Denotes.{FileTree, IsFileTree}
 use Rattle.mp4_present.specs.Movies.{MovieSeen}
 use Rattle.mp4_present.specs.OpenedMovie.{IsOpenedAs}
 use Rattle.mp4_present.specs.Opening.{IsOpened}
-use Rattle.mp4_present.specs.TrackTrees.{IsTrackOf, AreTracksOf}
+use Rattle.mp4_present.specs.TrackTrees.{AreTracksOf}
 use Rattle.mp4_present.specs.Work.{ChecksWithin, moof_steps, moofs_steps, boxes_steps, table_steps, opening_steps}
 use Rattle.mp4_present.specs.declared.outline.Outline.{Outline}
 use Rattle.mp4_present.proofs.Opened.{IsRead, its_moov, tracks_read}
 use Rattle.mp4_present.proofs.TablesWork.{TracksDone}
-use Rattle.mp4_present.proofs.TracksPassed.{zip_length}
 
 -- ---- what the `moof`s of a file say
 
@@ -52,15 +51,13 @@ module _ (honest : Bool) (file : List ℕ) (o : Outline) (moov : List ℕ) (b : 
 
   -- the tables were checked, and no `moof`
   pub tables_counted : (before after : ℕ) → TracksDone head.tracks.items before after → after ≤ before + opening_steps tree
-  tables_counted before after done = some_more before (sum_of table_steps tree.movie.tracks) ((length tree.movie.tracks + 1) * moofs_steps tree.fragments) after (done tree.movie.tracks tracks_are)
+  tables_counted before after done = some_more before (sum_of table_steps tree.movie.tracks) (moofs_steps tree.fragments) after (done tree.movie.tracks tracks_are)
 
   -- `moof`s were checked too
-  pub moofs_counted : (n before checked after : ℕ) → n ≡ length head.tracks.items → TracksDone head.tracks.items before checked → ChecksWithin (n + 1) file checked after → after ≤ before + opening_steps tree
-  moofs_counted n before checked after e done within =
-      let many : n ≡ length tree.movie.tracks = e ∙ sym (zip_length IsTrackOf tree.movie.tracks head.tracks.items tracks_are) in
-      let same : (n + 1) * boxes_steps (of_kind (codes "moof") tree.top) ≡ (length tree.movie.tracks + 1) * moofs_steps tree.fragments = λ i. (many i + 1) * sym (moofs_are file tree is) i in
-      all_more before (sum_of table_steps tree.movie.tracks) ((length tree.movie.tracks + 1) * moofs_steps tree.fragments) checked after (done tree.movie.tracks tracks_are)
-      (subst (λ (m : ℕ). after ≤ checked + m) same (within tree.top is.top))
+  pub moofs_counted : (before checked after : ℕ) → TracksDone head.tracks.items before checked → ChecksWithin file checked after → after ≤ before + opening_steps tree
+  moofs_counted before checked after done within =
+      all_more before (sum_of table_steps tree.movie.tracks) (moofs_steps tree.fragments) checked after (done tree.movie.tracks tracks_are)
+      (subst (λ (m : ℕ). after ≤ checked + m) (sym (moofs_are file tree is)) (within tree.top is.top))
 
 -- ---- a file that was opened
 

@@ -1,5 +1,5 @@
 -- The tracks of a movie behind their tables, one after the other.
-use Rattle.std.proofs.Common.{◌≡◌, ℕ, ◌+◌, ◌-◌, ◌^◌, ◌<◌, ◌≤◌, List, [], ◌∷◌, ◌++◌, length, drop, zero, suc, sym, ap, subst, arith, length-append}
+use Rattle.std.proofs.Common.{◌≡◌, ℕ, ◌+◌, ◌-◌, ◌*◌, ◌^◌, ◌<◌, ◌≤◌, List, [], ◌∷◌, ◌++◌, length, drop, zero, suc, sym, ap, subst, arith, length-append}
 use Rattle.std.specs.List.{AllByRecursion, AllZip}
 use Rattle.mp4_boxes.specs.View.{box_seen}
 use Rattle.mp4_tables.specs.Leaves.{HasTables}
@@ -17,7 +17,6 @@ use Rattle.mp4_present.specs.Movies.{LieIn, table_bytes}
 use Rattle.mp4_present.specs.Plain.{ArePlain, HaveTablesIn}
 use Rattle.mp4_present.specs.declared.movie.TrackTables.{TrackTables}
 use Rattle.mp4_present.specs.declared.tables_pass.PlainTracks.{PlainTracks}
-use Rattle.mp4_present.specs.declared.tables_pass.Counted.{Counted}
 
 -- what holds of each and of one more
 pub all_push : {A : Type 0} (P : A → Type 0) (xs : List A) (x : A) → AllByRecursion P xs → P x → AllByRecursion P (xs ++ x ∷ [])
@@ -36,33 +35,30 @@ lie_in moov stbl t i p n a =
     }
 
 -- one more track was checked
-pub plain_more : (moov : List ℕ) (n count : ℕ) (old new : PlainTracks) (t : TrackTables) (s : TrackState) (x : Counted)
-    → ArePlain moov n old → LieIn moov t → count ≤ old.room → s.count ≡ count → s.time < 2 ^ 64
-    → new.tables.items ≡ old.tables.items ++ t ∷ [] → new.states.items ≡ old.states.items ++ s ∷ [] → new.counted.items ≡ old.counted.items ++ x ∷ [] → new.room ≡ old.room - count
+pub plain_more : (moov : List ℕ) (n count : ℕ) (old new : PlainTracks) (t : TrackTables) (s : TrackState)
+    → ArePlain moov n old → LieIn moov t → count ≤ old.room → s.count ≡ count → s.time < 2 ^ 64 → s.bytes ≤ 2 ^ 32 * count
+    → new.tables.items ≡ old.tables.items ++ t ∷ [] → new.states.items ≡ old.states.items ++ s ∷ [] → new.room ≡ old.room - count
     → ArePlain moov (n + 1) new
-plain_more moov n count old new t s x a l few c time ts ss xs r =
+plain_more moov n count old new t s a l few c time bytes ts ss r =
     let a0 = a.each_tables in
     let a1 = a.each_state in
-    let a2 = a.each_count in
     let most = a.few in
     let less : new.room ≤ old.room = omega (arith, r) in
-    let has : HasRoom new.room s = record { few = omega (arith, r, c, few, most); time = omega (arith, time) } in
+    let has : HasRoom new.room s = record { few = omega (arith, r, c, few, most); time = omega (arith, time); bytes = omega (arith, c, bytes) } in
     record {
       tables = rw ts (all_push (LieIn moov) old.tables.items t a.tables l);
       each_tables = rw (ts, length-append) (omega (arith, a0));
       each_state = rw (ss, length-append) (omega (arith, a1));
-      each_count = rw (xs, length-append) (omega (arith, a2));
       states = rw ss (all_push (HasRoom new.room) old.states.items s (less_room old.room new.room old.states.items less a.states) has);
       few = omega (arith, less, most);
     }
 
 -- no track yet
-pub none_plain : (moov : List ℕ) (p : PlainTracks) → p.tables.items ≡ [] → p.states.items ≡ [] → p.counted.items ≡ [] → p.room ≤ 2 ^ 24 → ArePlain moov 0 p
-none_plain moov p ts ss xs few = record {
+pub none_plain : (moov : List ℕ) (p : PlainTracks) → p.tables.items ≡ [] → p.states.items ≡ [] → p.room ≤ 2 ^ 24 → ArePlain moov 0 p
+none_plain moov p ts ss few = record {
   tables = subst (λ (l : List TrackTables). AllByRecursion (LieIn moov) l) (sym ts) tt;
   each_tables = ap length ts;
   each_state = ap length ss;
-  each_count = ap length xs;
   states = subst (λ (l : List TrackState). HaveRoom p.room l) (sym ss) tt;
   few = few;
 }

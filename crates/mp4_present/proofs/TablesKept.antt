@@ -15,11 +15,12 @@ use Rattle.mp4_boxes.proofs.Each.{each_member, each_weaker}
 use Rattle.mp4_boxes.proofs.OfBytes.{field_below, tiled_of_bytes, payload_of_bytes}
 use Rattle.mp4_boxes.proofs.Refusing.{holds_only}
 use Rattle.mp4_tables.specs.Accepted.{tables_at}
-use Rattle.mp4_tables.specs.Groups.{GroupKey, keys_after}
+use Rattle.mp4_tables.specs.Groups.{keys_after}
 use Rattle.mp4_tables.specs.Keys.{keys_seen}
 use Rattle.mp4_tables.specs.declared.keys.Keys.{Keys}
-use Rattle.mp4_tables.specs.Views.{TablesSeen, CursorSeen, tables_seen, samples_from}
-use Rattle.mp4_tables.specs.Leaves.{AllOf, AreAccepted, TablesRead, boxes_of, tables_in, HasDescriptions, IsFault}
+use Rattle.mp4_tables.specs.Views.{TablesSeen, tables_seen}
+use Rattle.mp4_tables.specs.Leaves.{AllOf, AreAccepted, TablesRead, boxes_of, tables_in, HasDescriptions, NamesFault, IsFault}
+use Rattle.mp4_tables.proofs.Sums.{timed_lasts, timed_bytes}
 use Rattle.mp4_tables.proofs.ChunkReads.{has_descriptions}
 use Rattle.mp4_boxes.specs.declared.fault.Fault.{Fault}
 use Rattle.mp4_tables.specs.PlainSamples.{PlacedSample, plain_samples}
@@ -32,7 +33,7 @@ use Rattle.mp4_tables.proofs.Counts.{samples_counted, plain_length}
 use Rattle.mp4_tables.proofs.SampleLists.{timed_first}
 use Rattle.mp4_tables.proofs.LeafLists.{boxes_are}
 use Rattle.mp4_tables.proofs.Placed.{plain_placed}
-use Rattle.mp4_frag.specs.FragmentSamples.{trex_for, duration_of}
+use Rattle.mp4_frag.specs.FragmentSamples.{trex_for, duration_of, bytes_of}
 use Rattle.mp4_frag.specs.Judged.{track_seen}
 use Rattle.mp4_frag.specs.declared.state.TrackState.{TrackState}
 use Rattle.mp4_frag.specs.declared.trex.Trex.{Trex}
@@ -45,9 +46,8 @@ use Rattle.mp4_present.specs.Denotes.{plain_of, plain_keys}
 use Rattle.mp4_present.specs.OpenedMovie.{AreTablesOf, plain_seen}
 use Rattle.mp4_present.specs.Presentation.{max_samples}
 use Rattle.mp4_present.specs.Stands.{table_total}
-use Rattle.mp4_present.specs.TrackTrees.{IsTrackOf, IsCountOf, HaveTables, TableFails, surroundings_in}
+use Rattle.mp4_present.specs.TrackTrees.{IsTrackOf, HaveTables, TableFails, surroundings_in}
 use Rattle.mp4_present.specs.declared.movie.TrackTables.{TrackTables}
-use Rattle.mp4_present.specs.declared.tables_pass.Counted.{Counted}
 use Rattle.mp4_present.specs.declared.tables_pass.PlainTracks.{PlainTracks}
 use Rattle.mp4_present.proofs.Chain.{is_first}
 use Rattle.mp4_present.proofs.Counts.{sizes_few, sum-append}
@@ -88,17 +88,8 @@ all_sound file_length n room stbl t i s a =
 
 -- ---- samples
 
--- samples handed out one after the other last as long, and have as many bytes
-pub timed_lasts : (keys : List GroupKey) (dts : ℕ) (samples : List PlacedSample) → sum_of (λ (s : SampleAt). s.duration) (timed keys dts samples) ≡ duration_of samples
-timed_lasts keys dts [] = refl
-timed_lasts keys dts (s ∷ samples) = ap (λ (n : ℕ). s.duration + n) (timed_lasts keys (dts + s.duration) samples)
-
-pub timed_bytes : (keys : List GroupKey) (dts : ℕ) (samples : List PlacedSample) → sum_of (λ (s : SampleAt). s.size) (timed keys dts samples) ≡ sum_of (λ (s : PlacedSample). s.size) samples
-timed_bytes keys dts [] = refl
-timed_bytes keys dts (s ∷ samples) = ap (λ (n : ℕ). s.size + n) (timed_bytes keys (dts + s.duration) samples)
-
 -- the sum of a number of each sample, all of them below 2^32
-pub short_sum : (f : PlacedSample → ℕ) (samples : List PlacedSample) → AllByRecursion (λ (s : PlacedSample). f s < 2 ^ 32) samples → sum_of f samples ≤ 2 ^ 32 * length samples
+short_sum : (f : PlacedSample → ℕ) (samples : List PlacedSample) → AllByRecursion (λ (s : PlacedSample). f s < 2 ^ 32) samples → sum_of f samples ≤ 2 ^ 32 * length samples
 short_sum f [] h = omega arith
 short_sum f (s ∷ samples) h = let own = h.0 in omega (arith, own, short_sum f samples h.1)
 
@@ -129,25 +120,23 @@ zip_more R [] (w ∷ ys) x y z r = absurd z
 zip_more R (v ∷ xs) [] x y z r = absurd z
 zip_more R (v ∷ xs) (w ∷ ys) x y z r = (z.0, zip_more R xs ys x y z.1 r)
 
--- what was read of the tables of a track, and what a walk over their samples came to
-pub record IsRead (file_length n room count lasts bytes : ℕ) (h : TrackHead) (v : TablesSeen) (cursor : CursorSeen) (keys : Keys) : Type 0 where
+-- what was read of the tables of a track, and what their samples came to
+pub record IsRead (file_length n room count lasts bytes : ℕ) (h : TrackHead) (v : TablesSeen) (keys : Keys) : Type 0 where
   pub of_bytes : AreBytes (box_seen h.stbl).payload
   pub descriptions : n ≡ min (length h.media.descriptions.items) (2 ^ 32 - 1)
   pub payload : v.payload ≡ (box_seen h.stbl).payload
   pub read : TablesRead (record { file_len = file_length; descriptions = n; room = room }) (box_seen h.stbl) v.at
   pub named : keys_seen keys ≡ keys_after [] (tables_in (box_seen h.stbl)).groups
   pub count_is : count ≡ length (tables_seen v).sizes
-  pub tables : cursor.tables ≡ v
-  pub first : cursor.place.number ≡ 0
-  pub duration : lasts ≡ min (sum_of (λ (s : SampleAt). s.duration) (samples_from cursor)) (2 ^ 64 - 1)
-  pub size : bytes ≡ min (sum_of (λ (s : SampleAt). s.size) (samples_from cursor)) (2 ^ 64 - 1)
+  pub duration : lasts ≡ min (sum_of (λ (s : SampleAt). s.duration) (samples_of (tables_seen v))) (2 ^ 64 - 1)
+  pub size : bytes ≡ min (sum_of (λ (s : SampleAt). s.size) (samples_of (tables_seen v))) (2 ^ 64 - 1)
 
 -- a number that no cap changes
 uncapped : (a b c n : ℕ) → a ≡ min b (2 ^ 64 - 1) → b ≡ c → c ≤ 2 ^ 32 * n → n ≤ 2 ^ 24 → a ≡ c
 uncapped a b c n e f h k = omega arith
 
-module _ (file_length n room count lasts bytes : ℕ) (moov : Box) (h : TrackHead) (v : TablesSeen) (cursor : CursorSeen) (keys : Keys) (t : TrackTree)
-    (i : IsTrackOf t h) (r : IsRead file_length n room count lasts bytes h v cursor keys) where
+module _ (file_length n room count lasts bytes : ℕ) (moov : Box) (h : TrackHead) (v : TablesSeen) (keys : Keys) (t : TrackTree)
+    (i : IsTrackOf t h) (r : IsRead file_length n room count lasts bytes h v keys) where
   stbl_is : box_seen h.stbl ≡ stbl_of t
   stbl_is = i.found.stbl
 
@@ -187,10 +176,8 @@ module _ (file_length n room count lasts bytes : ℕ) (moov : Box) (h : TrackHea
   keys_are : keys_seen keys ≡ plain_keys t
   keys_are = r.named ∙ ap (λ (b : Box). keys_after [] (tables_in b).groups) stbl_is ∙ ap (λ (bs : List Box). keys_after [] (tables_of bs).groups) boxes_same
 
-  -- the walk went over the samples of the tables
-  coming : samples_from cursor ≡ timed (plain_keys t) 0 (plain_of t)
-  coming =
-      (λ j. drop (r.first j) (samples_of (tables_seen (r.tables j)))) ∙ timed_first (tables_seen v) ∙ ap (λ (x : Tables). timed (keys_after [] x.groups) 0 (plain_samples x)) seen_same
+  coming : samples_of (tables_seen v) ≡ timed (plain_keys t) 0 (plain_of t)
+  coming = timed_first (tables_seen v) ∙ ap (λ (x : Tables). timed (keys_after [] x.groups) 0 (plain_samples x)) seen_same
 
   pub count_are : count ≡ length (plain_of t)
   count_are = r.count_is ∙ ap (λ (x : Tables). length x.sizes) seen_same ∙ sym (plain_length (surroundings_in file_length t) (tables_of t.table) fit_is)
@@ -210,13 +197,20 @@ module _ (file_length n room count lasts bytes : ℕ) (moov : Box) (h : TrackHea
 
   pub lasts_are : room ≤ 2 ^ 24 → lasts ≡ duration_of (plain_of t)
   lasts_are k =
-      let same : sum_of (λ (s : SampleAt). s.duration) (samples_from cursor) ≡ duration_of (plain_of t) = ap (λ (ss : List SampleAt). sum_of (λ (s : SampleAt). s.duration) ss) coming ∙ timed_lasts (plain_keys t) 0 (plain_of t) in
+      let same : sum_of (λ (s : SampleAt). s.duration) (samples_of (tables_seen v)) ≡ duration_of (plain_of t) = ap (λ (ss : List SampleAt). sum_of (λ (s : SampleAt). s.duration) ss) coming ∙ timed_lasts (plain_keys t) 0 (plain_of t) in
       uncapped lasts _ (duration_of (plain_of t)) (length (plain_of t)) r.duration same (short_sum (λ (s : PlacedSample). s.duration) (plain_of t) short) (omega (arith, few, k))
 
-  pub counted_are : (c : Counted) → c.samples ≡ count → c.bytes ≡ bytes → IsCountOf (plain_of t) c
-  counted_are c e f =
-      let same : sum_of (λ (s : SampleAt). s.size) (samples_from cursor) ≡ sum_of (λ (s : PlacedSample). s.size) (plain_of t) = ap (λ (ss : List SampleAt). sum_of (λ (s : SampleAt). s.size) ss) coming ∙ timed_bytes (plain_keys t) 0 (plain_of t) in
-      record { samples_are = e ∙ count_are; bytes_are = f ∙ r.size ∙ ap (λ (m : ℕ). min m (2 ^ 64 - 1)) same; small = small_sizes }
+  pub bytes_come : room ≤ 2 ^ 24 → bytes ≡ bytes_of (plain_of t)
+  bytes_come k =
+      let same : sum_of (λ (s : SampleAt). s.size) (samples_of (tables_seen v)) ≡ bytes_of (plain_of t) = ap (λ (ss : List SampleAt). sum_of (λ (s : SampleAt). s.size) ss) coming ∙ timed_bytes (plain_keys t) 0 (plain_of t) in
+      uncapped bytes _ (bytes_of (plain_of t)) (length (plain_of t)) r.size same (short_sum (λ (s : PlacedSample). s.size) (plain_of t) small_sizes) (omega (arith, few, k))
+
+  -- 32 bits hold the size of each
+  pub bytes_few : room ≤ 2 ^ 24 → bytes ≤ 2 ^ 32 * count
+  bytes_few k =
+      let all = bytes_come k in
+      let short = short_sum (λ (s : PlacedSample). s.size) (plain_of t) small_sizes in
+      omega (arith, all, short, count_are)
 
   pub tables_are : (x : TrackTables) → LiesIn moov (box_seen h.stbl) → x.place ≡ ((box_seen h.stbl).offset + (box_seen h.stbl).header) - (moov.offset + moov.header) → x.len ≡ length (box_seen h.stbl).payload → x.tables ≡ v.at → AreTablesOf moov.payload t x
   tables_are x lies place len at = record {
@@ -224,16 +218,17 @@ module _ (file_length n room count lasts bytes : ℕ) (moov : Box) (h : TrackHea
     says = ap (λ (a : TablesAt). tables_at (stbl_of t).payload a) at ∙ tables_same;
   }
 
-  pub state_is : (trexes : List Trex) (s : TrackState) → room ≤ 2 ^ 24 → s.id ≡ h.id → s.descriptions ≡ n → s.trex ≡ trex_for trexes h.id → s.start ≡ 0 → s.count ≡ count → s.time ≡ lasts → s.keys ≡ keys → track_seen s ≡ plain_seen trexes t
-  state_is trexes s k id descriptions trex start counted time named =
+  pub state_is : (trexes : List Trex) (s : TrackState) → room ≤ 2 ^ 24 → s.id ≡ h.id → s.descriptions ≡ n → s.trex ≡ trex_for trexes h.id → s.start ≡ 0 → s.count ≡ count → s.time ≡ lasts → s.bytes ≡ bytes → s.keys ≡ keys → track_seen s ≡ plain_seen trexes t
+  state_is trexes s k id descriptions trex start counted time sizes named =
       let same : h.id ≡ (track_head_of t).id = ap (λ (x : heads.TrackHead). x.id) i.says in
       let id_is : s.id ≡ (track_head_of t).id = id ∙ same in
       let descriptions_is : s.descriptions ≡ length t.descriptions = descriptions ∙ descriptions_are in
       let trex_is : s.trex ≡ trex_for trexes (track_head_of t).id = trex ∙ ap (trex_for trexes) same in
       let count_is : s.count ≡ length (plain_of t) = counted ∙ count_are in
       let time_is : s.time ≡ duration_of (plain_of t) = time ∙ lasts_are k in
+      let bytes_is : s.bytes ≡ bytes_of (plain_of t) = sizes ∙ bytes_come k in
       let keys_is : keys_seen s.keys ≡ plain_keys t = ap keys_seen named ∙ keys_are in
-      λ j. record { id = id_is j; descriptions = descriptions_is j; trex = trex_is j; start = start j; count = count_is j; time = time_is j; keys = keys_is j }
+      λ j. record { id = id_is j; descriptions = descriptions_is j; trex = trex_is j; start = start j; count = count_is j; time = time_is j; bytes = bytes_is j; keys = keys_is j }
 
   -- the room falls by the samples of the track
   left_is : (old new : ℕ) (before : ℕ) → old + before ≡ max_samples → new ≡ old - count → old ≡ room → new + (before + (sample_count (payload_among sample_sizes t.table) + 0)) ≡ max_samples
@@ -244,12 +239,12 @@ module _ (file_length n room count lasts bytes : ℕ) (moov : Box) (h : TrackHea
       omega (arith, e, f, g, k, c, m)
 
   -- One more track is behind its tables.
-  pub tables_more : (trexes : List Trex) (trees : List TrackTree) (old new : PlainTracks) (x : TrackTables) (s : TrackState) (c : Counted)
+  pub tables_more : (trexes : List Trex) (trees : List TrackTree) (old new : PlainTracks) (x : TrackTables) (s : TrackState)
       → HaveTables file_length moov.payload trexes trees old → room ≤ 2 ^ 24 → old.room ≡ room → new.room ≡ old.room - count
-      → AreTablesOf moov.payload t x → track_seen s ≡ plain_seen trexes t → IsCountOf (plain_of t) c
-      → new.tables.items ≡ old.tables.items ++ x ∷ [] → new.states.items ≡ old.states.items ++ s ∷ [] → new.counted.items ≡ old.counted.items ++ c ∷ []
+      → AreTablesOf moov.payload t x → track_seen s ≡ plain_seen trexes t
+      → new.tables.items ≡ old.tables.items ++ x ∷ [] → new.states.items ≡ old.states.items ++ s ∷ []
       → HaveTables file_length moov.payload trexes (trees ++ t ∷ []) new
-  tables_more trexes trees old new x s c a k e f tables state counted xs ss cs =
+  tables_more trexes trees old new x s a k e f tables state xs ss =
       let total : table_total (trees ++ t ∷ []) ≡ table_total trees + (sample_count (payload_among sample_sizes t.table) + 0) = sum-append (λ (u : TrackTree). sample_count (payload_among sample_sizes u.table)) trees (t ∷ []) in
       let left = left_is old.room new.room (table_total trees) a.room f e in
       record {
@@ -257,27 +252,25 @@ module _ (file_length n room count lasts bytes : ℕ) (moov : Box) (h : TrackHea
         fit = each_more (λ (u : TrackTree). Fit (surroundings_in file_length u) (tables_of u.table)) trees t a.fit fit_is;
         tables = subst (λ (ys : List TrackTables). AllZip (AreTablesOf moov.payload) (trees ++ t ∷ []) ys) (sym xs) (zip_more (AreTablesOf moov.payload) trees old.tables.items t x a.tables tables);
         states = ap (map track_seen) ss ∙ map-append track_seen old.states.items (s ∷ []) ∙ (λ j. a.states j ++ state j ∷ []) ∙ sym (map-append (plain_seen trexes) trees (t ∷ []));
-        counted = subst (λ (ys : List Counted). AllZip (λ (u : TrackTree) (d : Counted). IsCountOf (plain_of u) d) (trees ++ t ∷ []) ys) (sym cs) (zip_more (λ (u : TrackTree) (d : Counted). IsCountOf (plain_of u) d) trees old.counted.items t c a.counted counted);
         room = ap (λ (m : ℕ). new.room + m) total ∙ left;
       }
 
 -- no track yet
-pub tables_none : (file_length : ℕ) (moov : List ℕ) (trexes : List Trex) (p : PlainTracks) → p.tables.items ≡ [] → p.states.items ≡ [] → p.counted.items ≡ [] → p.room ≡ 2 ^ 24 → HaveTables file_length moov trexes [] p
-tables_none file_length moov trexes p ts ss cs e = record {
+pub tables_none : (file_length : ℕ) (moov : List ℕ) (trexes : List Trex) (p : PlainTracks) → p.tables.items ≡ [] → p.states.items ≡ [] → p.room ≡ 2 ^ 24 → HaveTables file_length moov trexes [] p
+tables_none file_length moov trexes p ts ss e = record {
   sound = tt;
   fit = tt;
   tables = subst (λ (ys : List TrackTables). AllZip (AreTablesOf moov) [] ys) (sym ts) tt;
   states = ap (map track_seen) ss;
-  counted = subst (λ (ys : List Counted). AllZip (λ (u : TrackTree) (d : Counted). IsCountOf (plain_of u) d) [] ys) (sym cs) tt;
   room = omega (arith, e);
 }
 
 -- The fault that a check names is one of the tables of the track.
 pub table_fails : (file_length n room : ℕ) (h : TrackHead) (t : TrackTree) (f : Fault) → IsTrackOf t h → AreBytes (box_seen h.stbl).payload → n ≡ min (length h.media.descriptions.items) (2 ^ 32 - 1)
-    → (HasDescriptions (box_seen h.stbl) → IsFault (record { file_len = file_length; descriptions = n; room = room }) (box_seen h.stbl) f) → TableFails file_length room t f
+    → NamesFault (record { file_len = file_length; descriptions = n; room = room }) (box_seen h.stbl) f → TableFails file_length room t f
 table_fails file_length n room h t f i bytes e fault =
     let stbl = i.found.stbl in
     let count = as_many t h n i (subst (λ (b : Box). AreBytes b.payload) stbl bytes) e in
     let own : HasDescriptions (box_seen h.stbl) = subst HasDescriptions (sym stbl) (has_descriptions (stbl_of t) t.table i.tree.table i.sound.stsd) in
     subst (λ (m : ℕ). IsFault (record { file_len = file_length; descriptions = m; room = room }) (stbl_of t) f) count
-    (subst (λ (b : Box). IsFault (record { file_len = file_length; descriptions = n; room = room }) b f) stbl (fault own))
+    (subst (λ (b : Box). IsFault (record { file_len = file_length; descriptions = n; room = room }) b f) stbl (fault (λ _. own)))

@@ -6,16 +6,14 @@ use Rattle.mp4_boxes.specs.Box.{Box}
 use Rattle.mp4_boxes.specs.View.{box_seen}
 use Rattle.mp4_boxes.specs.declared.refusal.Refusal.{Refusal}
 use Rattle.mp4_boxes.specs.declared.refusal.Refusal.TheVariants as refusals
-use Rattle.mp4_tables.specs.Accepted.{IsPlace, passed, rows_in, tables_at}
+use Rattle.mp4_tables.specs.Accepted.{rows_in, tables_at}
 use Rattle.mp4_tables.specs.Leaves.{TablesRead, boxes_of}
 use Rattle.mp4_tables.specs.TableRules.{Surroundings, Fit}
 use Rattle.mp4_tables.specs.Tables.{Tables, tables_of}
 use Rattle.mp4_tables.specs.Views.{TablesSeen}
 use Rattle.mp4_tables.specs.Work.{table_rows}
-use Rattle.mp4_tables.specs.declared.places.TablePlace.{TablePlace}
 use Rattle.mp4_tables.proofs.Counts.{plain_length}
 use Rattle.mp4_tables.proofs.LeafLists.{boxes_are}
-use Rattle.mp4_tables.proofs.Passed.{passed_within}
 use Rattle.mp4_tables.proofs.PlaceLists.{count_is}
 use Rattle.mp4_tables.proofs.TableRows.{rows_are}
 use Rattle.mp4_head.specs.Tree.{TrackTree, stbl_of}
@@ -51,23 +49,22 @@ none_taken n more = omega arith
 
 -- ---- one track
 
-track_sum : (rows count said samples way before checked after : ℕ) → rows ≡ said → samples ≡ count → way ≤ rows + 3 * count → checked ≤ before + 6 * rows + 2 * count → after ≡ checked + way → after ≤ before + (7 * said + 5 * samples)
+track_sum : (rows count said samples way before checked after : ℕ) → rows ≡ said → samples ≡ count → way ≤ rows → checked ≤ before + 6 * rows + 2 * count → after ≤ checked + way + count → after ≤ before + (7 * said + 3 * samples)
 track_sum rows count said samples way before checked after r s w c a = omega (arith, r, s, w, c, a)
 
--- the check of a track's tables, and the walk over their samples
-pub track_within : (file_length n room : ℕ) (h : TrackHead) (v w : TablesSeen) (p : TablePlace) (before checked after : ℕ) → TablesRead (record { file_len = file_length; descriptions = n; room = room }) (box_seen h.stbl) v.at → w ≡ v → IsPlace w.payload w.at p
-    → checked ≤ before + 6 * rows_in v.at + 2 * v.at.sizes.rows.count → after ≡ checked + passed p → (t : TrackTree) → IsTrackOf t h → after ≤ before + table_steps t
+-- the check of a track's tables, and the sums over their rows and sizes
+pub track_within : (file_length n room : ℕ) (h : TrackHead) (v : TablesSeen) (before checked after : ℕ) → TablesRead (record { file_len = file_length; descriptions = n; room = room }) (box_seen h.stbl) v.at
+    → checked ≤ before + 6 * rows_in v.at + 2 * v.at.sizes.rows.count → after ≤ checked + v.at.durations.count + v.at.sizes.rows.count → (t : TrackTree) → IsTrackOf t h → after ≤ before + table_steps t
 unfolding table_steps
-track_within file_length n room h v w p before checked after read same place check more t i =
+track_within file_length n room h v before checked after read check more t i =
     let round : Surroundings = record { file_length = file_length; descriptions = n } in
-    let way = passed_within v.payload v.at p (subst (λ (s : TablesSeen). IsPlace s.payload s.at p) same place) in
     let own : TablesRead (record { file_len = file_length; descriptions = n; room = room }) (stbl_of t) v.at = subst (λ (b : Box). TablesRead (record { file_len = file_length; descriptions = n; room = room }) b v.at) i.found.stbl read in
     let boxes : boxes_of (stbl_of t) ≡ t.table = boxes_are (stbl_of t) t.table i.tree.table.tiles in
     let tables : tables_at (stbl_of t).payload v.at ≡ tables_of t.table = own.same ∙ ap tables_of boxes in
     let fit : Fit round (tables_of t.table) = subst (λ (bs : List Box). Fit round (tables_of bs)) boxes own.all.fit in
     let rows : rows_in v.at ≡ table_rows (tables_of t.table) = rows_are (stbl_of t).payload v.at own.accepted.have ∙ ap table_rows tables in
     let samples : length (plain_of t) ≡ v.at.sizes.rows.count = plain_length round (tables_of t.table) fit ∙ ap (λ (x : Tables). length x.sizes) (sym tables) ∙ count_is (stbl_of t).payload v.at in
-    track_sum (rows_in v.at) v.at.sizes.rows.count (table_rows (tables_of t.table)) (length (plain_of t)) (passed p) before checked after rows samples way check more
+    track_sum (rows_in v.at) v.at.sizes.rows.count (table_rows (tables_of t.table)) (length (plain_of t)) v.at.durations.count before checked after rows samples (omega arith) check more
 
 -- ---- one track after the other
 

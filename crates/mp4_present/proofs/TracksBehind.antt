@@ -7,9 +7,9 @@ use Rattle.std.proofs.lemmas.List.{append-nil}
 use Rattle.mp4_tables.specs.Groups.{GroupKey, GroupRule, Grouping, keys_after, keys_with}
 use Rattle.mp4_tables.specs.PlainSamples.{PlacedSample}
 use Rattle.mp4_frag.specs.declared.trex.Trex.{Trex}
-use Rattle.mp4_frag.specs.FragmentSamples.{Part, part_samples, has_samples, start_of, duration_of, is_on_time, AreOnTime, has_groups, keys_behind, AreGrouped}
+use Rattle.mp4_frag.specs.FragmentSamples.{Part, part_samples, has_samples, start_of, duration_of, is_on_time, AreOnTime, has_groups, keys_behind, AreGrouped, bytes_of}
 use Rattle.mp4_frag.specs.Judged.{TrackSeen, track_behind}
-use Rattle.mp4_frag.proofs.RunsTied.{duration-append}
+use Rattle.mp4_frag.proofs.RunsTied.{duration-append, bytes-append}
 
 -- ---- the samples of parts
 
@@ -32,6 +32,9 @@ has_some part e = ltb-true 0 (length (part_samples part)) e
 
 lasts_none : (xs : List PlacedSample) → length xs ≡ 0 → duration_of xs ≡ 0
 lasts_none xs e = ap duration_of (empty xs e)
+
+fills_none : (xs : List PlacedSample) → length xs ≡ 0 → bytes_of xs ≡ 0
+fills_none xs e = ap bytes_of (empty xs e)
 
 -- ---- the first part with samples
 
@@ -112,6 +115,7 @@ seen_after id descriptions trex plain keys own = record {
   start = start_of plain own;
   count = length (plain ++ samples_of own);
   time = start_of plain own + duration_of plain + duration_of (samples_of own);
+  bytes = bytes_of plain + bytes_of (samples_of own);
   keys = keys_behind keys own;
 }
 
@@ -140,6 +144,9 @@ module _ (id descriptions : ℕ) (trex : Option Trex) (plain : List PlacedSample
   lasts_more : duration_of (samples_of (own ++ part ∷ [])) ≡ duration_of (samples_of own) + duration_of (part_samples part)
   lasts_more = ap duration_of (samples_more own part) ∙ duration-append (samples_of own) (part_samples part)
 
+  bytes_more : (bytes_of plain + bytes_of (samples_of own)) + bytes_of (part_samples part) ≡ bytes_of plain + bytes_of (samples_of (own ++ part ∷ []))
+  bytes_more = let joined = ap bytes_of (samples_more own part) ∙ bytes-append (samples_of own) (part_samples part) in omega (arith, joined)
+
   -- the first samples of the track
   first_more : has_samples part ≡ true → length (plain ++ samples_of own) ≡ 0
       → track_behind (seen_after id descriptions trex plain keys own) part ≡ seen_after id descriptions trex plain keys (own ++ part ∷ [])
@@ -158,6 +165,7 @@ module _ (id descriptions : ℕ) (trex : Option Trex) (plain : List PlacedSample
         start = (at_none (length (plain ++ samples_of own)) (says_time part) (start_of plain own) z ∙ sym starts) i;
         count = count_more i;
         time = timely when starts no_plain no_own i;
+        bytes = bytes_more i;
         keys = keys_more keys own part i;
       })
     where
@@ -180,6 +188,7 @@ module _ (id descriptions : ℕ) (trex : Option Trex) (plain : List PlacedSample
         start = (at_some (length (plain ++ samples_of own)) (says_time part) (start_of plain own) s ∙ sym starts) i;
         count = count_more i;
         time = timely _ when starts i;
+        bytes = bytes_more i;
         keys = keys_more keys own part i;
       })
     where
@@ -201,11 +210,15 @@ module _ (id descriptions : ℕ) (trex : Option Trex) (plain : List PlacedSample
         start = sym starts i;
         count = counted none i;
         time = timely starts lasts i;
+        bytes = filled none i;
         keys = keys_more keys own part i;
       })
     where
       counted : length (part_samples part) ≡ 0 → length (plain ++ samples_of own) ≡ length (plain ++ samples_of (own ++ part ∷ []))
       counted n = omega (arith, n, count_more)
+
+      filled : length (part_samples part) ≡ 0 → bytes_of plain + bytes_of (samples_of own) ≡ bytes_of plain + bytes_of (samples_of (own ++ part ∷ []))
+      filled n = let empty = fills_none (part_samples part) n in omega (arith, empty, bytes_more)
 
       timely : start_of plain (own ++ part ∷ []) ≡ start_of plain own → duration_of (part_samples part) ≡ 0
           → start_of plain own + duration_of plain + duration_of (samples_of own) ≡ start_of plain (own ++ part ∷ []) + duration_of plain + duration_of (samples_of (own ++ part ∷ []))

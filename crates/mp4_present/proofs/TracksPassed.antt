@@ -32,6 +32,10 @@ zip_length R [] (y ∷ ys) z = absurd z
 zip_length R (x ∷ xs) [] z = absurd z
 zip_length R (x ∷ xs) (y ∷ ys) z = ap suc (zip_length R xs ys z.1)
 
+-- the head of each track was read of a tree
+pub read_of : (tracks : List TrackHead) (k : ℕ) (h : TrackHead) → k < length tracks → h ≡ slice_index_or tracks k h → (trees : List TrackTree) × AreTracksOf trees tracks → (t : TrackTree) × IsTrackOf t h
+read_of tracks k h lt e r = let b = beside IsTrackOf r.0 tracks k h r.1 lt in (b.x, subst (IsTrackOf b.x) (sym e) b.goes)
+
 one_more : (k : ℕ) → suc k ≡ k + 1
 one_more k = omega arith
 

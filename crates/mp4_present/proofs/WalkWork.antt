@@ -1,5 +1,5 @@
--- The steps of a check of a `moof`, and of the way to a place in it; and of as many turns of a loop.
-use Rattle.std.proofs.Common.{◌≡◌, ℕ, ◌+◌, ◌*◌, ◌≤◌, List, subst, arith, mul-le-mul_right}
+-- The steps of a check of a `moof`, and of the way to a place in it.
+use Rattle.std.proofs.Common.{◌≡◌, ℕ, ◌+◌, ◌≤◌, List, subst, arith}
 use Rattle.mp4_boxes.specs.Box.{Box}
 use Rattle.mp4_frag.specs.Work.{fragment_rows, fragment_length, moof_says}
 use Rattle.mp4_frag.specs.declared.state.TrackState.{TrackState}
@@ -25,11 +25,3 @@ checked_within old new room less before after view box e m cost =
 pub place_within : (moof : Box) (payload : List ℕ) (n : ℕ) → payload ≡ moof.payload → ((b : Box) → payload ≡ b.payload → n ≤ fragment_rows (moof_says b) + fragment_length (moof_says b)) → n ≤ moof_steps moof
 unfolding moof_steps
 place_within moof payload n e said = said moof e
-
--- ---- as many turns, each of no more steps
-
-pub one_more : (each k start before after : ℕ) → before ≤ start + k * each → after ≤ before + each → after ≤ start + (k + 1) * each
-one_more each k start before after h more = omega (arith, h, more)
-
-pub all_turns : (each k n start now : ℕ) → k ≤ n → now ≤ start + k * each → now ≤ start + n * each
-all_turns each k n start now few h = let all = mul-le-mul_right each few in omega (arith, h, all)

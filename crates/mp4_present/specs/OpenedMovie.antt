@@ -8,12 +8,12 @@ use Rattle.mp4_tables.specs.Keys.{keys_seen}
 use Rattle.mp4_tables.specs.PlainSamples.{PlacedSample}
 use Rattle.mp4_tables.specs.Tables.{tables_of}
 use Rattle.mp4_frag.specs.Fragments.{FragmentTree}
-use Rattle.mp4_frag.specs.FragmentSamples.{trex_for, duration_of, keys_behind}
+use Rattle.mp4_frag.specs.FragmentSamples.{trex_for, duration_of, keys_behind, bytes_of}
 use Rattle.mp4_frag.specs.Judged.{TrackSeen, track_seen}
 use Rattle.mp4_frag.specs.declared.trex.Trex.{Trex}
 use Rattle.mp4_head.specs.Tree.{TrackTree, stbl_of, track_head_of, trexes_of}
-use Rattle.mp4_present.specs.Presentation.{IsWithinLimits, max_samples, movie_length, total_duration}
-use Rattle.mp4_present.specs.Denotes.{FileTree, IsFileTree, IsSoundFile, IsConsistent, plain_of, plain_keys, file_parts, parts_of_track, placed_of, track_of, presentation_of}
+use Rattle.mp4_present.specs.Presentation.{Track, Presentation, IsWithinLimits, max_samples, movie_length, total_duration}
+use Rattle.mp4_present.specs.Denotes.{FileTree, Denotes, IsFileTree, IsSoundFile, IsConsistent, plain_of, plain_keys, file_parts, parts_of_track, placed_of, track_of, presentation_of}
 use Rattle.mp4_present.specs.Stands.{table_total}
 use Rattle.mp4_present.specs.Movies.{MovieSeen, moov_box, table_bytes}
 use Rattle.mp4_present.specs.Outline.{BeginAt, longest}
@@ -21,7 +21,6 @@ use Rattle.mp4_frag.specs.declared.state.TrackState.{TrackState}
 use Rattle.mp4_head.specs.declared.heads.TrackHead.{TrackHead}
 use Rattle.mp4_present.specs.declared.opening.Found.{Found}
 use Rattle.mp4_present.specs.declared.outline.Outline.{Outline}
-use Rattle.mp4_present.specs.declared.tables_pass.Counted.{Counted}
 use Rattle.mp4_present.specs.declared.movie.TrackTables.{TrackTables}
 use Rattle.mp4_present.specs.declared.track_info.TrackInfo.{TrackInfo}
 
@@ -39,6 +38,7 @@ plain_seen trexes t = record {
   start = 0;
   count = length (plain_of t);
   time = duration_of (plain_of t);
+  bytes = bytes_of (plain_of t);
   keys = plain_keys t;
 }
 
@@ -52,21 +52,21 @@ pub record IsInfoOf (file : List ℕ) (tree : FileTree) (t : TrackTree) (info : 
   pub bytes : info.bytes ≡ sum_of (λ (s : PlacedSample). s.size) (placed_of (file_parts tree) t)
   pub keys : keys_seen info.keys ≡ keys_behind (plain_keys t) (parts_of_track (file_parts tree) t)
 
--- What was read of a track, and counted of its samples, in numbers.
-pub record IsInfoBy (h : TrackHead) (s : TrackState) (c : Counted) (info : TrackInfo) : Type 0 where
+-- What was read of a track, and is known of it behind its samples, in numbers.
+pub record IsInfoBy (h : TrackHead) (s : TrackState) (info : TrackInfo) : Type 0 where
   pub id : info.id ≡ h.id
   pub timescale : info.timescale ≡ h.media.timescale
   pub start : info.start ≡ s.start
   pub samples : info.samples ≡ s.count
   pub duration : info.duration ≡ min (s.time - s.start) (2 ^ 64 - 1)
-  pub bytes : info.bytes ≡ c.bytes
+  pub bytes : info.bytes ≡ s.bytes
   pub keys : info.keys ≡ s.keys
 
 -- the same of all tracks
-abbrev pub AreInfosBy : List TrackHead → List TrackState → List Counted → List TrackInfo → Type 0
-AreInfosBy [] [] [] [] = ⊤
-AreInfosBy (h ∷ heads) (s ∷ states) (c ∷ counted) (info ∷ infos) = IsInfoBy h s c info × AreInfosBy heads states counted infos
-AreInfosBy _ _ _ _ = ⊥
+abbrev pub AreInfosBy : List TrackHead → List TrackState → List TrackInfo → Type 0
+AreInfosBy [] [] [] = ⊤
+AreInfosBy (h ∷ heads) (s ∷ states) (info ∷ infos) = IsInfoBy h s info × AreInfosBy heads states infos
+AreInfosBy _ _ _ = ⊥
 
 -- the `moov` and each `moof` is of bytes
 pub record AreOfBytes (t : FileTree) : Type 0 where
@@ -90,6 +90,23 @@ pub record IsOpenedAs (file : List ℕ) (m : MovieSeen) (t : FileTree) : Type 0 
   pub room : m.room + table_total t.movie.tracks ≡ max_samples
   pub tracks : AllZip (IsInfoOf file t) t.movie.tracks m.tracks
   pub mehd : m.mehd ≡ movie_length (presentation_of file t)
+
+-- the numbers that are kept of a track are its own
+pub record IsTrackIn (t : Track) (info : TrackInfo) : Type 0 where
+  pub id : info.id ≡ t.head.id
+  pub timescale : info.timescale ≡ t.head.media.timescale
+  pub start : info.start ≡ t.start
+  pub samples : info.samples ≡ length t.samples
+  pub duration : info.duration ≡ total_duration t.samples
+
+-- What is kept of a movie is what the presentation says: its tracks in order, and its length.
+pub record IsMovieIn (p : Presentation) (m : MovieSeen) : Type 0 where
+  pub tracks : AllZip IsTrackIn p.tracks m.tracks
+  pub mehd : m.mehd ≡ movie_length p
+
+-- The file denotes a presentation, and this is what is kept of it.
+abbrev pub OpensAs : List ℕ → MovieSeen → Type 0
+OpensAs file m = (p : Presentation) × Denotes file p × IsMovieIn p m
 
 -- what is kept of a file of so many bytes, with this outline and this `moov`, of which this was found
 abbrev pub kept_of : Outline → List ℕ → ℕ → Found → MovieSeen

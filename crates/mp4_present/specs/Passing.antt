@@ -8,7 +8,7 @@ use Rattle.mp4_boxes.specs.declared.fault.Fault.{Fault}
 use Rattle.mp4_tables.specs.TableRules.{Fit}
 use Rattle.mp4_tables.specs.Tables.{tables_of}
 use Rattle.mp4_frag.specs.Fragments.{FragmentTree, IsFragmentTree, fragment_of}
-use Rattle.mp4_frag.specs.FragmentSamples.{Part, all_parts, trex_for, duration_of, keys_behind}
+use Rattle.mp4_frag.specs.FragmentSamples.{Part, all_parts, trex_for, duration_of, keys_behind, bytes_of}
 use Rattle.mp4_frag.specs.Judged.{AreTrexesOf, IsSoundMoof, AreMovedOn, TrackSeen, track_seen, tree_of}
 use Rattle.mp4_frag.specs.RunsJudged.{children_of}
 use Rattle.mp4_frag.specs.TrafFaults.{MoofFails}
@@ -30,7 +30,7 @@ pub record IsMovieOf (file : List ℕ) (movie : MovieTree) : Type 0 where
 abbrev pub parts_behind : MovieTree → List FragmentTree → List Part
 parts_behind movie earlier = all_parts (trexes_of movie) (map fragment_of earlier)
 
--- a track behind the samples of its tables and of these parts: how many came, when it starts, when the next one is due, which keys it named
+-- a track behind the samples of its tables and of these parts: how many came, when it starts, when the next one is due, how many bytes they take, which keys it named
 abbrev pub seen_behind : MovieTree → List Part → TrackTree → TrackSeen
 seen_behind movie parts t = record {
   id = (track_head_of t).id;
@@ -39,6 +39,7 @@ seen_behind movie parts t = record {
   start = start_of (plain_of t) (parts_of_track parts t);
   count = length (placed_of parts t);
   time = first_due parts t + duration_of (fragment_samples (track_head_of t).id parts);
+  bytes = bytes_of (plain_of t) + bytes_of (fragment_samples (track_head_of t).id parts);
   keys = keys_behind (plain_keys t) (parts_of_track parts t);
 }
 

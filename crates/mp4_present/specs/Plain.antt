@@ -23,6 +23,5 @@ pub record ArePlain (moov : List ℕ) (n : ℕ) (plain : PlainTracks) : Type 0 w
   pub tables : AllByRecursion (LieIn moov) plain.tables.items
   pub each_tables : length plain.tables.items ≡ n
   pub each_state : length plain.states.items ≡ n
-  pub each_count : length plain.counted.items ≡ n
   pub states : HaveRoom plain.room plain.states.items
   pub few : plain.room ≤ 2 ^ 24

@@ -1,14 +1,12 @@
 -- The tracks of a movie by their trees, and what is known of them behind their tables.
-use Rattle.std.specs.Prelude.{◌≡◌, ℕ, ◌+◌, ◌-◌, ◌^◌, ◌<◌, min, List, ◌∷◌, ◌++◌, length, map}
+use Rattle.std.specs.Prelude.{◌≡◌, ℕ, ◌+◌, List, ◌∷◌, ◌++◌, length, map}
 use Rattle.std.specs.List.{AllByRecursion, AllZip}
-use Rattle.mp4_boxes.specs.Bytes.{sum_of}
 use Rattle.mp4_boxes.specs.Places.{ruled, AreSound}
 use Rattle.mp4_boxes.specs.declared.fault.Fault.{Fault}
 use Rattle.mp4_boxes.specs.declared.refusal.Refusal.{Refusal}
 use Rattle.mp4_boxes.specs.declared.refusal.Refusal.TheVariants as refusals
 use Rattle.mp4_boxes.specs.declared.rule.Rule.TheVariants.{SampleTable}
 use Rattle.mp4_tables.specs.Leaves.{IsFault}
-use Rattle.mp4_tables.specs.PlainSamples.{PlacedSample}
 use Rattle.mp4_tables.specs.TableRules.{Surroundings, Fit}
 use Rattle.mp4_tables.specs.Tables.{tables_of}
 use Rattle.mp4_frag.specs.Judged.{track_seen}
@@ -18,10 +16,8 @@ use Rattle.mp4_head.specs.Seen as seen
 use Rattle.mp4_head.specs.Tree.{TrackTree, IsTrackTree, IsSoundTrack, stbl_of, track_head_of}
 use Rattle.mp4_head.specs.declared.heads.TrackHead.{TrackHead}
 use Rattle.mp4_present.specs.Presentation.{max_samples}
-use Rattle.mp4_present.specs.Denotes.{plain_of}
 use Rattle.mp4_present.specs.Stands.{table_total}
 use Rattle.mp4_present.specs.OpenedMovie.{AreTablesOf, plain_seen}
-use Rattle.mp4_present.specs.declared.tables_pass.Counted.{Counted}
 use Rattle.mp4_present.specs.declared.tables_pass.PlainTracks.{PlainTracks}
 
 -- the head of a track was read of this tree
@@ -42,19 +38,12 @@ surroundings_in file_length t = record { file_length = file_length; descriptions
 abbrev pub TableFails : ℕ → ℕ → TrackTree → Fault → Type 0
 TableFails file_length room t f = IsFault (record { file_len = file_length; descriptions = length t.descriptions; room = room }) (stbl_of t) f
 
--- their number, and the sum of their bytes, as far as 64 bits go; 32 bits hold the size of each
-pub record IsCountOf (samples : List PlacedSample) (c : Counted) : Type 0 where
-  pub samples_are : c.samples ≡ length samples
-  pub bytes_are : c.bytes ≡ min (sum_of (λ (s : PlacedSample). s.size) samples) (2 ^ 64 - 1)
-  pub small : AllByRecursion (λ (s : PlacedSample). s.size < 2 ^ 32) samples
-
 -- The tables of these tracks can be read and fit, and this is what is kept of them.
 pub record HaveTables (file_length : ℕ) (moov : List ℕ) (trexes : List Trex) (trees : List TrackTree) (plain : PlainTracks) : Type 0 where
   pub sound : AllByRecursion (λ (t : TrackTree). AreSound (ruled SampleTable) t.table) trees
   pub fit : AllByRecursion (λ (t : TrackTree). Fit (surroundings_in file_length t) (tables_of t.table)) trees
   pub tables : AllZip (AreTablesOf moov) trees plain.tables.items
   pub states : map track_seen plain.states.items ≡ map (plain_seen trexes) trees
-  pub counted : AllZip (λ t c. IsCountOf (plain_of t) c) trees plain.counted.items
   pub room : plain.room + table_total trees ≡ max_samples
 
 -- Why the tables of a track are refused: one of them, or what they say together, is at fault, or they name more samples than there is room for; or there is no memory.

@@ -37,13 +37,13 @@ boxes_steps moofs = sum_of moof_steps moofs
 
 -- ---- opening
 
--- a check of the tables of a track and a walk over their samples: each row and each sample, as often as both of them look at it
+-- a check of the tables of a track and the sums over their samples: each row and each sample, as often as both of them look at it
 unfoldable pub table_steps : TrackTree → ℕ
-table_steps t = 7 * table_rows (tables_of t.table) + 5 * length (plain_of t)
+table_steps t = 7 * table_rows (tables_of t.table) + 3 * length (plain_of t)
 
--- the tables of each track, and each `moof`: its check, and once more for each track, to count samples
+-- the tables of each track, and the check of each `moof`
 abbrev pub opening_steps : FileTree → ℕ
-opening_steps tree = sum_of table_steps tree.movie.tracks + (length tree.movie.tracks + 1) * moofs_steps tree.fragments
+opening_steps tree = sum_of table_steps tree.movie.tracks + moofs_steps tree.fragments
 
 -- it is so of every answer but a fault
 abbrev pub IfNoFault : {A : Type 0} → Result A Refusal → Type 0 → Type 0
@@ -51,9 +51,9 @@ IfNoFault (Ok x) P = P
 IfNoFault (Err (refusals.Fault f)) P = Unit {0}
 IfNoFault (Err r) P = P
 
--- So many steps were taken of a file with these boxes, and for each of its `moof`s no more than so many times what it says.
-abbrev pub ChecksWithin : ℕ → List ℕ → ℕ → ℕ → Type 0
-ChecksWithin times file old new = (boxes : List Box) → Holds File (file_container file) boxes → new ≤ old + times * boxes_steps (of_kind (codes "moof") boxes)
+-- Of a file with these boxes so many steps were taken: for each of its `moof`s no more than what it says.
+abbrev pub ChecksWithin : List ℕ → ℕ → ℕ → Type 0
+ChecksWithin file old new = (boxes : List Box) → Holds File (file_container file) boxes → new ≤ old + boxes_steps (of_kind (codes "moof") boxes)
 
 -- By bytes, whatever the file says: no step was taken, or its `moov` holds some tracks, and for each of these, and once more, no more than 8 for each byte and each sample that a file may have.
 abbrev pub OpensWithin : List ℕ → ℕ → ℕ → Type 0

@@ -8,16 +8,16 @@ ghost use Rattle.mp4_store.specs.Device.{range};
 ghost use Rattle.mp4_present.specs.declared.track_info.TrackInfo.{TrackInfo};
 ghost use Rattle.mp4_present.specs.Presentation.{Presentation};
 ghost use Rattle.mp4_present.specs.Denotes.{Denotes, FileTree, IsFileTree};
-ghost use Rattle.mp4_present.specs.OpenedMovie.{AreInfosBy, IsInfoBy, IsOpenedAs, kept_of};
+ghost use Rattle.mp4_present.specs.OpenedMovie.{AreInfosBy, IsInfoBy, IsOpenedAs, OpensAs, kept_of};
 ghost use Rattle.mp4_present.specs.Opening.{HasOutline, HasMovie, IsOpened, RefusesDenoted, RefusesOpen};
 ghost use Rattle.mp4_present.specs.Work.{IfNoFault, OpensWithin, opening_steps};
 
-use crate::fragment_pass::{AllTracks, check_fragments};
+use crate::fragment_pass::check_fragments;
 use crate::limit_checks::{check_limits, duration_of};
 use crate::movie::Movie;
 use crate::outline::{Outline, read_outline};
 use crate::reading::read_bytes;
-use crate::tables_pass::{Counted, PlainTracks, check_tables};
+use crate::tables_pass::{PlainTracks, check_tables};
 use crate::track_info::TrackInfo;
 use mp4_boxes::{Refusal, Steps};
 use mp4_frag::TrackState;
@@ -35,8 +35,8 @@ struct Found {
 }
 
 // A track in numbers.
-fn info_of(track: &TrackHead, state: TrackState, counted: Counted) -> TrackInfo
-    ensures { IsInfoBy track.now state counted result }
+fn info_of(track: &TrackHead, state: TrackState) -> TrackInfo
+    ensures { IsInfoBy track.now state result }
 {
     TrackInfo {
         id: track.id,
@@ -44,26 +44,28 @@ fn info_of(track: &TrackHead, state: TrackState, counted: Counted) -> TrackInfo
         start: state.start,
         samples: state.count,
         duration: duration_of(state),
-        bytes: counted.bytes,
+        bytes: state.bytes,
         keys: state.keys,
     }
 }
 
 // The tracks in numbers.
-fn infos_of(alloc: Global, head: &MovieHead, all: &AllTracks) -> Result<Vec<TrackInfo>, Refusal>
-    requires states { length all.now.states.items ≡ length head.now.tracks.items }
-    requires counted { length all.now.counted.items ≡ length head.now.tracks.items }
+fn infos_of(
+    alloc: Global,
+    head: &MovieHead,
+    states: &[TrackState],
+) -> Result<Vec<TrackInfo>, Refusal>
+    requires states { length states.now ≡ length head.now.tracks.items }
     ensures each { IfOk result (λ tracks. length tracks.items ≡ length head.now.tracks.items) }
     ensures ids { IfOk result (λ tracks. map (λ (t : TrackInfo). t.id) tracks.items ≡ map (λ (t : TrackHead). t.id) head.now.tracks.items) }
-    ensures infos { IfOk result (λ tracks. AreInfosBy head.now.tracks.items all.now.states.items all.now.counted.items tracks.items) }
+    ensures infos { IfOk result (λ tracks. AreInfosBy head.now.tracks.items states.now tracks.items) }
     ensures refusal { IfErr result (λ r. r ≡ refusals.Memory) }
 {
     let mut tracks = Vec::new(alloc);
     for k in 0..head.tracks.len() {
         let track = &head.tracks[k];
-        let state = all.states[k];
-        let counted = all.counted[k];
-        tracks.push(info_of(track, state, counted))?;
+        let state = states[k];
+        tracks.push(info_of(track, state))?;
     }
     Ok(tracks)
 }
@@ -92,9 +94,9 @@ fn find<S: Store, L: Ledger>(
     let view = outline.moov.view(moov);
     let head = read_head(alloc, view)?;
     let plain = check_tables(alloc, view, &head, store.len(), steps)?;
-    let all = check_fragments(alloc, store, outline, &plain, steps)?;
-    let mehd = check_limits(view, &head, all.states.as_slice())?;
-    let tracks = infos_of(alloc, &head, &all)?;
+    let states = check_fragments(alloc, store, outline, &plain, steps)?;
+    let mehd = check_limits(view, &head, states.as_slice())?;
+    let tracks = infos_of(alloc, &head, states.as_slice())?;
     Ok(Found {
         plain,
         tracks,
@@ -113,6 +115,7 @@ pub fn open_movie<S: Store, L: Ledger>(
     ensures file { S.file store.new ≡ S.file store.old }
     ensures opened { IfOk result (λ m. IsTrue (S.is_honest store.old) → IsOpened (S.file store.old) m) }
     ensures movie { IfOk result (λ m. IsTrue (S.is_honest store.old) → (t : FileTree) × IsOpenedAs (S.file store.old) m t) }
+    ensures denotes { IfOk result (λ m. IsTrue (S.is_honest store.old) → OpensAs (S.file store.old) m) }
     ensures ids { IfOk result (λ m. IsTrue (S.is_honest store.old) → HasMovie (S.file store.old) (map (λ (t : TrackInfo). t.id) m.tracks)) }
     ensures only { (p : Presentation) → IsTrue (S.is_honest store.old) → Denotes (S.file store.old) p → IfErr result (RefusesDenoted (S.read_failures store.old) (S.read_failures store.new)) }
     ensures work { IsTrue (S.is_honest store.old) → (tree : FileTree) → IsFileTree (S.file store.old) tree → IfNoFault result (steps.new ≤ steps.old + opening_steps tree) }
@@ -133,7 +136,6 @@ pub fn open_movie<S: Store, L: Ledger>(
         tables,
         states,
         room,
-        ..
     } = plain;
     Ok(Movie {
         top: outline.moov,

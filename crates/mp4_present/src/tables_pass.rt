@@ -10,27 +10,18 @@ ghost use Rattle.mp4_present.specs.TrackTrees.{AreTracksOf, HaveTables, RefusesT
 ghost use Rattle.mp4_present.specs.Work.{IfNoFault, table_steps};
 
 use crate::movie::TrackTables;
-use crate::totals::{Totals, add_up};
 use mp4_boxes::{BoxView, Fault, FourCc, Kind, Refusal, Rule, Steps, check_children};
 use mp4_frag::{TrackState, Trex};
 use mp4_head::{MovieHead, TrackHead};
-use mp4_tables::{Keys, TableCursor, Tables};
+use mp4_tables::{Keys, Tables, Totals};
 use std::alloc::Global;
 use std::sync::ledger::Ledger;
-
-/// Samples that were counted, and the sum of their bytes.
-#[derive(Clone, Copy, Debug, PartialEq, Eq)]
-pub(crate) struct Counted {
-    pub(crate) samples: u32,
-    pub(crate) bytes: u64,
-}
 
 /// The tracks of a movie behind their tables, in the order of the `moov`.
 #[derive(Drop)]
 pub(crate) struct PlainTracks {
     pub(crate) tables: Vec<TrackTables>,
     pub(crate) states: Vec<TrackState>,
-    pub(crate) counted: Vec<Counted>,
     /// How many samples there is room for.
     pub(crate) room: u32,
 }
@@ -83,6 +74,7 @@ fn state_of(
     ensures start { result.start ≡ 0 }
     ensures count { result.count ≡ count }
     ensures time { result.time ≡ totals.duration }
+    ensures bytes { result.bytes ≡ totals.bytes }
     ensures keys { result.keys ≡ keys }
 {
     TrackState {
@@ -92,6 +84,7 @@ fn state_of(
         start: 0,
         count,
         time: u128::from(totals.duration),
+        bytes: totals.bytes,
         keys,
     }
 }
@@ -113,7 +106,6 @@ impl PlainTracks {
         PlainTracks {
             tables: Vec::new(alloc),
             states: Vec::new(alloc),
-            counted: Vec::new(alloc),
             room: 1 << 24,
         }
     }
@@ -129,6 +121,7 @@ impl PlainTracks {
     ) -> Result<(), Refusal>
         requires inside { HasTablesIn (box_seen moov) track.now }
         requires distinct { are_distinct (map (λ (t : Trex). t.id) trexes.now) ≡ true }
+        requires read { (t : TrackTree) × IsTrackOf t track.now }
         ensures one_more { OnOk result ((n : ℕ) → ArePlain (box_seen moov.entry).payload n self.old → ArePlain (box_seen moov.entry).payload (n + 1) self.new) }
         ensures says { OnOk result ((t : TrackTree) (trees : List TrackTree) → IsTrackOf t track.now → HaveTables file_len (box_seen moov.entry).payload trexes.now trees self.old → HaveTables file_len (box_seen moov.entry).payload trexes.now (trees ++ t ∷ []) self.new) }
         ensures work { IfNoFault result ((t : TrackTree) → IsTrackOf t track.now → steps.new ≤ steps.old + table_steps t) }
@@ -141,9 +134,7 @@ impl PlainTracks {
         let len = length_of(stbl.payload());
         let descriptions = description_count(track);
         let tables = Tables::check(stbl, file_len, descriptions, self.room, &mut keys, steps)?;
-        let mut cursor = TableCursor::start(&tables);
-        let totals = add_up(&mut cursor);
-        steps.add(cursor.place().passed());
+        let totals = tables.totals(steps);
         self.room -= tables.count();
         self.tables.push(TrackTables {
             place: (stbl.payload_offset() - moov.payload_offset()) as usize,
@@ -152,10 +143,6 @@ impl PlainTracks {
         })?;
         let place = self.states.len();
         self.states.push(state_of(track, trexes, place, totals, tables.count(), keys))?;
-        self.counted.push(Counted {
-            samples: tables.count(),
-            bytes: totals.bytes,
-        })?;
         Ok(())
     }
 }
@@ -170,6 +157,7 @@ pub(crate) fn check_tables<L: Ledger>(
 ) -> Result<PlainTracks, Refusal>
     requires inside { HaveTablesIn (box_seen moov) head.now.tracks.items }
     requires distinct { are_distinct (map (λ (t : Trex). t.id) head.now.trexes.items) ≡ true }
+    requires read { (trees : List TrackTree) × AreTracksOf trees head.now.tracks.items }
     ensures plain { IfOk result (ArePlain (box_seen moov.entry).payload (length head.now.tracks.items)) }
     ensures says { IfOk result (λ p. (trees : List TrackTree) → AreTracksOf trees head.now.tracks.items → HaveTables file_len (box_seen moov.entry).payload head.now.trexes.items trees p) }
     ensures work { IfNoFault result ((trees : List TrackTree) → AreTracksOf trees head.now.tracks.items → steps.new ≤ steps.old + sum_of table_steps trees) }

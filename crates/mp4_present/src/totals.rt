@@ -1,5 +1,5 @@
 //! What samples come to together.
-ghost use Rattle.std.specs.Prelude.{◌≡◌, ◌-◌, ◌^◌, ◌<◌, ◌≤◌, min, [], length, None, IfSome};
+ghost use Rattle.std.specs.Prelude.{◌≡◌, ◌-◌, ◌^◌, ◌<◌, ◌≤◌, min, length, None, IfSome};
 ghost use Rattle.mp4_boxes.specs.Bytes.{sum_of};
 ghost use Rattle.mp4_tables.specs.declared.sample.SampleAt.{SampleAt};
 
@@ -10,31 +10,6 @@ pub(crate) fn in_64_bits(number: u128) -> u64
     ensures { result ≡ min number (2 ^ 64 - 1) }
 {
     number.min(0xFFFF_FFFF_FFFF_FFFF) as u64
-}
-
-/// Sums over some samples.
-#[derive(Clone, Copy, Debug, PartialEq, Eq)]
-pub(crate) struct Totals {
-    pub(crate) duration: u64,
-    pub(crate) bytes: u64,
-}
-
-/// The sums over all samples to come, as far as 64 bits go.
-pub(crate) fn add_up<C: Samples>(samples: &mut C) -> Totals
-    ensures duration { result.duration ≡ min (sum_of (λ (s : SampleAt). s.duration) (C.rest samples.old)) (2 ^ 64 - 1) }
-    ensures bytes { result.bytes ≡ min (sum_of (λ (s : SampleAt). s.size) (C.rest samples.old)) (2 ^ 64 - 1) }
-    ensures rest { C.rest samples.new ≡ [] }
-    ensures later { C.follows samples.old samples.new }
-{
-    let mut totals = Totals {
-        duration: 0,
-        bytes: 0,
-    };
-    while let Some(sample) = samples.next() {
-        totals.duration = totals.duration.saturating_add(u64::from(sample.duration));
-        totals.bytes = totals.bytes.saturating_add(u64::from(sample.size));
-    }
-    totals
 }
 
 /// How many samples there are, and how long they last.

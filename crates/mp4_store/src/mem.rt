@@ -1,5 +1,6 @@
 //! A store and a sink in memory.
-ghost use Rattle.std.specs.Prelude.{◌≡◌, ℕ, Some, [], true, refl, length};
+ghost use Rattle.std.specs.Prelude.{◌≡◌, ℕ, Some, [], ◌++◌, true, refl, length, OnOk, OnErr};
+ghost use Rattle.mp4_store.specs.Device.{Counts};
 
 use crate::sink::{Sink, WriteFailed};
 use crate::store::{Store, StoreFailed};
@@ -56,6 +57,24 @@ impl MemSink {
         }
     }
 
+    /// Appends a piece, as `put` does; one that doesn't fit into memory leaves the bytes as they are.
+    ///
+    /// # Errors
+    /// `WriteFailed` where a growth is refused.
+    pub fn append(&mut self, piece: &[u8]) -> Result<(), WriteFailed>
+        ensures whole { OnOk result (self.new.held.items ≡ self.old.held.items ++ piece.now) }
+        ensures nothing { OnErr result (self.new.held.items ≡ self.old.held.items) }
+        ensures cause { Counts self.old.failed self.new.failed result }
+    {
+        match self.held.extend_from_slice(piece) {
+            Ok(()) => Ok(()),
+            Err(_) => {
+                self.failed = self.failed.saturating_add(1);
+                Err(WriteFailed)
+            }
+        }
+    }
+
     /// The bytes put so far.
     pub fn bytes(&self) -> &[u8]
         ensures { ⟦<MemSink as Sink>⟧.contents self.now ≡ Some result.now }
@@ -70,12 +89,6 @@ impl Sink for MemSink {
     ghost put_failures = { λ s. s.failed };
 
     fn put(&mut self, piece: &[u8]) -> Result<(), WriteFailed> {
-        match self.held.extend_from_slice(piece) {
-            Ok(()) => Ok(()),
-            Err(_) => {
-                self.failed = self.failed.saturating_add(1);
-                Err(WriteFailed)
-            }
-        }
+        self.append(piece)
     }
 }

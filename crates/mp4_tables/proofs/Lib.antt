@@ -28,3 +28,4 @@ pub mod Placed
 pub mod Vectors
 pub mod TableRows
 pub mod GroupsOver
+pub mod Sums

@@ -10,7 +10,7 @@ use Rattle.mp4_boxes.specs.BoxFaults.{Fails, fault_of}
 use Rattle.mp4_boxes.specs.declared.rule.Rule.TheVariants.{SampleTable}
 use Rattle.mp4_boxes.specs.declared.fault.Fault.{Fault}
 use Rattle.mp4_boxes.specs.declared.fault.Kind.{Kind}
-use Rattle.mp4_boxes.specs.declared.fault.Kind.TheVariants.{ShortBox, BadVersion, TooManySamples}
+use Rattle.mp4_boxes.specs.declared.fault.Kind.TheVariants.{ShortBox, BadVersion, BadDescriptionIndex, TooManySamples}
 use Rattle.mp4_tables.specs.Repeated.{total}
 use Rattle.mp4_tables.specs.Groups.{Grouping, GroupKey, GroupRule, keys_after, key_of, grouping_of, group_test, group_kind, keeps}
 use Rattle.mp4_tables.specs.Tables.{Tables, sample_count, tables_of}
@@ -101,6 +101,10 @@ HasDescriptions stbl = AreReadable (codes "stsd" ∷ []) (boxes_of stbl)
 -- A fault that a check of the tables names: of one leaf, of a rule that they keep together, or of their number.
 abbrev pub IsFault : Limits → Box → Fault → Type 0
 IsFault l stbl f = IsLeafFaultAmong (boxes_of stbl) f ⊎ (IsTableFault (surroundings_of l) (box_container stbl) f ⊎ IsTooMany l.room (boxes_of stbl) f)
+
+-- The fault that a check names is one of theirs; a description index is judged only where the descriptions can be read.
+abbrev pub NamesFault : Limits → Box → Fault → Type 0
+NamesFault l stbl f = (f.kind ≡ BadDescriptionIndex → HasDescriptions stbl) → IsFault l stbl f
 
 -- a full box that is too short for its version and flags, or of a version past the last
 abbrev pub VersionFails : ℕ → Box → Fault → Type 0

@@ -2,7 +2,7 @@
 ghost use Rattle.std.specs.Prelude.{◌≡◌, ◌+◌, ◌*◌, ◌≤◌, length, nat_eq, IfOk, IfErr, IsOk};
 ghost use Rattle.mp4_boxes.specs.Layout.{version};
 ghost use Rattle.mp4_boxes.specs.View.{box_seen};
-ghost use Rattle.mp4_tables.specs.Leaves.{HasTables, SizesKnown, DurationsRead, OffsetsRead, ChunksRead, ChunkRowsRead, IsOffsetsLeaf, SyncRead, DependenciesRead, SizesRead, PlacesRead, TablesRead, IsFault, HasDescriptions, AreAccepted, boxes_of};
+ghost use Rattle.mp4_tables.specs.Leaves.{HasTables, SizesKnown, DurationsRead, OffsetsRead, ChunksRead, ChunkRowsRead, IsOffsetsLeaf, SyncRead, DependenciesRead, SizesRead, PlacesRead, TablesRead, IsFault, NamesFault, AreAccepted, boxes_of};
 ghost use Rattle.mp4_tables.specs.Accepted.{offset_rows, count_of, rows_in};
 
 use crate::chunks::{are_described, are_ordered, chunk_counts_are};
@@ -144,7 +144,7 @@ pub(crate) fn read_chunk_rows<L: Ledger>(
     requires sizes { SizesKnown (box_seen stbl) n }
     requires chunks { ChunksRead (box_seen stbl) chunks }
     ensures rows { IfOk result (ChunkRowsRead limits (box_seen stbl.entry) n) }
-    ensures fault { HasDescriptions (box_seen stbl.entry) → IfErr result (IsFault limits (box_seen stbl.entry)) }
+    ensures fault { IfErr result (NamesFault limits (box_seen stbl.entry)) }
     ensures only { AreAccepted limits (box_seen stbl.entry) (boxes_of (box_seen stbl.entry)) → IsOk result }
     ensures passed { IfOk result (λ r. steps.new ≤ steps.old + r.count + 4 * chunks.rows.count) }
     ensures work { 4 * steps.new ≤ 4 * steps.old + 5 * length (box_seen stbl.entry).payload }
@@ -244,7 +244,7 @@ pub(crate) fn read_tables<L: Ledger>(
 ) -> Result<TablesAt, Fault>
     requires { HasTables (box_seen stbl) }
     ensures tables { IfOk result (TablesRead limits (box_seen stbl.entry)) }
-    ensures fault { HasDescriptions (box_seen stbl.entry) → IfErr result (IsFault limits (box_seen stbl.entry)) }
+    ensures fault { IfErr result (NamesFault limits (box_seen stbl.entry)) }
     ensures only { AreAccepted limits (box_seen stbl.entry) (boxes_of (box_seen stbl.entry)) → IsOk result }
     ensures passed { IfOk result (λ at. steps.new ≤ steps.old + 6 * rows_in at + 2 * at.sizes.rows.count) }
     ensures within { IfOk result (λ at. steps.new ≤ steps.old + 4 * length (box_seen stbl.entry).payload + 2 * at.sizes.rows.count) }

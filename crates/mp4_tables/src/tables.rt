@@ -3,6 +3,7 @@ use crate::checks::read_tables;
 use crate::keys::Keys;
 use crate::leaves::Limits;
 use crate::places::TablesAt;
+use crate::totals::{Totals, sum_of_sizes, sum_of_values};
 use mp4_boxes::{BoxView, Fault, Steps};
 use std::marker::Model;
 use std::sync::ledger::Ledger;
@@ -27,11 +28,14 @@ impl<'a> Model for Tables<'a> {
 }
 
 impl<'a> Tables<'a> {
-    ghost use Rattle.std.specs.Prelude.{◌≡◌, ◌+◌, ◌*◌, ◌≤◌, [], length, IfOk, IfErr, IsOk};
+    ghost use Rattle.std.specs.Prelude.{◌≡◌, ◌+◌, ◌-◌, ◌*◌, ◌^◌, ◌≤◌, min, [], length, IfOk, IfErr, IsOk};
+    ghost use Rattle.mp4_boxes.specs.Bytes.{sum_of};
+    ghost use Rattle.mp4_tables.specs.Timed.{samples_of};
+    ghost use Rattle.mp4_tables.specs.declared.sample.SampleAt.{SampleAt};
     ghost use Rattle.mp4_boxes.specs.View.{box_seen};
     ghost use Rattle.mp4_tables.specs.Groups.{keys_after};
     ghost use Rattle.mp4_tables.specs.Keys.{keys_seen};
-    ghost use Rattle.mp4_tables.specs.Leaves.{HasTables, TablesRead, tables_in, HasDescriptions, IsFault, AreAccepted, boxes_of};
+    ghost use Rattle.mp4_tables.specs.Leaves.{HasTables, TablesRead, tables_in, NamesFault, AreAccepted, boxes_of};
     ghost use Rattle.mp4_tables.specs.Views.{tables_seen};
     ghost use Rattle.mp4_tables.specs.Accepted.{IsAccepted, rows_in};
 
@@ -50,7 +54,7 @@ impl<'a> Tables<'a> {
         ensures payload { IfOk result (λ t. t.payload ≡ (box_seen stbl.entry).payload) }
         ensures tables { IfOk result (λ t. TablesRead (record { file_len = file_len; descriptions = descriptions; room = room }) (box_seen stbl.entry) t.at) }
         ensures keys { IfOk result (λ _. keys_seen keys.new ≡ keys_after [] (tables_in (box_seen stbl.entry)).groups) }
-        ensures fault { HasDescriptions (box_seen stbl.entry) → IfErr result (IsFault (record { file_len = file_len; descriptions = descriptions; room = room }) (box_seen stbl.entry)) }
+        ensures fault { IfErr result (NamesFault (record { file_len = file_len; descriptions = descriptions; room = room }) (box_seen stbl.entry)) }
         ensures only { AreAccepted (record { file_len = file_len; descriptions = descriptions; room = room }) (box_seen stbl.entry) (boxes_of (box_seen stbl.entry)) → IsOk result }
         ensures passed { IfOk result (λ t. steps.new ≤ steps.old + 6 * rows_in t.at + 2 * t.at.sizes.rows.count) }
         ensures within { IfOk result (λ t. steps.new ≤ steps.old + 4 * length (box_seen stbl.entry).payload + 2 * t.at.sizes.rows.count) }
@@ -75,6 +79,18 @@ impl<'a> Tables<'a> {
         ensures { result ≡ length (tables_seen self.now).sizes }
     {
         self.at.sizes.rows.count
+    }
+
+    /// What the samples come to together. It passes each row of `stts` once, and each size.
+    pub fn totals<L: Ledger>(&self, steps: &mut Steps<L>) -> Totals
+        ensures duration { result.duration ≡ min (sum_of (λ (s : SampleAt). s.duration) (samples_of (tables_seen self.now))) (2 ^ 64 - 1) }
+        ensures bytes { result.bytes ≡ min (sum_of (λ (s : SampleAt). s.size) (samples_of (tables_seen self.now))) (2 ^ 64 - 1) }
+        ensures work { steps.new ≤ steps.old + self.now.at.durations.count + self.now.at.sizes.rows.count }
+    {
+        Totals {
+            duration: sum_of_values(self.payload, self.at.durations, steps),
+            bytes: sum_of_sizes(self.payload, self.at.sizes, steps),
+        }
     }
 
     /// Where the tables lie in the payload of their `stbl`.

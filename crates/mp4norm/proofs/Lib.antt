@@ -13,3 +13,5 @@ pub mod TrackTexts
 pub mod Normalised
 pub mod StepSums
 pub mod StepsTaken
+pub mod Judged
+pub mod WaysTo

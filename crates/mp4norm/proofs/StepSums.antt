@@ -28,7 +28,7 @@ rows_of tracks = sum_of (λ (t : TrackTree). table_rows (tables_of t.table)) tra
 abbrev plain_total : List TrackTree → ℕ
 plain_total tracks = sum_of (λ (t : TrackTree). length (plain_of t)) tracks
 
-checks_sum : (tracks : List TrackTree) → sum_of table_steps tracks ≡ 7 * rows_of tracks + 5 * plain_total tracks
+checks_sum : (tracks : List TrackTree) → sum_of table_steps tracks ≡ 7 * rows_of tracks + 3 * plain_total tracks
 unfolding table_steps
 checks_sum [] = refl
 checks_sum (t ∷ tracks) = let more = checks_sum tracks in omega (arith, more)
@@ -63,7 +63,7 @@ moofs_sum trexes (f ∷ fragments) h =
 -- ---- the bound
 
 -- of tracks with so many samples and rows in tables, where each `moof`'s steps are within the other samples and rows
-bounded : (k m s f r more checks ways : ℕ) → (k ≡ 0 → r + s ≡ 0) → m ≤ f + more → checks ≡ 7 * r + 5 * s → ways ≡ r + 3 * s + k * (2 * m) → (checks + (k + 1) * m) + 3 * ways ≤ 8 * ((k + 1) * ((s + f) + (r + more)))
+bounded : (k m s f r more checks ways : ℕ) → (k ≡ 0 → r + s ≡ 0) → m ≤ f + more → checks ≡ 7 * r + 3 * s → ways ≡ r + 3 * s + k * (2 * m) → (checks + m) + 3 * ways ≤ 8 * ((k + 1) * ((s + f) + (r + more)))
 bounded zero m s f r more checks ways none le c w = let n = none refl in omega (arith, n, le, c, w)
 bounded (suc k) m s f r more checks ways none le c w =
     let grow = mul-le-mul_left (suc k) le in

@@ -1,16 +1,22 @@
 -- What the command line asks for.
-use Rattle.std.specs.Prelude.{◌≡◌, ◌≤◌, List, []}
+use Rattle.std.specs.Prelude.{◌≤◌, false}
 use Rattle.mp4norm.specs.declared.wanted.Action.{Action}
-use Rattle.mp4norm.specs.declared.wanted.Action.TheVariants.{BoxesInput, Samples, Extract}
+use Rattle.mp4norm.specs.declared.wanted.Action.TheVariants as actions
+use Rattle.mp4norm.specs.declared.wanted.Input.TheVariants as inputs
+use Rattle.mp4norm.specs.declared.wanted.Job.{Job}
+use Rattle.mp4norm.specs.declared.wanted.Job.TheVariants as jobs
+use Rattle.mp4norm.specs.declared.wanted.Target.TheVariants as targets
 
--- a command over a file; a track's ID is at least 1
-abbrev pub IsCommand : Action → Type 0
-IsCommand BoxesInput = ⊥
-IsCommand (Samples _ track) = 1 ≤ track
-IsCommand (Extract _ track _) = 1 ≤ track
-IsCommand _ = Unit {0}
+-- a track's ID is at least 1
+abbrev pub IsJob : Job → Type 0
+IsJob (jobs.Samples track) = 1 ≤ track
+IsJob (jobs.Extract track) = 1 ≤ track
+IsJob _ = Unit {0}
 
--- the boxes of standard input where there are no words, else a command
-abbrev pub IsAction : {Word : Type 0} → List Word → Action → Type 0
-IsAction words BoxesInput = words ≡ []
-IsAction words action = IsCommand action
+abbrev pub IsAction : Action → Type 0
+IsAction (actions.Run job input target explain) = IsJob job
+IsAction _ = Unit {0}
+
+-- the boxes of standard input
+abbrev pub boxes_of_input : Action
+boxes_of_input = actions.Run jobs.Boxes inputs.Standard targets.Standard false

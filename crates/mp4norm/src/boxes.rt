@@ -32,8 +32,8 @@ fn line_of(depth: u8, kind: FourCc, offset: u64, size: u64) -> Line
     line
 }
 
-// The rule of the boxes in a box of this type, where it is a container of boxes.
-fn rule_inside(rule: Rule, kind: FourCc) -> Option<Rule>
+/// The rule of the boxes in a box of this type, where it is a container of boxes.
+pub(crate) fn rule_inside(rule: Rule, kind: FourCc) -> Option<Rule>
     ensures { result ≡ rule_inside rule kind.0 }
 {
     let is = |name: &[u8; 4]| FourCc(*name) == kind;
@@ -120,6 +120,7 @@ fn push_top<S: Store>(
 fn list_boxes<S: Store>(alloc: Global, store: &mut S) -> Result<Vec<u8>, Refusal>
     ensures honesty { S.is_honest store.new ≡ S.is_honest store.old }
     ensures file { S.file store.new ≡ S.file store.old }
+    ensures reads { OnOk result (S.read_failures store.new ≡ S.read_failures store.old) }
     ensures lines { IfOk result (λ text. IsTrue (S.is_honest store.old) → BoxLines (S.file store.old) text.items) }
     ensures refusal { IfErr result (RefusesTops (S.is_honest store.old) (S.file store.old) (S.read_failures store.old) (S.read_failures store.new)) }
 {
@@ -137,6 +138,8 @@ fn list_boxes<S: Store>(alloc: Global, store: &mut S) -> Result<Vec<u8>, Refusal
 pub fn boxes<S: Store, K: Sink>(alloc: Global, store: &mut S, sink: &mut K) -> Result<(), Refusal>
     ensures honesty { S.is_honest store.new ≡ S.is_honest store.old }
     ensures file { S.file store.new ≡ S.file store.old }
+    ensures reads { OnOk result (S.read_failures store.new ≡ S.read_failures store.old) }
+    ensures puts { OnOk result (K.put_failures sink.new ≡ K.put_failures sink.old) }
     ensures lines { OnOk result (IsTrue (S.is_honest store.old) → (text : List ℕ) × BoxLines (S.file store.old) text × Appends (K.contents sink.old) (K.contents sink.new) text) }
     ensures refusal { IfErr result (RefusesBoxes (S.is_honest store.old) (S.file store.old) (K.contents sink.old) (K.contents sink.new)
         (S.read_failures store.old) (S.read_failures store.new) (K.put_failures sink.old) (K.put_failures sink.new)) }

@@ -1,19 +1,47 @@
 //! The command line.
 ghost use Rattle.std.specs.Prelude.{◌≡◌, ◌≤◌, [], IfOk, IfSome, Ok};
-ghost use Rattle.mp4norm.specs.Actions.{IsCommand, IsAction};
-ghost use Rattle.mp4norm.specs.declared.wanted.Action.TheVariants.{BoxesInput};
+ghost use Rattle.mp4norm.specs.Actions.{IsJob, IsAction, boxes_of_input};
 
-use crate::wanted::{Action, CommandFault};
+use crate::wanted::{Action, CommandFault, Input, Job, Target};
 use clap::error::ErrorKind;
 use clap::{Arg, ArgAction, ArgMatches, Command, Error, value_parser};
 use std::alloc::{AllocError, Global};
 
-const VERSION: &str = "0.1.0";
+/// The program's version, and the number of the normal form.
+const VERSION: &str = "0.2.0, normal form 1";
+
+/// What stands behind the help of the whole program.
+const AFTER_HELP: &str = "\
+With no words it lists the boxes of standard input. A FILE that is named - is standard input, read whole.
+
+Columns of samples: number, decode time, composition time, duration, flags, description, size
+
+Status:
+  0   all is done
+  1   refused: the file has a fault; its kind, box and place are named
+  2   failed: memory
+  3   failed: store, failed: store changed, failed: write
+  4   failed: no such track
+  64  the words are wrong
+
+Example: mp4norm normalise movie.mp4 --out normal.mp4";
+
+const REPLACED_OUTPUT: &str = "\
+error: the argument '--replace' cannot be used with '--out -'
+
+For more information, try '--help'.
+";
+
+const INPUT_TWICE: &str = "\
+error: standard input ('-') can be read only once
+
+For more information, try '--help'.
+";
 
 fn file_arg<'a>(alloc: Global) -> Arg<'a> {
     Arg::new(alloc, "file")
         .value_name("FILE")
-        .help("The MP4 file to read")
+        .help("The MP4 file to read, or - for standard input")
         .required(true)
         .action(ArgAction::Set)
 }
@@ -32,14 +60,36 @@ fn out_arg<'a>(alloc: Global) -> Arg<'a> {
     Arg::new(alloc, "out")
         .long("out")
         .value_name("NEW")
-        .help("The file to make; it must not be there")
+        .help(
+            "The file to make, or - for standard output; it must not be there, but with --replace",
+        )
         .required(true)
         .action(ArgAction::Set)
+}
+
+fn explain_arg<'a>(alloc: Global) -> Arg<'a> {
+    Arg::new(alloc, "explain")
+        .long("explain")
+        .help("Say of a fault where the box stands, which clause tells of it, and what is wrong")
+        .action(ArgAction::SetTrue)
+}
+
+fn replace_arg<'a>(alloc: Global) -> Arg<'a> {
+    Arg::new(alloc, "replace")
+        .long("replace")
+        .help("Replace NEW, and only once all is written: by a new file beside it, NEW.part")
+        .action(ArgAction::SetTrue)
 }
 
 // A command with an argument more.
 fn with_arg<'a>(command: Command<'a>, arg: Arg<'a>) -> Result<Command<'a>, AllocError> {
     command.arg(arg)
+}
+
+// A command that writes a file.
+fn with_out<'a>(command: Command<'a>, alloc: Global) -> Result<Command<'a>, AllocError> {
+    let command = with_arg(command, out_arg(alloc))?;
+    with_arg(command, replace_arg(alloc))
 }
 
 // A command with a subcommand more.
@@ -55,7 +105,8 @@ fn of_file<'a>(
     example: &'a str,
 ) -> Result<Command<'a>, AllocError> {
     let command = Command::new(alloc, name).about(about).after_help(example);
-    with_arg(command, file_arg(alloc))
+    let command = with_arg(command, file_arg(alloc))?;
+    with_arg(command, explain_arg(alloc))
 }
 
 fn boxes_command<'a>(alloc: Global) -> Result<Command<'a>, AllocError> {
@@ -94,7 +145,7 @@ fn extract_command<'a>(alloc: Global) -> Result<Command<'a>, AllocError> {
         "Example: mp4norm extract movie.mp4 --track 1 --out video.bin",
     )?;
     let command = with_arg(command, track_arg(alloc))?;
-    with_arg(command, out_arg(alloc))
+    with_out(command, alloc)
 }
 
 fn normalise_command<'a>(alloc: Global) -> Result<Command<'a>, AllocError> {
@@ -104,15 +155,46 @@ fn normalise_command<'a>(alloc: Global) -> Result<Command<'a>, AllocError> {
         "Writes the normal form of a file",
         "Example: mp4norm normalise movie.mp4 --out normal.mp4",
     )?;
-    with_arg(command, out_arg(alloc))
+    with_out(command, alloc)
+}
+
+fn files_arg<'a>(alloc: Global) -> Result<Arg<'a>, AllocError> {
+    Arg::new(alloc, "file")
+        .value_name("FILE")
+        .help("The MP4 files to judge, or - for standard input")
+        .num_args(1..)
+        .action(ArgAction::Append)
+        .required_unless_present("names-from")
+}
+
+fn list_arg<'a>(alloc: Global) -> Arg<'a> {
+    Arg::new(alloc, "names-from")
+        .long("names-from")
+        .value_name("LIST")
+        .help("A file of further names, each ended by a zero byte, or - for standard input")
+        .action(ArgAction::Set)
+}
+
+fn zero_arg<'a>(alloc: Global) -> Arg<'a> {
+    Arg::new(alloc, "zero")
+        .long("zero")
+        .help("End each line with a zero byte in place of a line feed")
+        .action(ArgAction::SetTrue)
+}
+
+fn check_command<'a>(alloc: Global) -> Result<Command<'a>, AllocError> {
+    let command = Command::new(alloc, "check")
+        .about("Says of each file whether it has a normal form, a line each")
+        .after_help("Example: mp4norm check *.mp4");
+    let command = with_arg(command, files_arg(alloc)?)?;
+    let command = with_arg(command, list_arg(alloc))?;
+    with_arg(command, zero_arg(alloc))
 }
 
 fn top_command<'a>(alloc: Global) -> Result<Command<'a>, AllocError> {
     Command::new(alloc, "mp4norm")
-        .about(
-            "Rewrites MP4 files in one normal form, and shows what they hold. With no words it lists the boxes of standard input",
-        )
-        .after_help("Example: mp4norm normalise movie.mp4 --out normal.mp4")
+        .about("Rewrites MP4 files in one normal form, and shows what they hold")
+        .after_help(AFTER_HELP)
         .version(VERSION)
         .no_binary_name(true)
         .subcommand_required(true)
@@ -124,7 +206,8 @@ fn whole_command<'a>(alloc: Global) -> Result<Command<'a>, AllocError> {
     let command = with(command, show_command(alloc)?)?;
     let command = with(command, samples_command(alloc)?)?;
     let command = with(command, extract_command(alloc)?)?;
-    with(command, normalise_command(alloc)?)
+    let command = with(command, normalise_command(alloc)?)?;
+    with(command, check_command(alloc)?)
 }
 
 // The ID of a track; none where it is 0.
@@ -134,29 +217,85 @@ fn track_of(found: &ArgMatches) -> Option<u32>
     found.get_one::<u32>("track").filter(|track| *track >= 1)
 }
 
-// What the words of a command ask for; nothing where a word is missing.
-fn asked<'a>(matches: &ArgMatches<'a>) -> Option<Action<'a>>
-    ensures { IfSome result IsCommand }
+// What a word names that is to be read.
+fn input_of(word: &str) -> Input<'_> {
+    match word {
+        "-" => Input::Standard,
+        name => Input::File { name },
+    }
+}
+
+// Where the answer goes: to standard output where no other word is given.
+fn target_of<'a>(found: &ArgMatches<'a>) -> Target<'a> {
+    match found.get_str("out") {
+        None | Some("-") => Target::Standard,
+        Some(name) if found.get_flag("replace") => Target::Replaced { name },
+        Some(name) => Target::New { name },
+    }
+}
+
+// What is to be done; nothing where a word is missing.
+fn job_of(name: &str, found: &ArgMatches) -> Option<Job>
+    ensures { IfSome result IsJob }
 {
-    let (name, found) = matches.subcommand()?;
-    let file = found.get_str("file")?;
     match name {
-        "boxes" => Some(Action::Boxes { file }),
-        "show" => Some(Action::Show { file }),
+        "boxes" => Some(Job::Boxes),
+        "show" => Some(Job::Show),
         "samples" => {
             let track = track_of(found)?;
-            Some(Action::Samples { file, track })
+            Some(Job::Samples { track })
         }
         "extract" => {
             let track = track_of(found)?;
-            let out = found.get_str("out")?;
-            Some(Action::Extract { file, track, out })
+            Some(Job::Extract { track })
         }
-        "normalise" => {
-            let out = found.get_str("out")?;
-            Some(Action::Normalise { file, out })
-        }
+        "normalise" => Some(Job::Normalise),
         _ => None,
+    }
+}
+
+// What the words of a command ask for; nothing where a word is missing.
+fn asked<'a>(matches: &ArgMatches<'a>) -> Option<Action<'a>>
+    ensures { IfSome result IsAction }
+{
+    let (name, found) = matches.subcommand()?;
+    Some(Action::Run {
+        job: job_of(name, found)?,
+        input: input_of(found.get_str("file")?),
+        target: target_of(found),
+        explain: found.get_flag("explain"),
+    })
+}
+
+// Which files are to be judged.
+fn check_asked<'a>(alloc: Global, found: &ArgMatches<'a>) -> Result<Action<'a>, AllocError>
+    ensures { IfOk result IsAction }
+{
+    let mut files = Vec::new(alloc);
+    for word in found.get_strs("file").unwrap_or(&[]) {
+        files.push(input_of(word))?;
+    }
+    let list = found.get_str("names-from").map(input_of);
+    let zero = found.get_flag("zero");
+    Ok(Action::Check { files, list, zero })
+}
+
+// How often standard input is named.
+fn inputs_in(found: &ArgMatches) -> usize {
+    let files = found.get_strs("file").unwrap_or(&[]);
+    let named = files.iter().filter(|file| **file == "-").count();
+    named.saturating_add(usize::from(found.get_str("names-from") == Some("-")))
+}
+
+// What is wrong with words that clap accepts.
+fn odds_of(matches: &ArgMatches) -> Option<&'static str> {
+    let (_, found) = matches.subcommand()?;
+    if found.get_flag("replace") && found.get_str("out") == Some("-") {
+        Some(REPLACED_OUTPUT)
+    } else if inputs_in(found) > 1 {
+        Some(INPUT_TWICE)
+    } else {
+        None
     }
 }
 
@@ -171,21 +310,39 @@ fn fault_of(alloc: Global, error: &Error) -> CommandFault {
     }
 }
 
+// What the words ask for that clap accepted.
+fn of_matches<'a>(alloc: Global, matches: &ArgMatches<'a>) -> Result<Action<'a>, CommandFault>
+    ensures { IfOk result IsAction }
+{
+    if let Some(text) = odds_of(matches) {
+        return Err(CommandFault::Usage(String::from_str(alloc, text)?));
+    }
+    if let Some(found) = matches.subcommand_matches("check") {
+        return Ok(check_asked(alloc, found)?);
+    }
+    match asked(matches) {
+        Some(action) => Ok(action),
+        // clap has seen that no word is missing.
+        None => Err(CommandFault::Usage(String::new(alloc))),
+    }
+}
+
 /// What the words behind the program's name ask for: with no words, the boxes of standard input.
 pub fn action<'a>(alloc: Global, words: &'a [String]) -> Result<Action<'a>, CommandFault>
-    ensures none { words.entry.now ≡ [] → result ≡ Ok BoxesInput }
-    ensures action { IfOk result (IsAction words.entry.now) }
+    ensures none { words.entry.now ≡ [] → result ≡ Ok boxes_of_input }
+    ensures action { IfOk result IsAction }
 {
     if words.is_empty() {
-        return Ok(Action::BoxesInput);
+        return Ok(Action::Run {
+            job: Job::Boxes,
+            input: Input::Standard,
+            target: Target::Standard,
+            explain: false,
+        });
     }
     let command = whole_command(alloc)?;
     match command.try_get_matches_from(words) {
-        Ok(matches) => match asked(&matches) {
-            Some(action) => Ok(action),
-            // clap has seen that no word is missing.
-            None => Err(CommandFault::Usage(String::new(alloc))),
-        },
+        Ok(matches) => of_matches(alloc, &matches),
         Err(error) => Err(fault_of(alloc, &error)),
     }
 }

@@ -2,11 +2,12 @@
 ghost use Rattle.std.specs.Prelude.{◌≡◌, ◌<◌, ℕ, true, false, None, replicate};
 
 use super::*;
+use crate::counted::performed;
 use crate::fixtures::{EDITS, FRAGMENT, LARGE_HEAD, PLAIN, TWO_FRAGMENTS, TWO_TRACKS};
 use mp4_boxes::Steps;
 use mp4_plan::normal_len;
 use mp4_present::open_movie;
-use mp4_store::{Store, StoreFailed, WriteFailed};
+use mp4_store::{MemStore, Store, StoreFailed, WriteFailed};
 use std::alloc::Global;
 use std::marker::Brand;
 use std::sync::ledger::{Blank, Ledger};
@@ -128,34 +129,15 @@ impl Sink for FailingSink {
     }
 }
 
-// What is run over a file.
-#[derive(Clone, Copy, Debug, PartialEq, Eq)]
-enum Job {
-    Normalise,
-    Extract,
-    Samples,
-}
-
-fn run<S: Store>(
-    alloc: Global,
-    job: Job,
-    store: &mut S,
-    sink: &mut FailingSink,
-) -> Result<(), Refusal> {
-    match job {
-        Job::Normalise => normalise(alloc, store, sink),
-        Job::Extract => extract(alloc, store, 1, sink),
-        Job::Samples => samples(alloc, store, 1, sink),
-    }
-}
-
-const JOBS: [(&[u8], Job); 6] = [
+const JOBS: [(&[u8], Job); 8] = [
     (PLAIN, Job::Normalise),
     (TWO_FRAGMENTS, Job::Normalise),
     (TWO_TRACKS, Job::Normalise),
     (EDITS, Job::Normalise),
-    (PLAIN, Job::Extract),
-    (PLAIN, Job::Samples),
+    (PLAIN, Job::Extract { track: 1 }),
+    (PLAIN, Job::Samples { track: 1 }),
+    (PLAIN, Job::Show),
+    (PLAIN, Job::Boxes),
 ];
 
 // Runs the job where the read and the put that these numbers lead to fail.
@@ -171,7 +153,7 @@ fn run_on(
         left: read,
         failed: 0,
     };
-    run(alloc, job, &mut store, sink)
+    performed(alloc, job, &mut store, sink)
 }
 
 #[test]
@@ -260,7 +242,7 @@ fn a_number_that_changes(rt: HostRuntime) {
         failed: 0,
     };
     let mut sink = FailingSink::new(0, Taken::Nothing);
-    let answer = normalise(rt.alloc(), &mut store, &mut sink);
+    let answer = performed(rt.alloc(), Job::Normalise, &mut store, &mut sink);
     assert_eq!(rt; answer, Err(Refusal::StoreChanged));
 }
 
@@ -351,7 +333,10 @@ fn large_samples(rt: HostRuntime) {
         is_right: true,
         failed: 0,
     };
-    assert_eq!(rt; normalise(rt.alloc(), &mut store, &mut sink), Ok(()));
+    assert_eq!(rt;
+        performed(rt.alloc(), Job::Normalise, &mut store, &mut sink),
+        Ok(())
+    );
     assert_eq!(rt; sink.count, 701 + LARGE_DATA);
     assert!(rt; sink.is_right);
 }

@@ -5,45 +5,60 @@
 //! words that it doesn't know.
 #![tactic(auto)]
 
+ghost use Rattle.std.specs.Prelude.{◌≡◌, ◌<◌};
+
 mod backward_line;
 mod boxes;
+mod checking;
 mod command_line;
 mod digits;
+mod explaining;
 mod extract;
 mod fault_text;
 mod input;
+mod jobs;
+mod judging;
 pub mod laws;
 mod line;
 mod movie_json;
 mod normalising;
+mod replacing;
+mod runs;
 mod sample_lines;
 mod samples;
 mod show;
+mod sources;
+mod targets;
 mod tracks;
 mod type_names;
+mod verdicts;
 mod wanted;
+mod ways;
 
 pub use boxes::boxes;
+use checking::check_all;
 pub use command_line::action;
 pub use extract::extract;
 pub use fault_text::{fault_line, status};
-use input::read_input;
+pub use jobs::perform;
+pub use judging::check;
 pub use line::Line;
 pub use movie_json::show_text;
-use mp4_boxes::Refusal;
-use mp4_store::{BufferedStore, FileStore, IoSink, MemStore, Sink};
+use mp4_boxes::{Refusal, Steps};
+use mp4_store::{IoSink, Sink};
 pub use normalising::{normalise, normalise_counted};
+use runs::run;
 pub use sample_lines::put_lines;
 pub use samples::samples;
 pub use show::show;
-use std::fs::File;
 use std::io::Write;
+use std::marker::Brand;
 use std::process::ExitCode;
-use std::{env, fs, io};
-pub use wanted::{Action, CommandFault};
-
-/// The most bytes that are read of standard input.
-const MOST_INPUT: usize = 1 << 30;
+use std::sync::ledger::{Blank, Ledger};
+use std::{env, io};
+pub use verdicts::{first_name, put_verdict, verdict_status};
+pub use wanted::{Action, CommandFault, Input, Job, Target};
+pub use ways::{Way, way_to};
 
 /// The status for words that are not known.
 const USAGE: u8 = 64;
@@ -58,65 +73,6 @@ fn words(rt: &HostRuntime) -> Result<Vec<String>, CommandFault> {
             Err(CommandFault::Usage(text))
         }
     }
-}
-
-// Opens a regular file. Whatever else there is can't be read by place, or its length isn't known; its kind is looked at first,
-// since opening a pipe would wait for whoever writes it.
-fn open(rt: &HostRuntime, file: &str) -> Result<BufferedStore<FileStore>, Refusal> {
-    match fs::metadata(rt, file) {
-        Ok(metadata) if metadata.is_file() => {}
-        _ => return Err(Refusal::StoreFailed),
-    }
-    let file = File::open(rt, file).map_err(|_| Refusal::StoreFailed)?;
-    let store = FileStore::new(file).map_err(|_| Refusal::StoreFailed)?;
-    Ok(BufferedStore::new(store))
-}
-
-fn make(rt: &HostRuntime, out: &str) -> Result<File, Refusal> {
-    File::create_new(rt, out).map_err(|_| Refusal::WriteFailed)
-}
-
-// Lists the boxes of standard input.
-fn list_input(rt: &HostRuntime) -> Result<(), Refusal> {
-    let input = read_input(rt.alloc(), &mut rt.reader(), MOST_INPUT)?;
-    let mut store = MemStore::new(input.as_slice());
-    let mut sink = IoSink::new(io::writer(rt));
-    boxes(rt.alloc(), &mut store, &mut sink)
-}
-
-// Lists the boxes of a file.
-fn list_file(rt: &HostRuntime, file: &str) -> Result<(), Refusal> {
-    let mut store = open(rt, file)?;
-    let mut sink = IoSink::new(io::writer(rt));
-    boxes(rt.alloc(), &mut store, &mut sink)
-}
-
-// Shows a movie.
-fn show_file(rt: &HostRuntime, file: &str) -> Result<(), Refusal> {
-    let mut store = open(rt, file)?;
-    let mut sink = IoSink::new(io::writer(rt));
-    show(rt.alloc(), &mut store, &mut sink)
-}
-
-// Lists the samples of a track.
-fn list_samples(rt: &HostRuntime, file: &str, track: u32) -> Result<(), Refusal> {
-    let mut store = open(rt, file)?;
-    let mut sink = IoSink::new(io::writer(rt));
-    samples(rt.alloc(), &mut store, track, &mut sink)
-}
-
-// Writes the bytes of a track's samples to a new file.
-fn extract_track(rt: &HostRuntime, file: &str, track: u32, out: &str) -> Result<(), Refusal> {
-    let mut store = open(rt, file)?;
-    let mut sink = IoSink::new(make(rt, out)?);
-    extract(rt.alloc(), &mut store, track, &mut sink)
-}
-
-// Writes the normal form of a file to a new file.
-fn normalise_file(rt: &HostRuntime, file: &str, out: &str) -> Result<(), Refusal> {
-    let mut store = open(rt, file)?;
-    let mut sink = IoSink::new(make(rt, out)?);
-    normalise(rt.alloc(), &mut store, &mut sink)
 }
 
 fn put_text(rt: &HostRuntime, text: &str) -> Result<(), Refusal> {
@@ -136,17 +92,31 @@ fn end(rt: &HostRuntime, answer: Result<(), Refusal>) -> ExitCode {
     ExitCode::from(status(&refusal))
 }
 
-// Does what the words ask for.
-fn act(rt: &HostRuntime, action: Action) -> ExitCode {
-    let answer = match action {
-        Action::BoxesInput => list_input(rt),
-        Action::Boxes { file } => list_file(rt, file),
-        Action::Show { file } => show_file(rt, file),
-        Action::Samples { file, track } => list_samples(rt, file, track),
-        Action::Extract { file, track, out } => extract_track(rt, file, track, out),
-        Action::Normalise { file, out } => normalise_file(rt, file, out),
-    };
-    end(rt, answer)
+// Judges files, and gives the greatest status.
+fn judge(rt: &HostRuntime, files: &[Input], list: Option<Input>, zero: bool) -> ExitCode {
+    let end_byte = if zero { 0 } else { b'\n' };
+    match check_all(rt, files, list, end_byte) {
+        Ok(status) => ExitCode::from(status),
+        Err(refusal) => end(rt, Err(refusal)),
+    }
+}
+
+// Does what the words ask for. Steps are counted in this ledger.
+fn act<L: Ledger>(rt: &HostRuntime, action: Action, blank: Blank) -> ExitCode
+    requires name { blank.name ≡ L.name }
+    requires parts { blank.parts ≡ L.parts }
+    requires some { 0 < L.parts }
+{
+    let mut steps = Steps::<L>::new(blank);
+    match action {
+        Action::Run {
+            job,
+            input,
+            target,
+            explain,
+        } => end(rt, run(rt, job, input, target, explain, &mut steps)),
+        Action::Check { files, list, zero } => judge(rt, files.as_slice(), list, zero),
+    }
 }
 
 // Says why there is nothing to do.
@@ -167,11 +137,13 @@ fn main(rt: HostRuntime) -> ExitCode {
         Err(fault) => return tell(&rt, fault),
     };
     match action(rt.alloc(), words.as_slice()) {
-        Ok(action) => act(&rt, action),
+        Ok(action) => act::<Brand>(&rt, action, Blank::new(1)),
         Err(fault) => tell(&rt, fault),
     }
 }
 
+#[cfg(test)]
+mod counted;
 #[cfg(test)]
 mod failures;
 #[cfg(test)]

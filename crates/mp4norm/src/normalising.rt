@@ -13,9 +13,8 @@ use std::alloc::Global;
 use std::marker::Brand;
 use std::sync::ledger::{Blank, Ledger};
 
-/// As `normalise`, with the steps that it takes counted: one for each table row, `traf`, run and sample that is passed. At
-/// most 8 * (k + 1) for each sample and each row of a file with k tracks.
-pub fn normalise_counted<S: Store, K: Sink, L: Ledger>(
+// As `normalise_counted`.
+fn write_file<S: Store, K: Sink, L: Ledger>(
     alloc: Global,
     store: &mut S,
     sink: &mut K,
@@ -32,6 +31,27 @@ pub fn normalise_counted<S: Store, K: Sink, L: Ledger>(
 {
     let movie = open_movie(alloc, store, steps)?;
     write_normal(alloc, &movie, store, sink, steps)
+}
+
+/// As `normalise`, with the steps that it takes counted: one for each table row, `traf`, run and sample that is passed. At
+/// most 8 * (k + 1) for each sample and each row of a file with k tracks.
+pub fn normalise_counted<S: Store, K: Sink, L: Ledger>(
+    alloc: Global,
+    store: &mut S,
+    sink: &mut K,
+    steps: &mut Steps<L>,
+) -> Result<(), Refusal>
+    ensures honesty { S.is_honest store.new ≡ S.is_honest store.old }
+    ensures file { S.file store.new ≡ S.file store.old }
+    ensures reads { OnOk result (S.read_failures store.new ≡ S.read_failures store.old) }
+    ensures puts { OnOk result (K.put_failures sink.new ≡ K.put_failures sink.old) }
+    ensures written { OnOk result (IsTrue (S.is_honest store.old) → (bytes : List ℕ) × HasNormalForm (S.file store.old) bytes × Appends (K.contents sink.old) (K.contents sink.new) bytes) }
+    ensures refusal { IfErr result (RefusesNormalise (S.is_honest store.old) (S.file store.old) (K.contents sink.old) (K.contents sink.new)
+        (S.read_failures store.old) (S.read_failures store.new) (K.put_failures sink.old) (K.put_failures sink.new)) }
+    ensures work { IsTrue (S.is_honest store.old) → WorksWithin (S.file store.old) steps.old steps.new }
+    ensures headline { IsTrue (S.is_honest store.old) → IfSome (K.contents sink.old) (λ before. (after : List ℕ) × (K.contents sink.new ≡ Some after) × Normalises (S.file store.old) before after result) }
+{
+    write_file(alloc, store, sink, steps)
 }
 
 // As `normalise`; its steps are counted in this ledger.

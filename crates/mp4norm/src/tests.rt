@@ -1,4 +1,5 @@
 use super::*;
+use crate::sources::open;
 use std::alloc::Global;
 use std::test::Fail;
 
@@ -19,18 +20,67 @@ fn asked(alloc: Global, line: &str) -> Result<String, Fail> {
 #[test]
 fn command_lines(rt: HostRuntime) -> Result<(), Fail> {
     for (line, wanted) in [
-        ("", "BoxesInput"),
-        ("boxes a", "Boxes { file: \"a\" }"),
-        ("show a", "Show { file: \"a\" }"),
-        ("samples a --track 7", "Samples { file: \"a\", track: 7 }"),
+        (
+            "",
+            "Run { job: Boxes, input: Standard, target: Standard, explain: false }",
+        ),
+        (
+            "boxes a",
+            "Run { job: Boxes, input: File { name: \"a\" }, target: Standard, explain: false }",
+        ),
+        (
+            "show - --explain",
+            "Run { job: Show, input: Standard, target: Standard, explain: true }",
+        ),
+        (
+            "samples a --track 7",
+            "Run { job: Samples { track: 7 }, input: File { name: \"a\" }, target: Standard, explain: false }",
+        ),
         (
             "extract --out b a --track 4294967295",
-            "Extract { file: \"a\", track: 4294967295, out: \"b\" }",
+            "Run { job: Extract { track: 4294967295 }, input: File { name: \"a\" }, target: New { name: \"b\" }, explain: false }",
         ),
         (
             "normalise a --out b",
-            "Normalise { file: \"a\", out: \"b\" }",
+            "Run { job: Normalise, input: File { name: \"a\" }, target: New { name: \"b\" }, explain: false }",
         ),
+        (
+            "normalise - --out -",
+            "Run { job: Normalise, input: Standard, target: Standard, explain: false }",
+        ),
+        (
+            "normalise a --out=-",
+            "Run { job: Normalise, input: File { name: \"a\" }, target: Standard, explain: false }",
+        ),
+        (
+            "normalise a --replace --out b",
+            "Run { job: Normalise, input: File { name: \"a\" }, target: Replaced { name: \"b\" }, explain: false }",
+        ),
+        (
+            "extract a --track 1 --replace --out -",
+            "usage: error: the argument '--replace' cannot be used with '--out -'\n\nFor more",
+        ),
+        (
+            "show a --replace",
+            "usage: error: unexpected argument '--replace' found",
+        ),
+        (
+            "check a - b --zero",
+            "Check { files: [File { name: \"a\" }, Standard, File { name: \"b\" }], list: None, zero: true }",
+        ),
+        (
+            "check --names-from -",
+            "Check { files: [], list: Some(Standard), zero: false }",
+        ),
+        (
+            "check a --names-from list b",
+            "Check { files: [File { name: \"a\" }, File { name: \"b\" }], list: Some(File { name: \"list\" }), zero: false }",
+        ),
+        (
+            "check - --names-from -",
+            "usage: error: standard input ('-') can be read only once\n\nFor more",
+        ),
+        ("check", "usage: error: the following required arguments"),
         ("samples a --track 0", "usage: error: invalid value '0'"),
         (
             "samples a --track 4294967296",
@@ -51,7 +101,7 @@ fn command_lines(rt: HostRuntime) -> Result<(), Fail> {
             "extract --help",
             "help: Writes the bytes of a track's samples",
         ),
-        ("--version", "help: mp4norm "),
+        ("--version", "help: mp4norm 0.2.0, normal form 1\n"),
     ] {
         let text = asked(rt.alloc(), line)?;
         assert!(rt; text.as_str().starts_with(wanted), "{line}: {text}");
@@ -62,6 +112,7 @@ fn command_lines(rt: HostRuntime) -> Result<(), Fail> {
 #[test]
 fn only_regular_files(rt: HostRuntime) {
     for file in ["/dev/null", "/dev/zero", "/", "no such file"] {
-        assert_eq!(rt; list_file(&rt, file), Err(Refusal::StoreFailed), "{file}");
+        let opened = open(&rt, Input::File { name: file });
+        assert!(rt; matches!(opened, Err(Refusal::StoreFailed)), "{file}");
     }
 }

@@ -1,28 +1,45 @@
 //! What the words behind the program's name can ask for.
 use std::alloc::AllocError;
 
-/// What the words ask for.
+/// What is done over a file.
 #[derive(Clone, Copy, Debug, PartialEq)]
+pub enum Job {
+    Boxes,
+    Show,
+    Samples { track: u32 },
+    Extract { track: u32 },
+    Normalise,
+}
+
+/// What is read: standard input, or the file of this name.
+#[derive(Clone, Copy, Debug, PartialEq)]
+pub enum Input<'a> {
+    Standard,
+    File { name: &'a str },
+}
+
+/// Where the answer goes: to standard output, to a new file of this name, or to one that takes the place of what is there.
+#[derive(Clone, Copy, Debug, PartialEq)]
+pub enum Target<'a> {
+    Standard,
+    New { name: &'a str },
+    Replaced { name: &'a str },
+}
+
+/// What the words ask for: a job, or a verdict on each of some files and of those that a list names, ended by a line feed
+/// or a zero byte.
+#[derive(Debug, Drop, PartialEq)]
 pub enum Action<'a> {
-    BoxesInput,
-    Boxes {
-        file: &'a str,
+    Check {
+        files: Vec<Input<'a>>,
+        list: Option<Input<'a>>,
+        zero: bool,
     },
-    Show {
-        file: &'a str,
-    },
-    Samples {
-        file: &'a str,
-        track: u32,
-    },
-    Extract {
-        file: &'a str,
-        track: u32,
-        out: &'a str,
-    },
-    Normalise {
-        file: &'a str,
-        out: &'a str,
+    Run {
+        job: Job,
+        input: Input<'a>,
+        target: Target<'a>,
+        explain: bool,
     },
 }
 

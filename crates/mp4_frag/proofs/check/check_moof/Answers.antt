@@ -30,6 +30,7 @@ loop-child-preserved-then-eq g c =
       rw kept (moof_traf c.args.file_len _ _ _ _ _ (box_seen c.in-Some.child) _ c.in_ok-before.before _ _ i.4 c.in-Some.ensures.steps is_traf r.holds sound r.bound r.same),
       rw kept (moves_traf c.args.file_len _ _ _ _ _ _ (box_seen c.in-Some.child) _ c.in_ok-before.before _ _ _ _ i.5 c.in-Some.ensures.steps is_traf r.holds sound (rw c.offset-then-eq.ensures at r.moved)),
       moof_cost_traf _ _ _ (box_seen c.in-Some.child) _ _ _ _ _ _ i.6 c.in-Some.ensures.steps is_traf (rw c.tick.ensures.one_more at r.cost) (rw c.tick.ensures.one_more at r.within),
+      r.known,
     )
 
 pub returns-clause-sound : goal.returns-clause-sound

@@ -1,5 +1,6 @@
 use Rattle.std.proofs.Common.{◌≤◌}
 use Rattle.mp4_boxes.specs.View.{box_seen}
+use Rattle.mp4_frag.specs.Finding.{IsKnown}
 use Rattle.mp4_frag.specs.States.{HaveRoom}
 use Rattle.mp4_frag.proofs.Costs.{MoofCost}
 use Rattle.mp4_frag.proofs.MoofPassed.{MoofSeen, MovesSeen}
@@ -15,3 +16,4 @@ invariant-loop-child g l =
     × MoofSeen l.file_len (box_seen l.moof).offset l.fn.tracks l.initial.child-iterator l.child-iterator l.before l.tracks
     × MovesSeen l.file_len (box_seen l.moof).offset l.fn.tracks l.fn.room l.initial.child-iterator l.child-iterator l.before l.tracks l.room
     × MoofCost l.initial.child-iterator l.child-iterator l.fn.steps l.fn.room l.steps l.room
+    × IsKnown l.tracks l.known

@@ -12,6 +12,7 @@ invariant-loop-child g l =
     × (l.passed.count + l.room ≡ l.fn.room)
     × IsNear l.passed.at
     × (l.passed.duration ≤ 2 ^ 32 * l.passed.count)
+    × (l.passed.bytes ≤ 2 ^ 32 * l.passed.count)
     × ((n : ℕ) → 2 ^ 64 ≤ n → IsUpTo n l.judged.base → IsUpTo (n + 2 ^ 31) l.passed.at)
-    × RunsSeen l.judged.file_len l.judged.inherited l.judged.base l.initial.child-iterator l.child-iterator l.fn.room l.room l.passed.at l.passed.count l.passed.duration
+    × RunsSeen l.judged.file_len l.judged.inherited l.judged.base l.initial.child-iterator l.child-iterator l.fn.room l.room l.passed.at l.passed.count l.passed.duration l.passed.bytes
     × RunsCost l.initial.child-iterator l.child-iterator l.fn.steps l.steps l.passed.count

@@ -20,6 +20,8 @@ use Rattle.mp4_frag.specs.States.{HasRoom}
 use Rattle.mp4_frag.specs.Walks.{trex_among}
 use Rattle.mp4_frag.proofs.Bounds.{up_to_near}
 use Rattle.mp4_frag.proofs.StateLists.{has_room, less_room, room_with}
+use Rattle.mp4_frag.proofs.TracksFound.{known_set}
+use Rattle.mp4_frag.specs.declared.state.TrackState.{TrackState}
 use Rattle.mp4_frag.proofs.TrafPassed.{traf_sound, found_trex, trex_same, only_sound, none_sound, time_sound}
 use Rattle.mp4_frag.proofs.check.check_traf.Goals as goal
 use Rattle.mp4_frag.proofs.check.check_traf.Goals.{in-Some-time+in-Ok-read_time, in-None, in-Some-time-2+else-is_late, in_default-time}
@@ -43,6 +45,11 @@ moved_on-requires-clause-time g c =
     let before : HasRoom c.args.room.now c.index-tracks-k.result = rw (c.index-tracks-k.is) (has_room c.args.room.now c.in-Some-find_track.k c.args.tracks.now _ c.in-Some-find_track.ensures.inside c.requires.room) in
     before.time
 
+pub moved_on-requires-clause-bytes : goal.moved_on-requires-clause-bytes
+moved_on-requires-clause-bytes g c =
+    let before : HasRoom c.args.room.now c.index-tracks-k.result = rw (c.index-tracks-k.is) (has_room c.args.room.now c.in-Some-find_track.k c.args.tracks.now _ c.in-Some-find_track.ensures.inside c.requires.room) in
+    before.bytes
+
 pub returns-clause-room : goal.returns-clause-room
 returns-clause-room g c =
     let before : HasRoom c.args.room.now c.index-tracks-k.result = rw (c.index-tracks-k.is) (has_room c.args.room.now c.in-Some-find_track.k c.args.tracks.now _ c.in-Some-find_track.ensures.inside c.requires.room) in
@@ -51,9 +58,13 @@ returns-clause-room g c =
     let taken = c.in_ok-passed.ensures.few in
     let few : c.moved_on.result.count + c.check_runs.new.room ≤ 2 ^ 24 = rw count (omega arith) in
     let less : c.check_runs.new.room ≤ c.args.room.now = omega arith in
-    let with : HasRoom c.check_runs.new.room c.moved_on.result = record { few = few; time = c.moved_on.ensures.time } in
+    let with : HasRoom c.check_runs.new.room c.moved_on.result = record { few = few; time = c.moved_on.ensures.time; bytes = c.moved_on.ensures.bytes } in
     room_with c.check_runs.new.room c.in-Some-find_track.k c.args.tracks.now c.moved_on.result with
     (less_room c.args.room.now c.check_runs.new.room c.args.tracks.now less c.requires.room)
+
+pub returns-clause-known : goal.returns-clause-known
+returns-clause-known g c =
+    known_set c.in-Some-find_track.k c.args.tracks.now _ c.moved_on.result c.find_track.new.known c.find_track.ensures.known (c.moved_on.ensures.same.0 ∙ ap (λ (t : TrackState). t.id) c.index-tracks-k.is)
 
 pub returns-clause-bound : goal.returns-clause-bound
 returns-clause-bound g c n big near =
@@ -106,8 +117,8 @@ returns-clause-moved g c =
           its_time _ boxes _ there (rw w.payload-in-Some-time.ensures at w.in-Ok-read_time.ensures.time) ∙ sym w.time-is
       | in-None w ↦ no_time boxes (sym c.in_ok-heads.ensures.time ∙ ap (λ (o : Option BoxView). only_list (option_map box_seen o)) w.in-None.is) ∙ sym w.time-is
     ] in
-    traf_moved c.args.moof c.in_ok-passed.passed.count c.in_ok-passed.passed.duration c.in-Some-find_track.k c.args.room.now c.check_runs.new.room c.args.before c.args.tracks.now _ c.index-tracks-k.result c.moved_on.result boxes (box_seen c.in-Some.tfhd) c.in-Ok.head c.in-Some-trex.trex c.what_is_inherited.result c.in_ok-keys.keys c.match-heads-2.time
-    head (rw c.payload.ensures at c.in-Ok.ensures.head) c.in-Some-find_track.ensures.inside c.in-Some-find_track.ensures.found c.in-Some-find_track.ensures.first c.index-tracks-k.is c.in-Some-trex.is c.what_is_inherited.ensures c.in_ok-passed.ensures.count c.in_ok-passed.ensures.lasting
+    traf_moved c.args.moof c.in_ok-passed.passed.count c.in_ok-passed.passed.duration c.in_ok-passed.passed.bytes c.in-Some-find_track.k c.args.room.now c.check_runs.new.room c.args.before c.args.tracks.now _ c.index-tracks-k.result c.moved_on.result boxes (box_seen c.in-Some.tfhd) c.in-Ok.head c.in-Some-trex.trex c.what_is_inherited.result c.in_ok-keys.keys c.match-heads-2.time
+    head (rw c.payload.ensures at c.in-Ok.ensures.head) c.in-Some-find_track.ensures.inside c.in-Some-find_track.ensures.found c.in-Some-find_track.ensures.first c.index-tracks-k.is c.in-Some-trex.is c.what_is_inherited.ensures c.in_ok-passed.ensures.count c.in_ok-passed.ensures.lasting c.in_ok-passed.ensures.filling
     c.in_ok-keys.ensures.sound c.in_ok-keys.ensures.keys (sym c.if-lacks_description.ensures) late time m.none m.some c.in_ok-passed.ensures.few
 
 pub returns-in_default-clause-fault : goal.returns-in_default-clause-fault

@@ -26,12 +26,12 @@ returns-then-samples-clause-passed g c =
     let within = rw again at c.pass_samples-samples.ensures.within in
     let end = rw again at c.pass_samples-samples.ensures.end c.if-samples.true in
     let small = sym c.have_large_offset.ensures ∙ c.if-have_large_offset.false in
-    rw (added c.args.passed.count c.in_ok-run.run'.count, added c.args.passed.duration c.pass_samples-samples.result.duration, near_again c.pass_samples-samples.result.end c.pass_samples-samples.ensures.near)
-    (run_passes c.args.payload.now c.in_ok-run.run' c.args.judged.file_len c.args.judged.inherited c.args.judged.base c.args.passed.at c.run_start-start.result _ _ _ _ r start within c.if-samples.true end
-    (c.pass_samples-samples.ensures.duration c.if-samples.true) (c.pass_samples-samples.ensures.large c.if-samples.true) small)
+    rw (added c.args.passed.count c.in_ok-run.run'.count, added c.args.passed.duration c.pass_samples-samples.result.duration, added c.args.passed.bytes c.pass_samples-samples.result.bytes, near_again c.pass_samples-samples.result.end c.pass_samples-samples.ensures.near)
+    (run_passes c.args.payload.now c.in_ok-run.run' c.args.judged.file_len c.args.judged.inherited c.args.judged.base c.args.passed.at c.run_start-start.result _ _ _ _ _ r start within c.if-samples.true end
+    (c.pass_samples-samples.ensures.duration c.if-samples.true) (c.pass_samples-samples.ensures.bytes c.if-samples.true) (c.pass_samples-samples.ensures.large c.if-samples.true) small)
 
 pub returns-then-samples-clause-bound : goal.returns-then-samples-clause-bound
 returns-then-samples-clause-bound g c n big base before =
     let bytes : AreBytes c.args.payload.now = λ i. search rules in
     let short : c.args.judged.file_len < 2 ^ 64 = search rules in
-    run_up_to n c.args.judged.file_len c.args.judged.inherited c.args.judged.base c.args.passed.at c.args.payload.now _ _ _ bytes short (returns-then-samples-clause-passed g c) big base before
+    run_up_to n c.args.judged.file_len c.args.judged.inherited c.args.judged.base c.args.passed.at c.args.payload.now _ _ _ _ bytes short (returns-then-samples-clause-passed g c) big base before

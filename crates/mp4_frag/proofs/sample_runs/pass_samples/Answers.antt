@@ -5,7 +5,7 @@ use Rattle.std.proofs.lemmas.Int.{to_z-of_z}
 use Rattle.mp4_boxes.specs.Layout.{too_large}
 use Rattle.mp4_tables.specs.TableRules.{lies_within}
 use Rattle.mp4_frag.specs.Passing.{IsNear, rows_left, offsets_left, row_seen}
-use Rattle.mp4_frag.proofs.RunRows.{rows_none, offsets_none, within_step, end_step, lasting_step, large_step, or_false, or_before, near_within, lasts_on, near_again}
+use Rattle.mp4_frag.proofs.RunRows.{rows_none, offsets_none, within_step, end_step, lasting_step, filling_step, large_step, or_false, or_before, near_within, lasts_on, near_again}
 use Rattle.mp4_frag.proofs.sample_runs.pass_samples.Goals as goal
 
 pub returns-clause-within : goal.returns-clause-within
@@ -26,6 +26,12 @@ returns-clause-duration g c within =
     let same = rw none at c.loop-k.invariant.lasts in
     sym (same ∙ add-zero _)
 
+pub returns-clause-bytes : goal.returns-clause-bytes
+returns-clause-bytes g c within =
+    let none : rows_left c.args.payload.now c.args.run c.loop-k.k ≡ [] = rows_none c.args.payload.now c.args.run c.loop-k.k c.loop-k-test.false in
+    let same = rw none at c.loop-k.invariant.fills in
+    sym (same ∙ add-zero _)
+
 pub returns-clause-large : goal.returns-clause-large
 returns-clause-large g c within =
     let none : offsets_left c.args.payload.now c.args.run c.loop-k.k ≡ [] = offsets_none c.args.payload.now c.args.run c.loop-k.k c.loop-k-test.false in
@@ -44,9 +50,11 @@ loop-k-preserved g c =
       within = c.loop-k.invariant.within ∙ within_step _ _ _ _ (row_seen c.args.run c.row_of-row.result) _ _ c.row_of-row.ensures.row lies (again ∙ moved);
       end = c.loop-k.invariant.end ∙ end_step _ _ _ (row_seen c.args.run c.row_of-row.result) _ _ c.row_of-row.ensures.row (again ∙ moved);
       lasts = lasts_on _ _ _ _ _ _ c.loop-k.invariant.lasts (lasting_step _ (row_seen c.args.run c.row_of-row.result) _ _ c.row_of-row.ensures.row) (c.from.ensures ∙ c.unwrap_or-duration.ensures);
+      fills = lasts_on _ _ _ _ _ _ c.loop-k.invariant.fills (filling_step _ (row_seen c.args.run c.row_of-row.result) _ _ c.row_of-row.ensures.row) (c.from-in-loop-k.ensures ∙ size);
       large = rw c.is_too_large.ensures (or_before c.loop-k.samples.are_large (too_large (c.row_of-row.result.offset ∷ [])) (too_large (offsets_left c.args.payload.now c.args.run (c.loop-k.k + 1))) _ (c.loop-k.invariant.large ∙ ap (λ b. c.loop-k.samples.are_large || b) (large_step _ _ _ c.row_of-row.ensures.offset)));
       are_within = search rules;
       near = rw again nearby;
       short = search rules;
+      small = search rules;
       cost = search rules;
     }

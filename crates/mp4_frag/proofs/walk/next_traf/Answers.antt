@@ -1,5 +1,4 @@
-use Rattle.std.proofs.Common.{◌≡◌, ◌+◌, ◌≤◌, suc, length, refl, sym, ap, ◌∙◌, to_z, of_z, rules, arith}
-use Rattle.std.specs.Int.{w128}
+use Rattle.std.proofs.Common.{◌≡◌, ◌+◌, ◌≤◌, suc, length, refl, sym, ap, ◌∙◌, rules, arith, Bool, true, false, not}
 use Rattle.mp4_tables.specs.Keys.{keys_seen}
 use Rattle.mp4_frag.specs.Looks.{looks, over_work}
 use Rattle.mp4_frag.specs.Walks.{walk_of, reached, boxes_between, trafs_coming}
@@ -8,15 +7,19 @@ use Rattle.mp4_frag.specs.declared.places.FragPlace.{FragPlace}
 use Rattle.mp4_frag.specs.declared.places.RowPlace.{RowPlace}
 use Rattle.mp4_frag.proofs.LooksAhead.{work_none, work_found, next_none, next_found, based_found}
 use Rattle.mp4_frag.proofs.walk.next_traf.Goals as goal
-use Rattle.mp4_frag.proofs.walk.next_traf.Goals.{then-ahead, else-ahead}
+use Rattle.mp4_frag.proofs.walk.next_traf.Goals.{then-not-ahead, else-not-ahead}
 
-pub returns-in-None-clause-place : goal.returns-in-None-clause-place
-returns-in-None-clause-place c =
-    let p = c.args.place in
+yes : (v : Bool) → not v ≡ false → v ≡ true
+yes true e = refl
+yes false e = absurd cc
+
+pub returns-in_default-clause-place : goal.returns-in_default-clause-place
+returns-in_default-clause-place c =
+    let p = c.args.place.now in
     let q = c.requires.place in
     let a = c.look_ahead-ahead in
-    let few = a.ensures.few c.in-None.is in
-    let more : c.saturating_add.result ≤ p.passed + looks a.result.boxes (boxes_between c.args.payload.now p.next (length c.args.payload.now)) = search (rules, few) in
+    let few = a.ensures.few c.in_default.is in
+    let more : c.saturating_add-place.result ≤ p.passed + looks a.result.boxes (boxes_between c.args.payload.now p.next (length c.args.payload.now)) = search (rules, few) in
     record {
       next = search rules;
       traf = search rules;
@@ -25,29 +28,29 @@ returns-in-None-clause-place c =
       work = work_none c.args.payload.now p.passed _ p.run.left p.next p.traf_end a.result.boxes c.requires.end c.requires.none more q.work;
     }
 
-pub returns-in-None-clause-coming : goal.returns-in-None-clause-coming
-returns-in-None-clause-coming c =
-    let p = c.args.place in
+pub returns-in_default-clause-coming : goal.returns-in_default-clause-coming
+returns-in_default-clause-coming c =
+    let p = c.args.place.now in
     let payload = c.args.payload.now in
     let w = walk_of c.args.moof c.args.tracks.now p in
     let a = c.look_ahead-ahead in
-    next_none payload w p _ a.result.boxes a.result.at c.requires.none c.requires.end c.requires.none refl refl a.ensures.others a.ensures.rest (a.ensures.none c.in-None.is)
+    next_none payload w p _ a.result.boxes a.result.at c.requires.none c.requires.end c.requires.none refl refl a.ensures.others a.ensures.rest (a.ensures.none c.in_default.is)
 
-pub returns-after-ahead-clause-place : goal.returns-after-ahead-clause-place
-returns-after-ahead-clause-place c =
-    let p = c.args.place in
+pub returns-clause-place : goal.returns-clause-place
+returns-clause-place c =
+    let p = c.args.place.now in
     let payload = c.args.payload.now in
     let q = c.requires.place in
     let a = c.look_ahead-ahead in
-    let r = c.open_traf.result in
+    let r = c.open_traf.new.place in
     let opened = c.open_traf.ensures in
     let traf = c.in-Some.traf in
     let all = boxes_between payload p.next (length payload) in
     let few = a.ensures.looks in
-    let looked : c.saturating_add.result ≤ p.passed + suc (looks a.result.boxes all) = search (rules, few) in
-    let behind : c.if-ahead.behind.passed ≤ p.passed + suc (looks a.result.boxes all) + over_work a.result.boxes all =
-    elim c.if-ahead.branch [ then-ahead w ↦ rw w.behind-is (omega (arith, looked)) | else-ahead w ↦ rw w.behind-is (let over = w.pass_others-behind.ensures.work in omega (arith, looked, over)) ] in
-    let run : c.if-ahead.behind.run ≡ p.run = elim c.if-ahead.branch [ then-ahead w ↦ ap (λ (f : FragPlace). f.run) w.behind-is | else-ahead w ↦ ap (λ (f : FragPlace). f.run) w.behind-is ∙ w.pass_others-behind.ensures.same.2 ] in
+    let looked : c.saturating_add-place.result ≤ p.passed + suc (looks a.result.boxes all) = search (rules, few) in
+    let behind : c.if-not-ahead.place.passed ≤ p.passed + suc (looks a.result.boxes all) + over_work a.result.boxes all =
+    elim c.if-not-ahead.branch [ else-not-ahead w ↦ rw w.place-is (omega (arith, looked)) | then-not-ahead w ↦ rw w.place-is (let over = w.pass_others.ensures.work in omega (arith, looked, over)) ] in
+    let run : c.if-not-ahead.place.run ≡ p.run = elim c.if-not-ahead.branch [ else-not-ahead w ↦ ap (λ (f : FragPlace). f.run) w.place-is | then-not-ahead w ↦ ap (λ (f : FragPlace). f.run) w.place-is ∙ w.pass_others.ensures.same.2 ] in
     let same : r.run ≡ p.run = opened.same.2 ∙ run in
     let none : r.run.left ≡ 0 = ap (λ (row : RowPlace). row.left) same ∙ c.requires.none in
     let inside = rw c.in-Some.is at a.ensures.inside in
@@ -63,35 +66,33 @@ returns-after-ahead-clause-place c =
       work = rw (opened.next, opened.end) (work_found payload p.passed r.passed p.run.left r.run.left p.next p.traf_end a.result.boxes a.result.at traf.inside traf.end traf.kind.0 c.requires.end none a.ensures.rest inside.0 some kind more q.work);
     }
 
-pub returns-after-ahead-clause-coming : goal.returns-after-ahead-clause-coming
-returns-after-ahead-clause-coming c =
-    let p = c.args.place in
+pub returns-clause-coming : goal.returns-clause-coming
+returns-clause-coming c =
+    let p = c.args.place.now in
     let payload = c.args.payload.now in
     let w = walk_of c.args.moof c.args.tracks.now p in
     let a = c.look_ahead-ahead in
-    let behind = c.if-ahead.behind in
-    let r = c.open_traf.result in
+    let behind = c.if-not-ahead.place in
+    let r = c.open_traf.new.place in
     let opened = c.open_traf.ensures in
     let traf = c.in-Some.traf in
     let all = boxes_between payload p.next (length payload) in
     let there = boxes_between payload a.result.at (length payload) in
-    let at : to_z w128 (of_z w128 p.at) ≡ p.at = search rules in
-    let base : to_z w128 (of_z w128 p.base) ≡ p.base = search rules in
     let inside = rw c.in-Some.is at a.ensures.inside in
     let some = rw c.in-Some.is at a.ensures.some in
     let kind = rw c.in-Some.is at a.ensures.kind in
-    let run : behind.run ≡ p.run = elim c.if-ahead.branch [ then-ahead v ↦ ap (λ (f : FragPlace). f.run) v.behind-is | else-ahead v ↦ ap (λ (f : FragPlace). f.run) v.behind-is ∙ v.pass_others-behind.ensures.same.2 ] in
-    let track : behind.track ≡ p.track = elim c.if-ahead.branch [ then-ahead v ↦ ap (λ (f : FragPlace). f.track) v.behind-is | else-ahead v ↦ ap (λ (f : FragPlace). f.track) v.behind-is ∙ v.pass_others-behind.ensures.same.0 ] in
-    let keys : behind.keys ≡ p.keys = elim c.if-ahead.branch [ then-ahead v ↦ ap (λ (f : FragPlace). f.keys) v.behind-is | else-ahead v ↦ ap (λ (f : FragPlace). f.keys) v.behind-is ∙ v.pass_others-behind.ensures.same.1 ] in
+    let run : behind.run ≡ p.run = elim c.if-not-ahead.branch [ else-not-ahead v ↦ ap (λ (f : FragPlace). f.run) v.place-is | then-not-ahead v ↦ ap (λ (f : FragPlace). f.run) v.place-is ∙ v.pass_others.ensures.same.2 ] in
+    let track : behind.track ≡ p.track = elim c.if-not-ahead.branch [ else-not-ahead v ↦ ap (λ (f : FragPlace). f.track) v.place-is | then-not-ahead v ↦ ap (λ (f : FragPlace). f.track) v.place-is ∙ v.pass_others.ensures.same.0 ] in
+    let keys : behind.keys ≡ p.keys = elim c.if-not-ahead.branch [ else-not-ahead v ↦ ap (λ (f : FragPlace). f.keys) v.place-is | then-not-ahead v ↦ ap (λ (f : FragPlace). f.keys) v.place-is ∙ v.pass_others.ensures.same.1 ] in
     let none : r.run.left ≡ 0 = ap (λ (row : RowPlace). row.left) (opened.same.2 ∙ run) ∙ c.requires.none in
     let same : walk_of c.args.moof c.args.tracks.now behind ≡ w = λ k. record { moof = c.args.moof; tracks = c.args.tracks.now; track = track k; keys = keys_seen (keys k) } in
     let on : trafs_coming w (reached payload behind) there ≡ trafs_coming w (reached payload p) all =
-    elim c.if-ahead.branch [
-      | then-ahead v ↦
+    elim c.if-not-ahead.branch [
+      | else-not-ahead v ↦
           let based = rw c.in-Some.is at a.ensures.based in
-          rw (v.behind-is, at, base) (based_found payload w (reached payload p) p.next a.result.boxes a.result.at traf.inside traf.end traf.kind.0 a.ensures.others a.ensures.rest inside.0 some kind (sym based ∙ v.if-ahead.true))
-      | else-ahead v ↦
-          let over = rw (at, base) at v.pass_others-behind.ensures.coming in
-          rw v.behind-is (ap (trafs_coming w (reached payload v.pass_others-behind.result)) (sym a.ensures.rest) ∙ over)
+          rw v.place-is (based_found payload w (reached payload p) p.next a.result.boxes a.result.at traf.inside traf.end traf.kind.0 a.ensures.others a.ensures.rest inside.0 some kind (sym based ∙ yes a.result.is_based v.if-not-ahead.false))
+      | then-not-ahead v ↦
+          let over = v.pass_others.ensures.coming in
+          rw v.place-is (ap (trafs_coming w (reached payload v.pass_others.result)) (sym a.ensures.rest) ∙ over)
     ] in
     next_found payload w p r (reached payload behind) a.result.at traf.inside traf.end traf.kind.0 c.requires.none c.requires.end none opened.next opened.end inside.0 some kind (rw same at opened.reached) on

@@ -1,4 +1,4 @@
-use Rattle.std.proofs.Common.{◌≡◌, ◌+◌, ◌≤◌, Bool, true, false, not, refl, to_z, of_z, sym, ap, ◌∙◌, rules}
+use Rattle.std.proofs.Common.{◌≡◌, ◌+◌, ◌≤◌, to_z, of_z, sym, ap, ◌∙◌, rules}
 use Rattle.std.specs.Int.{w128}
 use Rattle.mp4_frag.specs.Walks.{reached, part_of}
 use Rattle.mp4_frag.proofs.LeavesRead.{run_skipped, run_room, rows_taken, run_own}
@@ -8,29 +8,17 @@ use Rattle.mp4_frag.specs.declared.places.FragPlace.{FragPlace}
 use Rattle.mp4_frag.proofs.TrafsSkipped.{run_over}
 use Rattle.mp4_frag.proofs.walk.open_run.Goals as goal
 
-not_own : (v : Bool) → not v ≡ true → v ≡ false
-not_own true e = absurd cc
-not_own false e = refl
-
-own : (v : Bool) → not v ≡ false → v ≡ true
-own true e = refl
-own false e = absurd cc
-
 pub returns-in_default-clause-coming : goal.returns-in_default-clause-coming
 returns-in_default-clause-coming c more =
     let part = part_of c.args.payload.now c.args.lying.inside c.args.lying.end in
-    let at : to_z w128 (of_z w128 c.args.place.at) ≡ c.args.place.at = search rules in
-    let base : to_z w128 (of_z w128 c.args.place.base) ≡ c.args.place.base = search rules in
-    rw (at, base) (run_skipped (reached c.args.payload.now c.args.place) part _ c.args.place.run.first_flags _ more c.in_default.ensures.fault c.in_default.ensures.unread (no_rows c.args.payload.now c.args.place.run c.requires.none))
+    run_skipped (reached c.args.payload.now c.args.place.now) part _ c.args.place.now.run.first_flags _ more c.in_default.ensures.fault c.in_default.ensures.unread (no_rows c.args.payload.now c.args.place.now.run c.requires.none)
 
 pub returns-then-not-place-clause-coming : goal.returns-then-not-place-clause-coming
 returns-then-not-place-clause-coming c more =
     let part = part_of c.args.payload.now c.args.lying.inside c.args.lying.end in
     let r = c.pass_run.result in
-    let at : to_z w128 (of_z w128 r.at) ≡ r.at = search rules in
-    let base : to_z w128 (of_z w128 r.base) ≡ r.base = search rules in
     let none : r.run.left ≡ 0 = ap (λ (p : FragPlace). p.run.left) c.pass_run.ensures.same ∙ c.requires.none in
-    rw (at, base, no_rows c.args.payload.now r.run none) (ap more c.pass_run.ensures.reached ∙ sym (run_over (reached c.args.payload.now c.args.place) part more (not_own c.args.place.is_own c.if-not-place.true)))
+    rw (no_rows c.args.payload.now r.run none) (ap more c.pass_run.ensures.reached ∙ sym (run_over (reached c.args.payload.now c.args.place.now) part more c.if-not-place.true))
 
 pub returns-clause-place : goal.returns-clause-place
 returns-clause-place c =
@@ -40,15 +28,15 @@ returns-clause-place c =
       traf = p.traf;
       rows = run_room c.args.payload.now c.args.lying.inside c.args.lying.end c.in-Ok.run' c.requires.inside c.requires.within c.in-Ok.ensures.run;
       indexes = p.indexes;
-      work = own_work _ c.args.place.passed _ c.in-Ok.run'.count _ _ (run_cost (part_of c.args.payload.now c.args.lying.inside c.args.lying.end) c.in-Ok.run' c.in-Ok.ensures.run) (let more : c.saturating_add-passed.result ≤ c.args.place.passed + 1 = search rules in more) c.requires.work;
+      work = own_work _ c.args.place.now.passed _ c.in-Ok.run'.count _ _ (run_cost (part_of c.args.payload.now c.args.lying.inside c.args.lying.end) c.in-Ok.run' c.in-Ok.ensures.run) (let more : c.saturating_add-place.result ≤ c.args.place.now.passed + 1 = search rules in more) c.requires.work;
     }
 
 pub returns-clause-coming : goal.returns-clause-coming
 returns-clause-coming c more =
     let part = part_of c.args.payload.now c.args.lying.inside c.args.lying.end in
-    let at : to_z w128 (of_z w128 c.begin.result) ≡ c.begin.result = search rules in
-    let base : to_z w128 (of_z w128 c.args.place.base) ≡ c.args.place.base = search rules in
-    let before : to_z w128 (of_z w128 c.args.place.at) ≡ c.args.place.at = search rules in
+    let at : to_z w128 (of_z w128 c.begin-place.result) ≡ c.begin-place.result = search rules in
+    let base : to_z w128 (of_z w128 c.args.place.now.base) ≡ c.args.place.now.base = search rules in
+    let before : to_z w128 (of_z w128 c.args.place.now.at) ≡ c.args.place.now.at = search rules in
     let run = c.in-Ok.run' in
     let rows = rows_taken c.args.payload.now c.args.lying.inside c.args.lying.end run run.first_flags c.requires.inside c.requires.within c.in-Ok.ensures.run in
-    rw (at, base) (run_own (reached c.args.payload.now c.args.place) part run c.begin.result _ more (own c.args.place.is_own c.if-not-place.false) c.in-Ok.ensures.run (rw (base, before) at c.begin.ensures) rows)
+    rw at (run_own (reached c.args.payload.now c.args.place.now) part run c.begin-place.result _ more c.if-not-place.false c.in-Ok.ensures.run (rw (base, before) at c.begin-place.ensures) rows)

@@ -20,7 +20,7 @@ loop-at-preserved c =
       walk = i.walk;
       time = i.time;
       on = i.on;
-      whole = leaf_other c.args.payload.now (walk_of c.args.moof c.args.tracks.now c.args.place) (reached c.args.payload.now c.loop-at.opened) c.loop-at.at c.args.lying.end child.inside child.end child.kind.0 c.in-Some.ensures.some (sym c.if-eq.ensures) (sym c.if-eq-2.ensures) ∙ i.whole;
+      whole = leaf_other c.args.payload.now (walk_of c.args.moof c.args.tracks.now c.args.place.now) (reached c.args.payload.now c.loop-at.place) c.loop-at.at c.args.lying.end child.inside child.end child.kind.0 c.in-Some.ensures.some (sym c.if-eq.ensures) (sym c.if-eq-2.ensures) ∙ i.whole;
     }
 
 pub loop-at-preserved-then-eq : goal.loop-at-preserved-then-eq
@@ -29,7 +29,7 @@ loop-at-preserved-then-eq c =
     let child = c.in-Some.child in
     let o = c.in-Some.ensures.order in
     let work = i.work in
-    let passed : c.open_head-opened.result.passed ≡ c.loop-at.opened.passed = ap (λ (p : FragPlace). p.passed) c.open_head-opened.ensures.same in
+    let passed : c.open_head.new.place.passed ≡ c.loop-at.place.passed = ap (λ (p : FragPlace). p.passed) c.open_head.ensures.same in
     record {
       within = o.2;
       indexes = search rules;
@@ -43,5 +43,5 @@ loop-at-preserved-then-eq c =
 
 pub returns-clause-reached : goal.returns-clause-reached
 returns-clause-reached c =
-    leaves_done c.args.payload.now (walk_of c.args.moof c.args.tracks.now c.args.place) (reached c.args.payload.now c.loop-at.opened) c.loop-at.at c.args.lying.end (box_end c.args.payload.now c.loop-at.at c.args.lying.end c.loop-at-test.false)
+    leaves_done c.args.payload.now (walk_of c.args.moof c.args.tracks.now c.args.place.now) (reached c.args.payload.now c.loop-at.place) c.loop-at.at c.args.lying.end (box_end c.args.payload.now c.loop-at.at c.args.lying.end c.loop-at-test.false)
     ∙ c.loop-at.invariant.whole

@@ -7,13 +7,13 @@ use Rattle.mp4_frag.proofs.walk.open_traf.Given as goal
 abbrev pub invariant-loop-at : goal.invariant-loop-at
 invariant-loop-at l = record {
   within : l.at ≤ l.lying.end;
-  indexes : AreIndexPlaces l.payload l.opened.indexes;
-  work : l.opened.passed + groups_work (boxes_between l.payload l.at l.lying.end) ≤ l.fn.place.passed + groups_work (boxes_between l.payload l.lying.inside l.lying.end);
-  places : (l.opened.next ≡ l.lying.inside) × (l.opened.traf_end ≡ l.lying.end);
-  walk : (l.opened.track ≡ l.fn.place.track) × (l.opened.keys ≡ l.fn.place.keys) × (l.opened.run ≡ l.fn.place.run);
-  time : l.opened.dts ≡ l.fn.place.dts;
-  on : l.fn.place.passed ≤ l.opened.passed;
-  whole : with_leaves (walk_of l.moof l.tracks l.fn.place) (reached l.payload l.opened) (boxes_between l.payload l.at l.lying.end)
+  indexes : AreIndexPlaces l.payload l.place.indexes;
+  work : l.place.passed + groups_work (boxes_between l.payload l.at l.lying.end) ≤ l.fn.place.passed + groups_work (boxes_between l.payload l.lying.inside l.lying.end);
+  places : (l.place.next ≡ l.lying.inside) × (l.place.traf_end ≡ l.lying.end);
+  walk : (l.place.track ≡ l.fn.place.track) × (l.place.keys ≡ l.fn.place.keys) × (l.place.run ≡ l.fn.place.run);
+  time : l.place.dts ≡ l.fn.place.dts;
+  on : l.fn.place.passed ≤ l.place.passed;
+  whole : with_leaves (walk_of l.moof l.tracks l.fn.place) (reached l.payload l.place) (boxes_between l.payload l.at l.lying.end)
       ≡ with_leaves (walk_of l.moof l.tracks l.fn.place) (before_traf (reached l.payload l.fn.place)) (boxes_between l.payload l.lying.inside l.lying.end);
 }
 

@@ -1,6 +1,5 @@
 use Rattle.std.proofs.Common.{rules, List, take, drop, ◌++◌, ◌≡◌, length, subst}
 use Rattle.mp4_frag.specs.declared.state.TrackState.{TrackState}
-use Rattle.mp4_present.specs.declared.tables_pass.Counted.{Counted}
 use Rattle.mp4_present.specs.PassedMoofs.{IsBegun, IsPassed}
 use Rattle.mp4_present.proofs.MoofBytes.{written_back}
 use Rattle.mp4_present.proofs.fragment_pass.check_fragments.Goals as goal
@@ -8,18 +7,11 @@ use Rattle.mp4_present.proofs.fragment_pass.check_fragments.Goals as goal
 pub returns-clause-passed : goal.returns-clause-passed
 returns-clause-passed g c =
     let s0 = c.extend_from_slice.new.self in
-    let c0 = c.extend_from_slice-2.new.self in
     let states = c.pass_fragments.new.states in
-    let counted = c.pass_fragments.new.counted in
     let many : length states ≡ s0.len = search rules in
-    let number : length counted ≡ c0.len = search rules in
     let s : states ≡ take s0.len (states ++ drop (length states) s0.items) = written_back states _ s0.len many in
-    let n : counted ≡ take c0.len (counted ++ drop (length counted) c0.items) = written_back counted _ c0.len number in
     let old : c.args.plain.now.states.items ≡ c.as_mut_slice.result.now = search rules in
-    let none : c.args.plain.now.counted.items ≡ c.as_mut_slice-2.result.now = search rules in
     λ told movie boxes b.
     let file = g.S.Store.file c.args.store.now in
-    let begun : IsBegun file movie boxes c.as_mut_slice.result.now c.as_mut_slice-2.result.now c.args.plain.now.room =
-    subst (λ (xs : List TrackState). IsBegun file movie boxes xs c.as_mut_slice-2.result.now c.args.plain.now.room) old (subst (λ (xs : List Counted). IsBegun file movie boxes c.args.plain.now.states.items xs c.args.plain.now.room) none b) in
-    subst (λ (xs : List TrackState). IsPassed file movie boxes xs (take c0.len (counted ++ drop (length counted) c0.items))) s
-    (subst (λ (xs : List Counted). IsPassed file movie boxes states xs) n (c.in_ok-pass_fragments.ensures.passed told movie boxes begun))
+    let begun : IsBegun file movie boxes c.as_mut_slice.result.now c.args.plain.now.room = subst (λ (xs : List TrackState). IsBegun file movie boxes xs c.args.plain.now.room) old b in
+    subst (λ (xs : List TrackState). IsPassed file movie boxes xs) s (c.in_ok-pass_fragments.ensures.passed told movie boxes begun)

@@ -1,10 +1,9 @@
-use Rattle.std.proofs.Common.{◌≡◌, ◌+◌, rules, length, refl, subst, ℕ}
+use Rattle.std.proofs.Common.{◌≡◌, rules, length, refl, subst, ℕ}
 use Rattle.std.specs.Prelude.{unwrap_or}
 use Rattle.std.proofs.lemmas.Result.{err_from_is_err_and}
 use Rattle.mp4_present.proofs.FragmentPass.{Left, left_first, left_next}
 use Rattle.mp4_present.proofs.MoofsPassed.{IsUnderWay, IsRead, under_way_first, not_read, all_passed, next_passed, next_refused}
 use Rattle.mp4_boxes.specs.View.{box_seen}
-use Rattle.mp4_frag.specs.Views.{moof_seen}
 use Rattle.mp4_present.proofs.ChecksCounted.{within_first, next_within, checks_done}
 use Rattle.mp4_present.proofs.MoofBytes.{none_fit, next_fits, all_fit, refused_fits}
 use Rattle.mp4_present.proofs.TablesWork.{if_no_fault}
@@ -24,21 +23,19 @@ loop-top-init g c = record {
       let outline = c.args.outline.now in
       let next : unwrap_or outline.fragments (length file) ≡ c.unwrap_or-next.result = search rules in
       subst (λ (k : ℕ). Left file k outline.longest) next (left_first file o.0 outline o.1 o.3);
-  each = search rules;
   so = λ told movie boxes b.
       let o = c.requires.outline told in
       let file = g.S.Store.file c.args.store.now in
       let outline = c.args.outline.now in
       let next : unwrap_or outline.fragments (length file) ≡ c.unwrap_or-next.result = search rules in
-      subst (λ (k : ℕ). IsUnderWay file movie boxes k outline.longest c.args.states.now c.args.counted.now c.args.room) next (under_way_first file movie boxes o.0 outline c.args.states.now c.args.counted.now c.args.room o.1 o.3 b);
-  counted = refl;
+      subst (λ (k : ℕ). IsUnderWay file movie boxes k outline.longest c.args.states.now c.args.room) next (under_way_first file movie boxes o.0 outline c.args.states.now c.args.room o.1 o.3 b);
   work = λ told.
       let o = c.requires.outline told in
       let file = g.S.Store.file c.args.store.now in
       let outline = c.args.outline.now in
       let next : unwrap_or outline.fragments (length file) ≡ c.unwrap_or-next.result = search rules in
-      within_first (length c.args.counted.now + 1) file o.0 outline _ _ o.1 o.3 next;
-  fit = λ told movie boxes b. none_fit _ _ _ _ _ c.requires.few;
+      within_first file o.0 outline _ _ o.1 o.3 next;
+  fit = λ told. none_fit _ _ _ _ c.requires.few;
 }
 
 pub returns-in_err-len-clause-refusal : goal.returns-in_err-len-clause-refusal
@@ -48,7 +45,7 @@ returns-in_err-len-clause-refusal g c =
     let file = g.S.Store.file c.args.store.now in
     let next = rw (i.honesty, i.file, c.in-Some.is) at c.in_ok-top.ensures.next in
     let within = rw (i.file, c.in-Some.is) at c.in_ok-top.ensures.within in
-    rw (p.1, p.2) (not_read (g.S.Store.is_honest c.args.store.now) file c.args.states.now c.args.counted.now c.args.room c.in-Some.top c.args.outline.now.longest _ _ _ _ (λ told. let l = i.left told in left_next file _ _ c.in-Some.top l within.0 (next told l.boxes l.are_from)) (search rules)
+    rw (p.1, p.2) (not_read (g.S.Store.is_honest c.args.store.now) file c.args.states.now c.args.room c.in-Some.top c.args.outline.now.longest _ _ _ _ (λ told. let l = i.left told in left_next file _ _ c.in-Some.top l within.0 (next told l.boxes l.are_from)) (search rules)
     (rw (c.in_ok-top.ensures.reads, i.reads) at c.in_err-len.ensures.refusal))
 
 pub loop-top-preserved : goal.loop-top-preserved
@@ -65,7 +62,6 @@ loop-top-preserved g c =
       few = search rules;
       longest = search rules;
       left = λ told. let l = i.left told in (left_next file _ _ c.in-Some.top l within.0 (next told l.boxes l.are_from)).left;
-      each = search rules;
       so = λ told movie boxes b.
           let u = i.so told movie boxes b in
           let r : IsRead file c.in-Some.top (box_seen c.view-moof.result) c.read_payload.new.room c.in_ok-len.len = record {
@@ -75,10 +71,9 @@ loop-top-preserved g c =
             read = (rw (c.in_ok-top.ensures.honesty, i.honesty, c.in_ok-top.ensures.file, i.file) at c.in_ok-len.ensures.bytes) told;
             of_bytes = c.in_ok-len.ensures.room;
           } in
-          next_passed file movie boxes c.loop-top.next c.args.outline.now.longest c.args.states.now c.loop-top.states c.args.counted.now c.loop-top.counted c.args.room c.loop-top.room b u c.in-Some.top within.0 (next told u.left.boxes u.left.are_from)
+          next_passed file movie boxes c.loop-top.next c.args.outline.now.longest c.args.states.now c.loop-top.states c.args.room c.loop-top.room b u c.in-Some.top within.0 (next told u.left.boxes u.left.are_from)
           (box_seen c.view-moof.result) c.read_payload.new.room c.in_ok-len.len c.len-file_len.result r c.len-file_len.ensures
-          (moof_seen c.in_ok-view.view) c.check_moof.new.tracks c.count_samples.new.counted c.check_moof.new.room c.in_ok-view.ensures.view c.in_ok-view.ensures.sound c.in_ok-view.ensures.same c.in_ok-view.ensures.moved c.in_ok-view.ensures.room c.count_samples.ensures.counts;
-      counted = search rules;
+          c.check_moof.new.tracks c.check_moof.new.room c.in_ok-check_moof.ensures.sound c.in_ok-check_moof.ensures.moved;
       work = λ told all h.
           let u = i.work told all h in
           let r : IsRead file c.in-Some.top (box_seen c.view-moof.result) c.read_payload.new.room c.in_ok-len.len = record {
@@ -88,10 +83,10 @@ loop-top-preserved g c =
             read = (rw (c.in_ok-top.ensures.honesty, i.honesty, c.in_ok-top.ensures.file, i.file) at c.in_ok-len.ensures.bytes) told;
             of_bytes = c.in_ok-len.ensures.room;
           } in
-          let e = c.in_ok-view.ensures in
-          next_within (length c.args.counted.now) file c.loop-top.next c.in-Some.top all within.0 u.0 u.1.0 (next told u.0 u.1.0) (box_seen c.view-moof.result) (moof_seen c.in_ok-view.view) c.read_payload.new.room c.in_ok-len.len r e.view
-          _ _ _ _ _ _ _ _ _ e.moved e.cost c.count_samples.ensures.work i.counted u.1.1;
-      fit = λ told movie boxes b.
+          let e = c.in_ok-check_moof.ensures in
+          next_within file c.loop-top.next c.in-Some.top all within.0 u.0 u.1.0 (next told u.0 u.1.0) (box_seen c.view-moof.result) c.read_payload.new.room c.in_ok-len.len r
+          _ _ _ _ _ _ _ e.moved e.cost u.1.1;
+      fit = λ told.
           let r : IsRead file c.in-Some.top (box_seen c.view-moof.result) c.read_payload.new.room c.in_ok-len.len = record {
             is = c.view-moof.ensures;
             fills = c.in_ok-len.ensures.fills.0;
@@ -99,14 +94,12 @@ loop-top-preserved g c =
             read = (rw (c.in_ok-top.ensures.honesty, i.honesty, c.in_ok-top.ensures.file, i.file) at c.in_ok-len.ensures.bytes) told;
             of_bytes = c.in_ok-len.ensures.room;
           } in
-          let e = c.in_ok-view.ensures in
-          next_fits file c.loop-top.next c.in-Some.top within.0 within.1 (box_seen c.view-moof.result) c.read_payload.new.room c.in_ok-len.len r (length c.args.counted.now) movie boxes c.args.outline.now.longest c.loop-top.room c.check_moof.new.room c.len-file_len.result c.loop-top.states c.check_moof.new.tracks c.loop-top.counted (moof_seen c.in_ok-view.view)
-          _ _ _ _ _ (i.so told movie boxes b) e.view e.sound e.moved e.within c.count_samples.ensures.within i.counted e.few (i.fit told movie boxes b);
+          next_fits file c.loop-top.next c.in-Some.top within.0 within.1 (box_seen c.view-moof.result) c.read_payload.new.room c.in_ok-len.len r _ _ _ _ _ c.in_ok-check_moof.ensures.within (i.fit told);
     }
 
-pub returns-in_err-view-clause-refusal : goal.returns-in_err-view-clause-refusal
-returns-in_err-view-clause-refusal g c =
-    let p = err_from_is_err_and c.from_residual-in_err-view.result c.from_residual-in_err-view.ensures.1 in
+pub returns-in_err-check_moof-clause-refusal : goal.returns-in_err-check_moof-clause-refusal
+returns-in_err-check_moof-clause-refusal g c =
+    let p = err_from_is_err_and c.from_residual-in_err-check_moof.result c.from_residual-in_err-check_moof.ensures.1 in
     let i = c.loop-top.invariant in
     let file = g.S.Store.file c.args.store.now in
     let next = rw (i.honesty, i.file, c.in-Some.is) at c.in_ok-top.ensures.next in
@@ -120,40 +113,40 @@ returns-in_err-view-clause-refusal g c =
       read = (rw (c.in_ok-top.ensures.honesty, i.honesty, c.in_ok-top.ensures.file, i.file) at c.in_ok-len.ensures.bytes) told;
       of_bytes = c.in_ok-len.ensures.room;
     } in
-    next_refused file movie boxes c.loop-top.next c.args.outline.now.longest c.args.states.now c.loop-top.states c.args.counted.now c.loop-top.counted c.args.room c.loop-top.room b u c.in-Some.top within.0 (next told u.left.boxes u.left.are_from)
-    (box_seen c.view-moof.result) c.read_payload.new.room c.in_ok-len.len c.len-file_len.result r c.len-file_len.ensures c.in_err-view.field-0.0 c.in_err-view.ensures.fault)
+    next_refused file movie boxes c.loop-top.next c.args.outline.now.longest c.args.states.now c.loop-top.states c.args.room c.loop-top.room b u c.in-Some.top within.0 (next told u.left.boxes u.left.are_from)
+    (box_seen c.view-moof.result) c.read_payload.new.room c.in_ok-len.len c.len-file_len.result r c.len-file_len.ensures c.in_err-check_moof.field-0.0 c.in_err-check_moof.ensures.fault)
 
 pub returns-clause-passed : goal.returns-clause-passed
 returns-clause-passed g c = λ told movie boxes b.
     let i = c.loop-top.invariant in
     let u = i.so told movie boxes b in
     let file = g.S.Store.file c.args.store.now in
-    all_passed file movie boxes c.loop-top.next c.args.outline.now.longest c.loop-top.states c.loop-top.counted c.loop-top.room u ((rw (i.honesty, i.file, c.in_default.is) at c.in_ok-top.ensures.next) told u.left.boxes u.left.are_from)
+    all_passed file movie boxes c.loop-top.next c.args.outline.now.longest c.loop-top.states c.loop-top.room u ((rw (i.honesty, i.file, c.in_default.is) at c.in_ok-top.ensures.next) told u.left.boxes u.left.are_from)
 
 pub returns-clause-work : goal.returns-clause-work
-returns-clause-work g c = λ told. checks_done _ _ _ _ _ (c.loop-top.invariant.work told)
+returns-clause-work g c = λ told. checks_done _ _ _ _ (c.loop-top.invariant.work told)
 
 pub returns-in_err-top-clause-work : goal.returns-in_err-top-clause-work
-returns-in_err-top-clause-work g c = λ told. if_no_fault _ _ (checks_done _ _ _ _ _ (c.loop-top.invariant.work told))
+returns-in_err-top-clause-work g c = λ told. if_no_fault _ _ (checks_done _ _ _ _ (c.loop-top.invariant.work told))
 
 pub returns-in_err-len-clause-work : goal.returns-in_err-len-clause-work
-returns-in_err-len-clause-work g c = λ told. if_no_fault _ _ (checks_done _ _ _ _ _ (c.loop-top.invariant.work told))
+returns-in_err-len-clause-work g c = λ told. if_no_fault _ _ (checks_done _ _ _ _ (c.loop-top.invariant.work told))
 
 pub returns-clause-within : goal.returns-clause-within
-returns-clause-within g c = λ told movie boxes b. all_fit _ _ _ _ _ _ (c.loop-top.invariant.fit told movie boxes b)
+returns-clause-within g c = λ told. all_fit _ _ _ _ _ (c.loop-top.invariant.fit told)
 
 pub returns-in_err-top-clause-within : goal.returns-in_err-top-clause-within
-returns-in_err-top-clause-within g c = λ told movie boxes b. all_fit _ _ _ _ _ _ (c.loop-top.invariant.fit told movie boxes b)
+returns-in_err-top-clause-within g c = λ told. all_fit _ _ _ _ _ (c.loop-top.invariant.fit told)
 
 pub returns-in_err-len-clause-within : goal.returns-in_err-len-clause-within
-returns-in_err-len-clause-within g c = λ told movie boxes b. all_fit _ _ _ _ _ _ (c.loop-top.invariant.fit told movie boxes b)
+returns-in_err-len-clause-within g c = λ told. all_fit _ _ _ _ _ (c.loop-top.invariant.fit told)
 
-pub returns-in_err-view-clause-within : goal.returns-in_err-view-clause-within
-returns-in_err-view-clause-within g c =
+pub returns-in_err-check_moof-clause-within : goal.returns-in_err-check_moof-clause-within
+returns-in_err-check_moof-clause-within g c =
     let i = c.loop-top.invariant in
     let file = g.S.Store.file c.args.store.now in
     let within = rw (i.file, c.in-Some.is) at c.in_ok-top.ensures.within in
-    λ told movie boxes b.
+    λ told.
     let r : IsRead file c.in-Some.top (box_seen c.view-moof.result) c.read_payload.new.room c.in_ok-len.len = record {
       is = c.view-moof.ensures;
       fills = c.in_ok-len.ensures.fills.0;
@@ -161,4 +154,4 @@ returns-in_err-view-clause-within g c =
       read = (rw (c.in_ok-top.ensures.honesty, i.honesty, c.in_ok-top.ensures.file, i.file) at c.in_ok-len.ensures.bytes) told;
       of_bytes = c.in_ok-len.ensures.room;
     } in
-    refused_fits file c.loop-top.next c.in-Some.top within.0 within.1 (box_seen c.view-moof.result) c.read_payload.new.room c.in_ok-len.len r (length c.args.counted.now) _ _ _ _ c.check_moof.ensures.work (i.fit told movie boxes b)
+    refused_fits file c.loop-top.next c.in-Some.top within.0 within.1 (box_seen c.view-moof.result) c.read_payload.new.room c.in_ok-len.len r _ _ _ _ c.check_moof.ensures.work (i.fit told)

@@ -1,4 +1,4 @@
-use Rattle.std.proofs.Common.{◌≡◌, ◌+◌, ◌-◌, ◌^◌, ◌≤◌, List, length}
+use Rattle.std.proofs.Common.{◌≡◌, ◌-◌, ◌^◌, ◌≤◌, List, length}
 use Rattle.mp4_boxes.specs.Box.{Box}
 use Rattle.mp4_head.specs.Tree.{MovieTree}
 use Rattle.mp4_present.specs.PassedMoofs.{IsBegun}
@@ -21,11 +21,9 @@ invariant-loop-top g l =
       few : l.room ≤ 2 ^ 24;
       longest : length l.bytes ≡ l.outline.longest;
       left : IsTrue (g.S.Store.is_honest l.fn.store) → Left (g.S.Store.file l.fn.store) l.next l.outline.longest;
-      each : length l.counted ≡ length l.states;
-      so : IsTrue (g.S.Store.is_honest l.fn.store) → (movie : MovieTree) (boxes : List Box) → IsBegun (g.S.Store.file l.fn.store) movie boxes l.fn.states l.fn.counted l.fn.room → IsUnderWay (g.S.Store.file l.fn.store) movie boxes l.next l.outline.longest l.states l.counted l.room;
-      counted : length l.counted ≡ length l.fn.counted;
-      work : IsTrue (g.S.Store.is_honest l.fn.store) → LeftWithin (length l.fn.counted + 1) (g.S.Store.file l.fn.store) l.next l.fn.steps l.steps;
-      fit : IsTrue (g.S.Store.is_honest l.fn.store) → (movie : MovieTree) (boxes : List Box) → IsBegun (g.S.Store.file l.fn.store) movie boxes l.fn.states l.fn.counted l.fn.room → MoofsFit (length l.fn.counted + 1) (length (g.S.Store.file l.fn.store)) l.next l.room l.fn.steps l.steps;
+      so : IsTrue (g.S.Store.is_honest l.fn.store) → (movie : MovieTree) (boxes : List Box) → IsBegun (g.S.Store.file l.fn.store) movie boxes l.fn.states l.fn.room → IsUnderWay (g.S.Store.file l.fn.store) movie boxes l.next l.outline.longest l.states l.room;
+      work : IsTrue (g.S.Store.is_honest l.fn.store) → LeftWithin (g.S.Store.file l.fn.store) l.next l.fn.steps l.steps;
+      fit : IsTrue (g.S.Store.is_honest l.fn.store) → MoofsFit (length (g.S.Store.file l.fn.store)) l.next l.room l.fn.steps l.steps;
     }
 
 abbrev pub decreases-loop-top : goal.decreases-loop-top

@@ -7,7 +7,7 @@ use Rattle.mp4_present.specs.declared.opening.Found.{Found}
 use Rattle.mp4_boxes.specs.Bytes.{AreBytes}
 use Rattle.mp4_present.proofs.Assembled.{movie, begun, have, opened_as, limit_stands, measure}
 use Rattle.std.proofs.lemmas.Result.{err_from_is_err_and}
-use Rattle.mp4_present.proofs.Opened.{IsRead, its_movie, open_not_sound, open_not_fit, open_not_passed}
+use Rattle.mp4_present.proofs.Opened.{IsRead, its_movie, tracks_read, open_not_sound, open_not_fit, open_not_passed}
 use Rattle.mp4_present.proofs.OpeningBytes.{tables_open, moofs_open, none_open}
 use Rattle.mp4_present.proofs.OpeningSteps.{tables_counted, moofs_counted}
 use Rattle.mp4_present.proofs.PlainLists.{found_tables}
@@ -15,7 +15,7 @@ use Rattle.mp4_present.proofs.TablesWork.{if_no_fault, handed_on, none_taken}
 use Rattle.mp4_present.proofs.opening.find.Goals as goal
 
 pub check_tables-requires : goal.check_tables-requires
-check_tables-requires g c = record { inside = found_tables _ c.in_ok-head.head c.in_ok-head.ensures.head c.in_ok-head.ensures.inside; distinct = subst (λ (xs : List Trex). are_distinct (map (λ (t : Trex). t.id) xs) ≡ true) (sym (ap (λ (x : Head). x.trexes) c.in_ok-head.ensures.head.has.says)) c.in_ok-head.ensures.head.has.is_sound.trex_ids }
+check_tables-requires g c = record { inside = found_tables _ c.in_ok-head.head c.in_ok-head.ensures.head c.in_ok-head.ensures.inside; distinct = subst (λ (xs : List Trex). are_distinct (map (λ (t : Trex). t.id) xs) ≡ true) (sym (ap (λ (x : Head). x.trexes) c.in_ok-head.ensures.head.has.says)) c.in_ok-head.ensures.head.has.is_sound.trex_ids; read = (c.in_ok-head.ensures.head.has.tree.tracks, tracks_read _ c.in_ok-head.head c.in_ok-head.ensures.head) }
 
 pub returns-in_err-head-clause-refusal : goal.returns-in_err-head-clause-refusal
 returns-in_err-head-clause-refusal g c =
@@ -29,17 +29,17 @@ returns-in_err-plain-clause-refusal g c =
     let r : IsRead (g.S.Store.is_honest c.args.store.now) (g.S.Store.file c.args.store.now) c.args.outline.now c.args.moov.now _ = record { outline = c.requires.outline; is = c.view-view.ensures; fills = c.requires.fills; bytes = c.requires.bytes } in
     rw (p.1, p.2) (open_not_fit _ _ c.args.outline.now c.args.moov.now _ c.in_ok-head.head _ _ _ r c.in_ok-head.ensures.head c.len.ensures c.in_err-plain.ensures.refusal)
 
-pub returns-in_err-all-clause-refusal : goal.returns-in_err-all-clause-refusal
-returns-in_err-all-clause-refusal g c =
-    let p = err_from_is_err_and c.from_residual-in_err-all.result c.from_residual-in_err-all.ensures.1 in
+pub returns-in_err-states-clause-refusal : goal.returns-in_err-states-clause-refusal
+returns-in_err-states-clause-refusal g c =
+    let p = err_from_is_err_and c.from_residual-in_err-states.result c.from_residual-in_err-states.ensures.1 in
     let honest = g.S.Store.is_honest c.args.store.now in
     let file = g.S.Store.file c.args.store.now in
     let r : IsRead honest file c.args.outline.now c.args.moov.now _ = record { outline = c.requires.outline; is = c.view-view.ensures; fills = c.requires.fills; bytes = c.requires.bytes } in
     let bytes : AreBytes c.args.moov.now = λ k. search rules in
     let says = c.in_ok-head.ensures.head in
-    rw (p.1, p.2) (open_not_passed honest file _ _ _ _ _ _
+    rw (p.1, p.2) (open_not_passed honest file _ _ _ _ _
     (λ told. (movie honest file c.args.outline.now c.args.moov.now _ c.in_ok-head.head c.in_ok-plain.plain r says bytes _ c.len.ensures c.in_ok-plain.ensures.says told, _, begun honest file c.args.outline.now c.args.moov.now _ c.in_ok-head.head c.in_ok-plain.plain r says bytes _ c.len.ensures c.in_ok-plain.ensures.says told))
-    c.in_err-all.ensures.refusal)
+    c.in_err-states.ensures.refusal)
 
 pub returns-in_err-mehd-clause-refusal : goal.returns-in_err-mehd-clause-refusal
 returns-in_err-mehd-clause-refusal g c =
@@ -54,14 +54,14 @@ returns-in_err-mehd-clause-refusal g c =
     let moov = c.args.moov.now in
     let head = c.in_ok-head.head in
     let plain = c.in_ok-plain.plain in
-    let all = c.in_ok-all.all in
+    let states = c.in_ok-states.states in
     rw (q.1, q.2) (λ told.
     let own = have honest file outline moov b head plain r says bytes _ c.len.ensures c.in_ok-plain.ensures.says told in
     let begin = begun honest file outline moov b head plain r says bytes _ c.len.ensures c.in_ok-plain.ensures.says told in
-    let passed = c.in_ok-all.ensures.passed told _ _ begin in
+    let passed = c.in_ok-states.ensures.passed told _ _ begin in
     let fails = rw c.as_slice.ensures.value at c.in_err-mehd.ensures.fault in
-    limit_stands honest file outline moov b head plain r says told own begin all.states.items all.counted.items passed c.in_err-mehd.field-0.0
-    (fails _ (measure honest file outline moov b head plain r says told own begin all.states.items all.counted.items passed)))
+    limit_stands honest file outline moov b head plain r says told own begin states.items passed c.in_err-mehd.field-0.0
+    (fails _ (measure honest file outline moov b head plain r says told own begin states.items passed)))
 
 pub returns-clause-movie : goal.returns-clause-movie
 returns-clause-movie g c =
@@ -75,15 +75,15 @@ returns-clause-movie g c =
     let moov = c.args.moov.now in
     let head = c.in_ok-head.head in
     let plain = c.in_ok-plain.plain in
-    let all = c.in_ok-all.all in
+    let states = c.in_ok-states.states in
     λ told.
     let own = have honest file outline moov b head plain r says bytes _ c.len.ensures c.in_ok-plain.ensures.says told in
     let begin = begun honest file outline moov b head plain r says bytes _ c.len.ensures c.in_ok-plain.ensures.says told in
-    let passed = c.in_ok-all.ensures.passed told _ _ begin in
+    let passed = c.in_ok-states.ensures.passed told _ _ begin in
     let within = rw c.as_slice.ensures.value at c.in_ok-mehd.ensures.within in
-    let w = within _ (measure honest file outline moov b head plain r says told own begin all.states.items all.counted.items passed) in
+    let w = within _ (measure honest file outline moov b head plain r says told own begin states.items passed) in
     let found : Found = record { plain = plain; tracks = c.in_ok-tracks.tracks; mehd = c.in_ok-mehd.mehd } in
-    (_, opened_as honest file outline moov b head plain r says told own begin all.states.items all.counted.items passed found (length file) refl w.0 w.1 w.2 c.in_ok-tracks.ensures.infos refl)
+    (_, opened_as honest file outline moov b head plain r says told own begin states.items passed found (length file) refl w.0 w.1 w.2 (rw c.as_slice-2.ensures.value at c.in_ok-tracks.ensures.infos) refl)
 
 pub returns-clause-ids : goal.returns-clause-ids
 returns-clause-ids g c =
@@ -104,16 +104,16 @@ returns-in_err-plain-clause-work g c =
     let r : IsRead honest file outline moov b = record { outline = c.requires.outline; is = c.view-view.ensures; fills = c.requires.fills; bytes = c.requires.bytes } in
     rw (p.1, p.2) (λ told tree is. handed_on Found _ _ _ (tables_counted honest file outline moov b c.in_ok-head.head r c.in_ok-head.ensures.head told tree is _ _) c.in_err-plain.ensures.work)
 
-pub returns-in_err-all-clause-work : goal.returns-in_err-all-clause-work
-returns-in_err-all-clause-work g c =
-    let p = err_from_is_err_and c.from_residual-in_err-all.result c.from_residual-in_err-all.ensures.1 in
+pub returns-in_err-states-clause-work : goal.returns-in_err-states-clause-work
+returns-in_err-states-clause-work g c =
+    let p = err_from_is_err_and c.from_residual-in_err-states.result c.from_residual-in_err-states.ensures.1 in
     let honest = g.S.Store.is_honest c.args.store.now in
     let file = g.S.Store.file c.args.store.now in
     let outline = c.args.outline.now in
     let moov = c.args.moov.now in
     let b = box_seen c.view-view.result in
     let r : IsRead honest file outline moov b = record { outline = c.requires.outline; is = c.view-view.ensures; fills = c.requires.fills; bytes = c.requires.bytes } in
-    rw (p.1, p.2) (λ told tree is. handed_on Found _ _ _ (moofs_counted honest file outline moov b c.in_ok-head.head r c.in_ok-head.ensures.head told tree is _ _ _ _ c.in_ok-plain.ensures.plain.each_count c.in_ok-plain.ensures.work) (c.in_err-all.ensures.work told))
+    rw (p.1, p.2) (λ told tree is. handed_on Found _ _ _ (moofs_counted honest file outline moov b c.in_ok-head.head r c.in_ok-head.ensures.head told tree is _ _ _ c.in_ok-plain.ensures.work) (c.in_err-states.ensures.work told))
 
 pub returns-in_err-mehd-clause-work : goal.returns-in_err-mehd-clause-work
 returns-in_err-mehd-clause-work g c =
@@ -123,7 +123,7 @@ returns-in_err-mehd-clause-work g c =
     let moov = c.args.moov.now in
     let b = box_seen c.view-view.result in
     let r : IsRead honest file outline moov b = record { outline = c.requires.outline; is = c.view-view.ensures; fills = c.requires.fills; bytes = c.requires.bytes } in
-    λ told tree is. if_no_fault _ _ (moofs_counted honest file outline moov b c.in_ok-head.head r c.in_ok-head.ensures.head told tree is _ _ _ _ c.in_ok-plain.ensures.plain.each_count c.in_ok-plain.ensures.work (c.in_ok-all.ensures.work told))
+    λ told tree is. if_no_fault _ _ (moofs_counted honest file outline moov b c.in_ok-head.head r c.in_ok-head.ensures.head told tree is _ _ _ c.in_ok-plain.ensures.work (c.in_ok-states.ensures.work told))
 
 pub returns-in_err-tracks-clause-work : goal.returns-in_err-tracks-clause-work
 returns-in_err-tracks-clause-work g c =
@@ -133,7 +133,7 @@ returns-in_err-tracks-clause-work g c =
     let moov = c.args.moov.now in
     let b = box_seen c.view-view.result in
     let r : IsRead honest file outline moov b = record { outline = c.requires.outline; is = c.view-view.ensures; fills = c.requires.fills; bytes = c.requires.bytes } in
-    λ told tree is. if_no_fault _ _ (moofs_counted honest file outline moov b c.in_ok-head.head r c.in_ok-head.ensures.head told tree is _ _ _ _ c.in_ok-plain.ensures.plain.each_count c.in_ok-plain.ensures.work (c.in_ok-all.ensures.work told))
+    λ told tree is. if_no_fault _ _ (moofs_counted honest file outline moov b c.in_ok-head.head r c.in_ok-head.ensures.head told tree is _ _ _ c.in_ok-plain.ensures.work (c.in_ok-states.ensures.work told))
 
 pub returns-clause-work : goal.returns-clause-work
 returns-clause-work g c =
@@ -143,7 +143,7 @@ returns-clause-work g c =
     let moov = c.args.moov.now in
     let b = box_seen c.view-view.result in
     let r : IsRead honest file outline moov b = record { outline = c.requires.outline; is = c.view-view.ensures; fills = c.requires.fills; bytes = c.requires.bytes } in
-    λ told tree is. moofs_counted honest file outline moov b c.in_ok-head.head r c.in_ok-head.ensures.head told tree is _ _ _ _ c.in_ok-plain.ensures.plain.each_count c.in_ok-plain.ensures.work (c.in_ok-all.ensures.work told)
+    λ told tree is. moofs_counted honest file outline moov b c.in_ok-head.head r c.in_ok-head.ensures.head told tree is _ _ _ c.in_ok-plain.ensures.work (c.in_ok-states.ensures.work told)
 
 pub returns-in_err-head-clause-within : goal.returns-in_err-head-clause-within
 returns-in_err-head-clause-within g c = λ told. none_open _ _
@@ -158,21 +158,17 @@ returns-in_err-plain-clause-within g c =
     let r : IsRead honest file outline moov b = record { outline = c.requires.outline; is = c.view-view.ensures; fills = c.requires.fills; bytes = c.requires.bytes } in
     λ told. tables_open honest file outline moov b c.in_ok-head.head r c.in_ok-head.ensures.head told _ _ c.in_err-plain.ensures.within
 
-pub returns-in_err-all-clause-within : goal.returns-in_err-all-clause-within
-returns-in_err-all-clause-within g c =
+pub returns-in_err-states-clause-within : goal.returns-in_err-states-clause-within
+returns-in_err-states-clause-within g c =
     let honest = g.S.Store.is_honest c.args.store.now in
     let file = g.S.Store.file c.args.store.now in
     let outline = c.args.outline.now in
     let moov = c.args.moov.now in
     let b = box_seen c.view-view.result in
     let r : IsRead honest file outline moov b = record { outline = c.requires.outline; is = c.view-view.ensures; fills = c.requires.fills; bytes = c.requires.bytes } in
-    let bytes : AreBytes moov = λ k. search rules in
     let head = c.in_ok-head.head in
     let says = c.in_ok-head.ensures.head in
-    let plain = c.in_ok-plain.plain in
-    λ told.
-    let begin = begun honest file outline moov b head plain r says bytes _ c.len.ensures c.in_ok-plain.ensures.says told in
-    moofs_open honest file outline moov b head r says told _ _ _ _ c.in_ok-plain.ensures.plain.each_count c.in_ok-plain.ensures.within (c.in_err-all.ensures.within told _ _ begin)
+    λ told. moofs_open honest file outline moov b head r says told _ _ _ c.in_ok-plain.ensures.within (c.in_err-states.ensures.within told)
 
 pub returns-in_err-mehd-clause-within : goal.returns-in_err-mehd-clause-within
 returns-in_err-mehd-clause-within g c =
@@ -182,13 +178,9 @@ returns-in_err-mehd-clause-within g c =
     let moov = c.args.moov.now in
     let b = box_seen c.view-view.result in
     let r : IsRead honest file outline moov b = record { outline = c.requires.outline; is = c.view-view.ensures; fills = c.requires.fills; bytes = c.requires.bytes } in
-    let bytes : AreBytes moov = λ k. search rules in
     let head = c.in_ok-head.head in
     let says = c.in_ok-head.ensures.head in
-    let plain = c.in_ok-plain.plain in
-    λ told.
-    let begin = begun honest file outline moov b head plain r says bytes _ c.len.ensures c.in_ok-plain.ensures.says told in
-    moofs_open honest file outline moov b head r says told _ _ _ _ c.in_ok-plain.ensures.plain.each_count c.in_ok-plain.ensures.within (c.in_ok-all.ensures.within told _ _ begin)
+    λ told. moofs_open honest file outline moov b head r says told _ _ _ c.in_ok-plain.ensures.within (c.in_ok-states.ensures.within told)
 
 pub returns-in_err-tracks-clause-within : goal.returns-in_err-tracks-clause-within
 returns-in_err-tracks-clause-within g c =
@@ -198,13 +190,9 @@ returns-in_err-tracks-clause-within g c =
     let moov = c.args.moov.now in
     let b = box_seen c.view-view.result in
     let r : IsRead honest file outline moov b = record { outline = c.requires.outline; is = c.view-view.ensures; fills = c.requires.fills; bytes = c.requires.bytes } in
-    let bytes : AreBytes moov = λ k. search rules in
     let head = c.in_ok-head.head in
     let says = c.in_ok-head.ensures.head in
-    let plain = c.in_ok-plain.plain in
-    λ told.
-    let begin = begun honest file outline moov b head plain r says bytes _ c.len.ensures c.in_ok-plain.ensures.says told in
-    moofs_open honest file outline moov b head r says told _ _ _ _ c.in_ok-plain.ensures.plain.each_count c.in_ok-plain.ensures.within (c.in_ok-all.ensures.within told _ _ begin)
+    λ told. moofs_open honest file outline moov b head r says told _ _ _ c.in_ok-plain.ensures.within (c.in_ok-states.ensures.within told)
 
 pub returns-clause-within : goal.returns-clause-within
 returns-clause-within g c =
@@ -214,10 +202,6 @@ returns-clause-within g c =
     let moov = c.args.moov.now in
     let b = box_seen c.view-view.result in
     let r : IsRead honest file outline moov b = record { outline = c.requires.outline; is = c.view-view.ensures; fills = c.requires.fills; bytes = c.requires.bytes } in
-    let bytes : AreBytes moov = λ k. search rules in
     let head = c.in_ok-head.head in
     let says = c.in_ok-head.ensures.head in
-    let plain = c.in_ok-plain.plain in
-    λ told.
-    let begin = begun honest file outline moov b head plain r says bytes _ c.len.ensures c.in_ok-plain.ensures.says told in
-    moofs_open honest file outline moov b head r says told _ _ _ _ c.in_ok-plain.ensures.plain.each_count c.in_ok-plain.ensures.within (c.in_ok-all.ensures.within told _ _ begin)
+    λ told. moofs_open honest file outline moov b head r says told _ _ _ c.in_ok-plain.ensures.within (c.in_ok-states.ensures.within told)

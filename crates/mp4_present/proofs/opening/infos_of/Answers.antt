@@ -5,21 +5,19 @@ use Rattle.mp4_present.proofs.opening.infos_of.Goals as goal
 pub loop-k-preserved : goal.loop-k-preserved
 loop-k-preserved c =
     let heads = c.args.head.now.tracks.items in
-    let states = c.args.all.now.states.items in
-    let counted = c.args.all.now.counted.items in
+    let states = c.args.states.now in
     let k = c.loop-k.k in
     let less : k < length heads = search rules in
     let head : c.index-track.result.now ≡ slice_index_or heads k c.index-track.result.now = search rules in
-    let state : c.index-state.result.now ≡ slice_index_or states k c.index-state.result.now = search rules in
-    let count : c.index-counted.result.now ≡ slice_index_or counted k c.index-counted.result.now = search rules in
-    (search rules, infos_next heads states counted c.loop-k.tracks.items c.push.new.self.items k c.index-track.result.now c.index-state.result.now c.index-counted.result.now c.info_of.result c.requires.states c.requires.counted less head state count c.loop-k.invariant.1 c.info_of.ensures c.in_ok-push.ensures.items)
+    let state : c.index-states-k.result ≡ slice_index_or states k c.index-states-k.result = search rules in
+    (search rules, infos_next heads states c.loop-k.tracks.items c.push.new.self.items k c.index-track.result.now c.index-states-k.result c.info_of.result c.requires.states less head state c.loop-k.invariant.1 c.info_of.ensures c.in_ok-push.ensures.items)
 
 pub returns-clause-infos : goal.returns-clause-infos
 returns-clause-infos c =
     let all : length c.args.head.now.tracks.items ≤ c.loop-k.k = search rules in
-    infos_whole c.args.head.now.tracks.items c.args.all.now.states.items c.args.all.now.counted.items c.loop-k.tracks.items c.loop-k.k c.requires.states c.requires.counted all c.loop-k.invariant.1
+    infos_whole c.args.head.now.tracks.items c.args.states.now c.loop-k.tracks.items c.loop-k.k c.requires.states all c.loop-k.invariant.1
 
 pub returns-clause-ids : goal.returns-clause-ids
 returns-clause-ids c =
     let all : length c.args.head.now.tracks.items ≤ c.loop-k.k = search rules in
-    infos_ids _ _ _ _ (infos_whole c.args.head.now.tracks.items c.args.all.now.states.items c.args.all.now.counted.items c.loop-k.tracks.items c.loop-k.k c.requires.states c.requires.counted all c.loop-k.invariant.1)
+    infos_ids _ _ _ (infos_whole c.args.head.now.tracks.items c.args.states.now c.loop-k.tracks.items c.loop-k.k c.requires.states all c.loop-k.invariant.1)

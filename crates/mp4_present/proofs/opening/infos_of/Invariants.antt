@@ -6,4 +6,4 @@ use Rattle.mp4_present.proofs.opening.infos_of.Given as goal
 abbrev pub invariant-loop-k : goal.invariant-loop-k
 invariant-loop-k l =
     (length l.tracks.items ≡ l.k)
-    × AreInfosBy (take l.k l.head.tracks.items) (take l.k l.all.states.items) (take l.k l.all.counted.items) l.tracks.items
+    × AreInfosBy (take l.k l.head.tracks.items) (take l.k l.states) l.tracks.items

@@ -2,6 +2,7 @@ use Rattle.std.proofs.Common.{◌≡◌, ℕ, length, subst, sym, ap, ◌∙◌}
 use Rattle.std.proofs.lemmas.Result.{err_from_is_err_and}
 use Rattle.mp4_present.proofs.DenotedOpens.{denoted_opens, outline_refuses, read_refuses}
 use Rattle.mp4_present.proofs.OpeningBytes.{none_open}
+use Rattle.mp4_present.proofs.OpenedDenotes.{opened_denotes}
 use Rattle.mp4_present.proofs.OpeningSteps.{opened_of}
 use Rattle.mp4_present.proofs.TablesWork.{if_no_fault, none_taken}
 use Rattle.mp4_present.specs.OpenedMovie.{IsOpenedAs, kept_of}
@@ -37,6 +38,16 @@ returns-in_err-plain-clause-only g c = λ p told d.
     let honest = g.S.Store.is_honest c.args.store.now in
     let file = g.S.Store.file c.args.store.now in
     rw (q.1, q.2) (denoted_opens honest file p _ _ _ told d (rw (moov.honesty, outline.honesty, moov.file, outline.file, moov.reads, outline.reads) at c.in_err-plain.ensures.refusal))
+
+pub returns-clause-denotes : goal.returns-clause-denotes
+returns-clause-denotes g c = λ told.
+    let outline = c.in_ok-outline.ensures in
+    let moov = c.in_ok-moov.ensures in
+    let file = g.S.Store.file c.args.store.now in
+    let found = c.in_ok-plain.field-0 in
+    let r = (rw (moov.honesty, outline.honesty, moov.file, outline.file, c.as_slice.ensures.value) at c.in_ok-plain.ensures.movie) told in
+    let len : length file ≡ c.len-file_len.result = ap length (sym (moov.file ∙ outline.file)) ∙ sym c.len-file_len.ensures in
+    opened_denotes file _ r.0 (subst (λ (n : ℕ). IsOpenedAs file (kept_of c.in_ok-outline.outline c.in_ok-moov.moov.items n found) r.0) len r.1)
 
 pub returns-clause-opened : goal.returns-clause-opened
 returns-clause-opened g c = λ told.

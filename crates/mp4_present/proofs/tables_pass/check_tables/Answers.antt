@@ -3,7 +3,7 @@ use Rattle.mp4_boxes.specs.View.{box_seen}
 use Rattle.mp4_present.specs.Plain.{HasTablesIn, HaveTablesIn}
 use Rattle.mp4_present.proofs.PlainLists.{from_next, next_of}
 use Rattle.std.proofs.lemmas.Result.{err_from_is_err_and}
-use Rattle.mp4_present.proofs.TracksPassed.{passed_more, passed_all, passed_refused}
+use Rattle.mp4_present.proofs.TracksPassed.{passed_more, passed_all, passed_refused, read_of}
 use Rattle.mp4_present.proofs.OpeningBytes.{none_fit, next_fit, all_fit, last_fit}
 use Rattle.mp4_present.proofs.TablesWork.{handed_on, next_left, next_done, tracks_done}
 use Rattle.mp4_present.specs.declared.tables_pass.PlainTracks.{PlainTracks}
@@ -11,6 +11,9 @@ use Rattle.mp4_present.proofs.tables_pass.check_tables.Goals as goal
 
 pub loop-track-init : goal.loop-track-init
 loop-track-init g c = (c.none-plain.ensures.plain _, rw c.deref-track-items.ensures.value c.requires.inside, λ trees a. c.none-plain.ensures.says _ _ _, λ trees a. search rules, none_fit _ _ _ (c.none-plain.ensures.plain []).few)
+
+pub push-requires-clause-read : goal.push-requires-clause-read
+push-requires-clause-read g c = read_of c.deref-track-items.result.now c.loop-track.track-index c.track-item.result c.loop-track-test.true c.track-item.is (rw c.deref-track-items.ensures.value c.requires.read)
 
 pub loop-track-preserved : goal.loop-track-preserved
 loop-track-preserved g c =

@@ -1,4 +1,5 @@
-use Rattle.std.proofs.Common.{arith, sym, codes, false}
+use Rattle.std.proofs.Common.{arith, sym, ap, codes, false}
+use Rattle.mp4_boxes.specs.declared.fault.Fault.{Fault}
 use Rattle.std.proofs.lemmas.Result.{err_from_is_err_and}
 use Rattle.mp4_boxes.specs.View.{box_seen}
 use Rattle.mp4_tables.proofs.TableReads.{rows_have}
@@ -75,7 +76,8 @@ are_described-requires-clause-ordered g c = sym c.if-not-are_ordered.ensures.sam
 
 pub returns-then-not-are_described-clause-fault : goal.returns-then-not-are_described-clause-fault
 returns-then-not-are_described-clause-fault g c = λ d.
-    chunk_rows_undescribed c.args.limits (box_seen c.args.stbl) (box_seen c.only_of-leaf.result) c.args.chunks c.in_ok-rows.rows c.args.n c.fault_at-then-not-are_described.result c.requires.tables d c.only_of-leaf.ensures c.in_ok-rows.ensures.rows c.requires.chunks c.requires.sizes
+    let is = c.fault_at-then-not-are_described.ensures in
+    chunk_rows_undescribed c.args.limits (box_seen c.args.stbl) (box_seen c.only_of-leaf.result) c.args.chunks c.in_ok-rows.rows c.args.n c.fault_at-then-not-are_described.result c.requires.tables (d (ap (λ (f : Fault). f.kind) is)) c.only_of-leaf.ensures c.in_ok-rows.ensures.rows c.requires.chunks c.requires.sizes
     (rw c.payload-payload.ensures at (sym c.if-not-are_ordered.ensures.same)) (rw c.payload-payload.ensures at (sym c.if-not-chunk_counts_are.ensures.same)) (rw c.payload-payload.ensures at (sym c.if-not-are_described.ensures.same)) c.fault_at-then-not-are_described.ensures
 
 pub returns-then-not-are_described-clause-only : goal.returns-then-not-are_described-clause-only

@@ -1,12 +1,11 @@
-use Rattle.std.proofs.Common.{◌≡◌, sym, ◌∙◌, arith, ◌-◌, ◌^◌, ◌≤◌, List, ℕ, subst, refl, rules}
+use Rattle.std.proofs.Common.{◌≡◌, sym, ◌∙◌, arith, ◌-◌, ◌*◌, ◌^◌, ◌≤◌, List, ℕ, subst, refl, rules}
 use Rattle.mp4_tables.specs.Accepted.{IsAccepted}
 use Rattle.mp4_present.specs.declared.movie.TrackTables.{TrackTables}
-use Rattle.mp4_present.specs.declared.tables_pass.Counted.{Counted}
 use Rattle.mp4_present.specs.declared.tables_pass.PlainTracks.{PlainTracks}
 use Rattle.std.proofs.lemmas.Result.{err_from_is_err_and}
 use Rattle.mp4_boxes.specs.Bytes.{AreBytes}
 use Rattle.mp4_present.proofs.PlainLists.{lie_in, plain_more}
-use Rattle.mp4_present.proofs.TablesKept.{IsRead, tables_are, state_is, counted_are, tables_more, table_fails}
+use Rattle.mp4_present.proofs.TablesKept.{IsRead, tables_are, state_is, bytes_few, tables_more, table_fails}
 use Rattle.mp4_boxes.specs.View.{box_seen}
 use Rattle.mp4_present.proofs.OpeningBytes.{track_fits, of_less, refused_fits}
 use Rattle.mp4_present.proofs.TablesWork.{if_no_fault, track_within}
@@ -14,29 +13,39 @@ use Rattle.mp4_present.proofs.tables_pass.PlainTracks.push.Goals as goal
 
 pub returns-clause-one_more : goal.returns-clause-one_more
 returns-clause-one_more g c = λ n a.
-    let few : c.count.result ≤ c.args.self.now.room = search rules in
-    let same : c.in_ok-tables.tables.payload ≡ c.args.track.now.stbl.payload.now = search rules in
-    let accepted : IsAccepted c.in_ok-tables.tables.payload c.places.result = c.places.ensures.accepted in
-    let t : TrackTables = record { place = c.payload_offset.result - c.payload_offset-2.result; len = c.length_of-len.result; tables = c.places.result } in
-    let x : Counted = record { samples = c.count-3.result; bytes = c.add_up-totals.result.bytes } in
-    let new : PlainTracks = record { tables = c.push.new.self; states = c.push-2.new.self; counted = c.push-3.new.self; room = c.args.self.now.room - c.count.result } in
-    let lies = lie_in _ _ t c.requires.inside.inside (search rules) (search rules) (subst (λ (bytes : List ℕ). IsAccepted bytes c.places.result) same accepted) in
-    plain_more _ n c.count.result c.args.self.now new t c.state_of.result x a lies few (search rules) (search rules) c.in_ok-push.ensures.items c.in_ok-push-2.ensures.items c.in_ok-push-3.ensures.items refl
-
-pub returns-clause-says : goal.returns-clause-says
-returns-clause-says g c = λ t trees i a.
     let e = c.in_ok-tables.ensures in
-    let r : IsRead c.args.file_len c.description_count-descriptions.result c.args.self.now.room c.count.result c.add_up-totals.result.duration c.add_up-totals.result.bytes c.args.track.now c.in_ok-tables.tables c.start-cursor.result c.check.new.keys = record {
+    let r : IsRead c.args.file_len c.description_count-descriptions.result c.args.self.now.room c.count.result c.totals-totals.result.duration c.totals-totals.result.bytes c.args.track.now c.in_ok-tables.tables c.check.new.keys = record {
       of_bytes = subst AreBytes c.payload.ensures c.length_of-len.ensures.bytes;
       descriptions = c.description_count-descriptions.ensures;
       payload = e.payload;
       read = e.tables;
       named = e.keys;
       count_is = c.count.ensures;
-      tables = c.start-cursor.ensures.tables;
-      first = c.start-cursor.ensures.first;
-      duration = c.add_up-totals.ensures.duration;
-      size = c.add_up-totals.ensures.bytes;
+      duration = c.totals-totals.ensures.duration;
+      size = c.totals-totals.ensures.bytes;
+    } in
+    let few : c.count.result ≤ c.args.self.now.room = search rules in
+    let same : c.in_ok-tables.tables.payload ≡ c.args.track.now.stbl.payload.now = search rules in
+    let accepted : IsAccepted c.in_ok-tables.tables.payload c.places.result = c.places.ensures.accepted in
+    let t : TrackTables = record { place = c.payload_offset.result - c.payload_offset-2.result; len = c.length_of-len.result; tables = c.places.result } in
+    let new : PlainTracks = record { tables = c.push.new.self; states = c.push-2.new.self; room = c.args.self.now.room - c.count.result } in
+    let lies = lie_in _ _ t c.requires.inside.inside (search rules) (search rules) (subst (λ (bytes : List ℕ). IsAccepted bytes c.places.result) same accepted) in
+    let bytes : c.state_of.result.bytes ≤ 2 ^ 32 * c.count.result = subst (λ (k : ℕ). k ≤ 2 ^ 32 * c.count.result) (sym c.state_of.ensures.bytes)
+    (bytes_few c.args.file_len c.description_count-descriptions.result _ _ _ _ (box_seen c.args.moov) c.args.track.now c.in_ok-tables.tables c.check.new.keys c.requires.read.0 c.requires.read.1 r a.few) in
+    plain_more _ n c.count.result c.args.self.now new t c.state_of.result a lies few (search rules) (search rules) bytes c.in_ok-push.ensures.items c.in_ok-push-2.ensures.items refl
+
+pub returns-clause-says : goal.returns-clause-says
+returns-clause-says g c = λ t trees i a.
+    let e = c.in_ok-tables.ensures in
+    let r : IsRead c.args.file_len c.description_count-descriptions.result c.args.self.now.room c.count.result c.totals-totals.result.duration c.totals-totals.result.bytes c.args.track.now c.in_ok-tables.tables c.check.new.keys = record {
+      of_bytes = subst AreBytes c.payload.ensures c.length_of-len.ensures.bytes;
+      descriptions = c.description_count-descriptions.ensures;
+      payload = e.payload;
+      read = e.tables;
+      named = e.keys;
+      count_is = c.count.ensures;
+      duration = c.totals-totals.ensures.duration;
+      size = c.totals-totals.ensures.bytes;
     } in
     let L = c.args.file_len in
     let n = c.description_count-descriptions.result in
@@ -44,15 +53,13 @@ returns-clause-says g c = λ t trees i a.
     let h = c.args.track.now in
     let v = c.in_ok-tables.tables in
     let x : TrackTables = record { place = c.payload_offset.result - c.payload_offset-2.result; len = c.length_of-len.result; tables = c.places.result } in
-    let d : Counted = record { samples = c.count-3.result; bytes = c.add_up-totals.result.bytes } in
-    let new : PlainTracks = record { tables = c.push.new.self; states = c.push-2.new.self; counted = c.push-3.new.self; room = c.args.self.now.room - c.count.result } in
+    let new : PlainTracks = record { tables = c.push.new.self; states = c.push-2.new.self; room = c.args.self.now.room - c.count.result } in
     let s = c.state_of.result in
     let room = a.room in
     let few : c.args.self.now.room ≤ 2 ^ 24 = omega (arith, room) in
-    let tables = tables_are L n _ _ _ _ moov h v c.start-cursor.result c.check.new.keys t i r x c.requires.inside.inside (search rules) (search rules) c.places.ensures.at in
-    let state = state_is L n _ _ _ _ moov h v c.start-cursor.result c.check.new.keys t i r c.args.trexes.now s few c.state_of.ensures.id (c.state_of.ensures.descriptions ∙ sym c.description_count-descriptions.ensures) c.state_of.ensures.trex c.state_of.ensures.start (c.state_of.ensures.count ∙ c.count-2.ensures ∙ sym c.count.ensures) c.state_of.ensures.time c.state_of.ensures.keys in
-    let counted = counted_are L n _ _ _ _ moov h v c.start-cursor.result c.check.new.keys t i r d (search rules) refl in
-    tables_more L n _ _ _ _ moov h v c.start-cursor.result c.check.new.keys t i r c.args.trexes.now trees c.args.self.now new x s d a few refl refl tables state counted c.in_ok-push.ensures.items c.in_ok-push-2.ensures.items c.in_ok-push-3.ensures.items
+    let tables = tables_are L n _ _ _ _ moov h v c.check.new.keys t i r x c.requires.inside.inside (search rules) (search rules) c.places.ensures.at in
+    let state = state_is L n _ _ _ _ moov h v c.check.new.keys t i r c.args.trexes.now s few c.state_of.ensures.id (c.state_of.ensures.descriptions ∙ sym c.description_count-descriptions.ensures) c.state_of.ensures.trex c.state_of.ensures.start (c.state_of.ensures.count ∙ c.count-2.ensures ∙ sym c.count.ensures) c.state_of.ensures.time c.state_of.ensures.bytes c.state_of.ensures.keys in
+    tables_more L n _ _ _ _ moov h v c.check.new.keys t i r c.args.trexes.now trees c.args.self.now new x s a few refl refl tables state c.in_ok-push.ensures.items c.in_ok-push-2.ensures.items
 
 pub returns-in_err-tables-clause-refusal : goal.returns-in_err-tables-clause-refusal
 returns-in_err-tables-clause-refusal g c =
@@ -62,47 +69,37 @@ returns-in_err-tables-clause-refusal g c =
 pub returns-clause-work : goal.returns-clause-work
 returns-clause-work g c =
     let e = c.in_ok-tables.ensures in
-    track_within _ _ _ c.args.track.now c.in_ok-tables.tables _ c.place.result _ _ _ e.tables (c.add_up-totals.ensures.later.0 ∙ c.start-cursor.ensures.tables) c.place.ensures.place e.passed (search rules)
+    track_within _ _ _ c.args.track.now c.in_ok-tables.tables _ _ _ e.tables e.passed c.totals-totals.ensures.work
 
 pub returns-in_err-push-clause-work : goal.returns-in_err-push-clause-work
 returns-in_err-push-clause-work g c =
     let e = c.in_ok-tables.ensures in
-    if_no_fault _ _ (track_within _ _ _ c.args.track.now c.in_ok-tables.tables _ c.place.result _ _ _ e.tables (c.add_up-totals.ensures.later.0 ∙ c.start-cursor.ensures.tables) c.place.ensures.place e.passed (search rules))
+    if_no_fault _ _ (track_within _ _ _ c.args.track.now c.in_ok-tables.tables _ _ _ e.tables e.passed c.totals-totals.ensures.work)
 
 pub returns-in_err-push-2-clause-work : goal.returns-in_err-push-2-clause-work
 returns-in_err-push-2-clause-work g c =
     let e = c.in_ok-tables.ensures in
-    if_no_fault _ _ (track_within _ _ _ c.args.track.now c.in_ok-tables.tables _ c.place.result _ _ _ e.tables (c.add_up-totals.ensures.later.0 ∙ c.start-cursor.ensures.tables) c.place.ensures.place e.passed (search rules))
-
-pub returns-in_err-push-3-clause-work : goal.returns-in_err-push-3-clause-work
-returns-in_err-push-3-clause-work g c =
-    let e = c.in_ok-tables.ensures in
-    if_no_fault _ _ (track_within _ _ _ c.args.track.now c.in_ok-tables.tables _ c.place.result _ _ _ e.tables (c.add_up-totals.ensures.later.0 ∙ c.start-cursor.ensures.tables) c.place.ensures.place e.passed (search rules))
+    if_no_fault _ _ (track_within _ _ _ c.args.track.now c.in_ok-tables.tables _ _ _ e.tables e.passed c.totals-totals.ensures.work)
 
 pub returns-clause-less : goal.returns-clause-less
 returns-clause-less g c =
     let e = c.in_ok-tables.ensures in
-    track_fits _ _ _ (box_seen c.args.moov) (box_seen c.args.track.now.stbl) c.in_ok-tables.tables _ c.place.result c.count.result _ _ _ c.requires.inside.inside e.tables e.payload c.count.ensures (c.add_up-totals.ensures.later.0 ∙ c.start-cursor.ensures.tables) c.place.ensures.place e.within (search rules)
+    track_fits _ _ _ (box_seen c.args.moov) (box_seen c.args.track.now.stbl) c.in_ok-tables.tables c.count.result _ _ _ c.requires.inside.inside e.tables e.payload c.count.ensures e.within c.totals-totals.ensures.work
 
 pub returns-clause-within : goal.returns-clause-within
 returns-clause-within g c =
     let e = c.in_ok-tables.ensures in
-    of_less _ _ _ _ _ (track_fits _ _ _ (box_seen c.args.moov) (box_seen c.args.track.now.stbl) c.in_ok-tables.tables _ c.place.result c.count.result _ _ _ c.requires.inside.inside e.tables e.payload c.count.ensures (c.add_up-totals.ensures.later.0 ∙ c.start-cursor.ensures.tables) c.place.ensures.place e.within (search rules))
+    of_less _ _ _ _ _ (track_fits _ _ _ (box_seen c.args.moov) (box_seen c.args.track.now.stbl) c.in_ok-tables.tables c.count.result _ _ _ c.requires.inside.inside e.tables e.payload c.count.ensures e.within c.totals-totals.ensures.work)
 
 pub returns-in_err-push-clause-within : goal.returns-in_err-push-clause-within
 returns-in_err-push-clause-within g c =
     let e = c.in_ok-tables.ensures in
-    of_less _ _ _ _ _ (track_fits _ _ _ (box_seen c.args.moov) (box_seen c.args.track.now.stbl) c.in_ok-tables.tables _ c.place.result c.count.result _ _ _ c.requires.inside.inside e.tables e.payload c.count.ensures (c.add_up-totals.ensures.later.0 ∙ c.start-cursor.ensures.tables) c.place.ensures.place e.within (search rules))
+    of_less _ _ _ _ _ (track_fits _ _ _ (box_seen c.args.moov) (box_seen c.args.track.now.stbl) c.in_ok-tables.tables c.count.result _ _ _ c.requires.inside.inside e.tables e.payload c.count.ensures e.within c.totals-totals.ensures.work)
 
 pub returns-in_err-push-2-clause-within : goal.returns-in_err-push-2-clause-within
 returns-in_err-push-2-clause-within g c =
     let e = c.in_ok-tables.ensures in
-    of_less _ _ _ _ _ (track_fits _ _ _ (box_seen c.args.moov) (box_seen c.args.track.now.stbl) c.in_ok-tables.tables _ c.place.result c.count.result _ _ _ c.requires.inside.inside e.tables e.payload c.count.ensures (c.add_up-totals.ensures.later.0 ∙ c.start-cursor.ensures.tables) c.place.ensures.place e.within (search rules))
-
-pub returns-in_err-push-3-clause-within : goal.returns-in_err-push-3-clause-within
-returns-in_err-push-3-clause-within g c =
-    let e = c.in_ok-tables.ensures in
-    of_less _ _ _ _ _ (track_fits _ _ _ (box_seen c.args.moov) (box_seen c.args.track.now.stbl) c.in_ok-tables.tables _ c.place.result c.count.result _ _ _ c.requires.inside.inside e.tables e.payload c.count.ensures (c.add_up-totals.ensures.later.0 ∙ c.start-cursor.ensures.tables) c.place.ensures.place e.within (search rules))
+    of_less _ _ _ _ _ (track_fits _ _ _ (box_seen c.args.moov) (box_seen c.args.track.now.stbl) c.in_ok-tables.tables c.count.result _ _ _ c.requires.inside.inside e.tables e.payload c.count.ensures e.within c.totals-totals.ensures.work)
 
 pub returns-in_err-tables-clause-within : goal.returns-in_err-tables-clause-within
 returns-in_err-tables-clause-within g c = refused_fits (box_seen c.args.moov) (box_seen c.args.track.now.stbl) _ _ _ c.requires.inside.inside c.check.ensures.work

@@ -1,0 +1,9 @@
+use Rattle.std.proofs.Common.{◌≡◌, ◌≤◌, take, None, ◌==◌}
+use Rattle.std.specs.Prelude.{find}
+use Rattle.mp4_frag.specs.Finding.{IsKnown}
+use Rattle.mp4_frag.specs.declared.state.TrackState.{TrackState}
+use Rattle.mp4_frag.proofs.finding.find_behind.Given as goal
+
+-- none of those passed is the track
+abbrev pub invariant-loop-k : goal.invariant-loop-k
+invariant-loop-k l = (find (λ (t : TrackState). t.id == l.id) (take l.k l.tracks) ≡ None) × IsKnown l.tracks l.known × (l.known.rising ≤ l.k)

@@ -1,0 +1,35 @@
+use Rattle.std.proofs.Common.{rules, ◌≡◌, ◌++◌, [], Some, arith, sym}
+use Rattle.std.specs.Prelude.{codes}
+use Rattle.std.proofs.lemmas.List.{append-nil}
+use Rattle.mp4_boxes.specs.View.{box_seen}
+use Rattle.mp4_present.proofs.WalkCopied.{on_ok}
+use Rattle.mp4norm.specs.BoxWalk.{rule_inside}
+use Rattle.mp4norm.specs.Ways.{step_text, ends}
+use Rattle.mp4norm.proofs.BoxLists.{inside_lower}
+use Rattle.mp4norm.proofs.WaysTo.{one_step, more_steps}
+use Rattle.mp4norm.proofs.ways.+push_way.Goals as goal
+
+pub returns-in_default : goal.returns-in_default
+returns-in_default t c = ([], ends (box_seen c.args.view), sym (append-nil c.args.text.now.items))
+
+pub returns-in_default-child_at : goal.returns-in_default-child_at
+returns-in_default-child_at t c = ([], ends (box_seen c.args.view), sym (append-nil c.args.text.now.items))
+
+pub returns-then-offset-place : goal.returns-then-offset-place
+returns-then-offset-place t c =
+    one_step c.args.place (box_seen c.args.view) (box_seen c.in-Some-child_at.child) c.number_among-number.result c.args.text.now.items
+    c.extend_from_slice-2.new.self.items c.in-Some-child_at.ensures (search rules)
+
+pub push_way-requires : goal.push_way-requires
+push_way-requires t c =
+    let into : rule_inside c.args.rule c.args.view.kind.0 ≡ Some c.in-Some.inner = search rules in
+    let lower = inside_lower c.args.rule c.in-Some.inner c.args.view.kind.0 into in
+    let d = c.decreases in
+    (omega arith, tt)
+
+pub returns : goal.returns
+returns t c =
+    let middle : c.extend_from_slice-2.new.self.items ≡ (c.args.text.now.items ++ codes " / ") ++ step_text (box_seen c.in-Some-child_at.child).kind c.number_among-number.result = search rules in
+    on_ok _ _ c.push_way.result
+    (λ m. more_steps c.args.place (box_seen c.args.view) (box_seen c.in-Some-child_at.child) c.number_among-number.result c.args.text.now.items
+    c.extend_from_slice-2.new.self.items m.0 c.push_way.new.text.items c.in-Some-child_at.ensures middle m.1 m.2) c.push_way.ensures

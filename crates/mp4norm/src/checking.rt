@@ -1,0 +1,79 @@
+//! Many files, judged one after the other.
+use crate::input::read_input;
+use crate::sources::{MOST_INPUT, open};
+use crate::verdicts::{first_name, put_verdict, verdict_status};
+use crate::wanted::Input;
+use mp4_boxes::Refusal;
+use mp4_store::{IoSink, Sink};
+use std::fs::File;
+
+// Judges what is read.
+fn answer_of(rt: &HostRuntime, input: Input) -> Result<(), Refusal> {
+    open(rt, input)?.judge(rt.alloc())
+}
+
+// Judges a file of a list. The system's names are text.
+fn answer_of_listed(rt: &HostRuntime, name: &[u8]) -> Result<(), Refusal> {
+    match str::from_utf8(name) {
+        Ok(name) => answer_of(rt, Input::File { name }),
+        Err(_) => Err(Refusal::StoreFailed),
+    }
+}
+
+// The name under which a verdict is given.
+fn shown_name<'a>(input: Input<'a>) -> &'a [u8] {
+    match input {
+        Input::Standard => b"-",
+        Input::File { name } => name.as_bytes(),
+    }
+}
+
+// Reads a list of names whole. It may come through a pipe.
+fn read_list(rt: &HostRuntime, list: Option<Input>) -> Result<Vec<u8>, Refusal> {
+    match list {
+        None => Ok(Vec::new(rt.alloc())),
+        Some(Input::Standard) => read_input(rt.alloc(), &mut rt.reader(), MOST_INPUT),
+        Some(Input::File { name }) => {
+            let mut file = File::open(rt, name).map_err(|_| Refusal::StoreFailed)?;
+            read_input(rt.alloc(), &mut file, MOST_INPUT)
+        }
+    }
+}
+
+// Judges the files of a list, and gives the greatest status.
+fn check_list<K: Sink>(
+    rt: &HostRuntime,
+    list: &[u8],
+    end: u8,
+    sink: &mut K,
+) -> Result<u8, Refusal> {
+    let mut worst = 0;
+    let mut left = list;
+    while !left.is_empty() {
+        let (name, rest) = first_name(left);
+        let answer = answer_of_listed(rt, name);
+        put_verdict(rt.alloc(), name, &answer, end, sink)?;
+        worst = verdict_status(&answer).max(worst);
+        left = rest;
+    }
+    Ok(worst)
+}
+
+/// Judges each of these files and then those of a list, puts a verdict on each to standard output, ended by this byte, and
+/// gives the greatest status.
+pub(crate) fn check_all(
+    rt: &HostRuntime,
+    files: &[Input],
+    list: Option<Input>,
+    end: u8,
+) -> Result<u8, Refusal> {
+    let list = read_list(rt, list)?;
+    let mut sink = IoSink::new(rt.stdout());
+    let mut worst = 0;
+    for input in files {
+        let answer = answer_of(rt, *input);
+        put_verdict(rt.alloc(), shown_name(*input), &answer, end, &mut sink)?;
+        worst = verdict_status(&answer).max(worst);
+    }
+    Ok(worst.max(check_list(rt, list.as_slice(), end, &mut sink)?))
+}

@@ -1,0 +1,140 @@
+//! What there is to say of a fault besides its line: the way to the box, where the standard tells of it, what the kind means.
+ghost use Rattle.std.specs.Prelude.{◌≡◌, ◌++◌, OnOk};
+ghost use Rattle.mp4norm.specs.Texts.{line_feed};
+
+use crate::ways::{Way, step_line, way_to};
+use mp4_boxes::{Fault, FourCc, Kind, Refusal};
+use mp4_store::{Sink, Store};
+use std::alloc::{AllocError, Global};
+
+// The clause of ISO/IEC 14496-12 that tells of boxes of this type; that on boxes in general, where no other is read here.
+fn clause_of(box_type: [u8; 4]) -> &'static str {
+    match &box_type {
+        b"ftyp" => "4.3",
+        b"mdat" => "8.1.1",
+        b"free" | b"skip" => "8.1.2",
+        b"moov" => "8.2.1",
+        b"mvhd" => "8.2.2",
+        b"trak" => "8.3.1",
+        b"tkhd" => "8.3.2",
+        b"tref" => "8.3.3",
+        b"mdia" => "8.4.1",
+        b"mdhd" => "8.4.2",
+        b"hdlr" => "8.4.3",
+        b"minf" => "8.4.4",
+        b"vmhd" | b"smhd" | b"hmhd" | b"nmhd" | b"sthd" | b"gmhd" => "8.4.5",
+        b"elng" => "8.4.6",
+        b"stbl" => "8.5.1",
+        b"stsd" => "8.5.2",
+        b"stts" => "8.6.1.2",
+        b"ctts" => "8.6.1.3",
+        b"cslg" => "8.6.1.4",
+        b"stss" => "8.6.2",
+        b"sdtp" => "8.6.4",
+        b"edts" => "8.6.5",
+        b"elst" => "8.6.6",
+        b"dinf" => "8.7.1",
+        b"dref" | b"url " | b"urn " => "8.7.2",
+        b"stsz" | b"stz2" => "8.7.3",
+        b"stsc" => "8.7.4",
+        b"stco" | b"co64" => "8.7.5",
+        b"mvex" => "8.8.1",
+        b"mehd" => "8.8.2",
+        b"trex" => "8.8.3",
+        b"moof" => "8.8.4",
+        b"mfhd" => "8.8.5",
+        b"traf" => "8.8.6",
+        b"tfhd" => "8.8.7",
+        b"trun" => "8.8.8",
+        b"tfdt" => "8.8.12",
+        b"sbgp" => "8.9.2",
+        b"sgpd" => "8.9.3",
+        b"udta" => "8.10.1",
+        b"meta" => "8.11.1",
+        _ => "4.2",
+    }
+}
+
+// What a kind of fault means.
+fn meaning_of(kind: Kind) -> &'static str {
+    match kind {
+        Kind::ShortHeader => "a box is due, and its header is cut short",
+        Kind::BadSize => "the size is smaller than the header, or is 0 inside a container",
+        Kind::Overrun => "the box ends behind its container",
+        Kind::ShortBox => "the box has no room for its fields or rows",
+        Kind::BoxNotInProfile => "the profile has no such box there",
+        Kind::DuplicateBox => "the box is one too many",
+        Kind::MissingBox => "the container lacks a box that the profile wants",
+        Kind::BadVersion => "the box has a version that the profile does not have",
+        Kind::BadFlags => "the box has flags that the profile does not have",
+        Kind::BadValue => "a field has a value that is not allowed",
+        Kind::OutsideData => "the data is not in this file alone",
+        Kind::CountMismatch => "the table counts other than the samples are",
+        Kind::BadOrder => "rows do not rise, or do not begin at 1",
+        Kind::BadDescriptionIndex => "a sample has no description",
+        Kind::SampleOutsideFile => "a sample does not lie in the file",
+        Kind::UnknownTrack => "the fragment is of a track that the movie does not have",
+        Kind::Gap => "the fragment begins at another time than is due",
+        Kind::OffsetTooLarge => "a table of version 0 has an offset of 2^31 or more",
+        Kind::ItemLocation =>
+            "a kept box holds the letters iloc, and so may name places in the file",
+        Kind::TooManySamples => "with this box there are more than 2^24 samples",
+        Kind::TimeTooLarge => "the track ends, or is, too long for its times",
+        Kind::MovieTooLarge => "the normal form would have a moov of more than 2^30 bytes",
+        Kind::FragmentBeforeMovie => "no moov stands before the fragment",
+    }
+}
+
+// Adds a line.
+fn push_line(text: &mut Vec<u8>, label: &[u8], rest: &[u8]) -> Result<(), AllocError>
+    ensures { OnOk result (text.new.items ≡ text.old.items ++ label.now ++ rest.now ++ line_feed) }
+{
+    text.extend_from_slice(label)?;
+    text.extend_from_slice(rest)?;
+    text.extend_from_slice(b"\n")?;
+    Ok(())
+}
+
+// The way to the named box. Where its header can't be read, or it is no box of a container, its type stands at the end.
+fn whole_way(way: &mut Way, named: FourCc) -> Result<(), AllocError> {
+    if way.text.is_empty() {
+        way.text
+            .extend_from_slice(step_line(named, None).as_bytes())?;
+    } else if way.last != named {
+        way.text.extend_from_slice(b" / ")?;
+        way.text
+            .extend_from_slice(step_line(named, None).as_bytes())?;
+    }
+    Ok(())
+}
+
+// The lines of an explanation.
+fn explanation(alloc: Global, fault: &Fault, way: &Way) -> Result<Vec<u8>, AllocError> {
+    let mut text = Vec::new(alloc);
+    push_line(&mut text, b"way: ", way.text.as_slice())?;
+    push_line(
+        &mut text,
+        b"clause: ISO/IEC 14496-12, ",
+        clause_of(fault.box_type).as_bytes(),
+    )?;
+    push_line(&mut text, b"meaning: ", meaning_of(fault.kind).as_bytes())?;
+    Ok(text)
+}
+
+/// Puts three lines on a fault of a file: the way to the named box, the clause of the standard that tells of it, and what
+/// the kind means.
+pub(crate) fn explain<S: Store, K: Sink>(
+    alloc: Global,
+    fault: &Fault,
+    store: &mut S,
+    sink: &mut K,
+) -> Result<(), Refusal>
+    ensures honesty { S.is_honest store.new ≡ S.is_honest store.old }
+    ensures file { S.file store.new ≡ S.file store.old }
+{
+    let mut way = way_to(alloc, store, fault.offset)?;
+    whole_way(&mut way, FourCc(fault.box_type))?;
+    let text = explanation(alloc, fault, &way)?;
+    sink.put(text.as_slice())?;
+    Ok(())
+}

@@ -1,0 +1,47 @@
+//! Whether a file has a normal form.
+ghost use Rattle.std.specs.Prelude.{◌≡◌, ℕ, ◌<◌, List, None, IfErr, OnOk, IsTrue};
+ghost use Rattle.mp4norm.specs.Headline.{HasNormalForm};
+ghost use Rattle.mp4norm.specs.MainJob.{RefusesNormalise};
+
+use mp4_boxes::{Refusal, Steps};
+use mp4_plan::Writer;
+use mp4_present::open_movie;
+use mp4_store::Store;
+use std::alloc::Global;
+use std::marker::Brand;
+use std::sync::ledger::{Blank, Ledger};
+
+// As `check`; its steps are counted in this ledger.
+fn check_counted<S: Store, L: Ledger>(
+    alloc: Global,
+    store: &mut S,
+    blank: Blank,
+) -> Result<(), Refusal>
+    requires name { blank.name ≡ L.name }
+    requires parts { blank.parts ≡ L.parts }
+    requires some { 0 < L.parts }
+    ensures honesty { S.is_honest store.new ≡ S.is_honest store.old }
+    ensures file { S.file store.new ≡ S.file store.old }
+    ensures reads { OnOk result (S.read_failures store.new ≡ S.read_failures store.old) }
+    ensures accepted { OnOk result (IsTrue (S.is_honest store.old) → (bytes : List ℕ) × HasNormalForm (S.file store.old) bytes) }
+    ensures refusal { IfErr result (RefusesNormalise (S.is_honest store.old) (S.file store.old) None None
+        (S.read_failures store.old) (S.read_failures store.new) 0 0) }
+{
+    let mut steps = Steps::<L>::new(blank);
+    let movie = open_movie(alloc, store, &mut steps)?;
+    let _writer = Writer::new(alloc, &movie, store, &mut steps)?;
+    Ok(())
+}
+
+/// Judges a file as `normalise` does before it puts anything: the file is read and planned, and all memory that writing
+/// would need is taken. So it answers what `normalise` would, but for a read or a put that fails there later.
+pub fn check<S: Store>(alloc: Global, store: &mut S) -> Result<(), Refusal>
+    ensures honesty { S.is_honest store.new ≡ S.is_honest store.old }
+    ensures file { S.file store.new ≡ S.file store.old }
+    ensures reads { OnOk result (S.read_failures store.new ≡ S.read_failures store.old) }
+    ensures accepted { OnOk result (IsTrue (S.is_honest store.old) → (bytes : List ℕ) × HasNormalForm (S.file store.old) bytes) }
+    ensures refusal { IfErr result (RefusesNormalise (S.is_honest store.old) (S.file store.old) None None
+        (S.read_failures store.old) (S.read_failures store.new) 0 0) }
+{
+    check_counted::<S, Brand>(alloc, store, Blank::new(1))
+}

@@ -1,0 +1,43 @@
+//! A command from what is read to where its answer goes.
+use crate::replacing::replace;
+use crate::sources::{Source, open};
+use crate::targets::{Out, make, write};
+use crate::wanted::{Input, Job, Target};
+use mp4_boxes::{Refusal, Steps};
+use mp4_store::IoSink;
+use std::sync::ledger::Ledger;
+
+// Opens where the answer goes, and does the job.
+fn answer<L: Ledger>(
+    rt: &HostRuntime,
+    job: Job,
+    source: &mut Source,
+    target: Target,
+    steps: &mut Steps<L>,
+) -> Result<(), Refusal> {
+    let mut out = match target {
+        Target::Standard => Out::Standard(rt.stdout()),
+        Target::New { name } => make(rt, name)?,
+        Target::Replaced { name } => return replace(rt, job, source, steps, name),
+    };
+    write(rt.alloc(), job, source, &mut out, steps)
+}
+
+/// Opens what is read, then where the answer goes, and does the job. A fault is explained where that is asked for.
+pub(crate) fn run<L: Ledger>(
+    rt: &HostRuntime,
+    job: Job,
+    input: Input,
+    target: Target,
+    explain: bool,
+    steps: &mut Steps<L>,
+) -> Result<(), Refusal> {
+    let mut source = open(rt, input)?;
+    let answer = answer(rt, job, &mut source, target, steps);
+    if let Err(Refusal::Fault(fault)) = &answer {
+        if explain {
+            let _ = source.explain(rt.alloc(), fault, &mut IoSink::new(rt.stderr()));
+        }
+    }
+    answer
+}

@@ -1,0 +1,115 @@
+//! What a command reads: a file, by place, or standard input, whole.
+ghost use Rattle.std.specs.Prelude.{◌≡◌, ℕ, List, None, true, IfErr, OnOk};
+ghost use Rattle.std.specs.Io.KnownBytes.{Appends};
+ghost use Rattle.mp4norm.specs.Headline.{HasNormalForm};
+ghost use Rattle.mp4norm.specs.Jobs.{IsTextOf, RefusesJob, JobWorksWithin};
+ghost use Rattle.mp4norm.specs.MainJob.{RefusesNormalise};
+
+use crate::explaining::explain;
+use crate::input::read_input;
+use crate::jobs::perform;
+use crate::judging::check;
+use crate::wanted::{Input, Job};
+use mp4_boxes::{Fault, Refusal, Steps};
+use mp4_store::{BufferedStore, FileStore, MemStore, Sink};
+use std::alloc::Global;
+use std::fs;
+use std::fs::File;
+use std::sync::ledger::Ledger;
+
+/// The most bytes that are read of standard input.
+pub(crate) const MOST_INPUT: usize = 1 << 30;
+
+/// What is read.
+#[derive(Drop)]
+pub(crate) enum Source {
+    File(BufferedStore<FileStore>),
+    Input(Vec<u8>),
+}
+
+// Opens a regular file. Whatever else there is can't be read by place, or its length isn't known; its kind is looked at first,
+// since opening a pipe would wait for whoever writes it.
+fn open_file(rt: &HostRuntime, name: &str) -> Result<BufferedStore<FileStore>, Refusal> {
+    match fs::metadata(rt, name) {
+        Ok(metadata) if metadata.is_file() => {}
+        _ => return Err(Refusal::StoreFailed),
+    }
+    let file = File::open(rt, name).map_err(|_| Refusal::StoreFailed)?;
+    let store = FileStore::new(file).map_err(|_| Refusal::StoreFailed)?;
+    Ok(BufferedStore::new(store))
+}
+
+/// Opens what is to be read. Standard input is read to its end.
+pub(crate) fn open(rt: &HostRuntime, input: Input) -> Result<Source, Refusal> {
+    match input {
+        Input::Standard => {
+            let bytes = read_input(rt.alloc(), &mut rt.reader(), MOST_INPUT)?;
+            Ok(Source::Input(bytes))
+        }
+        Input::File { name } => Ok(Source::File(open_file(rt, name)?)),
+    }
+}
+
+// Whether these bytes have a normal form.
+fn check_bytes(alloc: Global, bytes: &[u8]) -> Result<(), Refusal>
+    ensures accepted { OnOk result ((normal : List ℕ) × HasNormalForm bytes.now normal) }
+    ensures refusal { IfErr result (RefusesNormalise true bytes.now None None 0 0 0 0) }
+{
+    let mut store = MemStore::new(bytes);
+    check(alloc, &mut store)
+}
+
+impl Source {
+    ghost use Rattle.mp4norm.specs.Sources.{IfInput};
+
+    /// Does a job. Of standard input all that is put is the job's text of the bytes that were read.
+    pub(crate) fn perform<K: Sink, L: Ledger>(
+        &mut self,
+        alloc: Global,
+        job: Job,
+        sink: &mut K,
+        steps: &mut Steps<L>,
+    ) -> Result<(), Refusal>
+        ensures puts { OnOk result (K.put_failures sink.new ≡ K.put_failures sink.old) }
+        ensures text { IfInput self.old (λ file. OnOk result ((text : List ℕ)
+            × IsTextOf job file text × Appends (K.contents sink.old) (K.contents sink.new) text)) }
+        ensures refusal { IfInput self.old (λ file. IfErr result (RefusesJob job true file
+            (K.contents sink.old) (K.contents sink.new) 0 0 (K.put_failures sink.old) (K.put_failures sink.new))) }
+        ensures work { IfInput self.old (λ file. JobWorksWithin job file steps.old steps.new) }
+    {
+        match self {
+            Source::File(store) => perform(alloc, job, store, sink, steps),
+            Source::Input(bytes) => {
+                let mut store = MemStore::new(bytes.as_slice());
+                perform(alloc, job, &mut store, sink, steps)
+            }
+        }
+    }
+
+    /// Whether what is read has a normal form. Of standard input the answer is of the bytes that were read.
+    pub(crate) fn judge(&mut self, alloc: Global) -> Result<(), Refusal>
+        ensures accepted { IfInput self.old (λ file. OnOk result ((bytes : List ℕ) × HasNormalForm file bytes)) }
+        ensures refusal { IfInput self.old (λ file. IfErr result (RefusesNormalise true file None None 0 0 0 0)) }
+    {
+        match self {
+            Source::File(store) => check(alloc, store),
+            Source::Input(bytes) => check_bytes(alloc, bytes.as_slice()),
+        }
+    }
+
+    /// Puts what there is to say of a fault.
+    pub(crate) fn explain<K: Sink>(
+        &mut self,
+        alloc: Global,
+        fault: &Fault,
+        sink: &mut K,
+    ) -> Result<(), Refusal> {
+        match self {
+            Source::File(store) => explain(alloc, fault, store, sink),
+            Source::Input(bytes) => {
+                let mut store = MemStore::new(bytes.as_slice());
+                explain(alloc, fault, &mut store, sink)
+            }
+        }
+    }
+}

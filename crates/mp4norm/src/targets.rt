@@ -1,0 +1,57 @@
+//! Where the answer goes.
+use crate::sources::Source;
+use crate::wanted::Job;
+use mp4_boxes::{Refusal, Steps};
+use mp4_store::IoSink;
+use std::alloc::Global;
+use std::fs::File;
+use std::io;
+use std::io::{Stdout, Write};
+use std::sync::ledger::Ledger;
+
+/// Standard output, or a file that was made.
+#[derive(Drop)]
+pub(crate) enum Out {
+    Standard(Stdout),
+    File(File),
+}
+
+impl Out {
+    /// Waits until what was written to a file has reached the disk.
+    pub(crate) fn sync(&self) -> io::Result<()> {
+        match self {
+            Out::Standard(_) => Ok(()),
+            Out::File(file) => file.sync_all(),
+        }
+    }
+}
+
+impl Write for Out {
+    fn write(&mut self, piece: &[u8]) -> io::Result<usize> {
+        match self {
+            Out::Standard(output) => output.write(piece),
+            Out::File(file) => file.write(piece),
+        }
+    }
+
+    fn flush(&mut self) -> io::Result<()> {
+        Ok(())
+    }
+}
+
+/// Makes a file that isn't there yet.
+pub(crate) fn make(rt: &HostRuntime, name: &str) -> Result<Out, Refusal> {
+    let file = File::create_new(rt, name).map_err(|_| Refusal::WriteFailed)?;
+    Ok(Out::File(file))
+}
+
+/// Writes a job's text.
+pub(crate) fn write<L: Ledger>(
+    alloc: Global,
+    job: Job,
+    source: &mut Source,
+    out: &mut Out,
+    steps: &mut Steps<L>,
+) -> Result<(), Refusal> {
+    source.perform(alloc, job, &mut IoSink::new(out), steps)
+}
