@@ -5,6 +5,14 @@ A file is built as a tree of boxes, so that a case knows where it put the box th
 import struct
 
 
+# The boxes that are kept whole, by what they stand in: content that isn't read.
+KEPT = {
+    'moov': ('udta', 'iods', 'meta'),
+    'moov/trak': ('tref', 'udta', 'meta'),
+    'moov/trak/mdia': ('elng',),
+}
+
+
 def u8(number):
     return struct.pack('>B', number)
 

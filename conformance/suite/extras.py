@@ -1,6 +1,6 @@
 """Further files: more ways to have a fault, pairs of faults that the order's neighbours leave out,
 and files that are just within what is allowed."""
-from .boxes import Box, full, i32, u8, u16, u32, u64
+from .boxes import KEPT, Box, full, i32, u8, u16, u32, u64
 from .faults import (LARGE, added, added_bytes, added_copy, changed, name_of, one_more_counted,
                      put_over, removed)
 from .movies import whole
@@ -475,9 +475,7 @@ def accepted():
               added('', Box('sidx', b'?')), added('', Box('mfra', b'??')), added('', Box('ftyp'))),
         Extra('two-of-each-kept-box', 'in any number, in file order', none,
               *[added(path, Box(kind, kind.encode() + b' again'))
-                for path, kinds in (('moov', ('udta', 'iods', 'meta')),
-                                    ('moov/trak', ('tref', 'udta', 'meta')),
-                                    ('moov/trak/mdia', ('elng',))) for kind in kinds]),
+                for path, kinds in KEPT.items() for kind in kinds]),
         Extra('edts-without-elst', 'no edits', none, removed('moov/trak/edts', 'elst')),
         Extra('elst-without-rows', 'no edits', none,
               fields('moov/trak/edts/elst', full(0) + u32(0))),

@@ -3,7 +3,7 @@
 Each makes a file with this fault alone. Two neighbours in the order, in one file, show that the
 first is named.
 """
-from .boxes import Box, Raw, i32, u8, u16, u32, u64
+from .boxes import KEPT, Box, Raw, i32, u8, u16, u32, u64
 from .movies import time
 
 LARGE = 0x7fffffff
@@ -180,7 +180,7 @@ def of_movie(is_wide):
         *leaf('moov/mvhd', 'mvhd', 1, 112 if is_wide else 100, rows=False),
         value('moov/mvhd', 'mvhd-of-timescale-zero', 'BadValue', scale, u32(0)),
         *[value(f'moov/{kind}', f'{kind}-of-moov-with-iloc', 'ItemLocation', 1, b'iloc')
-          for kind in ('udta', 'iods', 'meta')],
+          for kind in KEPT['moov']],
         *of_track(is_wide),
         *of_second_track(is_wide),
         *headers_in('moov/mvex', 'tfhd', ['mehd']),
@@ -198,7 +198,7 @@ def of_track(is_wide):
         *headers_in(path + '/edts', 'tkhd', ['elst']),
         *leaf(path + '/edts/elst', 'elst', 1, 8),
         *[value(f'{path}/{kind}', f'{kind}-of-trak-with-iloc', 'ItemLocation', 1, b'iloc')
-          for kind in ('tref', 'udta', 'meta')],
+          for kind in KEPT[path]],
         *of_media(is_wide, path + '/mdia'),
     ]
 

@@ -1,5 +1,5 @@
 """The normal form of what a file denotes, by its description."""
-from .boxes import Box, full, i32, u16, u32, u64
+from .boxes import KEPT, Box, full, i32, u16, u32, u64
 
 
 def spelled(boxes):
@@ -37,7 +37,7 @@ def movie_header(movie):
 
 
 def movie_box(movie):
-    boxes = [movie_header(movie)] + kept(movie.moov.all('udta', 'iods', 'meta'))
+    boxes = [movie_header(movie)] + kept(movie.moov.all(*KEPT['moov']))
     boxes += [track_box(track) for track in movie.tracks]
     extends = [Box('mehd', full(1) + u64(movie.length()))]
     for track in movie.tracks:
@@ -64,7 +64,7 @@ def edits(track):
 
 def track_box(track):
     boxes = [track_header(track)] + edits(track)
-    boxes += kept(track.trak.all('tref', 'udta', 'meta'))
+    boxes += kept(track.trak.all(*KEPT['moov/trak']))
     return Box('trak', b'', boxes + [media_box(track)])
 
 

@@ -5,7 +5,7 @@ use Rattle.std.specs.List.{AllByRecursion, list_all}
 use Rattle.std.proofs.lemmas.Bool.{and_parts}
 use Rattle.mp4_boxes.specs.Box.{Box}
 use Rattle.mp4_boxes.specs.Children.{of_kind}
-use Rattle.mp4_boxes.proofs.Among.{IsIn, all_append}
+use Rattle.mp4_boxes.proofs.Among.{IsIn, all_append, head_is, tail_is}
 
 -- what follows from two facts holds where both do
 pub each_from : {A : Type 0} (P Q R : A → Type 0) → ((x : A) → P x → Q x → R x) → (xs : List A) → AllByRecursion P xs → AllByRecursion Q xs → AllByRecursion R xs
@@ -78,3 +78,10 @@ each_member P (x ∷ xs) h = (
 pub each_tested : {A : Type 0} (p : A → Bool) (xs : List A) → list_all p xs ≡ true → AllByRecursion (λ x. IsTrue (p x)) xs
 each_tested p [] e = tt
 each_tested p (x ∷ xs) e = let q = and_parts (p x) (list_all p xs) e in (q.0, each_tested p xs q.1)
+
+-- a function that has one value on all of a list has it on each: of a list that can be computed, however long, by `refl`
+pub each_same : {A B : Type 0} (f : A → B) (v : B) (xs : List A) → map f xs ≡ map (λ (x : A). v) xs → AllByRecursion (λ x. f x ≡ v) xs
+each_same f v [] e = tt
+each_same {A} f v (x ∷ xs) e =
+    let values = λ (ys : List A). map (λ (y : A). v) ys in
+    (head_is (f x) v (map f xs) (values xs) e, each_same f v xs (tail_is (f x) v (map f xs) (values xs) e))

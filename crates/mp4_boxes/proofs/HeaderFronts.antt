@@ -1,7 +1,7 @@
 -- A header is read in the first 16 bytes that are left, or in all of them.
-use Rattle.std.proofs.Common.{◌≡◌, ℕ, ◌+◌, ◌-◌, ◌<◌, ◌≤◌, Bool, true, false, cond, List, length, take, drop, Result, Ok, Err, refl, sym, ap, ◌∙◌, arith, inl, inr, ltb, eqb}
+use Rattle.std.proofs.Common.{◌≡◌, ℕ, ◌+◌, ◌-◌, ◌<◌, ◌≤◌, Bool, true, cond, List, take, drop, Result, Ok, Err, refl, sym, ap, ◌∙◌, arith, inl, inr, ltb, eqb}
 use Rattle.std.specs.Prelude.{min, ◌⊎◌}
-use Rattle.std.proofs.lemmas.Bool.{cases_lt, lt-ltb, le-ltb}
+use Rattle.std.proofs.lemmas.Bool.{cases_lt, lt-ltb}
 use Rattle.std.proofs.lemmas.List.{drop-take, take-take}
 use Rattle.byteorder.specs.Numbers.{big_from-take}
 use Rattle.mp4_boxes.specs.Bytes.{field}

@@ -73,7 +73,7 @@ pub v1-tiles : Holds File (file_container v1) (v1_moov ∷ [])
 v1-tiles = record { tiles = record { front = (((record { kind = codes "moov"; length = 8; size = 116 }, refl, refl), tt), tt); full = refl }; allowed = (refl, tt); quantities = (refl, (tt, (tt, (tt, (tt, (tt, (tt, tt))))))) }
 
 pub v1-moov-tiles : Holds Movie (box_container v1_moov) (v1_mvhd ∷ [])
-v1-moov-tiles = record { tiles = record { front = (((record { kind = codes "mvhd"; length = 8; size = 108 }, refl, refl), tt), tt); full = refl }; allowed = (refl, tt); quantities = (refl, (lit≤ tt, (tt, (tt, (tt, (tt, tt)))))) }
+v1-moov-tiles = record { tiles = record { front = (((record { kind = codes "mvhd"; length = 8; size = 108 }, refl, refl), tt), tt); full = refl }; allowed = (refl, tt); quantities = (refl, (lit≤ tt, (tt, (tt, tt)))) }
 
 pub v1-mvhd : IsReadable mvhd v1_mvhd.payload
 v1-mvhd = record { version = refl; flags = refl; room = lit≤ tt }

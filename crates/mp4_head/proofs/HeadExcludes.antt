@@ -3,9 +3,9 @@ use Rattle.std.proofs.Common.{◌≡◌, ℕ, Bool, true, false, List, [], ◌�
 use Rattle.std.specs.Prelude.{codes, bytes_eq, slice_index, ◌||◌, Result, Ok, Err, IfErr}
 use Rattle.std.specs.List.{list_any, AllByRecursion}
 use Rattle.mp4_boxes.specs.Box.{Box, Container}
-use Rattle.mp4_boxes.specs.Children.{of_kind, Holds}
+use Rattle.mp4_boxes.specs.Children.{of_kind, Holds, kept_kinds}
 use Rattle.mp4_boxes.specs.Layout.{Leaf, tkhd, data_entry_url, sample_entry, stsd, stts, ctts, stsc, stsz, stz2, stco, co64, stss, sdtp, sbgp, sgpd, trex, leaf_fields, IsSound}
-use Rattle.mp4_boxes.specs.Places.{Scope, ruled, data_entries, sample_entries, at_kind, leaves, leaf_of, kept_kinds, IsSoundAs, AreSound}
+use Rattle.mp4_boxes.specs.Places.{Scope, ruled, data_entries, sample_entries, at_kind, leaves, leaf_of, IsSoundAs, AreSound}
 use Rattle.mp4_boxes.specs.declared.rule.Rule.{Rule}
 use Rattle.mp4_boxes.specs.declared.rule.Rule.TheVariants.{File, Movie, Track, Edits, Media, MediaInformation, DataInformation, SampleTable, MovieExtends, MovieFragment, TrackFragment}
 use Rattle.mp4_boxes.specs.declared.fault.Fault.{Fault}

@@ -6,9 +6,9 @@ use Rattle.std.specs.BTreeSet.{BTreeSet, IsEmpty}
 use Rattle.std.proofs.lemmas.List.{map-append}
 use Rattle.mp4_boxes.specs.Box.{Box, box_container, StandsAfter}
 use Rattle.mp4_boxes.specs.BoxFaults.{fault_of}
-use Rattle.mp4_boxes.specs.Children.{Holds, of_kind, is_among}
+use Rattle.mp4_boxes.specs.Children.{Holds, of_kind, is_among, kept_kinds}
 use Rattle.mp4_boxes.specs.Layout.{mvhd, tkhd, leaf_fields, IsSound}
-use Rattle.mp4_boxes.specs.Places.{ruled, kept_kinds, AreSound, IsSoundAs, leaf_of, inside}
+use Rattle.mp4_boxes.specs.Places.{ruled, AreSound, IsSoundAs, leaf_of, inside}
 use Rattle.mp4_boxes.specs.View.{box_seen}
 use Rattle.mp4_boxes.specs.declared.rule.Rule.TheVariants as kinds
 use Rattle.mp4_boxes.specs.declared.refusal.Refusal.{Refusal}

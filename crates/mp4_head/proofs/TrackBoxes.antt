@@ -4,9 +4,9 @@ use Rattle.std.specs.Prelude.{codes, bytes_eq}
 use Rattle.std.specs.BTreeSet.{BTreeSet}
 use Rattle.mp4_boxes.specs.Box.{Box, box_container, StandsAfter}
 use Rattle.mp4_boxes.specs.BoxFaults.{fault_of}
-use Rattle.mp4_boxes.specs.Children.{Holds, of_kind, is_among, payload_if}
+use Rattle.mp4_boxes.specs.Children.{Holds, of_kind, is_among, payload_if, kept_kinds}
 use Rattle.mp4_boxes.specs.Layout.{tkhd, stsd, IsSound}
-use Rattle.mp4_boxes.specs.Places.{ruled, kept_kinds, AreSound}
+use Rattle.mp4_boxes.specs.Places.{ruled, AreSound}
 use Rattle.mp4_boxes.specs.View.{box_seen}
 use Rattle.mp4_boxes.specs.declared.rule.Rule.TheVariants as kinds
 use Rattle.mp4_boxes.specs.declared.refusal.Refusal.{Refusal}

@@ -7,9 +7,9 @@ use Rattle.std.proofs.lemmas.Bool.{eqb-true, eqb-false, leb-true}
 use Rattle.byteorder.specs.Endian.{twos_complement}
 use Rattle.mp4_boxes.specs.Bytes.{AreBytes, field, width_of}
 use Rattle.mp4_boxes.specs.Box.{Box}
-use Rattle.mp4_boxes.specs.Children.{is_among, media_headers, count_among, of_kind, payload_of, payload_if, one}
+use Rattle.mp4_boxes.specs.Children.{is_among, media_headers, count_among, of_kind, payload_of, payload_if, one, kept_kinds}
 use Rattle.mp4_boxes.specs.Layout.{mvhd, tkhd, mdhd, hdlr, elst, sgpd, sample_entry, fields, row, row_count, version, leaf_fields, leaf_rows, IsSound}
-use Rattle.mp4_boxes.specs.Places.{kept_kinds, ruled, sample_entries, AreSound}
+use Rattle.mp4_boxes.specs.Places.{ruled, sample_entries, AreSound}
 use Rattle.mp4_boxes.specs.declared.rule.Rule.TheVariants as rules
 use Rattle.mp4_boxes.proofs.Each.{each_value, each_from, each_kept}
 use Rattle.mp4_boxes.proofs.Refusing.{holds_only, line_has}

@@ -5,11 +5,11 @@ use Rattle.std.specs.List.{AllByRecursion}
 use Rattle.std.proofs.lemmas.List.{append-nil, length-map}
 use Rattle.mp4_boxes.specs.Bytes.{spelled, field}
 use Rattle.mp4_boxes.specs.Box.{Box, box_container, counted_container, Tiles}
-use Rattle.mp4_boxes.specs.Children.{Holds, allows, is_among, media_headers}
+use Rattle.mp4_boxes.specs.Children.{Holds, allows, is_among, media_headers, kept_kinds}
 use Rattle.mp4_boxes.specs.Layout.{dref, data_entry_url, stsd, stts, stsc, stsz, stco, mdhd, fields}
 use Rattle.mp4_boxes.specs.Written.{box_bytes}
-use Rattle.mp4_boxes.specs.Places.{kept_kinds}
 use Rattle.mp4_boxes.specs.declared.rule.Rule.TheVariants as rules
+use Rattle.mp4_boxes.proofs.Each.{each_same, each_tested}
 use Rattle.mp4_boxes.proofs.Among.{all_append}
 use Rattle.mp4_boxes.proofs.WrittenBoxes.{Content, written, placed, children, FitsBox, AreTypes, HaveNone, typed, found, written-append, tiles_counted, holds_written, fits_written, payload_placed, found_behind, all_typed, typed_written, among_has, count_written, count_around, count_before, count_none, count_written-append}
 use Rattle.mp4_head.specs.Head.{Kept, Edit, Media, TrackHead, IsKept, IsDescription, IsMedia, IsTrackHead}
@@ -371,7 +371,7 @@ all_track P t h a b c d = (a, all_append (λ (k : Content). P k.kind) (track_mid
 few_in_track : (t : TrackHead) → IsTrackHead t → count_written (codes "edts" ∷ []) (track_contents t) ≤ 1
 few_in_track t h =
     let kinds = codes "edts" ∷ [] in
-    let kept = all_kept (λ kind. is_among kinds kind ≡ false) (kept_kinds rules.Track) t.kept (refl, (refl, (refl, tt))) h.kept in
+    let kept = all_kept (λ kind. is_among kinds kind ≡ false) (kept_kinds rules.Track) t.kept (each_same (is_among kinds) false (kept_kinds rules.Track) refl) h.kept in
     omega (arith, few_edts t.edits, count_written-append kinds (track_front t) (track_middle t ++ track_back t), count_written-append kinds (track_middle t) (track_back t), count_written-append kinds (edts_contents t.edits) (contents_of t.kept), count_none kinds (contents_of t.kept) kept)
 
 -- a `trak` holds its boxes
@@ -380,10 +380,10 @@ trak_holds b t h e le =
     let contents = track_contents t in
     let same = e ∙ trak_written t in
     let count = λ (kinds : List (List ℕ)) (n : is_among kinds (codes "edts") ≡ false) (m : AllByRecursion (λ kind. is_among kinds kind ≡ false) (kept_kinds rules.Track)). count_around kinds (track_front t) (track_middle t) (track_back t) (all_middle (λ kind. is_among kinds kind ≡ false) t h n m) in
-    holds_written rules.Track b contents same (fits_in b.payload contents same (all_track (λ kind. length kind ≡ 4) t h refl refl (refl, (refl, (refl, tt))) refl) le)
-    (all_track (λ kind. IsTrue (allows rules.Track kind)) t h refl refl (refl, (refl, (refl, tt))) refl)
-    (count (codes "tkhd" ∷ []) refl (refl, (refl, (refl, tt))), (count (codes "mdia" ∷ []) refl (refl, (refl, (refl, tt))), (few_in_track t h, (tt, (tt, (tt, tt))))))
+    holds_written rules.Track b contents same (fits_in b.payload contents same (all_track (λ kind. length kind ≡ 4) t h refl refl (each_same (λ (kind : List ℕ). length kind) 4 (kept_kinds rules.Track) refl) refl) le)
+    (all_track (λ kind. IsTrue (allows rules.Track kind)) t h refl refl (each_tested (allows rules.Track) (kept_kinds rules.Track) refl) refl)
+    (count (codes "tkhd" ∷ []) refl (each_same (is_among (codes "tkhd" ∷ [])) false (kept_kinds rules.Track) refl), (count (codes "mdia" ∷ []) refl (each_same (is_among (codes "mdia" ∷ [])) false (kept_kinds rules.Track) refl), (few_in_track t h, (tt, tt))))
 
 -- the `mdia` is found
 pub mdia_found : (t : TrackHead) → IsTrackHead t → found (codes "mdia") (track_contents t) ≡ Some (mdia_payload t.media t.group_descriptions)
-mdia_found t h = found_behind (codes "mdia") (track_middle t) (track_back t) (all_middle (λ kind. bytes_eq (codes "mdia") kind ≡ false) t h refl (refl, (refl, (refl, tt))))
+mdia_found t h = found_behind (codes "mdia") (track_middle t) (track_back t) (all_middle (λ kind. bytes_eq (codes "mdia") kind ≡ false) t h refl (each_same (bytes_eq (codes "mdia")) false (kept_kinds rules.Track) refl))

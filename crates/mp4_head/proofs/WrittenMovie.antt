@@ -5,11 +5,12 @@ use Rattle.std.specs.List.{AllByRecursion}
 use Rattle.std.proofs.lemmas.List.{append-nil}
 use Rattle.mp4_boxes.specs.Bytes.{spelled}
 use Rattle.mp4_boxes.specs.Box.{Box, box_container}
-use Rattle.mp4_boxes.specs.Children.{Holds, of_kind, is_among, allows}
+use Rattle.mp4_boxes.specs.Children.{Holds, of_kind, is_among, allows, kept_kinds}
 use Rattle.mp4_boxes.specs.Layout.{mvhd, leaf_fields}
 use Rattle.mp4_boxes.specs.Written.{box_bytes}
-use Rattle.mp4_boxes.specs.Places.{ruled, kept_kinds, leaf_of, IsSoundAs, AreSound}
+use Rattle.mp4_boxes.specs.Places.{ruled, leaf_of, IsSoundAs, AreSound}
 use Rattle.mp4_boxes.specs.declared.rule.Rule.TheVariants as rules
+use Rattle.mp4_boxes.proofs.Each.{each_same, each_tested}
 use Rattle.mp4_boxes.proofs.Among.{all_append}
 use Rattle.mp4_boxes.proofs.Joined.{all_first, all_last}
 use Rattle.mp4_boxes.proofs.WrittenBoxes.{Content, written, placed, placed_box, children, FitsBox, typed, written-append, length-box_bytes, holds_written, count_around, count_before, of_kind-between}
@@ -185,7 +186,7 @@ module _ (movie : MovieHead) (tracks : List TrackHead) (duration : ℕ) (h : IsW
   -- its contents fit headers of 8 bytes
   fits : AllByRecursion FitsBox (movie_contents movie tracks duration)
   fits = fits_in (moov_payload movie tracks duration) (movie_contents movie tracks duration) (moov_written movie tracks duration)
-      (all_movie (λ kind. length kind ≡ 4) movie tracks duration h.is_movie refl (refl, (refl, (refl, tt))) refl refl) moov_small
+      (all_movie (λ kind. length kind ≡ 4) movie tracks duration h.is_movie refl (each_same (λ (kind : List ℕ). length kind) 4 (kept_kinds rules.Movie) refl) refl refl) moov_small
 
   fits_front : AllByRecursion FitsBox (movie_front movie tracks)
   fits_front = all_first FitsBox (movie_front movie tracks) (trak_contents tracks ++ movie_back tracks duration) fits
@@ -200,12 +201,12 @@ module _ (movie : MovieHead) (tracks : List TrackHead) (duration : ℕ) (h : IsW
       let kept = λ (kinds : List (List ℕ)) (n : AllByRecursion (λ kind. is_among kinds kind ≡ false) (kept_kinds rules.Movie)).
       count_before kinds (typed (codes "mvhd") (mvhd_payload movie (next_track_id tracks)) ∷ []) (contents_of movie.kept) (all_kept (λ kind. is_among kinds kind ≡ false) (kept_kinds rules.Movie) movie.kept n h.is_movie.kept) in
       let one_mvhd = kinds_count (codes "mvhd" ∷ []) refl in
-      let kept_mvhd = kept (codes "mvhd" ∷ []) (refl, (refl, (refl, tt))) in
+      let kept_mvhd = kept (codes "mvhd" ∷ []) (each_same (is_among (codes "mvhd" ∷ [])) false (kept_kinds rules.Movie) refl) in
       let few_mvex = kinds_count (codes "mvex" ∷ []) refl in
-      let kept_mvex = kept (codes "mvex" ∷ []) (refl, (refl, (refl, tt))) in
+      let kept_mvex = kept (codes "mvex" ∷ []) (each_same (is_among (codes "mvex" ∷ [])) false (kept_kinds rules.Movie) refl) in
       holds_written rules.Movie (placed_box at (moov_content movie tracks duration)) (movie_contents movie tracks duration) (moov_written movie tracks duration) fits
-      (all_movie (λ kind. IsTrue (allows rules.Movie kind)) movie tracks duration h.is_movie refl (refl, (refl, (refl, tt))) refl refl)
-      (omega arith, (omega arith, (tt, (tt, (tt, (tt, tt))))))
+      (all_movie (λ kind. IsTrue (allows rules.Movie kind)) movie tracks duration h.is_movie refl (each_tested (allows rules.Movie) (kept_kinds rules.Movie) refl) refl refl)
+      (omega arith, (omega arith, (tt, (tt, tt))))
 
   -- the `mvex` is found
   mvex_is : (at : ℕ) → (n : ℕ) × (of_kind (codes "mvex") (movie_boxes at movie tracks duration) ≡ placed_box n (typed (codes "mvex") (mvex_payload tracks duration)) ∷ [])
@@ -215,7 +216,7 @@ module _ (movie : MovieHead) (tracks : List TrackHead) (duration : ℕ) (h : IsW
       let same : movie_contents movie tracks duration ≡ front ++ (back ++ []) = sym (append_assoc (movie_front movie tracks) (trak_contents tracks) back) ∙ ap (λ (l : List Content). front ++ l) (sym (append-nil back)) in
       let Other = λ (kind : List ℕ). bytes_eq (codes "mvex") kind ≡ false in
       let found = of_kind-between (codes "mvex") (at + 8) front back [] (all_append FitsBox (movie_front movie tracks) (trak_contents tracks) fits_front (all_first FitsBox (trak_contents tracks) back fits_behind)) (all_last FitsBox (trak_contents tracks) back fits_behind)
-      (all_append (λ (k : Content). Other k.kind) (movie_front movie tracks) (trak_contents tracks) (all_front Other movie tracks h.is_movie refl (refl, (refl, (refl, tt)))) (all_traks Other tracks refl)) (refl, tt) tt in
+      (all_append (λ (k : Content). Other k.kind) (movie_front movie tracks) (trak_contents tracks) (all_front Other movie tracks h.is_movie refl (each_same (bytes_eq (codes "mvex")) false (kept_kinds rules.Movie) refl)) (all_traks Other tracks refl)) (refl, tt) tt in
       (at + 8 + length (written front), ap (λ (l : List Content). of_kind (codes "mvex") (placed (at + 8) l)) same ∙ found)
 
   -- what holds of the one `mvex` holds of what is found
@@ -265,7 +266,7 @@ module _ (movie : MovieHead) (tracks : List TrackHead) (duration : ℕ) (h : IsW
         movie = movie_holds at;
         extends = at_mvex (λ bs. HoldsIfThere rules.MovieExtends bs (extends_in bs tracks duration)) at extends_hold;
         traks = traks_are from tracks ∙ sym (of_kind-between (codes "trak") (at + 8) (movie_front movie tracks) (trak_contents tracks) (movie_back tracks duration) fits_front
-            (all_first FitsBox (trak_contents tracks) (movie_back tracks duration) fits_behind) (all_front Other movie tracks h.is_movie refl (refl, (refl, (refl, tt)))) (all_traks (λ kind. bytes_eq (codes "trak") kind ≡ true) tracks refl) (refl, tt));
+            (all_first FitsBox (trak_contents tracks) (movie_back tracks duration) fits_behind) (all_front Other movie tracks h.is_movie refl (each_same (bytes_eq (codes "trak")) false (kept_kinds rules.Movie) refl)) (all_traks (λ kind. bytes_eq (codes "trak") kind ≡ true) tracks refl) (refl, tt));
         tracks = all_trees from tracks h.are_tracks traks_small;
       }
 
@@ -308,7 +309,7 @@ module _ (movie : MovieHead) (tracks : List TrackHead) (duration : ℕ) (h : IsW
       record {
         movie = sound_placed (ruled rules.Movie) (at + 8) (movie_contents movie tracks duration)
             (all_append Sound (movie_front movie tracks) (trak_contents tracks ++ movie_back tracks duration)
-            (mvhd_sound movie (next_track_id tracks) h.is_movie next_fits, unread (ruled rules.Movie) (contents_of movie.kept) (all_kept Unread (kept_kinds rules.Movie) movie.kept (refl, (refl, (refl, tt))) h.is_movie.kept))
+            (mvhd_sound movie (next_track_id tracks) h.is_movie next_fits, unread (ruled rules.Movie) (contents_of movie.kept) (all_kept Unread (kept_kinds rules.Movie) movie.kept (each_same (leaf_of (ruled rules.Movie)) None (kept_kinds rules.Movie) refl) h.is_movie.kept))
             (all_append Sound (trak_contents tracks) (movie_back tracks duration) (unread (ruled rules.Movie) (trak_contents tracks) (all_traks Unread tracks refl)) (tt, tt)));
         kept = subst (λ (l : List Kept). NameNoItems l) (sym (movie_kept at)) (name_none (kept_kinds rules.Movie) movie.kept h.is_movie.kept);
         tracks = all_sound (at + 8 + length (written (movie_front movie tracks))) tracks h.are_tracks traks_small;

@@ -5,11 +5,12 @@ use Rattle.std.specs.List.{AllByRecursion}
 use Rattle.std.proofs.lemmas.List.{append-nil}
 use Rattle.mp4_boxes.specs.Bytes.{spelled}
 use Rattle.mp4_boxes.specs.Box.{Box, box_container}
-use Rattle.mp4_boxes.specs.Children.{Holds, of_kind, payload_if}
+use Rattle.mp4_boxes.specs.Children.{Holds, of_kind, payload_if, kept_kinds}
 use Rattle.mp4_boxes.specs.Layout.{fields, elst}
 use Rattle.mp4_boxes.specs.Written.{box_bytes}
-use Rattle.mp4_boxes.specs.Places.{ruled, kept_kinds, AreSound}
+use Rattle.mp4_boxes.specs.Places.{ruled, AreSound}
 use Rattle.mp4_boxes.specs.declared.rule.Rule.TheVariants as rules
+use Rattle.mp4_boxes.proofs.Each.{each_same}
 use Rattle.mp4_boxes.proofs.Among.{all_append}
 use Rattle.mp4_boxes.proofs.WrittenBoxes.{Content, written, placed, placed_box, children, AreTypes, AreOther, typed, found, found_size, holds_written, of_kind-none}
 use Rattle.mp4_head.specs.Head.{Edit, TrackHead, IsEdit, IsTrackHead}
@@ -100,7 +101,7 @@ track_cases : (P : List Box → List Edit → Type 0) (at : ℕ) (t : TrackHead)
     → P (of_kind (codes "edts") (track_boxes at t)) t.edits
 track_cases P at t h none some =
     let others = contents_of t.kept ++ track_back t in
-    let other = all_append (λ (k : Content). bytes_eq (codes "edts") k.kind ≡ false) (contents_of t.kept) (track_back t) (all_kept (λ kind. bytes_eq (codes "edts") kind ≡ false) (kept_kinds rules.Track) t.kept (refl, (refl, (refl, tt))) h.kept) (refl, tt) in
+    let other = all_append (λ (k : Content). bytes_eq (codes "edts") k.kind ≡ false) (contents_of t.kept) (track_back t) (all_kept (λ kind. bytes_eq (codes "edts") kind ≡ false) (kept_kinds rules.Track) t.kept (each_same (bytes_eq (codes "edts")) false (kept_kinds rules.Track) refl) h.kept) (refl, tt) in
     subst (λ (l : List Content). P (of_kind (codes "edts") (placed (at + 8) (typed (codes "tkhd") (tkhd_payload t) ∷ l))) t.edits) (sym (append_assoc (edts_contents t.edits) (contents_of t.kept) (track_back t)))
     (edts_cases P (at + 8) (tkhd_payload t) t.edits others other none some)
 
@@ -155,7 +156,7 @@ pub has_inner : (at : ℕ) (t : TrackHead) → IsTrackHead t → length (trak_pa
 has_inner at t h le =
     let m = t.media in
     let groups = t.group_descriptions in
-    let types = all_track (λ kind. length kind ≡ 4) t h refl refl (refl, (refl, (refl, tt))) refl in
+    let types = all_track (λ kind. length kind ≡ 4) t h refl refl (each_same (λ (kind : List ℕ). length kind) 4 (kept_kinds rules.Track) refl) refl in
     let mdia = small_in (codes "mdia") (trak_payload t) (track_contents t) (mdia_payload m groups) (trak_written t) types (mdia_found t h) le in
     let minf = small_in (codes "minf") (mdia_payload m groups) (media_contents m groups) (minf_payload m.header m.descriptions groups) (mdia_written m groups) (all_media (λ kind. length kind ≡ 4) m groups refl refl refl refl) (minf_found m groups) mdia in
     let stbl = small_in (codes "stbl") (minf_payload m.header m.descriptions groups) (information_contents m.header m.descriptions groups) (stbl_payload m.descriptions groups) (minf_written m.header m.descriptions groups) (minf_types m h.media groups) (stbl_found m h.media groups) minf in

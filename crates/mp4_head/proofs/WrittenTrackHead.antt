@@ -4,10 +4,11 @@ use Rattle.std.specs.Prelude.{codes, map, bytes_eq}
 use Rattle.std.specs.List.{AllByRecursion}
 use Rattle.std.proofs.lemmas.List.{append-nil}
 use Rattle.mp4_boxes.specs.Box.{Box}
-use Rattle.mp4_boxes.specs.Children.{of_kind, payload_if, is_among, media_headers}
+use Rattle.mp4_boxes.specs.Children.{of_kind, payload_if, is_among, media_headers, kept_kinds}
 use Rattle.mp4_boxes.specs.Layout.{Leaf, tkhd, leaf_fields}
-use Rattle.mp4_boxes.specs.Places.{Scope, ruled, sample_entries, kept_kinds, leaf_of, IsSoundAs, AreSound}
+use Rattle.mp4_boxes.specs.Places.{Scope, ruled, sample_entries, leaf_of, IsSoundAs, AreSound}
 use Rattle.mp4_boxes.specs.declared.rule.Rule.TheVariants as rules
+use Rattle.mp4_boxes.proofs.Each.{each_same}
 use Rattle.mp4_boxes.proofs.Among.{all_append}
 use Rattle.mp4_boxes.proofs.Joined.{all_first, all_last}
 use Rattle.mp4_boxes.proofs.WrittenBoxes.{Content, placed, placed_box, FitsBox, HaveNone, typed, all_placed, all_typed, typed_payloads, payloads_between}
@@ -164,7 +165,7 @@ track_sound at t h =
       tkhd_sound t h,
       all_append Sound (track_middle t) (track_back t)
           (all_append Sound (edts_contents t.edits) (contents_of t.kept) (unread (ruled rules.Track) (edts_contents t.edits) (all_edts Unread t.edits refl))
-          (unread (ruled rules.Track) (contents_of t.kept) (all_kept Unread (kept_kinds rules.Track) t.kept (refl, (refl, (refl, tt))) h.kept)))
+          (unread (ruled rules.Track) (contents_of t.kept) (all_kept Unread (kept_kinds rules.Track) t.kept (each_same (leaf_of (ruled rules.Track)) None (kept_kinds rules.Track) refl) h.kept)))
           (tt, tt),
     )
 

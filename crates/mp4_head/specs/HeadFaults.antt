@@ -1,9 +1,9 @@
 -- Which faults stand in a container: in the headers and the lists of boxes, in a leaf, in what is kept.
 use Rattle.std.specs.Prelude.{◌≡◌, ℕ, ◌<◌, ◌⊎◌, Bool, true, false, IsTrue, List, None, Some, slice_index}
 use Rattle.mp4_boxes.specs.Box.{Box}
-use Rattle.mp4_boxes.specs.Children.{is_among}
+use Rattle.mp4_boxes.specs.Children.{is_among, kept_kinds}
 use Rattle.mp4_boxes.specs.Layout.{Leaf, tkhd, trex, stts, ctts, stsc, stsz, stz2, stco, co64, stss, sdtp, sbgp, sgpd, leaf_fields, IsReadable}
-use Rattle.mp4_boxes.specs.Places.{ruled, data_entries, Place, kept_kinds, leaf_of, Reaches, StandsIn}
+use Rattle.mp4_boxes.specs.Places.{ruled, data_entries, Place, leaf_of, Reaches, StandsIn}
 use Rattle.mp4_boxes.specs.BoxFaults.{fault_of, IsHeaderFault, IsNotInProfile, IsDuplicate, IsMissing, IsLeafFault}
 use Rattle.mp4_boxes.specs.declared.rule.Rule.{Rule}
 use Rattle.mp4_boxes.specs.declared.rule.Rule.TheVariants as rules

@@ -3,9 +3,9 @@ use Rattle.std.specs.Prelude.{◌≡◌, ℕ, List, [], ◌∷◌, map, filter, 
 use Rattle.std.specs.List.{AllByRecursion, list_any}
 use Rattle.byteorder.specs.Endian.{twos_complement}
 use Rattle.mp4_boxes.specs.Box.{Box, box_container, counted_container, Tiles}
-use Rattle.mp4_boxes.specs.Children.{Holds, of_kind, payload_of, payload_if, is_among, media_headers}
+use Rattle.mp4_boxes.specs.Children.{Holds, of_kind, payload_of, payload_if, is_among, media_headers, kept_kinds}
 use Rattle.mp4_boxes.specs.Layout.{mvhd, tkhd, mdhd, elst, stsd, leaf_fields, leaf_rows, version, time_width, IsSound}
-use Rattle.mp4_boxes.specs.Places.{kept_kinds, ruled, data_entries, sample_entries, AreSound}
+use Rattle.mp4_boxes.specs.Places.{ruled, data_entries, sample_entries, AreSound}
 use Rattle.mp4_boxes.specs.declared.rule.Rule.{Rule}
 use Rattle.mp4_boxes.specs.declared.rule.Rule.TheVariants as rules
 use Rattle.mp4_frag.specs.declared.trex.Trex.{Trex}

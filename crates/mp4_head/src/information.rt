@@ -74,12 +74,7 @@ pub(crate) struct Information<'a> {
 fn is_media_header(view: BoxView) -> bool
     ensures { result ≡ is_among media_headers (box_seen view.entry).kind }
 {
-    is(view, FourCc(*b"vmhd"))
-        || is(view, FourCc(*b"smhd"))
-        || is(view, FourCc(*b"hmhd"))
-        || is(view, FourCc(*b"nmhd"))
-        || is(view, FourCc(*b"sthd"))
-        || is(view, FourCc(*b"gmhd"))
+    Rule::MediaInformation.keeps(view.kind())
 }
 
 pub(crate) fn read_information<'a>(

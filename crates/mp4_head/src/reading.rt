@@ -1,8 +1,8 @@
 //! `moov`: the head of a movie, read (ISO/IEC 14496-12, 8.2.1).
 ghost use Rattle.std.specs.Prelude.{◌≡◌, map, IfOk, IfErr};
 ghost use Rattle.std.specs.List.{AllByRecursion};
-ghost use Rattle.mp4_boxes.specs.Children.{is_among};
-ghost use Rattle.mp4_boxes.specs.Places.{ruled, kept_kinds};
+ghost use Rattle.mp4_boxes.specs.Children.{is_among, kept_kinds};
+ghost use Rattle.mp4_boxes.specs.Places.{ruled};
 ghost use Rattle.mp4_boxes.specs.View.{box_seen};
 ghost use Rattle.mp4_boxes.specs.declared.rule.Rule.TheVariants as rules;
 ghost use Rattle.mp4_boxes.specs.declared.refusal.Refusal.TheVariants as refusals;
@@ -27,7 +27,7 @@ use std::collections::BTreeSet;
 fn is_kept(view: BoxView) -> bool
     ensures { result ≡ is_among (kept_kinds rules.Movie) (box_seen view.entry).kind }
 {
-    is(view, FourCc(*b"udta")) || is(view, FourCc(*b"iods")) || is(view, FourCc(*b"meta"))
+    Rule::Movie.keeps(view.kind())
 }
 
 // What is said of a movie, put together.

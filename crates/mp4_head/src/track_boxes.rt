@@ -1,8 +1,7 @@
 //! `trak`: one track (ISO/IEC 14496-12, 8.3.1).
 ghost use Rattle.std.specs.Prelude.{◌≡◌, map, IfOk, OnOk, IfErr};
-ghost use Rattle.mp4_boxes.specs.Children.{is_among};
+ghost use Rattle.mp4_boxes.specs.Children.{is_among, kept_kinds};
 ghost use Rattle.mp4_boxes.specs.Layout.{tkhd, IsSound};
-ghost use Rattle.mp4_boxes.specs.Places.{kept_kinds};
 ghost use Rattle.mp4_boxes.specs.View.{box_seen};
 ghost use Rattle.mp4_boxes.specs.declared.rule.Rule.TheVariants as rules;
 ghost use Rattle.mp4_head.specs.Found.{track_joined, HasTrackHead};
@@ -83,7 +82,7 @@ fn head_of<'a>(
 fn is_kept(view: BoxView) -> bool
     ensures { result ≡ is_among (kept_kinds rules.Track) (box_seen view.entry).kind }
 {
-    is(view, FourCc(*b"tref")) || is(view, FourCc(*b"udta")) || is(view, FourCc(*b"meta"))
+    Rule::Track.keeps(view.kind())
 }
 
 // A track whose ID is none of these; it is then one of them.

@@ -21,10 +21,10 @@ abbrev p_file_tree : FileTree
 p_file_tree = record { top = part p 0 24 (codes "ftyp") ∷ part p 24 517 (codes "moov") ∷ part p 541 20 (codes "mdat") ∷ []; movie = record { moov = part p 24 517 (codes "moov"); movie = part p 32 108 (codes "mvhd") ∷ part p 140 401 (codes "trak") ∷ []; extends = []; tracks = p_track_tree ∷ [] }; fragments = [] }
 
 p-track : IsTrackTree p_track_tree
-p-track = record { track = record { tiles = record { front = (((record { kind = codes "tkhd"; length = 8; size = 92 }, refl, refl), ((record { kind = codes "mdia"; length = 8; size = 301 }, refl, refl), tt)), tt); full = refl }; allowed = (refl, (refl, tt)); quantities = (refl, (refl, (lit≤ tt, (tt, (tt, (tt, tt)))))) }; edits = refl; media = record { tiles = record { front = (((record { kind = codes "mdhd"; length = 8; size = 32 }, refl, refl), ((record { kind = codes "hdlr"; length = 8; size = 33 }, refl, refl), ((record { kind = codes "minf"; length = 8; size = 228 }, refl, refl), tt))), tt); full = refl }; allowed = (refl, (refl, (refl, tt))); quantities = (refl, (refl, (refl, (tt, tt)))) }; information = record { tiles = record { front = (((record { kind = codes "vmhd"; length = 8; size = 20 }, refl, refl), ((record { kind = codes "dinf"; length = 8; size = 36 }, refl, refl), ((record { kind = codes "stbl"; length = 8; size = 164 }, refl, refl), tt))), tt); full = refl }; allowed = (refl, (refl, (refl, tt))); quantities = (refl, (refl, (refl, tt))) }; data_information = record { tiles = record { front = (((record { kind = codes "dref"; length = 8; size = 28 }, refl, refl), tt), tt); full = refl }; allowed = (refl, tt); quantities = (refl, tt) }; data_references = record { front = (((record { kind = codes "url "; length = 8; size = 12 }, refl, refl), tt), lit≤ tt); full = refl }; table = record { tiles = record { front = (((record { kind = codes "stsd"; length = 8; size = 32 }, refl, refl), ((record { kind = codes "stts"; length = 8; size = 24 }, refl, refl), ((record { kind = codes "stss"; length = 8; size = 20 }, refl, refl), ((record { kind = codes "stsc"; length = 8; size = 28 }, refl, refl), ((record { kind = codes "stsz"; length = 8; size = 32 }, refl, refl), ((record { kind = codes "stco"; length = 8; size = 20 }, refl, refl), tt)))))), tt); full = refl }; allowed = (refl, (refl, (refl, (refl, (refl, (refl, tt)))))); quantities = (refl, (refl, (refl, (refl, (refl, (lit≤ tt, (lit≤ tt, (lit≤ tt, (lit≤ tt, (tt, (tt, tt))))))))))) }; descriptions = record { front = (((record { kind = codes "mp4v"; length = 8; size = 16 }, refl, refl), tt), lit≤ tt); full = refl } }
+p-track = record { track = record { tiles = record { front = (((record { kind = codes "tkhd"; length = 8; size = 92 }, refl, refl), ((record { kind = codes "mdia"; length = 8; size = 301 }, refl, refl), tt)), tt); full = refl }; allowed = (refl, (refl, tt)); quantities = (refl, (refl, (lit≤ tt, (tt, tt)))) }; edits = refl; media = record { tiles = record { front = (((record { kind = codes "mdhd"; length = 8; size = 32 }, refl, refl), ((record { kind = codes "hdlr"; length = 8; size = 33 }, refl, refl), ((record { kind = codes "minf"; length = 8; size = 228 }, refl, refl), tt))), tt); full = refl }; allowed = (refl, (refl, (refl, tt))); quantities = (refl, (refl, (refl, (tt, tt)))) }; information = record { tiles = record { front = (((record { kind = codes "vmhd"; length = 8; size = 20 }, refl, refl), ((record { kind = codes "dinf"; length = 8; size = 36 }, refl, refl), ((record { kind = codes "stbl"; length = 8; size = 164 }, refl, refl), tt))), tt); full = refl }; allowed = (refl, (refl, (refl, tt))); quantities = (refl, (refl, (refl, tt))) }; data_information = record { tiles = record { front = (((record { kind = codes "dref"; length = 8; size = 28 }, refl, refl), tt), tt); full = refl }; allowed = (refl, tt); quantities = (refl, tt) }; data_references = record { front = (((record { kind = codes "url "; length = 8; size = 12 }, refl, refl), tt), lit≤ tt); full = refl }; table = record { tiles = record { front = (((record { kind = codes "stsd"; length = 8; size = 32 }, refl, refl), ((record { kind = codes "stts"; length = 8; size = 24 }, refl, refl), ((record { kind = codes "stss"; length = 8; size = 20 }, refl, refl), ((record { kind = codes "stsc"; length = 8; size = 28 }, refl, refl), ((record { kind = codes "stsz"; length = 8; size = 32 }, refl, refl), ((record { kind = codes "stco"; length = 8; size = 20 }, refl, refl), tt)))))), tt); full = refl }; allowed = (refl, (refl, (refl, (refl, (refl, (refl, tt)))))); quantities = (refl, (refl, (refl, (refl, (refl, (lit≤ tt, (lit≤ tt, (lit≤ tt, (lit≤ tt, (tt, (tt, tt))))))))))) }; descriptions = record { front = (((record { kind = codes "mp4v"; length = 8; size = 16 }, refl, refl), tt), lit≤ tt); full = refl } }
 
 p-tree : IsFileTree p p_file_tree
-p-tree = record { top = record { tiles = record { front = (((record { kind = codes "ftyp"; length = 8; size = 24 }, refl, refl), ((record { kind = codes "moov"; length = 8; size = 517 }, refl, refl), ((record { kind = codes "mdat"; length = 8; size = 20 }, refl, refl), tt))), tt); full = refl }; allowed = (refl, (refl, (refl, tt))); quantities = (refl, (tt, (tt, (tt, (tt, (tt, (tt, tt))))))) }; order = refl; moov = refl; movie = record { movie = record { tiles = record { front = (((record { kind = codes "mvhd"; length = 8; size = 108 }, refl, refl), ((record { kind = codes "trak"; length = 8; size = 401 }, refl, refl), tt)), tt); full = refl }; allowed = (refl, (refl, tt)); quantities = (refl, (lit≤ tt, (tt, (tt, (tt, (tt, tt)))))) }; extends = refl; traks = refl; tracks = (p-track, tt) }; moofs = refl; fragments = tt }
+p-tree = record { top = record { tiles = record { front = (((record { kind = codes "ftyp"; length = 8; size = 24 }, refl, refl), ((record { kind = codes "moov"; length = 8; size = 517 }, refl, refl), ((record { kind = codes "mdat"; length = 8; size = 20 }, refl, refl), tt))), tt); full = refl }; allowed = (refl, (refl, (refl, tt))); quantities = (refl, (tt, (tt, (tt, (tt, (tt, (tt, tt))))))) }; order = refl; moov = refl; movie = record { movie = record { tiles = record { front = (((record { kind = codes "mvhd"; length = 8; size = 108 }, refl, refl), ((record { kind = codes "trak"; length = 8; size = 401 }, refl, refl), tt)), tt); full = refl }; allowed = (refl, (refl, tt)); quantities = (refl, (lit≤ tt, (tt, (tt, tt)))) }; extends = refl; traks = refl; tracks = (p-track, tt) }; moofs = refl; fragments = tt }
 
 p-sound : IsSoundFile p_file_tree
 p-sound = record { movie = record { movie = (record { readable = record { version = refl; flags = refl; room = lit≤ tt }; value = refl; inside = refl; offsets = refl }, (tt, tt)); kept = tt; tracks = (record { track = (record { readable = record { version = refl; flags = refl; room = lit≤ tt }; value = refl; inside = refl; offsets = refl }, (tt, tt)); kept = tt; edits = tt; media = (record { readable = record { version = refl; flags = refl; room = lit≤ tt }; value = refl; inside = refl; offsets = refl }, (record { readable = record { version = refl; flags = refl; room = lit≤ tt }; value = refl; inside = refl; offsets = refl }, (tt, tt))); data_information = (record { readable = record { version = refl; flags = refl; room = lit≤ tt }; value = refl; inside = refl; offsets = refl }, tt); data_references = (record { readable = record { version = refl; flags = refl; room = lit≤ tt }; value = refl; inside = refl; offsets = refl }, tt); urls = (refl, tt); stsd = record { readable = record { version = refl; flags = refl; room = lit≤ tt }; value = refl; inside = refl; offsets = refl }; descriptions = (record { readable = record { version = refl; flags = refl; room = lit≤ tt }; value = refl; inside = refl; offsets = refl }, tt) }, tt); track_ids = refl; extends = tt; trex_ids = refl }; tables = ((record { readable = record { version = refl; flags = refl; room = lit≤ tt }; value = refl; inside = refl; offsets = refl }, (record { readable = record { version = refl; flags = refl; room = lit≤ tt }; value = refl; inside = refl; offsets = refl }, (record { readable = record { version = refl; flags = refl; room = lit≤ tt }; value = refl; inside = refl; offsets = refl }, (record { readable = record { version = refl; flags = refl; room = lit≤ tt }; value = refl; inside = refl; offsets = refl }, (record { readable = record { version = refl; flags = refl; room = lit≤ tt }; value = refl; inside = refl; offsets = refl }, (record { readable = record { version = refl; flags = refl; room = lit≤ tt }; value = refl; inside = refl; offsets = refl }, tt)))))), tt); fragments = tt }
@@ -50,10 +50,10 @@ abbrev np_file_tree : FileTree
 np_file_tree = record { top = part np 0 24 (codes "ftyp") ∷ part np 24 557 (codes "moov") ∷ part np 581 140 (codes "moof") ∷ part np 721 20 (codes "mdat") ∷ []; movie = record { moov = part np 24 557 (codes "moov"); movie = part np 32 120 (codes "mvhd") ∷ part np 152 369 (codes "trak") ∷ part np 521 60 (codes "mvex") ∷ []; extends = part np 529 20 (codes "mehd") ∷ part np 549 32 (codes "trex") ∷ []; tracks = np_track_tree ∷ [] }; fragments = record { moof = part np 581 140 (codes "moof"); children = part np 589 16 (codes "mfhd") ∷ part np 605 116 (codes "traf") ∷ []; trafs = (part np 613 20 (codes "tfhd") ∷ part np 633 20 (codes "tfdt") ∷ part np 653 68 (codes "trun") ∷ []) ∷ [] } ∷ [] }
 
 np-track : IsTrackTree np_track_tree
-np-track = record { track = record { tiles = record { front = (((record { kind = codes "tkhd"; length = 8; size = 104 }, refl, refl), ((record { kind = codes "mdia"; length = 8; size = 257 }, refl, refl), tt)), tt); full = refl }; allowed = (refl, (refl, tt)); quantities = (refl, (refl, (lit≤ tt, (tt, (tt, (tt, tt)))))) }; edits = refl; media = record { tiles = record { front = (((record { kind = codes "mdhd"; length = 8; size = 44 }, refl, refl), ((record { kind = codes "hdlr"; length = 8; size = 33 }, refl, refl), ((record { kind = codes "minf"; length = 8; size = 172 }, refl, refl), tt))), tt); full = refl }; allowed = (refl, (refl, (refl, tt))); quantities = (refl, (refl, (refl, (tt, tt)))) }; information = record { tiles = record { front = (((record { kind = codes "vmhd"; length = 8; size = 20 }, refl, refl), ((record { kind = codes "dinf"; length = 8; size = 36 }, refl, refl), ((record { kind = codes "stbl"; length = 8; size = 108 }, refl, refl), tt))), tt); full = refl }; allowed = (refl, (refl, (refl, tt))); quantities = (refl, (refl, (refl, tt))) }; data_information = record { tiles = record { front = (((record { kind = codes "dref"; length = 8; size = 28 }, refl, refl), tt), tt); full = refl }; allowed = (refl, tt); quantities = (refl, tt) }; data_references = record { front = (((record { kind = codes "url "; length = 8; size = 12 }, refl, refl), tt), lit≤ tt); full = refl }; table = record { tiles = record { front = (((record { kind = codes "stsd"; length = 8; size = 32 }, refl, refl), ((record { kind = codes "stts"; length = 8; size = 16 }, refl, refl), ((record { kind = codes "stsc"; length = 8; size = 16 }, refl, refl), ((record { kind = codes "stsz"; length = 8; size = 20 }, refl, refl), ((record { kind = codes "stco"; length = 8; size = 16 }, refl, refl), tt))))), tt); full = refl }; allowed = (refl, (refl, (refl, (refl, (refl, tt))))); quantities = (refl, (refl, (refl, (refl, (refl, (lit≤ tt, (lit≤ tt, (lit≤ tt, (lit≤ tt, (tt, (tt, tt))))))))))) }; descriptions = record { front = (((record { kind = codes "mp4v"; length = 8; size = 16 }, refl, refl), tt), lit≤ tt); full = refl } }
+np-track = record { track = record { tiles = record { front = (((record { kind = codes "tkhd"; length = 8; size = 104 }, refl, refl), ((record { kind = codes "mdia"; length = 8; size = 257 }, refl, refl), tt)), tt); full = refl }; allowed = (refl, (refl, tt)); quantities = (refl, (refl, (lit≤ tt, (tt, tt)))) }; edits = refl; media = record { tiles = record { front = (((record { kind = codes "mdhd"; length = 8; size = 44 }, refl, refl), ((record { kind = codes "hdlr"; length = 8; size = 33 }, refl, refl), ((record { kind = codes "minf"; length = 8; size = 172 }, refl, refl), tt))), tt); full = refl }; allowed = (refl, (refl, (refl, tt))); quantities = (refl, (refl, (refl, (tt, tt)))) }; information = record { tiles = record { front = (((record { kind = codes "vmhd"; length = 8; size = 20 }, refl, refl), ((record { kind = codes "dinf"; length = 8; size = 36 }, refl, refl), ((record { kind = codes "stbl"; length = 8; size = 108 }, refl, refl), tt))), tt); full = refl }; allowed = (refl, (refl, (refl, tt))); quantities = (refl, (refl, (refl, tt))) }; data_information = record { tiles = record { front = (((record { kind = codes "dref"; length = 8; size = 28 }, refl, refl), tt), tt); full = refl }; allowed = (refl, tt); quantities = (refl, tt) }; data_references = record { front = (((record { kind = codes "url "; length = 8; size = 12 }, refl, refl), tt), lit≤ tt); full = refl }; table = record { tiles = record { front = (((record { kind = codes "stsd"; length = 8; size = 32 }, refl, refl), ((record { kind = codes "stts"; length = 8; size = 16 }, refl, refl), ((record { kind = codes "stsc"; length = 8; size = 16 }, refl, refl), ((record { kind = codes "stsz"; length = 8; size = 20 }, refl, refl), ((record { kind = codes "stco"; length = 8; size = 16 }, refl, refl), tt))))), tt); full = refl }; allowed = (refl, (refl, (refl, (refl, (refl, tt))))); quantities = (refl, (refl, (refl, (refl, (refl, (lit≤ tt, (lit≤ tt, (lit≤ tt, (lit≤ tt, (tt, (tt, tt))))))))))) }; descriptions = record { front = (((record { kind = codes "mp4v"; length = 8; size = 16 }, refl, refl), tt), lit≤ tt); full = refl } }
 
 np-tree : IsFileTree np np_file_tree
-np-tree = record { top = record { tiles = record { front = (((record { kind = codes "ftyp"; length = 8; size = 24 }, refl, refl), ((record { kind = codes "moov"; length = 8; size = 557 }, refl, refl), ((record { kind = codes "moof"; length = 8; size = 140 }, refl, refl), ((record { kind = codes "mdat"; length = 8; size = 20 }, refl, refl), tt)))), tt); full = refl }; allowed = (refl, (refl, (refl, (refl, tt)))); quantities = (refl, (tt, (tt, (tt, (tt, (tt, (tt, tt))))))) }; order = refl; moov = refl; movie = record { movie = record { tiles = record { front = (((record { kind = codes "mvhd"; length = 8; size = 120 }, refl, refl), ((record { kind = codes "trak"; length = 8; size = 369 }, refl, refl), ((record { kind = codes "mvex"; length = 8; size = 60 }, refl, refl), tt))), tt); full = refl }; allowed = (refl, (refl, (refl, tt))); quantities = (refl, (lit≤ tt, (tt, (tt, (tt, (tt, tt)))))) }; extends = record { tiles = record { front = (((record { kind = codes "mehd"; length = 8; size = 20 }, refl, refl), ((record { kind = codes "trex"; length = 8; size = 32 }, refl, refl), tt)), tt); full = refl }; allowed = (refl, (refl, tt)); quantities = (lit≤ tt, (tt, tt)) }; traks = refl; tracks = (np-track, tt) }; moofs = refl; fragments = (record { children = record { tiles = record { front = (((record { kind = codes "mfhd"; length = 8; size = 16 }, refl, refl), ((record { kind = codes "traf"; length = 8; size = 116 }, refl, refl), tt)), tt); full = refl }; allowed = (refl, (refl, tt)); quantities = (refl, (tt, tt)) }; trafs = (record { tiles = record { front = (((record { kind = codes "tfhd"; length = 8; size = 20 }, refl, refl), ((record { kind = codes "tfdt"; length = 8; size = 20 }, refl, refl), ((record { kind = codes "trun"; length = 8; size = 68 }, refl, refl), tt))), tt); full = refl }; allowed = (refl, (refl, (refl, tt))); quantities = (refl, (lit≤ tt, (tt, (tt, tt)))) }, tt) }, tt) }
+np-tree = record { top = record { tiles = record { front = (((record { kind = codes "ftyp"; length = 8; size = 24 }, refl, refl), ((record { kind = codes "moov"; length = 8; size = 557 }, refl, refl), ((record { kind = codes "moof"; length = 8; size = 140 }, refl, refl), ((record { kind = codes "mdat"; length = 8; size = 20 }, refl, refl), tt)))), tt); full = refl }; allowed = (refl, (refl, (refl, (refl, tt)))); quantities = (refl, (tt, (tt, (tt, (tt, (tt, (tt, tt))))))) }; order = refl; moov = refl; movie = record { movie = record { tiles = record { front = (((record { kind = codes "mvhd"; length = 8; size = 120 }, refl, refl), ((record { kind = codes "trak"; length = 8; size = 369 }, refl, refl), ((record { kind = codes "mvex"; length = 8; size = 60 }, refl, refl), tt))), tt); full = refl }; allowed = (refl, (refl, (refl, tt))); quantities = (refl, (lit≤ tt, (tt, (tt, tt)))) }; extends = record { tiles = record { front = (((record { kind = codes "mehd"; length = 8; size = 20 }, refl, refl), ((record { kind = codes "trex"; length = 8; size = 32 }, refl, refl), tt)), tt); full = refl }; allowed = (refl, (refl, tt)); quantities = (lit≤ tt, (tt, tt)) }; traks = refl; tracks = (np-track, tt) }; moofs = refl; fragments = (record { children = record { tiles = record { front = (((record { kind = codes "mfhd"; length = 8; size = 16 }, refl, refl), ((record { kind = codes "traf"; length = 8; size = 116 }, refl, refl), tt)), tt); full = refl }; allowed = (refl, (refl, tt)); quantities = (refl, (tt, tt)) }; trafs = (record { tiles = record { front = (((record { kind = codes "tfhd"; length = 8; size = 20 }, refl, refl), ((record { kind = codes "tfdt"; length = 8; size = 20 }, refl, refl), ((record { kind = codes "trun"; length = 8; size = 68 }, refl, refl), tt))), tt); full = refl }; allowed = (refl, (refl, (refl, tt))); quantities = (refl, (lit≤ tt, (tt, (tt, tt)))) }, tt) }, tt) }
 
 np-sound : IsSoundFile np_file_tree
 np-sound = record { movie = record { movie = (record { readable = record { version = refl; flags = refl; room = lit≤ tt }; value = refl; inside = refl; offsets = refl }, (tt, (tt, tt))); kept = tt; tracks = (record { track = (record { readable = record { version = refl; flags = refl; room = lit≤ tt }; value = refl; inside = refl; offsets = refl }, (tt, tt)); kept = tt; edits = tt; media = (record { readable = record { version = refl; flags = refl; room = lit≤ tt }; value = refl; inside = refl; offsets = refl }, (record { readable = record { version = refl; flags = refl; room = lit≤ tt }; value = refl; inside = refl; offsets = refl }, (tt, tt))); data_information = (record { readable = record { version = refl; flags = refl; room = lit≤ tt }; value = refl; inside = refl; offsets = refl }, tt); data_references = (record { readable = record { version = refl; flags = refl; room = lit≤ tt }; value = refl; inside = refl; offsets = refl }, tt); urls = (refl, tt); stsd = record { readable = record { version = refl; flags = refl; room = lit≤ tt }; value = refl; inside = refl; offsets = refl }; descriptions = (record { readable = record { version = refl; flags = refl; room = lit≤ tt }; value = refl; inside = refl; offsets = refl }, tt) }, tt); track_ids = refl; extends = (tt, (record { readable = record { version = refl; flags = refl; room = lit≤ tt }; value = refl; inside = refl; offsets = refl }, tt)); trex_ids = refl }; tables = ((record { readable = record { version = refl; flags = refl; room = lit≤ tt }; value = refl; inside = refl; offsets = refl }, (record { readable = record { version = refl; flags = refl; room = lit≤ tt }; value = refl; inside = refl; offsets = refl }, (record { readable = record { version = refl; flags = refl; room = lit≤ tt }; value = refl; inside = refl; offsets = refl }, (record { readable = record { version = refl; flags = refl; room = lit≤ tt }; value = refl; inside = refl; offsets = refl }, (record { readable = record { version = refl; flags = refl; room = lit≤ tt }; value = refl; inside = refl; offsets = refl }, tt))))), tt); fragments = (((record { readable = record { version = refl; flags = refl; room = lit≤ tt }; value = refl; inside = refl; offsets = refl }, (record { readable = record { version = refl; flags = refl; room = lit≤ tt }; value = refl; inside = refl; offsets = refl }, (record { readable = record { version = refl; flags = refl; room = lit≤ tt }; value = refl; inside = refl; offsets = refl }, tt))), tt), tt) }
@@ -79,10 +79,10 @@ abbrev f1_file_tree : FileTree
 f1_file_tree = record { top = part f1 0 24 (codes "ftyp") ∷ part f1 24 557 (codes "moov") ∷ part f1 581 104 (codes "moof") ∷ part f1 685 20 (codes "mdat") ∷ []; movie = record { moov = part f1 24 557 (codes "moov"); movie = part f1 32 120 (codes "mvhd") ∷ part f1 152 369 (codes "trak") ∷ part f1 521 60 (codes "mvex") ∷ []; extends = part f1 529 20 (codes "mehd") ∷ part f1 549 32 (codes "trex") ∷ []; tracks = f1_track_tree ∷ [] }; fragments = record { moof = part f1 581 104 (codes "moof"); children = part f1 589 16 (codes "mfhd") ∷ part f1 605 80 (codes "traf") ∷ []; trafs = (part f1 613 36 (codes "tfhd") ∷ part f1 649 36 (codes "trun") ∷ []) ∷ [] } ∷ [] }
 
 f1-track : IsTrackTree f1_track_tree
-f1-track = record { track = record { tiles = record { front = (((record { kind = codes "tkhd"; length = 8; size = 104 }, refl, refl), ((record { kind = codes "mdia"; length = 8; size = 257 }, refl, refl), tt)), tt); full = refl }; allowed = (refl, (refl, tt)); quantities = (refl, (refl, (lit≤ tt, (tt, (tt, (tt, tt)))))) }; edits = refl; media = record { tiles = record { front = (((record { kind = codes "mdhd"; length = 8; size = 44 }, refl, refl), ((record { kind = codes "hdlr"; length = 8; size = 33 }, refl, refl), ((record { kind = codes "minf"; length = 8; size = 172 }, refl, refl), tt))), tt); full = refl }; allowed = (refl, (refl, (refl, tt))); quantities = (refl, (refl, (refl, (tt, tt)))) }; information = record { tiles = record { front = (((record { kind = codes "vmhd"; length = 8; size = 20 }, refl, refl), ((record { kind = codes "dinf"; length = 8; size = 36 }, refl, refl), ((record { kind = codes "stbl"; length = 8; size = 108 }, refl, refl), tt))), tt); full = refl }; allowed = (refl, (refl, (refl, tt))); quantities = (refl, (refl, (refl, tt))) }; data_information = record { tiles = record { front = (((record { kind = codes "dref"; length = 8; size = 28 }, refl, refl), tt), tt); full = refl }; allowed = (refl, tt); quantities = (refl, tt) }; data_references = record { front = (((record { kind = codes "url "; length = 8; size = 12 }, refl, refl), tt), lit≤ tt); full = refl }; table = record { tiles = record { front = (((record { kind = codes "stsd"; length = 8; size = 32 }, refl, refl), ((record { kind = codes "stts"; length = 8; size = 16 }, refl, refl), ((record { kind = codes "stsc"; length = 8; size = 16 }, refl, refl), ((record { kind = codes "stsz"; length = 8; size = 20 }, refl, refl), ((record { kind = codes "stco"; length = 8; size = 16 }, refl, refl), tt))))), tt); full = refl }; allowed = (refl, (refl, (refl, (refl, (refl, tt))))); quantities = (refl, (refl, (refl, (refl, (refl, (lit≤ tt, (lit≤ tt, (lit≤ tt, (lit≤ tt, (tt, (tt, tt))))))))))) }; descriptions = record { front = (((record { kind = codes "mp4v"; length = 8; size = 16 }, refl, refl), tt), lit≤ tt); full = refl } }
+f1-track = record { track = record { tiles = record { front = (((record { kind = codes "tkhd"; length = 8; size = 104 }, refl, refl), ((record { kind = codes "mdia"; length = 8; size = 257 }, refl, refl), tt)), tt); full = refl }; allowed = (refl, (refl, tt)); quantities = (refl, (refl, (lit≤ tt, (tt, tt)))) }; edits = refl; media = record { tiles = record { front = (((record { kind = codes "mdhd"; length = 8; size = 44 }, refl, refl), ((record { kind = codes "hdlr"; length = 8; size = 33 }, refl, refl), ((record { kind = codes "minf"; length = 8; size = 172 }, refl, refl), tt))), tt); full = refl }; allowed = (refl, (refl, (refl, tt))); quantities = (refl, (refl, (refl, (tt, tt)))) }; information = record { tiles = record { front = (((record { kind = codes "vmhd"; length = 8; size = 20 }, refl, refl), ((record { kind = codes "dinf"; length = 8; size = 36 }, refl, refl), ((record { kind = codes "stbl"; length = 8; size = 108 }, refl, refl), tt))), tt); full = refl }; allowed = (refl, (refl, (refl, tt))); quantities = (refl, (refl, (refl, tt))) }; data_information = record { tiles = record { front = (((record { kind = codes "dref"; length = 8; size = 28 }, refl, refl), tt), tt); full = refl }; allowed = (refl, tt); quantities = (refl, tt) }; data_references = record { front = (((record { kind = codes "url "; length = 8; size = 12 }, refl, refl), tt), lit≤ tt); full = refl }; table = record { tiles = record { front = (((record { kind = codes "stsd"; length = 8; size = 32 }, refl, refl), ((record { kind = codes "stts"; length = 8; size = 16 }, refl, refl), ((record { kind = codes "stsc"; length = 8; size = 16 }, refl, refl), ((record { kind = codes "stsz"; length = 8; size = 20 }, refl, refl), ((record { kind = codes "stco"; length = 8; size = 16 }, refl, refl), tt))))), tt); full = refl }; allowed = (refl, (refl, (refl, (refl, (refl, tt))))); quantities = (refl, (refl, (refl, (refl, (refl, (lit≤ tt, (lit≤ tt, (lit≤ tt, (lit≤ tt, (tt, (tt, tt))))))))))) }; descriptions = record { front = (((record { kind = codes "mp4v"; length = 8; size = 16 }, refl, refl), tt), lit≤ tt); full = refl } }
 
 f1-tree : IsFileTree f1 f1_file_tree
-f1-tree = record { top = record { tiles = record { front = (((record { kind = codes "ftyp"; length = 8; size = 24 }, refl, refl), ((record { kind = codes "moov"; length = 8; size = 557 }, refl, refl), ((record { kind = codes "moof"; length = 8; size = 104 }, refl, refl), ((record { kind = codes "mdat"; length = 8; size = 20 }, refl, refl), tt)))), tt); full = refl }; allowed = (refl, (refl, (refl, (refl, tt)))); quantities = (refl, (tt, (tt, (tt, (tt, (tt, (tt, tt))))))) }; order = refl; moov = refl; movie = record { movie = record { tiles = record { front = (((record { kind = codes "mvhd"; length = 8; size = 120 }, refl, refl), ((record { kind = codes "trak"; length = 8; size = 369 }, refl, refl), ((record { kind = codes "mvex"; length = 8; size = 60 }, refl, refl), tt))), tt); full = refl }; allowed = (refl, (refl, (refl, tt))); quantities = (refl, (lit≤ tt, (tt, (tt, (tt, (tt, tt)))))) }; extends = record { tiles = record { front = (((record { kind = codes "mehd"; length = 8; size = 20 }, refl, refl), ((record { kind = codes "trex"; length = 8; size = 32 }, refl, refl), tt)), tt); full = refl }; allowed = (refl, (refl, tt)); quantities = (lit≤ tt, (tt, tt)) }; traks = refl; tracks = (f1-track, tt) }; moofs = refl; fragments = (record { children = record { tiles = record { front = (((record { kind = codes "mfhd"; length = 8; size = 16 }, refl, refl), ((record { kind = codes "traf"; length = 8; size = 80 }, refl, refl), tt)), tt); full = refl }; allowed = (refl, (refl, tt)); quantities = (refl, (tt, tt)) }; trafs = (record { tiles = record { front = (((record { kind = codes "tfhd"; length = 8; size = 36 }, refl, refl), ((record { kind = codes "trun"; length = 8; size = 36 }, refl, refl), tt)), tt); full = refl }; allowed = (refl, (refl, tt)); quantities = (refl, (lit≤ tt, (tt, (tt, tt)))) }, tt) }, tt) }
+f1-tree = record { top = record { tiles = record { front = (((record { kind = codes "ftyp"; length = 8; size = 24 }, refl, refl), ((record { kind = codes "moov"; length = 8; size = 557 }, refl, refl), ((record { kind = codes "moof"; length = 8; size = 104 }, refl, refl), ((record { kind = codes "mdat"; length = 8; size = 20 }, refl, refl), tt)))), tt); full = refl }; allowed = (refl, (refl, (refl, (refl, tt)))); quantities = (refl, (tt, (tt, (tt, (tt, (tt, (tt, tt))))))) }; order = refl; moov = refl; movie = record { movie = record { tiles = record { front = (((record { kind = codes "mvhd"; length = 8; size = 120 }, refl, refl), ((record { kind = codes "trak"; length = 8; size = 369 }, refl, refl), ((record { kind = codes "mvex"; length = 8; size = 60 }, refl, refl), tt))), tt); full = refl }; allowed = (refl, (refl, (refl, tt))); quantities = (refl, (lit≤ tt, (tt, (tt, tt)))) }; extends = record { tiles = record { front = (((record { kind = codes "mehd"; length = 8; size = 20 }, refl, refl), ((record { kind = codes "trex"; length = 8; size = 32 }, refl, refl), tt)), tt); full = refl }; allowed = (refl, (refl, tt)); quantities = (lit≤ tt, (tt, tt)) }; traks = refl; tracks = (f1-track, tt) }; moofs = refl; fragments = (record { children = record { tiles = record { front = (((record { kind = codes "mfhd"; length = 8; size = 16 }, refl, refl), ((record { kind = codes "traf"; length = 8; size = 80 }, refl, refl), tt)), tt); full = refl }; allowed = (refl, (refl, tt)); quantities = (refl, (tt, tt)) }; trafs = (record { tiles = record { front = (((record { kind = codes "tfhd"; length = 8; size = 36 }, refl, refl), ((record { kind = codes "trun"; length = 8; size = 36 }, refl, refl), tt)), tt); full = refl }; allowed = (refl, (refl, tt)); quantities = (refl, (lit≤ tt, (tt, (tt, tt)))) }, tt) }, tt) }
 
 f1-sound : IsSoundFile f1_file_tree
 f1-sound = record { movie = record { movie = (record { readable = record { version = refl; flags = refl; room = lit≤ tt }; value = refl; inside = refl; offsets = refl }, (tt, (tt, tt))); kept = tt; tracks = (record { track = (record { readable = record { version = refl; flags = refl; room = lit≤ tt }; value = refl; inside = refl; offsets = refl }, (tt, tt)); kept = tt; edits = tt; media = (record { readable = record { version = refl; flags = refl; room = lit≤ tt }; value = refl; inside = refl; offsets = refl }, (record { readable = record { version = refl; flags = refl; room = lit≤ tt }; value = refl; inside = refl; offsets = refl }, (tt, tt))); data_information = (record { readable = record { version = refl; flags = refl; room = lit≤ tt }; value = refl; inside = refl; offsets = refl }, tt); data_references = (record { readable = record { version = refl; flags = refl; room = lit≤ tt }; value = refl; inside = refl; offsets = refl }, tt); urls = (refl, tt); stsd = record { readable = record { version = refl; flags = refl; room = lit≤ tt }; value = refl; inside = refl; offsets = refl }; descriptions = (record { readable = record { version = refl; flags = refl; room = lit≤ tt }; value = refl; inside = refl; offsets = refl }, tt) }, tt); track_ids = refl; extends = (tt, (record { readable = record { version = refl; flags = refl; room = lit≤ tt }; value = refl; inside = refl; offsets = refl }, tt)); trex_ids = refl }; tables = ((record { readable = record { version = refl; flags = refl; room = lit≤ tt }; value = refl; inside = refl; offsets = refl }, (record { readable = record { version = refl; flags = refl; room = lit≤ tt }; value = refl; inside = refl; offsets = refl }, (record { readable = record { version = refl; flags = refl; room = lit≤ tt }; value = refl; inside = refl; offsets = refl }, (record { readable = record { version = refl; flags = refl; room = lit≤ tt }; value = refl; inside = refl; offsets = refl }, (record { readable = record { version = refl; flags = refl; room = lit≤ tt }; value = refl; inside = refl; offsets = refl }, tt))))), tt); fragments = (((record { readable = record { version = refl; flags = refl; room = lit≤ tt }; value = refl; inside = refl; offsets = refl }, (record { readable = record { version = refl; flags = refl; room = lit≤ tt }; value = refl; inside = refl; offsets = refl }, tt)), tt), tt) }
@@ -108,10 +108,10 @@ abbrev f2_file_tree : FileTree
 f2_file_tree = record { top = part f2 0 24 (codes "ftyp") ∷ part f2 24 557 (codes "moov") ∷ part f2 581 96 (codes "moof") ∷ part f2 677 20 (codes "mdat") ∷ []; movie = record { moov = part f2 24 557 (codes "moov"); movie = part f2 32 120 (codes "mvhd") ∷ part f2 152 369 (codes "trak") ∷ part f2 521 60 (codes "mvex") ∷ []; extends = part f2 529 20 (codes "mehd") ∷ part f2 549 32 (codes "trex") ∷ []; tracks = f2_track_tree ∷ [] }; fragments = record { moof = part f2 581 96 (codes "moof"); children = part f2 589 16 (codes "mfhd") ∷ part f2 605 72 (codes "traf") ∷ []; trafs = (part f2 613 28 (codes "tfhd") ∷ part f2 641 36 (codes "trun") ∷ []) ∷ [] } ∷ [] }
 
 f2-track : IsTrackTree f2_track_tree
-f2-track = record { track = record { tiles = record { front = (((record { kind = codes "tkhd"; length = 8; size = 104 }, refl, refl), ((record { kind = codes "mdia"; length = 8; size = 257 }, refl, refl), tt)), tt); full = refl }; allowed = (refl, (refl, tt)); quantities = (refl, (refl, (lit≤ tt, (tt, (tt, (tt, tt)))))) }; edits = refl; media = record { tiles = record { front = (((record { kind = codes "mdhd"; length = 8; size = 44 }, refl, refl), ((record { kind = codes "hdlr"; length = 8; size = 33 }, refl, refl), ((record { kind = codes "minf"; length = 8; size = 172 }, refl, refl), tt))), tt); full = refl }; allowed = (refl, (refl, (refl, tt))); quantities = (refl, (refl, (refl, (tt, tt)))) }; information = record { tiles = record { front = (((record { kind = codes "vmhd"; length = 8; size = 20 }, refl, refl), ((record { kind = codes "dinf"; length = 8; size = 36 }, refl, refl), ((record { kind = codes "stbl"; length = 8; size = 108 }, refl, refl), tt))), tt); full = refl }; allowed = (refl, (refl, (refl, tt))); quantities = (refl, (refl, (refl, tt))) }; data_information = record { tiles = record { front = (((record { kind = codes "dref"; length = 8; size = 28 }, refl, refl), tt), tt); full = refl }; allowed = (refl, tt); quantities = (refl, tt) }; data_references = record { front = (((record { kind = codes "url "; length = 8; size = 12 }, refl, refl), tt), lit≤ tt); full = refl }; table = record { tiles = record { front = (((record { kind = codes "stsd"; length = 8; size = 32 }, refl, refl), ((record { kind = codes "stts"; length = 8; size = 16 }, refl, refl), ((record { kind = codes "stsc"; length = 8; size = 16 }, refl, refl), ((record { kind = codes "stsz"; length = 8; size = 20 }, refl, refl), ((record { kind = codes "stco"; length = 8; size = 16 }, refl, refl), tt))))), tt); full = refl }; allowed = (refl, (refl, (refl, (refl, (refl, tt))))); quantities = (refl, (refl, (refl, (refl, (refl, (lit≤ tt, (lit≤ tt, (lit≤ tt, (lit≤ tt, (tt, (tt, tt))))))))))) }; descriptions = record { front = (((record { kind = codes "mp4v"; length = 8; size = 16 }, refl, refl), tt), lit≤ tt); full = refl } }
+f2-track = record { track = record { tiles = record { front = (((record { kind = codes "tkhd"; length = 8; size = 104 }, refl, refl), ((record { kind = codes "mdia"; length = 8; size = 257 }, refl, refl), tt)), tt); full = refl }; allowed = (refl, (refl, tt)); quantities = (refl, (refl, (lit≤ tt, (tt, tt)))) }; edits = refl; media = record { tiles = record { front = (((record { kind = codes "mdhd"; length = 8; size = 44 }, refl, refl), ((record { kind = codes "hdlr"; length = 8; size = 33 }, refl, refl), ((record { kind = codes "minf"; length = 8; size = 172 }, refl, refl), tt))), tt); full = refl }; allowed = (refl, (refl, (refl, tt))); quantities = (refl, (refl, (refl, (tt, tt)))) }; information = record { tiles = record { front = (((record { kind = codes "vmhd"; length = 8; size = 20 }, refl, refl), ((record { kind = codes "dinf"; length = 8; size = 36 }, refl, refl), ((record { kind = codes "stbl"; length = 8; size = 108 }, refl, refl), tt))), tt); full = refl }; allowed = (refl, (refl, (refl, tt))); quantities = (refl, (refl, (refl, tt))) }; data_information = record { tiles = record { front = (((record { kind = codes "dref"; length = 8; size = 28 }, refl, refl), tt), tt); full = refl }; allowed = (refl, tt); quantities = (refl, tt) }; data_references = record { front = (((record { kind = codes "url "; length = 8; size = 12 }, refl, refl), tt), lit≤ tt); full = refl }; table = record { tiles = record { front = (((record { kind = codes "stsd"; length = 8; size = 32 }, refl, refl), ((record { kind = codes "stts"; length = 8; size = 16 }, refl, refl), ((record { kind = codes "stsc"; length = 8; size = 16 }, refl, refl), ((record { kind = codes "stsz"; length = 8; size = 20 }, refl, refl), ((record { kind = codes "stco"; length = 8; size = 16 }, refl, refl), tt))))), tt); full = refl }; allowed = (refl, (refl, (refl, (refl, (refl, tt))))); quantities = (refl, (refl, (refl, (refl, (refl, (lit≤ tt, (lit≤ tt, (lit≤ tt, (lit≤ tt, (tt, (tt, tt))))))))))) }; descriptions = record { front = (((record { kind = codes "mp4v"; length = 8; size = 16 }, refl, refl), tt), lit≤ tt); full = refl } }
 
 f2-tree : IsFileTree f2 f2_file_tree
-f2-tree = record { top = record { tiles = record { front = (((record { kind = codes "ftyp"; length = 8; size = 24 }, refl, refl), ((record { kind = codes "moov"; length = 8; size = 557 }, refl, refl), ((record { kind = codes "moof"; length = 8; size = 96 }, refl, refl), ((record { kind = codes "mdat"; length = 8; size = 20 }, refl, refl), tt)))), tt); full = refl }; allowed = (refl, (refl, (refl, (refl, tt)))); quantities = (refl, (tt, (tt, (tt, (tt, (tt, (tt, tt))))))) }; order = refl; moov = refl; movie = record { movie = record { tiles = record { front = (((record { kind = codes "mvhd"; length = 8; size = 120 }, refl, refl), ((record { kind = codes "trak"; length = 8; size = 369 }, refl, refl), ((record { kind = codes "mvex"; length = 8; size = 60 }, refl, refl), tt))), tt); full = refl }; allowed = (refl, (refl, (refl, tt))); quantities = (refl, (lit≤ tt, (tt, (tt, (tt, (tt, tt)))))) }; extends = record { tiles = record { front = (((record { kind = codes "mehd"; length = 8; size = 20 }, refl, refl), ((record { kind = codes "trex"; length = 8; size = 32 }, refl, refl), tt)), tt); full = refl }; allowed = (refl, (refl, tt)); quantities = (lit≤ tt, (tt, tt)) }; traks = refl; tracks = (f2-track, tt) }; moofs = refl; fragments = (record { children = record { tiles = record { front = (((record { kind = codes "mfhd"; length = 8; size = 16 }, refl, refl), ((record { kind = codes "traf"; length = 8; size = 72 }, refl, refl), tt)), tt); full = refl }; allowed = (refl, (refl, tt)); quantities = (refl, (tt, tt)) }; trafs = (record { tiles = record { front = (((record { kind = codes "tfhd"; length = 8; size = 28 }, refl, refl), ((record { kind = codes "trun"; length = 8; size = 36 }, refl, refl), tt)), tt); full = refl }; allowed = (refl, (refl, tt)); quantities = (refl, (lit≤ tt, (tt, (tt, tt)))) }, tt) }, tt) }
+f2-tree = record { top = record { tiles = record { front = (((record { kind = codes "ftyp"; length = 8; size = 24 }, refl, refl), ((record { kind = codes "moov"; length = 8; size = 557 }, refl, refl), ((record { kind = codes "moof"; length = 8; size = 96 }, refl, refl), ((record { kind = codes "mdat"; length = 8; size = 20 }, refl, refl), tt)))), tt); full = refl }; allowed = (refl, (refl, (refl, (refl, tt)))); quantities = (refl, (tt, (tt, (tt, (tt, (tt, (tt, tt))))))) }; order = refl; moov = refl; movie = record { movie = record { tiles = record { front = (((record { kind = codes "mvhd"; length = 8; size = 120 }, refl, refl), ((record { kind = codes "trak"; length = 8; size = 369 }, refl, refl), ((record { kind = codes "mvex"; length = 8; size = 60 }, refl, refl), tt))), tt); full = refl }; allowed = (refl, (refl, (refl, tt))); quantities = (refl, (lit≤ tt, (tt, (tt, tt)))) }; extends = record { tiles = record { front = (((record { kind = codes "mehd"; length = 8; size = 20 }, refl, refl), ((record { kind = codes "trex"; length = 8; size = 32 }, refl, refl), tt)), tt); full = refl }; allowed = (refl, (refl, tt)); quantities = (lit≤ tt, (tt, tt)) }; traks = refl; tracks = (f2-track, tt) }; moofs = refl; fragments = (record { children = record { tiles = record { front = (((record { kind = codes "mfhd"; length = 8; size = 16 }, refl, refl), ((record { kind = codes "traf"; length = 8; size = 72 }, refl, refl), tt)), tt); full = refl }; allowed = (refl, (refl, tt)); quantities = (refl, (tt, tt)) }; trafs = (record { tiles = record { front = (((record { kind = codes "tfhd"; length = 8; size = 28 }, refl, refl), ((record { kind = codes "trun"; length = 8; size = 36 }, refl, refl), tt)), tt); full = refl }; allowed = (refl, (refl, tt)); quantities = (refl, (lit≤ tt, (tt, (tt, tt)))) }, tt) }, tt) }
 
 f2-sound : IsSoundFile f2_file_tree
 f2-sound = record { movie = record { movie = (record { readable = record { version = refl; flags = refl; room = lit≤ tt }; value = refl; inside = refl; offsets = refl }, (tt, (tt, tt))); kept = tt; tracks = (record { track = (record { readable = record { version = refl; flags = refl; room = lit≤ tt }; value = refl; inside = refl; offsets = refl }, (tt, tt)); kept = tt; edits = tt; media = (record { readable = record { version = refl; flags = refl; room = lit≤ tt }; value = refl; inside = refl; offsets = refl }, (record { readable = record { version = refl; flags = refl; room = lit≤ tt }; value = refl; inside = refl; offsets = refl }, (tt, tt))); data_information = (record { readable = record { version = refl; flags = refl; room = lit≤ tt }; value = refl; inside = refl; offsets = refl }, tt); data_references = (record { readable = record { version = refl; flags = refl; room = lit≤ tt }; value = refl; inside = refl; offsets = refl }, tt); urls = (refl, tt); stsd = record { readable = record { version = refl; flags = refl; room = lit≤ tt }; value = refl; inside = refl; offsets = refl }; descriptions = (record { readable = record { version = refl; flags = refl; room = lit≤ tt }; value = refl; inside = refl; offsets = refl }, tt) }, tt); track_ids = refl; extends = (tt, (record { readable = record { version = refl; flags = refl; room = lit≤ tt }; value = refl; inside = refl; offsets = refl }, tt)); trex_ids = refl }; tables = ((record { readable = record { version = refl; flags = refl; room = lit≤ tt }; value = refl; inside = refl; offsets = refl }, (record { readable = record { version = refl; flags = refl; room = lit≤ tt }; value = refl; inside = refl; offsets = refl }, (record { readable = record { version = refl; flags = refl; room = lit≤ tt }; value = refl; inside = refl; offsets = refl }, (record { readable = record { version = refl; flags = refl; room = lit≤ tt }; value = refl; inside = refl; offsets = refl }, (record { readable = record { version = refl; flags = refl; room = lit≤ tt }; value = refl; inside = refl; offsets = refl }, tt))))), tt); fragments = (((record { readable = record { version = refl; flags = refl; room = lit≤ tt }; value = refl; inside = refl; offsets = refl }, (record { readable = record { version = refl; flags = refl; room = lit≤ tt }; value = refl; inside = refl; offsets = refl }, tt)), tt), tt) }
@@ -137,10 +137,10 @@ abbrev f3_file_tree : FileTree
 f3_file_tree = record { top = part f3 0 24 (codes "ftyp") ∷ part f3 24 557 (codes "moov") ∷ part f3 581 144 (codes "moof") ∷ part f3 725 20 (codes "mdat") ∷ []; movie = record { moov = part f3 24 557 (codes "moov"); movie = part f3 32 120 (codes "mvhd") ∷ part f3 152 369 (codes "trak") ∷ part f3 521 60 (codes "mvex") ∷ []; extends = part f3 529 20 (codes "mehd") ∷ part f3 549 32 (codes "trex") ∷ []; tracks = f3_track_tree ∷ [] }; fragments = record { moof = part f3 581 144 (codes "moof"); children = part f3 589 16 (codes "mfhd") ∷ part f3 605 60 (codes "traf") ∷ part f3 665 60 (codes "traf") ∷ []; trafs = (part f3 613 28 (codes "tfhd") ∷ part f3 641 24 (codes "trun") ∷ []) ∷ (part f3 673 28 (codes "tfhd") ∷ part f3 701 24 (codes "trun") ∷ []) ∷ [] } ∷ [] }
 
 f3-track : IsTrackTree f3_track_tree
-f3-track = record { track = record { tiles = record { front = (((record { kind = codes "tkhd"; length = 8; size = 104 }, refl, refl), ((record { kind = codes "mdia"; length = 8; size = 257 }, refl, refl), tt)), tt); full = refl }; allowed = (refl, (refl, tt)); quantities = (refl, (refl, (lit≤ tt, (tt, (tt, (tt, tt)))))) }; edits = refl; media = record { tiles = record { front = (((record { kind = codes "mdhd"; length = 8; size = 44 }, refl, refl), ((record { kind = codes "hdlr"; length = 8; size = 33 }, refl, refl), ((record { kind = codes "minf"; length = 8; size = 172 }, refl, refl), tt))), tt); full = refl }; allowed = (refl, (refl, (refl, tt))); quantities = (refl, (refl, (refl, (tt, tt)))) }; information = record { tiles = record { front = (((record { kind = codes "vmhd"; length = 8; size = 20 }, refl, refl), ((record { kind = codes "dinf"; length = 8; size = 36 }, refl, refl), ((record { kind = codes "stbl"; length = 8; size = 108 }, refl, refl), tt))), tt); full = refl }; allowed = (refl, (refl, (refl, tt))); quantities = (refl, (refl, (refl, tt))) }; data_information = record { tiles = record { front = (((record { kind = codes "dref"; length = 8; size = 28 }, refl, refl), tt), tt); full = refl }; allowed = (refl, tt); quantities = (refl, tt) }; data_references = record { front = (((record { kind = codes "url "; length = 8; size = 12 }, refl, refl), tt), lit≤ tt); full = refl }; table = record { tiles = record { front = (((record { kind = codes "stsd"; length = 8; size = 32 }, refl, refl), ((record { kind = codes "stts"; length = 8; size = 16 }, refl, refl), ((record { kind = codes "stsc"; length = 8; size = 16 }, refl, refl), ((record { kind = codes "stsz"; length = 8; size = 20 }, refl, refl), ((record { kind = codes "stco"; length = 8; size = 16 }, refl, refl), tt))))), tt); full = refl }; allowed = (refl, (refl, (refl, (refl, (refl, tt))))); quantities = (refl, (refl, (refl, (refl, (refl, (lit≤ tt, (lit≤ tt, (lit≤ tt, (lit≤ tt, (tt, (tt, tt))))))))))) }; descriptions = record { front = (((record { kind = codes "mp4v"; length = 8; size = 16 }, refl, refl), tt), lit≤ tt); full = refl } }
+f3-track = record { track = record { tiles = record { front = (((record { kind = codes "tkhd"; length = 8; size = 104 }, refl, refl), ((record { kind = codes "mdia"; length = 8; size = 257 }, refl, refl), tt)), tt); full = refl }; allowed = (refl, (refl, tt)); quantities = (refl, (refl, (lit≤ tt, (tt, tt)))) }; edits = refl; media = record { tiles = record { front = (((record { kind = codes "mdhd"; length = 8; size = 44 }, refl, refl), ((record { kind = codes "hdlr"; length = 8; size = 33 }, refl, refl), ((record { kind = codes "minf"; length = 8; size = 172 }, refl, refl), tt))), tt); full = refl }; allowed = (refl, (refl, (refl, tt))); quantities = (refl, (refl, (refl, (tt, tt)))) }; information = record { tiles = record { front = (((record { kind = codes "vmhd"; length = 8; size = 20 }, refl, refl), ((record { kind = codes "dinf"; length = 8; size = 36 }, refl, refl), ((record { kind = codes "stbl"; length = 8; size = 108 }, refl, refl), tt))), tt); full = refl }; allowed = (refl, (refl, (refl, tt))); quantities = (refl, (refl, (refl, tt))) }; data_information = record { tiles = record { front = (((record { kind = codes "dref"; length = 8; size = 28 }, refl, refl), tt), tt); full = refl }; allowed = (refl, tt); quantities = (refl, tt) }; data_references = record { front = (((record { kind = codes "url "; length = 8; size = 12 }, refl, refl), tt), lit≤ tt); full = refl }; table = record { tiles = record { front = (((record { kind = codes "stsd"; length = 8; size = 32 }, refl, refl), ((record { kind = codes "stts"; length = 8; size = 16 }, refl, refl), ((record { kind = codes "stsc"; length = 8; size = 16 }, refl, refl), ((record { kind = codes "stsz"; length = 8; size = 20 }, refl, refl), ((record { kind = codes "stco"; length = 8; size = 16 }, refl, refl), tt))))), tt); full = refl }; allowed = (refl, (refl, (refl, (refl, (refl, tt))))); quantities = (refl, (refl, (refl, (refl, (refl, (lit≤ tt, (lit≤ tt, (lit≤ tt, (lit≤ tt, (tt, (tt, tt))))))))))) }; descriptions = record { front = (((record { kind = codes "mp4v"; length = 8; size = 16 }, refl, refl), tt), lit≤ tt); full = refl } }
 
 f3-tree : IsFileTree f3 f3_file_tree
-f3-tree = record { top = record { tiles = record { front = (((record { kind = codes "ftyp"; length = 8; size = 24 }, refl, refl), ((record { kind = codes "moov"; length = 8; size = 557 }, refl, refl), ((record { kind = codes "moof"; length = 8; size = 144 }, refl, refl), ((record { kind = codes "mdat"; length = 8; size = 20 }, refl, refl), tt)))), tt); full = refl }; allowed = (refl, (refl, (refl, (refl, tt)))); quantities = (refl, (tt, (tt, (tt, (tt, (tt, (tt, tt))))))) }; order = refl; moov = refl; movie = record { movie = record { tiles = record { front = (((record { kind = codes "mvhd"; length = 8; size = 120 }, refl, refl), ((record { kind = codes "trak"; length = 8; size = 369 }, refl, refl), ((record { kind = codes "mvex"; length = 8; size = 60 }, refl, refl), tt))), tt); full = refl }; allowed = (refl, (refl, (refl, tt))); quantities = (refl, (lit≤ tt, (tt, (tt, (tt, (tt, tt)))))) }; extends = record { tiles = record { front = (((record { kind = codes "mehd"; length = 8; size = 20 }, refl, refl), ((record { kind = codes "trex"; length = 8; size = 32 }, refl, refl), tt)), tt); full = refl }; allowed = (refl, (refl, tt)); quantities = (lit≤ tt, (tt, tt)) }; traks = refl; tracks = (f3-track, tt) }; moofs = refl; fragments = (record { children = record { tiles = record { front = (((record { kind = codes "mfhd"; length = 8; size = 16 }, refl, refl), ((record { kind = codes "traf"; length = 8; size = 60 }, refl, refl), ((record { kind = codes "traf"; length = 8; size = 60 }, refl, refl), tt))), tt); full = refl }; allowed = (refl, (refl, (refl, tt))); quantities = (refl, (tt, tt)) }; trafs = (record { tiles = record { front = (((record { kind = codes "tfhd"; length = 8; size = 28 }, refl, refl), ((record { kind = codes "trun"; length = 8; size = 24 }, refl, refl), tt)), tt); full = refl }; allowed = (refl, (refl, tt)); quantities = (refl, (lit≤ tt, (tt, (tt, tt)))) }, (record { tiles = record { front = (((record { kind = codes "tfhd"; length = 8; size = 28 }, refl, refl), ((record { kind = codes "trun"; length = 8; size = 24 }, refl, refl), tt)), tt); full = refl }; allowed = (refl, (refl, tt)); quantities = (refl, (lit≤ tt, (tt, (tt, tt)))) }, tt)) }, tt) }
+f3-tree = record { top = record { tiles = record { front = (((record { kind = codes "ftyp"; length = 8; size = 24 }, refl, refl), ((record { kind = codes "moov"; length = 8; size = 557 }, refl, refl), ((record { kind = codes "moof"; length = 8; size = 144 }, refl, refl), ((record { kind = codes "mdat"; length = 8; size = 20 }, refl, refl), tt)))), tt); full = refl }; allowed = (refl, (refl, (refl, (refl, tt)))); quantities = (refl, (tt, (tt, (tt, (tt, (tt, (tt, tt))))))) }; order = refl; moov = refl; movie = record { movie = record { tiles = record { front = (((record { kind = codes "mvhd"; length = 8; size = 120 }, refl, refl), ((record { kind = codes "trak"; length = 8; size = 369 }, refl, refl), ((record { kind = codes "mvex"; length = 8; size = 60 }, refl, refl), tt))), tt); full = refl }; allowed = (refl, (refl, (refl, tt))); quantities = (refl, (lit≤ tt, (tt, (tt, tt)))) }; extends = record { tiles = record { front = (((record { kind = codes "mehd"; length = 8; size = 20 }, refl, refl), ((record { kind = codes "trex"; length = 8; size = 32 }, refl, refl), tt)), tt); full = refl }; allowed = (refl, (refl, tt)); quantities = (lit≤ tt, (tt, tt)) }; traks = refl; tracks = (f3-track, tt) }; moofs = refl; fragments = (record { children = record { tiles = record { front = (((record { kind = codes "mfhd"; length = 8; size = 16 }, refl, refl), ((record { kind = codes "traf"; length = 8; size = 60 }, refl, refl), ((record { kind = codes "traf"; length = 8; size = 60 }, refl, refl), tt))), tt); full = refl }; allowed = (refl, (refl, (refl, tt))); quantities = (refl, (tt, tt)) }; trafs = (record { tiles = record { front = (((record { kind = codes "tfhd"; length = 8; size = 28 }, refl, refl), ((record { kind = codes "trun"; length = 8; size = 24 }, refl, refl), tt)), tt); full = refl }; allowed = (refl, (refl, tt)); quantities = (refl, (lit≤ tt, (tt, (tt, tt)))) }, (record { tiles = record { front = (((record { kind = codes "tfhd"; length = 8; size = 28 }, refl, refl), ((record { kind = codes "trun"; length = 8; size = 24 }, refl, refl), tt)), tt); full = refl }; allowed = (refl, (refl, tt)); quantities = (refl, (lit≤ tt, (tt, (tt, tt)))) }, tt)) }, tt) }
 
 f3-sound : IsSoundFile f3_file_tree
 f3-sound = record { movie = record { movie = (record { readable = record { version = refl; flags = refl; room = lit≤ tt }; value = refl; inside = refl; offsets = refl }, (tt, (tt, tt))); kept = tt; tracks = (record { track = (record { readable = record { version = refl; flags = refl; room = lit≤ tt }; value = refl; inside = refl; offsets = refl }, (tt, tt)); kept = tt; edits = tt; media = (record { readable = record { version = refl; flags = refl; room = lit≤ tt }; value = refl; inside = refl; offsets = refl }, (record { readable = record { version = refl; flags = refl; room = lit≤ tt }; value = refl; inside = refl; offsets = refl }, (tt, tt))); data_information = (record { readable = record { version = refl; flags = refl; room = lit≤ tt }; value = refl; inside = refl; offsets = refl }, tt); data_references = (record { readable = record { version = refl; flags = refl; room = lit≤ tt }; value = refl; inside = refl; offsets = refl }, tt); urls = (refl, tt); stsd = record { readable = record { version = refl; flags = refl; room = lit≤ tt }; value = refl; inside = refl; offsets = refl }; descriptions = (record { readable = record { version = refl; flags = refl; room = lit≤ tt }; value = refl; inside = refl; offsets = refl }, tt) }, tt); track_ids = refl; extends = (tt, (record { readable = record { version = refl; flags = refl; room = lit≤ tt }; value = refl; inside = refl; offsets = refl }, tt)); trex_ids = refl }; tables = ((record { readable = record { version = refl; flags = refl; room = lit≤ tt }; value = refl; inside = refl; offsets = refl }, (record { readable = record { version = refl; flags = refl; room = lit≤ tt }; value = refl; inside = refl; offsets = refl }, (record { readable = record { version = refl; flags = refl; room = lit≤ tt }; value = refl; inside = refl; offsets = refl }, (record { readable = record { version = refl; flags = refl; room = lit≤ tt }; value = refl; inside = refl; offsets = refl }, (record { readable = record { version = refl; flags = refl; room = lit≤ tt }; value = refl; inside = refl; offsets = refl }, tt))))), tt); fragments = (((record { readable = record { version = refl; flags = refl; room = lit≤ tt }; value = refl; inside = refl; offsets = refl }, (record { readable = record { version = refl; flags = refl; room = lit≤ tt }; value = refl; inside = refl; offsets = refl }, tt)), ((record { readable = record { version = refl; flags = refl; room = lit≤ tt }; value = refl; inside = refl; offsets = refl }, (record { readable = record { version = refl; flags = refl; room = lit≤ tt }; value = refl; inside = refl; offsets = refl }, tt)), tt)), tt) }
@@ -166,10 +166,10 @@ abbrev p_normal_file_tree : FileTree
 p_normal_file_tree = record { top = part p_normal 0 24 (codes "ftyp") ∷ part p_normal 24 557 (codes "moov") ∷ part p_normal 581 120 (codes "moof") ∷ part p_normal 701 20 (codes "mdat") ∷ []; movie = record { moov = part p_normal 24 557 (codes "moov"); movie = part p_normal 32 120 (codes "mvhd") ∷ part p_normal 152 369 (codes "trak") ∷ part p_normal 521 60 (codes "mvex") ∷ []; extends = part p_normal 529 20 (codes "mehd") ∷ part p_normal 549 32 (codes "trex") ∷ []; tracks = p_normal_track_tree ∷ [] }; fragments = record { moof = part p_normal 581 120 (codes "moof"); children = part p_normal 589 16 (codes "mfhd") ∷ part p_normal 605 96 (codes "traf") ∷ []; trafs = (part p_normal 613 24 (codes "tfhd") ∷ part p_normal 637 20 (codes "tfdt") ∷ part p_normal 657 44 (codes "trun") ∷ []) ∷ [] } ∷ [] }
 
 p_normal-track : IsTrackTree p_normal_track_tree
-p_normal-track = record { track = record { tiles = record { front = (((record { kind = codes "tkhd"; length = 8; size = 104 }, refl, refl), ((record { kind = codes "mdia"; length = 8; size = 257 }, refl, refl), tt)), tt); full = refl }; allowed = (refl, (refl, tt)); quantities = (refl, (refl, (lit≤ tt, (tt, (tt, (tt, tt)))))) }; edits = refl; media = record { tiles = record { front = (((record { kind = codes "mdhd"; length = 8; size = 44 }, refl, refl), ((record { kind = codes "hdlr"; length = 8; size = 33 }, refl, refl), ((record { kind = codes "minf"; length = 8; size = 172 }, refl, refl), tt))), tt); full = refl }; allowed = (refl, (refl, (refl, tt))); quantities = (refl, (refl, (refl, (tt, tt)))) }; information = record { tiles = record { front = (((record { kind = codes "vmhd"; length = 8; size = 20 }, refl, refl), ((record { kind = codes "dinf"; length = 8; size = 36 }, refl, refl), ((record { kind = codes "stbl"; length = 8; size = 108 }, refl, refl), tt))), tt); full = refl }; allowed = (refl, (refl, (refl, tt))); quantities = (refl, (refl, (refl, tt))) }; data_information = record { tiles = record { front = (((record { kind = codes "dref"; length = 8; size = 28 }, refl, refl), tt), tt); full = refl }; allowed = (refl, tt); quantities = (refl, tt) }; data_references = record { front = (((record { kind = codes "url "; length = 8; size = 12 }, refl, refl), tt), lit≤ tt); full = refl }; table = record { tiles = record { front = (((record { kind = codes "stsd"; length = 8; size = 32 }, refl, refl), ((record { kind = codes "stts"; length = 8; size = 16 }, refl, refl), ((record { kind = codes "stsc"; length = 8; size = 16 }, refl, refl), ((record { kind = codes "stsz"; length = 8; size = 20 }, refl, refl), ((record { kind = codes "stco"; length = 8; size = 16 }, refl, refl), tt))))), tt); full = refl }; allowed = (refl, (refl, (refl, (refl, (refl, tt))))); quantities = (refl, (refl, (refl, (refl, (refl, (lit≤ tt, (lit≤ tt, (lit≤ tt, (lit≤ tt, (tt, (tt, tt))))))))))) }; descriptions = record { front = (((record { kind = codes "mp4v"; length = 8; size = 16 }, refl, refl), tt), lit≤ tt); full = refl } }
+p_normal-track = record { track = record { tiles = record { front = (((record { kind = codes "tkhd"; length = 8; size = 104 }, refl, refl), ((record { kind = codes "mdia"; length = 8; size = 257 }, refl, refl), tt)), tt); full = refl }; allowed = (refl, (refl, tt)); quantities = (refl, (refl, (lit≤ tt, (tt, tt)))) }; edits = refl; media = record { tiles = record { front = (((record { kind = codes "mdhd"; length = 8; size = 44 }, refl, refl), ((record { kind = codes "hdlr"; length = 8; size = 33 }, refl, refl), ((record { kind = codes "minf"; length = 8; size = 172 }, refl, refl), tt))), tt); full = refl }; allowed = (refl, (refl, (refl, tt))); quantities = (refl, (refl, (refl, (tt, tt)))) }; information = record { tiles = record { front = (((record { kind = codes "vmhd"; length = 8; size = 20 }, refl, refl), ((record { kind = codes "dinf"; length = 8; size = 36 }, refl, refl), ((record { kind = codes "stbl"; length = 8; size = 108 }, refl, refl), tt))), tt); full = refl }; allowed = (refl, (refl, (refl, tt))); quantities = (refl, (refl, (refl, tt))) }; data_information = record { tiles = record { front = (((record { kind = codes "dref"; length = 8; size = 28 }, refl, refl), tt), tt); full = refl }; allowed = (refl, tt); quantities = (refl, tt) }; data_references = record { front = (((record { kind = codes "url "; length = 8; size = 12 }, refl, refl), tt), lit≤ tt); full = refl }; table = record { tiles = record { front = (((record { kind = codes "stsd"; length = 8; size = 32 }, refl, refl), ((record { kind = codes "stts"; length = 8; size = 16 }, refl, refl), ((record { kind = codes "stsc"; length = 8; size = 16 }, refl, refl), ((record { kind = codes "stsz"; length = 8; size = 20 }, refl, refl), ((record { kind = codes "stco"; length = 8; size = 16 }, refl, refl), tt))))), tt); full = refl }; allowed = (refl, (refl, (refl, (refl, (refl, tt))))); quantities = (refl, (refl, (refl, (refl, (refl, (lit≤ tt, (lit≤ tt, (lit≤ tt, (lit≤ tt, (tt, (tt, tt))))))))))) }; descriptions = record { front = (((record { kind = codes "mp4v"; length = 8; size = 16 }, refl, refl), tt), lit≤ tt); full = refl } }
 
 p_normal-tree : IsFileTree p_normal p_normal_file_tree
-p_normal-tree = record { top = record { tiles = record { front = (((record { kind = codes "ftyp"; length = 8; size = 24 }, refl, refl), ((record { kind = codes "moov"; length = 8; size = 557 }, refl, refl), ((record { kind = codes "moof"; length = 8; size = 120 }, refl, refl), ((record { kind = codes "mdat"; length = 8; size = 20 }, refl, refl), tt)))), tt); full = refl }; allowed = (refl, (refl, (refl, (refl, tt)))); quantities = (refl, (tt, (tt, (tt, (tt, (tt, (tt, tt))))))) }; order = refl; moov = refl; movie = record { movie = record { tiles = record { front = (((record { kind = codes "mvhd"; length = 8; size = 120 }, refl, refl), ((record { kind = codes "trak"; length = 8; size = 369 }, refl, refl), ((record { kind = codes "mvex"; length = 8; size = 60 }, refl, refl), tt))), tt); full = refl }; allowed = (refl, (refl, (refl, tt))); quantities = (refl, (lit≤ tt, (tt, (tt, (tt, (tt, tt)))))) }; extends = record { tiles = record { front = (((record { kind = codes "mehd"; length = 8; size = 20 }, refl, refl), ((record { kind = codes "trex"; length = 8; size = 32 }, refl, refl), tt)), tt); full = refl }; allowed = (refl, (refl, tt)); quantities = (lit≤ tt, (tt, tt)) }; traks = refl; tracks = (p_normal-track, tt) }; moofs = refl; fragments = (record { children = record { tiles = record { front = (((record { kind = codes "mfhd"; length = 8; size = 16 }, refl, refl), ((record { kind = codes "traf"; length = 8; size = 96 }, refl, refl), tt)), tt); full = refl }; allowed = (refl, (refl, tt)); quantities = (refl, (tt, tt)) }; trafs = (record { tiles = record { front = (((record { kind = codes "tfhd"; length = 8; size = 24 }, refl, refl), ((record { kind = codes "tfdt"; length = 8; size = 20 }, refl, refl), ((record { kind = codes "trun"; length = 8; size = 44 }, refl, refl), tt))), tt); full = refl }; allowed = (refl, (refl, (refl, tt))); quantities = (refl, (lit≤ tt, (tt, (tt, tt)))) }, tt) }, tt) }
+p_normal-tree = record { top = record { tiles = record { front = (((record { kind = codes "ftyp"; length = 8; size = 24 }, refl, refl), ((record { kind = codes "moov"; length = 8; size = 557 }, refl, refl), ((record { kind = codes "moof"; length = 8; size = 120 }, refl, refl), ((record { kind = codes "mdat"; length = 8; size = 20 }, refl, refl), tt)))), tt); full = refl }; allowed = (refl, (refl, (refl, (refl, tt)))); quantities = (refl, (tt, (tt, (tt, (tt, (tt, (tt, tt))))))) }; order = refl; moov = refl; movie = record { movie = record { tiles = record { front = (((record { kind = codes "mvhd"; length = 8; size = 120 }, refl, refl), ((record { kind = codes "trak"; length = 8; size = 369 }, refl, refl), ((record { kind = codes "mvex"; length = 8; size = 60 }, refl, refl), tt))), tt); full = refl }; allowed = (refl, (refl, (refl, tt))); quantities = (refl, (lit≤ tt, (tt, (tt, tt)))) }; extends = record { tiles = record { front = (((record { kind = codes "mehd"; length = 8; size = 20 }, refl, refl), ((record { kind = codes "trex"; length = 8; size = 32 }, refl, refl), tt)), tt); full = refl }; allowed = (refl, (refl, tt)); quantities = (lit≤ tt, (tt, tt)) }; traks = refl; tracks = (p_normal-track, tt) }; moofs = refl; fragments = (record { children = record { tiles = record { front = (((record { kind = codes "mfhd"; length = 8; size = 16 }, refl, refl), ((record { kind = codes "traf"; length = 8; size = 96 }, refl, refl), tt)), tt); full = refl }; allowed = (refl, (refl, tt)); quantities = (refl, (tt, tt)) }; trafs = (record { tiles = record { front = (((record { kind = codes "tfhd"; length = 8; size = 24 }, refl, refl), ((record { kind = codes "tfdt"; length = 8; size = 20 }, refl, refl), ((record { kind = codes "trun"; length = 8; size = 44 }, refl, refl), tt))), tt); full = refl }; allowed = (refl, (refl, (refl, tt))); quantities = (refl, (lit≤ tt, (tt, (tt, tt)))) }, tt) }, tt) }
 
 p_normal-sound : IsSoundFile p_normal_file_tree
 p_normal-sound = record { movie = record { movie = (record { readable = record { version = refl; flags = refl; room = lit≤ tt }; value = refl; inside = refl; offsets = refl }, (tt, (tt, tt))); kept = tt; tracks = (record { track = (record { readable = record { version = refl; flags = refl; room = lit≤ tt }; value = refl; inside = refl; offsets = refl }, (tt, tt)); kept = tt; edits = tt; media = (record { readable = record { version = refl; flags = refl; room = lit≤ tt }; value = refl; inside = refl; offsets = refl }, (record { readable = record { version = refl; flags = refl; room = lit≤ tt }; value = refl; inside = refl; offsets = refl }, (tt, tt))); data_information = (record { readable = record { version = refl; flags = refl; room = lit≤ tt }; value = refl; inside = refl; offsets = refl }, tt); data_references = (record { readable = record { version = refl; flags = refl; room = lit≤ tt }; value = refl; inside = refl; offsets = refl }, tt); urls = (refl, tt); stsd = record { readable = record { version = refl; flags = refl; room = lit≤ tt }; value = refl; inside = refl; offsets = refl }; descriptions = (record { readable = record { version = refl; flags = refl; room = lit≤ tt }; value = refl; inside = refl; offsets = refl }, tt) }, tt); track_ids = refl; extends = (tt, (record { readable = record { version = refl; flags = refl; room = lit≤ tt }; value = refl; inside = refl; offsets = refl }, tt)); trex_ids = refl }; tables = ((record { readable = record { version = refl; flags = refl; room = lit≤ tt }; value = refl; inside = refl; offsets = refl }, (record { readable = record { version = refl; flags = refl; room = lit≤ tt }; value = refl; inside = refl; offsets = refl }, (record { readable = record { version = refl; flags = refl; room = lit≤ tt }; value = refl; inside = refl; offsets = refl }, (record { readable = record { version = refl; flags = refl; room = lit≤ tt }; value = refl; inside = refl; offsets = refl }, (record { readable = record { version = refl; flags = refl; room = lit≤ tt }; value = refl; inside = refl; offsets = refl }, tt))))), tt); fragments = (((record { readable = record { version = refl; flags = refl; room = lit≤ tt }; value = refl; inside = refl; offsets = refl }, (record { readable = record { version = refl; flags = refl; room = lit≤ tt }; value = refl; inside = refl; offsets = refl }, (record { readable = record { version = refl; flags = refl; room = lit≤ tt }; value = refl; inside = refl; offsets = refl }, tt))), tt), tt) }
@@ -195,10 +195,10 @@ abbrev compact_file_tree : FileTree
 compact_file_tree = record { top = part compact 0 24 (codes "ftyp") ∷ part compact 24 507 (codes "moov") ∷ part compact 531 20 (codes "mdat") ∷ []; movie = record { moov = part compact 24 507 (codes "moov"); movie = part compact 32 108 (codes "mvhd") ∷ part compact 140 391 (codes "trak") ∷ []; extends = []; tracks = compact_track_tree ∷ [] }; fragments = [] }
 
 compact-track : IsTrackTree compact_track_tree
-compact-track = record { track = record { tiles = record { front = (((record { kind = codes "tkhd"; length = 8; size = 92 }, refl, refl), ((record { kind = codes "mdia"; length = 8; size = 291 }, refl, refl), tt)), tt); full = refl }; allowed = (refl, (refl, tt)); quantities = (refl, (refl, (lit≤ tt, (tt, (tt, (tt, tt)))))) }; edits = refl; media = record { tiles = record { front = (((record { kind = codes "mdhd"; length = 8; size = 32 }, refl, refl), ((record { kind = codes "hdlr"; length = 8; size = 33 }, refl, refl), ((record { kind = codes "minf"; length = 8; size = 218 }, refl, refl), tt))), tt); full = refl }; allowed = (refl, (refl, (refl, tt))); quantities = (refl, (refl, (refl, (tt, tt)))) }; information = record { tiles = record { front = (((record { kind = codes "vmhd"; length = 8; size = 20 }, refl, refl), ((record { kind = codes "dinf"; length = 8; size = 36 }, refl, refl), ((record { kind = codes "stbl"; length = 8; size = 154 }, refl, refl), tt))), tt); full = refl }; allowed = (refl, (refl, (refl, tt))); quantities = (refl, (refl, (refl, tt))) }; data_information = record { tiles = record { front = (((record { kind = codes "dref"; length = 8; size = 28 }, refl, refl), tt), tt); full = refl }; allowed = (refl, tt); quantities = (refl, tt) }; data_references = record { front = (((record { kind = codes "url "; length = 8; size = 12 }, refl, refl), tt), lit≤ tt); full = refl }; table = record { tiles = record { front = (((record { kind = codes "stsd"; length = 8; size = 32 }, refl, refl), ((record { kind = codes "stts"; length = 8; size = 24 }, refl, refl), ((record { kind = codes "stss"; length = 8; size = 20 }, refl, refl), ((record { kind = codes "stsc"; length = 8; size = 28 }, refl, refl), ((record { kind = codes "stz2"; length = 8; size = 22 }, refl, refl), ((record { kind = codes "stco"; length = 8; size = 20 }, refl, refl), tt)))))), tt); full = refl }; allowed = (refl, (refl, (refl, (refl, (refl, (refl, tt)))))); quantities = (refl, (refl, (refl, (refl, (refl, (lit≤ tt, (lit≤ tt, (lit≤ tt, (lit≤ tt, (tt, (tt, tt))))))))))) }; descriptions = record { front = (((record { kind = codes "mp4v"; length = 8; size = 16 }, refl, refl), tt), lit≤ tt); full = refl } }
+compact-track = record { track = record { tiles = record { front = (((record { kind = codes "tkhd"; length = 8; size = 92 }, refl, refl), ((record { kind = codes "mdia"; length = 8; size = 291 }, refl, refl), tt)), tt); full = refl }; allowed = (refl, (refl, tt)); quantities = (refl, (refl, (lit≤ tt, (tt, tt)))) }; edits = refl; media = record { tiles = record { front = (((record { kind = codes "mdhd"; length = 8; size = 32 }, refl, refl), ((record { kind = codes "hdlr"; length = 8; size = 33 }, refl, refl), ((record { kind = codes "minf"; length = 8; size = 218 }, refl, refl), tt))), tt); full = refl }; allowed = (refl, (refl, (refl, tt))); quantities = (refl, (refl, (refl, (tt, tt)))) }; information = record { tiles = record { front = (((record { kind = codes "vmhd"; length = 8; size = 20 }, refl, refl), ((record { kind = codes "dinf"; length = 8; size = 36 }, refl, refl), ((record { kind = codes "stbl"; length = 8; size = 154 }, refl, refl), tt))), tt); full = refl }; allowed = (refl, (refl, (refl, tt))); quantities = (refl, (refl, (refl, tt))) }; data_information = record { tiles = record { front = (((record { kind = codes "dref"; length = 8; size = 28 }, refl, refl), tt), tt); full = refl }; allowed = (refl, tt); quantities = (refl, tt) }; data_references = record { front = (((record { kind = codes "url "; length = 8; size = 12 }, refl, refl), tt), lit≤ tt); full = refl }; table = record { tiles = record { front = (((record { kind = codes "stsd"; length = 8; size = 32 }, refl, refl), ((record { kind = codes "stts"; length = 8; size = 24 }, refl, refl), ((record { kind = codes "stss"; length = 8; size = 20 }, refl, refl), ((record { kind = codes "stsc"; length = 8; size = 28 }, refl, refl), ((record { kind = codes "stz2"; length = 8; size = 22 }, refl, refl), ((record { kind = codes "stco"; length = 8; size = 20 }, refl, refl), tt)))))), tt); full = refl }; allowed = (refl, (refl, (refl, (refl, (refl, (refl, tt)))))); quantities = (refl, (refl, (refl, (refl, (refl, (lit≤ tt, (lit≤ tt, (lit≤ tt, (lit≤ tt, (tt, (tt, tt))))))))))) }; descriptions = record { front = (((record { kind = codes "mp4v"; length = 8; size = 16 }, refl, refl), tt), lit≤ tt); full = refl } }
 
 compact-tree : IsFileTree compact compact_file_tree
-compact-tree = record { top = record { tiles = record { front = (((record { kind = codes "ftyp"; length = 8; size = 24 }, refl, refl), ((record { kind = codes "moov"; length = 8; size = 507 }, refl, refl), ((record { kind = codes "mdat"; length = 8; size = 20 }, refl, refl), tt))), tt); full = refl }; allowed = (refl, (refl, (refl, tt))); quantities = (refl, (tt, (tt, (tt, (tt, (tt, (tt, tt))))))) }; order = refl; moov = refl; movie = record { movie = record { tiles = record { front = (((record { kind = codes "mvhd"; length = 8; size = 108 }, refl, refl), ((record { kind = codes "trak"; length = 8; size = 391 }, refl, refl), tt)), tt); full = refl }; allowed = (refl, (refl, tt)); quantities = (refl, (lit≤ tt, (tt, (tt, (tt, (tt, tt)))))) }; extends = refl; traks = refl; tracks = (compact-track, tt) }; moofs = refl; fragments = tt }
+compact-tree = record { top = record { tiles = record { front = (((record { kind = codes "ftyp"; length = 8; size = 24 }, refl, refl), ((record { kind = codes "moov"; length = 8; size = 507 }, refl, refl), ((record { kind = codes "mdat"; length = 8; size = 20 }, refl, refl), tt))), tt); full = refl }; allowed = (refl, (refl, (refl, tt))); quantities = (refl, (tt, (tt, (tt, (tt, (tt, (tt, tt))))))) }; order = refl; moov = refl; movie = record { movie = record { tiles = record { front = (((record { kind = codes "mvhd"; length = 8; size = 108 }, refl, refl), ((record { kind = codes "trak"; length = 8; size = 391 }, refl, refl), tt)), tt); full = refl }; allowed = (refl, (refl, tt)); quantities = (refl, (lit≤ tt, (tt, (tt, tt)))) }; extends = refl; traks = refl; tracks = (compact-track, tt) }; moofs = refl; fragments = tt }
 
 compact-sound : IsSoundFile compact_file_tree
 compact-sound = record { movie = record { movie = (record { readable = record { version = refl; flags = refl; room = lit≤ tt }; value = refl; inside = refl; offsets = refl }, (tt, tt)); kept = tt; tracks = (record { track = (record { readable = record { version = refl; flags = refl; room = lit≤ tt }; value = refl; inside = refl; offsets = refl }, (tt, tt)); kept = tt; edits = tt; media = (record { readable = record { version = refl; flags = refl; room = lit≤ tt }; value = refl; inside = refl; offsets = refl }, (record { readable = record { version = refl; flags = refl; room = lit≤ tt }; value = refl; inside = refl; offsets = refl }, (tt, tt))); data_information = (record { readable = record { version = refl; flags = refl; room = lit≤ tt }; value = refl; inside = refl; offsets = refl }, tt); data_references = (record { readable = record { version = refl; flags = refl; room = lit≤ tt }; value = refl; inside = refl; offsets = refl }, tt); urls = (refl, tt); stsd = record { readable = record { version = refl; flags = refl; room = lit≤ tt }; value = refl; inside = refl; offsets = refl }; descriptions = (record { readable = record { version = refl; flags = refl; room = lit≤ tt }; value = refl; inside = refl; offsets = refl }, tt) }, tt); track_ids = refl; extends = tt; trex_ids = refl }; tables = ((record { readable = record { version = refl; flags = refl; room = lit≤ tt }; value = refl; inside = refl; offsets = refl }, (record { readable = record { version = refl; flags = refl; room = lit≤ tt }; value = refl; inside = refl; offsets = refl }, (record { readable = record { version = refl; flags = refl; room = lit≤ tt }; value = refl; inside = refl; offsets = refl }, (record { readable = record { version = refl; flags = refl; room = lit≤ tt }; value = refl; inside = refl; offsets = refl }, (record { readable = record { version = refl; flags = refl; room = lit≤ tt }; value = refl; inside = refl; offsets = refl }, (record { readable = record { version = refl; flags = refl; room = lit≤ tt }; value = refl; inside = refl; offsets = refl }, tt)))))), tt); fragments = tt }
@@ -224,10 +224,10 @@ abbrev grouped_file_tree : FileTree
 grouped_file_tree = record { top = part grouped 0 24 (codes "ftyp") ∷ part grouped 24 571 (codes "moov") ∷ part grouped 595 20 (codes "mdat") ∷ []; movie = record { moov = part grouped 24 571 (codes "moov"); movie = part grouped 32 108 (codes "mvhd") ∷ part grouped 140 455 (codes "trak") ∷ []; extends = []; tracks = grouped_track_tree ∷ [] }; fragments = [] }
 
 grouped-track : IsTrackTree grouped_track_tree
-grouped-track = record { track = record { tiles = record { front = (((record { kind = codes "tkhd"; length = 8; size = 92 }, refl, refl), ((record { kind = codes "mdia"; length = 8; size = 355 }, refl, refl), tt)), tt); full = refl }; allowed = (refl, (refl, tt)); quantities = (refl, (refl, (lit≤ tt, (tt, (tt, (tt, tt)))))) }; edits = refl; media = record { tiles = record { front = (((record { kind = codes "mdhd"; length = 8; size = 32 }, refl, refl), ((record { kind = codes "hdlr"; length = 8; size = 33 }, refl, refl), ((record { kind = codes "minf"; length = 8; size = 282 }, refl, refl), tt))), tt); full = refl }; allowed = (refl, (refl, (refl, tt))); quantities = (refl, (refl, (refl, (tt, tt)))) }; information = record { tiles = record { front = (((record { kind = codes "vmhd"; length = 8; size = 20 }, refl, refl), ((record { kind = codes "dinf"; length = 8; size = 36 }, refl, refl), ((record { kind = codes "stbl"; length = 8; size = 218 }, refl, refl), tt))), tt); full = refl }; allowed = (refl, (refl, (refl, tt))); quantities = (refl, (refl, (refl, tt))) }; data_information = record { tiles = record { front = (((record { kind = codes "dref"; length = 8; size = 28 }, refl, refl), tt), tt); full = refl }; allowed = (refl, tt); quantities = (refl, tt) }; data_references = record { front = (((record { kind = codes "url "; length = 8; size = 12 }, refl, refl), tt), lit≤ tt); full = refl }; table = record { tiles = record { front = (((record { kind = codes "stsd"; length = 8; size = 32 }, refl, refl), ((record { kind = codes "stts"; length = 8; size = 24 }, refl, refl), ((record { kind = codes "stss"; length = 8; size = 20 }, refl, refl), ((record { kind = codes "stsc"; length = 8; size = 28 }, refl, refl), ((record { kind = codes "stsz"; length = 8; size = 32 }, refl, refl), ((record { kind = codes "stco"; length = 8; size = 20 }, refl, refl), ((record { kind = codes "sgpd"; length = 8; size = 26 }, refl, refl), ((record { kind = codes "sbgp"; length = 8; size = 28 }, refl, refl), tt)))))))), tt); full = refl }; allowed = (refl, (refl, (refl, (refl, (refl, (refl, (refl, (refl, tt)))))))); quantities = (refl, (refl, (refl, (refl, (refl, (lit≤ tt, (lit≤ tt, (lit≤ tt, (lit≤ tt, (tt, (tt, tt))))))))))) }; descriptions = record { front = (((record { kind = codes "mp4v"; length = 8; size = 16 }, refl, refl), tt), lit≤ tt); full = refl } }
+grouped-track = record { track = record { tiles = record { front = (((record { kind = codes "tkhd"; length = 8; size = 92 }, refl, refl), ((record { kind = codes "mdia"; length = 8; size = 355 }, refl, refl), tt)), tt); full = refl }; allowed = (refl, (refl, tt)); quantities = (refl, (refl, (lit≤ tt, (tt, tt)))) }; edits = refl; media = record { tiles = record { front = (((record { kind = codes "mdhd"; length = 8; size = 32 }, refl, refl), ((record { kind = codes "hdlr"; length = 8; size = 33 }, refl, refl), ((record { kind = codes "minf"; length = 8; size = 282 }, refl, refl), tt))), tt); full = refl }; allowed = (refl, (refl, (refl, tt))); quantities = (refl, (refl, (refl, (tt, tt)))) }; information = record { tiles = record { front = (((record { kind = codes "vmhd"; length = 8; size = 20 }, refl, refl), ((record { kind = codes "dinf"; length = 8; size = 36 }, refl, refl), ((record { kind = codes "stbl"; length = 8; size = 218 }, refl, refl), tt))), tt); full = refl }; allowed = (refl, (refl, (refl, tt))); quantities = (refl, (refl, (refl, tt))) }; data_information = record { tiles = record { front = (((record { kind = codes "dref"; length = 8; size = 28 }, refl, refl), tt), tt); full = refl }; allowed = (refl, tt); quantities = (refl, tt) }; data_references = record { front = (((record { kind = codes "url "; length = 8; size = 12 }, refl, refl), tt), lit≤ tt); full = refl }; table = record { tiles = record { front = (((record { kind = codes "stsd"; length = 8; size = 32 }, refl, refl), ((record { kind = codes "stts"; length = 8; size = 24 }, refl, refl), ((record { kind = codes "stss"; length = 8; size = 20 }, refl, refl), ((record { kind = codes "stsc"; length = 8; size = 28 }, refl, refl), ((record { kind = codes "stsz"; length = 8; size = 32 }, refl, refl), ((record { kind = codes "stco"; length = 8; size = 20 }, refl, refl), ((record { kind = codes "sgpd"; length = 8; size = 26 }, refl, refl), ((record { kind = codes "sbgp"; length = 8; size = 28 }, refl, refl), tt)))))))), tt); full = refl }; allowed = (refl, (refl, (refl, (refl, (refl, (refl, (refl, (refl, tt)))))))); quantities = (refl, (refl, (refl, (refl, (refl, (lit≤ tt, (lit≤ tt, (lit≤ tt, (lit≤ tt, (tt, (tt, tt))))))))))) }; descriptions = record { front = (((record { kind = codes "mp4v"; length = 8; size = 16 }, refl, refl), tt), lit≤ tt); full = refl } }
 
 grouped-tree : IsFileTree grouped grouped_file_tree
-grouped-tree = record { top = record { tiles = record { front = (((record { kind = codes "ftyp"; length = 8; size = 24 }, refl, refl), ((record { kind = codes "moov"; length = 8; size = 571 }, refl, refl), ((record { kind = codes "mdat"; length = 8; size = 20 }, refl, refl), tt))), tt); full = refl }; allowed = (refl, (refl, (refl, tt))); quantities = (refl, (tt, (tt, (tt, (tt, (tt, (tt, tt))))))) }; order = refl; moov = refl; movie = record { movie = record { tiles = record { front = (((record { kind = codes "mvhd"; length = 8; size = 108 }, refl, refl), ((record { kind = codes "trak"; length = 8; size = 455 }, refl, refl), tt)), tt); full = refl }; allowed = (refl, (refl, tt)); quantities = (refl, (lit≤ tt, (tt, (tt, (tt, (tt, tt)))))) }; extends = refl; traks = refl; tracks = (grouped-track, tt) }; moofs = refl; fragments = tt }
+grouped-tree = record { top = record { tiles = record { front = (((record { kind = codes "ftyp"; length = 8; size = 24 }, refl, refl), ((record { kind = codes "moov"; length = 8; size = 571 }, refl, refl), ((record { kind = codes "mdat"; length = 8; size = 20 }, refl, refl), tt))), tt); full = refl }; allowed = (refl, (refl, (refl, tt))); quantities = (refl, (tt, (tt, (tt, (tt, (tt, (tt, tt))))))) }; order = refl; moov = refl; movie = record { movie = record { tiles = record { front = (((record { kind = codes "mvhd"; length = 8; size = 108 }, refl, refl), ((record { kind = codes "trak"; length = 8; size = 455 }, refl, refl), tt)), tt); full = refl }; allowed = (refl, (refl, tt)); quantities = (refl, (lit≤ tt, (tt, (tt, tt)))) }; extends = refl; traks = refl; tracks = (grouped-track, tt) }; moofs = refl; fragments = tt }
 
 grouped-sound : IsSoundFile grouped_file_tree
 grouped-sound = record { movie = record { movie = (record { readable = record { version = refl; flags = refl; room = lit≤ tt }; value = refl; inside = refl; offsets = refl }, (tt, tt)); kept = tt; tracks = (record { track = (record { readable = record { version = refl; flags = refl; room = lit≤ tt }; value = refl; inside = refl; offsets = refl }, (tt, tt)); kept = tt; edits = tt; media = (record { readable = record { version = refl; flags = refl; room = lit≤ tt }; value = refl; inside = refl; offsets = refl }, (record { readable = record { version = refl; flags = refl; room = lit≤ tt }; value = refl; inside = refl; offsets = refl }, (tt, tt))); data_information = (record { readable = record { version = refl; flags = refl; room = lit≤ tt }; value = refl; inside = refl; offsets = refl }, tt); data_references = (record { readable = record { version = refl; flags = refl; room = lit≤ tt }; value = refl; inside = refl; offsets = refl }, tt); urls = (refl, tt); stsd = record { readable = record { version = refl; flags = refl; room = lit≤ tt }; value = refl; inside = refl; offsets = refl }; descriptions = (record { readable = record { version = refl; flags = refl; room = lit≤ tt }; value = refl; inside = refl; offsets = refl }, tt) }, tt); track_ids = refl; extends = tt; trex_ids = refl }; tables = ((record { readable = record { version = refl; flags = refl; room = lit≤ tt }; value = refl; inside = refl; offsets = refl }, (record { readable = record { version = refl; flags = refl; room = lit≤ tt }; value = refl; inside = refl; offsets = refl }, (record { readable = record { version = refl; flags = refl; room = lit≤ tt }; value = refl; inside = refl; offsets = refl }, (record { readable = record { version = refl; flags = refl; room = lit≤ tt }; value = refl; inside = refl; offsets = refl }, (record { readable = record { version = refl; flags = refl; room = lit≤ tt }; value = refl; inside = refl; offsets = refl }, (record { readable = record { version = refl; flags = refl; room = lit≤ tt }; value = refl; inside = refl; offsets = refl }, (record { readable = record { version = refl; flags = refl; room = lit≤ tt }; value = refl; inside = refl; offsets = refl }, (record { readable = record { version = refl; flags = refl; room = lit≤ tt }; value = refl; inside = refl; offsets = refl }, tt)))))))), tt); fragments = tt }
@@ -260,10 +260,10 @@ abbrev grouped_normal_file_tree : FileTree
 grouped_normal_file_tree = record { top = part grouped_normal 0 24 (codes "ftyp") ∷ part grouped_normal 24 583 (codes "moov") ∷ part grouped_normal 607 148 (codes "moof") ∷ part grouped_normal 755 20 (codes "mdat") ∷ []; movie = record { moov = part grouped_normal 24 583 (codes "moov"); movie = part grouped_normal 32 120 (codes "mvhd") ∷ part grouped_normal 152 395 (codes "trak") ∷ part grouped_normal 547 60 (codes "mvex") ∷ []; extends = part grouped_normal 555 20 (codes "mehd") ∷ part grouped_normal 575 32 (codes "trex") ∷ []; tracks = grouped_normal_track_tree ∷ [] }; fragments = record { moof = part grouped_normal 607 148 (codes "moof"); children = part grouped_normal 615 16 (codes "mfhd") ∷ part grouped_normal 631 124 (codes "traf") ∷ []; trafs = (part grouped_normal 639 24 (codes "tfhd") ∷ part grouped_normal 663 20 (codes "tfdt") ∷ part grouped_normal 683 44 (codes "trun") ∷ part grouped_normal 727 28 (codes "sbgp") ∷ []) ∷ [] } ∷ [] }
 
 grouped_normal-track : IsTrackTree grouped_normal_track_tree
-grouped_normal-track = record { track = record { tiles = record { front = (((record { kind = codes "tkhd"; length = 8; size = 104 }, refl, refl), ((record { kind = codes "mdia"; length = 8; size = 283 }, refl, refl), tt)), tt); full = refl }; allowed = (refl, (refl, tt)); quantities = (refl, (refl, (lit≤ tt, (tt, (tt, (tt, tt)))))) }; edits = refl; media = record { tiles = record { front = (((record { kind = codes "mdhd"; length = 8; size = 44 }, refl, refl), ((record { kind = codes "hdlr"; length = 8; size = 33 }, refl, refl), ((record { kind = codes "minf"; length = 8; size = 198 }, refl, refl), tt))), tt); full = refl }; allowed = (refl, (refl, (refl, tt))); quantities = (refl, (refl, (refl, (tt, tt)))) }; information = record { tiles = record { front = (((record { kind = codes "vmhd"; length = 8; size = 20 }, refl, refl), ((record { kind = codes "dinf"; length = 8; size = 36 }, refl, refl), ((record { kind = codes "stbl"; length = 8; size = 134 }, refl, refl), tt))), tt); full = refl }; allowed = (refl, (refl, (refl, tt))); quantities = (refl, (refl, (refl, tt))) }; data_information = record { tiles = record { front = (((record { kind = codes "dref"; length = 8; size = 28 }, refl, refl), tt), tt); full = refl }; allowed = (refl, tt); quantities = (refl, tt) }; data_references = record { front = (((record { kind = codes "url "; length = 8; size = 12 }, refl, refl), tt), lit≤ tt); full = refl }; table = record { tiles = record { front = (((record { kind = codes "stsd"; length = 8; size = 32 }, refl, refl), ((record { kind = codes "stts"; length = 8; size = 16 }, refl, refl), ((record { kind = codes "stsc"; length = 8; size = 16 }, refl, refl), ((record { kind = codes "stsz"; length = 8; size = 20 }, refl, refl), ((record { kind = codes "stco"; length = 8; size = 16 }, refl, refl), ((record { kind = codes "sgpd"; length = 8; size = 26 }, refl, refl), tt)))))), tt); full = refl }; allowed = (refl, (refl, (refl, (refl, (refl, (refl, tt)))))); quantities = (refl, (refl, (refl, (refl, (refl, (lit≤ tt, (lit≤ tt, (lit≤ tt, (lit≤ tt, (tt, (tt, tt))))))))))) }; descriptions = record { front = (((record { kind = codes "mp4v"; length = 8; size = 16 }, refl, refl), tt), lit≤ tt); full = refl } }
+grouped_normal-track = record { track = record { tiles = record { front = (((record { kind = codes "tkhd"; length = 8; size = 104 }, refl, refl), ((record { kind = codes "mdia"; length = 8; size = 283 }, refl, refl), tt)), tt); full = refl }; allowed = (refl, (refl, tt)); quantities = (refl, (refl, (lit≤ tt, (tt, tt)))) }; edits = refl; media = record { tiles = record { front = (((record { kind = codes "mdhd"; length = 8; size = 44 }, refl, refl), ((record { kind = codes "hdlr"; length = 8; size = 33 }, refl, refl), ((record { kind = codes "minf"; length = 8; size = 198 }, refl, refl), tt))), tt); full = refl }; allowed = (refl, (refl, (refl, tt))); quantities = (refl, (refl, (refl, (tt, tt)))) }; information = record { tiles = record { front = (((record { kind = codes "vmhd"; length = 8; size = 20 }, refl, refl), ((record { kind = codes "dinf"; length = 8; size = 36 }, refl, refl), ((record { kind = codes "stbl"; length = 8; size = 134 }, refl, refl), tt))), tt); full = refl }; allowed = (refl, (refl, (refl, tt))); quantities = (refl, (refl, (refl, tt))) }; data_information = record { tiles = record { front = (((record { kind = codes "dref"; length = 8; size = 28 }, refl, refl), tt), tt); full = refl }; allowed = (refl, tt); quantities = (refl, tt) }; data_references = record { front = (((record { kind = codes "url "; length = 8; size = 12 }, refl, refl), tt), lit≤ tt); full = refl }; table = record { tiles = record { front = (((record { kind = codes "stsd"; length = 8; size = 32 }, refl, refl), ((record { kind = codes "stts"; length = 8; size = 16 }, refl, refl), ((record { kind = codes "stsc"; length = 8; size = 16 }, refl, refl), ((record { kind = codes "stsz"; length = 8; size = 20 }, refl, refl), ((record { kind = codes "stco"; length = 8; size = 16 }, refl, refl), ((record { kind = codes "sgpd"; length = 8; size = 26 }, refl, refl), tt)))))), tt); full = refl }; allowed = (refl, (refl, (refl, (refl, (refl, (refl, tt)))))); quantities = (refl, (refl, (refl, (refl, (refl, (lit≤ tt, (lit≤ tt, (lit≤ tt, (lit≤ tt, (tt, (tt, tt))))))))))) }; descriptions = record { front = (((record { kind = codes "mp4v"; length = 8; size = 16 }, refl, refl), tt), lit≤ tt); full = refl } }
 
 grouped_normal-tree : IsFileTree grouped_normal grouped_normal_file_tree
-grouped_normal-tree = record { top = record { tiles = record { front = (((record { kind = codes "ftyp"; length = 8; size = 24 }, refl, refl), ((record { kind = codes "moov"; length = 8; size = 583 }, refl, refl), ((record { kind = codes "moof"; length = 8; size = 148 }, refl, refl), ((record { kind = codes "mdat"; length = 8; size = 20 }, refl, refl), tt)))), tt); full = refl }; allowed = (refl, (refl, (refl, (refl, tt)))); quantities = (refl, (tt, (tt, (tt, (tt, (tt, (tt, tt))))))) }; order = refl; moov = refl; movie = record { movie = record { tiles = record { front = (((record { kind = codes "mvhd"; length = 8; size = 120 }, refl, refl), ((record { kind = codes "trak"; length = 8; size = 395 }, refl, refl), ((record { kind = codes "mvex"; length = 8; size = 60 }, refl, refl), tt))), tt); full = refl }; allowed = (refl, (refl, (refl, tt))); quantities = (refl, (lit≤ tt, (tt, (tt, (tt, (tt, tt)))))) }; extends = record { tiles = record { front = (((record { kind = codes "mehd"; length = 8; size = 20 }, refl, refl), ((record { kind = codes "trex"; length = 8; size = 32 }, refl, refl), tt)), tt); full = refl }; allowed = (refl, (refl, tt)); quantities = (lit≤ tt, (tt, tt)) }; traks = refl; tracks = (grouped_normal-track, tt) }; moofs = refl; fragments = (record { children = record { tiles = record { front = (((record { kind = codes "mfhd"; length = 8; size = 16 }, refl, refl), ((record { kind = codes "traf"; length = 8; size = 124 }, refl, refl), tt)), tt); full = refl }; allowed = (refl, (refl, tt)); quantities = (refl, (tt, tt)) }; trafs = (record { tiles = record { front = (((record { kind = codes "tfhd"; length = 8; size = 24 }, refl, refl), ((record { kind = codes "tfdt"; length = 8; size = 20 }, refl, refl), ((record { kind = codes "trun"; length = 8; size = 44 }, refl, refl), ((record { kind = codes "sbgp"; length = 8; size = 28 }, refl, refl), tt)))), tt); full = refl }; allowed = (refl, (refl, (refl, (refl, tt)))); quantities = (refl, (lit≤ tt, (tt, (tt, tt)))) }, tt) }, tt) }
+grouped_normal-tree = record { top = record { tiles = record { front = (((record { kind = codes "ftyp"; length = 8; size = 24 }, refl, refl), ((record { kind = codes "moov"; length = 8; size = 583 }, refl, refl), ((record { kind = codes "moof"; length = 8; size = 148 }, refl, refl), ((record { kind = codes "mdat"; length = 8; size = 20 }, refl, refl), tt)))), tt); full = refl }; allowed = (refl, (refl, (refl, (refl, tt)))); quantities = (refl, (tt, (tt, (tt, (tt, (tt, (tt, tt))))))) }; order = refl; moov = refl; movie = record { movie = record { tiles = record { front = (((record { kind = codes "mvhd"; length = 8; size = 120 }, refl, refl), ((record { kind = codes "trak"; length = 8; size = 395 }, refl, refl), ((record { kind = codes "mvex"; length = 8; size = 60 }, refl, refl), tt))), tt); full = refl }; allowed = (refl, (refl, (refl, tt))); quantities = (refl, (lit≤ tt, (tt, (tt, tt)))) }; extends = record { tiles = record { front = (((record { kind = codes "mehd"; length = 8; size = 20 }, refl, refl), ((record { kind = codes "trex"; length = 8; size = 32 }, refl, refl), tt)), tt); full = refl }; allowed = (refl, (refl, tt)); quantities = (lit≤ tt, (tt, tt)) }; traks = refl; tracks = (grouped_normal-track, tt) }; moofs = refl; fragments = (record { children = record { tiles = record { front = (((record { kind = codes "mfhd"; length = 8; size = 16 }, refl, refl), ((record { kind = codes "traf"; length = 8; size = 124 }, refl, refl), tt)), tt); full = refl }; allowed = (refl, (refl, tt)); quantities = (refl, (tt, tt)) }; trafs = (record { tiles = record { front = (((record { kind = codes "tfhd"; length = 8; size = 24 }, refl, refl), ((record { kind = codes "tfdt"; length = 8; size = 20 }, refl, refl), ((record { kind = codes "trun"; length = 8; size = 44 }, refl, refl), ((record { kind = codes "sbgp"; length = 8; size = 28 }, refl, refl), tt)))), tt); full = refl }; allowed = (refl, (refl, (refl, (refl, tt)))); quantities = (refl, (lit≤ tt, (tt, (tt, tt)))) }, tt) }, tt) }
 
 grouped_normal-sound : IsSoundFile grouped_normal_file_tree
 grouped_normal-sound = record { movie = record { movie = (record { readable = record { version = refl; flags = refl; room = lit≤ tt }; value = refl; inside = refl; offsets = refl }, (tt, (tt, tt))); kept = tt; tracks = (record { track = (record { readable = record { version = refl; flags = refl; room = lit≤ tt }; value = refl; inside = refl; offsets = refl }, (tt, tt)); kept = tt; edits = tt; media = (record { readable = record { version = refl; flags = refl; room = lit≤ tt }; value = refl; inside = refl; offsets = refl }, (record { readable = record { version = refl; flags = refl; room = lit≤ tt }; value = refl; inside = refl; offsets = refl }, (tt, tt))); data_information = (record { readable = record { version = refl; flags = refl; room = lit≤ tt }; value = refl; inside = refl; offsets = refl }, tt); data_references = (record { readable = record { version = refl; flags = refl; room = lit≤ tt }; value = refl; inside = refl; offsets = refl }, tt); urls = (refl, tt); stsd = record { readable = record { version = refl; flags = refl; room = lit≤ tt }; value = refl; inside = refl; offsets = refl }; descriptions = (record { readable = record { version = refl; flags = refl; room = lit≤ tt }; value = refl; inside = refl; offsets = refl }, tt) }, tt); track_ids = refl; extends = (tt, (record { readable = record { version = refl; flags = refl; room = lit≤ tt }; value = refl; inside = refl; offsets = refl }, tt)); trex_ids = refl }; tables = ((record { readable = record { version = refl; flags = refl; room = lit≤ tt }; value = refl; inside = refl; offsets = refl }, (record { readable = record { version = refl; flags = refl; room = lit≤ tt }; value = refl; inside = refl; offsets = refl }, (record { readable = record { version = refl; flags = refl; room = lit≤ tt }; value = refl; inside = refl; offsets = refl }, (record { readable = record { version = refl; flags = refl; room = lit≤ tt }; value = refl; inside = refl; offsets = refl }, (record { readable = record { version = refl; flags = refl; room = lit≤ tt }; value = refl; inside = refl; offsets = refl }, (record { readable = record { version = refl; flags = refl; room = lit≤ tt }; value = refl; inside = refl; offsets = refl }, tt)))))), tt); fragments = (((record { readable = record { version = refl; flags = refl; room = lit≤ tt }; value = refl; inside = refl; offsets = refl }, (record { readable = record { version = refl; flags = refl; room = lit≤ tt }; value = refl; inside = refl; offsets = refl }, (record { readable = record { version = refl; flags = refl; room = lit≤ tt }; value = refl; inside = refl; offsets = refl }, (record { readable = record { version = refl; flags = refl; room = lit≤ tt }; value = refl; inside = refl; offsets = refl }, tt)))), tt), tt) }
@@ -299,10 +299,10 @@ abbrev keyed_file_tree : FileTree
 keyed_file_tree = record { top = part keyed 0 24 (codes "ftyp") ∷ part keyed 24 583 (codes "moov") ∷ part keyed 607 216 (codes "moof") ∷ part keyed 823 20 (codes "mdat") ∷ []; movie = record { moov = part keyed 24 583 (codes "moov"); movie = part keyed 32 120 (codes "mvhd") ∷ part keyed 152 395 (codes "trak") ∷ part keyed 547 60 (codes "mvex") ∷ []; extends = part keyed 555 20 (codes "mehd") ∷ part keyed 575 32 (codes "trex") ∷ []; tracks = keyed_track_tree ∷ [] }; fragments = record { moof = part keyed 607 216 (codes "moof"); children = part keyed 615 16 (codes "mfhd") ∷ part keyed 631 192 (codes "traf") ∷ []; trafs = (part keyed 639 24 (codes "tfhd") ∷ part keyed 663 20 (codes "tfdt") ∷ part keyed 683 44 (codes "trun") ∷ part keyed 727 28 (codes "sbgp") ∷ part keyed 755 40 (codes "sbgp") ∷ part keyed 795 28 (codes "sbgp") ∷ []) ∷ [] } ∷ [] }
 
 keyed-track : IsTrackTree keyed_track_tree
-keyed-track = record { track = record { tiles = record { front = (((record { kind = codes "tkhd"; length = 8; size = 104 }, refl, refl), ((record { kind = codes "mdia"; length = 8; size = 283 }, refl, refl), tt)), tt); full = refl }; allowed = (refl, (refl, tt)); quantities = (refl, (refl, (lit≤ tt, (tt, (tt, (tt, tt)))))) }; edits = refl; media = record { tiles = record { front = (((record { kind = codes "mdhd"; length = 8; size = 44 }, refl, refl), ((record { kind = codes "hdlr"; length = 8; size = 33 }, refl, refl), ((record { kind = codes "minf"; length = 8; size = 198 }, refl, refl), tt))), tt); full = refl }; allowed = (refl, (refl, (refl, tt))); quantities = (refl, (refl, (refl, (tt, tt)))) }; information = record { tiles = record { front = (((record { kind = codes "vmhd"; length = 8; size = 20 }, refl, refl), ((record { kind = codes "dinf"; length = 8; size = 36 }, refl, refl), ((record { kind = codes "stbl"; length = 8; size = 134 }, refl, refl), tt))), tt); full = refl }; allowed = (refl, (refl, (refl, tt))); quantities = (refl, (refl, (refl, tt))) }; data_information = record { tiles = record { front = (((record { kind = codes "dref"; length = 8; size = 28 }, refl, refl), tt), tt); full = refl }; allowed = (refl, tt); quantities = (refl, tt) }; data_references = record { front = (((record { kind = codes "url "; length = 8; size = 12 }, refl, refl), tt), lit≤ tt); full = refl }; table = record { tiles = record { front = (((record { kind = codes "stsd"; length = 8; size = 32 }, refl, refl), ((record { kind = codes "stts"; length = 8; size = 16 }, refl, refl), ((record { kind = codes "stsc"; length = 8; size = 16 }, refl, refl), ((record { kind = codes "stsz"; length = 8; size = 20 }, refl, refl), ((record { kind = codes "stco"; length = 8; size = 16 }, refl, refl), ((record { kind = codes "sgpd"; length = 8; size = 26 }, refl, refl), tt)))))), tt); full = refl }; allowed = (refl, (refl, (refl, (refl, (refl, (refl, tt)))))); quantities = (refl, (refl, (refl, (refl, (refl, (lit≤ tt, (lit≤ tt, (lit≤ tt, (lit≤ tt, (tt, (tt, tt))))))))))) }; descriptions = record { front = (((record { kind = codes "mp4v"; length = 8; size = 16 }, refl, refl), tt), lit≤ tt); full = refl } }
+keyed-track = record { track = record { tiles = record { front = (((record { kind = codes "tkhd"; length = 8; size = 104 }, refl, refl), ((record { kind = codes "mdia"; length = 8; size = 283 }, refl, refl), tt)), tt); full = refl }; allowed = (refl, (refl, tt)); quantities = (refl, (refl, (lit≤ tt, (tt, tt)))) }; edits = refl; media = record { tiles = record { front = (((record { kind = codes "mdhd"; length = 8; size = 44 }, refl, refl), ((record { kind = codes "hdlr"; length = 8; size = 33 }, refl, refl), ((record { kind = codes "minf"; length = 8; size = 198 }, refl, refl), tt))), tt); full = refl }; allowed = (refl, (refl, (refl, tt))); quantities = (refl, (refl, (refl, (tt, tt)))) }; information = record { tiles = record { front = (((record { kind = codes "vmhd"; length = 8; size = 20 }, refl, refl), ((record { kind = codes "dinf"; length = 8; size = 36 }, refl, refl), ((record { kind = codes "stbl"; length = 8; size = 134 }, refl, refl), tt))), tt); full = refl }; allowed = (refl, (refl, (refl, tt))); quantities = (refl, (refl, (refl, tt))) }; data_information = record { tiles = record { front = (((record { kind = codes "dref"; length = 8; size = 28 }, refl, refl), tt), tt); full = refl }; allowed = (refl, tt); quantities = (refl, tt) }; data_references = record { front = (((record { kind = codes "url "; length = 8; size = 12 }, refl, refl), tt), lit≤ tt); full = refl }; table = record { tiles = record { front = (((record { kind = codes "stsd"; length = 8; size = 32 }, refl, refl), ((record { kind = codes "stts"; length = 8; size = 16 }, refl, refl), ((record { kind = codes "stsc"; length = 8; size = 16 }, refl, refl), ((record { kind = codes "stsz"; length = 8; size = 20 }, refl, refl), ((record { kind = codes "stco"; length = 8; size = 16 }, refl, refl), ((record { kind = codes "sgpd"; length = 8; size = 26 }, refl, refl), tt)))))), tt); full = refl }; allowed = (refl, (refl, (refl, (refl, (refl, (refl, tt)))))); quantities = (refl, (refl, (refl, (refl, (refl, (lit≤ tt, (lit≤ tt, (lit≤ tt, (lit≤ tt, (tt, (tt, tt))))))))))) }; descriptions = record { front = (((record { kind = codes "mp4v"; length = 8; size = 16 }, refl, refl), tt), lit≤ tt); full = refl } }
 
 keyed-tree : IsFileTree keyed keyed_file_tree
-keyed-tree = record { top = record { tiles = record { front = (((record { kind = codes "ftyp"; length = 8; size = 24 }, refl, refl), ((record { kind = codes "moov"; length = 8; size = 583 }, refl, refl), ((record { kind = codes "moof"; length = 8; size = 216 }, refl, refl), ((record { kind = codes "mdat"; length = 8; size = 20 }, refl, refl), tt)))), tt); full = refl }; allowed = (refl, (refl, (refl, (refl, tt)))); quantities = (refl, (tt, (tt, (tt, (tt, (tt, (tt, tt))))))) }; order = refl; moov = refl; movie = record { movie = record { tiles = record { front = (((record { kind = codes "mvhd"; length = 8; size = 120 }, refl, refl), ((record { kind = codes "trak"; length = 8; size = 395 }, refl, refl), ((record { kind = codes "mvex"; length = 8; size = 60 }, refl, refl), tt))), tt); full = refl }; allowed = (refl, (refl, (refl, tt))); quantities = (refl, (lit≤ tt, (tt, (tt, (tt, (tt, tt)))))) }; extends = record { tiles = record { front = (((record { kind = codes "mehd"; length = 8; size = 20 }, refl, refl), ((record { kind = codes "trex"; length = 8; size = 32 }, refl, refl), tt)), tt); full = refl }; allowed = (refl, (refl, tt)); quantities = (lit≤ tt, (tt, tt)) }; traks = refl; tracks = (keyed-track, tt) }; moofs = refl; fragments = (record { children = record { tiles = record { front = (((record { kind = codes "mfhd"; length = 8; size = 16 }, refl, refl), ((record { kind = codes "traf"; length = 8; size = 192 }, refl, refl), tt)), tt); full = refl }; allowed = (refl, (refl, tt)); quantities = (refl, (tt, tt)) }; trafs = (record { tiles = record { front = (((record { kind = codes "tfhd"; length = 8; size = 24 }, refl, refl), ((record { kind = codes "tfdt"; length = 8; size = 20 }, refl, refl), ((record { kind = codes "trun"; length = 8; size = 44 }, refl, refl), ((record { kind = codes "sbgp"; length = 8; size = 28 }, refl, refl), ((record { kind = codes "sbgp"; length = 8; size = 40 }, refl, refl), ((record { kind = codes "sbgp"; length = 8; size = 28 }, refl, refl), tt)))))), tt); full = refl }; allowed = (refl, (refl, (refl, (refl, (refl, (refl, tt)))))); quantities = (refl, (lit≤ tt, (tt, (tt, tt)))) }, tt) }, tt) }
+keyed-tree = record { top = record { tiles = record { front = (((record { kind = codes "ftyp"; length = 8; size = 24 }, refl, refl), ((record { kind = codes "moov"; length = 8; size = 583 }, refl, refl), ((record { kind = codes "moof"; length = 8; size = 216 }, refl, refl), ((record { kind = codes "mdat"; length = 8; size = 20 }, refl, refl), tt)))), tt); full = refl }; allowed = (refl, (refl, (refl, (refl, tt)))); quantities = (refl, (tt, (tt, (tt, (tt, (tt, (tt, tt))))))) }; order = refl; moov = refl; movie = record { movie = record { tiles = record { front = (((record { kind = codes "mvhd"; length = 8; size = 120 }, refl, refl), ((record { kind = codes "trak"; length = 8; size = 395 }, refl, refl), ((record { kind = codes "mvex"; length = 8; size = 60 }, refl, refl), tt))), tt); full = refl }; allowed = (refl, (refl, (refl, tt))); quantities = (refl, (lit≤ tt, (tt, (tt, tt)))) }; extends = record { tiles = record { front = (((record { kind = codes "mehd"; length = 8; size = 20 }, refl, refl), ((record { kind = codes "trex"; length = 8; size = 32 }, refl, refl), tt)), tt); full = refl }; allowed = (refl, (refl, tt)); quantities = (lit≤ tt, (tt, tt)) }; traks = refl; tracks = (keyed-track, tt) }; moofs = refl; fragments = (record { children = record { tiles = record { front = (((record { kind = codes "mfhd"; length = 8; size = 16 }, refl, refl), ((record { kind = codes "traf"; length = 8; size = 192 }, refl, refl), tt)), tt); full = refl }; allowed = (refl, (refl, tt)); quantities = (refl, (tt, tt)) }; trafs = (record { tiles = record { front = (((record { kind = codes "tfhd"; length = 8; size = 24 }, refl, refl), ((record { kind = codes "tfdt"; length = 8; size = 20 }, refl, refl), ((record { kind = codes "trun"; length = 8; size = 44 }, refl, refl), ((record { kind = codes "sbgp"; length = 8; size = 28 }, refl, refl), ((record { kind = codes "sbgp"; length = 8; size = 40 }, refl, refl), ((record { kind = codes "sbgp"; length = 8; size = 28 }, refl, refl), tt)))))), tt); full = refl }; allowed = (refl, (refl, (refl, (refl, (refl, (refl, tt)))))); quantities = (refl, (lit≤ tt, (tt, (tt, tt)))) }, tt) }, tt) }
 
 keyed-sound : IsSoundFile keyed_file_tree
 keyed-sound = record { movie = record { movie = (record { readable = record { version = refl; flags = refl; room = lit≤ tt }; value = refl; inside = refl; offsets = refl }, (tt, (tt, tt))); kept = tt; tracks = (record { track = (record { readable = record { version = refl; flags = refl; room = lit≤ tt }; value = refl; inside = refl; offsets = refl }, (tt, tt)); kept = tt; edits = tt; media = (record { readable = record { version = refl; flags = refl; room = lit≤ tt }; value = refl; inside = refl; offsets = refl }, (record { readable = record { version = refl; flags = refl; room = lit≤ tt }; value = refl; inside = refl; offsets = refl }, (tt, tt))); data_information = (record { readable = record { version = refl; flags = refl; room = lit≤ tt }; value = refl; inside = refl; offsets = refl }, tt); data_references = (record { readable = record { version = refl; flags = refl; room = lit≤ tt }; value = refl; inside = refl; offsets = refl }, tt); urls = (refl, tt); stsd = record { readable = record { version = refl; flags = refl; room = lit≤ tt }; value = refl; inside = refl; offsets = refl }; descriptions = (record { readable = record { version = refl; flags = refl; room = lit≤ tt }; value = refl; inside = refl; offsets = refl }, tt) }, tt); track_ids = refl; extends = (tt, (record { readable = record { version = refl; flags = refl; room = lit≤ tt }; value = refl; inside = refl; offsets = refl }, tt)); trex_ids = refl }; tables = ((record { readable = record { version = refl; flags = refl; room = lit≤ tt }; value = refl; inside = refl; offsets = refl }, (record { readable = record { version = refl; flags = refl; room = lit≤ tt }; value = refl; inside = refl; offsets = refl }, (record { readable = record { version = refl; flags = refl; room = lit≤ tt }; value = refl; inside = refl; offsets = refl }, (record { readable = record { version = refl; flags = refl; room = lit≤ tt }; value = refl; inside = refl; offsets = refl }, (record { readable = record { version = refl; flags = refl; room = lit≤ tt }; value = refl; inside = refl; offsets = refl }, (record { readable = record { version = refl; flags = refl; room = lit≤ tt }; value = refl; inside = refl; offsets = refl }, tt)))))), tt); fragments = (((record { readable = record { version = refl; flags = refl; room = lit≤ tt }; value = refl; inside = refl; offsets = refl }, (record { readable = record { version = refl; flags = refl; room = lit≤ tt }; value = refl; inside = refl; offsets = refl }, (record { readable = record { version = refl; flags = refl; room = lit≤ tt }; value = refl; inside = refl; offsets = refl }, (record { readable = record { version = refl; flags = refl; room = lit≤ tt }; value = refl; inside = refl; offsets = refl }, (record { readable = record { version = refl; flags = refl; room = lit≤ tt }; value = refl; inside = refl; offsets = refl }, (record { readable = record { version = refl; flags = refl; room = lit≤ tt }; value = refl; inside = refl; offsets = refl }, tt)))))), tt), tt) }
@@ -346,10 +346,10 @@ abbrev two_grouped_file_tree : FileTree
 two_grouped_file_tree = record { top = part two_grouped 0 24 (codes "ftyp") ∷ part two_grouped 24 571 (codes "moov") ∷ part two_grouped 595 20 (codes "mdat") ∷ []; movie = record { moov = part two_grouped 24 571 (codes "moov"); movie = part two_grouped 32 108 (codes "mvhd") ∷ part two_grouped 140 455 (codes "trak") ∷ []; extends = []; tracks = two_grouped_track_tree ∷ [] }; fragments = [] }
 
 two_grouped-track : IsTrackTree two_grouped_track_tree
-two_grouped-track = record { track = record { tiles = record { front = (((record { kind = codes "tkhd"; length = 8; size = 92 }, refl, refl), ((record { kind = codes "mdia"; length = 8; size = 355 }, refl, refl), tt)), tt); full = refl }; allowed = (refl, (refl, tt)); quantities = (refl, (refl, (lit≤ tt, (tt, (tt, (tt, tt)))))) }; edits = refl; media = record { tiles = record { front = (((record { kind = codes "mdhd"; length = 8; size = 32 }, refl, refl), ((record { kind = codes "hdlr"; length = 8; size = 33 }, refl, refl), ((record { kind = codes "minf"; length = 8; size = 282 }, refl, refl), tt))), tt); full = refl }; allowed = (refl, (refl, (refl, tt))); quantities = (refl, (refl, (refl, (tt, tt)))) }; information = record { tiles = record { front = (((record { kind = codes "vmhd"; length = 8; size = 20 }, refl, refl), ((record { kind = codes "dinf"; length = 8; size = 36 }, refl, refl), ((record { kind = codes "stbl"; length = 8; size = 218 }, refl, refl), tt))), tt); full = refl }; allowed = (refl, (refl, (refl, tt))); quantities = (refl, (refl, (refl, tt))) }; data_information = record { tiles = record { front = (((record { kind = codes "dref"; length = 8; size = 28 }, refl, refl), tt), tt); full = refl }; allowed = (refl, tt); quantities = (refl, tt) }; data_references = record { front = (((record { kind = codes "url "; length = 8; size = 12 }, refl, refl), tt), lit≤ tt); full = refl }; table = record { tiles = record { front = (((record { kind = codes "stsd"; length = 8; size = 32 }, refl, refl), ((record { kind = codes "stts"; length = 8; size = 24 }, refl, refl), ((record { kind = codes "stss"; length = 8; size = 20 }, refl, refl), ((record { kind = codes "stsc"; length = 8; size = 28 }, refl, refl), ((record { kind = codes "stsz"; length = 8; size = 32 }, refl, refl), ((record { kind = codes "stco"; length = 8; size = 20 }, refl, refl), ((record { kind = codes "sgpd"; length = 8; size = 26 }, refl, refl), ((record { kind = codes "sbgp"; length = 8; size = 28 }, refl, refl), tt)))))))), tt); full = refl }; allowed = (refl, (refl, (refl, (refl, (refl, (refl, (refl, (refl, tt)))))))); quantities = (refl, (refl, (refl, (refl, (refl, (lit≤ tt, (lit≤ tt, (lit≤ tt, (lit≤ tt, (tt, (tt, tt))))))))))) }; descriptions = record { front = (((record { kind = codes "mp4v"; length = 8; size = 16 }, refl, refl), tt), lit≤ tt); full = refl } }
+two_grouped-track = record { track = record { tiles = record { front = (((record { kind = codes "tkhd"; length = 8; size = 92 }, refl, refl), ((record { kind = codes "mdia"; length = 8; size = 355 }, refl, refl), tt)), tt); full = refl }; allowed = (refl, (refl, tt)); quantities = (refl, (refl, (lit≤ tt, (tt, tt)))) }; edits = refl; media = record { tiles = record { front = (((record { kind = codes "mdhd"; length = 8; size = 32 }, refl, refl), ((record { kind = codes "hdlr"; length = 8; size = 33 }, refl, refl), ((record { kind = codes "minf"; length = 8; size = 282 }, refl, refl), tt))), tt); full = refl }; allowed = (refl, (refl, (refl, tt))); quantities = (refl, (refl, (refl, (tt, tt)))) }; information = record { tiles = record { front = (((record { kind = codes "vmhd"; length = 8; size = 20 }, refl, refl), ((record { kind = codes "dinf"; length = 8; size = 36 }, refl, refl), ((record { kind = codes "stbl"; length = 8; size = 218 }, refl, refl), tt))), tt); full = refl }; allowed = (refl, (refl, (refl, tt))); quantities = (refl, (refl, (refl, tt))) }; data_information = record { tiles = record { front = (((record { kind = codes "dref"; length = 8; size = 28 }, refl, refl), tt), tt); full = refl }; allowed = (refl, tt); quantities = (refl, tt) }; data_references = record { front = (((record { kind = codes "url "; length = 8; size = 12 }, refl, refl), tt), lit≤ tt); full = refl }; table = record { tiles = record { front = (((record { kind = codes "stsd"; length = 8; size = 32 }, refl, refl), ((record { kind = codes "stts"; length = 8; size = 24 }, refl, refl), ((record { kind = codes "stss"; length = 8; size = 20 }, refl, refl), ((record { kind = codes "stsc"; length = 8; size = 28 }, refl, refl), ((record { kind = codes "stsz"; length = 8; size = 32 }, refl, refl), ((record { kind = codes "stco"; length = 8; size = 20 }, refl, refl), ((record { kind = codes "sgpd"; length = 8; size = 26 }, refl, refl), ((record { kind = codes "sbgp"; length = 8; size = 28 }, refl, refl), tt)))))))), tt); full = refl }; allowed = (refl, (refl, (refl, (refl, (refl, (refl, (refl, (refl, tt)))))))); quantities = (refl, (refl, (refl, (refl, (refl, (lit≤ tt, (lit≤ tt, (lit≤ tt, (lit≤ tt, (tt, (tt, tt))))))))))) }; descriptions = record { front = (((record { kind = codes "mp4v"; length = 8; size = 16 }, refl, refl), tt), lit≤ tt); full = refl } }
 
 two_grouped-tree : IsFileTree two_grouped two_grouped_file_tree
-two_grouped-tree = record { top = record { tiles = record { front = (((record { kind = codes "ftyp"; length = 8; size = 24 }, refl, refl), ((record { kind = codes "moov"; length = 8; size = 571 }, refl, refl), ((record { kind = codes "mdat"; length = 8; size = 20 }, refl, refl), tt))), tt); full = refl }; allowed = (refl, (refl, (refl, tt))); quantities = (refl, (tt, (tt, (tt, (tt, (tt, (tt, tt))))))) }; order = refl; moov = refl; movie = record { movie = record { tiles = record { front = (((record { kind = codes "mvhd"; length = 8; size = 108 }, refl, refl), ((record { kind = codes "trak"; length = 8; size = 455 }, refl, refl), tt)), tt); full = refl }; allowed = (refl, (refl, tt)); quantities = (refl, (lit≤ tt, (tt, (tt, (tt, (tt, tt)))))) }; extends = refl; traks = refl; tracks = (two_grouped-track, tt) }; moofs = refl; fragments = tt }
+two_grouped-tree = record { top = record { tiles = record { front = (((record { kind = codes "ftyp"; length = 8; size = 24 }, refl, refl), ((record { kind = codes "moov"; length = 8; size = 571 }, refl, refl), ((record { kind = codes "mdat"; length = 8; size = 20 }, refl, refl), tt))), tt); full = refl }; allowed = (refl, (refl, (refl, tt))); quantities = (refl, (tt, (tt, (tt, (tt, (tt, (tt, tt))))))) }; order = refl; moov = refl; movie = record { movie = record { tiles = record { front = (((record { kind = codes "mvhd"; length = 8; size = 108 }, refl, refl), ((record { kind = codes "trak"; length = 8; size = 455 }, refl, refl), tt)), tt); full = refl }; allowed = (refl, (refl, tt)); quantities = (refl, (lit≤ tt, (tt, (tt, tt)))) }; extends = refl; traks = refl; tracks = (two_grouped-track, tt) }; moofs = refl; fragments = tt }
 
 two_grouped-sound : IsSoundFile two_grouped_file_tree
 two_grouped-sound = record { movie = record { movie = (record { readable = record { version = refl; flags = refl; room = lit≤ tt }; value = refl; inside = refl; offsets = refl }, (tt, tt)); kept = tt; tracks = (record { track = (record { readable = record { version = refl; flags = refl; room = lit≤ tt }; value = refl; inside = refl; offsets = refl }, (tt, tt)); kept = tt; edits = tt; media = (record { readable = record { version = refl; flags = refl; room = lit≤ tt }; value = refl; inside = refl; offsets = refl }, (record { readable = record { version = refl; flags = refl; room = lit≤ tt }; value = refl; inside = refl; offsets = refl }, (tt, tt))); data_information = (record { readable = record { version = refl; flags = refl; room = lit≤ tt }; value = refl; inside = refl; offsets = refl }, tt); data_references = (record { readable = record { version = refl; flags = refl; room = lit≤ tt }; value = refl; inside = refl; offsets = refl }, tt); urls = (refl, tt); stsd = record { readable = record { version = refl; flags = refl; room = lit≤ tt }; value = refl; inside = refl; offsets = refl }; descriptions = (record { readable = record { version = refl; flags = refl; room = lit≤ tt }; value = refl; inside = refl; offsets = refl }, tt) }, tt); track_ids = refl; extends = tt; trex_ids = refl }; tables = ((record { readable = record { version = refl; flags = refl; room = lit≤ tt }; value = refl; inside = refl; offsets = refl }, (record { readable = record { version = refl; flags = refl; room = lit≤ tt }; value = refl; inside = refl; offsets = refl }, (record { readable = record { version = refl; flags = refl; room = lit≤ tt }; value = refl; inside = refl; offsets = refl }, (record { readable = record { version = refl; flags = refl; room = lit≤ tt }; value = refl; inside = refl; offsets = refl }, (record { readable = record { version = refl; flags = refl; room = lit≤ tt }; value = refl; inside = refl; offsets = refl }, (record { readable = record { version = refl; flags = refl; room = lit≤ tt }; value = refl; inside = refl; offsets = refl }, (record { readable = record { version = refl; flags = refl; room = lit≤ tt }; value = refl; inside = refl; offsets = refl }, (record { readable = record { version = refl; flags = refl; room = lit≤ tt }; value = refl; inside = refl; offsets = refl }, tt)))))))), tt); fragments = tt }

@@ -3,9 +3,9 @@ use Rattle.std.proofs.Common.{◌≡◌, ℕ, Bool, true, false, List, [], ◌�
 use Rattle.std.specs.Prelude.{codes, bytes_eq, slice_index, ◌||◌}
 use Rattle.std.specs.List.{list_any}
 use Rattle.mp4_boxes.specs.Box.{Box}
-use Rattle.mp4_boxes.specs.Children.{of_kind}
+use Rattle.mp4_boxes.specs.Children.{of_kind, kept_kinds}
 use Rattle.mp4_boxes.specs.Layout.{Leaf, tkhd, data_entry_url, sample_entry, trex, leaf_fields, IsSound}
-use Rattle.mp4_boxes.specs.Places.{Scope, ruled, data_entries, sample_entries, Place, whole, at_kind, leaves, leaf_of, kept_kinds, IsSoundAs, AreSound, StandsIn}
+use Rattle.mp4_boxes.specs.Places.{Scope, ruled, data_entries, sample_entries, Place, whole, at_kind, leaves, leaf_of, IsSoundAs, AreSound, StandsIn}
 use Rattle.mp4_boxes.specs.BoxFaults.{IsLeafFault}
 use Rattle.mp4_boxes.specs.declared.rule.Rule.TheVariants.{File, Movie, Track, Edits, Media, MediaInformation, DataInformation, SampleTable, MovieExtends, MovieFragment, TrackFragment}
 use Rattle.mp4_boxes.specs.declared.fault.Fault.{Fault}

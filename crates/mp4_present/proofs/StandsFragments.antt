@@ -23,7 +23,7 @@ unknown_behind = record {
   is_moof = refl;
   movie = record { moov = part unknown 0 116 (codes "moov"); movie = part unknown 8 108 (codes "mvhd") ∷ []; extends = []; tracks = [] };
   is_moov = refl;
-  movie_tree = record { movie = record { tiles = record { front = (((says (codes "mvhd") 108, refl, refl), tt), tt); full = refl }; allowed = (refl, tt); quantities = (refl, (lit≤ tt, (tt, (tt, (tt, (tt, tt)))))) }; extends = refl; traks = refl; tracks = tt };
+  movie_tree = record { movie = record { tiles = record { front = (((says (codes "mvhd") 108, refl, refl), tt), tt); full = refl }; allowed = (refl, tt); quantities = (refl, (lit≤ tt, (tt, (tt, tt)))) }; extends = refl; traks = refl; tracks = tt };
   movie_sound = record { movie = (record { readable = record { version = refl; flags = refl; room = lit≤ tt }; value = refl; inside = refl; offsets = refl }, tt); kept = tt; tracks = tt; track_ids = refl; extends = tt; trex_ids = refl };
   tables_sound = tt;
   tables_fit = tt;
@@ -65,7 +65,7 @@ abbrev second_entry_track_tree : TrackTree
 second_entry_track_tree = record { trak = part second_entry 152 369 (codes "trak"); track = part second_entry 160 104 (codes "tkhd") ∷ part second_entry 264 257 (codes "mdia") ∷ []; edits = []; media = part second_entry 272 44 (codes "mdhd") ∷ part second_entry 316 33 (codes "hdlr") ∷ part second_entry 349 172 (codes "minf") ∷ []; information = part second_entry 357 20 (codes "vmhd") ∷ part second_entry 377 36 (codes "dinf") ∷ part second_entry 413 108 (codes "stbl") ∷ []; data_information = part second_entry 385 28 (codes "dref") ∷ []; data_references = part second_entry 401 12 (codes "url ") ∷ []; table = part second_entry 421 32 (codes "stsd") ∷ part second_entry 453 16 (codes "stts") ∷ part second_entry 469 16 (codes "stsc") ∷ part second_entry 485 20 (codes "stsz") ∷ part second_entry 505 16 (codes "stco") ∷ []; descriptions = part second_entry 437 16 (codes "mp4v") ∷ [] }
 
 second_entry-track : IsTrackTree second_entry_track_tree
-second_entry-track = record { track = record { tiles = record { front = (((says (codes "tkhd") 104, refl, refl), ((says (codes "mdia") 257, refl, refl), tt)), tt); full = refl }; allowed = (refl, (refl, tt)); quantities = (refl, (refl, (lit≤ tt, (tt, (tt, (tt, tt)))))) }; edits = refl; media = record { tiles = record { front = (((says (codes "mdhd") 44, refl, refl), ((says (codes "hdlr") 33, refl, refl), ((says (codes "minf") 172, refl, refl), tt))), tt); full = refl }; allowed = (refl, (refl, (refl, tt))); quantities = (refl, (refl, (refl, (tt, tt)))) }; information = record { tiles = record { front = (((says (codes "vmhd") 20, refl, refl), ((says (codes "dinf") 36, refl, refl), ((says (codes "stbl") 108, refl, refl), tt))), tt); full = refl }; allowed = (refl, (refl, (refl, tt))); quantities = (refl, (refl, (refl, tt))) }; data_information = record { tiles = record { front = (((says (codes "dref") 28, refl, refl), tt), tt); full = refl }; allowed = (refl, tt); quantities = (refl, tt) }; data_references = record { front = (((says (codes "url ") 12, refl, refl), tt), lit≤ tt); full = refl }; table = record { tiles = record { front = (((says (codes "stsd") 32, refl, refl), ((says (codes "stts") 16, refl, refl), ((says (codes "stsc") 16, refl, refl), ((says (codes "stsz") 20, refl, refl), ((says (codes "stco") 16, refl, refl), tt))))), tt); full = refl }; allowed = (refl, (refl, (refl, (refl, (refl, tt))))); quantities = (refl, (refl, (refl, (refl, (refl, (lit≤ tt, (lit≤ tt, (lit≤ tt, (lit≤ tt, (tt, (tt, tt))))))))))) }; descriptions = record { front = (((says (codes "mp4v") 16, refl, refl), tt), lit≤ tt); full = refl } }
+second_entry-track = record { track = record { tiles = record { front = (((says (codes "tkhd") 104, refl, refl), ((says (codes "mdia") 257, refl, refl), tt)), tt); full = refl }; allowed = (refl, (refl, tt)); quantities = (refl, (refl, (lit≤ tt, (tt, tt)))) }; edits = refl; media = record { tiles = record { front = (((says (codes "mdhd") 44, refl, refl), ((says (codes "hdlr") 33, refl, refl), ((says (codes "minf") 172, refl, refl), tt))), tt); full = refl }; allowed = (refl, (refl, (refl, tt))); quantities = (refl, (refl, (refl, (tt, tt)))) }; information = record { tiles = record { front = (((says (codes "vmhd") 20, refl, refl), ((says (codes "dinf") 36, refl, refl), ((says (codes "stbl") 108, refl, refl), tt))), tt); full = refl }; allowed = (refl, (refl, (refl, tt))); quantities = (refl, (refl, (refl, tt))) }; data_information = record { tiles = record { front = (((says (codes "dref") 28, refl, refl), tt), tt); full = refl }; allowed = (refl, tt); quantities = (refl, tt) }; data_references = record { front = (((says (codes "url ") 12, refl, refl), tt), lit≤ tt); full = refl }; table = record { tiles = record { front = (((says (codes "stsd") 32, refl, refl), ((says (codes "stts") 16, refl, refl), ((says (codes "stsc") 16, refl, refl), ((says (codes "stsz") 20, refl, refl), ((says (codes "stco") 16, refl, refl), tt))))), tt); full = refl }; allowed = (refl, (refl, (refl, (refl, (refl, tt))))); quantities = (refl, (refl, (refl, (refl, (refl, (lit≤ tt, (lit≤ tt, (lit≤ tt, (lit≤ tt, (tt, (tt, tt))))))))))) }; descriptions = record { front = (((says (codes "mp4v") 16, refl, refl), tt), lit≤ tt); full = refl } }
 
 second_entry-fit : Fit (surroundings second_entry second_entry_track_tree) (tables_of (second_entry_track_tree).table)
 second_entry-fit dependency_room = refl
@@ -86,7 +86,7 @@ second_entry_behind = record {
   is_moof = refl;
   movie = record { moov = part second_entry 24 557 (codes "moov"); movie = part second_entry 32 120 (codes "mvhd") ∷ part second_entry 152 369 (codes "trak") ∷ part second_entry 521 60 (codes "mvex") ∷ []; extends = part second_entry 529 20 (codes "mehd") ∷ part second_entry 549 32 (codes "trex") ∷ []; tracks = second_entry_track_tree ∷ [] };
   is_moov = refl;
-  movie_tree = record { movie = record { tiles = record { front = (((says (codes "mvhd") 120, refl, refl), ((says (codes "trak") 369, refl, refl), ((says (codes "mvex") 60, refl, refl), tt))), tt); full = refl }; allowed = (refl, (refl, (refl, tt))); quantities = (refl, (lit≤ tt, (tt, (tt, (tt, (tt, tt)))))) }; extends = record { tiles = record { front = (((says (codes "mehd") 20, refl, refl), ((says (codes "trex") 32, refl, refl), tt)), tt); full = refl }; allowed = (refl, (refl, tt)); quantities = (lit≤ tt, (tt, tt)) }; traks = refl; tracks = (second_entry-track, tt) };
+  movie_tree = record { movie = record { tiles = record { front = (((says (codes "mvhd") 120, refl, refl), ((says (codes "trak") 369, refl, refl), ((says (codes "mvex") 60, refl, refl), tt))), tt); full = refl }; allowed = (refl, (refl, (refl, tt))); quantities = (refl, (lit≤ tt, (tt, (tt, tt)))) }; extends = record { tiles = record { front = (((says (codes "mehd") 20, refl, refl), ((says (codes "trex") 32, refl, refl), tt)), tt); full = refl }; allowed = (refl, (refl, tt)); quantities = (lit≤ tt, (tt, tt)) }; traks = refl; tracks = (second_entry-track, tt) };
   movie_sound = record { movie = (record { readable = record { version = refl; flags = refl; room = lit≤ tt }; value = refl; inside = refl; offsets = refl }, (tt, (tt, tt))); kept = tt; tracks = (record { track = (record { readable = record { version = refl; flags = refl; room = lit≤ tt }; value = refl; inside = refl; offsets = refl }, (tt, tt)); kept = tt; edits = tt; media = (record { readable = record { version = refl; flags = refl; room = lit≤ tt }; value = refl; inside = refl; offsets = refl }, (record { readable = record { version = refl; flags = refl; room = lit≤ tt }; value = refl; inside = refl; offsets = refl }, (tt, tt))); data_information = (record { readable = record { version = refl; flags = refl; room = lit≤ tt }; value = refl; inside = refl; offsets = refl }, tt); data_references = (record { readable = record { version = refl; flags = refl; room = lit≤ tt }; value = refl; inside = refl; offsets = refl }, tt); urls = (refl, tt); stsd = record { readable = record { version = refl; flags = refl; room = lit≤ tt }; value = refl; inside = refl; offsets = refl }; descriptions = (record { readable = record { version = refl; flags = refl; room = lit≤ tt }; value = refl; inside = refl; offsets = refl }, tt) }, tt); track_ids = refl; extends = (tt, (record { readable = record { version = refl; flags = refl; room = lit≤ tt }; value = refl; inside = refl; offsets = refl }, tt)); trex_ids = refl };
   tables_sound = ((record { readable = record { version = refl; flags = refl; room = lit≤ tt }; value = refl; inside = refl; offsets = refl }, (record { readable = record { version = refl; flags = refl; room = lit≤ tt }; value = refl; inside = refl; offsets = refl }, (record { readable = record { version = refl; flags = refl; room = lit≤ tt }; value = refl; inside = refl; offsets = refl }, (record { readable = record { version = refl; flags = refl; room = lit≤ tt }; value = refl; inside = refl; offsets = refl }, (record { readable = record { version = refl; flags = refl; room = lit≤ tt }; value = refl; inside = refl; offsets = refl }, tt))))), tt);
   tables_fit = (second_entry-fit, tt);
@@ -128,7 +128,7 @@ abbrev run_behind_end_track_tree : TrackTree
 run_behind_end_track_tree = record { trak = part run_behind_end 152 369 (codes "trak"); track = part run_behind_end 160 104 (codes "tkhd") ∷ part run_behind_end 264 257 (codes "mdia") ∷ []; edits = []; media = part run_behind_end 272 44 (codes "mdhd") ∷ part run_behind_end 316 33 (codes "hdlr") ∷ part run_behind_end 349 172 (codes "minf") ∷ []; information = part run_behind_end 357 20 (codes "vmhd") ∷ part run_behind_end 377 36 (codes "dinf") ∷ part run_behind_end 413 108 (codes "stbl") ∷ []; data_information = part run_behind_end 385 28 (codes "dref") ∷ []; data_references = part run_behind_end 401 12 (codes "url ") ∷ []; table = part run_behind_end 421 32 (codes "stsd") ∷ part run_behind_end 453 16 (codes "stts") ∷ part run_behind_end 469 16 (codes "stsc") ∷ part run_behind_end 485 20 (codes "stsz") ∷ part run_behind_end 505 16 (codes "stco") ∷ []; descriptions = part run_behind_end 437 16 (codes "mp4v") ∷ [] }
 
 run_behind_end-track : IsTrackTree run_behind_end_track_tree
-run_behind_end-track = record { track = record { tiles = record { front = (((says (codes "tkhd") 104, refl, refl), ((says (codes "mdia") 257, refl, refl), tt)), tt); full = refl }; allowed = (refl, (refl, tt)); quantities = (refl, (refl, (lit≤ tt, (tt, (tt, (tt, tt)))))) }; edits = refl; media = record { tiles = record { front = (((says (codes "mdhd") 44, refl, refl), ((says (codes "hdlr") 33, refl, refl), ((says (codes "minf") 172, refl, refl), tt))), tt); full = refl }; allowed = (refl, (refl, (refl, tt))); quantities = (refl, (refl, (refl, (tt, tt)))) }; information = record { tiles = record { front = (((says (codes "vmhd") 20, refl, refl), ((says (codes "dinf") 36, refl, refl), ((says (codes "stbl") 108, refl, refl), tt))), tt); full = refl }; allowed = (refl, (refl, (refl, tt))); quantities = (refl, (refl, (refl, tt))) }; data_information = record { tiles = record { front = (((says (codes "dref") 28, refl, refl), tt), tt); full = refl }; allowed = (refl, tt); quantities = (refl, tt) }; data_references = record { front = (((says (codes "url ") 12, refl, refl), tt), lit≤ tt); full = refl }; table = record { tiles = record { front = (((says (codes "stsd") 32, refl, refl), ((says (codes "stts") 16, refl, refl), ((says (codes "stsc") 16, refl, refl), ((says (codes "stsz") 20, refl, refl), ((says (codes "stco") 16, refl, refl), tt))))), tt); full = refl }; allowed = (refl, (refl, (refl, (refl, (refl, tt))))); quantities = (refl, (refl, (refl, (refl, (refl, (lit≤ tt, (lit≤ tt, (lit≤ tt, (lit≤ tt, (tt, (tt, tt))))))))))) }; descriptions = record { front = (((says (codes "mp4v") 16, refl, refl), tt), lit≤ tt); full = refl } }
+run_behind_end-track = record { track = record { tiles = record { front = (((says (codes "tkhd") 104, refl, refl), ((says (codes "mdia") 257, refl, refl), tt)), tt); full = refl }; allowed = (refl, (refl, tt)); quantities = (refl, (refl, (lit≤ tt, (tt, tt)))) }; edits = refl; media = record { tiles = record { front = (((says (codes "mdhd") 44, refl, refl), ((says (codes "hdlr") 33, refl, refl), ((says (codes "minf") 172, refl, refl), tt))), tt); full = refl }; allowed = (refl, (refl, (refl, tt))); quantities = (refl, (refl, (refl, (tt, tt)))) }; information = record { tiles = record { front = (((says (codes "vmhd") 20, refl, refl), ((says (codes "dinf") 36, refl, refl), ((says (codes "stbl") 108, refl, refl), tt))), tt); full = refl }; allowed = (refl, (refl, (refl, tt))); quantities = (refl, (refl, (refl, tt))) }; data_information = record { tiles = record { front = (((says (codes "dref") 28, refl, refl), tt), tt); full = refl }; allowed = (refl, tt); quantities = (refl, tt) }; data_references = record { front = (((says (codes "url ") 12, refl, refl), tt), lit≤ tt); full = refl }; table = record { tiles = record { front = (((says (codes "stsd") 32, refl, refl), ((says (codes "stts") 16, refl, refl), ((says (codes "stsc") 16, refl, refl), ((says (codes "stsz") 20, refl, refl), ((says (codes "stco") 16, refl, refl), tt))))), tt); full = refl }; allowed = (refl, (refl, (refl, (refl, (refl, tt))))); quantities = (refl, (refl, (refl, (refl, (refl, (lit≤ tt, (lit≤ tt, (lit≤ tt, (lit≤ tt, (tt, (tt, tt))))))))))) }; descriptions = record { front = (((says (codes "mp4v") 16, refl, refl), tt), lit≤ tt); full = refl } }
 
 run_behind_end-fit : Fit (surroundings run_behind_end run_behind_end_track_tree) (tables_of (run_behind_end_track_tree).table)
 run_behind_end-fit dependency_room = refl
@@ -149,7 +149,7 @@ run_behind_end_behind = record {
   is_moof = refl;
   movie = record { moov = part run_behind_end 24 557 (codes "moov"); movie = part run_behind_end 32 120 (codes "mvhd") ∷ part run_behind_end 152 369 (codes "trak") ∷ part run_behind_end 521 60 (codes "mvex") ∷ []; extends = part run_behind_end 529 20 (codes "mehd") ∷ part run_behind_end 549 32 (codes "trex") ∷ []; tracks = run_behind_end_track_tree ∷ [] };
   is_moov = refl;
-  movie_tree = record { movie = record { tiles = record { front = (((says (codes "mvhd") 120, refl, refl), ((says (codes "trak") 369, refl, refl), ((says (codes "mvex") 60, refl, refl), tt))), tt); full = refl }; allowed = (refl, (refl, (refl, tt))); quantities = (refl, (lit≤ tt, (tt, (tt, (tt, (tt, tt)))))) }; extends = record { tiles = record { front = (((says (codes "mehd") 20, refl, refl), ((says (codes "trex") 32, refl, refl), tt)), tt); full = refl }; allowed = (refl, (refl, tt)); quantities = (lit≤ tt, (tt, tt)) }; traks = refl; tracks = (run_behind_end-track, tt) };
+  movie_tree = record { movie = record { tiles = record { front = (((says (codes "mvhd") 120, refl, refl), ((says (codes "trak") 369, refl, refl), ((says (codes "mvex") 60, refl, refl), tt))), tt); full = refl }; allowed = (refl, (refl, (refl, tt))); quantities = (refl, (lit≤ tt, (tt, (tt, tt)))) }; extends = record { tiles = record { front = (((says (codes "mehd") 20, refl, refl), ((says (codes "trex") 32, refl, refl), tt)), tt); full = refl }; allowed = (refl, (refl, tt)); quantities = (lit≤ tt, (tt, tt)) }; traks = refl; tracks = (run_behind_end-track, tt) };
   movie_sound = record { movie = (record { readable = record { version = refl; flags = refl; room = lit≤ tt }; value = refl; inside = refl; offsets = refl }, (tt, (tt, tt))); kept = tt; tracks = (record { track = (record { readable = record { version = refl; flags = refl; room = lit≤ tt }; value = refl; inside = refl; offsets = refl }, (tt, tt)); kept = tt; edits = tt; media = (record { readable = record { version = refl; flags = refl; room = lit≤ tt }; value = refl; inside = refl; offsets = refl }, (record { readable = record { version = refl; flags = refl; room = lit≤ tt }; value = refl; inside = refl; offsets = refl }, (tt, tt))); data_information = (record { readable = record { version = refl; flags = refl; room = lit≤ tt }; value = refl; inside = refl; offsets = refl }, tt); data_references = (record { readable = record { version = refl; flags = refl; room = lit≤ tt }; value = refl; inside = refl; offsets = refl }, tt); urls = (refl, tt); stsd = record { readable = record { version = refl; flags = refl; room = lit≤ tt }; value = refl; inside = refl; offsets = refl }; descriptions = (record { readable = record { version = refl; flags = refl; room = lit≤ tt }; value = refl; inside = refl; offsets = refl }, tt) }, tt); track_ids = refl; extends = (tt, (record { readable = record { version = refl; flags = refl; room = lit≤ tt }; value = refl; inside = refl; offsets = refl }, tt)); trex_ids = refl };
   tables_sound = ((record { readable = record { version = refl; flags = refl; room = lit≤ tt }; value = refl; inside = refl; offsets = refl }, (record { readable = record { version = refl; flags = refl; room = lit≤ tt }; value = refl; inside = refl; offsets = refl }, (record { readable = record { version = refl; flags = refl; room = lit≤ tt }; value = refl; inside = refl; offsets = refl }, (record { readable = record { version = refl; flags = refl; room = lit≤ tt }; value = refl; inside = refl; offsets = refl }, (record { readable = record { version = refl; flags = refl; room = lit≤ tt }; value = refl; inside = refl; offsets = refl }, tt))))), tt);
   tables_fit = (run_behind_end-fit, tt);
@@ -191,7 +191,7 @@ abbrev run_before_file_track_tree : TrackTree
 run_before_file_track_tree = record { trak = part run_before_file 152 369 (codes "trak"); track = part run_before_file 160 104 (codes "tkhd") ∷ part run_before_file 264 257 (codes "mdia") ∷ []; edits = []; media = part run_before_file 272 44 (codes "mdhd") ∷ part run_before_file 316 33 (codes "hdlr") ∷ part run_before_file 349 172 (codes "minf") ∷ []; information = part run_before_file 357 20 (codes "vmhd") ∷ part run_before_file 377 36 (codes "dinf") ∷ part run_before_file 413 108 (codes "stbl") ∷ []; data_information = part run_before_file 385 28 (codes "dref") ∷ []; data_references = part run_before_file 401 12 (codes "url ") ∷ []; table = part run_before_file 421 32 (codes "stsd") ∷ part run_before_file 453 16 (codes "stts") ∷ part run_before_file 469 16 (codes "stsc") ∷ part run_before_file 485 20 (codes "stsz") ∷ part run_before_file 505 16 (codes "stco") ∷ []; descriptions = part run_before_file 437 16 (codes "mp4v") ∷ [] }
 
 run_before_file-track : IsTrackTree run_before_file_track_tree
-run_before_file-track = record { track = record { tiles = record { front = (((says (codes "tkhd") 104, refl, refl), ((says (codes "mdia") 257, refl, refl), tt)), tt); full = refl }; allowed = (refl, (refl, tt)); quantities = (refl, (refl, (lit≤ tt, (tt, (tt, (tt, tt)))))) }; edits = refl; media = record { tiles = record { front = (((says (codes "mdhd") 44, refl, refl), ((says (codes "hdlr") 33, refl, refl), ((says (codes "minf") 172, refl, refl), tt))), tt); full = refl }; allowed = (refl, (refl, (refl, tt))); quantities = (refl, (refl, (refl, (tt, tt)))) }; information = record { tiles = record { front = (((says (codes "vmhd") 20, refl, refl), ((says (codes "dinf") 36, refl, refl), ((says (codes "stbl") 108, refl, refl), tt))), tt); full = refl }; allowed = (refl, (refl, (refl, tt))); quantities = (refl, (refl, (refl, tt))) }; data_information = record { tiles = record { front = (((says (codes "dref") 28, refl, refl), tt), tt); full = refl }; allowed = (refl, tt); quantities = (refl, tt) }; data_references = record { front = (((says (codes "url ") 12, refl, refl), tt), lit≤ tt); full = refl }; table = record { tiles = record { front = (((says (codes "stsd") 32, refl, refl), ((says (codes "stts") 16, refl, refl), ((says (codes "stsc") 16, refl, refl), ((says (codes "stsz") 20, refl, refl), ((says (codes "stco") 16, refl, refl), tt))))), tt); full = refl }; allowed = (refl, (refl, (refl, (refl, (refl, tt))))); quantities = (refl, (refl, (refl, (refl, (refl, (lit≤ tt, (lit≤ tt, (lit≤ tt, (lit≤ tt, (tt, (tt, tt))))))))))) }; descriptions = record { front = (((says (codes "mp4v") 16, refl, refl), tt), lit≤ tt); full = refl } }
+run_before_file-track = record { track = record { tiles = record { front = (((says (codes "tkhd") 104, refl, refl), ((says (codes "mdia") 257, refl, refl), tt)), tt); full = refl }; allowed = (refl, (refl, tt)); quantities = (refl, (refl, (lit≤ tt, (tt, tt)))) }; edits = refl; media = record { tiles = record { front = (((says (codes "mdhd") 44, refl, refl), ((says (codes "hdlr") 33, refl, refl), ((says (codes "minf") 172, refl, refl), tt))), tt); full = refl }; allowed = (refl, (refl, (refl, tt))); quantities = (refl, (refl, (refl, (tt, tt)))) }; information = record { tiles = record { front = (((says (codes "vmhd") 20, refl, refl), ((says (codes "dinf") 36, refl, refl), ((says (codes "stbl") 108, refl, refl), tt))), tt); full = refl }; allowed = (refl, (refl, (refl, tt))); quantities = (refl, (refl, (refl, tt))) }; data_information = record { tiles = record { front = (((says (codes "dref") 28, refl, refl), tt), tt); full = refl }; allowed = (refl, tt); quantities = (refl, tt) }; data_references = record { front = (((says (codes "url ") 12, refl, refl), tt), lit≤ tt); full = refl }; table = record { tiles = record { front = (((says (codes "stsd") 32, refl, refl), ((says (codes "stts") 16, refl, refl), ((says (codes "stsc") 16, refl, refl), ((says (codes "stsz") 20, refl, refl), ((says (codes "stco") 16, refl, refl), tt))))), tt); full = refl }; allowed = (refl, (refl, (refl, (refl, (refl, tt))))); quantities = (refl, (refl, (refl, (refl, (refl, (lit≤ tt, (lit≤ tt, (lit≤ tt, (lit≤ tt, (tt, (tt, tt))))))))))) }; descriptions = record { front = (((says (codes "mp4v") 16, refl, refl), tt), lit≤ tt); full = refl } }
 
 run_before_file-fit : Fit (surroundings run_before_file run_before_file_track_tree) (tables_of (run_before_file_track_tree).table)
 run_before_file-fit dependency_room = refl
@@ -212,7 +212,7 @@ run_before_file_behind = record {
   is_moof = refl;
   movie = record { moov = part run_before_file 24 557 (codes "moov"); movie = part run_before_file 32 120 (codes "mvhd") ∷ part run_before_file 152 369 (codes "trak") ∷ part run_before_file 521 60 (codes "mvex") ∷ []; extends = part run_before_file 529 20 (codes "mehd") ∷ part run_before_file 549 32 (codes "trex") ∷ []; tracks = run_before_file_track_tree ∷ [] };
   is_moov = refl;
-  movie_tree = record { movie = record { tiles = record { front = (((says (codes "mvhd") 120, refl, refl), ((says (codes "trak") 369, refl, refl), ((says (codes "mvex") 60, refl, refl), tt))), tt); full = refl }; allowed = (refl, (refl, (refl, tt))); quantities = (refl, (lit≤ tt, (tt, (tt, (tt, (tt, tt)))))) }; extends = record { tiles = record { front = (((says (codes "mehd") 20, refl, refl), ((says (codes "trex") 32, refl, refl), tt)), tt); full = refl }; allowed = (refl, (refl, tt)); quantities = (lit≤ tt, (tt, tt)) }; traks = refl; tracks = (run_before_file-track, tt) };
+  movie_tree = record { movie = record { tiles = record { front = (((says (codes "mvhd") 120, refl, refl), ((says (codes "trak") 369, refl, refl), ((says (codes "mvex") 60, refl, refl), tt))), tt); full = refl }; allowed = (refl, (refl, (refl, tt))); quantities = (refl, (lit≤ tt, (tt, (tt, tt)))) }; extends = record { tiles = record { front = (((says (codes "mehd") 20, refl, refl), ((says (codes "trex") 32, refl, refl), tt)), tt); full = refl }; allowed = (refl, (refl, tt)); quantities = (lit≤ tt, (tt, tt)) }; traks = refl; tracks = (run_before_file-track, tt) };
   movie_sound = record { movie = (record { readable = record { version = refl; flags = refl; room = lit≤ tt }; value = refl; inside = refl; offsets = refl }, (tt, (tt, tt))); kept = tt; tracks = (record { track = (record { readable = record { version = refl; flags = refl; room = lit≤ tt }; value = refl; inside = refl; offsets = refl }, (tt, tt)); kept = tt; edits = tt; media = (record { readable = record { version = refl; flags = refl; room = lit≤ tt }; value = refl; inside = refl; offsets = refl }, (record { readable = record { version = refl; flags = refl; room = lit≤ tt }; value = refl; inside = refl; offsets = refl }, (tt, tt))); data_information = (record { readable = record { version = refl; flags = refl; room = lit≤ tt }; value = refl; inside = refl; offsets = refl }, tt); data_references = (record { readable = record { version = refl; flags = refl; room = lit≤ tt }; value = refl; inside = refl; offsets = refl }, tt); urls = (refl, tt); stsd = record { readable = record { version = refl; flags = refl; room = lit≤ tt }; value = refl; inside = refl; offsets = refl }; descriptions = (record { readable = record { version = refl; flags = refl; room = lit≤ tt }; value = refl; inside = refl; offsets = refl }, tt) }, tt); track_ids = refl; extends = (tt, (record { readable = record { version = refl; flags = refl; room = lit≤ tt }; value = refl; inside = refl; offsets = refl }, tt)); trex_ids = refl };
   tables_sound = ((record { readable = record { version = refl; flags = refl; room = lit≤ tt }; value = refl; inside = refl; offsets = refl }, (record { readable = record { version = refl; flags = refl; room = lit≤ tt }; value = refl; inside = refl; offsets = refl }, (record { readable = record { version = refl; flags = refl; room = lit≤ tt }; value = refl; inside = refl; offsets = refl }, (record { readable = record { version = refl; flags = refl; room = lit≤ tt }; value = refl; inside = refl; offsets = refl }, (record { readable = record { version = refl; flags = refl; room = lit≤ tt }; value = refl; inside = refl; offsets = refl }, tt))))), tt);
   tables_fit = (run_before_file-fit, tt);
@@ -254,7 +254,7 @@ abbrev large_group_track_tree : TrackTree
 large_group_track_tree = record { trak = part large_group 152 369 (codes "trak"); track = part large_group 160 104 (codes "tkhd") ∷ part large_group 264 257 (codes "mdia") ∷ []; edits = []; media = part large_group 272 44 (codes "mdhd") ∷ part large_group 316 33 (codes "hdlr") ∷ part large_group 349 172 (codes "minf") ∷ []; information = part large_group 357 20 (codes "vmhd") ∷ part large_group 377 36 (codes "dinf") ∷ part large_group 413 108 (codes "stbl") ∷ []; data_information = part large_group 385 28 (codes "dref") ∷ []; data_references = part large_group 401 12 (codes "url ") ∷ []; table = part large_group 421 32 (codes "stsd") ∷ part large_group 453 16 (codes "stts") ∷ part large_group 469 16 (codes "stsc") ∷ part large_group 485 20 (codes "stsz") ∷ part large_group 505 16 (codes "stco") ∷ []; descriptions = part large_group 437 16 (codes "mp4v") ∷ [] }
 
 large_group-track : IsTrackTree large_group_track_tree
-large_group-track = record { track = record { tiles = record { front = (((says (codes "tkhd") 104, refl, refl), ((says (codes "mdia") 257, refl, refl), tt)), tt); full = refl }; allowed = (refl, (refl, tt)); quantities = (refl, (refl, (lit≤ tt, (tt, (tt, (tt, tt)))))) }; edits = refl; media = record { tiles = record { front = (((says (codes "mdhd") 44, refl, refl), ((says (codes "hdlr") 33, refl, refl), ((says (codes "minf") 172, refl, refl), tt))), tt); full = refl }; allowed = (refl, (refl, (refl, tt))); quantities = (refl, (refl, (refl, (tt, tt)))) }; information = record { tiles = record { front = (((says (codes "vmhd") 20, refl, refl), ((says (codes "dinf") 36, refl, refl), ((says (codes "stbl") 108, refl, refl), tt))), tt); full = refl }; allowed = (refl, (refl, (refl, tt))); quantities = (refl, (refl, (refl, tt))) }; data_information = record { tiles = record { front = (((says (codes "dref") 28, refl, refl), tt), tt); full = refl }; allowed = (refl, tt); quantities = (refl, tt) }; data_references = record { front = (((says (codes "url ") 12, refl, refl), tt), lit≤ tt); full = refl }; table = record { tiles = record { front = (((says (codes "stsd") 32, refl, refl), ((says (codes "stts") 16, refl, refl), ((says (codes "stsc") 16, refl, refl), ((says (codes "stsz") 20, refl, refl), ((says (codes "stco") 16, refl, refl), tt))))), tt); full = refl }; allowed = (refl, (refl, (refl, (refl, (refl, tt))))); quantities = (refl, (refl, (refl, (refl, (refl, (lit≤ tt, (lit≤ tt, (lit≤ tt, (lit≤ tt, (tt, (tt, tt))))))))))) }; descriptions = record { front = (((says (codes "mp4v") 16, refl, refl), tt), lit≤ tt); full = refl } }
+large_group-track = record { track = record { tiles = record { front = (((says (codes "tkhd") 104, refl, refl), ((says (codes "mdia") 257, refl, refl), tt)), tt); full = refl }; allowed = (refl, (refl, tt)); quantities = (refl, (refl, (lit≤ tt, (tt, tt)))) }; edits = refl; media = record { tiles = record { front = (((says (codes "mdhd") 44, refl, refl), ((says (codes "hdlr") 33, refl, refl), ((says (codes "minf") 172, refl, refl), tt))), tt); full = refl }; allowed = (refl, (refl, (refl, tt))); quantities = (refl, (refl, (refl, (tt, tt)))) }; information = record { tiles = record { front = (((says (codes "vmhd") 20, refl, refl), ((says (codes "dinf") 36, refl, refl), ((says (codes "stbl") 108, refl, refl), tt))), tt); full = refl }; allowed = (refl, (refl, (refl, tt))); quantities = (refl, (refl, (refl, tt))) }; data_information = record { tiles = record { front = (((says (codes "dref") 28, refl, refl), tt), tt); full = refl }; allowed = (refl, tt); quantities = (refl, tt) }; data_references = record { front = (((says (codes "url ") 12, refl, refl), tt), lit≤ tt); full = refl }; table = record { tiles = record { front = (((says (codes "stsd") 32, refl, refl), ((says (codes "stts") 16, refl, refl), ((says (codes "stsc") 16, refl, refl), ((says (codes "stsz") 20, refl, refl), ((says (codes "stco") 16, refl, refl), tt))))), tt); full = refl }; allowed = (refl, (refl, (refl, (refl, (refl, tt))))); quantities = (refl, (refl, (refl, (refl, (refl, (lit≤ tt, (lit≤ tt, (lit≤ tt, (lit≤ tt, (tt, (tt, tt))))))))))) }; descriptions = record { front = (((says (codes "mp4v") 16, refl, refl), tt), lit≤ tt); full = refl } }
 
 large_group-fit : Fit (surroundings large_group large_group_track_tree) (tables_of (large_group_track_tree).table)
 large_group-fit dependency_room = refl
@@ -275,7 +275,7 @@ large_group_behind = record {
   is_moof = refl;
   movie = record { moov = part large_group 24 557 (codes "moov"); movie = part large_group 32 120 (codes "mvhd") ∷ part large_group 152 369 (codes "trak") ∷ part large_group 521 60 (codes "mvex") ∷ []; extends = part large_group 529 20 (codes "mehd") ∷ part large_group 549 32 (codes "trex") ∷ []; tracks = large_group_track_tree ∷ [] };
   is_moov = refl;
-  movie_tree = record { movie = record { tiles = record { front = (((says (codes "mvhd") 120, refl, refl), ((says (codes "trak") 369, refl, refl), ((says (codes "mvex") 60, refl, refl), tt))), tt); full = refl }; allowed = (refl, (refl, (refl, tt))); quantities = (refl, (lit≤ tt, (tt, (tt, (tt, (tt, tt)))))) }; extends = record { tiles = record { front = (((says (codes "mehd") 20, refl, refl), ((says (codes "trex") 32, refl, refl), tt)), tt); full = refl }; allowed = (refl, (refl, tt)); quantities = (lit≤ tt, (tt, tt)) }; traks = refl; tracks = (large_group-track, tt) };
+  movie_tree = record { movie = record { tiles = record { front = (((says (codes "mvhd") 120, refl, refl), ((says (codes "trak") 369, refl, refl), ((says (codes "mvex") 60, refl, refl), tt))), tt); full = refl }; allowed = (refl, (refl, (refl, tt))); quantities = (refl, (lit≤ tt, (tt, (tt, tt)))) }; extends = record { tiles = record { front = (((says (codes "mehd") 20, refl, refl), ((says (codes "trex") 32, refl, refl), tt)), tt); full = refl }; allowed = (refl, (refl, tt)); quantities = (lit≤ tt, (tt, tt)) }; traks = refl; tracks = (large_group-track, tt) };
   movie_sound = record { movie = (record { readable = record { version = refl; flags = refl; room = lit≤ tt }; value = refl; inside = refl; offsets = refl }, (tt, (tt, tt))); kept = tt; tracks = (record { track = (record { readable = record { version = refl; flags = refl; room = lit≤ tt }; value = refl; inside = refl; offsets = refl }, (tt, tt)); kept = tt; edits = tt; media = (record { readable = record { version = refl; flags = refl; room = lit≤ tt }; value = refl; inside = refl; offsets = refl }, (record { readable = record { version = refl; flags = refl; room = lit≤ tt }; value = refl; inside = refl; offsets = refl }, (tt, tt))); data_information = (record { readable = record { version = refl; flags = refl; room = lit≤ tt }; value = refl; inside = refl; offsets = refl }, tt); data_references = (record { readable = record { version = refl; flags = refl; room = lit≤ tt }; value = refl; inside = refl; offsets = refl }, tt); urls = (refl, tt); stsd = record { readable = record { version = refl; flags = refl; room = lit≤ tt }; value = refl; inside = refl; offsets = refl }; descriptions = (record { readable = record { version = refl; flags = refl; room = lit≤ tt }; value = refl; inside = refl; offsets = refl }, tt) }, tt); track_ids = refl; extends = (tt, (record { readable = record { version = refl; flags = refl; room = lit≤ tt }; value = refl; inside = refl; offsets = refl }, tt)); trex_ids = refl };
   tables_sound = ((record { readable = record { version = refl; flags = refl; room = lit≤ tt }; value = refl; inside = refl; offsets = refl }, (record { readable = record { version = refl; flags = refl; room = lit≤ tt }; value = refl; inside = refl; offsets = refl }, (record { readable = record { version = refl; flags = refl; room = lit≤ tt }; value = refl; inside = refl; offsets = refl }, (record { readable = record { version = refl; flags = refl; room = lit≤ tt }; value = refl; inside = refl; offsets = refl }, (record { readable = record { version = refl; flags = refl; room = lit≤ tt }; value = refl; inside = refl; offsets = refl }, tt))))), tt);
   tables_fit = (large_group-fit, tt);
@@ -321,7 +321,7 @@ many_runs_behind = record {
   is_moof = refl;
   movie = record { moov = part many_runs 0 116 (codes "moov"); movie = part many_runs 8 108 (codes "mvhd") ∷ []; extends = []; tracks = [] };
   is_moov = refl;
-  movie_tree = record { movie = record { tiles = record { front = (((says (codes "mvhd") 108, refl, refl), tt), tt); full = refl }; allowed = (refl, tt); quantities = (refl, (lit≤ tt, (tt, (tt, (tt, (tt, tt)))))) }; extends = refl; traks = refl; tracks = tt };
+  movie_tree = record { movie = record { tiles = record { front = (((says (codes "mvhd") 108, refl, refl), tt), tt); full = refl }; allowed = (refl, tt); quantities = (refl, (lit≤ tt, (tt, (tt, tt)))) }; extends = refl; traks = refl; tracks = tt };
   movie_sound = record { movie = (record { readable = record { version = refl; flags = refl; room = lit≤ tt }; value = refl; inside = refl; offsets = refl }, tt); kept = tt; tracks = tt; track_ids = refl; extends = tt; trex_ids = refl };
   tables_sound = tt;
   tables_fit = tt;

@@ -21,10 +21,10 @@ abbrev late_end_file_tree : FileTree
 late_end_file_tree = record { top = part late_end 0 24 (codes "ftyp") ∷ part late_end 24 557 (codes "moov") ∷ part late_end 581 100 (codes "moof") ∷ []; movie = record { moov = part late_end 24 557 (codes "moov"); movie = part late_end 32 120 (codes "mvhd") ∷ part late_end 152 369 (codes "trak") ∷ part late_end 521 60 (codes "mvex") ∷ []; extends = part late_end 529 20 (codes "mehd") ∷ part late_end 549 32 (codes "trex") ∷ []; tracks = late_end_track_tree ∷ [] }; fragments = record { moof = part late_end 581 100 (codes "moof"); children = part late_end 589 16 (codes "mfhd") ∷ part late_end 605 76 (codes "traf") ∷ []; trafs = (part late_end 613 32 (codes "tfhd") ∷ part late_end 645 20 (codes "tfdt") ∷ part late_end 665 16 (codes "trun") ∷ []) ∷ [] } ∷ [] }
 
 late_end-track : IsTrackTree late_end_track_tree
-late_end-track = record { track = record { tiles = record { front = (((says (codes "tkhd") 104, refl, refl), ((says (codes "mdia") 257, refl, refl), tt)), tt); full = refl }; allowed = (refl, (refl, tt)); quantities = (refl, (refl, (lit≤ tt, (tt, (tt, (tt, tt)))))) }; edits = refl; media = record { tiles = record { front = (((says (codes "mdhd") 44, refl, refl), ((says (codes "hdlr") 33, refl, refl), ((says (codes "minf") 172, refl, refl), tt))), tt); full = refl }; allowed = (refl, (refl, (refl, tt))); quantities = (refl, (refl, (refl, (tt, tt)))) }; information = record { tiles = record { front = (((says (codes "vmhd") 20, refl, refl), ((says (codes "dinf") 36, refl, refl), ((says (codes "stbl") 108, refl, refl), tt))), tt); full = refl }; allowed = (refl, (refl, (refl, tt))); quantities = (refl, (refl, (refl, tt))) }; data_information = record { tiles = record { front = (((says (codes "dref") 28, refl, refl), tt), tt); full = refl }; allowed = (refl, tt); quantities = (refl, tt) }; data_references = record { front = (((says (codes "url ") 12, refl, refl), tt), lit≤ tt); full = refl }; table = record { tiles = record { front = (((says (codes "stsd") 32, refl, refl), ((says (codes "stts") 16, refl, refl), ((says (codes "stsc") 16, refl, refl), ((says (codes "stsz") 20, refl, refl), ((says (codes "stco") 16, refl, refl), tt))))), tt); full = refl }; allowed = (refl, (refl, (refl, (refl, (refl, tt))))); quantities = (refl, (refl, (refl, (refl, (refl, (lit≤ tt, (lit≤ tt, (lit≤ tt, (lit≤ tt, (tt, (tt, tt))))))))))) }; descriptions = record { front = (((says (codes "mp4v") 16, refl, refl), tt), lit≤ tt); full = refl } }
+late_end-track = record { track = record { tiles = record { front = (((says (codes "tkhd") 104, refl, refl), ((says (codes "mdia") 257, refl, refl), tt)), tt); full = refl }; allowed = (refl, (refl, tt)); quantities = (refl, (refl, (lit≤ tt, (tt, tt)))) }; edits = refl; media = record { tiles = record { front = (((says (codes "mdhd") 44, refl, refl), ((says (codes "hdlr") 33, refl, refl), ((says (codes "minf") 172, refl, refl), tt))), tt); full = refl }; allowed = (refl, (refl, (refl, tt))); quantities = (refl, (refl, (refl, (tt, tt)))) }; information = record { tiles = record { front = (((says (codes "vmhd") 20, refl, refl), ((says (codes "dinf") 36, refl, refl), ((says (codes "stbl") 108, refl, refl), tt))), tt); full = refl }; allowed = (refl, (refl, (refl, tt))); quantities = (refl, (refl, (refl, tt))) }; data_information = record { tiles = record { front = (((says (codes "dref") 28, refl, refl), tt), tt); full = refl }; allowed = (refl, tt); quantities = (refl, tt) }; data_references = record { front = (((says (codes "url ") 12, refl, refl), tt), lit≤ tt); full = refl }; table = record { tiles = record { front = (((says (codes "stsd") 32, refl, refl), ((says (codes "stts") 16, refl, refl), ((says (codes "stsc") 16, refl, refl), ((says (codes "stsz") 20, refl, refl), ((says (codes "stco") 16, refl, refl), tt))))), tt); full = refl }; allowed = (refl, (refl, (refl, (refl, (refl, tt))))); quantities = (refl, (refl, (refl, (refl, (refl, (lit≤ tt, (lit≤ tt, (lit≤ tt, (lit≤ tt, (tt, (tt, tt))))))))))) }; descriptions = record { front = (((says (codes "mp4v") 16, refl, refl), tt), lit≤ tt); full = refl } }
 
 late_end-tree : IsFileTree late_end late_end_file_tree
-late_end-tree = record { top = record { tiles = record { front = (((says (codes "ftyp") 24, refl, refl), ((says (codes "moov") 557, refl, refl), ((says (codes "moof") 100, refl, refl), tt))), tt); full = refl }; allowed = (refl, (refl, (refl, tt))); quantities = (refl, (tt, (tt, (tt, (tt, (tt, (tt, tt))))))) }; order = refl; moov = refl; movie = record { movie = record { tiles = record { front = (((says (codes "mvhd") 120, refl, refl), ((says (codes "trak") 369, refl, refl), ((says (codes "mvex") 60, refl, refl), tt))), tt); full = refl }; allowed = (refl, (refl, (refl, tt))); quantities = (refl, (lit≤ tt, (tt, (tt, (tt, (tt, tt)))))) }; extends = record { tiles = record { front = (((says (codes "mehd") 20, refl, refl), ((says (codes "trex") 32, refl, refl), tt)), tt); full = refl }; allowed = (refl, (refl, tt)); quantities = (lit≤ tt, (tt, tt)) }; traks = refl; tracks = (late_end-track, tt) }; moofs = refl; fragments = (record { children = record { tiles = record { front = (((says (codes "mfhd") 16, refl, refl), ((says (codes "traf") 76, refl, refl), tt)), tt); full = refl }; allowed = (refl, (refl, tt)); quantities = (refl, (tt, tt)) }; trafs = (record { tiles = record { front = (((says (codes "tfhd") 32, refl, refl), ((says (codes "tfdt") 20, refl, refl), ((says (codes "trun") 16, refl, refl), tt))), tt); full = refl }; allowed = (refl, (refl, (refl, tt))); quantities = (refl, (lit≤ tt, (tt, (tt, tt)))) }, tt) }, tt) }
+late_end-tree = record { top = record { tiles = record { front = (((says (codes "ftyp") 24, refl, refl), ((says (codes "moov") 557, refl, refl), ((says (codes "moof") 100, refl, refl), tt))), tt); full = refl }; allowed = (refl, (refl, (refl, tt))); quantities = (refl, (tt, (tt, (tt, (tt, (tt, (tt, tt))))))) }; order = refl; moov = refl; movie = record { movie = record { tiles = record { front = (((says (codes "mvhd") 120, refl, refl), ((says (codes "trak") 369, refl, refl), ((says (codes "mvex") 60, refl, refl), tt))), tt); full = refl }; allowed = (refl, (refl, (refl, tt))); quantities = (refl, (lit≤ tt, (tt, (tt, tt)))) }; extends = record { tiles = record { front = (((says (codes "mehd") 20, refl, refl), ((says (codes "trex") 32, refl, refl), tt)), tt); full = refl }; allowed = (refl, (refl, tt)); quantities = (lit≤ tt, (tt, tt)) }; traks = refl; tracks = (late_end-track, tt) }; moofs = refl; fragments = (record { children = record { tiles = record { front = (((says (codes "mfhd") 16, refl, refl), ((says (codes "traf") 76, refl, refl), tt)), tt); full = refl }; allowed = (refl, (refl, tt)); quantities = (refl, (tt, tt)) }; trafs = (record { tiles = record { front = (((says (codes "tfhd") 32, refl, refl), ((says (codes "tfdt") 20, refl, refl), ((says (codes "trun") 16, refl, refl), tt))), tt); full = refl }; allowed = (refl, (refl, (refl, tt))); quantities = (refl, (lit≤ tt, (tt, (tt, tt)))) }, tt) }, tt) }
 
 late_end-sound : IsSoundFile late_end_file_tree
 late_end-sound = record { movie = record { movie = (record { readable = record { version = refl; flags = refl; room = lit≤ tt }; value = refl; inside = refl; offsets = refl }, (tt, (tt, tt))); kept = tt; tracks = (record { track = (record { readable = record { version = refl; flags = refl; room = lit≤ tt }; value = refl; inside = refl; offsets = refl }, (tt, tt)); kept = tt; edits = tt; media = (record { readable = record { version = refl; flags = refl; room = lit≤ tt }; value = refl; inside = refl; offsets = refl }, (record { readable = record { version = refl; flags = refl; room = lit≤ tt }; value = refl; inside = refl; offsets = refl }, (tt, tt))); data_information = (record { readable = record { version = refl; flags = refl; room = lit≤ tt }; value = refl; inside = refl; offsets = refl }, tt); data_references = (record { readable = record { version = refl; flags = refl; room = lit≤ tt }; value = refl; inside = refl; offsets = refl }, tt); urls = (refl, tt); stsd = record { readable = record { version = refl; flags = refl; room = lit≤ tt }; value = refl; inside = refl; offsets = refl }; descriptions = (record { readable = record { version = refl; flags = refl; room = lit≤ tt }; value = refl; inside = refl; offsets = refl }, tt) }, tt); track_ids = refl; extends = (tt, (record { readable = record { version = refl; flags = refl; room = lit≤ tt }; value = refl; inside = refl; offsets = refl }, tt)); trex_ids = refl }; tables = ((record { readable = record { version = refl; flags = refl; room = lit≤ tt }; value = refl; inside = refl; offsets = refl }, (record { readable = record { version = refl; flags = refl; room = lit≤ tt }; value = refl; inside = refl; offsets = refl }, (record { readable = record { version = refl; flags = refl; room = lit≤ tt }; value = refl; inside = refl; offsets = refl }, (record { readable = record { version = refl; flags = refl; room = lit≤ tt }; value = refl; inside = refl; offsets = refl }, (record { readable = record { version = refl; flags = refl; room = lit≤ tt }; value = refl; inside = refl; offsets = refl }, tt))))), tt); fragments = (((record { readable = record { version = refl; flags = refl; room = lit≤ tt }; value = refl; inside = refl; offsets = refl }, (record { readable = record { version = refl; flags = refl; room = lit≤ tt }; value = refl; inside = refl; offsets = refl }, (record { readable = record { version = refl; flags = refl; room = lit≤ tt }; value = refl; inside = refl; offsets = refl }, tt))), tt), tt) }
@@ -66,10 +66,10 @@ abbrev long_edits_file_tree : FileTree
 long_edits_file_tree = record { top = part long_edits 0 525 (codes "moov") ∷ []; movie = record { moov = part long_edits 0 525 (codes "moov"); movie = part long_edits 8 108 (codes "mvhd") ∷ part long_edits 116 409 (codes "trak") ∷ []; extends = []; tracks = long_edits_track_tree ∷ [] }; fragments = [] }
 
 long_edits-track : IsTrackTree long_edits_track_tree
-long_edits-track = record { track = record { tiles = record { front = (((says (codes "tkhd") 92, refl, refl), ((says (codes "edts") 64, refl, refl), ((says (codes "mdia") 245, refl, refl), tt))), tt); full = refl }; allowed = (refl, (refl, (refl, tt))); quantities = (refl, (refl, (lit≤ tt, (tt, (tt, (tt, tt)))))) }; edits = record { tiles = record { front = (((says (codes "elst") 56, refl, refl), tt), tt); full = refl }; allowed = (refl, tt); quantities = (lit≤ tt, tt) }; media = record { tiles = record { front = (((says (codes "mdhd") 32, refl, refl), ((says (codes "hdlr") 33, refl, refl), ((says (codes "minf") 172, refl, refl), tt))), tt); full = refl }; allowed = (refl, (refl, (refl, tt))); quantities = (refl, (refl, (refl, (tt, tt)))) }; information = record { tiles = record { front = (((says (codes "vmhd") 20, refl, refl), ((says (codes "dinf") 36, refl, refl), ((says (codes "stbl") 108, refl, refl), tt))), tt); full = refl }; allowed = (refl, (refl, (refl, tt))); quantities = (refl, (refl, (refl, tt))) }; data_information = record { tiles = record { front = (((says (codes "dref") 28, refl, refl), tt), tt); full = refl }; allowed = (refl, tt); quantities = (refl, tt) }; data_references = record { front = (((says (codes "url ") 12, refl, refl), tt), lit≤ tt); full = refl }; table = record { tiles = record { front = (((says (codes "stsd") 32, refl, refl), ((says (codes "stts") 16, refl, refl), ((says (codes "stsc") 16, refl, refl), ((says (codes "stsz") 20, refl, refl), ((says (codes "stco") 16, refl, refl), tt))))), tt); full = refl }; allowed = (refl, (refl, (refl, (refl, (refl, tt))))); quantities = (refl, (refl, (refl, (refl, (refl, (lit≤ tt, (lit≤ tt, (lit≤ tt, (lit≤ tt, (tt, (tt, tt))))))))))) }; descriptions = record { front = (((says (codes "mp4v") 16, refl, refl), tt), lit≤ tt); full = refl } }
+long_edits-track = record { track = record { tiles = record { front = (((says (codes "tkhd") 92, refl, refl), ((says (codes "edts") 64, refl, refl), ((says (codes "mdia") 245, refl, refl), tt))), tt); full = refl }; allowed = (refl, (refl, (refl, tt))); quantities = (refl, (refl, (lit≤ tt, (tt, tt)))) }; edits = record { tiles = record { front = (((says (codes "elst") 56, refl, refl), tt), tt); full = refl }; allowed = (refl, tt); quantities = (lit≤ tt, tt) }; media = record { tiles = record { front = (((says (codes "mdhd") 32, refl, refl), ((says (codes "hdlr") 33, refl, refl), ((says (codes "minf") 172, refl, refl), tt))), tt); full = refl }; allowed = (refl, (refl, (refl, tt))); quantities = (refl, (refl, (refl, (tt, tt)))) }; information = record { tiles = record { front = (((says (codes "vmhd") 20, refl, refl), ((says (codes "dinf") 36, refl, refl), ((says (codes "stbl") 108, refl, refl), tt))), tt); full = refl }; allowed = (refl, (refl, (refl, tt))); quantities = (refl, (refl, (refl, tt))) }; data_information = record { tiles = record { front = (((says (codes "dref") 28, refl, refl), tt), tt); full = refl }; allowed = (refl, tt); quantities = (refl, tt) }; data_references = record { front = (((says (codes "url ") 12, refl, refl), tt), lit≤ tt); full = refl }; table = record { tiles = record { front = (((says (codes "stsd") 32, refl, refl), ((says (codes "stts") 16, refl, refl), ((says (codes "stsc") 16, refl, refl), ((says (codes "stsz") 20, refl, refl), ((says (codes "stco") 16, refl, refl), tt))))), tt); full = refl }; allowed = (refl, (refl, (refl, (refl, (refl, tt))))); quantities = (refl, (refl, (refl, (refl, (refl, (lit≤ tt, (lit≤ tt, (lit≤ tt, (lit≤ tt, (tt, (tt, tt))))))))))) }; descriptions = record { front = (((says (codes "mp4v") 16, refl, refl), tt), lit≤ tt); full = refl } }
 
 long_edits-tree : IsFileTree long_edits long_edits_file_tree
-long_edits-tree = record { top = record { tiles = record { front = (((says (codes "moov") 525, refl, refl), tt), tt); full = refl }; allowed = (refl, tt); quantities = (refl, (tt, (tt, (tt, (tt, (tt, (tt, tt))))))) }; order = refl; moov = refl; movie = record { movie = record { tiles = record { front = (((says (codes "mvhd") 108, refl, refl), ((says (codes "trak") 409, refl, refl), tt)), tt); full = refl }; allowed = (refl, (refl, tt)); quantities = (refl, (lit≤ tt, (tt, (tt, (tt, (tt, tt)))))) }; extends = refl; traks = refl; tracks = (long_edits-track, tt) }; moofs = refl; fragments = tt }
+long_edits-tree = record { top = record { tiles = record { front = (((says (codes "moov") 525, refl, refl), tt), tt); full = refl }; allowed = (refl, tt); quantities = (refl, (tt, (tt, (tt, (tt, (tt, (tt, tt))))))) }; order = refl; moov = refl; movie = record { movie = record { tiles = record { front = (((says (codes "mvhd") 108, refl, refl), ((says (codes "trak") 409, refl, refl), tt)), tt); full = refl }; allowed = (refl, (refl, tt)); quantities = (refl, (lit≤ tt, (tt, (tt, tt)))) }; extends = refl; traks = refl; tracks = (long_edits-track, tt) }; moofs = refl; fragments = tt }
 
 long_edits-sound : IsSoundFile long_edits_file_tree
 long_edits-sound = record { movie = record { movie = (record { readable = record { version = refl; flags = refl; room = lit≤ tt }; value = refl; inside = refl; offsets = refl }, (tt, tt)); kept = tt; tracks = (record { track = (record { readable = record { version = refl; flags = refl; room = lit≤ tt }; value = refl; inside = refl; offsets = refl }, (tt, (tt, tt))); kept = tt; edits = (record { readable = record { version = refl; flags = refl; room = lit≤ tt }; value = refl; inside = refl; offsets = refl }, tt); media = (record { readable = record { version = refl; flags = refl; room = lit≤ tt }; value = refl; inside = refl; offsets = refl }, (record { readable = record { version = refl; flags = refl; room = lit≤ tt }; value = refl; inside = refl; offsets = refl }, (tt, tt))); data_information = (record { readable = record { version = refl; flags = refl; room = lit≤ tt }; value = refl; inside = refl; offsets = refl }, tt); data_references = (record { readable = record { version = refl; flags = refl; room = lit≤ tt }; value = refl; inside = refl; offsets = refl }, tt); urls = (refl, tt); stsd = record { readable = record { version = refl; flags = refl; room = lit≤ tt }; value = refl; inside = refl; offsets = refl }; descriptions = (record { readable = record { version = refl; flags = refl; room = lit≤ tt }; value = refl; inside = refl; offsets = refl }, tt) }, tt); track_ids = refl; extends = tt; trex_ids = refl }; tables = ((record { readable = record { version = refl; flags = refl; room = lit≤ tt }; value = refl; inside = refl; offsets = refl }, (record { readable = record { version = refl; flags = refl; room = lit≤ tt }; value = refl; inside = refl; offsets = refl }, (record { readable = record { version = refl; flags = refl; room = lit≤ tt }; value = refl; inside = refl; offsets = refl }, (record { readable = record { version = refl; flags = refl; room = lit≤ tt }; value = refl; inside = refl; offsets = refl }, (record { readable = record { version = refl; flags = refl; room = lit≤ tt }; value = refl; inside = refl; offsets = refl }, tt))))), tt); fragments = tt }

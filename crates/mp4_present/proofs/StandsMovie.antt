@@ -127,7 +127,7 @@ movie_holds : (payload : List ℕ) → length payload ≡ 2 ^ 30 → Holds rules
 movie_holds payload long = record {
   tiles = record { front = (((says (codes "mvhd") 108, mvhd_says payload long, refl), ((says (codes "udta") 0x40000008, udta_says payload long, udta_is payload long), tt)), tt); full = ap (λ (n : ℕ). 108 + ((8 + n) + 0)) long ∙ sym (movie_length_is payload long) };
   allowed = (refl, (refl, tt));
-  quantities = (refl, (lit≤ tt, (tt, (tt, (tt, (tt, tt))))));
+  quantities = (refl, (lit≤ tt, (tt, (tt, tt))));
 }
 
 -- the normal form has no shorter `moov`

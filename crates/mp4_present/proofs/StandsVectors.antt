@@ -154,7 +154,7 @@ abbrev g12b_track_tree : TrackTree
 g12b_track_tree = record { trak = part g12b 152 369 (codes "trak"); track = part g12b 160 104 (codes "tkhd") ∷ part g12b 264 257 (codes "mdia") ∷ []; edits = []; media = part g12b 272 44 (codes "mdhd") ∷ part g12b 316 33 (codes "hdlr") ∷ part g12b 349 172 (codes "minf") ∷ []; information = part g12b 357 20 (codes "vmhd") ∷ part g12b 377 36 (codes "dinf") ∷ part g12b 413 108 (codes "stbl") ∷ []; data_information = part g12b 385 28 (codes "dref") ∷ []; data_references = part g12b 401 12 (codes "url ") ∷ []; table = part g12b 421 32 (codes "stsd") ∷ part g12b 453 16 (codes "stts") ∷ part g12b 469 16 (codes "stsc") ∷ part g12b 485 20 (codes "stsz") ∷ part g12b 505 16 (codes "stco") ∷ []; descriptions = part g12b 437 16 (codes "mp4v") ∷ [] }
 
 g12b-track : IsTrackTree g12b_track_tree
-g12b-track = record { track = record { tiles = record { front = (((record { kind = codes "tkhd"; length = 8; size = 104 }, refl, refl), ((record { kind = codes "mdia"; length = 8; size = 257 }, refl, refl), tt)), tt); full = refl }; allowed = (refl, (refl, tt)); quantities = (refl, (refl, (lit≤ tt, (tt, (tt, (tt, tt)))))) }; edits = refl; media = record { tiles = record { front = (((record { kind = codes "mdhd"; length = 8; size = 44 }, refl, refl), ((record { kind = codes "hdlr"; length = 8; size = 33 }, refl, refl), ((record { kind = codes "minf"; length = 8; size = 172 }, refl, refl), tt))), tt); full = refl }; allowed = (refl, (refl, (refl, tt))); quantities = (refl, (refl, (refl, (tt, tt)))) }; information = record { tiles = record { front = (((record { kind = codes "vmhd"; length = 8; size = 20 }, refl, refl), ((record { kind = codes "dinf"; length = 8; size = 36 }, refl, refl), ((record { kind = codes "stbl"; length = 8; size = 108 }, refl, refl), tt))), tt); full = refl }; allowed = (refl, (refl, (refl, tt))); quantities = (refl, (refl, (refl, tt))) }; data_information = record { tiles = record { front = (((record { kind = codes "dref"; length = 8; size = 28 }, refl, refl), tt), tt); full = refl }; allowed = (refl, tt); quantities = (refl, tt) }; data_references = record { front = (((record { kind = codes "url "; length = 8; size = 12 }, refl, refl), tt), lit≤ tt); full = refl }; table = record { tiles = record { front = (((record { kind = codes "stsd"; length = 8; size = 32 }, refl, refl), ((record { kind = codes "stts"; length = 8; size = 16 }, refl, refl), ((record { kind = codes "stsc"; length = 8; size = 16 }, refl, refl), ((record { kind = codes "stsz"; length = 8; size = 20 }, refl, refl), ((record { kind = codes "stco"; length = 8; size = 16 }, refl, refl), tt))))), tt); full = refl }; allowed = (refl, (refl, (refl, (refl, (refl, tt))))); quantities = (refl, (refl, (refl, (refl, (refl, (lit≤ tt, (lit≤ tt, (lit≤ tt, (lit≤ tt, (tt, (tt, tt))))))))))) }; descriptions = record { front = (((record { kind = codes "mp4v"; length = 8; size = 16 }, refl, refl), tt), lit≤ tt); full = refl } }
+g12b-track = record { track = record { tiles = record { front = (((record { kind = codes "tkhd"; length = 8; size = 104 }, refl, refl), ((record { kind = codes "mdia"; length = 8; size = 257 }, refl, refl), tt)), tt); full = refl }; allowed = (refl, (refl, tt)); quantities = (refl, (refl, (lit≤ tt, (tt, tt)))) }; edits = refl; media = record { tiles = record { front = (((record { kind = codes "mdhd"; length = 8; size = 44 }, refl, refl), ((record { kind = codes "hdlr"; length = 8; size = 33 }, refl, refl), ((record { kind = codes "minf"; length = 8; size = 172 }, refl, refl), tt))), tt); full = refl }; allowed = (refl, (refl, (refl, tt))); quantities = (refl, (refl, (refl, (tt, tt)))) }; information = record { tiles = record { front = (((record { kind = codes "vmhd"; length = 8; size = 20 }, refl, refl), ((record { kind = codes "dinf"; length = 8; size = 36 }, refl, refl), ((record { kind = codes "stbl"; length = 8; size = 108 }, refl, refl), tt))), tt); full = refl }; allowed = (refl, (refl, (refl, tt))); quantities = (refl, (refl, (refl, tt))) }; data_information = record { tiles = record { front = (((record { kind = codes "dref"; length = 8; size = 28 }, refl, refl), tt), tt); full = refl }; allowed = (refl, tt); quantities = (refl, tt) }; data_references = record { front = (((record { kind = codes "url "; length = 8; size = 12 }, refl, refl), tt), lit≤ tt); full = refl }; table = record { tiles = record { front = (((record { kind = codes "stsd"; length = 8; size = 32 }, refl, refl), ((record { kind = codes "stts"; length = 8; size = 16 }, refl, refl), ((record { kind = codes "stsc"; length = 8; size = 16 }, refl, refl), ((record { kind = codes "stsz"; length = 8; size = 20 }, refl, refl), ((record { kind = codes "stco"; length = 8; size = 16 }, refl, refl), tt))))), tt); full = refl }; allowed = (refl, (refl, (refl, (refl, (refl, tt))))); quantities = (refl, (refl, (refl, (refl, (refl, (lit≤ tt, (lit≤ tt, (lit≤ tt, (lit≤ tt, (tt, (tt, tt))))))))))) }; descriptions = record { front = (((record { kind = codes "mp4v"; length = 8; size = 16 }, refl, refl), tt), lit≤ tt); full = refl } }
 
 abbrev g12b_movie : MovieTree
 g12b_movie = record { moov = part g12b 24 557 (codes "moov"); movie = part g12b 32 120 (codes "mvhd") ∷ part g12b 152 369 (codes "trak") ∷ part g12b 521 60 (codes "mvex") ∷ []; extends = part g12b 529 20 (codes "mehd") ∷ part g12b 549 32 (codes "trex") ∷ []; tracks = g12b_track_tree ∷ [] }
@@ -178,7 +178,7 @@ g12b_behind = record {
   is_moof = refl;
   movie = g12b_movie;
   is_moov = refl;
-  movie_tree = record { movie = record { tiles = record { front = (((record { kind = codes "mvhd"; length = 8; size = 120 }, refl, refl), ((record { kind = codes "trak"; length = 8; size = 369 }, refl, refl), ((record { kind = codes "mvex"; length = 8; size = 60 }, refl, refl), tt))), tt); full = refl }; allowed = (refl, (refl, (refl, tt))); quantities = (refl, (lit≤ tt, (tt, (tt, (tt, (tt, tt)))))) }; extends = record { tiles = record { front = (((record { kind = codes "mehd"; length = 8; size = 20 }, refl, refl), ((record { kind = codes "trex"; length = 8; size = 32 }, refl, refl), tt)), tt); full = refl }; allowed = (refl, (refl, tt)); quantities = (lit≤ tt, (tt, tt)) }; traks = refl; tracks = (g12b-track, tt) };
+  movie_tree = record { movie = record { tiles = record { front = (((record { kind = codes "mvhd"; length = 8; size = 120 }, refl, refl), ((record { kind = codes "trak"; length = 8; size = 369 }, refl, refl), ((record { kind = codes "mvex"; length = 8; size = 60 }, refl, refl), tt))), tt); full = refl }; allowed = (refl, (refl, (refl, tt))); quantities = (refl, (lit≤ tt, (tt, (tt, tt)))) }; extends = record { tiles = record { front = (((record { kind = codes "mehd"; length = 8; size = 20 }, refl, refl), ((record { kind = codes "trex"; length = 8; size = 32 }, refl, refl), tt)), tt); full = refl }; allowed = (refl, (refl, tt)); quantities = (lit≤ tt, (tt, tt)) }; traks = refl; tracks = (g12b-track, tt) };
   movie_sound = record { movie = (record { readable = record { version = refl; flags = refl; room = lit≤ tt }; value = refl; inside = refl; offsets = refl }, (tt, (tt, tt))); kept = tt; tracks = (record { track = (record { readable = record { version = refl; flags = refl; room = lit≤ tt }; value = refl; inside = refl; offsets = refl }, (tt, tt)); kept = tt; edits = tt; media = (record { readable = record { version = refl; flags = refl; room = lit≤ tt }; value = refl; inside = refl; offsets = refl }, (record { readable = record { version = refl; flags = refl; room = lit≤ tt }; value = refl; inside = refl; offsets = refl }, (tt, tt))); data_information = (record { readable = record { version = refl; flags = refl; room = lit≤ tt }; value = refl; inside = refl; offsets = refl }, tt); data_references = (record { readable = record { version = refl; flags = refl; room = lit≤ tt }; value = refl; inside = refl; offsets = refl }, tt); urls = (refl, tt); stsd = record { readable = record { version = refl; flags = refl; room = lit≤ tt }; value = refl; inside = refl; offsets = refl }; descriptions = (record { readable = record { version = refl; flags = refl; room = lit≤ tt }; value = refl; inside = refl; offsets = refl }, tt) }, tt); track_ids = refl; extends = (tt, (record { readable = record { version = refl; flags = refl; room = lit≤ tt }; value = refl; inside = refl; offsets = refl }, tt)); trex_ids = refl };
   tables_sound = ((record { readable = record { version = refl; flags = refl; room = lit≤ tt }; value = refl; inside = refl; offsets = refl }, (record { readable = record { version = refl; flags = refl; room = lit≤ tt }; value = refl; inside = refl; offsets = refl }, (record { readable = record { version = refl; flags = refl; room = lit≤ tt }; value = refl; inside = refl; offsets = refl }, (record { readable = record { version = refl; flags = refl; room = lit≤ tt }; value = refl; inside = refl; offsets = refl }, (record { readable = record { version = refl; flags = refl; room = lit≤ tt }; value = refl; inside = refl; offsets = refl }, tt))))), tt);
   tables_fit = (g12b-fit, tt);
@@ -219,7 +219,7 @@ abbrev fragment_counts_track_tree : TrackTree
 fragment_counts_track_tree = record { trak = part fragment_counts 152 395 (codes "trak"); track = part fragment_counts 160 104 (codes "tkhd") ∷ part fragment_counts 264 283 (codes "mdia") ∷ []; edits = []; media = part fragment_counts 272 44 (codes "mdhd") ∷ part fragment_counts 316 33 (codes "hdlr") ∷ part fragment_counts 349 198 (codes "minf") ∷ []; information = part fragment_counts 357 20 (codes "vmhd") ∷ part fragment_counts 377 36 (codes "dinf") ∷ part fragment_counts 413 134 (codes "stbl") ∷ []; data_information = part fragment_counts 385 28 (codes "dref") ∷ []; data_references = part fragment_counts 401 12 (codes "url ") ∷ []; table = part fragment_counts 421 32 (codes "stsd") ∷ part fragment_counts 453 16 (codes "stts") ∷ part fragment_counts 469 16 (codes "stsc") ∷ part fragment_counts 485 20 (codes "stsz") ∷ part fragment_counts 505 16 (codes "stco") ∷ part fragment_counts 521 26 (codes "sgpd") ∷ []; descriptions = part fragment_counts 437 16 (codes "mp4v") ∷ [] }
 
 fragment_counts-track : IsTrackTree fragment_counts_track_tree
-fragment_counts-track = record { track = record { tiles = record { front = (((record { kind = codes "tkhd"; length = 8; size = 104 }, refl, refl), ((record { kind = codes "mdia"; length = 8; size = 283 }, refl, refl), tt)), tt); full = refl }; allowed = (refl, (refl, tt)); quantities = (refl, (refl, (lit≤ tt, (tt, (tt, (tt, tt)))))) }; edits = refl; media = record { tiles = record { front = (((record { kind = codes "mdhd"; length = 8; size = 44 }, refl, refl), ((record { kind = codes "hdlr"; length = 8; size = 33 }, refl, refl), ((record { kind = codes "minf"; length = 8; size = 198 }, refl, refl), tt))), tt); full = refl }; allowed = (refl, (refl, (refl, tt))); quantities = (refl, (refl, (refl, (tt, tt)))) }; information = record { tiles = record { front = (((record { kind = codes "vmhd"; length = 8; size = 20 }, refl, refl), ((record { kind = codes "dinf"; length = 8; size = 36 }, refl, refl), ((record { kind = codes "stbl"; length = 8; size = 134 }, refl, refl), tt))), tt); full = refl }; allowed = (refl, (refl, (refl, tt))); quantities = (refl, (refl, (refl, tt))) }; data_information = record { tiles = record { front = (((record { kind = codes "dref"; length = 8; size = 28 }, refl, refl), tt), tt); full = refl }; allowed = (refl, tt); quantities = (refl, tt) }; data_references = record { front = (((record { kind = codes "url "; length = 8; size = 12 }, refl, refl), tt), lit≤ tt); full = refl }; table = record { tiles = record { front = (((record { kind = codes "stsd"; length = 8; size = 32 }, refl, refl), ((record { kind = codes "stts"; length = 8; size = 16 }, refl, refl), ((record { kind = codes "stsc"; length = 8; size = 16 }, refl, refl), ((record { kind = codes "stsz"; length = 8; size = 20 }, refl, refl), ((record { kind = codes "stco"; length = 8; size = 16 }, refl, refl), ((record { kind = codes "sgpd"; length = 8; size = 26 }, refl, refl), tt)))))), tt); full = refl }; allowed = (refl, (refl, (refl, (refl, (refl, (refl, tt)))))); quantities = (refl, (refl, (refl, (refl, (refl, (lit≤ tt, (lit≤ tt, (lit≤ tt, (lit≤ tt, (tt, (tt, tt))))))))))) }; descriptions = record { front = (((record { kind = codes "mp4v"; length = 8; size = 16 }, refl, refl), tt), lit≤ tt); full = refl } }
+fragment_counts-track = record { track = record { tiles = record { front = (((record { kind = codes "tkhd"; length = 8; size = 104 }, refl, refl), ((record { kind = codes "mdia"; length = 8; size = 283 }, refl, refl), tt)), tt); full = refl }; allowed = (refl, (refl, tt)); quantities = (refl, (refl, (lit≤ tt, (tt, tt)))) }; edits = refl; media = record { tiles = record { front = (((record { kind = codes "mdhd"; length = 8; size = 44 }, refl, refl), ((record { kind = codes "hdlr"; length = 8; size = 33 }, refl, refl), ((record { kind = codes "minf"; length = 8; size = 198 }, refl, refl), tt))), tt); full = refl }; allowed = (refl, (refl, (refl, tt))); quantities = (refl, (refl, (refl, (tt, tt)))) }; information = record { tiles = record { front = (((record { kind = codes "vmhd"; length = 8; size = 20 }, refl, refl), ((record { kind = codes "dinf"; length = 8; size = 36 }, refl, refl), ((record { kind = codes "stbl"; length = 8; size = 134 }, refl, refl), tt))), tt); full = refl }; allowed = (refl, (refl, (refl, tt))); quantities = (refl, (refl, (refl, tt))) }; data_information = record { tiles = record { front = (((record { kind = codes "dref"; length = 8; size = 28 }, refl, refl), tt), tt); full = refl }; allowed = (refl, tt); quantities = (refl, tt) }; data_references = record { front = (((record { kind = codes "url "; length = 8; size = 12 }, refl, refl), tt), lit≤ tt); full = refl }; table = record { tiles = record { front = (((record { kind = codes "stsd"; length = 8; size = 32 }, refl, refl), ((record { kind = codes "stts"; length = 8; size = 16 }, refl, refl), ((record { kind = codes "stsc"; length = 8; size = 16 }, refl, refl), ((record { kind = codes "stsz"; length = 8; size = 20 }, refl, refl), ((record { kind = codes "stco"; length = 8; size = 16 }, refl, refl), ((record { kind = codes "sgpd"; length = 8; size = 26 }, refl, refl), tt)))))), tt); full = refl }; allowed = (refl, (refl, (refl, (refl, (refl, (refl, tt)))))); quantities = (refl, (refl, (refl, (refl, (refl, (lit≤ tt, (lit≤ tt, (lit≤ tt, (lit≤ tt, (tt, (tt, tt))))))))))) }; descriptions = record { front = (((record { kind = codes "mp4v"; length = 8; size = 16 }, refl, refl), tt), lit≤ tt); full = refl } }
 
 fragment_counts-fit : Fit (surroundings fragment_counts fragment_counts_track_tree) (tables_of (fragment_counts_track_tree).table)
 fragment_counts-fit dependency_room = refl
@@ -240,7 +240,7 @@ fragment_counts_behind = record {
   is_moof = refl;
   movie = record { moov = part fragment_counts 24 583 (codes "moov"); movie = part fragment_counts 32 120 (codes "mvhd") ∷ part fragment_counts 152 395 (codes "trak") ∷ part fragment_counts 547 60 (codes "mvex") ∷ []; extends = part fragment_counts 555 20 (codes "mehd") ∷ part fragment_counts 575 32 (codes "trex") ∷ []; tracks = fragment_counts_track_tree ∷ [] };
   is_moov = refl;
-  movie_tree = record { movie = record { tiles = record { front = (((record { kind = codes "mvhd"; length = 8; size = 120 }, refl, refl), ((record { kind = codes "trak"; length = 8; size = 395 }, refl, refl), ((record { kind = codes "mvex"; length = 8; size = 60 }, refl, refl), tt))), tt); full = refl }; allowed = (refl, (refl, (refl, tt))); quantities = (refl, (lit≤ tt, (tt, (tt, (tt, (tt, tt)))))) }; extends = record { tiles = record { front = (((record { kind = codes "mehd"; length = 8; size = 20 }, refl, refl), ((record { kind = codes "trex"; length = 8; size = 32 }, refl, refl), tt)), tt); full = refl }; allowed = (refl, (refl, tt)); quantities = (lit≤ tt, (tt, tt)) }; traks = refl; tracks = (fragment_counts-track, tt) };
+  movie_tree = record { movie = record { tiles = record { front = (((record { kind = codes "mvhd"; length = 8; size = 120 }, refl, refl), ((record { kind = codes "trak"; length = 8; size = 395 }, refl, refl), ((record { kind = codes "mvex"; length = 8; size = 60 }, refl, refl), tt))), tt); full = refl }; allowed = (refl, (refl, (refl, tt))); quantities = (refl, (lit≤ tt, (tt, (tt, tt)))) }; extends = record { tiles = record { front = (((record { kind = codes "mehd"; length = 8; size = 20 }, refl, refl), ((record { kind = codes "trex"; length = 8; size = 32 }, refl, refl), tt)), tt); full = refl }; allowed = (refl, (refl, tt)); quantities = (lit≤ tt, (tt, tt)) }; traks = refl; tracks = (fragment_counts-track, tt) };
   movie_sound = record { movie = (record { readable = record { version = refl; flags = refl; room = lit≤ tt }; value = refl; inside = refl; offsets = refl }, (tt, (tt, tt))); kept = tt; tracks = (record { track = (record { readable = record { version = refl; flags = refl; room = lit≤ tt }; value = refl; inside = refl; offsets = refl }, (tt, tt)); kept = tt; edits = tt; media = (record { readable = record { version = refl; flags = refl; room = lit≤ tt }; value = refl; inside = refl; offsets = refl }, (record { readable = record { version = refl; flags = refl; room = lit≤ tt }; value = refl; inside = refl; offsets = refl }, (tt, tt))); data_information = (record { readable = record { version = refl; flags = refl; room = lit≤ tt }; value = refl; inside = refl; offsets = refl }, tt); data_references = (record { readable = record { version = refl; flags = refl; room = lit≤ tt }; value = refl; inside = refl; offsets = refl }, tt); urls = (refl, tt); stsd = record { readable = record { version = refl; flags = refl; room = lit≤ tt }; value = refl; inside = refl; offsets = refl }; descriptions = (record { readable = record { version = refl; flags = refl; room = lit≤ tt }; value = refl; inside = refl; offsets = refl }, tt) }, tt); track_ids = refl; extends = (tt, (record { readable = record { version = refl; flags = refl; room = lit≤ tt }; value = refl; inside = refl; offsets = refl }, tt)); trex_ids = refl };
   tables_sound = ((record { readable = record { version = refl; flags = refl; room = lit≤ tt }; value = refl; inside = refl; offsets = refl }, (record { readable = record { version = refl; flags = refl; room = lit≤ tt }; value = refl; inside = refl; offsets = refl }, (record { readable = record { version = refl; flags = refl; room = lit≤ tt }; value = refl; inside = refl; offsets = refl }, (record { readable = record { version = refl; flags = refl; room = lit≤ tt }; value = refl; inside = refl; offsets = refl }, (record { readable = record { version = refl; flags = refl; room = lit≤ tt }; value = refl; inside = refl; offsets = refl }, (record { readable = record { version = refl; flags = refl; room = lit≤ tt }; value = refl; inside = refl; offsets = refl }, tt)))))), tt);
   tables_fit = (fragment_counts-fit, tt);
@@ -281,7 +281,7 @@ abbrev fragment_twice_track_tree : TrackTree
 fragment_twice_track_tree = record { trak = part fragment_twice 152 395 (codes "trak"); track = part fragment_twice 160 104 (codes "tkhd") ∷ part fragment_twice 264 283 (codes "mdia") ∷ []; edits = []; media = part fragment_twice 272 44 (codes "mdhd") ∷ part fragment_twice 316 33 (codes "hdlr") ∷ part fragment_twice 349 198 (codes "minf") ∷ []; information = part fragment_twice 357 20 (codes "vmhd") ∷ part fragment_twice 377 36 (codes "dinf") ∷ part fragment_twice 413 134 (codes "stbl") ∷ []; data_information = part fragment_twice 385 28 (codes "dref") ∷ []; data_references = part fragment_twice 401 12 (codes "url ") ∷ []; table = part fragment_twice 421 32 (codes "stsd") ∷ part fragment_twice 453 16 (codes "stts") ∷ part fragment_twice 469 16 (codes "stsc") ∷ part fragment_twice 485 20 (codes "stsz") ∷ part fragment_twice 505 16 (codes "stco") ∷ part fragment_twice 521 26 (codes "sgpd") ∷ []; descriptions = part fragment_twice 437 16 (codes "mp4v") ∷ [] }
 
 fragment_twice-track : IsTrackTree fragment_twice_track_tree
-fragment_twice-track = record { track = record { tiles = record { front = (((record { kind = codes "tkhd"; length = 8; size = 104 }, refl, refl), ((record { kind = codes "mdia"; length = 8; size = 283 }, refl, refl), tt)), tt); full = refl }; allowed = (refl, (refl, tt)); quantities = (refl, (refl, (lit≤ tt, (tt, (tt, (tt, tt)))))) }; edits = refl; media = record { tiles = record { front = (((record { kind = codes "mdhd"; length = 8; size = 44 }, refl, refl), ((record { kind = codes "hdlr"; length = 8; size = 33 }, refl, refl), ((record { kind = codes "minf"; length = 8; size = 198 }, refl, refl), tt))), tt); full = refl }; allowed = (refl, (refl, (refl, tt))); quantities = (refl, (refl, (refl, (tt, tt)))) }; information = record { tiles = record { front = (((record { kind = codes "vmhd"; length = 8; size = 20 }, refl, refl), ((record { kind = codes "dinf"; length = 8; size = 36 }, refl, refl), ((record { kind = codes "stbl"; length = 8; size = 134 }, refl, refl), tt))), tt); full = refl }; allowed = (refl, (refl, (refl, tt))); quantities = (refl, (refl, (refl, tt))) }; data_information = record { tiles = record { front = (((record { kind = codes "dref"; length = 8; size = 28 }, refl, refl), tt), tt); full = refl }; allowed = (refl, tt); quantities = (refl, tt) }; data_references = record { front = (((record { kind = codes "url "; length = 8; size = 12 }, refl, refl), tt), lit≤ tt); full = refl }; table = record { tiles = record { front = (((record { kind = codes "stsd"; length = 8; size = 32 }, refl, refl), ((record { kind = codes "stts"; length = 8; size = 16 }, refl, refl), ((record { kind = codes "stsc"; length = 8; size = 16 }, refl, refl), ((record { kind = codes "stsz"; length = 8; size = 20 }, refl, refl), ((record { kind = codes "stco"; length = 8; size = 16 }, refl, refl), ((record { kind = codes "sgpd"; length = 8; size = 26 }, refl, refl), tt)))))), tt); full = refl }; allowed = (refl, (refl, (refl, (refl, (refl, (refl, tt)))))); quantities = (refl, (refl, (refl, (refl, (refl, (lit≤ tt, (lit≤ tt, (lit≤ tt, (lit≤ tt, (tt, (tt, tt))))))))))) }; descriptions = record { front = (((record { kind = codes "mp4v"; length = 8; size = 16 }, refl, refl), tt), lit≤ tt); full = refl } }
+fragment_twice-track = record { track = record { tiles = record { front = (((record { kind = codes "tkhd"; length = 8; size = 104 }, refl, refl), ((record { kind = codes "mdia"; length = 8; size = 283 }, refl, refl), tt)), tt); full = refl }; allowed = (refl, (refl, tt)); quantities = (refl, (refl, (lit≤ tt, (tt, tt)))) }; edits = refl; media = record { tiles = record { front = (((record { kind = codes "mdhd"; length = 8; size = 44 }, refl, refl), ((record { kind = codes "hdlr"; length = 8; size = 33 }, refl, refl), ((record { kind = codes "minf"; length = 8; size = 198 }, refl, refl), tt))), tt); full = refl }; allowed = (refl, (refl, (refl, tt))); quantities = (refl, (refl, (refl, (tt, tt)))) }; information = record { tiles = record { front = (((record { kind = codes "vmhd"; length = 8; size = 20 }, refl, refl), ((record { kind = codes "dinf"; length = 8; size = 36 }, refl, refl), ((record { kind = codes "stbl"; length = 8; size = 134 }, refl, refl), tt))), tt); full = refl }; allowed = (refl, (refl, (refl, tt))); quantities = (refl, (refl, (refl, tt))) }; data_information = record { tiles = record { front = (((record { kind = codes "dref"; length = 8; size = 28 }, refl, refl), tt), tt); full = refl }; allowed = (refl, tt); quantities = (refl, tt) }; data_references = record { front = (((record { kind = codes "url "; length = 8; size = 12 }, refl, refl), tt), lit≤ tt); full = refl }; table = record { tiles = record { front = (((record { kind = codes "stsd"; length = 8; size = 32 }, refl, refl), ((record { kind = codes "stts"; length = 8; size = 16 }, refl, refl), ((record { kind = codes "stsc"; length = 8; size = 16 }, refl, refl), ((record { kind = codes "stsz"; length = 8; size = 20 }, refl, refl), ((record { kind = codes "stco"; length = 8; size = 16 }, refl, refl), ((record { kind = codes "sgpd"; length = 8; size = 26 }, refl, refl), tt)))))), tt); full = refl }; allowed = (refl, (refl, (refl, (refl, (refl, (refl, tt)))))); quantities = (refl, (refl, (refl, (refl, (refl, (lit≤ tt, (lit≤ tt, (lit≤ tt, (lit≤ tt, (tt, (tt, tt))))))))))) }; descriptions = record { front = (((record { kind = codes "mp4v"; length = 8; size = 16 }, refl, refl), tt), lit≤ tt); full = refl } }
 
 fragment_twice-fit : Fit (surroundings fragment_twice fragment_twice_track_tree) (tables_of (fragment_twice_track_tree).table)
 fragment_twice-fit dependency_room = refl
@@ -302,7 +302,7 @@ fragment_twice_behind = record {
   is_moof = refl;
   movie = record { moov = part fragment_twice 24 583 (codes "moov"); movie = part fragment_twice 32 120 (codes "mvhd") ∷ part fragment_twice 152 395 (codes "trak") ∷ part fragment_twice 547 60 (codes "mvex") ∷ []; extends = part fragment_twice 555 20 (codes "mehd") ∷ part fragment_twice 575 32 (codes "trex") ∷ []; tracks = fragment_twice_track_tree ∷ [] };
   is_moov = refl;
-  movie_tree = record { movie = record { tiles = record { front = (((record { kind = codes "mvhd"; length = 8; size = 120 }, refl, refl), ((record { kind = codes "trak"; length = 8; size = 395 }, refl, refl), ((record { kind = codes "mvex"; length = 8; size = 60 }, refl, refl), tt))), tt); full = refl }; allowed = (refl, (refl, (refl, tt))); quantities = (refl, (lit≤ tt, (tt, (tt, (tt, (tt, tt)))))) }; extends = record { tiles = record { front = (((record { kind = codes "mehd"; length = 8; size = 20 }, refl, refl), ((record { kind = codes "trex"; length = 8; size = 32 }, refl, refl), tt)), tt); full = refl }; allowed = (refl, (refl, tt)); quantities = (lit≤ tt, (tt, tt)) }; traks = refl; tracks = (fragment_twice-track, tt) };
+  movie_tree = record { movie = record { tiles = record { front = (((record { kind = codes "mvhd"; length = 8; size = 120 }, refl, refl), ((record { kind = codes "trak"; length = 8; size = 395 }, refl, refl), ((record { kind = codes "mvex"; length = 8; size = 60 }, refl, refl), tt))), tt); full = refl }; allowed = (refl, (refl, (refl, tt))); quantities = (refl, (lit≤ tt, (tt, (tt, tt)))) }; extends = record { tiles = record { front = (((record { kind = codes "mehd"; length = 8; size = 20 }, refl, refl), ((record { kind = codes "trex"; length = 8; size = 32 }, refl, refl), tt)), tt); full = refl }; allowed = (refl, (refl, tt)); quantities = (lit≤ tt, (tt, tt)) }; traks = refl; tracks = (fragment_twice-track, tt) };
   movie_sound = record { movie = (record { readable = record { version = refl; flags = refl; room = lit≤ tt }; value = refl; inside = refl; offsets = refl }, (tt, (tt, tt))); kept = tt; tracks = (record { track = (record { readable = record { version = refl; flags = refl; room = lit≤ tt }; value = refl; inside = refl; offsets = refl }, (tt, tt)); kept = tt; edits = tt; media = (record { readable = record { version = refl; flags = refl; room = lit≤ tt }; value = refl; inside = refl; offsets = refl }, (record { readable = record { version = refl; flags = refl; room = lit≤ tt }; value = refl; inside = refl; offsets = refl }, (tt, tt))); data_information = (record { readable = record { version = refl; flags = refl; room = lit≤ tt }; value = refl; inside = refl; offsets = refl }, tt); data_references = (record { readable = record { version = refl; flags = refl; room = lit≤ tt }; value = refl; inside = refl; offsets = refl }, tt); urls = (refl, tt); stsd = record { readable = record { version = refl; flags = refl; room = lit≤ tt }; value = refl; inside = refl; offsets = refl }; descriptions = (record { readable = record { version = refl; flags = refl; room = lit≤ tt }; value = refl; inside = refl; offsets = refl }, tt) }, tt); track_ids = refl; extends = (tt, (record { readable = record { version = refl; flags = refl; room = lit≤ tt }; value = refl; inside = refl; offsets = refl }, tt)); trex_ids = refl };
   tables_sound = ((record { readable = record { version = refl; flags = refl; room = lit≤ tt }; value = refl; inside = refl; offsets = refl }, (record { readable = record { version = refl; flags = refl; room = lit≤ tt }; value = refl; inside = refl; offsets = refl }, (record { readable = record { version = refl; flags = refl; room = lit≤ tt }; value = refl; inside = refl; offsets = refl }, (record { readable = record { version = refl; flags = refl; room = lit≤ tt }; value = refl; inside = refl; offsets = refl }, (record { readable = record { version = refl; flags = refl; room = lit≤ tt }; value = refl; inside = refl; offsets = refl }, (record { readable = record { version = refl; flags = refl; room = lit≤ tt }; value = refl; inside = refl; offsets = refl }, tt)))))), tt);
   tables_fit = (fragment_twice-fit, tt);
@@ -343,7 +343,7 @@ abbrev fragment_keys_track_tree : TrackTree
 fragment_keys_track_tree = record { trak = part fragment_keys 152 395 (codes "trak"); track = part fragment_keys 160 104 (codes "tkhd") ∷ part fragment_keys 264 283 (codes "mdia") ∷ []; edits = []; media = part fragment_keys 272 44 (codes "mdhd") ∷ part fragment_keys 316 33 (codes "hdlr") ∷ part fragment_keys 349 198 (codes "minf") ∷ []; information = part fragment_keys 357 20 (codes "vmhd") ∷ part fragment_keys 377 36 (codes "dinf") ∷ part fragment_keys 413 134 (codes "stbl") ∷ []; data_information = part fragment_keys 385 28 (codes "dref") ∷ []; data_references = part fragment_keys 401 12 (codes "url ") ∷ []; table = part fragment_keys 421 32 (codes "stsd") ∷ part fragment_keys 453 16 (codes "stts") ∷ part fragment_keys 469 16 (codes "stsc") ∷ part fragment_keys 485 20 (codes "stsz") ∷ part fragment_keys 505 16 (codes "stco") ∷ part fragment_keys 521 26 (codes "sgpd") ∷ []; descriptions = part fragment_keys 437 16 (codes "mp4v") ∷ [] }
 
 fragment_keys-track : IsTrackTree fragment_keys_track_tree
-fragment_keys-track = record { track = record { tiles = record { front = (((record { kind = codes "tkhd"; length = 8; size = 104 }, refl, refl), ((record { kind = codes "mdia"; length = 8; size = 283 }, refl, refl), tt)), tt); full = refl }; allowed = (refl, (refl, tt)); quantities = (refl, (refl, (lit≤ tt, (tt, (tt, (tt, tt)))))) }; edits = refl; media = record { tiles = record { front = (((record { kind = codes "mdhd"; length = 8; size = 44 }, refl, refl), ((record { kind = codes "hdlr"; length = 8; size = 33 }, refl, refl), ((record { kind = codes "minf"; length = 8; size = 198 }, refl, refl), tt))), tt); full = refl }; allowed = (refl, (refl, (refl, tt))); quantities = (refl, (refl, (refl, (tt, tt)))) }; information = record { tiles = record { front = (((record { kind = codes "vmhd"; length = 8; size = 20 }, refl, refl), ((record { kind = codes "dinf"; length = 8; size = 36 }, refl, refl), ((record { kind = codes "stbl"; length = 8; size = 134 }, refl, refl), tt))), tt); full = refl }; allowed = (refl, (refl, (refl, tt))); quantities = (refl, (refl, (refl, tt))) }; data_information = record { tiles = record { front = (((record { kind = codes "dref"; length = 8; size = 28 }, refl, refl), tt), tt); full = refl }; allowed = (refl, tt); quantities = (refl, tt) }; data_references = record { front = (((record { kind = codes "url "; length = 8; size = 12 }, refl, refl), tt), lit≤ tt); full = refl }; table = record { tiles = record { front = (((record { kind = codes "stsd"; length = 8; size = 32 }, refl, refl), ((record { kind = codes "stts"; length = 8; size = 16 }, refl, refl), ((record { kind = codes "stsc"; length = 8; size = 16 }, refl, refl), ((record { kind = codes "stsz"; length = 8; size = 20 }, refl, refl), ((record { kind = codes "stco"; length = 8; size = 16 }, refl, refl), ((record { kind = codes "sgpd"; length = 8; size = 26 }, refl, refl), tt)))))), tt); full = refl }; allowed = (refl, (refl, (refl, (refl, (refl, (refl, tt)))))); quantities = (refl, (refl, (refl, (refl, (refl, (lit≤ tt, (lit≤ tt, (lit≤ tt, (lit≤ tt, (tt, (tt, tt))))))))))) }; descriptions = record { front = (((record { kind = codes "mp4v"; length = 8; size = 16 }, refl, refl), tt), lit≤ tt); full = refl } }
+fragment_keys-track = record { track = record { tiles = record { front = (((record { kind = codes "tkhd"; length = 8; size = 104 }, refl, refl), ((record { kind = codes "mdia"; length = 8; size = 283 }, refl, refl), tt)), tt); full = refl }; allowed = (refl, (refl, tt)); quantities = (refl, (refl, (lit≤ tt, (tt, tt)))) }; edits = refl; media = record { tiles = record { front = (((record { kind = codes "mdhd"; length = 8; size = 44 }, refl, refl), ((record { kind = codes "hdlr"; length = 8; size = 33 }, refl, refl), ((record { kind = codes "minf"; length = 8; size = 198 }, refl, refl), tt))), tt); full = refl }; allowed = (refl, (refl, (refl, tt))); quantities = (refl, (refl, (refl, (tt, tt)))) }; information = record { tiles = record { front = (((record { kind = codes "vmhd"; length = 8; size = 20 }, refl, refl), ((record { kind = codes "dinf"; length = 8; size = 36 }, refl, refl), ((record { kind = codes "stbl"; length = 8; size = 134 }, refl, refl), tt))), tt); full = refl }; allowed = (refl, (refl, (refl, tt))); quantities = (refl, (refl, (refl, tt))) }; data_information = record { tiles = record { front = (((record { kind = codes "dref"; length = 8; size = 28 }, refl, refl), tt), tt); full = refl }; allowed = (refl, tt); quantities = (refl, tt) }; data_references = record { front = (((record { kind = codes "url "; length = 8; size = 12 }, refl, refl), tt), lit≤ tt); full = refl }; table = record { tiles = record { front = (((record { kind = codes "stsd"; length = 8; size = 32 }, refl, refl), ((record { kind = codes "stts"; length = 8; size = 16 }, refl, refl), ((record { kind = codes "stsc"; length = 8; size = 16 }, refl, refl), ((record { kind = codes "stsz"; length = 8; size = 20 }, refl, refl), ((record { kind = codes "stco"; length = 8; size = 16 }, refl, refl), ((record { kind = codes "sgpd"; length = 8; size = 26 }, refl, refl), tt)))))), tt); full = refl }; allowed = (refl, (refl, (refl, (refl, (refl, (refl, tt)))))); quantities = (refl, (refl, (refl, (refl, (refl, (lit≤ tt, (lit≤ tt, (lit≤ tt, (lit≤ tt, (tt, (tt, tt))))))))))) }; descriptions = record { front = (((record { kind = codes "mp4v"; length = 8; size = 16 }, refl, refl), tt), lit≤ tt); full = refl } }
 
 fragment_keys-fit : Fit (surroundings fragment_keys fragment_keys_track_tree) (tables_of (fragment_keys_track_tree).table)
 fragment_keys-fit dependency_room = refl
@@ -364,7 +364,7 @@ fragment_keys_behind = record {
   is_moof = refl;
   movie = record { moov = part fragment_keys 24 583 (codes "moov"); movie = part fragment_keys 32 120 (codes "mvhd") ∷ part fragment_keys 152 395 (codes "trak") ∷ part fragment_keys 547 60 (codes "mvex") ∷ []; extends = part fragment_keys 555 20 (codes "mehd") ∷ part fragment_keys 575 32 (codes "trex") ∷ []; tracks = fragment_keys_track_tree ∷ [] };
   is_moov = refl;
-  movie_tree = record { movie = record { tiles = record { front = (((record { kind = codes "mvhd"; length = 8; size = 120 }, refl, refl), ((record { kind = codes "trak"; length = 8; size = 395 }, refl, refl), ((record { kind = codes "mvex"; length = 8; size = 60 }, refl, refl), tt))), tt); full = refl }; allowed = (refl, (refl, (refl, tt))); quantities = (refl, (lit≤ tt, (tt, (tt, (tt, (tt, tt)))))) }; extends = record { tiles = record { front = (((record { kind = codes "mehd"; length = 8; size = 20 }, refl, refl), ((record { kind = codes "trex"; length = 8; size = 32 }, refl, refl), tt)), tt); full = refl }; allowed = (refl, (refl, tt)); quantities = (lit≤ tt, (tt, tt)) }; traks = refl; tracks = (fragment_keys-track, tt) };
+  movie_tree = record { movie = record { tiles = record { front = (((record { kind = codes "mvhd"; length = 8; size = 120 }, refl, refl), ((record { kind = codes "trak"; length = 8; size = 395 }, refl, refl), ((record { kind = codes "mvex"; length = 8; size = 60 }, refl, refl), tt))), tt); full = refl }; allowed = (refl, (refl, (refl, tt))); quantities = (refl, (lit≤ tt, (tt, (tt, tt)))) }; extends = record { tiles = record { front = (((record { kind = codes "mehd"; length = 8; size = 20 }, refl, refl), ((record { kind = codes "trex"; length = 8; size = 32 }, refl, refl), tt)), tt); full = refl }; allowed = (refl, (refl, tt)); quantities = (lit≤ tt, (tt, tt)) }; traks = refl; tracks = (fragment_keys-track, tt) };
   movie_sound = record { movie = (record { readable = record { version = refl; flags = refl; room = lit≤ tt }; value = refl; inside = refl; offsets = refl }, (tt, (tt, tt))); kept = tt; tracks = (record { track = (record { readable = record { version = refl; flags = refl; room = lit≤ tt }; value = refl; inside = refl; offsets = refl }, (tt, tt)); kept = tt; edits = tt; media = (record { readable = record { version = refl; flags = refl; room = lit≤ tt }; value = refl; inside = refl; offsets = refl }, (record { readable = record { version = refl; flags = refl; room = lit≤ tt }; value = refl; inside = refl; offsets = refl }, (tt, tt))); data_information = (record { readable = record { version = refl; flags = refl; room = lit≤ tt }; value = refl; inside = refl; offsets = refl }, tt); data_references = (record { readable = record { version = refl; flags = refl; room = lit≤ tt }; value = refl; inside = refl; offsets = refl }, tt); urls = (refl, tt); stsd = record { readable = record { version = refl; flags = refl; room = lit≤ tt }; value = refl; inside = refl; offsets = refl }; descriptions = (record { readable = record { version = refl; flags = refl; room = lit≤ tt }; value = refl; inside = refl; offsets = refl }, tt) }, tt); track_ids = refl; extends = (tt, (record { readable = record { version = refl; flags = refl; room = lit≤ tt }; value = refl; inside = refl; offsets = refl }, tt)); trex_ids = refl };
   tables_sound = ((record { readable = record { version = refl; flags = refl; room = lit≤ tt }; value = refl; inside = refl; offsets = refl }, (record { readable = record { version = refl; flags = refl; room = lit≤ tt }; value = refl; inside = refl; offsets = refl }, (record { readable = record { version = refl; flags = refl; room = lit≤ tt }; value = refl; inside = refl; offsets = refl }, (record { readable = record { version = refl; flags = refl; room = lit≤ tt }; value = refl; inside = refl; offsets = refl }, (record { readable = record { version = refl; flags = refl; room = lit≤ tt }; value = refl; inside = refl; offsets = refl }, (record { readable = record { version = refl; flags = refl; room = lit≤ tt }; value = refl; inside = refl; offsets = refl }, tt)))))), tt);
   tables_fit = (fragment_keys-fit, tt);
@@ -402,7 +402,7 @@ abbrev r10_track_tree : TrackTree
 r10_track_tree = record { trak = part r10 140 389 (codes "trak"); track = part r10 148 92 (codes "tkhd") ∷ part r10 240 289 (codes "mdia") ∷ []; edits = []; media = part r10 248 32 (codes "mdhd") ∷ part r10 280 33 (codes "hdlr") ∷ part r10 313 216 (codes "minf") ∷ []; information = part r10 321 20 (codes "vmhd") ∷ part r10 341 36 (codes "dinf") ∷ part r10 377 152 (codes "stbl") ∷ []; data_information = part r10 349 28 (codes "dref") ∷ []; data_references = part r10 365 12 (codes "url ") ∷ []; table = part r10 385 32 (codes "stsd") ∷ part r10 417 24 (codes "stts") ∷ part r10 441 20 (codes "stss") ∷ part r10 461 28 (codes "stsc") ∷ part r10 489 20 (codes "stsz") ∷ part r10 509 20 (codes "stco") ∷ []; descriptions = part r10 401 16 (codes "mp4v") ∷ [] }
 
 r10-track : IsTrackTree r10_track_tree
-r10-track = record { track = record { tiles = record { front = (((record { kind = codes "tkhd"; length = 8; size = 92 }, refl, refl), ((record { kind = codes "mdia"; length = 8; size = 289 }, refl, refl), tt)), tt); full = refl }; allowed = (refl, (refl, tt)); quantities = (refl, (refl, (lit≤ tt, (tt, (tt, (tt, tt)))))) }; edits = refl; media = record { tiles = record { front = (((record { kind = codes "mdhd"; length = 8; size = 32 }, refl, refl), ((record { kind = codes "hdlr"; length = 8; size = 33 }, refl, refl), ((record { kind = codes "minf"; length = 8; size = 216 }, refl, refl), tt))), tt); full = refl }; allowed = (refl, (refl, (refl, tt))); quantities = (refl, (refl, (refl, (tt, tt)))) }; information = record { tiles = record { front = (((record { kind = codes "vmhd"; length = 8; size = 20 }, refl, refl), ((record { kind = codes "dinf"; length = 8; size = 36 }, refl, refl), ((record { kind = codes "stbl"; length = 8; size = 152 }, refl, refl), tt))), tt); full = refl }; allowed = (refl, (refl, (refl, tt))); quantities = (refl, (refl, (refl, tt))) }; data_information = record { tiles = record { front = (((record { kind = codes "dref"; length = 8; size = 28 }, refl, refl), tt), tt); full = refl }; allowed = (refl, tt); quantities = (refl, tt) }; data_references = record { front = (((record { kind = codes "url "; length = 8; size = 12 }, refl, refl), tt), lit≤ tt); full = refl }; table = record { tiles = record { front = (((record { kind = codes "stsd"; length = 8; size = 32 }, refl, refl), ((record { kind = codes "stts"; length = 8; size = 24 }, refl, refl), ((record { kind = codes "stss"; length = 8; size = 20 }, refl, refl), ((record { kind = codes "stsc"; length = 8; size = 28 }, refl, refl), ((record { kind = codes "stsz"; length = 8; size = 20 }, refl, refl), ((record { kind = codes "stco"; length = 8; size = 20 }, refl, refl), tt)))))), tt); full = refl }; allowed = (refl, (refl, (refl, (refl, (refl, (refl, tt)))))); quantities = (refl, (refl, (refl, (refl, (refl, (lit≤ tt, (lit≤ tt, (lit≤ tt, (lit≤ tt, (tt, (tt, tt))))))))))) }; descriptions = record { front = (((record { kind = codes "mp4v"; length = 8; size = 16 }, refl, refl), tt), lit≤ tt); full = refl } }
+r10-track = record { track = record { tiles = record { front = (((record { kind = codes "tkhd"; length = 8; size = 92 }, refl, refl), ((record { kind = codes "mdia"; length = 8; size = 289 }, refl, refl), tt)), tt); full = refl }; allowed = (refl, (refl, tt)); quantities = (refl, (refl, (lit≤ tt, (tt, tt)))) }; edits = refl; media = record { tiles = record { front = (((record { kind = codes "mdhd"; length = 8; size = 32 }, refl, refl), ((record { kind = codes "hdlr"; length = 8; size = 33 }, refl, refl), ((record { kind = codes "minf"; length = 8; size = 216 }, refl, refl), tt))), tt); full = refl }; allowed = (refl, (refl, (refl, tt))); quantities = (refl, (refl, (refl, (tt, tt)))) }; information = record { tiles = record { front = (((record { kind = codes "vmhd"; length = 8; size = 20 }, refl, refl), ((record { kind = codes "dinf"; length = 8; size = 36 }, refl, refl), ((record { kind = codes "stbl"; length = 8; size = 152 }, refl, refl), tt))), tt); full = refl }; allowed = (refl, (refl, (refl, tt))); quantities = (refl, (refl, (refl, tt))) }; data_information = record { tiles = record { front = (((record { kind = codes "dref"; length = 8; size = 28 }, refl, refl), tt), tt); full = refl }; allowed = (refl, tt); quantities = (refl, tt) }; data_references = record { front = (((record { kind = codes "url "; length = 8; size = 12 }, refl, refl), tt), lit≤ tt); full = refl }; table = record { tiles = record { front = (((record { kind = codes "stsd"; length = 8; size = 32 }, refl, refl), ((record { kind = codes "stts"; length = 8; size = 24 }, refl, refl), ((record { kind = codes "stss"; length = 8; size = 20 }, refl, refl), ((record { kind = codes "stsc"; length = 8; size = 28 }, refl, refl), ((record { kind = codes "stsz"; length = 8; size = 20 }, refl, refl), ((record { kind = codes "stco"; length = 8; size = 20 }, refl, refl), tt)))))), tt); full = refl }; allowed = (refl, (refl, (refl, (refl, (refl, (refl, tt)))))); quantities = (refl, (refl, (refl, (refl, (refl, (lit≤ tt, (lit≤ tt, (lit≤ tt, (lit≤ tt, (tt, (tt, tt))))))))))) }; descriptions = record { front = (((record { kind = codes "mp4v"; length = 8; size = 16 }, refl, refl), tt), lit≤ tt); full = refl } }
 
 count-stands : StandsBy count r10 (record { kind = kinds.TooManySamples; box_type = codes "stsz"; offset = 489 })
 count-stands = inl (record {
@@ -410,7 +410,7 @@ count-stands = inl (record {
   movie = record { moov = part r10 24 505 (codes "moov"); movie = part r10 32 108 (codes "mvhd") ∷ part r10 140 389 (codes "trak") ∷ []; extends = []; tracks = r10_track_tree ∷ [] };
   stands = (((record { kind = codes "ftyp"; length = 8; size = 24 }, refl, refl), ((record { kind = codes "moov"; length = 8; size = 505 }, refl, refl), tt)), tt);
   is_moov = refl;
-  movie_tree = record { movie = record { tiles = record { front = (((record { kind = codes "mvhd"; length = 8; size = 108 }, refl, refl), ((record { kind = codes "trak"; length = 8; size = 389 }, refl, refl), tt)), tt); full = refl }; allowed = (refl, (refl, tt)); quantities = (refl, (lit≤ tt, (tt, (tt, (tt, (tt, tt)))))) }; extends = refl; traks = refl; tracks = (r10-track, tt) };
+  movie_tree = record { movie = record { tiles = record { front = (((record { kind = codes "mvhd"; length = 8; size = 108 }, refl, refl), ((record { kind = codes "trak"; length = 8; size = 389 }, refl, refl), tt)), tt); full = refl }; allowed = (refl, (refl, tt)); quantities = (refl, (lit≤ tt, (tt, (tt, tt)))) }; extends = refl; traks = refl; tracks = (r10-track, tt) };
   before = [];
   t = r10_track_tree;
   after = [];

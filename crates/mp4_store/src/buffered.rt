@@ -35,7 +35,8 @@ fn read_front<S: Store>(
     requires room { len ≤ length room.old }
     ensures honesty { S.is_honest store.new ≡ S.is_honest store.old }
     ensures file { S.file store.new ≡ S.file store.old }
-    ensures bytes { OnOk result (IsTrue (S.is_honest store.old) → take len room.new ≡ range (S.file store.old) at len) }
+    ensures bytes { OnOk result (IsTrue (S.is_honest store.old)
+        → take len room.new ≡ range (S.file store.old) at len) }
     ensures cause { Counts (S.read_failures store.old) (S.read_failures store.new) result }
 {
     store.read_at(at, &mut room[..len])
@@ -49,7 +50,8 @@ impl Window {
     // Whether it has so many bytes from a place on.
     fn has(&self, at: u64, count: usize) -> bool
         ensures some { IsTrue result → Holds self.now at count }
-        ensures all { self.now.start + self.now.len < 2 ^ 64 → Holds self.now at count → IsTrue result }
+        ensures all { self.now.start + self.now.len < 2 ^ 64 → Holds self.now at count
+            → IsTrue result }
     {
         let end = self.start.saturating_add(self.len as u64);
         self.start <= at && at <= end && count as u64 <= end - at
@@ -73,7 +75,8 @@ impl Window {
         ensures honesty { S.is_honest store.new ≡ S.is_honest store.old }
         ensures file { S.file store.new ≡ S.file store.old }
         ensures window { IsWindowOf (S.is_honest store.old) (S.file store.old) self.new }
-        ensures ahead { OnOk result ((self.new.start ≤ at) × (min (at + 4096) (length (S.file store.old)) ≤ self.new.start + self.new.len)) }
+        ensures ahead { OnOk result ((self.new.start ≤ at)
+            × (min (at + 4096) (length (S.file store.old)) ≤ self.new.start + self.new.len)) }
         ensures cause { Counts (S.read_failures store.old) (S.read_failures store.new) result }
     {
         let len = (store.len() - at).min(self.reach(at) as u64) as usize;
@@ -89,7 +92,8 @@ impl Window {
     fn give(&self, at: u64, out: &mut [u8])
         requires within { self.now.len ≤ length self.now.bytes }
         requires holds { Holds self.now at (length out.old) }
-        ensures { (honest : Bool) (file : List ℕ) → IsWindowOf honest file self.now → IsTrue honest → out.new ≡ range file at (length out.old) }
+        ensures { (honest : Bool) (file : List ℕ) → IsWindowOf honest file self.now → IsTrue honest
+            → out.new ≡ range file at (length out.old) }
     {
         let from = (at - self.start) as usize;
         out.copy_from_slice(&self.bytes[from..from + out.len()]);

@@ -3,8 +3,7 @@ use Rattle.std.specs.Prelude.{codes, bytes_eq}
 use Rattle.std.proofs.lemmas.List.{map-append}
 use Rattle.std.proofs.lemmas.Result.{err_from_is_err_and}
 use Rattle.mp4_boxes.specs.Box.{box_container}
-use Rattle.mp4_boxes.specs.Children.{Holds, is_among}
-use Rattle.mp4_boxes.specs.Places.{kept_kinds}
+use Rattle.mp4_boxes.specs.Children.{Holds, is_among, kept_kinds}
 use Rattle.mp4_boxes.specs.View.{box_seen}
 use Rattle.mp4_boxes.specs.declared.rule.Rule.TheVariants as kinds
 use Rattle.mp4_boxes.specs.declared.refusal.Refusal.TheVariants as refusals
