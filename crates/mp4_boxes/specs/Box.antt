@@ -4,7 +4,8 @@ use Rattle.mp4_boxes.specs.Bytes.{sum_of, field}
 use Rattle.mp4_boxes.specs.declared.fault.Kind.{Kind}
 use Rattle.mp4_boxes.specs.declared.fault.Kind.TheVariants.{ShortHeader, BadSize, Overrun}
 
--- a box: its type as four bytes, its first byte's place in the file, the length of its header (8 or 16), its payload
+-- a box: its type as four bytes, its first byte's place in the file, the length of its header (8 or
+-- 16), its payload
 pub record Box : Type 0 where
   pub kind : List ℕ
   pub offset : ℕ
@@ -25,7 +26,8 @@ pub record Header : Type 0 where
   pub length : ℕ
   pub size : ℕ
 
--- How far boxes go on in a container: to the end of the file, to the end of a box, or as many as were counted.
+-- How far boxes go on in a container: to the end of the file, to the end of a box, or as many as
+-- were counted.
 pub data Extent : Type 0 where
   to_end_of_file : Extent
   to_end_of_box : Extent
@@ -39,9 +41,11 @@ may_be_open (counted n) = false
 
 -- a box of at least `least` bytes that ends at or before the end
 abbrev pub fitting : ℕ → ℕ → Header → Result Header Kind
-fitting left least h = if nat_lt h.size least then Err BadSize else if nat_lt left h.size then Err Overrun else Ok h
+fitting left least h = if nat_lt h.size least then Err BadSize else if nat_lt left h.size
+    then Err Overrun else Ok h
 
--- The header in front of these bytes, where so many are left up to the end of the container; or in which way there is none. It reads 16 of them at most.
+-- The header in front of these bytes, where so many are left up to the end of the container; or in
+-- which way there is none. It reads 16 of them at most.
 abbrev pub header_in : Bool → ℕ → List ℕ → Result Header Kind
 header_in is_open left bytes =
     let kind = take 4 (drop 4 bytes) in
@@ -58,9 +62,15 @@ header_in is_open left bytes =
 abbrev pub header_at : Bool → List ℕ → Result Header Kind
 header_at is_open bytes = header_in is_open (length bytes) bytes
 
--- the box that a header in front of these bytes begins, where the bytes lie at this place of the file
+-- the box that a header in front of these bytes begins, where the bytes lie at this place of the
+-- file
 abbrev pub box_of : ℕ → List ℕ → Header → Box
-box_of at bytes h = record { kind = h.kind; offset = at; header = h.length; payload = take (h.size - h.length) (drop h.length bytes) }
+box_of at bytes h = record {
+  kind = h.kind;
+  offset = at;
+  header = h.length;
+  payload = take (h.size - h.length) (drop h.length bytes);
+}
 
 -- These boxes lie end to end from the front of the bytes, which begin at this place.
 abbrev pub LieEndToEnd : Bool → ℕ → List ℕ → List Box → Type 0
@@ -77,14 +87,16 @@ box_and_more at bytes (Err kind) more = []
 -- the first n boxes in front of these bytes, inside a box; fewer where a header can't be read
 abbrev pub first_boxes : ℕ → ℕ → List ℕ → List Box
 first_boxes zero at bytes = []
-first_boxes (suc n) at bytes = box_and_more at bytes (header_at false bytes) (λ h. first_boxes n (at + h.size) (drop h.size bytes))
+first_boxes (suc n) at bytes = box_and_more at bytes (header_at false bytes)
+    (λ h. first_boxes n (at + h.size) (drop h.size bytes))
 
 -- so many boxes lie in front of these bytes
 pub record HasBoxes (count at : ℕ) (bytes : List ℕ) : Type 0 where
   pub lie : LieEndToEnd false at bytes (first_boxes count at bytes)
   pub many : length (first_boxes count at bytes) ≡ count
 
--- what boxes lie in: a box or the file, by its type and first byte, where its children begin, and the bytes from there to its end
+-- what boxes lie in: a box or the file, by its type and first byte, where its children begin, and
+-- the bytes from there to its end
 pub record Container : Type 0 where
   pub kind : List ℕ
   pub offset : ℕ
@@ -94,19 +106,44 @@ pub record Container : Type 0 where
 
 -- the file as a container
 abbrev pub file_container : List ℕ → Container
-file_container file = record { kind = codes "file"; offset = 0; at = 0; bytes = file; extent = to_end_of_file }
+file_container file = record {
+  kind = codes "file";
+  offset = 0;
+  at = 0;
+  bytes = file;
+  extent = to_end_of_file;
+}
 
 -- some bytes inside a box of this type that are boxes, from this place of the file on
 abbrev pub bytes_container : List ℕ → ℕ → List ℕ → Container
-bytes_container kind at bytes = record { kind = kind; offset = at; at = at; bytes = bytes; extent = to_end_of_box }
+bytes_container kind at bytes = record {
+  kind = kind;
+  offset = at;
+  at = at;
+  bytes = bytes;
+  extent = to_end_of_box;
+}
 
 -- a box whose payload is boxes
 abbrev pub box_container : Box → Container
-box_container b = record { kind = b.kind; offset = b.offset; at = b.offset + b.header; bytes = b.payload; extent = to_end_of_box }
+box_container b = record {
+  kind = b.kind;
+  offset = b.offset;
+  at = b.offset + b.header;
+  bytes = b.payload;
+  extent = to_end_of_box;
+}
 
--- a box whose payload is a full box's version and flags, a count, and as many boxes (`stsd`, `dref`)
+-- a box whose payload is a full box's version and flags, a count, and as many boxes (`stsd`,
+-- `dref`)
 abbrev pub counted_container : Box → Container
-counted_container b = record { kind = b.kind; offset = b.offset; at = b.offset + b.header + 8; bytes = drop 8 b.payload; extent = counted (field b.payload 4 4) }
+counted_container b = record {
+  kind = b.kind;
+  offset = b.offset;
+  at = b.offset + b.header + 8;
+  bytes = drop 8 b.payload;
+  extent = counted (field b.payload 4 4);
+}
 
 -- no more boxes than were counted
 abbrev pub IsCounted : Extent → List Box → Type 0

@@ -15,7 +15,10 @@ abbrev pub kinds_seen : List FourCc → List (List ℕ)
 kinds_seen kinds = map (λ (kind : FourCc). kind.0) kinds
 
 abbrev pub line_seen : RuleLine → Line
-line_seen line = record { kinds = kinds_seen line.kinds.now; quantity = quantity_seen line.quantity }
+line_seen line = record {
+  kinds = kinds_seen line.kinds.now;
+  quantity = quantity_seen line.quantity;
+}
 
 abbrev pub lines_seen : List RuleLine → List Line
 lines_seen lines = map line_seen lines

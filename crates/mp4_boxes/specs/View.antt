@@ -6,7 +6,12 @@ use Rattle.mp4_boxes.specs.declared.headers.TopHeader.{TopHeader}
 use Rattle.mp4_boxes.specs.Box.{Box, Header}
 
 abbrev pub box_seen : BoxView → Box
-box_seen v = record { kind = v.kind.0; offset = v.offset; header = v.header; payload = v.payload.now }
+box_seen v = record {
+  kind = v.kind.0;
+  offset = v.offset;
+  header = v.header;
+  payload = v.payload.now;
+}
 
 abbrev pub header_seen : HeaderFields → Header
 header_seen h = record { kind = h.kind.0; length = h.length; size = h.size }

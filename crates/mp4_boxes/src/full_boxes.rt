@@ -15,7 +15,8 @@ pub fn full<'a>(view: BoxView<'a>) -> Result<(u8, u32, &'a [u8]), Fault>
     ensures flags { IfOk result (λ r. r.1 ≡ flags (box_seen view.entry).payload) }
     ensures rest { IfOk result (λ r. r.2.now ≡ drop 4 (box_seen view.entry).payload) }
     ensures long { IfOk result (λ r. 4 ≤ length (box_seen view.entry).payload) }
-    ensures fault { IfErr result (λ f. (length (box_seen view.entry).payload < 4) × (f ≡ fault_of kinds.ShortBox (box_seen view.entry))) }
+    ensures fault { IfErr result (λ f. (length (box_seen view.entry).payload < 4)
+        × (f ≡ fault_of kinds.ShortBox (box_seen view.entry))) }
 {
     let payload = view.payload();
     if payload.len() < 4 {

@@ -1,7 +1,6 @@
 //! Box headers, read: of 8 or 16 bytes (ISO/IEC 14496-12, 4.2.2).
 ghost use Rattle.std.specs.Prelude.{◌≡◌, ◌+◌, ◌^◌, ◌<◌, ◌≤◌, min, length, MatchResult, IfOk, IfErr, Ok, Err, true, codes};
 ghost use Rattle.mp4_boxes.specs.BoxFaults.{header_there, type_of};
-ghost use Rattle.mp4_boxes.specs.Box.{header_in, fitting};
 ghost use Rattle.mp4_boxes.specs.View.{header_seen, top_header_seen};
 
 use crate::fault::{Fault, Kind};
@@ -36,8 +35,8 @@ pub(crate) fn kind_of(bytes: &[u8]) -> FourCc
     FourCc([bytes[4], bytes[5], bytes[6], bytes[7]])
 }
 
-// The header in front of these bytes, which lie at the place `at` of the file; `left` bytes are left there in
-// the container, and `is_open` says that this is the file.
+// The header in front of these bytes, which lie at the place `at` of the file; `left` bytes are
+// left there in the container, and `is_open` says that this is the file.
 pub(crate) fn read_header(
     bytes: &[u8],
     left: u64,
@@ -69,13 +68,14 @@ pub(crate) fn read_header(
     Ok(HeaderFields { kind, length, size })
 }
 
-/// The header of a box of the file itself, at the place `at`, where `left` bytes are left in the file. The bytes
-/// are the first 16 of these, or all.
+/// The header of a box of the file itself, at the place `at`, where `left` bytes are left in the
+/// file. The bytes are the first 16 of these, or all.
 pub fn top_header(bytes: &[u8], at: u64, left: u64) -> Result<TopHeader, Fault>
     requires fits { at + left < 2 ^ 64 }
     requires some { 0 < left }
     requires there { length bytes.now ≡ min left 16 }
-    ensures header { IfOk result (λ h. header_there true left bytes.now (codes "file") at ≡ Ok (top_header_seen at h)) }
+    ensures header { IfOk result (λ h. header_there true left bytes.now (codes "file") at
+        ≡ Ok (top_header_seen at h)) }
     ensures within { IfOk result (λ h. (at + h.header ≤ h.end) × (h.end ≤ at + left)) }
     ensures fault { IfErr result (λ f. header_there true left bytes.now (codes "file") at ≡ Err f) }
 {

@@ -1,4 +1,5 @@
-//! Boxes: their headers, how they lie in a container, which of them may stand where, and the faults of a file.
+//! Boxes: their headers, how they lie in a container, which of them may stand where, and the faults
+//! of a file.
 #![tactic(auto)]
 
 mod fault;

@@ -14,12 +14,16 @@ use crate::rule::{Rule, is_among};
 use crate::sequence::Children;
 use crate::view::BoxView;
 
-/// The boxes that fill these bytes, which lie at the place `base` of the file in a container of this type.
+/// The boxes that fill these bytes, which lie at the place `base` of the file in a container of
+/// this type.
 pub fn children<'a>(bytes: &'a [u8], base: u64, container: FourCc) -> Result<Children<'a>, Fault>
     requires { base + length bytes.now < 2 ^ 64 }
     ensures tiles { IfOk result (Tiles (bytes_container container.0 base bytes.entry.now)) }
-    ensures only { (boxes : List Box) → Tiles (bytes_container container.0 base bytes.entry.now) boxes → IsOkAnd result (λ c. c ≡ boxes) }
-    ensures fault { IfErr result (IsHeaderFault (bytes_container container.0 base bytes.entry.now)) }
+    ensures only { (boxes : List Box)
+        → Tiles (bytes_container container.0 base bytes.entry.now) boxes
+        → IsOkAnd result (λ c. c ≡ boxes) }
+    ensures fault { IfErr result
+        (IsHeaderFault (bytes_container container.0 base bytes.entry.now)) }
 {
     let mut at = 0;
     let mut count = 0;
@@ -40,7 +44,8 @@ pub fn children<'a>(bytes: &'a [u8], base: u64, container: FourCc) -> Result<Chi
 pub fn counted<'a>(view: BoxView<'a>) -> Result<Children<'a>, Fault>
     requires { 8 ≤ length (box_seen view).payload }
     ensures tiles { IfOk result (Tiles (counted_container (box_seen view.entry))) }
-    ensures only { (boxes : List Box) → Tiles (counted_container (box_seen view.entry)) boxes → IsOkAnd result (λ c. c ≡ boxes) }
+    ensures only { (boxes : List Box) → Tiles (counted_container (box_seen view.entry)) boxes
+        → IsOkAnd result (λ c. c ≡ boxes) }
     ensures fault { IfErr result (IsHeaderFault (counted_container (box_seen view.entry))) }
 {
     let payload = view.payload();
@@ -121,7 +126,8 @@ fn lacks(rule: Rule, bytes: &[u8], base: u64, count: usize) -> bool
 /// The boxes of a container, where they are those that the table allows.
 pub fn check_children<'a>(view: BoxView<'a>, rule: Rule) -> Result<Children<'a>, Fault>
     ensures holds { IfOk result (Holds rule (box_container (box_seen view.entry))) }
-    ensures only { (boxes : List Box) → Holds rule (box_container (box_seen view.entry)) boxes → IsOkAnd result (λ c. c ≡ boxes) }
+    ensures only { (boxes : List Box) → Holds rule (box_container (box_seen view.entry)) boxes
+        → IsOkAnd result (λ c. c ≡ boxes) }
     ensures fault { IfErr result (IsChildFault rule (box_container (box_seen view.entry))) }
 {
     let bytes = view.payload();

@@ -1,5 +1,5 @@
 //! The boxes in a container, one after the other.
-ghost use Rattle.std.specs.Prelude.{◌≡◌, ◌+◌, ◌^◌, ◌<◌, ◌≤◌, length, drop, IsOk, IfOk, false};
+ghost use Rattle.std.specs.Prelude.{◌≡◌, ◌+◌, ◌^◌, ◌<◌, length, drop, IsOk, IfOk, false};
 ghost use Rattle.std.specs.Iterator.{YieldsFirstBy, item_count};
 ghost use Rattle.mp4_boxes.specs.Box.{header_at, box_of};
 
@@ -24,7 +24,8 @@ impl<'a> Model for Children<'a> {
 
     ghost view = { λ c. first_boxes c.left c.base c.bytes.now };
 
-    ghost invariant = { λ c. HasBoxes c.left c.base c.bytes.now × (c.base + length c.bytes.now < 2 ^ 64) };
+    ghost invariant = { λ c. HasBoxes c.left c.base c.bytes.now
+        × (c.base + length c.bytes.now < 2 ^ 64) };
 }
 
 ghost use Rattle.mp4_boxes.specs.View.{box_seen};
@@ -46,7 +47,9 @@ fn known_sizes(bytes: &[u8]) -> (u8, u64)
 fn split_first<'a>(bytes: &'a [u8], base: u64) -> (BoxView<'a>, &'a [u8])
     requires header { IsOk (header_at false bytes.now) }
     requires fits { base + length bytes.now < 2 ^ 64 }
-    ensures first { IfOk (header_at false bytes.entry.now) (λ h. (box_seen result.0 ≡ box_of base bytes.entry.now h) × (result.1.now ≡ drop h.size bytes.entry.now)) }
+    ensures first { IfOk (header_at false bytes.entry.now)
+        (λ h. (box_seen result.0 ≡ box_of base bytes.entry.now h)
+        × (result.1.now ≡ drop h.size bytes.entry.now)) }
 {
     let (length, size) = known_sizes(bytes);
     let (whole, rest) = bytes.split_at(size as usize);

@@ -19,7 +19,12 @@ impl<'a> BoxView<'a> {
     /// A box of this type at this place of the file, with a header of so many bytes.
     pub fn new(kind: FourCc, offset: u64, header: u8, payload: &'a [u8]) -> BoxView<'a>
         requires { offset + header + length payload.now < 2 ^ 64 }
-        ensures { box_seen result ≡ record { kind = kind.0; offset = offset; header = header; payload = payload.now } }
+        ensures { box_seen result ≡ record {
+          kind = kind.0;
+          offset = offset;
+          header = header;
+          payload = payload.now;
+        } }
     {
         BoxView {
             kind,

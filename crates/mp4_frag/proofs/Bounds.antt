@@ -93,7 +93,8 @@ pub offset_of_bytes : (payload : List ℕ) → AreBytes payload → IfSome (run_
 offset_of_bytes payload bytes = offset_fits (column (column_values (flags payload) trun_columns (drop 8 payload)) 0) (value_below trun_columns (flags payload) (drop 8 payload) 0 (bytes_dropped 8 payload bytes))
 
 -- where the data of a run that passes ends
-pub run_up_to : (n L : ℕ) (inherited : Inherited) (base before : ℤ) (payload : List ℕ) (ends : ℤ) (samples lasts fills : ℕ) → AreBytes payload → L < 2 ^ 64 → IsRunPassed L inherited base before payload ends samples lasts fills → 2 ^ 64 ≤ n → IsUpTo n base → IsUpTo (n + 2 ^ 31) before → IsUpTo (n + 2 ^ 31) ends
+pub run_up_to : (n L : ℕ) (inherited : Inherited) (base before : ℤ) (payload : List ℕ) (ends : ℤ) (samples lasts fills : ℕ) → AreBytes payload → L < 2 ^ 64 → IsRunPassed L inherited base before payload ends samples lasts fills → 2 ^ 64 ≤ n → IsUpTo n base → IsUpTo (n + 2 ^ 31) before
+    → IsUpTo (n + 2 ^ 31) ends
 run_up_to n L inherited base before payload ends samples lasts fills bytes short p big b c =
     let run = run_of payload in
     let start = start_up_to n base before run.data_offset (offset_of_bytes payload bytes) b c in

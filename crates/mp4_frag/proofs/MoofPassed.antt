@@ -177,13 +177,15 @@ moves_traf L moof first whole all left later b before ends tracks now room rest 
     }
 
 -- a `traf` that is refused
-pub moves_fault : (L moof : ℕ) (first : List TrackState) (whole : ℕ) (all left later boxes : List Box) (b : Box) (before : ℤ) (tracks : List TrackState) (room : ℕ) (f : Fault) → MovesSeen L moof first whole all left before tracks room → left ≡ b ∷ later → bytes_eq b.kind (codes "traf") ≡ true → all ≡ boxes
+pub moves_fault : (L moof : ℕ) (first : List TrackState) (whole : ℕ) (all left later boxes : List Box) (b : Box) (before : ℤ) (tracks : List TrackState) (room : ℕ) (f : Fault) → MovesSeen L moof first whole all left before tracks room → left ≡ b ∷ later → bytes_eq b.kind (codes "traf") ≡ true
+    → all ≡ boxes
     → TrafFails L moof before tracks room b f → TrafsFail L moof (pos moof) first whole (of_kind (codes "traf") boxes) f
 moves_fault L moof first whole all left later boxes b before tracks room f s e k same h =
     let kept : of_kind (codes "traf") left ≡ b ∷ of_kind (codes "traf") later = ap (of_kind (codes "traf")) e ∙ traf_kept b later k in
     subst (λ (bs : List Box). TrafsFail L moof (pos moof) first whole (of_kind (codes "traf") bs) f) same (s.fails f (subst (λ (bs : List Box). TrafsFail L moof before tracks room bs f) (sym kept) (inl h)))
 
-pub moves_ended : (L moof : ℕ) (first : List TrackState) (whole : ℕ) (all left boxes : List Box) (before : ℤ) (tracks : List TrackState) (room : ℕ) → MovesSeen L moof first whole all left before tracks room → left ≡ [] → all ≡ boxes → AreMovedOn moof (pos moof) (of_kind (codes "traf") boxes) first tracks whole room
+pub moves_ended : (L moof : ℕ) (first : List TrackState) (whole : ℕ) (all left boxes : List Box) (before : ℤ) (tracks : List TrackState) (room : ℕ) → MovesSeen L moof first whole all left before tracks room → left ≡ [] → all ≡ boxes
+    → AreMovedOn moof (pos moof) (of_kind (codes "traf") boxes) first tracks whole room
 moves_ended L moof first whole all left boxes before tracks room s e f =
     subst (λ (bs : List Box). AreMovedOn moof (pos moof) (of_kind (codes "traf") bs) first tracks whole room) f (s.moves tracks room (subst (λ (bs : List Box). AreMovedOn moof before (of_kind (codes "traf") bs) tracks tracks room room) (sym e) (refl, refl)))
 

@@ -110,7 +110,15 @@ lists_passed k (l ∷ lists) = let next : 1 + k ≡ suc k = omega arith in let o
 sample_tied : (keys : List GroupKey) (L : ℕ) (traf : TrackFragment) (trex : Trex) (dts : ℕ) (at : ℤ) (own : Bool) (base : ℤ) (lists : List (List ℕ)) (first : Option ℕ) (row : RunRow) (maps : List Groups)
     → L < 2 ^ 64 → AreShown keys lists maps → lies_within L at (unwrap_or row.size (size_of traf trex)) ≡ true
     → sample_of (stand traf trex dts at own base lists) first row
-    ≡ sample_at keys dts (record { duration = inherited row.duration traf.duration trex.duration; offset = unwrap_or row.offset (pos 0); flags = flags_of first row.flags traf.flags trex.flags; description = unwrap_or traf.description trex.description; at = at; size = inherited row.size traf.size trex.size; groups = get_or maps 0 [] })
+    ≡ sample_at keys dts (record {
+      duration = inherited row.duration traf.duration trex.duration;
+      offset = unwrap_or row.offset (pos 0);
+      flags = flags_of first row.flags traf.flags trex.flags;
+      description = unwrap_or traf.description trex.description;
+      at = at;
+      size = inherited row.size traf.size trex.size;
+      groups = get_or maps 0 [];
+    })
 sample_tied keys L traf trex dts at own base lists first row maps short shown lies =
     let duration = sym (inherited_is row.duration traf.duration trex.duration) in
     let size = sym (inherited_is row.size traf.size trex.size) in
@@ -145,7 +153,15 @@ rows_tied keys L traf trex dts at own base lists first (row ∷ rows) maps more 
     let duration = inherited_is row.duration traf.duration trex.duration in
     let width = inherited_is row.size traf.size trex.size in
     let others = rows_tied keys L traf trex (dts + lasts) (at +ℤ pos size) own base (map (drop 1) lists) None rows (drop 1 maps) more short (shown_later keys 1 lists maps shown) parts.1 (omega arith) in
-    let grouped = first_grouped maps (record { duration = inherited row.duration traf.duration trex.duration; offset = unwrap_or row.offset (pos 0); flags = flags_of first row.flags traf.flags trex.flags; description = unwrap_or traf.description trex.description; at = at; size = inherited row.size traf.size trex.size; groups = [] })
+    let grouped = first_grouped maps (record {
+      duration = inherited row.duration traf.duration trex.duration;
+      offset = unwrap_or row.offset (pos 0);
+      flags = flags_of first row.flags traf.flags trex.flags;
+      description = unwrap_or traf.description trex.description;
+      at = at;
+      size = inherited row.size traf.size trex.size;
+      groups = [];
+    })
     (run_samples trex traf None (at +ℤ pos (inherited row.size traf.size trex.size)) rows) refl in
     (λ i. one i ∷ rows_coming (stand traf trex (time i) (place i) own base (map (drop 1) lists)) None rows more)
     ∙ (λ i. one 1 ∷ others i)

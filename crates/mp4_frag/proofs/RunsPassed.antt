@@ -89,7 +89,8 @@ seen_run L inherited base all left later b whole room less at to count more last
     behind f ends room_left h = subst (λ m. RunsFail L inherited base (run_ends inherited base at b.payload) m (runs_of later) f) room_left (subst (λ (place : ℤ). RunsFail L inherited base place less (runs_of later) f) ends h)
 
 -- one that does not
-pub seen_fault : (L : ℕ) (inherited : Inherited) (base : ℤ) (all left later : List Box) (b : Box) (whole room : ℕ) (at : ℤ) (count lasts fills : ℕ) (kind : Kind) (f : Fault) → RunsSeen L inherited base all left whole room at count lasts fills → left ≡ b ∷ later → bytes_eq b.kind (codes "trun") ≡ true
+pub seen_fault : (L : ℕ) (inherited : Inherited) (base : ℤ) (all left later : List Box) (b : Box) (whole room : ℕ) (at : ℤ) (count lasts fills : ℕ) (kind : Kind) (f : Fault) → RunsSeen L inherited base all left whole room at count lasts fills → left ≡ b ∷ later
+    → bytes_eq b.kind (codes "trun") ≡ true
     → IsRunFault L inherited base at room b.payload kind → f ≡ fault_of kind b → RunsFail L inherited base base whole (runs_of all) f
 seen_fault L inherited base all left later b whole room at count lasts fills kind f s e k h n =
     let same : runs_of left ≡ b ∷ runs_of later = ap runs_of e ∙ run_kept b later k in

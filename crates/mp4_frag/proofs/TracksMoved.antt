@@ -64,7 +64,8 @@ none_tested : (test : ℕ → Bool) (xs : List PlacedSample) → length xs ≡ 0
 none_tested test [] e = refl
 none_tested test (x ∷ xs) e = absurd (omega arith)
 
-pub part_tested : (test : ℕ → Bool) (moof : ℕ) (before : ℤ) (trex : Trex) (traf : TrackFragment) (v : Bool) → nat_lt 0 (length (part_samples (part_with moof before trex traf))) ≡ v → (v && not (test (unwrap_or traf.description trex.description))) ≡ false → IsTested test (part_samples (part_with moof before trex traf))
+pub part_tested : (test : ℕ → Bool) (moof : ℕ) (before : ℤ) (trex : Trex) (traf : TrackFragment) (v : Bool) → nat_lt 0 (length (part_samples (part_with moof before trex traf))) ≡ v → (v && not (test (unwrap_or traf.description trex.description))) ≡ false
+    → IsTested test (part_samples (part_with moof before trex traf))
 part_tested test moof before trex traf false e h = none_tested test (part_samples (part_with moof before trex traf)) (let le : length (part_samples (part_with moof before trex traf)) ≤ 0 = search rules in omega arith)
 part_tested test moof before trex traf true e h =
     let samples = flat_map (λ ss. ss) (part_with moof before trex traf).runs in

@@ -12,12 +12,14 @@ inherited (Some own) head last = own
 inherited None (Some head) last = head
 inherited None None last = last
 
--- the flags of a row; those of a run's first sample stand in place of the inherited ones. The four highest bits are reserved.
+-- the flags of a row; those of a run's first sample stand in place of the inherited ones. The four
+-- highest bits are reserved.
 abbrev pub flags_of : Option ℕ → Option ℕ → Option ℕ → ℕ → ℕ
 flags_of (Some first) own head last = first % 2 ^ 28
 flags_of None own head last = inherited own head last % 2 ^ 28
 
--- the samples of a run from a place on, in no group; the flags are those of `first_sample_flags`, at its first sample alone
+-- the samples of a run from a place on, in no group; the flags are those of `first_sample_flags`,
+-- at its first sample alone
 abbrev pub run_samples : Trex → TrackFragment → Option ℕ → ℤ → List RunRow → List PlacedSample
 run_samples trex traf first at [] = []
 run_samples trex traf first at (row ∷ rows) =
@@ -54,9 +56,11 @@ abbrev pub runs_end : Trex → TrackFragment → ℤ → ℤ → List Run → �
 runs_end trex traf base before [] = before
 runs_end trex traf base before (run ∷ runs) =
     let at = run_start base before run.data_offset in
-    runs_end trex traf base (end_of_data at (run_samples trex traf run.first_sample_flags at run.rows)) runs
+    runs_end trex traf base
+    (end_of_data at (run_samples trex traf run.first_sample_flags at run.rows)) runs
 
--- the base of a `traf`: its own; the `moof`'s first byte; or where the data of the `traf` before it ends, which is the `moof`'s first byte for the first
+-- the base of a `traf`: its own; the `moof`'s first byte; or where the data of the `traf` before it
+-- ends, which is the `moof`'s first byte for the first
 abbrev pub base_of : ℕ → ℤ → TrackFragment → ℤ
 base_of moof before traf = based traf.base_data_offset traf.base_is_moof
   where
@@ -65,7 +69,8 @@ base_of moof before traf = based traf.base_data_offset traf.base_is_moof
     based None true = pos moof
     based None false = before
 
--- a `traf` as what it says: of which track, at which decode time if it says so, which samples run by run, and how they are grouped
+-- a `traf` as what it says: of which track, at which decode time if it says so, which samples run
+-- by run, and how they are grouped
 pub record Part : Type 0 where
   pub id : ℕ
   pub decode_time : Option ℕ
@@ -91,7 +96,12 @@ parts_after trexes moof before [] = []
 parts_after trexes moof before (traf ∷ trafs) =
     let trex = unwrap_or (trex_for trexes traf.id) no_trex in
     let base = base_of moof before traf in
-    record { id = traf.id; decode_time = traf.decode_time; runs = runs_samples trex traf base base traf.runs; groups = traf.groups }
+    record {
+      id = traf.id;
+      decode_time = traf.decode_time;
+      runs = runs_samples trex traf base base traf.runs;
+      groups = traf.groups;
+    }
     ∷ parts_after trexes moof (runs_end trex traf base base traf.runs) trafs
 
 abbrev pub parts_of : List Trex → Fragment → List Part
@@ -118,7 +128,8 @@ bytes_of samples = sum_of (λ s. s.size) samples
 abbrev pub has_samples : Part → Bool
 has_samples part = nat_lt 0 (length (part_samples part))
 
--- The decode time at which a track starts: the `tfdt` of its first `traf` with samples, where no sample comes before; else 0.
+-- The decode time at which a track starts: the `tfdt` of its first `traf` with samples, where no
+-- sample comes before; else 0.
 abbrev pub start_of : List PlacedSample → List Part → ℕ
 start_of (s ∷ plain) parts = 0
 start_of [] parts = first_time (find has_samples parts)
@@ -129,12 +140,14 @@ start_of [] parts = first_time (find has_samples parts)
 
 -- the `tfdt` of a `traf` with samples, if it has one, is the time that is due
 abbrev pub is_on_time : ℕ → Part → Bool
-is_on_time due part = not (has_samples part) || unwrap_or (option_map (λ time. time == due) part.decode_time) true
+is_on_time due part = not (has_samples part)
+    || unwrap_or (option_map (λ time. time == due) part.decode_time) true
 
 -- Each `tfdt` of a `traf` with samples is the time that is due there.
 abbrev pub AreOnTime : ℕ → List Part → Type 0
 AreOnTime due [] = ⊤
-AreOnTime due (part ∷ parts) = IsTrue (is_on_time due part) × AreOnTime (due + duration_of (part_samples part)) parts
+AreOnTime due (part ∷ parts) = IsTrue (is_on_time due part)
+    × AreOnTime (due + duration_of (part_samples part)) parts
 
 -- the rule is kept by the k-th `sbgp` of a `traf`, whose track named these keys before
 abbrev pub has_groups : GroupRule → List GroupKey → Part → ℕ → Bool
@@ -147,4 +160,5 @@ keys_behind keys parts = keys_after keys (flat_map (λ part. part.groups) parts)
 -- Each `sbgp` of the parts of a track, which named these keys before, keeps the rules.
 abbrev pub AreGrouped : List GroupKey → List Part → Type 0
 AreGrouped keys [] = ⊤
-AreGrouped keys (part ∷ parts) = ((rule : GroupRule) (k : ℕ) → IsTrue (has_groups rule keys part k)) × AreGrouped (keys_after keys part.groups) parts
+AreGrouped keys (part ∷ parts) = ((rule : GroupRule) (k : ℕ) → IsTrue (has_groups rule keys part k))
+    × AreGrouped (keys_after keys part.groups) parts

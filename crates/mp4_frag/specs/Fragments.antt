@@ -1,4 +1,5 @@
--- Movie fragments as plain values, and how they are read from the boxes of `moof` (ISO/IEC 14496-12, 8.8).
+-- Movie fragments as plain values, and how they are read from the boxes of `moof` (ISO/IEC
+-- 14496-12, 8.8).
 use Rattle.std.specs.Prelude.{ℕ, zero, suc, ◌+◌, List, [], ◌∷◌, drop, map, Bool, Option, None, option_map, ℤ, slice_index, slice_index_or, codes}
 use Rattle.std.specs.List.{AllZip}
 use Rattle.byteorder.specs.Endian.{twos_complement}
@@ -24,7 +25,8 @@ pub record Run : Type 0 where
   pub first_sample_flags : Option ℕ
   pub rows : List RunRow
 
--- a `traf`: its `tfhd` (8.8.7), its `tfdt` (8.8.12) if there is one, its runs, its `sbgp`s (8.9.2), each in file order
+-- a `traf`: its `tfhd` (8.8.7), its `tfdt` (8.8.12) if there is one, its runs, its `sbgp`s (8.9.2),
+-- each in file order
 pub record TrackFragment : Type 0 where
   pub id : ℕ
   pub base_data_offset : Option ℕ
@@ -46,12 +48,18 @@ abbrev pub column : List (Option ℕ) → ℕ → Option ℕ
 column values k = slice_index_or values k None
 
 abbrev pub run_row_of : ℕ → List (Option ℕ) → RunRow
-run_row_of v values = record { duration = column values 0; size = column values 1; flags = column values 2; offset = option_map (composition_offset v) (column values 3) }
+run_row_of v values = record {
+  duration = column values 0;
+  size = column values 1;
+  flags = column values 2;
+  offset = option_map (composition_offset v) (column values 3);
+}
 
 -- n rows of the columns that the flags name
 abbrev pub run_rows : ℕ → ℕ → ℕ → List ℕ → List RunRow
 run_rows zero v bits bytes = []
-run_rows (suc n) v bits bytes = run_row_of v (column_values bits sample_columns bytes) ∷ run_rows n v bits (drop (width_of (present bits sample_columns)) bytes)
+run_rows (suc n) v bits bytes = run_row_of v (column_values bits sample_columns bytes)
+    ∷ run_rows n v bits (drop (width_of (present bits sample_columns)) bytes)
 
 abbrev pub run_of : List ℕ → Run
 run_of payload =
@@ -60,7 +68,8 @@ run_of payload =
     record {
       data_offset = option_map (twos_complement 4) (column values 0);
       first_sample_flags = column values 1;
-      rows = run_rows (row_count trun payload) (version payload) bits (drop (8 + width_of (present bits trun_columns)) payload);
+      rows = run_rows (row_count trun payload) (version payload) bits
+          (drop (8 + width_of (present bits trun_columns)) payload);
     }
 
 abbrev pub decode_time_of : List ℕ → ℕ
@@ -88,7 +97,13 @@ track_fragment_of boxes =
 abbrev pub trex_of : List ℕ → Trex
 trex_of payload =
     let ns = leaf_fields trex payload in
-    record { id = slice_index ns 2; description = slice_index ns 3; duration = slice_index ns 4; size = slice_index ns 5; flags = slice_index ns 6 }
+    record {
+      id = slice_index ns 2;
+      description = slice_index ns 3;
+      duration = slice_index ns 4;
+      size = slice_index ns 5;
+      flags = slice_index ns 6;
+    }
 
 -- a `moof` with its children, and the children of each of its `traf`s
 pub record FragmentTree : Type 0 where
@@ -98,7 +113,8 @@ pub record FragmentTree : Type 0 where
 
 -- each list is the children of its `traf`
 abbrev pub AreTrafs : List Box → List (List Box) → Type 0
-AreTrafs trafs lists = AllZip (λ (b : Box) boxes. Holds rules.TrackFragment (box_container b) boxes) trafs lists
+AreTrafs trafs lists = AllZip (λ (b : Box) boxes. Holds rules.TrackFragment (box_container b) boxes)
+    trafs lists
 
 -- the tree of a `moof` is this one
 pub record IsFragmentTree (t : FragmentTree) : Type 0 where

@@ -1,4 +1,5 @@
--- A walk over one track passes the `traf`s of others by a look: whether a `tfhd` in them names its track.
+-- A walk over one track passes the `traf`s of others by a look: whether a `tfhd` in them names its
+-- track.
 use Rattle.std.specs.Prelude.{◌≡◌, ℕ, zero, suc, ◌+◌, ◌==◌, ◌&&◌, ◌||◌, Bool, true, false, cond, is_some, List, [], ◌∷◌, codes, bytes_eq, ⊤}
 use Rattle.mp4_boxes.specs.Box.{Box}
 use Rattle.mp4_boxes.specs.Layout.{tfhd, trun}
@@ -11,7 +12,8 @@ use Rattle.mp4_frag.specs.Walks.{Reached, can_read, head_of, before_run, behind_
 
 -- a box of this type and payload is a `tfhd` that can be read, and names the track
 unfoldable pub names : ℕ → List ℕ → List ℕ → Bool
-names track kind payload = bytes_eq (codes "tfhd") kind && (can_read tfhd payload && (head_of payload).id == track)
+names track kind payload = bytes_eq (codes "tfhd") kind
+    && (can_read tfhd payload && (head_of payload).id == track)
 
 -- it says where data is counted from, wherever that of the `traf` before ends
 abbrev pub has_base : TrackFragment → Bool
@@ -25,13 +27,15 @@ is_named track (b ∷ boxes) = names track b.kind b.payload || is_named track bo
 -- one that does has a base of its own
 abbrev pub is_based : ℕ → List Box → Bool
 is_based track [] = false
-is_based track (b ∷ boxes) = (names track b.kind b.payload && has_base (head_of b.payload)) || is_based track boxes
+is_based track (b ∷ boxes) = (names track b.kind b.payload && has_base (head_of b.payload))
+    || is_based track boxes
 
 -- none of the first n boxes of a `moof` is a `traf` that names the track
 abbrev pub AreOthers : ℕ → ℕ → List Box → Type 0
 AreOthers track zero boxes = ⊤
 AreOthers track (suc n) [] = ⊤
-AreOthers track (suc n) (b ∷ boxes) = (bytes_eq (codes "traf") b.kind ≡ true → is_named track (children_of b) ≡ false) × AreOthers track n boxes
+AreOthers track (suc n) (b ∷ boxes) = (bytes_eq (codes "traf") b.kind ≡ true
+    → is_named track (children_of b) ≡ false) × AreOthers track n boxes
 
 -- ---- what it costs
 
@@ -45,7 +49,8 @@ looks (suc n) (b ∷ boxes) = cond (bytes_eq (codes "traf") b.kind) 1 0 + looks 
 abbrev pub over_work : ℕ → List Box → ℕ
 over_work zero boxes = 0
 over_work (suc n) [] = 0
-over_work (suc n) (b ∷ boxes) = cond (bytes_eq (codes "traf") b.kind) (groups_work (children_of b) + runs_work (children_of b)) 0 + over_work n boxes
+over_work (suc n) (b ∷ boxes) = cond (bytes_eq (codes "traf") b.kind) (groups_work (children_of b)
+    + runs_work (children_of b)) 0 + over_work n boxes
 
 -- ---- a run that gives no samples
 
@@ -56,4 +61,5 @@ over_run s payload = cond (can_read trun payload) (behind_run (before_run s payl
 -- behind those among boxes of a `traf`
 abbrev pub over_runs : Reached → List Box → Reached
 over_runs s [] = s
-over_runs s (b ∷ boxes) = over_runs (cond (bytes_eq (codes "trun") b.kind) (over_run s b.payload) s) boxes
+over_runs s (b ∷ boxes) = over_runs (cond (bytes_eq (codes "trun") b.kind) (over_run s b.payload) s)
+    boxes

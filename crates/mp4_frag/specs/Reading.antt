@@ -33,8 +33,11 @@ pub record IsHead (payload : List ℕ) (head : Head) : Type 0 where
 -- what was read of a `trun`
 pub record IsRun (payload : List ℕ) (run : Run) : Type 0 where
   pub count : run.count ≡ row_count trun payload
-  pub data_offset : run.data_offset ≡ option_map (twos_complement 4) (column (column_values (flags payload) trun_columns (drop 8 payload)) 0)
-  pub first_flags : run.first_flags ≡ column (column_values (flags payload) trun_columns (drop 8 payload)) 1
+  pub data_offset : run.data_offset
+      ≡ option_map (twos_complement 4)
+      (column (column_values (flags payload) trun_columns (drop 8 payload)) 0)
+  pub first_flags : run.first_flags
+      ≡ column (column_values (flags payload) trun_columns (drop 8 payload)) 1
   pub bits : run.bits ≡ flags payload
   pub is_signed : run.is_signed ≡ nat_eq (version payload) 1
   pub rows : run.rows ≡ rows_from (flags payload)
@@ -55,8 +58,24 @@ group_runs payload group = runs_at payload (record { place = group.rows; count =
 
 -- a `traf` of this `tfhd`
 abbrev pub as_traf : Head → TrackFragment
-as_traf head = record { id = head.id; base_data_offset = head.base; description = head.description; duration = head.duration; size = head.size; flags = head.flags; base_is_moof = head.base_is_moof; decode_time = None; runs = []; groups = [] }
+as_traf head = record {
+  id = head.id;
+  base_data_offset = head.base;
+  description = head.description;
+  duration = head.duration;
+  size = head.size;
+  flags = head.flags;
+  base_is_moof = head.base_is_moof;
+  decode_time = None;
+  runs = [];
+  groups = [];
+}
 
 -- what the samples of a `traf` inherit
 abbrev pub inheritance : TrackFragment → Trex → Inherited
-inheritance traf trex = record { description = unwrap_or traf.description trex.description; duration = unwrap_or traf.duration trex.duration; size = unwrap_or traf.size trex.size; flags = unwrap_or traf.flags trex.flags }
+inheritance traf trex = record {
+  description = unwrap_or traf.description trex.description;
+  duration = unwrap_or traf.duration trex.duration;
+  size = unwrap_or traf.size trex.size;
+  flags = unwrap_or traf.flags trex.flags;
+}

@@ -16,4 +16,5 @@ time_behind payload w p = capped (p.dts + lasting (coming payload w p))
 
 -- the time went on by the samples that were handed out, as far as 64 bits hold it
 abbrev pub TimeGoesOn : CursorSeen → CursorSeen → Type 0
-TimeGoesOn s t = capped (t.place.dts + lasting (samples_coming t)) ≡ capped (s.place.dts + lasting (samples_coming s))
+TimeGoesOn s t = capped (t.place.dts + lasting (samples_coming t))
+    ≡ capped (s.place.dts + lasting (samples_coming s))

@@ -10,7 +10,8 @@ use Rattle.mp4_frag.specs.declared.view.FragView.{FragView}
 abbrev pub moof_seen : FragView → Box
 moof_seen v = box_seen v.moof
 
--- a walk: the payload of the `moof` and its place in the file, the tracks, and a place among their samples
+-- a walk: the payload of the `moof` and its place in the file, the tracks, and a place among their
+-- samples
 pub record CursorSeen : Type 0 where
   pub payload : List ℕ
   pub moof : ℕ

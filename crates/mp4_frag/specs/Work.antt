@@ -1,4 +1,5 @@
--- What the check of a `moof` and a walk over it pass, by what its boxes say: `traf`s, runs, rows of `sbgp`, samples.
+-- What the check of a `moof` and a walk over it pass, by what its boxes say: `traf`s, runs, rows of
+-- `sbgp`, samples.
 use Rattle.std.specs.Prelude.{ℕ, suc, ◌+◌, List, length}
 use Rattle.mp4_boxes.specs.Bytes.{sum_of}
 use Rattle.mp4_boxes.specs.Box.{Box}
@@ -20,7 +21,8 @@ fragment_rows f = sum_of traf_rows f.trafs
 
 -- the samples of its runs
 abbrev pub fragment_length : Fragment → ℕ
-fragment_length f = sum_of (λ (traf : TrackFragment). sum_of (λ (run : Run). length run.rows) traf.runs) f.trafs
+fragment_length f =
+    sum_of (λ (traf : TrackFragment). sum_of (λ (run : Run). length run.rows) traf.runs) f.trafs
 
 -- what the boxes of a `moof` say
 abbrev pub moof_says : Box → Fragment

@@ -1,5 +1,5 @@
 //! A `moof`, checked behind what came before it (ISO/IEC 14496-12, 8.8).
-ghost use Rattle.std.specs.Prelude.{ℕ, pos, List, nat_lt, not, ◌&&◌, ◌≡◌, ◌+◌, ◌*◌, ◌^◌, ◌<◌, ◌≤◌, ◌==◌, [], length, take, find, slice_get, None, option_map, codes, IfOk, IfErr, IfSome};
+ghost use Rattle.std.specs.Prelude.{ℕ, pos, List, nat_lt, not, ◌&&◌, ◌≡◌, ◌+◌, ◌*◌, ◌^◌, ◌<◌, ◌≤◌, ◌==◌, [], length, None, option_map, codes, IfOk, IfErr};
 ghost use Rattle.mp4_boxes.specs.Box.{Tiles, box_container};
 ghost use Rattle.mp4_boxes.specs.BoxFaults.{IsChildFault, fault_of};
 ghost use Rattle.mp4_boxes.specs.declared.rule.Rule.TheVariants as rules;
@@ -58,10 +58,15 @@ struct Heads<'a> {
 
 // Checks which boxes stand in a `traf`.
 fn check_boxes<'a>(traf: BoxView<'a>) -> Result<Heads<'a>, Fault>
-    ensures holds { IfOk result (λ h. Holds rules.TrackFragment (box_container (box_seen traf.entry)) (children_of (box_seen traf.entry))) }
-    ensures head { IfOk result (λ h. only_list (option_map box_seen h.head) ≡ of_kind (codes "tfhd") (children_of (box_seen traf.entry))) }
-    ensures time { IfOk result (λ h. only_list (option_map box_seen h.time) ≡ of_kind (codes "tfdt") (children_of (box_seen traf.entry))) }
-    ensures fault { IfErr result (IsChildFault rules.TrackFragment (box_container (box_seen traf.entry))) }
+    ensures holds { IfOk result
+        (λ h. Holds rules.TrackFragment (box_container (box_seen traf.entry))
+        (children_of (box_seen traf.entry))) }
+    ensures head { IfOk result (λ h. only_list (option_map box_seen h.head)
+        ≡ of_kind (codes "tfhd") (children_of (box_seen traf.entry))) }
+    ensures time { IfOk result (λ h. only_list (option_map box_seen h.time)
+        ≡ of_kind (codes "tfdt") (children_of (box_seen traf.entry))) }
+    ensures fault { IfErr result
+        (IsChildFault rules.TrackFragment (box_container (box_seen traf.entry))) }
 {
     let mut heads = Heads {
         head: None,
@@ -90,17 +95,28 @@ fn check_runs<L: Ledger>(
     ensures duration { IfOk result (λ p. p.duration ≤ 2 ^ 32 * p.count) }
     ensures bytes { IfOk result (λ p. p.bytes ≤ 2 ^ 32 * p.count) }
     ensures near { IfOk result (λ p. IsNear p.at) }
-    ensures bound { IfOk result (λ p. (n : ℕ) → 2 ^ 64 ≤ n → IsUpTo n judged.base → IsUpTo (n + 2 ^ 31) p.at) }
-    ensures sound { IfOk result (λ p. AreRunsSound judged.file_len judged.inherited judged.base judged.base (runs_in (box_seen traf.entry))) }
-    ensures end { IfOk result (λ p. p.at ≡ all_end judged.inherited judged.base judged.base (runs_in (box_seen traf.entry))) }
+    ensures bound { IfOk result (λ p. (n : ℕ) → 2 ^ 64 ≤ n → IsUpTo n judged.base
+        → IsUpTo (n + 2 ^ 31) p.at) }
+    ensures sound { IfOk result
+        (λ p. AreRunsSound judged.file_len judged.inherited judged.base judged.base
+        (runs_in (box_seen traf.entry))) }
+    ensures end { IfOk result (λ p. p.at
+        ≡ all_end judged.inherited judged.base judged.base (runs_in (box_seen traf.entry))) }
     ensures count { IfOk result (λ p. p.count ≡ runs_total (runs_in (box_seen traf.entry))) }
-    ensures lasting { IfOk result (λ p. p.duration ≡ runs_lasting judged.inherited (runs_in (box_seen traf.entry))) }
+    ensures lasting { IfOk result (λ p. p.duration
+        ≡ runs_lasting judged.inherited (runs_in (box_seen traf.entry))) }
     ensures filling { IfOk result (λ p. p.bytes ≡ runs_filling judged.inherited
         (runs_in (box_seen traf.entry))) }
-    ensures fault { IfErr result (λ f. Tiles (box_container (box_seen traf.entry)) (children_of (box_seen traf.entry)) → RunsFail judged.file_len judged.inherited judged.base judged.base room.old (runs_in (box_seen traf.entry)) f) }
-    ensures cost { IfOk result (λ p. steps.new ≤ steps.old + length (traf_in (box_seen traf.entry)).runs + p.count) }
-    ensures within { IfOk result (λ p. 8 * steps.new ≤ 8 * steps.old + length (box_seen traf.entry).payload + 8 * p.count) }
-    ensures work { 8 * steps.new ≤ 8 * steps.old + length (box_seen traf.entry).payload + 8 * room.old }
+    ensures fault { IfErr result
+        (λ f. Tiles (box_container (box_seen traf.entry)) (children_of (box_seen traf.entry))
+        → RunsFail judged.file_len judged.inherited judged.base judged.base room.old
+        (runs_in (box_seen traf.entry)) f) }
+    ensures cost { IfOk result (λ p. steps.new ≤ steps.old
+        + length (traf_in (box_seen traf.entry)).runs + p.count) }
+    ensures within { IfOk result (λ p. 8 * steps.new ≤ 8 * steps.old
+        + length (box_seen traf.entry).payload + 8 * p.count) }
+    ensures work { 8 * steps.new ≤ 8 * steps.old + length (box_seen traf.entry).payload
+        + 8 * room.old }
 {
     let mut passed = Passed {
         at: judged.base,
@@ -127,10 +143,15 @@ fn check_groups<L: Ledger>(
     keys: Keys,
     steps: &mut Steps<L>,
 ) -> Result<Keys, Fault>
-    ensures sound { IfOk result (λ k. AreGroupsSound n (keys_seen keys) [] (groups_in (box_seen traf.entry))) }
-    ensures keys { IfOk result (λ k. keys_seen k ≡ keys_after (keys_seen keys) (groupings_of (groups_in (box_seen traf.entry)))) }
-    ensures fault { IfErr result (λ f. Tiles (box_container (box_seen traf.entry)) (children_of (box_seen traf.entry)) → GroupsFail n (keys_seen keys) [] (groups_in (box_seen traf.entry)) f) }
-    ensures cost { IfOk result (λ k. steps.new ≤ steps.old + group_rows (traf_in (box_seen traf.entry)).groups) }
+    ensures sound { IfOk result
+        (λ k. AreGroupsSound n (keys_seen keys) [] (groups_in (box_seen traf.entry))) }
+    ensures keys { IfOk result (λ k. keys_seen k
+        ≡ keys_after (keys_seen keys) (groupings_of (groups_in (box_seen traf.entry)))) }
+    ensures fault { IfErr result
+        (λ f. Tiles (box_container (box_seen traf.entry)) (children_of (box_seen traf.entry))
+        → GroupsFail n (keys_seen keys) [] (groups_in (box_seen traf.entry)) f) }
+    ensures cost { IfOk result (λ k. steps.new ≤ steps.old
+        + group_rows (traf_in (box_seen traf.entry)).groups) }
     ensures work { 8 * steps.new ≤ 8 * steps.old + length (box_seen traf.entry).payload }
 {
     let mut keys = keys;
@@ -201,7 +222,8 @@ fn moved_on(state: TrackState, time: Option<u64>, passed: Passed, keys: Keys) ->
     }
 }
 
-// Checks a `traf` of a `moof` at this place, where the data of the `traf` before ends there, and answers where its own ends.
+// Checks a `traf` of a `moof` at this place, where the data of the `traf` before ends there, and
+// answers where its own ends.
 fn check_traf<L: Ledger>(
     traf: BoxView,
     moof: u64,
@@ -219,15 +241,26 @@ fn check_traf<L: Ledger>(
     ensures known { IfOk result (λ at. IsKnown tracks.new known.new) }
     ensures few { IfOk result (λ at. room.new ≤ room.old) }
     ensures room { IfOk result (λ at. HaveRoom room.new tracks.new) }
-    ensures holds { IfOk result (λ at. Holds rules.TrackFragment (box_container (box_seen traf.entry)) (children_of (box_seen traf.entry))) }
-    ensures sound { IfOk result (λ at. IsTrafSound file_len moof before tracks.old (children_of (box_seen traf.entry)) at) }
-    ensures bound { IfOk result (λ at. (n : ℕ) → 2 ^ 64 ≤ n → IsUpTo n before → IsUpTo (n + 2 ^ 31) at) }
-    ensures same { IfOk result (λ at. (id : ℕ) → trex_among tracks.new id ≡ trex_among tracks.old id) }
-    ensures fault { IfErr result (λ f. TrafFails file_len moof before tracks.old room.old (box_seen traf.entry) f) }
-    ensures moved { IfOk result (λ at. IsMovedOn moof before (children_of (box_seen traf.entry)) tracks.old tracks.new room.old room.new) }
-    ensures cost { IfOk result (λ at. steps.new + room.new + 1 ≤ steps.old + room.old + traf_rows (traf_in (box_seen traf.entry))) }
-    ensures within { IfOk result (λ at. 8 * steps.new + 8 * room.new ≤ 8 * steps.old + 8 * room.old + 3 * length (box_seen traf.entry).payload) }
-    ensures work { 8 * steps.new ≤ 8 * steps.old + 8 * room.old + 3 * length (box_seen traf.entry).payload }
+    ensures holds { IfOk result
+        (λ at. Holds rules.TrackFragment (box_container (box_seen traf.entry))
+        (children_of (box_seen traf.entry))) }
+    ensures sound { IfOk result
+        (λ at. IsTrafSound file_len moof before tracks.old (children_of (box_seen traf.entry)) at) }
+    ensures bound { IfOk result (λ at. (n : ℕ) → 2 ^ 64 ≤ n → IsUpTo n before
+        → IsUpTo (n + 2 ^ 31) at) }
+    ensures same { IfOk result (λ at. (id : ℕ)
+        → trex_among tracks.new id ≡ trex_among tracks.old id) }
+    ensures fault { IfErr result
+        (λ f. TrafFails file_len moof before tracks.old room.old (box_seen traf.entry) f) }
+    ensures moved { IfOk result
+        (λ at. IsMovedOn moof before (children_of (box_seen traf.entry))
+        tracks.old tracks.new room.old room.new) }
+    ensures cost { IfOk result (λ at. steps.new + room.new + 1 ≤ steps.old + room.old
+        + traf_rows (traf_in (box_seen traf.entry))) }
+    ensures within { IfOk result (λ at. 8 * steps.new + 8 * room.new ≤ 8 * steps.old + 8 * room.old
+        + 3 * length (box_seen traf.entry).payload) }
+    ensures work { 8 * steps.new ≤ 8 * steps.old + 8 * room.old
+        + 3 * length (box_seen traf.entry).payload }
 {
     let heads = check_boxes(traf)?;
     let Some(tfhd) = heads.head else {
@@ -270,8 +303,8 @@ fn check_traf<L: Ledger>(
     Ok(passed.at)
 }
 
-/// Checks a `moof` of a file of this length behind what came before it. The tracks move on by its samples, and the
-/// room for samples falls by their number. After a fault both may have any values.
+/// Checks a `moof` of a file of this length behind what came before it. The tracks move on by its
+/// samples, and the room for samples falls by their number. After a fault both may have any values.
 pub fn check_moof<'a, L: Ledger>(
     moof: BoxView<'a>,
     file_len: u64,
@@ -282,18 +315,28 @@ pub fn check_moof<'a, L: Ledger>(
     requires few { room.old ≤ 2 ^ 24 }
     requires room { HaveRoom room.old tracks.old }
     ensures view { IfOk result (λ view. moof_seen view ≡ box_seen moof.entry) }
-    ensures sound { IfOk result (λ view. (trexes : List Trex) → AreTrexesOf trexes tracks.old → IsSoundMoof file_len trexes tracks.old (tree_of (box_seen moof.entry))) }
+    ensures sound { IfOk result (λ view. (trexes : List Trex) → AreTrexesOf trexes tracks.old
+        → IsSoundMoof file_len trexes tracks.old (tree_of (box_seen moof.entry))) }
     ensures own { IfOk result (λ view.
         IsSoundMoof file_len (own_trexes tracks.old) tracks.old (tree_of (box_seen moof.entry))) }
-    ensures fault { IfErr result (λ f. MoofFails file_len tracks.old room.old (box_seen moof.entry) f) }
-    ensures only { IfErr result (λ f. IsAcceptable file_len tracks.old room.old (box_seen moof.entry) → ⊥) }
-    ensures same { IfOk result (λ view. (id : ℕ) → trex_among tracks.new id ≡ trex_among tracks.old id) }
-    ensures moved { IfOk result (λ view. AreMovedOn (box_seen moof.entry).offset (pos (box_seen moof.entry).offset) (of_kind (codes "traf") (children_of (box_seen moof.entry))) tracks.old tracks.new room.old room.new) }
+    ensures fault { IfErr result (λ f. MoofFails file_len tracks.old room.old (box_seen moof.entry)
+        f) }
+    ensures only { IfErr result
+        (λ f. IsAcceptable file_len tracks.old room.old (box_seen moof.entry) → ⊥) }
+    ensures same { IfOk result (λ view. (id : ℕ)
+        → trex_among tracks.new id ≡ trex_among tracks.old id) }
+    ensures moved { IfOk result
+        (λ view. AreMovedOn (box_seen moof.entry).offset (pos (box_seen moof.entry).offset)
+        (of_kind (codes "traf") (children_of (box_seen moof.entry)))
+        tracks.old tracks.new room.old room.new) }
     ensures few { IfOk result (λ view. room.new ≤ room.old) }
     ensures room { IfOk result (λ view. HaveRoom room.new tracks.new) }
-    ensures cost { IfOk result (λ view. steps.new + room.new ≤ steps.old + room.old + fragment_rows (moof_says (box_seen moof.entry))) }
-    ensures within { IfOk result (λ view. 2 * steps.new + 2 * room.new ≤ 2 * steps.old + 2 * room.old + length (box_seen moof.entry).payload) }
-    ensures work { 2 * steps.new ≤ 2 * steps.old + 2 * room.old + length (box_seen moof.entry).payload }
+    ensures cost { IfOk result (λ view. steps.new + room.new ≤ steps.old + room.old
+        + fragment_rows (moof_says (box_seen moof.entry))) }
+    ensures within { IfOk result (λ view. 2 * steps.new + 2 * room.new ≤ 2 * steps.old
+        + 2 * room.old + length (box_seen moof.entry).payload) }
+    ensures work { 2 * steps.new ≤ 2 * steps.old + 2 * room.old
+        + length (box_seen moof.entry).payload }
 {
     let mut before = i128::from(moof.offset());
     let mut known = Known::first();

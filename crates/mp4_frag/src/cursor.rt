@@ -21,7 +21,12 @@ impl<'a> Model for FragCursor<'a> {
 
     ghost Value = { CursorSeen };
 
-    ghost view = { λ c. record { payload = c.payload.now; moof = c.moof; tracks = c.tracks.now; place = c.place } };
+    ghost view = { λ c. record {
+      payload = c.payload.now;
+      moof = c.moof;
+      tracks = c.tracks.now;
+      place = c.place;
+    } };
 
     ghost invariant = { λ c. IsPlaceIn c.payload.now c.place };
 }
@@ -53,9 +58,13 @@ impl<'a> FragCursor<'a> {
         ensures moof { result.moof ≡ (moof_seen view.now).offset }
         ensures tracks { result.tracks ≡ tracks.now }
         ensures time { result.place.dts ≡ dts }
-        ensures samples { samples_coming result ≡ samples_in (moof_seen view.now) tracks.now track dts (keys_seen keys) }
-        ensures definition { (file_length : ℕ) (trexes : List Trex) (t : FragmentTree) → t.moof ≡ moof_seen view.now → IsSoundMoof file_length trexes tracks.now t → AreTrexesOf trexes tracks.now → AreDistinct (keys_seen keys)
-            → dts + duration_of (samples_of_track trexes track t) < 2 ^ 64 → samples_coming result ≡ timed (keys_seen keys) dts (samples_of_track trexes track t) }
+        ensures samples { samples_coming result
+            ≡ samples_in (moof_seen view.now) tracks.now track dts (keys_seen keys) }
+        ensures definition { (file_length : ℕ) (trexes : List Trex) (t : FragmentTree)
+            → t.moof ≡ moof_seen view.now → IsSoundMoof file_length trexes tracks.now t
+            → AreTrexesOf trexes tracks.now → AreDistinct (keys_seen keys)
+            → dts + duration_of (samples_of_track trexes track t) < 2 ^ 64
+            → samples_coming result ≡ timed (keys_seen keys) dts (samples_of_track trexes track t) }
     {
         let moof = view.moof();
         let mut place = first_place(moof.offset(), track, dts, keys);
@@ -66,7 +75,12 @@ impl<'a> FragCursor<'a> {
     /// The walk from a place on.
     pub fn at(view: &FragView<'a>, tracks: &'a [TrackState], place: FragPlace) -> FragCursor<'a>
         requires { IsPlaceIn (moof_seen view.now).payload place }
-        ensures { result ≡ record { payload = (moof_seen view.now).payload; moof = (moof_seen view.now).offset; tracks = tracks.now; place = place } }
+        ensures { result ≡ record {
+          payload = (moof_seen view.now).payload;
+          moof = (moof_seen view.now).offset;
+          tracks = tracks.now;
+          place = place;
+        } }
     {
         let moof = view.moof();
         FragCursor {
@@ -82,7 +96,8 @@ impl<'a> FragCursor<'a> {
         ensures is { result ≡ self.now.place }
         ensures place { IsPlaceIn self.now.payload result }
         ensures work { result.passed ≤ moof_work self.now.payload }
-        ensures said { (moof : Box) → self.now.payload ≡ moof.payload → result.passed ≤ fragment_rows (moof_says moof) + fragment_length (moof_says moof) }
+        ensures said { (moof : Box) → self.now.payload ≡ moof.payload
+            → result.passed ≤ fragment_rows (moof_says moof) + fragment_length (moof_says moof) }
     {
         self.place
     }
@@ -122,5 +137,11 @@ impl<'a> Samples for FragCursor<'a> {
 
     ghost follows_itself = { λ s. (refl, refl, refl, le_refl _, refl) };
 
-    ghost follows_on = { λ s t u p q. (q.0 ∙ p.0, q.1 ∙ p.1, q.2 ∙ p.2, le_trans p.3 q.3, q.4 ∙ p.4) };
+    ghost follows_on = { λ s t u p q. (
+      q.0 ∙ p.0,
+      q.1 ∙ p.1,
+      q.2 ∙ p.2,
+      le_trans p.3 q.3,
+      q.4 ∙ p.4,
+    ) };
 }

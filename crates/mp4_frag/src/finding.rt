@@ -1,12 +1,12 @@
 //! The track with an ID, found among the states of all.
-ghost use Rattle.std.specs.Prelude.{ℕ, List, ◌≡◌, ◌+◌, ◌<◌, ◌≤◌, ◌==◌, length, take, find, slice_get, None, IfSome};
+ghost use Rattle.std.specs.Prelude.{List, ◌≡◌, ◌+◌, ◌<◌, ◌≤◌, ◌==◌, length, take, find, slice_get, None, IfSome};
 ghost use Rattle.mp4_frag.specs.Finding.{IsKnown};
 ghost use Rattle.mp4_frag.specs.declared.state.TrackState.{TrackState};
 
 use crate::state::TrackState;
 
-/// What a pass over a `moof` knows of the tracks: how many in front have IDs that rise, and at which place among these
-/// it found one last.
+/// What a pass over a `moof` knows of the tracks: how many in front have IDs that rise, and at
+/// which place among these it found one last.
 #[derive(Clone, Copy)]
 pub(crate) struct Known {
     rising: usize,
@@ -30,11 +30,15 @@ impl Known {
 fn find_above(tracks: &[TrackState], id: u32, known: Known) -> Option<usize>
     requires some { 0 < length tracks.now }
     requires known { IsKnown tracks.now known }
-    requires none { find (λ (t : TrackState). t.id == id) (take (known.last + 1) tracks.now) ≡ None }
+    requires none { find (λ (t : TrackState). t.id == id) (take (known.last + 1) tracks.now)
+        ≡ None }
     ensures inside { IfSome result (λ k. k < known.rising) }
-    ensures found { IfSome result (λ k. find (λ (t : TrackState). t.id == id) tracks.now ≡ slice_get tracks.now k) }
-    ensures first { IfSome result (λ k. find (λ (t : TrackState). t.id == id) (take k tracks.now) ≡ None) }
-    ensures none { result ≡ None → find (λ (t : TrackState). t.id == id) (take known.rising tracks.now) ≡ None }
+    ensures found { IfSome result (λ k. find (λ (t : TrackState). t.id == id) tracks.now
+        ≡ slice_get tracks.now k) }
+    ensures first { IfSome result (λ k. find (λ (t : TrackState). t.id == id) (take k tracks.now)
+        ≡ None) }
+    ensures none { result ≡ None
+        → find (λ (t : TrackState). t.id == id) (take known.rising tracks.now) ≡ None }
 {
     for k in known.last + 1..known.rising {
         let other = tracks[k].id;
@@ -55,9 +59,12 @@ fn find_below(tracks: &[TrackState], id: u32, known: Known) -> Option<usize>
     requires none { find (λ (t : TrackState). t.id == id) (take known.rising tracks.now)
         ≡ find (λ (t : TrackState). t.id == id) (take known.last tracks.now) }
     ensures inside { IfSome result (λ k. k < known.rising) }
-    ensures found { IfSome result (λ k. find (λ (t : TrackState). t.id == id) tracks.now ≡ slice_get tracks.now k) }
-    ensures first { IfSome result (λ k. find (λ (t : TrackState). t.id == id) (take k tracks.now) ≡ None) }
-    ensures none { result ≡ None → find (λ (t : TrackState). t.id == id) (take known.rising tracks.now) ≡ None }
+    ensures found { IfSome result (λ k. find (λ (t : TrackState). t.id == id) tracks.now
+        ≡ slice_get tracks.now k) }
+    ensures first { IfSome result (λ k. find (λ (t : TrackState). t.id == id) (take k tracks.now)
+        ≡ None) }
+    ensures none { result ≡ None
+        → find (λ (t : TrackState). t.id == id) (take known.rising tracks.now) ≡ None }
 {
     for step in 0..known.last {
         let k = known.last - 1 - step;
@@ -72,14 +79,18 @@ fn find_below(tracks: &[TrackState], id: u32, known: Known) -> Option<usize>
     None
 }
 
-// The place of the track with this ID among those whose IDs rise: from the one found last towards it.
+// The place of the track with this ID among those whose IDs rise: from the one found last towards
+// it.
 fn find_rising(tracks: &[TrackState], id: u32, known: Known) -> Option<usize>
     requires some { 0 < length tracks.now }
     requires known { IsKnown tracks.now known }
     ensures inside { IfSome result (λ k. k < known.rising) }
-    ensures found { IfSome result (λ k. find (λ (t : TrackState). t.id == id) tracks.now ≡ slice_get tracks.now k) }
-    ensures first { IfSome result (λ k. find (λ (t : TrackState). t.id == id) (take k tracks.now) ≡ None) }
-    ensures none { result ≡ None → find (λ (t : TrackState). t.id == id) (take known.rising tracks.now) ≡ None }
+    ensures found { IfSome result (λ k. find (λ (t : TrackState). t.id == id) tracks.now
+        ≡ slice_get tracks.now k) }
+    ensures first { IfSome result (λ k. find (λ (t : TrackState). t.id == id) (take k tracks.now)
+        ≡ None) }
+    ensures none { result ≡ None
+        → find (λ (t : TrackState). t.id == id) (take known.rising tracks.now) ≡ None }
 {
     let last = tracks[known.last].id;
     if last == id {
@@ -112,11 +123,14 @@ fn known_with(tracks: &[TrackState], k: usize, known: Known) -> Known
 // The place of the track with this ID behind those whose IDs rise.
 fn find_behind(tracks: &[TrackState], id: u32, known: &mut Known) -> Option<usize>
     requires known { IsKnown tracks.now known.old }
-    requires none { find (λ (t : TrackState). t.id == id) (take known.old.rising tracks.now) ≡ None }
+    requires none { find (λ (t : TrackState). t.id == id) (take known.old.rising tracks.now)
+        ≡ None }
     ensures known { IsKnown tracks.now known.new }
     ensures inside { IfSome result (λ k. k < length tracks.now) }
-    ensures found { IfSome result (λ k. find (λ (t : TrackState). t.id == id) tracks.now ≡ slice_get tracks.now k) }
-    ensures first { IfSome result (λ k. find (λ (t : TrackState). t.id == id) (take k tracks.now) ≡ None) }
+    ensures found { IfSome result (λ k. find (λ (t : TrackState). t.id == id) tracks.now
+        ≡ slice_get tracks.now k) }
+    ensures first { IfSome result (λ k. find (λ (t : TrackState). t.id == id) (take k tracks.now)
+        ≡ None) }
     ensures none { result ≡ None → find (λ (t : TrackState). t.id == id) tracks.now ≡ None }
 {
     for k in known.rising..tracks.len() {
@@ -131,14 +145,16 @@ fn find_behind(tracks: &[TrackState], id: u32, known: &mut Known) -> Option<usiz
     None
 }
 
-/// The place of the first track with this ID. While IDs rise from track to track, it is looked for from the one found
-/// last towards it; else from the front. No track is compared with the ID twice.
+/// The place of the first track with this ID. While IDs rise from track to track, it is looked for
+/// from the one found last towards it; else from the front. No track is compared with the ID twice.
 pub(crate) fn find_track(tracks: &[TrackState], id: u32, known: &mut Known) -> Option<usize>
     requires known { IsKnown tracks.now known.old }
     ensures known { IsKnown tracks.now known.new }
     ensures inside { IfSome result (λ k. k < length tracks.now) }
-    ensures found { IfSome result (λ k. find (λ (t : TrackState). t.id == id) tracks.now ≡ slice_get tracks.now k) }
-    ensures first { IfSome result (λ k. find (λ (t : TrackState). t.id == id) (take k tracks.now) ≡ None) }
+    ensures found { IfSome result (λ k. find (λ (t : TrackState). t.id == id) tracks.now
+        ≡ slice_get tracks.now k) }
+    ensures first { IfSome result (λ k. find (λ (t : TrackState). t.id == id) (take k tracks.now)
+        ≡ None) }
     ensures none { result ≡ None → find (λ (t : TrackState). t.id == id) tracks.now ≡ None }
 {
     if tracks.is_empty() {

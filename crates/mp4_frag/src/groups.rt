@@ -130,10 +130,16 @@ pub(crate) fn read_group(payload: &[u8]) -> Result<Group, Kind>
     })
 }
 
-// Names the key of an `sbgp`, which no other of the `traf` may have, and which may not be the fifth of the track.
+// Names the key of an `sbgp`, which no other of the `traf` may have, and which may not be the fifth
+// of the track.
 fn name(key: GroupKey, keys: &mut Keys, named: &mut KeysNamed) -> Result<(), Kind>
-    ensures named { OnOk result ((first : List GroupKeyOf) (before : List Grouping) (g : Grouping) → g.key ≡ key_seen key → AreNamed first before (keys_seen keys.old) named.old → NamesOneMore first before g (keys_seen keys.new) named.new) }
-    ensures fault { IfErr result (λ kind. (first : List GroupKeyOf) (before : List Grouping) (g : Grouping) → g.key ≡ key_seen key → AreNamed first before (keys_seen keys.old) named.old → IsNameFault first before g kind) }
+    ensures named { OnOk result ((first : List GroupKeyOf) (before : List Grouping) (g : Grouping)
+        → g.key ≡ key_seen key → AreNamed first before (keys_seen keys.old) named.old
+        → NamesOneMore first before g (keys_seen keys.new) named.new) }
+    ensures fault { IfErr result
+        (λ kind. (first : List GroupKeyOf) (before : List Grouping) (g : Grouping)
+        → g.key ≡ key_seen key → AreNamed first before (keys_seen keys.old) named.old
+        → IsNameFault first before g kind) }
 {
     let place = match keys.place(key) {
         Some(j) => {
@@ -159,7 +165,8 @@ fn name(key: GroupKey, keys: &mut Keys, named: &mut KeysNamed) -> Result<(), Kin
 fn row_of(payload: &[u8], group: Group, k: u32) -> (u32, u32)
     requires room { group.rows + 8 * group.count ≤ length payload.now }
     requires inside { k < group.count }
-    ensures { drop k (group_runs payload.now group) ≡ (result.0, result.1) ∷ drop (k + 1) (group_runs payload.now group) }
+    ensures { drop k (group_runs payload.now group) ≡ (result.0, result.1)
+        ∷ drop (k + 1) (group_runs payload.now group) }
 {
     let at = group.rows + 8 * k as usize;
     (u32_at(payload, at), u32_at(payload, at + 4))
@@ -168,7 +175,8 @@ fn row_of(payload: &[u8], group: Group, k: u32) -> (u32, u32)
 // How many samples the rows count, if each index is one.
 fn count_samples<L: Ledger>(payload: &[u8], group: Group, steps: &mut Steps<L>) -> Option<u64>
     requires { group.rows + 8 * group.count ≤ length payload.now }
-    ensures indexes { is_some result ≡ list_all (λ run. nat_le run.1 max_index) (group_runs payload.now group) }
+    ensures indexes { is_some result
+        ≡ list_all (λ run. nat_le run.1 max_index) (group_runs payload.now group) }
     ensures total { IfSome result (λ n. n ≡ total_of (group_runs payload.now group)) }
     ensures cost { steps.new ≤ steps.old + group.count }
 {
@@ -192,9 +200,15 @@ pub(crate) fn check_group<L: Ledger>(
     named: &mut KeysNamed,
     steps: &mut Steps<L>,
 ) -> Result<(), Kind>
-    ensures sound { OnOk result ((first : List GroupKeyOf) (before : List Grouping) → AreNamed first before (keys_seen keys.old) named.old → IsGroupSound n first before payload.now) }
-    ensures named { OnOk result ((first : List GroupKeyOf) (before : List Grouping) → AreNamed first before (keys_seen keys.old) named.old → AreNamed first (before ++ grouping_of payload.now ∷ []) (keys_seen keys.new) named.new) }
-    ensures fault { IfErr result (λ kind. (first : List GroupKeyOf) (before : List Grouping) → AreNamed first before (keys_seen keys.old) named.old → IsGroupFault n first before payload.now kind) }
+    ensures sound { OnOk result ((first : List GroupKeyOf) (before : List Grouping)
+        → AreNamed first before (keys_seen keys.old) named.old
+        → IsGroupSound n first before payload.now) }
+    ensures named { OnOk result ((first : List GroupKeyOf) (before : List Grouping)
+        → AreNamed first before (keys_seen keys.old) named.old
+        → AreNamed first (before ++ grouping_of payload.now ∷ []) (keys_seen keys.new) named.new) }
+    ensures fault { IfErr result (λ kind. (first : List GroupKeyOf) (before : List Grouping)
+        → AreNamed first before (keys_seen keys.old) named.old
+        → IsGroupFault n first before payload.now kind) }
     ensures cost { steps.new ≤ steps.old + row_count sbgp payload.now }
     ensures work { 8 * steps.new ≤ 8 * steps.old + length payload.now }
 {

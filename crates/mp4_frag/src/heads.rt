@@ -1,5 +1,5 @@
 //! `tfhd`: of which track a `traf` is, and what its samples inherit (ISO/IEC 14496-12, 8.8.7).
-ghost use Rattle.std.specs.Prelude.{ℕ, ◌≡◌, ◌+◌, ◌^◌, ◌≤◌, length, drop, IfOk, IfErr};
+ghost use Rattle.std.specs.Prelude.{ℕ, ◌≡◌, ◌^◌, ◌≤◌, length, drop, IfOk, IfErr};
 ghost use Rattle.mp4_frag.specs.Passing.{IsUpTo};
 ghost use Rattle.mp4_boxes.specs.Bytes.{field};
 ghost use Rattle.mp4_boxes.specs.BoxFaults.{Fails};
@@ -131,8 +131,8 @@ pub(crate) fn nothing_inherited() -> Inherited
     }
 }
 
-/// Where the runs of the `traf` are counted from, in a `moof` at this place, where the data of the `traf` before
-/// ends there.
+/// Where the runs of the `traf` are counted from, in a `moof` at this place, where the data of the
+/// `traf` before ends there.
 pub(crate) fn base_of(head: Head, moof: u64, before: i128) -> i128
     ensures is { result ≡ base_by moof before (as_traf head) }
     ensures bound { (n : ℕ) → 2 ^ 64 ≤ n → IsUpTo n before → IsUpTo n result }

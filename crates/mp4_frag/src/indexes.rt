@@ -64,7 +64,10 @@ fn settle(payload: &[u8], place: IndexPlace) -> IndexPlace
 pub(crate) fn first_index(payload: &[u8], inside: usize, group: Group) -> IndexPlace
     requires { inside + group.rows + 8 * group.count ≤ length payload.now }
     ensures place { IsIndexPlace payload.now result }
-    ensures is { indexes_left payload.now result ≡ map low_half_of (repeated (runs_at payload.now (record { place = inside + group.rows; count = group.count }))) }
+    ensures is { indexes_left payload.now result
+        ≡ map low_half_of
+        (repeated (runs_at payload.now
+        (record { place = inside + group.rows; count = group.count }))) }
 {
     settle(
         payload,
@@ -79,8 +82,11 @@ pub(crate) fn first_index(payload: &[u8], inside: usize, group: Group) -> IndexP
 
 // The places with the rows of the key at this place among the track's.
 pub(crate) fn with_index(places: IndexPlaces, j: u8, place: IndexPlace) -> IndexPlaces
-    ensures place { (payload : List ℕ) → AreIndexPlaces payload places → IsIndexPlace payload place → AreIndexPlaces payload result }
-    ensures is { (payload : List ℕ) → all_indexes payload result ≡ with_indexes (all_indexes payload places) j (indexes_left payload place) }
+    ensures place { (payload : List ℕ) → AreIndexPlaces payload places → IsIndexPlace payload place
+        → AreIndexPlaces payload result }
+    ensures is { (payload : List ℕ)
+        → all_indexes payload result
+        ≡ with_indexes (all_indexes payload places) j (indexes_left payload place) }
 {
     match j {
         0 => IndexPlaces {
@@ -105,7 +111,8 @@ pub(crate) fn with_index(places: IndexPlaces, j: u8, place: IndexPlace) -> Index
 // The index in hand: 0 behind the last row.
 #[inline]
 fn index_here(place: IndexPlace) -> u16
-    ensures { (payload : List ℕ) → IsIndexPlace payload place → result ≡ slice_index (indexes_left payload place) 0 }
+    ensures { (payload : List ℕ) → IsIndexPlace payload place
+        → result ≡ slice_index (indexes_left payload place) 0 }
 {
     if place.left > 0 { place.index } else { 0 }
 }
@@ -115,7 +122,8 @@ fn index_here(place: IndexPlace) -> u16
 fn pass_index(payload: &[u8], place: &mut IndexPlace)
     requires { IsIndexPlace payload.now place.old }
     ensures place { IsIndexPlace payload.now place.new }
-    ensures next { indexes_left payload.now place.new ≡ drop 1 (indexes_left payload.now place.old) }
+    ensures next { indexes_left payload.now place.new
+        ≡ drop 1 (indexes_left payload.now place.old) }
 {
     if place.left > 0 {
         *place = settle(
@@ -131,7 +139,8 @@ fn pass_index(payload: &[u8], place: &mut IndexPlace)
 // Whether no index is left in hand: where there are no `sbgp`s, and behind their last rows.
 #[inline(always)]
 fn are_over(places: &IndexPlaces) -> bool
-    ensures { IsTrue result → (places.now.first.left ≡ 0) × (places.now.second.left ≡ 0) × (places.now.third.left ≡ 0) × (places.now.fourth.left ≡ 0) }
+    ensures { IsTrue result → (places.now.first.left ≡ 0) × (places.now.second.left ≡ 0)
+        × (places.now.third.left ≡ 0) × (places.now.fourth.left ≡ 0) }
 {
     places.first.left == 0
         && places.second.left == 0
@@ -142,7 +151,8 @@ fn are_over(places: &IndexPlaces) -> bool
 // The indexes in hand.
 #[inline(always)]
 pub(crate) fn indexes_here(places: &IndexPlaces) -> [u16; 4]
-    ensures { (payload : List ℕ) → AreIndexPlaces payload places.now → result ≡ map (λ indexes. slice_index indexes 0) (all_indexes payload places.now) }
+    ensures { (payload : List ℕ) → AreIndexPlaces payload places.now
+        → result ≡ map (λ indexes. slice_index indexes 0) (all_indexes payload places.now) }
 {
     if are_over(places) {
         return [0; 4];
@@ -161,7 +171,8 @@ pub(crate) fn indexes_here(places: &IndexPlaces) -> [u16; 4]
 fn pass_each(payload: &[u8], places: &mut IndexPlaces)
     requires { AreIndexPlaces payload.now places.old }
     ensures place { AreIndexPlaces payload.now places.new }
-    ensures next { all_indexes payload.now places.new ≡ map (drop 1) (all_indexes payload.now places.old) }
+    ensures next { all_indexes payload.now places.new
+        ≡ map (drop 1) (all_indexes payload.now places.old) }
 {
     pass_index(payload, &mut places.first);
     pass_index(payload, &mut places.second);
@@ -174,7 +185,8 @@ fn pass_each(payload: &[u8], places: &mut IndexPlaces)
 pub(crate) fn pass_indexes(payload: &[u8], places: &mut IndexPlaces)
     requires { AreIndexPlaces payload.now places.old }
     ensures place { AreIndexPlaces payload.now places.new }
-    ensures next { all_indexes payload.now places.new ≡ map (drop 1) (all_indexes payload.now places.old) }
+    ensures next { all_indexes payload.now places.new
+        ≡ map (drop 1) (all_indexes payload.now places.old) }
 {
     if are_over(places) {
         return;

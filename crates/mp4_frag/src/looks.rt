@@ -8,7 +8,8 @@ use crate::check::{TFHD, TRAF};
 use crate::heads::{Head, read_head};
 use crate::lying::{Lying, box_at};
 
-// Whether a `tfhd` of a `traf` names the track, and whether one that does says where data is counted from.
+// Whether a `tfhd` of a `traf` names the track, and whether one that does says where data is
+// counted from.
 #[derive(Clone, Copy)]
 struct Named {
     is_named: bool,
@@ -32,7 +33,8 @@ pub(crate) struct Ahead {
 fn naming_head(payload: &[u8], lying: Lying, track: u32) -> Option<Head>
     requires inside { lying.inside ≤ lying.end }
     requires within { lying.end ≤ length payload.now }
-    ensures { MatchOption result (names track lying.kind.0 (part_of payload.now lying.inside lying.end) ≡ false)
+    ensures { MatchOption result
+        (names track lying.kind.0 (part_of payload.now lying.inside lying.end) ≡ false)
         (λ h. (names track lying.kind.0 (part_of payload.now lying.inside lying.end) ≡ true)
         × (as_traf h ≡ head_of (part_of payload.now lying.inside lying.end))) }
 {
@@ -56,8 +58,10 @@ fn has_base(head: Head) -> bool
 fn look(payload: &[u8], traf: Lying, track: u32) -> Named
     requires inside { traf.inside ≤ traf.end }
     requires within { traf.end ≤ length payload.now }
-    ensures named { result.is_named ≡ is_named track (boxes_between payload.now traf.inside traf.end) }
-    ensures based { result.is_based ≡ is_based track (boxes_between payload.now traf.inside traf.end) }
+    ensures named { result.is_named
+        ≡ is_named track (boxes_between payload.now traf.inside traf.end) }
+    ensures based { result.is_based
+        ≡ is_based track (boxes_between payload.now traf.inside traf.end) }
 {
     let mut named = Named {
         is_named: false,
@@ -85,9 +89,12 @@ pub(crate) fn look_ahead(payload: &[u8], from: usize, track: u32) -> Ahead
     ensures order { (from ≤ result.at) × (result.at ≤ length payload.now) }
     ensures rest { drop result.boxes (boxes_between payload.now from (length payload.now))
         ≡ boxes_between payload.now result.at (length payload.now) }
-    ensures others { AreOthers track result.boxes (boxes_between payload.now from (length payload.now)) }
-    ensures none { result.traf ≡ None → boxes_between payload.now result.at (length payload.now) ≡ [] }
-    ensures looks { result.looks ≤ suc (looks result.boxes (boxes_between payload.now from (length payload.now))) }
+    ensures others { AreOthers track result.boxes
+        (boxes_between payload.now from (length payload.now)) }
+    ensures none { result.traf ≡ None → boxes_between payload.now result.at (length payload.now)
+        ≡ [] }
+    ensures looks { result.looks
+        ≤ suc (looks result.boxes (boxes_between payload.now from (length payload.now))) }
     ensures few { result.traf ≡ None
         → result.looks ≤ looks result.boxes (boxes_between payload.now from (length payload.now)) }
     ensures inside { IfSome result.traf (λ t. (result.at < t.inside) × (t.inside ≤ t.end)

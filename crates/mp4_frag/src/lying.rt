@@ -23,7 +23,8 @@ pub(crate) struct Lying {
 
 // The header in front of these bytes, if one can be read.
 fn read_header(bytes: &[u8]) -> Option<Header>
-    ensures { MatchOption result (IsErr (header_at false bytes.now)) (λ h. header_at false bytes.now ≡ Ok (record { kind = h.kind.0; length = h.length; size = h.size })) }
+    ensures { MatchOption result (IsErr (header_at false bytes.now)) (λ h. header_at false bytes.now
+        ≡ Ok (record { kind = h.kind.0; length = h.length; size = h.size })) }
 {
     let left = bytes.len();
     if left < 8 {
@@ -50,7 +51,13 @@ pub(crate) fn box_at(payload: &[u8], at: usize, end: usize) -> Option<Lying>
     requires some { at < end }
     requires within { end ≤ length payload.now }
     ensures order { IfSome result (λ b. (at < b.inside) × (b.inside ≤ b.end) × (b.end ≤ end)) }
-    ensures some { IfSome result (λ b. boxes_between payload.now at end ≡ record { kind = b.kind.0; offset = at; header = b.inside - at; payload = part_of payload.now b.inside b.end } ∷ boxes_between payload.now b.end end) }
+    ensures some { IfSome result (λ b. boxes_between payload.now at end
+        ≡ record {
+          kind = b.kind.0;
+          offset = at;
+          header = b.inside - at;
+          payload = part_of payload.now b.inside b.end;
+        } ∷ boxes_between payload.now b.end end) }
     ensures none { result ≡ None → boxes_between payload.now at end ≡ [] }
 {
     let header = read_header(&payload[at..end])?;

@@ -2,7 +2,8 @@
 use crate::heads::Inherited;
 use mp4_tables::Keys;
 
-/// A place in the rows of an `sbgp`: the index that comes `left` more times, and the rows behind it.
+/// A place in the rows of an `sbgp`: the index that comes `left` more times, and the rows behind
+/// it.
 #[derive(Clone, Copy)]
 pub(crate) struct IndexPlace {
     /// Where the next row begins in the payload of the `moof`, and how many rows follow.
@@ -41,17 +42,20 @@ pub struct FragPlace {
     /// The decode time of the next sample, and where its data begins.
     pub(crate) dts: u64,
     pub(crate) at: i128,
-    /// Where the next box begins in the payload of the `moof`, and where the `traf` in hand ends there.
+    /// Where the next box begins in the payload of the `moof`, and where the `traf` in hand ends
+    /// there.
     pub(crate) next: usize,
     pub(crate) traf_end: usize,
-    /// What goes for the `traf` in hand: whether it is of the track, where its runs are counted from, what they inherit.
+    /// What goes for the `traf` in hand: whether it is of the track, where its runs are counted
+    /// from, what they inherit.
     pub(crate) is_own: bool,
     pub(crate) base: i128,
     pub(crate) inherited: Inherited,
     pub(crate) run: RowPlace,
     pub(crate) indexes: IndexPlaces,
-    /// How many `traf`s, rows of `sbgp`, runs and samples were passed: all rows of an `sbgp` where its `traf` is opened,
-    /// and of a `traf` that names another track one step, unless a later one's data begins where its own ends.
+    /// How many `traf`s, rows of `sbgp`, runs and samples were passed: all rows of an `sbgp` where
+    /// its `traf` is opened, and of a `traf` that names another track one step, unless a later
+    /// one's data begins where its own ends.
     pub(crate) passed: u64,
 }
 

@@ -12,8 +12,8 @@ use crate::runs::{Run, read_run};
 use mp4_boxes::{Kind, Steps};
 use std::sync::ledger::Ledger;
 
-/// Samples that were passed: where their data ends, how many there are, how long they last, and how many bytes they
-/// take.
+/// Samples that were passed: where their data ends, how many there are, how long they last, and how
+/// many bytes they take.
 #[derive(Clone, Copy)]
 pub(crate) struct Passed {
     pub(crate) at: i128,
@@ -22,7 +22,8 @@ pub(crate) struct Passed {
     pub(crate) bytes: u64,
 }
 
-/// What a run is judged by: the file's length, where the runs of its `traf` are counted from, what its samples inherit.
+/// What a run is judged by: the file's length, where the runs of its `traf` are counted from, what
+/// its samples inherit.
 #[derive(Clone, Copy)]
 pub(crate) struct Judged {
     pub(crate) file_len: u64,
@@ -30,7 +31,8 @@ pub(crate) struct Judged {
     pub(crate) inherited: Inherited,
 }
 
-// Samples of a run that were judged. Where one does not lie in the file, those behind it were not passed.
+// Samples of a run that were judged. Where one does not lie in the file, those behind it were not
+// passed.
 #[derive(Clone, Copy)]
 struct Samples {
     end: i128,
@@ -91,8 +93,10 @@ fn is_too_large(before: bool, row: Row) -> bool
 fn row_of(payload: &[u8], run: Run, k: u32) -> Row
     requires room { run.rows + run.count * row_room run.bits ≤ length payload.now }
     requires inside { k < run.count }
-    ensures row { rows_left payload.now run k ≡ row_seen run result ∷ rows_left payload.now run (k + 1) }
-    ensures offset { offsets_left payload.now run k ≡ result.offset ∷ offsets_left payload.now run (k + 1) }
+    ensures row { rows_left payload.now run k ≡ row_seen run result
+        ∷ rows_left payload.now run (k + 1) }
+    ensures offset { offsets_left payload.now run k ≡ result.offset
+        ∷ offsets_left payload.now run (k + 1) }
 {
     row_at(
         payload,
@@ -111,12 +115,16 @@ fn pass_samples<L: Ledger>(
 ) -> Samples
     requires room { run.rows + run.count * row_room run.bits ≤ length payload.now }
     requires near { IsNear at }
-    ensures within { result.are_within ≡ within_from judged.file_len judged.inherited.size at (rows_left payload.now run 0) }
-    ensures end { result.are_within ≡ true → result.end ≡ end_from judged.inherited.size at (rows_left payload.now run 0) }
-    ensures duration { result.are_within ≡ true → result.duration ≡ lasting judged.inherited.duration (rows_left payload.now run 0) }
+    ensures within { result.are_within
+        ≡ within_from judged.file_len judged.inherited.size at (rows_left payload.now run 0) }
+    ensures end { result.are_within ≡ true
+        → result.end ≡ end_from judged.inherited.size at (rows_left payload.now run 0) }
+    ensures duration { result.are_within ≡ true
+        → result.duration ≡ lasting judged.inherited.duration (rows_left payload.now run 0) }
     ensures bytes { result.are_within ≡ true
         → result.bytes ≡ filling judged.inherited.size (rows_left payload.now run 0) }
-    ensures large { result.are_within ≡ true → result.are_large ≡ too_large (offsets_left payload.now run 0) }
+    ensures large { result.are_within ≡ true
+        → result.are_large ≡ too_large (offsets_left payload.now run 0) }
     ensures short { result.duration ≤ 2 ^ 32 * run.count }
     ensures small { result.bytes ≤ 2 ^ 32 * run.count }
     ensures near { IsNear result.end }
@@ -172,10 +180,14 @@ pub(crate) fn check_run<L: Ledger>(
     requires base { IsNearer judged.base }
     requires near { IsNear passed.at }
     ensures near { IfOk result (λ p. IsNear p.at) }
-    ensures passed { IfOk result (λ p. IsRunPassed judged.file_len judged.inherited judged.base passed.at payload.now p.at (p.count - passed.count) (p.duration - passed.duration)
+    ensures passed { IfOk result
+        (λ p. IsRunPassed judged.file_len judged.inherited judged.base passed.at payload.now p.at
+        (p.count - passed.count) (p.duration - passed.duration)
         (p.bytes - passed.bytes)) }
-    ensures bound { IfOk result (λ p. (n : ℕ) → 2 ^ 64 ≤ n → IsUpTo n judged.base → IsUpTo (n + 2 ^ 31) passed.at → IsUpTo (n + 2 ^ 31) p.at) }
-    ensures fault { IfErr result (IsRunFault judged.file_len judged.inherited judged.base passed.at room.old payload.now) }
+    ensures bound { IfOk result (λ p. (n : ℕ) → 2 ^ 64 ≤ n → IsUpTo n judged.base
+        → IsUpTo (n + 2 ^ 31) passed.at → IsUpTo (n + 2 ^ 31) p.at) }
+    ensures fault { IfErr result
+        (IsRunFault judged.file_len judged.inherited judged.base passed.at room.old payload.now) }
     ensures few { IfOk result (λ p. p.count + room.new ≡ passed.count + room.old) }
     ensures duration { IfOk result (λ p. p.duration ≤ 2 ^ 32 * p.count) }
     ensures bytes { IfOk result (λ p. p.bytes ≤ 2 ^ 32 * p.count) }

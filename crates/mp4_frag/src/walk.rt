@@ -1,5 +1,5 @@
 //! A walk over the samples of a track in a `moof`, from place to place.
-ghost use Rattle.std.specs.Prelude.{ℕ, List, ◌≡◌, ◌+◌, ◌-◌, ◌<◌, ◌≤◌, ◌∷◌, [], length, drop, slice_get, None, Some, Ok, IfSome, MatchOption, IsErr, false};
+ghost use Rattle.std.specs.Prelude.{ℕ, List, ◌≡◌, ◌+◌, ◌-◌, ◌<◌, ◌≤◌, ◌∷◌, length, drop, slice_get, None, Some, Ok, false};
 ghost use Rattle.mp4_boxes.specs.Bytes.{AreBytes};
 ghost use Rattle.mp4_tables.specs.Keys.{keys_seen};
 ghost use Rattle.mp4_frag.specs.FragmentSamples.{flags_of as flags_by};
@@ -29,10 +29,16 @@ fn open_group(payload: &[u8], lying: Lying, place: &mut FragPlace)
     requires within { lying.end ≤ length payload.now }
     requires places { AreIndexPlaces payload.now place.old.indexes }
     ensures places { AreIndexPlaces payload.now place.new.indexes }
-    ensures same { place.new ≡ record place.old { indexes = place.new.indexes; passed = place.new.passed } }
+    ensures same { place.new ≡ record place.old {
+      indexes = place.new.indexes;
+      passed = place.new.passed;
+    } }
     ensures on { place.old.passed ≤ place.new.passed }
-    ensures work { place.new.passed ≤ place.old.passed + group_work (part_of payload.now lying.inside lying.end) }
-    ensures indexes { all_indexes payload.now place.new.indexes ≡ with_group (keys_seen place.old.keys) (all_indexes payload.now place.old.indexes) (part_of payload.now lying.inside lying.end) }
+    ensures work { place.new.passed ≤ place.old.passed
+        + group_work (part_of payload.now lying.inside lying.end) }
+    ensures indexes { all_indexes payload.now place.new.indexes
+        ≡ with_group (keys_seen place.old.keys) (all_indexes payload.now place.old.indexes)
+        (part_of payload.now lying.inside lying.end) }
 {
     let Ok(group) = read_group(&payload[lying.inside..lying.end]) else {
         return;
@@ -57,8 +63,15 @@ fn trex_of(tracks: &[TrackState], id: u32) -> Option<Trex>
 fn open_head(payload: &[u8], moof: u64, tracks: &[TrackState], lying: Lying, place: &mut FragPlace)
     requires inside { lying.inside ≤ lying.end }
     requires within { lying.end ≤ length payload.now }
-    ensures same { place.new ≡ record place.old { is_own = place.new.is_own; base = place.new.base; at = place.new.at; inherited = place.new.inherited } }
-    ensures reached { reached payload.now place.new ≡ with_head (walk_of moof tracks.now place.old) (reached payload.now place.old) (part_of payload.now lying.inside lying.end) }
+    ensures same { place.new ≡ record place.old {
+      is_own = place.new.is_own;
+      base = place.new.base;
+      at = place.new.at;
+      inherited = place.new.inherited;
+    } }
+    ensures reached { reached payload.now place.new
+        ≡ with_head (walk_of moof tracks.now place.old) (reached payload.now place.old)
+        (part_of payload.now lying.inside lying.end) }
 {
     let Ok(head) = read_head(&payload[lying.inside..lying.end]) else {
         return;
@@ -79,13 +92,17 @@ fn open_traf(payload: &[u8], moof: u64, tracks: &[TrackState], lying: Lying, pla
     requires within { lying.end ≤ length payload.now }
     ensures next { place.new.next ≡ lying.inside }
     ensures end { place.new.traf_end ≡ lying.end }
-    ensures same { (place.new.track ≡ place.old.track) × (place.new.keys ≡ place.old.keys) × (place.new.run ≡ place.old.run) }
+    ensures same { (place.new.track ≡ place.old.track) × (place.new.keys ≡ place.old.keys)
+        × (place.new.run ≡ place.old.run) }
     ensures time { place.new.dts ≡ place.old.dts }
     ensures indexes { AreIndexPlaces payload.now place.new.indexes }
     ensures on { place.old.passed ≤ place.new.passed }
     ensures work { place.new.passed
         ≤ place.old.passed + groups_work (boxes_between payload.now lying.inside lying.end) }
-    ensures reached { reached payload.now place.new ≡ with_leaves (walk_of moof tracks.now place.old) (before_traf (reached payload.now place.old)) (boxes_between payload.now lying.inside lying.end) }
+    ensures reached { reached payload.now place.new
+        ≡ with_leaves (walk_of moof tracks.now place.old)
+        (before_traf (reached payload.now place.old))
+        (boxes_between payload.now lying.inside lying.end) }
 {
     place.next = lying.inside;
     place.traf_end = lying.end;
@@ -110,7 +127,12 @@ fn open_traf(payload: &[u8], moof: u64, tracks: &[TrackState], lying: Lying, pla
 fn row_here(payload: &[u8], run: RowPlace) -> Row
     requires some { 0 < run.left }
     requires place { IsRowPlace payload.now run }
-    ensures { rows_here payload.now run ≡ row_signed result ∷ rows_here payload.now (record run { row = run.row + row_room run.bits; left = run.left - 1; first_flags = None }) }
+    ensures { rows_here payload.now run ≡ row_signed result
+        ∷ rows_here payload.now (record run {
+          row = run.row + row_room run.bits;
+          left = run.left - 1;
+          first_flags = None;
+        }) }
 {
     row_at(payload, run.row, run.bits)
 }
@@ -146,7 +168,8 @@ fn pass_run(payload: &[u8], lying: Lying, place: FragPlace) -> FragPlace
     requires within { lying.end ≤ length payload.now }
     ensures same { result ≡ record place { at = result.at; passed = result.passed } }
     ensures on { place.passed ≤ result.passed }
-    ensures work { result.passed ≤ place.passed + run_work (part_of payload.now lying.inside lying.end) }
+    ensures work { result.passed ≤ place.passed
+        + run_work (part_of payload.now lying.inside lying.end) }
     ensures reached { reached payload.now result
         ≡ over_run (reached payload.now place) (part_of payload.now lying.inside lying.end) }
 {
@@ -178,13 +201,19 @@ fn open_run(payload: &[u8], lying: Lying, place: &mut FragPlace)
     requires order { (place.old.next < lying.inside) × (lying.end ≤ place.old.traf_end) }
     requires none { place.old.run.left ≡ 0 }
     requires place { LiesIn payload.now place.old }
-    requires work { place.old.passed + run_work (part_of payload.now lying.inside lying.end) + work_behind payload.now lying.end place.old.traf_end ≤ moof_work payload.now }
+    requires work { place.old.passed + run_work (part_of payload.now lying.inside lying.end)
+        + work_behind payload.now lying.end place.old.traf_end ≤ moof_work payload.now }
     ensures place { LiesIn payload.now place.new }
     ensures next { place.new.next ≡ lying.end }
-    ensures same { (place.new.track ≡ place.old.track) × (place.new.keys ≡ place.old.keys) × (place.new.traf_end ≡ place.old.traf_end) }
+    ensures same { (place.new.track ≡ place.old.track) × (place.new.keys ≡ place.old.keys)
+        × (place.new.traf_end ≡ place.old.traf_end) }
     ensures time { place.new.dts ≡ place.old.dts }
     ensures on { place.old.passed ≤ place.new.passed }
-    ensures coming { (more : Reached → List SampleAt) → rows_coming (reached payload.now place.new) place.new.run.first_flags (rows_here payload.now place.new.run) more ≡ run_coming (reached payload.now place.old) (part_of payload.now lying.inside lying.end) more }
+    ensures coming { (more : Reached → List SampleAt)
+        → rows_coming (reached payload.now place.new) place.new.run.first_flags
+        (rows_here payload.now place.new.run) more
+        ≡ run_coming (reached payload.now place.old) (part_of payload.now lying.inside lying.end)
+        more }
 {
     if !place.is_own {
         *place = pass_run(payload, lying, *place);
@@ -205,7 +234,8 @@ fn open_run(payload: &[u8], lying: Lying, place: &mut FragPlace)
     };
 }
 
-// The place behind a `traf` of another track, for the one behind it, whose data may begin where that of this one ends.
+// The place behind a `traf` of another track, for the one behind it, whose data may begin where
+// that of this one ends.
 fn pass_traf(
     payload: &[u8],
     moof: u64,
@@ -215,16 +245,20 @@ fn pass_traf(
 ) -> FragPlace
     requires inside { lying.inside ≤ lying.end }
     requires within { lying.end ≤ length payload.now }
-    requires other { is_named place.track (boxes_between payload.now lying.inside lying.end) ≡ false }
-    ensures same { (result.track ≡ place.track) × (result.keys ≡ place.keys) × (result.run ≡ place.run) }
+    requires other { is_named place.track (boxes_between payload.now lying.inside lying.end)
+        ≡ false }
+    ensures same { (result.track ≡ place.track) × (result.keys ≡ place.keys)
+        × (result.run ≡ place.run) }
     ensures time { result.dts ≡ place.dts }
     ensures on { place.passed ≤ result.passed }
     ensures work { result.passed ≤ place.passed
         + (groups_work (boxes_between payload.now lying.inside lying.end)
         + runs_work (boxes_between payload.now lying.inside lying.end)) }
     ensures coming { (more : Reached → List SampleAt)
-        → runs_coming (with_leaves (walk_of moof tracks.now place) (before_traf (reached payload.now place))
-        (boxes_between payload.now lying.inside lying.end)) (boxes_between payload.now lying.inside lying.end) more
+        → runs_coming
+        (with_leaves (walk_of moof tracks.now place) (before_traf (reached payload.now place))
+        (boxes_between payload.now lying.inside lying.end))
+        (boxes_between payload.now lying.inside lying.end) more
         ≡ more (reached payload.now result) }
 {
     let mut passed = place;
@@ -251,8 +285,10 @@ fn pass_others(
     boxes: usize,
     place: FragPlace,
 ) -> FragPlace
-    requires others { AreOthers place.track boxes (boxes_between payload.now from (length payload.now)) }
-    ensures same { (result.track ≡ place.track) × (result.keys ≡ place.keys) × (result.run ≡ place.run) }
+    requires others { AreOthers place.track boxes
+        (boxes_between payload.now from (length payload.now)) }
+    ensures same { (result.track ≡ place.track) × (result.keys ≡ place.keys)
+        × (result.run ≡ place.run) }
     ensures time { result.dts ≡ place.dts }
     ensures on { place.passed ≤ result.passed }
     ensures work { result.passed
@@ -278,7 +314,8 @@ fn pass_others(
     passed
 }
 
-// The place in the next `traf` that names the track. Others are passed by a look; where data begins where theirs ends, all that stands in them is passed too.
+// The place in the next `traf` that names the track. Others are passed by a look; where data begins
+// where theirs ends, all that stands in them is passed too.
 fn next_traf(payload: &[u8], moof: u64, tracks: &[TrackState], place: &mut FragPlace)
     requires none { place.old.run.left ≡ 0 }
     requires end { place.old.next ≡ place.old.traf_end }
@@ -315,7 +352,8 @@ fn pass_box(payload: &[u8], moof: u64, tracks: &[TrackState], place: &mut FragPl
     ensures same { (place.new.track ≡ place.old.track) × (place.new.keys ≡ place.old.keys) }
     ensures time { place.new.dts ≡ place.old.dts }
     ensures on { place.old.passed ≤ place.new.passed }
-    ensures coming { coming payload.now (walk_of moof tracks.now place.old) place.new ≡ coming payload.now (walk_of moof tracks.now place.old) place.old }
+    ensures coming { coming payload.now (walk_of moof tracks.now place.old) place.new
+        ≡ coming payload.now (walk_of moof tracks.now place.old) place.old }
 {
     if place.next >= place.traf_end {
         next_traf(payload, moof, tracks, place);
@@ -342,14 +380,16 @@ pub(crate) fn settle(payload: &[u8], moof: u64, tracks: &[TrackState], place: &m
     ensures same { (place.new.track ≡ place.old.track) × (place.new.keys ≡ place.old.keys) }
     ensures time { place.new.dts ≡ place.old.dts }
     ensures on { place.old.passed ≤ place.new.passed }
-    ensures coming { coming payload.now (walk_of moof tracks.now place.old) place.new ≡ coming payload.now (walk_of moof tracks.now place.old) place.old }
+    ensures coming { coming payload.now (walk_of moof tracks.now place.old) place.new
+        ≡ coming payload.now (walk_of moof tracks.now place.old) place.old }
 {
     while place.run.left == 0 && place.next < payload.len() {
         pass_box(payload, moof, tracks, place);
     }
 }
 
-// The flags of a sample: those of its run's first sample, its own, or the inherited ones. The four highest bits are reserved.
+// The flags of a sample: those of its run's first sample, its own, or the inherited ones. The four
+// highest bits are reserved.
 #[inline]
 fn flags_of(first: Option<u32>, own: Option<u32>, inherited: u32) -> u32
     ensures { result ≡ flags_by first own None inherited }
@@ -393,7 +433,11 @@ pub(crate) fn sample_here(payload: &[u8], place: &FragPlace) -> SampleAt
 fn next_row(run: RowPlace) -> RowPlace
     requires some { 0 < run.left }
     requires fits { run.row + row_room run.bits ≤ usize.MAX }
-    ensures { result ≡ record run { row = run.row + row_room run.bits; left = run.left - 1; first_flags = None } }
+    ensures { result ≡ record run {
+      row = run.row + row_room run.bits;
+      left = run.left - 1;
+      first_flags = None;
+    } }
 {
     RowPlace {
         row: run.row + row_size(run.bits),
@@ -411,8 +455,10 @@ fn pass_row(payload: &[u8], place: &mut FragPlace)
     ensures place { LiesIn payload.now place.new }
     ensures same { (place.new.track ≡ place.old.track) × (place.new.keys ≡ place.old.keys) }
     ensures on { place.old.passed ≤ place.new.passed }
-    ensures time { (w : Walk) → time_behind payload.now w place.new ≡ time_behind payload.now w place.old }
-    ensures coming { (w : Walk) → coming payload.now w place.new ≡ drop 1 (coming payload.now w place.old) }
+    ensures time { (w : Walk)
+        → time_behind payload.now w place.new ≡ time_behind payload.now w place.old }
+    ensures coming { (w : Walk)
+        → coming payload.now w place.new ≡ drop 1 (coming payload.now w place.old) }
 {
     let row = row_here(payload, place.run);
     let duration = row.duration.unwrap_or(place.inherited.duration);
@@ -434,7 +480,8 @@ pub(crate) fn pass_sample(payload: &[u8], moof: u64, tracks: &[TrackState], plac
     ensures on { place.old.passed ≤ place.new.passed }
     ensures time { time_behind payload.now (walk_of moof tracks.now place.old) place.new
         ≡ time_behind payload.now (walk_of moof tracks.now place.old) place.old }
-    ensures coming { coming payload.now (walk_of moof tracks.now place.old) place.new ≡ drop 1 (coming payload.now (walk_of moof tracks.now place.old) place.old) }
+    ensures coming { coming payload.now (walk_of moof tracks.now place.old) place.new
+        ≡ drop 1 (coming payload.now (walk_of moof tracks.now place.old) place.old) }
 {
     pass_row(payload, place);
     if place.run.left == 0 {
@@ -447,7 +494,9 @@ pub(crate) fn first_place(moof: u64, track: u32, dts: u64, keys: Keys) -> FragPl
     ensures place { (payload : List ℕ) → LiesIn payload result }
     ensures walk { (result.track ≡ track) × (result.keys ≡ keys) }
     ensures time { result.dts ≡ dts }
-    ensures coming { (payload : List ℕ) (w : Walk) → coming payload w result ≡ trafs_coming w (at_first moof dts) (boxes_between payload 0 (length payload)) }
+    ensures coming { (payload : List ℕ) (w : Walk)
+        → coming payload w result
+        ≡ trafs_coming w (at_first moof dts) (boxes_between payload 0 (length payload)) }
 {
     FragPlace {
         track,

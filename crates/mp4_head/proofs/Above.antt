@@ -108,7 +108,8 @@ refuses_above from next before b refusals.WriteFailed s i h = h
 refuses_above from next before b refusals.NoSuchTrack s i h = h
 
 -- a leaf that holds boxes does
-pub refuses_both : (from next : Place) (before : List Box) (b : Box) (leaf : Leaf) (scope : Scope) (r : Refusal) → StandsAfter from.container before b → leaf_of from.scope b.kind ≡ Some leaf → is_table leaf ≡ false → inside from b ≡ Some next → next ≡ place_of scope b → RefusesBoth leaf scope b r → RefusesIn from r
+pub refuses_both : (from next : Place) (before : List Box) (b : Box) (leaf : Leaf) (scope : Scope) (r : Refusal) → StandsAfter from.container before b → leaf_of from.scope b.kind ≡ Some leaf → is_table leaf ≡ false → inside from b ≡ Some next → next ≡ place_of scope b → RefusesBoth leaf scope b r
+    → RefusesIn from r
 refuses_both from next before b leaf scope (refusals.Fault f) s l n i e (inl h) = leaf_here from before b leaf f s l n h
 refuses_both from next before b leaf scope (refusals.Fault f) s l n i e (inr h) = head_above from next before b f s i (subst (λ (p : Place). HeadStands p f) (sym e) h)
 refuses_both from next before b leaf scope refusals.Memory s l n i e h = tt

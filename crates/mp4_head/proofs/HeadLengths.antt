@@ -98,7 +98,8 @@ length_table descriptions groups =
     let g : length (stbl_bytes descriptions groups) ≡ 8 + length (appended stsd_is (one ∷ two ∷ three ∷ four ∷ five ∷ [])) = length_box (codes "stbl") (appended stsd_is (one ∷ two ∷ three ∷ four ∷ five ∷ [])) refl in
     omega (arith, a, b, c, d, e, f, g)
 
-length_media : (m : Media) (groups : List (List ℕ)) → length (mdia_bytes m groups) ≡ 188 + length (box_bytes (codes "hdlr") m.handler) + length (flat_map (box_bytes (codes "elng")) m.extended_languages) + length (kept_bytes m.header) + length (flat_map kept_bytes m.descriptions) + length (flat_map (box_bytes (codes "sgpd")) groups)
+length_media : (m : Media) (groups : List (List ℕ)) → length (mdia_bytes m groups) ≡ 188 + length (box_bytes (codes "hdlr") m.handler) + length (flat_map (box_bytes (codes "elng")) m.extended_languages) + length (kept_bytes m.header) + length (flat_map kept_bytes m.descriptions)
+    + length (flat_map (box_bytes (codes "sgpd")) groups)
 length_media m groups =
     let header : length (mdhd_bytes m) ≡ 44 = refl in
     let table = stbl_bytes m.descriptions groups in
@@ -119,13 +120,15 @@ length_track_header t n = of_nine (λ x. length (tkhd_bytes (record t { matrix =
 
 -- `trak` and `trex`
 pub length_track : (t : TrackHead) → length t.matrix ≡ 9 → length (trak_bytes t) + length (trex_bytes t)
-    ≡ 332 + length (edts_bytes t.edits) + length (flat_map kept_bytes t.kept) + length (box_bytes (codes "hdlr") t.media.handler) + length (flat_map (box_bytes (codes "elng")) t.media.extended_languages) + length (kept_bytes t.media.header) + length (flat_map kept_bytes t.media.descriptions) + length (flat_map (box_bytes (codes "sgpd")) t.group_descriptions)
+    ≡ 332 + length (edts_bytes t.edits) + length (flat_map kept_bytes t.kept) + length (box_bytes (codes "hdlr") t.media.handler) + length (flat_map (box_bytes (codes "elng")) t.media.extended_languages) + length (kept_bytes t.media.header) + length (flat_map kept_bytes t.media.descriptions)
+    + length (flat_map (box_bytes (codes "sgpd")) t.group_descriptions)
 length_track t n =
     let extends : length (trex_bytes t) ≡ 32 = refl in
     let ps = edts_bytes t.edits ∷ flat_map kept_bytes t.kept ∷ mdia_bytes t.media t.group_descriptions ∷ [] in
     let a : length (appended (tkhd_bytes t) (edts_bytes t.edits ∷ flat_map kept_bytes t.kept ∷ mdia_bytes t.media t.group_descriptions ∷ [])) ≡ length (tkhd_bytes t) + (length (edts_bytes t.edits) + (length (flat_map kept_bytes t.kept) + (length (mdia_bytes t.media t.group_descriptions) + 0))) =
     length_appended (tkhd_bytes t) ps in
-    let b : length (trak_bytes t) ≡ 8 + length (appended (tkhd_bytes t) (edts_bytes t.edits ∷ flat_map kept_bytes t.kept ∷ mdia_bytes t.media t.group_descriptions ∷ [])) = length_box (codes "trak") (appended (tkhd_bytes t) (edts_bytes t.edits ∷ flat_map kept_bytes t.kept ∷ mdia_bytes t.media t.group_descriptions ∷ [])) refl in
+    let b : length (trak_bytes t) ≡ 8 + length (appended (tkhd_bytes t) (edts_bytes t.edits ∷ flat_map kept_bytes t.kept ∷ mdia_bytes t.media t.group_descriptions ∷ [])) =
+    length_box (codes "trak") (appended (tkhd_bytes t) (edts_bytes t.edits ∷ flat_map kept_bytes t.kept ∷ mdia_bytes t.media t.group_descriptions ∷ [])) refl in
     omega (arith, extends, a, b, length_track_header t n, length_media t.media t.group_descriptions)
 
 length_movie_header : (m : MovieHead) (next : ℕ) → length m.matrix ≡ 9 → length (mvhd_bytes m next) ≡ 120

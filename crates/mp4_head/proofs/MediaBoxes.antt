@@ -45,7 +45,8 @@ pub media_none : (all : List Box) → MediaPassed all all None None [] None
 media_none all = record { walk = walk_none all; sound = tt; header_says = not_yet refl; handler_is = not_yet refl; languages_are = refl; inside = not_yet refl }
 
 -- the `mdhd` was read
-pub media_header : (b : Box) (all left later : List Box) (child : Box) (header : Option MediaHeader) (handler : Option (Bor (List ℕ))) (languages : List (List ℕ)) (information : Option Information) (x : MediaHeader) → Holds kinds.Media (box_container b) all → MediaPassed all left header handler languages information → left ≡ child ∷ later
+pub media_header : (b : Box) (all left later : List Box) (child : Box) (header : Option MediaHeader) (handler : Option (Bor (List ℕ))) (languages : List (List ℕ)) (information : Option Information) (x : MediaHeader) → Holds kinds.Media (box_container b) all
+    → MediaPassed all left header handler languages information → left ≡ child ∷ later
     → bytes_eq (codes "mdhd") child.kind ≡ true → IsSound mdhd child.payload → IsMediaHeader child x → MediaPassed all later (Some x) handler languages information
 media_header b all left later child header handler languages information x h p e k q s =
     let is = same_kind (codes "mdhd") child.kind k in
@@ -61,7 +62,8 @@ media_header b all left later child header handler languages information x h p e
     }
 
 -- the `hdlr` was read
-pub media_handler : (b : Box) (all left later : List Box) (child : Box) (header : Option MediaHeader) (handler : Option (Bor (List ℕ))) (languages : List (List ℕ)) (information : Option Information) (x : Bor (List ℕ)) → Holds kinds.Media (box_container b) all → MediaPassed all left header handler languages information → left ≡ child ∷ later
+pub media_handler : (b : Box) (all left later : List Box) (child : Box) (header : Option MediaHeader) (handler : Option (Bor (List ℕ))) (languages : List (List ℕ)) (information : Option Information) (x : Bor (List ℕ)) → Holds kinds.Media (box_container b) all
+    → MediaPassed all left header handler languages information → left ≡ child ∷ later
     → bytes_eq (codes "mdhd") child.kind ≡ false
     → bytes_eq (codes "hdlr") child.kind ≡ true → IsSound hdlr child.payload → IsHandler child x → MediaPassed all later header (Some x) languages information
 media_handler b all left later child header handler languages information x h p e n0 k q s =
@@ -78,7 +80,8 @@ media_handler b all left later child header handler languages information x h p 
     }
 
 -- an `elng` was kept
-pub media_language : (b : Box) (all left later : List Box) (child : Box) (header : Option MediaHeader) (handler : Option (Bor (List ℕ))) (languages : List (List ℕ)) (information : Option Information) (x : List (List ℕ)) → Holds kinds.Media (box_container b) all → MediaPassed all left header handler languages information → left ≡ child ∷ later
+pub media_language : (b : Box) (all left later : List Box) (child : Box) (header : Option MediaHeader) (handler : Option (Bor (List ℕ))) (languages : List (List ℕ)) (information : Option Information) (x : List (List ℕ)) → Holds kinds.Media (box_container b) all
+    → MediaPassed all left header handler languages information → left ≡ child ∷ later
     → bytes_eq (codes "mdhd") child.kind ≡ false
     → bytes_eq (codes "hdlr") child.kind ≡ false
     → bytes_eq (codes "elng") child.kind ≡ true → x ≡ languages ++ child.payload ∷ [] → MediaPassed all later header handler x information
@@ -94,7 +97,8 @@ media_language b all left later child header handler languages information x h p
     }
 
 -- the `minf` was read
-pub media_information : (b : Box) (all left later : List Box) (child : Box) (header : Option MediaHeader) (handler : Option (Bor (List ℕ))) (languages : List (List ℕ)) (information : Option Information) (x : Information) → Holds kinds.Media (box_container b) all → MediaPassed all left header handler languages information → left ≡ child ∷ later
+pub media_information : (b : Box) (all left later : List Box) (child : Box) (header : Option MediaHeader) (handler : Option (Bor (List ℕ))) (languages : List (List ℕ)) (information : Option Information) (x : Information) → Holds kinds.Media (box_container b) all
+    → MediaPassed all left header handler languages information → left ≡ child ∷ later
     → bytes_eq (codes "mdhd") child.kind ≡ false
     → bytes_eq (codes "hdlr") child.kind ≡ false
     → bytes_eq (codes "elng") child.kind ≡ false
@@ -113,7 +117,8 @@ media_information b all left later child header handler languages information x 
     }
 
 -- another box was passed
-pub media_other : (b : Box) (all left later : List Box) (child : Box) (header : Option MediaHeader) (handler : Option (Bor (List ℕ))) (languages : List (List ℕ)) (information : Option Information) → Holds kinds.Media (box_container b) all → MediaPassed all left header handler languages information → left ≡ child ∷ later
+pub media_other : (b : Box) (all left later : List Box) (child : Box) (header : Option MediaHeader) (handler : Option (Bor (List ℕ))) (languages : List (List ℕ)) (information : Option Information) → Holds kinds.Media (box_container b) all → MediaPassed all left header handler languages information
+    → left ≡ child ∷ later
     → bytes_eq (codes "mdhd") child.kind ≡ false
     → bytes_eq (codes "hdlr") child.kind ≡ false
     → bytes_eq (codes "elng") child.kind ≡ false
@@ -145,7 +150,8 @@ media_all b all left x r languages i h p e =
     }
 
 -- the same by what a walk holds at its end
-pub media_said : (b : Box) (all left : List Box) (header : Option MediaHeader) (handler : Option (Bor (List ℕ))) (languages : List (List ℕ)) (information : Option Information) (x : MediaHeader) (r : Bor (List ℕ)) (i : Information) → Holds kinds.Media (box_container b) all → MediaPassed all left header handler languages information → left ≡ [] → header ≡ Some x → handler ≡ Some r → information ≡ Some i
+pub media_said : (b : Box) (all left : List Box) (header : Option MediaHeader) (handler : Option (Bor (List ℕ))) (languages : List (List ℕ)) (information : Option Information) (x : MediaHeader) (r : Bor (List ℕ)) (i : Information) → Holds kinds.Media (box_container b) all
+    → MediaPassed all left header handler languages information → left ≡ [] → header ≡ Some x → handler ≡ Some r → information ≡ Some i
     → SaysMediaBoxes b x r.now languages (kept_seen i.header) (box_seen i.stbl) (map description_seen i.table.descriptions.items) (map (λ p. p.now) i.table.group_descriptions.items)
 media_said b all left header handler languages information x r i h p e a c d =
     let q = subst (λ (o : Option MediaHeader). MediaPassed all left o handler languages information) a p in
@@ -154,32 +160,38 @@ media_said b all left header handler languages information x r i h p e a c d =
     media_all b all left x r languages i h t e
 
 -- a box that must stand was read
-pub media_no_header : (b : Box) (all left : List Box) (header : Option MediaHeader) (handler : Option (Bor (List ℕ))) (languages : List (List ℕ)) (information : Option Information) → Holds kinds.Media (box_container b) all → MediaPassed all left header handler languages information → left ≡ [] → header ≡ None → ⊥
+pub media_no_header : (b : Box) (all left : List Box) (header : Option MediaHeader) (handler : Option (Bor (List ℕ))) (languages : List (List ℕ)) (information : Option Information) → Holds kinds.Media (box_container b) all → MediaPassed all left header handler languages information → left ≡ []
+    → header ≡ None → ⊥
 media_no_header b all left header handler languages information h p e a =
     let q = subst (λ (o : Option MediaHeader). MediaPassed all left o handler languages information) a p in
     first_missing IsMediaHeader (codes "mdhd") all q.walk.passed (walk_all all left q.walk e) (holds_only h (codes "mdhd") refl) q.header_says
 
-pub media_no_handler : (b : Box) (all left : List Box) (header : Option MediaHeader) (handler : Option (Bor (List ℕ))) (languages : List (List ℕ)) (information : Option Information) → Holds kinds.Media (box_container b) all → MediaPassed all left header handler languages information → left ≡ [] → handler ≡ None → ⊥
+pub media_no_handler : (b : Box) (all left : List Box) (header : Option MediaHeader) (handler : Option (Bor (List ℕ))) (languages : List (List ℕ)) (information : Option Information) → Holds kinds.Media (box_container b) all → MediaPassed all left header handler languages information → left ≡ []
+    → handler ≡ None → ⊥
 media_no_handler b all left header handler languages information h p e a =
     let q = subst (λ (o : Option (Bor (List ℕ))). MediaPassed all left header o languages information) a p in
     first_missing IsHandler (codes "hdlr") all q.walk.passed (walk_all all left q.walk e) (holds_only h (codes "hdlr") refl) q.handler_is
 
-pub media_no_information : (b : Box) (all left : List Box) (header : Option MediaHeader) (handler : Option (Bor (List ℕ))) (languages : List (List ℕ)) (information : Option Information) → Holds kinds.Media (box_container b) all → MediaPassed all left header handler languages information → left ≡ [] → information ≡ None → ⊥
+pub media_no_information : (b : Box) (all left : List Box) (header : Option MediaHeader) (handler : Option (Bor (List ℕ))) (languages : List (List ℕ)) (information : Option Information) → Holds kinds.Media (box_container b) all → MediaPassed all left header handler languages information → left ≡ []
+    → information ≡ None → ⊥
 media_no_information b all left header handler languages information h p e a =
     let q = subst (λ (o : Option Information). MediaPassed all left header handler languages o) a p in
     first_missing IsInformation (codes "minf") all q.walk.passed (walk_all all left q.walk e) (holds_only h (codes "minf") refl) q.inside
 
 -- the leaf in hand is at fault
-pub media_header_refuse : (b : Box) (all left later : List Box) (child : Box) (header : Option MediaHeader) (handler : Option (Bor (List ℕ))) (languages : List (List ℕ)) (information : Option Information) (f : Fault) → Holds kinds.Media (box_container b) all → MediaPassed all left header handler languages information → left ≡ child ∷ later → bytes_eq (codes "mdhd") child.kind ≡ true → IsFaultOf mdhd child f → RefusesIn (place_of (ruled kinds.Media) b) (refusals.Fault f)
+pub media_header_refuse : (b : Box) (all left later : List Box) (child : Box) (header : Option MediaHeader) (handler : Option (Bor (List ℕ))) (languages : List (List ℕ)) (information : Option Information) (f : Fault) → Holds kinds.Media (box_container b) all
+    → MediaPassed all left header handler languages information → left ≡ child ∷ later → bytes_eq (codes "mdhd") child.kind ≡ true → IsFaultOf mdhd child f → RefusesIn (place_of (ruled kinds.Media) b) (refusals.Fault f)
 media_header_refuse b all left later child header handler languages information f h p e k q =
     leaf_here (place_of (ruled kinds.Media) b) p.walk.passed child mdhd f (stands_of b all p.walk.passed later child h.tiles (walk_here all left later child p.walk e)) (rw k refl) refl q
 
-pub media_handler_refuse : (b : Box) (all left later : List Box) (child : Box) (header : Option MediaHeader) (handler : Option (Bor (List ℕ))) (languages : List (List ℕ)) (information : Option Information) (f : Fault) → Holds kinds.Media (box_container b) all → MediaPassed all left header handler languages information → left ≡ child ∷ later → bytes_eq (codes "hdlr") child.kind ≡ true → IsFaultOf hdlr child f → RefusesIn (place_of (ruled kinds.Media) b) (refusals.Fault f)
+pub media_handler_refuse : (b : Box) (all left later : List Box) (child : Box) (header : Option MediaHeader) (handler : Option (Bor (List ℕ))) (languages : List (List ℕ)) (information : Option Information) (f : Fault) → Holds kinds.Media (box_container b) all
+    → MediaPassed all left header handler languages information → left ≡ child ∷ later → bytes_eq (codes "hdlr") child.kind ≡ true → IsFaultOf hdlr child f → RefusesIn (place_of (ruled kinds.Media) b) (refusals.Fault f)
 media_handler_refuse b all left later child header handler languages information f h p e k q =
     let is = same_kind (codes "hdlr") child.kind k in
     leaf_here (place_of (ruled kinds.Media) b) p.walk.passed child hdlr f (stands_of b all p.walk.passed later child h.tiles (walk_here all left later child p.walk e)) (rw is refl) refl q
 
 -- the `minf` in hand refuses
-pub media_information_refuse : (b : Box) (all left later : List Box) (child : Box) (header : Option MediaHeader) (handler : Option (Bor (List ℕ))) (languages : List (List ℕ)) (information : Option Information) (r : Refusal) → Holds kinds.Media (box_container b) all → MediaPassed all left header handler languages information → left ≡ child ∷ later → bytes_eq (codes "minf") child.kind ≡ true → RefusesIn (place_of (ruled kinds.MediaInformation) child) r → RefusesIn (place_of (ruled kinds.Media) b) r
+pub media_information_refuse : (b : Box) (all left later : List Box) (child : Box) (header : Option MediaHeader) (handler : Option (Bor (List ℕ))) (languages : List (List ℕ)) (information : Option Information) (r : Refusal) → Holds kinds.Media (box_container b) all
+    → MediaPassed all left header handler languages information → left ≡ child ∷ later → bytes_eq (codes "minf") child.kind ≡ true → RefusesIn (place_of (ruled kinds.MediaInformation) child) r → RefusesIn (place_of (ruled kinds.Media) b) r
 media_information_refuse b all left later child header handler languages information r h p e k q =
     refuses_above (place_of (ruled kinds.Media) b) (place_of (ruled kinds.MediaInformation) child) p.walk.passed child r (stands_of b all p.walk.passed later child h.tiles (walk_here all left later child p.walk e)) (rw k refl) q

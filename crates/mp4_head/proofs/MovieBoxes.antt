@@ -301,12 +301,14 @@ movie_all b all left x kept ids trexes tracks head h p e m t r =
     }
 
 -- the same by what a walk holds at its end
-pub movie_said : (b : Box) (all left : List Box) (header : Option MovieHeader) (x : MovieHeader) (kept : List heads.Kept) (ids : BTreeSet ℕ) (trexes : List Trex) (tracks : List TrackHead) (head : MovieHead) → Holds kinds.Movie (box_container b) all → MoviePassed all left header kept tracks ids trexes → left ≡ []
+pub movie_said : (b : Box) (all left : List Box) (header : Option MovieHeader) (x : MovieHeader) (kept : List heads.Kept) (ids : BTreeSet ℕ) (trexes : List Trex) (tracks : List TrackHead) (head : MovieHead) → Holds kinds.Movie (box_container b) all
+    → MoviePassed all left header kept tracks ids trexes → left ≡ []
     → header ≡ Some x → movie_seen head ≡ movie_joined x kept → head.tracks.items ≡ tracks → head.trexes.items ≡ trexes → SaysHead b head
 movie_said b all left header x kept ids trexes tracks head h p e a m t r = movie_all b all left x kept ids trexes tracks head h (subst (λ (o : Option MovieHeader). MoviePassed all left o kept tracks ids trexes) a p) e m t r
 
 -- an `mvhd` was read
-pub movie_no_header : (b : Box) (all left : List Box) (header : Option MovieHeader) (kept : List heads.Kept) (ids : BTreeSet ℕ) (trexes : List Trex) (tracks : List TrackHead) → Holds kinds.Movie (box_container b) all → MoviePassed all left header kept tracks ids trexes → left ≡ [] → header ≡ None → ⊥
+pub movie_no_header : (b : Box) (all left : List Box) (header : Option MovieHeader) (kept : List heads.Kept) (ids : BTreeSet ℕ) (trexes : List Trex) (tracks : List TrackHead) → Holds kinds.Movie (box_container b) all → MoviePassed all left header kept tracks ids trexes → left ≡ [] → header ≡ None
+    → ⊥
 movie_no_header b all left header kept ids trexes tracks h p e a =
     let q = subst (λ (o : Option MovieHeader). MoviePassed all left o kept tracks ids trexes) a p in
     first_missing IsMovieHeader (codes "mvhd") all q.walk.passed (walk_all all left q.walk e) (holds_only h (codes "mvhd") refl) q.header_says

@@ -101,7 +101,10 @@ track_cases : (P : List Box → List Edit → Type 0) (at : ℕ) (t : TrackHead)
     → P (of_kind (codes "edts") (track_boxes at t)) t.edits
 track_cases P at t h none some =
     let others = contents_of t.kept ++ track_back t in
-    let other = all_append (λ (k : Content). bytes_eq (codes "edts") k.kind ≡ false) (contents_of t.kept) (track_back t) (all_kept (λ kind. bytes_eq (codes "edts") kind ≡ false) (kept_kinds rules.Track) t.kept (each_same (bytes_eq (codes "edts")) false (kept_kinds rules.Track) refl) h.kept) (refl, tt) in
+    let other = all_append (λ (k : Content). bytes_eq (codes "edts") k.kind ≡ false) (contents_of t.kept) (track_back t) (all_kept (λ kind. bytes_eq (codes "edts") kind ≡ false) (kept_kinds rules.Track) t.kept (each_same (bytes_eq (codes "edts")) false (kept_kinds rules.Track) refl) h.kept) (
+      refl,
+      tt,
+    ) in
     subst (λ (l : List Content). P (of_kind (codes "edts") (placed (at + 8) (typed (codes "tkhd") (tkhd_payload t) ∷ l))) t.edits) (sym (append_assoc (edts_contents t.edits) (contents_of t.kept) (track_back t)))
     (edts_cases P (at + 8) (tkhd_payload t) t.edits others other none some)
 

@@ -196,8 +196,19 @@ pub table_sound : (at : ℕ) (t : TrackHead) → IsTrackHead t → AreSound (rul
 table_sound at t h =
     let stbl = first_of (codes "stbl") (information_boxes at t) in
     let Sound = λ (k : Content). IsSoundAs (leaf_of (ruled rules.SampleTable) k.kind) k.payload in
-    sound_placed (ruled rules.SampleTable) (stbl.offset + stbl.header) (table_contents t.media.descriptions t.group_descriptions)
-    (stsd_sound t.media.descriptions, (record { readable = record { version = refl; flags = refl; room = lit≤ tt }; value = refl; inside = refl; offsets = refl }, (record { readable = record { version = refl; flags = refl; room = lit≤ tt }; value = refl; inside = refl; offsets = refl }, (record { readable = record { version = refl; flags = refl; room = lit≤ tt }; value = refl; inside = refl; offsets = refl }, (record { readable = record { version = refl; flags = refl; room = lit≤ tt }; value = refl; inside = refl; offsets = refl }, group_sound t.group_descriptions h.group_descriptions)))))
+    sound_placed (ruled rules.SampleTable) (stbl.offset + stbl.header) (table_contents t.media.descriptions t.group_descriptions) (
+      stsd_sound t.media.descriptions,
+      (
+        record { readable = record { version = refl; flags = refl; room = lit≤ tt }; value = refl; inside = refl; offsets = refl },
+        (
+          record { readable = record { version = refl; flags = refl; room = lit≤ tt }; value = refl; inside = refl; offsets = refl },
+          (
+            record { readable = record { version = refl; flags = refl; room = lit≤ tt }; value = refl; inside = refl; offsets = refl },
+            (record { readable = record { version = refl; flags = refl; room = lit≤ tt }; value = refl; inside = refl; offsets = refl }, group_sound t.group_descriptions h.group_descriptions),
+          ),
+        ),
+      ),
+    )
 
 -- The leaves of a written `trak` are sound.
 pub track_leaves_sound : (at : ℕ) (t : TrackHead) → IsTrackHead t → length (trak_payload t) ≤ 2 ^ 30 → IsSoundTrack (track_tree at t)

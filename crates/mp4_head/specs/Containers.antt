@@ -55,7 +55,8 @@ abbrev pub kept_of : Box → Kept
 kept_of b = record { kind = b.kind; payload = b.payload }
 
 -- the boxes of a `minf`: the media header, the `stbl` and what it says
-pub record SaysInformation (minf : Box) (header : Kept) (stbl : Box) (descriptions : List Kept) (groups : List (List ℕ)) : Type 0 where
+pub record SaysInformation (minf : Box) (header : Kept) (stbl : Box) (descriptions : List Kept)
+    (groups : List (List ℕ)) : Type 0 where
   pub boxes : List Box
   pub holds : Holds rules.MediaInformation (box_container minf) boxes
   pub reference : SaysDataInformation (first_of (codes "dinf") boxes)
@@ -63,8 +64,11 @@ pub record SaysInformation (minf : Box) (header : Kept) (stbl : Box) (descriptio
   pub stbl_is : stbl ≡ first_of (codes "stbl") boxes
   pub table : SaysTable (first_of (codes "stbl") boxes) descriptions groups
 
--- the boxes of an `mdia`: its `mdhd`, the payload of its `hdlr`, those of its `elng`, and what its `minf` says
-pub record SaysMediaBoxes (mdia : Box) (h : MediaHeader) (handler : List ℕ) (languages : List (List ℕ)) (header : Kept) (stbl : Box) (descriptions : List Kept) (groups : List (List ℕ)) : Type 0 where
+-- the boxes of an `mdia`: its `mdhd`, the payload of its `hdlr`, those of its `elng`, and what its
+-- `minf` says
+pub record SaysMediaBoxes (mdia : Box) (h : MediaHeader) (handler : List ℕ)
+    (languages : List (List ℕ)) (header : Kept) (stbl : Box) (descriptions : List Kept)
+    (groups : List (List ℕ)) : Type 0 where
   pub boxes : List Box
   pub holds : Holds rules.Media (box_container mdia) boxes
   pub sound : AreSound (ruled rules.Media) boxes

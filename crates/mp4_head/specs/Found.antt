@@ -12,14 +12,18 @@ use Rattle.mp4_head.specs.declared.heads.TrackHead.{TrackHead}
 use Rattle.mp4_head.specs.declared.heads.MovieHead.{MovieHead}
 use Rattle.mp4_head.specs.declared.media_boxes.MediaParts.{MediaParts}
 
--- The box lies in the payload of another, at any depth: what it holds are the bytes of that payload from its own place on.
+-- The box lies in the payload of another, at any depth: what it holds are the bytes of that payload
+-- from its own place on.
 pub record LiesIn (outer b : Box) : Type 0 where
   pub begins : outer.offset + outer.header ≤ b.offset
   pub ends : b.offset + size b ≤ outer.offset + size outer
-  pub payload : b.payload ≡ take (length b.payload) (drop ((b.offset + b.header) - (outer.offset + outer.header)) outer.payload)
+  pub payload : b.payload
+      ≡ take (length b.payload)
+      (drop ((b.offset + b.header) - (outer.offset + outer.header)) outer.payload)
 
 -- a track's head, of what was read of the boxes in its `trak`
-abbrev pub track_joined : TrackHeader → List heads.Edit → List heads.Kept → MediaParts → heads.TrackHead
+abbrev pub track_joined : TrackHeader → List heads.Edit → List heads.Kept → MediaParts
+    → heads.TrackHead
 track_joined h edits kept m = record {
   flags = h.flags;
   creation = h.creation;
@@ -48,10 +52,20 @@ track_joined h edits kept m = record {
 
 -- what a movie says apart from its tracks, of what was read of the boxes in its `moov`
 abbrev pub movie_joined : MovieHeader → List heads.Kept → heads.MovieHead
-movie_joined h kept = record { creation = h.creation; modification = h.modification; timescale = h.timescale; rate = h.rate; volume = h.volume; matrix = h.matrix; kept = kept }
+movie_joined h kept = record {
+  creation = h.creation;
+  modification = h.modification;
+  timescale = h.timescale;
+  rate = h.rate;
+  volume = h.volume;
+  matrix = h.matrix;
+  kept = kept;
+}
 
--- The `trak` is sound and says this head. Its tables are in this `stbl`, and its `tkhd` stands at this place of the file.
-pub record HasTrackHead (trak : Box) (head : heads.TrackHead) (stbl : Box) (offset : ℕ) : Type 0 where
+-- The `trak` is sound and says this head. Its tables are in this `stbl`, and its `tkhd` stands at
+-- this place of the file.
+pub record HasTrackHead (trak : Box) (head : heads.TrackHead) (stbl : Box) (offset : ℕ)
+    : Type 0 where
   pub tree : TrackTree
   pub is_trak : tree.trak ≡ trak
   pub is_tree : IsTrackTree tree

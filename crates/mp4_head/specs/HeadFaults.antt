@@ -1,4 +1,5 @@
--- Which faults stand in a container: in the headers and the lists of boxes, in a leaf, in what is kept.
+-- Which faults stand in a container: in the headers and the lists of boxes, in a leaf, in what is
+-- kept.
 use Rattle.std.specs.Prelude.{◌≡◌, ℕ, ◌<◌, ◌⊎◌, Bool, true, false, IsTrue, List, None, Some, slice_index}
 use Rattle.mp4_boxes.specs.Box.{Box}
 use Rattle.mp4_boxes.specs.Children.{is_among, kept_kinds}
@@ -52,7 +53,8 @@ pub record IsTakenId (from : Place) (leaf : Leaf) (number : ℕ) (f : Fault) : T
   pub earlier_leaf_is : leaf_of earlier_place.scope earlier.kind ≡ Some leaf
   pub earlier_readable : IsReadable leaf earlier.payload
   pub order : earlier.offset < b.offset
-  pub same_id : slice_index (leaf_fields leaf b.payload) number ≡ slice_index (leaf_fields leaf earlier.payload) number
+  pub same_id : slice_index (leaf_fields leaf b.payload) number
+      ≡ slice_index (leaf_fields leaf earlier.payload) number
   pub named : f ≡ fault_of BadValue b
 
 -- an entry of `dref` of another type than `url `
@@ -71,13 +73,16 @@ pub record IsItemLocation (from : Place) (f : Fault) : Type 0 where
   pub before : List Box
   pub b : Box
   pub stands : StandsIn from place before b
-  pub kept : ((place.scope ≡ ruled rules.Movie) × IsTrue (is_among (kept_kinds rules.Movie) b.kind)) ⊎ ((place.scope ≡ ruled rules.Track) × IsTrue (is_among (kept_kinds rules.Track) b.kind))
+  pub kept : ((place.scope ≡ ruled rules.Movie) × IsTrue (is_among (kept_kinds rules.Movie) b.kind))
+      ⊎ ((place.scope ≡ ruled rules.Track) × IsTrue (is_among (kept_kinds rules.Track) b.kind))
   pub names : names_item_location b.payload ≡ true
   pub named : f ≡ fault_of ItemLocation b
 
 -- the ID is the third field of `tkhd`'s after the flags, and the first of `trex`'s
 abbrev pub LeafStands : Place → Fault → Type 0
-LeafStands from f = IsLeafFault from f ⊎ (IsTakenId from tkhd 4 f ⊎ (IsTakenId from trex 2 f ⊎ (IsForeignReference from f ⊎ IsItemLocation from f)))
+LeafStands from f = IsLeafFault from f
+    ⊎ (IsTakenId from tkhd 4 f
+    ⊎ (IsTakenId from trex 2 f ⊎ (IsForeignReference from f ⊎ IsItemLocation from f)))
 
 -- ---- apart from tables
 
@@ -105,4 +110,8 @@ pub record IsHeadLeafFault (from : Place) (f : Fault) : Type 0 where
 abbrev pub HeadStands : Place → Fault → Type 0
 HeadStands from f =
     HeaderStands from f
-    ⊎ (ChildStands from f ⊎ (MissingStands from f ⊎ (IsHeadLeafFault from f ⊎ (IsTakenId from tkhd 4 f ⊎ (IsTakenId from trex 2 f ⊎ (IsForeignReference from f ⊎ IsItemLocation from f))))))
+    ⊎ (ChildStands from f
+    ⊎ (MissingStands from f
+    ⊎ (IsHeadLeafFault from f
+    ⊎ (IsTakenId from tkhd 4 f
+    ⊎ (IsTakenId from trex 2 f ⊎ (IsForeignReference from f ⊎ IsItemLocation from f))))))

@@ -47,6 +47,7 @@ pub record MeetsId (ids : BTreeSet ℕ) (trak : Box) (f : Fault) : Type 0 where
 
 -- a fault stands in the `trak`, its ID was met before, or no memory was to be had
 abbrev pub RefusesTrack : BTreeSet ℕ → Box → Refusal → Type 0
-RefusesTrack ids trak (refusals.Fault f) = HeadStands (place_of (ruled rules.Track) trak) f ⊎ MeetsId ids trak f
+RefusesTrack ids trak (refusals.Fault f) = HeadStands (place_of (ruled rules.Track) trak) f
+    ⊎ MeetsId ids trak f
 RefusesTrack ids trak refusals.Memory = Unit {0}
 RefusesTrack ids trak _ = ⊥

@@ -19,11 +19,14 @@ pub record IsFaultOf (leaf : Leaf) (b : Box) (f : Fault) : Type 0 where
   pub fails : Fails leaf b.payload kind
   pub named : f ≡ fault_of kind b
 
--- A full box of versions up to `last`, with fields of so many bytes and so many times, can't be opened: it has no version, one that is not listed, or no room.
+-- A full box of versions up to `last`, with fields of so many bytes and so many times, can't be
+-- opened: it has no version, one that is not listed, or no room.
 pub data FailsToOpen (last fixed times : ℕ) (b : Box) (f : Fault) : Type 0 where
   no_version : length b.payload < 4 → f ≡ fault_of ShortBox b → FailsToOpen last fixed times b f
-  other_version : 4 ≤ length b.payload → last < version b.payload → f ≡ fault_of BadVersion b → FailsToOpen last fixed times b f
-  no_room : length b.payload < fixed + times * time_width (version b.payload) → f ≡ fault_of ShortBox b → FailsToOpen last fixed times b f
+  other_version : 4 ≤ length b.payload → last < version b.payload → f ≡ fault_of BadVersion b
+      → FailsToOpen last fixed times b f
+  no_room : length b.payload < fixed + times * time_width (version b.payload)
+      → f ≡ fault_of ShortBox b → FailsToOpen last fixed times b f
 
 -- It can be opened, and a time in it takes so many bytes.
 pub record IsOpen (last fixed times : ℕ) (payload : List ℕ) (width : ℕ) : Type 0 where
@@ -36,8 +39,10 @@ pub record IsOpen (last fixed times : ℕ) (payload : List ℕ) (width : ℕ) : 
 -- the numbers of nine fields of four bytes
 abbrev pub nine : List ℕ → ℕ → List ℕ
 nine bytes place =
-    field bytes place 4 ∷ field bytes (place + 4) 4 ∷ field bytes (place + 8) 4 ∷ field bytes (place + 12) 4 ∷ field bytes (place + 16) 4
-    ∷ field bytes (place + 20) 4 ∷ field bytes (place + 24) 4 ∷ field bytes (place + 28) 4 ∷ field bytes (place + 32) 4 ∷ []
+    field bytes place 4 ∷ field bytes (place + 4) 4 ∷ field bytes (place + 8) 4
+    ∷ field bytes (place + 12) 4 ∷ field bytes (place + 16) 4
+    ∷ field bytes (place + 20) 4 ∷ field bytes (place + 24) 4 ∷ field bytes (place + 28) 4
+    ∷ field bytes (place + 32) 4 ∷ []
 
 -- what an `mvhd` says
 pub record SaysMovie (payload : List ℕ) (h : MovieHeader) : Type 0 where
@@ -55,7 +60,8 @@ pub record SaysTrack (payload : List ℕ) (h : TrackHeader) : Type 0 where
   pub modification : h.modification ≡ slice_index (leaf_fields tkhd payload) 3
   pub id : h.id ≡ slice_index (leaf_fields tkhd payload) 4
   pub layer : h.layer ≡ twos_complement 2 (slice_index (leaf_fields tkhd payload) 9)
-  pub alternate_group : h.alternate_group ≡ twos_complement 2 (slice_index (leaf_fields tkhd payload) 10)
+  pub alternate_group : h.alternate_group
+      ≡ twos_complement 2 (slice_index (leaf_fields tkhd payload) 10)
   pub volume : h.volume ≡ twos_complement 2 (slice_index (leaf_fields tkhd payload) 11)
   pub matrix : h.matrix ≡ matrix_of (leaf_fields tkhd payload) 13 22
   pub width : h.width ≡ slice_index (leaf_fields tkhd payload) 22
@@ -70,5 +76,7 @@ pub record SaysMedia (payload : List ℕ) (h : MediaHeader) : Type 0 where
 
 -- An entry of a `dref` is of another type than `url `, or is at fault as one.
 pub data FailsAsReference (b : Box) (f : Fault) : Type 0 where
-  another : bytes_eq (codes "url ") b.kind ≡ false → f ≡ fault_of OutsideData b → FailsAsReference b f
-  at_fault : bytes_eq (codes "url ") b.kind ≡ true → IsFaultOf data_entry_url b f → FailsAsReference b f
+  another : bytes_eq (codes "url ") b.kind ≡ false → f ≡ fault_of OutsideData b
+      → FailsAsReference b f
+  at_fault : bytes_eq (codes "url ") b.kind ≡ true → IsFaultOf data_entry_url b f
+      → FailsAsReference b f

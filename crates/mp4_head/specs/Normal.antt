@@ -27,7 +27,8 @@ abbrev pub normal_trexes : List TrackHead → List Trex
 normal_trexes tracks = map normal_trex tracks
 
 -- the `moov` of a head that was written, at any place of a file
-pub record IsWrittenMoov (moov : Box) (movie : MovieHead) (tracks : List TrackHead) (duration : ℕ) : Type 0 where
+pub record IsWrittenMoov (moov : Box) (movie : MovieHead) (tracks : List TrackHead) (duration : ℕ)
+    : Type 0 where
   pub kind : moov.kind ≡ codes "moov"
   pub header : moov.header ≡ 8
   pub payload : moov.payload ≡ drop 8 (moov_bytes movie tracks duration)
@@ -35,5 +36,10 @@ pub record IsWrittenMoov (moov : Box) (movie : MovieHead) (tracks : List TrackHe
 -- Of a `moov` that was written the head is read that was written, or no memory was to be had.
 abbrev pub ReadsAgain : Box → Result declared.MovieHead Refusal → Type 0
 ReadsAgain moov result =
-    (movie : MovieHead) (tracks : List TrackHead) (duration : ℕ) → IsWritable movie tracks duration → IsWrittenMoov moov movie tracks duration
-    → MatchResult result (λ head. head_seen head ≡ record { movie = movie; tracks = tracks; trexes = normal_trexes tracks }) (λ r. r ≡ refusals.Memory)
+    (movie : MovieHead) (tracks : List TrackHead) (duration : ℕ) → IsWritable movie tracks duration
+    → IsWrittenMoov moov movie tracks duration
+    → MatchResult result (λ head. head_seen head ≡ record {
+      movie = movie;
+      tracks = tracks;
+      trexes = normal_trexes tracks;
+    }) (λ r. r ≡ refusals.Memory)

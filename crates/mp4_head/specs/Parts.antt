@@ -11,15 +11,20 @@ use Rattle.mp4_head.specs.Writing.{edit_bytes, kept_bytes, dinf_bytes, stbl_byte
 
 -- `elst`
 abbrev pub edit_list_bytes : List Edit → List ℕ
-edit_list_bytes edits = box_bytes (codes "elst") (spelled (fields elst 1) (1 ∷ 0 ∷ length edits ∷ []) ++ flat_map edit_bytes edits)
+edit_list_bytes edits =
+    box_bytes (codes "elst") (spelled (fields elst 1) (1 ∷ 0 ∷ length edits ∷ [])
+    ++ flat_map edit_bytes edits)
 
 -- `stsd`
 abbrev pub descriptions_bytes : List Kept → List ℕ
-descriptions_bytes descriptions = box_bytes (codes "stsd") (spelled (fields stsd 0) (0 ∷ 0 ∷ length descriptions ∷ []) ++ flat_map kept_bytes descriptions)
+descriptions_bytes descriptions =
+    box_bytes (codes "stsd") (spelled (fields stsd 0) (0 ∷ 0 ∷ length descriptions ∷ [])
+    ++ flat_map kept_bytes descriptions)
 
 -- `minf`
 abbrev pub information_bytes : TrackHead → List ℕ
-information_bytes t = box_bytes (codes "minf") (kept_bytes t.media.header ++ dinf_bytes ++ stbl_bytes t.media.descriptions t.group_descriptions)
+information_bytes t = box_bytes (codes "minf") (kept_bytes t.media.header ++ dinf_bytes
+    ++ stbl_bytes t.media.descriptions t.group_descriptions)
 
 -- the four bytes of each of these numbers
 abbrev pub matrix_bytes : List ℤ → List ℕ

@@ -15,7 +15,12 @@ abbrev pub description_seen : Description → heads.Kept
 description_seen d = record { kind = d.kind.0; payload = d.payload.now }
 
 abbrev pub edit_seen : Edit → heads.Edit
-edit_seen e = record { segment_duration = e.segment_duration; media_time = e.media_time; rate_integer = e.rate_integer; rate_fraction = e.rate_fraction }
+edit_seen e = record {
+  segment_duration = e.segment_duration;
+  media_time = e.media_time;
+  rate_integer = e.rate_integer;
+  rate_fraction = e.rate_fraction;
+}
 
 abbrev pub media_seen : Media → heads.Media
 media_seen m = record {

@@ -14,11 +14,13 @@ use Rattle.mp4_head.specs.Head.{Kept, Edit, Media, TrackHead, MovieHead, Head, n
 
 -- the first box of a type; an empty one where there is none
 abbrev pub first_of : List ℕ → List Box → Box
-first_of kind boxes = unwrap_or (find (λ (b : Box). bytes_eq kind b.kind) boxes) (record { kind = kind; offset = 0; header = 0; payload = [] })
+first_of kind boxes = unwrap_or (find (λ (b : Box). bytes_eq kind b.kind) boxes)
+    (record { kind = kind; offset = 0; header = 0; payload = [] })
 
 -- the first box of one of these types
 abbrev pub first_among : List (List ℕ) → List Box → Box
-first_among kinds boxes = unwrap_or (find (λ (b : Box). is_among kinds b.kind) boxes) (record { kind = []; offset = 0; header = 0; payload = [] })
+first_among kinds boxes = unwrap_or (find (λ (b : Box). is_among kinds b.kind) boxes)
+    (record { kind = []; offset = 0; header = 0; payload = [] })
 
 -- the boxes in each container of a `trak`
 pub record TrackTree : Type 0 where
@@ -47,14 +49,18 @@ abbrev pub HoldsIfThere : Rule → List Box → List Box → Type 0
 HoldsIfThere rule [] boxes = boxes ≡ []
 HoldsIfThere rule (b ∷ more) boxes = Holds rule (box_container b) boxes
 
--- The tree of a `trak` is this one: each container is tiled, and its boxes are those of the profile.
+-- The tree of a `trak` is this one: each container is tiled, and its boxes are those of the
+-- profile.
 pub record IsTrackTree (t : TrackTree) : Type 0 where
   pub track : Holds rules.Track (box_container t.trak) t.track
   pub edits : HoldsIfThere rules.Edits (of_kind (codes "edts") t.track) t.edits
   pub media : Holds rules.Media (box_container (first_of (codes "mdia") t.track)) t.media
-  pub information : Holds rules.MediaInformation (box_container (first_of (codes "minf") t.media)) t.information
-  pub data_information : Holds rules.DataInformation (box_container (first_of (codes "dinf") t.information)) t.data_information
-  pub data_references : Tiles (counted_container (first_of (codes "dref") t.data_information)) t.data_references
+  pub information : Holds rules.MediaInformation (box_container (first_of (codes "minf") t.media))
+      t.information
+  pub data_information : Holds rules.DataInformation
+      (box_container (first_of (codes "dinf") t.information)) t.data_information
+  pub data_references : Tiles (counted_container (first_of (codes "dref") t.data_information))
+      t.data_references
   pub table : Holds rules.SampleTable (box_container (stbl_of t)) t.table
   pub descriptions : Tiles (counted_container (first_of (codes "stsd") t.table)) t.descriptions
 
@@ -72,7 +78,8 @@ matrix_of numbers from to = map (twos_complement 4) (slice_range numbers from to
 
 -- the boxes of these types, kept
 abbrev pub kept_among : List (List ℕ) → List Box → List Kept
-kept_among kinds boxes = map (λ (b : Box). record { kind = b.kind; payload = b.payload }) (filter (λ (b : Box). is_among kinds b.kind) boxes)
+kept_among kinds boxes = map (λ (b : Box). record { kind = b.kind; payload = b.payload })
+    (filter (λ (b : Box). is_among kinds b.kind) boxes)
 
 abbrev pub edit_of : ℕ → List ℕ → Edit
 edit_of v numbers = record {
@@ -98,7 +105,8 @@ media_of t =
       handler = payload_of (codes "hdlr") t.media;
       extended_languages = map (λ (b : Box). b.payload) (of_kind (codes "elng") t.media);
       header = record { kind = header.kind; payload = header.payload };
-      descriptions = map (λ (b : Box). record { kind = b.kind; payload = b.payload }) t.descriptions;
+      descriptions = map (λ (b : Box). record { kind = b.kind; payload = b.payload })
+          t.descriptions;
     }
 
 abbrev pub track_head_of : TrackTree → TrackHead
@@ -138,7 +146,11 @@ abbrev pub trexes_of : MovieTree → List Trex
 trexes_of m = map (λ (b : Box). trex_of b.payload) (of_kind (codes "trex") m.extends)
 
 abbrev pub head_of : MovieTree → Head
-head_of m = record { movie = movie_head_of m; tracks = map track_head_of m.tracks; trexes = trexes_of m }
+head_of m = record {
+  movie = movie_head_of m;
+  tracks = map track_head_of m.tracks;
+  trexes = trexes_of m;
+}
 
 -- ---- what is refused
 

@@ -1,4 +1,5 @@
-//! `edts` and `elst`: which parts of the media are shown, in which order (ISO/IEC 14496-12, 8.6.5 and 8.6.6).
+//! `edts` and `elst`: which parts of the media are shown, in which order (ISO/IEC 14496-12, 8.6.5
+//! and 8.6.6).
 ghost use Rattle.std.specs.Prelude.{◌≡◌, ◌+◌, ◌*◌, ◌≤◌, ◌⊎◌, ℕ, length, map, Some, IfOk, IfErr};
 ghost use Rattle.mp4_boxes.specs.Bytes.{numbers, signed_field};
 ghost use Rattle.mp4_boxes.specs.Layout.{elst, row, row_count, time_width, IsSound};
@@ -44,7 +45,8 @@ fn signed_time_at(bytes: &[u8], place: usize, width: usize) -> i64
 fn first_edit(bytes: &[u8], width: usize) -> Edit
     requires room { 2 * width + 4 ≤ length bytes.now }
     requires width { (width ≡ 4) ⊎ (width ≡ 8) }
-    ensures { (v : ℕ) → width ≡ time_width v → edit_seen result ≡ edit_of v (numbers (row elst v) bytes.now) }
+    ensures { (v : ℕ) → width ≡ time_width v
+        → edit_seen result ≡ edit_of v (numbers (row elst v) bytes.now) }
 {
     Edit {
         segment_duration: time_at(bytes, 0, width),
@@ -59,7 +61,8 @@ fn open_edit_list(view: BoxView) -> Result<(usize, usize), Fault>
     ensures open { IfOk result (λ r. IsOpen 1 8 0 (box_seen view.entry).payload r.1) }
     ensures either { IfOk result (λ r. (r.1 ≡ 4) ⊎ (r.1 ≡ 8)) }
     ensures count { IfOk result (λ r. r.0 ≡ row_count elst (box_seen view.entry).payload) }
-    ensures room { IfOk result (λ r. 8 + r.0 * (2 * r.1 + 4) ≤ length (box_seen view.entry).payload) }
+    ensures room { IfOk result (λ r. 8 + r.0 * (2 * r.1 + 4)
+        ≤ length (box_seen view.entry).payload) }
     ensures fault { IfErr result (IsFaultOf elst (box_seen view.entry)) }
 {
     let width = open(view, 1, 8, 0)?;
@@ -72,7 +75,8 @@ fn open_edit_list(view: BoxView) -> Result<(usize, usize), Fault>
 
 // The rows of an `elst`.
 fn read_edit_list(alloc: Global, view: BoxView) -> Result<Vec<Edit>, Refusal>
-    ensures edits { IfOk result (λ edits. map edit_seen edits.items ≡ edits_of (Some (box_seen view.entry).payload)) }
+    ensures edits { IfOk result (λ edits. map edit_seen edits.items
+        ≡ edits_of (Some (box_seen view.entry).payload)) }
     ensures sound { IfOk result (λ _. IsSound elst (box_seen view.entry).payload) }
     ensures refusal { IfErr result (RefusesLeaf elst (box_seen view.entry)) }
 {
@@ -89,7 +93,8 @@ fn read_edit_list(alloc: Global, view: BoxView) -> Result<Vec<Edit>, Refusal>
 
 // The edits in an `edts`.
 pub(crate) fn read_edits(alloc: Global, edts: BoxView) -> Result<Vec<Edit>, Refusal>
-    ensures edits { IfOk result (λ edits. SaysEdits (box_seen edts.entry) (map edit_seen edits.items)) }
+    ensures edits { IfOk result
+        (λ edits. SaysEdits (box_seen edts.entry) (map edit_seen edits.items)) }
     ensures refusal { IfErr result (RefusesIn (place_of (ruled Edits) (box_seen edts.entry))) }
 {
     let mut edits = Vec::new(alloc);

@@ -1,4 +1,5 @@
-//! `mvex` and `trex`: what fragments take where they say nothing (ISO/IEC 14496-12, 8.8.1 and 8.8.3).
+//! `mvex` and `trex`: what fragments take where they say nothing (ISO/IEC 14496-12, 8.8.1 and
+//! 8.8.3).
 ghost use Rattle.std.specs.Prelude.{◌≡◌, IfOk, OnOk, IfErr};
 ghost use Rattle.mp4_boxes.specs.Layout.{trex, IsSound};
 ghost use Rattle.mp4_boxes.specs.Places.{ruled};
@@ -34,7 +35,8 @@ fn read_trex(view: BoxView) -> Result<Trex, Fault>
 // The `trex` of a `mvex`, of which no two have one ID. A `mehd` is not read.
 pub(crate) fn read_extends(alloc: Global, mvex: BoxView) -> Result<Vec<Trex>, Refusal>
     ensures says { IfOk result (λ ts. SaysExtends (box_seen mvex.entry) ts.items) }
-    ensures refusal { IfErr result (RefusesIn (place_of (ruled rules.MovieExtends) (box_seen mvex.entry))) }
+    ensures refusal { IfErr result
+        (RefusesIn (place_of (ruled rules.MovieExtends) (box_seen mvex.entry))) }
 {
     let mut trexes = Vec::new(alloc);
     let mut ids = BTreeSet::new(alloc);

@@ -52,7 +52,8 @@ fn check_references(view: BoxView) -> Result<(), Fault>
 
 fn check_data_information(dinf: BoxView) -> Result<(), Fault>
     ensures says { OnOk result (SaysDataInformation (box_seen dinf.entry)) }
-    ensures fault { IfErr result (HeadStands (place_of (ruled rules.DataInformation) (box_seen dinf.entry))) }
+    ensures fault { IfErr result
+        (HeadStands (place_of (ruled rules.DataInformation) (box_seen dinf.entry))) }
 {
     for child in check_children(dinf, Rule::DataInformation)? {
         if is(child, FourCc(*b"dref")) {
@@ -81,8 +82,12 @@ pub(crate) fn read_information<'a>(
     alloc: Global,
     minf: BoxView<'a>,
 ) -> Result<Information<'a>, Refusal>
-    ensures says { IfOk result (λ i. SaysInformation (box_seen minf.entry) (kept_seen i.header) (box_seen i.stbl) (map description_seen i.table.descriptions.items) (map (λ p. p.now) i.table.group_descriptions.items)) }
-    ensures refusal { IfErr result (RefusesIn (place_of (ruled rules.MediaInformation) (box_seen minf.entry))) }
+    ensures says { IfOk result
+        (λ i. SaysInformation (box_seen minf.entry) (kept_seen i.header) (box_seen i.stbl)
+        (map description_seen i.table.descriptions.items)
+        (map (λ p. p.now) i.table.group_descriptions.items)) }
+    ensures refusal { IfErr result
+        (RefusesIn (place_of (ruled rules.MediaInformation) (box_seen minf.entry))) }
 {
     let mut header = None;
     let mut tables = None;

@@ -30,8 +30,8 @@ fn width_of_times(version: u8) -> usize
     if version == 0 { 4 } else { 8 }
 }
 
-// Opens a leaf whose versions are those up to `last`, and whose fields take `fixed` bytes and those of so many times:
-// how many bytes a time takes.
+// Opens a leaf whose versions are those up to `last`, and whose fields take `fixed` bytes and those
+// of so many times: how many bytes a time takes.
 pub(crate) fn open(view: BoxView, last: u8, fixed: usize, times: usize) -> Result<usize, Fault>
     requires fixed { fixed ≤ 100 }
     requires times { times ≤ 3 }

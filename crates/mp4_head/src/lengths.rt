@@ -1,5 +1,5 @@
 //! How long a head is in its one spelling.
-ghost use Rattle.std.specs.Prelude.{◌≡◌, ℕ, ◌+◌, ◌<◌, ◌^◌, length, map};
+ghost use Rattle.std.specs.Prelude.{◌≡◌, ℕ, ◌+◌, length, map};
 ghost use Rattle.std.specs.List.{flat_map};
 ghost use Rattle.mp4_boxes.specs.Written.{box_bytes};
 ghost use Rattle.mp4_head.specs.Parts.{capped};
@@ -23,7 +23,8 @@ fn add_box(before: u128, kind: FourCc, payload: &[u8]) -> u128
 
 // More kept boxes.
 fn add_kept(before: u128, kept: &[Kept]) -> u128
-    ensures { result ≡ capped (before + length (flat_map written.kept_bytes (map kept_seen kept.now))) }
+    ensures { result
+        ≡ capped (before + length (flat_map written.kept_bytes (map kept_seen kept.now))) }
 {
     let mut total = before;
     for one in kept {
@@ -34,7 +35,9 @@ fn add_kept(before: u128, kept: &[Kept]) -> u128
 
 // More entries of `stsd`.
 fn add_descriptions(before: u128, descriptions: &[Description]) -> u128
-    ensures { result ≡ capped (before + length (flat_map written.kept_bytes (map description_seen descriptions.now))) }
+    ensures { result
+        ≡ capped (before
+        + length (flat_map written.kept_bytes (map description_seen descriptions.now))) }
 {
     let mut total = before;
     for one in descriptions {
@@ -45,7 +48,8 @@ fn add_descriptions(before: u128, descriptions: &[Description]) -> u128
 
 // More boxes of one type.
 fn add_boxes(before: u128, kind: FourCc, payloads: &[&[u8]]) -> u128
-    ensures { result ≡ capped (before + length (flat_map (box_bytes kind.0) (map (λ p. p.now) payloads.now))) }
+    ensures { result
+        ≡ capped (before + length (flat_map (box_bytes kind.0) (map (λ p. p.now) payloads.now))) }
 {
     let mut total = before;
     for payload in payloads {
@@ -64,9 +68,13 @@ fn add_edits(before: u128, edits: &[Edit]) -> u128
     before.saturating_add(24 + 20 * edits.len() as u128)
 }
 
-// `trak`, and its `trex`: of fixed length are both, `tkhd`, `mdia`, `mdhd`, `minf`, `dinf`, `stbl`, `stsd` and the tables.
+// `trak`, and its `trex`: of fixed length are both, `tkhd`, `mdia`, `mdhd`, `minf`, `dinf`, `stbl`,
+// `stsd` and the tables.
 fn add_track(before: u128, track: &TrackHead) -> u128
-    ensures { result ≡ capped (before + (length (written.trak_bytes (track_seen track.now)) + length (written.trex_bytes (track_seen track.now)))) }
+    ensures { result
+        ≡ capped (before
+        + (length (written.trak_bytes (track_seen track.now))
+        + length (written.trex_bytes (track_seen track.now)))) }
 {
     let media = &track.media;
     let fixed = before.saturating_add(332);
@@ -81,7 +89,9 @@ fn add_track(before: u128, track: &TrackHead) -> u128
 
 /// How many bytes `ftyp` and `moov` take, as far as 128 bits go.
 pub fn head_len(head: &MovieHead) -> u128
-    ensures length { (mehd : ℕ) → result ≡ capped (length (written.head_bytes (movie_seen head.now) (tracks_seen head.now) mehd)) }
+    ensures length { (mehd : ℕ)
+        → result ≡ capped
+        (length (written.head_bytes (movie_seen head.now) (tracks_seen head.now) mehd)) }
 {
     let mut total = add_kept(180, &head.kept);
     for track in &head.tracks {

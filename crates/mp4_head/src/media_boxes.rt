@@ -74,9 +74,14 @@ pub(crate) struct MediaParts<'a> {
 }
 
 pub(crate) fn read_media<'a>(alloc: Global, mdia: BoxView<'a>) -> Result<MediaParts<'a>, Refusal>
-    ensures says { IfOk result (λ m. SaysMediaBoxes (box_seen mdia.entry) m.header m.handler.now (map (λ p. p.now) m.extended_languages.items) (kept_seen m.information.header) (box_seen m.information.stbl)
-        (map description_seen m.information.table.descriptions.items) (map (λ p. p.now) m.information.table.group_descriptions.items)) }
-    ensures refusal { IfErr result (RefusesIn (place_of (ruled rules.Media) (box_seen mdia.entry))) }
+    ensures says { IfOk result
+        (λ m. SaysMediaBoxes (box_seen mdia.entry) m.header m.handler.now
+        (map (λ p. p.now) m.extended_languages.items) (kept_seen m.information.header)
+        (box_seen m.information.stbl)
+        (map description_seen m.information.table.descriptions.items)
+        (map (λ p. p.now) m.information.table.group_descriptions.items)) }
+    ensures refusal { IfErr result
+        (RefusesIn (place_of (ruled rules.Media) (box_seen mdia.entry))) }
 {
     let mut header = None;
     let mut handler = None;

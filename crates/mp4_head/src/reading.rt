@@ -55,13 +55,16 @@ fn head_of<'a>(
     }
 }
 
-/// The head that a `moov` has. Of a container first the list of its boxes is checked, then the inside of each box in
-/// file order. Payloads are borrowed, and of an `stbl` only the descriptions are read.
+/// The head that a `moov` has. Of a container first the list of its boxes is checked, then the
+/// inside of each box in file order. Payloads are borrowed, and of an `stbl` only the descriptions
+/// are read.
 pub fn read_head<'a>(alloc: Global, moov: BoxView<'a>) -> Result<MovieHead<'a>, Refusal>
     ensures head { IfOk result (SaysHead (box_seen moov.entry)) }
-    ensures inside { IfOk result (λ m. AllByRecursion (λ t. LiesIn (box_seen moov.entry) (box_seen t.stbl)) m.tracks.items) }
+    ensures inside { IfOk result
+        (λ m. AllByRecursion (λ t. LiesIn (box_seen moov.entry) (box_seen t.stbl)) m.tracks.items) }
     ensures fault { IfErr result (RefusesIn (place_of (ruled rules.Movie) (box_seen moov.entry))) }
-    ensures only { (tree : MovieTree) → tree.moov ≡ box_seen moov.entry → IsMovieTree tree → IsSoundMovie tree → IfErr result (λ r. r ≡ refusals.Memory) }
+    ensures only { (tree : MovieTree) → tree.moov ≡ box_seen moov.entry → IsMovieTree tree
+        → IsSoundMovie tree → IfErr result (λ r. r ≡ refusals.Memory) }
     ensures again { ReadsAgain (box_seen moov.entry) result }
 {
     let mut header = None;

@@ -1,4 +1,5 @@
-//! `stbl`, as far as it is no table: `stsd` (ISO/IEC 14496-12, 8.5.2), and the payloads of `sgpd` (8.9.3).
+//! `stbl`, as far as it is no table: `stsd` (ISO/IEC 14496-12, 8.5.2), and the payloads of `sgpd`
+//! (8.9.3).
 ghost use Rattle.std.specs.Prelude.{◌≡◌, map, IfOk, IfErr, OnOk};
 ghost use Rattle.mp4_boxes.specs.Layout.{sample_entry, stsd, IsSound};
 ghost use Rattle.mp4_boxes.specs.Places.{ruled, sample_entries};
@@ -23,7 +24,8 @@ pub(crate) struct SampleTable<'a> {
 
 // An entry of `stsd`, which names the first data reference.
 fn read_description<'a>(entry: BoxView<'a>) -> Result<Description<'a>, Fault>
-    ensures says { IfOk result (λ d. description_seen d ≡ record { kind = (box_seen entry.entry).kind; payload = (box_seen entry.entry).payload }) }
+    ensures says { IfOk result (λ d. description_seen d
+        ≡ record { kind = (box_seen entry.entry).kind; payload = (box_seen entry.entry).payload }) }
     ensures sound { OnOk result (IsSound sample_entry (box_seen entry.entry).payload) }
     ensures fault { IfErr result (IsFaultOf sample_entry (box_seen entry.entry)) }
 {
@@ -42,7 +44,8 @@ fn read_description<'a>(entry: BoxView<'a>) -> Result<Description<'a>, Fault>
 
 // The entries of an `stsd`.
 fn read_descriptions<'a>(alloc: Global, view: BoxView<'a>) -> Result<Vec<Description<'a>>, Refusal>
-    ensures says { IfOk result (λ ds. SaysDescriptions (box_seen view.entry) (map description_seen ds.items)) }
+    ensures says { IfOk result
+        (λ ds. SaysDescriptions (box_seen view.entry) (map description_seen ds.items)) }
     ensures refusal { IfErr result (RefusesBoth stsd sample_entries (box_seen view.entry)) }
 {
     open(view, 0, 8, 0)?;
@@ -57,8 +60,11 @@ pub(crate) fn read_sample_table<'a>(
     alloc: Global,
     stbl: BoxView<'a>,
 ) -> Result<SampleTable<'a>, Refusal>
-    ensures says { IfOk result (λ t. SaysTable (box_seen stbl.entry) (map description_seen t.descriptions.items) (map (λ p. p.now) t.group_descriptions.items)) }
-    ensures refusal { IfErr result (RefusesIn (place_of (ruled rules.SampleTable) (box_seen stbl.entry))) }
+    ensures says { IfOk result
+        (λ t. SaysTable (box_seen stbl.entry) (map description_seen t.descriptions.items)
+        (map (λ p. p.now) t.group_descriptions.items)) }
+    ensures refusal { IfErr result
+        (RefusesIn (place_of (ruled rules.SampleTable) (box_seen stbl.entry))) }
 {
     let mut descriptions = Vec::new(alloc);
     let mut group_descriptions = Vec::new(alloc);

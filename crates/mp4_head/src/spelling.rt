@@ -1,5 +1,5 @@
 //! Bytes that are appended: numbers, most significant byte first, and boxes.
-ghost use Rattle.std.specs.Prelude.{◌≡◌, ◌+◌, ◌≤◌, ℕ, List, ◌++◌, length, replicate, OnOk};
+ghost use Rattle.std.specs.Prelude.{◌≡◌, ◌+◌, ◌≤◌, ℕ, List, ◌++◌, length, OnOk};
 ghost use Rattle.byteorder.specs.Endian.{big_bytes};
 ghost use Rattle.mp4_boxes.specs.Bytes.{unsigned};
 ghost use Rattle.mp4_boxes.specs.Written.{box_bytes};
@@ -89,7 +89,8 @@ pub(crate) fn open_box(out: &mut Vec<u8>, kind: FourCc) -> Result<(), Memory>
 // Ends the box that was begun at this place.
 pub(crate) fn close_box(out: &mut Vec<u8>, at: usize)
     requires { at + 8 ≤ length out.old.items }
-    ensures { (before kind payload : List ℕ) → length before ≡ at → length kind ≡ 4 → out.old.items ≡ before ++ (unsized kind ++ payload)
+    ensures { (before kind payload : List ℕ) → length before ≡ at → length kind ≡ 4
+        → out.old.items ≡ before ++ (unsized kind ++ payload)
         → out.new.items ≡ before ++ box_bytes kind payload }
 {
     let bytes = ((out.len() - at) as u64).to_be_bytes();

@@ -41,7 +41,9 @@ fn head_of<'a>(
     kept: Vec<Kept<'a>>,
     parts: MediaParts<'a>,
 ) -> TrackHead<'a>
-    ensures head { track_seen result ≡ track_joined header (map edit_seen edits.items) (map kept_seen kept.entry.items) parts.entry }
+    ensures head { track_seen result
+        ≡ track_joined header (map edit_seen edits.items) (map kept_seen kept.entry.items)
+        parts.entry }
     ensures stbl { box_seen result.stbl ≡ box_seen parts.entry.information.stbl }
     ensures offset { result.offset ≡ offset }
 {
@@ -91,7 +93,8 @@ pub(crate) fn read_track<'a>(
     trak: BoxView<'a>,
     ids: &mut BTreeSet<u32>,
 ) -> Result<TrackHead<'a>, Refusal>
-    ensures says { IfOk result (λ t. HasTrackHead (box_seen trak.entry) (track_seen t) (box_seen t.stbl) t.offset) }
+    ensures says { IfOk result
+        (λ t. HasTrackHead (box_seen trak.entry) (track_seen t) (box_seen t.stbl) t.offset) }
     ensures added { IfOk result (λ t. AddsId ids.old ids.new t.id) }
     ensures refusal { IfErr result (RefusesTrack ids.old (box_seen trak.entry)) }
 {

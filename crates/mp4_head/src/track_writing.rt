@@ -1,7 +1,7 @@
 //! `trak` in its one spelling (ISO/IEC 14496-12, 8.3 to 8.7).
-ghost use Rattle.std.specs.Prelude.{◌≡◌, ◌+◌, ◌≤◌, ◌++◌, length, map, OnOk};
+ghost use Rattle.std.specs.Prelude.{◌≡◌, ◌+◌, ◌++◌, map, OnOk};
 ghost use Rattle.std.specs.List.{flat_map};
-ghost use Rattle.mp4_head.specs.Seen.{kept_seen, description_seen, edit_seen, media_seen, track_seen};
+ghost use Rattle.mp4_head.specs.Seen.{description_seen, edit_seen, media_seen, track_seen};
 ghost use Rattle.mp4_head.specs.Writing as written;
 ghost use Rattle.mp4_head.specs.Parts.{edit_list_bytes, descriptions_bytes, information_bytes};
 ghost use Rattle.mp4_boxes.specs.Written.{box_bytes};
@@ -27,11 +27,12 @@ const DATA_INFORMATION: &[u8] =
     b"\0\0\0\x24dinf\0\0\0\x1cdref\0\0\0\0\0\0\0\x01\0\0\0\x0curl \0\0\0\x01";
 
 // `stts`, `stsc`, `stsz` and `stco` without rows.
-const TABLES: &[u8] =
-    b"\0\0\0\x10stts\0\0\0\0\0\0\0\0\0\0\0\x10stsc\0\0\0\0\0\0\0\0\0\0\0\x14stsz\0\0\0\0\0\0\0\0\0\0\0\0\0\0\0\x10stco\0\0\0\0\0\0\0\0";
+const TABLES: &[u8] = b"\0\0\0\x10stts\0\0\0\0\0\0\0\0\0\0\0\x10stsc\0\0\0\0\0\0\0\0\
+    \0\0\0\x14stsz\0\0\0\0\0\0\0\0\0\0\0\0\0\0\0\x10stco\0\0\0\0\0\0\0\0";
 
 fn put_track_header(out: &mut Vec<u8>, track: &TrackHead) -> Result<(), Memory>
-    ensures { OnOk result (out.new.items ≡ out.old.items ++ written.tkhd_bytes (track_seen track.now)) }
+    ensures { OnOk result (out.new.items ≡ out.old.items
+        ++ written.tkhd_bytes (track_seen track.now)) }
 {
     let flags = track.flags.to_be_bytes();
     put(out, TRACK_HEADER)?;
@@ -51,7 +52,8 @@ fn put_track_header(out: &mut Vec<u8>, track: &TrackHead) -> Result<(), Memory>
 }
 
 fn put_edit(out: &mut Vec<u8>, edit: &Edit) -> Result<(), Memory>
-    ensures { OnOk result (out.new.items ≡ out.old.items ++ written.edit_bytes (edit_seen edit.now)) }
+    ensures { OnOk result (out.new.items ≡ out.old.items
+        ++ written.edit_bytes (edit_seen edit.now)) }
 {
     put_u64(out, edit.segment_duration)?;
     put_i64(out, edit.media_time)?;
@@ -61,7 +63,8 @@ fn put_edit(out: &mut Vec<u8>, edit: &Edit) -> Result<(), Memory>
 }
 
 fn put_rows(out: &mut Vec<u8>, edits: &[Edit]) -> Result<(), Memory>
-    ensures { OnOk result (out.new.items ≡ out.old.items ++ flat_map written.edit_bytes (map edit_seen edits.now)) }
+    ensures { OnOk result (out.new.items ≡ out.old.items
+        ++ flat_map written.edit_bytes (map edit_seen edits.now)) }
 {
     for edit in edits {
         put_edit(out, edit)?;
@@ -71,7 +74,8 @@ fn put_rows(out: &mut Vec<u8>, edits: &[Edit]) -> Result<(), Memory>
 
 // `elst` of version 1.
 fn put_edit_list(out: &mut Vec<u8>, edits: &[Edit]) -> Result<(), Memory>
-    ensures { OnOk result (out.new.items ≡ out.old.items ++ edit_list_bytes (map edit_seen edits.now)) }
+    ensures { OnOk result (out.new.items ≡ out.old.items
+        ++ edit_list_bytes (map edit_seen edits.now)) }
 {
     let at = out.len();
     open_box(out, FourCc(*b"elst"))?;
@@ -84,7 +88,8 @@ fn put_edit_list(out: &mut Vec<u8>, edits: &[Edit]) -> Result<(), Memory>
 
 // `edts` with `elst`, if there are edits.
 fn put_edits(out: &mut Vec<u8>, edits: &[Edit]) -> Result<(), Memory>
-    ensures { OnOk result (out.new.items ≡ out.old.items ++ written.edts_bytes (map edit_seen edits.now)) }
+    ensures { OnOk result (out.new.items ≡ out.old.items
+        ++ written.edts_bytes (map edit_seen edits.now)) }
 {
     if edits.is_empty() {
         return Ok(());
@@ -97,7 +102,8 @@ fn put_edits(out: &mut Vec<u8>, edits: &[Edit]) -> Result<(), Memory>
 }
 
 fn put_media_header(out: &mut Vec<u8>, media: &Media) -> Result<(), Memory>
-    ensures { OnOk result (out.new.items ≡ out.old.items ++ written.mdhd_bytes (media_seen media.now)) }
+    ensures { OnOk result (out.new.items ≡ out.old.items
+        ++ written.mdhd_bytes (media_seen media.now)) }
 {
     put(out, MEDIA_HEADER)?;
     put_u64(out, media.creation)?;
@@ -111,7 +117,8 @@ fn put_media_header(out: &mut Vec<u8>, media: &Media) -> Result<(), Memory>
 
 // Boxes of one type with these payloads.
 fn put_boxes(out: &mut Vec<u8>, kind: FourCc, payloads: &[&[u8]]) -> Result<(), Memory>
-    ensures { OnOk result (out.new.items ≡ out.old.items ++ flat_map (box_bytes kind.0) (map (λ p. p.now) payloads.now)) }
+    ensures { OnOk result (out.new.items ≡ out.old.items
+        ++ flat_map (box_bytes kind.0) (map (λ p. p.now) payloads.now)) }
 {
     for payload in payloads {
         put_box(out, kind, payload)?;
@@ -120,7 +127,8 @@ fn put_boxes(out: &mut Vec<u8>, kind: FourCc, payloads: &[&[u8]]) -> Result<(), 
 }
 
 fn put_entries(out: &mut Vec<u8>, descriptions: &[Description]) -> Result<(), Memory>
-    ensures { OnOk result (out.new.items ≡ out.old.items ++ flat_map written.kept_bytes (map description_seen descriptions.now)) }
+    ensures { OnOk result (out.new.items ≡ out.old.items
+        ++ flat_map written.kept_bytes (map description_seen descriptions.now)) }
 {
     for one in descriptions {
         put_box(out, one.kind, one.payload)?;
@@ -130,7 +138,8 @@ fn put_entries(out: &mut Vec<u8>, descriptions: &[Description]) -> Result<(), Me
 
 // `stsd`.
 fn put_descriptions(out: &mut Vec<u8>, descriptions: &[Description]) -> Result<(), Memory>
-    ensures { OnOk result (out.new.items ≡ out.old.items ++ descriptions_bytes (map description_seen descriptions.now)) }
+    ensures { OnOk result (out.new.items ≡ out.old.items
+        ++ descriptions_bytes (map description_seen descriptions.now)) }
 {
     let at = out.len();
     open_box(out, FourCc(*b"stsd"))?;
@@ -146,7 +155,9 @@ fn put_sample_table(
     descriptions: &[Description],
     group_descriptions: &[&[u8]],
 ) -> Result<(), Memory>
-    ensures { OnOk result (out.new.items ≡ out.old.items ++ written.stbl_bytes (map description_seen descriptions.now) (map (λ p. p.now) group_descriptions.now)) }
+    ensures { OnOk result (out.new.items ≡ out.old.items
+        ++ written.stbl_bytes (map description_seen descriptions.now)
+        (map (λ p. p.now) group_descriptions.now)) }
 {
     let at = out.len();
     open_box(out, FourCc(*b"stbl"))?;
@@ -159,7 +170,8 @@ fn put_sample_table(
 
 // `minf`.
 fn put_information(out: &mut Vec<u8>, track: &TrackHead) -> Result<(), Memory>
-    ensures { OnOk result (out.new.items ≡ out.old.items ++ information_bytes (track_seen track.now)) }
+    ensures { OnOk result (out.new.items ≡ out.old.items
+        ++ information_bytes (track_seen track.now)) }
 {
     let at = out.len();
     let header = track.media.header;
@@ -173,7 +185,9 @@ fn put_information(out: &mut Vec<u8>, track: &TrackHead) -> Result<(), Memory>
 
 // `mdia`.
 fn put_media(out: &mut Vec<u8>, track: &TrackHead) -> Result<(), Memory>
-    ensures { OnOk result (out.new.items ≡ out.old.items ++ written.mdia_bytes (track_seen track.now).media (track_seen track.now).group_descriptions) }
+    ensures { OnOk result (out.new.items ≡ out.old.items
+        ++ written.mdia_bytes (track_seen track.now).media
+        (track_seen track.now).group_descriptions) }
 {
     let at = out.len();
     let media = &track.media;
@@ -187,7 +201,8 @@ fn put_media(out: &mut Vec<u8>, track: &TrackHead) -> Result<(), Memory>
 }
 
 pub(crate) fn put_track(out: &mut Vec<u8>, track: &TrackHead) -> Result<(), Memory>
-    ensures { OnOk result (out.new.items ≡ out.old.items ++ written.trak_bytes (track_seen track.now)) }
+    ensures { OnOk result (out.new.items ≡ out.old.items
+        ++ written.trak_bytes (track_seen track.now)) }
 {
     let at = out.len();
     open_box(out, FourCc(*b"trak"))?;

@@ -38,7 +38,8 @@ fn next_track_id(tracks: &[TrackHead]) -> u32
 }
 
 fn put_movie_header(out: &mut Vec<u8>, head: &MovieHead, next: u32) -> Result<(), Memory>
-    ensures { OnOk result (out.new.items ≡ out.old.items ++ written.mvhd_bytes (movie_seen head.now) next) }
+    ensures { OnOk result (out.new.items ≡ out.old.items
+        ++ written.mvhd_bytes (movie_seen head.now) next) }
 {
     put(out, MOVIE_HEADER)?;
     put_u64(out, head.creation)?;
@@ -56,7 +57,8 @@ fn put_movie_header(out: &mut Vec<u8>, head: &MovieHead, next: u32) -> Result<()
 
 // Boxes as they are kept.
 pub(crate) fn put_kept(out: &mut Vec<u8>, kept: &[Kept]) -> Result<(), Memory>
-    ensures { OnOk result (out.new.items ≡ out.old.items ++ flat_map written.kept_bytes (map kept_seen kept.now)) }
+    ensures { OnOk result (out.new.items ≡ out.old.items
+        ++ flat_map written.kept_bytes (map kept_seen kept.now)) }
 {
     for one in kept {
         put_box(out, one.kind, one.payload)?;
@@ -65,7 +67,8 @@ pub(crate) fn put_kept(out: &mut Vec<u8>, kept: &[Kept]) -> Result<(), Memory>
 }
 
 fn put_track_extends(out: &mut Vec<u8>, track: &TrackHead) -> Result<(), Memory>
-    ensures { OnOk result (out.new.items ≡ out.old.items ++ written.trex_bytes (track_seen track.now)) }
+    ensures { OnOk result (out.new.items ≡ out.old.items
+        ++ written.trex_bytes (track_seen track.now)) }
 {
     put(out, TRACK_EXTENDS)?;
     put_u32(out, track.id)?;
@@ -75,7 +78,8 @@ fn put_track_extends(out: &mut Vec<u8>, track: &TrackHead) -> Result<(), Memory>
 }
 
 fn put_tracks_extends(out: &mut Vec<u8>, tracks: &[TrackHead]) -> Result<(), Memory>
-    ensures { OnOk result (out.new.items ≡ out.old.items ++ flat_map written.trex_bytes (map track_seen tracks.now)) }
+    ensures { OnOk result (out.new.items ≡ out.old.items
+        ++ flat_map written.trex_bytes (map track_seen tracks.now)) }
 {
     for track in tracks {
         put_track_extends(out, track)?;
@@ -85,7 +89,8 @@ fn put_tracks_extends(out: &mut Vec<u8>, tracks: &[TrackHead]) -> Result<(), Mem
 
 // `mehd`, and a `trex` for each track.
 fn put_extends(out: &mut Vec<u8>, tracks: &[TrackHead], mehd: u64) -> Result<(), Memory>
-    ensures { OnOk result (out.new.items ≡ out.old.items ++ written.mvex_bytes (map track_seen tracks.now) mehd) }
+    ensures { OnOk result (out.new.items ≡ out.old.items
+        ++ written.mvex_bytes (map track_seen tracks.now) mehd) }
 {
     let at = out.len();
     open_box(out, FourCc(*b"mvex"))?;
@@ -97,7 +102,8 @@ fn put_extends(out: &mut Vec<u8>, tracks: &[TrackHead], mehd: u64) -> Result<(),
 }
 
 fn put_tracks(out: &mut Vec<u8>, tracks: &[TrackHead]) -> Result<(), Memory>
-    ensures { OnOk result (out.new.items ≡ out.old.items ++ flat_map written.trak_bytes (map track_seen tracks.now)) }
+    ensures { OnOk result (out.new.items ≡ out.old.items
+        ++ flat_map written.trak_bytes (map track_seen tracks.now)) }
 {
     for track in tracks {
         put_track(out, track)?;
@@ -106,7 +112,8 @@ fn put_tracks(out: &mut Vec<u8>, tracks: &[TrackHead]) -> Result<(), Memory>
 }
 
 fn put_movie(out: &mut Vec<u8>, head: &MovieHead, mehd: u64) -> Result<(), Memory>
-    ensures { OnOk result (out.new.items ≡ out.old.items ++ written.moov_bytes (movie_seen head.now) (tracks_seen head.now) mehd) }
+    ensures { OnOk result (out.new.items ≡ out.old.items
+        ++ written.moov_bytes (movie_seen head.now) (tracks_seen head.now) mehd) }
 {
     let at = out.len();
     open_box(out, FourCc(*b"moov"))?;
@@ -120,8 +127,10 @@ fn put_movie(out: &mut Vec<u8>, head: &MovieHead, mehd: u64) -> Result<(), Memor
 
 /// The bytes of `ftyp` and `moov`, with this duration in `mehd`. One growth is made.
 pub fn head_bytes(alloc: Global, head: &MovieHead, mehd: u64) -> Result<Vec<u8>, Memory>
-    requires limit { length (written.moov_bytes (movie_seen head.now) (tracks_seen head.now) mehd) ≤ 2 ^ 30 }
-    ensures bytes { IfOk result (λ out. out.items ≡ written.head_bytes (movie_seen head.now) (tracks_seen head.now) mehd) }
+    requires limit { length (written.moov_bytes (movie_seen head.now) (tracks_seen head.now) mehd)
+        ≤ 2 ^ 30 }
+    ensures bytes { IfOk result (λ out. out.items
+        ≡ written.head_bytes (movie_seen head.now) (tracks_seen head.now) mehd) }
 {
     let Ok(mut out) = Vec::with_capacity(alloc, head_len(head) as usize) else {
         return Err(Memory);

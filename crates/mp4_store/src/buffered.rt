@@ -14,8 +14,8 @@ const FEW: usize = 4096;
 /// Reads of at most so many bytes read ahead: that of a box header is one.
 const SHORT: usize = 16;
 
-// Bytes of a store that were read ahead: the first `len`, from the place `start` on. Nothing that lies at `furthest` or
-// behind it was read ahead so far.
+// Bytes of a store that were read ahead: the first `len`, from the place `start` on. Nothing that
+// lies at `furthest` or behind it was read ahead so far.
 #[derive(Drop)]
 struct Window {
     bytes: [u8; MOST],
@@ -100,9 +100,9 @@ impl Window {
     }
 }
 
-/// A store over another one, with the same bytes. A read of at most 16 bytes reads up to 16,384 from its place on, and
-/// each read whose bytes are among these is answered from them; all others go to the store below. Where reading ahead
-/// fails, just the bytes that are asked for are read.
+/// A store over another one, with the same bytes. A read of at most 16 bytes reads up to 16,384
+/// from its place on, and each read whose bytes are among these is answered from them; all others
+/// go to the store below. Where reading ahead fails, just the bytes that are asked for are read.
 #[derive(Drop)]
 pub struct BufferedStore<S: Store> {
     store: S,

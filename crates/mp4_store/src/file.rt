@@ -1,5 +1,5 @@
 //! A store over a file of the file system.
-ghost use Rattle.std.specs.Prelude.{◌≡◌, ℕ, false, replicate};
+ghost use Rattle.std.specs.Prelude.{false, replicate};
 
 use crate::store::{Store, StoreFailed};
 use std::fs::File;
@@ -15,7 +15,8 @@ pub struct FileStore {
 }
 
 impl FileStore {
-    /// Takes the length that the file has now; later changes of it are not seen, but that a read past its end fails.
+    /// Takes the length that the file has now; later changes of it are not seen, but that a read
+    /// past its end fails.
     pub fn new(file: File) -> io::Result<FileStore> {
         let size = file.metadata()?.len();
         Ok(FileStore {

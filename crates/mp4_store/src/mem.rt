@@ -1,5 +1,5 @@
 //! A store and a sink in memory.
-ghost use Rattle.std.specs.Prelude.{◌≡◌, ℕ, Some, [], ◌++◌, true, refl, length, OnOk, OnErr};
+ghost use Rattle.std.specs.Prelude.{◌≡◌, Some, [], ◌++◌, true, OnOk, OnErr};
 ghost use Rattle.mp4_store.specs.Device.{Counts};
 
 use crate::sink::{Sink, WriteFailed};
@@ -57,7 +57,8 @@ impl MemSink {
         }
     }
 
-    /// Appends a piece, as `put` does; one that doesn't fit into memory leaves the bytes as they are.
+    /// Appends a piece, as `put` does; one that doesn't fit into memory leaves the bytes as they
+    /// are.
     ///
     /// # Errors
     /// `WriteFailed` where a growth is refused.

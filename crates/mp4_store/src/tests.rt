@@ -1,5 +1,5 @@
 //! Stores and sinks: real files, slow writers, bytes in memory, and a store that reads ahead.
-ghost use Rattle.std.specs.Prelude.{◌≡◌, ◌<◌, ℕ, false, replicate};
+ghost use Rattle.std.specs.Prelude.{◌<◌, false, replicate};
 
 use super::*;
 use std::fs::File;
@@ -100,8 +100,8 @@ fn bytes_in_memory(rt: HostRuntime) -> Result<(), Fail> {
     Ok(())
 }
 
-// A store in which each place says its byte. It counts its reads, keeps the length of the last one, and fails those of
-// more than `most` bytes.
+// A store in which each place says its byte. It counts its reads, keeps the length of the last one,
+// and fails those of more than `most` bytes.
 #[derive(Drop)]
 struct Places {
     most: usize,
@@ -205,8 +205,8 @@ fn other_reads_go_below(rt: HostRuntime) {
 #[test]
 fn how_far_is_read_ahead(rt: HostRuntime) {
     let mut header = [0u8; 16];
-    // Each place is read in turn; of the last one it counts whether it lies near behind the others, is read again, lies far
-    // behind them, or at the end of the store.
+    // Each place is read in turn; of the last one it counts whether it lies near behind the others,
+    // is read again, lies far behind them, or at the end of the store.
     for (first, second, third, want) in [
         (0u64, 20_000u64, 50_000u64, 16_384usize),
         (0, 20_000, 0, 4096),

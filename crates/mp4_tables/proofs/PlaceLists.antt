@@ -186,7 +186,8 @@ plain_here payload at p size ok is h e =
     let Q : ℕ → Type 0 = λ m. unwrap_or (option_map (λ (bytes : List ℕ). nat_le m (length bytes)) (option_map (bytes_at payload) at.dependencies)) true ≡ true in
     let e3 = flags_more (option_map (numbers_at 4 payload) at.sync) 1 k B (drop (k + 1) B) (slice_index (bytes_for (k + 1) (option_map (bytes_at payload) at.dependencies)) k) (bytes_more payload at.dependencies c k (subst Q n (ok.fit dependency_room)) h) in
     let e4 = spot_ahead (chunk_rows_at payload at.chunk_rows) (offsets_at payload at.chunks) (sizes_at payload at.sizes) p.chunk k size (chunks_hold payload at ok) is.chunk (omega arith) e in
-    let Z : ℕ → Type 0 = λ m. k < m → drop k (unwrap_or (option_map repeated (option_map (composition_offsets_at payload) at.offsets)) (replicate m (pos 0))) ≡ composition_offset (offset_version (are_signed at.offsets)) p.offset.value ∷ map (composition_offset (offset_version (are_signed at.offsets))) (drop (k + 1) (offset_values payload at.offsets c))
+    let Z : ℕ → Type 0 = λ m. k < m → drop k (unwrap_or (option_map repeated (option_map (composition_offsets_at payload) at.offsets)) (replicate m (pos 0))) ≡ composition_offset (offset_version (are_signed at.offsets)) p.offset.value
+    ∷ map (composition_offset (offset_version (are_signed at.offsets))) (drop (k + 1) (offset_values payload at.offsets c))
     → drop k (flags_from (option_map (numbers_at 4 payload) at.sync) 1 (bytes_for m (option_map (bytes_at payload) at.dependencies))) ≡ flags_here payload at p ∷ flags_from (option_map (numbers_at 4 payload) at.sync) (k + 1 + 1) (drop (k + 1) B)
     → drop k (plain_samples t) ≡ placed p.duration.value (composition_offset (offset_version (are_signed at.offsets)) p.offset.value) (flags_here payload at p) (next_spot p.chunk size) (get_or (maps_of m (groupings_at payload at.groups)) k []) ∷ drop (k + 1) (plain_samples t) in
     subst Z n (λ l f2 f3. plain_more t k p.duration.value (composition_offset (offset_version (are_signed at.offsets)) p.offset.value) (flags_here payload at p) (next_spot p.chunk size)
@@ -231,7 +232,8 @@ unfolding tables_at
 end_fits payload at p size ok is h e =
     let n = sizes_length at.sizes.form payload at.sizes.rows in
     let fine = leb_is (p.chunk.at + size) ok.surroundings.file_length
-    (all_next ok.surroundings.file_length p.number (in_chunks (chunk_rows_at payload at.chunk_rows) 1 (offsets_at payload at.chunks) (sizes_at payload at.sizes)) (drop (p.number + 1) (in_chunks (chunk_rows_at payload at.chunk_rows) 1 (offsets_at payload at.chunks) (sizes_at payload at.sizes))) (next_spot p.chunk size) (ok.fit places)
+    (all_next ok.surroundings.file_length p.number (in_chunks (chunk_rows_at payload at.chunk_rows) 1 (offsets_at payload at.chunks) (sizes_at payload at.sizes)) (drop (p.number + 1) (in_chunks (chunk_rows_at payload at.chunk_rows) 1 (offsets_at payload at.chunks) (sizes_at payload at.sizes)))
+    (next_spot p.chunk size) (ok.fit places)
     (spot_ahead (chunk_rows_at payload at.chunk_rows) (offsets_at payload at.chunks) (sizes_at payload at.sizes) p.chunk p.number size (chunks_hold payload at ok) is.chunk (omega arith) e)) in
     let small = ok.small in
     omega arith

@@ -141,7 +141,8 @@ compact_readable b v h = record { version = yes_le (version b.payload) 0 v; flag
 compact_all : (stbl b : Box) → HasTables stbl → IsFirstOf (codes "stz2") (boxes_of stbl) b → version b.payload ≤ 0 → 12 + rows_size stz2 b.payload ≤ length b.payload → AllOf (codes "stz2") (IsReadable stz2) (boxes_of stbl)
 compact_all stbl b h i v w = let n = one_of_both stbl h in all_first (codes "stz2") (IsReadable stz2) (boxes_of stbl) b i (omega arith) (compact_readable b v w)
 
-pub compact_many : (l : Limits) (stbl b : Box) (f : Fault) → HasTables stbl → count_among (codes "stsz" ∷ []) (boxes_of stbl) ≡ 0 → IsFirstOf (codes "stz2") (boxes_of stbl) b → version b.payload ≤ 0 → 12 + rows_size stz2 b.payload ≤ length b.payload → l.room < field b.payload 8 4 → f ≡ fault_of TooManySamples b → IsFault l stbl f
+pub compact_many : (l : Limits) (stbl b : Box) (f : Fault) → HasTables stbl → count_among (codes "stsz" ∷ []) (boxes_of stbl) ≡ 0 → IsFirstOf (codes "stz2") (boxes_of stbl) b → version b.payload ≤ 0 → 12 + rows_size stz2 b.payload ≤ length b.payload → l.room < field b.payload 8 4
+    → f ≡ fault_of TooManySamples b → IsFault l stbl f
 compact_many l stbl b f h none i v w many s = inr (inr (record {
   before = i.before;
   b = b;
@@ -209,7 +210,8 @@ compact_same stbl b forms.HalfBytes r i f w c p =
       ap is_size_bits f,
     )
 
-pub compact_read : (l : Limits) (stbl b : Box) (form : SizeForm) (r : RowsAt) → HasTables stbl → count_among (codes "stsz" ∷ []) (boxes_of stbl) ≡ 0 → IsFirstOf (codes "stz2") (boxes_of stbl) b → version b.payload ≤ 0 → IsFormOf form (size_bits b.payload) → 12 + rows_size stz2 b.payload ≤ length b.payload
+pub compact_read : (l : Limits) (stbl b : Box) (form : SizeForm) (r : RowsAt) → HasTables stbl → count_among (codes "stsz" ∷ []) (boxes_of stbl) ≡ 0 → IsFirstOf (codes "stz2") (boxes_of stbl) b → version b.payload ≤ 0 → IsFormOf form (size_bits b.payload)
+    → 12 + rows_size stz2 b.payload ≤ length b.payload
     → r.count ≡ field b.payload 8 4 → stbl.offset + stbl.header + r.place ≡ b.offset + b.header + 12 → r.count ≤ l.room → SizesRead l stbl (record { form = form; rows = r })
 compact_read l stbl b form r h none i v f w c p few =
     let s = compact_same stbl b form r (lies_in stbl b h (first_is_child (codes "stz2") stbl b i)) f w c p in

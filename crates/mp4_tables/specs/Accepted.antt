@@ -27,7 +27,9 @@ offset_version true = 1
 offset_version false = 0
 
 abbrev pub composition_offsets_at : List ℕ → OffsetsAt → List (ℕ × ℤ)
-composition_offsets_at payload at = map (λ run. (run.0, composition_offset (offset_version at.is_signed) run.1)) (runs_at payload at.rows)
+composition_offsets_at payload at =
+    map (λ run. (run.0, composition_offset (offset_version at.is_signed) run.1))
+    (runs_at payload at.rows)
 
 -- as many groupings as there are keys, each with its rows
 abbrev pub grouped : List GroupKey → List (List (ℕ × ℕ)) → List Grouping
@@ -36,7 +38,8 @@ grouped (key ∷ keys) [] = []
 grouped (key ∷ keys) (runs ∷ rows) = record { key = key; rows = runs } ∷ grouped keys rows
 
 abbrev pub group_rows : List ℕ → GroupsAt → List (List (ℕ × ℕ))
-group_rows payload at = runs_at payload at.first ∷ runs_at payload at.second ∷ runs_at payload at.third ∷ runs_at payload at.fourth ∷ []
+group_rows payload at = runs_at payload at.first ∷ runs_at payload at.second
+    ∷ runs_at payload at.third ∷ runs_at payload at.fourth ∷ []
 
 abbrev pub groupings_at : List ℕ → GroupsAt → List Grouping
 groupings_at payload at = grouped (keys_seen at.keys) (group_rows payload at)
@@ -60,7 +63,8 @@ tables_at payload at = record {
 -- each key differs from those behind it
 abbrev pub AreDistinct : List GroupKey → Type 0
 AreDistinct [] = Unit {0}
-AreDistinct (key ∷ keys) = AllByRecursion (λ other. same_key key other ≡ false) keys × AreDistinct keys
+AreDistinct (key ∷ keys) = AllByRecursion (λ other. same_key key other ≡ false) keys
+    × AreDistinct keys
 
 -- there are rows for each key, and none behind the last
 abbrev pub AreUsed : List GroupKey → List (List (ℕ × ℕ)) → Type 0
@@ -76,7 +80,8 @@ AreSmall false runs = AllByRecursion (λ (run : ℕ × ℕ). run.1 < 2 ^ 31) run
 -- there are bytes for the offsets, and each can be read
 abbrev pub HaveOffsets : List ℕ → Option OffsetsAt → Type 0
 HaveOffsets payload None = Unit {0}
-HaveOffsets payload (Some at) = HaveRoom 8 payload at.rows × AreSmall at.is_signed (runs_at payload at.rows)
+HaveOffsets payload (Some at) = HaveRoom 8 payload at.rows
+    × AreSmall at.is_signed (runs_at payload at.rows)
 
 abbrev pub HaveSync : List ℕ → Option RowsAt → Type 0
 HaveSync payload None = Unit {0}
@@ -153,7 +158,8 @@ AreInOrder payload (Some at) n = is_sync_order n (numbers_at 4 payload at) ≡ t
 abbrev pub IsRunPlaceAt : List (ℕ × ℕ) → RunPlace → ℕ → Type 0
 IsRunPlaceAt runs p k = IsRunPlace runs p (drop k (repeated runs))
 
-pub record AreGroupPlaces (payload : List ℕ) (at : GroupsAt) (p : GroupPlaces) (k : ℕ) : Type 0 where
+pub record AreGroupPlaces (payload : List ℕ) (at : GroupsAt) (p : GroupPlaces) (k : ℕ)
+    : Type 0 where
   pub first : IsRunPlaceAt (runs_at payload at.first) p.first k
   pub second : IsRunPlaceAt (runs_at payload at.second) p.second k
   pub third : IsRunPlaceAt (runs_at payload at.third) p.third k
@@ -162,25 +168,36 @@ pub record AreGroupPlaces (payload : List ℕ) (at : GroupsAt) (p : GroupPlaces)
 -- the place lies before sample p.number (from 0), or behind them all
 pub record IsPlace (payload : List ℕ) (at : TablesAt) (p : TablePlace) : Type 0 where
   pub within : p.number ≤ at.sizes.rows.count
-  pub time : drop p.number (samples_of (tables_at payload at)) ≡ timed (keys_after [] (groupings_at payload at.groups)) p.dts (drop p.number (plain_samples (tables_at payload at)))
+  pub time : drop p.number (samples_of (tables_at payload at))
+      ≡ timed (keys_after [] (groupings_at payload at.groups)) p.dts
+      (drop p.number (plain_samples (tables_at payload at)))
   pub early : p.dts ≤ p.number * (2 ^ 32 - 1)
   pub duration : IsRunPlaceAt (runs_at payload at.durations) p.duration p.number
-  pub offset : IsRunPlace (runs_at payload (offset_rows at.offsets)) p.offset (drop p.number (offset_values payload at.offsets at.sizes.rows.count))
-  pub chunk : IsChunkPlace (chunk_rows_at payload at.chunk_rows) (offsets_at payload at.chunks) (sizes_at payload at.sizes) p.chunk p.number
+  pub offset : IsRunPlace (runs_at payload (offset_rows at.offsets)) p.offset
+      (drop p.number (offset_values payload at.offsets at.sizes.rows.count))
+  pub chunk : IsChunkPlace (chunk_rows_at payload at.chunk_rows) (offsets_at payload at.chunks)
+      (sizes_at payload at.sizes) p.chunk p.number
   pub sync : IsSyncPlaceIn payload at.sync p.sync (p.number + 1)
   pub groups : AreGroupPlaces payload at.groups p.groups p.number
 
 -- the flags of the sample before which the place lies
 abbrev pub flags_here : List ℕ → TablesAt → TablePlace → ℕ
-flags_here payload at p = slice_index (bytes_for (p.number + 1) (option_map (bytes_at payload) at.dependencies)) p.number * 2 ^ 20 + non_sync (option_map (numbers_at 4 payload) at.sync) (p.number + 1) * 2 ^ 16
+flags_here payload at p =
+    slice_index (bytes_for (p.number + 1) (option_map (bytes_at payload) at.dependencies))
+    p.number * 2 ^ 20 + non_sync (option_map (numbers_at 4 payload) at.sync) (p.number + 1)
+    * 2 ^ 16
 
 -- its index in each `sbgp`, 0 for none
 abbrev pub indexes_here : List ℕ → GroupsAt → ℕ → List ℕ
-indexes_here payload at k = map (λ (runs : List (ℕ × ℕ)). slice_index (repeated runs) k) (group_rows payload at)
+indexes_here payload at k = map (λ (runs : List (ℕ × ℕ)). slice_index (repeated runs) k)
+    (group_rows payload at)
 
--- the rows and samples that a walk passed on its way to a place: of sizes, of bytes of `sdtp` and of samples at most as many as its number each
+-- the rows and samples that a walk passed on its way to a place: of sizes, of bytes of `sdtp` and
+-- of samples at most as many as its number each
 abbrev pub passed : TablePlace → ℕ
-passed p = 3 * p.number + p.duration.row + p.offset.row + p.chunk.opened + p.chunk.row.row + p.sync.row + p.groups.first.row + p.groups.second.row + p.groups.third.row + p.groups.fourth.row
+passed p = 3 * p.number + p.duration.row + p.offset.row + p.chunk.opened + p.chunk.row.row
+    + p.sync.row + p.groups.first.row + p.groups.second.row + p.groups.third.row
+    + p.groups.fourth.row
 
 -- how many rows a table has, if there is one
 abbrev pub count_of : Option RowsAt → ℕ
@@ -193,4 +210,5 @@ group_count at = at.first.count + at.second.count + at.third.count + at.fourth.c
 
 -- how many rows the tables have, beside the sizes and the bytes of `sdtp`, which are one a sample
 abbrev pub rows_in : TablesAt → ℕ
-rows_in at = at.durations.count + (offset_rows at.offsets).count + at.chunk_rows.count + at.chunks.rows.count + count_of at.sync + group_count at.groups
+rows_in at = at.durations.count + (offset_rows at.offsets).count + at.chunk_rows.count
+    + at.chunks.rows.count + count_of at.sync + group_count at.groups

@@ -36,12 +36,14 @@ row_in_hand first p = record { first = first; count = p.samples; description = p
 -- the place has the row of chunk c, and the rows behind it begin behind that chunk
 pub record IsRowPlace (rows : List ChunkRow) (c : ℕ) (p : RowPlace) : Type 0 where
   pub first : ℕ
-  pub same : (d : ℕ) → c ≤ d → row_of_chunk rows d ≡ row_after (row_in_hand first p) (drop p.row rows) d
+  pub same : (d : ℕ) → c ≤ d
+      → row_of_chunk rows d ≡ row_after (row_in_hand first p) (drop p.row rows) d
   pub rising : is_rising_after c (map (λ (row : ChunkRow). row.first) (drop p.row rows)) ≡ true
 
 -- where the samples still to come lie, by their sizes
 unfoldable pub spots_coming : List ChunkRow → List ℕ → ChunkPlace → List ℕ → List Spot
-spots_coming rows offsets p sizes = laid_out (pos p.at) p.row.description (take p.left sizes) ++ in_chunks rows (p.opened + 1) (drop p.opened offsets) (drop p.left sizes)
+spots_coming rows offsets p sizes = laid_out (pos p.at) p.row.description (take p.left sizes)
+    ++ in_chunks rows (p.opened + 1) (drop p.opened offsets) (drop p.left sizes)
 
 abbrev pub no_spots : List ℕ → List Spot
 no_spots sizes = []
@@ -52,15 +54,19 @@ next_spot p size = record { at = pos p.at; size = size; description = p.row.desc
 
 -- all samples lie in a file of this length
 abbrev pub all_lie_within : ℕ → List Spot → Bool
-all_lie_within file_length spots = list_all (λ spot. lies_within file_length spot.at spot.size) spots
+all_lie_within file_length spots = list_all (λ spot. lies_within file_length spot.at spot.size)
+    spots
 
 -- every chunk that holds samples has a description
 abbrev pub are_described : ℕ → List ChunkRow → ℕ → List ℕ → Bool
 are_described descriptions rows c [] = true
-are_described descriptions rows c (offset ∷ offsets) = (nat_eq (row_of_chunk rows c).count 0 || is_index descriptions (row_of_chunk rows c).description) && are_described descriptions rows (c + 1) offsets
+are_described descriptions rows c (offset ∷ offsets) = (nat_eq (row_of_chunk rows c).count 0
+    || is_index descriptions (row_of_chunk rows c).description)
+    && are_described descriptions rows (c + 1) offsets
 
 -- the place lies before sample k (from 0) of these sizes, or behind them all
-pub record IsChunkPlace (rows : List ChunkRow) (offsets sizes : List ℕ) (p : ChunkPlace) (k : ℕ) : Type 0 where
+pub record IsChunkPlace (rows : List ChunkRow) (offsets sizes : List ℕ) (p : ChunkPlace) (k : ℕ)
+    : Type 0 where
   pub rest : drop k (in_chunks rows 1 offsets sizes) ≡ spots_coming rows offsets p (drop k sizes)
   pub settled : p.left ≡ 0 → spots_coming rows offsets p ≡ no_spots
   pub row : p.opened < length offsets → IsRowPlace rows p.opened p.row
@@ -69,7 +75,8 @@ pub record IsChunkPlace (rows : List ChunkRow) (offsets sizes : List ℕ) (p : C
 
 -- ---- sync samples
 
--- the place lies before sample number i (from 1): the numbers behind it name the same of the samples to come, and the first of them is in hand
+-- the place lies before sample number i (from 1): the numbers behind it name the same of the
+-- samples to come, and the first of them is in hand
 pub record IsSyncPlace (named : List ℕ) (p : SyncPlace) (i : ℕ) : Type 0 where
   pub same : (j : ℕ) → i ≤ j → list_any (nat_eq j) named ≡ list_any (nat_eq j) (drop p.row named)
   pub rising : is_rising_after (i - 1) (drop p.row named) ≡ true

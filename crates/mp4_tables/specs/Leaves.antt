@@ -1,4 +1,5 @@
--- The children of an `stbl`, which of them is which table, and what is so where a check names a fault.
+-- The children of an `stbl`, which of them is which table, and what is so where a check names a
+-- fault.
 use Rattle.std.specs.Prelude.{◌≡◌, ℕ, zero, suc, ◌+◌, ◌-◌, ◌*◌, ◌<◌, ◌≤◌, ◌⊎◌, ◌==◌, List, [], ◌∷◌, ◌++◌, length, take, drop, true, false, IsTrue, Option, Some, bytes_eq, codes, option_map, unwrap_or, nat_le, ℤ}
 use Rattle.std.specs.List.{AllByRecursion}
 use Rattle.mp4_boxes.specs.Bytes.{field}
@@ -98,21 +99,27 @@ surroundings_of l = record { file_length = l.file_len; descriptions = l.descript
 abbrev pub HasDescriptions : Box → Type 0
 HasDescriptions stbl = AreReadable (codes "stsd" ∷ []) (boxes_of stbl)
 
--- A fault that a check of the tables names: of one leaf, of a rule that they keep together, or of their number.
+-- A fault that a check of the tables names: of one leaf, of a rule that they keep together, or of
+-- their number.
 abbrev pub IsFault : Limits → Box → Fault → Type 0
-IsFault l stbl f = IsLeafFaultAmong (boxes_of stbl) f ⊎ (IsTableFault (surroundings_of l) (box_container stbl) f ⊎ IsTooMany l.room (boxes_of stbl) f)
+IsFault l stbl f = IsLeafFaultAmong (boxes_of stbl) f
+    ⊎ (IsTableFault (surroundings_of l) (box_container stbl) f ⊎ IsTooMany l.room (boxes_of stbl) f)
 
--- The fault that a check names is one of theirs; a description index is judged only where the descriptions can be read.
+-- The fault that a check names is one of theirs; a description index is judged only where the
+-- descriptions can be read.
 abbrev pub NamesFault : Limits → Box → Fault → Type 0
 NamesFault l stbl f = (f.kind ≡ BadDescriptionIndex → HasDescriptions stbl) → IsFault l stbl f
 
 -- a full box that is too short for its version and flags, or of a version past the last
 abbrev pub VersionFails : ℕ → Box → Fault → Type 0
-VersionFails last b f = ((length b.payload < 4) × (f ≡ fault_of ShortBox b)) ⊎ ((4 ≤ length b.payload) × (last < version b.payload) × (f ≡ fault_of BadVersion b))
+VersionFails last b f = ((length b.payload < 4) × (f ≡ fault_of ShortBox b))
+    ⊎ ((4 ≤ length b.payload) × (last < version b.payload) × (f ≡ fault_of BadVersion b))
 
--- a box that is too short for its fields, of which the last is a count, or for as many rows of a width
+-- a box that is too short for its fields, of which the last is a count, or for as many rows of a
+-- width
 abbrev pub RowsFail : ℕ → ℕ → Box → Fault → Type 0
-RowsFail fields width b f = (length b.payload < fields + width * field b.payload (fields - 4) 4) × (f ≡ fault_of ShortBox b)
+RowsFail fields width b f = (length b.payload < fields + width * field b.payload (fields - 4) 4)
+    × (f ≡ fault_of ShortBox b)
 
 -- one of these
 abbrev pub ShapeFails : ℕ → ℕ → ℕ → Box → Fault → Type 0
@@ -145,7 +152,8 @@ pub record OffsetsRead (stbl : Box) (n : ℕ) (o : Option OffsetsAt) : Type 0 wh
   pub have : HaveOffsets stbl.payload o
   pub same : option_map (composition_offsets_at stbl.payload) o ≡ (tables_in stbl).offsets
   pub sound : AllOf (codes "ctts") (IsSound ctts) (boxes_of stbl)
-  pub count : unwrap_or (option_map (λ (rows : List (ℕ × ℤ)). total rows == n) (tables_in stbl).offsets) true ≡ true
+  pub count : unwrap_or
+      (option_map (λ (rows : List (ℕ × ℤ)). total rows == n) (tables_in stbl).offsets) true ≡ true
 
 pub record ChunksRead (stbl : Box) (at : ChunksAt) : Type 0 where
   pub have : HaveRoom (offset_width at.is_wide) stbl.payload at.rows
@@ -158,12 +166,14 @@ pub record ChunkRowsRead (l : Limits) (stbl : Box) (n : ℕ) (r : RowsAt) : Type
   pub same : chunk_rows_at stbl.payload r ≡ (tables_in stbl).chunk_rows
   pub sound : AllOf (codes "stsc") (IsSound stsc) (boxes_of stbl)
   pub ordered : test chunk_order (surroundings_of l) (tables_in stbl) ≡ true
-  pub count : (in_chunks_total (tables_in stbl).chunk_rows 1 (tables_in stbl).chunk_offsets == n) ≡ true
+  pub count : (in_chunks_total (tables_in stbl).chunk_rows 1 (tables_in stbl).chunk_offsets == n)
+      ≡ true
   pub described : test description_indexes (surroundings_of l) (tables_in stbl) ≡ true
 
 -- the box of the offsets of chunks
 abbrev pub IsOffsetsLeaf : Box → Box → Type 0
-IsOffsetsLeaf stbl b = IsFirstOf (codes "stco") (boxes_of stbl) b ⊎ IsFirstOf (codes "co64") (boxes_of stbl) b
+IsOffsetsLeaf stbl b = IsFirstOf (codes "stco") (boxes_of stbl) b
+    ⊎ IsFirstOf (codes "co64") (boxes_of stbl) b
 
 pub record SyncRead (stbl : Box) (n : ℕ) (o : Option RowsAt) : Type 0 where
   pub have : HaveSync stbl.payload o
@@ -175,7 +185,9 @@ pub record DependenciesRead (stbl : Box) (n : ℕ) (o : Option BytesAt) : Type 0
   pub have : HaveBytes stbl.payload o
   pub same : option_map (bytes_at stbl.payload) o ≡ (tables_in stbl).dependencies
   pub sound : AllOf (codes "sdtp") (IsSound sdtp) (boxes_of stbl)
-  pub room : unwrap_or (option_map (λ (bytes : List ℕ). nat_le n (length bytes)) (tables_in stbl).dependencies) true ≡ true
+  pub room : unwrap_or
+      (option_map (λ (bytes : List ℕ). nat_le n (length bytes)) (tables_in stbl).dependencies) true
+      ≡ true
 
 pub record SizesRead (l : Limits) (stbl : Box) (at : SizesAt) : Type 0 where
   pub have : HaveSizes stbl.payload at.form at.rows
@@ -206,10 +218,14 @@ pub record GroupsSo (payload : List ℕ) (n : ℕ) (gs : List Grouping) (at : Gr
 
 -- one slot of rows is taken, the others stay
 abbrev pub SlotTaken : ℕ → GroupsAt → RowsAt → GroupsAt → Type 0
-SlotTaken zero g r h = (h.first ≡ r) × (h.second ≡ g.second) × (h.third ≡ g.third) × (h.fourth ≡ g.fourth)
-SlotTaken (suc zero) g r h = (h.first ≡ g.first) × (h.second ≡ r) × (h.third ≡ g.third) × (h.fourth ≡ g.fourth)
-SlotTaken (suc (suc zero)) g r h = (h.first ≡ g.first) × (h.second ≡ g.second) × (h.third ≡ r) × (h.fourth ≡ g.fourth)
-SlotTaken (suc (suc (suc n))) g r h = (h.first ≡ g.first) × (h.second ≡ g.second) × (h.third ≡ g.third) × (h.fourth ≡ r)
+SlotTaken zero g r h = (h.first ≡ r) × (h.second ≡ g.second) × (h.third ≡ g.third)
+    × (h.fourth ≡ g.fourth)
+SlotTaken (suc zero) g r h = (h.first ≡ g.first) × (h.second ≡ r) × (h.third ≡ g.third)
+    × (h.fourth ≡ g.fourth)
+SlotTaken (suc (suc zero)) g r h = (h.first ≡ g.first) × (h.second ≡ g.second) × (h.third ≡ r)
+    × (h.fourth ≡ g.fourth)
+SlotTaken (suc (suc (suc n))) g r h = (h.first ≡ g.first) × (h.second ≡ g.second)
+    × (h.third ≡ g.third) × (h.fourth ≡ r)
 
 -- an `sbgp` was read: its key and its rows
 pub record GroupRead (stbl b : Box) (key : GroupKey) (r : RowsAt) : Type 0 where
@@ -219,23 +235,28 @@ pub record GroupRead (stbl b : Box) (key : GroupKey) (r : RowsAt) : Type 0 where
   pub readable : IsReadable sbgp b.payload
 
 -- an `sbgp` does not keep a rule, behind those that were read
-pub record GroupRuleFails (payload : List ℕ) (n : ℕ) (at : GroupsAt) (b : Box) (f : Fault) : Type 0 where
+pub record GroupRuleFails (payload : List ℕ) (n : ℕ) (at : GroupsAt) (b : Box) (f : Fault)
+    : Type 0 where
   pub rule : GroupRule
   pub readable : IsReadable sbgp b.payload
-  pub fails : (gs : List Grouping) → GroupsSo payload n gs at → keeps rule n [] gs (grouping_of b.payload) ≡ false
+  pub fails : (gs : List Grouping) → GroupsSo payload n gs at
+      → keeps rule n [] gs (grouping_of b.payload) ≡ false
   pub named : f ≡ fault_of (group_kind rule) b
 
 abbrev pub GroupFails : List ℕ → ℕ → GroupsAt → Box → Fault → Type 0
 GroupFails payload n at b f = FailsAs sbgp b f ⊎ GroupRuleFails payload n at b f
 
 -- an `sbgp` was read behind those: all are still in order with it
-pub record GroupNext (payload : List ℕ) (n : ℕ) (at : GroupsAt) (b : Box) (after : GroupsAt) : Type 0 where
+pub record GroupNext (payload : List ℕ) (n : ℕ) (at : GroupsAt) (b : Box) (after : GroupsAt)
+    : Type 0 where
   pub readable : IsReadable sbgp b.payload
-  pub so : (gs : List Grouping) → GroupsSo payload n gs at → GroupsSo payload n (gs ++ grouping_of b.payload ∷ []) after
+  pub so : (gs : List Grouping) → GroupsSo payload n gs at
+      → GroupsSo payload n (gs ++ grouping_of b.payload ∷ []) after
 
 -- behind those that were read, two steps were taken for each row of one more
 abbrev pub GroupPassed : List ℕ → ℕ → GroupsAt → GroupsAt → ℕ → ℕ → Type 0
-GroupPassed payload n at after old new = (gs : List Grouping) → GroupsSo payload n gs at → new + 2 * group_count at ≤ old + 2 * group_count after
+GroupPassed payload n at after old new = (gs : List Grouping) → GroupsSo payload n gs at
+    → new + 2 * group_count at ≤ old + 2 * group_count after
 
 -- a child that is no `sbgp`, and if it is an `sgpd`, a sound one
 pub record OtherChild (at : GroupsAt) (b : Box) (after : GroupsAt) : Type 0 where
@@ -244,17 +265,20 @@ pub record OtherChild (at : GroupsAt) (b : Box) (after : GroupsAt) : Type 0 wher
   pub described : bytes_eq (codes "sgpd") b.kind ≡ true → IsSound sgpd b.payload
 
 abbrev pub ChildRead : List ℕ → ℕ → GroupsAt → Box → GroupsAt → Type 0
-ChildRead payload n at b after = OtherChild at b after ⊎ ((bytes_eq (codes "sbgp") b.kind ≡ true) × GroupNext payload n at b after)
+ChildRead payload n at b after = OtherChild at b after
+    ⊎ ((bytes_eq (codes "sbgp") b.kind ≡ true) × GroupNext payload n at b after)
 
 abbrev pub ChildFails : List ℕ → ℕ → GroupsAt → Box → Fault → Type 0
-ChildFails payload n at b f = ((bytes_eq (codes "sgpd") b.kind ≡ true) × FailsAs sgpd b f) ⊎ ((bytes_eq (codes "sbgp") b.kind ≡ true) × GroupFails payload n at b f)
+ChildFails payload n at b f = ((bytes_eq (codes "sgpd") b.kind ≡ true) × FailsAs sgpd b f)
+    ⊎ ((bytes_eq (codes "sbgp") b.kind ≡ true) × GroupFails payload n at b f)
 
 pub record GroupsRead (stbl : Box) (n : ℕ) (at : GroupsAt) : Type 0 where
   pub so : GroupsSo stbl.payload n (tables_in stbl).groups at
   pub groups : AllOf (codes "sbgp") (IsReadable sbgp) (boxes_of stbl)
   pub described : AllOf (codes "sgpd") (IsSound sgpd) (boxes_of stbl)
 
--- The tables of an `stbl` that a check accepts: each leaf but `stsd` is sound, they keep all rules, and there is room for their samples.
+-- The tables of an `stbl` that a check accepts: each leaf but `stsd` is sound, they keep all rules,
+-- and there is room for their samples.
 pub record AreAccepted (l : Limits) (stbl : Box) (boxes : List Box) : Type 0 where
   pub sizes : AllOf (codes "stsz") (IsSound stsz) boxes
   pub compact : AllOf (codes "stz2") (IsSound stz2) boxes

@@ -16,7 +16,11 @@ abbrev pub run_of : List ℕ → ℕ × ℕ
 run_of row = (slice_index row 0, slice_index row 1)
 
 abbrev pub chunk_row_of : List ℕ → ChunkRow
-chunk_row_of row = record { first = slice_index row 0; count = slice_index row 1; description = slice_index row 2 }
+chunk_row_of row = record {
+  first = slice_index row 0;
+  count = slice_index row 1;
+  description = slice_index row 2;
+}
 
 -- rows of a count and a value: of `stts`, `ctts`, `sbgp`
 unfoldable pub runs_at : List ℕ → RowsAt → List (ℕ × ℕ)

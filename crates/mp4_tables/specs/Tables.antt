@@ -1,4 +1,5 @@
--- The tables of one track as plain values, and how they are read from the boxes of `stbl` (ISO/IEC 14496-12, 8.5 to 8.7).
+-- The tables of one track as plain values, and how they are read from the boxes of `stbl` (ISO/IEC
+-- 14496-12, 8.5 to 8.7).
 use Rattle.std.specs.Prelude.{ℕ, zero, suc, ◌/◌, ◌%◌, List, [], ◌∷◌, drop, map, Option, Some, None, option_map, ℤ, pos, replicate, slice_index, codes, ◌==◌, if◌then◌else◌}
 use Rattle.byteorder.specs.Endian.{twos_complement}
 use Rattle.mp4_boxes.specs.Bytes.{field, rows}
@@ -42,18 +43,21 @@ abbrev pub composition_offset : ℕ → ℕ → ℤ
 composition_offset v n = if v == 0 then pos n else twos_complement 4 n
 
 abbrev pub sizes_of : List ℕ → List ℕ
-sizes_of payload = if field payload 4 4 == 0 then map first_number (leaf_rows stsz payload) else replicate (sample_count payload) (field payload 4 4)
+sizes_of payload = if field payload 4 4 == 0 then map first_number (leaf_rows stsz payload)
+    else replicate (sample_count payload) (field payload 4 4)
 
 -- n half bytes, the high half of a byte first
 abbrev pub half_bytes : ℕ → List ℕ → List ℕ
 half_bytes zero bytes = []
 half_bytes (suc zero) bytes = field bytes 0 1 / 16 ∷ []
-half_bytes (suc (suc n)) bytes = field bytes 0 1 / 16 ∷ field bytes 0 1 % 16 ∷ half_bytes n (drop 1 bytes)
+half_bytes (suc (suc n)) bytes = field bytes 0 1 / 16 ∷ field bytes 0 1 % 16
+    ∷ half_bytes n (drop 1 bytes)
 
 abbrev pub compact_sizes_of : List ℕ → List ℕ
 compact_sizes_of payload =
     if size_bits payload == 4 then half_bytes (sample_count payload) (drop 12 payload)
-    else map first_number (rows (sample_count payload) (size_bits payload / 8 ∷ []) (drop 12 payload))
+    else map first_number
+    (rows (sample_count payload) (size_bits payload / 8 ∷ []) (drop 12 payload))
 
 -- of `stsz` where there is one, else of `stz2`
 abbrev pub sample_sizes_of : Option (List ℕ) → List ℕ → List ℕ
@@ -64,10 +68,16 @@ abbrev pub durations_of : List ℕ → List (ℕ × ℕ)
 durations_of payload = map (λ row. (slice_index row 0, slice_index row 1)) (leaf_rows stts payload)
 
 abbrev pub offsets_of : List ℕ → List (ℕ × ℤ)
-offsets_of payload = map (λ row. (slice_index row 0, composition_offset (version payload) (slice_index row 1))) (leaf_rows ctts payload)
+offsets_of payload =
+    map (λ row. (slice_index row 0, composition_offset (version payload) (slice_index row 1)))
+    (leaf_rows ctts payload)
 
 abbrev pub chunk_rows_of : List ℕ → List ChunkRow
-chunk_rows_of payload = map (λ row. record { first = slice_index row 0; count = slice_index row 1; description = slice_index row 2 }) (leaf_rows stsc payload)
+chunk_rows_of payload = map (λ row. record {
+  first = slice_index row 0;
+  count = slice_index row 1;
+  description = slice_index row 2;
+}) (leaf_rows stsc payload)
 
 -- of 32 bits where there is a `stco`, else of 64
 abbrev pub chunk_offsets_of : Option (List ℕ) → List ℕ → List ℕ
@@ -81,8 +91,10 @@ tables_of boxes = record {
   durations = durations_of (payload_of (codes "stts") boxes);
   offsets = option_map offsets_of (payload_if (codes "ctts") boxes);
   chunk_rows = chunk_rows_of (payload_of (codes "stsc") boxes);
-  chunk_offsets = chunk_offsets_of (payload_if (codes "stco") boxes) (payload_of (codes "co64") boxes);
-  sync = option_map (λ payload. map first_number (leaf_rows stss payload)) (payload_if (codes "stss") boxes);
+  chunk_offsets = chunk_offsets_of (payload_if (codes "stco") boxes)
+      (payload_of (codes "co64") boxes);
+  sync = option_map (λ payload. map first_number (leaf_rows stss payload))
+      (payload_if (codes "stss") boxes);
   dependencies = option_map (λ payload. drop 4 payload) (payload_if (codes "sdtp") boxes);
   groups = groupings_of (of_kind (codes "sbgp") boxes);
 }

@@ -22,7 +22,16 @@ place_of (negsuc n) = 0
 
 -- a sample with its decode time
 abbrev pub sample_at : List GroupKey → ℕ → PlacedSample → SampleAt
-sample_at keys dts s = record { dts = dts; duration = s.duration; cto = s.offset; flags = s.flags; description = s.description; at = place_of s.at; size = s.size; groups = indexes keys s.groups }
+sample_at keys dts s = record {
+  dts = dts;
+  duration = s.duration;
+  cto = s.offset;
+  flags = s.flags;
+  description = s.description;
+  at = place_of s.at;
+  size = s.size;
+  groups = indexes keys s.groups;
+}
 
 -- samples one after the other, from a decode time on
 abbrev pub timed : List GroupKey → ℕ → List PlacedSample → List SampleAt

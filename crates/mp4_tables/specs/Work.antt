@@ -11,4 +11,5 @@ rows_if (Some rows) = length rows
 
 -- the rows of all tables, beside sizes and bytes of `sdtp`, which are one a sample
 abbrev pub table_rows : Tables → ℕ
-table_rows t = length t.durations + rows_if t.offsets + length t.chunk_rows + length t.chunk_offsets + rows_if t.sync + sum_of (λ (g : Grouping). length g.rows) t.groups
+table_rows t = length t.durations + rows_if t.offsets + length t.chunk_rows + length t.chunk_offsets
+    + rows_if t.sync + sum_of (λ (g : Grouping). length g.rows) t.groups

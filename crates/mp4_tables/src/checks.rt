@@ -145,7 +145,8 @@ pub(crate) fn read_chunk_rows<L: Ledger>(
     requires chunks { ChunksRead (box_seen stbl) chunks }
     ensures rows { IfOk result (ChunkRowsRead limits (box_seen stbl.entry) n) }
     ensures fault { IfErr result (NamesFault limits (box_seen stbl.entry)) }
-    ensures only { AreAccepted limits (box_seen stbl.entry) (boxes_of (box_seen stbl.entry)) → IsOk result }
+    ensures only { AreAccepted limits (box_seen stbl.entry) (boxes_of (box_seen stbl.entry))
+        → IsOk result }
     ensures passed { IfOk result (λ r. steps.new ≤ steps.old + r.count + 4 * chunks.rows.count) }
     ensures work { 4 * steps.new ≤ 4 * steps.old + 5 * length (box_seen stbl.entry).payload }
 {
@@ -245,10 +246,14 @@ pub(crate) fn read_tables<L: Ledger>(
     requires { HasTables (box_seen stbl) }
     ensures tables { IfOk result (TablesRead limits (box_seen stbl.entry)) }
     ensures fault { IfErr result (NamesFault limits (box_seen stbl.entry)) }
-    ensures only { AreAccepted limits (box_seen stbl.entry) (boxes_of (box_seen stbl.entry)) → IsOk result }
-    ensures passed { IfOk result (λ at. steps.new ≤ steps.old + 6 * rows_in at + 2 * at.sizes.rows.count) }
-    ensures within { IfOk result (λ at. steps.new ≤ steps.old + 4 * length (box_seen stbl.entry).payload + 2 * at.sizes.rows.count) }
-    ensures work { steps.new ≤ steps.old + 4 * length (box_seen stbl.entry).payload + 2 * limits.room }
+    ensures only { AreAccepted limits (box_seen stbl.entry) (boxes_of (box_seen stbl.entry))
+        → IsOk result }
+    ensures passed { IfOk result (λ at. steps.new ≤ steps.old + 6 * rows_in at
+        + 2 * at.sizes.rows.count) }
+    ensures within { IfOk result (λ at. steps.new ≤ steps.old
+        + 4 * length (box_seen stbl.entry).payload + 2 * at.sizes.rows.count) }
+    ensures work { steps.new ≤ steps.old + 4 * length (box_seen stbl.entry).payload
+        + 2 * limits.room }
 {
     let sizes = read_sizes(stbl, limits)?;
     let n = sizes.rows.count;

@@ -1,7 +1,7 @@
 //! Chunks: which row of `stsc` each has and where its samples lie (ISO/IEC 14496-12, 8.7.4, 8.7.5).
-ghost use Rattle.std.specs.Prelude.{◌≡◌, ℕ, List, ◌+◌, ◌*◌, ◌^◌, ◌<◌, ◌≤◌, ◌∷◌, ◌==◌, drop, map, length, nat_lt, nat_eq, ◌||◌, true};
-ghost use Rattle.mp4_tables.specs.Rows.{HaveRoom, HaveSizes, chunk_rows_at, offsets_at, offset_width};
-ghost use Rattle.mp4_tables.specs.PlainSamples.{in_chunks, in_chunks_total};
+ghost use Rattle.std.specs.Prelude.{◌≡◌, ℕ, List, ◌+◌, ◌*◌, ◌^◌, ◌<◌, ◌≤◌, ◌∷◌, ◌==◌, map, nat_lt, nat_eq, ◌||◌, true};
+ghost use Rattle.mp4_tables.specs.Rows.{HaveRoom, chunk_rows_at, offsets_at, offset_width};
+ghost use Rattle.mp4_tables.specs.PlainSamples.{in_chunks_total};
 ghost use Rattle.mp4_tables.specs.TableRules.{is_chunk_order, is_index};
 ghost use Rattle.mp4_tables.specs.Coming.{IsRowPlace, spots_coming, no_spots, next_spot, IsChunkPlace};
 ghost use Rattle.mp4_tables.specs.Coming.{are_described as described_from};
@@ -47,8 +47,8 @@ pub(crate) fn next_row(payload: &[u8], rows: RowsAt, opened: u32, place: RowPlac
 }
 
 #[tactic(auto, using(crate::proofs::ChunkLists::rising))]
-// Whether the rows are in order: the first begins at chunk 1, if there are chunks, and each later one behind the
-// one before.
+// Whether the rows are in order: the first begins at chunk 1, if there are chunks, and each later
+// one behind the one before.
 pub(crate) fn are_ordered<L: Ledger>(
     payload: &[u8],
     rows: RowsAt,
@@ -56,7 +56,8 @@ pub(crate) fn are_ordered<L: Ledger>(
     steps: &mut Steps<L>,
 ) -> bool
     requires { HaveRoom 12 payload.now rows }
-    ensures same { result ≡ is_chunk_order (map (λ row. row.first) (chunk_rows_at payload.now rows)) has_chunks }
+    ensures same { result ≡ is_chunk_order (map (λ row. row.first) (chunk_rows_at payload.now rows))
+        has_chunks }
     ensures cost { steps.new ≤ steps.old + rows.count }
 {
     if rows.count == 0 {
@@ -89,8 +90,11 @@ pub(crate) fn chunk_counts_are<L: Ledger>(
 ) -> bool
     requires room { HaveRoom 12 payload.now rows }
     requires offsets { HaveRoom (offset_width chunks.is_wide) payload.now chunks.rows }
-    requires ordered { is_chunk_order (map (λ row. row.first) (chunk_rows_at payload.now rows)) (nat_lt 0 chunks.rows.count) ≡ true }
-    ensures same { result ≡ (in_chunks_total (chunk_rows_at payload.now rows) 1 (offsets_at payload.now chunks) == n) }
+    requires ordered { is_chunk_order (map (λ row. row.first) (chunk_rows_at payload.now rows))
+        (nat_lt 0 chunks.rows.count) ≡ true }
+    ensures same { result
+        ≡ (in_chunks_total (chunk_rows_at payload.now rows) 1 (offsets_at payload.now chunks) ==
+        n) }
     ensures cost { steps.new ≤ steps.old + 2 * chunks.rows.count }
 {
     let mut place = no_row();
@@ -123,8 +127,10 @@ pub(crate) fn are_described<L: Ledger>(
 ) -> bool
     requires room { HaveRoom 12 payload.now rows }
     requires offsets { HaveRoom (offset_width chunks.is_wide) payload.now chunks.rows }
-    requires ordered { is_chunk_order (map (λ row. row.first) (chunk_rows_at payload.now rows)) (nat_lt 0 chunks.rows.count) ≡ true }
-    ensures same { result ≡ described_from descriptions (chunk_rows_at payload.now rows) 1 (offsets_at payload.now chunks) }
+    requires ordered { is_chunk_order (map (λ row. row.first) (chunk_rows_at payload.now rows))
+        (nat_lt 0 chunks.rows.count) ≡ true }
+    ensures same { result ≡ described_from descriptions (chunk_rows_at payload.now rows) 1
+        (offsets_at payload.now chunks) }
     ensures cost { steps.new ≤ steps.old + 2 * chunks.rows.count }
 {
     let mut place = no_row();
@@ -145,12 +151,19 @@ pub(crate) fn are_described<L: Ledger>(
 pub(crate) fn open_chunk(payload: &[u8], rows: &RowsAt, chunks: &ChunksAt, place: &mut ChunkPlace)
     requires room { HaveRoom 12 payload.now rows.now }
     requires offsets { HaveRoom (offset_width chunks.now.is_wide) payload.now chunks.now.rows }
-    requires at { place.old.opened < chunks.now.rows.count → IsRowPlace (chunk_rows_at payload.now rows.now) place.old.opened place.old.row }
+    requires at { place.old.opened < chunks.now.rows.count
+        → IsRowPlace (chunk_rows_at payload.now rows.now) place.old.opened place.old.row }
     requires opened { place.old.opened ≤ chunks.now.rows.count }
     requires passed { place.old.row.row ≤ rows.now.count }
-    ensures same { spots_coming (chunk_rows_at payload.now rows.now) (offsets_at payload.now chunks.now) place.new ≡ spots_coming (chunk_rows_at payload.now rows.now) (offsets_at payload.now chunks.now) place.old }
-    ensures settled { place.new.left ≡ 0 → spots_coming (chunk_rows_at payload.now rows.now) (offsets_at payload.now chunks.now) place.new ≡ no_spots }
-    ensures at { place.new.opened < chunks.now.rows.count → IsRowPlace (chunk_rows_at payload.now rows.now) place.new.opened place.new.row }
+    ensures same { spots_coming (chunk_rows_at payload.now rows.now)
+        (offsets_at payload.now chunks.now) place.new
+        ≡ spots_coming (chunk_rows_at payload.now rows.now) (offsets_at payload.now chunks.now)
+        place.old }
+    ensures settled { place.new.left ≡ 0
+        → spots_coming (chunk_rows_at payload.now rows.now) (offsets_at payload.now chunks.now)
+        place.new ≡ no_spots }
+    ensures at { place.new.opened < chunks.now.rows.count
+        → IsRowPlace (chunk_rows_at payload.now rows.now) place.new.opened place.new.row }
     ensures opened { place.new.opened ≤ chunks.now.rows.count }
     ensures passed { place.new.row.row ≤ rows.now.count }
     ensures on { (place.old.opened ≤ place.new.opened) × (place.old.row.row ≤ place.new.row.row) }
@@ -171,8 +184,11 @@ pub(crate) fn open_chunk(payload: &[u8], rows: &RowsAt, chunks: &ChunksAt, place
 pub(crate) fn first_chunk(payload: &[u8], rows: RowsAt, chunks: ChunksAt) -> ChunkPlace
     requires room { HaveRoom 12 payload.now rows }
     requires offsets { HaveRoom (offset_width chunks.is_wide) payload.now chunks.rows }
-    requires ordered { is_chunk_order (map (λ row. row.first) (chunk_rows_at payload.now rows)) (nat_lt 0 chunks.rows.count) ≡ true }
-    ensures { (sizes : List ℕ) → IsChunkPlace (chunk_rows_at payload.now rows) (offsets_at payload.now chunks) sizes result 0 }
+    requires ordered { is_chunk_order (map (λ row. row.first) (chunk_rows_at payload.now rows))
+        (nat_lt 0 chunks.rows.count) ≡ true }
+    ensures { (sizes : List ℕ)
+        → IsChunkPlace (chunk_rows_at payload.now rows) (offsets_at payload.now chunks)
+        sizes result 0 }
 {
     let mut place = ChunkPlace {
         opened: 0,
@@ -196,15 +212,23 @@ pub(crate) fn pass_spot(
 )
     requires room { HaveRoom 12 payload.now rows.now }
     requires offsets { HaveRoom (offset_width chunks.now.is_wide) payload.now chunks.now.rows }
-    requires at { place.old.opened < chunks.now.rows.count → IsRowPlace (chunk_rows_at payload.now rows.now) place.old.opened place.old.row }
+    requires at { place.old.opened < chunks.now.rows.count
+        → IsRowPlace (chunk_rows_at payload.now rows.now) place.old.opened place.old.row }
     requires opened { place.old.opened ≤ chunks.now.rows.count }
     requires passed { place.old.row.row ≤ rows.now.count }
     requires some { 0 < place.old.left }
     requires fits { place.old.at + size < 2 ^ 64 }
-    ensures next { (sizes : List ℕ) → spots_coming (chunk_rows_at payload.now rows.now) (offsets_at payload.now chunks.now) place.old (size ∷ sizes)
-        ≡ next_spot place.old size ∷ spots_coming (chunk_rows_at payload.now rows.now) (offsets_at payload.now chunks.now) place.new sizes }
-    ensures settled { place.new.left ≡ 0 → spots_coming (chunk_rows_at payload.now rows.now) (offsets_at payload.now chunks.now) place.new ≡ no_spots }
-    ensures at { place.new.opened < chunks.now.rows.count → IsRowPlace (chunk_rows_at payload.now rows.now) place.new.opened place.new.row }
+    ensures next { (sizes : List ℕ)
+        → spots_coming (chunk_rows_at payload.now rows.now) (offsets_at payload.now chunks.now)
+        place.old (size ∷ sizes)
+        ≡ next_spot place.old size
+        ∷ spots_coming (chunk_rows_at payload.now rows.now) (offsets_at payload.now chunks.now)
+        place.new sizes }
+    ensures settled { place.new.left ≡ 0
+        → spots_coming (chunk_rows_at payload.now rows.now) (offsets_at payload.now chunks.now)
+        place.new ≡ no_spots }
+    ensures at { place.new.opened < chunks.now.rows.count
+        → IsRowPlace (chunk_rows_at payload.now rows.now) place.new.opened place.new.row }
     ensures opened { place.new.opened ≤ chunks.now.rows.count }
     ensures passed { place.new.row.row ≤ rows.now.count }
     ensures on { (place.old.opened ≤ place.new.opened) × (place.old.row.row ≤ place.new.row.row) }

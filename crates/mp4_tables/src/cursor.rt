@@ -5,7 +5,8 @@ use crate::tables::Tables;
 use crate::walk::{first_place, pass_place, sample_here};
 use std::marker::Model;
 
-/// The samples of tables from a place on. No step takes memory, and all steps together pass each row once.
+/// The samples of tables from a place on. No step takes memory, and all steps together pass each
+/// row once.
 #[derive(Drop)]
 pub struct TableCursor<'a> {
     payload: &'a [u8],
@@ -20,7 +21,10 @@ impl<'a> Model for TableCursor<'a> {
 
     ghost use Rattle.mp4_tables.specs.Accepted.{IsAccepted, IsPlace};
 
-    ghost view = { λ c. record { tables = record { payload = c.payload.now; at = c.at }; place = c.place } };
+    ghost view = { λ c. record {
+      tables = record { payload = c.payload.now; at = c.at };
+      place = c.place;
+    } };
 
     ghost invariant = { λ c. IsAccepted c.payload.now c.at × IsPlace c.payload.now c.at c.place };
 }
@@ -46,7 +50,8 @@ impl<'a> TableCursor<'a> {
     pub fn at(tables: &Tables<'a>, place: TablePlace) -> TableCursor<'a>
         requires { IsPlace tables.now.payload tables.now.at place }
         ensures is { result ≡ record { tables = tables.now; place = place } }
-        ensures count { length (samples_from result) ≡ length (tables_seen tables.now).sizes - place.number }
+        ensures count { length (samples_from result) ≡ length (tables_seen tables.now).sizes
+            - place.number }
     {
         let payload = tables.payload();
         let at = tables.places();

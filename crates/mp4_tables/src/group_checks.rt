@@ -42,7 +42,8 @@ fn grouping_type(payload: &[u8]) -> FourCc
 fn read_grouping(stbl: BoxView, leaf: BoxView) -> Result<(GroupKey, RowsAt), Fault>
     requires tables { HasTables (box_seen stbl) }
     requires child { IsChild (box_seen stbl) (box_seen leaf) }
-    ensures read { IfOk result (λ r. GroupRead (box_seen stbl.entry) (box_seen leaf.entry) (key_seen r.0) r.1) }
+    ensures read { IfOk result
+        (λ r. GroupRead (box_seen stbl.entry) (box_seen leaf.entry) (key_seen r.0) r.1) }
     ensures fault { IfErr result (FailsAs sbgp (box_seen leaf.entry)) }
 {
     let version = version_of(leaf, 1)?;
@@ -107,9 +108,12 @@ fn read_group<L: Ledger>(
 ) -> Result<GroupsAt, Fault>
     requires tables { HasTables (box_seen stbl) }
     requires child { IsChild (box_seen stbl) (box_seen leaf) }
-    ensures next { IfOk result (GroupNext (box_seen stbl.entry).payload n groups (box_seen leaf.entry)) }
-    ensures fault { IfErr result (GroupFails (box_seen stbl.entry).payload n groups (box_seen leaf.entry)) }
-    ensures passed { IfOk result (λ next. GroupPassed (box_seen stbl.entry).payload n groups next steps.old steps.new) }
+    ensures next { IfOk result
+        (GroupNext (box_seen stbl.entry).payload n groups (box_seen leaf.entry)) }
+    ensures fault { IfErr result
+        (GroupFails (box_seen stbl.entry).payload n groups (box_seen leaf.entry)) }
+    ensures passed { IfOk result
+        (λ next. GroupPassed (box_seen stbl.entry).payload n groups next steps.old steps.new) }
     ensures work { 4 * steps.new ≤ 4 * steps.old + length (box_seen stbl.entry).payload }
 {
     let (key, rows) = read_grouping(stbl, leaf)?;
@@ -139,9 +143,12 @@ fn read_child<L: Ledger>(
 ) -> Result<GroupsAt, Fault>
     requires tables { HasTables (box_seen stbl) }
     requires child { IsChild (box_seen stbl) (box_seen child) }
-    ensures next { IfOk result (ChildRead (box_seen stbl.entry).payload n groups (box_seen child.entry)) }
-    ensures fault { IfErr result (ChildFails (box_seen stbl.entry).payload n groups (box_seen child.entry)) }
-    ensures passed { IfOk result (λ next. GroupPassed (box_seen stbl.entry).payload n groups next steps.old steps.new) }
+    ensures next { IfOk result
+        (ChildRead (box_seen stbl.entry).payload n groups (box_seen child.entry)) }
+    ensures fault { IfErr result
+        (ChildFails (box_seen stbl.entry).payload n groups (box_seen child.entry)) }
+    ensures passed { IfOk result
+        (λ next. GroupPassed (box_seen stbl.entry).payload n groups next steps.old steps.new) }
     ensures work { 4 * steps.new ≤ 4 * steps.old + length (box_seen stbl.entry).payload }
 {
     if child.kind() == SBGP {

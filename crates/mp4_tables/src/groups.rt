@@ -1,8 +1,7 @@
 //! Sample groups: which index a sample has (ISO/IEC 14496-12, 8.9.2).
-ghost use Rattle.std.specs.Prelude.{◌≡◌, ◌+◌, ◌<◌, ◌≤◌, [], drop, slice_index, IsTrue};
+ghost use Rattle.std.specs.Prelude.{◌≡◌, ◌+◌, ◌≤◌, slice_index, IsTrue};
 ghost use Rattle.mp4_tables.specs.Repeated.{repeated};
 ghost use Rattle.mp4_tables.specs.Rows.{HaveRoom, runs_at};
-ghost use Rattle.mp4_tables.specs.Coming.{coming};
 ghost use Rattle.mp4_tables.specs.Accepted.{AreGroupPlaces, HaveGroups, IsRunPlaceAt, HaveGroup};
 
 use crate::places::{GroupPlaces, GroupsAt, RowsAt, RunPlace};
@@ -71,7 +70,8 @@ fn pass_index(payload: &[u8], rows: RowsAt, place: &mut RunPlace, number: u32)
 // Whether no index is left in hand: where there are no `sbgp`s, and behind their last rows.
 #[inline(always)]
 pub(crate) fn are_over(places: &GroupPlaces) -> bool
-    ensures { IsTrue result → (places.now.first.left ≡ 0) × (places.now.second.left ≡ 0) × (places.now.third.left ≡ 0) × (places.now.fourth.left ≡ 0) }
+    ensures { IsTrue result → (places.now.first.left ≡ 0) × (places.now.second.left ≡ 0)
+        × (places.now.third.left ≡ 0) × (places.now.fourth.left ≡ 0) }
 {
     places.first.left == 0
         && places.second.left == 0
@@ -86,7 +86,10 @@ fn pass_indexes(payload: &[u8], groups: &GroupsAt, places: &mut GroupPlaces, num
     requires have { HaveGroups payload.now groups.now }
     requires at { AreGroupPlaces payload.now groups.now places.old number }
     ensures at { AreGroupPlaces payload.now groups.now places.new (number + 1) }
-    ensures on { (places.old.first.row ≤ places.new.first.row) × (places.old.second.row ≤ places.new.second.row) × (places.old.third.row ≤ places.new.third.row) × (places.old.fourth.row ≤ places.new.fourth.row) }
+    ensures on { (places.old.first.row ≤ places.new.first.row)
+        × (places.old.second.row ≤ places.new.second.row)
+        × (places.old.third.row ≤ places.new.third.row)
+        × (places.old.fourth.row ≤ places.new.fourth.row) }
 {
     pass_index(payload, groups.first, &mut places.first, number);
     pass_index(payload, groups.second, &mut places.second, number);
@@ -100,7 +103,10 @@ pub(crate) fn pass_groups(payload: &[u8], groups: &GroupsAt, places: &mut GroupP
     requires have { HaveGroups payload.now groups.now }
     requires at { AreGroupPlaces payload.now groups.now places.old number }
     ensures at { AreGroupPlaces payload.now groups.now places.new (number + 1) }
-    ensures on { (places.old.first.row ≤ places.new.first.row) × (places.old.second.row ≤ places.new.second.row) × (places.old.third.row ≤ places.new.third.row) × (places.old.fourth.row ≤ places.new.fourth.row) }
+    ensures on { (places.old.first.row ≤ places.new.first.row)
+        × (places.old.second.row ≤ places.new.second.row)
+        × (places.old.third.row ≤ places.new.third.row)
+        × (places.old.fourth.row ≤ places.new.fourth.row) }
 {
     if are_over(places) {
         return;

@@ -28,7 +28,8 @@ impl GroupKey {
     ghost use Rattle.mp4_tables.specs.Groups.{key_rank};
     ghost use Rattle.mp4_tables.specs.Keys.{key_seen};
 
-    /// The order of keys: by the bytes of the type, then none before a parameter, then by the parameter.
+    /// The order of keys: by the bytes of the type, then none before a parameter, then by the
+    /// parameter.
     pub fn rank(&self) -> u128
         ensures { result ≡ key_rank (key_seen self.now) }
     {
@@ -67,7 +68,8 @@ impl Keys {
     /// The key at a place, from 0.
     pub fn key_at(&self, j: u8) -> GroupKey
         requires { j < length (keys_seen self.now) }
-        ensures { drop j (keys_seen self.now) ≡ key_seen result ∷ drop (j + 1) (keys_seen self.now) }
+        ensures { drop j (keys_seen self.now) ≡ key_seen result
+            ∷ drop (j + 1) (keys_seen self.now) }
     {
         self.named[j as usize]
     }

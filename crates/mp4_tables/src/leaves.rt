@@ -1,7 +1,6 @@
 //! The children of an `stbl`: which box is which table, and where its rows lie.
-ghost use Rattle.std.specs.Prelude.{◌≡◌, ◌+◌, ◌*◌, ◌-◌, ◌^◌, ◌<◌, ◌≤◌, length, List, [], ◌∷◌, IfOk, IfErr, IfSome, MatchOption};
+ghost use Rattle.std.specs.Prelude.{◌≡◌, ◌+◌, ◌*◌, ◌-◌, ◌^◌, ◌<◌, ◌≤◌, length, [], ◌∷◌, IfOk, IfErr, MatchOption};
 ghost use Rattle.mp4_boxes.specs.Bytes.{field};
-ghost use Rattle.mp4_boxes.specs.Box.{Box};
 ghost use Rattle.mp4_boxes.specs.BoxFaults.{fault_of};
 ghost use Rattle.mp4_boxes.specs.Children.{count_among};
 ghost use Rattle.mp4_boxes.specs.Layout.{version};
@@ -11,8 +10,8 @@ ghost use Rattle.mp4_tables.specs.Leaves.{boxes_of, HasTables, IsFirstOf, IsChil
 use crate::places::RowsAt;
 use mp4_boxes::{BoxView, Children, Fault, FourCc, Kind, children, u32_at};
 
-/// What the tables of a track are held against: the length of the file, the number of sample descriptions, and how
-/// many samples are still allowed.
+/// What the tables of a track are held against: the length of the file, the number of sample
+/// descriptions, and how many samples are still allowed.
 #[derive(Clone, Copy)]
 pub(crate) struct Limits {
     pub(crate) file_len: u64,
@@ -34,7 +33,8 @@ pub(crate) fn children_of<'a>(stbl: BoxView<'a>) -> Children<'a>
 // The first child of a type.
 pub(crate) fn first_of<'a>(stbl: BoxView<'a>, kind: FourCc) -> Option<BoxView<'a>>
     requires { HasTables (box_seen stbl) }
-    ensures { MatchOption result (count_among (kind.0 ∷ []) (boxes_of (box_seen stbl.entry)) ≡ 0) (λ b. IsFirstOf kind.0 (boxes_of (box_seen stbl.entry)) (box_seen b)) }
+    ensures { MatchOption result (count_among (kind.0 ∷ []) (boxes_of (box_seen stbl.entry)) ≡ 0)
+        (λ b. IsFirstOf kind.0 (boxes_of (box_seen stbl.entry)) (box_seen b)) }
 {
     for child in children_of(stbl) {
         if child.kind() == kind {
@@ -58,8 +58,10 @@ pub(crate) fn only_of<'a>(stbl: BoxView<'a>, kind: FourCc) -> BoxView<'a>
 
 // Where the payload of a child begins in that of its `stbl`.
 pub(crate) fn place_in(stbl: BoxView, leaf: BoxView) -> usize
-    requires { (box_seen stbl).offset + (box_seen stbl).header ≤ (box_seen leaf).offset + (box_seen leaf).header }
-    ensures { (box_seen stbl.entry).offset + (box_seen stbl.entry).header + result ≡ (box_seen leaf.entry).offset + (box_seen leaf.entry).header }
+    requires { (box_seen stbl).offset + (box_seen stbl).header ≤ (box_seen leaf).offset
+        + (box_seen leaf).header }
+    ensures { (box_seen stbl.entry).offset + (box_seen stbl.entry).header + result
+        ≡ (box_seen leaf.entry).offset + (box_seen leaf.entry).header }
 {
     (leaf.payload_offset() - stbl.payload_offset()) as usize
 }
@@ -88,14 +90,20 @@ pub(crate) fn version_of(leaf: BoxView, last: u8) -> Result<u8, Fault>
     Ok(payload[0])
 }
 
-// The rows of a leaf with a version, a count at the place `fields - 4`, and rows of so many bytes behind it.
+// The rows of a leaf with a version, a count at the place `fields - 4`, and rows of so many bytes
+// behind it.
 pub(crate) fn rows_of(stbl: BoxView, leaf: BoxView, fields: u8, width: u8) -> Result<RowsAt, Fault>
-    requires inside { (box_seen stbl).offset + (box_seen stbl).header ≤ (box_seen leaf).offset + (box_seen leaf).header }
-    requires fits { (box_seen leaf).offset + (box_seen leaf).header + length (box_seen leaf).payload < 2 ^ 64 }
+    requires inside { (box_seen stbl).offset + (box_seen stbl).header ≤ (box_seen leaf).offset
+        + (box_seen leaf).header }
+    requires fits { (box_seen leaf).offset + (box_seen leaf).header + length (box_seen leaf).payload
+        < 2 ^ 64 }
     requires count { 4 ≤ fields }
-    ensures count { IfOk result (λ r. r.count ≡ field (box_seen leaf.entry).payload (fields - 4) 4) }
-    ensures place { IfOk result (λ r. (box_seen stbl.entry).offset + (box_seen stbl.entry).header + r.place ≡ (box_seen leaf.entry).offset + (box_seen leaf.entry).header + fields) }
-    ensures room { IfOk result (λ r. fields + width * r.count ≤ length (box_seen leaf.entry).payload) }
+    ensures count { IfOk result (λ r. r.count
+        ≡ field (box_seen leaf.entry).payload (fields - 4) 4) }
+    ensures place { IfOk result (λ r. (box_seen stbl.entry).offset + (box_seen stbl.entry).header
+        + r.place ≡ (box_seen leaf.entry).offset + (box_seen leaf.entry).header + fields) }
+    ensures room { IfOk result (λ r. fields + width * r.count
+        ≤ length (box_seen leaf.entry).payload) }
     ensures fault { IfErr result (RowsFail fields width (box_seen leaf.entry)) }
 {
     let payload = leaf.payload();
@@ -113,7 +121,8 @@ pub(crate) fn rows_of(stbl: BoxView, leaf: BoxView, fields: u8, width: u8) -> Re
     })
 }
 
-// The rows of a leaf of at most this version, with a count behind the version and rows of so many bytes.
+// The rows of a leaf of at most this version, with a count behind the version and rows of so many
+// bytes.
 pub(crate) fn table_rows(stbl: BoxView, leaf: BoxView, last: u8, width: u8) -> Result<RowsAt, Fault>
     requires tables { HasTables (box_seen stbl) }
     requires child { IsChild (box_seen stbl) (box_seen leaf) }

@@ -1,4 +1,5 @@
-//! Where the rows of tables lie in the payload of their `stbl`, and how far a walk has come in them: plain numbers.
+//! Where the rows of tables lie in the payload of their `stbl`, and how far a walk has come in
+//! them: plain numbers.
 ghost use Rattle.std.specs.Prelude.{◌≡◌, ◌^◌, ◌<◌};
 
 use crate::keys::Keys;
@@ -71,7 +72,8 @@ pub struct TablesAt {
     pub(crate) groups: GroupsAt,
 }
 
-/// A place in rows that repeat a value: the value that comes `left` more times, and the row behind it.
+/// A place in rows that repeat a value: the value that comes `left` more times, and the row behind
+/// it.
 #[derive(Clone, Copy)]
 pub(crate) struct RunPlace {
     pub(crate) row: u32,
@@ -87,8 +89,8 @@ pub(crate) struct RowPlace {
     pub(crate) description: u32,
 }
 
-/// A place in the chunks: how many were opened, and of the last one its row, how many samples are left in it and
-/// where the next of them lies.
+/// A place in the chunks: how many were opened, and of the last one its row, how many samples are
+/// left in it and where the next of them lies.
 #[derive(Clone, Copy)]
 pub(crate) struct ChunkPlace {
     pub(crate) opened: u32,
@@ -97,7 +99,8 @@ pub(crate) struct ChunkPlace {
     pub(crate) at: u64,
 }
 
-/// A place in the rows of `stss`: the row of the next sync sample and its number, 0 where there is none.
+/// A place in the rows of `stss`: the row of the next sync sample and its number, 0 where there is
+/// none.
 #[derive(Clone, Copy)]
 pub(crate) struct SyncPlace {
     pub(crate) row: u32,
@@ -137,8 +140,8 @@ impl TablePlace {
     ghost use Rattle.std.specs.Prelude.{◌≡◌};
     ghost use Rattle.mp4_tables.specs.Accepted.{passed};
 
-    /// How many rows and samples a walk passed on its way here. It passes a size with each sample, and
-    /// a byte of `sdtp`.
+    /// How many rows and samples a walk passed on its way here. It passes a size with each sample,
+    /// and a byte of `sdtp`.
     pub fn passed(&self) -> u64
         ensures { result ≡ passed self.now }
     {

@@ -1,5 +1,5 @@
 //! Rows of tables, read from their bytes.
-ghost use Rattle.std.specs.Prelude.{◌≡◌, ◌+◌, ◌<◌, ◌∷◌, drop, length};
+ghost use Rattle.std.specs.Prelude.{◌≡◌, ◌+◌, ◌<◌, ◌∷◌, drop};
 ghost use Rattle.mp4_tables.specs.Rows.{HaveRoom, runs_at, chunk_rows_at, numbers_at, offsets_at, offset_width};
 
 use crate::places::{ChunksAt, RowsAt};
@@ -26,7 +26,8 @@ pub(crate) struct ChunkRow {
 pub(crate) fn run_at(payload: &[u8], rows: RowsAt, k: u32) -> Run
     requires room { HaveRoom 8 payload.now rows }
     requires inside { k < rows.count }
-    ensures { drop k (runs_at payload.now rows) ≡ (result.count, result.value) ∷ drop (k + 1) (runs_at payload.now rows) }
+    ensures { drop k (runs_at payload.now rows) ≡ (result.count, result.value)
+        ∷ drop (k + 1) (runs_at payload.now rows) }
 {
     let at = rows.place + 8 * k as usize;
     Run {
@@ -41,7 +42,9 @@ pub(crate) fn run_at(payload: &[u8], rows: RowsAt, k: u32) -> Run
 pub(crate) fn chunk_row_at(payload: &[u8], rows: RowsAt, k: u32) -> ChunkRow
     requires room { HaveRoom 12 payload.now rows }
     requires inside { k < rows.count }
-    ensures { drop k (chunk_rows_at payload.now rows) ≡ record { first = result.first; count = result.count; description = result.description } ∷ drop (k + 1) (chunk_rows_at payload.now rows) }
+    ensures { drop k (chunk_rows_at payload.now rows)
+        ≡ record { first = result.first; count = result.count; description = result.description }
+        ∷ drop (k + 1) (chunk_rows_at payload.now rows) }
 {
     let at = rows.place + 12 * k as usize;
     ChunkRow {
@@ -57,7 +60,8 @@ pub(crate) fn chunk_row_at(payload: &[u8], rows: RowsAt, k: u32) -> ChunkRow
 pub(crate) fn number_at(payload: &[u8], rows: RowsAt, k: u32) -> u32
     requires room { HaveRoom 4 payload.now rows }
     requires inside { k < rows.count }
-    ensures { drop k (numbers_at 4 payload.now rows) ≡ result ∷ drop (k + 1) (numbers_at 4 payload.now rows) }
+    ensures { drop k (numbers_at 4 payload.now rows) ≡ result
+        ∷ drop (k + 1) (numbers_at 4 payload.now rows) }
 {
     u32_at(payload, rows.place + 4 * k as usize)
 }
@@ -68,7 +72,8 @@ pub(crate) fn number_at(payload: &[u8], rows: RowsAt, k: u32) -> u32
 fn wide_at(payload: &[u8], rows: RowsAt, k: u32) -> u64
     requires room { HaveRoom 8 payload.now rows }
     requires inside { k < rows.count }
-    ensures { drop k (numbers_at 8 payload.now rows) ≡ result ∷ drop (k + 1) (numbers_at 8 payload.now rows) }
+    ensures { drop k (numbers_at 8 payload.now rows) ≡ result
+        ∷ drop (k + 1) (numbers_at 8 payload.now rows) }
 {
     u64_at(payload, rows.place + 8 * k as usize)
 }
@@ -78,7 +83,8 @@ fn wide_at(payload: &[u8], rows: RowsAt, k: u32) -> u64
 pub(crate) fn offset_at(payload: &[u8], chunks: ChunksAt, k: u32) -> u64
     requires room { HaveRoom (offset_width chunks.is_wide) payload.now chunks.rows }
     requires inside { k < chunks.rows.count }
-    ensures { drop k (offsets_at payload.now chunks) ≡ result ∷ drop (k + 1) (offsets_at payload.now chunks) }
+    ensures { drop k (offsets_at payload.now chunks) ≡ result
+        ∷ drop (k + 1) (offsets_at payload.now chunks) }
 {
     if chunks.is_wide {
         wide_at(payload, chunks.rows, k)

@@ -1,5 +1,5 @@
 //! Rows that repeat a value: `stts`, `ctts` and `sbgp` (ISO/IEC 14496-12, 8.6.1, 8.9.2).
-ghost use Rattle.std.specs.Prelude.{◌≡◌, ◌+◌, ◌<◌, ◌≤◌, ◌∷◌, ◌==◌, ◌↔◌, IsTrue, [], length};
+ghost use Rattle.std.specs.Prelude.{◌≡◌, ◌+◌, ◌<◌, ◌≤◌, ◌∷◌, ◌==◌, ◌↔◌, IsTrue, []};
 ghost use Rattle.mp4_tables.specs.Repeated.{total};
 ghost use Rattle.mp4_tables.specs.Rows.{HaveRoom, runs_at};
 ghost use Rattle.mp4_tables.specs.Coming.{coming, all_below};
@@ -81,7 +81,8 @@ pub(crate) fn are_below<L: Ledger>(
 pub(crate) fn settle(payload: &[u8], rows: RowsAt, place: RunPlace) -> RunPlace
     requires room { HaveRoom 8 payload.now rows }
     requires within { place.row ≤ rows.count }
-    ensures same { coming (runs_at payload.now rows) result ≡ coming (runs_at payload.now rows) place }
+    ensures same { coming (runs_at payload.now rows) result
+        ≡ coming (runs_at payload.now rows) place }
     ensures settled { result.left ≡ 0 → coming (runs_at payload.now rows) result ≡ [] }
     ensures within { result.row ≤ rows.count }
     ensures on { place.row ≤ result.row }
@@ -105,7 +106,8 @@ pub(crate) fn pass(payload: &[u8], rows: RowsAt, place: &mut RunPlace)
     requires room { HaveRoom 8 payload.now rows }
     requires within { place.old.row ≤ rows.count }
     requires some { 0 < place.old.left }
-    ensures next { coming (runs_at payload.now rows) place.old ≡ place.old.value ∷ coming (runs_at payload.now rows) place.new }
+    ensures next { coming (runs_at payload.now rows) place.old ≡ place.old.value
+        ∷ coming (runs_at payload.now rows) place.new }
     ensures settled { place.new.left ≡ 0 → coming (runs_at payload.now rows) place.new ≡ [] }
     ensures within { place.new.row ≤ rows.count }
     ensures on { place.old.row ≤ place.new.row }

@@ -1,5 +1,5 @@
 //! The box of sizes, read and judged: `stsz` or `stz2` (ISO/IEC 14496-12, 8.7.3).
-ghost use Rattle.std.specs.Prelude.{◌≡◌, ◌+◌, ◌*◌, ◌≤◌, [], ◌∷◌, codes, if◌then◌else◌, IfOk, IfErr, MatchOption, false};
+ghost use Rattle.std.specs.Prelude.{◌≡◌, ◌+◌, ◌*◌, [], ◌∷◌, codes, if◌then◌else◌, IfOk, IfErr, MatchOption, false};
 ghost use Rattle.std.specs.Int.{div_ceil};
 ghost use Rattle.mp4_boxes.specs.Children.{count_among};
 ghost use Rattle.mp4_boxes.specs.Layout.{is_size_bits};

@@ -31,9 +31,14 @@ pub(crate) fn lie_within<L: Ledger>(
     requires sizes { HaveSizes payload.now sizes.form sizes.rows }
     requires room { HaveRoom 12 payload.now rows }
     requires offsets { HaveRoom (offset_width chunks.is_wide) payload.now chunks.rows }
-    requires ordered { is_chunk_order (map (λ row. row.first) (chunk_rows_at payload.now rows)) (nat_lt 0 chunks.rows.count) ≡ true }
-    requires counts { in_chunks_total (chunk_rows_at payload.now rows) 1 (offsets_at payload.now chunks) ≡ sizes.rows.count }
-    ensures same { result ≡ all_lie_within file_len (in_chunks (chunk_rows_at payload.now rows) 1 (offsets_at payload.now chunks) (sizes_at payload.now sizes)) }
+    requires ordered { is_chunk_order (map (λ row. row.first) (chunk_rows_at payload.now rows))
+        (nat_lt 0 chunks.rows.count) ≡ true }
+    requires counts { in_chunks_total (chunk_rows_at payload.now rows) 1
+        (offsets_at payload.now chunks) ≡ sizes.rows.count }
+    ensures same { result
+        ≡ all_lie_within file_len
+        (in_chunks (chunk_rows_at payload.now rows) 1 (offsets_at payload.now chunks)
+        (sizes_at payload.now sizes)) }
     ensures cost { steps.new ≤ steps.old + 2 * sizes.rows.count + 2 * chunks.rows.count }
 {
     steps.add(2 * u64::from(chunks.rows.count));

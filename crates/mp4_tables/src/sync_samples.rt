@@ -1,7 +1,6 @@
 //! Sync samples: `stss` (ISO/IEC 14496-12, 8.6.2).
-ghost use Rattle.std.specs.Prelude.{◌≡◌, ◌+◌, ◌<◌, ◌≤◌, slice_index, Some, true};
+ghost use Rattle.std.specs.Prelude.{◌≡◌, ◌+◌, ◌<◌, ◌≤◌, slice_index, true};
 ghost use Rattle.mp4_tables.specs.Rows.{HaveRoom, numbers_at};
-ghost use Rattle.mp4_tables.specs.PlainSamples.{non_sync};
 ghost use Rattle.mp4_tables.specs.TableRules.{is_sync_order};
 ghost use Rattle.mp4_tables.specs.Coming.{IsSyncPlace};
 

@@ -39,9 +39,10 @@ impl<'a> Tables<'a> {
     ghost use Rattle.mp4_tables.specs.Views.{tables_seen};
     ghost use Rattle.mp4_tables.specs.Accepted.{IsAccepted, rows_in};
 
-    /// The tables of an `stbl` with the children of the profile, in a file of so many bytes, for a track with so many
-    /// descriptions, where so many samples are still allowed: if each has its shape and they agree with each other and
-    /// are in range; else what is wrong with them first. `keys` becomes the keys that the tables name.
+    /// The tables of an `stbl` with the children of the profile, in a file of so many bytes, for a
+    /// track with so many descriptions, where so many samples are still allowed: if each has its
+    /// shape and they agree with each other and are in range; else what is wrong with them first.
+    /// `keys` becomes the keys that the tables name.
     pub fn check<L: Ledger>(
         stbl: BoxView<'a>,
         file_len: u64,
@@ -52,12 +53,26 @@ impl<'a> Tables<'a> {
     ) -> Result<Tables<'a>, Fault>
         requires { HasTables (box_seen stbl) }
         ensures payload { IfOk result (λ t. t.payload ≡ (box_seen stbl.entry).payload) }
-        ensures tables { IfOk result (λ t. TablesRead (record { file_len = file_len; descriptions = descriptions; room = room }) (box_seen stbl.entry) t.at) }
-        ensures keys { IfOk result (λ _. keys_seen keys.new ≡ keys_after [] (tables_in (box_seen stbl.entry)).groups) }
-        ensures fault { IfErr result (NamesFault (record { file_len = file_len; descriptions = descriptions; room = room }) (box_seen stbl.entry)) }
-        ensures only { AreAccepted (record { file_len = file_len; descriptions = descriptions; room = room }) (box_seen stbl.entry) (boxes_of (box_seen stbl.entry)) → IsOk result }
-        ensures passed { IfOk result (λ t. steps.new ≤ steps.old + 6 * rows_in t.at + 2 * t.at.sizes.rows.count) }
-        ensures within { IfOk result (λ t. steps.new ≤ steps.old + 4 * length (box_seen stbl.entry).payload + 2 * t.at.sizes.rows.count) }
+        ensures tables { IfOk result
+            (λ t. TablesRead (record {
+              file_len = file_len;
+              descriptions = descriptions;
+              room = room;
+            }) (box_seen stbl.entry) t.at) }
+        ensures keys { IfOk result (λ _. keys_seen keys.new
+            ≡ keys_after [] (tables_in (box_seen stbl.entry)).groups) }
+        ensures fault { IfErr result
+            (NamesFault (record { file_len = file_len; descriptions = descriptions; room = room })
+            (box_seen stbl.entry)) }
+        ensures only { AreAccepted (record {
+          file_len = file_len;
+          descriptions = descriptions;
+          room = room;
+        }) (box_seen stbl.entry) (boxes_of (box_seen stbl.entry)) → IsOk result }
+        ensures passed { IfOk result (λ t. steps.new ≤ steps.old + 6 * rows_in t.at
+            + 2 * t.at.sizes.rows.count) }
+        ensures within { IfOk result (λ t. steps.new ≤ steps.old
+            + 4 * length (box_seen stbl.entry).payload + 2 * t.at.sizes.rows.count) }
         ensures work { steps.new ≤ steps.old + 4 * length (box_seen stbl.entry).payload + 2 * room }
     {
         let limits = Limits {
@@ -83,9 +98,14 @@ impl<'a> Tables<'a> {
 
     /// What the samples come to together. It passes each row of `stts` once, and each size.
     pub fn totals<L: Ledger>(&self, steps: &mut Steps<L>) -> Totals
-        ensures duration { result.duration ≡ min (sum_of (λ (s : SampleAt). s.duration) (samples_of (tables_seen self.now))) (2 ^ 64 - 1) }
-        ensures bytes { result.bytes ≡ min (sum_of (λ (s : SampleAt). s.size) (samples_of (tables_seen self.now))) (2 ^ 64 - 1) }
-        ensures work { steps.new ≤ steps.old + self.now.at.durations.count + self.now.at.sizes.rows.count }
+        ensures duration { result.duration
+            ≡ min (sum_of (λ (s : SampleAt). s.duration) (samples_of (tables_seen self.now)))
+            (2 ^ 64 - 1) }
+        ensures bytes { result.bytes
+            ≡ min (sum_of (λ (s : SampleAt). s.size) (samples_of (tables_seen self.now)))
+            (2 ^ 64 - 1) }
+        ensures work { steps.new ≤ steps.old + self.now.at.durations.count
+            + self.now.at.sizes.rows.count }
     {
         Totals {
             duration: sum_of_values(self.payload, self.at.durations, steps),

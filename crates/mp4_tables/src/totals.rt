@@ -10,8 +10,8 @@ use crate::sizes::size_at;
 use mp4_boxes::Steps;
 use std::sync::ledger::Ledger;
 
-/// What the samples of a track's tables come to: the sum of their durations, in units of the media's timescale, and of
-/// their sizes in bytes, each as far as 64 bits go.
+/// What the samples of a track's tables come to: the sum of their durations, in units of the
+/// media's timescale, and of their sizes in bytes, each as far as 64 bits go.
 #[derive(Clone, Copy, Debug, PartialEq, Eq)]
 pub struct Totals {
     pub duration: u64,
@@ -28,7 +28,8 @@ fn times(count: u32, value: u32) -> u64
 // The sum of the values that rows stand for, as far as 64 bits go.
 pub(crate) fn sum_of_values<L: Ledger>(payload: &[u8], rows: RowsAt, steps: &mut Steps<L>) -> u64
     requires { HaveRoom 8 payload.now rows }
-    ensures sum { result ≡ min (sum_of (λ (x : ℕ). x) (repeated (runs_at payload.now rows))) (2 ^ 64 - 1) }
+    ensures sum { result ≡ min (sum_of (λ (x : ℕ). x) (repeated (runs_at payload.now rows)))
+        (2 ^ 64 - 1) }
     ensures cost { steps.new ≤ steps.old + rows.count }
 {
     let mut sum: u64 = 0;

@@ -1,13 +1,12 @@
 //! A walk over the samples of tables, from place to place.
-ghost use Rattle.std.specs.Prelude.{◌≡◌, ◌+◌, ◌*◌, ◌^◌, ◌<◌, ◌≤◌, ◌∷◌, [], drop, length, slice_index, pos, option_map, true, nat_lt, map, if◌then◌else◌};
+ghost use Rattle.std.specs.Prelude.{◌≡◌, ◌+◌, ◌*◌, ◌<◌, ◌≤◌, ◌∷◌, drop, length, slice_index, option_map};
 ghost use Rattle.byteorder.specs.Endian.{twos_complement};
 ghost use Rattle.mp4_tables.specs.Rows.{HaveRoom, numbers_at, runs_at};
-ghost use Rattle.mp4_tables.specs.Coming.{IsRunPlace, IsSyncPlace};
+ghost use Rattle.mp4_tables.specs.Coming.{IsRunPlace};
 ghost use Rattle.mp4_tables.specs.PlainSamples.{non_sync};
 ghost use Rattle.mp4_tables.specs.Timed.{samples_of};
 ghost use Rattle.mp4_tables.specs.Accepted.{IsAccepted, IsPlace, HaveBytes, HaveOffsets, HaveSync, IsRunPlaceAt, IsSyncPlaceIn, AreInOrder, tables_at, bytes_at, bytes_for, passed, offset_values, flags_here, indexes_here, HaveGroups, AreGroupPlaces};
 ghost use Rattle.mp4_tables.specs.Accepted.{offset_rows as rows_of_offsets};
-ghost use Rattle.mp4_tables.specs.TableRules.{is_sync_order};
 
 use crate::chunks::{first_chunk, pass_spot};
 use crate::groups::{are_over, first_groups, index_here, pass_groups};
@@ -42,8 +41,10 @@ fn signed(value: u32) -> i32
 #[inline]
 fn dependency_at(payload: &[u8], dependencies: Option<BytesAt>, i: u32) -> u32
     requires have { HaveBytes payload.now dependencies }
-    requires inside { i < length (bytes_for (i + 1) (option_map (bytes_at payload.now) dependencies)) }
-    ensures is { result ≡ slice_index (bytes_for (i + 1) (option_map (bytes_at payload.now) dependencies)) i }
+    requires inside { i
+        < length (bytes_for (i + 1) (option_map (bytes_at payload.now) dependencies)) }
+    ensures is { result
+        ≡ slice_index (bytes_for (i + 1) (option_map (bytes_at payload.now) dependencies)) i }
     ensures small { result < 256 }
 {
     match dependencies {
@@ -106,7 +107,8 @@ pub(crate) fn sample_here(payload: &[u8], at: &TablesAt, place: &TablePlace) -> 
     requires ok { IsAccepted payload.now at.now }
     requires place { IsPlace payload.now at.now place.now }
     requires inside { place.now.number < at.now.sizes.rows.count }
-    ensures { drop place.now.number (samples_of (tables_at payload.now at.now)) ≡ result ∷ drop (place.now.number + 1) (samples_of (tables_at payload.now at.now)) }
+    ensures { drop place.now.number (samples_of (tables_at payload.now at.now)) ≡ result
+        ∷ drop (place.now.number + 1) (samples_of (tables_at payload.now at.now)) }
 {
     SampleAt {
         dts: place.dts,
@@ -161,7 +163,8 @@ pub(crate) fn pass_place(payload: &[u8], at: &TablesAt, place: &mut TablePlace)
 #[inline]
 fn first_offset(payload: &[u8], offsets: Option<OffsetsAt>, n: u32) -> RunPlace
     requires { HaveOffsets payload.now offsets }
-    ensures { IsRunPlace (runs_at payload.now (rows_of_offsets offsets)) result (offset_values payload.now offsets n) }
+    ensures { IsRunPlace (runs_at payload.now (rows_of_offsets offsets)) result
+        (offset_values payload.now offsets n) }
 {
     match offsets {
         Some(at) => settle(

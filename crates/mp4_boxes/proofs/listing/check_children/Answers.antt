@@ -40,7 +40,8 @@ pub returns-then-repeats-clause-fault : goal.returns-then-repeats-clause-fault
 returns-then-repeats-clause-fault c =
     let read = read_behind c.payload-bytes.result.now c.loop-at.at c.kind.result.0 (c.payload_offset-base.result + c.loop-at.at) (header_seen c.in_ok-header.header) c.in_ok-header.ensures in
     let again = sym c.repeats.ensures ∙ c.if-repeats.true in
-    rw c.new-then-repeats.ensures (inr (inr (inl (one_too_many c.args.rule (box_seen c.args.view) c.payload_offset-base.result c.payload-bytes.result.now c.loop-at.count c.loop-at.at (header_seen c.in_ok-header.header) c.payload_offset-base.ensures c.payload-bytes.ensures c.loop-at.invariant read again))))
+    rw c.new-then-repeats.ensures
+    (inr (inr (inl (one_too_many c.args.rule (box_seen c.args.view) c.payload_offset-base.result c.payload-bytes.result.now c.loop-at.count c.loop-at.at (header_seen c.in_ok-header.header) c.payload_offset-base.ensures c.payload-bytes.ensures c.loop-at.invariant read again))))
 
 pub returns-then-repeats-clause-only : goal.returns-then-repeats-clause-only
 returns-then-repeats-clause-only c boxes t = child_fault_refuses c.args.rule (box_container (box_seen c.args.view)) c.new-then-repeats.result boxes (returns-then-repeats-clause-fault c) t
@@ -62,7 +63,12 @@ lacks-requires-clause-has c = passed_has _ _ _ _ c.loop-at.invariant.passed
 
 pub returns-then-lacks-clause-fault : goal.returns-then-lacks-clause-fault
 returns-then-lacks-clause-fault c =
-    rw (c.new-then-lacks.ensures, c.kind-then-lacks.ensures, c.offset.ensures) (inr (inr (inr (one_missing c.args.rule (box_seen c.args.view) c.payload_offset-base.result c.payload-bytes.result.now c.loop-at.count c.loop-at.at c.payload_offset-base.ensures c.payload-bytes.ensures c.loop-at.invariant (search rules) (sym c.lacks.ensures ∙ c.if-lacks.true)))))
+    rw (
+      c.new-then-lacks.ensures,
+      c.kind-then-lacks.ensures,
+      c.offset.ensures,
+    )
+    (inr (inr (inr (one_missing c.args.rule (box_seen c.args.view) c.payload_offset-base.result c.payload-bytes.result.now c.loop-at.count c.loop-at.at c.payload_offset-base.ensures c.payload-bytes.ensures c.loop-at.invariant (search rules) (sym c.lacks.ensures ∙ c.if-lacks.true)))))
 
 pub returns-then-lacks-clause-only : goal.returns-then-lacks-clause-only
 returns-then-lacks-clause-only c boxes t = child_fault_refuses c.args.rule (box_container (box_seen c.args.view)) c.new-then-lacks.result boxes (returns-then-lacks-clause-fault c) t

@@ -85,7 +85,8 @@ returns-clause-sound g c =
     let before : to_z w128 (of_z w128 c.args.before) ≡ c.args.before = search rules in
     let kept : to_z w128 (of_z w128 c.in_ok-passed.passed.at) ≡ c.in_ok-passed.passed.at = search rules in
     let head : of_kind (codes "tfhd") boxes ≡ box_seen c.in-Some.tfhd ∷ [] = sym c.in_ok-heads.ensures.head ∙ ap (λ (o : Option BoxView). only_list (option_map box_seen o)) c.in-Some.is in
-    let known : trex_among c.args.tracks.now c.in-Ok.head.id ≡ Some c.in-Some-trex.trex = found_trex c.args.tracks.now c.in-Ok.head.id c.in-Some-find_track.k _ c.in-Some-trex.trex c.in-Some-find_track.ensures.inside c.in-Some-find_track.ensures.found (ap (λ t. t.trex) (sym c.index-tracks-k.is) ∙ c.in-Some-trex.is) in
+    let known : trex_among c.args.tracks.now c.in-Ok.head.id ≡ Some c.in-Some-trex.trex = found_trex c.args.tracks.now c.in-Ok.head.id c.in-Some-find_track.k _ c.in-Some-trex.trex c.in-Some-find_track.ensures.inside c.in-Some-find_track.ensures.found (ap (λ t. t.trex) (sym c.index-tracks-k.is)
+    ∙ c.in-Some-trex.is) in
     let times : AllByRecursion (λ (b : Box). IsSound tfdt b.payload) (of_kind (codes "tfdt") boxes) =
     elim c.match-heads-2.branch [
       | in-Some-time+in-Ok-read_time w ↦
@@ -117,8 +118,10 @@ returns-clause-moved g c =
           its_time _ boxes _ there (rw w.payload-in-Some-time.ensures at w.in-Ok-read_time.ensures.time) ∙ sym w.time-is
       | in-None w ↦ no_time boxes (sym c.in_ok-heads.ensures.time ∙ ap (λ (o : Option BoxView). only_list (option_map box_seen o)) w.in-None.is) ∙ sym w.time-is
     ] in
-    traf_moved c.args.moof c.in_ok-passed.passed.count c.in_ok-passed.passed.duration c.in_ok-passed.passed.bytes c.in-Some-find_track.k c.args.room.now c.check_runs.new.room c.args.before c.args.tracks.now _ c.index-tracks-k.result c.moved_on.result boxes (box_seen c.in-Some.tfhd) c.in-Ok.head c.in-Some-trex.trex c.what_is_inherited.result c.in_ok-keys.keys c.match-heads-2.time
-    head (rw c.payload.ensures at c.in-Ok.ensures.head) c.in-Some-find_track.ensures.inside c.in-Some-find_track.ensures.found c.in-Some-find_track.ensures.first c.index-tracks-k.is c.in-Some-trex.is c.what_is_inherited.ensures c.in_ok-passed.ensures.count c.in_ok-passed.ensures.lasting c.in_ok-passed.ensures.filling
+    traf_moved c.args.moof c.in_ok-passed.passed.count c.in_ok-passed.passed.duration c.in_ok-passed.passed.bytes c.in-Some-find_track.k c.args.room.now c.check_runs.new.room c.args.before c.args.tracks.now _ c.index-tracks-k.result c.moved_on.result boxes (box_seen c.in-Some.tfhd)
+    c.in-Ok.head c.in-Some-trex.trex c.what_is_inherited.result c.in_ok-keys.keys c.match-heads-2.time
+    head (rw c.payload.ensures at c.in-Ok.ensures.head)
+    c.in-Some-find_track.ensures.inside c.in-Some-find_track.ensures.found c.in-Some-find_track.ensures.first c.index-tracks-k.is c.in-Some-trex.is c.what_is_inherited.ensures c.in_ok-passed.ensures.count c.in_ok-passed.ensures.lasting c.in_ok-passed.ensures.filling
     c.in_ok-keys.ensures.sound c.in_ok-keys.ensures.keys (sym c.if-lacks_description.ensures) late time m.none m.some c.in_ok-passed.ensures.few
 
 pub returns-in_default-clause-fault : goal.returns-in_default-clause-fault
@@ -134,7 +137,8 @@ returns-in-Err-clause-fault g c =
 pub returns-in_default-find_track-clause-fault : goal.returns-in_default-find_track-clause-fault
 returns-in_default-find_track-clause-fault g c =
     let head = sym c.in_ok-heads.ensures.head ∙ ap (λ (o : Option BoxView). only_list (option_map box_seen o)) c.in-Some.is in
-    unknown_id c.args.file_len c.args.moof c.args.room.now c.args.before c.args.tracks.now (box_seen c.args.traf) (box_seen c.in-Some.tfhd) c.in-Ok.head _ c.in_ok-heads.ensures.holds head (rw c.payload.ensures at c.in-Ok.ensures.head) (c.in_default-find_track.ensures.none refl) c.fault-in_default-find_track.ensures
+    unknown_id c.args.file_len c.args.moof c.args.room.now c.args.before c.args.tracks.now (box_seen c.args.traf) (box_seen c.in-Some.tfhd) c.in-Ok.head _ c.in_ok-heads.ensures.holds head (rw c.payload.ensures at c.in-Ok.ensures.head) (c.in_default-find_track.ensures.none refl)
+    c.fault-in_default-find_track.ensures
 
 pub returns-in_default-trex-clause-fault : goal.returns-in_default-trex-clause-fault
 returns-in_default-trex-clause-fault g c =
@@ -153,18 +157,22 @@ returns-in_err-passed-clause-fault g c =
     let head = sym c.in_ok-heads.ensures.head ∙ ap (λ (o : Option BoxView). only_list (option_map box_seen o)) c.in-Some.is in
     let same : to_z w128 (of_z w128 c.base_of.result) ≡ c.base_of.result = search rules in
     let before : to_z w128 (of_z w128 c.args.before) ≡ c.args.before = search rules in
-    let o = opened c.args.moof c.in-Some-find_track.k c.args.before c.base_of.result c.args.tracks.now _ c.index-tracks-k.result (box_seen c.args.traf) (box_seen c.in-Some.tfhd) c.in-Ok.head c.in-Some-trex.trex c.what_is_inherited.result c.in_ok-heads.ensures.holds head (rw c.payload.ensures at c.in-Ok.ensures.head)
+    let o = opened c.args.moof c.in-Some-find_track.k c.args.before c.base_of.result c.args.tracks.now _ c.index-tracks-k.result (box_seen c.args.traf) (box_seen c.in-Some.tfhd) c.in-Ok.head c.in-Some-trex.trex c.what_is_inherited.result c.in_ok-heads.ensures.holds head
+    (rw c.payload.ensures at c.in-Ok.ensures.head)
     c.in-Some-find_track.ensures.inside c.in-Some-find_track.ensures.found c.index-tracks-k.is c.in-Some-trex.is (rw before at c.base_of.ensures.is) c.what_is_inherited.ensures in
-    rw (p.1, p.2) (runs_refused c.args.file_len c.args.moof c.args.room.now c.args.before c.base_of.result c.args.tracks.now (box_seen c.args.traf) (box_seen c.in-Some.tfhd) c.index-tracks-k.result c.in-Some-trex.trex c.what_is_inherited.result c.in_err-passed.field-0.0 o ((rw same at c.in_err-passed.ensures.fault) c.in_ok-heads.ensures.holds.tiles))
+    rw (p.1, p.2) (runs_refused c.args.file_len c.args.moof c.args.room.now c.args.before c.base_of.result c.args.tracks.now (box_seen c.args.traf) (box_seen c.in-Some.tfhd) c.index-tracks-k.result c.in-Some-trex.trex c.what_is_inherited.result c.in_err-passed.field-0.0 o
+    ((rw same at c.in_err-passed.ensures.fault) c.in_ok-heads.ensures.holds.tiles))
 
 pub returns-then-lacks_description-clause-fault : goal.returns-then-lacks_description-clause-fault
 returns-then-lacks_description-clause-fault g c =
     let head = sym c.in_ok-heads.ensures.head ∙ ap (λ (o : Option BoxView). only_list (option_map box_seen o)) c.in-Some.is in
     let same : to_z w128 (of_z w128 c.base_of.result) ≡ c.base_of.result = search rules in
     let before : to_z w128 (of_z w128 c.args.before) ≡ c.args.before = search rules in
-    let o = opened c.args.moof c.in-Some-find_track.k c.args.before c.base_of.result c.args.tracks.now _ c.index-tracks-k.result (box_seen c.args.traf) (box_seen c.in-Some.tfhd) c.in-Ok.head c.in-Some-trex.trex c.what_is_inherited.result c.in_ok-heads.ensures.holds head (rw c.payload.ensures at c.in-Ok.ensures.head)
+    let o = opened c.args.moof c.in-Some-find_track.k c.args.before c.base_of.result c.args.tracks.now _ c.index-tracks-k.result (box_seen c.args.traf) (box_seen c.in-Some.tfhd) c.in-Ok.head c.in-Some-trex.trex c.what_is_inherited.result c.in_ok-heads.ensures.holds head
+    (rw c.payload.ensures at c.in-Ok.ensures.head)
     c.in-Some-find_track.ensures.inside c.in-Some-find_track.ensures.found c.index-tracks-k.is c.in-Some-trex.is (rw before at c.base_of.ensures.is) c.what_is_inherited.ensures in
-    description_refused c.args.file_len c.args.moof c.args.room.now c.in_ok-passed.passed.count c.args.before c.base_of.result c.args.tracks.now (box_seen c.args.traf) (box_seen c.in-Some.tfhd) c.index-tracks-k.result c.in-Some-trex.trex c.what_is_inherited.result _ o (rw same at c.in_ok-passed.ensures.sound) c.in_ok-passed.ensures.count (sym c.if-lacks_description.ensures) c.fault-then-lacks_description.ensures
+    description_refused c.args.file_len c.args.moof c.args.room.now c.in_ok-passed.passed.count c.args.before c.base_of.result c.args.tracks.now (box_seen c.args.traf) (box_seen c.in-Some.tfhd) c.index-tracks-k.result c.in-Some-trex.trex c.what_is_inherited.result _ o
+    (rw same at c.in_ok-passed.ensures.sound) c.in_ok-passed.ensures.count (sym c.if-lacks_description.ensures) c.fault-then-lacks_description.ensures
 
 pub returns-in_err-keys-clause-fault : goal.returns-in_err-keys-clause-fault
 returns-in_err-keys-clause-fault g c =
@@ -172,9 +180,11 @@ returns-in_err-keys-clause-fault g c =
     let head = sym c.in_ok-heads.ensures.head ∙ ap (λ (o : Option BoxView). only_list (option_map box_seen o)) c.in-Some.is in
     let same : to_z w128 (of_z w128 c.base_of.result) ≡ c.base_of.result = search rules in
     let before : to_z w128 (of_z w128 c.args.before) ≡ c.args.before = search rules in
-    let o = opened c.args.moof c.in-Some-find_track.k c.args.before c.base_of.result c.args.tracks.now _ c.index-tracks-k.result (box_seen c.args.traf) (box_seen c.in-Some.tfhd) c.in-Ok.head c.in-Some-trex.trex c.what_is_inherited.result c.in_ok-heads.ensures.holds head (rw c.payload.ensures at c.in-Ok.ensures.head)
+    let o = opened c.args.moof c.in-Some-find_track.k c.args.before c.base_of.result c.args.tracks.now _ c.index-tracks-k.result (box_seen c.args.traf) (box_seen c.in-Some.tfhd) c.in-Ok.head c.in-Some-trex.trex c.what_is_inherited.result c.in_ok-heads.ensures.holds head
+    (rw c.payload.ensures at c.in-Ok.ensures.head)
     c.in-Some-find_track.ensures.inside c.in-Some-find_track.ensures.found c.index-tracks-k.is c.in-Some-trex.is (rw before at c.base_of.ensures.is) c.what_is_inherited.ensures in
-    rw (p.1, p.2) (groups_refused c.args.file_len c.args.moof c.args.room.now c.in_ok-passed.passed.count c.args.before c.base_of.result c.args.tracks.now (box_seen c.args.traf) (box_seen c.in-Some.tfhd) c.index-tracks-k.result c.in-Some-trex.trex c.what_is_inherited.result c.in_err-keys.field-0.0 o (rw same at c.in_ok-passed.ensures.sound) c.in_ok-passed.ensures.count (c.in_err-keys.ensures.fault c.in_ok-heads.ensures.holds.tiles))
+    rw (p.1, p.2) (groups_refused c.args.file_len c.args.moof c.args.room.now c.in_ok-passed.passed.count c.args.before c.base_of.result c.args.tracks.now (box_seen c.args.traf) (box_seen c.in-Some.tfhd) c.index-tracks-k.result c.in-Some-trex.trex c.what_is_inherited.result c.in_err-keys.field-0.0 o
+    (rw same at c.in_ok-passed.ensures.sound) c.in_ok-passed.ensures.count (c.in_err-keys.ensures.fault c.in_ok-heads.ensures.holds.tiles))
 
 pub returns-then-is_late-clause-fault : goal.returns-then-is_late-clause-fault
 returns-then-is_late-clause-fault g c =
@@ -197,6 +207,8 @@ returns-then-is_late-clause-fault g c =
     let head = sym c.in_ok-heads.ensures.head ∙ ap (λ (o : Option BoxView). only_list (option_map box_seen o)) c.in-Some.is in
     let same : to_z w128 (of_z w128 c.base_of.result) ≡ c.base_of.result = search rules in
     let before : to_z w128 (of_z w128 c.args.before) ≡ c.args.before = search rules in
-    let o = opened c.args.moof c.in-Some-find_track.k c.args.before c.base_of.result c.args.tracks.now _ c.index-tracks-k.result (box_seen c.args.traf) (box_seen c.in-Some.tfhd) c.in-Ok.head c.in-Some-trex.trex c.what_is_inherited.result c.in_ok-heads.ensures.holds head (rw c.payload.ensures at c.in-Ok.ensures.head)
+    let o = opened c.args.moof c.in-Some-find_track.k c.args.before c.base_of.result c.args.tracks.now _ c.index-tracks-k.result (box_seen c.args.traf) (box_seen c.in-Some.tfhd) c.in-Ok.head c.in-Some-trex.trex c.what_is_inherited.result c.in_ok-heads.ensures.holds head
+    (rw c.payload.ensures at c.in-Ok.ensures.head)
     c.in-Some-find_track.ensures.inside c.in-Some-find_track.ensures.found c.index-tracks-k.is c.in-Some-trex.is (rw before at c.base_of.ensures.is) c.what_is_inherited.ensures in
-    time_refused c.args.file_len c.args.moof c.args.room.now c.in_ok-passed.passed.count c.args.before c.base_of.result c.args.tracks.now (box_seen c.args.traf) (box_seen c.in-Some.tfhd) (box_seen c.in-Some-time-2.tfdt) c.index-tracks-k.result c.in-Some-trex.trex c.what_is_inherited.result c.match-heads-2.time _ o (rw same at c.in_ok-passed.ensures.sound) c.in_ok-passed.ensures.count c.in_ok-keys.ensures.sound there times time (sym c.if-is_late.ensures) c.fault-then-is_late.ensures
+    time_refused c.args.file_len c.args.moof c.args.room.now c.in_ok-passed.passed.count c.args.before c.base_of.result c.args.tracks.now (box_seen c.args.traf) (box_seen c.in-Some.tfhd) (box_seen c.in-Some-time-2.tfdt)
+    c.index-tracks-k.result c.in-Some-trex.trex c.what_is_inherited.result c.match-heads-2.time _ o (rw same at c.in_ok-passed.ensures.sound) c.in_ok-passed.ensures.count c.in_ok-keys.ensures.sound there times time (sym c.if-is_late.ensures) c.fault-then-is_late.ensures

@@ -51,7 +51,8 @@ loop-k-preserved g c =
       end = c.loop-k.invariant.end ∙ end_step _ _ _ (row_seen c.args.run c.row_of-row.result) _ _ c.row_of-row.ensures.row (again ∙ moved);
       lasts = lasts_on _ _ _ _ _ _ c.loop-k.invariant.lasts (lasting_step _ (row_seen c.args.run c.row_of-row.result) _ _ c.row_of-row.ensures.row) (c.from.ensures ∙ c.unwrap_or-duration.ensures);
       fills = lasts_on _ _ _ _ _ _ c.loop-k.invariant.fills (filling_step _ (row_seen c.args.run c.row_of-row.result) _ _ c.row_of-row.ensures.row) (c.from-in-loop-k.ensures ∙ size);
-      large = rw c.is_too_large.ensures (or_before c.loop-k.samples.are_large (too_large (c.row_of-row.result.offset ∷ [])) (too_large (offsets_left c.args.payload.now c.args.run (c.loop-k.k + 1))) _ (c.loop-k.invariant.large ∙ ap (λ b. c.loop-k.samples.are_large || b) (large_step _ _ _ c.row_of-row.ensures.offset)));
+      large = rw c.is_too_large.ensures (or_before c.loop-k.samples.are_large (too_large (c.row_of-row.result.offset ∷ [])) (too_large (offsets_left c.args.payload.now c.args.run (c.loop-k.k + 1))) _ (c.loop-k.invariant.large
+          ∙ ap (λ b. c.loop-k.samples.are_large || b) (large_step _ _ _ c.row_of-row.ensures.offset)));
       are_within = search rules;
       near = rw again nearby;
       short = search rules;

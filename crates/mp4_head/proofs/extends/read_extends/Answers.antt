@@ -30,12 +30,17 @@ returns-then-not-branch-clause-refusal c =
     let h : Holds kinds.MovieExtends (box_container (box_seen c.args.mvex)) c.into_iter-child-iterator.result = rw c.into_iter-child-iterator.ensures.into_iter_gives c.in_ok-child-items.ensures.holds in
     let k : bytes_eq (codes "trex") (box_seen c.in-Some.child).kind ≡ true = sym c.is.ensures ∙ c.if-is.true in
     rw c.from.ensures
-    (extends_taken (box_seen c.args.mvex) _ c.loop-child.child-iterator c.next.new.self (box_seen c.in-Some.child) _ _ c.in_ok-trex.trex c.fault.result h c.loop-child.invariant.2 c.in-Some.ensures.steps k c.in_ok-trex.ensures.sound c.in_ok-trex.ensures.says (was_there c.in_ok-insert.field-0 _ c.in_ok-insert.ensures.added c.if-not-branch.true) c.fault.ensures)
+    (extends_taken (box_seen c.args.mvex) _ c.loop-child.child-iterator c.next.new.self (box_seen c.in-Some.child) _ _ c.in_ok-trex.trex c.fault.result h c.loop-child.invariant.2 c.in-Some.ensures.steps k c.in_ok-trex.ensures.sound c.in_ok-trex.ensures.says
+    (was_there c.in_ok-insert.field-0 _ c.in_ok-insert.ensures.added c.if-not-branch.true) c.fault.ensures)
 
 pub loop-child-preserved-in_ok-push : goal.loop-child-preserved-in_ok-push
 loop-child-preserved-in_ok-push c =
-    let k : bytes_eq (codes "trex") (box_seen c.in-Some.child).kind ≡ true = sym c.is.ensures ∙ c.if-is.true in
-    (tt, tt, extends_this _ c.loop-child.child-iterator c.next.new.self (box_seen c.in-Some.child) _ _ _ _ c.in_ok-trex.trex c.loop-child.invariant.2 c.in-Some.ensures.steps k c.in_ok-trex.ensures.sound c.in_ok-trex.ensures.says (record { new_there = was_not_there c.in_ok-insert.field-0 _ c.in_ok-insert.ensures.added c.if-not-branch.false; added = c.in_ok-insert.ensures.updates }) c.in_ok-push.ensures.items)
+    let k : bytes_eq (codes "trex") (box_seen c.in-Some.child).kind ≡ true = sym c.is.ensures ∙ c.if-is.true in (
+      tt,
+      tt,
+      extends_this _ c.loop-child.child-iterator c.next.new.self (box_seen c.in-Some.child) _ _ _ _ c.in_ok-trex.trex c.loop-child.invariant.2 c.in-Some.ensures.steps k c.in_ok-trex.ensures.sound c.in_ok-trex.ensures.says
+          (record { new_there = was_not_there c.in_ok-insert.field-0 _ c.in_ok-insert.ensures.added c.if-not-branch.false; added = c.in_ok-insert.ensures.updates }) c.in_ok-push.ensures.items,
+    )
 
 pub loop-child-preserved : goal.loop-child-preserved
 loop-child-preserved c =

@@ -29,7 +29,8 @@ returns-in_err-check_data_information-clause-refusal c =
     let p = err_from_is_err_and c.from_residual-in_err-check_data_information.result c.from_residual-in_err-check_data_information.ensures.1 in
     let h : Holds kinds.MediaInformation (box_container (box_seen c.args.minf)) c.into_iter-child-iterator.result = rw c.into_iter-child-iterator.ensures.into_iter_gives c.in_ok-child-items.ensures.holds in
     let k : bytes_eq (codes "dinf") (box_seen c.in-Some.child).kind ≡ true = sym c.is.ensures ∙ c.if-is.true in
-    rw (p.1, p.2) (information_data_refuse (box_seen c.args.minf) _ c.loop-child.child-iterator c.next.new.self (box_seen c.in-Some.child) _ _ (refusals.Fault c.in_err-check_data_information.field-0.0) h c.loop-child.invariant.2 c.in-Some.ensures.steps k c.in_err-check_data_information.ensures.fault)
+    rw (p.1, p.2)
+    (information_data_refuse (box_seen c.args.minf) _ c.loop-child.child-iterator c.next.new.self (box_seen c.in-Some.child) _ _ (refusals.Fault c.in_err-check_data_information.field-0.0) h c.loop-child.invariant.2 c.in-Some.ensures.steps k c.in_err-check_data_information.ensures.fault)
 
 pub returns-in_err-read_sample_table-clause-refusal : goal.returns-in_err-read_sample_table-clause-refusal
 returns-in_err-read_sample_table-clause-refusal c =

@@ -100,4 +100,5 @@ returns-in_default-information-clause-refusal c =
 pub returns-clause-says : goal.returns-clause-says
 returns-clause-says c =
     let h : Holds kinds.Media (box_container (box_seen c.args.mdia)) c.into_iter-child-iterator.result = rw c.into_iter-child-iterator.ensures.into_iter_gives c.in_ok-child-items.ensures.holds in
-    media_said (box_seen c.args.mdia) _ c.loop-child.child-iterator c.loop-child.header c.loop-child.handler _ c.loop-child.information c.in-Some-header.header c.in-Some-handler.handler c.in-Some-information.information h c.loop-child.invariant.2 c.in-None.ensures.steps.0 (search rules) (search rules) (search rules)
+    media_said (box_seen c.args.mdia) _ c.loop-child.child-iterator c.loop-child.header c.loop-child.handler _ c.loop-child.information c.in-Some-header.header c.in-Some-handler.handler c.in-Some-information.information h c.loop-child.invariant.2 c.in-None.ensures.steps.0 (search rules)
+    (search rules) (search rules)

@@ -65,8 +65,12 @@ loop-child-preserved-in_ok-push-2 c =
     let h : Holds kinds.Movie (box_container (box_seen c.args.moov)) c.into_iter-child-iterator.result = rw c.into_iter-child-iterator.ensures.into_iter_gives c.in_ok-child-items.ensures.holds in
     let n0 : bytes_eq (codes "mvhd") (box_seen c.in-Some.child).kind ≡ false = sym c.is.ensures ∙ c.if-is.false in
     let n1 : is_among (kept_kinds kinds.Movie) (box_seen c.in-Some.child).kind ≡ false = sym c.is_kept.ensures ∙ c.if-is_kept.false in
-    let k : bytes_eq (codes "trak") (box_seen c.in-Some.child).kind ≡ true = sym c.is-else-is_kept.ensures ∙ c.if-is-2.true in
-    (tt, tt, movie_track (box_seen c.args.moov) _ c.loop-child.child-iterator c.next.new.self (box_seen c.in-Some.child) _ _ _ _ _ h c.loop-child.invariant.2 c.in-Some.ensures.steps _ c.in_ok-read_track.field-0 _ n0 n1 k (record { says = c.in_ok-read_track.ensures.says }) c.in_ok-read_track.ensures.added c.in_ok-push-2.ensures.items)
+    let k : bytes_eq (codes "trak") (box_seen c.in-Some.child).kind ≡ true = sym c.is-else-is_kept.ensures ∙ c.if-is-2.true in (
+      tt,
+      tt,
+      movie_track (box_seen c.args.moov) _ c.loop-child.child-iterator c.next.new.self (box_seen c.in-Some.child) _ _ _ _ _ h c.loop-child.invariant.2 c.in-Some.ensures.steps _ c.in_ok-read_track.field-0 _ n0 n1 k (record { says = c.in_ok-read_track.ensures.says })
+          c.in_ok-read_track.ensures.added c.in_ok-push-2.ensures.items,
+    )
 
 pub returns-in_err-trexes-clause-fault : goal.returns-in_err-trexes-clause-fault
 returns-in_err-trexes-clause-fault c =

@@ -17,8 +17,12 @@ loop-entry-init c = (tt, tt, rw c.new-descriptions.ensures.items (descriptions_n
 
 pub loop-entry-preserved : goal.loop-entry-preserved
 loop-entry-preserved c =
-    let e = c.in_ok-read_description.ensures in
-    (tt, tt, descriptions_more _ c.loop-entry.entry-iterator c.next.new.self (box_seen c.in-Some.entry) _ _ _ c.loop-entry.invariant.2 c.in-Some.ensures.steps e.sound e.says (ap (map description_seen) c.in_ok-push.ensures.items ∙ map-append description_seen c.loop-entry.descriptions.items (c.in_ok-read_description.field-0 ∷ [])))
+    let e = c.in_ok-read_description.ensures in (
+      tt,
+      tt,
+      descriptions_more _ c.loop-entry.entry-iterator c.next.new.self (box_seen c.in-Some.entry) _ _ _ c.loop-entry.invariant.2 c.in-Some.ensures.steps e.sound e.says (ap (map description_seen) c.in_ok-push.ensures.items
+          ∙ map-append description_seen c.loop-entry.descriptions.items (c.in_ok-read_description.field-0 ∷ [])),
+    )
 
 pub returns-in_err-read_description-clause-refusal : goal.returns-in_err-read_description-clause-refusal
 returns-in_err-read_description-clause-refusal c =

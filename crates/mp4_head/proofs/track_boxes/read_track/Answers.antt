@@ -32,8 +32,12 @@ returns-in_err-read_new_track_header-clause-refusal c =
 pub loop-child-preserved-then-is : goal.loop-child-preserved-then-is
 loop-child-preserved-then-is c =
     let h : Holds kinds.Track (box_container (box_seen c.args.trak)) c.into_iter-child-iterator.result = rw c.into_iter-child-iterator.ensures.into_iter_gives c.in_ok-child-items.ensures.holds in
-    let k : bytes_eq (codes "tkhd") (box_seen c.in-Some.child).kind ≡ true = sym c.is.ensures ∙ c.if-is.true in
-    (tt, tt, track_header (box_seen c.args.trak) _ _ c.loop-child.child-iterator c.next.new.self (box_seen c.in-Some.child) _ _ _ _ _ h c.loop-child.invariant.2 c.in-Some.ensures.steps _ _ k c.in_ok-read_new_track_header.ensures.sound (record { says = c.in_ok-read_new_track_header.ensures.says; offset = c.offset.ensures }) c.in_ok-read_new_track_header.ensures.added)
+    let k : bytes_eq (codes "tkhd") (box_seen c.in-Some.child).kind ≡ true = sym c.is.ensures ∙ c.if-is.true in (
+      tt,
+      tt,
+      track_header (box_seen c.args.trak) _ _ c.loop-child.child-iterator c.next.new.self (box_seen c.in-Some.child) _ _ _ _ _ h c.loop-child.invariant.2 c.in-Some.ensures.steps _ _ k c.in_ok-read_new_track_header.ensures.sound
+          (record { says = c.in_ok-read_new_track_header.ensures.says; offset = c.offset.ensures }) c.in_ok-read_new_track_header.ensures.added,
+    )
 
 pub returns-in_err-edits-clause-refusal : goal.returns-in_err-edits-clause-refusal
 returns-in_err-edits-clause-refusal c =
@@ -103,7 +107,8 @@ returns-in_default-clause-refusal c =
 pub returns-clause-says : goal.returns-clause-says
 returns-clause-says c =
     let h : Holds kinds.Track (box_container (box_seen c.args.trak)) c.into_iter-child-iterator.result = rw c.into_iter-child-iterator.ensures.into_iter_gives c.in_ok-child-items.ensures.holds in
-    track_said (box_seen c.args.trak) _ _ c.loop-child.child-iterator _ c.loop-child.header _ _ c.loop-child.media (c.in-Some-Some.header, c.in-Some-Some.offset) c.in-Some-Some.media h c.loop-child.invariant.2 c.in-None.ensures.steps.0 (search rules) (search rules) _ _ _ c.head_of.ensures.head c.head_of.ensures.stbl c.head_of.ensures.offset
+    track_said (box_seen c.args.trak) _ _ c.loop-child.child-iterator _ c.loop-child.header _ _ c.loop-child.media (c.in-Some-Some.header, c.in-Some-Some.offset) c.in-Some-Some.media h c.loop-child.invariant.2 c.in-None.ensures.steps.0 (search rules) (search rules)
+    _ _ _ c.head_of.ensures.head c.head_of.ensures.stbl c.head_of.ensures.offset
 
 pub returns-clause-added : goal.returns-clause-added
 returns-clause-added c = track_added _ _ c.loop-child.child-iterator _ c.loop-child.header _ _ c.loop-child.media (c.in-Some-Some.header, c.in-Some-Some.offset) c.loop-child.invariant.2 (search rules) _ (ap (λ (t : heads.TrackHead). t.id) c.head_of.ensures.head)

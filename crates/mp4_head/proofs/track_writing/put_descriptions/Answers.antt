@@ -13,11 +13,13 @@ pub close_box-requires : goal.close_box-requires
 close_box-requires c =
     boxed_room c.args.out.now.items (codes "stsd") _ c.put_entries.new.out.items c.len-at.result (search rules) refl
     (
-    boxed c.args.out.now.items (codes "stsd") (0 ∷ 0 ∷ 0 ∷ 0 ∷ []) ((big_bytes 4 (length c.args.descriptions.now)) ∷ (flat_map written.kept_bytes (map description_seen c.args.descriptions.now)) ∷ []) c.put_entries.new.out.items (rw (c.in_ok-put_entries.ensures, c.in_ok-put_length.ensures, c.in_ok-put.ensures, c.in_ok-open_box.ensures) refl))
+    boxed c.args.out.now.items (codes "stsd") (0 ∷ 0 ∷ 0 ∷ 0 ∷ []) ((big_bytes 4 (length c.args.descriptions.now)) ∷ (flat_map written.kept_bytes (map description_seen c.args.descriptions.now)) ∷ []) c.put_entries.new.out.items
+    (rw (c.in_ok-put_entries.ensures, c.in_ok-put_length.ensures, c.in_ok-put.ensures, c.in_ok-open_box.ensures) refl))
 
 pub returns : goal.returns
 returns c =
     c.close_box.ensures c.args.out.now.items (codes "stsd") (appended (0 ∷ 0 ∷ 0 ∷ 0 ∷ []) ((big_bytes 4 (length c.args.descriptions.now)) ∷ (flat_map written.kept_bytes (map description_seen c.args.descriptions.now)) ∷ [])) (search rules) refl
     (
-    boxed c.args.out.now.items (codes "stsd") (0 ∷ 0 ∷ 0 ∷ 0 ∷ []) ((big_bytes 4 (length c.args.descriptions.now)) ∷ (flat_map written.kept_bytes (map description_seen c.args.descriptions.now)) ∷ []) c.put_entries.new.out.items (rw (c.in_ok-put_entries.ensures, c.in_ok-put_length.ensures, c.in_ok-put.ensures, c.in_ok-open_box.ensures) refl))
+    boxed c.args.out.now.items (codes "stsd") (0 ∷ 0 ∷ 0 ∷ 0 ∷ []) ((big_bytes 4 (length c.args.descriptions.now)) ∷ (flat_map written.kept_bytes (map description_seen c.args.descriptions.now)) ∷ []) c.put_entries.new.out.items
+    (rw (c.in_ok-put_entries.ensures, c.in_ok-put_length.ensures, c.in_ok-put.ensures, c.in_ok-open_box.ensures) refl))
     ∙ ap (λ (x : List ℕ). c.args.out.now.items ++ box_bytes (codes "stsd") x) (ap (λ (n : ℕ). appended (0 ∷ 0 ∷ 0 ∷ 0 ∷ []) (big_bytes 4 n ∷ flat_map written.kept_bytes (map description_seen c.args.descriptions.now) ∷ [])) (sym (length-map c.args.descriptions.now description_seen)))

@@ -13,11 +13,13 @@ pub close_box-requires : goal.close_box-requires
 close_box-requires c =
     boxed_room c.args.out.now.items (codes "elst") _ c.put_rows.new.out.items c.len-at.result (search rules) refl
     (
-    boxed c.args.out.now.items (codes "elst") (1 ∷ 0 ∷ 0 ∷ 0 ∷ []) ((big_bytes 4 (length c.args.edits.now)) ∷ (flat_map written.edit_bytes (map edit_seen c.args.edits.now)) ∷ []) c.put_rows.new.out.items (rw (c.in_ok-put_rows.ensures, c.in_ok-put_length.ensures, c.in_ok-put.ensures, c.in_ok-open_box.ensures) refl))
+    boxed c.args.out.now.items (codes "elst") (1 ∷ 0 ∷ 0 ∷ 0 ∷ []) ((big_bytes 4 (length c.args.edits.now)) ∷ (flat_map written.edit_bytes (map edit_seen c.args.edits.now)) ∷ []) c.put_rows.new.out.items
+    (rw (c.in_ok-put_rows.ensures, c.in_ok-put_length.ensures, c.in_ok-put.ensures, c.in_ok-open_box.ensures) refl))
 
 pub returns : goal.returns
 returns c =
     c.close_box.ensures c.args.out.now.items (codes "elst") (appended (1 ∷ 0 ∷ 0 ∷ 0 ∷ []) ((big_bytes 4 (length c.args.edits.now)) ∷ (flat_map written.edit_bytes (map edit_seen c.args.edits.now)) ∷ [])) (search rules) refl
     (
-    boxed c.args.out.now.items (codes "elst") (1 ∷ 0 ∷ 0 ∷ 0 ∷ []) ((big_bytes 4 (length c.args.edits.now)) ∷ (flat_map written.edit_bytes (map edit_seen c.args.edits.now)) ∷ []) c.put_rows.new.out.items (rw (c.in_ok-put_rows.ensures, c.in_ok-put_length.ensures, c.in_ok-put.ensures, c.in_ok-open_box.ensures) refl))
+    boxed c.args.out.now.items (codes "elst") (1 ∷ 0 ∷ 0 ∷ 0 ∷ []) ((big_bytes 4 (length c.args.edits.now)) ∷ (flat_map written.edit_bytes (map edit_seen c.args.edits.now)) ∷ []) c.put_rows.new.out.items
+    (rw (c.in_ok-put_rows.ensures, c.in_ok-put_length.ensures, c.in_ok-put.ensures, c.in_ok-open_box.ensures) refl))
     ∙ ap (λ (x : List ℕ). c.args.out.now.items ++ box_bytes (codes "elst") x) (ap (λ (n : ℕ). appended (1 ∷ 0 ∷ 0 ∷ 0 ∷ []) (big_bytes 4 n ∷ flat_map written.edit_bytes (map edit_seen c.args.edits.now) ∷ [])) (sym (length-map c.args.edits.now edit_seen)))

@@ -12,10 +12,13 @@ pub close_box-requires : goal.close_box-requires
 close_box-requires c =
     boxed_room c.args.out.now.items (codes "mdia") _ c.put_information.new.out.items c.len-at.result (search rules) refl
     (
-    boxed c.args.out.now.items (codes "mdia") (written.mdhd_bytes (media_seen c.args.track.now.media)) ((box_bytes (codes "hdlr") c.args.track.now.media.handler.now) ∷ (flat_map (box_bytes (codes "elng")) (map (λ p. p.now) c.args.track.now.media.extended_languages.items)) ∷ (information_bytes (track_seen c.args.track.now)) ∷ []) c.put_information.new.out.items (rw (c.in_ok-put_information.ensures, c.in_ok-put_boxes.ensures, c.in_ok-put_box.ensures, c.in_ok-put_media_header.ensures, c.in_ok-open_box.ensures, c.deref.ensures.value) refl))
+    boxed c.args.out.now.items (codes "mdia") (written.mdhd_bytes (media_seen c.args.track.now.media)) ((box_bytes (codes "hdlr") c.args.track.now.media.handler.now) ∷ (flat_map (box_bytes (codes "elng")) (map (λ p. p.now) c.args.track.now.media.extended_languages.items))
+    ∷ (information_bytes (track_seen c.args.track.now)) ∷ []) c.put_information.new.out.items (rw (c.in_ok-put_information.ensures, c.in_ok-put_boxes.ensures, c.in_ok-put_box.ensures, c.in_ok-put_media_header.ensures, c.in_ok-open_box.ensures, c.deref.ensures.value) refl))
 
 pub returns : goal.returns
 returns c =
-    c.close_box.ensures c.args.out.now.items (codes "mdia") (appended (written.mdhd_bytes (media_seen c.args.track.now.media)) ((box_bytes (codes "hdlr") c.args.track.now.media.handler.now) ∷ (flat_map (box_bytes (codes "elng")) (map (λ p. p.now) c.args.track.now.media.extended_languages.items)) ∷ (information_bytes (track_seen c.args.track.now)) ∷ [])) (search rules) refl
+    c.close_box.ensures c.args.out.now.items (codes "mdia") (appended (written.mdhd_bytes (media_seen c.args.track.now.media)) ((box_bytes (codes "hdlr") c.args.track.now.media.handler.now) ∷ (flat_map (box_bytes (codes "elng")) (map (λ p. p.now) c.args.track.now.media.extended_languages.items))
+    ∷ (information_bytes (track_seen c.args.track.now)) ∷ [])) (search rules) refl
     (
-    boxed c.args.out.now.items (codes "mdia") (written.mdhd_bytes (media_seen c.args.track.now.media)) ((box_bytes (codes "hdlr") c.args.track.now.media.handler.now) ∷ (flat_map (box_bytes (codes "elng")) (map (λ p. p.now) c.args.track.now.media.extended_languages.items)) ∷ (information_bytes (track_seen c.args.track.now)) ∷ []) c.put_information.new.out.items (rw (c.in_ok-put_information.ensures, c.in_ok-put_boxes.ensures, c.in_ok-put_box.ensures, c.in_ok-put_media_header.ensures, c.in_ok-open_box.ensures, c.deref.ensures.value) refl))
+    boxed c.args.out.now.items (codes "mdia") (written.mdhd_bytes (media_seen c.args.track.now.media)) ((box_bytes (codes "hdlr") c.args.track.now.media.handler.now) ∷ (flat_map (box_bytes (codes "elng")) (map (λ p. p.now) c.args.track.now.media.extended_languages.items))
+    ∷ (information_bytes (track_seen c.args.track.now)) ∷ []) c.put_information.new.out.items (rw (c.in_ok-put_information.ensures, c.in_ok-put_boxes.ensures, c.in_ok-put_box.ensures, c.in_ok-put_media_header.ensures, c.in_ok-open_box.ensures, c.deref.ensures.value) refl))

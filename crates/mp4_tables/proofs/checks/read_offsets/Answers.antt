@@ -46,7 +46,8 @@ are_below-requires g c = rw c.payload-2.ensures (rows_have 1 8 (codes "ctts") (b
 
 pub returns-then-not-are_below-clause-fault : goal.returns-then-not-are_below-clause-fault
 returns-then-not-are_below-clause-fault g c =
-    offsets_large c.args.limits (box_seen c.args.stbl) (box_seen c.in-Some.leaf) c.in_ok-rows.rows c.fault_at-then-not-are_below.result c.requires.tables c.in-Some.ensures c.in_ok-rows.ensures.rows (unsigned_version (box_seen c.in-Some.leaf) c.in_ok-rows.ensures.rows.version (sym c.if-is_signed.false ∙ c.is_signed.ensures))
+    offsets_large c.args.limits (box_seen c.args.stbl) (box_seen c.in-Some.leaf) c.in_ok-rows.rows c.fault_at-then-not-are_below.result c.requires.tables c.in-Some.ensures c.in_ok-rows.ensures.rows
+    (unsigned_version (box_seen c.in-Some.leaf) c.in_ok-rows.ensures.rows.version (sym c.if-is_signed.false ∙ c.is_signed.ensures))
     (rw c.payload-2.ensures at (sym c.if-not-are_below.ensures.same)) c.fault_at-then-not-are_below.ensures
 
 pub returns-then-not-are_below-clause-work : goal.returns-then-not-are_below-clause-work

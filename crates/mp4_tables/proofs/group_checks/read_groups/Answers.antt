@@ -10,7 +10,8 @@ read_child-requires-clause-child g c = next_child (box_seen c.args.stbl) (box_se
 pub returns-in_err-groups-clause-fault : goal.returns-in_err-groups-clause-fault
 returns-in_err-groups-clause-fault g c =
     let p = err_from_is_err_and c.from_residual.result c.from_residual.ensures.1 in
-    rw (p.1, p.2) (child_fault c.args.limits (box_seen c.args.stbl) (box_seen c.in-Some.child) c.args.n c.loop-child.groups c.loop-child.child-iterator c.next.new.self c.in_err-groups.field-0.0 c.requires.tables c.requires.sizes c.loop-child.invariant.2 c.in-Some.ensures.steps c.in_err-groups.ensures.fault)
+    rw (p.1, p.2)
+    (child_fault c.args.limits (box_seen c.args.stbl) (box_seen c.in-Some.child) c.args.n c.loop-child.groups c.loop-child.child-iterator c.next.new.self c.in_err-groups.field-0.0 c.requires.tables c.requires.sizes c.loop-child.invariant.2 c.in-Some.ensures.steps c.in_err-groups.ensures.fault)
 
 pub loop-child-preserved : goal.loop-child-preserved
 loop-child-preserved g c =
