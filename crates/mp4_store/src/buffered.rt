@@ -5,23 +5,27 @@ ghost use Rattle.mp4_store.specs.Device.{Counts, range};
 use crate::store::{Store, StoreFailed};
 use std::marker::Model;
 
-/// So many bytes are read ahead where a file is read for the first time, one part after the other.
-const MOST: usize = 16_384;
+/// The most bytes that are read ahead.
+const MOST: usize = 262_144;
 
-/// So many are read ahead elsewhere: where bytes are read again, and far from those that were read.
+/// So many are read ahead at first, and far from the bytes that were read ahead last.
 const FEW: usize = 4096;
 
-/// Reads of at most so many bytes read ahead: that of a box header is one.
-const SHORT: usize = 16;
+/// A place is near such bytes if it lies in front of them or behind them by no more than this, or
+/// by no more than were read ahead.
+const NEAR: usize = 16_384;
 
-// Bytes of a store that were read ahead: the first `len`, from the place `start` on. Nothing that
-// lies at `furthest` or behind it was read ahead so far.
+/// A read is short where it is at most this part of what would be read ahead: that of a box header is.
+const SHARE: usize = 4;
+
+// Bytes of a store that were read ahead: the first `len`, from the place `start` on. So many bytes
+// as `ahead` says were asked for.
 #[derive(Drop)]
 struct Window {
     bytes: [u8; MOST],
     start: u64,
     len: usize,
-    furthest: u64,
+    ahead: usize,
 }
 
 // Reads to the front of the room.
@@ -57,13 +61,20 @@ impl Window {
         self.start <= at && at <= end && count as u64 <= end - at
     }
 
-    // How many bytes are read ahead from a place on.
+    // Whether a place lies near the bytes that it has.
+    fn is_near(&self, at: u64) -> bool {
+        let reach = self.ahead.max(NEAR) as u64;
+        let end = self.start.saturating_add(self.len as u64);
+        self.start <= at.saturating_add(reach) && at <= end.saturating_add(reach)
+    }
+
+    // How many bytes are read ahead from a place on: twice as many as before where it lies near.
     fn reach(&self, at: u64) -> usize
-        ensures most { result ≤ 16384 }
+        ensures most { result ≤ 262144 }
         ensures least { 4096 ≤ result }
     {
-        if self.furthest <= at && at - self.furthest <= MOST as u64 {
-            MOST
+        if self.is_near(at) {
+            self.ahead.saturating_mul(2).clamp(FEW, MOST)
         } else {
             FEW
         }
@@ -79,12 +90,13 @@ impl Window {
             × (min (at + 4096) (length (S.file store.old)) ≤ self.new.start + self.new.len)) }
         ensures cause { Counts (S.read_failures store.old) (S.read_failures store.new) result }
     {
-        let len = (store.len() - at).min(self.reach(at) as u64) as usize;
+        let ahead = self.reach(at);
+        let len = (store.len() - at).min(ahead as u64) as usize;
+        self.ahead = ahead;
         self.start = at;
         self.len = 0;
         read_front(store, at, &mut self.bytes, len)?;
         self.len = len;
-        self.furthest = self.furthest.max(at + len as u64);
         Ok(())
     }
 
@@ -100,9 +112,11 @@ impl Window {
     }
 }
 
-/// A store over another one, with the same bytes. A read of at most 16 bytes reads up to 16,384
-/// from its place on, and each read whose bytes are among these is answered from them; all others
-/// go to the store below. Where reading ahead fails, just the bytes that are asked for are read.
+/// A store over another one, with the same bytes. A short read reads ahead, and each read whose
+/// bytes are among these is answered from them; all others go to the store below. Where places lie
+/// near one another, each time twice as many bytes are read ahead, at most 262,144; elsewhere 4096.
+/// A read is short if that is at least four times as much. Where reading ahead fails, just the
+/// bytes that are asked for are read.
 #[derive(Drop)]
 pub struct BufferedStore<S: Store> {
     store: S,
@@ -133,7 +147,7 @@ impl<S: Store> BufferedStore<S> {
             bytes: [0; MOST],
             start: 0,
             len: 0,
-            furthest: 0,
+            ahead: 0,
         };
         BufferedStore {
             store,
@@ -155,7 +169,8 @@ impl<S: Store> Store for BufferedStore<S> {
     }
 
     fn read_at(&mut self, at: u64, out: &mut [u8]) -> Result<(), StoreFailed> {
-        if out.len() <= SHORT && !self.window.has(at, out.len()) {
+        let is_short = out.len() <= self.window.reach(at) / SHARE;
+        if is_short && !self.window.has(at, out.len()) {
             let _ = self.window.fill(&mut self.store, at);
         }
         if self.window.has(at, out.len()) {

@@ -168,7 +168,7 @@ impl Store for &mut Places {
 fn short_reads_read_ahead(rt: HostRuntime) {
     let mut below = below_for(usize::MAX);
     let mut header = [0u8; 16];
-    let mut payload = [0u8; 300];
+    let mut payload = [0u8; 1024];
     {
         let mut store = BufferedStore::new(&mut below);
         assert_eq!(rt; store.len(), 100_000);
@@ -177,40 +177,43 @@ fn short_reads_read_ahead(rt: HostRuntime) {
         assert!(rt; are_from(5000, &header));
         assert_eq!(rt; store.read_at(5016, &mut payload), Ok(()));
         assert!(rt; are_from(5016, &payload));
-        assert_eq!(rt; store.read_at(21_368, &mut header), Ok(()));
-        assert!(rt; are_from(21_368, &header));
+        assert_eq!(rt; store.read_at(9080, &mut header), Ok(()));
+        assert!(rt; are_from(9080, &header));
+        assert_eq!(rt; store.read_at(70_000, &mut payload), Ok(()));
+        assert!(rt; are_from(70_000, &payload));
     }
-    assert_eq!(rt; (below.reads, below.last), (1, 16_384));
+    assert_eq!(rt; (below.reads, below.last), (2, 4096));
 }
 
 #[test]
 fn other_reads_go_below(rt: HostRuntime) {
     let mut below = below_for(usize::MAX);
     let mut header = [0u8; 16];
-    let mut payload = [0u8; 300];
+    let mut payload = [0u8; 2049];
     {
         let mut store = BufferedStore::new(&mut below);
         assert!(rt; 100_000 <= store.len());
-        // More than a header, and nothing was read ahead.
+        // More than a fourth of what would be read ahead, and nothing was.
         assert_eq!(rt; store.read_at(100, &mut payload), Ok(()));
         assert!(rt; are_from(100, &payload));
         assert_eq!(rt; store.read_at(8000, &mut header), Ok(()));
         // Its last byte lies behind those that were read ahead.
-        assert_eq!(rt; store.read_at(24_085, &mut payload), Ok(()));
-        assert!(rt; are_from(24_085, &payload));
+        assert_eq!(rt; store.read_at(10_048, &mut payload), Ok(()));
+        assert!(rt; are_from(10_048, &payload));
     }
-    assert_eq!(rt; (below.reads, below.last), (3, 300));
+    assert_eq!(rt; (below.reads, below.last), (3, 2049));
 }
 
 #[test]
 fn how_far_is_read_ahead(rt: HostRuntime) {
     let mut header = [0u8; 16];
-    // Each place is read in turn; of the last one it counts whether it lies near behind the others,
-    // is read again, lies far behind them, or at the end of the store.
+    // Each place is read in turn. The first two lie near one another; of the third one it counts
+    // whether it lies near behind them, far behind, near in front, far in front, or at the end.
     for (first, second, third, want) in [
-        (0u64, 20_000u64, 50_000u64, 16_384usize),
-        (0, 20_000, 0, 4096),
-        (0, 20_000, 60_000, 4096),
+        (0u64, 20_000u64, 44_576u64, 16_384usize),
+        (0, 20_000, 44_577, 4096),
+        (0, 20_000, 3616, 16_384),
+        (0, 20_000, 3615, 4096),
         (60_000, 80_000, 99_984, 16),
     ] {
         let mut below = below_for(usize::MAX);
@@ -241,7 +244,7 @@ fn what_cannot_be_read_ahead(rt: HostRuntime) {
         assert_eq!(rt; store.read_at(0, &mut header), Ok(()));
         assert!(rt; are_from(0, &header));
     }
-    assert_eq!(rt; (below.reads, below.failed), (5, 3));
+    assert_eq!(rt; (below.reads, below.failed), (6, 4));
 }
 
 #[test]
