@@ -1,19 +1,21 @@
 -- The parts of a piece that a writer takes along are what is written of it.
-use Rattle.std.proofs.Common.{◌≡◌, ℕ, zero, suc, List, [], ◌∷◌, ◌++◌, Some, ap, ◌∙◌}
-use Rattle.std.specs.Prelude.{slice_get, slice_set, slice_index_or, codes, Result, Ok, Err, OnOk, drop}
+use Rattle.std.proofs.Common.{◌≡◌, ℕ, zero, suc, ◌+◌, ◌-◌, ◌^◌, ◌≤◌, min, List, [], ◌∷◌, ◌++◌, length, take, drop, map, Some, refl, sym, ap, subst, ◌∙◌, append_assoc, length-append, arith}
+use Rattle.std.specs.Prelude.{slice_get, slice_set, slice_index_or, codes, Result, Ok, Err, OnOk}
+use Rattle.std.proofs.lemmas.List.{drop_at, length-take, length-drop, length-map, take-append-drop}
 use Rattle.mp4_boxes.specs.Written.{header_bytes}
 use Rattle.mp4_head.specs.Tree.{TrackTree}
 use Rattle.mp4_present.specs.Coming.{Comes}
 use Rattle.mp4_present.specs.Denotes.{FileTree}
 use Rattle.mp4_present.specs.Movies.{MovieSeen}
+use Rattle.mp4_present.specs.declared.carrier.Carrier.{Carrier}
 use Rattle.mp4_present.specs.declared.walks.Walk.{Walk}
-use Rattle.mp4_plan.specs.Writers.{HaveCopied}
+use Rattle.mp4_plan.specs.Writers.{ComesBehind, IsNoted, HaveCopied}
 use Rattle.mp4_plan.specs.declared.writer.Writer.{Writer}
 use Rattle.mp4_tables.specs.declared.sample.SampleAt.{SampleAt}
 use Rattle.mp4_tables.specs.Groups.{GroupKey}
 use Rattle.mp4_plan.specs.Sizes.{moof_sizes}
 use Rattle.mp4_plan.specs.Spelling.{moof_front, run_rows}
-use Rattle.mp4_plan.specs.Taken.{piece_front}
+use Rattle.mp4_plan.specs.Taken.{piece_front, row_seen}
 use Rattle.mp4_plan.specs.UsedKeys.{groups_bytes}
 use Rattle.mp4_plan.specs.declared.moof_front.PieceHead.{PieceHead}
 use Rattle.mp4_plan.specs.declared.moof_sizes.MoofSizes.{MoofSizes}
@@ -33,8 +35,57 @@ read_at [] k x y is e = absurd cc
 read_at (z ∷ xs) zero x y is e = let same : z ≡ x = cc in e ∙ same
 read_at (z ∷ xs) (suc k) x y is e = read_at xs k x y is e
 
+-- what was noted doesn't depend on what waits to be put
+pub noted_with : (file : List ℕ) (tree : FileTree) (m : MovieSeen) (track count : ℕ) (samples : List SampleAt) (w : Writer) (c : Carrier) → IsNoted file tree m track count samples w → IsNoted file tree m track count samples (record w { carrier = c })
+noted_with file tree m track count samples w c h =
+    record { t = h.t; walk = h.walk; behind = h.behind; is_walk = h.is_walk; is_behind = h.is_behind; comes = h.comes; rows = h.rows; stretches = h.stretches }
+
+-- ---- the bytes of a piece
+
+-- those that were noted are no more than there are
+pub noted_few : (count : ℕ) (rows : List Row) (samples : List SampleAt) → count ≤ length rows → take count rows ≡ map row_seen (take count samples) → count ≤ length samples
+noted_few count rows samples few noted =
+    let long = ap (λ (l : List Row). length l) noted in
+    omega (arith, few, long, length-take count rows, length-map (take count samples) row_seen, length-take count samples)
+
+module _ (file : List ℕ) (tree : FileTree) (t : TrackTree) (m : MovieSeen) (walk : Walk) (behind count : ℕ) (samples : List SampleAt) (h : ComesBehind file tree t m walk behind samples) where
+  -- those behind the ones that were copied
+  pub those_behind : drop behind (h.copied ++ samples) ≡ samples
+  those_behind = drop_at h.copied samples behind h.many
+
+  pub within_all : behind ≤ length (h.copied ++ samples)
+  within_all = let many = h.many in omega (arith, many, length-append h.copied samples)
+
+  -- more of them were copied without the walk
+  pub more_behind : (later : ℕ) → count ≤ length samples → later ≡ min (behind + count) (2 ^ 32 - 1) → ComesBehind file tree t m walk later (drop count samples)
+  more_behind later few is =
+      let many = h.many in
+      let small = h.few in
+      let left = length-drop count samples in
+      let front = length-take count samples in
+      record {
+        copied = h.copied ++ take count samples;
+        many = omega (arith, many, small, few, is, front, length-append h.copied (take count samples));
+        comes = subst (λ (l : List SampleAt). Comes file tree t m walk l) (ap (λ (l : List SampleAt). h.copied ++ l) (sym (take-append-drop count samples)) ∙ sym (append_assoc h.copied (take count samples) (drop count samples))) h.comes;
+        few = omega (arith, small, few, is, left);
+      }
+
+  -- the walk itself has passed and copied them
+  pub none_behind : (next : Walk) → Comes file tree t m next (drop count (drop behind (h.copied ++ samples))) → ComesBehind file tree t m next 0 (drop count samples)
+  none_behind next comes =
+      let small = h.few in
+      let left = length-drop count samples in
+      record {
+        copied = [];
+        many = refl;
+        comes = subst (λ (l : List SampleAt). Comes file tree t m next (drop count l)) those_behind comes;
+        few = omega (arith, small, left);
+      }
+
 -- what was copied of a track, whichever walk it has
-pub copied_from : {T E : Type 0} (r : Result T E) (file : List ℕ) (tree : FileTree) (m : MovieSeen) (track count : ℕ) (samples : List SampleAt) (before after : Writer) (next : Walk) → after.copying.items ≡ slice_set before.copying.items track next
-    → ((t : TrackTree) (walk : Walk) → slice_get before.copying.items track ≡ Some walk → Comes file tree t m walk samples → OnOk r (Comes file tree t m next (drop count samples))) → OnOk r (HaveCopied file tree m track count samples before after)
-copied_from (Ok x) file tree m track count samples before after next e f = λ t walk is comes. (next, e, f t walk is comes)
-copied_from (Err x) file tree m track count samples before after next e f = tt
+pub copied_from : {T E : Type 0} (r : Result T E) (file : List ℕ) (tree : FileTree) (m : MovieSeen) (track count : ℕ) (samples : List SampleAt) (before after : Writer) (next : Walk) (later : ℕ) → after.copying.items ≡ slice_set before.copying.items track next
+    → after.behind.items ≡ slice_set before.behind.items track later
+    → ((t : TrackTree) (walk : Walk) (behind : ℕ) → slice_get before.copying.items track ≡ Some walk → slice_get before.behind.items track ≡ Some behind → ComesBehind file tree t m walk behind samples → OnOk r (ComesBehind file tree t m next later (drop count samples)))
+    → OnOk r (HaveCopied file tree m track count samples before after)
+copied_from (Ok x) file tree m track count samples before after next later e f g = λ t walk behind is number comes. (next, later, e, f, g t walk behind is number comes)
+copied_from (Err x) file tree m track count samples before after next later e f g = tt

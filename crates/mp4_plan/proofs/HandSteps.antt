@@ -5,7 +5,7 @@ use Rattle.std.proofs.Math.Seq.{take-add, take-nil}
 use Rattle.std.proofs.lemmas.List.{length-set, length-take, take_more_set, take-append-drop, drop-drop, drop-take, map-append}
 use Rattle.mp4_tables.specs.declared.sample.SampleAt.{SampleAt}
 use Rattle.mp4_plan.specs.Ends.{goes_in}
-use Rattle.mp4_plan.specs.Gathering.{Planning, description_in, gather, more_of, piece_fed, samples_after}
+use Rattle.mp4_plan.specs.Gathering.{Planning, description_in, gather, count_of, more_of, piece_fed, samples_after}
 use Rattle.mp4_plan.specs.HandsFed.{TakesFirst, Notes}
 use Rattle.mp4_plan.specs.Taken.{row_seen}
 use Rattle.mp4_plan.specs.declared.rows.Row.{Row}
@@ -85,6 +85,16 @@ notes_full before p k all left rows now h le =
     let none : length rows - k ≡ 0 = omega (arith, le) in
     notes_all before p k all left rows now h (ap (λ n. more_of p (take n left)) none ∙ more_of-nil p)
 
+-- ---- where their bytes lie
+
+-- one more was taken
+pub taken_more : (before p : Planning) (k : ℕ) (all left : List SampleAt) (rows now : List Row) (s : SampleAt) → NotesUpTo before p k all left rows now → Some s ≡ slice_get left 0 → take (k + 1) all ≡ take k all ++ s ∷ []
+taken_more before p k all left rows now s h first = take-add k 1 all ∙ ap (λ (l : List SampleAt). take k all ++ take 1 l) (sym h.rest ∙ first_is left s first)
+
+-- as many as are counted
+pub taken_counted : (n before after : ℕ) (all : List SampleAt) → after ≡ before + n → take n all ≡ take (after - before) all
+taken_counted n before after all e = let same : n ≡ after - before = omega (arith, e) in ap (λ k. take k all) same
+
 module _ (before after : Planning) (all left : List SampleAt) (rows rows_after : List Row) (h : Notes before after all left rows rows_after) where
   abbrev pub noted_count : ℕ
   noted_count = more_of before (take (length rows) all)
@@ -101,6 +111,13 @@ module _ (before after : Planning) (all left : List SampleAt) (rows rows_after :
       let inside = within in
       let long = notes_length in
       record { taken = take noted_count all; less = omega (arith, inside, long); whole = sym (take-append-drop noted_count all) ∙ ap (λ (l : List SampleAt). take noted_count all ++ l) (sym h.rest) }
+
+  -- they are as many as are counted
+  pub notes_joined : (counted : count_of after.gathered ≡ count_of before.gathered + length notes_take.taken) → take (count_of after.gathered - count_of before.gathered) all ≡ notes_take.taken
+  unfolding notes_take more_of
+  notes_joined counted =
+      let n : count_of after.gathered - count_of before.gathered ≡ length (take noted_count all) = omega (arith, counted) in
+      ap (λ k. take k all) (n ∙ notes_length)
 
   pub notes_left : take (length rows - noted_count) left ≡ samples_after before (take (length rows) all)
   notes_left =

@@ -17,7 +17,7 @@ use Rattle.mp4_present.proofs.Carrying.{BytesGoOn-nothing, BytesGoOn-then, Bytes
 use Rattle.mp4_present.proofs.Counts.{sum-append}
 use Rattle.mp4_present.proofs.Hands.{bytes_of_two}
 use Rattle.mp4_plan.specs.HandsFed.{BytesCarried, sizes_of}
-use Rattle.mp4_plan.specs.declared.courses.Load.{Load}
+use Rattle.mp4_plan.specs.declared.carrying.Load.{Load}
 
 -- ---- sizes
 

@@ -24,6 +24,7 @@ pub mod WrittenRun
 mod WalksOn
 mod PieceCarried
 mod PieceFed
+mod PiecePassed
 pub mod WrittenFragment
 pub mod PieceTree
 pub mod PieceSays
@@ -48,6 +49,7 @@ pub mod SpelledPiece
 pub mod FrontLists
 pub mod FragmentsLeft
 pub mod TurnSteps
+pub mod Stretched
 pub mod HandsCarried
 pub mod HandSteps
 pub mod HandsTaken
@@ -56,6 +58,7 @@ pub mod Lefts
 pub mod FrontsPut
 pub mod SizesSmall
 pub mod ComeAt
+pub mod ComeBehind
 pub mod PieceWritten
 pub mod PartsPut
 pub mod CarriedParts

@@ -24,7 +24,7 @@ use Rattle.mp4_present.proofs.Carrying.{BytesGoOn-then}
 use Rattle.mp4_present.proofs.Counts.{sum-append}
 use Rattle.mp4_present.proofs.Hands.{bytes_of_two}
 use Rattle.mp4_plan.specs.HandsFed.{BytesCarried, sizes_of}
-use Rattle.mp4_plan.specs.declared.courses.Load.{Load}
+use Rattle.mp4_plan.specs.declared.carrying.Load.{Load}
 use Rattle.mp4_plan.proofs.HandsCarried.{carried_front, carried_fails, load_is, next_below}
 use Rattle.mp4_plan.proofs.WalksOn.{hand_first, loads_on, loads_none, kept_coming}
 

@@ -16,16 +16,19 @@ use Rattle.mp4_present.specs.declared.walks.Walk.{Walk}
 use Rattle.mp4_plan.specs.Ends.{goes_in}
 use Rattle.mp4_plan.specs.Gathering.{Planning, description_in, gather, piece_from, count_of, more_of, piece_fed, samples_after}
 use Rattle.mp4_plan.specs.HandsFed.{HandFed, HandNoted}
+use Rattle.mp4_plan.specs.Stretches.{JoinsOn}
 use Rattle.mp4_plan.specs.Taken.{row_seen}
 use Rattle.mp4_plan.specs.declared.ends.End.{End}
 use Rattle.mp4_plan.specs.declared.courses.Stop.{Stop}
 use Rattle.mp4_plan.specs.declared.courses.Stop.TheVariants.{Empty, Ended, Full}
+use Rattle.mp4_plan.specs.declared.joined.Stretches.{Stretches}
 use Rattle.mp4_plan.specs.declared.rows.Row.{Row}
 use Rattle.mp4_plan.proofs.PlannerSteps.{fed_more, after_more, fed_none, after_none, more_of_no, more_of-nil}
 use Rattle.mp4_plan.proofs.HandsTaken.{more_with, counted_fed}
 use Rattle.mp4_present.proofs.WalkCopied.{kept_before}
 use Rattle.mp4_plan.proofs.WalksOn.{hand_first, loads_on, loads_none, hand_none}
 use Rattle.mp4_plan.proofs.PieceCarried.{LoadsFor, EndsFor}
+use Rattle.mp4_plan.proofs.Stretched.{joins_none, joins_then}
 
 -- a piece with one sample more
 abbrev with_one : Planning → SampleAt → Planning
@@ -91,7 +94,7 @@ feeds_new file m w end p is tree t samples o c =
     subst (λ (q : Planning). Feeds file tree t m w (piece_from end) q samples) (sym is) (record { few = omega arith; comes = c; same = (refl, refl) })
 
 -- the samples behind those in hand come behind later ones in hand
-fed_coming : (file : List ℕ) (m : MovieSeen) (tree : FileTree) (t : TrackTree) (w now : Walk) (place : Place) (rest : List SampleAt) (k : Comes file tree t m w rest) (later : InHand) → InHandOf m (record w { place = place }) later → now ≡ record w { place = place }
+pub fed_coming : (file : List ℕ) (m : MovieSeen) (tree : FileTree) (t : TrackTree) (w now : Walk) (place : Place) (rest : List SampleAt) (k : Comes file tree t m w rest) (later : InHand) → InHandOf m (record w { place = place }) later → now ≡ record w { place = place }
     → Comes file tree t m now (left_in_hand later ++ samples_behind tree t k.0 k.1)
 fed_coming file m tree t w now place rest k later is_later is =
     subst (λ (w' : Walk). Comes file tree t m w' (left_in_hand later ++ samples_behind tree t k.0 k.1)) (sym is) (k.0, k.1, later, (kept_before file tree t k.0 k.1 w place k.3.0, is_later, refl))
@@ -190,9 +193,9 @@ pub notes_new : (file : List ℕ) (m : MovieSeen) (w : Walk) (end : End) (p : Pl
 notes_new file m w end p rows is tree t samples o c = let none = ap (λ (q : Planning). count_of q.gathered) is in ap (λ n. take n rows) none ∙ sym (ap (λ n. map row_seen (take n samples)) none)
 
 -- those in hand that were taken are noted behind the others, in a part of the rows
-pub hand_noted : (file : List ℕ) (m : MovieSeen) (begun w : Walk) (room n : ℕ) (start p q : Planning) (stop : Stop) (place : Place) (rows part behind_it : List Row) → FeedsOn file m begun w start p → NotesOn file m begun p rows
-    → HandNoted m w room p q stop place part → n ≡ count_of p.gathered → n ≤ length rows → NotesOn file m begun q (take n rows ++ (part ++ behind_it))
-hand_noted file m begun w room n start p q stop place rows part behind_it on noted h is few tree t samples o c =
+pub hand_noted : (file : List ℕ) (m : MovieSeen) (begun w : Walk) (room n : ℕ) (start p q : Planning) (stop : Stop) (place : Place) (rows part behind_it : List Row) (told told_after : Stretches) → FeedsOn file m begun w start p → NotesOn file m begun p rows
+    → HandNoted m w room p q stop place part told told_after → n ≡ count_of p.gathered → n ≤ length rows → NotesOn file m begun q (take n rows ++ (part ++ behind_it))
+hand_noted file m begun w room n start p q stop place rows part behind_it told told_after on noted h is few tree t samples o c =
     let u = on tree t samples o c in
     let k = u.comes in
     let d = h.0.done in
@@ -208,3 +211,31 @@ hand_noted file m begun w room n start p q stop place rows part behind_it on not
     (let e : count_of q.gathered ≡ n + length d = omega (arith, at, is) in ap (λ i. take i samples) e ∙ take-add n (length d) samples)
     ∙ ap (λ (l : List SampleAt). take n samples ++ l) (ap (take (length d)) (first ∙ ap (λ (l : List SampleAt). l ++ behind) h.0.whole ∙ append_assoc d (left_in_hand h.0.later) behind) ∙ take_at d (left_in_hand h.0.later ++ behind) (length d) refl) in
     in_part ∙ ap (λ (l : List Row). l ++ map row_seen d) (ap (λ i. take i rows) is ∙ noted tree t samples o c ∙ ap (λ i. map row_seen (take i samples)) (sym is)) ∙ sym (map-append row_seen (take n samples) d) ∙ ap (map row_seen) (sym those)
+
+-- ---- where their bytes lie
+
+-- Those that a piece has of the samples that were to come were added to what is kept.
+abbrev pub JoinsFor : List ℕ → MovieSeen → Walk → Planning → Stretches → Stretches → Type 0
+JoinsFor file m begun p told now =
+    (tree : FileTree) (t : TrackTree) (samples : List SampleAt) → IsOpenedAs file m tree → Comes file tree t m begun samples → JoinsOn told now (take (count_of p.gathered) samples)
+
+-- none yet
+pub joins_new : (file : List ℕ) (m : MovieSeen) (w : Walk) (end : End) (p : Planning) (told : Stretches) → p ≡ piece_from end → JoinsFor file m w p told told
+joins_new file m w end p told is tree t samples o c =
+    let none : take (count_of p.gathered) samples ≡ [] = ap (λ (q : Planning). take (count_of q.gathered) samples) is in
+    subst (λ (l : List SampleAt). JoinsOn told told l) (sym none) (joins_none told)
+
+-- those in hand that were taken were added behind the others
+pub hand_joined : (file : List ℕ) (m : MovieSeen) (begun w : Walk) (room : ℕ) (start p q : Planning) (stop : Stop) (place : Place) (rows : List Row) (told now later : Stretches) → FeedsOn file m begun w start p → JoinsFor file m begun p told now
+    → HandNoted m w room p q stop place rows now later → JoinsFor file m begun q told later
+hand_joined file m begun w room start p q stop place rows told now later on joined h tree t samples o c =
+    let u = on tree t samples o c in
+    let k = u.comes in
+    let d = h.0.done in
+    let n = count_of p.gathered in
+    let behind = samples_behind tree t k.0 k.1 in
+    let first = hand_first file m tree t w (drop n samples) k h.0.hand h.0.is_hand in
+    let those : take (count_of q.gathered) samples ≡ take n samples ++ d =
+    ap (λ i. take i samples) h.0.count ∙ take-add n (length d) samples
+    ∙ ap (λ (l : List SampleAt). take n samples ++ l) (ap (take (length d)) (first ∙ ap (λ (l : List SampleAt). l ++ behind) h.0.whole ∙ append_assoc d (left_in_hand h.0.later) behind) ∙ take_at d (left_in_hand h.0.later ++ behind) (length d) refl) in
+    joins_then told now later (take n samples) d (take (count_of q.gathered) samples) (joined tree t samples o c) h.2 those

@@ -34,10 +34,10 @@ use Rattle.mp4_plan.proofs.TurnTaken.{turn_moves}
 use Rattle.mp4_plan.proofs.WritesOn.{WritesOn, AtTurn, at_turn, turn_stops, turn_over, head_none}
 
 module _ (file : List ℕ) (tree : FileTree) (m : MovieSeen) (o : IsOpenedAs file m tree) (s : Schedule) (sequence : ℕ) (w : Writer) (before after : Option (List ℕ))
-    (h : WritesOn file tree m s sequence w.planning.items w.copying.items w.nexts.items (length w.rows.items) before after (waiting w.carrier)) (turn : Turn) (here : (turn.track ≡ s.track) × (s.track < s.tracks))
+    (h : WritesOn file tree m s sequence w.planning.items w.copying.items w.behind.items w.nexts.items (length w.rows.items) before after (waiting w.carrier)) (turn : Turn) (here : (turn.track ≡ s.track) × (s.track < s.tracks))
     (ends : (info : TrackInfo) → slice_get m.tracks s.track ≡ Some info → turn.end ≡ turn_end s info.timescale) (tracks : s.tracks ≡ length m.tracks) (goes : IsWriterOf m w) where
-  at : AtTurn file tree m s w.planning.items w.copying.items w.nexts.items (length w.rows.items) h.lefts h.comings
-  at = at_turn file tree m s sequence w.planning.items w.copying.items w.nexts.items (length w.rows.items) before after (waiting w.carrier) o h here.1 tracks goes.planning.count goes.copying.count
+  at : AtTurn file tree m s w.planning.items w.copying.items w.behind.items w.nexts.items (length w.rows.items) h.lefts h.comings
+  at = at_turn file tree m s sequence w.planning.items w.copying.items w.behind.items w.nexts.items (length w.rows.items) before after (waiting w.carrier) o h here.1 tracks goes.planning.count goes.copying.count goes.behind
 
   end_is : turn.end ≡ turn_end s at.info.timescale
   end_is = ends at.info at.is_info
@@ -50,7 +50,7 @@ module _ (file : List ℕ) (tree : FileTree) (m : MovieSeen) (o : IsOpenedAs fil
   note_lacks X f = f at.t at.walk at.left walk_there at.comes (subst (λ (e : End). more_of (piece_from e) at.left ≤ length w.rows.items) (sym end_is) at.fits)
 
   module _ (w1 : Writer) (n : Noted) (id : ℕ) (noted : (t : TrackTree) (walk : Walk) (left : List SampleAt) → slice_get w.planning.items turn.track ≡ Some walk → Comes file tree t m walk left → slice_get w.nexts.items turn.track ≡ Some (slice_get left 0) → HasNoted file tree t m turn sequence id left w w1 n)
-      (keeps : (w1.copying ≡ w.copying) × (w1.carrier ≡ w.carrier) × (length w1.rows.items ≡ length w.rows.items)) (few : IsFew n.planned) (is_id : (info : TrackInfo) → slice_get m.tracks s.track ≡ Some info → id ≡ info.id) where
+      (keeps : (w1.copying ≡ w.copying) × (w1.carrier ≡ w.carrier) × (length w1.rows.items ≡ length w.rows.items) × (w1.behind ≡ w.behind)) (few : IsFew n.planned) (is_id : (info : TrackInfo) → slice_get m.tracks s.track ≡ Some info → id ≡ info.id) where
     it : HasNoted file tree at.t m turn sequence id at.left w w1 n
     it = noted at.t at.walk at.left walk_there at.comes (ap (λ k. slice_get w.nexts.items k) here.0 ∙ at.shown)
 
@@ -72,11 +72,14 @@ module _ (file : List ℕ) (tree : FileTree) (m : MovieSeen) (o : IsOpenedAs fil
     copied_there : slice_get w1.copying.items turn.track ≡ Some at.copied
     copied_there = (λ i. slice_get (keeps.0 i).items (here.0 i)) ∙ at.is_copied
 
+    number_there : slice_get w1.behind.items turn.track ≡ Some at.number
+    number_there = (λ i. slice_get (keeps.3 i).items (here.0 i)) ∙ at.is_number
+
     info_there : slice_get m.tracks turn.track ≡ Some at.info
     info_there = ap (λ k. slice_get m.tracks k) here.0 ∙ at.is_info
 
     is_noted : IsNoted file tree m turn.track n.planned.count at.left w1
-    is_noted = record { t = at.t; walk = at.copied; is_walk = copied_there; comes = at.copies; rows = it.rows }
+    is_noted = record { t = at.t; walk = at.copied; behind = at.number; is_walk = copied_there; is_behind = number_there; comes = at.copies; rows = it.rows; stretches = it.stretches }
 
     -- it is not taken along whole
     pub carry_stops : (last : Option (List ℕ)) → ((samples : List SampleAt) → IsNoted file tree m turn.track n.planned.count samples w1 → (info : TrackInfo) → slice_get m.tracks turn.track ≡ Some info → AreApart (keys_seen info.keys)
@@ -85,7 +88,7 @@ module _ (file : List ℕ) (tree : FileTree) (m : MovieSeen) (o : IsOpenedAs fil
         let q = f at.left is_noted at.info info_there at.keys.apart in
         let own = subst (λ (hd : Option PieceHead). AppendsPrefix after last (waiting w1.carrier ++ turn_bytes file hd n.planned (keys_seen at.info.keys) (take n.planned.count at.left))) head_is q in
         let same = subst (λ (c : Carrier). AppendsPrefix after last (waiting c ++ turn_bytes file (turn_head sequence at.info.id n.planned.count (slice_get at.left 0)) n.planned (keys_seen at.info.keys) (take n.planned.count at.left))) keeps.1 own in
-        turn_stops file tree m s sequence w.planning.items w.copying.items w.nexts.items (length w.rows.items) before after (waiting w.carrier) h at n.planned planned_is few last same
+        turn_stops file tree m s sequence w.planning.items w.copying.items w.behind.items w.nexts.items (length w.rows.items) before after (waiting w.carrier) h at n.planned planned_is few last same
 
     -- its samples lie in the file, with as many bytes as were planned
     pub carry_lacks : (X : Type 0) → ((samples : List SampleAt) → IsNoted file tree m turn.track n.planned.count samples w1 → n.planned.count ≤ length samples → n.planned.bytes ≡ sum_of (λ (x : SampleAt). x.size) (take n.planned.count samples)
@@ -104,24 +107,26 @@ module _ (file : List ℕ) (tree : FileTree) (m : MovieSeen) (o : IsOpenedAs fil
     -- the turn behind it
     pub turn_goes : (w2 : Writer) (last : Option (List ℕ)) (later : Schedule) → ((samples : List SampleAt) → IsNoted file tree m turn.track n.planned.count samples w1 → (info : TrackInfo) → slice_get m.tracks turn.track ≡ Some info → AreApart (keys_seen info.keys)
         → BytesGoOn after last (waiting w1.carrier) (waiting w2.carrier) (turn_bytes file n.head n.planned (keys_seen info.keys) (take n.planned.count samples)))
-        → ((samples : List SampleAt) → (n.head ≡ None → drop n.planned.count samples ≡ samples) → HaveCopied file tree m turn.track n.planned.count samples w1 w2) → (w2.planning ≡ w1.planning) × (w2.rows ≡ w1.rows) × (w2.nexts ≡ w1.nexts)
-        → later ≡ turned s turn.end n.planned.count n.next → WritesOn file tree m later (sequence_behind sequence n.head) w2.planning.items w2.copying.items w2.nexts.items (length w2.rows.items) before last (waiting w2.carrier)
+        → ((samples : List SampleAt) → n.planned.count ≤ length samples → (n.head ≡ None → drop n.planned.count samples ≡ samples) → HaveCopied file tree m turn.track n.planned.count samples w1 w2) → (w2.planning ≡ w1.planning) × (w2.rows ≡ w1.rows) × (w2.nexts ≡ w1.nexts)
+        → later ≡ turned s turn.end n.planned.count n.next → WritesOn file tree m later (sequence_behind sequence n.head) w2.planning.items w2.copying.items w2.behind.items w2.nexts.items (length w2.rows.items) before last (waiting w2.carrier)
     turn_goes w2 last later put copied kept is =
         let q = put at.left is_noted at.info info_there at.keys.apart in
         let own = subst (λ (hd : Option PieceHead). BytesGoOn after last (waiting w1.carrier) (waiting w2.carrier) (turn_bytes file hd n.planned (keys_seen at.info.keys) (take n.planned.count at.left))) head_is q in
         let same = subst (λ (c : Carrier). BytesGoOn after last (waiting c) (waiting w2.carrier) (turn_bytes file (turn_head sequence at.info.id n.planned.count (slice_get at.left 0)) n.planned (keys_seen at.info.keys) (take n.planned.count at.left))) keeps.1 own in
-        let x = copied at.left (λ none. head_none sequence at.info.id n.planned.count at.left (sym head_is ∙ none)) at.t at.copied copied_there at.copies in
+        let x = copied at.left (subst (λ c. c ≤ length at.left) (sym counted) (piece_within end at.left)) (λ none. head_none sequence at.info.id n.planned.count at.left (sym head_is ∙ none)) at.t at.copied at.number copied_there number_there at.copies in
         let comes = subst (λ (e : End). Comes file tree at.t m it.walk (samples_after (piece_from e) at.left)) end_is it.comes in
-        let on = turn_over file tree m s sequence w.planning.items w.copying.items w.nexts.items (length w.rows.items) before after (waiting w.carrier) h at n.planned planned_is few it.walk x.0 last (waiting w2.carrier) comes x.2 same in
+        let on = turn_over file tree m s sequence w.planning.items w.copying.items w.behind.items w.nexts.items (length w.rows.items) before after (waiting w.carrier) h at n.planned planned_is few it.walk x.0 x.1 last (waiting w2.carrier) comes x.4 same in
         let plan : slice_set w.planning.items s.track it.walk ≡ w2.planning.items = sym (ap (λ v. v.items) kept.0 ∙ it.planning ∙ ap (λ k. slice_set w.planning.items k it.walk) here.0) in
-        let copy : slice_set w.copying.items s.track x.0 ≡ w2.copying.items = sym (x.1 ∙ (λ i. slice_set (keeps.0 i).items (here.0 i) x.0)) in
+        let copy : slice_set w.copying.items s.track x.0 ≡ w2.copying.items = sym (x.2 ∙ (λ i. slice_set (keeps.0 i).items (here.0 i) x.0)) in
+        let numbers : slice_set w.behind.items s.track x.1 ≡ w2.behind.items = sym (x.3 ∙ (λ i. slice_set (keeps.3 i).items (here.0 i) x.1)) in
         let rows : length w.rows.items ≡ length w2.rows.items = sym (ap (λ v. length v.items) kept.1 ∙ keeps.2) in
         let number : sequence_behind sequence (turn_head sequence at.info.id n.planned.count (slice_get at.left 0)) ≡ sequence_behind sequence n.head = ap (sequence_behind sequence) (sym head_is) in
         let schedule : turned s end n.planned.count (slice_get (samples_after (piece_from end) at.left) 0) ≡ later = (λ i. turned s (sym end_is i) n.planned.count (sym next_is i)) ∙ sym is in
         let nexts : slice_set w.nexts.items s.track (slice_get (samples_after (piece_from end) at.left) 0) ≡ w2.nexts.items = sym (ap (λ v. v.items) kept.2 ∙ it.nexts ∙ (λ i. slice_set w.nexts.items (here.0 i) (next_is i))) in
-        subst (λ (k : ℕ). WritesOn file tree m later (sequence_behind sequence n.head) w2.planning.items w2.copying.items w2.nexts.items k before last (waiting w2.carrier)) rows
-        (subst (λ (xs : List (Option SampleAt)). WritesOn file tree m later (sequence_behind sequence n.head) w2.planning.items w2.copying.items xs (length w.rows.items) before last (waiting w2.carrier)) nexts
-        (subst (λ (ws : List Walk). WritesOn file tree m later (sequence_behind sequence n.head) w2.planning.items ws (slice_set w.nexts.items s.track (slice_get (samples_after (piece_from end) at.left) 0)) (length w.rows.items) before last (waiting w2.carrier)) copy
-        (subst (λ (ws : List Walk). WritesOn file tree m later (sequence_behind sequence n.head) ws (slice_set w.copying.items s.track x.0) (slice_set w.nexts.items s.track (slice_get (samples_after (piece_from end) at.left) 0)) (length w.rows.items) before last (waiting w2.carrier)) plan
-        (subst (λ (k : ℕ). WritesOn file tree m later k (slice_set w.planning.items s.track it.walk) (slice_set w.copying.items s.track x.0) (slice_set w.nexts.items s.track (slice_get (samples_after (piece_from end) at.left) 0)) (length w.rows.items) before last (waiting w2.carrier)) number
-        (subst (λ (r : Schedule). WritesOn file tree m r (sequence_behind sequence (turn_head sequence at.info.id n.planned.count (slice_get at.left 0))) (slice_set w.planning.items s.track it.walk) (slice_set w.copying.items s.track x.0) (slice_set w.nexts.items s.track (slice_get (samples_after (piece_from end) at.left) 0)) (length w.rows.items) before last (waiting w2.carrier)) schedule on)))))
+        subst (λ (k : ℕ). WritesOn file tree m later (sequence_behind sequence n.head) w2.planning.items w2.copying.items w2.behind.items w2.nexts.items k before last (waiting w2.carrier)) rows
+        (subst (λ (xs : List (Option SampleAt)). WritesOn file tree m later (sequence_behind sequence n.head) w2.planning.items w2.copying.items w2.behind.items xs (length w.rows.items) before last (waiting w2.carrier)) nexts
+        (subst (λ (ks : List ℕ). WritesOn file tree m later (sequence_behind sequence n.head) w2.planning.items w2.copying.items ks (slice_set w.nexts.items s.track (slice_get (samples_after (piece_from end) at.left) 0)) (length w.rows.items) before last (waiting w2.carrier)) numbers
+        (subst (λ (ws : List Walk). WritesOn file tree m later (sequence_behind sequence n.head) w2.planning.items ws (slice_set w.behind.items s.track x.1) (slice_set w.nexts.items s.track (slice_get (samples_after (piece_from end) at.left) 0)) (length w.rows.items) before last (waiting w2.carrier)) copy
+        (subst (λ (ws : List Walk). WritesOn file tree m later (sequence_behind sequence n.head) ws (slice_set w.copying.items s.track x.0) (slice_set w.behind.items s.track x.1) (slice_set w.nexts.items s.track (slice_get (samples_after (piece_from end) at.left) 0)) (length w.rows.items) before last (waiting w2.carrier)) plan
+        (subst (λ (k : ℕ). WritesOn file tree m later k (slice_set w.planning.items s.track it.walk) (slice_set w.copying.items s.track x.0) (slice_set w.behind.items s.track x.1) (slice_set w.nexts.items s.track (slice_get (samples_after (piece_from end) at.left) 0)) (length w.rows.items) before last (waiting w2.carrier)) number
+        (subst (λ (r : Schedule). WritesOn file tree m r (sequence_behind sequence (turn_head sequence at.info.id n.planned.count (slice_get at.left 0))) (slice_set w.planning.items s.track it.walk) (slice_set w.copying.items s.track x.0) (slice_set w.behind.items s.track x.1) (slice_set w.nexts.items s.track (slice_get (samples_after (piece_from end) at.left) 0)) (length w.rows.items) before last (waiting w2.carrier)) schedule on))))))

@@ -26,13 +26,14 @@ use Rattle.mp4_plan.specs.Pieces.{TimedSample, Piece, pieces}
 use Rattle.mp4_plan.specs.Taken.{AreTaken}
 use Rattle.mp4_plan.specs.TurnLaws.{piece_if}
 use Rattle.mp4_plan.specs.Turns.{first_scale, turn_end, turned, track_passed, wrapped, is_over}
-use Rattle.mp4_plan.specs.Writers.{AllCome, AllBegin, IsReady, firsts, first_dts, longest_piece, head_of_normal, turn_head, sequence_behind, turn_bytes}
+use Rattle.mp4_plan.specs.Writers.{AllCome, AllBegin, ComesBehind, IsReady, firsts, first_dts, longest_piece, head_of_normal, turn_head, sequence_behind, turn_bytes}
 use Rattle.mp4_plan.specs.declared.ends.End.{End}
 use Rattle.mp4_plan.specs.declared.moof_front.PieceHead.{PieceHead}
 use Rattle.mp4_plan.specs.declared.planner.Planned.{Planned}
 use Rattle.mp4_plan.specs.declared.schedule.Schedule.{Schedule}
 use Rattle.mp4_plan.specs.declared.writer.Writer.{Writer}
 use Rattle.mp4_plan.proofs.ComeAt.{come_at, come_with}
+use Rattle.mp4_plan.proofs.ComeBehind.{AllComeBehind, behind_with, none_behind}
 use Rattle.mp4_plan.proofs.EachAt.{holds_with}
 use Rattle.mp4_plan.proofs.FirstTurn.{IsFirst, begins_at, first_turn}
 use Rattle.mp4_plan.proofs.FrontsPut.{stopped_at, stopped_behind}
@@ -103,11 +104,11 @@ piece_small id (suc n) left (s ∷ samples) file keys z = omega arith
 -- ---- at a turn
 
 module _ (file : List ℕ) (tree : FileTree) (m : MovieSeen) where
-  pub record WritesOn (s : Schedule) (sequence : ℕ) (planning copying : List Walk) (nexts : List (Option SampleAt)) (rows : ℕ) (before after : Option (List ℕ)) (held : List ℕ) : Type 0 where
+  pub record WritesOn (s : Schedule) (sequence : ℕ) (planning copying : List Walk) (behind : List ℕ) (nexts : List (Option SampleAt)) (rows : ℕ) (before after : Option (List ℕ)) (held : List ℕ) : Type 0 where
     pub lefts : List (List SampleAt)
     pub comings : List Coming
     pub plan : AllCome file tree m tree.movie.tracks planning lefts
-    pub copy : AllCome file tree m tree.movie.tracks copying lefts
+    pub copy : AllComeBehind file tree m copying behind lefts
     pub shown : nexts ≡ firsts lefts
     pub turn : IsTurn file m.tracks s lefts comings
     pub lie : AllByRecursion (λ (left : List SampleAt). AllByRecursion (IsBelow (length file)) left) lefts
@@ -118,46 +119,49 @@ module _ (file : List ℕ) (tree : FileTree) (m : MovieSeen) where
     pub whole : normal (presentation_of file tree) ≡ done ++ pieces_bytes sequence (pieces_from s comings)
 
   -- the track whose turn it is, and what its turn takes
-  pub record AtTurn (s : Schedule) (planning copying : List Walk) (nexts : List (Option SampleAt)) (rows : ℕ) (lefts : List (List SampleAt)) (comings : List Coming) : Type 0 where
+  pub record AtTurn (s : Schedule) (planning copying : List Walk) (behind : List ℕ) (nexts : List (Option SampleAt)) (rows : ℕ) (lefts : List (List SampleAt)) (comings : List Coming) : Type 0 where
     pub t : TrackTree
     pub walk : Walk
     pub copied : Walk
+    pub number : ℕ
     pub left : List SampleAt
     pub info : TrackInfo
     pub is_tree : slice_get tree.movie.tracks s.track ≡ Some t
     pub is_walk : slice_get planning s.track ≡ Some walk
     pub is_copied : slice_get copying s.track ≡ Some copied
+    pub is_number : slice_get behind s.track ≡ Some number
     pub is_info : slice_get m.tracks s.track ≡ Some info
     pub comes : Comes file tree t m walk left
-    pub copies : Comes file tree t m copied left
+    pub copies : ComesBehind file tree t m copied number left
     pub keys : AreKeys (keys_seen info.keys)
     pub taken : TurnTaken file m.tracks s lefts comings info left
     pub below : AllByRecursion (IsBelow (length file)) left
     pub fits : more_of (piece_from (turn_end s info.timescale)) left ≤ rows
     pub shown : slice_get nexts s.track ≡ Some (slice_get left 0)
 
-  pub at_turn : (s : Schedule) (sequence : ℕ) (planning copying : List Walk) (nexts : List (Option SampleAt)) (rows : ℕ) (before after : Option (List ℕ)) (held : List ℕ) → IsOpenedAs file m tree → (h : WritesOn s sequence planning copying nexts rows before after held)
-      → s.track < s.tracks → s.tracks ≡ length m.tracks → length planning ≡ length m.tracks → length copying ≡ length m.tracks → AtTurn s planning copying nexts rows h.lefts h.comings
-  at_turn s sequence planning copying nexts rows before after held o h lt tracks plans copies =
+  pub at_turn : (s : Schedule) (sequence : ℕ) (planning copying : List Walk) (behind : List ℕ) (nexts : List (Option SampleAt)) (rows : ℕ) (before after : Option (List ℕ)) (held : List ℕ) → IsOpenedAs file m tree → (h : WritesOn s sequence planning copying behind nexts rows before after held)
+      → s.track < s.tracks → s.tracks ≡ length m.tracks → length planning ≡ length m.tracks → length copying ≡ length m.tracks → length behind ≡ length m.tracks → AtTurn s planning copying behind nexts rows h.lefts h.comings
+  at_turn s sequence planning copying behind nexts rows before after held o h lt tracks plans copies numbers =
       let a = come_at file tree m tree.movie.tracks planning h.lefts s.track h.plan (omega (arith, lt, tracks, plans)) in
-      let b = come_at file tree m tree.movie.tracks copying h.lefts s.track h.copy (omega (arith, lt, tracks, copies)) in
+      let b = there_is copying s.track (omega (arith, lt, tracks, copies)) in
+      let n = there_is behind s.track (omega (arith, lt, tracks, numbers)) in
       let i = there_is m.tracks s.track (omega (arith, lt, tracks)) in
       let f = (has_track file m tree s.track i.0 o i.1).facts in
       let taken = turn_taken file m.tracks s h.lefts h.comings i.0 a.left h.turn lt i.1 a.is_left in
-      let same_tree = one_member tree.movie.tracks s.track b.t a.t b.is_tree a.is_tree in
-      let same_left = one_member h.lefts s.track b.left a.left b.is_left a.is_left in
       record {
         t = a.t;
         walk = a.walk;
-        copied = b.walk;
+        copied = b.0;
+        number = n.0;
         left = a.left;
         info = i.0;
         is_tree = a.is_tree;
         is_walk = a.is_walk;
-        is_copied = b.is_walk;
+        is_copied = b.1;
+        is_number = n.1;
         is_info = i.1;
         comes = a.comes;
-        copies = subst (λ (left : List SampleAt). Comes file tree a.t m b.walk left) same_left (subst (λ (u : TrackTree). Comes file tree u m b.walk b.left) same_tree b.comes);
+        copies = h.copy s.track a.t b.0 n.0 a.left a.is_tree b.1 n.1 a.is_left;
         keys = record { apart = f.apart; named = f.named; few = f.few_keys };
         taken = taken;
         below = member_at (λ (left : List SampleAt). AllByRecursion (IsBelow (length file)) left) h.lefts s.track a.left a.is_left h.lie;
@@ -165,7 +169,7 @@ module _ (file : List ℕ) (tree : FileTree) (m : MovieSeen) where
         shown = ap (λ xs. slice_get xs s.track) h.shown ∙ first_at h.lefts s.track a.left a.is_left;
       }
 
-  module _ (s : Schedule) (sequence : ℕ) (planning copying : List Walk) (nexts : List (Option SampleAt)) (rows : ℕ) (before after : Option (List ℕ)) (held : List ℕ) (h : WritesOn s sequence planning copying nexts rows before after held) where
+  module _ (s : Schedule) (sequence : ℕ) (planning copying : List Walk) (behind : List ℕ) (nexts : List (Option SampleAt)) (rows : ℕ) (before after : Option (List ℕ)) (held : List ℕ) (h : WritesOn s sequence planning copying behind nexts rows before after held) where
     -- what was put so far is a front
     pub stopped : AppendsPrefix before after (normal (presentation_of file tree))
     stopped = stopped_behind before after [] held h.done (pieces_bytes sequence (pieces_from s h.comings)) (normal (presentation_of file tree)) h.goes h.whole
@@ -182,7 +186,7 @@ module _ (file : List ℕ) (tree : FileTree) (m : MovieSeen) where
         let q : AppendsPrefix before last (h.done ++ []) = BytesGoOn-fails before after last [] held h.done [] h.goes (AppendsPrefix-longer after last held [] p) in
         subst (λ (bs : List ℕ). AppendsPrefix before last bs) (append-nil h.done ∙ sym (all_done none)) q
 
-    module _ (a : AtTurn s planning copying nexts rows h.lefts h.comings) (p : Planned) (is : p ≡ planned_of (piece_fed (piece_from (turn_end s a.info.timescale)) a.left).gathered) (few : IsFew p) where
+    module _ (a : AtTurn s planning copying behind nexts rows h.lefts h.comings) (p : Planned) (is : p ≡ planned_of (piece_fed (piece_from (turn_end s a.info.timescale)) a.left).gathered) (few : IsFew p) where
       abbrev end : End
       end = turn_end s a.info.timescale
 
@@ -195,11 +199,11 @@ module _ (file : List ℕ) (tree : FileTree) (m : MovieSeen) where
       abbrev piece : List Piece
       piece = piece_if a.info.id a.taken.samples
 
-      abbrev behind : List SampleAt
-      behind = samples_after (piece_from end) a.left
+      abbrev rest : List SampleAt
+      rest = samples_after (piece_from end) a.left
 
       abbrev next : Schedule
-      next = turned s end count (slice_get behind 0)
+      next = turned s end count (slice_get rest 0)
 
       counted : p.count ≡ count
       counted = ap (λ (q : Planned). q.count) is ∙ piece_counts end a.left
@@ -237,31 +241,31 @@ module _ (file : List ℕ) (tree : FileTree) (m : MovieSeen) where
           (ap (λ (bs : List ℕ). h.done ++ bs) (sym written)) rest_is
 
       -- it is taken along
-      pub turn_over : (later copied : Walk) (last : Option (List ℕ)) (held_later : List ℕ) → Comes file tree a.t m later behind → Comes file tree a.t m copied (drop p.count a.left)
+      pub turn_over : (later copied : Walk) (number : ℕ) (last : Option (List ℕ)) (held_later : List ℕ) → Comes file tree a.t m later rest → ComesBehind file tree a.t m copied number (drop p.count a.left)
           → BytesGoOn after last held held_later (turn_bytes file head p keys (take p.count a.left))
-          → WritesOn (turned s end p.count (slice_get behind 0)) (sequence_behind sequence head) (slice_set planning s.track later) (slice_set copying s.track copied) (slice_set nexts s.track (slice_get behind 0)) rows before last held_later
-      turn_over later copied last held_later comes copies bytes =
-          let walks = come_with file tree m tree.movie.tracks planning h.lefts s.track a.t later behind h.plan a.is_tree comes in
-          let own = subst (λ n. Comes file tree a.t m copied (drop n a.left)) counted copies in
-          let copying_walks = come_with file tree m tree.movie.tracks copying h.lefts s.track a.t copied behind h.copy a.is_tree own in
+          → WritesOn (turned s end p.count (slice_get rest 0)) (sequence_behind sequence head) (slice_set planning s.track later) (slice_set copying s.track copied) (slice_set behind s.track number) (slice_set nexts s.track (slice_get rest 0)) rows before last held_later
+      turn_over later copied number last held_later comes copies bytes =
+          let walks = come_with file tree m tree.movie.tracks planning h.lefts s.track a.t later rest h.plan a.is_tree comes in
+          let own = subst (λ n. ComesBehind file tree a.t m copied number (drop n a.left)) counted copies in
+          let copying_walks = behind_with file tree m copying behind h.lefts s.track a.t copied number rest h.copy a.is_tree own in
           let small = h.small in
           let few_pieces = small_piece in
           let n = a.taken.few in
           let left = h.turn.left in
           let later_left = a.taken.on.left in
-          let by = turned_left s end count (slice_get behind 0) in
-          let number = numbered in
-          let same : next ≡ turned s end p.count (slice_get behind 0) = ap (λ k. turned s end k (slice_get behind 0)) (sym counted) in
-          subst (λ (r : Schedule). WritesOn r (sequence_behind sequence head) (slice_set planning s.track later) (slice_set copying s.track copied) (slice_set nexts s.track (slice_get behind 0)) rows before last held_later) same (record {
-            lefts = slice_set h.lefts s.track behind;
+          let by = turned_left s end count (slice_get rest 0) in
+          let numbers = numbered in
+          let same : next ≡ turned s end p.count (slice_get rest 0) = ap (λ k. turned s end k (slice_get rest 0)) (sym counted) in
+          subst (λ (r : Schedule). WritesOn r (sequence_behind sequence head) (slice_set planning s.track later) (slice_set copying s.track copied) (slice_set behind s.track number) (slice_set nexts s.track (slice_get rest 0)) rows before last held_later) same (record {
+            lefts = slice_set h.lefts s.track rest;
             comings = a.taken.later;
             plan = walks;
             copy = copying_walks;
-            shown = ap (λ xs. slice_set xs s.track (slice_get behind 0)) h.shown ∙ sym (firsts_set h.lefts s.track behind);
+            shown = ap (λ xs. slice_set xs s.track (slice_get rest 0)) h.shown ∙ sym (firsts_set h.lefts s.track rest);
             turn = a.taken.on;
-            lie = holds_with (λ (l : List SampleAt). AllByRecursion (IsBelow (length file)) l) h.lefts s.track behind (each_dropped (IsBelow (length file)) count a.left a.below) h.lie;
+            lie = holds_with (λ (l : List SampleAt). AllByRecursion (IsBelow (length file)) l) h.lefts s.track rest (each_dropped (IsBelow (length file)) count a.left a.below) h.lie;
             fits = (turn_fits rows file m.tracks s h.lefts h.comings a.info a.left a.taken h.fits).1;
-            small = omega (arith, small, few_pieces, n, left, later_left, by, number);
+            small = omega (arith, small, few_pieces, n, left, later_left, by, numbers);
             done = h.done ++ pieces_bytes sequence piece;
             goes = BytesGoOn-then before after last [] held held_later h.done (turn_bytes file head p keys (take p.count a.left)) (h.done ++ pieces_bytes sequence piece) h.goes bytes (ap (λ (bs : List ℕ). h.done ++ bs) (sym written));
             whole = rest_is;
@@ -274,9 +278,9 @@ module _ (file : List ℕ) (tree : FileTree) (m : MovieSeen) where
   all_lie (i ∷ infos) (t ∷ trees) z = (z.0.lies, all_lie infos trees z.1)
 
   -- the first turn
-  pub begins : (s : Schedule) (w : Writer) (planning copying : List Walk) (nexts : List (Option SampleAt)) (before after : Option (List ℕ)) (held : List ℕ) → IsOpenedAs file m tree → IsReady file tree m w → IsFirst m.tracks (map (track_samples tree) tree.movie.tracks) s
-      → AllBegin file tree m planning → AllBegin file tree m copying → nexts ≡ firsts (map (track_samples tree) tree.movie.tracks) → BytesGoOn before after (waiting w.carrier) held w.head.items → WritesOn s 1 planning copying nexts (length w.rows.items) before after held
-  begins s w planning copying nexts before after held o r first plan copy shown goes =
+  pub begins : (s : Schedule) (w : Writer) (planning copying : List Walk) (behind : List ℕ) (nexts : List (Option SampleAt)) (before after : Option (List ℕ)) (held : List ℕ) → IsOpenedAs file m tree → IsReady file tree m w → IsFirst m.tracks (map (track_samples tree) tree.movie.tracks) s
+      → AllBegin file tree m planning → AllBegin file tree m copying → AllByRecursion (λ (n : ℕ). n ≡ 0) behind → nexts ≡ firsts (map (track_samples tree) tree.movie.tracks) → BytesGoOn before after (waiting w.carrier) held w.head.items → WritesOn s 1 planning copying behind nexts (length w.rows.items) before after held
+  begins s w planning copying behind nexts before after held o r first plan copy zeros shown goes =
       let all = first_turn file m tree s o first in
       let p = presentation_of file tree in
       let few = few_left file m tree o in
@@ -284,7 +288,7 @@ module _ (file : List ℕ) (tree : FileTree) (m : MovieSeen) where
         lefts = map (track_samples tree) tree.movie.tracks;
         comings = map coming_of p.tracks;
         plan = plan;
-        copy = copy;
+        copy = none_behind file tree m copying behind (map (track_samples tree) tree.movie.tracks) copy zeros few;
         shown = shown;
         turn = all.0;
         lie = all_lie m.tracks tree.movie.tracks (track_facts file m tree o);

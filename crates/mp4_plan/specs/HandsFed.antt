@@ -16,10 +16,12 @@ use Rattle.mp4_present.specs.declared.in_hand.Place.{Place}
 use Rattle.mp4_present.specs.declared.walks.Walk.{Walk}
 use Rattle.mp4_plan.specs.Ends.{goes_in}
 use Rattle.mp4_plan.specs.Gathering.{Planning, description_in, count_of, more_of, piece_fed, samples_after}
+use Rattle.mp4_plan.specs.Stretches.{JoinsOn}
 use Rattle.mp4_plan.specs.Taken.{row_seen}
+use Rattle.mp4_plan.specs.declared.joined.Stretches.{Stretches}
 use Rattle.mp4_plan.specs.declared.courses.Stop.{Stop}
 use Rattle.mp4_plan.specs.declared.courses.Stop.TheVariants.{Empty, Ended, Full}
-use Rattle.mp4_plan.specs.declared.courses.Load.{Load}
+use Rattle.mp4_plan.specs.declared.carrying.Load.{Load}
 use Rattle.mp4_plan.specs.declared.rows.Row.{Row}
 
 -- the number of bytes of some samples
@@ -83,9 +85,18 @@ pub record HandFed (m : MovieSeen) (w : Walk) (room : ℕ) (before after : Plann
   pub count : count_of after.gathered ≡ count_of before.gathered + length done
   pub taken : HasTaken room stop before after (left_in_hand hand) (left_in_hand later)
 
--- They were noted in the first rows, too.
-abbrev pub HandNoted : MovieSeen → Walk → ℕ → Planning → Planning → Stop → Place → List Row → Type 0
-HandNoted m w room before after stop place rows = (fed : HandFed m w room before after stop place) × (take (length fed.done) rows ≡ map row_seen fed.done)
+-- They were noted in the first rows, too, and where their bytes lie.
+abbrev pub HandNoted : MovieSeen → Walk → ℕ → Planning → Planning → Stop → Place → List Row → Stretches → Stretches → Type 0
+HandNoted m w room before after stop place rows told told_after = (fed : HandFed m w room before after stop place) × (take (length fed.done) rows ≡ map row_seen fed.done) × JoinsOn told told_after fed.done
+
+-- The samples in hand of a walk were passed, so many at most, and the walk goes on from a place. Where more were to be passed, none is left in hand.
+pub record HandPassed (m : MovieSeen) (w : Walk) (most left : ℕ) (place : Place) : Type 0 where
+  pub hand : InHand
+  pub is_hand : InHandOf m w hand
+  pub later : InHand
+  pub is_later : InHandOf m (record w { place = place }) later
+  pub taken : TakesFirst most left (left_in_hand hand) (left_in_hand later)
+  pub ends : 0 < left → left_in_hand later ≡ []
 
 -- A walk that goes on from this place of what it has in hand took the steps to there, and may take the others.
 abbrev pub KeepsOn : MovieSeen → Walk → Place → Type 0

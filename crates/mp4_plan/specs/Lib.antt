@@ -16,5 +16,6 @@ pub mod UsedKeys
 pub mod Taken
 pub mod Coming
 pub mod TurnLaws
+pub mod Stretches
 pub mod HandsFed
 pub mod Work

@@ -19,6 +19,7 @@ use Rattle.mp4_present.specs.declared.walks.Walk.{Walk}
 use Rattle.mp4_tables.specs.declared.sample.SampleAt.{SampleAt}
 use Rattle.mp4_plan.specs.Sizes.{moof_sizes}
 use Rattle.mp4_plan.specs.Pieces.{Piece, pieces}
+use Rattle.mp4_plan.specs.Stretches.{Tells}
 use Rattle.mp4_plan.specs.Taken.{piece_front, row_seen}
 use Rattle.mp4_plan.specs.declared.moof_front.PieceHead.{PieceHead}
 use Rattle.mp4_plan.specs.declared.planner.Planned.{Planned}
@@ -40,12 +41,13 @@ pub record IsWriterOf (m : MovieSeen) (w : Writer) : Type 0 where
   pub copying : AreWalksOf m w.copying.items
   pub few : length w.rows.items ≤ 2 ^ 24
   pub nexts : length w.nexts.items ≡ length m.tracks
+  pub behind : length w.behind.items ≡ length m.tracks
 
 -- the room for `moof`s in some walks
 abbrev pub rooms : List Walk → ℕ
 rooms walks = sum_by (λ (walk : Walk). length walk.bytes.items) walks
 
--- all that a writer holds: its head, the buffer in which bytes wait, 24 bytes for each row, and a `moof` in each walk
+-- all that a writer holds whose length the file decides: its head, the buffer in which bytes wait, 24 bytes for each row, and a `moof` in each walk
 abbrev pub held : Writer → ℕ
 held w = length w.head.items + length w.carrier.buffer.items + 24 * length w.rows.items + rooms w.planning.items + rooms w.copying.items
 
@@ -102,6 +104,7 @@ pub record IsReady (file : List ℕ) (tree : FileTree) (m : MovieSeen) (w : Writ
   pub rows : length w.rows.items ≡ longest_piece (pieces (presentation_of file tree))
   pub planning : AllBegin file tree m w.planning.items
   pub copying : AllBegin file tree m w.copying.items
+  pub behind : AllByRecursion (λ (n : ℕ). n ≡ 0) w.behind.items
 
 -- What was noted at a turn, of a track of which these samples come: a piece of them, and its walk stands behind it.
 pub record HasNoted (file : List ℕ) (tree : FileTree) (t : TrackTree) (m : MovieSeen) (turn : Turn) (sequence id : ℕ) (left : List SampleAt) (before after : Writer) (n : Noted) : Type 0 where
@@ -113,6 +116,7 @@ pub record HasNoted (file : List ℕ) (tree : FileTree) (t : TrackTree) (m : Mov
   pub planning : after.planning.items ≡ slice_set before.planning.items turn.track walk
   pub nexts : after.nexts.items ≡ slice_set before.nexts.items turn.track n.next
   pub comes : Comes file tree t m walk (samples_after (piece_from turn.end) left)
+  pub stretches : Tells after.stretches (take n.planned.count left)
 
 -- what is written of a piece, by what was planned of its samples
 abbrev pub bytes_of_piece : List ℕ → PieceHead → Planned → List GroupKey → List SampleAt → List ℕ
@@ -123,19 +127,29 @@ abbrev pub turn_bytes : List ℕ → Option PieceHead → Planned → List Group
 turn_bytes file None p keys samples = []
 turn_bytes file (Some head) p keys samples = bytes_of_piece file head p keys samples
 
--- The samples of a track that come in its copying walk were noted, so many of them.
+-- So many samples come in a walk that were copied without it, and then these.
+pub record ComesBehind (file : List ℕ) (tree : FileTree) (t : TrackTree) (m : MovieSeen) (walk : Walk) (behind : ℕ) (samples : List SampleAt) : Type 0 where
+  pub copied : List SampleAt
+  pub many : length copied ≡ behind
+  pub comes : Comes file tree t m walk (copied ++ samples)
+  pub few : behind + length samples ≤ 2 ^ 24
+
+-- The samples of a track that are to be copied were noted, so many of them: their rows, and where their bytes lie.
 pub record IsNoted (file : List ℕ) (tree : FileTree) (m : MovieSeen) (track count : ℕ) (samples : List SampleAt) (w : Writer) : Type 0 where
   pub t : TrackTree
   pub walk : Walk
+  pub behind : ℕ
   pub is_walk : slice_get w.copying.items track ≡ Some walk
-  pub comes : Comes file tree t m walk samples
+  pub is_behind : slice_get w.behind.items track ≡ Some behind
+  pub comes : ComesBehind file tree t m walk behind samples
   pub rows : take count w.rows.items ≡ map row_seen (take count samples)
+  pub stretches : Tells w.stretches (take count samples)
 
--- so many samples of a track were copied
+-- so many samples of a track were copied, by its walk or without it
 abbrev pub HaveCopied : List ℕ → FileTree → MovieSeen → ℕ → ℕ → List SampleAt → Writer → Writer → Type 0
 HaveCopied file tree m track count samples before after =
-    (t : TrackTree) (walk : Walk) → slice_get before.copying.items track ≡ Some walk → Comes file tree t m walk samples
-    → (next : Walk) × (after.copying.items ≡ slice_set before.copying.items track next) × Comes file tree t m next (drop count samples)
+    (t : TrackTree) (walk : Walk) (behind : ℕ) → slice_get before.copying.items track ≡ Some walk → slice_get before.behind.items track ≡ Some behind → ComesBehind file tree t m walk behind samples
+    → (next : Walk) × (later : ℕ) × (after.copying.items ≡ slice_set before.copying.items track next) × (after.behind.items ≡ slice_set before.behind.items track later) × ComesBehind file tree t m next later (drop count samples)
 
 -- the next sample of each track
 abbrev pub firsts : List (List SampleAt) → List (Option SampleAt)

@@ -1,6 +1,7 @@
 //! A piece that is fed with samples.
 use crate::ends::{End, Fed, has_ended};
 use crate::gathered::{Gathered, gather_more, gathered_first};
+use crate::joined::Stretches;
 use crate::rows::{Row, row_of};
 use mp4_tables::{SampleAt, Samples};
 use std::marker::Model;
@@ -53,10 +54,11 @@ impl Model for Planner {
 }
 
 impl Planner {
-    ghost use Rattle.std.specs.Prelude.{◌≡◌, ℕ, ◌+◌, ◌*◌, ◌^◌, ◌<◌, ◌≤◌, length, slice_index, Some, None, ◌∷◌, []};
+    ghost use Rattle.std.specs.Prelude.{◌≡◌, ℕ, ◌+◌, ◌-◌, ◌*◌, ◌^◌, ◌<◌, ◌≤◌, length, take, slice_index, Some, None, ◌∷◌, []};
     ghost use Rattle.mp4_plan.specs.Ends.{goes_in};
     ghost use Rattle.mp4_plan.specs.Gathering.{description_in, gather, piece_fed, samples_after, answer, count_of, planned_of};
     ghost use Rattle.mp4_plan.specs.HandsFed.{Notes};
+    ghost use Rattle.mp4_plan.specs.Stretches.{JoinsOn};
 
     /// A piece without samples.
     pub fn new(end: End) -> Planner
@@ -148,11 +150,18 @@ impl Planner {
         Fed::More
     }
 
-    /// Takes samples and notes them in rows, until the piece ends or no sample or no row is left.
+    /// Takes samples and notes them in rows, and where their bytes lie, until the piece ends or no sample or no row is
+    /// left.
     #[inline(always)]
-    pub(crate) fn note<S: Samples>(&mut self, samples: &mut S, rows: &mut [Row])
+    pub(crate) fn note<S: Samples>(
+        &mut self,
+        samples: &mut S,
+        rows: &mut [Row],
+        stretches: &mut Stretches,
+    )
         requires { count_of self.old.gathered + length rows.old < 2 ^ 32 }
         ensures noted { Notes self.old self.new (S.rest samples.old) (S.rest samples.new) rows.old rows.new }
+        ensures joined { JoinsOn stretches.old stretches.new (take (count_of self.new.gathered - count_of self.old.gathered) (S.rest samples.old)) }
         ensures few { count_of self.new.gathered ≤ count_of self.old.gathered + length rows.old }
         ensures later { S.follows samples.old samples.new }
     {
@@ -165,6 +174,7 @@ impl Planner {
                 return;
             }
             rows[noted] = row_of(&sample);
+            stretches.add(&sample);
             noted += 1;
             self.take(sample);
             let _ = samples.next();

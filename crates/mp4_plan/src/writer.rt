@@ -12,7 +12,7 @@ ghost use Rattle.mp4_present.specs.declared.track_info.TrackInfo.{TrackInfo};
 ghost use Rattle.mp4_present.specs.Carried.{BytesGoOn, waiting};
 ghost use Rattle.mp4_present.specs.Coming.{Comes};
 ghost use Rattle.mp4_present.specs.Denotes.{FileTree, presentation_of};
-ghost use Rattle.mp4_present.specs.Joined.{IsBelow};
+ghost use Rattle.mp4_present.specs.Joined.{IsBelow, sample_bytes};
 ghost use Rattle.mp4_present.specs.OpenedMovie.{IsOpenedAs};
 ghost use Rattle.mp4_present.specs.Work.{walks_steps};
 ghost use Rattle.mp4_plan.specs.Normal.{normal};
@@ -24,8 +24,10 @@ ghost use Rattle.mp4_plan.specs.Gathering.{more_of, piece_from};
 ghost use Rattle.mp4_present.specs.Movies.{RefusesLoad};
 ghost use Rattle.mp4_plan.specs.Writers.{RefusesMemory, RefusesPlan, AreWalksOf, IsWriterOf, rooms, held, turn_head, sequence_behind, AllCome, AllBegin, first_dts, head_of_normal, IsReady, bytes_of_piece, turn_bytes, firsts, HasNoted, IsNoted, HaveCopied, IsPlanOf, WhereOpened, planned_length};
 
-use crate::courses::{Load, carry_piece, note_piece, peek_sample, plan_turn};
+use crate::carrying::{Load, carry_later};
+use crate::courses::{note_piece, peek_sample, plan_turn};
 use crate::ends::first_goes;
+use crate::joined::Stretches;
 use crate::moof_front::{PieceHead, moof_front};
 use crate::moof_rows::{carry_groups, carry_run};
 use crate::moof_sizes::sizes_of;
@@ -74,9 +76,13 @@ pub struct Writer {
     /// The bytes of `ftyp` and `moov`.
     head: Vec<u8>,
     rows: Vec<Row>,
-    /// For each track a walk that plans its pieces, and one that copies their bytes.
+    /// Where the bytes of the piece lie that is noted.
+    stretches: Stretches,
+    /// For each track a walk that plans its pieces, and one that copies their bytes where these lie in too many places.
     planning: Vec<Walk>,
     copying: Vec<Walk>,
+    /// How many samples of each track were copied without the walk that copies, and are before it still.
+    behind: Vec<u32>,
     /// The next sample of each track.
     nexts: Vec<Option<SampleAt>>,
 }
@@ -292,8 +298,10 @@ impl Writer {
             carrier: Carrier::new(alloc, PIECE)?,
             head: head_of(alloc, movie)?,
             rows: vec![in alloc; NO_ROW; plan.longest as usize]?,
+            stretches: Stretches::new(),
             planning: walks_of(alloc, movie)?,
             copying: walks_of(alloc, movie)?,
+            behind: vec![in alloc; 0; movie.tracks().len()]?,
             nexts: vec![in alloc; None; movie.tracks().len()]?,
         })
     }
@@ -312,7 +320,7 @@ impl Writer {
         requires track { turn.now.track < length movie.now.tracks }
         ensures writer { OnOk result (IsWriterOf movie.now self.new) }
         ensures held { held self.new ≡ held self.old }
-        ensures keeps { (self.new.copying ≡ self.old.copying) × (self.new.carrier ≡ self.old.carrier) × (length self.new.rows.items ≡ length self.old.rows.items) }
+        ensures keeps { (self.new.copying ≡ self.old.copying) × (self.new.carrier ≡ self.old.carrier) × (length self.new.rows.items ≡ length self.old.rows.items) × (self.new.behind ≡ self.old.behind) }
         ensures honesty { S.is_honest store.new ≡ S.is_honest store.old }
         ensures file { S.file store.new ≡ S.file store.old }
         ensures noted { WhereOpened (S.is_honest store.old) (S.file store.old) movie.now (λ tree. (t : TrackTree) (walk : Walk) (left : List SampleAt) → slice_get self.old.planning.items turn.now.track ≡ Some walk → Comes (S.file store.old) tree t movie.now walk left → slice_get self.old.nexts.items turn.now.track ≡ Some (slice_get left 0) → IfOk result (HasNoted (S.file store.old) tree t movie.now turn.now sequence id left self.old self.new)) }
@@ -323,6 +331,7 @@ impl Writer {
         ensures work { WhereOpened (S.is_honest store.old) (S.file store.old) movie.now (λ tree. (n : ℕ) → MayAllTake (S.file store.old) tree tree.movie.tracks self.old.planning.items n → OnOk result (AllTakeOn (S.file store.old) tree n self.new.planning.items steps.old steps.new)) }
         ensures most { WhereOpened (S.is_honest store.old) (S.file store.old) movie.now (λ tree. (n : ℕ) → MayAllTake (S.file store.old) tree tree.movie.tracks self.old.planning.items n → OnErr result (steps.new ≤ steps.old + n)) }
     {
+        self.stretches.clear();
         let first = self.nexts[turn.track];
         if !first_goes(&turn.end, &first) {
             return Ok(Noted {
@@ -333,7 +342,8 @@ impl Writer {
         }
         let walk = &mut self.planning[turn.track];
         let rows = self.rows.as_mut_slice();
-        let planned = note_piece(walk, turn.end, rows, movie, store, steps)?;
+        let told = &mut self.stretches;
+        let planned = note_piece(walk, turn.end, rows, told, movie, store, steps)?;
         let next = peek_sample(walk, movie, store, steps)?;
         self.nexts[turn.track] = next;
         Ok(Noted {
@@ -341,6 +351,59 @@ impl Writer {
             head: turn_head(sequence, id, planned.count, &first),
             next,
         })
+    }
+
+    // Takes the bytes of a track's samples along that were noted, so many as were planned. Where they lie in few places, the
+    // walk that copies stays where it is.
+    fn carry_data<S: Store, K: Sink, L: Ledger>(
+        &mut self,
+        track: usize,
+        planned: &Planned,
+        movie: &Movie,
+        store: &mut S,
+        sink: &mut K,
+        steps: &mut Steps<L>,
+    ) -> Result<(), Refusal>
+        requires writer { IsWriterOf movie.now self.old }
+        requires track { track < length movie.now.tracks }
+        ensures writer { OnOk result (IsWriterOf movie.now self.new) }
+        ensures held { held self.new ≡ held self.old }
+        ensures honesty { S.is_honest store.new ≡ S.is_honest store.old }
+        ensures file { S.file store.new ≡ S.file store.old }
+        ensures put { WhereOpened (S.is_honest store.old) (S.file store.old) movie.now (λ tree. (samples : List SampleAt) → IsNoted (S.file store.old) tree movie.now track planned.now.count samples self.old → OnOk result (BytesGoOn (K.contents sink.old) (K.contents sink.new) (waiting self.old.carrier) (waiting self.new.carrier) (sample_bytes (S.file store.old) (take planned.now.count samples)))) }
+        ensures prefix { WhereOpened (S.is_honest store.old) (S.file store.old) movie.now (λ tree. (samples : List SampleAt) → IsNoted (S.file store.old) tree movie.now track planned.now.count samples self.old → OnErr result (AppendsPrefix (K.contents sink.old) (K.contents sink.new) (waiting self.old.carrier ++ sample_bytes (S.file store.old) (take planned.now.count samples)))) }
+        ensures copied { WhereOpened (S.is_honest store.old) (S.file store.old) movie.now (λ tree. (samples : List SampleAt) → planned.now.count ≤ length samples → OnOk result (HaveCopied (S.file store.old) tree movie.now track planned.now.count samples self.old self.new)) }
+        ensures keeps { OnOk result ((self.new.planning ≡ self.old.planning) × (self.new.rows ≡ self.old.rows) × (self.new.nexts ≡ self.old.nexts)) }
+        ensures unchanged { WhereOpened (S.is_honest store.old) (S.file store.old) movie.now (λ tree. (samples : List SampleAt) → IsNoted (S.file store.old) tree movie.now track planned.now.count samples self.old → planned.now.count ≤ length samples → planned.now.bytes ≡ sum_of (λ (s : SampleAt). s.size) (take planned.now.count samples) → AllByRecursion (IsBelow (length (S.file store.old))) samples → IfErr result (λ r. r ≡ refusals.StoreChanged → ⊥)) }
+        ensures reads { OnOk result (S.read_failures store.new ≡ S.read_failures store.old) }
+        ensures puts { OnOk result (K.put_failures sink.new ≡ K.put_failures sink.old) }
+        ensures refusal { IfErr result (RefusesCarry (S.read_failures store.old) (S.read_failures store.new) (K.put_failures sink.old) (K.put_failures sink.new)) }
+        ensures work { WhereOpened (S.is_honest store.old) (S.file store.old) movie.now (λ tree. (n : ℕ) → MayAllTake (S.file store.old) tree tree.movie.tracks self.old.copying.items n → OnOk result (AllTakeOn (S.file store.old) tree n self.new.copying.items steps.old steps.new)) }
+        ensures most { WhereOpened (S.is_honest store.old) (S.file store.old) movie.now (λ tree. (n : ℕ) → MayAllTake (S.file store.old) tree tree.movie.tracks self.old.copying.items n → OnErr result (steps.new ≤ steps.old + n)) }
+    {
+        let behind = self.behind[track];
+        if self.stretches.are_all() {
+            self.stretches
+                .carry(planned.bytes, &mut self.carrier, store, sink)?;
+            self.behind[track] = behind.saturating_add(planned.count);
+            return Ok(());
+        }
+        self.behind[track] = 0;
+        let walk = &mut self.copying[track];
+        let load = Load {
+            samples: planned.count,
+            bytes: planned.bytes,
+        };
+        carry_later(
+            walk,
+            behind,
+            load,
+            &mut self.carrier,
+            movie,
+            store,
+            sink,
+            steps,
+        )
     }
 
     // Takes a piece along whose samples were noted.
@@ -365,7 +428,7 @@ impl Writer {
         ensures file { S.file store.new ≡ S.file store.old }
         ensures put { WhereOpened (S.is_honest store.old) (S.file store.old) movie.now (λ tree. (samples : List SampleAt) → IsNoted (S.file store.old) tree movie.now track planned.now.count samples self.old → (info : TrackInfo) → slice_get movie.now.tracks track ≡ Some info → AreApart (keys_seen info.keys) → OnOk result (BytesGoOn (K.contents sink.old) (K.contents sink.new) (waiting self.old.carrier) (waiting self.new.carrier) (bytes_of_piece (S.file store.old) head planned.now (keys_seen info.keys) (take planned.now.count samples)))) }
         ensures prefix { WhereOpened (S.is_honest store.old) (S.file store.old) movie.now (λ tree. (samples : List SampleAt) → IsNoted (S.file store.old) tree movie.now track planned.now.count samples self.old → (info : TrackInfo) → slice_get movie.now.tracks track ≡ Some info → AreApart (keys_seen info.keys) → OnErr result (AppendsPrefix (K.contents sink.old) (K.contents sink.new) (waiting self.old.carrier ++ bytes_of_piece (S.file store.old) head planned.now (keys_seen info.keys) (take planned.now.count samples)))) }
-        ensures copied { WhereOpened (S.is_honest store.old) (S.file store.old) movie.now (λ tree. (samples : List SampleAt) → OnOk result (HaveCopied (S.file store.old) tree movie.now track planned.now.count samples self.old self.new)) }
+        ensures copied { WhereOpened (S.is_honest store.old) (S.file store.old) movie.now (λ tree. (samples : List SampleAt) → planned.now.count ≤ length samples → OnOk result (HaveCopied (S.file store.old) tree movie.now track planned.now.count samples self.old self.new)) }
         ensures keeps { OnOk result ((self.new.planning ≡ self.old.planning) × (self.new.rows ≡ self.old.rows) × (self.new.nexts ≡ self.old.nexts)) }
         ensures unchanged { WhereOpened (S.is_honest store.old) (S.file store.old) movie.now (λ tree. (samples : List SampleAt) → IsNoted (S.file store.old) tree movie.now track planned.now.count samples self.old → planned.now.count ≤ length samples → planned.now.bytes ≡ sum_of (λ (s : SampleAt). s.size) (take planned.now.count samples) → AllByRecursion (IsBelow (length (S.file store.old))) samples → IfErr result (λ r. r ≡ refusals.StoreChanged → ⊥)) }
         ensures reads { OnOk result (S.read_failures store.new ≡ S.read_failures store.old) }
@@ -383,12 +446,7 @@ impl Writer {
         carry_groups(rows, planned, &keys, &mut self.carrier, sink)?;
         let mdat = header(FourCc(*b"mdat"), planned.bytes);
         self.carrier.carry(mdat.bytes(), sink)?;
-        let walk = &mut self.copying[track];
-        let load = Load {
-            samples: planned.count,
-            bytes: planned.bytes,
-        };
-        carry_piece(walk, load, &mut self.carrier, movie, store, sink, steps)
+        self.carry_data(track, planned, movie, store, sink, steps)
     }
 
     // Takes the piece of a turn along whose samples were noted, where it has some.
@@ -413,7 +471,7 @@ impl Writer {
         ensures file { S.file store.new ≡ S.file store.old }
         ensures put { WhereOpened (S.is_honest store.old) (S.file store.old) movie.now (λ tree. (samples : List SampleAt) → IsNoted (S.file store.old) tree movie.now track planned.now.count samples self.old → (info : TrackInfo) → slice_get movie.now.tracks track ≡ Some info → AreApart (keys_seen info.keys) → OnOk result (BytesGoOn (K.contents sink.old) (K.contents sink.new) (waiting self.old.carrier) (waiting self.new.carrier) (turn_bytes (S.file store.old) head planned.now (keys_seen info.keys) (take planned.now.count samples)))) }
         ensures prefix { WhereOpened (S.is_honest store.old) (S.file store.old) movie.now (λ tree. (samples : List SampleAt) → IsNoted (S.file store.old) tree movie.now track planned.now.count samples self.old → (info : TrackInfo) → slice_get movie.now.tracks track ≡ Some info → AreApart (keys_seen info.keys) → OnErr result (AppendsPrefix (K.contents sink.old) (K.contents sink.new) (waiting self.old.carrier ++ turn_bytes (S.file store.old) head planned.now (keys_seen info.keys) (take planned.now.count samples)))) }
-        ensures copied { WhereOpened (S.is_honest store.old) (S.file store.old) movie.now (λ tree. (samples : List SampleAt) → (head ≡ None → drop planned.now.count samples ≡ samples) → OnOk result (HaveCopied (S.file store.old) tree movie.now track planned.now.count samples self.old self.new)) }
+        ensures copied { WhereOpened (S.is_honest store.old) (S.file store.old) movie.now (λ tree. (samples : List SampleAt) → planned.now.count ≤ length samples → (head ≡ None → drop planned.now.count samples ≡ samples) → OnOk result (HaveCopied (S.file store.old) tree movie.now track planned.now.count samples self.old self.new)) }
         ensures keeps { OnOk result ((self.new.planning ≡ self.old.planning) × (self.new.rows ≡ self.old.rows) × (self.new.nexts ≡ self.old.nexts)) }
         ensures unchanged { WhereOpened (S.is_honest store.old) (S.file store.old) movie.now (λ tree. (samples : List SampleAt) → IsNoted (S.file store.old) tree movie.now track planned.now.count samples self.old → planned.now.count ≤ length samples → planned.now.bytes ≡ sum_of (λ (s : SampleAt). s.size) (take planned.now.count samples) → AllByRecursion (IsBelow (length (S.file store.old))) samples → IfErr result (λ r. r ≡ refusals.StoreChanged → ⊥)) }
         ensures reads { OnOk result (S.read_failures store.new ≡ S.read_failures store.old) }

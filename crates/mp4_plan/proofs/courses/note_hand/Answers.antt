@@ -1,5 +1,8 @@
+use Rattle.std.proofs.Common.{List, subst}
+use Rattle.mp4_tables.specs.declared.sample.SampleAt.{SampleAt}
+use Rattle.mp4_plan.specs.Stretches.{JoinsOn}
 use Rattle.mp4_present.proofs.WalkPlaces.{kept_on}
-use Rattle.mp4_plan.proofs.HandSteps.{notes_take, notes_left, notes_seen}
+use Rattle.mp4_plan.proofs.HandSteps.{notes_take, notes_left, notes_seen, notes_joined}
 use Rattle.mp4_plan.proofs.HandsTaken.{fed_stops, fed_counts, hand_kept}
 use Rattle.mp4_plan.proofs.CourseSteps.{hand_keeps}
 use Rattle.mp4_plan.proofs.courses.note_hand.Goals as goal
@@ -23,6 +26,7 @@ returns-clause-fed c =
         taken = rw (c.stop_at.ensures, c.peek.ensures) (fed_stops c.args.planner.now c.note.new.self _ _ _ _ h.piece left t);
       },
       notes_seen _ _ _ _ _ _ h,
+      subst (λ (l : List SampleAt). JoinsOn c.args.stretches.now c.note.new.stretches l) (notes_joined _ _ _ _ _ _ h (fed_counts c.args.planner.now c.note.new.self _ _ _ _ h.piece left t)) c.note.ensures.joined,
     )
 
 pub returns-clause-keeps : goal.returns-clause-keeps

@@ -3,7 +3,7 @@ use Rattle.std.proofs.lemmas.List.{length-take, length-drop}
 use Rattle.std.proofs.lemmas.Result.{err_from_is_err_and}
 use Rattle.mp4_present.specs.Movies.{InHandOf}
 use Rattle.mp4_plan.specs.Gathering.{Planning, planned_of}
-use Rattle.mp4_plan.proofs.PieceFed.{hand_fed, hand_ended, hand_full, hand_noted, notes_new, next_fed, none_fed, feeds_new}
+use Rattle.mp4_plan.proofs.PieceFed.{hand_fed, hand_ended, hand_full, hand_noted, hand_joined, notes_new, joins_new, next_fed, none_fed, feeds_new}
 use Rattle.mp4_plan.proofs.PlannerSteps.{planned_counts}
 use Rattle.mp4_plan.specs.declared.planner.Planned.{Planned}
 use Rattle.mp4_present.proofs.WayThrough.{takes_none}
@@ -21,6 +21,7 @@ loop-planner-init g c = record {
   rows = refl;
   fed = λ told. feeds_new (g.S.Store.file c.args.store.now) c.args.movie.now c.args.walk.now c.args.end c.new-planner.result c.new-planner.ensures;
   noted = λ told. notes_new (g.S.Store.file c.args.store.now) c.args.movie.now c.args.walk.now c.args.end c.new-planner.result c.args.rows.now c.new-planner.ensures;
+  joined = λ told. joins_new (g.S.Store.file c.args.store.now) c.args.movie.now c.args.walk.now c.args.end c.new-planner.result c.args.stretches.now c.new-planner.ensures;
   takes = λ told tree t n o h. takes_none (g.S.Store.file c.args.store.now) tree t n c.args.steps.now c.args.walk.now h;
 }
 
@@ -70,7 +71,8 @@ loop-planner-preserved g c =
           next_fed file m c.args.walk.now c.keep.new.self c.load.new.self _ planner fed.later c.in_ok-load-in-Empty.field-0 on is_hand fed.taken.2 ((rw (i.honesty, i.file) at l.loaded) told) (search rules);
       noted = λ told. (let rows = c.loop-planner.rows in
           let counted = ap (λ (p : Planned). p.count) c.piece.ensures.is ∙ planned_counts c.loop-planner.planner.gathered in
-          hand_noted (g.S.Store.file c.args.store.now) c.args.movie.now c.args.walk.now c.loop-planner.walk _ c.piece.result.count _ c.loop-planner.planner c.note_hand-hand.new.planner c.note_hand-hand.result.stop c.note_hand-hand.result.place rows c.note_hand-hand.new.rows _ (i.fed told) (i.noted told) c.note_hand-hand.ensures.fed counted (search rules));
+          hand_noted (g.S.Store.file c.args.store.now) c.args.movie.now c.args.walk.now c.loop-planner.walk _ c.piece.result.count _ c.loop-planner.planner c.note_hand-hand.new.planner c.note_hand-hand.result.stop c.note_hand-hand.result.place rows c.note_hand-hand.new.rows _ _ _ (i.fed told) (i.noted told) c.note_hand-hand.ensures.fed counted (search rules));
+      joined = λ told. hand_joined (g.S.Store.file c.args.store.now) c.args.movie.now c.args.walk.now c.loop-planner.walk _ _ c.loop-planner.planner c.note_hand-hand.new.planner c.note_hand-hand.result.stop c.note_hand-hand.result.place _ c.args.stretches.now _ _ (i.fed told) (i.joined told) c.note_hand-hand.ensures.fed;
       takes = λ told.
           let file = g.S.Store.file c.args.store.now in
           let m = c.args.movie.now in
@@ -105,7 +107,7 @@ returns-in-Ended-clause-noted g c told tree t samples o h =
     let i = c.loop-planner.invariant in
     let counted = ap (λ (p : Planned). p.count) c.piece.ensures.is ∙ planned_counts c.loop-planner.planner.gathered in
     let counted_now = ap (λ (p : Planned). p.count) c.piece-in-Ended.ensures.is ∙ planned_counts c.note_hand-hand.new.planner.gathered in
-    let on = hand_noted (g.S.Store.file c.args.store.now) c.args.movie.now c.args.walk.now c.loop-planner.walk _ c.piece.result.count _ c.loop-planner.planner c.note_hand-hand.new.planner c.note_hand-hand.result.stop c.note_hand-hand.result.place c.loop-planner.rows c.note_hand-hand.new.rows _
+    let on = hand_noted (g.S.Store.file c.args.store.now) c.args.movie.now c.args.walk.now c.loop-planner.walk _ c.piece.result.count _ c.loop-planner.planner c.note_hand-hand.new.planner c.note_hand-hand.result.stop c.note_hand-hand.result.place c.loop-planner.rows c.note_hand-hand.new.rows _ _ _
     (i.fed told) (i.noted told) c.note_hand-hand.ensures.fed counted (search rules) in
     rw counted_now (on tree t samples o h)
 
@@ -114,7 +116,7 @@ returns-then-not-branch-clause-noted g c told tree t samples o h =
     let i = c.loop-planner.invariant in
     let counted = ap (λ (p : Planned). p.count) c.piece.ensures.is ∙ planned_counts c.loop-planner.planner.gathered in
     let counted_now = ap (λ (p : Planned). p.count) c.piece-then-not-branch.ensures.is ∙ planned_counts c.note_hand-hand.new.planner.gathered in
-    let on = hand_noted (g.S.Store.file c.args.store.now) c.args.movie.now c.args.walk.now c.loop-planner.walk _ c.piece.result.count _ c.loop-planner.planner c.note_hand-hand.new.planner c.note_hand-hand.result.stop c.note_hand-hand.result.place c.loop-planner.rows c.note_hand-hand.new.rows _
+    let on = hand_noted (g.S.Store.file c.args.store.now) c.args.movie.now c.args.walk.now c.loop-planner.walk _ c.piece.result.count _ c.loop-planner.planner c.note_hand-hand.new.planner c.note_hand-hand.result.stop c.note_hand-hand.result.place c.loop-planner.rows c.note_hand-hand.new.rows _ _ _
     (i.fed told) (i.noted told) c.note_hand-hand.ensures.fed counted (search rules) in
     rw counted_now (on tree t samples o h)
 
@@ -149,3 +151,17 @@ returns-in_err-load-in-Empty-clause-most g c told tree t n o h =
     let m = c.args.movie.now in
     let kept = keeps_before file m c.args.walk.now c.loop-planner.walk _ _ (i.takes told) c.note_hand-hand.result.place c.keep.new.self _ c.note_hand-hand.ensures.keeps c.keep.ensures.place c.keep.ensures.work in
     rw p.1 (fails_before file m c.args.walk.now c.keep.new.self _ _ kept _ ((rw (i.honesty, i.file) at c.in_err-load-in-Empty.ensures.most) told) tree t n o h)
+
+pub returns-in-Ended-clause-joined : goal.returns-in-Ended-clause-joined
+returns-in-Ended-clause-joined g c told tree t samples o h =
+    let i = c.loop-planner.invariant in
+    let counted_now = ap (λ (p : Planned). p.count) c.piece-in-Ended.ensures.is ∙ planned_counts c.note_hand-hand.new.planner.gathered in
+    let on = hand_joined (g.S.Store.file c.args.store.now) c.args.movie.now c.args.walk.now c.loop-planner.walk _ _ c.loop-planner.planner c.note_hand-hand.new.planner c.note_hand-hand.result.stop c.note_hand-hand.result.place _ c.args.stretches.now _ _ (i.fed told) (i.joined told) c.note_hand-hand.ensures.fed in
+    rw counted_now (on tree t samples o h)
+
+pub returns-then-not-branch-clause-joined : goal.returns-then-not-branch-clause-joined
+returns-then-not-branch-clause-joined g c told tree t samples o h =
+    let i = c.loop-planner.invariant in
+    let counted_now = ap (λ (p : Planned). p.count) c.piece-then-not-branch.ensures.is ∙ planned_counts c.note_hand-hand.new.planner.gathered in
+    let on = hand_joined (g.S.Store.file c.args.store.now) c.args.movie.now c.args.walk.now c.loop-planner.walk _ _ c.loop-planner.planner c.note_hand-hand.new.planner c.note_hand-hand.result.stop c.note_hand-hand.result.place _ c.args.stretches.now _ _ (i.fed told) (i.joined told) c.note_hand-hand.ensures.fed in
+    rw counted_now (on tree t samples o h)

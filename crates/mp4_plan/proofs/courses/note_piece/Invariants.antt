@@ -2,7 +2,7 @@ use Rattle.std.specs.Prelude.{IsTrue}
 use Rattle.std.proofs.Common.{◌≡◌, ◌-◌, ◌≤◌, length}
 use Rattle.mp4_present.specs.Movies.{IsWalkOf}
 use Rattle.mp4_plan.specs.Gathering.{count_of, piece_from}
-use Rattle.mp4_plan.proofs.PieceFed.{FeedsOn, NotesOn}
+use Rattle.mp4_plan.proofs.PieceFed.{FeedsOn, NotesOn, JoinsFor}
 use Rattle.mp4_present.proofs.WayThrough.{TakesBefore}
 use Rattle.mp4_plan.proofs.courses.note_piece.Given as goal
 
@@ -18,6 +18,7 @@ invariant-loop-planner g l = record {
   rows : length l.rows ≡ length l.fn.rows;
   fed : IsTrue (g.S.Store.is_honest l.fn.store) → FeedsOn (g.S.Store.file l.fn.store) l.movie l.fn.walk l.walk (piece_from l.fn.end) l.planner;
   noted : IsTrue (g.S.Store.is_honest l.fn.store) → NotesOn (g.S.Store.file l.fn.store) l.movie l.fn.walk l.planner l.rows;
+  joined : IsTrue (g.S.Store.is_honest l.fn.store) → JoinsFor (g.S.Store.file l.fn.store) l.movie l.fn.walk l.planner l.fn.stretches l.stretches;
   takes : IsTrue (g.S.Store.is_honest l.fn.store) → TakesBefore (g.S.Store.file l.fn.store) l.movie l.fn.walk l.walk l.fn.steps l.steps;
 }
 

@@ -1,4 +1,4 @@
-use Rattle.std.proofs.Common.{◌≡◌, ℕ, ◌*◌, ◌≤◌, length, take}
+use Rattle.std.proofs.Common.{◌≡◌, ◌*◌, ◌≤◌, length, take}
 use Rattle.mp4_plan.specs.Spelling.{run_rows}
 use Rattle.mp4_plan.proofs.moof_rows.spell_rows.Given as goal
 

@@ -1,5 +1,6 @@
-use Rattle.std.proofs.Common.{◌≡◌, ◌+◌, ◌-◌, length}
+use Rattle.std.proofs.Common.{◌≡◌, ◌+◌, ◌-◌, length, take}
 use Rattle.mp4_plan.specs.Gathering.{count_of}
+use Rattle.mp4_plan.specs.Stretches.{JoinsOn}
 use Rattle.mp4_plan.proofs.HandSteps.{NotesUpTo}
 use Rattle.mp4_plan.proofs.planner.Planner.note.Given as goal
 
@@ -11,6 +12,7 @@ invariant-loop-noted g l =
       notes : NotesUpTo l.fn.self l.self l.noted (rest l.fn.samples) (rest l.samples) l.fn.rows l.rows;
       count : count_of l.self.gathered ≡ count_of l.fn.self.gathered + l.noted;
       later : g.S.Samples.follows l.fn.samples l.samples;
+      joined : JoinsOn l.fn.stretches l.stretches (take l.noted (rest l.fn.samples));
     }
 
 abbrev pub decreases-loop-noted : goal.decreases-loop-noted

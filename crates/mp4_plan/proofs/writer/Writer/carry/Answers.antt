@@ -1,24 +1,19 @@
-use Rattle.std.proofs.Common.{length, get_or, ℕ, List, take, map, refl, sym, ap, subst, ◌∙◌, arith}
+use Rattle.std.proofs.Common.{get_or, ℕ, List, take, map, refl, sym, ap, subst, ◌∙◌, arith}
 use Rattle.std.specs.Prelude.{codes}
-use Rattle.std.specs.Vec.{with_item}
 use Rattle.std.proofs.lemmas.Result.{err_from_is_err_and}
 use Rattle.mp4_boxes.specs.Written.{header_bytes}
 use Rattle.mp4_tables.specs.Keys.{keys_seen}
-use Rattle.mp4_present.specs.Coming.{Comes}
 use Rattle.mp4_present.specs.Joined.{sample_bytes}
 use Rattle.mp4_present.specs.declared.track_info.TrackInfo.{TrackInfo}
-use Rattle.mp4_present.specs.declared.walks.Walk.{Walk}
 use Rattle.mp4_present.proofs.WalkCopied.{put_unchanged, on_ok, on_err}
 use Rattle.mp4_plan.specs.Spelling.{run_rows}
 use Rattle.mp4_plan.specs.Taken.{row_seen}
 use Rattle.mp4_plan.specs.UsedKeys.{AreApart, groups_bytes}
-use Rattle.mp4_plan.proofs.CarriedParts.{parts_are, read_at, copied_from}
+use Rattle.mp4_plan.proofs.CarriedParts.{parts_are, read_at, noted_with}
 use Rattle.mp4_plan.proofs.PartsPut.{go_five, stop_one, stop_two, stop_three, stop_four, stop_five}
 use Rattle.mp4_plan.proofs.FrontsPut.{front_as}
 use Rattle.mp4_plan.proofs.Pushes.{goes_on_as}
 use Rattle.mp4_present.specs.Carried.{waiting}
-use Rattle.mp4_plan.proofs.AllTake.{ok_takes, err_stops}
-use Rattle.std.proofs.lemmas.Option.{slice_get_read}
 use Rattle.mp4_plan.proofs.writer.Writer.carry.Goals as goal
 
 pub moof_front-front-requires : goal.moof_front-front-requires
@@ -96,9 +91,8 @@ returns-clause-prefix g c told_honest tree o samples noted_are info is apart =
     let bytes_there = sample_bytes file (take p.count samples) in
     let keys = ap (λ (t : TrackInfo). keys_seen t.keys) (sym c.index-tracks-track.is ∙ read_at c.args.movie.now.tracks c.args.track info c.index-tracks-track.result is (rw c.tracks.ensures at c.index-tracks-track.is)) in
     let whole = parts_are c.args.head p c.sizes_of-sizes.result (keys_seen info.keys) told (map row_seen (take p.count samples)) noted front mdat bytes_there (c.as_bytes.ensures ∙ c.moof_front-front.ensures) c.sizes_of-sizes.ensures.is keys (ap (take p.count) c.deref.ensures.value ∙ noted_are.rows) (c.bytes.ensures ∙ c.header-mdat.ensures) in
-    let same = read_at c.args.self.now.copying.items c.args.track noted_are.walk c.index_mut-walk.result.now noted_are.is_walk c.index_mut-walk.ensures.value in
-    let comes = subst (λ (w : Walk). Comes file tree noted_are.t c.args.movie.now w samples) (sym same) noted_are.comes in
-    on_err _ _ c.carry_piece.result (λ x. (front_as (g.K.Sink.contents c.args.sink.now) (g.K.Sink.contents c.carry_piece.new.sink) (waiting c.args.self.now.carrier) _ _ (stop_five front (run_rows p noted) (groups_bytes noted p told) mdat bytes_there (g.K.Sink.contents c.args.sink.now) (g.K.Sink.contents c.carry.new.sink) (g.K.Sink.contents c.carry_run.new.sink) (g.K.Sink.contents c.carry_groups.new.sink) (g.K.Sink.contents c.carry-2.new.sink) (g.K.Sink.contents c.carry_piece.new.sink) (waiting c.args.self.now.carrier) (waiting c.carry.new.self) (waiting c.carry_run.new.carrier) (waiting c.carry_groups.new.carrier) (waiting c.carry-2.new.self) (waiting c.carry_piece.new.carrier) c.in_ok-carry.ensures.bytes c.in_ok-carry_run.ensures.bytes (c.in_ok-carry_groups.ensures.bytes (subst AreApart (sym keys) apart)) c.in_ok-carry-2.ensures.bytes x) whole)) (c.carry_piece.ensures.prefix told_honest tree noted_are.t samples o comes)
+    let here = noted_with file tree c.args.movie.now c.args.track p.count samples c.args.self.now c.carry-2.new.self noted_are in
+    on_err _ _ c.carry_data.result (λ x. (front_as (g.K.Sink.contents c.args.sink.now) (g.K.Sink.contents c.carry_data.new.sink) (waiting c.args.self.now.carrier) _ _ (stop_five front (run_rows p noted) (groups_bytes noted p told) mdat bytes_there (g.K.Sink.contents c.args.sink.now) (g.K.Sink.contents c.carry.new.sink) (g.K.Sink.contents c.carry_run.new.sink) (g.K.Sink.contents c.carry_groups.new.sink) (g.K.Sink.contents c.carry-2.new.sink) (g.K.Sink.contents c.carry_data.new.sink) (waiting c.args.self.now.carrier) (waiting c.carry.new.self) (waiting c.carry_run.new.carrier) (waiting c.carry_groups.new.carrier) (waiting c.carry-2.new.self) (waiting c.carry_data.new.self.carrier) c.in_ok-carry.ensures.bytes c.in_ok-carry_run.ensures.bytes (c.in_ok-carry_groups.ensures.bytes (subst AreApart (sym keys) apart)) c.in_ok-carry-2.ensures.bytes x) whole)) (c.carry_data.ensures.prefix told_honest tree o samples here)
 
 pub returns-clause-put : goal.returns-clause-put
 returns-clause-put g c told_honest tree o samples noted_are info is apart =
@@ -112,25 +106,17 @@ returns-clause-put g c told_honest tree o samples noted_are info is apart =
     let bytes_there = sample_bytes file (take p.count samples) in
     let keys = ap (λ (t : TrackInfo). keys_seen t.keys) (sym c.index-tracks-track.is ∙ read_at c.args.movie.now.tracks c.args.track info c.index-tracks-track.result is (rw c.tracks.ensures at c.index-tracks-track.is)) in
     let whole = parts_are c.args.head p c.sizes_of-sizes.result (keys_seen info.keys) told (map row_seen (take p.count samples)) noted front mdat bytes_there (c.as_bytes.ensures ∙ c.moof_front-front.ensures) c.sizes_of-sizes.ensures.is keys (ap (take p.count) c.deref.ensures.value ∙ noted_are.rows) (c.bytes.ensures ∙ c.header-mdat.ensures) in
-    let same = read_at c.args.self.now.copying.items c.args.track noted_are.walk c.index_mut-walk.result.now noted_are.is_walk c.index_mut-walk.ensures.value in
-    let comes = subst (λ (w : Walk). Comes file tree noted_are.t c.args.movie.now w samples) (sym same) noted_are.comes in
-    on_ok _ _ c.carry_piece.result (λ x. goes_on_as (g.K.Sink.contents c.args.sink.now) (g.K.Sink.contents c.carry_piece.new.sink) (waiting c.args.self.now.carrier) (waiting c.carry_piece.new.carrier) _ _ (go_five front (run_rows p noted) (groups_bytes noted p told) mdat bytes_there (g.K.Sink.contents c.args.sink.now) (g.K.Sink.contents c.carry.new.sink) (g.K.Sink.contents c.carry_run.new.sink) (g.K.Sink.contents c.carry_groups.new.sink) (g.K.Sink.contents c.carry-2.new.sink) (g.K.Sink.contents c.carry_piece.new.sink) (waiting c.args.self.now.carrier) (waiting c.carry.new.self) (waiting c.carry_run.new.carrier) (waiting c.carry_groups.new.carrier) (waiting c.carry-2.new.self) (waiting c.carry_piece.new.carrier) c.in_ok-carry.ensures.bytes c.in_ok-carry_run.ensures.bytes (c.in_ok-carry_groups.ensures.bytes (subst AreApart (sym keys) apart)) c.in_ok-carry-2.ensures.bytes x.0) whole) (c.carry_piece.ensures.carried told_honest tree noted_are.t samples o comes)
+    let here = noted_with file tree c.args.movie.now c.args.track p.count samples c.args.self.now c.carry-2.new.self noted_are in
+    on_ok _ _ c.carry_data.result (λ x. goes_on_as (g.K.Sink.contents c.args.sink.now) (g.K.Sink.contents c.carry_data.new.sink) (waiting c.args.self.now.carrier) (waiting c.carry_data.new.self.carrier) _ _ (go_five front (run_rows p noted) (groups_bytes noted p told) mdat bytes_there (g.K.Sink.contents c.args.sink.now) (g.K.Sink.contents c.carry.new.sink) (g.K.Sink.contents c.carry_run.new.sink) (g.K.Sink.contents c.carry_groups.new.sink) (g.K.Sink.contents c.carry-2.new.sink) (g.K.Sink.contents c.carry_data.new.sink) (waiting c.args.self.now.carrier) (waiting c.carry.new.self) (waiting c.carry_run.new.carrier) (waiting c.carry_groups.new.carrier) (waiting c.carry-2.new.self) (waiting c.carry_data.new.self.carrier) c.in_ok-carry.ensures.bytes c.in_ok-carry_run.ensures.bytes (c.in_ok-carry_groups.ensures.bytes (subst AreApart (sym keys) apart)) c.in_ok-carry-2.ensures.bytes x) whole) (c.carry_data.ensures.put told_honest tree o samples here)
 
 pub returns-clause-copied : goal.returns-clause-copied
-returns-clause-copied g c told_honest tree o samples =
-    let file = g.S.Store.file c.args.store.now in
-    let walks = c.args.self.now.copying.items in
-    copied_from c.carry_piece.result file tree c.args.movie.now c.args.track c.args.planned.now.count samples c.args.self.now (record c.args.self.now { carrier = c.carry_piece.new.carrier; copying = with_item c.args.self.now.copying c.args.track c.carry_piece.new.walk }) c.carry_piece.new.walk refl (λ t walk is comes.
-    let same = read_at walks c.args.track walk c.index_mut-walk.result.now is c.index_mut-walk.ensures.value in
-    let own = subst (λ (w : Walk). Comes file tree t c.args.movie.now w samples) (sym same) comes in
-    on_ok _ _ c.carry_piece.result (λ x. x.1) (c.carry_piece.ensures.carried told_honest tree t samples o own))
+returns-clause-copied g c told_honest tree o samples many = c.carry_data.ensures.copied told_honest tree o samples many
 
 pub returns-clause-unchanged : goal.returns-clause-unchanged
 returns-clause-unchanged g c told_honest tree o samples noted_are few bytes lie =
     let file = g.S.Store.file c.args.store.now in
-    let same = read_at c.args.self.now.copying.items c.args.track noted_are.walk c.index_mut-walk.result.now noted_are.is_walk c.index_mut-walk.ensures.value in
-    let comes = subst (λ (w : Walk). Comes file tree noted_are.t c.args.movie.now w samples) (sym same) noted_are.comes in
-    c.carry_piece.ensures.unchanged told_honest tree noted_are.t samples o comes few bytes lie
+    let here = noted_with file tree c.args.movie.now c.args.track c.args.planned.now.count samples c.args.self.now c.carry-2.new.self noted_are in
+    c.carry_data.ensures.unchanged told_honest tree o samples here few bytes lie
 
 pub returns-in_err-carry-clause-unchanged : goal.returns-in_err-carry-clause-unchanged
 returns-in_err-carry-clause-unchanged g c told_honest tree o samples noted_are few bytes lie =
@@ -153,21 +139,7 @@ returns-in_err-carry-2-clause-unchanged g c told_honest tree o samples noted_are
     rw (e.1, e.2) (put_unchanged _ _ _ c.in_err-carry-2.ensures.refusal)
 
 pub returns-clause-work : goal.returns-clause-work
-returns-clause-work g c told_honest tree o n h =
-    let file = g.S.Store.file c.args.store.now in
-    let walks = c.args.self.now.copying.items in
-    let k = c.args.track in
-    let lt = c.requires.track in
-    let many = c.requires.writer.copying.count in
-    let there = slice_get_read walks (length walks) k c.index_mut-walk.result.now refl (omega (arith, lt, many)) c.index_mut-walk.ensures.value in
-    ok_takes file tree c.carry_piece.result walks k c.index_mut-walk.result.now c.carry_piece.new.walk n _ _ h there (λ t own may. c.carry_piece.ensures.work told_honest tree t own o may)
+returns-clause-work g c told_honest tree o n h = c.carry_data.ensures.work told_honest tree o n h
 
 pub returns-clause-most : goal.returns-clause-most
-returns-clause-most g c told_honest tree o n h =
-    let file = g.S.Store.file c.args.store.now in
-    let walks = c.args.self.now.copying.items in
-    let k = c.args.track in
-    let lt = c.requires.track in
-    let many = c.requires.writer.copying.count in
-    let there = slice_get_read walks (length walks) k c.index_mut-walk.result.now refl (omega (arith, lt, many)) c.index_mut-walk.ensures.value in
-    err_stops file tree c.carry_piece.result walks k c.index_mut-walk.result.now n _ _ h there (λ t own may. c.carry_piece.ensures.most told_honest tree t own o may)
+returns-clause-most g c told_honest tree o n h = c.carry_data.ensures.most told_honest tree o n h

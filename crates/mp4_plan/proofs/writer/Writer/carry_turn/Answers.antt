@@ -1,8 +1,8 @@
 use Rattle.std.proofs.Common.{List, sym, subst}
 use Rattle.std.proofs.lemmas.Result.{err_from_is_err_and}
 use Rattle.mp4_tables.specs.declared.sample.SampleAt.{SampleAt}
-use Rattle.mp4_present.specs.Coming.{Comes}
 use Rattle.mp4_present.proofs.Carrying.{BytesGoOn-nothing}
+use Rattle.mp4_plan.specs.Writers.{ComesBehind}
 use Rattle.mp4_plan.proofs.ComeAt.{set_same}
 use Rattle.mp4_plan.proofs.StepsOn.{none_taken}
 use Rattle.mp4_plan.proofs.writer.Writer.carry_turn.Goals as goal
@@ -21,16 +21,18 @@ pub returns-in_ok-carry-clause-put : goal.returns-in_ok-carry-clause-put
 returns-in_ok-carry-clause-put g c told tree o samples noted info is apart = rw c.in-Some.is (c.in_ok-carry.ensures.put told tree o samples noted info is apart)
 
 pub returns-in_ok-carry-clause-copied : goal.returns-in_ok-carry-clause-copied
-returns-in_ok-carry-clause-copied g c told tree o samples none = c.in_ok-carry.ensures.copied told tree o samples
+returns-in_ok-carry-clause-copied g c told tree o samples many none = c.in_ok-carry.ensures.copied told tree o samples many
 
 pub returns-in_default-clause-put : goal.returns-in_default-clause-put
 returns-in_default-clause-put g c told tree o samples noted info is apart = rw c.in_default.is (BytesGoOn-nothing _ _)
 
 pub returns-in_default-clause-copied : goal.returns-in_default-clause-copied
-returns-in_default-clause-copied g c told tree o samples none t walk is comes = (
+returns-in_default-clause-copied g c told tree o samples many none t walk behind is number comes = (
   walk,
+  behind,
   sym (set_same c.args.self.now.copying.items c.args.track walk is),
-  subst (λ (ss : List SampleAt). Comes (g.S.Store.file c.args.store.now) tree t c.args.movie.now walk ss) (sym (none c.in_default.is)) comes,
+  sym (set_same c.args.self.now.behind.items c.args.track behind number),
+  subst (λ (ss : List SampleAt). ComesBehind (g.S.Store.file c.args.store.now) tree t c.args.movie.now walk behind ss) (sym (none c.in_default.is)) comes,
 )
 
 pub returns-in_err-carry-clause-most : goal.returns-in_err-carry-clause-most

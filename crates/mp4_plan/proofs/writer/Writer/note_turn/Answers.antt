@@ -1,4 +1,4 @@
-use Rattle.std.proofs.Common.{rules, arith, ◌≡◌, List, Some, length, take, refl, sym, ap, subst, ◌∙◌}
+use Rattle.std.proofs.Common.{rules, arith, ◌≡◌, List, [], Some, length, take, refl, sym, ap, subst, ◌∙◌}
 use Rattle.std.specs.Prelude.{slice_get}
 use Rattle.std.proofs.lemmas.List.{with_items_is}
 use Rattle.std.proofs.lemmas.Option.{slice_get_read}
@@ -7,6 +7,7 @@ use Rattle.mp4_tables.specs.declared.sample.SampleAt.{SampleAt}
 use Rattle.mp4_present.specs.Coming.{Comes}
 use Rattle.mp4_present.specs.declared.walks.Walk.{Walk}
 use Rattle.mp4_plan.specs.Gathering.{Planning, planned_of, piece_from, samples_after}
+use Rattle.mp4_plan.specs.Stretches.{Tells}
 use Rattle.mp4_plan.specs.Writers.{turn_head}
 use Rattle.mp4_plan.specs.declared.planner.Planned.{Planned}
 use Rattle.mp4_plan.proofs.AllTake.{one_takes, one_stops}
@@ -38,6 +39,7 @@ returns-then-not-first_goes-clause-noted g c told tree o t walk left is comes sh
       planning = sym (set_same c.args.self.now.planning.items k walk is);
       nexts = sym (set_same c.args.self.now.nexts.items k c.index.result.now (shown ∙ ap Some (sym first)));
       comes = subst (λ (ss : List SampleAt). Comes file tree t m walk ss) (sym after) comes;
+      stretches = subst (λ k. Tells c.clear.new.self (take k left)) (sym count) c.clear.ensures;
     }
 
 pub returns-then-not-first_goes-clause-work : goal.returns-then-not-first_goes-clause-work
@@ -84,6 +86,7 @@ returns-clause-noted g c told tree o t walk left is comes shown =
       planning = refl;
       nexts = refl;
       comes = three.0;
+      stretches = p.joined told tree t left o here [] c.clear.ensures;
     }
 
 pub returns-in_err-planned-clause-most : goal.returns-in_err-planned-clause-most

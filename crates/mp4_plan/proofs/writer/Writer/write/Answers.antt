@@ -47,7 +47,7 @@ loop-turn-init g c =
     let next_len = w.nexts.ok.0 in
     let next_many = ap length nexts in
     record {
-      writer = record { planning = rw walks e.walks; copying = c.requires.copying; few = c.requires.few; nexts = omega (arith, each, next_count, next_len, next_many) };
+      writer = record { planning = rw walks e.walks; copying = c.requires.copying; few = c.requires.few; nexts = omega (arith, each, next_count, next_len, next_many); behind = c.requires.behind };
       held =
           let room = c.in_ok-carry.ensures.room in
           let old = w.carrier.buffer.ok.0 in
@@ -69,8 +69,8 @@ loop-turn-init g c =
           let time = c.first_time.ensures lefts (c.as_slice-2.ensures.value ∙ nexts ∙ shown.0) in
           let tracks = c.tracks-tracks.ensures in
           let first = is_first file tree m c.new-schedule.result c.first_time.result o (rw tracks at c.new-schedule.ensures.tracks) (rw tracks at c.new-schedule.ensures.first) c.new-schedule.ensures.starts (rw tracks at c.new-schedule.ensures.left) time in
-          begins file tree m c.new-schedule.result w (with_items w.planning c.peek_each.new.walks).items w.copying.items (with_items w.nexts c.peek_each.new.nexts).items (g.K.Sink.contents c.args.sink.now) (g.K.Sink.contents c.carry.new.sink) (waiting c.carry.new.self) o ready first
-          (rw walks shown.1) ready.copying (nexts ∙ shown.0) (rw c.as_slice.ensures.value at c.in_ok-carry.ensures.bytes);
+          begins file tree m c.new-schedule.result w (with_items w.planning c.peek_each.new.walks).items w.copying.items w.behind.items (with_items w.nexts c.peek_each.new.nexts).items (g.K.Sink.contents c.args.sink.now) (g.K.Sink.contents c.carry.new.sink) (waiting c.carry.new.self) o ready first
+          (rw walks shown.1) ready.copying ready.behind (nexts ∙ shown.0) (rw c.as_slice.ensures.value at c.in_ok-carry.ensures.bytes);
       within = λ told tree o n k plan copy.
           let on = e.work told tree o n (rw c.as_mut_slice-walks.ensures.value plan) in
           both_begin (g.S.Store.file c.args.store.now) tree (with_items w.planning c.peek_each.new.walks).items w.copying.items n k _ _ (rw walks on) copy;
@@ -87,7 +87,7 @@ returns-in_err-noted-clause-prefix g c told tree o ready =
     let h = i.on told tree o ready in
     let before = g.K.Sink.contents c.args.sink.now in
     let after = g.K.Sink.contents c.loop-turn.sink in
-    rw e.1 (stopped file tree m s c.loop-turn.sequence w.planning.items w.copying.items w.nexts.items (length w.rows.items) before after (waiting w.carrier) h)
+    rw e.1 (stopped file tree m s c.loop-turn.sequence w.planning.items w.copying.items w.behind.items w.nexts.items (length w.rows.items) before after (waiting w.carrier) h)
 
 pub returns-in_err-noted-clause-unchanged : goal.returns-in_err-noted-clause-unchanged
 returns-in_err-noted-clause-unchanged g c told tree o ready =
@@ -159,7 +159,7 @@ returns-in_err-pass-clause-prefix g c told tree o ready =
     let put = (rw (c.in_ok-noted.ensures.honesty, c.in_ok-noted.ensures.file, i.honesty, i.file) at c.in_ok-carry_turn.ensures.put) told tree o in
     let copied = (rw (c.in_ok-noted.ensures.honesty, c.in_ok-noted.ensures.file, i.honesty, i.file) at c.in_ok-carry_turn.ensures.copied) told tree o in
     let on = turn_goes file tree m o s c.loop-turn.sequence w before after h c.in-Some.turn here ends i.tracks i.writer c.note_turn.new.self c.in_ok-noted.noted (get_or c.tracks-tracks.result.now c.in-Some.turn.track c.index-tracks-turn.result).id noted c.in_ok-noted.ensures.keeps few is_id c.carry_turn.new.self (g.K.Sink.contents c.carry_turn.new.sink) _ put copied c.in_ok-carry_turn.ensures.keeps refl in
-    rw e.1 (stopped file tree m _ _ _ _ _ _ _ _ _ on)
+    rw e.1 (stopped file tree m _ _ _ _ _ _ _ _ _ _ on)
 
 pub returns-in_err-pass-clause-unchanged : goal.returns-in_err-pass-clause-unchanged
 returns-in_err-pass-clause-unchanged g c told tree o ready =
@@ -222,7 +222,7 @@ returns-clause-bytes g c told tree o ready =
     let before = g.K.Sink.contents c.args.sink.now in
     let after = g.K.Sink.contents c.loop-turn.sink in
     let none = turns_end file m.tracks s h.lefts h.comings h.turn (c.in_default.ensures.none refl) in
-    on_ok _ _ c.flush.result (λ x. all_put file tree m s c.loop-turn.sequence w.planning.items w.copying.items w.nexts.items (length w.rows.items) before after (waiting w.carrier) h _ none x) c.flush.ensures.bytes
+    on_ok _ _ c.flush.result (λ x. all_put file tree m s c.loop-turn.sequence w.planning.items w.copying.items w.behind.items w.nexts.items (length w.rows.items) before after (waiting w.carrier) h _ none x) c.flush.ensures.bytes
 
 pub returns-clause-prefix : goal.returns-clause-prefix
 returns-clause-prefix g c told tree o ready =
@@ -235,7 +235,7 @@ returns-clause-prefix g c told tree o ready =
     let before = g.K.Sink.contents c.args.sink.now in
     let after = g.K.Sink.contents c.loop-turn.sink in
     let none = turns_end file m.tracks s h.lefts h.comings h.turn (c.in_default.ensures.none refl) in
-    on_err _ _ c.flush.result (λ x. not_all_put file tree m s c.loop-turn.sequence w.planning.items w.copying.items w.nexts.items (length w.rows.items) before after (waiting w.carrier) h _ none x) c.flush.ensures.prefix
+    on_err _ _ c.flush.result (λ x. not_all_put file tree m s c.loop-turn.sequence w.planning.items w.copying.items w.behind.items w.nexts.items (length w.rows.items) before after (waiting w.carrier) h _ none x) c.flush.ensures.prefix
 
 pub returns-clause-unchanged : goal.returns-clause-unchanged
 returns-clause-unchanged g c told tree o ready =

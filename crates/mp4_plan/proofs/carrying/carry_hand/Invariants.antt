@@ -3,7 +3,7 @@ use Rattle.std.proofs.Common.{◌≡◌, length}
 use Rattle.mp4_present.specs.Carried.{waiting}
 use Rattle.mp4_present.specs.InHand.{Follows, left_in_hand}
 use Rattle.mp4_plan.specs.HandsFed.{BytesCarried}
-use Rattle.mp4_plan.proofs.courses.carry_hand.Given as goal
+use Rattle.mp4_plan.proofs.carrying.carry_hand.Given as goal
 
 -- the same samples, later, and the bytes of those before are taken along
 abbrev pub invariant-loop-stretch : goal.invariant-loop-stretch

@@ -8,8 +8,8 @@ use Rattle.mp4_present.specs.Coming.{Comes}
 use Rattle.mp4_present.specs.Movies.{InHandOf}
 use Rattle.mp4_present.proofs.WayThrough.{takes_none}
 use Rattle.mp4_plan.proofs.CourseSteps.{hand_keeps, keeps_before, loads_before, most_before, fails_before, as_many}
-use Rattle.mp4_plan.proofs.courses.carry_piece.Goals as goal
-use Rattle.mp4_plan.proofs.courses.carry_piece.Goals.{else-left-eq0-via-then-left-eq0+else-left-eq0-2, else-left-eq0-via-else-left-eq0, then-left-eq0-3-via-then-left-eq0-3, then-left-eq0-3-via-else-left-eq0-3+in_ok-load+then-not-branch}
+use Rattle.mp4_plan.proofs.carrying.carry_piece.Goals as goal
+use Rattle.mp4_plan.proofs.carrying.carry_piece.Goals.{else-left-eq0-via-then-left-eq0+else-left-eq0-2, else-left-eq0-via-else-left-eq0, then-left-eq0-3-via-then-left-eq0-3, then-left-eq0-3-via-else-left-eq0-3+in_ok-load+then-not-branch}
 
 pub returns-then-left-eq0-2-clause-walk : goal.returns-then-left-eq0-2-clause-walk
 returns-then-left-eq0-2-clause-walk g c =

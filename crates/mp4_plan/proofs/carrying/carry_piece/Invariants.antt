@@ -4,7 +4,7 @@ use Rattle.mp4_present.specs.Carried.{waiting}
 use Rattle.mp4_present.specs.Movies.{IsWalkOf}
 use Rattle.mp4_plan.proofs.PieceCarried.{CarriesOn}
 use Rattle.mp4_present.proofs.WayThrough.{TakesBefore}
-use Rattle.mp4_plan.proofs.courses.carry_piece.Given as goal
+use Rattle.mp4_plan.proofs.carrying.carry_piece.Given as goal
 
 -- the walk goes on, and the bytes of the samples before are taken along
 abbrev pub invariant-loop-left : goal.invariant-loop-left

@@ -1,0 +1,21 @@
+use Rattle.std.specs.Prelude.{IsTrue}
+use Rattle.std.proofs.Common.{◌≡◌, ◌-◌, length}
+use Rattle.mp4_present.specs.Movies.{IsWalkOf}
+use Rattle.mp4_plan.proofs.PiecePassed.{PassesOn}
+use Rattle.mp4_present.proofs.WayThrough.{TakesBefore}
+use Rattle.mp4_plan.proofs.carrying.pass_samples.Given as goal
+
+-- the walk goes on, and the first samples are passed
+abbrev pub invariant-loop-left : goal.invariant-loop-left
+invariant-loop-left g l = record {
+  walk : IsWalkOf l.movie l.walk;
+  room : length l.walk.bytes.items ≡ length l.fn.walk.bytes.items;
+  honesty : g.S.Store.is_honest l.store ≡ g.S.Store.is_honest l.fn.store;
+  file : g.S.Store.file l.store ≡ g.S.Store.file l.fn.store;
+  reads : g.S.Store.read_failures l.store ≡ g.S.Store.read_failures l.fn.store;
+  passes : IsTrue (g.S.Store.is_honest l.fn.store) → PassesOn (g.S.Store.file l.fn.store) l.movie l.fn.walk l.walk l.count l.left;
+  takes : IsTrue (g.S.Store.is_honest l.fn.store) → TakesBefore (g.S.Store.file l.fn.store) l.movie l.fn.walk l.walk l.fn.steps l.steps;
+}
+
+abbrev pub decreases-loop-left : goal.decreases-loop-left
+decreases-loop-left g l = length (g.S.Store.file l.store) - l.walk.next

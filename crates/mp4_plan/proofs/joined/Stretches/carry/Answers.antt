@@ -1,0 +1,101 @@
+use Rattle.std.proofs.Common.{◌+◌, ◌∷◌, ◌++◌, [], length, take, drop, refl, ◌∙◌, arith}
+use Rattle.std.proofs.lemmas.Result.{err_from_is_err_and}
+use Rattle.mp4_plan.proofs.Stretched.{spans_more, spans_fail, spans_front, spans_whole, spans_counted, span_there, span_fits, next_span, last_span}
+use Rattle.mp4_plan.proofs.joined.Stretches.carry.Goals as goal
+
+pub loop-span-preserved : goal.loop-span-preserved
+loop-span-preserved g c =
+    let i = c.loop-span.invariant in
+    let e = c.in_ok-left.ensures in
+    let w = c.args.self.now in
+    let items = take w.used w.earlier in
+    let k = c.loop-span.span-index in
+    record {
+      items = refl;
+      honesty = e.honesty ∙ i.honesty;
+      file = e.file ∙ i.file;
+      reads = e.reads ∙ i.reads;
+      puts = e.puts ∙ i.puts;
+      room = e.room ∙ i.room;
+      carried = spans_more _ _ _ _ _ _ _ _ _ _ i.carried _ _ _ (drop (k + 1) items ++ w.last ∷ []) _ (next_span items k _ w.last c.loop-span-test.true) e.left (rw (i.honesty, i.file) at e.bytes);
+    }
+
+pub returns-in_err-left-clause-prefix : goal.returns-in_err-left-clause-prefix
+returns-in_err-left-clause-prefix g c =
+    let p = err_from_is_err_and c.from_residual.result c.from_residual.ensures.1 in
+    let i = c.loop-span.invariant in
+    let w = c.args.self.now in
+    let items = take w.used w.earlier in
+    let k = c.loop-span.span-index in
+    rw p.1 (λ honest. spans_fail _ _ _ _ _ _ _ _ _ _ i.carried _ _ (drop (k + 1) items ++ w.last ∷ []) (next_span items k _ w.last c.loop-span-test.true) honest ((rw (i.honesty, i.file) at c.in_err-left.ensures.prefix) honest))
+
+pub returns-in_err-left-clause-unchanged : goal.returns-in_err-left-clause-unchanged
+returns-in_err-left-clause-unchanged g c honest below same =
+    let p = err_from_is_err_and c.from_residual.result c.from_residual.ensures.1 in
+    let i = c.loop-span.invariant in
+    let w = c.args.self.now in
+    let items = take w.used w.earlier in
+    let k = c.loop-span.span-index in
+    let later = drop (k + 1) items ++ w.last ∷ [] in
+    let file = g.S.Store.file c.args.store.now in
+    let is = next_span items k _ w.last c.loop-span-test.true in
+    rw (p.1, p.2) ((rw i.file at c.in_err-left.ensures.unchanged) (span_there _ _ _ _ _ _ _ _ _ _ i.carried _ later (length file) is below) (span_fits _ _ _ _ _ _ _ _ _ _ i.carried _ later is same))
+
+pub returns-in_err-left-2-clause-prefix : goal.returns-in_err-left-2-clause-prefix
+returns-in_err-left-2-clause-prefix g c =
+    let p = err_from_is_err_and c.from_residual-in_err-left-2.result c.from_residual-in_err-left-2.ensures.1 in
+    let i = c.loop-span.invariant in
+    let w = c.args.self.now in
+    let items = take w.used w.earlier in
+    let is = last_span items c.loop-span.span-index w.last c.loop-span-test.false in
+    rw p.1 (λ honest. spans_fail _ _ _ _ _ _ _ _ _ _ i.carried _ w.last [] is honest ((rw (i.honesty, i.file) at c.in_err-left-2.ensures.prefix) honest))
+
+pub returns-in_err-left-2-clause-unchanged : goal.returns-in_err-left-2-clause-unchanged
+returns-in_err-left-2-clause-unchanged g c honest below same =
+    let p = err_from_is_err_and c.from_residual-in_err-left-2.result c.from_residual-in_err-left-2.ensures.1 in
+    let i = c.loop-span.invariant in
+    let w = c.args.self.now in
+    let items = take w.used w.earlier in
+    let file = g.S.Store.file c.args.store.now in
+    let is = last_span items c.loop-span.span-index w.last c.loop-span-test.false in
+    rw (p.1, p.2) ((rw i.file at c.in_err-left-2.ensures.unchanged) (span_there _ _ _ _ _ _ _ _ _ _ i.carried w.last [] (length file) is below) (span_fits _ _ _ _ _ _ _ _ _ _ i.carried w.last [] is same))
+
+pub returns-then-left-gt0-clause-prefix : goal.returns-then-left-gt0-clause-prefix
+returns-then-left-gt0-clause-prefix g c honest =
+    let i = c.loop-span.invariant in
+    let w = c.args.self.now in
+    let e = c.in_ok-left-2.ensures in
+    let is = last_span (take w.used w.earlier) c.loop-span.span-index w.last c.loop-span-test.false in
+    let all = spans_more _ _ _ _ _ _ _ _ _ _ i.carried _ _ w.last [] _ is e.left (rw (i.honesty, i.file) at e.bytes) in
+    spans_front _ _ _ _ _ _ _ _ _ _ all honest
+
+pub returns-then-left-gt0-clause-unchanged : goal.returns-then-left-gt0-clause-unchanged
+returns-then-left-gt0-clause-unchanged g c honest below same z =
+    let i = c.loop-span.invariant in
+    let w = c.args.self.now in
+    let e = c.in_ok-left-2.ensures in
+    let is = last_span (take w.used w.earlier) c.loop-span.span-index w.last c.loop-span-test.false in
+    let all = spans_more _ _ _ _ _ _ _ _ _ _ i.carried _ _ w.last [] _ is e.left (rw (i.honesty, i.file) at e.bytes) in
+    let count = spans_counted _ _ _ _ _ _ _ _ _ _ all refl in
+    let more = c.if-left-gt0.true in
+    absurd (omega (arith, count, same, more))
+
+pub returns-clause-len : goal.returns-clause-len
+returns-clause-len g c =
+    let i = c.loop-span.invariant in
+    let w = c.args.self.now in
+    let e = c.in_ok-left-2.ensures in
+    let is = last_span (take w.used w.earlier) c.loop-span.span-index w.last c.loop-span-test.false in
+    let all = spans_more _ _ _ _ _ _ _ _ _ _ i.carried _ _ w.last [] _ is e.left (rw (i.honesty, i.file) at e.bytes) in
+    let count = spans_counted _ _ _ _ _ _ _ _ _ _ all refl in
+    let none = c.if-left-gt0.false in
+    omega (arith, count, none)
+
+pub returns-clause-bytes : goal.returns-clause-bytes
+returns-clause-bytes g c honest =
+    let i = c.loop-span.invariant in
+    let w = c.args.self.now in
+    let e = c.in_ok-left-2.ensures in
+    let is = last_span (take w.used w.earlier) c.loop-span.span-index w.last c.loop-span-test.false in
+    let all = spans_more _ _ _ _ _ _ _ _ _ _ i.carried _ _ w.last [] _ is e.left (rw (i.honesty, i.file) at e.bytes) in
+    spans_whole _ _ _ _ _ _ _ _ _ _ all refl honest

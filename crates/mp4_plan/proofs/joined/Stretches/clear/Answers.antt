@@ -1,0 +1,6 @@
+use Rattle.std.proofs.Common.{refl}
+use Rattle.mp4_plan.proofs.Stretched.{tells_none}
+use Rattle.mp4_plan.proofs.joined.Stretches.clear.Goals as goal
+
+pub returns : goal.returns
+returns c = tells_none _ refl refl refl
