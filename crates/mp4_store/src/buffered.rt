@@ -6,7 +6,7 @@ use crate::store::{Store, StoreFailed};
 use std::marker::Model;
 
 /// The most bytes that are read ahead.
-const MOST: usize = 262_144;
+const MOST: usize = 65_536;
 
 /// So many are read ahead at first, and far from the bytes that were read ahead last.
 const FEW: usize = 4096;
@@ -70,7 +70,7 @@ impl Window {
 
     // How many bytes are read ahead from a place on: twice as many as before where it lies near.
     fn reach(&self, at: u64) -> usize
-        ensures most { result ≤ 262144 }
+        ensures most { result ≤ 65536 }
         ensures least { 4096 ≤ result }
     {
         if self.is_near(at) {
@@ -114,7 +114,7 @@ impl Window {
 
 /// A store over another one, with the same bytes. A short read reads ahead, and each read whose
 /// bytes are among these is answered from them; all others go to the store below. Where places lie
-/// near one another, each time twice as many bytes are read ahead, at most 262,144; elsewhere 4096.
+/// near one another, each time twice as many bytes are read ahead, at most 65,536; elsewhere 4096.
 /// A read is short if that is at least four times as much. Where reading ahead fails, just the
 /// bytes that are asked for are read.
 #[derive(Drop)]
