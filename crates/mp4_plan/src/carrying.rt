@@ -79,6 +79,9 @@ fn pass_samples<S: Store, L: Ledger>(
     ensures reads { OnOk result (S.read_failures store.new ≡ S.read_failures store.old) }
     ensures refusal { IfErr result (RefusesLoad (S.read_failures store.old) (S.read_failures store.new)) }
 {
+    if count == 0 {
+        return Ok(());
+    }
     let mut left = count;
     loop {
         let hand = pass_hand(walk, movie, left);

@@ -132,9 +132,6 @@ impl Stretches {
     fn open(&mut self, sample: &SampleAt)
         ensures { JoinsOn self.old self.new (sample.now ∷ []) }
     {
-        if !self.are_all {
-            return;
-        }
         self.close_last();
         match sample.at.checked_add(u64::from(sample.size)) {
             Some(end) => self.last = Span { at: sample.at, end },
@@ -147,9 +144,13 @@ impl Stretches {
     pub(crate) fn add(&mut self, sample: &SampleAt)
         ensures { JoinsOn self.old self.new (sample.now ∷ []) }
     {
-        match self.last.end.checked_add(u64::from(sample.size)) {
-            Some(end) if self.last.end == sample.at => self.last.end = end,
-            _ => self.open(sample),
+        if self.last.end == sample.at {
+            match self.last.end.checked_add(u64::from(sample.size)) {
+                Some(end) => self.last.end = end,
+                None => self.are_all = false,
+            }
+        } else if self.are_all {
+            self.open(sample);
         }
     }
 

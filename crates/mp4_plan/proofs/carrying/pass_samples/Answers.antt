@@ -1,10 +1,15 @@
-use Rattle.std.proofs.Common.{rules, refl, sym, subst, ◌∙◌, arith}
+use Rattle.std.proofs.Common.{rules, ℕ, drop, refl, sym, subst, ◌∙◌, arith}
 use Rattle.std.proofs.lemmas.Result.{err_from_is_err_and}
+use Rattle.mp4_present.specs.Coming.{Comes}
 use Rattle.mp4_present.specs.Movies.{InHandOf}
 use Rattle.mp4_present.proofs.WayThrough.{takes_none}
 use Rattle.mp4_plan.proofs.CourseSteps.{keeps_before, loads_before, most_before, fails_before}
 use Rattle.mp4_plan.proofs.PiecePassed.{passes_none, hand_passed, next_passed, passed_all, none_to_pass}
 use Rattle.mp4_plan.proofs.carrying.pass_samples.Goals as goal
+
+pub returns-then-count-eq0-clause-passed : goal.returns-then-count-eq0-clause-passed
+returns-then-count-eq0-clause-passed g c told tree t samples o h =
+    subst (λ (k : ℕ). Comes (g.S.Store.file c.args.store.now) tree t c.args.movie.now c.args.walk.now (drop k samples)) (sym c.if-count-eq0.true) h
 
 pub loop-left-init : goal.loop-left-init
 loop-left-init g c = record {

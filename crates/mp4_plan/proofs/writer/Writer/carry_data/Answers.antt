@@ -46,8 +46,7 @@ returns-then-are_all-clause-copied g c told tree o samples few t walk behind is 
     let k = c.args.track in
     let w = c.args.self.now in
     let same = read_at w.behind.items k behind c.index-behind.result.now number c.index-behind.ensures in
-    let sum : c.saturating_add.result ≡ min (c.index-behind.result.now + c.args.planned.now.count) (2 ^ 32 - 1) = search rules in
-    (
+    let sum : c.saturating_add.result ≡ min (c.index-behind.result.now + c.args.planned.now.count) (2 ^ 32 - 1) = search rules in (
       walk,
       c.saturating_add.result,
       sym (set_same w.copying.items k walk is),
