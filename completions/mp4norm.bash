@@ -5,28 +5,29 @@ _mp4norm() {
     COMPREPLY=()
     for word in "${COMP_WORDS[@]:1:COMP_CWORD-1}"; do
         case $word in
-        normalise | show | samples | extract | boxes | check | help)
+        normalise | show | samples | extract | boxes | strip | check | help)
             command=$word
             break
             ;;
         esac
     done
     case $previous in
-    --track)
+    --track | --drop)
         compopt +o default 2>/dev/null
         return
         ;;
     --out | --names-from) return ;;
     esac
     case $command in
-    '') words='normalise show samples extract boxes check help --help --version' ;;
+    '') words='normalise show samples extract boxes strip check help --help --version' ;;
     normalise) words='--out --replace --explain --help' ;;
     show) words='--explain --help' ;;
     samples) words='--track --explain --help' ;;
     extract) words='--track --out --replace --explain --help' ;;
     boxes) words='--explain --help' ;;
+    strip) words='--drop --out --replace --explain --help' ;;
     check) words='--names-from --zero --help' ;;
-    help) words='normalise show samples extract boxes check' ;;
+    help) words='normalise show samples extract boxes strip check' ;;
     esac
     # Behind a command that reads a file, words without a dash are files: bash completes them by itself.
     if [[ -z $command || $command = help || $current = -* ]]; then

@@ -68,16 +68,27 @@ fn pass_samples<S: Store, L: Ledger>(
     ensures room { length walk.new.bytes.items ≡ length walk.old.bytes.items }
     ensures honesty { S.is_honest store.new ≡ S.is_honest store.old }
     ensures file { S.file store.new ≡ S.file store.old }
-    ensures passed { IsTrue (S.is_honest store.old) → (tree : FileTree) (t : TrackTree) (samples : List SampleAt) → IsOpenedAs (S.file store.old) movie.now tree → Comes (S.file store.old) tree t movie.now walk.old samples
+    ensures passed { IsTrue (S.is_honest store.old)
+        → (tree : FileTree) (t : TrackTree) (samples : List SampleAt)
+        → IsOpenedAs (S.file store.old) movie.now tree
+        → Comes (S.file store.old) tree t movie.now walk.old samples
         → OnOk result (Comes (S.file store.old) tree t movie.now walk.new (drop count samples)) }
-    ensures unchanged { IsTrue (S.is_honest store.old) → (tree : FileTree) (t : TrackTree) (samples : List SampleAt) → IsOpenedAs (S.file store.old) movie.now tree → Comes (S.file store.old) tree t movie.now walk.old samples
+    ensures unchanged { IsTrue (S.is_honest store.old)
+        → (tree : FileTree) (t : TrackTree) (samples : List SampleAt)
+        → IsOpenedAs (S.file store.old) movie.now tree
+        → Comes (S.file store.old) tree t movie.now walk.old samples
         → count ≤ length samples → IfErr result (λ r. r ≡ refusals.StoreChanged → ⊥) }
-    ensures work { IsTrue (S.is_honest store.old) → (tree : FileTree) (t : TrackTree) (n : ℕ) → IsOpenedAs (S.file store.old) movie.now tree → MayTake (S.file store.old) tree t walk.old n
+    ensures work { IsTrue (S.is_honest store.old) → (tree : FileTree) (t : TrackTree) (n : ℕ)
+        → IsOpenedAs (S.file store.old) movie.now tree
+        → MayTake (S.file store.old) tree t walk.old n
         → OnOk result (TakesOn (S.file store.old) tree t n walk.new steps.old steps.new) }
-    ensures most { IsTrue (S.is_honest store.old) → (tree : FileTree) (t : TrackTree) (n : ℕ) → IsOpenedAs (S.file store.old) movie.now tree → MayTake (S.file store.old) tree t walk.old n
+    ensures most { IsTrue (S.is_honest store.old) → (tree : FileTree) (t : TrackTree) (n : ℕ)
+        → IsOpenedAs (S.file store.old) movie.now tree
+        → MayTake (S.file store.old) tree t walk.old n
         → OnErr result (steps.new ≤ steps.old + n) }
     ensures reads { OnOk result (S.read_failures store.new ≡ S.read_failures store.old) }
-    ensures refusal { IfErr result (RefusesLoad (S.read_failures store.old) (S.read_failures store.new)) }
+    ensures refusal { IfErr result (RefusesLoad (S.read_failures store.old)
+        (S.read_failures store.new)) }
 {
     if count == 0 {
         return Ok(());
@@ -202,20 +213,34 @@ pub(crate) fn carry_later<S: Store, K: Sink, L: Ledger>(
     ensures room { length walk.new.bytes.items ≡ length walk.old.bytes.items }
     ensures honesty { S.is_honest store.new ≡ S.is_honest store.old }
     ensures file { S.file store.new ≡ S.file store.old }
-    ensures carried { IsTrue (S.is_honest store.old) → (tree : FileTree) (t : TrackTree) (samples : List SampleAt) → IsOpenedAs (S.file store.old) movie.now tree → Comes (S.file store.old) tree t movie.now walk.old samples
+    ensures carried { IsTrue (S.is_honest store.old)
+        → (tree : FileTree) (t : TrackTree) (samples : List SampleAt)
+        → IsOpenedAs (S.file store.old) movie.now tree
+        → Comes (S.file store.old) tree t movie.now walk.old samples
         → OnOk result (BytesGoOn (K.contents sink.old) (K.contents sink.new) (waiting carrier.old) (waiting carrier.new) (sample_bytes (S.file store.old) (take load.samples (drop behind samples))) × Comes (S.file store.old) tree t movie.now walk.new (drop load.samples (drop behind samples))) }
-    ensures prefix { IsTrue (S.is_honest store.old) → (tree : FileTree) (t : TrackTree) (samples : List SampleAt) → IsOpenedAs (S.file store.old) movie.now tree → Comes (S.file store.old) tree t movie.now walk.old samples
+    ensures prefix { IsTrue (S.is_honest store.old)
+        → (tree : FileTree) (t : TrackTree) (samples : List SampleAt)
+        → IsOpenedAs (S.file store.old) movie.now tree
+        → Comes (S.file store.old) tree t movie.now walk.old samples
         → OnErr result (AppendsPrefix (K.contents sink.old) (K.contents sink.new) (waiting carrier.old ++ sample_bytes (S.file store.old) (take load.samples (drop behind samples)))) }
-    ensures unchanged { IsTrue (S.is_honest store.old) → (tree : FileTree) (t : TrackTree) (samples : List SampleAt) → IsOpenedAs (S.file store.old) movie.now tree → Comes (S.file store.old) tree t movie.now walk.old samples
+    ensures unchanged { IsTrue (S.is_honest store.old)
+        → (tree : FileTree) (t : TrackTree) (samples : List SampleAt)
+        → IsOpenedAs (S.file store.old) movie.now tree
+        → Comes (S.file store.old) tree t movie.now walk.old samples
         → behind ≤ length samples → load.samples ≤ length (drop behind samples) → load.bytes ≡ sizes_of (take load.samples (drop behind samples)) → AllByRecursion (IsBelow (length (S.file store.old))) (drop behind samples) → IfErr result (λ r. r ≡ refusals.StoreChanged → ⊥) }
     ensures buffer { vec_len carrier.new.buffer ≡ vec_len carrier.old.buffer }
-    ensures work { IsTrue (S.is_honest store.old) → (tree : FileTree) (t : TrackTree) (n : ℕ) → IsOpenedAs (S.file store.old) movie.now tree → MayTake (S.file store.old) tree t walk.old n
+    ensures work { IsTrue (S.is_honest store.old) → (tree : FileTree) (t : TrackTree) (n : ℕ)
+        → IsOpenedAs (S.file store.old) movie.now tree
+        → MayTake (S.file store.old) tree t walk.old n
         → OnOk result (TakesOn (S.file store.old) tree t n walk.new steps.old steps.new) }
-    ensures most { IsTrue (S.is_honest store.old) → (tree : FileTree) (t : TrackTree) (n : ℕ) → IsOpenedAs (S.file store.old) movie.now tree → MayTake (S.file store.old) tree t walk.old n
+    ensures most { IsTrue (S.is_honest store.old) → (tree : FileTree) (t : TrackTree) (n : ℕ)
+        → IsOpenedAs (S.file store.old) movie.now tree
+        → MayTake (S.file store.old) tree t walk.old n
         → OnErr result (steps.new ≤ steps.old + n) }
     ensures reads { OnOk result (S.read_failures store.new ≡ S.read_failures store.old) }
     ensures puts { OnOk result (K.put_failures sink.new ≡ K.put_failures sink.old) }
-    ensures refusal { IfErr result (RefusesCarry (S.read_failures store.old) (S.read_failures store.new) (K.put_failures sink.old) (K.put_failures sink.new)) }
+    ensures refusal { IfErr result (RefusesCarry (S.read_failures store.old)
+        (S.read_failures store.new) (K.put_failures sink.old) (K.put_failures sink.new)) }
 {
     pass_samples(walk, behind, movie, store, steps)?;
     carry_piece(walk, load, carrier, movie, store, sink, steps)

@@ -51,20 +51,27 @@ impl Span {
         sink: &mut K,
     ) -> Result<u64, Refusal>
         ensures left { IfOk result (λ n. n + span_len self.now ≡ left) }
-        ensures bytes { OnOk result (IsTrue (S.is_honest store.old) → BytesGoOn (K.contents sink.old) (K.contents sink.new) (waiting carrier.old) (waiting carrier.new) (span_bytes (S.file store.old) self.now)) }
-        ensures prefix { OnErr result (IsTrue (S.is_honest store.old) → AppendsPrefix (K.contents sink.old) (K.contents sink.new) (waiting carrier.old ++ span_bytes (S.file store.old) self.now)) }
-        ensures unchanged { EndsBelow (length (S.file store.old)) self.now → span_len self.now ≤ left → IfErr result (λ r. r ≡ refusals.StoreChanged → ⊥) }
+        ensures bytes { OnOk result (IsTrue (S.is_honest store.old)
+            → BytesGoOn (K.contents sink.old) (K.contents sink.new) (waiting carrier.old)
+            (waiting carrier.new) (span_bytes (S.file store.old) self.now)) }
+        ensures prefix { OnErr result (IsTrue (S.is_honest store.old)
+            → AppendsPrefix (K.contents sink.old) (K.contents sink.new)
+            (waiting carrier.old ++ span_bytes (S.file store.old) self.now)) }
+        ensures unchanged { EndsBelow (length (S.file store.old)) self.now
+            → span_len self.now ≤ left → IfErr result (λ r. r ≡ refusals.StoreChanged → ⊥) }
         ensures honesty { S.is_honest store.new ≡ S.is_honest store.old }
         ensures file { S.file store.new ≡ S.file store.old }
         ensures room { vec_len carrier.new.buffer ≡ vec_len carrier.old.buffer }
         ensures reads { OnOk result (S.read_failures store.new ≡ S.read_failures store.old) }
         ensures puts { OnOk result (K.put_failures sink.new ≡ K.put_failures sink.old) }
-        ensures refusal { IfErr result (RefusesCarry (S.read_failures store.old) (S.read_failures store.new) (K.put_failures sink.old) (K.put_failures sink.new)) }
+        ensures refusal { IfErr result (RefusesCarry (S.read_failures store.old)
+            (S.read_failures store.new) (K.put_failures sink.old) (K.put_failures sink.new)) }
     {
         let len = self.len();
         if len > left {
             return Err(Refusal::StoreChanged);
         }
+        // Of how many samples they are isn't kept.
         let stretch = Stretch {
             at: self.at,
             len,
@@ -114,7 +121,8 @@ impl Stretches {
 
     // The last stretch grows no more. It is left out where it has no bytes.
     fn close_last(&mut self)
-        ensures closed { (samples : List SampleAt) → Tells self.old samples → self.new.are_all ≡ true → AreBytesOf (take self.new.used self.new.earlier) samples }
+        ensures closed { (samples : List SampleAt) → Tells self.old samples
+            → self.new.are_all ≡ true → AreBytesOf (take self.new.used self.new.earlier) samples }
         ensures last { self.new.last ≡ self.old.last }
     {
         if self.last.end <= self.last.at {
@@ -164,15 +172,23 @@ impl Stretches {
         sink: &mut K,
     ) -> Result<(), Refusal>
         ensures len { OnOk result (spans_len (spans_of self.now) ≡ bytes) }
-        ensures bytes { OnOk result (IsTrue (S.is_honest store.old) → BytesGoOn (K.contents sink.old) (K.contents sink.new) (waiting carrier.old) (waiting carrier.new) (spans_bytes (S.file store.old) (spans_of self.now))) }
-        ensures prefix { OnErr result (IsTrue (S.is_honest store.old) → AppendsPrefix (K.contents sink.old) (K.contents sink.new) (waiting carrier.old ++ spans_bytes (S.file store.old) (spans_of self.now))) }
-        ensures unchanged { IsTrue (S.is_honest store.old) → AllByRecursion (EndsBelow (length (S.file store.old))) (spans_of self.now) → spans_len (spans_of self.now) ≡ bytes → IfErr result (λ r. r ≡ refusals.StoreChanged → ⊥) }
+        ensures bytes { OnOk result (IsTrue (S.is_honest store.old)
+            → BytesGoOn (K.contents sink.old) (K.contents sink.new) (waiting carrier.old)
+            (waiting carrier.new) (spans_bytes (S.file store.old) (spans_of self.now))) }
+        ensures prefix { OnErr result (IsTrue (S.is_honest store.old)
+            → AppendsPrefix (K.contents sink.old) (K.contents sink.new)
+            (waiting carrier.old ++ spans_bytes (S.file store.old) (spans_of self.now))) }
+        ensures unchanged { IsTrue (S.is_honest store.old)
+            → AllByRecursion (EndsBelow (length (S.file store.old))) (spans_of self.now)
+            → spans_len (spans_of self.now) ≡ bytes
+            → IfErr result (λ r. r ≡ refusals.StoreChanged → ⊥) }
         ensures honesty { S.is_honest store.new ≡ S.is_honest store.old }
         ensures file { S.file store.new ≡ S.file store.old }
         ensures room { vec_len carrier.new.buffer ≡ vec_len carrier.old.buffer }
         ensures reads { OnOk result (S.read_failures store.new ≡ S.read_failures store.old) }
         ensures puts { OnOk result (K.put_failures sink.new ≡ K.put_failures sink.old) }
-        ensures refusal { IfErr result (RefusesCarry (S.read_failures store.old) (S.read_failures store.new) (K.put_failures sink.old) (K.put_failures sink.new)) }
+        ensures refusal { IfErr result (RefusesCarry (S.read_failures store.old)
+            (S.read_failures store.new) (K.put_failures sink.old) (K.put_failures sink.new)) }
     {
         let mut left = bytes;
         for span in &self.earlier[..self.used] {

@@ -353,8 +353,8 @@ impl Writer {
         })
     }
 
-    // Takes the bytes of a track's samples along that were noted, so many as were planned. Where they lie in few places, the
-    // walk that copies stays where it is.
+    // Takes the bytes of a track's samples along that were noted, as many as were planned. Where no stretch was left
+    // out, the walk that copies stays where it is.
     fn carry_data<S: Store, K: Sink, L: Ledger>(
         &mut self,
         track: usize,
@@ -370,16 +370,45 @@ impl Writer {
         ensures held { held self.new ≡ held self.old }
         ensures honesty { S.is_honest store.new ≡ S.is_honest store.old }
         ensures file { S.file store.new ≡ S.file store.old }
-        ensures put { WhereOpened (S.is_honest store.old) (S.file store.old) movie.now (λ tree. (samples : List SampleAt) → IsNoted (S.file store.old) tree movie.now track planned.now.count samples self.old → OnOk result (BytesGoOn (K.contents sink.old) (K.contents sink.new) (waiting self.old.carrier) (waiting self.new.carrier) (sample_bytes (S.file store.old) (take planned.now.count samples)))) }
-        ensures prefix { WhereOpened (S.is_honest store.old) (S.file store.old) movie.now (λ tree. (samples : List SampleAt) → IsNoted (S.file store.old) tree movie.now track planned.now.count samples self.old → OnErr result (AppendsPrefix (K.contents sink.old) (K.contents sink.new) (waiting self.old.carrier ++ sample_bytes (S.file store.old) (take planned.now.count samples)))) }
-        ensures copied { WhereOpened (S.is_honest store.old) (S.file store.old) movie.now (λ tree. (samples : List SampleAt) → planned.now.count ≤ length samples → OnOk result (HaveCopied (S.file store.old) tree movie.now track planned.now.count samples self.old self.new)) }
-        ensures keeps { OnOk result ((self.new.planning ≡ self.old.planning) × (self.new.rows ≡ self.old.rows) × (self.new.nexts ≡ self.old.nexts)) }
-        ensures unchanged { WhereOpened (S.is_honest store.old) (S.file store.old) movie.now (λ tree. (samples : List SampleAt) → IsNoted (S.file store.old) tree movie.now track planned.now.count samples self.old → planned.now.count ≤ length samples → planned.now.bytes ≡ sum_of (λ (s : SampleAt). s.size) (take planned.now.count samples) → AllByRecursion (IsBelow (length (S.file store.old))) samples → IfErr result (λ r. r ≡ refusals.StoreChanged → ⊥)) }
+        ensures put { WhereOpened (S.is_honest store.old) (S.file store.old) movie.now (λ tree.
+            (samples : List SampleAt) → IsNoted
+            (S.file store.old) tree movie.now track planned.now.count samples self.old
+            → OnOk result (BytesGoOn (K.contents sink.old) (K.contents sink.new)
+            (waiting self.old.carrier) (waiting self.new.carrier) (sample_bytes
+            (S.file store.old) (take planned.now.count samples)))) }
+        ensures prefix { WhereOpened (S.is_honest store.old) (S.file store.old) movie.now
+            (λ tree. (samples : List SampleAt)
+            → IsNoted (S.file store.old) tree movie.now track planned.now.count samples self.old
+            → OnErr result (AppendsPrefix (K.contents sink.old) (K.contents sink.new)
+            (waiting self.old.carrier ++ sample_bytes (S.file store.old)
+            (take planned.now.count samples)))) }
+        ensures copied { WhereOpened (S.is_honest store.old) (S.file store.old) movie.now
+            (λ tree. (samples : List SampleAt) → planned.now.count ≤ length samples
+            → OnOk result (HaveCopied
+            (S.file store.old) tree movie.now track planned.now.count samples self.old self.new)) }
+        ensures keeps { OnOk result ((self.new.planning ≡ self.old.planning)
+            × (self.new.rows ≡ self.old.rows) × (self.new.nexts ≡ self.old.nexts)) }
+        ensures unchanged { WhereOpened (S.is_honest store.old) (S.file store.old) movie.now
+            (λ tree. (samples : List SampleAt)
+            → IsNoted (S.file store.old) tree movie.now track planned.now.count samples self.old
+            → planned.now.count ≤ length samples
+            → planned.now.bytes ≡ sum_of (λ (s : SampleAt). s.size)
+            (take planned.now.count samples)
+            → AllByRecursion (IsBelow (length (S.file store.old))) samples
+            → IfErr result (λ r. r ≡ refusals.StoreChanged → ⊥)) }
         ensures reads { OnOk result (S.read_failures store.new ≡ S.read_failures store.old) }
         ensures puts { OnOk result (K.put_failures sink.new ≡ K.put_failures sink.old) }
-        ensures refusal { IfErr result (RefusesCarry (S.read_failures store.old) (S.read_failures store.new) (K.put_failures sink.old) (K.put_failures sink.new)) }
-        ensures work { WhereOpened (S.is_honest store.old) (S.file store.old) movie.now (λ tree. (n : ℕ) → MayAllTake (S.file store.old) tree tree.movie.tracks self.old.copying.items n → OnOk result (AllTakeOn (S.file store.old) tree n self.new.copying.items steps.old steps.new)) }
-        ensures most { WhereOpened (S.is_honest store.old) (S.file store.old) movie.now (λ tree. (n : ℕ) → MayAllTake (S.file store.old) tree tree.movie.tracks self.old.copying.items n → OnErr result (steps.new ≤ steps.old + n)) }
+        ensures refusal { IfErr result (RefusesCarry (S.read_failures store.old)
+            (S.read_failures store.new) (K.put_failures sink.old) (K.put_failures sink.new)) }
+        ensures work { WhereOpened (S.is_honest store.old) (S.file store.old) movie.now (λ tree.
+            (n : ℕ) → MayAllTake
+            (S.file store.old) tree tree.movie.tracks self.old.copying.items n
+            → OnOk result (AllTakeOn
+            (S.file store.old) tree n self.new.copying.items steps.old steps.new)) }
+        ensures most { WhereOpened (S.is_honest store.old) (S.file store.old) movie.now (λ tree.
+            (n : ℕ) → MayAllTake
+            (S.file store.old) tree tree.movie.tracks self.old.copying.items n
+            → OnErr result (steps.new ≤ steps.old + n)) }
     {
         let behind = self.behind[track];
         if self.stretches.are_all() {

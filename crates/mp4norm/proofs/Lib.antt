@@ -15,3 +15,8 @@ pub mod StepSums
 pub mod StepsTaken
 pub mod Judged
 pub mod WaysTo
+pub mod StripWalks
+pub mod StripCopies
+pub mod StripLaws
+pub mod Stripped
+pub mod HeadersUnder

@@ -1,5 +1,5 @@
 -- What the command line asks for.
-use Rattle.std.specs.Prelude.{◌≤◌, false}
+use Rattle.std.specs.Prelude.{◌<◌, ◌≤◌, length, false}
 use Rattle.mp4norm.specs.declared.wanted.Action.{Action}
 use Rattle.mp4norm.specs.declared.wanted.Action.TheVariants as actions
 use Rattle.mp4norm.specs.declared.wanted.Input.TheVariants as inputs
@@ -13,8 +13,10 @@ IsJob (jobs.Samples track) = 1 ≤ track
 IsJob (jobs.Extract track) = 1 ≤ track
 IsJob _ = Unit {0}
 
+-- and some box is named that is to be free space
 abbrev pub IsAction : Action → Type 0
 IsAction (actions.Run job input target explain) = IsJob job
+IsAction (actions.Strip names input target explain) = 0 < length names.items
 IsAction _ = Unit {0}
 
 -- the boxes of standard input

@@ -6,6 +6,7 @@ use Rattle.mp4norm.specs.Commands.{ShowsLine, ListsSamples, HasData, RefusesShow
 use Rattle.mp4norm.specs.Headline.{HasNormalForm}
 use Rattle.mp4norm.specs.MainJob.{RefusesNormalise}
 use Rattle.mp4norm.specs.Steps.{WorksWithin}
+use Rattle.mp4norm.specs.Strips.{IsStripped, RefusesStrip}
 use Rattle.mp4norm.specs.Texts.{BoxLines}
 use Rattle.mp4norm.specs.declared.wanted.Job.{Job}
 use Rattle.mp4norm.specs.declared.wanted.Job.TheVariants as jobs
@@ -17,6 +18,7 @@ IsTextOf jobs.Show file text = ShowsLine file text
 IsTextOf (jobs.Samples track) file text = ListsSamples file track text
 IsTextOf (jobs.Extract track) file text = HasData file track text
 IsTextOf jobs.Normalise file text = HasNormalForm file text
+IsTextOf (jobs.Strip names) file text = IsStripped names.now file text
 
 -- why it is not put, or not all of it
 abbrev pub RefusesJob : Job → Bool → List ℕ → Option (List ℕ) → Option (List ℕ) → ℕ → ℕ → ℕ → ℕ → Refusal → Type 0
@@ -30,6 +32,8 @@ RefusesJob (jobs.Extract track) honest file before after reads reads_after puts 
     RefusesTrack honest file track (HasData file track) before after reads reads_after puts puts_after r
 RefusesJob jobs.Normalise honest file before after reads reads_after puts puts_after r =
     RefusesNormalise honest file before after reads reads_after puts puts_after r
+RefusesJob (jobs.Strip names) honest file before after reads reads_after puts puts_after r =
+    RefusesStrip names.now honest file before after reads reads_after puts puts_after r
 
 -- how many steps it may take, where that is counted
 abbrev pub JobWorksWithin : Job → List ℕ → ℕ → ℕ → Type 0

@@ -7,7 +7,9 @@ pub mod ShowValue
 pub mod Commands
 pub mod MainJob
 pub mod Steps
-pub mod Jobs
 pub mod Sources
 pub mod Verdicts
 pub mod Ways
+pub mod Strips
+pub mod StripLaws
+pub mod Jobs

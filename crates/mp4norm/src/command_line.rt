@@ -2,6 +2,7 @@
 ghost use Rattle.std.specs.Prelude.{◌≡◌, ◌≤◌, [], IfOk, IfSome, Ok};
 ghost use Rattle.mp4norm.specs.Actions.{IsJob, IsAction, boxes_of_input};
 
+use crate::drop_lists::names_of;
 use crate::wanted::{Action, CommandFault, Input, Job, Target};
 use clap::error::ErrorKind;
 use clap::{Arg, ArgAction, ArgMatches, Command, Error, value_parser};
@@ -28,6 +29,13 @@ Example: mp4norm normalise movie.mp4 --out normal.mp4";
 
 const REPLACED_OUTPUT: &str = "\
 error: the argument '--replace' cannot be used with '--out -'
+
+For more information, try '--help'.
+";
+
+const DROP_RULE: &str = "\
+each type is four printable characters or eight hexadecimal digits, and not free; \
+before a slash only a container whose boxes are listed may stand
 
 For more information, try '--help'.
 ";
@@ -158,6 +166,26 @@ fn normalise_command<'a>(alloc: Global) -> Result<Command<'a>, AllocError> {
     with_out(command, alloc)
 }
 
+fn drop_arg<'a>(alloc: Global) -> Arg<'a> {
+    Arg::new(alloc, "drop")
+        .long("drop")
+        .value_name("TYPES")
+        .help("The types of the boxes, apart by commas; moov/uuid means those in a moov alone")
+        .required(true)
+        .action(ArgAction::Set)
+}
+
+fn strip_command<'a>(alloc: Global) -> Result<Command<'a>, AllocError> {
+    let command = of_file(
+        alloc,
+        "strip",
+        "Copies a file, and makes boxes of some types free space",
+        "Example: mp4norm strip movie.mp4 --drop uuid,minf/hdlr --out stripped.mp4",
+    )?;
+    let command = with_arg(command, drop_arg(alloc))?;
+    with_out(command, alloc)
+}
+
 fn files_arg<'a>(alloc: Global) -> Result<Arg<'a>, AllocError> {
     Arg::new(alloc, "file")
         .value_name("FILE")
@@ -207,7 +235,8 @@ fn whole_command<'a>(alloc: Global) -> Result<Command<'a>, AllocError> {
     let command = with(command, samples_command(alloc)?)?;
     let command = with(command, extract_command(alloc)?)?;
     let command = with(command, normalise_command(alloc)?)?;
-    with(command, check_command(alloc)?)
+    let command = with(command, check_command(alloc)?)?;
+    with(command, strip_command(alloc)?)
 }
 
 // The ID of a track; none where it is 0.
@@ -235,7 +264,7 @@ fn target_of<'a>(found: &ArgMatches<'a>) -> Target<'a> {
 }
 
 // What is to be done; nothing where a word is missing.
-fn job_of(name: &str, found: &ArgMatches) -> Option<Job>
+fn job_of(name: &str, found: &ArgMatches) -> Option<Job<'static>>
     ensures { IfSome result IsJob }
 {
     match name {
@@ -280,6 +309,33 @@ fn check_asked<'a>(alloc: Global, found: &ArgMatches<'a>) -> Result<Action<'a>, 
     Ok(Action::Check { files, list, zero })
 }
 
+// What is wrong with a list of types.
+fn drop_fault(alloc: Global, list: &str) -> CommandFault {
+    match format!(in alloc; "error: invalid value '{list}' for '--drop <TYPES>': {DROP_RULE}") {
+        Ok(text) => CommandFault::Usage(text),
+        Err(_) => CommandFault::Memory,
+    }
+}
+
+// Which boxes of which file are to be free space.
+fn strip_asked<'a>(alloc: Global, found: &ArgMatches<'a>) -> Result<Action<'a>, CommandFault>
+    ensures { IfOk result IsAction }
+{
+    let (Some(file), Some(list)) = (found.get_str("file"), found.get_str("drop")) else {
+        // clap has seen that no word is missing.
+        return Err(CommandFault::Usage(String::new(alloc)));
+    };
+    let Some(names) = names_of(alloc, list)? else {
+        return Err(drop_fault(alloc, list));
+    };
+    Ok(Action::Strip {
+        names,
+        input: input_of(file),
+        target: target_of(found),
+        explain: found.get_flag("explain"),
+    })
+}
+
 // How often standard input is named.
 fn inputs_in(found: &ArgMatches) -> usize {
     let files = found.get_strs("file").unwrap_or(&[]);
@@ -319,6 +375,9 @@ fn of_matches<'a>(alloc: Global, matches: &ArgMatches<'a>) -> Result<Action<'a>,
     }
     if let Some(found) = matches.subcommand_matches("check") {
         return Ok(check_asked(alloc, found)?);
+    }
+    if let Some(found) = matches.subcommand_matches("strip") {
+        return strip_asked(alloc, found);
     }
     match asked(matches) {
         Some(action) => Ok(action),

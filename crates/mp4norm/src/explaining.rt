@@ -62,7 +62,7 @@ fn meaning_of(kind: Kind) -> &'static str {
         Kind::BadSize => "the size is smaller than the header, or is 0 inside a container",
         Kind::Overrun => "the box ends behind its container",
         Kind::ShortBox => "the box has no room for its fields or rows",
-        Kind::BoxNotInProfile => "the profile has no such box there",
+        Kind::BoxNotInProfile => "the profile has no such box there; strip can make it free space",
         Kind::DuplicateBox => "the box is one too many",
         Kind::MissingBox => "the container lacks a box that the profile wants",
         Kind::BadVersion => "the box has a version that the profile does not have",

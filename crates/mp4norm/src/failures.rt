@@ -4,7 +4,7 @@ ghost use Rattle.std.specs.Prelude.{◌≡◌, ◌<◌, ℕ, true, false, None, 
 use super::*;
 use crate::counted::performed;
 use crate::fixtures::{EDITS, FRAGMENT, LARGE_HEAD, PLAIN, TWO_FRAGMENTS, TWO_TRACKS};
-use mp4_boxes::Steps;
+use mp4_boxes::{FourCc, Steps};
 use mp4_plan::normal_len;
 use mp4_present::open_movie;
 use mp4_store::{MemStore, Store, StoreFailed, WriteFailed};
@@ -129,7 +129,12 @@ impl Sink for FailingSink {
     }
 }
 
-const JOBS: [(&[u8], Job); 8] = [
+const NAMES: &[Name] = &[Name {
+    container: None,
+    kind: FourCc(*b"hdlr"),
+}];
+
+const JOBS: [(&[u8], Job); 10] = [
     (PLAIN, Job::Normalise),
     (TWO_FRAGMENTS, Job::Normalise),
     (TWO_TRACKS, Job::Normalise),
@@ -138,6 +143,8 @@ const JOBS: [(&[u8], Job); 8] = [
     (PLAIN, Job::Samples { track: 1 }),
     (PLAIN, Job::Show),
     (PLAIN, Job::Boxes),
+    (PLAIN, Job::Strip { names: NAMES }),
+    (TWO_FRAGMENTS, Job::Strip { names: NAMES }),
 ];
 
 // Runs the job where the read and the put that these numbers lead to fail.

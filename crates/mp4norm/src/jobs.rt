@@ -8,6 +8,7 @@ use crate::extract::extract;
 use crate::normalising::normalise_counted;
 use crate::samples::samples;
 use crate::show::show;
+use crate::stripping::strip;
 use crate::wanted::Job;
 use mp4_boxes::{Refusal, Steps};
 use mp4_store::{Sink, Store};
@@ -27,17 +28,18 @@ pub fn perform<S: Store, K: Sink, L: Ledger>(
     ensures reads { OnOk result (S.read_failures store.new ≡ S.read_failures store.old) }
     ensures puts { OnOk result (K.put_failures sink.new ≡ K.put_failures sink.old) }
     ensures text { OnOk result (IsTrue (S.is_honest store.old) → (text : List ℕ)
-        × IsTextOf job (S.file store.old) text × Appends (K.contents sink.old) (K.contents sink.new) text) }
-    ensures refusal { IfErr result (RefusesJob job (S.is_honest store.old) (S.file store.old)
+        × IsTextOf job.entry (S.file store.old) text × Appends (K.contents sink.old) (K.contents sink.new) text) }
+    ensures refusal { IfErr result (RefusesJob job.entry (S.is_honest store.old) (S.file store.old)
         (K.contents sink.old) (K.contents sink.new) (S.read_failures store.old) (S.read_failures store.new)
         (K.put_failures sink.old) (K.put_failures sink.new)) }
-    ensures work { IsTrue (S.is_honest store.old) → JobWorksWithin job (S.file store.old) steps.old steps.new }
+    ensures work { IsTrue (S.is_honest store.old) → JobWorksWithin job.entry (S.file store.old) steps.old steps.new }
 {
     match job {
         Job::Boxes => boxes(alloc, store, sink),
         Job::Show => show(alloc, store, sink),
         Job::Samples { track } => samples(alloc, store, track, sink),
         Job::Extract { track } => extract(alloc, store, track, sink),
+        Job::Strip { names } => strip(alloc, store, names, sink),
         Job::Normalise => normalise_counted(alloc, store, sink, steps),
     }
 }

@@ -12,6 +12,7 @@ mod boxes;
 mod checking;
 mod command_line;
 mod digits;
+mod drop_lists;
 mod explaining;
 mod extract;
 mod fault_text;
@@ -21,6 +22,7 @@ mod judging;
 pub mod laws;
 mod line;
 mod movie_json;
+mod named;
 mod normalising;
 mod replacing;
 mod runs;
@@ -28,6 +30,8 @@ mod sample_lines;
 mod samples;
 mod show;
 mod sources;
+mod strip_lines;
+mod stripping;
 mod targets;
 mod tracks;
 mod type_names;
@@ -46,6 +50,7 @@ pub use line::Line;
 pub use movie_json::show_text;
 use mp4_boxes::{Refusal, Steps};
 use mp4_store::{IoSink, Sink};
+pub use named::Name;
 pub use normalising::{normalise, normalise_counted};
 use runs::run;
 pub use sample_lines::put_lines;
@@ -56,6 +61,7 @@ use std::marker::Brand;
 use std::process::ExitCode;
 use std::sync::ledger::{Blank, Ledger};
 use std::{env, io};
+pub use stripping::{count_named, strip};
 pub use verdicts::{first_name, put_verdict, verdict_status};
 pub use wanted::{Action, CommandFault, Input, Job, Target};
 pub use ways::{Way, way_to};
@@ -115,6 +121,17 @@ fn act<L: Ledger>(rt: &HostRuntime, action: Action, blank: Blank) -> ExitCode
             target,
             explain,
         } => end(rt, run(rt, job, input, target, explain, &mut steps)),
+        Action::Strip {
+            names,
+            input,
+            target,
+            explain,
+        } => {
+            let job = Job::Strip {
+                names: names.as_slice(),
+            };
+            end(rt, run(rt, job, input, target, explain, &mut steps))
+        }
         Action::Check { files, list, zero } => judge(rt, files.as_slice(), list, zero),
     }
 }

@@ -9,6 +9,8 @@ use crate::explaining::explain;
 use crate::input::read_input;
 use crate::jobs::perform;
 use crate::judging::check;
+use crate::named::Name;
+use crate::stripping::count_named;
 use crate::wanted::{Input, Job};
 use mp4_boxes::{Fault, Refusal, Steps};
 use mp4_store::{BufferedStore, FileStore, MemStore, Sink};
@@ -72,10 +74,10 @@ impl Source {
     ) -> Result<(), Refusal>
         ensures puts { OnOk result (K.put_failures sink.new ≡ K.put_failures sink.old) }
         ensures text { IfInput self.old (λ file. OnOk result ((text : List ℕ)
-            × IsTextOf job file text × Appends (K.contents sink.old) (K.contents sink.new) text)) }
-        ensures refusal { IfInput self.old (λ file. IfErr result (RefusesJob job true file
+            × IsTextOf job.entry file text × Appends (K.contents sink.old) (K.contents sink.new) text)) }
+        ensures refusal { IfInput self.old (λ file. IfErr result (RefusesJob job.entry true file
             (K.contents sink.old) (K.contents sink.new) 0 0 (K.put_failures sink.old) (K.put_failures sink.new))) }
-        ensures work { IfInput self.old (λ file. JobWorksWithin job file steps.old steps.new) }
+        ensures work { IfInput self.old (λ file. JobWorksWithin job.entry file steps.old steps.new) }
     {
         match self {
             Source::File(store) => perform(alloc, job, store, sink, steps),
@@ -94,6 +96,21 @@ impl Source {
         match self {
             Source::File(store) => check(alloc, store),
             Source::Input(bytes) => check_bytes(alloc, bytes.as_slice()),
+        }
+    }
+
+    /// How many boxes are free space in a copy without those that are named, for each name in turn.
+    pub(crate) fn count_named(
+        &mut self,
+        alloc: Global,
+        names: &[Name],
+    ) -> Result<Vec<u64>, Refusal> {
+        match self {
+            Source::File(store) => count_named(alloc, store, names),
+            Source::Input(bytes) => {
+                let mut store = MemStore::new(bytes.as_slice());
+                count_named(alloc, &mut store, names)
+            }
         }
     }
 

@@ -80,6 +80,22 @@ fn command_lines(rt: HostRuntime) -> Result<(), Fail> {
             "check - --names-from -",
             "usage: error: standard input ('-') can be read only once\n\nFor more",
         ),
+        (
+            "strip a --drop uuid,minf/hdlr --out b",
+            "Strip { names: [Name { container: None, kind: FourCc([117, 117, 105, 100]) }, Name { container: Some(FourCc([109, 105, 110, 102])), kind: FourCc([104, 100, 108, 114]) }], input: File { name: \"a\" }, target: New { name: \"b\" }, explain: false }",
+        ),
+        (
+            "strip - --drop a96E616d --out - --explain",
+            "Strip { names: [Name { container: None, kind: FourCc([169, 110, 97, 109]) }], input: Standard, target: Standard, explain: true }",
+        ),
+        (
+            "strip a --drop moov/free --out b",
+            "usage: error: invalid value 'moov/free' for '--drop <TYPES>': each",
+        ),
+        (
+            "strip a --out b",
+            "usage: error: the following required arguments",
+        ),
         ("check", "usage: error: the following required arguments"),
         ("samples a --track 0", "usage: error: invalid value '0'"),
         (

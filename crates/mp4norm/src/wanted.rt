@@ -1,14 +1,16 @@
 //! What the words behind the program's name can ask for.
+use crate::named::Name;
 use std::alloc::AllocError;
 
 /// What is done over a file.
 #[derive(Clone, Copy, Debug, PartialEq)]
-pub enum Job {
+pub enum Job<'a> {
     Boxes,
     Show,
     Samples { track: u32 },
     Extract { track: u32 },
     Normalise,
+    Strip { names: &'a [Name] },
 }
 
 /// What is read: standard input, or the file of this name.
@@ -26,7 +28,7 @@ pub enum Target<'a> {
     Replaced { name: &'a str },
 }
 
-/// What the words ask for: a job, or a verdict on each of some files and of those that a list names, ended by a line feed
+/// What the words ask for: a job, a copy without the boxes of some names, or a verdict on each of some files and of those that a list names, ended by a line feed
 /// or a zero byte.
 #[derive(Debug, Drop, PartialEq)]
 pub enum Action<'a> {
@@ -35,8 +37,14 @@ pub enum Action<'a> {
         list: Option<Input<'a>>,
         zero: bool,
     },
+    Strip {
+        names: Vec<Name>,
+        input: Input<'a>,
+        target: Target<'a>,
+        explain: bool,
+    },
     Run {
-        job: Job,
+        job: Job<'a>,
         input: Input<'a>,
         target: Target<'a>,
         explain: bool,

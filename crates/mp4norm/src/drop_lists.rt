@@ -1,0 +1,90 @@
+//! Lists of types of boxes, as the words behind `--drop` give them.
+ghost use Rattle.std.specs.Prelude.{◌<◌, length, IfOk, IfSome};
+
+use crate::named::{Name, is_holder};
+use crate::type_names::is_text;
+use mp4_boxes::FourCc;
+use std::alloc::{AllocError, Global};
+
+/// Free space.
+const FREE: FourCc = FourCc(*b"free");
+
+// The value of a hexadecimal digit.
+fn digit_value(digit: u8) -> Option<u8> {
+    match digit {
+        b'0'..=b'9' => Some(digit - b'0'),
+        b'a'..=b'f' => Some(digit - b'a' + 10),
+        b'A'..=b'F' => Some(digit - b'A' + 10),
+        _ => None,
+    }
+}
+
+// The byte that two hexadecimal digits spell.
+fn byte_of(high: u8, low: u8) -> Option<u8> {
+    let high = digit_value(high)?;
+    let low = digit_value(low)?;
+    Some(high.wrapping_mul(16).wrapping_add(low))
+}
+
+// The type that a word spells: four printable characters, or eight hexadecimal digits.
+fn type_of(word: &[u8]) -> Option<FourCc> {
+    if word.len() == 4 && is_text(word) {
+        return Some(FourCc([word[0], word[1], word[2], word[3]]));
+    }
+    if word.len() != 8 {
+        return None;
+    }
+    Some(FourCc([
+        byte_of(word[0], word[1])?,
+        byte_of(word[2], word[3])?,
+        byte_of(word[4], word[5])?,
+        byte_of(word[6], word[7])?,
+    ]))
+}
+
+// What stands before the first such byte, and what stands behind it, if it is there.
+fn cut(word: &[u8], at: u8) -> (&[u8], Option<&[u8]>)
+    ensures { IfSome result.1 (λ rest. length rest.now < length word.now) }
+{
+    for k in 0..word.len() {
+        if word[k] == at {
+            let (front, rest) = word.split_at(k);
+            let (_, rest) = rest.split_at(1);
+            return (front, Some(rest));
+        }
+    }
+    (word, None)
+}
+
+// The container and the type that a word of a list names.
+fn name_of(word: &[u8]) -> Option<Name> {
+    let (front, rest) = cut(word, b'/');
+    let (container, kind) = match rest {
+        None => (None, type_of(front)?),
+        Some(rest) => (Some(type_of(front)?), type_of(rest)?),
+    };
+    if kind == FREE || container.is_some_and(|container| !is_holder(container)) {
+        return None;
+    }
+    Some(Name { container, kind })
+}
+
+/// The names in a list of words that are apart by commas; none where a word names no type, free space, or a container that
+/// is none.
+pub(crate) fn names_of(alloc: Global, list: &str) -> Result<Option<Vec<Name>>, AllocError>
+    ensures { IfOk result (λ found. IfSome found (λ names. 0 < length names.items)) }
+{
+    let mut names = Vec::new(alloc);
+    let mut left = list.as_bytes();
+    loop {
+        let (word, rest) = cut(left, b',');
+        let Some(name) = name_of(word) else {
+            return Ok(None);
+        };
+        names.push(name)?;
+        match rest {
+            Some(rest) => left = rest,
+            None => return Ok(Some(names)),
+        }
+    }
+}

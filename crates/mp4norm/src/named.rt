@@ -1,0 +1,86 @@
+//! Which boxes are named.
+ghost use Rattle.std.specs.Prelude.{◌≡◌};
+ghost use Rattle.mp4norm.specs.Strips.{holder, is_in, means, is_named};
+
+use mp4_boxes::{FourCc, Rule};
+
+/// A type of boxes: everywhere, or those that stand in one container alone.
+#[derive(Clone, Copy, Debug, PartialEq, Eq)]
+pub struct Name {
+    /// The container's type, `file` for the file itself.
+    pub container: Option<FourCc>,
+    pub kind: FourCc,
+}
+
+/// All rules.
+const HOLDING: [Rule; 11] = [
+    Rule::File,
+    Rule::Movie,
+    Rule::Track,
+    Rule::Edits,
+    Rule::Media,
+    Rule::MediaInformation,
+    Rule::DataInformation,
+    Rule::SampleTable,
+    Rule::MovieExtends,
+    Rule::MovieFragment,
+    Rule::TrackFragment,
+];
+
+/// The type of the container whose boxes lie under a rule.
+pub(crate) fn holder(rule: Rule) -> FourCc
+    ensures { result.0 ≡ holder rule }
+{
+    match rule {
+        Rule::File => FourCc::FILE,
+        Rule::Movie => FourCc(*b"moov"),
+        Rule::Track => FourCc(*b"trak"),
+        Rule::Edits => FourCc(*b"edts"),
+        Rule::Media => FourCc(*b"mdia"),
+        Rule::MediaInformation => FourCc(*b"minf"),
+        Rule::DataInformation => FourCc(*b"dinf"),
+        Rule::SampleTable => FourCc(*b"stbl"),
+        Rule::MovieExtends => FourCc(*b"mvex"),
+        Rule::MovieFragment => FourCc(*b"moof"),
+        Rule::TrackFragment => FourCc(*b"traf"),
+    }
+}
+
+/// Whether boxes of containers of this type are listed.
+pub(crate) fn is_holder(container: FourCc) -> bool {
+    HOLDING.iter().any(|rule| holder(*rule) == container)
+}
+
+// Whether a name's container, if it has one, is that of the rule.
+fn is_in(container: Option<FourCc>, rule: Rule) -> bool
+    ensures { result ≡ is_in container rule }
+{
+    match container {
+        None => true,
+        Some(container) => container == holder(rule),
+    }
+}
+
+// Whether the name means boxes of this type under the rule.
+fn means(name: &Name, rule: Rule, kind: FourCc) -> bool
+    ensures { result ≡ means rule kind.0 name.now }
+{
+    name.kind == kind && is_in(name.container, rule)
+}
+
+/// Whether some name means boxes of this type under the rule.
+pub(crate) fn is_named(names: &[Name], rule: Rule, kind: FourCc) -> bool
+    ensures { result ≡ is_named names.now rule kind.0 }
+{
+    names.iter().any(|name| means(name, rule, kind))
+}
+
+/// Counts a box for the first name that means it.
+pub(crate) fn count_box(names: &[Name], rule: Rule, kind: FourCc, counts: &mut [u64]) {
+    for (name, count) in names.iter().zip(counts.iter_mut()) {
+        if means(name, rule, kind) {
+            *count = count.saturating_add(1);
+            return;
+        }
+    }
+}

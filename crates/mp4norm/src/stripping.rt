@@ -1,0 +1,250 @@
+//! A copy of a file in which the boxes of some types are free space.
+ghost use Rattle.std.specs.Prelude.{◌≡◌, ℕ, ◌+◌, ◌-◌, ◌^◌, ◌<◌, ◌≤◌, min, List, ◌++◌, length, Ok, Err, IfOk, IfErr, OnOk, OnErr, IsTrue};
+ghost use Rattle.std.specs.Io.KnownBytes.{Appends};
+ghost use Rattle.mp4_boxes.specs.Box.{header_at};
+ghost use Rattle.mp4_boxes.specs.BoxFaults.{header_there};
+ghost use Rattle.mp4_boxes.specs.View.{top_header_seen};
+ghost use Rattle.mp4_boxes.specs.declared.refusal.Refusal.TheVariants as refusals;
+ghost use Rattle.mp4_boxes.specs.declared.rule.Rule.TheVariants.{File};
+ghost use Rattle.mp4_store.specs.Device.{AppendsPrefix, range};
+ghost use Rattle.mp4_present.specs.Carried.{waiting, BytesGoOn, RefusesCarry, RefusesRange};
+ghost use Rattle.mp4norm.specs.Strips.{holder, is_top, freed, Strips, IsStripped, RefusesHeaderUnder, RefusesHeaderAgain, RefusesWalk, RefusesStrip};
+
+use crate::boxes::rule_inside;
+use crate::named::{Name, count_box, holder, is_named};
+use mp4_boxes::{Fault, FourCc, Kind, Refusal, Rule, TopHeader, top_header, u32_at};
+use mp4_present::Carrier;
+use mp4_store::{Sink, Store};
+use std::alloc::Global;
+
+/// How many bytes are put at once.
+const ROOM: usize = 65_536;
+
+// The header at the place `at`, where `left` bytes are left in a container whose boxes lie under a rule. The bytes are the
+// first 16 of these, or all.
+fn header_under(bytes: &[u8], rule: Rule, at: u64, left: u64) -> Result<TopHeader, Fault>
+    requires fits { at + left < 2 ^ 64 }
+    requires some { 0 < left }
+    requires there { length bytes.now ≡ min left 16 }
+    ensures header { IfOk result (λ h. header_there (is_top rule) left bytes.now (holder rule) at ≡ Ok (top_header_seen at h)) }
+    ensures within { IfOk result (λ h. (at + h.header ≤ h.end) × (8 ≤ h.header) × (h.end ≤ at + left)) }
+    ensures fault { IfErr result (λ f. header_there (is_top rule) left bytes.now (holder rule) at ≡ Err f) }
+{
+    if left < 8 {
+        return Err(Fault::new(Kind::ShortHeader, holder(rule), at));
+    }
+    if rule != Rule::File && u32_at(bytes, 0) == 0 {
+        let kind = FourCc([bytes[4], bytes[5], bytes[6], bytes[7]]);
+        return Err(Fault::new(Kind::BadSize, kind, at));
+    }
+    if left < 16 && u32_at(bytes, 0) == 1 {
+        return Err(Fault::new(Kind::ShortHeader, holder(rule), at));
+    }
+    top_header(bytes, at, left)
+}
+
+// Reads the header at the place `at` of a container that ends at `end` and whose boxes lie under a rule.
+fn read_header<S: Store>(store: &mut S, rule: Rule, at: u64, end: u64) -> Result<TopHeader, Refusal>
+    requires some { at < end }
+    requires within { end ≤ length (S.file store.old) }
+    ensures honesty { S.is_honest store.new ≡ S.is_honest store.old }
+    ensures file { S.file store.new ≡ S.file store.old }
+    ensures header { IfOk result (λ h. IsTrue (S.is_honest store.old) → header_at (is_top rule) (range (S.file store.old) at (end - at)) ≡ Ok (top_header_seen at h)) }
+    ensures fits { IfOk result (λ h. (at + h.header ≤ h.end) × (8 ≤ h.header) × (h.end ≤ end)) }
+    ensures reads { OnOk result (S.read_failures store.new ≡ S.read_failures store.old) }
+    ensures refusal { IfErr result (RefusesHeaderUnder (S.is_honest store.old) (range (S.file store.old) at (end - at)) rule at (S.read_failures store.old) (S.read_failures store.new)) }
+{
+    let _size = store.len();
+    let left = end - at;
+    let mut front = [0; 16];
+    let len = left.min(16) as usize;
+    let bytes = &mut front[..len];
+    store.read_at(at, bytes)?;
+    let header = header_under(bytes, rule, at, left)?;
+    Ok(header)
+}
+
+// The same of a header that was read before: where it can't be read now, the store has changed.
+fn read_header_again<S: Store>(
+    store: &mut S,
+    rule: Rule,
+    at: u64,
+    end: u64,
+) -> Result<TopHeader, Refusal>
+    requires some { at < end }
+    requires within { end ≤ length (S.file store.old) }
+    ensures honesty { S.is_honest store.new ≡ S.is_honest store.old }
+    ensures file { S.file store.new ≡ S.file store.old }
+    ensures header { IfOk result (λ h. IsTrue (S.is_honest store.old) → header_at (is_top rule) (range (S.file store.old) at (end - at)) ≡ Ok (top_header_seen at h)) }
+    ensures fits { IfOk result (λ h. (at + h.header ≤ h.end) × (8 ≤ h.header) × (h.end ≤ end)) }
+    ensures reads { OnOk result (S.read_failures store.new ≡ S.read_failures store.old) }
+    ensures refusal { IfErr result (RefusesHeaderAgain (S.is_honest store.old) (range (S.file store.old) at (end - at)) rule at (S.read_failures store.old) (S.read_failures store.new)) }
+{
+    match read_header(store, rule, at, end) {
+        Ok(header) => Ok(header),
+        Err(Refusal::Fault(_)) => Err(Refusal::StoreChanged),
+        Err(refusal) => Err(refusal),
+    }
+}
+
+// Reads the headers of all boxes of a container.
+fn read_headers<S: Store>(
+    names: &[Name],
+    rule: Rule,
+    from: u64,
+    end: u64,
+    store: &mut S,
+) -> Result<(), Refusal>
+    requires span { from ≤ end }
+    requires within { end ≤ length (S.file store.old) }
+    ensures honesty { S.is_honest store.new ≡ S.is_honest store.old }
+    ensures file { S.file store.new ≡ S.file store.old }
+    ensures reads { OnOk result (S.read_failures store.new ≡ S.read_failures store.old) }
+    ensures refusal { IfErr result (RefusesWalk names.now (S.is_honest store.old) rule from (range (S.file store.old) from (end - from)) (S.read_failures store.old) (S.read_failures store.new)) }
+{
+    let mut at = from;
+    while at < end {
+        let header = read_header(store, rule, at, end)?;
+        at = header.end;
+    }
+    Ok(())
+}
+
+// Walks over the boxes of a container and of the containers in it, but for those that are named, and counts those. The
+// headers of all boxes of a container are read before those of boxes in them, as where boxes are listed.
+fn judge_boxes<S: Store>(
+    names: &[Name],
+    rule: Rule,
+    from: u64,
+    end: u64,
+    store: &mut S,
+    counts: &mut [u64],
+) -> Result<(), Refusal>
+    requires span { from ≤ end }
+    requires within { end ≤ length (S.file store.old) }
+    ensures honesty { S.is_honest store.new ≡ S.is_honest store.old }
+    ensures file { S.file store.new ≡ S.file store.old }
+    ensures reads { OnOk result (S.read_failures store.new ≡ S.read_failures store.old) }
+    ensures judged { OnOk result (IsTrue (S.is_honest store.old) → (text : List ℕ) × Strips names.now rule (range (S.file store.old) from (end - from)) text) }
+    ensures refusal { IfErr result (RefusesWalk names.now (S.is_honest store.old) rule from (range (S.file store.old) from (end - from)) (S.read_failures store.old) (S.read_failures store.new)) }
+{
+    read_headers(names, rule, from, end, store)?;
+    let mut at = from;
+    while at < end {
+        let header = read_header(store, rule, at, end)?;
+        if is_named(names, rule, header.kind) {
+            count_box(names, rule, header.kind, counts);
+        } else if let Some(inner) = rule_inside(rule, header.kind) {
+            let payload = at + u64::from(header.header);
+            judge_boxes(names, inner, payload, header.end, store, counts)?;
+        }
+        at = header.end;
+    }
+    Ok(())
+}
+
+// Takes a box along whose type is `free`.
+fn carry_freed<S: Store, K: Sink>(
+    at: u64,
+    end: u64,
+    store: &mut S,
+    carrier: &mut Carrier,
+    sink: &mut K,
+) -> Result<(), Refusal>
+    requires some { at + 8 ≤ end }
+    requires within { end ≤ length (S.file store.old) }
+    ensures honesty { S.is_honest store.new ≡ S.is_honest store.old }
+    ensures file { S.file store.new ≡ S.file store.old }
+    ensures reads { OnOk result (S.read_failures store.new ≡ S.read_failures store.old) }
+    ensures puts { OnOk result (K.put_failures sink.new ≡ K.put_failures sink.old) }
+    ensures bytes { OnOk result (IsTrue (S.is_honest store.old) → BytesGoOn (K.contents sink.old) (K.contents sink.new) (waiting carrier.old) (waiting carrier.new) (freed (range (S.file store.old) at (end - at)))) }
+    ensures prefix { OnErr result (IsTrue (S.is_honest store.old) → AppendsPrefix (K.contents sink.old) (K.contents sink.new) (waiting carrier.old ++ freed (range (S.file store.old) at (end - at)))) }
+    ensures refusal { IfErr result (RefusesRange (S.read_failures store.old) (S.read_failures store.new) (K.put_failures sink.old) (K.put_failures sink.new)) }
+{
+    carrier.carry_range(store, at, 4, sink)?;
+    carrier.carry(b"free", sink)?;
+    carrier.carry_range(store, at + 8, end - at - 8, sink)
+}
+
+// Takes the boxes of a container along, with those free space that are named.
+fn carry_boxes<S: Store, K: Sink>(
+    names: &[Name],
+    rule: Rule,
+    from: u64,
+    end: u64,
+    store: &mut S,
+    carrier: &mut Carrier,
+    sink: &mut K,
+) -> Result<(), Refusal>
+    requires span { from ≤ end }
+    requires within { end ≤ length (S.file store.old) }
+    ensures honesty { S.is_honest store.new ≡ S.is_honest store.old }
+    ensures file { S.file store.new ≡ S.file store.old }
+    ensures reads { OnOk result (S.read_failures store.new ≡ S.read_failures store.old) }
+    ensures puts { OnOk result (K.put_failures sink.new ≡ K.put_failures sink.old) }
+    ensures bytes { OnOk result (IsTrue (S.is_honest store.old) → (text : List ℕ) → Strips names.now rule (range (S.file store.old) from (end - from)) text
+        → BytesGoOn (K.contents sink.old) (K.contents sink.new) (waiting carrier.old) (waiting carrier.new) text) }
+    ensures prefix { OnErr result (IsTrue (S.is_honest store.old) → (text : List ℕ) → Strips names.now rule (range (S.file store.old) from (end - from)) text
+        → AppendsPrefix (K.contents sink.old) (K.contents sink.new) (waiting carrier.old ++ text)) }
+    ensures unchanged { IsTrue (S.is_honest store.old) → (text : List ℕ) → Strips names.now rule (range (S.file store.old) from (end - from)) text
+        → IfErr result (λ r. r ≡ refusals.StoreChanged → ⊥) }
+    ensures refusal { IfErr result (RefusesCarry (S.read_failures store.old) (S.read_failures store.new) (K.put_failures sink.old) (K.put_failures sink.new)) }
+{
+    let mut at = from;
+    while at < end {
+        let header = read_header_again(store, rule, at, end)?;
+        if is_named(names, rule, header.kind) {
+            carry_freed(at, header.end, store, carrier, sink)?;
+        } else if let Some(inner) = rule_inside(rule, header.kind) {
+            let head = u64::from(header.header);
+            carrier.carry_range(store, at, head, sink)?;
+            carry_boxes(names, inner, at + head, header.end, store, carrier, sink)?;
+        } else {
+            carrier.carry_range(store, at, header.end - at, sink)?;
+        }
+        at = header.end;
+    }
+    Ok(())
+}
+
+/// Puts a copy of a file in which the boxes that are named are free space: of each the four bytes of its type are changed, and
+/// all else stays, so that sizes and places stay too. Boxes are found where `boxes` lists them, but for what lies in a box
+/// that is named. Where a header that is looked at can't be read, nothing is put.
+pub fn strip<S: Store, K: Sink>(
+    alloc: Global,
+    store: &mut S,
+    names: &[Name],
+    sink: &mut K,
+) -> Result<(), Refusal>
+    ensures honesty { S.is_honest store.new ≡ S.is_honest store.old }
+    ensures file { S.file store.new ≡ S.file store.old }
+    ensures reads { OnOk result (S.read_failures store.new ≡ S.read_failures store.old) }
+    ensures puts { OnOk result (K.put_failures sink.new ≡ K.put_failures sink.old) }
+    ensures bytes { OnOk result (IsTrue (S.is_honest store.old) → (text : List ℕ)
+        × IsStripped names.now (S.file store.old) text × Appends (K.contents sink.old) (K.contents sink.new) text) }
+    ensures refusal { IfErr result (RefusesStrip names.now (S.is_honest store.old) (S.file store.old) (K.contents sink.old) (K.contents sink.new)
+        (S.read_failures store.old) (S.read_failures store.new) (K.put_failures sink.old) (K.put_failures sink.new)) }
+{
+    let mut carrier = Carrier::new(alloc, ROOM)?;
+    let end = store.len();
+    judge_boxes(names, Rule::File, 0, end, store, &mut [])?;
+    carry_boxes(names, Rule::File, 0, end, store, &mut carrier, sink)?;
+    carrier.flush(sink)
+}
+
+/// How many boxes are free space in the copy that `strip` puts, for each name in turn: a box is counted for the first name
+/// that means it.
+pub fn count_named<S: Store>(
+    alloc: Global,
+    store: &mut S,
+    names: &[Name],
+) -> Result<Vec<u64>, Refusal>
+    ensures honesty { S.is_honest store.new ≡ S.is_honest store.old }
+    ensures file { S.file store.new ≡ S.file store.old }
+    ensures many { IfOk result (λ counts. length counts.items ≡ length names.now) }
+{
+    let mut counts = vec![in alloc; 0u64; names.len()]?;
+    let end = store.len();
+    judge_boxes(names, Rule::File, 0, end, store, counts.as_mut_slice())?;
+    Ok(counts)
+}
