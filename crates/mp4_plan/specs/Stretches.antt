@@ -1,5 +1,5 @@
 -- Where the bytes of samples lie in a file: in stretches, one after the other.
-use Rattle.std.specs.Prelude.{◌≡◌, ℕ, ◌+◌, ◌-◌, ◌≤◌, List, [], ◌∷◌, ◌++◌, take, flat_map, true}
+use Rattle.std.specs.Prelude.{◌≡◌, ℕ, ◌+◌, ◌-◌, ◌^◌, ◌<◌, ◌≤◌, List, [], ◌∷◌, ◌++◌, take, flat_map, true}
 use Rattle.std.specs.List.{AllByRecursion}
 use Rattle.mp4_boxes.specs.Bytes.{sum_of}
 use Rattle.mp4_store.specs.Device.{range}
@@ -42,3 +42,7 @@ pub record Tells (s : Stretches) (samples : List SampleAt) : Type 0 where
 -- These were added too.
 abbrev pub JoinsOn : Stretches → Stretches → List SampleAt → Type 0
 JoinsOn before after samples = (earlier : List SampleAt) → Tells before earlier → Tells after (earlier ++ samples)
+
+-- There is room for a stretch more, and the sample ends at a place of 64 bits: then none is left out.
+abbrev pub IsRoomFor : Stretches → SampleAt → Type 0
+IsRoomFor s sample = (s.used < 15) × (sample.at + sample.size < 2 ^ 64)

@@ -83,17 +83,18 @@ impl Span {
 }
 
 impl Stretches {
-    ghost use Rattle.std.specs.Prelude.{◌≡◌, ◌≤◌, ◌++◌, ◌∷◌, [], List, take, length, true, vec_len, IfErr, OnOk, OnErr, IsTrue};
+    ghost use Rattle.std.specs.Prelude.{◌≡◌, ◌+◌, ◌<◌, ◌≤◌, ◌++◌, ◌∷◌, [], List, take, length, true, vec_len, IfErr, OnOk, OnErr, IsTrue};
     ghost use Rattle.std.specs.List.{AllByRecursion};
     ghost use Rattle.mp4_boxes.specs.declared.refusal.Refusal.TheVariants as refusals;
     ghost use Rattle.mp4_store.specs.Device.{AppendsPrefix};
     ghost use Rattle.mp4_tables.specs.declared.sample.SampleAt.{SampleAt};
     ghost use Rattle.mp4_present.specs.Carried.{BytesGoOn, RefusesCarry, waiting};
-    ghost use Rattle.mp4_plan.specs.Stretches.{AreBytesOf, spans_of, spans_bytes, spans_len, EndsBelow, Tells, JoinsOn};
+    ghost use Rattle.mp4_plan.specs.Stretches.{AreBytesOf, spans_of, spans_bytes, spans_len, EndsBelow, Tells, JoinsOn, IsRoomFor};
 
     /// Those of no samples.
     pub(crate) fn new() -> Stretches
-        ensures { Tells result [] }
+        ensures told { Tells result [] }
+        ensures all { result.are_all ≡ true }
     {
         Stretches {
             earlier: [NOTHING; 15],
@@ -105,7 +106,8 @@ impl Stretches {
 
     /// Forgets all samples.
     pub(crate) fn clear(&mut self)
-        ensures { Tells self.new [] }
+        ensures told { Tells self.new [] }
+        ensures all { (self.new.are_all ≡ true) × (self.new.used ≡ 0) }
     {
         self.used = 0;
         self.last = NOTHING;
@@ -124,6 +126,8 @@ impl Stretches {
         ensures closed { (samples : List SampleAt) → Tells self.old samples
             → self.new.are_all ≡ true → AreBytesOf (take self.new.used self.new.earlier) samples }
         ensures last { self.new.last ≡ self.old.last }
+        ensures all { self.old.used < 15 → self.new.are_all ≡ self.old.are_all }
+        ensures one { self.new.used ≤ self.old.used + 1 }
     {
         if self.last.end <= self.last.at {
             return;
@@ -138,7 +142,9 @@ impl Stretches {
 
     // A stretch begins with a sample.
     fn open(&mut self, sample: &SampleAt)
-        ensures { JoinsOn self.old self.new (sample.now ∷ []) }
+        ensures joined { JoinsOn self.old self.new (sample.now ∷ []) }
+        ensures all { IsRoomFor self.old sample.now → self.new.are_all ≡ self.old.are_all }
+        ensures one { self.new.used ≤ self.old.used + 1 }
     {
         self.close_last();
         match sample.at.checked_add(u64::from(sample.size)) {
@@ -150,7 +156,9 @@ impl Stretches {
     /// One more sample. Where its bytes lie behind the last ones, they make the last stretch longer.
     #[inline(always)]
     pub(crate) fn add(&mut self, sample: &SampleAt)
-        ensures { JoinsOn self.old self.new (sample.now ∷ []) }
+        ensures joined { JoinsOn self.old self.new (sample.now ∷ []) }
+        ensures all { IsRoomFor self.old sample.now → self.new.are_all ≡ self.old.are_all }
+        ensures one { self.new.used ≤ self.old.used + 1 }
     {
         if self.last.end == sample.at {
             match self.last.end.checked_add(u64::from(sample.size)) {

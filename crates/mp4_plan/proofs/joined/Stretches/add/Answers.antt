@@ -2,8 +2,8 @@ use Rattle.std.proofs.Common.{rules, take, arith, refl, sym, ◌≡◌, ◌+◌}
 use Rattle.mp4_plan.proofs.Stretched.{bytes_longer}
 use Rattle.mp4_plan.proofs.joined.Stretches.add.Goals as goal
 
-pub returns-in-Some : goal.returns-in-Some
-returns-in-Some c earlier h =
+pub returns-in-Some-clause-joined : goal.returns-in-Some-clause-joined
+returns-in-Some-clause-joined c earlier h =
     let s = c.args.sample.now in
     let w = c.args.self.now in
     let end : c.in-Some.end ≡ w.last.end + s.size = search rules in

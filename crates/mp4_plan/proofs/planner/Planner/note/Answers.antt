@@ -28,7 +28,7 @@ loop-noted-preserved g c =
       notes = notes_one _ c.loop-noted.self c.take.new.self c.loop-noted.noted _ _ _ _ _ c.in-Some.sample c.row_of.result i.notes (search rules) c.in-Some.ensures (sym c.if-not-takes.ensures) c.take.ensures c.next.ensures.rest c.row_of.ensures;
       count = omega (arith, count, count_with _ _ _ c.take.ensures);
       later = g.met.S.Samples.follows_on _ _ _ i.later c.next.ensures.later;
-      joined = joins_then _ _ _ _ _ _ i.joined c.add.ensures (taken_more _ _ _ _ _ _ _ _ i.notes c.in-Some.ensures);
+      joined = joins_then _ _ _ _ _ _ i.joined c.add.ensures.joined (taken_more _ _ _ _ _ _ _ _ i.notes c.in-Some.ensures);
     }
 
 pub returns-clause-noted : goal.returns-clause-noted

@@ -39,7 +39,7 @@ returns-then-not-first_goes-clause-noted g c told tree o t walk left is comes sh
       planning = sym (set_same c.args.self.now.planning.items k walk is);
       nexts = sym (set_same c.args.self.now.nexts.items k c.index.result.now (shown ∙ ap Some (sym first)));
       comes = subst (λ (ss : List SampleAt). Comes file tree t m walk ss) (sym after) comes;
-      stretches = subst (λ k. Tells c.clear.new.self (take k left)) (sym count) c.clear.ensures;
+      stretches = subst (λ k. Tells c.clear.new.self (take k left)) (sym count) c.clear.ensures.told;
     }
 
 pub returns-then-not-first_goes-clause-work : goal.returns-then-not-first_goes-clause-work
@@ -86,7 +86,7 @@ returns-clause-noted g c told tree o t walk left is comes shown =
       planning = refl;
       nexts = refl;
       comes = three.0;
-      stretches = p.joined told tree t left o here [] c.clear.ensures;
+      stretches = p.joined told tree t left o here [] c.clear.ensures.told;
     }
 
 pub returns-in_err-planned-clause-most : goal.returns-in_err-planned-clause-most
