@@ -8,7 +8,7 @@ use Rattle.mp4_store.proofs.Known.{AppendsPrefix-longer}
 use Rattle.mp4_tables.specs.declared.sample.SampleAt.{SampleAt}
 use Rattle.mp4_present.specs.Carried.{BytesGoOn}
 use Rattle.mp4_present.specs.Joined.{AreJoined, sample_bytes}
-use Rattle.mp4_present.proofs.Carrying.{BytesGoOn-nothing, BytesGoOn-then, BytesGoOn-fails}
+use Rattle.mp4_present.proofs.Carrying.{BytesGoOn-nothing, BytesGoOn-then, BytesGoOn-fails, BytesGoOn-front}
 
 -- The bytes of the first samples follow; these are to come.
 pub record HandGoesOn (file : List ℕ) (before after : Option (List ℕ)) (held held_after : List ℕ) (all to_come : List SampleAt) : Type 0 where
@@ -46,3 +46,9 @@ hand_fails file a b c held held_b all to_come n at len h joined p =
     let two : sample_bytes file to_come ≡ range file at len ++ rest = ap (sample_bytes file) (sym (take-append-drop n to_come)) ∙ bytes_of_two file (take n to_come) (drop n to_come) ∙ ap (λ (bs : List ℕ). bs ++ rest) (joined file) in
     let all_is : sample_bytes file all ≡ sample_bytes file h.done ++ (range file at len ++ rest) = ap (sample_bytes file) (sym h.whole) ∙ bytes_of_two file h.done to_come ∙ ap (λ (bs : List ℕ). sample_bytes file h.done ++ bs) two in
     rw all_is (BytesGoOn-fails a b c held held_b (sample_bytes file h.done) (range file at len ++ rest) h.bytes (rw (← append_assoc held_b (range file at len) rest) (AppendsPrefix-longer b c (held_b ++ range file at len) rest p)))
+
+-- what was put so far is a front
+pub hand_front : (file : List ℕ) (a b : Option (List ℕ)) (held held_b : List ℕ) (all to_come : List SampleAt) → HandGoesOn file a b held held_b all to_come → AppendsPrefix a b (held ++ sample_bytes file all)
+hand_front file a b held held_b all to_come h =
+    let all_is : sample_bytes file all ≡ sample_bytes file h.done ++ sample_bytes file to_come = ap (sample_bytes file) (sym h.whole) ∙ bytes_of_two file h.done to_come in
+    rw all_is (BytesGoOn-front a b held held_b (sample_bytes file h.done) (sample_bytes file to_come) h.bytes)

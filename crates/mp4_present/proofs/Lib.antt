@@ -25,10 +25,12 @@ pub mod Outlines
 pub mod Fragmented
 pub mod Payloads
 pub mod WalkPlaces
+pub mod HeldAgain
 pub mod JoinedSamples
 pub mod PlainLists
 pub mod Carrying
 pub mod Hands
+pub mod HandSizes
 pub mod TablesKept
 pub mod TracksPassed
 pub mod TablesStand
@@ -63,3 +65,5 @@ pub mod MoofBytes
 pub mod TablesWork
 pub mod WayThrough
 pub mod OpenedDenotes
+pub mod PassedOn
+pub mod GoneBack

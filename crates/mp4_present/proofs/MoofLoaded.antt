@@ -20,11 +20,11 @@ use Rattle.mp4_present.specs.Denotes.{FileTree, file_parts, first_due}
 use Rattle.mp4_present.specs.Outline.{box_at, longest}
 use Rattle.mp4_present.specs.OpenedMovie.{IsOpenedAs}
 use Rattle.mp4_present.specs.InHand.{left_in_hand}
-use Rattle.mp4_present.specs.Movies.{MovieSeen, InHandOf, IsWhole, Fills}
+use Rattle.mp4_present.specs.Movies.{MovieSeen, InHandOf, IsWhole, Fills, moof_box}
 use Rattle.mp4_present.specs.declared.in_hand.InHand.{InHand}
 use Rattle.mp4_present.specs.Passing.{parts_behind}
 use Rattle.mp4_present.specs.Reading.{RefusesPayload}
-use Rattle.mp4_present.specs.Coming.{track_keys, due_behind, samples_behind, StandsBefore, Comes, HoldsNext, Takes, moof_box}
+use Rattle.mp4_present.specs.Coming.{track_keys, due_behind, samples_behind, StandsBefore, Comes, HoldsNext, Takes}
 use Rattle.mp4_present.specs.declared.reading.TopBox.{TopBox}
 use Rattle.mp4_present.specs.declared.walks.Walk.{Walk}
 use Rattle.mp4_present.proofs.FragmentPass.{Left, left_next, behind, whole_file, longest_from, size_at}
@@ -137,6 +137,8 @@ module _ (file : List ℕ) (m : MovieSeen) (tree : FileTree) (t : TrackTree) (ea
           room = ap (λ xs. length xs) items ∙ same ∙ h.room;
           is_moof = kind;
           bytes = box ∙ sym first_later.3;
+          read = first_later.3 ∙ ap (box_at file) (sym moof);
+          whole = subst (IsWhole (length file)) (sym moof) whole;
         }
 
 -- ---- the loop

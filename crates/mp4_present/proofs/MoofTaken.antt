@@ -1,5 +1,5 @@
 -- The next `moof` of a walk: its samples of the track are in hand.
-use Rattle.std.proofs.Common.{rules, ◌≡◌, ℕ, zero, suc, ◌+◌, ◌-◌, ◌^◌, ◌<◌, ◌≤◌, min, nat_lt, length-append, Bool, true, false, List, [], ◌∷◌, ◌++◌, Some, length, map, refl, sym, ap, subst, ◌∙◌, arith, append_assoc, slice_get, slice_index_or}
+use Rattle.std.proofs.Common.{rules, ◌≡◌, ℕ, zero, suc, ◌+◌, ◌-◌, ◌^◌, ◌<◌, ◌≤◌, min, nat_lt, length-append, Bool, true, false, List, [], ◌∷◌, ◌++◌, Option, Some, length, map, refl, sym, ap, subst, ◌∙◌, arith, append_assoc, slice_get, slice_index_or}
 use Rattle.std.specs.Prelude.{codes, bytes_eq, flat_map, option_map}
 use Rattle.std.specs.List.{AllZip}
 use Rattle.std.proofs.lemmas.List.{map-append}
@@ -17,6 +17,7 @@ use Rattle.mp4_tables.specs.declared.sample.SampleAt.{SampleAt}
 use Rattle.mp4_frag.specs.Fragments.{FragmentTree}
 use Rattle.mp4_frag.specs.FragmentSamples.{Part, start_of, duration_of, fragment_samples}
 use Rattle.mp4_frag.specs.Judged.{AreTrexesOf, IsSoundMoof, TrackSeen, track_seen, samples_of_track}
+use Rattle.mp4_frag.specs.Walks.{samples_in}
 use Rattle.mp4_frag.specs.declared.state.TrackState.{TrackState}
 use Rattle.mp4_frag.specs.declared.trex.Trex.{Trex}
 use Rattle.mp4_frag.proofs.RunsTied.{duration-append}
@@ -25,12 +26,14 @@ use Rattle.mp4_present.specs.Presentation.{IsInTime, total_duration, max_time}
 use Rattle.mp4_present.specs.Denotes.{FileTree, plain_of, file_parts, first_due, parts_of_track, placed_of, sample_of, track_of, presentation_of}
 use Rattle.mp4_present.specs.Passing.{parts_behind}
 use Rattle.mp4_present.specs.OpenedMovie.{IsOpenedAs, IsInfoOf}
-use Rattle.mp4_present.specs.Movies.{MovieSeen}
-use Rattle.mp4_present.specs.Coming.{track_keys, due_behind, samples_behind, StandsBefore, HoldsNext, moof_box}
+use Rattle.mp4_present.specs.Movies.{MovieSeen, moof_box, all_in_moof}
+use Rattle.mp4_present.specs.Coming.{track_keys, due_behind, samples_behind, StandsBefore, HoldsNext, HoldsLast}
 use Rattle.mp4_present.specs.declared.track_info.TrackInfo.{TrackInfo}
+use Rattle.mp4_present.specs.declared.walks.Due.{Due}
 use Rattle.mp4_present.specs.declared.walks.Walk.{Walk}
 use Rattle.mp4_present.proofs.DueBehind.{own_samples, one_moof}
 use Rattle.mp4_present.proofs.MoofLoaded.{behind_split, due_more}
+use Rattle.mp4_present.proofs.HeldAgain.{HoldSame, holds_as}
 use Rattle.mp4_present.proofs.MoofSound.{moof_sound, kept_trexes}
 use Rattle.mp4_tables.proofs.Sums.{timed_lasts}
 use Rattle.mp4_boxes.specs.Bytes.{sum_of}
@@ -123,8 +126,8 @@ module _ (file : List ℕ) (m : MovieSeen) (tree : FileTree) (t : TrackTree) (ea
   -- the walk stands behind it
   pub stands_behind : (now : Walk) → now.track ≡ w.track → now.next ≡ w.next → length now.bytes.items ≡ length w.bytes.items
       → now.due ≡ min (w.due + min (sum_of (λ (s : SampleAt). s.duration) (samples_behind tree t earlier (next ∷ []))) (2 ^ 64 - 1)) (2 ^ 64 - 1)
-      → now.left ≡ w.left - length (samples_behind tree t earlier (next ∷ [])) → StandsBefore file tree t (earlier ++ next ∷ []) later now
-  stands_behind now track at bytes due left =
+      → now.left ≡ w.left - length (samples_behind tree t earlier (next ∷ [])) → HoldSame w now → now.before ≡ Some (record { time = w.due; left = w.left }) → StandsBefore file tree t (earlier ++ next ∷ []) later now
+  stands_behind now track at bytes due left same last =
       let one : sizes (next.moof ∷ []) ≡ size next.moof = omega (arith, sizes-cons next.moof []) in
       let place = h.place in
       let ends = in_time file m tree t earlier next later o w.track h.is_track h.split in
@@ -146,6 +149,8 @@ module _ (file : List ℕ) (m : MovieSeen) (tree : FileTree) (t : TrackTree) (ea
         due = due_is _ _ _ _ _ (due_behind tree t earlier) due before lasting behind ends;
         left = omega (arith, left, all, had);
         room = bytes ∙ h.room;
+        held = subst (λ (b : Option Due). HoldsLast file tree t (earlier ++ next ∷ []) later now b) (sym last)
+            (earlier, next, refl, holds_as file tree t w (record now { due = w.due; left = w.left }) (record { track = same.track; next = same.next; moof = same.moof; room = same.room; box = same.box }) earlier next later refl refl h);
       }
     where
       due_is : (now was sum own next due : ℕ) → now ≡ min (was + min sum (2 ^ 64 - 1)) (2 ^ 64 - 1) → was ≡ due → sum ≡ own → next ≡ due + own → due + own ≤ max_time → now ≡ next
@@ -184,3 +189,15 @@ none_left (x ∷ xs) n e h = let lt : 0 < n = omega (arith, e) in absurd (search
 
 pub some_counted : (n k : ℕ) → nat_lt 0 n ≡ true → n ≡ k → 0 < k
 some_counted n k some e = let lt : 0 < n = search rules in omega (arith, lt, e)
+
+-- ---- all that is in hand
+
+-- from its beginning on it has all samples of the track
+pub all_taken : (m : MovieSeen) (w : Walk) (k due : ℕ) (found info : TrackInfo) (seen : Box) (states : List TrackState) (coming : List SampleAt) → slice_get m.tracks k ≡ Some found → slice_get m.tracks k ≡ Some info → seen ≡ moof_box w → states ≡ m.states
+    → coming ≡ samples_in seen states found.id due (keys_seen found.keys) → coming ≡ all_in_moof m w info due
+all_taken m w k due found info seen states coming at there is same e =
+    let one : found ≡ info = some_is found info (sym at ∙ there) in
+    e ∙ (λ i. samples_in (is i) (same i) (one i).id due (keys_seen (one i).keys))
+
+pub counted_left : (left few now many : ℕ) → now ≡ left - few → few ≤ left → few ≡ many → left ≡ many + now
+counted_left left few now many e f h = omega (arith, e, f, h)

@@ -1,5 +1,5 @@
 -- A walk that begins: the samples of the tables are in hand, and those of all `moof`s come behind them.
-use Rattle.std.proofs.Common.{◌≡◌, ℕ, ◌+◌, ◌-◌, ◌^◌, min, length-append, List, [], ◌∷◌, ◌++◌, Option, Some, None, length, drop, map, refl, sym, ap, ◌∙◌, arith, slice_get}
+use Rattle.std.proofs.Common.{◌≡◌, ℕ, ◌+◌, ◌-◌, ◌^◌, min, length-append, List, [], ◌∷◌, ◌++◌, Option, Some, None, length, drop, map, refl, sym, ap, subst, ◌∙◌, arith, slice_get}
 use Rattle.std.specs.Prelude.{codes, flat_map, ℤ, unwrap_or}
 use Rattle.std.proofs.lemmas.List.{append-nil}
 use Rattle.std.proofs.lemmas.List.{length-map}
@@ -23,9 +23,10 @@ use Rattle.mp4_present.specs.Outline.{BeginAt}
 use Rattle.mp4_present.specs.OpenedMovie.{IsOpenedAs, IsInfoOf, AreTablesOf, plain_seen}
 use Rattle.mp4_present.specs.Movies.{MovieSeen, table_bytes, tables_seen}
 use Rattle.mp4_present.specs.Passing.{parts_behind}
-use Rattle.mp4_present.specs.Coming.{track_keys, track_samples, due_behind, samples_behind, StandsBefore}
+use Rattle.mp4_present.specs.Coming.{track_keys, track_samples, due_behind, samples_behind, StandsBefore, HoldsLast}
 use Rattle.mp4_present.specs.declared.track_info.TrackInfo.{TrackInfo}
 use Rattle.mp4_present.specs.declared.movie.TrackTables.{TrackTables}
+use Rattle.mp4_present.specs.declared.walks.Due.{Due}
 use Rattle.mp4_present.specs.declared.walks.Walk.{Walk}
 use Rattle.mp4_present.proofs.FragmentPass.{whole_file}
 use Rattle.mp4_present.proofs.KeysExtended.{HaveNone, grouped_within, timed_with}
@@ -106,7 +107,10 @@ module _ (file : List ℕ) (m : MovieSeen) (tree : FileTree) (t : TrackTree) (o 
       omega (arith, all, plain, own)
 
 module _ (file : List ℕ) (m : MovieSeen) (tree : FileTree) (t : TrackTree) (o : IsOpenedAs file m tree) (w : Walk) (at : slice_get tree.movie.tracks w.track ≡ Some t) (bytes : length w.bytes.items ≡ m.longest) (due : w.due ≡ due_behind tree t [])
-    (left : w.left ≡ length (samples_behind tree t [] tree.fragments)) where
+    (left : w.left ≡ length (samples_behind tree t [] tree.fragments)) (before : w.before ≡ None) where
+  none_held : HoldsLast file tree t [] tree.fragments w w.before
+  none_held = subst (λ (b : Option Due). HoldsLast file tree t [] tree.fragments w b) (sym before) tt
+
   -- it stands before the first one
   pub stands_first : (first : Option ℕ) → m.fragments ≡ first → w.next ≡ unwrap_or first m.file_len → BeginAt first tree.top → StandsBefore file tree t [] tree.fragments w
   stands_first None e next b = record {
@@ -121,6 +125,7 @@ module _ (file : List ℕ) (m : MovieSeen) (tree : FileTree) (t : TrackTree) (o 
     due = due;
     left = left;
     room = bytes ∙ o.longest_is;
+    held = none_held;
   }
   stands_first (Some from) e next b = record {
     is_track = at;
@@ -134,4 +139,5 @@ module _ (file : List ℕ) (m : MovieSeen) (tree : FileTree) (t : TrackTree) (o 
     due = due;
     left = left;
     room = bytes ∙ o.longest_is;
+    held = none_held;
   }

@@ -11,6 +11,7 @@ use Rattle.mp4_boxes.specs.declared.refusal.Refusal.TheVariants as refusals
 use Rattle.mp4_store.specs.Device.{AppendsPrefix}
 use Rattle.mp4_store.proofs.Known.{AppendsPrefix-longer}
 use Rattle.mp4_tables.specs.declared.sample.SampleAt.{SampleAt}
+use Rattle.mp4_tables.proofs.Sums.{timed_bytes}
 use Rattle.mp4_tables.specs.Views.{CursorSeen as TableView}
 use Rattle.mp4_frag.specs.Fragments.{FragmentTree}
 use Rattle.mp4_head.specs.Tree.{TrackTree}
@@ -18,18 +19,22 @@ use Rattle.mp4_present.specs.Carried.{BytesGoOn, RefusesPut, RefusesStretch}
 use Rattle.mp4_present.specs.Coming.{StandsBefore, Comes, Loads, samples_behind, track_samples}
 use Rattle.mp4_present.specs.Denotes.{FileTree, file_parts, placed_of}
 use Rattle.mp4_present.specs.InHand.{left_in_hand}
-use Rattle.mp4_present.specs.Joined.{IsBelow, sample_bytes}
+use Rattle.mp4_present.specs.Joined.{IsBelow, sample_bytes, sizes_of}
 use Rattle.mp4_present.specs.Movies.{MovieSeen, HandAt, InHandOf, tables_seen}
-use Rattle.mp4_present.specs.OpenedMovie.{IsOpenedAs}
+use Rattle.mp4_present.specs.OpenedMovie.{IsOpenedAs, IsInfoOf}
 use Rattle.mp4_present.specs.declared.in_hand.InHand.{InHand}
 use Rattle.mp4_present.specs.declared.in_hand.InHand.TheVariants as hands
 use Rattle.mp4_present.specs.declared.in_hand.Place.{Place}
 use Rattle.mp4_present.specs.declared.in_hand.Place.TheVariants.{Tables, Fragment}
 use Rattle.mp4_present.specs.declared.movie.TrackTables.{TrackTables}
 use Rattle.mp4_present.specs.declared.stretches.Stretch.{Stretch}
+use Rattle.mp4_present.specs.declared.track_info.TrackInfo.{TrackInfo}
 use Rattle.mp4_present.specs.declared.walks.Walk.{Walk}
 use Rattle.mp4_present.proofs.Carrying.{BytesGoOn-then, BytesGoOn-all, BytesGoOn-fails, BytesGoOn-front}
 use Rattle.mp4_present.proofs.Hands.{HandGoesOn, hand_all, bytes_of_two}
+use Rattle.mp4_present.proofs.HandSizes.{sizes_of_two}
+use Rattle.mp4_present.proofs.HeldAgain.{stands_moved}
+use Rattle.mp4_present.proofs.MoofTaken.{zipped_at}
 use Rattle.mp4_present.proofs.SamplesLie.{IsInFile, placed_lie, timed_lie}
 use Rattle.mp4_present.proofs.WalkPlaces.{of_got}
 
@@ -55,49 +60,50 @@ hand_one m w a b h k = one_at m w w.place a b h k
 
 -- between which `moof`s a walk stands doesn't depend on its place in what is in hand
 pub kept_before : (file : List ℕ) (tree : FileTree) (t : TrackTree) (earlier later : List FragmentTree) (w : Walk) (p : Place) → StandsBefore file tree t earlier later w → StandsBefore file tree t earlier later (record w { place = p })
-kept_before file tree t earlier later w p s = record {
-  is_track = s.is_track;
-  split = s.split;
-  passed = s.passed;
-  boxes = s.boxes;
-  top = s.top;
-  place = s.place;
-  moofs_passed = s.moofs_passed;
-  moofs_left = s.moofs_left;
-  due = s.due;
-  left = s.left;
-  room = s.room;
-}
+kept_before file tree t earlier later w p s = stands_moved file tree t earlier later w p w.mark s
 
 -- ---- hand after hand
 
--- The bytes of the first samples of a track follow, from the first on; those behind these `moof`s are to come.
-pub record TrackGoesOn (file : List ℕ) (tree : FileTree) (t : TrackTree) (before after : Option (List ℕ)) (held_after : List ℕ) (w : Walk) (all : List SampleAt) : Type 0 where
+-- The bytes of the first samples of a track follow, from the first on; those behind these `moof`s are to come, with as many bytes as are left.
+pub record TrackGoesOn (file : List ℕ) (tree : FileTree) (t : TrackTree) (before after : Option (List ℕ)) (held_after : List ℕ) (w : Walk) (all : List SampleAt) (left : ℕ) : Type 0 where
   pub earlier : List FragmentTree
   pub later : List FragmentTree
   pub stands : StandsBefore file tree t earlier later w
   pub goes : HandGoesOn file before after [] held_after all (samples_behind tree t earlier later)
+  pub sizes : left ≡ sizes_of (samples_behind tree t earlier later)
 
 -- where a walk keeps its place, it stands before the same `moof`s
 abbrev pub StandsOn : Walk → Walk → Type 0
 StandsOn w later_w = (file : List ℕ) (tree : FileTree) (t : TrackTree) (earlier later : List FragmentTree) → StandsBefore file tree t earlier later w → StandsBefore file tree t earlier later later_w
 
 -- what is in hand is carried along
-pub track_next : (file : List ℕ) (tree : FileTree) (t : TrackTree) (m : MovieSeen) (a b c : Option (List ℕ)) (held_b held_c : List ℕ) (w later_w : Walk) (all to_come : List SampleAt) → HandGoesOn file a b [] held_b all to_come → Comes file tree t m w to_come
-    → (x : InHand) → InHandOf m w x → BytesGoOn b c held_b held_c (sample_bytes file (left_in_hand x)) → StandsOn w later_w → TrackGoesOn file tree t a c held_c later_w all
-track_next file tree t m a b c held_b held_c w later_w all to_come h k x i bytes on =
-    let left = left_in_hand k.2 in
-    let own : BytesGoOn b c held_b held_c (sample_bytes file left) = subst (λ (y : InHand). BytesGoOn b c held_b held_c (sample_bytes file (left_in_hand y))) (hand_one m w x k.2 i k.3.1) bytes in
+pub track_next : (file : List ℕ) (tree : FileTree) (t : TrackTree) (m : MovieSeen) (a b c : Option (List ℕ)) (held_b held_c : List ℕ) (w later_w : Walk) (all to_come : List SampleAt) (bytes left : ℕ) → HandGoesOn file a b [] held_b all to_come → Comes file tree t m w to_come
+    → bytes ≡ sizes_of to_come → (y : InHand) → InHandOf m w y → sizes_of (left_in_hand y) + left ≡ bytes
+    → (x : InHand) → InHandOf m w x → BytesGoOn b c held_b held_c (sample_bytes file (left_in_hand x)) → StandsOn w later_w → TrackGoesOn file tree t a c held_c later_w all left
+track_next file tree t m a b c held_b held_c w later_w all to_come bytes left h k have y j sizes x i put on =
+    let own_list = left_in_hand k.2 in
+    let own : BytesGoOn b c held_b held_c (sample_bytes file own_list) = subst (λ (z : InHand). BytesGoOn b c held_b held_c (sample_bytes file (left_in_hand z))) (hand_one m w x k.2 i k.3.1) put in
+    let own_sizes : sizes_of own_list + left ≡ bytes = subst (λ (z : InHand). sizes_of (left_in_hand z) + left ≡ bytes) (hand_one m w y k.2 j k.3.1) sizes in
+    let both = ap sizes_of k.3.2 ∙ sizes_of_two own_list (samples_behind tree t k.0 k.1) in
     record {
       earlier = k.0;
       later = k.1;
       stands = on file tree t k.0 k.1 k.3.0;
       goes = record {
-        done = h.done ++ left;
-        whole = append_assoc h.done left (samples_behind tree t k.0 k.1) ∙ ap (λ (ss : List SampleAt). h.done ++ ss) (sym k.3.2) ∙ h.whole;
-        bytes = BytesGoOn-then a b c [] held_b held_c (sample_bytes file h.done) (sample_bytes file left) (sample_bytes file (h.done ++ left)) h.bytes own (bytes_of_two file h.done left);
+        done = h.done ++ own_list;
+        whole = append_assoc h.done own_list (samples_behind tree t k.0 k.1) ∙ ap (λ (ss : List SampleAt). h.done ++ ss) (sym k.3.2) ∙ h.whole;
+        bytes = BytesGoOn-then a b c [] held_b held_c (sample_bytes file h.done) (sample_bytes file own_list) (sample_bytes file (h.done ++ own_list)) h.bytes own (bytes_of_two file h.done own_list);
       };
+      sizes = omega (arith, have, own_sizes, both);
     }
+
+-- the samples of a track have as many bytes as opening counted
+pub track_sizes : (file : List ℕ) (m : MovieSeen) (tree : FileTree) (t : TrackTree) (k : ℕ) (info : TrackInfo) → IsOpenedAs file m tree → slice_get tree.movie.tracks k ≡ Some t → slice_get m.tracks k ≡ Some info → info.bytes ≡ sizes_of (track_samples tree t)
+track_sizes file m tree t k info o at there = (zipped_at (IsInfoOf file tree) tree.movie.tracks m.tracks k t info o.tracks at there).bytes ∙ sym (timed_bytes _ _ (placed_of (file_parts tree) t))
+
+-- none is left where no sample is to come
+pub none_left : (left : ℕ) (to_come : List SampleAt) → left ≡ sizes_of to_come → to_come ≡ [] → left ≡ 0
+none_left left to_come e none = e ∙ ap sizes_of none
 
 -- the bytes of all samples are those of the first and of those to come
 whole_bytes : (file : List ℕ) (a b : Option (List ℕ)) (held_b : List ℕ) (all to_come : List SampleAt) → (h : HandGoesOn file a b [] held_b all to_come) → sample_bytes file all ≡ sample_bytes file h.done ++ sample_bytes file to_come
@@ -137,13 +143,16 @@ track_lies file m tree t k o is =
     let Lie : TrackTree → Type 0 = λ u. AllByRecursion (IsInFile (length file)) (placed_of (file_parts tree) u) in
     timed_lie (length file) _ _ (placed_of (file_parts tree) t) (of_got Lie tree.movie.tracks k t is (each_member Lie tree.movie.tracks (λ u i. placed_lie file tree u o.is_consistent i)))
 
--- what follows where those in hand do
-pub in_hand_lies : (file : List ℕ) (tree : FileTree) (t : TrackTree) (m : MovieSeen) (a b : Option (List ℕ)) (held_b : List ℕ) (w : Walk) (all to_come : List SampleAt) (n : ℕ) (X : Type 0) → HandGoesOn file a b [] held_b all to_come → Comes file tree t m w to_come
-    → AllByRecursion (IsBelow n) all → (x : InHand) → InHandOf m w x → (AllByRecursion (IsBelow n) (left_in_hand x) → X) → X
-in_hand_lies file tree t m a b held_b w all to_come n X h k lie x i then =
+-- what follows where those in hand do, and have no more bytes than are left
+pub in_hand_lies : (file : List ℕ) (tree : FileTree) (t : TrackTree) (m : MovieSeen) (a b : Option (List ℕ)) (held_b : List ℕ) (w : Walk) (all to_come : List SampleAt) (n left : ℕ) (X : Type 0) → HandGoesOn file a b [] held_b all to_come → Comes file tree t m w to_come
+    → left ≡ sizes_of to_come → AllByRecursion (IsBelow n) all → (x : InHand) → InHandOf m w x → (AllByRecursion (IsBelow n) (left_in_hand x) → sizes_of (left_in_hand x) ≤ left → X) → X
+in_hand_lies file tree t m a b held_b w all to_come n left X h k have lie x i then =
     let coming : AllByRecursion (IsBelow n) to_come = all_last (IsBelow n) h.done to_come (subst (λ (ss : List SampleAt). AllByRecursion (IsBelow n) ss) (sym h.whole) lie) in
     let own = all_first (IsBelow n) (left_in_hand k.2) (samples_behind tree t k.0 k.1) (subst (λ (ss : List SampleAt). AllByRecursion (IsBelow n) ss) k.3.2 coming) in
-    then (subst (λ (y : InHand). AllByRecursion (IsBelow n) (left_in_hand y)) (hand_one m w k.2 x k.3.1 i) own)
+    let both = ap sizes_of k.3.2 ∙ sizes_of_two (left_in_hand k.2) (samples_behind tree t k.0 k.1) in
+    let fits : sizes_of (left_in_hand k.2) ≤ left = omega (arith, have, both) in
+    let same = hand_one m w k.2 x k.3.1 i in
+    then (subst (λ (y : InHand). AllByRecursion (IsBelow n) (left_in_hand y)) same own) (subst (λ (y : InHand). sizes_of (left_in_hand y) ≤ left) same fits)
 
 -- a stretch that lies in the file shows no change
 pub stretch_there : (file : List ℕ) (s : Stretch) (reads reads_after puts puts_after : ℕ) (r : Refusal) → s.at + s.len ≤ length file → RefusesStretch file s reads reads_after puts puts_after r → r ≡ refusals.StoreChanged → ⊥

@@ -18,10 +18,10 @@ use Rattle.mp4_frag.specs.Views.{CursorSeen as MoofView}
 use Rattle.mp4_frag.specs.declared.places.FragPlace.{FragPlace}
 use Rattle.mp4_frag.proofs.WalkBound.{place_said}
 use Rattle.mp4_head.specs.Tree.{TrackTree}
-use Rattle.mp4_present.specs.Coming.{StandsBefore, HoldsNext, Takes, moof_box}
+use Rattle.mp4_present.specs.Coming.{StandsBefore, HoldsNext, Takes}
 use Rattle.mp4_present.specs.Denotes.{FileTree}
 use Rattle.mp4_present.specs.InHand.{Follows, IsPlaceOf}
-use Rattle.mp4_present.specs.Movies.{MovieSeen, IsMovie, LieIn, StandsAt, HandAt, InHandOf, table_bytes}
+use Rattle.mp4_present.specs.Movies.{MovieSeen, IsMovie, IsWalkOf, LieIn, StandsAt, HandAt, InHandOf, table_bytes, moof_box}
 use Rattle.mp4_present.specs.OpenedMovie.{IsOpenedAs, AreTablesOf}
 use Rattle.mp4_present.specs.Work.{steps_to, moof_steps, moofs_steps, table_way, way_through, walk_steps, MayTake, TakesOn}
 use Rattle.mp4_present.specs.declared.in_hand.InHand.{InHand}
@@ -31,7 +31,7 @@ use Rattle.mp4_present.specs.declared.in_hand.Place.TheVariants as places
 use Rattle.mp4_present.specs.declared.walks.Walk.{Walk}
 use Rattle.mp4_present.proofs.MoofTaken.{zipped_at}
 use Rattle.mp4_present.proofs.WalkCopied.{kept_before}
-use Rattle.mp4_present.proofs.WalkPlaces.{of_got}
+use Rattle.mp4_present.proofs.WalkPlaces.{of_got, kept_on}
 
 -- ---- how far a place is
 
@@ -100,6 +100,14 @@ keeps_on file tree t w p n old new h up within way work =
       r.2,
     )
 
+-- so it does from a later place of what was in hand
+pub hand_goes_on : (file : List ℕ) (m : MovieSeen) (tree : FileTree) (t : TrackTree) (w : Walk) (a b : InHand) (p : Place) (n old new : ℕ) → IsOpenedAs file m tree → IsMovie m → IsWalkOf m w → InHandOf m w a → Follows a b → IsPlaceOf b p
+    → new ≡ old + (steps_to p - steps_to w.place) → MayTake file tree t w n → TakesOn file tree t n (record w { place = p }) old new
+hand_goes_on file m tree t w a b p n old new o i is h f at work may =
+    let on = ahead m t w a b p h f at in
+    let within = subst (λ (k : ℕ). steps_to p ≤ k) (same_way t w p) (no_farther file m tree t (record w { place = p }) p o i may.stands.is_track (kept_on m w a b p is h f at).place) in
+    keeps_on file tree t w p n old new may on.0 within on.1 work
+
 -- ---- one after the other
 
 -- no step was taken
@@ -123,6 +131,10 @@ most_then file tree t n old mid new w u more =
     let last = more u.0 u.1 in
     let first = u.2 in
     omega (arith, first, last)
+
+-- of more steps fewer were taken
+pub takes_within : (file : List ℕ) (tree : FileTree) (t : TrackTree) (n most old new : ℕ) (w : Walk) → n ≤ most → TakesOn file tree t n w old new → TakesOn file tree t most w old new
+takes_within file tree t n most old new w le u = let taken = u.2 in (u.0, u.1, omega (arith, le, taken))
 
 -- for each tree that the movie was opened as
 abbrev pub TakesBefore : List ℕ → MovieSeen → Walk → Walk → ℕ → ℕ → Type 0

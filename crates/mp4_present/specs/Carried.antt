@@ -16,6 +16,14 @@ waiting c = take c.used c.buffer.items
 abbrev pub BytesGoOn : Option (List ℕ) → Option (List ℕ) → List ℕ → List ℕ → List ℕ → Type 0
 BytesGoOn before after held held_after bytes = (put : List ℕ) × Appends before after put × (put ++ held_after ≡ held ++ bytes)
 
+-- So many bytes follow, whichever these are: what was put since, and what waits now, are so many more than waited before.
+abbrev pub GoOnBy : Option (List ℕ) → Option (List ℕ) → List ℕ → List ℕ → ℕ → Type 0
+GoOnBy before after held held_after n = (put : List ℕ) × Appends before after put × (length put + length held_after ≡ length held + n)
+
+-- so many bytes were put, whichever these are
+abbrev pub PutsMany : Option (List ℕ) → Option (List ℕ) → ℕ → Type 0
+PutsMany before after n = (put : List ℕ) × Appends before after put × (length put ≡ n)
+
 -- Why bytes are not taken along: one more put failed. The numbers are counts of failed puts, before and after.
 abbrev pub RefusesPut : ℕ → ℕ → Refusal → Type 0
 RefusesPut puts puts_after refusals.WriteFailed = puts_after ≡ count_after puts

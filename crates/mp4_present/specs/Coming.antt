@@ -1,5 +1,5 @@
 -- The samples of a track that are still to come in a walk over the file that its movie was opened from.
-use Rattle.std.specs.Prelude.{◌≡◌, ℕ, ◌+◌, List, [], ◌∷◌, ◌++◌, length, map, Bool, true, false, Some, slice_get, codes}
+use Rattle.std.specs.Prelude.{◌≡◌, ℕ, ◌+◌, ⊤, List, [], ◌∷◌, ◌++◌, length, map, Bool, true, false, Option, None, Some, slice_get, codes}
 use Rattle.mp4_boxes.specs.Box.{Box, size, sizes}
 use Rattle.mp4_boxes.specs.Children.{of_kind}
 use Rattle.mp4_tables.specs.Groups.{GroupKey}
@@ -10,10 +10,11 @@ use Rattle.mp4_frag.specs.FragmentSamples.{start_of, duration_of, keys_behind, f
 use Rattle.mp4_head.specs.Tree.{TrackTree, track_head_of}
 use Rattle.mp4_present.specs.Denotes.{FileTree, plain_of, plain_keys, file_parts, parts_of_track, first_due, placed_of}
 use Rattle.mp4_present.specs.Passing.{parts_behind}
-use Rattle.mp4_present.specs.Outline.{longest}
+use Rattle.mp4_present.specs.Outline.{box_at, longest}
 use Rattle.mp4_present.specs.InHand.{left_in_hand}
-use Rattle.mp4_present.specs.Movies.{MovieSeen, InHandOf, moof_bytes}
+use Rattle.mp4_present.specs.Movies.{MovieSeen, IsWhole, InHandOf, moof_box}
 use Rattle.mp4_present.specs.declared.in_hand.InHand.{InHand}
+use Rattle.mp4_present.specs.declared.walks.Due.{Due}
 use Rattle.mp4_present.specs.declared.walks.Walk.{Walk}
 
 -- the keys of a track, in the order in which its file first names them
@@ -32,30 +33,6 @@ due_behind tree t earlier = first_due (file_parts tree) t + duration_of (fragmen
 abbrev pub samples_behind : FileTree → TrackTree → List FragmentTree → List FragmentTree → List SampleAt
 samples_behind tree t earlier later = timed (track_keys tree t) (due_behind tree t earlier) (fragment_samples (track_head_of t).id (parts_behind tree.movie later))
 
--- The walk is one over this track, and stands in the file behind these `moof`s, that in hand among them, and before those.
-pub record StandsBefore (file : List ℕ) (tree : FileTree) (t : TrackTree) (earlier later : List FragmentTree) (w : Walk) : Type 0 where
-  pub is_track : slice_get tree.movie.tracks w.track ≡ Some t
-  pub split : tree.fragments ≡ earlier ++ later
-  pub passed : List Box
-  pub boxes : List Box
-  pub top : tree.top ≡ passed ++ boxes
-  pub place : w.next ≡ sizes passed
-  pub moofs_passed : map (λ (f : FragmentTree). f.moof) earlier ≡ of_kind (codes "moof") passed
-  pub moofs_left : map (λ (f : FragmentTree). f.moof) later ≡ of_kind (codes "moof") boxes
-  pub due : w.due ≡ due_behind tree t earlier
-  pub left : w.left ≡ length (samples_behind tree t earlier later)
-  pub room : length w.bytes.items ≡ longest (of_kind (codes "moof") tree.top)
-
--- the samples in hand, and then those of the `moof`s behind, are these
-abbrev pub Comes : List ℕ → FileTree → TrackTree → MovieSeen → Walk → List SampleAt → Type 0
-Comes file tree t m w samples =
-    (earlier later : List FragmentTree) × (hand : InHand)
-    × (StandsBefore file tree t earlier later w × InHandOf m w hand × (samples ≡ left_in_hand hand ++ samples_behind tree t earlier later))
-
--- the `moof` that the walk holds
-abbrev pub moof_box : Walk → Box
-moof_box w = record { kind = w.moof.header.kind.0; offset = w.moof.offset; header = w.moof.header.header; payload = moof_bytes w }
-
 -- The walk holds the next `moof`, whose samples are not in hand yet.
 pub record HoldsNext (file : List ℕ) (tree : FileTree) (t : TrackTree) (earlier : List FragmentTree) (next : FragmentTree) (later : List FragmentTree) (w : Walk) : Type 0 where
   pub is_track : slice_get tree.movie.tracks w.track ≡ Some t
@@ -71,6 +48,36 @@ pub record HoldsNext (file : List ℕ) (tree : FileTree) (t : TrackTree) (earlie
   pub room : length w.bytes.items ≡ longest (of_kind (codes "moof") tree.top)
   pub is_moof : next.moof.kind ≡ codes "moof"
   pub bytes : moof_box w ≡ next.moof
+  -- where it lies in the file
+  pub read : next.moof ≡ box_at file w.moof
+  pub whole : IsWhole (length file) w.moof
+
+-- the walk has passed the `moof` in hand last, and before it this was due
+abbrev pub HoldsLast : List ℕ → FileTree → TrackTree → List FragmentTree → List FragmentTree → Walk → Option Due → Type 0
+HoldsLast file tree t earlier later w None = ⊤
+HoldsLast file tree t earlier later w (Some before) =
+    (front : List FragmentTree) × (last : FragmentTree) × (earlier ≡ front ++ last ∷ []) × HoldsNext file tree t front last later (record w { due = before.time; left = before.left })
+
+-- The walk is one over this track, and stands in the file behind these `moof`s, that in hand among them, and before those.
+pub record StandsBefore (file : List ℕ) (tree : FileTree) (t : TrackTree) (earlier later : List FragmentTree) (w : Walk) : Type 0 where
+  pub is_track : slice_get tree.movie.tracks w.track ≡ Some t
+  pub split : tree.fragments ≡ earlier ++ later
+  pub passed : List Box
+  pub boxes : List Box
+  pub top : tree.top ≡ passed ++ boxes
+  pub place : w.next ≡ sizes passed
+  pub moofs_passed : map (λ (f : FragmentTree). f.moof) earlier ≡ of_kind (codes "moof") passed
+  pub moofs_left : map (λ (f : FragmentTree). f.moof) later ≡ of_kind (codes "moof") boxes
+  pub due : w.due ≡ due_behind tree t earlier
+  pub left : w.left ≡ length (samples_behind tree t earlier later)
+  pub room : length w.bytes.items ≡ longest (of_kind (codes "moof") tree.top)
+  pub held : HoldsLast file tree t earlier later w w.before
+
+-- the samples in hand, and then those of the `moof`s behind, are these
+abbrev pub Comes : List ℕ → FileTree → TrackTree → MovieSeen → Walk → List SampleAt → Type 0
+Comes file tree t m w samples =
+    (earlier later : List FragmentTree) × (hand : InHand)
+    × (StandsBefore file tree t earlier later w × InHandOf m w hand × (samples ≡ left_in_hand hand ++ samples_behind tree t earlier later))
 
 -- What is in hand once the next `moof` was taken: its samples of the track, some or none.
 abbrev pub Takes : List ℕ → FileTree → TrackTree → List FragmentTree → FragmentTree → List FragmentTree → MovieSeen → Walk → Bool → Type 0

@@ -17,3 +17,4 @@ pub mod Passing
 pub mod Coming
 pub mod PassedMoofs
 pub mod Work
+pub mod GoingBack

@@ -14,7 +14,8 @@ use Rattle.mp4_frag.specs.Work.{fragment_rows, fragment_length, moof_says}
 use Rattle.mp4_head.specs.Tree.{TrackTree}
 use Rattle.mp4_present.specs.Denotes.{FileTree, plain_of}
 use Rattle.mp4_present.specs.Opening.{HasMovie}
-use Rattle.mp4_present.specs.Coming.{StandsBefore, moof_box}
+use Rattle.mp4_present.specs.Coming.{StandsBefore}
+use Rattle.mp4_present.specs.Movies.{moof_box}
 use Rattle.mp4_present.specs.declared.walks.Walk.{Walk}
 use Rattle.mp4_present.specs.declared.in_hand.Place.{Place}
 use Rattle.mp4_present.specs.declared.in_hand.Place.TheVariants as places

@@ -49,7 +49,7 @@ impl Carrier {
     ghost use Rattle.std.specs.Io.KnownBytes.{Appends};
     ghost use Rattle.mp4_boxes.specs.declared.refusal.Refusal.TheVariants as refusals;
     ghost use Rattle.mp4_store.specs.Device.{AppendsPrefix, HasRisen, range};
-    ghost use Rattle.mp4_present.specs.Carried.{waiting, BytesGoOn, RefusesPut, RefusesRange};
+    ghost use Rattle.mp4_present.specs.Carried.{waiting, BytesGoOn, GoOnBy, RefusesPut, RefusesRange};
 
     /// A buffer of so many bytes, at least one.
     pub fn new(alloc: Global, len: usize) -> Result<Carrier, AllocError>
@@ -116,6 +116,7 @@ impl Carrier {
         ensures honesty { S.is_honest store.new ≡ S.is_honest store.old }
         ensures file { S.file store.new ≡ S.file store.old }
         ensures bytes { OnOk result (IsTrue (S.is_honest store.old) → waiting self.new ≡ waiting self.old ++ range (S.file store.old) from len) }
+        ensures many { OnOk result (length (waiting self.new) ≡ length (waiting self.old) + len) }
         ensures reads { OnOk result (S.read_failures store.new ≡ S.read_failures store.old) }
         ensures refusal { IfErr result (λ r. (r ≡ refusals.StoreFailed) × HasRisen (S.read_failures store.old) (S.read_failures store.new)) }
     {
@@ -154,6 +155,8 @@ impl Carrier {
         ensures honesty { S.is_honest store.new ≡ S.is_honest store.old }
         ensures file { S.file store.new ≡ S.file store.old }
         ensures bytes { OnOk result (IsTrue (S.is_honest store.old) → BytesGoOn (K.contents sink.old) (K.contents sink.new) (waiting self.old) (waiting self.new) (range (S.file store.old) at len)) }
+        ensures many { OnOk result (GoOnBy (K.contents sink.old) (K.contents sink.new)
+            (waiting self.old) (waiting self.new) len) }
         ensures prefix { OnErr result (IsTrue (S.is_honest store.old) → AppendsPrefix (K.contents sink.old) (K.contents sink.new) (waiting self.old ++ range (S.file store.old) at len)) }
         ensures reads { OnOk result (S.read_failures store.new ≡ S.read_failures store.old) }
         ensures puts { OnOk result (K.put_failures sink.new ≡ K.put_failures sink.old) }

@@ -1,5 +1,5 @@
 //! The bytes of a track's samples, copied.
-ghost use Rattle.std.specs.Prelude.{◌≡◌, ℕ, ◌<◌, List, ◌++◌, length, vec_len, Some, slice_get, IfErr, OnOk, OnErr, IsTrue};
+ghost use Rattle.std.specs.Prelude.{◌≡◌, ℕ, ◌+◌, ◌-◌, ◌<◌, ◌≤◌, List, ◌++◌, length, vec_len, Some, slice_get, IfOk, IfErr, OnOk, OnErr, IsTrue};
 ghost use Rattle.std.specs.Io.KnownBytes.{Appends};
 ghost use Rattle.std.specs.List.{AllByRecursion};
 ghost use Rattle.mp4_boxes.specs.declared.refusal.Refusal.TheVariants as refusals;
@@ -11,9 +11,11 @@ ghost use Rattle.mp4_present.specs.OpenedMovie.{IsOpenedAs};
 ghost use Rattle.mp4_store.specs.Device.{AppendsPrefix, range};
 ghost use Rattle.mp4_present.specs.declared.in_hand.InHand.{InHand};
 ghost use Rattle.mp4_present.specs.InHand.{left_in_hand};
-ghost use Rattle.mp4_present.specs.Joined.{IsBelow, sample_bytes};
+ghost use Rattle.mp4_present.specs.Joined.{IsBelow, sample_bytes, sizes_of};
 ghost use Rattle.mp4_present.specs.Movies.{IsWalkOf, InHandOf};
-ghost use Rattle.mp4_present.specs.Carried.{waiting, BytesGoOn, RefusesStretch, RefusesCarry, RefusesCopy};
+ghost use Rattle.mp4_present.specs.Carried.{waiting, BytesGoOn, GoOnBy, PutsMany, RefusesStretch, RefusesCarry, RefusesCopy};
+ghost use Rattle.mp4_present.specs.Work.{walk_steps, MayTake, TakesOn};
+ghost use Rattle.mp4_present.specs.declared.track_info.TrackInfo.{TrackInfo};
 
 use crate::carrier::Carrier;
 use crate::movie::Movie;
@@ -39,6 +41,8 @@ impl Carrier {
         ensures honesty { S.is_honest store.new ≡ S.is_honest store.old }
         ensures file { S.file store.new ≡ S.file store.old }
         ensures bytes { OnOk result (IsTrue (S.is_honest store.old) → BytesGoOn (K.contents sink.old) (K.contents sink.new) (waiting self.old) (waiting self.new) (range (S.file store.old) stretch.at stretch.len)) }
+        ensures many { OnOk result (GoOnBy (K.contents sink.old) (K.contents sink.new)
+            (waiting self.old) (waiting self.new) stretch.len) }
         ensures prefix { OnErr result (IsTrue (S.is_honest store.old) → AppendsPrefix (K.contents sink.old) (K.contents sink.new) (waiting self.old ++ range (S.file store.old) stretch.at stretch.len)) }
         ensures reads { OnOk result (S.read_failures store.new ≡ S.read_failures store.old) }
         ensures puts { OnOk result (K.put_failures sink.new ≡ K.put_failures sink.old) }
@@ -52,15 +56,17 @@ impl Carrier {
     }
 }
 
-// Takes the bytes of all samples in hand along.
+// Takes the bytes of all samples in hand along, and says how many are left of so many. Where these samples have more
+// bytes, the store has changed.
 fn carry_hand<S: Store, K: Sink, L: Ledger>(
     movie: &Movie,
     walk: &mut Walk,
+    bytes: u64,
     carrier: &mut Carrier,
     store: &mut S,
     sink: &mut K,
     steps: &mut Steps<L>,
-) -> Result<(), Refusal>
+) -> Result<u64, Refusal>
     requires { IsWalkOf movie.now walk.old }
     ensures walk { OnOk result (IsWalkOf movie.now walk.new) }
     ensures next { OnOk result (walk.new.next ≡ walk.old.next) }
@@ -69,26 +75,44 @@ fn carry_hand<S: Store, K: Sink, L: Ledger>(
     ensures file { S.file store.new ≡ S.file store.old }
     ensures bytes { OnOk result (IsTrue (S.is_honest store.old) → (hand : InHand) × InHandOf movie.now walk.old hand × BytesGoOn (K.contents sink.old) (K.contents sink.new) (waiting carrier.old) (waiting carrier.new) (sample_bytes (S.file store.old) (left_in_hand hand))) }
     ensures prefix { OnErr result (IsTrue (S.is_honest store.old) → (hand : InHand) × InHandOf movie.now walk.old hand × AppendsPrefix (K.contents sink.old) (K.contents sink.new) (waiting carrier.old ++ sample_bytes (S.file store.old) (left_in_hand hand))) }
+    ensures many { IfOk result (λ left. (left ≤ bytes)
+        × GoOnBy (K.contents sink.old) (K.contents sink.new) (waiting carrier.old)
+        (waiting carrier.new) (bytes - left)) }
+    ensures sizes { IfOk result (λ left. (hand : InHand) × InHandOf movie.now walk.old hand
+        × (sizes_of (left_in_hand hand) + left ≡ bytes)) }
     ensures reads { OnOk result (S.read_failures store.new ≡ S.read_failures store.old) }
     ensures puts { OnOk result (K.put_failures sink.new ≡ K.put_failures sink.old) }
     ensures stands { OnOk result ((file : List ℕ) (tree : FileTree) (t : TrackTree) (earlier later : List FragmentTree) → StandsBefore file tree t earlier later walk.old → StandsBefore file tree t earlier later walk.new) }
-    ensures unchanged { (hand : InHand) × InHandOf movie.now walk.old hand × (AllByRecursion (IsBelow (length (S.file store.old))) (left_in_hand hand) → IfErr result (λ r. r ≡ refusals.StoreChanged → ⊥)) }
+    ensures unchanged { (hand : InHand) × InHandOf movie.now walk.old hand
+        × (AllByRecursion (IsBelow (length (S.file store.old))) (left_in_hand hand)
+        → sizes_of (left_in_hand hand) ≤ bytes → IfErr result (λ r. r ≡ refusals.StoreChanged
+        → ⊥)) }
+    ensures work { OnOk result ((file : List ℕ) (tree : FileTree) (t : TrackTree) (n : ℕ)
+        → IsOpenedAs file movie.now tree
+        → MayTake file tree t walk.old n → TakesOn file tree t n walk.new steps.old steps.new) }
+    ensures idle { OnErr result (steps.new ≡ steps.old) }
     ensures refusal { IfErr result (RefusesCarry (S.read_failures store.old) (S.read_failures store.new) (K.put_failures sink.old) (K.put_failures sink.new)) }
 {
+    let mut left = bytes;
     let place = {
         let mut hand = walk.in_hand(movie);
         while let Some(stretch) = next_stretch(&mut hand, u32::MAX) {
+            if stretch.len > left {
+                return Err(Refusal::StoreChanged);
+            }
             carrier.carry_stretch(stretch, store, sink)?;
+            left -= stretch.len;
         }
         hand.place()
     };
     walk.keep(place, steps);
-    Ok(())
+    Ok(left)
 }
 
 impl Movie {
     /// Puts the bytes of all samples of the track at this place among the tracks, one after the other. All memory is
-    /// taken before the first byte is put.
+    /// taken before the first byte is put. Where the samples aren't as many any more as when the movie was opened, or
+    /// have fewer or more bytes, the answer is StoreChanged.
     pub fn copy_track<S: Store, K: Sink, L: Ledger>(
         &self,
         alloc: Global,
@@ -106,14 +130,26 @@ impl Movie {
             → Appends (K.contents sink.old) (K.contents sink.new) (sample_bytes (S.file store.old) (track_samples tree t))) }
         ensures prefix { OnErr result (IsTrue (S.is_honest store.old) → (tree : FileTree) (t : TrackTree) → IsOpenedAs (S.file store.old) self.now tree → slice_get tree.movie.tracks track ≡ Some t
             → AppendsPrefix (K.contents sink.old) (K.contents sink.new) (sample_bytes (S.file store.old) (track_samples tree t))) }
+        ensures whole { OnOk result ((info : TrackInfo)
+            → slice_get self.now.tracks track ≡ Some info
+            → PutsMany (K.contents sink.old) (K.contents sink.new) info.bytes) }
         ensures unchanged { IsTrue (S.is_honest store.old) → (tree : FileTree) (t : TrackTree) → IsOpenedAs (S.file store.old) self.now tree → slice_get tree.movie.tracks track ≡ Some t → IfErr result (λ r. r ≡ refusals.StoreChanged → ⊥) }
+        ensures work { IsTrue (S.is_honest store.old) → (tree : FileTree) (t : TrackTree)
+            → IsOpenedAs (S.file store.old) self.now tree
+            → slice_get tree.movie.tracks track ≡ Some t
+            → steps.new ≤ steps.old + walk_steps tree t }
         ensures refusal { IfErr result (RefusesCopy (K.contents sink.old) (K.contents sink.new) (S.read_failures store.old) (S.read_failures store.new) (K.put_failures sink.old) (K.put_failures sink.new)) }
     {
         let mut walk = self.walk(alloc, track)?;
         let mut carrier = Carrier::new(alloc, PIECE)?;
-        carry_hand(self, &mut walk, &mut carrier, store, sink, steps)?;
+        let info = self.tracks()[track];
+        let bytes = info.bytes;
+        let mut left = carry_hand(self, &mut walk, bytes, &mut carrier, store, sink, steps)?;
         while walk.load(self, store, steps)? {
-            carry_hand(self, &mut walk, &mut carrier, store, sink, steps)?;
+            left = carry_hand(self, &mut walk, left, &mut carrier, store, sink, steps)?;
+        }
+        if left > 0 {
+            return Err(Refusal::StoreChanged);
         }
         carrier.flush(sink)
     }

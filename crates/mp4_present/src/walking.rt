@@ -1,21 +1,22 @@
 //! How a walk begins and goes on.
-ghost use Rattle.std.specs.Prelude.{ℕ, ◌≡◌, ◌+◌, ◌-◌, ◌^◌, ◌<◌, ◌≤◌, min, List, [], length, false, Some, Err, slice_get, IfOk, IfErr, OnOk, IsTrue, IsOkAnd};
+ghost use Rattle.std.specs.Prelude.{ℕ, ◌≡◌, ◌+◌, ◌-◌, ◌^◌, ◌<◌, ◌≤◌, min, List, [], length, false, Some, Err, slice_get, IfOk, IfErr, OnOk, OnErr, IsTrue, IsOkAnd};
 ghost use Rattle.mp4_frag.specs.Fragments.{FragmentTree};
 ghost use Rattle.mp4_head.specs.Tree.{TrackTree};
 ghost use Rattle.mp4_present.specs.Denotes.{FileTree};
 ghost use Rattle.mp4_present.specs.OpenedMovie.{IsOpenedAs};
-ghost use Rattle.mp4_present.specs.Coming.{track_samples, samples_behind, StandsBefore, Comes, HoldsNext, Takes, Loads, moof_box};
+ghost use Rattle.mp4_present.specs.Coming.{track_samples, samples_behind, StandsBefore, Comes, HoldsNext, Takes, Loads};
 ghost use Rattle.mp4_present.specs.Work.{steps_to, moof_steps, way_through, walk_steps, MayTake, TakesOn};
 ghost use Rattle.mp4_boxes.specs.declared.refusal.Refusal.TheVariants as refusals;
 ghost use Rattle.mp4_present.specs.InHand.{left_in_hand};
-ghost use Rattle.mp4_present.specs.Movies.{Fills, IsMovie, GoesOn, IsWalkOf, InHandOf, HasSome, RefusesLoad};
+ghost use Rattle.mp4_present.specs.Movies.{Fills, IsWhole, IsMovie, GoesOn, IsWalkOf, StandsAt, IsRest, InHandOf, HasSome, RefusesLoad, moof_box, all_in_moof, mark_of};
+ghost use Rattle.mp4_present.specs.declared.track_info.TrackInfo.{TrackInfo};
 
 use crate::fragments::next_fragment;
 use crate::in_hand::{InHand, Place};
 use crate::movie::Movie;
 use crate::reading::read_payload;
 use crate::totals::{count_up_to, in_64_bits};
-use crate::walks::Walk;
+use crate::walks::{Due, Mark, Walk};
 use mp4_boxes::{Memory, Refusal, Steps};
 use mp4_frag::{FragCursor, FragView};
 use mp4_store::Store;
@@ -31,6 +32,9 @@ impl Movie {
         ensures room { IfOk result (λ walk. length walk.bytes.items ≡ self.now.longest) }
         ensures coming { IfOk result (λ walk. (file : List ℕ) (tree : FileTree) (t : TrackTree) → IsOpenedAs file self.now tree → slice_get tree.movie.tracks track ≡ Some t → Comes file tree t self.now walk (track_samples tree t)) }
         ensures may { IfOk result (λ walk. (file : List ℕ) (tree : FileTree) (t : TrackTree) → IsOpenedAs file self.now tree → slice_get tree.movie.tracks track ≡ Some t → (n : ℕ) × MayTake file tree t walk n × (n ≤ walk_steps tree t)) }
+        ensures mark { IfOk result (λ walk. (info : TrackInfo)
+            → slice_get self.now.tracks track ≡ Some info
+            → walk.mark ≡ mark_of walk info.samples) }
     {
         let Ok(bytes) = vec![in alloc; 0u8; self.longest as usize] else {
             return Err(Memory);
@@ -38,15 +42,27 @@ impl Movie {
         let cursor = TableCursor::start(&self.tables_of(track));
         let info = self.tracks[track];
         let state = self.states[track];
-        Ok(Walk {
+        let mark = Mark {
             track,
             place: Place::Tables(cursor.place()),
             moof: self.top,
-            bytes,
-            used: 0,
+            before: None,
             due: due_first(info.start, state.time),
             left: info.samples.saturating_sub(state.count),
             next: self.fragments.unwrap_or(self.file_len),
+            to_come: info.samples,
+        };
+        Ok(Walk {
+            track,
+            place: mark.place,
+            moof: self.top,
+            bytes,
+            used: 0,
+            before: None,
+            due: mark.due,
+            left: mark.left,
+            next: mark.next,
+            mark,
         })
     }
 }
@@ -88,13 +104,26 @@ impl Walk {
 
     // Takes the samples of the `moof` in the room into hand, and says whether there are any. Where there are more than
     // are left, the store has changed.
-    fn take<L: Ledger>(&mut self, movie: &Movie, steps: &mut Steps<L>) -> Result<bool, Refusal>
+    pub(crate) fn take<L: Ledger>(
+        &mut self,
+        movie: &Movie,
+        steps: &mut Steps<L>,
+    ) -> Result<bool, Refusal>
         requires movie { GoesOn movie.now self.old }
         requires fills { Fills self.old.used self.old.moof }
         requires used { self.old.used ≤ length self.old.bytes.items }
-        ensures walk { OnOk result (IsWalkOf movie.now self.new) }
+        ensures place { OnOk result (StandsAt movie.now self.new self.new.place) }
+        ensures rest { OnOk result (IsRest movie.now self.new self.new.before self.new.place) }
+        ensures all { OnOk result ((info : TrackInfo)
+            → slice_get movie.now.tracks self.old.track ≡ Some info
+            → (hand : InHand) × InHandOf movie.now self.new hand
+            × (left_in_hand hand ≡ all_in_moof movie.now self.old info self.old.due)
+            × (self.old.left ≡ length (left_in_hand hand) + self.new.left)) }
+        ensures track { self.new.track ≡ self.old.track }
+        ensures mark { self.new.mark ≡ self.old.mark }
         ensures room { self.new.bytes ≡ self.old.bytes }
         ensures next { self.new.next ≡ self.old.next }
+        ensures idle { OnErr result (steps.new ≡ steps.old) }
         ensures refusal { IfErr result (λ r. r ≡ refusals.StoreChanged) }
         ensures taken { (file : List ℕ) (tree : FileTree) (t : TrackTree) (earlier later : List FragmentTree) (next : FragmentTree) → IsOpenedAs file movie.now tree → HoldsNext file tree t earlier next later self.old
             → IsOkAnd result (λ some. Takes file tree t earlier next later movie.now self.new some) }
@@ -114,6 +143,10 @@ impl Walk {
         };
         steps.add(all.place().passed());
         self.place = Place::Fragment(place);
+        self.before = Some(Due {
+            time: self.due,
+            left: self.left,
+        });
         self.due = self.due.saturating_add(counts.duration);
         self.left -= counts.samples;
         steps.add(self.place.passed());
@@ -148,6 +181,7 @@ impl Walk {
         ensures none { IfOk result (λ more. more ≡ false → self.new.left ≡ 0) }
         ensures length { (length (S.file store.old) ≡ movie.now.file_len → ⊥)
             → result ≡ Err refusals.StoreChanged }
+        ensures mark { self.new.mark ≡ self.old.mark }
         ensures next { IfOk result (λ more. IsTrue more → (self.old.next < self.new.next) × (self.new.next ≤ length (S.file store.old))) }
         ensures reads { OnOk result (S.read_failures store.new ≡ S.read_failures store.old) }
         ensures refusal { IfErr result (RefusesLoad (S.read_failures store.old) (S.read_failures store.new)) }

@@ -1,12 +1,13 @@
-use Rattle.std.proofs.Common.{ℕ, ◌≡◌, length}
+use Rattle.std.proofs.Common.{ℕ, ◌≡◌, ◌-◌, ◌≤◌, length}
 use Rattle.std.specs.List.{AllByRecursion}
 use Rattle.std.specs.Prelude.{vec_len, IsTrue}
-use Rattle.mp4_present.specs.Carried.{waiting}
+use Rattle.mp4_present.specs.Carried.{waiting, GoOnBy}
 use Rattle.mp4_present.specs.InHand.{Follows, left_in_hand}
 use Rattle.mp4_present.specs.Joined.{IsBelow}
 use Rattle.mp4_present.specs.Movies.{InHandOf}
 use Rattle.mp4_present.specs.declared.in_hand.InHand.{InHand}
 use Rattle.mp4_present.proofs.Hands.{HandGoesOn}
+use Rattle.mp4_present.proofs.HandSizes.{SizesGoOn}
 use Rattle.mp4_present.proofs.copying.carry_hand.Given as goal
 
 -- the samples in hand are those of the walk, later, and the bytes of those before are taken along
@@ -22,6 +23,9 @@ invariant-loop-stretch g l =
       is : InHandOf l.movie l.fn.walk first;
       later : Follows first l.hand;
       within : (n : ℕ) → AllByRecursion (IsBelow n) (left_in_hand first) → AllByRecursion (IsBelow n) (left_in_hand l.hand);
+      few : l.left ≤ l.bytes;
+      many : GoOnBy (g.K.Sink.contents l.fn.sink) (g.K.Sink.contents l.sink) (waiting l.fn.carrier) (waiting l.carrier) (l.bytes - l.left);
+      sizes : SizesGoOn (left_in_hand first) (left_in_hand l.hand) l.bytes l.left;
       bytes : IsTrue (g.S.Store.is_honest l.fn.store) → HandGoesOn (g.S.Store.file l.fn.store) (g.K.Sink.contents l.fn.sink) (g.K.Sink.contents l.sink) (waiting l.fn.carrier) (waiting l.carrier) (left_in_hand first) (left_in_hand l.hand);
     }
 

@@ -3,7 +3,7 @@ use Rattle.std.proofs.lemmas.Result.{err_from_is_err_and}
 use Rattle.mp4_store.specs.Device.{range}
 use Rattle.mp4_store.proofs.Known.{range-add}
 use Rattle.mp4_present.specs.Carried.{waiting}
-use Rattle.mp4_present.proofs.Carrying.{piece_waits, no_room, not_read, range_and_rest}
+use Rattle.mp4_present.proofs.Carrying.{piece_waits, piece_counted, no_room, not_read, range_and_rest}
 use Rattle.mp4_present.proofs.carrier.Carrier.carry_range.Goals as goal
 
 pub returns-in_err-count-clause-prefix : goal.returns-in_err-count-clause-prefix
@@ -37,4 +37,5 @@ loop-done-preserved g c =
       (λ honest.
           let read = (rw (i.2, i.3) at c.in_ok-add_range.ensures.bytes) honest in
           piece_waits _ _ _ (waiting c.args.self.now) (waiting c.loop-done.self) (waiting c.make_room.new.self) _ (range file c.args.at done) (range file (c.args.at + done) n) _ (i.6 honest) c.in_ok-count.ensures.bytes read (range-add file c.args.at done n)),
+      piece_counted _ _ _ (waiting c.args.self.now) (waiting c.loop-done.self) (waiting c.make_room.new.self) (waiting c.add_range.new.self) done n i.7 c.in_ok-count.ensures.bytes c.in_ok-add_range.ensures.many,
     )

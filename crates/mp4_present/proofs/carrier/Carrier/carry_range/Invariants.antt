@@ -1,7 +1,7 @@
 use Rattle.std.proofs.Common.{◌≡◌, ◌-◌, ◌≤◌}
 use Rattle.std.specs.Prelude.{vec_len, IsTrue}
 use Rattle.mp4_store.specs.Device.{range}
-use Rattle.mp4_present.specs.Carried.{waiting, BytesGoOn}
+use Rattle.mp4_present.specs.Carried.{waiting, BytesGoOn, GoOnBy}
 use Rattle.mp4_present.proofs.carrier.Carrier.carry_range.Given as goal
 
 -- so many bytes were taken along
@@ -14,6 +14,7 @@ invariant-loop-done g l =
     × (g.S.Store.read_failures l.store ≡ g.S.Store.read_failures l.fn.store)
     × (g.K.Sink.put_failures l.sink ≡ g.K.Sink.put_failures l.fn.sink)
     × (IsTrue (g.S.Store.is_honest l.fn.store) → BytesGoOn (g.K.Sink.contents l.fn.sink) (g.K.Sink.contents l.sink) (waiting l.fn.self) (waiting l.self) (range (g.S.Store.file l.fn.store) l.at l.done))
+    × GoOnBy (g.K.Sink.contents l.fn.sink) (g.K.Sink.contents l.sink) (waiting l.fn.self) (waiting l.self) l.done
 
 abbrev pub decreases-loop-done : goal.decreases-loop-done
 decreases-loop-done g l = l.len - l.done

@@ -1,12 +1,14 @@
-use Rattle.std.proofs.Common.{◌≡◌, ◌-◌, length, Some}
+use Rattle.std.proofs.Common.{[], ◌≡◌, ◌-◌, ◌≤◌, length, Some}
 use Rattle.std.specs.Prelude.{IsTrue, slice_get}
 use Rattle.mp4_head.specs.Tree.{TrackTree}
-use Rattle.mp4_present.specs.Carried.{waiting}
+use Rattle.mp4_present.specs.Carried.{waiting, GoOnBy}
 use Rattle.mp4_present.specs.Coming.{track_samples}
 use Rattle.mp4_present.specs.Denotes.{FileTree}
 use Rattle.mp4_present.specs.OpenedMovie.{IsOpenedAs}
 use Rattle.mp4_present.proofs.WalkCopied.{TrackGoesOn}
 use Rattle.mp4_present.specs.Movies.{IsWalkOf}
+use Rattle.mp4_present.specs.Work.{walk_steps, TakesOn}
+use Rattle.mp4_present.specs.declared.track_info.TrackInfo.{TrackInfo}
 use Rattle.mp4_present.proofs.movie.Movie.copy_track.Given as goal
 
 -- the walk goes on, and nothing failed
@@ -19,7 +21,10 @@ invariant-loop-carrier g l =
       reads : g.S.Store.read_failures l.store ≡ g.S.Store.read_failures l.fn.store;
       puts : g.K.Sink.put_failures l.sink ≡ g.K.Sink.put_failures l.fn.sink;
       going : IsTrue (g.S.Store.is_honest l.fn.store) → (tree : FileTree) (t : TrackTree) → IsOpenedAs (g.S.Store.file l.fn.store) l.self tree → slice_get tree.movie.tracks l.track ≡ Some t
-          → TrackGoesOn (g.S.Store.file l.fn.store) tree t (g.K.Sink.contents l.fn.sink) (g.K.Sink.contents l.sink) (waiting l.carrier) l.walk (track_samples tree t);
+          → TrackGoesOn (g.S.Store.file l.fn.store) tree t (g.K.Sink.contents l.fn.sink) (g.K.Sink.contents l.sink) (waiting l.carrier) l.walk (track_samples tree t) l.left;
+      many : (info : TrackInfo) → slice_get l.self.tracks l.track ≡ Some info → (l.left ≤ info.bytes) × GoOnBy (g.K.Sink.contents l.fn.sink) (g.K.Sink.contents l.sink) [] (waiting l.carrier) (info.bytes - l.left);
+      takes : IsTrue (g.S.Store.is_honest l.fn.store) → (tree : FileTree) (t : TrackTree) → IsOpenedAs (g.S.Store.file l.fn.store) l.self tree → slice_get tree.movie.tracks l.track ≡ Some t
+          → TakesOn (g.S.Store.file l.fn.store) tree t (walk_steps tree t) l.walk l.fn.steps l.steps;
     }
 
 abbrev pub decreases-loop-carrier : goal.decreases-loop-carrier

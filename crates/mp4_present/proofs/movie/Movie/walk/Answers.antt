@@ -1,4 +1,4 @@
-use Rattle.std.proofs.Common.{rules, List, slice_index_or, length, ◌≡◌, ◌++◌, [], subst, refl, sym, ap, arith, ◌∙◌}
+use Rattle.std.proofs.Common.{rules, ℕ, List, slice_index_or, length, ◌≡◌, ◌++◌, [], subst, refl, sym, ap, arith, ◌∙◌, Some}
 use Rattle.std.specs.Prelude.{unwrap_or}
 use Rattle.mp4_tables.specs.Accepted.{IsPlace}
 use Rattle.mp4_tables.specs.Views.{TablesSeen}
@@ -10,13 +10,14 @@ use Rattle.mp4_present.proofs.WayThrough.{begins}
 use Rattle.mp4_present.specs.Coming.{samples_behind}
 use Rattle.mp4_frag.specs.declared.state.TrackState.{TrackState}
 use Rattle.mp4_present.specs.declared.track_info.TrackInfo.{TrackInfo}
+use Rattle.mp4_present.specs.declared.walks.Mark.{Mark}
 use Rattle.mp4_present.specs.declared.in_hand.InHand.TheVariants as hands
 use Rattle.mp4_present.proofs.movie.Movie.walk.Goals as goal
 
 pub returns-clause-walk : goal.returns-clause-walk
 returns-clause-walk c =
     let m = c.args.self.now in
-    begun m _ c.place.result (subst IsMovie c.self.view_is c.self.invariant) c.requires refl
+    begun m _ c.place.result c.index-info.result.now.samples (subst IsMovie c.self.view_is c.self.invariant) c.requires refl refl refl
     (λ t e. subst (λ (s : TablesSeen). IsPlace s.payload s.at c.place.result) (c.start-cursor.ensures.tables ∙ c.tables_of.ensures t e) c.place.ensures.place)
 
 pub returns-clause-coming : goal.returns-clause-coming
@@ -32,7 +33,7 @@ returns-clause-coming c file tree t o at =
     let state_at = at_place m.states c.args.track c.index-state.result.now (omega (arith, states, inside)) (subst (λ (xs : List TrackState). c.index-state.result.now ≡ slice_index_or xs c.args.track c.index-state.result.now) (ap (λ (n : MovieSeen). n.states) c.self.view_is) c.index-state.ensures) in
     let due = c.due_first.ensures ∙ due_is file m tree t o c.args.track at c.index-info.result.now info_at c.index-state.result.now state_at in
     let left = c.saturating_sub.ensures ∙ left_is file m tree t o c.args.track at c.index-info.result.now info_at c.index-state.result.now state_at in
-    let stands = stands_first file m tree t o _ at bytes due left m.fragments refl (c.unwrap_or.ensures ∙ ap (λ (n : MovieSeen). unwrap_or n.fragments n.file_len) c.self.view_is) o.fragments in
+    let stands = stands_first file m tree t o _ at bytes due left refl m.fragments refl (c.unwrap_or.ensures ∙ ap (λ (n : MovieSeen). unwrap_or n.fragments n.file_len) c.self.view_is) o.fragments in
     let tables : c.start-cursor.result.tables ≡ tables_seen m.moov found.0 = c.start-cursor.ensures.tables ∙ c.tables_of.ensures found.0 found.1 in
     let list = tables_in_hand file m tree t c.args.track found.0 c.start-cursor.result o at found.1 tables c.start-cursor.ensures.first in
     ([], tree.fragments, hands.Tables c.start-cursor.result, (stands, (found.0, found.1, (λ i. record { tables = tables i; place = sym c.place.ensures.is i })), sym (plain_first tree t) ∙ ap (λ ss. ss ++ samples_behind tree t [] tree.fragments) (sym list)))
@@ -50,6 +51,18 @@ returns-clause-may c file tree t o at =
     let state_at = at_place m.states c.args.track c.index-state.result.now (omega (arith, states, inside)) (subst (λ (xs : List TrackState). c.index-state.result.now ≡ slice_index_or xs c.args.track c.index-state.result.now) (ap (λ (n : MovieSeen). n.states) c.self.view_is) c.index-state.ensures) in
     let due = c.due_first.ensures ∙ due_is file m tree t o c.args.track at c.index-info.result.now info_at c.index-state.result.now state_at in
     let left = c.saturating_sub.ensures ∙ left_is file m tree t o c.args.track at c.index-info.result.now info_at c.index-state.result.now state_at in
-    let stands = stands_first file m tree t o _ at bytes due left m.fragments refl (c.unwrap_or.ensures ∙ ap (λ (n : MovieSeen). unwrap_or n.fragments n.file_len) c.self.view_is) o.fragments in
+    let stands = stands_first file m tree t o _ at bytes due left refl m.fragments refl (c.unwrap_or.ensures ∙ ap (λ (n : MovieSeen). unwrap_or n.fragments n.file_len) c.self.view_is) o.fragments in
     let place = subst (λ (s : TablesSeen). IsPlace s.payload s.at c.place.result) (c.start-cursor.ensures.tables ∙ c.tables_of.ensures found.0 found.1) c.place.ensures.place in
     begins file m tree t _ c.place.result o i stands refl (found.0, found.1, place)
+
+pub returns-clause-mark : goal.returns-clause-mark
+returns-clause-mark c info at =
+    let m = c.args.self.now in
+    let info_at = at_place m.tracks c.args.track c.index-info.result.now c.requires (subst (λ (xs : List TrackInfo). c.index-info.result.now ≡ slice_index_or xs c.args.track c.index-info.result.now) (ap (λ (n : MovieSeen). n.tracks) c.self.view_is) c.index-info.ensures) in
+    same_mark _ info.samples (ap (λ (i : TrackInfo). i.samples) (some_is c.index-info.result.now info (sym info_at ∙ at)))
+  where
+    some_is : (x y : TrackInfo) → Some x ≡ Some y → x ≡ y
+    some_is x y e = cc
+
+    same_mark : (k : Mark) (n : ℕ) → k.to_come ≡ n → k ≡ record k { to_come = n }
+    same_mark k n e = λ i. record k { to_come = e i }

@@ -1,9 +1,19 @@
-use Rattle.std.proofs.Common.{rules, arith, ◌≡◌, length, refl, sym, ◌∙◌}
+use Rattle.std.proofs.Common.{rules, arith, ℕ, ◌≡◌, ◌<◌, ◌≤◌, length, refl, sym, ◌∙◌}
 use Rattle.std.proofs.lemmas.Result.{err_from_is_err_and}
 use Rattle.std.proofs.lemmas.List.{with_items_is}
 use Rattle.mp4_present.proofs.MoofLoaded.{boxes_from, none_more, fits, first_later, holds_next, next_unchanged, payload_unchanged, goes_past, comes_next, later_is, goes_idle, no_samples, some_left, ends_empty, left_stays}
 use Rattle.mp4_present.proofs.WayThrough.{takes_none, takes_next, takes_most}
+use Rattle.mp4_present.proofs.WalkPlaces.{walk_past}
 use Rattle.mp4_present.proofs.walks.Walk.load.Goals as goal
+
+farther : (now next offset end : ℕ) → now ≡ end → next ≤ offset → offset < end → next < now
+farther now next offset end e a b = omega (arith, e, a, b)
+
+pub returns-then-branch-clause-walk : goal.returns-then-branch-clause-walk
+returns-then-branch-clause-walk g c =
+    let i = c.loop-top.invariant in
+    let within = rw (i.file, c.in-Some.is) at c.in_ok-top.ensures.within in
+    walk_past c.args.movie.now c.loop-top.self c.take.new.self i.walk c.in_ok-take.ensures.track c.in_ok-take.ensures.mark (farther _ _ _ _ c.in_ok-take.ensures.next within.1 within.2) c.in_ok-take.ensures.place c.in_ok-take.ensures.rest
 
 pub loop-top-init : goal.loop-top-init
 loop-top-init g c = record {
@@ -11,6 +21,7 @@ loop-top-init g c = record {
   file = refl;
   reads = refl;
   walk = search rules;
+  mark = refl;
   room = refl;
   on = search rules;
   going = λ told tree t earlier later o h. (earlier, later, (h, refl));
@@ -89,7 +100,8 @@ loop-top-preserved g c =
       honesty = search rules;
       file = search rules;
       reads = search rules;
-      walk = search rules;
+      walk = walk_past m c.loop-top.self c.take.new.self i.walk c.in_ok-take.ensures.track c.in_ok-take.ensures.mark (farther _ _ _ _ c.in_ok-take.ensures.next within.1 within.2) c.in_ok-take.ensures.place c.in_ok-take.ensures.rest;
+      mark = c.in_ok-take.ensures.mark ∙ i.mark;
       room = search rules;
       on = search rules;
       going = λ told tree t earlier later o h.

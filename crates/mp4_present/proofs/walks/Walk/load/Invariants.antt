@@ -12,6 +12,7 @@ invariant-loop-top g l = record {
   file : g.S.Store.file l.store ≡ g.S.Store.file l.fn.store;
   reads : g.S.Store.read_failures l.store ≡ g.S.Store.read_failures l.fn.store;
   walk : IsWalkOf l.movie l.self;
+  mark : l.self.mark ≡ l.fn.self.mark;
   room : length l.self.bytes.items ≡ length l.fn.self.bytes.items;
   on : l.fn.self.next ≤ l.self.next;
   going : IsTrue (g.S.Store.is_honest l.fn.store) → GoesOnBefore (g.S.Store.file l.fn.store) l.movie l.fn.self l.self;

@@ -5,9 +5,9 @@ use Rattle.mp4_boxes.specs.View.{box_seen}
 use Rattle.mp4_frag.specs.Views.{moof_seen, CursorSeen}
 use Rattle.mp4_frag.specs.Walks.{samples_coming}
 use Rattle.mp4_tables.specs.declared.sample.SampleAt.{SampleAt}
-use Rattle.mp4_present.specs.Coming.{moof_box}
+use Rattle.mp4_present.specs.Movies.{moof_box, moof_hand}
 use Rattle.mp4_present.specs.declared.in_hand.InHand.TheVariants as hands
-use Rattle.mp4_present.proofs.MoofTaken.{few, stands_behind, taken, at_place, none_left, some_counted}
+use Rattle.mp4_present.proofs.MoofTaken.{few, stands_behind, taken, at_place, none_left, some_counted, all_taken, counted_left}
 use Rattle.mp4_present.proofs.WalkWork.{place_within}
 use Rattle.mp4_present.proofs.walks.Walk.take.Goals as goal
 
@@ -29,7 +29,7 @@ returns-clause-taken g c file tree t earlier later next o h =
     let all = ap samples_coming same ∙ list in
     let counted = c.in-Some.ensures.samples ∙ ap (λ (ss : List SampleAt). length ss) all in
     let lasting = c.in-Some.ensures.duration ∙ ap (λ (ss : List SampleAt). min (sum_of (λ (s : SampleAt). s.duration) ss) (2 ^ 64 - 1)) all in
-    let stands = stands_behind file m tree t earlier next later w o h _ refl refl refl (c.saturating_add-self.ensures ∙ ap (λ n. min (w.due + n) (2 ^ 64 - 1)) lasting) (ap (λ n. w.left - n) counted) in (
+    let stands = stands_behind file m tree t earlier next later w o h _ refl refl refl (c.saturating_add-self.ensures ∙ ap (λ n. min (w.due + n) (2 ^ 64 - 1)) lasting) (ap (λ n. w.left - n) counted) (record { track = refl; next = refl; moof = refl; room = refl; box = refl }) refl in (
       hands.Fragment c.start-cursor.result,
       (
         stands,
@@ -104,4 +104,46 @@ returns-clause-some g c some =
         place = sym c.place-place.ensures.is i;
       }),
       some_counted c.in-Some.counts.samples _ some counted,
+    )
+
+pub returns-clause-rest : goal.returns-clause-rest
+returns-clause-rest g c info at =
+    let w = c.args.self.now in
+    let m = c.args.movie.now in
+    let view : box_seen c.view.result ≡ moof_box w = rw c.deref.ensures.value at c.view.ensures in
+    let seen : moof_seen c.again-view.result ≡ moof_box w = c.again-view.ensures ∙ view in
+    let info_at = at_place m.tracks w.track c.index-tracks-self.result c.requires.movie.track (rw c.tracks.ensures at c.index-tracks-self.is) in
+    let all = all_taken m w w.track w.due c.index-tracks-self.result info _ _ _ info_at at seen c.states.ensures.same c.start-cursor.ensures.samples in
+    let hand : c.start-cursor.result ≡ moof_hand m w c.place-place.result = λ i. record {
+      payload = (c.start-cursor.ensures.payload ∙ ap (λ (b : Box). b.payload) seen) i;
+      moof = (c.start-cursor.ensures.moof ∙ ap (λ (b : Box). b.offset) seen) i;
+      tracks = (c.start-cursor.ensures.tracks ∙ c.states.ensures.same) i;
+      place = sym c.place-place.ensures.is i;
+    } in
+    (0, sym (ap samples_coming hand) ∙ all)
+
+pub returns-clause-all : goal.returns-clause-all
+returns-clause-all g c info at =
+    let w = c.args.self.now in
+    let m = c.args.movie.now in
+    let view : box_seen c.view.result ≡ moof_box w = rw c.deref.ensures.value at c.view.ensures in
+    let seen : moof_seen c.again-view.result ≡ moof_box w = c.again-view.ensures ∙ view in
+    let info_at = at_place m.tracks w.track c.index-tracks-self.result c.requires.movie.track (rw c.tracks.ensures at c.index-tracks-self.is) in
+    let all = all_taken m w w.track w.due c.index-tracks-self.result info _ _ _ info_at at seen c.states.ensures.same c.start-cursor.ensures.samples in
+    let same : c.at-all.result ≡ c.start-cursor.result = c.at-all.ensures ∙ (λ i. record {
+      payload = sym c.start-cursor.ensures.payload i;
+      moof = sym c.start-cursor.ensures.moof i;
+      tracks = (c.states-2.ensures.same ∙ sym c.states.ensures.same ∙ sym c.start-cursor.ensures.tracks) i;
+      place = c.place-place.ensures.is i;
+    }) in
+    let counted = c.in-Some.ensures.samples ∙ ap (λ (v : CursorSeen). length (samples_coming v)) same in (
+      hands.Fragment c.start-cursor.result,
+      (λ i. record {
+        payload = (c.start-cursor.ensures.payload ∙ ap (λ (b : Box). b.payload) seen) i;
+        moof = (c.start-cursor.ensures.moof ∙ ap (λ (b : Box). b.offset) seen) i;
+        tracks = (c.start-cursor.ensures.tracks ∙ c.states.ensures.same) i;
+        place = sym c.place-place.ensures.is i;
+      }),
+      all,
+      counted_left w.left c.in-Some.counts.samples _ _ refl c.in-Some.ensures.few counted,
     )

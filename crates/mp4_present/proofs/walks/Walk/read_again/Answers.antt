@@ -1,0 +1,60 @@
+use Rattle.std.proofs.Common.{rules, ◌≡◌, ◌+◌, ◌≤◌, ◌∙◌, Bool, length, refl, sym, ap, subst, arith}
+use Rattle.std.proofs.lemmas.Result.{err_from_is_err_and}
+use Rattle.std.proofs.lemmas.List.{with_items_is}
+use Rattle.mp4_boxes.specs.Box.{Box}
+use Rattle.mp4_tables.specs.Keys.{keys_seen}
+use Rattle.mp4_frag.specs.Walks.{samples_in}
+use Rattle.mp4_present.specs.Coming.{Takes}
+use Rattle.mp4_present.specs.InHand.{left_in_hand}
+use Rattle.mp4_present.specs.Movies.{mark_of, moof_box, all_in_moof, InHandOf}
+use Rattle.mp4_present.specs.Work.{moof_steps, steps_to, way_through}
+use Rattle.mp4_present.specs.declared.in_hand.InHand.{InHand}
+use Rattle.mp4_present.specs.declared.walks.Walk.{Walk}
+use Rattle.mp4_present.proofs.GoneBack.{fits_again, holds_again, box_again, payload_there, takes_marked, hand_of_marked, way_marked}
+use Rattle.mp4_present.proofs.walks.Walk.read_again.Goals as goal
+
+pub returns-in_err-self-clause-unchanged : goal.returns-in_err-self-clause-unchanged
+returns-in_err-self-clause-unchanged g c told tree t earlier later next begun o h =
+    let p = err_from_is_err_and c.from_residual.result c.from_residual.ensures.1 in
+    let short = fits_again (g.S.Store.file c.args.store.now) tree t earlier next later begun c.args.self.now c.args.before h in
+    rw (p.1, p.2) (payload_there _ _ _ c.args.self.now.mark.moof c.in_err-self.field-0.0 short (rw c.as_mut_slice.ensures.value at c.in_err-self.ensures.refusal))
+
+pub returns-in_err-_some-clause-unchanged : goal.returns-in_err-_some-clause-unchanged
+returns-in_err-_some-clause-unchanged g c told tree t earlier later next begun o h =
+    let file = g.S.Store.file c.args.store.now in
+    let bytes = c.read_payload.new.room in
+    let same : length bytes ≡ length c.args.self.now.bytes.items = search rules in
+    let fills = c.in_ok-self.ensures.fills in
+    let held = holds_again file tree t earlier next later begun c.args.self.now c.args.before h _ bytes c.in_ok-self.field-0 refl refl refl (with_items_is c.args.self.now.bytes bytes (same ∙ sym c.args.self.now.bytes.ok.0)) same fills.1 fills.0 (c.in_ok-self.ensures.bytes told) refl refl refl in
+    absurd (c.in_err-_some.ensures.taken file tree t earlier later next o held)
+
+pub returns-clause-all : goal.returns-clause-all
+returns-clause-all g c info at =
+    let x = c.in_ok-_some.ensures.all info at in
+    let now = c.take.new.self in
+    let m = c.args.movie.now in
+    let same = ap (λ (b : Box). samples_in b m.states info.id c.args.before.time (keys_seen info.keys)) (sym c.in_ok-_some.ensures.moof) in
+    subst (λ (w : Walk). (hand : InHand) × InHandOf m w hand × (left_in_hand hand ≡ all_in_moof m w info c.args.before.time) × (c.args.before.left ≡ length (left_in_hand hand) + w.left)) (sym c.mark.ensures.mark)
+    (x.0, hand_of_marked m now (mark_of now c.args.self.now.mark.to_come) x.0 x.1, x.2 ∙ same, x.3)
+
+pub returns-clause-taken : goal.returns-clause-taken
+returns-clause-taken g c told tree t earlier later next begun o h =
+    let file = g.S.Store.file c.args.store.now in
+    let bytes = c.read_payload.new.room in
+    let same : length bytes ≡ length c.args.self.now.bytes.items = search rules in
+    let fills = c.in_ok-self.ensures.fills in
+    let held = holds_again file tree t earlier next later begun c.args.self.now c.args.before h _ bytes c.in_ok-self.field-0 refl refl refl (with_items_is c.args.self.now.bytes bytes (same ∙ sym c.args.self.now.bytes.ok.0)) same fills.1 fills.0 (c.in_ok-self.ensures.bytes told) refl refl refl in
+    let e = c.in_ok-_some.ensures in
+    let now = c.take.new.self in
+    let m = c.args.movie.now in
+    let same = box_again file tree t earlier next later begun c.args.self.now c.args.before h _ held in
+    let steps = ap moof_steps same in
+    let way = e.way in
+    let work = e.work in
+    subst (λ (w : Walk). (some : Bool) × Takes file tree t earlier next later m w some × (moof_box w ≡ moof_box begun) × (steps_to w.place ≤ moof_steps (moof_box begun)) × (c.take.new.steps ≤ c.args.steps.now + moof_steps (moof_box begun) + steps_to w.place)) (sym c.mark.ensures.mark)
+    (c.in_ok-_some._some, takes_marked file tree t m earlier next later now (mark_of now c.args.self.now.mark.to_come) c.in_ok-_some._some (e.taken file tree t earlier later next o held), e.moof ∙ same, omega (arith, steps, way), omega (arith, steps, work))
+
+pub returns-clause-through : goal.returns-clause-through
+returns-clause-through g c t =
+    let now = c.take.new.self in
+    subst (λ (w : Walk). way_through t w w.place ≡ moof_steps (moof_box w)) (sym c.mark.ensures.mark) (way_marked t now (mark_of now c.args.self.now.mark.to_come) now.place ∙ c.in_ok-_some.ensures.through t)

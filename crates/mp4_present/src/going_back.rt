@@ -1,0 +1,262 @@
+//! How a walk goes back to where it stood.
+ghost use Rattle.std.specs.Prelude.{ℕ, ◌≡◌, ◌+◌, ◌≤◌, List, length, drop, Bool, true, false, Ok, Err, Some, slice_get, IfOk, IfErr, OnOk, OnErr, IsOk, IsTrue};
+ghost use Rattle.mp4_boxes.specs.declared.refusal.Refusal.TheVariants as refusals;
+ghost use Rattle.mp4_frag.specs.Fragments.{FragmentTree};
+ghost use Rattle.mp4_head.specs.Tree.{TrackTree};
+ghost use Rattle.mp4_tables.specs.declared.sample.SampleAt.{SampleAt};
+ghost use Rattle.mp4_present.specs.Coming.{Comes, HoldsNext, StandsBefore, Takes};
+ghost use Rattle.mp4_present.specs.Denotes.{FileTree};
+ghost use Rattle.mp4_present.specs.GoingBack.{GoesBackTo, HoldsMarked, again_from, back_steps, is_at_hand, set_back};
+ghost use Rattle.mp4_present.specs.InHand.{left_in_hand};
+ghost use Rattle.mp4_present.specs.Movies.{MovieSeen, GoesOn, StandsAt, IsRest, IsWalkOf, InHandOf, RefusesLoad, all_in_moof, mark_of, moof_box};
+ghost use Rattle.mp4_present.specs.OpenedMovie.{IsOpenedAs};
+ghost use Rattle.mp4_present.specs.Work.{MayTake, TakesOn, moof_steps, steps_to, way_through};
+ghost use Rattle.mp4_present.specs.declared.in_hand.InHand.{InHand};
+ghost use Rattle.mp4_present.specs.declared.track_info.TrackInfo.{TrackInfo};
+
+use crate::movie::Movie;
+use crate::reading::read_payload;
+use crate::walks::{Due, Mark, Walk};
+use mp4_boxes::{Refusal, Steps};
+use mp4_store::Store;
+use mp4_tables::Samples;
+use std::sync::ledger::Ledger;
+
+// Takes so many samples; false where there are fewer.
+fn pass_samples<C: Samples>(samples: &mut C, count: u32) -> bool
+    ensures passed { IsTrue result → C.rest samples.new ≡ drop count (C.rest samples.old) }
+    ensures enough { count ≤ length (C.rest samples.old) → IsTrue result }
+    ensures whole { IsTrue result → count ≤ length (C.rest samples.old) }
+    ensures later { C.follows samples.old samples.new }
+{
+    let mut passed = 0;
+    while passed < count {
+        match samples.next() {
+            Some(_) => passed += 1,
+            None => return false,
+        }
+    }
+    true
+}
+
+impl Walk {
+    /// Marks where the walk stands, before so many samples of the track: it can go back here from wherever it goes on
+    /// to. A mark made before is given up.
+    pub fn mark(&mut self, to_come: u32)
+        ensures mark { self.new ≡ record self.old { mark = mark_of self.old to_come } }
+        ensures walk { (m : MovieSeen) → GoesOn m self.old → StandsAt m self.old self.old.place
+            → IsRest m self.old self.old.before self.old.place → IsWalkOf m self.new }
+        ensures coming { (file : List ℕ) (tree : FileTree) (t : TrackTree) (m : MovieSeen)
+            (samples : List SampleAt)
+            → Comes file tree t m self.old samples → Comes file tree t m self.new samples }
+        ensures may { (file : List ℕ) (tree : FileTree) (t : TrackTree) (n : ℕ)
+            → MayTake file tree t self.old n → MayTake file tree t self.new n }
+    {
+        self.mark = Mark {
+            track: self.track,
+            place: self.place,
+            moof: self.moof,
+            before: self.before,
+            due: self.due,
+            left: self.left,
+            next: self.next,
+            to_come,
+        };
+    }
+
+    // What was due before the `moof` of the mark, where it has to be read again.
+    fn again_from(&self) -> Option<Due>
+        ensures { result ≡ again_from self.now }
+    {
+        if self.next == self.mark.next {
+            None
+        } else {
+            self.mark.before
+        }
+    }
+
+    // Sets the place back to the mark.
+    fn set_back(&mut self)
+        ensures { self.new ≡ set_back self.old }
+    {
+        self.place = self.mark.place;
+        self.before = self.mark.before;
+        self.due = self.mark.due;
+        self.left = self.mark.left;
+        self.next = self.mark.next;
+    }
+
+    // Reads the `moof` of the mark again, where this was due, and takes its samples into hand. The mark is given up for
+    // one before these.
+    fn read_again<S: Store, L: Ledger>(
+        &mut self,
+        before: Due,
+        movie: &Movie,
+        store: &mut S,
+        steps: &mut Steps<L>,
+    ) -> Result<(), Refusal>
+        requires walk { IsWalkOf movie.now self.old }
+        requires marked { self.old.mark.before ≡ Some before }
+        ensures honesty { S.is_honest store.new ≡ S.is_honest store.old }
+        ensures file { S.file store.new ≡ S.file store.old }
+        ensures walk { OnOk result (IsWalkOf movie.now self.new) }
+        ensures room { length self.new.bytes.items ≡ length self.old.bytes.items }
+        ensures next { OnOk result (self.new.next ≡ self.old.mark.next) }
+        ensures all { OnOk result ((info : TrackInfo)
+            → slice_get movie.now.tracks self.old.track ≡ Some info
+            → (hand : InHand) × InHandOf movie.now self.new hand
+            × (left_in_hand hand ≡ all_in_moof movie.now self.new info before.time)
+            × (before.left ≡ length (left_in_hand hand) + self.new.left)) }
+        ensures taken { IsTrue (S.is_honest store.old)
+            → (tree : FileTree) (t : TrackTree) (earlier later : List FragmentTree)
+            (next : FragmentTree) (begun : Walk)
+            → IsOpenedAs (S.file store.old) movie.now tree
+            → HoldsMarked (S.file store.old) tree t earlier next later begun self.old before
+            → OnOk result ((some : Bool)
+            × Takes (S.file store.old) tree t earlier next later movie.now self.new some
+            × (moof_box self.new ≡ moof_box begun)
+            × (steps_to self.new.place ≤ moof_steps (moof_box begun))
+            × (steps.new ≤ steps.old + moof_steps (moof_box begun) + steps_to self.new.place)) }
+        ensures unchanged { IsTrue (S.is_honest store.old)
+            → (tree : FileTree) (t : TrackTree) (earlier later : List FragmentTree)
+            (next : FragmentTree) (begun : Walk)
+            → IsOpenedAs (S.file store.old) movie.now tree
+            → HoldsMarked (S.file store.old) tree t earlier next later begun self.old before
+            → IfErr result (λ r. r ≡ refusals.StoreChanged → ⊥) }
+        ensures through { OnOk result ((t : TrackTree)
+            → way_through t self.new self.new.place ≡ moof_steps (moof_box self.new)) }
+        ensures idle { OnErr result (steps.new ≡ steps.old) }
+        ensures length { (length (S.file store.old) ≡ movie.now.file_len → ⊥)
+            → result ≡ Err refusals.StoreChanged }
+        ensures reads { OnOk result (S.read_failures store.new ≡ S.read_failures store.old) }
+        ensures refusal { IfErr result (RefusesLoad (S.read_failures store.old)
+            (S.read_failures store.new)) }
+    {
+        let mark = self.mark;
+        let len = store.len();
+        if len != movie.file_len || mark.moof.header.end > len {
+            return Err(Refusal::StoreChanged);
+        }
+        self.used = read_payload(store, mark.moof, self.bytes.as_mut_slice())?;
+        self.moof = mark.moof;
+        self.due = before.time;
+        self.left = before.left;
+        self.next = mark.next;
+        let _some = self.take(movie, steps)?;
+        self.mark(mark.to_come);
+        Ok(())
+    }
+
+    // Passes so many samples in hand. Where there are fewer, the store has changed.
+    fn pass<L: Ledger>(
+        &mut self,
+        count: u32,
+        movie: &Movie,
+        steps: &mut Steps<L>,
+    ) -> Result<(), Refusal>
+        requires { IsWalkOf movie.now self.old }
+        ensures walk { OnOk result (IsWalkOf movie.now self.new) }
+        ensures passed { OnOk result ((hand later : InHand) × InHandOf movie.now self.old hand
+            × InHandOf movie.now self.new later
+            × (left_in_hand later ≡ drop count (left_in_hand hand))
+            × (count ≤ length (left_in_hand hand))) }
+        ensures enough { (hand : InHand) × InHandOf movie.now self.old hand
+            × (count ≤ length (left_in_hand hand) → IsOk result) }
+        ensures same { (self.new.left ≡ self.old.left) × (self.new.due ≡ self.old.due)
+            × (self.new.next ≡ self.old.next) × (self.new.track ≡ self.old.track)
+            × (self.new.bytes ≡ self.old.bytes) }
+        ensures stands { OnOk result ((file : List ℕ) (tree : FileTree) (t : TrackTree)
+            (earlier later : List FragmentTree)
+            → StandsBefore file tree t earlier later self.old
+            → StandsBefore file tree t earlier later self.new) }
+        ensures work { OnOk result ((file : List ℕ) (tree : FileTree) (t : TrackTree) (n : ℕ)
+            → IsOpenedAs file movie.now tree
+            → MayTake file tree t self.old n → TakesOn file tree t n self.new steps.old steps.new) }
+        ensures idle { OnErr result (steps.new ≡ steps.old) }
+        ensures refusal { IfErr result (λ r. r ≡ refusals.StoreChanged) }
+    {
+        let place = {
+            let mut hand = self.in_hand(movie);
+            if !pass_samples(&mut hand, count) {
+                return Err(Refusal::StoreChanged);
+            }
+            hand.place()
+        };
+        self.keep(place, steps);
+        Ok(())
+    }
+
+    /// Goes back to the mark. Where what was in hand there is at hand, nothing is read, and no step taken; else the
+    /// `moof` is read again, and its samples before the mark are passed. It takes no memory. Where the store has another
+    /// length, or other samples than it had, so far as their number and their time shows it, the answer is StoreChanged.
+    pub fn go_back<S: Store, L: Ledger>(
+        &mut self,
+        movie: &Movie,
+        store: &mut S,
+        steps: &mut Steps<L>,
+    ) -> Result<(), Refusal>
+        requires { IsWalkOf movie.now self.old }
+        ensures honesty { S.is_honest store.new ≡ S.is_honest store.old }
+        ensures file { S.file store.new ≡ S.file store.old }
+        ensures walk { OnOk result (IsWalkOf movie.now self.new) }
+        ensures room { length self.new.bytes.items ≡ length self.old.bytes.items }
+        ensures mark { OnOk result (self.new.mark ≡ mark_of self.new self.old.mark.to_come) }
+        ensures back { IsTrue (S.is_honest store.old)
+            → (tree : FileTree) (t : TrackTree) (begun : Walk) (samples : List SampleAt)
+            → IsOpenedAs (S.file store.old) movie.now tree
+            → GoesBackTo (S.file store.old) tree t movie.now begun self.old (length samples)
+            → Comes (S.file store.old) tree t movie.now begun samples
+            → OnOk result (Comes (S.file store.old) tree t movie.now self.new samples) }
+        ensures unchanged { IsTrue (S.is_honest store.old)
+            → (tree : FileTree) (t : TrackTree) (begun : Walk) (samples : List SampleAt)
+            → IsOpenedAs (S.file store.old) movie.now tree
+            → GoesBackTo (S.file store.old) tree t movie.now begun self.old (length samples)
+            → Comes (S.file store.old) tree t movie.now begun samples
+            → IfErr result (λ r. r ≡ refusals.StoreChanged → ⊥) }
+        ensures work { IsTrue (S.is_honest store.old)
+            → (tree : FileTree) (t : TrackTree) (begun : Walk) (to_come n : ℕ)
+            → IsOpenedAs (S.file store.old) movie.now tree
+            → GoesBackTo (S.file store.old) tree t movie.now begun self.old to_come
+            → MayTake (S.file store.old) tree t begun n
+            → OnOk result (TakesOn (S.file store.old) tree t
+            (n + back_steps begun self.old) self.new steps.old steps.new) }
+        ensures most { IsTrue (S.is_honest store.old)
+            → (tree : FileTree) (t : TrackTree) (begun : Walk) (to_come n : ℕ)
+            → IsOpenedAs (S.file store.old) movie.now tree
+            → GoesBackTo (S.file store.old) tree t movie.now begun self.old to_come
+            → MayTake (S.file store.old) tree t begun n
+            → OnErr result (steps.new ≤ steps.old + back_steps begun self.old) }
+        ensures still { is_at_hand self.old ≡ true → IsOk result × (store.new ≡ store.old)
+            × (steps.new ≡ steps.old)
+            × (self.new ≡ record (set_back self.old) {
+              mark = mark_of
+                  (set_back self.old) self.old.mark.to_come;
+            }) }
+        ensures left { OnOk result ((self.new.left ≡ self.old.mark.left)
+            × (self.new.due ≡ self.old.mark.due)
+            × (self.new.next ≡ self.old.mark.next)) }
+        ensures again { is_at_hand self.old ≡ false → OnOk result ((hand : InHand)
+            × InHandOf movie.now self.new hand
+            × (length (left_in_hand hand) + self.new.left ≡ self.old.mark.to_come)) }
+        ensures length { is_at_hand self.old ≡ false
+            → (length (S.file store.old) ≡ movie.now.file_len → ⊥)
+            → result ≡ Err refusals.StoreChanged }
+        ensures reads { OnOk result (S.read_failures store.new ≡ S.read_failures store.old) }
+        ensures refusal { IfErr result (RefusesLoad (S.read_failures store.old)
+            (S.read_failures store.new)) }
+    {
+        let mark = self.mark;
+        let Some(before) = self.again_from() else {
+            self.set_back();
+            self.mark(mark.to_come);
+            return Ok(());
+        };
+        self.read_again(before, movie, store, steps)?;
+        if self.left != mark.left || self.due != mark.due || before.left < mark.to_come {
+            return Err(Refusal::StoreChanged);
+        }
+        self.pass(before.left - mark.to_come, movie, steps)?;
+        self.mark(mark.to_come);
+        Ok(())
+    }
+}
