@@ -149,7 +149,8 @@ no_plan : Plan
 no_plan = record { longest = 0; len = 0 }
 
 -- Before the first turn nothing is planned.
-pub planning_first : (file : List ℕ) (tree : FileTree) (m : MovieSeen) (s : Schedule) (walks : List Walk) (nexts : List (Option SampleAt)) (from : ℕ) → IsOpenedAs file m tree → AllBegin file tree m walks → nexts ≡ firsts (map (track_samples tree) tree.movie.tracks) → from ≡ writers.first_dts (map (track_samples tree) tree.movie.tracks)
+pub planning_first : (file : List ℕ) (tree : FileTree) (m : MovieSeen) (s : Schedule) (walks : List Walk) (nexts : List (Option SampleAt)) (from : ℕ) → IsOpenedAs file m tree → AllBegin file tree m walks → nexts ≡ firsts (map (track_samples tree) tree.movie.tracks)
+    → from ≡ writers.first_dts (map (track_samples tree) tree.movie.tracks)
     → s.tracks ≡ length m.tracks → s.first ≡ first_scale m.tracks → s.left ≡ min (sum_by (λ (i : TrackInfo). i.samples) m.tracks) (2 ^ 64 - 1) → (s.track ≡ 0) × (s.from ≡ from) × (s.next ≡ None) → IsPlanning file tree m s walks nexts (record { longest = 0; len = 0 })
 planning_first file tree m s walks nexts from o come shown time tracks first left starts =
     let lefts = map (track_samples tree) tree.movie.tracks in

@@ -49,7 +49,8 @@ module _ (file : List ℕ) (tree : FileTree) (m : MovieSeen) (o : IsOpenedAs fil
   pub note_lacks : (X : Type 0) → ((t : TrackTree) (walk : Walk) (left : List SampleAt) → slice_get w.planning.items turn.track ≡ Some walk → Comes file tree t m walk left → more_of (piece_from turn.end) left ≤ length w.rows.items → X) → X
   note_lacks X f = f at.t at.walk at.left walk_there at.comes (subst (λ (e : End). more_of (piece_from e) at.left ≤ length w.rows.items) (sym end_is) at.fits)
 
-  module _ (w1 : Writer) (n : Noted) (id : ℕ) (noted : (t : TrackTree) (walk : Walk) (left : List SampleAt) → slice_get w.planning.items turn.track ≡ Some walk → Comes file tree t m walk left → slice_get w.nexts.items turn.track ≡ Some (slice_get left 0) → HasNoted file tree t m turn sequence id left w w1 n)
+  module _ (w1 : Writer) (n : Noted) (id : ℕ) (noted : (t : TrackTree) (walk : Walk) (left : List SampleAt) → slice_get w.planning.items turn.track ≡ Some walk → Comes file tree t m walk left → slice_get w.nexts.items turn.track ≡ Some (slice_get left 0)
+      → HasNoted file tree t m turn sequence id left w w1 n)
       (keeps : (w1.copying ≡ w.copying) × (w1.carrier ≡ w.carrier) × (length w1.rows.items ≡ length w.rows.items) × (w1.behind ≡ w.behind)) (few : IsFew n.planned) (is_id : (info : TrackInfo) → slice_get m.tracks s.track ≡ Some info → id ≡ info.id) where
     it : HasNoted file tree at.t m turn sequence id at.left w w1 n
     it = noted at.t at.walk at.left walk_there at.comes (ap (λ k. slice_get w.nexts.items k) here.0 ∙ at.shown)
@@ -126,7 +127,11 @@ module _ (file : List ℕ) (tree : FileTree) (m : MovieSeen) (o : IsOpenedAs fil
         subst (λ (k : ℕ). WritesOn file tree m later (sequence_behind sequence n.head) w2.planning.items w2.copying.items w2.behind.items w2.nexts.items k before last (waiting w2.carrier)) rows
         (subst (λ (xs : List (Option SampleAt)). WritesOn file tree m later (sequence_behind sequence n.head) w2.planning.items w2.copying.items w2.behind.items xs (length w.rows.items) before last (waiting w2.carrier)) nexts
         (subst (λ (ks : List ℕ). WritesOn file tree m later (sequence_behind sequence n.head) w2.planning.items w2.copying.items ks (slice_set w.nexts.items s.track (slice_get (samples_after (piece_from end) at.left) 0)) (length w.rows.items) before last (waiting w2.carrier)) numbers
-        (subst (λ (ws : List Walk). WritesOn file tree m later (sequence_behind sequence n.head) w2.planning.items ws (slice_set w.behind.items s.track x.1) (slice_set w.nexts.items s.track (slice_get (samples_after (piece_from end) at.left) 0)) (length w.rows.items) before last (waiting w2.carrier)) copy
-        (subst (λ (ws : List Walk). WritesOn file tree m later (sequence_behind sequence n.head) ws (slice_set w.copying.items s.track x.0) (slice_set w.behind.items s.track x.1) (slice_set w.nexts.items s.track (slice_get (samples_after (piece_from end) at.left) 0)) (length w.rows.items) before last (waiting w2.carrier)) plan
-        (subst (λ (k : ℕ). WritesOn file tree m later k (slice_set w.planning.items s.track it.walk) (slice_set w.copying.items s.track x.0) (slice_set w.behind.items s.track x.1) (slice_set w.nexts.items s.track (slice_get (samples_after (piece_from end) at.left) 0)) (length w.rows.items) before last (waiting w2.carrier)) number
-        (subst (λ (r : Schedule). WritesOn file tree m r (sequence_behind sequence (turn_head sequence at.info.id n.planned.count (slice_get at.left 0))) (slice_set w.planning.items s.track it.walk) (slice_set w.copying.items s.track x.0) (slice_set w.behind.items s.track x.1) (slice_set w.nexts.items s.track (slice_get (samples_after (piece_from end) at.left) 0)) (length w.rows.items) before last (waiting w2.carrier)) schedule on))))))
+        (subst (λ (ws : List Walk). WritesOn file tree m later (sequence_behind sequence n.head) w2.planning.items ws (slice_set w.behind.items s.track x.1) (slice_set w.nexts.items s.track (slice_get (samples_after (piece_from end) at.left) 0)) (length w.rows.items) before last
+        (waiting w2.carrier)) copy
+        (subst (λ (ws : List Walk). WritesOn file tree m later (sequence_behind sequence n.head) ws (slice_set w.copying.items s.track x.0) (slice_set w.behind.items s.track x.1) (slice_set w.nexts.items s.track (slice_get (samples_after (piece_from end) at.left) 0)) (length w.rows.items)
+        before last (waiting w2.carrier)) plan
+        (subst (λ (k : ℕ). WritesOn file tree m later k (slice_set w.planning.items s.track it.walk) (slice_set w.copying.items s.track x.0) (slice_set w.behind.items s.track x.1) (slice_set w.nexts.items s.track (slice_get (samples_after (piece_from end) at.left) 0)) (length w.rows.items)
+        before last (waiting w2.carrier)) number
+        (subst (λ (r : Schedule). WritesOn file tree m r (sequence_behind sequence (turn_head sequence at.info.id n.planned.count (slice_get at.left 0))) (slice_set w.planning.items s.track it.walk) (slice_set w.copying.items s.track x.0) (slice_set w.behind.items s.track x.1)
+        (slice_set w.nexts.items s.track (slice_get (samples_after (piece_from end) at.left) 0)) (length w.rows.items) before last (waiting w2.carrier)) schedule on))))))

@@ -279,7 +279,8 @@ module _ (file : List ℕ) (tree : FileTree) (m : MovieSeen) where
 
   -- the first turn
   pub begins : (s : Schedule) (w : Writer) (planning copying : List Walk) (behind : List ℕ) (nexts : List (Option SampleAt)) (before after : Option (List ℕ)) (held : List ℕ) → IsOpenedAs file m tree → IsReady file tree m w → IsFirst m.tracks (map (track_samples tree) tree.movie.tracks) s
-      → AllBegin file tree m planning → AllBegin file tree m copying → AllByRecursion (λ (n : ℕ). n ≡ 0) behind → nexts ≡ firsts (map (track_samples tree) tree.movie.tracks) → BytesGoOn before after (waiting w.carrier) held w.head.items → WritesOn s 1 planning copying behind nexts (length w.rows.items) before after held
+      → AllBegin file tree m planning → AllBegin file tree m copying → AllByRecursion (λ (n : ℕ). n ≡ 0) behind → nexts ≡ firsts (map (track_samples tree) tree.movie.tracks) → BytesGoOn before after (waiting w.carrier) held w.head.items
+      → WritesOn s 1 planning copying behind nexts (length w.rows.items) before after held
   begins s w planning copying behind nexts before after held o r first plan copy zeros shown goes =
       let all = first_turn file m tree s o first in
       let p = presentation_of file tree in

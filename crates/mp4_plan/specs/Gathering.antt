@@ -21,7 +21,12 @@ abbrev pub runs_first : ℕ → GroupRuns
 runs_first index = record { last = index; rows = 1; is_used = not (index == 0) }
 
 abbrev pub runs_more : GroupRuns → ℕ → GroupRuns
-runs_more runs index = record { last = index; rows = if runs.last == index then runs.rows else runs.rows + 1; is_used = runs.is_used || not (index == 0) }
+runs_more runs index = record {
+  last = index;
+  rows = if runs.last == index then runs.rows
+      else runs.rows + 1;
+  is_used = runs.is_used || not (index == 0);
+}
 
 -- some composition offset is not 0, by the number that is written
 abbrev pub has_offset : SampleAt → Bool
@@ -40,7 +45,8 @@ gathered_first s = record {
   size = Some s.size;
   flags = Some s.flags;
   has_offsets = has_offset s;
-  groups = runs_first (index_of s 0) ∷ runs_first (index_of s 1) ∷ runs_first (index_of s 2) ∷ runs_first (index_of s 3) ∷ [];
+  groups = runs_first (index_of s 0) ∷ runs_first (index_of s 1) ∷ runs_first (index_of s 2)
+      ∷ runs_first (index_of s 3) ∷ [];
 }
 
 abbrev pub no_runs : GroupRuns
@@ -58,7 +64,8 @@ gathered_more g s = record {
   size = common_more g.size s.size;
   flags = common_more g.flags s.flags;
   has_offsets = g.has_offsets || has_offset s;
-  groups = runs_more (runs_at g 0) (index_of s 0) ∷ runs_more (runs_at g 1) (index_of s 1) ∷ runs_more (runs_at g 2) (index_of s 2) ∷ runs_more (runs_at g 3) (index_of s 3) ∷ [];
+  groups = runs_more (runs_at g 0) (index_of s 0) ∷ runs_more (runs_at g 1) (index_of s 1)
+      ∷ runs_more (runs_at g 2) (index_of s 2) ∷ runs_more (runs_at g 3) (index_of s 3) ∷ [];
 }
 
 -- with one more sample, with some more
@@ -87,13 +94,17 @@ description_in (Some g) samples = g.description
 description_in None [] = 0
 description_in None (s ∷ samples) = s.description
 
--- how many of the next samples go into the piece: up to the first at which it has ended, or of another description
+-- how many of the next samples go into the piece: up to the first at which it has ended, or of
+-- another description
 unfoldable pub more_of : Planning → List SampleAt → ℕ
 more_of p samples = prefix_len (goes_in p.end (description_in p.gathered samples)) samples
 
 -- the piece with all of these that go into it, and those that are left
 abbrev pub piece_fed : Planning → List SampleAt → Planning
-piece_fed p samples = record { end = p.end; gathered = gather_all p.gathered (take (more_of p samples) samples) }
+piece_fed p samples = record {
+  end = p.end;
+  gathered = gather_all p.gathered (take (more_of p samples) samples);
+}
 
 abbrev pub samples_after : Planning → List SampleAt → List SampleAt
 samples_after p samples = drop (more_of p samples) samples
@@ -123,7 +134,15 @@ abbrev pub used_rows : GroupRuns → ℕ
 used_rows runs = if runs.is_used then runs.rows else 0
 
 abbrev pub planned_of : Option Gathered → Planned
-planned_of None = record { count = 0; bytes = 0; duration = None; size = None; flags = None; has_offsets = false; group_rows = 0 ∷ 0 ∷ 0 ∷ 0 ∷ [] }
+planned_of None = record {
+  count = 0;
+  bytes = 0;
+  duration = None;
+  size = None;
+  flags = None;
+  has_offsets = false;
+  group_rows = 0 ∷ 0 ∷ 0 ∷ 0 ∷ [];
+}
 planned_of (Some g) = record {
   count = g.count;
   bytes = g.bytes;
@@ -131,5 +150,6 @@ planned_of (Some g) = record {
   size = g.size;
   flags = g.flags;
   has_offsets = g.has_offsets;
-  group_rows = used_rows (runs_at g 0) ∷ used_rows (runs_at g 1) ∷ used_rows (runs_at g 2) ∷ used_rows (runs_at g 3) ∷ [];
+  group_rows = used_rows (runs_at g 0) ∷ used_rows (runs_at g 1) ∷ used_rows (runs_at g 2)
+      ∷ used_rows (runs_at g 3) ∷ [];
 }

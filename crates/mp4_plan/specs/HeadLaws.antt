@@ -9,11 +9,14 @@ use Rattle.mp4_present.specs.Presentation.{Track, Presentation, track_length, mo
 abbrev pub MovieLengthIsLargest : Type 0
 MovieLengthIsLargest = (p : Presentation)
     → AllByRecursion (λ (t : Track). track_length p.movie.timescale t ≤ movie_length p) p.tracks
-    × ((movie_length p ≡ 0) ⊎ ((t : Track) × Contains p.tracks t × (track_length p.movie.timescale t ≡ movie_length p)))
+    × ((movie_length p ≡ 0)
+    ⊎ ((t : Track) × Contains p.tracks t × (track_length p.movie.timescale t ≡ movie_length p)))
 
--- The next track ID is above each ID that leaves room for one above it, fits 32 bits, and is no larger than that takes.
+-- The next track ID is above each ID that leaves room for one above it, fits 32 bits, and is no
+-- larger than that takes.
 abbrev pub NextTrackIdIsLeast : Type 0
 NextTrackIdIsLeast = (tracks : List TrackHead)
     → AllByRecursion (λ (t : TrackHead). t.id < 2 ^ 32 - 1 → t.id < next_track_id tracks) tracks
     × (next_track_id tracks < 2 ^ 32)
-    × ((next_track_id tracks ≤ 1) ⊎ ((t : TrackHead) × Contains tracks t × (next_track_id tracks ≤ t.id + 1)))
+    × ((next_track_id tracks ≤ 1)
+    ⊎ ((t : TrackHead) × Contains tracks t × (next_track_id tracks ≤ t.id + 1)))

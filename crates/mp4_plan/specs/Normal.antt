@@ -51,31 +51,39 @@ own None m = Some m
 -- sample_duration, sample_size, sample_flags, sample_composition_time_offset
 abbrev pub row_values : Shared → TimedSample → List (Option ℕ)
 row_values shared s =
-    own shared.duration s.sample.duration ∷ own shared.size (length s.sample.bytes) ∷ own shared.flags s.sample.flags
+    own shared.duration s.sample.duration ∷ own shared.size (length s.sample.bytes)
+    ∷ own shared.flags s.sample.flags
     ∷ (if shared.has_offsets then Some (unsigned 4 s.sample.offset) else None) ∷ []
 
 -- the columns that each row has
 abbrev pub row_flags : Shared → ℕ
-row_flags shared = column_flags sample_columns (own shared.duration 0 ∷ own shared.size 0 ∷ own shared.flags 0 ∷ (if shared.has_offsets then Some 0 else None) ∷ [])
+row_flags shared = column_flags sample_columns (own shared.duration 0 ∷ own shared.size 0
+    ∷ own shared.flags 0 ∷ (if shared.has_offsets then Some 0 else None) ∷ [])
 
 abbrev pub trun_row : Shared → TimedSample → List ℕ
 trun_row shared s = column_bytes sample_columns (row_values shared s)
 
--- data_offset says where the data begins after the first byte of `moof`; first_sample_flags is not there
+-- data_offset says where the data begins after the first byte of `moof`; first_sample_flags is not
+-- there
 abbrev pub trun_bytes : ℕ → List TimedSample → List ℕ
 trun_bytes data_offset samples =
     let shared = shared_by samples in
     let options = Some data_offset ∷ None ∷ [] in
     box_bytes (codes "trun") (
-    spelled (fields trun 1) (1 ∷ (column_flags trun_columns options + row_flags shared) ∷ length samples ∷ [])
+    spelled (fields trun 1) (1 ∷ (column_flags trun_columns options + row_flags shared)
+    ∷ length samples ∷ [])
     ++ column_bytes trun_columns options ++ flat_map (trun_row shared) samples)
 
--- base_data_offset is not there; sample_description_index is; default_sample_duration, default_sample_size and default_sample_flags are where all samples have them
+-- base_data_offset is not there; sample_description_index is; default_sample_duration,
+-- default_sample_size and default_sample_flags are where all samples have them
 abbrev pub tfhd_bytes : Piece → List ℕ
 tfhd_bytes piece =
     let shared = shared_by piece.samples in
-    let options = None ∷ Some (first_description piece.samples) ∷ shared.duration ∷ shared.size ∷ shared.flags ∷ [] in
-    box_bytes (codes "tfhd") (spelled (fields tfhd 0) (0 ∷ (default_base_is_moof + column_flags tfhd_columns options) ∷ piece.id ∷ []) ++ column_bytes tfhd_columns options)
+    let options = None ∷ Some (first_description piece.samples) ∷ shared.duration ∷ shared.size
+    ∷ shared.flags ∷ [] in
+    box_bytes (codes "tfhd")
+    (spelled (fields tfhd 0) (0 ∷ (default_base_is_moof + column_flags tfhd_columns options)
+    ∷ piece.id ∷ []) ++ column_bytes tfhd_columns options)
 
 -- ---- groups
 
@@ -93,12 +101,15 @@ in_key_order (key ∷ keys) = put_key key (in_key_order keys)
 
 -- the keys at which some sample has an index, in their order
 abbrev pub piece_keys : List TimedSample → List GroupKey
-piece_keys samples = in_key_order (flat_map (λ (s : TimedSample). map (λ (group : GroupKey × ℕ). group.0) s.sample.groups) samples)
+piece_keys samples =
+    in_key_order (flat_map (λ (s : TimedSample).
+    map (λ (group : GroupKey × ℕ). group.0) s.sample.groups) samples)
 
 -- a value in front of rows of a count and a value: in the first of them if that has its value
 abbrev pub put_run : ℕ → List (ℕ × ℕ) → List (ℕ × ℕ)
 put_run value [] = (1, value) ∷ []
-put_run value (row ∷ rows) = if value == row.1 then (suc row.0, value) ∷ rows else (1, value) ∷ row ∷ rows
+put_run value (row ∷ rows) = if value == row.1 then (suc row.0, value) ∷ rows
+    else (1, value) ∷ row ∷ rows
 
 -- the longest runs of equal values
 abbrev pub longest_runs : List ℕ → List (ℕ × ℕ)
@@ -110,14 +121,17 @@ abbrev pub key_bytes : GroupKey → ℕ → List ℕ
 key_bytes key count = with_parameter key.parameter
   where
     with_parameter : Option ℕ → List ℕ
-    with_parameter None = spelled (1 ∷ 3 ∷ []) (0 ∷ 0 ∷ []) ++ key.kind ++ spelled (4 ∷ []) (count ∷ [])
-    with_parameter (Some parameter) = spelled (1 ∷ 3 ∷ []) (1 ∷ 0 ∷ []) ++ key.kind ++ spelled (4 ∷ 4 ∷ []) (parameter ∷ count ∷ [])
+    with_parameter None = spelled (1 ∷ 3 ∷ []) (0 ∷ 0 ∷ []) ++ key.kind
+        ++ spelled (4 ∷ []) (count ∷ [])
+    with_parameter (Some parameter) = spelled (1 ∷ 3 ∷ []) (1 ∷ 0 ∷ []) ++ key.kind
+        ++ spelled (4 ∷ 4 ∷ []) (parameter ∷ count ∷ [])
 
 -- an `sbgp` (8.9.2) with rows for all samples, those of index 0 too
 abbrev pub sbgp_bytes : List TimedSample → GroupKey → List ℕ
 sbgp_bytes samples key =
     let rows = longest_runs (map (λ (s : TimedSample). index_at key s.sample.groups) samples) in
-    box_bytes (codes "sbgp") (key_bytes key (length rows) ++ flat_map (λ (r : ℕ × ℕ). spelled (row sbgp 0) (r.0 ∷ r.1 ∷ [])) rows)
+    box_bytes (codes "sbgp") (key_bytes key (length rows)
+    ++ flat_map (λ (r : ℕ × ℕ). spelled (row sbgp 0) (r.0 ∷ r.1 ∷ [])) rows)
 
 -- ---- fragments
 
@@ -129,7 +143,10 @@ traf_bytes data_offset piece = box_bytes (codes "traf") (
     ++ flat_map (sbgp_bytes piece.samples) (piece_keys piece.samples))
 
 abbrev pub moof_bytes : ℕ → ℕ → Piece → List ℕ
-moof_bytes sequence data_offset piece = box_bytes (codes "moof") (box_bytes (codes "mfhd") (spelled (1 ∷ 3 ∷ 4 ∷ []) (0 ∷ 0 ∷ sequence ∷ [])) ++ traf_bytes data_offset piece)
+moof_bytes sequence data_offset piece =
+    box_bytes (codes "moof")
+    (box_bytes (codes "mfhd") (spelled (1 ∷ 3 ∷ 4 ∷ []) (0 ∷ 0 ∷ sequence ∷ []))
+    ++ traf_bytes data_offset piece)
 
 -- how many bytes the `moof` of a piece takes, whatever its sequence number and data_offset
 abbrev pub moof_length : Piece → ℕ

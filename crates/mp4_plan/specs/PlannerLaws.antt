@@ -20,8 +20,10 @@ pub record SumsUp (samples : List SampleAt) (g : Gathered) : Type 0 where
   pub flags : g.flags ≡ common (map (λ (s : SampleAt). s.flags) samples)
   pub has_offsets : g.has_offsets ≡ not (list_all (λ (s : SampleAt). unsigned 4 s.cto == 0) samples)
   pub rows : (j : ℕ) → j < 4 → (runs_at g j).rows ≡ length (longest_runs (indexes j samples))
-  pub used : (j : ℕ) → j < 4 → (runs_at g j).is_used ≡ not (list_all (λ index. index == 0) (indexes j samples))
+  pub used : (j : ℕ) → j < 4
+      → (runs_at g j).is_used ≡ not (list_all (λ index. index == 0) (indexes j samples))
 
 -- What is gathered of samples is what they have.
 abbrev pub GatheringSumsUp : Type 0
-GatheringSumsUp = (s : SampleAt) (samples : List SampleAt) → (g : Gathered) × (gather_all None (s ∷ samples) ≡ Some g) × SumsUp (s ∷ samples) g
+GatheringSumsUp = (s : SampleAt) (samples : List SampleAt) → (g : Gathered)
+    × (gather_all None (s ∷ samples) ≡ Some g) × SumsUp (s ∷ samples) g

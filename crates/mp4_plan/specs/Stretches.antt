@@ -34,15 +34,18 @@ pub record AreBytesOf (spans : List Span) (samples : List SampleAt) : Type 0 whe
 abbrev pub spans_of : Stretches → List Span
 spans_of s = take s.used s.earlier ++ s.last ∷ []
 
--- These samples were added so far: their bytes are those that are kept, but where some were left out.
+-- These samples were added so far: their bytes are those that are kept, but where some were left
+-- out.
 pub record Tells (s : Stretches) (samples : List SampleAt) : Type 0 where
   pub ordered : s.last.at ≤ s.last.end
   pub kept : s.are_all ≡ true → AreBytesOf (spans_of s) samples
 
 -- These were added too.
 abbrev pub JoinsOn : Stretches → Stretches → List SampleAt → Type 0
-JoinsOn before after samples = (earlier : List SampleAt) → Tells before earlier → Tells after (earlier ++ samples)
+JoinsOn before after samples = (earlier : List SampleAt) → Tells before earlier
+    → Tells after (earlier ++ samples)
 
--- There is room for a stretch more, and the sample ends at a place of 64 bits: then none is left out.
+-- There is room for a stretch more, and the sample ends at a place of 64 bits: then none is left
+-- out.
 abbrev pub IsRoomFor : Stretches → SampleAt → Type 0
 IsRoomFor s sample = (s.used < 15) × (sample.at + sample.size < 2 ^ 64)

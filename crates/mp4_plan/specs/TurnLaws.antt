@@ -1,4 +1,5 @@
--- Laws of turns: each takes the first of the pieces that are left, and where a track passes none is lost.
+-- Laws of turns: each takes the first of the pieces that are left, and where a track passes none is
+-- lost.
 use Rattle.std.specs.Prelude.{◌≡◌, ℕ, zero, suc, ◌<◌, ◌≤◌, ◌==◌, ◌&&◌, not, Bool, true, List, [], ◌∷◌, ◌++◌, length, take, drop, Option, Some, None}
 use Rattle.std.specs.List.{AllByRecursion, prefix_len}
 use Rattle.mp4_plan.specs.Pieces.{TimedSample, Piece}
@@ -14,7 +15,8 @@ use Rattle.mp4_plan.specs.declared.schedule.Schedule.{Schedule}
 abbrev pub goes : End → ℕ → TimedSample → Bool
 goes end description s = not (stops end s) && s.sample.description == description
 
--- how many of the next samples a turn takes: up to the first at which the piece has ended, or of another description
+-- how many of the next samples a turn takes: up to the first at which the piece has ended, or of
+-- another description
 abbrev pub turn_count : End → List TimedSample → ℕ
 turn_count end samples = prefix_len (goes end (first_description samples)) samples
 
@@ -27,7 +29,11 @@ abbrev pub taken_by : End → Coming → List Piece
 taken_by end t = piece_if t.id (take (turn_count end t.samples) t.samples)
 
 abbrev pub after_turn : End → Coming → Coming
-after_turn end t = record { id = t.id; timescale = t.timescale; samples = drop (turn_count end t.samples) t.samples }
+after_turn end t = record {
+  id = t.id;
+  timescale = t.timescale;
+  samples = drop (turn_count end t.samples) t.samples;
+}
 
 -- the piece has ended: no sample is left, or it ends where the next one comes
 abbrev pub IsOver : End → List TimedSample → Type 0
@@ -43,9 +49,12 @@ next_time (s ∷ samples) = Some s.time
 -- the tracks before this one have passed
 abbrev pub HavePassed : Option ℕ → ℕ → ℕ → List Coming → Type 0
 HavePassed next first zero others = Unit {0}
-HavePassed next first (suc i) others = AllByRecursion (λ (t : Coming). rest (stops (end_of_other next first t)) t.samples ≡ t.samples) (take i others)
+HavePassed next first (suc i) others =
+    AllByRecursion (λ (t : Coming). rest (stops (end_of_other next first t)) t.samples ≡ t.samples)
+    (take i others)
 
--- the schedule stands somewhere among these tracks; behind the last of them it stands only where no fragment follows
+-- the schedule stands somewhere among these tracks; behind the last of them it stands only where no
+-- fragment follows
 pub record IsAmong (s : Schedule) (first : Coming) (others : List Coming) : Type 0 where
   pub tracks : s.tracks ≡ suc (length others)
   pub track : s.track ≤ s.tracks
@@ -57,29 +66,41 @@ pub record IsAmong (s : Schedule) (first : Coming) (others : List Coming) : Type
 
 -- A turn of the first track takes the first of the pieces that are left.
 abbrev pub FirstTakes : Type 0
-FirstTakes = (s : Schedule) (first : Coming) (others : List Coming) → s.track ≡ 0 → IsAmong s first others
-    → (pieces_left s first others ≡ taken_by (end_of_first s.from first) first ++ pieces_left s (after_turn (end_of_first s.from first) first) others)
+FirstTakes = (s : Schedule) (first : Coming) (others : List Coming) → s.track ≡ 0
+    → IsAmong s first others
+    → (pieces_left s first others ≡ taken_by (end_of_first s.from first) first
+    ++ pieces_left s (after_turn (end_of_first s.from first) first) others)
     × IsAmong s (after_turn (end_of_first s.from first) first) others
 
 -- So does one of another track.
 abbrev pub OtherTakes : Type 0
-OtherTakes = (s : Schedule) (first : Coming) (before after : List Coming) (t : Coming) → s.track ≡ suc (length before) → IsAmong s first (before ++ t ∷ after)
+OtherTakes = (s : Schedule) (first : Coming) (before after : List Coming) (t : Coming)
+    → s.track ≡ suc (length before) → IsAmong s first (before ++ t ∷ after)
     → (let end = end_of_other s.next first.timescale t in
-    (pieces_left s first (before ++ t ∷ after) ≡ taken_by end t ++ pieces_left s first (before ++ after_turn end t ∷ after)) × IsAmong s first (before ++ after_turn end t ∷ after))
+    (pieces_left s first (before ++ t ∷ after) ≡ taken_by end t
+    ++ pieces_left s first (before ++ after_turn end t ∷ after))
+    × IsAmong s first (before ++ after_turn end t ∷ after))
 
 -- Where the piece of a track has ended, the same pieces are left when it has passed.
 abbrev pub FirstPasses : Type 0
-FirstPasses = (s : Schedule) (first : Coming) (others : List Coming) → s.track ≡ 0 → IsAmong s first others → IsOver (end_of_first s.from first) first.samples
-    → (pieces_left s first others ≡ pieces_left (track_passed s (next_time first.samples)) first others) × IsAmong (track_passed s (next_time first.samples)) first others
+FirstPasses = (s : Schedule) (first : Coming) (others : List Coming) → s.track ≡ 0
+    → IsAmong s first others → IsOver (end_of_first s.from first) first.samples
+    → (pieces_left s first others
+    ≡ pieces_left (track_passed s (next_time first.samples)) first others)
+    × IsAmong (track_passed s (next_time first.samples)) first others
 
 abbrev pub OtherPasses : Type 0
-OtherPasses = (s : Schedule) (first : Coming) (before after : List Coming) (t : Coming) (time : Option ℕ) → s.track ≡ suc (length before) → IsAmong s first (before ++ t ∷ after)
+OtherPasses = (s : Schedule) (first : Coming) (before after : List Coming) (t : Coming)
+    (time : Option ℕ) → s.track ≡ suc (length before) → IsAmong s first (before ++ t ∷ after)
     → IsOver (end_of_other s.next first.timescale t) t.samples
-    → (pieces_left s first (before ++ t ∷ after) ≡ pieces_left (track_passed s time) first (before ++ t ∷ after)) × IsAmong (track_passed s time) first (before ++ t ∷ after)
+    → (pieces_left s first (before ++ t ∷ after)
+    ≡ pieces_left (track_passed s time) first (before ++ t ∷ after))
+    × IsAmong (track_passed s time) first (before ++ t ∷ after)
 
 -- Behind the last track none is left.
 abbrev pub NoneLeft : Type 0
-NoneLeft = (s : Schedule) (first : Coming) (others : List Coming) → IsAmong s first others → s.track ≡ s.tracks → pieces_left s first others ≡ []
+NoneLeft = (s : Schedule) (first : Coming) (others : List Coming) → IsAmong s first others
+    → s.track ≡ s.tracks → pieces_left s first others ≡ []
 
 -- So turns take the pieces that are left one after the other.
 pub record TurnsTakeAll : Type 0 where

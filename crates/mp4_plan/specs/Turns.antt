@@ -19,11 +19,13 @@ to_come s = s.left * (s.tracks + 2) + (s.tracks - s.track) + follows_one s.track
 -- behind the last track another fragment begins, if one follows
 abbrev pub wrapped : Schedule → Option ℕ → Schedule
 wrapped s None = s
-wrapped s (Some cut) = if s.track == s.tracks then record s { from = cut; next = None; track = 0 } else s
+wrapped s (Some cut) = if s.track == s.tracks then record s { from = cut; next = None; track = 0 }
+    else s
 
 -- the first track says when the next fragment begins
 abbrev pub track_passed : Schedule → Option ℕ → Schedule
-track_passed s time = if s.track == 0 then wrapped (record s { next = time; track = 1 }) time else wrapped (record s { track = s.track + 1 }) s.next
+track_passed s time = if s.track == 0 then wrapped (record s { next = time; track = 1 }) time
+    else wrapped (record s { track = s.track + 1 }) s.next
 
 -- the timescale of the first of some tracks, 0 without one
 abbrev pub first_scale : List TrackInfo → ℕ
@@ -34,7 +36,8 @@ first_scale (t ∷ tracks) = t.timescale
 abbrev pub turn_end : Schedule → ℕ → End
 turn_end s scale = if s.track == 0 then Sync s.from scale else Before s.next s.first scale
 
--- the track's pieces of this fragment are over: no sample is left, or the next one is behind the end
+-- the track's pieces of this fragment are over: no sample is left, or the next one is behind the
+-- end
 abbrev pub is_over : End → Option SampleAt → Bool
 is_over end None = true
 is_over end (Some s) = has_ended end s
@@ -43,9 +46,11 @@ is_over end (Some s) = has_ended end s
 abbrev pub turned : Schedule → End → ℕ → Option SampleAt → Schedule
 turned s end count sample =
     let rest = record s { left = s.left - count } in
-    if is_over end sample then track_passed rest (option_map (λ (next : SampleAt). next.dts) sample) else rest
+    if is_over end sample then track_passed rest (option_map (λ (next : SampleAt). next.dts) sample)
+    else rest
 
--- a turn without samples may pass the track: its pieces are over, and in the first track no sample is left
+-- a turn without samples may pass the track: its pieces are over, and in the first track no sample
+-- is left
 abbrev pub MayPass : Schedule → End → Option SampleAt → Type 0
 MayPass s end sample = (is_over end sample ≡ true) × (s.track ≡ 0 → sample ≡ None)
 

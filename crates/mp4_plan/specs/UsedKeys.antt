@@ -34,7 +34,8 @@ place_at keys key = index_at key (placed 0 keys)
 -- the keys that have rows, where the j-th number is that of the first
 abbrev pub used_from : List ℕ → ℕ → List GroupKey → List GroupKey
 used_from rows j [] = []
-used_from rows j (key ∷ keys) = if nat_lt 0 (slice_index rows j) then key ∷ used_from rows (j + 1) keys else used_from rows (j + 1) keys
+used_from rows j (key ∷ keys) = if nat_lt 0 (slice_index rows j)
+    then key ∷ used_from rows (j + 1) keys else used_from rows (j + 1) keys
 
 -- ---- one key after the other
 
@@ -51,7 +52,8 @@ is_below (Some best) key = nat_lt (key_rank key) (key_rank best)
 -- the least of these keys and the one that was found, of those above the last that was written
 abbrev pub least_above : Option ℕ → Option GroupKey → List GroupKey → Option GroupKey
 least_above behind found [] = found
-least_above behind found (key ∷ keys) = least_above behind (if is_above behind key && is_below found key then Some key else found) keys
+least_above behind found (key ∷ keys) = least_above behind (if is_above behind key
+    && is_below found key then Some key else found) keys
 
 -- the key that was found
 abbrev pub used_seen : Option UsedKey → Option GroupKey
@@ -69,12 +71,15 @@ key_front key = with_parameter key.parameter
 
 -- an `sbgp` with so many rows as far as them
 unfoldable pub group_front : GroupKey → ℕ → List ℕ
-group_front key rows = box_front (codes "sbgp") (short (group_size key.parameter rows)) ++ key_front key ++ big_bytes 4 rows
+group_front key rows = box_front (codes "sbgp") (short (group_size key.parameter rows))
+    ++ key_front key ++ big_bytes 4 rows
 
 -- the `sbgp` of the key at this place
 unfoldable pub group_bytes : List Row → Planned → ℕ → GroupKey → List ℕ
-group_bytes rows p place key = group_front key (slice_index p.group_rows place) ++ group_rows place rows
+group_bytes rows p place key = group_front key (slice_index p.group_rows place)
+    ++ group_rows place rows
 
 -- one for each key that is used, in the order of keys
 abbrev pub groups_bytes : List Row → Planned → List GroupKey → List ℕ
-groups_bytes rows p keys = flat_map (λ key. group_bytes rows p (place_at keys key) key) (in_key_order (used_from p.group_rows 0 keys))
+groups_bytes rows p keys = flat_map (λ key. group_bytes rows p (place_at keys key) key)
+    (in_key_order (used_from p.group_rows 0 keys))

@@ -47,9 +47,11 @@ pub record IsWriterOf (m : MovieSeen) (w : Writer) : Type 0 where
 abbrev pub rooms : List Walk → ℕ
 rooms walks = sum_by (λ (walk : Walk). length walk.bytes.items) walks
 
--- all that a writer holds whose length the file decides: its head, the buffer in which bytes wait, 24 bytes for each row, and a `moof` in each walk
+-- all that a writer holds whose length the file decides: its head, the buffer in which bytes wait,
+-- 24 bytes for each row, and a `moof` in each walk
 abbrev pub held : Writer → ℕ
-held w = length w.head.items + length w.carrier.buffer.items + 24 * length w.rows.items + rooms w.planning.items + rooms w.copying.items
+held w = length w.head.items + length w.carrier.buffer.items + 24 * length w.rows.items
+    + rooms w.planning.items + rooms w.copying.items
 
 -- Why what was read before is not made again: there is no memory, or the bytes are others.
 abbrev pub RefusesMemory : Refusal → Type 0
@@ -67,7 +69,9 @@ RefusesPlan reads reads_after _ = ⊥
 -- what a piece of so many samples says once, of which the first is this one
 abbrev pub turn_head : ℕ → ℕ → ℕ → Option SampleAt → Option PieceHead
 turn_head sequence id count None = None
-turn_head sequence id count (Some s) = if nat_lt 0 count then Some (record { sequence = sequence; id = id; time = s.dts; description = s.description }) else None
+turn_head sequence id count (Some s) = if nat_lt 0 count
+    then Some (record { sequence = sequence; id = id; time = s.dts; description = s.description })
+    else None
 
 -- the sequence number behind a piece, as far as 32 bits go
 abbrev pub sequence_behind : ℕ → Option PieceHead → ℕ
@@ -81,14 +85,17 @@ abbrev pub WhereOpened : Bool → List ℕ → MovieSeen → (FileTree → Type 
 WhereOpened honest file m P = IsTrue honest → (tree : FileTree) → IsOpenedAs file m tree → P tree
 
 -- for each track a walk of which these samples come
-abbrev pub AllCome : List ℕ → FileTree → MovieSeen → List TrackTree → List Walk → List (List SampleAt) → Type 0
+abbrev pub AllCome : List ℕ → FileTree → MovieSeen → List TrackTree → List Walk
+    → List (List SampleAt) → Type 0
 AllCome file tree m [] [] [] = Unit {0}
-AllCome file tree m (t ∷ trees) (w ∷ walks) (samples ∷ more) = Comes file tree t m w samples × AllCome file tree m trees walks more
+AllCome file tree m (t ∷ trees) (w ∷ walks) (samples ∷ more) = Comes file tree t m w samples
+    × AllCome file tree m trees walks more
 AllCome file tree m _ _ _ = ⊥
 
 -- for each track a walk from its first sample on
 abbrev pub AllBegin : List ℕ → FileTree → MovieSeen → List Walk → Type 0
-AllBegin file tree m walks = AllCome file tree m tree.movie.tracks walks (map (track_samples tree) tree.movie.tracks)
+AllBegin file tree m walks = AllCome file tree m tree.movie.tracks walks
+    (map (track_samples tree) tree.movie.tracks)
 
 -- the most samples of a piece
 abbrev pub longest_piece : List Piece → ℕ
@@ -98,7 +105,8 @@ longest_piece pieces = fold (λ most (piece : Piece). max most (length piece.sam
 abbrev pub head_of_normal : Presentation → List ℕ
 head_of_normal p = written.head_bytes p.movie (heads p) (movie_length p)
 
--- A writer that has put nothing yet: the head of the normal form waits, or its front, with the rest behind it, and there are as many rows as the longest piece has samples.
+-- A writer that has put nothing yet: the head of the normal form waits, or its front, with the rest
+-- behind it, and there are as many rows as the longest piece has samples.
 pub record IsReady (file : List ℕ) (tree : FileTree) (m : MovieSeen) (w : Writer) : Type 0 where
   pub head : waiting w.carrier ++ w.head.items ≡ head_of_normal (presentation_of file tree)
   pub rows : length w.rows.items ≡ longest_piece (pieces (presentation_of file tree))
@@ -106,8 +114,10 @@ pub record IsReady (file : List ℕ) (tree : FileTree) (m : MovieSeen) (w : Writ
   pub copying : AllBegin file tree m w.copying.items
   pub behind : AllByRecursion (λ (n : ℕ). n ≡ 0) w.behind.items
 
--- What was noted at a turn, of a track of which these samples come: a piece of them, and its walk stands behind it.
-pub record HasNoted (file : List ℕ) (tree : FileTree) (t : TrackTree) (m : MovieSeen) (turn : Turn) (sequence id : ℕ) (left : List SampleAt) (before after : Writer) (n : Noted) : Type 0 where
+-- What was noted at a turn, of a track of which these samples come: a piece of them, and its walk
+-- stands behind it.
+pub record HasNoted (file : List ℕ) (tree : FileTree) (t : TrackTree) (m : MovieSeen) (turn : Turn)
+    (sequence id : ℕ) (left : List SampleAt) (before after : Writer) (n : Noted) : Type 0 where
   pub planned : n.planned ≡ planned_of (piece_fed (piece_from turn.end) left).gathered
   pub head : n.head ≡ turn_head sequence id n.planned.count (slice_get left 0)
   pub next : n.next ≡ slice_get (samples_after (piece_from turn.end) left) 0
@@ -120,7 +130,8 @@ pub record HasNoted (file : List ℕ) (tree : FileTree) (t : TrackTree) (m : Mov
 
 -- what is written of a piece, by what was planned of its samples
 abbrev pub bytes_of_piece : List ℕ → PieceHead → Planned → List GroupKey → List SampleAt → List ℕ
-bytes_of_piece file head p keys samples = piece_front head p keys (map row_seen samples) ++ sample_bytes file samples
+bytes_of_piece file head p keys samples = piece_front head p keys (map row_seen samples)
+    ++ sample_bytes file samples
 
 -- what is written at a turn: a piece, or nothing where it has no head
 abbrev pub turn_bytes : List ℕ → Option PieceHead → Planned → List GroupKey → List SampleAt → List ℕ
@@ -128,14 +139,17 @@ turn_bytes file None p keys samples = []
 turn_bytes file (Some head) p keys samples = bytes_of_piece file head p keys samples
 
 -- So many samples come in a walk that were copied without it, and then these.
-pub record ComesBehind (file : List ℕ) (tree : FileTree) (t : TrackTree) (m : MovieSeen) (walk : Walk) (behind : ℕ) (samples : List SampleAt) : Type 0 where
+pub record ComesBehind (file : List ℕ) (tree : FileTree) (t : TrackTree) (m : MovieSeen)
+    (walk : Walk) (behind : ℕ) (samples : List SampleAt) : Type 0 where
   pub copied : List SampleAt
   pub many : length copied ≡ behind
   pub comes : Comes file tree t m walk (copied ++ samples)
   pub few : behind + length samples ≤ 2 ^ 24
 
--- The samples of a track that are to be copied were noted, so many of them: their rows, and where their bytes lie.
-pub record IsNoted (file : List ℕ) (tree : FileTree) (m : MovieSeen) (track count : ℕ) (samples : List SampleAt) (w : Writer) : Type 0 where
+-- The samples of a track that are to be copied were noted, so many of them: their rows, and where
+-- their bytes lie.
+pub record IsNoted (file : List ℕ) (tree : FileTree) (m : MovieSeen) (track count : ℕ)
+    (samples : List SampleAt) (w : Writer) : Type 0 where
   pub t : TrackTree
   pub walk : Walk
   pub behind : ℕ
@@ -146,10 +160,16 @@ pub record IsNoted (file : List ℕ) (tree : FileTree) (m : MovieSeen) (track co
   pub stretches : Tells w.stretches (take count samples)
 
 -- so many samples of a track were copied, by its walk or without it
-abbrev pub HaveCopied : List ℕ → FileTree → MovieSeen → ℕ → ℕ → List SampleAt → Writer → Writer → Type 0
+abbrev pub HaveCopied : List ℕ → FileTree → MovieSeen → ℕ → ℕ → List SampleAt → Writer → Writer
+    → Type 0
 HaveCopied file tree m track count samples before after =
-    (t : TrackTree) (walk : Walk) (behind : ℕ) → slice_get before.copying.items track ≡ Some walk → slice_get before.behind.items track ≡ Some behind → ComesBehind file tree t m walk behind samples
-    → (next : Walk) × (later : ℕ) × (after.copying.items ≡ slice_set before.copying.items track next) × (after.behind.items ≡ slice_set before.behind.items track later) × ComesBehind file tree t m next later (drop count samples)
+    (t : TrackTree) (walk : Walk) (behind : ℕ) → slice_get before.copying.items track ≡ Some walk
+    → slice_get before.behind.items track ≡ Some behind
+    → ComesBehind file tree t m walk behind samples
+    → (next : Walk) × (later : ℕ)
+    × (after.copying.items ≡ slice_set before.copying.items track next)
+    × (after.behind.items ≡ slice_set before.behind.items track later)
+    × ComesBehind file tree t m next later (drop count samples)
 
 -- the next sample of each track
 abbrev pub firsts : List (List SampleAt) → List (Option SampleAt)

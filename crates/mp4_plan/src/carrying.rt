@@ -22,7 +22,8 @@ use mp4_store::{Sink, Store};
 use mp4_tables::Samples;
 use std::sync::ledger::Ledger;
 
-// What passing samples in hand came to: how many more are to be passed, and from where the walk goes on.
+// What passing samples in hand came to: how many more are to be passed, and from where the walk
+// goes on.
 #[derive(Drop)]
 struct PassedHand {
     left: u32,
@@ -114,8 +115,8 @@ pub(crate) struct Load {
     pub(crate) bytes: u64,
 }
 
-// Takes the bytes of samples in hand along, and says what is left then. Where they have more bytes than are left, the
-// store has changed.
+// Takes the bytes of samples in hand along, and says what is left then. Where they have more bytes
+// than are left, the store has changed.
 fn carry_hand<S: Store, K: Sink>(
     hand: &mut InHand,
     load: Load,
@@ -124,17 +125,26 @@ fn carry_hand<S: Store, K: Sink>(
     sink: &mut K,
 ) -> Result<Load, Refusal>
     ensures later { OnOk result (Follows hand.old hand.new) }
-    ensures bytes { IfOk result (λ left. IsTrue (S.is_honest store.old) → BytesCarried (S.file store.old) (K.contents sink.old) (K.contents sink.new) (waiting carrier.old) (waiting carrier.new) (left_in_hand hand.old) (left_in_hand hand.new) load left) }
-    ensures prefix { OnErr result (IsTrue (S.is_honest store.old) → AppendsPrefix (K.contents sink.old) (K.contents sink.new) (waiting carrier.old ++ sample_bytes (S.file store.old) (take load.samples (left_in_hand hand.old)))) }
+    ensures bytes { IfOk result (λ left. IsTrue (S.is_honest store.old)
+        → BytesCarried (S.file store.old) (K.contents sink.old) (K.contents sink.new)
+        (waiting carrier.old) (waiting carrier.new) (left_in_hand hand.old) (left_in_hand hand.new)
+        load left) }
+    ensures prefix { OnErr result (IsTrue (S.is_honest store.old)
+        → AppendsPrefix (K.contents sink.old) (K.contents sink.new) (waiting carrier.old
+        ++ sample_bytes (S.file store.old) (take load.samples (left_in_hand hand.old)))) }
     ensures ends { IfOk result (λ left. 0 < left.samples → left_in_hand hand.new ≡ []) }
-    ensures unchanged { IsTrue (S.is_honest store.old) → AllByRecursion (IsBelow (length (S.file store.old))) (left_in_hand hand.old) → sizes_of (take load.samples (left_in_hand hand.old)) ≤ load.bytes
+    ensures unchanged { IsTrue (S.is_honest store.old)
+        → AllByRecursion (IsBelow (length (S.file store.old))) (left_in_hand hand.old)
+        → sizes_of (take load.samples (left_in_hand hand.old)) ≤ load.bytes
         → IfErr result (λ r. r ≡ refusals.StoreChanged → ⊥) }
     ensures honesty { S.is_honest store.new ≡ S.is_honest store.old }
     ensures file { S.file store.new ≡ S.file store.old }
     ensures room { vec_len carrier.new.buffer ≡ vec_len carrier.old.buffer }
     ensures reads { OnOk result (S.read_failures store.new ≡ S.read_failures store.old) }
     ensures puts { OnOk result (K.put_failures sink.new ≡ K.put_failures sink.old) }
-    ensures refusal { IfErr result (RefusesCarry (S.read_failures store.old) (S.read_failures store.new) (K.put_failures sink.old) (K.put_failures sink.new)) }
+    ensures refusal { IfErr result
+        (RefusesCarry (S.read_failures store.old) (S.read_failures store.new)
+        (K.put_failures sink.old) (K.put_failures sink.new)) }
 {
     let mut left = load;
     while let Some(stretch) = next_stretch(hand, left.samples) {
@@ -165,20 +175,41 @@ fn carry_piece<S: Store, K: Sink, L: Ledger>(
     ensures room { length walk.new.bytes.items ≡ length walk.old.bytes.items }
     ensures honesty { S.is_honest store.new ≡ S.is_honest store.old }
     ensures file { S.file store.new ≡ S.file store.old }
-    ensures carried { IsTrue (S.is_honest store.old) → (tree : FileTree) (t : TrackTree) (samples : List SampleAt) → IsOpenedAs (S.file store.old) movie.now tree → Comes (S.file store.old) tree t movie.now walk.old samples
-        → OnOk result (BytesGoOn (K.contents sink.old) (K.contents sink.new) (waiting carrier.old) (waiting carrier.new) (sample_bytes (S.file store.old) (take load.samples samples)) × Comes (S.file store.old) tree t movie.now walk.new (drop load.samples samples)) }
-    ensures prefix { IsTrue (S.is_honest store.old) → (tree : FileTree) (t : TrackTree) (samples : List SampleAt) → IsOpenedAs (S.file store.old) movie.now tree → Comes (S.file store.old) tree t movie.now walk.old samples
-        → OnErr result (AppendsPrefix (K.contents sink.old) (K.contents sink.new) (waiting carrier.old ++ sample_bytes (S.file store.old) (take load.samples samples))) }
-    ensures unchanged { IsTrue (S.is_honest store.old) → (tree : FileTree) (t : TrackTree) (samples : List SampleAt) → IsOpenedAs (S.file store.old) movie.now tree → Comes (S.file store.old) tree t movie.now walk.old samples
-        → load.samples ≤ length samples → load.bytes ≡ sizes_of (take load.samples samples) → AllByRecursion (IsBelow (length (S.file store.old))) samples → IfErr result (λ r. r ≡ refusals.StoreChanged → ⊥) }
+    ensures carried { IsTrue (S.is_honest store.old)
+        → (tree : FileTree) (t : TrackTree) (samples : List SampleAt)
+        → IsOpenedAs (S.file store.old) movie.now tree
+        → Comes (S.file store.old) tree t movie.now walk.old samples
+        → OnOk result (BytesGoOn (K.contents sink.old) (K.contents sink.new) (waiting carrier.old)
+        (waiting carrier.new) (sample_bytes (S.file store.old) (take load.samples samples))
+        × Comes (S.file store.old) tree t movie.now walk.new (drop load.samples samples)) }
+    ensures prefix { IsTrue (S.is_honest store.old)
+        → (tree : FileTree) (t : TrackTree) (samples : List SampleAt)
+        → IsOpenedAs (S.file store.old) movie.now tree
+        → Comes (S.file store.old) tree t movie.now walk.old samples
+        → OnErr result
+        (AppendsPrefix (K.contents sink.old) (K.contents sink.new) (waiting carrier.old
+        ++ sample_bytes (S.file store.old) (take load.samples samples))) }
+    ensures unchanged { IsTrue (S.is_honest store.old)
+        → (tree : FileTree) (t : TrackTree) (samples : List SampleAt)
+        → IsOpenedAs (S.file store.old) movie.now tree
+        → Comes (S.file store.old) tree t movie.now walk.old samples
+        → load.samples ≤ length samples → load.bytes ≡ sizes_of (take load.samples samples)
+        → AllByRecursion (IsBelow (length (S.file store.old))) samples
+        → IfErr result (λ r. r ≡ refusals.StoreChanged → ⊥) }
     ensures buffer { vec_len carrier.new.buffer ≡ vec_len carrier.old.buffer }
-    ensures work { IsTrue (S.is_honest store.old) → (tree : FileTree) (t : TrackTree) (n : ℕ) → IsOpenedAs (S.file store.old) movie.now tree → MayTake (S.file store.old) tree t walk.old n
+    ensures work { IsTrue (S.is_honest store.old) → (tree : FileTree) (t : TrackTree) (n : ℕ)
+        → IsOpenedAs (S.file store.old) movie.now tree
+        → MayTake (S.file store.old) tree t walk.old n
         → OnOk result (TakesOn (S.file store.old) tree t n walk.new steps.old steps.new) }
-    ensures most { IsTrue (S.is_honest store.old) → (tree : FileTree) (t : TrackTree) (n : ℕ) → IsOpenedAs (S.file store.old) movie.now tree → MayTake (S.file store.old) tree t walk.old n
+    ensures most { IsTrue (S.is_honest store.old) → (tree : FileTree) (t : TrackTree) (n : ℕ)
+        → IsOpenedAs (S.file store.old) movie.now tree
+        → MayTake (S.file store.old) tree t walk.old n
         → OnErr result (steps.new ≤ steps.old + n) }
     ensures reads { OnOk result (S.read_failures store.new ≡ S.read_failures store.old) }
     ensures puts { OnOk result (K.put_failures sink.new ≡ K.put_failures sink.old) }
-    ensures refusal { IfErr result (RefusesCarry (S.read_failures store.old) (S.read_failures store.new) (K.put_failures sink.old) (K.put_failures sink.new)) }
+    ensures refusal { IfErr result
+        (RefusesCarry (S.read_failures store.old) (S.read_failures store.new)
+        (K.put_failures sink.old) (K.put_failures sink.new)) }
 {
     let mut left = load;
     loop {
@@ -217,17 +248,26 @@ pub(crate) fn carry_later<S: Store, K: Sink, L: Ledger>(
         → (tree : FileTree) (t : TrackTree) (samples : List SampleAt)
         → IsOpenedAs (S.file store.old) movie.now tree
         → Comes (S.file store.old) tree t movie.now walk.old samples
-        → OnOk result (BytesGoOn (K.contents sink.old) (K.contents sink.new) (waiting carrier.old) (waiting carrier.new) (sample_bytes (S.file store.old) (take load.samples (drop behind samples))) × Comes (S.file store.old) tree t movie.now walk.new (drop load.samples (drop behind samples))) }
+        → OnOk result (BytesGoOn (K.contents sink.old) (K.contents sink.new) (waiting carrier.old)
+        (waiting carrier.new)
+        (sample_bytes (S.file store.old) (take load.samples (drop behind samples)))
+        × Comes (S.file store.old) tree t movie.now walk.new
+        (drop load.samples (drop behind samples))) }
     ensures prefix { IsTrue (S.is_honest store.old)
         → (tree : FileTree) (t : TrackTree) (samples : List SampleAt)
         → IsOpenedAs (S.file store.old) movie.now tree
         → Comes (S.file store.old) tree t movie.now walk.old samples
-        → OnErr result (AppendsPrefix (K.contents sink.old) (K.contents sink.new) (waiting carrier.old ++ sample_bytes (S.file store.old) (take load.samples (drop behind samples)))) }
+        → OnErr result
+        (AppendsPrefix (K.contents sink.old) (K.contents sink.new) (waiting carrier.old
+        ++ sample_bytes (S.file store.old) (take load.samples (drop behind samples)))) }
     ensures unchanged { IsTrue (S.is_honest store.old)
         → (tree : FileTree) (t : TrackTree) (samples : List SampleAt)
         → IsOpenedAs (S.file store.old) movie.now tree
         → Comes (S.file store.old) tree t movie.now walk.old samples
-        → behind ≤ length samples → load.samples ≤ length (drop behind samples) → load.bytes ≡ sizes_of (take load.samples (drop behind samples)) → AllByRecursion (IsBelow (length (S.file store.old))) (drop behind samples) → IfErr result (λ r. r ≡ refusals.StoreChanged → ⊥) }
+        → behind ≤ length samples → load.samples ≤ length (drop behind samples)
+        → load.bytes ≡ sizes_of (take load.samples (drop behind samples))
+        → AllByRecursion (IsBelow (length (S.file store.old))) (drop behind samples)
+        → IfErr result (λ r. r ≡ refusals.StoreChanged → ⊥) }
     ensures buffer { vec_len carrier.new.buffer ≡ vec_len carrier.old.buffer }
     ensures work { IsTrue (S.is_honest store.old) → (tree : FileTree) (t : TrackTree) (n : ℕ)
         → IsOpenedAs (S.file store.old) movie.now tree

@@ -39,16 +39,28 @@ pub(crate) fn peek_sample<S: Store, L: Ledger>(
     ensures room { length walk.new.bytes.items ≡ length walk.old.bytes.items }
     ensures honesty { S.is_honest store.new ≡ S.is_honest store.old }
     ensures file { S.file store.new ≡ S.file store.old }
-    ensures coming { IsTrue (S.is_honest store.old) → (tree : FileTree) (t : TrackTree) (samples : List SampleAt) → IsOpenedAs (S.file store.old) movie.now tree → Comes (S.file store.old) tree t movie.now walk.old samples
-        → IfOk result (λ next. Comes (S.file store.old) tree t movie.now walk.new samples × (next ≡ slice_get samples 0)) }
-    ensures unchanged { IsTrue (S.is_honest store.old) → (tree : FileTree) (t : TrackTree) (samples : List SampleAt) → IsOpenedAs (S.file store.old) movie.now tree → Comes (S.file store.old) tree t movie.now walk.old samples
+    ensures coming { IsTrue (S.is_honest store.old)
+        → (tree : FileTree) (t : TrackTree) (samples : List SampleAt)
+        → IsOpenedAs (S.file store.old) movie.now tree
+        → Comes (S.file store.old) tree t movie.now walk.old samples
+        → IfOk result (λ next. Comes (S.file store.old) tree t movie.now walk.new samples
+        × (next ≡ slice_get samples 0)) }
+    ensures unchanged { IsTrue (S.is_honest store.old)
+        → (tree : FileTree) (t : TrackTree) (samples : List SampleAt)
+        → IsOpenedAs (S.file store.old) movie.now tree
+        → Comes (S.file store.old) tree t movie.now walk.old samples
         → IfErr result (λ r. r ≡ refusals.StoreChanged → ⊥) }
-    ensures work { IsTrue (S.is_honest store.old) → (tree : FileTree) (t : TrackTree) (n : ℕ) → IsOpenedAs (S.file store.old) movie.now tree → MayTake (S.file store.old) tree t walk.old n
+    ensures work { IsTrue (S.is_honest store.old) → (tree : FileTree) (t : TrackTree) (n : ℕ)
+        → IsOpenedAs (S.file store.old) movie.now tree
+        → MayTake (S.file store.old) tree t walk.old n
         → OnOk result (TakesOn (S.file store.old) tree t n walk.new steps.old steps.new) }
-    ensures most { IsTrue (S.is_honest store.old) → (tree : FileTree) (t : TrackTree) (n : ℕ) → IsOpenedAs (S.file store.old) movie.now tree → MayTake (S.file store.old) tree t walk.old n
+    ensures most { IsTrue (S.is_honest store.old) → (tree : FileTree) (t : TrackTree) (n : ℕ)
+        → IsOpenedAs (S.file store.old) movie.now tree
+        → MayTake (S.file store.old) tree t walk.old n
         → OnErr result (steps.new ≤ steps.old + n) }
     ensures reads { OnOk result (S.read_failures store.new ≡ S.read_failures store.old) }
-    ensures refusal { IfErr result (RefusesLoad (S.read_failures store.old) (S.read_failures store.new)) }
+    ensures refusal { IfErr result
+        (RefusesLoad (S.read_failures store.old) (S.read_failures store.new)) }
 {
     let mut next = walk.in_hand(movie).peek();
     while next.is_none() && walk.load(movie, store, steps)? {
@@ -90,7 +102,8 @@ fn stop_at(planner: &Planner, next: Option<SampleAt>) -> Stop
 fn feed_hand(planner: &mut Planner, walk: &Walk, movie: &Movie) -> FedHand
     requires walk { IsWalkOf movie.now walk.now }
     requires few { count_of planner.old.gathered ≤ MOST_SAMPLES }
-    ensures fed { HandFed movie.now walk.now (MOST_SAMPLES - count_of planner.old.gathered) planner.old planner.new result.stop result.place }
+    ensures fed { HandFed movie.now walk.now (MOST_SAMPLES - count_of planner.old.gathered)
+        planner.old planner.new result.stop result.place }
     ensures few { count_of planner.new.gathered ≤ MOST_SAMPLES }
     ensures place { IsWalkOf movie.now (record walk.now { place = result.place }) }
     ensures keeps { KeepsOn movie.now walk.now result.place }
@@ -116,7 +129,8 @@ fn note_hand(
 ) -> FedHand
     requires walk { IsWalkOf movie.now walk.now }
     requires few { count_of planner.old.gathered + length rows.old < 2 ^ 32 }
-    ensures fed { HandNoted movie.now walk.now (length rows.old) planner.old planner.new result.stop result.place rows.new stretches.old stretches.new }
+    ensures fed { HandNoted movie.now walk.now (length rows.old)
+        planner.old planner.new result.stop result.place rows.new stretches.old stretches.new }
     ensures few { count_of planner.new.gathered ≤ count_of planner.old.gathered + length rows.old }
     ensures place { IsWalkOf movie.now (record walk.now { place = result.place }) }
     ensures keeps { KeepsOn movie.now walk.now result.place }
@@ -142,19 +156,32 @@ pub(crate) fn plan_piece<S: Store, L: Ledger>(
     ensures room { length walk.new.bytes.items ≡ length walk.old.bytes.items }
     ensures honesty { S.is_honest store.new ≡ S.is_honest store.old }
     ensures file { S.file store.new ≡ S.file store.old }
-    ensures planned { IsTrue (S.is_honest store.old) → (tree : FileTree) (t : TrackTree) (samples : List SampleAt) → IsOpenedAs (S.file store.old) movie.now tree → Comes (S.file store.old) tree t movie.now walk.old samples
-        → IfOk result (λ p. (p ≡ planned_of (piece_fed (piece_from end) samples).gathered) × Comes (S.file store.old) tree t movie.now walk.new (samples_after (piece_from end) samples)) }
-    ensures unchanged { IsTrue (S.is_honest store.old) → (tree : FileTree) (t : TrackTree) (samples : List SampleAt) → IsOpenedAs (S.file store.old) movie.now tree → Comes (S.file store.old) tree t movie.now walk.old samples
+    ensures planned { IsTrue (S.is_honest store.old)
+        → (tree : FileTree) (t : TrackTree) (samples : List SampleAt)
+        → IsOpenedAs (S.file store.old) movie.now tree
+        → Comes (S.file store.old) tree t movie.now walk.old samples
+        → IfOk result (λ p. (p ≡ planned_of (piece_fed (piece_from end) samples).gathered)
+        × Comes (S.file store.old) tree t movie.now walk.new
+        (samples_after (piece_from end) samples)) }
+    ensures unchanged { IsTrue (S.is_honest store.old)
+        → (tree : FileTree) (t : TrackTree) (samples : List SampleAt)
+        → IsOpenedAs (S.file store.old) movie.now tree
+        → Comes (S.file store.old) tree t movie.now walk.old samples
         → length samples ≤ MOST_SAMPLES → IfErr result (λ r. r ≡ refusals.StoreChanged → ⊥) }
     ensures few { IfOk result (λ p. p.count ≤ MOST_SAMPLES) }
     ensures rows { IfOk result (λ p. (j : ℕ) → slice_index p.group_rows j ≤ p.count) }
     ensures bytes { IfOk result (λ p. p.bytes ≤ p.count * 4294967295) }
-    ensures work { IsTrue (S.is_honest store.old) → (tree : FileTree) (t : TrackTree) (n : ℕ) → IsOpenedAs (S.file store.old) movie.now tree → MayTake (S.file store.old) tree t walk.old n
+    ensures work { IsTrue (S.is_honest store.old) → (tree : FileTree) (t : TrackTree) (n : ℕ)
+        → IsOpenedAs (S.file store.old) movie.now tree
+        → MayTake (S.file store.old) tree t walk.old n
         → OnOk result (TakesOn (S.file store.old) tree t n walk.new steps.old steps.new) }
-    ensures most { IsTrue (S.is_honest store.old) → (tree : FileTree) (t : TrackTree) (n : ℕ) → IsOpenedAs (S.file store.old) movie.now tree → MayTake (S.file store.old) tree t walk.old n
+    ensures most { IsTrue (S.is_honest store.old) → (tree : FileTree) (t : TrackTree) (n : ℕ)
+        → IsOpenedAs (S.file store.old) movie.now tree
+        → MayTake (S.file store.old) tree t walk.old n
         → OnErr result (steps.new ≤ steps.old + n) }
     ensures reads { OnOk result (S.read_failures store.new ≡ S.read_failures store.old) }
-    ensures refusal { IfErr result (RefusesLoad (S.read_failures store.old) (S.read_failures store.new)) }
+    ensures refusal { IfErr result
+        (RefusesLoad (S.read_failures store.old) (S.read_failures store.new)) }
 {
     let mut planner = Planner::new(end);
     loop {
@@ -172,7 +199,8 @@ pub(crate) fn plan_piece<S: Store, L: Ledger>(
     }
 }
 
-/// Plans the piece of a turn, which may have no samples, of a walk of which this sample is the next.
+/// Plans the piece of a turn, which may have no samples, of a walk of which this sample is the
+/// next.
 pub(crate) fn plan_turn<S: Store, L: Ledger>(
     walk: &mut Walk,
     next: &mut Option<SampleAt>,
@@ -186,26 +214,34 @@ pub(crate) fn plan_turn<S: Store, L: Ledger>(
     ensures room { length walk.new.bytes.items ≡ length walk.old.bytes.items }
     ensures honesty { S.is_honest store.new ≡ S.is_honest store.old }
     ensures file { S.file store.new ≡ S.file store.old }
-    ensures planned { IsTrue (S.is_honest store.old) → (tree : FileTree) (t : TrackTree) (samples : List SampleAt)
-        → IsOpenedAs (S.file store.old) movie.now tree → Comes (S.file store.old) tree t movie.now walk.old samples
+    ensures planned { IsTrue (S.is_honest store.old)
+        → (tree : FileTree) (t : TrackTree) (samples : List SampleAt)
+        → IsOpenedAs (S.file store.old) movie.now tree
+        → Comes (S.file store.old) tree t movie.now walk.old samples
         → next.old ≡ slice_get samples 0
         → IfOk result (λ p. (p ≡ planned_of (piece_fed (piece_from end) samples).gathered)
-        × Comes (S.file store.old) tree t movie.now walk.new (samples_after (piece_from end) samples)
+        × Comes (S.file store.old) tree t movie.now walk.new
+        (samples_after (piece_from end) samples)
         × (next.new ≡ slice_get (samples_after (piece_from end) samples) 0)) }
-    ensures unchanged { IsTrue (S.is_honest store.old) → (tree : FileTree) (t : TrackTree) (samples : List SampleAt)
-        → IsOpenedAs (S.file store.old) movie.now tree → Comes (S.file store.old) tree t movie.now walk.old samples
+    ensures unchanged { IsTrue (S.is_honest store.old)
+        → (tree : FileTree) (t : TrackTree) (samples : List SampleAt)
+        → IsOpenedAs (S.file store.old) movie.now tree
+        → Comes (S.file store.old) tree t movie.now walk.old samples
         → length samples ≤ MOST_SAMPLES → IfErr result (λ r. r ≡ refusals.StoreChanged → ⊥) }
     ensures few { IfOk result (λ p. p.count ≤ MOST_SAMPLES) }
     ensures rows { IfOk result (λ p. (j : ℕ) → slice_index p.group_rows j ≤ p.count) }
     ensures bytes { IfOk result (λ p. p.bytes ≤ p.count * 4294967295) }
     ensures work { IsTrue (S.is_honest store.old) → (tree : FileTree) (t : TrackTree) (n : ℕ)
-        → IsOpenedAs (S.file store.old) movie.now tree → MayTake (S.file store.old) tree t walk.old n
+        → IsOpenedAs (S.file store.old) movie.now tree
+        → MayTake (S.file store.old) tree t walk.old n
         → OnOk result (TakesOn (S.file store.old) tree t n walk.new steps.old steps.new) }
     ensures most { IsTrue (S.is_honest store.old) → (tree : FileTree) (t : TrackTree) (n : ℕ)
-        → IsOpenedAs (S.file store.old) movie.now tree → MayTake (S.file store.old) tree t walk.old n
+        → IsOpenedAs (S.file store.old) movie.now tree
+        → MayTake (S.file store.old) tree t walk.old n
         → OnErr result (steps.new ≤ steps.old + n) }
     ensures reads { OnOk result (S.read_failures store.new ≡ S.read_failures store.old) }
-    ensures refusal { IfErr result (RefusesLoad (S.read_failures store.old) (S.read_failures store.new)) }
+    ensures refusal { IfErr result
+        (RefusesLoad (S.read_failures store.old) (S.read_failures store.new)) }
 {
     if !first_goes(&end, next) {
         return Ok(Planner::new(end).piece());
@@ -215,8 +251,8 @@ pub(crate) fn plan_turn<S: Store, L: Ledger>(
     Ok(planned)
 }
 
-/// Plans the next piece of a walk with this end, and notes its samples in the rows, and where their bytes lie. Where
-/// there is no room for the rows, the store has changed.
+/// Plans the next piece of a walk with this end, and notes its samples in the rows, and where their
+/// bytes lie. Where there is no room for the rows, the store has changed.
 pub(crate) fn note_piece<S: Store, L: Ledger>(
     walk: &mut Walk,
     end: End,
@@ -232,23 +268,43 @@ pub(crate) fn note_piece<S: Store, L: Ledger>(
     ensures room { length walk.new.bytes.items ≡ length walk.old.bytes.items }
     ensures honesty { S.is_honest store.new ≡ S.is_honest store.old }
     ensures file { S.file store.new ≡ S.file store.old }
-    ensures planned { IsTrue (S.is_honest store.old) → (tree : FileTree) (t : TrackTree) (samples : List SampleAt) → IsOpenedAs (S.file store.old) movie.now tree → Comes (S.file store.old) tree t movie.now walk.old samples
-        → IfOk result (λ p. (p ≡ planned_of (piece_fed (piece_from end) samples).gathered) × Comes (S.file store.old) tree t movie.now walk.new (samples_after (piece_from end) samples)) }
-    ensures noted { IsTrue (S.is_honest store.old) → (tree : FileTree) (t : TrackTree) (samples : List SampleAt) → IsOpenedAs (S.file store.old) movie.now tree → Comes (S.file store.old) tree t movie.now walk.old samples
+    ensures planned { IsTrue (S.is_honest store.old)
+        → (tree : FileTree) (t : TrackTree) (samples : List SampleAt)
+        → IsOpenedAs (S.file store.old) movie.now tree
+        → Comes (S.file store.old) tree t movie.now walk.old samples
+        → IfOk result (λ p. (p ≡ planned_of (piece_fed (piece_from end) samples).gathered)
+        × Comes (S.file store.old) tree t movie.now walk.new
+        (samples_after (piece_from end) samples)) }
+    ensures noted { IsTrue (S.is_honest store.old)
+        → (tree : FileTree) (t : TrackTree) (samples : List SampleAt)
+        → IsOpenedAs (S.file store.old) movie.now tree
+        → Comes (S.file store.old) tree t movie.now walk.old samples
         → IfOk result (λ p. take p.count rows.new ≡ map row_seen (take p.count samples)) }
-    ensures joined { IsTrue (S.is_honest store.old) → (tree : FileTree) (t : TrackTree) (samples : List SampleAt) → IsOpenedAs (S.file store.old) movie.now tree → Comes (S.file store.old) tree t movie.now walk.old samples
+    ensures joined { IsTrue (S.is_honest store.old)
+        → (tree : FileTree) (t : TrackTree) (samples : List SampleAt)
+        → IsOpenedAs (S.file store.old) movie.now tree
+        → Comes (S.file store.old) tree t movie.now walk.old samples
         → IfOk result (λ p. JoinsOn stretches.old stretches.new (take p.count samples)) }
-    ensures unchanged { IsTrue (S.is_honest store.old) → (tree : FileTree) (t : TrackTree) (samples : List SampleAt) → IsOpenedAs (S.file store.old) movie.now tree → Comes (S.file store.old) tree t movie.now walk.old samples
-        → more_of (piece_from end) samples ≤ length rows.old → IfErr result (λ r. r ≡ refusals.StoreChanged → ⊥) }
+    ensures unchanged { IsTrue (S.is_honest store.old)
+        → (tree : FileTree) (t : TrackTree) (samples : List SampleAt)
+        → IsOpenedAs (S.file store.old) movie.now tree
+        → Comes (S.file store.old) tree t movie.now walk.old samples
+        → more_of (piece_from end) samples ≤ length rows.old
+        → IfErr result (λ r. r ≡ refusals.StoreChanged → ⊥) }
     ensures few { IfOk result (λ p. p.count ≤ length rows.old) }
     ensures rows { IfOk result (λ p. (j : ℕ) → slice_index p.group_rows j ≤ p.count) }
     ensures bytes { IfOk result (λ p. p.bytes ≤ p.count * 4294967295) }
-    ensures work { IsTrue (S.is_honest store.old) → (tree : FileTree) (t : TrackTree) (n : ℕ) → IsOpenedAs (S.file store.old) movie.now tree → MayTake (S.file store.old) tree t walk.old n
+    ensures work { IsTrue (S.is_honest store.old) → (tree : FileTree) (t : TrackTree) (n : ℕ)
+        → IsOpenedAs (S.file store.old) movie.now tree
+        → MayTake (S.file store.old) tree t walk.old n
         → OnOk result (TakesOn (S.file store.old) tree t n walk.new steps.old steps.new) }
-    ensures most { IsTrue (S.is_honest store.old) → (tree : FileTree) (t : TrackTree) (n : ℕ) → IsOpenedAs (S.file store.old) movie.now tree → MayTake (S.file store.old) tree t walk.old n
+    ensures most { IsTrue (S.is_honest store.old) → (tree : FileTree) (t : TrackTree) (n : ℕ)
+        → IsOpenedAs (S.file store.old) movie.now tree
+        → MayTake (S.file store.old) tree t walk.old n
         → OnErr result (steps.new ≤ steps.old + n) }
     ensures reads { OnOk result (S.read_failures store.new ≡ S.read_failures store.old) }
-    ensures refusal { IfErr result (RefusesLoad (S.read_failures store.old) (S.read_failures store.new)) }
+    ensures refusal { IfErr result
+        (RefusesLoad (S.read_failures store.old) (S.read_failures store.new)) }
 {
     let mut planner = Planner::new(end);
     loop {

@@ -12,8 +12,8 @@ pub enum End {
         from: u64,
         scale: u32,
     },
-    /// In another track: at a sample with `dts * first >= cut * scale`, the decode time of the next cut in the first
-    /// track's timescale; never where there is no cut.
+    /// In another track: at a sample with `dts * first >= cut * scale`, the decode time of the next
+    /// cut in the first track's timescale; never where there is no cut.
     Before {
         cut: Option<u64>,
         first: u32,

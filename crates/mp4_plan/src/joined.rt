@@ -16,7 +16,8 @@ pub(crate) struct Span {
 /// No bytes.
 const NOTHING: Span = Span { at: 0, end: 0 };
 
-/// The bytes of some samples, in order: at most sixteen stretches of the file, the last of which may still grow.
+/// The bytes of some samples, in order: at most sixteen stretches of the file, the last of which
+/// may still grow.
 #[derive(Drop)]
 pub(crate) struct Stretches {
     earlier: [Span; 15],
@@ -41,8 +42,8 @@ impl Span {
         self.end.saturating_sub(self.at)
     }
 
-    // Takes the bytes of a stretch along, and says how many are left of so many. Where it has more, or lies outside the
-    // store, the store has changed.
+    // Takes the bytes of a stretch along, and says how many are left of so many. Where it has more,
+    // or lies outside the store, the store has changed.
     fn carry<S: Store, K: Sink>(
         &self,
         left: u64,
@@ -153,7 +154,8 @@ impl Stretches {
         }
     }
 
-    /// One more sample. Where its bytes lie behind the last ones, they make the last stretch longer.
+    /// One more sample. Where its bytes lie behind the last ones, they make the last stretch
+    /// longer.
     #[inline(always)]
     pub(crate) fn add(&mut self, sample: &SampleAt)
         ensures joined { JoinsOn self.old self.new (sample.now ∷ []) }
@@ -170,8 +172,8 @@ impl Stretches {
         }
     }
 
-    /// Takes the bytes of all samples along, so many bytes. Where they are not as many, or lie outside the store, the
-    /// store has changed.
+    /// Takes the bytes of all samples along, so many bytes. Where they are not as many, or lie
+    /// outside the store, the store has changed.
     pub(crate) fn carry<S: Store, K: Sink>(
         &self,
         bytes: u64,

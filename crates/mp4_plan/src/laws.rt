@@ -36,12 +36,14 @@ pub fn denoted_is_valid()
     ensures { DenotedIsValid }
 {}
 
-/// Where there are sizes for all chunks, the samples of each chunk follow those of the chunks before it, and lie one after the other from its offset.
+/// Where there are sizes for all chunks, the samples of each chunk follow those of the chunks
+/// before it, and lie one after the other from its offset.
 pub fn samples_lie_in_chunks()
     ensures { SamplesLieInChunks }
 {}
 
-/// Where `sbgp`s keep their rules, each sample has at each key the index that the `sbgp` of the key gives it.
+/// Where `sbgp`s keep their rules, each sample has at each key the index that the `sbgp` of the key
+/// gives it.
 pub fn groups_are_indexes()
     ensures { GroupsAreIndexes }
 {}
@@ -56,12 +58,14 @@ pub fn movie_length_is_largest()
     ensures { MovieLengthIsLargest }
 {}
 
-/// The next track ID is above each ID that leaves room for one above it, fits 32 bits, and is no larger than that takes.
+/// The next track ID is above each ID that leaves room for one above it, fits 32 bits, and is no
+/// larger than that takes.
 pub fn next_track_id_is_least()
     ensures { NextTrackIdIsLeast }
 {}
 
-/// The cuts are those of the first track: its first sample, and from each cut on the least sync sample at least a second behind.
+/// The cuts are those of the first track: its first sample, and from each cut on the least sync
+/// sample at least a second behind.
 pub fn cuts_are_least()
     ensures { CutsAreLeast }
 {}
@@ -76,17 +80,20 @@ pub fn pieces_are_due()
     ensures { PiecesAreDue }
 {}
 
-/// The pieces of a track in a fragment are the longest runs of one description among its samples there.
+/// The pieces of a track in a fragment are the longest runs of one description among its samples
+/// there.
 pub fn pieces_are_longest()
     ensures { PiecesAreLongest }
 {}
 
-/// The fragment of a sample is that of the last cut that has begun, by number or by time; the first one if none has.
+/// The fragment of a sample is that of the last cut that has begun, by number or by time; the first
+/// one if none has.
 pub fn fragments_are_last()
     ensures { FragmentsAreLast }
 {}
 
-/// In the normal form of what is valid a number that all samples of a piece have is a default of its `tfhd` and no column of its `trun`, and any other number is a column and no default.
+/// In the normal form of what is valid a number that all samples of a piece have is a default of
+/// its `tfhd` and no column of its `trun`, and any other number is a column and no default.
 pub fn columns_are_spelled_once()
     ensures { ColumnsAreSpelledOnce }
 {}
@@ -96,7 +103,8 @@ pub fn group_rows_are_longest()
     ensures { GroupRowsAreLongest }
 {}
 
-/// A piece has an `sbgp` for each key at which some sample has an index, once, in the order of keys.
+/// A piece has an `sbgp` for each key at which some sample has an index, once, in the order of
+/// keys.
 pub fn piece_keys_are_those()
     ensures { PieceKeysAreThose }
 {}
@@ -151,12 +159,14 @@ pub fn fault_refuses()
     ensures { (reason : Reason) → FaultRefuses reason }
 {}
 
-/// What a planner gathers of the samples of a piece is what they have: how many, how many bytes, what they share, which rows their groups make.
+/// What a planner gathers of the samples of a piece is what they have: how many, how many bytes,
+/// what they share, which rows their groups make.
 pub fn gathering_sums_up()
     ensures { GatheringSumsUp }
 {}
 
-/// What is written of the samples of a piece, by what was gathered and noted of them, and then their bytes, is the piece of the normal form.
+/// What is written of the samples of a piece, by what was gathered and noted of them, and then
+/// their bytes, is the piece of the normal form.
 pub fn piece_is_spelled()
     ensures { PieceIsSpelled }
 {}

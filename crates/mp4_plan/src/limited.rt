@@ -9,12 +9,13 @@ pub(crate) struct Limited<C> {
 }
 
 impl<C: Samples> Samples for Limited<C> {
-    ghost use Rattle.std.specs.Prelude.{◌≡◌, take};
+    ghost use Rattle.std.specs.Prelude.{take};
     ghost use Rattle.mp4_plan.specs.HandsFed.{TakesFirst, takes_itself, takes_on};
 
     ghost rest = { λ s. take s.left (C.rest s.inner) };
 
-    ghost follows = { λ s t. C.follows s.inner t.inner × TakesFirst s.left t.left (C.rest s.inner) (C.rest t.inner) };
+    ghost follows = { λ s t. C.follows s.inner t.inner
+        × TakesFirst s.left t.left (C.rest s.inner) (C.rest t.inner) };
 
     #[inline(always)]
     fn peek(&self) -> Option<SampleAt> {
@@ -34,7 +35,12 @@ impl<C: Samples> Samples for Limited<C> {
         Some(sample)
     }
 
-    ghost follows_itself = { λ s. (C.follows_itself s.inner, takes_itself s.left (C.rest s.inner)) };
+    ghost follows_itself = { λ s.
+        (C.follows_itself s.inner, takes_itself s.left (C.rest s.inner)) };
 
-    ghost follows_on = { λ s t u p q. (C.follows_on s.inner t.inner u.inner p.0 q.0, takes_on s.left t.left u.left (C.rest s.inner) (C.rest t.inner) (C.rest u.inner) p.1 q.1) };
+    ghost follows_on = { λ s t u p q. (
+      C.follows_on s.inner t.inner u.inner p.0 q.0,
+      takes_on s.left t.left u.left (C.rest s.inner) (C.rest t.inner) (C.rest u.inner)
+          p.1 q.1,
+    ) };
 }

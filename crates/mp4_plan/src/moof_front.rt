@@ -1,4 +1,5 @@
-//! The boxes of a `moof` as far as the rows of `trun` (ISO/IEC 14496-12, 8.8.4 to 8.8.8 and 8.8.12).
+//! The boxes of a `moof` as far as the rows of `trun` (ISO/IEC 14496-12, 8.8.4 to 8.8.8 and
+//! 8.8.12).
 ghost use Rattle.std.specs.Prelude.{◌≡◌, ◌+◌, ◌^◌, ◌≤◌, ◌++◌, length};
 ghost use Rattle.mp4_boxes.specs.Written.{header_length};
 ghost use Rattle.mp4_plan.specs.Spelling.{bit_of, bit_without, bit_if, mfhd_front, head_bits, tfhd_front, tfdt_front, run_bits, trun_front, moof_front};
@@ -54,7 +55,8 @@ fn push_mfhd(out: &mut Spelled, sequence: u32)
     out.push_u32(sequence);
 }
 
-// The flags of `tfhd`: default-base-is-moof, the description index, and what all samples have in common.
+// The flags of `tfhd`: default-base-is-moof, the description index, and what all samples have in
+// common.
 fn head_bits(planned: &Planned) -> u32
     ensures { result ≡ head_bits planned.now }
 {

@@ -1,4 +1,5 @@
-//! The rows of a `moof`: those of `trun`, and the `sbgp`s behind it (ISO/IEC 14496-12, 8.8.8 and 8.9.2).
+//! The rows of a `moof`: those of `trun`, and the `sbgp`s behind it (ISO/IEC 14496-12, 8.8.8 and
+//! 8.9.2).
 ghost use Rattle.std.specs.Prelude.{◌≡◌, ℕ, ◌+◌, ◌-◌, ◌^◌, ◌<◌, ◌≤◌, List, [], ◌∷◌, ◌++◌, None, flat_map, vec_len, length, IfSome, IfOk, IfErr, OnOk, OnErr};
 ghost use Rattle.mp4_store.specs.Device.{AppendsPrefix};
 ghost use Rattle.mp4_tables.specs.Keys.{key_seen, keys_seen};
@@ -73,10 +74,15 @@ pub(crate) fn carry_run<K: Sink>(
     sink: &mut K,
 ) -> Result<(), Refusal>
     ensures room { vec_len carrier.new.buffer ≡ vec_len carrier.old.buffer }
-    ensures bytes { OnOk result (BytesGoOn (K.contents sink.old) (K.contents sink.new) (waiting carrier.old) (waiting carrier.new) (run_rows planned.now rows.now)) }
-    ensures prefix { OnErr result (AppendsPrefix (K.contents sink.old) (K.contents sink.new) (waiting carrier.old ++ run_rows planned.now rows.now)) }
+    ensures bytes { OnOk result
+        (BytesGoOn (K.contents sink.old) (K.contents sink.new) (waiting carrier.old)
+        (waiting carrier.new) (run_rows planned.now rows.now)) }
+    ensures prefix { OnErr result
+        (AppendsPrefix (K.contents sink.old) (K.contents sink.new) (waiting carrier.old
+        ++ run_rows planned.now rows.now)) }
     ensures puts { OnOk result (K.put_failures sink.new ≡ K.put_failures sink.old) }
-    ensures refusal { IfErr result (RefusesPut (K.put_failures sink.old) (K.put_failures sink.new)) }
+    ensures refusal { IfErr result
+        (RefusesPut (K.put_failures sink.old) (K.put_failures sink.new)) }
 {
     let mut block = Spelled::new();
     let mut done = 0;
@@ -143,10 +149,15 @@ fn carry_index_run<K: Sink>(
     sink: &mut K,
 ) -> Result<(), Refusal>
     ensures room { vec_len carrier.new.buffer ≡ vec_len carrier.old.buffer }
-    ensures bytes { OnOk result (BytesGoOn (K.contents sink.old) (K.contents sink.new) (waiting carrier.old) (waiting carrier.new) (flat_map group_row (runs_left run.count run.index []))) }
-    ensures prefix { OnErr result (AppendsPrefix (K.contents sink.old) (K.contents sink.new) (waiting carrier.old ++ flat_map group_row (runs_left run.count run.index []))) }
+    ensures bytes { OnOk result
+        (BytesGoOn (K.contents sink.old) (K.contents sink.new) (waiting carrier.old)
+        (waiting carrier.new) (flat_map group_row (runs_left run.count run.index []))) }
+    ensures prefix { OnErr result
+        (AppendsPrefix (K.contents sink.old) (K.contents sink.new) (waiting carrier.old
+        ++ flat_map group_row (runs_left run.count run.index []))) }
     ensures puts { OnOk result (K.put_failures sink.new ≡ K.put_failures sink.old) }
-    ensures refusal { IfErr result (RefusesPut (K.put_failures sink.old) (K.put_failures sink.new)) }
+    ensures refusal { IfErr result
+        (RefusesPut (K.put_failures sink.old) (K.put_failures sink.new)) }
 {
     if run.count > 0 {
         carrier.carry(group_row(run.count, run.index).as_bytes(), sink)?;
@@ -164,10 +175,15 @@ fn carry_index<K: Sink>(
     requires { run.count + 1 < 2 ^ 32 }
     ensures room { vec_len carrier.new.buffer ≡ vec_len carrier.old.buffer }
     ensures count { IfOk result (λ next. next.count ≤ run.count + 1) }
-    ensures bytes { IfOk result (λ next. (values : List ℕ) → WritesRuns (K.contents sink.old) (K.contents sink.new) (waiting carrier.old) (waiting carrier.new) run next index values) }
-    ensures prefix { OnErr result ((values : List ℕ) → AppendsPrefix (K.contents sink.old) (K.contents sink.new) (waiting carrier.old ++ flat_map group_row (runs_left run.count run.index (index ∷ values)))) }
+    ensures bytes { IfOk result (λ next. (values : List ℕ)
+        → WritesRuns (K.contents sink.old) (K.contents sink.new) (waiting carrier.old)
+        (waiting carrier.new) run next index values) }
+    ensures prefix { OnErr result ((values : List ℕ)
+        → AppendsPrefix (K.contents sink.old) (K.contents sink.new) (waiting carrier.old
+        ++ flat_map group_row (runs_left run.count run.index (index ∷ values)))) }
     ensures puts { OnOk result (K.put_failures sink.new ≡ K.put_failures sink.old) }
-    ensures refusal { IfErr result (RefusesPut (K.put_failures sink.old) (K.put_failures sink.new)) }
+    ensures refusal { IfErr result
+        (RefusesPut (K.put_failures sink.old) (K.put_failures sink.new)) }
 {
     if run.count > 0 && run.index == index {
         return Ok(IndexRun {
@@ -189,10 +205,15 @@ fn carry_indexes<K: Sink>(
     requires place { place < 4 }
     requires few { length rows.now < 2 ^ 32 - 1 }
     ensures room { vec_len carrier.new.buffer ≡ vec_len carrier.old.buffer }
-    ensures bytes { OnOk result (BytesGoOn (K.contents sink.old) (K.contents sink.new) (waiting carrier.old) (waiting carrier.new) (group_rows place rows.now)) }
-    ensures prefix { OnErr result (AppendsPrefix (K.contents sink.old) (K.contents sink.new) (waiting carrier.old ++ group_rows place rows.now)) }
+    ensures bytes { OnOk result
+        (BytesGoOn (K.contents sink.old) (K.contents sink.new) (waiting carrier.old)
+        (waiting carrier.new) (group_rows place rows.now)) }
+    ensures prefix { OnErr result
+        (AppendsPrefix (K.contents sink.old) (K.contents sink.new) (waiting carrier.old
+        ++ group_rows place rows.now)) }
     ensures puts { OnOk result (K.put_failures sink.new ≡ K.put_failures sink.old) }
-    ensures refusal { IfErr result (RefusesPut (K.put_failures sink.old) (K.put_failures sink.new)) }
+    ensures refusal { IfErr result
+        (RefusesPut (K.put_failures sink.old) (K.put_failures sink.new)) }
 {
     let mut run = IndexRun { count: 0, index: 0 };
     for row in rows {
@@ -231,8 +252,10 @@ fn is_below(found: Option<UsedKey>, key: GroupKey) -> bool
 
 // The used key that is next in the order of keys.
 fn next_key(planned: &Planned, keys: &Keys, behind: Option<u128>) -> Option<UsedKey>
-    ensures place { IfSome result (λ u. (u.place < 4) × IsKeyAt (keys_seen keys.now) u.place (key_seen u.key)) }
-    ensures next { used_seen result ≡ least_above behind None (used_from planned.now.group_rows 0 (keys_seen keys.now)) }
+    ensures place { IfSome result (λ u. (u.place < 4)
+        × IsKeyAt (keys_seen keys.now) u.place (key_seen u.key)) }
+    ensures next { used_seen result
+        ≡ least_above behind None (used_from planned.now.group_rows 0 (keys_seen keys.now)) }
 {
     let mut found: Option<UsedKey> = None;
     for place in 0..keys.count() {
@@ -255,10 +278,15 @@ fn carry_group<K: Sink>(
     requires place { used.place < 4 }
     requires few { length rows.now < 2 ^ 32 - 1 }
     ensures room { vec_len carrier.new.buffer ≡ vec_len carrier.old.buffer }
-    ensures bytes { OnOk result (BytesGoOn (K.contents sink.old) (K.contents sink.new) (waiting carrier.old) (waiting carrier.new) (group_bytes rows.now planned.now used.place (key_seen used.key))) }
-    ensures prefix { OnErr result (AppendsPrefix (K.contents sink.old) (K.contents sink.new) (waiting carrier.old ++ group_bytes rows.now planned.now used.place (key_seen used.key))) }
+    ensures bytes { OnOk result
+        (BytesGoOn (K.contents sink.old) (K.contents sink.new) (waiting carrier.old)
+        (waiting carrier.new) (group_bytes rows.now planned.now used.place (key_seen used.key))) }
+    ensures prefix { OnErr result
+        (AppendsPrefix (K.contents sink.old) (K.contents sink.new) (waiting carrier.old
+        ++ group_bytes rows.now planned.now used.place (key_seen used.key))) }
     ensures puts { OnOk result (K.put_failures sink.new ≡ K.put_failures sink.old) }
-    ensures refusal { IfErr result (RefusesPut (K.put_failures sink.old) (K.put_failures sink.new)) }
+    ensures refusal { IfErr result
+        (RefusesPut (K.put_failures sink.old) (K.put_failures sink.new)) }
 {
     let front = group_front(used.key, planned.rows_at(used.place));
     carrier.carry(front.as_bytes(), sink)?;
@@ -276,10 +304,15 @@ pub(crate) fn carry_groups<K: Sink>(
 ) -> Result<(), Refusal>
     requires { length rows.now < 2 ^ 32 - 1 }
     ensures room { vec_len carrier.new.buffer ≡ vec_len carrier.old.buffer }
-    ensures bytes { OnOk result (AreApart (keys_seen keys.now) → BytesGoOn (K.contents sink.old) (K.contents sink.new) (waiting carrier.old) (waiting carrier.new) (groups_bytes rows.now planned.now (keys_seen keys.now))) }
-    ensures prefix { OnErr result (AreApart (keys_seen keys.now) → AppendsPrefix (K.contents sink.old) (K.contents sink.new) (waiting carrier.old ++ groups_bytes rows.now planned.now (keys_seen keys.now))) }
+    ensures bytes { OnOk result (AreApart (keys_seen keys.now)
+        → BytesGoOn (K.contents sink.old) (K.contents sink.new) (waiting carrier.old)
+        (waiting carrier.new) (groups_bytes rows.now planned.now (keys_seen keys.now))) }
+    ensures prefix { OnErr result (AreApart (keys_seen keys.now)
+        → AppendsPrefix (K.contents sink.old) (K.contents sink.new) (waiting carrier.old
+        ++ groups_bytes rows.now planned.now (keys_seen keys.now))) }
     ensures puts { OnOk result (K.put_failures sink.new ≡ K.put_failures sink.old) }
-    ensures refusal { IfErr result (RefusesPut (K.put_failures sink.old) (K.put_failures sink.new)) }
+    ensures refusal { IfErr result
+        (RefusesPut (K.put_failures sink.old) (K.put_failures sink.new)) }
 {
     let mut behind = None;
     for _key in 0..keys.count() {

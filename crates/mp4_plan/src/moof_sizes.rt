@@ -70,7 +70,9 @@ fn groups_size(planned: &Planned, keys: &Keys) -> u64
 pub(crate) fn sizes_of(planned: &Planned, keys: &Keys) -> MoofSizes
     ensures is { result ≡ moof_sizes planned.now (keys_seen keys.now) }
     ensures short { result.moof < 2 ^ 40 }
-    ensures small { planned.now.count ≤ 2 ^ 24 → ((j : ℕ) → slice_index planned.now.group_rows j ≤ planned.now.count) → result.moof ≤ 2 ^ 30 }
+    ensures small { planned.now.count ≤ 2 ^ 24
+        → ((j : ℕ) → slice_index planned.now.group_rows j ≤ planned.now.count)
+        → result.moof ≤ 2 ^ 30 }
 {
     let tfhd = 32 - own(planned.duration) - own(planned.size) - own(planned.flags);
     let trun = 20 + row_size(planned) * u64::from(planned.count);

@@ -36,7 +36,8 @@ impl Planned {
     }
 }
 
-/// A piece of a track's samples: as many as come before its end and have the description of the first.
+/// A piece of a track's samples: as many as come before its end and have the description of the
+/// first.
 #[derive(Drop)]
 pub struct Planner {
     end: End,
@@ -107,7 +108,8 @@ impl Planner {
     // Whether a sample goes into the piece.
     #[inline(always)]
     pub(crate) fn takes(&self, sample: &SampleAt) -> bool
-        ensures { result ≡ goes_in self.now.end (description_in self.now.gathered (sample.now ∷ [])) sample.now }
+        ensures { result ≡ goes_in self.now.end (description_in self.now.gathered (sample.now ∷ []))
+            sample.now }
     {
         if has_ended(&self.end, sample) {
             return false;
@@ -122,7 +124,8 @@ impl Planner {
     #[inline(always)]
     fn take(&mut self, sample: SampleAt)
         requires { count_of self.old.gathered + 1 < 2 ^ 32 }
-        ensures { self.new ≡ record { end = self.old.end; gathered = gather self.old.gathered sample } }
+        ensures { self.new
+            ≡ record { end = self.old.end; gathered = gather self.old.gathered sample } }
     {
         match &mut self.gathered {
             Some(gathered) => gather_more(gathered, &sample),
@@ -137,7 +140,8 @@ impl Planner {
         ensures piece { self.new ≡ piece_fed self.old (S.rest samples.old) }
         ensures rest { S.rest samples.new ≡ samples_after self.old (S.rest samples.old) }
         ensures fed { result ≡ answer (samples_after self.old (S.rest samples.old)) }
-        ensures count { count_of self.new.gathered + length (S.rest samples.new) ≡ count_of self.old.gathered + length (S.rest samples.old) }
+        ensures count { count_of self.new.gathered + length (S.rest samples.new)
+            ≡ count_of self.old.gathered + length (S.rest samples.old) }
         ensures later { S.follows samples.old samples.new }
     {
         while let Some(sample) = samples.peek() {
@@ -150,8 +154,8 @@ impl Planner {
         Fed::More
     }
 
-    /// Takes samples and notes them in rows, and where their bytes lie, until the piece ends or no sample or no row is
-    /// left.
+    /// Takes samples and notes them in rows, and where their bytes lie, until the piece ends or no
+    /// sample or no row is left.
     #[inline(always)]
     pub(crate) fn note<S: Samples>(
         &mut self,
@@ -160,8 +164,10 @@ impl Planner {
         stretches: &mut Stretches,
     )
         requires { count_of self.old.gathered + length rows.old < 2 ^ 32 }
-        ensures noted { Notes self.old self.new (S.rest samples.old) (S.rest samples.new) rows.old rows.new }
-        ensures joined { JoinsOn stretches.old stretches.new (take (count_of self.new.gathered - count_of self.old.gathered) (S.rest samples.old)) }
+        ensures noted { Notes self.old self.new (S.rest samples.old) (S.rest samples.new)
+            rows.old rows.new }
+        ensures joined { JoinsOn stretches.old stretches.new
+            (take (count_of self.new.gathered - count_of self.old.gathered) (S.rest samples.old)) }
         ensures few { count_of self.new.gathered ≤ count_of self.old.gathered + length rows.old }
         ensures later { S.follows samples.old samples.new }
     {

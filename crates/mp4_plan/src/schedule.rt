@@ -57,7 +57,8 @@ impl Schedule {
     pub(crate) fn new(tracks: &[TrackInfo], from: u64) -> Schedule
         ensures tracks { result.tracks ≡ length tracks.now }
         ensures first { result.first ≡ first_scale tracks.now }
-        ensures left { result.left ≡ min (sum_by (λ (i : TrackInfo). i.samples) tracks.now) (2 ^ 64 - 1) }
+        ensures left { result.left
+            ≡ min (sum_by (λ (i : TrackInfo). i.samples) tracks.now) (2 ^ 64 - 1) }
         ensures starts { (result.track ≡ 0) × (result.from ≡ from) × (result.next ≡ None) }
     {
         let mut left: u64 = 0;
@@ -81,8 +82,11 @@ impl Schedule {
     /// Whose turn it is.
     pub(crate) fn turn(&self, tracks: &[TrackInfo]) -> Option<Turn>
         requires { self.now.tracks ≡ length tracks.now }
-        ensures track { IfSome result (λ t. (t.track ≡ self.now.track) × (self.now.track < self.now.tracks)) }
-        ensures end { IfSome result (λ t. (info : TrackInfo) → slice_get tracks.now self.now.track ≡ Some info → t.end ≡ turn_end self.now info.timescale) }
+        ensures track { IfSome result (λ t. (t.track ≡ self.now.track)
+            × (self.now.track < self.now.tracks)) }
+        ensures end { IfSome result (λ t. (info : TrackInfo)
+            → slice_get tracks.now self.now.track ≡ Some info
+            → t.end ≡ turn_end self.now info.timescale) }
         ensures none { result ≡ None → self.now.tracks ≤ self.now.track }
     {
         if self.track >= self.tracks {
@@ -128,8 +132,9 @@ impl Schedule {
         }
     }
 
-    /// The piece of this turn took so many samples and ended before this one, or with the track. A fragment that has
-    /// no samples of the first track, and samples that nobody spoke of, are of a file that has changed.
+    /// The piece of this turn took so many samples and ended before this one, or with the track. A
+    /// fragment that has no samples of the first track, and samples that nobody spoke of, are of a
+    /// file that has changed.
     pub(crate) fn pass(
         &mut self,
         turn: &Turn,
@@ -140,7 +145,8 @@ impl Schedule {
         ensures tracks { OnOk result (self.new.tracks ≡ self.old.tracks) }
         ensures turned { OnOk result (self.new ≡ turned self.old turn.now.end count sample) }
         ensures less { OnOk result (to_come self.new < to_come self.old) }
-        ensures refusal { IfErr result (λ r. (r ≡ refusals.StoreChanged) × Sticks self.old turn.now.end count sample) }
+        ensures refusal { IfErr result (λ r. (r ≡ refusals.StoreChanged)
+            × Sticks self.old turn.now.end count sample) }
     {
         let is_over = match &sample {
             Some(next) => has_ended(&turn.end, next),

@@ -1,5 +1,5 @@
 //! The normal form of a presentation, written.
-ghost use Rattle.std.specs.Prelude.{◌≡◌, ℕ, ◌+◌, ◌*◌, ◌-◌, ◌^◌, ◌<◌, ◌≤◌, min, List, ◌++◌, length, take, drop, slice_index, slice_get, Some, None, IfOk, IfErr, OnOk, OnErr, IsTrue};
+ghost use Rattle.std.specs.Prelude.{◌≡◌, ℕ, ◌+◌, ◌*◌, ◌-◌, ◌^◌, ◌<◌, ◌≤◌, min, List, ◌++◌, length, take, drop, slice_index, slice_get, Some, None, IfOk, IfErr, OnOk, OnErr};
 ghost use Rattle.std.specs.Io.KnownBytes.{Appends};
 ghost use Rattle.std.specs.List.{AllByRecursion};
 ghost use Rattle.mp4_boxes.specs.Bytes.{sum_of};
@@ -60,7 +60,8 @@ struct Plan {
     len: u64,
 }
 
-// What a turn comes to: what was planned of its samples, what its piece says once where it has some, and the next sample.
+// What a turn comes to: what was planned of its samples, what its piece says once where it has
+// some, and the next sample.
 #[derive(Clone, Copy, Debug, PartialEq, Eq)]
 struct Noted {
     planned: Planned,
@@ -78,10 +79,12 @@ pub struct Writer {
     rows: Vec<Row>,
     /// Where the bytes of the piece lie that is noted.
     stretches: Stretches,
-    /// For each track a walk that plans its pieces, and one that copies their bytes where these lie in too many places.
+    /// For each track a walk that plans its pieces, and one that copies their bytes where these lie
+    /// in too many places.
     planning: Vec<Walk>,
     copying: Vec<Walk>,
-    /// How many samples of each track were copied without the walk that copies, and are before it still.
+    /// How many samples of each track were copied without the walk that copies, and are before it
+    /// still.
     behind: Vec<u32>,
     /// The next sample of each track.
     nexts: Vec<Option<SampleAt>>,
@@ -90,11 +93,14 @@ pub struct Writer {
 // A walk over each track.
 fn walks_of(alloc: Global, movie: &Movie) -> Result<Vec<Walk>, Refusal>
     ensures walks { IfOk result (λ walks. AreWalksOf movie.now walks.items) }
-    ensures rooms { IfOk result (λ walks. rooms walks.items ≡ length movie.now.tracks * movie.now.longest) }
-    ensures begin { IfOk result (λ walks. (file : List ℕ) (tree : FileTree) → IsOpenedAs file movie.now tree → AllBegin file tree movie.now walks.items) }
+    ensures rooms { IfOk result (λ walks. rooms walks.items
+        ≡ length movie.now.tracks * movie.now.longest) }
+    ensures begin { IfOk result (λ walks. (file : List ℕ) (tree : FileTree)
+        → IsOpenedAs file movie.now tree → AllBegin file tree movie.now walks.items) }
     ensures memory { IfErr result (λ r. r ≡ refusals.Memory) }
     ensures refusal { IfErr result RefusesMemory }
-    ensures may { IfOk result (λ walks. (file : List ℕ) (tree : FileTree) → IsOpenedAs file movie.now tree → MayAllBegin file tree walks.items) }
+    ensures may { IfOk result (λ walks. (file : List ℕ) (tree : FileTree)
+        → IsOpenedAs file movie.now tree → MayAllBegin file tree walks.items) }
 {
     let mut walks = Vec::new(alloc);
     for track in 0..movie.tracks().len() {
@@ -117,14 +123,18 @@ fn peek_each<S: Store, L: Ledger>(
     ensures rooms { rooms walks.new ≡ rooms walks.old }
     ensures honesty { S.is_honest store.new ≡ S.is_honest store.old }
     ensures file { S.file store.new ≡ S.file store.old }
-    ensures shown { WhereOpened (S.is_honest store.old) (S.file store.old) movie.now (λ tree. (lefts : List (List SampleAt))
+    ensures shown { WhereOpened (S.is_honest store.old) (S.file store.old) movie.now
+        (λ tree. (lefts : List (List SampleAt))
         → AllCome (S.file store.old) tree movie.now tree.movie.tracks walks.old lefts
-        → OnOk result ((nexts.new ≡ firsts lefts) × AllCome (S.file store.old) tree movie.now tree.movie.tracks walks.new lefts)) }
-    ensures unchanged { WhereOpened (S.is_honest store.old) (S.file store.old) movie.now (λ tree. (lefts : List (List SampleAt))
+        → OnOk result ((nexts.new ≡ firsts lefts)
+        × AllCome (S.file store.old) tree movie.now tree.movie.tracks walks.new lefts)) }
+    ensures unchanged { WhereOpened (S.is_honest store.old) (S.file store.old) movie.now
+        (λ tree. (lefts : List (List SampleAt))
         → AllCome (S.file store.old) tree movie.now tree.movie.tracks walks.old lefts
         → IfErr result (λ r. r ≡ refusals.StoreChanged → ⊥)) }
     ensures reads { OnOk result (S.read_failures store.new ≡ S.read_failures store.old) }
-    ensures refusal { IfErr result (RefusesLoad (S.read_failures store.old) (S.read_failures store.new)) }
+    ensures refusal { IfErr result
+        (RefusesLoad (S.read_failures store.old) (S.read_failures store.new)) }
     ensures work { WhereOpened (S.is_honest store.old) (S.file store.old) movie.now (λ tree. (n : ℕ)
         → MayAllTake (S.file store.old) tree tree.movie.tracks walks.old n
         → OnOk result (AllTakeOn (S.file store.old) tree n walks.new steps.old steps.new)) }
@@ -163,7 +173,9 @@ impl Plan {
     fn add(&mut self, planned: &Planned, keys: &Keys)
         ensures longest { self.new.longest ≡ max self.old.longest planned.now.count }
         ensures none { planned.now.count ≡ 0 → self.new.len ≡ self.old.len }
-        ensures some { 0 < planned.now.count → self.new.len ≡ min (self.old.len + planned_length planned.now (keys_seen keys.now)) (2 ^ 64 - 1) }
+        ensures some { 0 < planned.now.count
+            → self.new.len ≡ min (self.old.len + planned_length planned.now (keys_seen keys.now))
+            (2 ^ 64 - 1) }
     {
         if planned.count > 0 {
             self.longest = self.longest.max(planned.count);
@@ -182,11 +194,15 @@ fn plan_all<S: Store, L: Ledger>(
     ensures honesty { S.is_honest store.new ≡ S.is_honest store.old }
     ensures file { S.file store.new ≡ S.file store.old }
     ensures few { IfOk result (λ plan. plan.longest ≤ 2 ^ 24) }
-    ensures plan { WhereOpened (S.is_honest store.old) (S.file store.old) movie.now (λ tree. IfOk result (IsPlanOf (presentation_of (S.file store.old) tree))) }
-    ensures unchanged { WhereOpened (S.is_honest store.old) (S.file store.old) movie.now (λ tree. IfErr result (λ r. r ≡ refusals.StoreChanged → ⊥)) }
+    ensures plan { WhereOpened (S.is_honest store.old) (S.file store.old) movie.now
+        (λ tree. IfOk result (IsPlanOf (presentation_of (S.file store.old) tree))) }
+    ensures unchanged { WhereOpened (S.is_honest store.old) (S.file store.old) movie.now
+        (λ tree. IfErr result (λ r. r ≡ refusals.StoreChanged → ⊥)) }
     ensures reads { OnOk result (S.read_failures store.new ≡ S.read_failures store.old) }
-    ensures refusal { IfErr result (RefusesPlan (S.read_failures store.old) (S.read_failures store.new)) }
-    ensures work { WhereOpened (S.is_honest store.old) (S.file store.old) movie.now (λ tree. steps.new ≤ steps.old + walks_steps tree) }
+    ensures refusal { IfErr result
+        (RefusesPlan (S.read_failures store.old) (S.read_failures store.new)) }
+    ensures work { WhereOpened (S.is_honest store.old) (S.file store.old) movie.now
+        (λ tree. steps.new ≤ steps.old + walks_steps tree) }
 {
     let tracks = movie.tracks();
     let mut walks = walks_of(alloc, movie)?;
@@ -220,11 +236,16 @@ pub fn normal_len<S: Store, L: Ledger>(
 ) -> Result<u64, Refusal>
     ensures honesty { S.is_honest store.new ≡ S.is_honest store.old }
     ensures file { S.file store.new ≡ S.file store.old }
-    ensures length { WhereOpened (S.is_honest store.old) (S.file store.old) movie.now (λ tree. IfOk result (λ len. len ≡ length (normal (presentation_of (S.file store.old) tree)))) }
-    ensures unchanged { WhereOpened (S.is_honest store.old) (S.file store.old) movie.now (λ tree. IfErr result (λ r. r ≡ refusals.StoreChanged → ⊥)) }
+    ensures length { WhereOpened (S.is_honest store.old) (S.file store.old) movie.now
+        (λ tree. IfOk result (λ len. len
+        ≡ length (normal (presentation_of (S.file store.old) tree)))) }
+    ensures unchanged { WhereOpened (S.is_honest store.old) (S.file store.old) movie.now
+        (λ tree. IfErr result (λ r. r ≡ refusals.StoreChanged → ⊥)) }
     ensures reads { OnOk result (S.read_failures store.new ≡ S.read_failures store.old) }
-    ensures refusal { IfErr result (RefusesPlan (S.read_failures store.old) (S.read_failures store.new)) }
-    ensures work { WhereOpened (S.is_honest store.old) (S.file store.old) movie.now (λ tree. steps.new ≤ steps.old + walks_steps tree) }
+    ensures refusal { IfErr result
+        (RefusesPlan (S.read_failures store.old) (S.read_failures store.new)) }
+    ensures work { WhereOpened (S.is_honest store.old) (S.file store.old) movie.now
+        (λ tree. steps.new ≤ steps.old + walks_steps tree) }
 {
     let plan = plan_all(alloc, movie, store, steps)?;
     let head = movie.head(alloc)?;
@@ -236,8 +257,10 @@ pub fn normal_len<S: Store, L: Ledger>(
 
 // The bytes of `ftyp` and `moov`.
 fn head_of(alloc: Global, movie: &Movie) -> Result<Vec<u8>, Refusal>
-    ensures head { (file : List ℕ) (tree : FileTree) → IsOpenedAs file movie.now tree → IfOk result (λ bytes. bytes.items ≡ head_of_normal (presentation_of file tree)) }
-    ensures unchanged { (file : List ℕ) (tree : FileTree) → IsOpenedAs file movie.now tree → IfErr result (λ r. r ≡ refusals.StoreChanged → ⊥) }
+    ensures head { (file : List ℕ) (tree : FileTree) → IsOpenedAs file movie.now tree
+        → IfOk result (λ bytes. bytes.items ≡ head_of_normal (presentation_of file tree)) }
+    ensures unchanged { (file : List ℕ) (tree : FileTree) → IsOpenedAs file movie.now tree
+        → IfErr result (λ r. r ≡ refusals.StoreChanged → ⊥) }
     ensures refusal { IfErr result RefusesMemory }
 {
     let head = movie.head(alloc)?;
@@ -247,7 +270,8 @@ fn head_of(alloc: Global, movie: &Movie) -> Result<Vec<u8>, Refusal>
     Ok(head_bytes(alloc, &head, movie.mehd())?)
 }
 
-// What a piece of so many samples says once, of which the first is this one; nothing where it has none.
+// What a piece of so many samples says once, of which the first is this one; nothing where it has
+// none.
 fn turn_head(sequence: u32, id: u32, count: u32, first: &Option<SampleAt>) -> Option<PieceHead>
     ensures { result ≡ turn_head sequence id count first.now }
 {
@@ -282,16 +306,26 @@ impl Writer {
         steps: &mut Steps<L>,
     ) -> Result<Writer, Refusal>
         ensures writer { IfOk result (IsWriterOf movie.now) }
-        ensures held { IfOk result (λ w. held w ≡ length w.head.items + 2 * (length movie.now.tracks * movie.now.longest) + 24 * length w.rows.items + PIECE) }
-        ensures bound { IfOk result (λ w. held w ≤ length (waiting w.carrier ++ w.head.items) + 2 * (length movie.now.tracks * movie.now.longest) + 24 * length w.rows.items + MOST_WAITING) }
+        ensures held { IfOk result (λ w. held w ≡ length w.head.items
+            + 2 * (length movie.now.tracks * movie.now.longest) + 24 * length w.rows.items
+            + PIECE) }
+        ensures bound { IfOk result (λ w. held w ≤ length (waiting w.carrier ++ w.head.items)
+            + 2 * (length movie.now.tracks * movie.now.longest) + 24 * length w.rows.items
+            + MOST_WAITING) }
         ensures honesty { S.is_honest store.new ≡ S.is_honest store.old }
         ensures file { S.file store.new ≡ S.file store.old }
-        ensures ready { WhereOpened (S.is_honest store.old) (S.file store.old) movie.now (λ tree. IfOk result (IsReady (S.file store.old) tree movie.now)) }
-        ensures unchanged { WhereOpened (S.is_honest store.old) (S.file store.old) movie.now (λ tree. IfErr result (λ r. r ≡ refusals.StoreChanged → ⊥)) }
+        ensures ready { WhereOpened (S.is_honest store.old) (S.file store.old) movie.now
+            (λ tree. IfOk result (IsReady (S.file store.old) tree movie.now)) }
+        ensures unchanged { WhereOpened (S.is_honest store.old) (S.file store.old) movie.now
+            (λ tree. IfErr result (λ r. r ≡ refusals.StoreChanged → ⊥)) }
         ensures reads { OnOk result (S.read_failures store.new ≡ S.read_failures store.old) }
-        ensures refusal { IfErr result (RefusesPlan (S.read_failures store.old) (S.read_failures store.new)) }
-        ensures work { WhereOpened (S.is_honest store.old) (S.file store.old) movie.now (λ tree. steps.new ≤ steps.old + walks_steps tree) }
-        ensures may { WhereOpened (S.is_honest store.old) (S.file store.old) movie.now (λ tree. IfOk result (λ w. MayAllBegin (S.file store.old) tree w.planning.items × MayAllBegin (S.file store.old) tree w.copying.items)) }
+        ensures refusal { IfErr result
+            (RefusesPlan (S.read_failures store.old) (S.read_failures store.new)) }
+        ensures work { WhereOpened (S.is_honest store.old) (S.file store.old) movie.now
+            (λ tree. steps.new ≤ steps.old + walks_steps tree) }
+        ensures may { WhereOpened (S.is_honest store.old) (S.file store.old) movie.now
+            (λ tree. IfOk result (λ w. MayAllBegin (S.file store.old) tree w.planning.items
+            × MayAllBegin (S.file store.old) tree w.copying.items)) }
     {
         let plan = plan_all(alloc, movie, store, steps)?;
         Ok(Writer {
@@ -306,7 +340,8 @@ impl Writer {
         })
     }
 
-    // Plans the piece of a turn, and notes its samples. The next piece has this sequence number, the track this ID.
+    // Plans the piece of a turn, and notes its samples. The next piece has this sequence number,
+    // the track this ID.
     fn note_turn<S: Store, L: Ledger>(
         &mut self,
         turn: &Turn,
@@ -320,16 +355,41 @@ impl Writer {
         requires track { turn.now.track < length movie.now.tracks }
         ensures writer { OnOk result (IsWriterOf movie.now self.new) }
         ensures held { held self.new ≡ held self.old }
-        ensures keeps { (self.new.copying ≡ self.old.copying) × (self.new.carrier ≡ self.old.carrier) × (length self.new.rows.items ≡ length self.old.rows.items) × (self.new.behind ≡ self.old.behind) }
+        ensures keeps { (self.new.copying ≡ self.old.copying)
+            × (self.new.carrier ≡ self.old.carrier)
+            × (length self.new.rows.items ≡ length self.old.rows.items)
+            × (self.new.behind ≡ self.old.behind) }
         ensures honesty { S.is_honest store.new ≡ S.is_honest store.old }
         ensures file { S.file store.new ≡ S.file store.old }
-        ensures noted { WhereOpened (S.is_honest store.old) (S.file store.old) movie.now (λ tree. (t : TrackTree) (walk : Walk) (left : List SampleAt) → slice_get self.old.planning.items turn.now.track ≡ Some walk → Comes (S.file store.old) tree t movie.now walk left → slice_get self.old.nexts.items turn.now.track ≡ Some (slice_get left 0) → IfOk result (HasNoted (S.file store.old) tree t movie.now turn.now sequence id left self.old self.new)) }
-        ensures unchanged { WhereOpened (S.is_honest store.old) (S.file store.old) movie.now (λ tree. (t : TrackTree) (walk : Walk) (left : List SampleAt) → slice_get self.old.planning.items turn.now.track ≡ Some walk → Comes (S.file store.old) tree t movie.now walk left → more_of (piece_from turn.now.end) left ≤ length self.old.rows.items → IfErr result (λ r. r ≡ refusals.StoreChanged → ⊥)) }
-        ensures few { IfOk result (λ n. (n.planned.count ≤ length self.old.rows.items) × (n.planned.bytes + 16 < 2 ^ 64) × ((j : ℕ) → slice_index n.planned.group_rows j ≤ n.planned.count)) }
+        ensures noted { WhereOpened (S.is_honest store.old) (S.file store.old) movie.now
+            (λ tree. (t : TrackTree) (walk : Walk) (left : List SampleAt)
+            → slice_get self.old.planning.items turn.now.track ≡ Some walk
+            → Comes (S.file store.old) tree t movie.now walk left
+            → slice_get self.old.nexts.items turn.now.track ≡ Some (slice_get left 0)
+            → IfOk result
+            (HasNoted (S.file store.old)
+            tree t movie.now turn.now sequence id left self.old self.new)) }
+        ensures unchanged { WhereOpened (S.is_honest store.old) (S.file store.old) movie.now
+            (λ tree. (t : TrackTree) (walk : Walk) (left : List SampleAt)
+            → slice_get self.old.planning.items turn.now.track ≡ Some walk
+            → Comes (S.file store.old) tree t movie.now walk left
+            → more_of (piece_from turn.now.end) left ≤ length self.old.rows.items
+            → IfErr result (λ r. r ≡ refusals.StoreChanged → ⊥)) }
+        ensures few { IfOk result (λ n. (n.planned.count ≤ length self.old.rows.items)
+            × (n.planned.bytes + 16 < 2 ^ 64)
+            × ((j : ℕ) → slice_index n.planned.group_rows j ≤ n.planned.count)) }
         ensures reads { OnOk result (S.read_failures store.new ≡ S.read_failures store.old) }
-        ensures refusal { IfErr result (RefusesLoad (S.read_failures store.old) (S.read_failures store.new)) }
-        ensures work { WhereOpened (S.is_honest store.old) (S.file store.old) movie.now (λ tree. (n : ℕ) → MayAllTake (S.file store.old) tree tree.movie.tracks self.old.planning.items n → OnOk result (AllTakeOn (S.file store.old) tree n self.new.planning.items steps.old steps.new)) }
-        ensures most { WhereOpened (S.is_honest store.old) (S.file store.old) movie.now (λ tree. (n : ℕ) → MayAllTake (S.file store.old) tree tree.movie.tracks self.old.planning.items n → OnErr result (steps.new ≤ steps.old + n)) }
+        ensures refusal { IfErr result
+            (RefusesLoad (S.read_failures store.old) (S.read_failures store.new)) }
+        ensures work { WhereOpened (S.is_honest store.old) (S.file store.old) movie.now
+            (λ tree. (n : ℕ)
+            → MayAllTake (S.file store.old) tree tree.movie.tracks self.old.planning.items n
+            → OnOk result
+            (AllTakeOn (S.file store.old) tree n self.new.planning.items steps.old steps.new)) }
+        ensures most { WhereOpened (S.is_honest store.old) (S.file store.old) movie.now
+            (λ tree. (n : ℕ)
+            → MayAllTake (S.file store.old) tree tree.movie.tracks self.old.planning.items n
+            → OnErr result (steps.new ≤ steps.old + n)) }
     {
         self.stretches.clear();
         let first = self.nexts[turn.track];
@@ -353,8 +413,8 @@ impl Writer {
         })
     }
 
-    // Takes the bytes of a track's samples along that were noted, as many as were planned. Where no stretch was left
-    // out, the walk that copies stays where it is.
+    // Takes the bytes of a track's samples along that were noted, as many as were planned. Where no
+    // stretch was left out, the walk that copies stays where it is.
     fn carry_data<S: Store, K: Sink, L: Ledger>(
         &mut self,
         track: usize,
@@ -455,16 +515,53 @@ impl Writer {
         ensures held { held self.new ≡ held self.old }
         ensures honesty { S.is_honest store.new ≡ S.is_honest store.old }
         ensures file { S.file store.new ≡ S.file store.old }
-        ensures put { WhereOpened (S.is_honest store.old) (S.file store.old) movie.now (λ tree. (samples : List SampleAt) → IsNoted (S.file store.old) tree movie.now track planned.now.count samples self.old → (info : TrackInfo) → slice_get movie.now.tracks track ≡ Some info → AreApart (keys_seen info.keys) → OnOk result (BytesGoOn (K.contents sink.old) (K.contents sink.new) (waiting self.old.carrier) (waiting self.new.carrier) (bytes_of_piece (S.file store.old) head planned.now (keys_seen info.keys) (take planned.now.count samples)))) }
-        ensures prefix { WhereOpened (S.is_honest store.old) (S.file store.old) movie.now (λ tree. (samples : List SampleAt) → IsNoted (S.file store.old) tree movie.now track planned.now.count samples self.old → (info : TrackInfo) → slice_get movie.now.tracks track ≡ Some info → AreApart (keys_seen info.keys) → OnErr result (AppendsPrefix (K.contents sink.old) (K.contents sink.new) (waiting self.old.carrier ++ bytes_of_piece (S.file store.old) head planned.now (keys_seen info.keys) (take planned.now.count samples)))) }
-        ensures copied { WhereOpened (S.is_honest store.old) (S.file store.old) movie.now (λ tree. (samples : List SampleAt) → planned.now.count ≤ length samples → OnOk result (HaveCopied (S.file store.old) tree movie.now track planned.now.count samples self.old self.new)) }
-        ensures keeps { OnOk result ((self.new.planning ≡ self.old.planning) × (self.new.rows ≡ self.old.rows) × (self.new.nexts ≡ self.old.nexts)) }
-        ensures unchanged { WhereOpened (S.is_honest store.old) (S.file store.old) movie.now (λ tree. (samples : List SampleAt) → IsNoted (S.file store.old) tree movie.now track planned.now.count samples self.old → planned.now.count ≤ length samples → planned.now.bytes ≡ sum_of (λ (s : SampleAt). s.size) (take planned.now.count samples) → AllByRecursion (IsBelow (length (S.file store.old))) samples → IfErr result (λ r. r ≡ refusals.StoreChanged → ⊥)) }
+        ensures put { WhereOpened (S.is_honest store.old) (S.file store.old) movie.now
+            (λ tree. (samples : List SampleAt)
+            → IsNoted (S.file store.old) tree movie.now track planned.now.count samples self.old
+            → (info : TrackInfo) → slice_get movie.now.tracks track ≡ Some info
+            → AreApart (keys_seen info.keys)
+            → OnOk result
+            (BytesGoOn (K.contents sink.old) (K.contents sink.new) (waiting self.old.carrier)
+            (waiting self.new.carrier)
+            (bytes_of_piece (S.file store.old) head planned.now (keys_seen info.keys)
+            (take planned.now.count samples)))) }
+        ensures prefix { WhereOpened (S.is_honest store.old) (S.file store.old) movie.now
+            (λ tree. (samples : List SampleAt)
+            → IsNoted (S.file store.old) tree movie.now track planned.now.count samples self.old
+            → (info : TrackInfo) → slice_get movie.now.tracks track ≡ Some info
+            → AreApart (keys_seen info.keys)
+            → OnErr result
+            (AppendsPrefix (K.contents sink.old) (K.contents sink.new) (waiting self.old.carrier
+            ++ bytes_of_piece (S.file store.old) head planned.now (keys_seen info.keys)
+            (take planned.now.count samples)))) }
+        ensures copied { WhereOpened (S.is_honest store.old) (S.file store.old) movie.now
+            (λ tree. (samples : List SampleAt) → planned.now.count ≤ length samples
+            → OnOk result
+            (HaveCopied (S.file store.old)
+            tree movie.now track planned.now.count samples self.old self.new)) }
+        ensures keeps { OnOk result ((self.new.planning ≡ self.old.planning)
+            × (self.new.rows ≡ self.old.rows) × (self.new.nexts ≡ self.old.nexts)) }
+        ensures unchanged { WhereOpened (S.is_honest store.old) (S.file store.old) movie.now
+            (λ tree. (samples : List SampleAt)
+            → IsNoted (S.file store.old) tree movie.now track planned.now.count samples self.old
+            → planned.now.count ≤ length samples
+            → planned.now.bytes ≡ sum_of (λ (s : SampleAt). s.size) (take planned.now.count samples)
+            → AllByRecursion (IsBelow (length (S.file store.old))) samples
+            → IfErr result (λ r. r ≡ refusals.StoreChanged → ⊥)) }
         ensures reads { OnOk result (S.read_failures store.new ≡ S.read_failures store.old) }
         ensures puts { OnOk result (K.put_failures sink.new ≡ K.put_failures sink.old) }
-        ensures refusal { IfErr result (RefusesCarry (S.read_failures store.old) (S.read_failures store.new) (K.put_failures sink.old) (K.put_failures sink.new)) }
-        ensures work { WhereOpened (S.is_honest store.old) (S.file store.old) movie.now (λ tree. (n : ℕ) → MayAllTake (S.file store.old) tree tree.movie.tracks self.old.copying.items n → OnOk result (AllTakeOn (S.file store.old) tree n self.new.copying.items steps.old steps.new)) }
-        ensures most { WhereOpened (S.is_honest store.old) (S.file store.old) movie.now (λ tree. (n : ℕ) → MayAllTake (S.file store.old) tree tree.movie.tracks self.old.copying.items n → OnErr result (steps.new ≤ steps.old + n)) }
+        ensures refusal { IfErr result
+            (RefusesCarry (S.read_failures store.old) (S.read_failures store.new)
+            (K.put_failures sink.old) (K.put_failures sink.new)) }
+        ensures work { WhereOpened (S.is_honest store.old) (S.file store.old) movie.now
+            (λ tree. (n : ℕ)
+            → MayAllTake (S.file store.old) tree tree.movie.tracks self.old.copying.items n
+            → OnOk result
+            (AllTakeOn (S.file store.old) tree n self.new.copying.items steps.old steps.new)) }
+        ensures most { WhereOpened (S.is_honest store.old) (S.file store.old) movie.now
+            (λ tree. (n : ℕ)
+            → MayAllTake (S.file store.old) tree tree.movie.tracks self.old.copying.items n
+            → OnErr result (steps.new ≤ steps.old + n)) }
     {
         let keys = movie.tracks()[track].keys;
         let sizes = sizes_of(planned, &keys);
@@ -498,16 +595,54 @@ impl Writer {
         ensures held { held self.new ≡ held self.old }
         ensures honesty { S.is_honest store.new ≡ S.is_honest store.old }
         ensures file { S.file store.new ≡ S.file store.old }
-        ensures put { WhereOpened (S.is_honest store.old) (S.file store.old) movie.now (λ tree. (samples : List SampleAt) → IsNoted (S.file store.old) tree movie.now track planned.now.count samples self.old → (info : TrackInfo) → slice_get movie.now.tracks track ≡ Some info → AreApart (keys_seen info.keys) → OnOk result (BytesGoOn (K.contents sink.old) (K.contents sink.new) (waiting self.old.carrier) (waiting self.new.carrier) (turn_bytes (S.file store.old) head planned.now (keys_seen info.keys) (take planned.now.count samples)))) }
-        ensures prefix { WhereOpened (S.is_honest store.old) (S.file store.old) movie.now (λ tree. (samples : List SampleAt) → IsNoted (S.file store.old) tree movie.now track planned.now.count samples self.old → (info : TrackInfo) → slice_get movie.now.tracks track ≡ Some info → AreApart (keys_seen info.keys) → OnErr result (AppendsPrefix (K.contents sink.old) (K.contents sink.new) (waiting self.old.carrier ++ turn_bytes (S.file store.old) head planned.now (keys_seen info.keys) (take planned.now.count samples)))) }
-        ensures copied { WhereOpened (S.is_honest store.old) (S.file store.old) movie.now (λ tree. (samples : List SampleAt) → planned.now.count ≤ length samples → (head ≡ None → drop planned.now.count samples ≡ samples) → OnOk result (HaveCopied (S.file store.old) tree movie.now track planned.now.count samples self.old self.new)) }
-        ensures keeps { OnOk result ((self.new.planning ≡ self.old.planning) × (self.new.rows ≡ self.old.rows) × (self.new.nexts ≡ self.old.nexts)) }
-        ensures unchanged { WhereOpened (S.is_honest store.old) (S.file store.old) movie.now (λ tree. (samples : List SampleAt) → IsNoted (S.file store.old) tree movie.now track planned.now.count samples self.old → planned.now.count ≤ length samples → planned.now.bytes ≡ sum_of (λ (s : SampleAt). s.size) (take planned.now.count samples) → AllByRecursion (IsBelow (length (S.file store.old))) samples → IfErr result (λ r. r ≡ refusals.StoreChanged → ⊥)) }
+        ensures put { WhereOpened (S.is_honest store.old) (S.file store.old) movie.now
+            (λ tree. (samples : List SampleAt)
+            → IsNoted (S.file store.old) tree movie.now track planned.now.count samples self.old
+            → (info : TrackInfo) → slice_get movie.now.tracks track ≡ Some info
+            → AreApart (keys_seen info.keys)
+            → OnOk result
+            (BytesGoOn (K.contents sink.old) (K.contents sink.new) (waiting self.old.carrier)
+            (waiting self.new.carrier)
+            (turn_bytes (S.file store.old) head planned.now (keys_seen info.keys)
+            (take planned.now.count samples)))) }
+        ensures prefix { WhereOpened (S.is_honest store.old) (S.file store.old) movie.now
+            (λ tree. (samples : List SampleAt)
+            → IsNoted (S.file store.old) tree movie.now track planned.now.count samples self.old
+            → (info : TrackInfo) → slice_get movie.now.tracks track ≡ Some info
+            → AreApart (keys_seen info.keys)
+            → OnErr result
+            (AppendsPrefix (K.contents sink.old) (K.contents sink.new) (waiting self.old.carrier
+            ++ turn_bytes (S.file store.old) head planned.now (keys_seen info.keys)
+            (take planned.now.count samples)))) }
+        ensures copied { WhereOpened (S.is_honest store.old) (S.file store.old) movie.now
+            (λ tree. (samples : List SampleAt) → planned.now.count ≤ length samples
+            → (head ≡ None → drop planned.now.count samples ≡ samples)
+            → OnOk result
+            (HaveCopied (S.file store.old)
+            tree movie.now track planned.now.count samples self.old self.new)) }
+        ensures keeps { OnOk result ((self.new.planning ≡ self.old.planning)
+            × (self.new.rows ≡ self.old.rows) × (self.new.nexts ≡ self.old.nexts)) }
+        ensures unchanged { WhereOpened (S.is_honest store.old) (S.file store.old) movie.now
+            (λ tree. (samples : List SampleAt)
+            → IsNoted (S.file store.old) tree movie.now track planned.now.count samples self.old
+            → planned.now.count ≤ length samples
+            → planned.now.bytes ≡ sum_of (λ (s : SampleAt). s.size) (take planned.now.count samples)
+            → AllByRecursion (IsBelow (length (S.file store.old))) samples
+            → IfErr result (λ r. r ≡ refusals.StoreChanged → ⊥)) }
         ensures reads { OnOk result (S.read_failures store.new ≡ S.read_failures store.old) }
         ensures puts { OnOk result (K.put_failures sink.new ≡ K.put_failures sink.old) }
-        ensures refusal { IfErr result (RefusesCarry (S.read_failures store.old) (S.read_failures store.new) (K.put_failures sink.old) (K.put_failures sink.new)) }
-        ensures work { WhereOpened (S.is_honest store.old) (S.file store.old) movie.now (λ tree. (n : ℕ) → MayAllTake (S.file store.old) tree tree.movie.tracks self.old.copying.items n → OnOk result (AllTakeOn (S.file store.old) tree n self.new.copying.items steps.old steps.new)) }
-        ensures most { WhereOpened (S.is_honest store.old) (S.file store.old) movie.now (λ tree. (n : ℕ) → MayAllTake (S.file store.old) tree tree.movie.tracks self.old.copying.items n → OnErr result (steps.new ≤ steps.old + n)) }
+        ensures refusal { IfErr result
+            (RefusesCarry (S.read_failures store.old) (S.read_failures store.new)
+            (K.put_failures sink.old) (K.put_failures sink.new)) }
+        ensures work { WhereOpened (S.is_honest store.old) (S.file store.old) movie.now
+            (λ tree. (n : ℕ)
+            → MayAllTake (S.file store.old) tree tree.movie.tracks self.old.copying.items n
+            → OnOk result
+            (AllTakeOn (S.file store.old) tree n self.new.copying.items steps.old steps.new)) }
+        ensures most { WhereOpened (S.is_honest store.old) (S.file store.old) movie.now
+            (λ tree. (n : ℕ)
+            → MayAllTake (S.file store.old) tree tree.movie.tracks self.old.copying.items n
+            → OnErr result (steps.new ≤ steps.old + n)) }
     {
         if let Some(head) = head {
             self.carry(track, head, planned, movie, store, sink, steps)?;
@@ -515,7 +650,8 @@ impl Writer {
         Ok(())
     }
 
-    /// Puts the normal form of the movie. It takes no memory; after an answer that isn't Ok it is of no more use.
+    /// Puts the normal form of the movie. It takes no memory; after an answer that isn't Ok it is
+    /// of no more use.
     pub fn write<S: Store, K: Sink, L: Ledger>(
         &mut self,
         movie: &Movie,
@@ -527,13 +663,29 @@ impl Writer {
         ensures held { held self.new ≡ held self.old }
         ensures honesty { S.is_honest store.new ≡ S.is_honest store.old }
         ensures file { S.file store.new ≡ S.file store.old }
-        ensures bytes { WhereOpened (S.is_honest store.old) (S.file store.old) movie.now (λ tree. IsReady (S.file store.old) tree movie.now self.old → OnOk result (Appends (K.contents sink.old) (K.contents sink.new) (normal (presentation_of (S.file store.old) tree)))) }
-        ensures prefix { WhereOpened (S.is_honest store.old) (S.file store.old) movie.now (λ tree. IsReady (S.file store.old) tree movie.now self.old → OnErr result (AppendsPrefix (K.contents sink.old) (K.contents sink.new) (normal (presentation_of (S.file store.old) tree)))) }
-        ensures unchanged { WhereOpened (S.is_honest store.old) (S.file store.old) movie.now (λ tree. IsReady (S.file store.old) tree movie.now self.old → IfErr result (λ r. r ≡ refusals.StoreChanged → ⊥)) }
+        ensures bytes { WhereOpened (S.is_honest store.old) (S.file store.old) movie.now
+            (λ tree. IsReady (S.file store.old) tree movie.now self.old
+            → OnOk result
+            (Appends (K.contents sink.old) (K.contents sink.new)
+            (normal (presentation_of (S.file store.old) tree)))) }
+        ensures prefix { WhereOpened (S.is_honest store.old) (S.file store.old) movie.now
+            (λ tree. IsReady (S.file store.old) tree movie.now self.old
+            → OnErr result
+            (AppendsPrefix (K.contents sink.old) (K.contents sink.new)
+            (normal (presentation_of (S.file store.old) tree)))) }
+        ensures unchanged { WhereOpened (S.is_honest store.old) (S.file store.old) movie.now
+            (λ tree. IsReady (S.file store.old) tree movie.now self.old
+            → IfErr result (λ r. r ≡ refusals.StoreChanged → ⊥)) }
         ensures reads { OnOk result (S.read_failures store.new ≡ S.read_failures store.old) }
         ensures puts { OnOk result (K.put_failures sink.new ≡ K.put_failures sink.old) }
-        ensures refusal { IfErr result (RefusesCarry (S.read_failures store.old) (S.read_failures store.new) (K.put_failures sink.old) (K.put_failures sink.new)) }
-        ensures work { WhereOpened (S.is_honest store.old) (S.file store.old) movie.now (λ tree. (n c : ℕ) → MayAllTake (S.file store.old) tree tree.movie.tracks self.old.planning.items n → MayAllTake (S.file store.old) tree tree.movie.tracks self.old.copying.items c → steps.new ≤ steps.old + n + c) }
+        ensures refusal { IfErr result
+            (RefusesCarry (S.read_failures store.old) (S.read_failures store.new)
+            (K.put_failures sink.old) (K.put_failures sink.new)) }
+        ensures work { WhereOpened (S.is_honest store.old) (S.file store.old) movie.now
+            (λ tree. (n c : ℕ)
+            → MayAllTake (S.file store.old) tree tree.movie.tracks self.old.planning.items n
+            → MayAllTake (S.file store.old) tree tree.movie.tracks self.old.copying.items c
+            → steps.new ≤ steps.old + n + c) }
     {
         let tracks = movie.tracks();
         self.carrier.carry(self.head.as_slice(), sink)?;
@@ -560,8 +712,8 @@ impl Writer {
     }
 }
 
-/// Puts the normal form of a movie: it is planned, all memory that writing it needs is taken, and then it is written. Want
-/// of memory comes before the first byte.
+/// Puts the normal form of a movie: it is planned, all memory that writing it needs is taken, and
+/// then it is written. Want of memory comes before the first byte.
 pub fn write_normal<S: Store, K: Sink, L: Ledger>(
     alloc: Global,
     movie: &Movie,
@@ -571,13 +723,23 @@ pub fn write_normal<S: Store, K: Sink, L: Ledger>(
 ) -> Result<(), Refusal>
     ensures honesty { S.is_honest store.new ≡ S.is_honest store.old }
     ensures file { S.file store.new ≡ S.file store.old }
-    ensures bytes { WhereOpened (S.is_honest store.old) (S.file store.old) movie.now (λ tree. OnOk result (Appends (K.contents sink.old) (K.contents sink.new) (normal (presentation_of (S.file store.old) tree)))) }
-    ensures prefix { WhereOpened (S.is_honest store.old) (S.file store.old) movie.now (λ tree. OnErr result (AppendsPrefix (K.contents sink.old) (K.contents sink.new) (normal (presentation_of (S.file store.old) tree)))) }
-    ensures unchanged { WhereOpened (S.is_honest store.old) (S.file store.old) movie.now (λ tree. IfErr result (λ r. r ≡ refusals.StoreChanged → ⊥)) }
-    ensures work { WhereOpened (S.is_honest store.old) (S.file store.old) movie.now (λ tree. steps.new ≤ steps.old + 3 * walks_steps tree) }
+    ensures bytes { WhereOpened (S.is_honest store.old) (S.file store.old) movie.now
+        (λ tree. OnOk result
+        (Appends (K.contents sink.old) (K.contents sink.new)
+        (normal (presentation_of (S.file store.old) tree)))) }
+    ensures prefix { WhereOpened (S.is_honest store.old) (S.file store.old) movie.now
+        (λ tree. OnErr result
+        (AppendsPrefix (K.contents sink.old) (K.contents sink.new)
+        (normal (presentation_of (S.file store.old) tree)))) }
+    ensures unchanged { WhereOpened (S.is_honest store.old) (S.file store.old) movie.now
+        (λ tree. IfErr result (λ r. r ≡ refusals.StoreChanged → ⊥)) }
+    ensures work { WhereOpened (S.is_honest store.old) (S.file store.old) movie.now
+        (λ tree. steps.new ≤ steps.old + 3 * walks_steps tree) }
     ensures reads { OnOk result (S.read_failures store.new ≡ S.read_failures store.old) }
     ensures puts { OnOk result (K.put_failures sink.new ≡ K.put_failures sink.old) }
-    ensures refusal { IfErr result (RefusesCopy (K.contents sink.old) (K.contents sink.new) (S.read_failures store.old) (S.read_failures store.new) (K.put_failures sink.old) (K.put_failures sink.new)) }
+    ensures refusal { IfErr result
+        (RefusesCopy (K.contents sink.old) (K.contents sink.new) (S.read_failures store.old)
+        (S.read_failures store.new) (K.put_failures sink.old) (K.put_failures sink.new)) }
 {
     let mut writer = Writer::new(alloc, movie, store, steps)?;
     writer.write(movie, store, sink, steps)

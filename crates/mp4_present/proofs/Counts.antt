@@ -120,7 +120,11 @@ not_less a b c false e = omega (arith, e)
 no_fewer : (q : Part) (parts : List Part) (tracks : List TrackTree) → fragments_total parts tracks ≤ fragments_total (q ∷ parts) tracks
 no_fewer q parts [] = omega arith
 no_fewer q parts (u ∷ tracks) =
-    omega (arith, no_fewer q parts tracks, not_less (length (part_samples q)) (length (fragment_samples (track_head_of u).id parts)) (length (fragment_samples (track_head_of u).id (q ∷ parts))) (eqb q.id (track_head_of u).id) (with_part (track_head_of u).id q parts (eqb q.id (track_head_of u).id) refl))
+    omega (
+      arith,
+      no_fewer q parts tracks,
+      not_less (length (part_samples q)) (length (fragment_samples (track_head_of u).id parts)) (length (fragment_samples (track_head_of u).id (q ∷ parts))) (eqb q.id (track_head_of u).id) (with_part (track_head_of u).id q parts (eqb q.id (track_head_of u).id) refl),
+    )
 
 abbrev info : TrackTree → TrackInfo
 info t = record { id = (track_head_of t).id; descriptions = length t.descriptions }
@@ -139,7 +143,11 @@ part_counts q parts (u ∷ tracks) h = elim (has_choice q u tracks (eqb (track_h
       let same : eqb q.id (track_head_of u).id ≡ true = eq-eqb q.id (track_head_of u).id (sym (true-eqb (track_head_of u).id q.id (sym e))) in
       omega (arith, with_part (track_head_of u).id q parts true same, no_fewer q parts tracks)
   | inr k ↦
-      omega (arith, part_counts q parts tracks k, not_less (length (part_samples q)) (length (fragment_samples (track_head_of u).id parts)) (length (fragment_samples (track_head_of u).id (q ∷ parts))) (eqb q.id (track_head_of u).id) (with_part (track_head_of u).id q parts (eqb q.id (track_head_of u).id) refl))
+      omega (
+        arith,
+        part_counts q parts tracks k,
+        not_less (length (part_samples q)) (length (fragment_samples (track_head_of u).id parts)) (length (fragment_samples (track_head_of u).id (q ∷ parts))) (eqb q.id (track_head_of u).id) (with_part (track_head_of u).id q parts (eqb q.id (track_head_of u).id) refl),
+      )
 ]
 
 and_left : (p q : Bool) → p && q ≡ true → p ≡ true

@@ -279,7 +279,8 @@ takes_again file tree t m begun first n old mid h front last some takes box way 
       r.2,
     )
 
-pub takes_marked : (file : List ℕ) (tree : FileTree) (t : TrackTree) (m : MovieSeen) (earlier : List FragmentTree) (next : FragmentTree) (later : List FragmentTree) (w : Walk) (k : Mark) (some : Bool) → Takes file tree t earlier next later m w some → Takes file tree t earlier next later m (record w { mark = k }) some
+pub takes_marked : (file : List ℕ) (tree : FileTree) (t : TrackTree) (m : MovieSeen) (earlier : List FragmentTree) (next : FragmentTree) (later : List FragmentTree) (w : Walk) (k : Mark) (some : Bool) → Takes file tree t earlier next later m w some
+    → Takes file tree t earlier next later m (record w { mark = k }) some
 takes_marked file tree t m earlier next later w k some h = (h.0, (stands_moved file tree t (earlier ++ next ∷ []) later w w.place k h.1.0, hand_marked m w k w.place h.0 h.1.1, h.1.2, h.1.3))
 
 pub hand_of_marked : (m : MovieSeen) (w : Walk) (k : Mark) (hand : InHand) → InHandOf m w hand → InHandOf m (record w { mark = k }) hand

@@ -17,7 +17,7 @@ use Rattle.mp4_head.specs.Writing as written
 use Rattle.mp4_head.specs.declared.heads.MovieHead.{MovieHead}
 use Rattle.mp4_head.specs.declared.heads.TrackHead.{TrackHead}
 use Rattle.mp4_present.specs.Presentation as presented
-use Rattle.mp4_present.specs.Presentation.{Presentation, Track, IsInTime, says_all, max_moov, movie_length, normal_moov_length}
+use Rattle.mp4_present.specs.Presentation.{Presentation, Track, IsInTime, max_moov, movie_length, normal_moov_length}
 use Rattle.mp4_present.specs.Measured.{IsMeasured, AreMeasured, IsMeasure, LimitFails}
 
 -- ---- edits

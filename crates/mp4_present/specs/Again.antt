@@ -18,16 +18,24 @@ pub record AreFrom (file : List ℕ) (from : ℕ) (boxes : List Box) : Type 0 wh
 abbrev pub IsNextFragment : List ℕ → ℕ → List Box → Option TopBox → Type 0
 IsNextFragment file from boxes None = of_kind (codes "moof") boxes ≡ []
 IsNextFragment file from boxes (Some top) =
-    (before after : List Box) × (boxes ≡ before ++ box_at file top ∷ after) × (of_kind (codes "moof") before ≡ []) × (top.offset ≡ from + sizes before) × (top.header.kind.0 ≡ codes "moof")
+    (before after : List Box) × (boxes ≡ before ++ box_at file top ∷ after)
+    × (of_kind (codes "moof") before ≡ []) × (top.offset ≡ from + sizes before)
+    × (top.header.kind.0 ≡ codes "moof")
 
--- Why a header that was read before is not read again. The numbers are counts of failed reads, before and after.
+-- Why a header that was read before is not read again. The numbers are counts of failed reads,
+-- before and after.
 abbrev pub RefusesHeaderAgain : Bool → List ℕ → ℕ → ℕ → ℕ → Refusal → Type 0
-RefusesHeaderAgain honest file at reads reads_after refusals.StoreFailed = HasRisen reads reads_after
-RefusesHeaderAgain honest file at reads reads_after refusals.StoreChanged = IsTrue honest → (h : Header) → header_there true (length file - at) (drop at file) (codes "file") at ≡ Ok h → ⊥
+RefusesHeaderAgain honest file at reads reads_after refusals.StoreFailed =
+    HasRisen reads reads_after
+RefusesHeaderAgain honest file at reads reads_after refusals.StoreChanged = IsTrue honest
+    → (h : Header) → header_there true (length file - at) (drop at file) (codes "file") at ≡ Ok h
+    → ⊥
 RefusesHeaderAgain honest file at reads reads_after _ = ⊥
 
--- Why the next `moof` is not found: of an honest store's file, with its boxes, only for a failed read.
+-- Why the next `moof` is not found: of an honest store's file, with its boxes, only for a failed
+-- read.
 abbrev pub RefusesNext : Bool → List ℕ → ℕ → ℕ → ℕ → Refusal → Type 0
 RefusesNext honest file from reads reads_after refusals.StoreFailed = HasRisen reads reads_after
-RefusesNext honest file from reads reads_after refusals.StoreChanged = IsTrue honest → (boxes : List Box) → AreFrom file from boxes → ⊥
+RefusesNext honest file from reads reads_after refusals.StoreChanged = IsTrue honest
+    → (boxes : List Box) → AreFrom file from boxes → ⊥
 RefusesNext honest file from reads reads_after _ = ⊥

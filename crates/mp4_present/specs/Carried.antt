@@ -11,20 +11,24 @@ use Rattle.mp4_present.specs.declared.stretches.Stretch.{Stretch}
 abbrev pub waiting : Carrier → List ℕ
 waiting c = take c.used c.buffer.items
 
--- These bytes follow: what was put since, and then what waits now, is what waited before, and then these.
--- The options are what the sink holds, before and after.
+-- These bytes follow: what was put since, and then what waits now, is what waited before, and then
+-- these. The options are what the sink holds, before and after.
 abbrev pub BytesGoOn : Option (List ℕ) → Option (List ℕ) → List ℕ → List ℕ → List ℕ → Type 0
-BytesGoOn before after held held_after bytes = (put : List ℕ) × Appends before after put × (put ++ held_after ≡ held ++ bytes)
+BytesGoOn before after held held_after bytes = (put : List ℕ) × Appends before after put
+    × (put ++ held_after ≡ held ++ bytes)
 
--- So many bytes follow, whichever these are: what was put since, and what waits now, are so many more than waited before.
+-- So many bytes follow, whichever these are: what was put since, and what waits now, are so many
+-- more than waited before.
 abbrev pub GoOnBy : Option (List ℕ) → Option (List ℕ) → List ℕ → List ℕ → ℕ → Type 0
-GoOnBy before after held held_after n = (put : List ℕ) × Appends before after put × (length put + length held_after ≡ length held + n)
+GoOnBy before after held held_after n = (put : List ℕ) × Appends before after put
+    × (length put + length held_after ≡ length held + n)
 
 -- so many bytes were put, whichever these are
 abbrev pub PutsMany : Option (List ℕ) → Option (List ℕ) → ℕ → Type 0
 PutsMany before after n = (put : List ℕ) × Appends before after put × (length put ≡ n)
 
--- Why bytes are not taken along: one more put failed. The numbers are counts of failed puts, before and after.
+-- Why bytes are not taken along: one more put failed. The numbers are counts of failed puts, before
+-- and after.
 abbrev pub RefusesPut : ℕ → ℕ → Refusal → Type 0
 RefusesPut puts puts_after refusals.WriteFailed = puts_after ≡ count_after puts
 RefusesPut puts puts_after _ = ⊥
@@ -37,9 +41,12 @@ RefusesRange reads reads_after puts puts_after _ = ⊥
 
 -- Why the bytes of some samples are not taken along: they may lie outside the store too.
 abbrev pub RefusesStretch : List ℕ → Stretch → ℕ → ℕ → ℕ → ℕ → Refusal → Type 0
-RefusesStretch file s reads reads_after puts puts_after refusals.StoreFailed = HasRisen reads reads_after
-RefusesStretch file s reads reads_after puts puts_after refusals.StoreChanged = length file < s.at + s.len
-RefusesStretch file s reads reads_after puts puts_after refusals.WriteFailed = HasRisen puts puts_after
+RefusesStretch file s reads reads_after puts puts_after refusals.StoreFailed =
+    HasRisen reads reads_after
+RefusesStretch file s reads reads_after puts puts_after refusals.StoreChanged = length file < s.at
+    + s.len
+RefusesStretch file s reads reads_after puts puts_after refusals.WriteFailed =
+    HasRisen puts puts_after
 RefusesStretch file s reads reads_after puts puts_after _ = ⊥
 
 -- Why the bytes of samples in hand are not taken along.
@@ -49,7 +56,9 @@ RefusesCarry reads reads_after puts puts_after refusals.StoreChanged = Unit {0}
 RefusesCarry reads reads_after puts puts_after refusals.WriteFailed = HasRisen puts puts_after
 RefusesCarry reads reads_after puts puts_after _ = ⊥
 
--- Why a track is not copied: what the sink holds, before and after, and counts of failed reads, and of failed puts.
+-- Why a track is not copied: what the sink holds, before and after, and counts of failed reads, and
+-- of failed puts.
 abbrev pub RefusesCopy : Option (List ℕ) → Option (List ℕ) → ℕ → ℕ → ℕ → ℕ → Refusal → Type 0
 RefusesCopy before after reads reads_after puts puts_after refusals.Memory = after ≡ before
-RefusesCopy before after reads reads_after puts puts_after r = RefusesCarry reads reads_after puts puts_after r
+RefusesCopy before after reads reads_after puts puts_after r =
+    RefusesCarry reads reads_after puts puts_after r

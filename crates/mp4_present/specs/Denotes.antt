@@ -24,7 +24,8 @@ pub record FileTree : Type 0 where
 -- no `moof` stands before the `moov`
 abbrev pub begins_with_movie : List Box → Bool
 begins_with_movie [] = true
-begins_with_movie (b ∷ boxes) = cond (bytes_eq (codes "moov") b.kind) true (cond (bytes_eq (codes "moof") b.kind) false (begins_with_movie boxes))
+begins_with_movie (b ∷ boxes) = cond (bytes_eq (codes "moov") b.kind) true
+    (cond (bytes_eq (codes "moof") b.kind) false (begins_with_movie boxes))
 
 -- The file is tiled by these boxes, in each container by those of the profile.
 pub record IsFileTree (file : List ℕ) (t : FileTree) : Type 0 where
@@ -37,7 +38,8 @@ pub record IsFileTree (file : List ℕ) (t : FileTree) : Type 0 where
 
 -- the tables of each track can be read
 abbrev pub HasSoundTables : MovieTree → Type 0
-HasSoundTables m = AllByRecursion (λ (t : TrackTree). AreSound (ruled rules.SampleTable) t.table) m.tracks
+HasSoundTables m = AllByRecursion (λ (t : TrackTree). AreSound (ruled rules.SampleTable) t.table)
+    m.tracks
 
 -- the leaves of each `traf` can be read
 abbrev pub IsSoundFragment : FragmentTree → Type 0
@@ -55,7 +57,11 @@ abbrev pub surroundings : List ℕ → TrackTree → Surroundings
 surroundings file t = record { file_length = length file; descriptions = length t.descriptions }
 
 abbrev pub track_infos : MovieTree → List TrackInfo
-track_infos m = map (λ (t : TrackTree). record { id = (track_head_of t).id; descriptions = length t.descriptions }) m.tracks
+track_infos m =
+    map (λ (t : TrackTree). record {
+      id = (track_head_of t).id;
+      descriptions = length t.descriptions;
+    }) m.tracks
 
 -- the `traf`s of the whole file as what they say
 abbrev pub file_parts : FileTree → List Part
@@ -75,14 +81,24 @@ first_due parts t = start_of (plain_of t) (parts_of_track parts t) + duration_of
 abbrev pub plain_keys : TrackTree → List GroupKey
 plain_keys t = keys_after [] (tables_of t.table).groups
 
--- The tables of each track fit, each `traf` names a track that has a `trex`, indexes name descriptions, samples lie in the file, each `sbgp` keeps its rules, and each `tfdt` is on time.
+-- The tables of each track fit, each `traf` names a track that has a `trex`, indexes name
+-- descriptions, samples lie in the file, each `sbgp` keeps its rules, and each `tfdt` is on time.
 pub record IsConsistent (file : List ℕ) (t : FileTree) : Type 0 where
-  pub tables : AllByRecursion (λ (track : TrackTree). Fit (surroundings file track) (tables_of track.table)) t.movie.tracks
-  pub known : AllByRecursion (λ (part : Part). IsTrue (is_known (track_infos t.movie) (trexes_of t.movie) part)) (file_parts t)
-  pub indexes : AllByRecursion (λ (part : Part). IsTrue (has_indexes (track_infos t.movie) part)) (file_parts t)
-  pub places : AllByRecursion (λ (part : Part). AllByRecursion (λ run. IsTrue (is_within (length file) run)) part.runs) (file_parts t)
-  pub groups : AllByRecursion (λ (track : TrackTree). AreGrouped (plain_keys track) (parts_of_track (file_parts t) track)) t.movie.tracks
-  pub times : AllByRecursion (λ (track : TrackTree). AreOnTime (first_due (file_parts t) track) (parts_of_track (file_parts t) track)) t.movie.tracks
+  pub tables : AllByRecursion (λ (track : TrackTree).
+      Fit (surroundings file track) (tables_of track.table)) t.movie.tracks
+  pub known : AllByRecursion
+      (λ (part : Part). IsTrue (is_known (track_infos t.movie) (trexes_of t.movie) part))
+      (file_parts t)
+  pub indexes : AllByRecursion (λ (part : Part). IsTrue (has_indexes (track_infos t.movie) part))
+      (file_parts t)
+  pub places : AllByRecursion
+      (λ (part : Part). AllByRecursion (λ run. IsTrue (is_within (length file) run)) part.runs)
+      (file_parts t)
+  pub groups : AllByRecursion (λ (track : TrackTree).
+      AreGrouped (plain_keys track) (parts_of_track (file_parts t) track)) t.movie.tracks
+  pub times : AllByRecursion (λ (track : TrackTree).
+      AreOnTime (first_due (file_parts t) track) (parts_of_track (file_parts t) track))
+      t.movie.tracks
 
 -- the bytes at a place
 abbrev pub bytes_at : List ℕ → ℤ → ℕ → List ℕ
@@ -90,7 +106,14 @@ bytes_at file (pos at) size = take size (drop at file)
 bytes_at file (negsuc below) size = []
 
 abbrev pub sample_of : List ℕ → PlacedSample → Sample
-sample_of file s = record { duration = s.duration; offset = s.offset; flags = s.flags; description = s.description; bytes = bytes_at file s.at s.size; groups = s.groups }
+sample_of file s = record {
+  duration = s.duration;
+  offset = s.offset;
+  flags = s.flags;
+  description = s.description;
+  bytes = bytes_at file s.at s.size;
+  groups = s.groups;
+}
 
 -- a track's samples: those of its tables, then those of its fragments
 abbrev pub placed_of : List Part → TrackTree → List PlacedSample
@@ -104,7 +127,10 @@ track_of file parts t = record {
 }
 
 abbrev pub presentation_of : List ℕ → FileTree → Presentation
-presentation_of file t = record { movie = movie_head_of t.movie; tracks = map (track_of file (file_parts t)) t.movie.tracks }
+presentation_of file t = record {
+  movie = movie_head_of t.movie;
+  tracks = map (track_of file (file_parts t)) t.movie.tracks;
+}
 
 abbrev pub movie_timescale : List ℕ → FileTree → ℕ
 movie_timescale file t = (movie_head_of t.movie).timescale

@@ -25,13 +25,17 @@ AreLast all left = (n : ℕ) × (left ≡ drop n all)
 
 -- the same samples later
 abbrev pub Follows : InHand → InHand → Type 0
-Follows (hands.Tables a) (hands.Tables b) = (b.tables ≡ a.tables) × (passed a.place ≤ passed b.place)
-Follows (hands.Fragment a) (hands.Fragment b) = (b.payload ≡ a.payload) × (b.moof ≡ a.moof) × (b.tracks ≡ a.tracks) × (a.place.passed ≤ b.place.passed) × TimeGoesOn a b × AreLast (samples_coming a) (samples_coming b)
+Follows (hands.Tables a) (hands.Tables b) = (b.tables ≡ a.tables)
+    × (passed a.place ≤ passed b.place)
+Follows (hands.Fragment a) (hands.Fragment b) = (b.payload ≡ a.payload) × (b.moof ≡ a.moof)
+    × (b.tracks ≡ a.tracks) × (a.place.passed ≤ b.place.passed) × TimeGoesOn a b
+    × AreLast (samples_coming a) (samples_coming b)
 Follows _ _ = ⊥
 
 -- it is a place among these samples, and theirs
 abbrev pub IsPlaceOf : InHand → Place → Type 0
-IsPlaceOf (hands.Tables c) (places.Tables p) = (p ≡ c.place) × IsPlace c.tables.payload c.tables.at p
+IsPlaceOf (hands.Tables c) (places.Tables p) = (p ≡ c.place)
+    × IsPlace c.tables.payload c.tables.at p
 IsPlaceOf (hands.Fragment c) (places.Fragment p) = (p ≡ c.place) × IsPlaceIn c.payload p
 IsPlaceOf _ _ = ⊥
 
@@ -39,7 +43,8 @@ IsPlaceOf _ _ = ⊥
 pub last_all : (all : List SampleAt) → AreLast all all
 last_all all = (0, refl)
 
-pub last_of_last : (all mid left : List SampleAt) → AreLast all mid → AreLast mid left → AreLast all left
+pub last_of_last : (all mid left : List SampleAt) → AreLast all mid → AreLast mid left
+    → AreLast all left
 last_of_last all mid left p q = (p.0 + q.0, q.1 ∙ ap (drop q.0) p.1 ∙ drop-drop q.0 p.0 all)
 
 -- they are the same as themselves, and later ones of later ones are later ones
@@ -49,7 +54,14 @@ follows_itself (hands.Fragment c) = (refl, refl, refl, le_refl _, refl, last_all
 
 pub follows_on : (s t u : InHand) → Follows s t → Follows t u → Follows s u
 follows_on (hands.Tables a) (hands.Tables b) (hands.Tables c) p q = (q.0 ∙ p.0, le_trans p.1 q.1)
-follows_on (hands.Fragment a) (hands.Fragment b) (hands.Fragment c) p q = (q.0 ∙ p.0, q.1 ∙ p.1, q.2 ∙ p.2, le_trans p.3 q.3, q.4 ∙ p.4, last_of_last (samples_coming a) (samples_coming b) (samples_coming c) p.5 q.5)
+follows_on (hands.Fragment a) (hands.Fragment b) (hands.Fragment c) p q = (
+  q.0 ∙ p.0,
+  q.1 ∙ p.1,
+  q.2 ∙ p.2,
+  le_trans p.3 q.3,
+  q.4 ∙ p.4,
+  last_of_last (samples_coming a) (samples_coming b) (samples_coming c) p.5 q.5,
+)
 follows_on (hands.Tables a) (hands.Tables b) (hands.Fragment c) p q = absurd q
 follows_on (hands.Tables a) (hands.Fragment b) c p q = absurd p
 follows_on (hands.Fragment a) (hands.Fragment b) (hands.Tables c) p q = absurd q

@@ -1,4 +1,5 @@
--- A presentation's tracks beside what was read of them: how long they are, and which limits they pass.
+-- A presentation's tracks beside what was read of them: how long they are, and which limits they
+-- pass.
 use Rattle.std.specs.Prelude.{◌≡◌, ℕ, ◌<◌, ◌⊎◌, ◌*◌, if◌then◌else◌, List, [], ◌∷◌, take, ⊤, Some, slice_get, codes}
 use Rattle.std.specs.Int.{div_ceil}
 use Rattle.std.specs.List.{AllByRecursion}
@@ -16,7 +17,8 @@ use Rattle.mp4_present.specs.Presentation.{Presentation, Track, IsInTime, says_a
 
 -- the length of a track by its edits, where each says how long it is; else by its samples
 abbrev pub length_by : List Edit → ℕ → ℕ → ℕ → ℕ
-length_by edits duration timescale own = if says_all edits then sum_of (λ (e : Edit). e.segment_duration) edits else div_ceil (duration * timescale) own
+length_by edits duration timescale own = if says_all edits
+    then sum_of (λ (e : Edit). e.segment_duration) edits else div_ceil (duration * timescale) own
 
 -- the head of the track, and the track behind all of its samples
 pub record IsMeasured (t : Track) (h : TrackHead) (s : TrackState) : Type 0 where
@@ -27,7 +29,8 @@ pub record IsMeasured (t : Track) (h : TrackHead) (s : TrackState) : Type 0 wher
 
 abbrev pub AreMeasured : List Track → List TrackHead → List TrackState → Type 0
 AreMeasured [] [] [] = ⊤
-AreMeasured (t ∷ tracks) (h ∷ heads) (s ∷ states) = IsMeasured t h s × AreMeasured tracks heads states
+AreMeasured (t ∷ tracks) (h ∷ heads) (s ∷ states) = IsMeasured t h s
+    × AreMeasured tracks heads states
 AreMeasured _ _ _ = ⊥
 
 -- these heads and tracks are those of the presentation

@@ -72,7 +72,12 @@ pub record IsMovie (m : MovieSeen) : Type 0 where
 
 -- the `moov` that is kept
 abbrev pub moov_box : MovieSeen → Box
-moov_box m = record { kind = m.top.header.kind.0; offset = m.top.offset; header = m.top.header.header; payload = m.moov }
+moov_box m = record {
+  kind = m.top.header.kind.0;
+  offset = m.top.offset;
+  header = m.top.header.header;
+  payload = m.moov;
+}
 
 -- the payload of the `moof` in hand
 abbrev pub moof_bytes : Walk → List ℕ
@@ -80,39 +85,66 @@ moof_bytes w = take w.used w.bytes.items
 
 -- the `moof` that the walk holds
 abbrev pub moof_box : Walk → Box
-moof_box w = record { kind = w.moof.header.kind.0; offset = w.moof.offset; header = w.moof.header.header; payload = moof_bytes w }
+moof_box w = record {
+  kind = w.moof.header.kind.0;
+  offset = w.moof.offset;
+  header = w.moof.header.header;
+  payload = moof_bytes w;
+}
 
 -- the walk stands before one of the samples in hand, or behind them
 abbrev pub StandsAt : MovieSeen → Walk → Place → Type 0
-StandsAt m w (Tables p) = (t : TrackTables) × (slice_get m.tables w.track ≡ Some t) × IsPlace (table_bytes m.moov t) t.tables p
-StandsAt m w (Fragment p) = (w.used ≤ length w.bytes.items) × Fills w.used w.moof × IsPlaceIn (moof_bytes w) p
+StandsAt m w (Tables p) = (t : TrackTables) × (slice_get m.tables w.track ≡ Some t)
+    × IsPlace (table_bytes m.moov t) t.tables p
+StandsAt m w (Fragment p) = (w.used ≤ length w.bytes.items) × Fills w.used w.moof
+    × IsPlaceIn (moof_bytes w) p
 
 -- a walk over the samples of a track of this movie, wherever it stands
 pub record GoesOn (m : MovieSeen) (w : Walk) : Type 0 where
   pub track : w.track < length m.tracks
 
--- the samples of the track in the `moof` in hand: all, of which the first is due at this time, and those from a place on
+-- the samples of the track in the `moof` in hand: all, of which the first is due at this time, and
+-- those from a place on
 abbrev pub all_in_moof : MovieSeen → Walk → TrackInfo → ℕ → List SampleAt
 all_in_moof m w info due = samples_in (moof_box w) m.states info.id due (keys_seen info.keys)
 
 abbrev pub moof_hand : MovieSeen → Walk → FragPlace → CursorSeen
-moof_hand m w p = record { payload = moof_bytes w; moof = w.moof.offset; tracks = m.states; place = p }
+moof_hand m w p = record {
+  payload = moof_bytes w;
+  moof = w.moof.offset;
+  tracks = m.states;
+  place = p;
+}
 
--- the samples from a place on are the last of the tables, or of the `moof` in hand, before which this was due
+-- the samples from a place on are the last of the tables, or of the `moof` in hand, before which
+-- this was due
 abbrev pub IsRest : MovieSeen → Walk → Option Due → Place → Type 0
 IsRest m w None (Tables p) = ⊤
-IsRest m w (Some before) (Fragment p) = (info : TrackInfo) → slice_get m.tracks w.track ≡ Some info → AreLast (all_in_moof m w info before.time) (samples_coming (moof_hand m w p))
+IsRest m w (Some before) (Fragment p) = (info : TrackInfo) → slice_get m.tracks w.track ≡ Some info
+    → AreLast (all_in_moof m w info before.time) (samples_coming (moof_hand m w p))
 IsRest m w _ _ = ⊥
 
 -- the mark of where a walk stands, before so many samples
 abbrev pub mark_of : Walk → ℕ → Mark
-mark_of w to_come = record { track = w.track; place = w.place; moof = w.moof; before = w.before; due = w.due; left = w.left; next = w.next; to_come = to_come }
+mark_of w to_come = record {
+  track = w.track;
+  place = w.place;
+  moof = w.moof;
+  before = w.before;
+  due = w.due;
+  left = w.left;
+  next = w.next;
+  to_come = to_come;
+}
 
--- The walk has marked a place in the tables, or one in a `moof`, which is in hand or further in front.
+-- The walk has marked a place in the tables, or one in a `moof`, which is in hand or further in
+-- front.
 abbrev pub HasMarked : MovieSeen → Walk → Option Due → Place → Type 0
 HasMarked m w None (Tables p) = StandsAt m w (Tables p)
-HasMarked m w (Some before) (Fragment p) = (w.mark.moof.offset + w.mark.moof.header.header ≤ w.mark.moof.header.end)
-    × (w.next ≡ w.mark.next → (w.before ≡ Some before) × (w.moof ≡ w.mark.moof) × StandsAt m w (Fragment p) × IsRest m w (Some before) (Fragment p))
+HasMarked m w (Some before) (Fragment p) = (w.mark.moof.offset + w.mark.moof.header.header
+    ≤ w.mark.moof.header.end)
+    × (w.next ≡ w.mark.next → (w.before ≡ Some before) × (w.moof ≡ w.mark.moof)
+    × StandsAt m w (Fragment p) × IsRest m w (Some before) (Fragment p))
 HasMarked m w _ _ = ⊥
 
 -- what the walk has marked is a place that it came past
@@ -130,8 +162,10 @@ pub record IsWalkOf (m : MovieSeen) (w : Walk) : Type 0 where
 
 -- the samples in hand of a walk that stands at a place
 abbrev pub HandAt : MovieSeen → Walk → Place → InHand → Type 0
-HandAt m w (Tables p) (hands.Tables c) = (t : TrackTables) × (slice_get m.tables w.track ≡ Some t) × (c ≡ record { tables = tables_seen m.moov t; place = p })
-HandAt m w (Fragment p) (hands.Fragment c) = c ≡ record { payload = moof_bytes w; moof = w.moof.offset; tracks = m.states; place = p }
+HandAt m w (Tables p) (hands.Tables c) = (t : TrackTables) × (slice_get m.tables w.track ≡ Some t)
+    × (c ≡ record { tables = tables_seen m.moov t; place = p })
+HandAt m w (Fragment p) (hands.Fragment c) = c
+    ≡ record { payload = moof_bytes w; moof = w.moof.offset; tracks = m.states; place = p }
 HandAt m w _ _ = ⊥
 
 -- what the walk has in hand

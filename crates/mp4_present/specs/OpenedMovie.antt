@@ -24,12 +24,14 @@ use Rattle.mp4_present.specs.declared.outline.Outline.{Outline}
 use Rattle.mp4_present.specs.declared.movie.TrackTables.{TrackTables}
 use Rattle.mp4_present.specs.declared.track_info.TrackInfo.{TrackInfo}
 
--- The tables lie where the payload of the track's `stbl` lies in that of the `moov`, and are those of its boxes.
+-- The tables lie where the payload of the track's `stbl` lies in that of the `moov`, and are those
+-- of its boxes.
 pub record AreTablesOf (moov : List ℕ) (t : TrackTree) (found : TrackTables) : Type 0 where
   pub bytes : table_bytes moov found ≡ (stbl_of t).payload
   pub says : tables_at (stbl_of t).payload found.tables ≡ tables_of t.table
 
--- a track behind the samples of its tables, which begin at decode time 0; what its fragments inherit is one of these
+-- a track behind the samples of its tables, which begin at decode time 0; what its fragments
+-- inherit is one of these
 abbrev pub plain_seen : List Trex → TrackTree → TrackSeen
 plain_seen trexes t = record {
   id = (track_head_of t).id;
@@ -43,7 +45,8 @@ plain_seen trexes t = record {
 }
 
 -- A track in numbers: those of the track that the file's boxes say.
-pub record IsInfoOf (file : List ℕ) (tree : FileTree) (t : TrackTree) (info : TrackInfo) : Type 0 where
+pub record IsInfoOf (file : List ℕ) (tree : FileTree) (t : TrackTree) (info : TrackInfo)
+    : Type 0 where
   pub id : info.id ≡ (track_head_of t).id
   pub timescale : info.timescale ≡ (track_head_of t).media.timescale
   pub start : info.start ≡ (track_of file (file_parts tree) t).start
@@ -65,7 +68,8 @@ pub record IsInfoBy (h : TrackHead) (s : TrackState) (info : TrackInfo) : Type 0
 -- the same of all tracks
 abbrev pub AreInfosBy : List TrackHead → List TrackState → List TrackInfo → Type 0
 AreInfosBy [] [] [] = ⊤
-AreInfosBy (h ∷ heads) (s ∷ states) (info ∷ infos) = IsInfoBy h s info × AreInfosBy heads states infos
+AreInfosBy (h ∷ heads) (s ∷ states) (info ∷ infos) = IsInfoBy h s info
+    × AreInfosBy heads states infos
 AreInfosBy _ _ _ = ⊥
 
 -- the `moov` and each `moof` is of bytes
@@ -108,7 +112,8 @@ pub record IsMovieIn (p : Presentation) (m : MovieSeen) : Type 0 where
 abbrev pub OpensAs : List ℕ → MovieSeen → Type 0
 OpensAs file m = (p : Presentation) × Denotes file p × IsMovieIn p m
 
--- what is kept of a file of so many bytes, with this outline and this `moov`, of which this was found
+-- what is kept of a file of so many bytes, with this outline and this `moov`, of which this was
+-- found
 abbrev pub kept_of : Outline → List ℕ → ℕ → Found → MovieSeen
 kept_of o moov file_length f = record {
   top = o.moov;

@@ -15,9 +15,12 @@ use Rattle.mp4_present.specs.declared.outline.Outline.{Outline}
 
 -- the file of an honest store has the boxes of the table, with this outline
 abbrev pub HasOutline : Bool → List ℕ → Outline → Type 0
-HasOutline honest file o = IsTrue honest → (boxes : List Box) × Holds File (file_container file) boxes × (begins_with_movie boxes ≡ true) × IsOutline file boxes o
+HasOutline honest file o = IsTrue honest → (boxes : List Box)
+    × Holds File (file_container file) boxes × (begins_with_movie boxes ≡ true)
+    × IsOutline file boxes o
 
--- What is kept of the file: its length, its `moov`, where its first `moof` begins, and how long its longest is.
+-- What is kept of the file: its length, its `moov`, where its first `moof` begins, and how long its
+-- longest is.
 pub record IsOpened (file : List ℕ) (m : MovieSeen) : Type 0 where
   pub boxes : List Box
   pub holds : Holds File (file_container file) boxes
@@ -27,7 +30,8 @@ pub record IsOpened (file : List ℕ) (m : MovieSeen) : Type 0 where
   pub fragments : BeginAt m.fragments boxes
   pub longest_is : m.longest ≡ longest (of_kind (codes "moof") boxes)
 
--- The file's own boxes are those of the table, its `moov` is sound apart from sample tables, and its tracks have these IDs, in order.
+-- The file's own boxes are those of the table, its `moov` is sound apart from sample tables, and
+-- its tracks have these IDs, in order.
 pub record HasMovie (file : List ℕ) (ids : List ℕ) : Type 0 where
   pub boxes : List Box
   pub holds : Holds File (file_container file) boxes

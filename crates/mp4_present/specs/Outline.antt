@@ -30,7 +30,8 @@ IsOrdered (Some top) boxes = begins_with_movie boxes ≡ true
 -- the first `moof` begins at the place, or there is none
 abbrev pub BeginAt : Option ℕ → List Box → Type 0
 BeginAt None boxes = of_kind (codes "moof") boxes ≡ []
-BeginAt (Some at) boxes = (before after : List Box) × (before ++ after ≡ boxes) × (of_kind (codes "moof") before ≡ []) × (sizes before ≡ at)
+BeginAt (Some at) boxes = (before after : List Box) × (before ++ after ≡ boxes)
+    × (of_kind (codes "moof") before ≡ []) × (sizes before ≡ at)
 
 -- the length of the longest of some boxes, 0 where there is none
 abbrev pub longest : List Box → ℕ

@@ -16,7 +16,8 @@ use Rattle.mp4_present.specs.Passing.{IsMovieOf, AreBehind}
 use Rattle.mp4_present.specs.Stands.{Stands}
 
 -- The file's boxes, its `moov`, and the tracks behind their tables.
-pub record IsBegun (file : List ℕ) (movie : MovieTree) (boxes : List Box) (states : List TrackState) (room : ℕ) : Type 0 where
+pub record IsBegun (file : List ℕ) (movie : MovieTree) (boxes : List Box) (states : List TrackState)
+    (room : ℕ) : Type 0 where
   pub holds : Holds File (file_container file) boxes
   pub order : begins_with_movie boxes ≡ true
   pub is_moov : of_kind (codes "moov") boxes ≡ movie.moov ∷ []
@@ -25,17 +26,21 @@ pub record IsBegun (file : List ℕ) (movie : MovieTree) (boxes : List Box) (sta
   pub behind : AreBehind file movie [] states room
 
 -- All of its `moof`s were passed: they are as they should be, and these are the tracks behind them.
-pub record IsPassed (file : List ℕ) (movie : MovieTree) (boxes : List Box) (states : List TrackState) : Type 0 where
+pub record IsPassed (file : List ℕ) (movie : MovieTree) (boxes : List Box)
+    (states : List TrackState) : Type 0 where
   pub fragments : List FragmentTree
   pub bytes : AllByRecursion (λ (t : FragmentTree). AreBytes t.moof.payload) fragments
   pub moofs : map (λ (t : FragmentTree). t.moof) fragments ≡ of_kind (codes "moof") boxes
   pub room : ℕ
   pub behind : AreBehind file movie fragments states room
 
--- Why the `moof`s of a file are not passed. The numbers are counts of failed reads, before and after.
+-- Why the `moof`s of a file are not passed. The numbers are counts of failed reads, before and
+-- after.
 abbrev pub RefusesFragments : Bool → List ℕ → List TrackState → ℕ → ℕ → ℕ → Refusal → Type 0
-RefusesFragments honest file states room reads reads_after (refusals.Fault f) = IsTrue honest → (movie : MovieTree) (boxes : List Box) → IsBegun file movie boxes states room → Stands file f
+RefusesFragments honest file states room reads reads_after (refusals.Fault f) = IsTrue honest
+    → (movie : MovieTree) (boxes : List Box) → IsBegun file movie boxes states room → Stands file f
 RefusesFragments honest file states room reads reads_after refusals.Memory = Unit {0}
-RefusesFragments honest file states room reads reads_after refusals.StoreFailed = HasRisen reads reads_after
+RefusesFragments honest file states room reads reads_after refusals.StoreFailed =
+    HasRisen reads reads_after
 RefusesFragments honest file states room reads reads_after refusals.StoreChanged = IsTrue honest → ⊥
 RefusesFragments honest file states room reads reads_after _ = ⊥

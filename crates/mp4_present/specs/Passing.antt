@@ -1,4 +1,5 @@
--- What is known of the tracks of a movie, and of the room for samples, between two `moof`s of a file.
+-- What is known of the tracks of a movie, and of the room for samples, between two `moof`s of a
+-- file.
 use Rattle.std.specs.Prelude.{◌≡◌, ℕ, ◌+◌, List, [], ◌∷◌, ◌++◌, length, map, pos, codes}
 use Rattle.std.specs.List.{AllByRecursion}
 use Rattle.mp4_boxes.specs.Bytes.{sum_of}
@@ -24,13 +25,15 @@ pub record IsMovieOf (file : List ℕ) (movie : MovieTree) : Type 0 where
   pub tree : IsMovieTree movie
   pub sound : IsSoundMovie movie
   pub tables_sound : HasSoundTables movie
-  pub tables_fit : AllByRecursion (λ (t : TrackTree). Fit (surroundings file t) (tables_of t.table)) movie.tracks
+  pub tables_fit : AllByRecursion (λ (t : TrackTree). Fit (surroundings file t) (tables_of t.table))
+      movie.tracks
 
 -- the parts of these `moof`s
 abbrev pub parts_behind : MovieTree → List FragmentTree → List Part
 parts_behind movie earlier = all_parts (trexes_of movie) (map fragment_of earlier)
 
--- a track behind the samples of its tables and of these parts: how many came, when it starts, when the next one is due, how many bytes they take, which keys it named
+-- a track behind the samples of its tables and of these parts: how many came, when it starts, when
+-- the next one is due, how many bytes they take, which keys it named
 abbrev pub seen_behind : MovieTree → List Part → TrackTree → TrackSeen
 seen_behind movie parts t = record {
   id = (track_head_of t).id;
@@ -43,16 +46,22 @@ seen_behind movie parts t = record {
   keys = keys_behind (plain_keys t) (parts_of_track parts t);
 }
 
--- These `moof`s are as they should be, and these are the tracks and the room for samples behind them.
-pub record AreBehind (file : List ℕ) (movie : MovieTree) (earlier : List FragmentTree) (states : List TrackState) (room : ℕ) : Type 0 where
+-- These `moof`s are as they should be, and these are the tracks and the room for samples behind
+-- them.
+pub record AreBehind (file : List ℕ) (movie : MovieTree) (earlier : List FragmentTree)
+    (states : List TrackState) (room : ℕ) : Type 0 where
   pub trees : AllByRecursion IsFragmentTree earlier
   pub sound : AllByRecursion IsSoundFragment earlier
   pub consistent : AreConsistent file movie (parts_behind movie earlier)
-  pub seen : map track_seen states ≡ map (seen_behind movie (parts_behind movie earlier)) movie.tracks
-  pub left : room + (table_total movie.tracks + sum_of (λ (e : FragmentTree). trafs_total e.trafs) earlier) ≡ max_samples
+  pub seen : map track_seen states
+      ≡ map (seen_behind movie (parts_behind movie earlier)) movie.tracks
+  pub left : room
+      + (table_total movie.tracks + sum_of (λ (e : FragmentTree). trafs_total e.trafs) earlier)
+      ≡ max_samples
 
 -- the `moof` stands behind these boxes of the file, among them the `moov` and these `moof`s
-pub record IsNextMoof (file : List ℕ) (movie : MovieTree) (earlier : List FragmentTree) (before : List Box) (moof : Box) : Type 0 where
+pub record IsNextMoof (file : List ℕ) (movie : MovieTree) (earlier : List FragmentTree)
+    (before : List Box) (moof : Box) : Type 0 where
   pub stands : StandsAfter (file_container file) before moof
   pub is_moof : moof.kind ≡ codes "moof"
   pub is_moov : of_kind (codes "moov") before ≡ movie.moov ∷ []
@@ -63,23 +72,29 @@ pub record IsNextMoof (file : List ℕ) (movie : MovieTree) (earlier : List Frag
 -- before the first `moof`
 abbrev pub BeginsBehind : Type 0
 BeginsBehind = (file : List ℕ) (movie : MovieTree) (states : List TrackState) (room : ℕ)
-    → map track_seen states ≡ map (seen_behind movie []) movie.tracks → room + table_total movie.tracks ≡ max_samples → AreBehind file movie [] states room
+    → map track_seen states ≡ map (seen_behind movie []) movie.tracks
+    → room + table_total movie.tracks ≡ max_samples → AreBehind file movie [] states room
 
 -- what the fragments of each track inherit, as the check of a `moof` wants it
 abbrev pub TrexesBehind : Type 0
-TrexesBehind = (file : List ℕ) (movie : MovieTree) (earlier : List FragmentTree) (states : List TrackState) (room : ℕ)
+TrexesBehind = (file : List ℕ) (movie : MovieTree) (earlier : List FragmentTree)
+    (states : List TrackState) (room : ℕ)
     → AreBehind file movie earlier states room → AreTrexesOf (trexes_of movie) states
 
 -- one more `moof` that was accepted
 abbrev pub PassesMoof : Type 0
-PassesMoof = (file : List ℕ) (movie : MovieTree) (earlier : List FragmentTree) (moof : Box) (states new : List TrackState) (room less : ℕ)
+PassesMoof = (file : List ℕ) (movie : MovieTree) (earlier : List FragmentTree) (moof : Box)
+    (states new : List TrackState) (room less : ℕ)
     → IsMovieOf file movie → AreBehind file movie earlier states room
     → IsSoundMoof (length file) (trexes_of movie) states (tree_of moof)
-    → AreMovedOn moof.offset (pos moof.offset) (of_kind (codes "traf") (children_of moof)) states new room less
+    → AreMovedOn moof.offset (pos moof.offset) (of_kind (codes "traf") (children_of moof))
+    states new room less
     → AreBehind file movie (earlier ++ tree_of moof ∷ []) new less
 
 -- one that was refused
 abbrev pub RefusesMoof : Type 0
-RefusesMoof = (file : List ℕ) (movie : MovieTree) (earlier : List FragmentTree) (before : List Box) (moof : Box) (states : List TrackState) (room : ℕ) (f : Fault)
-    → IsMovieOf file movie → AreBehind file movie earlier states room → IsNextMoof file movie earlier before moof
+RefusesMoof = (file : List ℕ) (movie : MovieTree) (earlier : List FragmentTree) (before : List Box)
+    (moof : Box) (states : List TrackState) (room : ℕ) (f : Fault)
+    → IsMovieOf file movie → AreBehind file movie earlier states room
+    → IsNextMoof file movie earlier before moof
     → MoofFails (length file) states room moof f → Stands file f

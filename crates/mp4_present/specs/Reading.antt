@@ -11,15 +11,23 @@ use Rattle.mp4_present.specs.declared.reading.TopBox.{TopBox}
 
 -- the header that stands at this place of the file itself
 abbrev pub IsTopHeader : List ℕ → ℕ → TopHeader → Type 0
-IsTopHeader file at h = header_there true (length file - at) (drop at file) (codes "file") at ≡ Ok (top_header_seen at h)
+IsTopHeader file at h = header_there true (length file - at) (drop at file) (codes "file") at
+    ≡ Ok (top_header_seen at h)
 
 -- the box that a top-level header begins
 abbrev pub top_box : List ℕ → ℕ → TopHeader → Box
-top_box file at h = record { kind = h.kind.0; offset = at; header = h.header; payload = take (h.end - at - h.header) (drop (at + h.header) file) }
+top_box file at h = record {
+  kind = h.kind.0;
+  offset = at;
+  header = h.header;
+  payload = take (h.end - at - h.header) (drop (at + h.header) file);
+}
 
--- Why a top-level header is not read: it has a fault, or the read failed. The numbers are counts of failed reads, before and after.
+-- Why a top-level header is not read: it has a fault, or the read failed. The numbers are counts of
+-- failed reads, before and after.
 abbrev pub RefusesHeader : Bool → List ℕ → ℕ → ℕ → ℕ → Refusal → Type 0
-RefusesHeader honest file at reads reads_after (refusals.Fault f) = IsTrue honest → header_there true (length file - at) (drop at file) (codes "file") at ≡ Err f
+RefusesHeader honest file at reads reads_after (refusals.Fault f) = IsTrue honest
+    → header_there true (length file - at) (drop at file) (codes "file") at ≡ Err f
 RefusesHeader honest file at reads reads_after refusals.StoreFailed = HasRisen reads reads_after
 RefusesHeader honest file at reads reads_after _ = ⊥
 
@@ -37,5 +45,6 @@ RefusesFront reads reads_after _ = ⊥
 -- Why the payload of a box is not read to a room of so many bytes.
 abbrev pub RefusesPayload : ℕ → TopBox → ℕ → ℕ → Refusal → Type 0
 RefusesPayload room top reads reads_after refusals.StoreFailed = HasRisen reads reads_after
-RefusesPayload room top reads reads_after refusals.StoreChanged = top.offset + top.header.header + room < top.header.end
+RefusesPayload room top reads reads_after refusals.StoreChanged = top.offset + top.header.header
+    + room < top.header.end
 RefusesPayload room top reads reads_after _ = ⊥

@@ -32,23 +32,32 @@ AreTracksOf trees tracks = AllZip IsTrackOf trees tracks
 
 -- what is around the tables of a track in a file of so many bytes
 abbrev pub surroundings_in : ℕ → TrackTree → Surroundings
-surroundings_in file_length t = record { file_length = file_length; descriptions = length t.descriptions }
+surroundings_in file_length t = record {
+  file_length = file_length;
+  descriptions = length t.descriptions;
+}
 
 -- the fault is in the tables of a track, where so many samples are still allowed
 abbrev pub TableFails : ℕ → ℕ → TrackTree → Fault → Type 0
-TableFails file_length room t f = IsFault (record { file_len = file_length; descriptions = length t.descriptions; room = room }) (stbl_of t) f
+TableFails file_length room t f =
+    IsFault (record { file_len = file_length; descriptions = length t.descriptions; room = room })
+    (stbl_of t) f
 
 -- The tables of these tracks can be read and fit, and this is what is kept of them.
-pub record HaveTables (file_length : ℕ) (moov : List ℕ) (trexes : List Trex) (trees : List TrackTree) (plain : PlainTracks) : Type 0 where
+pub record HaveTables (file_length : ℕ) (moov : List ℕ) (trexes : List Trex)
+    (trees : List TrackTree) (plain : PlainTracks) : Type 0 where
   pub sound : AllByRecursion (λ (t : TrackTree). AreSound (ruled SampleTable) t.table) trees
-  pub fit : AllByRecursion (λ (t : TrackTree). Fit (surroundings_in file_length t) (tables_of t.table)) trees
+  pub fit : AllByRecursion (λ (t : TrackTree).
+      Fit (surroundings_in file_length t) (tables_of t.table)) trees
   pub tables : AllZip (AreTablesOf moov) trees plain.tables.items
   pub states : map track_seen plain.states.items ≡ map (plain_seen trexes) trees
   pub room : plain.room + table_total trees ≡ max_samples
 
--- Why the tables of a track are refused: one of them, or what they say together, is at fault, or they name more samples than there is room for; or there is no memory.
+-- Why the tables of a track are refused: one of them, or what they say together, is at fault, or
+-- they name more samples than there is room for; or there is no memory.
 abbrev pub RefusesTable : ℕ → ℕ → TrackHead → Refusal → Type 0
-RefusesTable file_length room h (refusals.Fault f) = (t : TrackTree) → IsTrackOf t h → TableFails file_length room t f
+RefusesTable file_length room h (refusals.Fault f) = (t : TrackTree) → IsTrackOf t h
+    → TableFails file_length room t f
 RefusesTable file_length room h refusals.Memory = Unit {0}
 RefusesTable file_length room h _ = ⊥
 
@@ -65,6 +74,7 @@ pub record TablesFail (file_length : ℕ) (trees : List TrackTree) (f : Fault) :
 
 -- the same of all tracks of a movie
 abbrev pub RefusesTables : ℕ → List TrackHead → Refusal → Type 0
-RefusesTables file_length tracks (refusals.Fault f) = (trees : List TrackTree) → AreTracksOf trees tracks → TablesFail file_length trees f
+RefusesTables file_length tracks (refusals.Fault f) = (trees : List TrackTree)
+    → AreTracksOf trees tracks → TablesFail file_length trees f
 RefusesTables file_length tracks refusals.Memory = Unit {0}
 RefusesTables file_length tracks _ = ⊥

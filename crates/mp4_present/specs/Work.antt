@@ -1,4 +1,5 @@
--- The steps of opening a file, and of walks over its samples: one for each row, `traf`, run or sample that a check or a cursor passes.
+-- The steps of opening a file, and of walks over its samples: one for each row, `traf`, run or
+-- sample that a check or a cursor passes.
 use Rattle.std.specs.Prelude.{◌≡◌, ◌⊎◌, ℕ, ◌+◌, ◌*◌, ◌^◌, ◌≤◌, List, length, codes, Result, Ok, Err}
 use Rattle.mp4_boxes.specs.Bytes.{sum_of}
 use Rattle.mp4_boxes.specs.Box.{Box, file_container}
@@ -38,7 +39,8 @@ boxes_steps moofs = sum_of moof_steps moofs
 
 -- ---- opening
 
--- a check of the tables of a track and the sums over their samples: each row and each sample, as often as both of them look at it
+-- a check of the tables of a track and the sums over their samples: each row and each sample, as
+-- often as both of them look at it
 unfoldable pub table_steps : TrackTree → ℕ
 table_steps t = 7 * table_rows (tables_of t.table) + 3 * length (plain_of t)
 
@@ -52,17 +54,23 @@ IfNoFault (Ok x) P = P
 IfNoFault (Err (refusals.Fault f)) P = Unit {0}
 IfNoFault (Err r) P = P
 
--- Of a file with these boxes so many steps were taken: for each of its `moof`s no more than what it says.
+-- Of a file with these boxes so many steps were taken: for each of its `moof`s no more than what it
+-- says.
 abbrev pub ChecksWithin : List ℕ → ℕ → ℕ → Type 0
-ChecksWithin file old new = (boxes : List Box) → Holds File (file_container file) boxes → new ≤ old + boxes_steps (of_kind (codes "moof") boxes)
+ChecksWithin file old new = (boxes : List Box) → Holds File (file_container file) boxes
+    → new ≤ old + boxes_steps (of_kind (codes "moof") boxes)
 
--- By bytes, whatever the file says: no step was taken, or its `moov` holds some tracks, and for each of these, and once more, no more than 8 for each byte and each sample that a file may have.
+-- By bytes, whatever the file says: no step was taken, or its `moov` holds some tracks, and for
+-- each of these, and once more, no more than 8 for each byte and each sample that a file may have.
 abbrev pub OpensWithin : List ℕ → ℕ → ℕ → Type 0
-OpensWithin file old new = (new ≡ old) ⊎ ((ids : List ℕ) × HasMovie file ids × (new ≤ old + 8 * ((length ids + 1) * (2 ^ 24 + length file))))
+OpensWithin file old new = (new ≡ old)
+    ⊎ ((ids : List ℕ) × HasMovie file ids
+    × (new ≤ old + 8 * ((length ids + 1) * (2 ^ 24 + length file))))
 
 -- ---- walks
 
--- a way over the samples of a track's tables: each row, and each sample as its size, its byte of `sdtp` and itself
+-- a way over the samples of a track's tables: each row, and each sample as its size, its byte of
+-- `sdtp` and itself
 unfoldable pub table_way : TrackTree → ℕ
 table_way t = table_rows (tables_of t.table) + 3 * length (plain_of t)
 
@@ -71,8 +79,10 @@ abbrev pub way_through : TrackTree → Walk → Place → ℕ
 way_through t w (places.Tables p) = table_way t
 way_through t w (places.Fragment p) = moof_steps (moof_box w)
 
--- The walk over this track may take so many steps more: to the end of what it has in hand, and for each `moof` behind it a check and the way through it.
-pub record MayTake (file : List ℕ) (tree : FileTree) (t : TrackTree) (w : Walk) (n : ℕ) : Type 0 where
+-- The walk over this track may take so many steps more: to the end of what it has in hand, and for
+-- each `moof` behind it a check and the way through it.
+pub record MayTake (file : List ℕ) (tree : FileTree) (t : TrackTree) (w : Walk) (n : ℕ)
+    : Type 0 where
   pub earlier : List FragmentTree
   pub later : List FragmentTree
   pub stands : StandsBefore file tree t earlier later w

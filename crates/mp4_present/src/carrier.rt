@@ -36,9 +36,11 @@ fn read_in<S: Store>(
     requires room { at + len ≤ length buffer.old }
     ensures honesty { S.is_honest store.new ≡ S.is_honest store.old }
     ensures file { S.file store.new ≡ S.file store.old }
-    ensures bytes { OnOk result (IsTrue (S.is_honest store.old) → take (at + len) buffer.new ≡ take at buffer.old ++ range (S.file store.old) from len) }
+    ensures bytes { OnOk result (IsTrue (S.is_honest store.old)
+        → take (at + len) buffer.new ≡ take at buffer.old ++ range (S.file store.old) from len) }
     ensures reads { OnOk result (S.read_failures store.new ≡ S.read_failures store.old) }
-    ensures refusal { IfErr result (λ r. (r ≡ refusals.StoreFailed) × HasRisen (S.read_failures store.old) (S.read_failures store.new)) }
+    ensures refusal { IfErr result (λ r. (r ≡ refusals.StoreFailed)
+        × HasRisen (S.read_failures store.old) (S.read_failures store.new)) }
 {
     store.read_at(from, &mut buffer[at..at + len])?;
     Ok(())
@@ -65,10 +67,13 @@ impl Carrier {
     pub fn flush<K: Sink>(&mut self, sink: &mut K) -> Result<(), Refusal>
         ensures room { self.new.buffer ≡ self.old.buffer }
         ensures empty { OnOk result (self.new.used ≡ 0) }
-        ensures bytes { OnOk result (Appends (K.contents sink.old) (K.contents sink.new) (waiting self.old)) }
-        ensures prefix { OnErr result (AppendsPrefix (K.contents sink.old) (K.contents sink.new) (waiting self.old)) }
+        ensures bytes { OnOk result
+            (Appends (K.contents sink.old) (K.contents sink.new) (waiting self.old)) }
+        ensures prefix { OnErr result
+            (AppendsPrefix (K.contents sink.old) (K.contents sink.new) (waiting self.old)) }
         ensures puts { OnOk result (K.put_failures sink.new ≡ K.put_failures sink.old) }
-        ensures refusal { IfErr result (RefusesPut (K.put_failures sink.old) (K.put_failures sink.new)) }
+        ensures refusal { IfErr result
+            (RefusesPut (K.put_failures sink.old) (K.put_failures sink.new)) }
     {
         if self.used > 0 {
             sink.put(&self.buffer[..self.used])?;
@@ -82,10 +87,14 @@ impl Carrier {
         ensures room { vec_len self.new.buffer ≡ vec_len self.old.buffer }
         ensures few { IfOk result (λ n. self.new.used + n ≤ vec_len self.new.buffer) }
         ensures some { IfOk result (λ n. (n ≤ wanted) × (0 < wanted → 0 < n)) }
-        ensures bytes { OnOk result (BytesGoOn (K.contents sink.old) (K.contents sink.new) (waiting self.old) (waiting self.new) []) }
-        ensures prefix { OnErr result (AppendsPrefix (K.contents sink.old) (K.contents sink.new) (waiting self.old)) }
+        ensures bytes { OnOk result
+            (BytesGoOn (K.contents sink.old) (K.contents sink.new) (waiting self.old)
+            (waiting self.new) []) }
+        ensures prefix { OnErr result
+            (AppendsPrefix (K.contents sink.old) (K.contents sink.new) (waiting self.old)) }
         ensures puts { OnOk result (K.put_failures sink.new ≡ K.put_failures sink.old) }
-        ensures refusal { IfErr result (RefusesPut (K.put_failures sink.old) (K.put_failures sink.new)) }
+        ensures refusal { IfErr result
+            (RefusesPut (K.put_failures sink.old) (K.put_failures sink.new)) }
     {
         if self.used == self.buffer.len() {
             self.flush(sink)?;
@@ -115,10 +124,12 @@ impl Carrier {
         ensures room { vec_len self.new.buffer ≡ vec_len self.old.buffer }
         ensures honesty { S.is_honest store.new ≡ S.is_honest store.old }
         ensures file { S.file store.new ≡ S.file store.old }
-        ensures bytes { OnOk result (IsTrue (S.is_honest store.old) → waiting self.new ≡ waiting self.old ++ range (S.file store.old) from len) }
+        ensures bytes { OnOk result (IsTrue (S.is_honest store.old)
+            → waiting self.new ≡ waiting self.old ++ range (S.file store.old) from len) }
         ensures many { OnOk result (length (waiting self.new) ≡ length (waiting self.old) + len) }
         ensures reads { OnOk result (S.read_failures store.new ≡ S.read_failures store.old) }
-        ensures refusal { IfErr result (λ r. (r ≡ refusals.StoreFailed) × HasRisen (S.read_failures store.old) (S.read_failures store.new)) }
+        ensures refusal { IfErr result (λ r. (r ≡ refusals.StoreFailed)
+            × HasRisen (S.read_failures store.old) (S.read_failures store.new)) }
     {
         read_in(store, from, self.buffer.as_mut_slice(), self.used, len)?;
         self.used += len;
@@ -128,10 +139,15 @@ impl Carrier {
     /// Takes these bytes along.
     pub fn carry<K: Sink>(&mut self, bytes: &[u8], sink: &mut K) -> Result<(), Refusal>
         ensures room { vec_len self.new.buffer ≡ vec_len self.old.buffer }
-        ensures bytes { OnOk result (BytesGoOn (K.contents sink.old) (K.contents sink.new) (waiting self.old) (waiting self.new) bytes.now) }
-        ensures prefix { OnErr result (AppendsPrefix (K.contents sink.old) (K.contents sink.new) (waiting self.old ++ bytes.now)) }
+        ensures bytes { OnOk result
+            (BytesGoOn (K.contents sink.old) (K.contents sink.new) (waiting self.old)
+            (waiting self.new) bytes.now) }
+        ensures prefix { OnErr result
+            (AppendsPrefix (K.contents sink.old) (K.contents sink.new) (waiting self.old
+            ++ bytes.now)) }
         ensures puts { OnOk result (K.put_failures sink.new ≡ K.put_failures sink.old) }
-        ensures refusal { IfErr result (RefusesPut (K.put_failures sink.old) (K.put_failures sink.new)) }
+        ensures refusal { IfErr result
+            (RefusesPut (K.put_failures sink.old) (K.put_failures sink.new)) }
     {
         let mut done = 0;
         while done < bytes.len() {
@@ -154,13 +170,19 @@ impl Carrier {
         ensures room { vec_len self.new.buffer ≡ vec_len self.old.buffer }
         ensures honesty { S.is_honest store.new ≡ S.is_honest store.old }
         ensures file { S.file store.new ≡ S.file store.old }
-        ensures bytes { OnOk result (IsTrue (S.is_honest store.old) → BytesGoOn (K.contents sink.old) (K.contents sink.new) (waiting self.old) (waiting self.new) (range (S.file store.old) at len)) }
+        ensures bytes { OnOk result (IsTrue (S.is_honest store.old)
+            → BytesGoOn (K.contents sink.old) (K.contents sink.new) (waiting self.old)
+            (waiting self.new) (range (S.file store.old) at len)) }
         ensures many { OnOk result (GoOnBy (K.contents sink.old) (K.contents sink.new)
             (waiting self.old) (waiting self.new) len) }
-        ensures prefix { OnErr result (IsTrue (S.is_honest store.old) → AppendsPrefix (K.contents sink.old) (K.contents sink.new) (waiting self.old ++ range (S.file store.old) at len)) }
+        ensures prefix { OnErr result (IsTrue (S.is_honest store.old)
+            → AppendsPrefix (K.contents sink.old) (K.contents sink.new) (waiting self.old
+            ++ range (S.file store.old) at len)) }
         ensures reads { OnOk result (S.read_failures store.new ≡ S.read_failures store.old) }
         ensures puts { OnOk result (K.put_failures sink.new ≡ K.put_failures sink.old) }
-        ensures refusal { IfErr result (RefusesRange (S.read_failures store.old) (S.read_failures store.new) (K.put_failures sink.old) (K.put_failures sink.new)) }
+        ensures refusal { IfErr result
+            (RefusesRange (S.read_failures store.old) (S.read_failures store.new)
+            (K.put_failures sink.old) (K.put_failures sink.new)) }
     {
         let _size = store.len();
         let mut done = 0;

@@ -26,11 +26,13 @@ use mp4_store::{Sink, Store};
 use std::alloc::Global;
 use std::sync::ledger::Ledger;
 
-/// How many bytes are put at once: a power of two, so that each put fills whole pages, which a file system keeps together.
+/// How many bytes are put at once: a power of two, so that each put fills whole pages, which a file
+/// system keeps together.
 const PIECE: usize = 65_536;
 
 impl Carrier {
-    /// Takes the bytes of some samples along. Where the store has not as many bytes, it has changed.
+    /// Takes the bytes of some samples along. Where the store has not as many bytes, it has
+    /// changed.
     pub fn carry_stretch<S: Store, K: Sink>(
         &mut self,
         stretch: Stretch,
@@ -40,13 +42,19 @@ impl Carrier {
         ensures room { vec_len self.new.buffer ≡ vec_len self.old.buffer }
         ensures honesty { S.is_honest store.new ≡ S.is_honest store.old }
         ensures file { S.file store.new ≡ S.file store.old }
-        ensures bytes { OnOk result (IsTrue (S.is_honest store.old) → BytesGoOn (K.contents sink.old) (K.contents sink.new) (waiting self.old) (waiting self.new) (range (S.file store.old) stretch.at stretch.len)) }
+        ensures bytes { OnOk result (IsTrue (S.is_honest store.old)
+            → BytesGoOn (K.contents sink.old) (K.contents sink.new) (waiting self.old)
+            (waiting self.new) (range (S.file store.old) stretch.at stretch.len)) }
         ensures many { OnOk result (GoOnBy (K.contents sink.old) (K.contents sink.new)
             (waiting self.old) (waiting self.new) stretch.len) }
-        ensures prefix { OnErr result (IsTrue (S.is_honest store.old) → AppendsPrefix (K.contents sink.old) (K.contents sink.new) (waiting self.old ++ range (S.file store.old) stretch.at stretch.len)) }
+        ensures prefix { OnErr result (IsTrue (S.is_honest store.old)
+            → AppendsPrefix (K.contents sink.old) (K.contents sink.new) (waiting self.old
+            ++ range (S.file store.old) stretch.at stretch.len)) }
         ensures reads { OnOk result (S.read_failures store.new ≡ S.read_failures store.old) }
         ensures puts { OnOk result (K.put_failures sink.new ≡ K.put_failures sink.old) }
-        ensures refusal { IfErr result (RefusesStretch (S.file store.old) stretch (S.read_failures store.old) (S.read_failures store.new) (K.put_failures sink.old) (K.put_failures sink.new)) }
+        ensures refusal { IfErr result
+            (RefusesStretch (S.file store.old) stretch (S.read_failures store.old)
+            (S.read_failures store.new) (K.put_failures sink.old) (K.put_failures sink.new)) }
     {
         let len = store.len();
         if stretch.at > len || stretch.len > len - stretch.at {
@@ -56,8 +64,8 @@ impl Carrier {
     }
 }
 
-// Takes the bytes of all samples in hand along, and says how many are left of so many. Where these samples have more
-// bytes, the store has changed.
+// Takes the bytes of all samples in hand along, and says how many are left of so many. Where these
+// samples have more bytes, the store has changed.
 fn carry_hand<S: Store, K: Sink, L: Ledger>(
     movie: &Movie,
     walk: &mut Walk,
@@ -73,8 +81,14 @@ fn carry_hand<S: Store, K: Sink, L: Ledger>(
     ensures room { vec_len carrier.new.buffer ≡ vec_len carrier.old.buffer }
     ensures honesty { S.is_honest store.new ≡ S.is_honest store.old }
     ensures file { S.file store.new ≡ S.file store.old }
-    ensures bytes { OnOk result (IsTrue (S.is_honest store.old) → (hand : InHand) × InHandOf movie.now walk.old hand × BytesGoOn (K.contents sink.old) (K.contents sink.new) (waiting carrier.old) (waiting carrier.new) (sample_bytes (S.file store.old) (left_in_hand hand))) }
-    ensures prefix { OnErr result (IsTrue (S.is_honest store.old) → (hand : InHand) × InHandOf movie.now walk.old hand × AppendsPrefix (K.contents sink.old) (K.contents sink.new) (waiting carrier.old ++ sample_bytes (S.file store.old) (left_in_hand hand))) }
+    ensures bytes { OnOk result (IsTrue (S.is_honest store.old) → (hand : InHand)
+        × InHandOf movie.now walk.old hand
+        × BytesGoOn (K.contents sink.old) (K.contents sink.new) (waiting carrier.old)
+        (waiting carrier.new) (sample_bytes (S.file store.old) (left_in_hand hand))) }
+    ensures prefix { OnErr result (IsTrue (S.is_honest store.old) → (hand : InHand)
+        × InHandOf movie.now walk.old hand
+        × AppendsPrefix (K.contents sink.old) (K.contents sink.new) (waiting carrier.old
+        ++ sample_bytes (S.file store.old) (left_in_hand hand))) }
     ensures many { IfOk result (λ left. (left ≤ bytes)
         × GoOnBy (K.contents sink.old) (K.contents sink.new) (waiting carrier.old)
         (waiting carrier.new) (bytes - left)) }
@@ -82,7 +96,10 @@ fn carry_hand<S: Store, K: Sink, L: Ledger>(
         × (sizes_of (left_in_hand hand) + left ≡ bytes)) }
     ensures reads { OnOk result (S.read_failures store.new ≡ S.read_failures store.old) }
     ensures puts { OnOk result (K.put_failures sink.new ≡ K.put_failures sink.old) }
-    ensures stands { OnOk result ((file : List ℕ) (tree : FileTree) (t : TrackTree) (earlier later : List FragmentTree) → StandsBefore file tree t earlier later walk.old → StandsBefore file tree t earlier later walk.new) }
+    ensures stands { OnOk result
+        ((file : List ℕ) (tree : FileTree) (t : TrackTree) (earlier later : List FragmentTree)
+        → StandsBefore file tree t earlier later walk.old
+        → StandsBefore file tree t earlier later walk.new) }
     ensures unchanged { (hand : InHand) × InHandOf movie.now walk.old hand
         × (AllByRecursion (IsBelow (length (S.file store.old))) (left_in_hand hand)
         → sizes_of (left_in_hand hand) ≤ bytes → IfErr result (λ r. r ≡ refusals.StoreChanged
@@ -91,7 +108,9 @@ fn carry_hand<S: Store, K: Sink, L: Ledger>(
         → IsOpenedAs file movie.now tree
         → MayTake file tree t walk.old n → TakesOn file tree t n walk.new steps.old steps.new) }
     ensures idle { OnErr result (steps.new ≡ steps.old) }
-    ensures refusal { IfErr result (RefusesCarry (S.read_failures store.old) (S.read_failures store.new) (K.put_failures sink.old) (K.put_failures sink.new)) }
+    ensures refusal { IfErr result
+        (RefusesCarry (S.read_failures store.old) (S.read_failures store.new)
+        (K.put_failures sink.old) (K.put_failures sink.new)) }
 {
     let mut left = bytes;
     let place = {
@@ -110,9 +129,10 @@ fn carry_hand<S: Store, K: Sink, L: Ledger>(
 }
 
 impl Movie {
-    /// Puts the bytes of all samples of the track at this place among the tracks, one after the other. All memory is
-    /// taken before the first byte is put. Where the samples aren't as many any more as when the movie was opened, or
-    /// have fewer or more bytes, the answer is StoreChanged.
+    /// Puts the bytes of all samples of the track at this place among the tracks, one after the
+    /// other. All memory is taken before the first byte is put. Where the samples aren't as many
+    /// any more as when the movie was opened, or have fewer or more bytes, the answer is
+    /// StoreChanged.
     pub fn copy_track<S: Store, K: Sink, L: Ledger>(
         &self,
         alloc: Global,
@@ -126,19 +146,30 @@ impl Movie {
         ensures file { S.file store.new ≡ S.file store.old }
         ensures reads { OnOk result (S.read_failures store.new ≡ S.read_failures store.old) }
         ensures puts { OnOk result (K.put_failures sink.new ≡ K.put_failures sink.old) }
-        ensures bytes { OnOk result (IsTrue (S.is_honest store.old) → (tree : FileTree) (t : TrackTree) → IsOpenedAs (S.file store.old) self.now tree → slice_get tree.movie.tracks track ≡ Some t
-            → Appends (K.contents sink.old) (K.contents sink.new) (sample_bytes (S.file store.old) (track_samples tree t))) }
-        ensures prefix { OnErr result (IsTrue (S.is_honest store.old) → (tree : FileTree) (t : TrackTree) → IsOpenedAs (S.file store.old) self.now tree → slice_get tree.movie.tracks track ≡ Some t
-            → AppendsPrefix (K.contents sink.old) (K.contents sink.new) (sample_bytes (S.file store.old) (track_samples tree t))) }
+        ensures bytes { OnOk result (IsTrue (S.is_honest store.old)
+            → (tree : FileTree) (t : TrackTree) → IsOpenedAs (S.file store.old) self.now tree
+            → slice_get tree.movie.tracks track ≡ Some t
+            → Appends (K.contents sink.old) (K.contents sink.new)
+            (sample_bytes (S.file store.old) (track_samples tree t))) }
+        ensures prefix { OnErr result (IsTrue (S.is_honest store.old)
+            → (tree : FileTree) (t : TrackTree) → IsOpenedAs (S.file store.old) self.now tree
+            → slice_get tree.movie.tracks track ≡ Some t
+            → AppendsPrefix (K.contents sink.old) (K.contents sink.new)
+            (sample_bytes (S.file store.old) (track_samples tree t))) }
         ensures whole { OnOk result ((info : TrackInfo)
             → slice_get self.now.tracks track ≡ Some info
             → PutsMany (K.contents sink.old) (K.contents sink.new) info.bytes) }
-        ensures unchanged { IsTrue (S.is_honest store.old) → (tree : FileTree) (t : TrackTree) → IsOpenedAs (S.file store.old) self.now tree → slice_get tree.movie.tracks track ≡ Some t → IfErr result (λ r. r ≡ refusals.StoreChanged → ⊥) }
+        ensures unchanged { IsTrue (S.is_honest store.old) → (tree : FileTree) (t : TrackTree)
+            → IsOpenedAs (S.file store.old) self.now tree
+            → slice_get tree.movie.tracks track ≡ Some t
+            → IfErr result (λ r. r ≡ refusals.StoreChanged → ⊥) }
         ensures work { IsTrue (S.is_honest store.old) → (tree : FileTree) (t : TrackTree)
             → IsOpenedAs (S.file store.old) self.now tree
             → slice_get tree.movie.tracks track ≡ Some t
             → steps.new ≤ steps.old + walk_steps tree t }
-        ensures refusal { IfErr result (RefusesCopy (K.contents sink.old) (K.contents sink.new) (S.read_failures store.old) (S.read_failures store.new) (K.put_failures sink.old) (K.put_failures sink.new)) }
+        ensures refusal { IfErr result
+            (RefusesCopy (K.contents sink.old) (K.contents sink.new) (S.read_failures store.old)
+            (S.read_failures store.new) (K.put_failures sink.old) (K.put_failures sink.new)) }
     {
         let mut walk = self.walk(alloc, track)?;
         let mut carrier = Carrier::new(alloc, PIECE)?;

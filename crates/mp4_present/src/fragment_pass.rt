@@ -32,12 +32,18 @@ fn pass_fragments<S: Store, L: Ledger>(
     requires longest { length bytes.old ≡ outline.now.longest }
     ensures honesty { S.is_honest store.new ≡ S.is_honest store.old }
     ensures file { S.file store.new ≡ S.file store.old }
-    ensures passed { OnOk result (IsTrue (S.is_honest store.old) → (movie : MovieTree) (boxes : List Box) → IsBegun (S.file store.old) movie boxes states.old room → IsPassed (S.file store.old) movie boxes states.new) }
-    ensures work { IsTrue (S.is_honest store.old) → IfNoFault result (ChecksWithin (S.file store.old) steps.old steps.new) }
+    ensures passed { OnOk result (IsTrue (S.is_honest store.old)
+        → (movie : MovieTree) (boxes : List Box)
+        → IsBegun (S.file store.old) movie boxes states.old room
+        → IsPassed (S.file store.old) movie boxes states.new) }
+    ensures work { IsTrue (S.is_honest store.old)
+        → IfNoFault result (ChecksWithin (S.file store.old) steps.old steps.new) }
     ensures within { IsTrue (S.is_honest store.old)
         → steps.new ≤ steps.old + (2 ^ 24 + length (S.file store.old)) }
     ensures reads { OnOk result (S.read_failures store.new ≡ S.read_failures store.old) }
-    ensures refusal { IfErr result (RefusesFragments (S.is_honest store.old) (S.file store.old) states.old room (S.read_failures store.old) (S.read_failures store.new)) }
+    ensures refusal { IfErr result
+        (RefusesFragments (S.is_honest store.old) (S.file store.old) states.old room
+        (S.read_failures store.old) (S.read_failures store.new)) }
 {
     let file_len = store.len();
     let mut room = room;
@@ -65,13 +71,19 @@ pub(crate) fn check_fragments<S: Store, L: Ledger>(
     ensures states { IfOk result (λ states. length states.items ≡ length plain.now.states.items) }
     ensures honesty { S.is_honest store.new ≡ S.is_honest store.old }
     ensures file { S.file store.new ≡ S.file store.old }
-    ensures passed { IfOk result (λ states. IsTrue (S.is_honest store.old) → (movie : MovieTree) (boxes : List Box) → IsBegun (S.file store.old) movie boxes plain.now.states.items plain.now.room
+    ensures passed { IfOk result (λ states. IsTrue (S.is_honest store.old)
+        → (movie : MovieTree) (boxes : List Box)
+        → IsBegun (S.file store.old) movie boxes plain.now.states.items plain.now.room
         → IsPassed (S.file store.old) movie boxes states.items) }
-    ensures work { IsTrue (S.is_honest store.old) → IfNoFault result (ChecksWithin (S.file store.old) steps.old steps.new) }
+    ensures work { IsTrue (S.is_honest store.old)
+        → IfNoFault result (ChecksWithin (S.file store.old) steps.old steps.new) }
     ensures within { IsTrue (S.is_honest store.old)
         → steps.new ≤ steps.old + (2 ^ 24 + length (S.file store.old)) }
     ensures reads { OnOk result (S.read_failures store.new ≡ S.read_failures store.old) }
-    ensures refusal { IfErr result (RefusesFragments (S.is_honest store.old) (S.file store.old) plain.now.states.items plain.now.room (S.read_failures store.old) (S.read_failures store.new)) }
+    ensures refusal { IfErr result
+        (RefusesFragments (S.is_honest store.old) (S.file store.old)
+        plain.now.states.items plain.now.room (S.read_failures store.old)
+        (S.read_failures store.new)) }
 {
     let mut states = Vec::new(alloc);
     states.extend_from_slice(plain.states.as_slice())?;

@@ -10,15 +10,20 @@ use crate::reading::{TopBox, read_top_header};
 use mp4_boxes::{Refusal, TopHeader};
 use mp4_store::Store;
 
-// The top-level header at a place where one was read before: where it can't be read now, the store has changed.
+// The top-level header at a place where one was read before: where it can't be read now, the store
+// has changed.
 fn read_header_again<S: Store>(store: &mut S, at: u64) -> Result<TopHeader, Refusal>
     requires { at < length (S.file store.old) }
     ensures honesty { S.is_honest store.new ≡ S.is_honest store.old }
     ensures file { S.file store.new ≡ S.file store.old }
-    ensures header { IfOk result (λ h. IsTrue (S.is_honest store.old) → IsTopHeader (S.file store.old) at h) }
-    ensures within { IfOk result (λ h. (at + h.header ≤ h.end) × (8 ≤ h.header) × (h.end ≤ length (S.file store.old))) }
+    ensures header { IfOk result (λ h. IsTrue (S.is_honest store.old)
+        → IsTopHeader (S.file store.old) at h) }
+    ensures within { IfOk result (λ h. (at + h.header ≤ h.end) × (8 ≤ h.header)
+        × (h.end ≤ length (S.file store.old))) }
     ensures reads { OnOk result (S.read_failures store.new ≡ S.read_failures store.old) }
-    ensures refusal { IfErr result (RefusesHeaderAgain (S.is_honest store.old) (S.file store.old) at (S.read_failures store.old) (S.read_failures store.new)) }
+    ensures refusal { IfErr result
+        (RefusesHeaderAgain (S.is_honest store.old) (S.file store.old) at
+        (S.read_failures store.old) (S.read_failures store.new)) }
 {
     match read_top_header(store, at) {
         Ok(header) => Ok(header),
@@ -27,14 +32,21 @@ fn read_header_again<S: Store>(store: &mut S, at: u64) -> Result<TopHeader, Refu
     }
 }
 
-/// The next `moof` at the place `from` or behind it, where one of the file's own boxes begins, or the file ends.
+/// The next `moof` at the place `from` or behind it, where one of the file's own boxes begins, or
+/// the file ends.
 pub(crate) fn next_fragment<S: Store>(store: &mut S, from: u64) -> Result<Option<TopBox>, Refusal>
     ensures honesty { S.is_honest store.new ≡ S.is_honest store.old }
     ensures file { S.file store.new ≡ S.file store.old }
-    ensures next { IfOk result (λ found. IsTrue (S.is_honest store.old) → (boxes : List Box) → AreFrom (S.file store.old) from boxes → IsNextFragment (S.file store.old) from boxes found) }
-    ensures within { IfOk result (λ found. IfSome found (λ top. IsWhole (length (S.file store.old)) top × (from ≤ top.offset) × (top.offset < top.header.end))) }
+    ensures next { IfOk result (λ found. IsTrue (S.is_honest store.old) → (boxes : List Box)
+        → AreFrom (S.file store.old) from boxes
+        → IsNextFragment (S.file store.old) from boxes found) }
+    ensures within { IfOk result
+        (λ found. IfSome found (λ top. IsWhole (length (S.file store.old)) top × (from ≤ top.offset)
+        × (top.offset < top.header.end))) }
     ensures reads { OnOk result (S.read_failures store.new ≡ S.read_failures store.old) }
-    ensures refusal { IfErr result (RefusesNext (S.is_honest store.old) (S.file store.old) from (S.read_failures store.old) (S.read_failures store.new)) }
+    ensures refusal { IfErr result
+        (RefusesNext (S.is_honest store.old) (S.file store.old) from (S.read_failures store.old)
+        (S.read_failures store.new)) }
 {
     let len = store.len();
     let mut at = from;

@@ -1,10 +1,10 @@
 //! How a walk goes back to where it stood.
-ghost use Rattle.std.specs.Prelude.{ℕ, ◌≡◌, ◌+◌, ◌≤◌, List, length, drop, Bool, true, false, Ok, Err, Some, slice_get, IfOk, IfErr, OnOk, OnErr, IsOk, IsTrue};
+ghost use Rattle.std.specs.Prelude.{ℕ, ◌≡◌, ◌+◌, ◌≤◌, List, length, drop, Bool, true, false, Ok, Err, Some, slice_get, IfErr, OnOk, OnErr, IsOk, IsTrue};
 ghost use Rattle.mp4_boxes.specs.declared.refusal.Refusal.TheVariants as refusals;
 ghost use Rattle.mp4_frag.specs.Fragments.{FragmentTree};
 ghost use Rattle.mp4_head.specs.Tree.{TrackTree};
 ghost use Rattle.mp4_tables.specs.declared.sample.SampleAt.{SampleAt};
-ghost use Rattle.mp4_present.specs.Coming.{Comes, HoldsNext, StandsBefore, Takes};
+ghost use Rattle.mp4_present.specs.Coming.{Comes, StandsBefore, Takes};
 ghost use Rattle.mp4_present.specs.Denotes.{FileTree};
 ghost use Rattle.mp4_present.specs.GoingBack.{GoesBackTo, HoldsMarked, again_from, back_steps, is_at_hand, set_back};
 ghost use Rattle.mp4_present.specs.InHand.{left_in_hand};
@@ -40,8 +40,8 @@ fn pass_samples<C: Samples>(samples: &mut C, count: u32) -> bool
 }
 
 impl Walk {
-    /// Marks where the walk stands, before so many samples of the track: it can go back here from wherever it goes on
-    /// to. A mark made before is given up.
+    /// Marks where the walk stands, before so many samples of the track: it can go back here from
+    /// wherever it goes on to. A mark made before is given up.
     pub fn mark(&mut self, to_come: u32)
         ensures mark { self.new ≡ record self.old { mark = mark_of self.old to_come } }
         ensures walk { (m : MovieSeen) → GoesOn m self.old → StandsAt m self.old self.old.place
@@ -86,8 +86,8 @@ impl Walk {
         self.next = self.mark.next;
     }
 
-    // Reads the `moof` of the mark again, where this was due, and takes its samples into hand. The mark is given up for
-    // one before these.
+    // Reads the `moof` of the mark again, where this was due, and takes its samples into hand. The
+    // mark is given up for one before these.
     fn read_again<S: Store, L: Ledger>(
         &mut self,
         before: Due,
@@ -186,9 +186,10 @@ impl Walk {
         Ok(())
     }
 
-    /// Goes back to the mark. Where what was in hand there is at hand, nothing is read, and no step taken; else the
-    /// `moof` is read again, and its samples before the mark are passed. It takes no memory. Where the store has another
-    /// length, or other samples than it had, so far as their number and their time shows it, the answer is StoreChanged.
+    /// Goes back to the mark. Where what was in hand there is at hand, nothing is read, and no step
+    /// taken; else the `moof` is read again, and its samples before the mark are passed. It takes
+    /// no memory. Where the store has another length, or other samples than it had, so far as their
+    /// number and their time shows it, the answer is StoreChanged.
     pub fn go_back<S: Store, L: Ledger>(
         &mut self,
         movie: &Movie,

@@ -25,7 +25,9 @@ const FILE_TYPE: u128 = 24;
 
 // The length of a track by its edits, where there are some and each says how long it is.
 fn length_of_edits(edits: &[Edit]) -> Option<u128>
-    ensures { result ≡ (if says_all (map edit_seen edits.now) then Some (sum_of (λ (e : heads.Edit). e.segment_duration) (map edit_seen edits.now)) else None) }
+    ensures { result ≡ (if says_all (map edit_seen edits.now)
+        then Some (sum_of (λ (e : heads.Edit). e.segment_duration) (map edit_seen edits.now))
+        else None) }
 {
     if edits.is_empty() {
         return None;
@@ -40,9 +42,12 @@ fn length_of_edits(edits: &[Edit]) -> Option<u128>
     Some(length)
 }
 
-// The length of a track in the movie's timescale: by its edits, else by the durations of its samples, rounded up.
+// The length of a track in the movie's timescale: by its edits, else by the durations of its
+// samples, rounded up.
 fn track_length(track: &TrackHead, duration: u64, timescale: u32) -> u128
-    ensures { 0 < track.now.media.timescale → result ≡ length_by (map edit_seen track.now.edits.items) duration timescale track.now.media.timescale }
+    ensures { 0 < track.now.media.timescale
+        → result ≡ length_by (map edit_seen track.now.edits.items)
+        duration timescale track.now.media.timescale }
 {
     match length_of_edits(track.edits.as_slice()) {
         Some(length) => length,
@@ -62,9 +67,15 @@ pub(crate) fn duration_of(state: TrackState) -> u64
 
 // The length of a track, if it is within its limits.
 fn checked_length(track: &TrackHead, state: TrackState, timescale: u32) -> Result<u64, Fault>
-    ensures within { IfOk result (λ n. (t : Track) → IsMeasured t track.now state → IsInTime timescale t × (n ≡ presented.track_length timescale t)) }
-    ensures passes { IfErr result (λ f. (t : Track) → IsMeasured t track.now state → IsInTime timescale t → ⊥) }
-    ensures named { IfErr result (λ f. f ≡ record { kind = TimeTooLarge; box_type = codes "tkhd"; offset = track.now.offset }) }
+    ensures within { IfOk result (λ n. (t : Track) → IsMeasured t track.now state
+        → IsInTime timescale t × (n ≡ presented.track_length timescale t)) }
+    ensures passes { IfErr result (λ f. (t : Track) → IsMeasured t track.now state
+        → IsInTime timescale t → ⊥) }
+    ensures named { IfErr result (λ f. f ≡ record {
+      kind = TimeTooLarge;
+      box_type = codes "tkhd";
+      offset = track.now.offset;
+    }) }
 {
     let length = track_length(track, duration_of(state), timescale);
     if state.time > MOST_TIME || length > MOST_TIME {
@@ -80,8 +91,11 @@ pub(crate) fn check_limits(
     states: &[TrackState],
 ) -> Result<u64, Fault>
     requires { length states.now ≡ length head.now.tracks.items }
-    ensures within { IfOk result (λ n. (p : Presentation) → IsMeasure p head.now states.now → AllByRecursion (IsInTime p.movie.timescale) p.tracks × (n ≡ movie_length p) × (normal_moov_length p ≤ max_moov)) }
-    ensures fault { IfErr result (λ f. (p : Presentation) → IsMeasure p head.now states.now → LimitFails p head.now (box_seen moov.entry) f) }
+    ensures within { IfOk result (λ n. (p : Presentation) → IsMeasure p head.now states.now
+        → AllByRecursion (IsInTime p.movie.timescale) p.tracks × (n ≡ movie_length p)
+        × (normal_moov_length p ≤ max_moov)) }
+    ensures fault { IfErr result (λ f. (p : Presentation) → IsMeasure p head.now states.now
+        → LimitFails p head.now (box_seen moov.entry) f) }
 {
     let mut longest = 0;
     for k in 0..states.len() {

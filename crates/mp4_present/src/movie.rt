@@ -10,8 +10,8 @@ use std::marker::Model;
 
 const STBL: FourCc = FourCc(*b"stbl");
 
-/// Where the tables of a track lie: where the payload of its `stbl` begins in that of the `moov`, its length, and the
-/// tables in it.
+/// Where the tables of a track lie: where the payload of its `stbl` begins in that of the `moov`,
+/// its length, and the tables in it.
 #[derive(Clone, Copy)]
 pub struct TrackTables {
     pub(crate) place: usize,
@@ -19,7 +19,8 @@ pub struct TrackTables {
     pub(crate) tables: TablesAt,
 }
 
-/// A file that denotes a presentation. It holds the bytes of its `moov`, and not the store: what reads takes it again.
+/// A file that denotes a presentation. It holds the bytes of its `moov`, and not the store: what
+/// reads takes it again.
 #[derive(Drop)]
 pub struct Movie {
     pub(crate) top: TopBox,
@@ -108,7 +109,8 @@ impl Movie {
     // The tables of a track.
     pub(crate) fn tables_of(&self, track: usize) -> Tables<'_>
         requires { track < length self.now.tracks }
-        ensures { (t : TrackTables) → slice_get self.now.tables track ≡ Some t → result ≡ tables_seen self.now.moov t }
+        ensures { (t : TrackTables) → slice_get self.now.tables track ≡ Some t
+            → result ≡ tables_seen self.now.moov t }
     {
         let found = self.tables[track];
         let payload = &self.moov[found.place..found.place + found.len];

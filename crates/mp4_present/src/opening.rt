@@ -57,8 +57,10 @@ fn infos_of(
 ) -> Result<Vec<TrackInfo>, Refusal>
     requires states { length states.now ≡ length head.now.tracks.items }
     ensures each { IfOk result (λ tracks. length tracks.items ≡ length head.now.tracks.items) }
-    ensures ids { IfOk result (λ tracks. map (λ (t : TrackInfo). t.id) tracks.items ≡ map (λ (t : TrackHead). t.id) head.now.tracks.items) }
-    ensures infos { IfOk result (λ tracks. AreInfosBy head.now.tracks.items states.now tracks.items) }
+    ensures ids { IfOk result (λ tracks. map (λ (t : TrackInfo). t.id) tracks.items
+        ≡ map (λ (t : TrackHead). t.id) head.now.tracks.items) }
+    ensures infos { IfOk result
+        (λ tracks. AreInfosBy head.now.tracks.items states.now tracks.items) }
     ensures refusal { IfErr result (λ r. r ≡ refusals.Memory) }
 {
     let mut tracks = Vec::new(alloc);
@@ -79,17 +81,27 @@ fn find<S: Store, L: Ledger>(
     steps: &mut Steps<L>,
 ) -> Result<Found, Refusal>
     requires fills { Fills (length moov.now) outline.now.moov }
-    requires bytes { IsTrue (S.is_honest store.old) → moov.now ≡ range (S.file store.old) (outline.now.moov.offset + outline.now.moov.header.header) (length moov.now) }
+    requires bytes { IsTrue (S.is_honest store.old)
+        → moov.now ≡ range (S.file store.old) (outline.now.moov.offset
+        + outline.now.moov.header.header) (length moov.now) }
     requires outline { HasOutline (S.is_honest store.old) (S.file store.old) outline.now }
     ensures honesty { S.is_honest store.new ≡ S.is_honest store.old }
     ensures file { S.file store.new ≡ S.file store.old }
     ensures plain { IfOk result (λ f. ArePlain moov.now (length f.tracks.items) f.plain) }
-    ensures movie { IfOk result (λ f. IsTrue (S.is_honest store.old) → (t : FileTree) × IsOpenedAs (S.file store.old) (kept_of outline.now moov.now (length (S.file store.old)) f) t) }
-    ensures ids { IfOk result (λ f. IsTrue (S.is_honest store.old) → HasMovie (S.file store.old) (map (λ (t : TrackInfo). t.id) f.tracks.items)) }
-    ensures work { IsTrue (S.is_honest store.old) → (tree : FileTree) → IsFileTree (S.file store.old) tree → IfNoFault result (steps.new ≤ steps.old + opening_steps tree) }
-    ensures within { IsTrue (S.is_honest store.old) → OpensWithin (S.file store.old) steps.old steps.new }
+    ensures movie { IfOk result (λ f. IsTrue (S.is_honest store.old) → (t : FileTree)
+        × IsOpenedAs (S.file store.old) (kept_of outline.now moov.now (length (S.file store.old)) f)
+        t) }
+    ensures ids { IfOk result (λ f. IsTrue (S.is_honest store.old)
+        → HasMovie (S.file store.old) (map (λ (t : TrackInfo). t.id) f.tracks.items)) }
+    ensures work { IsTrue (S.is_honest store.old) → (tree : FileTree)
+        → IsFileTree (S.file store.old) tree
+        → IfNoFault result (steps.new ≤ steps.old + opening_steps tree) }
+    ensures within { IsTrue (S.is_honest store.old)
+        → OpensWithin (S.file store.old) steps.old steps.new }
     ensures reads { OnOk result (S.read_failures store.new ≡ S.read_failures store.old) }
-    ensures refusal { IfErr result (RefusesOpen (S.is_honest store.old) (S.file store.old) (S.read_failures store.old) (S.read_failures store.new)) }
+    ensures refusal { IfErr result
+        (RefusesOpen (S.is_honest store.old) (S.file store.old) (S.read_failures store.old)
+        (S.read_failures store.new)) }
 {
     let view = outline.moov.view(moov);
     let head = read_head(alloc, view)?;
@@ -104,8 +116,9 @@ fn find<S: Store, L: Ledger>(
     })
 }
 
-/// Reads a file to the presentation that it denotes, or names a fault that stands in it. The `moov` is read once and
-/// kept; each `moof` is read, checked and given up before the next; media data is not read.
+/// Reads a file to the presentation that it denotes, or names a fault that stands in it. The `moov`
+/// is read once and kept; each `moof` is read, checked and given up before the next; media data is
+/// not read.
 pub fn open_movie<S: Store, L: Ledger>(
     alloc: Global,
     store: &mut S,
@@ -113,15 +126,26 @@ pub fn open_movie<S: Store, L: Ledger>(
 ) -> Result<Movie, Refusal>
     ensures honesty { S.is_honest store.new ≡ S.is_honest store.old }
     ensures file { S.file store.new ≡ S.file store.old }
-    ensures opened { IfOk result (λ m. IsTrue (S.is_honest store.old) → IsOpened (S.file store.old) m) }
-    ensures movie { IfOk result (λ m. IsTrue (S.is_honest store.old) → (t : FileTree) × IsOpenedAs (S.file store.old) m t) }
-    ensures denotes { IfOk result (λ m. IsTrue (S.is_honest store.old) → OpensAs (S.file store.old) m) }
-    ensures ids { IfOk result (λ m. IsTrue (S.is_honest store.old) → HasMovie (S.file store.old) (map (λ (t : TrackInfo). t.id) m.tracks)) }
-    ensures only { (p : Presentation) → IsTrue (S.is_honest store.old) → Denotes (S.file store.old) p → IfErr result (RefusesDenoted (S.read_failures store.old) (S.read_failures store.new)) }
-    ensures work { IsTrue (S.is_honest store.old) → (tree : FileTree) → IsFileTree (S.file store.old) tree → IfNoFault result (steps.new ≤ steps.old + opening_steps tree) }
-    ensures within { IsTrue (S.is_honest store.old) → OpensWithin (S.file store.old) steps.old steps.new }
+    ensures opened { IfOk result (λ m. IsTrue (S.is_honest store.old)
+        → IsOpened (S.file store.old) m) }
+    ensures movie { IfOk result (λ m. IsTrue (S.is_honest store.old) → (t : FileTree)
+        × IsOpenedAs (S.file store.old) m t) }
+    ensures denotes { IfOk result (λ m. IsTrue (S.is_honest store.old)
+        → OpensAs (S.file store.old) m) }
+    ensures ids { IfOk result (λ m. IsTrue (S.is_honest store.old)
+        → HasMovie (S.file store.old) (map (λ (t : TrackInfo). t.id) m.tracks)) }
+    ensures only { (p : Presentation) → IsTrue (S.is_honest store.old)
+        → Denotes (S.file store.old) p
+        → IfErr result (RefusesDenoted (S.read_failures store.old) (S.read_failures store.new)) }
+    ensures work { IsTrue (S.is_honest store.old) → (tree : FileTree)
+        → IsFileTree (S.file store.old) tree
+        → IfNoFault result (steps.new ≤ steps.old + opening_steps tree) }
+    ensures within { IsTrue (S.is_honest store.old)
+        → OpensWithin (S.file store.old) steps.old steps.new }
     ensures reads { OnOk result (S.read_failures store.new ≡ S.read_failures store.old) }
-    ensures refusal { IfErr result (RefusesOpen (S.is_honest store.old) (S.file store.old) (S.read_failures store.old) (S.read_failures store.new)) }
+    ensures refusal { IfErr result
+        (RefusesOpen (S.is_honest store.old) (S.file store.old) (S.read_failures store.old)
+        (S.read_failures store.new)) }
 {
     let outline = read_outline(store)?;
     let at = outline.moov.payload_offset();

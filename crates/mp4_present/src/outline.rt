@@ -1,5 +1,5 @@
 //! Where the parts of a file lie, by its top-level headers alone.
-ghost use Rattle.std.specs.Prelude.{◌≡◌, ℕ, ◌+◌, ◌≤◌, ◌++◌, ◌∷◌, [], List, length, true, bytes_eq, codes, IfOk, IfErr, IfSome, OnOk, IsTrue};
+ghost use Rattle.std.specs.Prelude.{◌≡◌, ℕ, ◌+◌, ◌≤◌, ◌++◌, ◌∷◌, [], List, length, true, bytes_eq, IfOk, IfErr, IfSome, OnOk, IsTrue};
 ghost use Rattle.mp4_boxes.specs.Box.{Box, IsFront, sizes, file_container};
 ghost use Rattle.mp4_boxes.specs.Children.{Holds};
 ghost use Rattle.mp4_boxes.specs.declared.rule.Rule.TheVariants.{File};
@@ -47,10 +47,13 @@ pub(crate) fn is(kind: FourCc, name: FourCc) -> bool
 // What the headers say with one more, at the place `at`.
 fn note(seen: Seen, at: u64, header: TopHeader) -> Result<Seen, Fault>
     requires { at + header.header ≤ header.end }
-    ensures within { IfOk result (λ s. (len : ℕ) → header.end ≤ len → IfSome seen.moov (IsWhole len) → IfSome s.moov (IsWhole len)) }
-    ensures noted { (file : List ℕ) (boxes : List Box) → IsFront (file_container file) boxes → sizes boxes ≡ at → IsTopHeader file at header → AreSeen file boxes seen
+    ensures within { IfOk result (λ s. (len : ℕ) → header.end ≤ len → IfSome seen.moov (IsWhole len)
+        → IfSome s.moov (IsWhole len)) }
+    ensures noted { (file : List ℕ) (boxes : List Box) → IsFront (file_container file) boxes
+        → sizes boxes ≡ at → IsTopHeader file at header → AreSeen file boxes seen
         → IfOk result (AreSeen file (boxes ++ top_box file at header ∷ [])) }
-    ensures fault { (file : List ℕ) (boxes : List Box) → IsFront (file_container file) boxes → sizes boxes ≡ at → IsTopHeader file at header → AreSeen file boxes seen
+    ensures fault { (file : List ℕ) (boxes : List Box) → IsFront (file_container file) boxes
+        → sizes boxes ≡ at → IsTopHeader file at header → AreSeen file boxes seen
         → IfErr result (Stands file) }
 {
     if !Rule::File.allows(header.kind) {
@@ -83,10 +86,14 @@ fn note(seen: Seen, at: u64, header: TopHeader) -> Result<Seen, Fault>
 pub(crate) fn read_outline<S: Store>(store: &mut S) -> Result<Outline, Refusal>
     ensures honesty { S.is_honest store.new ≡ S.is_honest store.old }
     ensures file { S.file store.new ≡ S.file store.old }
-    ensures outline { IfOk result (λ o. IsTrue (S.is_honest store.old) → (boxes : List Box) × Holds File (file_container (S.file store.old)) boxes × (begins_with_movie boxes ≡ true) × IsOutline (S.file store.old) boxes o) }
+    ensures outline { IfOk result (λ o. IsTrue (S.is_honest store.old) → (boxes : List Box)
+        × Holds File (file_container (S.file store.old)) boxes × (begins_with_movie boxes ≡ true)
+        × IsOutline (S.file store.old) boxes o) }
     ensures within { IfOk result (λ o. IsWhole (length (S.file store.old)) o.moov) }
     ensures reads { OnOk result (S.read_failures store.new ≡ S.read_failures store.old) }
-    ensures refusal { IfErr result (RefusesOutline (S.is_honest store.old) (S.file store.old) (S.read_failures store.old) (S.read_failures store.new)) }
+    ensures refusal { IfErr result
+        (RefusesOutline (S.is_honest store.old) (S.file store.old) (S.read_failures store.old)
+        (S.read_failures store.new)) }
 {
     let len = store.len();
     let mut seen = Seen {

@@ -29,7 +29,12 @@ fn behind(at: u64, header: TopHeader) -> u64
 // The box with a header at this place, and with these bytes as its payload.
 fn view_at<'a>(at: u64, header: TopHeader, payload: &'a [u8]) -> BoxView<'a>
     requires { at + header.header + length payload.now ≡ header.end }
-    ensures { box_seen result ≡ record { kind = header.kind.0; offset = at; header = header.header; payload = payload.entry.now } }
+    ensures { box_seen result ≡ record {
+      kind = header.kind.0;
+      offset = at;
+      header = header.header;
+      payload = payload.entry.now;
+    } }
 {
     BoxView::new(header.kind, at, header.header, payload)
 }
@@ -50,21 +55,31 @@ impl TopBox {
     /// The box with these bytes as its payload.
     pub(crate) fn view<'a>(&self, payload: &'a [u8]) -> BoxView<'a>
         requires { Fills (length payload.now) self.now }
-        ensures { box_seen result ≡ record { kind = self.now.header.kind.0; offset = self.now.offset; header = self.now.header.header; payload = payload.entry.now } }
+        ensures { box_seen result ≡ record {
+          kind = self.now.header.kind.0;
+          offset = self.now.offset;
+          header = self.now.header.header;
+          payload = payload.entry.now;
+        } }
     {
         view_at(self.offset, self.header, payload)
     }
 }
 
-/// The top-level header at the place `at` of the file, by one read of 16 bytes, or of all that are left.
+/// The top-level header at the place `at` of the file, by one read of 16 bytes, or of all that are
+/// left.
 pub fn read_top_header<S: Store>(store: &mut S, at: u64) -> Result<TopHeader, Refusal>
     requires { at < length (S.file store.old) }
     ensures honesty { S.is_honest store.new ≡ S.is_honest store.old }
     ensures file { S.file store.new ≡ S.file store.old }
-    ensures header { IfOk result (λ h. IsTrue (S.is_honest store.old) → IsTopHeader (S.file store.old) at h) }
-    ensures within { IfOk result (λ h. (at + h.header ≤ h.end) × (8 ≤ h.header) × (h.end ≤ length (S.file store.old))) }
+    ensures header { IfOk result (λ h. IsTrue (S.is_honest store.old)
+        → IsTopHeader (S.file store.old) at h) }
+    ensures within { IfOk result (λ h. (at + h.header ≤ h.end) × (8 ≤ h.header)
+        × (h.end ≤ length (S.file store.old))) }
     ensures reads { OnOk result (S.read_failures store.new ≡ S.read_failures store.old) }
-    ensures refusal { IfErr result (RefusesHeader (S.is_honest store.old) (S.file store.old) at (S.read_failures store.old) (S.read_failures store.new)) }
+    ensures refusal { IfErr result
+        (RefusesHeader (S.is_honest store.old) (S.file store.old) at (S.read_failures store.old)
+        (S.read_failures store.new)) }
 {
     let left = store.len() - at;
     let mut front = [0; 16];
@@ -85,10 +100,12 @@ pub fn read_bytes<S: Store>(
     requires { at + len ≤ length (S.file store.old) }
     ensures honesty { S.is_honest store.new ≡ S.is_honest store.old }
     ensures file { S.file store.new ≡ S.file store.old }
-    ensures bytes { IfOk result (λ bytes. IsTrue (S.is_honest store.old) → bytes.items ≡ range (S.file store.old) at len) }
+    ensures bytes { IfOk result (λ bytes. IsTrue (S.is_honest store.old)
+        → bytes.items ≡ range (S.file store.old) at len) }
     ensures count { IfOk result (λ bytes. length bytes.items ≡ len) }
     ensures reads { OnOk result (S.read_failures store.new ≡ S.read_failures store.old) }
-    ensures refusal { IfErr result (RefusesRead (S.read_failures store.old) (S.read_failures store.new)) }
+    ensures refusal { IfErr result
+        (RefusesRead (S.read_failures store.old) (S.read_failures store.new)) }
 {
     let mut bytes = vec![in alloc; 0u8; len as usize]?;
     store.read_at(at, bytes.as_mut_slice())?;
@@ -101,16 +118,18 @@ fn read_front<S: Store>(store: &mut S, at: u64, room: &mut [u8], len: usize) -> 
     requires room { len ≤ length room.old }
     ensures honesty { S.is_honest store.new ≡ S.is_honest store.old }
     ensures file { S.file store.new ≡ S.file store.old }
-    ensures bytes { OnOk result (IsTrue (S.is_honest store.old) → take len room.new ≡ range (S.file store.old) at len) }
+    ensures bytes { OnOk result (IsTrue (S.is_honest store.old)
+        → take len room.new ≡ range (S.file store.old) at len) }
     ensures reads { OnOk result (S.read_failures store.new ≡ S.read_failures store.old) }
-    ensures refusal { IfErr result (RefusesFront (S.read_failures store.old) (S.read_failures store.new)) }
+    ensures refusal { IfErr result
+        (RefusesFront (S.read_failures store.old) (S.read_failures store.new)) }
 {
     store.read_at(at, &mut room[..len])?;
     Ok(())
 }
 
-/// Reads the payload of a box to the front of the room, and says how long it is. Where there is no room for it, the
-/// store has changed.
+/// Reads the payload of a box to the front of the room, and says how long it is. Where there is no
+/// room for it, the store has changed.
 pub(crate) fn read_payload<S: Store>(
     store: &mut S,
     top: TopBox,
@@ -121,9 +140,12 @@ pub(crate) fn read_payload<S: Store>(
     ensures file { S.file store.new ≡ S.file store.old }
     ensures fills { IfOk result (λ len. Fills len top × (len ≤ length room.new)) }
     ensures room { AreBytes room.new }
-    ensures bytes { IfOk result (λ len. IsTrue (S.is_honest store.old) → take len room.new ≡ range (S.file store.old) (top.offset + top.header.header) len) }
+    ensures bytes { IfOk result (λ len. IsTrue (S.is_honest store.old)
+        → take len room.new ≡ range (S.file store.old) (top.offset + top.header.header) len) }
     ensures reads { OnOk result (S.read_failures store.new ≡ S.read_failures store.old) }
-    ensures refusal { IfErr result (RefusesPayload (length room.old) top (S.read_failures store.old) (S.read_failures store.new)) }
+    ensures refusal { IfErr result
+        (RefusesPayload (length room.old) top (S.read_failures store.old)
+        (S.read_failures store.new)) }
 {
     let at = top.payload_offset();
     let len = top.header.end - at;

@@ -17,9 +17,11 @@ pub struct Stretch {
 impl Stretch {
     ghost use Rattle.std.specs.Prelude.{◌≡◌, ◌+◌, ◌<◌, ◌^◌, IsTrue};
 
-    // Whether the bytes of a sample lie behind these. Stretches of 2^32 bytes and more are not made longer.
+    // Whether the bytes of a sample lie behind these. Stretches of 2^32 bytes and more are not made
+    // longer.
     fn is_followed_by(&self, sample: &SampleAt) -> bool
-        ensures { IsTrue result → (sample.now.at ≡ self.now.at + self.now.len) × (self.now.len < 2 ^ 32) }
+        ensures { IsTrue result → (sample.now.at ≡ self.now.at + self.now.len)
+            × (self.now.len < 2 ^ 32) }
     {
         match self.at.checked_add(self.len) {
             Some(end) => end == sample.at && self.len <= 0xFFFF_FFFF,
@@ -28,11 +30,16 @@ impl Stretch {
     }
 }
 
-/// The bytes of the next samples that lie one after the other, of so many samples at most. These are taken.
+/// The bytes of the next samples that lie one after the other, of so many samples at most. These
+/// are taken.
 pub fn next_stretch<C: Samples>(samples: &mut C, most: u32) -> Option<Stretch>
-    ensures stretch { IfSome result (λ s. AreJoined (take s.samples (C.rest samples.old)) s.at s.len) }
-    ensures within { IfSome result (λ s. (n : ℕ) → AllByRecursion (IsBelow n) (C.rest samples.old) → s.at + s.len ≤ n) }
-    ensures samples { IfSome result (λ s. (0 < s.samples) × (s.samples ≤ most) × (s.samples ≤ length (C.rest samples.old)) × (C.rest samples.new ≡ drop s.samples (C.rest samples.old))) }
+    ensures stretch { IfSome result
+        (λ s. AreJoined (take s.samples (C.rest samples.old)) s.at s.len) }
+    ensures within { IfSome result (λ s. (n : ℕ) → AllByRecursion (IsBelow n) (C.rest samples.old)
+        → s.at + s.len ≤ n) }
+    ensures samples { IfSome result (λ s. (0 < s.samples) × (s.samples ≤ most)
+        × (s.samples ≤ length (C.rest samples.old))
+        × (C.rest samples.new ≡ drop s.samples (C.rest samples.old))) }
     ensures none { result ≡ None → 0 < most → C.rest samples.old ≡ [] }
     ensures kept { result ≡ None → C.rest samples.new ≡ C.rest samples.old }
     ensures later { C.follows samples.old samples.new }

@@ -26,8 +26,9 @@ pub(crate) struct PlainTracks {
     pub(crate) room: u32,
 }
 
-// What fragments of the track with this ID inherit. Files mostly have them in the order of the tracks: that at the
-// track's own place is tried first, so that many tracks cost no more than one look each.
+// What fragments of the track with this ID inherit. Files mostly have them in the order of the
+// tracks: that at the track's own place is tried first, so that many tracks cost no more than one
+// look each.
 fn trex_for(trexes: &[Trex], place: usize, id: u32) -> Option<Trex>
     requires { are_distinct (map (λ (t : Trex). t.id) trexes.now) ≡ true }
     ensures { result ≡ fragments.trex_for trexes.now id }
@@ -69,7 +70,8 @@ fn state_of(
 ) -> TrackState
     requires { are_distinct (map (λ (t : Trex). t.id) trexes.now) ≡ true }
     ensures id { result.id ≡ track.now.id }
-    ensures descriptions { result.descriptions ≡ min (length track.now.media.descriptions.items) (2 ^ 32 - 1) }
+    ensures descriptions { result.descriptions
+        ≡ min (length track.now.media.descriptions.items) (2 ^ 32 - 1) }
     ensures trex { result.trex ≡ fragments.trex_for trexes.now track.now.id }
     ensures start { result.start ≡ 0 }
     ensures count { result.count ≡ count }
@@ -101,7 +103,8 @@ impl PlainTracks {
     // No track yet.
     fn none(alloc: Global) -> PlainTracks
         ensures plain { (moov : List ℕ) → ArePlain moov 0 result }
-        ensures says { (file_length : ℕ) (moov : List ℕ) (trexes : List Trex) → HaveTables file_length moov trexes [] result }
+        ensures says { (file_length : ℕ) (moov : List ℕ) (trexes : List Trex)
+            → HaveTables file_length moov trexes [] result }
     {
         PlainTracks {
             tables: Vec::new(alloc),
@@ -122,11 +125,18 @@ impl PlainTracks {
         requires inside { HasTablesIn (box_seen moov) track.now }
         requires distinct { are_distinct (map (λ (t : Trex). t.id) trexes.now) ≡ true }
         requires read { (t : TrackTree) × IsTrackOf t track.now }
-        ensures one_more { OnOk result ((n : ℕ) → ArePlain (box_seen moov.entry).payload n self.old → ArePlain (box_seen moov.entry).payload (n + 1) self.new) }
-        ensures says { OnOk result ((t : TrackTree) (trees : List TrackTree) → IsTrackOf t track.now → HaveTables file_len (box_seen moov.entry).payload trexes.now trees self.old → HaveTables file_len (box_seen moov.entry).payload trexes.now (trees ++ t ∷ []) self.new) }
-        ensures work { IfNoFault result ((t : TrackTree) → IsTrackOf t track.now → steps.new ≤ steps.old + table_steps t) }
-        ensures within { steps.new ≤ steps.old + 5 * self.old.room + 6 * length (box_seen moov.entry).payload }
-        ensures less { OnOk result (steps.new + 5 * self.new.room ≤ steps.old + 5 * self.old.room + 6 * length (box_seen moov.entry).payload) }
+        ensures one_more { OnOk result ((n : ℕ) → ArePlain (box_seen moov.entry).payload n self.old
+            → ArePlain (box_seen moov.entry).payload (n + 1) self.new) }
+        ensures says { OnOk result ((t : TrackTree) (trees : List TrackTree) → IsTrackOf t track.now
+            → HaveTables file_len (box_seen moov.entry).payload trexes.now trees self.old
+            → HaveTables file_len (box_seen moov.entry).payload trexes.now (trees ++ t ∷ [])
+            self.new) }
+        ensures work { IfNoFault result ((t : TrackTree) → IsTrackOf t track.now
+            → steps.new ≤ steps.old + table_steps t) }
+        ensures within { steps.new ≤ steps.old + 5 * self.old.room
+            + 6 * length (box_seen moov.entry).payload }
+        ensures less { OnOk result (steps.new + 5 * self.new.room ≤ steps.old + 5 * self.old.room
+            + 6 * length (box_seen moov.entry).payload) }
         ensures refusal { IfErr result (RefusesTable file_len self.old.room track.now) }
     {
         let mut keys = Keys::new();
@@ -158,10 +168,16 @@ pub(crate) fn check_tables<L: Ledger>(
     requires inside { HaveTablesIn (box_seen moov) head.now.tracks.items }
     requires distinct { are_distinct (map (λ (t : Trex). t.id) head.now.trexes.items) ≡ true }
     requires read { (trees : List TrackTree) × AreTracksOf trees head.now.tracks.items }
-    ensures plain { IfOk result (ArePlain (box_seen moov.entry).payload (length head.now.tracks.items)) }
-    ensures says { IfOk result (λ p. (trees : List TrackTree) → AreTracksOf trees head.now.tracks.items → HaveTables file_len (box_seen moov.entry).payload head.now.trexes.items trees p) }
-    ensures work { IfNoFault result ((trees : List TrackTree) → AreTracksOf trees head.now.tracks.items → steps.new ≤ steps.old + sum_of table_steps trees) }
-    ensures within { steps.new ≤ steps.old + 5 * 2 ^ 24 + 6 * (length head.now.tracks.items * length (box_seen moov.entry).payload) }
+    ensures plain { IfOk result
+        (ArePlain (box_seen moov.entry).payload (length head.now.tracks.items)) }
+    ensures says { IfOk result (λ p. (trees : List TrackTree)
+        → AreTracksOf trees head.now.tracks.items
+        → HaveTables file_len (box_seen moov.entry).payload head.now.trexes.items trees p) }
+    ensures work { IfNoFault result ((trees : List TrackTree)
+        → AreTracksOf trees head.now.tracks.items
+        → steps.new ≤ steps.old + sum_of table_steps trees) }
+    ensures within { steps.new ≤ steps.old + 5 * 2 ^ 24
+        + 6 * (length head.now.tracks.items * length (box_seen moov.entry).payload) }
     ensures refusal { IfErr result (RefusesTables file_len head.now.tracks.items) }
 {
     let mut plain = PlainTracks::none(alloc);

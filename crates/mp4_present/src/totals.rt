@@ -19,7 +19,8 @@ pub(crate) struct Counts {
     pub(crate) duration: u64,
 }
 
-/// The number and the duration of all samples to come, as far as 64 bits go; none where they are more than so many.
+/// The number and the duration of all samples to come, as far as 64 bits go; none where they are
+/// more than so many.
 pub(crate) fn count_up_to<C: Samples>(samples: &mut C, most: u32) -> Option<Counts>
     ensures samples { IfSome result (λ c. c.samples ≡ length (C.rest samples.old)) }
     ensures few { IfSome result (λ c. c.samples ≤ most) }

@@ -8,7 +8,7 @@ ghost use Rattle.mp4_present.specs.Coming.{track_samples, samples_behind, Stands
 ghost use Rattle.mp4_present.specs.Work.{steps_to, moof_steps, way_through, walk_steps, MayTake, TakesOn};
 ghost use Rattle.mp4_boxes.specs.declared.refusal.Refusal.TheVariants as refusals;
 ghost use Rattle.mp4_present.specs.InHand.{left_in_hand};
-ghost use Rattle.mp4_present.specs.Movies.{Fills, IsWhole, IsMovie, GoesOn, IsWalkOf, StandsAt, IsRest, InHandOf, HasSome, RefusesLoad, moof_box, all_in_moof, mark_of};
+ghost use Rattle.mp4_present.specs.Movies.{Fills, IsMovie, GoesOn, IsWalkOf, StandsAt, IsRest, InHandOf, HasSome, RefusesLoad, moof_box, all_in_moof, mark_of};
 ghost use Rattle.mp4_present.specs.declared.track_info.TrackInfo.{TrackInfo};
 
 use crate::fragments::next_fragment;
@@ -25,13 +25,18 @@ use std::alloc::Global;
 use std::sync::ledger::Ledger;
 
 impl Movie {
-    /// A walk over the samples of the track at this place among the tracks. All room that it needs is made here.
+    /// A walk over the samples of the track at this place among the tracks. All room that it needs
+    /// is made here.
     pub fn walk(&self, alloc: Global, track: usize) -> Result<Walk, Memory>
         requires { track < length self.now.tracks }
         ensures walk { IfOk result (IsWalkOf self.now) }
         ensures room { IfOk result (λ walk. length walk.bytes.items ≡ self.now.longest) }
-        ensures coming { IfOk result (λ walk. (file : List ℕ) (tree : FileTree) (t : TrackTree) → IsOpenedAs file self.now tree → slice_get tree.movie.tracks track ≡ Some t → Comes file tree t self.now walk (track_samples tree t)) }
-        ensures may { IfOk result (λ walk. (file : List ℕ) (tree : FileTree) (t : TrackTree) → IsOpenedAs file self.now tree → slice_get tree.movie.tracks track ≡ Some t → (n : ℕ) × MayTake file tree t walk n × (n ≤ walk_steps tree t)) }
+        ensures coming { IfOk result (λ walk. (file : List ℕ) (tree : FileTree) (t : TrackTree)
+            → IsOpenedAs file self.now tree → slice_get tree.movie.tracks track ≡ Some t
+            → Comes file tree t self.now walk (track_samples tree t)) }
+        ensures may { IfOk result (λ walk. (file : List ℕ) (tree : FileTree) (t : TrackTree)
+            → IsOpenedAs file self.now tree → slice_get tree.movie.tracks track ≡ Some t
+            → (n : ℕ) × MayTake file tree t walk n × (n ≤ walk_steps tree t)) }
         ensures mark { IfOk result (λ walk. (info : TrackInfo)
             → slice_get self.now.tracks track ≡ Some info
             → walk.mark ≡ mark_of walk info.samples) }
@@ -67,7 +72,8 @@ impl Movie {
     }
 }
 
-// When the first sample behind the tables is due, of a track that starts at a time and whose tables last so long.
+// When the first sample behind the tables is due, of a track that starts at a time and whose tables
+// last so long.
 fn due_first(start: u64, time: u128) -> u64
     ensures { result ≡ min (start + time) (2 ^ 64 - 1) }
 {
@@ -102,8 +108,8 @@ impl Walk {
         self.place = place;
     }
 
-    // Takes the samples of the `moof` in the room into hand, and says whether there are any. Where there are more than
-    // are left, the store has changed.
+    // Takes the samples of the `moof` in the room into hand, and says whether there are any. Where
+    // there are more than are left, the store has changed.
     pub(crate) fn take<L: Ledger>(
         &mut self,
         movie: &Movie,
@@ -125,13 +131,18 @@ impl Walk {
         ensures next { self.new.next ≡ self.old.next }
         ensures idle { OnErr result (steps.new ≡ steps.old) }
         ensures refusal { IfErr result (λ r. r ≡ refusals.StoreChanged) }
-        ensures taken { (file : List ℕ) (tree : FileTree) (t : TrackTree) (earlier later : List FragmentTree) (next : FragmentTree) → IsOpenedAs file movie.now tree → HoldsNext file tree t earlier next later self.old
-            → IsOkAnd result (λ some. Takes file tree t earlier next later movie.now self.new some) }
+        ensures taken { (file : List ℕ) (tree : FileTree) (t : TrackTree)
+            (earlier later : List FragmentTree) (next : FragmentTree)
+            → IsOpenedAs file movie.now tree → HoldsNext file tree t earlier next later self.old
+            → IsOkAnd result
+            (λ some. Takes file tree t earlier next later movie.now self.new some) }
         ensures some { IfOk result (λ some. IsTrue some → HasSome movie.now self.new) }
         ensures moof { OnOk result (moof_box self.new ≡ moof_box self.old) }
         ensures way { OnOk result (steps_to self.new.place ≤ moof_steps (moof_box self.old)) }
-        ensures through { OnOk result ((t : TrackTree) → way_through t self.new self.new.place ≡ moof_steps (moof_box self.new)) }
-        ensures work { OnOk result (steps.new ≤ steps.old + moof_steps (moof_box self.old) + steps_to self.new.place) }
+        ensures through { OnOk result ((t : TrackTree)
+            → way_through t self.new self.new.place ≡ moof_steps (moof_box self.new)) }
+        ensures work { OnOk result (steps.new ≤ steps.old + moof_steps (moof_box self.old)
+            + steps_to self.new.place) }
     {
         let view = FragView::again(self.moof.view(&self.bytes[..self.used]));
         let info = movie.tracks()[self.track];
@@ -153,9 +164,10 @@ impl Walk {
         Ok(counts.samples > 0)
     }
 
-    /// Reads the next `moof` that has samples of the track, where nothing is left in hand; false where there is none.
-    /// It takes no memory. Where the store has another length, or other samples than it had when the movie was opened,
-    /// so far as their number shows it, the answer is StoreChanged.
+    /// Reads the next `moof` that has samples of the track, where nothing is left in hand; false
+    /// where there is none. It takes no memory. Where the store has another length, or other
+    /// samples than it had when the movie was opened, so far as their number shows it, the answer
+    /// is StoreChanged.
     pub fn load<S: Store, L: Ledger>(
         &mut self,
         movie: &Movie,
@@ -167,24 +179,44 @@ impl Walk {
         ensures file { S.file store.new ≡ S.file store.old }
         ensures walk { OnOk result (IsWalkOf movie.now self.new) }
         ensures room { length self.new.bytes.items ≡ length self.old.bytes.items }
-        ensures loaded { IsTrue (S.is_honest store.old) → (tree : FileTree) (t : TrackTree) (earlier later : List FragmentTree) → IsOpenedAs (S.file store.old) movie.now tree → StandsBefore (S.file store.old) tree t earlier later self.old
-            → IfOk result (λ more. Loads (S.file store.old) tree t movie.now (samples_behind tree t earlier later) self.new more) }
-        ensures unchanged { IsTrue (S.is_honest store.old) → (tree : FileTree) (t : TrackTree) (earlier later : List FragmentTree) → IsOpenedAs (S.file store.old) movie.now tree → StandsBefore (S.file store.old) tree t earlier later self.old
+        ensures loaded { IsTrue (S.is_honest store.old)
+            → (tree : FileTree) (t : TrackTree) (earlier later : List FragmentTree)
+            → IsOpenedAs (S.file store.old) movie.now tree
+            → StandsBefore (S.file store.old) tree t earlier later self.old
+            → IfOk result
+            (λ more. Loads (S.file store.old) tree t movie.now (samples_behind tree t earlier later)
+            self.new more) }
+        ensures unchanged { IsTrue (S.is_honest store.old)
+            → (tree : FileTree) (t : TrackTree) (earlier later : List FragmentTree)
+            → IsOpenedAs (S.file store.old) movie.now tree
+            → StandsBefore (S.file store.old) tree t earlier later self.old
             → IfErr result (λ r. r ≡ refusals.StoreChanged → ⊥) }
-        ensures ended { IsTrue (S.is_honest store.old) → (tree : FileTree) (t : TrackTree) (earlier later : List FragmentTree) (hand : InHand) → IsOpenedAs (S.file store.old) movie.now tree → StandsBefore (S.file store.old) tree t earlier later self.old
-            → InHandOf movie.now self.old hand → left_in_hand hand ≡ [] → IfOk result (λ more. more ≡ false → Comes (S.file store.old) tree t movie.now self.new []) }
-        ensures work { IsTrue (S.is_honest store.old) → (tree : FileTree) (t : TrackTree) (n : ℕ) → IsOpenedAs (S.file store.old) movie.now tree → MayTake (S.file store.old) tree t self.old n
-            → IfOk result (λ more. TakesOn (S.file store.old) tree t n self.new steps.old steps.new) }
-        ensures most { IsTrue (S.is_honest store.old) → (tree : FileTree) (t : TrackTree) (n : ℕ) → IsOpenedAs (S.file store.old) movie.now tree → MayTake (S.file store.old) tree t self.old n
+        ensures ended { IsTrue (S.is_honest store.old)
+            → (tree : FileTree) (t : TrackTree) (earlier later : List FragmentTree) (hand : InHand)
+            → IsOpenedAs (S.file store.old) movie.now tree
+            → StandsBefore (S.file store.old) tree t earlier later self.old
+            → InHandOf movie.now self.old hand → left_in_hand hand ≡ []
+            → IfOk result (λ more. more ≡ false
+            → Comes (S.file store.old) tree t movie.now self.new []) }
+        ensures work { IsTrue (S.is_honest store.old) → (tree : FileTree) (t : TrackTree) (n : ℕ)
+            → IsOpenedAs (S.file store.old) movie.now tree
+            → MayTake (S.file store.old) tree t self.old n
+            → IfOk result
+            (λ more. TakesOn (S.file store.old) tree t n self.new steps.old steps.new) }
+        ensures most { IsTrue (S.is_honest store.old) → (tree : FileTree) (t : TrackTree) (n : ℕ)
+            → IsOpenedAs (S.file store.old) movie.now tree
+            → MayTake (S.file store.old) tree t self.old n
             → IfErr result (λ r. steps.new ≤ steps.old + n) }
         ensures some { IfOk result (λ more. IsTrue more → HasSome movie.now self.new) }
         ensures none { IfOk result (λ more. more ≡ false → self.new.left ≡ 0) }
         ensures length { (length (S.file store.old) ≡ movie.now.file_len → ⊥)
             → result ≡ Err refusals.StoreChanged }
         ensures mark { self.new.mark ≡ self.old.mark }
-        ensures next { IfOk result (λ more. IsTrue more → (self.old.next < self.new.next) × (self.new.next ≤ length (S.file store.old))) }
+        ensures next { IfOk result (λ more. IsTrue more → (self.old.next < self.new.next)
+            × (self.new.next ≤ length (S.file store.old))) }
         ensures reads { OnOk result (S.read_failures store.new ≡ S.read_failures store.old) }
-        ensures refusal { IfErr result (RefusesLoad (S.read_failures store.old) (S.read_failures store.new)) }
+        ensures refusal { IfErr result
+            (RefusesLoad (S.read_failures store.old) (S.read_failures store.new)) }
     {
         if store.len() != movie.file_len {
             return Err(Refusal::StoreChanged);

@@ -24,8 +24,8 @@ pub(crate) struct Mark {
     pub(crate) to_come: u32,
 }
 
-/// A walk over the samples of a track. It has room for one `moof`, and holds neither the movie nor the store: what
-/// reads takes them again.
+/// A walk over the samples of a track. It has room for one `moof`, and holds neither the movie nor
+/// the store: what reads takes them again.
 #[derive(Drop)]
 pub struct Walk {
     pub(crate) track: usize,
@@ -36,7 +36,8 @@ pub struct Walk {
     pub(crate) used: usize,
     /// What was due where the `moof` in hand was loaded; none where the tables are in hand.
     pub(crate) before: Option<Due>,
-    /// When the first sample behind what is in hand is due, and how many samples of the track lie there.
+    /// When the first sample behind what is in hand is due, and how many samples of the track lie
+    /// there.
     pub(crate) due: u64,
     pub(crate) left: u32,
     /// Where the next `moof` is looked for.

@@ -15,7 +15,8 @@ const FEW: usize = 4096;
 /// by no more than were read ahead.
 const NEAR: usize = 16_384;
 
-/// A read is short where it is at most this part of what would be read ahead: that of a box header is.
+/// A read is short where it is at most this part of what would be read ahead: that of a box header
+/// is.
 const SHARE: usize = 4;
 
 // Bytes of a store that were read ahead: the first `len`, from the place `start` on. So many bytes

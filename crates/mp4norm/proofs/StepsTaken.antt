@@ -23,7 +23,8 @@ module _ (file : List ℕ) (old new : ℕ) where
   }
 
   -- a file that isn't opened
-  pub not_opened : (honest : Bool) (reads reads_after : ℕ) (r : Refusal) → IsTrue honest → RefusesOpen honest file reads reads_after r → ((tree : FileTree) → IsFileTree file tree → IfNoFault {A = Unit {0}} (Err r) (new ≤ old + opening_steps tree)) → OpensWithin file old new → WorksWithin file old new
+  pub not_opened : (honest : Bool) (reads reads_after : ℕ) (r : Refusal) → IsTrue honest → RefusesOpen honest file reads reads_after r → ((tree : FileTree) → IsFileTree file tree → IfNoFault {A = Unit {0}} (Err r) (new ≤ old + opening_steps tree)) → OpensWithin file old new
+      → WorksWithin file old new
   not_opened honest reads reads_after (refusals.Fault f) told refuses work within = record {
     denoted = λ p d. absurd (denotes_nothing file f (refuses told) p d);
     refused = λ nothing. within;

@@ -8,8 +8,10 @@ use Rattle.mp4norm.specs.BoxWalk.{under, FaultSeen}
 
 -- Where a header that is looked at can't be read, no text is the list of the file's boxes.
 abbrev pub FaultListsNothing : Type 0
-FaultListsNothing = (file text : List ℕ) (f : Fault) → FaultSeen (under File (file_container file)) f → BoxLines file text → ⊥
+FaultListsNothing = (file text : List ℕ) (f : Fault)
+    → FaultSeen (under File (file_container file)) f → BoxLines file text → ⊥
 
 -- The list has the boxes of all levels: with more than six levels it would be the same.
 abbrev pub SixLevelsAreAll : Type 0
-SixLevelsAreAll = (file text : List ℕ) (levels : ℕ) → 6 ≤ levels → AreBoxLines levels 0 File (file_container file) text ↔ BoxLines file text
+SixLevelsAreAll = (file text : List ℕ) (levels : ℕ) → 6 ≤ levels
+    → AreBoxLines levels 0 File (file_container file) text ↔ BoxLines file text

@@ -1,4 +1,5 @@
--- The walk over the boxes of a file that lists them: which containers it descends into, and what it answers.
+-- The walk over the boxes of a file that lists them: which containers it descends into, and what it
+-- answers.
 use Rattle.std.specs.Prelude.{◌≡◌, ℕ, ◌+◌, ◌-◌, ◌≤◌, List, length, map, Bool, IsTrue, Option, Some}
 use Rattle.mp4_store.specs.Device.{HasRisen, AppendsPrefix}
 use Rattle.mp4_boxes.specs.Box.{Box, Container, box_container, file_container}
@@ -40,22 +41,30 @@ pub record FaultSeen (from : Place) (f : Fault) : Type 0 where
 
 -- why the boxes in a box are not listed
 abbrev pub RefusesInside : Rule → Box → Refusal → Type 0
-RefusesInside rule b (refusals.Fault f) = (inner : Rule) × (rule_inside rule b.kind ≡ Some inner) × FaultSeen (under inner (box_container b)) f
+RefusesInside rule b (refusals.Fault f) = (inner : Rule) × (rule_inside rule b.kind ≡ Some inner)
+    × FaultSeen (under inner (box_container b)) f
 RefusesInside rule b refusals.Memory = Unit {0}
 RefusesInside rule b _ = ⊥
 
 -- the boxes in a box have these lines, if the walk descends into it; else there are none
 abbrev pub IsListed : Rule → ℕ → Box → List ℕ → Type 0
-IsListed rule depth b part = IsPart (AreBoxLines (height rule - 1) (depth + 1)) depth (rule_inside rule b.kind) b part
+IsListed rule depth b part = IsPart (AreBoxLines (height rule - 1) (depth + 1)) depth
+    (rule_inside rule b.kind) b part
 
--- What the list of boxes answers of an honest store's file: the lines, or a fault that stands at a header that is looked at.
--- `before` and `after` are what the sink holds, the numbers are counts of failures.
-abbrev pub RefusesBoxes : Bool → List ℕ → Option (List ℕ) → Option (List ℕ) → ℕ → ℕ → ℕ → ℕ → Refusal → Type 0
-RefusesBoxes honest file before after reads reads_after puts puts_after (refusals.Fault f) = (IsTrue honest → FaultSeen (under File (file_container file)) f) × (after ≡ before)
-RefusesBoxes honest file before after reads reads_after puts puts_after refusals.Memory = after ≡ before
-RefusesBoxes honest file before after reads reads_after puts puts_after refusals.StoreFailed = HasRisen reads reads_after × (after ≡ before)
+-- What the list of boxes answers of an honest store's file: the lines, or a fault that stands at a
+-- header that is looked at. `before` and `after` are what the sink holds, the numbers are counts of
+-- failures.
+abbrev pub RefusesBoxes : Bool → List ℕ → Option (List ℕ) → Option (List ℕ) → ℕ → ℕ → ℕ → ℕ
+    → Refusal → Type 0
+RefusesBoxes honest file before after reads reads_after puts puts_after (refusals.Fault f) =
+    (IsTrue honest → FaultSeen (under File (file_container file)) f) × (after ≡ before)
+RefusesBoxes honest file before after reads reads_after puts puts_after refusals.Memory = after
+    ≡ before
+RefusesBoxes honest file before after reads reads_after puts puts_after refusals.StoreFailed =
+    HasRisen reads reads_after × (after ≡ before)
 RefusesBoxes honest file before after reads reads_after puts puts_after refusals.WriteFailed =
-    HasRisen puts puts_after × (IsTrue honest → (text : List ℕ) × BoxLines file text × AppendsPrefix before after text)
+    HasRisen puts puts_after
+    × (IsTrue honest → (text : List ℕ) × BoxLines file text × AppendsPrefix before after text)
 RefusesBoxes honest file before after reads reads_after puts puts_after _ = ⊥
 
 -- ---- the boxes of the file itself, by their headers
@@ -68,18 +77,21 @@ tops_seen file tops = map (top_seen file) tops
 
 -- the box lies in a file of this length
 abbrev pub IsWithin : List ℕ → TopBox → Type 0
-IsWithin file top = (top.offset + top.header.header ≤ top.header.end) × (top.header.end ≤ length file)
+IsWithin file top = (top.offset + top.header.header ≤ top.header.end)
+    × (top.header.end ≤ length file)
 
 -- why a box of the file itself is not listed
 abbrev pub RefusesTop : Bool → List ℕ → Box → ℕ → ℕ → Refusal → Type 0
-RefusesTop honest file b reads reads_after (refusals.Fault f) = IsTrue honest → RefusesInside File b (refusals.Fault f)
+RefusesTop honest file b reads reads_after (refusals.Fault f) = IsTrue honest
+    → RefusesInside File b (refusals.Fault f)
 RefusesTop honest file b reads reads_after refusals.Memory = Unit {0}
 RefusesTop honest file b reads reads_after refusals.StoreFailed = HasRisen reads reads_after
 RefusesTop honest file b reads reads_after _ = ⊥
 
 -- why the boxes of the file are not listed
 abbrev pub RefusesTops : Bool → List ℕ → ℕ → ℕ → Refusal → Type 0
-RefusesTops honest file reads reads_after (refusals.Fault f) = IsTrue honest → FaultSeen (under File (file_container file)) f
+RefusesTops honest file reads reads_after (refusals.Fault f) = IsTrue honest
+    → FaultSeen (under File (file_container file)) f
 RefusesTops honest file reads reads_after refusals.Memory = Unit {0}
 RefusesTops honest file reads reads_after refusals.StoreFailed = HasRisen reads reads_after
 RefusesTops honest file reads reads_after _ = ⊥

@@ -1,4 +1,5 @@
--- What a job puts of a file, and why it doesn't. `before` and `after` are what the sink holds, the numbers are counts of failed reads and of failed puts.
+-- What a job puts of a file, and why it doesn't. `before` and `after` are what the sink holds, the
+-- numbers are counts of failed reads and of failed puts.
 use Rattle.std.specs.Prelude.{ℕ, List, Option, Bool}
 use Rattle.mp4_boxes.specs.declared.refusal.Refusal.{Refusal}
 use Rattle.mp4norm.specs.BoxWalk.{RefusesBoxes}
@@ -21,15 +22,18 @@ IsTextOf jobs.Normalise file text = HasNormalForm file text
 IsTextOf (jobs.Strip names) file text = IsStripped names.now file text
 
 -- why it is not put, or not all of it
-abbrev pub RefusesJob : Job → Bool → List ℕ → Option (List ℕ) → Option (List ℕ) → ℕ → ℕ → ℕ → ℕ → Refusal → Type 0
+abbrev pub RefusesJob : Job → Bool → List ℕ → Option (List ℕ) → Option (List ℕ) → ℕ → ℕ → ℕ → ℕ
+    → Refusal → Type 0
 RefusesJob jobs.Boxes honest file before after reads reads_after puts puts_after r =
     RefusesBoxes honest file before after reads reads_after puts puts_after r
 RefusesJob jobs.Show honest file before after reads reads_after puts puts_after r =
     RefusesShow honest file before after reads reads_after puts puts_after r
 RefusesJob (jobs.Samples track) honest file before after reads reads_after puts puts_after r =
-    RefusesTrack honest file track (ListsSamples file track) before after reads reads_after puts puts_after r
+    RefusesTrack honest file track (ListsSamples file track)
+    before after reads reads_after puts puts_after r
 RefusesJob (jobs.Extract track) honest file before after reads reads_after puts puts_after r =
-    RefusesTrack honest file track (HasData file track) before after reads reads_after puts puts_after r
+    RefusesTrack honest file track (HasData file track)
+    before after reads reads_after puts puts_after r
 RefusesJob jobs.Normalise honest file before after reads reads_after puts puts_after r =
     RefusesNormalise honest file before after reads reads_after puts puts_after r
 RefusesJob (jobs.Strip names) honest file before after reads reads_after puts puts_after r =

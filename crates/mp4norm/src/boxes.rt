@@ -1,5 +1,5 @@
 //! The boxes of a file, a line each.
-ghost use Rattle.std.specs.Prelude.{◌≡◌, ℕ, ◌+◌, ◌*◌, ◌-◌, ◌^◌, ◌<◌, ◌≤◌, ◌++◌, List, length, IfOk, IfErr, OnOk, IsTrue};
+ghost use Rattle.std.specs.Prelude.{◌≡◌, ℕ, ◌+◌, ◌*◌, ◌-◌, ◌<◌, ◌≤◌, ◌++◌, List, IfOk, IfErr, OnOk, IsTrue};
 ghost use Rattle.std.specs.List.{All};
 ghost use Rattle.std.specs.Io.KnownBytes.{Appends};
 ghost use Rattle.mp4_boxes.specs.Box.{Tiles, file_container};
@@ -55,7 +55,8 @@ pub(crate) fn rule_inside(rule: Rule, kind: FourCc) -> Option<Rule>
 // Adds the line of a box that stands in a container under this rule, and those of the boxes in it.
 fn push_box(text: &mut Vec<u8>, view: BoxView, rule: Rule, depth: u8) -> Result<(), Refusal>
     requires { depth + height rule ≤ 6 }
-    ensures lines { OnOk result ((part : List ℕ) × IsListed rule depth (box_seen view.entry) part × (text.new.items ≡ text.old.items ++ part)) }
+    ensures lines { OnOk result ((part : List ℕ) × IsListed rule depth (box_seen view.entry) part
+        × (text.new.items ≡ text.old.items ++ part)) }
     ensures refusal { IfErr result (RefusesInside rule (box_seen view.entry)) }
 {
     let size = view.payload_offset() - view.offset() + view.payload().len() as u64;
@@ -74,10 +75,13 @@ fn push_box(text: &mut Vec<u8>, view: BoxView, rule: Rule, depth: u8) -> Result<
 fn top_boxes<S: Store>(alloc: Global, store: &mut S) -> Result<Vec<TopBox>, Refusal>
     ensures honesty { S.is_honest store.new ≡ S.is_honest store.old }
     ensures file { S.file store.new ≡ S.file store.old }
-    ensures tiles { IfOk result (λ tops. IsTrue (S.is_honest store.old) → Tiles (file_container (S.file store.old)) (tops_seen (S.file store.old) tops.items)) }
+    ensures tiles { IfOk result (λ tops. IsTrue (S.is_honest store.old)
+        → Tiles (file_container (S.file store.old)) (tops_seen (S.file store.old) tops.items)) }
     ensures within { IfOk result (λ tops. All (IsWithin (S.file store.old)) tops.items) }
     ensures reads { OnOk result (S.read_failures store.new ≡ S.read_failures store.old) }
-    ensures refusal { IfErr result (RefusesTops (S.is_honest store.old) (S.file store.old) (S.read_failures store.old) (S.read_failures store.new)) }
+    ensures refusal { IfErr result
+        (RefusesTops (S.is_honest store.old) (S.file store.old) (S.read_failures store.old)
+        (S.read_failures store.new)) }
 {
     let mut tops = Vec::new(alloc);
     let len = store.len();
@@ -100,9 +104,13 @@ fn push_top<S: Store>(
     requires { IsWithin (S.file store.old) top }
     ensures honesty { S.is_honest store.new ≡ S.is_honest store.old }
     ensures file { S.file store.new ≡ S.file store.old }
-    ensures lines { OnOk result (IsTrue (S.is_honest store.old) → (part : List ℕ) × IsListed File 0 (top_seen (S.file store.old) top) part × (text.new.items ≡ text.old.items ++ part)) }
+    ensures lines { OnOk result (IsTrue (S.is_honest store.old) → (part : List ℕ)
+        × IsListed File 0 (top_seen (S.file store.old) top) part
+        × (text.new.items ≡ text.old.items ++ part)) }
     ensures reads { OnOk result (S.read_failures store.new ≡ S.read_failures store.old) }
-    ensures refusal { IfErr result (RefusesTop (S.is_honest store.old) (S.file store.old) (top_seen (S.file store.old) top) (S.read_failures store.old) (S.read_failures store.new)) }
+    ensures refusal { IfErr result
+        (RefusesTop (S.is_honest store.old) (S.file store.old) (top_seen (S.file store.old) top)
+        (S.read_failures store.old) (S.read_failures store.new)) }
 {
     let header = top.header;
     if rule_inside(Rule::File, header.kind).is_none() {
@@ -121,8 +129,11 @@ fn list_boxes<S: Store>(alloc: Global, store: &mut S) -> Result<Vec<u8>, Refusal
     ensures honesty { S.is_honest store.new ≡ S.is_honest store.old }
     ensures file { S.file store.new ≡ S.file store.old }
     ensures reads { OnOk result (S.read_failures store.new ≡ S.read_failures store.old) }
-    ensures lines { IfOk result (λ text. IsTrue (S.is_honest store.old) → BoxLines (S.file store.old) text.items) }
-    ensures refusal { IfErr result (RefusesTops (S.is_honest store.old) (S.file store.old) (S.read_failures store.old) (S.read_failures store.new)) }
+    ensures lines { IfOk result (λ text. IsTrue (S.is_honest store.old)
+        → BoxLines (S.file store.old) text.items) }
+    ensures refusal { IfErr result
+        (RefusesTops (S.is_honest store.old) (S.file store.old) (S.read_failures store.old)
+        (S.read_failures store.new)) }
 {
     let tops = top_boxes(alloc, store)?;
     let mut text = Vec::new(alloc);
@@ -132,17 +143,22 @@ fn list_boxes<S: Store>(alloc: Global, store: &mut S) -> Result<Vec<u8>, Refusal
     Ok(text)
 }
 
-/// Puts a line for each box that is a box of the file or of a container of boxes: two spaces for each container
-/// that it stands in, its type, its place, its size. Every type is accepted. Where any header that is looked at
-/// is at fault, nothing is put.
+/// Puts a line for each box that is a box of the file or of a container of boxes: two spaces for
+/// each container that it stands in, its type, its place, its size. Every type is accepted. Where
+/// any header that is looked at is at fault, nothing is put.
 pub fn boxes<S: Store, K: Sink>(alloc: Global, store: &mut S, sink: &mut K) -> Result<(), Refusal>
     ensures honesty { S.is_honest store.new ≡ S.is_honest store.old }
     ensures file { S.file store.new ≡ S.file store.old }
     ensures reads { OnOk result (S.read_failures store.new ≡ S.read_failures store.old) }
     ensures puts { OnOk result (K.put_failures sink.new ≡ K.put_failures sink.old) }
-    ensures lines { OnOk result (IsTrue (S.is_honest store.old) → (text : List ℕ) × BoxLines (S.file store.old) text × Appends (K.contents sink.old) (K.contents sink.new) text) }
-    ensures refusal { IfErr result (RefusesBoxes (S.is_honest store.old) (S.file store.old) (K.contents sink.old) (K.contents sink.new)
-        (S.read_failures store.old) (S.read_failures store.new) (K.put_failures sink.old) (K.put_failures sink.new)) }
+    ensures lines { OnOk result (IsTrue (S.is_honest store.old) → (text : List ℕ)
+        × BoxLines (S.file store.old) text
+        × Appends (K.contents sink.old) (K.contents sink.new) text) }
+    ensures refusal { IfErr result
+        (RefusesBoxes (S.is_honest store.old) (S.file store.old) (K.contents sink.old)
+        (K.contents sink.new)
+        (S.read_failures store.old) (S.read_failures store.new) (K.put_failures sink.old)
+        (K.put_failures sink.new)) }
 {
     let text = list_boxes(alloc, store)?;
     sink.put(text.as_slice())?;

@@ -59,8 +59,8 @@ fn check_list<K: Sink>(
     Ok(worst)
 }
 
-/// Judges each of these files and then those of a list, puts a verdict on each to standard output, ended by this byte, and
-/// gives the greatest status.
+/// Judges each of these files and then those of a list, puts a verdict on each to standard output,
+/// ended by this byte, and gives the greatest status.
 pub(crate) fn check_all(
     rt: &HostRuntime,
     files: &[Input],

@@ -13,7 +13,8 @@ const VERSION: &str = "0.2.0, normal form 1";
 
 /// What stands behind the help of the whole program.
 const AFTER_HELP: &str = "\
-With no words it lists the boxes of standard input. A FILE that is named - is standard input, read whole.
+With no words it lists the boxes of standard input. A FILE that is named - is standard input, \
+read whole.
 
 Columns of samples: number, decode time, composition time, duration, flags, description, size
 
@@ -139,7 +140,8 @@ fn samples_command<'a>(alloc: Global) -> Result<Command<'a>, AllocError> {
     let command = of_file(
         alloc,
         "samples",
-        "Lists the samples of a track: number, decode time, composition time, duration, flags, description, size",
+        "Lists the samples of a track: number, decode time, composition time, duration, flags, \
+         description, size",
         "Example: mp4norm samples movie.mp4 --track 1",
     )?;
     with_arg(command, track_arg(alloc))

@@ -69,8 +69,8 @@ fn name_of(word: &[u8]) -> Option<Name> {
     Some(Name { container, kind })
 }
 
-/// The names in a list of words that are apart by commas; none where a word names no type, free space, or a container that
-/// is none.
+/// The names in a list of words that are apart by commas; none where a word names no type, free
+/// space, or a container that is none.
 pub(crate) fn names_of(alloc: Global, list: &str) -> Result<Option<Vec<Name>>, AllocError>
     ensures { IfOk result (λ found. IfSome found (λ names. 0 < length names.items)) }
 {

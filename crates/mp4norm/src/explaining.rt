@@ -1,4 +1,5 @@
-//! What there is to say of a fault besides its line: the way to the box, where the standard tells of it, what the kind means.
+//! What there is to say of a fault besides its line: the way to the box, where the standard tells
+//! of it, what the kind means.
 ghost use Rattle.std.specs.Prelude.{◌≡◌, ◌++◌, OnOk};
 ghost use Rattle.mp4norm.specs.Texts.{line_feed};
 
@@ -7,7 +8,8 @@ use mp4_boxes::{Fault, FourCc, Kind, Refusal};
 use mp4_store::{Sink, Store};
 use std::alloc::{AllocError, Global};
 
-// The clause of ISO/IEC 14496-12 that tells of boxes of this type; that on boxes in general, where no other is read here.
+// The clause of ISO/IEC 14496-12 that tells of boxes of this type; that on boxes in general, where
+// no other is read here.
 fn clause_of(box_type: [u8; 4]) -> &'static str {
     match &box_type {
         b"ftyp" => "4.3",
@@ -95,7 +97,8 @@ fn push_line(text: &mut Vec<u8>, label: &[u8], rest: &[u8]) -> Result<(), AllocE
     Ok(())
 }
 
-// The way to the named box. Where its header can't be read, or it is no box of a container, its type stands at the end.
+// The way to the named box. Where its header can't be read, or it is no box of a container, its
+// type stands at the end.
 fn whole_way(way: &mut Way, named: FourCc) -> Result<(), AllocError> {
     if way.text.is_empty() {
         way.text
@@ -121,8 +124,8 @@ fn explanation(alloc: Global, fault: &Fault, way: &Way) -> Result<Vec<u8>, Alloc
     Ok(text)
 }
 
-/// Puts three lines on a fault of a file: the way to the named box, the clause of the standard that tells of it, and what
-/// the kind means.
+/// Puts three lines on a fault of a file: the way to the named box, the clause of the standard that
+/// tells of it, and what the kind means.
 pub(crate) fn explain<S: Store, K: Sink>(
     alloc: Global,
     fault: &Fault,

@@ -26,9 +26,14 @@ fn extract_counted<S: Store, K: Sink, L: Ledger>(
     ensures file { S.file store.new ≡ S.file store.old }
     ensures reads { OnOk result (S.read_failures store.new ≡ S.read_failures store.old) }
     ensures puts { OnOk result (K.put_failures sink.new ≡ K.put_failures sink.old) }
-    ensures bytes { OnOk result (IsTrue (S.is_honest store.old) → (text : List ℕ) × HasData (S.file store.old) id text × Appends (K.contents sink.old) (K.contents sink.new) text) }
-    ensures refusal { IfErr result (RefusesTrack (S.is_honest store.old) (S.file store.old) id (HasData (S.file store.old) id) (K.contents sink.old) (K.contents sink.new)
-        (S.read_failures store.old) (S.read_failures store.new) (K.put_failures sink.old) (K.put_failures sink.new)) }
+    ensures bytes { OnOk result (IsTrue (S.is_honest store.old) → (text : List ℕ)
+        × HasData (S.file store.old) id text
+        × Appends (K.contents sink.old) (K.contents sink.new) text) }
+    ensures refusal { IfErr result
+        (RefusesTrack (S.is_honest store.old) (S.file store.old) id (HasData (S.file store.old) id)
+        (K.contents sink.old) (K.contents sink.new)
+        (S.read_failures store.old) (S.read_failures store.new) (K.put_failures sink.old)
+        (K.put_failures sink.new)) }
 {
     let mut steps = Steps::<L>::new(blank);
     let movie = open_movie(alloc, store, &mut steps)?;
@@ -36,8 +41,8 @@ fn extract_counted<S: Store, K: Sink, L: Ledger>(
     movie.copy_track(alloc, track, store, sink, &mut steps)
 }
 
-/// Puts the bytes of the samples of the track with this ID, one after the other. The whole file is judged, and all memory
-/// is taken, before the first byte is put.
+/// Puts the bytes of the samples of the track with this ID, one after the other. The whole file is
+/// judged, and all memory is taken, before the first byte is put.
 pub fn extract<S: Store, K: Sink>(
     alloc: Global,
     store: &mut S,
@@ -48,9 +53,14 @@ pub fn extract<S: Store, K: Sink>(
     ensures file { S.file store.new ≡ S.file store.old }
     ensures reads { OnOk result (S.read_failures store.new ≡ S.read_failures store.old) }
     ensures puts { OnOk result (K.put_failures sink.new ≡ K.put_failures sink.old) }
-    ensures bytes { OnOk result (IsTrue (S.is_honest store.old) → (text : List ℕ) × HasData (S.file store.old) id text × Appends (K.contents sink.old) (K.contents sink.new) text) }
-    ensures refusal { IfErr result (RefusesTrack (S.is_honest store.old) (S.file store.old) id (HasData (S.file store.old) id) (K.contents sink.old) (K.contents sink.new)
-        (S.read_failures store.old) (S.read_failures store.new) (K.put_failures sink.old) (K.put_failures sink.new)) }
+    ensures bytes { OnOk result (IsTrue (S.is_honest store.old) → (text : List ℕ)
+        × HasData (S.file store.old) id text
+        × Appends (K.contents sink.old) (K.contents sink.new) text) }
+    ensures refusal { IfErr result
+        (RefusesTrack (S.is_honest store.old) (S.file store.old) id (HasData (S.file store.old) id)
+        (K.contents sink.old) (K.contents sink.new)
+        (S.read_failures store.old) (S.read_failures store.new) (K.put_failures sink.old)
+        (K.put_failures sink.new)) }
 {
     extract_counted::<S, K, Brand>(alloc, store, id, sink, Blank::new(1))
 }

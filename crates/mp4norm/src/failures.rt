@@ -1,5 +1,6 @@
-//! Reads and puts that fail in turn, a store that changes, one that computes its bytes; lengths of normal forms.
-ghost use Rattle.std.specs.Prelude.{◌≡◌, ◌<◌, ℕ, true, false, None, replicate};
+//! Reads and puts that fail in turn, a store that changes, one that computes its bytes; lengths of
+//! normal forms.
+ghost use Rattle.std.specs.Prelude.{◌≡◌, ◌<◌, true, false, None, replicate};
 
 use super::*;
 use crate::counted::performed;
@@ -15,7 +16,8 @@ use std::sync::ledger::{Blank, Ledger};
 /// More reads and puts than any of the runs has.
 const MANY: u64 = 1000;
 
-// A store over bytes in memory, of which one read fails: the one that this number of reads leads to, none where it is 0.
+// A store over bytes in memory, of which one read fails: the one that this number of reads leads
+// to, none where it is 0.
 #[derive(Drop)]
 struct FailingStore<'a> {
     bytes: &'a [u8],
@@ -207,7 +209,8 @@ fn each_put_fails(rt: HostRuntime) {
     }
 }
 
-// A store over a file of one fragment of three samples. From the second read on that covers their number, that is 4.
+// A store over a file of one fragment of three samples. From the second read on that covers their
+// number, that is 4.
 #[derive(Drop)]
 struct ChangingStore<'a> {
     bytes: &'a [u8],
@@ -263,7 +266,8 @@ fn data_byte(place: u64) -> u8 {
     (place % 251) as u8
 }
 
-// A store over a file of three samples of 4,194,304 bytes. Its bytes are computed from their places.
+// A store over a file of three samples of 4,194,304 bytes. Its bytes are computed from their
+// places.
 #[derive(Drop)]
 struct LargeStore {
     size: u64,
@@ -294,7 +298,8 @@ impl Store for LargeStore {
     }
 }
 
-// Counts what is put, and says whether the head and the media data are those of the large file's normal form.
+// Counts what is put, and says whether the head and the media data are those of the large file's
+// normal form.
 #[derive(Drop)]
 struct LargeSink {
     count: u64,

@@ -18,7 +18,8 @@ pub(crate) fn room(alloc: Global, len: usize) -> Result<Vec<u8>, Refusal>
 /// All that a reader gives. More than `most` bytes, or an error, is a failed read.
 pub fn read_input<R: Read>(alloc: Global, reader: &mut R, most: usize) -> Result<Vec<u8>, Refusal>
     ensures limit { IfOk result (λ input. length input.items ≤ most) }
-    ensures whole { IfOk result (λ input. IfSome (R.remaining reader.old) (λ bytes. input.items ≡ bytes)) }
+    ensures whole { IfOk result
+        (λ input. IfSome (R.remaining reader.old) (λ bytes. input.items ≡ bytes)) }
 {
     let mut input = Vec::new(alloc);
     let mut piece = room(alloc, PIECE)?;

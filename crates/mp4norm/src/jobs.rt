@@ -15,7 +15,8 @@ use mp4_store::{Sink, Store};
 use std::alloc::Global;
 use std::sync::ledger::Ledger;
 
-/// Does a job: all that is put is the job's own text of the file. The steps of normalising are counted, and are those of one run.
+/// Does a job: all that is put is the job's own text of the file. The steps of normalising are
+/// counted, and are those of one run.
 pub fn perform<S: Store, K: Sink, L: Ledger>(
     alloc: Global,
     job: Job,
@@ -28,11 +29,14 @@ pub fn perform<S: Store, K: Sink, L: Ledger>(
     ensures reads { OnOk result (S.read_failures store.new ≡ S.read_failures store.old) }
     ensures puts { OnOk result (K.put_failures sink.new ≡ K.put_failures sink.old) }
     ensures text { OnOk result (IsTrue (S.is_honest store.old) → (text : List ℕ)
-        × IsTextOf job.entry (S.file store.old) text × Appends (K.contents sink.old) (K.contents sink.new) text) }
+        × IsTextOf job.entry (S.file store.old) text
+        × Appends (K.contents sink.old) (K.contents sink.new) text) }
     ensures refusal { IfErr result (RefusesJob job.entry (S.is_honest store.old) (S.file store.old)
-        (K.contents sink.old) (K.contents sink.new) (S.read_failures store.old) (S.read_failures store.new)
+        (K.contents sink.old) (K.contents sink.new) (S.read_failures store.old)
+        (S.read_failures store.new)
         (K.put_failures sink.old) (K.put_failures sink.new)) }
-    ensures work { IsTrue (S.is_honest store.old) → JobWorksWithin job.entry (S.file store.old) steps.old steps.new }
+    ensures work { IsTrue (S.is_honest store.old)
+        → JobWorksWithin job.entry (S.file store.old) steps.old steps.new }
 {
     match job {
         Job::Boxes => boxes(alloc, store, sink),

@@ -23,8 +23,10 @@ fn check_counted<S: Store, L: Ledger>(
     ensures honesty { S.is_honest store.new ≡ S.is_honest store.old }
     ensures file { S.file store.new ≡ S.file store.old }
     ensures reads { OnOk result (S.read_failures store.new ≡ S.read_failures store.old) }
-    ensures accepted { OnOk result (IsTrue (S.is_honest store.old) → (bytes : List ℕ) × HasNormalForm (S.file store.old) bytes) }
-    ensures refusal { IfErr result (RefusesNormalise (S.is_honest store.old) (S.file store.old) None None
+    ensures accepted { OnOk result (IsTrue (S.is_honest store.old) → (bytes : List ℕ)
+        × HasNormalForm (S.file store.old) bytes) }
+    ensures refusal { IfErr result
+        (RefusesNormalise (S.is_honest store.old) (S.file store.old) None None
         (S.read_failures store.old) (S.read_failures store.new) 0 0) }
 {
     let mut steps = Steps::<L>::new(blank);
@@ -33,14 +35,17 @@ fn check_counted<S: Store, L: Ledger>(
     Ok(())
 }
 
-/// Judges a file as `normalise` does before it puts anything: the file is read and planned, and all memory that writing
-/// would need is taken. So it answers what `normalise` would, but for a read or a put that fails there later.
+/// Judges a file as `normalise` does before it puts anything: the file is read and planned, and all
+/// memory that writing would need is taken. So it answers what `normalise` would, but for a read or
+/// a put that fails there later.
 pub fn check<S: Store>(alloc: Global, store: &mut S) -> Result<(), Refusal>
     ensures honesty { S.is_honest store.new ≡ S.is_honest store.old }
     ensures file { S.file store.new ≡ S.file store.old }
     ensures reads { OnOk result (S.read_failures store.new ≡ S.read_failures store.old) }
-    ensures accepted { OnOk result (IsTrue (S.is_honest store.old) → (bytes : List ℕ) × HasNormalForm (S.file store.old) bytes) }
-    ensures refusal { IfErr result (RefusesNormalise (S.is_honest store.old) (S.file store.old) None None
+    ensures accepted { OnOk result (IsTrue (S.is_honest store.old) → (bytes : List ℕ)
+        × HasNormalForm (S.file store.old) bytes) }
+    ensures refusal { IfErr result
+        (RefusesNormalise (S.is_honest store.old) (S.file store.old) None None
         (S.read_failures store.old) (S.read_failures store.new) 0 0) }
 {
     check_counted::<S, Brand>(alloc, store, Blank::new(1))

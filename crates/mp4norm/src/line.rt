@@ -1,6 +1,5 @@
 //! One line of text, in a fixed array.
-ghost use Rattle.std.specs.Prelude.{◌≡◌, ℕ, ◌+◌, ◌<◌, ◌≤◌, [], ◌∷◌, ◌++◌, length, decimal, nat_le, ◌&&◌};
-ghost use Rattle.std.specs.List.{list_all};
+ghost use Rattle.std.specs.Prelude.{◌≡◌, ℕ, ◌+◌, ◌<◌, ◌≤◌, [], ◌∷◌, ◌++◌, length, decimal};
 ghost use Rattle.mp4norm.specs.Texts.{hex_digits, type_text};
 
 use crate::digits::{hex_digit, write_digits};
@@ -77,7 +76,8 @@ impl Line {
         self.push(hex_digit(byte % 16));
     }
 
-    /// The type as text: its characters, or eight hexadecimal digits where some byte is no printable character.
+    /// The type as text: its characters, or eight hexadecimal digits where some byte is no
+    /// printable character.
     #[tactic(auto, using(crate::proofs::TypeTexts::length_type_text))]
     pub(crate) fn push_type(&mut self, kind: FourCc)
         requires { length self.old + 8 ≤ 64 }

@@ -1,8 +1,9 @@
-//! `mp4norm`: the normal form of an MP4 file; its boxes, what it denotes as one line, the samples of a track, their bytes.
+//! `mp4norm`: the normal form of an MP4 file; its boxes, what it denotes as one line, the samples
+//! of a track, their bytes.
 //!
-//! With no words it reads standard input, at most 2^30 bytes, and lists the boxes on standard output. The status is 0,
-//! 1 where the file is refused, 2 without memory, 3 where reading or writing failed, 4 where no track has the ID, 64 for
-//! words that it doesn't know.
+//! With no words it reads standard input, at most 2^30 bytes, and lists the boxes on standard
+//! output. The status is 0, 1 where the file is refused, 2 without memory, 3 where reading or
+//! writing failed, 4 where no track has the ID, 64 for words that it doesn't know.
 #![tactic(auto)]
 
 ghost use Rattle.std.specs.Prelude.{◌≡◌, ◌<◌};

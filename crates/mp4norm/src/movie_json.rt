@@ -1,11 +1,11 @@
 //! A movie as one line of JSON.
-ghost use Rattle.std.specs.Prelude.{◌≡◌, map, take, slice_range, IfOk, string_bytes};
-ghost use Rattle.serde_json.specs.Data.{array, string};
+ghost use Rattle.std.specs.Prelude.{◌≡◌, map, IfOk, string_bytes};
+ghost use Rattle.serde_json.specs.Data.{array};
 ghost use Rattle.serde_json.specs.View.{items_of, view};
 ghost use Rattle.serde_json.specs.Written.{compact_text};
 ghost use Rattle.mp4_head.specs.Head.{handler_type};
 ghost use Rattle.mp4_head.specs.Seen.{description_seen, edit_seen, track_seen, movie_seen, tracks_seen};
-ghost use Rattle.mp4norm.specs.Texts.{description_value, edit_value, track_data};
+ghost use Rattle.mp4norm.specs.Texts.{description_value, edit_value};
 ghost use Rattle.mp4norm.specs.ShowValue.{info_value, infos_values, ShowValue};
 
 use crate::type_names::type_string;
@@ -21,7 +21,8 @@ fn edit_value(alloc: Global, edit: &Edit) -> Result<Value, AllocError>
 }
 
 fn edits_value(alloc: Global, edits: &[Edit]) -> Result<Value, AllocError>
-    ensures { IfOk result (λ v. view v ≡ array (items_of (map edit_value (map edit_seen edits.now)))) }
+    ensures { IfOk result (λ v. view v
+        ≡ array (items_of (map edit_value (map edit_seen edits.now)))) }
 {
     let mut values = Vec::new(alloc);
     for edit in edits {
@@ -38,7 +39,8 @@ fn description_value(alloc: Global, description: &Description) -> Result<Value, 
 }
 
 fn descriptions_value(alloc: Global, descriptions: &[Description]) -> Result<Value, AllocError>
-    ensures { IfOk result (λ v. view v ≡ array (items_of (map description_value (map description_seen descriptions.now)))) }
+    ensures { IfOk result (λ v. view v
+        ≡ array (items_of (map description_value (map description_seen descriptions.now)))) }
 {
     let mut values = Vec::new(alloc);
     for description in descriptions {
@@ -79,7 +81,8 @@ fn tracks_value(
     heads: &[TrackHead],
     infos: &[TrackInfo],
 ) -> Result<Value, AllocError>
-    ensures { IfOk result (λ v. view v ≡ array (items_of (infos_values (map track_seen heads.now) infos.now))) }
+    ensures { IfOk result (λ v. view v
+        ≡ array (items_of (infos_values (map track_seen heads.now) infos.now))) }
 {
     let mut values = Vec::new(alloc);
     for (head, info) in heads.iter().zip(infos) {
@@ -94,20 +97,23 @@ fn movie_value(
     mehd: u64,
     infos: &[TrackInfo],
 ) -> Result<Value, AllocError>
-    ensures { IfOk result (λ v. view v ≡ ShowValue (movie_seen head.now) (tracks_seen head.now) mehd infos.now) }
+    ensures { IfOk result (λ v. view v
+        ≡ ShowValue (movie_seen head.now) (tracks_seen head.now) mehd infos.now) }
 {
     let tracks = tracks_value(alloc, head.tracks.as_slice(), infos)?;
     json!(in alloc; {"mehd": mehd, "timescale": head.timescale, "tracks": tracks})
 }
 
-/// What is shown of a movie, its tracks in numbers beside their heads: one line, without the line feed.
+/// What is shown of a movie, its tracks in numbers beside their heads: one line, without the line
+/// feed.
 pub fn show_text(
     alloc: Global,
     head: &MovieHead,
     mehd: u64,
     infos: &[TrackInfo],
 ) -> Result<String, AllocError>
-    ensures { IfOk result (λ text. string_bytes text ≡ compact_text (ShowValue (movie_seen head.now) (tracks_seen head.now) mehd infos.now)) }
+    ensures { IfOk result (λ text. string_bytes text
+        ≡ compact_text (ShowValue (movie_seen head.now) (tracks_seen head.now) mehd infos.now)) }
 {
     let value = movie_value(alloc, head, mehd, infos)?;
     value.to_string(alloc)

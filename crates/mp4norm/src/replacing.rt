@@ -22,8 +22,10 @@ struct Part {
 
 // The name of a file beside another one, by its number.
 fn part_name(alloc: Global, name: &str, number: u32) -> Result<String, AllocError>
-    ensures first { number ≡ 0 → IfOk result (λ text. string_bytes text ≡ name.now ++ codes ".part") }
-    ensures further { 0 < number → IfOk result (λ text. string_bytes text ≡ name.now ++ codes ".part" ++ decimal number) }
+    ensures first { number ≡ 0
+        → IfOk result (λ text. string_bytes text ≡ name.now ++ codes ".part") }
+    ensures further { 0 < number
+        → IfOk result (λ text. string_bytes text ≡ name.now ++ codes ".part" ++ decimal number) }
 {
     if number == 0 {
         format!(in alloc; "{name}.part")
@@ -32,7 +34,8 @@ fn part_name(alloc: Global, name: &str, number: u32) -> Result<String, AllocErro
     }
 }
 
-// Makes a file beside another one. What an interrupted run left there stays, and another name is taken.
+// Makes a file beside another one. What an interrupted run left there stays, and another name is
+// taken.
 fn make_part(rt: &HostRuntime, beside: &str) -> Result<Part, Refusal> {
     for number in 0..MOST_NAMES {
         let name = part_name(rt.alloc(), beside, number)?;
@@ -45,7 +48,8 @@ fn make_part(rt: &HostRuntime, beside: &str) -> Result<Part, Refusal> {
     Err(Refusal::WriteFailed)
 }
 
-// Whether there is a regular file of this name, or nothing. A link, a directory or a device is not replaced.
+// Whether there is a regular file of this name, or nothing. A link, a directory or a device is not
+// replaced.
 fn is_replaceable(rt: &HostRuntime, name: &str) -> bool {
     match fs::symlink_metadata(rt, name) {
         Ok(metadata) => metadata.is_file(),
@@ -69,8 +73,9 @@ fn fill<L: Ledger>(
     fs::rename(rt, part, name).map_err(|_| Refusal::WriteFailed)
 }
 
-/// Does a job whose text goes to a new file, which takes the place of the one of this name only where the whole text was
-/// written. After any other answer what is there is as it was, and the new file is taken away.
+/// Does a job whose text goes to a new file, which takes the place of the one of this name only
+/// where the whole text was written. After any other answer what is there is as it was, and the new
+/// file is taken away.
 pub(crate) fn replace<L: Ledger>(
     rt: &HostRuntime,
     job: Job,

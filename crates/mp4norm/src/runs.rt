@@ -48,7 +48,8 @@ fn answer<L: Ledger>(
     Ok(())
 }
 
-/// Opens what is read, then where the answer goes, and does the job. A fault is explained where that is asked for.
+/// Opens what is read, then where the answer goes, and does the job. A fault is explained where
+/// that is asked for.
 pub(crate) fn run<L: Ledger>(
     rt: &HostRuntime,
     job: Job,

@@ -40,13 +40,22 @@ fn put_hand<K: Sink, L: Ledger>(
     requires { IsWalkOf movie.now walk.old }
     ensures walk { OnOk result (IsWalkOf movie.now walk.new) }
     ensures next { OnOk result (walk.new.next ≡ walk.old.next) }
-    ensures lines { OnOk result ((hand : InHand) × InHandOf movie.now walk.old hand × (number.old + length (left_in_hand hand) < 2 ^ 64
-        → BytesGoOn (K.contents sink.old) (K.contents sink.new) (waiting carrier.old) (waiting carrier.new) (sample_at_lines number.old (left_in_hand hand)) × (number.new ≡ number.old + length (left_in_hand hand)))) }
-    ensures prefix { OnErr result ((hand : InHand) × InHandOf movie.now walk.old hand × (number.old + length (left_in_hand hand) < 2 ^ 64
-        → AppendsPrefix (K.contents sink.old) (K.contents sink.new) (waiting carrier.old ++ sample_at_lines number.old (left_in_hand hand)))) }
+    ensures lines { OnOk result ((hand : InHand) × InHandOf movie.now walk.old hand
+        × (number.old + length (left_in_hand hand) < 2 ^ 64
+        → BytesGoOn (K.contents sink.old) (K.contents sink.new) (waiting carrier.old)
+        (waiting carrier.new) (sample_at_lines number.old (left_in_hand hand))
+        × (number.new ≡ number.old + length (left_in_hand hand)))) }
+    ensures prefix { OnErr result ((hand : InHand) × InHandOf movie.now walk.old hand
+        × (number.old + length (left_in_hand hand) < 2 ^ 64
+        → AppendsPrefix (K.contents sink.old) (K.contents sink.new) (waiting carrier.old
+        ++ sample_at_lines number.old (left_in_hand hand)))) }
     ensures puts { OnOk result (K.put_failures sink.new ≡ K.put_failures sink.old) }
-    ensures stands { OnOk result ((file : List ℕ) (tree : FileTree) (t : TrackTree) (earlier later : List FragmentTree) → StandsBefore file tree t earlier later walk.old → StandsBefore file tree t earlier later walk.new) }
-    ensures refusal { IfErr result (RefusesPut (K.put_failures sink.old) (K.put_failures sink.new)) }
+    ensures stands { OnOk result
+        ((file : List ℕ) (tree : FileTree) (t : TrackTree) (earlier later : List FragmentTree)
+        → StandsBefore file tree t earlier later walk.old
+        → StandsBefore file tree t earlier later walk.new) }
+    ensures refusal { IfErr result
+        (RefusesPut (K.put_failures sink.old) (K.put_failures sink.new)) }
 {
     let place = {
         let mut hand = walk.in_hand(movie);
@@ -71,12 +80,26 @@ fn put_walk<S: Store, K: Sink, L: Ledger>(
     ensures file { S.file store.new ≡ S.file store.old }
     ensures reads { OnOk result (S.read_failures store.new ≡ S.read_failures store.old) }
     ensures puts { OnOk result (K.put_failures sink.new ≡ K.put_failures sink.old) }
-    ensures lines { OnOk result (IsTrue (S.is_honest store.old) → (tree : FileTree) (t : TrackTree) (samples : List SampleAt) → IsOpenedAs (S.file store.old) movie.now tree → Comes (S.file store.old) tree t movie.now walk.old samples → length samples < 2 ^ 32
-        → Appends (K.contents sink.old) (K.contents sink.new) (waiting carrier.old ++ sample_at_lines 1 samples)) }
-    ensures prefix { OnErr result (IsTrue (S.is_honest store.old) → (tree : FileTree) (t : TrackTree) (samples : List SampleAt) → IsOpenedAs (S.file store.old) movie.now tree → Comes (S.file store.old) tree t movie.now walk.old samples → length samples < 2 ^ 32
-        → AppendsPrefix (K.contents sink.old) (K.contents sink.new) (waiting carrier.old ++ sample_at_lines 1 samples)) }
-    ensures unchanged { IsTrue (S.is_honest store.old) → (tree : FileTree) (t : TrackTree) (samples : List SampleAt) → IsOpenedAs (S.file store.old) movie.now tree → Comes (S.file store.old) tree t movie.now walk.old samples → length samples < 2 ^ 32 → IfErr result (λ r. r ≡ refusals.StoreChanged → ⊥) }
-    ensures refusal { IfErr result (RefusesCarry (S.read_failures store.old) (S.read_failures store.new) (K.put_failures sink.old) (K.put_failures sink.new)) }
+    ensures lines { OnOk result (IsTrue (S.is_honest store.old)
+        → (tree : FileTree) (t : TrackTree) (samples : List SampleAt)
+        → IsOpenedAs (S.file store.old) movie.now tree
+        → Comes (S.file store.old) tree t movie.now walk.old samples → length samples < 2 ^ 32
+        → Appends (K.contents sink.old) (K.contents sink.new) (waiting carrier.old
+        ++ sample_at_lines 1 samples)) }
+    ensures prefix { OnErr result (IsTrue (S.is_honest store.old)
+        → (tree : FileTree) (t : TrackTree) (samples : List SampleAt)
+        → IsOpenedAs (S.file store.old) movie.now tree
+        → Comes (S.file store.old) tree t movie.now walk.old samples → length samples < 2 ^ 32
+        → AppendsPrefix (K.contents sink.old) (K.contents sink.new) (waiting carrier.old
+        ++ sample_at_lines 1 samples)) }
+    ensures unchanged { IsTrue (S.is_honest store.old)
+        → (tree : FileTree) (t : TrackTree) (samples : List SampleAt)
+        → IsOpenedAs (S.file store.old) movie.now tree
+        → Comes (S.file store.old) tree t movie.now walk.old samples → length samples < 2 ^ 32
+        → IfErr result (λ r. r ≡ refusals.StoreChanged → ⊥) }
+    ensures refusal { IfErr result
+        (RefusesCarry (S.read_failures store.old) (S.read_failures store.new)
+        (K.put_failures sink.old) (K.put_failures sink.new)) }
 {
     let mut number = 1;
     put_hand(movie, walk, &mut number, carrier, sink, steps)?;
@@ -101,9 +124,14 @@ fn samples_counted<S: Store, K: Sink, L: Ledger>(
     ensures file { S.file store.new ≡ S.file store.old }
     ensures reads { OnOk result (S.read_failures store.new ≡ S.read_failures store.old) }
     ensures puts { OnOk result (K.put_failures sink.new ≡ K.put_failures sink.old) }
-    ensures lines { OnOk result (IsTrue (S.is_honest store.old) → (text : List ℕ) × ListsSamples (S.file store.old) id text × Appends (K.contents sink.old) (K.contents sink.new) text) }
-    ensures refusal { IfErr result (RefusesTrack (S.is_honest store.old) (S.file store.old) id (ListsSamples (S.file store.old) id) (K.contents sink.old) (K.contents sink.new)
-        (S.read_failures store.old) (S.read_failures store.new) (K.put_failures sink.old) (K.put_failures sink.new)) }
+    ensures lines { OnOk result (IsTrue (S.is_honest store.old) → (text : List ℕ)
+        × ListsSamples (S.file store.old) id text
+        × Appends (K.contents sink.old) (K.contents sink.new) text) }
+    ensures refusal { IfErr result
+        (RefusesTrack (S.is_honest store.old) (S.file store.old) id
+        (ListsSamples (S.file store.old) id) (K.contents sink.old) (K.contents sink.new)
+        (S.read_failures store.old) (S.read_failures store.new) (K.put_failures sink.old)
+        (K.put_failures sink.new)) }
 {
     let mut steps = Steps::<L>::new(blank);
     let movie = open_movie(alloc, store, &mut steps)?;
@@ -113,8 +141,9 @@ fn samples_counted<S: Store, K: Sink, L: Ledger>(
     put_walk(&movie, &mut walk, &mut carrier, store, sink, &mut steps)
 }
 
-/// Puts a line for each sample of the track with this ID: number, decode time, composition time, duration, flags,
-/// description index, size. The whole file is judged, and all memory is taken, before the first line is put.
+/// Puts a line for each sample of the track with this ID: number, decode time, composition time,
+/// duration, flags, description index, size. The whole file is judged, and all memory is taken,
+/// before the first line is put.
 pub fn samples<S: Store, K: Sink>(
     alloc: Global,
     store: &mut S,
@@ -125,9 +154,14 @@ pub fn samples<S: Store, K: Sink>(
     ensures file { S.file store.new ≡ S.file store.old }
     ensures reads { OnOk result (S.read_failures store.new ≡ S.read_failures store.old) }
     ensures puts { OnOk result (K.put_failures sink.new ≡ K.put_failures sink.old) }
-    ensures lines { OnOk result (IsTrue (S.is_honest store.old) → (text : List ℕ) × ListsSamples (S.file store.old) id text × Appends (K.contents sink.old) (K.contents sink.new) text) }
-    ensures refusal { IfErr result (RefusesTrack (S.is_honest store.old) (S.file store.old) id (ListsSamples (S.file store.old) id) (K.contents sink.old) (K.contents sink.new)
-        (S.read_failures store.old) (S.read_failures store.new) (K.put_failures sink.old) (K.put_failures sink.new)) }
+    ensures lines { OnOk result (IsTrue (S.is_honest store.old) → (text : List ℕ)
+        × ListsSamples (S.file store.old) id text
+        × Appends (K.contents sink.old) (K.contents sink.new) text) }
+    ensures refusal { IfErr result
+        (RefusesTrack (S.is_honest store.old) (S.file store.old) id
+        (ListsSamples (S.file store.old) id) (K.contents sink.old) (K.contents sink.new)
+        (S.read_failures store.old) (S.read_failures store.new) (K.put_failures sink.old)
+        (K.put_failures sink.new)) }
 {
     samples_counted::<S, K, Brand>(alloc, store, id, sink, Blank::new(1))
 }

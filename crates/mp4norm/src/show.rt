@@ -21,8 +21,11 @@ fn movie_line<S: Store, L: Ledger>(
     ensures honesty { S.is_honest store.new ≡ S.is_honest store.old }
     ensures file { S.file store.new ≡ S.file store.old }
     ensures reads { OnOk result (S.read_failures store.new ≡ S.read_failures store.old) }
-    ensures line { IfOk result (λ text. IsTrue (S.is_honest store.old) → ShowsLine (S.file store.old) (string_bytes text)) }
-    ensures refusal { IfErr result (RefusesOpen (S.is_honest store.old) (S.file store.old) (S.read_failures store.old) (S.read_failures store.new)) }
+    ensures line { IfOk result (λ text. IsTrue (S.is_honest store.old)
+        → ShowsLine (S.file store.old) (string_bytes text)) }
+    ensures refusal { IfErr result
+        (RefusesOpen (S.is_honest store.old) (S.file store.old) (S.read_failures store.old)
+        (S.read_failures store.new)) }
 {
     let movie = open_movie(alloc, store, steps)?;
     let head = movie.head(alloc)?;
@@ -45,9 +48,14 @@ fn show_counted<S: Store, K: Sink, L: Ledger>(
     ensures file { S.file store.new ≡ S.file store.old }
     ensures reads { OnOk result (S.read_failures store.new ≡ S.read_failures store.old) }
     ensures puts { OnOk result (K.put_failures sink.new ≡ K.put_failures sink.old) }
-    ensures line { OnOk result (IsTrue (S.is_honest store.old) → (line : List ℕ) × ShowsLine (S.file store.old) line × Appends (K.contents sink.old) (K.contents sink.new) line) }
-    ensures refusal { IfErr result (RefusesShow (S.is_honest store.old) (S.file store.old) (K.contents sink.old) (K.contents sink.new)
-        (S.read_failures store.old) (S.read_failures store.new) (K.put_failures sink.old) (K.put_failures sink.new)) }
+    ensures line { OnOk result (IsTrue (S.is_honest store.old) → (line : List ℕ)
+        × ShowsLine (S.file store.old) line
+        × Appends (K.contents sink.old) (K.contents sink.new) line) }
+    ensures refusal { IfErr result
+        (RefusesShow (S.is_honest store.old) (S.file store.old) (K.contents sink.old)
+        (K.contents sink.new)
+        (S.read_failures store.old) (S.read_failures store.new) (K.put_failures sink.old)
+        (K.put_failures sink.new)) }
 {
     let mut steps = Steps::<L>::new(blank);
     let text = movie_line(alloc, store, &mut steps)?;
@@ -55,15 +63,21 @@ fn show_counted<S: Store, K: Sink, L: Ledger>(
     Ok(())
 }
 
-/// Puts one line of compact JSON: what the movie and its tracks say of themselves, in numbers. The file is judged first.
+/// Puts one line of compact JSON: what the movie and its tracks say of themselves, in numbers. The
+/// file is judged first.
 pub fn show<S: Store, K: Sink>(alloc: Global, store: &mut S, sink: &mut K) -> Result<(), Refusal>
     ensures honesty { S.is_honest store.new ≡ S.is_honest store.old }
     ensures file { S.file store.new ≡ S.file store.old }
     ensures reads { OnOk result (S.read_failures store.new ≡ S.read_failures store.old) }
     ensures puts { OnOk result (K.put_failures sink.new ≡ K.put_failures sink.old) }
-    ensures line { OnOk result (IsTrue (S.is_honest store.old) → (line : List ℕ) × ShowsLine (S.file store.old) line × Appends (K.contents sink.old) (K.contents sink.new) line) }
-    ensures refusal { IfErr result (RefusesShow (S.is_honest store.old) (S.file store.old) (K.contents sink.old) (K.contents sink.new)
-        (S.read_failures store.old) (S.read_failures store.new) (K.put_failures sink.old) (K.put_failures sink.new)) }
+    ensures line { OnOk result (IsTrue (S.is_honest store.old) → (line : List ℕ)
+        × ShowsLine (S.file store.old) line
+        × Appends (K.contents sink.old) (K.contents sink.new) line) }
+    ensures refusal { IfErr result
+        (RefusesShow (S.is_honest store.old) (S.file store.old) (K.contents sink.old)
+        (K.contents sink.new)
+        (S.read_failures store.old) (S.read_failures store.new) (K.put_failures sink.old)
+        (K.put_failures sink.new)) }
 {
     show_counted::<S, K, Brand>(alloc, store, sink, Blank::new(1))
 }

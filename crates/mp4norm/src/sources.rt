@@ -29,8 +29,8 @@ pub(crate) enum Source {
     Input(Vec<u8>),
 }
 
-// Opens a regular file. Whatever else there is can't be read by place, or its length isn't known; its kind is looked at first,
-// since opening a pipe would wait for whoever writes it.
+// Opens a regular file. Whatever else there is can't be read by place, or its length isn't known;
+// its kind is looked at first, since opening a pipe would wait for whoever writes it.
 fn open_file(rt: &HostRuntime, name: &str) -> Result<BufferedStore<FileStore>, Refusal> {
     match fs::metadata(rt, name) {
         Ok(metadata) if metadata.is_file() => {}
@@ -74,10 +74,13 @@ impl Source {
     ) -> Result<(), Refusal>
         ensures puts { OnOk result (K.put_failures sink.new ≡ K.put_failures sink.old) }
         ensures text { IfInput self.old (λ file. OnOk result ((text : List ℕ)
-            × IsTextOf job.entry file text × Appends (K.contents sink.old) (K.contents sink.new) text)) }
+            × IsTextOf job.entry file text
+            × Appends (K.contents sink.old) (K.contents sink.new) text)) }
         ensures refusal { IfInput self.old (λ file. IfErr result (RefusesJob job.entry true file
-            (K.contents sink.old) (K.contents sink.new) 0 0 (K.put_failures sink.old) (K.put_failures sink.new))) }
-        ensures work { IfInput self.old (λ file. JobWorksWithin job.entry file steps.old steps.new) }
+            (K.contents sink.old) (K.contents sink.new) 0 0 (K.put_failures sink.old)
+            (K.put_failures sink.new))) }
+        ensures work { IfInput self.old
+            (λ file. JobWorksWithin job.entry file steps.old steps.new) }
     {
         match self {
             Source::File(store) => perform(alloc, job, store, sink, steps),
@@ -88,10 +91,13 @@ impl Source {
         }
     }
 
-    /// Whether what is read has a normal form. Of standard input the answer is of the bytes that were read.
+    /// Whether what is read has a normal form. Of standard input the answer is of the bytes that
+    /// were read.
     pub(crate) fn judge(&mut self, alloc: Global) -> Result<(), Refusal>
-        ensures accepted { IfInput self.old (λ file. OnOk result ((bytes : List ℕ) × HasNormalForm file bytes)) }
-        ensures refusal { IfInput self.old (λ file. IfErr result (RefusesNormalise true file None None 0 0 0 0)) }
+        ensures accepted { IfInput self.old
+            (λ file. OnOk result ((bytes : List ℕ) × HasNormalForm file bytes)) }
+        ensures refusal { IfInput self.old
+            (λ file. IfErr result (RefusesNormalise true file None None 0 0 0 0)) }
     {
         match self {
             Source::File(store) => check(alloc, store),

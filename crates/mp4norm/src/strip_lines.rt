@@ -1,5 +1,4 @@
 //! What is said of boxes that become free space.
-ghost use Rattle.std.specs.Prelude.{◌≡◌};
 
 use crate::line::Line;
 use crate::named::Name;

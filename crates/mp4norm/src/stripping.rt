@@ -20,15 +20,18 @@ use std::alloc::Global;
 /// How many bytes are put at once.
 const ROOM: usize = 65_536;
 
-// The header at the place `at`, where `left` bytes are left in a container whose boxes lie under a rule. The bytes are the
-// first 16 of these, or all.
+// The header at the place `at`, where `left` bytes are left in a container whose boxes lie under a
+// rule. The bytes are the first 16 of these, or all.
 fn header_under(bytes: &[u8], rule: Rule, at: u64, left: u64) -> Result<TopHeader, Fault>
     requires fits { at + left < 2 ^ 64 }
     requires some { 0 < left }
     requires there { length bytes.now ≡ min left 16 }
-    ensures header { IfOk result (λ h. header_there (is_top rule) left bytes.now (holder rule) at ≡ Ok (top_header_seen at h)) }
-    ensures within { IfOk result (λ h. (at + h.header ≤ h.end) × (8 ≤ h.header) × (h.end ≤ at + left)) }
-    ensures fault { IfErr result (λ f. header_there (is_top rule) left bytes.now (holder rule) at ≡ Err f) }
+    ensures header { IfOk result (λ h. header_there (is_top rule) left bytes.now (holder rule) at
+        ≡ Ok (top_header_seen at h)) }
+    ensures within { IfOk result (λ h. (at + h.header ≤ h.end) × (8 ≤ h.header)
+        × (h.end ≤ at + left)) }
+    ensures fault { IfErr result (λ f. header_there (is_top rule) left bytes.now (holder rule) at
+        ≡ Err f) }
 {
     if left < 8 {
         return Err(Fault::new(Kind::ShortHeader, holder(rule), at));
@@ -43,16 +46,21 @@ fn header_under(bytes: &[u8], rule: Rule, at: u64, left: u64) -> Result<TopHeade
     top_header(bytes, at, left)
 }
 
-// Reads the header at the place `at` of a container that ends at `end` and whose boxes lie under a rule.
+// Reads the header at the place `at` of a container that ends at `end` and whose boxes lie under a
+// rule.
 fn read_header<S: Store>(store: &mut S, rule: Rule, at: u64, end: u64) -> Result<TopHeader, Refusal>
     requires some { at < end }
     requires within { end ≤ length (S.file store.old) }
     ensures honesty { S.is_honest store.new ≡ S.is_honest store.old }
     ensures file { S.file store.new ≡ S.file store.old }
-    ensures header { IfOk result (λ h. IsTrue (S.is_honest store.old) → header_at (is_top rule) (range (S.file store.old) at (end - at)) ≡ Ok (top_header_seen at h)) }
+    ensures header { IfOk result (λ h. IsTrue (S.is_honest store.old)
+        → header_at (is_top rule) (range (S.file store.old) at (end - at))
+        ≡ Ok (top_header_seen at h)) }
     ensures fits { IfOk result (λ h. (at + h.header ≤ h.end) × (8 ≤ h.header) × (h.end ≤ end)) }
     ensures reads { OnOk result (S.read_failures store.new ≡ S.read_failures store.old) }
-    ensures refusal { IfErr result (RefusesHeaderUnder (S.is_honest store.old) (range (S.file store.old) at (end - at)) rule at (S.read_failures store.old) (S.read_failures store.new)) }
+    ensures refusal { IfErr result
+        (RefusesHeaderUnder (S.is_honest store.old) (range (S.file store.old) at (end - at)) rule at
+        (S.read_failures store.old) (S.read_failures store.new)) }
 {
     let _size = store.len();
     let left = end - at;
@@ -75,10 +83,14 @@ fn read_header_again<S: Store>(
     requires within { end ≤ length (S.file store.old) }
     ensures honesty { S.is_honest store.new ≡ S.is_honest store.old }
     ensures file { S.file store.new ≡ S.file store.old }
-    ensures header { IfOk result (λ h. IsTrue (S.is_honest store.old) → header_at (is_top rule) (range (S.file store.old) at (end - at)) ≡ Ok (top_header_seen at h)) }
+    ensures header { IfOk result (λ h. IsTrue (S.is_honest store.old)
+        → header_at (is_top rule) (range (S.file store.old) at (end - at))
+        ≡ Ok (top_header_seen at h)) }
     ensures fits { IfOk result (λ h. (at + h.header ≤ h.end) × (8 ≤ h.header) × (h.end ≤ end)) }
     ensures reads { OnOk result (S.read_failures store.new ≡ S.read_failures store.old) }
-    ensures refusal { IfErr result (RefusesHeaderAgain (S.is_honest store.old) (range (S.file store.old) at (end - at)) rule at (S.read_failures store.old) (S.read_failures store.new)) }
+    ensures refusal { IfErr result
+        (RefusesHeaderAgain (S.is_honest store.old) (range (S.file store.old) at (end - at)) rule at
+        (S.read_failures store.old) (S.read_failures store.new)) }
 {
     match read_header(store, rule, at, end) {
         Ok(header) => Ok(header),
@@ -100,7 +112,10 @@ fn read_headers<S: Store>(
     ensures honesty { S.is_honest store.new ≡ S.is_honest store.old }
     ensures file { S.file store.new ≡ S.file store.old }
     ensures reads { OnOk result (S.read_failures store.new ≡ S.read_failures store.old) }
-    ensures refusal { IfErr result (RefusesWalk names.now (S.is_honest store.old) rule from (range (S.file store.old) from (end - from)) (S.read_failures store.old) (S.read_failures store.new)) }
+    ensures refusal { IfErr result
+        (RefusesWalk names.now (S.is_honest store.old) rule from
+        (range (S.file store.old) from (end - from)) (S.read_failures store.old)
+        (S.read_failures store.new)) }
 {
     let mut at = from;
     while at < end {
@@ -110,8 +125,9 @@ fn read_headers<S: Store>(
     Ok(())
 }
 
-// Walks over the boxes of a container and of the containers in it, but for those that are named, and counts those. The
-// headers of all boxes of a container are read before those of boxes in them, as where boxes are listed.
+// Walks over the boxes of a container and of the containers in it, but for those that are named,
+// and counts those. The headers of all boxes of a container are read before those of boxes in them,
+// as where boxes are listed.
 fn judge_boxes<S: Store>(
     names: &[Name],
     rule: Rule,
@@ -125,8 +141,12 @@ fn judge_boxes<S: Store>(
     ensures honesty { S.is_honest store.new ≡ S.is_honest store.old }
     ensures file { S.file store.new ≡ S.file store.old }
     ensures reads { OnOk result (S.read_failures store.new ≡ S.read_failures store.old) }
-    ensures judged { OnOk result (IsTrue (S.is_honest store.old) → (text : List ℕ) × Strips names.now rule (range (S.file store.old) from (end - from)) text) }
-    ensures refusal { IfErr result (RefusesWalk names.now (S.is_honest store.old) rule from (range (S.file store.old) from (end - from)) (S.read_failures store.old) (S.read_failures store.new)) }
+    ensures judged { OnOk result (IsTrue (S.is_honest store.old) → (text : List ℕ)
+        × Strips names.now rule (range (S.file store.old) from (end - from)) text) }
+    ensures refusal { IfErr result
+        (RefusesWalk names.now (S.is_honest store.old) rule from
+        (range (S.file store.old) from (end - from)) (S.read_failures store.old)
+        (S.read_failures store.new)) }
 {
     read_headers(names, rule, from, end, store)?;
     let mut at = from;
@@ -157,9 +177,15 @@ fn carry_freed<S: Store, K: Sink>(
     ensures file { S.file store.new ≡ S.file store.old }
     ensures reads { OnOk result (S.read_failures store.new ≡ S.read_failures store.old) }
     ensures puts { OnOk result (K.put_failures sink.new ≡ K.put_failures sink.old) }
-    ensures bytes { OnOk result (IsTrue (S.is_honest store.old) → BytesGoOn (K.contents sink.old) (K.contents sink.new) (waiting carrier.old) (waiting carrier.new) (freed (range (S.file store.old) at (end - at)))) }
-    ensures prefix { OnErr result (IsTrue (S.is_honest store.old) → AppendsPrefix (K.contents sink.old) (K.contents sink.new) (waiting carrier.old ++ freed (range (S.file store.old) at (end - at)))) }
-    ensures refusal { IfErr result (RefusesRange (S.read_failures store.old) (S.read_failures store.new) (K.put_failures sink.old) (K.put_failures sink.new)) }
+    ensures bytes { OnOk result (IsTrue (S.is_honest store.old)
+        → BytesGoOn (K.contents sink.old) (K.contents sink.new) (waiting carrier.old)
+        (waiting carrier.new) (freed (range (S.file store.old) at (end - at)))) }
+    ensures prefix { OnErr result (IsTrue (S.is_honest store.old)
+        → AppendsPrefix (K.contents sink.old) (K.contents sink.new) (waiting carrier.old
+        ++ freed (range (S.file store.old) at (end - at)))) }
+    ensures refusal { IfErr result
+        (RefusesRange (S.read_failures store.old) (S.read_failures store.new)
+        (K.put_failures sink.old) (K.put_failures sink.new)) }
 {
     carrier.carry_range(store, at, 4, sink)?;
     carrier.carry(b"free", sink)?;
@@ -182,13 +208,19 @@ fn carry_boxes<S: Store, K: Sink>(
     ensures file { S.file store.new ≡ S.file store.old }
     ensures reads { OnOk result (S.read_failures store.new ≡ S.read_failures store.old) }
     ensures puts { OnOk result (K.put_failures sink.new ≡ K.put_failures sink.old) }
-    ensures bytes { OnOk result (IsTrue (S.is_honest store.old) → (text : List ℕ) → Strips names.now rule (range (S.file store.old) from (end - from)) text
-        → BytesGoOn (K.contents sink.old) (K.contents sink.new) (waiting carrier.old) (waiting carrier.new) text) }
-    ensures prefix { OnErr result (IsTrue (S.is_honest store.old) → (text : List ℕ) → Strips names.now rule (range (S.file store.old) from (end - from)) text
+    ensures bytes { OnOk result (IsTrue (S.is_honest store.old) → (text : List ℕ)
+        → Strips names.now rule (range (S.file store.old) from (end - from)) text
+        → BytesGoOn (K.contents sink.old) (K.contents sink.new) (waiting carrier.old)
+        (waiting carrier.new) text) }
+    ensures prefix { OnErr result (IsTrue (S.is_honest store.old) → (text : List ℕ)
+        → Strips names.now rule (range (S.file store.old) from (end - from)) text
         → AppendsPrefix (K.contents sink.old) (K.contents sink.new) (waiting carrier.old ++ text)) }
-    ensures unchanged { IsTrue (S.is_honest store.old) → (text : List ℕ) → Strips names.now rule (range (S.file store.old) from (end - from)) text
+    ensures unchanged { IsTrue (S.is_honest store.old) → (text : List ℕ)
+        → Strips names.now rule (range (S.file store.old) from (end - from)) text
         → IfErr result (λ r. r ≡ refusals.StoreChanged → ⊥) }
-    ensures refusal { IfErr result (RefusesCarry (S.read_failures store.old) (S.read_failures store.new) (K.put_failures sink.old) (K.put_failures sink.new)) }
+    ensures refusal { IfErr result
+        (RefusesCarry (S.read_failures store.old) (S.read_failures store.new)
+        (K.put_failures sink.old) (K.put_failures sink.new)) }
 {
     let mut at = from;
     while at < end {
@@ -207,9 +239,10 @@ fn carry_boxes<S: Store, K: Sink>(
     Ok(())
 }
 
-/// Puts a copy of a file in which the boxes that are named are free space: of each the four bytes of its type are changed, and
-/// all else stays, so that sizes and places stay too. Boxes are found where `boxes` lists them, but for what lies in a box
-/// that is named. Where a header that is looked at can't be read, nothing is put.
+/// Puts a copy of a file in which the boxes that are named are free space: of each the four bytes
+/// of its type are changed, and all else stays, so that sizes and places stay too. Boxes are found
+/// where `boxes` lists them, but for what lies in a box that is named. Where a header that is
+/// looked at can't be read, nothing is put.
 pub fn strip<S: Store, K: Sink>(
     alloc: Global,
     store: &mut S,
@@ -221,9 +254,13 @@ pub fn strip<S: Store, K: Sink>(
     ensures reads { OnOk result (S.read_failures store.new ≡ S.read_failures store.old) }
     ensures puts { OnOk result (K.put_failures sink.new ≡ K.put_failures sink.old) }
     ensures bytes { OnOk result (IsTrue (S.is_honest store.old) → (text : List ℕ)
-        × IsStripped names.now (S.file store.old) text × Appends (K.contents sink.old) (K.contents sink.new) text) }
-    ensures refusal { IfErr result (RefusesStrip names.now (S.is_honest store.old) (S.file store.old) (K.contents sink.old) (K.contents sink.new)
-        (S.read_failures store.old) (S.read_failures store.new) (K.put_failures sink.old) (K.put_failures sink.new)) }
+        × IsStripped names.now (S.file store.old) text
+        × Appends (K.contents sink.old) (K.contents sink.new) text) }
+    ensures refusal { IfErr result
+        (RefusesStrip names.now (S.is_honest store.old) (S.file store.old) (K.contents sink.old)
+        (K.contents sink.new)
+        (S.read_failures store.old) (S.read_failures store.new) (K.put_failures sink.old)
+        (K.put_failures sink.new)) }
 {
     let mut carrier = Carrier::new(alloc, ROOM)?;
     let end = store.len();
@@ -232,8 +269,8 @@ pub fn strip<S: Store, K: Sink>(
     carrier.flush(sink)
 }
 
-/// How many boxes are free space in the copy that `strip` puts, for each name in turn: a box is counted for the first name
-/// that means it.
+/// How many boxes are free space in the copy that `strip` puts, for each name in turn: a box is
+/// counted for the first name that means it.
 pub fn count_named<S: Store>(
     alloc: Global,
     store: &mut S,

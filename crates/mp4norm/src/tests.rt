@@ -34,15 +34,18 @@ fn command_lines(rt: HostRuntime) -> Result<(), Fail> {
         ),
         (
             "samples a --track 7",
-            "Run { job: Samples { track: 7 }, input: File { name: \"a\" }, target: Standard, explain: false }",
+            "Run { job: Samples { track: 7 }, input: File { name: \"a\" }, target: \
+             Standard, explain: false }",
         ),
         (
             "extract --out b a --track 4294967295",
-            "Run { job: Extract { track: 4294967295 }, input: File { name: \"a\" }, target: New { name: \"b\" }, explain: false }",
+            "Run { job: Extract { track: 4294967295 }, input: File { name: \"a\" }, target: \
+             New { name: \"b\" }, explain: false }",
         ),
         (
             "normalise a --out b",
-            "Run { job: Normalise, input: File { name: \"a\" }, target: New { name: \"b\" }, explain: false }",
+            "Run { job: Normalise, input: File { name: \"a\" }, target: New { name: \"b\" \
+             }, explain: false }",
         ),
         (
             "normalise - --out -",
@@ -54,7 +57,8 @@ fn command_lines(rt: HostRuntime) -> Result<(), Fail> {
         ),
         (
             "normalise a --replace --out b",
-            "Run { job: Normalise, input: File { name: \"a\" }, target: Replaced { name: \"b\" }, explain: false }",
+            "Run { job: Normalise, input: File { name: \"a\" }, target: Replaced { name: \
+             \"b\" }, explain: false }",
         ),
         (
             "extract a --track 1 --replace --out -",
@@ -66,7 +70,8 @@ fn command_lines(rt: HostRuntime) -> Result<(), Fail> {
         ),
         (
             "check a - b --zero",
-            "Check { files: [File { name: \"a\" }, Standard, File { name: \"b\" }], list: None, zero: true }",
+            "Check { files: [File { name: \"a\" }, Standard, File { name: \"b\" }], list: \
+             None, zero: true }",
         ),
         (
             "check --names-from -",
@@ -74,7 +79,8 @@ fn command_lines(rt: HostRuntime) -> Result<(), Fail> {
         ),
         (
             "check a --names-from list b",
-            "Check { files: [File { name: \"a\" }, File { name: \"b\" }], list: Some(File { name: \"list\" }), zero: false }",
+            "Check { files: [File { name: \"a\" }, File { name: \"b\" }], list: Some(File { \
+             name: \"list\" }), zero: false }",
         ),
         (
             "check - --names-from -",
@@ -82,11 +88,15 @@ fn command_lines(rt: HostRuntime) -> Result<(), Fail> {
         ),
         (
             "strip a --drop uuid,minf/hdlr --out b",
-            "Strip { names: [Name { container: None, kind: FourCc([117, 117, 105, 100]) }, Name { container: Some(FourCc([109, 105, 110, 102])), kind: FourCc([104, 100, 108, 114]) }], input: File { name: \"a\" }, target: New { name: \"b\" }, explain: false }",
+            "Strip { names: [Name { container: None, kind: FourCc([117, 117, 105, 100]) }, \
+             Name { container: Some(FourCc([109, 105, 110, 102])), kind: FourCc([104, \
+             100, 108, 114]) }], \
+             input: File { name: \"a\" }, target: New { name: \"b\" }, explain: false }",
         ),
         (
             "strip - --drop a96E616d --out - --explain",
-            "Strip { names: [Name { container: None, kind: FourCc([169, 110, 97, 109]) }], input: Standard, target: Standard, explain: true }",
+            "Strip { names: [Name { container: None, kind: FourCc([169, 110, 97, 109]) }], \
+             input: Standard, target: Standard, explain: true }",
         ),
         (
             "strip a --drop moov/free --out b",

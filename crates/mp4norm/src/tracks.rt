@@ -11,7 +11,8 @@ use mp4_present::TrackInfo;
 pub(crate) fn track_with(tracks: &[TrackInfo], id: u32) -> Result<usize, Refusal>
     ensures within { IfOk result (λ k. k < length tracks.now) }
     ensures track { IfOk result (λ k. IfSome (slice_get tracks.now k) (λ t. t.id ≡ id)) }
-    ensures none { IfErr result (λ r. (r ≡ refusals.NoSuchTrack) × AreOthers id (map (λ (t : TrackInfo). t.id) tracks.now)) }
+    ensures none { IfErr result (λ r. (r ≡ refusals.NoSuchTrack)
+        × AreOthers id (map (λ (t : TrackInfo). t.id) tracks.now)) }
 {
     for k in 0..tracks.len() {
         if tracks[k].id == id {

@@ -1,5 +1,6 @@
-//! Types as texts: their characters, or two hexadecimal digits a byte where some byte is no printable character.
-ghost use Rattle.std.specs.Prelude.{◌≡◌, ℕ, ◌<◌, ◌≤◌, [], ◌∷◌, ◌++◌, length, take, nat_le, ◌&&◌, IfOk, OnOk, string_bytes};
+//! Types as texts: their characters, or two hexadecimal digits a byte where some byte is no
+//! printable character.
+ghost use Rattle.std.specs.Prelude.{◌≡◌, ◌<◌, [], ◌∷◌, ◌++◌, nat_le, ◌&&◌, IfOk, OnOk, string_bytes};
 ghost use Rattle.std.specs.List.{list_all};
 ghost use Rattle.mp4norm.specs.Texts.{hex_digits, type_text};
 

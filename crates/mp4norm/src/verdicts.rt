@@ -28,7 +28,8 @@ fn verdict_line(
     Ok(line)
 }
 
-/// Puts the verdict on a file of this name: `NAME: accepted`, or the name and the line of the refusal. This byte ends it.
+/// Puts the verdict on a file of this name: `NAME: accepted`, or the name and the line of the
+/// refusal. This byte ends it.
 pub fn put_verdict<K: Sink>(
     alloc: Global,
     name: &[u8],
@@ -37,9 +38,12 @@ pub fn put_verdict<K: Sink>(
     sink: &mut K,
 ) -> Result<(), Refusal>
     ensures puts { OnOk result (K.put_failures sink.new ≡ K.put_failures sink.old) }
-    ensures text { OnOk result (Appends (K.contents sink.old) (K.contents sink.new) (verdict_text name.now answer.now end)) }
+    ensures text { OnOk result
+        (Appends (K.contents sink.old) (K.contents sink.new)
+        (verdict_text name.now answer.now end)) }
     ensures refusal { IfErr result (RefusesVerdict (verdict_text name.now answer.now end)
-        (K.contents sink.old) (K.contents sink.new) (K.put_failures sink.old) (K.put_failures sink.new)) }
+        (K.contents sink.old) (K.contents sink.new) (K.put_failures sink.old)
+        (K.put_failures sink.new)) }
 {
     let line = verdict_line(alloc, name, answer, end)?;
     sink.put(line.as_slice())?;
@@ -67,7 +71,8 @@ fn name_len(list: &[u8]) -> usize
     len
 }
 
-/// The first of some names that are ended by zero bytes, and what is left behind it. The last may end with the list.
+/// The first of some names that are ended by zero bytes, and what is left behind it. The last may
+/// end with the list.
 pub fn first_name(list: &[u8]) -> (&[u8], &[u8])
     ensures name { FirstName list.now result.0.now result.1.now }
     ensures less { 0 < length list.now → length result.1.now < length list.now }

@@ -20,7 +20,8 @@ pub enum Input<'a> {
     File { name: &'a str },
 }
 
-/// Where the answer goes: to standard output, to a new file of this name, or to one that takes the place of what is there.
+/// Where the answer goes: to standard output, to a new file of this name, or to one that takes the
+/// place of what is there.
 #[derive(Clone, Copy, Debug, PartialEq)]
 pub enum Target<'a> {
     Standard,
@@ -28,8 +29,8 @@ pub enum Target<'a> {
     Replaced { name: &'a str },
 }
 
-/// What the words ask for: a job, a copy without the boxes of some names, or a verdict on each of some files and of those that a list names, ended by a line feed
-/// or a zero byte.
+/// What the words ask for: a job, a copy without the boxes of some names, or a verdict on each of
+/// some files and of those that a list names, ended by a line feed or a zero byte.
 #[derive(Debug, Drop, PartialEq)]
 pub enum Action<'a> {
     Check {

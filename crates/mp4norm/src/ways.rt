@@ -70,7 +70,8 @@ fn child_at<'a>(view: &BoxView<'a>, place: u64) -> Option<BoxView<'a>>
 
 // Adds the way on from a box, and gives the type of the last one.
 fn push_way(text: &mut Vec<u8>, view: BoxView, rule: Rule, place: u64) -> Result<FourCc, AllocError>
-    ensures { OnOk result ((part : List ℕ) × IsWay place (box_seen view.entry) part × (text.new.items ≡ text.old.items ++ part)) }
+    ensures { OnOk result ((part : List ℕ) × IsWay place (box_seen view.entry) part
+        × (text.new.items ≡ text.old.items ++ part)) }
 {
     let Some(inner) = rule_inside(rule, view.kind()) else {
         return Ok(view.kind());
@@ -87,14 +88,16 @@ fn push_way(text: &mut Vec<u8>, view: BoxView, rule: Rule, place: u64) -> Result
     push_way(text, child, inner, place)
 }
 
-// The file's own box in which the place lies, and which `moof` it is, if it is one. None where the place lies behind a
-// header that can't be read.
+// The file's own box in which the place lies, and which `moof` it is, if it is one. None where the
+// place lies behind a header that can't be read.
 fn top_at<S: Store>(store: &mut S, place: u64) -> Option<(TopBox, Option<u64>)>
     ensures honesty { S.is_honest store.new ≡ S.is_honest store.old }
     ensures file { S.file store.new ≡ S.file store.old }
     ensures within { IfSome result (λ found. IsWithin (S.file store.old) found.0) }
-    ensures header { IfSome result (λ found. IsTrue (S.is_honest store.old) → IsTopHeader (S.file store.old) found.0.offset found.0.header) }
-    ensures holds { IfSome result (λ found. (found.0.offset ≤ place) × (place < found.0.header.end)) }
+    ensures header { IfSome result (λ found. IsTrue (S.is_honest store.old)
+        → IsTopHeader (S.file store.old) found.0.offset found.0.header) }
+    ensures holds { IfSome result (λ found. (found.0.offset ≤ place)
+        × (place < found.0.header.end)) }
 {
     let len = store.len();
     let mut at = 0;
@@ -125,7 +128,8 @@ fn push_top_way<S: Store>(
     ensures honesty { S.is_honest store.new ≡ S.is_honest store.old }
     ensures file { S.file store.new ≡ S.file store.old }
     ensures way { OnOk result (IsTrue (S.is_honest store.old) → (part : List ℕ)
-        × IsWay place (top_seen (S.file store.old) top) part × (text.new.items ≡ text.old.items ++ part)) }
+        × IsWay place (top_seen (S.file store.old) top) part
+        × (text.new.items ≡ text.old.items ++ part)) }
 {
     let header = top.header;
     if top.offset == place || rule_inside(Rule::File, header.kind).is_none() {
@@ -142,7 +146,8 @@ fn push_top_way<S: Store>(
 pub fn way_to<S: Store>(alloc: Global, store: &mut S, place: u64) -> Result<Way, Refusal>
     ensures honesty { S.is_honest store.new ≡ S.is_honest store.old }
     ensures file { S.file store.new ≡ S.file store.old }
-    ensures way { IfOk result (λ w. IsTrue (S.is_honest store.old) → IsWayIn (S.file store.old) place w.text.items) }
+    ensures way { IfOk result (λ w. IsTrue (S.is_honest store.old)
+        → IsWayIn (S.file store.old) place w.text.items) }
 {
     let mut text = Vec::new(alloc);
     let Some((top, number)) = top_at(store, place) else {

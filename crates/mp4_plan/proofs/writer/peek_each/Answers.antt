@@ -48,7 +48,8 @@ loop-k-preserved g c =
           let come = (rw (i.honesty, i.file) at e.coming) told tree r.t r.left o r.comes in
           (same_come file tree m walks lefts k _ now was.0 r come.0, noted_more c.loop-k.nexts lefts k r.left c.in_ok-nexts.field-0 was.1 within r.is_left come.1);
       takes = λ told tree o n h.
-          all_then file tree walks (slice_set walks k now) n _ _ _ (i.takes told tree o n h) (λ rest may. one_takes file tree tree.movie.tracks walks k _ now rest _ _ may (slice_get-get_or walks k c.index-walks-k.result inside) (λ t own own_may. (rw (i.honesty, i.file) at e.work) told tree t own o own_may));
+          all_then file tree walks (slice_set walks k now) n _ _ _ (i.takes told tree o n h)
+          (λ rest may. one_takes file tree tree.movie.tracks walks k _ now rest _ _ may (slice_get-get_or walks k c.index-walks-k.result inside) (λ t own own_may. (rw (i.honesty, i.file) at e.work) told tree t own o own_may));
     }
 
 pub returns-in_err-nexts-clause-unchanged : goal.returns-in_err-nexts-clause-unchanged

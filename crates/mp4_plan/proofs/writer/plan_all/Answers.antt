@@ -66,7 +66,8 @@ returns-in_err-planned-clause-unchanged g c told tree o =
     let s = c.loop-turn.schedule in
     let turn = c.in-Some.turn in
     let at = c.in-Some.ensures.track in
-    let t = has_turn file tree m s c.loop-turn.walks.items c.loop-turn.nexts.items c.loop-turn.plan o (i.6 told tree o) turn.track c.index_mut-walk.result.now turn.end at c.index_mut-walk.ensures.value i.0.count (λ info is. c.in-Some.ensures.end info (ap (λ ts. slice_get ts s.track) c.tracks-tracks.ensures ∙ is)) in
+    let t = has_turn file tree m s c.loop-turn.walks.items c.loop-turn.nexts.items c.loop-turn.plan o (i.6 told tree o) turn.track c.index_mut-walk.result.now turn.end at c.index_mut-walk.ensures.value i.0.count
+    (λ info is. c.in-Some.ensures.end info (ap (λ ts. slice_get ts s.track) c.tracks-tracks.ensures ∙ is)) in
     rw (e.1, e.2) ((rw (i.5, i.2) at c.in_err-planned.ensures.unchanged) told tree t.t t.left o t.comes t.few)
 
 pub loop-turn-preserved : goal.loop-turn-preserved
@@ -103,7 +104,8 @@ loop-turn-preserved g c =
           let k = c.in-Some.turn.track in
           let lt : k < length walks = search rules in
           let there = slice_get_read walks (length walks) k c.index_mut-walk.result.now refl lt c.index_mut-walk.ensures.value in
-          all_then file tree walks (slice_set walks k c.plan_turn.new.walk) (walks_steps tree) _ _ _ (i.7 told tree o) (λ rest h. one_takes file tree tree.movie.tracks walks k c.index_mut-walk.result.now c.plan_turn.new.walk rest _ _ h there (λ t own may. (rw (i.5, i.2) at p.work) told tree t own o may)),
+          all_then file tree walks (slice_set walks k c.plan_turn.new.walk) (walks_steps tree) _ _ _ (i.7 told tree o)
+          (λ rest h. one_takes file tree tree.movie.tracks walks k c.index_mut-walk.result.now c.plan_turn.new.walk rest _ _ h there (λ t own may. (rw (i.5, i.2) at p.work) told tree t own o may)),
       search rules,
     )
 
@@ -149,7 +151,8 @@ returns-in_err-pass-clause-work g c told tree o =
     let lt : k < length walks = search rules in
     let there = slice_get_read walks (length walks) k c.index_mut-walk.result.now refl lt c.index_mut-walk.ensures.value in
     let p = c.in_ok-planned.ensures in
-    let on = all_then file tree walks (slice_set walks k c.plan_turn.new.walk) (walks_steps tree) _ _ _ (i.7 told tree o) (λ rest h. one_takes file tree tree.movie.tracks walks k c.index_mut-walk.result.now c.plan_turn.new.walk rest _ _ h there (λ t own may. (rw (i.5, i.2) at p.work) told tree t own o may)) in
+    let on = all_then file tree walks (slice_set walks k c.plan_turn.new.walk) (walks_steps tree) _ _ _ (i.7 told tree o)
+    (λ rest h. one_takes file tree tree.movie.tracks walks k c.index_mut-walk.result.now c.plan_turn.new.walk rest _ _ h there (λ t own may. (rw (i.5, i.2) at p.work) told tree t own o may)) in
     all_taken file tree (slice_set walks k c.plan_turn.new.walk) (walks_steps tree) _ _ on
 
 pub returns-clause-work : goal.returns-clause-work

@@ -15,7 +15,11 @@ use Rattle.mp4_present.proofs.TablesWork.{if_no_fault, handed_on, none_taken}
 use Rattle.mp4_present.proofs.opening.find.Goals as goal
 
 pub check_tables-requires : goal.check_tables-requires
-check_tables-requires g c = record { inside = found_tables _ c.in_ok-head.head c.in_ok-head.ensures.head c.in_ok-head.ensures.inside; distinct = subst (λ (xs : List Trex). are_distinct (map (λ (t : Trex). t.id) xs) ≡ true) (sym (ap (λ (x : Head). x.trexes) c.in_ok-head.ensures.head.has.says)) c.in_ok-head.ensures.head.has.is_sound.trex_ids; read = (c.in_ok-head.ensures.head.has.tree.tracks, tracks_read _ c.in_ok-head.head c.in_ok-head.ensures.head) }
+check_tables-requires g c = record {
+  inside = found_tables _ c.in_ok-head.head c.in_ok-head.ensures.head c.in_ok-head.ensures.inside;
+  distinct = subst (λ (xs : List Trex). are_distinct (map (λ (t : Trex). t.id) xs) ≡ true) (sym (ap (λ (x : Head). x.trexes) c.in_ok-head.ensures.head.has.says)) c.in_ok-head.ensures.head.has.is_sound.trex_ids;
+  read = (c.in_ok-head.ensures.head.has.tree.tracks, tracks_read _ c.in_ok-head.head c.in_ok-head.ensures.head);
+}
 
 pub returns-in_err-head-clause-refusal : goal.returns-in_err-head-clause-refusal
 returns-in_err-head-clause-refusal g c =
@@ -38,7 +42,11 @@ returns-in_err-states-clause-refusal g c =
     let bytes : AreBytes c.args.moov.now = λ k. search rules in
     let says = c.in_ok-head.ensures.head in
     rw (p.1, p.2) (open_not_passed honest file _ _ _ _ _
-    (λ told. (movie honest file c.args.outline.now c.args.moov.now _ c.in_ok-head.head c.in_ok-plain.plain r says bytes _ c.len.ensures c.in_ok-plain.ensures.says told, _, begun honest file c.args.outline.now c.args.moov.now _ c.in_ok-head.head c.in_ok-plain.plain r says bytes _ c.len.ensures c.in_ok-plain.ensures.says told))
+    (λ told. (
+      movie honest file c.args.outline.now c.args.moov.now _ c.in_ok-head.head c.in_ok-plain.plain r says bytes _ c.len.ensures c.in_ok-plain.ensures.says told,
+      _,
+      begun honest file c.args.outline.now c.args.moov.now _ c.in_ok-head.head c.in_ok-plain.plain r says bytes _ c.len.ensures c.in_ok-plain.ensures.says told,
+    ))
     c.in_err-states.ensures.refusal)
 
 pub returns-in_err-mehd-clause-refusal : goal.returns-in_err-mehd-clause-refusal

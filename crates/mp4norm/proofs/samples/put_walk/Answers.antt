@@ -67,7 +67,8 @@ loop-walk-preserved g c =
           let u = i.going told tree t samples o k few in
           let to_come = samples_behind tree t u.earlier u.later in
           let comes = loads_more file tree t m to_come c.load.new.self c.in_ok-load.field-0 c.if-branch.true ((rw (i.honesty, i.file) at l.loaded) told tree t u.earlier u.later o u.stands) in
-          lines_next file tree t m _ _ _ (waiting c.args.carrier.now) (waiting c.loop-walk.carrier) c.load.new.self c.loop-walk.number samples to_come u.goes u.count few comes e.lines.0 e.lines.1 (waiting c.put_hand-in-loop-walk.new.carrier) c.put_hand-in-loop-walk.new.walk c.put_hand-in-loop-walk.new.number e.lines.2 e.stands;
+          lines_next file tree t m _ _ _ (waiting c.args.carrier.now) (waiting c.loop-walk.carrier) c.load.new.self c.loop-walk.number samples to_come u.goes u.count few comes e.lines.0 e.lines.1 (waiting c.put_hand-in-loop-walk.new.carrier)
+          c.put_hand-in-loop-walk.new.walk c.put_hand-in-loop-walk.new.number e.lines.2 e.stands;
     }
 
 pub returns-in_err-put_hand-2-clause-prefix : goal.returns-in_err-put_hand-2-clause-prefix

@@ -6,4 +6,5 @@ use Rattle.mp4norm.proofs.show.movie_line.Goals as goal
 pub returns-clause-line : goal.returns-clause-line
 returns-clause-line g c = λ honest.
     let o = c.in_ok-movie.ensures.movie honest in
-    shows (g.S.Store.file c.args.store.now) c.in_ok-movie.movie o.0 c.in_ok-head.head _ _ _ _ o.1 c.in_ok-head.ensures c.in_ok-text.ensures (search rules) (search rules) (c.in_ok-push.ensures.bytes ∙ ap (λ (bs : List ℕ). string_bytes c.in_ok-text.text ++ bs) (c.in_ok-push.ensures.ascii (omega arith)))
+    shows (g.S.Store.file c.args.store.now) c.in_ok-movie.movie o.0 c.in_ok-head.head _ _ _ _ o.1 c.in_ok-head.ensures c.in_ok-text.ensures (search rules) (search rules) (c.in_ok-push.ensures.bytes
+    ∙ ap (λ (bs : List ℕ). string_bytes c.in_ok-text.text ++ bs) (c.in_ok-push.ensures.ascii (omega arith)))

@@ -32,7 +32,8 @@ returns-in_err-header-clause-refusal g t c =
     let i = c.loop-at.invariant in
     let file = g.S.Store.file c.args.store.now in
     let x = rw (i.honesty, i.file, i.reads) at c.in_err-header.ensures.refusal in
-    rw (p.1, p.2) (again_carried (g.S.Store.is_honest c.args.store.now) (range file c.loop-at.at (c.args.end - c.loop-at.at)) c.args.rule c.loop-at.at (g.S.Store.read_failures c.args.store.now) (g.S.Store.read_failures c.read_header_again.new.store) (g.K.Sink.put_failures c.args.sink.now) (g.K.Sink.put_failures c.loop-at.sink) c.in_err-header.field-0.0 x)
+    rw (p.1, p.2) (again_carried (g.S.Store.is_honest c.args.store.now) (range file c.loop-at.at (c.args.end - c.loop-at.at)) c.args.rule c.loop-at.at (g.S.Store.read_failures c.args.store.now) (g.S.Store.read_failures c.read_header_again.new.store) (g.K.Sink.put_failures c.args.sink.now)
+    (g.K.Sink.put_failures c.loop-at.sink) c.in_err-header.field-0.0 x)
 
 pub returns-in_err-carry_freed-clause-prefix : goal.returns-in_err-carry_freed-clause-prefix
 returns-in_err-carry_freed-clause-prefix g t c =
@@ -202,7 +203,8 @@ loop-at-preserved-in_ok-carry_boxes g t c =
       file = j.file ∙ head.file ∙ e.file ∙ i.file;
       reads = j.reads ∙ head.reads ∙ e.reads ∙ i.reads;
       puts = j.puts ∙ head.puts ∙ i.puts;
-      goes = λ told text s. copy_entered c.args.names.now c.args.rule file c.args.end c.loop-at.at h w.0 w.2 some (read told) _ _ (waiting c.args.carrier.now) (waiting c.loop-at.carrier) text (i.goes told text s) c.in-Some.inner named into _ _ (waiting c.carry_range.new.self) (waiting c.carry_boxes.new.carrier) (first told) (x told);
+      goes = λ told text s. copy_entered c.args.names.now c.args.rule file c.args.end c.loop-at.at h w.0 w.2 some (read told) _ _ (waiting c.args.carrier.now) (waiting c.loop-at.carrier) text (i.goes told text s) c.in-Some.inner named into _ _ (waiting c.carry_range.new.self)
+          (waiting c.carry_boxes.new.carrier) (first told) (x told);
     }
 
 pub loop-at-preserved : goal.loop-at-preserved

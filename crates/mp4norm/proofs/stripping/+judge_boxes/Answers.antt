@@ -43,7 +43,8 @@ returns-in_err-judge_boxes-clause-refusal g t c =
     let named : is_named c.args.names.now c.args.rule h.kind.0 ≡ false = search rules in
     let into : rule_inside c.args.rule h.kind.0 ≡ Some c.in-Some.inner = search rules in
     let x = rw (c.from.ensures, e.honesty ∙ i.honesty, e.file ∙ i.file, e.reads ∙ i.reads) at c.in_err-judge_boxes.ensures.refusal in
-    rw (p.1, p.2) (refuses_inside c.args.names.now (g.S.Store.is_honest c.args.store.now) c.args.rule c.in-Some.inner file c.args.from c.loop-at.at c.args.end (c.loop-at.at + h.header) h.end (g.S.Store.read_failures c.args.store.now) (g.S.Store.read_failures c.judge_boxes.new.store) c.in_err-judge_boxes.field-0.0
+    rw (p.1, p.2) (refuses_inside c.args.names.now (g.S.Store.is_honest c.args.store.now) c.args.rule c.in-Some.inner file c.args.from c.loop-at.at c.args.end (c.loop-at.at + h.header) h.end (g.S.Store.read_failures c.args.store.now) (g.S.Store.read_failures c.judge_boxes.new.store)
+    c.in_err-judge_boxes.field-0.0
     (λ told f y. halts_within c.args.names.now c.args.rule file c.loop-at.at c.args.end h w.0 w.2 (read told) f c.in-Some.inner named into y) i.halts x)
 
 pub loop-at-preserved-then-is_named : goal.loop-at-preserved-then-is_named

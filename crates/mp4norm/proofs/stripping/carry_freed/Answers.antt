@@ -17,7 +17,8 @@ returns-in_err-carry-clause-prefix g c =
 pub returns-clause-bytes : goal.returns-clause-bytes
 returns-clause-bytes g c =
     let first = c.in_ok-carry_range.ensures in
-    on_ok _ _ c.carry_range-2.result (λ all honest. freed_goes (g.S.Store.file c.args.store.now) c.args.at c.args.end c.requires.some _ _ (waiting c.args.carrier.now) (waiting c.carry_range.new.self) (first.bytes honest) _ _ (waiting c.carry.new.self) c.in_ok-carry.ensures.bytes (waiting c.carry_range-2.new.self) (all honest))
+    on_ok _ _ c.carry_range-2.result (λ all honest. freed_goes (g.S.Store.file c.args.store.now) c.args.at c.args.end c.requires.some _ _ (waiting c.args.carrier.now) (waiting c.carry_range.new.self) (first.bytes honest) _ _ (waiting c.carry.new.self) c.in_ok-carry.ensures.bytes
+    (waiting c.carry_range-2.new.self) (all honest))
     (rw (first.honesty, first.file) at c.carry_range-2.ensures.bytes)
 
 pub returns-clause-prefix : goal.returns-clause-prefix

@@ -31,8 +31,10 @@ returns-in_err-carry-clause-prefix g c told_honest tree o samples noted_are info
     let mdat : List ℕ = header_bytes (codes "mdat") p.bytes in
     let bytes_there = sample_bytes file (take p.count samples) in
     let keys = ap (λ (t : TrackInfo). keys_seen t.keys) (sym c.index-tracks-track.is ∙ read_at c.args.movie.now.tracks c.args.track info c.index-tracks-track.result is (rw c.tracks.ensures at c.index-tracks-track.is)) in
-    let whole = parts_are c.args.head p c.sizes_of-sizes.result (keys_seen info.keys) told (map row_seen (take p.count samples)) noted front mdat bytes_there (c.as_bytes.ensures ∙ c.moof_front-front.ensures) c.sizes_of-sizes.ensures.is keys (ap (take p.count) c.deref.ensures.value ∙ noted_are.rows) refl in
-    rw e.1 (front_as (g.K.Sink.contents c.args.sink.now) (g.K.Sink.contents c.carry.new.sink) (waiting c.args.self.now.carrier) _ _ (stop_one front (run_rows p noted) (groups_bytes noted p told) mdat bytes_there (g.K.Sink.contents c.args.sink.now) (g.K.Sink.contents c.carry.new.sink) (waiting c.args.self.now.carrier) c.in_err-carry.ensures.prefix) whole)
+    let whole = parts_are c.args.head p c.sizes_of-sizes.result (keys_seen info.keys) told (map row_seen (take p.count samples)) noted front mdat bytes_there (c.as_bytes.ensures ∙ c.moof_front-front.ensures) c.sizes_of-sizes.ensures.is keys (ap (take p.count) c.deref.ensures.value
+    ∙ noted_are.rows) refl in
+    rw e.1 (front_as (g.K.Sink.contents c.args.sink.now) (g.K.Sink.contents c.carry.new.sink) (waiting c.args.self.now.carrier) _ _
+    (stop_one front (run_rows p noted) (groups_bytes noted p told) mdat bytes_there (g.K.Sink.contents c.args.sink.now) (g.K.Sink.contents c.carry.new.sink) (waiting c.args.self.now.carrier) c.in_err-carry.ensures.prefix) whole)
 
 pub returns-in_err-carry_run-clause-prefix : goal.returns-in_err-carry_run-clause-prefix
 returns-in_err-carry_run-clause-prefix g c told_honest tree o samples noted_are info is apart =
@@ -46,8 +48,12 @@ returns-in_err-carry_run-clause-prefix g c told_honest tree o samples noted_are 
     let mdat : List ℕ = header_bytes (codes "mdat") p.bytes in
     let bytes_there = sample_bytes file (take p.count samples) in
     let keys = ap (λ (t : TrackInfo). keys_seen t.keys) (sym c.index-tracks-track.is ∙ read_at c.args.movie.now.tracks c.args.track info c.index-tracks-track.result is (rw c.tracks.ensures at c.index-tracks-track.is)) in
-    let whole = parts_are c.args.head p c.sizes_of-sizes.result (keys_seen info.keys) told (map row_seen (take p.count samples)) noted front mdat bytes_there (c.as_bytes.ensures ∙ c.moof_front-front.ensures) c.sizes_of-sizes.ensures.is keys (ap (take p.count) c.deref.ensures.value ∙ noted_are.rows) refl in
-    rw e.1 (front_as (g.K.Sink.contents c.args.sink.now) (g.K.Sink.contents c.carry_run.new.sink) (waiting c.args.self.now.carrier) _ _ (stop_two front (run_rows p noted) (groups_bytes noted p told) mdat bytes_there (g.K.Sink.contents c.args.sink.now) (g.K.Sink.contents c.carry.new.sink) (g.K.Sink.contents c.carry_run.new.sink) (g.K.Sink.contents c.carry_run.new.sink) (g.K.Sink.contents c.carry_run.new.sink) (g.K.Sink.contents c.carry_run.new.sink) (waiting c.args.self.now.carrier) (waiting c.carry.new.self) (waiting c.carry_run.new.carrier) (waiting c.carry_run.new.carrier) (waiting c.carry_run.new.carrier) (waiting c.carry_run.new.carrier) c.in_ok-carry.ensures.bytes c.in_err-carry_run.ensures.prefix) whole)
+    let whole = parts_are c.args.head p c.sizes_of-sizes.result (keys_seen info.keys) told (map row_seen (take p.count samples)) noted front mdat bytes_there (c.as_bytes.ensures ∙ c.moof_front-front.ensures) c.sizes_of-sizes.ensures.is keys (ap (take p.count) c.deref.ensures.value
+    ∙ noted_are.rows) refl in
+    rw e.1 (front_as (g.K.Sink.contents c.args.sink.now) (g.K.Sink.contents c.carry_run.new.sink) (waiting c.args.self.now.carrier) _ _
+    (stop_two front (run_rows p noted) (groups_bytes noted p told) mdat bytes_there (g.K.Sink.contents c.args.sink.now) (g.K.Sink.contents c.carry.new.sink) (g.K.Sink.contents c.carry_run.new.sink) (g.K.Sink.contents c.carry_run.new.sink) (g.K.Sink.contents c.carry_run.new.sink)
+    (g.K.Sink.contents c.carry_run.new.sink) (waiting c.args.self.now.carrier) (waiting c.carry.new.self) (waiting c.carry_run.new.carrier) (waiting c.carry_run.new.carrier) (waiting c.carry_run.new.carrier) (waiting c.carry_run.new.carrier)
+    c.in_ok-carry.ensures.bytes c.in_err-carry_run.ensures.prefix) whole)
 
 pub returns-in_err-carry_groups-clause-prefix : goal.returns-in_err-carry_groups-clause-prefix
 returns-in_err-carry_groups-clause-prefix g c told_honest tree o samples noted_are info is apart =
@@ -61,8 +67,12 @@ returns-in_err-carry_groups-clause-prefix g c told_honest tree o samples noted_a
     let mdat : List ℕ = header_bytes (codes "mdat") p.bytes in
     let bytes_there = sample_bytes file (take p.count samples) in
     let keys = ap (λ (t : TrackInfo). keys_seen t.keys) (sym c.index-tracks-track.is ∙ read_at c.args.movie.now.tracks c.args.track info c.index-tracks-track.result is (rw c.tracks.ensures at c.index-tracks-track.is)) in
-    let whole = parts_are c.args.head p c.sizes_of-sizes.result (keys_seen info.keys) told (map row_seen (take p.count samples)) noted front mdat bytes_there (c.as_bytes.ensures ∙ c.moof_front-front.ensures) c.sizes_of-sizes.ensures.is keys (ap (take p.count) c.deref.ensures.value ∙ noted_are.rows) refl in
-    rw e.1 (front_as (g.K.Sink.contents c.args.sink.now) (g.K.Sink.contents c.carry_groups.new.sink) (waiting c.args.self.now.carrier) _ _ (stop_three front (run_rows p noted) (groups_bytes noted p told) mdat bytes_there (g.K.Sink.contents c.args.sink.now) (g.K.Sink.contents c.carry.new.sink) (g.K.Sink.contents c.carry_run.new.sink) (g.K.Sink.contents c.carry_groups.new.sink) (g.K.Sink.contents c.carry_groups.new.sink) (g.K.Sink.contents c.carry_groups.new.sink) (waiting c.args.self.now.carrier) (waiting c.carry.new.self) (waiting c.carry_run.new.carrier) (waiting c.carry_groups.new.carrier) (waiting c.carry_groups.new.carrier) (waiting c.carry_groups.new.carrier) c.in_ok-carry.ensures.bytes c.in_ok-carry_run.ensures.bytes (c.in_err-carry_groups.ensures.prefix (subst AreApart (sym keys) apart))) whole)
+    let whole = parts_are c.args.head p c.sizes_of-sizes.result (keys_seen info.keys) told (map row_seen (take p.count samples)) noted front mdat bytes_there (c.as_bytes.ensures ∙ c.moof_front-front.ensures) c.sizes_of-sizes.ensures.is keys (ap (take p.count) c.deref.ensures.value
+    ∙ noted_are.rows) refl in
+    rw e.1 (front_as (g.K.Sink.contents c.args.sink.now) (g.K.Sink.contents c.carry_groups.new.sink) (waiting c.args.self.now.carrier) _ _
+    (stop_three front (run_rows p noted) (groups_bytes noted p told) mdat bytes_there (g.K.Sink.contents c.args.sink.now) (g.K.Sink.contents c.carry.new.sink) (g.K.Sink.contents c.carry_run.new.sink) (g.K.Sink.contents c.carry_groups.new.sink) (g.K.Sink.contents c.carry_groups.new.sink)
+    (g.K.Sink.contents c.carry_groups.new.sink) (waiting c.args.self.now.carrier) (waiting c.carry.new.self) (waiting c.carry_run.new.carrier) (waiting c.carry_groups.new.carrier) (waiting c.carry_groups.new.carrier) (waiting c.carry_groups.new.carrier)
+    c.in_ok-carry.ensures.bytes c.in_ok-carry_run.ensures.bytes (c.in_err-carry_groups.ensures.prefix (subst AreApart (sym keys) apart))) whole)
 
 pub returns-in_err-carry-2-clause-prefix : goal.returns-in_err-carry-2-clause-prefix
 returns-in_err-carry-2-clause-prefix g c told_honest tree o samples noted_are info is apart =
@@ -76,8 +86,12 @@ returns-in_err-carry-2-clause-prefix g c told_honest tree o samples noted_are in
     let mdat : List ℕ = c.bytes.result.now in
     let bytes_there = sample_bytes file (take p.count samples) in
     let keys = ap (λ (t : TrackInfo). keys_seen t.keys) (sym c.index-tracks-track.is ∙ read_at c.args.movie.now.tracks c.args.track info c.index-tracks-track.result is (rw c.tracks.ensures at c.index-tracks-track.is)) in
-    let whole = parts_are c.args.head p c.sizes_of-sizes.result (keys_seen info.keys) told (map row_seen (take p.count samples)) noted front mdat bytes_there (c.as_bytes.ensures ∙ c.moof_front-front.ensures) c.sizes_of-sizes.ensures.is keys (ap (take p.count) c.deref.ensures.value ∙ noted_are.rows) (c.bytes.ensures ∙ c.header-mdat.ensures) in
-    rw e.1 (front_as (g.K.Sink.contents c.args.sink.now) (g.K.Sink.contents c.carry-2.new.sink) (waiting c.args.self.now.carrier) _ _ (stop_four front (run_rows p noted) (groups_bytes noted p told) mdat bytes_there (g.K.Sink.contents c.args.sink.now) (g.K.Sink.contents c.carry.new.sink) (g.K.Sink.contents c.carry_run.new.sink) (g.K.Sink.contents c.carry_groups.new.sink) (g.K.Sink.contents c.carry-2.new.sink) (g.K.Sink.contents c.carry-2.new.sink) (waiting c.args.self.now.carrier) (waiting c.carry.new.self) (waiting c.carry_run.new.carrier) (waiting c.carry_groups.new.carrier) (waiting c.carry-2.new.self) (waiting c.carry-2.new.self) c.in_ok-carry.ensures.bytes c.in_ok-carry_run.ensures.bytes (c.in_ok-carry_groups.ensures.bytes (subst AreApart (sym keys) apart)) c.in_err-carry-2.ensures.prefix) whole)
+    let whole = parts_are c.args.head p c.sizes_of-sizes.result (keys_seen info.keys) told (map row_seen (take p.count samples)) noted front mdat bytes_there (c.as_bytes.ensures ∙ c.moof_front-front.ensures) c.sizes_of-sizes.ensures.is keys (ap (take p.count) c.deref.ensures.value
+    ∙ noted_are.rows) (c.bytes.ensures ∙ c.header-mdat.ensures) in
+    rw e.1 (front_as (g.K.Sink.contents c.args.sink.now) (g.K.Sink.contents c.carry-2.new.sink) (waiting c.args.self.now.carrier) _ _
+    (stop_four front (run_rows p noted) (groups_bytes noted p told) mdat bytes_there (g.K.Sink.contents c.args.sink.now) (g.K.Sink.contents c.carry.new.sink) (g.K.Sink.contents c.carry_run.new.sink) (g.K.Sink.contents c.carry_groups.new.sink) (g.K.Sink.contents c.carry-2.new.sink)
+    (g.K.Sink.contents c.carry-2.new.sink) (waiting c.args.self.now.carrier) (waiting c.carry.new.self) (waiting c.carry_run.new.carrier) (waiting c.carry_groups.new.carrier) (waiting c.carry-2.new.self) (waiting c.carry-2.new.self) c.in_ok-carry.ensures.bytes c.in_ok-carry_run.ensures.bytes
+    (c.in_ok-carry_groups.ensures.bytes (subst AreApart (sym keys) apart)) c.in_err-carry-2.ensures.prefix) whole)
 
 pub returns-clause-prefix : goal.returns-clause-prefix
 returns-clause-prefix g c told_honest tree o samples noted_are info is apart =
@@ -90,9 +104,14 @@ returns-clause-prefix g c told_honest tree o samples noted_are info is apart =
     let mdat : List ℕ = c.bytes.result.now in
     let bytes_there = sample_bytes file (take p.count samples) in
     let keys = ap (λ (t : TrackInfo). keys_seen t.keys) (sym c.index-tracks-track.is ∙ read_at c.args.movie.now.tracks c.args.track info c.index-tracks-track.result is (rw c.tracks.ensures at c.index-tracks-track.is)) in
-    let whole = parts_are c.args.head p c.sizes_of-sizes.result (keys_seen info.keys) told (map row_seen (take p.count samples)) noted front mdat bytes_there (c.as_bytes.ensures ∙ c.moof_front-front.ensures) c.sizes_of-sizes.ensures.is keys (ap (take p.count) c.deref.ensures.value ∙ noted_are.rows) (c.bytes.ensures ∙ c.header-mdat.ensures) in
+    let whole = parts_are c.args.head p c.sizes_of-sizes.result (keys_seen info.keys) told (map row_seen (take p.count samples)) noted front mdat bytes_there (c.as_bytes.ensures ∙ c.moof_front-front.ensures) c.sizes_of-sizes.ensures.is keys (ap (take p.count) c.deref.ensures.value
+    ∙ noted_are.rows) (c.bytes.ensures ∙ c.header-mdat.ensures) in
     let here = noted_with file tree c.args.movie.now c.args.track p.count samples c.args.self.now c.carry-2.new.self noted_are in
-    on_err _ _ c.carry_data.result (λ x. (front_as (g.K.Sink.contents c.args.sink.now) (g.K.Sink.contents c.carry_data.new.sink) (waiting c.args.self.now.carrier) _ _ (stop_five front (run_rows p noted) (groups_bytes noted p told) mdat bytes_there (g.K.Sink.contents c.args.sink.now) (g.K.Sink.contents c.carry.new.sink) (g.K.Sink.contents c.carry_run.new.sink) (g.K.Sink.contents c.carry_groups.new.sink) (g.K.Sink.contents c.carry-2.new.sink) (g.K.Sink.contents c.carry_data.new.sink) (waiting c.args.self.now.carrier) (waiting c.carry.new.self) (waiting c.carry_run.new.carrier) (waiting c.carry_groups.new.carrier) (waiting c.carry-2.new.self) (waiting c.carry_data.new.self.carrier) c.in_ok-carry.ensures.bytes c.in_ok-carry_run.ensures.bytes (c.in_ok-carry_groups.ensures.bytes (subst AreApart (sym keys) apart)) c.in_ok-carry-2.ensures.bytes x) whole)) (c.carry_data.ensures.prefix told_honest tree o samples here)
+    on_err _ _ c.carry_data.result
+    (λ x. (front_as (g.K.Sink.contents c.args.sink.now) (g.K.Sink.contents c.carry_data.new.sink) (waiting c.args.self.now.carrier) _ _
+    (stop_five front (run_rows p noted) (groups_bytes noted p told) mdat bytes_there (g.K.Sink.contents c.args.sink.now) (g.K.Sink.contents c.carry.new.sink) (g.K.Sink.contents c.carry_run.new.sink) (g.K.Sink.contents c.carry_groups.new.sink) (g.K.Sink.contents c.carry-2.new.sink)
+    (g.K.Sink.contents c.carry_data.new.sink) (waiting c.args.self.now.carrier) (waiting c.carry.new.self) (waiting c.carry_run.new.carrier) (waiting c.carry_groups.new.carrier) (waiting c.carry-2.new.self) (waiting c.carry_data.new.self.carrier)
+    c.in_ok-carry.ensures.bytes c.in_ok-carry_run.ensures.bytes (c.in_ok-carry_groups.ensures.bytes (subst AreApart (sym keys) apart)) c.in_ok-carry-2.ensures.bytes x) whole)) (c.carry_data.ensures.prefix told_honest tree o samples here)
 
 pub returns-clause-put : goal.returns-clause-put
 returns-clause-put g c told_honest tree o samples noted_are info is apart =
@@ -105,9 +124,14 @@ returns-clause-put g c told_honest tree o samples noted_are info is apart =
     let mdat : List ℕ = c.bytes.result.now in
     let bytes_there = sample_bytes file (take p.count samples) in
     let keys = ap (λ (t : TrackInfo). keys_seen t.keys) (sym c.index-tracks-track.is ∙ read_at c.args.movie.now.tracks c.args.track info c.index-tracks-track.result is (rw c.tracks.ensures at c.index-tracks-track.is)) in
-    let whole = parts_are c.args.head p c.sizes_of-sizes.result (keys_seen info.keys) told (map row_seen (take p.count samples)) noted front mdat bytes_there (c.as_bytes.ensures ∙ c.moof_front-front.ensures) c.sizes_of-sizes.ensures.is keys (ap (take p.count) c.deref.ensures.value ∙ noted_are.rows) (c.bytes.ensures ∙ c.header-mdat.ensures) in
+    let whole = parts_are c.args.head p c.sizes_of-sizes.result (keys_seen info.keys) told (map row_seen (take p.count samples)) noted front mdat bytes_there (c.as_bytes.ensures ∙ c.moof_front-front.ensures) c.sizes_of-sizes.ensures.is keys (ap (take p.count) c.deref.ensures.value
+    ∙ noted_are.rows) (c.bytes.ensures ∙ c.header-mdat.ensures) in
     let here = noted_with file tree c.args.movie.now c.args.track p.count samples c.args.self.now c.carry-2.new.self noted_are in
-    on_ok _ _ c.carry_data.result (λ x. goes_on_as (g.K.Sink.contents c.args.sink.now) (g.K.Sink.contents c.carry_data.new.sink) (waiting c.args.self.now.carrier) (waiting c.carry_data.new.self.carrier) _ _ (go_five front (run_rows p noted) (groups_bytes noted p told) mdat bytes_there (g.K.Sink.contents c.args.sink.now) (g.K.Sink.contents c.carry.new.sink) (g.K.Sink.contents c.carry_run.new.sink) (g.K.Sink.contents c.carry_groups.new.sink) (g.K.Sink.contents c.carry-2.new.sink) (g.K.Sink.contents c.carry_data.new.sink) (waiting c.args.self.now.carrier) (waiting c.carry.new.self) (waiting c.carry_run.new.carrier) (waiting c.carry_groups.new.carrier) (waiting c.carry-2.new.self) (waiting c.carry_data.new.self.carrier) c.in_ok-carry.ensures.bytes c.in_ok-carry_run.ensures.bytes (c.in_ok-carry_groups.ensures.bytes (subst AreApart (sym keys) apart)) c.in_ok-carry-2.ensures.bytes x) whole) (c.carry_data.ensures.put told_honest tree o samples here)
+    on_ok _ _ c.carry_data.result
+    (λ x. goes_on_as (g.K.Sink.contents c.args.sink.now) (g.K.Sink.contents c.carry_data.new.sink) (waiting c.args.self.now.carrier) (waiting c.carry_data.new.self.carrier) _ _
+    (go_five front (run_rows p noted) (groups_bytes noted p told) mdat bytes_there (g.K.Sink.contents c.args.sink.now) (g.K.Sink.contents c.carry.new.sink) (g.K.Sink.contents c.carry_run.new.sink) (g.K.Sink.contents c.carry_groups.new.sink) (g.K.Sink.contents c.carry-2.new.sink)
+    (g.K.Sink.contents c.carry_data.new.sink) (waiting c.args.self.now.carrier) (waiting c.carry.new.self) (waiting c.carry_run.new.carrier) (waiting c.carry_groups.new.carrier) (waiting c.carry-2.new.self) (waiting c.carry_data.new.self.carrier)
+    c.in_ok-carry.ensures.bytes c.in_ok-carry_run.ensures.bytes (c.in_ok-carry_groups.ensures.bytes (subst AreApart (sym keys) apart)) c.in_ok-carry-2.ensures.bytes x) whole) (c.carry_data.ensures.put told_honest tree o samples here)
 
 pub returns-clause-copied : goal.returns-clause-copied
 returns-clause-copied g c told_honest tree o samples many = c.carry_data.ensures.copied told_honest tree o samples many

@@ -69,7 +69,8 @@ returns-clause-put g c told tree o samples noted =
     let number = read_at w.behind.items k noted.behind n noted.is_behind c.index-behind.ensures in
     let comes = subst (λ (v : Walk). Comes file tree noted.t m v (h.copied ++ samples)) (sym same) h.comes in
     let those : drop n (h.copied ++ samples) ≡ samples = ap (λ i. drop i (h.copied ++ samples)) number ∙ those_behind file tree noted.t m noted.walk noted.behind count samples h in
-    on_ok _ _ c.carry_later.result (λ x. goes_on_as (g.K.Sink.contents c.args.sink.now) (g.K.Sink.contents c.carry_later.new.sink) (waiting w.carrier) (waiting c.carry_later.new.carrier) _ _ x.0 (ap (λ (l : List SampleAt). sample_bytes file (take count l)) those)) (c.carry_later.ensures.carried told tree noted.t (h.copied ++ samples) o comes)
+    on_ok _ _ c.carry_later.result (λ x. goes_on_as (g.K.Sink.contents c.args.sink.now) (g.K.Sink.contents c.carry_later.new.sink) (waiting w.carrier) (waiting c.carry_later.new.carrier) _ _ x.0 (ap (λ (l : List SampleAt). sample_bytes file (take count l)) those))
+    (c.carry_later.ensures.carried told tree noted.t (h.copied ++ samples) o comes)
 
 pub returns-clause-prefix : goal.returns-clause-prefix
 returns-clause-prefix g c told tree o samples noted =
@@ -84,7 +85,8 @@ returns-clause-prefix g c told tree o samples noted =
     let number = read_at w.behind.items k noted.behind n noted.is_behind c.index-behind.ensures in
     let comes = subst (λ (v : Walk). Comes file tree noted.t m v (h.copied ++ samples)) (sym same) h.comes in
     let those : drop n (h.copied ++ samples) ≡ samples = ap (λ i. drop i (h.copied ++ samples)) number ∙ those_behind file tree noted.t m noted.walk noted.behind count samples h in
-    on_err _ _ c.carry_later.result (λ x. front_as (g.K.Sink.contents c.args.sink.now) (g.K.Sink.contents c.carry_later.new.sink) (waiting w.carrier) _ _ x (ap (λ (l : List SampleAt). sample_bytes file (take count l)) those)) (c.carry_later.ensures.prefix told tree noted.t (h.copied ++ samples) o comes)
+    on_err _ _ c.carry_later.result (λ x. front_as (g.K.Sink.contents c.args.sink.now) (g.K.Sink.contents c.carry_later.new.sink) (waiting w.carrier) _ _ x (ap (λ (l : List SampleAt). sample_bytes file (take count l)) those))
+    (c.carry_later.ensures.prefix told tree noted.t (h.copied ++ samples) o comes)
 
 pub returns-clause-copied : goal.returns-clause-copied
 returns-clause-copied g c told tree o samples few =
@@ -99,7 +101,8 @@ returns-clause-copied g c told tree o samples few =
     let same = read_at w.copying.items k walk c.index_mut-walk.result.now is c.index_mut-walk.ensures.value in
     let read = read_at w.behind.items k behind n number c.index-behind.ensures in
     let comes = subst (λ (v : Walk). Comes file tree t m v (h.copied ++ samples)) (sym same) h.comes in
-    on_ok _ _ c.carry_later.result (λ x. none_behind file tree t m walk behind count samples h c.carry_later.new.walk (subst (λ i. Comes file tree t m c.carry_later.new.walk (drop count (drop i (h.copied ++ samples)))) read x.1)) (c.carry_later.ensures.carried told tree t (h.copied ++ samples) o comes))
+    on_ok _ _ c.carry_later.result (λ x. none_behind file tree t m walk behind count samples h c.carry_later.new.walk (subst (λ i. Comes file tree t m c.carry_later.new.walk (drop count (drop i (h.copied ++ samples)))) read x.1))
+    (c.carry_later.ensures.carried told tree t (h.copied ++ samples) o comes))
 
 pub returns-clause-unchanged : goal.returns-clause-unchanged
 returns-clause-unchanged g c told tree o samples noted few bytes lie =

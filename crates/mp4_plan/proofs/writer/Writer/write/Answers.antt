@@ -119,8 +119,11 @@ returns-in_err-carry_turn-clause-prefix g c told tree o ready =
     let ends : (info : TrackInfo) → slice_get m.tracks s.track ≡ Some info → c.in-Some.turn.end ≡ turn_end s info.timescale = λ info is. c.in-Some.ensures.end info (rw c.tracks-tracks.ensures is) in
     let noted = (rw (i.honesty, i.file) at c.in_ok-noted.ensures.noted) told tree o in
     let few : IsFew c.in_ok-noted.noted.planned = record { count = (let n = c.in_ok-noted.ensures.few.0 in let r = i.writer.few in omega (arith, n, r)); rows = c.in_ok-noted.ensures.few.2 } in
-    let is_id : (info : TrackInfo) → slice_get m.tracks s.track ≡ Some info → (get_or c.tracks-tracks.result.now c.in-Some.turn.track c.index-tracks-turn.result).id ≡ info.id = λ info is. ap (λ (x : TrackInfo). x.id) (sym c.index-tracks-turn.is ∙ read_at m.tracks s.track info c.index-tracks-turn.result is (rw (here.0, c.tracks-tracks.ensures) at c.index-tracks-turn.is)) in
-    rw e.1 (carry_stops file tree m o s c.loop-turn.sequence w before after h c.in-Some.turn here ends i.tracks i.writer c.note_turn.new.self c.in_ok-noted.noted (get_or c.tracks-tracks.result.now c.in-Some.turn.track c.index-tracks-turn.result).id noted c.in_ok-noted.ensures.keeps few is_id (g.K.Sink.contents c.carry_turn.new.sink) ((rw (c.in_ok-noted.ensures.honesty, c.in_ok-noted.ensures.file, i.honesty, i.file) at c.in_err-carry_turn.ensures.prefix) told tree o))
+    let is_id : (info : TrackInfo) → slice_get m.tracks s.track ≡ Some info
+    → (get_or c.tracks-tracks.result.now c.in-Some.turn.track c.index-tracks-turn.result).id
+    ≡ info.id = λ info is. ap (λ (x : TrackInfo). x.id) (sym c.index-tracks-turn.is ∙ read_at m.tracks s.track info c.index-tracks-turn.result is (rw (here.0, c.tracks-tracks.ensures) at c.index-tracks-turn.is)) in
+    rw e.1 (carry_stops file tree m o s c.loop-turn.sequence w before after h c.in-Some.turn here ends i.tracks i.writer c.note_turn.new.self c.in_ok-noted.noted (get_or c.tracks-tracks.result.now c.in-Some.turn.track c.index-tracks-turn.result).id noted c.in_ok-noted.ensures.keeps few is_id
+    (g.K.Sink.contents c.carry_turn.new.sink) ((rw (c.in_ok-noted.ensures.honesty, c.in_ok-noted.ensures.file, i.honesty, i.file) at c.in_err-carry_turn.ensures.prefix) told tree o))
 
 pub returns-in_err-carry_turn-clause-unchanged : goal.returns-in_err-carry_turn-clause-unchanged
 returns-in_err-carry_turn-clause-unchanged g c told tree o ready =
@@ -137,8 +140,12 @@ returns-in_err-carry_turn-clause-unchanged g c told tree o ready =
     let ends : (info : TrackInfo) → slice_get m.tracks s.track ≡ Some info → c.in-Some.turn.end ≡ turn_end s info.timescale = λ info is. c.in-Some.ensures.end info (rw c.tracks-tracks.ensures is) in
     let noted = (rw (i.honesty, i.file) at c.in_ok-noted.ensures.noted) told tree o in
     let few : IsFew c.in_ok-noted.noted.planned = record { count = (let n = c.in_ok-noted.ensures.few.0 in let r = i.writer.few in omega (arith, n, r)); rows = c.in_ok-noted.ensures.few.2 } in
-    let is_id : (info : TrackInfo) → slice_get m.tracks s.track ≡ Some info → (get_or c.tracks-tracks.result.now c.in-Some.turn.track c.index-tracks-turn.result).id ≡ info.id = λ info is. ap (λ (x : TrackInfo). x.id) (sym c.index-tracks-turn.is ∙ read_at m.tracks s.track info c.index-tracks-turn.result is (rw (here.0, c.tracks-tracks.ensures) at c.index-tracks-turn.is)) in
-    rw (e.1, e.2) (carry_lacks file tree m o s c.loop-turn.sequence w before after h c.in-Some.turn here ends i.tracks i.writer c.note_turn.new.self c.in_ok-noted.noted (get_or c.tracks-tracks.result.now c.in-Some.turn.track c.index-tracks-turn.result).id noted c.in_ok-noted.ensures.keeps few is_id _ ((rw (c.in_ok-noted.ensures.honesty, c.in_ok-noted.ensures.file, i.honesty, i.file) at c.in_err-carry_turn.ensures.unchanged) told tree o))
+    let is_id : (info : TrackInfo) → slice_get m.tracks s.track ≡ Some info
+    → (get_or c.tracks-tracks.result.now c.in-Some.turn.track c.index-tracks-turn.result).id
+    ≡ info.id = λ info is. ap (λ (x : TrackInfo). x.id) (sym c.index-tracks-turn.is ∙ read_at m.tracks s.track info c.index-tracks-turn.result is (rw (here.0, c.tracks-tracks.ensures) at c.index-tracks-turn.is)) in
+    rw (e.1, e.2)
+    (carry_lacks file tree m o s c.loop-turn.sequence w before after h c.in-Some.turn here ends i.tracks i.writer c.note_turn.new.self c.in_ok-noted.noted (get_or c.tracks-tracks.result.now c.in-Some.turn.track c.index-tracks-turn.result).id noted c.in_ok-noted.ensures.keeps few is_id _
+    ((rw (c.in_ok-noted.ensures.honesty, c.in_ok-noted.ensures.file, i.honesty, i.file) at c.in_err-carry_turn.ensures.unchanged) told tree o))
 
 pub returns-in_err-pass-clause-prefix : goal.returns-in_err-pass-clause-prefix
 returns-in_err-pass-clause-prefix g c told tree o ready =
@@ -155,10 +162,13 @@ returns-in_err-pass-clause-prefix g c told tree o ready =
     let ends : (info : TrackInfo) → slice_get m.tracks s.track ≡ Some info → c.in-Some.turn.end ≡ turn_end s info.timescale = λ info is. c.in-Some.ensures.end info (rw c.tracks-tracks.ensures is) in
     let noted = (rw (i.honesty, i.file) at c.in_ok-noted.ensures.noted) told tree o in
     let few : IsFew c.in_ok-noted.noted.planned = record { count = (let n = c.in_ok-noted.ensures.few.0 in let r = i.writer.few in omega (arith, n, r)); rows = c.in_ok-noted.ensures.few.2 } in
-    let is_id : (info : TrackInfo) → slice_get m.tracks s.track ≡ Some info → (get_or c.tracks-tracks.result.now c.in-Some.turn.track c.index-tracks-turn.result).id ≡ info.id = λ info is. ap (λ (x : TrackInfo). x.id) (sym c.index-tracks-turn.is ∙ read_at m.tracks s.track info c.index-tracks-turn.result is (rw (here.0, c.tracks-tracks.ensures) at c.index-tracks-turn.is)) in
+    let is_id : (info : TrackInfo) → slice_get m.tracks s.track ≡ Some info
+    → (get_or c.tracks-tracks.result.now c.in-Some.turn.track c.index-tracks-turn.result).id
+    ≡ info.id = λ info is. ap (λ (x : TrackInfo). x.id) (sym c.index-tracks-turn.is ∙ read_at m.tracks s.track info c.index-tracks-turn.result is (rw (here.0, c.tracks-tracks.ensures) at c.index-tracks-turn.is)) in
     let put = (rw (c.in_ok-noted.ensures.honesty, c.in_ok-noted.ensures.file, i.honesty, i.file) at c.in_ok-carry_turn.ensures.put) told tree o in
     let copied = (rw (c.in_ok-noted.ensures.honesty, c.in_ok-noted.ensures.file, i.honesty, i.file) at c.in_ok-carry_turn.ensures.copied) told tree o in
-    let on = turn_goes file tree m o s c.loop-turn.sequence w before after h c.in-Some.turn here ends i.tracks i.writer c.note_turn.new.self c.in_ok-noted.noted (get_or c.tracks-tracks.result.now c.in-Some.turn.track c.index-tracks-turn.result).id noted c.in_ok-noted.ensures.keeps few is_id c.carry_turn.new.self (g.K.Sink.contents c.carry_turn.new.sink) _ put copied c.in_ok-carry_turn.ensures.keeps refl in
+    let on = turn_goes file tree m o s c.loop-turn.sequence w before after h c.in-Some.turn here ends i.tracks i.writer c.note_turn.new.self c.in_ok-noted.noted
+    (get_or c.tracks-tracks.result.now c.in-Some.turn.track c.index-tracks-turn.result).id noted c.in_ok-noted.ensures.keeps few is_id c.carry_turn.new.self (g.K.Sink.contents c.carry_turn.new.sink) _ put copied c.in_ok-carry_turn.ensures.keeps refl in
     rw e.1 (stopped file tree m _ _ _ _ _ _ _ _ _ _ on)
 
 pub returns-in_err-pass-clause-unchanged : goal.returns-in_err-pass-clause-unchanged
@@ -176,8 +186,12 @@ returns-in_err-pass-clause-unchanged g c told tree o ready =
     let ends : (info : TrackInfo) → slice_get m.tracks s.track ≡ Some info → c.in-Some.turn.end ≡ turn_end s info.timescale = λ info is. c.in-Some.ensures.end info (rw c.tracks-tracks.ensures is) in
     let noted = (rw (i.honesty, i.file) at c.in_ok-noted.ensures.noted) told tree o in
     let few : IsFew c.in_ok-noted.noted.planned = record { count = (let n = c.in_ok-noted.ensures.few.0 in let r = i.writer.few in omega (arith, n, r)); rows = c.in_ok-noted.ensures.few.2 } in
-    let is_id : (info : TrackInfo) → slice_get m.tracks s.track ≡ Some info → (get_or c.tracks-tracks.result.now c.in-Some.turn.track c.index-tracks-turn.result).id ≡ info.id = λ info is. ap (λ (x : TrackInfo). x.id) (sym c.index-tracks-turn.is ∙ read_at m.tracks s.track info c.index-tracks-turn.result is (rw (here.0, c.tracks-tracks.ensures) at c.index-tracks-turn.is)) in
-    rw (e.1, e.2) (λ r. pass_lacks file tree m o s c.loop-turn.sequence w before after h c.in-Some.turn here ends i.tracks i.writer c.note_turn.new.self c.in_ok-noted.noted (get_or c.tracks-tracks.result.now c.in-Some.turn.track c.index-tracks-turn.result).id noted c.in_ok-noted.ensures.keeps few is_id c.in_err-pass.ensures.refusal.1)
+    let is_id : (info : TrackInfo) → slice_get m.tracks s.track ≡ Some info
+    → (get_or c.tracks-tracks.result.now c.in-Some.turn.track c.index-tracks-turn.result).id
+    ≡ info.id = λ info is. ap (λ (x : TrackInfo). x.id) (sym c.index-tracks-turn.is ∙ read_at m.tracks s.track info c.index-tracks-turn.result is (rw (here.0, c.tracks-tracks.ensures) at c.index-tracks-turn.is)) in
+    rw (e.1, e.2)
+    (λ r. pass_lacks file tree m o s c.loop-turn.sequence w before after h c.in-Some.turn here ends i.tracks i.writer c.note_turn.new.self c.in_ok-noted.noted
+    (get_or c.tracks-tracks.result.now c.in-Some.turn.track c.index-tracks-turn.result).id noted c.in_ok-noted.ensures.keeps few is_id c.in_err-pass.ensures.refusal.1)
 
 pub loop-turn-preserved : goal.loop-turn-preserved
 loop-turn-preserved g c =
@@ -203,12 +217,17 @@ loop-turn-preserved g c =
           let ends : (info : TrackInfo) → slice_get m.tracks s.track ≡ Some info → c.in-Some.turn.end ≡ turn_end s info.timescale = λ info is. c.in-Some.ensures.end info (rw c.tracks-tracks.ensures is) in
           let noted = (rw (i.honesty, i.file) at c.in_ok-noted.ensures.noted) told tree o in
           let few : IsFew c.in_ok-noted.noted.planned = record { count = (let n = c.in_ok-noted.ensures.few.0 in let r = i.writer.few in omega (arith, n, r)); rows = c.in_ok-noted.ensures.few.2 } in
-          let is_id : (info : TrackInfo) → slice_get m.tracks s.track ≡ Some info → (get_or c.tracks-tracks.result.now c.in-Some.turn.track c.index-tracks-turn.result).id ≡ info.id = λ info is. ap (λ (x : TrackInfo). x.id) (sym c.index-tracks-turn.is ∙ read_at m.tracks s.track info c.index-tracks-turn.result is (rw (here.0, c.tracks-tracks.ensures) at c.index-tracks-turn.is)) in
+          let is_id : (info : TrackInfo) → slice_get m.tracks s.track ≡ Some info
+          → (get_or c.tracks-tracks.result.now c.in-Some.turn.track c.index-tracks-turn.result).id
+          ≡ info.id = λ info is. ap (λ (x : TrackInfo). x.id) (sym c.index-tracks-turn.is ∙ read_at m.tracks s.track info c.index-tracks-turn.result is (rw (here.0, c.tracks-tracks.ensures) at c.index-tracks-turn.is)) in
           let put = (rw (c.in_ok-noted.ensures.honesty, c.in_ok-noted.ensures.file, i.honesty, i.file) at c.in_ok-carry_turn.ensures.put) told tree o in
           let copied = (rw (c.in_ok-noted.ensures.honesty, c.in_ok-noted.ensures.file, i.honesty, i.file) at c.in_ok-carry_turn.ensures.copied) told tree o in
-          rw c.sequence_behind-sequence.ensures (turn_goes file tree m o s c.loop-turn.sequence w before after h c.in-Some.turn here ends i.tracks i.writer c.note_turn.new.self c.in_ok-noted.noted (get_or c.tracks-tracks.result.now c.in-Some.turn.track c.index-tracks-turn.result).id noted c.in_ok-noted.ensures.keeps few is_id c.carry_turn.new.self (g.K.Sink.contents c.carry_turn.new.sink) c.pass.new.self put copied c.in_ok-carry_turn.ensures.keeps c.in_ok-pass.ensures.turned);
+          rw c.sequence_behind-sequence.ensures
+          (turn_goes file tree m o s c.loop-turn.sequence w before after h c.in-Some.turn here ends i.tracks i.writer c.note_turn.new.self c.in_ok-noted.noted
+          (get_or c.tracks-tracks.result.now c.in-Some.turn.track c.index-tracks-turn.result).id noted c.in_ok-noted.ensures.keeps few is_id c.carry_turn.new.self (g.K.Sink.contents c.carry_turn.new.sink) c.pass.new.self put copied c.in_ok-carry_turn.ensures.keeps c.in_ok-pass.ensures.turned);
       within = λ told tree o n k plan copy.
-          turn_within (g.S.Store.file c.args.store.now) tree n k _ _ c.loop-turn.self (i.within told tree o n k plan copy) c.note_turn.new.self _ ((rw (i.honesty, i.file) at c.in_ok-noted.ensures.work) told tree o) c.in_ok-noted.ensures.keeps.0 c.carry_turn.new.self _ ((rw (c.in_ok-noted.ensures.honesty, c.in_ok-noted.ensures.file, i.honesty, i.file) at c.in_ok-carry_turn.ensures.work) told tree o) c.in_ok-carry_turn.ensures.keeps.0;
+          turn_within (g.S.Store.file c.args.store.now) tree n k _ _ c.loop-turn.self (i.within told tree o n k plan copy) c.note_turn.new.self _ ((rw (i.honesty, i.file) at c.in_ok-noted.ensures.work) told tree o) c.in_ok-noted.ensures.keeps.0 c.carry_turn.new.self _
+          ((rw (c.in_ok-noted.ensures.honesty, c.in_ok-noted.ensures.file, i.honesty, i.file) at c.in_ok-carry_turn.ensures.work) told tree o) c.in_ok-carry_turn.ensures.keeps.0;
     }
 
 pub returns-clause-bytes : goal.returns-clause-bytes
@@ -254,13 +273,15 @@ returns-in_err-noted-clause-work g c told tree o n k plan copy =
 pub returns-in_err-carry_turn-clause-work : goal.returns-in_err-carry_turn-clause-work
 returns-in_err-carry_turn-clause-work g c told tree o n k plan copy =
     let i = c.loop-turn.invariant in
-    copy_within (g.S.Store.file c.args.store.now) tree n k _ _ c.loop-turn.self (i.within told tree o n k plan copy) c.note_turn.new.self _ ((rw (i.honesty, i.file) at c.in_ok-noted.ensures.work) told tree o) c.in_ok-noted.ensures.keeps.0 _ ((rw (c.in_ok-noted.ensures.honesty, c.in_ok-noted.ensures.file, i.honesty, i.file) at c.in_err-carry_turn.ensures.most) told tree o)
+    copy_within (g.S.Store.file c.args.store.now) tree n k _ _ c.loop-turn.self (i.within told tree o n k plan copy) c.note_turn.new.self _ ((rw (i.honesty, i.file) at c.in_ok-noted.ensures.work) told tree o) c.in_ok-noted.ensures.keeps.0 _
+    ((rw (c.in_ok-noted.ensures.honesty, c.in_ok-noted.ensures.file, i.honesty, i.file) at c.in_err-carry_turn.ensures.most) told tree o)
 
 pub returns-in_err-pass-clause-work : goal.returns-in_err-pass-clause-work
 returns-in_err-pass-clause-work g c told tree o n k plan copy =
     let i = c.loop-turn.invariant in
     let file = g.S.Store.file c.args.store.now in
-    let on = turn_within file tree n k _ _ c.loop-turn.self (i.within told tree o n k plan copy) c.note_turn.new.self _ ((rw (i.honesty, i.file) at c.in_ok-noted.ensures.work) told tree o) c.in_ok-noted.ensures.keeps.0 c.carry_turn.new.self _ ((rw (c.in_ok-noted.ensures.honesty, c.in_ok-noted.ensures.file, i.honesty, i.file) at c.in_ok-carry_turn.ensures.work) told tree o) c.in_ok-carry_turn.ensures.keeps.0 in
+    let on = turn_within file tree n k _ _ c.loop-turn.self (i.within told tree o n k plan copy) c.note_turn.new.self _ ((rw (i.honesty, i.file) at c.in_ok-noted.ensures.work) told tree o) c.in_ok-noted.ensures.keeps.0 c.carry_turn.new.self _
+    ((rw (c.in_ok-noted.ensures.honesty, c.in_ok-noted.ensures.file, i.honesty, i.file) at c.in_ok-carry_turn.ensures.work) told tree o) c.in_ok-carry_turn.ensures.keeps.0 in
     both_taken file tree n k _ _ c.carry_turn.new.self on
 
 pub returns-clause-work : goal.returns-clause-work

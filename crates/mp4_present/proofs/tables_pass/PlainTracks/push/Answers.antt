@@ -58,7 +58,8 @@ returns-clause-says g c = λ t trees i a.
     let room = a.room in
     let few : c.args.self.now.room ≤ 2 ^ 24 = omega (arith, room) in
     let tables = tables_are L n _ _ _ _ moov h v c.check.new.keys t i r x c.requires.inside.inside (search rules) (search rules) c.places.ensures.at in
-    let state = state_is L n _ _ _ _ moov h v c.check.new.keys t i r c.args.trexes.now s few c.state_of.ensures.id (c.state_of.ensures.descriptions ∙ sym c.description_count-descriptions.ensures) c.state_of.ensures.trex c.state_of.ensures.start (c.state_of.ensures.count ∙ c.count-2.ensures ∙ sym c.count.ensures) c.state_of.ensures.time c.state_of.ensures.bytes c.state_of.ensures.keys in
+    let state = state_is L n _ _ _ _ moov h v c.check.new.keys t i r c.args.trexes.now s few c.state_of.ensures.id (c.state_of.ensures.descriptions ∙ sym c.description_count-descriptions.ensures) c.state_of.ensures.trex c.state_of.ensures.start (c.state_of.ensures.count ∙ c.count-2.ensures
+    ∙ sym c.count.ensures) c.state_of.ensures.time c.state_of.ensures.bytes c.state_of.ensures.keys in
     tables_more L n _ _ _ _ moov h v c.check.new.keys t i r c.args.trexes.now trees c.args.self.now new x s a few refl refl tables state c.in_ok-push.ensures.items c.in_ok-push-2.ensures.items
 
 pub returns-in_err-tables-clause-refusal : goal.returns-in_err-tables-clause-refusal
