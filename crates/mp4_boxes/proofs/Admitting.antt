@@ -3,10 +3,10 @@ use Rattle.std.proofs.Common.{◌≡◌, ℕ, ◌+◌, ◌<◌, ◌≤◌, Bool,
 use Rattle.std.specs.Prelude.{not, ◌&&◌, ◌||◌, nat_lt}
 use Rattle.std.specs.List.{AllByRecursion, list_any}
 use Rattle.std.proofs.lemmas.Bool.{ltb-true, ltb-false}
-use Rattle.mp4_boxes.specs.Bytes.{field}
-use Rattle.mp4_boxes.specs.Box.{Box, Header, Container, Tiles, to_end_of_box, counted, header_at, box_of, sizes, first_boxes, box_container, counted_container, StandsAfter}
-use Rattle.mp4_boxes.specs.BoxFaults.{IsHeaderFault, IsNotInProfile, IsDuplicate, IsMissing, header_there, type_of, unreadable, fault_of}
-use Rattle.mp4_boxes.specs.Children.{Line, Quantity, one, at_most_one, any, IsQuantity, Holds, table, is_among, allows, repeats, lacks, is_single, is_needed, count_among}
+use Rattle.mp4_boxes.specs.format.Bytes.{field}
+use Rattle.mp4_boxes.specs.format.Box.{Box, Header, Container, Tiles, to_end_of_box, counted, header_at, box_of, sizes, first_boxes, box_container, counted_container, StandsAfter}
+use Rattle.mp4_boxes.specs.format.BoxFaults.{IsHeaderFault, IsNotInProfile, IsDuplicate, IsMissing, header_there, type_of, unreadable, fault_of}
+use Rattle.mp4_boxes.specs.format.Children.{Line, Quantity, one, at_most_one, any, IsQuantity, Holds, table, is_among, allows, repeats, lacks, is_single, is_needed, count_among}
 use Rattle.mp4_boxes.specs.declared.rule.Rule.{Rule}
 use Rattle.mp4_boxes.specs.declared.fault.Fault.{Fault}
 use Rattle.mp4_boxes.specs.declared.fault.Kind.TheVariants.{BoxNotInProfile, DuplicateBox, MissingBox}

@@ -5,7 +5,7 @@ use Rattle.std.proofs.lemmas.List.Concat.{flat_map-cons}
 use Rattle.std.specs.List.{flat_map}
 use Rattle.byteorder.specs.Endian.{big_from, big_bytes}
 use Rattle.byteorder.specs.Numbers.{big_number-reads_back, length-bytes_high_first}
-use Rattle.mp4_boxes.specs.Bytes.{numbers, spelled, rows, width_of, FitWidths}
+use Rattle.mp4_boxes.specs.format.Bytes.{numbers, spelled, rows, width_of, FitWidths}
 
 -- a number that was written is read again
 pub field_again : (width value : ℕ) (rest : List ℕ) → value < 256 ^ width → big_from 0 width (big_bytes width value ++ rest) ≡ value

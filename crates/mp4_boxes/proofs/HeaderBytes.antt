@@ -6,7 +6,7 @@ use Rattle.std.proofs.lemmas.Slice.{take-put_mid}
 use Rattle.std.proofs.lemmas.List.{length-take}
 use borrow.Rule.Slice.PartMut.{put_mid}
 use Rattle.byteorder.specs.Endian.{big_bytes}
-use Rattle.mp4_boxes.specs.Written.{header_bytes}
+use Rattle.mp4_boxes.specs.format.Written.{header_bytes}
 
 -- a size and a type
 front_is : (kind buf part rest : List ℕ) (size : ℕ) → buf ≡ big_bytes 4 size ++ rest → part ≡ kind → length kind ≡ 4 → take 8 (put_mid 4 4 buf part) ≡ big_bytes 4 size ++ kind

@@ -4,9 +4,9 @@ use Rattle.std.specs.Prelude.{min, ◌⊎◌}
 use Rattle.std.proofs.lemmas.Bool.{cases_lt, lt-ltb}
 use Rattle.std.proofs.lemmas.List.{drop-take, take-take}
 use Rattle.byteorder.specs.Numbers.{big_from-take}
-use Rattle.mp4_boxes.specs.Bytes.{field}
-use Rattle.mp4_boxes.specs.Box.{Header, fitting, header_in}
-use Rattle.mp4_boxes.specs.BoxFaults.{located, header_there, type_of}
+use Rattle.mp4_boxes.specs.format.Bytes.{field}
+use Rattle.mp4_boxes.specs.format.Box.{Header, fitting, header_in}
+use Rattle.mp4_boxes.specs.format.BoxFaults.{located, header_there, type_of}
 use Rattle.mp4_boxes.specs.declared.fault.Kind.{Kind}
 use Rattle.mp4_boxes.specs.declared.fault.Kind.TheVariants.{ShortHeader, BadSize}
 

@@ -4,9 +4,9 @@ use Rattle.std.proofs.lemmas.Bool.{le-ltb, ne_eqb}
 use Rattle.std.proofs.lemmas.List.{length-append, take_at, drop_at, drop-drop}
 use Rattle.byteorder.specs.Endian.{big_from, big_bytes}
 use Rattle.byteorder.specs.Numbers.{big_number-reads_back, length-bytes_high_first}
-use Rattle.mp4_boxes.specs.Bytes.{field}
-use Rattle.mp4_boxes.specs.Written.{box_bytes}
-use Rattle.mp4_boxes.specs.Box.{Box, header_at, box_of, size, LieEndToEnd}
+use Rattle.mp4_boxes.specs.format.Bytes.{field}
+use Rattle.mp4_boxes.specs.format.Written.{box_bytes}
+use Rattle.mp4_boxes.specs.format.Box.{Box, header_at, box_of, size, LieEndToEnd}
 
 eqb_not : (m n : ℕ) → n < m → eqb m n ≡ false
 eqb_not m n h = ne_eqb m n (λ e. omega (arith, e, h))

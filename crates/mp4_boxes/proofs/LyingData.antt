@@ -5,9 +5,9 @@ use Rattle.std.proofs.lemmas.Bool.{le-ltb, ltb-true}
 use Rattle.std.proofs.lemmas.List.{take_at, drop_at, drop-drop, get_or-drop}
 use Rattle.byteorder.specs.Endian.{big_from, big_bytes}
 use Rattle.byteorder.specs.Numbers.{big_number-reads_back}
-use Rattle.mp4_boxes.specs.Bytes.{field}
-use Rattle.mp4_boxes.specs.Written.{header_bytes, header_length}
-use Rattle.mp4_boxes.specs.Box.{Box, header_at, box_of, size, LieEndToEnd}
+use Rattle.mp4_boxes.specs.format.Bytes.{field}
+use Rattle.mp4_boxes.specs.format.Written.{header_bytes, header_length}
+use Rattle.mp4_boxes.specs.format.Box.{Box, header_at, box_of, size, LieEndToEnd}
 use Rattle.mp4_boxes.proofs.Lying.{lies}
 
 shifted : (place from width : ℕ) (bytes : List ℕ) → big_from (place + from) width bytes ≡ big_from from width (drop place bytes)

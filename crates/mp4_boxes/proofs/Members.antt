@@ -2,8 +2,8 @@
 use Rattle.std.proofs.Common.{◌≡◌, ℕ, ◌+◌, ◌<◌, ◌≤◌, Bool, true, false, List, [], ◌∷◌, ◌++◌, length, drop, refl, sym, ap, subst, ◌∙◌, length-append, append_assoc, arith, inl, inr}
 use Rattle.std.specs.Prelude.{◌⊎◌, find, unwrap_or, bytes_eq}
 use Rattle.std.proofs.lemmas.Bool.{cases_lt}
-use Rattle.mp4_boxes.specs.Box.{Box, Extent, to_end_of_file, to_end_of_box, counted, may_be_open, sizes, LieEndToEnd, Container, IsFull, IsCounted, Tiles, StandsAfter}
-use Rattle.mp4_boxes.specs.Children.{count_among}
+use Rattle.mp4_boxes.specs.format.Box.{Box, Extent, to_end_of_file, to_end_of_box, counted, may_be_open, sizes, LieEndToEnd, Container, IsFull, IsCounted, Tiles, StandsAfter}
+use Rattle.mp4_boxes.specs.format.Children.{count_among}
 use Rattle.mp4_boxes.proofs.Tiling.{front_by_length, lies_behind, first_fits, sizes-cons, sizes-append, sizes_fit}
 
 one_more : (before more : List Box) (b : Box) → before ++ b ∷ more ≡ (before ++ b ∷ []) ++ more

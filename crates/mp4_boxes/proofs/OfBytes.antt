@@ -8,12 +8,12 @@ use Rattle.std.proofs.lemmas.List.{get_or-drop, length-take, length-drop}
 use Rattle.std.proofs.lemmas.Int.{ints}
 use Rattle.byteorder.specs.Endian.{twos_complement}
 use Rattle.byteorder.specs.Numbers.{big_from-lt}
-use Rattle.mp4_boxes.specs.Bytes.{AreBytes, field, numbers, rows, width_of}
+use Rattle.mp4_boxes.specs.format.Bytes.{AreBytes, field, numbers, rows, width_of}
 use Rattle.mp4_boxes.specs.declared.fault.Kind.{Kind}
 use Rattle.mp4_boxes.specs.declared.fault.Kind.TheVariants.{BadSize, Overrun}
-use Rattle.mp4_boxes.specs.Box.{Box, Header, fitting, header_at, box_of, size, LieEndToEnd, Container, may_be_open, Tiles}
-use Rattle.mp4_boxes.specs.Children.{of_kind, payload_if, payload_of}
-use Rattle.mp4_boxes.specs.Layout.{time_width}
+use Rattle.mp4_boxes.specs.format.Box.{Box, Header, fitting, header_at, box_of, size, LieEndToEnd, Container, may_be_open, Tiles}
+use Rattle.mp4_boxes.specs.format.Children.{of_kind, payload_if, payload_of}
+use Rattle.mp4_boxes.specs.format.Layout.{time_width}
 use Rattle.mp4_boxes.proofs.Each.{each_of_kind}
 use Rattle.mp4_boxes.proofs.Tiling.{header_is}
 

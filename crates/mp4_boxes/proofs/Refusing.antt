@@ -3,10 +3,10 @@ use Rattle.std.proofs.Common.{◌≡◌, ℕ, ◌+◌, ◌<◌, ◌≤◌, ltb, 
 use Rattle.std.specs.Prelude.{find, IsTrue, not, ◌&&◌, ◌||◌, nat_lt}
 use Rattle.std.specs.List.{AllByRecursion, list_any}
 use Rattle.std.proofs.lemmas.Bool.{ltb-true, ltb-false}
-use Rattle.mp4_boxes.specs.Box.{Box, Container, StandsAfter, Tiles}
-use Rattle.mp4_boxes.specs.Children.{Line, Quantity, one, at_most_one, any, IsQuantity, Holds, table, each, free_space, is_among, allows, is_single, is_needed, count_among}
-use Rattle.mp4_boxes.specs.Layout.{Leaf, knows_version, knows_flags, has_bad_value, is_outside_data, has_large_offset, IsSound}
-use Rattle.mp4_boxes.specs.BoxFaults.{IsNotInProfile, IsDuplicate, IsMissing, IsChildFault, Fails}
+use Rattle.mp4_boxes.specs.format.Box.{Box, Container, StandsAfter, Tiles}
+use Rattle.mp4_boxes.specs.format.Children.{Line, Quantity, one, at_most_one, any, IsQuantity, Holds, table, each, free_space, is_among, allows, is_single, is_needed, count_among}
+use Rattle.mp4_boxes.specs.format.Layout.{Leaf, knows_version, knows_flags, has_bad_value, is_outside_data, has_large_offset, IsSound}
+use Rattle.mp4_boxes.specs.format.BoxFaults.{IsNotInProfile, IsDuplicate, IsMissing, IsChildFault, Fails}
 use Rattle.mp4_boxes.specs.declared.rule.Rule.{Rule}
 use Rattle.mp4_boxes.specs.declared.fault.Fault.{Fault}
 use Rattle.mp4_boxes.specs.declared.fault.Kind.{Kind}

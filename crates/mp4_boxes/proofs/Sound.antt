@@ -3,10 +3,10 @@ use Rattle.std.proofs.Common.{◌≡◌, ℕ, ◌+◌, Bool, true, false, cond, 
 use Rattle.std.specs.Prelude.{bytes_eq, IfSome}
 use Rattle.std.specs.List.{AllByRecursion}
 use Rattle.std.proofs.lemmas.Slice.Eq.{bytes_eq-Decides}
-use Rattle.mp4_boxes.specs.Box.{Box}
-use Rattle.mp4_boxes.specs.Children.{count_among, of_kind, payload_if, payload_of}
-use Rattle.mp4_boxes.specs.Layout.{Leaf, IsSound}
-use Rattle.mp4_boxes.specs.Places.{Scope, leaf_of, IsSoundAs, AreSound}
+use Rattle.mp4_boxes.specs.format.Box.{Box}
+use Rattle.mp4_boxes.specs.format.Children.{count_among, of_kind, payload_if, payload_of}
+use Rattle.mp4_boxes.specs.format.Layout.{Leaf, IsSound}
+use Rattle.mp4_boxes.specs.format.Places.{Scope, leaf_of, IsSoundAs, AreSound}
 use Rattle.mp4_boxes.proofs.Each.{each_weaker, each_of_kind}
 
 -- a type that passes the test is that type

@@ -1,9 +1,9 @@
 -- Files as hexadecimal text, and the first facts about them, each by computation.
 use Rattle.std.specs.Prelude.{◌≡◌, ℕ, ◌+◌, ◌-◌, ◌*◌, List, [], ◌∷◌, length, take, drop, codes, refl, nat_le, if◌then◌else◌, Ok, Err, true}
 use Rattle.std.proofs.Common.{lit≤}
-use Rattle.mp4_boxes.specs.Box.{Box, header_at, file_container, box_container}
-use Rattle.mp4_boxes.specs.Children.{Holds}
-use Rattle.mp4_boxes.specs.Layout.{mvhd, leaf_fields, IsReadable}
+use Rattle.mp4_boxes.specs.format.Box.{Box, header_at, file_container, box_container}
+use Rattle.mp4_boxes.specs.format.Children.{Holds}
+use Rattle.mp4_boxes.specs.format.Layout.{mvhd, leaf_fields, IsReadable}
 use Rattle.mp4_boxes.specs.declared.fault.Kind.TheVariants.{ShortHeader}
 use Rattle.mp4_boxes.specs.declared.rule.Rule.TheVariants.{File, Movie}
 

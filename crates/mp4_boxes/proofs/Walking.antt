@@ -1,9 +1,9 @@
 -- A walk over boxes that lie end to end, one header after the other.
 use Rattle.std.proofs.Common.{◌≡◌, ℕ, zero, suc, ◌+◌, ◌-◌, ◌<◌, ◌≤◌, false, List, [], ◌∷◌, ◌++◌, length, take, drop, Result, Ok, Err, IfOk, IsOk, refl, sym, ap, subst, ◌∙◌, arith, length-append, length-drop}
 use Rattle.std.proofs.lemmas.List.{drop-take, take_rest}
-use Rattle.mp4_boxes.specs.Box.{Box, Header, header_at, box_of, size, sizes, LieEndToEnd, box_and_more, first_boxes, HasBoxes}
-use Rattle.mp4_boxes.specs.Box.{Tiles, to_end_of_box}
-use Rattle.mp4_boxes.specs.BoxFaults.{IsHeaderFault, located, header_there, type_of, unreadable}
+use Rattle.mp4_boxes.specs.format.Box.{Box, Header, header_at, box_of, size, sizes, LieEndToEnd, box_and_more, first_boxes, HasBoxes}
+use Rattle.mp4_boxes.specs.format.Box.{Tiles, to_end_of_box}
+use Rattle.mp4_boxes.specs.format.BoxFaults.{IsHeaderFault, located, header_there, type_of, unreadable}
 use Rattle.mp4_boxes.specs.declared.fault.Fault.{Fault}
 use Rattle.mp4_boxes.specs.declared.fault.Kind.{Kind}
 use Rattle.mp4_boxes.proofs.Tiling.{header_is, header_kind, box_size, first_fits, lies_push, sizes-append, sizes-cons, sizes_fit}

@@ -5,11 +5,11 @@ use Rattle.std.specs.List.{AllByRecursion}
 use Rattle.std.proofs.lemmas.List.{append-nil}
 use Rattle.byteorder.specs.Endian.{big_bytes}
 use Rattle.byteorder.specs.Numbers.{length-bytes_high_first}
-use Rattle.mp4_boxes.specs.Bytes.{field}
-use Rattle.mp4_boxes.specs.Box.{Box, sizes, LieEndToEnd, box_container, counted_container, Tiles}
-use Rattle.mp4_boxes.specs.Children.{Line, IsQuantity, Holds, table, allows, is_among, count_among, of_kind, payload_if}
+use Rattle.mp4_boxes.specs.format.Bytes.{field}
+use Rattle.mp4_boxes.specs.format.Box.{Box, sizes, LieEndToEnd, box_container, counted_container, Tiles}
+use Rattle.mp4_boxes.specs.format.Children.{Line, IsQuantity, Holds, table, allows, is_among, count_among, of_kind, payload_if}
 use Rattle.std.proofs.lemmas.Slice.Eq.{bytes_eq-Decides}
-use Rattle.mp4_boxes.specs.Written.{box_bytes}
+use Rattle.mp4_boxes.specs.format.Written.{box_bytes}
 use Rattle.mp4_boxes.specs.declared.rule.Rule.{Rule}
 use Rattle.mp4_boxes.proofs.Lying.{lies}
 use Rattle.mp4_boxes.proofs.Among.{of_kind-append}

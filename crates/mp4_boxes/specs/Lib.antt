@@ -1,9 +1,2 @@
-pub mod Bytes
-pub mod Box
-pub mod View
-pub mod Children
-pub mod Lines
-pub mod Layout
-pub mod Written
-pub mod Places
-pub mod BoxFaults
+pub mod format
+pub mod words

@@ -1,9 +1,9 @@
 //! Full boxes: a version and flags in front (ISO/IEC 14496-12, 4.2.3).
 ghost use Rattle.std.specs.Prelude.{◌≡◌, ◌<◌, ◌≤◌, length, drop, IfOk, IfErr};
 ghost use Rattle.mp4_boxes.specs.declared.fault.Kind.TheVariants as kinds;
-ghost use Rattle.mp4_boxes.specs.BoxFaults.{fault_of};
-ghost use Rattle.mp4_boxes.specs.Layout.{version, flags};
-ghost use Rattle.mp4_boxes.specs.View.{box_seen};
+ghost use Rattle.mp4_boxes.specs.format.BoxFaults.{fault_of};
+ghost use Rattle.mp4_boxes.specs.format.Layout.{version, flags};
+ghost use Rattle.mp4_boxes.specs.words.View.{box_seen};
 
 use crate::fault::{Fault, Kind};
 use crate::view::BoxView;

@@ -1,7 +1,7 @@
 //! Box headers, read: of 8 or 16 bytes (ISO/IEC 14496-12, 4.2.2).
 ghost use Rattle.std.specs.Prelude.{◌≡◌, ◌+◌, ◌^◌, ◌<◌, ◌≤◌, min, length, MatchResult, IfOk, IfErr, Ok, Err, true, codes};
-ghost use Rattle.mp4_boxes.specs.BoxFaults.{header_there, type_of};
-ghost use Rattle.mp4_boxes.specs.View.{header_seen, top_header_seen};
+ghost use Rattle.mp4_boxes.specs.format.BoxFaults.{header_there, type_of};
+ghost use Rattle.mp4_boxes.specs.words.View.{header_seen, top_header_seen};
 
 use crate::fault::{Fault, Kind};
 use crate::four_cc::FourCc;

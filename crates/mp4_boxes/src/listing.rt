@@ -1,10 +1,10 @@
 //! Lists of boxes, checked as a whole before the first is handed out.
 ghost use Rattle.std.specs.Prelude.{◌≡◌, ◌+◌, ◌^◌, ◌<◌, ◌≤◌, List, length, nat_lt, IfOk, IfErr, IsOkAnd};
-ghost use Rattle.mp4_boxes.specs.Box.{Box, Tiles, HasBoxes, first_boxes, bytes_container, box_container, counted_container};
-ghost use Rattle.mp4_boxes.specs.BoxFaults.{IsHeaderFault, IsChildFault};
-ghost use Rattle.mp4_boxes.specs.Children.{Holds, count_among, repeats, lacks};
-ghost use Rattle.mp4_boxes.specs.Lines.{kinds_seen};
-ghost use Rattle.mp4_boxes.specs.View.{box_seen};
+ghost use Rattle.mp4_boxes.specs.format.Box.{Box, Tiles, HasBoxes, first_boxes, bytes_container, box_container, counted_container};
+ghost use Rattle.mp4_boxes.specs.format.BoxFaults.{IsHeaderFault, IsChildFault};
+ghost use Rattle.mp4_boxes.specs.format.Children.{Holds, count_among, repeats, lacks};
+ghost use Rattle.mp4_boxes.specs.words.Lines.{kinds_seen};
+ghost use Rattle.mp4_boxes.specs.words.View.{box_seen};
 
 use crate::fault::{Fault, Kind};
 use crate::four_cc::FourCc;

@@ -1,6 +1,6 @@
 //! Numbers in files: unsigned and two's complement, most significant byte first.
 ghost use Rattle.std.specs.Prelude.{◌≡◌, ◌+◌, ◌≤◌, length};
-ghost use Rattle.mp4_boxes.specs.Bytes.{field, signed_field};
+ghost use Rattle.mp4_boxes.specs.format.Bytes.{field, signed_field};
 
 use byteorder::{BigEndian, ByteOrder};
 

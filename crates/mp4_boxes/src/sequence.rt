@@ -1,7 +1,7 @@
 //! The boxes in a container, one after the other.
 ghost use Rattle.std.specs.Prelude.{◌≡◌, ◌+◌, ◌^◌, ◌<◌, length, drop, IsOk, IfOk, false};
 ghost use Rattle.std.specs.Iterator.{YieldsFirstBy, item_count};
-ghost use Rattle.mp4_boxes.specs.Box.{header_at, box_of};
+ghost use Rattle.mp4_boxes.specs.format.Box.{header_at, box_of};
 
 use crate::headers::kind_of;
 use crate::numbers::{u32_at, u64_at};
@@ -18,7 +18,7 @@ pub struct Children<'a> {
 
 impl<'a> Model for Children<'a> {
     ghost use Rattle.std.specs.Prelude.{◌+◌, ◌^◌, ◌<◌, List, length};
-    ghost use Rattle.mp4_boxes.specs.Box.{Box, first_boxes, HasBoxes};
+    ghost use Rattle.mp4_boxes.specs.format.Box.{Box, first_boxes, HasBoxes};
 
     ghost Value = { List Box };
 
@@ -28,7 +28,7 @@ impl<'a> Model for Children<'a> {
         × (c.base + length c.bytes.now < 2 ^ 64) };
 }
 
-ghost use Rattle.mp4_boxes.specs.View.{box_seen};
+ghost use Rattle.mp4_boxes.specs.words.View.{box_seen};
 
 // The lengths of a header that can be read and of its box.
 #[tactic(auto, using(crate::proofs::Tiling::header_is))]

@@ -14,7 +14,7 @@ pub struct BoxView<'a> {
 }
 
 impl<'a> BoxView<'a> {
-    ghost use Rattle.mp4_boxes.specs.View.{box_seen};
+    ghost use Rattle.mp4_boxes.specs.words.View.{box_seen};
 
     /// A box of this type at this place of the file, with a header of so many bytes.
     pub fn new(kind: FourCc, offset: u64, header: u8, payload: &'a [u8]) -> BoxView<'a>

@@ -1,7 +1,7 @@
 //! Box headers, written: of 8 bytes, or of 16 where 32 bits do not hold the size (ISO/IEC 14496-12,
 //! 4.2.2).
 ghost use Rattle.std.specs.Prelude.{◌≡◌, ◌+◌, ◌^◌, ◌<◌};
-ghost use Rattle.mp4_boxes.specs.Written.{header_bytes};
+ghost use Rattle.mp4_boxes.specs.format.Written.{header_bytes};
 
 use crate::four_cc::FourCc;
 use crate::spelling::Header;

@@ -4,17 +4,17 @@ use Rattle.std.specs.Prelude.{ℤ, pos, negsuc, ◌+ℤ◌, unwrap_or, IfSome, F
 use Rattle.std.specs.Int.{w32}
 use Rattle.std.proofs.Math.IntN.{sub_ℕ}
 use Rattle.std.specs.List.{AllByRecursion}
-use Rattle.mp4_tables.specs.TableRules.{lies_within}
+use Rattle.mp4_tables.specs.format.TableRules.{lies_within}
 use Rattle.byteorder.specs.Endian.{twos_complement}
-use Rattle.mp4_boxes.specs.Bytes.{AreBytes}
-use Rattle.mp4_boxes.specs.Layout.{flags, column_values, trun_columns}
+use Rattle.mp4_boxes.specs.format.Bytes.{AreBytes}
+use Rattle.mp4_boxes.specs.format.Layout.{flags, column_values, trun_columns}
 use Rattle.mp4_boxes.proofs.OfBytes.{signed_32, bytes_dropped}
-use Rattle.mp4_frag.specs.Fragments.{RunRow, Run, TrackFragment, column, run_of}
+use Rattle.mp4_frag.specs.format.Fragments.{RunRow, Run, TrackFragment, column, run_of}
 use Rattle.mp4_frag.specs.declared.heads.Inherited.{Inherited}
 use Rattle.mp4_frag.proofs.Ranges.{value_below}
-use Rattle.mp4_frag.specs.FragmentSamples.{run_samples, run_start, runs_samples, runs_end, end_of_data, base_of}
-use Rattle.mp4_frag.specs.FragmentRules.{is_within}
-use Rattle.mp4_frag.specs.Passing.{IsNearer, IsUpTo, within_from, end_from, IsRunPassed}
+use Rattle.mp4_frag.specs.format.FragmentSamples.{run_samples, run_start, runs_samples, runs_end, end_of_data, base_of}
+use Rattle.mp4_frag.specs.format.FragmentRules.{is_within}
+use Rattle.mp4_frag.specs.words.Passing.{IsNearer, IsUpTo, within_from, end_from, IsRunPassed}
 use Rattle.mp4_frag.specs.declared.trex.Trex.{Trex}
 use Rattle.mp4_frag.proofs.SamplesOfRows.{within_is, end_is}
 use Rattle.mp4_frag.proofs.RowsTied.{both}

@@ -1,10 +1,10 @@
 -- Boxes between two places of a payload, one by one.
 use Rattle.std.proofs.Common.{◌≡◌, ℕ, zero, suc, ◌+◌, ◌-◌, ◌<◌, ◌≤◌, false, List, [], ◌∷◌, length, take, drop, Result, Ok, Err, IsErr, refl, sym, ap, ◌∙◌, arith, length-take, length-drop}
 use Rattle.std.proofs.lemmas.List.{drop-drop, drop-take}
-use Rattle.mp4_boxes.specs.Box.{Box, Header, header_at, box_of, box_and_more, first_boxes}
+use Rattle.mp4_boxes.specs.format.Box.{Box, Header, header_at, box_of, box_and_more, first_boxes}
 use Rattle.mp4_boxes.specs.declared.fault.Kind.{Kind}
 use Rattle.mp4_boxes.proofs.Tiling.{header_is}
-use Rattle.mp4_frag.specs.Walks.{part_of, boxes_in, boxes_between}
+use Rattle.mp4_frag.specs.words.Walks.{part_of, boxes_in, boxes_between}
 
 none_in : (n at : ℕ) (bytes : List ℕ) → length bytes ≡ 0 → first_boxes n at bytes ≡ []
 none_in zero at bytes e = refl

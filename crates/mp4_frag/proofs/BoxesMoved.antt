@@ -1,10 +1,10 @@
 -- What boxes say does not depend on where they are said to lie.
 use Rattle.std.proofs.Common.{◌≡◌, ℕ, zero, suc, ◌+◌, false, cond, List, length, drop, Result, Ok, Err, refl, ap, ◌∙◌}
 use Rattle.std.specs.Prelude.{codes, bytes_eq}
-use Rattle.mp4_boxes.specs.Box.{Box, Header, header_at, box_of, box_and_more, first_boxes}
+use Rattle.mp4_boxes.specs.format.Box.{Box, Header, header_at, box_of, box_and_more, first_boxes}
 use Rattle.mp4_boxes.specs.declared.fault.Kind.{Kind}
 use Rattle.mp4_tables.specs.declared.sample.SampleAt.{SampleAt}
-use Rattle.mp4_frag.specs.Walks.{Walk, Reached, boxes_in, before_traf, with_leaf, with_leaves, run_coming, runs_coming, traf_coming, trafs_coming}
+use Rattle.mp4_frag.specs.words.Walks.{Walk, Reached, boxes_in, before_traf, with_leaf, with_leaves, run_coming, runs_coming, traf_coming, trafs_coming}
 
 leaves_by : (w : Walk) (s : Reached) (at to : ℕ) (bytes : List ℕ) (r : Result Header Kind) (f g : Header → List Box) → ((h : Header) (t : Reached) → with_leaves w t (f h) ≡ with_leaves w t (g h))
     → with_leaves w s (box_and_more at bytes r f) ≡ with_leaves w s (box_and_more to bytes r g)

@@ -1,10 +1,10 @@
 -- Numbers that stand in a box only where a flag says so, one by one.
 use Rattle.std.proofs.Common.{◌≡◌, ℕ, ◌+◌, List, [], ◌∷◌, drop, Bool, true, false, cond, Option, Some, None, refl, sym, ap, ◌∙◌, add-zero, arith}
 use Rattle.std.proofs.lemmas.List.{drop-drop}
-use Rattle.mp4_boxes.specs.Bytes.{field, width_of}
-use Rattle.mp4_boxes.specs.Layout.{Column, has, present, column_values, sample_columns, trun_columns, tfhd_columns}
+use Rattle.mp4_boxes.specs.format.Bytes.{field, width_of}
+use Rattle.mp4_boxes.specs.format.Layout.{Column, has, present, column_values, sample_columns, trun_columns, tfhd_columns}
 use Rattle.mp4_boxes.proofs.OfBytes.{field_dropped}
-use Rattle.mp4_frag.specs.ColumnsRead.{taken, number_if, row_room, rows_from, head_room}
+use Rattle.mp4_frag.specs.words.ColumnsRead.{taken, number_if, row_room, rows_from, head_room}
 
 -- the width of columns is that of the first, if it is there, and of the others
 pub width_step : (bits : ℕ) (c : Column) (columns : List Column) → width_of (present bits (c ∷ columns)) ≡ taken (has bits c.flag) c.width + width_of (present bits columns)

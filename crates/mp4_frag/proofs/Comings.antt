@@ -3,13 +3,13 @@ use Rattle.std.proofs.Common.{◌≡◌, ℕ, ◌+◌, ◌-◌, ◌<◌, ◌≤�
 use Rattle.std.specs.Prelude.{codes, bytes_eq}
 use Rattle.std.specs.List.{slice_get}
 use Rattle.std.proofs.lemmas.Bool.Decides.{nat_tests}
-use Rattle.mp4_boxes.specs.Box.{Box}
+use Rattle.mp4_boxes.specs.format.Box.{Box}
 use Rattle.mp4_tables.specs.declared.sample.SampleAt.{SampleAt}
-use Rattle.mp4_frag.specs.Fragments.{RunRow}
-use Rattle.mp4_frag.specs.Walks.{Walk, Reached, part_of, boxes_in, boxes_between, boxes_coming, reached, rows_here, rows_coming, run_coming, runs_coming, trafs_coming, traf_coming, before_traf, with_leaf, with_leaves, with_head, with_group, coming, sample_of, behind_row, walk_of, at_first}
+use Rattle.mp4_frag.specs.format.Fragments.{RunRow}
+use Rattle.mp4_frag.specs.words.Walks.{Walk, Reached, part_of, boxes_in, boxes_between, boxes_coming, reached, rows_here, rows_coming, run_coming, runs_coming, trafs_coming, traf_coming, before_traf, with_leaf, with_leaves, with_head, with_group, coming, sample_of, behind_row, walk_of, at_first}
 use Rattle.mp4_frag.specs.declared.places.FragPlace.{FragPlace}
 use Rattle.mp4_frag.specs.declared.state.TrackState.{TrackState}
-use Rattle.mp4_tables.specs.Keys.{keys_seen}
+use Rattle.mp4_tables.specs.words.Keys.{keys_seen}
 use Rattle.mp4_tables.specs.declared.keys.Keys.{Keys}
 use Rattle.mp4_frag.proofs.BoxPlaces.{box_end, all_boxes}
 use Rattle.mp4_frag.proofs.RowsLeft.{no_rows}

@@ -1,17 +1,17 @@
 -- How many steps the check of a `moof` takes: by what its boxes say and the samples that were passed, and by its bytes.
 use Rattle.std.proofs.Common.{◌≡◌, ℕ, zero, suc, ◌+◌, ◌*◌, ◌≤◌, true, false, Bool, cond, List, [], ◌∷◌, length, drop, map, refl, ap, ◌∙◌, arith}
 use Rattle.std.specs.Prelude.{codes, bytes_eq, slice_index}
-use Rattle.mp4_boxes.specs.Bytes.{rows, sum_of, width_of}
-use Rattle.mp4_boxes.specs.Layout.{sbgp, row_count}
-use Rattle.mp4_boxes.specs.Box.{Box, LieEndToEnd, Tiles, box_container, bytes_container, size, sizes}
-use Rattle.mp4_boxes.specs.Children.{Holds, of_kind}
+use Rattle.mp4_boxes.specs.format.Bytes.{rows, sum_of, width_of}
+use Rattle.mp4_boxes.specs.format.Layout.{sbgp, row_count}
+use Rattle.mp4_boxes.specs.format.Box.{Box, LieEndToEnd, Tiles, box_container, bytes_container, size, sizes}
+use Rattle.mp4_boxes.specs.format.Children.{Holds, of_kind}
 use Rattle.mp4_boxes.specs.declared.rule.Rule.{Rule}
 use Rattle.mp4_boxes.proofs.Tiling.{box_size, header_is, sizes-cons, sizes_fit}
-use Rattle.mp4_tables.specs.Groups.{grouping_of, groupings_of}
-use Rattle.mp4_frag.specs.Fragments.{run_of, track_fragment_of}
-use Rattle.mp4_frag.specs.RunsJudged.{children_of}
-use Rattle.mp4_frag.specs.TrafFaults.{traf_in}
-use Rattle.mp4_frag.specs.Work.{group_rows, traf_rows, fragment_rows, moof_says}
+use Rattle.mp4_tables.specs.format.Groups.{grouping_of, groupings_of}
+use Rattle.mp4_frag.specs.format.Fragments.{run_of, track_fragment_of}
+use Rattle.mp4_frag.specs.words.RunsJudged.{children_of}
+use Rattle.mp4_frag.specs.words.TrafFaults.{traf_in}
+use Rattle.mp4_frag.specs.format.FragmentRows.{group_rows, traf_rows, fragment_rows, moof_says}
 use Rattle.mp4_frag.proofs.Comings.{turned}
 
 -- a box takes 8 bytes at least

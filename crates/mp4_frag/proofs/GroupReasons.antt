@@ -3,13 +3,13 @@ use Rattle.std.proofs.Common.{◌≡◌, ℕ, false, List, [], ◌∷◌, ◌++�
 use Rattle.std.specs.Prelude.{slice_get}
 use Rattle.std.specs.List.{AllByRecursion}
 use Rattle.std.proofs.lemmas.List.{append-nil}
-use Rattle.mp4_boxes.specs.Box.{Box}
-use Rattle.mp4_boxes.specs.BoxFaults.{fault_of}
-use Rattle.mp4_boxes.specs.Layout.{sbgp, IsReadable}
+use Rattle.mp4_boxes.specs.format.Box.{Box}
+use Rattle.mp4_boxes.specs.format.BoxFaults.{fault_of}
+use Rattle.mp4_boxes.specs.format.Layout.{sbgp, IsReadable}
 use Rattle.mp4_boxes.specs.declared.fault.Fault.{Fault}
 use Rattle.mp4_boxes.specs.declared.fault.Kind.{Kind}
-use Rattle.mp4_tables.specs.Groups.{GroupKey, Grouping, GroupRule, grouping_of, groupings_of, group_test, keeps}
-use Rattle.mp4_frag.specs.GroupsJudged.{IsGroupFault, GroupsFail}
+use Rattle.mp4_tables.specs.format.Groups.{GroupKey, Grouping, GroupRule, grouping_of, groupings_of, group_test, keeps}
+use Rattle.mp4_frag.specs.words.GroupsJudged.{IsGroupFault, GroupsFail}
 
 -- the fault is of one `sbgp`, behind others that can be read
 pub record FailingGroup (n : ℕ) (keys : List GroupKey) (before : List Grouping) (boxes : List Box) (f : Fault) : Type 0 where

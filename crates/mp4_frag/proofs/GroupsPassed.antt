@@ -3,19 +3,19 @@ use Rattle.std.proofs.Common.{◌≡◌, ℕ, zero, suc, ◌≤◌, length, true
 use Rattle.std.specs.Prelude.{codes, bytes_eq, IsTrue}
 use Rattle.std.specs.List.{list_all}
 use Rattle.std.proofs.lemmas.List.{append_assoc, append-nil}
-use Rattle.mp4_boxes.specs.Bytes.{rows}
-use Rattle.mp4_boxes.specs.Box.{Box}
-use Rattle.mp4_boxes.specs.BoxFaults.{fault_of}
-use Rattle.mp4_boxes.specs.Children.{of_kind}
+use Rattle.mp4_boxes.specs.format.Bytes.{rows}
+use Rattle.mp4_boxes.specs.format.Box.{Box}
+use Rattle.mp4_boxes.specs.format.BoxFaults.{fault_of}
+use Rattle.mp4_boxes.specs.format.Children.{of_kind}
 use Rattle.mp4_boxes.specs.declared.fault.Fault.{Fault}
 use Rattle.mp4_boxes.specs.declared.fault.Kind.{Kind}
 use Rattle.mp4_boxes.specs.declared.fault.Kind.TheVariants as kinds
-use Rattle.mp4_tables.specs.Groups.{GroupKey, Grouping, GroupRule, one_of_key, few_keys, index_range, group_counts, max_index, grouping_of, groupings_of, keeps, keys_after}
-use Rattle.mp4_tables.specs.Keys.{key_seen}
-use Rattle.mp4_tables.specs.Repeated.{total}
-use Rattle.mp4_tables.specs.Rows.{run_of, runs_at}
-use Rattle.mp4_frag.specs.GroupsJudged.{IsGroupSound, AreGroupsSound, IsGroupFault, GroupsFail, AreNamed, NamesOneMore, IsNameFault, is_named_at}
-use Rattle.mp4_frag.specs.Reading.{IsGroup, group_runs}
+use Rattle.mp4_tables.specs.format.Groups.{GroupKey, Grouping, GroupRule, one_of_key, few_keys, index_range, group_counts, max_index, grouping_of, groupings_of, keeps, keys_after}
+use Rattle.mp4_tables.specs.words.Keys.{key_seen}
+use Rattle.mp4_tables.specs.format.Repeated.{total}
+use Rattle.mp4_tables.specs.words.Rows.{run_of, runs_at}
+use Rattle.mp4_frag.specs.words.GroupsJudged.{IsGroupSound, AreGroupsSound, IsGroupFault, GroupsFail, AreNamed, NamesOneMore, IsNameFault, is_named_at}
+use Rattle.mp4_frag.specs.words.Reading.{IsGroup, group_runs}
 use Rattle.mp4_frag.specs.declared.groups.Group.{Group}
 use Rattle.mp4_frag.specs.declared.groups.KeysNamed.{KeysNamed}
 use Rattle.mp4_frag.proofs.Comings.{turned}

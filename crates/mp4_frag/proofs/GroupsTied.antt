@@ -4,14 +4,14 @@ use Rattle.std.specs.Prelude.{min, nat_le, slice_set, IsTrue}
 use Rattle.std.specs.List.{AllByRecursion, list_any, list_all, slice_get, position_from}
 use Rattle.std.proofs.lemmas.Bool.{or_parts}
 use Rattle.std.proofs.lemmas.Bool.Decides.{nat_tests}
-use Rattle.mp4_tables.specs.Groups.{GroupKey, Grouping, Groups, GroupRule, one_of_key, index_range, group_counts, max_index, group_test, keeps, same_key, index_at, put_indexes, maps_of}
-use Rattle.mp4_tables.specs.Keys.{key_place}
-use Rattle.mp4_tables.specs.Repeated.{repeated, total}
-use Rattle.mp4_tables.specs.Timed.{padded, indexes}
-use Rattle.mp4_tables.specs.Accepted.{AreDistinct}
+use Rattle.mp4_tables.specs.format.Groups.{GroupKey, Grouping, Groups, GroupRule, one_of_key, index_range, group_counts, max_index, group_test, keeps, same_key, index_at, put_indexes, maps_of}
+use Rattle.mp4_tables.specs.words.Keys.{key_place}
+use Rattle.mp4_tables.specs.format.Repeated.{repeated, total}
+use Rattle.mp4_tables.specs.words.Timed.{padded, indexes}
+use Rattle.mp4_tables.specs.words.Accepted.{AreDistinct}
 use Rattle.mp4_tables.proofs.SampleLists.{NotIn, put_one, put_not_in, absent, put_there, put_beside, same_both, maps_length}
 use Rattle.mp4_frag.proofs.RowsTied.{both}
-use Rattle.mp4_frag.specs.Walks.{low_half, with_key, no_indexes}
+use Rattle.mp4_frag.specs.words.Walks.{low_half, with_key, no_indexes}
 
 -- ---- one index in the map of a sample
 

@@ -1,13 +1,13 @@
 -- The boxes of which a `traf` has one.
 use Rattle.std.proofs.Common.{◌≡◌, ℕ, ◌+◌, ◌≤◌, ◌||◌, Bool, true, false, cond, List, [], ◌∷◌, length, Option, Some, None, refl, sym, ap, ◌∙◌, arith}
 use Rattle.std.specs.Prelude.{codes, bytes_eq}
-use Rattle.mp4_boxes.specs.Box.{Box, box_container}
-use Rattle.mp4_boxes.specs.Children.{of_kind, count_among, Holds}
+use Rattle.mp4_boxes.specs.format.Box.{Box, box_container}
+use Rattle.mp4_boxes.specs.format.Children.{of_kind, count_among, Holds}
 use Rattle.mp4_boxes.specs.declared.rule.Rule.TheVariants as rules
 use Rattle.mp4_boxes.specs.declared.rule.Rule.{Rule}
-use Rattle.mp4_tables.specs.Leaves.{boxes_of}
+use Rattle.mp4_tables.specs.words.Leaves.{boxes_of}
 use Rattle.mp4_tables.proofs.LeafLists.{boxes_are}
-use Rattle.mp4_frag.specs.RunsJudged.{children_of, only_list}
+use Rattle.mp4_frag.specs.words.RunsJudged.{children_of, only_list}
 use Rattle.mp4_frag.proofs.Comings.{turned}
 
 -- the last box, or what came before them

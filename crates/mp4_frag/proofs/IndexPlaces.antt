@@ -1,12 +1,12 @@
 -- The indexes left of an `sbgp`, row by row.
 use Rattle.std.proofs.Common.{◌≡◌, ℕ, zero, suc, ◌+◌, ◌-◌, ◌<◌, List, [], ◌∷◌, ◌++◌, drop, map, replicate, slice_index, refl, ap, sym, ◌∙◌, arith}
 use Rattle.std.proofs.lemmas.List.{drop-drop}
-use Rattle.mp4_boxes.specs.Bytes.{field, rows}
+use Rattle.mp4_boxes.specs.format.Bytes.{field, rows}
 use Rattle.mp4_boxes.proofs.OfBytes.{field_dropped}
-use Rattle.mp4_tables.specs.Repeated.{repeated}
-use Rattle.mp4_tables.specs.Rows.{run_of, runs_at}
-use Rattle.mp4_frag.specs.PlacesIn.{AreIndexPlaces}
-use Rattle.mp4_frag.specs.Walks.{low_half, indexes_here, all_indexes}
+use Rattle.mp4_tables.specs.format.Repeated.{repeated}
+use Rattle.mp4_tables.specs.words.Rows.{run_of, runs_at}
+use Rattle.mp4_frag.specs.words.PlacesIn.{AreIndexPlaces}
+use Rattle.mp4_frag.specs.words.Walks.{low_half, indexes_here, all_indexes}
 use Rattle.mp4_frag.specs.declared.places.IndexPlace.{IndexPlace}
 use Rattle.mp4_frag.specs.declared.places.IndexPlaces.{IndexPlaces}
 

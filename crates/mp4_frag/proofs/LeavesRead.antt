@@ -2,19 +2,19 @@
 use Rattle.std.proofs.Common.{◌≡◌, ℕ, zero, suc, ◌+◌, ◌*◌, ◌<◌, ◌≤◌, drop, slice_index_or, ◌&&◌, Bool, true, false, cond, List, [], ◌∷◌, length, map, Option, Some, None, nat_le, refl, sym, ap, ◌∙◌, rules, arith}
 use Rattle.std.specs.Prelude.{ℤ}
 use Rattle.std.specs.List.{slice_get}
-use Rattle.mp4_boxes.specs.Layout.{Leaf, tfhd, trun, sbgp, knows_version, knows_flags, needed, IsReadable}
-use Rattle.mp4_tables.specs.Groups.{GroupKey, key_of}
-use Rattle.mp4_tables.specs.Keys.{key_seen, key_place}
-use Rattle.mp4_tables.specs.Repeated.{repeated}
-use Rattle.mp4_tables.specs.Rows.{runs_at}
+use Rattle.mp4_boxes.specs.format.Layout.{Leaf, tfhd, trun, sbgp, knows_version, knows_flags, needed, IsReadable}
+use Rattle.mp4_tables.specs.format.Groups.{GroupKey, key_of}
+use Rattle.mp4_tables.specs.words.Keys.{key_seen, key_place}
+use Rattle.mp4_tables.specs.format.Repeated.{repeated}
+use Rattle.mp4_tables.specs.words.Rows.{runs_at}
 use Rattle.mp4_tables.specs.declared.sample.SampleAt.{SampleAt}
-use Rattle.mp4_frag.specs.ColumnsRead.{row_room}
-use Rattle.mp4_frag.specs.Fragments.{RunRow, run_of, run_rows}
+use Rattle.mp4_frag.specs.words.ColumnsRead.{row_room}
+use Rattle.mp4_frag.specs.format.Fragments.{RunRow, run_of, run_rows}
 use Rattle.mp4_frag.proofs.BoxPlaces.{part_length}
-use Rattle.mp4_frag.specs.Looks.{over_run}
-use Rattle.mp4_frag.specs.Reading.{IsGroup, IsHead, IsRun, as_traf, head_values}
-use Rattle.mp4_frag.specs.Walks.{can_read, low_half, indexes_of, with_indexes, with_group, part_of, Walk, Reached, head_of, with_trex, trex_among, with_head, rows_here, rows_of, rows_coming, run_coming, begin, end_held}
-use Rattle.mp4_boxes.specs.BoxFaults.{Fails}
+use Rattle.mp4_frag.specs.words.Looks.{over_run}
+use Rattle.mp4_frag.specs.words.Reading.{IsGroup, IsHead, IsRun, as_traf, head_values}
+use Rattle.mp4_frag.specs.words.Walks.{can_read, low_half, indexes_of, with_indexes, with_group, part_of, Walk, Reached, head_of, with_trex, trex_among, with_head, rows_here, rows_of, rows_coming, run_coming, begin, end_held}
+use Rattle.mp4_boxes.specs.format.BoxFaults.{Fails}
 use Rattle.mp4_boxes.specs.declared.fault.Kind.{Kind}
 use Rattle.mp4_boxes.specs.declared.fault.Kind.TheVariants as kinds
 use Rattle.mp4_frag.specs.declared.heads.Head.{Head}

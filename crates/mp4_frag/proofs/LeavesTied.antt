@@ -3,17 +3,17 @@ use Rattle.std.proofs.Common.{◌≡◌, ℕ, ◌+◌, ◌≤◌, ◌==◌, ◌|
 use Rattle.std.specs.Prelude.{ℤ, codes, bytes_eq, unwrap_or}
 use Rattle.std.specs.List.{AllByRecursion}
 use Rattle.std.proofs.lemmas.Slice.Eq.{bytes_eq-Decides}
-use Rattle.mp4_boxes.specs.Bytes.{rows}
-use Rattle.mp4_boxes.specs.Box.{Box}
-use Rattle.mp4_boxes.specs.Children.{count_among, of_kind, payload_if, payload_of}
-use Rattle.mp4_boxes.specs.Layout.{tfhd, sbgp, IsReadable}
-use Rattle.mp4_tables.specs.Groups.{GroupKey, Grouping, grouping_of, groupings_of, key_of, max_index}
-use Rattle.mp4_tables.specs.Keys.{key_place}
-use Rattle.mp4_tables.specs.Repeated.{repeated}
-use Rattle.mp4_tables.specs.Rows.{runs_at}
-use Rattle.mp4_frag.specs.Fragments.{TrackFragment, track_fragment_of}
-use Rattle.mp4_frag.specs.FragmentSamples.{base_of}
-use Rattle.mp4_frag.specs.Walks.{Walk, Reached, low_half, indexes_of, with_key, with_group, with_head, with_leaves, head_of, trex_among}
+use Rattle.mp4_boxes.specs.format.Bytes.{rows}
+use Rattle.mp4_boxes.specs.format.Box.{Box}
+use Rattle.mp4_boxes.specs.format.Children.{count_among, of_kind, payload_if, payload_of}
+use Rattle.mp4_boxes.specs.format.Layout.{tfhd, sbgp, IsReadable}
+use Rattle.mp4_tables.specs.format.Groups.{GroupKey, Grouping, grouping_of, groupings_of, key_of, max_index}
+use Rattle.mp4_tables.specs.words.Keys.{key_place}
+use Rattle.mp4_tables.specs.format.Repeated.{repeated}
+use Rattle.mp4_tables.specs.words.Rows.{runs_at}
+use Rattle.mp4_frag.specs.format.Fragments.{TrackFragment, track_fragment_of}
+use Rattle.mp4_frag.specs.format.FragmentSamples.{base_of}
+use Rattle.mp4_frag.specs.words.Walks.{Walk, Reached, low_half, indexes_of, with_key, with_group, with_head, with_leaves, head_of, trex_among}
 use Rattle.mp4_frag.specs.declared.heads.Inherited.{Inherited}
 use Rattle.mp4_frag.specs.declared.trex.Trex.{Trex}
 use Rattle.mp4_frag.proofs.LeavesRead.{read}

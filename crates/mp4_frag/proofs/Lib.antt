@@ -43,3 +43,4 @@ pub mod ColumnValues
 pub mod Trees
 pub mod Ranges
 pub mod Vectors
+pub mod DurationsKept

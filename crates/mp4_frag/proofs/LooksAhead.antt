@@ -1,11 +1,11 @@
 -- Boxes of a `moof` that are passed by looks, one by one, and what that costs.
 use Rattle.std.proofs.Common.{◌≡◌, ℕ, zero, suc, ◌+◌, ◌-◌, ◌<◌, ◌≤◌, Bool, true, false, cond, List, [], ◌∷◌, length, drop, ◌⊎◌, inl, inr, refl, sym, ap, subst, ◌∙◌, arith}
 use Rattle.std.specs.Prelude.{codes, bytes_eq}
-use Rattle.mp4_boxes.specs.Box.{Box}
-use Rattle.mp4_frag.specs.Looks.{is_named, is_based, AreOthers, looks, over_work}
-use Rattle.mp4_frag.specs.PlacesIn.{runs_work, groups_work, traf_work, trafs_work, work_behind, moof_work}
-use Rattle.mp4_frag.specs.RunsJudged.{children_of}
-use Rattle.mp4_frag.specs.Walks.{Walk, Reached, boxes_between, before_traf, with_leaves, runs_coming, trafs_coming, boxes_coming, coming, reached}
+use Rattle.mp4_boxes.specs.format.Box.{Box}
+use Rattle.mp4_frag.specs.words.Looks.{is_named, is_based, AreOthers, looks, over_work}
+use Rattle.mp4_frag.specs.words.PlacesIn.{runs_work, groups_work, traf_work, trafs_work, work_behind, moof_work}
+use Rattle.mp4_frag.specs.words.RunsJudged.{children_of}
+use Rattle.mp4_frag.specs.words.Walks.{Walk, Reached, boxes_between, before_traf, with_leaves, runs_coming, trafs_coming, boxes_coming, coming, reached}
 use Rattle.mp4_frag.specs.declared.places.FragPlace.{FragPlace}
 use Rattle.mp4_tables.specs.declared.sample.SampleAt.{SampleAt}
 use Rattle.mp4_frag.proofs.Comings.{turned, box_at_place, boxes_inside, rows_done, traf_box, over_at, none_to_come}

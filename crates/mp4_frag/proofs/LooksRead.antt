@@ -1,15 +1,15 @@
 -- What a look finds in the `tfhd`s of a `traf`.
 use Rattle.std.proofs.Common.{◌≡◌, ℕ, ◌==◌, ◌&&◌, ◌||◌, Bool, true, false, List, [], ◌∷◌, length, nat_le, refl, sym, ap, ◌∙◌, rules}
 use Rattle.std.specs.Prelude.{codes, bytes_eq}
-use Rattle.mp4_boxes.specs.Box.{Box}
-use Rattle.mp4_boxes.specs.BoxFaults.{Fails}
-use Rattle.mp4_boxes.specs.Layout.{tfhd, knows_version, knows_flags, needed}
+use Rattle.mp4_boxes.specs.format.Box.{Box}
+use Rattle.mp4_boxes.specs.format.BoxFaults.{Fails}
+use Rattle.mp4_boxes.specs.format.Layout.{tfhd, knows_version, knows_flags, needed}
 use Rattle.mp4_boxes.specs.declared.fault.Kind.{Kind}
 use Rattle.mp4_boxes.specs.declared.fault.Kind.TheVariants as kinds
-use Rattle.mp4_frag.specs.Fragments.{TrackFragment}
-use Rattle.mp4_frag.specs.Looks.{names, has_base, is_named, is_based}
-use Rattle.mp4_frag.specs.Reading.{IsHead}
-use Rattle.mp4_frag.specs.Walks.{can_read, head_of, part_of, boxes_between}
+use Rattle.mp4_frag.specs.format.Fragments.{TrackFragment}
+use Rattle.mp4_frag.specs.words.Looks.{names, has_base, is_named, is_based}
+use Rattle.mp4_frag.specs.words.Reading.{IsHead}
+use Rattle.mp4_frag.specs.words.Walks.{can_read, head_of, part_of, boxes_between}
 use Rattle.mp4_frag.specs.declared.heads.Head.{Head}
 use Rattle.mp4_frag.proofs.Comings.{turned, box_at_place}
 use Rattle.mp4_frag.proofs.LeavesRead.{read, head_is, nothing, nor_then}

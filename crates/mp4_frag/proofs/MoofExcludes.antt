@@ -2,27 +2,27 @@
 use Rattle.std.proofs.Common.{◌≡◌, ℕ, zero, suc, ◌+◌, ◌-◌, ◌<◌, ◌==◌, List, [], ◌∷◌, ◌++◌, length, map, Option, Some, None, IsTrue, inl, inr, refl, sym, ap, subst, ◌∙◌, arith, slice_set}
 use Rattle.std.specs.Prelude.{ℤ, pos, codes, find, unwrap_or, option_map, slice_get}
 use Rattle.std.specs.List.{AllByRecursion}
-use Rattle.mp4_boxes.specs.Box.{Box, box_container}
-use Rattle.mp4_boxes.specs.Children.{of_kind}
-use Rattle.mp4_boxes.specs.Layout.{Leaf, tfhd, tfdt, trun, sbgp, row_count, IsSound}
-use Rattle.mp4_boxes.specs.Places.{ruled, AreSound, leaf_of}
+use Rattle.mp4_boxes.specs.format.Box.{Box, box_container}
+use Rattle.mp4_boxes.specs.format.Children.{of_kind}
+use Rattle.mp4_boxes.specs.format.Layout.{Leaf, tfhd, tfdt, trun, sbgp, row_count, IsSound}
+use Rattle.mp4_boxes.specs.format.Places.{ruled, AreSound, leaf_of}
 use Rattle.mp4_boxes.specs.declared.rule.Rule.TheVariants as rules
 use Rattle.mp4_boxes.specs.declared.fault.Fault.{Fault}
 use Rattle.mp4_boxes.proofs.Among.{all_at, true_false}
 use Rattle.mp4_boxes.proofs.Refusing.{child_fault_refuses, unsound}
 use Rattle.mp4_boxes.proofs.Sound.{sound_each}
-use Rattle.mp4_tables.specs.Groups.{group_test, groupings_of}
-use Rattle.mp4_tables.specs.Keys.{keys_seen}
-use Rattle.mp4_tables.specs.TableRules.{is_index}
-use Rattle.mp4_frag.specs.Fragments.{AreTrafs, TrackFragment, track_fragment_of}
-use Rattle.mp4_frag.specs.FragmentSamples.{part_samples, parts_after, base_of, runs_samples, is_on_time}
-use Rattle.mp4_frag.specs.FragmentRules.{is_within}
-use Rattle.mp4_frag.specs.GroupsJudged.{groups_in}
-use Rattle.mp4_frag.specs.Judged.{own_trexes, IsAcceptable, IsPlacedWithin, IsMovedOn, AreMovedOn, TrackSeen, track_seen, track_behind, part_with, end_with}
-use Rattle.mp4_frag.specs.Reading.{inheritance}
-use Rattle.mp4_frag.specs.RunsJudged.{children_of, runs_in, runs_total, all_end}
-use Rattle.mp4_frag.specs.TrafFaults.{HoldsBoxes, IsTrackOf, IsOnly, traf_in, TrafFails, TrafsFail, MoofFails, children_fail, head_fails, no_track, time_fails, runs_fail, no_description, groups_fail, not_due}
-use Rattle.mp4_frag.specs.Walks.{trex_among}
+use Rattle.mp4_tables.specs.format.Groups.{group_test, groupings_of}
+use Rattle.mp4_tables.specs.words.Keys.{keys_seen}
+use Rattle.mp4_tables.specs.format.TableRules.{is_index}
+use Rattle.mp4_frag.specs.format.Fragments.{AreTrafs, TrackFragment, track_fragment_of}
+use Rattle.mp4_frag.specs.format.FragmentSamples.{part_samples, parts_after, base_of, runs_samples, is_on_time}
+use Rattle.mp4_frag.specs.format.FragmentRules.{is_within}
+use Rattle.mp4_frag.specs.words.GroupsJudged.{groups_in}
+use Rattle.mp4_frag.specs.words.Judged.{own_trexes, IsAcceptable, IsPlacedWithin, IsMovedOn, AreMovedOn, TrackSeen, track_seen, track_behind, part_with, end_with}
+use Rattle.mp4_frag.specs.words.Reading.{inheritance}
+use Rattle.mp4_frag.specs.words.RunsJudged.{children_of, runs_in, runs_total, all_end}
+use Rattle.mp4_frag.specs.words.TrafFaults.{HoldsBoxes, IsTrackOf, IsOnly, traf_in, TrafFails, TrafsFail, MoofFails, children_fail, head_fails, no_track, time_fails, runs_fail, no_description, groups_fail, not_due}
+use Rattle.mp4_frag.specs.words.Walks.{trex_among}
 use Rattle.mp4_frag.specs.declared.state.TrackState.{TrackState}
 use Rattle.mp4_frag.specs.declared.trex.Trex.{Trex}
 use Rattle.mp4_frag.proofs.GroupReasons.{FailingGroup, failing_group, rule_broken}

@@ -2,19 +2,19 @@
 use Rattle.std.proofs.Common.{◌≡◌, ℕ, suc, ◌+◌, ◌*◌, ◌^◌, ◌<◌, ◌≤◌, true, false, List, [], ◌∷◌, length, map, Option, Some, None, IsTrue, inl, inr, refl, sym, ap, subst, ◌∙◌, arith}
 use Rattle.std.specs.Prelude.{ℤ, pos, codes, bytes_eq, unwrap_or, option_map, is_some, ⊤}
 use Rattle.std.specs.List.{AllByRecursion}
-use Rattle.mp4_boxes.specs.Box.{Box, box_container}
-use Rattle.mp4_boxes.specs.Children.{of_kind, Holds}
-use Rattle.mp4_boxes.specs.Places.{ruled, AreSound}
+use Rattle.mp4_boxes.specs.format.Box.{Box, box_container}
+use Rattle.mp4_boxes.specs.format.Children.{of_kind, Holds}
+use Rattle.mp4_boxes.specs.format.Places.{ruled, AreSound}
 use Rattle.mp4_boxes.specs.declared.rule.Rule.TheVariants as rules
 use Rattle.mp4_boxes.proofs.Each.{each_weaker}
-use Rattle.mp4_frag.specs.Fragments.{FragmentTree, AreTrafs, fragment_of, track_fragment_of}
-use Rattle.mp4_frag.specs.FragmentSamples.{Part, parts_of, parts_after, trex_for, no_trex}
-use Rattle.mp4_frag.specs.Judged.{is_known_among, IsPlacedWithin, IsGrouped, IsSoundMoof, IsTrafSound, IsMovedOn, AreMovedOn, end_with, tree_of}
-use Rattle.mp4_frag.specs.Passing.{IsUpTo}
-use Rattle.mp4_frag.specs.RunsJudged.{children_of}
+use Rattle.mp4_frag.specs.format.Fragments.{FragmentTree, AreTrafs, fragment_of, track_fragment_of}
+use Rattle.mp4_frag.specs.format.FragmentSamples.{Part, parts_of, parts_after, trex_for, no_trex}
+use Rattle.mp4_frag.specs.words.Judged.{is_known_among, IsPlacedWithin, IsGrouped, IsSoundMoof, IsTrafSound, IsMovedOn, AreMovedOn, end_with, tree_of}
+use Rattle.mp4_frag.specs.words.Passing.{IsUpTo}
+use Rattle.mp4_frag.specs.words.RunsJudged.{children_of}
 use Rattle.mp4_boxes.specs.declared.fault.Fault.{Fault}
-use Rattle.mp4_frag.specs.TrafFaults.{HoldsBoxes, TrafFails, TrafsFail}
-use Rattle.mp4_frag.specs.Walks.{trex_among}
+use Rattle.mp4_frag.specs.words.TrafFaults.{HoldsBoxes, TrafFails, TrafsFail}
+use Rattle.mp4_frag.specs.words.Walks.{trex_among}
 use Rattle.mp4_frag.specs.declared.state.TrackState.{TrackState}
 use Rattle.mp4_frag.specs.declared.trex.Trex.{Trex}
 use Rattle.mp4_frag.proofs.Comings.{turned}

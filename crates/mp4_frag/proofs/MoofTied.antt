@@ -2,22 +2,22 @@
 use Rattle.std.proofs.Common.{◌≡◌, ℕ, suc, ◌+◌, ◌^◌, ◌<◌, ◌≤◌, Bool, true, false, cond, List, [], ◌∷◌, length, drop, ap, ◌∙◌, arith}
 use Rattle.std.specs.Prelude.{codes, bytes_eq}
 use Rattle.std.specs.List.{AllByRecursion}
-use Rattle.mp4_boxes.specs.Bytes.{AreBytes}
-use Rattle.mp4_boxes.specs.Box.{Box, box_container, size, sizes, LieEndToEnd}
-use Rattle.mp4_boxes.specs.Children.{of_kind}
-use Rattle.mp4_boxes.specs.Places.{ruled, AreSound}
+use Rattle.mp4_boxes.specs.format.Bytes.{AreBytes}
+use Rattle.mp4_boxes.specs.format.Box.{Box, box_container, size, sizes, LieEndToEnd}
+use Rattle.mp4_boxes.specs.format.Children.{of_kind}
+use Rattle.mp4_boxes.specs.format.Places.{ruled, AreSound}
 use Rattle.mp4_boxes.specs.declared.rule.Rule.TheVariants as rules
 use Rattle.mp4_boxes.proofs.OfBytes.{IsOfBytes, tiled_of_bytes, payloads_of_bytes}
 use Rattle.mp4_boxes.proofs.Tiling.{first_fits, sizes-cons}
-use Rattle.mp4_tables.specs.Groups.{GroupKey}
-use Rattle.mp4_tables.specs.Accepted.{AreDistinct}
-use Rattle.mp4_tables.specs.Leaves.{boxes_of}
-use Rattle.mp4_tables.specs.Timed.{timed}
+use Rattle.mp4_tables.specs.format.Groups.{GroupKey}
+use Rattle.mp4_tables.specs.words.Accepted.{AreDistinct}
+use Rattle.mp4_tables.specs.words.Leaves.{boxes_of}
+use Rattle.mp4_tables.specs.words.Timed.{timed}
 use Rattle.mp4_tables.proofs.LeafLists.{boxes_are}
-use Rattle.mp4_frag.specs.Fragments.{FragmentTree, AreTrafs}
-use Rattle.mp4_frag.specs.FragmentSamples.{duration_of}
-use Rattle.mp4_frag.specs.Judged.{AreTrexesOf, IsSoundMoof, samples_of_track}
-use Rattle.mp4_frag.specs.Walks.{Walk, boxes_in, at_first, trafs_coming, samples_in}
+use Rattle.mp4_frag.specs.format.Fragments.{FragmentTree, AreTrafs}
+use Rattle.mp4_frag.specs.format.FragmentSamples.{duration_of}
+use Rattle.mp4_frag.specs.words.Judged.{AreTrexesOf, IsSoundMoof, samples_of_track}
+use Rattle.mp4_frag.specs.words.Walks.{Walk, boxes_in, at_first, trafs_coming, samples_in}
 use Rattle.mp4_frag.specs.declared.state.TrackState.{TrackState}
 use Rattle.mp4_frag.specs.declared.trex.Trex.{Trex}
 use Rattle.mp4_frag.proofs.BoxesMoved.{trafs_moved}

@@ -4,11 +4,11 @@ use Rattle.std.specs.List.{list_any, position_from}
 use Rattle.std.proofs.lemmas.List.{map-append}
 use Rattle.std.proofs.lemmas.List.Folds.{list_any-append}
 use Rattle.std.proofs.lemmas.Bool.Decides.{nat_tests}
-use Rattle.mp4_tables.specs.Groups.{GroupKey, Grouping, one_of_key, few_keys, keeps, same_key, keys_with, keys_after, max_keys}
-use Rattle.mp4_tables.specs.Keys.{key_place}
+use Rattle.mp4_tables.specs.format.Groups.{GroupKey, Grouping, one_of_key, few_keys, keeps, same_key, keys_with, keys_after, max_keys}
+use Rattle.mp4_tables.specs.words.Keys.{key_place}
 use Rattle.mp4_tables.proofs.KeyLists.{not_named_yet, named_before}
 use Rattle.mp4_tables.proofs.SampleLists.{same_both}
-use Rattle.mp4_frag.specs.GroupsJudged.{is_named_at, with_name, AreNamed, NamesOneMore}
+use Rattle.mp4_frag.specs.words.GroupsJudged.{is_named_at, with_name, AreNamed, NamesOneMore}
 use Rattle.mp4_frag.specs.declared.groups.KeysNamed.{KeysNamed}
 
 -- ---- places of keys

@@ -3,11 +3,11 @@ use Rattle.std.proofs.Common.{◌≡◌, ℕ, ◌==◌, Bool, true, false, List,
 use Rattle.std.specs.List.{AllByRecursion}
 use Rattle.std.specs.Prelude.{ℤ, pos, ◌+ℤ◌, unwrap_or}
 use Rattle.std.proofs.lemmas.Bool.{eqb-true}
-use Rattle.mp4_tables.specs.PlainSamples.{PlacedSample}
-use Rattle.mp4_frag.specs.Fragments.{RunRow, Run, TrackFragment, FragmentTree, fragment_of}
-use Rattle.mp4_frag.specs.FragmentSamples.{Part, parts_of, parts_after, inherited, flags_of, run_samples, run_start, runs_samples, runs_end, end_of_data, base_of, trex_for, no_trex}
-use Rattle.mp4_frag.specs.Judged.{AreTrexesOf, IsSoundMoof, IsPlacedWithin, IsGrouped, is_known_among, own_trexes, part_with, end_with}
-use Rattle.mp4_frag.specs.Walks.{trex_among}
+use Rattle.mp4_tables.specs.format.PlainSamples.{PlacedSample}
+use Rattle.mp4_frag.specs.format.Fragments.{RunRow, Run, TrackFragment, FragmentTree, fragment_of}
+use Rattle.mp4_frag.specs.format.FragmentSamples.{Part, parts_of, parts_after, inherited, flags_of, run_samples, run_start, runs_samples, runs_end, end_of_data, base_of, trex_for, no_trex}
+use Rattle.mp4_frag.specs.words.Judged.{AreTrexesOf, IsSoundMoof, IsPlacedWithin, IsGrouped, is_known_among, own_trexes, part_with, end_with}
+use Rattle.mp4_frag.specs.words.Walks.{trex_among}
 use Rattle.mp4_frag.specs.declared.state.TrackState.{TrackState}
 use Rattle.mp4_frag.specs.declared.trex.Trex.{Trex}
 use Rattle.mp4_frag.proofs.TrafsTied.{trex_found, some_known}

@@ -3,16 +3,16 @@ use Rattle.std.proofs.Common.{◌≡◌, ℕ, ◌<◌, ◌==◌, ◌&&◌, not, 
 use Rattle.std.specs.Prelude.{ℤ, codes, unwrap_or, option_map, flat_map, ◌||◌}
 use Rattle.std.specs.List.{list_all}
 use Rattle.std.proofs.lemmas.Bool.{and_parts, ltb-true}
-use Rattle.mp4_boxes.specs.Box.{Box}
-use Rattle.mp4_boxes.specs.Children.{of_kind}
-use Rattle.mp4_tables.specs.Groups.{maps_of}
-use Rattle.mp4_tables.specs.PlainSamples.{PlacedSample}
-use Rattle.mp4_frag.specs.Fragments.{TrackFragment, track_fragment_of}
-use Rattle.mp4_frag.specs.FragmentSamples.{part_samples, has_samples, is_on_time, base_of}
-use Rattle.mp4_frag.specs.Judged.{part_with}
-use Rattle.mp4_frag.specs.Passing.{is_late_at}
-use Rattle.mp4_frag.specs.Reading.{inheritance}
-use Rattle.mp4_frag.specs.RunsJudged.{runs_total}
+use Rattle.mp4_boxes.specs.format.Box.{Box}
+use Rattle.mp4_boxes.specs.format.Children.{of_kind}
+use Rattle.mp4_tables.specs.format.Groups.{maps_of}
+use Rattle.mp4_tables.specs.format.PlainSamples.{PlacedSample}
+use Rattle.mp4_frag.specs.format.Fragments.{TrackFragment, track_fragment_of}
+use Rattle.mp4_frag.specs.format.FragmentSamples.{part_samples, has_samples, is_on_time, base_of}
+use Rattle.mp4_frag.specs.words.Judged.{part_with}
+use Rattle.mp4_frag.specs.words.Passing.{is_late_at}
+use Rattle.mp4_frag.specs.words.Reading.{inheritance}
+use Rattle.mp4_frag.specs.words.RunsJudged.{runs_total}
 use Rattle.mp4_frag.specs.declared.state.TrackState.{TrackState}
 use Rattle.mp4_frag.specs.declared.trex.Trex.{Trex}
 use Rattle.mp4_frag.proofs.TracksMoved.{IsTested, part_tested}

@@ -2,12 +2,12 @@
 use Rattle.std.proofs.Common.{◌≡◌, ℕ, zero, suc, ◌+◌, ◌-◌, ◌*◌, ◌≤◌, Bool, true, false, cond, List, [], ◌∷◌, length, take, drop, map, Option, Some, None, refl, sym, ap, ◌∙◌, arith}
 use Rattle.std.proofs.lemmas.List.{drop-take}
 use Rattle.byteorder.specs.Numbers.{big_from-take}
-use Rattle.mp4_boxes.specs.Bytes.{field, rows, numbers, width_of}
-use Rattle.mp4_boxes.specs.Layout.{Column, has, present, column_values, sample_columns}
-use Rattle.mp4_tables.specs.Rows.{run_of, runs_at}
-use Rattle.mp4_frag.specs.ColumnsRead.{row_room}
-use Rattle.mp4_frag.specs.Fragments.{run_rows, run_row_of}
-use Rattle.mp4_frag.specs.Walks.{part_of}
+use Rattle.mp4_boxes.specs.format.Bytes.{field, rows, numbers, width_of}
+use Rattle.mp4_boxes.specs.format.Layout.{Column, has, present, column_values, sample_columns}
+use Rattle.mp4_tables.specs.words.Rows.{run_of, runs_at}
+use Rattle.mp4_frag.specs.words.ColumnsRead.{row_room}
+use Rattle.mp4_frag.specs.format.Fragments.{run_rows, run_row_of}
+use Rattle.mp4_frag.specs.words.Walks.{part_of}
 use Rattle.mp4_frag.proofs.BoxPlaces.{part_behind, part_length}
 
 -- ---- rows of numbers

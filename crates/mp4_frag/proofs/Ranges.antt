@@ -4,24 +4,24 @@ use Rattle.std.specs.Prelude.{codes, map, find, ℤ, pos, ◌+ℤ◌, FitsSigned
 use Rattle.std.specs.Int.{w32}
 use Rattle.std.specs.List.{AllByRecursion}
 use Rattle.std.proofs.lemmas.Bool.{leb-false, or_parts}
-use Rattle.mp4_boxes.specs.Bytes.{AreBytes, field, width_of}
-use Rattle.mp4_boxes.specs.Box.{Box, box_container}
-use Rattle.mp4_boxes.specs.Children.{payload_of, of_kind}
-use Rattle.mp4_boxes.specs.Layout.{Column, trex, trun, sbgp, fields, row_count, version, flags, has, present, column_values, tfhd_columns, trun_columns, sample_columns, run_offsets, too_large, IsSound}
-use Rattle.mp4_boxes.specs.Places.{ruled, AreSound}
+use Rattle.mp4_boxes.specs.format.Bytes.{AreBytes, field, width_of}
+use Rattle.mp4_boxes.specs.format.Box.{Box, box_container}
+use Rattle.mp4_boxes.specs.format.Children.{payload_of, of_kind}
+use Rattle.mp4_boxes.specs.format.Layout.{Column, trex, trun, sbgp, fields, row_count, version, flags, has, present, column_values, tfhd_columns, trun_columns, sample_columns, run_offsets, too_large, IsSound}
+use Rattle.mp4_boxes.specs.format.Places.{ruled, AreSound}
 use Rattle.mp4_boxes.specs.declared.rule.Rule.TheVariants as rules
 use Rattle.mp4_boxes.proofs.Among.{all_append}
 use Rattle.mp4_boxes.proofs.Each.{each_value, each_weaker, each_from, each_joined}
 use Rattle.mp4_boxes.proofs.OfBytes.{IsOfBytes, field_below, numbers_fit, bytes_dropped, tiled_of_bytes, payload_of_bytes, payloads_of_bytes}
 use Rattle.mp4_boxes.proofs.Sound.{sound_each}
-use Rattle.mp4_tables.specs.Groups.{GroupKey, Grouping, maps_of}
-use Rattle.mp4_tables.specs.Tables.{composition_offset}
-use Rattle.mp4_tables.specs.PlainSamples.{PlacedSample}
+use Rattle.mp4_tables.specs.format.Groups.{GroupKey, Grouping, maps_of}
+use Rattle.mp4_tables.specs.format.Tables.{composition_offset}
+use Rattle.mp4_tables.specs.format.PlainSamples.{PlacedSample}
 use Rattle.mp4_tables.proofs.GroupMaps.{IsMap, KeepAll, keys_named}
 use Rattle.mp4_tables.proofs.Placed.{IsPlaced, IsKey, IsIndex, grouped, offset_fits, keys_valid, groups_valid}
 use Rattle.mp4_frag.specs.declared.trex.Trex.{Trex}
-use Rattle.mp4_frag.specs.Fragments.{RunRow, Run, TrackFragment, FragmentTree, IsFragmentTree, AreTrafs, column, run_rows, run_of, track_fragment_of, trex_of, fragment_of}
-use Rattle.mp4_frag.specs.FragmentSamples.{Part, inherited, flags_of, run_samples, run_start, end_of_data, runs_samples, runs_end, base_of, part_samples, trex_for, no_trex, parts_after, parts_of, all_parts}
+use Rattle.mp4_frag.specs.format.Fragments.{RunRow, Run, TrackFragment, FragmentTree, IsFragmentTree, AreTrafs, column, run_rows, run_of, track_fragment_of, trex_of, fragment_of}
+use Rattle.mp4_frag.specs.format.FragmentSamples.{Part, inherited, flags_of, run_samples, run_start, end_of_data, runs_samples, runs_end, base_of, part_samples, trex_for, no_trex, parts_after, parts_of, all_parts}
 
 -- ---- columns
 

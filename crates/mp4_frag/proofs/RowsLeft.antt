@@ -2,11 +2,11 @@
 use Rattle.std.proofs.Common.{◌≡◌, ℕ, zero, suc, ◌+◌, ◌-◌, ◌<◌, List, [], ◌∷◌, drop, Option, None, refl, sym, ap, ◌∙◌, arith}
 use Rattle.std.specs.Prelude.{ℤ, pos, ◌+ℤ◌, unwrap_or}
 use Rattle.std.proofs.lemmas.List.{drop-drop}
-use Rattle.mp4_boxes.specs.Layout.{column_values, sample_columns}
-use Rattle.mp4_frag.specs.ColumnsRead.{row_room}
-use Rattle.mp4_frag.specs.Fragments.{RunRow, run_rows, run_row_of}
-use Rattle.mp4_frag.specs.Reading.{row_values}
-use Rattle.mp4_frag.specs.Walks.{rows_here, row_signed, end_held, held}
+use Rattle.mp4_boxes.specs.format.Layout.{column_values, sample_columns}
+use Rattle.mp4_frag.specs.words.ColumnsRead.{row_room}
+use Rattle.mp4_frag.specs.format.Fragments.{RunRow, run_rows, run_row_of}
+use Rattle.mp4_frag.specs.words.Reading.{row_values}
+use Rattle.mp4_frag.specs.words.Walks.{rows_here, row_signed, end_held, held}
 use Rattle.mp4_frag.specs.declared.places.RowPlace.{RowPlace}
 use Rattle.mp4_frag.specs.declared.rows.Row.{Row}
 

@@ -3,19 +3,19 @@ use Rattle.std.proofs.Common.{◌≡◌, ℕ, zero, suc, ◌+◌, ◌-◌, ◌^�
 use Rattle.std.specs.Prelude.{ℤ, pos, negsuc, ◌+ℤ◌, unwrap_or, option_map, IfSome, slice_index}
 use Rattle.std.proofs.lemmas.Bool.{leb-false, or_parts}
 use Rattle.std.proofs.lemmas.List.{get_or-drop, drop-drop}
-use Rattle.mp4_boxes.specs.Bytes.{width_of}
-use Rattle.mp4_boxes.specs.Layout.{column_values, sample_columns, present, run_offsets, too_large}
-use Rattle.mp4_tables.specs.Groups.{GroupKey, Groups}
-use Rattle.mp4_tables.specs.PlainSamples.{PlacedSample, with_groups}
-use Rattle.mp4_tables.specs.TableRules.{lies_within}
-use Rattle.mp4_tables.specs.Tables.{composition_offset}
-use Rattle.mp4_tables.specs.Timed.{indexes, place_of, sample_at, timed}
+use Rattle.mp4_boxes.specs.format.Bytes.{width_of}
+use Rattle.mp4_boxes.specs.format.Layout.{column_values, sample_columns, present, run_offsets, too_large}
+use Rattle.mp4_tables.specs.format.Groups.{GroupKey, Groups}
+use Rattle.mp4_tables.specs.format.PlainSamples.{PlacedSample, with_groups}
+use Rattle.mp4_tables.specs.format.TableRules.{lies_within}
+use Rattle.mp4_tables.specs.format.Tables.{composition_offset}
+use Rattle.mp4_tables.specs.words.Timed.{indexes, place_of, sample_at, timed}
 use Rattle.mp4_tables.specs.declared.sample.SampleAt.{SampleAt}
-use Rattle.mp4_frag.specs.Fragments.{RunRow, TrackFragment, column, run_rows}
-use Rattle.mp4_frag.specs.FragmentSamples.{inherited, flags_of, run_samples}
-use Rattle.mp4_frag.specs.Passing.{within_from, end_from, lasting}
-use Rattle.mp4_frag.specs.Reading.{inheritance}
-use Rattle.mp4_frag.specs.Walks.{Reached, capped, held, first_byte, sample_of, rows_coming, end_held}
+use Rattle.mp4_frag.specs.format.Fragments.{RunRow, TrackFragment, column, run_rows}
+use Rattle.mp4_frag.specs.format.FragmentSamples.{inherited, flags_of, run_samples}
+use Rattle.mp4_frag.specs.words.Passing.{within_from, end_from, lasting}
+use Rattle.mp4_frag.specs.words.Reading.{inheritance}
+use Rattle.mp4_frag.specs.words.Walks.{Reached, capped, held, first_byte, sample_of, rows_coming, end_held}
 use Rattle.mp4_frag.specs.declared.trex.Trex.{Trex}
 use Rattle.mp4_frag.proofs.SamplesOfRows.{inherited_is}
 

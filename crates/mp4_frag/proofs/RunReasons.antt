@@ -1,18 +1,18 @@
 -- Which run of a `traf` a fault names, and what is so of it.
 use Rattle.std.proofs.Common.{◌≡◌, ℕ, ◌+◌, ◌-◌, ◌<◌, ◌≤◌, ◌⊎◌, false, List, [], ◌∷◌, ◌++◌, length, map, Some, inl, inr, refl, ap, subst, ◌∙◌, arith}
 use Rattle.std.specs.Prelude.{ℤ, slice_get}
-use Rattle.mp4_boxes.specs.Box.{Box}
-use Rattle.mp4_boxes.specs.BoxFaults.{fault_of, Fails}
-use Rattle.mp4_boxes.specs.Layout.{trun, row_count, IsReadable}
+use Rattle.mp4_boxes.specs.format.Box.{Box}
+use Rattle.mp4_boxes.specs.format.BoxFaults.{fault_of, Fails}
+use Rattle.mp4_boxes.specs.format.Layout.{trun, row_count, IsReadable}
 use Rattle.mp4_boxes.specs.declared.fault.Fault.{Fault}
 use Rattle.mp4_boxes.specs.declared.fault.Kind.{Kind}
 use Rattle.mp4_boxes.specs.declared.fault.Kind.TheVariants as kinds
-use Rattle.mp4_frag.specs.Fragments.{TrackFragment, run_of}
-use Rattle.mp4_frag.specs.FragmentSamples.{runs_samples}
-use Rattle.mp4_frag.specs.FragmentRules.{is_within}
-use Rattle.mp4_frag.specs.Passing.{within_from, IsRunFault}
-use Rattle.mp4_frag.specs.Reading.{inheritance}
-use Rattle.mp4_frag.specs.RunsJudged.{run_begins, run_ends, AreRunsSound, all_end, runs_total, RunsFail}
+use Rattle.mp4_frag.specs.format.Fragments.{TrackFragment, run_of}
+use Rattle.mp4_frag.specs.format.FragmentSamples.{runs_samples}
+use Rattle.mp4_frag.specs.format.FragmentRules.{is_within}
+use Rattle.mp4_frag.specs.words.Passing.{within_from, IsRunFault}
+use Rattle.mp4_frag.specs.words.Reading.{inheritance}
+use Rattle.mp4_frag.specs.words.RunsJudged.{run_begins, run_ends, AreRunsSound, all_end, runs_total, RunsFail}
 use Rattle.mp4_frag.specs.declared.heads.Inherited.{Inherited}
 use Rattle.mp4_frag.specs.declared.trex.Trex.{Trex}
 use Rattle.mp4_frag.proofs.RunsTied.{run_in}

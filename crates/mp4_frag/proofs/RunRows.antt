@@ -1,15 +1,15 @@
 -- The rows of a run from one to the next.
 use Rattle.std.proofs.Common.{◌≡◌, ℕ, suc, ◌+◌, ◌-◌, ◌*◌, ◌<◌, ◌≤◌, List, [], ◌∷◌, drop, Bool, true, false, ◌||◌, ◌^◌, nat_le, Option, Some, None, refl, sym, ap, ◌∙◌, to_z, of_z, rules, arith}
 use Rattle.std.specs.Prelude.{unwrap_or, ℤ, pos, negsuc, ◌+ℤ◌}
-use Rattle.mp4_tables.specs.TableRules.{lies_within}
+use Rattle.mp4_tables.specs.format.TableRules.{lies_within}
 use Rattle.std.specs.Int.{w128}
 use Rattle.std.proofs.lemmas.Int.{to_z-of_z}
 use Rattle.std.proofs.lemmas.List.{drop-drop}
-use Rattle.mp4_boxes.specs.Layout.{column_values, sample_columns, too_large}
-use Rattle.mp4_frag.specs.ColumnsRead.{row_room}
-use Rattle.mp4_frag.specs.Fragments.{RunRow}
-use Rattle.mp4_frag.specs.Reading.{row_values}
-use Rattle.mp4_frag.specs.Passing.{rows_left, offsets_left, bytes_left, row_seen, IsNear, IsNearer, within_from, end_from, lasting, filling}
+use Rattle.mp4_boxes.specs.format.Layout.{column_values, sample_columns, too_large}
+use Rattle.mp4_frag.specs.words.ColumnsRead.{row_room}
+use Rattle.mp4_frag.specs.format.Fragments.{RunRow}
+use Rattle.mp4_frag.specs.words.Reading.{row_values}
+use Rattle.mp4_frag.specs.words.Passing.{rows_left, offsets_left, bytes_left, row_seen, IsNear, IsNearer, within_from, end_from, lasting, filling}
 use Rattle.mp4_frag.specs.declared.rows.Row.{Row}
 use Rattle.mp4_frag.specs.declared.runs.Run.{Run}
 

@@ -1,17 +1,17 @@
 -- The runs of a `traf`, passed one by one.
 use Rattle.std.proofs.Common.{◌≡◌, ℕ, ◌+◌, ◌-◌, ◌≤◌, true, false, List, [], ◌∷◌, inl, inr, refl, sym, ap, subst, ◌∙◌, arith}
 use Rattle.std.specs.Prelude.{ℤ, codes, bytes_eq}
-use Rattle.mp4_boxes.specs.Box.{Box, Tiles, box_container, bytes_container}
-use Rattle.mp4_tables.specs.Leaves.{boxes_of}
+use Rattle.mp4_boxes.specs.format.Box.{Box, Tiles, box_container, bytes_container}
+use Rattle.mp4_tables.specs.words.Leaves.{boxes_of}
 use Rattle.mp4_tables.proofs.LeafLists.{boxes_are}
-use Rattle.mp4_boxes.specs.BoxFaults.{fault_of}
-use Rattle.mp4_boxes.specs.Children.{of_kind}
-use Rattle.mp4_boxes.specs.Layout.{trun, row_count}
+use Rattle.mp4_boxes.specs.format.BoxFaults.{fault_of}
+use Rattle.mp4_boxes.specs.format.Children.{of_kind}
+use Rattle.mp4_boxes.specs.format.Layout.{trun, row_count}
 use Rattle.mp4_boxes.specs.declared.fault.Fault.{Fault}
 use Rattle.mp4_boxes.specs.declared.fault.Kind.{Kind}
-use Rattle.mp4_frag.specs.Fragments.{run_of}
-use Rattle.mp4_frag.specs.Passing.{lasting, filling, IsRunFault, IsRunPassed}
-use Rattle.mp4_frag.specs.RunsJudged.{children_of, run_ends, IsRunSound, AreRunsSound, all_end, runs_total, runs_lasting, runs_filling, RunsFail}
+use Rattle.mp4_frag.specs.format.Fragments.{run_of}
+use Rattle.mp4_frag.specs.words.Passing.{lasting, filling, IsRunFault, IsRunPassed}
+use Rattle.mp4_frag.specs.words.RunsJudged.{children_of, run_ends, IsRunSound, AreRunsSound, all_end, runs_total, runs_lasting, runs_filling, RunsFail}
 use Rattle.mp4_frag.specs.declared.heads.Inherited.{Inherited}
 use Rattle.mp4_frag.proofs.Comings.{turned}
 

@@ -1,12 +1,12 @@
 -- What was read of a `trun` is what its definition says.
 use Rattle.std.proofs.Common.{◌≡◌, ℕ, zero, suc, ◌+◌, ◌*◌, ◌-◌, List, Bool, true, false, not, ◌&&◌, ◌==◌, nat_eq, nat_le, IsTrue, if◌then◌else◌, refl, sym, ap, ◌∙◌, rules, arith}
 use Rattle.std.specs.Prelude.{drop, ℤ}
-use Rattle.mp4_boxes.specs.Layout.{trun, version, flags, has_large_offset, too_large, run_offsets, row_count}
-use Rattle.mp4_frag.specs.ColumnsRead.{row_room, rows_from}
-use Rattle.mp4_frag.specs.Fragments.{run_of, run_rows}
-use Rattle.mp4_frag.specs.FragmentSamples.{run_start}
-use Rattle.mp4_frag.specs.Reading.{IsRun}
-use Rattle.mp4_frag.specs.Passing.{rows_left, offsets_left, run_version, within_from, end_from, lasting, filling, IsRunPassed}
+use Rattle.mp4_boxes.specs.format.Layout.{trun, version, flags, has_large_offset, too_large, run_offsets, row_count}
+use Rattle.mp4_frag.specs.words.ColumnsRead.{row_room, rows_from}
+use Rattle.mp4_frag.specs.format.Fragments.{run_of, run_rows}
+use Rattle.mp4_frag.specs.format.FragmentSamples.{run_start}
+use Rattle.mp4_frag.specs.words.Reading.{IsRun}
+use Rattle.mp4_frag.specs.words.Passing.{rows_left, offsets_left, run_version, within_from, end_from, lasting, filling, IsRunPassed}
 use Rattle.mp4_frag.specs.declared.heads.Inherited.{Inherited}
 use Rattle.mp4_frag.specs.declared.runs.Run.{Run}
 

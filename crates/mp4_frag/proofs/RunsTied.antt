@@ -4,19 +4,19 @@ use Rattle.std.specs.Prelude.{ℤ, pos, negsuc, IfSome, FitsSigned, flat_map, co
 use Rattle.std.specs.Int.{w32}
 use Rattle.std.specs.List.{AllByRecursion}
 use Rattle.std.proofs.lemmas.List.{drop-drop, append_assoc}
-use Rattle.mp4_boxes.specs.Box.{Box}
-use Rattle.mp4_boxes.specs.Children.{of_kind}
-use Rattle.mp4_boxes.specs.Layout.{trun, version, flags, row_count, run_offsets, too_large, IsSound}
-use Rattle.mp4_tables.specs.Groups.{GroupKey, Groups}
-use Rattle.mp4_tables.specs.PlainSamples.{PlacedSample, with_groups}
-use Rattle.mp4_tables.specs.Timed.{timed, sample_at}
+use Rattle.mp4_boxes.specs.format.Box.{Box}
+use Rattle.mp4_boxes.specs.format.Children.{of_kind}
+use Rattle.mp4_boxes.specs.format.Layout.{trun, version, flags, row_count, run_offsets, too_large, IsSound}
+use Rattle.mp4_tables.specs.format.Groups.{GroupKey, Groups}
+use Rattle.mp4_tables.specs.format.PlainSamples.{PlacedSample, with_groups}
+use Rattle.mp4_tables.specs.words.Timed.{timed, sample_at}
 use Rattle.mp4_tables.specs.declared.sample.SampleAt.{SampleAt}
-use Rattle.mp4_frag.specs.ColumnsRead.{rows_from}
-use Rattle.mp4_frag.specs.Fragments.{RunRow, Run, TrackFragment, run_of, run_rows}
-use Rattle.mp4_frag.specs.FragmentSamples.{run_samples, run_start, runs_samples, runs_end, end_of_data, duration_of, bytes_of}
-use Rattle.mp4_frag.specs.FragmentRules.{is_within}
-use Rattle.mp4_frag.specs.Passing.{lasting, IsNearer}
-use Rattle.mp4_frag.specs.Walks.{Reached, begin, rows_of, rows_coming, run_coming, runs_coming, end_held, can_read}
+use Rattle.mp4_frag.specs.words.ColumnsRead.{rows_from}
+use Rattle.mp4_frag.specs.format.Fragments.{RunRow, Run, TrackFragment, run_of, run_rows}
+use Rattle.mp4_frag.specs.format.FragmentSamples.{run_samples, run_start, runs_samples, runs_end, end_of_data, duration_of, bytes_of}
+use Rattle.mp4_frag.specs.format.FragmentRules.{is_within}
+use Rattle.mp4_frag.specs.words.Passing.{lasting, IsNearer}
+use Rattle.mp4_frag.specs.words.Walks.{Reached, begin, rows_of, rows_coming, run_coming, runs_coming, end_held, can_read}
 use Rattle.mp4_frag.specs.declared.trex.Trex.{Trex}
 use Rattle.mp4_frag.proofs.LeavesRead.{read, first_taken, second_taken}
 use Rattle.mp4_frag.proofs.SamplesOfRows.{within_is, lasting_is, end_is}

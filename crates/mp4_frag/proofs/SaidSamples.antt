@@ -2,15 +2,15 @@
 use Rattle.std.proofs.Common.{◌≡◌, ℕ, suc, List, [], ◌∷◌, length, map, Option, None, refl, ap, ◌∙◌, arith}
 use Rattle.std.specs.Prelude.{ℤ, pos, flat_map, unwrap_or, codes}
 use Rattle.std.proofs.lemmas.List.{length-append}
-use Rattle.mp4_boxes.specs.Bytes.{sum_of}
-use Rattle.mp4_boxes.specs.Box.{Box}
-use Rattle.mp4_boxes.specs.Children.{of_kind}
+use Rattle.mp4_boxes.specs.format.Bytes.{sum_of}
+use Rattle.mp4_boxes.specs.format.Box.{Box}
+use Rattle.mp4_boxes.specs.format.Children.{of_kind}
 use Rattle.mp4_boxes.specs.declared.rule.Rule.TheVariants as rules
-use Rattle.mp4_tables.specs.Groups.{maps_of}
-use Rattle.mp4_frag.specs.Fragments.{RunRow, Run, TrackFragment, Fragment, FragmentTree, AreTrafs, IsFragmentTree, fragment_of, track_fragment_of}
-use Rattle.mp4_frag.specs.FragmentSamples.{Part, part_samples, parts_after, parts_of, run_samples, run_start, runs_samples, runs_end, end_of_data, base_of, trex_for, no_trex}
-use Rattle.mp4_frag.specs.RunsJudged.{children_of}
-use Rattle.mp4_frag.specs.Work.{fragment_length, moof_says}
+use Rattle.mp4_tables.specs.format.Groups.{maps_of}
+use Rattle.mp4_frag.specs.format.Fragments.{RunRow, Run, TrackFragment, Fragment, FragmentTree, AreTrafs, IsFragmentTree, fragment_of, track_fragment_of}
+use Rattle.mp4_frag.specs.format.FragmentSamples.{Part, part_samples, parts_after, parts_of, run_samples, run_start, runs_samples, runs_end, end_of_data, base_of, trex_for, no_trex}
+use Rattle.mp4_frag.specs.words.RunsJudged.{children_of}
+use Rattle.mp4_frag.specs.format.FragmentRows.{fragment_length, moof_says}
 use Rattle.mp4_frag.specs.declared.trex.Trex.{Trex}
 use Rattle.mp4_frag.proofs.HeadsFound.{holds_children}
 use Rattle.mp4_frag.proofs.TrafsTied.{grouped_length}

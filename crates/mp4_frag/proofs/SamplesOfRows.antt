@@ -2,12 +2,12 @@
 use Rattle.std.proofs.Common.{◌≡◌, ℕ, ◌+◌, List, [], ◌∷◌, Option, Some, None, ◌&&◌, refl, sym, ap, ◌∙◌}
 use Rattle.std.specs.Prelude.{unwrap_or, ℤ, pos, ◌+ℤ◌}
 use Rattle.std.proofs.Math.IntN.{+ℤ_assoc, +ℤ_idr}
-use Rattle.mp4_boxes.specs.Bytes.{sum_of}
-use Rattle.mp4_tables.specs.TableRules.{lies_within}
-use Rattle.mp4_frag.specs.Fragments.{RunRow, TrackFragment}
-use Rattle.mp4_frag.specs.FragmentSamples.{inherited, run_samples, end_of_data, duration_of, bytes_of}
-use Rattle.mp4_frag.specs.FragmentRules.{is_within}
-use Rattle.mp4_frag.specs.Passing.{within_from, end_from, lasting, filling}
+use Rattle.mp4_boxes.specs.format.Bytes.{sum_of}
+use Rattle.mp4_tables.specs.format.TableRules.{lies_within}
+use Rattle.mp4_frag.specs.format.Fragments.{RunRow, TrackFragment}
+use Rattle.mp4_frag.specs.format.FragmentSamples.{inherited, run_samples, end_of_data, duration_of, bytes_of}
+use Rattle.mp4_frag.specs.format.FragmentRules.{is_within}
+use Rattle.mp4_frag.specs.words.Passing.{within_from, end_from, lasting, filling}
 use Rattle.mp4_frag.specs.declared.trex.Trex.{Trex}
 
 -- what a row has, else what its `traf` inherits

@@ -1,10 +1,10 @@
 -- Tracks as a clause sees them: two lists that look alike.
 use Rattle.std.proofs.Common.{◌≡◌, ℕ, zero, suc, ◌==◌, Bool, true, false, cond, List, [], ◌∷◌, map, take, Option, Some, None, refl, sym, ap, ◌∙◌, slice_set}
 use Rattle.std.specs.Prelude.{find, option_map, unwrap_or, slice_get}
-use Rattle.mp4_frag.specs.Walks.{trex_among}
+use Rattle.mp4_frag.specs.words.Walks.{trex_among}
 use Rattle.std.proofs.lemmas.Option.{slice_get-map}
-use Rattle.mp4_frag.specs.FragmentSamples.{Part, has_samples}
-use Rattle.mp4_frag.specs.Judged.{TrackSeen, track_seen, track_behind}
+use Rattle.mp4_frag.specs.format.FragmentSamples.{Part, has_samples}
+use Rattle.mp4_frag.specs.words.Judged.{TrackSeen, track_seen, track_behind}
 use Rattle.mp4_frag.specs.declared.state.TrackState.{TrackState}
 use Rattle.mp4_frag.specs.declared.trex.Trex.{Trex}
 

@@ -3,7 +3,7 @@ use Rattle.std.proofs.Common.{◌≡◌, ℕ, ◌<◌, ◌≤◌, List, [], ◌�
 use Rattle.std.specs.List.{slice_get}
 use Rattle.std.specs.Prelude.{find}
 use Rattle.mp4_boxes.proofs.Each.{each_weaker}
-use Rattle.mp4_frag.specs.States.{HasRoom, HaveRoom}
+use Rattle.mp4_frag.specs.words.States.{HasRoom, HaveRoom}
 use Rattle.mp4_frag.specs.declared.state.TrackState.{TrackState}
 
 -- less room is there too

@@ -2,8 +2,8 @@
 use Rattle.std.proofs.Common.{◌≡◌, ℕ, ◌+◌, List, [], ◌∷◌, drop, Some, ap, arith}
 use Rattle.std.specs.List.{slice_get}
 use Rattle.mp4_tables.specs.declared.sample.SampleAt.{SampleAt}
-use Rattle.mp4_frag.specs.Times.{lasting}
-use Rattle.mp4_frag.specs.Walks.{capped}
+use Rattle.mp4_frag.specs.words.Times.{lasting}
+use Rattle.mp4_frag.specs.words.Walks.{capped}
 
 -- the first of some samples is passed
 pub time_kept : (before after : ℕ) (first : SampleAt) (samples more : List SampleAt) → slice_get samples 0 ≡ Some first → more ≡ drop 1 samples → after ≡ capped (before + first.duration)

@@ -2,7 +2,7 @@
 use Rattle.std.proofs.Common.{◌≡◌, ℕ, zero, suc, ◌+◌, ◌<◌, ◌≤◌, ◌==◌, Bool, true, false, cond, List, [], ◌∷◌, length, drop, take, slice_set, slice_index_or, Some, None, refl, sym, ap, subst, ◌∙◌, rules, arith}
 use Rattle.std.specs.List.{slice_get}
 use Rattle.std.specs.Prelude.{find}
-use Rattle.mp4_frag.specs.Finding.{AreAbove, AreRising, IsKnown}
+use Rattle.mp4_frag.specs.words.Finding.{AreAbove, AreRising, IsKnown}
 use Rattle.mp4_frag.specs.declared.finding.Known.{Known}
 use Rattle.mp4_frag.specs.declared.state.TrackState.{TrackState}
 use Rattle.mp4_frag.proofs.StateLists.{found_at, none_up_to}

@@ -2,21 +2,21 @@
 use Rattle.std.proofs.Common.{◌≡◌, ℕ, zero, suc, ◌+◌, ◌<◌, ◌≤◌, ◌==◌, ◌&&◌, ◌||◌, not, nat_lt, Bool, true, false, cond, List, [], ◌∷◌, ◌++◌, length, take, map, Option, Some, None, IsTrue, refl, sym, ap, subst, ◌∙◌, rules, arith, slice_set, slice_index_or}
 use Rattle.std.specs.Prelude.{ℤ, codes, bytes_eq, unwrap_or, option_map, flat_map, find}
 use Rattle.std.specs.List.{list_all, slice_get}
-use Rattle.mp4_boxes.specs.Box.{Box}
-use Rattle.mp4_boxes.specs.Children.{of_kind, payload_if, payload_of}
-use Rattle.mp4_tables.specs.Groups.{Groups, groupings_of, keys_after, maps_of, group_test}
-use Rattle.mp4_tables.specs.Keys.{keys_seen}
-use Rattle.mp4_tables.specs.PlainSamples.{PlacedSample, with_groups}
-use Rattle.mp4_tables.specs.TableRules.{is_index}
+use Rattle.mp4_boxes.specs.format.Box.{Box}
+use Rattle.mp4_boxes.specs.format.Children.{of_kind, payload_if, payload_of}
+use Rattle.mp4_tables.specs.format.Groups.{Groups, groupings_of, keys_after, maps_of, group_test}
+use Rattle.mp4_tables.specs.words.Keys.{keys_seen}
+use Rattle.mp4_tables.specs.format.PlainSamples.{PlacedSample, with_groups}
+use Rattle.mp4_tables.specs.format.TableRules.{is_index}
 use Rattle.mp4_tables.specs.declared.keys.Keys.{Keys}
-use Rattle.mp4_frag.specs.Fragments.{RunRow, Run, TrackFragment, track_fragment_of, decode_time_of}
-use Rattle.mp4_frag.specs.FragmentSamples.{Part, run_samples, runs_samples, part_samples, has_samples, duration_of, bytes_of, base_of, run_start, end_of_data}
-use Rattle.mp4_frag.specs.GroupsJudged.{AreGroupsSound}
-use Rattle.mp4_frag.specs.Judged.{part_with, TrackSeen, track_seen, track_behind, IsMovedOn}
-use Rattle.mp4_frag.specs.Passing.{is_late_at, start_with, due_with}
-use Rattle.mp4_frag.specs.Reading.{IsHead, as_traf, inheritance}
-use Rattle.mp4_frag.specs.RunsJudged.{runs_total, runs_lasting, runs_filling}
-use Rattle.mp4_frag.specs.Walks.{head_of}
+use Rattle.mp4_frag.specs.format.Fragments.{RunRow, Run, TrackFragment, track_fragment_of, decode_time_of}
+use Rattle.mp4_frag.specs.format.FragmentSamples.{Part, run_samples, runs_samples, part_samples, has_samples, duration_of, bytes_of, base_of, run_start, end_of_data}
+use Rattle.mp4_frag.specs.words.GroupsJudged.{AreGroupsSound}
+use Rattle.mp4_frag.specs.words.Judged.{part_with, TrackSeen, track_seen, track_behind, IsMovedOn}
+use Rattle.mp4_frag.specs.words.Passing.{is_late_at, start_with, due_with}
+use Rattle.mp4_frag.specs.words.Reading.{IsHead, as_traf, inheritance}
+use Rattle.mp4_frag.specs.words.RunsJudged.{runs_total, runs_lasting, runs_filling}
+use Rattle.mp4_frag.specs.words.Walks.{head_of}
 use Rattle.mp4_frag.specs.declared.heads.Head.{Head}
 use Rattle.mp4_frag.specs.declared.heads.Inherited.{Inherited}
 use Rattle.mp4_frag.specs.declared.state.TrackState.{TrackState}

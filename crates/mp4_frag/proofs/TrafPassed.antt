@@ -3,27 +3,27 @@ use Rattle.std.proofs.Common.{◌≡◌, ℕ, zero, suc, ◌<◌, ◌==◌, Bool
 use Rattle.std.specs.Prelude.{ℤ, codes, bytes_eq, unwrap_or, option_map, find, flat_map}
 use Rattle.std.specs.List.{AllByRecursion, slice_get}
 use Rattle.std.proofs.lemmas.List.{append_assoc}
-use Rattle.mp4_boxes.specs.Bytes.{width_of}
-use Rattle.mp4_boxes.specs.Box.{Box}
-use Rattle.mp4_boxes.specs.Children.{of_kind, payload_if, payload_of}
-use Rattle.mp4_boxes.specs.Layout.{Leaf, tfhd, tfdt, trun, sbgp, row_count, present, sample_columns, IsSound, IsReadable}
-use Rattle.mp4_boxes.specs.Places.{ruled, IsSoundAs, AreSound}
+use Rattle.mp4_boxes.specs.format.Bytes.{width_of}
+use Rattle.mp4_boxes.specs.format.Box.{Box}
+use Rattle.mp4_boxes.specs.format.Children.{of_kind, payload_if, payload_of}
+use Rattle.mp4_boxes.specs.format.Layout.{Leaf, tfhd, tfdt, trun, sbgp, row_count, present, sample_columns, IsSound, IsReadable}
+use Rattle.mp4_boxes.specs.format.Places.{ruled, IsSoundAs, AreSound}
 use Rattle.mp4_boxes.specs.declared.rule.Rule.TheVariants as rules
-use Rattle.mp4_tables.specs.Groups.{GroupKey, Grouping, GroupRule, grouping_of, groupings_of, group_test, keeps}
-use Rattle.mp4_tables.specs.PlainSamples.{PlacedSample}
-use Rattle.mp4_frag.specs.Fragments.{RunRow, TrackFragment, run_rows, run_of}
-use Rattle.mp4_frag.specs.FragmentSamples.{run_samples, runs_samples, runs_end, end_of_data, duration_of, bytes_of}
-use Rattle.mp4_frag.specs.FragmentRules.{is_within}
-use Rattle.mp4_frag.specs.GroupsJudged.{AreGroupsSound}
-use Rattle.mp4_frag.specs.Reading.{inheritance}
-use Rattle.mp4_frag.specs.RunsJudged.{run_begins, run_ends, AreRunsSound, all_end, runs_total, runs_lasting, runs_filling}
+use Rattle.mp4_tables.specs.format.Groups.{GroupKey, Grouping, GroupRule, grouping_of, groupings_of, group_test, keeps}
+use Rattle.mp4_tables.specs.format.PlainSamples.{PlacedSample}
+use Rattle.mp4_frag.specs.format.Fragments.{RunRow, TrackFragment, run_rows, run_of}
+use Rattle.mp4_frag.specs.format.FragmentSamples.{run_samples, runs_samples, runs_end, end_of_data, duration_of, bytes_of}
+use Rattle.mp4_frag.specs.format.FragmentRules.{is_within}
+use Rattle.mp4_frag.specs.words.GroupsJudged.{AreGroupsSound}
+use Rattle.mp4_frag.specs.words.Reading.{inheritance}
+use Rattle.mp4_frag.specs.words.RunsJudged.{run_begins, run_ends, AreRunsSound, all_end, runs_total, runs_lasting, runs_filling}
 use Rattle.mp4_frag.specs.declared.trex.Trex.{Trex}
-use Rattle.mp4_tables.specs.Groups.{maps_of}
-use Rattle.mp4_frag.specs.Fragments.{track_fragment_of}
-use Rattle.mp4_frag.specs.FragmentSamples.{base_of, part_samples}
-use Rattle.mp4_frag.specs.Judged.{part_with, IsTrafSound}
-use Rattle.mp4_frag.specs.Reading.{IsHead, as_traf}
-use Rattle.mp4_frag.specs.Walks.{head_of, trex_among}
+use Rattle.mp4_tables.specs.format.Groups.{maps_of}
+use Rattle.mp4_frag.specs.format.Fragments.{track_fragment_of}
+use Rattle.mp4_frag.specs.format.FragmentSamples.{base_of, part_samples}
+use Rattle.mp4_frag.specs.words.Judged.{part_with, IsTrafSound}
+use Rattle.mp4_frag.specs.words.Reading.{IsHead, as_traf}
+use Rattle.mp4_frag.specs.words.Walks.{head_of, trex_among}
 use Rattle.mp4_frag.specs.declared.heads.Head.{Head}
 use Rattle.mp4_frag.specs.declared.heads.Inherited.{Inherited}
 use Rattle.mp4_frag.specs.declared.state.TrackState.{TrackState}

@@ -2,23 +2,23 @@
 use Rattle.std.proofs.Common.{◌≡◌, ℕ, ◌<◌, ◌==◌, ◌&&◌, not, nat_lt, Bool, true, false, List, [], ◌∷◌, length, Option, Some, None, refl, sym, ap, subst, ◌∙◌, rules, arith, slice_index_or}
 use Rattle.std.specs.Prelude.{ℤ, codes, unwrap_or, option_map, find}
 use Rattle.std.specs.List.{slice_get, AllByRecursion}
-use Rattle.mp4_boxes.specs.Box.{Box, box_container}
+use Rattle.mp4_boxes.specs.format.Box.{Box, box_container}
 use Rattle.mp4_boxes.specs.declared.rule.Rule.TheVariants as rules_of
-use Rattle.mp4_boxes.specs.BoxFaults.{fault_of}
-use Rattle.mp4_boxes.specs.Children.{of_kind, payload_of, Holds}
-use Rattle.mp4_boxes.specs.Layout.{tfdt, IsSound}
+use Rattle.mp4_boxes.specs.format.BoxFaults.{fault_of}
+use Rattle.mp4_boxes.specs.format.Children.{of_kind, payload_of, Holds}
+use Rattle.mp4_boxes.specs.format.Layout.{tfdt, IsSound}
 use Rattle.mp4_boxes.specs.declared.fault.Fault.{Fault}
 use Rattle.mp4_boxes.specs.declared.fault.Kind.TheVariants.{UnknownTrack, BadDescriptionIndex, Gap}
-use Rattle.mp4_tables.specs.Keys.{keys_seen}
-use Rattle.mp4_tables.specs.TableRules.{is_index}
-use Rattle.mp4_frag.specs.Fragments.{TrackFragment}
-use Rattle.mp4_frag.specs.FragmentSamples.{base_of}
-use Rattle.mp4_frag.specs.GroupsJudged.{groups_in, AreGroupsSound, GroupsFail}
-use Rattle.mp4_frag.specs.Passing.{is_late_at}
-use Rattle.mp4_frag.specs.Reading.{IsHead, as_traf, inheritance}
-use Rattle.mp4_frag.specs.RunsJudged.{children_of, runs_in, AreRunsSound, runs_total, RunsFail}
-use Rattle.mp4_frag.specs.TrafFaults.{traf_in, HoldsBoxes, HasHead, IsOnly, IsTrackOf, HasSoundRuns, TrafFails, no_track, runs_fail, no_description, groups_fail, not_due}
-use Rattle.mp4_frag.specs.Walks.{head_of, trex_among}
+use Rattle.mp4_tables.specs.words.Keys.{keys_seen}
+use Rattle.mp4_tables.specs.format.TableRules.{is_index}
+use Rattle.mp4_frag.specs.format.Fragments.{TrackFragment}
+use Rattle.mp4_frag.specs.format.FragmentSamples.{base_of}
+use Rattle.mp4_frag.specs.words.GroupsJudged.{groups_in, AreGroupsSound, GroupsFail}
+use Rattle.mp4_frag.specs.words.Passing.{is_late_at}
+use Rattle.mp4_frag.specs.words.Reading.{IsHead, as_traf, inheritance}
+use Rattle.mp4_frag.specs.words.RunsJudged.{children_of, runs_in, AreRunsSound, runs_total, RunsFail}
+use Rattle.mp4_frag.specs.words.TrafFaults.{traf_in, HoldsBoxes, HasHead, IsOnly, IsTrackOf, HasSoundRuns, TrafFails, no_track, runs_fail, no_description, groups_fail, not_due}
+use Rattle.mp4_frag.specs.words.Walks.{head_of, trex_among}
 use Rattle.mp4_frag.specs.declared.heads.Head.{Head}
 use Rattle.mp4_frag.specs.declared.heads.Inherited.{Inherited}
 use Rattle.mp4_frag.specs.declared.state.TrackState.{TrackState}

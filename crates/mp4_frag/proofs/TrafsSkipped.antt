@@ -2,15 +2,15 @@
 use Rattle.std.proofs.Common.{◌≡◌, ◌⊎◌, inl, inr, ℕ, zero, suc, ◌==◌, ◌&&◌, ◌||◌, Bool, true, false, cond, List, [], ◌∷◌, drop, Option, Some, None, refl, sym, ap, ◌∙◌}
 use Rattle.std.specs.Prelude.{ℤ, is_some, codes, bytes_eq}
 use Rattle.std.proofs.lemmas.Bool.{and_parts, or_parts, eqb-true}
-use Rattle.mp4_boxes.specs.Box.{Box}
-use Rattle.mp4_boxes.specs.Layout.{tfhd, trun}
+use Rattle.mp4_boxes.specs.format.Box.{Box}
+use Rattle.mp4_boxes.specs.format.Layout.{tfhd, trun}
 use Rattle.mp4_tables.specs.declared.sample.SampleAt.{SampleAt}
-use Rattle.mp4_frag.specs.Fragments.{TrackFragment}
-use Rattle.mp4_frag.specs.FragmentSamples.{base_of}
-use Rattle.mp4_frag.specs.Looks.{names, has_base, is_named, is_based, AreOthers, over_run, over_runs}
-use Rattle.mp4_frag.specs.Reading.{inheritance}
-use Rattle.mp4_frag.specs.RunsJudged.{children_of}
-use Rattle.mp4_frag.specs.Walks.{Walk, Reached, can_read, part_of, boxes_between, head_of, with_trex, trex_among, with_group, with_leaf, with_leaves, before_traf, behind_run, before_run, run_coming, runs_coming, trafs_coming}
+use Rattle.mp4_frag.specs.format.Fragments.{TrackFragment}
+use Rattle.mp4_frag.specs.format.FragmentSamples.{base_of}
+use Rattle.mp4_frag.specs.words.Looks.{names, has_base, is_named, is_based, AreOthers, over_run, over_runs}
+use Rattle.mp4_frag.specs.words.Reading.{inheritance}
+use Rattle.mp4_frag.specs.words.RunsJudged.{children_of}
+use Rattle.mp4_frag.specs.words.Walks.{Walk, Reached, can_read, part_of, boxes_between, head_of, with_trex, trex_among, with_group, with_leaf, with_leaves, before_traf, behind_run, before_run, run_coming, runs_coming, trafs_coming}
 use Rattle.mp4_frag.specs.declared.trex.Trex.{Trex}
 use Rattle.mp4_frag.proofs.Comings.{turned, box_at_place}
 

@@ -5,28 +5,28 @@ use Rattle.std.specs.Int.{w32}
 use Rattle.std.specs.List.{AllByRecursion}
 use Rattle.std.proofs.lemmas.Bool.Decides.{nat_tests}
 use Rattle.byteorder.specs.Endian.{twos_complement}
-use Rattle.mp4_boxes.specs.Bytes.{AreBytes}
-use Rattle.mp4_boxes.specs.Box.{Box, box_container}
-use Rattle.mp4_boxes.specs.Children.{of_kind, payload_of, count_among, Holds}
-use Rattle.mp4_boxes.specs.Layout.{tfhd, trun, sbgp, flags, column_values, tfhd_columns, trun_columns, IsSound, IsReadable}
-use Rattle.mp4_boxes.specs.Places.{ruled, AreSound}
+use Rattle.mp4_boxes.specs.format.Bytes.{AreBytes}
+use Rattle.mp4_boxes.specs.format.Box.{Box, box_container}
+use Rattle.mp4_boxes.specs.format.Children.{of_kind, payload_of, count_among, Holds}
+use Rattle.mp4_boxes.specs.format.Layout.{tfhd, trun, sbgp, flags, column_values, tfhd_columns, trun_columns, IsSound, IsReadable}
+use Rattle.mp4_boxes.specs.format.Places.{ruled, AreSound}
 use Rattle.mp4_boxes.specs.declared.rule.Rule.TheVariants as rules
 use Rattle.mp4_boxes.proofs.Each.{each_from, each_value, each_weaker}
 use Rattle.mp4_boxes.proofs.OfBytes.{IsOfBytes, signed_32, bytes_dropped, payload_of_bytes, payloads_of_bytes}
 use Rattle.mp4_boxes.proofs.Sound.{sound_one, sound_each}
-use Rattle.mp4_tables.specs.Groups.{Groups, maps_of}
-use Rattle.mp4_tables.specs.PlainSamples.{PlacedSample, with_groups}
-use Rattle.mp4_tables.specs.Timed.{timed}
-use Rattle.mp4_tables.specs.Accepted.{AreDistinct}
-use Rattle.mp4_tables.specs.Leaves.{boxes_of}
+use Rattle.mp4_tables.specs.format.Groups.{Groups, maps_of}
+use Rattle.mp4_tables.specs.format.PlainSamples.{PlacedSample, with_groups}
+use Rattle.mp4_tables.specs.words.Timed.{timed}
+use Rattle.mp4_tables.specs.words.Accepted.{AreDistinct}
+use Rattle.mp4_tables.specs.words.Leaves.{boxes_of}
 use Rattle.mp4_tables.specs.declared.sample.SampleAt.{SampleAt}
 use Rattle.mp4_tables.proofs.LeafLists.{boxes_are}
-use Rattle.mp4_frag.specs.Fragments.{TrackFragment, Run, AreTrafs, column, track_fragment_of}
-use Rattle.mp4_frag.specs.FragmentSamples.{Part, trex_for, no_trex, base_of, runs_samples, runs_end, parts_after, parts_for, part_samples, fragment_samples, duration_of}
-use Rattle.mp4_frag.specs.FragmentRules.{is_within}
-use Rattle.mp4_frag.specs.Judged.{AreTrexesOf, is_known_among, IsPlacedWithin, IsGrouped}
-use Rattle.mp4_frag.specs.Walks.{Walk, Reached, boxes_in, before_traf, no_indexes, runs_coming, traf_coming, trafs_coming, trex_among, with_leaves}
-use Rattle.mp4_frag.specs.Passing.{IsNearer, IsUpTo}
+use Rattle.mp4_frag.specs.format.Fragments.{TrackFragment, Run, AreTrafs, column, track_fragment_of}
+use Rattle.mp4_frag.specs.format.FragmentSamples.{Part, trex_for, no_trex, base_of, runs_samples, runs_end, parts_after, parts_for, part_samples, fragment_samples, duration_of}
+use Rattle.mp4_frag.specs.format.FragmentRules.{is_within}
+use Rattle.mp4_frag.specs.words.Judged.{AreTrexesOf, is_known_among, IsPlacedWithin, IsGrouped}
+use Rattle.mp4_frag.specs.words.Walks.{Walk, Reached, boxes_in, before_traf, no_indexes, runs_coming, traf_coming, trafs_coming, trex_among, with_leaves}
+use Rattle.mp4_frag.specs.words.Passing.{IsNearer, IsUpTo}
 use Rattle.mp4_frag.specs.declared.state.TrackState.{TrackState}
 use Rattle.mp4_frag.specs.declared.trex.Trex.{Trex}
 use Rattle.mp4_frag.proofs.Bounds.{up_to_more, up_to_near, runs_up_to, base_up_to}

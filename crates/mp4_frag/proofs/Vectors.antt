@@ -1,9 +1,9 @@
 use Rattle.std.specs.Prelude.{◌≡◌, ℕ, pos, List, [], ◌∷◌, codes, refl}
 use Rattle.mp4_boxes.proofs.Vectors.{f1, f2, f3, np, part}
-use Rattle.mp4_boxes.specs.Box.{Box}
-use Rattle.mp4_tables.specs.PlainSamples.{PlacedSample}
-use Rattle.mp4_frag.specs.Fragments.{fragment_of}
-use Rattle.mp4_frag.specs.FragmentSamples.{fragment_samples, all_parts}
+use Rattle.mp4_boxes.specs.format.Box.{Box}
+use Rattle.mp4_tables.specs.format.PlainSamples.{PlacedSample}
+use Rattle.mp4_frag.specs.format.Fragments.{fragment_of}
+use Rattle.mp4_frag.specs.format.FragmentSamples.{fragment_samples, all_parts}
 use Rattle.mp4_frag.specs.declared.trex.Trex.{Trex}
 
 abbrev pub p_trex : Trex

@@ -3,20 +3,20 @@ use Rattle.std.proofs.Common.{◌≡◌, ℕ, zero, suc, ◌+◌, ◌*◌, ◌�
 use Rattle.std.specs.Prelude.{ℤ, pos, codes, bytes_eq}
 use Rattle.std.specs.List.{AllByRecursion}
 use Rattle.std.proofs.lemmas.Bool.{and_parts}
-use Rattle.mp4_boxes.specs.Bytes.{sum_of, width_of}
-use Rattle.mp4_boxes.specs.Box.{Box, Header, LieEndToEnd, header_at, box_of, box_and_more, first_boxes, size, sizes}
-use Rattle.mp4_boxes.specs.Children.{of_kind}
-use Rattle.mp4_boxes.specs.Layout.{trun, sbgp, row_count, needed, knows_version, knows_flags, present, sample_columns}
+use Rattle.mp4_boxes.specs.format.Bytes.{sum_of, width_of}
+use Rattle.mp4_boxes.specs.format.Box.{Box, Header, LieEndToEnd, header_at, box_of, box_and_more, first_boxes, size, sizes}
+use Rattle.mp4_boxes.specs.format.Children.{of_kind}
+use Rattle.mp4_boxes.specs.format.Layout.{trun, sbgp, row_count, needed, knows_version, knows_flags, present, sample_columns}
 use Rattle.mp4_boxes.specs.declared.fault.Kind.{Kind}
 use Rattle.mp4_boxes.proofs.Tiling.{header_is, sizes_fit}
-use Rattle.mp4_tables.specs.Groups.{grouping_of, groupings_of}
-use Rattle.mp4_frag.specs.Fragments.{Run, TrackFragment, AreTrafs, run_of, run_rows, track_fragment_of}
-use Rattle.mp4_frag.specs.Judged.{IsSoundMoof, AreMovedOn, end_with, tree_of}
-use Rattle.mp4_frag.specs.PlacesIn.{run_work, runs_work, group_work, groups_work, traf_work, trafs_work, moof_work, IsPlaceIn}
-use Rattle.mp4_frag.specs.RunsJudged.{children_of, runs_in, runs_total}
-use Rattle.mp4_frag.specs.TrafFaults.{HoldsBoxes}
-use Rattle.mp4_frag.specs.Walks.{can_read}
-use Rattle.mp4_frag.specs.Work.{group_rows, traf_rows, fragment_rows, fragment_length, moof_says}
+use Rattle.mp4_tables.specs.format.Groups.{grouping_of, groupings_of}
+use Rattle.mp4_frag.specs.format.Fragments.{Run, TrackFragment, AreTrafs, run_of, run_rows, track_fragment_of}
+use Rattle.mp4_frag.specs.words.Judged.{IsSoundMoof, AreMovedOn, end_with, tree_of}
+use Rattle.mp4_frag.specs.words.PlacesIn.{run_work, runs_work, group_work, groups_work, traf_work, trafs_work, moof_work, IsPlaceIn}
+use Rattle.mp4_frag.specs.words.RunsJudged.{children_of, runs_in, runs_total}
+use Rattle.mp4_frag.specs.words.TrafFaults.{HoldsBoxes}
+use Rattle.mp4_frag.specs.words.Walks.{can_read}
+use Rattle.mp4_frag.specs.format.FragmentRows.{group_rows, traf_rows, fragment_rows, fragment_length, moof_says}
 use Rattle.mp4_frag.specs.declared.places.FragPlace.{FragPlace}
 use Rattle.mp4_frag.specs.declared.state.TrackState.{TrackState}
 use Rattle.mp4_frag.specs.declared.trex.Trex.{Trex}

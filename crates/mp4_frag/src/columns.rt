@@ -1,7 +1,7 @@
 //! Numbers that stand in a box only where a flag says so.
 ghost use Rattle.std.specs.Prelude.{◌≡◌, ◌+◌, ◌≤◌, length};
-ghost use Rattle.mp4_boxes.specs.Layout.{has};
-ghost use Rattle.mp4_frag.specs.ColumnsRead.{taken, number_if};
+ghost use Rattle.mp4_boxes.specs.format.Layout.{has};
+ghost use Rattle.mp4_frag.specs.words.ColumnsRead.{taken, number_if};
 
 use mp4_boxes::{u32_at, u64_at};
 

@@ -1,4 +1,5 @@
 //! A walk over the samples of a track in a `moof`, one by one.
+use crate::counts::{Counts, leave_run};
 use crate::places::FragPlace;
 use crate::state::TrackState;
 use crate::view::FragView;
@@ -16,8 +17,8 @@ pub struct FragCursor<'a> {
 }
 
 impl<'a> Model for FragCursor<'a> {
-    ghost use Rattle.mp4_frag.specs.Views.{CursorSeen};
-    ghost use Rattle.mp4_frag.specs.PlacesIn.{IsPlaceIn};
+    ghost use Rattle.mp4_frag.specs.words.FragmentsSeen.{CursorSeen};
+    ghost use Rattle.mp4_frag.specs.words.PlacesIn.{IsPlaceIn};
 
     ghost Value = { CursorSeen };
 
@@ -32,19 +33,20 @@ impl<'a> Model for FragCursor<'a> {
 }
 
 impl<'a> FragCursor<'a> {
-    ghost use Rattle.std.specs.Prelude.{ℕ, List, ◌≡◌, ◌+◌, ◌^◌, ◌<◌, ◌≤◌};
-    ghost use Rattle.mp4_boxes.specs.Box.{Box};
-    ghost use Rattle.mp4_tables.specs.Accepted.{AreDistinct};
-    ghost use Rattle.mp4_tables.specs.Timed.{timed};
-    ghost use Rattle.mp4_frag.specs.Fragments.{FragmentTree};
-    ghost use Rattle.mp4_frag.specs.FragmentSamples.{duration_of};
-    ghost use Rattle.mp4_frag.specs.Judged.{AreTrexesOf, IsSoundMoof, samples_of_track};
+    ghost use Rattle.std.specs.Prelude.{ℕ, List, ◌≡◌, ◌+◌, ◌-◌, ◌^◌, ◌<◌, ◌≤◌, length, min, None, IfSome};
+    ghost use Rattle.mp4_boxes.specs.format.Box.{Box};
+    ghost use Rattle.mp4_tables.specs.words.Accepted.{AreDistinct};
+    ghost use Rattle.mp4_tables.specs.words.Timed.{timed};
+    ghost use Rattle.mp4_frag.specs.format.Fragments.{FragmentTree};
+    ghost use Rattle.mp4_frag.specs.format.FragmentSamples.{duration_of};
+    ghost use Rattle.mp4_frag.specs.words.Judged.{AreTrexesOf, IsSoundMoof, samples_of_track};
     ghost use Rattle.mp4_frag.specs.declared.trex.Trex.{Trex};
-    ghost use Rattle.mp4_frag.specs.PlacesIn.{IsPlaceIn, moof_work};
-    ghost use Rattle.mp4_frag.specs.Views.{moof_seen};
-    ghost use Rattle.mp4_frag.specs.Work.{fragment_rows, fragment_length, moof_says};
-    ghost use Rattle.mp4_frag.specs.Walks.{samples_coming, samples_in};
-    ghost use Rattle.mp4_tables.specs.Keys.{keys_seen};
+    ghost use Rattle.mp4_frag.specs.words.PlacesIn.{IsPlaceIn, moof_work};
+    ghost use Rattle.mp4_frag.specs.words.FragmentsSeen.{moof_seen};
+    ghost use Rattle.mp4_frag.specs.words.Times.{lasting};
+    ghost use Rattle.mp4_frag.specs.format.FragmentRows.{fragment_rows, fragment_length, moof_says};
+    ghost use Rattle.mp4_frag.specs.words.Walks.{samples_coming, samples_in};
+    ghost use Rattle.mp4_tables.specs.words.Keys.{keys_seen};
 
     /// The walk from the first sample of the track with this ID on, at this decode time.
     pub fn start(
@@ -101,14 +103,44 @@ impl<'a> FragCursor<'a> {
     {
         self.place
     }
+
+    /// How many samples are to come, how long they last, and the steps behind the last of them;
+    /// none where they are more than so many. Each run is passed at once, so it costs less than to
+    /// take the samples one by one.
+    pub fn counts(&self, most: u32) -> Option<Counts>
+        ensures samples { IfSome result (λ c. c.samples ≡ length (samples_coming self.now)) }
+        ensures few { IfSome result (λ c. c.samples ≤ most) }
+        ensures duration { IfSome result
+            (λ c. c.duration ≡ min (lasting (samples_coming self.now)) (2 ^ 64 - 1)) }
+        ensures many { result ≡ None → most < length (samples_coming self.now) }
+        ensures said { (moof : Box) → self.now.payload ≡ moof.payload → IfSome result (λ c. c.passed
+            ≤ fragment_rows (moof_says moof) + fragment_length (moof_says moof)) }
+    {
+        let mut place = self.place;
+        let mut samples = 0;
+        let mut duration: u64 = 0;
+        while place.run.left > 0 {
+            if place.run.left > most - samples {
+                return None;
+            }
+            samples += place.run.left;
+            duration = duration.saturating_add(leave_run(self.payload, &mut place));
+            settle(self.payload, self.moof, self.tracks, &mut place);
+        }
+        Some(Counts {
+            samples,
+            duration,
+            passed: place.passed,
+        })
+    }
 }
 
 impl<'a> Samples for FragCursor<'a> {
     ghost use Rattle.std.specs.Prelude.{◌≡◌, ◌≤◌};
     ghost use Rattle.std.proofs.Common.{refl, ◌∙◌};
     ghost use Rattle.std.proofs.Math.Nat.{le_refl, le_trans};
-    ghost use Rattle.mp4_frag.specs.Times.{TimeGoesOn};
-    ghost use Rattle.mp4_frag.specs.Walks.{samples_coming};
+    ghost use Rattle.mp4_frag.specs.words.Times.{TimeGoesOn};
+    ghost use Rattle.mp4_frag.specs.words.Walks.{samples_coming};
 
     ghost rest = { samples_coming };
 

@@ -1,6 +1,6 @@
 //! The track with an ID, found among the states of all.
 ghost use Rattle.std.specs.Prelude.{List, ◌≡◌, ◌+◌, ◌<◌, ◌≤◌, ◌==◌, length, take, find, slice_get, None, IfSome};
-ghost use Rattle.mp4_frag.specs.Finding.{IsKnown};
+ghost use Rattle.mp4_frag.specs.words.Finding.{IsKnown};
 ghost use Rattle.mp4_frag.specs.declared.state.TrackState.{TrackState};
 
 use crate::state::TrackState;
@@ -15,7 +15,7 @@ pub(crate) struct Known {
 
 impl Known {
     ghost use Rattle.std.specs.Prelude.{List};
-    ghost use Rattle.mp4_frag.specs.Finding.{IsKnown};
+    ghost use Rattle.mp4_frag.specs.words.Finding.{IsKnown};
     ghost use Rattle.mp4_frag.specs.declared.state.TrackState.{TrackState};
 
     /// Before the first search: one track alone rises.

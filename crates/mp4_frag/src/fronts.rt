@@ -1,7 +1,7 @@
 //! What full boxes begin with: a version and flags (ISO/IEC 14496-12, 4.2.3).
 ghost use Rattle.std.specs.Prelude.{◌≡◌, ◌<◌, ◌≤◌, length, IfOk, IfErr};
 ghost use Rattle.mp4_boxes.specs.declared.fault.Kind.TheVariants as kinds;
-ghost use Rattle.mp4_boxes.specs.Layout.{version, flags};
+ghost use Rattle.mp4_boxes.specs.format.Layout.{version, flags};
 
 use byteorder::{BigEndian, ByteOrder};
 use mp4_boxes::Kind;

@@ -1,18 +1,18 @@
 //! `sbgp` in a `traf`: which group description its samples have (ISO/IEC 14496-12, 8.9.2).
 ghost use Rattle.std.specs.Prelude.{◌≡◌, ◌+◌, ◌*◌, ◌<◌, ◌≤◌, ◌∷◌, drop, nat_le, length, List, is_some, OnOk, IfOk, IfErr, IfSome, ◌++◌, []};
-ghost use Rattle.mp4_boxes.specs.BoxFaults.{Fails};
-ghost use Rattle.mp4_boxes.specs.Layout.{sbgp, row_count};
-ghost use Rattle.mp4_boxes.specs.Layout.{version as version_of};
-ghost use Rattle.mp4_tables.specs.Groups.{key_of as key_in};
-ghost use Rattle.mp4_tables.specs.Keys.{key_seen};
-ghost use Rattle.mp4_tables.specs.Groups.{max_index};
-ghost use Rattle.mp4_tables.specs.Repeated.{total as total_of};
-ghost use Rattle.mp4_frag.specs.Reading.{IsGroup, group_runs};
+ghost use Rattle.mp4_boxes.specs.format.BoxFaults.{Fails};
+ghost use Rattle.mp4_boxes.specs.format.Layout.{sbgp, row_count};
+ghost use Rattle.mp4_boxes.specs.format.Layout.{version as version_of};
+ghost use Rattle.mp4_tables.specs.format.Groups.{key_of as key_in};
+ghost use Rattle.mp4_tables.specs.words.Keys.{key_seen};
+ghost use Rattle.mp4_tables.specs.format.Groups.{max_index};
+ghost use Rattle.mp4_tables.specs.format.Repeated.{total as total_of};
+ghost use Rattle.mp4_frag.specs.words.Reading.{IsGroup, group_runs};
 ghost use Rattle.std.specs.List.{list_all};
-ghost use Rattle.mp4_tables.specs.Groups.{GroupKey as GroupKeyOf};
-ghost use Rattle.mp4_tables.specs.Groups.{Grouping, grouping_of};
-ghost use Rattle.mp4_tables.specs.Keys.{keys_seen};
-ghost use Rattle.mp4_frag.specs.GroupsJudged.{AreNamed, NamesOneMore, IsNameFault, IsGroupSound, IsGroupFault};
+ghost use Rattle.mp4_tables.specs.format.Groups.{GroupKey as GroupKeyOf};
+ghost use Rattle.mp4_tables.specs.format.Groups.{Grouping, grouping_of};
+ghost use Rattle.mp4_tables.specs.words.Keys.{keys_seen};
+ghost use Rattle.mp4_frag.specs.words.GroupsJudged.{AreNamed, NamesOneMore, IsNameFault, IsGroupSound, IsGroupFault};
 
 use crate::fronts::front;
 use mp4_boxes::{FourCc, Kind, Steps, u32_at};
@@ -41,7 +41,7 @@ pub(crate) struct KeysNamed {
 
 impl KeysNamed {
     ghost use Rattle.std.specs.Prelude.{◌≡◌, false};
-    ghost use Rattle.mp4_frag.specs.GroupsJudged.{is_named_at, with_name};
+    ghost use Rattle.mp4_frag.specs.words.GroupsJudged.{is_named_at, with_name};
 
     // None yet.
     pub(crate) fn none() -> KeysNamed

@@ -1,13 +1,13 @@
 //! `tfhd`: of which track a `traf` is, and what its samples inherit (ISO/IEC 14496-12, 8.8.7).
 ghost use Rattle.std.specs.Prelude.{ℕ, ◌≡◌, ◌^◌, ◌≤◌, length, drop, IfOk, IfErr};
-ghost use Rattle.mp4_frag.specs.Passing.{IsUpTo};
-ghost use Rattle.mp4_boxes.specs.Bytes.{field};
-ghost use Rattle.mp4_boxes.specs.BoxFaults.{Fails};
-ghost use Rattle.mp4_boxes.specs.Layout.{column_values, default_base_is_moof, tfhd, tfhd_columns};
-ghost use Rattle.mp4_boxes.specs.Layout.{has as has_flag};
-ghost use Rattle.mp4_frag.specs.ColumnsRead.{head_room};
-ghost use Rattle.mp4_frag.specs.FragmentSamples.{base_of as base_by};
-ghost use Rattle.mp4_frag.specs.Reading.{IsHead, head_values, as_traf, inheritance};
+ghost use Rattle.mp4_frag.specs.words.Passing.{IsUpTo};
+ghost use Rattle.mp4_boxes.specs.format.Bytes.{field};
+ghost use Rattle.mp4_boxes.specs.format.BoxFaults.{Fails};
+ghost use Rattle.mp4_boxes.specs.format.Layout.{column_values, default_base_is_moof, tfhd, tfhd_columns};
+ghost use Rattle.mp4_boxes.specs.format.Layout.{has as has_flag};
+ghost use Rattle.mp4_frag.specs.words.ColumnsRead.{head_room};
+ghost use Rattle.mp4_frag.specs.format.FragmentSamples.{base_of as base_by};
+ghost use Rattle.mp4_frag.specs.words.Reading.{IsHead, head_values, as_traf, inheritance};
 
 use crate::columns::{behind, has, number_at, wide_at};
 use crate::fronts::front;

@@ -1,12 +1,12 @@
 //! The indexes of samples in the `sbgp`s of their `traf` (ISO/IEC 14496-12, 8.9.2).
 ghost use Rattle.std.specs.Prelude.{ℕ, List, ◌≡◌, ◌+◌, ◌*◌, ◌≤◌, length, map, drop, slice_index, IsTrue};
-ghost use Rattle.mp4_tables.specs.Repeated.{repeated};
-ghost use Rattle.mp4_tables.specs.Rows.{runs_at};
-ghost use Rattle.mp4_frag.specs.PlacesIn.{HasIndexRows, IsIndexPlace, AreIndexPlaces};
-ghost use Rattle.mp4_frag.specs.Walks.{all_indexes, with_indexes};
-ghost use Rattle.mp4_frag.specs.Walks.{indexes_here as indexes_left};
-ghost use Rattle.mp4_frag.specs.Walks.{low_half as low_half_of};
-ghost use Rattle.mp4_frag.specs.Walks.{no_indexes as no_lists};
+ghost use Rattle.mp4_tables.specs.format.Repeated.{repeated};
+ghost use Rattle.mp4_tables.specs.words.Rows.{runs_at};
+ghost use Rattle.mp4_frag.specs.words.PlacesIn.{HasIndexRows, IsIndexPlace, AreIndexPlaces};
+ghost use Rattle.mp4_frag.specs.words.Walks.{all_indexes, with_indexes};
+ghost use Rattle.mp4_frag.specs.words.Walks.{indexes_here as indexes_left};
+ghost use Rattle.mp4_frag.specs.words.Walks.{low_half as low_half_of};
+ghost use Rattle.mp4_frag.specs.words.Walks.{no_indexes as no_lists};
 
 use crate::groups::Group;
 use crate::places::{IndexPlace, IndexPlaces};

@@ -1,8 +1,8 @@
 //! Looks ahead in a `moof`: which `traf` is the next that names a track.
 ghost use Rattle.std.specs.Prelude.{◌≡◌, ◌<◌, ◌≤◌, ◌+◌, ◌-◌, ◌∷◌, [], length, drop, suc, None, true, false, codes, bytes_eq, IfSome, MatchOption};
-ghost use Rattle.mp4_frag.specs.Looks.{names, has_base as says_base, is_named, is_based, AreOthers, looks};
-ghost use Rattle.mp4_frag.specs.Reading.{as_traf};
-ghost use Rattle.mp4_frag.specs.Walks.{head_of, part_of, boxes_between};
+ghost use Rattle.mp4_frag.specs.words.Looks.{names, has_base as says_base, is_named, is_based, AreOthers, looks};
+ghost use Rattle.mp4_frag.specs.words.Reading.{as_traf};
+ghost use Rattle.mp4_frag.specs.words.Walks.{head_of, part_of, boxes_between};
 
 use crate::check::{TFHD, TRAF};
 use crate::heads::{Head, read_head};

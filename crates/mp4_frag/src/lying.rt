@@ -1,7 +1,7 @@
 //! Boxes of a payload by their places in it.
 ghost use Rattle.std.specs.Prelude.{◌≡◌, ◌+◌, ◌-◌, ◌<◌, ◌≤◌, ◌∷◌, [], length, None, Ok, IfSome, MatchOption, IsErr, false};
-ghost use Rattle.mp4_boxes.specs.Box.{header_at};
-ghost use Rattle.mp4_frag.specs.Walks.{part_of, boxes_between};
+ghost use Rattle.mp4_boxes.specs.format.Box.{header_at};
+ghost use Rattle.mp4_frag.specs.words.Walks.{part_of, boxes_between};
 
 use mp4_boxes::{FourCc, u32_at, u64_at};
 

@@ -1,8 +1,8 @@
 //! A row of `trun`: what it says of one sample (ISO/IEC 14496-12, 8.8.8).
 ghost use Rattle.std.specs.Prelude.{◌≡◌, ◌+◌, ◌≤◌, length, drop};
-ghost use Rattle.mp4_boxes.specs.Layout.{column_values, sample_columns};
-ghost use Rattle.mp4_frag.specs.ColumnsRead.{row_room};
-ghost use Rattle.mp4_frag.specs.Reading.{row_values};
+ghost use Rattle.mp4_boxes.specs.format.Layout.{column_values, sample_columns};
+ghost use Rattle.mp4_frag.specs.words.ColumnsRead.{row_room};
+ghost use Rattle.mp4_frag.specs.words.Reading.{row_values};
 
 use crate::columns::{behind, has, number_at};
 

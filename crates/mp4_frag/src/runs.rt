@@ -1,11 +1,11 @@
 //! `trun`: samples that lie one after the other (ISO/IEC 14496-12, 8.8.8).
 ghost use Rattle.std.specs.Prelude.{◌≡◌, ◌≤◌, ◌∷◌, [], length, drop, option_map, IfOk, IfErr};
 ghost use Rattle.byteorder.specs.Endian.{twos_complement};
-ghost use Rattle.mp4_boxes.specs.BoxFaults.{Fails};
+ghost use Rattle.mp4_boxes.specs.format.BoxFaults.{Fails};
 ghost use Rattle.mp4_boxes.specs.declared.fault.Kind.TheVariants as kinds;
-ghost use Rattle.mp4_boxes.specs.Layout.{column_values, trun, trun_columns};
-ghost use Rattle.mp4_frag.specs.ColumnsRead.{rows_from};
-ghost use Rattle.mp4_frag.specs.Reading.{IsRun};
+ghost use Rattle.mp4_boxes.specs.format.Layout.{column_values, trun, trun_columns};
+ghost use Rattle.mp4_frag.specs.words.ColumnsRead.{rows_from};
+ghost use Rattle.mp4_frag.specs.words.Reading.{IsRun};
 
 use crate::columns::{behind, has, number_at};
 use crate::fronts::front;

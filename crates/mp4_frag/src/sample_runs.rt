@@ -1,10 +1,10 @@
 //! The samples of a run, passed one by one to judge them.
 ghost use Rattle.std.specs.Prelude.{ℕ, ◌≡◌, ◌+◌, ◌*◌, ◌^◌, ◌<◌, ◌≤◌, ◌∷◌, [], ◌||◌, ◌+ℤ◌, pos, true, length, IfOk, IfErr, ◌-◌, not, ◌&&◌};
-ghost use Rattle.mp4_boxes.specs.Layout.{too_large};
-ghost use Rattle.mp4_tables.specs.TableRules.{lies_within as lies_in};
-ghost use Rattle.mp4_frag.specs.ColumnsRead.{row_room};
-ghost use Rattle.mp4_frag.specs.FragmentSamples.{run_start as run_start_by};
-ghost use Rattle.mp4_frag.specs.Passing.{IsNear, IsNearer, IsUpTo, IsRunFault, IsRunPassed, rows_left, offsets_left, row_seen, within_from, end_from, lasting, filling};
+ghost use Rattle.mp4_boxes.specs.format.Layout.{too_large};
+ghost use Rattle.mp4_tables.specs.format.TableRules.{lies_within as lies_in};
+ghost use Rattle.mp4_frag.specs.words.ColumnsRead.{row_room};
+ghost use Rattle.mp4_frag.specs.format.FragmentSamples.{run_start as run_start_by};
+ghost use Rattle.mp4_frag.specs.words.Passing.{IsNear, IsNearer, IsUpTo, IsRunFault, IsRunPassed, rows_left, offsets_left, row_seen, within_from, end_from, lasting, filling};
 
 use crate::heads::Inherited;
 use crate::rows::{Row, row_at, row_size};

@@ -1,8 +1,8 @@
 //! `tfdt`: the decode time of a `traf` (ISO/IEC 14496-12, 8.8.12).
 ghost use Rattle.std.specs.Prelude.{◌≡◌, IfOk, IfErr};
-ghost use Rattle.mp4_boxes.specs.BoxFaults.{Fails};
-ghost use Rattle.mp4_boxes.specs.Layout.{IsReadable, tfdt};
-ghost use Rattle.mp4_frag.specs.Fragments.{decode_time_of};
+ghost use Rattle.mp4_boxes.specs.format.BoxFaults.{Fails};
+ghost use Rattle.mp4_boxes.specs.format.Layout.{IsReadable, tfdt};
+ghost use Rattle.mp4_frag.specs.format.Fragments.{decode_time_of};
 
 use crate::fronts::front;
 use mp4_boxes::{Kind, u32_at, u64_at};

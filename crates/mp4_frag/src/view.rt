@@ -9,8 +9,8 @@ pub struct FragView<'a> {
 
 impl<'a> FragView<'a> {
     ghost use Rattle.std.specs.Prelude.{◌≡◌};
-    ghost use Rattle.mp4_boxes.specs.View.{box_seen};
-    ghost use Rattle.mp4_frag.specs.Views.{moof_seen};
+    ghost use Rattle.mp4_boxes.specs.words.View.{box_seen};
+    ghost use Rattle.mp4_frag.specs.words.FragmentsSeen.{moof_seen};
 
     /// The view of a `moof` that was checked before.
     pub fn again(moof: BoxView<'a>) -> FragView<'a>

@@ -1,13 +1,13 @@
 //! A walk over the samples of a track in a `moof`, from place to place.
 ghost use Rattle.std.specs.Prelude.{ℕ, List, ◌≡◌, ◌+◌, ◌-◌, ◌<◌, ◌≤◌, ◌∷◌, length, drop, slice_get, None, Some, Ok, false};
-ghost use Rattle.mp4_boxes.specs.Bytes.{AreBytes};
-ghost use Rattle.mp4_tables.specs.Keys.{keys_seen};
-ghost use Rattle.mp4_frag.specs.FragmentSamples.{flags_of as flags_by};
-ghost use Rattle.mp4_frag.specs.ColumnsRead.{row_room};
-ghost use Rattle.mp4_frag.specs.PlacesIn.{LiesIn, IsPlaceIn, IsRowPlace, AreIndexPlaces, run_work, runs_work, group_work, groups_work, work_behind, moof_work};
-ghost use Rattle.mp4_frag.specs.Looks.{AreOthers, is_named, over_run, over_work};
-ghost use Rattle.mp4_frag.specs.Times.{time_behind};
-ghost use Rattle.mp4_frag.specs.Walks.{Walk, Reached, at_first, rows_here, trafs_coming, row_signed, first_byte, part_of, boxes_between, trex_among, with_head, all_indexes, with_group, with_leaves, before_traf, end_held, rows_coming, run_coming, runs_coming, reached, walk_of, coming, begin as begin_by};
+ghost use Rattle.mp4_boxes.specs.format.Bytes.{AreBytes};
+ghost use Rattle.mp4_tables.specs.words.Keys.{keys_seen};
+ghost use Rattle.mp4_frag.specs.format.FragmentSamples.{flags_of as flags_by};
+ghost use Rattle.mp4_frag.specs.words.ColumnsRead.{row_room};
+ghost use Rattle.mp4_frag.specs.words.PlacesIn.{LiesIn, IsPlaceIn, IsRowPlace, AreIndexPlaces, run_work, runs_work, group_work, groups_work, work_behind, moof_work};
+ghost use Rattle.mp4_frag.specs.words.Looks.{AreOthers, is_named, over_run, over_work};
+ghost use Rattle.mp4_frag.specs.words.Times.{time_behind};
+ghost use Rattle.mp4_frag.specs.words.Walks.{Walk, Reached, at_first, rows_here, trafs_coming, row_signed, first_byte, part_of, boxes_between, trex_among, with_head, all_indexes, with_group, with_leaves, before_traf, end_held, rows_coming, run_coming, runs_coming, reached, walk_of, coming, begin as begin_by};
 
 use crate::check::{SBGP, TFHD, TRAF, TRUN};
 use crate::finding::{Known, find_track};
@@ -124,7 +124,7 @@ fn open_traf(payload: &[u8], moof: u64, tracks: &[TrackState], lying: Lying, pla
 
 // The next row of a run.
 #[inline]
-fn row_here(payload: &[u8], run: RowPlace) -> Row
+pub(crate) fn row_here(payload: &[u8], run: RowPlace) -> Row
     requires some { 0 < run.left }
     requires place { IsRowPlace payload.now run }
     ensures { rows_here payload.now run ≡ row_signed result
@@ -430,7 +430,7 @@ pub(crate) fn sample_here(payload: &[u8], place: &FragPlace) -> SampleAt
 
 // The row behind: `first_sample_flags` go for the first row alone.
 #[inline]
-fn next_row(run: RowPlace) -> RowPlace
+pub(crate) fn next_row(run: RowPlace) -> RowPlace
     requires some { 0 < run.left }
     requires fits { run.row + row_room run.bits ≤ usize.MAX }
     ensures { result ≡ record run {

@@ -1,18 +1,18 @@
 -- A fault in a box stands in the container that the box stands in.
 use Rattle.std.proofs.Common.{◌≡◌, ℕ, ◌+◌, inl, inr, Bool, true, false, List, [], ◌∷◌, ◌++◌, drop, Some, sym, subst, ◌∙◌, append_assoc, refl}
 use Rattle.std.specs.Prelude.{◌⊎◌, codes, bytes_eq}
-use Rattle.mp4_boxes.specs.Box.{Box, file_container, size, LieEndToEnd, StandsAfter, Tiles, box_container}
-use Rattle.mp4_boxes.specs.Layout.{Leaf}
-use Rattle.mp4_boxes.specs.Places.{Place, whole, Scope, ruled, leaf_of, inside, Reaches, StandsIn}
-use Rattle.mp4_boxes.specs.BoxFaults.{IsChildFault}
+use Rattle.mp4_boxes.specs.format.Box.{Box, file_container, size, LieEndToEnd, StandsAfter, Tiles, box_container}
+use Rattle.mp4_boxes.specs.format.Layout.{Leaf}
+use Rattle.mp4_boxes.specs.format.Places.{Place, whole, Scope, ruled, leaf_of, inside, Reaches, StandsIn}
+use Rattle.mp4_boxes.specs.format.BoxFaults.{IsChildFault}
 use Rattle.mp4_boxes.specs.declared.rule.Rule.{Rule}
 use Rattle.mp4_boxes.specs.declared.rule.Rule.TheVariants as rules
 use Rattle.mp4_boxes.specs.declared.fault.Fault.{Fault}
 use Rattle.mp4_boxes.specs.declared.refusal.Refusal.{Refusal}
 use Rattle.mp4_boxes.specs.declared.refusal.Refusal.TheVariants as refusals
-use Rattle.mp4_head.specs.HeadFaults.{IsTakenId, is_table, HeadStands, HeaderStands, ChildStands, MissingStands, LeafStands}
-use Rattle.mp4_head.specs.Leaves.{IsFaultOf}
-use Rattle.mp4_head.specs.Refuses.{RefusesLeaf, RefusesIn, RefusesBoth, place_of}
+use Rattle.mp4_head.specs.format.HeadFaults.{IsTakenId, is_table, HeadStands, HeaderStands, ChildStands, MissingStands, LeafStands}
+use Rattle.mp4_head.specs.words.Leaves.{IsFaultOf}
+use Rattle.mp4_head.specs.words.Refuses.{RefusesLeaf, RefusesIn, RefusesBoth, place_of}
 
 -- ---- where boxes stand
 

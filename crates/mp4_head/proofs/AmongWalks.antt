@@ -1,10 +1,10 @@
 -- The first box of a group of types, as a walk over the boxes of a container finds it.
 use Rattle.std.proofs.Common.{◌≡◌, ℕ, ◌+◌, ◌<◌, Bool, true, false, List, [], ◌∷◌, ◌++◌, Option, Some, None, refl, sym, ap, subst, ◌∙◌, arith}
 use Rattle.std.specs.Prelude.{cond}
-use Rattle.mp4_boxes.specs.Box.{Box}
-use Rattle.mp4_boxes.specs.Children.{count_among, is_among}
+use Rattle.mp4_boxes.specs.format.Box.{Box}
+use Rattle.mp4_boxes.specs.format.Children.{count_among, is_among}
 use Rattle.mp4_boxes.proofs.Among.{count-append}
-use Rattle.mp4_head.specs.Tree.{first_among}
+use Rattle.mp4_head.specs.format.Tree.{first_among}
 
 -- what was read of the first box of these types, if one was passed
 pub data AmongRead {X : Type 0} (P : Box → X → Type 0) (kinds : List (List ℕ)) (passed : List Box) : Option X → Type 0 where

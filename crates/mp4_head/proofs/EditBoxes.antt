@@ -1,17 +1,17 @@
 -- The boxes of an `edts`, one after the other.
 use Rattle.std.proofs.Common.{◌≡◌, true, false, List, [], ◌∷◌, Some, refl, sym, ap, subst, ◌∙◌}
 use Rattle.std.specs.Prelude.{codes, bytes_eq}
-use Rattle.mp4_boxes.specs.Box.{Box, box_container}
-use Rattle.mp4_boxes.specs.Children.{Holds, payload_if}
-use Rattle.mp4_boxes.specs.Layout.{elst, IsSound}
-use Rattle.mp4_boxes.specs.Places.{ruled, AreSound}
+use Rattle.mp4_boxes.specs.format.Box.{Box, box_container}
+use Rattle.mp4_boxes.specs.format.Children.{Holds, payload_if}
+use Rattle.mp4_boxes.specs.format.Layout.{elst, IsSound}
+use Rattle.mp4_boxes.specs.format.Places.{ruled, AreSound}
 use Rattle.mp4_boxes.specs.declared.rule.Rule.TheVariants as rules
 use Rattle.mp4_boxes.specs.declared.refusal.Refusal.{Refusal}
 use Rattle.mp4_boxes.proofs.Refusing.{holds_few}
-use Rattle.mp4_head.specs.Head as heads
-use Rattle.mp4_head.specs.Tree.{edits_of}
-use Rattle.mp4_head.specs.Containers.{SaysEdits}
-use Rattle.mp4_head.specs.Refuses.{RefusesLeaf, RefusesIn, place_of}
+use Rattle.mp4_head.specs.format.Head as heads
+use Rattle.mp4_head.specs.format.Tree.{edits_of}
+use Rattle.mp4_head.specs.words.Containers.{SaysEdits}
+use Rattle.mp4_head.specs.words.Refuses.{RefusesLeaf, RefusesIn, place_of}
 use Rattle.mp4_head.proofs.Above.{stands_of, refuses_leaf}
 use Rattle.mp4_head.proofs.Walks.{Walk, walk_none, walk_more, walk_here, walk_all, none_before, payload_other, payload_this, sound_more}
 

@@ -3,12 +3,12 @@ use Rattle.std.proofs.Common.{◌≡◌, ℕ, zero, suc, ◌+◌, ◌*◌, ◌<�
 use Rattle.std.specs.Prelude.{slice_index}
 use Rattle.std.proofs.lemmas.Bool.{le-leb}
 use Rattle.std.proofs.lemmas.List.{length-drop, append-nil, map-append}
-use Rattle.mp4_boxes.specs.Bytes.{field, numbers, rows, width_of}
-use Rattle.mp4_boxes.specs.Layout.{elst, row, row_count, version, time_width, needed, IsSound}
-use Rattle.mp4_head.specs.Head as heads
-use Rattle.mp4_head.specs.Seen.{edit_seen}
-use Rattle.mp4_head.specs.Tree.{edit_of}
-use Rattle.mp4_head.specs.Leaves.{IsOpen}
+use Rattle.mp4_boxes.specs.format.Bytes.{field, numbers, rows, width_of}
+use Rattle.mp4_boxes.specs.format.Layout.{elst, row, row_count, version, time_width, needed, IsSound}
+use Rattle.mp4_head.specs.format.Head as heads
+use Rattle.mp4_head.specs.words.Seen.{edit_seen}
+use Rattle.mp4_head.specs.format.Tree.{edit_of}
+use Rattle.mp4_head.specs.words.Leaves.{IsOpen}
 use Rattle.mp4_head.specs.declared.edit_list.Edit.{Edit}
 use Rattle.mp4_head.proofs.Opening.{number_is}
 

@@ -4,20 +4,20 @@ use Rattle.std.specs.Prelude.{codes, bytes_eq, slice_index, not, nat_lt, bit_and
 use Rattle.std.specs.List.{AllByRecursion}
 use Rattle.std.proofs.lemmas.List.{map-append}
 use Rattle.std.proofs.lemmas.Bool.{eq-eqb, eqb-true, lt-ltb, le-ltb}
-use Rattle.mp4_boxes.specs.Bytes.{field}
-use Rattle.mp4_boxes.specs.Box.{Box, counted_container, LieEndToEnd, StandsAfter, Tiles}
-use Rattle.mp4_boxes.specs.BoxFaults.{fault_of, IsHeaderFault}
-use Rattle.mp4_boxes.specs.Layout.{dref, stsd, sample_entry, data_entry_url, fields, leaf_fields, version, flags, needed, IsReadable, IsSound}
-use Rattle.mp4_boxes.specs.Places.{data_entries, sample_entries, AreSound}
+use Rattle.mp4_boxes.specs.format.Bytes.{field}
+use Rattle.mp4_boxes.specs.format.Box.{Box, counted_container, LieEndToEnd, StandsAfter, Tiles}
+use Rattle.mp4_boxes.specs.format.BoxFaults.{fault_of, IsHeaderFault}
+use Rattle.mp4_boxes.specs.format.Layout.{dref, stsd, sample_entry, data_entry_url, fields, leaf_fields, version, flags, needed, IsReadable, IsSound}
+use Rattle.mp4_boxes.specs.format.Places.{data_entries, sample_entries, AreSound}
 use Rattle.mp4_boxes.specs.declared.fault.Fault.{Fault}
 use Rattle.mp4_boxes.specs.declared.fault.Kind.TheVariants.{ShortBox, BadValue, OutsideData}
 use Rattle.mp4_boxes.proofs.Among.{all_append}
 use Rattle.mp4_boxes.proofs.Sound.{same_kind}
-use Rattle.mp4_head.specs.Head.{Kept}
-use Rattle.mp4_head.specs.Containers.{SaysReferences, SaysDescriptions}
-use Rattle.mp4_head.specs.Leaves.{IsFaultOf, FailsToOpen, FailsAsReference, another, at_fault, IsOpen}
+use Rattle.mp4_head.specs.format.Head.{Kept}
+use Rattle.mp4_head.specs.words.Containers.{SaysReferences, SaysDescriptions}
+use Rattle.mp4_head.specs.words.Leaves.{IsFaultOf, FailsToOpen, FailsAsReference, another, at_fault, IsOpen}
 use Rattle.mp4_boxes.specs.declared.refusal.Refusal.TheVariants as refusals
-use Rattle.mp4_head.specs.Refuses.{StandsOrFails, RefusesBoth, place_of}
+use Rattle.mp4_head.specs.words.Refuses.{StandsOrFails, RefusesBoth, place_of}
 use Rattle.mp4_head.proofs.Above.{lies_front, here, leaf_here}
 use Rattle.mp4_head.proofs.Opening.{open_readable, open_fails, number_is}
 use Rattle.mp4_head.proofs.Walks.{Walk, walk_none, walk_more, walk_here, walk_all, sound_more}

@@ -5,23 +5,23 @@ use Rattle.std.specs.List.{list_any, AllZip}
 use Rattle.std.specs.Ordering.{nat_cmp}
 use Rattle.std.specs.BTreeSet.{BTreeSet, contains}
 use Rattle.std.proofs.lemmas.List.{map-append}
-use Rattle.mp4_boxes.specs.Box.{Box, box_container}
-use Rattle.mp4_boxes.specs.BoxFaults.{fault_of}
-use Rattle.mp4_boxes.specs.Children.{Holds, of_kind}
-use Rattle.mp4_boxes.specs.Layout.{trex, IsSound}
-use Rattle.mp4_boxes.specs.Places.{ruled, AreSound, IsSoundAs, leaf_of}
+use Rattle.mp4_boxes.specs.format.Box.{Box, box_container}
+use Rattle.mp4_boxes.specs.format.BoxFaults.{fault_of}
+use Rattle.mp4_boxes.specs.format.Children.{Holds, of_kind}
+use Rattle.mp4_boxes.specs.format.Layout.{trex, IsSound}
+use Rattle.mp4_boxes.specs.format.Places.{ruled, AreSound, IsSoundAs, leaf_of}
 use Rattle.mp4_boxes.specs.declared.rule.Rule.TheVariants as kinds
 use Rattle.mp4_boxes.specs.declared.fault.Fault.{Fault}
 use Rattle.mp4_boxes.specs.declared.fault.Kind.TheVariants.{BadValue}
 use Rattle.mp4_boxes.specs.declared.refusal.Refusal.TheVariants as refusals
 use Rattle.mp4_boxes.proofs.Among.{all_in}
 use Rattle.mp4_frag.specs.declared.trex.Trex.{Trex}
-use Rattle.mp4_frag.specs.Fragments.{trex_of}
-use Rattle.mp4_head.specs.Tree.{are_distinct}
-use Rattle.mp4_head.specs.Containers.{SaysExtends}
-use Rattle.mp4_head.specs.Ids.{HasIds, AddsId}
-use Rattle.mp4_head.specs.Leaves.{IsFaultOf}
-use Rattle.mp4_head.specs.Refuses.{RefusesIn, place_of}
+use Rattle.mp4_frag.specs.format.Fragments.{trex_of}
+use Rattle.mp4_head.specs.format.Tree.{are_distinct}
+use Rattle.mp4_head.specs.words.Containers.{SaysExtends}
+use Rattle.mp4_head.specs.words.Ids.{HasIds, AddsId}
+use Rattle.mp4_head.specs.words.Leaves.{IsFaultOf}
+use Rattle.mp4_head.specs.words.Refuses.{RefusesIn, place_of}
 use Rattle.mp4_head.proofs.Above.{stands_of, here, leaf_here}
 use Rattle.mp4_head.proofs.Inside.{stands_before}
 use Rattle.mp4_head.proofs.Taken.{no_ids, more_ids, distinct_more, whose, zip_values}

@@ -2,10 +2,10 @@
 use Rattle.std.proofs.Common.{◌≡◌, ℕ, Bool, true, false, List, [], ◌∷◌, Option, Some, None, refl, sym, ap, subst, ◌∙◌, arith, inl, inr}
 use Rattle.std.specs.Prelude.{codes, bytes_eq, slice_index, ◌||◌, Result, Ok, Err, IfErr}
 use Rattle.std.specs.List.{list_any, AllByRecursion}
-use Rattle.mp4_boxes.specs.Box.{Box, Container}
-use Rattle.mp4_boxes.specs.Children.{of_kind, Holds, kept_kinds}
-use Rattle.mp4_boxes.specs.Layout.{Leaf, tkhd, data_entry_url, sample_entry, stsd, stts, ctts, stsc, stsz, stz2, stco, co64, stss, sdtp, sbgp, sgpd, trex, leaf_fields, IsSound}
-use Rattle.mp4_boxes.specs.Places.{Scope, ruled, data_entries, sample_entries, at_kind, leaves, leaf_of, IsSoundAs, AreSound}
+use Rattle.mp4_boxes.specs.format.Box.{Box, Container}
+use Rattle.mp4_boxes.specs.format.Children.{of_kind, Holds, kept_kinds}
+use Rattle.mp4_boxes.specs.format.Layout.{Leaf, tkhd, data_entry_url, sample_entry, stsd, stts, ctts, stsc, stsz, stz2, stco, co64, stss, sdtp, sbgp, sgpd, trex, leaf_fields, IsSound}
+use Rattle.mp4_boxes.specs.format.Places.{Scope, ruled, data_entries, sample_entries, at_kind, leaves, leaf_of, IsSoundAs, AreSound}
 use Rattle.mp4_boxes.specs.declared.rule.Rule.{Rule}
 use Rattle.mp4_boxes.specs.declared.rule.Rule.TheVariants.{File, Movie, Track, Edits, Media, MediaInformation, DataInformation, SampleTable, MovieExtends, MovieFragment, TrackFragment}
 use Rattle.mp4_boxes.specs.declared.fault.Fault.{Fault}
@@ -14,11 +14,11 @@ use Rattle.mp4_boxes.specs.declared.refusal.Refusal.TheVariants as refusals
 use Rattle.mp4_boxes.proofs.Among.{IsIn, true_false, all_in, in_of_kind, only_entry, entry_or, no_entry}
 use Rattle.mp4_boxes.proofs.Refusing.{unsound, holds_only, child_fault_refuses}
 use Rattle.mp4_boxes.proofs.Tiling.{header_fault_refuses}
-use Rattle.mp4_frag.specs.Fragments.{trex_of}
-use Rattle.mp4_head.specs.Head.{names_item_location}
-use Rattle.mp4_head.specs.HeadFaults.{HeadStands, HeaderStands, ChildStands, MissingStands, IsHeadLeafFault, IsTakenId, IsForeignReference, IsItemLocation, is_table}
-use Rattle.mp4_head.specs.Refuses.{RefusesIn, place_of}
-use Rattle.mp4_head.specs.Tree.{TrackTree, MovieTree, IsMovieTree, IsSoundTrack, IsSoundMovie, are_distinct, first_of, track_head_of}
+use Rattle.mp4_frag.specs.format.Fragments.{trex_of}
+use Rattle.mp4_head.specs.format.Head.{names_item_location}
+use Rattle.mp4_head.specs.format.HeadFaults.{HeadStands, HeaderStands, ChildStands, MissingStands, IsHeadLeafFault, IsTakenId, IsForeignReference, IsItemLocation, is_table}
+use Rattle.mp4_head.specs.words.Refuses.{RefusesIn, place_of}
+use Rattle.mp4_head.specs.format.Tree.{TrackTree, MovieTree, IsMovieTree, IsSoundTrack, IsSoundMovie, are_distinct, first_of, track_head_of}
 use Rattle.mp4_head.proofs.Distinct.{distinct_same, map_twice, kept_names_none, payload_first}
 use Rattle.mp4_head.proofs.HeadPlaces.{HoldsAs, IsNamed, tiled, reached, standing, among, is_first, track_tree}
 

@@ -5,12 +5,12 @@ use Rattle.std.specs.List.{flat_map}
 use Rattle.std.proofs.lemmas.List.{drop_more, drop_all}
 use Rattle.byteorder.specs.Endian.{big_bytes}
 use Rattle.byteorder.specs.Numbers.{length-bytes_high_first}
-use Rattle.mp4_boxes.specs.Bytes.{sum_of, spelled}
-use Rattle.mp4_boxes.specs.Layout.{fields, stts, stsc, stsz, stco}
-use Rattle.mp4_boxes.specs.Written.{box_bytes}
-use Rattle.mp4_head.specs.Head.{Kept, Edit, Media, TrackHead, MovieHead}
-use Rattle.mp4_head.specs.Writing.{mvhd_bytes, tkhd_bytes, mdhd_bytes, edts_bytes, edit_bytes, kept_bytes, dinf_bytes, stbl_bytes, mdia_bytes, trak_bytes, trex_bytes, mvex_bytes, moov_bytes, head_bytes, ftyp_bytes, next_track_id}
-use Rattle.mp4_head.specs.Parts.{capped, descriptions_bytes}
+use Rattle.mp4_boxes.specs.format.Bytes.{sum_of, spelled}
+use Rattle.mp4_boxes.specs.format.Layout.{fields, stts, stsc, stsz, stco}
+use Rattle.mp4_boxes.specs.format.Written.{box_bytes}
+use Rattle.mp4_head.specs.format.Head.{Kept, Edit, Media, TrackHead, MovieHead}
+use Rattle.mp4_head.specs.format.Writing.{mvhd_bytes, tkhd_bytes, mdhd_bytes, edts_bytes, edit_bytes, kept_bytes, dinf_bytes, stbl_bytes, mdia_bytes, trak_bytes, trex_bytes, mvex_bytes, moov_bytes, head_bytes, ftyp_bytes, next_track_id}
+use Rattle.mp4_head.specs.words.Parts.{capped, descriptions_bytes}
 use Rattle.mp4_head.proofs.Pieces.{appended, of_nine}
 
 -- A number was counted up by the members of a list before a place.

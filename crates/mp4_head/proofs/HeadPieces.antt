@@ -2,13 +2,13 @@
 use Rattle.std.proofs.Common.{◌≡◌, ℕ, List, [], ◌∷◌, ◌++◌, length, map, refl}
 use Rattle.std.specs.Prelude.{replicate, codes}
 use Rattle.byteorder.specs.Endian.{big_bytes}
-use Rattle.mp4_boxes.specs.Bytes.{unsigned}
-use Rattle.mp4_boxes.specs.Written.{box_bytes}
-use Rattle.mp4_head.specs.Head.{TrackHead, MovieHead}
-use Rattle.mp4_head.specs.Writing.{mvhd_bytes, tkhd_bytes, edts_bytes}
+use Rattle.mp4_boxes.specs.format.Bytes.{unsigned}
+use Rattle.mp4_boxes.specs.format.Written.{box_bytes}
+use Rattle.mp4_head.specs.format.Head.{TrackHead, MovieHead}
+use Rattle.mp4_head.specs.format.Writing.{mvhd_bytes, tkhd_bytes, edts_bytes}
 use Rattle.mp4_head.specs.declared.edit_list.Edit as seen
-use Rattle.mp4_head.specs.Seen.{edit_seen}
-use Rattle.mp4_head.specs.Parts.{matrix_bytes, edit_list_bytes}
+use Rattle.mp4_head.specs.words.Seen.{edit_seen}
+use Rattle.mp4_head.specs.words.Parts.{matrix_bytes, edit_list_bytes}
 use Rattle.mp4_head.proofs.Pieces.{joined, of_nine}
 
 abbrev pub movie_pieces : List ℕ → MovieHead → ℕ → List (List ℕ)

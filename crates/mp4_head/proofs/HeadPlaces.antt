@@ -1,16 +1,16 @@
 -- The containers in a `moov` are those of its tree: whatever boxes lead to.
 use Rattle.std.proofs.Common.{◌≡◌, ℕ, ◌≤◌, true, List, [], ◌∷◌, Some, refl, sym, ap, subst, ◌∙◌, inl, inr}
 use Rattle.std.specs.Prelude.{codes, bytes_eq}
-use Rattle.mp4_boxes.specs.Box.{Box, Container, Tiles, box_container, counted_container}
-use Rattle.mp4_boxes.specs.Children.{Holds, count_among, of_kind}
-use Rattle.mp4_boxes.specs.Places.{Scope, ruled, data_entries, sample_entries, Place, at_kind, containers, as_container, Leads, Reaches, StandsIn}
+use Rattle.mp4_boxes.specs.format.Box.{Box, Container, Tiles, box_container, counted_container}
+use Rattle.mp4_boxes.specs.format.Children.{Holds, count_among, of_kind}
+use Rattle.mp4_boxes.specs.format.Places.{Scope, ruled, data_entries, sample_entries, Place, at_kind, containers, as_container, Leads, Reaches, StandsIn}
 use Rattle.mp4_boxes.specs.declared.rule.Rule.{Rule}
 use Rattle.mp4_boxes.specs.declared.rule.Rule.TheVariants.{File, Movie, Track, Edits, Media, MediaInformation, DataInformation, SampleTable, MovieExtends, MovieFragment, TrackFragment}
 use Rattle.mp4_boxes.proofs.Members.{only_one}
 use Rattle.mp4_boxes.proofs.Among.{IsIn, all_in, in_map, in_of_kind, first_there, only_entry, either_entry, no_entry, inside_is}
 use Rattle.mp4_boxes.proofs.Refusing.{stands_in, holds_only, holds_few}
-use Rattle.mp4_head.specs.Tree.{TrackTree, MovieTree, HoldsIfThere, IsTrackTree, IsMovieTree, first_of}
-use Rattle.mp4_head.specs.Refuses.{place_of}
+use Rattle.mp4_head.specs.format.Tree.{TrackTree, MovieTree, HoldsIfThere, IsTrackTree, IsMovieTree, first_of}
+use Rattle.mp4_head.specs.words.Refuses.{place_of}
 
 -- the container is tiled by these boxes, and by those of the profile where a rule says which
 abbrev pub HoldsAs : Scope → Container → List Box → Type 0

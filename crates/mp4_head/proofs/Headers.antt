@@ -3,14 +3,14 @@ use Rattle.std.proofs.Common.{◌≡◌, ℕ, zero, suc, ◌+◌, ◌*◌, ◌<�
 use Rattle.std.specs.Prelude.{slice_index, map}
 use Rattle.byteorder.specs.Endian.{twos_complement}
 use Rattle.std.proofs.Math.Dec.{eqb-suc-zero}
-use Rattle.mp4_boxes.specs.Bytes.{field, width_of}
-use Rattle.mp4_boxes.specs.Box.{Box}
-use Rattle.mp4_boxes.specs.BoxFaults.{fault_of}
-use Rattle.mp4_boxes.specs.Layout.{mvhd, tkhd, mdhd, hdlr, fields, leaf_fields, version, time_width, needed, IsReadable, IsSound}
+use Rattle.mp4_boxes.specs.format.Bytes.{field, width_of}
+use Rattle.mp4_boxes.specs.format.Box.{Box}
+use Rattle.mp4_boxes.specs.format.BoxFaults.{fault_of}
+use Rattle.mp4_boxes.specs.format.Layout.{mvhd, tkhd, mdhd, hdlr, fields, leaf_fields, version, time_width, needed, IsReadable, IsSound}
 use Rattle.mp4_boxes.specs.declared.fault.Fault.{Fault}
 use Rattle.mp4_boxes.specs.declared.fault.Kind.TheVariants.{BadValue, ShortBox}
-use Rattle.mp4_head.specs.Tree.{matrix_of}
-use Rattle.mp4_head.specs.Leaves.{IsFaultOf, FailsToOpen, IsOpen, nine}
+use Rattle.mp4_head.specs.format.Tree.{matrix_of}
+use Rattle.mp4_head.specs.words.Leaves.{IsFaultOf, FailsToOpen, IsOpen, nine}
 use Rattle.mp4_head.proofs.Opening.{open_readable, open_fails, number_is}
 
 -- a number that is not 0

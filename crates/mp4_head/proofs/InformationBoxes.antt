@@ -1,20 +1,20 @@
 -- The boxes of a `minf`, one after the other.
 use Rattle.std.proofs.Common.{◌≡◌, true, false, List, [], ◌∷◌, map, Option, Some, None, refl, subst, arith}
 use Rattle.std.specs.Prelude.{codes, bytes_eq}
-use Rattle.mp4_boxes.specs.Box.{Box, box_container}
-use Rattle.mp4_boxes.specs.Children.{Holds, is_among, media_headers}
-use Rattle.mp4_boxes.specs.Places.{ruled}
-use Rattle.mp4_boxes.specs.View.{box_seen}
+use Rattle.mp4_boxes.specs.format.Box.{Box, box_container}
+use Rattle.mp4_boxes.specs.format.Children.{Holds, is_among, media_headers}
+use Rattle.mp4_boxes.specs.format.Places.{ruled}
+use Rattle.mp4_boxes.specs.words.View.{box_seen}
 use Rattle.mp4_boxes.specs.declared.view.BoxView.{BoxView}
 use Rattle.mp4_boxes.specs.declared.rule.Rule.TheVariants as kinds
 use Rattle.mp4_boxes.specs.declared.refusal.Refusal.{Refusal}
 use Rattle.mp4_boxes.proofs.Refusing.{holds_only}
 use Rattle.mp4_boxes.proofs.Sound.{same_kind}
-use Rattle.mp4_head.specs.Seen.{kept_seen, description_seen}
+use Rattle.mp4_head.specs.words.Seen.{kept_seen, description_seen}
 use Rattle.mp4_head.specs.declared.kept_boxes.Kept.{Kept}
 use Rattle.mp4_head.specs.declared.sample_table.SampleTable.{SampleTable}
-use Rattle.mp4_head.specs.Containers.{SaysDataInformation, SaysTable, SaysInformation, kept_of}
-use Rattle.mp4_head.specs.Refuses.{RefusesIn, place_of}
+use Rattle.mp4_head.specs.words.Containers.{SaysDataInformation, SaysTable, SaysInformation, kept_of}
+use Rattle.mp4_head.specs.words.Refuses.{RefusesIn, place_of}
 use Rattle.mp4_head.proofs.Above.{stands_of, refuses_above}
 use Rattle.mp4_head.proofs.Walks.{Walk, walk_none, walk_more, walk_here, walk_all, none_before, IfPassed, passed_other, passed_this, passed_must, FirstRead, not_yet, first_other, first_this, first_read, first_missing}
 use Rattle.mp4_head.proofs.AmongWalks.{AmongRead, none_among, among_other, among_this, among_read, among_missing}

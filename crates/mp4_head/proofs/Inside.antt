@@ -3,15 +3,15 @@ use Rattle.std.proofs.Common.{◌≡◌, ℕ, ◌+◌, ◌-◌, ◌≤◌, Bool,
 use Rattle.std.specs.Prelude.{bytes_eq, codes, map}
 use Rattle.std.specs.List.{AllByRecursion}
 use Rattle.std.proofs.lemmas.List.{drop-drop, drop-take, take-take, length-drop}
-use Rattle.mp4_boxes.specs.Box.{Box, size, LieEndToEnd, StandsAfter, Tiles, box_container}
-use Rattle.mp4_boxes.specs.Children.{count_among, of_kind}
+use Rattle.mp4_boxes.specs.format.Box.{Box, size, LieEndToEnd, StandsAfter, Tiles, box_container}
+use Rattle.mp4_boxes.specs.format.Children.{count_among, of_kind}
 use Rattle.mp4_boxes.proofs.Among.{IsIn, all_at, all_in}
 use Rattle.mp4_boxes.proofs.Each.{each_from, each_weaker, each_of_kind, each_member}
 use Rattle.mp4_boxes.proofs.Refusing.{holds_only}
 use Rattle.mp4_boxes.proofs.Tiling.{header_is, box_size}
-use Rattle.mp4_head.specs.Found.{LiesIn}
+use Rattle.mp4_head.specs.words.Found.{LiesIn}
 use Rattle.mp4_head.proofs.Above.{stands_of}
-use Rattle.mp4_head.specs.Tree.{first_of, TrackTree, MovieTree, stbl_of, IsTrackTree, IsMovieTree}
+use Rattle.mp4_head.specs.format.Tree.{first_of, TrackTree, MovieTree, stbl_of, IsTrackTree, IsMovieTree}
 
 -- the box lies in these bytes, which begin at this place
 pub record LiesAt (at : ℕ) (bytes : List ℕ) (b : Box) : Type 0 where

@@ -4,7 +4,7 @@ use Rattle.std.specs.Prelude.{codes, slice_index, nat_eq, is_some, ◌||◌}
 use Rattle.std.specs.List.{starts_with}
 use Rattle.memchr.specs.Find.{OccursAt, FindsNeedle}
 use Rattle.mp4_boxes.proofs.Refusing.{and_true}
-use Rattle.mp4_head.specs.Head.{names_item_location}
+use Rattle.mp4_head.specs.format.Head.{names_item_location}
 
 or_right : (p q : Bool) → q ≡ true → p || q ≡ true
 or_right true q e = refl

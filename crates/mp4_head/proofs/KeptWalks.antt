@@ -3,14 +3,14 @@ use Rattle.std.proofs.Common.{◌≡◌, ℕ, ◌+◌, ◌<◌, Bool, true, fals
 use Rattle.std.specs.Prelude.{bytes_eq, filter}
 use Rattle.std.proofs.lemmas.List.{map-append, append-nil}
 use Rattle.std.proofs.lemmas.List.Elements.{filter-append}
-use Rattle.mp4_boxes.specs.Box.{Box, box_container}
-use Rattle.mp4_boxes.specs.Children.{is_among, of_kind, count_among, Holds}
+use Rattle.mp4_boxes.specs.format.Box.{Box, box_container}
+use Rattle.mp4_boxes.specs.format.Children.{is_among, of_kind, count_among, Holds}
 use Rattle.mp4_boxes.specs.declared.rule.Rule.{Rule}
 use Rattle.mp4_boxes.proofs.Among.{true_false, all_append, none_counted}
 use Rattle.mp4_boxes.proofs.Sound.{same_kind}
-use Rattle.mp4_head.specs.Head.{Kept, names_item_location}
-use Rattle.mp4_head.specs.Tree.{kept_among, NameNoItems, HoldsIfThere, first_of}
-use Rattle.mp4_head.specs.Containers.{kept_of}
+use Rattle.mp4_head.specs.format.Head.{Kept, names_item_location}
+use Rattle.mp4_head.specs.format.Tree.{kept_among, NameNoItems, HoldsIfThere, first_of}
+use Rattle.mp4_head.specs.words.Containers.{kept_of}
 use Rattle.mp4_head.proofs.Walks.{FirstRead, not_yet, was_read, first_other, first_this}
 
 -- ---- kept boxes

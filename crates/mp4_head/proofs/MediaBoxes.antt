@@ -2,23 +2,23 @@
 use Rattle.std.proofs.Common.{◌≡◌, ℕ, true, false, List, [], ◌∷◌, ◌++◌, map, Option, Some, None, Bor, refl, sym, ap, subst, ◌∙◌, arith}
 use Rattle.std.specs.Prelude.{codes, bytes_eq}
 use Rattle.std.proofs.lemmas.List.{map-append}
-use Rattle.mp4_boxes.specs.Box.{Box, box_container}
-use Rattle.mp4_boxes.specs.Children.{Holds, of_kind}
-use Rattle.mp4_boxes.specs.Layout.{mdhd, hdlr, IsSound}
-use Rattle.mp4_boxes.specs.Places.{ruled, AreSound}
-use Rattle.mp4_boxes.specs.View.{box_seen}
+use Rattle.mp4_boxes.specs.format.Box.{Box, box_container}
+use Rattle.mp4_boxes.specs.format.Children.{Holds, of_kind}
+use Rattle.mp4_boxes.specs.format.Layout.{mdhd, hdlr, IsSound}
+use Rattle.mp4_boxes.specs.format.Places.{ruled, AreSound}
+use Rattle.mp4_boxes.specs.words.View.{box_seen}
 use Rattle.mp4_boxes.specs.declared.rule.Rule.TheVariants as kinds
 use Rattle.mp4_boxes.specs.declared.refusal.Refusal.{Refusal}
 use Rattle.mp4_boxes.specs.declared.refusal.Refusal.TheVariants as refusals
 use Rattle.mp4_boxes.specs.declared.fault.Fault.{Fault}
 use Rattle.mp4_boxes.proofs.Refusing.{holds_only}
 use Rattle.mp4_boxes.proofs.Sound.{same_kind}
-use Rattle.mp4_head.specs.Seen.{kept_seen, description_seen}
+use Rattle.mp4_head.specs.words.Seen.{kept_seen, description_seen}
 use Rattle.mp4_head.specs.declared.media_boxes.MediaHeader.{MediaHeader}
 use Rattle.mp4_head.specs.declared.information.Information.{Information}
-use Rattle.mp4_head.specs.Containers.{SaysInformation, SaysMediaBoxes}
-use Rattle.mp4_head.specs.Leaves.{IsFaultOf, SaysMedia}
-use Rattle.mp4_head.specs.Refuses.{RefusesIn, place_of}
+use Rattle.mp4_head.specs.words.Containers.{SaysInformation, SaysMediaBoxes}
+use Rattle.mp4_head.specs.words.Leaves.{IsFaultOf, SaysMedia}
+use Rattle.mp4_head.specs.words.Refuses.{RefusesIn, place_of}
 use Rattle.mp4_head.proofs.Above.{stands_of, leaf_here, refuses_above}
 use Rattle.mp4_head.proofs.Walks.{Walk, walk_none, walk_more, walk_here, walk_all, none_before, sound_more, FirstRead, not_yet, first_other, first_this, first_read, first_missing, of_kind_this, of_kind_other}
 

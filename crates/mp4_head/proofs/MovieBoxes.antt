@@ -4,12 +4,12 @@ use Rattle.std.specs.Prelude.{codes, bytes_eq, nat_eq, slice_index}
 use Rattle.std.specs.List.{AllByRecursion, AllZip, list_any}
 use Rattle.std.specs.BTreeSet.{BTreeSet, IsEmpty}
 use Rattle.std.proofs.lemmas.List.{map-append}
-use Rattle.mp4_boxes.specs.Box.{Box, box_container, StandsAfter}
-use Rattle.mp4_boxes.specs.BoxFaults.{fault_of}
-use Rattle.mp4_boxes.specs.Children.{Holds, of_kind, is_among, kept_kinds}
-use Rattle.mp4_boxes.specs.Layout.{mvhd, tkhd, leaf_fields, IsSound}
-use Rattle.mp4_boxes.specs.Places.{ruled, AreSound, IsSoundAs, leaf_of, inside}
-use Rattle.mp4_boxes.specs.View.{box_seen}
+use Rattle.mp4_boxes.specs.format.Box.{Box, box_container, StandsAfter}
+use Rattle.mp4_boxes.specs.format.BoxFaults.{fault_of}
+use Rattle.mp4_boxes.specs.format.Children.{Holds, of_kind, is_among, kept_kinds}
+use Rattle.mp4_boxes.specs.format.Layout.{mvhd, tkhd, leaf_fields, IsSound}
+use Rattle.mp4_boxes.specs.format.Places.{ruled, AreSound, IsSoundAs, leaf_of, inside}
+use Rattle.mp4_boxes.specs.words.View.{box_seen}
 use Rattle.mp4_boxes.specs.declared.rule.Rule.TheVariants as kinds
 use Rattle.mp4_boxes.specs.declared.refusal.Refusal.{Refusal}
 use Rattle.mp4_boxes.specs.declared.refusal.Refusal.TheVariants as refusals
@@ -19,20 +19,20 @@ use Rattle.mp4_boxes.proofs.Among.{all_at, all_in}
 use Rattle.mp4_boxes.proofs.Refusing.{holds_only, holds_few}
 use Rattle.mp4_boxes.proofs.Sound.{same_kind}
 use Rattle.mp4_frag.specs.declared.trex.Trex.{Trex}
-use Rattle.mp4_frag.specs.Fragments.{trex_of}
-use Rattle.mp4_head.specs.Head as heads
-use Rattle.mp4_head.specs.Head.{names_item_location}
-use Rattle.mp4_head.specs.Tree.{first_of, TrackTree, IsTrackTree, IsSoundTrack, HoldsIfThere, are_distinct, track_head_of, movie_head_of, stbl_of}
-use Rattle.mp4_head.specs.Seen.{track_seen, movie_seen}
+use Rattle.mp4_frag.specs.format.Fragments.{trex_of}
+use Rattle.mp4_head.specs.format.Head as heads
+use Rattle.mp4_head.specs.format.Head.{names_item_location}
+use Rattle.mp4_head.specs.format.Tree.{first_of, TrackTree, IsTrackTree, IsSoundTrack, HoldsIfThere, are_distinct, track_head_of, movie_head_of, stbl_of}
+use Rattle.mp4_head.specs.words.Seen.{track_seen, movie_seen}
 use Rattle.mp4_head.specs.declared.movie_header.MovieHeader.{MovieHeader}
 use Rattle.mp4_head.specs.declared.heads.TrackHead.{TrackHead}
 use Rattle.mp4_head.specs.declared.heads.MovieHead.{MovieHead}
-use Rattle.mp4_head.specs.Containers.{SaysExtends, kept_of}
-use Rattle.mp4_head.specs.Found.{LiesIn, HasTrackHead, IsFoundIn, SaysHead, movie_joined}
-use Rattle.mp4_head.specs.HeadFaults.{IsTakenId}
-use Rattle.mp4_head.specs.Ids.{HasIds, AddsId, MeetsId, RefusesTrack}
-use Rattle.mp4_head.specs.Leaves.{IsFaultOf, SaysMovie}
-use Rattle.mp4_head.specs.Refuses.{RefusesIn, place_of}
+use Rattle.mp4_head.specs.words.Containers.{SaysExtends, kept_of}
+use Rattle.mp4_head.specs.words.Found.{LiesIn, HasTrackHead, IsFoundIn, SaysHead, movie_joined}
+use Rattle.mp4_head.specs.format.HeadFaults.{IsTakenId}
+use Rattle.mp4_head.specs.words.Ids.{HasIds, AddsId, MeetsId, RefusesTrack}
+use Rattle.mp4_head.specs.words.Leaves.{IsFaultOf, SaysMovie}
+use Rattle.mp4_head.specs.words.Refuses.{RefusesIn, place_of}
 use Rattle.mp4_head.proofs.Above.{stands_of, here, leaf_here, head_above, refuses_above}
 use Rattle.mp4_head.proofs.Distinct.{payload_first, map_twice}
 use Rattle.mp4_head.proofs.Inside.{LiesAt, all_lie, tiles_lie, stands_before, first_is, stbls_lie}

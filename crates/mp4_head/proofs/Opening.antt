@@ -2,13 +2,13 @@
 use Rattle.std.proofs.Common.{◌≡◌, ℕ, zero, suc, ◌+◌, ◌*◌, ◌<◌, ◌≤◌, true, List, [], ◌∷◌, length, take, drop, refl, sym, subst, ◌∙◌, arith}
 use Rattle.std.specs.Prelude.{nat_le, slice_index}
 use Rattle.std.proofs.lemmas.Bool.{le-leb, lt-leb}
-use Rattle.mp4_boxes.specs.Bytes.{field, numbers, width_of}
-use Rattle.mp4_boxes.specs.Box.{Box}
-use Rattle.mp4_boxes.specs.Layout.{Leaf, version, time_width, needed, knows_version, knows_flags, IsReadable}
+use Rattle.mp4_boxes.specs.format.Bytes.{field, numbers, width_of}
+use Rattle.mp4_boxes.specs.format.Box.{Box}
+use Rattle.mp4_boxes.specs.format.Layout.{Leaf, version, time_width, needed, knows_version, knows_flags, IsReadable}
 use Rattle.mp4_boxes.specs.declared.fault.Fault.{Fault}
 use Rattle.mp4_boxes.specs.declared.fault.Kind.TheVariants.{ShortBox, BadVersion}
 use Rattle.mp4_boxes.proofs.OfBytes.{field_dropped}
-use Rattle.mp4_head.specs.Leaves.{IsFaultOf, FailsToOpen, no_version, other_version, no_room, IsOpen}
+use Rattle.mp4_head.specs.words.Leaves.{IsFaultOf, FailsToOpen, no_version, other_version, no_room, IsOpen}
 
 -- a leaf that was opened can be read, if it needs no more
 pub open_readable : (leaf : Leaf) (last fixed times width : ℕ) (payload : List ℕ) → knows_version leaf payload ≡ nat_le (version payload) last → knows_flags leaf payload ≡ true

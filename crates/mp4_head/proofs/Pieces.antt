@@ -4,8 +4,8 @@ use Rattle.std.specs.List.{flat_map, fold}
 use Rattle.std.specs.Prelude.{slice_set, slice_index}
 use Rattle.std.proofs.lemmas.List.{append-nil, drop_more, drop_all, length-append}
 use Rattle.byteorder.specs.Endian.{big_bytes}
-use Rattle.mp4_boxes.specs.Written.{box_bytes}
-use Rattle.mp4_head.specs.Parts.{unsized}
+use Rattle.mp4_boxes.specs.format.Written.{box_bytes}
+use Rattle.mp4_head.specs.words.Parts.{unsized}
 
 -- these pieces, one after the other
 abbrev pub joined : List (List ℕ) → List ℕ

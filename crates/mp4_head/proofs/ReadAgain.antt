@@ -5,20 +5,20 @@ use Rattle.std.specs.List.{AllZip}
 use Rattle.std.proofs.lemmas.List.{drop_at}
 use Rattle.byteorder.specs.Endian.{big_bytes}
 use Rattle.byteorder.specs.Numbers.{length-bytes_high_first}
-use Rattle.mp4_boxes.specs.Box.{Box}
-use Rattle.mp4_boxes.specs.Written.{box_bytes}
-use Rattle.mp4_boxes.specs.Places.{ruled}
+use Rattle.mp4_boxes.specs.format.Box.{Box}
+use Rattle.mp4_boxes.specs.format.Written.{box_bytes}
+use Rattle.mp4_boxes.specs.format.Places.{ruled}
 use Rattle.mp4_boxes.specs.declared.rule.Rule.TheVariants as rules
 use Rattle.mp4_boxes.specs.declared.refusal.Refusal.{Refusal}
 use Rattle.mp4_boxes.specs.declared.refusal.Refusal.TheVariants as refusals
 use Rattle.mp4_boxes.proofs.WrittenBoxes.{placed_box}
-use Rattle.mp4_head.specs.Head.{MovieHead, TrackHead}
-use Rattle.mp4_head.specs.Tree.{HasHead, MovieTree, IsMovieTree, head_of}
-use Rattle.mp4_head.specs.Seen.{head_seen}
-use Rattle.mp4_head.specs.Found.{SaysHead, IsFoundIn}
-use Rattle.mp4_head.specs.Normal.{IsWritable, IsWrittenMoov, ReadsAgain, normal_trexes}
-use Rattle.mp4_head.specs.Refuses.{RefusesIn, place_of}
-use Rattle.mp4_head.specs.Writing.{moov_bytes}
+use Rattle.mp4_head.specs.format.Head.{MovieHead, TrackHead}
+use Rattle.mp4_head.specs.format.Tree.{HasHead, MovieTree, IsMovieTree, head_of}
+use Rattle.mp4_head.specs.words.Seen.{head_seen}
+use Rattle.mp4_head.specs.words.Found.{SaysHead, IsFoundIn}
+use Rattle.mp4_head.specs.words.Normal.{IsWritable, IsWrittenMoov, ReadsAgain, normal_trexes}
+use Rattle.mp4_head.specs.words.Refuses.{RefusesIn, place_of}
+use Rattle.mp4_head.specs.format.Writing.{moov_bytes}
 use Rattle.mp4_head.specs.declared.heads.MovieHead as declared
 use Rattle.mp4_head.proofs.HeadExcludes.{refused_rightly}
 use Rattle.mp4_head.proofs.Trees.{movie_tree_one}

@@ -7,8 +7,8 @@ use Rattle.std.proofs.lemmas.Bool.{lt-ltb, le-ltb}
 use Rattle.std.proofs.lemmas.Int.{ints}
 use Rattle.std.proofs.lemmas.List.{length-map, take_at}
 use Rattle.byteorder.specs.Endian.{twos_complement}
-use Rattle.mp4_boxes.specs.Bytes.{unsigned, FitWidths}
-use Rattle.mp4_head.specs.Head.{IsMatrix}
+use Rattle.mp4_boxes.specs.format.Bytes.{unsigned, FitWidths}
+use Rattle.mp4_head.specs.format.Head.{IsMatrix}
 use Rattle.mp4_head.proofs.Again.{signed_again}
 
 -- two's complement of two and of eight bytes

@@ -2,19 +2,19 @@
 use Rattle.std.proofs.Common.{◌≡◌, ℕ, inl, inr, true, false, List, [], ◌∷◌, ◌++◌, map, refl, sym, ap, subst, ◌∙◌, arith}
 use Rattle.std.specs.Prelude.{codes, bytes_eq}
 use Rattle.std.proofs.lemmas.List.{map-append}
-use Rattle.mp4_boxes.specs.Box.{Box, box_container}
-use Rattle.mp4_boxes.specs.Children.{Holds, of_kind}
-use Rattle.mp4_boxes.specs.Layout.{dref, stsd}
-use Rattle.mp4_boxes.specs.Places.{ruled, data_entries, sample_entries, AreSound}
+use Rattle.mp4_boxes.specs.format.Box.{Box, box_container}
+use Rattle.mp4_boxes.specs.format.Children.{Holds, of_kind}
+use Rattle.mp4_boxes.specs.format.Layout.{dref, stsd}
+use Rattle.mp4_boxes.specs.format.Places.{ruled, data_entries, sample_entries, AreSound}
 use Rattle.mp4_boxes.specs.declared.rule.Rule.TheVariants as kinds
 use Rattle.mp4_boxes.specs.declared.fault.Fault.{Fault}
 use Rattle.mp4_boxes.specs.declared.refusal.Refusal.{Refusal}
 use Rattle.mp4_boxes.proofs.Refusing.{holds_only}
 use Rattle.mp4_boxes.proofs.Sound.{same_kind}
-use Rattle.mp4_head.specs.Head.{Kept}
-use Rattle.mp4_head.specs.Containers.{SaysReferences, SaysDataInformation, SaysDescriptions, SaysTable}
-use Rattle.mp4_head.specs.HeadFaults.{HeadStands}
-use Rattle.mp4_head.specs.Refuses.{StandsOrFails, RefusesBoth, RefusesIn, place_of}
+use Rattle.mp4_head.specs.format.Head.{Kept}
+use Rattle.mp4_head.specs.words.Containers.{SaysReferences, SaysDataInformation, SaysDescriptions, SaysTable}
+use Rattle.mp4_head.specs.format.HeadFaults.{HeadStands}
+use Rattle.mp4_head.specs.words.Refuses.{StandsOrFails, RefusesBoth, RefusesIn, place_of}
 use Rattle.mp4_head.proofs.Above.{stands_of, leaf_here, head_above, refuses_both}
 use Rattle.mp4_head.proofs.Walks.{Walk, walk_none, walk_more, walk_here, walk_all, none_before, sound_more, IfPassed, passed_other, passed_this, passed_must, of_kind_this, of_kind_other}
 

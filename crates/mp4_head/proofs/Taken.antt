@@ -6,11 +6,11 @@ use Rattle.std.specs.Cmp.{unsigned_ties}
 use Rattle.std.specs.Ordering.{nat_cmp}
 use Rattle.std.specs.BTreeSet.{BTreeSet, contains, IsEmpty}
 use Rattle.std.proofs.lemmas.List.Folds.{list_any-append}
-use Rattle.mp4_boxes.specs.Box.{Box}
-use Rattle.mp4_boxes.specs.Children.{of_kind}
+use Rattle.mp4_boxes.specs.format.Box.{Box}
+use Rattle.mp4_boxes.specs.format.Children.{of_kind}
 use Rattle.mp4_boxes.proofs.Among.{IsIn, true_false}
-use Rattle.mp4_head.specs.Tree.{are_distinct}
-use Rattle.mp4_head.specs.Ids.{HasIds, AddsId}
+use Rattle.mp4_head.specs.format.Tree.{are_distinct}
+use Rattle.mp4_head.specs.words.Ids.{HasIds, AddsId}
 
 -- ---- the set
 

@@ -2,12 +2,12 @@
 use Rattle.std.proofs.Common.{◌≡◌, ℕ, inl, inr, true, false, List, [], ◌∷◌, ◌++◌, map, Option, Some, None, refl, sym, subst, ◌∙◌, arith}
 use Rattle.std.specs.Prelude.{codes, bytes_eq}
 use Rattle.std.specs.BTreeSet.{BTreeSet}
-use Rattle.mp4_boxes.specs.Box.{Box, box_container, StandsAfter}
-use Rattle.mp4_boxes.specs.BoxFaults.{fault_of}
-use Rattle.mp4_boxes.specs.Children.{Holds, of_kind, is_among, payload_if, kept_kinds}
-use Rattle.mp4_boxes.specs.Layout.{tkhd, stsd, IsSound}
-use Rattle.mp4_boxes.specs.Places.{ruled, AreSound}
-use Rattle.mp4_boxes.specs.View.{box_seen}
+use Rattle.mp4_boxes.specs.format.Box.{Box, box_container, StandsAfter}
+use Rattle.mp4_boxes.specs.format.BoxFaults.{fault_of}
+use Rattle.mp4_boxes.specs.format.Children.{Holds, of_kind, is_among, payload_if, kept_kinds}
+use Rattle.mp4_boxes.specs.format.Layout.{tkhd, stsd, IsSound}
+use Rattle.mp4_boxes.specs.format.Places.{ruled, AreSound}
+use Rattle.mp4_boxes.specs.words.View.{box_seen}
 use Rattle.mp4_boxes.specs.declared.rule.Rule.TheVariants as kinds
 use Rattle.mp4_boxes.specs.declared.refusal.Refusal.{Refusal}
 use Rattle.mp4_boxes.specs.declared.refusal.Refusal.TheVariants as refusals
@@ -15,17 +15,17 @@ use Rattle.mp4_boxes.specs.declared.fault.Fault.{Fault}
 use Rattle.mp4_boxes.specs.declared.fault.Kind.TheVariants.{ItemLocation}
 use Rattle.mp4_boxes.proofs.Refusing.{holds_only, holds_few}
 use Rattle.mp4_boxes.proofs.Sound.{same_kind}
-use Rattle.mp4_head.specs.Head as heads
-use Rattle.mp4_head.specs.Head.{names_item_location}
-use Rattle.mp4_head.specs.Tree.{first_of, TrackTree, IsTrackTree, IsSoundTrack, HoldsIfThere, edits_of, track_head_of}
-use Rattle.mp4_head.specs.Seen.{kept_seen, description_seen}
+use Rattle.mp4_head.specs.format.Head as heads
+use Rattle.mp4_head.specs.format.Head.{names_item_location}
+use Rattle.mp4_head.specs.format.Tree.{first_of, TrackTree, IsTrackTree, IsSoundTrack, HoldsIfThere, edits_of, track_head_of}
+use Rattle.mp4_head.specs.words.Seen.{kept_seen, description_seen}
 use Rattle.mp4_head.specs.declared.track_header.TrackHeader.{TrackHeader}
 use Rattle.mp4_head.specs.declared.media_boxes.MediaParts.{MediaParts}
-use Rattle.mp4_head.specs.Containers.{SaysEdits, SaysMediaBoxes, kept_of}
-use Rattle.mp4_head.specs.Found.{track_joined, HasTrackHead}
-use Rattle.mp4_head.specs.Ids.{AddsId, IsMet, RefusesTrackHeader, RefusesTrack}
-use Rattle.mp4_head.specs.Leaves.{SaysTrack, SaysMedia}
-use Rattle.mp4_head.specs.Refuses.{RefusesIn, place_of}
+use Rattle.mp4_head.specs.words.Containers.{SaysEdits, SaysMediaBoxes, kept_of}
+use Rattle.mp4_head.specs.words.Found.{track_joined, HasTrackHead}
+use Rattle.mp4_head.specs.words.Ids.{AddsId, IsMet, RefusesTrackHeader, RefusesTrack}
+use Rattle.mp4_head.specs.words.Leaves.{SaysTrack, SaysMedia}
+use Rattle.mp4_head.specs.words.Refuses.{RefusesIn, place_of}
 use Rattle.mp4_head.proofs.Above.{stands_of, here, leaf_here, refuses_above}
 use Rattle.mp4_head.proofs.Distinct.{payload_first}
 use Rattle.mp4_head.proofs.KeptWalks.{KeptPassed, keeps_none, keeps_this, keeps_other, keeps_all, another, ReadIf, not_there, was_there, if_other, if_this, still_none, holds_there, holds_none}

@@ -5,18 +5,18 @@ use Rattle.std.specs.Int.{w32}
 use Rattle.std.specs.List.{AllByRecursion}
 use Rattle.std.proofs.lemmas.Bool.{eqb-true, eqb-false, leb-true}
 use Rattle.byteorder.specs.Endian.{twos_complement}
-use Rattle.mp4_boxes.specs.Bytes.{AreBytes, field, width_of}
-use Rattle.mp4_boxes.specs.Box.{Box}
-use Rattle.mp4_boxes.specs.Children.{is_among, media_headers, count_among, of_kind, payload_of, payload_if, one, kept_kinds}
-use Rattle.mp4_boxes.specs.Layout.{mvhd, tkhd, mdhd, hdlr, elst, sgpd, sample_entry, fields, row, row_count, version, leaf_fields, leaf_rows, IsSound}
-use Rattle.mp4_boxes.specs.Places.{ruled, sample_entries, AreSound}
+use Rattle.mp4_boxes.specs.format.Bytes.{AreBytes, field, width_of}
+use Rattle.mp4_boxes.specs.format.Box.{Box}
+use Rattle.mp4_boxes.specs.format.Children.{is_among, media_headers, count_among, of_kind, payload_of, payload_if, one, kept_kinds}
+use Rattle.mp4_boxes.specs.format.Layout.{mvhd, tkhd, mdhd, hdlr, elst, sgpd, sample_entry, fields, row, row_count, version, leaf_fields, leaf_rows, IsSound}
+use Rattle.mp4_boxes.specs.format.Places.{ruled, sample_entries, AreSound}
 use Rattle.mp4_boxes.specs.declared.rule.Rule.TheVariants as rules
 use Rattle.mp4_boxes.proofs.Each.{each_value, each_from, each_kept}
 use Rattle.mp4_boxes.proofs.Refusing.{holds_only, line_has}
 use Rattle.mp4_boxes.proofs.OfBytes.{IsOfBytes, FitsRow, numbers_fit, rows_fit, field_dropped, time_below, signed_16, signed_32, signed_time, bytes_dropped, payload_of_bytes, payload_if_of_bytes, payloads_of_bytes}
 use Rattle.mp4_boxes.proofs.Sound.{sound_one, sound_each}
-use Rattle.mp4_head.specs.Head.{IsKept, IsEdit, IsDescription, IsMedia, IsGroupDescription, IsTrackHead, IsMovieHead}
-use Rattle.mp4_head.specs.Tree.{TrackTree, MovieTree, IsTrackTree, IsMovieTree, IsSoundTrack, IsSoundMovie, NameNoItems, kept_among, edit_of, edits_of, first_among, media_of, track_head_of, movie_head_of}
+use Rattle.mp4_head.specs.format.Head.{IsKept, IsEdit, IsDescription, IsMedia, IsGroupDescription, IsTrackHead, IsMovieHead}
+use Rattle.mp4_head.specs.format.Tree.{TrackTree, MovieTree, IsTrackTree, IsMovieTree, IsSoundTrack, IsSoundMovie, NameNoItems, kept_among, edit_of, edits_of, first_among, media_of, track_head_of, movie_head_of}
 use Rattle.mp4_head.proofs.TreeBytes.{TrackOfBytes, MovieOfBytes}
 
 -- ---- numbers

@@ -1,8 +1,8 @@
 use Rattle.std.specs.Prelude.{◌≡◌, ℤ, pos, List, [], ◌∷◌, ◌++◌, take, codes, refl, replicate}
 use Rattle.mp4_boxes.proofs.Vectors.{v1n, p, np, v1_moov, v1_mvhd, part, p_table}
-use Rattle.mp4_head.specs.Head.{MovieHead, TrackHead, Media}
-use Rattle.mp4_head.specs.Tree.{TrackTree, movie_head_of, track_head_of}
-use Rattle.mp4_head.specs.Writing.{head_bytes}
+use Rattle.mp4_head.specs.format.Head.{MovieHead, TrackHead, Media}
+use Rattle.mp4_head.specs.format.Tree.{TrackTree, movie_head_of, track_head_of}
+use Rattle.mp4_head.specs.format.Writing.{head_bytes}
 
 abbrev pub unity : List ℤ
 unity = pos 65536 ∷ pos 0 ∷ pos 0 ∷ pos 0 ∷ pos 65536 ∷ pos 0 ∷ pos 0 ∷ pos 0 ∷ pos 1073741824 ∷ []

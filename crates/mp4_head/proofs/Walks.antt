@@ -2,11 +2,11 @@
 use Rattle.std.proofs.Common.{◌≡◌, ℕ, ◌+◌, ◌<◌, ◌≤◌, Bool, true, false, List, [], ◌∷◌, ◌++◌, Option, Some, None, refl, sym, ap, subst, ◌∙◌, arith, append_assoc}
 use Rattle.std.specs.Prelude.{bytes_eq, cond}
 use Rattle.std.proofs.lemmas.List.{append-nil}
-use Rattle.mp4_boxes.specs.Box.{Box}
-use Rattle.mp4_boxes.specs.Children.{of_kind, payload_if, count_among}
-use Rattle.mp4_boxes.specs.Places.{Scope, IsSoundAs, leaf_of, AreSound}
+use Rattle.mp4_boxes.specs.format.Box.{Box}
+use Rattle.mp4_boxes.specs.format.Children.{of_kind, payload_if, count_among}
+use Rattle.mp4_boxes.specs.format.Places.{Scope, IsSoundAs, leaf_of, AreSound}
 use Rattle.mp4_boxes.proofs.Among.{of_kind-append, count-append, all_append}
-use Rattle.mp4_head.specs.Tree.{first_of}
+use Rattle.mp4_head.specs.format.Tree.{first_of}
 
 -- Of all boxes of a container some were passed, and these are left.
 pub record Walk (all left : List Box) : Type 0 where

@@ -3,18 +3,18 @@ use Rattle.std.proofs.Common.{◌≡◌, ℕ, ◌+◌, ◌^◌, ◌≤◌, Bool,
 use Rattle.std.specs.Prelude.{codes, map, flat_map, unwrap_or, bytes_eq, IsTrue, if◌then◌else◌}
 use Rattle.std.specs.List.{AllByRecursion}
 use Rattle.std.proofs.lemmas.List.{append-nil, length-map}
-use Rattle.mp4_boxes.specs.Bytes.{spelled, field}
-use Rattle.mp4_boxes.specs.Box.{Box, box_container, counted_container, Tiles}
-use Rattle.mp4_boxes.specs.Children.{Holds, allows, is_among, media_headers, kept_kinds}
-use Rattle.mp4_boxes.specs.Layout.{dref, data_entry_url, stsd, stts, stsc, stsz, stco, mdhd, fields}
-use Rattle.mp4_boxes.specs.Written.{box_bytes}
+use Rattle.mp4_boxes.specs.format.Bytes.{spelled, field}
+use Rattle.mp4_boxes.specs.format.Box.{Box, box_container, counted_container, Tiles}
+use Rattle.mp4_boxes.specs.format.Children.{Holds, allows, is_among, media_headers, kept_kinds}
+use Rattle.mp4_boxes.specs.format.Layout.{dref, data_entry_url, stsd, stts, stsc, stsz, stco, mdhd, fields}
+use Rattle.mp4_boxes.specs.format.Written.{box_bytes}
 use Rattle.mp4_boxes.specs.declared.rule.Rule.TheVariants as rules
 use Rattle.mp4_boxes.proofs.Each.{each_same, each_tested}
 use Rattle.mp4_boxes.proofs.Among.{all_append}
 use Rattle.mp4_boxes.proofs.WrittenBoxes.{Content, written, placed, children, FitsBox, AreTypes, HaveNone, typed, found, written-append, tiles_counted, holds_written, fits_written, payload_placed, found_behind, all_typed, typed_written, among_has, count_written, count_around, count_before, count_none, count_written-append}
-use Rattle.mp4_head.specs.Head.{Kept, Edit, Media, TrackHead, IsKept, IsDescription, IsMedia, IsTrackHead}
-use Rattle.mp4_head.specs.Tree.{first_of}
-use Rattle.mp4_head.specs.Writing.{kept_bytes, edts_bytes, mdhd_bytes, tkhd_bytes}
+use Rattle.mp4_head.specs.format.Head.{Kept, Edit, Media, TrackHead, IsKept, IsDescription, IsMedia, IsTrackHead}
+use Rattle.mp4_head.specs.format.Tree.{first_of}
+use Rattle.mp4_head.specs.format.Writing.{kept_bytes, edts_bytes, mdhd_bytes, tkhd_bytes}
 use Rattle.mp4_head.proofs.Again.{mdhd_numbers}
 use Rattle.mp4_head.proofs.Distinct.{payload_first}
 use Rattle.mp4_head.proofs.WrittenLeaves.{tkhd_payload, elst_payload, stsd_payload, stsd_count}

@@ -4,11 +4,11 @@ use Rattle.std.specs.Prelude.{codes}
 use Rattle.std.specs.List.{AllByRecursion}
 use Rattle.std.proofs.lemmas.List.{append-nil}
 use Rattle.byteorder.specs.Endian.{big_bytes}
-use Rattle.mp4_boxes.specs.Box.{Box, LieEndToEnd}
+use Rattle.mp4_boxes.specs.format.Box.{Box, LieEndToEnd}
 use Rattle.mp4_boxes.proofs.WrittenBoxes.{Content, FitsBox, typed, written, placed, placed_box, length-box_bytes, lie_written}
-use Rattle.mp4_head.specs.Head.{TrackHead, MovieHead}
-use Rattle.mp4_head.specs.Tree.{HasHead}
-use Rattle.mp4_head.specs.Writing.{ftyp_bytes, moov_bytes, head_bytes}
+use Rattle.mp4_head.specs.format.Head.{TrackHead, MovieHead}
+use Rattle.mp4_head.specs.format.Tree.{HasHead}
+use Rattle.mp4_head.specs.format.Writing.{ftyp_bytes, moov_bytes, head_bytes}
 use Rattle.mp4_head.proofs.WrittenMovie.{IsWritable, moov_payload, moov_content, movie_tree, movie_tree_is, movie_leaves_sound, normal_trexes, movie_head_again, track_heads_again, trexes_again}
 
 -- the brands

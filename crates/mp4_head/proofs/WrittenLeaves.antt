@@ -3,15 +3,15 @@ use Rattle.std.proofs.Common.{◌≡◌, ℕ, ◌+◌, ◌^◌, ◌<◌, false, 
 use Rattle.std.specs.Prelude.{map, replicate, flat_map, Some, not, ◌*◌}
 use Rattle.std.proofs.lemmas.Bool.{ne_eqb, le-leb}
 use Rattle.std.proofs.lemmas.List.{append-nil, length-map, drop_at, get_or-drop}
-use Rattle.mp4_boxes.specs.Bytes.{spelled, unsigned, numbers, FitWidths, field, rows}
-use Rattle.mp4_boxes.specs.Layout.{mvhd, tkhd, mdhd, hdlr, elst, stsd, sample_entry, sgpd, trex, fields, row, leaf_fields, version, IsSound}
+use Rattle.mp4_boxes.specs.format.Bytes.{spelled, unsigned, numbers, FitWidths, field, rows}
+use Rattle.mp4_boxes.specs.format.Layout.{mvhd, tkhd, mdhd, hdlr, elst, stsd, sample_entry, sgpd, trex, fields, row, leaf_fields, version, IsSound}
 use Rattle.mp4_boxes.proofs.Fields.{numbers_again, length-spelled, AllFit, none, more, rows_again, field_again}
-use Rattle.mp4_frag.specs.Fragments.{trex_of}
-use Rattle.mp4_head.specs.Head.{MovieHead, TrackHead, Media, IsMovieHead, IsTrackHead, IsMedia, IsGroupDescription, Kept, IsDescription, Edit, IsEdit}
+use Rattle.mp4_frag.specs.format.Fragments.{trex_of}
+use Rattle.mp4_head.specs.format.Head.{MovieHead, TrackHead, Media, IsMovieHead, IsTrackHead, IsMedia, IsGroupDescription, Kept, IsDescription, Edit, IsEdit}
 use Rattle.mp4_head.proofs.Again.{mdhd_numbers, mdhd_again, signed_again}
 use Rattle.mp4_head.proofs.Signed.{short_fits, signed_fits, long_fits, short_again, long_again, row_fits, matrix_again}
-use Rattle.mp4_head.specs.Tree.{matrix_of, edit_of, edits_of}
-use Rattle.mp4_head.specs.Writing.{edit_bytes, kept_bytes}
+use Rattle.mp4_head.specs.format.Tree.{matrix_of, edit_of, edits_of}
+use Rattle.mp4_head.specs.format.Writing.{edit_bytes, kept_bytes}
 use Rattle.std.specs.List.{AllByRecursion}
 use Rattle.byteorder.specs.Endian.{twos_complement}
 

@@ -3,27 +3,27 @@ use Rattle.std.proofs.Common.{◌≡◌, ℕ, ◌+◌, ◌^◌, ◌<◌, ◌≤�
 use Rattle.std.specs.Prelude.{codes, map, flat_map, bytes_eq, IsTrue}
 use Rattle.std.specs.List.{AllByRecursion}
 use Rattle.std.proofs.lemmas.List.{append-nil}
-use Rattle.mp4_boxes.specs.Bytes.{spelled}
-use Rattle.mp4_boxes.specs.Box.{Box, box_container}
-use Rattle.mp4_boxes.specs.Children.{Holds, of_kind, is_among, allows, kept_kinds}
-use Rattle.mp4_boxes.specs.Layout.{mvhd, leaf_fields}
-use Rattle.mp4_boxes.specs.Written.{box_bytes}
-use Rattle.mp4_boxes.specs.Places.{ruled, leaf_of, IsSoundAs, AreSound}
+use Rattle.mp4_boxes.specs.format.Bytes.{spelled}
+use Rattle.mp4_boxes.specs.format.Box.{Box, box_container}
+use Rattle.mp4_boxes.specs.format.Children.{Holds, of_kind, is_among, allows, kept_kinds}
+use Rattle.mp4_boxes.specs.format.Layout.{mvhd, leaf_fields}
+use Rattle.mp4_boxes.specs.format.Written.{box_bytes}
+use Rattle.mp4_boxes.specs.format.Places.{ruled, leaf_of, IsSoundAs, AreSound}
 use Rattle.mp4_boxes.specs.declared.rule.Rule.TheVariants as rules
 use Rattle.mp4_boxes.proofs.Each.{each_same, each_tested}
 use Rattle.mp4_boxes.proofs.Among.{all_append}
 use Rattle.mp4_boxes.proofs.Joined.{all_first, all_last}
 use Rattle.mp4_boxes.proofs.WrittenBoxes.{Content, written, placed, placed_box, children, FitsBox, typed, written-append, length-box_bytes, holds_written, count_around, count_before, of_kind-between}
 use Rattle.mp4_frag.specs.declared.trex.Trex.{Trex}
-use Rattle.mp4_frag.specs.Fragments.{trex_of}
-use Rattle.mp4_head.specs.Head.{Kept, TrackHead, MovieHead, IsTrackHead, IsMovieHead}
-use Rattle.mp4_head.specs.Tree.{TrackTree, MovieTree, HoldsIfThere, IsTrackTree, IsMovieTree, kept_among, track_head_of, movie_head_of, trexes_of, are_distinct, NameNoItems, IsSoundTrack, IsSoundMovie}
-use Rattle.mp4_head.specs.Writing.{kept_bytes, trak_bytes, trex_bytes, mvhd_bytes, mvex_bytes, next_track_id}
+use Rattle.mp4_frag.specs.format.Fragments.{trex_of}
+use Rattle.mp4_head.specs.format.Head.{Kept, TrackHead, MovieHead, IsTrackHead, IsMovieHead}
+use Rattle.mp4_head.specs.format.Tree.{TrackTree, MovieTree, HoldsIfThere, IsTrackTree, IsMovieTree, kept_among, track_head_of, movie_head_of, trexes_of, are_distinct, NameNoItems, IsSoundTrack, IsSoundMovie}
+use Rattle.mp4_head.specs.format.Writing.{kept_bytes, trak_bytes, trex_bytes, mvhd_bytes, mvex_bytes, next_track_id}
 use Rattle.mp4_head.proofs.WrittenLeaves.{mvhd_payload, mvhd_again, mvhd_sound, movie_again, trex_payload, trex_sound, trex_again}
 use Rattle.mp4_head.proofs.WrittenContents.{contents_of, kept_written, all_kept, fits_in, trak_payload}
 use Rattle.mp4_head.proofs.WrittenTrack.{trak_content, track_tree, track_tree_is}
 use Rattle.mp4_head.proofs.WrittenTrackHead.{kept_between, name_none, unread, sound_placed, track_head_again, track_leaves_sound}
-pub use Rattle.mp4_head.specs.Normal.{IsWritable, normal_trex, normal_trexes}
+pub use Rattle.mp4_head.specs.words.Normal.{IsWritable, normal_trex, normal_trexes}
 
 -- ---- contents
 

@@ -2,17 +2,17 @@
 use Rattle.std.proofs.Common.{◌≡◌, ℕ, ◌+◌, List, [], ◌∷◌, length, None, refl, false, ◌∙◌}
 use Rattle.std.specs.Prelude.{codes, bytes_eq, option_map, map, drop}
 use Rattle.std.specs.List.{AllByRecursion}
-use Rattle.mp4_boxes.specs.Children.{payload_if}
-use Rattle.mp4_boxes.specs.Layout.{leaf_rows}
-use Rattle.mp4_boxes.specs.Layout as Leaves
-use Rattle.mp4_boxes.specs.Places.{ruled, AreSound}
+use Rattle.mp4_boxes.specs.format.Children.{payload_if}
+use Rattle.mp4_boxes.specs.format.Layout.{leaf_rows}
+use Rattle.mp4_boxes.specs.format.Layout as Leaves
+use Rattle.mp4_boxes.specs.format.Places.{ruled, AreSound}
 use Rattle.mp4_boxes.specs.declared.rule.Rule.TheVariants as rules
 use Rattle.mp4_boxes.proofs.WrittenBoxes.{placed, AreOther, payload_placed, found_none, of_kind-none, all_typed}
-use Rattle.mp4_tables.specs.Groups.{groupings_of}
-use Rattle.mp4_tables.specs.Tables.{Tables, tables_of, offsets_of, first_number}
-use Rattle.mp4_tables.specs.TableRules.{Surroundings, Fit, dependency_room, duration_counts, offset_counts, chunk_counts, chunk_order, sync_order, description_indexes, places, table_group}
-use Rattle.mp4_head.specs.Head.{Kept, TrackHead, IsTrackHead}
-use Rattle.mp4_head.specs.Tree.{TrackTree, first_of}
+use Rattle.mp4_tables.specs.format.Groups.{groupings_of}
+use Rattle.mp4_tables.specs.format.Tables.{Tables, tables_of, offsets_of, first_number}
+use Rattle.mp4_tables.specs.format.TableRules.{Surroundings, Fit, dependency_room, duration_counts, offset_counts, chunk_counts, chunk_order, sync_order, description_indexes, places, table_group}
+use Rattle.mp4_head.specs.format.Head.{Kept, TrackHead, IsTrackHead}
+use Rattle.mp4_head.specs.format.Tree.{TrackTree, first_of}
 use Rattle.mp4_head.proofs.WrittenContents.{table_contents, trak_payload}
 use Rattle.mp4_head.proofs.WrittenTrack.{information_boxes, track_tree}
 use Rattle.mp4_head.proofs.WrittenTrackHead.{table_sound}

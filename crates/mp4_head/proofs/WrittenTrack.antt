@@ -3,19 +3,19 @@ use Rattle.std.proofs.Common.{◌≡◌, ℕ, ◌+◌, ◌^◌, ◌<◌, ◌≤�
 use Rattle.std.specs.Prelude.{codes, flat_map, bytes_eq}
 use Rattle.std.specs.List.{AllByRecursion}
 use Rattle.std.proofs.lemmas.List.{append-nil}
-use Rattle.mp4_boxes.specs.Bytes.{spelled}
-use Rattle.mp4_boxes.specs.Box.{Box, box_container}
-use Rattle.mp4_boxes.specs.Children.{Holds, of_kind, payload_if, kept_kinds}
-use Rattle.mp4_boxes.specs.Layout.{fields, elst}
-use Rattle.mp4_boxes.specs.Written.{box_bytes}
-use Rattle.mp4_boxes.specs.Places.{ruled, AreSound}
+use Rattle.mp4_boxes.specs.format.Bytes.{spelled}
+use Rattle.mp4_boxes.specs.format.Box.{Box, box_container}
+use Rattle.mp4_boxes.specs.format.Children.{Holds, of_kind, payload_if, kept_kinds}
+use Rattle.mp4_boxes.specs.format.Layout.{fields, elst}
+use Rattle.mp4_boxes.specs.format.Written.{box_bytes}
+use Rattle.mp4_boxes.specs.format.Places.{ruled, AreSound}
 use Rattle.mp4_boxes.specs.declared.rule.Rule.TheVariants as rules
 use Rattle.mp4_boxes.proofs.Each.{each_same}
 use Rattle.mp4_boxes.proofs.Among.{all_append}
 use Rattle.mp4_boxes.proofs.WrittenBoxes.{Content, written, placed, placed_box, children, AreTypes, AreOther, typed, found, found_size, holds_written, of_kind-none}
-use Rattle.mp4_head.specs.Head.{Edit, TrackHead, IsEdit, IsTrackHead}
-use Rattle.mp4_head.specs.Tree.{TrackTree, first_of, HoldsIfThere, IsTrackTree, edits_of}
-use Rattle.mp4_head.specs.Writing.{edts_bytes, tkhd_bytes, kept_bytes, edit_bytes}
+use Rattle.mp4_head.specs.format.Head.{Edit, TrackHead, IsEdit, IsTrackHead}
+use Rattle.mp4_head.specs.format.Tree.{TrackTree, first_of, HoldsIfThere, IsTrackTree, edits_of}
+use Rattle.mp4_head.specs.format.Writing.{edts_bytes, tkhd_bytes, kept_bytes, edit_bytes}
 use Rattle.mp4_head.proofs.WrittenLeaves.{tkhd_payload, elst_payload, elst_sound, edits_again, length-edits, stsd_payload}
 use Rattle.mp4_head.proofs.WrittenContents.{contents_of, all_kept, first_written, url_content, dinf_payload, dinf_contents, dinf_holds, dref_tiles, table_contents, stbl_payload, stbl_written, table_types, stbl_holds, stsd_tiles, information_contents, minf_payload, minf_written, minf_types, minf_holds, dinf_found, stbl_found, media_contents, mdia_payload, mdia_written, all_media, mdia_holds, minf_found, edits_contents, edts_contents, track_back, track_contents, trak_payload, trak_written, all_track, trak_holds, mdia_found}
 

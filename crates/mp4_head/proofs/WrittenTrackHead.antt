@@ -3,17 +3,17 @@ use Rattle.std.proofs.Common.{◌≡◌, ℕ, ◌+◌, ◌^◌, ◌≤◌, Bool,
 use Rattle.std.specs.Prelude.{codes, map, bytes_eq}
 use Rattle.std.specs.List.{AllByRecursion}
 use Rattle.std.proofs.lemmas.List.{append-nil}
-use Rattle.mp4_boxes.specs.Box.{Box}
-use Rattle.mp4_boxes.specs.Children.{of_kind, payload_if, is_among, media_headers, kept_kinds}
-use Rattle.mp4_boxes.specs.Layout.{Leaf, tkhd, leaf_fields}
-use Rattle.mp4_boxes.specs.Places.{Scope, ruled, sample_entries, leaf_of, IsSoundAs, AreSound}
+use Rattle.mp4_boxes.specs.format.Box.{Box}
+use Rattle.mp4_boxes.specs.format.Children.{of_kind, payload_if, is_among, media_headers, kept_kinds}
+use Rattle.mp4_boxes.specs.format.Layout.{Leaf, tkhd, leaf_fields}
+use Rattle.mp4_boxes.specs.format.Places.{Scope, ruled, sample_entries, leaf_of, IsSoundAs, AreSound}
 use Rattle.mp4_boxes.specs.declared.rule.Rule.TheVariants as rules
 use Rattle.mp4_boxes.proofs.Each.{each_same}
 use Rattle.mp4_boxes.proofs.Among.{all_append}
 use Rattle.mp4_boxes.proofs.Joined.{all_first, all_last}
 use Rattle.mp4_boxes.proofs.WrittenBoxes.{Content, placed, placed_box, FitsBox, HaveNone, typed, all_placed, all_typed, typed_payloads, payloads_between}
-use Rattle.mp4_head.specs.Head.{Kept, Media, TrackHead, IsKept, IsDescription, IsGroupDescription, IsMedia, IsTrackHead}
-use Rattle.mp4_head.specs.Tree.{first_of, first_among, kept_among, edits_of, media_of, track_head_of, NameNoItems, IsSoundTrack}
+use Rattle.mp4_head.specs.format.Head.{Kept, Media, TrackHead, IsKept, IsDescription, IsGroupDescription, IsMedia, IsTrackHead}
+use Rattle.mp4_head.specs.format.Tree.{first_of, first_among, kept_among, edits_of, media_of, track_head_of, NameNoItems, IsSoundTrack}
 use Rattle.mp4_head.proofs.Again.{mdhd_again}
 use Rattle.mp4_head.proofs.WrittenLeaves.{tkhd_payload, tkhd_again, tkhd_sound, track_again, mdhd_sound, hdlr_sound, stsd_sound, sample_entry_sound, sgpd_sound}
 use Rattle.mp4_head.proofs.WrittenContents.{content_of, contents_of, all_kept, fits_in, dinf_payload, table_front, group_contents, table_contents, stbl_payload, stbl_written, table_types, media_front, language_contents, media_back, media_contents, mdia_payload, mdia_written, all_media, edts_contents, track_front, track_middle, track_back, track_contents, trak_payload, all_edts}

@@ -1,12 +1,2 @@
-pub mod Head
-pub mod Tree
-pub mod Writing
-pub mod Leaves
-pub mod Seen
-pub mod HeadFaults
-pub mod Refuses
-pub mod Parts
-pub mod Containers
-pub mod Found
-pub mod Ids
-pub mod Normal
+pub mod format
+pub mod words

@@ -1,16 +1,16 @@
 //! `edts` and `elst`: which parts of the media are shown, in which order (ISO/IEC 14496-12, 8.6.5
 //! and 8.6.6).
 ghost use Rattle.std.specs.Prelude.{◌≡◌, ◌+◌, ◌*◌, ◌≤◌, ◌⊎◌, ℕ, length, map, Some, IfOk, IfErr};
-ghost use Rattle.mp4_boxes.specs.Bytes.{numbers, signed_field};
-ghost use Rattle.mp4_boxes.specs.Layout.{elst, row, row_count, time_width, IsSound};
-ghost use Rattle.mp4_boxes.specs.View.{box_seen};
-ghost use Rattle.mp4_head.specs.Leaves.{IsFaultOf, IsOpen};
-ghost use Rattle.mp4_head.specs.Seen.{edit_seen};
-ghost use Rattle.mp4_head.specs.Tree.{edit_of, edits_of};
-ghost use Rattle.mp4_boxes.specs.Places.{ruled};
+ghost use Rattle.mp4_boxes.specs.format.Bytes.{numbers, signed_field};
+ghost use Rattle.mp4_boxes.specs.format.Layout.{elst, row, row_count, time_width, IsSound};
+ghost use Rattle.mp4_boxes.specs.words.View.{box_seen};
+ghost use Rattle.mp4_head.specs.words.Leaves.{IsFaultOf, IsOpen};
+ghost use Rattle.mp4_head.specs.words.Seen.{edit_seen};
+ghost use Rattle.mp4_head.specs.format.Tree.{edit_of, edits_of};
+ghost use Rattle.mp4_boxes.specs.format.Places.{ruled};
 ghost use Rattle.mp4_boxes.specs.declared.rule.Rule.TheVariants.{Edits};
-ghost use Rattle.mp4_head.specs.Containers.{SaysEdits};
-ghost use Rattle.mp4_head.specs.Refuses.{RefusesLeaf, RefusesIn, place_of};
+ghost use Rattle.mp4_head.specs.words.Containers.{SaysEdits};
+ghost use Rattle.mp4_head.specs.words.Refuses.{RefusesLeaf, RefusesIn, place_of};
 
 use crate::leaves::{fault, i16_at, is, open, time_at};
 use mp4_boxes::{

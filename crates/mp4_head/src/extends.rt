@@ -1,14 +1,14 @@
 //! `mvex` and `trex`: what fragments take where they say nothing (ISO/IEC 14496-12, 8.8.1 and
 //! 8.8.3).
 ghost use Rattle.std.specs.Prelude.{◌≡◌, IfOk, OnOk, IfErr};
-ghost use Rattle.mp4_boxes.specs.Layout.{trex, IsSound};
-ghost use Rattle.mp4_boxes.specs.Places.{ruled};
-ghost use Rattle.mp4_boxes.specs.View.{box_seen};
+ghost use Rattle.mp4_boxes.specs.format.Layout.{trex, IsSound};
+ghost use Rattle.mp4_boxes.specs.format.Places.{ruled};
+ghost use Rattle.mp4_boxes.specs.words.View.{box_seen};
 ghost use Rattle.mp4_boxes.specs.declared.rule.Rule.TheVariants as rules;
-ghost use Rattle.mp4_frag.specs.Fragments.{trex_of};
-ghost use Rattle.mp4_head.specs.Containers.{SaysExtends};
-ghost use Rattle.mp4_head.specs.Leaves.{IsFaultOf};
-ghost use Rattle.mp4_head.specs.Refuses.{RefusesIn, place_of};
+ghost use Rattle.mp4_frag.specs.format.Fragments.{trex_of};
+ghost use Rattle.mp4_head.specs.words.Containers.{SaysExtends};
+ghost use Rattle.mp4_head.specs.words.Leaves.{IsFaultOf};
+ghost use Rattle.mp4_head.specs.words.Refuses.{RefusesIn, place_of};
 
 use crate::leaves::{fault, is, open};
 use mp4_boxes::{BoxView, Fault, FourCc, Kind, Refusal, Rule, check_children, u32_at};

@@ -1,15 +1,15 @@
 //! `minf`: the media header, `dinf` and `stbl` (ISO/IEC 14496-12, 8.4.4 and 8.7.1).
 ghost use Rattle.std.specs.Prelude.{◌≡◌, true, map, IfOk, IfErr, OnOk, bytes_eq, codes};
-ghost use Rattle.mp4_boxes.specs.Layout.{dref, data_entry_url, IsSound};
-ghost use Rattle.mp4_boxes.specs.Places.{ruled, data_entries};
-ghost use Rattle.mp4_boxes.specs.View.{box_seen};
+ghost use Rattle.mp4_boxes.specs.format.Layout.{dref, data_entry_url, IsSound};
+ghost use Rattle.mp4_boxes.specs.format.Places.{ruled, data_entries};
+ghost use Rattle.mp4_boxes.specs.words.View.{box_seen};
 ghost use Rattle.mp4_boxes.specs.declared.rule.Rule.TheVariants as rules;
-ghost use Rattle.mp4_head.specs.Containers.{SaysReferences, SaysDataInformation, SaysInformation};
-ghost use Rattle.mp4_head.specs.HeadFaults.{HeadStands};
-ghost use Rattle.mp4_head.specs.Leaves.{FailsAsReference};
-ghost use Rattle.mp4_head.specs.Refuses.{StandsOrFails, RefusesIn, place_of};
-ghost use Rattle.mp4_head.specs.Seen.{kept_seen, description_seen};
-ghost use Rattle.mp4_boxes.specs.Children.{is_among, media_headers};
+ghost use Rattle.mp4_head.specs.words.Containers.{SaysReferences, SaysDataInformation, SaysInformation};
+ghost use Rattle.mp4_head.specs.format.HeadFaults.{HeadStands};
+ghost use Rattle.mp4_head.specs.words.Leaves.{FailsAsReference};
+ghost use Rattle.mp4_head.specs.words.Refuses.{StandsOrFails, RefusesIn, place_of};
+ghost use Rattle.mp4_head.specs.words.Seen.{kept_seen, description_seen};
+ghost use Rattle.mp4_boxes.specs.format.Children.{is_among, media_headers};
 
 use crate::kept_boxes::{Kept, keep};
 use crate::leaves::{fault, is, open};

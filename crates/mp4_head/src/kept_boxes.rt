@@ -1,11 +1,11 @@
 //! Boxes that are kept as they are.
 ghost use Rattle.std.specs.Prelude.{◌≡◌, false, true, IfOk, IfErr, OnOk, OnErr};
-ghost use Rattle.mp4_boxes.specs.BoxFaults.{fault_of};
-ghost use Rattle.mp4_boxes.specs.View.{box_seen};
+ghost use Rattle.mp4_boxes.specs.format.BoxFaults.{fault_of};
+ghost use Rattle.mp4_boxes.specs.words.View.{box_seen};
 ghost use Rattle.mp4_boxes.specs.declared.fault.Kind.TheVariants as kinds;
-ghost use Rattle.mp4_head.specs.Containers.{kept_of};
-ghost use Rattle.mp4_head.specs.Head.{names_item_location};
-ghost use Rattle.mp4_head.specs.Seen.{kept_seen};
+ghost use Rattle.mp4_head.specs.words.Containers.{kept_of};
+ghost use Rattle.mp4_head.specs.format.Head.{names_item_location};
+ghost use Rattle.mp4_head.specs.words.Seen.{kept_seen};
 
 use crate::leaves::fault;
 use memchr::memmem;

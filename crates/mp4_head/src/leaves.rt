@@ -1,11 +1,11 @@
 //! Leaves, opened: their version and their room.
 ghost use Rattle.std.specs.Prelude.{◌≡◌, ◌+◌, ◌*◌, ◌≤◌, ◌⊎◌, length, bytes_eq, map, IfOk, IfErr};
 ghost use Rattle.byteorder.specs.Endian.{twos_complement};
-ghost use Rattle.mp4_boxes.specs.Bytes.{field, signed_field};
-ghost use Rattle.mp4_boxes.specs.BoxFaults.{fault_of};
-ghost use Rattle.mp4_boxes.specs.Layout.{version, time_width};
-ghost use Rattle.mp4_boxes.specs.View.{box_seen};
-ghost use Rattle.mp4_head.specs.Leaves.{IsOpen, FailsToOpen, nine};
+ghost use Rattle.mp4_boxes.specs.format.Bytes.{field, signed_field};
+ghost use Rattle.mp4_boxes.specs.format.BoxFaults.{fault_of};
+ghost use Rattle.mp4_boxes.specs.format.Layout.{version, time_width};
+ghost use Rattle.mp4_boxes.specs.words.View.{box_seen};
+ghost use Rattle.mp4_head.specs.words.Leaves.{IsOpen, FailsToOpen, nine};
 
 use mp4_boxes::{BoxView, Fault, FourCc, Kind, full, i32_at, u16_at, u32_at, u64_at};
 

@@ -1,10 +1,10 @@
 //! How long a head is in its one spelling.
 ghost use Rattle.std.specs.Prelude.{◌≡◌, ℕ, ◌+◌, length, map};
 ghost use Rattle.std.specs.List.{flat_map};
-ghost use Rattle.mp4_boxes.specs.Written.{box_bytes};
-ghost use Rattle.mp4_head.specs.Parts.{capped};
-ghost use Rattle.mp4_head.specs.Seen.{kept_seen, description_seen, edit_seen, track_seen, movie_seen, tracks_seen};
-ghost use Rattle.mp4_head.specs.Writing as written;
+ghost use Rattle.mp4_boxes.specs.format.Written.{box_bytes};
+ghost use Rattle.mp4_head.specs.words.Parts.{capped};
+ghost use Rattle.mp4_head.specs.words.Seen.{kept_seen, description_seen, edit_seen, track_seen, movie_seen, tracks_seen};
+ghost use Rattle.mp4_head.specs.format.Writing as written;
 
 use crate::edit_list::Edit;
 use crate::heads::{MovieHead, TrackHead};

@@ -1,13 +1,13 @@
 //! `mdia`: `mdhd`, `hdlr`, `elng` and `minf` (ISO/IEC 14496-12, 8.4).
 ghost use Rattle.std.specs.Prelude.{◌≡◌, ◌+◌, ◌*◌, ◌≤◌, ◌⊎◌, length, map, IfOk, OnOk, IfErr};
-ghost use Rattle.mp4_boxes.specs.Layout.{mdhd, hdlr, version, time_width, IsSound};
-ghost use Rattle.mp4_boxes.specs.View.{box_seen};
-ghost use Rattle.mp4_boxes.specs.Places.{ruled};
+ghost use Rattle.mp4_boxes.specs.format.Layout.{mdhd, hdlr, version, time_width, IsSound};
+ghost use Rattle.mp4_boxes.specs.words.View.{box_seen};
+ghost use Rattle.mp4_boxes.specs.format.Places.{ruled};
 ghost use Rattle.mp4_boxes.specs.declared.rule.Rule.TheVariants as rules;
-ghost use Rattle.mp4_head.specs.Containers.{SaysMediaBoxes};
-ghost use Rattle.mp4_head.specs.Leaves.{IsFaultOf, SaysMedia};
-ghost use Rattle.mp4_head.specs.Refuses.{RefusesIn, place_of};
-ghost use Rattle.mp4_head.specs.Seen.{kept_seen, description_seen};
+ghost use Rattle.mp4_head.specs.words.Containers.{SaysMediaBoxes};
+ghost use Rattle.mp4_head.specs.words.Leaves.{IsFaultOf, SaysMedia};
+ghost use Rattle.mp4_head.specs.words.Refuses.{RefusesIn, place_of};
+ghost use Rattle.mp4_head.specs.words.Seen.{kept_seen, description_seen};
 
 use crate::information::{Information, read_information};
 use crate::leaves::{fault, is, open, time_at};

@@ -1,16 +1,16 @@
 //! `moov`: the head of a movie, read (ISO/IEC 14496-12, 8.2.1).
 ghost use Rattle.std.specs.Prelude.{◌≡◌, map, IfOk, IfErr};
 ghost use Rattle.std.specs.List.{AllByRecursion};
-ghost use Rattle.mp4_boxes.specs.Children.{is_among, kept_kinds};
-ghost use Rattle.mp4_boxes.specs.Places.{ruled};
-ghost use Rattle.mp4_boxes.specs.View.{box_seen};
+ghost use Rattle.mp4_boxes.specs.format.Children.{is_among, kept_kinds};
+ghost use Rattle.mp4_boxes.specs.format.Places.{ruled};
+ghost use Rattle.mp4_boxes.specs.words.View.{box_seen};
 ghost use Rattle.mp4_boxes.specs.declared.rule.Rule.TheVariants as rules;
 ghost use Rattle.mp4_boxes.specs.declared.refusal.Refusal.TheVariants as refusals;
-ghost use Rattle.mp4_head.specs.Found.{movie_joined, LiesIn, SaysHead};
-ghost use Rattle.mp4_head.specs.Normal.{ReadsAgain};
-ghost use Rattle.mp4_head.specs.Refuses.{RefusesIn, place_of};
-ghost use Rattle.mp4_head.specs.Seen.{kept_seen, movie_seen};
-ghost use Rattle.mp4_head.specs.Tree.{MovieTree, IsMovieTree, IsSoundMovie};
+ghost use Rattle.mp4_head.specs.words.Found.{movie_joined, LiesIn, SaysHead};
+ghost use Rattle.mp4_head.specs.words.Normal.{ReadsAgain};
+ghost use Rattle.mp4_head.specs.words.Refuses.{RefusesIn, place_of};
+ghost use Rattle.mp4_head.specs.words.Seen.{kept_seen, movie_seen};
+ghost use Rattle.mp4_head.specs.format.Tree.{MovieTree, IsMovieTree, IsSoundMovie};
 
 use crate::extends::read_extends;
 use crate::heads::{MovieHead, TrackHead};

@@ -1,14 +1,14 @@
 //! `stbl`, as far as it is no table: `stsd` (ISO/IEC 14496-12, 8.5.2), and the payloads of `sgpd`
 //! (8.9.3).
 ghost use Rattle.std.specs.Prelude.{◌≡◌, map, IfOk, IfErr, OnOk};
-ghost use Rattle.mp4_boxes.specs.Layout.{sample_entry, stsd, IsSound};
-ghost use Rattle.mp4_boxes.specs.Places.{ruled, sample_entries};
-ghost use Rattle.mp4_boxes.specs.View.{box_seen};
+ghost use Rattle.mp4_boxes.specs.format.Layout.{sample_entry, stsd, IsSound};
+ghost use Rattle.mp4_boxes.specs.format.Places.{ruled, sample_entries};
+ghost use Rattle.mp4_boxes.specs.words.View.{box_seen};
 ghost use Rattle.mp4_boxes.specs.declared.rule.Rule.TheVariants as rules;
-ghost use Rattle.mp4_head.specs.Containers.{SaysDescriptions, SaysTable};
-ghost use Rattle.mp4_head.specs.Leaves.{IsFaultOf};
-ghost use Rattle.mp4_head.specs.Refuses.{RefusesBoth, RefusesIn, place_of};
-ghost use Rattle.mp4_head.specs.Seen.{description_seen};
+ghost use Rattle.mp4_head.specs.words.Containers.{SaysDescriptions, SaysTable};
+ghost use Rattle.mp4_head.specs.words.Leaves.{IsFaultOf};
+ghost use Rattle.mp4_head.specs.words.Refuses.{RefusesBoth, RefusesIn, place_of};
+ghost use Rattle.mp4_head.specs.words.Seen.{description_seen};
 
 use crate::kept_boxes::Description;
 use crate::leaves::{fault, is, open};

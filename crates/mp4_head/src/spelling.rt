@@ -1,9 +1,9 @@
 //! Bytes that are appended: numbers, most significant byte first, and boxes.
 ghost use Rattle.std.specs.Prelude.{◌≡◌, ◌+◌, ◌≤◌, ℕ, List, ◌++◌, length, OnOk};
 ghost use Rattle.byteorder.specs.Endian.{big_bytes};
-ghost use Rattle.mp4_boxes.specs.Bytes.{unsigned};
-ghost use Rattle.mp4_boxes.specs.Written.{box_bytes};
-ghost use Rattle.mp4_head.specs.Parts.{matrix_bytes, unsized};
+ghost use Rattle.mp4_boxes.specs.format.Bytes.{unsigned};
+ghost use Rattle.mp4_boxes.specs.format.Written.{box_bytes};
+ghost use Rattle.mp4_head.specs.words.Parts.{matrix_bytes, unsized};
 
 use mp4_boxes::{FourCc, Memory};
 

@@ -1,13 +1,13 @@
 //! `trak`: one track (ISO/IEC 14496-12, 8.3.1).
 ghost use Rattle.std.specs.Prelude.{◌≡◌, map, IfOk, OnOk, IfErr};
-ghost use Rattle.mp4_boxes.specs.Children.{is_among, kept_kinds};
-ghost use Rattle.mp4_boxes.specs.Layout.{tkhd, IsSound};
-ghost use Rattle.mp4_boxes.specs.View.{box_seen};
+ghost use Rattle.mp4_boxes.specs.format.Children.{is_among, kept_kinds};
+ghost use Rattle.mp4_boxes.specs.format.Layout.{tkhd, IsSound};
+ghost use Rattle.mp4_boxes.specs.words.View.{box_seen};
 ghost use Rattle.mp4_boxes.specs.declared.rule.Rule.TheVariants as rules;
-ghost use Rattle.mp4_head.specs.Found.{track_joined, HasTrackHead};
-ghost use Rattle.mp4_head.specs.Ids.{AddsId, RefusesTrackHeader, RefusesTrack};
-ghost use Rattle.mp4_head.specs.Leaves.{SaysTrack};
-ghost use Rattle.mp4_head.specs.Seen.{edit_seen, kept_seen, track_seen};
+ghost use Rattle.mp4_head.specs.words.Found.{track_joined, HasTrackHead};
+ghost use Rattle.mp4_head.specs.words.Ids.{AddsId, RefusesTrackHeader, RefusesTrack};
+ghost use Rattle.mp4_head.specs.words.Leaves.{SaysTrack};
+ghost use Rattle.mp4_head.specs.words.Seen.{edit_seen, kept_seen, track_seen};
 
 use crate::edit_list::{Edit, read_edits};
 use crate::heads::{Media, TrackHead};

@@ -1,8 +1,8 @@
 //! `tkhd`: what a track says of itself (ISO/IEC 14496-12, 8.3.2).
 ghost use Rattle.std.specs.Prelude.{◌≡◌, ◌+◌, ◌*◌, ◌≤◌, ◌⊎◌, length, IfOk, OnOk, IfErr};
-ghost use Rattle.mp4_boxes.specs.Layout.{tkhd, version, time_width, IsSound};
-ghost use Rattle.mp4_boxes.specs.View.{box_seen};
-ghost use Rattle.mp4_head.specs.Leaves.{IsFaultOf, SaysTrack};
+ghost use Rattle.mp4_boxes.specs.format.Layout.{tkhd, version, time_width, IsSound};
+ghost use Rattle.mp4_boxes.specs.words.View.{box_seen};
+ghost use Rattle.mp4_head.specs.words.Leaves.{IsFaultOf, SaysTrack};
 
 use crate::leaves::{fault, i16_at, matrix_at, open, time_at};
 use byteorder::{BigEndian, ByteOrder};

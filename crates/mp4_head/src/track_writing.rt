@@ -1,10 +1,10 @@
 //! `trak` in its one spelling (ISO/IEC 14496-12, 8.3 to 8.7).
 ghost use Rattle.std.specs.Prelude.{◌≡◌, ◌+◌, ◌++◌, map, OnOk};
 ghost use Rattle.std.specs.List.{flat_map};
-ghost use Rattle.mp4_head.specs.Seen.{description_seen, edit_seen, media_seen, track_seen};
-ghost use Rattle.mp4_head.specs.Writing as written;
-ghost use Rattle.mp4_head.specs.Parts.{edit_list_bytes, descriptions_bytes, information_bytes};
-ghost use Rattle.mp4_boxes.specs.Written.{box_bytes};
+ghost use Rattle.mp4_head.specs.words.Seen.{description_seen, edit_seen, media_seen, track_seen};
+ghost use Rattle.mp4_head.specs.format.Writing as written;
+ghost use Rattle.mp4_head.specs.words.Parts.{edit_list_bytes, descriptions_bytes, information_bytes};
+ghost use Rattle.mp4_boxes.specs.format.Written.{box_bytes};
 
 use crate::edit_list::Edit;
 use crate::heads::{Media, TrackHead};

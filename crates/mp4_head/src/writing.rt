@@ -1,8 +1,8 @@
 //! The head in its one spelling: `ftyp` and `moov` (ISO/IEC 14496-12, 4.3 and 8.1 to 8.8.3).
 ghost use Rattle.std.specs.Prelude.{◌≡◌, ◌+◌, ◌≤◌, ◌^◌, ◌<◌, ◌++◌, length, map, IfOk, OnOk};
 ghost use Rattle.std.specs.List.{flat_map};
-ghost use Rattle.mp4_head.specs.Seen.{kept_seen, movie_seen, tracks_seen, track_seen};
-ghost use Rattle.mp4_head.specs.Writing as written;
+ghost use Rattle.mp4_head.specs.words.Seen.{kept_seen, movie_seen, tracks_seen, track_seen};
+ghost use Rattle.mp4_head.specs.format.Writing as written;
 
 use crate::heads::{MovieHead, TrackHead};
 use crate::kept_boxes::Kept;

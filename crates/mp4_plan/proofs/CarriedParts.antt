@@ -2,21 +2,21 @@
 use Rattle.std.proofs.Common.{◌≡◌, ℕ, zero, suc, ◌+◌, ◌-◌, ◌^◌, ◌≤◌, min, List, [], ◌∷◌, ◌++◌, length, take, drop, map, Some, refl, sym, ap, subst, ◌∙◌, append_assoc, length-append, arith}
 use Rattle.std.specs.Prelude.{slice_get, slice_set, slice_index_or, codes, Result, Ok, Err, OnOk}
 use Rattle.std.proofs.lemmas.List.{drop_at, length-take, length-drop, length-map, take-append-drop}
-use Rattle.mp4_boxes.specs.Written.{header_bytes}
-use Rattle.mp4_head.specs.Tree.{TrackTree}
-use Rattle.mp4_present.specs.Coming.{Comes}
-use Rattle.mp4_present.specs.Denotes.{FileTree}
-use Rattle.mp4_present.specs.Movies.{MovieSeen}
+use Rattle.mp4_boxes.specs.format.Written.{header_bytes}
+use Rattle.mp4_head.specs.format.Tree.{TrackTree}
+use Rattle.mp4_present.specs.words.SamplesComing.{Comes}
+use Rattle.mp4_present.specs.format.Denotes.{FileTree}
+use Rattle.mp4_present.specs.words.Movies.{MovieSeen}
 use Rattle.mp4_present.specs.declared.carrier.Carrier.{Carrier}
 use Rattle.mp4_present.specs.declared.walks.Walk.{Walk}
-use Rattle.mp4_plan.specs.Writers.{ComesBehind, IsNoted, HaveCopied}
+use Rattle.mp4_plan.specs.words.Writers.{ComesBehind, IsNoted, HaveCopied}
 use Rattle.mp4_plan.specs.declared.writer.Writer.{Writer}
 use Rattle.mp4_tables.specs.declared.sample.SampleAt.{SampleAt}
-use Rattle.mp4_tables.specs.Groups.{GroupKey}
-use Rattle.mp4_plan.specs.Sizes.{moof_sizes}
-use Rattle.mp4_plan.specs.Spelling.{moof_front, run_rows}
-use Rattle.mp4_plan.specs.Taken.{piece_front, row_seen}
-use Rattle.mp4_plan.specs.UsedKeys.{groups_bytes}
+use Rattle.mp4_tables.specs.format.Groups.{GroupKey}
+use Rattle.mp4_plan.specs.words.Sizes.{moof_sizes}
+use Rattle.mp4_plan.specs.words.Spelling.{moof_front, run_rows}
+use Rattle.mp4_plan.specs.words.Taken.{piece_front, row_seen}
+use Rattle.mp4_plan.specs.words.UsedKeys.{groups_bytes}
 use Rattle.mp4_plan.specs.declared.moof_front.PieceHead.{PieceHead}
 use Rattle.mp4_plan.specs.declared.moof_sizes.MoofSizes.{MoofSizes}
 use Rattle.mp4_plan.specs.declared.planner.Planned.{Planned}

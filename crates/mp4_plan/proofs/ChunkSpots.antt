@@ -2,10 +2,10 @@
 use Rattle.std.proofs.Common.{◌≡◌, ℕ, zero, suc, ◌+◌, ◌-◌, ◌<◌, ◌≤◌, List, [], ◌∷◌, ◌++◌, length, take, drop, get_or, refl, sym, ap, subst, ◌∙◌, arith, length-take, length-drop}
 use Rattle.std.specs.Prelude.{pos, slice_index}
 use Rattle.std.proofs.lemmas.List.{get_or_append_left, get_or-append_right, get_or-take, get_or-drop, take-take, drop-drop}
-use Rattle.mp4_tables.specs.Tables.{ChunkRow}
-use Rattle.mp4_tables.specs.PlainSamples.{Spot, row_of_chunk, laid_out, in_chunks, in_chunks_total}
+use Rattle.mp4_tables.specs.format.Tables.{ChunkRow}
+use Rattle.mp4_tables.specs.format.PlainSamples.{Spot, row_of_chunk, laid_out, in_chunks, in_chunks_total}
 use Rattle.mp4_tables.proofs.Counts.{laid_length}
-use Rattle.mp4_plan.specs.TableLaws.{sum_all, before_chunk, SamplesLieInChunks}
+use Rattle.mp4_plan.specs.format.TableLaws.{sum_all, before_chunk, SamplesLieInChunks}
 
 -- the j-th of sizes that lie one after the other
 laid_at : (at description : ℕ) (sizes : List ℕ) (j : ℕ) (d : Spot) → j < length sizes

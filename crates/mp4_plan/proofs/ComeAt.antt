@@ -1,13 +1,13 @@
 -- A walk for each track, and the samples that come in it: at one place, and with another walk there.
 use Rattle.std.proofs.Common.{◌≡◌, ℕ, zero, suc, ◌+◌, ◌<◌, List, [], ◌∷◌, ◌++◌, length, take, map, Some, refl, ap, subst, arith, slice_set}
 use Rattle.std.specs.Prelude.{slice_get}
-use Rattle.mp4_head.specs.Tree.{TrackTree}
+use Rattle.mp4_head.specs.format.Tree.{TrackTree}
 use Rattle.mp4_tables.specs.declared.sample.SampleAt.{SampleAt}
-use Rattle.mp4_present.specs.Coming.{Comes}
-use Rattle.mp4_present.specs.Denotes.{FileTree}
-use Rattle.mp4_present.specs.Movies.{MovieSeen}
+use Rattle.mp4_present.specs.words.SamplesComing.{Comes}
+use Rattle.mp4_present.specs.format.Denotes.{FileTree}
+use Rattle.mp4_present.specs.words.Movies.{MovieSeen}
 use Rattle.mp4_present.specs.declared.walks.Walk.{Walk}
-use Rattle.mp4_plan.specs.Writers.{AllCome}
+use Rattle.mp4_plan.specs.words.Writers.{AllCome}
 
 module _ (file : List ℕ) (tree : FileTree) (m : MovieSeen) where
   -- what comes at one place

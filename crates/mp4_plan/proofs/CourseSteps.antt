@@ -1,18 +1,18 @@
 -- The steps of walks whose samples are taken piece by piece.
 use Rattle.std.proofs.Common.{◌≡◌, ℕ, ◌+◌, ◌-◌, ◌≤◌, List, refl, sym, subst, arith}
-use Rattle.mp4_head.specs.Tree.{TrackTree}
-use Rattle.mp4_present.specs.Denotes.{FileTree}
-use Rattle.mp4_present.specs.InHand.{Follows, IsPlaceOf}
-use Rattle.mp4_present.specs.Movies.{MovieSeen, IsMovie, IsWalkOf, InHandOf}
-use Rattle.mp4_present.specs.OpenedMovie.{IsOpenedAs}
-use Rattle.mp4_present.specs.Work.{steps_to, way_through, MayTake, TakesOn}
+use Rattle.mp4_head.specs.format.Tree.{TrackTree}
+use Rattle.mp4_present.specs.format.Denotes.{FileTree}
+use Rattle.mp4_present.specs.words.InHand.{Follows, IsPlaceOf}
+use Rattle.mp4_present.specs.words.Movies.{MovieSeen, IsMovie, IsWalkOf, InHandOf}
+use Rattle.mp4_present.specs.words.OpenedMovie.{IsOpenedAs}
+use Rattle.mp4_present.specs.words.WalkSteps.{steps_to, way_through, MayTake, TakesOn}
 use Rattle.mp4_present.specs.declared.in_hand.InHand.{InHand}
 use Rattle.mp4_present.specs.declared.in_hand.Place.{Place}
 use Rattle.mp4_present.specs.declared.in_hand.Place.TheVariants as places
 use Rattle.mp4_present.specs.declared.walks.Walk.{Walk}
 use Rattle.mp4_present.proofs.WalkPlaces.{kept_on}
 use Rattle.mp4_present.proofs.WayThrough.{no_farther, ahead, keeps_on, takes_then, takes_most, most_then, TakesBefore}
-use Rattle.mp4_plan.specs.HandsFed.{KeepsOn}
+use Rattle.mp4_plan.specs.words.HandsFed.{KeepsOn}
 
 same_way : (t : TrackTree) (w : Walk) (p : Place) → way_through t (record w { place = p }) p ≡ way_through t w p
 same_way t w (places.Tables p) = refl

@@ -3,27 +3,27 @@ use Rattle.std.proofs.Common.{◌≡◌, ℕ, suc, ◌<◌, false, List, [], ◌
 use Rattle.std.specs.Prelude.{map, unwrap_or, option_map}
 use Rattle.std.specs.List.{AllByRecursion, AllZip, slice_get}
 use Rattle.mp4_boxes.proofs.Each.{each_from}
-use Rattle.mp4_tables.specs.Groups.{GroupKey}
-use Rattle.mp4_tables.specs.Keys.{keys_seen}
-use Rattle.mp4_tables.specs.PlainSamples.{PlacedSample}
-use Rattle.mp4_tables.specs.Timed.{timed}
+use Rattle.mp4_tables.specs.format.Groups.{GroupKey}
+use Rattle.mp4_tables.specs.words.Keys.{keys_seen}
+use Rattle.mp4_tables.specs.format.PlainSamples.{PlacedSample}
+use Rattle.mp4_tables.specs.words.Timed.{timed}
 use Rattle.mp4_tables.specs.declared.sample.SampleAt.{SampleAt}
-use Rattle.mp4_frag.specs.FragmentSamples.{start_of}
-use Rattle.mp4_head.specs.Tree.{TrackTree, IsTrackTree, IsSoundTrack, track_head_of, movie_head_of}
-use Rattle.mp4_head.specs.Head.{MovieHead}
-use Rattle.mp4_present.specs.Coming.{track_keys, track_samples}
-use Rattle.mp4_present.specs.Denotes.{FileTree, plain_of, file_parts, parts_of_track, placed_of, sample_of, track_of, presentation_of}
-use Rattle.mp4_present.specs.Movies.{MovieSeen}
-use Rattle.mp4_present.specs.OpenedMovie.{IsOpenedAs}
-use Rattle.mp4_present.specs.Presentation.{Track}
+use Rattle.mp4_frag.specs.format.FragmentSamples.{start_of}
+use Rattle.mp4_head.specs.format.Tree.{TrackTree, IsTrackTree, IsSoundTrack, track_head_of, movie_head_of}
+use Rattle.mp4_head.specs.format.Head.{MovieHead}
+use Rattle.mp4_present.specs.words.SamplesComing.{track_keys, track_samples}
+use Rattle.mp4_present.specs.format.Denotes.{FileTree, plain_of, file_parts, parts_of_track, placed_of, sample_of, track_of, presentation_of}
+use Rattle.mp4_present.specs.words.Movies.{MovieSeen}
+use Rattle.mp4_present.specs.words.OpenedMovie.{IsOpenedAs}
+use Rattle.mp4_present.specs.format.Presentation.{Track}
 use Rattle.mp4_present.specs.declared.track_info.TrackInfo.{TrackInfo}
 use Rattle.mp4_present.proofs.Assembled.{timescale_there}
 use Rattle.mp4_present.proofs.ValidSamples.{starts_at_0}
-use Rattle.mp4_plan.specs.Coming.{coming_of, stops, all_left}
-use Rattle.mp4_plan.specs.Pieces.{TimedSample, pieces}
-use Rattle.mp4_plan.specs.Taken.{AreTaken}
-use Rattle.mp4_plan.specs.TurnLaws.{HavePassed}
-use Rattle.mp4_plan.specs.Turns.{first_scale}
+use Rattle.mp4_plan.specs.words.PiecesComing.{coming_of, stops, all_left}
+use Rattle.mp4_plan.specs.format.Pieces.{TimedSample, pieces}
+use Rattle.mp4_plan.specs.words.Taken.{AreTaken}
+use Rattle.mp4_plan.specs.words.TurnLaws.{HavePassed}
+use Rattle.mp4_plan.specs.words.Turns.{first_scale}
 use Rattle.mp4_plan.specs.declared.ends.End.TheVariants.{Sync}
 use Rattle.mp4_plan.specs.declared.schedule.Schedule.{Schedule}
 use Rattle.mp4_plan.proofs.FragmentsLeft.{not_itself, turns_begin_with_all}

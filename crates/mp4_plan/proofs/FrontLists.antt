@@ -3,9 +3,9 @@ use Rattle.std.proofs.Common.{◌≡◌, ℕ, suc, ◌+◌, ◌<◌, ◌≤◌, 
 use Rattle.std.specs.Prelude.{nat_lt}
 use Rattle.std.specs.List.{AllByRecursion}
 use Rattle.std.proofs.lemmas.Bool.{lt-ltb, le-ltb, ltb-true, ltb-false, leb-false, lt-leb}
-use Rattle.mp4_plan.specs.Pieces.{last_place}
-use Rattle.mp4_plan.specs.PieceLaws.{NeverFalls}
-use Rattle.mp4_plan.specs.Coming.{front, rest}
+use Rattle.mp4_plan.specs.format.Pieces.{last_place}
+use Rattle.mp4_plan.specs.format.PieceLaws.{NeverFalls}
+use Rattle.mp4_plan.specs.words.PiecesComing.{front, rest}
 use Rattle.mp4_plan.proofs.Filters.{numbered, all_weaker}
 use Rattle.mp4_plan.proofs.Fragments.{last_place_within}
 

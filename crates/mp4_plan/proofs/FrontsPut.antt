@@ -3,9 +3,9 @@ use Rattle.std.proofs.Common.{◌≡◌, ℕ, List, ◌++◌, take, drop, sym, a
 use Rattle.std.specs.Prelude.{Option, flat_map}
 use Rattle.std.proofs.lemmas.Grind.{flat_map-append}
 use Rattle.std.proofs.lemmas.List.{take-append-drop}
-use Rattle.mp4_store.specs.Device.{AppendsPrefix}
+use Rattle.mp4_store.specs.words.Device.{AppendsPrefix}
 use Rattle.mp4_store.proofs.Known.{AppendsPrefix-longer}
-use Rattle.mp4_present.specs.Carried.{BytesGoOn}
+use Rattle.mp4_present.specs.words.Carried.{BytesGoOn}
 use Rattle.mp4_present.proofs.Carrying.{BytesGoOn-fails, BytesGoOn-front}
 
 -- some bytes were taken along, the next piece was not, and a rest was to come

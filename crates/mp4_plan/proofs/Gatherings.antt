@@ -3,13 +3,13 @@ use Rattle.std.proofs.Common.{◌≡◌, ℕ, zero, suc, ◌+◌, ◌<◌, List,
 use Rattle.std.specs.Prelude.{Option, Some, None, map, not, ◌||◌, ◌&&◌, ◌==◌, nat_eq}
 use Rattle.std.specs.List.{list_all}
 use Rattle.std.proofs.lemmas.List.{append-nil}
-use Rattle.mp4_boxes.specs.Bytes.{sum_of, unsigned}
+use Rattle.mp4_boxes.specs.format.Bytes.{sum_of, unsigned}
 use Rattle.mp4_tables.specs.declared.sample.SampleAt.{SampleAt}
-use Rattle.mp4_plan.specs.Normal.{common, longest_runs, put_run}
+use Rattle.mp4_plan.specs.format.Normal.{common, longest_runs, put_run}
 use Rattle.mp4_plan.specs.declared.gathered.Gathered.{Gathered}
 use Rattle.mp4_plan.specs.declared.gathered.GroupRuns.{GroupRuns}
-use Rattle.mp4_plan.specs.Gathering.{common_more, runs_first, runs_more, gathered_first, gathered_more, gather_all, runs_at, index_of}
-use Rattle.mp4_plan.specs.PlannerLaws.{SumsUp, indexes}
+use Rattle.mp4_plan.specs.words.Gathering.{common_more, runs_first, runs_more, gathered_first, gathered_more, gather_all, runs_at, index_of}
+use Rattle.mp4_plan.specs.words.PlannerLaws.{SumsUp, indexes}
 
 -- ---- one more number
 

@@ -6,18 +6,18 @@ use Rattle.std.proofs.lemmas.List.{length-map}
 use Rattle.mp4_boxes.proofs.Among.{all_append}
 use Rattle.mp4_boxes.proofs.Each.{each_from}
 use Rattle.mp4_boxes.proofs.Joined.{all_first, all_last}
-use Rattle.mp4_tables.specs.Groups.{GroupKey}
+use Rattle.mp4_tables.specs.format.Groups.{GroupKey}
 use Rattle.mp4_tables.proofs.NamedKeys.{IsAmong, each_named, no_more}
-use Rattle.mp4_head.specs.Head.{TrackHead, IsTrackHead}
-use Rattle.mp4_head.specs.Tree.{are_distinct}
+use Rattle.mp4_head.specs.format.Head.{TrackHead, IsTrackHead}
+use Rattle.mp4_head.specs.format.Tree.{are_distinct}
 use Rattle.mp4_head.proofs.Signed.{signed_fits}
 use Rattle.mp4_head.proofs.WrittenContents.{content_of, contents_of, kept_written, count_within, trak_payload}
 use Rattle.mp4_head.proofs.WrittenTrack.{has_inner}
 use Rattle.mp4_head.proofs.WrittenMovie.{traks_small}
-use Rattle.mp4_present.specs.Presentation.{Sample, Track, Presentation, heads, movie_length, IsSample, IsTrack, Valid, IsInTime, end_time, keys_of, max_time}
-use Rattle.mp4_plan.specs.Pieces.{TimedSample, timed, Piece, pieces}
-use Rattle.mp4_plan.specs.Normal.{first_time, first_description, piece_keys}
-use Rattle.mp4_plan.specs.PieceLaws.{IsOne}
+use Rattle.mp4_present.specs.format.Presentation.{Sample, Track, Presentation, heads, movie_length, IsSample, IsTrack, Valid, IsInTime, end_time, keys_of, max_time}
+use Rattle.mp4_plan.specs.format.Pieces.{TimedSample, timed, Piece, pieces}
+use Rattle.mp4_plan.specs.format.Normal.{first_time, first_description, piece_keys}
+use Rattle.mp4_plan.specs.format.PieceLaws.{IsOne}
 use Rattle.mp4_plan.proofs.Filters.{all_weaker, all_from_splits, found_by_id}
 use Rattle.mp4_plan.proofs.PieceLists.{pieces_one, ids_apart}
 use Rattle.mp4_plan.proofs.PieceFacts.{all_timed, ids_in_pieces, samples_in_pieces, pieces_within, pieces_in_time}

@@ -4,10 +4,10 @@ use Rattle.std.specs.Prelude.{◌==◌}
 use Rattle.std.specs.List.{AllByRecursion}
 use Rattle.std.proofs.lemmas.Bool.{eqb-true, eqb-false}
 use Rattle.mp4_boxes.proofs.Each.{each_weaker}
-use Rattle.mp4_tables.specs.Groups.{GroupKey}
+use Rattle.mp4_tables.specs.format.Groups.{GroupKey}
 use Rattle.mp4_tables.proofs.NamedKeys.{IsAmong, among_more, among_first}
-use Rattle.mp4_plan.specs.Normal.{put_run, longest_runs}
-use Rattle.mp4_plan.specs.SpellingLaws.{DiffersFromNext, RowsAlternate, GroupRowsAreLongest, sample_keys, AreAmong, PieceKeysAreThose}
+use Rattle.mp4_plan.specs.format.Normal.{put_run, longest_runs}
+use Rattle.mp4_plan.specs.format.SpellingLaws.{DiffersFromNext, RowsAlternate, GroupRowsAreLongest, sample_keys, AreAmong, PieceKeysAreThose}
 use Rattle.mp4_plan.proofs.KeyOrder.{order_rises, order_each, order_has}
 use Rattle.mp4_plan.proofs.Shared.{longest_runs_again}
 

@@ -4,10 +4,10 @@ use Rattle.std.specs.Prelude.{map, slice_get, slice_set}
 use Rattle.std.proofs.Math.Seq.{take-add, take-nil}
 use Rattle.std.proofs.lemmas.List.{length-set, length-take, take_more_set, take-append-drop, drop-drop, drop-take, map-append}
 use Rattle.mp4_tables.specs.declared.sample.SampleAt.{SampleAt}
-use Rattle.mp4_plan.specs.Ends.{goes_in}
-use Rattle.mp4_plan.specs.Gathering.{Planning, description_in, gather, count_of, more_of, piece_fed, samples_after}
-use Rattle.mp4_plan.specs.HandsFed.{TakesFirst, Notes}
-use Rattle.mp4_plan.specs.Taken.{row_seen}
+use Rattle.mp4_plan.specs.words.Ends.{goes_in}
+use Rattle.mp4_plan.specs.words.Gathering.{Planning, description_in, gather, count_of, more_of, piece_fed, samples_after}
+use Rattle.mp4_plan.specs.words.HandsFed.{TakesFirst, Notes}
+use Rattle.mp4_plan.specs.words.Taken.{row_seen}
 use Rattle.mp4_plan.specs.declared.rows.Row.{Row}
 use Rattle.mp4_plan.proofs.HandsTaken.{few_more}
 use Rattle.mp4_plan.proofs.PlannerSteps.{first_is, none_is, fed_more, fed_none, more_of_yes, more_of_no, more_of-nil}

@@ -5,18 +5,18 @@ use Rattle.std.specs.List.{AllByRecursion}
 use Rattle.std.proofs.lemmas.Grind.{flat_map-append}
 use Rattle.std.proofs.lemmas.List.{take-append-drop, length-take, length-drop, length-replicate}
 use Rattle.std.proofs.Math.Seq.{take-add, take-append-add}
-use Rattle.mp4_boxes.specs.Bytes.{sum_of}
+use Rattle.mp4_boxes.specs.format.Bytes.{sum_of}
 use Rattle.mp4_boxes.proofs.Each.{each_taken}
 use Rattle.mp4_boxes.proofs.Joined.{all_last}
-use Rattle.mp4_store.specs.Device.{range, AppendsPrefix}
+use Rattle.mp4_store.specs.words.Device.{range, AppendsPrefix}
 use Rattle.mp4_store.proofs.Known.{AppendsPrefix-longer}
 use Rattle.mp4_tables.specs.declared.sample.SampleAt.{SampleAt}
-use Rattle.mp4_present.specs.Carried.{BytesGoOn}
-use Rattle.mp4_present.specs.Joined.{AreJoined, IsBelow, sample_bytes}
+use Rattle.mp4_present.specs.words.Carried.{BytesGoOn}
+use Rattle.mp4_present.specs.words.Joined.{AreJoined, IsBelow, sample_bytes}
 use Rattle.mp4_present.proofs.Carrying.{BytesGoOn-nothing, BytesGoOn-then, BytesGoOn-fails, BytesGoOn-front}
 use Rattle.mp4_present.proofs.Counts.{sum-append}
 use Rattle.mp4_present.proofs.Hands.{bytes_of_two}
-use Rattle.mp4_plan.specs.HandsFed.{BytesCarried, sizes_of}
+use Rattle.mp4_plan.specs.words.HandsFed.{BytesCarried, sizes_of}
 use Rattle.mp4_plan.specs.declared.carrying.Load.{Load}
 
 -- ---- sizes

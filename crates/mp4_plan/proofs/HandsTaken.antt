@@ -5,18 +5,18 @@ use Rattle.std.proofs.Math.Seq.{take-append-add}
 use Rattle.std.proofs.lemmas.List.{length-take, length-drop, take_at, drop_at}
 use Rattle.std.proofs.lemmas.List.Sums.{prefix_len-le-length}
 use Rattle.mp4_tables.specs.declared.sample.SampleAt.{SampleAt}
-use Rattle.mp4_present.specs.InHand.{Follows, IsPlaceOf}
-use Rattle.mp4_present.specs.Movies.{MovieSeen, HandAt, InHandOf}
-use Rattle.mp4_tables.specs.Views.{CursorSeen as TableView}
-use Rattle.mp4_frag.specs.Views.{CursorSeen as MoofView}
+use Rattle.mp4_present.specs.words.InHand.{Follows, IsPlaceOf}
+use Rattle.mp4_present.specs.words.Movies.{MovieSeen, HandAt, InHandOf}
+use Rattle.mp4_tables.specs.words.TablesSeen.{CursorSeen as TableView}
+use Rattle.mp4_frag.specs.words.FragmentsSeen.{CursorSeen as MoofView}
 use Rattle.mp4_present.specs.declared.in_hand.InHand.{InHand}
 use Rattle.mp4_present.specs.declared.in_hand.InHand.TheVariants as hands
 use Rattle.mp4_present.specs.declared.in_hand.Place.{Place}
 use Rattle.mp4_present.specs.declared.in_hand.Place.TheVariants as places
 use Rattle.mp4_present.specs.declared.walks.Walk.{Walk}
-use Rattle.mp4_plan.specs.Ends.{goes_in}
-use Rattle.mp4_plan.specs.Gathering.{Planning, description_in, gather, gather_all, count_of, more_of, piece_fed, samples_after}
-use Rattle.mp4_plan.specs.HandsFed.{TakesFirst, stop_of, HasTaken}
+use Rattle.mp4_plan.specs.words.Ends.{goes_in}
+use Rattle.mp4_plan.specs.words.Gathering.{Planning, description_in, gather, gather_all, count_of, more_of, piece_fed, samples_after}
+use Rattle.mp4_plan.specs.words.HandsFed.{TakesFirst, stop_of, HasTaken}
 use Rattle.mp4_plan.proofs.PlannerSteps.{more_of_yes, more_of_no, more_of-nil, all_counted}
 
 -- a piece with some samples more

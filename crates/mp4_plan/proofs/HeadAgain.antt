@@ -1,21 +1,21 @@
 -- The head that is read anew from a file that was opened is that of its presentation, and is short.
 use Rattle.std.proofs.Common.{◌≡◌, ℕ, ◌+◌, ◌-◌, ◌^◌, ◌≤◌, min, List, ◌++◌, length, map, refl, sym, ap, ◌∙◌, arith, length-append}
-use Rattle.mp4_head.specs.Found.{SaysHead}
-use Rattle.mp4_head.specs.Head as heads
-use Rattle.mp4_head.specs.Parts.{capped}
-use Rattle.mp4_head.specs.Seen.{movie_seen, tracks_seen}
-use Rattle.mp4_head.specs.Writing.{ftyp_bytes, moov_bytes, head_bytes}
+use Rattle.mp4_head.specs.words.Found.{SaysHead}
+use Rattle.mp4_head.specs.format.Head as heads
+use Rattle.mp4_head.specs.words.Parts.{capped}
+use Rattle.mp4_head.specs.words.Seen.{movie_seen, tracks_seen}
+use Rattle.mp4_head.specs.format.Writing.{ftyp_bytes, moov_bytes, head_bytes}
 use Rattle.mp4_head.specs.declared.heads.MovieHead.{MovieHead}
 use Rattle.mp4_head.proofs.Distinct.{map_twice}
 use Rattle.mp4_head.proofs.ReadAgain.{said_of}
-use Rattle.mp4_present.specs.Denotes.{FileTree, file_parts, track_of, presentation_of}
-use Rattle.mp4_present.specs.Movies.{MovieSeen, moov_box}
-use Rattle.mp4_present.specs.OpenedMovie.{IsOpenedAs}
-use Rattle.mp4_present.specs.Presentation.{heads as heads_of}
-use Rattle.mp4_present.specs.Presentation.{Track, movie_length, normal_moov_length}
-use Rattle.mp4_plan.specs.Normal.{normal, pieces_bytes}
-use Rattle.mp4_plan.specs.Pieces.{pieces}
-use Rattle.mp4_plan.specs.Writers.{IsPlanOf, head_of_normal}
+use Rattle.mp4_present.specs.format.Denotes.{FileTree, file_parts, track_of, presentation_of}
+use Rattle.mp4_present.specs.words.Movies.{MovieSeen, moov_box}
+use Rattle.mp4_present.specs.words.OpenedMovie.{IsOpenedAs}
+use Rattle.mp4_present.specs.format.Presentation.{heads as heads_of}
+use Rattle.mp4_present.specs.format.Presentation.{Track, movie_length, normal_moov_length}
+use Rattle.mp4_plan.specs.format.Normal.{normal, pieces_bytes}
+use Rattle.mp4_plan.specs.format.Pieces.{pieces}
+use Rattle.mp4_plan.specs.words.Writers.{IsPlanOf, head_of_normal}
 use Rattle.mp4_plan.specs.declared.writer.Plan.{Plan}
 
 -- its bytes are those of the normal form

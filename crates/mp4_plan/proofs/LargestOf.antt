@@ -4,10 +4,10 @@ use Rattle.std.specs.Prelude.{◌⊎◌, fold, Contains}
 use Rattle.std.specs.List.{AllByRecursion}
 use Rattle.std.proofs.lemmas.Bool.{cases_lt}
 use Rattle.mp4_boxes.proofs.Each.{each_weaker}
-use Rattle.mp4_head.specs.Head.{TrackHead}
-use Rattle.mp4_head.specs.Writing.{next_track_id}
-use Rattle.mp4_present.specs.Presentation.{track_length}
-use Rattle.mp4_plan.specs.HeadLaws.{MovieLengthIsLargest, NextTrackIdIsLeast}
+use Rattle.mp4_head.specs.format.Head.{TrackHead}
+use Rattle.mp4_head.specs.format.Writing.{next_track_id}
+use Rattle.mp4_present.specs.format.Presentation.{track_length}
+use Rattle.mp4_plan.specs.format.HeadLaws.{MovieLengthIsLargest, NextTrackIdIsLeast}
 
 -- the largest number, and a first one
 abbrev largest : {A : Type 0} → (A → ℕ) → ℕ → List A → ℕ

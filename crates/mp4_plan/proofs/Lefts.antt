@@ -1,13 +1,13 @@
 -- What is left of the tracks of a file at a turn: samples as the file has them, and as the presentation does.
 use Rattle.std.specs.Prelude.{◌≡◌, ◌<◌, ℕ, false, List, [], ◌∷◌, length}
 use Rattle.std.specs.List.{sum_by}
-use Rattle.mp4_tables.specs.Keys.{keys_seen}
+use Rattle.mp4_tables.specs.words.Keys.{keys_seen}
 use Rattle.mp4_tables.specs.declared.sample.SampleAt.{SampleAt}
 use Rattle.mp4_present.specs.declared.track_info.TrackInfo.{TrackInfo}
-use Rattle.mp4_plan.specs.Pieces.{TimedSample, Piece}
-use Rattle.mp4_plan.specs.Coming.{Coming, stops, end_of_first, pieces_left}
-use Rattle.mp4_plan.specs.Taken.{AreTaken}
-use Rattle.mp4_plan.specs.TurnLaws.{IsAmong, next_time}
+use Rattle.mp4_plan.specs.format.Pieces.{TimedSample, Piece}
+use Rattle.mp4_plan.specs.words.PiecesComing.{Coming, stops, end_of_first, pieces_left}
+use Rattle.mp4_plan.specs.words.Taken.{AreTaken}
+use Rattle.mp4_plan.specs.words.TurnLaws.{IsAmong, next_time}
 use Rattle.mp4_plan.specs.declared.ends.End.{End}
 use Rattle.mp4_plan.specs.declared.schedule.Schedule.{Schedule}
 

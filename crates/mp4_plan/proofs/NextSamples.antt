@@ -3,15 +3,16 @@ use Rattle.std.proofs.Common.{◌≡◌, ℕ, zero, suc, ◌+◌, ◌<◌, ◌�
 use Rattle.std.specs.Prelude.{Option, slice_get, slice_index_or}
 use Rattle.std.proofs.lemmas.List.Sums.{sum_by-cons}
 use Rattle.std.proofs.lemmas.List.{take_all, take_more_set, map-append}
-use Rattle.mp4_head.specs.Tree.{TrackTree}
+use Rattle.mp4_head.specs.format.Tree.{TrackTree}
 use Rattle.mp4_tables.specs.declared.sample.SampleAt.{SampleAt}
-use Rattle.mp4_present.specs.Denotes.{FileTree}
-use Rattle.mp4_present.specs.Movies.{MovieSeen}
+use Rattle.mp4_present.specs.format.Denotes.{FileTree}
+use Rattle.mp4_present.specs.words.Movies.{MovieSeen}
 use Rattle.mp4_present.specs.declared.walks.Walk.{Walk}
-use Rattle.mp4_plan.specs.Ends.{first_goes}
-use Rattle.mp4_plan.specs.Gathering.{piece_from, more_of}
-use Rattle.mp4_plan.specs.Writers.{AllCome, firsts, first_dts, rooms, turn_head}
-use Rattle.mp4_plan.specs.Taken.{row_seen}
+use Rattle.mp4_plan.specs.words.Ends.{first_goes}
+use Rattle.mp4_plan.specs.words.Gathering.{piece_from, more_of}
+use Rattle.mp4_plan.specs.words.Writers.{AllCome, firsts, first_dts, turn_head}
+use Rattle.mp4_plan.specs.format.Held.{rooms}
+use Rattle.mp4_plan.specs.words.Taken.{row_seen}
 use Rattle.mp4_plan.specs.declared.rows.Row.{Row}
 use Rattle.mp4_plan.specs.declared.ends.End.{End}
 use Rattle.mp4_plan.proofs.PlannerSteps.{more_of_no, more_of-nil}

@@ -6,27 +6,27 @@ use Rattle.std.proofs.lemmas.Bool.{and_from}
 use Rattle.std.proofs.lemmas.List.{length-map}
 use Rattle.mp4_boxes.proofs.Each.{each_from}
 use Rattle.mp4_boxes.proofs.WrittenBoxes.{written, length-placed}
-use Rattle.mp4_tables.specs.Tables.{Tables, tables_of}
-use Rattle.mp4_tables.specs.Groups.{GroupKey, keys_after}
-use Rattle.mp4_tables.specs.PlainSamples.{PlacedSample, plain_samples}
-use Rattle.mp4_tables.specs.TableRules.{Fit, is_index}
+use Rattle.mp4_tables.specs.format.Tables.{Tables, tables_of}
+use Rattle.mp4_tables.specs.format.Groups.{GroupKey, keys_after}
+use Rattle.mp4_tables.specs.format.PlainSamples.{PlacedSample, plain_samples}
+use Rattle.mp4_tables.specs.format.TableRules.{Fit, is_index}
 use Rattle.mp4_frag.specs.declared.trex.Trex.{Trex}
-use Rattle.mp4_frag.specs.FragmentSamples.{all_parts, Part, part_samples, parts_for, fragment_samples, start_of, duration_of, trex_for, AreOnTime, AreGrouped}
-use Rattle.mp4_frag.specs.Fragments.{fragment_of}
-use Rattle.mp4_frag.specs.FragmentRules.{TrackInfo, track_for, is_known, has_indexes, is_within}
-use Rattle.mp4_head.specs.Head.{TrackHead, IsTrackHead}
-use Rattle.mp4_head.specs.Tree.{TrackTree, track_head_of, trexes_of, first_of}
+use Rattle.mp4_frag.specs.format.FragmentSamples.{all_parts, Part, part_samples, parts_for, fragment_samples, start_of, duration_of, trex_for, AreOnTime, AreGrouped}
+use Rattle.mp4_frag.specs.format.Fragments.{fragment_of}
+use Rattle.mp4_frag.specs.format.FragmentRules.{TrackInfo, track_for, is_known, has_indexes, is_within}
+use Rattle.mp4_head.specs.format.Head.{TrackHead, IsTrackHead}
+use Rattle.mp4_head.specs.format.Tree.{TrackTree, track_head_of, trexes_of, first_of}
 use Rattle.mp4_head.proofs.WrittenContents.{content_of, contents_of, trak_payload}
 use Rattle.mp4_head.proofs.WrittenTrack.{track_tree, table_boxes}
 use Rattle.mp4_head.proofs.WrittenTrackHead.{track_head_again}
 use Rattle.mp4_head.proofs.WrittenMovie.{tracks_at, movie_front, normal_trex, normal_trexes, movie_head_again, trexes_again, traks_small}
 use Rattle.mp4_head.proofs.WrittenTables.{tables_none, none_fit}
-use Rattle.mp4_present.specs.Presentation.{Sample, Track, Presentation, heads, movie_length, IsSample, IsTrack, Valid, keys_of}
-use Rattle.mp4_present.specs.Denotes.{IsConsistent, surroundings, track_infos, file_parts, parts_of_track, first_due, plain_keys, sample_of, track_of, presentation_of}
-use Rattle.mp4_plan.specs.Pieces.{TimedSample, timed, pieces}
-use Rattle.mp4_plan.specs.Normal.{normal}
-use Rattle.mp4_plan.specs.PieceLaws.{pieces_for}
-use Rattle.mp4_plan.specs.Laws.{NormalDenotes}
+use Rattle.mp4_present.specs.format.Presentation.{Sample, Track, Presentation, heads, movie_length, IsSample, IsTrack, Valid, keys_of}
+use Rattle.mp4_present.specs.format.Denotes.{IsConsistent, surroundings, track_infos, file_parts, parts_of_track, first_due, plain_keys, sample_of, track_of, presentation_of}
+use Rattle.mp4_plan.specs.format.Pieces.{TimedSample, timed, pieces}
+use Rattle.mp4_plan.specs.format.Normal.{normal}
+use Rattle.mp4_plan.specs.format.PieceLaws.{pieces_for}
+use Rattle.mp4_plan.specs.format.Laws.{NormalDenotes}
 use Rattle.mp4_plan.proofs.Filters.{all_weaker}
 use Rattle.mp4_plan.proofs.PieceFacts.{ids_in_pieces, samples_in_pieces, all_timed}
 use Rattle.mp4_plan.proofs.PartLists.{Says, IsReadAgain, tracks_again, ids_in_parts, samples_in_parts}

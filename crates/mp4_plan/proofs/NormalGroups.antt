@@ -6,13 +6,13 @@ use Rattle.std.proofs.lemmas.Bool.{le-leb, ne_eqb, eqb-true, and_from, or_from}
 use Rattle.std.proofs.lemmas.List.{append-nil, length-map}
 use Rattle.mp4_boxes.proofs.Among.{all_append}
 use Rattle.mp4_boxes.proofs.Each.{each_kept}
-use Rattle.mp4_tables.specs.Repeated.{total}
-use Rattle.mp4_tables.specs.Groups.{GroupRule, one_of_key, few_keys, index_range, group_counts, GroupKey, Grouping, key_rank, same_key, index_at, keys_with, keys_after, keeps, group_test, max_index, max_keys}
+use Rattle.mp4_tables.specs.format.Repeated.{total}
+use Rattle.mp4_tables.specs.format.Groups.{GroupRule, one_of_key, few_keys, index_range, group_counts, GroupKey, Grouping, key_rank, same_key, index_at, keys_with, keys_after, keeps, group_test, max_index, max_keys}
 use Rattle.mp4_tables.proofs.NamedKeys.{IsAmong, few_with}
-use Rattle.mp4_frag.specs.FragmentSamples.{Part, part_samples, parts_for, AreGrouped}
-use Rattle.mp4_plan.specs.Pieces.{TimedSample, Piece}
-use Rattle.mp4_plan.specs.Normal.{piece_keys, longest_runs}
-use Rattle.mp4_plan.specs.PieceLaws.{pieces_for}
+use Rattle.mp4_frag.specs.format.FragmentSamples.{Part, part_samples, parts_for, AreGrouped}
+use Rattle.mp4_plan.specs.format.Pieces.{TimedSample, Piece}
+use Rattle.mp4_plan.specs.format.Normal.{piece_keys, longest_runs}
+use Rattle.mp4_plan.specs.format.PieceLaws.{pieces_for}
 use Rattle.mp4_plan.proofs.Filters.{all_weaker}
 use Rattle.mp4_plan.proofs.Maps.{KeysAbove}
 use Rattle.mp4_plan.proofs.KeyOrder.{AreRising, order_rises}

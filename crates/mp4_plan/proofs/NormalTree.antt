@@ -2,21 +2,21 @@
 use Rattle.std.proofs.Common.{◌≡◌, ℕ, ◌+◌, true, List, [], ◌∷◌, ◌++◌, length, refl, ap, subst, arith, length-append, IsTrue}
 use Rattle.std.specs.Prelude.{map}
 use Rattle.std.specs.List.{AllByRecursion}
-use Rattle.mp4_boxes.specs.Box.{Box, LieEndToEnd, sizes, file_container}
-use Rattle.mp4_boxes.specs.Children.{Holds, allows}
+use Rattle.mp4_boxes.specs.format.Box.{Box, LieEndToEnd, sizes, file_container}
+use Rattle.mp4_boxes.specs.format.Children.{Holds, allows}
 use Rattle.mp4_boxes.specs.declared.rule.Rule.TheVariants as rules
 use Rattle.mp4_boxes.proofs.Among.{all_append}
 use Rattle.mp4_boxes.proofs.Tiling.{sizes-append}
 use Rattle.mp4_boxes.proofs.WrittenBoxes.{Content, written, placed, placed_box, sizes_written}
-use Rattle.mp4_head.specs.Head.{IsTrackHead}
-use Rattle.mp4_head.specs.Writing.{head_bytes}
+use Rattle.mp4_head.specs.format.Head.{IsTrackHead}
+use Rattle.mp4_head.specs.format.Writing.{head_bytes}
 use Rattle.mp4_head.proofs.WrittenMovie.{IsWritable, moov_content, movie_tree, movie_tree_is, movie_leaves_sound}
 use Rattle.mp4_head.proofs.WrittenHead.{head_contents, head_written, head_fits, head_lies}
 use Rattle.mp4_head.proofs.WrittenTables.{tables_sound}
-use Rattle.mp4_present.specs.Presentation.{Track, Presentation, heads, movie_length, IsTrack, Valid}
-use Rattle.mp4_present.specs.Denotes.{FileTree, IsFileTree, IsSoundFile}
-use Rattle.mp4_plan.specs.Pieces.{pieces}
-use Rattle.mp4_plan.specs.Normal.{pieces_bytes, normal}
+use Rattle.mp4_present.specs.format.Presentation.{Track, Presentation, heads, movie_length, IsTrack, Valid}
+use Rattle.mp4_present.specs.format.Denotes.{FileTree, IsFileTree, IsSoundFile}
+use Rattle.mp4_plan.specs.format.Pieces.{pieces}
+use Rattle.mp4_plan.specs.format.Normal.{pieces_bytes, normal}
 use Rattle.mp4_plan.proofs.PieceBoxes.{IsGood, pieces_boxes, pieces_trees, pieces_lie, pieces_sizes, pieces_have, no_movies, count_movies, moofs_are, trees_are, trees_sound}
 
 -- what is written in front of the pieces

@@ -4,16 +4,16 @@ use Rattle.std.specs.Prelude.{map, nat_eq, not, pos, FitsSigned, IfSome}
 use Rattle.std.specs.Int.{w32}
 use Rattle.std.specs.List.{AllByRecursion, list_all}
 use Rattle.std.proofs.lemmas.Bool.{eq-eqb, and_from, not-false}
-use Rattle.mp4_boxes.specs.Bytes.{spelled, unsigned}
-use Rattle.mp4_boxes.specs.Written.{column_flags, column_bytes}
-use Rattle.mp4_boxes.specs.Layout.{Column, tfhd, trun, fields, flags, has, column_values, tfhd_columns, trun_columns, default_base_is_moof, default_sample_duration_present, default_sample_size_present, default_sample_flags_present, sample_duration_present, sample_size_present, sample_flags_present, sample_composition_time_offset_present}
+use Rattle.mp4_boxes.specs.format.Bytes.{spelled, unsigned}
+use Rattle.mp4_boxes.specs.format.Written.{column_flags, column_bytes}
+use Rattle.mp4_boxes.specs.format.Layout.{Column, tfhd, trun, fields, flags, has, column_values, tfhd_columns, trun_columns, default_base_is_moof, default_sample_duration_present, default_sample_size_present, default_sample_flags_present, sample_duration_present, sample_size_present, sample_flags_present, sample_composition_time_offset_present}
 use Rattle.mp4_boxes.proofs.Each.{each_value, each_weaker, each_from}
 use Rattle.mp4_boxes.proofs.Columns.{columns_again}
-use Rattle.mp4_frag.specs.Fragments.{column}
-use Rattle.mp4_present.specs.Presentation.{Sample, Track, IsSample, IsTrack}
-use Rattle.mp4_plan.specs.Pieces.{TimedSample, Piece, timed, pieces}
-use Rattle.mp4_plan.specs.Normal.{common, shared_by, row_flags, trun_row, first_description}
-use Rattle.mp4_plan.specs.SpellingLaws.{Agree, IsSpelledOnce, defaults, run_bits, HasOneSpelling, ColumnsAreSpelledOnce}
+use Rattle.mp4_frag.specs.format.Fragments.{column}
+use Rattle.mp4_present.specs.format.Presentation.{Sample, Track, IsSample, IsTrack}
+use Rattle.mp4_plan.specs.format.Pieces.{TimedSample, Piece, timed, pieces}
+use Rattle.mp4_plan.specs.format.Normal.{common, shared_by, row_flags, trun_row, first_description}
+use Rattle.mp4_plan.specs.format.SpellingLaws.{Agree, IsSpelledOnce, defaults, run_bits, HasOneSpelling, ColumnsAreSpelledOnce}
 use Rattle.mp4_plan.proofs.Shared.{common_is}
 use Rattle.mp4_plan.proofs.WrittenRun.{common_has}
 use Rattle.mp4_plan.proofs.PieceSays.{offsets_none}

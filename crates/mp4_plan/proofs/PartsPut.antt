@@ -1,8 +1,8 @@
 -- Five parts that are taken along one after the other: four in front, and what lies behind them.
 use Rattle.std.proofs.Common.{◌≡◌, ℕ, List, ◌++◌, refl, ◌∙◌, append_assoc}
 use Rattle.std.specs.Prelude.{Option}
-use Rattle.mp4_store.specs.Device.{AppendsPrefix}
-use Rattle.mp4_present.specs.Carried.{BytesGoOn}
+use Rattle.mp4_store.specs.words.Device.{AppendsPrefix}
+use Rattle.mp4_present.specs.words.Carried.{BytesGoOn}
 use Rattle.mp4_present.proofs.Carrying.{BytesGoOn-then}
 use Rattle.mp4_plan.proofs.FrontsPut.{stopped_at, stopped_last, stopped_first}
 

@@ -2,20 +2,20 @@
 use Rattle.std.proofs.Common.{◌≡◌, ℕ, ◌+◌, ◌*◌, ◌^◌, ◌<◌, ◌≤◌, Bool, true, false, cond, List, [], ◌∷◌, ◌++◌, length, unwrap_or, refl, sym, ap, subst, ◌∙◌, append_assoc, arith, length-append}
 use Rattle.std.specs.Prelude.{codes, map, flat_map, nat_lt}
 use Rattle.std.specs.List.{AllByRecursion, AllZip}
-use Rattle.mp4_boxes.specs.Box.{Box, sizes, LieEndToEnd}
-use Rattle.mp4_boxes.specs.Children.{of_kind, count_among}
-use Rattle.mp4_boxes.specs.Written.{header_bytes, header_length}
-use Rattle.mp4_boxes.specs.Places.{ruled, AreSound}
+use Rattle.mp4_boxes.specs.format.Box.{Box, sizes, LieEndToEnd}
+use Rattle.mp4_boxes.specs.format.Children.{of_kind, count_among}
+use Rattle.mp4_boxes.specs.format.Written.{header_bytes, header_length}
+use Rattle.mp4_boxes.specs.format.Places.{ruled, AreSound}
 use Rattle.mp4_boxes.specs.declared.rule.Rule.TheVariants as rules
 use Rattle.mp4_boxes.proofs.Lying.{lies}
 use Rattle.mp4_boxes.proofs.LyingData.{data_box, lies_data, length-header_bytes}
 use Rattle.mp4_boxes.proofs.WrittenBoxes.{placed_box, length-box_bytes}
 use Rattle.mp4_frag.specs.declared.trex.Trex.{Trex}
-use Rattle.mp4_frag.specs.Fragments.{Fragment, FragmentTree, IsFragmentTree, fragment_of}
-use Rattle.mp4_frag.specs.FragmentSamples.{Part, parts_of, all_parts, trex_for, no_trex}
-use Rattle.mp4_plan.specs.Pieces.{TimedSample, Piece}
-use Rattle.mp4_plan.specs.Normal.{piece_data, moof_bytes, piece_bytes, pieces_bytes}
-use Rattle.mp4_plan.specs.PieceLaws.{IsOne}
+use Rattle.mp4_frag.specs.format.Fragments.{Fragment, FragmentTree, IsFragmentTree, fragment_of}
+use Rattle.mp4_frag.specs.format.FragmentSamples.{Part, parts_of, all_parts, trex_for, no_trex}
+use Rattle.mp4_plan.specs.format.Pieces.{TimedSample, Piece}
+use Rattle.mp4_plan.specs.format.Normal.{piece_data, moof_bytes, piece_bytes, pieces_bytes}
+use Rattle.mp4_plan.specs.format.PieceLaws.{IsOne}
 use Rattle.mp4_plan.proofs.RunRows.{FitsRow}
 use Rattle.mp4_plan.proofs.WrittenFragment.{IsWritablePiece, moof_payload, moof_short, moof_same}
 use Rattle.mp4_plan.proofs.PieceTree.{moof_content, piece_tree, piece_tree_is, fragment_again, traf_sound}

@@ -6,24 +6,24 @@ use Rattle.std.proofs.lemmas.Grind.{flat_map-append}
 use Rattle.std.proofs.lemmas.List.{take_at, drop_at, append-nil}
 use Rattle.std.proofs.Math.Seq.{take-nil}
 use Rattle.mp4_boxes.proofs.Joined.{all_first}
-use Rattle.mp4_store.specs.Device.{AppendsPrefix}
+use Rattle.mp4_store.specs.words.Device.{AppendsPrefix}
 use Rattle.mp4_tables.specs.declared.sample.SampleAt.{SampleAt}
-use Rattle.mp4_frag.specs.Fragments.{FragmentTree}
-use Rattle.mp4_head.specs.Tree.{TrackTree}
-use Rattle.mp4_present.specs.Carried.{BytesGoOn}
-use Rattle.mp4_present.specs.Joined.{IsBelow, sample_bytes}
-use Rattle.mp4_present.specs.Denotes.{FileTree}
-use Rattle.mp4_present.specs.Coming.{Comes, Loads, StandsBefore, samples_behind}
-use Rattle.mp4_present.specs.InHand.{Follows, IsPlaceOf, left_in_hand}
-use Rattle.mp4_present.specs.Movies.{MovieSeen, InHandOf}
-use Rattle.mp4_present.specs.OpenedMovie.{IsOpenedAs}
+use Rattle.mp4_frag.specs.format.Fragments.{FragmentTree}
+use Rattle.mp4_head.specs.format.Tree.{TrackTree}
+use Rattle.mp4_present.specs.words.Carried.{BytesGoOn}
+use Rattle.mp4_present.specs.words.Joined.{IsBelow, sample_bytes}
+use Rattle.mp4_present.specs.format.Denotes.{FileTree}
+use Rattle.mp4_present.specs.words.SamplesComing.{Comes, Loads, StandsBefore, samples_behind}
+use Rattle.mp4_present.specs.words.InHand.{Follows, IsPlaceOf, left_in_hand}
+use Rattle.mp4_present.specs.words.Movies.{MovieSeen, InHandOf}
+use Rattle.mp4_present.specs.words.OpenedMovie.{IsOpenedAs}
 use Rattle.mp4_present.specs.declared.in_hand.InHand.{InHand}
 use Rattle.mp4_present.specs.declared.in_hand.Place.{Place}
 use Rattle.mp4_present.specs.declared.walks.Walk.{Walk}
 use Rattle.mp4_present.proofs.Carrying.{BytesGoOn-then}
 use Rattle.mp4_present.proofs.Counts.{sum-append}
 use Rattle.mp4_present.proofs.Hands.{bytes_of_two}
-use Rattle.mp4_plan.specs.HandsFed.{BytesCarried, sizes_of}
+use Rattle.mp4_plan.specs.words.HandsFed.{BytesCarried, sizes_of}
 use Rattle.mp4_plan.specs.declared.carrying.Load.{Load}
 use Rattle.mp4_plan.proofs.HandsCarried.{carried_front, carried_fails, load_is, next_below}
 use Rattle.mp4_plan.proofs.WalksOn.{hand_first, loads_on, loads_none, kept_coming}

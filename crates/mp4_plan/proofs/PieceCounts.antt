@@ -2,8 +2,8 @@
 use Rattle.std.proofs.Common.{◌≡◌, ℕ, ◌+◌, ◌≤◌, List, [], ◌∷◌, length, take, refl, ◌∙◌, arith}
 use Rattle.std.specs.Prelude.{Option, Some, None}
 use Rattle.mp4_tables.specs.declared.sample.SampleAt.{SampleAt}
-use Rattle.mp4_plan.specs.Gathering.{gather, gather_all, planned_of, piece_from, piece_fed, more_of}
-use Rattle.mp4_plan.specs.HandsFed.{sizes_of}
+use Rattle.mp4_plan.specs.words.Gathering.{gather, gather_all, planned_of, piece_from, piece_fed, more_of}
+use Rattle.mp4_plan.specs.words.HandsFed.{sizes_of}
 use Rattle.mp4_plan.specs.declared.ends.End.{End}
 use Rattle.mp4_plan.specs.declared.gathered.Gathered.{Gathered}
 use Rattle.mp4_plan.proofs.HandsTaken.{counted_fed, few_more}

@@ -4,20 +4,20 @@ use Rattle.std.specs.Prelude.{map}
 use Rattle.std.proofs.Math.Seq.{take-add, take-append-add}
 use Rattle.std.proofs.lemmas.List.{drop-drop, drop_at, take_at, take-append-le, length-take, length-drop, length-map, map-append}
 use Rattle.mp4_tables.specs.declared.sample.SampleAt.{SampleAt}
-use Rattle.mp4_head.specs.Tree.{TrackTree}
-use Rattle.mp4_present.specs.Denotes.{FileTree}
-use Rattle.mp4_present.specs.Coming.{Comes, samples_behind}
-use Rattle.mp4_present.specs.InHand.{left_in_hand}
-use Rattle.mp4_present.specs.Movies.{MovieSeen, InHandOf}
-use Rattle.mp4_present.specs.OpenedMovie.{IsOpenedAs}
+use Rattle.mp4_head.specs.format.Tree.{TrackTree}
+use Rattle.mp4_present.specs.format.Denotes.{FileTree}
+use Rattle.mp4_present.specs.words.SamplesComing.{Comes, samples_behind}
+use Rattle.mp4_present.specs.words.InHand.{left_in_hand}
+use Rattle.mp4_present.specs.words.Movies.{MovieSeen, InHandOf}
+use Rattle.mp4_present.specs.words.OpenedMovie.{IsOpenedAs}
 use Rattle.mp4_present.specs.declared.in_hand.InHand.{InHand}
 use Rattle.mp4_present.specs.declared.in_hand.Place.{Place}
 use Rattle.mp4_present.specs.declared.walks.Walk.{Walk}
-use Rattle.mp4_plan.specs.Ends.{goes_in}
-use Rattle.mp4_plan.specs.Gathering.{Planning, description_in, gather, piece_from, count_of, more_of, piece_fed, samples_after}
-use Rattle.mp4_plan.specs.HandsFed.{HandFed, HandNoted}
-use Rattle.mp4_plan.specs.Stretches.{JoinsOn}
-use Rattle.mp4_plan.specs.Taken.{row_seen}
+use Rattle.mp4_plan.specs.words.Ends.{goes_in}
+use Rattle.mp4_plan.specs.words.Gathering.{Planning, description_in, gather, piece_from, count_of, more_of, piece_fed, samples_after}
+use Rattle.mp4_plan.specs.words.HandsFed.{HandFed, HandNoted}
+use Rattle.mp4_plan.specs.words.Stretches.{JoinsOn}
+use Rattle.mp4_plan.specs.words.Taken.{row_seen}
 use Rattle.mp4_plan.specs.declared.ends.End.{End}
 use Rattle.mp4_plan.specs.declared.courses.Stop.{Stop}
 use Rattle.mp4_plan.specs.declared.courses.Stop.TheVariants.{Empty, Ended, Full}

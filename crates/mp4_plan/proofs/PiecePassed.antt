@@ -2,16 +2,16 @@
 use Rattle.std.proofs.Common.{◌≡◌, ℕ, zero, suc, ◌<◌, ◌≤◌, Bool, true, false, List, [], ◌∷◌, ◌++◌, length, take, drop, refl, sym, ap, subst, ◌∙◌, append_assoc, length-append, arith}
 use Rattle.std.proofs.lemmas.List.{drop_at}
 use Rattle.mp4_tables.specs.declared.sample.SampleAt.{SampleAt}
-use Rattle.mp4_head.specs.Tree.{TrackTree}
-use Rattle.mp4_present.specs.Denotes.{FileTree}
-use Rattle.mp4_present.specs.Coming.{Comes, samples_behind}
-use Rattle.mp4_present.specs.InHand.{left_in_hand}
-use Rattle.mp4_present.specs.Movies.{MovieSeen, InHandOf}
-use Rattle.mp4_present.specs.OpenedMovie.{IsOpenedAs}
+use Rattle.mp4_head.specs.format.Tree.{TrackTree}
+use Rattle.mp4_present.specs.format.Denotes.{FileTree}
+use Rattle.mp4_present.specs.words.SamplesComing.{Comes, samples_behind}
+use Rattle.mp4_present.specs.words.InHand.{left_in_hand}
+use Rattle.mp4_present.specs.words.Movies.{MovieSeen, InHandOf}
+use Rattle.mp4_present.specs.words.OpenedMovie.{IsOpenedAs}
 use Rattle.mp4_present.specs.declared.in_hand.InHand.{InHand}
 use Rattle.mp4_present.specs.declared.in_hand.Place.{Place}
 use Rattle.mp4_present.specs.declared.walks.Walk.{Walk}
-use Rattle.mp4_plan.specs.HandsFed.{TakesFirst, takes_itself, takes_on, HandPassed}
+use Rattle.mp4_plan.specs.words.HandsFed.{TakesFirst, takes_itself, takes_on, HandPassed}
 use Rattle.mp4_plan.proofs.PieceCarried.{LoadsFor}
 use Rattle.mp4_plan.proofs.PieceFed.{fed_coming}
 use Rattle.mp4_plan.proofs.WalksOn.{hand_first, loads_on, loads_none}

@@ -6,20 +6,20 @@ use Rattle.std.specs.List.{AllByRecursion, AllZip, list_all}
 use Rattle.std.proofs.Math.Nat.{mod-eq_of_lt}
 use Rattle.std.proofs.lemmas.Bool.{eqb-true, and_parts}
 use Rattle.std.proofs.lemmas.List.{append-nil, length-map}
-use Rattle.mp4_boxes.specs.Bytes.{unsigned}
+use Rattle.mp4_boxes.specs.format.Bytes.{unsigned}
 use Rattle.mp4_boxes.proofs.Each.{each_weaker}
-use Rattle.mp4_boxes.specs.Written.{header_length}
-use Rattle.mp4_tables.specs.Groups.{maps_of}
-use Rattle.mp4_tables.specs.PlainSamples.{PlacedSample, with_groups}
+use Rattle.mp4_boxes.specs.format.Written.{header_length}
+use Rattle.mp4_tables.specs.format.Groups.{maps_of}
+use Rattle.mp4_tables.specs.format.PlainSamples.{PlacedSample, with_groups}
 use Rattle.mp4_frag.specs.declared.trex.Trex.{Trex}
-use Rattle.mp4_frag.specs.Fragments.{Fragment}
-use Rattle.mp4_frag.specs.FragmentSamples.{run_samples, Part, part_samples}
-use Rattle.mp4_frag.specs.FragmentRules.{is_within}
-use Rattle.mp4_present.specs.Presentation.{Sample}
-use Rattle.mp4_present.specs.Denotes.{sample_of}
-use Rattle.mp4_plan.specs.Pieces.{TimedSample, Piece}
-use Rattle.mp4_plan.specs.Normal.{piece_data, common, shared_by, first_description, first_time, piece_keys, moof_length}
-use Rattle.mp4_plan.specs.PieceLaws.{IsOne}
+use Rattle.mp4_frag.specs.format.Fragments.{Fragment}
+use Rattle.mp4_frag.specs.format.FragmentSamples.{run_samples, Part, part_samples}
+use Rattle.mp4_frag.specs.format.FragmentRules.{is_within}
+use Rattle.mp4_present.specs.format.Presentation.{Sample}
+use Rattle.mp4_present.specs.format.Denotes.{sample_of}
+use Rattle.mp4_plan.specs.format.Pieces.{TimedSample, Piece}
+use Rattle.mp4_plan.specs.format.Normal.{piece_data, common, shared_by, first_description, first_time, piece_keys, moof_length}
+use Rattle.mp4_plan.specs.format.PieceLaws.{IsOne}
 use Rattle.mp4_plan.proofs.PartLists.{Says, untimed_samples}
 use Rattle.mp4_plan.proofs.RunLists.{Gives, IsFoundAs, data_of, run_found, found_within}
 use Rattle.mp4_plan.proofs.RunRows.{FitsRow, row_read}

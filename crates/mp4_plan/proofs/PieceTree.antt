@@ -1,16 +1,16 @@
 -- The tree of the `moof` of a piece, and the fragment that it says.
 use Rattle.std.proofs.Common.{◌≡◌, ℕ, ◌+◌, ◌^◌, ◌<◌, true, false, List, [], ◌∷◌, length, Some, None, refl, sym, ap, ◌∙◌, arith}
 use Rattle.std.specs.Prelude.{codes, map, bytes_eq, IsTrue}
-use Rattle.mp4_boxes.specs.Box.{Box, box_container}
-use Rattle.mp4_boxes.specs.Children.{Holds, allows, is_among}
-use Rattle.mp4_boxes.specs.Places.{ruled, AreSound}
+use Rattle.mp4_boxes.specs.format.Box.{Box, box_container}
+use Rattle.mp4_boxes.specs.format.Children.{Holds, allows, is_among}
+use Rattle.mp4_boxes.specs.format.Places.{ruled, AreSound}
 use Rattle.mp4_boxes.specs.declared.rule.Rule.TheVariants as rules
 use Rattle.mp4_boxes.proofs.WrittenBoxes.{Content, written, placed, placed_box, children, AreTypes, typed, length-box_bytes, fits_written, holds_written, count_before, of_kind-none, of_kind-all}
-use Rattle.mp4_tables.specs.Groups.{groupings_of}
-use Rattle.mp4_frag.specs.Fragments.{TrackFragment, FragmentTree, IsFragmentTree, run_of, column, track_fragment_of, fragment_of}
+use Rattle.mp4_tables.specs.format.Groups.{groupings_of}
+use Rattle.mp4_frag.specs.format.Fragments.{TrackFragment, FragmentTree, IsFragmentTree, run_of, column, track_fragment_of, fragment_of}
 use Rattle.mp4_head.proofs.WrittenTrackHead.{sound_placed}
-use Rattle.mp4_plan.specs.Pieces.{Piece}
-use Rattle.mp4_plan.specs.Normal.{shared_by, first_time, first_description, piece_keys}
+use Rattle.mp4_plan.specs.format.Pieces.{Piece}
+use Rattle.mp4_plan.specs.format.Normal.{shared_by, first_time, first_description, piece_keys}
 use Rattle.mp4_plan.proofs.WrittenRun.{run_payload, run_read, run_again, run_sound, head_id, head_values, head_is_moof, head_sound, time_again, time_sound, time_payload}
 use Rattle.mp4_plan.proofs.WrittenGroups.{grouped_by}
 use Rattle.mp4_plan.proofs.WrittenFragment.{IsWritablePiece, tfhd_payload, traf_front, traf_groups, traf_contents, traf_payload, mfhd_payload, moof_contents, moof_payload, traf_written, moof_written, all_keyed, piece_keys_valid, groups_say, groups_sound, the_flags, traf_short, moof_short}

@@ -3,16 +3,16 @@ use Rattle.std.proofs.Common.{◌≡◌, ℕ, zero, suc, ◌+◌, ◌^◌, ◌<�
 use Rattle.std.proofs.lemmas.Bool.{lt-ltb}
 use Rattle.std.specs.Prelude.{slice_get, slice_index}
 use Rattle.std.specs.List.{AllByRecursion}
-use Rattle.mp4_tables.specs.Groups.{GroupKey}
+use Rattle.mp4_tables.specs.format.Groups.{GroupKey}
 use Rattle.mp4_tables.specs.declared.sample.SampleAt.{SampleAt}
-use Rattle.mp4_plan.specs.Pieces.{TimedSample, Piece}
-use Rattle.mp4_plan.specs.Normal.{piece_bytes, pieces_bytes}
-use Rattle.mp4_plan.specs.Gathering.{gather_all, planned_of}
-use Rattle.mp4_plan.specs.Sizes.{moof_sizes}
-use Rattle.mp4_plan.specs.Taken.{AreTaken, IsNamed, head_of}
-use Rattle.mp4_plan.specs.TurnLaws.{piece_if}
-use Rattle.mp4_plan.specs.UsedKeys.{AreApart}
-use Rattle.mp4_plan.specs.Writers.{turn_head, sequence_behind, bytes_of_piece, turn_bytes}
+use Rattle.mp4_plan.specs.format.Pieces.{TimedSample, Piece}
+use Rattle.mp4_plan.specs.format.Normal.{piece_bytes, pieces_bytes}
+use Rattle.mp4_plan.specs.words.Gathering.{gather_all, planned_of}
+use Rattle.mp4_plan.specs.words.Sizes.{moof_sizes}
+use Rattle.mp4_plan.specs.words.Taken.{AreTaken, IsNamed, head_of}
+use Rattle.mp4_plan.specs.words.TurnLaws.{piece_if}
+use Rattle.mp4_plan.specs.words.UsedKeys.{AreApart}
+use Rattle.mp4_plan.specs.words.Writers.{turn_head, sequence_behind, bytes_of_piece, turn_bytes}
 use Rattle.mp4_plan.specs.declared.moof_front.PieceHead.{PieceHead}
 use Rattle.mp4_plan.specs.declared.planner.Planned.{Planned}
 use Rattle.mp4_plan.proofs.SizesSmall.{moof_small}

@@ -3,27 +3,27 @@ use Rattle.std.proofs.Common.{◌≡◌, ℕ, zero, suc, ◌+◌, ◌-◌, ◌*�
 use Rattle.std.specs.Prelude.{slice_get, slice_set, slice_index_or, min, max, fold}
 use Rattle.std.specs.List.{sum_by}
 use Rattle.std.proofs.lemmas.List.{length-take-le}
-use Rattle.mp4_boxes.specs.Written.{header_length}
-use Rattle.mp4_head.specs.Tree.{TrackTree}
-use Rattle.mp4_tables.specs.Groups.{GroupKey}
-use Rattle.mp4_tables.specs.Keys.{keys_seen}
+use Rattle.mp4_boxes.specs.format.Written.{header_length}
+use Rattle.mp4_head.specs.format.Tree.{TrackTree}
+use Rattle.mp4_tables.specs.format.Groups.{GroupKey}
+use Rattle.mp4_tables.specs.words.Keys.{keys_seen}
 use Rattle.mp4_tables.specs.declared.sample.SampleAt.{SampleAt}
-use Rattle.mp4_present.specs.Coming.{Comes, track_samples}
-use Rattle.mp4_present.specs.Denotes.{FileTree, presentation_of}
-use Rattle.mp4_present.specs.Movies.{MovieSeen}
-use Rattle.mp4_present.specs.OpenedMovie.{IsOpenedAs}
+use Rattle.mp4_present.specs.words.SamplesComing.{Comes, track_samples}
+use Rattle.mp4_present.specs.format.Denotes.{FileTree, presentation_of}
+use Rattle.mp4_present.specs.words.Movies.{MovieSeen}
+use Rattle.mp4_present.specs.words.OpenedMovie.{IsOpenedAs}
 use Rattle.mp4_present.specs.declared.track_info.TrackInfo.{TrackInfo}
 use Rattle.mp4_present.specs.declared.walks.Walk.{Walk}
-use Rattle.mp4_plan.specs.Coming.{Coming, coming_of}
-use Rattle.mp4_plan.specs.Gathering.{gather_all, planned_of, more_of, piece_from, piece_fed, samples_after}
-use Rattle.mp4_plan.specs.Normal.{pieces_bytes, piece_bytes}
-use Rattle.mp4_plan.specs.Pieces.{TimedSample, Piece, pieces}
-use Rattle.mp4_plan.specs.Sizes.{moof_sizes}
-use Rattle.mp4_plan.specs.Taken.{AreTaken}
-use Rattle.mp4_plan.specs.TurnLaws.{piece_if}
-use Rattle.mp4_plan.specs.Turns.{first_scale, turn_end, turned, Sticks}
-use Rattle.mp4_plan.specs.Writers.{AllCome, AllBegin, firsts, IsPlanOf, longest_piece, planned_length}
-use Rattle.mp4_plan.specs.Writers as writers
+use Rattle.mp4_plan.specs.words.PiecesComing.{Coming, coming_of}
+use Rattle.mp4_plan.specs.words.Gathering.{gather_all, planned_of, more_of, piece_from, piece_fed, samples_after}
+use Rattle.mp4_plan.specs.format.Normal.{pieces_bytes, piece_bytes}
+use Rattle.mp4_plan.specs.format.Pieces.{TimedSample, Piece, pieces}
+use Rattle.mp4_plan.specs.words.Sizes.{moof_sizes}
+use Rattle.mp4_plan.specs.words.Taken.{AreTaken}
+use Rattle.mp4_plan.specs.words.TurnLaws.{piece_if}
+use Rattle.mp4_plan.specs.words.Turns.{first_scale, turn_end, turned, Sticks}
+use Rattle.mp4_plan.specs.words.Writers.{AllCome, AllBegin, firsts, IsPlanOf, longest_piece, planned_length}
+use Rattle.mp4_plan.specs.words.Writers as writers
 use Rattle.mp4_plan.specs.declared.ends.End.{End}
 use Rattle.mp4_plan.specs.declared.planner.Planned.{Planned}
 use Rattle.mp4_plan.specs.declared.schedule.Schedule.{Schedule}

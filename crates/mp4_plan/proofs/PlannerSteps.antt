@@ -3,9 +3,9 @@ use Rattle.std.proofs.Common.{◌≡◌, suc, ◌+◌, List, [], ◌∷◌, leng
 use Rattle.std.specs.Prelude.{Option, Some, None, slice_get}
 use Rattle.std.specs.List.{prefix_len}
 use Rattle.mp4_tables.specs.declared.sample.SampleAt.{SampleAt}
-use Rattle.mp4_plan.specs.Ends.{goes_in}
+use Rattle.mp4_plan.specs.words.Ends.{goes_in}
 use Rattle.mp4_plan.specs.declared.gathered.Gathered.{Gathered}
-use Rattle.mp4_plan.specs.Gathering.{gather, gather_all, Planning, description_in, more_of, piece_fed, samples_after, count_of, planned_of}
+use Rattle.mp4_plan.specs.words.Gathering.{gather, gather_all, Planning, description_in, more_of, piece_fed, samples_after, count_of, planned_of}
 
 -- ---- one sample after the other
 

@@ -6,15 +6,16 @@ use Rattle.std.specs.Option.{MatchOption}
 use Rattle.std.proofs.lemmas.Bool.{eq-eqb}
 use Rattle.std.proofs.lemmas.List.{take_all}
 use Rattle.std.proofs.lemmas.List.Sums.{sum_by-append, sum_by-cons}
-use Rattle.mp4_head.specs.Tree.{TrackTree}
+use Rattle.mp4_head.specs.format.Tree.{TrackTree}
 use Rattle.mp4_tables.specs.declared.sample.SampleAt.{SampleAt}
-use Rattle.mp4_present.specs.Coming.{Comes, track_samples}
-use Rattle.mp4_present.specs.Denotes.{FileTree}
-use Rattle.mp4_present.specs.Movies.{MovieSeen, IsWalkOf}
-use Rattle.mp4_present.specs.OpenedMovie.{IsInfoOf, IsOpenedAs}
+use Rattle.mp4_present.specs.words.SamplesComing.{Comes, track_samples}
+use Rattle.mp4_present.specs.format.Denotes.{FileTree}
+use Rattle.mp4_present.specs.words.Movies.{MovieSeen, IsWalkOf}
+use Rattle.mp4_present.specs.words.OpenedMovie.{IsInfoOf, IsOpenedAs}
 use Rattle.mp4_present.specs.declared.walks.Walk.{Walk}
 use Rattle.mp4_present.proofs.TracksPassed.{zip_length}
-use Rattle.mp4_plan.specs.Writers.{AreWalksOf, AllCome, AllBegin, rooms, first_dts}
+use Rattle.mp4_plan.specs.words.Writers.{AreWalksOf, AllCome, AllBegin, first_dts}
+use Rattle.mp4_plan.specs.format.Held.{rooms}
 use Rattle.mp4_plan.proofs.ComeAt.{come_at, come_with, come_more, set_same}
 use Rattle.mp4_plan.proofs.TurnTaken.{there_is}
 

@@ -1,7 +1,7 @@
 -- Bytes that are pushed one after the other.
 use Rattle.std.proofs.Common.{◌≡◌, ℕ, List, [], ◌++◌, ap, ◌∙◌, append_assoc}
 use Rattle.std.specs.Prelude.{Option}
-use Rattle.mp4_present.specs.Carried.{BytesGoOn}
+use Rattle.mp4_present.specs.words.Carried.{BytesGoOn}
 
 -- behind these, and then the rest
 pub behind : (start next last bytes rest : List ℕ) → next ≡ start ++ bytes → last ≡ next ++ rest → last ≡ start ++ (bytes ++ rest)

@@ -5,13 +5,13 @@ use Rattle.std.specs.Int.{w32}
 use Rattle.std.specs.List.{flat_map, AllByRecursion}
 use Rattle.std.proofs.lemmas.List.{drop_at}
 use Rattle.std.proofs.lemmas.List.Concat.{flat_map-cons}
-use Rattle.mp4_boxes.specs.Bytes.{unsigned, width_of}
-use Rattle.mp4_boxes.specs.Layout.{column_values, sample_columns, data_offset_present, present}
+use Rattle.mp4_boxes.specs.format.Bytes.{unsigned, width_of}
+use Rattle.mp4_boxes.specs.format.Layout.{column_values, sample_columns, data_offset_present, present}
 use Rattle.mp4_boxes.proofs.Columns.{FitColumns, columns_again, length-column_bytes}
-use Rattle.mp4_frag.specs.Fragments.{RunRow, run_rows, run_row_of}
+use Rattle.mp4_frag.specs.format.Fragments.{RunRow, run_rows, run_row_of}
 use Rattle.mp4_head.proofs.Again.{signed_again}
-use Rattle.mp4_plan.specs.Pieces.{TimedSample}
-use Rattle.mp4_plan.specs.Normal.{Shared, own, row_values, row_flags, trun_row}
+use Rattle.mp4_plan.specs.format.Pieces.{TimedSample}
+use Rattle.mp4_plan.specs.format.Normal.{Shared, own, row_values, row_flags, trun_row}
 
 -- the numbers of a sample fit the fields of a row
 pub record FitsRow (s : TimedSample) : Type 0 where

@@ -6,8 +6,8 @@ use Rattle.std.proofs.lemmas.List.{drop_more, drop_all}
 use Rattle.mp4_plan.specs.declared.moof_rows.IndexRun.{IndexRun}
 use Rattle.mp4_plan.specs.declared.rows.Row.{Row}
 use Rattle.std.proofs.lemmas.Bool.{eq-eqb}
-use Rattle.mp4_plan.specs.Normal.{longest_runs, put_run}
-use Rattle.mp4_plan.specs.Spelling.{resumed, runs_left}
+use Rattle.mp4_plan.specs.format.Normal.{longest_runs, put_run}
+use Rattle.mp4_plan.specs.words.Spelling.{resumed, runs_left}
 
 -- a run in front of others, in the first of them if that has its index
 abbrev pub add_run : ℕ → ℕ → List (ℕ × ℕ) → List (ℕ × ℕ)

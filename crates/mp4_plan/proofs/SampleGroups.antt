@@ -5,10 +5,10 @@ use Rattle.std.specs.List.{AllByRecursion, list_any}
 use Rattle.std.proofs.lemmas.Bool.{eqb-true, ne_eqb}
 use Rattle.std.proofs.lemmas.List.{length-replicate}
 use Rattle.mp4_boxes.proofs.Each.{each_member}
-use Rattle.mp4_tables.specs.Repeated.{repeated}
-use Rattle.mp4_tables.specs.Groups.{GroupKey, Grouping, Groups, key_rank, same_key, index_at, put_group, put_indexes, maps_of}
+use Rattle.mp4_tables.specs.format.Repeated.{repeated}
+use Rattle.mp4_tables.specs.format.Groups.{GroupKey, Grouping, Groups, key_rank, same_key, index_at, put_group, put_indexes, maps_of}
 use Rattle.mp4_tables.proofs.GroupMaps.{IsMap, keys_named, AreApart, are_apart, others_differ, maps_made}
-use Rattle.mp4_plan.specs.TableLaws.{index_by, GroupsAreIndexes}
+use Rattle.mp4_plan.specs.format.TableLaws.{index_by, GroupsAreIndexes}
 
 -- each key of the map has another rank than this one
 abbrev Differ : GroupKey → Groups → Type 0

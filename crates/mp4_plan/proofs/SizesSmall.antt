@@ -1,8 +1,8 @@
 -- A `moof` of at most 2^24 samples has at most 2^30 bytes.
 use Rattle.std.proofs.Common.{ℕ, ◌+◌, ◌*◌, ◌^◌, ◌≤◌, Bool, true, false, List, [], ◌∷◌, length, slice_index, Option, Some, None, nat_lt, arith, mul-le-mul_right}
 use Rattle.std.specs.Prelude.{if◌then◌else◌}
-use Rattle.mp4_tables.specs.Groups.{GroupKey}
-use Rattle.mp4_plan.specs.Sizes.{own_size, offset_size, row_size, group_size, groups_size, moof_sizes}
+use Rattle.mp4_tables.specs.format.Groups.{GroupKey}
+use Rattle.mp4_plan.specs.words.Sizes.{own_size, offset_size, row_size, group_size, groups_size, moof_sizes}
 use Rattle.mp4_plan.specs.declared.planner.Planned.{Planned}
 
 own_small : (o : Option ℕ) → own_size o ≤ 4

@@ -2,12 +2,12 @@
 use Rattle.std.proofs.Common.{◌≡◌, ℕ, ◌+◌, ◌-◌, ◌*◌, ◌^◌, ◌≤◌, min, Bool, true, false, List, [], ◌∷◌, ◌++◌, length, Option, Some, None, refl, ap, append_assoc, length-append, arith}
 use Rattle.std.specs.Prelude.{codes}
 use Rattle.byteorder.specs.Endian.{big_bytes}
-use Rattle.mp4_boxes.specs.Bytes.{spelled}
-use Rattle.mp4_boxes.specs.Layout.{trun, fields, trun_columns}
-use Rattle.mp4_boxes.specs.Written.{box_bytes, column_flags, column_bytes}
-use Rattle.mp4_plan.specs.Normal.{Shared, own, row_flags}
-use Rattle.mp4_plan.specs.Sizes.{own_size, offset_size, row_size}
-use Rattle.mp4_plan.specs.Spelling.{option_bytes, offset_of, run_row, run_rows, box_front, bit_of, bit_without, bit_if}
+use Rattle.mp4_boxes.specs.format.Bytes.{spelled}
+use Rattle.mp4_boxes.specs.format.Layout.{trun, fields, trun_columns}
+use Rattle.mp4_boxes.specs.format.Written.{box_bytes, column_flags, column_bytes}
+use Rattle.mp4_plan.specs.format.Normal.{Shared, own, row_flags}
+use Rattle.mp4_plan.specs.words.Sizes.{own_size, offset_size, row_size}
+use Rattle.mp4_plan.specs.words.Spelling.{option_bytes, offset_of, run_row, run_rows, box_front, bit_of, bit_without, bit_if}
 use Rattle.mp4_plan.specs.declared.planner.Planned.{Planned}
 use Rattle.mp4_plan.specs.declared.rows.Row.{Row}
 use Rattle.mp4_plan.proofs.WrittenRun.{head_payload}

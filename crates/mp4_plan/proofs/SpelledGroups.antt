@@ -4,24 +4,24 @@ use Rattle.std.specs.Prelude.{map, flat_map, codes, slice_index, nat_lt, â—Œ==â—
 use Rattle.std.specs.List.{AllByRecursion, list_any, list_all}
 use Rattle.std.proofs.lemmas.Bool.{lt-ltb, ltb-true, or_cases, or_left, and_left, and_right, eqb-true}
 use Rattle.byteorder.specs.Endian.{big_bytes}
-use Rattle.mp4_boxes.specs.Bytes.{spelled, sum_of}
-use Rattle.mp4_boxes.specs.Layout.{sbgp, row}
-use Rattle.mp4_tables.specs.Groups.{GroupKey, Groups, key_rank, same_key, index_at}
+use Rattle.mp4_boxes.specs.format.Bytes.{spelled, sum_of}
+use Rattle.mp4_boxes.specs.format.Layout.{sbgp, row}
+use Rattle.mp4_tables.specs.format.Groups.{GroupKey, Groups, key_rank, same_key, index_at}
 use Rattle.mp4_tables.specs.declared.sample.SampleAt.{SampleAt}
 use Rattle.mp4_tables.proofs.NamedKeys.{IsAmong, among_more, same_itself}
-use Rattle.mp4_present.specs.Presentation.{IsGroup}
-use Rattle.mp4_plan.specs.Pieces.{TimedSample}
-use Rattle.mp4_plan.specs.Normal.{put_key, in_key_order, piece_keys, longest_runs, put_run, key_bytes, sbgp_bytes}
-use Rattle.mp4_plan.specs.PlannerLaws.{indexes as indexes_of}
-use Rattle.mp4_plan.specs.SpellingLaws.{sample_keys}
-use Rattle.mp4_plan.specs.Sizes.{group_size, groups_size}
-use Rattle.mp4_plan.specs.Spelling.{box_front, group_row, group_rows}
-use Rattle.mp4_plan.specs.Taken.{AreTaken, IsNamed, row_seen}
-use Rattle.mp4_plan.specs.UsedKeys.{AreApart, IsKeyAt, place_at, used_from, key_front, group_front, group_bytes, groups_bytes}
+use Rattle.mp4_present.specs.format.Presentation.{IsGroup}
+use Rattle.mp4_plan.specs.format.Pieces.{TimedSample}
+use Rattle.mp4_plan.specs.format.Normal.{put_key, in_key_order, piece_keys, longest_runs, put_run, key_bytes, sbgp_bytes}
+use Rattle.mp4_plan.specs.words.PlannerLaws.{indexes as indexes_of}
+use Rattle.mp4_plan.specs.format.SpellingLaws.{sample_keys}
+use Rattle.mp4_plan.specs.words.Sizes.{group_size, groups_size}
+use Rattle.mp4_plan.specs.words.Spelling.{box_front, group_row, group_rows}
+use Rattle.mp4_plan.specs.words.Taken.{AreTaken, IsNamed, row_seen}
+use Rattle.mp4_plan.specs.words.UsedKeys.{AreApart, IsKeyAt, place_at, used_from, key_front, group_front, group_bytes, groups_bytes}
 use Rattle.mp4_plan.specs.declared.planner.Planned.{Planned}
 use Rattle.mp4_plan.specs.declared.rows.Row.{Row}
 use Rattle.mp4_plan.proofs.Filters.{flat_map_agree, all_append, all_weaker}
-use Rattle.mp4_plan.specs.TableLaws.{IsKey}
+use Rattle.mp4_plan.specs.format.TableLaws.{IsKey}
 use Rattle.mp4_plan.proofs.KeyOrder.{key_of_group, order_each}
 use Rattle.mp4_plan.proofs.NextKeys.{one_of, each_other, used_apart, place_is, key_behind, has_at}
 use Rattle.mp4_plan.proofs.UsedLists.{same_order, at_within, next_from, used_each, indexes_are, are_none, some_named, named_index}

@@ -1,10 +1,10 @@
 -- The steps that walks over all tracks took so far, and those that they may still take.
 use Rattle.std.proofs.Common.{◌≡◌, ℕ, ◌+◌, ◌≤◌, List, sym, subst, arith}
-use Rattle.mp4_head.specs.Tree.{TrackTree}
-use Rattle.mp4_present.specs.Denotes.{FileTree}
-use Rattle.mp4_present.specs.Work.{MayTake, TakesOn}
+use Rattle.mp4_head.specs.format.Tree.{TrackTree}
+use Rattle.mp4_present.specs.format.Denotes.{FileTree}
+use Rattle.mp4_present.specs.words.WalkSteps.{MayTake, TakesOn}
 use Rattle.mp4_present.specs.declared.walks.Walk.{Walk}
-use Rattle.mp4_plan.specs.Work.{MayAllTake, AllTakeOn}
+use Rattle.mp4_plan.specs.words.WriterSteps.{MayAllTake, AllTakeOn}
 use Rattle.mp4_plan.specs.declared.writer.Writer.{Writer}
 
 -- ---- one walk, call after call

@@ -5,14 +5,14 @@ use Rattle.std.specs.List.{AllByRecursion}
 use Rattle.std.proofs.lemmas.Grind.{flat_map-append}
 use Rattle.std.proofs.lemmas.List.{append-nil, drop_more, drop_all}
 use Rattle.mp4_boxes.proofs.Joined.{all_first, all_last}
-use Rattle.mp4_store.specs.Device.{range, AppendsPrefix}
+use Rattle.mp4_store.specs.words.Device.{range, AppendsPrefix}
 use Rattle.mp4_store.proofs.Known.{range-add, AppendsPrefix-longer}
 use Rattle.mp4_tables.specs.declared.sample.SampleAt.{SampleAt}
-use Rattle.mp4_present.specs.Carried.{BytesGoOn}
-use Rattle.mp4_present.specs.Joined.{IsBelow}
+use Rattle.mp4_present.specs.words.Carried.{BytesGoOn}
+use Rattle.mp4_present.specs.words.Joined.{IsBelow}
 use Rattle.mp4_present.proofs.Carrying.{BytesGoOn-nothing, BytesGoOn-then, BytesGoOn-fails, BytesGoOn-front}
 use Rattle.mp4_present.proofs.Counts.{sum-append}
-use Rattle.mp4_plan.specs.Stretches.{span_len, span_bytes, EndsBelow, spans_len, spans_bytes, AreBytesOf, Tells, JoinsOn}
+use Rattle.mp4_plan.specs.words.Stretches.{span_len, span_bytes, EndsBelow, spans_len, spans_bytes, AreBytesOf, Tells, JoinsOn}
 use Rattle.mp4_plan.specs.declared.joined.Span.{Span}
 use Rattle.mp4_plan.specs.declared.joined.Stretches.{Stretches}
 use Rattle.mp4_plan.proofs.EachAt.{holds_push}

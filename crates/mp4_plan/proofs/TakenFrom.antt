@@ -5,33 +5,33 @@ use Rattle.std.specs.List.{AllByRecursion, AllZip, list_any, slice_get, sum_by}
 use Rattle.std.proofs.lemmas.Bool.{or_from}
 use Rattle.std.proofs.lemmas.List.{length-map}
 use Rattle.std.proofs.lemmas.List.Sums.{sum_by-cons}
-use Rattle.mp4_boxes.specs.Bytes.{sum_of}
+use Rattle.mp4_boxes.specs.format.Bytes.{sum_of}
 use Rattle.mp4_boxes.proofs.Each.{each_weaker, each_member}
-use Rattle.mp4_store.specs.Device.{range}
-use Rattle.mp4_tables.specs.Accepted.{AreDistinct}
-use Rattle.mp4_tables.specs.Groups.{GroupKey, same_key}
-use Rattle.mp4_tables.specs.Keys.{keys_seen}
-use Rattle.mp4_tables.specs.PlainSamples.{PlacedSample}
-use Rattle.mp4_tables.specs.TableRules.{lies_within}
-use Rattle.mp4_tables.specs.Timed.{timed, sample_at, place_of}
+use Rattle.mp4_store.specs.words.Device.{range}
+use Rattle.mp4_tables.specs.words.Accepted.{AreDistinct}
+use Rattle.mp4_tables.specs.format.Groups.{GroupKey, same_key}
+use Rattle.mp4_tables.specs.words.Keys.{keys_seen}
+use Rattle.mp4_tables.specs.format.PlainSamples.{PlacedSample}
+use Rattle.mp4_tables.specs.format.TableRules.{lies_within}
+use Rattle.mp4_tables.specs.words.Timed.{timed, sample_at, place_of}
 use Rattle.mp4_tables.specs.declared.sample.SampleAt.{SampleAt}
 use Rattle.mp4_tables.proofs.Placed.{IsKey, IsIndex}
-use Rattle.mp4_head.specs.Tree.{TrackTree}
-use Rattle.mp4_present.specs.Coming.{track_keys, track_samples}
-use Rattle.mp4_present.specs.Denotes.{FileTree, file_parts, placed_of, bytes_at, sample_of, track_of}
-use Rattle.mp4_present.specs.Joined.{IsBelow}
-use Rattle.mp4_present.specs.Movies.{MovieSeen}
-use Rattle.mp4_present.specs.OpenedMovie.{IsInfoOf, IsOpenedAs}
-use Rattle.mp4_present.specs.Presentation.{Track, IsGroup}
+use Rattle.mp4_head.specs.format.Tree.{TrackTree}
+use Rattle.mp4_present.specs.words.SamplesComing.{track_keys, track_samples}
+use Rattle.mp4_present.specs.format.Denotes.{FileTree, file_parts, placed_of, bytes_at, sample_of, track_of}
+use Rattle.mp4_present.specs.words.Joined.{IsBelow}
+use Rattle.mp4_present.specs.words.Movies.{MovieSeen}
+use Rattle.mp4_present.specs.words.OpenedMovie.{IsInfoOf, IsOpenedAs}
+use Rattle.mp4_present.specs.format.Presentation.{Track, IsGroup}
 use Rattle.mp4_present.specs.declared.track_info.TrackInfo.{TrackInfo}
 use Rattle.mp4_present.proofs.MoofTaken.{zipped_at}
 use Rattle.mp4_present.proofs.PlacedTracks.{IsTrackPlaced, track_placed}
 use Rattle.mp4_present.proofs.SamplesLie.{IsInFile, placed_lie, bytes_whole, timed_lie, timed_length}
 use Rattle.mp4_present.proofs.ValidSamples.{IsOfTrack, is_parameter, is_group}
-use Rattle.mp4_plan.specs.Coming.{coming_of}
-use Rattle.mp4_plan.specs.Pieces.{timed_from}
-use Rattle.mp4_plan.specs.Taken.{IsTaken, AreTaken, IsNamed}
-use Rattle.mp4_plan.specs.UsedKeys.{AreApart}
+use Rattle.mp4_plan.specs.words.PiecesComing.{coming_of}
+use Rattle.mp4_plan.specs.format.Pieces.{timed_from}
+use Rattle.mp4_plan.specs.words.Taken.{IsTaken, AreTaken, IsNamed}
+use Rattle.mp4_plan.specs.words.UsedKeys.{AreApart}
 use Rattle.mp4_plan.proofs.Lefts.{IsLeft, left_count}
 
 -- ---- samples

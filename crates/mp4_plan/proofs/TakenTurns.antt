@@ -1,15 +1,15 @@
 -- Samples of a file go into a piece exactly where those of the presentation do that they are.
 use Rattle.std.proofs.Common.{◌≡◌, ℕ, zero, suc, ◌+◌, ◌*◌, ◌^◌, ◌/◌, ◌%◌, nat_le, ◌==◌, ◌&&◌, not, cond, List, [], ◌∷◌, take, drop, Some, None, refl, ap, ◌∙◌}
 use Rattle.std.specs.List.{prefix_len}
-use Rattle.mp4_tables.specs.Groups.{GroupKey}
+use Rattle.mp4_tables.specs.format.Groups.{GroupKey}
 use Rattle.mp4_tables.specs.declared.sample.SampleAt.{SampleAt}
-use Rattle.mp4_plan.specs.Pieces.{TimedSample}
-use Rattle.mp4_plan.specs.Normal.{first_description}
-use Rattle.mp4_plan.specs.Ends.{has_ended, goes_in}
-use Rattle.mp4_plan.specs.Gathering.{description_in, more_of}
-use Rattle.mp4_plan.specs.Coming.{stops}
-use Rattle.mp4_plan.specs.Taken.{IsTaken, AreTaken, PiecesTakeAlike}
-use Rattle.mp4_plan.specs.TurnLaws.{goes, turn_count}
+use Rattle.mp4_plan.specs.format.Pieces.{TimedSample}
+use Rattle.mp4_plan.specs.format.Normal.{first_description}
+use Rattle.mp4_plan.specs.words.Ends.{has_ended, goes_in}
+use Rattle.mp4_plan.specs.words.Gathering.{description_in, more_of}
+use Rattle.mp4_plan.specs.words.PiecesComing.{stops}
+use Rattle.mp4_plan.specs.words.Taken.{IsTaken, AreTaken, PiecesTakeAlike}
+use Rattle.mp4_plan.specs.words.TurnLaws.{goes, turn_count}
 use Rattle.mp4_plan.specs.declared.ends.End.{End}
 use Rattle.mp4_plan.specs.declared.ends.End.TheVariants.{Sync, Before}
 

@@ -3,7 +3,7 @@ use Rattle.std.proofs.Common.{◌≡◌, ℕ, ◌+◌, ◌-◌, ◌*◌, ◌<◌
 use Rattle.std.specs.Prelude.{Option, option_map, if◌then◌else◌}
 use Rattle.std.proofs.lemmas.Bool.{eq-eqb}
 use Rattle.mp4_tables.specs.declared.sample.SampleAt.{SampleAt}
-use Rattle.mp4_plan.specs.Turns.{to_come, track_passed, wrapped, follows_one}
+use Rattle.mp4_plan.specs.words.Turns.{to_come, track_passed, wrapped, follows_one}
 use Rattle.mp4_plan.specs.declared.schedule.Schedule.{Schedule}
 
 -- so many samples less

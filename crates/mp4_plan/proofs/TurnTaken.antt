@@ -5,17 +5,17 @@ use Rattle.std.specs.List.{AllByRecursion, prefix_len}
 use Rattle.std.proofs.lemmas.Bool.{eq-eqb, ne_eqb, eqb-true}
 use Rattle.std.proofs.lemmas.List.{length-drop, length-take-le}
 use Rattle.std.proofs.lemmas.List.Sums.{sum_by-cons}
-use Rattle.mp4_tables.specs.Groups.{GroupKey}
-use Rattle.mp4_tables.specs.Keys.{keys_seen}
+use Rattle.mp4_tables.specs.format.Groups.{GroupKey}
+use Rattle.mp4_tables.specs.words.Keys.{keys_seen}
 use Rattle.mp4_tables.specs.declared.sample.SampleAt.{SampleAt}
 use Rattle.mp4_present.specs.declared.track_info.TrackInfo.{TrackInfo}
-use Rattle.mp4_plan.specs.Pieces.{TimedSample, is_sync, Piece}
-use Rattle.mp4_plan.specs.Ends.{has_ended, goes_in}
-use Rattle.mp4_plan.specs.Gathering.{Planning, piece_from, more_of, samples_after}
-use Rattle.mp4_plan.specs.Coming.{Coming, end_of_first, end_of_other, pieces_left}
-use Rattle.mp4_plan.specs.Taken.{AreTaken}
-use Rattle.mp4_plan.specs.Turns.{turn_end, turned, track_passed, wrapped, is_over, MayPass, Sticks, to_come}
-use Rattle.mp4_plan.specs.TurnLaws.{IsAmong, IsOver, next_time, piece_if, turn_count, after_turn}
+use Rattle.mp4_plan.specs.format.Pieces.{TimedSample, is_sync, Piece}
+use Rattle.mp4_plan.specs.words.Ends.{has_ended, goes_in}
+use Rattle.mp4_plan.specs.words.Gathering.{Planning, piece_from, more_of, samples_after}
+use Rattle.mp4_plan.specs.words.PiecesComing.{Coming, end_of_first, end_of_other, pieces_left}
+use Rattle.mp4_plan.specs.words.Taken.{AreTaken}
+use Rattle.mp4_plan.specs.words.Turns.{turn_end, turned, track_passed, wrapped, is_over, MayPass, Sticks, to_come}
+use Rattle.mp4_plan.specs.words.TurnLaws.{IsAmong, IsOver, next_time, piece_if, turn_count, after_turn}
 use Rattle.mp4_plan.specs.declared.ends.End.{End}
 use Rattle.mp4_plan.specs.declared.ends.End.TheVariants.{Sync, Before}
 use Rattle.mp4_plan.specs.declared.schedule.Schedule.{Schedule}

@@ -4,20 +4,20 @@ use Rattle.std.specs.Prelude.{map, slice_index, nat_lt, ◌==◌}
 use Rattle.std.specs.List.{AllByRecursion, list_any, list_all}
 use Rattle.std.proofs.lemmas.Bool.{ltb-true, eqb-true, ne_eqb, or_cases, or_left, or_right, and_cases}
 use Rattle.mp4_boxes.proofs.Among.{true_false}
-use Rattle.mp4_tables.specs.Groups.{GroupKey, Groups, key_rank, same_key, index_at}
-use Rattle.mp4_tables.specs.Timed.{padded}
+use Rattle.mp4_tables.specs.format.Groups.{GroupKey, Groups, key_rank, same_key, index_at}
+use Rattle.mp4_tables.specs.words.Timed.{padded}
 use Rattle.mp4_tables.specs.declared.sample.SampleAt.{SampleAt}
 use Rattle.mp4_tables.proofs.NamedKeys.{IsAmong, among_through}
-use Rattle.mp4_present.specs.Presentation.{IsGroup}
-use Rattle.mp4_plan.specs.Pieces.{TimedSample}
-use Rattle.mp4_plan.specs.Normal.{in_key_order}
-use Rattle.mp4_plan.specs.SpellingLaws.{sample_keys}
-use Rattle.mp4_plan.specs.Gathering.{index_of}
-use Rattle.mp4_plan.specs.PlannerLaws.{indexes as indexes_of}
-use Rattle.mp4_plan.specs.Taken.{AreTaken}
-use Rattle.mp4_plan.specs.UsedKeys.{IsKeyAt, used_from}
+use Rattle.mp4_present.specs.format.Presentation.{IsGroup}
+use Rattle.mp4_plan.specs.format.Pieces.{TimedSample}
+use Rattle.mp4_plan.specs.format.Normal.{in_key_order}
+use Rattle.mp4_plan.specs.format.SpellingLaws.{sample_keys}
+use Rattle.mp4_plan.specs.words.Gathering.{index_of}
+use Rattle.mp4_plan.specs.words.PlannerLaws.{indexes as indexes_of}
+use Rattle.mp4_plan.specs.words.Taken.{AreTaken}
+use Rattle.mp4_plan.specs.words.UsedKeys.{IsKeyAt, used_from}
 use Rattle.mp4_plan.proofs.Maps.{KeysAbove}
-use Rattle.mp4_plan.specs.TableLaws.{IsKey}
+use Rattle.mp4_plan.specs.format.TableLaws.{IsKey}
 use Rattle.mp4_plan.proofs.KeyOrder.{key_same, AreRising, order_rises, order_has, order_each, among_above, among_rest}
 use Rattle.mp4_plan.proofs.NextKeys.{has_at, key_behind}
 

@@ -1,10 +1,10 @@
 use Rattle.std.specs.Prelude.{◌≡◌, ℕ, pos, negsuc, List, [], ◌∷◌, ◌++◌, take, codes, map, refl, length, replicate}
 use Rattle.mp4_boxes.proofs.Vectors.{v1n, p_normal, grouped_normal, hex}
 use Rattle.mp4_head.proofs.Vectors.{v1_head, p_track, p_media}
-use Rattle.mp4_present.specs.Presentation.{Sample, Presentation}
+use Rattle.mp4_present.specs.format.Presentation.{Sample, Presentation}
 use Rattle.mp4_present.proofs.Vectors.{p_presentation, p_samples, grouped_presentation, keyed_presentation, two_grouped_presentation, roll_description}
-use Rattle.mp4_plan.specs.Pieces.{TimedSample, Piece, cuts, pieces}
-use Rattle.mp4_plan.specs.Normal.{normal}
+use Rattle.mp4_plan.specs.format.Pieces.{TimedSample, Piece, cuts, pieces}
+use Rattle.mp4_plan.specs.format.Normal.{normal}
 
 v1-normal : normal (record { movie = v1_head; tracks = [] }) ≡ v1n
 v1-normal = refl

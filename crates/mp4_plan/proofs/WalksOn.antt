@@ -3,15 +3,15 @@ use Rattle.std.proofs.Common.{◌≡◌, ℕ, Bool, true, false, List, [], ◌�
 use Rattle.std.specs.Prelude.{slice_get, not}
 use Rattle.std.specs.Option.{is_some}
 use Rattle.mp4_tables.specs.declared.sample.SampleAt.{SampleAt}
-use Rattle.mp4_frag.specs.Fragments.{FragmentTree}
-use Rattle.mp4_head.specs.Tree.{TrackTree}
-use Rattle.mp4_present.specs.Denotes.{FileTree}
+use Rattle.mp4_frag.specs.format.Fragments.{FragmentTree}
+use Rattle.mp4_head.specs.format.Tree.{TrackTree}
+use Rattle.mp4_present.specs.format.Denotes.{FileTree}
 use Rattle.mp4_present.proofs.WalkCopied.{kept_before}
-use Rattle.mp4_present.specs.Coming.{Comes, Loads, StandsBefore, samples_behind}
-use Rattle.mp4_present.specs.InHand.{Follows, IsPlaceOf, left_in_hand}
-use Rattle.mp4_present.specs.Movies.{MovieSeen, HandAt, InHandOf, tables_seen}
-use Rattle.mp4_tables.specs.Views.{CursorSeen as TableView}
-use Rattle.mp4_present.specs.OpenedMovie.{IsOpenedAs}
+use Rattle.mp4_present.specs.words.SamplesComing.{Comes, Loads, StandsBefore, samples_behind}
+use Rattle.mp4_present.specs.words.InHand.{Follows, IsPlaceOf, left_in_hand}
+use Rattle.mp4_present.specs.words.Movies.{MovieSeen, HandAt, InHandOf, tables_seen}
+use Rattle.mp4_tables.specs.words.TablesSeen.{CursorSeen as TableView}
+use Rattle.mp4_present.specs.words.OpenedMovie.{IsOpenedAs}
 use Rattle.mp4_present.specs.declared.in_hand.InHand.{InHand}
 use Rattle.mp4_present.specs.declared.in_hand.InHand.TheVariants as hands
 use Rattle.mp4_present.specs.declared.in_hand.Place.{Place}

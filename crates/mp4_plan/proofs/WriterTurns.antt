@@ -2,25 +2,25 @@
 use Rattle.std.proofs.Common.{◌≡◌, ℕ, ◌<◌, ◌≤◌, List, ◌++◌, length, take, drop, Some, None, sym, ap, subst, ◌∙◌, slice_set}
 use Rattle.std.specs.Prelude.{Option, slice_get}
 use Rattle.std.specs.List.{AllByRecursion}
-use Rattle.mp4_boxes.specs.Bytes.{sum_of}
-use Rattle.mp4_head.specs.Tree.{TrackTree}
-use Rattle.mp4_store.specs.Device.{AppendsPrefix}
-use Rattle.mp4_tables.specs.Keys.{keys_seen}
+use Rattle.mp4_boxes.specs.format.Bytes.{sum_of}
+use Rattle.mp4_head.specs.format.Tree.{TrackTree}
+use Rattle.mp4_store.specs.words.Device.{AppendsPrefix}
+use Rattle.mp4_tables.specs.words.Keys.{keys_seen}
 use Rattle.mp4_tables.specs.declared.sample.SampleAt.{SampleAt}
-use Rattle.mp4_present.specs.Carried.{BytesGoOn, waiting}
-use Rattle.mp4_present.specs.Coming.{Comes}
-use Rattle.mp4_present.specs.Denotes.{FileTree, presentation_of}
-use Rattle.mp4_present.specs.Joined.{IsBelow}
-use Rattle.mp4_present.specs.Movies.{MovieSeen}
-use Rattle.mp4_present.specs.OpenedMovie.{IsOpenedAs}
+use Rattle.mp4_present.specs.words.Carried.{BytesGoOn, waiting}
+use Rattle.mp4_present.specs.words.SamplesComing.{Comes}
+use Rattle.mp4_present.specs.format.Denotes.{FileTree, presentation_of}
+use Rattle.mp4_present.specs.words.Joined.{IsBelow}
+use Rattle.mp4_present.specs.words.Movies.{MovieSeen}
+use Rattle.mp4_present.specs.words.OpenedMovie.{IsOpenedAs}
 use Rattle.mp4_present.specs.declared.carrier.Carrier.{Carrier}
 use Rattle.mp4_present.specs.declared.track_info.TrackInfo.{TrackInfo}
 use Rattle.mp4_present.specs.declared.walks.Walk.{Walk}
-use Rattle.mp4_plan.specs.Gathering.{piece_from, piece_fed, samples_after, more_of, planned_of}
-use Rattle.mp4_plan.specs.Normal.{normal}
-use Rattle.mp4_plan.specs.Turns.{turn_end, turned, Sticks}
-use Rattle.mp4_plan.specs.UsedKeys.{AreApart}
-use Rattle.mp4_plan.specs.Writers.{IsWriterOf, HasNoted, IsNoted, HaveCopied, turn_head, sequence_behind, turn_bytes}
+use Rattle.mp4_plan.specs.words.Gathering.{piece_from, piece_fed, samples_after, more_of, planned_of}
+use Rattle.mp4_plan.specs.format.Normal.{normal}
+use Rattle.mp4_plan.specs.words.Turns.{turn_end, turned, Sticks}
+use Rattle.mp4_plan.specs.words.UsedKeys.{AreApart}
+use Rattle.mp4_plan.specs.words.Writers.{IsWriterOf, HasNoted, IsNoted, HaveCopied, turn_head, sequence_behind, turn_bytes}
 use Rattle.mp4_plan.specs.declared.ends.End.{End}
 use Rattle.mp4_plan.specs.declared.moof_front.PieceHead.{PieceHead}
 use Rattle.mp4_plan.specs.declared.planner.Planned.{Planned}

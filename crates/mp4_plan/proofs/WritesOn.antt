@@ -4,29 +4,29 @@ use Rattle.std.specs.Prelude.{Option, option_map, if◌then◌else◌, map, slic
 use Rattle.std.specs.Io.KnownBytes.{Appends}
 use Rattle.std.specs.List.{AllByRecursion, AllZip, sum_by}
 use Rattle.mp4_boxes.proofs.Each.{each_dropped}
-use Rattle.mp4_head.specs.Tree.{TrackTree}
-use Rattle.mp4_store.specs.Device.{AppendsPrefix}
-use Rattle.mp4_tables.specs.Groups.{GroupKey}
-use Rattle.mp4_tables.specs.Keys.{keys_seen}
+use Rattle.mp4_head.specs.format.Tree.{TrackTree}
+use Rattle.mp4_store.specs.words.Device.{AppendsPrefix}
+use Rattle.mp4_tables.specs.format.Groups.{GroupKey}
+use Rattle.mp4_tables.specs.words.Keys.{keys_seen}
 use Rattle.mp4_tables.specs.declared.sample.SampleAt.{SampleAt}
-use Rattle.mp4_present.specs.Carried.{BytesGoOn, waiting}
-use Rattle.mp4_present.specs.Coming.{Comes, track_samples}
-use Rattle.mp4_present.specs.Denotes.{FileTree, presentation_of}
-use Rattle.mp4_present.specs.Joined.{IsBelow}
-use Rattle.mp4_present.specs.Movies.{MovieSeen}
-use Rattle.mp4_present.specs.OpenedMovie.{IsOpenedAs}
+use Rattle.mp4_present.specs.words.Carried.{BytesGoOn, waiting}
+use Rattle.mp4_present.specs.words.SamplesComing.{Comes, track_samples}
+use Rattle.mp4_present.specs.format.Denotes.{FileTree, presentation_of}
+use Rattle.mp4_present.specs.words.Joined.{IsBelow}
+use Rattle.mp4_present.specs.words.Movies.{MovieSeen}
+use Rattle.mp4_present.specs.words.OpenedMovie.{IsOpenedAs}
 use Rattle.mp4_present.specs.declared.track_info.TrackInfo.{TrackInfo}
 use Rattle.mp4_present.specs.declared.walks.Walk.{Walk}
 use Rattle.mp4_present.proofs.Carrying.{BytesGoOn-then, BytesGoOn-all, BytesGoOn-fails}
 use Rattle.mp4_store.proofs.Known.{AppendsPrefix-longer}
-use Rattle.mp4_plan.specs.Coming.{Coming, coming_of}
-use Rattle.mp4_plan.specs.Gathering.{piece_from, piece_fed, samples_after, more_of, planned_of}
-use Rattle.mp4_plan.specs.Normal.{normal, pieces_bytes}
-use Rattle.mp4_plan.specs.Pieces.{TimedSample, Piece, pieces}
-use Rattle.mp4_plan.specs.Taken.{AreTaken}
-use Rattle.mp4_plan.specs.TurnLaws.{piece_if}
-use Rattle.mp4_plan.specs.Turns.{first_scale, turn_end, turned, track_passed, wrapped, is_over}
-use Rattle.mp4_plan.specs.Writers.{AllCome, AllBegin, ComesBehind, IsReady, firsts, first_dts, longest_piece, head_of_normal, turn_head, sequence_behind, turn_bytes}
+use Rattle.mp4_plan.specs.words.PiecesComing.{Coming, coming_of}
+use Rattle.mp4_plan.specs.words.Gathering.{piece_from, piece_fed, samples_after, more_of, planned_of}
+use Rattle.mp4_plan.specs.format.Normal.{normal, pieces_bytes}
+use Rattle.mp4_plan.specs.format.Pieces.{TimedSample, Piece, pieces}
+use Rattle.mp4_plan.specs.words.Taken.{AreTaken}
+use Rattle.mp4_plan.specs.words.TurnLaws.{piece_if}
+use Rattle.mp4_plan.specs.words.Turns.{first_scale, turn_end, turned, track_passed, wrapped, is_over}
+use Rattle.mp4_plan.specs.words.Writers.{AllCome, AllBegin, ComesBehind, IsReady, firsts, first_dts, longest_piece, head_of_normal, turn_head, sequence_behind, turn_bytes}
 use Rattle.mp4_plan.specs.declared.ends.End.{End}
 use Rattle.mp4_plan.specs.declared.moof_front.PieceHead.{PieceHead}
 use Rattle.mp4_plan.specs.declared.planner.Planned.{Planned}

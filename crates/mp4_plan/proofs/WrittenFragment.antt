@@ -3,20 +3,20 @@ use Rattle.std.proofs.Common.{◌≡◌, ℕ, ◌+◌, ◌*◌, ◌^◌, ◌<◌
 use Rattle.std.specs.Prelude.{codes, map, flat_map}
 use Rattle.std.specs.List.{AllByRecursion}
 use Rattle.std.proofs.lemmas.List.{append-nil, length-map}
-use Rattle.mp4_boxes.specs.Bytes.{spelled}
-use Rattle.mp4_boxes.specs.Written.{box_bytes}
-use Rattle.mp4_boxes.specs.Places.{ruled, leaf_of, IsSoundAs}
+use Rattle.mp4_boxes.specs.format.Bytes.{spelled}
+use Rattle.mp4_boxes.specs.format.Written.{box_bytes}
+use Rattle.mp4_boxes.specs.format.Places.{ruled, leaf_of, IsSoundAs}
 use Rattle.mp4_boxes.specs.declared.rule.Rule.TheVariants as rules
 use Rattle.mp4_boxes.proofs.Among.{all_append}
 use Rattle.mp4_boxes.proofs.Joined.{all_first, all_last}
 use Rattle.mp4_boxes.proofs.WrittenBoxes.{Content, written, placed, typed, length-box_bytes}
-use Rattle.mp4_tables.specs.Groups.{GroupKey, Groups, groupings_of, index_at, key_rank, is_in_order, max_index}
+use Rattle.mp4_tables.specs.format.Groups.{GroupKey, Groups, groupings_of, index_at, key_rank, is_in_order, max_index}
 use Rattle.mp4_tables.proofs.NamedKeys.{IsAmong}
-use Rattle.mp4_present.specs.Presentation.{IsGroup}
-use Rattle.mp4_plan.specs.Pieces.{TimedSample, Piece}
-use Rattle.mp4_plan.specs.Normal.{shared_by, first_time, first_description, piece_keys, longest_runs, tfhd_bytes, trun_bytes, sbgp_bytes, traf_bytes, moof_bytes, moof_length}
+use Rattle.mp4_present.specs.format.Presentation.{IsGroup}
+use Rattle.mp4_plan.specs.format.Pieces.{TimedSample, Piece}
+use Rattle.mp4_plan.specs.format.Normal.{shared_by, first_time, first_description, piece_keys, longest_runs, tfhd_bytes, trun_bytes, sbgp_bytes, traf_bytes, moof_bytes, moof_length}
 use Rattle.mp4_plan.proofs.Maps.{Covers}
-use Rattle.mp4_plan.specs.TableLaws.{IsKey}
+use Rattle.mp4_plan.specs.format.TableLaws.{IsKey}
 use Rattle.mp4_plan.proofs.KeyOrder.{key_of_group, order_rises, order_each, order_has, covers, AreRising}
 use Rattle.mp4_plan.proofs.RunRows.{FitsRow}
 use Rattle.mp4_plan.proofs.WrittenGroups.{group_payload, ReadsGroup, group_again, few_runs, runs_within, indexes_at, grouped_by}

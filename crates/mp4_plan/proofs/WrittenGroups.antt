@@ -3,19 +3,19 @@ use Rattle.std.proofs.Common.{◌≡◌, ℕ, suc, ◌+◌, ◌*◌, ◌^◌, �
 use Rattle.std.specs.Prelude.{map, flat_map, slice_index}
 use Rattle.std.specs.List.{AllByRecursion, AllZip}
 use Rattle.std.proofs.lemmas.List.{append-nil, length-map}
-use Rattle.mp4_boxes.specs.Bytes.{spelled, field, rows}
-use Rattle.mp4_boxes.specs.Layout.{sbgp, row, IsSound}
+use Rattle.mp4_boxes.specs.format.Bytes.{spelled, field, rows}
+use Rattle.mp4_boxes.specs.format.Layout.{sbgp, row, IsSound}
 use Rattle.mp4_boxes.proofs.Fields.{AllFit, none, more, rows_again, field_again}
 use Rattle.mp4_boxes.proofs.WrittenBoxes.{placed}
-use Rattle.mp4_tables.specs.Repeated.{total}
-use Rattle.mp4_tables.specs.Groups.{GroupKey, Grouping, Groups, grouping_of, index_at, put_indexes, maps_of, max_index}
-use Rattle.mp4_tables.specs.PlainSamples.{PlacedSample, with_groups}
-use Rattle.mp4_present.specs.Presentation.{Sample, IsParameter}
-use Rattle.mp4_present.specs.Denotes.{sample_of}
-use Rattle.mp4_plan.specs.Pieces.{TimedSample}
-use Rattle.mp4_plan.specs.Normal.{key_bytes, put_run, longest_runs}
+use Rattle.mp4_tables.specs.format.Repeated.{total}
+use Rattle.mp4_tables.specs.format.Groups.{GroupKey, Grouping, Groups, grouping_of, index_at, put_indexes, maps_of, max_index}
+use Rattle.mp4_tables.specs.format.PlainSamples.{PlacedSample, with_groups}
+use Rattle.mp4_present.specs.format.Presentation.{Sample, IsParameter}
+use Rattle.mp4_present.specs.format.Denotes.{sample_of}
+use Rattle.mp4_plan.specs.format.Pieces.{TimedSample}
+use Rattle.mp4_plan.specs.format.Normal.{key_bytes, put_run, longest_runs}
 use Rattle.mp4_plan.proofs.Maps.{made, made_again, Covers}
-use Rattle.mp4_plan.specs.TableLaws.{IsKey}
+use Rattle.mp4_plan.specs.format.TableLaws.{IsKey}
 use Rattle.mp4_plan.proofs.KeyOrder.{four_bytes}
 use Rattle.mp4_plan.proofs.RunLists.{IsFoundAs}
 use Rattle.mp4_plan.proofs.Shared.{longest_runs_again}

@@ -4,16 +4,16 @@ use Rattle.std.specs.Prelude.{map, flat_map, slice_index, option_map, IsTrue, no
 use Rattle.std.specs.List.{AllByRecursion, list_all}
 use Rattle.std.proofs.lemmas.List.{append-nil}
 use Rattle.byteorder.specs.Endian.{twos_complement}
-use Rattle.mp4_boxes.specs.Bytes.{spelled, width_of}
-use Rattle.mp4_boxes.specs.Layout.{tfhd, tfdt, trun, fields, flags, has, present, column_values, tfhd_columns, trun_columns, sample_columns, known_flags, only_among, default_base_is_moof, first_sample_flags_present, sample_flags_present, IsSound, leaf_fields, version, row_count}
-use Rattle.mp4_boxes.specs.Written.{column_flags, column_bytes}
+use Rattle.mp4_boxes.specs.format.Bytes.{spelled, width_of}
+use Rattle.mp4_boxes.specs.format.Layout.{tfhd, tfdt, trun, fields, flags, has, present, column_values, tfhd_columns, trun_columns, sample_columns, known_flags, only_among, default_base_is_moof, first_sample_flags_present, sample_flags_present, IsSound, leaf_fields, version, row_count}
+use Rattle.mp4_boxes.specs.format.Written.{column_flags, column_bytes}
 use Rattle.mp4_boxes.proofs.Fields.{field_again}
 use Rattle.mp4_boxes.proofs.Columns.{FitColumns, columns_again, length-column_bytes}
-use Rattle.mp4_frag.specs.Fragments.{Run, run_rows, run_of, column, decode_time_of}
+use Rattle.mp4_frag.specs.format.Fragments.{Run, run_rows, run_of, column, decode_time_of}
 use Rattle.mp4_head.proofs.Again.{signed_again}
 use Rattle.mp4_head.proofs.WrittenLeaves.{alone_again}
-use Rattle.mp4_plan.specs.Pieces.{TimedSample}
-use Rattle.mp4_plan.specs.Normal.{Shared, common, row_flags, row_values, trun_row}
+use Rattle.mp4_plan.specs.format.Pieces.{TimedSample}
+use Rattle.mp4_plan.specs.format.Normal.{Shared, common, row_flags, row_values, trun_row}
 use Rattle.mp4_plan.proofs.RunRows.{FitsRow, run_flags, row_read, row_fits, run_rows_again}
 
 -- ---- `trun`

@@ -1,17 +1,17 @@
 //! Samples of a track, taken piece by piece.
 ghost use Rattle.std.specs.Prelude.{◌≡◌, ℕ, ◌+◌, ◌-◌, ◌*◌, ◌^◌, ◌<◌, ◌≤◌, List, length, map, take, slice_get, slice_index, IsTrue, IfOk, IfErr, OnOk, OnErr};
 ghost use Rattle.mp4_boxes.specs.declared.refusal.Refusal.TheVariants as refusals;
-ghost use Rattle.mp4_head.specs.Tree.{TrackTree};
-ghost use Rattle.mp4_present.specs.Denotes.{FileTree};
-ghost use Rattle.mp4_present.specs.OpenedMovie.{IsOpenedAs};
-ghost use Rattle.mp4_present.specs.Coming.{Comes};
+ghost use Rattle.mp4_head.specs.format.Tree.{TrackTree};
+ghost use Rattle.mp4_present.specs.format.Denotes.{FileTree};
+ghost use Rattle.mp4_present.specs.words.OpenedMovie.{IsOpenedAs};
+ghost use Rattle.mp4_present.specs.words.SamplesComing.{Comes};
 ghost use Rattle.mp4_tables.specs.declared.sample.SampleAt.{SampleAt};
-ghost use Rattle.mp4_present.specs.Movies.{IsWalkOf, RefusesLoad};
-ghost use Rattle.mp4_plan.specs.Gathering.{count_of, more_of, planned_of, piece_from, piece_fed, samples_after};
-ghost use Rattle.mp4_present.specs.Work.{MayTake, TakesOn};
-ghost use Rattle.mp4_plan.specs.HandsFed.{stop_of, HandFed, HandNoted, KeepsOn};
-ghost use Rattle.mp4_plan.specs.Stretches.{JoinsOn};
-ghost use Rattle.mp4_plan.specs.Taken.{row_seen};
+ghost use Rattle.mp4_present.specs.words.Movies.{IsWalkOf, RefusesLoad};
+ghost use Rattle.mp4_plan.specs.words.Gathering.{count_of, more_of, planned_of, piece_from, piece_fed, samples_after};
+ghost use Rattle.mp4_present.specs.words.WalkSteps.{MayTake, TakesOn};
+ghost use Rattle.mp4_plan.specs.words.HandsFed.{stop_of, HandFed, HandNoted, KeepsOn};
+ghost use Rattle.mp4_plan.specs.words.Stretches.{JoinsOn};
+ghost use Rattle.mp4_plan.specs.words.Taken.{row_seen};
 
 use crate::ends::{End, first_goes};
 use crate::joined::Stretches;

@@ -1,6 +1,6 @@
 //! The ends of pieces.
 ghost use Rattle.std.specs.Prelude.{◌≡◌};
-ghost use Rattle.mp4_plan.specs.Ends.{first_goes, has_ended};
+ghost use Rattle.mp4_plan.specs.words.Ends.{first_goes, has_ended};
 
 use mp4_tables::SampleAt;
 

@@ -1,6 +1,6 @@
 //! What is known of the samples of a piece, gathered one sample at a time.
 ghost use Rattle.std.specs.Prelude.{◌≡◌, ◌+◌, ◌^◌, ◌<◌};
-ghost use Rattle.mp4_plan.specs.Gathering.{common_more, runs_first, runs_more, gathered_first, gathered_more, IsBounded};
+ghost use Rattle.mp4_plan.specs.words.Gathering.{common_more, runs_first, runs_more, gathered_first, gathered_more, IsBounded};
 
 use mp4_tables::SampleAt;
 
@@ -36,7 +36,7 @@ pub struct Gathered {
 }
 
 impl GroupRuns {
-    ghost use Rattle.mp4_plan.specs.Gathering.{used_rows};
+    ghost use Rattle.mp4_plan.specs.words.Gathering.{used_rows};
 
     /// The number of rows, 0 where all indexes are 0.
     pub(crate) fn used_rows(&self) -> u32

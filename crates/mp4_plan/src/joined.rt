@@ -31,9 +31,9 @@ pub(crate) struct Stretches {
 impl Span {
     ghost use Rattle.std.specs.Prelude.{◌≡◌, ◌+◌, ◌≤◌, ◌++◌, length, vec_len, IfOk, IfErr, OnOk, OnErr, IsTrue};
     ghost use Rattle.mp4_boxes.specs.declared.refusal.Refusal.TheVariants as refusals;
-    ghost use Rattle.mp4_store.specs.Device.{AppendsPrefix};
-    ghost use Rattle.mp4_present.specs.Carried.{BytesGoOn, RefusesCarry, waiting};
-    ghost use Rattle.mp4_plan.specs.Stretches.{span_len, span_bytes, EndsBelow};
+    ghost use Rattle.mp4_store.specs.words.Device.{AppendsPrefix};
+    ghost use Rattle.mp4_present.specs.words.Carried.{BytesGoOn, RefusesCarry, waiting};
+    ghost use Rattle.mp4_plan.specs.words.Stretches.{span_len, span_bytes, EndsBelow};
 
     // How many bytes these are.
     fn len(&self) -> u64
@@ -87,10 +87,10 @@ impl Stretches {
     ghost use Rattle.std.specs.Prelude.{◌≡◌, ◌+◌, ◌<◌, ◌≤◌, ◌++◌, ◌∷◌, [], List, take, length, true, vec_len, IfErr, OnOk, OnErr, IsTrue};
     ghost use Rattle.std.specs.List.{AllByRecursion};
     ghost use Rattle.mp4_boxes.specs.declared.refusal.Refusal.TheVariants as refusals;
-    ghost use Rattle.mp4_store.specs.Device.{AppendsPrefix};
+    ghost use Rattle.mp4_store.specs.words.Device.{AppendsPrefix};
     ghost use Rattle.mp4_tables.specs.declared.sample.SampleAt.{SampleAt};
-    ghost use Rattle.mp4_present.specs.Carried.{BytesGoOn, RefusesCarry, waiting};
-    ghost use Rattle.mp4_plan.specs.Stretches.{AreBytesOf, spans_of, spans_bytes, spans_len, EndsBelow, Tells, JoinsOn, IsRoomFor};
+    ghost use Rattle.mp4_present.specs.words.Carried.{BytesGoOn, RefusesCarry, waiting};
+    ghost use Rattle.mp4_plan.specs.words.Stretches.{AreBytesOf, spans_of, spans_bytes, spans_len, EndsBelow, Tells, JoinsOn, IsRoomFor};
 
     /// Those of no samples.
     pub(crate) fn new() -> Stretches

@@ -1,15 +1,15 @@
 //! Laws of the definitions.
 
-ghost use Rattle.mp4_plan.specs.Laws.{DenotedIsValid, DenotesOne, FaultRefuses, NormalDenotes, NormalIsExact, NormalIsFixed};
-ghost use Rattle.mp4_plan.specs.PieceLaws.{CutsAreLeast, FragmentsAreLast, PiecesAreDue, PiecesAreLongest, PiecesJoin};
-ghost use Rattle.mp4_plan.specs.PlannerLaws.{GatheringSumsUp};
-ghost use Rattle.mp4_plan.specs.Coming.{TurnsBeginWithAll};
-ghost use Rattle.mp4_plan.specs.Taken.{PieceIsSpelled, PiecesTakeAlike};
-ghost use Rattle.mp4_plan.specs.TurnLaws.{TurnsTakeAll};
-ghost use Rattle.mp4_plan.specs.HeadLaws.{MovieLengthIsLargest, NextTrackIdIsLeast};
-ghost use Rattle.mp4_plan.specs.SpellingLaws.{ColumnsAreSpelledOnce, GroupRowsAreLongest, PieceKeysAreThose};
-ghost use Rattle.mp4_plan.specs.TableLaws.{GroupsAreIndexes, KeysAreRanked, SamplesLieInChunks};
-ghost use Rattle.mp4_present.specs.Stands.{Reason, header, child, missing, leaf, tables, fragment, count, limit, order};
+ghost use Rattle.mp4_plan.specs.format.Laws.{DenotedIsValid, DenotesOne, FaultRefuses, NormalDenotes, NormalIsExact, NormalIsFixed};
+ghost use Rattle.mp4_plan.specs.format.PieceLaws.{CutsAreLeast, FragmentsAreLast, PiecesAreDue, PiecesAreLongest, PiecesJoin};
+ghost use Rattle.mp4_plan.specs.words.PlannerLaws.{GatheringSumsUp};
+ghost use Rattle.mp4_plan.specs.words.PiecesComing.{TurnsBeginWithAll};
+ghost use Rattle.mp4_plan.specs.words.Taken.{PieceIsSpelled, PiecesTakeAlike};
+ghost use Rattle.mp4_plan.specs.words.TurnLaws.{TurnsTakeAll};
+ghost use Rattle.mp4_plan.specs.format.HeadLaws.{MovieLengthIsLargest, NextTrackIdIsLeast};
+ghost use Rattle.mp4_plan.specs.format.SpellingLaws.{ColumnsAreSpelledOnce, GroupRowsAreLongest, PieceKeysAreThose};
+ghost use Rattle.mp4_plan.specs.format.TableLaws.{GroupsAreIndexes, KeysAreRanked, SamplesLieInChunks};
+ghost use Rattle.mp4_present.specs.format.Stands.{Reason, header, child, missing, leaf, tables, fragment, count, limit, order};
 
 /// A file denotes at most one presentation.
 pub fn denotes_one()

@@ -10,7 +10,7 @@ pub(crate) struct Limited<C> {
 
 impl<C: Samples> Samples for Limited<C> {
     ghost use Rattle.std.specs.Prelude.{take};
-    ghost use Rattle.mp4_plan.specs.HandsFed.{TakesFirst, takes_itself, takes_on};
+    ghost use Rattle.mp4_plan.specs.words.HandsFed.{TakesFirst, takes_itself, takes_on};
 
     ghost rest = { λ s. take s.left (C.rest s.inner) };
 

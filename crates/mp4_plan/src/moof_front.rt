@@ -1,8 +1,8 @@
 //! The boxes of a `moof` as far as the rows of `trun` (ISO/IEC 14496-12, 8.8.4 to 8.8.8 and
 //! 8.8.12).
 ghost use Rattle.std.specs.Prelude.{◌≡◌, ◌+◌, ◌^◌, ◌≤◌, ◌++◌, length};
-ghost use Rattle.mp4_boxes.specs.Written.{header_length};
-ghost use Rattle.mp4_plan.specs.Spelling.{bit_of, bit_without, bit_if, mfhd_front, head_bits, tfhd_front, tfdt_front, run_bits, trun_front, moof_front};
+ghost use Rattle.mp4_boxes.specs.format.Written.{header_length};
+ghost use Rattle.mp4_plan.specs.words.Spelling.{bit_of, bit_without, bit_if, mfhd_front, head_bits, tfhd_front, tfdt_front, run_bits, trun_front, moof_front};
 
 use crate::moof_sizes::{MFHD_SIZE, MoofSizes, TFDT_SIZE, short};
 use crate::offsets::data_offset;

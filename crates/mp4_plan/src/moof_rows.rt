@@ -1,12 +1,12 @@
 //! The rows of a `moof`: those of `trun`, and the `sbgp`s behind it (ISO/IEC 14496-12, 8.8.8 and
 //! 8.9.2).
 ghost use Rattle.std.specs.Prelude.{◌≡◌, ℕ, ◌+◌, ◌-◌, ◌^◌, ◌<◌, ◌≤◌, List, [], ◌∷◌, ◌++◌, None, flat_map, vec_len, length, IfSome, IfOk, IfErr, OnOk, OnErr};
-ghost use Rattle.mp4_store.specs.Device.{AppendsPrefix};
-ghost use Rattle.mp4_tables.specs.Keys.{key_seen, keys_seen};
-ghost use Rattle.mp4_present.specs.Carried.{RefusesPut, BytesGoOn, waiting};
-ghost use Rattle.mp4_plan.specs.Normal.{own};
-ghost use Rattle.mp4_plan.specs.Spelling.{offset_of, run_row, run_rows, group_row, group_rows, runs_left, WritesRuns};
-ghost use Rattle.mp4_plan.specs.UsedKeys.{used_seen, is_above, is_below, least_above, used_from, IsKeyAt, AreApart, key_front, group_front, group_bytes, groups_bytes};
+ghost use Rattle.mp4_store.specs.words.Device.{AppendsPrefix};
+ghost use Rattle.mp4_tables.specs.words.Keys.{key_seen, keys_seen};
+ghost use Rattle.mp4_present.specs.words.Carried.{RefusesPut, BytesGoOn, waiting};
+ghost use Rattle.mp4_plan.specs.format.Normal.{own};
+ghost use Rattle.mp4_plan.specs.words.Spelling.{offset_of, run_row, run_rows, group_row, group_rows, runs_left, WritesRuns};
+ghost use Rattle.mp4_plan.specs.words.UsedKeys.{used_seen, is_above, is_below, least_above, used_from, IsKeyAt, AreApart, key_front, group_front, group_bytes, groups_bytes};
 
 use crate::moof_sizes::{group_size, short};
 use crate::planner::Planned;

@@ -1,7 +1,7 @@
 //! How many bytes the boxes of a piece's `moof` take.
 ghost use Rattle.std.specs.Prelude.{◌≡◌, ℕ, ◌-◌, ◌^◌, ◌<◌, ◌≤◌, length, slice_index, min};
-ghost use Rattle.mp4_tables.specs.Keys.{keys_seen};
-ghost use Rattle.mp4_plan.specs.Sizes.{own_size, row_size, group_size, groups_size, moof_sizes};
+ghost use Rattle.mp4_tables.specs.words.Keys.{keys_seen};
+ghost use Rattle.mp4_plan.specs.words.Sizes.{own_size, row_size, group_size, groups_size, moof_sizes};
 
 use crate::planner::Planned;
 use mp4_tables::Keys;

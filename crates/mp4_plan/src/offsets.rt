@@ -1,6 +1,6 @@
 //! Where the data of a piece begins.
 ghost use Rattle.std.specs.Prelude.{◌≡◌, ◌+◌, ◌^◌, ◌<◌, ◌≤◌, pos};
-ghost use Rattle.mp4_boxes.specs.Written.{header_length};
+ghost use Rattle.mp4_boxes.specs.format.Written.{header_length};
 
 /// The place of the data after the first byte of a `moof` of this length, behind the header of an
 /// `mdat` with so many bytes of payload (8.8.8).

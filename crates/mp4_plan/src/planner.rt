@@ -45,7 +45,7 @@ pub struct Planner {
 }
 
 impl Model for Planner {
-    ghost use Rattle.mp4_plan.specs.Gathering.{Planning, AreBounded};
+    ghost use Rattle.mp4_plan.specs.words.Gathering.{Planning, AreBounded};
 
     ghost Value = { Planning };
 
@@ -56,10 +56,10 @@ impl Model for Planner {
 
 impl Planner {
     ghost use Rattle.std.specs.Prelude.{◌≡◌, ℕ, ◌+◌, ◌-◌, ◌*◌, ◌^◌, ◌<◌, ◌≤◌, length, take, slice_index, Some, None, ◌∷◌, []};
-    ghost use Rattle.mp4_plan.specs.Ends.{goes_in};
-    ghost use Rattle.mp4_plan.specs.Gathering.{description_in, gather, piece_fed, samples_after, answer, count_of, planned_of};
-    ghost use Rattle.mp4_plan.specs.HandsFed.{Notes};
-    ghost use Rattle.mp4_plan.specs.Stretches.{JoinsOn};
+    ghost use Rattle.mp4_plan.specs.words.Ends.{goes_in};
+    ghost use Rattle.mp4_plan.specs.words.Gathering.{description_in, gather, piece_fed, samples_after, answer, count_of, planned_of};
+    ghost use Rattle.mp4_plan.specs.words.HandsFed.{Notes};
+    ghost use Rattle.mp4_plan.specs.words.Stretches.{JoinsOn};
 
     /// A piece without samples.
     pub fn new(end: End) -> Planner

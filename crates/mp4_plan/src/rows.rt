@@ -1,6 +1,6 @@
 //! What is kept of the samples of a piece while it is planned, so that its `moof` can be written.
 ghost use Rattle.std.specs.Prelude.{◌≡◌};
-ghost use Rattle.mp4_plan.specs.Taken.{row_seen};
+ghost use Rattle.mp4_plan.specs.words.Taken.{row_seen};
 
 use mp4_tables::SampleAt;
 

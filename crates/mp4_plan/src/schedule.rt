@@ -49,7 +49,7 @@ impl Schedule {
     ghost use Rattle.std.specs.Prelude.{◌≡◌, ◌-◌, ◌^◌, ◌<◌, ◌≤◌, min, length, option_map, slice_get, Some, None, IfSome, IfErr, OnOk};
     ghost use Rattle.std.specs.List.{sum_by};
     ghost use Rattle.mp4_present.specs.declared.track_info.TrackInfo.{TrackInfo};
-    ghost use Rattle.mp4_plan.specs.Turns.{to_come, track_passed, first_scale, turn_end, turned, Sticks};
+    ghost use Rattle.mp4_plan.specs.words.Turns.{to_come, track_passed, first_scale, turn_end, turned, Sticks};
     ghost use Rattle.mp4_boxes.specs.declared.refusal.Refusal.TheVariants as refusals;
     ghost use Rattle.mp4_tables.specs.declared.sample.SampleAt.{SampleAt};
 

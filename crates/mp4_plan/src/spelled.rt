@@ -1,8 +1,8 @@
 //! A few bytes, spelled one number after the other.
 ghost use Rattle.std.specs.Prelude.{◌≡◌, ◌+◌, ◌≤◌, ◌++◌, [], length};
 ghost use Rattle.byteorder.specs.Endian.{big_bytes};
-ghost use Rattle.mp4_boxes.specs.Bytes.{unsigned};
-ghost use Rattle.mp4_plan.specs.Spelling.{option_bytes, box_front};
+ghost use Rattle.mp4_boxes.specs.format.Bytes.{unsigned};
+ghost use Rattle.mp4_plan.specs.words.Spelling.{option_bytes, box_front};
 
 use mp4_boxes::FourCc;
 use std::marker::Model;

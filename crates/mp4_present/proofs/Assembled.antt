@@ -4,38 +4,38 @@ use Rattle.std.specs.Prelude.{codes, IsTrue}
 use Rattle.std.specs.List.{AllByRecursion, AllZip}
 use Rattle.std.proofs.lemmas.Bool.{eqb-false}
 use Rattle.std.proofs.lemmas.List.{append-nil, length-map, take_all}
-use Rattle.mp4_boxes.specs.Bytes.{AreBytes}
-use Rattle.mp4_boxes.specs.Box.{Box}
-use Rattle.mp4_boxes.specs.Layout.{mdhd}
-use Rattle.mp4_boxes.specs.Places.{ruled}
+use Rattle.mp4_boxes.specs.format.Bytes.{AreBytes}
+use Rattle.mp4_boxes.specs.format.Box.{Box}
+use Rattle.mp4_boxes.specs.format.Layout.{mdhd}
+use Rattle.mp4_boxes.specs.format.Places.{ruled}
 use Rattle.mp4_boxes.specs.declared.rule.Rule.TheVariants as rules
 use Rattle.mp4_boxes.proofs.Among.{head_is, tail_is}
 use Rattle.mp4_boxes.proofs.Refusing.{holds_only}
 use Rattle.mp4_boxes.proofs.Sound.{sound_one, same_kind}
-use Rattle.mp4_tables.specs.Keys.{keys_seen}
-use Rattle.mp4_tables.specs.PlainSamples.{PlacedSample}
-use Rattle.mp4_frag.specs.FragmentSamples.{Part, start_of, duration_of, bytes_of, fragment_samples}
-use Rattle.mp4_frag.specs.Judged.{TrackSeen, track_seen}
+use Rattle.mp4_tables.specs.words.Keys.{keys_seen}
+use Rattle.mp4_tables.specs.format.PlainSamples.{PlacedSample}
+use Rattle.mp4_frag.specs.format.FragmentSamples.{Part, start_of, duration_of, bytes_of, fragment_samples}
+use Rattle.mp4_frag.specs.words.Judged.{TrackSeen, track_seen}
 use Rattle.mp4_frag.specs.declared.state.TrackState.{TrackState}
 use Rattle.mp4_frag.specs.declared.trex.Trex.{Trex}
-use Rattle.mp4_head.specs.Found.{SaysHead}
-use Rattle.mp4_head.specs.Head as heads
-use Rattle.mp4_head.specs.Tree.{TrackTree, MovieTree, IsTrackTree, IsSoundTrack, first_of, track_head_of, trexes_of}
+use Rattle.mp4_head.specs.words.Found.{SaysHead}
+use Rattle.mp4_head.specs.format.Head as heads
+use Rattle.mp4_head.specs.format.Tree.{TrackTree, MovieTree, IsTrackTree, IsSoundTrack, first_of, track_head_of, trexes_of}
 use Rattle.mp4_head.specs.declared.heads.MovieHead.{MovieHead}
 use Rattle.mp4_head.specs.declared.heads.TrackHead.{TrackHead}
 use Rattle.mp4_present.specs.declared.opening.Found.{Found}
-use Rattle.mp4_present.specs.Denotes.{FileTree, IsFileTree, IsSoundFile, IsConsistent, sample_of, plain_of, placed_of, first_due, track_of, file_parts, presentation_of}
-use Rattle.mp4_present.specs.Measured.{IsMeasured, AreMeasured, IsMeasure, TimeFails, MovieFails, LimitFails}
-use Rattle.mp4_present.specs.Stands.{Stands, limit}
-use Rattle.mp4_boxes.specs.BoxFaults.{fault_of}
+use Rattle.mp4_present.specs.format.Denotes.{FileTree, IsFileTree, IsSoundFile, IsConsistent, sample_of, plain_of, placed_of, first_due, track_of, file_parts, presentation_of}
+use Rattle.mp4_present.specs.words.Measured.{IsMeasured, AreMeasured, IsMeasure, TimeFails, MovieFails, LimitFails}
+use Rattle.mp4_present.specs.format.Stands.{Stands, limit}
+use Rattle.mp4_boxes.specs.format.BoxFaults.{fault_of}
 use Rattle.mp4_boxes.specs.declared.fault.Fault.{Fault}
 use Rattle.mp4_boxes.specs.declared.fault.Kind.TheVariants.{TimeTooLarge, MovieTooLarge}
 use Rattle.mp4_head.proofs.Inside.{first_is}
-use Rattle.mp4_present.specs.OpenedMovie.{IsInfoBy, AreInfosBy, IsInfoOf, IsOpenedAs, kept_of, plain_seen}
-use Rattle.mp4_present.specs.PassedMoofs.{IsBegun, IsPassed}
-use Rattle.mp4_present.specs.Passing.{seen_behind}
-use Rattle.mp4_present.specs.Presentation.{Track, IsInTime, total_duration, end_time, movie_length, normal_moov_length, max_moov}
-use Rattle.mp4_present.specs.TrackTrees.{IsTrackOf, AreTracksOf, HaveTables}
+use Rattle.mp4_present.specs.words.OpenedMovie.{IsInfoBy, AreInfosBy, IsInfoOf, IsOpenedAs, kept_of, plain_seen}
+use Rattle.mp4_present.specs.words.PassedMoofs.{IsBegun, IsPassed}
+use Rattle.mp4_present.specs.words.Passing.{seen_behind}
+use Rattle.mp4_present.specs.format.Presentation.{Track, IsInTime, total_duration, end_time, movie_length, normal_moov_length, max_moov}
+use Rattle.mp4_present.specs.words.TrackTrees.{IsTrackOf, AreTracksOf, HaveTables}
 use Rattle.mp4_present.specs.declared.outline.Outline.{Outline}
 use Rattle.mp4_present.specs.declared.tables_pass.PlainTracks.{PlainTracks}
 use Rattle.mp4_present.specs.declared.track_info.TrackInfo.{TrackInfo}

@@ -4,9 +4,9 @@ use Rattle.std.proofs.lemmas.Grind.{common_steps}
 use Rattle.std.proofs.lemmas.List.{append-nil}
 use Rattle.std.specs.Prelude.{Option}
 use Rattle.std.specs.Io.KnownBytes.{Appends}
-use Rattle.mp4_store.specs.Device.{AppendsPrefix, range}
+use Rattle.mp4_store.specs.words.Device.{AppendsPrefix, range}
 use Rattle.mp4_store.proofs.Known.{Appends-then, Appends-nothing, AppendsPrefix-then, AppendsPrefix-longer, AppendsPrefix-whole, range-add}
-use Rattle.mp4_present.specs.Carried.{BytesGoOn, GoOnBy, PutsMany}
+use Rattle.mp4_present.specs.words.Carried.{BytesGoOn, GoOnBy, PutsMany}
 
 -- nothing follows
 pub BytesGoOn-nothing : (known : Option (List ℕ)) (held : List ℕ) → BytesGoOn known known held held []

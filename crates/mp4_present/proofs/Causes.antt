@@ -3,8 +3,8 @@ use Rattle.std.proofs.Common.{ℕ, List}
 use Rattle.std.specs.Prelude.{Option}
 use Rattle.mp4_boxes.specs.declared.refusal.Refusal.{Refusal}
 use Rattle.mp4_boxes.specs.declared.refusal.Refusal.TheVariants as refusals
-use Rattle.mp4_present.specs.Movies.{RefusesLoad}
-use Rattle.mp4_present.specs.Carried.{RefusesCarry, RefusesCopy}
+use Rattle.mp4_present.specs.words.Movies.{RefusesLoad}
+use Rattle.mp4_present.specs.words.Carried.{RefusesCarry, RefusesCopy}
 
 pub copy_not_loaded : (a b : Option (List ℕ)) (reads reads_after puts puts_after : ℕ) (r : Refusal) → RefusesLoad reads reads_after r → RefusesCopy a b reads reads_after puts puts_after r
 copy_not_loaded a b reads reads_after puts puts_after (refusals.Fault f) w = w

@@ -2,17 +2,17 @@
 use Rattle.std.proofs.Common.{◌≡◌, ℕ, ◌+◌, ◌≤◌, true, List, ◌∷◌, ◌++◌, Some, length, refl, sym, ap, subst, ◌∙◌, arith}
 use Rattle.std.proofs.Math.Nat.{le_refl}
 use Rattle.std.specs.Prelude.{codes, unwrap_or, bytes_eq}
-use Rattle.mp4_boxes.specs.Box.{Box, file_container}
-use Rattle.mp4_boxes.specs.Children.{Holds, of_kind}
+use Rattle.mp4_boxes.specs.format.Box.{Box, file_container}
+use Rattle.mp4_boxes.specs.format.Children.{Holds, of_kind}
 use Rattle.mp4_boxes.specs.declared.rule.Rule.TheVariants.{File}
 use Rattle.mp4_boxes.proofs.Among.{of_kind-append, of_kind-split}
 use Rattle.mp4_boxes.proofs.Tiling.{tiles_one}
-use Rattle.mp4_frag.specs.Work.{fragment_rows, moof_says}
+use Rattle.mp4_frag.specs.format.FragmentRows.{fragment_rows, moof_says}
 use Rattle.mp4_frag.specs.declared.state.TrackState.{TrackState}
-use Rattle.mp4_present.specs.Again.{AreFrom, IsNextFragment}
-use Rattle.mp4_present.specs.Movies.{IsWhole}
-use Rattle.mp4_present.specs.Outline.{IsOutline, box_at, longest}
-use Rattle.mp4_present.specs.Work.{moof_steps, boxes_steps, ChecksWithin}
+use Rattle.mp4_present.specs.words.Again.{AreFrom, IsNextFragment}
+use Rattle.mp4_present.specs.words.Movies.{IsWhole}
+use Rattle.mp4_present.specs.words.Outline.{IsOutline, box_at, longest}
+use Rattle.mp4_present.specs.words.WalkSteps.{moof_steps, boxes_steps, ChecksWithin}
 use Rattle.mp4_present.specs.declared.outline.Outline.{Outline}
 use Rattle.mp4_present.specs.declared.reading.TopBox.{TopBox}
 use Rattle.mp4_present.proofs.FragmentPass.{Left, left_at, left_next, next_boxes, first_passed, whole_file}

@@ -4,29 +4,29 @@ use Rattle.std.specs.Prelude.{◌⊎◌, map, flat_map, codes, bytes_eq, is_some
 use Rattle.std.specs.List.{AllByRecursion}
 use Rattle.std.proofs.lemmas.List.{length-map}
 use borrow.Author.Tests.{true-eqb}
-use Rattle.mp4_boxes.specs.Bytes.{sum_of, width_of}
-use Rattle.mp4_boxes.specs.Box.{Box, Container, file_container}
-use Rattle.mp4_boxes.specs.Children.{of_kind, payload_among, sample_sizes, count_among}
-use Rattle.mp4_boxes.specs.Layout.{trun, row_count, present, sample_columns}
+use Rattle.mp4_boxes.specs.format.Bytes.{sum_of, width_of}
+use Rattle.mp4_boxes.specs.format.Box.{Box, Container, file_container}
+use Rattle.mp4_boxes.specs.format.Children.{of_kind, payload_among, sample_sizes, count_among}
+use Rattle.mp4_boxes.specs.format.Layout.{trun, row_count, present, sample_columns}
 use Rattle.mp4_boxes.specs.declared.fault.Fault.{Fault}
 use Rattle.mp4_boxes.proofs.Among.{in_of_kind}
 use Rattle.mp4_boxes.proofs.Refusing.{stands_in, line_has}
-use Rattle.mp4_boxes.specs.Children.{Holds, one}
+use Rattle.mp4_boxes.specs.format.Children.{Holds, one}
 use Rattle.mp4_boxes.specs.declared.rule.Rule.TheVariants.{SampleTable}
-use Rattle.mp4_tables.specs.Tables.{tables_of, sample_count}
-use Rattle.mp4_tables.specs.PlainSamples.{PlacedSample}
-use Rattle.mp4_tables.specs.TableRules.{Fit}
+use Rattle.mp4_tables.specs.format.Tables.{tables_of, sample_count}
+use Rattle.mp4_tables.specs.format.PlainSamples.{PlacedSample}
+use Rattle.mp4_tables.specs.format.TableRules.{Fit}
 use Rattle.mp4_tables.proofs.Counts.{samples_counted, groups_length}
-use Rattle.mp4_tables.specs.Groups.{maps_of}
+use Rattle.mp4_tables.specs.format.Groups.{maps_of}
 use Rattle.mp4_frag.specs.declared.trex.Trex.{Trex}
-use Rattle.mp4_frag.specs.Fragments.{RunRow, TrackFragment, FragmentTree, run_rows, run_of, fragment_of, track_fragment_of}
-use Rattle.mp4_frag.specs.FragmentSamples.{Part, part_samples, run_samples, runs_samples, run_start, runs_end, end_of_data, base_of, trex_for, no_trex, parts_after, parts_of, all_parts, fragment_samples}
-use Rattle.mp4_frag.specs.FragmentRules.{TrackInfo, track_for, is_known}
-use Rattle.mp4_head.specs.Tree.{TrackTree, MovieTree, IsTrackTree, track_head_of, trexes_of}
+use Rattle.mp4_frag.specs.format.Fragments.{RunRow, TrackFragment, FragmentTree, run_rows, run_of, fragment_of, track_fragment_of}
+use Rattle.mp4_frag.specs.format.FragmentSamples.{Part, part_samples, run_samples, runs_samples, run_start, runs_end, end_of_data, base_of, trex_for, no_trex, parts_after, parts_of, all_parts, fragment_samples}
+use Rattle.mp4_frag.specs.format.FragmentRules.{TrackInfo, track_for, is_known}
+use Rattle.mp4_head.specs.format.Tree.{TrackTree, MovieTree, IsTrackTree, track_head_of, trexes_of}
 use Rattle.mp4_head.proofs.Trees.{movie_tree_one}
-use Rattle.mp4_present.specs.Presentation.{Presentation, Track, max_samples}
-use Rattle.mp4_present.specs.Denotes.{Denotes, surroundings, plain_of, track_infos, track_of, sample_of, placed_of, file_parts}
-use Rattle.mp4_present.specs.Stands.{StandsBy, count, TablePasses, RunPasses, parts_with, table_total, run_total, trafs_total}
+use Rattle.mp4_present.specs.format.Presentation.{Presentation, Track, max_samples}
+use Rattle.mp4_present.specs.format.Denotes.{Denotes, surroundings, plain_of, track_infos, track_of, sample_of, placed_of, file_parts}
+use Rattle.mp4_present.specs.format.Stands.{StandsBy, count, TablePasses, RunPasses, parts_with, table_total, run_total, trafs_total}
 use Rattle.mp4_present.proofs.Chain.{only_box}
 use Rattle.mp4_present.proofs.Fronts.{begun, parts_begun}
 use Rattle.mp4_present.proofs.Limits.{within}

@@ -4,12 +4,12 @@ use Rattle.std.specs.Prelude.{IsTrue}
 use Rattle.mp4_boxes.specs.declared.fault.Fault.{Fault}
 use Rattle.mp4_boxes.specs.declared.refusal.Refusal.{Refusal}
 use Rattle.mp4_boxes.specs.declared.refusal.Refusal.TheVariants as refusals
-use Rattle.mp4_present.specs.Denotes.{Denotes}
-use Rattle.mp4_present.specs.Opening.{RefusesOpen, RefusesDenoted}
-use Rattle.mp4_present.specs.Outline.{RefusesOutline}
-use Rattle.mp4_present.specs.Presentation.{Presentation}
-use Rattle.mp4_present.specs.Reading.{RefusesRead}
-use Rattle.mp4_present.specs.Stands.{Reason, StandsBy, header, child, missing, leaf, tables, fragment, count, limit, order}
+use Rattle.mp4_present.specs.format.Denotes.{Denotes}
+use Rattle.mp4_present.specs.words.Opening.{RefusesOpen, RefusesDenoted}
+use Rattle.mp4_present.specs.words.Outline.{RefusesOutline}
+use Rattle.mp4_present.specs.format.Presentation.{Presentation}
+use Rattle.mp4_present.specs.words.Reading.{RefusesRead}
+use Rattle.mp4_present.specs.format.Stands.{Reason, StandsBy, header, child, missing, leaf, tables, fragment, count, limit, order}
 use Rattle.mp4_present.proofs.BoxReasons.{header_refuses, child_refuses, missing_stands_refuses}
 use Rattle.mp4_present.proofs.Counts.{count_refuses}
 use Rattle.mp4_present.proofs.FragmentReasons.{fragment_refuses}

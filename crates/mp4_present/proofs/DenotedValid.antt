@@ -3,23 +3,23 @@ use Rattle.std.proofs.Common.{ℕ, List, [], ◌∷◌, length, sym, ap, subst, 
 use Rattle.std.specs.Prelude.{codes, map}
 use Rattle.std.specs.List.{AllByRecursion}
 use Rattle.std.proofs.lemmas.List.{length-map}
-use Rattle.mp4_boxes.specs.Bytes.{AreBytes}
-use Rattle.mp4_boxes.specs.Box.{Box, file_container}
-use Rattle.mp4_boxes.specs.Places.{ruled, AreSound}
+use Rattle.mp4_boxes.specs.format.Bytes.{AreBytes}
+use Rattle.mp4_boxes.specs.format.Box.{Box, file_container}
+use Rattle.mp4_boxes.specs.format.Places.{ruled, AreSound}
 use Rattle.mp4_boxes.specs.declared.rule.Rule.TheVariants as rules
 use Rattle.mp4_boxes.proofs.Among.{IsIn, all_in}
 use Rattle.mp4_boxes.proofs.Each.{each_value, each_member}
 use Rattle.mp4_boxes.proofs.OfBytes.{tiled_of_bytes, payloads_of_bytes}
-use Rattle.mp4_frag.specs.Fragments.{FragmentTree}
-use Rattle.mp4_head.specs.Head.{TrackHead, IsMovieHead}
-use Rattle.mp4_head.specs.Tree.{TrackTree, IsTrackTree, IsSoundTrack, are_distinct}
+use Rattle.mp4_frag.specs.format.Fragments.{FragmentTree}
+use Rattle.mp4_head.specs.format.Head.{TrackHead, IsMovieHead}
+use Rattle.mp4_head.specs.format.Tree.{TrackTree, IsTrackTree, IsSoundTrack, are_distinct}
 use Rattle.mp4_head.proofs.Distinct.{map_twice}
 use Rattle.mp4_head.proofs.TreeBytes.{TrackOfBytes, movie_of_bytes}
 use Rattle.mp4_head.proofs.ValidHead.{track_head_valid, movie_head_valid}
-use Rattle.mp4_present.specs.Presentation.{Presentation, Track, IsSample, IsTrack, Valid, heads}
-use Rattle.mp4_present.specs.Denotes.{FileTree, IsFileTree, Denotes, plain_of, file_parts, parts_of_track, placed_of, sample_of, track_of}
-use Rattle.mp4_present.specs.Coming.{track_keys}
-use Rattle.mp4_present.specs.OpenedMovie.{AreOfBytes}
+use Rattle.mp4_present.specs.format.Presentation.{Presentation, Track, IsSample, IsTrack, Valid, heads}
+use Rattle.mp4_present.specs.format.Denotes.{FileTree, IsFileTree, Denotes, plain_of, file_parts, parts_of_track, placed_of, sample_of, track_of}
+use Rattle.mp4_present.specs.words.SamplesComing.{track_keys}
+use Rattle.mp4_present.specs.words.OpenedMovie.{AreOfBytes}
 use Rattle.mp4_present.proofs.PlacedTracks.{IsTrackPlaced, track_placed}
 use Rattle.mp4_present.proofs.ValidSamples.{IsOfTrack, sample_valid, keys_few, starts_at_0}
 

@@ -2,13 +2,13 @@
 use Rattle.std.proofs.Common.{lit≤}
 use Rattle.std.specs.Prelude.{ℕ, zero, suc, List, [], ◌∷◌, codes, refl, IsTrue}
 use Rattle.mp4_boxes.proofs.Vectors.{p, np, f1, f2, f3, p_normal, compact, grouped, grouped_normal, keyed, two_grouped, part}
-use Rattle.mp4_tables.specs.Tables.{tables_of}
-use Rattle.mp4_tables.specs.TableRules.{Fit, dependency_room, duration_counts, offset_counts, chunk_counts, chunk_order, sync_order, description_indexes, places, table_group}
-use Rattle.mp4_tables.specs.Groups.{GroupRule, one_of_key, few_keys, index_range, group_counts}
-use Rattle.mp4_frag.specs.FragmentSamples.{Part, has_groups}
-use Rattle.mp4_head.specs.Tree.{TrackTree, IsTrackTree}
+use Rattle.mp4_tables.specs.format.Tables.{tables_of}
+use Rattle.mp4_tables.specs.format.TableRules.{Fit, dependency_room, duration_counts, offset_counts, chunk_counts, chunk_order, sync_order, description_indexes, places, table_group}
+use Rattle.mp4_tables.specs.format.Groups.{GroupRule, one_of_key, few_keys, index_range, group_counts}
+use Rattle.mp4_frag.specs.format.FragmentSamples.{Part, has_groups}
+use Rattle.mp4_head.specs.format.Tree.{TrackTree, IsTrackTree}
 use Rattle.mp4_present.proofs.Vectors.{p_presentation, grouped_presentation, keyed_presentation, two_grouped_presentation}
-use Rattle.mp4_present.specs.Denotes.{FileTree, IsFileTree, IsSoundFile, Denotes, surroundings, file_parts}
+use Rattle.mp4_present.specs.format.Denotes.{FileTree, IsFileTree, IsSoundFile, Denotes, surroundings, file_parts}
 
 -- a part by its number
 abbrev part_number : ℕ → FileTree → Part

@@ -3,11 +3,11 @@ use Rattle.std.proofs.Common.{◌≡◌, ℕ, List, [], ◌∷◌, ◌++◌, map
 use Rattle.std.specs.Prelude.{flat_map}
 use Rattle.std.proofs.lemmas.Grind.{flat_map-append}
 use Rattle.std.proofs.lemmas.List.{append-nil, map-append}
-use Rattle.mp4_frag.specs.Fragments.{FragmentTree, fragment_of}
-use Rattle.mp4_frag.specs.FragmentSamples.{part_samples, parts_of, parts_for, fragment_samples}
-use Rattle.mp4_frag.specs.Judged.{samples_of_track}
-use Rattle.mp4_head.specs.Tree.{MovieTree, trexes_of}
-use Rattle.mp4_present.specs.Passing.{parts_behind}
+use Rattle.mp4_frag.specs.format.Fragments.{FragmentTree, fragment_of}
+use Rattle.mp4_frag.specs.format.FragmentSamples.{part_samples, parts_of, parts_for, fragment_samples}
+use Rattle.mp4_frag.specs.words.Judged.{samples_of_track}
+use Rattle.mp4_head.specs.format.Tree.{MovieTree, trexes_of}
+use Rattle.mp4_present.specs.words.Passing.{parts_behind}
 use Rattle.mp4_present.proofs.FragmentReasons.{for-append}
 
 -- ---- the samples of some `moof`s and of more

@@ -2,14 +2,14 @@
 use Rattle.std.proofs.Common.{◌≡◌, ℕ, ◌+◌, ◌-◌, ◌≤◌, true, List, [], ◌∷◌, ◌++◌, Option, Some, None, length, drop, max, refl, length-take, length-drop, sym, ap, subst, ◌∙◌, arith}
 use Rattle.std.specs.Prelude.{codes, unwrap_or, fold, bytes_eq}
 use Rattle.std.proofs.lemmas.List.{drop-drop, append-nil}
-use Rattle.mp4_boxes.specs.Box.{Box, LieEndToEnd, file_container, size, sizes}
-use Rattle.mp4_boxes.specs.Children.{of_kind, Holds}
+use Rattle.mp4_boxes.specs.format.Box.{Box, LieEndToEnd, file_container, size, sizes}
+use Rattle.mp4_boxes.specs.format.Children.{of_kind, Holds}
 use Rattle.mp4_boxes.specs.declared.rule.Rule.TheVariants.{File}
 use Rattle.mp4_boxes.proofs.Among.{of_kind-append, of_kind-split}
 use Rattle.mp4_boxes.proofs.Tiling.{lies_behind, sizes-append, sizes-cons}
-use Rattle.mp4_present.specs.Again.{AreFrom, IsNextFragment}
-use Rattle.mp4_present.specs.Movies.{IsWhole}
-use Rattle.mp4_present.specs.Outline.{BeginAt, IsOutline, box_at, longest}
+use Rattle.mp4_present.specs.words.Again.{AreFrom, IsNextFragment}
+use Rattle.mp4_present.specs.words.Movies.{IsWhole}
+use Rattle.mp4_present.specs.words.Outline.{BeginAt, IsOutline, box_at, longest}
 use Rattle.mp4_present.specs.declared.reading.TopBox.{TopBox}
 use Rattle.mp4_present.specs.declared.outline.Outline.{Outline}
 

@@ -4,14 +4,14 @@ use Rattle.std.specs.Prelude.{flat_map, find, not, ◌||◌, ◌==◌, IsTrue, s
 use Rattle.std.specs.List.{AllByRecursion, list_any}
 use Rattle.mp4_boxes.specs.declared.fault.Fault.{Fault}
 use Rattle.mp4_boxes.proofs.Among.{all_at, true_false}
-use Rattle.mp4_tables.specs.PlainSamples.{PlacedSample}
-use Rattle.mp4_frag.specs.FragmentSamples.{Part, part_samples, parts_for, has_samples, start_of, duration_of, is_on_time, AreOnTime, has_groups, keys_behind, AreGrouped}
-use Rattle.mp4_frag.specs.FragmentRules.{is_known, has_indexes, is_within}
-use Rattle.mp4_tables.specs.Groups.{GroupRule, GroupKey, Grouping, same_key, keys_after}
-use Rattle.mp4_head.specs.Tree.{TrackTree, MovieTree, track_head_of, trexes_of}
-use Rattle.mp4_present.specs.Presentation.{Presentation}
-use Rattle.mp4_present.specs.Denotes.{Denotes, track_infos, plain_of, plain_keys, file_parts, first_due}
-use Rattle.mp4_present.specs.Stands.{StandsBy, fragment, Behind, earlier_parts, parts_with, FragmentRule, unknown_track, description_index, place, fragment_group, decode_time, PartFails}
+use Rattle.mp4_tables.specs.format.PlainSamples.{PlacedSample}
+use Rattle.mp4_frag.specs.format.FragmentSamples.{Part, part_samples, parts_for, has_samples, start_of, duration_of, is_on_time, AreOnTime, has_groups, keys_behind, AreGrouped}
+use Rattle.mp4_frag.specs.format.FragmentRules.{is_known, has_indexes, is_within}
+use Rattle.mp4_tables.specs.format.Groups.{GroupRule, GroupKey, Grouping, same_key, keys_after}
+use Rattle.mp4_head.specs.format.Tree.{TrackTree, MovieTree, track_head_of, trexes_of}
+use Rattle.mp4_present.specs.format.Presentation.{Presentation}
+use Rattle.mp4_present.specs.format.Denotes.{Denotes, track_infos, plain_of, plain_keys, file_parts, first_due}
+use Rattle.mp4_present.specs.format.Stands.{StandsBy, fragment, Behind, earlier_parts, parts_with, FragmentRule, unknown_track, description_index, place, fragment_group, decode_time, PartFails}
 use Rattle.mp4_present.proofs.Fronts.{begun, parts_begun}
 use Rattle.std.proofs.lemmas.List.Elements.{All-from_recursion, All-contains}
 

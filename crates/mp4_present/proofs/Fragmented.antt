@@ -3,17 +3,17 @@ use Rattle.std.proofs.Common.{◌≡◌, ℕ, ◌+◌, ◌-◌, ◌<◌, ◌≤�
 use Rattle.std.specs.Prelude.{codes, bytes_eq, IsTrue, Bool, Result}
 use Rattle.std.proofs.lemmas.List.{drop-drop, append-nil}
 use Rattle.std.proofs.lemmas.Slice.Eq.{bytes_eq-Decides}
-use Rattle.mp4_boxes.specs.Box.{Box, Header, LieEndToEnd, box_of, size, sizes}
-use Rattle.mp4_boxes.specs.BoxFaults.{header_there, located, type_of}
-use Rattle.mp4_boxes.specs.Children.{of_kind}
-use Rattle.mp4_boxes.specs.View.{top_header_seen}
+use Rattle.mp4_boxes.specs.format.Box.{Box, Header, LieEndToEnd, box_of, size, sizes}
+use Rattle.mp4_boxes.specs.format.BoxFaults.{header_there, located, type_of}
+use Rattle.mp4_boxes.specs.format.Children.{of_kind}
+use Rattle.mp4_boxes.specs.words.View.{top_header_seen}
 use Rattle.mp4_boxes.specs.declared.headers.TopHeader.{TopHeader}
 use Rattle.mp4_boxes.specs.declared.fault.Kind.{Kind}
 use Rattle.mp4_boxes.specs.declared.refusal.Refusal.{Refusal}
 use Rattle.mp4_boxes.specs.declared.refusal.Refusal.TheVariants as refusals
 use Rattle.mp4_boxes.proofs.Tiling.{header_is, box_size, first_fits, sizes-append, sizes-cons}
-use Rattle.mp4_present.specs.Reading.{IsTopHeader, top_box}
-use Rattle.mp4_present.specs.Again.{AreFrom, IsNextFragment, RefusesHeaderAgain, RefusesNext}
+use Rattle.mp4_present.specs.words.Reading.{IsTopHeader, top_box}
+use Rattle.mp4_present.specs.words.Again.{AreFrom, IsNextFragment, RefusesHeaderAgain, RefusesNext}
 use Rattle.mp4_present.proofs.TopLevel.{read_there}
 use Rattle.mp4_present.proofs.Outlines.{push_other}
 

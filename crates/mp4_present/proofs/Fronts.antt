@@ -2,20 +2,20 @@
 use Rattle.std.proofs.Common.{◌≡◌, ℕ, true, List, [], ◌∷◌, ◌++◌, refl, sym, ap, subst, ◌∙◌, append_assoc}
 use Rattle.std.specs.Prelude.{codes, map, bytes_eq, ℤ, pos, unwrap_or}
 use Rattle.std.specs.List.{AllByRecursion, AllZip}
-use Rattle.mp4_boxes.specs.Box.{Box, file_container, box_container}
-use Rattle.mp4_boxes.specs.Children.{Holds, of_kind}
+use Rattle.mp4_boxes.specs.format.Box.{Box, file_container, box_container}
+use Rattle.mp4_boxes.specs.format.Children.{Holds, of_kind}
 use Rattle.mp4_boxes.specs.declared.rule.Rule.TheVariants as rules
 use Rattle.mp4_boxes.proofs.Tiling.{holds_one}
 use Rattle.mp4_boxes.proofs.Members.{stands_among}
 use Rattle.mp4_boxes.proofs.Among.{head_is, tail_is, all_at, of_kind-append, of_kind-split}
 use Rattle.mp4_frag.specs.declared.trex.Trex.{Trex}
-use Rattle.mp4_frag.specs.Fragments.{TrackFragment, Fragment, FragmentTree, IsFragmentTree, AreTrafs, fragment_of, track_fragment_of}
-use Rattle.mp4_frag.specs.FragmentSamples.{Part, runs_samples, runs_end, base_of, trex_for, no_trex, parts_after, parts_of, all_parts}
+use Rattle.mp4_frag.specs.format.Fragments.{TrackFragment, Fragment, FragmentTree, IsFragmentTree, AreTrafs, fragment_of, track_fragment_of}
+use Rattle.mp4_frag.specs.format.FragmentSamples.{Part, runs_samples, runs_end, base_of, trex_for, no_trex, parts_after, parts_of, all_parts}
 use Rattle.mp4_frag.proofs.Trees.{trafs_one, fragment_trees_one}
-use Rattle.mp4_head.specs.Tree.{MovieTree, trexes_of}
+use Rattle.mp4_head.specs.format.Tree.{MovieTree, trexes_of}
 use Rattle.mp4_head.proofs.Trees.{movie_tree_one}
-use Rattle.mp4_present.specs.Denotes.{FileTree, IsFileTree, file_parts}
-use Rattle.mp4_present.specs.Stands.{Behind, parts_with}
+use Rattle.mp4_present.specs.format.Denotes.{FileTree, IsFileTree, file_parts}
+use Rattle.mp4_present.specs.format.Stands.{Behind, parts_with}
 
 no_member : {A : Type 0} (y : A) (ys : List A) → ◌≡◌ {A = List A} [] (y ∷ ys) → ⊥
 no_member y ys e = cc

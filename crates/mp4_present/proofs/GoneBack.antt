@@ -4,25 +4,25 @@ use Rattle.std.specs.Prelude.{⊤, nat_eq, is_none, if◌then◌else◌}
 use Rattle.std.proofs.lemmas.Bool.{eqb-true}
 use Rattle.std.specs.List.{slice_get}
 use Rattle.std.proofs.lemmas.List.{length-take, length-drop, drop_min}
-use Rattle.mp4_boxes.specs.Box.{Box}
+use Rattle.mp4_boxes.specs.format.Box.{Box}
 use Rattle.mp4_boxes.specs.declared.refusal.Refusal.{Refusal}
 use Rattle.mp4_boxes.specs.declared.refusal.Refusal.TheVariants as refusals
-use Rattle.mp4_store.specs.Device.{range}
+use Rattle.mp4_store.specs.words.Device.{range}
 use Rattle.mp4_tables.specs.declared.sample.SampleAt.{SampleAt}
-use Rattle.mp4_tables.specs.Keys.{keys_seen}
-use Rattle.mp4_frag.specs.Fragments.{FragmentTree}
-use Rattle.mp4_tables.specs.Views.{CursorSeen as TableView}
-use Rattle.mp4_frag.specs.Views.{CursorSeen as MoofView}
-use Rattle.mp4_frag.specs.Walks.{samples_coming, samples_in}
-use Rattle.mp4_head.specs.Tree.{TrackTree}
-use Rattle.mp4_present.specs.Coming.{StandsBefore, HoldsNext, HoldsLast, Comes, Takes, samples_behind, due_behind}
-use Rattle.mp4_present.specs.Denotes.{FileTree}
-use Rattle.mp4_present.specs.GoingBack.{GoesBackTo, HoldsMarked, again_from, back_steps, set_back}
-use Rattle.mp4_present.specs.InHand.{AreLast, left_in_hand, Follows, IsPlaceOf}
-use Rattle.mp4_present.specs.Movies.{MovieSeen, IsWhole, Fills, IsWalkOf, HasMarked, IsRest, StandsAt, HandAt, InHandOf, mark_of, moof_box, moof_bytes, all_in_moof}
-use Rattle.mp4_present.specs.Outline.{box_at}
-use Rattle.mp4_present.specs.Reading.{RefusesPayload}
-use Rattle.mp4_present.specs.Work.{steps_to, moof_steps, moofs_steps, way_through, MayTake, TakesOn}
+use Rattle.mp4_tables.specs.words.Keys.{keys_seen}
+use Rattle.mp4_frag.specs.format.Fragments.{FragmentTree}
+use Rattle.mp4_tables.specs.words.TablesSeen.{CursorSeen as TableView}
+use Rattle.mp4_frag.specs.words.FragmentsSeen.{CursorSeen as MoofView}
+use Rattle.mp4_frag.specs.words.Walks.{samples_coming, samples_in}
+use Rattle.mp4_head.specs.format.Tree.{TrackTree}
+use Rattle.mp4_present.specs.words.SamplesComing.{StandsBefore, HoldsNext, HoldsLast, Comes, Takes, samples_behind, due_behind}
+use Rattle.mp4_present.specs.format.Denotes.{FileTree}
+use Rattle.mp4_present.specs.words.GoingBack.{GoesBackTo, HoldsMarked, again_from, back_steps, set_back}
+use Rattle.mp4_present.specs.words.InHand.{AreLast, left_in_hand, Follows, IsPlaceOf}
+use Rattle.mp4_present.specs.words.Movies.{MovieSeen, IsWhole, Fills, IsWalkOf, HasMarked, IsRest, StandsAt, HandAt, InHandOf, mark_of, moof_box, moof_bytes, all_in_moof}
+use Rattle.mp4_present.specs.words.Outline.{box_at}
+use Rattle.mp4_present.specs.words.Reading.{RefusesPayload}
+use Rattle.mp4_present.specs.words.WalkSteps.{steps_to, moof_steps, moofs_steps, way_through, MayTake, TakesOn}
 use Rattle.mp4_present.specs.declared.in_hand.InHand.{InHand}
 use Rattle.mp4_present.specs.declared.in_hand.InHand.TheVariants as hands
 use Rattle.mp4_present.specs.declared.in_hand.Place.{Place}

@@ -3,11 +3,11 @@ use Rattle.std.proofs.Common.{◌≡◌, ℕ, ◌+◌, ◌-◌, ◌≤◌, List,
 use Rattle.std.specs.Prelude.{replicate}
 use Rattle.std.specs.List.{AllByRecursion}
 use Rattle.std.proofs.lemmas.List.{take-append-drop, length-take, length-drop, length-replicate}
-use Rattle.mp4_boxes.specs.Bytes.{sum_of}
+use Rattle.mp4_boxes.specs.format.Bytes.{sum_of}
 use Rattle.mp4_boxes.proofs.Each.{each_taken}
-use Rattle.mp4_store.specs.Device.{range}
+use Rattle.mp4_store.specs.words.Device.{range}
 use Rattle.mp4_tables.specs.declared.sample.SampleAt.{SampleAt}
-use Rattle.mp4_present.specs.Joined.{AreJoined, IsBelow, sample_bytes, sizes_of}
+use Rattle.mp4_present.specs.words.Joined.{AreJoined, IsBelow, sample_bytes, sizes_of}
 use Rattle.mp4_present.proofs.Counts.{sum-append}
 
 -- all end before the sum of their ends

@@ -3,11 +3,11 @@ use Rattle.std.proofs.Common.{◌≡◌, ℕ, List, [], ◌++◌, take, drop, re
 use Rattle.std.proofs.lemmas.Grind.{flat_map-append}
 use Rattle.std.proofs.lemmas.List.{append-nil, take-append-drop}
 use Rattle.std.specs.Prelude.{Option}
-use Rattle.mp4_store.specs.Device.{AppendsPrefix, range}
+use Rattle.mp4_store.specs.words.Device.{AppendsPrefix, range}
 use Rattle.mp4_store.proofs.Known.{AppendsPrefix-longer}
 use Rattle.mp4_tables.specs.declared.sample.SampleAt.{SampleAt}
-use Rattle.mp4_present.specs.Carried.{BytesGoOn}
-use Rattle.mp4_present.specs.Joined.{AreJoined, sample_bytes}
+use Rattle.mp4_present.specs.words.Carried.{BytesGoOn}
+use Rattle.mp4_present.specs.words.Joined.{AreJoined, sample_bytes}
 use Rattle.mp4_present.proofs.Carrying.{BytesGoOn-nothing, BytesGoOn-then, BytesGoOn-fails, BytesGoOn-front}
 
 -- The bytes of the first samples follow; these are to come.

@@ -1,12 +1,12 @@
 -- What a walk holds, and what it has passed last, is said of few of its parts.
 use Rattle.std.proofs.Common.{◌≡◌, ℕ, List, length, Option, None, Some, refl, sym, ap, subst, ◌∙◌}
 use Rattle.std.specs.List.{slice_get}
-use Rattle.mp4_frag.specs.Fragments.{FragmentTree}
-use Rattle.mp4_head.specs.Tree.{TrackTree}
-use Rattle.mp4_present.specs.Coming.{HoldsNext, HoldsLast, StandsBefore}
-use Rattle.mp4_present.specs.Denotes.{FileTree}
-use Rattle.mp4_present.specs.Movies.{IsWhole, moof_box}
-use Rattle.mp4_present.specs.Outline.{box_at}
+use Rattle.mp4_frag.specs.format.Fragments.{FragmentTree}
+use Rattle.mp4_head.specs.format.Tree.{TrackTree}
+use Rattle.mp4_present.specs.words.SamplesComing.{HoldsNext, HoldsLast, StandsBefore}
+use Rattle.mp4_present.specs.format.Denotes.{FileTree}
+use Rattle.mp4_present.specs.words.Movies.{IsWhole, moof_box}
+use Rattle.mp4_present.specs.words.Outline.{box_at}
 use Rattle.mp4_present.specs.declared.in_hand.Place.{Place}
 use Rattle.mp4_present.specs.declared.walks.Due.{Due}
 use Rattle.mp4_present.specs.declared.walks.Mark.{Mark}

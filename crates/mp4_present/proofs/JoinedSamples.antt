@@ -2,14 +2,14 @@
 use Rattle.std.proofs.Common.{◌≡◌, ℕ, ◌+◌, ◌<◌, ◌≤◌, List, [], ◌∷◌, ◌++◌, length, take, drop, Some, refl, sym, ap, subst, ◌∙◌, zero, suc, arith}
 use Rattle.std.specs.Prelude.{min}
 use Rattle.std.specs.List.{slice_get, AllByRecursion}
-use Rattle.mp4_boxes.specs.Bytes.{sum_of}
+use Rattle.mp4_boxes.specs.format.Bytes.{sum_of}
 use Rattle.mp4_boxes.proofs.Each.{each_dropped}
 use Rattle.std.proofs.lemmas.Grind.{flat_map-append}
 use Rattle.std.proofs.lemmas.List.{append-nil}
-use Rattle.mp4_store.specs.Device.{range}
+use Rattle.mp4_store.specs.words.Device.{range}
 use Rattle.mp4_store.proofs.Known.{range-add}
 use Rattle.mp4_tables.specs.declared.sample.SampleAt.{SampleAt}
-use Rattle.mp4_present.specs.Joined.{AreJoined, sample_bytes}
+use Rattle.mp4_present.specs.words.Joined.{AreJoined, sample_bytes}
 
 -- the first and the rest
 pub first_of : (xs : List SampleAt) (s : SampleAt) → Some s ≡ slice_get xs 0 → xs ≡ s ∷ drop 1 xs

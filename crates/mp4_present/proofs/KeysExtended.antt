@@ -4,11 +4,11 @@ use Rattle.std.specs.Prelude.{◌==◌, replicate}
 use Rattle.std.specs.List.{AllByRecursion, list_any}
 use Rattle.std.proofs.lemmas.List.{map-append}
 use Rattle.mp4_boxes.proofs.Among.{true_false}
-use Rattle.mp4_tables.specs.Accepted.{AreDistinct}
-use Rattle.mp4_tables.specs.Repeated.{repeated}
-use Rattle.mp4_tables.specs.Groups.{GroupKey, Grouping, Groups, key_rank, same_key, keys_with, keys_after, index_at, put_group, put_indexes, maps_of}
-use Rattle.mp4_tables.specs.PlainSamples.{PlacedSample, with_groups}
-use Rattle.mp4_tables.specs.Timed.{padded, indexes, sample_at, timed}
+use Rattle.mp4_tables.specs.words.Accepted.{AreDistinct}
+use Rattle.mp4_tables.specs.format.Repeated.{repeated}
+use Rattle.mp4_tables.specs.format.Groups.{GroupKey, Grouping, Groups, key_rank, same_key, keys_with, keys_after, index_at, put_group, put_indexes, maps_of}
+use Rattle.mp4_tables.specs.format.PlainSamples.{PlacedSample, with_groups}
+use Rattle.mp4_tables.specs.words.Timed.{padded, indexes, sample_at, timed}
 use Rattle.mp4_tables.proofs.GroupsKept.{snoc_distinct, differs_from}
 use Rattle.mp4_tables.proofs.SampleLists.{put_not_in, absent}
 use Rattle.mp4_tables.proofs.NamedKeys.{IsAmong, by_rank, each_named}

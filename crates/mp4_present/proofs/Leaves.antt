@@ -2,22 +2,22 @@
 use Rattle.std.proofs.Common.{◌≡◌, ℕ, Bool, true, false, List, [], ◌∷◌, Option, Some, None, refl, sym, ap, subst, ◌∙◌, arith, inl, inr}
 use Rattle.std.specs.Prelude.{codes, bytes_eq, slice_index, ◌||◌}
 use Rattle.std.specs.List.{list_any}
-use Rattle.mp4_boxes.specs.Box.{Box}
-use Rattle.mp4_boxes.specs.Children.{of_kind, kept_kinds}
-use Rattle.mp4_boxes.specs.Layout.{Leaf, tkhd, data_entry_url, sample_entry, trex, leaf_fields, IsSound}
-use Rattle.mp4_boxes.specs.Places.{Scope, ruled, data_entries, sample_entries, Place, whole, at_kind, leaves, leaf_of, IsSoundAs, AreSound, StandsIn}
-use Rattle.mp4_boxes.specs.BoxFaults.{IsLeafFault}
+use Rattle.mp4_boxes.specs.format.Box.{Box}
+use Rattle.mp4_boxes.specs.format.Children.{of_kind, kept_kinds}
+use Rattle.mp4_boxes.specs.format.Layout.{Leaf, tkhd, data_entry_url, sample_entry, trex, leaf_fields, IsSound}
+use Rattle.mp4_boxes.specs.format.Places.{Scope, ruled, data_entries, sample_entries, Place, whole, at_kind, leaves, leaf_of, IsSoundAs, AreSound, StandsIn}
+use Rattle.mp4_boxes.specs.format.BoxFaults.{IsLeafFault}
 use Rattle.mp4_boxes.specs.declared.rule.Rule.TheVariants.{File, Movie, Track, Edits, Media, MediaInformation, DataInformation, SampleTable, MovieExtends, MovieFragment, TrackFragment}
 use Rattle.mp4_boxes.specs.declared.fault.Fault.{Fault}
 use Rattle.mp4_boxes.proofs.Among.{IsIn, true_false, all_in, in_of_kind, only_entry, entry_or, no_entry}
 use Rattle.mp4_boxes.proofs.Refusing.{stands_in, unsound, holds_only}
-use Rattle.mp4_frag.specs.Fragments.{trex_of}
-use Rattle.mp4_head.specs.Head.{names_item_location}
-use Rattle.mp4_head.specs.Tree.{TrackTree, IsSoundTrack, are_distinct, first_of, track_head_of}
+use Rattle.mp4_frag.specs.format.Fragments.{trex_of}
+use Rattle.mp4_head.specs.format.Head.{names_item_location}
+use Rattle.mp4_head.specs.format.Tree.{TrackTree, IsSoundTrack, are_distinct, first_of, track_head_of}
 use Rattle.mp4_head.proofs.Distinct.{distinct_same, map_twice, kept_names_none, payload_first}
-use Rattle.mp4_present.specs.Presentation.{Presentation}
-use Rattle.mp4_present.specs.Denotes.{FileTree, IsFileTree, IsSoundFile, IsSoundFragment, Denotes}
-use Rattle.mp4_present.specs.Stands.{StandsBy, leaf, IsTakenId, IsForeignReference, IsItemLocation}
+use Rattle.mp4_present.specs.format.Presentation.{Presentation}
+use Rattle.mp4_present.specs.format.Denotes.{FileTree, IsFileTree, IsSoundFile, IsSoundFragment, Denotes}
+use Rattle.mp4_present.specs.format.Stands.{StandsBy, leaf, IsTakenId, IsForeignReference, IsItemLocation}
 use Rattle.mp4_present.proofs.Chain.{AreOf, IsNamed, tiled, reached, among, is_first, track_tree}
 
 -- a leaf among sound ones is sound

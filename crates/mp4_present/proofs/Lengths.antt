@@ -4,21 +4,21 @@ use Rattle.std.specs.Prelude.{◌==◌, fold, codes}
 use Rattle.std.specs.List.{AllByRecursion}
 use Rattle.std.proofs.lemmas.List.{take_all}
 use Rattle.std.proofs.lemmas.List.Sums.{fold-append}
-use Rattle.mp4_boxes.specs.Box.{Box}
-use Rattle.mp4_boxes.specs.BoxFaults.{fault_of}
+use Rattle.mp4_boxes.specs.format.Box.{Box}
+use Rattle.mp4_boxes.specs.format.BoxFaults.{fault_of}
 use Rattle.mp4_boxes.specs.declared.fault.Fault.{Fault}
 use Rattle.mp4_boxes.specs.declared.fault.Kind.TheVariants.{TimeTooLarge, MovieTooLarge}
 use Rattle.mp4_boxes.proofs.Among.{all_append}
 use Rattle.mp4_frag.specs.declared.state.TrackState.{TrackState}
-use Rattle.mp4_head.specs.Head as heads
-use Rattle.mp4_head.specs.Parts.{capped}
-use Rattle.mp4_head.specs.Seen.{track_seen, movie_seen, tracks_seen}
-use Rattle.mp4_head.specs.Writing as written
+use Rattle.mp4_head.specs.format.Head as heads
+use Rattle.mp4_head.specs.words.Parts.{capped}
+use Rattle.mp4_head.specs.words.Seen.{track_seen, movie_seen, tracks_seen}
+use Rattle.mp4_head.specs.format.Writing as written
 use Rattle.mp4_head.specs.declared.heads.MovieHead.{MovieHead}
 use Rattle.mp4_head.specs.declared.heads.TrackHead.{TrackHead}
-use Rattle.mp4_present.specs.Presentation as presented
-use Rattle.mp4_present.specs.Presentation.{Presentation, Track, IsInTime, max_moov, movie_length, normal_moov_length}
-use Rattle.mp4_present.specs.Measured.{IsMeasured, AreMeasured, IsMeasure, LimitFails}
+use Rattle.mp4_present.specs.format.Presentation as presented
+use Rattle.mp4_present.specs.format.Presentation.{Presentation, Track, IsInTime, max_moov, movie_length, normal_moov_length}
+use Rattle.mp4_present.specs.words.Measured.{IsMeasured, AreMeasured, IsMeasure, LimitFails}
 
 -- ---- edits
 

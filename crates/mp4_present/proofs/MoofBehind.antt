@@ -5,22 +5,22 @@ use Rattle.std.specs.List.{AllByRecursion}
 use Rattle.std.proofs.lemmas.Grind.{flat_map-append}
 use Rattle.std.proofs.lemmas.List.{append-nil, map-append}
 use Rattle.std.proofs.lemmas.Option.{slice_get-map}
-use Rattle.mp4_boxes.specs.Bytes.{sum_of}
-use Rattle.mp4_boxes.specs.Box.{Box}
-use Rattle.mp4_boxes.specs.Children.{of_kind}
+use Rattle.mp4_boxes.specs.format.Bytes.{sum_of}
+use Rattle.mp4_boxes.specs.format.Box.{Box}
+use Rattle.mp4_boxes.specs.format.Children.{of_kind}
 use Rattle.mp4_frag.specs.declared.state.TrackState.{TrackState}
 use Rattle.mp4_frag.specs.declared.trex.Trex.{Trex}
-use Rattle.mp4_frag.specs.Fragments.{FragmentTree, IsFragmentTree, TrackFragment, fragment_of, track_fragment_of}
-use Rattle.mp4_frag.specs.FragmentSamples.{Part, parts_after, parts_of, trex_for, no_trex}
-use Rattle.mp4_frag.specs.Judged.{TrackSeen, track_seen, track_behind, IsPlacedWithin, IsMovedOn, AreMovedOn, AreTrexesOf, part_with, end_with, tree_of}
-use Rattle.mp4_frag.specs.RunsJudged.{children_of}
+use Rattle.mp4_frag.specs.format.Fragments.{FragmentTree, IsFragmentTree, TrackFragment, fragment_of, track_fragment_of}
+use Rattle.mp4_frag.specs.format.FragmentSamples.{Part, parts_after, parts_of, trex_for, no_trex}
+use Rattle.mp4_frag.specs.words.Judged.{TrackSeen, track_seen, track_behind, IsPlacedWithin, IsMovedOn, AreMovedOn, AreTrexesOf, part_with, end_with, tree_of}
+use Rattle.mp4_frag.specs.words.RunsJudged.{children_of}
 use Rattle.mp4_frag.proofs.PartReasons.{part_counts}
 use Rattle.mp4_frag.proofs.SeenLists.{find_map}
-use Rattle.mp4_head.specs.Tree.{TrackTree, MovieTree, trexes_of, are_distinct}
-use Rattle.mp4_present.specs.Denotes.{IsSoundFragment}
-use Rattle.mp4_present.specs.Presentation.{max_samples}
-use Rattle.mp4_present.specs.Stands.{run_total, table_total, trafs_total}
-use Rattle.mp4_present.specs.Passing.{AreBehind, BeginsBehind, PassesMoof, TrexesBehind, parts_behind, seen_behind}
+use Rattle.mp4_head.specs.format.Tree.{TrackTree, MovieTree, trexes_of, are_distinct}
+use Rattle.mp4_present.specs.format.Denotes.{IsSoundFragment}
+use Rattle.mp4_present.specs.format.Presentation.{max_samples}
+use Rattle.mp4_present.specs.format.Stands.{run_total, table_total, trafs_total}
+use Rattle.mp4_present.specs.words.Passing.{AreBehind, BeginsBehind, PassesMoof, TrexesBehind, parts_behind, seen_behind}
 use Rattle.mp4_boxes.proofs.Among.{head_is, tail_is}
 use Rattle.mp4_present.proofs.Counts.{sum-append}
 use Rattle.mp4_present.proofs.PlainLists.{all_push}

@@ -1,8 +1,8 @@
 -- The steps of the checks of all `moof`s of a file, by their bytes.
 use Rattle.std.proofs.Common.{◌≡◌, ℕ, ◌+◌, ◌-◌, ◌*◌, ◌^◌, ◌≤◌, ◌++◌, List, take, length, sym, ap, ◌∙◌, arith, length-take}
 use Rattle.std.proofs.Math.Seq.{take-append_seam}
-use Rattle.mp4_boxes.specs.Box.{Box}
-use Rattle.mp4_present.specs.Movies.{IsWhole}
+use Rattle.mp4_boxes.specs.format.Box.{Box}
+use Rattle.mp4_present.specs.words.Movies.{IsWhole}
 use Rattle.mp4_present.specs.declared.reading.TopBox.{TopBox}
 use Rattle.mp4_present.proofs.MoofsPassed.{IsRead}
 

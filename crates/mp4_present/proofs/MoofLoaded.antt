@@ -2,29 +2,29 @@
 use Rattle.std.proofs.Common.{◌≡◌, ℕ, ◌+◌, ◌≤◌, true, false, List, [], ◌∷◌, ◌++◌, Some, None, max, length, take, map, refl, sym, ap, subst, ◌∙◌, arith, append_assoc, slice_get, length-take}
 use Rattle.std.specs.Prelude.{codes, fold, bytes_eq, Bool, IsTrue}
 use Rattle.std.proofs.lemmas.List.{append-nil}
-use Rattle.mp4_store.specs.Device.{range}
-use Rattle.mp4_boxes.specs.Box.{Box, size, sizes}
-use Rattle.mp4_boxes.specs.Children.{of_kind}
+use Rattle.mp4_store.specs.words.Device.{range}
+use Rattle.mp4_boxes.specs.format.Box.{Box, size, sizes}
+use Rattle.mp4_boxes.specs.format.Children.{of_kind}
 use Rattle.mp4_boxes.specs.declared.refusal.Refusal.{Refusal}
 use Rattle.mp4_boxes.specs.declared.refusal.Refusal.TheVariants as refusals
 use Rattle.mp4_boxes.proofs.Among.{of_kind-append}
 use Rattle.mp4_boxes.proofs.Tiling.{sizes-append}
-use Rattle.mp4_tables.specs.Timed.{timed}
+use Rattle.mp4_tables.specs.words.Timed.{timed}
 use Rattle.mp4_tables.specs.declared.sample.SampleAt.{SampleAt}
-use Rattle.mp4_frag.specs.Fragments.{FragmentTree}
-use Rattle.mp4_frag.specs.FragmentSamples.{duration_of, fragment_samples}
+use Rattle.mp4_frag.specs.format.Fragments.{FragmentTree}
+use Rattle.mp4_frag.specs.format.FragmentSamples.{duration_of, fragment_samples}
 use Rattle.mp4_frag.proofs.RunsTied.{timed-append, duration-append}
-use Rattle.mp4_head.specs.Tree.{TrackTree, track_head_of}
-use Rattle.mp4_present.specs.Again.{AreFrom, IsNextFragment, RefusesNext}
-use Rattle.mp4_present.specs.Denotes.{FileTree, file_parts, first_due}
-use Rattle.mp4_present.specs.Outline.{box_at, longest}
-use Rattle.mp4_present.specs.OpenedMovie.{IsOpenedAs}
-use Rattle.mp4_present.specs.InHand.{left_in_hand}
-use Rattle.mp4_present.specs.Movies.{MovieSeen, InHandOf, IsWhole, Fills, moof_box}
+use Rattle.mp4_head.specs.format.Tree.{TrackTree, track_head_of}
+use Rattle.mp4_present.specs.words.Again.{AreFrom, IsNextFragment, RefusesNext}
+use Rattle.mp4_present.specs.format.Denotes.{FileTree, file_parts, first_due}
+use Rattle.mp4_present.specs.words.Outline.{box_at, longest}
+use Rattle.mp4_present.specs.words.OpenedMovie.{IsOpenedAs}
+use Rattle.mp4_present.specs.words.InHand.{left_in_hand}
+use Rattle.mp4_present.specs.words.Movies.{MovieSeen, InHandOf, IsWhole, Fills, moof_box}
 use Rattle.mp4_present.specs.declared.in_hand.InHand.{InHand}
-use Rattle.mp4_present.specs.Passing.{parts_behind}
-use Rattle.mp4_present.specs.Reading.{RefusesPayload}
-use Rattle.mp4_present.specs.Coming.{track_keys, due_behind, samples_behind, StandsBefore, Comes, HoldsNext, Takes}
+use Rattle.mp4_present.specs.words.Passing.{parts_behind}
+use Rattle.mp4_present.specs.words.Reading.{RefusesPayload}
+use Rattle.mp4_present.specs.words.SamplesComing.{track_keys, due_behind, samples_behind, StandsBefore, Comes, HoldsNext, Takes}
 use Rattle.mp4_present.specs.declared.reading.TopBox.{TopBox}
 use Rattle.mp4_present.specs.declared.walks.Walk.{Walk}
 use Rattle.mp4_present.proofs.FragmentPass.{Left, left_next, behind, whole_file, longest_from, size_at}

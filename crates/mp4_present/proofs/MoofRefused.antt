@@ -2,21 +2,21 @@
 use Rattle.std.proofs.Common.{◌≡◌, ℕ, List, [], ◌∷◌, ◌++◌, length, map, inl, inr, refl, sym, ap, subst, ◌∙◌, append_assoc}
 use Rattle.std.specs.Prelude.{ℤ, pos, codes, slice_get}
 use Rattle.std.specs.List.{AllByRecursion}
-use Rattle.mp4_boxes.specs.Box.{Box, box_container}
-use Rattle.mp4_boxes.specs.Children.{of_kind, Holds}
-use Rattle.mp4_boxes.specs.Layout.{tfhd, tfdt, trun, sbgp}
-use Rattle.mp4_boxes.specs.Places.{ruled, AreSound, whole, Reaches}
+use Rattle.mp4_boxes.specs.format.Box.{Box, box_container}
+use Rattle.mp4_boxes.specs.format.Children.{of_kind, Holds}
+use Rattle.mp4_boxes.specs.format.Layout.{tfhd, tfdt, trun, sbgp}
+use Rattle.mp4_boxes.specs.format.Places.{ruled, AreSound, whole, Reaches}
 use Rattle.mp4_boxes.specs.declared.rule.Rule.TheVariants as rules
 use Rattle.mp4_boxes.specs.declared.fault.Fault.{Fault}
-use Rattle.mp4_boxes.specs.BoxFaults.{fault_of}
-use Rattle.mp4_tables.specs.Keys.{keys_seen}
-use Rattle.mp4_frag.specs.Fragments.{FragmentTree, AreTrafs}
-use Rattle.mp4_frag.specs.FragmentSamples.{base_of, runs_samples}
-use Rattle.mp4_frag.specs.Judged.{IsPlacedWithin, part_with, end_with}
-use Rattle.mp4_frag.specs.Reading.{inheritance}
-use Rattle.mp4_frag.specs.RunsJudged.{children_of, runs_in, runs_total, all_end}
-use Rattle.mp4_frag.specs.GroupsJudged.{groups_in}
-use Rattle.mp4_frag.specs.TrafFaults.{HoldsBoxes, HasHead, IsTrackOf, HasSoundRuns, traf_in, TrafFails, TrafsFail, children_fail, head_fails, no_track, time_fails, runs_fail, no_description, groups_fail, not_due}
+use Rattle.mp4_boxes.specs.format.BoxFaults.{fault_of}
+use Rattle.mp4_tables.specs.words.Keys.{keys_seen}
+use Rattle.mp4_frag.specs.format.Fragments.{FragmentTree, AreTrafs}
+use Rattle.mp4_frag.specs.format.FragmentSamples.{base_of, runs_samples}
+use Rattle.mp4_frag.specs.words.Judged.{IsPlacedWithin, part_with, end_with}
+use Rattle.mp4_frag.specs.words.Reading.{inheritance}
+use Rattle.mp4_frag.specs.words.RunsJudged.{children_of, runs_in, runs_total, all_end}
+use Rattle.mp4_frag.specs.words.GroupsJudged.{groups_in}
+use Rattle.mp4_frag.specs.words.TrafFaults.{HoldsBoxes, HasHead, IsTrackOf, HasSoundRuns, traf_in, TrafFails, TrafsFail, children_fail, head_fails, no_track, time_fails, runs_fail, no_description, groups_fail, not_due}
 use Rattle.mp4_frag.specs.declared.state.TrackState.{TrackState}
 use Rattle.mp4_frag.specs.declared.trex.Trex.{Trex}
 use Rattle.mp4_frag.proofs.MoofPassed.{same_trex}
@@ -24,9 +24,9 @@ use Rattle.mp4_frag.proofs.RunsTied.{run_in}
 use Rattle.mp4_frag.proofs.TrafPassed.{samples_at}
 use Rattle.mp4_frag.proofs.RunReasons.{FailingRun, failing_run, run_reason, run_there, run_outside}
 use Rattle.mp4_frag.proofs.GroupReasons.{FailingGroup, failing_group}
-use Rattle.mp4_head.specs.Tree.{MovieTree}
-use Rattle.mp4_present.specs.Stands.{Stands}
-use Rattle.mp4_present.specs.Passing.{AreBehind, IsMovieOf, IsNextMoof, RefusesMoof}
+use Rattle.mp4_head.specs.format.Tree.{MovieTree}
+use Rattle.mp4_present.specs.format.Stands.{Stands}
+use Rattle.mp4_present.specs.words.Passing.{AreBehind, IsMovieOf, IsNextMoof, RefusesMoof}
 use Rattle.mp4_present.proofs.MoofBehind.{IsInside, inside_more, inside_none}
 use Rattle.mp4_present.proofs.TrafPlaces.{place_of, moof_reached, traf_reached, child_stands, leaf_stands}
 use Rattle.mp4_present.proofs.TrafStands.{IsAt, front_readable, groups_readable, unknown_stands, description_stands, place_stands, many_stand, group_stands, late_stands}

@@ -5,19 +5,19 @@ use Rattle.std.specs.List.{AllByRecursion}
 use Rattle.std.proofs.lemmas.Bool.{eqb-true, and_parts}
 use Rattle.mp4_boxes.proofs.Among.{head_is, tail_is, all_at}
 use Rattle.mp4_boxes.proofs.Joined.{all_first, all_last}
-use Rattle.mp4_tables.specs.Groups.{GroupKey, keys_after}
-use Rattle.mp4_frag.specs.Fragments.{FragmentTree, IsFragmentTree, fragment_of}
-use Rattle.mp4_frag.specs.FragmentSamples.{Part, parts_of, parts_for, trex_for, AreGrouped}
-use Rattle.mp4_frag.specs.FragmentRules.{TrackInfo, track_for, is_known, is_within}
-use Rattle.mp4_frag.specs.Judged.{AreTrexesOf, IsSoundMoof, IsGrouped, IsPlacedWithin, TrackSeen, track_seen, is_known_among}
-use Rattle.mp4_frag.specs.Walks.{trex_among}
+use Rattle.mp4_tables.specs.format.Groups.{GroupKey, keys_after}
+use Rattle.mp4_frag.specs.format.Fragments.{FragmentTree, IsFragmentTree, fragment_of}
+use Rattle.mp4_frag.specs.format.FragmentSamples.{Part, parts_of, parts_for, trex_for, AreGrouped}
+use Rattle.mp4_frag.specs.format.FragmentRules.{TrackInfo, track_for, is_known, is_within}
+use Rattle.mp4_frag.specs.words.Judged.{AreTrexesOf, IsSoundMoof, IsGrouped, IsPlacedWithin, TrackSeen, track_seen, is_known_among}
+use Rattle.mp4_frag.specs.words.Walks.{trex_among}
 use Rattle.mp4_frag.specs.declared.state.TrackState.{TrackState}
 use Rattle.mp4_frag.specs.declared.trex.Trex.{Trex}
-use Rattle.mp4_head.specs.Tree.{TrackTree, track_head_of, trexes_of}
-use Rattle.mp4_present.specs.Denotes.{FileTree, IsSoundFragment, track_infos, file_parts, parts_of_track, plain_keys}
-use Rattle.mp4_present.specs.Passing.{parts_behind}
-use Rattle.mp4_present.specs.Movies.{MovieSeen}
-use Rattle.mp4_present.specs.OpenedMovie.{IsOpenedAs, plain_seen}
+use Rattle.mp4_head.specs.format.Tree.{TrackTree, track_head_of, trexes_of}
+use Rattle.mp4_present.specs.format.Denotes.{FileTree, IsSoundFragment, track_infos, file_parts, parts_of_track, plain_keys}
+use Rattle.mp4_present.specs.words.Passing.{parts_behind}
+use Rattle.mp4_present.specs.words.Movies.{MovieSeen}
+use Rattle.mp4_present.specs.words.OpenedMovie.{IsOpenedAs, plain_seen}
 use Rattle.mp4_present.proofs.DueBehind.{parts_more}
 
 abbrev id_of : TrackTree → ℕ

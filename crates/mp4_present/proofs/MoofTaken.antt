@@ -4,30 +4,30 @@ use Rattle.std.specs.Prelude.{codes, bytes_eq, flat_map, option_map}
 use Rattle.std.specs.List.{AllZip}
 use Rattle.std.proofs.lemmas.List.{map-append}
 use Rattle.std.proofs.lemmas.Option.{slice_get-map}
-use Rattle.mp4_boxes.specs.Box.{Box, size, sizes}
-use Rattle.mp4_boxes.specs.Children.{of_kind}
+use Rattle.mp4_boxes.specs.format.Box.{Box, size, sizes}
+use Rattle.mp4_boxes.specs.format.Children.{of_kind}
 use Rattle.mp4_boxes.proofs.Among.{of_kind-append}
 use Rattle.mp4_boxes.proofs.Tiling.{sizes-append, sizes-cons}
-use Rattle.mp4_tables.specs.Accepted.{AreDistinct}
-use Rattle.mp4_tables.specs.Keys.{keys_seen}
-use Rattle.mp4_tables.specs.PlainSamples.{PlacedSample}
-use Rattle.mp4_tables.specs.Tables.{tables_of}
-use Rattle.mp4_tables.specs.Timed.{timed}
+use Rattle.mp4_tables.specs.words.Accepted.{AreDistinct}
+use Rattle.mp4_tables.specs.words.Keys.{keys_seen}
+use Rattle.mp4_tables.specs.format.PlainSamples.{PlacedSample}
+use Rattle.mp4_tables.specs.format.Tables.{tables_of}
+use Rattle.mp4_tables.specs.words.Timed.{timed}
 use Rattle.mp4_tables.specs.declared.sample.SampleAt.{SampleAt}
-use Rattle.mp4_frag.specs.Fragments.{FragmentTree}
-use Rattle.mp4_frag.specs.FragmentSamples.{Part, start_of, duration_of, fragment_samples}
-use Rattle.mp4_frag.specs.Judged.{AreTrexesOf, IsSoundMoof, TrackSeen, track_seen, samples_of_track}
-use Rattle.mp4_frag.specs.Walks.{samples_in}
+use Rattle.mp4_frag.specs.format.Fragments.{FragmentTree}
+use Rattle.mp4_frag.specs.format.FragmentSamples.{Part, start_of, duration_of, fragment_samples}
+use Rattle.mp4_frag.specs.words.Judged.{AreTrexesOf, IsSoundMoof, TrackSeen, track_seen, samples_of_track}
+use Rattle.mp4_frag.specs.words.Walks.{samples_in}
 use Rattle.mp4_frag.specs.declared.state.TrackState.{TrackState}
 use Rattle.mp4_frag.specs.declared.trex.Trex.{Trex}
 use Rattle.mp4_frag.proofs.RunsTied.{duration-append}
-use Rattle.mp4_head.specs.Tree.{TrackTree, track_head_of, trexes_of}
-use Rattle.mp4_present.specs.Presentation.{IsInTime, total_duration, max_time}
-use Rattle.mp4_present.specs.Denotes.{FileTree, plain_of, file_parts, first_due, parts_of_track, placed_of, sample_of, track_of, presentation_of}
-use Rattle.mp4_present.specs.Passing.{parts_behind}
-use Rattle.mp4_present.specs.OpenedMovie.{IsOpenedAs, IsInfoOf}
-use Rattle.mp4_present.specs.Movies.{MovieSeen, moof_box, all_in_moof}
-use Rattle.mp4_present.specs.Coming.{track_keys, due_behind, samples_behind, StandsBefore, HoldsNext, HoldsLast}
+use Rattle.mp4_head.specs.format.Tree.{TrackTree, track_head_of, trexes_of}
+use Rattle.mp4_present.specs.format.Presentation.{IsInTime, total_duration, max_time}
+use Rattle.mp4_present.specs.format.Denotes.{FileTree, plain_of, file_parts, first_due, parts_of_track, placed_of, sample_of, track_of, presentation_of}
+use Rattle.mp4_present.specs.words.Passing.{parts_behind}
+use Rattle.mp4_present.specs.words.OpenedMovie.{IsOpenedAs, IsInfoOf}
+use Rattle.mp4_present.specs.words.Movies.{MovieSeen, moof_box, all_in_moof}
+use Rattle.mp4_present.specs.words.SamplesComing.{track_keys, due_behind, samples_behind, StandsBefore, HoldsNext, HoldsLast}
 use Rattle.mp4_present.specs.declared.track_info.TrackInfo.{TrackInfo}
 use Rattle.mp4_present.specs.declared.walks.Due.{Due}
 use Rattle.mp4_present.specs.declared.walks.Walk.{Walk}
@@ -36,7 +36,7 @@ use Rattle.mp4_present.proofs.MoofLoaded.{behind_split, due_more}
 use Rattle.mp4_present.proofs.HeldAgain.{HoldSame, holds_as}
 use Rattle.mp4_present.proofs.MoofSound.{moof_sound, kept_trexes}
 use Rattle.mp4_tables.proofs.Sums.{timed_lasts}
-use Rattle.mp4_boxes.specs.Bytes.{sum_of}
+use Rattle.mp4_boxes.specs.format.Bytes.{sum_of}
 use Rattle.mp4_present.proofs.KeysExtended.{distinct_keys}
 use Rattle.mp4_present.proofs.WalkPlaces.{of_got}
 

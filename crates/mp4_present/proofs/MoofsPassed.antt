@@ -3,10 +3,10 @@ use Rattle.std.proofs.Common.{◌≡◌, ℕ, ◌+◌, ◌≤◌, true, false, B
 use Rattle.std.specs.Prelude.{codes, unwrap_or, IsTrue, bytes_eq}
 use Rattle.std.specs.List.{AllByRecursion}
 use Rattle.std.proofs.lemmas.List.{append-nil, map-append}
-use Rattle.mp4_store.specs.Device.{range}
-use Rattle.mp4_boxes.specs.Bytes.{AreBytes}
-use Rattle.mp4_boxes.specs.Box.{Box, LieEndToEnd, file_container}
-use Rattle.mp4_boxes.specs.Children.{Holds, of_kind}
+use Rattle.mp4_store.specs.words.Device.{range}
+use Rattle.mp4_boxes.specs.format.Bytes.{AreBytes}
+use Rattle.mp4_boxes.specs.format.Box.{Box, LieEndToEnd, file_container}
+use Rattle.mp4_boxes.specs.format.Children.{Holds, of_kind}
 use Rattle.mp4_boxes.specs.declared.fault.Fault.{Fault}
 use Rattle.mp4_boxes.specs.declared.refusal.Refusal.{Refusal}
 use Rattle.mp4_boxes.specs.declared.refusal.Refusal.TheVariants as refusals
@@ -14,27 +14,27 @@ use Rattle.mp4_boxes.specs.declared.rule.Rule.TheVariants.{File}
 use Rattle.mp4_boxes.proofs.Among.{of_kind-append, head_is, tail_is, all_append}
 use Rattle.mp4_boxes.proofs.OfBytes.{bytes_taken}
 use Rattle.mp4_boxes.proofs.Tiling.{tiles_one}
-use Rattle.mp4_frag.specs.Fragments.{FragmentTree}
-use Rattle.mp4_frag.specs.Judged.{AreTrexesOf, IsSoundMoof, AreMovedOn, tree_of}
-use Rattle.mp4_frag.specs.RunsJudged.{children_of}
-use Rattle.mp4_frag.specs.TrafFaults.{MoofFails}
+use Rattle.mp4_frag.specs.format.Fragments.{FragmentTree}
+use Rattle.mp4_frag.specs.words.Judged.{AreTrexesOf, IsSoundMoof, AreMovedOn, tree_of}
+use Rattle.mp4_frag.specs.words.RunsJudged.{children_of}
+use Rattle.mp4_frag.specs.words.TrafFaults.{MoofFails}
 use Rattle.mp4_frag.specs.declared.state.TrackState.{TrackState}
 use Rattle.mp4_frag.specs.declared.trex.Trex.{Trex}
-use Rattle.mp4_head.specs.Tree.{MovieTree, trexes_of}
+use Rattle.mp4_head.specs.format.Tree.{MovieTree, trexes_of}
 use Rattle.mp4_head.proofs.Above.{lies_front}
-use Rattle.mp4_present.specs.Again.{IsNextFragment}
-use Rattle.mp4_present.specs.Denotes.{begins_with_movie}
-use Rattle.mp4_present.specs.Movies.{IsWhole}
-use Rattle.mp4_present.specs.Outline.{IsOutline, box_at, longest}
-use Rattle.mp4_present.specs.PassedMoofs.{IsBegun, IsPassed, RefusesFragments}
-use Rattle.mp4_present.specs.Passing.{AreBehind, IsNextMoof}
-use Rattle.mp4_present.specs.Reading.{RefusesPayload}
-use Rattle.mp4_present.specs.Stands.{Stands}
+use Rattle.mp4_present.specs.words.Again.{IsNextFragment}
+use Rattle.mp4_present.specs.format.Denotes.{begins_with_movie}
+use Rattle.mp4_present.specs.words.Movies.{IsWhole}
+use Rattle.mp4_present.specs.words.Outline.{IsOutline, box_at, longest}
+use Rattle.mp4_present.specs.words.PassedMoofs.{IsBegun, IsPassed, RefusesFragments}
+use Rattle.mp4_present.specs.words.Passing.{AreBehind, IsNextMoof}
+use Rattle.mp4_present.specs.words.Reading.{RefusesPayload}
+use Rattle.mp4_present.specs.format.Stands.{Stands}
 use Rattle.mp4_present.specs.declared.outline.Outline.{Outline}
 use Rattle.mp4_present.specs.declared.reading.TopBox.{TopBox}
 use Rattle.mp4_present.proofs.FragmentPass.{Left, Next, left_at, left_next, next_boxes, first_passed, whole_file}
 use Rattle.mp4_present.proofs.Opened.{moov_is}
-use Rattle.mp4_present.specs.Movies.{Fills}
+use Rattle.mp4_present.specs.words.Movies.{Fills}
 use Rattle.mp4_present.proofs.MoofBehind.{passes_moof, trexes_behind}
 use Rattle.mp4_present.proofs.MoofRefused.{refuses_moof}
 use Rattle.mp4_present.proofs.Order.{not_first}

@@ -2,34 +2,35 @@
 use Rattle.std.proofs.Common.{◌⊎◌, ◌≡◌, ℕ, ◌+◌, ◌-◌, Bool, true, false, List, [], ◌∷◌, ◌++◌, length, take, drop, refl, sym, ap, subst, ◌∙◌, arith, inl, inr, append_assoc}
 use Rattle.std.specs.Prelude.{codes, bytes_eq, map, IsTrue, cond}
 use Rattle.std.proofs.lemmas.Slice.Eq.{bytes_eq-Decides}
-use Rattle.mp4_store.specs.Device.{range}
-use Rattle.mp4_boxes.specs.Box.{Box, LieEndToEnd, file_container, size, StandsAfter}
-use Rattle.mp4_boxes.specs.Children.{Holds, of_kind}
-use Rattle.mp4_boxes.specs.Places.{whole, ruled}
+use Rattle.mp4_store.specs.words.Device.{range}
+use Rattle.mp4_boxes.specs.format.Box.{Box, LieEndToEnd, file_container, size, StandsAfter}
+use Rattle.mp4_boxes.specs.format.Children.{Holds, of_kind}
+use Rattle.mp4_boxes.specs.format.Places.{whole, ruled}
 use Rattle.mp4_boxes.specs.declared.rule.Rule.TheVariants.{File, Movie}
 use Rattle.mp4_boxes.specs.declared.fault.Fault.{Fault}
 use Rattle.mp4_boxes.specs.declared.refusal.Refusal.{Refusal}
 use Rattle.mp4_boxes.specs.declared.refusal.Refusal.TheVariants as refusals
-use Rattle.mp4_head.specs.HeadFaults.{HeadStands, HeaderStands, ChildStands, MissingStands, LeafStands}
-use Rattle.mp4_head.specs.Refuses.{place_of, RefusesIn}
-use Rattle.mp4_head.specs.Head as heads
-use Rattle.mp4_head.specs.Tree.{TrackTree, MovieTree, IsTrackTree, IsSoundTrack, track_head_of}
-use Rattle.mp4_head.specs.Found.{SaysHead, IsFoundIn}
+use Rattle.mp4_head.specs.format.HeadFaults.{HeadStands, HeaderStands, ChildStands, MissingStands, LeafStands}
+use Rattle.mp4_head.specs.words.Refuses.{place_of, RefusesIn}
+use Rattle.mp4_head.specs.format.Head as heads
+use Rattle.mp4_head.specs.format.Tree.{TrackTree, MovieTree, IsTrackTree, IsSoundTrack, track_head_of}
+use Rattle.mp4_head.specs.words.Found.{SaysHead, IsFoundIn}
 use Rattle.mp4_boxes.proofs.Among.{head_is, tail_is}
 use Rattle.std.specs.List.{AllByRecursion, AllZip}
-use Rattle.mp4_head.specs.Seen.{track_seen}
+use Rattle.mp4_head.specs.words.Seen.{track_seen}
 use Rattle.mp4_head.specs.declared.heads.TrackHead.{TrackHead}
 use Rattle.mp4_head.specs.declared.heads.MovieHead.{MovieHead}
 use Rattle.mp4_head.proofs.Above.{stands_in_file}
-use Rattle.mp4_present.specs.Movies.{Fills}
-use Rattle.mp4_present.specs.Outline.{box_at}
-use Rattle.mp4_present.specs.Opening.{HasOutline, HasMovie, RefusesOpen}
-use Rattle.mp4_present.specs.PassedMoofs.{IsBegun, RefusesFragments}
+use Rattle.mp4_present.specs.words.Movies.{Fills}
+use Rattle.mp4_present.specs.words.Outline.{box_at}
+use Rattle.mp4_present.specs.words.Opening.{HasOutline, RefusesOpen}
+use Rattle.mp4_present.specs.format.Denotes.{HasMovie}
+use Rattle.mp4_present.specs.words.PassedMoofs.{IsBegun, RefusesFragments}
 use Rattle.mp4_frag.specs.declared.state.TrackState.{TrackState}
-use Rattle.mp4_present.specs.TrackTrees.{AreTracksOf, RefusesTables, TablesFail}
+use Rattle.mp4_present.specs.words.TrackTrees.{AreTracksOf, RefusesTables, TablesFail}
 use Rattle.mp4_present.proofs.TablesStand.{tables_stand}
-use Rattle.mp4_present.specs.Denotes.{begins_with_movie}
-use Rattle.mp4_present.specs.Stands.{Stands, header, child, missing, leaf}
+use Rattle.mp4_present.specs.format.Denotes.{begins_with_movie}
+use Rattle.mp4_present.specs.format.Stands.{Stands, header, child, missing, leaf}
 use Rattle.mp4_present.specs.declared.reading.TopBox.{TopBox}
 use Rattle.mp4_present.specs.declared.outline.Outline.{Outline}
 

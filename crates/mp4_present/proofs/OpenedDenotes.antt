@@ -1,10 +1,10 @@
 -- An opened movie is one of the presentation that its file denotes.
 use Rattle.std.proofs.Common.{List, ℕ, [], ◌∷◌, map, refl}
 use Rattle.std.specs.List.{AllZip}
-use Rattle.mp4_head.specs.Tree.{TrackTree}
-use Rattle.mp4_present.specs.Denotes.{FileTree, file_parts, track_of, presentation_of}
-use Rattle.mp4_present.specs.Movies.{MovieSeen}
-use Rattle.mp4_present.specs.OpenedMovie.{IsInfoOf, IsOpenedAs, IsTrackIn, OpensAs}
+use Rattle.mp4_head.specs.format.Tree.{TrackTree}
+use Rattle.mp4_present.specs.format.Denotes.{FileTree, file_parts, track_of, presentation_of}
+use Rattle.mp4_present.specs.words.Movies.{MovieSeen}
+use Rattle.mp4_present.specs.words.OpenedMovie.{IsInfoOf, IsOpenedAs, IsTrackIn, OpensAs}
 use Rattle.mp4_present.specs.declared.track_info.TrackInfo.{TrackInfo}
 
 tracks_in : (file : List ℕ) (tree : FileTree) (ts : List TrackTree) (infos : List TrackInfo) → AllZip (IsInfoOf file tree) ts infos → AllZip IsTrackIn (map (track_of file (file_parts tree)) ts) infos

@@ -3,17 +3,17 @@ use Rattle.std.proofs.Common.{Bool, List, map, take, drop, inl, inr, refl, lengt
 use Rattle.std.specs.Prelude.{IsTrue}
 use Rattle.std.proofs.Math.Nat.{mul-add, mul-le-mul_left}
 use Rattle.std.proofs.lemmas.List.{length-map}
-use Rattle.mp4_boxes.specs.Box.{Box}
-use Rattle.mp4_tables.specs.Accepted.{rows_in, tables_at}
-use Rattle.mp4_tables.specs.Leaves.{TablesRead}
-use Rattle.mp4_tables.specs.Tables.{Tables}
-use Rattle.mp4_tables.specs.Views.{TablesSeen, tables_seen}
+use Rattle.mp4_boxes.specs.format.Box.{Box}
+use Rattle.mp4_tables.specs.words.Accepted.{rows_in, tables_at}
+use Rattle.mp4_tables.specs.words.Leaves.{TablesRead}
+use Rattle.mp4_tables.specs.format.Tables.{Tables}
+use Rattle.mp4_tables.specs.words.TablesSeen.{TablesSeen, tables_seen}
 use Rattle.mp4_tables.proofs.Passed.{rows_fit}
 use Rattle.mp4_tables.proofs.PlaceLists.{count_is}
-use Rattle.mp4_head.specs.Found.{LiesIn, SaysHead}
+use Rattle.mp4_head.specs.words.Found.{LiesIn, SaysHead}
 use Rattle.mp4_head.specs.declared.heads.MovieHead.{MovieHead}
 use Rattle.mp4_head.specs.declared.heads.TrackHead.{TrackHead}
-use Rattle.mp4_present.specs.Work.{OpensWithin}
+use Rattle.mp4_present.specs.words.WalkSteps.{OpensWithin}
 use Rattle.mp4_present.specs.declared.outline.Outline.{Outline}
 use Rattle.mp4_present.proofs.Opened.{IsRead, its_movie}
 

@@ -1,22 +1,22 @@
 -- The steps of opening a file.
 use Rattle.std.proofs.Common.{◌≡◌, ℕ, ◌+◌, ◌≤◌, Bool, List, [], ◌∷◌, refl, sym, ap, subst, ◌∙◌, arith}
 use Rattle.std.specs.Prelude.{codes, map, IsTrue}
-use Rattle.mp4_boxes.specs.Bytes.{sum_of}
-use Rattle.mp4_boxes.specs.Box.{Box, file_container}
-use Rattle.mp4_boxes.specs.Children.{of_kind}
+use Rattle.mp4_boxes.specs.format.Bytes.{sum_of}
+use Rattle.mp4_boxes.specs.format.Box.{Box, file_container}
+use Rattle.mp4_boxes.specs.format.Children.{of_kind}
 use Rattle.mp4_boxes.proofs.Among.{head_is}
 use Rattle.mp4_boxes.proofs.Tiling.{tiles_one}
-use Rattle.mp4_frag.specs.Fragments.{FragmentTree}
-use Rattle.mp4_head.specs.Found.{SaysHead}
-use Rattle.mp4_head.specs.Tree.{MovieTree}
+use Rattle.mp4_frag.specs.format.Fragments.{FragmentTree}
+use Rattle.mp4_head.specs.words.Found.{SaysHead}
+use Rattle.mp4_head.specs.format.Tree.{MovieTree}
 use Rattle.mp4_head.specs.declared.heads.MovieHead.{MovieHead}
 use Rattle.mp4_head.proofs.Trees.{movie_tree_one}
-use Rattle.mp4_present.specs.Denotes.{FileTree, IsFileTree}
-use Rattle.mp4_present.specs.Movies.{MovieSeen}
-use Rattle.mp4_present.specs.OpenedMovie.{IsOpenedAs}
-use Rattle.mp4_present.specs.Opening.{IsOpened}
-use Rattle.mp4_present.specs.TrackTrees.{AreTracksOf}
-use Rattle.mp4_present.specs.Work.{ChecksWithin, moof_steps, moofs_steps, boxes_steps, table_steps, opening_steps}
+use Rattle.mp4_present.specs.format.Denotes.{FileTree, IsFileTree}
+use Rattle.mp4_present.specs.words.Movies.{MovieSeen}
+use Rattle.mp4_present.specs.words.OpenedMovie.{IsOpenedAs}
+use Rattle.mp4_present.specs.words.Opening.{IsOpened}
+use Rattle.mp4_present.specs.words.TrackTrees.{AreTracksOf}
+use Rattle.mp4_present.specs.words.WalkSteps.{ChecksWithin, moof_steps, moofs_steps, boxes_steps, table_steps, opening_steps}
 use Rattle.mp4_present.specs.declared.outline.Outline.{Outline}
 use Rattle.mp4_present.proofs.Opened.{IsRead, its_moov, tracks_read}
 use Rattle.mp4_present.proofs.TablesWork.{TracksDone}

@@ -3,10 +3,10 @@ use Rattle.std.proofs.Common.{◌≡◌, ℕ, drop, Err, ◌-◌, ◌<◌, ◌�
 use Rattle.std.specs.Prelude.{codes, bytes_eq, unwrap_or, IsTrue}
 use Rattle.std.proofs.lemmas.List.Sums.{fold-append}
 use Rattle.std.proofs.lemmas.Slice.Eq.{bytes_eq-Decides}
-use Rattle.mp4_boxes.specs.Box.{Box, IsFront, StandsAfter, Tiles, size, sizes, file_container}
-use Rattle.mp4_boxes.specs.Children.{of_kind, count_among, allows, repeats, Holds}
-use Rattle.mp4_boxes.specs.BoxFaults.{header_there}
-use Rattle.mp4_boxes.specs.Places.{whole}
+use Rattle.mp4_boxes.specs.format.Box.{Box, IsFront, StandsAfter, Tiles, size, sizes, file_container}
+use Rattle.mp4_boxes.specs.format.Children.{of_kind, count_among, allows, repeats, Holds}
+use Rattle.mp4_boxes.specs.format.BoxFaults.{header_there}
+use Rattle.mp4_boxes.specs.format.Places.{whole}
 use Rattle.mp4_boxes.specs.declared.rule.Rule.TheVariants.{File}
 use Rattle.mp4_boxes.specs.declared.headers.TopHeader.{TopHeader}
 use Rattle.mp4_boxes.specs.declared.refusal.Refusal.{Refusal}
@@ -15,10 +15,10 @@ use Rattle.mp4_boxes.specs.declared.fault.Fault.{Fault}
 use Rattle.mp4_boxes.specs.declared.fault.Kind.TheVariants.{BoxNotInProfile, DuplicateBox, MissingBox, FragmentBeforeMovie}
 use Rattle.mp4_boxes.proofs.Among.{all_append, of_kind-append}
 use Rattle.mp4_boxes.proofs.Tiling.{sizes-append, sizes-cons}
-use Rattle.mp4_present.specs.Reading.{IsTopHeader, RefusesHeader, top_box}
-use Rattle.mp4_present.specs.Denotes.{begins_with_movie}
-use Rattle.mp4_present.specs.Stands.{Stands, child, missing, header, order}
-use Rattle.mp4_present.specs.Outline.{AreSeen, IsOutline, IsOrdered, BeginAt, longest, moov_seen, RefusesOutline}
+use Rattle.mp4_present.specs.words.Reading.{IsTopHeader, RefusesHeader, top_box}
+use Rattle.mp4_present.specs.format.Denotes.{begins_with_movie}
+use Rattle.mp4_present.specs.format.Stands.{Stands, child, missing, header, order}
+use Rattle.mp4_present.specs.words.Outline.{AreSeen, IsOutline, IsOrdered, BeginAt, longest, moov_seen, RefusesOutline}
 use Rattle.mp4_present.specs.declared.reading.TopBox.{TopBox}
 use Rattle.mp4_present.specs.declared.outline.Seen.{Seen}
 use Rattle.mp4_present.proofs.TopLevel.{TopPassed, top_more, top_tiles, top_fault}

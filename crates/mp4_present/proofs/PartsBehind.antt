@@ -5,17 +5,17 @@ use Rattle.std.specs.List.{AllByRecursion, list_any, list_all}
 use Rattle.std.proofs.lemmas.Option.{slice_get-map}
 use Rattle.std.proofs.lemmas.Bool.{and_parts}
 use Rattle.std.proofs.lemmas.List.{append-nil}
-use Rattle.mp4_tables.specs.TableRules.{is_index}
+use Rattle.mp4_tables.specs.format.TableRules.{is_index}
 use Rattle.mp4_frag.specs.declared.trex.Trex.{Trex}
-use Rattle.mp4_frag.specs.FragmentSamples.{Part, part_samples, parts_for, trex_for, start_of, duration_of, AreOnTime, AreGrouped}
-use Rattle.mp4_frag.specs.FragmentRules.{TrackInfo, track_for, is_known, has_indexes, is_within}
-use Rattle.mp4_frag.specs.Judged.{TrackSeen, track_behind, IsDue, IsPlacedWithin}
+use Rattle.mp4_frag.specs.format.FragmentSamples.{Part, part_samples, parts_for, trex_for, start_of, duration_of, AreOnTime, AreGrouped}
+use Rattle.mp4_frag.specs.format.FragmentRules.{TrackInfo, track_for, is_known, has_indexes, is_within}
+use Rattle.mp4_frag.specs.words.Judged.{TrackSeen, track_behind, IsDue, IsPlacedWithin}
 use Rattle.mp4_frag.proofs.SeenLists.{find_map, some_is}
-use Rattle.mp4_head.specs.Head.{TrackHead}
-use Rattle.mp4_head.specs.Tree.{TrackTree, MovieTree, track_head_of, trexes_of, are_distinct}
-use Rattle.mp4_present.specs.Denotes.{plain_of, plain_keys, track_infos}
-use Rattle.mp4_present.specs.Stands.{AreConsistent}
-use Rattle.mp4_present.specs.Passing.{seen_behind}
+use Rattle.mp4_head.specs.format.Head.{TrackHead}
+use Rattle.mp4_head.specs.format.Tree.{TrackTree, MovieTree, track_head_of, trexes_of, are_distinct}
+use Rattle.mp4_present.specs.format.Denotes.{plain_of, plain_keys, track_infos}
+use Rattle.mp4_present.specs.format.Stands.{AreConsistent}
+use Rattle.mp4_present.specs.words.Passing.{seen_behind}
 use Rattle.mp4_present.proofs.FragmentReasons.{for-append}
 use Rattle.mp4_present.proofs.PlainLists.{all_push}
 use Rattle.mp4_present.proofs.TracksBehind.{seen_after, track_more, grouped_more, times_more}

@@ -2,7 +2,7 @@
 use Rattle.std.proofs.Common.{ℕ}
 use Rattle.mp4_boxes.specs.declared.refusal.Refusal.{Refusal}
 use Rattle.mp4_boxes.specs.declared.refusal.Refusal.TheVariants.{Fault, Memory, StoreFailed, StoreChanged, WriteFailed, NoSuchTrack}
-use Rattle.mp4_present.specs.Reading.{RefusesFront, RefusesPayload}
+use Rattle.mp4_present.specs.words.Reading.{RefusesFront, RefusesPayload}
 use Rattle.mp4_present.specs.declared.reading.TopBox.{TopBox}
 
 -- a read that failed is why there is no payload

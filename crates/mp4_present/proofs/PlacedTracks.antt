@@ -2,34 +2,34 @@
 use Rattle.std.proofs.Common.{◌≡◌, ℕ, ◌≤◌, Bool, true, false, cond, eqb, List, [], ◌∷◌, ◌++◌, length, refl, sym, ap, ◌∙◌, lit≤}
 use Rattle.std.specs.Prelude.{codes, map, flat_map, IsTrue}
 use Rattle.std.specs.List.{AllByRecursion, list_any}
-use Rattle.mp4_boxes.specs.Bytes.{AreBytes}
-use Rattle.mp4_boxes.specs.Box.{Box}
-use Rattle.mp4_boxes.specs.Children.{of_kind}
-use Rattle.mp4_boxes.specs.Layout.{sbgp}
-use Rattle.mp4_boxes.specs.Places.{ruled, AreSound}
+use Rattle.mp4_boxes.specs.format.Bytes.{AreBytes}
+use Rattle.mp4_boxes.specs.format.Box.{Box}
+use Rattle.mp4_boxes.specs.format.Children.{of_kind}
+use Rattle.mp4_boxes.specs.format.Layout.{sbgp}
+use Rattle.mp4_boxes.specs.format.Places.{ruled, AreSound}
 use Rattle.mp4_boxes.specs.declared.rule.Rule.TheVariants as rules
 use Rattle.mp4_boxes.proofs.Among.{IsIn, all_in, all_append}
 use Rattle.mp4_boxes.proofs.Each.{each_value, each_weaker, each_from, each_joined, each_kept, each_member}
 use Rattle.mp4_boxes.proofs.OfBytes.{payloads_of_bytes}
 use Rattle.mp4_boxes.proofs.Sound.{sound_each}
-use Rattle.mp4_tables.specs.Accepted.{AreDistinct}
-use Rattle.mp4_tables.specs.Groups.{GroupKey, Grouping, same_key, keys_with, max_keys}
-use Rattle.mp4_tables.specs.Tables.{tables_of}
-use Rattle.mp4_tables.specs.PlainSamples.{PlacedSample}
-use Rattle.mp4_tables.specs.TableRules.{Fit, table_group, is_index}
+use Rattle.mp4_tables.specs.words.Accepted.{AreDistinct}
+use Rattle.mp4_tables.specs.format.Groups.{GroupKey, Grouping, same_key, keys_with, max_keys}
+use Rattle.mp4_tables.specs.format.Tables.{tables_of}
+use Rattle.mp4_tables.specs.format.PlainSamples.{PlacedSample}
+use Rattle.mp4_tables.specs.format.TableRules.{Fit, table_group, is_index}
 use Rattle.mp4_tables.proofs.GroupMaps.{keys_named, still_few}
 use Rattle.mp4_tables.proofs.Placed.{IsKey, keys_valid, plain_placed}
-use Rattle.mp4_frag.specs.Fragments.{FragmentTree, trex_of}
-use Rattle.mp4_frag.specs.FragmentSamples.{Part, part_samples, AreGrouped}
-use Rattle.mp4_frag.specs.FragmentRules.{has_indexes}
+use Rattle.mp4_frag.specs.format.Fragments.{FragmentTree, trex_of}
+use Rattle.mp4_frag.specs.format.FragmentSamples.{Part, part_samples, AreGrouped}
+use Rattle.mp4_frag.specs.format.FragmentRules.{has_indexes}
 use Rattle.mp4_frag.proofs.Ranges.{IsTrex, IsPart, trex_valid, fragments_valid}
-use Rattle.mp4_head.specs.Head.{TrackHead}
-use Rattle.mp4_head.specs.Tree.{TrackTree, are_distinct, track_head_of, trexes_of}
+use Rattle.mp4_head.specs.format.Head.{TrackHead}
+use Rattle.mp4_head.specs.format.Tree.{TrackTree, are_distinct, track_head_of, trexes_of}
 use Rattle.mp4_head.proofs.Distinct.{map_twice}
 use Rattle.mp4_head.proofs.TreeBytes.{TrackOfBytes, MovieOfBytes, movie_of_bytes}
-use Rattle.mp4_present.specs.Coming.{track_keys}
-use Rattle.mp4_present.specs.Denotes.{FileTree, IsFileTree, IsSoundFile, IsConsistent, surroundings, track_infos, plain_of, plain_keys, file_parts, parts_of_track, placed_of}
-use Rattle.mp4_present.specs.OpenedMovie.{AreOfBytes}
+use Rattle.mp4_present.specs.words.SamplesComing.{track_keys}
+use Rattle.mp4_present.specs.format.Denotes.{FileTree, IsFileTree, IsSoundFile, IsConsistent, surroundings, track_infos, plain_of, plain_keys, file_parts, parts_of_track, placed_of}
+use Rattle.mp4_present.specs.words.OpenedMovie.{AreOfBytes}
 use Rattle.mp4_present.proofs.KeysExtended.{distinct_keys}
 use Rattle.mp4_present.proofs.ValidSamples.{IsOfTrack, more_keys, named_with, parts_placed, parts_few, part_indexed}
 

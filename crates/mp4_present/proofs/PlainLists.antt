@@ -1,20 +1,20 @@
 -- The tracks of a movie behind their tables, one after the other.
 use Rattle.std.proofs.Common.{◌≡◌, ℕ, ◌+◌, ◌-◌, ◌*◌, ◌^◌, ◌<◌, ◌≤◌, List, [], ◌∷◌, ◌++◌, length, drop, zero, suc, sym, ap, subst, arith, length-append}
 use Rattle.std.specs.List.{AllByRecursion, AllZip}
-use Rattle.mp4_boxes.specs.View.{box_seen}
-use Rattle.mp4_tables.specs.Leaves.{HasTables}
+use Rattle.mp4_boxes.specs.words.View.{box_seen}
+use Rattle.mp4_tables.specs.words.Leaves.{HasTables}
 use Rattle.mp4_tables.proofs.LeafLists.{has_tables}
-use Rattle.mp4_head.specs.Tree.{TrackTree, IsTrackTree, stbl_of}
+use Rattle.mp4_head.specs.format.Tree.{TrackTree, IsTrackTree, stbl_of}
 use Rattle.mp4_head.specs.declared.heads.TrackHead.{TrackHead}
 use Rattle.mp4_head.specs.declared.heads.MovieHead.{MovieHead}
-use Rattle.mp4_boxes.specs.Box.{Box}
-use Rattle.mp4_tables.specs.Accepted.{IsAccepted}
-use Rattle.mp4_frag.specs.States.{HasRoom, HaveRoom}
+use Rattle.mp4_boxes.specs.format.Box.{Box}
+use Rattle.mp4_tables.specs.words.Accepted.{IsAccepted}
+use Rattle.mp4_frag.specs.words.States.{HasRoom, HaveRoom}
 use Rattle.mp4_frag.specs.declared.state.TrackState.{TrackState}
 use Rattle.mp4_frag.proofs.StateLists.{less_room}
-use Rattle.mp4_head.specs.Found.{LiesIn, IsFoundIn, SaysHead}
-use Rattle.mp4_present.specs.Movies.{LieIn, table_bytes}
-use Rattle.mp4_present.specs.Plain.{ArePlain, HaveTablesIn}
+use Rattle.mp4_head.specs.words.Found.{LiesIn, IsFoundIn, SaysHead}
+use Rattle.mp4_present.specs.words.Movies.{LieIn, table_bytes}
+use Rattle.mp4_present.specs.words.Plain.{ArePlain, HaveTablesIn}
 use Rattle.mp4_present.specs.declared.movie.TrackTables.{TrackTables}
 use Rattle.mp4_present.specs.declared.tables_pass.PlainTracks.{PlainTracks}
 

@@ -3,16 +3,16 @@ use Rattle.std.proofs.Common.{◌≡◌, ℕ, ◌+◌, ◌≤◌, Bool, true, fa
 use Rattle.std.specs.Prelude.{not, nat_eq, ◌||◌}
 use Rattle.std.specs.List.{list_any}
 use Rattle.std.proofs.lemmas.Bool.{eqb-true, and_parts}
-use Rattle.mp4_boxes.specs.Bytes.{sum_of}
-use Rattle.mp4_frag.specs.FragmentSamples.{Part, part_samples, fragment_samples}
-use Rattle.mp4_frag.specs.Fragments.{FragmentTree}
-use Rattle.mp4_head.specs.Head.{TrackHead}
-use Rattle.mp4_head.specs.Tree.{TrackTree, are_distinct, track_head_of, trexes_of}
+use Rattle.mp4_boxes.specs.format.Bytes.{sum_of}
+use Rattle.mp4_frag.specs.format.FragmentSamples.{Part, part_samples, fragment_samples}
+use Rattle.mp4_frag.specs.format.Fragments.{FragmentTree}
+use Rattle.mp4_head.specs.format.Head.{TrackHead}
+use Rattle.mp4_head.specs.format.Tree.{TrackTree, are_distinct, track_head_of, trexes_of}
 use Rattle.mp4_head.proofs.Distinct.{map_twice}
-use Rattle.mp4_present.specs.Denotes.{FileTree, file_parts, presentation_of}
-use Rattle.mp4_present.specs.Passing.{IsMovieOf, AreBehind}
-use Rattle.mp4_present.specs.Presentation.{max_samples, sample_total}
-use Rattle.mp4_present.specs.Stands.{table_total, trafs_total}
+use Rattle.mp4_present.specs.format.Denotes.{FileTree, file_parts, presentation_of}
+use Rattle.mp4_present.specs.words.Passing.{IsMovieOf, AreBehind}
+use Rattle.mp4_present.specs.format.Presentation.{max_samples, sample_total}
+use Rattle.mp4_present.specs.format.Stands.{table_total, trafs_total}
 use Rattle.mp4_frag.specs.declared.state.TrackState.{TrackState}
 use Rattle.mp4_present.proofs.Counts.{parts_total, fragments_total, fragments_length, total_is, with_part}
 

@@ -3,23 +3,23 @@ use Rattle.std.proofs.Common.{◌≡◌, ℕ, ◌+◌, ◌≤◌, List, [], ◌�
 use Rattle.std.specs.Prelude.{IsTrue, ℤ, pos, negsuc, map, flat_map, ◌==◌}
 use Rattle.std.specs.List.{AllByRecursion}
 use Rattle.std.proofs.lemmas.Bool.{leb-true}
-use Rattle.mp4_boxes.specs.Bytes.{sum_of}
+use Rattle.mp4_boxes.specs.format.Bytes.{sum_of}
 use Rattle.mp4_boxes.proofs.Among.{IsIn, all_in, all_append}
 use Rattle.mp4_boxes.proofs.Each.{each_tested, each_weaker, each_joined, each_kept}
-use Rattle.mp4_store.specs.Device.{range}
-use Rattle.mp4_tables.specs.Groups.{GroupKey, Groups, maps_of}
-use Rattle.mp4_tables.specs.PlainSamples.{PlacedSample, Spot, with_groups, joined, spots_of, plain_samples}
-use Rattle.mp4_tables.specs.Repeated.{repeated}
-use Rattle.mp4_tables.specs.TableRules.{Surroundings, Fit, lies_within, places}
-use Rattle.mp4_tables.specs.Tables.{Tables, tables_of}
-use Rattle.mp4_tables.specs.Timed.{timed, place_of}
+use Rattle.mp4_store.specs.words.Device.{range}
+use Rattle.mp4_tables.specs.format.Groups.{GroupKey, Groups, maps_of}
+use Rattle.mp4_tables.specs.format.PlainSamples.{PlacedSample, Spot, with_groups, joined, spots_of, plain_samples}
+use Rattle.mp4_tables.specs.format.Repeated.{repeated}
+use Rattle.mp4_tables.specs.format.TableRules.{Surroundings, Fit, lies_within, places}
+use Rattle.mp4_tables.specs.format.Tables.{Tables, tables_of}
+use Rattle.mp4_tables.specs.words.Timed.{timed, place_of}
 use Rattle.mp4_tables.specs.declared.sample.SampleAt.{SampleAt}
-use Rattle.mp4_frag.specs.FragmentRules.{is_within}
-use Rattle.mp4_frag.specs.FragmentSamples.{Part, part_samples, parts_for, fragment_samples}
-use Rattle.mp4_head.specs.Tree.{TrackTree, track_head_of}
-use Rattle.mp4_present.specs.Denotes.{FileTree, IsConsistent, surroundings, bytes_at, sample_of, plain_of, file_parts, placed_of}
-use Rattle.mp4_present.specs.Joined.{sample_bytes}
-use Rattle.mp4_present.specs.Presentation.{Sample}
+use Rattle.mp4_frag.specs.format.FragmentRules.{is_within}
+use Rattle.mp4_frag.specs.format.FragmentSamples.{Part, part_samples, parts_for, fragment_samples}
+use Rattle.mp4_head.specs.format.Tree.{TrackTree, track_head_of}
+use Rattle.mp4_present.specs.format.Denotes.{FileTree, IsConsistent, surroundings, bytes_at, sample_of, plain_of, file_parts, placed_of}
+use Rattle.mp4_present.specs.words.Joined.{sample_bytes}
+use Rattle.mp4_present.specs.format.Presentation.{Sample}
 
 -- the sample lies in a file of this length
 abbrev pub IsInFile : ℕ → PlacedSample → Type 0

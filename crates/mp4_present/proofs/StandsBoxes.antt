@@ -2,11 +2,11 @@
 use Rattle.std.proofs.Common.{lit≤, inl, inr}
 use Rattle.std.specs.Prelude.{ℕ, List, [], ◌∷◌, codes, refl}
 use Rattle.mp4_boxes.proofs.Vectors.{hex, part}
-use Rattle.mp4_boxes.specs.Layout.{mvhd, ctts, trun, dref, data_entry_url}
-use Rattle.mp4_boxes.specs.Places.{data_entries, whole}
+use Rattle.mp4_boxes.specs.format.Layout.{mvhd, ctts, trun, dref, data_entry_url}
+use Rattle.mp4_boxes.specs.format.Places.{data_entries, whole}
 use Rattle.mp4_boxes.specs.declared.fault.Kind.TheVariants as kinds
 use Rattle.mp4_boxes.specs.declared.rule.Rule.TheVariants as rules
-use Rattle.mp4_present.specs.Stands.{StandsBy, header, child, leaf, order}
+use Rattle.mp4_present.specs.format.Stands.{StandsBy, header, child, leaf, order}
 use Rattle.mp4_present.proofs.StandsForms.{says, box_place, entry_place}
 
 -- a box of three bytes

@@ -2,8 +2,8 @@
 use Rattle.std.proofs.Common.{◌≡◌, ℕ, ◌≤◌, false, List, leb}
 use Rattle.std.proofs.lemmas.Bool.{le-leb}
 use Rattle.mp4_boxes.proofs.Among.{true_false}
-use Rattle.mp4_boxes.specs.Box.{Box, Header, box_container, counted_container}
-use Rattle.mp4_boxes.specs.Places.{Scope, ruled, Place}
+use Rattle.mp4_boxes.specs.format.Box.{Box, Header, box_container, counted_container}
+use Rattle.mp4_boxes.specs.format.Places.{Scope, ruled, Place}
 use Rattle.mp4_boxes.specs.declared.rule.Rule.{Rule}
 
 -- a header of 8 bytes

@@ -3,12 +3,12 @@ use Rattle.std.proofs.Common.{lit≤, inr}
 use Rattle.std.specs.Prelude.{ℕ, List, [], ◌∷◌, codes, refl}
 use Rattle.mp4_boxes.proofs.Vectors.{hex, part}
 use Rattle.mp4_boxes.specs.declared.fault.Kind.TheVariants as kinds
-use Rattle.mp4_tables.specs.Tables.{tables_of}
-use Rattle.mp4_tables.specs.TableRules.{Fit, dependency_room, duration_counts, offset_counts, chunk_counts, chunk_order, sync_order, description_indexes, places, table_group}
-use Rattle.mp4_tables.specs.Groups.{index_range}
-use Rattle.mp4_head.specs.Tree.{TrackTree, IsTrackTree}
-use Rattle.mp4_present.specs.Denotes.{surroundings}
-use Rattle.mp4_present.specs.Stands.{StandsBy, fragment, count, Behind, unknown_track, description_index, place, fragment_group}
+use Rattle.mp4_tables.specs.format.Tables.{tables_of}
+use Rattle.mp4_tables.specs.format.TableRules.{Fit, dependency_room, duration_counts, offset_counts, chunk_counts, chunk_order, sync_order, description_indexes, places, table_group}
+use Rattle.mp4_tables.specs.format.Groups.{index_range}
+use Rattle.mp4_head.specs.format.Tree.{TrackTree, IsTrackTree}
+use Rattle.mp4_present.specs.format.Denotes.{surroundings}
+use Rattle.mp4_present.specs.format.Stands.{StandsBy, fragment, count, Behind, unknown_track, description_index, place, fragment_group}
 use Rattle.mp4_present.proofs.StandsForms.{says}
 
 -- a `traf` of a track that the `moov` does not have

@@ -3,11 +3,11 @@ use Rattle.std.proofs.Common.{lit≤, inl}
 use Rattle.std.specs.Prelude.{ℕ, List, [], ◌∷◌, codes, refl}
 use Rattle.mp4_boxes.proofs.Vectors.{hex, part}
 use Rattle.mp4_boxes.specs.declared.fault.Kind.TheVariants as kinds
-use Rattle.mp4_tables.specs.Tables.{tables_of}
-use Rattle.mp4_tables.specs.TableRules.{Fit, dependency_room, duration_counts, offset_counts, chunk_counts, chunk_order, sync_order, description_indexes, places, table_group}
-use Rattle.mp4_head.specs.Tree.{TrackTree, IsTrackTree}
-use Rattle.mp4_present.specs.Denotes.{FileTree, IsFileTree, IsSoundFile, surroundings}
-use Rattle.mp4_present.specs.Stands.{StandsBy, limit}
+use Rattle.mp4_tables.specs.format.Tables.{tables_of}
+use Rattle.mp4_tables.specs.format.TableRules.{Fit, dependency_room, duration_counts, offset_counts, chunk_counts, chunk_order, sync_order, description_indexes, places, table_group}
+use Rattle.mp4_head.specs.format.Tree.{TrackTree, IsTrackTree}
+use Rattle.mp4_present.specs.format.Denotes.{FileTree, IsFileTree, IsSoundFile, surroundings}
+use Rattle.mp4_present.specs.format.Stands.{StandsBy, limit}
 use Rattle.mp4_present.proofs.StandsForms.{says, beyond}
 
 -- a sample of duration 512 at time 2^63 - 512

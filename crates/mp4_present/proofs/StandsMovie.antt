@@ -3,16 +3,16 @@ use Rattle.std.proofs.Common.{◌≡◌, ℕ, zero, suc, ◌+◌, ◌<◌, ◌�
 use Rattle.std.specs.Prelude.{codes, flat_map}
 use Rattle.std.proofs.lemmas.List.{take_all, length-replicate}
 use Rattle.mp4_boxes.proofs.Vectors.{hex}
-use Rattle.mp4_boxes.specs.Box.{Box, header_at, box_of, file_container, box_container}
-use Rattle.mp4_boxes.specs.Written.{box_bytes}
-use Rattle.mp4_boxes.specs.Children.{Holds}
+use Rattle.mp4_boxes.specs.format.Box.{Box, header_at, box_of, file_container, box_container}
+use Rattle.mp4_boxes.specs.format.Written.{box_bytes}
+use Rattle.mp4_boxes.specs.format.Children.{Holds}
 use Rattle.mp4_boxes.specs.declared.fault.Kind.TheVariants as kinds
 use Rattle.mp4_boxes.specs.declared.rule.Rule.TheVariants as rules
-use Rattle.mp4_head.specs.Head.{Kept, MovieHead, TrackHead, names_item_location}
-use Rattle.mp4_head.specs.Writing.{kept_bytes, mvhd_bytes, trak_bytes, mvex_bytes, next_track_id, moov_bytes}
-use Rattle.mp4_present.specs.Presentation.{max_moov, normal_moov_length, movie_length}
-use Rattle.mp4_present.specs.Denotes.{FileTree, presentation_of}
-use Rattle.mp4_present.specs.Stands.{StandsBy, limit}
+use Rattle.mp4_head.specs.format.Head.{Kept, MovieHead, TrackHead, names_item_location}
+use Rattle.mp4_head.specs.format.Writing.{kept_bytes, mvhd_bytes, trak_bytes, mvex_bytes, next_track_id, moov_bytes}
+use Rattle.mp4_present.specs.format.Presentation.{max_moov, normal_moov_length, movie_length}
+use Rattle.mp4_present.specs.format.Denotes.{FileTree, presentation_of}
+use Rattle.mp4_present.specs.format.Stands.{StandsBy, limit}
 use Rattle.mp4_present.proofs.StandsForms.{says}
 
 -- a list is no longer than one with others round it

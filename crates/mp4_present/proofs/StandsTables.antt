@@ -4,9 +4,9 @@ use Rattle.std.specs.Prelude.{ℕ, List, [], ◌∷◌, codes, refl}
 use Rattle.mp4_boxes.proofs.Vectors.{hex, part}
 use Rattle.mp4_boxes.specs.declared.fault.Kind.TheVariants as kinds
 use Rattle.mp4_boxes.specs.declared.rule.Rule.TheVariants as rules
-use Rattle.mp4_tables.specs.TableRules.{dependency_room, offset_counts, chunk_counts, chunk_order, sync_order, description_indexes, places, table_group}
-use Rattle.mp4_tables.specs.Groups.{few_keys}
-use Rattle.mp4_present.specs.Stands.{StandsBy, tables}
+use Rattle.mp4_tables.specs.format.TableRules.{dependency_room, offset_counts, chunk_counts, chunk_order, sync_order, description_indexes, places, table_group}
+use Rattle.mp4_tables.specs.format.Groups.{few_keys}
+use Rattle.mp4_present.specs.format.Stands.{StandsBy, tables}
 use Rattle.mp4_present.proofs.StandsForms.{says, box_place}
 
 -- an `sdtp` of two bytes for three samples

@@ -1,21 +1,21 @@
 -- Where the tables of a track do not fit one another, nothing is denoted.
 use Rattle.std.proofs.Common.{◌≡◌, ℕ, Bool, true, false, List, sym, ap, ◌∙◌}
 use Rattle.std.specs.Prelude.{codes, length}
-use Rattle.mp4_boxes.specs.Bytes.{field}
-use Rattle.mp4_boxes.specs.Box.{Box}
-use Rattle.mp4_boxes.specs.Children.{payload_of}
-use Rattle.mp4_boxes.specs.Places.{ruled}
+use Rattle.mp4_boxes.specs.format.Bytes.{field}
+use Rattle.mp4_boxes.specs.format.Box.{Box}
+use Rattle.mp4_boxes.specs.format.Children.{payload_of}
+use Rattle.mp4_boxes.specs.format.Places.{ruled}
 use Rattle.mp4_boxes.specs.declared.rule.Rule.TheVariants.{SampleTable}
 use Rattle.mp4_boxes.specs.declared.fault.Fault.{Fault}
 use Rattle.mp4_boxes.proofs.Tiling.{tiles_one}
 use Rattle.mp4_boxes.proofs.Among.{all_in}
-use Rattle.mp4_tables.specs.Tables.{tables_of}
-use Rattle.mp4_tables.specs.TableRules.{test, Fit}
-use Rattle.mp4_head.specs.Tree.{TrackTree, IsTrackTree}
+use Rattle.mp4_tables.specs.format.Tables.{tables_of}
+use Rattle.mp4_tables.specs.format.TableRules.{test, Fit}
+use Rattle.mp4_head.specs.format.Tree.{TrackTree, IsTrackTree}
 use Rattle.mp4_head.proofs.Distinct.{payload_first}
-use Rattle.mp4_present.specs.Presentation.{Presentation}
-use Rattle.mp4_present.specs.Denotes.{Denotes, surroundings}
-use Rattle.mp4_present.specs.Stands.{StandsBy, tables}
+use Rattle.mp4_present.specs.format.Presentation.{Presentation}
+use Rattle.mp4_present.specs.format.Denotes.{Denotes, surroundings}
+use Rattle.mp4_present.specs.format.Stands.{StandsBy, tables}
 use Rattle.mp4_present.proofs.Chain.{reached, tiled, track_tree}
 use Rattle.mp4_present.proofs.Leaves.{named_in}
 

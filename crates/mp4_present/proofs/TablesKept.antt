@@ -3,50 +3,50 @@ use Rattle.std.proofs.Common.{◌≡◌, ℕ, ◌+◌, ◌-◌, ◌*◌, ◌^◌
 use Rattle.std.specs.Prelude.{bytes_eq, codes}
 use Rattle.std.specs.List.{AllByRecursion, AllZip}
 use Rattle.std.proofs.lemmas.List.{length-map, map-append}
-use Rattle.mp4_boxes.specs.Bytes.{AreBytes, field, sum_of}
-use Rattle.mp4_boxes.specs.Box.{Box, box_container}
-use Rattle.mp4_boxes.specs.Children.{payload_of, payload_among, sample_sizes}
-use Rattle.mp4_boxes.specs.Layout.{Leaf, stts, ctts, stsc, stsz, stz2, stco, co64, stss, sdtp, sbgp, sgpd, stsd, IsSound, IsReadable}
-use Rattle.mp4_boxes.specs.Places.{at_kind, ruled, AreSound, IsSoundAs}
-use Rattle.mp4_boxes.specs.View.{box_seen}
+use Rattle.mp4_boxes.specs.format.Bytes.{AreBytes, field, sum_of}
+use Rattle.mp4_boxes.specs.format.Box.{Box, box_container}
+use Rattle.mp4_boxes.specs.format.Children.{payload_of, payload_among, sample_sizes}
+use Rattle.mp4_boxes.specs.format.Layout.{Leaf, stts, ctts, stsc, stsz, stz2, stco, co64, stss, sdtp, sbgp, sgpd, stsd, IsSound, IsReadable}
+use Rattle.mp4_boxes.specs.format.Places.{at_kind, ruled, AreSound, IsSoundAs}
+use Rattle.mp4_boxes.specs.words.View.{box_seen}
 use Rattle.mp4_boxes.specs.declared.rule.Rule.TheVariants.{SampleTable}
 use Rattle.mp4_boxes.proofs.Among.{IsIn, all_in, all_append}
 use Rattle.mp4_boxes.proofs.Each.{each_member, each_weaker}
 use Rattle.mp4_boxes.proofs.OfBytes.{field_below, tiled_of_bytes, payload_of_bytes}
 use Rattle.mp4_boxes.proofs.Refusing.{holds_only}
-use Rattle.mp4_tables.specs.Accepted.{tables_at}
-use Rattle.mp4_tables.specs.Groups.{keys_after}
-use Rattle.mp4_tables.specs.Keys.{keys_seen}
+use Rattle.mp4_tables.specs.words.Accepted.{tables_at}
+use Rattle.mp4_tables.specs.format.Groups.{keys_after}
+use Rattle.mp4_tables.specs.words.Keys.{keys_seen}
 use Rattle.mp4_tables.specs.declared.keys.Keys.{Keys}
-use Rattle.mp4_tables.specs.Views.{TablesSeen, tables_seen}
-use Rattle.mp4_tables.specs.Leaves.{AllOf, AreAccepted, TablesRead, boxes_of, tables_in, HasDescriptions, NamesFault, IsFault}
+use Rattle.mp4_tables.specs.words.TablesSeen.{TablesSeen, tables_seen}
+use Rattle.mp4_tables.specs.words.Leaves.{AllOf, AreAccepted, TablesRead, boxes_of, tables_in, HasDescriptions, NamesFault, IsFault}
 use Rattle.mp4_tables.proofs.Sums.{timed_lasts, timed_bytes}
 use Rattle.mp4_tables.proofs.ChunkReads.{has_descriptions}
 use Rattle.mp4_boxes.specs.declared.fault.Fault.{Fault}
-use Rattle.mp4_tables.specs.PlainSamples.{PlacedSample, plain_samples}
-use Rattle.mp4_tables.specs.TableRules.{Fit}
-use Rattle.mp4_tables.specs.Tables.{Tables, tables_of, sample_count}
-use Rattle.mp4_tables.specs.Timed.{timed, samples_of}
+use Rattle.mp4_tables.specs.format.PlainSamples.{PlacedSample, plain_samples}
+use Rattle.mp4_tables.specs.format.TableRules.{Fit}
+use Rattle.mp4_tables.specs.format.Tables.{Tables, tables_of, sample_count}
+use Rattle.mp4_tables.specs.words.Timed.{timed, samples_of}
 use Rattle.mp4_tables.specs.declared.places.TablesAt.{TablesAt}
 use Rattle.mp4_tables.specs.declared.sample.SampleAt.{SampleAt}
 use Rattle.mp4_tables.proofs.Counts.{samples_counted, plain_length}
 use Rattle.mp4_tables.proofs.SampleLists.{timed_first}
 use Rattle.mp4_tables.proofs.LeafLists.{boxes_are}
 use Rattle.mp4_tables.proofs.Placed.{plain_placed}
-use Rattle.mp4_frag.specs.FragmentSamples.{trex_for, duration_of, bytes_of}
-use Rattle.mp4_frag.specs.Judged.{track_seen}
+use Rattle.mp4_frag.specs.format.FragmentSamples.{trex_for, duration_of, bytes_of}
+use Rattle.mp4_frag.specs.words.Judged.{track_seen}
 use Rattle.mp4_frag.specs.declared.state.TrackState.{TrackState}
 use Rattle.mp4_frag.specs.declared.trex.Trex.{Trex}
-use Rattle.mp4_head.specs.Found.{LiesIn}
-use Rattle.mp4_head.specs.Head as heads
-use Rattle.mp4_head.specs.Tree.{TrackTree, IsTrackTree, IsSoundTrack, stbl_of, track_head_of}
+use Rattle.mp4_head.specs.words.Found.{LiesIn}
+use Rattle.mp4_head.specs.format.Head as heads
+use Rattle.mp4_head.specs.format.Tree.{TrackTree, IsTrackTree, IsSoundTrack, stbl_of, track_head_of}
 use Rattle.mp4_head.specs.declared.heads.TrackHead.{TrackHead}
 use Rattle.mp4_head.proofs.Distinct.{payload_first}
-use Rattle.mp4_present.specs.Denotes.{plain_of, plain_keys}
-use Rattle.mp4_present.specs.OpenedMovie.{AreTablesOf, plain_seen}
-use Rattle.mp4_present.specs.Presentation.{max_samples}
-use Rattle.mp4_present.specs.Stands.{table_total}
-use Rattle.mp4_present.specs.TrackTrees.{IsTrackOf, HaveTables, TableFails, surroundings_in}
+use Rattle.mp4_present.specs.format.Denotes.{plain_of, plain_keys}
+use Rattle.mp4_present.specs.words.OpenedMovie.{AreTablesOf, plain_seen}
+use Rattle.mp4_present.specs.format.Presentation.{max_samples}
+use Rattle.mp4_present.specs.format.Stands.{table_total}
+use Rattle.mp4_present.specs.words.TrackTrees.{IsTrackOf, HaveTables, TableFails, surroundings_in}
 use Rattle.mp4_present.specs.declared.movie.TrackTables.{TrackTables}
 use Rattle.mp4_present.specs.declared.tables_pass.PlainTracks.{PlainTracks}
 use Rattle.mp4_present.proofs.Chain.{is_first}

@@ -2,12 +2,12 @@
 use Rattle.std.proofs.Common.{◌≡◌, ℕ, ◌+◌, ◌<◌, ◌≤◌, inl, inr, Bool, true, false, List, [], ◌∷◌, ◌++◌, length, Some, refl, sym, ap, subst, ◌∙◌, arith}
 use Rattle.std.specs.Prelude.{codes, bytes_eq, IsTrue, Option, None, option_map}
 use Rattle.std.specs.List.{AllByRecursion}
-use Rattle.mp4_boxes.specs.Bytes.{field}
-use Rattle.mp4_boxes.specs.Box.{Box, file_container, box_container, StandsAfter, Tiles}
-use Rattle.mp4_boxes.specs.BoxFaults.{fault_of}
-use Rattle.mp4_boxes.specs.Children.{payload_of, payload_among, sample_sizes, is_among, count_among}
-use Rattle.mp4_boxes.specs.Layout.{Leaf}
-use Rattle.mp4_boxes.specs.Places.{Scope, ruled, at_kind, containers, as_container, Place, whole, Reaches, AreSound, IsSoundAs, inside, leaf_of}
+use Rattle.mp4_boxes.specs.format.Bytes.{field}
+use Rattle.mp4_boxes.specs.format.Box.{Box, file_container, box_container, StandsAfter, Tiles}
+use Rattle.mp4_boxes.specs.format.BoxFaults.{fault_of}
+use Rattle.mp4_boxes.specs.format.Children.{payload_of, payload_among, sample_sizes, is_among, count_among}
+use Rattle.mp4_boxes.specs.format.Layout.{Leaf}
+use Rattle.mp4_boxes.specs.format.Places.{Scope, ruled, at_kind, containers, as_container, Place, whole, Reaches, AreSound, IsSoundAs, inside, leaf_of}
 use Rattle.mp4_boxes.specs.declared.fault.Fault.{Fault}
 use Rattle.mp4_boxes.specs.declared.fault.Kind.TheVariants.{TooManySamples}
 use Rattle.mp4_boxes.specs.declared.rule.Rule.{Rule}
@@ -17,17 +17,17 @@ use Rattle.mp4_boxes.proofs.Each.{each_member, each_of_kind, each_weaker}
 use Rattle.mp4_boxes.proofs.Refusing.{holds_only}
 use Rattle.mp4_boxes.proofs.Sound.{same_kind}
 use Rattle.mp4_boxes.proofs.Tiling.{tiles_one}
-use Rattle.mp4_tables.specs.Leaves.{boxes_of, IsLeafFaultAmong, IsTooMany}
-use Rattle.mp4_tables.specs.TableRules.{AreReadable, IsReadableAs, IsTableFault}
-use Rattle.mp4_tables.specs.Tables.{sample_count}
+use Rattle.mp4_tables.specs.words.Leaves.{boxes_of, IsLeafFaultAmong, IsTooMany}
+use Rattle.mp4_tables.specs.format.TableRules.{AreReadable, IsReadableAs, IsTableFault}
+use Rattle.mp4_tables.specs.format.Tables.{sample_count}
 use Rattle.mp4_tables.proofs.LeafLists.{boxes_are}
-use Rattle.mp4_head.specs.Refuses.{place_of}
-use Rattle.mp4_head.specs.Tree.{TrackTree, MovieTree, IsTrackTree, IsMovieTree, first_of, first_among, stbl_of}
+use Rattle.mp4_head.specs.words.Refuses.{place_of}
+use Rattle.mp4_head.specs.format.Tree.{TrackTree, MovieTree, IsTrackTree, IsMovieTree, first_of, first_among, stbl_of}
 use Rattle.mp4_head.proofs.Above.{stands_of}
 use Rattle.mp4_head.proofs.Inside.{first_is}
-use Rattle.mp4_present.specs.Presentation.{max_samples}
-use Rattle.mp4_present.specs.Stands.{Stands, leaf, tables, count, table_total}
-use Rattle.mp4_present.specs.TrackTrees.{TablesFail, TableFails}
+use Rattle.mp4_present.specs.format.Presentation.{max_samples}
+use Rattle.mp4_present.specs.format.Stands.{Stands, leaf, tables, count, table_total}
+use Rattle.mp4_present.specs.words.TrackTrees.{TablesFail, TableFails}
 use Rattle.mp4_present.proofs.Counts.{sizes_few, sum-append}
 use Rattle.mp4_present.proofs.TableReasons.{descriptions_counted}
 

@@ -1,26 +1,26 @@
 -- The steps of the checks of tables, and of the walks over their samples.
 use Rattle.std.proofs.Common.{◌≡◌, ℕ, zero, suc, ◌+◌, ◌*◌, ◌<◌, ◌≤◌, List, [], ◌∷◌, length, drop, slice_index_or, refl, sym, ap, subst, ◌∙◌, arith}
 use Rattle.std.specs.Prelude.{Result, Ok, Err}
-use Rattle.mp4_boxes.specs.Bytes.{sum_of}
-use Rattle.mp4_boxes.specs.Box.{Box}
-use Rattle.mp4_boxes.specs.View.{box_seen}
+use Rattle.mp4_boxes.specs.format.Bytes.{sum_of}
+use Rattle.mp4_boxes.specs.format.Box.{Box}
+use Rattle.mp4_boxes.specs.words.View.{box_seen}
 use Rattle.mp4_boxes.specs.declared.refusal.Refusal.{Refusal}
 use Rattle.mp4_boxes.specs.declared.refusal.Refusal.TheVariants as refusals
-use Rattle.mp4_tables.specs.Accepted.{rows_in, tables_at}
-use Rattle.mp4_tables.specs.Leaves.{TablesRead, boxes_of}
-use Rattle.mp4_tables.specs.TableRules.{Surroundings, Fit}
-use Rattle.mp4_tables.specs.Tables.{Tables, tables_of}
-use Rattle.mp4_tables.specs.Views.{TablesSeen}
-use Rattle.mp4_tables.specs.Work.{table_rows}
+use Rattle.mp4_tables.specs.words.Accepted.{rows_in, tables_at}
+use Rattle.mp4_tables.specs.words.Leaves.{TablesRead, boxes_of}
+use Rattle.mp4_tables.specs.format.TableRules.{Surroundings, Fit}
+use Rattle.mp4_tables.specs.format.Tables.{Tables, tables_of}
+use Rattle.mp4_tables.specs.words.TablesSeen.{TablesSeen}
+use Rattle.mp4_tables.specs.format.TableRows.{table_rows}
 use Rattle.mp4_tables.proofs.Counts.{plain_length}
 use Rattle.mp4_tables.proofs.LeafLists.{boxes_are}
 use Rattle.mp4_tables.proofs.PlaceLists.{count_is}
 use Rattle.mp4_tables.proofs.TableRows.{rows_are}
-use Rattle.mp4_head.specs.Tree.{TrackTree, stbl_of}
+use Rattle.mp4_head.specs.format.Tree.{TrackTree, stbl_of}
 use Rattle.mp4_head.specs.declared.heads.TrackHead.{TrackHead}
-use Rattle.mp4_present.specs.Denotes.{plain_of}
-use Rattle.mp4_present.specs.TrackTrees.{IsTrackOf, AreTracksOf}
-use Rattle.mp4_present.specs.Work.{IfNoFault, table_steps}
+use Rattle.mp4_present.specs.format.Denotes.{plain_of}
+use Rattle.mp4_present.specs.words.TrackTrees.{IsTrackOf, AreTracksOf}
+use Rattle.mp4_present.specs.words.WalkSteps.{IfNoFault, table_steps}
 
 -- ---- answers
 

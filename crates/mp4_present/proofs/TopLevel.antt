@@ -2,16 +2,16 @@
 use Rattle.std.proofs.Common.{◌≡◌, ℕ, ◌+◌, ◌-◌, ◌<◌, ◌≤◌, true, List, [], ◌∷◌, ◌++◌, length, take, drop, Ok, Err, refl, sym, ap, subst, ◌∙◌, arith, length-drop}
 use Rattle.std.specs.Prelude.{codes, min, Result}
 use Rattle.std.proofs.lemmas.List.{drop-drop}
-use Rattle.mp4_boxes.specs.Box.{Box, Header, header_at, box_of, sizes, LieEndToEnd, file_container, Tiles}
-use Rattle.mp4_boxes.specs.BoxFaults.{IsHeaderFault, header_there, type_of, unreadable}
-use Rattle.mp4_boxes.specs.View.{top_header_seen}
+use Rattle.mp4_boxes.specs.format.Box.{Box, Header, header_at, box_of, sizes, LieEndToEnd, file_container, Tiles}
+use Rattle.mp4_boxes.specs.format.BoxFaults.{IsHeaderFault, header_there, type_of, unreadable}
+use Rattle.mp4_boxes.specs.words.View.{top_header_seen}
 use Rattle.mp4_boxes.specs.declared.headers.TopHeader.{TopHeader}
 use Rattle.mp4_boxes.specs.declared.fault.Fault.{Fault}
 use Rattle.mp4_boxes.proofs.Tiling.{header_is, box_size, lies_push, sizes-append, sizes-cons, sizes_fit}
-use Rattle.mp4_store.specs.Device.{range}
+use Rattle.mp4_store.specs.words.Device.{range}
 use Rattle.mp4_boxes.proofs.HeaderFronts.{header_there-take}
 use Rattle.mp4_boxes.proofs.Walking.{located_ok, located_err}
-use Rattle.mp4_present.specs.Reading.{IsTopHeader, top_box}
+use Rattle.mp4_present.specs.words.Reading.{IsTopHeader, top_box}
 
 -- these boxes lie from the front of the file up to a place
 pub record TopPassed (file : List ℕ) (boxes : List Box) (at : ℕ) : Type 0 where

@@ -4,11 +4,11 @@ use Rattle.std.specs.Prelude.{flat_map, find, not, nat_lt, ◌||◌, if◌then�
 use Rattle.std.proofs.lemmas.Grind.{flat_map-append}
 use Rattle.std.proofs.lemmas.Bool.{ltb-true, ltb-false}
 use Rattle.std.proofs.lemmas.List.{append-nil}
-use Rattle.mp4_tables.specs.Groups.{GroupKey, GroupRule, Grouping, keys_after, keys_with}
-use Rattle.mp4_tables.specs.PlainSamples.{PlacedSample}
+use Rattle.mp4_tables.specs.format.Groups.{GroupKey, GroupRule, Grouping, keys_after, keys_with}
+use Rattle.mp4_tables.specs.format.PlainSamples.{PlacedSample}
 use Rattle.mp4_frag.specs.declared.trex.Trex.{Trex}
-use Rattle.mp4_frag.specs.FragmentSamples.{Part, part_samples, has_samples, start_of, duration_of, is_on_time, AreOnTime, has_groups, keys_behind, AreGrouped, bytes_of}
-use Rattle.mp4_frag.specs.Judged.{TrackSeen, track_behind}
+use Rattle.mp4_frag.specs.format.FragmentSamples.{Part, part_samples, has_samples, start_of, duration_of, is_on_time, AreOnTime, has_groups, keys_behind, AreGrouped, bytes_of}
+use Rattle.mp4_frag.specs.words.Judged.{TrackSeen, track_behind}
 use Rattle.mp4_frag.proofs.RunsTied.{duration-append, bytes-append}
 
 -- ---- the samples of parts

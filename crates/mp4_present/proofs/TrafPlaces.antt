@@ -3,20 +3,20 @@ use Rattle.std.proofs.Common.{◌≡◌, true, false, Bool, cond, List, [], ◌�
 use Rattle.std.specs.Prelude.{ℕ, codes, bytes_eq, option_map}
 use Rattle.std.specs.List.{AllByRecursion}
 use Rattle.std.proofs.lemmas.Slice.Eq.{bytes_eq-Decides}
-use Rattle.mp4_boxes.specs.Box.{Box, box_container, file_container, StandsAfter}
-use Rattle.mp4_boxes.specs.BoxFaults.{fault_of, Fails, IsChildFault}
-use Rattle.mp4_boxes.specs.Children.{of_kind, Holds}
-use Rattle.mp4_boxes.specs.Layout.{Leaf, IsSound}
-use Rattle.mp4_boxes.specs.Places.{ruled, Place, whole, at_kind, containers, as_container, inside, leaf_of, IsSoundAs, AreSound, Reaches}
+use Rattle.mp4_boxes.specs.format.Box.{Box, box_container, file_container, StandsAfter}
+use Rattle.mp4_boxes.specs.format.BoxFaults.{fault_of, Fails, IsChildFault}
+use Rattle.mp4_boxes.specs.format.Children.{of_kind, Holds}
+use Rattle.mp4_boxes.specs.format.Layout.{Leaf, IsSound}
+use Rattle.mp4_boxes.specs.format.Places.{ruled, Place, whole, at_kind, containers, as_container, inside, leaf_of, IsSoundAs, AreSound, Reaches}
 use Rattle.mp4_boxes.specs.declared.rule.Rule.{Rule}
 use Rattle.mp4_boxes.specs.declared.rule.Rule.TheVariants as rules
 use Rattle.mp4_boxes.specs.declared.fault.Fault.{Fault}
 use Rattle.mp4_boxes.specs.declared.fault.Kind.{Kind}
 use Rattle.mp4_boxes.proofs.Among.{tail_is}
-use Rattle.mp4_frag.specs.RunsJudged.{children_of}
-use Rattle.mp4_frag.specs.TrafFaults.{HoldsBoxes}
+use Rattle.mp4_frag.specs.words.RunsJudged.{children_of}
+use Rattle.mp4_frag.specs.words.TrafFaults.{HoldsBoxes}
 use Rattle.mp4_head.proofs.Above.{stands_of}
-use Rattle.mp4_present.specs.Stands.{Stands, header, child, missing, leaf as of_leaf}
+use Rattle.mp4_present.specs.format.Stands.{Stands, header, child, missing, leaf as of_leaf}
 
 -- ---- places
 

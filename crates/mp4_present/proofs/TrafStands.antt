@@ -3,28 +3,28 @@ use Rattle.std.proofs.Common.{◌≡◌, ℕ, suc, ◌+◌, ◌-◌, ◌<◌, �
 use Rattle.std.specs.Prelude.{ℤ, pos, codes, find, bytes_eq, IsTrue, is_some, unwrap_or, option_map, slice_get, Contains}
 use Rattle.std.specs.List.{AllByRecursion}
 use Rattle.std.proofs.lemmas.List.{map-append}
-use Rattle.mp4_boxes.specs.Box.{Box, box_container}
-use Rattle.mp4_boxes.specs.BoxFaults.{fault_of}
-use Rattle.mp4_boxes.specs.Children.{of_kind, Holds}
-use Rattle.mp4_boxes.specs.Layout.{tfhd, tfdt, trun, sbgp, row_count, IsReadable, IsSound}
-use Rattle.mp4_boxes.specs.Places.{ruled, AreSound}
+use Rattle.mp4_boxes.specs.format.Box.{Box, box_container}
+use Rattle.mp4_boxes.specs.format.BoxFaults.{fault_of}
+use Rattle.mp4_boxes.specs.format.Children.{of_kind, Holds}
+use Rattle.mp4_boxes.specs.format.Layout.{tfhd, tfdt, trun, sbgp, row_count, IsReadable, IsSound}
+use Rattle.mp4_boxes.specs.format.Places.{ruled, AreSound}
 use Rattle.mp4_boxes.specs.declared.rule.Rule.TheVariants as rules
 use Rattle.mp4_boxes.specs.declared.fault.Fault.{Fault}
 use Rattle.mp4_boxes.specs.declared.fault.Kind.TheVariants as kinds
 use Rattle.mp4_boxes.proofs.Each.{each_dropped}
-use Rattle.mp4_tables.specs.Groups.{GroupRule, one_of_key, few_keys, index_range, group_counts, groupings_of, grouping_of, group_test, group_kind, keeps}
-use Rattle.mp4_tables.specs.Keys.{keys_seen}
-use Rattle.mp4_tables.specs.PlainSamples.{PlacedSample}
-use Rattle.mp4_tables.specs.TableRules.{is_index, GroupsReadable}
-use Rattle.mp4_frag.specs.Fragments.{FragmentTree, IsFragmentTree, AreTrafs, track_fragment_of}
-use Rattle.mp4_frag.specs.FragmentSamples.{Part, parts_for, parts_after, trex_for, no_trex, base_of, start_of, duration_of, is_on_time, keys_behind}
-use Rattle.mp4_frag.specs.FragmentRules.{TrackInfo, track_for, is_known, is_within}
-use Rattle.mp4_frag.specs.Judged.{TrackSeen, track_seen, part_with}
-use Rattle.mp4_frag.specs.Passing.{is_late_at}
-use Rattle.mp4_frag.specs.Reading.{inheritance}
-use Rattle.mp4_frag.specs.RunsJudged.{children_of, run_ends, runs_in, AreRunsSound, runs_total}
-use Rattle.mp4_frag.specs.TrafFaults.{HoldsBoxes, HasHead, IsOnly, IsTrackOf, traf_in}
-use Rattle.mp4_frag.specs.Walks.{trex_among}
+use Rattle.mp4_tables.specs.format.Groups.{GroupRule, one_of_key, few_keys, index_range, group_counts, groupings_of, grouping_of, group_test, group_kind, keeps}
+use Rattle.mp4_tables.specs.words.Keys.{keys_seen}
+use Rattle.mp4_tables.specs.format.PlainSamples.{PlacedSample}
+use Rattle.mp4_tables.specs.format.TableRules.{is_index, GroupsReadable}
+use Rattle.mp4_frag.specs.format.Fragments.{FragmentTree, IsFragmentTree, AreTrafs, track_fragment_of}
+use Rattle.mp4_frag.specs.format.FragmentSamples.{Part, parts_for, parts_after, trex_for, no_trex, base_of, start_of, duration_of, is_on_time, keys_behind}
+use Rattle.mp4_frag.specs.format.FragmentRules.{TrackInfo, track_for, is_known, is_within}
+use Rattle.mp4_frag.specs.words.Judged.{TrackSeen, track_seen, part_with}
+use Rattle.mp4_frag.specs.words.Passing.{is_late_at}
+use Rattle.mp4_frag.specs.words.Reading.{inheritance}
+use Rattle.mp4_frag.specs.words.RunsJudged.{children_of, run_ends, runs_in, AreRunsSound, runs_total}
+use Rattle.mp4_frag.specs.words.TrafFaults.{HoldsBoxes, HasHead, IsOnly, IsTrackOf, traf_in}
+use Rattle.mp4_frag.specs.words.Walks.{trex_among}
 use Rattle.mp4_frag.specs.declared.heads.Inherited.{Inherited}
 use Rattle.mp4_frag.specs.declared.state.TrackState.{TrackState}
 use Rattle.mp4_frag.specs.declared.trex.Trex.{Trex}
@@ -32,11 +32,11 @@ use Rattle.mp4_frag.proofs.PartReasons.{part_counts, lacks_description, not_on_t
 use Rattle.mp4_frag.proofs.GroupReasons.{rule_broken}
 use Rattle.mp4_frag.proofs.SeenLists.{find_map}
 use Rattle.mp4_frag.proofs.TrafPassed.{head_sound, time_sound}
-use Rattle.mp4_head.specs.Tree.{TrackTree, MovieTree, first_of, trexes_of}
-use Rattle.mp4_present.specs.Denotes.{IsSoundFragment, plain_of, plain_keys, track_infos}
-use Rattle.mp4_present.specs.Presentation.{max_samples}
-use Rattle.mp4_present.specs.Stands.{Stands, fragment, count, Behind, parts_with, unknown_track, description_index, place, fragment_group, decode_time, AreSoundOf, RunsReadable, LeavesReadable, run_total, trafs_total}
-use Rattle.mp4_present.specs.Passing.{IsMovieOf, IsNextMoof, parts_behind, seen_behind}
+use Rattle.mp4_head.specs.format.Tree.{TrackTree, MovieTree, first_of, trexes_of}
+use Rattle.mp4_present.specs.format.Denotes.{IsSoundFragment, plain_of, plain_keys, track_infos}
+use Rattle.mp4_present.specs.format.Presentation.{max_samples}
+use Rattle.mp4_present.specs.format.Stands.{Stands, fragment, count, Behind, parts_with, unknown_track, description_index, place, fragment_group, decode_time, AreSoundOf, RunsReadable, LeavesReadable, run_total, trafs_total}
+use Rattle.mp4_present.specs.words.Passing.{IsMovieOf, IsNextMoof, parts_behind, seen_behind}
 use Rattle.mp4_present.proofs.MoofBehind.{IsInside, counted, next_part, parts_until, said_by}
 use Rattle.mp4_present.proofs.PartsBehind.{IsTracked, id_of, indexes_same, own_more, part_known, tracked, trex_known}
 use Rattle.mp4_present.proofs.TracksBehind.{samples_of, start_came}

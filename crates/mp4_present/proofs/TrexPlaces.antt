@@ -4,9 +4,9 @@ use Rattle.std.specs.Prelude.{not, nat_eq}
 use Rattle.std.specs.List.{list_any}
 use Rattle.std.proofs.lemmas.Bool.{eqb-true, and_parts}
 use Rattle.mp4_boxes.proofs.Among.{true_false}
-use Rattle.mp4_frag.specs.FragmentSamples.{trex_for}
+use Rattle.mp4_frag.specs.format.FragmentSamples.{trex_for}
 use Rattle.mp4_frag.specs.declared.trex.Trex.{Trex}
-use Rattle.mp4_head.specs.Tree.{are_distinct}
+use Rattle.mp4_head.specs.format.Tree.{are_distinct}
 
 not_true : (b : Bool) → not b ≡ true → b ≡ false
 not_true true e = absurd cc

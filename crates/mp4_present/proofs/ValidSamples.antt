@@ -4,24 +4,24 @@ use Rattle.std.specs.Prelude.{map, find, flat_map, unwrap_or, option_map, IfSome
 use Rattle.std.specs.List.{AllByRecursion}
 use Rattle.std.proofs.lemmas.Bool.{leb-true, eqb-true, and_parts}
 use Rattle.std.proofs.lemmas.List.{length-take}
-use Rattle.mp4_boxes.specs.Bytes.{AreBytes}
+use Rattle.mp4_boxes.specs.format.Bytes.{AreBytes}
 use Rattle.mp4_boxes.proofs.Among.{IsIn, all_append}
 use Rattle.mp4_boxes.proofs.Each.{each_tested, each_value, each_weaker, each_from, each_joined, each_member}
 use Rattle.mp4_boxes.proofs.OfBytes.{no_bytes, bytes_taken, bytes_dropped}
 use Rattle.mp4_boxes.proofs.Refusing.{found_has}
-use Rattle.mp4_tables.specs.Groups.{GroupKey, Grouping, Groups, keys_with, keys_after, max_keys}
-use Rattle.mp4_tables.specs.PlainSamples.{PlacedSample}
-use Rattle.mp4_tables.specs.TableRules.{is_index}
+use Rattle.mp4_tables.specs.format.Groups.{GroupKey, Grouping, Groups, keys_with, keys_after, max_keys}
+use Rattle.mp4_tables.specs.format.PlainSamples.{PlacedSample}
+use Rattle.mp4_tables.specs.format.TableRules.{is_index}
 use Rattle.mp4_tables.proofs.NamedKeys.{IsAmong, among_with, few_with}
 use Rattle.mp4_tables.proofs.GroupMaps.{IsMap, keys_named, order_test, map_through, named_after, after-append, still_few}
 use Rattle.mp4_tables.proofs.Placed.{IsPlaced, IsIndex}
-use Rattle.mp4_frag.specs.FragmentSamples.{Part, part_samples, has_samples, start_of, keys_behind, AreGrouped}
-use Rattle.mp4_frag.specs.FragmentRules.{TrackInfo, track_for, has_indexes}
+use Rattle.mp4_frag.specs.format.FragmentSamples.{Part, part_samples, has_samples, start_of, keys_behind, AreGrouped}
+use Rattle.mp4_frag.specs.format.FragmentRules.{TrackInfo, track_for, has_indexes}
 use Rattle.mp4_frag.proofs.Ranges.{IsPart, part_placed}
-use Rattle.mp4_head.specs.Tree.{TrackTree, MovieTree, are_distinct, track_head_of}
+use Rattle.mp4_head.specs.format.Tree.{TrackTree, MovieTree, are_distinct, track_head_of}
 use Rattle.mp4_head.proofs.Distinct.{distinct_same}
-use Rattle.mp4_present.specs.Presentation.{Sample, IsGroup, IsParameter, IsSample, keys_of}
-use Rattle.mp4_present.specs.Denotes.{track_infos, bytes_at, sample_of}
+use Rattle.mp4_present.specs.format.Presentation.{Sample, IsGroup, IsParameter, IsSample, keys_of}
+use Rattle.mp4_present.specs.format.Denotes.{track_infos, bytes_at, sample_of}
 
 -- ---- one sample
 

@@ -1,10 +1,10 @@
 use Rattle.std.specs.Prelude.{◌≡◌, pos, List, [], ◌∷◌, codes, refl}
 use Rattle.std.specs.Prelude.{ℕ, map, Option, Some, None, ◌++◌, take, drop}
 use Rattle.mp4_boxes.proofs.Vectors.{p, part}
-use Rattle.mp4_tables.specs.Groups.{GroupKey, Groups}
+use Rattle.mp4_tables.specs.format.Groups.{GroupKey, Groups}
 use Rattle.mp4_head.proofs.Vectors.{v1_head, p_track, p_track_tree}
-use Rattle.mp4_present.specs.Presentation.{Sample, Presentation, movie_length}
-use Rattle.mp4_present.specs.Denotes.{FileTree, presentation_of}
+use Rattle.mp4_present.specs.format.Presentation.{Sample, Presentation, movie_length}
+use Rattle.mp4_present.specs.format.Denotes.{FileTree, presentation_of}
 
 abbrev pub p_samples : List Sample
 p_samples = record { duration = 512; offset = pos 0; flags = 0; description = 1; bytes = codes "aaaaa"; groups = [] }

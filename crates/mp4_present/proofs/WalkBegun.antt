@@ -3,27 +3,27 @@ use Rattle.std.proofs.Common.{◌≡◌, ℕ, ◌+◌, ◌-◌, ◌^◌, min, le
 use Rattle.std.specs.Prelude.{codes, flat_map, ℤ, unwrap_or}
 use Rattle.std.proofs.lemmas.List.{append-nil}
 use Rattle.std.proofs.lemmas.List.{length-map}
-use Rattle.mp4_boxes.specs.Box.{Box}
-use Rattle.mp4_boxes.specs.Children.{of_kind}
+use Rattle.mp4_boxes.specs.format.Box.{Box}
+use Rattle.mp4_boxes.specs.format.Children.{of_kind}
 use Rattle.mp4_boxes.proofs.Among.{of_kind-append}
-use Rattle.mp4_tables.specs.Groups.{GroupKey, Grouping}
-use Rattle.mp4_tables.specs.PlainSamples.{PlacedSample, Spot, joined}
-use Rattle.mp4_tables.specs.Tables.{tables_of}
-use Rattle.mp4_tables.specs.Timed.{timed, samples_of}
-use Rattle.mp4_tables.specs.Accepted.{tables_at}
-use Rattle.mp4_tables.specs.Views.{TablesSeen, CursorSeen, samples_from}
-use Rattle.mp4_tables.specs.Views as views
-use Rattle.mp4_frag.specs.FragmentSamples.{Part, start_of, duration_of, fragment_samples}
-use Rattle.mp4_frag.specs.Judged.{TrackSeen, track_seen}
+use Rattle.mp4_tables.specs.format.Groups.{GroupKey, Grouping}
+use Rattle.mp4_tables.specs.format.PlainSamples.{PlacedSample, Spot, joined}
+use Rattle.mp4_tables.specs.format.Tables.{tables_of}
+use Rattle.mp4_tables.specs.words.Timed.{timed, samples_of}
+use Rattle.mp4_tables.specs.words.Accepted.{tables_at}
+use Rattle.mp4_tables.specs.words.TablesSeen.{TablesSeen, CursorSeen, samples_from}
+use Rattle.mp4_tables.specs.words.TablesSeen as views
+use Rattle.mp4_frag.specs.format.FragmentSamples.{Part, start_of, duration_of, fragment_samples}
+use Rattle.mp4_frag.specs.words.Judged.{TrackSeen, track_seen}
 use Rattle.mp4_frag.specs.declared.state.TrackState.{TrackState}
 use Rattle.mp4_frag.proofs.RunsTied.{timed-append}
-use Rattle.mp4_head.specs.Tree.{TrackTree, track_head_of, trexes_of}
-use Rattle.mp4_present.specs.Denotes.{FileTree, plain_of, plain_keys, file_parts, parts_of_track, placed_of, sample_of}
-use Rattle.mp4_present.specs.Outline.{BeginAt}
-use Rattle.mp4_present.specs.OpenedMovie.{IsOpenedAs, IsInfoOf, AreTablesOf, plain_seen}
-use Rattle.mp4_present.specs.Movies.{MovieSeen, table_bytes, tables_seen}
-use Rattle.mp4_present.specs.Passing.{parts_behind}
-use Rattle.mp4_present.specs.Coming.{track_keys, track_samples, due_behind, samples_behind, StandsBefore, HoldsLast}
+use Rattle.mp4_head.specs.format.Tree.{TrackTree, track_head_of, trexes_of}
+use Rattle.mp4_present.specs.format.Denotes.{FileTree, plain_of, plain_keys, file_parts, parts_of_track, placed_of, sample_of}
+use Rattle.mp4_present.specs.words.Outline.{BeginAt}
+use Rattle.mp4_present.specs.words.OpenedMovie.{IsOpenedAs, IsInfoOf, AreTablesOf, plain_seen}
+use Rattle.mp4_present.specs.words.Movies.{MovieSeen, table_bytes, tables_seen}
+use Rattle.mp4_present.specs.words.Passing.{parts_behind}
+use Rattle.mp4_present.specs.words.SamplesComing.{track_keys, track_samples, due_behind, samples_behind, StandsBefore, HoldsLast}
 use Rattle.mp4_present.specs.declared.track_info.TrackInfo.{TrackInfo}
 use Rattle.mp4_present.specs.declared.movie.TrackTables.{TrackTables}
 use Rattle.mp4_present.specs.declared.walks.Due.{Due}

@@ -8,20 +8,20 @@ use Rattle.mp4_boxes.proofs.Each.{each_member}
 use Rattle.mp4_boxes.proofs.Joined.{all_first, all_last}
 use Rattle.mp4_boxes.specs.declared.refusal.Refusal.{Refusal}
 use Rattle.mp4_boxes.specs.declared.refusal.Refusal.TheVariants as refusals
-use Rattle.mp4_store.specs.Device.{AppendsPrefix}
+use Rattle.mp4_store.specs.words.Device.{AppendsPrefix}
 use Rattle.mp4_store.proofs.Known.{AppendsPrefix-longer}
 use Rattle.mp4_tables.specs.declared.sample.SampleAt.{SampleAt}
 use Rattle.mp4_tables.proofs.Sums.{timed_bytes}
-use Rattle.mp4_tables.specs.Views.{CursorSeen as TableView}
-use Rattle.mp4_frag.specs.Fragments.{FragmentTree}
-use Rattle.mp4_head.specs.Tree.{TrackTree}
-use Rattle.mp4_present.specs.Carried.{BytesGoOn, RefusesPut, RefusesStretch}
-use Rattle.mp4_present.specs.Coming.{StandsBefore, Comes, Loads, samples_behind, track_samples}
-use Rattle.mp4_present.specs.Denotes.{FileTree, file_parts, placed_of}
-use Rattle.mp4_present.specs.InHand.{left_in_hand}
-use Rattle.mp4_present.specs.Joined.{IsBelow, sample_bytes, sizes_of}
-use Rattle.mp4_present.specs.Movies.{MovieSeen, HandAt, InHandOf, tables_seen}
-use Rattle.mp4_present.specs.OpenedMovie.{IsOpenedAs, IsInfoOf}
+use Rattle.mp4_tables.specs.words.TablesSeen.{CursorSeen as TableView}
+use Rattle.mp4_frag.specs.format.Fragments.{FragmentTree}
+use Rattle.mp4_head.specs.format.Tree.{TrackTree}
+use Rattle.mp4_present.specs.words.Carried.{BytesGoOn, RefusesPut, RefusesStretch}
+use Rattle.mp4_present.specs.words.SamplesComing.{StandsBefore, Comes, Loads, samples_behind, track_samples}
+use Rattle.mp4_present.specs.format.Denotes.{FileTree, file_parts, placed_of}
+use Rattle.mp4_present.specs.words.InHand.{left_in_hand}
+use Rattle.mp4_present.specs.words.Joined.{IsBelow, sample_bytes, sizes_of}
+use Rattle.mp4_present.specs.words.Movies.{MovieSeen, HandAt, InHandOf, tables_seen}
+use Rattle.mp4_present.specs.words.OpenedMovie.{IsOpenedAs, IsInfoOf}
 use Rattle.mp4_present.specs.declared.in_hand.InHand.{InHand}
 use Rattle.mp4_present.specs.declared.in_hand.InHand.TheVariants as hands
 use Rattle.mp4_present.specs.declared.in_hand.Place.{Place}

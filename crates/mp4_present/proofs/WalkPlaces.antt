@@ -2,12 +2,12 @@
 use Rattle.std.proofs.Common.{◌≡◌, ℕ, ◌+◌, ◌<◌, ◌≤◌, zero, suc, List, [], ◌∷◌, length, Option, None, Some, refl, sym, ap, subst, ◌∙◌, arith}
 use Rattle.std.proofs.Math.Nat.{le_refl}
 use Rattle.std.specs.List.{AllByRecursion, slice_get}
-use Rattle.mp4_tables.specs.Views.{TablesSeen}
-use Rattle.mp4_tables.specs.Views.{CursorSeen as TableView}
-use Rattle.mp4_frag.specs.Views.{CursorSeen as MoofView}
-use Rattle.mp4_frag.specs.PlacesIn.{IsPlaceIn}
-use Rattle.mp4_frag.specs.Walks.{samples_coming}
-use Rattle.mp4_present.specs.InHand.{AreLast, last_of_last, Follows, IsPlaceOf}
+use Rattle.mp4_tables.specs.words.TablesSeen.{TablesSeen}
+use Rattle.mp4_tables.specs.words.TablesSeen.{CursorSeen as TableView}
+use Rattle.mp4_frag.specs.words.FragmentsSeen.{CursorSeen as MoofView}
+use Rattle.mp4_frag.specs.words.PlacesIn.{IsPlaceIn}
+use Rattle.mp4_frag.specs.words.Walks.{samples_coming}
+use Rattle.mp4_present.specs.words.InHand.{AreLast, last_of_last, Follows, IsPlaceOf}
 use Rattle.mp4_present.specs.declared.in_hand.InHand.{InHand}
 use Rattle.mp4_present.specs.declared.in_hand.InHand.TheVariants as hands
 use Rattle.mp4_present.specs.declared.in_hand.Place.{Place}
@@ -15,9 +15,9 @@ use Rattle.mp4_present.specs.declared.in_hand.Place.TheVariants.{Tables, Fragmen
 use Rattle.mp4_present.specs.declared.walks.Due.{Due}
 use Rattle.mp4_present.specs.declared.walks.Mark.{Mark}
 use Rattle.mp4_present.specs.declared.walks.Walk.{Walk}
-use Rattle.mp4_tables.specs.Accepted.{IsPlace}
+use Rattle.mp4_tables.specs.words.Accepted.{IsPlace}
 use Rattle.mp4_tables.specs.declared.places.TablePlace.{TablePlace}
-use Rattle.mp4_present.specs.Movies.{MovieSeen, IsMovie, GoesOn, IsWalkOf, IsMarkOf, HasMarked, IsRest, StandsAt, HandAt, InHandOf, table_bytes, all_in_moof, moof_hand, mark_of}
+use Rattle.mp4_present.specs.words.Movies.{MovieSeen, IsMovie, GoesOn, IsWalkOf, IsMarkOf, HasMarked, IsRest, StandsAt, HandAt, InHandOf, table_bytes, all_in_moof, moof_hand, mark_of}
 use Rattle.mp4_present.specs.declared.movie.TrackTables.{TrackTables}
 
 -- an element at a place below the length

@@ -1,13 +1,13 @@
 -- The steps of a check of a `moof`, and of the way to a place in it.
 use Rattle.std.proofs.Common.{◌≡◌, ℕ, ◌+◌, ◌≤◌, List, subst, arith}
-use Rattle.mp4_boxes.specs.Box.{Box}
-use Rattle.mp4_frag.specs.Work.{fragment_rows, fragment_length, moof_says}
+use Rattle.mp4_boxes.specs.format.Box.{Box}
+use Rattle.mp4_frag.specs.format.FragmentRows.{fragment_rows, fragment_length, moof_says}
 use Rattle.mp4_frag.specs.declared.state.TrackState.{TrackState}
 use Rattle.mp4_frag.proofs.WalkBound.{length_taken}
-use Rattle.mp4_present.specs.Work.{moof_steps}
-use Rattle.mp4_frag.specs.Judged.{AreMovedOn}
-use Rattle.mp4_boxes.specs.Children.{of_kind}
-use Rattle.mp4_frag.specs.RunsJudged.{children_of}
+use Rattle.mp4_present.specs.words.WalkSteps.{moof_steps}
+use Rattle.mp4_frag.specs.words.Judged.{AreMovedOn}
+use Rattle.mp4_boxes.specs.format.Children.{of_kind}
+use Rattle.mp4_frag.specs.words.RunsJudged.{children_of}
 use Rattle.std.specs.Prelude.{pos, codes}
 
 -- the tracks are moved on by all `traf`s of the `moof`

@@ -1,29 +1,29 @@
 -- The way of a walk through what it has in hand: no place in it is farther, and from each the walk may take what is left of its steps.
 use Rattle.std.proofs.Common.{◌≡◌, ℕ, ◌+◌, ◌-◌, ◌*◌, ◌≤◌, Bool, List, [], ◌∷◌, ◌++◌, length, Some, refl, sym, ap, subst, ◌∙◌, arith}
 use Rattle.std.specs.List.{slice_get}
-use Rattle.mp4_boxes.specs.Box.{Box}
-use Rattle.mp4_tables.specs.Accepted.{IsAccepted, IsPlace, passed, rows_in, tables_at}
-use Rattle.mp4_tables.specs.PlainSamples.{plain_samples}
-use Rattle.mp4_tables.specs.Tables.{Tables, tables_of}
-use Rattle.mp4_tables.specs.Views.{CursorSeen as TableView}
-use Rattle.mp4_tables.specs.Work.{table_rows}
+use Rattle.mp4_boxes.specs.format.Box.{Box}
+use Rattle.mp4_tables.specs.words.Accepted.{IsAccepted, IsPlace, passed, rows_in, tables_at}
+use Rattle.mp4_tables.specs.format.PlainSamples.{plain_samples}
+use Rattle.mp4_tables.specs.format.Tables.{Tables, tables_of}
+use Rattle.mp4_tables.specs.words.TablesSeen.{CursorSeen as TableView}
+use Rattle.mp4_tables.specs.format.TableRows.{table_rows}
 use Rattle.mp4_tables.specs.declared.places.TablesAt.{TablesAt}
 use Rattle.mp4_tables.specs.declared.places.TablePlace.{TablePlace}
 use Rattle.mp4_tables.proofs.Counts.{plain_length}
 use Rattle.mp4_tables.proofs.Passed.{passed_within}
 use Rattle.mp4_tables.proofs.PlaceLists.{count_is}
 use Rattle.mp4_tables.proofs.TableRows.{rows_are}
-use Rattle.mp4_frag.specs.Fragments.{FragmentTree}
-use Rattle.mp4_frag.specs.Views.{CursorSeen as MoofView}
+use Rattle.mp4_frag.specs.format.Fragments.{FragmentTree}
+use Rattle.mp4_frag.specs.words.FragmentsSeen.{CursorSeen as MoofView}
 use Rattle.mp4_frag.specs.declared.places.FragPlace.{FragPlace}
 use Rattle.mp4_frag.proofs.WalkBound.{place_said}
-use Rattle.mp4_head.specs.Tree.{TrackTree}
-use Rattle.mp4_present.specs.Coming.{StandsBefore, HoldsNext, Takes}
-use Rattle.mp4_present.specs.Denotes.{FileTree}
-use Rattle.mp4_present.specs.InHand.{Follows, IsPlaceOf}
-use Rattle.mp4_present.specs.Movies.{MovieSeen, IsMovie, IsWalkOf, LieIn, StandsAt, HandAt, InHandOf, table_bytes, moof_box}
-use Rattle.mp4_present.specs.OpenedMovie.{IsOpenedAs, AreTablesOf}
-use Rattle.mp4_present.specs.Work.{steps_to, moof_steps, moofs_steps, table_way, way_through, walk_steps, MayTake, TakesOn}
+use Rattle.mp4_head.specs.format.Tree.{TrackTree}
+use Rattle.mp4_present.specs.words.SamplesComing.{StandsBefore, HoldsNext, Takes}
+use Rattle.mp4_present.specs.format.Denotes.{FileTree}
+use Rattle.mp4_present.specs.words.InHand.{Follows, IsPlaceOf}
+use Rattle.mp4_present.specs.words.Movies.{MovieSeen, IsMovie, IsWalkOf, LieIn, StandsAt, HandAt, InHandOf, table_bytes, moof_box}
+use Rattle.mp4_present.specs.words.OpenedMovie.{IsOpenedAs, AreTablesOf}
+use Rattle.mp4_present.specs.words.WalkSteps.{steps_to, moof_steps, moofs_steps, table_way, way_through, walk_steps, MayTake, TakesOn}
 use Rattle.mp4_present.specs.declared.in_hand.InHand.{InHand}
 use Rattle.mp4_present.specs.declared.in_hand.InHand.TheVariants as hands
 use Rattle.mp4_present.specs.declared.in_hand.Place.{Place}

@@ -1,7 +1,7 @@
 //! Bytes on their way to a sink, through one buffer.
 ghost use Rattle.std.specs.Prelude.{◌≡◌, ◌+◌, ◌<◌, ◌≤◌, ◌++◌, length, take, vec_len, IfErr, OnOk, IsTrue};
 ghost use Rattle.mp4_boxes.specs.declared.refusal.Refusal.TheVariants as refusals;
-ghost use Rattle.mp4_store.specs.Device.{HasRisen, range};
+ghost use Rattle.mp4_store.specs.words.Device.{HasRisen, range};
 
 use mp4_boxes::Refusal;
 use mp4_store::{Sink, Store};
@@ -50,8 +50,8 @@ impl Carrier {
     ghost use Rattle.std.specs.Prelude.{◌≡◌, ◌+◌, ◌<◌, ◌≤◌, [], ◌++◌, length, vec_len, IfOk, IfErr, OnOk, OnErr, IsTrue};
     ghost use Rattle.std.specs.Io.KnownBytes.{Appends};
     ghost use Rattle.mp4_boxes.specs.declared.refusal.Refusal.TheVariants as refusals;
-    ghost use Rattle.mp4_store.specs.Device.{AppendsPrefix, HasRisen, range};
-    ghost use Rattle.mp4_present.specs.Carried.{waiting, BytesGoOn, GoOnBy, RefusesPut, RefusesRange};
+    ghost use Rattle.mp4_store.specs.words.Device.{AppendsPrefix, HasRisen, range};
+    ghost use Rattle.mp4_present.specs.words.Carried.{waiting, BytesGoOn, GoOnBy, RefusesPut, RefusesRange};
 
     /// A buffer of so many bytes, at least one.
     pub fn new(alloc: Global, len: usize) -> Result<Carrier, AllocError>

@@ -1,11 +1,11 @@
 //! The `moof`s of a file, each read, checked and given up before the next.
 ghost use Rattle.std.specs.Prelude.{◌≡◌, ◌+◌, ◌^◌, ◌≤◌, List, length, IfOk, IfErr, OnOk, IsTrue};
-ghost use Rattle.mp4_head.specs.Tree.{MovieTree};
-ghost use Rattle.mp4_boxes.specs.Box.{Box};
-ghost use Rattle.mp4_present.specs.PassedMoofs.{IsBegun, IsPassed, RefusesFragments};
-ghost use Rattle.mp4_frag.specs.States.{HaveRoom};
-ghost use Rattle.mp4_present.specs.Opening.{HasOutline};
-ghost use Rattle.mp4_present.specs.Work.{ChecksWithin, IfNoFault};
+ghost use Rattle.mp4_head.specs.format.Tree.{MovieTree};
+ghost use Rattle.mp4_boxes.specs.format.Box.{Box};
+ghost use Rattle.mp4_present.specs.words.PassedMoofs.{IsBegun, IsPassed, RefusesFragments};
+ghost use Rattle.mp4_frag.specs.words.States.{HaveRoom};
+ghost use Rattle.mp4_present.specs.words.Opening.{HasOutline};
+ghost use Rattle.mp4_present.specs.words.WalkSteps.{ChecksWithin, IfNoFault};
 
 use crate::fragments::next_fragment;
 use crate::outline::Outline;

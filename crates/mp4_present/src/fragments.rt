@@ -1,9 +1,9 @@
 //! The fragments of a file that was read before, found again.
 ghost use Rattle.std.specs.Prelude.{◌≡◌, ◌+◌, ◌<◌, ◌≤◌, List, length, IfOk, IfErr, IfSome, OnOk, IsTrue};
-ghost use Rattle.mp4_boxes.specs.Box.{Box};
-ghost use Rattle.mp4_present.specs.Movies.{IsWhole};
-ghost use Rattle.mp4_present.specs.Reading.{IsTopHeader};
-ghost use Rattle.mp4_present.specs.Again.{AreFrom, IsNextFragment, RefusesHeaderAgain, RefusesNext};
+ghost use Rattle.mp4_boxes.specs.format.Box.{Box};
+ghost use Rattle.mp4_present.specs.words.Movies.{IsWhole};
+ghost use Rattle.mp4_present.specs.words.Reading.{IsTopHeader};
+ghost use Rattle.mp4_present.specs.words.Again.{AreFrom, IsNextFragment, RefusesHeaderAgain, RefusesNext};
 
 use crate::outline::{MOOF, is};
 use crate::reading::{TopBox, read_top_header};

@@ -1,16 +1,16 @@
 //! How a walk goes back to where it stood.
 ghost use Rattle.std.specs.Prelude.{ℕ, ◌≡◌, ◌+◌, ◌≤◌, List, length, drop, Bool, true, false, Ok, Err, Some, slice_get, IfErr, OnOk, OnErr, IsOk, IsTrue};
 ghost use Rattle.mp4_boxes.specs.declared.refusal.Refusal.TheVariants as refusals;
-ghost use Rattle.mp4_frag.specs.Fragments.{FragmentTree};
-ghost use Rattle.mp4_head.specs.Tree.{TrackTree};
+ghost use Rattle.mp4_frag.specs.format.Fragments.{FragmentTree};
+ghost use Rattle.mp4_head.specs.format.Tree.{TrackTree};
 ghost use Rattle.mp4_tables.specs.declared.sample.SampleAt.{SampleAt};
-ghost use Rattle.mp4_present.specs.Coming.{Comes, StandsBefore, Takes};
-ghost use Rattle.mp4_present.specs.Denotes.{FileTree};
-ghost use Rattle.mp4_present.specs.GoingBack.{GoesBackTo, HoldsMarked, again_from, back_steps, is_at_hand, set_back};
-ghost use Rattle.mp4_present.specs.InHand.{left_in_hand};
-ghost use Rattle.mp4_present.specs.Movies.{MovieSeen, GoesOn, StandsAt, IsRest, IsWalkOf, InHandOf, RefusesLoad, all_in_moof, mark_of, moof_box};
-ghost use Rattle.mp4_present.specs.OpenedMovie.{IsOpenedAs};
-ghost use Rattle.mp4_present.specs.Work.{MayTake, TakesOn, moof_steps, steps_to, way_through};
+ghost use Rattle.mp4_present.specs.words.SamplesComing.{Comes, StandsBefore, Takes};
+ghost use Rattle.mp4_present.specs.format.Denotes.{FileTree};
+ghost use Rattle.mp4_present.specs.words.GoingBack.{GoesBackTo, HoldsMarked, again_from, back_steps, is_at_hand, set_back};
+ghost use Rattle.mp4_present.specs.words.InHand.{left_in_hand};
+ghost use Rattle.mp4_present.specs.words.Movies.{MovieSeen, GoesOn, StandsAt, IsRest, IsWalkOf, InHandOf, RefusesLoad, all_in_moof, mark_of, moof_box};
+ghost use Rattle.mp4_present.specs.words.OpenedMovie.{IsOpenedAs};
+ghost use Rattle.mp4_present.specs.words.WalkSteps.{MayTake, TakesOn, moof_steps, steps_to, way_through};
 ghost use Rattle.mp4_present.specs.declared.in_hand.InHand.{InHand};
 ghost use Rattle.mp4_present.specs.declared.track_info.TrackInfo.{TrackInfo};
 

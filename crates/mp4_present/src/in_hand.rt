@@ -13,7 +13,7 @@ pub enum Place {
 
 impl Place {
     ghost use Rattle.std.specs.Prelude.{◌≡◌};
-    ghost use Rattle.mp4_present.specs.Work.{steps_to};
+    ghost use Rattle.mp4_present.specs.words.WalkSteps.{steps_to};
 
     /// How many steps a cursor took to come here.
     pub(crate) fn passed(&self) -> u64
@@ -34,7 +34,7 @@ pub enum InHand<'a> {
 }
 
 impl<'a> InHand<'a> {
-    ghost use Rattle.mp4_present.specs.InHand.{IsPlaceOf};
+    ghost use Rattle.mp4_present.specs.words.InHand.{IsPlaceOf};
 
     /// Where it stands.
     pub fn place(&self) -> Place
@@ -48,7 +48,7 @@ impl<'a> InHand<'a> {
 }
 
 impl<'a> Samples for InHand<'a> {
-    ghost use Rattle.mp4_present.specs.InHand.{left_in_hand, Follows, follows_itself, follows_on};
+    ghost use Rattle.mp4_present.specs.words.InHand.{left_in_hand, Follows, follows_itself, follows_on};
 
     ghost rest = { left_in_hand };
 

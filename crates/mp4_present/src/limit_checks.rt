@@ -1,14 +1,14 @@
 //! The limits that hold of a presentation as a whole.
 ghost use Rattle.std.specs.Prelude.{◌≡◌, ◌-◌, ◌^◌, ◌<◌, ◌≤◌, if◌then◌else◌, min, max, length, map, Some, None, IfOk, IfErr, codes};
 ghost use Rattle.std.specs.List.{AllByRecursion};
-ghost use Rattle.mp4_boxes.specs.Bytes.{sum_of};
-ghost use Rattle.mp4_boxes.specs.View.{box_seen};
+ghost use Rattle.mp4_boxes.specs.format.Bytes.{sum_of};
+ghost use Rattle.mp4_boxes.specs.words.View.{box_seen};
 ghost use Rattle.mp4_boxes.specs.declared.fault.Kind.TheVariants.{TimeTooLarge};
-ghost use Rattle.mp4_head.specs.Head as heads;
-ghost use Rattle.mp4_head.specs.Seen.{edit_seen};
-ghost use Rattle.mp4_present.specs.Presentation.{Presentation, Track, IsInTime, max_moov, movie_length, normal_moov_length, says_all};
-ghost use Rattle.mp4_present.specs.Presentation as presented;
-ghost use Rattle.mp4_present.specs.Measured.{length_by, IsMeasured, IsMeasure, LimitFails};
+ghost use Rattle.mp4_head.specs.format.Head as heads;
+ghost use Rattle.mp4_head.specs.words.Seen.{edit_seen};
+ghost use Rattle.mp4_present.specs.format.Presentation.{Presentation, Track, IsInTime, max_moov, movie_length, normal_moov_length, says_all};
+ghost use Rattle.mp4_present.specs.format.Presentation as presented;
+ghost use Rattle.mp4_present.specs.words.Measured.{length_by, IsMeasured, IsMeasure, LimitFails};
 
 use crate::totals::in_64_bits;
 use mp4_boxes::{BoxView, Fault, FourCc, Kind};

@@ -39,7 +39,7 @@ pub struct Movie {
 }
 
 impl Model for Movie {
-    ghost use Rattle.mp4_present.specs.Movies.{MovieSeen, IsMovie};
+    ghost use Rattle.mp4_present.specs.words.Movies.{MovieSeen, IsMovie};
 
     ghost Value = { MovieSeen };
 
@@ -72,8 +72,8 @@ impl Model for Movie {
 
 impl Movie {
     ghost use Rattle.std.specs.Prelude.{◌≡◌, ◌<◌, length, slice_get, Some, IfOk};
-    ghost use Rattle.mp4_head.specs.Found.{SaysHead};
-    ghost use Rattle.mp4_present.specs.Movies.{IsMovie, moov_box, tables_seen};
+    ghost use Rattle.mp4_head.specs.words.Found.{SaysHead};
+    ghost use Rattle.mp4_present.specs.words.Movies.{IsMovie, moov_box, tables_seen};
     ghost use Rattle.mp4_present.specs.declared.movie.TrackTables.{TrackTables};
 
     /// What the movie and its tracks say of themselves, read anew from the bytes of the `moov`.

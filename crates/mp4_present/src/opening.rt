@@ -1,16 +1,17 @@
 //! A file, read to one presentation or refused.
 ghost use Rattle.std.specs.Prelude.{◌≡◌, ◌+◌, ◌≤◌, length, map, IfOk, IfErr, OnOk, IsTrue};
 ghost use Rattle.mp4_boxes.specs.declared.refusal.Refusal.TheVariants as refusals;
-ghost use Rattle.mp4_present.specs.Movies.{Fills};
-ghost use Rattle.mp4_present.specs.Plain.{ArePlain};
+ghost use Rattle.mp4_present.specs.words.Movies.{Fills};
+ghost use Rattle.mp4_present.specs.words.Plain.{ArePlain};
 ghost use Rattle.mp4_head.specs.declared.heads.TrackHead.{TrackHead};
-ghost use Rattle.mp4_store.specs.Device.{range};
+ghost use Rattle.mp4_store.specs.words.Device.{range};
 ghost use Rattle.mp4_present.specs.declared.track_info.TrackInfo.{TrackInfo};
-ghost use Rattle.mp4_present.specs.Presentation.{Presentation};
-ghost use Rattle.mp4_present.specs.Denotes.{Denotes, FileTree, IsFileTree};
-ghost use Rattle.mp4_present.specs.OpenedMovie.{AreInfosBy, IsInfoBy, IsOpenedAs, OpensAs, kept_of};
-ghost use Rattle.mp4_present.specs.Opening.{HasOutline, HasMovie, IsOpened, RefusesDenoted, RefusesOpen};
-ghost use Rattle.mp4_present.specs.Work.{IfNoFault, OpensWithin, opening_steps};
+ghost use Rattle.mp4_present.specs.format.Presentation.{Presentation};
+ghost use Rattle.mp4_present.specs.format.Denotes.{Denotes, FileTree, IsFileTree};
+ghost use Rattle.mp4_present.specs.words.OpenedMovie.{AreInfosBy, IsInfoBy, IsOpenedAs, OpensAs, kept_of};
+ghost use Rattle.mp4_present.specs.words.Opening.{HasOutline, IsOpened, RefusesDenoted, RefusesOpen};
+ghost use Rattle.mp4_present.specs.format.Denotes.{HasMovie};
+ghost use Rattle.mp4_present.specs.words.WalkSteps.{IfNoFault, OpensWithin, opening_steps};
 
 use crate::fragment_pass::check_fragments;
 use crate::limit_checks::{check_limits, duration_of};

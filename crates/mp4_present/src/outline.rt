@@ -1,13 +1,13 @@
 //! Where the parts of a file lie, by its top-level headers alone.
 ghost use Rattle.std.specs.Prelude.{◌≡◌, ℕ, ◌+◌, ◌≤◌, ◌++◌, ◌∷◌, [], List, length, true, bytes_eq, IfOk, IfErr, IfSome, OnOk, IsTrue};
-ghost use Rattle.mp4_boxes.specs.Box.{Box, IsFront, sizes, file_container};
-ghost use Rattle.mp4_boxes.specs.Children.{Holds};
+ghost use Rattle.mp4_boxes.specs.format.Box.{Box, IsFront, sizes, file_container};
+ghost use Rattle.mp4_boxes.specs.format.Children.{Holds};
 ghost use Rattle.mp4_boxes.specs.declared.rule.Rule.TheVariants.{File};
-ghost use Rattle.mp4_present.specs.Movies.{IsWhole};
-ghost use Rattle.mp4_present.specs.Reading.{IsTopHeader, top_box};
-ghost use Rattle.mp4_present.specs.Denotes.{begins_with_movie};
-ghost use Rattle.mp4_present.specs.Stands.{Stands};
-ghost use Rattle.mp4_present.specs.Outline.{AreSeen, IsOutline, RefusesOutline};
+ghost use Rattle.mp4_present.specs.words.Movies.{IsWhole};
+ghost use Rattle.mp4_present.specs.words.Reading.{IsTopHeader, top_box};
+ghost use Rattle.mp4_present.specs.format.Denotes.{begins_with_movie};
+ghost use Rattle.mp4_present.specs.format.Stands.{Stands};
+ghost use Rattle.mp4_present.specs.words.Outline.{AreSeen, IsOutline, RefusesOutline};
 
 use crate::reading::{TopBox, read_top_header};
 use mp4_boxes::{Fault, FourCc, Kind, Refusal, Rule, TopHeader};

@@ -1,10 +1,10 @@
 //! Reads of a file behind a store: one top-level header, or a stretch of bytes.
 ghost use Rattle.std.specs.Prelude.{◌≡◌, ◌+◌, ◌<◌, ◌≤◌, length, take, IfOk, IfErr, OnOk, IsTrue};
-ghost use Rattle.mp4_boxes.specs.View.{box_seen};
-ghost use Rattle.mp4_boxes.specs.Bytes.{AreBytes};
-ghost use Rattle.mp4_store.specs.Device.{range};
-ghost use Rattle.mp4_present.specs.Movies.{IsWhole, Fills};
-ghost use Rattle.mp4_present.specs.Reading.{IsTopHeader, RefusesHeader, RefusesRead, RefusesFront, RefusesPayload};
+ghost use Rattle.mp4_boxes.specs.words.View.{box_seen};
+ghost use Rattle.mp4_boxes.specs.format.Bytes.{AreBytes};
+ghost use Rattle.mp4_store.specs.words.Device.{range};
+ghost use Rattle.mp4_present.specs.words.Movies.{IsWhole, Fills};
+ghost use Rattle.mp4_present.specs.words.Reading.{IsTopHeader, RefusesHeader, RefusesRead, RefusesFront, RefusesPayload};
 
 use mp4_boxes::{BoxView, Refusal, TopHeader, top_header};
 use mp4_store::Store;
@@ -41,8 +41,8 @@ fn view_at<'a>(at: u64, header: TopHeader, payload: &'a [u8]) -> BoxView<'a>
 
 impl TopBox {
     ghost use Rattle.std.specs.Prelude.{◌≡◌, ◌+◌, ◌≤◌, length};
-    ghost use Rattle.mp4_boxes.specs.View.{box_seen};
-    ghost use Rattle.mp4_present.specs.Movies.{Fills};
+    ghost use Rattle.mp4_boxes.specs.words.View.{box_seen};
+    ghost use Rattle.mp4_present.specs.words.Movies.{Fills};
 
     /// The place of the first byte of its payload.
     pub(crate) fn payload_offset(&self) -> u64

@@ -1,7 +1,7 @@
 //! Neighbouring samples, joined.
 ghost use Rattle.std.specs.Prelude.{ℕ, ◌≡◌, ◌+◌, ◌<◌, ◌≤◌, [], take, drop, length, None, IfSome};
 ghost use Rattle.std.specs.List.{AllByRecursion};
-ghost use Rattle.mp4_present.specs.Joined.{AreJoined, IsBelow};
+ghost use Rattle.mp4_present.specs.words.Joined.{AreJoined, IsBelow};
 
 use mp4_tables::{SampleAt, Samples};
 

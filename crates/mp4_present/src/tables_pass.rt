@@ -1,13 +1,13 @@
 //! The tables of the tracks of a movie, checked one after the other.
 ghost use Rattle.std.specs.Prelude.{ℕ, ◌≡◌, ◌+◌, ◌*◌, ◌≤◌, ◌-◌, ◌^◌, min, true, length, map, List, IfOk, IfErr};
-ghost use Rattle.mp4_boxes.specs.Bytes.{AreBytes, sum_of};
-ghost use Rattle.mp4_boxes.specs.View.{box_seen};
-ghost use Rattle.mp4_frag.specs.FragmentSamples as fragments;
+ghost use Rattle.mp4_boxes.specs.format.Bytes.{AreBytes, sum_of};
+ghost use Rattle.mp4_boxes.specs.words.View.{box_seen};
+ghost use Rattle.mp4_frag.specs.format.FragmentSamples as fragments;
 ghost use Rattle.mp4_frag.specs.declared.trex.Trex.{Trex};
-ghost use Rattle.mp4_head.specs.Tree.{TrackTree, are_distinct};
-ghost use Rattle.mp4_present.specs.Plain.{ArePlain, HaveTablesIn};
-ghost use Rattle.mp4_present.specs.TrackTrees.{AreTracksOf, HaveTables, RefusesTables};
-ghost use Rattle.mp4_present.specs.Work.{IfNoFault, table_steps};
+ghost use Rattle.mp4_head.specs.format.Tree.{TrackTree, are_distinct};
+ghost use Rattle.mp4_present.specs.words.Plain.{ArePlain, HaveTablesIn};
+ghost use Rattle.mp4_present.specs.words.TrackTrees.{AreTracksOf, HaveTables, RefusesTables};
+ghost use Rattle.mp4_present.specs.words.WalkSteps.{IfNoFault, table_steps};
 
 use crate::movie::TrackTables;
 use mp4_boxes::{BoxView, Fault, FourCc, Kind, Refusal, Rule, Steps, check_children};
@@ -93,12 +93,12 @@ fn state_of(
 
 impl PlainTracks {
     ghost use Rattle.std.specs.Prelude.{◌≡◌, ℕ, true, map, List, [], ◌∷◌, ◌++◌, ◌+◌, ◌*◌, ◌≤◌, length, OnOk, IfErr};
-    ghost use Rattle.mp4_boxes.specs.View.{box_seen};
+    ghost use Rattle.mp4_boxes.specs.words.View.{box_seen};
     ghost use Rattle.mp4_frag.specs.declared.trex.Trex.{Trex};
-    ghost use Rattle.mp4_head.specs.Tree.{TrackTree, are_distinct};
-    ghost use Rattle.mp4_present.specs.Plain.{ArePlain, HasTablesIn};
-    ghost use Rattle.mp4_present.specs.TrackTrees.{IsTrackOf, HaveTables, RefusesTable};
-    ghost use Rattle.mp4_present.specs.Work.{IfNoFault, table_steps};
+    ghost use Rattle.mp4_head.specs.format.Tree.{TrackTree, are_distinct};
+    ghost use Rattle.mp4_present.specs.words.Plain.{ArePlain, HasTablesIn};
+    ghost use Rattle.mp4_present.specs.words.TrackTrees.{IsTrackOf, HaveTables, RefusesTable};
+    ghost use Rattle.mp4_present.specs.words.WalkSteps.{IfNoFault, table_steps};
 
     // No track yet.
     fn none(alloc: Global) -> PlainTracks

@@ -1,21 +1,21 @@
 //! How a walk begins and goes on.
 ghost use Rattle.std.specs.Prelude.{ℕ, ◌≡◌, ◌+◌, ◌-◌, ◌^◌, ◌<◌, ◌≤◌, min, List, [], length, false, Some, Err, slice_get, IfOk, IfErr, OnOk, OnErr, IsTrue, IsOkAnd};
-ghost use Rattle.mp4_frag.specs.Fragments.{FragmentTree};
-ghost use Rattle.mp4_head.specs.Tree.{TrackTree};
-ghost use Rattle.mp4_present.specs.Denotes.{FileTree};
-ghost use Rattle.mp4_present.specs.OpenedMovie.{IsOpenedAs};
-ghost use Rattle.mp4_present.specs.Coming.{track_samples, samples_behind, StandsBefore, Comes, HoldsNext, Takes, Loads};
-ghost use Rattle.mp4_present.specs.Work.{steps_to, moof_steps, way_through, walk_steps, MayTake, TakesOn};
+ghost use Rattle.mp4_frag.specs.format.Fragments.{FragmentTree};
+ghost use Rattle.mp4_head.specs.format.Tree.{TrackTree};
+ghost use Rattle.mp4_present.specs.format.Denotes.{FileTree};
+ghost use Rattle.mp4_present.specs.words.OpenedMovie.{IsOpenedAs};
+ghost use Rattle.mp4_present.specs.words.SamplesComing.{track_samples, samples_behind, StandsBefore, Comes, HoldsNext, Takes, Loads};
+ghost use Rattle.mp4_present.specs.words.WalkSteps.{steps_to, moof_steps, way_through, walk_steps, MayTake, TakesOn};
 ghost use Rattle.mp4_boxes.specs.declared.refusal.Refusal.TheVariants as refusals;
-ghost use Rattle.mp4_present.specs.InHand.{left_in_hand};
-ghost use Rattle.mp4_present.specs.Movies.{Fills, IsMovie, GoesOn, IsWalkOf, StandsAt, IsRest, InHandOf, HasSome, RefusesLoad, moof_box, all_in_moof, mark_of};
+ghost use Rattle.mp4_present.specs.words.InHand.{left_in_hand};
+ghost use Rattle.mp4_present.specs.words.Movies.{Fills, IsMovie, GoesOn, IsWalkOf, StandsAt, IsRest, InHandOf, HasSome, RefusesLoad, moof_box, all_in_moof, mark_of};
 ghost use Rattle.mp4_present.specs.declared.track_info.TrackInfo.{TrackInfo};
 
 use crate::fragments::next_fragment;
 use crate::in_hand::{InHand, Place};
 use crate::movie::Movie;
 use crate::reading::read_payload;
-use crate::totals::{count_up_to, in_64_bits};
+use crate::totals::in_64_bits;
 use crate::walks::{Due, Mark, Walk};
 use mp4_boxes::{Memory, Refusal, Steps};
 use mp4_frag::{FragCursor, FragView};
@@ -147,13 +147,11 @@ impl Walk {
         let view = FragView::again(self.moof.view(&self.bytes[..self.used]));
         let info = movie.tracks()[self.track];
         let cursor = FragCursor::start(&view, movie.states(), info.id, self.due, info.keys);
-        let place = cursor.place();
-        let mut all = FragCursor::at(&view, movie.states(), place);
-        let Some(counts) = count_up_to(&mut all, self.left) else {
+        let Some(counts) = cursor.counts(self.left) else {
             return Err(Refusal::StoreChanged);
         };
-        steps.add(all.place().passed());
-        self.place = Place::Fragment(place);
+        steps.add(counts.passed);
+        self.place = Place::Fragment(cursor.place());
         self.before = Some(Due {
             time: self.due,
             left: self.left,

@@ -1,7 +1,7 @@
 -- A part of the bytes that were read ahead is that part of the file.
 use Rattle.std.proofs.Common.{◌≡◌, ◌∙◌, ℕ, ◌+◌, ◌-◌, ◌≤◌, List, take, drop, arith, ap, sym}
 use Rattle.std.proofs.lemmas.List.{take-take, drop-drop, drop-take}
-use Rattle.mp4_store.specs.Device.{range}
+use Rattle.mp4_store.specs.words.Device.{range}
 
 -- so many bytes behind k of them
 pub part_of_front : (bytes more : List ℕ) (len k n : ℕ) → k + n ≤ len → take len bytes ≡ take len more → take n (drop k bytes) ≡ take n (drop k more)

@@ -1,6 +1,6 @@
 //! A store that reads ahead, so that headers that lie near one another cost one read.
 ghost use Rattle.std.specs.Prelude.{◌≡◌, ◌+◌, ◌≤◌, length, take, IsTrue, OnOk};
-ghost use Rattle.mp4_store.specs.Device.{Counts, range};
+ghost use Rattle.mp4_store.specs.words.Device.{Counts, range};
 
 use crate::store::{Store, StoreFailed};
 use std::marker::Model;
@@ -49,8 +49,8 @@ fn read_front<S: Store>(
 
 impl Window {
     ghost use Rattle.std.specs.Prelude.{◌≡◌, ◌+◌, ◌^◌, ◌<◌, ◌≤◌, min, length, List, ℕ, Bool, IsTrue, OnOk};
-    ghost use Rattle.mp4_store.specs.Device.{Counts, range};
-    ghost use Rattle.mp4_store.specs.Windows.{IsWindowOf, Holds};
+    ghost use Rattle.mp4_store.specs.words.Device.{Counts, range};
+    ghost use Rattle.mp4_store.specs.words.Windows.{IsWindowOf, Holds};
 
     // Whether it has so many bytes from a place on.
     fn has(&self, at: u64, count: usize) -> bool
@@ -127,7 +127,7 @@ pub struct BufferedStore<S: Store> {
 
 impl<S: Store> Model for BufferedStore<S> {
     ghost use Rattle.std.specs.Prelude.{ℕ};
-    ghost use Rattle.mp4_store.specs.Windows.{IsWindowOf};
+    ghost use Rattle.mp4_store.specs.words.Windows.{IsWindowOf};
 
     ghost Value = { S × ℕ };
 

@@ -1,6 +1,6 @@
 //! A store and a sink in memory.
 ghost use Rattle.std.specs.Prelude.{◌≡◌, Some, [], ◌++◌, true, OnOk, OnErr};
-ghost use Rattle.mp4_store.specs.Device.{Counts};
+ghost use Rattle.mp4_store.specs.words.Device.{Counts};
 
 use crate::sink::{Sink, WriteFailed};
 use crate::store::{Store, StoreFailed};

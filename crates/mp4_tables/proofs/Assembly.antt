@@ -1,14 +1,14 @@
 -- What was read of each table makes the tables of an `stbl`, accepted.
 use Rattle.std.proofs.Common.{◌≡◌, ℕ, ◌<◌, ◌^◌, List, [], length, subst, ap, sym, ◌∙◌, arith, true}
 use Rattle.std.specs.Prelude.{option_map, unwrap_or, nat_le, ◌==◌, ℤ}
-use Rattle.mp4_boxes.specs.Box.{Box}
-use Rattle.mp4_tables.specs.Repeated.{total}
-use Rattle.mp4_tables.specs.Groups.{keys_after, group_test}
-use Rattle.mp4_tables.specs.PlainSamples.{in_chunks_total}
-use Rattle.mp4_tables.specs.TableRules.{dependency_room, duration_counts, offset_counts, chunk_counts, chunk_order, sync_order, description_indexes, places, table_group, Fit, is_sync_order}
-use Rattle.mp4_tables.specs.Accepted.{tables_at, group_rows}
-use Rattle.mp4_tables.specs.Keys.{keys_seen}
-use Rattle.mp4_tables.specs.Leaves.{tables_in, surroundings_of, SizesRead, DurationsRead, OffsetsRead, ChunksRead, ChunkRowsRead, PlacesRead, SyncRead, DependenciesRead, GroupsRead, TablesRead}
+use Rattle.mp4_boxes.specs.format.Box.{Box}
+use Rattle.mp4_tables.specs.format.Repeated.{total}
+use Rattle.mp4_tables.specs.format.Groups.{keys_after, group_test}
+use Rattle.mp4_tables.specs.format.PlainSamples.{in_chunks_total}
+use Rattle.mp4_tables.specs.format.TableRules.{dependency_room, duration_counts, offset_counts, chunk_counts, chunk_order, sync_order, description_indexes, places, table_group, Fit, is_sync_order}
+use Rattle.mp4_tables.specs.words.Accepted.{tables_at, group_rows}
+use Rattle.mp4_tables.specs.words.Keys.{keys_seen}
+use Rattle.mp4_tables.specs.words.Leaves.{tables_in, surroundings_of, SizesRead, DurationsRead, OffsetsRead, ChunksRead, ChunkRowsRead, PlacesRead, SyncRead, DependenciesRead, GroupsRead, TablesRead}
 use Rattle.mp4_tables.specs.declared.leaves.Limits.{Limits}
 use Rattle.mp4_tables.specs.declared.places.TablesAt.{TablesAt}
 use Rattle.mp4_tables.proofs.SizeReads.{sizes_known}

@@ -3,11 +3,11 @@ use Rattle.std.proofs.Common.{◌≡◌, ℕ, suc, ◌+◌, ◌-◌, ◌<◌, �
 use Rattle.std.specs.Prelude.{pos, ◌&&◌, ◌||◌, ◌==◌}
 use Rattle.std.specs.List.{last_or}
 use Rattle.std.proofs.lemmas.Bool.Decides.{nat_tests}
-use Rattle.mp4_tables.specs.Tables.{ChunkRow}
-use Rattle.mp4_tables.specs.PlainSamples.{row_of_chunk, laid_out, in_chunks, in_chunks_total}
-use Rattle.mp4_tables.specs.TableRules.{is_rising_after, is_chunk_order, is_index}
-use Rattle.mp4_tables.specs.Coming.{row_after, row_in_hand, IsRowPlace, spots_coming, no_spots, next_spot, are_described}
-use Rattle.mp4_tables.specs.Rows.{offsets_at, offset_width, chunk_rows_at}
+use Rattle.mp4_tables.specs.format.Tables.{ChunkRow}
+use Rattle.mp4_tables.specs.format.PlainSamples.{row_of_chunk, laid_out, in_chunks, in_chunks_total}
+use Rattle.mp4_tables.specs.format.TableRules.{is_rising_after, is_chunk_order, is_index}
+use Rattle.mp4_tables.specs.words.TablesComing.{row_after, row_in_hand, IsRowPlace, spots_coming, no_spots, next_spot, are_described}
+use Rattle.mp4_tables.specs.words.Rows.{offsets_at, offset_width, chunk_rows_at}
 use Rattle.mp4_tables.specs.declared.places.RowsAt.{RowsAt}
 use Rattle.mp4_tables.specs.declared.places.ChunksAt.{ChunksAt}
 use Rattle.mp4_tables.specs.declared.places.RowPlace.{RowPlace}

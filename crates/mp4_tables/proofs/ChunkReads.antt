@@ -4,21 +4,21 @@ use Rattle.std.specs.Prelude.{bytes_eq, codes, nat_eq, nat_lt, ◌==◌, ◌||�
 use Rattle.std.specs.List.{list_all}
 use Rattle.std.proofs.lemmas.Bool.Decides.{nat_tests}
 use Rattle.std.proofs.lemmas.List.Folds.{list_all-append}
-use Rattle.mp4_boxes.specs.Bytes.{field, rows}
-use Rattle.mp4_boxes.specs.Box.{Box, box_container}
-use Rattle.mp4_boxes.specs.Children.{Holds, count_among, payload_of, sample_sizes, chunk_offsets, one}
-use Rattle.mp4_boxes.specs.Layout.{stsd, stsc, stco, co64, IsSound, IsReadable, leaf_rows, needed}
-use Rattle.mp4_boxes.specs.BoxFaults.{fault_of}
+use Rattle.mp4_boxes.specs.format.Bytes.{field, rows}
+use Rattle.mp4_boxes.specs.format.Box.{Box, box_container}
+use Rattle.mp4_boxes.specs.format.Children.{Holds, count_among, payload_of, sample_sizes, chunk_offsets, one}
+use Rattle.mp4_boxes.specs.format.Layout.{stsd, stsc, stco, co64, IsSound, IsReadable, leaf_rows, needed}
+use Rattle.mp4_boxes.specs.format.BoxFaults.{fault_of}
 use Rattle.mp4_boxes.specs.declared.fault.Fault.{Fault}
 use Rattle.mp4_boxes.specs.declared.rule.Rule.TheVariants.{SampleTable}
 use Rattle.mp4_boxes.proofs.Among.{true_false}
 use Rattle.mp4_boxes.proofs.Refusing.{holds_only, line_has}
-use Rattle.mp4_tables.specs.Tables.{ChunkRow, first_number, chunk_rows_of, chunk_offsets_of}
-use Rattle.mp4_tables.specs.PlainSamples.{Spot, row_of_chunk, laid_out, in_chunks, in_chunks_total}
-use Rattle.mp4_tables.specs.Rows.{HaveRoom, chunk_row_of, chunk_rows_at, offsets_at, offset_width}
-use Rattle.mp4_tables.specs.TableRules.{chunk_counts, chunk_order, description_indexes, test, kind_of, AreReadable, is_chunk_order, is_index}
-use Rattle.mp4_tables.specs.Coming.{are_described}
-use Rattle.mp4_tables.specs.Leaves.{boxes_of, HasTables, HasDescriptions, AllOf, IsFirstOf, IsFault, surroundings_of, ShapeFails, RowsRead, tables_in, SizesKnown, ChunksRead, ChunkRowsRead}
+use Rattle.mp4_tables.specs.format.Tables.{ChunkRow, first_number, chunk_rows_of, chunk_offsets_of}
+use Rattle.mp4_tables.specs.format.PlainSamples.{Spot, row_of_chunk, laid_out, in_chunks, in_chunks_total}
+use Rattle.mp4_tables.specs.words.Rows.{HaveRoom, chunk_row_of, chunk_rows_at, offsets_at, offset_width}
+use Rattle.mp4_tables.specs.format.TableRules.{chunk_counts, chunk_order, description_indexes, test, kind_of, AreReadable, is_chunk_order, is_index}
+use Rattle.mp4_tables.specs.words.TablesComing.{are_described}
+use Rattle.mp4_tables.specs.words.Leaves.{boxes_of, HasTables, HasDescriptions, AllOf, IsFirstOf, IsFault, surroundings_of, ShapeFails, RowsRead, tables_in, SizesKnown, ChunksRead, ChunkRowsRead}
 use Rattle.mp4_tables.specs.declared.leaves.Limits.{Limits}
 use Rattle.mp4_tables.specs.declared.places.RowsAt.{RowsAt}
 use Rattle.mp4_tables.specs.declared.places.ChunksAt.{ChunksAt}

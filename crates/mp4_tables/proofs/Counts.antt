@@ -3,15 +3,15 @@ use Rattle.std.proofs.Common.{◌≡◌, ℕ, zero, suc, ◌+◌, ◌≤◌, Boo
 use Rattle.std.specs.Prelude.{◌/◌, bytes_eq, map, unwrap_or, option_map, ℤ, pos, codes, ◌+ℤ◌}
 use Rattle.std.proofs.lemmas.List.{length-map, length-replicate}
 use borrow.Author.Tests.{true-eqb, true-leb}
-use Rattle.mp4_boxes.specs.Bytes.{field, rows, width_of}
-use Rattle.mp4_boxes.specs.Box.{Box}
-use Rattle.mp4_boxes.specs.Children.{payload_of, payload_if, payload_among, sample_sizes, count_among}
-use Rattle.mp4_boxes.specs.Layout.{stsz, fields, row, version, size_bits}
-use Rattle.mp4_tables.specs.Tables.{Tables, ChunkRow, sample_count, first_number, sizes_of, half_bytes, compact_sizes_of, sample_sizes_of, tables_of}
-use Rattle.mp4_tables.specs.PlainSamples.{Spot, PlacedSample, with_groups, row_of_chunk, laid_out, in_chunks, in_chunks_total, flags_from, joined, spots_of, plain_samples}
-use Rattle.mp4_tables.specs.Repeated.{repeated, total}
-use Rattle.mp4_tables.specs.Groups.{Groups, maps_of}
-use Rattle.mp4_tables.specs.TableRules.{Surroundings, Fit, dependency_room, duration_counts, offset_counts, chunk_counts}
+use Rattle.mp4_boxes.specs.format.Bytes.{field, rows, width_of}
+use Rattle.mp4_boxes.specs.format.Box.{Box}
+use Rattle.mp4_boxes.specs.format.Children.{payload_of, payload_if, payload_among, sample_sizes, count_among}
+use Rattle.mp4_boxes.specs.format.Layout.{stsz, fields, row, version, size_bits}
+use Rattle.mp4_tables.specs.format.Tables.{Tables, ChunkRow, sample_count, first_number, sizes_of, half_bytes, compact_sizes_of, sample_sizes_of, tables_of}
+use Rattle.mp4_tables.specs.format.PlainSamples.{Spot, PlacedSample, with_groups, row_of_chunk, laid_out, in_chunks, in_chunks_total, flags_from, joined, spots_of, plain_samples}
+use Rattle.mp4_tables.specs.format.Repeated.{repeated, total}
+use Rattle.mp4_tables.specs.format.Groups.{Groups, maps_of}
+use Rattle.mp4_tables.specs.format.TableRules.{Surroundings, Fit, dependency_room, duration_counts, offset_counts, chunk_counts}
 
 pub eqb_is : (a b : ℕ) → eqb a b ≡ true → a ≡ b
 eqb_is a b e = true-eqb a b (sym e)

@@ -3,17 +3,17 @@ use Rattle.std.proofs.Common.{◌≡◌, ℕ, ◌+◌, ◌≤◌, inl, inr, Bool
 use Rattle.std.proofs.lemmas.List.{length-map, length-replicate}
 use Rattle.std.specs.Prelude.{bytes_eq, codes, Result, Ok, Err, IfErr, IsOk, ◌==◌, ◌/◌}
 use Rattle.std.specs.List.{AllByRecursion}
-use Rattle.mp4_boxes.specs.Bytes.{field, rows}
-use Rattle.mp4_boxes.specs.Box.{Box, box_container}
-use Rattle.mp4_boxes.specs.Children.{count_among, is_among, payload_of, sample_sizes}
-use Rattle.mp4_boxes.specs.Layout.{Leaf, stts, ctts, stsc, stsz, stz2, stco, co64, stss, sdtp, sbgp, sgpd, stsd, size_bits, IsSound, IsReadable}
-use Rattle.mp4_boxes.specs.Places.{at_kind}
+use Rattle.mp4_boxes.specs.format.Bytes.{field, rows}
+use Rattle.mp4_boxes.specs.format.Box.{Box, box_container}
+use Rattle.mp4_boxes.specs.format.Children.{count_among, is_among, payload_of, sample_sizes}
+use Rattle.mp4_boxes.specs.format.Layout.{Leaf, stts, ctts, stsc, stsz, stz2, stco, co64, stss, sdtp, sbgp, sgpd, stsd, size_bits, IsSound, IsReadable}
+use Rattle.mp4_boxes.specs.format.Places.{at_kind}
 use Rattle.mp4_boxes.specs.declared.fault.Fault.{Fault}
 use Rattle.mp4_boxes.proofs.Among.{IsIn, true_false, all_in, entry_or, no_entry, count-append}
 use Rattle.mp4_boxes.proofs.Refusing.{unsound}
-use Rattle.mp4_tables.specs.Tables.{sample_count, sizes_of, compact_sizes_of, sample_sizes_of, tables_of, first_number}
-use Rattle.mp4_tables.specs.TableRules.{IsTableFault, Fit, test}
-use Rattle.mp4_tables.specs.Leaves.{boxes_of, HasTables, AllOf, IsFirstOf, IsLeafFaultAmong, IsTooMany, IsFault, AreAccepted, surroundings_of, tables_in}
+use Rattle.mp4_tables.specs.format.Tables.{sample_count, sizes_of, compact_sizes_of, sample_sizes_of, tables_of, first_number}
+use Rattle.mp4_tables.specs.format.TableRules.{IsTableFault, Fit, test}
+use Rattle.mp4_tables.specs.words.Leaves.{boxes_of, HasTables, AllOf, IsFirstOf, IsLeafFaultAmong, IsTooMany, IsFault, AreAccepted, surroundings_of, tables_in}
 use Rattle.mp4_tables.specs.declared.leaves.Limits.{Limits}
 use Rattle.mp4_tables.proofs.Counts.{rows_length}
 use Rattle.mp4_tables.proofs.RowLists.{half_length}

@@ -5,8 +5,8 @@ use Rattle.std.specs.List.{AllByRecursion, list_any, list_all}
 use Rattle.std.proofs.lemmas.Bool.{ltb-true, ltb-false, lt-ltb, leb-true, eqb-false, and_from, or_parts, or_from, not-true}
 use Rattle.mp4_boxes.proofs.Among.{all_append}
 use Rattle.mp4_boxes.proofs.Each.{each_from, each_again, each_weaker, each_tested}
-use Rattle.mp4_tables.specs.Repeated.{repeated}
-use Rattle.mp4_tables.specs.Groups.{GroupKey, Grouping, Groups, GroupRule, one_of_key, few_keys, index_range, key_rank, same_key, keys_after, is_in_order, put_group, put_indexes, maps_of, keeps, group_test, max_keys, max_index}
+use Rattle.mp4_tables.specs.format.Repeated.{repeated}
+use Rattle.mp4_tables.specs.format.Groups.{GroupKey, Grouping, Groups, GroupRule, one_of_key, few_keys, index_range, key_rank, same_key, keys_after, is_in_order, put_group, put_indexes, maps_of, keeps, group_test, max_keys, max_index}
 use Rattle.mp4_tables.proofs.NamedKeys.{IsAmong, IsNone, other_rank, same_other, among_more, among_first, among_through, each_named}
 
 -- ---- one map

@@ -3,18 +3,18 @@ use Rattle.std.proofs.Common.{◌≡◌, ◌≢◌, ℕ, ◌+◌, ◌*◌, ◌<�
 use Rattle.std.specs.Prelude.{nat_le, ◌==◌}
 use Rattle.std.specs.List.{list_any}
 use Rattle.std.proofs.lemmas.Bool.Decides.{nat_tests}
-use Rattle.mp4_tables.specs.Repeated.{total}
-use Rattle.mp4_tables.specs.Groups.{GroupKey, Grouping, one_of_key, few_keys, index_range, group_counts, same_key, grouping_of, group_kind}
-use Rattle.mp4_tables.specs.Keys.{keys_seen}
-use Rattle.mp4_tables.specs.Rows.{run_of, runs_at}
-use Rattle.mp4_tables.specs.Coming.{all_below}
-use Rattle.mp4_boxes.specs.Bytes.{field, rows, width_of}
-use Rattle.mp4_boxes.specs.Box.{Box}
-use Rattle.mp4_boxes.specs.Layout.{sbgp, version, needed, IsReadable}
-use Rattle.mp4_boxes.specs.BoxFaults.{fault_of}
+use Rattle.mp4_tables.specs.format.Repeated.{total}
+use Rattle.mp4_tables.specs.format.Groups.{GroupKey, Grouping, one_of_key, few_keys, index_range, group_counts, same_key, grouping_of, group_kind}
+use Rattle.mp4_tables.specs.words.Keys.{keys_seen}
+use Rattle.mp4_tables.specs.words.Rows.{run_of, runs_at}
+use Rattle.mp4_tables.specs.words.TablesComing.{all_below}
+use Rattle.mp4_boxes.specs.format.Bytes.{field, rows, width_of}
+use Rattle.mp4_boxes.specs.format.Box.{Box}
+use Rattle.mp4_boxes.specs.format.Layout.{sbgp, version, needed, IsReadable}
+use Rattle.mp4_boxes.specs.format.BoxFaults.{fault_of}
 use Rattle.mp4_boxes.specs.declared.fault.Fault.{Fault}
 use Rattle.mp4_boxes.specs.declared.fault.Kind.TheVariants.{ShortBox}
-use Rattle.mp4_tables.specs.Leaves.{GroupsSo, SlotTaken, GroupRead, HasTables, IsChild, LiesIn, FailsAs, VersionFails, RowsFail, RowsRead, GroupNext, GroupFails}
+use Rattle.mp4_tables.specs.words.Leaves.{GroupsSo, SlotTaken, GroupRead, HasTables, IsChild, LiesIn, FailsAs, VersionFails, RowsFail, RowsRead, GroupNext, GroupFails}
 use Rattle.mp4_tables.proofs.LeafRows.{lies_in, room_there, runs_there, version_fails}
 use Rattle.mp4_tables.specs.declared.places.RowsAt.{RowsAt}
 use Rattle.mp4_tables.specs.declared.places.GroupsAt.{GroupsAt}

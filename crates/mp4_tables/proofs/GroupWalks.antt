@@ -5,21 +5,21 @@ use Rattle.std.specs.List.{AllByRecursion, slice_get}
 use Rattle.std.proofs.lemmas.List.{append-nil, append_assoc}
 use Rattle.mp4_tables.proofs.RowLists.{runs_all, runs_length}
 use Rattle.mp4_boxes.proofs.Among.{all_append, of_kind-split, of_kind-append}
-use Rattle.mp4_tables.specs.Groups.{GroupKey, GroupRule, one_of_key, few_keys, index_range, group_counts, grouping_of, groupings_of, keeps, group_test, group_reads}
-use Rattle.mp4_tables.specs.Keys.{keys_seen}
-use Rattle.mp4_tables.specs.Rows.{runs_at}
-use Rattle.mp4_tables.specs.Accepted.{group_count, grouped, group_rows, AreDistinct, AreUsed, AreIndexes, HaveGroups}
-use Rattle.mp4_boxes.specs.Box.{Box}
-use Rattle.mp4_boxes.specs.Children.{of_kind}
-use Rattle.mp4_boxes.specs.Places.{leaf_of, ruled}
+use Rattle.mp4_tables.specs.format.Groups.{GroupKey, GroupRule, one_of_key, few_keys, index_range, group_counts, grouping_of, groupings_of, keeps, group_test, group_reads}
+use Rattle.mp4_tables.specs.words.Keys.{keys_seen}
+use Rattle.mp4_tables.specs.words.Rows.{runs_at}
+use Rattle.mp4_tables.specs.words.Accepted.{group_count, grouped, group_rows, AreDistinct, AreUsed, AreIndexes, HaveGroups}
+use Rattle.mp4_boxes.specs.format.Box.{Box}
+use Rattle.mp4_boxes.specs.format.Children.{of_kind}
+use Rattle.mp4_boxes.specs.format.Places.{leaf_of, ruled}
 use Rattle.mp4_boxes.specs.declared.rule.Rule.TheVariants.{SampleTable}
-use Rattle.mp4_boxes.specs.Layout.{sbgp, sgpd, IsReadable, IsSound}
+use Rattle.mp4_boxes.specs.format.Layout.{sbgp, sgpd, IsReadable, IsSound}
 use Rattle.mp4_boxes.proofs.Sound.{same_kind}
-use Rattle.mp4_tables.specs.TableRules.{table_group, reads, AreReadable, GroupsReadable}
+use Rattle.mp4_tables.specs.format.TableRules.{table_group, reads, AreReadable, GroupsReadable}
 use Rattle.mp4_tables.specs.declared.leaves.Limits.{Limits}
 use Rattle.mp4_tables.proofs.ChunkReads.{no_readable}
 use Rattle.mp4_boxes.specs.declared.fault.Fault.{Fault}
-use Rattle.mp4_tables.specs.Leaves.{GroupsSo, GroupPassed, SlotTaken, HasTables, IsChild, boxes_of, AllOf, tables_in, SizesKnown, IsFault, ChildFails, ChildRead, GroupsRead}
+use Rattle.mp4_tables.specs.words.Leaves.{GroupsSo, GroupPassed, SlotTaken, HasTables, IsChild, boxes_of, AllOf, tables_in, SizesKnown, IsFault, ChildFails, ChildRead, GroupsRead}
 use Rattle.mp4_tables.specs.declared.places.RowsAt.{RowsAt}
 use Rattle.mp4_tables.specs.declared.places.GroupsAt.{GroupsAt}
 use Rattle.mp4_tables.proofs.GroupsKept.{found_none, test_at, test_none}

@@ -5,13 +5,13 @@ use Rattle.std.specs.List.{AllByRecursion, list_all, list_any, slice_get}
 use Rattle.std.proofs.lemmas.Bool.{cases_lt}
 use Rattle.std.proofs.lemmas.Bool.Decides.{nat_tests}
 use Rattle.mp4_boxes.proofs.Among.{all_append}
-use Rattle.mp4_tables.specs.Repeated.{total}
-use Rattle.mp4_tables.specs.Groups.{GroupKey, Grouping, GroupRule, one_of_key, few_keys, index_range, group_counts, same_key, keys_after, keeps, group_test}
-use Rattle.mp4_tables.specs.Keys.{keys_seen}
-use Rattle.mp4_tables.specs.Rows.{HaveRoom, runs_at}
-use Rattle.mp4_tables.specs.Coming.{all_below}
-use Rattle.mp4_tables.specs.Accepted.{grouped, group_rows, groupings_at, AreDistinct, AreUsed, AreIndexes, HaveGroup, HaveGroups}
-use Rattle.mp4_tables.specs.Leaves.{GroupsSo, SlotTaken}
+use Rattle.mp4_tables.specs.format.Repeated.{total}
+use Rattle.mp4_tables.specs.format.Groups.{GroupKey, Grouping, GroupRule, one_of_key, few_keys, index_range, group_counts, same_key, keys_after, keeps, group_test}
+use Rattle.mp4_tables.specs.words.Keys.{keys_seen}
+use Rattle.mp4_tables.specs.words.Rows.{HaveRoom, runs_at}
+use Rattle.mp4_tables.specs.words.TablesComing.{all_below}
+use Rattle.mp4_tables.specs.words.Accepted.{grouped, group_rows, groupings_at, AreDistinct, AreUsed, AreIndexes, HaveGroup, HaveGroups}
+use Rattle.mp4_tables.specs.words.Leaves.{GroupsSo, SlotTaken}
 use Rattle.mp4_tables.specs.declared.places.RowsAt.{RowsAt}
 use Rattle.mp4_tables.specs.declared.places.GroupsAt.{GroupsAt}
 use Rattle.mp4_tables.proofs.ChunkLists.{both, lt_yes, yes_le}

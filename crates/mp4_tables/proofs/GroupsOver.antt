@@ -1,8 +1,8 @@
 -- Where no index is left in any `sbgp`, a sample changes no place.
 use Rattle.std.proofs.Common.{◌≡◌, ℕ, ◌+◌, List}
-use Rattle.mp4_tables.specs.Accepted.{AreGroupPlaces, IsRunPlaceAt}
-use Rattle.mp4_tables.specs.Repeated.{repeated}
-use Rattle.mp4_tables.specs.Rows.{runs_at}
+use Rattle.mp4_tables.specs.words.Accepted.{AreGroupPlaces, IsRunPlaceAt}
+use Rattle.mp4_tables.specs.format.Repeated.{repeated}
+use Rattle.mp4_tables.specs.words.Rows.{runs_at}
 use Rattle.mp4_tables.specs.declared.places.GroupPlaces.{GroupPlaces}
 use Rattle.mp4_tables.specs.declared.places.GroupsAt.{GroupsAt}
 use Rattle.mp4_tables.specs.declared.places.RowsAt.{RowsAt}

@@ -5,10 +5,10 @@ use Rattle.std.specs.List.{list_any, AllByRecursion}
 use Rattle.std.proofs.lemmas.List.{append-nil, append_assoc}
 use Rattle.std.proofs.lemmas.List.Folds.{list_any-append}
 use Rattle.std.proofs.lemmas.Bool.Decides.{nat_tests}
-use Rattle.mp4_tables.specs.Repeated.{repeated}
-use Rattle.mp4_tables.specs.Groups.{GroupKey, Grouping, Groups, same_key, keys_with, keys_after, index_at, put_indexes, maps_of}
-use Rattle.mp4_tables.specs.Timed.{padded, indexes}
-use Rattle.mp4_tables.specs.Accepted.{grouped, AreDistinct, AreUsed}
+use Rattle.mp4_tables.specs.format.Repeated.{repeated}
+use Rattle.mp4_tables.specs.format.Groups.{GroupKey, Grouping, Groups, same_key, keys_with, keys_after, index_at, put_indexes, maps_of}
+use Rattle.mp4_tables.specs.words.Timed.{padded, indexes}
+use Rattle.mp4_tables.specs.words.Accepted.{grouped, AreDistinct, AreUsed}
 use Rattle.mp4_tables.proofs.SampleLists.{NotIn, put_one, put_not_in, absent, put_there, put_beside, same_both, maps_length}
 
 abbrev key_of_group : Grouping → GroupKey

@@ -4,8 +4,8 @@ use Rattle.std.specs.Prelude.{slice_set}
 use Rattle.std.specs.List.{position_from, list_any}
 use Rattle.std.proofs.lemmas.List.{take_more_set, length-map, length-take, map-append, drop_more, drop_all, get_or-map, get_or-take}
 use Rattle.std.proofs.lemmas.Bool.Decides.{nat_tests}
-use Rattle.mp4_tables.specs.Groups.{GroupKey, key_rank, same_key}
-use Rattle.mp4_tables.specs.Keys.{key_seen, key_place}
+use Rattle.mp4_tables.specs.format.Groups.{GroupKey, key_rank, same_key}
+use Rattle.mp4_tables.specs.words.Keys.{key_seen, key_place}
 use Rattle.mp4_tables.specs.declared.keys.GroupKey.{GroupKey as KeyNamed}
 
 -- where no member passes there is no place

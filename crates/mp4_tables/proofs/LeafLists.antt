@@ -4,18 +4,18 @@ use Rattle.std.specs.Prelude.{bytes_eq, codes, nat_eq, Result, Ok, Err}
 use Rattle.std.specs.List.{AllByRecursion}
 use Rattle.std.proofs.lemmas.List.{drop-drop}
 use Rattle.std.proofs.lemmas.Bool.Decides.{nat_tests}
-use Rattle.mp4_boxes.specs.Box.{Box, Header, header_at, box_of, size, sizes, LieEndToEnd, Tiles, box_container, bytes_container, first_boxes, box_and_more}
-use Rattle.mp4_boxes.specs.Children.{Holds, count_among, is_among, payload_if}
-use Rattle.mp4_boxes.specs.Layout.{Leaf}
-use Rattle.mp4_boxes.specs.Places.{leaf_of, ruled}
+use Rattle.mp4_boxes.specs.format.Box.{Box, Header, header_at, box_of, size, sizes, LieEndToEnd, Tiles, box_container, bytes_container, first_boxes, box_and_more}
+use Rattle.mp4_boxes.specs.format.Children.{Holds, count_among, is_among, payload_if}
+use Rattle.mp4_boxes.specs.format.Layout.{Leaf}
+use Rattle.mp4_boxes.specs.format.Places.{leaf_of, ruled}
 use Rattle.mp4_boxes.specs.declared.rule.Rule.TheVariants.{SampleTable}
 use Rattle.mp4_boxes.specs.declared.fault.Fault.{Fault}
 use Rattle.mp4_boxes.specs.declared.fault.Kind.{Kind}
 use Rattle.mp4_boxes.proofs.Tiling.{header_is, box_size, sizes-cons}
 use Rattle.mp4_boxes.proofs.Among.{count-append}
 use Rattle.mp4_boxes.proofs.Sound.{same_kind}
-use Rattle.mp4_tables.specs.TableRules.{AreReadable, IsReadableAs}
-use Rattle.mp4_tables.specs.Leaves.{boxes_of, HasTables, AllOf, IsFirstOf, LiesIn, FailsAs, IsLeafFaultAmong}
+use Rattle.mp4_tables.specs.format.TableRules.{AreReadable, IsReadableAs}
+use Rattle.mp4_tables.specs.words.Leaves.{boxes_of, HasTables, AllOf, IsFirstOf, LiesIn, FailsAs, IsLeafFaultAmong}
 
 -- a box of a type counts
 pub hit_counts : (kind : List ℕ) (b : Box) (bs : List Box) → bytes_eq kind b.kind ≡ true → count_among (kind ∷ []) (b ∷ bs) ≡ 1 + count_among (kind ∷ []) bs

@@ -3,18 +3,18 @@ use Rattle.std.proofs.Common.{◌≡◌, ℕ, zero, suc, ◌+◌, ◌-◌, ◌*�
 use Rattle.std.specs.Prelude.{map}
 use Rattle.std.proofs.lemmas.List.{drop-drop, drop-take}
 use Rattle.byteorder.specs.Numbers.{big_from-take}
-use Rattle.mp4_boxes.specs.Bytes.{field, rows, numbers, width_of}
-use Rattle.mp4_boxes.specs.Box.{Box, LieEndToEnd}
-use Rattle.mp4_boxes.specs.Layout.{Leaf, IsReadable, version, last_version, needed, up_to, knows_flags}
+use Rattle.mp4_boxes.specs.format.Bytes.{field, rows, numbers, width_of}
+use Rattle.mp4_boxes.specs.format.Box.{Box, LieEndToEnd}
+use Rattle.mp4_boxes.specs.format.Layout.{Leaf, IsReadable, version, last_version, needed, up_to, knows_flags}
 use Rattle.mp4_boxes.specs.declared.fault.Fault.{Fault}
 use Rattle.mp4_boxes.specs.declared.fault.Kind.TheVariants.{ShortBox, BadVersion}
-use Rattle.mp4_tables.specs.Tables.{first_number}
-use Rattle.mp4_tables.specs.Rows.{HaveRoom, run_of, chunk_row_of, runs_at, chunk_rows_at, numbers_at}
-use Rattle.mp4_tables.specs.Accepted.{bytes_at}
+use Rattle.mp4_tables.specs.format.Tables.{first_number}
+use Rattle.mp4_tables.specs.words.Rows.{HaveRoom, run_of, chunk_row_of, runs_at, chunk_rows_at, numbers_at}
+use Rattle.mp4_tables.specs.words.Accepted.{bytes_at}
 use Rattle.mp4_tables.specs.declared.places.RowsAt.{RowsAt}
 use Rattle.mp4_tables.specs.declared.places.BytesAt.{BytesAt}
 use Rattle.mp4_tables.proofs.ChunkLists.{yes_le, no_le}
-use Rattle.mp4_tables.specs.Leaves.{boxes_of, HasTables, IsFirstOf, LiesIn, IsChild, FailsAs, VersionFails, ShapeFails, RowsRead}
+use Rattle.mp4_tables.specs.words.Leaves.{boxes_of, HasTables, IsFirstOf, LiesIn, IsChild, FailsAs, VersionFails, ShapeFails, RowsRead}
 use Rattle.mp4_tables.proofs.LeafLists.{child_lies}
 
 -- ---- rows of a child, where they lie in the payload of its `stbl`

@@ -3,21 +3,21 @@ use Rattle.std.proofs.Common.{◌≡◌, ℕ, ◌+◌, ◌*◌, ◌^◌, ◌<◌
 use Rattle.std.specs.Prelude.{codes, unwrap_or, option_map, nat_eq, nat_le, nat_lt, ◌==◌, ◌||◌, ◌&&◌, not, slice_index, ℤ}
 use Rattle.std.specs.List.{AllByRecursion}
 use Rattle.std.proofs.lemmas.Bool.Decides.{nat_tests}
-use Rattle.mp4_boxes.specs.Bytes.{field, rows}
-use Rattle.mp4_boxes.specs.Box.{Box}
-use Rattle.mp4_boxes.specs.Children.{count_among, sample_sizes}
-use Rattle.mp4_boxes.specs.Layout.{ctts, IsSound, IsReadable, version, leaf_rows, needed, too_large, has_large_offset}
-use Rattle.mp4_boxes.specs.BoxFaults.{fault_of}
+use Rattle.mp4_boxes.specs.format.Bytes.{field, rows}
+use Rattle.mp4_boxes.specs.format.Box.{Box}
+use Rattle.mp4_boxes.specs.format.Children.{count_among, sample_sizes}
+use Rattle.mp4_boxes.specs.format.Layout.{ctts, IsSound, IsReadable, version, leaf_rows, needed, too_large, has_large_offset}
+use Rattle.mp4_boxes.specs.format.BoxFaults.{fault_of}
 use Rattle.mp4_boxes.specs.declared.fault.Fault.{Fault}
 use Rattle.mp4_boxes.specs.declared.fault.Kind.TheVariants.{OffsetTooLarge}
 use Rattle.mp4_boxes.proofs.Refusing.{holds_few}
-use Rattle.mp4_tables.specs.Repeated.{total}
-use Rattle.mp4_tables.specs.Tables.{composition_offset, offsets_of}
-use Rattle.mp4_tables.specs.Rows.{run_of, runs_at}
-use Rattle.mp4_tables.specs.TableRules.{offset_counts, kind_of}
-use Rattle.mp4_tables.specs.Coming.{all_below}
-use Rattle.mp4_tables.specs.Accepted.{composition_offsets_at, AreSmall, offset_version}
-use Rattle.mp4_tables.specs.Leaves.{boxes_of, HasTables, AllOf, IsFirstOf, IsFault, ShapeFails, RowsRead, tables_in, SizesKnown, OffsetsRead}
+use Rattle.mp4_tables.specs.format.Repeated.{total}
+use Rattle.mp4_tables.specs.format.Tables.{composition_offset, offsets_of}
+use Rattle.mp4_tables.specs.words.Rows.{run_of, runs_at}
+use Rattle.mp4_tables.specs.format.TableRules.{offset_counts, kind_of}
+use Rattle.mp4_tables.specs.words.TablesComing.{all_below}
+use Rattle.mp4_tables.specs.words.Accepted.{composition_offsets_at, AreSmall, offset_version}
+use Rattle.mp4_tables.specs.words.Leaves.{boxes_of, HasTables, AllOf, IsFirstOf, IsFault, ShapeFails, RowsRead, tables_in, SizesKnown, OffsetsRead}
 use Rattle.mp4_tables.specs.declared.leaves.Limits.{Limits}
 use Rattle.mp4_tables.specs.declared.places.RowsAt.{RowsAt}
 use Rattle.mp4_tables.proofs.ChunkLists.{lt_yes, both}

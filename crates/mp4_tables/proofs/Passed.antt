@@ -1,7 +1,7 @@
 -- How many rows and samples a walk passes, and how many rows fit the bytes of an `stbl`.
 use Rattle.std.proofs.Common.{ℕ, ◌+◌, ◌*◌, ◌≤◌, List, length, Bool, true, false, Option, Some, None, arith}
-use Rattle.mp4_tables.specs.Rows.{HaveRoom, runs_at, offset_width}
-use Rattle.mp4_tables.specs.Accepted.{offset_rows, count_of, rows_in, passed, HaveOffsets, HaveSync, HaveTables, IsPlace, IsSyncPlaceIn, IsRunPlaceAt}
+use Rattle.mp4_tables.specs.words.Rows.{HaveRoom, runs_at, offset_width}
+use Rattle.mp4_tables.specs.words.Accepted.{offset_rows, count_of, rows_in, passed, HaveOffsets, HaveSync, HaveTables, IsPlace, IsSyncPlaceIn, IsRunPlaceAt}
 use Rattle.mp4_tables.specs.declared.places.RowsAt.{RowsAt}
 use Rattle.mp4_tables.specs.declared.places.OffsetsAt.{OffsetsAt}
 use Rattle.mp4_tables.specs.declared.places.RunPlace.{RunPlace}

@@ -4,16 +4,16 @@ use Rattle.std.specs.Prelude.{ℤ, pos, unwrap_or, option_map, nat_lt, nat_le, n
 use Rattle.std.specs.List.{AllByRecursion}
 use Rattle.std.proofs.lemmas.List.{drop_more, length-replicate, get_or-take, get_or-replicate, length-map, append-nil, drop_all}
 use Rattle.byteorder.specs.Endian.{twos_complement}
-use Rattle.mp4_tables.specs.Repeated.{repeated, total}
-use Rattle.mp4_tables.specs.Groups.{GroupKey, Groups, keys_after, maps_of}
-use Rattle.mp4_tables.specs.Tables.{ChunkRow, composition_offset}
-use Rattle.mp4_tables.specs.PlainSamples.{PlacedSample, Spot, non_sync, flags_from, spots_of, plain_samples, in_chunks, in_chunks_total}
-use Rattle.mp4_tables.specs.TableRules.{dependency_room, duration_counts, offset_counts, chunk_counts, chunk_order, sync_order, places, lies_within, is_sync_order, is_chunk_order}
-use Rattle.mp4_tables.specs.Keys.{keys_seen}
-use Rattle.mp4_tables.specs.Rows.{runs_at, chunk_rows_at, numbers_at, offsets_at, offset_width, sizes_at}
-use Rattle.mp4_tables.specs.Coming.{coming, IsRunPlace, IsRowPlace, next_spot, spots_coming, no_spots, all_lie_within}
-use Rattle.mp4_tables.specs.Timed.{indexes, timed, samples_of}
-use Rattle.mp4_tables.specs.Accepted.{offset_version, composition_offsets_at, group_rows, groupings_at, bytes_at, tables_at, AreSmall, HaveOffsets, IsAccepted, offset_rows, offset_values, are_signed, bytes_for, IsSyncPlaceIn, AreInOrder, AreGroupPlaces, IsPlace, flags_here, indexes_here}
+use Rattle.mp4_tables.specs.format.Repeated.{repeated, total}
+use Rattle.mp4_tables.specs.format.Groups.{GroupKey, Groups, keys_after, maps_of}
+use Rattle.mp4_tables.specs.format.Tables.{ChunkRow, composition_offset}
+use Rattle.mp4_tables.specs.format.PlainSamples.{PlacedSample, Spot, non_sync, flags_from, spots_of, plain_samples, in_chunks, in_chunks_total}
+use Rattle.mp4_tables.specs.format.TableRules.{dependency_room, duration_counts, offset_counts, chunk_counts, chunk_order, sync_order, places, lies_within, is_sync_order, is_chunk_order}
+use Rattle.mp4_tables.specs.words.Keys.{keys_seen}
+use Rattle.mp4_tables.specs.words.Rows.{runs_at, chunk_rows_at, numbers_at, offsets_at, offset_width, sizes_at}
+use Rattle.mp4_tables.specs.words.TablesComing.{coming, IsRunPlace, IsRowPlace, next_spot, spots_coming, no_spots, all_lie_within}
+use Rattle.mp4_tables.specs.words.Timed.{indexes, timed, samples_of}
+use Rattle.mp4_tables.specs.words.Accepted.{offset_version, composition_offsets_at, group_rows, groupings_at, bytes_at, tables_at, AreSmall, HaveOffsets, IsAccepted, offset_rows, offset_values, are_signed, bytes_for, IsSyncPlaceIn, AreInOrder, AreGroupPlaces, IsPlace, flags_here, indexes_here}
 use Rattle.mp4_tables.specs.declared.places.RowsAt.{RowsAt}
 use Rattle.mp4_tables.specs.declared.places.BytesAt.{BytesAt}
 use Rattle.mp4_tables.specs.declared.places.OffsetsAt.{OffsetsAt}

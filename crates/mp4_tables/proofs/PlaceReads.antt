@@ -1,17 +1,17 @@
 -- Where the samples lie, and the fault where one does not lie in the file.
 use Rattle.std.proofs.Common.{◌≡◌, ℕ, inl, inr, [], ◌∷◌, map, refl, sym, ◌∙◌, Bool, true, false}
 use Rattle.std.specs.Prelude.{bytes_eq, codes, nat_lt}
-use Rattle.mp4_boxes.specs.Box.{Box}
-use Rattle.mp4_boxes.specs.Children.{is_among, sample_sizes}
-use Rattle.mp4_boxes.specs.Layout.{stsc, stco, co64}
-use Rattle.mp4_boxes.specs.BoxFaults.{fault_of}
+use Rattle.mp4_boxes.specs.format.Box.{Box}
+use Rattle.mp4_boxes.specs.format.Children.{is_among, sample_sizes}
+use Rattle.mp4_boxes.specs.format.Layout.{stsc, stco, co64}
+use Rattle.mp4_boxes.specs.format.BoxFaults.{fault_of}
 use Rattle.mp4_boxes.specs.declared.fault.Fault.{Fault}
-use Rattle.mp4_tables.specs.Tables.{ChunkRow}
-use Rattle.mp4_tables.specs.PlainSamples.{in_chunks, in_chunks_total}
-use Rattle.mp4_tables.specs.Rows.{chunk_rows_at, offsets_at, sizes_at}
-use Rattle.mp4_tables.specs.TableRules.{places, test, kind_of, reads, AreReadable, is_chunk_order}
-use Rattle.mp4_tables.specs.Coming.{all_lie_within}
-use Rattle.mp4_tables.specs.Leaves.{boxes_of, HasTables, IsFault, surroundings_of, tables_in, SizesRead, ChunksRead, ChunkRowsRead, IsOffsetsLeaf}
+use Rattle.mp4_tables.specs.format.Tables.{ChunkRow}
+use Rattle.mp4_tables.specs.format.PlainSamples.{in_chunks, in_chunks_total}
+use Rattle.mp4_tables.specs.words.Rows.{chunk_rows_at, offsets_at, sizes_at}
+use Rattle.mp4_tables.specs.format.TableRules.{places, test, kind_of, reads, AreReadable, is_chunk_order}
+use Rattle.mp4_tables.specs.words.TablesComing.{all_lie_within}
+use Rattle.mp4_tables.specs.words.Leaves.{boxes_of, HasTables, IsFault, surroundings_of, tables_in, SizesRead, ChunksRead, ChunkRowsRead, IsOffsetsLeaf}
 use Rattle.mp4_tables.specs.declared.leaves.Limits.{Limits}
 use Rattle.mp4_tables.specs.declared.places.RowsAt.{RowsAt}
 use Rattle.mp4_tables.specs.declared.places.SizesAt.{SizesAt}

@@ -6,21 +6,21 @@ use Rattle.std.specs.List.{AllByRecursion, list_any}
 use Rattle.std.proofs.lemmas.List.{length-take, length-drop}
 use Rattle.std.proofs.lemmas.Bool.{eqb-true, leb-false, or_cases, or_parts, cond_both, not-false}
 use Rattle.byteorder.specs.Endian.{twos_complement}
-use Rattle.mp4_boxes.specs.Bytes.{AreBytes, field, rows, width_of}
-use Rattle.mp4_boxes.specs.Box.{Box}
-use Rattle.mp4_boxes.specs.Children.{payload_if, payload_of, of_kind}
-use Rattle.mp4_boxes.specs.Layout.{stts, ctts, stsz, stz2, sbgp, fields, row_count, rows_size, version, flags, leaf_rows, size_bits, is_size_bits, too_large, IsSound}
-use Rattle.mp4_boxes.specs.Places.{ruled, AreSound}
+use Rattle.mp4_boxes.specs.format.Bytes.{AreBytes, field, rows, width_of}
+use Rattle.mp4_boxes.specs.format.Box.{Box}
+use Rattle.mp4_boxes.specs.format.Children.{payload_if, payload_of, of_kind}
+use Rattle.mp4_boxes.specs.format.Layout.{stts, ctts, stsz, stz2, sbgp, fields, row_count, rows_size, version, flags, leaf_rows, size_bits, is_size_bits, too_large, IsSound}
+use Rattle.mp4_boxes.specs.format.Places.{ruled, AreSound}
 use Rattle.mp4_boxes.specs.declared.rule.Rule.TheVariants.{SampleTable}
 use Rattle.mp4_boxes.proofs.Among.{all_append}
 use Rattle.mp4_boxes.proofs.Each.{each_tested, each_value, each_weaker, each_from, each_taken, each_dropped, each_again}
 use Rattle.mp4_boxes.proofs.OfBytes.{IsOfBytes, FitsRow, rows_fit, field_below, signed_32, bytes_dropped, bytes_taken, payload_of_bytes, payload_if_of_bytes, payloads_of_bytes}
 use Rattle.mp4_boxes.proofs.Sound.{sound_if, sound_each}
-use Rattle.mp4_tables.specs.Repeated.{repeated}
-use Rattle.mp4_tables.specs.Groups.{GroupKey, Grouping, Groups, key_of, groupings_of, maps_of, max_index}
-use Rattle.mp4_tables.specs.Tables.{ChunkRow, tables_of, sample_count, first_number, composition_offset, sizes_of, half_bytes, sample_sizes_of, durations_of, offsets_of}
-use Rattle.mp4_tables.specs.PlainSamples.{PlacedSample, Spot, with_groups, row_of_chunk, laid_out, in_chunks, non_sync, flags_from, joined, spots_of, plain_samples}
-use Rattle.mp4_tables.specs.TableRules.{Surroundings, Fit, table_group, description_indexes, is_index}
+use Rattle.mp4_tables.specs.format.Repeated.{repeated}
+use Rattle.mp4_tables.specs.format.Groups.{GroupKey, Grouping, Groups, key_of, groupings_of, maps_of, max_index}
+use Rattle.mp4_tables.specs.format.Tables.{ChunkRow, tables_of, sample_count, first_number, composition_offset, sizes_of, half_bytes, sample_sizes_of, durations_of, offsets_of}
+use Rattle.mp4_tables.specs.format.PlainSamples.{PlacedSample, Spot, with_groups, row_of_chunk, laid_out, in_chunks, non_sync, flags_from, joined, spots_of, plain_samples}
+use Rattle.mp4_tables.specs.format.TableRules.{Surroundings, Fit, table_group, description_indexes, is_index}
 use Rattle.mp4_tables.proofs.GroupMaps.{IsMap, KeepAll, keys_named, repeated_each, maps_valid}
 
 -- ---- samples

@@ -3,9 +3,9 @@ use Rattle.std.proofs.Common.{◌≡◌, ℕ, zero, suc, ◌+◌, ◌*◌, ◌<�
 use Rattle.std.specs.Prelude.{◌/◌, ◌%◌}
 use Rattle.std.proofs.lemmas.List.{length-map, length-replicate, drop-drop, get_or-drop, get_or-replicate, drop_all, drop_more}
 use Rattle.byteorder.specs.Endian.{big_from}
-use Rattle.mp4_boxes.specs.Bytes.{field, rows, numbers, width_of}
-use Rattle.mp4_tables.specs.Tables.{first_number, half_bytes}
-use Rattle.mp4_tables.specs.Rows.{run_of, chunk_row_of, runs_at, chunk_rows_at, numbers_at, sizes_in}
+use Rattle.mp4_boxes.specs.format.Bytes.{field, rows, numbers, width_of}
+use Rattle.mp4_tables.specs.format.Tables.{first_number, half_bytes}
+use Rattle.mp4_tables.specs.words.Rows.{run_of, chunk_row_of, runs_at, chunk_rows_at, numbers_at, sizes_in}
 use Rattle.mp4_tables.specs.declared.places.RowsAt.{RowsAt}
 use Rattle.mp4_tables.specs.declared.places.SizeForm.{SizeForm}
 use Rattle.mp4_tables.specs.declared.places.SizeForm.TheVariants as forms

@@ -1,9 +1,9 @@
 -- Values that rows repeat, and what is left of them.
 use Rattle.std.proofs.Common.{◌≡◌, ℕ, zero, suc, ◌+◌, ◌-◌, ◌<◌, ◌≤◌, List, [], ◌∷◌, ◌++◌, drop, replicate, refl, ap, ◌∙◌, arith}
 use Rattle.std.specs.Prelude.{nat_lt, ◌&&◌, true, false}
-use Rattle.mp4_tables.specs.Repeated.{repeated, total}
-use Rattle.mp4_tables.specs.Rows.{runs_at}
-use Rattle.mp4_tables.specs.Coming.{coming, all_below}
+use Rattle.mp4_tables.specs.format.Repeated.{repeated, total}
+use Rattle.mp4_tables.specs.words.Rows.{runs_at}
+use Rattle.mp4_tables.specs.words.TablesComing.{coming, all_below}
 use Rattle.mp4_tables.specs.declared.places.RowsAt.{RowsAt}
 use Rattle.mp4_tables.proofs.RowLists.{runs_all}
 use Rattle.mp4_tables.proofs.ChunkLists.{yes_lt, no_lt}

@@ -4,11 +4,11 @@ use Rattle.std.specs.Prelude.{ℤ, pos, unwrap_or, option_map, ◌==◌, nat_lt}
 use Rattle.std.specs.List.{AllByRecursion}
 use Rattle.std.proofs.lemmas.List.{drop_more, length-replicate}
 use Rattle.std.proofs.lemmas.Bool.Decides.{nat_tests}
-use Rattle.mp4_tables.specs.Repeated.{repeated}
-use Rattle.mp4_tables.specs.Groups.{GroupKey, Grouping, Groups, key_rank, same_key, keys_after, index_at, put_group, put_indexes, maps_of}
-use Rattle.mp4_tables.specs.Tables.{Tables}
-use Rattle.mp4_tables.specs.PlainSamples.{PlacedSample, Spot, with_groups, non_sync, flags_from, joined, spots_of, plain_samples}
-use Rattle.mp4_tables.specs.Timed.{sample_at, timed, samples_of}
+use Rattle.mp4_tables.specs.format.Repeated.{repeated}
+use Rattle.mp4_tables.specs.format.Groups.{GroupKey, Grouping, Groups, key_rank, same_key, keys_after, index_at, put_group, put_indexes, maps_of}
+use Rattle.mp4_tables.specs.format.Tables.{Tables}
+use Rattle.mp4_tables.specs.format.PlainSamples.{PlacedSample, Spot, with_groups, non_sync, flags_from, joined, spots_of, plain_samples}
+use Rattle.mp4_tables.specs.words.Timed.{sample_at, timed, samples_of}
 use Rattle.mp4_tables.proofs.SpotLists.{drop_next}
 
 -- ---- parts side by side

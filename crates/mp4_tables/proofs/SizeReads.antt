@@ -4,18 +4,18 @@ use Rattle.std.specs.Prelude.{bytes_eq, codes, ◌==◌, ◌%◌, not, slice_ind
 use Rattle.std.specs.Int.{div_ceil}
 use Rattle.std.proofs.lemmas.List.{drop-drop, drop-take}
 use Rattle.std.proofs.lemmas.Bool.Decides.{nat_tests}
-use Rattle.mp4_boxes.specs.Bytes.{field, rows}
-use Rattle.mp4_boxes.specs.Box.{Box}
-use Rattle.mp4_boxes.specs.Children.{count_among, is_among, payload_of, sample_sizes, one}
-use Rattle.mp4_boxes.specs.Layout.{stsz, stz2, IsSound, IsReadable, version, leaf_rows, needed, rows_size, size_bits, is_size_bits}
-use Rattle.mp4_boxes.specs.BoxFaults.{fault_of}
+use Rattle.mp4_boxes.specs.format.Bytes.{field, rows}
+use Rattle.mp4_boxes.specs.format.Box.{Box}
+use Rattle.mp4_boxes.specs.format.Children.{count_among, is_among, payload_of, sample_sizes, one}
+use Rattle.mp4_boxes.specs.format.Layout.{stsz, stz2, IsSound, IsReadable, version, leaf_rows, needed, rows_size, size_bits, is_size_bits}
+use Rattle.mp4_boxes.specs.format.BoxFaults.{fault_of}
 use Rattle.mp4_boxes.specs.declared.fault.Fault.{Fault}
 use Rattle.mp4_boxes.specs.declared.fault.Kind.TheVariants.{ShortBox, BadValue, TooManySamples}
 use Rattle.mp4_boxes.proofs.Refusing.{line_has}
-use Rattle.mp4_tables.specs.Tables.{first_number, half_bytes, sample_count, sizes_of, compact_sizes_of, sample_sizes_of}
-use Rattle.mp4_tables.specs.Rows.{HaveSizes, numbers_at, sizes_in}
-use Rattle.mp4_tables.specs.TableRules.{AreReadable}
-use Rattle.mp4_tables.specs.Leaves.{boxes_of, HasTables, AllOf, IsFirstOf, LiesIn, IsFault, VersionFails, SizesKnown, SizesRead, IsFormOf}
+use Rattle.mp4_tables.specs.format.Tables.{first_number, half_bytes, sample_count, sizes_of, compact_sizes_of, sample_sizes_of}
+use Rattle.mp4_tables.specs.words.Rows.{HaveSizes, numbers_at, sizes_in}
+use Rattle.mp4_tables.specs.format.TableRules.{AreReadable}
+use Rattle.mp4_tables.specs.words.Leaves.{boxes_of, HasTables, AllOf, IsFirstOf, LiesIn, IsFault, VersionFails, SizesKnown, SizesRead, IsFormOf}
 use Rattle.mp4_tables.specs.declared.leaves.Limits.{Limits}
 use Rattle.mp4_tables.specs.declared.places.RowsAt.{RowsAt}
 use Rattle.mp4_tables.specs.declared.places.SizesAt.{SizesAt}

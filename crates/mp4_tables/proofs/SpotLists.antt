@@ -3,9 +3,9 @@ use Rattle.std.proofs.Common.{◌≡◌, ℕ, ◌+◌, ◌-◌, ◌<◌, ◌≤�
 use Rattle.std.specs.Prelude.{◌&&◌}
 use Rattle.std.proofs.lemmas.List.{drop_more, drop-drop, drop_all}
 use Rattle.std.proofs.lemmas.Bool.{cases_lt}
-use Rattle.mp4_tables.specs.Tables.{ChunkRow}
-use Rattle.mp4_tables.specs.PlainSamples.{Spot, in_chunks, in_chunks_total}
-use Rattle.mp4_tables.specs.Coming.{IsRowPlace, spots_coming, no_spots, next_spot, all_lie_within, IsChunkPlace}
+use Rattle.mp4_tables.specs.format.Tables.{ChunkRow}
+use Rattle.mp4_tables.specs.format.PlainSamples.{Spot, in_chunks, in_chunks_total}
+use Rattle.mp4_tables.specs.words.TablesComing.{IsRowPlace, spots_coming, no_spots, next_spot, all_lie_within, IsChunkPlace}
 use Rattle.mp4_tables.specs.declared.places.ChunkPlace.{ChunkPlace}
 use Rattle.mp4_tables.proofs.Counts.{chunks_length}
 use Rattle.mp4_tables.proofs.ChunkLists.{spots_first}

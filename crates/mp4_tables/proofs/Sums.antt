@@ -2,15 +2,15 @@
 use Rattle.std.proofs.Common.{◌≡◌, ℕ, zero, suc, ◌+◌, ◌-◌, ◌*◌, ◌^◌, ◌<◌, ◌≤◌, List, [], ◌∷◌, ◌++◌, length, take, drop, replicate, get_or, slice_index, refl, ap, sym, ◌∙◌, arith, length-drop}
 use Rattle.std.proofs.lemmas.List.{drop_all, drop_more}
 use Rattle.std.specs.Prelude.{min, unwrap_or, option_map, ℤ, pos, ◌+ℤ◌}
-use Rattle.mp4_boxes.specs.Bytes.{sum_of}
-use Rattle.mp4_tables.specs.Repeated.{repeated, total}
-use Rattle.mp4_tables.specs.Groups.{GroupKey, Groups, maps_of, keys_after}
-use Rattle.mp4_tables.specs.Tables.{Tables, ChunkRow}
-use Rattle.mp4_tables.specs.PlainSamples.{PlacedSample, Spot, with_groups, row_of_chunk, laid_out, in_chunks, in_chunks_total, flags_from, joined, spots_of, plain_samples}
-use Rattle.mp4_tables.specs.TableRules.{Surroundings, Fit, dependency_room, duration_counts, offset_counts, chunk_counts}
-use Rattle.mp4_tables.specs.Rows.{runs_at, sizes_at}
-use Rattle.mp4_tables.specs.Timed.{timed, samples_of}
-use Rattle.mp4_tables.specs.Accepted.{IsAccepted, tables_at}
+use Rattle.mp4_boxes.specs.format.Bytes.{sum_of}
+use Rattle.mp4_tables.specs.format.Repeated.{repeated, total}
+use Rattle.mp4_tables.specs.format.Groups.{GroupKey, Groups, maps_of, keys_after}
+use Rattle.mp4_tables.specs.format.Tables.{Tables, ChunkRow}
+use Rattle.mp4_tables.specs.format.PlainSamples.{PlacedSample, Spot, with_groups, row_of_chunk, laid_out, in_chunks, in_chunks_total, flags_from, joined, spots_of, plain_samples}
+use Rattle.mp4_tables.specs.format.TableRules.{Surroundings, Fit, dependency_room, duration_counts, offset_counts, chunk_counts}
+use Rattle.mp4_tables.specs.words.Rows.{runs_at, sizes_at}
+use Rattle.mp4_tables.specs.words.Timed.{timed, samples_of}
+use Rattle.mp4_tables.specs.words.Accepted.{IsAccepted, tables_at}
 use Rattle.mp4_tables.specs.declared.places.RowsAt.{RowsAt}
 use Rattle.mp4_tables.specs.declared.places.TablesAt.{TablesAt}
 use Rattle.mp4_tables.specs.declared.places.SizesAt.{SizesAt}

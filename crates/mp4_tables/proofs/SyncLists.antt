@@ -5,9 +5,9 @@ use Rattle.std.specs.List.{list_any, list_all}
 use Rattle.std.proofs.lemmas.List.{drop_more, drop_all, get_or-drop}
 use Rattle.std.proofs.lemmas.Bool.{cases_lt}
 use Rattle.std.proofs.lemmas.Bool.Decides.{nat_tests}
-use Rattle.mp4_tables.specs.TableRules.{is_rising_after, is_sync_order}
-use Rattle.mp4_tables.specs.Rows.{numbers_at}
-use Rattle.mp4_tables.specs.Coming.{IsSyncPlace}
+use Rattle.mp4_tables.specs.format.TableRules.{is_rising_after, is_sync_order}
+use Rattle.mp4_tables.specs.words.Rows.{numbers_at}
+use Rattle.mp4_tables.specs.words.TablesComing.{IsSyncPlace}
 use Rattle.mp4_tables.specs.declared.places.RowsAt.{RowsAt}
 use Rattle.mp4_tables.specs.declared.places.SyncPlace.{SyncPlace}
 use Rattle.mp4_tables.proofs.RowLists.{first_left, numbers_all}

@@ -1,23 +1,23 @@
 -- What was read of a leaf is what the definition reads, and a rule that fails is a fault.
 use Rattle.std.proofs.Common.{◌≡◌, ℕ, ◌+◌, ◌*◌, ◌<◌, ◌≤◌, inl, inr, List, [], ◌∷◌, length, drop, map, subst, refl, ap, sym, ◌∙◌, arith, Bool, true, false, Option, Some, None, length-drop}
 use Rattle.std.specs.Prelude.{bytes_eq, codes, IsTrue, unwrap_or, option_map, nat_le, ◌==◌}
-use Rattle.mp4_boxes.specs.Bytes.{field, rows}
-use Rattle.mp4_boxes.specs.Box.{Box}
-use Rattle.mp4_boxes.specs.Children.{count_among, is_among, payload_of, of_kind, sample_sizes}
-use Rattle.mp4_boxes.specs.Layout.{Leaf, stts, stss, sdtp, IsSound, IsReadable, version, leaf_rows, needed}
-use Rattle.mp4_boxes.specs.Places.{leaf_of, ruled}
-use Rattle.mp4_boxes.specs.BoxFaults.{fault_of}
+use Rattle.mp4_boxes.specs.format.Bytes.{field, rows}
+use Rattle.mp4_boxes.specs.format.Box.{Box}
+use Rattle.mp4_boxes.specs.format.Children.{count_among, is_among, payload_of, of_kind, sample_sizes}
+use Rattle.mp4_boxes.specs.format.Layout.{Leaf, stts, stss, sdtp, IsSound, IsReadable, version, leaf_rows, needed}
+use Rattle.mp4_boxes.specs.format.Places.{leaf_of, ruled}
+use Rattle.mp4_boxes.specs.format.BoxFaults.{fault_of}
 use Rattle.mp4_boxes.specs.declared.rule.Rule.TheVariants.{SampleTable}
 use Rattle.mp4_boxes.specs.declared.fault.Fault.{Fault}
 use Rattle.mp4_boxes.proofs.Refusing.{holds_only, holds_few}
 use Rattle.mp4_boxes.proofs.Sound.{same_kind}
-use Rattle.mp4_tables.specs.Repeated.{total}
-use Rattle.mp4_tables.specs.Tables.{first_number, durations_of}
-use Rattle.mp4_tables.specs.Rows.{HaveRoom, run_of, runs_at, numbers_at}
-use Rattle.mp4_tables.specs.TableRules.{TableRule, duration_counts, chunk_order, sync_order, dependency_room, test, kind_of, reads, reads_groups, goes_by_chunks, IsNamed, AreReadable, IsReadableAs, GroupsReadable, is_sync_order}
-use Rattle.mp4_tables.specs.Leaves.{boxes_of, HasTables, AllOf, IsFirstOf, FailsAs, IsFault, surroundings_of, ShapeFails, RowsRead, VersionFails, tables_in, SizesKnown, DurationsRead, SyncRead, DependenciesRead}
+use Rattle.mp4_tables.specs.format.Repeated.{total}
+use Rattle.mp4_tables.specs.format.Tables.{first_number, durations_of}
+use Rattle.mp4_tables.specs.words.Rows.{HaveRoom, run_of, runs_at, numbers_at}
+use Rattle.mp4_tables.specs.format.TableRules.{TableRule, duration_counts, chunk_order, sync_order, dependency_room, test, kind_of, reads, reads_groups, goes_by_chunks, IsNamed, AreReadable, IsReadableAs, GroupsReadable, is_sync_order}
+use Rattle.mp4_tables.specs.words.Leaves.{boxes_of, HasTables, AllOf, IsFirstOf, FailsAs, IsFault, surroundings_of, ShapeFails, RowsRead, VersionFails, tables_in, SizesKnown, DurationsRead, SyncRead, DependenciesRead}
 use Rattle.mp4_tables.specs.declared.leaves.Limits.{Limits}
-use Rattle.mp4_tables.specs.Accepted.{bytes_at}
+use Rattle.mp4_tables.specs.words.Accepted.{bytes_at}
 use Rattle.mp4_tables.specs.declared.places.RowsAt.{RowsAt}
 use Rattle.mp4_tables.specs.declared.places.BytesAt.{BytesAt}
 use Rattle.mp4_tables.proofs.LeafLists.{payload_first, payload_none, all_first, all_none, leaf_fault}

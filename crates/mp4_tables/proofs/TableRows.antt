@@ -3,12 +3,12 @@ use Rattle.std.proofs.Common.{◌≡◌, ℕ, ◌+◌, List, [], ◌∷◌, leng
 use Rattle.std.specs.Prelude.{option_map}
 use Rattle.std.specs.List.{AllByRecursion}
 use Rattle.std.proofs.lemmas.List.{length-map}
-use Rattle.mp4_boxes.specs.Bytes.{sum_of}
-use Rattle.mp4_tables.specs.Accepted.{AreUsed, HaveTables, grouped, groupings_at, group_rows, group_count, offset_rows, count_of, rows_in, tables_at, composition_offsets_at}
-use Rattle.mp4_tables.specs.Groups.{GroupKey, Grouping}
-use Rattle.mp4_tables.specs.Keys.{keys_seen}
-use Rattle.mp4_tables.specs.Rows.{runs_at, numbers_at, offset_width}
-use Rattle.mp4_tables.specs.Work.{rows_if, table_rows}
+use Rattle.mp4_boxes.specs.format.Bytes.{sum_of}
+use Rattle.mp4_tables.specs.words.Accepted.{AreUsed, HaveTables, grouped, groupings_at, group_rows, group_count, offset_rows, count_of, rows_in, tables_at, composition_offsets_at}
+use Rattle.mp4_tables.specs.format.Groups.{GroupKey, Grouping}
+use Rattle.mp4_tables.specs.words.Keys.{keys_seen}
+use Rattle.mp4_tables.specs.words.Rows.{runs_at, numbers_at, offset_width}
+use Rattle.mp4_tables.specs.format.TableRows.{rows_if, table_rows}
 use Rattle.mp4_tables.specs.declared.places.RowsAt.{RowsAt}
 use Rattle.mp4_tables.specs.declared.places.OffsetsAt.{OffsetsAt}
 use Rattle.mp4_tables.specs.declared.places.GroupsAt.{GroupsAt}

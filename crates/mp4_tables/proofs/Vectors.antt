@@ -1,8 +1,8 @@
 use Rattle.std.specs.Prelude.{◌≡◌, pos, [], ◌∷◌, refl, true}
 use Rattle.mp4_boxes.proofs.Vectors.{p_table}
-use Rattle.mp4_tables.specs.Tables.{tables_of, compact_sizes_of}
-use Rattle.mp4_tables.specs.PlainSamples.{plain_samples}
-use Rattle.mp4_tables.specs.TableRules.{test, places, chunk_counts, chunk_order}
+use Rattle.mp4_tables.specs.format.Tables.{tables_of, compact_sizes_of}
+use Rattle.mp4_tables.specs.format.PlainSamples.{plain_samples}
+use Rattle.mp4_tables.specs.format.TableRules.{test, places, chunk_counts, chunk_order}
 
 p-samples : plain_samples (tables_of p_table)
     ≡ record { duration = 512; offset = pos 0; flags = 0; description = 1; at = pos 549; size = 5; groups = [] }

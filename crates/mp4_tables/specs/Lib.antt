@@ -1,13 +1,2 @@
-pub mod Repeated
-pub mod Groups
-pub mod Tables
-pub mod Keys
-pub mod Rows
-pub mod PlainSamples
-pub mod TableRules
-pub mod Coming
-pub mod Timed
-pub mod Accepted
-pub mod Views
-pub mod Leaves
-pub mod Work
+pub mod format
+pub mod words

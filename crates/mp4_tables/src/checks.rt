@@ -1,9 +1,9 @@
 //! The tables of a track, read and held against each other, in the order in which a file is judged.
 ghost use Rattle.std.specs.Prelude.{◌≡◌, ◌+◌, ◌*◌, ◌≤◌, length, nat_eq, IfOk, IfErr, IsOk};
-ghost use Rattle.mp4_boxes.specs.Layout.{version};
-ghost use Rattle.mp4_boxes.specs.View.{box_seen};
-ghost use Rattle.mp4_tables.specs.Leaves.{HasTables, SizesKnown, DurationsRead, OffsetsRead, ChunksRead, ChunkRowsRead, IsOffsetsLeaf, SyncRead, DependenciesRead, SizesRead, PlacesRead, TablesRead, IsFault, NamesFault, AreAccepted, boxes_of};
-ghost use Rattle.mp4_tables.specs.Accepted.{offset_rows, count_of, rows_in};
+ghost use Rattle.mp4_boxes.specs.format.Layout.{version};
+ghost use Rattle.mp4_boxes.specs.words.View.{box_seen};
+ghost use Rattle.mp4_tables.specs.words.Leaves.{HasTables, SizesKnown, DurationsRead, OffsetsRead, ChunksRead, ChunkRowsRead, IsOffsetsLeaf, SyncRead, DependenciesRead, SizesRead, PlacesRead, TablesRead, IsFault, NamesFault, AreAccepted, boxes_of};
+ghost use Rattle.mp4_tables.specs.words.Accepted.{offset_rows, count_of, rows_in};
 
 use crate::chunks::{are_described, are_ordered, chunk_counts_are};
 use crate::group_checks::read_groups;

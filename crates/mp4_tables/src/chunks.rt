@@ -1,10 +1,10 @@
 //! Chunks: which row of `stsc` each has and where its samples lie (ISO/IEC 14496-12, 8.7.4, 8.7.5).
 ghost use Rattle.std.specs.Prelude.{◌≡◌, ℕ, List, ◌+◌, ◌*◌, ◌^◌, ◌<◌, ◌≤◌, ◌∷◌, ◌==◌, map, nat_lt, nat_eq, ◌||◌, true};
-ghost use Rattle.mp4_tables.specs.Rows.{HaveRoom, chunk_rows_at, offsets_at, offset_width};
-ghost use Rattle.mp4_tables.specs.PlainSamples.{in_chunks_total};
-ghost use Rattle.mp4_tables.specs.TableRules.{is_chunk_order, is_index};
-ghost use Rattle.mp4_tables.specs.Coming.{IsRowPlace, spots_coming, no_spots, next_spot, IsChunkPlace};
-ghost use Rattle.mp4_tables.specs.Coming.{are_described as described_from};
+ghost use Rattle.mp4_tables.specs.words.Rows.{HaveRoom, chunk_rows_at, offsets_at, offset_width};
+ghost use Rattle.mp4_tables.specs.format.PlainSamples.{in_chunks_total};
+ghost use Rattle.mp4_tables.specs.format.TableRules.{is_chunk_order, is_index};
+ghost use Rattle.mp4_tables.specs.words.TablesComing.{IsRowPlace, spots_coming, no_spots, next_spot, IsChunkPlace};
+ghost use Rattle.mp4_tables.specs.words.TablesComing.{are_described as described_from};
 
 use crate::places::{ChunkPlace, ChunksAt, RowPlace, RowsAt};
 use crate::rows::{chunk_row_at, offset_at};

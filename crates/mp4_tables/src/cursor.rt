@@ -15,11 +15,11 @@ pub struct TableCursor<'a> {
 }
 
 impl<'a> Model for TableCursor<'a> {
-    ghost use Rattle.mp4_tables.specs.Views.{CursorSeen};
+    ghost use Rattle.mp4_tables.specs.words.TablesSeen.{CursorSeen};
 
     ghost Value = { CursorSeen };
 
-    ghost use Rattle.mp4_tables.specs.Accepted.{IsAccepted, IsPlace};
+    ghost use Rattle.mp4_tables.specs.words.Accepted.{IsAccepted, IsPlace};
 
     ghost view = { λ c. record {
       tables = record { payload = c.payload.now; at = c.at };
@@ -31,8 +31,8 @@ impl<'a> Model for TableCursor<'a> {
 
 impl<'a> TableCursor<'a> {
     ghost use Rattle.std.specs.Prelude.{◌≡◌, ◌-◌, length};
-    ghost use Rattle.mp4_tables.specs.Accepted.{IsPlace};
-    ghost use Rattle.mp4_tables.specs.Views.{samples_from, tables_seen};
+    ghost use Rattle.mp4_tables.specs.words.Accepted.{IsPlace};
+    ghost use Rattle.mp4_tables.specs.words.TablesSeen.{samples_from, tables_seen};
 
     /// The walk from the first sample on.
     pub fn start(tables: &Tables<'a>) -> TableCursor<'a>
@@ -71,8 +71,8 @@ impl<'a> Samples for TableCursor<'a> {
     ghost use Rattle.std.specs.Prelude.{◌≡◌, ◌≤◌};
     ghost use Rattle.std.proofs.Common.{refl, ◌∙◌};
     ghost use Rattle.std.proofs.Math.Nat.{le_refl, le_trans};
-    ghost use Rattle.mp4_tables.specs.Accepted.{passed};
-    ghost use Rattle.mp4_tables.specs.Views.{samples_from};
+    ghost use Rattle.mp4_tables.specs.words.Accepted.{passed};
+    ghost use Rattle.mp4_tables.specs.words.TablesSeen.{samples_from};
 
     ghost rest = { samples_from };
 

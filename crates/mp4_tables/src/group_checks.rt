@@ -1,10 +1,10 @@
 //! Sample groups, read and judged: `sgpd` and `sbgp` (ISO/IEC 14496-12, 8.9).
 ghost use Rattle.std.specs.Prelude.{◌≡◌, ◌+◌, ◌*◌, ◌≤◌, ◌<◌, ◌++◌, ◌∷◌, [], length, take, drop, IfOk, IfErr};
-ghost use Rattle.mp4_boxes.specs.Layout.{sbgp, sgpd, IsSound};
-ghost use Rattle.mp4_boxes.specs.View.{box_seen};
-ghost use Rattle.mp4_tables.specs.Keys.{key_seen, keys_seen};
-ghost use Rattle.mp4_tables.specs.Leaves.{HasTables, IsChild, FailsAs, SlotTaken, GroupRead, GroupFails, GroupNext, ChildRead, ChildFails, GroupsRead, GroupsSo, GroupPassed, SizesKnown, IsFault};
-ghost use Rattle.mp4_tables.specs.Accepted.{group_count};
+ghost use Rattle.mp4_boxes.specs.format.Layout.{sbgp, sgpd, IsSound};
+ghost use Rattle.mp4_boxes.specs.words.View.{box_seen};
+ghost use Rattle.mp4_tables.specs.words.Keys.{key_seen, keys_seen};
+ghost use Rattle.mp4_tables.specs.words.Leaves.{HasTables, IsChild, FailsAs, SlotTaken, GroupRead, GroupFails, GroupNext, ChildRead, ChildFails, GroupsRead, GroupsSo, GroupPassed, SizesKnown, IsFault};
+ghost use Rattle.mp4_tables.specs.words.Accepted.{group_count};
 
 use crate::groups::NO_ROWS;
 use crate::keys::{GroupKey, Keys};

@@ -1,8 +1,8 @@
 //! Sample groups: which index a sample has (ISO/IEC 14496-12, 8.9.2).
 ghost use Rattle.std.specs.Prelude.{◌≡◌, ◌+◌, ◌≤◌, slice_index, IsTrue};
-ghost use Rattle.mp4_tables.specs.Repeated.{repeated};
-ghost use Rattle.mp4_tables.specs.Rows.{HaveRoom, runs_at};
-ghost use Rattle.mp4_tables.specs.Accepted.{AreGroupPlaces, HaveGroups, IsRunPlaceAt, HaveGroup};
+ghost use Rattle.mp4_tables.specs.format.Repeated.{repeated};
+ghost use Rattle.mp4_tables.specs.words.Rows.{HaveRoom, runs_at};
+ghost use Rattle.mp4_tables.specs.words.Accepted.{AreGroupPlaces, HaveGroups, IsRunPlaceAt, HaveGroup};
 
 use crate::places::{GroupPlaces, GroupsAt, RowsAt, RunPlace};
 use crate::runs::{pass, settle};

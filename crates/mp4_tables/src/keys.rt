@@ -25,8 +25,8 @@ const NO_KEY: GroupKey = GroupKey {
 
 impl GroupKey {
     ghost use Rattle.std.specs.Prelude.{◌≡◌, ◌+◌};
-    ghost use Rattle.mp4_tables.specs.Groups.{key_rank};
-    ghost use Rattle.mp4_tables.specs.Keys.{key_seen};
+    ghost use Rattle.mp4_tables.specs.format.Groups.{key_rank};
+    ghost use Rattle.mp4_tables.specs.words.Keys.{key_seen};
 
     /// The order of keys: by the bytes of the type, then none before a parameter, then by the
     /// parameter.
@@ -44,8 +44,8 @@ impl GroupKey {
 impl Keys {
     ghost use Rattle.std.specs.Prelude.{◌≡◌, ◌++◌, ◌∷◌, ◌<◌, ◌≤◌, ◌+◌, drop, [], length};
     ghost use Rattle.std.specs.List.{list_any};
-    ghost use Rattle.mp4_tables.specs.Groups.{same_key};
-    ghost use Rattle.mp4_tables.specs.Keys.{key_seen, keys_seen, key_place};
+    ghost use Rattle.mp4_tables.specs.format.Groups.{same_key};
+    ghost use Rattle.mp4_tables.specs.words.Keys.{key_seen, keys_seen, key_place};
 
     /// No key is named yet.
     pub fn new() -> Keys

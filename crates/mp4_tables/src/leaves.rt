@@ -1,11 +1,11 @@
 //! The children of an `stbl`: which box is which table, and where its rows lie.
 ghost use Rattle.std.specs.Prelude.{◌≡◌, ◌+◌, ◌*◌, ◌-◌, ◌^◌, ◌<◌, ◌≤◌, length, [], ◌∷◌, IfOk, IfErr, MatchOption};
-ghost use Rattle.mp4_boxes.specs.Bytes.{field};
-ghost use Rattle.mp4_boxes.specs.BoxFaults.{fault_of};
-ghost use Rattle.mp4_boxes.specs.Children.{count_among};
-ghost use Rattle.mp4_boxes.specs.Layout.{version};
-ghost use Rattle.mp4_boxes.specs.View.{box_seen};
-ghost use Rattle.mp4_tables.specs.Leaves.{boxes_of, HasTables, IsFirstOf, IsChild, VersionFails, RowsFail, ShapeFails, RowsRead};
+ghost use Rattle.mp4_boxes.specs.format.Bytes.{field};
+ghost use Rattle.mp4_boxes.specs.format.BoxFaults.{fault_of};
+ghost use Rattle.mp4_boxes.specs.format.Children.{count_among};
+ghost use Rattle.mp4_boxes.specs.format.Layout.{version};
+ghost use Rattle.mp4_boxes.specs.words.View.{box_seen};
+ghost use Rattle.mp4_tables.specs.words.Leaves.{boxes_of, HasTables, IsFirstOf, IsChild, VersionFails, RowsFail, ShapeFails, RowsRead};
 
 use crate::places::RowsAt;
 use mp4_boxes::{BoxView, Children, Fault, FourCc, Kind, children, u32_at};

@@ -138,7 +138,7 @@ fn rows(count: u32) -> u64
 
 impl TablePlace {
     ghost use Rattle.std.specs.Prelude.{◌≡◌};
-    ghost use Rattle.mp4_tables.specs.Accepted.{passed};
+    ghost use Rattle.mp4_tables.specs.words.Accepted.{passed};
 
     /// How many rows and samples a walk passed on its way here. It passes a size with each sample,
     /// and a byte of `sdtp`.

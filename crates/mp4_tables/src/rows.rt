@@ -1,6 +1,6 @@
 //! Rows of tables, read from their bytes.
 ghost use Rattle.std.specs.Prelude.{◌≡◌, ◌+◌, ◌<◌, ◌∷◌, drop};
-ghost use Rattle.mp4_tables.specs.Rows.{HaveRoom, runs_at, chunk_rows_at, numbers_at, offsets_at, offset_width};
+ghost use Rattle.mp4_tables.specs.words.Rows.{HaveRoom, runs_at, chunk_rows_at, numbers_at, offsets_at, offset_width};
 
 use crate::places::{ChunksAt, RowsAt};
 use mp4_boxes::{u32_at, u64_at};

@@ -1,8 +1,8 @@
 //! Rows that repeat a value: `stts`, `ctts` and `sbgp` (ISO/IEC 14496-12, 8.6.1, 8.9.2).
 ghost use Rattle.std.specs.Prelude.{◌≡◌, ◌+◌, ◌<◌, ◌≤◌, ◌∷◌, ◌==◌, ◌↔◌, IsTrue, []};
-ghost use Rattle.mp4_tables.specs.Repeated.{total};
-ghost use Rattle.mp4_tables.specs.Rows.{HaveRoom, runs_at};
-ghost use Rattle.mp4_tables.specs.Coming.{coming, all_below};
+ghost use Rattle.mp4_tables.specs.format.Repeated.{total};
+ghost use Rattle.mp4_tables.specs.words.Rows.{HaveRoom, runs_at};
+ghost use Rattle.mp4_tables.specs.words.TablesComing.{coming, all_below};
 
 use crate::places::{RowsAt, RunPlace};
 use crate::rows::run_at;

@@ -1,10 +1,10 @@
 //! The box of sizes, read and judged: `stsz` or `stz2` (ISO/IEC 14496-12, 8.7.3).
 ghost use Rattle.std.specs.Prelude.{◌≡◌, ◌+◌, ◌*◌, [], ◌∷◌, codes, if◌then◌else◌, IfOk, IfErr, MatchOption, false};
 ghost use Rattle.std.specs.Int.{div_ceil};
-ghost use Rattle.mp4_boxes.specs.Children.{count_among};
-ghost use Rattle.mp4_boxes.specs.Layout.{is_size_bits};
-ghost use Rattle.mp4_boxes.specs.View.{box_seen};
-ghost use Rattle.mp4_tables.specs.Leaves.{boxes_of, HasTables, IsFirstOf, SizesRead, IsFormOf, IsFault};
+ghost use Rattle.mp4_boxes.specs.format.Children.{count_among};
+ghost use Rattle.mp4_boxes.specs.format.Layout.{is_size_bits};
+ghost use Rattle.mp4_boxes.specs.words.View.{box_seen};
+ghost use Rattle.mp4_tables.specs.words.Leaves.{boxes_of, HasTables, IsFirstOf, SizesRead, IsFormOf, IsFault};
 
 use crate::leaves::{Limits, fault_at, first_of, only_of, place_in, version_of};
 use crate::places::{RowsAt, SizeForm, SizesAt};

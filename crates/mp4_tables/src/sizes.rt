@@ -1,6 +1,6 @@
 //! Sizes of samples: `stsz` and `stz2` (ISO/IEC 14496-12, 8.7.3).
 ghost use Rattle.std.specs.Prelude.{◌≡◌, ◌+◌, ◌*◌, ◌≤◌, ◌<◌, slice_index, length};
-ghost use Rattle.mp4_tables.specs.Rows.{HaveSizes, sizes_at, sizes_in};
+ghost use Rattle.mp4_tables.specs.words.Rows.{HaveSizes, sizes_at, sizes_in};
 ghost use Rattle.mp4_tables.specs.declared.places.SizeForm.TheVariants as forms;
 
 use crate::places::{RowsAt, SizeForm, SizesAt};

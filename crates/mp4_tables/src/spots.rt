@@ -1,9 +1,9 @@
 //! Where the samples lie: all in the file.
 ghost use Rattle.std.specs.Prelude.{◌≡◌, ◌+◌, ◌*◌, ◌≤◌, map, nat_lt, nat_le, true};
-ghost use Rattle.mp4_tables.specs.Rows.{HaveRoom, HaveSizes, chunk_rows_at, offsets_at, offset_width, sizes_at};
-ghost use Rattle.mp4_tables.specs.PlainSamples.{in_chunks, in_chunks_total};
-ghost use Rattle.mp4_tables.specs.TableRules.{is_chunk_order};
-ghost use Rattle.mp4_tables.specs.Coming.{all_lie_within};
+ghost use Rattle.mp4_tables.specs.words.Rows.{HaveRoom, HaveSizes, chunk_rows_at, offsets_at, offset_width, sizes_at};
+ghost use Rattle.mp4_tables.specs.format.PlainSamples.{in_chunks, in_chunks_total};
+ghost use Rattle.mp4_tables.specs.format.TableRules.{is_chunk_order};
+ghost use Rattle.mp4_tables.specs.words.TablesComing.{all_lie_within};
 
 use crate::chunks::{first_chunk, pass_spot};
 use crate::places::{ChunksAt, RowsAt, SizesAt};

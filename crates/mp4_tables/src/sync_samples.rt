@@ -1,8 +1,8 @@
 //! Sync samples: `stss` (ISO/IEC 14496-12, 8.6.2).
 ghost use Rattle.std.specs.Prelude.{◌≡◌, ◌+◌, ◌<◌, ◌≤◌, slice_index, true};
-ghost use Rattle.mp4_tables.specs.Rows.{HaveRoom, numbers_at};
-ghost use Rattle.mp4_tables.specs.TableRules.{is_sync_order};
-ghost use Rattle.mp4_tables.specs.Coming.{IsSyncPlace};
+ghost use Rattle.mp4_tables.specs.words.Rows.{HaveRoom, numbers_at};
+ghost use Rattle.mp4_tables.specs.format.TableRules.{is_sync_order};
+ghost use Rattle.mp4_tables.specs.words.TablesComing.{IsSyncPlace};
 
 use crate::places::{RowsAt, SyncPlace};
 use crate::rows::number_at;

@@ -16,11 +16,11 @@ pub struct Tables<'a> {
 }
 
 impl<'a> Model for Tables<'a> {
-    ghost use Rattle.mp4_tables.specs.Views.{TablesSeen};
+    ghost use Rattle.mp4_tables.specs.words.TablesSeen.{TablesSeen};
 
     ghost Value = { TablesSeen };
 
-    ghost use Rattle.mp4_tables.specs.Accepted.{IsAccepted};
+    ghost use Rattle.mp4_tables.specs.words.Accepted.{IsAccepted};
 
     ghost view = { λ t. record { payload = t.payload.now; at = t.at } };
 
@@ -29,15 +29,15 @@ impl<'a> Model for Tables<'a> {
 
 impl<'a> Tables<'a> {
     ghost use Rattle.std.specs.Prelude.{◌≡◌, ◌+◌, ◌-◌, ◌*◌, ◌^◌, ◌≤◌, min, [], length, IfOk, IfErr, IsOk};
-    ghost use Rattle.mp4_boxes.specs.Bytes.{sum_of};
-    ghost use Rattle.mp4_tables.specs.Timed.{samples_of};
+    ghost use Rattle.mp4_boxes.specs.format.Bytes.{sum_of};
+    ghost use Rattle.mp4_tables.specs.words.Timed.{samples_of};
     ghost use Rattle.mp4_tables.specs.declared.sample.SampleAt.{SampleAt};
-    ghost use Rattle.mp4_boxes.specs.View.{box_seen};
-    ghost use Rattle.mp4_tables.specs.Groups.{keys_after};
-    ghost use Rattle.mp4_tables.specs.Keys.{keys_seen};
-    ghost use Rattle.mp4_tables.specs.Leaves.{HasTables, TablesRead, tables_in, NamesFault, AreAccepted, boxes_of};
-    ghost use Rattle.mp4_tables.specs.Views.{tables_seen};
-    ghost use Rattle.mp4_tables.specs.Accepted.{IsAccepted, rows_in};
+    ghost use Rattle.mp4_boxes.specs.words.View.{box_seen};
+    ghost use Rattle.mp4_tables.specs.format.Groups.{keys_after};
+    ghost use Rattle.mp4_tables.specs.words.Keys.{keys_seen};
+    ghost use Rattle.mp4_tables.specs.words.Leaves.{HasTables, TablesRead, tables_in, NamesFault, AreAccepted, boxes_of};
+    ghost use Rattle.mp4_tables.specs.words.TablesSeen.{tables_seen};
+    ghost use Rattle.mp4_tables.specs.words.Accepted.{IsAccepted, rows_in};
 
     /// The tables of an `stbl` with the children of the profile, in a file of so many bytes, for a
     /// track with so many descriptions, where so many samples are still allowed: if each has its

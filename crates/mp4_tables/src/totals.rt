@@ -1,8 +1,8 @@
 //! What the samples of tables come to together.
 ghost use Rattle.std.specs.Prelude.{ℕ, ◌≡◌, ◌+◌, ◌-◌, ◌*◌, ◌^◌, ◌≤◌, min};
-ghost use Rattle.mp4_boxes.specs.Bytes.{sum_of};
-ghost use Rattle.mp4_tables.specs.Repeated.{repeated};
-ghost use Rattle.mp4_tables.specs.Rows.{HaveRoom, HaveSizes, runs_at, sizes_at};
+ghost use Rattle.mp4_boxes.specs.format.Bytes.{sum_of};
+ghost use Rattle.mp4_tables.specs.format.Repeated.{repeated};
+ghost use Rattle.mp4_tables.specs.words.Rows.{HaveRoom, HaveSizes, runs_at, sizes_at};
 
 use crate::places::{RowsAt, SizesAt};
 use crate::rows::run_at;

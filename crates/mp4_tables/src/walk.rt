@@ -1,12 +1,12 @@
 //! A walk over the samples of tables, from place to place.
 ghost use Rattle.std.specs.Prelude.{◌≡◌, ◌+◌, ◌*◌, ◌<◌, ◌≤◌, ◌∷◌, drop, length, slice_index, option_map};
 ghost use Rattle.byteorder.specs.Endian.{twos_complement};
-ghost use Rattle.mp4_tables.specs.Rows.{HaveRoom, numbers_at, runs_at};
-ghost use Rattle.mp4_tables.specs.Coming.{IsRunPlace};
-ghost use Rattle.mp4_tables.specs.PlainSamples.{non_sync};
-ghost use Rattle.mp4_tables.specs.Timed.{samples_of};
-ghost use Rattle.mp4_tables.specs.Accepted.{IsAccepted, IsPlace, HaveBytes, HaveOffsets, HaveSync, IsRunPlaceAt, IsSyncPlaceIn, AreInOrder, tables_at, bytes_at, bytes_for, passed, offset_values, flags_here, indexes_here, HaveGroups, AreGroupPlaces};
-ghost use Rattle.mp4_tables.specs.Accepted.{offset_rows as rows_of_offsets};
+ghost use Rattle.mp4_tables.specs.words.Rows.{HaveRoom, numbers_at, runs_at};
+ghost use Rattle.mp4_tables.specs.words.TablesComing.{IsRunPlace};
+ghost use Rattle.mp4_tables.specs.format.PlainSamples.{non_sync};
+ghost use Rattle.mp4_tables.specs.words.Timed.{samples_of};
+ghost use Rattle.mp4_tables.specs.words.Accepted.{IsAccepted, IsPlace, HaveBytes, HaveOffsets, HaveSync, IsRunPlaceAt, IsSyncPlaceIn, AreInOrder, tables_at, bytes_at, bytes_for, passed, offset_values, flags_here, indexes_here, HaveGroups, AreGroupPlaces};
+ghost use Rattle.mp4_tables.specs.words.Accepted.{offset_rows as rows_of_offsets};
 
 use crate::chunks::{first_chunk, pass_spot};
 use crate::groups::{are_over, first_groups, index_here, pass_groups};

@@ -1,16 +1,16 @@
 -- Laws of the lists of boxes: where a header that is looked at is at fault there is no list, and six levels are enough.
 use Rattle.std.proofs.Common.{◌≡◌, ℕ, zero, suc, ◌+◌, ◌≤◌, List, [], ◌∷◌, Option, Some, None, refl, sym, ap, subst, ◌∙◌, arith}
 use Rattle.std.specs.Prelude.{option_map}
-use Rattle.mp4_boxes.specs.Box.{Box, Container, box_container, counted_container}
-use Rattle.mp4_boxes.specs.BoxFaults.{IsHeaderFault}
-use Rattle.mp4_boxes.specs.Places.{Place, Scope, ruled, data_entries, sample_entries, containers, at_kind, as_container, Leads}
+use Rattle.mp4_boxes.specs.format.Box.{Box, Container, box_container, counted_container}
+use Rattle.mp4_boxes.specs.format.BoxFaults.{IsHeaderFault}
+use Rattle.mp4_boxes.specs.format.Places.{Place, Scope, ruled, data_entries, sample_entries, containers, at_kind, as_container, Leads}
 use Rattle.mp4_boxes.specs.declared.rule.Rule.{Rule}
 use Rattle.mp4_boxes.specs.declared.fault.Fault.{Fault}
 use Rattle.mp4_boxes.proofs.Tiling.{header_fault_refuses}
 use Rattle.mp4_boxes.proofs.Among.{in_zip}
 use Rattle.mp4_boxes.proofs.Refusing.{stands_in}
-use Rattle.mp4norm.specs.Texts.{descends, IsPart, AreBoxLines}
-use Rattle.mp4norm.specs.BoxWalk.{height, under, rule_inside}
+use Rattle.mp4norm.specs.format.Texts.{descends, IsPart, AreBoxLines}
+use Rattle.mp4norm.specs.format.BoxWalk.{height, under, rule_inside}
 use Rattle.mp4norm.proofs.BoxLists.{inside_lower, height_some, zip_map}
 
 -- entries of `stsd` and `dref` are no containers of boxes

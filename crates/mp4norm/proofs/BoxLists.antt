@@ -3,21 +3,21 @@ use Rattle.std.proofs.Common.{◌≡◌, ℕ, zero, suc, ◌+◌, ◌-◌, ◌<�
 use Rattle.std.specs.Prelude.{option_map, length, take, drop, IsTrue, Result, Ok, Err, IfErr}
 use Rattle.std.specs.List.{AllZip, concat}
 use Rattle.std.proofs.lemmas.List.{append-nil, drop_more}
-use Rattle.mp4_boxes.specs.Box.{Box, Container, Tiles, LieEndToEnd, may_be_open, box_container, bytes_container, file_container, IsCounted, StandsAfter}
-use Rattle.mp4_boxes.specs.BoxFaults.{IsHeaderFault}
-use Rattle.mp4_boxes.specs.Places.{Scope, ruled, data_entries, sample_entries, containers, at_kind, inside, as_container}
+use Rattle.mp4_boxes.specs.format.Box.{Box, Container, Tiles, LieEndToEnd, may_be_open, box_container, bytes_container, file_container, IsCounted, StandsAfter}
+use Rattle.mp4_boxes.specs.format.BoxFaults.{IsHeaderFault}
+use Rattle.mp4_boxes.specs.format.Places.{Scope, ruled, data_entries, sample_entries, containers, at_kind, inside, as_container}
 use Rattle.mp4_boxes.specs.declared.rule.Rule.{Rule}
 use Rattle.mp4_boxes.specs.declared.rule.Rule.TheVariants.{File, Movie, Track, Edits, Media, MediaInformation, DataInformation, SampleTable, MovieExtends, MovieFragment, TrackFragment}
 use Rattle.mp4_boxes.specs.declared.fault.Fault.{Fault}
 use Rattle.mp4_boxes.specs.declared.refusal.Refusal.{Refusal}
 use Rattle.mp4_boxes.specs.declared.refusal.Refusal.TheVariants as refusals
 use Rattle.mp4_head.proofs.Above.{lies_front}
-use Rattle.mp4norm.specs.Texts.{descends, IsPart, AreBoxLines, box_line}
-use Rattle.mp4_store.specs.Device.{range}
-use Rattle.mp4_present.specs.Reading.{RefusesHeader}
+use Rattle.mp4norm.specs.format.Texts.{descends, IsPart, AreBoxLines, box_line}
+use Rattle.mp4_store.specs.words.Device.{range}
+use Rattle.mp4_present.specs.words.Reading.{RefusesHeader}
 use Rattle.mp4_present.proofs.TopLevel.{TopPassed, top_fault}
 use Rattle.mp4_present.specs.declared.reading.TopBox.{TopBox}
-use Rattle.mp4norm.specs.BoxWalk.{height, under, rule_inside, FaultSeen, RefusesInside, IsListed, RefusesTop, RefusesTops, top_seen, tops_seen}
+use Rattle.mp4norm.specs.format.BoxWalk.{height, under, rule_inside, FaultSeen, RefusesInside, IsListed, RefusesTop, RefusesTops, top_seen, tops_seen}
 
 -- ---- a loop over boxes that adds a part for each
 

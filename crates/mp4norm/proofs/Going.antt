@@ -2,12 +2,12 @@
 use Rattle.std.proofs.Common.{◌≡◌, ℕ, ◌+◌, List, [], ◌∷◌, ◌++◌, length, drop, refl, sym, ap, ◌∙◌, append_assoc, arith}
 use Rattle.std.proofs.lemmas.List.{append-nil}
 use Rattle.std.specs.Prelude.{Option, Some, slice_get}
-use Rattle.mp4_store.specs.Device.{AppendsPrefix}
-use Rattle.mp4_present.specs.Carried.{BytesGoOn}
+use Rattle.mp4_store.specs.words.Device.{AppendsPrefix}
+use Rattle.mp4_present.specs.words.Carried.{BytesGoOn}
 use Rattle.mp4_present.proofs.Carrying.{BytesGoOn-then, BytesGoOn-fails}
 use Rattle.mp4_store.proofs.Known.{Appends-nothing, AppendsPrefix-longer}
 use Rattle.mp4_tables.specs.declared.sample.SampleAt.{SampleAt}
-use Rattle.mp4norm.specs.Texts.{sample_at_line, sample_at_lines}
+use Rattle.mp4norm.specs.format.Texts.{sample_at_line, sample_at_lines}
 
 -- ---- a loop over samples that adds the line of each
 

@@ -2,17 +2,17 @@
 use Rattle.std.proofs.Common.{◌≡◌, ℕ, ◌+◌, ◌-◌, ◌<◌, ◌≤◌, List, length, take, ap, sym, ◌∙◌, arith, Ok}
 use Rattle.std.proofs.lemmas.Grind.{common_steps}
 use Rattle.std.specs.Prelude.{min, Result, Bool, IsTrue}
-use Rattle.mp4_boxes.specs.Box.{Header, header_at}
-use Rattle.mp4_boxes.specs.BoxFaults.{header_there, type_of}
+use Rattle.mp4_boxes.specs.format.Box.{Header, header_at}
+use Rattle.mp4_boxes.specs.format.BoxFaults.{header_there, type_of}
 use Rattle.mp4_boxes.specs.declared.fault.Fault.{Fault}
 use Rattle.mp4_boxes.specs.declared.refusal.Refusal.{Refusal}
 use Rattle.mp4_boxes.specs.declared.refusal.Refusal.TheVariants as refusals
 use Rattle.mp4_boxes.specs.declared.rule.Rule.{Rule}
 use Rattle.mp4_boxes.proofs.HeaderFronts.{header_there-take}
 use Rattle.mp4_boxes.proofs.Walking.{located_ok}
-use Rattle.mp4_store.specs.Device.{range}
+use Rattle.mp4_store.specs.words.Device.{range}
 use Rattle.mp4norm.specs.declared.named.Name.{Name}
-use Rattle.mp4norm.specs.Strips.{Halts, here, RefusesHeaderUnder, RefusesWalk}
+use Rattle.mp4norm.specs.format.Strips.{Halts, here, RefusesHeaderUnder, RefusesWalk}
 use Rattle.mp4norm.proofs.StripWalks.{take_range}
 
 pub length_range : (file : List ℕ) (at n : ℕ) → at + n ≤ length file → length (range file at n) ≡ n

@@ -3,11 +3,11 @@ use Rattle.std.proofs.Common.{◌≡◌, inl, ℕ, List, None, refl, sym, subst}
 use Rattle.std.specs.Prelude.{Bool, IsTrue}
 use Rattle.mp4_boxes.specs.declared.refusal.Refusal.{Refusal}
 use Rattle.mp4_boxes.specs.declared.refusal.Refusal.TheVariants as refusals
-use Rattle.mp4_present.specs.Denotes.{FileTree}
-use Rattle.mp4_present.specs.Movies.{MovieSeen}
-use Rattle.mp4_present.specs.OpenedMovie.{IsOpenedAs}
-use Rattle.mp4_plan.specs.Writers.{RefusesPlan}
-use Rattle.mp4norm.specs.MainJob.{RefusesNormalise}
+use Rattle.mp4_present.specs.format.Denotes.{FileTree}
+use Rattle.mp4_present.specs.words.Movies.{MovieSeen}
+use Rattle.mp4_present.specs.words.OpenedMovie.{IsOpenedAs}
+use Rattle.mp4_plan.specs.words.Writers.{RefusesPlan}
+use Rattle.mp4norm.specs.words.MainJob.{RefusesNormalise}
 
 plan_refused : (honest : Bool) (file : List ℕ) (reads reads_after : ℕ) (r : Refusal) → RefusesPlan reads reads_after r
     → (IsTrue honest → r ≡ refusals.StoreChanged → ⊥) → RefusesNormalise honest file None None reads reads_after 0 0 r

@@ -1,6 +1,6 @@
 -- The parts of a line.
 use Rattle.std.proofs.Common.{◌≡◌, ℕ, List, [], ◌∷◌, ◌++◌, append_assoc}
-use Rattle.mp4norm.specs.Texts.{space, line_feed}
+use Rattle.mp4norm.specs.format.Texts.{space, line_feed}
 
 -- seven fields, joined from the last to the first
 pub seven_fields : (a b c d e f g : List ℕ)

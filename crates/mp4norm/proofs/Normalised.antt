@@ -2,22 +2,22 @@
 use Rattle.std.proofs.Common.{◌≡◌, ◌⊎◌, inl, inr, ℕ, List, ◌++◌, take, drop, None, Some, refl, subst, ◌∙◌, take-append-drop}
 use Rattle.std.specs.Prelude.{Option, Bool, Result, Ok, Err, IfErr, OnOk, OnErr, IfSome, IsTrue}
 use Rattle.std.specs.Io.KnownBytes.{Appends}
-use Rattle.mp4_store.specs.Device.{AppendsPrefix}
+use Rattle.mp4_store.specs.words.Device.{AppendsPrefix}
 use Rattle.mp4_boxes.specs.declared.fault.Fault.{Fault}
 use Rattle.mp4_boxes.specs.declared.refusal.Refusal.{Refusal}
 use Rattle.mp4_boxes.specs.declared.refusal.Refusal.TheVariants as refusals
-use Rattle.mp4_present.specs.Carried.{RefusesCopy}
-use Rattle.mp4_present.specs.Denotes.{FileTree, presentation_of}
-use Rattle.mp4_present.specs.Movies.{MovieSeen}
-use Rattle.mp4_present.specs.OpenedMovie.{IsOpenedAs}
-use Rattle.mp4_present.specs.Opening.{RefusesOpen}
-use Rattle.mp4_present.specs.Stands.{Stands}
+use Rattle.mp4_present.specs.words.Carried.{RefusesCopy}
+use Rattle.mp4_present.specs.format.Denotes.{FileTree, presentation_of}
+use Rattle.mp4_present.specs.words.Movies.{MovieSeen}
+use Rattle.mp4_present.specs.words.OpenedMovie.{IsOpenedAs}
+use Rattle.mp4_present.specs.words.Opening.{RefusesOpen}
+use Rattle.mp4_present.specs.format.Stands.{Stands}
 use Rattle.mp4_present.proofs.DenotedOpens.{stands_refuses}
 use Rattle.mp4_present.proofs.WalkCopied.{on_err}
-use Rattle.mp4_plan.specs.Normal.{normal}
-use Rattle.mp4norm.specs.Commands.{PutsFrontOf}
-use Rattle.mp4norm.specs.Headline.{HasNormalForm, DenotesNothing, PutsFront, Normalises}
-use Rattle.mp4norm.specs.MainJob.{RefusesNormalise}
+use Rattle.mp4_plan.specs.format.Normal.{normal}
+use Rattle.mp4norm.specs.words.Commands.{PutsFrontOf}
+use Rattle.mp4norm.specs.format.Headline.{HasNormalForm, DenotesNothing, PutsFront, Normalises}
+use Rattle.mp4norm.specs.words.MainJob.{RefusesNormalise}
 use Rattle.mp4norm.proofs.ShownLines.{denoted}
 
 -- the normal form of what was opened is that of its file

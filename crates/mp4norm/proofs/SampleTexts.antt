@@ -1,12 +1,12 @@
 -- The lines of a track's samples, as they are handed out.
 use Rattle.std.proofs.Common.{◌≡◌, ℕ, ◌+◌, List, [], ◌∷◌, ◌++◌, length, map, refl, sym, ap, ◌∙◌, append_assoc, arith}
 use Rattle.std.specs.List.{AllByRecursion}
-use Rattle.mp4_tables.specs.Groups.{GroupKey}
-use Rattle.mp4_tables.specs.PlainSamples.{PlacedSample}
-use Rattle.mp4_tables.specs.Timed.{timed}
+use Rattle.mp4_tables.specs.format.Groups.{GroupKey}
+use Rattle.mp4_tables.specs.format.PlainSamples.{PlacedSample}
+use Rattle.mp4_tables.specs.words.Timed.{timed}
 use Rattle.mp4_tables.specs.declared.sample.SampleAt.{SampleAt}
-use Rattle.mp4_present.specs.Denotes.{bytes_at, sample_of}
-use Rattle.mp4norm.specs.Texts.{fields_line, sample_at_line, sample_at_lines, sample_lines_from}
+use Rattle.mp4_present.specs.format.Denotes.{bytes_at, sample_of}
+use Rattle.mp4norm.specs.format.Texts.{fields_line, sample_at_line, sample_at_lines, sample_lines_from}
 
 -- some samples, and then some more
 pub lines-append : (i j : ℕ) (samples more : List SampleAt) → j ≡ i + length samples → sample_at_lines i (samples ++ more) ≡ sample_at_lines i samples ++ sample_at_lines j more

@@ -5,23 +5,23 @@ use Rattle.std.specs.List.{AllByRecursion, AllZip}
 use Rattle.serde_json.specs.Data.{Data}
 use Rattle.serde_json.specs.Written.{compact_text}
 use Rattle.mp4_boxes.proofs.Each.{each_member}
-use Rattle.mp4_head.specs.Found.{SaysHead}
-use Rattle.mp4_head.specs.Head as heads
-use Rattle.mp4_head.specs.Seen.{movie_seen, tracks_seen}
-use Rattle.mp4_head.specs.Tree.{TrackTree}
+use Rattle.mp4_head.specs.words.Found.{SaysHead}
+use Rattle.mp4_head.specs.format.Head as heads
+use Rattle.mp4_head.specs.words.Seen.{movie_seen, tracks_seen}
+use Rattle.mp4_head.specs.format.Tree.{TrackTree}
 use Rattle.mp4_head.specs.declared.heads.MovieHead.{MovieHead}
 use Rattle.mp4_head.proofs.Distinct.{map_twice}
 use Rattle.mp4_head.proofs.ReadAgain.{said_of}
-use Rattle.mp4_present.specs.Denotes.{FileTree, Denotes, file_parts, placed_of, track_of, presentation_of}
-use Rattle.mp4_present.specs.Movies.{MovieSeen, moov_box}
-use Rattle.mp4_present.specs.OpenedMovie.{IsOpenedAs}
-use Rattle.mp4_present.specs.OpenedMovie as opened
-use Rattle.mp4_present.specs.Presentation.{Track}
+use Rattle.mp4_present.specs.format.Denotes.{FileTree, Denotes, file_parts, placed_of, track_of, presentation_of}
+use Rattle.mp4_present.specs.words.Movies.{MovieSeen, moov_box}
+use Rattle.mp4_present.specs.words.OpenedMovie.{IsOpenedAs}
+use Rattle.mp4_present.specs.words.OpenedMovie as opened
+use Rattle.mp4_present.specs.format.Presentation.{Track}
 use Rattle.mp4_present.specs.declared.track_info.TrackInfo.{TrackInfo}
 use Rattle.mp4_present.proofs.SamplesLie.{IsInFile, placed_lie, data_length}
-use Rattle.mp4norm.specs.Texts.{line_feed}
-use Rattle.mp4norm.specs.ShowValue.{ShowValue}
-use Rattle.mp4norm.specs.Commands.{ShowsLine}
+use Rattle.mp4norm.specs.format.Texts.{line_feed}
+use Rattle.mp4norm.specs.words.ShowValue.{ShowValue}
+use Rattle.mp4norm.specs.words.Commands.{ShowsLine}
 use Rattle.mp4norm.proofs.ShownTracks.{IsInfoOf, shown_is}
 
 -- what was opened is what the file denotes

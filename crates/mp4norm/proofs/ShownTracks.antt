@@ -7,14 +7,14 @@ use Rattle.serde_json.specs.Data.{Data, number}
 use Rattle.serde_json.specs.Find.{of_integer}
 use Rattle.serde_json.specs.View.{items_of}
 use Rattle.serde_json.specs.Written.{has_float, items_have_float, compact_text}
-use Rattle.mp4_head.specs.Head as heads
-use Rattle.mp4_head.specs.Seen.{track_seen}
+use Rattle.mp4_head.specs.format.Head as heads
+use Rattle.mp4_head.specs.words.Seen.{track_seen}
 use Rattle.mp4_head.specs.declared.heads.TrackHead.{TrackHead}
 use Rattle.mp4_present.specs.declared.track_info.TrackInfo.{TrackInfo}
-use Rattle.mp4_present.specs.Presentation.{Track, Presentation, total_duration, movie_length}
-use Rattle.mp4_present.specs.Presentation.{heads as heads_of}
-use Rattle.mp4norm.specs.Texts.{edit_value, description_value, movie_data, track_value, sample_data, show_value}
-use Rattle.mp4norm.specs.ShowValue.{info_value, infos_values, ShowValue}
+use Rattle.mp4_present.specs.format.Presentation.{Track, Presentation, total_duration, movie_length}
+use Rattle.mp4_present.specs.format.Presentation.{heads as heads_of}
+use Rattle.mp4norm.specs.format.Texts.{edit_value, description_value, movie_data, track_value, sample_data, show_value}
+use Rattle.mp4norm.specs.words.ShowValue.{info_value, infos_values, ShowValue}
 
 -- one track more
 pub infos_more : (done done_after all : List Data) (hs hs_after : List TrackHead) (infos infos_after : List TrackInfo) (h : TrackHead) (n : TrackInfo) (d : Data)

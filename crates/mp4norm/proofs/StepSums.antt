@@ -2,23 +2,23 @@
 use Rattle.std.proofs.Common.{◌≡◌, ℕ, zero, suc, ◌+◌, ◌*◌, ◌≤◌, List, [], ◌∷◌, length, map, refl, sym, ap, subst, ◌∙◌, arith, mul-le-mul_left}
 use Rattle.std.proofs.lemmas.List.{length-map}
 use Rattle.std.specs.List.{AllByRecursion}
-use Rattle.mp4_boxes.specs.Bytes.{sum_of}
-use Rattle.mp4_tables.specs.TableRules.{Fit}
-use Rattle.mp4_tables.specs.Tables.{tables_of}
-use Rattle.mp4_tables.specs.Work.{table_rows}
+use Rattle.mp4_boxes.specs.format.Bytes.{sum_of}
+use Rattle.mp4_tables.specs.format.TableRules.{Fit}
+use Rattle.mp4_tables.specs.format.Tables.{tables_of}
+use Rattle.mp4_tables.specs.format.TableRows.{table_rows}
 use Rattle.mp4_tables.proofs.Counts.{samples_counted}
-use Rattle.mp4_frag.specs.Fragments.{Fragment, FragmentTree, IsFragmentTree, fragment_of}
-use Rattle.mp4_frag.specs.FragmentSamples.{Part, all_parts, parts_of, part_samples}
-use Rattle.mp4_frag.specs.Work.{fragment_rows, fragment_length}
+use Rattle.mp4_frag.specs.format.Fragments.{Fragment, FragmentTree, IsFragmentTree, fragment_of}
+use Rattle.mp4_frag.specs.format.FragmentSamples.{Part, all_parts, parts_of, part_samples}
+use Rattle.mp4_frag.specs.format.FragmentRows.{fragment_rows, fragment_length}
 use Rattle.mp4_frag.specs.declared.trex.Trex.{Trex}
 use Rattle.mp4_frag.proofs.SaidSamples.{tree_said, parts_said}
-use Rattle.mp4_head.specs.Tree.{TrackTree, IsTrackTree, trexes_of}
-use Rattle.mp4_present.specs.Denotes.{FileTree, IsFileTree, IsConsistent, Denotes, plain_of, surroundings, file_parts, presentation_of, track_of}
-use Rattle.mp4_present.specs.Presentation.{Presentation, sample_total}
-use Rattle.mp4_present.specs.Stands.{table_total}
-use Rattle.mp4_present.specs.Work.{moof_steps, moofs_steps, table_steps, opening_steps, table_way, walks_steps}
+use Rattle.mp4_head.specs.format.Tree.{TrackTree, IsTrackTree, trexes_of}
+use Rattle.mp4_present.specs.format.Denotes.{FileTree, IsFileTree, IsConsistent, Denotes, plain_of, surroundings, file_parts, presentation_of, track_of}
+use Rattle.mp4_present.specs.format.Presentation.{Presentation, sample_total}
+use Rattle.mp4_present.specs.format.Stands.{table_total}
+use Rattle.mp4_present.specs.words.WalkSteps.{moof_steps, moofs_steps, table_steps, opening_steps, table_way, walks_steps}
 use Rattle.mp4_present.proofs.Counts.{parts_total, sum-append, sizes_few, fragments_total, total_is, all_belong}
-use Rattle.mp4norm.specs.Steps.{row_total, most_steps}
+use Rattle.mp4norm.specs.format.Steps.{row_total, most_steps}
 
 -- ---- sums over tracks
 

@@ -3,13 +3,13 @@ use Rattle.std.proofs.Common.{ℕ, ◌+◌, ◌*◌, ◌≤◌, List, subst, ari
 use Rattle.std.specs.Prelude.{Bool, Err, IsTrue}
 use Rattle.mp4_boxes.specs.declared.refusal.Refusal.{Refusal}
 use Rattle.mp4_boxes.specs.declared.refusal.Refusal.TheVariants as refusals
-use Rattle.mp4_present.specs.Denotes.{FileTree, IsFileTree, presentation_of}
-use Rattle.mp4_present.specs.Movies.{MovieSeen}
-use Rattle.mp4_present.specs.OpenedMovie.{IsOpenedAs}
-use Rattle.mp4_present.specs.Opening.{RefusesOpen}
-use Rattle.mp4_present.specs.Work.{IfNoFault, OpensWithin, opening_steps, walks_steps}
+use Rattle.mp4_present.specs.format.Denotes.{FileTree, IsFileTree, presentation_of}
+use Rattle.mp4_present.specs.words.Movies.{MovieSeen}
+use Rattle.mp4_present.specs.words.OpenedMovie.{IsOpenedAs}
+use Rattle.mp4_present.specs.words.Opening.{RefusesOpen}
+use Rattle.mp4_present.specs.words.WalkSteps.{IfNoFault, OpensWithin, opening_steps, walks_steps}
 use Rattle.mp4_present.proofs.One.{file_tree_one}
-use Rattle.mp4norm.specs.Steps.{WorksWithin}
+use Rattle.mp4norm.specs.format.Steps.{WorksWithin}
 use Rattle.mp4norm.proofs.Normalised.{denotes_nothing}
 use Rattle.mp4norm.proofs.ShownLines.{denoted}
 use Rattle.mp4norm.proofs.StepSums.{all_within}

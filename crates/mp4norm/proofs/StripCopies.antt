@@ -2,11 +2,11 @@
 use Rattle.std.proofs.Common.{◌≡◌, ℕ, ◌+◌, ◌-◌, ◌<◌, ◌≤◌, List, [], ◌++◌, length, take, drop, refl, sym, ap, subst, ◌∙◌, append_assoc, arith, true, false, None, Some, Ok, Err}
 use Rattle.std.specs.Prelude.{Option, Result, codes, Bool, IsTrue}
 use Rattle.std.proofs.lemmas.List.{append-nil}
-use Rattle.mp4_store.specs.Device.{AppendsPrefix, range}
+use Rattle.mp4_store.specs.words.Device.{AppendsPrefix, range}
 use Rattle.mp4_store.proofs.Known.{AppendsPrefix-longer}
-use Rattle.mp4_boxes.specs.Box.{Header, header_at}
-use Rattle.mp4_boxes.specs.BoxFaults.{header_there, located, type_of}
-use Rattle.mp4_boxes.specs.View.{top_header_seen}
+use Rattle.mp4_boxes.specs.format.Box.{Header, header_at}
+use Rattle.mp4_boxes.specs.format.BoxFaults.{header_there, located, type_of}
+use Rattle.mp4_boxes.specs.words.View.{top_header_seen}
 use Rattle.mp4_boxes.specs.declared.fault.Fault.{Fault}
 use Rattle.mp4_boxes.specs.declared.fault.Kind.{Kind}
 use Rattle.mp4_boxes.specs.declared.fault.Kind.TheVariants.{ShortHeader}
@@ -14,12 +14,12 @@ use Rattle.mp4_boxes.specs.declared.headers.TopHeader.{TopHeader}
 use Rattle.mp4_boxes.specs.declared.rule.Rule.{Rule}
 use Rattle.mp4_boxes.specs.declared.refusal.Refusal.{Refusal}
 use Rattle.mp4_boxes.specs.declared.refusal.Refusal.TheVariants as refusals
-use Rattle.mp4_present.specs.Carried.{BytesGoOn, RefusesRange, RefusesCarry}
+use Rattle.mp4_present.specs.words.Carried.{BytesGoOn, RefusesRange, RefusesCarry}
 use Rattle.mp4_present.proofs.Carrying.{BytesGoOn-nothing, BytesGoOn-then, BytesGoOn-fails, BytesGoOn-front}
-use Rattle.mp4norm.specs.BoxWalk.{rule_inside}
+use Rattle.mp4norm.specs.format.BoxWalk.{rule_inside}
 use Rattle.mp4norm.proofs.StripWalks.{freed_range, whole_box, its_header, behind_it, its_payload}
 use Rattle.mp4norm.specs.declared.named.Name.{Name}
-use Rattle.mp4norm.specs.Strips.{is_top, holder, is_named, freed, payload_of, Strips, ends, frees, keeps, enters, RefusesHeaderAgain}
+use Rattle.mp4norm.specs.format.Strips.{is_top, holder, is_named, freed, payload_of, Strips, ends, frees, keeps, enters, RefusesHeaderAgain}
 
 -- ---- copying
 

@@ -4,14 +4,14 @@ use Rattle.std.proofs.lemmas.Grind.{common_steps}
 use Rattle.std.proofs.lemmas.List.{drop-drop, drop-append-le, take-append-le}
 use Rattle.std.proofs.Math.Seq.{drop-append-add}
 use Rattle.std.specs.Prelude.{codes, Bool, min}
-use Rattle.mp4_boxes.specs.Box.{Header, header_at}
+use Rattle.mp4_boxes.specs.format.Box.{Header, header_at}
 use Rattle.mp4_boxes.specs.declared.fault.Fault.{Fault}
 use Rattle.mp4_boxes.specs.declared.rule.Rule.{Rule}
 use Rattle.mp4_boxes.specs.declared.rule.Rule.TheVariants.{File}
 use Rattle.mp4_boxes.proofs.Tiling.{header_is, IsRead}
 use Rattle.mp4norm.specs.declared.named.Name.{Name}
-use Rattle.mp4norm.specs.Strips.{is_top, freed, payload_of, Strips, ends, frees, keeps, enters, Halts, here, behind, within}
-use Rattle.mp4norm.specs.StripLaws.{NamedBoxAt, at_front, further, inside, StripKeepsLength, UnnamedIsCopied, NamedIsFree, HaltedStripsNothing}
+use Rattle.mp4norm.specs.format.Strips.{is_top, freed, payload_of, Strips, ends, frees, keeps, enters, Halts, here, behind, within}
+use Rattle.mp4norm.specs.format.StripLaws.{NamedBoxAt, at_front, further, inside, StripKeepsLength, UnnamedIsCopied, NamedIsFree, HaltedStripsNothing}
 use Rattle.mp4norm.proofs.StripCopies.{same_header, next_freed, next_entered, fault_strips_nothing, no_header}
 
 -- ---- lengths of parts

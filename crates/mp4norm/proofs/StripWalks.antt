@@ -2,15 +2,15 @@
 use Rattle.std.proofs.Common.{◌≡◌, ℕ, ◌+◌, ◌-◌, ◌≤◌, List, [], ◌++◌, take, drop, refl, sym, ap, subst, ◌∙◌, arith, true, false, None, Some, Ok}
 use Rattle.std.specs.Prelude.{codes}
 use Rattle.std.proofs.lemmas.List.{take-take, drop-drop, drop-take}
-use Rattle.mp4_store.specs.Device.{range}
-use Rattle.mp4_boxes.specs.Box.{header_at}
-use Rattle.mp4_boxes.specs.View.{top_header_seen}
+use Rattle.mp4_store.specs.words.Device.{range}
+use Rattle.mp4_boxes.specs.format.Box.{header_at}
+use Rattle.mp4_boxes.specs.words.View.{top_header_seen}
 use Rattle.mp4_boxes.specs.declared.fault.Fault.{Fault}
 use Rattle.mp4_boxes.specs.declared.headers.TopHeader.{TopHeader}
 use Rattle.mp4_boxes.specs.declared.rule.Rule.{Rule}
-use Rattle.mp4norm.specs.BoxWalk.{rule_inside}
+use Rattle.mp4norm.specs.format.BoxWalk.{rule_inside}
 use Rattle.mp4norm.specs.declared.named.Name.{Name}
-use Rattle.mp4norm.specs.Strips.{is_top, is_named, freed, payload_of, Strips, ends, frees, keeps, enters, Halts, behind, within}
+use Rattle.mp4norm.specs.format.Strips.{is_top, is_named, freed, payload_of, Strips, ends, frees, keeps, enters, Halts, behind, within}
 
 -- ---- parts of a range
 

@@ -3,15 +3,15 @@ use Rattle.std.proofs.Common.{◌≡◌, inl, inr, ℕ, ◌-◌, List, [], ◌++
 use Rattle.std.proofs.lemmas.List.{take_all, append-nil}
 use Rattle.std.specs.Prelude.{Option, Result, Bool, IsTrue, IfErr, OnErr}
 use Rattle.std.specs.Io.KnownBytes.{Appends}
-use Rattle.mp4_store.specs.Device.{AppendsPrefix, count_after, range}
+use Rattle.mp4_store.specs.words.Device.{AppendsPrefix, count_after, range}
 use Rattle.mp4_boxes.specs.declared.refusal.Refusal.{Refusal}
 use Rattle.mp4_boxes.specs.declared.refusal.Refusal.TheVariants as refusals
 use Rattle.mp4_boxes.specs.declared.rule.Rule.TheVariants.{File}
-use Rattle.mp4_present.specs.Carried.{BytesGoOn, RefusesPut, RefusesCarry}
+use Rattle.mp4_present.specs.words.Carried.{BytesGoOn, RefusesPut, RefusesCarry}
 use Rattle.mp4_present.proofs.Carrying.{BytesGoOn-all}
-use Rattle.mp4norm.specs.Commands.{PutsFrontOf}
+use Rattle.mp4norm.specs.words.Commands.{PutsFrontOf}
 use Rattle.mp4norm.specs.declared.named.Name.{Name}
-use Rattle.mp4norm.specs.Strips.{Strips, IsStripped, Halts, RefusesWalk, RefusesStrip}
+use Rattle.mp4norm.specs.format.Strips.{Strips, IsStripped, Halts, RefusesWalk, RefusesStrip}
 use Rattle.mp4norm.proofs.StripCopies.{front_fails}
 
 -- all bytes of a file

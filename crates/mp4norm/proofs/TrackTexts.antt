@@ -3,25 +3,25 @@ use Rattle.std.proofs.Common.{◌≡◌, inl, inr, ℕ, zero, suc, ◌^◌, ◌<
 use Rattle.std.proofs.lemmas.List.{length-map}
 use Rattle.std.specs.List.{AllZip, slice_get}
 use Rattle.std.specs.Prelude.{Option, Bool, Result, Ok, Err, IfErr, OnErr, IfSome, IsTrue, map}
-use Rattle.mp4_boxes.specs.Bytes.{sum_of}
+use Rattle.mp4_boxes.specs.format.Bytes.{sum_of}
 use Rattle.mp4_boxes.specs.declared.refusal.Refusal.{Refusal}
 use Rattle.mp4_boxes.specs.declared.refusal.Refusal.TheVariants as refusals
-use Rattle.mp4_head.specs.Head.{TrackHead}
-use Rattle.mp4_head.specs.Tree.{TrackTree, track_head_of}
-use Rattle.mp4_present.specs.Carried.{RefusesCopy}
-use Rattle.mp4_present.specs.Coming.{track_samples}
-use Rattle.mp4_present.specs.Denotes.{FileTree, file_parts, placed_of, sample_of, track_of, presentation_of}
-use Rattle.mp4_present.specs.Joined.{sample_bytes}
-use Rattle.mp4_present.specs.Movies.{MovieSeen}
-use Rattle.mp4_present.specs.OpenedMovie.{IsInfoOf, IsOpenedAs}
-use Rattle.mp4_present.specs.Opening.{RefusesOpen}
-use Rattle.mp4_present.specs.Presentation.{Track}
+use Rattle.mp4_head.specs.format.Head.{TrackHead}
+use Rattle.mp4_head.specs.format.Tree.{TrackTree, track_head_of}
+use Rattle.mp4_present.specs.words.Carried.{RefusesCopy}
+use Rattle.mp4_present.specs.words.SamplesComing.{track_samples}
+use Rattle.mp4_present.specs.format.Denotes.{FileTree, file_parts, placed_of, sample_of, track_of, presentation_of}
+use Rattle.mp4_present.specs.words.Joined.{sample_bytes}
+use Rattle.mp4_present.specs.words.Movies.{MovieSeen}
+use Rattle.mp4_present.specs.words.OpenedMovie.{IsInfoOf, IsOpenedAs}
+use Rattle.mp4_present.specs.words.Opening.{RefusesOpen}
+use Rattle.mp4_present.specs.format.Presentation.{Track}
 use Rattle.mp4_present.specs.declared.track_info.TrackInfo.{TrackInfo}
 use Rattle.mp4_present.proofs.SamplesLie.{all_whole, timed_data, timed_length}
 use Rattle.mp4_present.proofs.WalkPlaces.{of_got}
 use Rattle.mp4_plan.proofs.TakenFrom.{got_map}
-use Rattle.mp4norm.specs.Commands.{AreOthers, LacksTrack, IsTrackWith, ListsSamples, HasData, PutsFrontOf, RefusesTrack}
-use Rattle.mp4norm.specs.Texts.{sample_at_lines}
+use Rattle.mp4norm.specs.words.Commands.{AreOthers, LacksTrack, IsTrackWith, ListsSamples, HasData, PutsFrontOf, RefusesTrack}
+use Rattle.mp4norm.specs.format.Texts.{sample_at_lines}
 use Rattle.mp4norm.proofs.SampleTexts.{lines_of_placed}
 use Rattle.mp4norm.proofs.ShownLines.{denoted, LieInFile, each_lies}
 

@@ -1,7 +1,7 @@
 -- How long the text of a type is.
 use Rattle.std.proofs.Common.{◌≡◌, ℕ, ◌*◌, ◌≤◌, List, [], ◌∷◌, length, refl, arith}
 use Rattle.std.specs.List.{flat_map}
-use Rattle.mp4norm.specs.Texts.{hex_digits, type_text}
+use Rattle.mp4norm.specs.format.Texts.{hex_digits, type_text}
 
 pub length-hex_digits : (bytes : List ℕ) → length (flat_map (hex_digits 2) bytes) ≡ 2 * length bytes
 length-hex_digits [] = refl

@@ -7,7 +7,7 @@ use Rattle.mp4_boxes.specs.declared.fault.Kind.TheVariants as kinds
 use Rattle.mp4_present.proofs.Vectors.{p_presentation, p_samples}
 use Rattle.mp4_head.proofs.Vectors.{p_track}
 use Rattle.mp4_boxes.proofs.Vectors.{v1, v1_moov, v1_mvhd, v1-tiles, v1-moov-tiles}
-use Rattle.mp4norm.specs.Texts.{BoxLines, fault_line, sample_lines, show_value}
+use Rattle.mp4norm.specs.format.Texts.{BoxLines, fault_line, sample_lines, show_value}
 
 p-lines : sample_lines (record { head = p_track; start = 0; samples = p_samples })
     ≡ codes "1 0 0 512 00000000 1 5" ++ 10 ∷ codes "2 512 512 512 00010000 1 0" ++ 10 ∷ codes "3 1024 1024 512 00010000 1 7" ++ 10 ∷ []

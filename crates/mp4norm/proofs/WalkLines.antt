@@ -3,21 +3,21 @@ use Rattle.std.proofs.Common.{◌≡◌, ℕ, ◌+◌, ◌^◌, ◌<◌, List, [
 use Rattle.std.proofs.lemmas.List.{append-nil}
 use Rattle.std.specs.Prelude.{Option}
 use Rattle.std.specs.Io.KnownBytes.{Appends}
-use Rattle.mp4_store.specs.Device.{AppendsPrefix}
+use Rattle.mp4_store.specs.words.Device.{AppendsPrefix}
 use Rattle.mp4_store.proofs.Known.{AppendsPrefix-longer}
 use Rattle.mp4_tables.specs.declared.sample.SampleAt.{SampleAt}
-use Rattle.mp4_frag.specs.Fragments.{FragmentTree}
-use Rattle.mp4_head.specs.Tree.{TrackTree}
-use Rattle.mp4_present.specs.Carried.{BytesGoOn}
-use Rattle.mp4_present.specs.Coming.{StandsBefore, Comes, samples_behind}
-use Rattle.mp4_present.specs.Denotes.{FileTree}
-use Rattle.mp4_present.specs.InHand.{left_in_hand}
-use Rattle.mp4_present.specs.Movies.{MovieSeen, InHandOf}
+use Rattle.mp4_frag.specs.format.Fragments.{FragmentTree}
+use Rattle.mp4_head.specs.format.Tree.{TrackTree}
+use Rattle.mp4_present.specs.words.Carried.{BytesGoOn}
+use Rattle.mp4_present.specs.words.SamplesComing.{StandsBefore, Comes, samples_behind}
+use Rattle.mp4_present.specs.format.Denotes.{FileTree}
+use Rattle.mp4_present.specs.words.InHand.{left_in_hand}
+use Rattle.mp4_present.specs.words.Movies.{MovieSeen, InHandOf}
 use Rattle.mp4_present.specs.declared.in_hand.InHand.{InHand}
 use Rattle.mp4_present.specs.declared.walks.Walk.{Walk}
 use Rattle.mp4_present.proofs.Carrying.{BytesGoOn-then, BytesGoOn-all, BytesGoOn-fails, BytesGoOn-front}
 use Rattle.mp4_present.proofs.WalkCopied.{StandsOn, hand_one}
-use Rattle.mp4norm.specs.Texts.{sample_at_lines}
+use Rattle.mp4norm.specs.format.Texts.{sample_at_lines}
 use Rattle.mp4norm.proofs.Going.{Going, going_all}
 use Rattle.mp4norm.proofs.SampleTexts.{lines-append}
 

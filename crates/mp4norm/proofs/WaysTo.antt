@@ -2,11 +2,11 @@
 use Rattle.std.proofs.Common.{◌≡◌, inr, ℕ, ◌<◌, ◌≤◌, List, [], ◌∷◌, ◌++◌, refl, sym, ap, subst, ◌∙◌, append_assoc}
 use Rattle.std.specs.Prelude.{Option, codes}
 use Rattle.std.proofs.lemmas.List.{append-nil}
-use Rattle.mp4_boxes.specs.Box.{Box, Tiles, box_container}
-use Rattle.mp4_present.specs.Reading.{IsTopHeader}
+use Rattle.mp4_boxes.specs.format.Box.{Box, Tiles, box_container}
+use Rattle.mp4_present.specs.words.Reading.{IsTopHeader}
 use Rattle.mp4_present.specs.declared.reading.TopBox.{TopBox}
-use Rattle.mp4norm.specs.BoxWalk.{top_seen}
-use Rattle.mp4norm.specs.Ways.{HoldsPlace, IsChildAt, step_text, IsWay, IsWayIn, ends, goes}
+use Rattle.mp4norm.specs.format.BoxWalk.{top_seen}
+use Rattle.mp4norm.specs.format.Ways.{HoldsPlace, IsChildAt, step_text, IsWay, IsWayIn, ends, goes}
 
 -- boxes that a loop has passed, before those that are left
 pub record Passed (all left : List Box) : Type 0 where

@@ -1,15 +1,2 @@
-pub mod Texts
-pub mod Headline
-pub mod BoxWalk
-pub mod BoxLaws
-pub mod Actions
-pub mod ShowValue
-pub mod Commands
-pub mod MainJob
-pub mod Steps
-pub mod Sources
-pub mod Verdicts
-pub mod Ways
-pub mod Strips
-pub mod StripLaws
-pub mod Jobs
+pub mod format
+pub mod words

@@ -1,7 +1,7 @@
 //! A line of text that is written from its end to its front, in a fixed array.
 ghost use Rattle.std.specs.Prelude.{◌≡◌, ℕ, ◌+◌, ◌*◌, ◌^◌, ◌<◌, ◌≤◌, [], ◌∷◌, ◌++◌, length, pos, ◌+ℤ◌, decimal};
 ghost use Rattle.std.specs.Fmt.{signed_decimal};
-ghost use Rattle.mp4norm.specs.Texts.{hex_digits};
+ghost use Rattle.mp4norm.specs.format.Texts.{hex_digits};
 
 use crate::digits::{hex_digit, write_digits};
 use std::marker::Model;

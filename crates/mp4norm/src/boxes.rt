@@ -2,11 +2,11 @@
 ghost use Rattle.std.specs.Prelude.{◌≡◌, ℕ, ◌+◌, ◌*◌, ◌-◌, ◌<◌, ◌≤◌, ◌++◌, List, IfOk, IfErr, OnOk, IsTrue};
 ghost use Rattle.std.specs.List.{All};
 ghost use Rattle.std.specs.Io.KnownBytes.{Appends};
-ghost use Rattle.mp4_boxes.specs.Box.{Tiles, file_container};
-ghost use Rattle.mp4_boxes.specs.View.{box_seen};
+ghost use Rattle.mp4_boxes.specs.format.Box.{Tiles, file_container};
+ghost use Rattle.mp4_boxes.specs.words.View.{box_seen};
 ghost use Rattle.mp4_boxes.specs.declared.rule.Rule.TheVariants.{File};
-ghost use Rattle.mp4norm.specs.BoxWalk.{height, rule_inside, IsListed, RefusesInside, RefusesBoxes, top_seen, tops_seen, IsWithin, RefusesTop, RefusesTops};
-ghost use Rattle.mp4norm.specs.Texts.{line_text, BoxLines};
+ghost use Rattle.mp4norm.specs.format.BoxWalk.{height, rule_inside, IsListed, RefusesInside, RefusesBoxes, top_seen, tops_seen, IsWithin, RefusesTop, RefusesTops};
+ghost use Rattle.mp4norm.specs.format.Texts.{line_text, BoxLines};
 
 use crate::line::Line;
 use mp4_boxes::{BoxView, FourCc, Refusal, Rule, children};

@@ -1,6 +1,6 @@
 //! The command line.
 ghost use Rattle.std.specs.Prelude.{◌≡◌, ◌≤◌, [], IfOk, IfSome, Ok};
-ghost use Rattle.mp4norm.specs.Actions.{IsJob, IsAction, boxes_of_input};
+ghost use Rattle.mp4norm.specs.words.Actions.{IsJob, IsAction, boxes_of_input};
 
 use crate::drop_lists::names_of;
 use crate::wanted::{Action, CommandFault, Input, Job, Target};

@@ -1,6 +1,6 @@
 //! Digits of numbers.
 ghost use Rattle.std.specs.Prelude.{◌≡◌, ◌+◌, ◌<◌, ◌≤◌, ◌++◌, length, drop, decimal};
-ghost use Rattle.mp4norm.specs.Texts.{hex_digit};
+ghost use Rattle.mp4norm.specs.format.Texts.{hex_digit};
 
 pub(crate) fn hex_digit(digit: u8) -> u8
     requires { digit < 16 }

@@ -1,7 +1,7 @@
 //! What there is to say of a fault besides its line: the way to the box, where the standard tells
 //! of it, what the kind means.
 ghost use Rattle.std.specs.Prelude.{◌≡◌, ◌++◌, OnOk};
-ghost use Rattle.mp4norm.specs.Texts.{line_feed};
+ghost use Rattle.mp4norm.specs.format.Texts.{line_feed};
 
 use crate::ways::{Way, step_line, way_to};
 use mp4_boxes::{Fault, FourCc, Kind, Refusal};

@@ -1,7 +1,7 @@
 //! The bytes of a track's samples.
 ghost use Rattle.std.specs.Prelude.{◌≡◌, ℕ, ◌<◌, List, IfErr, OnOk, IsTrue};
 ghost use Rattle.std.specs.Io.KnownBytes.{Appends};
-ghost use Rattle.mp4norm.specs.Commands.{HasData, RefusesTrack};
+ghost use Rattle.mp4norm.specs.words.Commands.{HasData, RefusesTrack};
 
 use crate::tracks::track_with;
 use mp4_boxes::{Refusal, Steps};

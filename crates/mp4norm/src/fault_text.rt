@@ -1,6 +1,6 @@
 //! What is said of a refusal: a line on standard error, and a status.
 ghost use Rattle.std.specs.Prelude.{◌≡◌, ◌≤◌, length};
-ghost use Rattle.mp4norm.specs.Texts.{kind_text, fault_line, status_of};
+ghost use Rattle.mp4norm.specs.format.Texts.{kind_text, fault_line, status_of};
 
 use crate::line::Line;
 use mp4_boxes::{FourCc, Kind, Refusal};

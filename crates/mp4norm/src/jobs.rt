@@ -1,7 +1,7 @@
 //! What a command does over a store.
 ghost use Rattle.std.specs.Prelude.{◌≡◌, ℕ, List, IfErr, OnOk, IsTrue};
 ghost use Rattle.std.specs.Io.KnownBytes.{Appends};
-ghost use Rattle.mp4norm.specs.Jobs.{IsTextOf, RefusesJob, JobWorksWithin};
+ghost use Rattle.mp4norm.specs.words.Jobs.{IsTextOf, RefusesJob, JobWorksWithin};
 
 use crate::boxes::boxes;
 use crate::extract::extract;

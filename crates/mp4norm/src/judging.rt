@@ -1,7 +1,7 @@
 //! Whether a file has a normal form.
 ghost use Rattle.std.specs.Prelude.{◌≡◌, ℕ, ◌<◌, List, None, IfErr, OnOk, IsTrue};
-ghost use Rattle.mp4norm.specs.Headline.{HasNormalForm};
-ghost use Rattle.mp4norm.specs.MainJob.{RefusesNormalise};
+ghost use Rattle.mp4norm.specs.format.Headline.{HasNormalForm};
+ghost use Rattle.mp4norm.specs.words.MainJob.{RefusesNormalise};
 
 use mp4_boxes::{Refusal, Steps};
 use mp4_plan::Writer;

@@ -1,6 +1,6 @@
 //! Laws of the texts: contracts over the definitions alone.
-ghost use Rattle.mp4norm.specs.BoxLaws.{FaultListsNothing, SixLevelsAreAll};
-ghost use Rattle.mp4norm.specs.StripLaws.{StripKeepsLength, UnnamedIsCopied, NamedIsFree, HaltedStripsNothing};
+ghost use Rattle.mp4norm.specs.format.BoxLaws.{FaultListsNothing, SixLevelsAreAll};
+ghost use Rattle.mp4norm.specs.format.StripLaws.{StripKeepsLength, UnnamedIsCopied, NamedIsFree, HaltedStripsNothing};
 
 /// A file has no list of boxes where a header that is looked at is at fault.
 pub fn fault_lists_nothing()

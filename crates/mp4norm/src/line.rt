@@ -1,6 +1,6 @@
 //! One line of text, in a fixed array.
 ghost use Rattle.std.specs.Prelude.{◌≡◌, ℕ, ◌+◌, ◌<◌, ◌≤◌, [], ◌∷◌, ◌++◌, length, decimal};
-ghost use Rattle.mp4norm.specs.Texts.{hex_digits, type_text};
+ghost use Rattle.mp4norm.specs.format.Texts.{hex_digits, type_text};
 
 use crate::digits::{hex_digit, write_digits};
 use crate::type_names::is_text;

@@ -3,10 +3,10 @@ ghost use Rattle.std.specs.Prelude.{◌≡◌, map, IfOk, string_bytes};
 ghost use Rattle.serde_json.specs.Data.{array};
 ghost use Rattle.serde_json.specs.View.{items_of, view};
 ghost use Rattle.serde_json.specs.Written.{compact_text};
-ghost use Rattle.mp4_head.specs.Head.{handler_type};
-ghost use Rattle.mp4_head.specs.Seen.{description_seen, edit_seen, track_seen, movie_seen, tracks_seen};
-ghost use Rattle.mp4norm.specs.Texts.{description_value, edit_value};
-ghost use Rattle.mp4norm.specs.ShowValue.{info_value, infos_values, ShowValue};
+ghost use Rattle.mp4_head.specs.format.Head.{handler_type};
+ghost use Rattle.mp4_head.specs.words.Seen.{description_seen, edit_seen, track_seen, movie_seen, tracks_seen};
+ghost use Rattle.mp4norm.specs.format.Texts.{description_value, edit_value};
+ghost use Rattle.mp4norm.specs.words.ShowValue.{info_value, infos_values, ShowValue};
 
 use crate::type_names::type_string;
 use mp4_head::{Description, Edit, MovieHead, TrackHead};

@@ -1,6 +1,6 @@
 //! Which boxes are named.
 ghost use Rattle.std.specs.Prelude.{◌≡◌};
-ghost use Rattle.mp4norm.specs.Strips.{holder, is_in, means, is_named};
+ghost use Rattle.mp4norm.specs.format.Strips.{holder, is_in, means, is_named};
 
 use mp4_boxes::{FourCc, Rule};
 

@@ -1,9 +1,9 @@
 //! The normal form of a file.
 ghost use Rattle.std.specs.Prelude.{◌≡◌, ℕ, ◌<◌, List, Some, IfErr, IfSome, OnOk, IsTrue};
 ghost use Rattle.std.specs.Io.KnownBytes.{Appends};
-ghost use Rattle.mp4norm.specs.Headline.{HasNormalForm, Normalises};
-ghost use Rattle.mp4norm.specs.MainJob.{RefusesNormalise};
-ghost use Rattle.mp4norm.specs.Steps.{WorksWithin};
+ghost use Rattle.mp4norm.specs.format.Headline.{HasNormalForm, Normalises};
+ghost use Rattle.mp4norm.specs.words.MainJob.{RefusesNormalise};
+ghost use Rattle.mp4norm.specs.format.Steps.{WorksWithin};
 
 use mp4_boxes::{Refusal, Steps};
 use mp4_plan::write_normal;

@@ -1,8 +1,8 @@
 //! The lines of samples.
 ghost use Rattle.std.specs.Prelude.{◌≡◌, ◌+◌, ◌^◌, ◌<◌, [], ◌++◌, length, IfErr, OnOk, OnErr};
-ghost use Rattle.mp4_store.specs.Device.{AppendsPrefix};
-ghost use Rattle.mp4_present.specs.Carried.{waiting, BytesGoOn, RefusesPut};
-ghost use Rattle.mp4norm.specs.Texts.{sample_at_line, sample_at_lines};
+ghost use Rattle.mp4_store.specs.words.Device.{AppendsPrefix};
+ghost use Rattle.mp4_present.specs.words.Carried.{waiting, BytesGoOn, RefusesPut};
+ghost use Rattle.mp4norm.specs.format.Texts.{sample_at_line, sample_at_lines};
 
 use crate::backward_line::BackwardLine;
 use mp4_boxes::Refusal;

@@ -1,8 +1,8 @@
 //! A movie and its tracks, shown.
 ghost use Rattle.std.specs.Prelude.{◌≡◌, ℕ, ◌<◌, List, IfOk, IfErr, OnOk, IsTrue, string_bytes};
 ghost use Rattle.std.specs.Io.KnownBytes.{Appends};
-ghost use Rattle.mp4_present.specs.Opening.{RefusesOpen};
-ghost use Rattle.mp4norm.specs.Commands.{ShowsLine, RefusesShow};
+ghost use Rattle.mp4_present.specs.words.Opening.{RefusesOpen};
+ghost use Rattle.mp4norm.specs.words.Commands.{ShowsLine, RefusesShow};
 
 use crate::movie_json::show_text;
 use mp4_boxes::{Refusal, Steps};

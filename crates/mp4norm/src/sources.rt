@@ -1,9 +1,9 @@
 //! What a command reads: a file, by place, or standard input, whole.
 ghost use Rattle.std.specs.Prelude.{◌≡◌, ℕ, List, None, true, IfErr, OnOk};
 ghost use Rattle.std.specs.Io.KnownBytes.{Appends};
-ghost use Rattle.mp4norm.specs.Headline.{HasNormalForm};
-ghost use Rattle.mp4norm.specs.Jobs.{IsTextOf, RefusesJob, JobWorksWithin};
-ghost use Rattle.mp4norm.specs.MainJob.{RefusesNormalise};
+ghost use Rattle.mp4norm.specs.format.Headline.{HasNormalForm};
+ghost use Rattle.mp4norm.specs.words.Jobs.{IsTextOf, RefusesJob, JobWorksWithin};
+ghost use Rattle.mp4norm.specs.words.MainJob.{RefusesNormalise};
 
 use crate::explaining::explain;
 use crate::input::read_input;
@@ -62,7 +62,7 @@ fn check_bytes(alloc: Global, bytes: &[u8]) -> Result<(), Refusal>
 }
 
 impl Source {
-    ghost use Rattle.mp4norm.specs.Sources.{IfInput};
+    ghost use Rattle.mp4norm.specs.words.Sources.{IfInput};
 
     /// Does a job. Of standard input all that is put is the job's text of the bytes that were read.
     pub(crate) fn perform<K: Sink, L: Ledger>(

@@ -1,14 +1,14 @@
 //! A copy of a file in which the boxes of some types are free space.
 ghost use Rattle.std.specs.Prelude.{◌≡◌, ℕ, ◌+◌, ◌-◌, ◌^◌, ◌<◌, ◌≤◌, min, List, ◌++◌, length, Ok, Err, IfOk, IfErr, OnOk, OnErr, IsTrue};
 ghost use Rattle.std.specs.Io.KnownBytes.{Appends};
-ghost use Rattle.mp4_boxes.specs.Box.{header_at};
-ghost use Rattle.mp4_boxes.specs.BoxFaults.{header_there};
-ghost use Rattle.mp4_boxes.specs.View.{top_header_seen};
+ghost use Rattle.mp4_boxes.specs.format.Box.{header_at};
+ghost use Rattle.mp4_boxes.specs.format.BoxFaults.{header_there};
+ghost use Rattle.mp4_boxes.specs.words.View.{top_header_seen};
 ghost use Rattle.mp4_boxes.specs.declared.refusal.Refusal.TheVariants as refusals;
 ghost use Rattle.mp4_boxes.specs.declared.rule.Rule.TheVariants.{File};
-ghost use Rattle.mp4_store.specs.Device.{AppendsPrefix, range};
-ghost use Rattle.mp4_present.specs.Carried.{waiting, BytesGoOn, RefusesCarry, RefusesRange};
-ghost use Rattle.mp4norm.specs.Strips.{holder, is_top, freed, Strips, IsStripped, RefusesHeaderUnder, RefusesHeaderAgain, RefusesWalk, RefusesStrip};
+ghost use Rattle.mp4_store.specs.words.Device.{AppendsPrefix, range};
+ghost use Rattle.mp4_present.specs.words.Carried.{waiting, BytesGoOn, RefusesCarry, RefusesRange};
+ghost use Rattle.mp4norm.specs.format.Strips.{holder, is_top, freed, Strips, IsStripped, RefusesHeaderUnder, RefusesHeaderAgain, RefusesWalk, RefusesStrip};
 
 use crate::boxes::rule_inside;
 use crate::named::{Name, count_box, holder, is_named};

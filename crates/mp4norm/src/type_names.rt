@@ -2,7 +2,7 @@
 //! printable character.
 ghost use Rattle.std.specs.Prelude.{◌≡◌, ◌<◌, [], ◌∷◌, ◌++◌, nat_le, ◌&&◌, IfOk, OnOk, string_bytes};
 ghost use Rattle.std.specs.List.{list_all};
-ghost use Rattle.mp4norm.specs.Texts.{hex_digits, type_text};
+ghost use Rattle.mp4norm.specs.format.Texts.{hex_digits, type_text};
 
 use crate::digits::hex_digit;
 use std::alloc::{AllocError, Global};

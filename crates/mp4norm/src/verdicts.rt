@@ -1,7 +1,7 @@
 //! The verdict on a file: a line of its name and of what is said of it.
 ghost use Rattle.std.specs.Prelude.{◌≡◌, ◌<◌, length, IfErr, IfOk, OnOk};
 ghost use Rattle.std.specs.Io.KnownBytes.{Appends};
-ghost use Rattle.mp4norm.specs.Verdicts.{verdict_text, verdict_status, RefusesVerdict, IsNameLength, FirstName};
+ghost use Rattle.mp4norm.specs.format.Verdicts.{verdict_text, verdict_status, RefusesVerdict, IsNameLength, FirstName};
 
 use crate::fault_text::{fault_line, status};
 use mp4_boxes::Refusal;

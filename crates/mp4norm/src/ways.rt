@@ -1,9 +1,9 @@
 //! The way to a place of a file: the boxes in which it lies, from the file's own box on.
 ghost use Rattle.std.specs.Prelude.{◌≡◌, ℕ, ◌<◌, ◌≤◌, List, ◌++◌, OnOk, IfOk, IfSome, IsTrue};
-ghost use Rattle.mp4_boxes.specs.View.{box_seen};
-ghost use Rattle.mp4_present.specs.Reading.{IsTopHeader};
-ghost use Rattle.mp4norm.specs.BoxWalk.{IsWithin, top_seen};
-ghost use Rattle.mp4norm.specs.Ways.{HoldsPlace, IsChildAt, step_text, IsWay, IsWayIn};
+ghost use Rattle.mp4_boxes.specs.words.View.{box_seen};
+ghost use Rattle.mp4_present.specs.words.Reading.{IsTopHeader};
+ghost use Rattle.mp4norm.specs.format.BoxWalk.{IsWithin, top_seen};
+ghost use Rattle.mp4norm.specs.format.Ways.{HoldsPlace, IsChildAt, step_text, IsWay, IsWayIn};
 
 use crate::boxes::rule_inside;
 use crate::line::Line;

@@ -1,8 +1,8 @@
 use Rattle.std.proofs.Common.{rules, ◌≡◌, ◌+◌, true, false, ◌∙◌, sym, inl, inr}
 use Rattle.std.proofs.lemmas.Result.{err_from_is_err_and}
-use Rattle.mp4_boxes.specs.Box.{box_container}
-use Rattle.mp4_boxes.specs.Children.{allows}
-use Rattle.mp4_boxes.specs.View.{box_seen, header_seen}
+use Rattle.mp4_boxes.specs.format.Box.{box_container}
+use Rattle.mp4_boxes.specs.format.Children.{allows}
+use Rattle.mp4_boxes.specs.words.View.{box_seen, header_seen}
 use Rattle.mp4_boxes.proofs.Tiling.{tiles_one}
 use Rattle.mp4_boxes.proofs.Refusing.{child_fault_refuses}
 use Rattle.mp4_boxes.proofs.Walking.{passed_few, passed_has, read_behind, fault_behind}

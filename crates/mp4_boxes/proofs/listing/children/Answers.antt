@@ -1,8 +1,8 @@
 use Rattle.std.proofs.Common.{rules, ◌+◌}
 use Rattle.std.proofs.lemmas.List.{take_rest}
 use Rattle.std.proofs.lemmas.Result.{err_from_is_err_and}
-use Rattle.mp4_boxes.specs.Box.{bytes_container}
-use Rattle.mp4_boxes.specs.View.{header_seen}
+use Rattle.mp4_boxes.specs.format.Box.{bytes_container}
+use Rattle.mp4_boxes.specs.words.View.{header_seen}
 use Rattle.mp4_boxes.proofs.Tiling.{tiles_one, header_fault_refuses}
 use Rattle.mp4_boxes.proofs.Walking.{passed_more, passed_few, passed_has, passed_tiles, passed_fault, read_behind}
 use Rattle.mp4_boxes.proofs.listing.children.Goals as goal

@@ -1,8 +1,8 @@
 use Rattle.std.proofs.Common.{rules, ◌+◌, ◌<◌, length, drop, ap, ◌∙◌, arith}
 use Rattle.std.proofs.lemmas.Result.{err_from_is_err_and}
 use Rattle.std.proofs.lemmas.List.{length-drop}
-use Rattle.mp4_boxes.specs.Box.{counted_container}
-use Rattle.mp4_boxes.specs.View.{box_seen, header_seen}
+use Rattle.mp4_boxes.specs.format.Box.{counted_container}
+use Rattle.mp4_boxes.specs.words.View.{box_seen, header_seen}
 use Rattle.mp4_boxes.proofs.Tiling.{tiles_one, header_fault_refuses}
 use Rattle.mp4_boxes.proofs.Walking.{passed_none, passed_more, passed_has, passed_within, read_behind, fault_behind}
 use Rattle.mp4_boxes.proofs.Admitting.{counted_tiles, counted_fault}

@@ -1,9 +1,9 @@
 use Rattle.std.proofs.Common.{◌≡◌, drop}
 use Rattle.std.specs.Prelude.{◌&&◌, nat_lt}
 use Rattle.std.specs.List.{list_any}
-use Rattle.mp4_boxes.specs.Box.{first_boxes}
-use Rattle.mp4_boxes.specs.Children.{Line, repeats, is_single, is_among, count_among}
-use Rattle.mp4_boxes.specs.Lines.{lines_seen}
+use Rattle.mp4_boxes.specs.format.Box.{first_boxes}
+use Rattle.mp4_boxes.specs.format.Children.{Line, repeats, is_single, is_among, count_among}
+use Rattle.mp4_boxes.specs.words.Lines.{lines_seen}
 use Rattle.mp4_boxes.proofs.listing.repeats.Given as goal
 
 -- no line before forbids it

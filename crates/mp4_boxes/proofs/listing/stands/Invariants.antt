@@ -1,6 +1,6 @@
 use Rattle.std.proofs.Common.{◌≡◌}
-use Rattle.mp4_boxes.specs.Children.{count_among}
-use Rattle.mp4_boxes.specs.Lines.{kinds_seen}
+use Rattle.mp4_boxes.specs.format.Children.{count_among}
+use Rattle.mp4_boxes.specs.words.Lines.{kinds_seen}
 use Rattle.mp4_boxes.proofs.listing.stands.Given as goal
 
 -- none of those before is of these types

@@ -1,6 +1,6 @@
 use Rattle.std.proofs.Common.{◌≡◌, drop}
-use Rattle.mp4_boxes.specs.Children.{is_among}
-use Rattle.mp4_boxes.specs.Lines.{kinds_seen}
+use Rattle.mp4_boxes.specs.format.Children.{is_among}
+use Rattle.mp4_boxes.specs.words.Lines.{kinds_seen}
 use Rattle.mp4_boxes.proofs.rule.is_among.Given as goal
 
 -- none of those before is the type

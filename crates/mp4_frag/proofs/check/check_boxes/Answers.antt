@@ -1,10 +1,10 @@
 use Rattle.std.proofs.Common.{◌∙◌, List, subst}
 use Rattle.std.specs.Prelude.{codes}
-use Rattle.mp4_boxes.specs.Box.{Box, box_container}
-use Rattle.mp4_boxes.specs.Children.{Holds}
+use Rattle.mp4_boxes.specs.format.Box.{Box, box_container}
+use Rattle.mp4_boxes.specs.format.Children.{Holds}
 use Rattle.mp4_boxes.specs.declared.rule.Rule.TheVariants as rules
-use Rattle.mp4_boxes.specs.View.{box_seen}
-use Rattle.mp4_frag.specs.RunsJudged.{children_of}
+use Rattle.mp4_boxes.specs.words.View.{box_seen}
+use Rattle.mp4_frag.specs.words.RunsJudged.{children_of}
 use Rattle.mp4_frag.proofs.HeadsFound.{last_all, holds_children, one_head, one_time}
 use Rattle.mp4_frag.proofs.check.check_boxes.Goals as goal
 

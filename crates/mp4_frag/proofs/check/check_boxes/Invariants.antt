@@ -1,5 +1,5 @@
 use Rattle.std.specs.Prelude.{codes, option_map}
-use Rattle.mp4_boxes.specs.View.{box_seen}
+use Rattle.mp4_boxes.specs.words.View.{box_seen}
 use Rattle.mp4_frag.proofs.HeadsFound.{LastSeen}
 use Rattle.mp4_frag.proofs.check.check_boxes.Given as goal
 

@@ -1,7 +1,7 @@
 use Rattle.std.proofs.Common.{◌≤◌, length, take, ◌∙◌, sym, arith}
 use Rattle.std.proofs.lemmas.List.{length-map, length-take}
-use Rattle.mp4_boxes.specs.View.{box_seen}
-use Rattle.mp4_tables.specs.Keys.{key_seen, keys_seen}
+use Rattle.mp4_boxes.specs.words.View.{box_seen}
+use Rattle.mp4_tables.specs.words.Keys.{key_seen, keys_seen}
 use Rattle.mp4_frag.proofs.Costs.{groups_cost_none, groups_cost_more, groups_cost_said}
 use Rattle.mp4_frag.proofs.GroupsPassed.{groups_none, groups_more, groups_sound, groups_keys}
 use Rattle.mp4_frag.proofs.RunsPassed.{all_children}

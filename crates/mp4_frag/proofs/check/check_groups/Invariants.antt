@@ -1,4 +1,4 @@
-use Rattle.mp4_tables.specs.Keys.{keys_seen}
+use Rattle.mp4_tables.specs.words.Keys.{keys_seen}
 use Rattle.mp4_frag.proofs.Costs.{GroupsCost}
 use Rattle.mp4_frag.proofs.GroupsPassed.{GroupsSeen}
 use Rattle.mp4_frag.proofs.check.check_groups.Given as goal

@@ -1,7 +1,7 @@
 use Rattle.std.proofs.Common.{◌≤◌}
-use Rattle.mp4_boxes.specs.View.{box_seen}
-use Rattle.mp4_frag.specs.Finding.{IsKnown}
-use Rattle.mp4_frag.specs.States.{HaveRoom}
+use Rattle.mp4_boxes.specs.words.View.{box_seen}
+use Rattle.mp4_frag.specs.words.Finding.{IsKnown}
+use Rattle.mp4_frag.specs.words.States.{HaveRoom}
 use Rattle.mp4_frag.proofs.Costs.{MoofCost}
 use Rattle.mp4_frag.proofs.MoofPassed.{MoofSeen, MovesSeen}
 use Rattle.mp4_frag.proofs.check.check_moof.Given as goal

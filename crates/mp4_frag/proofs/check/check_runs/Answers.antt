@@ -1,5 +1,5 @@
 use Rattle.std.proofs.Common.{◌∙◌, sym, rules}
-use Rattle.mp4_boxes.specs.View.{box_seen}
+use Rattle.mp4_boxes.specs.words.View.{box_seen}
 use Rattle.mp4_frag.proofs.Costs.{runs_cost_run, runs_cost_said, runs_cost_ended, runs_work_ended, runs_cost_fault}
 use Rattle.mp4_frag.proofs.RunsPassed.{all_children, seen_run, runs_sound, runs_ended}
 use Rattle.mp4_frag.proofs.check.check_runs.Goals as goal

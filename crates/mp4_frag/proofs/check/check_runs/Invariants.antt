@@ -1,5 +1,5 @@
 use Rattle.std.proofs.Common.{◌≡◌, ℕ, ◌+◌, ◌*◌, ◌^◌, ◌≤◌}
-use Rattle.mp4_frag.specs.Passing.{IsNear, IsUpTo}
+use Rattle.mp4_frag.specs.words.Passing.{IsNear, IsUpTo}
 use Rattle.mp4_frag.proofs.Costs.{RunsCost}
 use Rattle.mp4_frag.proofs.RunsPassed.{RunsSeen}
 use Rattle.mp4_frag.proofs.check.check_runs.Given as goal

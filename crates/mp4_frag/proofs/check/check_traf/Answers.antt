@@ -3,21 +3,21 @@ use Rattle.std.specs.Prelude.{codes, option_map}
 use Rattle.std.proofs.lemmas.Result.{err_from_is_err_and}
 use Rattle.std.specs.Int.{w128}
 use Rattle.std.specs.List.{AllByRecursion}
-use Rattle.mp4_boxes.specs.Box.{Box}
-use Rattle.mp4_boxes.specs.Children.{of_kind}
-use Rattle.mp4_boxes.specs.Layout.{tfdt, IsSound}
-use Rattle.mp4_boxes.specs.View.{box_seen}
+use Rattle.mp4_boxes.specs.format.Box.{Box}
+use Rattle.mp4_boxes.specs.format.Children.{of_kind}
+use Rattle.mp4_boxes.specs.format.Layout.{tfdt, IsSound}
+use Rattle.mp4_boxes.specs.words.View.{box_seen}
 use Rattle.mp4_boxes.specs.declared.view.BoxView.{BoxView}
-use Rattle.mp4_tables.specs.Keys.{keys_seen}
-use Rattle.mp4_frag.specs.Passing.{IsUpTo}
-use Rattle.mp4_frag.specs.Fragments.{track_fragment_of}
-use Rattle.mp4_frag.specs.Passing.{is_late_at}
-use Rattle.mp4_frag.specs.TrafFaults.{head_fails, time_fails}
+use Rattle.mp4_tables.specs.words.Keys.{keys_seen}
+use Rattle.mp4_frag.specs.words.Passing.{IsUpTo}
+use Rattle.mp4_frag.specs.format.Fragments.{track_fragment_of}
+use Rattle.mp4_frag.specs.words.Passing.{is_late_at}
+use Rattle.mp4_frag.specs.words.TrafFaults.{head_fails, time_fails}
 use Rattle.mp4_frag.proofs.TrafRefused.{no_head, unknown_id, unknown_trex, opened, runs_refused, description_refused, groups_refused, time_refused}
 use Rattle.mp4_frag.proofs.TracksMoved.{traf_moved, its_time, no_time}
-use Rattle.mp4_frag.specs.RunsJudged.{children_of, only_list}
-use Rattle.mp4_frag.specs.States.{HasRoom}
-use Rattle.mp4_frag.specs.Walks.{trex_among}
+use Rattle.mp4_frag.specs.words.RunsJudged.{children_of, only_list}
+use Rattle.mp4_frag.specs.words.States.{HasRoom}
+use Rattle.mp4_frag.specs.words.Walks.{trex_among}
 use Rattle.mp4_frag.proofs.Bounds.{up_to_near}
 use Rattle.mp4_frag.proofs.StateLists.{has_room, less_room, room_with}
 use Rattle.mp4_frag.proofs.TracksFound.{known_set}

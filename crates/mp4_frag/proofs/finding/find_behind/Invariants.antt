@@ -1,6 +1,6 @@
 use Rattle.std.proofs.Common.{◌≡◌, ◌≤◌, take, None, ◌==◌}
 use Rattle.std.specs.Prelude.{find}
-use Rattle.mp4_frag.specs.Finding.{IsKnown}
+use Rattle.mp4_frag.specs.words.Finding.{IsKnown}
 use Rattle.mp4_frag.specs.declared.state.TrackState.{TrackState}
 use Rattle.mp4_frag.proofs.finding.find_behind.Given as goal
 

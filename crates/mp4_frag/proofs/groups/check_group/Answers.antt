@@ -1,6 +1,6 @@
 use Rattle.std.proofs.Common.{◌≡◌, true, false, nat_le, ap, ◌∙◌, rules}
 use Rattle.std.proofs.lemmas.Result.{err_from_is_err_and}
-use Rattle.mp4_tables.specs.Groups.{grouping_of}
+use Rattle.mp4_tables.specs.format.Groups.{grouping_of}
 use Rattle.mp4_frag.proofs.GroupsPassed.{key_is, name_fault, index_fault, count_fault, group_sound}
 use Rattle.mp4_frag.proofs.groups.check_group.Goals as goal
 

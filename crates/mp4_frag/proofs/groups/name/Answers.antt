@@ -1,6 +1,6 @@
 use Rattle.std.proofs.Common.{◌<◌, length, ◌∙◌, refl, sym, ap, inl, rules}
-use Rattle.mp4_tables.specs.Groups.{GroupKey as GroupKeyOf}
-use Rattle.mp4_tables.specs.Keys.{key_place, keys_seen}
+use Rattle.mp4_tables.specs.format.Groups.{GroupKey as GroupKeyOf}
+use Rattle.mp4_tables.specs.words.Keys.{key_place, keys_seen}
 use Rattle.mp4_frag.proofs.NamesKept.{name_again, name_found, name_new}
 use Rattle.mp4_frag.proofs.groups.name.Goals as goal
 use Rattle.mp4_frag.proofs.groups.name.Goals.{in-Some+else-has, in-None+else-count-ge4}

@@ -1,5 +1,5 @@
 use Rattle.std.proofs.Common.{rules, ◌≡◌, ◌<◌, ◌+◌, ◌-◌, ◌∙◌, sym}
-use Rattle.mp4_frag.specs.PlacesIn.{HasIndexRows}
+use Rattle.mp4_frag.specs.words.PlacesIn.{HasIndexRows}
 use Rattle.mp4_frag.proofs.IndexPlaces.{index_more}
 use Rattle.mp4_frag.proofs.indexes.settle.Goals as goal
 

@@ -1,6 +1,6 @@
 use Rattle.std.proofs.Common.{◌≡◌}
-use Rattle.mp4_frag.specs.PlacesIn.{HasIndexRows}
-use Rattle.mp4_frag.specs.Walks.{indexes_here}
+use Rattle.mp4_frag.specs.words.PlacesIn.{HasIndexRows}
+use Rattle.mp4_frag.specs.words.Walks.{indexes_here}
 use Rattle.mp4_frag.proofs.indexes.settle.Given as goal
 
 -- the same indexes are left

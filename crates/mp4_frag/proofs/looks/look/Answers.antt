@@ -1,5 +1,5 @@
 use Rattle.std.proofs.Common.{◌∙◌}
-use Rattle.mp4_frag.specs.Walks.{boxes_between}
+use Rattle.mp4_frag.specs.words.Walks.{boxes_between}
 use Rattle.mp4_frag.proofs.BoxPlaces.{box_end}
 use Rattle.mp4_frag.proofs.LooksRead.{named_done, based_done}
 use Rattle.mp4_frag.proofs.looks.look.Goals as goal

@@ -1,6 +1,6 @@
 use Rattle.std.proofs.Common.{◌≡◌, ◌-◌, ◌≤◌, ◌||◌}
-use Rattle.mp4_frag.specs.Looks.{is_named, is_based}
-use Rattle.mp4_frag.specs.Walks.{boxes_between}
+use Rattle.mp4_frag.specs.words.Looks.{is_named, is_based}
+use Rattle.mp4_frag.specs.words.Walks.{boxes_between}
 use Rattle.mp4_frag.proofs.looks.look.Given as goal
 
 -- what was found, or is found in the boxes left, is found in all

@@ -1,6 +1,6 @@
 use Rattle.std.proofs.Common.{◌≡◌, ◌==◌, Bool, true, false, not, refl, ◌∙◌, rules}
 use Rattle.std.proofs.lemmas.Bool.{eq-eqb}
-use Rattle.mp4_frag.specs.Walks.{part_of}
+use Rattle.mp4_frag.specs.words.Walks.{part_of}
 use Rattle.mp4_frag.proofs.LeavesRead.{head_is}
 use Rattle.mp4_frag.proofs.LooksRead.{other_kind, unread_head, read_names}
 use Rattle.mp4_frag.proofs.looks.naming_head.Goals as goal

@@ -1,5 +1,5 @@
 use Rattle.std.proofs.Common.{◌<◌, ◌^◌, ◌∙◌, sym, rules}
-use Rattle.mp4_boxes.specs.Bytes.{AreBytes}
+use Rattle.mp4_boxes.specs.format.Bytes.{AreBytes}
 use Rattle.mp4_frag.proofs.Bounds.{run_up_to}
 use Rattle.mp4_frag.proofs.RunRows.{near_again, nearer_again, added}
 use Rattle.mp4_frag.proofs.RunsRead.{run_outside, run_passes, large_is}

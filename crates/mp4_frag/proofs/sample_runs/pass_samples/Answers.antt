@@ -2,9 +2,9 @@ use Rattle.std.proofs.Common.{rules, ◌≡◌, ◌+◌, ◌||◌, true, [], ◌
 use Rattle.std.specs.Prelude.{pos, ◌+ℤ◌, unwrap_or}
 use Rattle.std.specs.Int.{w128}
 use Rattle.std.proofs.lemmas.Int.{to_z-of_z}
-use Rattle.mp4_boxes.specs.Layout.{too_large}
-use Rattle.mp4_tables.specs.TableRules.{lies_within}
-use Rattle.mp4_frag.specs.Passing.{IsNear, rows_left, offsets_left, row_seen}
+use Rattle.mp4_boxes.specs.format.Layout.{too_large}
+use Rattle.mp4_tables.specs.format.TableRules.{lies_within}
+use Rattle.mp4_frag.specs.words.Passing.{IsNear, rows_left, offsets_left, row_seen}
 use Rattle.mp4_frag.proofs.RunRows.{rows_none, offsets_none, within_step, end_step, lasting_step, filling_step, large_step, or_false, or_before, near_within, lasts_on, near_again}
 use Rattle.mp4_frag.proofs.sample_runs.pass_samples.Goals as goal
 

@@ -1,6 +1,6 @@
 use Rattle.std.proofs.Common.{◌≡◌, ◌+◌, ◌*◌, ◌^◌, ◌≤◌, ◌||◌, true}
-use Rattle.mp4_boxes.specs.Layout.{too_large}
-use Rattle.mp4_frag.specs.Passing.{IsNear, rows_left, offsets_left, within_from, end_from, lasting, filling}
+use Rattle.mp4_boxes.specs.format.Layout.{too_large}
+use Rattle.mp4_frag.specs.words.Passing.{IsNear, rows_left, offsets_left, within_from, end_from, lasting, filling}
 use Rattle.mp4_frag.proofs.sample_runs.pass_samples.Given as goal
 
 -- what was passed and what is left make the whole

@@ -1,8 +1,8 @@
 use Rattle.std.proofs.Common.{◌≡◌, ◌+◌, ◌≤◌, suc, length, refl, sym, ap, ◌∙◌, rules, arith, Bool, true, false, not}
-use Rattle.mp4_tables.specs.Keys.{keys_seen}
-use Rattle.mp4_frag.specs.Looks.{looks, over_work}
-use Rattle.mp4_frag.specs.Walks.{walk_of, reached, boxes_between, trafs_coming}
-use Rattle.mp4_frag.specs.PlacesIn.{groups_work}
+use Rattle.mp4_tables.specs.words.Keys.{keys_seen}
+use Rattle.mp4_frag.specs.words.Looks.{looks, over_work}
+use Rattle.mp4_frag.specs.words.Walks.{walk_of, reached, boxes_between, trafs_coming}
+use Rattle.mp4_frag.specs.words.PlacesIn.{groups_work}
 use Rattle.mp4_frag.specs.declared.places.FragPlace.{FragPlace}
 use Rattle.mp4_frag.specs.declared.places.RowPlace.{RowPlace}
 use Rattle.mp4_frag.proofs.LooksAhead.{work_none, work_found, next_none, next_found, based_found}

@@ -1,6 +1,6 @@
 use Rattle.std.proofs.Common.{◌∙◌}
-use Rattle.mp4_tables.specs.Keys.{keys_seen}
-use Rattle.mp4_frag.specs.Walks.{all_indexes, indexes_here}
+use Rattle.mp4_tables.specs.words.Keys.{keys_seen}
+use Rattle.mp4_frag.specs.words.Walks.{all_indexes, indexes_here}
 use Rattle.mp4_frag.proofs.LeavesRead.{group_taken}
 use Rattle.mp4_frag.proofs.walk.open_group.Goals as goal
 

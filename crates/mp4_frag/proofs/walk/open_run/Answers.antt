@@ -1,6 +1,6 @@
 use Rattle.std.proofs.Common.{◌≡◌, ◌+◌, ◌≤◌, to_z, of_z, sym, ap, ◌∙◌, rules}
 use Rattle.std.specs.Int.{w128}
-use Rattle.mp4_frag.specs.Walks.{reached, part_of}
+use Rattle.mp4_frag.specs.words.Walks.{reached, part_of}
 use Rattle.mp4_frag.proofs.LeavesRead.{run_skipped, run_room, rows_taken, run_own}
 use Rattle.mp4_frag.proofs.RowsLeft.{no_rows}
 use Rattle.mp4_frag.proofs.WalkWork.{run_cost, own_work}

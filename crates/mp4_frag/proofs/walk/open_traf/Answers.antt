@@ -1,4 +1,4 @@
-use Rattle.mp4_frag.specs.Walks.{walk_of, reached}
+use Rattle.mp4_frag.specs.words.Walks.{walk_of, reached}
 use Rattle.std.proofs.Common.{◌≡◌, ◌∙◌, sym, ap, rules, arith}
 use Rattle.mp4_frag.specs.declared.places.FragPlace.{FragPlace}
 use Rattle.mp4_frag.proofs.BoxPlaces.{box_end}

@@ -1,6 +1,6 @@
 use Rattle.std.proofs.Common.{◌≡◌, ◌+◌, ◌-◌, ◌≤◌}
-use Rattle.mp4_frag.specs.PlacesIn.{AreIndexPlaces, groups_work}
-use Rattle.mp4_frag.specs.Walks.{walk_of, reached, before_traf, with_leaves, boxes_between}
+use Rattle.mp4_frag.specs.words.PlacesIn.{AreIndexPlaces, groups_work}
+use Rattle.mp4_frag.specs.words.Walks.{walk_of, reached, before_traf, with_leaves, boxes_between}
 use Rattle.mp4_frag.proofs.walk.open_traf.Given as goal
 
 -- what the boxes passed say and those left make the whole

@@ -1,8 +1,8 @@
 use Rattle.std.proofs.Common.{◌≡◌, inr, sym, ap, ◌∙◌}
 use Rattle.std.proofs.Math.Nat.{le_trans}
-use Rattle.mp4_tables.specs.Keys.{keys_seen}
-use Rattle.mp4_frag.specs.Looks.{is_named}
-use Rattle.mp4_frag.specs.Walks.{walk_of, reached, boxes_between}
+use Rattle.mp4_tables.specs.words.Keys.{keys_seen}
+use Rattle.mp4_frag.specs.words.Looks.{is_named}
+use Rattle.mp4_frag.specs.words.Walks.{walk_of, reached, boxes_between}
 use Rattle.mp4_frag.proofs.BoxPlaces.{box_end}
 use Rattle.mp4_frag.proofs.LooksAhead.{others_box, others_traf, other_here, others_done}
 use Rattle.mp4_frag.proofs.walk.pass_others.Goals as goal

@@ -1,5 +1,5 @@
 use Rattle.std.proofs.Common.{◌≡◌, ◌≤◌}
-use Rattle.mp4_frag.specs.Walks.{walk_of, reached}
+use Rattle.mp4_frag.specs.words.Walks.{walk_of, reached}
 use Rattle.mp4_frag.proofs.LooksAhead.{OthersLeft}
 use Rattle.mp4_frag.proofs.walk.pass_others.Given as goal
 

@@ -1,8 +1,8 @@
 use Rattle.std.proofs.Common.{◌≡◌, ◌+◌, ◌-◌, ◌∙◌, ap, sym, refl, ◌∷◌, None, to_z, of_z, rules}
 use Rattle.std.specs.Prelude.{pos, ◌+ℤ◌}
 use Rattle.std.specs.Int.{w128}
-use Rattle.mp4_frag.specs.ColumnsRead.{row_room}
-use Rattle.mp4_frag.specs.Walks.{row_signed, rows_here, held, capped, coming, reached, sample_of}
+use Rattle.mp4_frag.specs.words.ColumnsRead.{row_room}
+use Rattle.mp4_frag.specs.words.Walks.{row_signed, rows_here, held, capped, coming, reached, sample_of}
 use Rattle.mp4_frag.specs.declared.places.RowPlace.{RowPlace}
 use Rattle.mp4_frag.proofs.Comings.{sample_first, sample_passed}
 use Rattle.mp4_frag.proofs.TimesKept.{time_kept}

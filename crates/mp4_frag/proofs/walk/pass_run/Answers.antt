@@ -1,6 +1,6 @@
 use Rattle.std.proofs.Common.{◌≡◌, to_z, of_z, rules}
 use Rattle.std.specs.Int.{w128}
-use Rattle.mp4_frag.specs.Walks.{reached, part_of}
+use Rattle.mp4_frag.specs.words.Walks.{reached, part_of}
 use Rattle.mp4_frag.proofs.LeavesRead.{rows_taken, over_unread, over_read}
 use Rattle.mp4_frag.proofs.walk.pass_run.Goals as goal
 

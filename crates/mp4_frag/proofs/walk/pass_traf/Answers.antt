@@ -1,5 +1,5 @@
 use Rattle.std.proofs.Common.{refl, sym, ap, ◌∙◌, arith}
-use Rattle.mp4_frag.specs.Walks.{walk_of, reached, boxes_between}
+use Rattle.mp4_frag.specs.words.Walks.{walk_of, reached, boxes_between}
 use Rattle.mp4_frag.proofs.BoxPlaces.{box_end}
 use Rattle.mp4_frag.proofs.TrafsSkipped.{over_other, over_done, traf_passed}
 use Rattle.mp4_frag.proofs.WalkWork.{runs_fall}

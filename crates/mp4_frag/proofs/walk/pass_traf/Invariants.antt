@@ -1,7 +1,7 @@
 use Rattle.std.proofs.Common.{◌≡◌, ◌+◌, ◌-◌, ◌≤◌}
-use Rattle.mp4_frag.specs.Looks.{over_runs}
-use Rattle.mp4_frag.specs.PlacesIn.{runs_work, groups_work}
-use Rattle.mp4_frag.specs.Walks.{walk_of, reached, before_traf, with_leaves, boxes_between}
+use Rattle.mp4_frag.specs.words.Looks.{over_runs}
+use Rattle.mp4_frag.specs.words.PlacesIn.{runs_work, groups_work}
+use Rattle.mp4_frag.specs.words.Walks.{walk_of, reached, before_traf, with_leaves, boxes_between}
 use Rattle.mp4_frag.proofs.walk.pass_traf.Given as goal
 
 -- behind the runs passed and those left it stands behind all

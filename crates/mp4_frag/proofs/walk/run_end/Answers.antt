@@ -1,5 +1,5 @@
 use Rattle.std.proofs.Common.{◌≡◌, ◌∙◌, sym, arith}
-use Rattle.mp4_frag.specs.Walks.{rows_here}
+use Rattle.mp4_frag.specs.words.Walks.{rows_here}
 use Rattle.mp4_frag.proofs.RowsLeft.{end_none, no_rows}
 use Rattle.mp4_frag.proofs.walk.run_end.Goals as goal
 

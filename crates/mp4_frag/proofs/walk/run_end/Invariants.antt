@@ -1,6 +1,6 @@
 use Rattle.std.proofs.Common.{◌≡◌}
-use Rattle.mp4_frag.specs.PlacesIn.{IsRowPlace}
-use Rattle.mp4_frag.specs.Walks.{rows_here, end_held}
+use Rattle.mp4_frag.specs.words.PlacesIn.{IsRowPlace}
+use Rattle.mp4_frag.specs.words.Walks.{rows_here, end_held}
 use Rattle.mp4_frag.proofs.walk.run_end.Given as goal
 
 -- the end is where the rows left end

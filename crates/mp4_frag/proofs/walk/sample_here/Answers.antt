@@ -1,7 +1,7 @@
 use Rattle.std.proofs.Common.{◌≡◌, ◌∙◌, ap, to_z, of_z, rules}
 use Rattle.std.specs.Prelude.{ℤ, pos, unwrap_or, Option}
 use Rattle.std.specs.Int.{w32, w128}
-use Rattle.mp4_frag.specs.Walks.{row_signed, first_byte}
+use Rattle.mp4_frag.specs.words.Walks.{row_signed, first_byte}
 use Rattle.mp4_frag.proofs.Comings.{sample_first}
 use Rattle.mp4_frag.proofs.walk.sample_here.Goals as goal
 

@@ -1,6 +1,6 @@
 use Rattle.std.proofs.Common.{◌≡◌, ◌-◌, ◌≤◌, length}
-use Rattle.mp4_frag.specs.PlacesIn.{LiesIn}
-use Rattle.mp4_frag.specs.Walks.{walk_of, coming}
+use Rattle.mp4_frag.specs.words.PlacesIn.{LiesIn}
+use Rattle.mp4_frag.specs.words.Walks.{walk_of, coming}
 use Rattle.mp4_frag.proofs.walk.settle.Given as goal
 
 -- the same samples are to come

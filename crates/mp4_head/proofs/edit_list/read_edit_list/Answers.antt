@@ -1,6 +1,6 @@
 use Rattle.std.proofs.Common.{◌≡◌, ◌+◌, ◌*◌, ◌-◌, length, drop, arith, ap, ◌∙◌}
 use Rattle.std.proofs.lemmas.List.{length-drop}
-use Rattle.mp4_boxes.specs.Layout.{version}
+use Rattle.mp4_boxes.specs.format.Layout.{version}
 use Rattle.mp4_head.proofs.EditRows.{rows_none, row_room, rows_more, rows_all}
 use Rattle.mp4_head.proofs.edit_list.read_edit_list.Goals as goal
 

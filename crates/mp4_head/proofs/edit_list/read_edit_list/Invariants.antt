@@ -1,6 +1,6 @@
 use Rattle.std.proofs.Common.{◌-◌}
-use Rattle.mp4_boxes.specs.Layout.{version}
-use Rattle.mp4_head.specs.Tree.{edits_of}
+use Rattle.mp4_boxes.specs.format.Layout.{version}
+use Rattle.mp4_head.specs.format.Tree.{edits_of}
 use Rattle.std.specs.Prelude.{Some}
 use Rattle.mp4_head.proofs.EditRows.{RowsRead}
 use Rattle.mp4_head.proofs.edit_list.read_edit_list.Given as goal

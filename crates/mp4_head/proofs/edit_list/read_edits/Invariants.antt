@@ -1,5 +1,5 @@
 use Rattle.std.proofs.Common.{map}
-use Rattle.mp4_head.specs.Seen.{edit_seen}
+use Rattle.mp4_head.specs.words.Seen.{edit_seen}
 use Rattle.mp4_head.proofs.EditBoxes.{EditsPassed}
 use Rattle.mp4_head.proofs.edit_list.read_edits.Given as goal
 

@@ -1,8 +1,8 @@
 use Rattle.std.proofs.Common.{◌≡◌, ap, sym, ◌∙◌}
 use Rattle.std.proofs.lemmas.Result.{err_from_is_err_and}
-use Rattle.mp4_boxes.specs.Bytes.{field}
-use Rattle.mp4_boxes.specs.Box.{Tiles, counted_container}
-use Rattle.mp4_boxes.specs.View.{box_seen}
+use Rattle.mp4_boxes.specs.format.Bytes.{field}
+use Rattle.mp4_boxes.specs.format.Box.{Tiles, counted_container}
+use Rattle.mp4_boxes.specs.words.View.{box_seen}
 use Rattle.mp4_head.proofs.Entries.{references_none, references_more, references_all, references_header, references_fail}
 use Rattle.mp4_head.proofs.information.check_references.Goals as goal
 

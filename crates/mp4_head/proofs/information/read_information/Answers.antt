@@ -1,9 +1,9 @@
 use Rattle.std.proofs.Common.{◌≡◌, true, false, sym, ◌∙◌, refl, rules}
 use Rattle.std.specs.Prelude.{codes, bytes_eq}
 use Rattle.std.proofs.lemmas.Result.{err_from_is_err_and}
-use Rattle.mp4_boxes.specs.Box.{box_container}
-use Rattle.mp4_boxes.specs.Children.{Holds, is_among, media_headers}
-use Rattle.mp4_boxes.specs.View.{box_seen}
+use Rattle.mp4_boxes.specs.format.Box.{box_container}
+use Rattle.mp4_boxes.specs.format.Children.{Holds, is_among, media_headers}
+use Rattle.mp4_boxes.specs.words.View.{box_seen}
 use Rattle.mp4_boxes.specs.declared.rule.Rule.TheVariants as kinds
 use Rattle.mp4_boxes.specs.declared.refusal.Refusal.TheVariants as refusals
 use Rattle.mp4_head.proofs.Above.{child_here}

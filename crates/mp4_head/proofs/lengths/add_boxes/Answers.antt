@@ -1,6 +1,6 @@
 use Rattle.std.proofs.Common.{rules, ◌∙◌, ◌+◌, ℕ, length, ap}
-use Rattle.mp4_boxes.specs.Written.{box_bytes}
-use Rattle.mp4_head.specs.Parts.{capped}
+use Rattle.mp4_boxes.specs.format.Written.{box_bytes}
+use Rattle.mp4_head.specs.words.Parts.{capped}
 use Rattle.mp4_head.proofs.HeadLengths.{counted_none, counted_more, counted_all, length_each}
 use Rattle.mp4_head.proofs.lengths.add_boxes.Goals as goal
 

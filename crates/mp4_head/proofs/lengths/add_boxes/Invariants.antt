@@ -1,5 +1,5 @@
 use Rattle.std.proofs.Common.{length}
-use Rattle.mp4_boxes.specs.Written.{box_bytes}
+use Rattle.mp4_boxes.specs.format.Written.{box_bytes}
 use Rattle.mp4_head.proofs.HeadLengths.{Counted}
 use Rattle.mp4_head.proofs.lengths.add_boxes.Given as goal
 

@@ -1,6 +1,6 @@
 use Rattle.std.proofs.Common.{rules, map}
 use Rattle.std.proofs.lemmas.List.{length-map}
-use Rattle.mp4_head.specs.Seen.{edit_seen}
+use Rattle.mp4_head.specs.words.Seen.{edit_seen}
 use Rattle.mp4_head.proofs.HeadLengths.{length_edits, length_no_edits}
 use Rattle.mp4_head.proofs.lengths.add_edits.Goals as goal
 

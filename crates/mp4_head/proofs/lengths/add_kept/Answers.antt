@@ -1,7 +1,7 @@
 use Rattle.std.proofs.Common.{rules, ◌∙◌, ◌+◌, ℕ, length, ap}
-use Rattle.mp4_head.specs.Seen.{kept_seen}
-use Rattle.mp4_head.specs.Writing.{kept_bytes}
-use Rattle.mp4_head.specs.Parts.{capped}
+use Rattle.mp4_head.specs.words.Seen.{kept_seen}
+use Rattle.mp4_head.specs.format.Writing.{kept_bytes}
+use Rattle.mp4_head.specs.words.Parts.{capped}
 use Rattle.mp4_head.proofs.HeadLengths.{counted_none, counted_more, counted_all, length_each}
 use Rattle.mp4_head.proofs.lengths.add_kept.Goals as goal
 

@@ -1,6 +1,6 @@
 use Rattle.std.proofs.Common.{length}
-use Rattle.mp4_head.specs.Seen.{kept_seen}
-use Rattle.mp4_head.specs.Writing.{kept_bytes}
+use Rattle.mp4_head.specs.words.Seen.{kept_seen}
+use Rattle.mp4_head.specs.format.Writing.{kept_bytes}
 use Rattle.mp4_head.proofs.HeadLengths.{Counted}
 use Rattle.mp4_head.proofs.lengths.add_kept.Given as goal
 

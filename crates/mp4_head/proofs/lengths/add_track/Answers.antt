@@ -1,5 +1,5 @@
 use Rattle.std.proofs.Common.{rules, arith}
-use Rattle.mp4_head.specs.Seen.{track_seen}
+use Rattle.mp4_head.specs.words.Seen.{track_seen}
 use Rattle.mp4_head.proofs.HeadLengths.{length_track}
 use Rattle.mp4_head.proofs.lengths.add_track.Goals as goal
 

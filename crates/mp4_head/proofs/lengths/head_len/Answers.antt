@@ -1,9 +1,9 @@
 use Rattle.std.proofs.Common.{rules, ◌∙◌, ◌+◌, ℕ, length, ap, arith}
-use Rattle.mp4_head.specs.Head as heads
-use Rattle.mp4_head.specs.Seen.{track_seen, movie_seen, tracks_seen}
+use Rattle.mp4_head.specs.format.Head as heads
+use Rattle.mp4_head.specs.words.Seen.{track_seen, movie_seen, tracks_seen}
 use Rattle.mp4_head.specs.declared.heads.TrackHead.{TrackHead}
-use Rattle.mp4_head.specs.Writing.{trak_bytes, trex_bytes}
-use Rattle.mp4_head.specs.Parts.{capped}
+use Rattle.mp4_head.specs.format.Writing.{trak_bytes, trex_bytes}
+use Rattle.mp4_head.specs.words.Parts.{capped}
 use Rattle.mp4_head.proofs.HeadLengths.{counted_none, counted_more, counted_all, sum_seen, length_head}
 use Rattle.mp4_head.proofs.lengths.head_len.Goals as goal
 

@@ -1,6 +1,6 @@
 use Rattle.std.proofs.Common.{◌+◌, length}
-use Rattle.mp4_head.specs.Seen.{track_seen}
-use Rattle.mp4_head.specs.Writing.{trak_bytes, trex_bytes}
+use Rattle.mp4_head.specs.words.Seen.{track_seen}
+use Rattle.mp4_head.specs.format.Writing.{trak_bytes, trex_bytes}
 use Rattle.mp4_head.proofs.HeadLengths.{Counted}
 use Rattle.mp4_head.proofs.lengths.head_len.Given as goal
 

@@ -1,4 +1,4 @@
-use Rattle.mp4_boxes.specs.View.{box_seen}
+use Rattle.mp4_boxes.specs.words.View.{box_seen}
 use Rattle.mp4_head.proofs.Headers.{movie_sound, movie_fault}
 use Rattle.mp4_head.proofs.movie_header.read_movie_header.Goals as goal
 

@@ -2,12 +2,12 @@ use Rattle.std.proofs.Common.{◌≡◌, [], ◌∷◌, ◌++◌, true, false, m
 use Rattle.std.specs.Prelude.{codes, bytes_eq}
 use Rattle.std.proofs.lemmas.List.{map-append}
 use Rattle.std.proofs.lemmas.Result.{err_from_is_err_and}
-use Rattle.mp4_boxes.specs.Box.{box_container}
-use Rattle.mp4_boxes.specs.Children.{Holds, is_among, kept_kinds}
-use Rattle.mp4_boxes.specs.View.{box_seen}
+use Rattle.mp4_boxes.specs.format.Box.{box_container}
+use Rattle.mp4_boxes.specs.format.Children.{Holds, is_among, kept_kinds}
+use Rattle.mp4_boxes.specs.words.View.{box_seen}
 use Rattle.mp4_boxes.specs.declared.rule.Rule.TheVariants as kinds
-use Rattle.mp4_head.specs.Head as heads
-use Rattle.mp4_head.specs.Seen.{kept_seen}
+use Rattle.mp4_head.specs.format.Head as heads
+use Rattle.mp4_head.specs.words.Seen.{kept_seen}
 use Rattle.mp4_head.proofs.Above.{child_here}
 use Rattle.mp4_head.proofs.HeadExcludes.{refused_rightly}
 use Rattle.mp4_head.proofs.ReadAgain.{again_ok, again_refused, again_memory}

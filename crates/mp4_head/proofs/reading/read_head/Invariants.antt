@@ -1,5 +1,5 @@
 use Rattle.std.proofs.Common.{map}
-use Rattle.mp4_head.specs.Seen.{kept_seen}
+use Rattle.mp4_head.specs.words.Seen.{kept_seen}
 use Rattle.mp4_head.proofs.MovieBoxes.{MoviePassed}
 use Rattle.mp4_head.proofs.reading.read_head.Given as goal
 

@@ -1,9 +1,9 @@
 use Rattle.std.proofs.Common.{◌∷◌, [], map, ap, ◌∙◌}
 use Rattle.std.proofs.lemmas.Result.{err_from_is_err_and}
 use Rattle.std.proofs.lemmas.List.{map-append}
-use Rattle.mp4_boxes.specs.Box.{Tiles, counted_container}
-use Rattle.mp4_boxes.specs.View.{box_seen}
-use Rattle.mp4_head.specs.Seen.{description_seen}
+use Rattle.mp4_boxes.specs.format.Box.{Tiles, counted_container}
+use Rattle.mp4_boxes.specs.words.View.{box_seen}
+use Rattle.mp4_head.specs.words.Seen.{description_seen}
 use Rattle.mp4_head.proofs.Entries.{descriptions_none, descriptions_more, descriptions_all, descriptions_header, descriptions_fail}
 use Rattle.mp4_head.proofs.sample_table.read_descriptions.Goals as goal
 

@@ -1,5 +1,5 @@
 use Rattle.std.proofs.Common.{map}
-use Rattle.mp4_head.specs.Seen.{description_seen}
+use Rattle.mp4_head.specs.words.Seen.{description_seen}
 use Rattle.mp4_head.proofs.Entries.{DescriptionsPassed}
 use Rattle.mp4_head.proofs.sample_table.read_descriptions.Given as goal
 

@@ -2,7 +2,7 @@ use Rattle.std.proofs.Common.{rules, ◌∙◌, ◌++◌, ℤ, pos, get_or, ap}
 use Rattle.std.specs.Int.{w32}
 use Rattle.std.proofs.lemmas.Int.{to_z-of_z}
 use Rattle.byteorder.specs.Endian.{big_bytes}
-use Rattle.mp4_boxes.specs.Bytes.{unsigned}
+use Rattle.mp4_boxes.specs.format.Bytes.{unsigned}
 use Rattle.mp4_head.proofs.Pieces.{put_none, put_more, put_all}
 use Rattle.mp4_head.proofs.spelling.put_matrix.Goals as goal
 

@@ -1,5 +1,5 @@
 use Rattle.byteorder.specs.Endian.{big_bytes}
-use Rattle.mp4_boxes.specs.Bytes.{unsigned}
+use Rattle.mp4_boxes.specs.format.Bytes.{unsigned}
 use Rattle.mp4_head.proofs.Pieces.{Put}
 use Rattle.mp4_head.proofs.spelling.put_matrix.Given as goal
 

@@ -2,13 +2,13 @@ use Rattle.std.proofs.Common.{◌≡◌, [], ◌∷◌, ◌++◌, true, false, m
 use Rattle.std.specs.Prelude.{codes, bytes_eq}
 use Rattle.std.proofs.lemmas.List.{map-append}
 use Rattle.std.proofs.lemmas.Result.{err_from_is_err_and}
-use Rattle.mp4_boxes.specs.Box.{box_container}
-use Rattle.mp4_boxes.specs.Children.{Holds, is_among, kept_kinds}
-use Rattle.mp4_boxes.specs.View.{box_seen}
+use Rattle.mp4_boxes.specs.format.Box.{box_container}
+use Rattle.mp4_boxes.specs.format.Children.{Holds, is_among, kept_kinds}
+use Rattle.mp4_boxes.specs.words.View.{box_seen}
 use Rattle.mp4_boxes.specs.declared.rule.Rule.TheVariants as kinds
 use Rattle.mp4_boxes.specs.declared.refusal.Refusal.TheVariants as refusals
-use Rattle.mp4_head.specs.Head as heads
-use Rattle.mp4_head.specs.Seen.{kept_seen}
+use Rattle.mp4_head.specs.format.Head as heads
+use Rattle.mp4_head.specs.words.Seen.{kept_seen}
 use Rattle.mp4_head.proofs.Above.{child_here}
 use Rattle.mp4_head.proofs.TrackBoxes.{track_none, track_header, track_edits, track_kept, track_media, track_other, header_refuse, kept_refuse, edits_refuse, media_refuse, track_stands, track_said, track_added, track_no_header, track_no_media}
 use Rattle.mp4_head.proofs.track_boxes.read_track.Goals.{in_default-via-in-Some+in_default, in_default-via-in_default}

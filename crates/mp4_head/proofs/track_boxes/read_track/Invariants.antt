@@ -1,5 +1,5 @@
 use Rattle.std.proofs.Common.{map}
-use Rattle.mp4_head.specs.Seen.{edit_seen, kept_seen}
+use Rattle.mp4_head.specs.words.Seen.{edit_seen, kept_seen}
 use Rattle.mp4_head.proofs.TrackBoxes.{TrackPassed}
 use Rattle.mp4_head.proofs.track_boxes.read_track.Given as goal
 

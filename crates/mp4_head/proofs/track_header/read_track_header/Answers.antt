@@ -1,4 +1,4 @@
-use Rattle.mp4_boxes.specs.View.{box_seen}
+use Rattle.mp4_boxes.specs.words.View.{box_seen}
 use Rattle.mp4_head.proofs.Headers.{track_sound, track_fault}
 use Rattle.mp4_head.proofs.track_header.read_track_header.Goals as goal
 

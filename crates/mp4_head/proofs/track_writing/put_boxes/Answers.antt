@@ -1,5 +1,5 @@
 use Rattle.std.proofs.Common.{rules, ◌∙◌, ◌++◌, ap}
-use Rattle.mp4_boxes.specs.Written.{box_bytes}
+use Rattle.mp4_boxes.specs.format.Written.{box_bytes}
 use Rattle.mp4_head.proofs.Pieces.{put_none, put_more, put_all, seen_each}
 use Rattle.mp4_head.proofs.track_writing.put_boxes.Goals as goal
 

@@ -1,4 +1,4 @@
-use Rattle.mp4_boxes.specs.Written.{box_bytes}
+use Rattle.mp4_boxes.specs.format.Written.{box_bytes}
 use Rattle.mp4_head.proofs.Pieces.{Put}
 use Rattle.mp4_head.proofs.track_writing.put_boxes.Given as goal
 

@@ -2,7 +2,7 @@ use Rattle.std.proofs.Common.{rules, [], ◌∷◌}
 use Rattle.byteorder.specs.Endian.{big_bytes}
 use Rattle.std.specs.Int.{w16, w64}
 use Rattle.std.proofs.lemmas.Int.{to_z-of_z}
-use Rattle.mp4_boxes.specs.Bytes.{unsigned}
+use Rattle.mp4_boxes.specs.format.Bytes.{unsigned}
 use Rattle.mp4_head.proofs.Pieces.{appended_is}
 use Rattle.mp4_head.proofs.track_writing.put_edit.Goals as goal
 

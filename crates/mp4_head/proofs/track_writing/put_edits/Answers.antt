@@ -1,7 +1,7 @@
 use Rattle.std.proofs.Common.{rules, ℕ, ◌∙◌, ◌++◌, List, [], map, ap, refl}
 use Rattle.std.specs.Prelude.{codes}
-use Rattle.mp4_head.specs.Seen.{edit_seen}
-use Rattle.mp4_head.specs.Parts.{edit_list_bytes}
+use Rattle.mp4_head.specs.words.Seen.{edit_seen}
+use Rattle.mp4_head.specs.words.Parts.{edit_list_bytes}
 use Rattle.mp4_head.proofs.Pieces.{appended, boxed, boxed_room}
 use Rattle.mp4_head.proofs.HeadPieces.{edits_spelled}
 use Rattle.mp4_head.proofs.track_writing.put_edits.Goals as goal

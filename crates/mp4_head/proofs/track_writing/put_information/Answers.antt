@@ -1,7 +1,7 @@
 use Rattle.std.proofs.Common.{rules, [], ◌∷◌, refl}
 use Rattle.std.specs.Prelude.{codes}
-use Rattle.mp4_head.specs.Seen.{track_seen}
-use Rattle.mp4_head.specs.Writing as written
+use Rattle.mp4_head.specs.words.Seen.{track_seen}
+use Rattle.mp4_head.specs.format.Writing as written
 use Rattle.mp4_head.proofs.Pieces.{appended, boxed, boxed_room}
 use Rattle.mp4_head.proofs.track_writing.put_information.Goals as goal
 

@@ -1,10 +1,10 @@
 use Rattle.std.proofs.Common.{rules, [], ◌∷◌, map, refl}
 use Rattle.std.specs.Prelude.{codes}
 use Rattle.std.specs.List.{flat_map}
-use Rattle.mp4_boxes.specs.Written.{box_bytes}
-use Rattle.mp4_head.specs.Seen.{media_seen, track_seen}
-use Rattle.mp4_head.specs.Parts.{information_bytes}
-use Rattle.mp4_head.specs.Writing as written
+use Rattle.mp4_boxes.specs.format.Written.{box_bytes}
+use Rattle.mp4_head.specs.words.Seen.{media_seen, track_seen}
+use Rattle.mp4_head.specs.words.Parts.{information_bytes}
+use Rattle.mp4_head.specs.format.Writing as written
 use Rattle.mp4_head.proofs.Pieces.{appended, boxed, boxed_room}
 use Rattle.mp4_head.proofs.track_writing.put_media.Goals as goal
 

@@ -1,6 +1,6 @@
 use Rattle.std.proofs.Common.{rules, ◌∙◌, ◌++◌, ap}
-use Rattle.mp4_head.specs.Seen.{edit_seen}
-use Rattle.mp4_head.specs.Writing as written
+use Rattle.mp4_head.specs.words.Seen.{edit_seen}
+use Rattle.mp4_head.specs.format.Writing as written
 use Rattle.mp4_head.proofs.Pieces.{put_none, put_more, put_all, seen_each}
 use Rattle.mp4_head.proofs.track_writing.put_rows.Goals as goal
 

@@ -1,5 +1,5 @@
-use Rattle.mp4_head.specs.Seen.{edit_seen}
-use Rattle.mp4_head.specs.Writing as written
+use Rattle.mp4_head.specs.words.Seen.{edit_seen}
+use Rattle.mp4_head.specs.format.Writing as written
 use Rattle.mp4_head.proofs.Pieces.{Put}
 use Rattle.mp4_head.proofs.track_writing.put_rows.Given as goal
 

@@ -1,9 +1,9 @@
 use Rattle.std.proofs.Common.{rules, ℕ, ◌∙◌, ◌++◌, List, [], ◌∷◌, map, ap, sym, refl}
 use Rattle.std.specs.Prelude.{codes, replicate}
 use Rattle.std.specs.List.{flat_map}
-use Rattle.mp4_boxes.specs.Written.{box_bytes}
-use Rattle.mp4_head.specs.Seen.{description_seen}
-use Rattle.mp4_head.specs.Parts.{descriptions_bytes}
+use Rattle.mp4_boxes.specs.format.Written.{box_bytes}
+use Rattle.mp4_head.specs.words.Seen.{description_seen}
+use Rattle.mp4_head.specs.words.Parts.{descriptions_bytes}
 use Rattle.mp4_head.proofs.Pieces.{appended, appended_is, joined, boxed, boxed_room}
 use Rattle.mp4_head.proofs.track_writing.put_sample_table.Goals as goal
 

@@ -1,8 +1,8 @@
 use Rattle.std.proofs.Common.{rules, [], ◌∷◌, map, refl}
 use Rattle.std.specs.Prelude.{codes}
 use Rattle.std.specs.List.{flat_map}
-use Rattle.mp4_head.specs.Seen.{kept_seen, edit_seen, track_seen}
-use Rattle.mp4_head.specs.Writing as written
+use Rattle.mp4_head.specs.words.Seen.{kept_seen, edit_seen, track_seen}
+use Rattle.mp4_head.specs.format.Writing as written
 use Rattle.mp4_head.proofs.Pieces.{appended, boxed, boxed_room}
 use Rattle.mp4_head.proofs.track_writing.put_track.Goals as goal
 

@@ -3,9 +3,9 @@ use Rattle.std.specs.Prelude.{codes, replicate}
 use Rattle.byteorder.specs.Endian.{big_bytes}
 use Rattle.std.specs.Int.{w16}
 use Rattle.std.proofs.lemmas.Int.{to_z-of_z}
-use Rattle.mp4_boxes.specs.Bytes.{unsigned}
-use Rattle.mp4_head.specs.Seen.{track_seen}
-use Rattle.mp4_head.specs.Parts.{matrix_bytes}
+use Rattle.mp4_boxes.specs.format.Bytes.{unsigned}
+use Rattle.mp4_head.specs.words.Seen.{track_seen}
+use Rattle.mp4_head.specs.words.Parts.{matrix_bytes}
 use Rattle.mp4_head.proofs.Pieces.{appended_is}
 use Rattle.mp4_head.proofs.HeadPieces.{track_spelled}
 use Rattle.mp4_head.proofs.track_writing.put_track_header.Goals as goal

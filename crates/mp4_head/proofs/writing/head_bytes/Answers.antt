@@ -1,6 +1,6 @@
 use Rattle.std.proofs.Common.{◌≡◌, length, refl, arith, length-append}
-use Rattle.mp4_head.specs.Seen.{movie_seen, tracks_seen}
-use Rattle.mp4_head.specs.Writing.{ftyp_bytes, moov_bytes}
+use Rattle.mp4_head.specs.words.Seen.{movie_seen, tracks_seen}
+use Rattle.mp4_head.specs.format.Writing.{ftyp_bytes, moov_bytes}
 use Rattle.mp4_head.proofs.writing.head_bytes.Goals as goal
 
 pub overflow_cast-head_len : goal.overflow_cast-head_len

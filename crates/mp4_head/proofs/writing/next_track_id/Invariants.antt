@@ -1,5 +1,5 @@
 use Rattle.std.specs.Prelude.{max}
-use Rattle.mp4_head.specs.Seen.{track_seen}
+use Rattle.mp4_head.specs.words.Seen.{track_seen}
 use Rattle.mp4_head.proofs.Pieces.{Folded}
 use Rattle.mp4_head.proofs.writing.next_track_id.Given as goal
 

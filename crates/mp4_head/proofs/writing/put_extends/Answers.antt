@@ -2,8 +2,8 @@ use Rattle.std.proofs.Common.{rules, ◌++◌, [], ◌∷◌, map, refl}
 use Rattle.std.specs.Prelude.{codes}
 use Rattle.std.specs.List.{flat_map}
 use Rattle.byteorder.specs.Endian.{big_bytes}
-use Rattle.mp4_head.specs.Seen.{track_seen}
-use Rattle.mp4_head.specs.Writing as written
+use Rattle.mp4_head.specs.words.Seen.{track_seen}
+use Rattle.mp4_head.specs.format.Writing as written
 use Rattle.mp4_head.proofs.Pieces.{appended, boxed, boxed_room}
 use Rattle.mp4_head.proofs.writing.put_extends.Goals as goal
 

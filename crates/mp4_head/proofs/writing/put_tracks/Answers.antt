@@ -1,7 +1,7 @@
 use Rattle.std.proofs.Common.{rules, ◌∙◌, ◌++◌, ap}
-use Rattle.mp4_head.specs.Seen.{track_seen}
+use Rattle.mp4_head.specs.words.Seen.{track_seen}
 use Rattle.mp4_head.specs.declared.heads.TrackHead.{TrackHead}
-use Rattle.mp4_head.specs.Writing as written
+use Rattle.mp4_head.specs.format.Writing as written
 use Rattle.mp4_head.proofs.Pieces.{put_none, put_more, put_all, seen_each}
 use Rattle.mp4_head.proofs.writing.put_tracks.Goals as goal
 

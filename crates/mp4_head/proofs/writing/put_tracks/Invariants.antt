@@ -1,5 +1,5 @@
-use Rattle.mp4_head.specs.Seen.{track_seen}
-use Rattle.mp4_head.specs.Writing as written
+use Rattle.mp4_head.specs.words.Seen.{track_seen}
+use Rattle.mp4_head.specs.format.Writing as written
 use Rattle.mp4_head.proofs.Pieces.{Put}
 use Rattle.mp4_head.proofs.writing.put_tracks.Given as goal
 

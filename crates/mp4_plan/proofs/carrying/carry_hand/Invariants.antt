@@ -1,8 +1,8 @@
 use Rattle.std.specs.Prelude.{vec_len, IsTrue}
 use Rattle.std.proofs.Common.{◌≡◌, length}
-use Rattle.mp4_present.specs.Carried.{waiting}
-use Rattle.mp4_present.specs.InHand.{Follows, left_in_hand}
-use Rattle.mp4_plan.specs.HandsFed.{BytesCarried}
+use Rattle.mp4_present.specs.words.Carried.{waiting}
+use Rattle.mp4_present.specs.words.InHand.{Follows, left_in_hand}
+use Rattle.mp4_plan.specs.words.HandsFed.{BytesCarried}
 use Rattle.mp4_plan.proofs.carrying.carry_hand.Given as goal
 
 -- the same samples, later, and the bytes of those before are taken along

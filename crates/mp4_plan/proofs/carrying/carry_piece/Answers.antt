@@ -4,8 +4,8 @@ use Rattle.mp4_present.proofs.WalkPlaces.{kept_on}
 use Rattle.mp4_plan.proofs.HandsCarried.{carried_none}
 use Rattle.mp4_plan.proofs.PieceCarried.{hand_carried, carried_all, next_carried, hand_fails, hand_there, front_carried, no_bytes_left, none_left_to_carry, AreThere}
 use Rattle.mp4_plan.proofs.HandsTaken.{hand_kept}
-use Rattle.mp4_present.specs.Coming.{Comes}
-use Rattle.mp4_present.specs.Movies.{InHandOf}
+use Rattle.mp4_present.specs.words.SamplesComing.{Comes}
+use Rattle.mp4_present.specs.words.Movies.{InHandOf}
 use Rattle.mp4_present.proofs.WayThrough.{takes_none}
 use Rattle.mp4_plan.proofs.CourseSteps.{hand_keeps, keeps_before, loads_before, most_before, fails_before, as_many}
 use Rattle.mp4_plan.proofs.carrying.carry_piece.Goals as goal

@@ -1,7 +1,7 @@
 use Rattle.std.specs.Prelude.{vec_len, IsTrue}
 use Rattle.std.proofs.Common.{◌≡◌, ◌-◌, length}
-use Rattle.mp4_present.specs.Carried.{waiting}
-use Rattle.mp4_present.specs.Movies.{IsWalkOf}
+use Rattle.mp4_present.specs.words.Carried.{waiting}
+use Rattle.mp4_present.specs.words.Movies.{IsWalkOf}
 use Rattle.mp4_plan.proofs.PieceCarried.{CarriesOn}
 use Rattle.mp4_present.proofs.WayThrough.{TakesBefore}
 use Rattle.mp4_plan.proofs.carrying.carry_piece.Given as goal

@@ -1,6 +1,6 @@
 use Rattle.std.specs.Prelude.{IsTrue}
 use Rattle.std.proofs.Common.{◌≡◌, ◌-◌, length}
-use Rattle.mp4_present.specs.Movies.{IsWalkOf}
+use Rattle.mp4_present.specs.words.Movies.{IsWalkOf}
 use Rattle.mp4_plan.proofs.PiecePassed.{PassesOn}
 use Rattle.mp4_present.proofs.WayThrough.{TakesBefore}
 use Rattle.mp4_plan.proofs.carrying.pass_samples.Given as goal

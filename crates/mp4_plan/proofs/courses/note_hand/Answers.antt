@@ -1,6 +1,6 @@
 use Rattle.std.proofs.Common.{List, subst}
 use Rattle.mp4_tables.specs.declared.sample.SampleAt.{SampleAt}
-use Rattle.mp4_plan.specs.Stretches.{JoinsOn}
+use Rattle.mp4_plan.specs.words.Stretches.{JoinsOn}
 use Rattle.mp4_present.proofs.WalkPlaces.{kept_on}
 use Rattle.mp4_plan.proofs.HandSteps.{notes_take, notes_left, notes_seen, notes_joined}
 use Rattle.mp4_plan.proofs.HandsTaken.{fed_stops, fed_counts, hand_kept}

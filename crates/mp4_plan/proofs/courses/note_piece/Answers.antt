@@ -1,8 +1,8 @@
 use Rattle.std.proofs.Common.{rules, ◌-◌, length, take, drop, refl, sym, ap, subst, ◌∙◌, arith}
 use Rattle.std.proofs.lemmas.List.{length-take, length-drop}
 use Rattle.std.proofs.lemmas.Result.{err_from_is_err_and}
-use Rattle.mp4_present.specs.Movies.{InHandOf}
-use Rattle.mp4_plan.specs.Gathering.{Planning, planned_of}
+use Rattle.mp4_present.specs.words.Movies.{InHandOf}
+use Rattle.mp4_plan.specs.words.Gathering.{Planning, planned_of}
 use Rattle.mp4_plan.proofs.PieceFed.{hand_fed, hand_ended, hand_full, hand_noted, hand_joined, notes_new, joins_new, next_fed, none_fed, feeds_new}
 use Rattle.mp4_plan.proofs.PlannerSteps.{planned_counts}
 use Rattle.mp4_plan.specs.declared.planner.Planned.{Planned}

@@ -1,7 +1,7 @@
 use Rattle.std.specs.Prelude.{IsTrue}
 use Rattle.std.proofs.Common.{◌≡◌, ◌-◌, ◌≤◌, length}
-use Rattle.mp4_present.specs.Movies.{IsWalkOf}
-use Rattle.mp4_plan.specs.Gathering.{count_of, piece_from}
+use Rattle.mp4_present.specs.words.Movies.{IsWalkOf}
+use Rattle.mp4_plan.specs.words.Gathering.{count_of, piece_from}
 use Rattle.mp4_plan.proofs.PieceFed.{FeedsOn, NotesOn, JoinsFor}
 use Rattle.mp4_present.proofs.WayThrough.{TakesBefore}
 use Rattle.mp4_plan.proofs.courses.note_piece.Given as goal

@@ -1,7 +1,7 @@
 use Rattle.std.specs.Prelude.{IsTrue, slice_get}
 use Rattle.std.proofs.Common.{◌≡◌, ◌-◌, length}
-use Rattle.mp4_present.specs.InHand.{left_in_hand}
-use Rattle.mp4_present.specs.Movies.{IsWalkOf, InHandOf}
+use Rattle.mp4_present.specs.words.InHand.{left_in_hand}
+use Rattle.mp4_present.specs.words.Movies.{IsWalkOf, InHandOf}
 use Rattle.mp4_present.specs.declared.in_hand.InHand.{InHand}
 use Rattle.mp4_plan.proofs.WalksOn.{StillComes}
 use Rattle.mp4_present.proofs.WayThrough.{TakesBefore}

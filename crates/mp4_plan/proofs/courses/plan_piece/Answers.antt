@@ -1,7 +1,7 @@
 use Rattle.std.proofs.Common.{rules, refl, sym, ap, subst, ◌∙◌, arith}
 use Rattle.std.proofs.lemmas.Result.{err_from_is_err_and}
-use Rattle.mp4_present.specs.Movies.{InHandOf}
-use Rattle.mp4_plan.specs.Gathering.{Planning, planned_of, piece_from}
+use Rattle.mp4_present.specs.words.Movies.{InHandOf}
+use Rattle.mp4_plan.specs.words.Gathering.{Planning, planned_of, piece_from}
 use Rattle.mp4_plan.proofs.PieceFed.{hand_fed, hand_ended, hand_full, next_fed, none_fed, feeds_new}
 use Rattle.mp4_plan.proofs.HandsTaken.{few_more}
 use Rattle.mp4_present.proofs.WayThrough.{takes_none}

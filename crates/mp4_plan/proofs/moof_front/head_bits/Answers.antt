@@ -1,5 +1,5 @@
 use Rattle.std.proofs.Common.{refl}
-use Rattle.mp4_plan.specs.Spelling.{head_bits}
+use Rattle.mp4_plan.specs.words.Spelling.{head_bits}
 use Rattle.mp4_plan.proofs.moof_front.head_bits.Goals as goal
 
 pub returns : goal.returns

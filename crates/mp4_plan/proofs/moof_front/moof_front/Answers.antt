@@ -1,5 +1,5 @@
 use Rattle.std.proofs.Common.{[]}
-use Rattle.mp4_plan.specs.Spelling.{moof_front}
+use Rattle.mp4_plan.specs.words.Spelling.{moof_front}
 use Rattle.mp4_plan.proofs.Pushes.{behind, first}
 use Rattle.mp4_plan.proofs.moof_front.moof_front.Goals as goal
 

@@ -1,4 +1,4 @@
-use Rattle.mp4_plan.specs.Spelling.{tfdt_front}
+use Rattle.mp4_plan.specs.words.Spelling.{tfdt_front}
 use Rattle.mp4_plan.proofs.Pushes.{behind}
 use Rattle.mp4_plan.proofs.moof_front.push_tfdt.Goals as goal
 

@@ -1,5 +1,5 @@
 use Rattle.std.proofs.Common.{refl}
-use Rattle.mp4_plan.specs.Spelling.{run_bits}
+use Rattle.mp4_plan.specs.words.Spelling.{run_bits}
 use Rattle.mp4_plan.proofs.moof_front.run_bits.Goals as goal
 
 pub returns : goal.returns

@@ -1,8 +1,8 @@
 use Rattle.std.proofs.Common.{ℕ, List, ap, ◌∙◌, ◌++◌, sym}
 use Rattle.mp4_present.proofs.Carrying.{BytesGoOn-then}
-use Rattle.mp4_tables.specs.Keys.{key_seen}
-use Rattle.mp4_plan.specs.Spelling.{group_rows}
-use Rattle.mp4_plan.specs.UsedKeys.{group_front, group_bytes}
+use Rattle.mp4_tables.specs.words.Keys.{key_seen}
+use Rattle.mp4_plan.specs.words.Spelling.{group_rows}
+use Rattle.mp4_plan.specs.words.UsedKeys.{group_front, group_bytes}
 use Rattle.std.proofs.lemmas.Result.{err_from_is_err_and}
 use Rattle.mp4_plan.proofs.FrontsPut.{stopped_first, stopped_last}
 use Rattle.mp4_plan.proofs.moof_rows.carry_group.Goals as goal

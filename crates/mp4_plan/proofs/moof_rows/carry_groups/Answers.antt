@@ -1,18 +1,18 @@
 use Rattle.std.proofs.Common.{Some, ◌∙◌, refl, ap, [], ◌∷◌, ◌++◌, length, rules, arith}
 use Rattle.std.specs.Prelude.{flat_map}
 use Rattle.mp4_present.proofs.Carrying.{BytesGoOn-nothing, BytesGoOn-then}
-use Rattle.mp4_tables.specs.Groups.{GroupKey}
-use Rattle.mp4_tables.specs.Keys.{key_seen, keys_seen}
-use Rattle.mp4_plan.specs.Normal.{in_key_order}
-use Rattle.mp4_plan.specs.UsedKeys.{used_from, place_at, group_bytes}
+use Rattle.mp4_tables.specs.format.Groups.{GroupKey}
+use Rattle.mp4_tables.specs.words.Keys.{key_seen, keys_seen}
+use Rattle.mp4_plan.specs.format.Normal.{in_key_order}
+use Rattle.mp4_plan.specs.words.UsedKeys.{used_from, place_at, group_bytes}
 use Rattle.mp4_plan.proofs.NextKeys.{all_to_come, few_used, used_apart, found_first, none_above, place_is, key_written, keys_written, one_less, none_left}
 use Rattle.mp4_plan.proofs.Pushes.{goes_on_as}
 use Rattle.std.proofs.lemmas.Result.{err_from_is_err_and}
 use Rattle.std.proofs.Common.{sym}
 use Rattle.std.specs.Prelude.{filter}
 use Rattle.std.proofs.lemmas.Grind.{flat_map-append}
-use Rattle.mp4_tables.specs.Groups.{key_rank}
-use Rattle.mp4_plan.specs.UsedKeys.{is_above}
+use Rattle.mp4_tables.specs.format.Groups.{key_rank}
+use Rattle.mp4_plan.specs.words.UsedKeys.{is_above}
 use Rattle.mp4_plan.proofs.FrontsPut.{stopped_at}
 use Rattle.mp4_plan.proofs.moof_rows.carry_groups.Goals as goal
 

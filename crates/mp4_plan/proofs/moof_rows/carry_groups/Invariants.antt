@@ -1,10 +1,10 @@
 use Rattle.std.specs.Prelude.{vec_len, flat_map, filter}
 use Rattle.std.proofs.Common.{◌≡◌, ◌+◌, ◌≤◌, List, ◌++◌, length}
-use Rattle.mp4_tables.specs.Groups.{GroupKey}
-use Rattle.mp4_tables.specs.Keys.{keys_seen}
-use Rattle.mp4_present.specs.Carried.{BytesGoOn, waiting}
-use Rattle.mp4_plan.specs.Normal.{in_key_order}
-use Rattle.mp4_plan.specs.UsedKeys.{AreApart, is_above, used_from, place_at, group_bytes}
+use Rattle.mp4_tables.specs.format.Groups.{GroupKey}
+use Rattle.mp4_tables.specs.words.Keys.{keys_seen}
+use Rattle.mp4_present.specs.words.Carried.{BytesGoOn, waiting}
+use Rattle.mp4_plan.specs.format.Normal.{in_key_order}
+use Rattle.mp4_plan.specs.words.UsedKeys.{AreApart, is_above, used_from, place_at, group_bytes}
 use Rattle.mp4_plan.proofs.moof_rows.carry_groups.Given as goal
 
 -- the groups of the first keys are written, and those above the last are to come

@@ -1,10 +1,10 @@
 use Rattle.std.proofs.Common.{[], rules}
-use Rattle.mp4_plan.specs.Spelling.{runs_left}
+use Rattle.mp4_plan.specs.words.Spelling.{runs_left}
 use Rattle.mp4_plan.proofs.RunsResumed.{left_new}
 use Rattle.std.proofs.lemmas.Result.{err_from_is_err_and}
 use Rattle.std.proofs.lemmas.Grind.{flat_map-append}
 use Rattle.std.proofs.Common.{ap, ◌∙◌}
-use Rattle.mp4_plan.specs.Spelling.{group_row}
+use Rattle.mp4_plan.specs.words.Spelling.{group_row}
 use Rattle.std.specs.Prelude.{flat_map}
 use Rattle.mp4_plan.proofs.FrontsPut.{stopped_first}
 use Rattle.mp4_plan.proofs.moof_rows.carry_index.Goals as goal

@@ -1,8 +1,8 @@
 use Rattle.std.proofs.Common.{◌≡◌, ℕ, ◌≤◌, List, ◌++◌, drop, map}
 use Rattle.std.specs.Prelude.{flat_map, slice_index, vec_len}
-use Rattle.mp4_present.specs.Carried.{BytesGoOn, waiting}
-use Rattle.mp4_plan.specs.Normal.{longest_runs}
-use Rattle.mp4_plan.specs.Spelling.{group_row, runs_left}
+use Rattle.mp4_present.specs.words.Carried.{BytesGoOn, waiting}
+use Rattle.mp4_plan.specs.format.Normal.{longest_runs}
+use Rattle.mp4_plan.specs.words.Spelling.{group_row, runs_left}
 use Rattle.mp4_plan.specs.declared.rows.Row.{Row}
 use Rattle.mp4_plan.proofs.moof_rows.carry_indexes.Given as goal
 

@@ -1,7 +1,7 @@
 use Rattle.std.proofs.Common.{List, ℕ, ◌∙◌, rules}
 use Rattle.std.proofs.lemmas.Result.{err_from_is_err_and}
 use Rattle.mp4_present.proofs.Carrying.{BytesGoOn-then}
-use Rattle.mp4_plan.specs.Spelling.{run_row}
+use Rattle.mp4_plan.specs.words.Spelling.{run_row}
 use Rattle.mp4_plan.proofs.FrontsPut.{stopped_at, bytes_of_both}
 use Rattle.mp4_plan.proofs.RowBytes.{rows_more}
 use Rattle.mp4_plan.proofs.moof_rows.carry_run.Goals as goal

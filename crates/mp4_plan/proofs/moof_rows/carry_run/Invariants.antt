@@ -1,7 +1,7 @@
 use Rattle.std.specs.Prelude.{vec_len}
 use Rattle.std.proofs.Common.{◌≡◌, ◌≤◌, ◌-◌, length, take}
-use Rattle.mp4_present.specs.Carried.{BytesGoOn, waiting}
-use Rattle.mp4_plan.specs.Spelling.{run_rows}
+use Rattle.mp4_present.specs.words.Carried.{BytesGoOn, waiting}
+use Rattle.mp4_plan.specs.words.Spelling.{run_rows}
 use Rattle.mp4_plan.proofs.moof_rows.carry_run.Given as goal
 
 -- the rows so far were taken along; the buffer keeps its length

@@ -1,5 +1,5 @@
 use Rattle.std.proofs.Common.{[]}
-use Rattle.mp4_plan.specs.UsedKeys.{group_front}
+use Rattle.mp4_plan.specs.words.UsedKeys.{group_front}
 use Rattle.mp4_plan.proofs.Pushes.{behind, first}
 use Rattle.mp4_plan.proofs.moof_rows.group_front.Goals as goal
 

@@ -1,7 +1,7 @@
 use Rattle.std.proofs.Common.{◌≡◌, ◌<◌, None, drop}
 use Rattle.std.specs.Prelude.{IfSome}
-use Rattle.mp4_tables.specs.Keys.{key_seen, keys_seen}
-use Rattle.mp4_plan.specs.UsedKeys.{used_seen, least_above, used_from, IsKeyAt}
+use Rattle.mp4_tables.specs.words.Keys.{key_seen, keys_seen}
+use Rattle.mp4_plan.specs.words.UsedKeys.{used_seen, least_above, used_from, IsKeyAt}
 use Rattle.mp4_plan.proofs.moof_rows.next_key.Given as goal
 
 -- the place is that of the key, and with the keys to come the least is found

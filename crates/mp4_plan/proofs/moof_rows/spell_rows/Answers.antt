@@ -1,5 +1,5 @@
 use Rattle.std.proofs.Common.{arith}
-use Rattle.mp4_plan.specs.Spelling.{run_row}
+use Rattle.mp4_plan.specs.words.Spelling.{run_row}
 use Rattle.mp4_plan.proofs.RowBytes.{row_pushed}
 use Rattle.mp4_plan.proofs.moof_rows.spell_rows.Goals as goal
 

@@ -1,5 +1,5 @@
 use Rattle.std.proofs.Common.{◌≡◌, ◌*◌, ◌≤◌, length, take}
-use Rattle.mp4_plan.specs.Spelling.{run_rows}
+use Rattle.mp4_plan.specs.words.Spelling.{run_rows}
 use Rattle.mp4_plan.proofs.moof_rows.spell_rows.Given as goal
 
 -- the rows so far, of sixteen bytes at most each

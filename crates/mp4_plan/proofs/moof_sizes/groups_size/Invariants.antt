@@ -1,6 +1,6 @@
 use Rattle.std.proofs.Common.{◌≡◌, ◌+◌, ◌*◌, ◌^◌, ◌≤◌, drop}
-use Rattle.mp4_tables.specs.Keys.{keys_seen}
-use Rattle.mp4_plan.specs.Sizes.{groups_size}
+use Rattle.mp4_tables.specs.words.Keys.{keys_seen}
+use Rattle.mp4_plan.specs.words.Sizes.{groups_size}
 use Rattle.mp4_plan.proofs.moof_sizes.groups_size.Given as goal
 
 -- each takes less than 2^36 bytes, and with those to come they take what all take

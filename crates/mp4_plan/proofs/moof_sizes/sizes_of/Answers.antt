@@ -1,5 +1,5 @@
 use Rattle.std.proofs.Common.{◌+◌, ◌*◌, ◌≤◌, length, arith, mul-le-mul_right}
-use Rattle.mp4_tables.specs.Keys.{keys_seen}
+use Rattle.mp4_tables.specs.words.Keys.{keys_seen}
 use Rattle.mp4_plan.proofs.SizesSmall.{groups_small}
 use Rattle.mp4_plan.proofs.moof_sizes.sizes_of.Goals as goal
 

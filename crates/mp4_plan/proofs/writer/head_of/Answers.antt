@@ -1,5 +1,5 @@
 use Rattle.std.proofs.Common.{rules, arith, ◌+◌, ◌<◌, ◌^◌, refl, ◌∙◌}
-use Rattle.mp4_head.specs.Seen.{movie_seen, tracks_seen}
+use Rattle.mp4_head.specs.words.Seen.{movie_seen, tracks_seen}
 use Rattle.mp4_plan.proofs.HeadLimit.{moov_fits}
 use Rattle.mp4_plan.proofs.HeadAgain.{head_again, head_counted}
 use Rattle.mp4_plan.proofs.writer.head_of.Goals as goal

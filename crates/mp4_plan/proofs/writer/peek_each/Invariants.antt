@@ -1,7 +1,8 @@
 use Rattle.std.proofs.Common.{◌≡◌, ℕ, List, length, take}
 use Rattle.mp4_tables.specs.declared.sample.SampleAt.{SampleAt}
-use Rattle.mp4_plan.specs.Work.{MayAllTake, AllTakeOn}
-use Rattle.mp4_plan.specs.Writers.{AreWalksOf, AllCome, WhereOpened, firsts, rooms}
+use Rattle.mp4_plan.specs.words.WriterSteps.{MayAllTake, AllTakeOn}
+use Rattle.mp4_plan.specs.words.Writers.{AreWalksOf, AllCome, WhereOpened, firsts}
+use Rattle.mp4_plan.specs.format.Held.{rooms}
 use Rattle.mp4_plan.proofs.writer.peek_each.Given as goal
 
 -- the walks stand where they stood, and the next samples of the first of them are noted

@@ -1,13 +1,13 @@
 use Rattle.std.proofs.Common.{rules, ◌≡◌, ◌<◌, slice_set, get_or, length, map, arith, ap, sym, subst, refl, ◌∙◌, slice_get}
 use Rattle.std.proofs.lemmas.List.{with_items_is}
 use Rattle.std.proofs.lemmas.Result.{err_from_is_err_and}
-use Rattle.mp4_tables.specs.Keys.{keys_seen}
-use Rattle.mp4_present.specs.Coming.{track_samples}
+use Rattle.mp4_tables.specs.words.Keys.{keys_seen}
+use Rattle.mp4_present.specs.words.SamplesComing.{track_samples}
 use Rattle.mp4_present.specs.declared.track_info.TrackInfo.{TrackInfo}
 use Rattle.mp4_plan.proofs.CarriedParts.{read_at}
 use Rattle.mp4_plan.proofs.Planning.{walks_set}
 use Rattle.mp4_plan.proofs.PlannedTurns.{Adds, planning_first, planning_end, kept_there, has_turn, planning_moves, planning_next}
-use Rattle.mp4_present.specs.Work.{walks_steps}
+use Rattle.mp4_present.specs.words.WalkSteps.{walks_steps}
 use Rattle.mp4_plan.proofs.AllTake.{one_takes, one_stops}
 use Rattle.mp4_plan.proofs.StepsOn.{all_taken, all_within, all_then, all_then_stop}
 use Rattle.std.proofs.lemmas.Option.{slice_get_read}

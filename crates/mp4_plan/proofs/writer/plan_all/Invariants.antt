@@ -1,12 +1,12 @@
 use Rattle.std.specs.Prelude.{IsTrue}
 use Rattle.std.proofs.Common.{◌≡◌, ◌^◌, ◌≤◌, length}
-use Rattle.mp4_present.specs.Denotes.{FileTree}
-use Rattle.mp4_present.specs.OpenedMovie.{IsOpenedAs}
-use Rattle.mp4_plan.specs.Turns.{to_come}
-use Rattle.mp4_plan.specs.Writers.{AreWalksOf}
+use Rattle.mp4_present.specs.format.Denotes.{FileTree}
+use Rattle.mp4_present.specs.words.OpenedMovie.{IsOpenedAs}
+use Rattle.mp4_plan.specs.words.Turns.{to_come}
+use Rattle.mp4_plan.specs.words.Writers.{AreWalksOf}
 use Rattle.mp4_plan.proofs.PlannedTurns.{IsPlanning}
-use Rattle.mp4_present.specs.Work.{walks_steps}
-use Rattle.mp4_plan.specs.Work.{AllTakeOn}
+use Rattle.mp4_present.specs.words.WalkSteps.{walks_steps}
+use Rattle.mp4_plan.specs.words.WriterSteps.{AllTakeOn}
 use Rattle.mp4_plan.proofs.writer.plan_all.Given as goal
 
 -- the walks go on, what was passed is planned, and they took no more steps than they may

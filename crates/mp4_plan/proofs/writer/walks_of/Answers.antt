@@ -1,5 +1,5 @@
 use Rattle.std.proofs.Common.{rules, ◌<◌, [], ◌∷◌, length}
-use Rattle.mp4_present.specs.Movies.{IsWalkOf}
+use Rattle.mp4_present.specs.words.Movies.{IsWalkOf}
 use Rattle.mp4_plan.proofs.Filters.{all_append}
 use Rattle.mp4_plan.proofs.Planning.{one_room, one_begins, all_begin}
 use Rattle.mp4_plan.proofs.AllTake.{one_to_take, all_to_take}

@@ -1,7 +1,7 @@
 use Rattle.std.proofs.Common.{◌≡◌, ◌*◌, length}
-use Rattle.mp4_plan.specs.Writers.{rooms}
+use Rattle.mp4_plan.specs.format.Held.{rooms}
 use Rattle.std.specs.List.{AllByRecursion}
-use Rattle.mp4_present.specs.Movies.{IsWalkOf}
+use Rattle.mp4_present.specs.words.Movies.{IsWalkOf}
 use Rattle.mp4_plan.proofs.Planning.{BeginSoFar}
 use Rattle.mp4_plan.proofs.AllTake.{BeginToTake}
 use Rattle.mp4_plan.proofs.writer.walks_of.Given as goal

@@ -2,11 +2,11 @@ use Rattle.std.proofs.Common.{arith}
 use Rattle.std.proofs.lemmas.Result.{err_from_is_err_and}
 use Rattle.std.specs.Io.KnownBytes.{Appends}
 use Rattle.std.specs.Prelude.{OnOk, OnErr}
-use Rattle.mp4_store.specs.Device.{AppendsPrefix}
+use Rattle.mp4_store.specs.words.Device.{AppendsPrefix}
 use Rattle.mp4_store.proofs.Known.{AppendsPrefix-nothing}
-use Rattle.mp4_present.specs.Denotes.{presentation_of}
-use Rattle.mp4_plan.specs.Normal.{normal}
-use Rattle.mp4_plan.specs.Writers.{IsReady}
+use Rattle.mp4_present.specs.format.Denotes.{presentation_of}
+use Rattle.mp4_plan.specs.format.Normal.{normal}
+use Rattle.mp4_plan.specs.words.Writers.{IsReady}
 use Rattle.mp4_plan.proofs.AllPut.{still_opened}
 use Rattle.mp4_plan.proofs.writer.write_normal.Goals as goal
 

@@ -1,10 +1,10 @@
 use Rattle.std.proofs.Common.{ℕ, ◌≡◌, ◌-◌, ◌≤◌, length}
 use Rattle.std.specs.List.{AllByRecursion}
 use Rattle.std.specs.Prelude.{vec_len, IsTrue}
-use Rattle.mp4_present.specs.Carried.{waiting, GoOnBy}
-use Rattle.mp4_present.specs.InHand.{Follows, left_in_hand}
-use Rattle.mp4_present.specs.Joined.{IsBelow}
-use Rattle.mp4_present.specs.Movies.{InHandOf}
+use Rattle.mp4_present.specs.words.Carried.{waiting, GoOnBy}
+use Rattle.mp4_present.specs.words.InHand.{Follows, left_in_hand}
+use Rattle.mp4_present.specs.words.Joined.{IsBelow}
+use Rattle.mp4_present.specs.words.Movies.{InHandOf}
 use Rattle.mp4_present.specs.declared.in_hand.InHand.{InHand}
 use Rattle.mp4_present.proofs.Hands.{HandGoesOn}
 use Rattle.mp4_present.proofs.HandSizes.{SizesGoOn}

@@ -1,6 +1,6 @@
 use Rattle.std.proofs.Common.{rules, List, take, drop, ◌++◌, ◌≡◌, length, subst}
 use Rattle.mp4_frag.specs.declared.state.TrackState.{TrackState}
-use Rattle.mp4_present.specs.PassedMoofs.{IsBegun, IsPassed}
+use Rattle.mp4_present.specs.words.PassedMoofs.{IsBegun, IsPassed}
 use Rattle.mp4_present.proofs.MoofBytes.{written_back}
 use Rattle.mp4_present.proofs.fragment_pass.check_fragments.Goals as goal
 

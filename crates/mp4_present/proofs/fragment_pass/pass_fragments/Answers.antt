@@ -3,7 +3,7 @@ use Rattle.std.specs.Prelude.{unwrap_or}
 use Rattle.std.proofs.lemmas.Result.{err_from_is_err_and}
 use Rattle.mp4_present.proofs.FragmentPass.{Left, left_first, left_next}
 use Rattle.mp4_present.proofs.MoofsPassed.{IsUnderWay, IsRead, under_way_first, not_read, all_passed, next_passed, next_refused}
-use Rattle.mp4_boxes.specs.View.{box_seen}
+use Rattle.mp4_boxes.specs.words.View.{box_seen}
 use Rattle.mp4_present.proofs.ChecksCounted.{within_first, next_within, checks_done}
 use Rattle.mp4_present.proofs.MoofBytes.{none_fit, next_fits, all_fit, refused_fits}
 use Rattle.mp4_present.proofs.TablesWork.{if_no_fault}

@@ -1,10 +1,10 @@
 use Rattle.std.proofs.Common.{◌≡◌, ◌-◌, ◌^◌, ◌≤◌, List, length}
-use Rattle.mp4_boxes.specs.Box.{Box}
-use Rattle.mp4_head.specs.Tree.{MovieTree}
-use Rattle.mp4_present.specs.PassedMoofs.{IsBegun}
+use Rattle.mp4_boxes.specs.format.Box.{Box}
+use Rattle.mp4_head.specs.format.Tree.{MovieTree}
+use Rattle.mp4_present.specs.words.PassedMoofs.{IsBegun}
 use Rattle.mp4_present.proofs.MoofsPassed.{IsUnderWay}
 use Rattle.std.specs.Prelude.{IsTrue}
-use Rattle.mp4_frag.specs.States.{HaveRoom}
+use Rattle.mp4_frag.specs.words.States.{HaveRoom}
 use Rattle.mp4_present.proofs.FragmentPass.{Left}
 use Rattle.mp4_present.proofs.ChecksCounted.{LeftWithin}
 use Rattle.mp4_present.proofs.MoofBytes.{MoofsFit}

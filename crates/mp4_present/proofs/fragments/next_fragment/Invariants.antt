@@ -1,7 +1,7 @@
 use Rattle.std.proofs.Common.{◌≡◌, ◌-◌, ◌≤◌, List}
 use Rattle.std.specs.Prelude.{IsTrue}
-use Rattle.mp4_boxes.specs.Box.{Box}
-use Rattle.mp4_present.specs.Again.{AreFrom}
+use Rattle.mp4_boxes.specs.format.Box.{Box}
+use Rattle.mp4_present.specs.words.Again.{AreFrom}
 use Rattle.mp4_present.proofs.Fragmented.{Passing}
 use Rattle.mp4_present.proofs.fragments.next_fragment.Given as goal
 

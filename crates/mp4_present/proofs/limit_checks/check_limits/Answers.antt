@@ -1,8 +1,8 @@
 use Rattle.std.proofs.Common.{rules, ◌<◌, ◌≤◌, ◌≡◌, ◌+◌, max, length, subst, slice_index_or}
 use Rattle.std.proofs.lemmas.Result.{err_from_is_err_and}
-use Rattle.mp4_boxes.specs.View.{box_seen}
-use Rattle.mp4_present.specs.Presentation.{Presentation}
-use Rattle.mp4_present.specs.Measured.{IsMeasure}
+use Rattle.mp4_boxes.specs.words.View.{box_seen}
+use Rattle.mp4_present.specs.format.Presentation.{Presentation}
+use Rattle.mp4_present.specs.words.Measured.{IsMeasure}
 use Rattle.mp4_present.proofs.Lengths.{AreInTime, time_more, time_all, time_refused, short_enough, too_long}
 use Rattle.mp4_present.proofs.limit_checks.check_limits.Goals as goal
 

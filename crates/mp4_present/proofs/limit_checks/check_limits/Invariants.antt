@@ -1,5 +1,5 @@
-use Rattle.mp4_present.specs.Presentation.{Presentation}
-use Rattle.mp4_present.specs.Measured.{IsMeasure}
+use Rattle.mp4_present.specs.format.Presentation.{Presentation}
+use Rattle.mp4_present.specs.words.Measured.{IsMeasure}
 use Rattle.mp4_present.proofs.Lengths.{AreInTime}
 use Rattle.mp4_present.proofs.limit_checks.check_limits.Given as goal
 

@@ -1,8 +1,8 @@
 use Rattle.std.proofs.Common.{◌≡◌, ◌+◌, ◌*◌, ◌^◌, ◌≤◌, drop, map}
 use Rattle.std.specs.List.{list_any}
-use Rattle.mp4_boxes.specs.Bytes.{sum_of}
-use Rattle.mp4_head.specs.Head as heads
-use Rattle.mp4_head.specs.Seen.{edit_seen}
+use Rattle.mp4_boxes.specs.format.Bytes.{sum_of}
+use Rattle.mp4_head.specs.format.Head as heads
+use Rattle.mp4_head.specs.words.Seen.{edit_seen}
 use Rattle.mp4_present.proofs.Lengths.{is_silent}
 use Rattle.mp4_present.proofs.limit_checks.length_of_edits.Given as goal
 

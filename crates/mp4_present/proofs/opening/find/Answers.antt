@@ -1,10 +1,10 @@
 use Rattle.mp4_frag.specs.declared.trex.Trex.{Trex}
-use Rattle.mp4_head.specs.Head.{Head}
-use Rattle.mp4_head.specs.Tree.{are_distinct}
+use Rattle.mp4_head.specs.format.Head.{Head}
+use Rattle.mp4_head.specs.format.Tree.{are_distinct}
 use Rattle.std.proofs.Common.{◌≡◌, List, map, true, subst, sym, ap, rules, refl, length}
-use Rattle.mp4_boxes.specs.View.{box_seen}
+use Rattle.mp4_boxes.specs.words.View.{box_seen}
 use Rattle.mp4_present.specs.declared.opening.Found.{Found}
-use Rattle.mp4_boxes.specs.Bytes.{AreBytes}
+use Rattle.mp4_boxes.specs.format.Bytes.{AreBytes}
 use Rattle.mp4_present.proofs.Assembled.{movie, begun, have, opened_as, limit_stands, measure}
 use Rattle.std.proofs.lemmas.Result.{err_from_is_err_and}
 use Rattle.mp4_present.proofs.Opened.{IsRead, its_movie, tracks_read, open_not_sound, open_not_fit, open_not_passed}

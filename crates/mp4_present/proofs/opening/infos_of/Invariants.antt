@@ -1,5 +1,5 @@
 use Rattle.std.proofs.Common.{◌≡◌, length, take}
-use Rattle.mp4_present.specs.OpenedMovie.{AreInfosBy}
+use Rattle.mp4_present.specs.words.OpenedMovie.{AreInfosBy}
 use Rattle.mp4_present.proofs.opening.infos_of.Given as goal
 
 -- one for each track so far, with its numbers

@@ -5,7 +5,7 @@ use Rattle.mp4_present.proofs.OpeningBytes.{none_open}
 use Rattle.mp4_present.proofs.OpenedDenotes.{opened_denotes}
 use Rattle.mp4_present.proofs.OpeningSteps.{opened_of}
 use Rattle.mp4_present.proofs.TablesWork.{if_no_fault, none_taken}
-use Rattle.mp4_present.specs.OpenedMovie.{IsOpenedAs, kept_of}
+use Rattle.mp4_present.specs.words.OpenedMovie.{IsOpenedAs, kept_of}
 use Rattle.mp4_present.proofs.opening.open_movie.Goals as goal
 
 pub returns-clause-movie : goal.returns-clause-movie

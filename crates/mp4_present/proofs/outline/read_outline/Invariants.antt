@@ -1,6 +1,6 @@
 use Rattle.std.proofs.Common.{◌≡◌, ◌-◌, length}
 use Rattle.std.specs.Prelude.{IsTrue, IfSome}
-use Rattle.mp4_present.specs.Movies.{IsWhole}
+use Rattle.mp4_present.specs.words.Movies.{IsWhole}
 use Rattle.mp4_present.proofs.Outlines.{Outlining}
 use Rattle.mp4_present.proofs.outline.read_outline.Given as goal
 

@@ -1,6 +1,6 @@
 use Rattle.std.proofs.Common.{rules, ◌-◌, Ok, Err}
 use Rattle.std.proofs.lemmas.Result.{err_from_is_err_and}
-use Rattle.mp4_boxes.specs.View.{top_header_seen}
+use Rattle.mp4_boxes.specs.words.View.{top_header_seen}
 use Rattle.mp4_present.proofs.TopLevel.{read_in_file}
 use Rattle.mp4_present.proofs.reading.read_top_header.Goals as goal
 

@@ -1,5 +1,5 @@
 use Rattle.std.proofs.Common.{◌≡◌, ◌+◌, rules, arith}
-use Rattle.mp4_present.specs.Joined.{IsBelow}
+use Rattle.mp4_present.specs.words.Joined.{IsBelow}
 use Rattle.mp4_present.proofs.JoinedSamples.{joined_more, joined_one, first_has, given_has, ends_within}
 use Rattle.mp4_present.proofs.stretches.next_stretch.Goals as goal
 

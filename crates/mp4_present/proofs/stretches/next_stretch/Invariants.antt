@@ -1,6 +1,6 @@
 use Rattle.std.proofs.Common.{ℕ, ◌≡◌, ◌+◌, ◌-◌, ◌^◌, ◌<◌, ◌≤◌, take, drop, length}
 use Rattle.std.specs.List.{AllByRecursion}
-use Rattle.mp4_present.specs.Joined.{AreJoined, IsBelow}
+use Rattle.mp4_present.specs.words.Joined.{AreJoined, IsBelow}
 use Rattle.mp4_present.proofs.stretches.next_stretch.Given as goal
 
 -- the first samples are taken, and their bytes joined

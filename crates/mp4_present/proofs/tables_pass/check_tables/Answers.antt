@@ -1,6 +1,6 @@
 use Rattle.std.proofs.Common.{ℕ, ◌≤◌, [], length, drop, subst, rules}
-use Rattle.mp4_boxes.specs.View.{box_seen}
-use Rattle.mp4_present.specs.Plain.{HasTablesIn, HaveTablesIn}
+use Rattle.mp4_boxes.specs.words.View.{box_seen}
+use Rattle.mp4_present.specs.words.Plain.{HasTablesIn, HaveTablesIn}
 use Rattle.mp4_present.proofs.PlainLists.{from_next, next_of}
 use Rattle.std.proofs.lemmas.Result.{err_from_is_err_and}
 use Rattle.mp4_present.proofs.TracksPassed.{passed_more, passed_all, passed_refused, read_of}

@@ -1,8 +1,8 @@
 use Rattle.std.proofs.Common.{List, drop, take, length}
-use Rattle.mp4_boxes.specs.View.{box_seen}
-use Rattle.mp4_head.specs.Tree.{TrackTree}
-use Rattle.mp4_present.specs.Plain.{ArePlain, HaveTablesIn}
-use Rattle.mp4_present.specs.TrackTrees.{AreTracksOf, HaveTables}
+use Rattle.mp4_boxes.specs.words.View.{box_seen}
+use Rattle.mp4_head.specs.format.Tree.{TrackTree}
+use Rattle.mp4_present.specs.words.Plain.{ArePlain, HaveTablesIn}
+use Rattle.mp4_present.specs.words.TrackTrees.{AreTracksOf, HaveTables}
 use Rattle.mp4_present.proofs.OpeningBytes.{TracksFit}
 use Rattle.mp4_present.proofs.TablesWork.{TracksLeft}
 use Rattle.mp4_present.proofs.tables_pass.check_tables.Given as goal

@@ -1,5 +1,5 @@
 use Rattle.std.proofs.Common.{◌≡◌, drop}
-use Rattle.mp4_frag.specs.FragmentSamples as fragments
+use Rattle.mp4_frag.specs.format.FragmentSamples as fragments
 use Rattle.mp4_present.proofs.tables_pass.trex_for.Given as goal
 
 -- none of those passed is it

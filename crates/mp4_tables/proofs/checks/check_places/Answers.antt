@@ -1,5 +1,5 @@
 use Rattle.std.proofs.Common.{sym}
-use Rattle.mp4_boxes.specs.View.{box_seen}
+use Rattle.mp4_boxes.specs.words.View.{box_seen}
 use Rattle.mp4_tables.proofs.PlaceReads.{places_ordered, places_counted, places_as, places_outside}
 use Rattle.mp4_tables.proofs.checks.check_places.Goals as goal
 

@@ -1,4 +1,4 @@
-use Rattle.mp4_boxes.specs.View.{box_seen}
+use Rattle.mp4_boxes.specs.words.View.{box_seen}
 use Rattle.mp4_tables.proofs.ChunkReads.{wide_there}
 use Rattle.mp4_tables.proofs.checks.offsets_leaf.Goals as goal
 

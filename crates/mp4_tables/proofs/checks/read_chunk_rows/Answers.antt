@@ -1,11 +1,11 @@
 use Rattle.std.proofs.Common.{arith, sym, ap, codes, false}
 use Rattle.mp4_boxes.specs.declared.fault.Fault.{Fault}
 use Rattle.std.proofs.lemmas.Result.{err_from_is_err_and}
-use Rattle.mp4_boxes.specs.View.{box_seen}
+use Rattle.mp4_boxes.specs.words.View.{box_seen}
 use Rattle.mp4_tables.proofs.TableReads.{rows_have}
 use Rattle.mp4_tables.proofs.ChunkReads.{chunk_rows_fail, chunk_rows_disorder, chunk_rows_mismatch, chunk_rows_undescribed, described_as, chunk_rows_read, narrower}
 use Rattle.mp4_boxes.proofs.Among.{true_false}
-use Rattle.mp4_tables.specs.TableRules.{description_indexes}
+use Rattle.mp4_tables.specs.format.TableRules.{description_indexes}
 use Rattle.mp4_tables.proofs.Excludes.{fault_excludes}
 use Rattle.mp4_tables.proofs.checks.read_chunk_rows.Goals as goal
 

@@ -1,5 +1,5 @@
 use Rattle.std.proofs.lemmas.Result.{err_from_is_err_and}
-use Rattle.mp4_boxes.specs.View.{box_seen}
+use Rattle.mp4_boxes.specs.words.View.{box_seen}
 use Rattle.mp4_tables.proofs.ChunkReads.{narrow_fail, wide_fail, wide_there, narrow_read, wide_read}
 use Rattle.mp4_tables.proofs.checks.read_chunks.Goals as goal
 

@@ -1,6 +1,6 @@
 use Rattle.std.proofs.Common.{arith, ap, codes, length, List, ℕ}
 use Rattle.std.proofs.lemmas.Result.{err_from_is_err_and}
-use Rattle.mp4_boxes.specs.View.{box_seen}
+use Rattle.mp4_boxes.specs.words.View.{box_seen}
 use Rattle.mp4_tables.proofs.LeafRows.{lies_in, first_is_child}
 use Rattle.mp4_tables.proofs.TableReads.{dependencies_version, dependencies_read, dependencies_none, dependencies_short}
 use Rattle.mp4_tables.proofs.checks.read_dependencies.Goals as goal

@@ -1,6 +1,6 @@
 use Rattle.std.proofs.Common.{arith, sym, codes, ◌∙◌, true, false}
 use Rattle.std.proofs.lemmas.Result.{err_from_is_err_and}
-use Rattle.mp4_boxes.specs.View.{box_seen}
+use Rattle.mp4_boxes.specs.words.View.{box_seen}
 use Rattle.mp4_tables.proofs.TableReads.{rows_have}
 use Rattle.mp4_tables.proofs.OffsetReads.{offsets_fail, offsets_mismatch, offsets_large, offsets_read, offsets_none, unsigned_version}
 use Rattle.mp4_tables.proofs.checks.read_offsets.Goals as goal

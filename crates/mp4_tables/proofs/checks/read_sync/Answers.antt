@@ -1,6 +1,6 @@
 use Rattle.std.proofs.Common.{arith, sym, codes}
 use Rattle.std.proofs.lemmas.Result.{err_from_is_err_and}
-use Rattle.mp4_boxes.specs.View.{box_seen}
+use Rattle.mp4_boxes.specs.words.View.{box_seen}
 use Rattle.mp4_tables.proofs.TableReads.{sync_fail, sync_disorder, sync_read, sync_none, rows_have}
 use Rattle.mp4_tables.proofs.checks.read_sync.Goals as goal
 

@@ -1,5 +1,5 @@
 use Rattle.std.proofs.Common.{◌<◌, ◌^◌, rules}
-use Rattle.mp4_boxes.specs.View.{box_seen}
+use Rattle.mp4_boxes.specs.words.View.{box_seen}
 use Rattle.mp4_tables.proofs.SizeReads.{sizes_known}
 use Rattle.mp4_tables.proofs.Assembly.{tables_read}
 use Rattle.mp4_tables.proofs.Excludes.{fault_excludes}

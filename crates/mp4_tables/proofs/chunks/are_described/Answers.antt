@@ -1,5 +1,5 @@
 use Rattle.std.proofs.Common.{arith, ap, sym, ◌∙◌, refl}
-use Rattle.mp4_tables.specs.Rows.{chunk_rows_at}
+use Rattle.mp4_tables.specs.words.Rows.{chunk_rows_at}
 use Rattle.mp4_tables.specs.declared.places.RowPlace.{RowPlace}
 use Rattle.mp4_tables.proofs.ChunkLists.{row_before, described_yes, described_no, described_all}
 use Rattle.mp4_tables.proofs.chunks.are_described.Goals as goal

@@ -1,6 +1,6 @@
 use Rattle.std.proofs.Common.{◌≡◌, ◌+◌, ◌*◌, ◌<◌, ◌≤◌, drop}
-use Rattle.mp4_tables.specs.Rows.{chunk_rows_at, offsets_at}
-use Rattle.mp4_tables.specs.Coming.{IsRowPlace, are_described}
+use Rattle.mp4_tables.specs.words.Rows.{chunk_rows_at, offsets_at}
+use Rattle.mp4_tables.specs.words.TablesComing.{IsRowPlace, are_described}
 use Rattle.mp4_tables.proofs.chunks.are_described.Given as goal
 
 -- all is well exactly if it is with the other chunks

@@ -1,6 +1,6 @@
 use Rattle.std.proofs.Common.{arith, ap, sym, ◌∙◌, map}
-use Rattle.mp4_tables.specs.Tables.{ChunkRow}
-use Rattle.mp4_tables.specs.TableRules.{is_chunk_order}
+use Rattle.mp4_tables.specs.format.Tables.{ChunkRow}
+use Rattle.mp4_tables.specs.format.TableRules.{is_chunk_order}
 use Rattle.mp4_tables.proofs.RowLists.{chunk_rows_all}
 use Rattle.mp4_tables.proofs.ChunkLists.{rising_all}
 use Rattle.mp4_tables.proofs.chunks.are_ordered.Goals as goal

@@ -1,7 +1,7 @@
 use Rattle.std.proofs.Common.{◌≡◌, ◌+◌, ◌≤◌, drop, map}
-use Rattle.mp4_tables.specs.Tables.{ChunkRow}
-use Rattle.mp4_tables.specs.Rows.{chunk_rows_at}
-use Rattle.mp4_tables.specs.TableRules.{is_chunk_order, is_rising_after}
+use Rattle.mp4_tables.specs.format.Tables.{ChunkRow}
+use Rattle.mp4_tables.specs.words.Rows.{chunk_rows_at}
+use Rattle.mp4_tables.specs.format.TableRules.{is_chunk_order, is_rising_after}
 use Rattle.mp4_tables.proofs.chunks.are_ordered.Given as goal
 
 -- the rows are in order exactly if those that are left rise

@@ -1,6 +1,6 @@
 use Rattle.std.proofs.Common.{arith, ap, ◌+◌, drop}
-use Rattle.mp4_tables.specs.Rows.{chunk_rows_at, offsets_at}
-use Rattle.mp4_tables.specs.PlainSamples.{in_chunks_total}
+use Rattle.mp4_tables.specs.words.Rows.{chunk_rows_at, offsets_at}
+use Rattle.mp4_tables.specs.format.PlainSamples.{in_chunks_total}
 use Rattle.mp4_tables.specs.declared.places.RowPlace.{RowPlace}
 use Rattle.mp4_tables.proofs.ChunkLists.{row_before, samples_more, passed_by}
 use Rattle.mp4_tables.proofs.chunks.chunk_counts_are.Goals as goal

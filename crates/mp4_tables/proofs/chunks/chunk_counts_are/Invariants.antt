@@ -1,7 +1,7 @@
 use Rattle.std.proofs.Common.{◌≡◌, ◌+◌, ◌*◌, ◌<◌, ◌≤◌, drop}
-use Rattle.mp4_tables.specs.Rows.{chunk_rows_at, offsets_at}
-use Rattle.mp4_tables.specs.PlainSamples.{in_chunks_total}
-use Rattle.mp4_tables.specs.Coming.{IsRowPlace}
+use Rattle.mp4_tables.specs.words.Rows.{chunk_rows_at, offsets_at}
+use Rattle.mp4_tables.specs.format.PlainSamples.{in_chunks_total}
+use Rattle.mp4_tables.specs.words.TablesComing.{IsRowPlace}
 use Rattle.mp4_tables.proofs.chunks.chunk_counts_are.Given as goal
 
 -- what was counted and what the other chunks hold make the whole

@@ -1,5 +1,5 @@
 use Rattle.std.proofs.Common.{arith, ap}
-use Rattle.mp4_tables.specs.Rows.{offset_width}
+use Rattle.mp4_tables.specs.words.Rows.{offset_width}
 use Rattle.mp4_tables.specs.declared.places.RowPlace.{RowPlace}
 use Rattle.mp4_tables.proofs.RowLists.{chunk_rows_length, numbers_length}
 use Rattle.mp4_tables.proofs.ChunkLists.{row_before}

@@ -1,6 +1,6 @@
 use Rattle.std.proofs.Common.{◌≡◌, ◌-◌, ◌<◌, ◌≤◌}
-use Rattle.mp4_tables.specs.Rows.{chunk_rows_at, offsets_at}
-use Rattle.mp4_tables.specs.Coming.{IsRowPlace, spots_coming}
+use Rattle.mp4_tables.specs.words.Rows.{chunk_rows_at, offsets_at}
+use Rattle.mp4_tables.specs.words.TablesComing.{IsRowPlace, spots_coming}
 use Rattle.mp4_tables.proofs.chunks.open_chunk.Given as goal
 
 -- the samples still to come are the same

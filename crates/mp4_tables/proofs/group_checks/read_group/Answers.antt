@@ -1,8 +1,8 @@
 use Rattle.std.proofs.Common.{arith, sym, ◌≤◌, ◌<◌, ◌∙◌, length}
-use Rattle.mp4_tables.specs.Repeated.{total}
-use Rattle.mp4_tables.specs.Rows.{runs_at}
-use Rattle.mp4_boxes.specs.View.{box_seen}
-use Rattle.mp4_tables.specs.Keys.{key_seen, keys_seen}
+use Rattle.mp4_tables.specs.format.Repeated.{total}
+use Rattle.mp4_tables.specs.words.Rows.{runs_at}
+use Rattle.mp4_boxes.specs.words.View.{box_seen}
+use Rattle.mp4_tables.specs.words.Keys.{key_seen, keys_seen}
 use Rattle.mp4_tables.proofs.GroupReads.{group_twice, group_fifth, group_range, group_many, group_next, not_true}
 use Rattle.mp4_tables.proofs.GroupWalks.{group_passed}
 use Rattle.mp4_tables.proofs.group_checks.read_group.Goals as goal

@@ -1,6 +1,6 @@
 use Rattle.std.proofs.Common.{arith, ap, ◌∙◌, true, false, Some, take, drop, refl}
-use Rattle.mp4_boxes.specs.Bytes.{field}
-use Rattle.mp4_boxes.specs.View.{box_seen}
+use Rattle.mp4_boxes.specs.format.Bytes.{field}
+use Rattle.mp4_boxes.specs.words.View.{box_seen}
 use Rattle.mp4_tables.proofs.LeafRows.{lies_in}
 use Rattle.mp4_tables.proofs.SizeReads.{is_zero, is_some}
 use Rattle.mp4_tables.proofs.GroupReads.{group_read}

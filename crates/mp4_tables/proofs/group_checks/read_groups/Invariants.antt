@@ -1,6 +1,6 @@
 use Rattle.std.proofs.Common.{◌+◌, ◌*◌, ◌≤◌}
-use Rattle.mp4_boxes.specs.View.{box_seen}
-use Rattle.mp4_tables.specs.Accepted.{group_count}
+use Rattle.mp4_boxes.specs.words.View.{box_seen}
+use Rattle.mp4_tables.specs.words.Accepted.{group_count}
 use Rattle.mp4_tables.proofs.GroupWalks.{GroupsPassed}
 use Rattle.mp4_tables.proofs.group_checks.read_groups.Given as goal
 

@@ -1,6 +1,6 @@
 use Rattle.std.proofs.Common.{arith, sym, ◌≤◌}
-use Rattle.mp4_tables.specs.Repeated.{repeated}
-use Rattle.mp4_tables.specs.Rows.{runs_at}
+use Rattle.mp4_tables.specs.format.Repeated.{repeated}
+use Rattle.mp4_tables.specs.words.Rows.{runs_at}
 use Rattle.mp4_tables.proofs.GroupLists.{run_value, index_ended, value_has}
 use Rattle.mp4_tables.proofs.groups.index_here.Goals as goal
 

@@ -1,6 +1,6 @@
 use Rattle.std.proofs.Common.{arith}
-use Rattle.mp4_tables.specs.Repeated.{repeated}
-use Rattle.mp4_tables.specs.Rows.{runs_at}
+use Rattle.mp4_tables.specs.format.Repeated.{repeated}
+use Rattle.mp4_tables.specs.words.Rows.{runs_at}
 use Rattle.mp4_tables.proofs.RowLists.{runs_length}
 use Rattle.mp4_tables.proofs.GroupLists.{run_passed, run_ended}
 use Rattle.mp4_tables.proofs.groups.pass_index.Goals as goal

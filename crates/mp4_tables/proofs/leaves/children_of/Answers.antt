@@ -1,5 +1,5 @@
-use Rattle.mp4_boxes.specs.View.{box_seen}
-use Rattle.mp4_tables.specs.Leaves.{boxes_of}
+use Rattle.mp4_boxes.specs.words.View.{box_seen}
+use Rattle.mp4_tables.specs.words.Leaves.{boxes_of}
 use Rattle.mp4_tables.proofs.LeafLists.{tiled_as_bytes}
 use Rattle.mp4_tables.proofs.leaves.children_of.Goals as goal
 

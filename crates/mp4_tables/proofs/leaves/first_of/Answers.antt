@@ -1,6 +1,6 @@
 use Rattle.std.proofs.Common.{sym, ◌∙◌}
-use Rattle.mp4_boxes.specs.View.{box_seen}
-use Rattle.mp4_tables.specs.Leaves.{boxes_of}
+use Rattle.mp4_boxes.specs.words.View.{box_seen}
+use Rattle.mp4_tables.specs.words.Leaves.{boxes_of}
 use Rattle.mp4_tables.proofs.LeafLists.{one_passed}
 use Rattle.mp4_tables.proofs.leaves.first_of.Goals as goal
 

@@ -1,5 +1,5 @@
 use Rattle.std.proofs.Common.{arith, sym, ◌∙◌}
-use Rattle.mp4_tables.specs.Rows.{runs_at}
+use Rattle.mp4_tables.specs.words.Rows.{runs_at}
 use Rattle.mp4_tables.proofs.RunLists.{below_yes, below_no, below_all}
 use Rattle.mp4_tables.proofs.runs.are_below.Goals as goal
 

@@ -1,6 +1,6 @@
 use Rattle.std.proofs.Common.{◌≡◌, ◌+◌, ◌≤◌, drop}
-use Rattle.mp4_tables.specs.Rows.{runs_at}
-use Rattle.mp4_tables.specs.Coming.{all_below}
+use Rattle.mp4_tables.specs.words.Rows.{runs_at}
+use Rattle.mp4_tables.specs.words.TablesComing.{all_below}
 use Rattle.mp4_tables.proofs.runs.are_below.Given as goal
 
 -- all are below exactly if the others are

@@ -1,6 +1,6 @@
 use Rattle.std.proofs.Common.{◌≡◌, ◌-◌, ◌≤◌}
-use Rattle.mp4_tables.specs.Rows.{runs_at}
-use Rattle.mp4_tables.specs.Coming.{coming}
+use Rattle.mp4_tables.specs.words.Rows.{runs_at}
+use Rattle.mp4_tables.specs.words.TablesComing.{coming}
 use Rattle.mp4_tables.proofs.runs.settle.Given as goal
 
 -- the values still to come are the same

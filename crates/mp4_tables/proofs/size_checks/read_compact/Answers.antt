@@ -1,9 +1,9 @@
 use Rattle.std.proofs.Common.{arith, sym, ap, refl, codes, ◌≡◌, ◌∙◌, length, List, ℕ, slice_index, subst}
 use Rattle.std.proofs.lemmas.Result.{err_from_is_err_and}
-use Rattle.mp4_boxes.specs.Bytes.{field}
-use Rattle.mp4_boxes.specs.Layout.{size_bits, is_size_bits}
-use Rattle.mp4_tables.specs.Leaves.{IsFormOf}
-use Rattle.mp4_boxes.specs.View.{box_seen}
+use Rattle.mp4_boxes.specs.format.Bytes.{field}
+use Rattle.mp4_boxes.specs.format.Layout.{size_bits, is_size_bits}
+use Rattle.mp4_tables.specs.words.Leaves.{IsFormOf}
+use Rattle.mp4_boxes.specs.words.View.{box_seen}
 use Rattle.mp4_tables.proofs.LeafRows.{lies_in, first_is_child}
 use Rattle.mp4_tables.proofs.SizeReads.{compact_version, compact_short, compact_many, compact_value, compact_read, compact_len_is, bits_are}
 use Rattle.mp4_tables.proofs.size_checks.read_compact.Goals as goal

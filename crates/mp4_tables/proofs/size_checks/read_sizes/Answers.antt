@@ -1,4 +1,4 @@
-use Rattle.mp4_boxes.specs.View.{box_seen}
+use Rattle.mp4_boxes.specs.words.View.{box_seen}
 use Rattle.mp4_tables.proofs.SizeReads.{compact_there}
 use Rattle.mp4_tables.proofs.size_checks.read_sizes.Goals as goal
 

@@ -1,7 +1,7 @@
 use Rattle.std.proofs.Common.{arith, sym, ap, codes, ◌≡◌, ◌∙◌, length, List, ℕ, true, false}
 use Rattle.std.proofs.lemmas.Result.{err_from_is_err_and}
-use Rattle.mp4_boxes.specs.Bytes.{field}
-use Rattle.mp4_boxes.specs.View.{box_seen}
+use Rattle.mp4_boxes.specs.format.Bytes.{field}
+use Rattle.mp4_boxes.specs.words.View.{box_seen}
 use Rattle.mp4_tables.proofs.LeafRows.{lies_in, first_is_child}
 use Rattle.mp4_tables.proofs.SizeReads.{words_version, words_short, words_rows_short, words_many, words_read, one_size_read, is_zero, is_some}
 use Rattle.mp4_tables.proofs.size_checks.read_words.Goals as goal

@@ -1,5 +1,5 @@
 use Rattle.std.proofs.Common.{arith, sym, refl, ◌∙◌}
-use Rattle.mp4_tables.specs.Rows.{chunk_rows_at, offsets_at, offset_width, sizes_at}
+use Rattle.mp4_tables.specs.words.Rows.{chunk_rows_at, offsets_at, offset_width, sizes_at}
 use Rattle.mp4_tables.proofs.RowLists.{chunk_rows_length, numbers_length, sizes_length}
 use Rattle.mp4_tables.proofs.SpotLists.{spot_left, spot_passed, within_yes, within_no, within_all}
 use Rattle.mp4_tables.proofs.spots.lie_within.Goals as goal

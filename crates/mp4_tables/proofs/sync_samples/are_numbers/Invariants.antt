@@ -1,6 +1,6 @@
 use Rattle.std.proofs.Common.{◌≡◌, ◌+◌, ◌≤◌, drop}
-use Rattle.mp4_tables.specs.Rows.{numbers_at}
-use Rattle.mp4_tables.specs.TableRules.{is_sync_order}
+use Rattle.mp4_tables.specs.words.Rows.{numbers_at}
+use Rattle.mp4_tables.specs.format.TableRules.{is_sync_order}
 use Rattle.mp4_tables.proofs.SyncLists.{in_order}
 use Rattle.mp4_tables.proofs.sync_samples.are_numbers.Given as goal
 

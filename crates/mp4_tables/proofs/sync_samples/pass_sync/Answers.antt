@@ -1,5 +1,5 @@
 use Rattle.std.proofs.Common.{arith}
-use Rattle.mp4_tables.specs.Rows.{numbers_at}
+use Rattle.mp4_tables.specs.words.Rows.{numbers_at}
 use Rattle.mp4_tables.proofs.RowLists.{numbers_length}
 use Rattle.mp4_tables.proofs.SyncLists.{sync_passed, sync_kept, sync_kept_last}
 use Rattle.mp4_tables.proofs.sync_samples.pass_sync.Goals as goal

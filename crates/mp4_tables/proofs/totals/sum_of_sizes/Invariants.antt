@@ -1,7 +1,7 @@
 use Rattle.std.proofs.Common.{ℕ, ◌≡◌, ◌+◌, ◌-◌, ◌^◌, ◌<◌, ◌≤◌, drop}
 use Rattle.std.specs.Prelude.{min}
-use Rattle.mp4_boxes.specs.Bytes.{sum_of}
-use Rattle.mp4_tables.specs.Rows.{sizes_at}
+use Rattle.mp4_boxes.specs.format.Bytes.{sum_of}
+use Rattle.mp4_tables.specs.words.Rows.{sizes_at}
 use Rattle.mp4_tables.proofs.totals.sum_of_sizes.Given as goal
 
 -- with the sizes that are left it is the sum of all

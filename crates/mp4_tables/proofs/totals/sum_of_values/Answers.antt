@@ -1,5 +1,5 @@
 use Rattle.std.proofs.Common.{rules}
-use Rattle.mp4_tables.specs.Rows.{runs_at}
+use Rattle.mp4_tables.specs.words.Rows.{runs_at}
 use Rattle.mp4_tables.proofs.Sums.{rows_all, repeated_sum}
 use Rattle.mp4_tables.proofs.totals.sum_of_values.Goals as goal
 

@@ -1,6 +1,6 @@
 use Rattle.std.proofs.Common.{◌≡◌, ◌+◌, ◌-◌, ◌^◌, ◌<◌, ◌≤◌, drop}
 use Rattle.std.specs.Prelude.{min}
-use Rattle.mp4_tables.specs.Rows.{runs_at}
+use Rattle.mp4_tables.specs.words.Rows.{runs_at}
 use Rattle.mp4_tables.proofs.Sums.{row_sums}
 use Rattle.mp4_tables.proofs.totals.sum_of_values.Given as goal
 

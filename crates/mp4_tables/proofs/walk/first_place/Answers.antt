@@ -1,5 +1,5 @@
 use Rattle.std.proofs.Common.{arith}
-use Rattle.mp4_tables.specs.Rows.{sizes_at}
+use Rattle.mp4_tables.specs.words.Rows.{sizes_at}
 use Rattle.mp4_tables.proofs.PlaceLists.{time_first, sync_ordered, chunks_ordered}
 use Rattle.mp4_tables.proofs.walk.first_place.Goals as goal
 

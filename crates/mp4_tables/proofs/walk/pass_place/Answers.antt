@@ -1,5 +1,5 @@
 use Rattle.std.proofs.Common.{◌<◌, ◌^◌, rules, arith}
-use Rattle.mp4_tables.specs.Rows.{offset_width}
+use Rattle.mp4_tables.specs.words.Rows.{offset_width}
 use Rattle.mp4_tables.proofs.RowLists.{numbers_length, chunk_rows_length}
 use Rattle.mp4_tables.proofs.PlaceLists.{duration_left, duration_within, offset_left, offset_within, chunk_left, end_fits, place_passed}
 use Rattle.mp4_tables.proofs.walk.pass_place.Goals as goal

@@ -1,9 +1,9 @@
 use Rattle.std.proofs.Common.{rules, ◌≡◌, ◌+◌, ◌++◌, ◌∷◌, List, Some, arith, ap, sym, ◌∙◌, subst}
 use Rattle.std.proofs.lemmas.Result.{err_from_is_err_and}
-use Rattle.mp4_boxes.specs.Box.{Box, Tiles, box_container}
-use Rattle.mp4_boxes.specs.View.{box_seen}
-use Rattle.mp4norm.specs.BoxWalk.{rule_inside, IsListed}
-use Rattle.mp4norm.specs.Texts.{box_line}
+use Rattle.mp4_boxes.specs.format.Box.{Box, Tiles, box_container}
+use Rattle.mp4_boxes.specs.words.View.{box_seen}
+use Rattle.mp4norm.specs.format.BoxWalk.{rule_inside, IsListed}
+use Rattle.mp4norm.specs.format.Texts.{box_line}
 use Rattle.mp4norm.proofs.BoxLists.{listed_more, listed_all, listed_inside, inside_lower, tiles_box, part_added, seen_here, refuses_above}
 use Rattle.mp4norm.proofs.boxes.+push_box.Goals as goal
 

@@ -1,5 +1,5 @@
 use Rattle.std.proofs.Common.{◌+◌}
-use Rattle.mp4norm.specs.BoxWalk.{height, IsListed}
+use Rattle.mp4norm.specs.format.BoxWalk.{height, IsListed}
 use Rattle.mp4norm.proofs.BoxLists.{Listed}
 use Rattle.mp4norm.proofs.boxes.+push_box.Given as goal
 

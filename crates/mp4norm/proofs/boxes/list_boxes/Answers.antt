@@ -2,7 +2,7 @@ use Rattle.std.proofs.Common.{◌+◌, ◌∙◌, [], drop, get_or, refl}
 use Rattle.std.proofs.lemmas.Result.{err_from_is_err_and}
 use Rattle.mp4_boxes.specs.declared.rule.Rule.TheVariants.{File}
 use Rattle.mp4_present.specs.declared.reading.TopBox.{TopBox}
-use Rattle.mp4norm.specs.BoxWalk.{IsListed, top_seen, tops_seen}
+use Rattle.mp4norm.specs.format.BoxWalk.{IsListed, top_seen, tops_seen}
 use Rattle.mp4norm.proofs.BoxLists.{listed_none, listed_more, refuses_tops, tops_more, tops_split}
 use Rattle.mp4norm.proofs.boxes.list_boxes.Goals as goal
 

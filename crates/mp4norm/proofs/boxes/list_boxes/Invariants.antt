@@ -1,7 +1,7 @@
 use Rattle.std.proofs.Common.{◌≡◌, [], drop}
 use Rattle.std.specs.Prelude.{IsTrue}
 use Rattle.mp4_boxes.specs.declared.rule.Rule.TheVariants.{File}
-use Rattle.mp4norm.specs.BoxWalk.{IsListed, tops_seen}
+use Rattle.mp4norm.specs.format.BoxWalk.{IsListed, tops_seen}
 use Rattle.mp4norm.proofs.BoxLists.{Listed}
 use Rattle.mp4norm.proofs.boxes.list_boxes.Given as goal
 

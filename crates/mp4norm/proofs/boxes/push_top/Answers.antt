@@ -1,7 +1,7 @@
 use Rattle.std.proofs.Common.{◌+◌, ◌∙◌, ap}
-use Rattle.mp4_boxes.specs.View.{box_seen}
+use Rattle.mp4_boxes.specs.words.View.{box_seen}
 use Rattle.mp4_boxes.specs.declared.rule.Rule.TheVariants.{File}
-use Rattle.mp4norm.specs.BoxWalk.{RefusesInside, RefusesTop, top_seen}
+use Rattle.mp4norm.specs.format.BoxWalk.{RefusesInside, RefusesTop, top_seen}
 use Rattle.mp4norm.proofs.BoxLists.{if_err, refuses_top, top_read}
 use Rattle.mp4norm.proofs.boxes.push_top.Goals as goal
 

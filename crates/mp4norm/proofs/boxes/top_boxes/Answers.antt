@@ -4,7 +4,7 @@ use Rattle.std.proofs.lemmas.List.{map_push}
 use Rattle.std.proofs.lemmas.List.Elements.{All-push}
 use Rattle.mp4_present.specs.declared.reading.TopBox.{TopBox}
 use Rattle.mp4_present.proofs.TopLevel.{top_more, top_tiles}
-use Rattle.mp4norm.specs.BoxWalk.{tops_seen, IsWithin}
+use Rattle.mp4norm.specs.format.BoxWalk.{tops_seen, IsWithin}
 use Rattle.mp4norm.proofs.BoxLists.{refuses_header}
 use Rattle.mp4norm.proofs.boxes.top_boxes.Goals as goal
 

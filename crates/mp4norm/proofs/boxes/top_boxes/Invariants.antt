@@ -2,7 +2,7 @@ use Rattle.std.proofs.Common.{◌≡◌, ◌-◌}
 use Rattle.std.specs.Prelude.{IsTrue}
 use Rattle.std.specs.List.{All}
 use Rattle.mp4_present.proofs.TopLevel.{TopPassed}
-use Rattle.mp4norm.specs.BoxWalk.{tops_seen, IsWithin}
+use Rattle.mp4norm.specs.format.BoxWalk.{tops_seen, IsWithin}
 use Rattle.mp4norm.proofs.boxes.top_boxes.Given as goal
 
 -- boxes lie from the front of the file up to the place

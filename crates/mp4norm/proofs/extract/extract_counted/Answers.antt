@@ -1,9 +1,9 @@
 use Rattle.std.proofs.Common.{refl}
 use Rattle.std.proofs.lemmas.Result.{err_from_is_err_and}
-use Rattle.mp4_present.specs.Coming.{track_samples}
+use Rattle.mp4_present.specs.words.SamplesComing.{track_samples}
 use Rattle.mp4_present.proofs.WalkCopied.{on_ok, on_err}
-use Rattle.mp4_present.specs.Joined.{sample_bytes}
-use Rattle.mp4norm.specs.Commands.{HasData}
+use Rattle.mp4_present.specs.words.Joined.{sample_bytes}
+use Rattle.mp4norm.specs.words.Commands.{HasData}
 use Rattle.mp4norm.proofs.TrackTexts.{track_found, lacks, has_data, open_refuses, text_refuses}
 use Rattle.mp4norm.proofs.extract.extract_counted.Goals as goal
 

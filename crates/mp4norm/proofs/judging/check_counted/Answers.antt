@@ -1,7 +1,7 @@
 use Rattle.std.proofs.Common.{None}
 use Rattle.std.proofs.lemmas.Result.{err_from_is_err_and}
-use Rattle.mp4_present.specs.Denotes.{presentation_of}
-use Rattle.mp4_plan.specs.Normal.{normal}
+use Rattle.mp4_present.specs.format.Denotes.{presentation_of}
+use Rattle.mp4_plan.specs.format.Normal.{normal}
 use Rattle.mp4norm.proofs.Normalised.{open_refuses, normal_form}
 use Rattle.mp4norm.proofs.Judged.{plan_refuses}
 use Rattle.mp4norm.proofs.judging.check_counted.Goals as goal

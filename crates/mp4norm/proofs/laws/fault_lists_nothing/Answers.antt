@@ -1,4 +1,4 @@
-use Rattle.mp4_boxes.specs.Box.{file_container}
+use Rattle.mp4_boxes.specs.format.Box.{file_container}
 use Rattle.mp4_boxes.specs.declared.rule.Rule.TheVariants.{File}
 use Rattle.mp4norm.proofs.BoxLaws.{listed_refuses}
 use Rattle.mp4norm.proofs.laws.fault_lists_nothing.Goals as goal

@@ -1,5 +1,5 @@
 use Rattle.std.proofs.Common.{arith}
-use Rattle.mp4_boxes.specs.Box.{file_container}
+use Rattle.mp4_boxes.specs.format.Box.{file_container}
 use Rattle.mp4_boxes.specs.declared.rule.Rule.TheVariants.{File}
 use Rattle.mp4norm.proofs.BoxLaws.{levels_fall}
 use Rattle.mp4norm.proofs.BoxLists.{levels_rise}

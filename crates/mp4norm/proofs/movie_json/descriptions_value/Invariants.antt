@@ -1,7 +1,7 @@
 use Rattle.std.proofs.Common.{◌≡◌, take, map}
 use Rattle.serde_json.specs.View.{view}
-use Rattle.mp4_head.specs.Seen.{description_seen}
-use Rattle.mp4norm.specs.Texts.{description_value}
+use Rattle.mp4_head.specs.words.Seen.{description_seen}
+use Rattle.mp4norm.specs.format.Texts.{description_value}
 use Rattle.mp4norm.proofs.movie_json.descriptions_value.Given as goal
 
 abbrev pub invariant-loop-description : goal.invariant-loop-description

@@ -1,7 +1,7 @@
 use Rattle.std.proofs.Common.{◌≡◌, take, map}
 use Rattle.serde_json.specs.View.{view}
-use Rattle.mp4_head.specs.Seen.{edit_seen}
-use Rattle.mp4norm.specs.Texts.{edit_value}
+use Rattle.mp4_head.specs.words.Seen.{edit_seen}
+use Rattle.mp4norm.specs.format.Texts.{edit_value}
 use Rattle.mp4norm.proofs.movie_json.edits_value.Given as goal
 
 abbrev pub invariant-loop-edit : goal.invariant-loop-edit

@@ -1,6 +1,6 @@
 use Rattle.std.specs.Prelude.{string_bytes}
-use Rattle.mp4_head.specs.Seen.{movie_seen, tracks_seen}
-use Rattle.mp4norm.specs.ShowValue.{ShowValue}
+use Rattle.mp4_head.specs.words.Seen.{movie_seen, tracks_seen}
+use Rattle.mp4norm.specs.words.ShowValue.{ShowValue}
 use Rattle.mp4norm.proofs.ShownTracks.{shown-has_float, text_of}
 use Rattle.mp4norm.proofs.movie_json.show_text.Goals as goal
 

@@ -3,8 +3,8 @@ use Rattle.std.proofs.lemmas.List.{map_push}
 use Rattle.serde_json.specs.Data.{array}
 use Rattle.serde_json.specs.View.{view, items_of}
 use Rattle.serde_json.proofs.Views.{view-Array}
-use Rattle.mp4_head.specs.Seen.{track_seen}
-use Rattle.mp4norm.specs.ShowValue.{infos_values}
+use Rattle.mp4_head.specs.words.Seen.{track_seen}
+use Rattle.mp4norm.specs.words.ShowValue.{infos_values}
 use Rattle.mp4norm.proofs.ShownTracks.{infos_more, infos_all}
 use Rattle.mp4norm.proofs.movie_json.tracks_value.Goals as goal
 

@@ -1,7 +1,7 @@
 use Rattle.std.proofs.Common.{◌≡◌, ◌++◌, map}
 use Rattle.serde_json.specs.View.{view}
-use Rattle.mp4_head.specs.Seen.{track_seen}
-use Rattle.mp4norm.specs.ShowValue.{infos_values}
+use Rattle.mp4_head.specs.words.Seen.{track_seen}
+use Rattle.mp4norm.specs.words.ShowValue.{infos_values}
 use Rattle.mp4norm.proofs.movie_json.tracks_value.Given as goal
 
 -- the values so far, and those of the tracks to come

@@ -1,7 +1,7 @@
 use Rattle.std.proofs.Common.{◌≡◌, ◌+◌, ◌^◌, ◌<◌, ◌∙◌, length, arith}
 use Rattle.std.proofs.lemmas.Result.{err_from_is_err_and}
-use Rattle.mp4_present.specs.Carried.{waiting}
-use Rattle.mp4norm.specs.Texts.{sample_at_lines}
+use Rattle.mp4_present.specs.words.Carried.{waiting}
+use Rattle.mp4norm.specs.format.Texts.{sample_at_lines}
 use Rattle.mp4norm.proofs.Going.{going_more, going_fails, one_fewer}
 use Rattle.mp4norm.proofs.sample_lines.put_lines.Goals as goal
 

@@ -1,6 +1,6 @@
 use Rattle.std.proofs.Common.{◌≡◌, ◌+◌, ◌^◌, ◌<◌, length}
-use Rattle.mp4_present.specs.Carried.{waiting}
-use Rattle.mp4norm.specs.Texts.{sample_at_lines}
+use Rattle.mp4_present.specs.words.Carried.{waiting}
+use Rattle.mp4norm.specs.format.Texts.{sample_at_lines}
 use Rattle.mp4norm.proofs.Going.{Going}
 use Rattle.mp4norm.proofs.sample_lines.put_lines.Given as goal
 

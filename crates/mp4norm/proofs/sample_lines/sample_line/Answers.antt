@@ -1,6 +1,6 @@
 use Rattle.std.proofs.Common.{rules, ◌≡◌, to_z, of_z, w32, pos, ◌+ℤ◌, decimal}
 use Rattle.std.specs.Fmt.{signed_decimal}
-use Rattle.mp4norm.specs.Texts.{hex_digits}
+use Rattle.mp4norm.specs.format.Texts.{hex_digits}
 use Rattle.mp4norm.proofs.LineParts.{seven_fields}
 use Rattle.mp4norm.proofs.sample_lines.sample_line.Goals as goal
 

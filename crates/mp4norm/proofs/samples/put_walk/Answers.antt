@@ -1,9 +1,9 @@
 use Rattle.std.proofs.Common.{refl, ◌∙◌}
 use Rattle.std.proofs.lemmas.Result.{err_from_is_err_and}
-use Rattle.mp4_present.specs.Carried.{waiting}
-use Rattle.mp4_present.specs.Coming.{samples_behind}
+use Rattle.mp4_present.specs.words.Carried.{waiting}
+use Rattle.mp4_present.specs.words.SamplesComing.{samples_behind}
 use Rattle.mp4_present.proofs.WalkCopied.{on_ok, on_err, if_err, put_unchanged, loads_more, loads_none}
-use Rattle.mp4norm.specs.Texts.{sample_at_lines}
+use Rattle.mp4norm.specs.format.Texts.{sample_at_lines}
 use Rattle.mp4norm.proofs.Going.{going_none}
 use Rattle.mp4norm.proofs.WalkLines.{lines_next, lines_fail, lines_stop, lines_whole, lines_not_put}
 use Rattle.mp4norm.proofs.samples.put_walk.Goals as goal

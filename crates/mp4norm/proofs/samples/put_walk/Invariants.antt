@@ -1,12 +1,12 @@
 use Rattle.std.proofs.Common.{◌≡◌, ◌-◌, ◌^◌, ◌<◌, List, length}
 use Rattle.std.specs.Prelude.{IsTrue}
-use Rattle.mp4_head.specs.Tree.{TrackTree}
+use Rattle.mp4_head.specs.format.Tree.{TrackTree}
 use Rattle.mp4_tables.specs.declared.sample.SampleAt.{SampleAt}
-use Rattle.mp4_present.specs.Carried.{waiting}
-use Rattle.mp4_present.specs.Coming.{Comes}
-use Rattle.mp4_present.specs.Denotes.{FileTree}
-use Rattle.mp4_present.specs.Movies.{IsWalkOf}
-use Rattle.mp4_present.specs.OpenedMovie.{IsOpenedAs}
+use Rattle.mp4_present.specs.words.Carried.{waiting}
+use Rattle.mp4_present.specs.words.SamplesComing.{Comes}
+use Rattle.mp4_present.specs.format.Denotes.{FileTree}
+use Rattle.mp4_present.specs.words.Movies.{IsWalkOf}
+use Rattle.mp4_present.specs.words.OpenedMovie.{IsOpenedAs}
 use Rattle.mp4norm.proofs.WalkLines.{LinesGoOn}
 use Rattle.mp4norm.proofs.samples.put_walk.Given as goal
 

@@ -1,10 +1,10 @@
 use Rattle.std.proofs.Common.{refl}
 use Rattle.std.proofs.lemmas.Result.{err_from_is_err_and}
-use Rattle.mp4_present.specs.Coming.{track_samples}
+use Rattle.mp4_present.specs.words.SamplesComing.{track_samples}
 use Rattle.mp4_present.proofs.WalkCopied.{on_ok, on_err, if_err}
 use Rattle.mp4_present.proofs.Causes.{copy_not_carried}
-use Rattle.mp4norm.specs.Commands.{ListsSamples}
-use Rattle.mp4norm.specs.Texts.{sample_at_lines}
+use Rattle.mp4norm.specs.words.Commands.{ListsSamples}
+use Rattle.mp4norm.specs.format.Texts.{sample_at_lines}
 use Rattle.mp4norm.proofs.TrackTexts.{track_found, lacks, lists, open_refuses, text_refuses}
 use Rattle.mp4norm.proofs.samples.samples_counted.Goals as goal
 

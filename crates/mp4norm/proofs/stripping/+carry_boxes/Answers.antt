@@ -1,9 +1,9 @@
 use Rattle.std.proofs.Common.{rules, ◌≡◌, ◌-◌, ◌≤◌, ℕ, List, length, ◌∙◌, sym, subst, Some, None, true, false, refl, arith}
 use Rattle.std.proofs.lemmas.Result.{err_from_is_err_and}
-use Rattle.mp4_store.specs.Device.{range}
-use Rattle.mp4_present.specs.Carried.{waiting}
-use Rattle.mp4norm.specs.BoxWalk.{rule_inside}
-use Rattle.mp4norm.specs.Strips.{is_named}
+use Rattle.mp4_store.specs.words.Device.{range}
+use Rattle.mp4_present.specs.words.Carried.{waiting}
+use Rattle.mp4norm.specs.format.BoxWalk.{rule_inside}
+use Rattle.mp4norm.specs.format.Strips.{is_named}
 use Rattle.mp4norm.proofs.BoxLists.{inside_lower}
 use Rattle.mp4norm.proofs.HeadersUnder.{some_there}
 use Rattle.mp4norm.proofs.StripCopies.{copying_none, copying_all, copying_stops, copy_freed, freed_fails, copy_kept, kept_fails, copy_entered, entered_header_fails, entered_fails, entered_part, again_unchanged, again_carried, range_unchanged, range_carried}

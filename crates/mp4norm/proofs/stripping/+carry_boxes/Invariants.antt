@@ -1,9 +1,9 @@
 use Rattle.std.proofs.Common.{◌≡◌, ◌-◌, ◌≤◌, ℕ, List}
 use Rattle.std.specs.Prelude.{IsTrue}
-use Rattle.mp4_store.specs.Device.{range}
-use Rattle.mp4_present.specs.Carried.{waiting}
-use Rattle.mp4norm.specs.BoxWalk.{height}
-use Rattle.mp4norm.specs.Strips.{Strips}
+use Rattle.mp4_store.specs.words.Device.{range}
+use Rattle.mp4_present.specs.words.Carried.{waiting}
+use Rattle.mp4norm.specs.format.BoxWalk.{height}
+use Rattle.mp4norm.specs.format.Strips.{Strips}
 use Rattle.mp4norm.proofs.StripCopies.{Copying}
 use Rattle.mp4norm.proofs.stripping.+carry_boxes.Given as goal
 

@@ -1,7 +1,7 @@
 use Rattle.std.proofs.Common.{rules, ◌≡◌, ◌+◌, ◌≤◌, ℕ, List, length, ◌∙◌, sym, subst, [], Some, None, true, false, arith}
 use Rattle.std.proofs.lemmas.Result.{err_from_is_err_and}
-use Rattle.mp4norm.specs.BoxWalk.{rule_inside}
-use Rattle.mp4norm.specs.Strips.{is_named}
+use Rattle.mp4norm.specs.format.BoxWalk.{rule_inside}
+use Rattle.mp4norm.specs.format.Strips.{is_named}
 use Rattle.mp4norm.proofs.BoxLists.{inside_lower}
 use Rattle.mp4norm.proofs.HeadersUnder.{refuses_walk, refuses_inside}
 use Rattle.mp4norm.proofs.StripWalks.{walk_ends, walk_frees, walk_keeps, walk_enters, halts_behind, halts_within}

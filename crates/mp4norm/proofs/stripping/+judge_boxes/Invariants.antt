@@ -1,9 +1,9 @@
 use Rattle.std.proofs.Common.{◌≡◌, ◌-◌, ◌≤◌}
 use Rattle.std.specs.Prelude.{IsTrue}
 use Rattle.mp4_boxes.specs.declared.fault.Fault.{Fault}
-use Rattle.mp4_store.specs.Device.{range}
-use Rattle.mp4norm.specs.BoxWalk.{height}
-use Rattle.mp4norm.specs.Strips.{Halts}
+use Rattle.mp4_store.specs.words.Device.{range}
+use Rattle.mp4norm.specs.format.BoxWalk.{height}
+use Rattle.mp4norm.specs.format.Strips.{Halts}
 use Rattle.mp4norm.proofs.StripWalks.{HasText}
 use Rattle.mp4norm.proofs.stripping.+judge_boxes.Given as goal
 

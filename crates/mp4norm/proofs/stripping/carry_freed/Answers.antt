@@ -1,5 +1,5 @@
 use Rattle.std.proofs.lemmas.Result.{err_from_is_err_and}
-use Rattle.mp4_present.specs.Carried.{waiting}
+use Rattle.mp4_present.specs.words.Carried.{waiting}
 use Rattle.mp4_present.proofs.WalkCopied.{on_ok, on_err}
 use Rattle.mp4norm.proofs.StripCopies.{size_fails, type_fails, freed_goes, rest_fails}
 use Rattle.mp4norm.proofs.stripping.carry_freed.Goals as goal

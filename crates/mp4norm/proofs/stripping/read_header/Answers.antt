@@ -1,8 +1,8 @@
 use Rattle.std.proofs.Common.{rules, ◌-◌, Ok, Err}
 use Rattle.std.proofs.lemmas.Result.{err_from_is_err_and}
-use Rattle.mp4_boxes.specs.View.{top_header_seen}
-use Rattle.mp4_store.specs.Device.{range}
-use Rattle.mp4norm.specs.Strips.{holder, is_top}
+use Rattle.mp4_boxes.specs.words.View.{top_header_seen}
+use Rattle.mp4_store.specs.words.Device.{range}
+use Rattle.mp4norm.specs.format.Strips.{holder, is_top}
 use Rattle.mp4norm.proofs.HeadersUnder.{read_under, header_is_at}
 use Rattle.mp4norm.proofs.stripping.read_header.Goals as goal
 

@@ -1,8 +1,8 @@
 use Rattle.std.proofs.Common.{◌≡◌, ◌-◌, ◌≤◌}
 use Rattle.std.specs.Prelude.{IsTrue}
 use Rattle.mp4_boxes.specs.declared.fault.Fault.{Fault}
-use Rattle.mp4_store.specs.Device.{range}
-use Rattle.mp4norm.specs.Strips.{Halts}
+use Rattle.mp4_store.specs.words.Device.{range}
+use Rattle.mp4norm.specs.format.Strips.{Halts}
 use Rattle.mp4norm.proofs.stripping.read_headers.Given as goal
 
 -- a fault from the place on is one of the container

@@ -1,6 +1,6 @@
 use Rattle.std.proofs.Common.{◌∙◌}
 use Rattle.std.proofs.lemmas.Result.{err_from_is_err_and}
-use Rattle.mp4_present.specs.Carried.{waiting}
+use Rattle.mp4_present.specs.words.Carried.{waiting}
 use Rattle.mp4_present.proofs.WalkCopied.{on_ok, on_err}
 use Rattle.mp4norm.proofs.Stripped.{of_file, walk_refuses, carry_refuses, flush_refuses, all_put, end_fails}
 use Rattle.mp4norm.proofs.stripping.strip.Goals as goal

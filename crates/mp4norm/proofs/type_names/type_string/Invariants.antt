@@ -1,6 +1,6 @@
 use Rattle.std.proofs.Common.{◌≡◌, take, string_bytes}
 use Rattle.std.specs.List.{flat_map}
-use Rattle.mp4norm.specs.Texts.{hex_digits}
+use Rattle.mp4norm.specs.format.Texts.{hex_digits}
 use Rattle.mp4norm.proofs.type_names.type_string.Given as goal
 
 -- the bytes so far are written

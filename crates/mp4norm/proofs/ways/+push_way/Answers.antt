@@ -1,10 +1,10 @@
 use Rattle.std.proofs.Common.{rules, ◌≡◌, ◌++◌, [], Some, arith, sym}
 use Rattle.std.specs.Prelude.{codes}
 use Rattle.std.proofs.lemmas.List.{append-nil}
-use Rattle.mp4_boxes.specs.View.{box_seen}
+use Rattle.mp4_boxes.specs.words.View.{box_seen}
 use Rattle.mp4_present.proofs.WalkCopied.{on_ok}
-use Rattle.mp4norm.specs.BoxWalk.{rule_inside}
-use Rattle.mp4norm.specs.Ways.{step_text, ends}
+use Rattle.mp4norm.specs.format.BoxWalk.{rule_inside}
+use Rattle.mp4norm.specs.format.Ways.{step_text, ends}
 use Rattle.mp4norm.proofs.BoxLists.{inside_lower}
 use Rattle.mp4norm.proofs.WaysTo.{one_step, more_steps}
 use Rattle.mp4norm.proofs.ways.+push_way.Goals as goal

@@ -1,4 +1,4 @@
-use Rattle.mp4norm.specs.BoxWalk.{height}
+use Rattle.mp4norm.specs.format.BoxWalk.{height}
 use Rattle.mp4norm.proofs.ways.+push_way.Given as goal
 
 abbrev pub decreases-push_way : goal.decreases-push_way

@@ -1,4 +1,4 @@
-use Rattle.mp4_boxes.specs.View.{box_seen}
+use Rattle.mp4_boxes.specs.words.View.{box_seen}
 use Rattle.mp4norm.proofs.WaysTo.{passed_more}
 use Rattle.mp4norm.proofs.ways.child_at.Goals as goal
 

@@ -1,6 +1,6 @@
 use Rattle.std.proofs.Common.{rules, ◌≡◌, ℕ, List, ◌++◌, refl, ap, ◌∙◌}
-use Rattle.mp4norm.specs.BoxWalk.{top_seen}
-use Rattle.mp4norm.specs.Ways.{step_text}
+use Rattle.mp4norm.specs.format.BoxWalk.{top_seen}
+use Rattle.mp4norm.specs.format.Ways.{step_text}
 use Rattle.mp4norm.proofs.WaysTo.{top_goes}
 use Rattle.mp4norm.proofs.ways.way_to.Goals as goal
 

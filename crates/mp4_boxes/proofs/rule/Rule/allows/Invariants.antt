@@ -1,8 +1,8 @@
 use Rattle.std.proofs.Common.{◌≡◌, drop}
 use Rattle.std.specs.Prelude.{◌||◌}
 use Rattle.std.specs.List.{list_any}
-use Rattle.mp4_boxes.specs.Children.{Line, allows, is_among, free_space}
-use Rattle.mp4_boxes.specs.Lines.{lines_seen}
+use Rattle.mp4_boxes.specs.format.Children.{Line, allows, is_among, free_space}
+use Rattle.mp4_boxes.specs.words.Lines.{lines_seen}
 use Rattle.mp4_boxes.proofs.rule.Rule.allows.Given as goal
 
 -- no line before speaks of the type

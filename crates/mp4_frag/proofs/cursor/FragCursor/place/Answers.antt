@@ -1,6 +1,6 @@
 use Rattle.std.proofs.Common.{◌≡◌, ap, ◌∙◌, arith}
-use Rattle.mp4_frag.specs.PlacesIn.{moof_work}
-use Rattle.mp4_frag.specs.Views.{CursorSeen}
+use Rattle.mp4_frag.specs.words.PlacesIn.{moof_work}
+use Rattle.mp4_frag.specs.words.FragmentsSeen.{CursorSeen}
 use Rattle.mp4_frag.proofs.WalkBound.{walk_said}
 use Rattle.mp4_frag.proofs.cursor.FragCursor.place.Goals as goal
 

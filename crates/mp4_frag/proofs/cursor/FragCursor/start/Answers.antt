@@ -1,10 +1,10 @@
 use Rattle.std.proofs.Common.{◌≡◌, ◌^◌, ◌<◌, ◌≤◌, length, take, ap, sym, subst, ◌∙◌, arith}
-use Rattle.mp4_boxes.specs.Bytes.{AreBytes}
-use Rattle.mp4_boxes.specs.Box.{Box}
+use Rattle.mp4_boxes.specs.format.Bytes.{AreBytes}
+use Rattle.mp4_boxes.specs.format.Box.{Box}
 use Rattle.std.proofs.lemmas.List.{length-map, length-take}
-use Rattle.mp4_tables.specs.Keys.{key_seen, keys_seen}
-use Rattle.mp4_frag.specs.Views.{moof_seen}
-use Rattle.mp4_frag.specs.Walks.{samples_coming, samples_in}
+use Rattle.mp4_tables.specs.words.Keys.{key_seen, keys_seen}
+use Rattle.mp4_frag.specs.words.FragmentsSeen.{moof_seen}
+use Rattle.mp4_frag.specs.words.Walks.{samples_coming, samples_in}
 use Rattle.mp4_frag.proofs.Comings.{started}
 use Rattle.mp4_frag.proofs.MoofTied.{moof_tied}
 use Rattle.mp4_frag.proofs.cursor.FragCursor.start.Goals as goal

@@ -1,6 +1,6 @@
 use Rattle.std.proofs.Common.{◌≡◌, ap, sym, ◌∙◌, arith}
 use Rattle.std.specs.Prelude.{slice_get}
-use Rattle.mp4_frag.specs.Walks.{walk_of, samples_coming}
+use Rattle.mp4_frag.specs.words.Walks.{walk_of, samples_coming}
 use Rattle.mp4_frag.proofs.Comings.{none_to_come}
 use Rattle.mp4_frag.proofs.cursor.FragCursorSamples.peek.Goals as goal
 

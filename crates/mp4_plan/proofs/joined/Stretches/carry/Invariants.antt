@@ -1,7 +1,7 @@
 use Rattle.std.specs.Prelude.{vec_len, IsTrue}
 use Rattle.std.proofs.Common.{◌≡◌, ◌∷◌, ◌++◌, [], take, drop}
-use Rattle.mp4_present.specs.Carried.{waiting}
-use Rattle.mp4_plan.specs.Stretches.{spans_of}
+use Rattle.mp4_present.specs.words.Carried.{waiting}
+use Rattle.mp4_plan.specs.words.Stretches.{spans_of}
 use Rattle.mp4_plan.proofs.Stretched.{SpansCarried}
 use Rattle.mp4_plan.proofs.joined.Stretches.carry.Given as goal
 

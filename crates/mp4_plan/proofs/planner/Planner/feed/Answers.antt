@@ -1,5 +1,5 @@
 use Rattle.std.proofs.Common.{◌∙◌, ap, sym, arith}
-use Rattle.mp4_plan.specs.Gathering.{answer, more_of, piece_fed, samples_after}
+use Rattle.mp4_plan.specs.words.Gathering.{answer, more_of, piece_fed, samples_after}
 use Rattle.mp4_plan.proofs.PlannerSteps.{fed_more, after_more, fed_none, after_none, closed, none_is, more_of-nil, first_is, count_with, length_rest}
 use Rattle.mp4_plan.proofs.planner.Planner.feed.Goals as goal
 

@@ -1,5 +1,5 @@
 use Rattle.std.proofs.Common.{◌≡◌, ◌+◌, ◌^◌, ◌<◌, length}
-use Rattle.mp4_plan.specs.Gathering.{count_of, piece_fed, samples_after}
+use Rattle.mp4_plan.specs.words.Gathering.{count_of, piece_fed, samples_after}
 use Rattle.mp4_plan.proofs.planner.Planner.feed.Given as goal
 
 -- what is fed in the end, and what is left then, is settled from the start

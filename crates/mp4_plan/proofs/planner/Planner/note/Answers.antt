@@ -1,6 +1,6 @@
 use Rattle.std.proofs.Common.{List, sym, subst, arith, rules}
 use Rattle.mp4_tables.specs.declared.sample.SampleAt.{SampleAt}
-use Rattle.mp4_plan.specs.Stretches.{JoinsOn}
+use Rattle.mp4_plan.specs.words.Stretches.{JoinsOn}
 use Rattle.mp4_plan.proofs.HandSteps.{notes_none, notes_one, notes_empty, notes_ended, notes_full, taken_more, taken_counted}
 use Rattle.mp4_plan.proofs.Stretched.{joins_none, joins_then}
 use Rattle.mp4_plan.proofs.PlannerSteps.{count_with}

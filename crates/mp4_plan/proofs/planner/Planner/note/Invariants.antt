@@ -1,6 +1,6 @@
 use Rattle.std.proofs.Common.{◌≡◌, ◌+◌, ◌-◌, length, take}
-use Rattle.mp4_plan.specs.Gathering.{count_of}
-use Rattle.mp4_plan.specs.Stretches.{JoinsOn}
+use Rattle.mp4_plan.specs.words.Gathering.{count_of}
+use Rattle.mp4_plan.specs.words.Stretches.{JoinsOn}
 use Rattle.mp4_plan.proofs.HandSteps.{NotesUpTo}
 use Rattle.mp4_plan.proofs.planner.Planner.note.Given as goal
 

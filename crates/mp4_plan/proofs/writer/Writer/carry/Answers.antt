@@ -1,19 +1,19 @@
 use Rattle.std.proofs.Common.{get_or, ℕ, List, take, map, refl, sym, ap, subst, ◌∙◌, arith}
 use Rattle.std.specs.Prelude.{codes}
 use Rattle.std.proofs.lemmas.Result.{err_from_is_err_and}
-use Rattle.mp4_boxes.specs.Written.{header_bytes}
-use Rattle.mp4_tables.specs.Keys.{keys_seen}
-use Rattle.mp4_present.specs.Joined.{sample_bytes}
+use Rattle.mp4_boxes.specs.format.Written.{header_bytes}
+use Rattle.mp4_tables.specs.words.Keys.{keys_seen}
+use Rattle.mp4_present.specs.words.Joined.{sample_bytes}
 use Rattle.mp4_present.specs.declared.track_info.TrackInfo.{TrackInfo}
 use Rattle.mp4_present.proofs.WalkCopied.{put_unchanged, on_ok, on_err}
-use Rattle.mp4_plan.specs.Spelling.{run_rows}
-use Rattle.mp4_plan.specs.Taken.{row_seen}
-use Rattle.mp4_plan.specs.UsedKeys.{AreApart, groups_bytes}
+use Rattle.mp4_plan.specs.words.Spelling.{run_rows}
+use Rattle.mp4_plan.specs.words.Taken.{row_seen}
+use Rattle.mp4_plan.specs.words.UsedKeys.{AreApart, groups_bytes}
 use Rattle.mp4_plan.proofs.CarriedParts.{parts_are, read_at, noted_with}
 use Rattle.mp4_plan.proofs.PartsPut.{go_five, stop_one, stop_two, stop_three, stop_four, stop_five}
 use Rattle.mp4_plan.proofs.FrontsPut.{front_as}
 use Rattle.mp4_plan.proofs.Pushes.{goes_on_as}
-use Rattle.mp4_present.specs.Carried.{waiting}
+use Rattle.mp4_present.specs.words.Carried.{waiting}
 use Rattle.mp4_plan.proofs.writer.Writer.carry.Goals as goal
 
 pub moof_front-front-requires : goal.moof_front-front-requires

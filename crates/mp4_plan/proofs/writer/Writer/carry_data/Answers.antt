@@ -5,12 +5,12 @@ use Rattle.std.proofs.lemmas.Option.{slice_get_read}
 use Rattle.std.proofs.lemmas.Result.{err_from_is_err_and}
 use Rattle.mp4_boxes.proofs.Each.{each_taken}
 use Rattle.mp4_tables.specs.declared.sample.SampleAt.{SampleAt}
-use Rattle.mp4_present.specs.Carried.{waiting}
-use Rattle.mp4_present.specs.Coming.{Comes}
-use Rattle.mp4_present.specs.Joined.{IsBelow, sample_bytes}
+use Rattle.mp4_present.specs.words.Carried.{waiting}
+use Rattle.mp4_present.specs.words.SamplesComing.{Comes}
+use Rattle.mp4_present.specs.words.Joined.{IsBelow, sample_bytes}
 use Rattle.mp4_present.specs.declared.walks.Walk.{Walk}
 use Rattle.mp4_present.proofs.WalkCopied.{on_ok, on_err}
-use Rattle.mp4_plan.specs.HandsFed.{sizes_of}
+use Rattle.mp4_plan.specs.words.HandsFed.{sizes_of}
 use Rattle.mp4_plan.proofs.AllTake.{ok_takes, err_stops}
 use Rattle.mp4_plan.proofs.CarriedParts.{read_at, copied_from, those_behind, within_all, more_behind, none_behind}
 use Rattle.mp4_plan.proofs.ComeAt.{set_same}

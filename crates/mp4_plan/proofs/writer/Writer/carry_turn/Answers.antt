@@ -2,7 +2,7 @@ use Rattle.std.proofs.Common.{List, sym, subst}
 use Rattle.std.proofs.lemmas.Result.{err_from_is_err_and}
 use Rattle.mp4_tables.specs.declared.sample.SampleAt.{SampleAt}
 use Rattle.mp4_present.proofs.Carrying.{BytesGoOn-nothing}
-use Rattle.mp4_plan.specs.Writers.{ComesBehind}
+use Rattle.mp4_plan.specs.words.Writers.{ComesBehind}
 use Rattle.mp4_plan.proofs.ComeAt.{set_same}
 use Rattle.mp4_plan.proofs.StepsOn.{none_taken}
 use Rattle.mp4_plan.proofs.writer.Writer.carry_turn.Goals as goal

@@ -4,11 +4,11 @@ use Rattle.std.proofs.lemmas.List.{with_items_is}
 use Rattle.std.proofs.lemmas.Option.{slice_get_read}
 use Rattle.std.proofs.lemmas.Result.{err_from_is_err_and}
 use Rattle.mp4_tables.specs.declared.sample.SampleAt.{SampleAt}
-use Rattle.mp4_present.specs.Coming.{Comes}
+use Rattle.mp4_present.specs.words.SamplesComing.{Comes}
 use Rattle.mp4_present.specs.declared.walks.Walk.{Walk}
-use Rattle.mp4_plan.specs.Gathering.{Planning, planned_of, piece_from, samples_after}
-use Rattle.mp4_plan.specs.Stretches.{Tells}
-use Rattle.mp4_plan.specs.Writers.{turn_head}
+use Rattle.mp4_plan.specs.words.Gathering.{Planning, planned_of, piece_from, samples_after}
+use Rattle.mp4_plan.specs.words.Stretches.{Tells}
+use Rattle.mp4_plan.specs.words.Writers.{turn_head}
 use Rattle.mp4_plan.specs.declared.planner.Planned.{Planned}
 use Rattle.mp4_plan.proofs.AllTake.{one_takes, one_stops}
 use Rattle.mp4_plan.proofs.CarriedParts.{read_at}

@@ -2,13 +2,13 @@ use Rattle.std.proofs.Common.{rules, get_or, ◌≡◌, length, map, refl, sym, 
 use Rattle.std.specs.Vec.{with_items}
 use Rattle.std.proofs.lemmas.List.{with_items_is}
 use Rattle.std.proofs.lemmas.Result.{err_from_is_err_and}
-use Rattle.mp4_present.specs.Carried.{waiting}
-use Rattle.mp4_present.specs.Coming.{track_samples}
+use Rattle.mp4_present.specs.words.Carried.{waiting}
+use Rattle.mp4_present.specs.words.SamplesComing.{track_samples}
 use Rattle.mp4_present.specs.declared.track_info.TrackInfo.{TrackInfo}
 use Rattle.mp4_present.proofs.WalkCopied.{put_unchanged, on_ok, on_err, if_err}
 use Rattle.std.specs.Prelude.{Some, slice_get}
-use Rattle.mp4_plan.specs.Turns.{turn_end}
-use Rattle.mp4_plan.specs.Writers.{rooms}
+use Rattle.mp4_plan.specs.words.Turns.{turn_end}
+use Rattle.mp4_plan.specs.format.Held.{rooms}
 use Rattle.mp4_plan.proofs.CarriedParts.{read_at}
 use Rattle.mp4_plan.proofs.PieceWritten.{IsFew}
 use Rattle.mp4_plan.proofs.TurnTaken.{turns_end}

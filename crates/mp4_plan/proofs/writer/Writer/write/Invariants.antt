@@ -1,10 +1,11 @@
 use Rattle.std.proofs.Common.{◌≡◌, length}
-use Rattle.mp4_present.specs.Carried.{waiting}
-use Rattle.mp4_plan.specs.Turns.{to_come}
-use Rattle.mp4_plan.specs.Writers.{IsWriterOf, WhereOpened, IsReady, held}
+use Rattle.mp4_present.specs.words.Carried.{waiting}
+use Rattle.mp4_plan.specs.words.Turns.{to_come}
+use Rattle.mp4_plan.specs.words.Writers.{IsWriterOf, WhereOpened, IsReady}
+use Rattle.mp4_plan.specs.format.Held.{held}
 use Rattle.mp4_plan.proofs.WritesOn.{WritesOn}
 use Rattle.std.specs.Prelude.{ℕ}
-use Rattle.mp4_plan.specs.Work.{MayAllTake}
+use Rattle.mp4_plan.specs.words.WriterSteps.{MayAllTake}
 use Rattle.mp4_plan.proofs.StepsOn.{BothTakeOn}
 use Rattle.mp4_plan.proofs.writer.Writer.write.Given as goal
 

@@ -1,7 +1,7 @@
 use Rattle.std.proofs.Common.{rules, take, drop}
 use Rattle.std.proofs.lemmas.Result.{err_from_is_err_and}
 use Rattle.std.proofs.Math.Seq.{take-add}
-use Rattle.mp4_present.specs.Carried.{waiting}
+use Rattle.mp4_present.specs.words.Carried.{waiting}
 use Rattle.mp4_present.proofs.Carrying.{piece_waits, no_room, front_and_rest}
 use Rattle.mp4_present.proofs.carrier.Carrier.carry.Goals as goal
 

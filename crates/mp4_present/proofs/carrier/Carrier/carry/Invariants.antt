@@ -1,6 +1,6 @@
 use Rattle.std.proofs.Common.{◌≡◌, ◌-◌, ◌≤◌, length, take}
 use Rattle.std.specs.Prelude.{vec_len}
-use Rattle.mp4_present.specs.Carried.{waiting, BytesGoOn}
+use Rattle.mp4_present.specs.words.Carried.{waiting, BytesGoOn}
 use Rattle.mp4_present.proofs.carrier.Carrier.carry.Given as goal
 
 -- so many bytes were taken along

@@ -1,8 +1,8 @@
 use Rattle.std.proofs.Common.{rules, ◌+◌, ◌-◌}
 use Rattle.std.proofs.lemmas.Result.{err_from_is_err_and}
-use Rattle.mp4_store.specs.Device.{range}
+use Rattle.mp4_store.specs.words.Device.{range}
 use Rattle.mp4_store.proofs.Known.{range-add}
-use Rattle.mp4_present.specs.Carried.{waiting}
+use Rattle.mp4_present.specs.words.Carried.{waiting}
 use Rattle.mp4_present.proofs.Carrying.{piece_waits, piece_counted, no_room, not_read, range_and_rest}
 use Rattle.mp4_present.proofs.carrier.Carrier.carry_range.Goals as goal
 

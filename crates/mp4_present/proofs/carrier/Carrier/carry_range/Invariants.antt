@@ -1,7 +1,7 @@
 use Rattle.std.proofs.Common.{◌≡◌, ◌-◌, ◌≤◌}
 use Rattle.std.specs.Prelude.{vec_len, IsTrue}
-use Rattle.mp4_store.specs.Device.{range}
-use Rattle.mp4_present.specs.Carried.{waiting, BytesGoOn, GoOnBy}
+use Rattle.mp4_store.specs.words.Device.{range}
+use Rattle.mp4_present.specs.words.Carried.{waiting, BytesGoOn, GoOnBy}
 use Rattle.mp4_present.proofs.carrier.Carrier.carry_range.Given as goal
 
 -- so many bytes were taken along

@@ -1,10 +1,10 @@
 use Rattle.std.proofs.Common.{[], ◌∙◌, ◌≡◌, ◌+◌, ◌-◌, ◌≤◌, ℕ, Some, subst, sym, arith}
 use Rattle.std.proofs.lemmas.Result.{err_from_is_err_and}
 use Rattle.mp4_store.proofs.Known.{AppendsPrefix-nothing}
-use Rattle.mp4_present.specs.Carried.{waiting, GoOnBy}
-use Rattle.mp4_present.specs.Coming.{track_samples, samples_behind}
+use Rattle.mp4_present.specs.words.Carried.{waiting, GoOnBy}
+use Rattle.mp4_present.specs.words.SamplesComing.{track_samples, samples_behind}
 use Rattle.mp4_present.proofs.Causes.{copy_not_loaded, copy_not_carried}
-use Rattle.mp4_present.specs.Work.{walk_steps}
+use Rattle.mp4_present.specs.words.WalkSteps.{walk_steps}
 use Rattle.mp4_present.proofs.Carrying.{GoOnBy-then, GoOnBy-all}
 use Rattle.mp4_present.proofs.Hands.{hand_none}
 use Rattle.mp4_present.proofs.MoofTaken.{at_place}

@@ -1,13 +1,13 @@
 use Rattle.std.proofs.Common.{[], ◌≡◌, ◌-◌, ◌≤◌, length, Some}
 use Rattle.std.specs.Prelude.{IsTrue, slice_get}
-use Rattle.mp4_head.specs.Tree.{TrackTree}
-use Rattle.mp4_present.specs.Carried.{waiting, GoOnBy}
-use Rattle.mp4_present.specs.Coming.{track_samples}
-use Rattle.mp4_present.specs.Denotes.{FileTree}
-use Rattle.mp4_present.specs.OpenedMovie.{IsOpenedAs}
+use Rattle.mp4_head.specs.format.Tree.{TrackTree}
+use Rattle.mp4_present.specs.words.Carried.{waiting, GoOnBy}
+use Rattle.mp4_present.specs.words.SamplesComing.{track_samples}
+use Rattle.mp4_present.specs.format.Denotes.{FileTree}
+use Rattle.mp4_present.specs.words.OpenedMovie.{IsOpenedAs}
 use Rattle.mp4_present.proofs.WalkCopied.{TrackGoesOn}
-use Rattle.mp4_present.specs.Movies.{IsWalkOf}
-use Rattle.mp4_present.specs.Work.{walk_steps, TakesOn}
+use Rattle.mp4_present.specs.words.Movies.{IsWalkOf}
+use Rattle.mp4_present.specs.words.WalkSteps.{walk_steps, TakesOn}
 use Rattle.mp4_present.specs.declared.track_info.TrackInfo.{TrackInfo}
 use Rattle.mp4_present.proofs.movie.Movie.copy_track.Given as goal
 

@@ -1,13 +1,13 @@
 use Rattle.std.proofs.Common.{rules, ℕ, List, slice_index_or, length, ◌≡◌, ◌++◌, [], subst, refl, sym, ap, arith, ◌∙◌, Some}
 use Rattle.std.specs.Prelude.{unwrap_or}
-use Rattle.mp4_tables.specs.Accepted.{IsPlace}
-use Rattle.mp4_tables.specs.Views.{TablesSeen}
-use Rattle.mp4_present.specs.Movies.{MovieSeen, IsMovie, tables_seen}
+use Rattle.mp4_tables.specs.words.Accepted.{IsPlace}
+use Rattle.mp4_tables.specs.words.TablesSeen.{TablesSeen}
+use Rattle.mp4_present.specs.words.Movies.{MovieSeen, IsMovie, tables_seen}
 use Rattle.mp4_present.proofs.WalkPlaces.{begun, got}
 use Rattle.mp4_present.proofs.WalkBegun.{stands_first, tables_in_hand, plain_first, due_is, left_is}
 use Rattle.mp4_present.proofs.MoofTaken.{at_place}
 use Rattle.mp4_present.proofs.WayThrough.{begins}
-use Rattle.mp4_present.specs.Coming.{samples_behind}
+use Rattle.mp4_present.specs.words.SamplesComing.{samples_behind}
 use Rattle.mp4_frag.specs.declared.state.TrackState.{TrackState}
 use Rattle.mp4_present.specs.declared.track_info.TrackInfo.{TrackInfo}
 use Rattle.mp4_present.specs.declared.walks.Mark.{Mark}

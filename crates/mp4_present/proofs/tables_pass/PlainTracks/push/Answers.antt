@@ -1,12 +1,12 @@
 use Rattle.std.proofs.Common.{◌≡◌, sym, ◌∙◌, arith, ◌-◌, ◌*◌, ◌^◌, ◌≤◌, List, ℕ, subst, refl, rules}
-use Rattle.mp4_tables.specs.Accepted.{IsAccepted}
+use Rattle.mp4_tables.specs.words.Accepted.{IsAccepted}
 use Rattle.mp4_present.specs.declared.movie.TrackTables.{TrackTables}
 use Rattle.mp4_present.specs.declared.tables_pass.PlainTracks.{PlainTracks}
 use Rattle.std.proofs.lemmas.Result.{err_from_is_err_and}
-use Rattle.mp4_boxes.specs.Bytes.{AreBytes}
+use Rattle.mp4_boxes.specs.format.Bytes.{AreBytes}
 use Rattle.mp4_present.proofs.PlainLists.{lie_in, plain_more}
 use Rattle.mp4_present.proofs.TablesKept.{IsRead, tables_are, state_is, bytes_few, tables_more, table_fails}
-use Rattle.mp4_boxes.specs.View.{box_seen}
+use Rattle.mp4_boxes.specs.words.View.{box_seen}
 use Rattle.mp4_present.proofs.OpeningBytes.{track_fits, of_less, refused_fits}
 use Rattle.mp4_present.proofs.TablesWork.{if_no_fault, track_within}
 use Rattle.mp4_present.proofs.tables_pass.PlainTracks.push.Goals as goal

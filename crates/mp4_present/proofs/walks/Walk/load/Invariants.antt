@@ -1,6 +1,6 @@
 use Rattle.std.proofs.Common.{◌≡◌, ◌-◌, ◌≤◌, length}
 use Rattle.std.specs.Prelude.{IsTrue}
-use Rattle.mp4_present.specs.Movies.{IsWalkOf}
+use Rattle.mp4_present.specs.words.Movies.{IsWalkOf}
 use Rattle.mp4_present.proofs.MoofLoaded.{GoesOnBefore, IdlesBefore}
 use Rattle.mp4_present.proofs.WayThrough.{TakesBefore}
 use Rattle.mp4_present.proofs.walks.Walk.load.Given as goal

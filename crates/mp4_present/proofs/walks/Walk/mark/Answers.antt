@@ -1,4 +1,4 @@
-use Rattle.mp4_present.specs.Movies.{mark_of}
+use Rattle.mp4_present.specs.words.Movies.{mark_of}
 use Rattle.mp4_present.proofs.GoneBack.{comes_marked, may_marked}
 use Rattle.mp4_present.proofs.WalkPlaces.{marked_here}
 use Rattle.mp4_present.proofs.walks.Walk.mark.Goals as goal

@@ -1,5 +1,5 @@
 use Rattle.std.proofs.Common.{rules, subst, sym}
-use Rattle.mp4_present.specs.Movies.{InHandOf}
+use Rattle.mp4_present.specs.words.Movies.{InHandOf}
 use Rattle.mp4_present.specs.declared.walks.Walk.{Walk}
 use Rattle.mp4_present.proofs.GoneBack.{hand_later}
 use Rattle.mp4_present.proofs.WalkPlaces.{kept_on}

@@ -1,13 +1,13 @@
 use Rattle.std.proofs.Common.{rules, ◌≡◌, ◌+◌, ◌≤◌, ◌∙◌, Bool, length, refl, sym, ap, subst, arith}
 use Rattle.std.proofs.lemmas.Result.{err_from_is_err_and}
 use Rattle.std.proofs.lemmas.List.{with_items_is}
-use Rattle.mp4_boxes.specs.Box.{Box}
-use Rattle.mp4_tables.specs.Keys.{keys_seen}
-use Rattle.mp4_frag.specs.Walks.{samples_in}
-use Rattle.mp4_present.specs.Coming.{Takes}
-use Rattle.mp4_present.specs.InHand.{left_in_hand}
-use Rattle.mp4_present.specs.Movies.{mark_of, moof_box, all_in_moof, InHandOf}
-use Rattle.mp4_present.specs.Work.{moof_steps, steps_to, way_through}
+use Rattle.mp4_boxes.specs.format.Box.{Box}
+use Rattle.mp4_tables.specs.words.Keys.{keys_seen}
+use Rattle.mp4_frag.specs.words.Walks.{samples_in}
+use Rattle.mp4_present.specs.words.SamplesComing.{Takes}
+use Rattle.mp4_present.specs.words.InHand.{left_in_hand}
+use Rattle.mp4_present.specs.words.Movies.{mark_of, moof_box, all_in_moof, InHandOf}
+use Rattle.mp4_present.specs.words.WalkSteps.{moof_steps, steps_to, way_through}
 use Rattle.mp4_present.specs.declared.in_hand.InHand.{InHand}
 use Rattle.mp4_present.specs.declared.walks.Walk.{Walk}
 use Rattle.mp4_present.proofs.GoneBack.{fits_again, holds_again, box_again, payload_there, takes_marked, hand_of_marked, way_marked}

@@ -1,11 +1,11 @@
 use Rattle.std.proofs.Common.{arith, ◌≡◌, ◌+◌, ◌-◌, ◌^◌, ◌∙◌, length, List, min, ap, refl, sym}
-use Rattle.mp4_boxes.specs.Box.{Box}
-use Rattle.mp4_boxes.specs.Bytes.{sum_of}
-use Rattle.mp4_boxes.specs.View.{box_seen}
-use Rattle.mp4_frag.specs.Views.{moof_seen, CursorSeen}
-use Rattle.mp4_frag.specs.Walks.{samples_coming}
+use Rattle.mp4_boxes.specs.format.Box.{Box}
+use Rattle.mp4_boxes.specs.format.Bytes.{sum_of}
+use Rattle.mp4_boxes.specs.words.View.{box_seen}
+use Rattle.mp4_frag.specs.words.FragmentsSeen.{moof_seen}
+use Rattle.mp4_frag.specs.words.Walks.{samples_coming}
 use Rattle.mp4_tables.specs.declared.sample.SampleAt.{SampleAt}
-use Rattle.mp4_present.specs.Movies.{moof_box, moof_hand}
+use Rattle.mp4_present.specs.words.Movies.{moof_box, moof_hand}
 use Rattle.mp4_present.specs.declared.in_hand.InHand.TheVariants as hands
 use Rattle.mp4_present.proofs.MoofTaken.{few, stands_behind, taken, at_place, none_left, some_counted, all_taken, counted_left}
 use Rattle.mp4_present.proofs.WalkWork.{place_within}
@@ -20,15 +20,8 @@ returns-clause-taken g c file tree t earlier later next o h =
     let info_at = at_place m.tracks w.track c.index-tracks-self.result c.requires.movie.track (rw c.tracks.ensures at c.index-tracks-self.is) in
     let list = taken file m tree t earlier next later w o h c.index-tracks-self.result info_at c.states.ensures.is_movie.short (moof_seen c.again-view.result) seen (samples_coming c.start-cursor.result)
     (rw c.states.ensures.same at c.start-cursor.ensures.definition) in
-    let same : c.at-all.result ≡ c.start-cursor.result = c.at-all.ensures ∙ (λ i. record {
-      payload = sym c.start-cursor.ensures.payload i;
-      moof = sym c.start-cursor.ensures.moof i;
-      tracks = (c.states-2.ensures.same ∙ sym c.states.ensures.same ∙ sym c.start-cursor.ensures.tracks) i;
-      place = c.place-place.ensures.is i;
-    }) in
-    let all = ap samples_coming same ∙ list in
-    let counted = c.in-Some.ensures.samples ∙ ap (λ (ss : List SampleAt). length ss) all in
-    let lasting = c.in-Some.ensures.duration ∙ ap (λ (ss : List SampleAt). min (sum_of (λ (s : SampleAt). s.duration) ss) (2 ^ 64 - 1)) all in
+    let counted = c.in-Some.ensures.samples ∙ ap (λ (ss : List SampleAt). length ss) list in
+    let lasting = c.in-Some.ensures.duration ∙ ap (λ (ss : List SampleAt). min (sum_of (λ (s : SampleAt). s.duration) ss) (2 ^ 64 - 1)) list in
     let stands = stands_behind file m tree t earlier next later w o h _ refl refl refl (c.saturating_add-self.ensures ∙ ap (λ n. min (w.due + n) (2 ^ 64 - 1)) lasting) (ap (λ n. w.left - n) counted) (record { track = refl; next = refl; moof = refl; room = refl; box = refl }) refl in (
       hands.Fragment c.start-cursor.result,
       (
@@ -37,10 +30,10 @@ returns-clause-taken g c file tree t earlier later next o h =
           payload = (c.start-cursor.ensures.payload ∙ ap (λ (b : Box). b.payload) seen) i;
           moof = (c.start-cursor.ensures.moof ∙ ap (λ (b : Box). b.offset) seen) i;
           tracks = (c.start-cursor.ensures.tracks ∙ c.states.ensures.same) i;
-          place = sym c.place-place.ensures.is i;
+          place = sym c.place.ensures.is i;
         }),
         list,
-        none_left (samples_coming c.start-cursor.result) c.in-Some.counts.samples (c.in-Some.ensures.samples ∙ ap (λ (v : CursorSeen). length (samples_coming v)) same),
+        none_left (samples_coming c.start-cursor.result) c.in-Some.counts.samples c.in-Some.ensures.samples,
       ),
     )
 
@@ -53,14 +46,8 @@ returns-in_default-clause-taken g c file tree t earlier later next o h =
     let info_at = at_place m.tracks w.track c.index-tracks-self.result c.requires.movie.track (rw c.tracks.ensures at c.index-tracks-self.is) in
     let list = taken file m tree t earlier next later w o h c.index-tracks-self.result info_at c.states.ensures.is_movie.short (moof_seen c.again-view.result) seen (samples_coming c.start-cursor.result)
     (rw c.states.ensures.same at c.start-cursor.ensures.definition) in
-    let same : c.at-all.result ≡ c.start-cursor.result = c.at-all.ensures ∙ (λ i. record {
-      payload = sym c.start-cursor.ensures.payload i;
-      moof = sym c.start-cursor.ensures.moof i;
-      tracks = (c.states-2.ensures.same ∙ sym c.states.ensures.same ∙ sym c.start-cursor.ensures.tracks) i;
-      place = c.place-place.ensures.is i;
-    }) in
-    let long = c.count_up_to.ensures.many c.in_default.is in
-    let all = ap (λ (ss : List SampleAt). length ss) (ap samples_coming same ∙ list) in
+    let long = c.counts.ensures.many c.in_default.is in
+    let all = ap (λ (ss : List SampleAt). length ss) list in
     let least = few file m tree t earlier next later w o h in
     omega (arith, long, all, least)
 
@@ -68,18 +55,17 @@ pub returns-clause-way : goal.returns-clause-way
 returns-clause-way g c =
     let view : box_seen c.view.result ≡ moof_box c.args.self.now = rw c.deref.ensures.value at c.view.ensures in
     let seen : moof_seen c.again-view.result ≡ moof_box c.args.self.now = c.again-view.ensures ∙ view in
-    place_within (moof_box c.args.self.now) _ _ (c.start-cursor.ensures.payload ∙ ap (λ (b : Box). b.payload) seen) c.place-place.ensures.said
+    place_within (moof_box c.args.self.now) _ _ (c.start-cursor.ensures.payload ∙ ap (λ (b : Box). b.payload) seen) c.place.ensures.said
 
 pub returns-clause-work : goal.returns-clause-work
 returns-clause-work g c =
     let view : box_seen c.view.result ≡ moof_box c.args.self.now = rw c.deref.ensures.value at c.view.ensures in
     let seen : moof_seen c.again-view.result ≡ moof_box c.args.self.now = c.again-view.ensures ∙ view in
-    let way = place_within (moof_box c.args.self.now) _ _ (c.count_up_to.ensures.later.0 ∙ ap (λ (v : CursorSeen). v.payload) c.at-all.ensures ∙ ap (λ (b : Box). b.payload) seen) c.place.ensures.said in
-    let through = c.passed.ensures in
+    let way = place_within (moof_box c.args.self.now) _ _ (c.start-cursor.ensures.payload ∙ ap (λ (b : Box). b.payload) seen) c.in-Some.ensures.said in
     let one = c.add.ensures.more in
-    let first = c.passed-2.ensures in
+    let first = c.passed.ensures in
     let two = c.add-2.ensures.more in
-    omega (arith, way, through, one, first, two)
+    omega (arith, way, one, first, two)
 
 pub returns-clause-through : goal.returns-clause-through
 returns-clause-through g c t = refl
@@ -89,19 +75,13 @@ returns-clause-some g c some =
     let w = c.args.self.now in
     let view : box_seen c.view.result ≡ moof_box w = rw c.deref.ensures.value at c.view.ensures in
     let seen : moof_seen c.again-view.result ≡ moof_box w = c.again-view.ensures ∙ view in
-    let same : c.at-all.result ≡ c.start-cursor.result = c.at-all.ensures ∙ (λ i. record {
-      payload = sym c.start-cursor.ensures.payload i;
-      moof = sym c.start-cursor.ensures.moof i;
-      tracks = (c.states-2.ensures.same ∙ sym c.states.ensures.same ∙ sym c.start-cursor.ensures.tracks) i;
-      place = c.place-place.ensures.is i;
-    }) in
-    let counted = c.in-Some.ensures.samples ∙ ap (λ (v : CursorSeen). length (samples_coming v)) same in (
+    let counted = c.in-Some.ensures.samples in (
       hands.Fragment c.start-cursor.result,
       (λ i. record {
         payload = (c.start-cursor.ensures.payload ∙ ap (λ (b : Box). b.payload) seen) i;
         moof = (c.start-cursor.ensures.moof ∙ ap (λ (b : Box). b.offset) seen) i;
         tracks = (c.start-cursor.ensures.tracks ∙ c.states.ensures.same) i;
-        place = sym c.place-place.ensures.is i;
+        place = sym c.place.ensures.is i;
       }),
       some_counted c.in-Some.counts.samples _ some counted,
     )
@@ -114,11 +94,11 @@ returns-clause-rest g c info at =
     let seen : moof_seen c.again-view.result ≡ moof_box w = c.again-view.ensures ∙ view in
     let info_at = at_place m.tracks w.track c.index-tracks-self.result c.requires.movie.track (rw c.tracks.ensures at c.index-tracks-self.is) in
     let all = all_taken m w w.track w.due c.index-tracks-self.result info _ _ _ info_at at seen c.states.ensures.same c.start-cursor.ensures.samples in
-    let hand : c.start-cursor.result ≡ moof_hand m w c.place-place.result = λ i. record {
+    let hand : c.start-cursor.result ≡ moof_hand m w c.place.result = λ i. record {
       payload = (c.start-cursor.ensures.payload ∙ ap (λ (b : Box). b.payload) seen) i;
       moof = (c.start-cursor.ensures.moof ∙ ap (λ (b : Box). b.offset) seen) i;
       tracks = (c.start-cursor.ensures.tracks ∙ c.states.ensures.same) i;
-      place = sym c.place-place.ensures.is i;
+      place = sym c.place.ensures.is i;
     } in
     (0, sym (ap samples_coming hand) ∙ all)
 
@@ -130,19 +110,13 @@ returns-clause-all g c info at =
     let seen : moof_seen c.again-view.result ≡ moof_box w = c.again-view.ensures ∙ view in
     let info_at = at_place m.tracks w.track c.index-tracks-self.result c.requires.movie.track (rw c.tracks.ensures at c.index-tracks-self.is) in
     let all = all_taken m w w.track w.due c.index-tracks-self.result info _ _ _ info_at at seen c.states.ensures.same c.start-cursor.ensures.samples in
-    let same : c.at-all.result ≡ c.start-cursor.result = c.at-all.ensures ∙ (λ i. record {
-      payload = sym c.start-cursor.ensures.payload i;
-      moof = sym c.start-cursor.ensures.moof i;
-      tracks = (c.states-2.ensures.same ∙ sym c.states.ensures.same ∙ sym c.start-cursor.ensures.tracks) i;
-      place = c.place-place.ensures.is i;
-    }) in
-    let counted = c.in-Some.ensures.samples ∙ ap (λ (v : CursorSeen). length (samples_coming v)) same in (
+    let counted = c.in-Some.ensures.samples in (
       hands.Fragment c.start-cursor.result,
       (λ i. record {
         payload = (c.start-cursor.ensures.payload ∙ ap (λ (b : Box). b.payload) seen) i;
         moof = (c.start-cursor.ensures.moof ∙ ap (λ (b : Box). b.offset) seen) i;
         tracks = (c.start-cursor.ensures.tracks ∙ c.states.ensures.same) i;
-        place = sym c.place-place.ensures.is i;
+        place = sym c.place.ensures.is i;
       }),
       all,
       counted_left w.left c.in-Some.counts.samples _ _ refl c.in-Some.ensures.few counted,

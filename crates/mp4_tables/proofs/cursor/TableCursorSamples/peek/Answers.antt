@@ -1,6 +1,6 @@
 use Rattle.std.proofs.Common.{ap, sym, ◌∙◌}
 use Rattle.std.specs.Prelude.{slice_get}
-use Rattle.mp4_tables.specs.Views.{samples_from}
+use Rattle.mp4_tables.specs.words.TablesSeen.{samples_from}
 use Rattle.mp4_tables.proofs.PlaceLists.{none_left}
 use Rattle.mp4_tables.proofs.cursor.TableCursorSamples.peek.Goals as goal
 

@@ -1,6 +1,6 @@
 use Rattle.std.proofs.Common.{arith, rules, length, ◌≡◌, ◌≤◌, map, take}
 use Rattle.std.proofs.lemmas.List.{length-map, length-take}
-use Rattle.mp4_tables.specs.Keys.{key_seen}
+use Rattle.mp4_tables.specs.words.Keys.{key_seen}
 use Rattle.mp4_tables.proofs.KeyLists.{keys_more}
 use Rattle.mp4_tables.proofs.keys.Keys.key_at.Goals as goal
 

@@ -1,5 +1,5 @@
 use Rattle.std.proofs.Common.{sym}
-use Rattle.mp4_tables.specs.Keys.{key_seen, keys_seen}
+use Rattle.mp4_tables.specs.words.Keys.{key_seen, keys_seen}
 use Rattle.mp4_tables.proofs.KeyLists.{named_before, not_named_yet}
 use Rattle.mp4_tables.proofs.keys.Keys.names.Goals as goal
 

@@ -1,5 +1,5 @@
 use Rattle.std.proofs.Common.{sym, ◌∙◌}
-use Rattle.mp4_tables.specs.Keys.{key_seen, keys_seen}
+use Rattle.mp4_tables.specs.words.Keys.{key_seen, keys_seen}
 use Rattle.mp4_tables.proofs.KeyLists.{place_found, place_later, place_none, same_rank, other_rank}
 use Rattle.mp4_tables.proofs.keys.Keys.place.Goals as goal
 

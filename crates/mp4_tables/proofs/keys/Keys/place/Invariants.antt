@@ -1,7 +1,7 @@
 use Rattle.std.proofs.Common.{◌≡◌, drop}
 use Rattle.std.specs.List.{position_from}
-use Rattle.mp4_tables.specs.Groups.{same_key}
-use Rattle.mp4_tables.specs.Keys.{key_seen, keys_seen, key_place}
+use Rattle.mp4_tables.specs.format.Groups.{same_key}
+use Rattle.mp4_tables.specs.words.Keys.{key_seen, keys_seen, key_place}
 use Rattle.mp4_tables.proofs.keys.Keys.place.Given as goal
 
 -- the place is that among the keys that are left

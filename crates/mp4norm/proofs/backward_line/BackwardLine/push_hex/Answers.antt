@@ -1,5 +1,5 @@
 use Rattle.std.proofs.Common.{rules, ◌∙◌, ap, length, length-append, arith}
-use Rattle.mp4norm.specs.Texts.{hex_digits}
+use Rattle.mp4norm.specs.format.Texts.{hex_digits}
 use Rattle.mp4norm.proofs.Decimals.{length-hex, sixteenth}
 use Rattle.mp4norm.proofs.backward_line.BackwardLine.push_hex.Goals as goal
 

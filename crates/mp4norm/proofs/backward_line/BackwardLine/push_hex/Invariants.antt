@@ -1,5 +1,5 @@
 use Rattle.std.proofs.Common.{◌≡◌, ◌/◌, ◌^◌, ◌++◌}
-use Rattle.mp4norm.specs.Texts.{hex_digits}
+use Rattle.mp4norm.specs.format.Texts.{hex_digits}
 use Rattle.mp4norm.proofs.backward_line.BackwardLine.push_hex.Given as goal
 
 -- the last digits are written

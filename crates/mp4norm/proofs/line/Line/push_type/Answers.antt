@@ -1,6 +1,6 @@
 use Rattle.std.proofs.Common.{◌≡◌, ◌+◌, ◌∙◌, ap, arith, length, take, length-append, length-take}
 use Rattle.std.specs.List.{flat_map}
-use Rattle.mp4norm.specs.Texts.{hex_digits}
+use Rattle.mp4norm.specs.format.Texts.{hex_digits}
 use Rattle.mp4norm.proofs.TypeTexts.{length-hex_digits}
 use Rattle.mp4norm.proofs.line.Line.push_type.Goals as goal
 

@@ -1,0 +1,4 @@
+pub mod Fragments
+pub mod FragmentRows
+pub mod FragmentSamples
+pub mod FragmentRules

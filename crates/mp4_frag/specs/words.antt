@@ -1,0 +1,15 @@
+pub mod ColumnsRead
+pub mod Passing
+pub mod PlacesIn
+pub mod Reading
+pub mod States
+pub mod FragmentsSeen
+pub mod Walks
+pub mod Times
+pub mod Looks
+pub mod Judged
+pub mod TrafFaults
+pub mod RunsJudged
+pub mod GroupsJudged
+pub mod Finding
+pub mod Durations

@@ -1,0 +1,83 @@
+-- The `sbgp`s of a `traf` judged one after the other, in file order.
+use Rattle.std.specs.Prelude.{◌≡◌, ℕ, zero, suc, ◌≤◌, ◌⊎◌, Bool, true, false, IsTrue, List, [], ◌∷◌, ◌++◌, length, Some, None, codes, ⊤}
+use Rattle.std.specs.List.{list_any}
+use Rattle.mp4_boxes.specs.format.Box.{Box}
+use Rattle.mp4_boxes.specs.format.BoxFaults.{fault_of, Fails}
+use Rattle.mp4_boxes.specs.format.Children.{of_kind}
+use Rattle.mp4_boxes.specs.format.Layout.{sbgp, IsReadable}
+use Rattle.mp4_boxes.specs.declared.fault.Fault.{Fault}
+use Rattle.mp4_boxes.specs.declared.fault.Kind.{Kind}
+use Rattle.mp4_tables.specs.format.Groups.{GroupKey, Grouping, GroupRule, one_of_key, few_keys, grouping_of, group_kind, keeps, same_key, keys_after, max_keys}
+use Rattle.mp4_tables.specs.words.Keys.{key_place}
+use Rattle.mp4_frag.specs.words.RunsJudged.{children_of}
+use Rattle.mp4_frag.specs.declared.groups.KeysNamed.{KeysNamed}
+
+-- the `sbgp`s in a `traf`
+abbrev pub groups_in : Box → List Box
+groups_in traf = of_kind (codes "sbgp") (children_of traf)
+
+-- an `sbgp` of n samples can be read and keeps the rules, behind these groupings of its `traf`,
+-- where the track named these keys before
+pub record IsGroupSound (n : ℕ) (keys : List GroupKey) (before : List Grouping) (payload : List ℕ)
+    : Type 0 where
+  pub readable : IsReadable sbgp payload
+  pub rules : (rule : GroupRule) → IsTrue (keeps rule n keys before (grouping_of payload))
+
+abbrev pub AreGroupsSound : ℕ → List GroupKey → List Grouping → List Box → Type 0
+AreGroupsSound n keys before [] = ⊤
+AreGroupsSound n keys before (b ∷ boxes) = IsGroupSound n keys before b.payload
+    × AreGroupsSound n keys (before ++ grouping_of b.payload ∷ []) boxes
+
+-- what is wrong with it: it can't be read, or it breaks a rule of this kind
+abbrev pub IsGroupFault : ℕ → List GroupKey → List Grouping → List ℕ → Kind → Type 0
+IsGroupFault n keys before payload kind =
+    Fails sbgp payload kind
+    ⊎ (IsReadable sbgp payload
+    × ((rule : GroupRule) × (kind ≡ group_kind rule)
+    × (keeps rule n keys before (grouping_of payload) ≡ false)))
+
+-- The fault is one of the `sbgp`s: of the first, or of one behind it, where the first is sound.
+abbrev pub GroupsFail : ℕ → List GroupKey → List Grouping → List Box → Fault → Type 0
+GroupsFail n keys before [] f = ⊥
+GroupsFail n keys before (b ∷ boxes) f =
+    ((kind : Kind) × (f ≡ fault_of kind b) × IsGroupFault n keys before b.payload kind)
+    ⊎ (IsGroupSound n keys before b.payload
+    × GroupsFail n keys (before ++ grouping_of b.payload ∷ []) boxes f)
+
+-- whether the key at a place among the track's was named
+abbrev pub is_named_at : KeysNamed → ℕ → Bool
+is_named_at named zero = named.first
+is_named_at named (suc zero) = named.second
+is_named_at named (suc (suc zero)) = named.third
+is_named_at named (suc (suc (suc j))) = named.fourth
+
+-- the names with that at one more place
+abbrev pub with_name : KeysNamed → ℕ → KeysNamed
+with_name named zero = record named { first = true }
+with_name named (suc zero) = record named { second = true }
+with_name named (suc (suc zero)) = record named { third = true }
+with_name named (suc (suc (suc j))) = record named { fourth = true }
+
+-- the keys of a track that named some before, and which of them the groupings of a `traf` so far
+-- have named
+pub record AreNamed (keys : List GroupKey) (before : List Grouping) (now : List GroupKey)
+    (named : KeysNamed) : Type 0 where
+  pub keys_now : now ≡ keys_after keys before
+  pub few : length now ≤ max_keys
+  pub there : (key : GroupKey) (j : ℕ) → key_place key now ≡ Some j
+      → is_named_at named j ≡ list_any (λ (g : Grouping). same_key key g.key) before
+  pub missing : (key : GroupKey) → key_place key now ≡ None
+      → list_any (λ (g : Grouping). same_key key g.key) before ≡ false
+
+-- one more grouping keeps the rules of keys, and these are the keys and names with it
+pub record NamesOneMore (keys : List GroupKey) (before : List Grouping) (g : Grouping)
+    (now : List GroupKey) (named : KeysNamed) : Type 0 where
+  pub once : keeps one_of_key 0 keys before g ≡ true
+  pub room : keeps few_keys 0 keys before g ≡ true
+  pub names : AreNamed keys (before ++ g ∷ []) now named
+
+-- it breaks one of these rules, which has this kind
+abbrev pub IsNameFault : List GroupKey → List Grouping → Grouping → Kind → Type 0
+IsNameFault keys before g kind = ((kind ≡ group_kind one_of_key)
+    × (keeps one_of_key 0 keys before g ≡ false))
+    ⊎ ((kind ≡ group_kind few_keys) × (keeps few_keys 0 keys before g ≡ false))

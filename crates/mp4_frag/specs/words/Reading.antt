@@ -1,0 +1,81 @@
+-- What is read of the leaves of a `traf`, as plain numbers.
+use Rattle.std.specs.Prelude.{◌≡◌, ℕ, ◌+◌, ◌*◌, ◌≤◌, List, [], ◌∷◌, length, drop, Option, None, unwrap_or, option_map, slice_index, nat_eq}
+use Rattle.byteorder.specs.Endian.{twos_complement}
+use Rattle.mp4_boxes.specs.format.Bytes.{width_of}
+use Rattle.mp4_boxes.specs.format.Layout.{has, flags, version, fields, column_values, leaf_fields, tfhd, trun, sbgp, row_count, tfhd_columns, trun_columns, default_base_is_moof, IsReadable}
+use Rattle.mp4_tables.specs.format.Groups.{key_of}
+use Rattle.mp4_tables.specs.words.Keys.{key_seen}
+use Rattle.mp4_tables.specs.words.Rows.{runs_at}
+use Rattle.mp4_frag.specs.words.ColumnsRead.{row_room, rows_from}
+use Rattle.mp4_frag.specs.format.Fragments.{column, TrackFragment}
+use Rattle.mp4_frag.specs.declared.heads.Inherited.{Inherited}
+use Rattle.mp4_frag.specs.declared.trex.Trex.{Trex}
+use Rattle.mp4_frag.specs.declared.rows.Row.{Row}
+use Rattle.mp4_frag.specs.declared.runs.Run.{Run}
+use Rattle.mp4_frag.specs.declared.heads.Head.{Head}
+use Rattle.mp4_frag.specs.declared.groups.Group.{Group}
+
+-- the values in a row of `trun`
+abbrev pub row_values : Row → List (Option ℕ)
+row_values row = row.duration ∷ row.size ∷ row.flags ∷ row.offset ∷ []
+
+-- the optional values of a `tfhd`
+abbrev pub head_values : Head → List (Option ℕ)
+head_values head = head.base ∷ head.description ∷ head.duration ∷ head.size ∷ head.flags ∷ []
+
+-- what was read of a `tfhd`
+pub record IsHead (payload : List ℕ) (head : Head) : Type 0 where
+  pub id : head.id ≡ slice_index (leaf_fields tfhd payload) 2
+  pub values : head_values head ≡ column_values (flags payload) tfhd_columns (drop 8 payload)
+  pub base_is_moof : head.base_is_moof ≡ has (flags payload) default_base_is_moof
+  pub readable : IsReadable tfhd payload
+
+-- what was read of a `trun`
+pub record IsRun (payload : List ℕ) (run : Run) : Type 0 where
+  pub count : run.count ≡ row_count trun payload
+  pub data_offset : run.data_offset
+      ≡ option_map (twos_complement 4)
+      (column (column_values (flags payload) trun_columns (drop 8 payload)) 0)
+  pub first_flags : run.first_flags
+      ≡ column (column_values (flags payload) trun_columns (drop 8 payload)) 1
+  pub bits : run.bits ≡ flags payload
+  pub is_signed : run.is_signed ≡ nat_eq (version payload) 1
+  pub rows : run.rows ≡ rows_from (flags payload)
+  pub room : run.rows + run.count * row_room run.bits ≤ length payload
+  pub readable : IsReadable trun payload
+
+-- what was read of an `sbgp`
+pub record IsGroup (payload : List ℕ) (group : Group) : Type 0 where
+  pub key : key_seen group.key ≡ key_of payload
+  pub count : group.count ≡ row_count sbgp payload
+  pub rows : group.rows ≡ width_of (fields sbgp (version payload))
+  pub room : group.rows + 8 * group.count ≤ length payload
+  pub readable : IsReadable sbgp payload
+
+-- the rows of an `sbgp`
+abbrev pub group_runs : List ℕ → Group → List (ℕ × ℕ)
+group_runs payload group = runs_at payload (record { place = group.rows; count = group.count })
+
+-- a `traf` of this `tfhd`
+abbrev pub as_traf : Head → TrackFragment
+as_traf head = record {
+  id = head.id;
+  base_data_offset = head.base;
+  description = head.description;
+  duration = head.duration;
+  size = head.size;
+  flags = head.flags;
+  base_is_moof = head.base_is_moof;
+  decode_time = None;
+  runs = [];
+  groups = [];
+}
+
+-- what the samples of a `traf` inherit
+abbrev pub inheritance : TrackFragment → Trex → Inherited
+inheritance traf trex = record {
+  description = unwrap_or traf.description trex.description;
+  duration = unwrap_or traf.duration trex.duration;
+  size = unwrap_or traf.size trex.size;
+  flags = unwrap_or traf.flags trex.flags;
+}

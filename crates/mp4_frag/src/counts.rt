@@ -1,0 +1,53 @@
+//! How many samples of a track a `moof` has, and how long they last: by rows, without a walk from
+//! sample to sample.
+ghost use Rattle.std.specs.Prelude.{◌≡◌, ◌+◌, ◌≤◌, ◌++◌};
+ghost use Rattle.mp4_frag.specs.words.Durations.{durations_of, rows_durations, rows_lasting};
+ghost use Rattle.mp4_frag.specs.words.PlacesIn.{LiesIn, IsRowPlace};
+ghost use Rattle.mp4_frag.specs.words.Walks.{Walk, coming, rows_here};
+
+use crate::places::{FragPlace, RowPlace};
+use crate::walk::{next_row, row_here};
+
+/// Samples that were counted: how many there are, how long they last together, as far as 64 bits
+/// go, and how many steps lead behind them from the first `traf` on.
+#[derive(Clone, Copy, Debug, PartialEq, Eq)]
+pub struct Counts {
+    pub samples: u32,
+    pub duration: u64,
+    pub passed: u64,
+}
+
+// How long the rows left of a run last, where some take this duration.
+fn rows_duration(payload: &[u8], run: RowPlace, inherited: u32) -> u64
+    requires { IsRowPlace payload.now run }
+    ensures { result ≡ rows_lasting inherited (rows_here payload.now run) }
+{
+    let mut duration = 0;
+    let mut run = run;
+    while run.left > 0 {
+        let row = row_here(payload, run);
+        duration += u64::from(row.duration.unwrap_or(inherited));
+        run = next_row(run);
+    }
+    duration
+}
+
+// Leaves out the rows left of a run, and says how long they last. The samples behind come with the
+// same durations; when they are due, and where they lie, is no longer known.
+pub(crate) fn leave_run(payload: &[u8], place: &mut FragPlace) -> u64
+    requires { LiesIn payload.now place.old }
+    ensures place { LiesIn payload.now place.new }
+    ensures none { place.new.run.left ≡ 0 }
+    ensures same { (place.new.track ≡ place.old.track) × (place.new.keys ≡ place.old.keys) }
+    ensures on { place.old.passed ≤ place.new.passed }
+    ensures lasting { result
+        ≡ rows_lasting place.old.inherited.duration (rows_here payload.now place.old.run) }
+    ensures coming { (w : Walk) → durations_of (coming payload.now w place.old)
+        ≡ rows_durations place.old.inherited.duration (rows_here payload.now place.old.run)
+        ++ durations_of (coming payload.now w place.new) }
+{
+    let duration = rows_duration(payload, place.run, place.inherited.duration);
+    place.passed = place.passed.saturating_add(u64::from(place.run.left));
+    place.run.left = 0;
+    duration
+}

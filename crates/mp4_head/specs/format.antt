@@ -1,0 +1,4 @@
+pub mod Head
+pub mod Tree
+pub mod Writing
+pub mod HeadFaults

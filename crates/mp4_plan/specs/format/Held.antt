@@ -1,0 +1,15 @@
+-- What a writer holds whose length the file decides.
+use Rattle.std.specs.Prelude.{ℕ, ◌+◌, ◌*◌, List, length}
+use Rattle.std.specs.List.{sum_by}
+use Rattle.mp4_present.specs.declared.walks.Walk.{Walk}
+use Rattle.mp4_plan.specs.declared.writer.Writer.{Writer}
+
+-- the room for `moof`s in some walks
+abbrev pub rooms : List Walk → ℕ
+rooms walks = sum_by (λ (walk : Walk). length walk.bytes.items) walks
+
+-- all that a writer holds whose length the file decides: its head, the buffer in which bytes wait,
+-- 24 bytes for each row, and a `moof` in each walk
+abbrev pub held : Writer → ℕ
+held w = length w.head.items + length w.carrier.buffer.items + 24 * length w.rows.items
+    + rooms w.planning.items + rooms w.copying.items

@@ -1,0 +1,14 @@
+pub mod Ends
+pub mod Gathering
+pub mod PlannerLaws
+pub mod Sizes
+pub mod Turns
+pub mod Writers
+pub mod Spelling
+pub mod UsedKeys
+pub mod Taken
+pub mod PiecesComing
+pub mod TurnLaws
+pub mod Stretches
+pub mod HandsFed
+pub mod WriterSteps

@@ -1,0 +1,59 @@
+-- The order in which pieces come, and why it ends.
+use Rattle.std.specs.Prelude.{◌≡◌, ◌<◌, ◌⊎◌, ℕ, ◌+◌, ◌-◌, ◌*◌, ◌==◌, Bool, true, if◌then◌else◌, List, [], ◌∷◌, Option, Some, None, option_map}
+use Rattle.mp4_tables.specs.declared.sample.SampleAt.{SampleAt}
+use Rattle.mp4_present.specs.declared.track_info.TrackInfo.{TrackInfo}
+use Rattle.mp4_plan.specs.words.Ends.{has_ended}
+use Rattle.mp4_plan.specs.declared.ends.End.{End}
+use Rattle.mp4_plan.specs.declared.ends.End.TheVariants.{Sync, Before}
+use Rattle.mp4_plan.specs.declared.schedule.Schedule.{Schedule}
+
+-- another fragment follows, and its first sample was met in the first track
+abbrev pub follows_one : ℕ → ℕ → Option ℕ → ℕ
+follows_one tracks track None = 0
+follows_one tracks track (Some cut) = if track == 0 then 0 else tracks + 1
+
+-- A bound on how many turns there can be: each takes a sample, or goes on to the next track.
+unfoldable pub to_come : Schedule → ℕ
+to_come s = s.left * (s.tracks + 2) + (s.tracks - s.track) + follows_one s.tracks s.track s.next
+
+-- behind the last track another fragment begins, if one follows
+abbrev pub wrapped : Schedule → Option ℕ → Schedule
+wrapped s None = s
+wrapped s (Some cut) = if s.track == s.tracks then record s { from = cut; next = None; track = 0 }
+    else s
+
+-- the first track says when the next fragment begins
+abbrev pub track_passed : Schedule → Option ℕ → Schedule
+track_passed s time = if s.track == 0 then wrapped (record s { next = time; track = 1 }) time
+    else wrapped (record s { track = s.track + 1 }) s.next
+
+-- the timescale of the first of some tracks, 0 without one
+abbrev pub first_scale : List TrackInfo → ℕ
+first_scale [] = 0
+first_scale (t ∷ tracks) = t.timescale
+
+-- where a piece of this turn ends, in a track of this timescale
+abbrev pub turn_end : Schedule → ℕ → End
+turn_end s scale = if s.track == 0 then Sync s.from scale else Before s.next s.first scale
+
+-- the track's pieces of this fragment are over: no sample is left, or the next one is behind the
+-- end
+abbrev pub is_over : End → Option SampleAt → Bool
+is_over end None = true
+is_over end (Some s) = has_ended end s
+
+-- behind a turn that took so many samples, before this one
+abbrev pub turned : Schedule → End → ℕ → Option SampleAt → Schedule
+turned s end count sample =
+    let rest = record s { left = s.left - count } in
+    if is_over end sample then track_passed rest (option_map (λ (next : SampleAt). next.dts) sample)
+    else rest
+
+-- a turn without samples may pass the track: its pieces are over, and in the first track no sample
+-- is left
+abbrev pub MayPass : Schedule → End → Option SampleAt → Type 0
+MayPass s end sample = (is_over end sample ≡ true) × (s.track ≡ 0 → sample ≡ None)
+
+-- a turn that no file has: more samples than are left, or none where the track may not pass
+abbrev pub Sticks : Schedule → End → ℕ → Option SampleAt → Type 0
+Sticks s end count sample = (s.left < count) ⊎ ((count ≡ 0) × ¬ MayPass s end sample)

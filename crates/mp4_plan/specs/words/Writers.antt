@@ -1,0 +1,182 @@
+-- A writer of the normal form of a movie.
+use Rattle.std.specs.Prelude.{◌≡◌, ℕ, ◌+◌, ◌-◌, ◌^◌, ◌≤◌, max, min, nat_lt, if◌then◌else◌, List, [], ◌∷◌, ◌++◌, length, take, drop, map, fold, Option, Some, None, slice_get, slice_set, Bool, IsTrue}
+use Rattle.std.specs.List.{AllByRecursion}
+use Rattle.mp4_store.specs.words.Device.{HasRisen}
+use Rattle.mp4_boxes.specs.declared.refusal.Refusal.{Refusal}
+use Rattle.mp4_boxes.specs.declared.refusal.Refusal.TheVariants as refusals
+use Rattle.mp4_boxes.specs.format.Written.{header_length}
+use Rattle.mp4_head.specs.format.Tree.{TrackTree}
+use Rattle.mp4_head.specs.format.Writing as written
+use Rattle.mp4_tables.specs.format.Groups.{GroupKey}
+use Rattle.mp4_present.specs.words.Carried.{waiting}
+use Rattle.mp4_present.specs.words.SamplesComing.{Comes, track_samples}
+use Rattle.mp4_present.specs.format.Denotes.{FileTree, presentation_of}
+use Rattle.mp4_present.specs.words.Joined.{sample_bytes}
+use Rattle.mp4_present.specs.words.Movies.{MovieSeen, IsWalkOf}
+use Rattle.mp4_present.specs.words.OpenedMovie.{IsOpenedAs}
+use Rattle.mp4_present.specs.format.Presentation.{Presentation, heads, movie_length}
+use Rattle.mp4_present.specs.declared.walks.Walk.{Walk}
+use Rattle.mp4_tables.specs.declared.sample.SampleAt.{SampleAt}
+use Rattle.mp4_plan.specs.words.Sizes.{moof_sizes}
+use Rattle.mp4_plan.specs.format.Pieces.{Piece, pieces}
+use Rattle.mp4_plan.specs.words.Stretches.{Tells}
+use Rattle.mp4_plan.specs.words.Taken.{piece_front, row_seen}
+use Rattle.mp4_plan.specs.declared.moof_front.PieceHead.{PieceHead}
+use Rattle.mp4_plan.specs.declared.planner.Planned.{Planned}
+use Rattle.mp4_plan.specs.words.Gathering.{planned_of, piece_fed, piece_from, samples_after}
+use Rattle.mp4_plan.specs.declared.schedule.Turn.{Turn}
+use Rattle.mp4_plan.specs.declared.writer.Noted.{Noted}
+use Rattle.mp4_plan.specs.declared.writer.Plan.{Plan}
+use Rattle.mp4_plan.specs.declared.writer.Writer.{Writer}
+use Rattle.mp4_plan.specs.format.Normal.{pieces_bytes}
+
+-- a walk for each track of the movie
+pub record AreWalksOf (m : MovieSeen) (walks : List Walk) : Type 0 where
+  pub each : AllByRecursion (IsWalkOf m) walks
+  pub count : length walks ≡ length m.tracks
+
+-- a writer of this movie
+pub record IsWriterOf (m : MovieSeen) (w : Writer) : Type 0 where
+  pub planning : AreWalksOf m w.planning.items
+  pub copying : AreWalksOf m w.copying.items
+  pub few : length w.rows.items ≤ 2 ^ 24
+  pub nexts : length w.nexts.items ≡ length m.tracks
+  pub behind : length w.behind.items ≡ length m.tracks
+
+-- Why what was read before is not made again: there is no memory, or the bytes are others.
+abbrev pub RefusesMemory : Refusal → Type 0
+RefusesMemory refusals.Memory = Unit {0}
+RefusesMemory refusals.StoreChanged = Unit {0}
+RefusesMemory _ = ⊥
+
+-- Why a movie is not planned. The numbers are counts of failed reads, before and after.
+abbrev pub RefusesPlan : ℕ → ℕ → Refusal → Type 0
+RefusesPlan reads reads_after refusals.Memory = Unit {0}
+RefusesPlan reads reads_after refusals.StoreFailed = HasRisen reads reads_after
+RefusesPlan reads reads_after refusals.StoreChanged = Unit {0}
+RefusesPlan reads reads_after _ = ⊥
+
+-- what a piece of so many samples says once, of which the first is this one
+abbrev pub turn_head : ℕ → ℕ → ℕ → Option SampleAt → Option PieceHead
+turn_head sequence id count None = None
+turn_head sequence id count (Some s) = if nat_lt 0 count
+    then Some (record { sequence = sequence; id = id; time = s.dts; description = s.description })
+    else None
+
+-- the sequence number behind a piece, as far as 32 bits go
+abbrev pub sequence_behind : ℕ → Option PieceHead → ℕ
+sequence_behind sequence None = sequence
+sequence_behind sequence (Some head) = min (sequence + 1) (2 ^ 32 - 1)
+
+-- ---- over an opened file
+
+-- over an honest store, of a movie that was opened from its file: this is true of the file's boxes
+abbrev pub WhereOpened : Bool → List ℕ → MovieSeen → (FileTree → Type 0) → Type 0
+WhereOpened honest file m P = IsTrue honest → (tree : FileTree) → IsOpenedAs file m tree → P tree
+
+-- for each track a walk of which these samples come
+abbrev pub AllCome : List ℕ → FileTree → MovieSeen → List TrackTree → List Walk
+    → List (List SampleAt) → Type 0
+AllCome file tree m [] [] [] = Unit {0}
+AllCome file tree m (t ∷ trees) (w ∷ walks) (samples ∷ more) = Comes file tree t m w samples
+    × AllCome file tree m trees walks more
+AllCome file tree m _ _ _ = ⊥
+
+-- for each track a walk from its first sample on
+abbrev pub AllBegin : List ℕ → FileTree → MovieSeen → List Walk → Type 0
+AllBegin file tree m walks = AllCome file tree m tree.movie.tracks walks
+    (map (track_samples tree) tree.movie.tracks)
+
+-- the most samples of a piece
+abbrev pub longest_piece : List Piece → ℕ
+longest_piece pieces = fold (λ most (piece : Piece). max most (length piece.samples)) 0 pieces
+
+-- `ftyp` and `moov` of the normal form
+abbrev pub head_of_normal : Presentation → List ℕ
+head_of_normal p = written.head_bytes p.movie (heads p) (movie_length p)
+
+-- A writer that has put nothing yet: the head of the normal form waits, or its front, with the rest
+-- behind it, and there are as many rows as the longest piece has samples.
+pub record IsReady (file : List ℕ) (tree : FileTree) (m : MovieSeen) (w : Writer) : Type 0 where
+  pub head : waiting w.carrier ++ w.head.items ≡ head_of_normal (presentation_of file tree)
+  pub rows : length w.rows.items ≡ longest_piece (pieces (presentation_of file tree))
+  pub planning : AllBegin file tree m w.planning.items
+  pub copying : AllBegin file tree m w.copying.items
+  pub behind : AllByRecursion (λ (n : ℕ). n ≡ 0) w.behind.items
+
+-- What was noted at a turn, of a track of which these samples come: a piece of them, and its walk
+-- stands behind it.
+pub record HasNoted (file : List ℕ) (tree : FileTree) (t : TrackTree) (m : MovieSeen) (turn : Turn)
+    (sequence id : ℕ) (left : List SampleAt) (before after : Writer) (n : Noted) : Type 0 where
+  pub planned : n.planned ≡ planned_of (piece_fed (piece_from turn.end) left).gathered
+  pub head : n.head ≡ turn_head sequence id n.planned.count (slice_get left 0)
+  pub next : n.next ≡ slice_get (samples_after (piece_from turn.end) left) 0
+  pub rows : take n.planned.count after.rows.items ≡ map row_seen (take n.planned.count left)
+  pub walk : Walk
+  pub planning : after.planning.items ≡ slice_set before.planning.items turn.track walk
+  pub nexts : after.nexts.items ≡ slice_set before.nexts.items turn.track n.next
+  pub comes : Comes file tree t m walk (samples_after (piece_from turn.end) left)
+  pub stretches : Tells after.stretches (take n.planned.count left)
+
+-- what is written of a piece, by what was planned of its samples
+abbrev pub bytes_of_piece : List ℕ → PieceHead → Planned → List GroupKey → List SampleAt → List ℕ
+bytes_of_piece file head p keys samples = piece_front head p keys (map row_seen samples)
+    ++ sample_bytes file samples
+
+-- what is written at a turn: a piece, or nothing where it has no head
+abbrev pub turn_bytes : List ℕ → Option PieceHead → Planned → List GroupKey → List SampleAt → List ℕ
+turn_bytes file None p keys samples = []
+turn_bytes file (Some head) p keys samples = bytes_of_piece file head p keys samples
+
+-- So many samples come in a walk that were copied without it, and then these.
+pub record ComesBehind (file : List ℕ) (tree : FileTree) (t : TrackTree) (m : MovieSeen)
+    (walk : Walk) (behind : ℕ) (samples : List SampleAt) : Type 0 where
+  pub copied : List SampleAt
+  pub many : length copied ≡ behind
+  pub comes : Comes file tree t m walk (copied ++ samples)
+  pub few : behind + length samples ≤ 2 ^ 24
+
+-- The samples of a track that are to be copied were noted, so many of them: their rows, and where
+-- their bytes lie.
+pub record IsNoted (file : List ℕ) (tree : FileTree) (m : MovieSeen) (track count : ℕ)
+    (samples : List SampleAt) (w : Writer) : Type 0 where
+  pub t : TrackTree
+  pub walk : Walk
+  pub behind : ℕ
+  pub is_walk : slice_get w.copying.items track ≡ Some walk
+  pub is_behind : slice_get w.behind.items track ≡ Some behind
+  pub comes : ComesBehind file tree t m walk behind samples
+  pub rows : take count w.rows.items ≡ map row_seen (take count samples)
+  pub stretches : Tells w.stretches (take count samples)
+
+-- so many samples of a track were copied, by its walk or without it
+abbrev pub HaveCopied : List ℕ → FileTree → MovieSeen → ℕ → ℕ → List SampleAt → Writer → Writer
+    → Type 0
+HaveCopied file tree m track count samples before after =
+    (t : TrackTree) (walk : Walk) (behind : ℕ) → slice_get before.copying.items track ≡ Some walk
+    → slice_get before.behind.items track ≡ Some behind
+    → ComesBehind file tree t m walk behind samples
+    → (next : Walk) × (later : ℕ)
+    × (after.copying.items ≡ slice_set before.copying.items track next)
+    × (after.behind.items ≡ slice_set before.behind.items track later)
+    × ComesBehind file tree t m next later (drop count samples)
+
+-- the next sample of each track
+abbrev pub firsts : List (List SampleAt) → List (Option SampleAt)
+firsts lefts = map (λ (left : List SampleAt). slice_get left 0) lefts
+
+-- when the first of the first of some tracks begins, 0 where there is none
+abbrev pub first_dts : List (List SampleAt) → ℕ
+first_dts [] = 0
+first_dts ([] ∷ lefts) = 0
+first_dts ((s ∷ samples) ∷ lefts) = s.dts
+
+-- The plan of a presentation: the most samples of a piece, and the bytes of all pieces.
+pub record IsPlanOf (p : Presentation) (plan : Plan) : Type 0 where
+  pub longest : plan.longest ≡ longest_piece (pieces p)
+  pub len : plan.len ≡ length (pieces_bytes 1 (pieces p))
+  pub within : plan.len ≤ 2 ^ 57
+
+-- the bytes of a piece, by what was planned of it
+abbrev pub planned_length : Planned → List GroupKey → ℕ
+planned_length p keys = (moof_sizes p keys).moof + header_length p.bytes + p.bytes

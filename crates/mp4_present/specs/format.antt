@@ -1,0 +1,4 @@
+pub mod Presentation
+pub mod Denotes
+pub mod Stands
+pub mod Reduced

@@ -1,0 +1,17 @@
+pub mod InHand
+pub mod Movies
+pub mod Reading
+pub mod Outline
+pub mod Again
+pub mod Joined
+pub mod Plain
+pub mod Carried
+pub mod Opening
+pub mod OpenedMovie
+pub mod TrackTrees
+pub mod Measured
+pub mod Passing
+pub mod SamplesComing
+pub mod PassedMoofs
+pub mod WalkSteps
+pub mod GoingBack

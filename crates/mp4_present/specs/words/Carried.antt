@@ -1,0 +1,64 @@
+-- Bytes on their way to a sink: some of them are put, and the rest wait.
+use Rattle.std.specs.Prelude.{◌≡◌, ◌+◌, ◌<◌, ℕ, List, ◌++◌, length, take, Option}
+use Rattle.std.specs.Io.KnownBytes.{Appends}
+use Rattle.mp4_store.specs.words.Device.{HasRisen, count_after}
+use Rattle.mp4_boxes.specs.declared.refusal.Refusal.{Refusal}
+use Rattle.mp4_boxes.specs.declared.refusal.Refusal.TheVariants as refusals
+use Rattle.mp4_present.specs.declared.carrier.Carrier.{Carrier}
+use Rattle.mp4_present.specs.declared.stretches.Stretch.{Stretch}
+
+-- the bytes that wait
+abbrev pub waiting : Carrier → List ℕ
+waiting c = take c.used c.buffer.items
+
+-- These bytes follow: what was put since, and then what waits now, is what waited before, and then
+-- these. The options are what the sink holds, before and after.
+abbrev pub BytesGoOn : Option (List ℕ) → Option (List ℕ) → List ℕ → List ℕ → List ℕ → Type 0
+BytesGoOn before after held held_after bytes = (put : List ℕ) × Appends before after put
+    × (put ++ held_after ≡ held ++ bytes)
+
+-- So many bytes follow, whichever these are: what was put since, and what waits now, are so many
+-- more than waited before.
+abbrev pub GoOnBy : Option (List ℕ) → Option (List ℕ) → List ℕ → List ℕ → ℕ → Type 0
+GoOnBy before after held held_after n = (put : List ℕ) × Appends before after put
+    × (length put + length held_after ≡ length held + n)
+
+-- so many bytes were put, whichever these are
+abbrev pub PutsMany : Option (List ℕ) → Option (List ℕ) → ℕ → Type 0
+PutsMany before after n = (put : List ℕ) × Appends before after put × (length put ≡ n)
+
+-- Why bytes are not taken along: one more put failed. The numbers are counts of failed puts, before
+-- and after.
+abbrev pub RefusesPut : ℕ → ℕ → Refusal → Type 0
+RefusesPut puts puts_after refusals.WriteFailed = puts_after ≡ count_after puts
+RefusesPut puts puts_after _ = ⊥
+
+-- Why bytes of a store are not taken along: counts of failed reads, and of failed puts.
+abbrev pub RefusesRange : ℕ → ℕ → ℕ → ℕ → Refusal → Type 0
+RefusesRange reads reads_after puts puts_after refusals.StoreFailed = HasRisen reads reads_after
+RefusesRange reads reads_after puts puts_after refusals.WriteFailed = HasRisen puts puts_after
+RefusesRange reads reads_after puts puts_after _ = ⊥
+
+-- Why the bytes of some samples are not taken along: they may lie outside the store too.
+abbrev pub RefusesStretch : List ℕ → Stretch → ℕ → ℕ → ℕ → ℕ → Refusal → Type 0
+RefusesStretch file s reads reads_after puts puts_after refusals.StoreFailed =
+    HasRisen reads reads_after
+RefusesStretch file s reads reads_after puts puts_after refusals.StoreChanged = length file < s.at
+    + s.len
+RefusesStretch file s reads reads_after puts puts_after refusals.WriteFailed =
+    HasRisen puts puts_after
+RefusesStretch file s reads reads_after puts puts_after _ = ⊥
+
+-- Why the bytes of samples in hand are not taken along.
+abbrev pub RefusesCarry : ℕ → ℕ → ℕ → ℕ → Refusal → Type 0
+RefusesCarry reads reads_after puts puts_after refusals.StoreFailed = HasRisen reads reads_after
+RefusesCarry reads reads_after puts puts_after refusals.StoreChanged = Unit {0}
+RefusesCarry reads reads_after puts puts_after refusals.WriteFailed = HasRisen puts puts_after
+RefusesCarry reads reads_after puts puts_after _ = ⊥
+
+-- Why a track is not copied: what the sink holds, before and after, and counts of failed reads, and
+-- of failed puts.
+abbrev pub RefusesCopy : Option (List ℕ) → Option (List ℕ) → ℕ → ℕ → ℕ → ℕ → Refusal → Type 0
+RefusesCopy before after reads reads_after puts puts_after refusals.Memory = after ≡ before
+RefusesCopy before after reads reads_after puts puts_after r =
+    RefusesCarry reads reads_after puts puts_after r

@@ -1,0 +1,183 @@
+-- A file that was opened, and a walk over the samples of one of its tracks.
+use Rattle.std.specs.Prelude.{◌≡◌, ℕ, ◌+◌, ◌^◌, ◌<◌, ◌≤◌, ⊤, List, length, take, drop, Option, None, Some, slice_get}
+use Rattle.std.specs.List.{AllByRecursion}
+use Rattle.mp4_boxes.specs.format.Box.{Box}
+use Rattle.mp4_tables.specs.words.Accepted.{IsAccepted, IsPlace}
+use Rattle.mp4_tables.specs.words.Keys.{keys_seen}
+use Rattle.mp4_tables.specs.words.TablesSeen.{TablesSeen}
+use Rattle.mp4_tables.specs.declared.sample.SampleAt.{SampleAt}
+use Rattle.mp4_frag.specs.words.States.{HaveRoom}
+use Rattle.mp4_frag.specs.words.PlacesIn.{IsPlaceIn}
+use Rattle.mp4_frag.specs.words.FragmentsSeen.{CursorSeen}
+use Rattle.mp4_frag.specs.words.Walks.{samples_coming, samples_in}
+use Rattle.mp4_frag.specs.declared.places.FragPlace.{FragPlace}
+use Rattle.mp4_frag.specs.declared.state.TrackState.{TrackState}
+use Rattle.mp4_store.specs.words.Device.{HasRisen}
+use Rattle.mp4_boxes.specs.declared.refusal.Refusal.{Refusal}
+use Rattle.mp4_boxes.specs.declared.refusal.Refusal.TheVariants as refusals
+use Rattle.mp4_present.specs.words.InHand.{left_in_hand, AreLast}
+use Rattle.mp4_present.specs.declared.in_hand.InHand.{InHand}
+use Rattle.mp4_present.specs.declared.in_hand.InHand.TheVariants as hands
+use Rattle.mp4_present.specs.declared.in_hand.Place.{Place}
+use Rattle.mp4_present.specs.declared.in_hand.Place.TheVariants.{Tables, Fragment}
+use Rattle.mp4_present.specs.declared.movie.TrackTables.{TrackTables}
+use Rattle.mp4_present.specs.declared.reading.TopBox.{TopBox}
+use Rattle.mp4_present.specs.declared.track_info.TrackInfo.{TrackInfo}
+use Rattle.mp4_present.specs.declared.walks.Due.{Due}
+use Rattle.mp4_present.specs.declared.walks.Mark.{Mark}
+use Rattle.mp4_present.specs.declared.walks.Walk.{Walk}
+
+-- a box whose header is followed by its end, which lies in a file of so many bytes
+pub record IsWhole (length : ℕ) (top : TopBox) : Type 0 where
+  pub header : top.offset + top.header.header ≤ top.header.end
+  pub within : top.header.end ≤ length
+
+-- so many bytes fill the box
+abbrev pub Fills : ℕ → TopBox → Type 0
+Fills bytes top = top.offset + top.header.header + bytes ≡ top.header.end
+
+-- the bytes of the `moov` behind its header, and what was found of the file
+pub record MovieSeen : Type 0 where
+  pub top : TopBox
+  pub moov : List ℕ
+  pub file_len : ℕ
+  pub fragments : Option ℕ
+  pub longest : ℕ
+  pub tables : List TrackTables
+  pub states : List TrackState
+  pub room : ℕ
+  pub tracks : List TrackInfo
+  pub mehd : ℕ
+
+-- the payload of the `stbl` of a track
+abbrev pub table_bytes : List ℕ → TrackTables → List ℕ
+table_bytes moov t = take t.len (drop t.place moov)
+
+abbrev pub tables_seen : List ℕ → TrackTables → TablesSeen
+tables_seen moov t = record { payload = table_bytes moov t; at = t.tables }
+
+-- the tables lie in the `moov`, and a check accepted them
+pub record LieIn (moov : List ℕ) (t : TrackTables) : Type 0 where
+  pub within : t.place + t.len ≤ length moov
+  pub accepted : IsAccepted (table_bytes moov t) t.tables
+
+pub record IsMovie (m : MovieSeen) : Type 0 where
+  pub fills : Fills (length m.moov) m.top
+  pub tables : AllByRecursion (LieIn m.moov) m.tables
+  pub each_tables : length m.tables ≡ length m.tracks
+  pub each_state : length m.states ≡ length m.tracks
+  pub states : HaveRoom m.room m.states
+  pub few : m.room ≤ 2 ^ 24
+  pub short : m.file_len < 2 ^ 64
+
+-- the `moov` that is kept
+abbrev pub moov_box : MovieSeen → Box
+moov_box m = record {
+  kind = m.top.header.kind.0;
+  offset = m.top.offset;
+  header = m.top.header.header;
+  payload = m.moov;
+}
+
+-- the payload of the `moof` in hand
+abbrev pub moof_bytes : Walk → List ℕ
+moof_bytes w = take w.used w.bytes.items
+
+-- the `moof` that the walk holds
+abbrev pub moof_box : Walk → Box
+moof_box w = record {
+  kind = w.moof.header.kind.0;
+  offset = w.moof.offset;
+  header = w.moof.header.header;
+  payload = moof_bytes w;
+}
+
+-- the walk stands before one of the samples in hand, or behind them
+abbrev pub StandsAt : MovieSeen → Walk → Place → Type 0
+StandsAt m w (Tables p) = (t : TrackTables) × (slice_get m.tables w.track ≡ Some t)
+    × IsPlace (table_bytes m.moov t) t.tables p
+StandsAt m w (Fragment p) = (w.used ≤ length w.bytes.items) × Fills w.used w.moof
+    × IsPlaceIn (moof_bytes w) p
+
+-- a walk over the samples of a track of this movie, wherever it stands
+pub record GoesOn (m : MovieSeen) (w : Walk) : Type 0 where
+  pub track : w.track < length m.tracks
+
+-- the samples of the track in the `moof` in hand: all, of which the first is due at this time, and
+-- those from a place on
+abbrev pub all_in_moof : MovieSeen → Walk → TrackInfo → ℕ → List SampleAt
+all_in_moof m w info due = samples_in (moof_box w) m.states info.id due (keys_seen info.keys)
+
+abbrev pub moof_hand : MovieSeen → Walk → FragPlace → CursorSeen
+moof_hand m w p = record {
+  payload = moof_bytes w;
+  moof = w.moof.offset;
+  tracks = m.states;
+  place = p;
+}
+
+-- the samples from a place on are the last of the tables, or of the `moof` in hand, before which
+-- this was due
+abbrev pub IsRest : MovieSeen → Walk → Option Due → Place → Type 0
+IsRest m w None (Tables p) = ⊤
+IsRest m w (Some before) (Fragment p) = (info : TrackInfo) → slice_get m.tracks w.track ≡ Some info
+    → AreLast (all_in_moof m w info before.time) (samples_coming (moof_hand m w p))
+IsRest m w _ _ = ⊥
+
+-- the mark of where a walk stands, before so many samples
+abbrev pub mark_of : Walk → ℕ → Mark
+mark_of w to_come = record {
+  track = w.track;
+  place = w.place;
+  moof = w.moof;
+  before = w.before;
+  due = w.due;
+  left = w.left;
+  next = w.next;
+  to_come = to_come;
+}
+
+-- The walk has marked a place in the tables, or one in a `moof`, which is in hand or further in
+-- front.
+abbrev pub HasMarked : MovieSeen → Walk → Option Due → Place → Type 0
+HasMarked m w None (Tables p) = StandsAt m w (Tables p)
+HasMarked m w (Some before) (Fragment p) = (w.mark.moof.offset + w.mark.moof.header.header
+    ≤ w.mark.moof.header.end)
+    × (w.next ≡ w.mark.next → (w.before ≡ Some before) × (w.moof ≡ w.mark.moof)
+    × StandsAt m w (Fragment p) × IsRest m w (Some before) (Fragment p))
+HasMarked m w _ _ = ⊥
+
+-- what the walk has marked is a place that it came past
+pub record IsMarkOf (m : MovieSeen) (w : Walk) : Type 0 where
+  pub track : w.mark.track ≡ w.track
+  pub behind : w.mark.next ≤ w.next
+  pub place : HasMarked m w w.mark.before w.mark.place
+
+-- a walk over the samples of a track of this movie
+pub record IsWalkOf (m : MovieSeen) (w : Walk) : Type 0 where
+  pub goes_on : GoesOn m w
+  pub place : StandsAt m w w.place
+  pub rest : IsRest m w w.before w.place
+  pub mark : IsMarkOf m w
+
+-- the samples in hand of a walk that stands at a place
+abbrev pub HandAt : MovieSeen → Walk → Place → InHand → Type 0
+HandAt m w (Tables p) (hands.Tables c) = (t : TrackTables) × (slice_get m.tables w.track ≡ Some t)
+    × (c ≡ record { tables = tables_seen m.moov t; place = p })
+HandAt m w (Fragment p) (hands.Fragment c) = c
+    ≡ record { payload = moof_bytes w; moof = w.moof.offset; tracks = m.states; place = p }
+HandAt m w _ _ = ⊥
+
+-- what the walk has in hand
+abbrev pub InHandOf : MovieSeen → Walk → InHand → Type 0
+InHandOf m w hand = HandAt m w w.place hand
+
+-- it has a sample in hand
+abbrev pub HasSome : MovieSeen → Walk → Type 0
+HasSome m w = (hand : InHand) × InHandOf m w hand × (0 < length (left_in_hand hand))
+
+-- Why no further `moof` is loaded.
+abbrev pub RefusesLoad : ℕ → ℕ → Refusal → Type 0
+RefusesLoad reads reads_after refusals.StoreFailed = HasRisen reads reads_after
+RefusesLoad reads reads_after refusals.StoreChanged = Unit {0}
+RefusesLoad reads reads_after _ = ⊥

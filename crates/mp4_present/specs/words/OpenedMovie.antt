@@ -1,0 +1,129 @@
+-- What an opened movie is of the file that it was opened from.
+use Rattle.std.specs.Prelude.{◌≡◌, ℕ, ◌+◌, ◌-◌, ◌^◌, min, List, [], ◌∷◌, ⊤, length, map, codes}
+use Rattle.std.specs.List.{AllByRecursion, AllZip}
+use Rattle.mp4_boxes.specs.format.Bytes.{sum_of, AreBytes}
+use Rattle.mp4_boxes.specs.format.Children.{of_kind}
+use Rattle.mp4_tables.specs.words.Accepted.{tables_at}
+use Rattle.mp4_tables.specs.words.Keys.{keys_seen}
+use Rattle.mp4_tables.specs.format.PlainSamples.{PlacedSample}
+use Rattle.mp4_tables.specs.format.Tables.{tables_of}
+use Rattle.mp4_frag.specs.format.Fragments.{FragmentTree}
+use Rattle.mp4_frag.specs.format.FragmentSamples.{trex_for, duration_of, keys_behind, bytes_of}
+use Rattle.mp4_frag.specs.words.Judged.{TrackSeen, track_seen}
+use Rattle.mp4_frag.specs.declared.trex.Trex.{Trex}
+use Rattle.mp4_head.specs.format.Tree.{TrackTree, stbl_of, track_head_of, trexes_of}
+use Rattle.mp4_present.specs.format.Presentation.{Track, Presentation, IsWithinLimits, max_samples, movie_length, total_duration}
+use Rattle.mp4_present.specs.format.Denotes.{FileTree, Denotes, IsFileTree, IsSoundFile, IsConsistent, plain_of, plain_keys, file_parts, parts_of_track, placed_of, track_of, presentation_of}
+use Rattle.mp4_present.specs.format.Stands.{table_total}
+use Rattle.mp4_present.specs.words.Movies.{MovieSeen, moov_box, table_bytes}
+use Rattle.mp4_present.specs.words.Outline.{BeginAt, longest}
+use Rattle.mp4_frag.specs.declared.state.TrackState.{TrackState}
+use Rattle.mp4_head.specs.declared.heads.TrackHead.{TrackHead}
+use Rattle.mp4_present.specs.declared.opening.Found.{Found}
+use Rattle.mp4_present.specs.declared.outline.Outline.{Outline}
+use Rattle.mp4_present.specs.declared.movie.TrackTables.{TrackTables}
+use Rattle.mp4_present.specs.declared.track_info.TrackInfo.{TrackInfo}
+
+-- The tables lie where the payload of the track's `stbl` lies in that of the `moov`, and are those
+-- of its boxes.
+pub record AreTablesOf (moov : List ℕ) (t : TrackTree) (found : TrackTables) : Type 0 where
+  pub bytes : table_bytes moov found ≡ (stbl_of t).payload
+  pub says : tables_at (stbl_of t).payload found.tables ≡ tables_of t.table
+
+-- a track behind the samples of its tables, which begin at decode time 0; what its fragments
+-- inherit is one of these
+abbrev pub plain_seen : List Trex → TrackTree → TrackSeen
+plain_seen trexes t = record {
+  id = (track_head_of t).id;
+  descriptions = length t.descriptions;
+  trex = trex_for trexes (track_head_of t).id;
+  start = 0;
+  count = length (plain_of t);
+  time = duration_of (plain_of t);
+  bytes = bytes_of (plain_of t);
+  keys = plain_keys t;
+}
+
+-- A track in numbers: those of the track that the file's boxes say.
+pub record IsInfoOf (file : List ℕ) (tree : FileTree) (t : TrackTree) (info : TrackInfo)
+    : Type 0 where
+  pub id : info.id ≡ (track_head_of t).id
+  pub timescale : info.timescale ≡ (track_head_of t).media.timescale
+  pub start : info.start ≡ (track_of file (file_parts tree) t).start
+  pub samples : info.samples ≡ length (track_of file (file_parts tree) t).samples
+  pub duration : info.duration ≡ total_duration (track_of file (file_parts tree) t).samples
+  pub bytes : info.bytes ≡ sum_of (λ (s : PlacedSample). s.size) (placed_of (file_parts tree) t)
+  pub keys : keys_seen info.keys ≡ keys_behind (plain_keys t) (parts_of_track (file_parts tree) t)
+
+-- What was read of a track, and is known of it behind its samples, in numbers.
+pub record IsInfoBy (h : TrackHead) (s : TrackState) (info : TrackInfo) : Type 0 where
+  pub id : info.id ≡ h.id
+  pub timescale : info.timescale ≡ h.media.timescale
+  pub start : info.start ≡ s.start
+  pub samples : info.samples ≡ s.count
+  pub duration : info.duration ≡ min (s.time - s.start) (2 ^ 64 - 1)
+  pub bytes : info.bytes ≡ s.bytes
+  pub keys : info.keys ≡ s.keys
+
+-- the same of all tracks
+abbrev pub AreInfosBy : List TrackHead → List TrackState → List TrackInfo → Type 0
+AreInfosBy [] [] [] = ⊤
+AreInfosBy (h ∷ heads) (s ∷ states) (info ∷ infos) = IsInfoBy h s info
+    × AreInfosBy heads states infos
+AreInfosBy _ _ _ = ⊥
+
+-- the `moov` and each `moof` is of bytes
+pub record AreOfBytes (t : FileTree) : Type 0 where
+  pub moov : AreBytes t.movie.moov.payload
+  pub moofs : AllByRecursion (λ (f : FragmentTree). AreBytes f.moof.payload) t.fragments
+
+-- The file denotes the presentation of its boxes, and this is what is kept of it.
+pub record IsOpenedAs (file : List ℕ) (m : MovieSeen) (t : FileTree) : Type 0 where
+  pub is_tree : IsFileTree file t
+  pub is_sound : IsSoundFile t
+  pub is_consistent : IsConsistent file t
+  pub bytes : AreOfBytes t
+  pub limits : IsWithinLimits (presentation_of file t)
+  pub whole : m.file_len ≡ length file
+  pub moov : moov_box m ≡ t.movie.moov
+  pub fragments : BeginAt m.fragments t.top
+  pub longest_is : m.longest ≡ longest (of_kind (codes "moof") t.top)
+  -- for each track in order
+  pub tables : AllZip (AreTablesOf m.moov) t.movie.tracks m.tables
+  pub states : map track_seen m.states ≡ map (plain_seen (trexes_of t.movie)) t.movie.tracks
+  pub room : m.room + table_total t.movie.tracks ≡ max_samples
+  pub tracks : AllZip (IsInfoOf file t) t.movie.tracks m.tracks
+  pub mehd : m.mehd ≡ movie_length (presentation_of file t)
+
+-- the numbers that are kept of a track are its own
+pub record IsTrackIn (t : Track) (info : TrackInfo) : Type 0 where
+  pub id : info.id ≡ t.head.id
+  pub timescale : info.timescale ≡ t.head.media.timescale
+  pub start : info.start ≡ t.start
+  pub samples : info.samples ≡ length t.samples
+  pub duration : info.duration ≡ total_duration t.samples
+
+-- What is kept of a movie is what the presentation says: its tracks in order, and its length.
+pub record IsMovieIn (p : Presentation) (m : MovieSeen) : Type 0 where
+  pub tracks : AllZip IsTrackIn p.tracks m.tracks
+  pub mehd : m.mehd ≡ movie_length p
+
+-- The file denotes a presentation, and this is what is kept of it.
+abbrev pub OpensAs : List ℕ → MovieSeen → Type 0
+OpensAs file m = (p : Presentation) × Denotes file p × IsMovieIn p m
+
+-- what is kept of a file of so many bytes, with this outline and this `moov`, of which this was
+-- found
+abbrev pub kept_of : Outline → List ℕ → ℕ → Found → MovieSeen
+kept_of o moov file_length f = record {
+  top = o.moov;
+  moov = moov;
+  file_len = file_length;
+  fragments = o.fragments;
+  longest = o.longest;
+  tables = f.plain.tables.items;
+  states = f.plain.states.items;
+  room = f.plain.room;
+  tracks = f.tracks.items;
+  mehd = f.mehd;
+}

@@ -1,0 +1,58 @@
+-- Where the `moov` and the `moof`s of a file lie, as its top-level headers say.
+use Rattle.std.specs.Prelude.{◌≡◌, ℕ, List, [], ◌∷◌, ◌++◌, true, Bool, IsTrue, Option, Some, None, max, fold, codes}
+use Rattle.std.specs.List.{AllByRecursion}
+use Rattle.mp4_store.specs.words.Device.{HasRisen}
+use Rattle.mp4_boxes.specs.format.Box.{Box, size, sizes}
+use Rattle.mp4_boxes.specs.format.Children.{of_kind, allows}
+use Rattle.mp4_boxes.specs.declared.rule.Rule.TheVariants.{File}
+use Rattle.mp4_boxes.specs.declared.refusal.Refusal.{Refusal}
+use Rattle.mp4_boxes.specs.declared.refusal.Refusal.TheVariants as refusals
+use Rattle.mp4_present.specs.words.Reading.{top_box}
+use Rattle.mp4_present.specs.format.Denotes.{begins_with_movie}
+use Rattle.mp4_present.specs.format.Stands.{Stands}
+use Rattle.mp4_present.specs.declared.reading.TopBox.{TopBox}
+use Rattle.mp4_present.specs.declared.outline.Seen.{Seen}
+use Rattle.mp4_present.specs.declared.outline.Outline.{Outline}
+
+abbrev pub box_at : List ℕ → TopBox → Box
+box_at file top = top_box file top.offset top.header
+
+-- the `moov` among some first boxes, where there is one
+abbrev pub moov_seen : List ℕ → Option TopBox → List Box
+moov_seen file None = []
+moov_seen file (Some top) = box_at file top ∷ []
+
+-- no `moof` stands before the `moov`, nor without one
+abbrev pub IsOrdered : Option TopBox → List Box → Type 0
+IsOrdered None boxes = of_kind (codes "moof") boxes ≡ []
+IsOrdered (Some top) boxes = begins_with_movie boxes ≡ true
+
+-- the first `moof` begins at the place, or there is none
+abbrev pub BeginAt : Option ℕ → List Box → Type 0
+BeginAt None boxes = of_kind (codes "moof") boxes ≡ []
+BeginAt (Some at) boxes = (before after : List Box) × (before ++ after ≡ boxes)
+    × (of_kind (codes "moof") before ≡ []) × (sizes before ≡ at)
+
+-- the length of the longest of some boxes, 0 where there is none
+abbrev pub longest : List Box → ℕ
+longest boxes = fold (λ most b. max most (size b)) 0 boxes
+
+-- This is so of some first boxes of the file, which may all stand there.
+pub record AreSeen (file : List ℕ) (boxes : List Box) (seen : Seen) : Type 0 where
+  pub allowed : AllByRecursion (λ b. IsTrue (allows File b.kind)) boxes
+  pub moov : of_kind (codes "moov") boxes ≡ moov_seen file seen.moov
+  pub order : IsOrdered seen.moov boxes
+  pub fragments : BeginAt seen.fragments boxes
+  pub longest : seen.longest ≡ longest (of_kind (codes "moof") boxes)
+
+-- So the `moov` and the `moof`s lie among the boxes of the file.
+pub record IsOutline (file : List ℕ) (boxes : List Box) (o : Outline) : Type 0 where
+  pub moov : of_kind (codes "moov") boxes ≡ box_at file o.moov ∷ []
+  pub fragments : BeginAt o.fragments boxes
+  pub longest : o.longest ≡ longest (of_kind (codes "moof") boxes)
+
+-- Why there is no outline. The numbers are counts of failed reads, before and after.
+abbrev pub RefusesOutline : Bool → List ℕ → ℕ → ℕ → Refusal → Type 0
+RefusesOutline honest file reads reads_after (refusals.Fault f) = IsTrue honest → Stands file f
+RefusesOutline honest file reads reads_after refusals.StoreFailed = HasRisen reads reads_after
+RefusesOutline honest file reads reads_after _ = ⊥

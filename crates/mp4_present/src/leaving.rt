@@ -1,0 +1,23 @@
+//! What doesn't count where presentations are compared by the rest.
+
+/// What is left out of a presentation (`reduce` in `specs/format/Reduced.antt`).
+#[derive(Clone, Copy, Debug, PartialEq, Eq)]
+pub struct Leaving {
+    /// Creation and modification times of the movie, its tracks and their media (8.2.2, 8.3.2,
+    /// 8.4.2): they are 0.
+    pub times: bool,
+    /// Edit lists (8.6.6).
+    pub edits: bool,
+    /// All flags of samples but sample_is_non_sync_sample (8.8.3.1).
+    pub flags: bool,
+    /// Descriptions of sample groups and the samples' indexes of them (8.9).
+    pub groups: bool,
+    /// Kept boxes `udta`, `meta` and `iods` of the movie and its tracks.
+    pub metadata: bool,
+}
+
+impl Leaving {
+    /// Nothing is left out.
+    pub const NOTHING: Leaving =
+        Leaving { times: false, edits: false, flags: false, groups: false, metadata: false };
+}

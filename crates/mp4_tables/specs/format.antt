@@ -1,0 +1,6 @@
+pub mod Repeated
+pub mod Groups
+pub mod Tables
+pub mod PlainSamples
+pub mod TableRules
+pub mod TableRows

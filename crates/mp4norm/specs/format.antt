@@ -1,0 +1,9 @@
+pub mod Texts
+pub mod Headline
+pub mod BoxLaws
+pub mod Steps
+pub mod Verdicts
+pub mod Ways
+pub mod Strips
+pub mod StripLaws
+pub mod BoxWalk

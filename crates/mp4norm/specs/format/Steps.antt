@@ -1,0 +1,32 @@
+-- How many steps a whole run may take: one is a row, a `traf`, a run or a sample that a check or a
+-- cursor passes.
+use Rattle.std.specs.Prelude.{◌≡◌, ◌⊎◌, ℕ, ◌+◌, ◌*◌, ◌^◌, ◌≤◌, List, length}
+use Rattle.mp4_boxes.specs.format.Bytes.{sum_of}
+use Rattle.mp4_tables.specs.format.Tables.{tables_of}
+use Rattle.mp4_tables.specs.format.TableRows.{table_rows}
+use Rattle.mp4_frag.specs.format.Fragments.{FragmentTree, fragment_of}
+use Rattle.mp4_frag.specs.format.FragmentRows.{fragment_rows}
+use Rattle.mp4_head.specs.format.Tree.{TrackTree}
+use Rattle.mp4_present.specs.format.Denotes.{FileTree, Denotes}
+use Rattle.mp4_present.specs.format.Denotes.{HasMovie}
+use Rattle.mp4_present.specs.format.Presentation.{Presentation, sample_total}
+use Rattle.mp4norm.specs.format.Headline.{DenotesNothing}
+
+-- the rows of all tables of a file, and the `traf`s, runs and rows of `sbgp` of all its `moof`s
+abbrev pub row_total : FileTree → ℕ
+row_total tree = sum_of (λ (t : TrackTree). table_rows (tables_of t.table)) tree.movie.tracks
+    + sum_of (λ (f : FragmentTree). fragment_rows (fragment_of f)) tree.fragments
+
+-- 8 for each sample and each row, times one more than there are tracks
+abbrev pub most_steps : ℕ → ℕ → ℕ → ℕ
+most_steps tracks samples rows = 8 * ((tracks + 1) * (samples + rows))
+
+-- The steps taken over a file. Where it denotes a presentation: by the tracks, samples and rows of
+-- that. Where it denotes nothing: by the tracks of its `moov`, as if it had 2^24 samples and a row
+-- for each byte; or none was taken.
+pub record WorksWithin (file : List ℕ) (old new : ℕ) : Type 0 where
+  pub denoted : (p : Presentation) → (d : Denotes file p)
+      → new ≤ old + most_steps (length p.tracks) (sample_total p) (row_total d.tree)
+  pub refused : DenotesNothing file → (new ≡ old)
+      ⊎ ((ids : List ℕ) × HasMovie file ids
+      × (new ≤ old + most_steps (length ids) (2 ^ 24) (length file)))

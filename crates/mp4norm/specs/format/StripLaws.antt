@@ -1,0 +1,45 @@
+-- The laws of copies in which some boxes are free space.
+use Rattle.std.specs.Prelude.{◌≡◌, ℕ, ◌+◌, List, length, take, drop, true, false, Some, Ok, codes}
+use Rattle.mp4_boxes.specs.format.Box.{Header, header_at}
+use Rattle.mp4_boxes.specs.declared.fault.Fault.{Fault}
+use Rattle.mp4_boxes.specs.declared.rule.Rule.{Rule}
+use Rattle.mp4_boxes.specs.declared.rule.Rule.TheVariants.{File}
+use Rattle.mp4norm.specs.format.BoxWalk.{rule_inside}
+use Rattle.mp4norm.specs.format.Strips.{is_top, is_named, payload_of, IsStripped, Halts}
+use Rattle.mp4norm.specs.declared.named.Name.{Name}
+
+-- A named box stands at this place of bytes that are boxes, end to end under a rule, and in no
+-- other named box.
+pub data NamedBoxAt (names : List Name) : Rule → ℕ → List ℕ → Type 0 where
+  at_front : (rule : Rule) (place : ℕ) (bytes : List ℕ) (h : Header)
+      → header_at (is_top rule) bytes ≡ Ok h → is_named names rule h.kind ≡ true → place ≡ 0
+      → NamedBoxAt names rule place bytes
+  further : (rule : Rule) (place : ℕ) (bytes : List ℕ) (h : Header) (left : ℕ)
+      → header_at (is_top rule) bytes ≡ Ok h → NamedBoxAt names rule left (drop h.size bytes)
+      → place ≡ h.size + left → NamedBoxAt names rule place bytes
+  inside : (rule : Rule) (place : ℕ) (bytes : List ℕ) (h : Header) (inner : Rule) (left : ℕ)
+      → header_at (is_top rule) bytes ≡ Ok h → is_named names rule h.kind ≡ false
+      → rule_inside rule h.kind ≡ Some inner → NamedBoxAt names inner left (payload_of h bytes)
+      → place ≡ h.length + left → NamedBoxAt names rule place bytes
+
+-- A copy is as long as the file.
+abbrev pub StripKeepsLength : Type 0
+StripKeepsLength = (names : List Name) (file text : List ℕ) → IsStripped names file text
+    → length text ≡ length file
+
+-- Where no named box stands in the file, the copy is the file.
+abbrev pub UnnamedIsCopied : Type 0
+UnnamedIsCopied = (names : List Name) (file text : List ℕ)
+    → ((place : ℕ) → NamedBoxAt names File place file → ⊥) → IsStripped names file text
+    → text ≡ file
+
+-- Where a named box stood, the type is `free` in the copy.
+abbrev pub NamedIsFree : Type 0
+NamedIsFree = (names : List Name) (file text : List ℕ) (place : ℕ)
+    → NamedBoxAt names File place file → IsStripped names file text
+    → take 4 (drop (place + 4) text) ≡ codes "free"
+
+-- Where a header that is looked at can't be read, no bytes are a copy.
+abbrev pub HaltedStripsNothing : Type 0
+HaltedStripsNothing = (names : List Name) (f : Fault) (file text : List ℕ)
+    → Halts names f File 0 file → IsStripped names file text → ⊥

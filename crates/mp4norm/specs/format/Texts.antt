@@ -1,0 +1,200 @@
+-- The texts that the commands write.
+use Rattle.std.specs.Prelude.{◌≡◌, ℕ, zero, suc, ◌+◌, ◌*◌, ◌/◌, ◌%◌, ◌^◌, nat_le, nat_lt, ◌&&◌, if◌then◌else◌, List, [], ◌∷◌, ◌++◌, length, map, flat_map, replicate, Option, Some, None, ℤ, pos, ◌+ℤ◌, codes, decimal}
+use Rattle.std.specs.Fmt.{signed_decimal}
+use Rattle.std.specs.List.{list_all, AllZip, concat}
+use Rattle.serde_json.specs.Data.{unsigned, Data, number, string, array, object, Members, no_members, member}
+use Rattle.serde_json.specs.Find.{of_integer}
+use Rattle.serde_json.specs.View.{items_of}
+use Rattle.mp4_boxes.specs.format.Box.{Box, Container, size, box_container, file_container, Tiles}
+use Rattle.mp4_boxes.specs.format.Places.{Scope, ruled, containers, at_kind}
+use Rattle.mp4_boxes.specs.declared.rule.Rule.{Rule}
+use Rattle.mp4_boxes.specs.declared.rule.Rule.TheVariants as rules
+use Rattle.mp4_boxes.specs.declared.fault.Kind.{Kind}
+use Rattle.mp4_boxes.specs.declared.fault.Kind.TheVariants as kinds
+use Rattle.mp4_boxes.specs.declared.refusal.Refusal.{Refusal}
+use Rattle.mp4_boxes.specs.declared.refusal.Refusal.TheVariants as refusals
+use Rattle.mp4_tables.specs.declared.sample.SampleAt.{SampleAt}
+use Rattle.mp4_head.specs.format.Head.{Edit, Kept, TrackHead, handler_type}
+use Rattle.mp4_present.specs.format.Presentation.{Sample, Track, Presentation, total_duration, movie_length}
+
+abbrev pub line_feed : List ℕ
+line_feed = 10 ∷ []
+
+abbrev pub space : List ℕ
+space = 32 ∷ []
+
+-- a hexadecimal digit in lower case
+abbrev pub hex_digit : ℕ → ℕ
+hex_digit d = if nat_lt d 10 then 48 + d else 87 + d
+
+-- k hexadecimal digits
+abbrev pub hex_digits : ℕ → ℕ → List ℕ
+hex_digits zero n = []
+hex_digits (suc k) n = hex_digit (n / 16 ^ k % 16) ∷ hex_digits k n
+
+-- a box's type: its four characters if all can be printed, else hexadecimal
+abbrev pub type_text : List ℕ → List ℕ
+type_text kind = if list_all (λ b. nat_le 32 b && nat_le b 126) kind then kind
+    else flat_map (hex_digits 2) kind
+
+abbrev pub kind_text : Kind → List ℕ
+kind_text kinds.ShortHeader = codes "ShortHeader"
+kind_text kinds.BadSize = codes "BadSize"
+kind_text kinds.Overrun = codes "Overrun"
+kind_text kinds.ShortBox = codes "ShortBox"
+kind_text kinds.BoxNotInProfile = codes "BoxNotInProfile"
+kind_text kinds.DuplicateBox = codes "DuplicateBox"
+kind_text kinds.MissingBox = codes "MissingBox"
+kind_text kinds.BadVersion = codes "BadVersion"
+kind_text kinds.BadFlags = codes "BadFlags"
+kind_text kinds.BadValue = codes "BadValue"
+kind_text kinds.OutsideData = codes "OutsideData"
+kind_text kinds.CountMismatch = codes "CountMismatch"
+kind_text kinds.BadOrder = codes "BadOrder"
+kind_text kinds.BadDescriptionIndex = codes "BadDescriptionIndex"
+kind_text kinds.SampleOutsideFile = codes "SampleOutsideFile"
+kind_text kinds.UnknownTrack = codes "UnknownTrack"
+kind_text kinds.Gap = codes "Gap"
+kind_text kinds.OffsetTooLarge = codes "OffsetTooLarge"
+kind_text kinds.ItemLocation = codes "ItemLocation"
+kind_text kinds.TooManySamples = codes "TooManySamples"
+kind_text kinds.TimeTooLarge = codes "TimeTooLarge"
+kind_text kinds.MovieTooLarge = codes "MovieTooLarge"
+kind_text kinds.FragmentBeforeMovie = codes "FragmentBeforeMovie"
+
+-- the line on standard error, without its line feed
+abbrev pub fault_line : Refusal → List ℕ
+fault_line (refusals.Fault f) = codes "refused: " ++ kind_text f.kind ++ codes " in "
+    ++ type_text f.box_type ++ codes " at " ++ decimal f.offset
+fault_line refusals.Memory = codes "failed: memory"
+fault_line refusals.StoreFailed = codes "failed: store"
+fault_line refusals.StoreChanged = codes "failed: store changed"
+fault_line refusals.WriteFailed = codes "failed: write"
+fault_line refusals.NoSuchTrack = codes "failed: no such track"
+
+-- the status that the program ends with
+abbrev pub status_of : Refusal → ℕ
+status_of (refusals.Fault f) = 1
+status_of refusals.Memory = 2
+status_of refusals.StoreFailed = 3
+status_of refusals.StoreChanged = 3
+status_of refusals.WriteFailed = 3
+status_of refusals.NoSuchTrack = 4
+
+-- number, decode time, composition time, duration, flags, description index, size
+abbrev pub fields_line : ℕ → ℕ → ℤ → ℕ → ℕ → ℕ → ℕ → List ℕ
+fields_line i time offset duration flags description size =
+    decimal i ++ space ++ decimal time ++ space ++ signed_decimal (pos time +ℤ offset) ++ space
+    ++ decimal duration ++ space
+    ++ hex_digits 8 flags ++ space ++ decimal description ++ space ++ decimal size ++ line_feed
+
+-- the line of a sample with this number and decode time
+abbrev pub sample_line : ℕ → ℕ → Sample → List ℕ
+sample_line i time s = fields_line i time s.offset s.duration s.flags s.description (length s.bytes)
+
+abbrev pub sample_lines_from : ℕ → ℕ → List Sample → List ℕ
+sample_lines_from i time [] = []
+sample_lines_from i time (s ∷ samples) = sample_line i time s
+    ++ sample_lines_from (i + 1) (time + s.duration) samples
+
+-- a line for each sample of a track
+abbrev pub sample_lines : Track → List ℕ
+sample_lines t = sample_lines_from 1 t.start t.samples
+
+-- the line of a sample that is handed out with its decode time
+abbrev pub sample_at_line : ℕ → SampleAt → List ℕ
+sample_at_line i s = fields_line i s.dts s.cto s.duration s.flags s.description s.size
+
+-- the lines of such samples, numbered on
+abbrev pub sample_at_lines : ℕ → List SampleAt → List ℕ
+sample_at_lines i [] = []
+sample_at_lines i (s ∷ samples) = sample_at_line i s ++ sample_at_lines (i + 1) samples
+
+-- a track's sample bytes, one after the other
+abbrev pub sample_data : Track → List ℕ
+sample_data t = flat_map (λ (s : Sample). s.bytes) t.samples
+
+-- ---- boxes
+
+-- a box's line: two spaces for each container that it stands in, its type, its place, its size
+abbrev pub line_text : ℕ → List ℕ → ℕ → ℕ → List ℕ
+line_text depth kind offset length = replicate (2 * depth) 32 ++ type_text kind ++ space
+    ++ decimal offset ++ space ++ decimal length ++ line_feed
+
+abbrev pub box_line : ℕ → Box → List ℕ
+box_line depth b = line_text depth b.kind b.offset (size b)
+
+-- containers of boxes are descended into, and no others
+abbrev pub descends : Option Scope → Option Rule
+descends (Some (ruled rule)) = Some rule
+descends _ = None
+
+-- the lines of a box: its own, then those of the boxes in it, if it is a container of boxes
+abbrev pub IsPart : (Rule → Container → List ℕ → Type 0) → ℕ → Option Rule → Box → List ℕ → Type 0
+IsPart inside depth None b part = part ≡ box_line depth b
+IsPart inside depth (Some rule) b part = (more : List ℕ) × inside rule (box_container b) more
+    × (part ≡ box_line depth b ++ more)
+
+-- The lines of a container's boxes. Containers nest no deeper than `levels`.
+abbrev pub AreBoxLines : ℕ → ℕ → Rule → Container → List ℕ → Type 0
+AreBoxLines zero depth rule c text = ⊥
+AreBoxLines (suc levels) depth rule c text =
+    (boxes : List Box) × Tiles c boxes × (parts : List (List ℕ))
+    × AllZip (λ (b : Box) part.
+    IsPart (AreBoxLines levels (depth + 1)) depth
+    (descends (at_kind (containers (ruled rule)) b.kind)) b part) boxes parts
+    × (text ≡ concat parts)
+
+abbrev pub BoxLines : List ℕ → List ℕ → Type 0
+BoxLines file text = AreBoxLines 6 0 rules.File (file_container file) text
+
+-- ---- JSON
+
+abbrev pub nat_value : ℕ → Data
+nat_value n = number (unsigned n)
+
+abbrev pub int_value : ℤ → Data
+int_value z = number (of_integer z)
+
+abbrev pub members : List (List ℕ × Data) → Members
+members [] = no_members
+members (m ∷ ms) = member m.0 m.1 (members ms)
+
+abbrev pub edit_value : Edit → Data
+edit_value e =
+    array (items_of (nat_value e.segment_duration ∷ int_value e.media_time
+    ∷ int_value e.rate_integer ∷ int_value e.rate_fraction ∷ []))
+
+abbrev pub description_value : Kept → Data
+description_value k = string (type_text k.kind)
+
+-- a track by its head and the numbers of its sample bytes, duration, samples, start; keys in order
+-- of their bytes
+abbrev pub track_data : TrackHead → ℕ → ℕ → ℕ → ℕ → Data
+track_data head bytes duration samples start = object (members (
+    (codes "bytes", nat_value bytes)
+    ∷ (codes "descriptions", array (items_of (map description_value head.media.descriptions)))
+    ∷ (codes "duration", nat_value duration)
+    ∷ (codes "edits", array (items_of (map edit_value head.edits)))
+    ∷ (codes "handler", string (type_text (handler_type head.media.handler)))
+    ∷ (codes "id", nat_value head.id)
+    ∷ (codes "samples", nat_value samples)
+    ∷ (codes "start", nat_value start)
+    ∷ (codes "timescale", nat_value head.media.timescale)
+    ∷ []))
+
+abbrev pub track_value : Track → Data
+track_value t = track_data t.head (length (sample_data t)) (total_duration t.samples)
+    (length t.samples) t.start
+
+-- a movie by its length, its timescale and its tracks; keys in order of their bytes
+abbrev pub movie_data : ℕ → ℕ → List Data → Data
+movie_data length timescale tracks = object (members (
+    (codes "mehd", nat_value length)
+    ∷ (codes "timescale", nat_value timescale)
+    ∷ (codes "tracks", array (items_of tracks))
+    ∷ []))
+
+-- what is shown of a presentation
+abbrev pub show_value : Presentation → Data
+show_value p = movie_data (movie_length p) p.movie.timescale (map track_value p.tracks)

@@ -1,0 +1,6 @@
+pub mod Actions
+pub mod ShowValue
+pub mod Commands
+pub mod MainJob
+pub mod Sources
+pub mod Jobs
