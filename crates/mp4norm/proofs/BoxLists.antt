@@ -1,23 +1,17 @@
 -- Lines of boxes, as a walk over them adds them, and the faults that it meets.
 use Rattle.std.proofs.Common.{◌≡◌, ℕ, zero, suc, ◌+◌, ◌-◌, ◌<◌, ◌≤◌, Bool, true, false, cond, List, [], ◌∷◌, ◌++◌, Option, Some, None, refl, sym, ap, subst, ◌∙◌, arith, append_assoc, get_or}
-use Rattle.std.specs.Prelude.{option_map, length, take, drop, IsTrue, Result, Ok, Err, IfErr}
+use Rattle.std.specs.Prelude.{option_map, length, drop}
 use Rattle.std.specs.List.{AllZip, concat}
 use Rattle.std.proofs.lemmas.List.{append-nil, drop_more}
-use Rattle.mp4_boxes.specs.format.Box.{Box, Container, Tiles, LieEndToEnd, may_be_open, box_container, bytes_container, file_container, IsCounted, StandsAfter}
-use Rattle.mp4_boxes.specs.format.BoxFaults.{IsHeaderFault}
+use Rattle.mp4_boxes.specs.format.Box.{Box, Container, Tiles, LieEndToEnd, may_be_open, box_container, IsCounted, StandsAfter}
 use Rattle.mp4_boxes.specs.format.Places.{Scope, ruled, data_entries, sample_entries, containers, at_kind, inside, as_container}
 use Rattle.mp4_boxes.specs.declared.rule.Rule.{Rule}
 use Rattle.mp4_boxes.specs.declared.rule.Rule.TheVariants.{File, Movie, Track, Edits, Media, MediaInformation, DataInformation, SampleTable, MovieExtends, MovieFragment, TrackFragment}
 use Rattle.mp4_boxes.specs.declared.fault.Fault.{Fault}
-use Rattle.mp4_boxes.specs.declared.refusal.Refusal.{Refusal}
-use Rattle.mp4_boxes.specs.declared.refusal.Refusal.TheVariants as refusals
 use Rattle.mp4_head.proofs.Above.{lies_front}
 use Rattle.mp4norm.specs.format.Texts.{descends, IsPart, AreBoxLines, box_line}
-use Rattle.mp4_store.specs.words.Device.{range}
-use Rattle.mp4_present.specs.words.Reading.{RefusesHeader}
-use Rattle.mp4_present.proofs.TopLevel.{TopPassed, top_fault}
 use Rattle.mp4_present.specs.declared.reading.TopBox.{TopBox}
-use Rattle.mp4norm.specs.format.BoxWalk.{height, under, rule_inside, FaultSeen, RefusesInside, IsListed, RefusesTop, RefusesTops, top_seen, tops_seen}
+use Rattle.mp4norm.specs.format.BoxWalk.{height, under, rule_inside, FaultSeen, IsListed, top_seen, tops_seen}
 
 -- ---- a loop over boxes that adds a part for each
 
@@ -69,7 +63,7 @@ choose_two : (P : Rule → Type 0) (u v : Bool) (a b inner : Rule) → descends 
 choose_two P true v a b inner e p q = let same : a ≡ inner = cc in subst P same p
 choose_two P false v a b inner e p q = choose_one P v b inner e q
 
-not_entries : (u : Bool) (s : Scope) (inner : Rule) → descends (Some s) ≡ None → descends (cond u (Some s) None) ≡ Some inner → ⊥
+pub not_entries : (u : Bool) (s : Scope) (inner : Rule) → descends (Some s) ≡ None → descends (cond u (Some s) None) ≡ Some inner → ⊥
 not_entries true s inner n e = let both : ◌≡◌ {A = Option Rule} None (Some inner) = sym n ∙ e in cc
 not_entries false s inner n e = cc
 
@@ -136,14 +130,6 @@ lines_of_boxes depth rule c boxes parts t h = from (height rule) (height_some ru
         let e : suc n - 1 ≡ n = omega arith in
         (boxes, t, parts, subst (λ (k : ℕ). AllZip (λ (b : Box) (part : List ℕ). IsPart (AreBoxLines k (depth + 1)) depth (rule_inside rule b.kind) b part) boxes parts) e g, refl)
 
--- the lines of a box that is descended into: its own, and those of its boxes
-pub listed_inside : (rule inner : Rule) (depth : ℕ) (b : Box) (boxes : List Box) (parts : List (List ℕ)) → rule_inside rule b.kind ≡ Some inner → Tiles (box_container b) boxes
-    → AllZip (IsListed inner (depth + 1)) boxes parts → IsListed rule depth b (box_line depth b ++ concat parts)
-listed_inside rule inner depth b boxes parts e t h =
-    let lower = inside_lower rule inner b.kind e in
-    let lines = levels_rise (height inner) (height rule - 1) (depth + 1) inner (box_container b) (concat parts) (omega arith) (lines_of_boxes (depth + 1) inner (box_container b) boxes parts t h) in
-    rw e (concat parts, lines, refl)
-
 -- the line of a box that is not
 pub listed_alone : (rule : Rule) (depth : ℕ) (b : Box) → rule_inside rule b.kind ≡ None → IsListed rule depth b (box_line depth b)
 listed_alone rule depth b e = rw e refl
@@ -176,87 +162,7 @@ seen_above rule inner c all passed left b f t whole many e s =
       fault = s.fault;
     }
 
--- a fault of a box's own boxes
-pub seen_here : (rule inner : Rule) (b : Box) (f : Fault) → rule_inside rule b.kind ≡ Some inner → IsHeaderFault (bytes_container b.kind (b.offset + b.header) b.payload) f → RefusesInside rule b (refusals.Fault f)
-seen_here rule inner b f e h = (
-  inner,
-  e,
-  record {
-    place = under inner (box_container b);
-    reaches = ([], refl);
-    rule = inner;
-    is_looked_at = refl;
-    fault = record { before = h.before; front = h.front; due = h.due; kind = h.kind; fails = h.fails; named = h.named };
-  },
-)
-
--- a box in it refuses
-pub refuses_above : (rule inner : Rule) (b : Box) (all passed left : List Box) (child : Box) (r : Refusal) → rule_inside rule b.kind ≡ Some inner → Tiles (box_container b) all → all ≡ passed ++ child ∷ left
-    → RefusesInside inner child r → RefusesInside rule b r
-refuses_above rule inner b all passed left child (refusals.Fault f) e t whole h = (inner, e, seen_above inner h.0 (box_container b) all passed left child f t whole (λ bs. tt) h.1 h.2)
-refuses_above rule inner b all passed left child refusals.Memory e t whole h = tt
-refuses_above rule inner b all passed left child refusals.StoreFailed e t whole h = h
-refuses_above rule inner b all passed left child refusals.StoreChanged e t whole h = h
-refuses_above rule inner b all passed left child refusals.WriteFailed e t whole h = h
-refuses_above rule inner b all passed left child refusals.NoSuchTrack e t whole h = h
-
--- boxes that tile a box's payload are those of the box
-pub tiles_box : (b : Box) (boxes : List Box) → Tiles (bytes_container b.kind (b.offset + b.header) b.payload) boxes → Tiles (box_container b) boxes
-tiles_box b boxes t = record { front = t.front; full = t.full }
-
--- what is added by a box and those in it, in one part
-pub part_added : (start own text : List ℕ) (parts : List (List ℕ)) → text ≡ (start ++ own) ++ concat parts → text ≡ start ++ (own ++ concat parts)
-part_added start own text parts e = e ∙ append_assoc start own (concat parts)
-
--- ---- the boxes of the file itself
-
--- a box of the file refuses as its header and bytes do
-pub refuses_top : (honest : Bool) (file : List ℕ) (seen b : Box) (reads reads_after : ℕ) (r : Refusal) → (IsTrue honest → seen ≡ b) → RefusesInside File seen r → RefusesTop honest file b reads reads_after r
-refuses_top honest file seen b reads reads_after (refusals.Fault f) same h = λ t. subst (λ (x : Box). RefusesInside File x (refusals.Fault f)) (same t) h
-refuses_top honest file seen b reads reads_after refusals.Memory same h = tt
-refuses_top honest file seen b reads reads_after refusals.StoreFailed same h = absurd h
-refuses_top honest file seen b reads reads_after refusals.StoreChanged same h = h
-refuses_top honest file seen b reads reads_after refusals.WriteFailed same h = h
-refuses_top honest file seen b reads reads_after refusals.NoSuchTrack same h = h
-
--- and so does the file
-pub refuses_tops : (honest : Bool) (file : List ℕ) (all left : List Box) (b : Box) (reads reads_after : ℕ) (r : Refusal) → (IsTrue honest → Tiles (file_container file) all) → (IsTrue honest → (passed : List Box) × (all ≡ passed ++ b ∷ left))
-    → RefusesTop honest file b reads reads_after r → RefusesTops honest file reads reads_after r
-refuses_tops honest file all left b reads reads_after (refusals.Fault f) t whole h = λ told. let r = h told in let w = whole told in seen_above File r.0 (file_container file) all w.0 left b f (t told) w.1 (λ bs. tt) r.1 r.2
-refuses_tops honest file all left b reads reads_after refusals.Memory t whole h = tt
-refuses_tops honest file all left b reads reads_after refusals.StoreFailed t whole h = h
-refuses_tops honest file all left b reads reads_after refusals.StoreChanged t whole h = h
-refuses_tops honest file all left b reads reads_after refusals.WriteFailed t whole h = h
-refuses_tops honest file all left b reads reads_after refusals.NoSuchTrack t whole h = h
-
--- a header of the file itself that can't be read
-pub refuses_header : (honest : Bool) (file : List ℕ) (boxes : List Box) (at reads reads_after : ℕ) (r : Refusal) → (IsTrue honest → TopPassed file boxes at) → at < length file → RefusesHeader honest file at reads reads_after r
-    → RefusesTops honest file reads reads_after r
-refuses_header honest file boxes at reads reads_after (refusals.Fault f) p lt h = λ told. record {
-  place = under File (file_container file);
-  reaches = ([], refl);
-  rule = File;
-  is_looked_at = refl;
-  fault = top_fault file boxes at f (p told) lt (h told);
-}
-refuses_header honest file boxes at reads reads_after refusals.Memory p lt h = tt
-refuses_header honest file boxes at reads reads_after refusals.StoreFailed p lt h = h
-refuses_header honest file boxes at reads reads_after refusals.StoreChanged p lt h = h
-refuses_header honest file boxes at reads reads_after refusals.WriteFailed p lt h = h
-refuses_header honest file boxes at reads reads_after refusals.NoSuchTrack p lt h = h
-
--- a box whose payload was read is the one in the file
-pub top_read : (file : List ℕ) (top : TopBox) (at : ℕ) (payload : List ℕ) → at ≡ top.offset + top.header.header → payload ≡ range file at (top.header.end - at)
-    → ◌≡◌ {A = Box} (record { kind = top.header.kind.0; offset = top.offset; header = top.header.header; payload = payload }) (top_seen file top)
-top_read file top at payload a p =
-    let len : top.header.end - at ≡ top.header.end - top.offset - top.header.header = omega arith in
-    let same = p ∙ (λ i. take (len i) (drop (a i) file)) in
-    λ i. record { kind = top.header.kind.0; offset = top.offset; header = top.header.header; payload = same i }
-
--- what a refusal means is passed on under another word
-pub if_err : {T : Type 0} (r : Result T Refusal) (P Q : Refusal → Type 0) → ((e : Refusal) → P e → Q e) → IfErr r P → IfErr r Q
-if_err (Ok x) P Q f h = tt
-if_err (Err e) P Q f h = f e h
+-- ---- boxes by their headers
 
 -- the boxes from a place on: the one there, and the others
 pub tops_more : (file : List ℕ) (tops : List TopBox) (i : ℕ) (d : TopBox) → i < length tops → tops_seen file (drop i tops) ≡ top_seen file (get_or tops i d) ∷ tops_seen file (drop (i + 1) tops)

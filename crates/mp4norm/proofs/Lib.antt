@@ -20,3 +20,4 @@ pub mod StripCopies
 pub mod StripLaws
 pub mod Stripped
 pub mod HeadersUnder
+pub mod BoxSpans

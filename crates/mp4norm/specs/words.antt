@@ -1,3 +1,4 @@
+pub mod BoxSpans
 pub mod Actions
 pub mod ShowValue
 pub mod Commands

@@ -1,16 +1,16 @@
 //! The boxes of a file, a line each.
-ghost use Rattle.std.specs.Prelude.{◌≡◌, ℕ, ◌+◌, ◌*◌, ◌-◌, ◌<◌, ◌≤◌, ◌++◌, List, IfOk, IfErr, OnOk, IsTrue};
+ghost use Rattle.std.specs.Prelude.{◌≡◌, ℕ, ◌+◌, ◌≤◌, ◌++◌, List, length, IfOk, IfErr, OnOk, IsTrue};
 ghost use Rattle.std.specs.List.{All};
 ghost use Rattle.std.specs.Io.KnownBytes.{Appends};
-ghost use Rattle.mp4_boxes.specs.format.Box.{Tiles, file_container};
-ghost use Rattle.mp4_boxes.specs.words.View.{box_seen};
-ghost use Rattle.mp4_boxes.specs.declared.rule.Rule.TheVariants.{File};
-ghost use Rattle.mp4norm.specs.format.BoxWalk.{height, rule_inside, IsListed, RefusesInside, RefusesBoxes, top_seen, tops_seen, IsWithin, RefusesTop, RefusesTops};
-ghost use Rattle.mp4norm.specs.format.Texts.{line_text, BoxLines};
+ghost use Rattle.mp4_boxes.specs.format.Box.{Tiles};
+ghost use Rattle.mp4norm.specs.format.BoxWalk.{height, rule_inside, RefusesBoxes, tops_seen, IsWithin, RefusesTops};
+ghost use Rattle.mp4norm.specs.format.Texts.{line_text, AreBoxLines, BoxLines};
+ghost use Rattle.mp4norm.specs.words.BoxSpans.{span_of, RefusesSpan};
 
+use crate::headers_under::read_header;
 use crate::line::Line;
-use mp4_boxes::{BoxView, FourCc, Refusal, Rule, children};
-use mp4_present::{TopBox, read_bytes, read_top_header};
+use mp4_boxes::{FourCc, Refusal, Rule};
+use mp4_present::TopBox;
 use mp4_store::{Sink, Store};
 use std::alloc::Global;
 
@@ -52,76 +52,72 @@ pub(crate) fn rule_inside(rule: Rule, kind: FourCc) -> Option<Rule>
     }
 }
 
-// Adds the line of a box that stands in a container under this rule, and those of the boxes in it.
-fn push_box(text: &mut Vec<u8>, view: BoxView, rule: Rule, depth: u8) -> Result<(), Refusal>
-    requires { depth + height rule ≤ 6 }
-    ensures lines { OnOk result ((part : List ℕ) × IsListed rule depth (box_seen view.entry) part
-        × (text.new.items ≡ text.old.items ++ part)) }
-    ensures refusal { IfErr result (RefusesInside rule (box_seen view.entry)) }
-{
-    let size = view.payload_offset() - view.offset() + view.payload().len() as u64;
-    let line = line_of(depth, view.kind(), view.offset(), size);
-    text.extend_from_slice(line.as_bytes())?;
-    let Some(inner) = rule_inside(rule, view.kind()) else {
-        return Ok(());
-    };
-    for child in children(view.payload(), view.payload_offset(), view.kind())? {
-        push_box(text, child, inner, depth + 1)?;
-    }
-    Ok(())
-}
-
-// The boxes of the file itself.
-fn top_boxes<S: Store>(alloc: Global, store: &mut S) -> Result<Vec<TopBox>, Refusal>
+// The boxes of a container that ends at `end` and whose boxes lie under a rule, by their headers.
+fn boxes_between<S: Store>(
+    alloc: Global,
+    store: &mut S,
+    rule: Rule,
+    from: u64,
+    end: u64,
+) -> Result<Vec<TopBox>, Refusal>
+    requires span { from ≤ end }
+    requires within { end ≤ length (S.file store.old) }
     ensures honesty { S.is_honest store.new ≡ S.is_honest store.old }
     ensures file { S.file store.new ≡ S.file store.old }
-    ensures tiles { IfOk result (λ tops. IsTrue (S.is_honest store.old)
-        → Tiles (file_container (S.file store.old)) (tops_seen (S.file store.old) tops.items)) }
-    ensures within { IfOk result (λ tops. All (IsWithin (S.file store.old)) tops.items) }
+    ensures tiles { IfOk result (λ boxes. IsTrue (S.is_honest store.old) → (start : ℕ)
+        → Tiles (span_of (S.file store.old) rule start from end)
+        (tops_seen (S.file store.old) boxes.items)) }
+    ensures within { IfOk result (λ boxes. All (IsWithin (S.file store.old)) boxes.items) }
     ensures reads { OnOk result (S.read_failures store.new ≡ S.read_failures store.old) }
     ensures refusal { IfErr result
-        (RefusesTops (S.is_honest store.old) (S.file store.old) (S.read_failures store.old)
-        (S.read_failures store.new)) }
+        (RefusesSpan (S.is_honest store.old) (S.file store.old) rule from end
+        (S.read_failures store.old) (S.read_failures store.new)) }
 {
-    let mut tops = Vec::new(alloc);
-    let len = store.len();
-    let mut at = 0;
-    while at < len {
-        let header = read_top_header(store, at)?;
-        tops.push(TopBox { offset: at, header })?;
+    let mut boxes = Vec::new(alloc);
+    let mut at = from;
+    while at < end {
+        let header = read_header(store, rule, at, end)?;
+        boxes.push(TopBox { offset: at, header })?;
         at = header.end;
     }
-    Ok(tops)
+    Ok(boxes)
 }
 
-// Adds the lines of a box of the file itself.
-fn push_top<S: Store>(
+// Adds the lines of the boxes of a container, and behind each those of the boxes in it. The headers
+// of all its boxes are read before those of boxes in them; payloads are not read.
+fn push_boxes<S: Store>(
     text: &mut Vec<u8>,
     alloc: Global,
     store: &mut S,
-    top: TopBox,
+    rule: Rule,
+    depth: u8,
+    from: u64,
+    end: u64,
 ) -> Result<(), Refusal>
-    requires { IsWithin (S.file store.old) top }
+    requires levels { depth + height rule ≤ 6 }
+    requires span { from ≤ end }
+    requires within { end ≤ length (S.file store.old) }
     ensures honesty { S.is_honest store.new ≡ S.is_honest store.old }
     ensures file { S.file store.new ≡ S.file store.old }
-    ensures lines { OnOk result (IsTrue (S.is_honest store.old) → (part : List ℕ)
-        × IsListed File 0 (top_seen (S.file store.old) top) part
+    ensures lines { OnOk result (IsTrue (S.is_honest store.old) → (start : ℕ) → (part : List ℕ)
+        × AreBoxLines (height rule) depth rule (span_of (S.file store.old) rule start from end) part
         × (text.new.items ≡ text.old.items ++ part)) }
     ensures reads { OnOk result (S.read_failures store.new ≡ S.read_failures store.old) }
     ensures refusal { IfErr result
-        (RefusesTop (S.is_honest store.old) (S.file store.old) (top_seen (S.file store.old) top)
+        (RefusesSpan (S.is_honest store.old) (S.file store.old) rule from end
         (S.read_failures store.old) (S.read_failures store.new)) }
 {
-    let header = top.header;
-    if rule_inside(Rule::File, header.kind).is_none() {
-        let line = line_of(0, header.kind, top.offset, header.end - top.offset);
+    let boxes = boxes_between(alloc, store, rule, from, end)?;
+    for found in &boxes {
+        let header = found.header;
+        let line = line_of(depth, header.kind, found.offset, header.end - found.offset);
         text.extend_from_slice(line.as_bytes())?;
-        return Ok(());
+        if let Some(inner) = rule_inside(rule, header.kind) {
+            let payload = found.offset + u64::from(header.header);
+            push_boxes(text, alloc, store, inner, depth + 1, payload, header.end)?;
+        }
     }
-    let at = top.offset + u64::from(header.header);
-    let payload = read_bytes(alloc, store, at, header.end - at)?;
-    let view = BoxView::new(header.kind, top.offset, header.header, payload.as_slice());
-    push_box(text, view, Rule::File, 0)
+    Ok(())
 }
 
 // The lines of all boxes that are listed.
@@ -135,11 +131,9 @@ fn list_boxes<S: Store>(alloc: Global, store: &mut S) -> Result<Vec<u8>, Refusal
         (RefusesTops (S.is_honest store.old) (S.file store.old) (S.read_failures store.old)
         (S.read_failures store.new)) }
 {
-    let tops = top_boxes(alloc, store)?;
     let mut text = Vec::new(alloc);
-    for top in &tops {
-        push_top(&mut text, alloc, store, *top)?;
-    }
+    let end = store.len();
+    push_boxes(&mut text, alloc, store, Rule::File, 0, 0, end)?;
     Ok(text)
 }
 

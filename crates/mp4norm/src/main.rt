@@ -17,6 +17,7 @@ mod drop_lists;
 mod explaining;
 mod extract;
 mod fault_text;
+mod headers_under;
 mod input;
 mod jobs;
 mod judging;

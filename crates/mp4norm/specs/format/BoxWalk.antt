@@ -1,8 +1,8 @@
 -- The walk over the boxes of a file that lists them: which containers it descends into, and what it
 -- answers.
-use Rattle.std.specs.Prelude.{◌≡◌, ℕ, ◌+◌, ◌-◌, ◌≤◌, List, length, map, Bool, IsTrue, Option, Some}
+use Rattle.std.specs.Prelude.{◌≡◌, ℕ, ◌+◌, ◌-◌, ◌≤◌, List, length, map, Bool, IsTrue, Option}
 use Rattle.mp4_store.specs.words.Device.{HasRisen, AppendsPrefix}
-use Rattle.mp4_boxes.specs.format.Box.{Box, Container, box_container, file_container}
+use Rattle.mp4_boxes.specs.format.Box.{Box, Container, file_container}
 use Rattle.mp4_boxes.specs.format.BoxFaults.{IsHeaderFault}
 use Rattle.mp4_boxes.specs.format.Places.{Place, ruled, containers, at_kind, Reaches}
 use Rattle.mp4_boxes.specs.declared.rule.Rule.{Rule}
@@ -39,13 +39,6 @@ pub record FaultSeen (from : Place) (f : Fault) : Type 0 where
   pub is_looked_at : place.scope ≡ ruled rule
   pub fault : IsHeaderFault place.container f
 
--- why the boxes in a box are not listed
-abbrev pub RefusesInside : Rule → Box → Refusal → Type 0
-RefusesInside rule b (refusals.Fault f) = (inner : Rule) × (rule_inside rule b.kind ≡ Some inner)
-    × FaultSeen (under inner (box_container b)) f
-RefusesInside rule b refusals.Memory = Unit {0}
-RefusesInside rule b _ = ⊥
-
 -- the boxes in a box have these lines, if the walk descends into it; else there are none
 abbrev pub IsListed : Rule → ℕ → Box → List ℕ → Type 0
 IsListed rule depth b part = IsPart (AreBoxLines (height rule - 1) (depth + 1)) depth
@@ -79,14 +72,6 @@ tops_seen file tops = map (top_seen file) tops
 abbrev pub IsWithin : List ℕ → TopBox → Type 0
 IsWithin file top = (top.offset + top.header.header ≤ top.header.end)
     × (top.header.end ≤ length file)
-
--- why a box of the file itself is not listed
-abbrev pub RefusesTop : Bool → List ℕ → Box → ℕ → ℕ → Refusal → Type 0
-RefusesTop honest file b reads reads_after (refusals.Fault f) = IsTrue honest
-    → RefusesInside File b (refusals.Fault f)
-RefusesTop honest file b reads reads_after refusals.Memory = Unit {0}
-RefusesTop honest file b reads reads_after refusals.StoreFailed = HasRisen reads reads_after
-RefusesTop honest file b reads reads_after _ = ⊥
 
 -- why the boxes of the file are not listed
 abbrev pub RefusesTops : Bool → List ℕ → ℕ → ℕ → Refusal → Type 0

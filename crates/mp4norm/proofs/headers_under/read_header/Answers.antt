@@ -4,7 +4,7 @@ use Rattle.mp4_boxes.specs.words.View.{top_header_seen}
 use Rattle.mp4_store.specs.words.Device.{range}
 use Rattle.mp4norm.specs.format.Strips.{holder, is_top}
 use Rattle.mp4norm.proofs.HeadersUnder.{read_under, header_is_at}
-use Rattle.mp4norm.proofs.stripping.read_header.Goals as goal
+use Rattle.mp4norm.proofs.headers_under.read_header.Goals as goal
 
 pub returns-in_err-header-clause-refusal : goal.returns-in_err-header-clause-refusal
 returns-in_err-header-clause-refusal g c =

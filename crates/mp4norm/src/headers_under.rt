@@ -1,0 +1,68 @@
+//! A header of a box in a container of boxes, read by place.
+ghost use Rattle.std.specs.Prelude.{◌≡◌, ◌+◌, ◌-◌, ◌^◌, ◌<◌, ◌≤◌, min, length, Ok, Err, IfOk, IfErr, OnOk, IsTrue};
+ghost use Rattle.mp4_boxes.specs.format.Box.{header_at};
+ghost use Rattle.mp4_boxes.specs.format.BoxFaults.{header_there};
+ghost use Rattle.mp4_boxes.specs.words.View.{top_header_seen};
+ghost use Rattle.mp4_store.specs.words.Device.{range};
+ghost use Rattle.mp4norm.specs.format.Strips.{holder, is_top, RefusesHeaderUnder};
+
+use crate::named::holder;
+use mp4_boxes::{Fault, FourCc, Kind, Refusal, Rule, TopHeader, top_header, u32_at};
+use mp4_store::Store;
+
+// The header at the place `at`, where `left` bytes are left in a container whose boxes lie under a
+// rule. The bytes are the first 16 of these, or all.
+fn header_under(bytes: &[u8], rule: Rule, at: u64, left: u64) -> Result<TopHeader, Fault>
+    requires fits { at + left < 2 ^ 64 }
+    requires some { 0 < left }
+    requires there { length bytes.now ≡ min left 16 }
+    ensures header { IfOk result (λ h. header_there (is_top rule) left bytes.now (holder rule) at
+        ≡ Ok (top_header_seen at h)) }
+    ensures within { IfOk result (λ h. (at + h.header ≤ h.end) × (8 ≤ h.header)
+        × (h.end ≤ at + left)) }
+    ensures fault { IfErr result (λ f. header_there (is_top rule) left bytes.now (holder rule) at
+        ≡ Err f) }
+{
+    if left < 8 {
+        return Err(Fault::new(Kind::ShortHeader, holder(rule), at));
+    }
+    if rule != Rule::File && u32_at(bytes, 0) == 0 {
+        let kind = FourCc([bytes[4], bytes[5], bytes[6], bytes[7]]);
+        return Err(Fault::new(Kind::BadSize, kind, at));
+    }
+    if left < 16 && u32_at(bytes, 0) == 1 {
+        return Err(Fault::new(Kind::ShortHeader, holder(rule), at));
+    }
+    top_header(bytes, at, left)
+}
+
+/// Reads the header at the place `at` of a container that ends at `end` and whose boxes lie under a
+/// rule.
+pub(crate) fn read_header<S: Store>(
+    store: &mut S,
+    rule: Rule,
+    at: u64,
+    end: u64,
+) -> Result<TopHeader, Refusal>
+    requires some { at < end }
+    requires within { end ≤ length (S.file store.old) }
+    ensures honesty { S.is_honest store.new ≡ S.is_honest store.old }
+    ensures file { S.file store.new ≡ S.file store.old }
+    ensures header { IfOk result (λ h. IsTrue (S.is_honest store.old)
+        → header_at (is_top rule) (range (S.file store.old) at (end - at))
+        ≡ Ok (top_header_seen at h)) }
+    ensures fits { IfOk result (λ h. (at + h.header ≤ h.end) × (8 ≤ h.header) × (h.end ≤ end)) }
+    ensures reads { OnOk result (S.read_failures store.new ≡ S.read_failures store.old) }
+    ensures refusal { IfErr result
+        (RefusesHeaderUnder (S.is_honest store.old) (range (S.file store.old) at (end - at)) rule at
+        (S.read_failures store.old) (S.read_failures store.new)) }
+{
+    let _size = store.len();
+    let left = end - at;
+    let mut front = [0; 16];
+    let len = left.min(16) as usize;
+    let bytes = &mut front[..len];
+    store.read_at(at, bytes)?;
+    let header = header_under(bytes, rule, at, left)?;
+    Ok(header)
+}
