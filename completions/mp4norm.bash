@@ -22,7 +22,7 @@ _mp4norm() {
     '') words='normalise show samples extract boxes strip check help --help --version' ;;
     normalise) words='--out --replace --explain --help' ;;
     show) words='--explain --help' ;;
-    samples) words='--track --explain --help' ;;
+    samples) words='--track --header --json --explain --help' ;;
     extract) words='--track --out --replace --explain --help' ;;
     boxes) words='--explain --help' ;;
     strip) words='--drop --out --replace --explain --help' ;;

@@ -12,6 +12,8 @@ complete -c mp4norm -n __fish_use_subcommand -a help -d 'Print help'
 complete -c mp4norm -n '__fish_seen_subcommand_from normalise show samples extract boxes strip check' -F
 complete -c mp4norm -n '__fish_seen_subcommand_from help' -a 'normalise show samples extract boxes strip check'
 complete -c mp4norm -n '__fish_seen_subcommand_from samples extract' -l track -x -d 'The ID of the track'
+complete -c mp4norm -n '__fish_seen_subcommand_from samples' -l header -d 'Begin with the names of the columns'
+complete -c mp4norm -n '__fish_seen_subcommand_from samples' -l json -d 'List each sample as an object of JSON'
 complete -c mp4norm -n '__fish_seen_subcommand_from normalise extract strip' -l out -rF -d 'The file to make'
 complete -c mp4norm -n '__fish_seen_subcommand_from normalise extract strip' -l replace -d 'Replace it once all is written'
 complete -c mp4norm -n '__fish_seen_subcommand_from strip' -l drop -x -d 'Types of boxes, apart by commas'

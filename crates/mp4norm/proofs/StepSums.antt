@@ -1,7 +1,7 @@
 -- The steps of opening a file and of three walks over each of its tracks are within the bound.
-use Rattle.std.proofs.Common.{◌≡◌, ℕ, zero, suc, ◌+◌, ◌*◌, ◌≤◌, List, [], ◌∷◌, length, map, refl, sym, ap, subst, ◌∙◌, arith, mul-le-mul_left}
+use Rattle.std.proofs.Common.{◌≡◌, ℕ, zero, suc, ◌+◌, ◌*◌, ◌≤◌, List, [], ◌∷◌, Some, length, map, refl, sym, ap, subst, ◌∙◌, arith, mul-le-mul_left}
 use Rattle.std.proofs.lemmas.List.{length-map}
-use Rattle.std.specs.List.{AllByRecursion}
+use Rattle.std.specs.List.{AllByRecursion, slice_get}
 use Rattle.mp4_boxes.specs.format.Bytes.{sum_of}
 use Rattle.mp4_tables.specs.format.TableRules.{Fit}
 use Rattle.mp4_tables.specs.format.Tables.{tables_of}
@@ -16,7 +16,7 @@ use Rattle.mp4_head.specs.format.Tree.{TrackTree, IsTrackTree, trexes_of}
 use Rattle.mp4_present.specs.format.Denotes.{FileTree, IsFileTree, IsConsistent, Denotes, plain_of, surroundings, file_parts, presentation_of, track_of}
 use Rattle.mp4_present.specs.format.Presentation.{Presentation, sample_total}
 use Rattle.mp4_present.specs.format.Stands.{table_total}
-use Rattle.mp4_present.specs.words.WalkSteps.{moof_steps, moofs_steps, table_steps, opening_steps, table_way, walks_steps}
+use Rattle.mp4_present.specs.words.WalkSteps.{moof_steps, moofs_steps, table_steps, opening_steps, table_way, walk_steps, walks_steps}
 use Rattle.mp4_present.proofs.Counts.{parts_total, sum-append, sizes_few, fragments_total, total_is, all_belong}
 use Rattle.mp4norm.specs.format.Steps.{row_total, most_steps}
 
@@ -92,3 +92,38 @@ tree_within file tree h c =
 -- opening a file and three walks over each of its tracks
 pub all_within : (file : List ℕ) (p : Presentation) (d : Denotes file p) → opening_steps d.tree + 3 * walks_steps d.tree ≤ most_steps (length p.tracks) (sample_total p) (row_total d.tree)
 all_within file p d = subst (λ (q : Presentation). opening_steps d.tree + 3 * walks_steps d.tree ≤ most_steps (length q.tracks) (sample_total q) (row_total d.tree)) (sym d.says) (tree_within file d.tree d.is_tree d.is_consistent)
+
+-- ---- a look, and a way over one track
+
+way_at : (tracks : List TrackTree) (k : ℕ) (t : TrackTree) → slice_get tracks k ≡ Some t → table_way t ≤ rows_of tracks + 3 * plain_total tracks
+unfolding table_way
+way_at [] k t is = absurd cc
+way_at (y ∷ tracks) zero t is = let same : y ≡ t = cc in let own = ap table_way same in omega (arith, own)
+way_at (y ∷ tracks) (suc k) t is = let r = way_at tracks k t is in omega (arith, r)
+
+looked : (m s f r more checks way : ℕ) → m ≤ f + more → checks ≡ 7 * r + 3 * s → way ≤ r + 3 * s + 2 * m → (checks + m) + way ≤ 8 * ((s + f) + (r + more))
+looked m s f r more checks way le c w = omega (arith, le, c, w)
+
+tree_looks : (file : List ℕ) (tree : FileTree) (way : ℕ) → way ≤ rows_of tree.movie.tracks + 3 * plain_total tree.movie.tracks + 2 * moofs_steps tree.fragments → IsFileTree file tree → IsConsistent file tree
+    → opening_steps tree + way ≤ 8 * (sample_total (presentation_of file tree) + row_total tree)
+tree_looks file tree way short h c =
+    let tracks = tree.movie.tracks in
+    let fragments = tree.fragments in
+    let parts = file_parts tree in
+    let total : sample_total (presentation_of file tree) ≡ plain_total tracks + fragments_total parts tracks =
+    total_is file parts tracks h.movie.tracks c.tables ∙ ap (λ n. n + fragments_total parts tracks) (sym (plain_counted file tracks h.movie.tracks c.tables)) in
+    let moofs = moofs_sum (trexes_of tree.movie) fragments h.fragments in
+    let known = all_belong tree.movie parts c.known in
+    let few : moofs_steps fragments ≤ fragments_total parts tracks + fragment_rows_of fragments = omega (arith, moofs, known) in
+    let all = looked (moofs_steps fragments) (plain_total tracks) (fragments_total parts tracks) (rows_of tracks) (fragment_rows_of fragments) (sum_of table_steps tracks) way few (checks_sum tracks) short in
+    subst (λ n. opening_steps tree + way ≤ 8 * (n + row_total tree)) (sym total) all
+
+-- opening a file
+pub opened_looks : (file : List ℕ) (p : Presentation) (d : Denotes file p) → opening_steps d.tree ≤ 8 * (sample_total p + row_total d.tree)
+opened_looks file p d = subst (λ (q : Presentation). opening_steps d.tree ≤ 8 * (sample_total q + row_total d.tree)) (sym d.says) (let all = tree_looks file d.tree 0 (omega arith) d.is_tree d.is_consistent in omega (arith, all))
+
+-- opening a file and a walk over one of its tracks
+pub walked_looks : (file : List ℕ) (p : Presentation) (d : Denotes file p) (k : ℕ) (t : TrackTree) → slice_get d.tree.movie.tracks k ≡ Some t → opening_steps d.tree + walk_steps d.tree t ≤ 8 * (sample_total p + row_total d.tree)
+walked_looks file p d k t is =
+    let way = way_at d.tree.movie.tracks k t is in
+    subst (λ (q : Presentation). opening_steps d.tree + walk_steps d.tree t ≤ 8 * (sample_total q + row_total d.tree)) (sym d.says) (tree_looks file d.tree (walk_steps d.tree t) (omega (arith, way)) d.is_tree d.is_consistent)

@@ -1,39 +1,54 @@
 -- The steps of `normalise`, by what its parts promise.
-use Rattle.std.proofs.Common.{ℕ, ◌+◌, ◌*◌, ◌≤◌, List, subst, arith}
-use Rattle.std.specs.Prelude.{Bool, Err, IsTrue}
+use Rattle.std.proofs.Common.{◌≡◌, ℕ, ◌+◌, ◌*◌, ◌≤◌, List, length, Some, subst, arith}
+use Rattle.std.specs.Prelude.{Bool, Err, IsTrue, slice_get}
+use Rattle.mp4_head.specs.format.Tree.{TrackTree}
 use Rattle.mp4_boxes.specs.declared.refusal.Refusal.{Refusal}
 use Rattle.mp4_boxes.specs.declared.refusal.Refusal.TheVariants as refusals
 use Rattle.mp4_present.specs.format.Denotes.{FileTree, IsFileTree, presentation_of}
+use Rattle.mp4_present.specs.format.Presentation.{sample_total}
 use Rattle.mp4_present.specs.words.Movies.{MovieSeen}
 use Rattle.mp4_present.specs.words.OpenedMovie.{IsOpenedAs}
 use Rattle.mp4_present.specs.words.Opening.{RefusesOpen}
-use Rattle.mp4_present.specs.words.WalkSteps.{IfNoFault, OpensWithin, opening_steps, walks_steps}
+use Rattle.mp4_present.specs.words.WalkSteps.{IfNoFault, OpensWithin, opening_steps, walk_steps, walks_steps}
 use Rattle.mp4_present.proofs.One.{file_tree_one}
-use Rattle.mp4norm.specs.format.Steps.{WorksWithin}
+use Rattle.mp4norm.specs.format.Steps.{WorksWithin, LooksWithin, row_total}
 use Rattle.mp4norm.proofs.Normalised.{denotes_nothing}
 use Rattle.mp4norm.proofs.ShownLines.{denoted}
-use Rattle.mp4norm.proofs.StepSums.{all_within}
+use Rattle.mp4norm.proofs.StepSums.{all_within, opened_looks, walked_looks}
+
+few_times : (k n : ℕ) → 8 * n ≤ 8 * ((k + 1) * n)
+few_times k n = let small : n ≤ (k + 1) * n = omega arith in omega (arith, small)
 
 module _ (file : List ℕ) (old new : ℕ) where
   -- as many as opening takes, and no more
-  opening_only : ((tree : FileTree) → IsFileTree file tree → new ≤ old + opening_steps tree) → OpensWithin file old new → WorksWithin file old new
+  opening_only : ((tree : FileTree) → IsFileTree file tree → new ≤ old + opening_steps tree) → OpensWithin file old new → LooksWithin file old new
   opening_only work within = record {
-    denoted = λ p d. let own = work d.tree d.is_tree in let all = all_within file p d in omega (arith, own, all);
+    denoted = λ p d. let own = work d.tree d.is_tree in let all = opened_looks file p d in omega (arith, own, all);
     refused = λ nothing. within;
   }
 
   -- a file that isn't opened
-  pub not_opened : (honest : Bool) (reads reads_after : ℕ) (r : Refusal) → IsTrue honest → RefusesOpen honest file reads reads_after r → ((tree : FileTree) → IsFileTree file tree → IfNoFault {A = Unit {0}} (Err r) (new ≤ old + opening_steps tree)) → OpensWithin file old new
-      → WorksWithin file old new
-  not_opened honest reads reads_after (refusals.Fault f) told refuses work within = record {
+  pub not_looked : (honest : Bool) (reads reads_after : ℕ) (r : Refusal) → IsTrue honest → RefusesOpen honest file reads reads_after r → ((tree : FileTree) → IsFileTree file tree → IfNoFault {A = Unit {0}} (Err r) (new ≤ old + opening_steps tree)) → OpensWithin file old new
+      → LooksWithin file old new
+  not_looked honest reads reads_after (refusals.Fault f) told refuses work within = record {
     denoted = λ p d. absurd (denotes_nothing file f (refuses told) p d);
     refused = λ nothing. within;
   }
-  not_opened honest reads reads_after refusals.Memory told refuses work within = opening_only work within
-  not_opened honest reads reads_after refusals.StoreFailed told refuses work within = opening_only work within
-  not_opened honest reads reads_after refusals.StoreChanged told refuses work within = opening_only work within
-  not_opened honest reads reads_after refusals.WriteFailed told refuses work within = opening_only work within
-  not_opened honest reads reads_after refusals.NoSuchTrack told refuses work within = opening_only work within
+  not_looked honest reads reads_after refusals.Memory told refuses work within = opening_only work within
+  not_looked honest reads reads_after refusals.StoreFailed told refuses work within = opening_only work within
+  not_looked honest reads reads_after refusals.StoreChanged told refuses work within = opening_only work within
+  not_looked honest reads reads_after refusals.WriteFailed told refuses work within = opening_only work within
+  not_looked honest reads reads_after refusals.NoSuchTrack told refuses work within = opening_only work within
+
+  -- the same, where walks over all tracks would be allowed
+  pub not_opened : (honest : Bool) (reads reads_after : ℕ) (r : Refusal) → IsTrue honest → RefusesOpen honest file reads reads_after r → ((tree : FileTree) → IsFileTree file tree → IfNoFault {A = Unit {0}} (Err r) (new ≤ old + opening_steps tree)) → OpensWithin file old new
+      → WorksWithin file old new
+  not_opened honest reads reads_after r told refuses work within =
+      let l = not_looked honest reads reads_after r told refuses work within in
+      record {
+        denoted = λ p d. let own = l.denoted p d in let more = few_times (length p.tracks) (sample_total p + row_total d.tree) in omega (arith, own, more);
+        refused = l.refused;
+      }
 
   -- a file that is opened, and walked over at most three times
   pub opened_within : (m : MovieSeen) (tree : FileTree) (behind : ℕ) → IsOpenedAs file m tree → behind ≤ old + opening_steps tree → new ≤ behind + 3 * walks_steps tree → WorksWithin file old new
@@ -42,6 +57,28 @@ module _ (file : List ℕ) (old new : ℕ) where
         let same = file_tree_one file tree d.tree o.is_tree d.is_tree in
         let own = subst (λ (t : FileTree). new ≤ old + (opening_steps t + 3 * walks_steps t)) same (omega (arith, opening, walks)) in
         let all = all_within file p d in
+        omega (arith, own, all);
+    refused = λ nothing. absurd (nothing (presentation_of file tree) (denoted file m tree o));
+  }
+
+  -- a file that is opened, and of which no track is walked over
+  pub looked_within : (m : MovieSeen) (tree : FileTree) → IsOpenedAs file m tree → new ≤ old + opening_steps tree → LooksWithin file old new
+  looked_within m tree o opening = record {
+    denoted = λ p d.
+        let same = file_tree_one file tree d.tree o.is_tree d.is_tree in
+        let own = subst (λ (t : FileTree). new ≤ old + opening_steps t) same opening in
+        let all = opened_looks file p d in
+        omega (arith, own, all);
+    refused = λ nothing. absurd (nothing (presentation_of file tree) (denoted file m tree o));
+  }
+
+  -- a file that is opened, and of which one track is walked over once
+  pub walked_within : (m : MovieSeen) (tree : FileTree) (behind k : ℕ) (t : TrackTree) → IsOpenedAs file m tree → behind ≤ old + opening_steps tree → slice_get tree.movie.tracks k ≡ Some t → new ≤ behind + walk_steps tree t → LooksWithin file old new
+  walked_within m tree behind k t o opening is walk = record {
+    denoted = λ p d.
+        let same = file_tree_one file tree d.tree o.is_tree d.is_tree in
+        let own = subst (λ (u : FileTree). new ≤ old + (opening_steps u + walk_steps u t)) same (omega (arith, opening, walk)) in
+        let all = walked_looks file p d k t (subst (λ (u : FileTree). slice_get u.movie.tracks k ≡ Some t) same is) in
         omega (arith, own, all);
     refused = λ nothing. absurd (nothing (presentation_of file tree) (denoted file m tree o));
   }

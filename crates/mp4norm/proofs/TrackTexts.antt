@@ -1,14 +1,15 @@
 -- The texts of a track: those of the presentation that the file denotes, and why they are not put.
-use Rattle.std.proofs.Common.{◌≡◌, inl, inr, ℕ, zero, suc, ◌^◌, ◌<◌, ◌≤◌, List, [], ◌∷◌, length, Some, refl, sym, ap, subst, ◌∙◌, arith}
+use Rattle.std.proofs.Common.{◌≡◌, inl, inr, ℕ, zero, suc, ◌^◌, ◌<◌, ◌≤◌, List, [], ◌∷◌, ◌++◌, length, Some, refl, sym, ap, subst, ◌∙◌, arith}
 use Rattle.std.proofs.lemmas.List.{length-map}
 use Rattle.std.specs.List.{AllZip, slice_get}
 use Rattle.std.specs.Prelude.{Option, Bool, Result, Ok, Err, IfErr, OnErr, IfSome, IsTrue, map}
 use Rattle.mp4_boxes.specs.format.Bytes.{sum_of}
+use Rattle.mp4_store.specs.words.Device.{count_after}
 use Rattle.mp4_boxes.specs.declared.refusal.Refusal.{Refusal}
 use Rattle.mp4_boxes.specs.declared.refusal.Refusal.TheVariants as refusals
 use Rattle.mp4_head.specs.format.Head.{TrackHead}
 use Rattle.mp4_head.specs.format.Tree.{TrackTree, track_head_of}
-use Rattle.mp4_present.specs.words.Carried.{RefusesCopy}
+use Rattle.mp4_present.specs.words.Carried.{RefusesCopy, RefusesPut}
 use Rattle.mp4_present.specs.words.SamplesComing.{track_samples}
 use Rattle.mp4_present.specs.format.Denotes.{FileTree, file_parts, placed_of, sample_of, track_of, presentation_of}
 use Rattle.mp4_present.specs.words.Joined.{sample_bytes}
@@ -21,7 +22,8 @@ use Rattle.mp4_present.proofs.SamplesLie.{all_whole, timed_data, timed_length}
 use Rattle.mp4_present.proofs.WalkPlaces.{of_got}
 use Rattle.mp4_plan.proofs.TakenFrom.{got_map}
 use Rattle.mp4norm.specs.words.Commands.{AreOthers, LacksTrack, IsTrackWith, ListsSamples, HasData, PutsFrontOf, RefusesTrack}
-use Rattle.mp4norm.specs.format.Texts.{sample_at_lines}
+use Rattle.mp4norm.specs.declared.wanted.Form.{Form}
+use Rattle.mp4norm.specs.format.Texts.{listing_head, sample_at_lines}
 use Rattle.mp4norm.proofs.SampleTexts.{lines_of_placed}
 use Rattle.mp4norm.proofs.ShownLines.{denoted, LieInFile, each_lies}
 
@@ -78,8 +80,8 @@ lacks file m tree id o h = (presentation_of file tree, denoted file m tree o, su
 
 -- ---- its texts
 
-pub lists : (file : List ℕ) (tree : FileTree) (k id : ℕ) → (f : IsFound file tree k id) → ListsSamples file id (sample_at_lines 1 (track_samples tree f.t))
-lists file tree k id f = (track_of file (file_parts tree) f.t, f.with_id, lines_of_placed file _ 1 _ (placed_of (file_parts tree) f.t) (all_whole file (placed_of (file_parts tree) f.t) f.lies))
+pub lists : (form : Form) (file : List ℕ) (tree : FileTree) (k id : ℕ) → (f : IsFound file tree k id) → ListsSamples file id form (listing_head form ++ sample_at_lines form 1 (track_samples tree f.t))
+lists form file tree k id f = (track_of file (file_parts tree) f.t, f.with_id, ap (λ (text : List ℕ). listing_head form ++ text) (lines_of_placed form file _ 1 _ (placed_of (file_parts tree) f.t) (all_whole file (placed_of (file_parts tree) f.t) f.lies)))
 
 pub has_data : (file : List ℕ) (tree : FileTree) (k id : ℕ) → (f : IsFound file tree k id) → HasData file id (sample_bytes file (track_samples tree f.t))
 has_data file tree k id f = (track_of file (file_parts tree) f.t, f.with_id, timed_data file _ _ (placed_of (file_parts tree) f.t) f.lies)
@@ -103,6 +105,16 @@ text_refused honest file id IsText before after reads reads_after puts puts_afte
 text_refused honest file id IsText before after reads reads_after puts puts_after refusals.StoreChanged w p u = λ told. u told refl
 text_refused honest file id IsText before after reads reads_after puts puts_after refusals.WriteFailed w p u = (w, p)
 text_refused honest file id IsText before after reads reads_after puts puts_after refusals.NoSuchTrack w p u = absurd w
+
+-- a put fails before the rest is made
+pub put_refuses : (honest : Bool) (file : List ℕ) (id : ℕ) (IsText : List ℕ → Type 0) (before after : Option (List ℕ)) (reads puts puts_after : ℕ) (r : Refusal) → RefusesPut puts puts_after r → (IsTrue honest → PutsFrontOf IsText before after)
+    → RefusesTrack honest file id IsText before after reads reads puts puts_after r
+put_refuses honest file id IsText before after reads puts puts_after (refusals.Fault f) w p = absurd w
+put_refuses honest file id IsText before after reads puts puts_after refusals.Memory w p = absurd w
+put_refuses honest file id IsText before after reads puts puts_after refusals.StoreFailed w p = absurd w
+put_refuses honest file id IsText before after reads puts puts_after refusals.StoreChanged w p = absurd w
+put_refuses honest file id IsText before after reads puts puts_after refusals.WriteFailed w p = let e : puts_after ≡ count_after puts = w in (omega (arith, e), p)
+put_refuses honest file id IsText before after reads puts puts_after refusals.NoSuchTrack w p = absurd w
 
 -- of an answer
 pub text_refuses : {T : Type 0} (answer : Result T Refusal) (honest : Bool) (file : List ℕ) (id : ℕ) (IsText : List ℕ → Type 0) (before after : Option (List ℕ)) (reads reads_after puts puts_after : ℕ)

@@ -7,12 +7,23 @@ use Rattle.mp4_boxes.specs.declared.fault.Kind.TheVariants as kinds
 use Rattle.mp4_present.proofs.Vectors.{p_presentation, p_samples}
 use Rattle.mp4_head.proofs.Vectors.{p_track}
 use Rattle.mp4_boxes.proofs.Vectors.{v1, v1_moov, v1_mvhd, v1-tiles, v1-moov-tiles}
-use Rattle.mp4norm.specs.format.Texts.{BoxLines, fault_line, sample_lines, show_value}
+use Rattle.mp4norm.specs.format.Texts.{BoxLines, fault_line, sample_lines, sample_listing, show_value}
+use Rattle.mp4norm.specs.declared.wanted.Form.TheVariants as forms
 
-p-lines : sample_lines (record { head = p_track; start = 0; samples = p_samples })
+p-lines : sample_lines forms.Plain (record { head = p_track; start = 0; samples = p_samples })
     ≡ codes "1 0 0 512 00000000 1 5" ++ 10 ∷ codes "2 512 512 512 00010000 1 0" ++ 10 ∷ codes "3 1024 1024 512 00010000 1 7" ++ 10 ∷ []
 unfolding digits
 p-lines = refl
+
+p-headed : sample_listing forms.Named (record { head = p_track; start = 0; samples = p_samples }) ≡ codes "number decode_time composition_time duration flags description size" ++ 10 ∷ sample_lines forms.Plain (record { head = p_track; start = 0; samples = p_samples })
+unfolding digits
+p-headed = refl
+
+p-json : sample_listing forms.Json (record { head = p_track; start = 0; samples = p_samples })
+    ≡ codes "{\"composition_time\":0,\"decode_time\":0,\"description\":1,\"duration\":512,\"flags\":0,\"number\":1,\"size\":5}" ++ 10 ∷ codes "{\"composition_time\":512,\"decode_time\":512,\"description\":1,\"duration\":512,\"flags\":65536,\"number\":2,\"size\":0}"
+    ++ 10 ∷ codes "{\"composition_time\":1024,\"decode_time\":1024,\"description\":1,\"duration\":512,\"flags\":65536,\"number\":3,\"size\":7}" ++ 10 ∷ []
+unfolding digits serde_json_on_literals
+p-json = refl
 
 p-show : compact_text (show_value p_presentation) ≡ codes "{\"mehd\":120,\"timescale\":1000,\"tracks\":[{\"bytes\":12,\"descriptions\":[\"mp4v\"],\"duration\":1536,\"edits\":[],\"handler\":\"vide\",\"id\":1,\"samples\":3,\"start\":0,\"timescale\":12800}]}"
 unfolding digits serde_json_on_literals

@@ -4,7 +4,7 @@ use Rattle.std.proofs.lemmas.List.{append-nil}
 use Rattle.std.specs.Prelude.{Option}
 use Rattle.std.specs.Io.KnownBytes.{Appends}
 use Rattle.mp4_store.specs.words.Device.{AppendsPrefix}
-use Rattle.mp4_store.proofs.Known.{AppendsPrefix-longer}
+use Rattle.mp4_store.proofs.Known.{Appends-then, AppendsPrefix-longer}
 use Rattle.mp4_tables.specs.declared.sample.SampleAt.{SampleAt}
 use Rattle.mp4_frag.specs.format.Fragments.{FragmentTree}
 use Rattle.mp4_head.specs.format.Tree.{TrackTree}
@@ -17,16 +17,17 @@ use Rattle.mp4_present.specs.declared.in_hand.InHand.{InHand}
 use Rattle.mp4_present.specs.declared.walks.Walk.{Walk}
 use Rattle.mp4_present.proofs.Carrying.{BytesGoOn-then, BytesGoOn-all, BytesGoOn-fails, BytesGoOn-front}
 use Rattle.mp4_present.proofs.WalkCopied.{StandsOn, hand_one}
+use Rattle.mp4norm.specs.declared.wanted.Form.{Form}
 use Rattle.mp4norm.specs.format.Texts.{sample_at_lines}
 use Rattle.mp4norm.proofs.Going.{Going, going_all}
 use Rattle.mp4norm.proofs.SampleTexts.{lines-append}
 
 -- The lines of the first samples are put or wait; the next one has this number, and those behind these `moof`s are to come.
-pub record LinesGoOn (file : List ℕ) (tree : FileTree) (t : TrackTree) (before after : Option (List ℕ)) (held held_after : List ℕ) (number : ℕ) (w : Walk) (all : List SampleAt) : Type 0 where
+pub record LinesGoOn (form : Form) (file : List ℕ) (tree : FileTree) (t : TrackTree) (before after : Option (List ℕ)) (held held_after : List ℕ) (number : ℕ) (w : Walk) (all : List SampleAt) : Type 0 where
   pub earlier : List FragmentTree
   pub later : List FragmentTree
   pub stands : StandsBefore file tree t earlier later w
-  pub goes : Going before after held held_after (sample_at_lines number (samples_behind tree t earlier later)) (sample_at_lines 1 all)
+  pub goes : Going before after held held_after (sample_at_lines form number (samples_behind tree t earlier later)) (sample_at_lines form 1 all)
   pub count : number + length (samples_behind tree t earlier later) ≡ 1 + length all
 
 -- those in hand, and those behind
@@ -40,7 +41,7 @@ fits number coming left rest all e lt c = omega (arith, e, lt, c)
 left_over : (number next coming left rest all : ℕ) → number + coming ≡ 1 + all → coming ≡ left + rest → next ≡ number + left → next + rest ≡ 1 + all
 left_over number next coming left rest all e c n = omega (arith, e, c, n)
 
-module _ (file : List ℕ) (tree : FileTree) (t : TrackTree) (m : MovieSeen) (a b c : Option (List ℕ)) (held held_b : List ℕ) (w : Walk) (number : ℕ) (all to_come : List SampleAt) (g : Going a b held held_b (sample_at_lines number to_come) (sample_at_lines 1 all))
+module _ (form : Form) (file : List ℕ) (tree : FileTree) (t : TrackTree) (m : MovieSeen) (a b c : Option (List ℕ)) (held held_b : List ℕ) (w : Walk) (number : ℕ) (all to_come : List SampleAt) (g : Going a b held held_b (sample_at_lines form number to_come) (sample_at_lines form 1 all))
     (count : number + length to_come ≡ 1 + length all) (few : length all < 2 ^ 32) (k : Comes file tree t m w to_come) (x : InHand) (i : InHandOf m w x) where
   abbrev left : List SampleAt
   left = left_in_hand x
@@ -58,12 +59,12 @@ module _ (file : List ℕ) (tree : FileTree) (t : TrackTree) (m : MovieSeen) (a 
   short = fits number (length to_come) (length left) (length rest) (length all) count few together
 
   -- the lines of those in hand are taken along
-  pub lines_next : (held_c : List ℕ) (later_w : Walk) (next : ℕ) → (number + length left < 2 ^ 64 → BytesGoOn b c held_b held_c (sample_at_lines number left) × (next ≡ number + length left)) → StandsOn w later_w
-      → LinesGoOn file tree t a c held held_c next later_w all
+  pub lines_next : (held_c : List ℕ) (later_w : Walk) (next : ℕ) → (number + length left < 2 ^ 64 → BytesGoOn b c held_b held_c (sample_at_lines form number left) × (next ≡ number + length left)) → StandsOn w later_w
+      → LinesGoOn form file tree t a c held held_c next later_w all
   lines_next held_c later_w next f on =
       let r = f short in
-      let own = sample_at_lines number left in
-      let two : sample_at_lines number to_come ≡ own ++ sample_at_lines next rest = ap (sample_at_lines number) both ∙ lines-append number next left rest r.1 in
+      let own = sample_at_lines form number left in
+      let two : sample_at_lines form number to_come ≡ own ++ sample_at_lines form next rest = ap (sample_at_lines form number) both ∙ lines-append form number next left rest r.1 in
       record {
         earlier = k.0;
         later = k.1;
@@ -71,30 +72,40 @@ module _ (file : List ℕ) (tree : FileTree) (t : TrackTree) (m : MovieSeen) (a 
         goes = record {
           done = g.done ++ own;
           goes_on = BytesGoOn-then a b c held held_b held_c g.done own (g.done ++ own) g.goes_on r.0 refl;
-          whole = append_assoc g.done own (sample_at_lines next rest) ∙ ap (λ (bs : List ℕ). g.done ++ bs) (sym two) ∙ g.whole;
+          whole = append_assoc g.done own (sample_at_lines form next rest) ∙ ap (λ (bs : List ℕ). g.done ++ bs) (sym two) ∙ g.whole;
         };
         count = left_over number next (length to_come) (length left) (length rest) (length all) count together r.1;
       }
 
   -- or not whole
-  pub lines_fail : (number + length left < 2 ^ 64 → AppendsPrefix b c (held_b ++ sample_at_lines number left)) → AppendsPrefix a c (held ++ sample_at_lines 1 all)
+  pub lines_fail : (number + length left < 2 ^ 64 → AppendsPrefix b c (held_b ++ sample_at_lines form number left)) → AppendsPrefix a c (held ++ sample_at_lines form 1 all)
   lines_fail f =
-      let own = sample_at_lines number left in
-      let more = sample_at_lines (number + length left) rest in
-      let two : sample_at_lines number to_come ≡ own ++ more = ap (sample_at_lines number) both ∙ lines-append number (number + length left) left rest refl in
-      let longer : AppendsPrefix b c (held_b ++ sample_at_lines number to_come) = rw (two, ← append_assoc held_b own more) (AppendsPrefix-longer b c (held_b ++ own) more (f short)) in
-      subst (λ (bs : List ℕ). AppendsPrefix a c (held ++ bs)) g.whole (BytesGoOn-fails a b c held held_b g.done (sample_at_lines number to_come) g.goes_on longer)
+      let own = sample_at_lines form number left in
+      let more = sample_at_lines form (number + length left) rest in
+      let two : sample_at_lines form number to_come ≡ own ++ more = ap (sample_at_lines form number) both ∙ lines-append form number (number + length left) left rest refl in
+      let longer : AppendsPrefix b c (held_b ++ sample_at_lines form number to_come) = rw (two, ← append_assoc held_b own more) (AppendsPrefix-longer b c (held_b ++ own) more (f short)) in
+      subst (λ (bs : List ℕ). AppendsPrefix a c (held ++ bs)) g.whole (BytesGoOn-fails a b c held held_b g.done (sample_at_lines form number to_come) g.goes_on longer)
 
 -- what was put so far is a front of all
-pub lines_stop : (a b : Option (List ℕ)) (held held_b : List ℕ) (number : ℕ) (to_come all : List SampleAt) → Going a b held held_b (sample_at_lines number to_come) (sample_at_lines 1 all) → AppendsPrefix a b (held ++ sample_at_lines 1 all)
-lines_stop a b held held_b number to_come all g = subst (λ (bs : List ℕ). AppendsPrefix a b (held ++ bs)) g.whole (BytesGoOn-front a b held held_b g.done (sample_at_lines number to_come) g.goes_on)
+pub lines_stop : (form : Form) (a b : Option (List ℕ)) (held held_b : List ℕ) (number : ℕ) (to_come all : List SampleAt) → Going a b held held_b (sample_at_lines form number to_come) (sample_at_lines form 1 all) → AppendsPrefix a b (held ++ sample_at_lines form 1 all)
+lines_stop form a b held held_b number to_come all g = subst (λ (bs : List ℕ). AppendsPrefix a b (held ++ bs)) g.whole (BytesGoOn-front a b held held_b g.done (sample_at_lines form number to_come) g.goes_on)
 
 -- nothing is to come, and what waits is put
-pub lines_whole : (a b c : Option (List ℕ)) (held held_b : List ℕ) (number : ℕ) (to_come all : List SampleAt) → Going a b held held_b (sample_at_lines number to_come) (sample_at_lines 1 all) → to_come ≡ [] → Appends b c held_b → Appends a c (held ++ sample_at_lines 1 all)
-lines_whole a b c held held_b number to_come all g none p = BytesGoOn-all a b c held held_b (sample_at_lines 1 all) (going_all a b held held_b (sample_at_lines 1 all) number to_come g none) p
+pub lines_whole : (form : Form) (a b c : Option (List ℕ)) (held held_b : List ℕ) (number : ℕ) (to_come all : List SampleAt) → Going a b held held_b (sample_at_lines form number to_come) (sample_at_lines form 1 all) → to_come ≡ []
+    → Appends b c held_b → Appends a c (held ++ sample_at_lines form 1 all)
+lines_whole form a b c held held_b number to_come all g none p = BytesGoOn-all a b c held held_b (sample_at_lines form 1 all) (going_all form a b held held_b (sample_at_lines form 1 all) number to_come g none) p
 
 -- or is not put whole
-pub lines_not_put : (a b c : Option (List ℕ)) (held held_b : List ℕ) (number : ℕ) (to_come all : List SampleAt) → Going a b held held_b (sample_at_lines number to_come) (sample_at_lines 1 all) → to_come ≡ [] → AppendsPrefix b c held_b → AppendsPrefix a c (held ++ sample_at_lines 1 all)
-lines_not_put a b c held held_b number to_come all g none p =
-    let lines = sample_at_lines 1 all in
-    subst (λ (bs : List ℕ). AppendsPrefix a c (held ++ bs)) (append-nil lines) (BytesGoOn-fails a b c held held_b lines [] (going_all a b held held_b lines number to_come g none) (AppendsPrefix-longer b c held_b [] p))
+pub lines_not_put : (form : Form) (a b c : Option (List ℕ)) (held held_b : List ℕ) (number : ℕ) (to_come all : List SampleAt) → Going a b held held_b (sample_at_lines form number to_come) (sample_at_lines form 1 all) → to_come ≡ []
+    → AppendsPrefix b c held_b → AppendsPrefix a c (held ++ sample_at_lines form 1 all)
+lines_not_put form a b c held held_b number to_come all g none p =
+    let lines = sample_at_lines form 1 all in
+    subst (λ (bs : List ℕ). AppendsPrefix a c (held ++ bs)) (append-nil lines) (BytesGoOn-fails a b c held held_b lines [] (going_all form a b held held_b lines number to_come g none) (AppendsPrefix-longer b c held_b [] p))
+
+-- what stands before the lines is taken along, and then they are put
+pub headed_whole : (a b c : Option (List ℕ)) (held head lines : List ℕ) → BytesGoOn a b [] held head → Appends b c (held ++ lines) → Appends a c (head ++ lines)
+headed_whole a b c held head lines p q = Appends-then a b c p.0 (held ++ lines) (head ++ lines) p.1 q (ap (λ (bs : List ℕ). bs ++ lines) (sym p.2) ∙ append_assoc p.0 held lines)
+
+-- or not whole
+pub headed_fails : (a b c : Option (List ℕ)) (held head lines : List ℕ) → BytesGoOn a b [] held head → AppendsPrefix b c (held ++ lines) → AppendsPrefix a c (head ++ lines)
+headed_fails a b c held head lines p q = BytesGoOn-fails a b c [] held head lines p q

@@ -3,54 +3,63 @@ ghost use Rattle.std.specs.Prelude.{◌≡◌, ℕ, ◌+◌, ◌*◌, ◌^◌, �
 ghost use Rattle.std.specs.Fmt.{signed_decimal};
 ghost use Rattle.mp4norm.specs.format.Texts.{hex_digits};
 
-use crate::digits::{hex_digit, write_digits};
+use crate::digits::{hex_digit, write_bytes, write_digits};
 use std::marker::Model;
 
-/// At most 136 bytes of text, which grow at the front. A clause sees the text.
+/// At most `N` bytes of text, which grow at the front. A clause sees the text.
 #[derive(Drop)]
-pub(crate) struct BackwardLine {
-    bytes: [u8; 136],
+pub(crate) struct BackwardLine<const N: usize> {
+    bytes: [u8; N],
     start: usize,
 }
 
-impl Model for BackwardLine {
+impl<const N: usize> Model for BackwardLine<N> {
     ghost use Rattle.std.specs.Prelude.{ℕ, List, drop, ◌≤◌};
 
     ghost Value = { List ℕ };
 
     ghost view = { λ s. drop s.start s.bytes };
 
-    ghost invariant = { λ s. s.start ≤ 136 };
+    ghost invariant = { λ s. s.start ≤ N };
 }
 
-impl BackwardLine {
-    pub(crate) fn new() -> BackwardLine
+impl<const N: usize> BackwardLine<N> {
+    pub(crate) fn new() -> BackwardLine<N>
         ensures { result ≡ [] }
     {
         BackwardLine {
-            bytes: [0; 136],
-            start: 136,
+            bytes: [0; N],
+            start: N,
         }
     }
 
     pub(crate) fn as_bytes(&self) -> &[u8]
         ensures text { result.now ≡ self.now }
-        ensures short { length result.now ≤ 136 }
+        ensures short { length result.now ≤ N }
     {
-        &self.bytes[self.start..]
+        let bytes = &self.bytes[..];
+        &bytes[self.start..]
     }
 
     pub(crate) fn push(&mut self, byte: u8)
-        requires { length self.old < 136 }
+        requires { length self.old < N }
         ensures { self.new ≡ byte ∷ self.old }
     {
         self.start -= 1;
         self.bytes[self.start] = byte;
     }
 
+    pub(crate) fn push_bytes(&mut self, bytes: &[u8])
+        requires { length self.old + length bytes.now ≤ N }
+        ensures text { self.new ≡ bytes.now ++ self.old }
+        ensures long { length self.new ≡ length self.old + length bytes.now }
+    {
+        self.start = write_bytes(&mut self.bytes, self.start, bytes);
+    }
+
     // The number in decimal digits.
     pub(crate) fn push_number(&mut self, number: u64)
-        requires { length self.old + 20 ≤ 136 }
+        requires { length self.old + 20 ≤ N }
         ensures text { self.new ≡ decimal number ++ self.old }
         ensures short { length self.new ≤ length self.old + 20 }
     {
@@ -58,7 +67,7 @@ impl BackwardLine {
     }
 
     pub(crate) fn push_short_number(&mut self, number: u32)
-        requires { length self.old + 20 ≤ 136 }
+        requires { length self.old + 20 ≤ N }
         ensures text { self.new ≡ decimal number ++ self.old }
         ensures short { length self.new ≤ length self.old + 20 }
     {
@@ -67,7 +76,7 @@ impl BackwardLine {
 
     // The same for a number that may be a little longer than 64 bits.
     pub(crate) fn push_long_number(&mut self, number: u128)
-        requires room { length self.old + 21 ≤ 136 }
+        requires room { length self.old + 21 ≤ N }
         requires fits { number < 10 * 2 ^ 64 }
         ensures text { self.new ≡ decimal number ++ self.old }
         ensures short { length self.new ≤ length self.old + 21 }
@@ -82,7 +91,7 @@ impl BackwardLine {
 
     // A time and an offset from it, as one number.
     pub(crate) fn push_sum(&mut self, time: u64, offset: i32)
-        requires { length self.old + 21 ≤ 136 }
+        requires { length self.old + 21 ≤ N }
         ensures text { self.new ≡ signed_decimal (pos time +ℤ offset) ++ self.old }
         ensures short { length self.new ≤ length self.old + 21 }
     {
@@ -99,7 +108,7 @@ impl BackwardLine {
 
     // Eight hexadecimal digits.
     pub(crate) fn push_hex(&mut self, number: u32)
-        requires { length self.old + 8 ≤ 136 }
+        requires { length self.old + 8 ≤ N }
         ensures text { self.new ≡ hex_digits 8 number ++ self.old }
         ensures short { length self.new ≤ length self.old + 8 }
     {

@@ -1,4 +1,5 @@
 //! Many files, judged one after the other.
+use crate::causes::Trouble;
 use crate::input::read_input;
 use crate::sources::{MOST_INPUT, open};
 use crate::verdicts::{first_name, put_verdict, verdict_status};
@@ -9,7 +10,7 @@ use std::fs::File;
 
 // Judges what is read.
 fn answer_of(rt: &HostRuntime, input: Input) -> Result<(), Refusal> {
-    open(rt, input)?.judge(rt.alloc())
+    open(rt, input, &mut Trouble::new(false))?.judge(rt.alloc())
 }
 
 // Judges a file of a list. The system's names are text.

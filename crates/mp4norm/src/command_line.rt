@@ -3,7 +3,7 @@ ghost use Rattle.std.specs.Prelude.{◌≡◌, ◌≤◌, [], IfOk, IfSome, Ok};
 ghost use Rattle.mp4norm.specs.words.Actions.{IsJob, IsAction, boxes_of_input};
 
 use crate::drop_lists::names_of;
-use crate::wanted::{Action, CommandFault, Input, Job, Target};
+use crate::wanted::{Action, CommandFault, Form, Input, Job, Target};
 use clap::error::ErrorKind;
 use clap::{Arg, ArgAction, ArgMatches, Command, Error, value_parser};
 use std::alloc::{AllocError, Global};
@@ -16,7 +16,7 @@ const AFTER_HELP: &str = "\
 With no words it lists the boxes of standard input. A FILE that is named - is standard input, \
 read whole.
 
-Columns of samples: number, decode time, composition time, duration, flags, description, size
+Columns of samples: number decode_time composition_time duration flags description size
 
 Status:
   0   all is done
@@ -30,6 +30,12 @@ Example: mp4norm normalise movie.mp4 --out normal.mp4";
 
 const REPLACED_OUTPUT: &str = "\
 error: the argument '--replace' cannot be used with '--out -'
+
+For more information, try '--help'.
+";
+
+const TWO_FORMS: &str = "\
+error: the argument '--header' cannot be used with '--json'
 
 For more information, try '--help'.
 ";
@@ -90,6 +96,20 @@ fn replace_arg<'a>(alloc: Global) -> Arg<'a> {
         .action(ArgAction::SetTrue)
 }
 
+fn header_arg<'a>(alloc: Global) -> Arg<'a> {
+    Arg::new(alloc, "header")
+        .long("header")
+        .help("Begin with a line of the names of the columns")
+        .action(ArgAction::SetTrue)
+}
+
+fn json_arg<'a>(alloc: Global) -> Arg<'a> {
+    Arg::new(alloc, "json")
+        .long("json")
+        .help("List each sample as an object of JSON, in a line of its own")
+        .action(ArgAction::SetTrue)
+}
+
 // A command with an argument more.
 fn with_arg<'a>(command: Command<'a>, arg: Arg<'a>) -> Result<Command<'a>, AllocError> {
     command.arg(arg)
@@ -144,7 +164,9 @@ fn samples_command<'a>(alloc: Global) -> Result<Command<'a>, AllocError> {
          description, size",
         "Example: mp4norm samples movie.mp4 --track 1",
     )?;
-    with_arg(command, track_arg(alloc))
+    let command = with_arg(command, track_arg(alloc))?;
+    let command = with_arg(command, header_arg(alloc))?;
+    with_arg(command, json_arg(alloc))
 }
 
 fn extract_command<'a>(alloc: Global) -> Result<Command<'a>, AllocError> {
@@ -265,6 +287,17 @@ fn target_of<'a>(found: &ArgMatches<'a>) -> Target<'a> {
     }
 }
 
+// How samples are listed.
+fn form_of(found: &ArgMatches) -> Form {
+    if found.get_flag("json") {
+        Form::Json
+    } else if found.get_flag("header") {
+        Form::Named
+    } else {
+        Form::Plain
+    }
+}
+
 // What is to be done; nothing where a word is missing.
 fn job_of(name: &str, found: &ArgMatches) -> Option<Job<'static>>
     ensures { IfSome result IsJob }
@@ -274,7 +307,8 @@ fn job_of(name: &str, found: &ArgMatches) -> Option<Job<'static>>
         "show" => Some(Job::Show),
         "samples" => {
             let track = track_of(found)?;
-            Some(Job::Samples { track })
+            let form = form_of(found);
+            Some(Job::Samples { track, form })
         }
         "extract" => {
             let track = track_of(found)?;
@@ -350,6 +384,8 @@ fn odds_of(matches: &ArgMatches) -> Option<&'static str> {
     let (_, found) = matches.subcommand()?;
     if found.get_flag("replace") && found.get_str("out") == Some("-") {
         Some(REPLACED_OUTPUT)
+    } else if found.get_flag("header") && found.get_flag("json") {
+        Some(TWO_FORMS)
     } else if inputs_in(found) > 1 {
         Some(INPUT_TWICE)
     } else {

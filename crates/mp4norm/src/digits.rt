@@ -28,3 +28,15 @@ pub(crate) fn write_digits(text: &mut [u8], end: usize, number: u64) -> usize
         }
     }
 }
+
+/// Writes bytes so that they end at `end`, and says where they begin.
+pub(crate) fn write_bytes(text: &mut [u8], end: usize, bytes: &[u8]) -> usize
+    requires room { length bytes.now ≤ end }
+    requires within { end ≤ length text.old }
+    ensures start { result + length bytes.now ≡ end }
+    ensures written { drop result text.new ≡ bytes.now ++ drop end text.old }
+{
+    let start = end - bytes.len();
+    text[start..end].copy_from_slice(bytes);
+    start
+}

@@ -136,13 +136,33 @@ const NAMES: &[Name] = &[Name {
     kind: FourCc(*b"hdlr"),
 }];
 
-const JOBS: [(&[u8], Job); 10] = [
+const JOBS: [(&[u8], Job); 12] = [
     (PLAIN, Job::Normalise),
     (TWO_FRAGMENTS, Job::Normalise),
     (TWO_TRACKS, Job::Normalise),
     (EDITS, Job::Normalise),
     (PLAIN, Job::Extract { track: 1 }),
-    (PLAIN, Job::Samples { track: 1 }),
+    (
+        PLAIN,
+        Job::Samples {
+            track: 1,
+            form: Form::Plain,
+        },
+    ),
+    (
+        PLAIN,
+        Job::Samples {
+            track: 1,
+            form: Form::Named,
+        },
+    ),
+    (
+        PLAIN,
+        Job::Samples {
+            track: 1,
+            form: Form::Json,
+        },
+    ),
     (PLAIN, Job::Show),
     (PLAIN, Job::Boxes),
     (PLAIN, Job::Strip { names: NAMES }),

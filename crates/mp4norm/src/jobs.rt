@@ -4,10 +4,10 @@ ghost use Rattle.std.specs.Io.KnownBytes.{Appends};
 ghost use Rattle.mp4norm.specs.words.Jobs.{IsTextOf, RefusesJob, JobWorksWithin};
 
 use crate::boxes::boxes;
-use crate::extract::extract;
+use crate::extract::extract_counted;
 use crate::normalising::normalise_counted;
-use crate::samples::samples;
-use crate::show::show;
+use crate::samples::samples_counted;
+use crate::show::show_counted;
 use crate::stripping::strip;
 use crate::wanted::Job;
 use mp4_boxes::{Refusal, Steps};
@@ -15,8 +15,8 @@ use mp4_store::{Sink, Store};
 use std::alloc::Global;
 use std::sync::ledger::Ledger;
 
-/// Does a job: all that is put is the job's own text of the file. The steps of normalising are
-/// counted, and are those of one run.
+/// Does a job: all that is put is the job's own text of the file. The steps are counted, and
+/// are those of one run; those of `boxes` and `strip`, which only look at headers, are not.
 pub fn perform<S: Store, K: Sink, L: Ledger>(
     alloc: Global,
     job: Job,
@@ -40,9 +40,9 @@ pub fn perform<S: Store, K: Sink, L: Ledger>(
 {
     match job {
         Job::Boxes => boxes(alloc, store, sink),
-        Job::Show => show(alloc, store, sink),
-        Job::Samples { track } => samples(alloc, store, track, sink),
-        Job::Extract { track } => extract(alloc, store, track, sink),
+        Job::Show => show_counted(alloc, store, sink, steps),
+        Job::Samples { track, form } => samples_counted(alloc, store, track, form, sink, steps),
+        Job::Extract { track } => extract_counted(alloc, store, track, sink, steps),
         Job::Strip { names } => strip(alloc, store, names, sink),
         Job::Normalise => normalise_counted(alloc, store, sink, steps),
     }

@@ -1,14 +1,16 @@
 //! A file that is put in the place of another only once it is whole.
 ghost use Rattle.std.specs.Prelude.{◌≡◌, ◌<◌, ◌++◌, IfOk, string_bytes, codes, decimal};
 
+use crate::causes::Trouble;
 use crate::sources::Source;
 use crate::targets::{Out, write};
 use crate::wanted::Job;
 use mp4_boxes::{Refusal, Steps};
 use std::alloc::{AllocError, Global};
+use std::fs;
 use std::fs::File;
+use std::io::ErrorKind;
 use std::sync::ledger::Ledger;
-use std::{fs, io};
 
 /// So many names are tried for a new file.
 const MOST_NAMES: u32 = 1_000_000;
@@ -36,24 +38,43 @@ fn part_name(alloc: Global, name: &str, number: u32) -> Result<String, AllocErro
 
 // Makes a file beside another one. What an interrupted run left there stays, and another name is
 // taken.
-fn make_part(rt: &HostRuntime, beside: &str) -> Result<Part, Refusal> {
+fn make_part(rt: &HostRuntime, beside: &str, trouble: &mut Trouble) -> Result<Part, Refusal> {
     for number in 0..MOST_NAMES {
         let name = part_name(rt.alloc(), beside, number)?;
         match File::create_new(rt, name.as_str()) {
             Ok(file) => return Ok(Part { file, name }),
-            Err(error) if error.kind() == io::ErrorKind::AlreadyExists => {}
-            Err(_) => return Err(Refusal::WriteFailed),
+            Err(error) if error.kind() == ErrorKind::AlreadyExists => {
+                trouble.tell_leftover(rt, name.as_str());
+            }
+            Err(error) => {
+                trouble.note(error.kind());
+                return Err(Refusal::WriteFailed);
+            }
         }
     }
     Err(Refusal::WriteFailed)
 }
 
-// Whether there is a regular file of this name, or nothing. A link, a directory or a device is not
-// replaced.
-fn is_replaceable(rt: &HostRuntime, name: &str) -> bool {
+// Looks whether there is a regular file of this name, or nothing. A link, a directory or a device
+// is not replaced.
+fn look(rt: &HostRuntime, name: &str) -> Result<(), ErrorKind> {
     match fs::symlink_metadata(rt, name) {
-        Ok(metadata) => metadata.is_file(),
-        Err(error) => error.kind() == io::ErrorKind::NotFound,
+        Ok(metadata) if metadata.is_file() => Ok(()),
+        Ok(metadata) if metadata.is_dir() => Err(ErrorKind::IsADirectory),
+        Ok(_) => Err(ErrorKind::Unsupported),
+        Err(error) if error.kind() == ErrorKind::NotFound => Ok(()),
+        Err(error) => Err(error.kind()),
+    }
+}
+
+// What comes of a step by which a file is put in its place.
+fn told(step: Result<(), ErrorKind>, trouble: &mut Trouble) -> Result<(), Refusal> {
+    match step {
+        Ok(()) => Ok(()),
+        Err(kind) => {
+            trouble.note(kind);
+            Err(Refusal::WriteFailed)
+        }
     }
 }
 
@@ -63,14 +84,26 @@ fn fill<L: Ledger>(
     job: Job,
     source: &mut Source,
     steps: &mut Steps<L>,
-    file: File,
-    part: &str,
+    part: Part,
     name: &str,
+    trouble: &mut Trouble,
 ) -> Result<(), Refusal> {
+    let Part { file, name: from } = part;
     let mut out = Out::File(file);
-    write(rt.alloc(), job, source, &mut out, steps)?;
-    out.sync().map_err(|_| Refusal::WriteFailed)?;
-    fs::rename(rt, part, name).map_err(|_| Refusal::WriteFailed)
+    let answer = match write(rt.alloc(), job, source, &mut out, steps, trouble) {
+        Ok(()) => told(put_in_place(rt, &out, from.as_str(), name), trouble),
+        Err(refusal) => Err(refusal),
+    };
+    if answer.is_err() {
+        let _ = fs::remove_file(rt, from.as_str());
+    }
+    answer
+}
+
+// Waits until a file has reached the disk, and gives it another name.
+fn put_in_place(rt: &HostRuntime, out: &Out, from: &str, name: &str) -> Result<(), ErrorKind> {
+    out.sync().map_err(|error| error.kind())?;
+    fs::rename(rt, from, name).map_err(|error| error.kind())
 }
 
 /// Does a job whose text goes to a new file, which takes the place of the one of this name only
@@ -82,14 +115,9 @@ pub(crate) fn replace<L: Ledger>(
     source: &mut Source,
     steps: &mut Steps<L>,
     name: &str,
+    trouble: &mut Trouble,
 ) -> Result<(), Refusal> {
-    if !is_replaceable(rt, name) {
-        return Err(Refusal::WriteFailed);
-    }
-    let Part { file, name: part } = make_part(rt, name)?;
-    let answer = fill(rt, job, source, steps, file, part.as_str(), name);
-    if answer.is_err() {
-        let _ = fs::remove_file(rt, part.as_str());
-    }
-    answer
+    told(look(rt, name), trouble)?;
+    let part = make_part(rt, name, trouble)?;
+    fill(rt, job, source, steps, part, name, trouble)
 }

@@ -1,4 +1,5 @@
 //! A command from what is read to where its answer goes.
+use crate::causes::Trouble;
 use crate::replacing::replace;
 use crate::sources::{Source, open};
 use crate::strip_lines::{WARNING, count_line, names_encryption};
@@ -9,6 +10,22 @@ use mp4_store::IoSink;
 use std::io::Write;
 use std::sync::ledger::Ledger;
 
+// The word that names what is read.
+fn input_name(input: Input<'_>) -> &str {
+    match input {
+        Input::Standard => "-",
+        Input::File { name } => name,
+    }
+}
+
+// The word that names where the answer goes.
+fn target_name(target: Target<'_>) -> &str {
+    match target {
+        Target::Standard => "-",
+        Target::New { name } | Target::Replaced { name } => name,
+    }
+}
+
 // Opens where the answer goes, and does the job.
 fn write_to<L: Ledger>(
     rt: &HostRuntime,
@@ -16,13 +33,14 @@ fn write_to<L: Ledger>(
     source: &mut Source,
     target: Target,
     steps: &mut Steps<L>,
+    trouble: &mut Trouble,
 ) -> Result<(), Refusal> {
     let mut out = match target {
         Target::Standard => Out::Standard(rt.stdout()),
-        Target::New { name } => make(rt, name)?,
-        Target::Replaced { name } => return replace(rt, job, source, steps, name),
+        Target::New { name } => make(rt, name, trouble)?,
+        Target::Replaced { name } => return replace(rt, job, source, steps, name, trouble),
     };
-    write(rt.alloc(), job, source, &mut out, steps)
+    write(rt.alloc(), job, source, &mut out, steps, trouble)
 }
 
 // Does a job. Of a copy without some boxes it says how many of each name these are.
@@ -32,24 +50,46 @@ fn answer<L: Ledger>(
     source: &mut Source,
     target: Target,
     steps: &mut Steps<L>,
+    trouble: &mut Trouble,
 ) -> Result<(), Refusal> {
     let Job::Strip { names } = job else {
-        return write_to(rt, job, source, target, steps);
+        return write_to(rt, job, source, target, steps, trouble);
     };
     let mut errors = rt.stderr();
     if names_encryption(names) {
         let _ = errors.write_all(WARNING);
     }
     let counts = source.count_named(rt.alloc(), names)?;
-    write_to(rt, job, source, target, steps)?;
+    write_to(rt, job, source, target, steps, trouble)?;
     for (name, count) in names.iter().zip(counts.iter()) {
         let _ = errors.write_all(count_line(name, *count).as_bytes());
     }
     Ok(())
 }
 
-/// Opens what is read, then where the answer goes, and does the job. A fault is explained where
-/// that is asked for.
+// Opens what is read, then where the answer goes, and does the job. A fault is explained where that
+// is asked for.
+fn open_and_answer<L: Ledger>(
+    rt: &HostRuntime,
+    job: Job,
+    input: Input,
+    target: Target,
+    explain: bool,
+    steps: &mut Steps<L>,
+    trouble: &mut Trouble,
+) -> Result<(), Refusal> {
+    let mut source = open(rt, input, trouble)?;
+    let answer = answer(rt, job, &mut source, target, steps, trouble);
+    if let Err(Refusal::Fault(fault)) = &answer {
+        if explain {
+            let _ = source.explain(rt.alloc(), fault, &mut IoSink::new(rt.stderr()));
+        }
+    }
+    answer
+}
+
+/// Does a job from what is read to where its answer goes. What is wrong is explained where that is
+/// asked for: a fault, and which file can't be opened, read or written, with the system's cause.
 pub(crate) fn run<L: Ledger>(
     rt: &HostRuntime,
     job: Job,
@@ -58,12 +98,12 @@ pub(crate) fn run<L: Ledger>(
     explain: bool,
     steps: &mut Steps<L>,
 ) -> Result<(), Refusal> {
-    let mut source = open(rt, input)?;
-    let answer = answer(rt, job, &mut source, target, steps);
-    if let Err(Refusal::Fault(fault)) = &answer {
-        if explain {
-            let _ = source.explain(rt.alloc(), fault, &mut IoSink::new(rt.stderr()));
-        }
+    let mut trouble = Trouble::new(explain);
+    let answer = open_and_answer(rt, job, input, target, explain, steps, &mut trouble);
+    match answer {
+        Err(Refusal::StoreFailed) => trouble.tell(rt, input_name(input), "it can't be read"),
+        Err(Refusal::WriteFailed) => trouble.tell(rt, target_name(target), "it can't be written"),
+        _ => {}
     }
     answer
 }

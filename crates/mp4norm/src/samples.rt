@@ -1,5 +1,5 @@
 //! The samples of a track, a line each.
-ghost use Rattle.std.specs.Prelude.{◌≡◌, ℕ, ◌+◌, ◌^◌, ◌<◌, List, ◌++◌, length, IfErr, OnOk, OnErr, IsTrue};
+ghost use Rattle.std.specs.Prelude.{◌≡◌, ℕ, ◌+◌, ◌^◌, ◌<◌, ◌≤◌, List, ◌++◌, length, IfErr, OnOk, OnErr, IsTrue};
 ghost use Rattle.std.specs.Io.KnownBytes.{Appends};
 ghost use Rattle.mp4_boxes.specs.declared.refusal.Refusal.TheVariants as refusals;
 ghost use Rattle.mp4_frag.specs.format.Fragments.{FragmentTree};
@@ -12,12 +12,16 @@ ghost use Rattle.mp4_present.specs.format.Denotes.{FileTree};
 ghost use Rattle.mp4_present.specs.words.InHand.{left_in_hand};
 ghost use Rattle.mp4_present.specs.words.OpenedMovie.{IsOpenedAs};
 ghost use Rattle.mp4_present.specs.words.Movies.{IsWalkOf, InHandOf};
+ghost use Rattle.mp4_present.specs.words.WalkSteps.{MayTake, TakesOn};
 ghost use Rattle.mp4_present.specs.words.Carried.{waiting, BytesGoOn, RefusesPut, RefusesCarry};
 ghost use Rattle.mp4norm.specs.format.Texts.{sample_at_lines};
+ghost use Rattle.mp4norm.specs.format.Steps.{LooksWithin};
 ghost use Rattle.mp4norm.specs.words.Commands.{ListsSamples, RefusesTrack};
 
+use crate::forms::head_of;
 use crate::sample_lines::put_lines;
 use crate::tracks::track_with;
+use crate::wanted::Form;
 use mp4_boxes::{Refusal, Steps};
 use mp4_present::{Carrier, Movie, Walk, open_movie};
 use mp4_store::{Sink, Store};
@@ -30,6 +34,7 @@ const ROOM: usize = 32_768;
 
 // Puts the lines of all samples in hand. The number is that of the next one.
 fn put_hand<K: Sink, L: Ledger>(
+    form: Form,
     movie: &Movie,
     walk: &mut Walk,
     number: &mut u64,
@@ -43,12 +48,12 @@ fn put_hand<K: Sink, L: Ledger>(
     ensures lines { OnOk result ((hand : InHand) × InHandOf movie.now walk.old hand
         × (number.old + length (left_in_hand hand) < 2 ^ 64
         → BytesGoOn (K.contents sink.old) (K.contents sink.new) (waiting carrier.old)
-        (waiting carrier.new) (sample_at_lines number.old (left_in_hand hand))
+        (waiting carrier.new) (sample_at_lines form number.old (left_in_hand hand))
         × (number.new ≡ number.old + length (left_in_hand hand)))) }
     ensures prefix { OnErr result ((hand : InHand) × InHandOf movie.now walk.old hand
         × (number.old + length (left_in_hand hand) < 2 ^ 64
         → AppendsPrefix (K.contents sink.old) (K.contents sink.new) (waiting carrier.old
-        ++ sample_at_lines number.old (left_in_hand hand)))) }
+        ++ sample_at_lines form number.old (left_in_hand hand)))) }
     ensures puts { OnOk result (K.put_failures sink.new ≡ K.put_failures sink.old) }
     ensures stands { OnOk result
         ((file : List ℕ) (tree : FileTree) (t : TrackTree) (earlier later : List FragmentTree)
@@ -56,10 +61,14 @@ fn put_hand<K: Sink, L: Ledger>(
         → StandsBefore file tree t earlier later walk.new) }
     ensures refusal { IfErr result
         (RefusesPut (K.put_failures sink.old) (K.put_failures sink.new)) }
+    ensures work { OnOk result ((file : List ℕ) (tree : FileTree) (t : TrackTree) (n : ℕ)
+        → IsOpenedAs file movie.now tree
+        → MayTake file tree t walk.old n → TakesOn file tree t n walk.new steps.old steps.new) }
+    ensures idle { OnErr result (steps.new ≡ steps.old) }
 {
     let place = {
         let mut hand = walk.in_hand(movie);
-        put_lines(&mut hand, number, carrier, sink)?;
+        put_lines(form, &mut hand, number, carrier, sink)?;
         hand.place()
     };
     walk.keep(place, steps);
@@ -68,6 +77,7 @@ fn put_hand<K: Sink, L: Ledger>(
 
 // Puts the lines of all samples of a walk.
 fn put_walk<S: Store, K: Sink, L: Ledger>(
+    form: Form,
     movie: &Movie,
     walk: &mut Walk,
     carrier: &mut Carrier,
@@ -85,13 +95,13 @@ fn put_walk<S: Store, K: Sink, L: Ledger>(
         → IsOpenedAs (S.file store.old) movie.now tree
         → Comes (S.file store.old) tree t movie.now walk.old samples → length samples < 2 ^ 32
         → Appends (K.contents sink.old) (K.contents sink.new) (waiting carrier.old
-        ++ sample_at_lines 1 samples)) }
+        ++ sample_at_lines form 1 samples)) }
     ensures prefix { OnErr result (IsTrue (S.is_honest store.old)
         → (tree : FileTree) (t : TrackTree) (samples : List SampleAt)
         → IsOpenedAs (S.file store.old) movie.now tree
         → Comes (S.file store.old) tree t movie.now walk.old samples → length samples < 2 ^ 32
         → AppendsPrefix (K.contents sink.old) (K.contents sink.new) (waiting carrier.old
-        ++ sample_at_lines 1 samples)) }
+        ++ sample_at_lines form 1 samples)) }
     ensures unchanged { IsTrue (S.is_honest store.old)
         → (tree : FileTree) (t : TrackTree) (samples : List SampleAt)
         → IsOpenedAs (S.file store.old) movie.now tree
@@ -100,20 +110,57 @@ fn put_walk<S: Store, K: Sink, L: Ledger>(
     ensures refusal { IfErr result
         (RefusesCarry (S.read_failures store.old) (S.read_failures store.new)
         (K.put_failures sink.old) (K.put_failures sink.new)) }
+    ensures work { IsTrue (S.is_honest store.old) → (tree : FileTree) (t : TrackTree) (n : ℕ)
+        → IsOpenedAs (S.file store.old) movie.now tree
+        → MayTake (S.file store.old) tree t walk.old n → steps.new ≤ steps.old + n }
 {
     let mut number = 1;
-    put_hand(movie, walk, &mut number, carrier, sink, steps)?;
+    put_hand(form, movie, walk, &mut number, carrier, sink, steps)?;
     while walk.load(movie, store, steps)? {
-        put_hand(movie, walk, &mut number, carrier, sink, steps)?;
+        put_hand(form, movie, walk, &mut number, carrier, sink, steps)?;
     }
     carrier.flush(sink)
 }
 
-// As `samples`; its steps are counted in this ledger.
-fn samples_counted<S: Store, K: Sink, L: Ledger>(
+/// As `samples`, with the steps that it takes counted: at most 8 for each sample and each row
+/// of the file, however many tracks it has.
+pub fn samples_counted<S: Store, K: Sink, L: Ledger>(
     alloc: Global,
     store: &mut S,
     id: u32,
+    form: Form,
+    sink: &mut K,
+    steps: &mut Steps<L>,
+) -> Result<(), Refusal>
+    ensures honesty { S.is_honest store.new ≡ S.is_honest store.old }
+    ensures file { S.file store.new ≡ S.file store.old }
+    ensures reads { OnOk result (S.read_failures store.new ≡ S.read_failures store.old) }
+    ensures puts { OnOk result (K.put_failures sink.new ≡ K.put_failures sink.old) }
+    ensures lines { OnOk result (IsTrue (S.is_honest store.old) → (text : List ℕ)
+        × ListsSamples (S.file store.old) id form text
+        × Appends (K.contents sink.old) (K.contents sink.new) text) }
+    ensures refusal { IfErr result
+        (RefusesTrack (S.is_honest store.old) (S.file store.old) id
+        (ListsSamples (S.file store.old) id form) (K.contents sink.old) (K.contents sink.new)
+        (S.read_failures store.old) (S.read_failures store.new) (K.put_failures sink.old)
+        (K.put_failures sink.new)) }
+    ensures work { IsTrue (S.is_honest store.old)
+        → LooksWithin (S.file store.old) steps.old steps.new }
+{
+    let movie = open_movie(alloc, store, steps)?;
+    let track = track_with(movie.tracks(), id)?;
+    let mut walk = movie.walk(alloc, track)?;
+    let mut carrier = Carrier::new(alloc, ROOM)?;
+    carrier.carry(head_of(form), sink)?;
+    put_walk(form, &movie, &mut walk, &mut carrier, store, sink, steps)
+}
+
+// As `samples`; its steps are counted in this ledger.
+fn samples_blank<S: Store, K: Sink, L: Ledger>(
+    alloc: Global,
+    store: &mut S,
+    id: u32,
+    form: Form,
     sink: &mut K,
     blank: Blank,
 ) -> Result<(), Refusal>
@@ -125,20 +172,16 @@ fn samples_counted<S: Store, K: Sink, L: Ledger>(
     ensures reads { OnOk result (S.read_failures store.new ≡ S.read_failures store.old) }
     ensures puts { OnOk result (K.put_failures sink.new ≡ K.put_failures sink.old) }
     ensures lines { OnOk result (IsTrue (S.is_honest store.old) → (text : List ℕ)
-        × ListsSamples (S.file store.old) id text
+        × ListsSamples (S.file store.old) id form text
         × Appends (K.contents sink.old) (K.contents sink.new) text) }
     ensures refusal { IfErr result
         (RefusesTrack (S.is_honest store.old) (S.file store.old) id
-        (ListsSamples (S.file store.old) id) (K.contents sink.old) (K.contents sink.new)
+        (ListsSamples (S.file store.old) id form) (K.contents sink.old) (K.contents sink.new)
         (S.read_failures store.old) (S.read_failures store.new) (K.put_failures sink.old)
         (K.put_failures sink.new)) }
 {
     let mut steps = Steps::<L>::new(blank);
-    let movie = open_movie(alloc, store, &mut steps)?;
-    let track = track_with(movie.tracks(), id)?;
-    let mut walk = movie.walk(alloc, track)?;
-    let mut carrier = Carrier::new(alloc, ROOM)?;
-    put_walk(&movie, &mut walk, &mut carrier, store, sink, &mut steps)
+    samples_counted(alloc, store, id, form, sink, &mut steps)
 }
 
 /// Puts a line for each sample of the track with this ID: number, decode time, composition time,
@@ -148,6 +191,7 @@ pub fn samples<S: Store, K: Sink>(
     alloc: Global,
     store: &mut S,
     id: u32,
+    form: Form,
     sink: &mut K,
 ) -> Result<(), Refusal>
     ensures honesty { S.is_honest store.new ≡ S.is_honest store.old }
@@ -155,13 +199,13 @@ pub fn samples<S: Store, K: Sink>(
     ensures reads { OnOk result (S.read_failures store.new ≡ S.read_failures store.old) }
     ensures puts { OnOk result (K.put_failures sink.new ≡ K.put_failures sink.old) }
     ensures lines { OnOk result (IsTrue (S.is_honest store.old) → (text : List ℕ)
-        × ListsSamples (S.file store.old) id text
+        × ListsSamples (S.file store.old) id form text
         × Appends (K.contents sink.old) (K.contents sink.new) text) }
     ensures refusal { IfErr result
         (RefusesTrack (S.is_honest store.old) (S.file store.old) id
-        (ListsSamples (S.file store.old) id) (K.contents sink.old) (K.contents sink.new)
+        (ListsSamples (S.file store.old) id form) (K.contents sink.old) (K.contents sink.new)
         (S.read_failures store.old) (S.read_failures store.new) (K.put_failures sink.old)
         (K.put_failures sink.new)) }
 {
-    samples_counted::<S, K, Brand>(alloc, store, id, sink, Blank::new(1))
+    samples_blank::<S, K, Brand>(alloc, store, id, form, sink, Blank::new(1))
 }

@@ -2,6 +2,7 @@
 ghost use Rattle.std.specs.Prelude.{◌≡◌, ℕ, ◌<◌, List, IfOk, IfErr, OnOk, IsTrue, string_bytes};
 ghost use Rattle.std.specs.Io.KnownBytes.{Appends};
 ghost use Rattle.mp4_present.specs.words.Opening.{RefusesOpen};
+ghost use Rattle.mp4norm.specs.format.Steps.{LooksWithin};
 ghost use Rattle.mp4norm.specs.words.Commands.{ShowsLine, RefusesShow};
 
 use crate::movie_json::show_text;
@@ -26,6 +27,8 @@ fn movie_line<S: Store, L: Ledger>(
     ensures refusal { IfErr result
         (RefusesOpen (S.is_honest store.old) (S.file store.old) (S.read_failures store.old)
         (S.read_failures store.new)) }
+    ensures work { IsTrue (S.is_honest store.old)
+        → LooksWithin (S.file store.old) steps.old steps.new }
 {
     let movie = open_movie(alloc, store, steps)?;
     let head = movie.head(alloc)?;
@@ -34,8 +37,36 @@ fn movie_line<S: Store, L: Ledger>(
     Ok(text)
 }
 
+/// As `show`, with the steps that it takes counted: at most 8 for each sample and each row
+/// of the file, however many tracks it has.
+pub fn show_counted<S: Store, K: Sink, L: Ledger>(
+    alloc: Global,
+    store: &mut S,
+    sink: &mut K,
+    steps: &mut Steps<L>,
+) -> Result<(), Refusal>
+    ensures honesty { S.is_honest store.new ≡ S.is_honest store.old }
+    ensures file { S.file store.new ≡ S.file store.old }
+    ensures reads { OnOk result (S.read_failures store.new ≡ S.read_failures store.old) }
+    ensures puts { OnOk result (K.put_failures sink.new ≡ K.put_failures sink.old) }
+    ensures line { OnOk result (IsTrue (S.is_honest store.old) → (line : List ℕ)
+        × ShowsLine (S.file store.old) line
+        × Appends (K.contents sink.old) (K.contents sink.new) line) }
+    ensures refusal { IfErr result
+        (RefusesShow (S.is_honest store.old) (S.file store.old) (K.contents sink.old)
+        (K.contents sink.new)
+        (S.read_failures store.old) (S.read_failures store.new) (K.put_failures sink.old)
+        (K.put_failures sink.new)) }
+    ensures work { IsTrue (S.is_honest store.old)
+        → LooksWithin (S.file store.old) steps.old steps.new }
+{
+    let text = movie_line(alloc, store, steps)?;
+    sink.put(text.as_str().as_bytes())?;
+    Ok(())
+}
+
 // As `show`; its steps are counted in this ledger.
-fn show_counted<S: Store, K: Sink, L: Ledger>(
+fn show_blank<S: Store, K: Sink, L: Ledger>(
     alloc: Global,
     store: &mut S,
     sink: &mut K,
@@ -58,9 +89,7 @@ fn show_counted<S: Store, K: Sink, L: Ledger>(
         (K.put_failures sink.new)) }
 {
     let mut steps = Steps::<L>::new(blank);
-    let text = movie_line(alloc, store, &mut steps)?;
-    sink.put(text.as_str().as_bytes())?;
-    Ok(())
+    show_counted(alloc, store, sink, &mut steps)
 }
 
 /// Puts one line of compact JSON: what the movie and its tracks say of themselves, in numbers. The
@@ -79,5 +108,5 @@ pub fn show<S: Store, K: Sink>(alloc: Global, store: &mut S, sink: &mut K) -> Re
         (S.read_failures store.old) (S.read_failures store.new) (K.put_failures sink.old)
         (K.put_failures sink.new)) }
 {
-    show_counted::<S, K, Brand>(alloc, store, sink, Blank::new(1))
+    show_blank::<S, K, Brand>(alloc, store, sink, Blank::new(1))
 }

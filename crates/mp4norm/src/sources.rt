@@ -5,6 +5,7 @@ ghost use Rattle.mp4norm.specs.format.Headline.{HasNormalForm};
 ghost use Rattle.mp4norm.specs.words.Jobs.{IsTextOf, RefusesJob, JobWorksWithin};
 ghost use Rattle.mp4norm.specs.words.MainJob.{RefusesNormalise};
 
+use crate::causes::Trouble;
 use crate::explaining::explain;
 use crate::input::read_input;
 use crate::jobs::perform;
@@ -12,11 +13,13 @@ use crate::judging::check;
 use crate::named::Name;
 use crate::stripping::count_named;
 use crate::wanted::{Input, Job};
+use crate::watching::Watched;
 use mp4_boxes::{Fault, Refusal, Steps};
 use mp4_store::{BufferedStore, FileStore, MemStore, Sink};
 use std::alloc::Global;
 use std::fs;
 use std::fs::File;
+use std::io::ErrorKind;
 use std::sync::ledger::Ledger;
 
 /// The most bytes that are read of standard input.
@@ -25,30 +28,44 @@ pub(crate) const MOST_INPUT: usize = 1 << 30;
 /// What is read.
 #[derive(Drop)]
 pub(crate) enum Source {
-    File(BufferedStore<FileStore>),
+    File(BufferedStore<FileStore>, Watched),
     Input(Vec<u8>),
 }
 
 // Opens a regular file. Whatever else there is can't be read by place, or its length isn't known;
 // its kind is looked at first, since opening a pipe would wait for whoever writes it.
-fn open_file(rt: &HostRuntime, name: &str) -> Result<BufferedStore<FileStore>, Refusal> {
-    match fs::metadata(rt, name) {
-        Ok(metadata) if metadata.is_file() => {}
-        _ => return Err(Refusal::StoreFailed),
+fn open_file(rt: &HostRuntime, name: &str) -> Result<Source, ErrorKind> {
+    let metadata = fs::metadata(rt, name).map_err(|error| error.kind())?;
+    if metadata.is_dir() {
+        return Err(ErrorKind::IsADirectory);
     }
-    let file = File::open(rt, name).map_err(|_| Refusal::StoreFailed)?;
-    let store = FileStore::new(file).map_err(|_| Refusal::StoreFailed)?;
-    Ok(BufferedStore::new(store))
+    if !metadata.is_file() {
+        return Err(ErrorKind::Unsupported);
+    }
+    let file = File::open(rt, name).map_err(|error| error.kind())?;
+    let watched = Watched::new(&file).map_err(|error| error.kind())?;
+    let store = FileStore::new(file).map_err(|error| error.kind())?;
+    Ok(Source::File(BufferedStore::new(store), watched))
 }
 
 /// Opens what is to be read. Standard input is read to its end.
-pub(crate) fn open(rt: &HostRuntime, input: Input) -> Result<Source, Refusal> {
+pub(crate) fn open(
+    rt: &HostRuntime,
+    input: Input,
+    trouble: &mut Trouble,
+) -> Result<Source, Refusal> {
     match input {
         Input::Standard => {
             let bytes = read_input(rt.alloc(), &mut rt.reader(), MOST_INPUT)?;
             Ok(Source::Input(bytes))
         }
-        Input::File { name } => Ok(Source::File(open_file(rt, name)?)),
+        Input::File { name } => match open_file(rt, name) {
+            Ok(source) => Ok(source),
+            Err(kind) => {
+                trouble.note(kind);
+                Err(Refusal::StoreFailed)
+            }
+        },
     }
 }
 
@@ -83,7 +100,7 @@ impl Source {
             (λ file. JobWorksWithin job.entry file steps.old steps.new) }
     {
         match self {
-            Source::File(store) => perform(alloc, job, store, sink, steps),
+            Source::File(store, _) => perform(alloc, job, store, sink, steps),
             Source::Input(bytes) => {
                 let mut store = MemStore::new(bytes.as_slice());
                 perform(alloc, job, &mut store, sink, steps)
@@ -100,7 +117,7 @@ impl Source {
             (λ file. IfErr result (RefusesNormalise true file None None 0 0 0 0)) }
     {
         match self {
-            Source::File(store) => check(alloc, store),
+            Source::File(store, _) => check(alloc, store),
             Source::Input(bytes) => check_bytes(alloc, bytes.as_slice()),
         }
     }
@@ -112,11 +129,20 @@ impl Source {
         names: &[Name],
     ) -> Result<Vec<u64>, Refusal> {
         match self {
-            Source::File(store) => count_named(alloc, store, names),
+            Source::File(store, _) => count_named(alloc, store, names),
             Source::Input(bytes) => {
                 let mut store = MemStore::new(bytes.as_slice());
                 count_named(alloc, &mut store, names)
             }
+        }
+    }
+
+    /// Whether a file is as it was when it was opened, so far as its length and the time of its
+    /// last change tell.
+    pub(crate) fn stays(&self) -> Result<(), Refusal> {
+        match self {
+            Source::File(_, watched) => watched.stays(),
+            Source::Input(_) => Ok(()),
         }
     }
 
@@ -128,7 +154,7 @@ impl Source {
         sink: &mut K,
     ) -> Result<(), Refusal> {
         match self {
-            Source::File(store) => explain(alloc, fault, store, sink),
+            Source::File(store, _) => explain(alloc, fault, store, sink),
             Source::Input(bytes) => {
                 let mut store = MemStore::new(bytes.as_slice());
                 explain(alloc, fault, &mut store, sink)

@@ -1,4 +1,5 @@
 //! Where the answer goes.
+use crate::causes::{Noted, Trouble};
 use crate::sources::Source;
 use crate::wanted::Job;
 use mp4_boxes::{Refusal, Steps};
@@ -40,18 +41,37 @@ impl Write for Out {
 }
 
 /// Makes a file that isn't there yet.
-pub(crate) fn make(rt: &HostRuntime, name: &str) -> Result<Out, Refusal> {
-    let file = File::create_new(rt, name).map_err(|_| Refusal::WriteFailed)?;
-    Ok(Out::File(file))
+pub(crate) fn make(rt: &HostRuntime, name: &str, trouble: &mut Trouble) -> Result<Out, Refusal> {
+    match File::create_new(rt, name) {
+        Ok(file) => Ok(Out::File(file)),
+        Err(error) => {
+            trouble.note(error.kind());
+            Err(Refusal::WriteFailed)
+        }
+    }
 }
 
-/// Writes a job's text.
+// Whether a job answers for all bytes of what it reads.
+fn answers_for_all(job: Job) -> bool {
+    match job {
+        Job::Boxes | Job::Show => false,
+        Job::Samples { .. } | Job::Extract { .. } | Job::Normalise | Job::Strip { .. } => true,
+    }
+}
+
+/// Writes a job's text. Where a file changed meanwhile of which all was to be read, that is said.
 pub(crate) fn write<L: Ledger>(
     alloc: Global,
     job: Job,
     source: &mut Source,
     out: &mut Out,
     steps: &mut Steps<L>,
+    trouble: &mut Trouble,
 ) -> Result<(), Refusal> {
-    source.perform(alloc, job, &mut IoSink::new(out), steps)
+    let noted = Noted { out, trouble };
+    source.perform(alloc, job, &mut IoSink::new(noted), steps)?;
+    if answers_for_all(job) {
+        source.stays()?;
+    }
+    Ok(())
 }

@@ -1,4 +1,5 @@
 use super::*;
+use crate::causes::Trouble;
 use crate::sources::open;
 use std::alloc::Global;
 use std::test::Fail;
@@ -34,8 +35,26 @@ fn command_lines(rt: HostRuntime) -> Result<(), Fail> {
         ),
         (
             "samples a --track 7",
-            "Run { job: Samples { track: 7 }, input: File { name: \"a\" }, target: \
+            "Run { job: Samples { track: 7, form: Plain }, input: File { name: \"a\" }, target: \
              Standard, explain: false }",
+        ),
+        (
+            "samples a --header --track 7",
+            "Run { job: Samples { track: 7, form: Named }, input: File { name: \"a\" }, target: \
+             Standard, explain: false }",
+        ),
+        (
+            "samples a --track 7 --json",
+            "Run { job: Samples { track: 7, form: Json }, input: File { name: \"a\" }, target: \
+             Standard, explain: false }",
+        ),
+        (
+            "samples a --track 7 --json --header",
+            "usage: error: the argument '--header' cannot be used with '--json'\n\nFor more",
+        ),
+        (
+            "show a --json",
+            "usage: error: unexpected argument '--json' found",
         ),
         (
             "extract --out b a --track 4294967295",
@@ -138,7 +157,7 @@ fn command_lines(rt: HostRuntime) -> Result<(), Fail> {
 #[test]
 fn only_regular_files(rt: HostRuntime) {
     for file in ["/dev/null", "/dev/zero", "/", "no such file"] {
-        let opened = open(&rt, Input::File { name: file });
+        let opened = open(&rt, Input::File { name: file }, &mut Trouble::new(false));
         assert!(rt; matches!(opened, Err(Refusal::StoreFailed)), "{file}");
     }
 }

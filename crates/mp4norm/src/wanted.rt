@@ -2,12 +2,21 @@
 use crate::named::Name;
 use std::alloc::AllocError;
 
+/// How the samples of a track are listed: a line each, the same behind the names of the columns, or
+/// an object of JSON each.
+#[derive(Clone, Copy, Debug, PartialEq)]
+pub enum Form {
+    Plain,
+    Named,
+    Json,
+}
+
 /// What is done over a file.
 #[derive(Clone, Copy, Debug, PartialEq)]
 pub enum Job<'a> {
     Boxes,
     Show,
-    Samples { track: u32 },
+    Samples { track: u32, form: Form },
     Extract { track: u32 },
     Normalise,
     Strip { names: &'a [Name] },

@@ -21,12 +21,23 @@ row_total tree = sum_of (λ (t : TrackTree). table_rows (tables_of t.table)) tre
 abbrev pub most_steps : ℕ → ℕ → ℕ → ℕ
 most_steps tracks samples rows = 8 * ((tracks + 1) * (samples + rows))
 
--- The steps taken over a file. Where it denotes a presentation: by the tracks, samples and rows of
--- that. Where it denotes nothing: by the tracks of its `moov`, as if it had 2^24 samples and a row
--- for each byte; or none was taken.
+-- The steps taken over a file that denotes nothing: by the tracks of its `moov`, as if it had 2^24
+-- samples and a row for each byte; or none was taken.
+abbrev pub RefusedWithin : List ℕ → ℕ → ℕ → Type 0
+RefusedWithin file old new = (new ≡ old)
+    ⊎ ((ids : List ℕ) × HasMovie file ids
+    × (new ≤ old + most_steps (length ids) (2 ^ 24) (length file)))
+
+-- The steps taken over a file to write its normal form. Where it denotes a presentation: by the
+-- tracks, samples and rows of that.
 pub record WorksWithin (file : List ℕ) (old new : ℕ) : Type 0 where
   pub denoted : (p : Presentation) → (d : Denotes file p)
       → new ≤ old + most_steps (length p.tracks) (sample_total p) (row_total d.tree)
-  pub refused : DenotesNothing file → (new ≡ old)
-      ⊎ ((ids : List ℕ) × HasMovie file ids
-      × (new ≤ old + most_steps (length ids) (2 ^ 24) (length file)))
+  pub refused : DenotesNothing file → RefusedWithin file old new
+
+-- The steps of looking at a file, and of a walk over one of its tracks: 8 for each sample and each
+-- row, however many tracks there are.
+pub record LooksWithin (file : List ℕ) (old new : ℕ) : Type 0 where
+  pub denoted : (p : Presentation) → (d : Denotes file p)
+      → new ≤ old + 8 * (sample_total p + row_total d.tree)
+  pub refused : DenotesNothing file → RefusedWithin file old new

@@ -5,6 +5,7 @@ use Rattle.std.specs.List.{list_all, AllZip, concat}
 use Rattle.serde_json.specs.Data.{unsigned, Data, number, string, array, object, Members, no_members, member}
 use Rattle.serde_json.specs.Find.{of_integer}
 use Rattle.serde_json.specs.View.{items_of}
+use Rattle.serde_json.specs.Written.{compact_text}
 use Rattle.mp4_boxes.specs.format.Box.{Box, Container, size, box_container, file_container, Tiles}
 use Rattle.mp4_boxes.specs.format.Places.{Scope, ruled, containers, at_kind}
 use Rattle.mp4_boxes.specs.declared.rule.Rule.{Rule}
@@ -16,6 +17,8 @@ use Rattle.mp4_boxes.specs.declared.refusal.Refusal.TheVariants as refusals
 use Rattle.mp4_tables.specs.declared.sample.SampleAt.{SampleAt}
 use Rattle.mp4_head.specs.format.Head.{Edit, Kept, TrackHead, handler_type}
 use Rattle.mp4_present.specs.format.Presentation.{Sample, Track, Presentation, total_duration, movie_length}
+use Rattle.mp4norm.specs.declared.wanted.Form.{Form}
+use Rattle.mp4norm.specs.declared.wanted.Form.TheVariants as forms
 
 abbrev pub line_feed : List ℕ
 line_feed = 10 ∷ []
@@ -81,6 +84,20 @@ status_of refusals.StoreChanged = 3
 status_of refusals.WriteFailed = 3
 status_of refusals.NoSuchTrack = 4
 
+-- ---- JSON
+
+abbrev pub nat_value : ℕ → Data
+nat_value n = number (unsigned n)
+
+abbrev pub int_value : ℤ → Data
+int_value z = number (of_integer z)
+
+abbrev pub members : List (List ℕ × Data) → Members
+members [] = no_members
+members (m ∷ ms) = member m.0 m.1 (members ms)
+
+-- ---- samples
+
 -- number, decode time, composition time, duration, flags, description index, size
 abbrev pub fields_line : ℕ → ℕ → ℤ → ℕ → ℕ → ℕ → ℕ → List ℕ
 fields_line i time offset duration flags description size =
@@ -88,27 +105,62 @@ fields_line i time offset duration flags description size =
     ++ decimal duration ++ space
     ++ hex_digits 8 flags ++ space ++ decimal description ++ space ++ decimal size ++ line_feed
 
--- the line of a sample with this number and decode time
-abbrev pub sample_line : ℕ → ℕ → Sample → List ℕ
-sample_line i time s = fields_line i time s.offset s.duration s.flags s.description (length s.bytes)
+-- the same as one value; keys in order of their bytes
+abbrev pub fields_value : ℕ → ℕ → ℤ → ℕ → ℕ → ℕ → ℕ → Data
+fields_value i time offset duration flags description size = object (members (
+    (codes "composition_time", int_value (pos time +ℤ offset))
+    ∷ (codes "decode_time", nat_value time)
+    ∷ (codes "description", nat_value description)
+    ∷ (codes "duration", nat_value duration)
+    ∷ (codes "flags", nat_value flags)
+    ∷ (codes "number", nat_value i)
+    ∷ (codes "size", nat_value size)
+    ∷ []))
 
-abbrev pub sample_lines_from : ℕ → ℕ → List Sample → List ℕ
-sample_lines_from i time [] = []
-sample_lines_from i time (s ∷ samples) = sample_line i time s
-    ++ sample_lines_from (i + 1) (time + s.duration) samples
+-- the line of such fields in a form
+abbrev pub form_line : Form → ℕ → ℕ → ℤ → ℕ → ℕ → ℕ → ℕ → List ℕ
+form_line forms.Plain i time offset duration flags description size =
+    fields_line i time offset duration flags description size
+form_line forms.Named i time offset duration flags description size =
+    fields_line i time offset duration flags description size
+form_line forms.Json i time offset duration flags description size =
+    compact_text (fields_value i time offset duration flags description size) ++ line_feed
+
+-- what stands before the lines: the names of the columns, where these are asked for
+abbrev pub listing_head : Form → List ℕ
+listing_head forms.Plain = []
+listing_head forms.Named =
+    codes "number decode_time composition_time duration flags description size" ++ line_feed
+listing_head forms.Json = []
+
+-- the line of a sample with this number and decode time
+abbrev pub sample_line : Form → ℕ → ℕ → Sample → List ℕ
+sample_line form i time s =
+    form_line form i time s.offset s.duration s.flags s.description (length s.bytes)
+
+abbrev pub sample_lines_from : Form → ℕ → ℕ → List Sample → List ℕ
+sample_lines_from form i time [] = []
+sample_lines_from form i time (s ∷ samples) = sample_line form i time s
+    ++ sample_lines_from form (i + 1) (time + s.duration) samples
 
 -- a line for each sample of a track
-abbrev pub sample_lines : Track → List ℕ
-sample_lines t = sample_lines_from 1 t.start t.samples
+abbrev pub sample_lines : Form → Track → List ℕ
+sample_lines form t = sample_lines_from form 1 t.start t.samples
+
+-- all that is listed of a track
+abbrev pub sample_listing : Form → Track → List ℕ
+sample_listing form t = listing_head form ++ sample_lines form t
 
 -- the line of a sample that is handed out with its decode time
-abbrev pub sample_at_line : ℕ → SampleAt → List ℕ
-sample_at_line i s = fields_line i s.dts s.cto s.duration s.flags s.description s.size
+abbrev pub sample_at_line : Form → ℕ → SampleAt → List ℕ
+sample_at_line form i s =
+    form_line form i s.dts s.cto s.duration s.flags s.description s.size
 
 -- the lines of such samples, numbered on
-abbrev pub sample_at_lines : ℕ → List SampleAt → List ℕ
-sample_at_lines i [] = []
-sample_at_lines i (s ∷ samples) = sample_at_line i s ++ sample_at_lines (i + 1) samples
+abbrev pub sample_at_lines : Form → ℕ → List SampleAt → List ℕ
+sample_at_lines form i [] = []
+sample_at_lines form i (s ∷ samples) = sample_at_line form i s
+    ++ sample_at_lines form (i + 1) samples
 
 -- a track's sample bytes, one after the other
 abbrev pub sample_data : Track → List ℕ
@@ -148,17 +200,7 @@ AreBoxLines (suc levels) depth rule c text =
 abbrev pub BoxLines : List ℕ → List ℕ → Type 0
 BoxLines file text = AreBoxLines 6 0 rules.File (file_container file) text
 
--- ---- JSON
-
-abbrev pub nat_value : ℕ → Data
-nat_value n = number (unsigned n)
-
-abbrev pub int_value : ℤ → Data
-int_value z = number (of_integer z)
-
-abbrev pub members : List (List ℕ × Data) → Members
-members [] = no_members
-members (m ∷ ms) = member m.0 m.1 (members ms)
+-- ---- a movie as JSON
 
 abbrev pub edit_value : Edit → Data
 edit_value e =

@@ -9,7 +9,7 @@ use Rattle.mp4norm.specs.declared.wanted.Target.TheVariants as targets
 
 -- a track's ID is at least 1
 abbrev pub IsJob : Job → Type 0
-IsJob (jobs.Samples track) = 1 ≤ track
+IsJob (jobs.Samples track form) = 1 ≤ track
 IsJob (jobs.Extract track) = 1 ≤ track
 IsJob _ = Unit {0}
 

@@ -10,7 +10,8 @@ use Rattle.mp4_head.specs.format.Head.{TrackHead}
 use Rattle.mp4_present.specs.format.Denotes.{Denotes}
 use Rattle.mp4_present.specs.format.Presentation.{Track, Presentation, heads}
 use Rattle.mp4_present.specs.format.Stands.{Stands}
-use Rattle.mp4norm.specs.format.Texts.{line_feed, sample_lines, sample_data, show_value}
+use Rattle.mp4norm.specs.format.Texts.{line_feed, sample_listing, sample_data, show_value}
+use Rattle.mp4norm.specs.declared.wanted.Form.{Form}
 
 -- none of these is the ID
 abbrev pub AreOthers : ℕ → List ℕ → Type 0
@@ -29,9 +30,10 @@ pub record IsTrackWith (file : List ℕ) (id : ℕ) (t : Track) : Type 0 where
   pub is_there : slice_get p.tracks place ≡ Some t
   pub id_is : t.head.id ≡ id
 
--- the lines of the samples of the track with this ID
-abbrev pub ListsSamples : List ℕ → ℕ → List ℕ → Type 0
-ListsSamples file id text = (t : Track) × IsTrackWith file id t × (text ≡ sample_lines t)
+-- the samples of the track with this ID, listed in this form
+abbrev pub ListsSamples : List ℕ → ℕ → Form → List ℕ → Type 0
+ListsSamples file id form text = (t : Track) × IsTrackWith file id t
+    × (text ≡ sample_listing form t)
 
 -- the bytes of the samples of the track with this ID
 abbrev pub HasData : List ℕ → ℕ → List ℕ → Type 0

@@ -6,7 +6,7 @@ use Rattle.mp4norm.specs.format.BoxWalk.{RefusesBoxes}
 use Rattle.mp4norm.specs.words.Commands.{ShowsLine, ListsSamples, HasData, RefusesShow, RefusesTrack}
 use Rattle.mp4norm.specs.format.Headline.{HasNormalForm}
 use Rattle.mp4norm.specs.words.MainJob.{RefusesNormalise}
-use Rattle.mp4norm.specs.format.Steps.{WorksWithin}
+use Rattle.mp4norm.specs.format.Steps.{WorksWithin, LooksWithin}
 use Rattle.mp4norm.specs.format.Strips.{IsStripped, RefusesStrip}
 use Rattle.mp4norm.specs.format.Texts.{BoxLines}
 use Rattle.mp4norm.specs.declared.wanted.Job.{Job}
@@ -16,7 +16,7 @@ use Rattle.mp4norm.specs.declared.wanted.Job.TheVariants as jobs
 abbrev pub IsTextOf : Job → List ℕ → List ℕ → Type 0
 IsTextOf jobs.Boxes file text = BoxLines file text
 IsTextOf jobs.Show file text = ShowsLine file text
-IsTextOf (jobs.Samples track) file text = ListsSamples file track text
+IsTextOf (jobs.Samples track form) file text = ListsSamples file track form text
 IsTextOf (jobs.Extract track) file text = HasData file track text
 IsTextOf jobs.Normalise file text = HasNormalForm file text
 IsTextOf (jobs.Strip names) file text = IsStripped names.now file text
@@ -28,8 +28,8 @@ RefusesJob jobs.Boxes honest file before after reads reads_after puts puts_after
     RefusesBoxes honest file before after reads reads_after puts puts_after r
 RefusesJob jobs.Show honest file before after reads reads_after puts puts_after r =
     RefusesShow honest file before after reads reads_after puts puts_after r
-RefusesJob (jobs.Samples track) honest file before after reads reads_after puts puts_after r =
-    RefusesTrack honest file track (ListsSamples file track)
+RefusesJob (jobs.Samples track form) honest file before after reads reads_after puts puts_after r =
+    RefusesTrack honest file track (ListsSamples file track form)
     before after reads reads_after puts puts_after r
 RefusesJob (jobs.Extract track) honest file before after reads reads_after puts puts_after r =
     RefusesTrack honest file track (HasData file track)
@@ -41,5 +41,9 @@ RefusesJob (jobs.Strip names) honest file before after reads reads_after puts pu
 
 -- how many steps it may take, where that is counted
 abbrev pub JobWorksWithin : Job → List ℕ → ℕ → ℕ → Type 0
+JobWorksWithin jobs.Boxes file old new = Unit {0}
+JobWorksWithin jobs.Show file old new = LooksWithin file old new
+JobWorksWithin (jobs.Samples track form) file old new = LooksWithin file old new
+JobWorksWithin (jobs.Extract track) file old new = LooksWithin file old new
 JobWorksWithin jobs.Normalise file old new = WorksWithin file old new
-JobWorksWithin _ file old new = Unit {0}
+JobWorksWithin (jobs.Strip names) file old new = Unit {0}

@@ -5,6 +5,7 @@ use Rattle.mp4_present.proofs.WalkCopied.{on_ok, on_err}
 use Rattle.mp4_present.specs.words.Joined.{sample_bytes}
 use Rattle.mp4norm.specs.words.Commands.{HasData}
 use Rattle.mp4norm.proofs.TrackTexts.{track_found, lacks, has_data, open_refuses, text_refuses}
+use Rattle.mp4norm.proofs.StepsTaken.{not_looked, looked_within, walked_within}
 use Rattle.mp4norm.proofs.extract.extract_counted.Goals as goal
 
 pub returns-in_err-movie-clause-refusal : goal.returns-in_err-movie-clause-refusal
@@ -42,3 +43,22 @@ returns-clause-refusal g c =
     let o = c.in_ok-movie.ensures.movie told in
     let f = track_found file c.in_ok-movie.movie o.0 c.in_ok-track.track c.args.id o.1 (rw c.tracks.ensures at c.in_ok-track.ensures.within) (rw c.tracks.ensures at c.in_ok-track.ensures.track) in
     unchanged told o.0 f.t o.1 f.is_there)
+
+-- ---- steps
+
+pub returns-in_err-movie-clause-work : goal.returns-in_err-movie-clause-work
+returns-in_err-movie-clause-work g c = λ told.
+    not_looked _ _ _ _ _ _ c.in_err-movie.field-0.0 told c.in_err-movie.ensures.refusal (c.in_err-movie.ensures.work told) (c.in_err-movie.ensures.within told)
+
+pub returns-in_err-track-clause-work : goal.returns-in_err-track-clause-work
+returns-in_err-track-clause-work g c = λ told.
+    let o = c.in_ok-movie.ensures.movie told in
+    looked_within _ _ _ c.in_ok-movie.movie o.0 o.1 (c.in_ok-movie.ensures.work told o.0 o.1.is_tree)
+
+pub returns-clause-work : goal.returns-clause-work
+returns-clause-work g c = λ told.
+    let file = g.S.Store.file c.args.store.now in
+    let o = c.in_ok-movie.ensures.movie told in
+    let f = track_found file c.in_ok-movie.movie o.0 c.in_ok-track.track c.args.id o.1 (rw c.tracks.ensures at c.in_ok-track.ensures.within) (rw c.tracks.ensures at c.in_ok-track.ensures.track) in
+    let walk = (rw (c.in_ok-movie.ensures.honesty, c.in_ok-movie.ensures.file) at c.copy_track.ensures.work) told o.0 f.t o.1 f.is_there in
+    walked_within file _ _ c.in_ok-movie.movie o.0 _ c.in_ok-track.track f.t o.1 (c.in_ok-movie.ensures.work told o.0 o.1.is_tree) f.is_there walk

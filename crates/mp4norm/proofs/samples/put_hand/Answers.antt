@@ -1,6 +1,7 @@
 use Rattle.std.proofs.lemmas.Result.{err_from_is_err_and}
 use Rattle.mp4_present.proofs.WalkCopied.{kept_before}
 use Rattle.mp4_present.proofs.WalkPlaces.{kept_on}
+use Rattle.mp4_present.proofs.WayThrough.{hand_goes_on}
 use Rattle.mp4norm.proofs.samples.put_hand.Goals as goal
 
 pub returns-clause-walk : goal.returns-clause-walk
@@ -19,3 +20,7 @@ returns-clause-lines g c =
 
 pub returns-clause-stands : goal.returns-clause-stands
 returns-clause-stands g c file tree t earlier later s = rw c.keep.ensures.place (kept_before file tree t earlier later c.args.walk.now c.place-place.result s)
+
+pub returns-clause-work : goal.returns-clause-work
+returns-clause-work g c file tree t n o may =
+    rw c.keep.ensures.place (hand_goes_on file c.args.movie.now tree t c.args.walk.now c.in_hand-hand.result _ c.place-place.result n _ _ o c.in_hand-hand.ensures.movie c.requires c.in_hand-hand.ensures.hand c.put_lines.ensures.later c.place-place.ensures c.keep.ensures.work may)

@@ -1,4 +1,4 @@
-use Rattle.std.proofs.Common.{refl, ◌∙◌}
+use Rattle.std.proofs.Common.{refl, ◌∙◌, arith}
 use Rattle.std.proofs.lemmas.Result.{err_from_is_err_and}
 use Rattle.mp4_present.specs.words.Carried.{waiting}
 use Rattle.mp4_present.specs.words.SamplesComing.{samples_behind}
@@ -6,6 +6,7 @@ use Rattle.mp4_present.proofs.WalkCopied.{on_ok, on_err, if_err, put_unchanged, 
 use Rattle.mp4norm.specs.format.Texts.{sample_at_lines}
 use Rattle.mp4norm.proofs.Going.{going_none}
 use Rattle.mp4norm.proofs.WalkLines.{lines_next, lines_fail, lines_stop, lines_whole, lines_not_put}
+use Rattle.mp4_present.proofs.WayThrough.{takes_then, takes_most, most_then}
 use Rattle.mp4norm.proofs.samples.put_walk.Goals as goal
 
 pub returns-in_err-put_hand-clause-prefix : goal.returns-in_err-put_hand-clause-prefix
@@ -15,7 +16,7 @@ returns-in_err-put_hand-clause-prefix g c =
     let contents = g.K.Sink.contents c.args.sink.now in
     let held = waiting c.args.carrier.now in
     let x = c.in_err-put_hand.ensures.prefix in
-    rw p.1 (λ told tree t samples o k few. lines_fail file tree t c.args.movie.now contents contents _ held held c.args.walk.now 1 samples samples (going_none contents held (sample_at_lines 1 samples)) refl few k x.0 x.1 x.2)
+    rw p.1 (λ told tree t samples o k few. lines_fail c.args.form file tree t c.args.movie.now contents contents _ held held c.args.walk.now 1 samples samples (going_none contents held (sample_at_lines c.args.form 1 samples)) refl few k x.0 x.1 x.2)
 
 pub returns-in_err-put_hand-clause-unchanged : goal.returns-in_err-put_hand-clause-unchanged
 returns-in_err-put_hand-clause-unchanged g c told tree t samples o k few =
@@ -35,13 +36,15 @@ loop-walk-init g c =
       reads = refl;
       puts = e.puts;
       going = λ told tree t samples o k few.
-          lines_next file tree t c.args.movie.now contents contents _ held held c.args.walk.now 1 samples samples (going_none contents held (sample_at_lines 1 samples)) refl few k e.lines.0 e.lines.1 (waiting c.put_hand.new.carrier) c.put_hand.new.walk c.put_hand.new.number e.lines.2 e.stands;
+          lines_next c.args.form file tree t c.args.movie.now contents contents _ held held c.args.walk.now 1 samples samples (going_none contents held (sample_at_lines c.args.form 1 samples)) refl few k e.lines.0 e.lines.1
+          (waiting c.put_hand.new.carrier) c.put_hand.new.walk c.put_hand.new.number e.lines.2 e.stands;
+      takes = λ told tree t n o may. e.work file tree t n o may;
     }
 
 pub returns-in_err-load-clause-prefix : goal.returns-in_err-load-clause-prefix
 returns-in_err-load-clause-prefix g c =
     let p = err_from_is_err_and c.from_residual-in_err-load.result c.from_residual-in_err-load.ensures.1 in
-    rw p.1 (λ told tree t samples o k few. let u = c.loop-walk.invariant.going told tree t samples o k few in lines_stop _ _ (waiting c.args.carrier.now) (waiting c.loop-walk.carrier) c.loop-walk.number (samples_behind tree t u.earlier u.later) samples u.goes)
+    rw p.1 (λ told tree t samples o k few. let u = c.loop-walk.invariant.going told tree t samples o k few in lines_stop c.args.form _ _ (waiting c.args.carrier.now) (waiting c.loop-walk.carrier) c.loop-walk.number (samples_behind tree t u.earlier u.later) samples u.goes)
 
 pub returns-in_err-load-clause-unchanged : goal.returns-in_err-load-clause-unchanged
 returns-in_err-load-clause-unchanged g c told tree t samples o k few =
@@ -67,8 +70,11 @@ loop-walk-preserved g c =
           let u = i.going told tree t samples o k few in
           let to_come = samples_behind tree t u.earlier u.later in
           let comes = loads_more file tree t m to_come c.load.new.self c.in_ok-load.field-0 c.if-branch.true ((rw (i.honesty, i.file) at l.loaded) told tree t u.earlier u.later o u.stands) in
-          lines_next file tree t m _ _ _ (waiting c.args.carrier.now) (waiting c.loop-walk.carrier) c.load.new.self c.loop-walk.number samples to_come u.goes u.count few comes e.lines.0 e.lines.1 (waiting c.put_hand-in-loop-walk.new.carrier)
+          lines_next c.args.form file tree t m _ _ _ (waiting c.args.carrier.now) (waiting c.loop-walk.carrier) c.load.new.self c.loop-walk.number samples to_come u.goes u.count few comes e.lines.0 e.lines.1 (waiting c.put_hand-in-loop-walk.new.carrier)
           c.put_hand-in-loop-walk.new.walk c.put_hand-in-loop-walk.new.number e.lines.2 e.stands;
+      takes = λ told tree t n o may.
+          let loads = takes_then file tree t n _ _ _ c.loop-walk.walk c.load.new.self (i.takes told tree t n o may) (λ k may. (rw (i.honesty, i.file) at l.work) told tree t k o may) in
+          takes_then file tree t n _ _ _ c.load.new.self c.put_hand-in-loop-walk.new.walk loads (λ k may. e.work file tree t k o may);
     }
 
 pub returns-in_err-put_hand-2-clause-prefix : goal.returns-in_err-put_hand-2-clause-prefix
@@ -83,7 +89,7 @@ returns-in_err-put_hand-2-clause-prefix g c =
     let u = i.going told tree t samples o k few in
     let to_come = samples_behind tree t u.earlier u.later in
     let comes = loads_more file tree t m to_come c.load.new.self c.in_ok-load.field-0 c.if-branch.true ((rw (i.honesty, i.file) at l.loaded) told tree t u.earlier u.later o u.stands) in
-    lines_fail file tree t m _ _ _ (waiting c.args.carrier.now) (waiting c.loop-walk.carrier) c.load.new.self c.loop-walk.number samples to_come u.goes u.count few comes x.0 x.1 x.2)
+    lines_fail c.args.form file tree t m _ _ _ (waiting c.args.carrier.now) (waiting c.loop-walk.carrier) c.load.new.self c.loop-walk.number samples to_come u.goes u.count few comes x.0 x.1 x.2)
 
 pub returns-in_err-put_hand-2-clause-unchanged : goal.returns-in_err-put_hand-2-clause-unchanged
 returns-in_err-put_hand-2-clause-unchanged g c told tree t samples o k few =
@@ -98,7 +104,7 @@ returns-clause-lines g c =
     let u = i.going told tree t samples o k few in
     let to_come = samples_behind tree t u.earlier u.later in
     let none = loads_none file tree t c.args.movie.now to_come c.load.new.self c.in_ok-load.field-0 c.if-branch.false ((rw (i.honesty, i.file) at c.in_ok-load.ensures.loaded) told tree t u.earlier u.later o u.stands) in
-    lines_whole _ _ _ (waiting c.args.carrier.now) (waiting c.loop-walk.carrier) c.loop-walk.number to_come samples u.goes none p) c.flush.ensures.bytes
+    lines_whole c.args.form _ _ _ (waiting c.args.carrier.now) (waiting c.loop-walk.carrier) c.loop-walk.number to_come samples u.goes none p) c.flush.ensures.bytes
 
 pub returns-clause-prefix : goal.returns-clause-prefix
 returns-clause-prefix g c =
@@ -108,7 +114,33 @@ returns-clause-prefix g c =
     let u = i.going told tree t samples o k few in
     let to_come = samples_behind tree t u.earlier u.later in
     let none = loads_none file tree t c.args.movie.now to_come c.load.new.self c.in_ok-load.field-0 c.if-branch.false ((rw (i.honesty, i.file) at c.in_ok-load.ensures.loaded) told tree t u.earlier u.later o u.stands) in
-    lines_not_put _ _ _ (waiting c.args.carrier.now) (waiting c.loop-walk.carrier) c.loop-walk.number to_come samples u.goes none p) c.flush.ensures.prefix
+    lines_not_put c.args.form _ _ _ (waiting c.args.carrier.now) (waiting c.loop-walk.carrier) c.loop-walk.number to_come samples u.goes none p) c.flush.ensures.prefix
 
 pub returns-clause-unchanged : goal.returns-clause-unchanged
 returns-clause-unchanged g c told tree t samples o k few = if_err _ _ c.flush.result (λ r w. put_unchanged _ _ r w) c.flush.ensures.refusal
+
+-- ---- steps
+
+pub returns-in_err-put_hand-clause-work : goal.returns-in_err-put_hand-clause-work
+returns-in_err-put_hand-clause-work g c told tree t n o may = let idle = c.in_err-put_hand.ensures.idle in omega (arith, idle)
+
+pub returns-in_err-load-clause-work : goal.returns-in_err-load-clause-work
+returns-in_err-load-clause-work g c told tree t n o may =
+    let i = c.loop-walk.invariant in
+    most_then (g.S.Store.file c.args.store.now) tree t n _ _ _ c.loop-walk.walk (i.takes told tree t n o may) (λ k may. (rw (i.honesty, i.file) at c.in_err-load.ensures.most) told tree t k o may)
+
+pub returns-in_err-put_hand-2-clause-work : goal.returns-in_err-put_hand-2-clause-work
+returns-in_err-put_hand-2-clause-work g c told tree t n o may =
+    let i = c.loop-walk.invariant in
+    let file = g.S.Store.file c.args.store.now in
+    let loads = takes_then file tree t n _ _ _ c.loop-walk.walk c.load.new.self (i.takes told tree t n o may) (λ k may. (rw (i.honesty, i.file) at c.in_ok-load.ensures.work) told tree t k o may) in
+    let most = takes_most file tree t n _ _ c.load.new.self loads in
+    let idle = c.in_err-put_hand-2.ensures.idle in
+    omega (arith, most, idle)
+
+pub returns-clause-work : goal.returns-clause-work
+returns-clause-work g c told tree t n o may =
+    let i = c.loop-walk.invariant in
+    let file = g.S.Store.file c.args.store.now in
+    let loads = takes_then file tree t n _ _ _ c.loop-walk.walk c.load.new.self (i.takes told tree t n o may) (λ k may. (rw (i.honesty, i.file) at c.in_ok-load.ensures.work) told tree t k o may) in
+    takes_most file tree t n _ _ c.load.new.self loads

@@ -1,11 +1,14 @@
-use Rattle.std.proofs.Common.{refl}
+use Rattle.std.proofs.Common.{arith, ◌++◌, refl}
 use Rattle.std.proofs.lemmas.Result.{err_from_is_err_and}
 use Rattle.mp4_present.specs.words.SamplesComing.{track_samples}
 use Rattle.mp4_present.proofs.WalkCopied.{on_ok, on_err, if_err}
 use Rattle.mp4_present.proofs.Causes.{copy_not_carried}
 use Rattle.mp4norm.specs.words.Commands.{ListsSamples}
-use Rattle.mp4norm.specs.format.Texts.{sample_at_lines}
-use Rattle.mp4norm.proofs.TrackTexts.{track_found, lacks, lists, open_refuses, text_refuses}
+use Rattle.mp4norm.specs.format.Texts.{listing_head, sample_at_lines}
+use Rattle.mp4norm.proofs.TrackTexts.{track_found, lacks, lists, open_refuses, put_refuses, text_refuses}
+use Rattle.mp4norm.proofs.WalkLines.{headed_whole, headed_fails}
+use Rattle.mp4_store.proofs.Known.{AppendsPrefix-longer}
+use Rattle.mp4norm.proofs.StepsTaken.{not_looked, looked_within, walked_within}
 use Rattle.mp4norm.proofs.samples.samples_counted.Goals as goal
 
 pub returns-in_err-movie-clause-refusal : goal.returns-in_err-movie-clause-refusal
@@ -19,29 +22,84 @@ returns-in_err-track-clause-refusal g c =
     let n = rw c.tracks.ensures at c.in_err-track.ensures.none in
     rw (p.1, p.2, n.0) (λ told. (let o = c.in_ok-movie.ensures.movie told in lacks (g.S.Store.file c.args.store.now) c.in_ok-movie.movie o.0 c.args.id o.1 n.1), refl)
 
+pub returns-in_err-carry-clause-refusal : goal.returns-in_err-carry-clause-refusal
+returns-in_err-carry-clause-refusal g c =
+    let p = err_from_is_err_and c.from_residual-in_err-carry.result c.from_residual-in_err-carry.ensures.1 in
+    let file = g.S.Store.file c.args.store.now in
+    let form = c.args.form in
+    let front = rw (c.in_ok-carrier.ensures.empty, c.head_of.ensures) at c.in_err-carry.ensures.prefix in
+    rw (p.1, p.2, c.in_ok-movie.ensures.reads) (put_refuses (g.S.Store.is_honest c.args.store.now) file c.args.id (ListsSamples file c.args.id form) _ _ _ _ _ c.in_err-carry.field-0.0 c.in_err-carry.ensures.refusal
+    (λ told.
+    let o = c.in_ok-movie.ensures.movie told in
+    let f = track_found file c.in_ok-movie.movie o.0 c.in_ok-track.track c.args.id o.1 (rw c.tracks.ensures at c.in_ok-track.ensures.within) (rw c.tracks.ensures at c.in_ok-track.ensures.track) in
+    let lines = sample_at_lines form 1 (track_samples o.0 f.t) in
+    (listing_head form ++ lines, lists form file o.0 c.in_ok-track.track c.args.id f, AppendsPrefix-longer _ _ (listing_head form) lines front)))
+
 pub returns-clause-lines : goal.returns-clause-lines
 returns-clause-lines g c =
     let file = g.S.Store.file c.args.store.now in
+    let form = c.args.form in
+    let went = rw (c.in_ok-carrier.ensures.empty, c.head_of.ensures) at c.in_ok-carry.ensures.bytes in
     on_ok _ _ c.put_walk.result (λ all told.
     let o = c.in_ok-movie.ensures.movie told in
     let f = track_found file c.in_ok-movie.movie o.0 c.in_ok-track.track c.args.id o.1 (rw c.tracks.ensures at c.in_ok-track.ensures.within) (rw c.tracks.ensures at c.in_ok-track.ensures.track) in
     let samples = track_samples o.0 f.t in
-    (sample_at_lines 1 samples, lists file o.0 c.in_ok-track.track c.args.id f, all told o.0 f.t samples o.1 (c.in_ok-walk.ensures.coming file o.0 f.t o.1 f.is_there) f.few))
-    (rw (c.in_ok-movie.ensures.honesty, c.in_ok-movie.ensures.file, c.in_ok-carrier.ensures.empty) at c.put_walk.ensures.lines)
+    let lines = sample_at_lines form 1 samples in
+    (listing_head form ++ lines, lists form file o.0 c.in_ok-track.track c.args.id f, headed_whole _ _ _ _ (listing_head form) lines went (all told o.0 f.t samples o.1 (c.in_ok-walk.ensures.coming file o.0 f.t o.1 f.is_there) f.few)))
+    (rw (c.in_ok-movie.ensures.honesty, c.in_ok-movie.ensures.file) at c.put_walk.ensures.lines)
 
 pub returns-clause-refusal : goal.returns-clause-refusal
 returns-clause-refusal g c =
     let file = g.S.Store.file c.args.store.now in
-    let prefix = rw (c.in_ok-movie.ensures.honesty, c.in_ok-movie.ensures.file, c.in_ok-carrier.ensures.empty) at c.put_walk.ensures.prefix in
+    let form = c.args.form in
+    let went = rw (c.in_ok-carrier.ensures.empty, c.head_of.ensures) at c.in_ok-carry.ensures.bytes in
+    let prefix = rw (c.in_ok-movie.ensures.honesty, c.in_ok-movie.ensures.file) at c.put_walk.ensures.prefix in
     let unchanged = rw (c.in_ok-movie.ensures.honesty, c.in_ok-movie.ensures.file) at c.put_walk.ensures.unchanged in
-    let cause = rw c.in_ok-movie.ensures.reads at c.put_walk.ensures.refusal in
-    text_refuses c.put_walk.result (g.S.Store.is_honest c.args.store.now) file c.args.id (ListsSamples file c.args.id) _ _ _ _ _ _ (if_err _ _ c.put_walk.result (λ r x. copy_not_carried _ _ _ _ _ _ r x) cause)
+    let cause = rw (c.in_ok-movie.ensures.reads, c.in_ok-carry.ensures.puts) at c.put_walk.ensures.refusal in
+    text_refuses c.put_walk.result (g.S.Store.is_honest c.args.store.now) file c.args.id (ListsSamples file c.args.id form) _ _ _ _ _ _ (if_err _ _ c.put_walk.result (λ r x. copy_not_carried _ _ _ _ _ _ r x) cause)
     (λ told.
     let o = c.in_ok-movie.ensures.movie told in
     let f = track_found file c.in_ok-movie.movie o.0 c.in_ok-track.track c.args.id o.1 (rw c.tracks.ensures at c.in_ok-track.ensures.within) (rw c.tracks.ensures at c.in_ok-track.ensures.track) in
     let samples = track_samples o.0 f.t in
-    on_err _ _ c.put_walk.result (λ all. (sample_at_lines 1 samples, lists file o.0 c.in_ok-track.track c.args.id f, all told o.0 f.t samples o.1 (c.in_ok-walk.ensures.coming file o.0 f.t o.1 f.is_there) f.few)) prefix)
+    let lines = sample_at_lines form 1 samples in
+    on_err _ _ c.put_walk.result (λ all. (listing_head form ++ lines, lists form file o.0 c.in_ok-track.track c.args.id f, headed_fails _ _ _ _ (listing_head form) lines went (all told o.0 f.t samples o.1 (c.in_ok-walk.ensures.coming file o.0 f.t o.1 f.is_there) f.few))) prefix)
     (λ told.
     let o = c.in_ok-movie.ensures.movie told in
     let f = track_found file c.in_ok-movie.movie o.0 c.in_ok-track.track c.args.id o.1 (rw c.tracks.ensures at c.in_ok-track.ensures.within) (rw c.tracks.ensures at c.in_ok-track.ensures.track) in
     unchanged told o.0 f.t (track_samples o.0 f.t) o.1 (c.in_ok-walk.ensures.coming file o.0 f.t o.1 f.is_there) f.few)
+
+-- ---- steps
+
+pub returns-in_err-movie-clause-work : goal.returns-in_err-movie-clause-work
+returns-in_err-movie-clause-work g c = λ told.
+    not_looked _ _ _ _ _ _ c.in_err-movie.field-0.0 told c.in_err-movie.ensures.refusal (c.in_err-movie.ensures.work told) (c.in_err-movie.ensures.within told)
+
+pub returns-in_err-track-clause-work : goal.returns-in_err-track-clause-work
+returns-in_err-track-clause-work g c = λ told.
+    let o = c.in_ok-movie.ensures.movie told in
+    looked_within _ _ _ c.in_ok-movie.movie o.0 o.1 (c.in_ok-movie.ensures.work told o.0 o.1.is_tree)
+
+pub returns-in_err-walk-clause-work : goal.returns-in_err-walk-clause-work
+returns-in_err-walk-clause-work g c = λ told.
+    let o = c.in_ok-movie.ensures.movie told in
+    looked_within _ _ _ c.in_ok-movie.movie o.0 o.1 (c.in_ok-movie.ensures.work told o.0 o.1.is_tree)
+
+pub returns-in_err-carrier-clause-work : goal.returns-in_err-carrier-clause-work
+returns-in_err-carrier-clause-work g c = λ told.
+    let o = c.in_ok-movie.ensures.movie told in
+    looked_within _ _ _ c.in_ok-movie.movie o.0 o.1 (c.in_ok-movie.ensures.work told o.0 o.1.is_tree)
+
+pub returns-in_err-carry-clause-work : goal.returns-in_err-carry-clause-work
+returns-in_err-carry-clause-work g c = λ told.
+    let o = c.in_ok-movie.ensures.movie told in
+    looked_within _ _ _ c.in_ok-movie.movie o.0 o.1 (c.in_ok-movie.ensures.work told o.0 o.1.is_tree)
+
+pub returns-clause-work : goal.returns-clause-work
+returns-clause-work g c = λ told.
+    let file = g.S.Store.file c.args.store.now in
+    let o = c.in_ok-movie.ensures.movie told in
+    let f = track_found file c.in_ok-movie.movie o.0 c.in_ok-track.track c.args.id o.1 (rw c.tracks.ensures at c.in_ok-track.ensures.within) (rw c.tracks.ensures at c.in_ok-track.ensures.track) in
+    let may = c.in_ok-walk.ensures.may file o.0 f.t o.1 f.is_there in
+    let few = may.2 in
+    let walk = (rw (c.in_ok-movie.ensures.honesty, c.in_ok-movie.ensures.file) at c.put_walk.ensures.work) told o.0 f.t may.0 o.1 may.1 in
+    walked_within file _ _ c.in_ok-movie.movie o.0 _ c.in_ok-track.track f.t o.1 (c.in_ok-movie.ensures.work told o.0 o.1.is_tree) f.is_there (omega (arith, few, walk))

@@ -1,6 +1,7 @@
 use Rattle.std.proofs.Common.{ℕ, List, ◌++◌, rules, arith, ap, ◌∙◌}
 use Rattle.std.specs.Prelude.{string_bytes}
 use Rattle.mp4norm.proofs.ShownLines.{shows}
+use Rattle.mp4norm.proofs.StepsTaken.{not_looked, looked_within}
 use Rattle.mp4norm.proofs.show.movie_line.Goals as goal
 
 pub returns-clause-line : goal.returns-clause-line
@@ -8,3 +9,29 @@ returns-clause-line g c = λ honest.
     let o = c.in_ok-movie.ensures.movie honest in
     shows (g.S.Store.file c.args.store.now) c.in_ok-movie.movie o.0 c.in_ok-head.head _ _ _ _ o.1 c.in_ok-head.ensures c.in_ok-text.ensures (search rules) (search rules) (c.in_ok-push.ensures.bytes
     ∙ ap (λ (bs : List ℕ). string_bytes c.in_ok-text.text ++ bs) (c.in_ok-push.ensures.ascii (omega arith)))
+
+-- ---- steps
+
+pub returns-in_err-movie-clause-work : goal.returns-in_err-movie-clause-work
+returns-in_err-movie-clause-work g c = λ told.
+    not_looked _ _ _ _ _ _ c.in_err-movie.field-0.0 told c.in_err-movie.ensures.refusal (c.in_err-movie.ensures.work told) (c.in_err-movie.ensures.within told)
+
+pub returns-in_err-head-clause-work : goal.returns-in_err-head-clause-work
+returns-in_err-head-clause-work g c = λ told.
+    let o = c.in_ok-movie.ensures.movie told in
+    looked_within _ _ _ c.in_ok-movie.movie o.0 o.1 (c.in_ok-movie.ensures.work told o.0 o.1.is_tree)
+
+pub returns-in_err-text-clause-work : goal.returns-in_err-text-clause-work
+returns-in_err-text-clause-work g c = λ told.
+    let o = c.in_ok-movie.ensures.movie told in
+    looked_within _ _ _ c.in_ok-movie.movie o.0 o.1 (c.in_ok-movie.ensures.work told o.0 o.1.is_tree)
+
+pub returns-in_err-push-clause-work : goal.returns-in_err-push-clause-work
+returns-in_err-push-clause-work g c = λ told.
+    let o = c.in_ok-movie.ensures.movie told in
+    looked_within _ _ _ c.in_ok-movie.movie o.0 o.1 (c.in_ok-movie.ensures.work told o.0 o.1.is_tree)
+
+pub returns-clause-work : goal.returns-clause-work
+returns-clause-work g c = λ told.
+    let o = c.in_ok-movie.ensures.movie told in
+    looked_within _ _ _ c.in_ok-movie.movie o.0 o.1 (c.in_ok-movie.ensures.work told o.0 o.1.is_tree)

@@ -2,7 +2,7 @@ use Rattle.std.proofs.Common.{rules, ◌≡◌, to_z, of_z, w32, pos, ◌+ℤ◌
 use Rattle.std.specs.Fmt.{signed_decimal}
 use Rattle.mp4norm.specs.format.Texts.{hex_digits}
 use Rattle.mp4norm.proofs.LineParts.{seven_fields}
-use Rattle.mp4norm.proofs.sample_lines.sample_line.Goals as goal
+use Rattle.mp4norm.proofs.sample_lines.plain_line.Goals as goal
 
 pub returns : goal.returns
 returns c =
