@@ -1,15 +1,16 @@
 -- A walk for each track, and the samples that come in it: at one place, and with another walk there.
 use Rattle.std.proofs.Common.{◌≡◌, ℕ, zero, suc, ◌+◌, ◌<◌, List, [], ◌∷◌, ◌++◌, length, take, map, Some, refl, ap, subst, arith, slice_set}
+use Rattle.mp4_present.specs.declared.leaving.Leaving.{Leaving}
+use Rattle.mp4_plan.specs.words.ComingLess.{ComesLess}
 use Rattle.std.specs.Prelude.{slice_get}
 use Rattle.mp4_head.specs.format.Tree.{TrackTree}
 use Rattle.mp4_tables.specs.declared.sample.SampleAt.{SampleAt}
-use Rattle.mp4_present.specs.words.SamplesComing.{Comes}
 use Rattle.mp4_present.specs.format.Denotes.{FileTree}
 use Rattle.mp4_present.specs.words.Movies.{MovieSeen}
 use Rattle.mp4_present.specs.declared.walks.Walk.{Walk}
 use Rattle.mp4_plan.specs.words.Writers.{AllCome}
 
-module _ (file : List ℕ) (tree : FileTree) (m : MovieSeen) where
+module _ (leaving : Leaving) (file : List ℕ) (tree : FileTree) (m : MovieSeen) where
   -- what comes at one place
   pub record ComesAt (trees : List TrackTree) (walks : List Walk) (lefts : List (List SampleAt)) (k : ℕ) : Type 0 where
     pub t : TrackTree
@@ -18,9 +19,9 @@ module _ (file : List ℕ) (tree : FileTree) (m : MovieSeen) where
     pub is_tree : slice_get trees k ≡ Some t
     pub is_walk : slice_get walks k ≡ Some walk
     pub is_left : slice_get lefts k ≡ Some left
-    pub comes : Comes file tree t m walk left
+    pub comes : ComesLess leaving file tree t m walk left
 
-  pub come_at : (trees : List TrackTree) (walks : List Walk) (lefts : List (List SampleAt)) (k : ℕ) → AllCome file tree m trees walks lefts → k < length walks → ComesAt trees walks lefts k
+  pub come_at : (trees : List TrackTree) (walks : List Walk) (lefts : List (List SampleAt)) (k : ℕ) → AllCome leaving file tree m trees walks lefts → k < length walks → ComesAt trees walks lefts k
   come_at [] [] [] k h lt = absurd (omega (arith, lt))
   come_at [] [] (l ∷ lefts) k h lt = absurd h
   come_at [] (w ∷ walks) [] k h lt = absurd h
@@ -34,8 +35,8 @@ module _ (file : List ℕ) (tree : FileTree) (m : MovieSeen) where
       record { t = r.t; walk = r.walk; left = r.left; is_tree = r.is_tree; is_walk = r.is_walk; is_left = r.is_left; comes = r.comes }
 
   -- another walk at one place, in which other samples come
-  pub come_with : (trees : List TrackTree) (walks : List Walk) (lefts : List (List SampleAt)) (k : ℕ) (t : TrackTree) (walk : Walk) (left : List SampleAt) → AllCome file tree m trees walks lefts → slice_get trees k ≡ Some t → Comes file tree t m walk left
-      → AllCome file tree m trees (slice_set walks k walk) (slice_set lefts k left)
+  pub come_with : (trees : List TrackTree) (walks : List Walk) (lefts : List (List SampleAt)) (k : ℕ) (t : TrackTree) (walk : Walk) (left : List SampleAt) → AllCome leaving file tree m trees walks lefts → slice_get trees k ≡ Some t → ComesLess leaving file tree t m walk left
+      → AllCome leaving file tree m trees (slice_set walks k walk) (slice_set lefts k left)
   come_with [] [] [] k t walk left h is c = tt
   come_with [] [] (l ∷ lefts) k t walk left h is c = absurd h
   come_with [] (w ∷ walks) [] k t walk left h is c = absurd h
@@ -43,24 +44,24 @@ module _ (file : List ℕ) (tree : FileTree) (m : MovieSeen) where
   come_with (u ∷ trees) [] [] k t walk left h is c = absurd h
   come_with (u ∷ trees) [] (l ∷ lefts) k t walk left h is c = absurd h
   come_with (u ∷ trees) (w ∷ walks) [] k t walk left h is c = absurd h
-  come_with (u ∷ trees) (w ∷ walks) (l ∷ lefts) zero t walk left h is c = let same : t ≡ u = cc in (subst (λ (v : TrackTree). Comes file tree v m walk left) same c, h.1)
+  come_with (u ∷ trees) (w ∷ walks) (l ∷ lefts) zero t walk left h is c = let same : t ≡ u = cc in (subst (λ (v : TrackTree). ComesLess leaving file tree v m walk left) same c, h.1)
   come_with (u ∷ trees) (w ∷ walks) (l ∷ lefts) (suc k) t walk left h is c = (h.0, come_with trees walks lefts k t walk left h.1 is c)
 
-  more_behind : (trees : List TrackTree) (walks : List Walk) (lefts : TrackTree → List SampleAt) (k : ℕ) (t : TrackTree) (walk : Walk) → AllCome file tree m (take k trees) walks (map lefts (take k trees)) → length walks ≡ k → slice_get trees k ≡ Some t → Comes file tree t m walk (lefts t)
-      → AllCome file tree m (take (suc k) trees) (walks ++ walk ∷ []) (map lefts (take (suc k) trees))
+  more_behind : (trees : List TrackTree) (walks : List Walk) (lefts : TrackTree → List SampleAt) (k : ℕ) (t : TrackTree) (walk : Walk) → AllCome leaving file tree m (take k trees) walks (map lefts (take k trees)) → length walks ≡ k → slice_get trees k ≡ Some t → ComesLess leaving file tree t m walk (lefts t)
+      → AllCome leaving file tree m (take (suc k) trees) (walks ++ walk ∷ []) (map lefts (take (suc k) trees))
   more_behind [] walks lefts zero t walk h n is c = absurd cc
   more_behind [] walks lefts (suc k) t walk h n is c = absurd cc
-  more_behind (u ∷ trees) [] lefts zero t walk h n is c = let same : t ≡ u = cc in (subst (λ (v : TrackTree). Comes file tree v m walk (lefts v)) same c, tt)
+  more_behind (u ∷ trees) [] lefts zero t walk h n is c = let same : t ≡ u = cc in (subst (λ (v : TrackTree). ComesLess leaving file tree v m walk (lefts v)) same c, tt)
   more_behind (u ∷ trees) (w ∷ walks) lefts zero t walk h n is c = absurd (omega (arith, n))
   more_behind (u ∷ trees) [] lefts (suc k) t walk h n is c = absurd (omega (arith, n))
   more_behind (u ∷ trees) (w ∷ walks) lefts (suc k) t walk h n is c = (h.0, more_behind trees walks lefts k t walk h.1 (omega (arith, n)) is c)
 
   -- one more behind the others
-  pub come_more : (trees : List TrackTree) (walks : List Walk) (lefts : TrackTree → List SampleAt) (k : ℕ) (t : TrackTree) (walk : Walk) → AllCome file tree m (take k trees) walks (map lefts (take k trees)) → length walks ≡ k → slice_get trees k ≡ Some t → Comes file tree t m walk (lefts t)
-      → AllCome file tree m (take (k + 1) trees) (walks ++ walk ∷ []) (map lefts (take (k + 1) trees))
+  pub come_more : (trees : List TrackTree) (walks : List Walk) (lefts : TrackTree → List SampleAt) (k : ℕ) (t : TrackTree) (walk : Walk) → AllCome leaving file tree m (take k trees) walks (map lefts (take k trees)) → length walks ≡ k → slice_get trees k ≡ Some t → ComesLess leaving file tree t m walk (lefts t)
+      → AllCome leaving file tree m (take (k + 1) trees) (walks ++ walk ∷ []) (map lefts (take (k + 1) trees))
   come_more trees walks lefts k t walk h n is c =
       let next : suc k ≡ k + 1 = omega arith in
-      subst (λ i. AllCome file tree m (take i trees) (walks ++ walk ∷ []) (map lefts (take i trees))) next (more_behind trees walks lefts k t walk h n is c)
+      subst (λ i. AllCome leaving file tree m (take i trees) (walks ++ walk ∷ []) (map lefts (take i trees))) next (more_behind trees walks lefts k t walk h n is c)
 
 -- a member that stays the same
 pub set_same : {A : Type 0} (xs : List A) (k : ℕ) (x : A) → slice_get xs k ≡ Some x → slice_set xs k x ≡ xs

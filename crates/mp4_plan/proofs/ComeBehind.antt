@@ -1,11 +1,12 @@
 -- For each track the walk that copies, and how many samples were copied without it: at one place, and with others there.
 use Rattle.std.proofs.Common.{◌≡◌, ℕ, zero, suc, ◌^◌, ◌≤◌, List, [], ◌∷◌, length, Some, refl, sym, ap, subst, ◌∙◌, arith, slice_set}
+use Rattle.mp4_present.specs.declared.leaving.Leaving.{Leaving}
+use Rattle.mp4_plan.specs.words.ComingLess.{ComesLess}
 use Rattle.std.specs.Prelude.{replicate, slice_get}
 use Rattle.std.specs.List.{AllByRecursion}
 use Rattle.std.proofs.lemmas.List.Sums.{sum_by-cons}
 use Rattle.mp4_head.specs.format.Tree.{TrackTree}
 use Rattle.mp4_tables.specs.declared.sample.SampleAt.{SampleAt}
-use Rattle.mp4_present.specs.words.SamplesComing.{Comes}
 use Rattle.mp4_present.specs.format.Denotes.{FileTree}
 use Rattle.mp4_present.specs.words.Movies.{MovieSeen}
 use Rattle.mp4_present.specs.declared.walks.Walk.{Walk}
@@ -61,34 +62,34 @@ all_zeros n xs e = subst (λ (l : List ℕ). AllByRecursion (λ (k : ℕ). k ≡
     each zero = tt
     each (suc n) = (refl, each n)
 
-module _ (file : List ℕ) (tree : FileTree) (m : MovieSeen) where
+module _ (leaving : Leaving) (file : List ℕ) (tree : FileTree) (m : MovieSeen) where
   -- at each place of these lists: a walk over a track, so many samples that were copied without it, and those behind them
   abbrev pub AllComeBehind : List Walk → List ℕ → List (List SampleAt) → Type 0
   AllComeBehind walks behind lefts =
-      (k : ℕ) (t : TrackTree) (walk : Walk) (n : ℕ) (left : List SampleAt) → slice_get tree.movie.tracks k ≡ Some t → slice_get walks k ≡ Some walk → slice_get behind k ≡ Some n → slice_get lefts k ≡ Some left → ComesBehind file tree t m walk n left
+      (k : ℕ) (t : TrackTree) (walk : Walk) (n : ℕ) (left : List SampleAt) → slice_get tree.movie.tracks k ≡ Some t → slice_get walks k ≡ Some walk → slice_get behind k ≡ Some n → slice_get lefts k ≡ Some left → ComesBehind leaving file tree t m walk n left
 
   -- another walk at one place, with another number, and other samples behind them
-  pub behind_with : (walks : List Walk) (behind : List ℕ) (lefts : List (List SampleAt)) (k : ℕ) (t : TrackTree) (walk : Walk) (n : ℕ) (left : List SampleAt) → AllComeBehind walks behind lefts → slice_get tree.movie.tracks k ≡ Some t → ComesBehind file tree t m walk n left
+  pub behind_with : (walks : List Walk) (behind : List ℕ) (lefts : List (List SampleAt)) (k : ℕ) (t : TrackTree) (walk : Walk) (n : ℕ) (left : List SampleAt) → AllComeBehind walks behind lefts → slice_get tree.movie.tracks k ≡ Some t → ComesBehind leaving file tree t m walk n left
       → AllComeBehind (slice_set walks k walk) (slice_set behind k n) (slice_set lefts k left)
-  behind_with walks behind lefts k t walk n left h is c j u w i l at_tree at_walk at_number at_left = two_places j k (ComesBehind file tree u m w i l) here there
+  behind_with walks behind lefts k t walk n left h is c j u w i l at_tree at_walk at_number at_left = two_places j k (ComesBehind leaving file tree u m w i l) here there
     where
-      here : j ≡ k → ComesBehind file tree u m w i l
+      here : j ≡ k → ComesBehind leaving file tree u m w i l
       here e =
           let same_tree : t ≡ u = one_got tree.movie.tracks k t u is (subst (λ p. slice_get tree.movie.tracks p ≡ Some u) e at_tree) in
           let same_walk : walk ≡ w = got_here walks k walk w (subst (λ p. slice_get (slice_set walks k walk) p ≡ Some w) e at_walk) in
           let same_number : n ≡ i = got_here behind k n i (subst (λ p. slice_get (slice_set behind k n) p ≡ Some i) e at_number) in
           let same_left : left ≡ l = got_here lefts k left l (subst (λ p. slice_get (slice_set lefts k left) p ≡ Some l) e at_left) in
-          subst (λ (x : TrackTree). ComesBehind file tree x m w i l) same_tree
-          (subst (λ (x : Walk). ComesBehind file tree t m x i l) same_walk
-          (subst (λ (x : ℕ). ComesBehind file tree t m walk x l) same_number
-          (subst (λ (x : List SampleAt). ComesBehind file tree t m walk n x) same_left c)))
+          subst (λ (x : TrackTree). ComesBehind leaving file tree x m w i l) same_tree
+          (subst (λ (x : Walk). ComesBehind leaving file tree t m x i l) same_walk
+          (subst (λ (x : ℕ). ComesBehind leaving file tree t m walk x l) same_number
+          (subst (λ (x : List SampleAt). ComesBehind leaving file tree t m walk n x) same_left c)))
 
-      there : (j ≡ k → ⊥) → ComesBehind file tree u m w i l
+      there : (j ≡ k → ⊥) → ComesBehind leaving file tree u m w i l
       there other = h j u w i l at_tree (sym (got_there walks k j walk other) ∙ at_walk) (sym (got_there behind k j n other) ∙ at_number) (sym (got_there lefts k j left other) ∙ at_left)
 
   -- what comes in a walk at a place
-  comes_there : (trees : List TrackTree) (walks : List Walk) (lefts : List (List SampleAt)) (k : ℕ) (t : TrackTree) (walk : Walk) (left : List SampleAt) → AllCome file tree m trees walks lefts → slice_get trees k ≡ Some t → slice_get walks k ≡ Some walk → slice_get lefts k ≡ Some left
-      → Comes file tree t m walk left
+  comes_there : (trees : List TrackTree) (walks : List Walk) (lefts : List (List SampleAt)) (k : ℕ) (t : TrackTree) (walk : Walk) (left : List SampleAt) → AllCome leaving file tree m trees walks lefts → slice_get trees k ≡ Some t → slice_get walks k ≡ Some walk → slice_get lefts k ≡ Some left
+      → ComesLess leaving file tree t m walk left
   comes_there [] walks lefts k t walk left h a b c = absurd cc
   comes_there (u ∷ trees) [] lefts k t walk left h a b c = absurd cc
   comes_there (u ∷ trees) (w ∷ walks) [] k t walk left h a b c = absurd cc
@@ -96,11 +97,11 @@ module _ (file : List ℕ) (tree : FileTree) (m : MovieSeen) where
       let same_tree : u ≡ t = cc in
       let same_walk : w ≡ walk = cc in
       let same_left : l ≡ left = cc in
-      subst (λ (x : TrackTree). Comes file tree x m walk left) same_tree (subst (λ (x : Walk). Comes file tree u m x left) same_walk (subst (λ (x : List SampleAt). Comes file tree u m w x) same_left h.0))
+      subst (λ (x : TrackTree). ComesLess leaving file tree x m walk left) same_tree (subst (λ (x : Walk). ComesLess leaving file tree u m x left) same_walk (subst (λ (x : List SampleAt). ComesLess leaving file tree u m w x) same_left h.0))
   comes_there (u ∷ trees) (w ∷ walks) (l ∷ lefts) (suc k) t walk left h a b c = comes_there trees walks lefts k t walk left h.1 a b c
 
   -- walks of which nothing was copied without them
-  pub none_behind : (walks : List Walk) (behind : List ℕ) (lefts : List (List SampleAt)) → AllCome file tree m tree.movie.tracks walks lefts → AllByRecursion (λ (n : ℕ). n ≡ 0) behind → left_count lefts ≤ 2 ^ 24 → AllComeBehind walks behind lefts
+  pub none_behind : (walks : List Walk) (behind : List ℕ) (lefts : List (List SampleAt)) → AllCome leaving file tree m tree.movie.tracks walks lefts → AllByRecursion (λ (n : ℕ). n ≡ 0) behind → left_count lefts ≤ 2 ^ 24 → AllComeBehind walks behind lefts
   none_behind walks behind lefts h zeros few k t walk n left at_tree at_walk at_number at_left =
       let none : n ≡ 0 = member_got (λ i. i ≡ 0) behind k n at_number zeros in
       let long = one_of_all lefts k left at_left in

@@ -34,6 +34,11 @@ pub mod GoodPieces
 pub mod NormalGroups
 pub mod NormalDenotes
 pub mod TurnOrder
+pub mod Reducing
+pub mod ReducedValid
+pub mod ReducedNormal
+pub mod TooLong
+pub mod Agreed
 pub mod HeadLimit
 pub mod EachAt
 pub mod AllTake
@@ -66,6 +71,9 @@ pub mod WritesOn
 pub mod WriterTurns
 pub mod TurnTaken
 pub mod TakenFrom
+pub mod ReducedTaken
+pub mod CarriedLess
+pub mod HeadLess
 pub mod FirstTurn
 pub mod NextSamples
 pub mod Planning

@@ -1,5 +1,6 @@
 -- The next samples of tracks, and turns in which none goes into a piece.
 use Rattle.std.proofs.Common.{◌≡◌, ℕ, zero, suc, ◌+◌, ◌<◌, ◌≤◌, ◌==◌, ◌&&◌, Bool, false, List, [], ◌∷◌, ◌++◌, length, take, map, Some, None, refl, sym, ap, ◌∙◌, arith, slice_set}
+use Rattle.mp4_present.specs.declared.leaving.Leaving.{Leaving}
 use Rattle.std.specs.Prelude.{Option, slice_get, slice_index_or}
 use Rattle.std.proofs.lemmas.List.Sums.{sum_by-cons}
 use Rattle.std.proofs.lemmas.List.{take_all, take_more_set, map-append}
@@ -67,13 +68,13 @@ none_begins ([] ∷ lefts) h = refl
 none_begins ((x ∷ left) ∷ lefts) h = absurd (h x refl)
 
 -- as many tracks as walks
-pub come_length : (file : List ℕ) (tree : FileTree) (m : MovieSeen) (trees : List TrackTree) (walks : List Walk) (lefts : List (List SampleAt)) → AllCome file tree m trees walks lefts → length lefts ≡ length walks
-come_length file tree m [] [] [] h = refl
-come_length file tree m [] [] (l ∷ lefts) h = absurd h
-come_length file tree m [] (w ∷ walks) lefts h = absurd h
-come_length file tree m (t ∷ trees) [] lefts h = absurd h
-come_length file tree m (t ∷ trees) (w ∷ walks) [] h = absurd h
-come_length file tree m (t ∷ trees) (w ∷ walks) (l ∷ lefts) h = ap suc (come_length file tree m trees walks lefts h.1)
+pub come_length : (leaving : Leaving) (file : List ℕ) (tree : FileTree) (m : MovieSeen) (trees : List TrackTree) (walks : List Walk) (lefts : List (List SampleAt)) → AllCome leaving file tree m trees walks lefts → length lefts ≡ length walks
+come_length leaving file tree m [] [] [] h = refl
+come_length leaving file tree m [] [] (l ∷ lefts) h = absurd h
+come_length leaving file tree m [] (w ∷ walks) lefts h = absurd h
+come_length leaving file tree m (t ∷ trees) [] lefts h = absurd h
+come_length leaving file tree m (t ∷ trees) (w ∷ walks) [] h = absurd h
+come_length leaving file tree m (t ∷ trees) (w ∷ walks) (l ∷ lefts) h = ap suc (come_length leaving file tree m trees walks lefts h.1)
 
 -- as much room as before, with another walk at one place
 pub rooms_set : (walks : List Walk) (k : ℕ) (now d : Walk) → k < length walks → length now.bytes.items ≡ length (slice_index_or walks k d).bytes.items → rooms (slice_set walks k now) ≡ rooms walks

@@ -13,7 +13,7 @@ use Rattle.mp4_present.specs.declared.in_hand.Place.{Place}
 use Rattle.mp4_present.specs.declared.walks.Walk.{Walk}
 use Rattle.mp4_plan.specs.words.HandsFed.{TakesFirst, takes_itself, takes_on, HandPassed}
 use Rattle.mp4_plan.proofs.PieceCarried.{LoadsFor}
-use Rattle.mp4_plan.proofs.PieceFed.{fed_coming}
+use Rattle.mp4_plan.proofs.PieceFed.{raw_coming}
 use Rattle.mp4_plan.proofs.WalksOn.{hand_first, loads_on, loads_none}
 
 -- where none is shown of some, with room for so many, there is no room, or there are none
@@ -47,7 +47,7 @@ hand_passed file m begun w now count left next place on p is tree t samples o c 
       less = p.taken.less;
       whole = whole ∙ ap (λ (l : List SampleAt). l ++ behind) p.taken.whole ∙ append_assoc p.taken.taken (left_in_hand p.later) behind;
     } in
-    (rest, (fed_coming file m tree t w now place u.0 k p.later p.is_later is, takes_on count left next samples u.0 rest u.1.1 more))
+    (rest, (raw_coming file m tree t w now place u.0 k p.later p.is_later is, takes_on count left next samples u.0 rest u.1.1 more))
 
 -- more was loaded
 pub next_passed : (file : List ℕ) (m : MovieSeen) (begun w next : Walk) (count left : ℕ) (hand : InHand) (more : Bool) → PassesOn file m begun w count left → InHandOf m w hand → left_in_hand hand ≡ [] → LoadsFor file m w next more → more ≡ true

@@ -1,5 +1,9 @@
 -- What is planned of the pieces of an opened file, turn by turn.
 use Rattle.std.proofs.Common.{◌≡◌, ℕ, zero, suc, ◌+◌, ◌-◌, ◌*◌, ◌^◌, ◌<◌, ◌≤◌, nat_lt, Bool, true, false, cond, List, [], ◌∷◌, ◌++◌, length, take, map, Option, Some, None, refl, sym, ap, subst, ◌∙◌, arith, length-append, append-nil}
+use Rattle.mp4_present.specs.declared.leaving.Leaving.{Leaving}
+use Rattle.mp4_plan.specs.words.ComingLess.{ComesLess, left_samples}
+use Rattle.mp4_present.specs.format.Reduced.{reduce}
+use Rattle.mp4_plan.proofs.ReducedTaken.{less_counted}
 use Rattle.std.specs.Prelude.{slice_get, slice_set, slice_index_or, min, max, fold}
 use Rattle.std.specs.List.{sum_by}
 use Rattle.std.proofs.lemmas.List.{length-take-le}
@@ -8,7 +12,6 @@ use Rattle.mp4_head.specs.format.Tree.{TrackTree}
 use Rattle.mp4_tables.specs.format.Groups.{GroupKey}
 use Rattle.mp4_tables.specs.words.Keys.{keys_seen}
 use Rattle.mp4_tables.specs.declared.sample.SampleAt.{SampleAt}
-use Rattle.mp4_present.specs.words.SamplesComing.{Comes, track_samples}
 use Rattle.mp4_present.specs.format.Denotes.{FileTree, presentation_of}
 use Rattle.mp4_present.specs.words.Movies.{MovieSeen}
 use Rattle.mp4_present.specs.words.OpenedMovie.{IsOpenedAs}
@@ -128,17 +131,17 @@ added keys p plan next long left adds four small none some le fits = by p.count 
 -- ---- all turns
 
 -- What was planned of the pieces before a turn, and the walks that go on from it.
-pub record IsPlanning (file : List ℕ) (tree : FileTree) (m : MovieSeen) (s : Schedule) (walks : List Walk) (nexts : List (Option SampleAt)) (plan : Plan) : Type 0 where
+pub record IsPlanning (leaving : Leaving) (file : List ℕ) (tree : FileTree) (m : MovieSeen) (s : Schedule) (walks : List Walk) (nexts : List (Option SampleAt)) (plan : Plan) : Type 0 where
   pub lefts : List (List SampleAt)
   pub comings : List Coming
-  pub come : AllCome file tree m tree.movie.tracks walks lefts
+  pub come : AllCome leaving file tree m tree.movie.tracks walks lefts
   pub shown : nexts ≡ firsts lefts
   pub turn : IsTurn file m.tracks s lefts comings
   pub few : left_count lefts ≤ 2 ^ 24
   pub fits : plan.len + left_count lefts * 2 ^ 33 ≤ 2 ^ 57
-  pub longest : max plan.longest (longest_piece (pieces_from s comings)) ≡ longest_piece (pieces (presentation_of file tree))
+  pub longest : max plan.longest (longest_piece (pieces_from s comings)) ≡ longest_piece (pieces (reduce leaving (presentation_of file tree)))
   pub number : ℕ
-  pub len : plan.len + length (pieces_bytes number (pieces_from s comings)) ≡ length (pieces_bytes 1 (pieces (presentation_of file tree)))
+  pub len : plan.len + length (pieces_bytes number (pieces_from s comings)) ≡ length (pieces_bytes 1 (pieces (reduce leaving (presentation_of file tree))))
 
 begins_same : (lefts : List (List SampleAt)) → writers.first_dts lefts ≡ begins_at lefts
 begins_same [] = refl
@@ -149,34 +152,34 @@ no_plan : Plan
 no_plan = record { longest = 0; len = 0 }
 
 -- Before the first turn nothing is planned.
-pub planning_first : (file : List ℕ) (tree : FileTree) (m : MovieSeen) (s : Schedule) (walks : List Walk) (nexts : List (Option SampleAt)) (from : ℕ) → IsOpenedAs file m tree → AllBegin file tree m walks → nexts ≡ firsts (map (track_samples tree) tree.movie.tracks)
-    → from ≡ writers.first_dts (map (track_samples tree) tree.movie.tracks)
-    → s.tracks ≡ length m.tracks → s.first ≡ first_scale m.tracks → s.left ≡ min (sum_by (λ (i : TrackInfo). i.samples) m.tracks) (2 ^ 64 - 1) → (s.track ≡ 0) × (s.from ≡ from) × (s.next ≡ None) → IsPlanning file tree m s walks nexts (record { longest = 0; len = 0 })
-planning_first file tree m s walks nexts from o come shown time tracks first left starts =
-    let lefts = map (track_samples tree) tree.movie.tracks in
-    let count = all_counted file m tree s.left o left in
-    let is = first_turn file m tree s o (record { tracks = tracks; first = first; track = starts.0; from = starts.1 ∙ time ∙ begins_same lefts; next = starts.2; left = count }) in
-    let few = taken_from.few_left file m tree o in
+pub planning_first : (leaving : Leaving) (file : List ℕ) (tree : FileTree) (m : MovieSeen) (s : Schedule) (walks : List Walk) (nexts : List (Option SampleAt)) (from : ℕ) → IsOpenedAs file m tree → AllBegin leaving file tree m walks → nexts ≡ firsts (map (left_samples leaving tree) tree.movie.tracks)
+    → from ≡ writers.first_dts (map (left_samples leaving tree) tree.movie.tracks)
+    → s.tracks ≡ length m.tracks → s.first ≡ first_scale m.tracks → s.left ≡ min (sum_by (λ (i : TrackInfo). i.samples) m.tracks) (2 ^ 64 - 1) → (s.track ≡ 0) × (s.from ≡ from) × (s.next ≡ None) → IsPlanning leaving file tree m s walks nexts (record { longest = 0; len = 0 })
+planning_first leaving file tree m s walks nexts from o come shown time tracks first left starts =
+    let lefts = map (left_samples leaving tree) tree.movie.tracks in
+    let count = all_counted file m tree s.left o left ∙ sym (less_counted leaving tree tree.movie.tracks) in
+    let is = first_turn leaving file m tree s o (record { tracks = tracks; first = first; track = starts.0; from = starts.1 ∙ time ∙ begins_same lefts; next = starts.2; left = count }) in
+    let few = subst (λ n. n ≤ 2 ^ 24) (sym (less_counted leaving tree tree.movie.tracks)) (taken_from.few_left file m tree o) in
     record {
       lefts = lefts;
-      comings = map coming_of (presentation_of file tree).tracks;
+      comings = map coming_of (reduce leaving (presentation_of file tree)).tracks;
       come = come;
       shown = shown;
       turn = is.0;
       few = few;
       fits = omega (arith, few);
-      longest = (let n : max 0 (longest_piece (pieces_from s (map coming_of (presentation_of file tree).tracks))) ≡ longest_piece (pieces_from s (map coming_of (presentation_of file tree).tracks)) = omega arith in n) ∙ ap longest_piece is.1;
+      longest = (let n : max 0 (longest_piece (pieces_from s (map coming_of (reduce leaving (presentation_of file tree)).tracks))) ≡ longest_piece (pieces_from s (map coming_of (reduce leaving (presentation_of file tree)).tracks)) = omega arith in n) ∙ ap longest_piece is.1;
       number = 1;
-      len = (let n : 0 + length (pieces_bytes 1 (pieces_from s (map coming_of (presentation_of file tree).tracks))) ≡ length (pieces_bytes 1 (pieces_from s (map coming_of (presentation_of file tree).tracks))) = omega arith in n) ∙ ap (λ ps. length (pieces_bytes 1 ps)) is.1;
+      len = (let n : 0 + length (pieces_bytes 1 (pieces_from s (map coming_of (reduce leaving (presentation_of file tree)).tracks))) ≡ length (pieces_bytes 1 (pieces_from s (map coming_of (reduce leaving (presentation_of file tree)).tracks))) = omega arith in n) ∙ ap (λ ps. length (pieces_bytes 1 ps)) is.1;
     }
 
-module _ (file : List ℕ) (tree : FileTree) (m : MovieSeen) (s : Schedule) (walks : List Walk) (nexts : List (Option SampleAt)) (plan : Plan) (o : IsOpenedAs file m tree) (h : IsPlanning file tree m s walks nexts plan) where
+module _ (leaving : Leaving) (file : List ℕ) (tree : FileTree) (m : MovieSeen) (s : Schedule) (walks : List Walk) (nexts : List (Option SampleAt)) (plan : Plan) (o : IsOpenedAs file m tree) (h : IsPlanning leaving file tree m s walks nexts plan) where
   -- Behind the last turn all is planned.
-  pub planning_end : s.tracks ≤ s.track → IsPlanOf (presentation_of file tree) plan
+  pub planning_end : s.tracks ≤ s.track → IsPlanOf (reduce leaving (presentation_of file tree)) plan
   planning_end le =
       let none = turns_end file m.tracks s h.lefts h.comings h.turn le in
-      let longest = subst (λ ps. max plan.longest (longest_piece ps) ≡ longest_piece (pieces (presentation_of file tree))) none h.longest in
-      let len = subst (λ ps. plan.len + length (pieces_bytes h.number ps) ≡ length (pieces_bytes 1 (pieces (presentation_of file tree)))) none h.len in
+      let longest = subst (λ ps. max plan.longest (longest_piece ps) ≡ longest_piece (pieces (reduce leaving (presentation_of file tree)))) none h.longest in
+      let len = subst (λ ps. plan.len + length (pieces_bytes h.number ps) ≡ length (pieces_bytes 1 (pieces (reduce leaving (presentation_of file tree))))) none h.len in
       let fits = h.fits in
       record { longest = (let n : plan.longest ≡ max plan.longest 0 = omega arith in n) ∙ longest; len = (let n : plan.len ≡ plan.len + 0 = omega arith in n) ∙ len; within = omega (arith, fits) }
 
@@ -190,7 +193,7 @@ module _ (file : List ℕ) (tree : FileTree) (m : MovieSeen) (s : Schedule) (wal
     pub is_left : slice_get h.lefts s.track ≡ Some left
     pub place : k ≡ s.track
     pub end_is : end ≡ turn_end s info.timescale
-    pub comes : Comes file tree t m walk left
+    pub comes : ComesLess leaving file tree t m walk left
     pub few : length left ≤ 2 ^ 24
     pub shown : slice_get nexts s.track ≡ Some (slice_get left 0)
 
@@ -199,7 +202,7 @@ module _ (file : List ℕ) (tree : FileTree) (m : MovieSeen) (s : Schedule) (wal
       let lt = at.1 in
       let tracks = turn_tracks file m.tracks s h.lefts h.comings h.turn in
       let info = there_is m.tracks s.track (omega (arith, lt, tracks)) in
-      let r = comes_there file tree m walks h.lefts s.track walk h.come (omega (arith, lt, tracks, many)) in
+      let r = comes_there leaving file tree m walks h.lefts s.track walk h.come (omega (arith, lt, tracks, many)) in
       let fits = few_left h.lefts s.track (length r.left) r.left r.is_left (omega arith) in
       let all = h.few in
       record {
@@ -211,7 +214,7 @@ module _ (file : List ℕ) (tree : FileTree) (m : MovieSeen) (s : Schedule) (wal
         is_left = r.is_left;
         place = at.0;
         end_is = is_end info.0 info.1;
-        comes = subst (λ w. Comes file tree r.t m w r.left) (sym is_walk) (subst (λ j. Comes file tree r.t m (slice_index_or walks j walk) r.left) (sym at.0) r.comes);
+        comes = subst (λ w. ComesLess leaving file tree r.t m w r.left) (sym is_walk) (subst (λ j. ComesLess leaving file tree r.t m (slice_index_or walks j walk) r.left) (sym at.0) r.comes);
         few = omega (arith, fits, all);
         shown = ap (λ xs. slice_get xs s.track) h.shown ∙ first_at h.lefts s.track r.left r.is_left;
       }
@@ -228,10 +231,10 @@ module _ (file : List ℕ) (tree : FileTree) (m : MovieSeen) (s : Schedule) (wal
         subst (λ n. ¬ Sticks s end n next) (sym count) (subst (λ x. ¬ Sticks s end (more_of (piece_from end) t.left) x) (sym after) at_end)
 
     -- Behind it one more piece is planned, if it took samples.
-    pub planning_next : (p : Planned) (now : Walk) (next : Option SampleAt) (later : Plan) (on : Schedule) → p ≡ planned_of (piece_fed (piece_from end) t.left).gathered → Comes file tree t.t m now (samples_after (piece_from end) t.left)
-        → next ≡ slice_get (samples_after (piece_from end) t.left) 0 → IsSmall p → Adds (keys_seen t.info.keys) p plan later → on ≡ turned s end p.count next → IsPlanning file tree m on (slice_set walks k now) (slice_set nexts k next) later
+    pub planning_next : (p : Planned) (now : Walk) (next : Option SampleAt) (later : Plan) (on : Schedule) → p ≡ planned_of (piece_fed (piece_from end) t.left).gathered → ComesLess leaving file tree t.t m now (samples_after (piece_from end) t.left)
+        → next ≡ slice_get (samples_after (piece_from end) t.left) 0 → IsSmall p → Adds (keys_seen t.info.keys) p plan later → on ≡ turned s end p.count next → IsPlanning leaving file tree m on (slice_set walks k now) (slice_set nexts k next) later
     planning_next p now next later on is comes after small adds goes =
-        subst (λ j. IsPlanning file tree m on (slice_set walks j now) (slice_set nexts j next) later) (sym t.place) (subst (λ (r : Schedule). IsPlanning file tree m r (slice_set walks s.track now) (slice_set nexts s.track next) later) (sym turned_is) planned)
+        subst (λ j. IsPlanning leaving file tree m on (slice_set walks j now) (slice_set nexts j next) later) (sym t.place) (subst (λ (r : Schedule). IsPlanning leaving file tree m r (slice_set walks s.track now) (slice_set nexts s.track next) later) (sym turned_is) planned)
       where
         n : ℕ
         n = more_of (piece_from end) t.left
@@ -280,11 +283,11 @@ module _ (file : List ℕ) (tree : FileTree) (m : MovieSeen) (s : Schedule) (wal
         many : length u.samples ≡ n
         many = sym (taken_count file (keys_seen t.info.keys) (take n t.left) u.samples u.taken) ∙ length-take-le n t.left le
 
-        planned : IsPlanning file tree m (turned s end n (slice_get behind 0)) (slice_set walks s.track now) (slice_set nexts s.track next) later
+        planned : IsPlanning leaving file tree m (turned s end n (slice_get behind 0)) (slice_set walks s.track now) (slice_set nexts s.track next) later
         planned = record {
           lefts = slice_set h.lefts s.track behind;
           comings = u.later;
-          come = come_with file tree m tree.movie.tracks walks h.lefts s.track t.t now behind h.come t.is_tree comes;
+          come = come_with leaving file tree m tree.movie.tracks walks h.lefts s.track t.t now behind h.come t.is_tree comes;
           shown = (λ i. slice_set (h.shown i) s.track (after i)) ∙ sym (firsts_set h.lefts s.track behind);
           turn = u.on;
           few = (let all = h.few in omega (arith, all, left_is));

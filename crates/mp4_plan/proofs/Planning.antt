@@ -1,5 +1,7 @@
 -- Walks over the tracks of an opened file, and what is planned of the pieces that come in them.
 use Rattle.std.proofs.Common.{◌≡◌, ℕ, zero, suc, ◌+◌, ◌*◌, ◌<◌, ◌≤◌, ◌==◌, Bool, false, List, [], ◌∷◌, ◌++◌, length, take, map, Some, refl, sym, ap, subst, ◌∙◌, arith, true≢false, length-set}
+use Rattle.mp4_present.specs.declared.leaving.Leaving.{Leaving}
+use Rattle.mp4_plan.specs.words.ComingLess.{ComesLess, left_samples}
 use Rattle.std.specs.Prelude.{slice_get, slice_set, slice_index_or, Option}
 use Rattle.std.specs.List.{AllByRecursion}
 use Rattle.std.specs.Option.{MatchOption}
@@ -23,7 +25,7 @@ use Rattle.mp4_plan.proofs.TurnTaken.{there_is}
 
 -- walks over the first tracks of a file
 abbrev pub BeginSoFar : MovieSeen → ℕ → List Walk → Type 0
-BeginSoFar m k walks = (file : List ℕ) (tree : FileTree) → IsOpenedAs file m tree → AllCome file tree m (take k tree.movie.tracks) walks (map (track_samples tree) (take k tree.movie.tracks))
+BeginSoFar m k walks = (file : List ℕ) (tree : FileTree) → IsOpenedAs file m tree → (leaving : Leaving) → AllCome leaving file tree m (take k tree.movie.tracks) walks (map (left_samples leaving tree) (take k tree.movie.tracks))
 
 -- the room of one walk more
 pub one_room : (walks : List Walk) (walk : Walk) (k n : ℕ) → rooms walks ≡ k * n → length walk.bytes.items ≡ n → rooms (walks ++ walk ∷ []) ≡ (k + 1) * n
@@ -36,27 +38,27 @@ one_room walks walk k n h e =
 -- a walk over one track more
 pub one_begins : (m : MovieSeen) (k : ℕ) (walks : List Walk) (walk : Walk) → BeginSoFar m k walks → length walks ≡ k → k < length m.tracks
     → ((file : List ℕ) (tree : FileTree) (t : TrackTree) → IsOpenedAs file m tree → slice_get tree.movie.tracks k ≡ Some t → Comes file tree t m walk (track_samples tree t)) → BeginSoFar m (k + 1) (walks ++ walk ∷ [])
-one_begins m k walks walk h n lt comes file tree o =
+one_begins m k walks walk h n lt comes file tree o leaving =
     let many = zip_length (IsInfoOf file tree) tree.movie.tracks m.tracks o.tracks in
     let t = there_is tree.movie.tracks k (omega (arith, lt, many)) in
-    come_more file tree m tree.movie.tracks walks (track_samples tree) k t.0 walk (h file tree o) n t.1 (comes file tree t.0 o t.1)
+    come_more leaving file tree m tree.movie.tracks walks (left_samples leaving tree) k t.0 walk (h file tree o leaving) n t.1 (record { samples = track_samples tree t.0; comes = comes file tree t.0 o t.1; is_left = refl })
 
 -- all tracks have walks
-pub all_begin : (m : MovieSeen) (k : ℕ) (walks : List Walk) → BeginSoFar m k walks → length m.tracks ≤ k → (file : List ℕ) (tree : FileTree) → IsOpenedAs file m tree → AllBegin file tree m walks
-all_begin m k walks h le file tree o =
+pub all_begin : (m : MovieSeen) (k : ℕ) (walks : List Walk) → BeginSoFar m k walks → length m.tracks ≤ k → (file : List ℕ) (tree : FileTree) → IsOpenedAs file m tree → (leaving : Leaving) → AllBegin leaving file tree m walks
+all_begin m k walks h le file tree o leaving =
     let many = zip_length (IsInfoOf file tree) tree.movie.tracks m.tracks o.tracks in
     let all = take_all k tree.movie.tracks (omega (arith, le, many)) in
-    subst (λ (ts : List TrackTree). AllCome file tree m ts walks (map (track_samples tree) ts)) all (h file tree o)
+    subst (λ (ts : List TrackTree). AllCome leaving file tree m ts walks (map (left_samples leaving tree) ts)) all (h file tree o leaving)
 
 -- ---- the walk of one track
 
 -- the track, and the samples that come, of the walk at a place
-pub record ComesThere (file : List ℕ) (tree : FileTree) (m : MovieSeen) (lefts : List (List SampleAt)) (k : ℕ) (walk : Walk) : Type 0 where
+pub record ComesThere (leaving : Leaving) (file : List ℕ) (tree : FileTree) (m : MovieSeen) (lefts : List (List SampleAt)) (k : ℕ) (walk : Walk) : Type 0 where
   pub t : TrackTree
   pub left : List SampleAt
   pub is_tree : slice_get tree.movie.tracks k ≡ Some t
   pub is_left : slice_get lefts k ≡ Some left
-  pub comes : Comes file tree t m walk left
+  pub comes : ComesLess leaving file tree t m walk left
 
 some_is : {A : Type 0} (x y : A) → Some x ≡ Some y → x ≡ y
 some_is x y e = cc
@@ -66,18 +68,18 @@ got_there [] k d lt = absurd (omega (arith, lt))
 got_there (x ∷ xs) zero d lt = refl
 got_there (x ∷ xs) (suc k) d lt = got_there xs k d (omega (arith, lt))
 
-pub comes_there : (file : List ℕ) (tree : FileTree) (m : MovieSeen) (walks : List Walk) (lefts : List (List SampleAt)) (k : ℕ) (d : Walk) → AllCome file tree m tree.movie.tracks walks lefts → k < length walks
-    → ComesThere file tree m lefts k (slice_index_or walks k d)
-comes_there file tree m walks lefts k d h lt =
-    let r = come_at file tree m tree.movie.tracks walks lefts k h lt in
+pub comes_there : (leaving : Leaving) (file : List ℕ) (tree : FileTree) (m : MovieSeen) (walks : List Walk) (lefts : List (List SampleAt)) (k : ℕ) (d : Walk) → AllCome leaving file tree m tree.movie.tracks walks lefts → k < length walks
+    → ComesThere leaving file tree m lefts k (slice_index_or walks k d)
+comes_there leaving file tree m walks lefts k d h lt =
+    let r = come_at leaving file tree m tree.movie.tracks walks lefts k h lt in
     let same = some_is r.walk (slice_index_or walks k d) (sym r.is_walk ∙ got_there walks k d lt) in
-    record { t = r.t; left = r.left; is_tree = r.is_tree; is_left = r.is_left; comes = subst (λ (w : Walk). Comes file tree r.t m w r.left) same r.comes }
+    record { t = r.t; left = r.left; is_tree = r.is_tree; is_left = r.is_left; comes = subst (λ (w : Walk). ComesLess leaving file tree r.t m w r.left) same r.comes }
 
 -- another walk at its place, in which the same samples come
-pub same_come : (file : List ℕ) (tree : FileTree) (m : MovieSeen) (walks : List Walk) (lefts : List (List SampleAt)) (k : ℕ) (walk next : Walk) → AllCome file tree m tree.movie.tracks walks lefts → (r : ComesThere file tree m lefts k walk)
-    → Comes file tree r.t m next r.left → AllCome file tree m tree.movie.tracks (slice_set walks k next) lefts
-same_come file tree m walks lefts k walk next h r c =
-    subst (λ (ls : List (List SampleAt)). AllCome file tree m tree.movie.tracks (slice_set walks k next) ls) (set_same lefts k r.left r.is_left) (come_with file tree m tree.movie.tracks walks lefts k r.t next r.left h r.is_tree c)
+pub same_come : (leaving : Leaving) (file : List ℕ) (tree : FileTree) (m : MovieSeen) (walks : List Walk) (lefts : List (List SampleAt)) (k : ℕ) (walk next : Walk) → AllCome leaving file tree m tree.movie.tracks walks lefts → (r : ComesThere leaving file tree m lefts k walk)
+    → ComesLess leaving file tree r.t m next r.left → AllCome leaving file tree m tree.movie.tracks (slice_set walks k next) lefts
+same_come leaving file tree m walks lefts k walk next h r c =
+    subst (λ (ls : List (List SampleAt)). AllCome leaving file tree m tree.movie.tracks (slice_set walks k next) ls) (set_same lefts k r.left r.is_left) (come_with leaving file tree m tree.movie.tracks walks lefts k r.t next r.left h r.is_tree c)
 
 -- a walk of the same movie at a place
 each_set : {A : Type 0} (P : A → Type 0) (xs : List A) (k : ℕ) (x : A) → AllByRecursion P xs → P x → AllByRecursion P (slice_set xs k x)
@@ -94,12 +96,12 @@ pub some_walk : (n : ℕ) (v : Bool) → v ≡ (n == 0) → v ≡ false → 0 < 
 some_walk zero v e f = absurd (true≢false (sym (e ∙ eq-eqb 0 0 refl) ∙ f))
 some_walk (suc n) v e f = omega arith
 
-pub no_walks : (file : List ℕ) (tree : FileTree) (m : MovieSeen) (trees : List TrackTree) (walks : List Walk) (lefts : List (List SampleAt)) → AllCome file tree m trees walks lefts → length walks ≡ 0 → 0 ≡ first_dts lefts
-no_walks file tree m [] [] [] h e = refl
-no_walks file tree m [] [] (l ∷ lefts) h e = absurd h
-no_walks file tree m [] (w ∷ walks) lefts h e = absurd (omega (arith, e))
-no_walks file tree m (t ∷ trees) [] lefts h e = absurd h
-no_walks file tree m (t ∷ trees) (w ∷ walks) lefts h e = absurd (omega (arith, e))
+pub no_walks : (leaving : Leaving) (file : List ℕ) (tree : FileTree) (m : MovieSeen) (trees : List TrackTree) (walks : List Walk) (lefts : List (List SampleAt)) → AllCome leaving file tree m trees walks lefts → length walks ≡ 0 → 0 ≡ first_dts lefts
+no_walks leaving file tree m [] [] [] h e = refl
+no_walks leaving file tree m [] [] (l ∷ lefts) h e = absurd h
+no_walks leaving file tree m [] (w ∷ walks) lefts h e = absurd (omega (arith, e))
+no_walks leaving file tree m (t ∷ trees) [] lefts h e = absurd h
+no_walks leaving file tree m (t ∷ trees) (w ∷ walks) lefts h e = absurd (omega (arith, e))
 
 pub begins_with : (lefts : List (List SampleAt)) (left : List SampleAt) (next : Option SampleAt) (n : ℕ) → slice_get lefts 0 ≡ Some left → next ≡ slice_get left 0 → MatchOption next (n ≡ 0) (λ (s : SampleAt). n ≡ s.dts) → n ≡ first_dts lefts
 begins_with [] left next n e f h = absurd cc

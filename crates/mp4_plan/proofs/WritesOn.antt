@@ -1,5 +1,9 @@
 -- The writer from turn to turn: what was put and what waits are the head and the pieces so far, and the walks stand before the samples that are left.
 use Rattle.std.proofs.Common.{◌≡◌, ℕ, zero, suc, ◌+◌, ◌-◌, ◌^◌, ◌<◌, ◌≤◌, max, min, ◌==◌, Bool, true, false, List, [], ◌∷◌, ◌++◌, length, take, drop, Some, None, refl, sym, ap, subst, ◌∙◌, append_assoc, append-nil, arith, slice_set}
+use Rattle.mp4_present.specs.declared.leaving.Leaving.{Leaving}
+use Rattle.mp4_plan.specs.words.ComingLess.{ComesLess, left_samples}
+use Rattle.mp4_present.specs.format.Reduced.{reduce}
+use Rattle.mp4_plan.proofs.ReducedTaken.{less_counted, less_below}
 use Rattle.std.specs.Prelude.{Option, option_map, if◌then◌else◌, map, slice_get, fold}
 use Rattle.std.specs.Io.KnownBytes.{Appends}
 use Rattle.std.specs.List.{AllByRecursion, AllZip, sum_by}
@@ -10,7 +14,7 @@ use Rattle.mp4_tables.specs.format.Groups.{GroupKey}
 use Rattle.mp4_tables.specs.words.Keys.{keys_seen}
 use Rattle.mp4_tables.specs.declared.sample.SampleAt.{SampleAt}
 use Rattle.mp4_present.specs.words.Carried.{BytesGoOn, waiting}
-use Rattle.mp4_present.specs.words.SamplesComing.{Comes, track_samples}
+use Rattle.mp4_present.specs.words.SamplesComing.{track_samples}
 use Rattle.mp4_present.specs.format.Denotes.{FileTree, presentation_of}
 use Rattle.mp4_present.specs.words.Joined.{IsBelow}
 use Rattle.mp4_present.specs.words.Movies.{MovieSeen}
@@ -103,12 +107,12 @@ piece_small id (suc n) left (s ∷ samples) file keys z = omega arith
 
 -- ---- at a turn
 
-module _ (file : List ℕ) (tree : FileTree) (m : MovieSeen) where
+module _ (leaving : Leaving) (file : List ℕ) (tree : FileTree) (m : MovieSeen) where
   pub record WritesOn (s : Schedule) (sequence : ℕ) (planning copying : List Walk) (behind : List ℕ) (nexts : List (Option SampleAt)) (rows : ℕ) (before after : Option (List ℕ)) (held : List ℕ) : Type 0 where
     pub lefts : List (List SampleAt)
     pub comings : List Coming
-    pub plan : AllCome file tree m tree.movie.tracks planning lefts
-    pub copy : AllComeBehind file tree m copying behind lefts
+    pub plan : AllCome leaving file tree m tree.movie.tracks planning lefts
+    pub copy : AllComeBehind leaving file tree m copying behind lefts
     pub shown : nexts ≡ firsts lefts
     pub turn : IsTurn file m.tracks s lefts comings
     pub lie : AllByRecursion (λ (left : List SampleAt). AllByRecursion (IsBelow (length file)) left) lefts
@@ -116,7 +120,7 @@ module _ (file : List ℕ) (tree : FileTree) (m : MovieSeen) where
     pub small : sequence + left_count lefts ≤ 2 ^ 24 + 1
     pub done : List ℕ
     pub goes : BytesGoOn before after [] held done
-    pub whole : normal (presentation_of file tree) ≡ done ++ pieces_bytes sequence (pieces_from s comings)
+    pub whole : normal (reduce leaving (presentation_of file tree)) ≡ done ++ pieces_bytes sequence (pieces_from s comings)
 
   -- the track whose turn it is, and what its turn takes
   pub record AtTurn (s : Schedule) (planning copying : List Walk) (behind : List ℕ) (nexts : List (Option SampleAt)) (rows : ℕ) (lefts : List (List SampleAt)) (comings : List Coming) : Type 0 where
@@ -131,8 +135,8 @@ module _ (file : List ℕ) (tree : FileTree) (m : MovieSeen) where
     pub is_copied : slice_get copying s.track ≡ Some copied
     pub is_number : slice_get behind s.track ≡ Some number
     pub is_info : slice_get m.tracks s.track ≡ Some info
-    pub comes : Comes file tree t m walk left
-    pub copies : ComesBehind file tree t m copied number left
+    pub comes : ComesLess leaving file tree t m walk left
+    pub copies : ComesBehind leaving file tree t m copied number left
     pub keys : AreKeys (keys_seen info.keys)
     pub taken : TurnTaken file m.tracks s lefts comings info left
     pub below : AllByRecursion (IsBelow (length file)) left
@@ -142,7 +146,7 @@ module _ (file : List ℕ) (tree : FileTree) (m : MovieSeen) where
   pub at_turn : (s : Schedule) (sequence : ℕ) (planning copying : List Walk) (behind : List ℕ) (nexts : List (Option SampleAt)) (rows : ℕ) (before after : Option (List ℕ)) (held : List ℕ) → IsOpenedAs file m tree → (h : WritesOn s sequence planning copying behind nexts rows before after held)
       → s.track < s.tracks → s.tracks ≡ length m.tracks → length planning ≡ length m.tracks → length copying ≡ length m.tracks → length behind ≡ length m.tracks → AtTurn s planning copying behind nexts rows h.lefts h.comings
   at_turn s sequence planning copying behind nexts rows before after held o h lt tracks plans copies numbers =
-      let a = come_at file tree m tree.movie.tracks planning h.lefts s.track h.plan (omega (arith, lt, tracks, plans)) in
+      let a = come_at leaving file tree m tree.movie.tracks planning h.lefts s.track h.plan (omega (arith, lt, tracks, plans)) in
       let b = there_is copying s.track (omega (arith, lt, tracks, copies)) in
       let n = there_is behind s.track (omega (arith, lt, tracks, numbers)) in
       let i = there_is m.tracks s.track (omega (arith, lt, tracks)) in
@@ -171,17 +175,17 @@ module _ (file : List ℕ) (tree : FileTree) (m : MovieSeen) where
 
   module _ (s : Schedule) (sequence : ℕ) (planning copying : List Walk) (behind : List ℕ) (nexts : List (Option SampleAt)) (rows : ℕ) (before after : Option (List ℕ)) (held : List ℕ) (h : WritesOn s sequence planning copying behind nexts rows before after held) where
     -- what was put so far is a front
-    pub stopped : AppendsPrefix before after (normal (presentation_of file tree))
-    stopped = stopped_behind before after [] held h.done (pieces_bytes sequence (pieces_from s h.comings)) (normal (presentation_of file tree)) h.goes h.whole
+    pub stopped : AppendsPrefix before after (normal (reduce leaving (presentation_of file tree)))
+    stopped = stopped_behind before after [] held h.done (pieces_bytes sequence (pieces_from s h.comings)) (normal (reduce leaving (presentation_of file tree))) h.goes h.whole
 
     -- no piece is left, and what waits is put, or a front of it
-    all_done : pieces_from s h.comings ≡ [] → normal (presentation_of file tree) ≡ h.done
+    all_done : pieces_from s h.comings ≡ [] → normal (reduce leaving (presentation_of file tree)) ≡ h.done
     all_done none = h.whole ∙ ap (λ (ps : List Piece). h.done ++ pieces_bytes sequence ps) none ∙ append-nil h.done
 
-    pub all_put : (last : Option (List ℕ)) → pieces_from s h.comings ≡ [] → Appends after last held → Appends before last (normal (presentation_of file tree))
+    pub all_put : (last : Option (List ℕ)) → pieces_from s h.comings ≡ [] → Appends after last held → Appends before last (normal (reduce leaving (presentation_of file tree)))
     all_put last none p = rw (all_done none) (BytesGoOn-all before after last [] held h.done h.goes p)
 
-    pub not_all_put : (last : Option (List ℕ)) → pieces_from s h.comings ≡ [] → AppendsPrefix after last held → AppendsPrefix before last (normal (presentation_of file tree))
+    pub not_all_put : (last : Option (List ℕ)) → pieces_from s h.comings ≡ [] → AppendsPrefix after last held → AppendsPrefix before last (normal (reduce leaving (presentation_of file tree)))
     not_all_put last none p =
         let q : AppendsPrefix before last (h.done ++ []) = BytesGoOn-fails before after last [] held h.done [] h.goes (AppendsPrefix-longer after last held [] p) in
         subst (λ (bs : List ℕ). AppendsPrefix before last bs) (append-nil h.done ∙ sym (all_done none)) q
@@ -229,25 +233,25 @@ module _ (file : List ℕ) (tree : FileTree) (m : MovieSeen) where
           ∙ head_counts sequence a.info.id count a.left a.taken.samples file keys a.taken.taken (piece_within end a.left) (omega (arith, small, few_pieces, n, left))
 
       -- what is to come behind it
-      rest_is : normal (presentation_of file tree) ≡ (h.done ++ pieces_bytes sequence piece) ++ pieces_bytes (sequence_behind sequence head) (pieces_from next a.taken.later)
+      rest_is : normal (reduce leaving (presentation_of file tree)) ≡ (h.done ++ pieces_bytes sequence piece) ++ pieces_bytes (sequence_behind sequence head) (pieces_from next a.taken.later)
       rest_is =
           h.whole ∙ ap (λ (ps : List Piece). h.done ++ pieces_bytes sequence ps) a.taken.pieces
           ∙ ap (λ (bs : List ℕ). h.done ++ bs) (bytes_of_two sequence piece (pieces_from next a.taken.later) ∙ ap (λ n. pieces_bytes sequence piece ++ pieces_bytes n (pieces_from next a.taken.later)) (sym numbered))
           ∙ sym (append_assoc h.done (pieces_bytes sequence piece) (pieces_bytes (sequence_behind sequence head) (pieces_from next a.taken.later)))
 
       -- it is not taken along whole
-      pub turn_stops : (last : Option (List ℕ)) → AppendsPrefix after last (held ++ turn_bytes file head p keys (take p.count a.left)) → AppendsPrefix before last (normal (presentation_of file tree))
-      turn_stops last q = stopped_at before after last [] held h.done (turn_bytes file head p keys (take p.count a.left)) (h.done ++ pieces_bytes sequence piece) (pieces_bytes (sequence_behind sequence head) (pieces_from next a.taken.later)) (normal (presentation_of file tree)) h.goes q
+      pub turn_stops : (last : Option (List ℕ)) → AppendsPrefix after last (held ++ turn_bytes file head p keys (take p.count a.left)) → AppendsPrefix before last (normal (reduce leaving (presentation_of file tree)))
+      turn_stops last q = stopped_at before after last [] held h.done (turn_bytes file head p keys (take p.count a.left)) (h.done ++ pieces_bytes sequence piece) (pieces_bytes (sequence_behind sequence head) (pieces_from next a.taken.later)) (normal (reduce leaving (presentation_of file tree))) h.goes q
           (ap (λ (bs : List ℕ). h.done ++ bs) (sym written)) rest_is
 
       -- it is taken along
-      pub turn_over : (later copied : Walk) (number : ℕ) (last : Option (List ℕ)) (held_later : List ℕ) → Comes file tree a.t m later rest → ComesBehind file tree a.t m copied number (drop p.count a.left)
+      pub turn_over : (later copied : Walk) (number : ℕ) (last : Option (List ℕ)) (held_later : List ℕ) → ComesLess leaving file tree a.t m later rest → ComesBehind leaving file tree a.t m copied number (drop p.count a.left)
           → BytesGoOn after last held held_later (turn_bytes file head p keys (take p.count a.left))
           → WritesOn (turned s end p.count (slice_get rest 0)) (sequence_behind sequence head) (slice_set planning s.track later) (slice_set copying s.track copied) (slice_set behind s.track number) (slice_set nexts s.track (slice_get rest 0)) rows before last held_later
       turn_over later copied number last held_later comes copies bytes =
-          let walks = come_with file tree m tree.movie.tracks planning h.lefts s.track a.t later rest h.plan a.is_tree comes in
-          let own = subst (λ n. ComesBehind file tree a.t m copied number (drop n a.left)) counted copies in
-          let copying_walks = behind_with file tree m copying behind h.lefts s.track a.t copied number rest h.copy a.is_tree own in
+          let walks = come_with leaving file tree m tree.movie.tracks planning h.lefts s.track a.t later rest h.plan a.is_tree comes in
+          let own = subst (λ n. ComesBehind leaving file tree a.t m copied number (drop n a.left)) counted copies in
+          let copying_walks = behind_with leaving file tree m copying behind h.lefts s.track a.t copied number rest h.copy a.is_tree own in
           let small = h.small in
           let few_pieces = small_piece in
           let n = a.taken.few in
@@ -271,61 +275,61 @@ module _ (file : List ℕ) (tree : FileTree) (m : MovieSeen) where
             whole = rest_is;
           })
 
-  all_lie : (infos : List TrackInfo) (trees : List TrackTree) → AllZip (TrackFacts file tree) infos trees → AllByRecursion (λ (left : List SampleAt). AllByRecursion (IsBelow (length file)) left) (map (track_samples tree) trees)
+  all_lie : (infos : List TrackInfo) (trees : List TrackTree) → AllZip (TrackFacts file tree) infos trees → AllByRecursion (λ (left : List SampleAt). AllByRecursion (IsBelow (length file)) left) (map (left_samples leaving tree) trees)
   all_lie [] [] z = tt
   all_lie [] (t ∷ trees) z = absurd z
   all_lie (i ∷ infos) [] z = absurd z
-  all_lie (i ∷ infos) (t ∷ trees) z = (z.0.lies, all_lie infos trees z.1)
+  all_lie (i ∷ infos) (t ∷ trees) z = (less_below leaving (length file) (track_samples tree t) z.0.lies, all_lie infos trees z.1)
 
   -- the first turn
-  pub begins : (s : Schedule) (w : Writer) (planning copying : List Walk) (behind : List ℕ) (nexts : List (Option SampleAt)) (before after : Option (List ℕ)) (held : List ℕ) → IsOpenedAs file m tree → IsReady file tree m w → IsFirst m.tracks (map (track_samples tree) tree.movie.tracks) s
-      → AllBegin file tree m planning → AllBegin file tree m copying → AllByRecursion (λ (n : ℕ). n ≡ 0) behind → nexts ≡ firsts (map (track_samples tree) tree.movie.tracks) → BytesGoOn before after (waiting w.carrier) held w.head.items
+  pub begins : (s : Schedule) (w : Writer) (planning copying : List Walk) (behind : List ℕ) (nexts : List (Option SampleAt)) (before after : Option (List ℕ)) (held : List ℕ) → IsOpenedAs file m tree → IsReady file tree m w → w.leaving ≡ leaving → IsFirst m.tracks (map (left_samples leaving tree) tree.movie.tracks) s
+      → AllBegin leaving file tree m planning → AllBegin leaving file tree m copying → AllByRecursion (λ (n : ℕ). n ≡ 0) behind → nexts ≡ firsts (map (left_samples leaving tree) tree.movie.tracks) → BytesGoOn before after (waiting w.carrier) held w.head.items
       → WritesOn s 1 planning copying behind nexts (length w.rows.items) before after held
-  begins s w planning copying behind nexts before after held o r first plan copy zeros shown goes =
-      let all = first_turn file m tree s o first in
-      let p = presentation_of file tree in
-      let few = few_left file m tree o in
+  begins s w planning copying behind nexts before after held o r same first plan copy zeros shown goes =
+      let all = first_turn leaving file m tree s o first in
+      let p = reduce leaving (presentation_of file tree) in
+      let few = subst (λ n. n ≤ 2 ^ 24) (sym (less_counted leaving tree tree.movie.tracks)) (few_left file m tree o) in
       record {
-        lefts = map (track_samples tree) tree.movie.tracks;
+        lefts = map (left_samples leaving tree) tree.movie.tracks;
         comings = map coming_of p.tracks;
         plan = plan;
-        copy = none_behind file tree m copying behind (map (track_samples tree) tree.movie.tracks) copy zeros few;
+        copy = none_behind leaving file tree m copying behind (map (left_samples leaving tree) tree.movie.tracks) copy zeros few;
         shown = shown;
         turn = all.0;
         lie = all_lie m.tracks tree.movie.tracks (track_facts file m tree o);
-        fits = subst (λ (ps : List Piece). AllByRecursion (λ (q : Piece). length q.samples ≤ length w.rows.items) ps) (sym all.1) (subst (λ n. AllByRecursion (λ (q : Piece). length q.samples ≤ n) (pieces p)) (sym r.rows) (no_longer (pieces p)));
+        fits = subst (λ (ps : List Piece). AllByRecursion (λ (q : Piece). length q.samples ≤ length w.rows.items) ps) (sym all.1) (subst (λ n. AllByRecursion (λ (q : Piece). length q.samples ≤ n) (pieces p)) (sym (r.rows ∙ ap (λ (k : Leaving). longest_piece (pieces (reduce k (presentation_of file tree)))) same)) (no_longer (pieces p)));
         small = omega (arith, few);
         done = waiting w.carrier ++ w.head.items;
         goes = goes;
-        whole = (let head = sym r.head in let ps = sym all.1 in λ i. head i ++ pieces_bytes 1 (ps i));
+        whole = (let head = sym (r.head ∙ ap (λ (k : Leaving). head_of_normal (reduce k (presentation_of file tree))) same) in let ps = sym all.1 in λ i. head i ++ pieces_bytes 1 (ps i));
       }
 
   -- ---- before the first turn
 
   -- the head is not put whole
-  pub head_stops : (w : Writer) (before last : Option (List ℕ)) (bytes : List ℕ) → IsReady file tree m w → bytes ≡ w.head.items → AppendsPrefix before last (waiting w.carrier ++ bytes) → AppendsPrefix before last (normal (presentation_of file tree))
-  head_stops w before last bytes r e q =
-      let p = presentation_of file tree in
-      let own : AppendsPrefix before last (head_of_normal p) = subst (λ (bs : List ℕ). AppendsPrefix before last bs) (ap (λ (bs : List ℕ). waiting w.carrier ++ bs) e ∙ r.head) q in
+  pub head_stops : (w : Writer) (before last : Option (List ℕ)) (bytes : List ℕ) → IsReady file tree m w → w.leaving ≡ leaving → bytes ≡ w.head.items → AppendsPrefix before last (waiting w.carrier ++ bytes) → AppendsPrefix before last (normal (reduce leaving (presentation_of file tree)))
+  head_stops w before last bytes r same e q =
+      let p = reduce leaving (presentation_of file tree) in
+      let own : AppendsPrefix before last (head_of_normal p) = subst (λ (bs : List ℕ). AppendsPrefix before last bs) (ap (λ (bs : List ℕ). waiting w.carrier ++ bs) e ∙ r.head ∙ ap (λ (k : Leaving). head_of_normal (reduce k (presentation_of file tree))) same) q in
       AppendsPrefix-longer before last (head_of_normal p) (pieces_bytes 1 (pieces p)) own
 
   -- nothing behind the head is put
-  pub head_put : (w : Writer) (before after : Option (List ℕ)) (held bytes : List ℕ) → IsReady file tree m w → bytes ≡ w.head.items → BytesGoOn before after (waiting w.carrier) held bytes → AppendsPrefix before after (normal (presentation_of file tree))
-  head_put w before after held bytes r e q =
-      let p = presentation_of file tree in
-      let whole : waiting w.carrier ++ bytes ≡ head_of_normal p = ap (λ (bs : List ℕ). waiting w.carrier ++ bs) e ∙ r.head in
+  pub head_put : (w : Writer) (before after : Option (List ℕ)) (held bytes : List ℕ) → IsReady file tree m w → w.leaving ≡ leaving → bytes ≡ w.head.items → BytesGoOn before after (waiting w.carrier) held bytes → AppendsPrefix before after (normal (reduce leaving (presentation_of file tree)))
+  head_put w before after held bytes r same e q =
+      let p = reduce leaving (presentation_of file tree) in
+      let whole : waiting w.carrier ++ bytes ≡ head_of_normal p = ap (λ (bs : List ℕ). waiting w.carrier ++ bs) e ∙ r.head ∙ ap (λ (k : Leaving). head_of_normal (reduce k (presentation_of file tree))) same in
       stopped_behind before after [] held (waiting w.carrier ++ bytes) (pieces_bytes 1 (pieces p)) (normal p) q (ap (λ (bs : List ℕ). bs ++ pieces_bytes 1 (pieces p)) (sym whole))
 
   -- a new schedule stands at the first turn
   pub is_first : (s : Schedule) (from : ℕ) → IsOpenedAs file m tree → s.tracks ≡ length m.tracks → s.first ≡ first_scale m.tracks → (s.track ≡ 0) × (s.from ≡ from) × (s.next ≡ None) → s.left ≡ min (sum_by (λ (i : TrackInfo). i.samples) m.tracks) (2 ^ 64 - 1)
-      → from ≡ first_dts (map (track_samples tree) tree.movie.tracks) → IsFirst m.tracks (map (track_samples tree) tree.movie.tracks) s
+      → from ≡ first_dts (map (left_samples leaving tree) tree.movie.tracks) → IsFirst m.tracks (map (left_samples leaving tree) tree.movie.tracks) s
   is_first s from o tracks first starts left time = record {
     tracks = tracks;
     first = first;
     track = starts.0;
-    from = starts.1 ∙ time ∙ same_dts (map (track_samples tree) tree.movie.tracks);
+    from = starts.1 ∙ time ∙ same_dts (map (left_samples leaving tree) tree.movie.tracks);
     next = starts.2;
-    left = all_counted file m tree s.left o left;
+    left = all_counted file m tree s.left o left ∙ sym (less_counted leaving tree tree.movie.tracks);
   }
     where
       same_dts : (lefts : List (List SampleAt)) → first_dts lefts ≡ begins_at lefts

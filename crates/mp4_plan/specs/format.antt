@@ -6,3 +6,5 @@ pub mod TableLaws
 pub mod HeadLaws
 pub mod Laws
 pub mod Held
+pub mod ReducedLaws
+pub mod Agreeing

@@ -2,6 +2,7 @@ pub mod Ends
 pub mod Gathering
 pub mod PlannerLaws
 pub mod Sizes
+pub mod ComingLess
 pub mod Turns
 pub mod Writers
 pub mod Spelling

@@ -10,6 +10,7 @@ ghost use Rattle.mp4_present.specs.words.Movies.{IsWalkOf, RefusesLoad};
 ghost use Rattle.mp4_plan.specs.words.Gathering.{count_of, more_of, planned_of, piece_from, piece_fed, samples_after};
 ghost use Rattle.mp4_present.specs.words.WalkSteps.{MayTake, TakesOn};
 ghost use Rattle.mp4_plan.specs.words.HandsFed.{stop_of, HandFed, HandNoted, KeepsOn};
+ghost use Rattle.mp4_plan.specs.words.ComingLess.{ComesLess, less};
 ghost use Rattle.mp4_plan.specs.words.Stretches.{JoinsOn};
 ghost use Rattle.mp4_plan.specs.words.Taken.{row_seen};
 
@@ -17,9 +18,10 @@ use crate::ends::{End, first_goes};
 use crate::joined::Stretches;
 use crate::limited::Limited;
 use crate::planner::{Planned, Planner};
+use crate::reduced::{Reduced, reduced_sample};
 use crate::rows::Row;
 use mp4_boxes::{Refusal, Steps};
-use mp4_present::{Movie, Place, Walk};
+use mp4_present::{Leaving, Movie, Place, Walk};
 use mp4_store::Store;
 use mp4_tables::{SampleAt, Samples};
 use std::sync::ledger::Ledger;
@@ -28,7 +30,7 @@ use std::sync::ledger::Ledger;
 const MOST_SAMPLES: u32 = 1 << 24;
 
 /// The next sample of a walk, which stays the next.
-pub(crate) fn peek_sample<S: Store, L: Ledger>(
+fn peek_sample<S: Store, L: Ledger>(
     walk: &mut Walk,
     movie: &Movie,
     store: &mut S,
@@ -69,6 +71,58 @@ pub(crate) fn peek_sample<S: Store, L: Ledger>(
     Ok(next)
 }
 
+// What is left of a sample, where there is one.
+fn reduced_next(leaving: Leaving, next: Option<SampleAt>) -> Option<SampleAt>
+    ensures { (samples : List SampleAt) → next ≡ slice_get samples 0
+        → result ≡ slice_get (less leaving samples) 0 }
+{
+    match next {
+        Some(sample) => Some(reduced_sample(leaving, sample)),
+        None => None,
+    }
+}
+
+/// What is left of the next sample of a walk, which stays the next.
+pub(crate) fn next_sample<S: Store, L: Ledger>(
+    walk: &mut Walk,
+    leaving: Leaving,
+    movie: &Movie,
+    store: &mut S,
+    steps: &mut Steps<L>,
+) -> Result<Option<SampleAt>, Refusal>
+    requires { IsWalkOf movie.now walk.old }
+    ensures walk { OnOk result (IsWalkOf movie.now walk.new) }
+    ensures room { length walk.new.bytes.items ≡ length walk.old.bytes.items }
+    ensures honesty { S.is_honest store.new ≡ S.is_honest store.old }
+    ensures file { S.file store.new ≡ S.file store.old }
+    ensures coming { IsTrue (S.is_honest store.old)
+        → (tree : FileTree) (t : TrackTree) (samples : List SampleAt)
+        → IsOpenedAs (S.file store.old) movie.now tree
+        → ComesLess leaving (S.file store.old) tree t movie.now walk.old samples
+        → IfOk result (λ next.
+        ComesLess leaving (S.file store.old) tree t movie.now walk.new samples
+        × (next ≡ slice_get samples 0)) }
+    ensures unchanged { IsTrue (S.is_honest store.old)
+        → (tree : FileTree) (t : TrackTree) (samples : List SampleAt)
+        → IsOpenedAs (S.file store.old) movie.now tree
+        → ComesLess leaving (S.file store.old) tree t movie.now walk.old samples
+        → IfErr result (λ r. r ≡ refusals.StoreChanged → ⊥) }
+    ensures work { IsTrue (S.is_honest store.old) → (tree : FileTree) (t : TrackTree) (n : ℕ)
+        → IsOpenedAs (S.file store.old) movie.now tree
+        → MayTake (S.file store.old) tree t walk.old n
+        → OnOk result (TakesOn (S.file store.old) tree t n walk.new steps.old steps.new) }
+    ensures most { IsTrue (S.is_honest store.old) → (tree : FileTree) (t : TrackTree) (n : ℕ)
+        → IsOpenedAs (S.file store.old) movie.now tree
+        → MayTake (S.file store.old) tree t walk.old n
+        → OnErr result (steps.new ≤ steps.old + n) }
+    ensures reads { OnOk result (S.read_failures store.new ≡ S.read_failures store.old) }
+    ensures refusal { IfErr result
+        (RefusesLoad (S.read_failures store.old) (S.read_failures store.new)) }
+{
+    let next = peek_sample(walk, movie, store, steps)?;
+    Ok(reduced_next(leaving, next))
+}
+
 // Why feeding the samples in hand came to an end.
 #[derive(Clone, Copy, Debug, PartialEq, Eq)]
 enum Stop {
@@ -99,23 +153,26 @@ fn stop_at(planner: &Planner, next: Option<SampleAt>) -> Stop
 }
 
 // Feeds the samples in hand to a planner, at most 2^24 for a piece.
-fn feed_hand(planner: &mut Planner, walk: &Walk, movie: &Movie) -> FedHand
+fn feed_hand(planner: &mut Planner, walk: &Walk, leaving: Leaving, movie: &Movie) -> FedHand
     requires walk { IsWalkOf movie.now walk.now }
     requires few { count_of planner.old.gathered ≤ MOST_SAMPLES }
-    ensures fed { HandFed movie.now walk.now (MOST_SAMPLES - count_of planner.old.gathered)
+    ensures fed { HandFed leaving movie.now walk.now (MOST_SAMPLES - count_of planner.old.gathered)
         planner.old planner.new result.stop result.place }
     ensures few { count_of planner.new.gathered ≤ MOST_SAMPLES }
     ensures place { IsWalkOf movie.now (record walk.now { place = result.place }) }
     ensures keeps { KeepsOn movie.now walk.now result.place }
 {
     let mut hand = Limited {
-        inner: walk.in_hand(movie),
+        inner: Reduced {
+            inner: walk.in_hand(movie),
+            leaving,
+        },
         left: MOST_SAMPLES - planner.piece().count,
     };
     let _ = planner.feed(&mut hand);
     FedHand {
         stop: stop_at(planner, hand.inner.peek()),
-        place: hand.inner.place(),
+        place: hand.inner.inner.place(),
     }
 }
 
@@ -123,29 +180,34 @@ fn feed_hand(planner: &mut Planner, walk: &Walk, movie: &Movie) -> FedHand
 fn note_hand(
     planner: &mut Planner,
     walk: &Walk,
+    leaving: Leaving,
     movie: &Movie,
     rows: &mut [Row],
     stretches: &mut Stretches,
 ) -> FedHand
     requires walk { IsWalkOf movie.now walk.now }
     requires few { count_of planner.old.gathered + length rows.old < 2 ^ 32 }
-    ensures fed { HandNoted movie.now walk.now (length rows.old)
+    ensures fed { HandNoted leaving movie.now walk.now (length rows.old)
         planner.old planner.new result.stop result.place rows.new stretches.old stretches.new }
     ensures few { count_of planner.new.gathered ≤ count_of planner.old.gathered + length rows.old }
     ensures place { IsWalkOf movie.now (record walk.now { place = result.place }) }
     ensures keeps { KeepsOn movie.now walk.now result.place }
 {
-    let mut hand = walk.in_hand(movie);
+    let mut hand = Reduced {
+        inner: walk.in_hand(movie),
+        leaving,
+    };
     planner.note(&mut hand, rows, stretches);
     FedHand {
         stop: stop_at(planner, hand.peek()),
-        place: hand.place(),
+        place: hand.inner.place(),
     }
 }
 
 /// Plans the next piece of a walk with this end.
 pub(crate) fn plan_piece<S: Store, L: Ledger>(
     walk: &mut Walk,
+    leaving: Leaving,
     end: End,
     movie: &Movie,
     store: &mut S,
@@ -159,14 +221,14 @@ pub(crate) fn plan_piece<S: Store, L: Ledger>(
     ensures planned { IsTrue (S.is_honest store.old)
         → (tree : FileTree) (t : TrackTree) (samples : List SampleAt)
         → IsOpenedAs (S.file store.old) movie.now tree
-        → Comes (S.file store.old) tree t movie.now walk.old samples
+        → ComesLess leaving (S.file store.old) tree t movie.now walk.old samples
         → IfOk result (λ p. (p ≡ planned_of (piece_fed (piece_from end) samples).gathered)
-        × Comes (S.file store.old) tree t movie.now walk.new
+        × ComesLess leaving (S.file store.old) tree t movie.now walk.new
         (samples_after (piece_from end) samples)) }
     ensures unchanged { IsTrue (S.is_honest store.old)
         → (tree : FileTree) (t : TrackTree) (samples : List SampleAt)
         → IsOpenedAs (S.file store.old) movie.now tree
-        → Comes (S.file store.old) tree t movie.now walk.old samples
+        → ComesLess leaving (S.file store.old) tree t movie.now walk.old samples
         → length samples ≤ MOST_SAMPLES → IfErr result (λ r. r ≡ refusals.StoreChanged → ⊥) }
     ensures few { IfOk result (λ p. p.count ≤ MOST_SAMPLES) }
     ensures rows { IfOk result (λ p. (j : ℕ) → slice_index p.group_rows j ≤ p.count) }
@@ -185,7 +247,7 @@ pub(crate) fn plan_piece<S: Store, L: Ledger>(
 {
     let mut planner = Planner::new(end);
     loop {
-        let hand = feed_hand(&mut planner, walk, movie);
+        let hand = feed_hand(&mut planner, walk, leaving, movie);
         walk.keep(hand.place, steps);
         match hand.stop {
             Stop::Full => return Err(Refusal::StoreChanged),
@@ -203,6 +265,7 @@ pub(crate) fn plan_piece<S: Store, L: Ledger>(
 /// next.
 pub(crate) fn plan_turn<S: Store, L: Ledger>(
     walk: &mut Walk,
+    leaving: Leaving,
     next: &mut Option<SampleAt>,
     end: End,
     movie: &Movie,
@@ -217,16 +280,16 @@ pub(crate) fn plan_turn<S: Store, L: Ledger>(
     ensures planned { IsTrue (S.is_honest store.old)
         → (tree : FileTree) (t : TrackTree) (samples : List SampleAt)
         → IsOpenedAs (S.file store.old) movie.now tree
-        → Comes (S.file store.old) tree t movie.now walk.old samples
+        → ComesLess leaving (S.file store.old) tree t movie.now walk.old samples
         → next.old ≡ slice_get samples 0
         → IfOk result (λ p. (p ≡ planned_of (piece_fed (piece_from end) samples).gathered)
-        × Comes (S.file store.old) tree t movie.now walk.new
+        × ComesLess leaving (S.file store.old) tree t movie.now walk.new
         (samples_after (piece_from end) samples)
         × (next.new ≡ slice_get (samples_after (piece_from end) samples) 0)) }
     ensures unchanged { IsTrue (S.is_honest store.old)
         → (tree : FileTree) (t : TrackTree) (samples : List SampleAt)
         → IsOpenedAs (S.file store.old) movie.now tree
-        → Comes (S.file store.old) tree t movie.now walk.old samples
+        → ComesLess leaving (S.file store.old) tree t movie.now walk.old samples
         → length samples ≤ MOST_SAMPLES → IfErr result (λ r. r ≡ refusals.StoreChanged → ⊥) }
     ensures few { IfOk result (λ p. p.count ≤ MOST_SAMPLES) }
     ensures rows { IfOk result (λ p. (j : ℕ) → slice_index p.group_rows j ≤ p.count) }
@@ -246,8 +309,8 @@ pub(crate) fn plan_turn<S: Store, L: Ledger>(
     if !first_goes(&end, next) {
         return Ok(Planner::new(end).piece());
     }
-    let planned = plan_piece(walk, end, movie, store, steps)?;
-    *next = peek_sample(walk, movie, store, steps)?;
+    let planned = plan_piece(walk, leaving, end, movie, store, steps)?;
+    *next = next_sample(walk, leaving, movie, store, steps)?;
     Ok(planned)
 }
 
@@ -255,6 +318,7 @@ pub(crate) fn plan_turn<S: Store, L: Ledger>(
 /// bytes lie. Where there is no room for the rows, the store has changed.
 pub(crate) fn note_piece<S: Store, L: Ledger>(
     walk: &mut Walk,
+    leaving: Leaving,
     end: End,
     rows: &mut [Row],
     stretches: &mut Stretches,
@@ -271,24 +335,24 @@ pub(crate) fn note_piece<S: Store, L: Ledger>(
     ensures planned { IsTrue (S.is_honest store.old)
         → (tree : FileTree) (t : TrackTree) (samples : List SampleAt)
         → IsOpenedAs (S.file store.old) movie.now tree
-        → Comes (S.file store.old) tree t movie.now walk.old samples
+        → ComesLess leaving (S.file store.old) tree t movie.now walk.old samples
         → IfOk result (λ p. (p ≡ planned_of (piece_fed (piece_from end) samples).gathered)
-        × Comes (S.file store.old) tree t movie.now walk.new
+        × ComesLess leaving (S.file store.old) tree t movie.now walk.new
         (samples_after (piece_from end) samples)) }
     ensures noted { IsTrue (S.is_honest store.old)
         → (tree : FileTree) (t : TrackTree) (samples : List SampleAt)
         → IsOpenedAs (S.file store.old) movie.now tree
-        → Comes (S.file store.old) tree t movie.now walk.old samples
+        → ComesLess leaving (S.file store.old) tree t movie.now walk.old samples
         → IfOk result (λ p. take p.count rows.new ≡ map row_seen (take p.count samples)) }
     ensures joined { IsTrue (S.is_honest store.old)
         → (tree : FileTree) (t : TrackTree) (samples : List SampleAt)
         → IsOpenedAs (S.file store.old) movie.now tree
-        → Comes (S.file store.old) tree t movie.now walk.old samples
+        → ComesLess leaving (S.file store.old) tree t movie.now walk.old samples
         → IfOk result (λ p. JoinsOn stretches.old stretches.new (take p.count samples)) }
     ensures unchanged { IsTrue (S.is_honest store.old)
         → (tree : FileTree) (t : TrackTree) (samples : List SampleAt)
         → IsOpenedAs (S.file store.old) movie.now tree
-        → Comes (S.file store.old) tree t movie.now walk.old samples
+        → ComesLess leaving (S.file store.old) tree t movie.now walk.old samples
         → more_of (piece_from end) samples ≤ length rows.old
         → IfErr result (λ r. r ≡ refusals.StoreChanged → ⊥) }
     ensures few { IfOk result (λ p. p.count ≤ length rows.old) }
@@ -309,7 +373,14 @@ pub(crate) fn note_piece<S: Store, L: Ledger>(
     let mut planner = Planner::new(end);
     loop {
         let noted = planner.piece().count as usize;
-        let hand = note_hand(&mut planner, walk, movie, &mut rows[noted..], stretches);
+        let hand = note_hand(
+            &mut planner,
+            walk,
+            leaving,
+            movie,
+            &mut rows[noted..],
+            stretches,
+        );
         walk.keep(hand.place, steps);
         match hand.stop {
             Stop::Full => return Err(Refusal::StoreChanged),

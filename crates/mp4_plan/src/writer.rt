@@ -1,5 +1,5 @@
 //! The normal form of a presentation, written.
-ghost use Rattle.std.specs.Prelude.{◌≡◌, ℕ, ◌+◌, ◌*◌, ◌-◌, ◌^◌, ◌<◌, ◌≤◌, min, List, ◌++◌, length, take, drop, slice_index, slice_get, Some, None, IfOk, IfErr, OnOk, OnErr};
+ghost use Rattle.std.specs.Prelude.{◌≡◌, ℕ, ◌+◌, ◌*◌, ◌-◌, ◌^◌, ◌<◌, ◌≤◌, min, List, ◌++◌, length, take, drop, slice_index, slice_get, Some, None, false, IfOk, IfErr, OnOk, OnErr};
 ghost use Rattle.std.specs.Io.KnownBytes.{Appends};
 ghost use Rattle.std.specs.List.{AllByRecursion};
 ghost use Rattle.mp4_boxes.specs.format.Bytes.{sum_of};
@@ -10,7 +10,9 @@ ghost use Rattle.mp4_tables.specs.words.Keys.{keys_seen};
 ghost use Rattle.mp4_tables.specs.declared.sample.SampleAt.{SampleAt};
 ghost use Rattle.mp4_present.specs.declared.track_info.TrackInfo.{TrackInfo};
 ghost use Rattle.mp4_present.specs.words.Carried.{BytesGoOn, waiting};
-ghost use Rattle.mp4_present.specs.words.SamplesComing.{Comes};
+ghost use Rattle.mp4_present.specs.format.Reduced.{reduce};
+ghost use Rattle.mp4_present.specs.declared.leaving.Leaving.{Leaving};
+ghost use Rattle.mp4_plan.specs.words.ComingLess.{ComesLess};
 ghost use Rattle.mp4_present.specs.format.Denotes.{FileTree, presentation_of};
 ghost use Rattle.mp4_present.specs.words.Joined.{IsBelow, sample_bytes};
 ghost use Rattle.mp4_present.specs.words.OpenedMovie.{IsOpenedAs};
@@ -22,22 +24,23 @@ ghost use Rattle.mp4_present.specs.words.Carried.{RefusesCarry, RefusesCopy};
 ghost use Rattle.mp4_present.specs.declared.walks.Walk.{Walk};
 ghost use Rattle.mp4_plan.specs.words.Gathering.{more_of, piece_from};
 ghost use Rattle.mp4_present.specs.words.Movies.{RefusesLoad};
-ghost use Rattle.mp4_plan.specs.words.Writers.{RefusesMemory, RefusesPlan, AreWalksOf, IsWriterOf, turn_head, sequence_behind, AllCome, AllBegin, first_dts, head_of_normal, IsReady, bytes_of_piece, turn_bytes, firsts, HasNoted, IsNoted, HaveCopied, IsPlanOf, WhereOpened, planned_length};
+ghost use Rattle.mp4_plan.specs.words.Writers.{RefusesMemory, RefusesPlan, IsHeadOf, AreWalksOf, IsWriterOf, turn_head, sequence_behind, AllCome, AllBegin, first_dts, head_of_normal, IsReady, bytes_of_piece, turn_bytes, firsts, HasNoted, IsNoted, HaveCopied, IsPlanOf, WhereOpened, planned_length};
 ghost use Rattle.mp4_plan.specs.format.Held.{rooms, held};
 
 use crate::carrying::{Load, carry_later};
-use crate::courses::{note_piece, peek_sample, plan_turn};
+use crate::courses::{next_sample, note_piece, plan_turn};
 use crate::ends::first_goes;
 use crate::joined::Stretches;
 use crate::moof_front::{PieceHead, moof_front};
 use crate::moof_rows::{carry_groups, carry_run};
 use crate::moof_sizes::sizes_of;
 use crate::planner::{Planned, Planner};
+use crate::reduced_head::reduce_head;
 use crate::rows::{NO_ROW, Row};
 use crate::schedule::{Schedule, Turn};
 use mp4_boxes::{FourCc, Refusal, Steps, header};
-use mp4_head::{head_bytes, head_len};
-use mp4_present::{Carrier, Movie, Walk};
+use mp4_head::{MovieHead, head_bytes, head_len};
+use mp4_present::{Carrier, Leaving, Movie, Walk};
 use mp4_store::{Sink, Store};
 use mp4_tables::{Keys, SampleAt};
 use std::alloc::Global;
@@ -73,6 +76,8 @@ struct Noted {
 /// Writes the normal form of a movie. All memory that it takes is taken when it is made.
 #[derive(Drop)]
 pub struct Writer {
+    /// What is left out.
+    leaving: Leaving,
     /// What waits to be put.
     carrier: Carrier,
     /// The bytes of `ftyp` and `moov`.
@@ -97,7 +102,8 @@ fn walks_of(alloc: Global, movie: &Movie) -> Result<Vec<Walk>, Refusal>
     ensures rooms { IfOk result (λ walks. rooms walks.items
         ≡ length movie.now.tracks * movie.now.longest) }
     ensures begin { IfOk result (λ walks. (file : List ℕ) (tree : FileTree)
-        → IsOpenedAs file movie.now tree → AllBegin file tree movie.now walks.items) }
+        → IsOpenedAs file movie.now tree
+        → (leaving : Leaving) → AllBegin leaving file tree movie.now walks.items) }
     ensures memory { IfErr result (λ r. r ≡ refusals.Memory) }
     ensures refusal { IfErr result RefusesMemory }
     ensures may { IfOk result (λ walks. (file : List ℕ) (tree : FileTree)
@@ -110,10 +116,11 @@ fn walks_of(alloc: Global, movie: &Movie) -> Result<Vec<Walk>, Refusal>
     Ok(walks)
 }
 
-// Notes the next sample of each walk.
+// Notes what is left of the next sample of each walk.
 fn peek_each<S: Store, L: Ledger>(
     walks: &mut [Walk],
     nexts: &mut [Option<SampleAt>],
+    leaving: Leaving,
     movie: &Movie,
     store: &mut S,
     steps: &mut Steps<L>,
@@ -126,12 +133,12 @@ fn peek_each<S: Store, L: Ledger>(
     ensures file { S.file store.new ≡ S.file store.old }
     ensures shown { WhereOpened (S.is_honest store.old) (S.file store.old) movie.now
         (λ tree. (lefts : List (List SampleAt))
-        → AllCome (S.file store.old) tree movie.now tree.movie.tracks walks.old lefts
+        → AllCome leaving (S.file store.old) tree movie.now tree.movie.tracks walks.old lefts
         → OnOk result ((nexts.new ≡ firsts lefts)
-        × AllCome (S.file store.old) tree movie.now tree.movie.tracks walks.new lefts)) }
+        × AllCome leaving (S.file store.old) tree movie.now tree.movie.tracks walks.new lefts)) }
     ensures unchanged { WhereOpened (S.is_honest store.old) (S.file store.old) movie.now
         (λ tree. (lefts : List (List SampleAt))
-        → AllCome (S.file store.old) tree movie.now tree.movie.tracks walks.old lefts
+        → AllCome leaving (S.file store.old) tree movie.now tree.movie.tracks walks.old lefts
         → IfErr result (λ r. r ≡ refusals.StoreChanged → ⊥)) }
     ensures reads { OnOk result (S.read_failures store.new ≡ S.read_failures store.old) }
     ensures refusal { IfErr result
@@ -144,7 +151,7 @@ fn peek_each<S: Store, L: Ledger>(
         → OnErr result (steps.new ≤ steps.old + n)) }
 {
     for k in 0..walks.len() {
-        nexts[k] = peek_sample(&mut walks[k], movie, store, steps)?;
+        nexts[k] = next_sample(&mut walks[k], leaving, movie, store, steps)?;
     }
     Ok(())
 }
@@ -185,18 +192,20 @@ impl Plan {
     }
 }
 
-// Plans all pieces of a movie.
+// Plans all pieces of what is left of a movie.
 fn plan_all<S: Store, L: Ledger>(
     alloc: Global,
     movie: &Movie,
     store: &mut S,
+    leaving: Leaving,
     steps: &mut Steps<L>,
 ) -> Result<Plan, Refusal>
     ensures honesty { S.is_honest store.new ≡ S.is_honest store.old }
     ensures file { S.file store.new ≡ S.file store.old }
     ensures few { IfOk result (λ plan. plan.longest ≤ 2 ^ 24) }
     ensures plan { WhereOpened (S.is_honest store.old) (S.file store.old) movie.now
-        (λ tree. IfOk result (IsPlanOf (presentation_of (S.file store.old) tree))) }
+        (λ tree. IfOk result
+        (IsPlanOf (reduce leaving (presentation_of (S.file store.old) tree)))) }
     ensures unchanged { WhereOpened (S.is_honest store.old) (S.file store.old) movie.now
         (λ tree. IfErr result (λ r. r ≡ refusals.StoreChanged → ⊥)) }
     ensures reads { OnOk result (S.read_failures store.new ≡ S.read_failures store.old) }
@@ -211,6 +220,7 @@ fn plan_all<S: Store, L: Ledger>(
     peek_each(
         walks.as_mut_slice(),
         nexts.as_mut_slice(),
+        leaving,
         movie,
         store,
         steps,
@@ -220,12 +230,76 @@ fn plan_all<S: Store, L: Ledger>(
     while let Some(turn) = schedule.turn(tracks) {
         let walk = &mut walks[turn.track];
         let next = &mut nexts[turn.track];
-        let planned = plan_turn(walk, next, turn.end, movie, store, steps)?;
+        let planned = plan_turn(walk, leaving, next, turn.end, movie, store, steps)?;
         let sample = *next;
         plan.add(&planned, &tracks[turn.track].keys);
         schedule.pass(&turn, planned.count, sample)?;
     }
     Ok(plan)
+}
+
+// The head of what is left of a movie.
+fn head_left<'a>(
+    alloc: Global,
+    movie: &'a Movie,
+    leaving: Leaving,
+) -> Result<MovieHead<'a>, Refusal>
+    requires { leaving.edits ≡ false }
+    ensures left { (file : List ℕ) (tree : FileTree) → IsOpenedAs file movie.entry.now tree
+        → IfOk result
+        (λ h. IsHeadOf (reduce leaving (presentation_of file tree)) h movie.entry.now.mehd) }
+    ensures memory { IfErr result (λ r. r ≡ refusals.Memory) }
+{
+    let mut head = movie.head(alloc)?;
+    reduce_head(&mut head, leaving);
+    Ok(head)
+}
+
+// The bytes of `ftyp` and `moov`.
+fn head_of(alloc: Global, movie: &Movie, leaving: Leaving) -> Result<Vec<u8>, Refusal>
+    requires { leaving.edits ≡ false }
+    ensures head { (file : List ℕ) (tree : FileTree) → IsOpenedAs file movie.now tree
+        → IfOk result (λ bytes. bytes.items
+        ≡ head_of_normal (reduce leaving (presentation_of file tree))) }
+    ensures unchanged { (file : List ℕ) (tree : FileTree) → IsOpenedAs file movie.now tree
+        → IfErr result (λ r. r ≡ refusals.StoreChanged → ⊥) }
+    ensures refusal { IfErr result RefusesMemory }
+{
+    let head = head_left(alloc, movie, leaving)?;
+    if head_len(&head) > MOST_HEAD {
+        return Err(Refusal::StoreChanged);
+    }
+    Ok(head_bytes(alloc, &head, movie.mehd())?)
+}
+
+/// The length of the normal form of what is left of a movie, where edits stay.
+pub fn reduced_len<S: Store, L: Ledger>(
+    alloc: Global,
+    movie: &Movie,
+    store: &mut S,
+    leaving: Leaving,
+    steps: &mut Steps<L>,
+) -> Result<u64, Refusal>
+    requires { leaving.edits ≡ false }
+    ensures honesty { S.is_honest store.new ≡ S.is_honest store.old }
+    ensures file { S.file store.new ≡ S.file store.old }
+    ensures length { WhereOpened (S.is_honest store.old) (S.file store.old) movie.now
+        (λ tree. IfOk result (λ len. len
+        ≡ length (normal (reduce leaving (presentation_of (S.file store.old) tree))))) }
+    ensures unchanged { WhereOpened (S.is_honest store.old) (S.file store.old) movie.now
+        (λ tree. IfErr result (λ r. r ≡ refusals.StoreChanged → ⊥)) }
+    ensures reads { OnOk result (S.read_failures store.new ≡ S.read_failures store.old) }
+    ensures refusal { IfErr result
+        (RefusesPlan (S.read_failures store.old) (S.read_failures store.new)) }
+    ensures work { WhereOpened (S.is_honest store.old) (S.file store.old) movie.now
+        (λ tree. steps.new ≤ steps.old + walks_steps tree) }
+{
+    let plan = plan_all(alloc, movie, store, leaving, steps)?;
+    let head = head_left(alloc, movie, leaving)?;
+    Ok(
+        plan.len
+            .saturating_add(head_len(&head).min(MOST_HEAD) as u64),
+    )
 }
 
 /// The length of the normal form of a movie.
@@ -248,27 +322,7 @@ pub fn normal_len<S: Store, L: Ledger>(
     ensures work { WhereOpened (S.is_honest store.old) (S.file store.old) movie.now
         (λ tree. steps.new ≤ steps.old + walks_steps tree) }
 {
-    let plan = plan_all(alloc, movie, store, steps)?;
-    let head = movie.head(alloc)?;
-    Ok(
-        plan.len
-            .saturating_add(head_len(&head).min(MOST_HEAD) as u64),
-    )
-}
-
-// The bytes of `ftyp` and `moov`.
-fn head_of(alloc: Global, movie: &Movie) -> Result<Vec<u8>, Refusal>
-    ensures head { (file : List ℕ) (tree : FileTree) → IsOpenedAs file movie.now tree
-        → IfOk result (λ bytes. bytes.items ≡ head_of_normal (presentation_of file tree)) }
-    ensures unchanged { (file : List ℕ) (tree : FileTree) → IsOpenedAs file movie.now tree
-        → IfErr result (λ r. r ≡ refusals.StoreChanged → ⊥) }
-    ensures refusal { IfErr result RefusesMemory }
-{
-    let head = movie.head(alloc)?;
-    if head_len(&head) > MOST_HEAD {
-        return Err(Refusal::StoreChanged);
-    }
-    Ok(head_bytes(alloc, &head, movie.mehd())?)
+    reduced_len(alloc, movie, store, Leaving::NOTHING, steps)
 }
 
 // What a piece of so many samples says once, of which the first is this one; nothing where it has
@@ -299,6 +353,54 @@ fn sequence_behind(sequence: u32, head: &Option<PieceHead>) -> u32
 }
 
 impl Writer {
+    /// Plans all of what is left of a movie, where edits stay, and then takes all memory that
+    /// writing
+    /// it needs.
+    pub fn reduced<S: Store, L: Ledger>(
+        alloc: Global,
+        movie: &Movie,
+        store: &mut S,
+        leaving: Leaving,
+        steps: &mut Steps<L>,
+    ) -> Result<Writer, Refusal>
+        requires { leaving.edits ≡ false }
+        ensures writer { IfOk result (IsWriterOf movie.now) }
+        ensures held { IfOk result (λ w. held w ≡ length w.head.items
+            + 2 * (length movie.now.tracks * movie.now.longest) + 24 * length w.rows.items
+            + PIECE) }
+        ensures bound { IfOk result (λ w. held w ≤ length (waiting w.carrier ++ w.head.items)
+            + 2 * (length movie.now.tracks * movie.now.longest) + 24 * length w.rows.items
+            + MOST_WAITING) }
+        ensures honesty { S.is_honest store.new ≡ S.is_honest store.old }
+        ensures file { S.file store.new ≡ S.file store.old }
+        ensures ready { WhereOpened (S.is_honest store.old) (S.file store.old) movie.now
+            (λ tree. IfOk result (IsReady (S.file store.old) tree movie.now)) }
+        ensures unchanged { WhereOpened (S.is_honest store.old) (S.file store.old) movie.now
+            (λ tree. IfErr result (λ r. r ≡ refusals.StoreChanged → ⊥)) }
+        ensures left { IfOk result (λ w. w.leaving ≡ leaving) }
+        ensures reads { OnOk result (S.read_failures store.new ≡ S.read_failures store.old) }
+        ensures refusal { IfErr result
+            (RefusesPlan (S.read_failures store.old) (S.read_failures store.new)) }
+        ensures work { WhereOpened (S.is_honest store.old) (S.file store.old) movie.now
+            (λ tree. steps.new ≤ steps.old + walks_steps tree) }
+        ensures may { WhereOpened (S.is_honest store.old) (S.file store.old) movie.now
+            (λ tree. IfOk result (λ w. MayAllBegin (S.file store.old) tree w.planning.items
+            × MayAllBegin (S.file store.old) tree w.copying.items)) }
+    {
+        let plan = plan_all(alloc, movie, store, leaving, steps)?;
+        Ok(Writer {
+            leaving,
+            carrier: Carrier::new(alloc, PIECE)?,
+            head: head_of(alloc, movie, leaving)?,
+            rows: vec![in alloc; NO_ROW; plan.longest as usize]?,
+            stretches: Stretches::new(),
+            planning: walks_of(alloc, movie)?,
+            copying: walks_of(alloc, movie)?,
+            behind: vec![in alloc; 0; movie.tracks().len()]?,
+            nexts: vec![in alloc; None; movie.tracks().len()]?,
+        })
+    }
+
     /// Plans the whole movie, and then takes all memory that writing it needs.
     pub fn new<S: Store, L: Ledger>(
         alloc: Global,
@@ -319,6 +421,7 @@ impl Writer {
             (λ tree. IfOk result (IsReady (S.file store.old) tree movie.now)) }
         ensures unchanged { WhereOpened (S.is_honest store.old) (S.file store.old) movie.now
             (λ tree. IfErr result (λ r. r ≡ refusals.StoreChanged → ⊥)) }
+        ensures whole { IfOk result (λ w. w.leaving ≡ Leaving.NOTHING) }
         ensures reads { OnOk result (S.read_failures store.new ≡ S.read_failures store.old) }
         ensures refusal { IfErr result
             (RefusesPlan (S.read_failures store.old) (S.read_failures store.new)) }
@@ -328,17 +431,7 @@ impl Writer {
             (λ tree. IfOk result (λ w. MayAllBegin (S.file store.old) tree w.planning.items
             × MayAllBegin (S.file store.old) tree w.copying.items)) }
     {
-        let plan = plan_all(alloc, movie, store, steps)?;
-        Ok(Writer {
-            carrier: Carrier::new(alloc, PIECE)?,
-            head: head_of(alloc, movie)?,
-            rows: vec![in alloc; NO_ROW; plan.longest as usize]?,
-            stretches: Stretches::new(),
-            planning: walks_of(alloc, movie)?,
-            copying: walks_of(alloc, movie)?,
-            behind: vec![in alloc; 0; movie.tracks().len()]?,
-            nexts: vec![in alloc; None; movie.tracks().len()]?,
-        })
+        Writer::reduced(alloc, movie, store, Leaving::NOTHING, steps)
     }
 
     // Plans the piece of a turn, and notes its samples. The next piece has this sequence number,
@@ -346,6 +439,7 @@ impl Writer {
     fn note_turn<S: Store, L: Ledger>(
         &mut self,
         turn: &Turn,
+        leaving: Leaving,
         sequence: u32,
         id: u32,
         movie: &Movie,
@@ -365,15 +459,15 @@ impl Writer {
         ensures noted { WhereOpened (S.is_honest store.old) (S.file store.old) movie.now
             (λ tree. (t : TrackTree) (walk : Walk) (left : List SampleAt)
             → slice_get self.old.planning.items turn.now.track ≡ Some walk
-            → Comes (S.file store.old) tree t movie.now walk left
+            → ComesLess leaving (S.file store.old) tree t movie.now walk left
             → slice_get self.old.nexts.items turn.now.track ≡ Some (slice_get left 0)
             → IfOk result
-            (HasNoted (S.file store.old)
+            (HasNoted leaving (S.file store.old)
             tree t movie.now turn.now sequence id left self.old self.new)) }
         ensures unchanged { WhereOpened (S.is_honest store.old) (S.file store.old) movie.now
             (λ tree. (t : TrackTree) (walk : Walk) (left : List SampleAt)
             → slice_get self.old.planning.items turn.now.track ≡ Some walk
-            → Comes (S.file store.old) tree t movie.now walk left
+            → ComesLess leaving (S.file store.old) tree t movie.now walk left
             → more_of (piece_from turn.now.end) left ≤ length self.old.rows.items
             → IfErr result (λ r. r ≡ refusals.StoreChanged → ⊥)) }
         ensures few { IfOk result (λ n. (n.planned.count ≤ length self.old.rows.items)
@@ -404,8 +498,8 @@ impl Writer {
         let walk = &mut self.planning[turn.track];
         let rows = self.rows.as_mut_slice();
         let told = &mut self.stretches;
-        let planned = note_piece(walk, turn.end, rows, told, movie, store, steps)?;
-        let next = peek_sample(walk, movie, store, steps)?;
+        let planned = note_piece(walk, leaving, turn.end, rows, told, movie, store, steps)?;
+        let next = next_sample(walk, leaving, movie, store, steps)?;
         self.nexts[turn.track] = next;
         Ok(Noted {
             planned,
@@ -432,26 +526,29 @@ impl Writer {
         ensures honesty { S.is_honest store.new ≡ S.is_honest store.old }
         ensures file { S.file store.new ≡ S.file store.old }
         ensures put { WhereOpened (S.is_honest store.old) (S.file store.old) movie.now (λ tree.
-            (samples : List SampleAt) → IsNoted
-            (S.file store.old) tree movie.now track planned.now.count samples self.old
+            (leaving : Leaving) (samples : List SampleAt) → IsNoted leaving (S.file store.old)
+            tree movie.now track planned.now.count samples self.old
             → OnOk result (BytesGoOn (K.contents sink.old) (K.contents sink.new)
             (waiting self.old.carrier) (waiting self.new.carrier) (sample_bytes
             (S.file store.old) (take planned.now.count samples)))) }
         ensures prefix { WhereOpened (S.is_honest store.old) (S.file store.old) movie.now
-            (λ tree. (samples : List SampleAt)
-            → IsNoted (S.file store.old) tree movie.now track planned.now.count samples self.old
+            (λ tree. (leaving : Leaving) (samples : List SampleAt)
+            → IsNoted leaving (S.file store.old) tree movie.now track planned.now.count samples
+            self.old
             → OnErr result (AppendsPrefix (K.contents sink.old) (K.contents sink.new)
             (waiting self.old.carrier ++ sample_bytes (S.file store.old)
             (take planned.now.count samples)))) }
         ensures copied { WhereOpened (S.is_honest store.old) (S.file store.old) movie.now
-            (λ tree. (samples : List SampleAt) → planned.now.count ≤ length samples
-            → OnOk result (HaveCopied
-            (S.file store.old) tree movie.now track planned.now.count samples self.old self.new)) }
+            (λ tree. (leaving : Leaving) (samples : List SampleAt) → planned.now.count ≤ length
+            samples
+            → OnOk result (HaveCopied leaving (S.file store.old) tree movie.now track
+            planned.now.count samples self.old self.new)) }
         ensures keeps { OnOk result ((self.new.planning ≡ self.old.planning)
             × (self.new.rows ≡ self.old.rows) × (self.new.nexts ≡ self.old.nexts)) }
         ensures unchanged { WhereOpened (S.is_honest store.old) (S.file store.old) movie.now
-            (λ tree. (samples : List SampleAt)
-            → IsNoted (S.file store.old) tree movie.now track planned.now.count samples self.old
+            (λ tree. (leaving : Leaving) (samples : List SampleAt)
+            → IsNoted leaving (S.file store.old) tree movie.now track planned.now.count samples
+            self.old
             → planned.now.count ≤ length samples
             → planned.now.bytes ≡ sum_of (λ (s : SampleAt). s.size)
             (take planned.now.count samples)
@@ -517,8 +614,9 @@ impl Writer {
         ensures honesty { S.is_honest store.new ≡ S.is_honest store.old }
         ensures file { S.file store.new ≡ S.file store.old }
         ensures put { WhereOpened (S.is_honest store.old) (S.file store.old) movie.now
-            (λ tree. (samples : List SampleAt)
-            → IsNoted (S.file store.old) tree movie.now track planned.now.count samples self.old
+            (λ tree. (leaving : Leaving) (samples : List SampleAt)
+            → IsNoted leaving (S.file store.old) tree movie.now track planned.now.count samples
+            self.old
             → (info : TrackInfo) → slice_get movie.now.tracks track ≡ Some info
             → AreApart (keys_seen info.keys)
             → OnOk result
@@ -527,8 +625,9 @@ impl Writer {
             (bytes_of_piece (S.file store.old) head planned.now (keys_seen info.keys)
             (take planned.now.count samples)))) }
         ensures prefix { WhereOpened (S.is_honest store.old) (S.file store.old) movie.now
-            (λ tree. (samples : List SampleAt)
-            → IsNoted (S.file store.old) tree movie.now track planned.now.count samples self.old
+            (λ tree. (leaving : Leaving) (samples : List SampleAt)
+            → IsNoted leaving (S.file store.old) tree movie.now track planned.now.count samples
+            self.old
             → (info : TrackInfo) → slice_get movie.now.tracks track ≡ Some info
             → AreApart (keys_seen info.keys)
             → OnErr result
@@ -536,15 +635,17 @@ impl Writer {
             ++ bytes_of_piece (S.file store.old) head planned.now (keys_seen info.keys)
             (take planned.now.count samples)))) }
         ensures copied { WhereOpened (S.is_honest store.old) (S.file store.old) movie.now
-            (λ tree. (samples : List SampleAt) → planned.now.count ≤ length samples
+            (λ tree. (leaving : Leaving) (samples : List SampleAt) → planned.now.count ≤ length
+            samples
             → OnOk result
-            (HaveCopied (S.file store.old)
+            (HaveCopied leaving (S.file store.old)
             tree movie.now track planned.now.count samples self.old self.new)) }
         ensures keeps { OnOk result ((self.new.planning ≡ self.old.planning)
             × (self.new.rows ≡ self.old.rows) × (self.new.nexts ≡ self.old.nexts)) }
         ensures unchanged { WhereOpened (S.is_honest store.old) (S.file store.old) movie.now
-            (λ tree. (samples : List SampleAt)
-            → IsNoted (S.file store.old) tree movie.now track planned.now.count samples self.old
+            (λ tree. (leaving : Leaving) (samples : List SampleAt)
+            → IsNoted leaving (S.file store.old) tree movie.now track planned.now.count samples
+            self.old
             → planned.now.count ≤ length samples
             → planned.now.bytes ≡ sum_of (λ (s : SampleAt). s.size) (take planned.now.count samples)
             → AllByRecursion (IsBelow (length (S.file store.old))) samples
@@ -597,8 +698,9 @@ impl Writer {
         ensures honesty { S.is_honest store.new ≡ S.is_honest store.old }
         ensures file { S.file store.new ≡ S.file store.old }
         ensures put { WhereOpened (S.is_honest store.old) (S.file store.old) movie.now
-            (λ tree. (samples : List SampleAt)
-            → IsNoted (S.file store.old) tree movie.now track planned.now.count samples self.old
+            (λ tree. (leaving : Leaving) (samples : List SampleAt)
+            → IsNoted leaving (S.file store.old) tree movie.now track planned.now.count samples
+            self.old
             → (info : TrackInfo) → slice_get movie.now.tracks track ≡ Some info
             → AreApart (keys_seen info.keys)
             → OnOk result
@@ -607,8 +709,9 @@ impl Writer {
             (turn_bytes (S.file store.old) head planned.now (keys_seen info.keys)
             (take planned.now.count samples)))) }
         ensures prefix { WhereOpened (S.is_honest store.old) (S.file store.old) movie.now
-            (λ tree. (samples : List SampleAt)
-            → IsNoted (S.file store.old) tree movie.now track planned.now.count samples self.old
+            (λ tree. (leaving : Leaving) (samples : List SampleAt)
+            → IsNoted leaving (S.file store.old) tree movie.now track planned.now.count samples
+            self.old
             → (info : TrackInfo) → slice_get movie.now.tracks track ≡ Some info
             → AreApart (keys_seen info.keys)
             → OnErr result
@@ -616,16 +719,18 @@ impl Writer {
             ++ turn_bytes (S.file store.old) head planned.now (keys_seen info.keys)
             (take planned.now.count samples)))) }
         ensures copied { WhereOpened (S.is_honest store.old) (S.file store.old) movie.now
-            (λ tree. (samples : List SampleAt) → planned.now.count ≤ length samples
+            (λ tree. (leaving : Leaving) (samples : List SampleAt) → planned.now.count ≤ length
+            samples
             → (head ≡ None → drop planned.now.count samples ≡ samples)
             → OnOk result
-            (HaveCopied (S.file store.old)
+            (HaveCopied leaving (S.file store.old)
             tree movie.now track planned.now.count samples self.old self.new)) }
         ensures keeps { OnOk result ((self.new.planning ≡ self.old.planning)
             × (self.new.rows ≡ self.old.rows) × (self.new.nexts ≡ self.old.nexts)) }
         ensures unchanged { WhereOpened (S.is_honest store.old) (S.file store.old) movie.now
-            (λ tree. (samples : List SampleAt)
-            → IsNoted (S.file store.old) tree movie.now track planned.now.count samples self.old
+            (λ tree. (leaving : Leaving) (samples : List SampleAt)
+            → IsNoted leaving (S.file store.old) tree movie.now track planned.now.count samples
+            self.old
             → planned.now.count ≤ length samples
             → planned.now.bytes ≡ sum_of (λ (s : SampleAt). s.size) (take planned.now.count samples)
             → AllByRecursion (IsBelow (length (S.file store.old))) samples
@@ -651,7 +756,8 @@ impl Writer {
         Ok(())
     }
 
-    /// Puts the normal form of the movie. It takes no memory; after an answer that isn't Ok it is
+    /// Puts the normal form of what is left of the movie. It takes no memory; after an answer that
+    /// isn't Ok it is
     /// of no more use.
     pub fn write<S: Store, K: Sink, L: Ledger>(
         &mut self,
@@ -668,12 +774,12 @@ impl Writer {
             (λ tree. IsReady (S.file store.old) tree movie.now self.old
             → OnOk result
             (Appends (K.contents sink.old) (K.contents sink.new)
-            (normal (presentation_of (S.file store.old) tree)))) }
+            (normal (reduce self.old.leaving (presentation_of (S.file store.old) tree))))) }
         ensures prefix { WhereOpened (S.is_honest store.old) (S.file store.old) movie.now
             (λ tree. IsReady (S.file store.old) tree movie.now self.old
             → OnErr result
             (AppendsPrefix (K.contents sink.old) (K.contents sink.new)
-            (normal (presentation_of (S.file store.old) tree)))) }
+            (normal (reduce self.old.leaving (presentation_of (S.file store.old) tree))))) }
         ensures unchanged { WhereOpened (S.is_honest store.old) (S.file store.old) movie.now
             (λ tree. IsReady (S.file store.old) tree movie.now self.old
             → IfErr result (λ r. r ≡ refusals.StoreChanged → ⊥)) }
@@ -689,14 +795,22 @@ impl Writer {
             → steps.new ≤ steps.old + n + c) }
     {
         let tracks = movie.tracks();
+        let leaving = self.leaving;
         self.carrier.carry(self.head.as_slice(), sink)?;
         let walks = self.planning.as_mut_slice();
-        peek_each(walks, self.nexts.as_mut_slice(), movie, store, steps)?;
+        peek_each(
+            walks,
+            self.nexts.as_mut_slice(),
+            leaving,
+            movie,
+            store,
+            steps,
+        )?;
         let mut schedule = Schedule::new(tracks, first_time(self.nexts.as_slice()));
         let mut sequence: u32 = 1;
         while let Some(turn) = schedule.turn(tracks) {
             let id = tracks[turn.track].id;
-            let noted = self.note_turn(&turn, sequence, id, movie, store, steps)?;
+            let noted = self.note_turn(&turn, leaving, sequence, id, movie, store, steps)?;
             sequence = sequence_behind(sequence, &noted.head);
             self.carry_turn(
                 turn.track,
@@ -711,6 +825,43 @@ impl Writer {
         }
         self.carrier.flush(sink)
     }
+}
+
+/// Puts the normal form of what is left of a movie, where edits stay: it is planned, all memory
+/// that
+/// writing it needs is taken, and then it is written. Want of memory comes before the first byte.
+pub fn write_reduced<S: Store, K: Sink, L: Ledger>(
+    alloc: Global,
+    movie: &Movie,
+    store: &mut S,
+    sink: &mut K,
+    leaving: Leaving,
+    steps: &mut Steps<L>,
+) -> Result<(), Refusal>
+    requires { leaving.edits ≡ false }
+    ensures honesty { S.is_honest store.new ≡ S.is_honest store.old }
+    ensures file { S.file store.new ≡ S.file store.old }
+    ensures bytes { WhereOpened (S.is_honest store.old) (S.file store.old) movie.now
+        (λ tree. OnOk result
+        (Appends (K.contents sink.old) (K.contents sink.new)
+        (normal (reduce leaving (presentation_of (S.file store.old) tree))))) }
+    ensures prefix { WhereOpened (S.is_honest store.old) (S.file store.old) movie.now
+        (λ tree. OnErr result
+        (AppendsPrefix (K.contents sink.old) (K.contents sink.new)
+        (normal (reduce leaving (presentation_of (S.file store.old) tree))))) }
+    ensures unchanged { WhereOpened (S.is_honest store.old) (S.file store.old) movie.now
+        (λ tree. IfErr result (λ r. r ≡ refusals.StoreChanged → ⊥)) }
+    ensures work { WhereOpened (S.is_honest store.old) (S.file store.old) movie.now
+        (λ tree. steps.new ≤ steps.old + 3 * walks_steps tree) }
+    ensures reads { OnOk result (S.read_failures store.new ≡ S.read_failures store.old) }
+    ensures puts { OnOk result (K.put_failures sink.new ≡ K.put_failures sink.old) }
+    ensures refusal { IfErr result
+        (RefusesCopy (K.contents sink.old) (K.contents sink.new)
+        (S.read_failures store.old) (S.read_failures store.new)
+        (K.put_failures sink.old) (K.put_failures sink.new)) }
+{
+    let mut writer = Writer::reduced(alloc, movie, store, leaving, steps)?;
+    writer.write(movie, store, sink, steps)
 }
 
 /// Puts the normal form of a movie: it is planned, all memory that writing it needs is taken, and
@@ -742,6 +893,5 @@ pub fn write_normal<S: Store, K: Sink, L: Ledger>(
         (RefusesCopy (K.contents sink.old) (K.contents sink.new) (S.read_failures store.old)
         (S.read_failures store.new) (K.put_failures sink.old) (K.put_failures sink.new)) }
 {
-    let mut writer = Writer::new(alloc, movie, store, steps)?;
-    writer.write(movie, store, sink, steps)
+    write_reduced(alloc, movie, store, sink, Leaving::NOTHING, steps)
 }

@@ -13,8 +13,10 @@ use Rattle.mp4_present.specs.words.Movies.{MovieSeen, InHandOf}
 use Rattle.mp4_present.specs.words.OpenedMovie.{IsOpenedAs}
 use Rattle.mp4_present.specs.words.WalkSteps.{steps_to, MayTake, TakesOn}
 use Rattle.mp4_present.specs.declared.in_hand.InHand.{InHand}
+use Rattle.mp4_present.specs.declared.leaving.Leaving.{Leaving}
 use Rattle.mp4_present.specs.declared.in_hand.Place.{Place}
 use Rattle.mp4_present.specs.declared.walks.Walk.{Walk}
+use Rattle.mp4_plan.specs.words.ComingLess.{less}
 use Rattle.mp4_plan.specs.words.Ends.{goes_in}
 use Rattle.mp4_plan.specs.words.Gathering.{Planning, description_in, count_of, more_of, piece_fed, samples_after}
 use Rattle.mp4_plan.specs.words.Stretches.{JoinsOn}
@@ -86,25 +88,26 @@ HasTaken room Ended before after all left = (after ≡ piece_fed before all)
 HasTaken room Empty before after all left = (after ≡ piece_fed before all)
     × (left ≡ samples_after before all) × (left ≡ [])
 
--- The samples in hand of a walk were fed to a piece with room for so many, and the walk goes on
--- from a place.
-pub record HandFed (m : MovieSeen) (w : Walk) (room : ℕ) (before after : Planning) (stop : Stop)
-    (place : Place) : Type 0 where
+-- What is left of the samples in hand of a walk was fed to a piece with room for so many, and the
+-- walk goes on from a place.
+pub record HandFed (l : Leaving) (m : MovieSeen) (w : Walk) (room : ℕ) (before after : Planning)
+    (stop : Stop) (place : Place) : Type 0 where
   pub hand : InHand
   pub is_hand : InHandOf m w hand
   pub later : InHand
   pub is_later : InHandOf m (record w { place = place }) later
   -- those that were taken
   pub done : List SampleAt
-  pub whole : left_in_hand hand ≡ done ++ left_in_hand later
+  pub whole : less l (left_in_hand hand) ≡ done ++ less l (left_in_hand later)
   pub count : count_of after.gathered ≡ count_of before.gathered + length done
-  pub taken : HasTaken room stop before after (left_in_hand hand) (left_in_hand later)
+  pub taken : HasTaken room stop before after (less l (left_in_hand hand))
+      (less l (left_in_hand later))
 
 -- They were noted in the first rows, too, and where their bytes lie.
-abbrev pub HandNoted : MovieSeen → Walk → ℕ → Planning → Planning → Stop → Place → List Row
-    → Stretches → Stretches → Type 0
-HandNoted m w room before after stop place rows told told_after =
-    (fed : HandFed m w room before after stop place)
+abbrev pub HandNoted : Leaving → MovieSeen → Walk → ℕ → Planning → Planning → Stop → Place
+    → List Row → Stretches → Stretches → Type 0
+HandNoted l m w room before after stop place rows told told_after =
+    (fed : HandFed l m w room before after stop place)
     × (take (length fed.done) rows ≡ map row_seen fed.done) × JoinsOn told told_after fed.done
 
 -- The samples in hand of a walk were passed, so many at most, and the walk goes on from a place.

@@ -9,7 +9,8 @@ use Rattle.mp4_head.specs.format.Tree.{TrackTree}
 use Rattle.mp4_head.specs.format.Writing as written
 use Rattle.mp4_tables.specs.format.Groups.{GroupKey}
 use Rattle.mp4_present.specs.words.Carried.{waiting}
-use Rattle.mp4_present.specs.words.SamplesComing.{Comes, track_samples}
+use Rattle.mp4_present.specs.format.Reduced.{reduce}
+use Rattle.mp4_present.specs.declared.leaving.Leaving.{Leaving}
 use Rattle.mp4_present.specs.format.Denotes.{FileTree, presentation_of}
 use Rattle.mp4_present.specs.words.Joined.{sample_bytes}
 use Rattle.mp4_present.specs.words.Movies.{MovieSeen, IsWalkOf}
@@ -17,8 +18,11 @@ use Rattle.mp4_present.specs.words.OpenedMovie.{IsOpenedAs}
 use Rattle.mp4_present.specs.format.Presentation.{Presentation, heads, movie_length}
 use Rattle.mp4_present.specs.declared.walks.Walk.{Walk}
 use Rattle.mp4_tables.specs.declared.sample.SampleAt.{SampleAt}
+use Rattle.mp4_plan.specs.words.ComingLess.{ComesLess, left_samples}
 use Rattle.mp4_plan.specs.words.Sizes.{moof_sizes}
 use Rattle.mp4_plan.specs.format.Pieces.{Piece, pieces}
+use Rattle.mp4_head.specs.words.Seen.{movie_seen, tracks_seen}
+use Rattle.mp4_head.specs.declared.heads.MovieHead.{MovieHead}
 use Rattle.mp4_plan.specs.words.Stretches.{Tells}
 use Rattle.mp4_plan.specs.words.Taken.{piece_front, row_seen}
 use Rattle.mp4_plan.specs.declared.moof_front.PieceHead.{PieceHead}
@@ -75,17 +79,17 @@ abbrev pub WhereOpened : Bool → List ℕ → MovieSeen → (FileTree → Type 
 WhereOpened honest file m P = IsTrue honest → (tree : FileTree) → IsOpenedAs file m tree → P tree
 
 -- for each track a walk of which these samples come
-abbrev pub AllCome : List ℕ → FileTree → MovieSeen → List TrackTree → List Walk
+abbrev pub AllCome : Leaving → List ℕ → FileTree → MovieSeen → List TrackTree → List Walk
     → List (List SampleAt) → Type 0
-AllCome file tree m [] [] [] = Unit {0}
-AllCome file tree m (t ∷ trees) (w ∷ walks) (samples ∷ more) = Comes file tree t m w samples
-    × AllCome file tree m trees walks more
-AllCome file tree m _ _ _ = ⊥
+AllCome l file tree m [] [] [] = Unit {0}
+AllCome l file tree m (t ∷ trees) (w ∷ walks) (samples ∷ more) =
+    ComesLess l file tree t m w samples × AllCome l file tree m trees walks more
+AllCome l file tree m _ _ _ = ⊥
 
 -- for each track a walk from its first sample on
-abbrev pub AllBegin : List ℕ → FileTree → MovieSeen → List Walk → Type 0
-AllBegin file tree m walks = AllCome file tree m tree.movie.tracks walks
-    (map (track_samples tree) tree.movie.tracks)
+abbrev pub AllBegin : Leaving → List ℕ → FileTree → MovieSeen → List Walk → Type 0
+AllBegin l file tree m walks = AllCome l file tree m tree.movie.tracks walks
+    (map (left_samples l tree) tree.movie.tracks)
 
 -- the most samples of a piece
 abbrev pub longest_piece : List Piece → ℕ
@@ -95,19 +99,28 @@ longest_piece pieces = fold (λ most (piece : Piece). max most (length piece.sam
 abbrev pub head_of_normal : Presentation → List ℕ
 head_of_normal p = written.head_bytes p.movie (heads p) (movie_length p)
 
--- A writer that has put nothing yet: the head of the normal form waits, or its front, with the rest
--- behind it, and there are as many rows as the longest piece has samples.
+-- this head, with this length of the longest track, is that of the normal form, and is short
+pub record IsHeadOf (p : Presentation) (head : MovieHead) (mehd : ℕ) : Type 0 where
+  pub bytes : written.head_bytes (movie_seen head) (tracks_seen head) mehd ≡ head_of_normal p
+  pub short : length (head_of_normal p) ≤ 2 ^ 30 + 24
+
+-- A writer that has put nothing yet, of what is left of a presentation: the head of the normal form
+-- waits, or its front, with the rest behind it, and there are as many rows as the longest piece has
+-- samples.
 pub record IsReady (file : List ℕ) (tree : FileTree) (m : MovieSeen) (w : Writer) : Type 0 where
-  pub head : waiting w.carrier ++ w.head.items ≡ head_of_normal (presentation_of file tree)
-  pub rows : length w.rows.items ≡ longest_piece (pieces (presentation_of file tree))
-  pub planning : AllBegin file tree m w.planning.items
-  pub copying : AllBegin file tree m w.copying.items
+  pub head : waiting w.carrier ++ w.head.items
+      ≡ head_of_normal (reduce w.leaving (presentation_of file tree))
+  pub rows : length w.rows.items
+      ≡ longest_piece (pieces (reduce w.leaving (presentation_of file tree)))
+  pub planning : AllBegin w.leaving file tree m w.planning.items
+  pub copying : AllBegin w.leaving file tree m w.copying.items
   pub behind : AllByRecursion (λ (n : ℕ). n ≡ 0) w.behind.items
 
 -- What was noted at a turn, of a track of which these samples come: a piece of them, and its walk
 -- stands behind it.
-pub record HasNoted (file : List ℕ) (tree : FileTree) (t : TrackTree) (m : MovieSeen) (turn : Turn)
-    (sequence id : ℕ) (left : List SampleAt) (before after : Writer) (n : Noted) : Type 0 where
+pub record HasNoted (l : Leaving) (file : List ℕ) (tree : FileTree) (t : TrackTree) (m : MovieSeen)
+    (turn : Turn) (sequence id : ℕ) (left : List SampleAt) (before after : Writer)
+    (n : Noted) : Type 0 where
   pub planned : n.planned ≡ planned_of (piece_fed (piece_from turn.end) left).gathered
   pub head : n.head ≡ turn_head sequence id n.planned.count (slice_get left 0)
   pub next : n.next ≡ slice_get (samples_after (piece_from turn.end) left) 0
@@ -115,7 +128,7 @@ pub record HasNoted (file : List ℕ) (tree : FileTree) (t : TrackTree) (m : Mov
   pub walk : Walk
   pub planning : after.planning.items ≡ slice_set before.planning.items turn.track walk
   pub nexts : after.nexts.items ≡ slice_set before.nexts.items turn.track n.next
-  pub comes : Comes file tree t m walk (samples_after (piece_from turn.end) left)
+  pub comes : ComesLess l file tree t m walk (samples_after (piece_from turn.end) left)
   pub stretches : Tells after.stretches (take n.planned.count left)
 
 -- what is written of a piece, by what was planned of its samples
@@ -129,37 +142,37 @@ turn_bytes file None p keys samples = []
 turn_bytes file (Some head) p keys samples = bytes_of_piece file head p keys samples
 
 -- So many samples come in a walk that were copied without it, and then these.
-pub record ComesBehind (file : List ℕ) (tree : FileTree) (t : TrackTree) (m : MovieSeen)
-    (walk : Walk) (behind : ℕ) (samples : List SampleAt) : Type 0 where
+pub record ComesBehind (l : Leaving) (file : List ℕ) (tree : FileTree) (t : TrackTree)
+    (m : MovieSeen) (walk : Walk) (behind : ℕ) (samples : List SampleAt) : Type 0 where
   pub copied : List SampleAt
   pub many : length copied ≡ behind
-  pub comes : Comes file tree t m walk (copied ++ samples)
+  pub comes : ComesLess l file tree t m walk (copied ++ samples)
   pub few : behind + length samples ≤ 2 ^ 24
 
 -- The samples of a track that are to be copied were noted, so many of them: their rows, and where
 -- their bytes lie.
-pub record IsNoted (file : List ℕ) (tree : FileTree) (m : MovieSeen) (track count : ℕ)
-    (samples : List SampleAt) (w : Writer) : Type 0 where
+pub record IsNoted (l : Leaving) (file : List ℕ) (tree : FileTree) (m : MovieSeen)
+    (track count : ℕ) (samples : List SampleAt) (w : Writer) : Type 0 where
   pub t : TrackTree
   pub walk : Walk
   pub behind : ℕ
   pub is_walk : slice_get w.copying.items track ≡ Some walk
   pub is_behind : slice_get w.behind.items track ≡ Some behind
-  pub comes : ComesBehind file tree t m walk behind samples
+  pub comes : ComesBehind l file tree t m walk behind samples
   pub rows : take count w.rows.items ≡ map row_seen (take count samples)
   pub stretches : Tells w.stretches (take count samples)
 
 -- so many samples of a track were copied, by its walk or without it
-abbrev pub HaveCopied : List ℕ → FileTree → MovieSeen → ℕ → ℕ → List SampleAt → Writer → Writer
-    → Type 0
-HaveCopied file tree m track count samples before after =
+abbrev pub HaveCopied : Leaving → List ℕ → FileTree → MovieSeen → ℕ → ℕ → List SampleAt → Writer
+    → Writer → Type 0
+HaveCopied l file tree m track count samples before after =
     (t : TrackTree) (walk : Walk) (behind : ℕ) → slice_get before.copying.items track ≡ Some walk
     → slice_get before.behind.items track ≡ Some behind
-    → ComesBehind file tree t m walk behind samples
+    → ComesBehind l file tree t m walk behind samples
     → (next : Walk) × (later : ℕ)
     × (after.copying.items ≡ slice_set before.copying.items track next)
     × (after.behind.items ≡ slice_set before.behind.items track later)
-    × ComesBehind file tree t m next later (drop count samples)
+    × ComesBehind l file tree t m next later (drop count samples)
 
 -- the next sample of each track
 abbrev pub firsts : List (List SampleAt) → List (Option SampleAt)

@@ -7,22 +7,25 @@ use Rattle.mp4_plan.proofs.CourseSteps.{hand_keeps}
 use Rattle.mp4_plan.proofs.courses.feed_hand.Goals as goal
 
 pub returns-clause-place : goal.returns-clause-place
-returns-clause-place c = kept_on c.args.movie.now c.args.walk.now c.in_hand.result _ c.place.result c.requires.walk c.in_hand.ensures.hand c.feed.ensures.later.0 c.place.ensures
+returns-clause-place c = kept_on c.args.movie.now c.args.walk.now c.in_hand.result _ c.place.result c.requires.walk c.in_hand.ensures.hand c.feed.ensures.later.0.0 c.place.ensures
 
 pub returns-clause-fed : goal.returns-clause-fed
 returns-clause-fed c =
     let t = c.feed.ensures.later.1 in
+    let same = c.feed.ensures.later.0.1 in
     let count = ap (λ (p : Planned). p.count) c.piece.ensures.is ∙ planned_counts c.args.planner.now.gathered in
     record {
       hand = c.in_hand.result;
       is_hand = c.in_hand.ensures.hand;
-      later = c.feed.new.samples.inner;
-      is_later = hand_kept c.args.movie.now c.args.walk.now c.in_hand.result c.feed.new.samples.inner c.place.result c.in_hand.ensures.hand c.feed.ensures.later.0 c.place.ensures;
+      later = c.feed.new.samples.inner.inner;
+      is_later = hand_kept c.args.movie.now c.args.walk.now c.in_hand.result c.feed.new.samples.inner.inner c.place.result c.in_hand.ensures.hand c.feed.ensures.later.0.0 c.place.ensures;
       done = t.taken;
-      whole = t.whole;
+      whole = rw same at t.whole;
       count = fed_counts c.args.planner.now c.feed.new.self _ _ _ _ c.feed.ensures.piece c.feed.ensures.rest t;
-      taken = rw (c.stop_at.ensures, c.peek.ensures, ← count) (fed_stops c.args.planner.now c.feed.new.self _ _ _ _ c.feed.ensures.piece c.feed.ensures.rest t);
+      taken =
+          let stops = fed_stops c.args.planner.now c.feed.new.self _ _ _ _ c.feed.ensures.piece c.feed.ensures.rest t in
+          rw (c.stop_at.ensures, c.peek.ensures, same, ← count) (rw same at stops);
     }
 
 pub returns-clause-keeps : goal.returns-clause-keeps
-returns-clause-keeps c = hand_keeps c.args.movie.now c.args.walk.now c.in_hand.result _ c.place.result c.in_hand.ensures.movie c.requires.walk c.in_hand.ensures.hand c.feed.ensures.later.0 c.place.ensures
+returns-clause-keeps c = hand_keeps c.args.movie.now c.args.walk.now c.in_hand.result _ c.place.result c.in_hand.ensures.movie c.requires.walk c.in_hand.ensures.hand c.feed.ensures.later.0.0 c.place.ensures

@@ -2,7 +2,7 @@ use Rattle.std.proofs.Common.{List, sym, ap, subst, ◌∙◌}
 use Rattle.std.specs.Prelude.{slice_get}
 use Rattle.std.proofs.lemmas.Result.{err_from_is_err_and}
 use Rattle.mp4_tables.specs.declared.sample.SampleAt.{SampleAt}
-use Rattle.mp4_present.specs.words.SamplesComing.{Comes}
+use Rattle.mp4_plan.specs.words.ComingLess.{ComesLess}
 use Rattle.mp4_present.proofs.WayThrough.{takes_none}
 use Rattle.mp4_plan.specs.words.Gathering.{Planning, planned_of, piece_from, samples_after}
 use Rattle.mp4_plan.proofs.NextSamples.{none_goes}
@@ -17,7 +17,7 @@ returns-then-not-first_goes-clause-planned g c told tree t samples o h first =
     let fed = fed_none (piece_from c.args.end) samples none in
     let after = after_none (piece_from c.args.end) samples none in (
       c.piece.ensures.is ∙ ap (λ (p : Planning). planned_of p.gathered) (c.new.ensures ∙ sym fed),
-      subst (λ (ss : List SampleAt). Comes file tree t c.args.movie.now c.args.walk.now ss) (sym after) h,
+      subst (λ (ss : List SampleAt). ComesLess c.args.leaving file tree t c.args.movie.now c.args.walk.now ss) (sym after) h,
       first ∙ ap (λ (ss : List SampleAt). slice_get ss 0) (sym after),
     )
 
@@ -59,4 +59,4 @@ pub returns-clause-work : goal.returns-clause-work
 returns-clause-work g c told tree t n o h =
     let p = c.in_ok-planned.ensures in
     let file = g.S.Store.file c.args.store.now in
-    then_takes file tree t n _ c.plan_piece.new.walk c.peek_sample.new.walk _ _ (p.work told tree t n o h) (λ left more. (rw (p.honesty, p.file) at c.in_ok-next.ensures.work) told tree t left o more)
+    then_takes file tree t n _ c.plan_piece.new.walk c.next_sample.new.walk _ _ (p.work told tree t n o h) (λ left more. (rw (p.honesty, p.file) at c.in_ok-next.ensures.work) told tree t left o more)

@@ -27,7 +27,7 @@ loop-k-preserved g c =
     let m = c.args.movie.now in
     let walks = c.loop-k.walks in
     let k = c.loop-k.k in
-    let now = c.peek_sample.new.walk in
+    let now = c.next_sample.new.walk in
     let e = c.in_ok-nexts.ensures in
     let lt = c.loop-k-test.true in
     let many = i.many in
@@ -44,9 +44,9 @@ loop-k-preserved g c =
       reads = e.reads ∙ i.reads;
       shown = λ told tree o lefts h.
           let was = i.shown told tree o lefts h in
-          let r = comes_there file tree m walks lefts k c.index-walks-k.result was.0 inside in
+          let r = comes_there c.args.leaving file tree m walks lefts k c.index-walks-k.result was.0 inside in
           let come = (rw (i.honesty, i.file) at e.coming) told tree r.t r.left o r.comes in
-          (same_come file tree m walks lefts k _ now was.0 r come.0, noted_more c.loop-k.nexts lefts k r.left c.in_ok-nexts.field-0 was.1 within r.is_left come.1);
+          (same_come c.args.leaving file tree m walks lefts k _ now was.0 r come.0, noted_more c.loop-k.nexts lefts k r.left c.in_ok-nexts.field-0 was.1 within r.is_left come.1);
       takes = λ told tree o n h.
           all_then file tree walks (slice_set walks k now) n _ _ _ (i.takes told tree o n h)
           (λ rest may. one_takes file tree tree.movie.tracks walks k _ now rest _ _ may (slice_get-get_or walks k c.index-walks-k.result inside) (λ t own own_may. (rw (i.honesty, i.file) at e.work) told tree t own o own_may));
@@ -59,7 +59,7 @@ returns-in_err-nexts-clause-unchanged g c told tree o lefts h =
     let lt = c.loop-k-test.true in
     let many = i.many in
     let was = i.shown told tree o lefts h in
-    let r = comes_there (g.S.Store.file c.args.store.now) tree c.args.movie.now c.loop-k.walks lefts c.loop-k.k c.index-walks-k.result was.0 (omega (arith, lt, many)) in
+    let r = comes_there c.args.leaving (g.S.Store.file c.args.store.now) tree c.args.movie.now c.loop-k.walks lefts c.loop-k.k c.index-walks-k.result was.0 (omega (arith, lt, many)) in
     rw (p.1, p.2) ((rw (i.honesty, i.file) at c.in_err-nexts.ensures.unchanged) told tree r.t r.left o r.comes)
 
 pub returns-in_err-nexts-clause-most : goal.returns-in_err-nexts-clause-most
@@ -80,5 +80,5 @@ returns-clause-shown g c told tree o lefts h =
     let last = c.loop-k-test.false in
     let many = i.many in
     let each = i.nexts in
-    let all = come_length (g.S.Store.file c.args.store.now) tree c.args.movie.now tree.movie.tracks c.loop-k.walks lefts was.0 in
+    let all = come_length c.args.leaving (g.S.Store.file c.args.store.now) tree c.args.movie.now tree.movie.tracks c.loop-k.walks lefts was.0 in
     (noted_all c.loop-k.nexts lefts c.loop-k.k was.1 (omega (arith, last, many, each)) (omega (arith, last, many, all)), was.0)

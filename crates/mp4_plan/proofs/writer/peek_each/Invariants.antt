@@ -15,7 +15,7 @@ invariant-loop-k g l = record {
   honesty : g.S.Store.is_honest l.store ≡ g.S.Store.is_honest l.fn.store;
   file : g.S.Store.file l.store ≡ g.S.Store.file l.fn.store;
   reads : g.S.Store.read_failures l.store ≡ g.S.Store.read_failures l.fn.store;
-  shown : WhereOpened (g.S.Store.is_honest l.fn.store) (g.S.Store.file l.fn.store) l.movie (λ tree. (lefts : List (List SampleAt)) → AllCome (g.S.Store.file l.fn.store) tree l.movie tree.movie.tracks l.fn.walks lefts
-      → AllCome (g.S.Store.file l.fn.store) tree l.movie tree.movie.tracks l.walks lefts × (take l.k l.nexts ≡ firsts (take l.k lefts)));
+  shown : WhereOpened (g.S.Store.is_honest l.fn.store) (g.S.Store.file l.fn.store) l.movie (λ tree. (lefts : List (List SampleAt)) → AllCome l.leaving (g.S.Store.file l.fn.store) tree l.movie tree.movie.tracks l.fn.walks lefts
+      → AllCome l.leaving (g.S.Store.file l.fn.store) tree l.movie tree.movie.tracks l.walks lefts × (take l.k l.nexts ≡ firsts (take l.k lefts)));
   takes : WhereOpened (g.S.Store.is_honest l.fn.store) (g.S.Store.file l.fn.store) l.movie (λ tree. (n : ℕ) → MayAllTake (g.S.Store.file l.fn.store) tree tree.movie.tracks l.fn.walks n → AllTakeOn (g.S.Store.file l.fn.store) tree n l.walks l.fn.steps l.steps);
 }

@@ -2,7 +2,7 @@ use Rattle.std.proofs.Common.{rules, ◌≡◌, ◌<◌, slice_set, get_or, leng
 use Rattle.std.proofs.lemmas.List.{with_items_is}
 use Rattle.std.proofs.lemmas.Result.{err_from_is_err_and}
 use Rattle.mp4_tables.specs.words.Keys.{keys_seen}
-use Rattle.mp4_present.specs.words.SamplesComing.{track_samples}
+use Rattle.mp4_plan.specs.words.ComingLess.{left_samples}
 use Rattle.mp4_present.specs.declared.track_info.TrackInfo.{TrackInfo}
 use Rattle.mp4_plan.proofs.CarriedParts.{read_at}
 use Rattle.mp4_plan.proofs.Planning.{walks_set}
@@ -33,11 +33,11 @@ loop-turn-init g c =
       e.honesty,
       λ told tree o.
           let file = g.S.Store.file c.args.store.now in
-          let begin = c.in_ok-walks.ensures.begin file tree o in
-          let shown = e.shown told tree o (map (track_samples tree) tree.movie.tracks) (rw c.as_mut_slice.ensures.value begin) in
-          let time = c.first_time.ensures (map (track_samples tree) tree.movie.tracks) (c.as_slice.ensures.value ∙ noted ∙ shown.0) in
+          let begin = c.in_ok-walks.ensures.begin file tree o c.args.leaving in
+          let shown = e.shown told tree o (map (left_samples c.args.leaving tree) tree.movie.tracks) (rw c.as_mut_slice.ensures.value begin) in
+          let time = c.first_time.ensures (map (left_samples c.args.leaving tree) tree.movie.tracks) (c.as_slice.ensures.value ∙ noted ∙ shown.0) in
           let s = rw c.tracks-tracks.ensures at c.new-schedule.ensures in
-          planning_first file tree m c.new-schedule.result c.peek_each.new.walks c.peek_each.new.nexts c.first_time.result o shown.1 shown.0 time s.tracks s.first s.left s.starts,
+          planning_first c.args.leaving file tree m c.new-schedule.result c.peek_each.new.walks c.peek_each.new.nexts c.first_time.result o shown.1 shown.0 time s.tracks s.first s.left s.starts,
       λ told tree o.
           let begin = c.in_ok-walks.ensures.may (g.S.Store.file c.args.store.now) tree o in
           all_within (g.S.Store.file c.args.store.now) tree c.peek_each.new.walks begin.0 (walks_steps tree) _ _ begin.2 (e.work told tree o begin.0 (rw c.as_mut_slice.ensures.value begin.1)),
@@ -47,8 +47,8 @@ loop-turn-init g c =
 pub returns-in_err-peek_each-clause-unchanged : goal.returns-in_err-peek_each-clause-unchanged
 returns-in_err-peek_each-clause-unchanged g c told tree o =
     let p = err_from_is_err_and c.from_residual-in_err-peek_each.result c.from_residual-in_err-peek_each.ensures.1 in
-    let begin = c.in_ok-walks.ensures.begin (g.S.Store.file c.args.store.now) tree o in
-    rw (p.1, p.2) (c.in_err-peek_each.ensures.unchanged told tree o (map (track_samples tree) tree.movie.tracks) (rw c.as_mut_slice.ensures.value begin))
+    let begin = c.in_ok-walks.ensures.begin (g.S.Store.file c.args.store.now) tree o c.args.leaving in
+    rw (p.1, p.2) (c.in_err-peek_each.ensures.unchanged told tree o (map (left_samples c.args.leaving tree) tree.movie.tracks) (rw c.as_mut_slice.ensures.value begin))
 
 pub returns-in_err-peek_each-clause-work : goal.returns-in_err-peek_each-clause-work
 returns-in_err-peek_each-clause-work g c told tree o =
@@ -66,7 +66,7 @@ returns-in_err-planned-clause-unchanged g c told tree o =
     let s = c.loop-turn.schedule in
     let turn = c.in-Some.turn in
     let at = c.in-Some.ensures.track in
-    let t = has_turn file tree m s c.loop-turn.walks.items c.loop-turn.nexts.items c.loop-turn.plan o (i.6 told tree o) turn.track c.index_mut-walk.result.now turn.end at c.index_mut-walk.ensures.value i.0.count
+    let t = has_turn c.args.leaving file tree m s c.loop-turn.walks.items c.loop-turn.nexts.items c.loop-turn.plan o (i.6 told tree o) turn.track c.index_mut-walk.result.now turn.end at c.index_mut-walk.ensures.value i.0.count
     (λ info is. c.in-Some.ensures.end info (ap (λ ts. slice_get ts s.track) c.tracks-tracks.ensures ∙ is)) in
     rw (e.1, e.2) ((rw (i.5, i.2) at c.in_err-planned.ensures.unchanged) told tree t.t t.left o t.comes t.few)
 
@@ -92,13 +92,13 @@ loop-turn-preserved g c =
           let turn = c.in-Some.turn in
           let at = c.in-Some.ensures.track in
           let h = i.6 told tree o in
-          let t = has_turn file tree m s walks nexts c.loop-turn.plan o h turn.track c.index_mut-walk.result.now turn.end at c.index_mut-walk.ensures.value i.0.count (λ info is. c.in-Some.ensures.end info (ap (λ ts. slice_get ts s.track) c.tracks-tracks.ensures ∙ is)) in
+          let t = has_turn c.args.leaving file tree m s walks nexts c.loop-turn.plan o h turn.track c.index_mut-walk.result.now turn.end at c.index_mut-walk.ensures.value i.0.count (λ info is. c.in-Some.ensures.end info (ap (λ ts. slice_get ts s.track) c.tracks-tracks.ensures ∙ is)) in
           let first = read_at nexts turn.track (slice_get t.left 0) c.index_mut-next.result.now (ap (λ k. slice_get nexts k) t.place ∙ t.shown) c.index_mut-next.ensures.value in
           let planned = (rw (i.5, i.2) at p.planned) told tree t.t t.left o t.comes first in
           let there = get_or c.tracks-tracks.result.now turn.track c.index-tracks-turn.result in
           let kept = sym c.index-tracks-turn.is ∙ kept_there m.tracks turn.track s.track t.info c.index-tracks-turn.result t.place t.is_info (rw c.tracks-tracks.ensures at c.index-tracks-turn.is) in
           let adds : Adds (keys_seen there.keys) c.in_ok-planned.planned c.loop-turn.plan c.add.new.self = record { longest = most; none = c.add.ensures.none; some = c.add.ensures.some } in
-          planning_next file tree m s walks nexts c.loop-turn.plan o h turn.track c.index_mut-walk.result.now turn.end t at.1 c.in_ok-planned.planned c.plan_turn.new.walk c.plan_turn.new.next c.add.new.self c.pass.new.self planned.0 planned.1 planned.2
+          planning_next c.args.leaving file tree m s walks nexts c.loop-turn.plan o h turn.track c.index_mut-walk.result.now turn.end t at.1 c.in_ok-planned.planned c.plan_turn.new.walk c.plan_turn.new.next c.add.new.self c.pass.new.self planned.0 planned.1 planned.2
           (record { few = record { count = few; rows = p.rows }; bytes = p.bytes }) (subst (λ (info : TrackInfo). Adds (keys_seen info.keys) c.in_ok-planned.planned c.loop-turn.plan c.add.new.self) kept adds) c.in_ok-pass.ensures.turned,
       λ told tree o.
           let k = c.in-Some.turn.track in
@@ -122,15 +122,15 @@ returns-in_err-pass-clause-unchanged g c told tree o =
     let turn = c.in-Some.turn in
     let at = c.in-Some.ensures.track in
     let h = i.6 told tree o in
-    let t = has_turn file tree m s walks nexts c.loop-turn.plan o h turn.track c.index_mut-walk.result.now turn.end at c.index_mut-walk.ensures.value i.0.count (λ info is. c.in-Some.ensures.end info (ap (λ ts. slice_get ts s.track) c.tracks-tracks.ensures ∙ is)) in
+    let t = has_turn c.args.leaving file tree m s walks nexts c.loop-turn.plan o h turn.track c.index_mut-walk.result.now turn.end at c.index_mut-walk.ensures.value i.0.count (λ info is. c.in-Some.ensures.end info (ap (λ ts. slice_get ts s.track) c.tracks-tracks.ensures ∙ is)) in
     let first = read_at nexts turn.track (slice_get t.left 0) c.index_mut-next.result.now (ap (λ k. slice_get nexts k) t.place ∙ t.shown) c.index_mut-next.ensures.value in
     let planned = (rw (i.5, i.2) at p.planned) told tree t.t t.left o t.comes first in
-    absurd (planning_moves file tree m s walks nexts c.loop-turn.plan o h turn.track c.index_mut-walk.result.now turn.end t at.1 c.in_ok-planned.planned c.plan_turn.new.next planned.0 planned.2 c.in_err-pass.ensures.refusal.1)
+    absurd (planning_moves c.args.leaving file tree m s walks nexts c.loop-turn.plan o h turn.track c.index_mut-walk.result.now turn.end t at.1 c.in_ok-planned.planned c.plan_turn.new.next planned.0 planned.2 c.in_err-pass.ensures.refusal.1)
 
 pub returns-clause-plan : goal.returns-clause-plan
 returns-clause-plan g c told tree o =
     let i = c.loop-turn.invariant in
-    planning_end (g.S.Store.file c.args.store.now) tree c.args.movie.now c.loop-turn.schedule c.loop-turn.walks.items c.loop-turn.nexts.items c.loop-turn.plan o (i.6 told tree o) (c.in_default.ensures.none refl)
+    planning_end c.args.leaving (g.S.Store.file c.args.store.now) tree c.args.movie.now c.loop-turn.schedule c.loop-turn.walks.items c.loop-turn.nexts.items c.loop-turn.plan o (i.6 told tree o) (c.in_default.ensures.none refl)
 
 pub returns-in_err-planned-clause-work : goal.returns-in_err-planned-clause-work
 returns-in_err-planned-clause-work g c told tree o =

@@ -18,7 +18,7 @@ invariant-loop-turn g l =
     × (g.S.Store.read_failures l.store ≡ g.S.Store.read_failures l.fn.store)
     × (l.plan.longest ≤ 2 ^ 24)
     × (g.S.Store.is_honest l.store ≡ g.S.Store.is_honest l.fn.store)
-    × (IsTrue (g.S.Store.is_honest l.fn.store) → (tree : FileTree) → IsOpenedAs (g.S.Store.file l.fn.store) l.movie tree → IsPlanning (g.S.Store.file l.fn.store) tree l.movie l.schedule l.walks.items l.nexts.items l.plan)
+    × (IsTrue (g.S.Store.is_honest l.fn.store) → (tree : FileTree) → IsOpenedAs (g.S.Store.file l.fn.store) l.movie tree → IsPlanning l.leaving (g.S.Store.file l.fn.store) tree l.movie l.schedule l.walks.items l.nexts.items l.plan)
     × (IsTrue (g.S.Store.is_honest l.fn.store) → (tree : FileTree) → IsOpenedAs (g.S.Store.file l.fn.store) l.movie tree → AllTakeOn (g.S.Store.file l.fn.store) tree (walks_steps tree) l.walks.items l.fn.steps l.steps)
     × (length l.nexts.items ≡ length l.movie.tracks)
 

@@ -1,43 +1,19 @@
-use Rattle.std.proofs.Common.{arith}
-use Rattle.std.proofs.lemmas.Result.{err_from_is_err_and}
+use Rattle.std.proofs.Common.{subst}
 use Rattle.std.specs.Io.KnownBytes.{Appends}
 use Rattle.std.specs.Prelude.{OnOk, OnErr}
 use Rattle.mp4_store.specs.words.Device.{AppendsPrefix}
-use Rattle.mp4_store.proofs.Known.{AppendsPrefix-nothing}
 use Rattle.mp4_present.specs.format.Denotes.{presentation_of}
+use Rattle.mp4_present.specs.format.Presentation.{Presentation}
 use Rattle.mp4_plan.specs.format.Normal.{normal}
-use Rattle.mp4_plan.specs.words.Writers.{IsReady}
-use Rattle.mp4_plan.proofs.AllPut.{still_opened}
+use Rattle.mp4_plan.proofs.Reducing.{nothing_reduces}
 use Rattle.mp4_plan.proofs.writer.write_normal.Goals as goal
-
-pub returns-in_err-writer-clause-prefix : goal.returns-in_err-writer-clause-prefix
-returns-in_err-writer-clause-prefix g c = λ told tree o.
-    let p = err_from_is_err_and c.from_residual.result c.from_residual.ensures.1 in
-    rw p.1 (AppendsPrefix-nothing (g.K.Sink.contents c.args.sink.now) _)
 
 pub returns-clause-bytes : goal.returns-clause-bytes
 returns-clause-bytes g c = λ told tree o.
-    let bytes = still_opened _ _ _ _ c.args.movie.now (λ file t. IsReady file t c.args.movie.now c.in_ok-writer.writer → OnOk c.write.result (Appends (g.K.Sink.contents c.args.sink.now) (g.K.Sink.contents c.write.new.sink) (normal (presentation_of file t))))
-    c.in_ok-writer.ensures.honesty c.in_ok-writer.ensures.file c.write.ensures.bytes in
-    bytes told tree o (c.in_ok-writer.ensures.ready told tree o)
+    let same = nothing_reduces (presentation_of (g.S.Store.file c.args.store.now) tree) in
+    subst (λ (p : Presentation). OnOk c.write_reduced.result (Appends (g.K.Sink.contents c.args.sink.now) (g.K.Sink.contents c.write_reduced.new.sink) (normal p))) same (c.write_reduced.ensures.bytes told tree o)
 
 pub returns-clause-prefix : goal.returns-clause-prefix
 returns-clause-prefix g c = λ told tree o.
-    let prefix = still_opened _ _ _ _ c.args.movie.now (λ file t. IsReady file t c.args.movie.now c.in_ok-writer.writer → OnErr c.write.result (AppendsPrefix (g.K.Sink.contents c.args.sink.now) (g.K.Sink.contents c.write.new.sink) (normal (presentation_of file t))))
-    c.in_ok-writer.ensures.honesty c.in_ok-writer.ensures.file c.write.ensures.prefix in
-    prefix told tree o (c.in_ok-writer.ensures.ready told tree o)
-
-pub returns-clause-unchanged : goal.returns-clause-unchanged
-returns-clause-unchanged g c = λ told tree o.
-    let unchanged = rw (c.in_ok-writer.ensures.honesty, c.in_ok-writer.ensures.file) at c.write.ensures.unchanged in
-    unchanged told tree o (c.in_ok-writer.ensures.ready told tree o)
-
-pub returns-clause-work : goal.returns-clause-work
-returns-clause-work g c = λ told tree o.
-    let work = rw (c.in_ok-writer.ensures.honesty, c.in_ok-writer.ensures.file) at c.write.ensures.work in
-    let plan = c.in_ok-writer.ensures.work told tree o in
-    let may = c.in_ok-writer.ensures.may told tree o in
-    let planning = may.0.2 in
-    let copying = may.1.2 in
-    let own = work told tree o may.0.0 may.1.0 may.0.1 may.1.1 in
-    omega (arith, plan, planning, copying, own)
+    let same = nothing_reduces (presentation_of (g.S.Store.file c.args.store.now) tree) in
+    subst (λ (p : Presentation). OnErr c.write_reduced.result (AppendsPrefix (g.K.Sink.contents c.args.sink.now) (g.K.Sink.contents c.write_reduced.new.sink) (normal p))) same (c.write_reduced.ensures.prefix told tree o)

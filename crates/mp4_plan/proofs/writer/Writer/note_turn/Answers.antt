@@ -4,7 +4,7 @@ use Rattle.std.proofs.lemmas.List.{with_items_is}
 use Rattle.std.proofs.lemmas.Option.{slice_get_read}
 use Rattle.std.proofs.lemmas.Result.{err_from_is_err_and}
 use Rattle.mp4_tables.specs.declared.sample.SampleAt.{SampleAt}
-use Rattle.mp4_present.specs.words.SamplesComing.{Comes}
+use Rattle.mp4_plan.specs.words.ComingLess.{ComesLess}
 use Rattle.mp4_present.specs.declared.walks.Walk.{Walk}
 use Rattle.mp4_plan.specs.words.Gathering.{Planning, planned_of, piece_from, samples_after}
 use Rattle.mp4_plan.specs.words.Stretches.{Tells}
@@ -38,7 +38,7 @@ returns-then-not-first_goes-clause-noted g c told tree o t walk left is comes sh
       walk = walk;
       planning = sym (set_same c.args.self.now.planning.items k walk is);
       nexts = sym (set_same c.args.self.now.nexts.items k c.index.result.now (shown ∙ ap Some (sym first)));
-      comes = subst (λ (ss : List SampleAt). Comes file tree t m walk ss) (sym after) comes;
+      comes = subst (λ (ss : List SampleAt). ComesLess c.args.leaving file tree t m walk ss) (sym after) comes;
       stretches = subst (λ k. Tells c.clear.new.self (take k left)) (sym count) c.clear.ensures.told;
     }
 
@@ -51,7 +51,7 @@ returns-in_err-planned-clause-unchanged g c told tree o t walk left is comes few
     let file = g.S.Store.file c.args.store.now in
     let m = c.args.movie.now in
     let same = read_at c.args.self.now.planning.items c.args.turn.now.track walk c.index_mut-walk.result.now is c.index_mut-walk.ensures.value in
-    let here = subst (λ (w : Walk). Comes file tree t m w left) (sym same) comes in
+    let here = subst (λ (w : Walk). ComesLess c.args.leaving file tree t m w left) (sym same) comes in
     rw (e.1, e.2) (c.in_err-planned.ensures.unchanged told tree t left o here (rw c.as_mut_slice-rows.ensures.value few))
 
 pub returns-in_err-next-clause-unchanged : goal.returns-in_err-next-clause-unchanged
@@ -60,7 +60,7 @@ returns-in_err-next-clause-unchanged g c told tree o t walk left is comes few =
     let file = g.S.Store.file c.args.store.now in
     let m = c.args.movie.now in
     let same = read_at c.args.self.now.planning.items c.args.turn.now.track walk c.index_mut-walk.result.now is c.index_mut-walk.ensures.value in
-    let here = subst (λ (w : Walk). Comes file tree t m w left) (sym same) comes in
+    let here = subst (λ (w : Walk). ComesLess c.args.leaving file tree t m w left) (sym same) comes in
     let p = c.in_ok-planned.ensures in
     let two = p.planned told tree t left o here in
     rw (e.1, e.2) ((rw (p.honesty, p.file) at c.in_err-next.ensures.unchanged) told tree t (samples_after (piece_from c.args.turn.now.end) left) o two.1)
@@ -70,7 +70,7 @@ returns-clause-noted g c told tree o t walk left is comes shown =
     let file = g.S.Store.file c.args.store.now in
     let m = c.args.movie.now in
     let same = read_at c.args.self.now.planning.items c.args.turn.now.track walk c.index_mut-walk.result.now is c.index_mut-walk.ensures.value in
-    let here = subst (λ (w : Walk). Comes file tree t m w left) (sym same) comes in
+    let here = subst (λ (w : Walk). ComesLess c.args.leaving file tree t m w left) (sym same) comes in
     let first = read_at c.args.self.now.nexts.items c.args.turn.now.track (slice_get left 0) c.index.result.now shown c.index.ensures in
     let p = c.in_ok-planned.ensures in
     let two = p.planned told tree t left o here in
@@ -82,7 +82,7 @@ returns-clause-noted g c told tree o t walk left is comes shown =
       head = c.turn_head.ensures ∙ ap (turn_head c.args.sequence c.args.id c.in_ok-planned.planned.count) first;
       next = three.1;
       rows = ap (take c.in_ok-planned.planned.count) rows ∙ p.noted told tree t left o here;
-      walk = c.peek_sample.new.walk;
+      walk = c.next_sample.new.walk;
       planning = refl;
       nexts = refl;
       comes = three.0;
@@ -122,5 +122,5 @@ returns-clause-work g c told tree o n h =
     let many = c.requires.writer.planning.count in
     let p = c.in_ok-planned.ensures in
     let there = slice_get_read walks (length walks) k c.index_mut-walk.result.now refl (omega (arith, lt, many)) c.index_mut-walk.ensures.value in
-    one_takes file tree tree.movie.tracks walks k c.index_mut-walk.result.now c.peek_sample.new.walk n _ _ h there (λ t own may.
-    then_takes file tree t own _ c.note_piece.new.walk c.peek_sample.new.walk _ _ (p.work told tree t own o may) (λ left more. (rw (p.honesty, p.file) at c.in_ok-next.ensures.work) told tree t left o more))
+    one_takes file tree tree.movie.tracks walks k c.index_mut-walk.result.now c.next_sample.new.walk n _ _ h there (λ t own may.
+    then_takes file tree t own _ c.note_piece.new.walk c.next_sample.new.walk _ _ (p.work told tree t own o may) (λ left more. (rw (p.honesty, p.file) at c.in_ok-next.ensures.work) told tree t left o more))

@@ -3,7 +3,7 @@ use Rattle.std.specs.Vec.{with_items}
 use Rattle.std.proofs.lemmas.List.{with_items_is}
 use Rattle.std.proofs.lemmas.Result.{err_from_is_err_and}
 use Rattle.mp4_present.specs.words.Carried.{waiting}
-use Rattle.mp4_present.specs.words.SamplesComing.{track_samples}
+use Rattle.mp4_plan.specs.words.ComingLess.{left_samples}
 use Rattle.mp4_present.specs.declared.track_info.TrackInfo.{TrackInfo}
 use Rattle.mp4_present.proofs.WalkCopied.{put_unchanged, on_ok, on_err, if_err}
 use Rattle.std.specs.Prelude.{Some, slice_get}
@@ -20,17 +20,17 @@ use Rattle.mp4_plan.proofs.writer.Writer.write.Goals as goal
 pub returns-in_err-carry-clause-prefix : goal.returns-in_err-carry-clause-prefix
 returns-in_err-carry-clause-prefix g c told tree o ready =
     let e = err_from_is_err_and c.from_residual.result c.from_residual.ensures.1 in
-    rw e.1 (head_stops (g.S.Store.file c.args.store.now) tree c.args.movie.now c.args.self.now _ _ c.as_slice.result.now ready c.as_slice.ensures.value c.in_err-carry.ensures.prefix)
+    rw e.1 (head_stops c.args.self.now.leaving (g.S.Store.file c.args.store.now) tree c.args.movie.now c.args.self.now _ _ c.as_slice.result.now ready refl c.as_slice.ensures.value c.in_err-carry.ensures.prefix)
 
 pub returns-in_err-peek_each-clause-prefix : goal.returns-in_err-peek_each-clause-prefix
 returns-in_err-peek_each-clause-prefix g c told tree o ready =
     let e = err_from_is_err_and c.from_residual-in_err-peek_each.result c.from_residual-in_err-peek_each.ensures.1 in
-    rw e.1 (head_put (g.S.Store.file c.args.store.now) tree c.args.movie.now c.args.self.now _ _ _ c.as_slice.result.now ready c.as_slice.ensures.value c.in_ok-carry.ensures.bytes)
+    rw e.1 (head_put c.args.self.now.leaving (g.S.Store.file c.args.store.now) tree c.args.movie.now c.args.self.now _ _ _ c.as_slice.result.now ready refl c.as_slice.ensures.value c.in_ok-carry.ensures.bytes)
 
 pub returns-in_err-peek_each-clause-unchanged : goal.returns-in_err-peek_each-clause-unchanged
 returns-in_err-peek_each-clause-unchanged g c told tree o ready =
     let e = err_from_is_err_and c.from_residual-in_err-peek_each.result c.from_residual-in_err-peek_each.ensures.1 in
-    rw (e.1, e.2) (c.in_err-peek_each.ensures.unchanged told tree o (map (track_samples tree) tree.movie.tracks) (rw c.as_mut_slice-walks.ensures.value ready.planning))
+    rw (e.1, e.2) (c.in_err-peek_each.ensures.unchanged told tree o (map (left_samples c.args.self.now.leaving tree) tree.movie.tracks) (rw c.as_mut_slice-walks.ensures.value ready.planning))
 
 pub loop-turn-init : goal.loop-turn-init
 loop-turn-init g c =
@@ -64,12 +64,12 @@ loop-turn-init g c =
       on = λ told tree o ready.
           let file = g.S.Store.file c.args.store.now in
           let m = c.args.movie.now in
-          let lefts = map (track_samples tree) tree.movie.tracks in
+          let lefts = map (left_samples c.args.self.now.leaving tree) tree.movie.tracks in
           let shown = e.shown told tree o lefts (rw c.as_mut_slice-walks.ensures.value ready.planning) in
           let time = c.first_time.ensures lefts (c.as_slice-2.ensures.value ∙ nexts ∙ shown.0) in
           let tracks = c.tracks-tracks.ensures in
-          let first = is_first file tree m c.new-schedule.result c.first_time.result o (rw tracks at c.new-schedule.ensures.tracks) (rw tracks at c.new-schedule.ensures.first) c.new-schedule.ensures.starts (rw tracks at c.new-schedule.ensures.left) time in
-          begins file tree m c.new-schedule.result w (with_items w.planning c.peek_each.new.walks).items w.copying.items w.behind.items (with_items w.nexts c.peek_each.new.nexts).items (g.K.Sink.contents c.args.sink.now) (g.K.Sink.contents c.carry.new.sink) (waiting c.carry.new.self) o ready first
+          let first = is_first c.args.self.now.leaving file tree m c.new-schedule.result c.first_time.result o (rw tracks at c.new-schedule.ensures.tracks) (rw tracks at c.new-schedule.ensures.first) c.new-schedule.ensures.starts (rw tracks at c.new-schedule.ensures.left) time in
+          begins c.args.self.now.leaving file tree m c.new-schedule.result w (with_items w.planning c.peek_each.new.walks).items w.copying.items w.behind.items (with_items w.nexts c.peek_each.new.nexts).items (g.K.Sink.contents c.args.sink.now) (g.K.Sink.contents c.carry.new.sink) (waiting c.carry.new.self) o ready refl first
           (rw walks shown.1) ready.copying ready.behind (nexts ∙ shown.0) (rw c.as_slice.ensures.value at c.in_ok-carry.ensures.bytes);
       within = λ told tree o n k plan copy.
           let on = e.work told tree o n (rw c.as_mut_slice-walks.ensures.value plan) in
@@ -87,7 +87,7 @@ returns-in_err-noted-clause-prefix g c told tree o ready =
     let h = i.on told tree o ready in
     let before = g.K.Sink.contents c.args.sink.now in
     let after = g.K.Sink.contents c.loop-turn.sink in
-    rw e.1 (stopped file tree m s c.loop-turn.sequence w.planning.items w.copying.items w.behind.items w.nexts.items (length w.rows.items) before after (waiting w.carrier) h)
+    rw e.1 (stopped c.args.self.now.leaving file tree m s c.loop-turn.sequence w.planning.items w.copying.items w.behind.items w.nexts.items (length w.rows.items) before after (waiting w.carrier) h)
 
 pub returns-in_err-noted-clause-unchanged : goal.returns-in_err-noted-clause-unchanged
 returns-in_err-noted-clause-unchanged g c told tree o ready =
@@ -102,7 +102,7 @@ returns-in_err-noted-clause-unchanged g c told tree o ready =
     let after = g.K.Sink.contents c.loop-turn.sink in
     let here = c.in-Some.ensures.track in
     let ends : (info : TrackInfo) → slice_get m.tracks s.track ≡ Some info → c.in-Some.turn.end ≡ turn_end s info.timescale = λ info is. c.in-Some.ensures.end info (rw c.tracks-tracks.ensures is) in
-    rw (e.1, e.2) (note_lacks file tree m o s c.loop-turn.sequence w before after h c.in-Some.turn here ends i.tracks i.writer _ ((rw (i.honesty, i.file) at c.in_err-noted.ensures.unchanged) told tree o))
+    rw (e.1, e.2) (note_lacks c.args.self.now.leaving file tree m o s c.loop-turn.sequence w before after h c.in-Some.turn here ends i.tracks i.writer _ ((rw (i.honesty, i.file) at c.in_err-noted.ensures.unchanged) told tree o))
 
 pub returns-in_err-carry_turn-clause-prefix : goal.returns-in_err-carry_turn-clause-prefix
 returns-in_err-carry_turn-clause-prefix g c told tree o ready =
@@ -122,8 +122,8 @@ returns-in_err-carry_turn-clause-prefix g c told tree o ready =
     let is_id : (info : TrackInfo) → slice_get m.tracks s.track ≡ Some info
     → (get_or c.tracks-tracks.result.now c.in-Some.turn.track c.index-tracks-turn.result).id
     ≡ info.id = λ info is. ap (λ (x : TrackInfo). x.id) (sym c.index-tracks-turn.is ∙ read_at m.tracks s.track info c.index-tracks-turn.result is (rw (here.0, c.tracks-tracks.ensures) at c.index-tracks-turn.is)) in
-    rw e.1 (carry_stops file tree m o s c.loop-turn.sequence w before after h c.in-Some.turn here ends i.tracks i.writer c.note_turn.new.self c.in_ok-noted.noted (get_or c.tracks-tracks.result.now c.in-Some.turn.track c.index-tracks-turn.result).id noted c.in_ok-noted.ensures.keeps few is_id
-    (g.K.Sink.contents c.carry_turn.new.sink) ((rw (c.in_ok-noted.ensures.honesty, c.in_ok-noted.ensures.file, i.honesty, i.file) at c.in_err-carry_turn.ensures.prefix) told tree o))
+    rw e.1 (carry_stops c.args.self.now.leaving file tree m o s c.loop-turn.sequence w before after h c.in-Some.turn here ends i.tracks i.writer c.note_turn.new.self c.in_ok-noted.noted (get_or c.tracks-tracks.result.now c.in-Some.turn.track c.index-tracks-turn.result).id noted c.in_ok-noted.ensures.keeps few is_id
+    (g.K.Sink.contents c.carry_turn.new.sink) ((rw (c.in_ok-noted.ensures.honesty, c.in_ok-noted.ensures.file, i.honesty, i.file) at c.in_err-carry_turn.ensures.prefix) told tree o c.args.self.now.leaving))
 
 pub returns-in_err-carry_turn-clause-unchanged : goal.returns-in_err-carry_turn-clause-unchanged
 returns-in_err-carry_turn-clause-unchanged g c told tree o ready =
@@ -144,8 +144,8 @@ returns-in_err-carry_turn-clause-unchanged g c told tree o ready =
     → (get_or c.tracks-tracks.result.now c.in-Some.turn.track c.index-tracks-turn.result).id
     ≡ info.id = λ info is. ap (λ (x : TrackInfo). x.id) (sym c.index-tracks-turn.is ∙ read_at m.tracks s.track info c.index-tracks-turn.result is (rw (here.0, c.tracks-tracks.ensures) at c.index-tracks-turn.is)) in
     rw (e.1, e.2)
-    (carry_lacks file tree m o s c.loop-turn.sequence w before after h c.in-Some.turn here ends i.tracks i.writer c.note_turn.new.self c.in_ok-noted.noted (get_or c.tracks-tracks.result.now c.in-Some.turn.track c.index-tracks-turn.result).id noted c.in_ok-noted.ensures.keeps few is_id _
-    ((rw (c.in_ok-noted.ensures.honesty, c.in_ok-noted.ensures.file, i.honesty, i.file) at c.in_err-carry_turn.ensures.unchanged) told tree o))
+    (carry_lacks c.args.self.now.leaving file tree m o s c.loop-turn.sequence w before after h c.in-Some.turn here ends i.tracks i.writer c.note_turn.new.self c.in_ok-noted.noted (get_or c.tracks-tracks.result.now c.in-Some.turn.track c.index-tracks-turn.result).id noted c.in_ok-noted.ensures.keeps few is_id _
+    ((rw (c.in_ok-noted.ensures.honesty, c.in_ok-noted.ensures.file, i.honesty, i.file) at c.in_err-carry_turn.ensures.unchanged) told tree o c.args.self.now.leaving))
 
 pub returns-in_err-pass-clause-prefix : goal.returns-in_err-pass-clause-prefix
 returns-in_err-pass-clause-prefix g c told tree o ready =
@@ -165,11 +165,11 @@ returns-in_err-pass-clause-prefix g c told tree o ready =
     let is_id : (info : TrackInfo) → slice_get m.tracks s.track ≡ Some info
     → (get_or c.tracks-tracks.result.now c.in-Some.turn.track c.index-tracks-turn.result).id
     ≡ info.id = λ info is. ap (λ (x : TrackInfo). x.id) (sym c.index-tracks-turn.is ∙ read_at m.tracks s.track info c.index-tracks-turn.result is (rw (here.0, c.tracks-tracks.ensures) at c.index-tracks-turn.is)) in
-    let put = (rw (c.in_ok-noted.ensures.honesty, c.in_ok-noted.ensures.file, i.honesty, i.file) at c.in_ok-carry_turn.ensures.put) told tree o in
-    let copied = (rw (c.in_ok-noted.ensures.honesty, c.in_ok-noted.ensures.file, i.honesty, i.file) at c.in_ok-carry_turn.ensures.copied) told tree o in
-    let on = turn_goes file tree m o s c.loop-turn.sequence w before after h c.in-Some.turn here ends i.tracks i.writer c.note_turn.new.self c.in_ok-noted.noted
+    let put = (rw (c.in_ok-noted.ensures.honesty, c.in_ok-noted.ensures.file, i.honesty, i.file) at c.in_ok-carry_turn.ensures.put) told tree o c.args.self.now.leaving in
+    let copied = (rw (c.in_ok-noted.ensures.honesty, c.in_ok-noted.ensures.file, i.honesty, i.file) at c.in_ok-carry_turn.ensures.copied) told tree o c.args.self.now.leaving in
+    let on = turn_goes c.args.self.now.leaving file tree m o s c.loop-turn.sequence w before after h c.in-Some.turn here ends i.tracks i.writer c.note_turn.new.self c.in_ok-noted.noted
     (get_or c.tracks-tracks.result.now c.in-Some.turn.track c.index-tracks-turn.result).id noted c.in_ok-noted.ensures.keeps few is_id c.carry_turn.new.self (g.K.Sink.contents c.carry_turn.new.sink) _ put copied c.in_ok-carry_turn.ensures.keeps refl in
-    rw e.1 (stopped file tree m _ _ _ _ _ _ _ _ _ _ on)
+    rw e.1 (stopped c.args.self.now.leaving file tree m _ _ _ _ _ _ _ _ _ _ on)
 
 pub returns-in_err-pass-clause-unchanged : goal.returns-in_err-pass-clause-unchanged
 returns-in_err-pass-clause-unchanged g c told tree o ready =
@@ -190,7 +190,7 @@ returns-in_err-pass-clause-unchanged g c told tree o ready =
     → (get_or c.tracks-tracks.result.now c.in-Some.turn.track c.index-tracks-turn.result).id
     ≡ info.id = λ info is. ap (λ (x : TrackInfo). x.id) (sym c.index-tracks-turn.is ∙ read_at m.tracks s.track info c.index-tracks-turn.result is (rw (here.0, c.tracks-tracks.ensures) at c.index-tracks-turn.is)) in
     rw (e.1, e.2)
-    (λ r. pass_lacks file tree m o s c.loop-turn.sequence w before after h c.in-Some.turn here ends i.tracks i.writer c.note_turn.new.self c.in_ok-noted.noted
+    (λ r. pass_lacks c.args.self.now.leaving file tree m o s c.loop-turn.sequence w before after h c.in-Some.turn here ends i.tracks i.writer c.note_turn.new.self c.in_ok-noted.noted
     (get_or c.tracks-tracks.result.now c.in-Some.turn.track c.index-tracks-turn.result).id noted c.in_ok-noted.ensures.keeps few is_id c.in_err-pass.ensures.refusal.1)
 
 pub loop-turn-preserved : goal.loop-turn-preserved
@@ -220,10 +220,10 @@ loop-turn-preserved g c =
           let is_id : (info : TrackInfo) → slice_get m.tracks s.track ≡ Some info
           → (get_or c.tracks-tracks.result.now c.in-Some.turn.track c.index-tracks-turn.result).id
           ≡ info.id = λ info is. ap (λ (x : TrackInfo). x.id) (sym c.index-tracks-turn.is ∙ read_at m.tracks s.track info c.index-tracks-turn.result is (rw (here.0, c.tracks-tracks.ensures) at c.index-tracks-turn.is)) in
-          let put = (rw (c.in_ok-noted.ensures.honesty, c.in_ok-noted.ensures.file, i.honesty, i.file) at c.in_ok-carry_turn.ensures.put) told tree o in
-          let copied = (rw (c.in_ok-noted.ensures.honesty, c.in_ok-noted.ensures.file, i.honesty, i.file) at c.in_ok-carry_turn.ensures.copied) told tree o in
+          let put = (rw (c.in_ok-noted.ensures.honesty, c.in_ok-noted.ensures.file, i.honesty, i.file) at c.in_ok-carry_turn.ensures.put) told tree o c.args.self.now.leaving in
+          let copied = (rw (c.in_ok-noted.ensures.honesty, c.in_ok-noted.ensures.file, i.honesty, i.file) at c.in_ok-carry_turn.ensures.copied) told tree o c.args.self.now.leaving in
           rw c.sequence_behind-sequence.ensures
-          (turn_goes file tree m o s c.loop-turn.sequence w before after h c.in-Some.turn here ends i.tracks i.writer c.note_turn.new.self c.in_ok-noted.noted
+          (turn_goes c.args.self.now.leaving file tree m o s c.loop-turn.sequence w before after h c.in-Some.turn here ends i.tracks i.writer c.note_turn.new.self c.in_ok-noted.noted
           (get_or c.tracks-tracks.result.now c.in-Some.turn.track c.index-tracks-turn.result).id noted c.in_ok-noted.ensures.keeps few is_id c.carry_turn.new.self (g.K.Sink.contents c.carry_turn.new.sink) c.pass.new.self put copied c.in_ok-carry_turn.ensures.keeps c.in_ok-pass.ensures.turned);
       within = λ told tree o n k plan copy.
           turn_within (g.S.Store.file c.args.store.now) tree n k _ _ c.loop-turn.self (i.within told tree o n k plan copy) c.note_turn.new.self _ ((rw (i.honesty, i.file) at c.in_ok-noted.ensures.work) told tree o) c.in_ok-noted.ensures.keeps.0 c.carry_turn.new.self _
@@ -241,7 +241,7 @@ returns-clause-bytes g c told tree o ready =
     let before = g.K.Sink.contents c.args.sink.now in
     let after = g.K.Sink.contents c.loop-turn.sink in
     let none = turns_end file m.tracks s h.lefts h.comings h.turn (c.in_default.ensures.none refl) in
-    on_ok _ _ c.flush.result (λ x. all_put file tree m s c.loop-turn.sequence w.planning.items w.copying.items w.behind.items w.nexts.items (length w.rows.items) before after (waiting w.carrier) h _ none x) c.flush.ensures.bytes
+    on_ok _ _ c.flush.result (λ x. all_put c.args.self.now.leaving file tree m s c.loop-turn.sequence w.planning.items w.copying.items w.behind.items w.nexts.items (length w.rows.items) before after (waiting w.carrier) h _ none x) c.flush.ensures.bytes
 
 pub returns-clause-prefix : goal.returns-clause-prefix
 returns-clause-prefix g c told tree o ready =
@@ -254,7 +254,7 @@ returns-clause-prefix g c told tree o ready =
     let before = g.K.Sink.contents c.args.sink.now in
     let after = g.K.Sink.contents c.loop-turn.sink in
     let none = turns_end file m.tracks s h.lefts h.comings h.turn (c.in_default.ensures.none refl) in
-    on_err _ _ c.flush.result (λ x. not_all_put file tree m s c.loop-turn.sequence w.planning.items w.copying.items w.behind.items w.nexts.items (length w.rows.items) before after (waiting w.carrier) h _ none x) c.flush.ensures.prefix
+    on_err _ _ c.flush.result (λ x. not_all_put c.args.self.now.leaving file tree m s c.loop-turn.sequence w.planning.items w.copying.items w.behind.items w.nexts.items (length w.rows.items) before after (waiting w.carrier) h _ none x) c.flush.ensures.prefix
 
 pub returns-clause-unchanged : goal.returns-clause-unchanged
 returns-clause-unchanged g c told tree o ready =

@@ -22,7 +22,7 @@ invariant-loop-turn g l = record {
   rows : length l.self.rows.items ≡ length l.fn.self.rows.items;
   on : WhereOpened (g.S.Store.is_honest l.fn.store) (g.S.Store.file l.fn.store) l.movie
       (λ tree. IsReady (g.S.Store.file l.fn.store) tree l.movie l.fn.self
-      → WritesOn (g.S.Store.file l.fn.store) tree l.movie l.schedule l.sequence l.self.planning.items l.self.copying.items l.self.behind.items l.self.nexts.items (length l.self.rows.items) (g.K.Sink.contents l.fn.sink) (g.K.Sink.contents l.sink) (waiting l.self.carrier));
+      → WritesOn l.fn.self.leaving (g.S.Store.file l.fn.store) tree l.movie l.schedule l.sequence l.self.planning.items l.self.copying.items l.self.behind.items l.self.nexts.items (length l.self.rows.items) (g.K.Sink.contents l.fn.sink) (g.K.Sink.contents l.sink) (waiting l.self.carrier));
   within : WhereOpened (g.S.Store.is_honest l.fn.store) (g.S.Store.file l.fn.store) l.movie
       (λ tree. (n c : ℕ) → MayAllTake (g.S.Store.file l.fn.store) tree tree.movie.tracks l.fn.self.planning.items n → MayAllTake (g.S.Store.file l.fn.store) tree tree.movie.tracks l.fn.self.copying.items c
       → BothTakeOn (g.S.Store.file l.fn.store) tree n c l.self.planning.items l.self.copying.items l.fn.steps l.steps);

@@ -1,6 +1,6 @@
 use Rattle.std.proofs.Common.{◌++◌, sym, ◌∙◌}
 use Rattle.mp4_plan.proofs.ComeBehind.{all_zeros}
-use Rattle.mp4_plan.proofs.writer.Writer.new.Goals as goal
+use Rattle.mp4_plan.proofs.writer.Writer.reduced.Goals as goal
 
 pub returns-clause-ready : goal.returns-clause-ready
 returns-clause-ready g c told tree o =
@@ -9,8 +9,8 @@ returns-clause-ready g c told tree o =
     record {
       head = (λ i. c.in_ok-new.ensures.empty i ++ c.in_ok-head_of.field-0.items) ∙ c.in_ok-head_of.ensures.head file tree o;
       rows = sym c.in_ok-vec.field-0.ok.0 ∙ c.in_ok-vec.ensures.len ∙ (c.in_ok-plan.ensures.plan told tree o).longest;
-      planning = c.in_ok-walks_of.ensures.begin file tree o;
-      copying = c.in_ok-walks_of-2.ensures.begin file tree o;
+      planning = c.in_ok-walks_of.ensures.begin file tree o c.args.leaving;
+      copying = c.in_ok-walks_of-2.ensures.begin file tree o c.args.leaving;
       behind = all_zeros _ _ zeros;
     }
 

@@ -1,0 +1,182 @@
+-- What is left of two presentations is the same exactly where they agree.
+use Rattle.std.proofs.Common.{◌≡◌, ℕ, ◌*◌, ◌/◌, ◌%◌, ◌^◌, Bool, true, false, if◌then◌else◌, List, [], ◌∷◌, refl, ap, arith}
+use Rattle.std.specs.Prelude.{map, filter}
+use Rattle.std.specs.List.{AllZip}
+use Rattle.mp4_head.specs.format.Head.{Media, TrackHead, MovieHead}
+use Rattle.mp4_present.specs.format.Presentation.{Sample, Track, Presentation}
+use Rattle.mp4_present.specs.format.Reduced.{sync_flag, reduce_sample, reduce_media, reduce_track_head, reduce_movie_head, reduce_track, reduce}
+use Rattle.mp4_present.specs.declared.leaving.Leaving.{Leaving}
+use Rattle.mp4_plan.specs.format.Agreeing.{is_other, SamplesAgree, MediaAgree, TrackHeadsAgree, MovieHeadsAgree, TracksAgree, Agree, ReduceIsExact}
+
+-- what stays is the same, where it stays
+stays : {A : Type 0} (b : Bool) (g : A → A) (x y : A) → (if b then g x else x) ≡ (if b then g y else y) → b ≡ false → x ≡ y
+stays true g x y e f = absurd cc
+stays false g x y e f = e
+
+-- what is left of it is
+less : {A : Type 0} (b : Bool) (g : A → A) (x y : A) → (if b then g x else x) ≡ (if b then g y else y) → g x ≡ g y
+less true g x y e = e
+less false g x y e = ap g e
+
+same_less : {A : Type 0} (b : Bool) (g : A → A) (x y : A) → (b ≡ false → x ≡ y) → g x ≡ g y → (if b then g x else x) ≡ (if b then g y else y)
+same_less true g x y e h = h
+same_less false g x y e h = e refl
+
+first_same : {A : Type 0} (x y : A) (xs ys : List A) → x ∷ xs ≡ y ∷ ys → x ≡ y
+first_same x y xs ys e = cc
+
+rest_same : {A : Type 0} (x y : A) (xs ys : List A) → x ∷ xs ≡ y ∷ ys → xs ≡ ys
+rest_same x y xs ys e = cc
+
+zip_to : {A : Type 0} (R : A → A → Type 0) (f : A → A) → ((x y : A) → f x ≡ f y → R x y) → (xs ys : List A) → map f xs ≡ map f ys → AllZip R xs ys
+zip_to R f one [] [] e = tt
+zip_to R f one [] (y ∷ ys) e = absurd cc
+zip_to R f one (x ∷ xs) [] e = absurd cc
+zip_to R f one (x ∷ xs) (y ∷ ys) e = (one x y (first_same (f x) (f y) (map f xs) (map f ys) e), zip_to R f one xs ys (rest_same (f x) (f y) (map f xs) (map f ys) e))
+
+zip_from : {A : Type 0} (R : A → A → Type 0) (f : A → A) → ((x y : A) → R x y → f x ≡ f y) → (xs ys : List A) → AllZip R xs ys → map f xs ≡ map f ys
+zip_from R f one [] [] h = refl
+zip_from R f one [] (y ∷ ys) h = absurd h
+zip_from R f one (x ∷ xs) [] h = absurd h
+zip_from R f one (x ∷ xs) (y ∷ ys) h = λ i. one x y h.0 i ∷ zip_from R f one xs ys h.1 i
+
+sync_to : (m n : ℕ) → sync_flag m ≡ sync_flag n → m / 2 ^ 16 % 2 ≡ n / 2 ^ 16 % 2
+sync_to m n e = omega (arith, e)
+
+sync_from : (m n : ℕ) → m / 2 ^ 16 % 2 ≡ n / 2 ^ 16 % 2 → sync_flag m ≡ sync_flag n
+sync_from m n e = ap (λ k. k * 2 ^ 16) e
+
+module _ (l : Leaving) where
+  sample_to : (a b : Sample) → reduce_sample l a ≡ reduce_sample l b → SamplesAgree l a b
+  sample_to a b e = record {
+    duration = ap (λ (x : Sample). x.duration) e;
+    offset = ap (λ (x : Sample). x.offset) e;
+    description = ap (λ (x : Sample). x.description) e;
+    bytes = ap (λ (x : Sample). x.bytes) e;
+    sync = sync_to a.flags b.flags (less l.flags sync_flag a.flags b.flags (ap (λ (x : Sample). x.flags) e));
+    flags = stays l.flags (sync_flag) a.flags b.flags (ap (λ (x : Sample). x.flags) e);
+    groups = stays l.groups (λ xs. []) a.groups b.groups (ap (λ (x : Sample). x.groups) e);
+  }
+
+  sample_from : (a b : Sample) → SamplesAgree l a b → reduce_sample l a ≡ reduce_sample l b
+  sample_from a b h = λ i. record {
+    duration = h.duration i;
+    offset = h.offset i;
+    description = h.description i;
+    bytes = h.bytes i;
+    flags = same_less l.flags sync_flag a.flags b.flags h.flags (sync_from a.flags b.flags h.sync) i;
+    groups = same_less l.groups (λ xs. []) a.groups b.groups h.groups refl i;
+  }
+
+  media_to : (a b : Media) → reduce_media l a ≡ reduce_media l b → MediaAgree l a b
+  media_to a b e = record {
+    timescale = ap (λ (x : Media). x.timescale) e;
+    language = ap (λ (x : Media). x.language) e;
+    handler = ap (λ (x : Media). x.handler) e;
+    extended_languages = ap (λ (x : Media). x.extended_languages) e;
+    header = ap (λ (x : Media). x.header) e;
+    descriptions = ap (λ (x : Media). x.descriptions) e;
+    creation = stays l.times (λ n. 0) a.creation b.creation (ap (λ (x : Media). x.creation) e);
+    modification = stays l.times (λ n. 0) a.modification b.modification (ap (λ (x : Media). x.modification) e);
+  }
+
+  media_from : (a b : Media) → MediaAgree l a b → reduce_media l a ≡ reduce_media l b
+  media_from a b h = λ i. record {
+    timescale = h.timescale i;
+    language = h.language i;
+    handler = h.handler i;
+    extended_languages = h.extended_languages i;
+    header = h.header i;
+    descriptions = h.descriptions i;
+    creation = same_less l.times (λ n. 0) a.creation b.creation h.creation refl i;
+    modification = same_less l.times (λ n. 0) a.modification b.modification h.modification refl i;
+  }
+
+  track_head_to : (a b : TrackHead) → reduce_track_head l a ≡ reduce_track_head l b → TrackHeadsAgree l a b
+  track_head_to a b e = record {
+    flags = ap (λ (x : TrackHead). x.flags) e;
+    id = ap (λ (x : TrackHead). x.id) e;
+    layer = ap (λ (x : TrackHead). x.layer) e;
+    alternate_group = ap (λ (x : TrackHead). x.alternate_group) e;
+    volume = ap (λ (x : TrackHead). x.volume) e;
+    matrix = ap (λ (x : TrackHead). x.matrix) e;
+    width = ap (λ (x : TrackHead). x.width) e;
+    height = ap (λ (x : TrackHead). x.height) e;
+    creation = stays l.times (λ n. 0) a.creation b.creation (ap (λ (x : TrackHead). x.creation) e);
+    modification = stays l.times (λ n. 0) a.modification b.modification (ap (λ (x : TrackHead). x.modification) e);
+    edits = stays l.edits (λ xs. []) a.edits b.edits (ap (λ (x : TrackHead). x.edits) e);
+    kept = stays l.metadata (filter is_other) a.kept b.kept (ap (λ (x : TrackHead). x.kept) e);
+    other_kept = less l.metadata (filter is_other) a.kept b.kept (ap (λ (x : TrackHead). x.kept) e);
+    media = media_to a.media b.media (ap (λ (x : TrackHead). x.media) e);
+    group_descriptions = stays l.groups (λ xs. []) a.group_descriptions b.group_descriptions (ap (λ (x : TrackHead). x.group_descriptions) e);
+  }
+
+  track_head_from : (a b : TrackHead) → TrackHeadsAgree l a b → reduce_track_head l a ≡ reduce_track_head l b
+  track_head_from a b h = λ i. record {
+    flags = h.flags i;
+    id = h.id i;
+    layer = h.layer i;
+    alternate_group = h.alternate_group i;
+    volume = h.volume i;
+    matrix = h.matrix i;
+    width = h.width i;
+    height = h.height i;
+    creation = same_less l.times (λ n. 0) a.creation b.creation h.creation refl i;
+    modification = same_less l.times (λ n. 0) a.modification b.modification h.modification refl i;
+    edits = same_less l.edits (λ xs. []) a.edits b.edits h.edits refl i;
+    kept = same_less l.metadata (filter is_other) a.kept b.kept h.kept h.other_kept i;
+    media = media_from a.media b.media h.media i;
+    group_descriptions = same_less l.groups (λ xs. []) a.group_descriptions b.group_descriptions h.group_descriptions refl i;
+  }
+
+  movie_head_to : (a b : MovieHead) → reduce_movie_head l a ≡ reduce_movie_head l b → MovieHeadsAgree l a b
+  movie_head_to a b e = record {
+    timescale = ap (λ (x : MovieHead). x.timescale) e;
+    rate = ap (λ (x : MovieHead). x.rate) e;
+    volume = ap (λ (x : MovieHead). x.volume) e;
+    matrix = ap (λ (x : MovieHead). x.matrix) e;
+    creation = stays l.times (λ n. 0) a.creation b.creation (ap (λ (x : MovieHead). x.creation) e);
+    modification = stays l.times (λ n. 0) a.modification b.modification (ap (λ (x : MovieHead). x.modification) e);
+    kept = stays l.metadata (filter is_other) a.kept b.kept (ap (λ (x : MovieHead). x.kept) e);
+    other_kept = less l.metadata (filter is_other) a.kept b.kept (ap (λ (x : MovieHead). x.kept) e);
+  }
+
+  movie_head_from : (a b : MovieHead) → MovieHeadsAgree l a b → reduce_movie_head l a ≡ reduce_movie_head l b
+  movie_head_from a b h = λ i. record {
+    timescale = h.timescale i;
+    rate = h.rate i;
+    volume = h.volume i;
+    matrix = h.matrix i;
+    creation = same_less l.times (λ n. 0) a.creation b.creation h.creation refl i;
+    modification = same_less l.times (λ n. 0) a.modification b.modification h.modification refl i;
+    kept = same_less l.metadata (filter is_other) a.kept b.kept h.kept h.other_kept i;
+  }
+
+  track_to : (a b : Track) → reduce_track l a ≡ reduce_track l b → TracksAgree l a b
+  track_to a b e = record {
+    start = ap (λ (x : Track). x.start) e;
+    head = track_head_to a.head b.head (ap (λ (x : Track). x.head) e);
+    samples = zip_to (SamplesAgree l) (reduce_sample l) sample_to a.samples b.samples (ap (λ (x : Track). x.samples) e);
+  }
+
+  track_from : (a b : Track) → TracksAgree l a b → reduce_track l a ≡ reduce_track l b
+  track_from a b h = λ i. record {
+    start = h.start i;
+    head = track_head_from a.head b.head h.head i;
+    samples = zip_from (SamplesAgree l) (reduce_sample l) sample_from a.samples b.samples h.samples i;
+  }
+
+  all_to : (a b : Presentation) → reduce l a ≡ reduce l b → Agree l a b
+  all_to a b e = record {
+    movie = movie_head_to a.movie b.movie (ap (λ (x : Presentation). x.movie) e);
+    tracks = zip_to (TracksAgree l) (reduce_track l) track_to a.tracks b.tracks (ap (λ (x : Presentation). x.tracks) e);
+  }
+
+  all_from : (a b : Presentation) → Agree l a b → reduce l a ≡ reduce l b
+  all_from a b h = λ i. record {
+    movie = movie_head_from a.movie b.movie h.movie i;
+    tracks = zip_from (TracksAgree l) (reduce_track l) track_from a.tracks b.tracks h.tracks i;
+  }
+
+pub reduce_is_exact : ReduceIsExact
+reduce_is_exact l p q = (all_to l p q, all_from l p q)

@@ -1,0 +1,116 @@
+-- The head of what is left of an opened file.
+use Rattle.std.proofs.Common.{◌≡◌, ℕ, zero, suc, ◌+◌, ◌-◌, ◌^◌, ◌<◌, ◌≤◌, max, min, Bool, true, false, List, [], ◌∷◌, length, map, refl, sym, ap, subst, ◌∙◌, arith, length-append}
+use Rattle.std.specs.Prelude.{filter, fold, not, slice_index_or, slice_set, ⊤}
+use Rattle.std.specs.List.{AllByRecursion}
+use Rattle.mp4_boxes.specs.format.Children.{is_among}
+use Rattle.mp4_head.specs.words.Found.{SaysHead}
+use Rattle.mp4_head.specs.format.Head as heads
+use Rattle.mp4_head.specs.format.Tree.{TrackTree}
+use Rattle.mp4_head.specs.words.Seen.{kept_seen, movie_seen, track_seen, tracks_seen}
+use Rattle.mp4_head.specs.format.Writing.{ftyp_bytes, moov_bytes, head_bytes}
+use Rattle.mp4_head.specs.declared.heads.MovieHead.{MovieHead}
+use Rattle.mp4_head.specs.declared.heads.TrackHead.{TrackHead}
+use Rattle.mp4_head.specs.declared.kept_boxes.Kept.{Kept}
+use Rattle.mp4_head.proofs.Distinct.{map_twice}
+use Rattle.mp4_head.proofs.ReadAgain.{said_of}
+use Rattle.mp4_present.specs.format.Denotes.{FileTree, file_parts, track_of, presentation_of}
+use Rattle.mp4_present.specs.words.Movies.{MovieSeen, moov_box}
+use Rattle.mp4_present.specs.words.OpenedMovie.{IsOpenedAs}
+use Rattle.mp4_present.specs.format.Presentation.{heads as heads_of}
+use Rattle.mp4_present.specs.format.Presentation.{Track, Presentation, movie_length, track_length, normal_moov_length}
+use Rattle.mp4_present.specs.format.Reduced.{metadata_kinds, reduce, reduce_track, reduce_track_head, reduce_movie_head}
+use Rattle.mp4_present.specs.declared.leaving.Leaving.{Leaving}
+use Rattle.mp4_head.specs.words.Parts.{capped}
+use Rattle.mp4_plan.specs.format.Normal.{normal, pieces_bytes}
+use Rattle.mp4_plan.specs.format.Pieces.{pieces}
+use Rattle.mp4_plan.specs.words.Writers.{IsHeadOf, IsPlanOf, head_of_normal}
+use Rattle.mp4_plan.specs.declared.writer.Plan.{Plan}
+use Rattle.mp4_plan.proofs.HeadAgain.{both_long}
+use Rattle.mp4_plan.proofs.ReducedValid.{shorter_moov, same_track_length}
+
+one_less : (k : Kept) (kept : List Kept) (b : Bool) → not (is_among metadata_kinds k.kind.0) ≡ b
+    → map kept_seen (filter (λ (x : Kept). not (is_among metadata_kinds x.kind.0)) kept) ≡ filter (λ (x : heads.Kept). not (is_among metadata_kinds x.kind)) (map kept_seen kept)
+    → map kept_seen (filter (λ (x : Kept). not (is_among metadata_kinds x.kind.0)) (k ∷ kept)) ≡ filter (λ (x : heads.Kept). not (is_among metadata_kinds x.kind)) (map kept_seen (k ∷ kept))
+one_less k kept true e h = rw e (ap (λ xs. kept_seen k ∷ xs) h)
+one_less k kept false e h = rw e h
+
+-- what is left of kept boxes is what is left of them as they are seen
+pub kept_less : (kept : List Kept) → map kept_seen (filter (λ (k : Kept). not (is_among metadata_kinds k.kind.0)) kept) ≡ filter (λ (k : heads.Kept). not (is_among metadata_kinds k.kind)) (map kept_seen kept)
+kept_less [] = refl
+kept_less (k ∷ kept) = one_less k kept (not (is_among metadata_kinds k.kind.0)) refl (kept_less kept)
+
+-- ---- how long the movie is
+
+module _ (l : Leaving) (stay : l.edits ≡ false) where
+  longest_same : (timescale most : ℕ) (tracks : List Track) → fold (λ n (t : Track). max n (track_length timescale t)) most (map (reduce_track l) tracks) ≡ fold (λ n (t : Track). max n (track_length timescale t)) most tracks
+  longest_same timescale most [] = refl
+  longest_same timescale most (t ∷ tracks) =
+      ap (λ n. fold (λ n (t : Track). max n (track_length timescale t)) (max most n) (map (reduce_track l) tracks)) (same_track_length l timescale t stay)
+      ∙ longest_same timescale (max most (track_length timescale t)) tracks
+
+  pub same_length : (p : Presentation) → movie_length (reduce l p) ≡ movie_length p
+  same_length p = longest_same p.movie.timescale 0 p.tracks
+
+  -- the head that is read anew, and then reduced, is that of the normal form, and short
+  pub head_left : (file : List ℕ) (m : MovieSeen) (tree : FileTree) (head left : MovieHead) → IsOpenedAs file m tree → SaysHead (moov_box m) head → movie_seen left ≡ reduce_movie_head l (movie_seen head) → tracks_seen left ≡ map (reduce_track_head l) (tracks_seen head)
+      → IsHeadOf (reduce l (presentation_of file tree)) left m.mehd
+  head_left file m tree head left o says movie_is tracks_are =
+      let p = presentation_of file tree in
+      let said = (said_of (moov_box m) head tree.movie says (sym o.moov) o.is_tree.movie).0 in
+      let tracks : tracks_seen head ≡ map (λ (u : Track). u.head) p.tracks = ap (λ (h : heads.Head). h.tracks) said ∙ sym (map_twice (track_of file (file_parts tree)) (λ (u : Track). u.head) tree.movie.tracks) in
+      let movie = movie_is ∙ ap (λ (h : heads.Head). reduce_movie_head l h.movie) said in
+      let all : tracks_seen left ≡ heads_of (reduce l p) = tracks_are ∙ ap (map (reduce_track_head l)) tracks ∙ map_twice (λ (u : Track). u.head) (reduce_track_head l) p.tracks ∙ sym (map_twice (reduce_track l) (λ (u : Track). u.head) p.tracks) in
+      let same = o.mehd ∙ sym (same_length p) in
+      let ftyp : length ftyp_bytes ≡ 24 = refl in
+      let fits : normal_moov_length p ≤ 2 ^ 30 = o.limits.moov in
+      let less = shorter_moov l p refl (nine_all file tree tree.movie.tracks) in
+      let both = length-append ftyp_bytes (moov_bytes (reduce l p).movie (heads_of (reduce l p)) (movie_length (reduce l p))) in
+      record { bytes = λ i. head_bytes (movie i) (all i) (same i); short = omega (arith, ftyp, fits, less, both) }
+    where
+      nine_all : (file : List ℕ) (tree : FileTree) (trees : List TrackTree) → AllByRecursion (λ (t : Track). length t.head.matrix ≡ 9) (map (track_of file (file_parts tree)) trees)
+      nine_all file tree [] = tt
+      nine_all file tree (t ∷ trees) = (refl, nine_all file tree trees)
+
+-- ---- one track more
+
+-- those before a place are reduced, and the others are as they were
+abbrev pub ReducedTo : Leaving → List TrackHead → List TrackHead → ℕ → Type 0
+ReducedTo l [] [] k = ⊤
+ReducedTo l (x ∷ old) (y ∷ now) zero = y ∷ now ≡ x ∷ old
+ReducedTo l (x ∷ old) (y ∷ now) (suc k) = (track_seen y ≡ reduce_track_head l (track_seen x)) × ReducedTo l old now k
+ReducedTo l _ _ k = ⊥
+
+pub reduced_none : (l : Leaving) (old now : List TrackHead) → now ≡ old → ReducedTo l old now 0
+reduced_none l [] [] e = tt
+reduced_none l [] (y ∷ now) e = absurd cc
+reduced_none l (x ∷ old) [] e = absurd cc
+reduced_none l (x ∷ old) (y ∷ now) e = e
+
+one_reduced : (l : Leaving) (old now : List TrackHead) (k : ℕ) (was is d : TrackHead) → ReducedTo l old now k → k < length now → was ≡ slice_index_or now k d → track_seen is ≡ reduce_track_head l (track_seen was) → ReducedTo l old (slice_set now k is) (suc k)
+one_reduced l [] [] k was is d h lt at e = absurd (omega (arith, lt))
+one_reduced l [] (y ∷ now) k was is d h lt at e = absurd h
+one_reduced l (x ∷ old) [] k was is d h lt at e = absurd (omega (arith, lt))
+one_reduced l (x ∷ old) (y ∷ now) zero was is d h lt at e =
+    let first : y ≡ x = cc in
+    let rest : now ≡ old = cc in
+    (e ∙ ap (λ (t : TrackHead). reduce_track_head l (track_seen t)) (at ∙ first), reduced_none l old now rest)
+one_reduced l (x ∷ old) (y ∷ now) (suc k) was is d h lt at e = (h.0, one_reduced l old now k was is d h.1 (omega (arith, lt)) at e)
+
+pub reduced_one : (l : Leaving) (old now : List TrackHead) (k : ℕ) (was is d : TrackHead) → ReducedTo l old now k → k < length now → was ≡ slice_index_or now k d → track_seen is ≡ reduce_track_head l (track_seen was) → ReducedTo l old (slice_set now k is) (k + 1)
+reduced_one l old now k was is d h lt at e = let n : suc k ≡ k + 1 = omega arith in subst (λ i. ReducedTo l old (slice_set now k is) i) n (one_reduced l old now k was is d h lt at e)
+
+pub reduced_all : (l : Leaving) (old now : List TrackHead) (k : ℕ) → ReducedTo l old now k → length now ≤ k → map track_seen now ≡ map (reduce_track_head l) (map track_seen old)
+reduced_all l [] [] k h le = refl
+reduced_all l [] (y ∷ now) k h le = absurd h
+reduced_all l (x ∷ old) [] k h le = absurd h
+reduced_all l (x ∷ old) (y ∷ now) zero h le = absurd (omega (arith, le))
+reduced_all l (x ∷ old) (y ∷ now) (suc k) h le = λ i. h.0 i ∷ reduced_all l old now k h.1 (omega (arith, le)) i
+
+-- ---- how long the normal form is
+
+pub less_long : (p : Presentation) (head : MovieHead) (mehd : ℕ) (plan : Plan) (n short total : ℕ) → IsHeadOf p head mehd → IsPlanOf p plan → n ≡ capped (length (head_bytes (movie_seen head) (tracks_seen head) mehd))
+    → short ≡ min n (2 ^ 30 + 24) → total ≡ min (plan.len + short) (2 ^ 64 - 1) → total ≡ length (normal p)
+less_long p head mehd plan n short total h is count cut sum =
+    let same = ap (λ (bs : List ℕ). length bs) h.bytes in
+    let few = h.short in
+    both_long (head_of_normal p) (pieces_bytes 1 (pieces p)) n short plan.len total (omega (arith, same, few, count)) (omega (arith, same, few, count)) cut is.len is.within sum

@@ -1,0 +1,21 @@
+-- The normal form of what is left.
+use Rattle.std.proofs.Common.{ap, ◌∙◌}
+use Rattle.mp4_present.proofs.One.{denotes_one}
+use Rattle.mp4_plan.specs.format.Normal.{normal}
+use Rattle.mp4_present.specs.format.Reduced.{reduce}
+use Rattle.mp4_plan.specs.format.ReducedLaws.{ReducedNormalDenotes, ReducedNormalIsFixed, ReducedNormalIsExact}
+use Rattle.mp4_plan.proofs.FromTwo.{exact_from}
+use Rattle.mp4_plan.proofs.NormalDenotes.{normal_denotes}
+use Rattle.mp4_plan.proofs.Reducing.{reduce_is_fixed}
+use Rattle.mp4_plan.proofs.ReducedValid.{reduced_is_valid}
+
+pub reduced_normal_denotes : ReducedNormalDenotes
+reduced_normal_denotes l p v in_time = normal_denotes (reduce l p) ((reduced_is_valid l p v).1 in_time)
+
+pub reduced_normal_is_fixed : ReducedNormalIsFixed
+reduced_normal_is_fixed l p q v in_time d =
+    let same = denotes_one (normal (reduce l p)) q (reduce l p) d (reduced_normal_denotes l p v in_time) in
+    (ap (λ r. normal (reduce l r)) same ∙ ap normal (reduce_is_fixed l p), ap normal same)
+
+pub reduced_normal_is_exact : ReducedNormalIsExact
+reduced_normal_is_exact l p q vp tp vq tq = exact_from normal_denotes (reduce l p) (reduce l q) ((reduced_is_valid l p vp).1 tp) ((reduced_is_valid l q vq).1 tq)

@@ -1,0 +1,75 @@
+-- Laws of what is left of presentations (`reduce`), and of its normal form.
+use Rattle.std.specs.Prelude.{◌≡◌, ◌↔◌, ◌||◌, true, false}
+use Rattle.mp4_present.specs.format.Presentation.{Presentation, Valid}
+use Rattle.mp4_present.specs.format.Denotes.{Denotes}
+use Rattle.mp4_present.specs.format.Reduced.{reduce, ReducesInTime}
+use Rattle.mp4_present.specs.declared.leaving.Leaving.{Leaving}
+use Rattle.mp4_plan.specs.format.Normal.{normal}
+
+-- nothing is left out
+abbrev pub nothing : Leaving
+nothing = record {
+  times = false;
+  edits = false;
+  flags = false;
+  groups = false;
+  metadata = false;
+}
+
+-- what one of the two leaves out
+abbrev pub both : Leaving → Leaving → Leaving
+both l m = record {
+  times = l.times || m.times;
+  edits = l.edits || m.edits;
+  flags = l.flags || m.flags;
+  groups = l.groups || m.groups;
+  metadata = l.metadata || m.metadata;
+}
+
+-- Where nothing is left out, all stays.
+abbrev pub NothingReduces : Type 0
+NothingReduces = (p : Presentation) → reduce nothing p ≡ p
+
+-- Twice is once, by the words of both.
+abbrev pub ReducesOnce : Type 0
+ReducesOnce = (l m : Leaving) (p : Presentation) → reduce l (reduce m p) ≡ reduce (both l m) p
+
+-- The order of two words doesn't matter.
+abbrev pub ReducesInAnyOrder : Type 0
+ReducesInAnyOrder = (l m : Leaving) (p : Presentation)
+    → reduce l (reduce m p) ≡ reduce m (reduce l p)
+
+-- Twice by the same words is once.
+abbrev pub ReduceIsFixed : Type 0
+ReduceIsFixed = (l : Leaving) (p : Presentation) → reduce l (reduce l p) ≡ reduce l p
+
+-- What is left of what is valid is valid exactly if its tracks are not too long.
+abbrev pub ReducedIsValid : Type 0
+ReducedIsValid = (l : Leaving) (p : Presentation) → Valid p → Valid (reduce l p) ↔ ReducesInTime l p
+
+-- Where edits stay they are not.
+abbrev pub ReducedStaysValid : Type 0
+ReducedStaysValid = (l : Leaving) (p : Presentation) → Valid p → l.edits ≡ false
+    → ReducesInTime l p × Valid (reduce l p)
+
+-- Without its edits what is valid may be too long, whatever else is left out.
+abbrev pub EditsMayHoldTime : Type 0
+EditsMayHoldTime = (l : Leaving) → l.edits ≡ true
+    → (p : Presentation) × Valid p × (Valid (reduce l p) → ⊥)
+
+-- The normal form of what is left denotes it.
+abbrev pub ReducedNormalDenotes : Type 0
+ReducedNormalDenotes = (l : Leaving) (p : Presentation) → Valid p → ReducesInTime l p
+    → Denotes (normal (reduce l p)) (reduce l p)
+
+-- To normalise it once more gives the same bytes, by the same words or by none.
+abbrev pub ReducedNormalIsFixed : Type 0
+ReducedNormalIsFixed = (l : Leaving) (p q : Presentation) → Valid p → ReducesInTime l p
+    → Denotes (normal (reduce l p)) q
+    → (normal (reduce l q) ≡ normal (reduce l p)) × (normal q ≡ normal (reduce l p))
+
+-- Such normal forms are equal exactly if what is left is.
+abbrev pub ReducedNormalIsExact : Type 0
+ReducedNormalIsExact = (l : Leaving) (p q : Presentation) → Valid p → ReducesInTime l p
+    → Valid q → ReducesInTime l q
+    → (normal (reduce l p) ≡ normal (reduce l q)) ↔ (reduce l p ≡ reduce l q)

@@ -1,0 +1,58 @@
+//! Samples of which something doesn't count.
+ghost use Rattle.std.specs.Prelude.{◌≡◌};
+ghost use Rattle.mp4_plan.specs.words.ComingLess.{reduce_at};
+
+use mp4_present::Leaving;
+use mp4_tables::{SampleAt, Samples};
+
+/// What is left of a sample: of its flags the bit sample_is_non_sync_sample (8.8.3.1) where flags
+/// are left out, and index 0 at each key where groups are.
+#[inline(always)]
+pub(crate) fn reduced_sample(leaving: Leaving, sample: SampleAt) -> SampleAt
+    ensures { result ≡ reduce_at leaving sample }
+{
+    let mut left = sample;
+    if leaving.flags {
+        left.flags = sample.flags / 0x1_0000 % 2 * 0x1_0000;
+    }
+    if leaving.groups {
+        left.groups = [0; 4];
+    }
+    left
+}
+
+/// What is left of the samples still to come.
+#[derive(Drop)]
+pub(crate) struct Reduced<C> {
+    pub(crate) inner: C,
+    pub(crate) leaving: Leaving,
+}
+
+impl<C: Samples> Samples for Reduced<C> {
+    ghost use Rattle.std.specs.Prelude.{◌≡◌};
+    ghost use Rattle.std.proofs.Common.{◌∙◌, refl};
+    ghost use Rattle.mp4_plan.specs.words.ComingLess.{less};
+
+    ghost rest = { λ s. less s.leaving (C.rest s.inner) };
+
+    ghost follows = { λ s t. C.follows s.inner t.inner × (t.leaving ≡ s.leaving) };
+
+    #[inline(always)]
+    fn peek(&self) -> Option<SampleAt> {
+        let sample = self.inner.peek()?;
+        Some(reduced_sample(self.leaving, sample))
+    }
+
+    #[inline(always)]
+    fn next(&mut self) -> Option<SampleAt> {
+        let sample = self.inner.next()?;
+        Some(reduced_sample(self.leaving, sample))
+    }
+
+    ghost follows_itself = { λ s. (C.follows_itself s.inner, refl) };
+
+    ghost follows_on = { λ s t u p q. (
+      C.follows_on s.inner t.inner u.inner p.0 q.0,
+      q.1 ∙ p.1,
+    ) };
+}

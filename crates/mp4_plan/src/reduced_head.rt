@@ -1,0 +1,77 @@
+//! What is left of the head of a movie.
+ghost use Rattle.std.specs.Prelude.{◌≡◌, map};
+ghost use Rattle.mp4_boxes.specs.format.Children.{is_among};
+ghost use Rattle.mp4_head.specs.words.Seen.{kept_seen, media_seen, movie_seen, track_seen, tracks_seen};
+ghost use Rattle.mp4_present.specs.format.Reduced.{metadata_kinds, reduce_kept, reduce_media, reduce_movie_head, reduce_track_head};
+
+use mp4_boxes::FourCc;
+use mp4_head::{Kept, Media, MovieHead, TrackHead};
+use mp4_present::Leaving;
+
+// Whether a kept box of this type is metadata.
+fn is_metadata(kind: FourCc) -> bool
+    ensures { result ≡ is_among metadata_kinds kind.0 }
+{
+    kind == FourCc(*b"udta") || kind == FourCc(*b"meta") || kind == FourCc(*b"iods")
+}
+
+// Kept boxes without those that are metadata, where these are left out.
+fn reduce_kept(kept: &mut Vec<Kept>, leaving: Leaving)
+    ensures { map kept_seen kept.new.items ≡ reduce_kept leaving (map kept_seen kept.old.items) }
+{
+    if leaving.metadata {
+        kept.retain(|k| !is_metadata(k.kind));
+    }
+}
+
+// Media without their times, where these are left out.
+fn reduce_media(media: &mut Media, leaving: Leaving)
+    ensures { media_seen media.new ≡ reduce_media leaving (media_seen media.old) }
+{
+    if leaving.times {
+        media.creation = 0;
+        media.modification = 0;
+    }
+}
+
+// What is left of the head of a track.
+fn reduce_track(track: &mut TrackHead, leaving: Leaving)
+    ensures { track_seen track.new ≡ reduce_track_head leaving (track_seen track.old) }
+{
+    if leaving.times {
+        track.creation = 0;
+        track.modification = 0;
+    }
+    if leaving.edits {
+        track.edits.clear();
+    }
+    if leaving.groups {
+        track.group_descriptions.clear();
+    }
+    reduce_kept(&mut track.kept, leaving);
+    reduce_media(&mut track.media, leaving);
+}
+
+// What is left of the heads of tracks.
+fn reduce_tracks(tracks: &mut Vec<TrackHead>, leaving: Leaving)
+    ensures { map track_seen tracks.new.items
+        ≡ map (reduce_track_head leaving) (map track_seen tracks.old.items) }
+{
+    for k in 0..tracks.len() {
+        reduce_track(&mut tracks[k], leaving);
+    }
+}
+
+/// What is left of the head of a movie; it takes no memory.
+pub(crate) fn reduce_head(head: &mut MovieHead, leaving: Leaving)
+    ensures movie { movie_seen head.new ≡ reduce_movie_head leaving (movie_seen head.old) }
+    ensures tracks { tracks_seen head.new
+        ≡ map (reduce_track_head leaving) (tracks_seen head.old) }
+{
+    if leaving.times {
+        head.creation = 0;
+        head.modification = 0;
+    }
+    reduce_kept(&mut head.kept, leaving);
+    reduce_tracks(&mut head.tracks, leaving);
+}

@@ -1,0 +1,59 @@
+//! Laws of what is left of presentations, and of its normal form.
+
+ghost use Rattle.mp4_plan.specs.format.Agreeing.{ReduceIsExact};
+ghost use Rattle.mp4_plan.specs.format.ReducedLaws.{EditsMayHoldTime, NothingReduces, ReduceIsFixed, ReducedIsValid, ReducedNormalDenotes, ReducedNormalIsExact, ReducedNormalIsFixed, ReducedStaysValid, ReducesInAnyOrder, ReducesOnce};
+
+/// Leaving out nothing changes nothing.
+pub fn nothing_reduces()
+    ensures { NothingReduces }
+{}
+
+/// To reduce twice is to reduce once, by the words of both.
+pub fn reduces_once()
+    ensures { ReducesOnce }
+{}
+
+/// The order in which two words are left out doesn't matter.
+pub fn reduces_in_any_order()
+    ensures { ReducesInAnyOrder }
+{}
+
+/// To reduce twice by the same words is to reduce once.
+pub fn reduce_is_fixed()
+    ensures { ReduceIsFixed }
+{}
+
+/// What is left of two presentations is the same exactly where they agree, field by field.
+pub fn reduce_is_exact()
+    ensures { ReduceIsExact }
+{}
+
+/// What is left of what is valid is valid exactly if its tracks are not too long.
+pub fn reduced_is_valid()
+    ensures { ReducedIsValid }
+{}
+
+/// What is left of what is valid is valid, and not too long, where edits stay.
+pub fn reduced_stays_valid()
+    ensures { ReducedStaysValid }
+{}
+
+/// Without its edits what is valid may be too long, whatever else is left out.
+pub fn edits_may_hold_time()
+    ensures { EditsMayHoldTime }
+{}
+
+/// The normal form of what is left denotes it, where its tracks are not too long.
+pub fn reduced_normal_denotes()
+    ensures { ReducedNormalDenotes }
+{}
+
+/// To normalise the result once more gives the same bytes, by the same words or by none.
+pub fn reduced_normal_is_fixed()
+    ensures { ReducedNormalIsFixed }
+{}
+
+/// Normal forms of what is left are equal exactly if what is left is.
+pub fn reduced_normal_is_exact()
+    ensures { ReducedNormalIsExact }
+{}
