@@ -21,3 +21,4 @@ pub mod StripLaws
 pub mod Stripped
 pub mod HeadersUnder
 pub mod BoxSpans
+pub mod ReducedNormalised

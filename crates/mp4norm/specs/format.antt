@@ -7,3 +7,4 @@ pub mod Ways
 pub mod Strips
 pub mod StripLaws
 pub mod BoxWalk
+pub mod ReducedHeadline

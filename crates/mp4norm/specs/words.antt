@@ -4,4 +4,5 @@ pub mod ShowValue
 pub mod Commands
 pub mod MainJob
 pub mod Sources
+pub mod ReducedJob
 pub mod Jobs

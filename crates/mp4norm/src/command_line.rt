@@ -3,9 +3,11 @@ ghost use Rattle.std.specs.Prelude.{◌≡◌, ◌≤◌, [], IfOk, IfSome, Ok};
 ghost use Rattle.mp4norm.specs.words.Actions.{IsJob, IsAction, boxes_of_input};
 
 use crate::drop_lists::names_of;
+use crate::leaving_words::leaving_of;
 use crate::wanted::{Action, CommandFault, Form, Input, Job, Target};
 use clap::error::ErrorKind;
 use clap::{Arg, ArgAction, ArgMatches, Command, Error, value_parser};
+use mp4_present::Leaving;
 use std::alloc::{AllocError, Global};
 
 /// The program's version, and the number of the normal form.
@@ -43,6 +45,12 @@ For more information, try '--help'.
 const DROP_RULE: &str = "\
 each type is four printable characters or eight hexadecimal digits, and not free; \
 before a slash only a container whose boxes are listed may stand
+
+For more information, try '--help'.
+";
+
+const KEPT_RULE: &str = "\
+each word is times, flags, groups or metadata; edits stay in a normal form
 
 For more information, try '--help'.
 ";
@@ -187,7 +195,17 @@ fn normalise_command<'a>(alloc: Global) -> Result<Command<'a>, AllocError> {
         "Writes the normal form of a file",
         "Example: mp4norm normalise movie.mp4 --out normal.mp4",
     )?;
+    let help = "What to leave out, words apart by commas: times, flags, groups, metadata";
+    let command = with_arg(command, without_arg(alloc, help))?;
     with_out(command, alloc)
+}
+
+fn without_arg<'a>(alloc: Global, help: &'a str) -> Arg<'a> {
+    Arg::new(alloc, "without")
+        .long("without")
+        .value_name("WORDS")
+        .help(help)
+        .action(ArgAction::Set)
 }
 
 fn drop_arg<'a>(alloc: Global) -> Arg<'a> {
@@ -372,6 +390,44 @@ fn strip_asked<'a>(alloc: Global, found: &ArgMatches<'a>) -> Result<Action<'a>, 
     })
 }
 
+// What is wrong with a list of what to leave out.
+fn without_fault(alloc: Global, list: &str, rule: &str) -> CommandFault {
+    match format!(in alloc; "error: invalid value '{list}' for '--without <WORDS>': {rule}") {
+        Ok(text) => CommandFault::Usage(text),
+        Err(_) => CommandFault::Memory,
+    }
+}
+
+// What is left out of the normal form.
+fn reduced_job(alloc: Global, list: &str) -> Result<Job<'static>, CommandFault>
+    ensures { IfOk result IsJob }
+{
+    match leaving_of(list) {
+        Some(leaving) if !leaving.edits => Ok(Job::Reduce { leaving }),
+        _ => Err(without_fault(alloc, list, KEPT_RULE)),
+    }
+}
+
+// Which file's normal form is asked for, and what is left out of it.
+fn reduced_asked<'a>(
+    alloc: Global,
+    found: &ArgMatches<'a>,
+    list: &str,
+) -> Result<Action<'a>, CommandFault>
+    ensures { IfOk result IsAction }
+{
+    let Some(file) = found.get_str("file") else {
+        // clap has seen that no word is missing.
+        return Err(CommandFault::Usage(String::new(alloc)));
+    };
+    Ok(Action::Run {
+        job: reduced_job(alloc, list)?,
+        input: input_of(file),
+        target: target_of(found),
+        explain: found.get_flag("explain"),
+    })
+}
+
 // How often standard input is named.
 fn inputs_in(found: &ArgMatches) -> usize {
     let files = found.get_strs("file").unwrap_or(&[]);
@@ -416,6 +472,11 @@ fn of_matches<'a>(alloc: Global, matches: &ArgMatches<'a>) -> Result<Action<'a>,
     }
     if let Some(found) = matches.subcommand_matches("strip") {
         return strip_asked(alloc, found);
+    }
+    if let Some(found) = matches.subcommand_matches("normalise") {
+        if let Some(list) = found.get_str("without") {
+            return reduced_asked(alloc, found, list);
+        }
     }
     match asked(matches) {
         Some(action) => Ok(action),

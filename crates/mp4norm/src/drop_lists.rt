@@ -42,8 +42,8 @@ fn type_of(word: &[u8]) -> Option<FourCc> {
     ]))
 }
 
-// What stands before the first such byte, and what stands behind it, if it is there.
-fn cut(word: &[u8], at: u8) -> (&[u8], Option<&[u8]>)
+/// What stands before the first such byte, and what stands behind it, if it is there.
+pub(crate) fn cut(word: &[u8], at: u8) -> (&[u8], Option<&[u8]>)
     ensures { IfSome result.1 (λ rest. length rest.now < length word.now) }
 {
     for k in 0..word.len() {

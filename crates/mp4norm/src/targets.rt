@@ -55,7 +55,11 @@ pub(crate) fn make(rt: &HostRuntime, name: &str, trouble: &mut Trouble) -> Resul
 fn answers_for_all(job: Job) -> bool {
     match job {
         Job::Boxes | Job::Show => false,
-        Job::Samples { .. } | Job::Extract { .. } | Job::Normalise | Job::Strip { .. } => true,
+        Job::Samples { .. }
+        | Job::Extract { .. }
+        | Job::Normalise
+        | Job::Reduce { .. }
+        | Job::Strip { .. } => true,
     }
 }
 

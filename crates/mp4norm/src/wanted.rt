@@ -1,5 +1,6 @@
 //! What the words behind the program's name can ask for.
 use crate::named::Name;
+use mp4_present::Leaving;
 use std::alloc::AllocError;
 
 /// How the samples of a track are listed: a line each, the same behind the names of the columns, or
@@ -19,6 +20,8 @@ pub enum Job<'a> {
     Samples { track: u32, form: Form },
     Extract { track: u32 },
     Normalise,
+    /// The normal form of what is left; edit lists stay.
+    Reduce { leaving: Leaving },
     Strip { names: &'a [Name] },
 }
 

@@ -5,7 +5,9 @@ use Rattle.mp4_boxes.specs.declared.refusal.Refusal.{Refusal}
 use Rattle.mp4norm.specs.format.BoxWalk.{RefusesBoxes}
 use Rattle.mp4norm.specs.words.Commands.{ShowsLine, ListsSamples, HasData, RefusesShow, RefusesTrack}
 use Rattle.mp4norm.specs.format.Headline.{HasNormalForm}
+use Rattle.mp4norm.specs.format.ReducedHeadline.{HasReducedForm, with_edits}
 use Rattle.mp4norm.specs.words.MainJob.{RefusesNormalise}
+use Rattle.mp4norm.specs.words.ReducedJob.{RefusesReduced}
 use Rattle.mp4norm.specs.format.Steps.{WorksWithin, LooksWithin}
 use Rattle.mp4norm.specs.format.Strips.{IsStripped, RefusesStrip}
 use Rattle.mp4norm.specs.format.Texts.{BoxLines}
@@ -19,6 +21,7 @@ IsTextOf jobs.Show file text = ShowsLine file text
 IsTextOf (jobs.Samples track form) file text = ListsSamples file track form text
 IsTextOf (jobs.Extract track) file text = HasData file track text
 IsTextOf jobs.Normalise file text = HasNormalForm file text
+IsTextOf (jobs.Reduce l) file text = HasReducedForm (with_edits l) file text
 IsTextOf (jobs.Strip names) file text = IsStripped names.now file text
 
 -- why it is not put, or not all of it
@@ -36,6 +39,8 @@ RefusesJob (jobs.Extract track) honest file before after reads reads_after puts 
     before after reads reads_after puts puts_after r
 RefusesJob jobs.Normalise honest file before after reads reads_after puts puts_after r =
     RefusesNormalise honest file before after reads reads_after puts puts_after r
+RefusesJob (jobs.Reduce l) honest file before after reads reads_after puts puts_after r =
+    RefusesReduced (with_edits l) honest file before after reads reads_after puts puts_after r
 RefusesJob (jobs.Strip names) honest file before after reads reads_after puts puts_after r =
     RefusesStrip names.now honest file before after reads reads_after puts puts_after r
 
@@ -46,4 +51,5 @@ JobWorksWithin jobs.Show file old new = LooksWithin file old new
 JobWorksWithin (jobs.Samples track form) file old new = LooksWithin file old new
 JobWorksWithin (jobs.Extract track) file old new = LooksWithin file old new
 JobWorksWithin jobs.Normalise file old new = WorksWithin file old new
+JobWorksWithin (jobs.Reduce l) file old new = WorksWithin file old new
 JobWorksWithin (jobs.Strip names) file old new = Unit {0}

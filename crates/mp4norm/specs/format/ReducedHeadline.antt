@@ -1,0 +1,15 @@
+-- The normal form of what is left of a file, where some of what it says is left out.
+use Rattle.std.specs.Prelude.{◌≡◌, ℕ, List, false}
+use Rattle.mp4_present.specs.format.Presentation.{Presentation}
+use Rattle.mp4_present.specs.format.Denotes.{Denotes}
+use Rattle.mp4_present.specs.format.Reduced.{reduce}
+use Rattle.mp4_present.specs.declared.leaving.Leaving.{Leaving}
+use Rattle.mp4_plan.specs.format.Normal.{normal}
+
+-- the file denotes a presentation, and these bytes are the normal form of what is left of it
+abbrev pub HasReducedForm : Leaving → List ℕ → List ℕ → Type 0
+HasReducedForm l file bytes = (p : Presentation) × Denotes file p × (bytes ≡ normal (reduce l p))
+
+-- edit lists stay, whatever is left out beside them
+abbrev pub with_edits : Leaving → Leaving
+with_edits l = record l { edits = false }

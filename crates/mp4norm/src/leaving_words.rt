@@ -1,0 +1,35 @@
+//! What the words behind `--without` leave out.
+use crate::drop_lists::cut;
+use mp4_present::Leaving;
+
+/// The words, in the order in which they are told of.
+pub(crate) const WORDS: [&str; 5] = ["times", "edits", "flags", "groups", "metadata"];
+
+// Leaves out what a word says; false where it says nothing.
+fn leave_out(leaving: &mut Leaving, word: &[u8]) -> bool {
+    match word {
+        b"times" => leaving.times = true,
+        b"edits" => leaving.edits = true,
+        b"flags" => leaving.flags = true,
+        b"groups" => leaving.groups = true,
+        b"metadata" => leaving.metadata = true,
+        _ => return false,
+    }
+    true
+}
+
+/// What a list of words that are apart by commas leaves out; none where a word is not known.
+pub(crate) fn leaving_of(list: &str) -> Option<Leaving> {
+    let mut leaving = Leaving::NOTHING;
+    let mut left = list.as_bytes();
+    loop {
+        let (word, rest) = cut(left, b',');
+        if !leave_out(&mut leaving, word) {
+            return None;
+        }
+        match rest {
+            Some(rest) => left = rest,
+            None => return Some(leaving),
+        }
+    }
+}
