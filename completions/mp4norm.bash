@@ -5,29 +5,30 @@ _mp4norm() {
     COMPREPLY=()
     for word in "${COMP_WORDS[@]:1:COMP_CWORD-1}"; do
         case $word in
-        normalise | show | samples | extract | boxes | strip | check | help)
+        normalise | show | samples | extract | boxes | strip | compare | check | help)
             command=$word
             break
             ;;
         esac
     done
     case $previous in
-    --track | --drop)
+    --track | --drop | --without | --limit)
         compopt +o default 2>/dev/null
         return
         ;;
     --out | --names-from) return ;;
     esac
     case $command in
-    '') words='normalise show samples extract boxes strip check help --help --version' ;;
-    normalise) words='--out --replace --explain --help' ;;
+    '') words='normalise show samples extract boxes strip compare check help --help --version' ;;
+    normalise) words='--out --without --replace --explain --help' ;;
     show) words='--explain --help' ;;
     samples) words='--track --header --json --explain --help' ;;
     extract) words='--track --out --replace --explain --help' ;;
     boxes) words='--explain --help' ;;
     strip) words='--drop --out --replace --explain --help' ;;
+    compare) words='--without --all --limit --help' ;;
     check) words='--names-from --zero --help' ;;
-    help) words='normalise show samples extract boxes strip check' ;;
+    help) words='normalise show samples extract boxes strip compare check' ;;
     esac
     # Behind a command that reads a file, words without a dash are files: bash completes them by itself.
     if [[ -z $command || $command = help || $current = -* ]]; then

@@ -1,6 +1,9 @@
 """The normal form of what a file denotes, by its description."""
 from .boxes import KEPT, Box, full, i32, u16, u32, u64
 
+# Kept boxes that are metadata: `--without metadata` leaves them out.
+METADATA = ('udta', 'meta', 'iods')
+
 
 def spelled(boxes):
     return b''.join(box.spelled() for box in boxes)
@@ -9,6 +12,12 @@ def spelled(boxes):
 def kept(boxes):
     """Boxes with the type and the content of these."""
     return [Box(box.kind, bytes(box.payload())) for box in boxes]
+
+
+def kept_in(container, place, left):
+    """The kept boxes of a container, but those that are left out."""
+    kinds = [kind for kind in KEPT[place] if 'metadata' not in left or kind not in METADATA]
+    return kept(container.all(*kinds))
 
 
 def normal_form(movie):
@@ -20,8 +29,10 @@ def file_type():
     return Box('ftyp', b'iso6' + u32(0) + b'iso6mp41')
 
 
-def times_of(box):
+def times_of(box, left):
     """Creation and modification, each in eight bytes."""
+    if 'times' in left:
+        return bytes(16)
     width = 8 if box.version() else 4
     return u64(box.number(4, width)) + u64(box.number(4 + width, width))
 
@@ -31,13 +42,13 @@ def movie_header(movie):
     largest = max([track.id for track in movie.tracks], default=0)
     behind = box.inner + (32 if box.version() else 20)
     rate_and_volume, matrix = box.data[behind:behind + 6], box.data[behind + 16:behind + 52]
-    fields = full(1) + times_of(box) + u32(movie.timescale) + u64(0)
+    fields = full(1) + times_of(box, movie.left) + u32(movie.timescale) + u64(0)
     fields += rate_and_volume + bytes(10) + matrix + bytes(24)
     return Box('mvhd', fields + u32(min(largest + 1, 2**32 - 1)))
 
 
 def movie_box(movie):
-    boxes = [movie_header(movie)] + kept(movie.moov.all(*KEPT['moov']))
+    boxes = [movie_header(movie)] + kept_in(movie.moov, 'moov', movie.left)
     boxes += [track_box(track) for track in movie.tracks]
     extends = [Box('mehd', full(1) + u64(movie.length()))]
     for track in movie.tracks:
@@ -49,7 +60,7 @@ def track_header(track):
     box = track.header
     behind = box.inner + (36 if track.long_times else 24)
     numbers, rest = box.data[behind + 8:behind + 14], box.data[behind + 16:behind + 60]
-    fields = full(1, box.flags()) + times_of(box) + u32(track.id) + bytes(4 + 8 + 8)
+    fields = full(1, box.flags()) + times_of(box, track.left) + u32(track.id) + bytes(4 + 8 + 8)
     return Box('tkhd', fields + numbers + bytes(2) + rest)
 
 
@@ -64,14 +75,14 @@ def edits(track):
 
 def track_box(track):
     boxes = [track_header(track)] + edits(track)
-    boxes += kept(track.trak.all(*KEPT['moov/trak']))
+    boxes += kept_in(track.trak, 'moov/trak', track.left)
     return Box('trak', b'', boxes + [media_box(track)])
 
 
 def media_box(track):
     box = track.media.one('mdhd')
     behind = box.inner + (32 if box.version() else 20)
-    fields = full(1) + times_of(box) + u32(track.timescale) + u64(0)
+    fields = full(1) + times_of(box, track.left) + u32(track.timescale) + u64(0)
     boxes = [Box('mdhd', fields + box.data[behind:behind + 2] + bytes(2))]
     boxes += kept(track.media.all('hdlr')) + kept(track.media.all('elng'))
     header = track.information.all('vmhd', 'smhd', 'hmhd', 'nmhd', 'sthd', 'gmhd')
@@ -85,7 +96,8 @@ def sample_table(track):
     boxes = [Box('stsd', full(0) + u32(len(descriptions)), descriptions)]
     boxes += [Box('stts', bytes(8)), Box('stsc', bytes(8)), Box('stsz', bytes(12))]
     boxes.append(Box('stco', bytes(8)))
-    return Box('stbl', b'', boxes + kept(track.tables.all('sgpd')))
+    groups = [] if 'groups' in track.left else kept(track.tables.all('sgpd'))
+    return Box('stbl', b'', boxes + groups)
 
 
 def with_times(track):

@@ -85,6 +85,8 @@ class Track:
         self.edits = edits_of(trak)
         self.samples = plain_samples(self.tables)
         self.start = 0
+        # What is left out of it: words of `--without`.
+        self.left = frozenset()
 
     def duration(self):
         return sum(sample.duration for sample in self.samples)
@@ -106,16 +108,38 @@ class Movie:
         self.header = self.moov.one('mvhd')
         self.timescale = self.header.number(20 if self.header.version() else 12)
         self.tracks = [Track(trak) for trak in self.moov.all('trak')]
+        self.left = frozenset()
         extends = self.moov.one('mvex')
         self.defaults = {}
         for trex in extends.all('trex') if extends else []:
             self.defaults[trex.number(4)] = [trex.number(at) for at in (8, 12, 16, 20)]
-        for moof in top:
-            if moof.kind == 'moof':
-                read_fragment(moof, self)
+        self.fragments = [box for box in top if box.kind == 'moof']
+        for moof in self.fragments:
+            read_fragment(moof, self)
 
     def length(self):
         return max([track.length(self.timescale) for track in self.tracks], default=0)
+
+    def leave_out(self, words):
+        """Leaves out what these words of `--without` name."""
+        self.left = frozenset(words)
+        for track in self.tracks:
+            track.left = self.left
+            if 'edits' in words:
+                track.edits = []
+            for sample in track.samples:
+                if 'flags' in words:
+                    sample.flags &= 1 << 16
+                if 'groups' in words:
+                    sample.groups = {}
+        return self
+
+    def keys(self, track):
+        """The grouping keys of a track, in the order in which the file first names them."""
+        trafs = [traf for moof in self.fragments for traf in moof.all('traf')]
+        own = [traf for traf in trafs if traf.one('tfhd').number(4) == track.id]
+        boxes = [box for place in [track.tables] + own for box in place.all('sbgp')]
+        return list(dict.fromkeys(map(key_of, boxes)))
 
     def bytes_of(self, sample):
         return bytes(self.data[sample.place:sample.place + sample.size])
@@ -204,16 +228,20 @@ def plain_samples(tables):
 def group(container, samples):
     """Gives samples the indexes that the `sbgp` of an `stbl` or a `traf` say."""
     for box in container.all('sbgp'):
-        has_parameter = box.version() == 1
-        kind = bytes(box.data[box.inner + 4:box.inner + 8])
-        key = (kind, box.number(8) if has_parameter else None)
-        at = 12 if has_parameter else 8
+        key = key_of(box)
+        at = 8 if key[1] is None else 12
         first = 0
         for count, index in box.rows(at + 4, box.number(at), 4, 4):
             for sample in samples[first:first + count]:
                 if index:
                     sample.groups[key] = index
             first += count
+
+
+def key_of(box):
+    """The grouping key of an `sbgp`: its type, and its parameter in version 1."""
+    kind = bytes(box.data[box.inner + 4:box.inner + 8])
+    return kind, box.number(8) if box.version() == 1 else None
 
 
 def optional(box, flags, at, *bits):

@@ -47,7 +47,8 @@ module _ (leaving : Leaving) (file : List ℕ) (tree : FileTree) (m : MovieSeen)
   come_with (u ∷ trees) (w ∷ walks) (l ∷ lefts) zero t walk left h is c = let same : t ≡ u = cc in (subst (λ (v : TrackTree). ComesLess leaving file tree v m walk left) same c, h.1)
   come_with (u ∷ trees) (w ∷ walks) (l ∷ lefts) (suc k) t walk left h is c = (h.0, come_with trees walks lefts k t walk left h.1 is c)
 
-  more_behind : (trees : List TrackTree) (walks : List Walk) (lefts : TrackTree → List SampleAt) (k : ℕ) (t : TrackTree) (walk : Walk) → AllCome leaving file tree m (take k trees) walks (map lefts (take k trees)) → length walks ≡ k → slice_get trees k ≡ Some t → ComesLess leaving file tree t m walk (lefts t)
+  more_behind : (trees : List TrackTree) (walks : List Walk) (lefts : TrackTree → List SampleAt) (k : ℕ) (t : TrackTree) (walk : Walk) → AllCome leaving file tree m (take k trees) walks (map lefts (take k trees)) → length walks ≡ k → slice_get trees k ≡ Some t
+      → ComesLess leaving file tree t m walk (lefts t)
       → AllCome leaving file tree m (take (suc k) trees) (walks ++ walk ∷ []) (map lefts (take (suc k) trees))
   more_behind [] walks lefts zero t walk h n is c = absurd cc
   more_behind [] walks lefts (suc k) t walk h n is c = absurd cc
@@ -57,7 +58,8 @@ module _ (leaving : Leaving) (file : List ℕ) (tree : FileTree) (m : MovieSeen)
   more_behind (u ∷ trees) (w ∷ walks) lefts (suc k) t walk h n is c = (h.0, more_behind trees walks lefts k t walk h.1 (omega (arith, n)) is c)
 
   -- one more behind the others
-  pub come_more : (trees : List TrackTree) (walks : List Walk) (lefts : TrackTree → List SampleAt) (k : ℕ) (t : TrackTree) (walk : Walk) → AllCome leaving file tree m (take k trees) walks (map lefts (take k trees)) → length walks ≡ k → slice_get trees k ≡ Some t → ComesLess leaving file tree t m walk (lefts t)
+  pub come_more : (trees : List TrackTree) (walks : List Walk) (lefts : TrackTree → List SampleAt) (k : ℕ) (t : TrackTree) (walk : Walk) → AllCome leaving file tree m (take k trees) walks (map lefts (take k trees)) → length walks ≡ k → slice_get trees k ≡ Some t
+      → ComesLess leaving file tree t m walk (lefts t)
       → AllCome leaving file tree m (take (k + 1) trees) (walks ++ walk ∷ []) (map lefts (take (k + 1) trees))
   come_more trees walks lefts k t walk h n is c =
       let next : suc k ≡ k + 1 = omega arith in

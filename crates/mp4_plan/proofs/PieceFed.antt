@@ -102,7 +102,8 @@ pub raw_coming : (file : List ℕ) (m : MovieSeen) (tree : FileTree) (t : TrackT
 raw_coming file m tree t w now place rest k later is_later is =
     subst (λ (w' : Walk). Comes file tree t m w' (left_in_hand later ++ samples_behind tree t k.0 k.1)) (sym is) (k.0, k.1, later, (kept_before file tree t k.0 k.1 w place k.3.0, is_later, refl))
 
-pub fed_coming : (leaving : Leaving) (file : List ℕ) (m : MovieSeen) (tree : FileTree) (t : TrackTree) (w now : Walk) (place : Place) (rest : List SampleAt) (k : ComesLess leaving file tree t m w rest) (later : InHand) → InHandOf m (record w { place = place }) later → now ≡ record w { place = place }
+pub fed_coming : (leaving : Leaving) (file : List ℕ) (m : MovieSeen) (tree : FileTree) (t : TrackTree) (w now : Walk) (place : Place) (rest : List SampleAt) (k : ComesLess leaving file tree t m w rest) (later : InHand) → InHandOf m (record w { place = place }) later
+    → now ≡ record w { place = place }
     → ComesLess leaving file tree t m now (less leaving (left_in_hand later) ++ less leaving (samples_behind tree t k.comes.0 k.comes.1))
 fed_coming leaving file m tree t w now place rest k later is_later is = record {
   samples = left_in_hand later ++ samples_behind tree t k.comes.0 k.comes.1;

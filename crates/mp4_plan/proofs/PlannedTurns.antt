@@ -170,7 +170,8 @@ planning_first leaving file tree m s walks nexts from o come shown time tracks f
       fits = omega (arith, few);
       longest = (let n : max 0 (longest_piece (pieces_from s (map coming_of (reduce leaving (presentation_of file tree)).tracks))) ≡ longest_piece (pieces_from s (map coming_of (reduce leaving (presentation_of file tree)).tracks)) = omega arith in n) ∙ ap longest_piece is.1;
       number = 1;
-      len = (let n : 0 + length (pieces_bytes 1 (pieces_from s (map coming_of (reduce leaving (presentation_of file tree)).tracks))) ≡ length (pieces_bytes 1 (pieces_from s (map coming_of (reduce leaving (presentation_of file tree)).tracks))) = omega arith in n) ∙ ap (λ ps. length (pieces_bytes 1 ps)) is.1;
+      len = (let n : 0 + length (pieces_bytes 1 (pieces_from s (map coming_of (reduce leaving (presentation_of file tree)).tracks))) ≡ length (pieces_bytes 1 (pieces_from s (map coming_of (reduce leaving (presentation_of file tree)).tracks))) = omega arith in n)
+          ∙ ap (λ ps. length (pieces_bytes 1 ps)) is.1;
     }
 
 module _ (leaving : Leaving) (file : List ℕ) (tree : FileTree) (m : MovieSeen) (s : Schedule) (walks : List Walk) (nexts : List (Option SampleAt)) (plan : Plan) (o : IsOpenedAs file m tree) (h : IsPlanning leaving file tree m s walks nexts plan) where

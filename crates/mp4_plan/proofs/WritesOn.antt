@@ -241,7 +241,8 @@ module _ (leaving : Leaving) (file : List ℕ) (tree : FileTree) (m : MovieSeen)
 
       -- it is not taken along whole
       pub turn_stops : (last : Option (List ℕ)) → AppendsPrefix after last (held ++ turn_bytes file head p keys (take p.count a.left)) → AppendsPrefix before last (normal (reduce leaving (presentation_of file tree)))
-      turn_stops last q = stopped_at before after last [] held h.done (turn_bytes file head p keys (take p.count a.left)) (h.done ++ pieces_bytes sequence piece) (pieces_bytes (sequence_behind sequence head) (pieces_from next a.taken.later)) (normal (reduce leaving (presentation_of file tree))) h.goes q
+      turn_stops last q = stopped_at before after last [] held h.done (turn_bytes file head p keys (take p.count a.left)) (h.done ++ pieces_bytes sequence piece) (pieces_bytes (sequence_behind sequence head) (pieces_from next a.taken.later)) (normal (reduce leaving (presentation_of file tree)))
+          h.goes q
           (ap (λ (bs : List ℕ). h.done ++ bs) (sym written)) rest_is
 
       -- it is taken along
@@ -282,7 +283,8 @@ module _ (leaving : Leaving) (file : List ℕ) (tree : FileTree) (m : MovieSeen)
   all_lie (i ∷ infos) (t ∷ trees) z = (less_below leaving (length file) (track_samples tree t) z.0.lies, all_lie infos trees z.1)
 
   -- the first turn
-  pub begins : (s : Schedule) (w : Writer) (planning copying : List Walk) (behind : List ℕ) (nexts : List (Option SampleAt)) (before after : Option (List ℕ)) (held : List ℕ) → IsOpenedAs file m tree → IsReady file tree m w → w.leaving ≡ leaving → IsFirst m.tracks (map (left_samples leaving tree) tree.movie.tracks) s
+  pub begins : (s : Schedule) (w : Writer) (planning copying : List Walk) (behind : List ℕ) (nexts : List (Option SampleAt)) (before after : Option (List ℕ)) (held : List ℕ) → IsOpenedAs file m tree → IsReady file tree m w → w.leaving ≡ leaving
+      → IsFirst m.tracks (map (left_samples leaving tree) tree.movie.tracks) s
       → AllBegin leaving file tree m planning → AllBegin leaving file tree m copying → AllByRecursion (λ (n : ℕ). n ≡ 0) behind → nexts ≡ firsts (map (left_samples leaving tree) tree.movie.tracks) → BytesGoOn before after (waiting w.carrier) held w.head.items
       → WritesOn s 1 planning copying behind nexts (length w.rows.items) before after held
   begins s w planning copying behind nexts before after held o r same first plan copy zeros shown goes =
@@ -297,7 +299,8 @@ module _ (leaving : Leaving) (file : List ℕ) (tree : FileTree) (m : MovieSeen)
         shown = shown;
         turn = all.0;
         lie = all_lie m.tracks tree.movie.tracks (track_facts file m tree o);
-        fits = subst (λ (ps : List Piece). AllByRecursion (λ (q : Piece). length q.samples ≤ length w.rows.items) ps) (sym all.1) (subst (λ n. AllByRecursion (λ (q : Piece). length q.samples ≤ n) (pieces p)) (sym (r.rows ∙ ap (λ (k : Leaving). longest_piece (pieces (reduce k (presentation_of file tree)))) same)) (no_longer (pieces p)));
+        fits = subst (λ (ps : List Piece). AllByRecursion (λ (q : Piece). length q.samples ≤ length w.rows.items) ps) (sym all.1)
+            (subst (λ n. AllByRecursion (λ (q : Piece). length q.samples ≤ n) (pieces p)) (sym (r.rows ∙ ap (λ (k : Leaving). longest_piece (pieces (reduce k (presentation_of file tree)))) same)) (no_longer (pieces p)));
         small = omega (arith, few);
         done = waiting w.carrier ++ w.head.items;
         goes = goes;

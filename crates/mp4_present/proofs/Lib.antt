@@ -67,3 +67,5 @@ pub mod WayThrough
 pub mod OpenedDenotes
 pub mod PassedOn
 pub mod GoneBack
+pub mod Differing
+mod NextSample

@@ -2,3 +2,4 @@ pub mod Presentation
 pub mod Denotes
 pub mod Stands
 pub mod Reduced
+pub mod Differences

@@ -15,3 +15,6 @@ pub mod SamplesComing
 pub mod PassedMoofs
 pub mod WalkSteps
 pub mod GoingBack
+pub mod Differing
+pub mod Windows
+pub mod NextSample

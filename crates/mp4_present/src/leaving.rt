@@ -18,6 +18,11 @@ pub struct Leaving {
 
 impl Leaving {
     /// Nothing is left out.
-    pub const NOTHING: Leaving =
-        Leaving { times: false, edits: false, flags: false, groups: false, metadata: false };
+    pub const NOTHING: Leaving = Leaving {
+        times: false,
+        edits: false,
+        flags: false,
+        groups: false,
+        metadata: false,
+    };
 }

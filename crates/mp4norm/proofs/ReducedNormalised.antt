@@ -1,5 +1,5 @@
 -- The normal form of what is left of what a file denotes: all of it is put, or why it is not.
-use Rattle.std.proofs.Common.{◌≡◌, ◌⊎◌, inl, inr, ℕ, List, refl, subst}
+use Rattle.std.proofs.Common.{◌≡◌, inl, inr, ℕ, List, refl, subst}
 use Rattle.std.specs.Prelude.{Option, Bool, Result, Ok, Err, IfErr, OnOk, OnErr, IsTrue}
 use Rattle.std.specs.Io.KnownBytes.{Appends}
 use Rattle.mp4_store.specs.words.Device.{AppendsPrefix}

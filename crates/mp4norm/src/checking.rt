@@ -21,8 +21,8 @@ fn answer_of_listed(rt: &HostRuntime, name: &[u8]) -> Result<(), Refusal> {
     }
 }
 
-// The name under which a verdict is given.
-fn shown_name<'a>(input: Input<'a>) -> &'a [u8] {
+/// The name under which something is said of a file.
+pub(crate) fn shown_name<'a>(input: Input<'a>) -> &'a [u8] {
     match input {
         Input::Standard => b"-",
         Input::File { name } => name.as_bytes(),

@@ -2,6 +2,7 @@
 ghost use Rattle.std.specs.Prelude.{◌≡◌, ◌≤◌, [], IfOk, IfSome, Ok};
 ghost use Rattle.mp4norm.specs.words.Actions.{IsJob, IsAction, boxes_of_input};
 
+use crate::comparing::Listing;
 use crate::drop_lists::names_of;
 use crate::leaving_words::leaving_of;
 use crate::wanted::{Action, CommandFault, Form, Input, Job, Target};
@@ -26,6 +27,7 @@ Status:
   2   failed: memory
   3   failed: store, failed: store changed, failed: write
   4   failed: no such track
+  5   compare: the files differ
   64  the words are wrong
 
 Example: mp4norm normalise movie.mp4 --out normal.mp4";
@@ -48,6 +50,21 @@ before a slash only a container whose boxes are listed may stand
 
 For more information, try '--help'.
 ";
+
+const WITHOUT_RULE: &str = "\
+each word is times, edits, flags, groups or metadata
+
+For more information, try '--help'.
+";
+
+const LIMIT_ALONE: &str = "\
+error: the argument '--limit <N>' is of use only with '--all'
+
+For more information, try '--help'.
+";
+
+/// How many differences are listed where no number is given.
+const LIMIT: u32 = 100;
 
 const KEPT_RULE: &str = "\
 each word is times, flags, groups or metadata; edits stay in a normal form
@@ -261,6 +278,42 @@ fn check_command<'a>(alloc: Global) -> Result<Command<'a>, AllocError> {
     with_arg(command, zero_arg(alloc))
 }
 
+fn side_arg<'a>(alloc: Global, name: &'a str, shown: &'a str) -> Arg<'a> {
+    Arg::new(alloc, name)
+        .value_name(shown)
+        .help("An MP4 file to compare, or - for standard input")
+        .required(true)
+        .action(ArgAction::Set)
+}
+
+fn all_arg<'a>(alloc: Global) -> Arg<'a> {
+    Arg::new(alloc, "all")
+        .long("all")
+        .help("List all differences, and count them, in place of the first alone")
+        .action(ArgAction::SetTrue)
+}
+
+fn limit_arg<'a>(alloc: Global) -> Arg<'a> {
+    Arg::new(alloc, "limit")
+        .long("limit")
+        .value_name("N")
+        .help("How many differences to list at most with --all; 100 where it isn't given")
+        .action(ArgAction::Set)
+        .value_parser(value_parser!(u32))
+}
+
+fn compare_command<'a>(alloc: Global) -> Result<Command<'a>, AllocError> {
+    let command = Command::new(alloc, "compare")
+        .about("Says whether two files say the same, and names the first difference")
+        .after_help("Example: mp4norm compare one.mp4 other.mp4 --without times,metadata");
+    let command = with_arg(command, side_arg(alloc, "left", "A"))?;
+    let command = with_arg(command, side_arg(alloc, "right", "B"))?;
+    let help = "What to leave out, words apart by commas: times, edits, flags, groups, metadata";
+    let command = with_arg(command, without_arg(alloc, help))?;
+    let command = with_arg(command, all_arg(alloc))?;
+    with_arg(command, limit_arg(alloc))
+}
+
 fn top_command<'a>(alloc: Global) -> Result<Command<'a>, AllocError> {
     Command::new(alloc, "mp4norm")
         .about("Rewrites MP4 files in one normal form, and shows what they hold")
@@ -277,6 +330,7 @@ fn whole_command<'a>(alloc: Global) -> Result<Command<'a>, AllocError> {
     let command = with(command, samples_command(alloc)?)?;
     let command = with(command, extract_command(alloc)?)?;
     let command = with(command, normalise_command(alloc)?)?;
+    let command = with(command, compare_command(alloc)?)?;
     let command = with(command, check_command(alloc)?)?;
     with(command, strip_command(alloc)?)
 }
@@ -428,11 +482,48 @@ fn reduced_asked<'a>(
     })
 }
 
+// What is left out; nothing where no words are given.
+fn left_out(alloc: Global, found: &ArgMatches) -> Result<Leaving, CommandFault> {
+    let Some(list) = found.get_str("without") else {
+        return Ok(Leaving::NOTHING);
+    };
+    leaving_of(list).ok_or_else(|| without_fault(alloc, list, WITHOUT_RULE))
+}
+
+// How differences are to be told of.
+fn listing_of(found: &ArgMatches) -> Listing {
+    if !found.get_flag("all") {
+        return Listing::First;
+    }
+    let limit = found.get_one::<u32>("limit").unwrap_or(LIMIT);
+    Listing::All { limit }
+}
+
+// Which files are to be compared, and how.
+fn compare_asked<'a>(alloc: Global, found: &ArgMatches<'a>) -> Result<Action<'a>, CommandFault>
+    ensures { IfOk result IsAction }
+{
+    let (Some(left), Some(right)) = (found.get_str("left"), found.get_str("right")) else {
+        // clap has seen that no word is missing.
+        return Err(CommandFault::Usage(String::new(alloc)));
+    };
+    Ok(Action::Compare {
+        left: input_of(left),
+        right: input_of(right),
+        leaving: left_out(alloc, found)?,
+        listing: listing_of(found),
+    })
+}
+
 // How often standard input is named.
 fn inputs_in(found: &ArgMatches) -> usize {
     let files = found.get_strs("file").unwrap_or(&[]);
     let named = files.iter().filter(|file| **file == "-").count();
-    named.saturating_add(usize::from(found.get_str("names-from") == Some("-")))
+    let others = ["names-from", "left", "right"];
+    let more = others
+        .iter()
+        .filter(|name| found.get_str(*name) == Some("-"));
+    named.saturating_add(more.count())
 }
 
 // What is wrong with words that clap accepts.
@@ -444,6 +535,8 @@ fn odds_of(matches: &ArgMatches) -> Option<&'static str> {
         Some(TWO_FORMS)
     } else if inputs_in(found) > 1 {
         Some(INPUT_TWICE)
+    } else if found.get_one::<u32>("limit").is_some() && !found.get_flag("all") {
+        Some(LIMIT_ALONE)
     } else {
         None
     }
@@ -472,6 +565,9 @@ fn of_matches<'a>(alloc: Global, matches: &ArgMatches<'a>) -> Result<Action<'a>,
     }
     if let Some(found) = matches.subcommand_matches("strip") {
         return strip_asked(alloc, found);
+    }
+    if let Some(found) = matches.subcommand_matches("compare") {
+        return compare_asked(alloc, found);
     }
     if let Some(found) = matches.subcommand_matches("normalise") {
         if let Some(list) = found.get_str("without") {

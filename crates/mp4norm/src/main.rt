@@ -1,9 +1,10 @@
 //! `mp4norm`: the normal form of an MP4 file; its boxes, what it denotes as one line, the samples
-//! of a track, their bytes.
+//! of a track, their bytes; and whether two files say the same.
 //!
 //! With no words it reads standard input, at most 2^30 bytes, and lists the boxes on standard
 //! output. The status is 0, 1 where the file is refused, 2 without memory, 3 where reading or
-//! writing failed, 4 where no track has the ID, 64 for words that it doesn't know.
+//! writing failed, 4 where no track has the ID, 5 where two files differ, 64 for words that it
+//! doesn't know.
 #![tactic(auto)]
 
 ghost use Rattle.std.specs.Prelude.{◌≡◌, ◌<◌};
@@ -13,13 +14,16 @@ mod boxes;
 mod causes;
 mod checking;
 mod command_line;
+mod comparing;
+mod comparing_runs;
+mod difference_lines;
 mod digits;
 mod drop_lists;
 mod explaining;
 mod extract;
 mod fault_text;
-mod headers_under;
 mod forms;
+mod headers_under;
 mod input;
 mod jobs;
 mod judging;
@@ -38,6 +42,7 @@ mod show;
 mod sources;
 mod strip_lines;
 mod stripping;
+mod tally;
 mod targets;
 mod tracks;
 mod type_names;
@@ -49,6 +54,9 @@ mod ways;
 pub use boxes::boxes;
 use checking::check_all;
 pub use command_line::action;
+pub use comparing::{Failure, Listing, Side, compare_files};
+use comparing_runs::compare_named;
+pub use difference_lines::say_difference;
 pub use extract::{extract, extract_counted};
 pub use fault_text::{fault_line, status};
 pub use jobs::perform;
@@ -140,6 +148,12 @@ fn act<L: Ledger>(rt: &HostRuntime, action: Action, blank: Blank) -> ExitCode
             };
             end(rt, run(rt, job, input, target, explain, &mut steps))
         }
+        Action::Compare {
+            left,
+            right,
+            leaving,
+            listing,
+        } => compare_named(rt, left, right, leaving, listing, &mut steps),
         Action::Check { files, list, zero } => judge(rt, files.as_slice(), list, zero),
     }
 }

@@ -1,4 +1,5 @@
 //! What the words behind the program's name can ask for.
+use crate::comparing::Listing;
 use crate::named::Name;
 use mp4_present::Leaving;
 use std::alloc::AllocError;
@@ -41,14 +42,21 @@ pub enum Target<'a> {
     Replaced { name: &'a str },
 }
 
-/// What the words ask for: a job, a copy without the boxes of some names, or a verdict on each of
-/// some files and of those that a list names, ended by a line feed or a zero byte.
+/// What the words ask for: a job, a copy without the boxes of some names, a comparison of two
+/// files, or a verdict on each of some files and of those that a list names, ended by a line feed
+/// or a zero byte.
 #[derive(Debug, Drop, PartialEq)]
 pub enum Action<'a> {
     Check {
         files: Vec<Input<'a>>,
         list: Option<Input<'a>>,
         zero: bool,
+    },
+    Compare {
+        left: Input<'a>,
+        right: Input<'a>,
+        leaving: Leaving,
+        listing: Listing,
     },
     Strip {
         names: Vec<Name>,

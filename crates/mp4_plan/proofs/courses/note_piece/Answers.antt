@@ -71,9 +71,11 @@ loop-planner-preserved g c =
           next_fed c.args.leaving file m c.args.walk.now c.keep.new.self c.load.new.self _ planner fed.later c.in_ok-load-in-Empty.field-0 on is_hand fed.taken.2 ((rw (i.honesty, i.file) at l.loaded) told) (search rules);
       noted = λ told. (let rows = c.loop-planner.rows in
           let counted = ap (λ (p : Planned). p.count) c.piece.ensures.is ∙ planned_counts c.loop-planner.planner.gathered in
-          hand_noted c.args.leaving (g.S.Store.file c.args.store.now) c.args.movie.now c.args.walk.now c.loop-planner.walk _ c.piece.result.count _ c.loop-planner.planner c.note_hand-hand.new.planner c.note_hand-hand.result.stop c.note_hand-hand.result.place rows c.note_hand-hand.new.rows _ _ _ (i.fed told)
+          hand_noted c.args.leaving (g.S.Store.file c.args.store.now) c.args.movie.now c.args.walk.now c.loop-planner.walk _ c.piece.result.count _ c.loop-planner.planner c.note_hand-hand.new.planner c.note_hand-hand.result.stop c.note_hand-hand.result.place rows c.note_hand-hand.new.rows _ _ _
+          (i.fed told)
           (i.noted told) c.note_hand-hand.ensures.fed counted (search rules));
-      joined = λ told. hand_joined c.args.leaving (g.S.Store.file c.args.store.now) c.args.movie.now c.args.walk.now c.loop-planner.walk _ _ c.loop-planner.planner c.note_hand-hand.new.planner c.note_hand-hand.result.stop c.note_hand-hand.result.place _ c.args.stretches.now _ _ (i.fed told) (i.joined told)
+      joined = λ told. hand_joined c.args.leaving (g.S.Store.file c.args.store.now) c.args.movie.now c.args.walk.now c.loop-planner.walk _ _ c.loop-planner.planner c.note_hand-hand.new.planner c.note_hand-hand.result.stop c.note_hand-hand.result.place _ c.args.stretches.now _ _ (i.fed told)
+          (i.joined told)
           c.note_hand-hand.ensures.fed;
       takes = λ told.
           let file = g.S.Store.file c.args.store.now in
@@ -109,7 +111,8 @@ returns-in-Ended-clause-noted g c told tree t samples o h =
     let i = c.loop-planner.invariant in
     let counted = ap (λ (p : Planned). p.count) c.piece.ensures.is ∙ planned_counts c.loop-planner.planner.gathered in
     let counted_now = ap (λ (p : Planned). p.count) c.piece-in-Ended.ensures.is ∙ planned_counts c.note_hand-hand.new.planner.gathered in
-    let on = hand_noted c.args.leaving (g.S.Store.file c.args.store.now) c.args.movie.now c.args.walk.now c.loop-planner.walk _ c.piece.result.count _ c.loop-planner.planner c.note_hand-hand.new.planner c.note_hand-hand.result.stop c.note_hand-hand.result.place c.loop-planner.rows c.note_hand-hand.new.rows _ _ _
+    let on = hand_noted c.args.leaving (g.S.Store.file c.args.store.now)
+    c.args.movie.now c.args.walk.now c.loop-planner.walk _ c.piece.result.count _ c.loop-planner.planner c.note_hand-hand.new.planner c.note_hand-hand.result.stop c.note_hand-hand.result.place c.loop-planner.rows c.note_hand-hand.new.rows _ _ _
     (i.fed told) (i.noted told) c.note_hand-hand.ensures.fed counted (search rules) in
     rw counted_now (on tree t samples o h)
 
@@ -118,7 +121,8 @@ returns-then-not-branch-clause-noted g c told tree t samples o h =
     let i = c.loop-planner.invariant in
     let counted = ap (λ (p : Planned). p.count) c.piece.ensures.is ∙ planned_counts c.loop-planner.planner.gathered in
     let counted_now = ap (λ (p : Planned). p.count) c.piece-then-not-branch.ensures.is ∙ planned_counts c.note_hand-hand.new.planner.gathered in
-    let on = hand_noted c.args.leaving (g.S.Store.file c.args.store.now) c.args.movie.now c.args.walk.now c.loop-planner.walk _ c.piece.result.count _ c.loop-planner.planner c.note_hand-hand.new.planner c.note_hand-hand.result.stop c.note_hand-hand.result.place c.loop-planner.rows c.note_hand-hand.new.rows _ _ _
+    let on = hand_noted c.args.leaving (g.S.Store.file c.args.store.now)
+    c.args.movie.now c.args.walk.now c.loop-planner.walk _ c.piece.result.count _ c.loop-planner.planner c.note_hand-hand.new.planner c.note_hand-hand.result.stop c.note_hand-hand.result.place c.loop-planner.rows c.note_hand-hand.new.rows _ _ _
     (i.fed told) (i.noted told) c.note_hand-hand.ensures.fed counted (search rules) in
     rw counted_now (on tree t samples o h)
 

@@ -26,7 +26,8 @@ returns-clause-bytes g c = λ told tree o.
 
 pub returns-clause-prefix : goal.returns-clause-prefix
 returns-clause-prefix g c = λ told tree o.
-    let prefix = still_opened _ _ _ _ c.args.movie.now (λ file t. IsReady file t c.args.movie.now c.in_ok-writer.writer → OnErr c.write.result (AppendsPrefix (g.K.Sink.contents c.args.sink.now) (g.K.Sink.contents c.write.new.sink) (normal (reduce c.in_ok-writer.writer.leaving (presentation_of file t)))))
+    let prefix = still_opened _ _ _ _ c.args.movie.now (λ file t. IsReady file t c.args.movie.now c.in_ok-writer.writer
+    → OnErr c.write.result (AppendsPrefix (g.K.Sink.contents c.args.sink.now) (g.K.Sink.contents c.write.new.sink) (normal (reduce c.in_ok-writer.writer.leaving (presentation_of file t)))))
     c.in_ok-writer.ensures.honesty c.in_ok-writer.ensures.file c.write.ensures.prefix in
     subst (λ (l : Leaving). OnErr c.write.result (AppendsPrefix (g.K.Sink.contents c.args.sink.now) (g.K.Sink.contents c.write.new.sink) (normal (reduce l (presentation_of (g.S.Store.file c.args.store.now) tree)))))
     c.in_ok-writer.ensures.left (prefix told tree o (c.in_ok-writer.ensures.ready told tree o))

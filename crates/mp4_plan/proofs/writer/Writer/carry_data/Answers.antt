@@ -119,7 +119,8 @@ returns-clause-unchanged g c told tree o leaving samples noted few bytes lie =
     let comes = subst (λ (v : Walk). ComesLess leaving file tree noted.t m v (h.copied ++ samples)) (sym same) h.comes in
     let those : drop n (h.copied ++ samples) ≡ samples = ap (λ i. drop i (h.copied ++ samples)) number ∙ those_behind leaving file tree noted.t m noted.walk noted.behind count samples h in
     let within = subst (λ i. i ≤ length (h.copied ++ samples)) (sym number) (within_all leaving file tree noted.t m noted.walk noted.behind count samples h) in
-    lacks_less leaving file tree noted.t m _ n count c.args.planned.now.bytes _ (h.copied ++ samples) (λ raw come. c.carry_later.ensures.unchanged told tree noted.t raw o come) comes within (subst (λ (l : List SampleAt). count ≤ length l) (sym those) few) (subst (λ (l : List SampleAt). c.args.planned.now.bytes ≡ sizes_of (take count l)) (sym those) bytes)
+    lacks_less leaving file tree noted.t m _ n count c.args.planned.now.bytes _ (h.copied ++ samples) (λ raw come. c.carry_later.ensures.unchanged told tree noted.t raw o come) comes within (subst (λ (l : List SampleAt). count ≤ length l) (sym those) few)
+    (subst (λ (l : List SampleAt). c.args.planned.now.bytes ≡ sizes_of (take count l)) (sym those) bytes)
     (subst (λ (l : List SampleAt). AllByRecursion (IsBelow (length file)) l) (sym those) lie)
 
 pub returns-clause-work : goal.returns-clause-work

@@ -69,7 +69,8 @@ loop-turn-init g c =
           let time = c.first_time.ensures lefts (c.as_slice-2.ensures.value ∙ nexts ∙ shown.0) in
           let tracks = c.tracks-tracks.ensures in
           let first = is_first c.args.self.now.leaving file tree m c.new-schedule.result c.first_time.result o (rw tracks at c.new-schedule.ensures.tracks) (rw tracks at c.new-schedule.ensures.first) c.new-schedule.ensures.starts (rw tracks at c.new-schedule.ensures.left) time in
-          begins c.args.self.now.leaving file tree m c.new-schedule.result w (with_items w.planning c.peek_each.new.walks).items w.copying.items w.behind.items (with_items w.nexts c.peek_each.new.nexts).items (g.K.Sink.contents c.args.sink.now) (g.K.Sink.contents c.carry.new.sink) (waiting c.carry.new.self) o ready refl first
+          begins c.args.self.now.leaving file tree m c.new-schedule.result w (with_items w.planning c.peek_each.new.walks).items w.copying.items w.behind.items (with_items w.nexts c.peek_each.new.nexts).items (g.K.Sink.contents c.args.sink.now) (g.K.Sink.contents c.carry.new.sink)
+          (waiting c.carry.new.self) o ready refl first
           (rw walks shown.1) ready.copying ready.behind (nexts ∙ shown.0) (rw c.as_slice.ensures.value at c.in_ok-carry.ensures.bytes);
       within = λ told tree o n k plan copy.
           let on = e.work told tree o n (rw c.as_mut_slice-walks.ensures.value plan) in
@@ -122,7 +123,8 @@ returns-in_err-carry_turn-clause-prefix g c told tree o ready =
     let is_id : (info : TrackInfo) → slice_get m.tracks s.track ≡ Some info
     → (get_or c.tracks-tracks.result.now c.in-Some.turn.track c.index-tracks-turn.result).id
     ≡ info.id = λ info is. ap (λ (x : TrackInfo). x.id) (sym c.index-tracks-turn.is ∙ read_at m.tracks s.track info c.index-tracks-turn.result is (rw (here.0, c.tracks-tracks.ensures) at c.index-tracks-turn.is)) in
-    rw e.1 (carry_stops c.args.self.now.leaving file tree m o s c.loop-turn.sequence w before after h c.in-Some.turn here ends i.tracks i.writer c.note_turn.new.self c.in_ok-noted.noted (get_or c.tracks-tracks.result.now c.in-Some.turn.track c.index-tracks-turn.result).id noted c.in_ok-noted.ensures.keeps few is_id
+    rw e.1 (carry_stops c.args.self.now.leaving file tree m o s c.loop-turn.sequence w before after h c.in-Some.turn here ends i.tracks i.writer c.note_turn.new.self c.in_ok-noted.noted
+    (get_or c.tracks-tracks.result.now c.in-Some.turn.track c.index-tracks-turn.result).id noted c.in_ok-noted.ensures.keeps few is_id
     (g.K.Sink.contents c.carry_turn.new.sink) ((rw (c.in_ok-noted.ensures.honesty, c.in_ok-noted.ensures.file, i.honesty, i.file) at c.in_err-carry_turn.ensures.prefix) told tree o c.args.self.now.leaving))
 
 pub returns-in_err-carry_turn-clause-unchanged : goal.returns-in_err-carry_turn-clause-unchanged
@@ -144,7 +146,8 @@ returns-in_err-carry_turn-clause-unchanged g c told tree o ready =
     → (get_or c.tracks-tracks.result.now c.in-Some.turn.track c.index-tracks-turn.result).id
     ≡ info.id = λ info is. ap (λ (x : TrackInfo). x.id) (sym c.index-tracks-turn.is ∙ read_at m.tracks s.track info c.index-tracks-turn.result is (rw (here.0, c.tracks-tracks.ensures) at c.index-tracks-turn.is)) in
     rw (e.1, e.2)
-    (carry_lacks c.args.self.now.leaving file tree m o s c.loop-turn.sequence w before after h c.in-Some.turn here ends i.tracks i.writer c.note_turn.new.self c.in_ok-noted.noted (get_or c.tracks-tracks.result.now c.in-Some.turn.track c.index-tracks-turn.result).id noted c.in_ok-noted.ensures.keeps few is_id _
+    (carry_lacks c.args.self.now.leaving file tree m o s c.loop-turn.sequence w before after h c.in-Some.turn here ends i.tracks i.writer c.note_turn.new.self c.in_ok-noted.noted
+    (get_or c.tracks-tracks.result.now c.in-Some.turn.track c.index-tracks-turn.result).id noted c.in_ok-noted.ensures.keeps few is_id _
     ((rw (c.in_ok-noted.ensures.honesty, c.in_ok-noted.ensures.file, i.honesty, i.file) at c.in_err-carry_turn.ensures.unchanged) told tree o c.args.self.now.leaving))
 
 pub returns-in_err-pass-clause-prefix : goal.returns-in_err-pass-clause-prefix

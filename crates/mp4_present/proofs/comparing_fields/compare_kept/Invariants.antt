@@ -1,0 +1,12 @@
+use Rattle.std.proofs.Common.{◌++◌}
+use Rattle.std.specs.Prelude.{map}
+use Rattle.mp4_present.specs.format.Differences.{box_differences, list_differences}
+use Rattle.mp4_head.specs.words.Seen.{kept_seen}
+use Rattle.mp4_present.specs.declared.differences.Entries.TheVariants as lists
+use Rattle.mp4_present.proofs.Differing.{Goes}
+use Rattle.mp4_present.proofs.comparing_fields.compare_kept.Given as goal
+
+-- what differs of the entries from here on is left
+abbrev pub invariant-loop-k : goal.invariant-loop-k
+invariant-loop-k l = Goes kept_seen (box_differences l.fn.subject lists.Kept) l.left.items l.right.items l.k l.found.items
+    (l.fn.found.items ++ list_differences l.fn.subject lists.Kept (box_differences l.fn.subject lists.Kept) (map kept_seen l.left.items) (map kept_seen l.right.items))

@@ -1,0 +1,62 @@
+//! Bytes of samples, compared.
+ghost use Rattle.std.specs.Prelude.{◌≡◌, ◌+◌, ◌<◌, ◌≤◌, IfSome, length, IfOk, IfErr, OnOk, IsTrue};
+ghost use Rattle.mp4_store.specs.words.Device.{range};
+ghost use Rattle.mp4_present.specs.format.Differences.{first_unequal};
+ghost use Rattle.mp4_present.specs.words.Windows.{Shows};
+ghost use Rattle.mp4_present.specs.words.Differing.{RefusesEither};
+
+use crate::comparing_fields::first_unequal;
+use crate::file_window::FileWindow;
+use mp4_boxes::Refusal;
+use mp4_store::Store;
+
+// Where so many bytes of two files first differ, and both of them.
+pub(crate) fn first_difference<S: Store, T: Store>(
+    left: &mut FileWindow,
+    a: &mut S,
+    left_at: u64,
+    right: &mut FileWindow,
+    b: &mut T,
+    right_at: u64,
+    len: u64,
+) -> Result<Option<(u64, u8, u8)>, Refusal>
+    requires left { left_at + len ≤ length (S.file a.old) }
+    requires right { right_at + len ≤ length (T.file b.old) }
+    requires shows { IsTrue (S.is_honest a.old) → Shows (S.file a.old) left.old }
+    requires shows_right { IsTrue (T.is_honest b.old) → Shows (T.file b.old) right.old }
+    ensures honesty { S.is_honest a.new ≡ S.is_honest a.old }
+    ensures file { S.file a.new ≡ S.file a.old }
+    ensures honesty_right { T.is_honest b.new ≡ T.is_honest b.old }
+    ensures file_right { T.file b.new ≡ T.file b.old }
+    ensures shows { IsTrue (S.is_honest a.old) → Shows (S.file a.old) left.new }
+    ensures shows_right { IsTrue (T.is_honest b.old) → Shows (T.file b.old) right.new }
+    ensures found { IfOk result (λ found. IsTrue (S.is_honest a.old) → IsTrue (T.is_honest b.old)
+        → found ≡ first_unequal 0 (range (S.file a.old) left_at len)
+        (range (T.file b.old) right_at len)) }
+    ensures within { IfOk result (λ found. IfSome found (λ f. f.0 < len)) }
+    ensures reads { OnOk result (S.read_failures a.new ≡ S.read_failures a.old) }
+    ensures reads_right { OnOk result (T.read_failures b.new ≡ T.read_failures b.old) }
+    ensures refusal { IfErr result (RefusesEither (S.read_failures a.old) (S.read_failures a.new)
+        (T.read_failures b.old) (T.read_failures b.new)) }
+{
+    let _left_len = a.len();
+    let _right_len = b.len();
+    let mut done = 0;
+    while done < len {
+        let shown = left.show(a, left_at + done)?;
+        let other = right.show(b, right_at + done)?;
+        let both = shown.min(other);
+        let count = if len - done < both as u64 {
+            (len - done) as usize
+        } else {
+            both
+        };
+        let first = left.bytes(left_at + done, count);
+        let second = right.bytes(right_at + done, count);
+        if let Some((place, byte, other)) = first_unequal(first, second) {
+            return Ok(Some((done + place as u64, byte, other)));
+        }
+        done += count as u64;
+    }
+    Ok(None)
+}

@@ -1,0 +1,112 @@
+//! A part of a file in memory, read ahead.
+ghost use Rattle.std.specs.Prelude.{◌≡◌, ◌+◌, ◌<◌, ◌≤◌, length, take, vec_len, IfOk, IfErr, OnOk, IsTrue};
+ghost use Rattle.mp4_boxes.specs.declared.refusal.Refusal.TheVariants as refusals;
+ghost use Rattle.mp4_store.specs.words.Device.{Counts, HasRisen, range};
+
+use mp4_boxes::Refusal;
+use mp4_store::{Store, StoreFailed};
+use std::alloc::{AllocError, Global};
+
+// A buffer that shows some bytes of a file: so many, from a place on.
+#[derive(Drop)]
+pub(crate) struct FileWindow {
+    buffer: Vec<u8>,
+    at: u64,
+    used: usize,
+    ghost some: { 0 < vec_len buffer },
+    ghost within: { used ≤ vec_len buffer },
+}
+
+// Reads to the front of a buffer, of which the length stays.
+fn read_front<S: Store>(
+    store: &mut S,
+    at: u64,
+    buffer: &mut [u8],
+    len: usize,
+) -> Result<(), StoreFailed>
+    requires place { at + len ≤ length (S.file store.old) }
+    requires room { len ≤ length buffer.old }
+    ensures honesty { S.is_honest store.new ≡ S.is_honest store.old }
+    ensures file { S.file store.new ≡ S.file store.old }
+    ensures bytes { OnOk result (IsTrue (S.is_honest store.old)
+        → take len buffer.new ≡ range (S.file store.old) at len) }
+    ensures cause { Counts (S.read_failures store.old) (S.read_failures store.new) result }
+{
+    store.read_at(at, &mut buffer[..len])
+}
+
+impl FileWindow {
+    ghost use Rattle.std.specs.Prelude.{◌≡◌, ◌+◌, ◌<◌, ◌≤◌, ℕ, List, length, IfOk, IfErr, OnOk, IsTrue};
+    ghost use Rattle.mp4_boxes.specs.declared.refusal.Refusal.TheVariants as refusals;
+    ghost use Rattle.mp4_store.specs.words.Device.{HasRisen, range};
+    ghost use Rattle.mp4_present.specs.words.Windows.{Shows, DoesShow};
+
+    // A window of so many bytes, at least one.
+    pub(crate) fn new(alloc: Global, len: usize) -> Result<FileWindow, AllocError>
+        requires { 0 < len }
+        ensures { IfOk result (λ w. (file : List ℕ) → Shows file w) }
+    {
+        let buffer = vec![in alloc; 0u8; len]?;
+        Ok(FileWindow {
+            buffer,
+            at: 0,
+            used: 0,
+        })
+    }
+
+    // How many bytes it shows from a place on.
+    fn shown(&self, at: u64) -> usize
+        ensures { 0 < result → (self.now.at ≤ at) × (at + result ≡ self.now.at + self.now.used) }
+    {
+        if at < self.at {
+            return 0;
+        }
+        let passed = at - self.at;
+        if passed < self.used as u64 {
+            self.used - passed as usize
+        } else {
+            0
+        }
+    }
+
+    // Goes on to a place of the file, where it doesn't show it yet, and says how many bytes from
+    // there on it shows: at least one.
+    pub(crate) fn show<S: Store>(&mut self, store: &mut S, at: u64) -> Result<usize, Refusal>
+        requires place { at < length (S.file store.old) }
+        requires shows { IsTrue (S.is_honest store.old) → Shows (S.file store.old) self.old }
+        ensures honesty { S.is_honest store.new ≡ S.is_honest store.old }
+        ensures file { S.file store.new ≡ S.file store.old }
+        ensures shows { IsTrue (S.is_honest store.old) → Shows (S.file store.old) self.new }
+        ensures some { IfOk result (λ n. (0 < n) × DoesShow self.new at n) }
+        ensures reads { OnOk result (S.read_failures store.new ≡ S.read_failures store.old) }
+        ensures refusal { IfErr result (λ r. (r ≡ refusals.StoreFailed)
+            × HasRisen (S.read_failures store.old) (S.read_failures store.new)) }
+    {
+        let shown = self.shown(at);
+        if shown > 0 {
+            return Ok(shown);
+        }
+        let left = store.len() - at;
+        let room = self.buffer.len();
+        let len = if left < room as u64 {
+            left as usize
+        } else {
+            room
+        };
+        self.used = 0;
+        read_front(store, at, self.buffer.as_mut_slice(), len)?;
+        self.at = at;
+        self.used = len;
+        Ok(len)
+    }
+
+    // So many bytes that it shows from a place on.
+    pub(crate) fn bytes(&self, at: u64, len: usize) -> &[u8]
+        requires { DoesShow self.now at len }
+        ensures long { length result.now ≡ len }
+        ensures bytes { (file : List ℕ) → Shows file self.now → result.now ≡ range file at len }
+    {
+        let from = (at - self.at) as usize;
+        &self.buffer[from..from + len]
+    }
+}

@@ -1,0 +1,195 @@
+//! Two files, compared by what they say.
+use crate::difference_lines::{say, say_difference};
+use crate::tally::{Tally, say_tally};
+use mp4_boxes::{Refusal, Steps};
+use mp4_present::{Difference, Differences, Leaving, Movie, compare, compare_all, open_movie};
+use mp4_store::{Sink, Store};
+use std::alloc::{AllocError, Global};
+use std::sync::ledger::Ledger;
+
+/// How a comparison is told of: by the first difference alone, or by so many and their counts.
+#[derive(Clone, Copy, Debug, PartialEq, Eq)]
+pub enum Listing {
+    First,
+    All { limit: u32 },
+}
+
+/// Which file a comparison fails for.
+#[derive(Clone, Copy, Debug, PartialEq, Eq)]
+pub enum Side {
+    First,
+    Second,
+    Both,
+    Neither,
+}
+
+/// Why a comparison has no answer, and for which file.
+#[derive(Clone, Copy, Debug, PartialEq, Eq)]
+pub struct Failure {
+    pub side: Side,
+    pub refusal: Refusal,
+}
+
+// A failure while both files are read, or none is.
+fn failed_together(refusal: Refusal) -> Failure {
+    let side = match refusal {
+        Refusal::StoreFailed | Refusal::StoreChanged => Side::Both,
+        _ => Side::Neither,
+    };
+    Failure { side, refusal }
+}
+
+/// The most differences that are counted.
+const MOST: usize = 1 << 20;
+
+// Differences, as many as there is room for.
+#[derive(Drop)]
+struct Listed {
+    all: Vec<Difference>,
+}
+
+impl Listed {
+    ghost use Rattle.std.specs.Prelude.{◌≡◌, nat_lt};
+    ghost use Rattle.std.specs.Vec.{vec_len, vec_capacity};
+
+    fn new(alloc: Global) -> Result<Listed, AllocError> {
+        let mut all = Vec::new(alloc);
+        all.reserve(1)?;
+        Ok(Listed { all })
+    }
+
+    // Whether there is room for one more.
+    fn has_room(&self) -> bool
+        ensures { result ≡ nat_lt (vec_len self.now.all) (vec_capacity self.now.all) }
+    {
+        self.all.len() < self.all.capacity()
+    }
+}
+
+impl Differences for Listed {
+    ghost use Rattle.std.specs.Prelude.{nat_lt};
+    ghost use Rattle.std.specs.Vec.{vec_len, vec_capacity};
+
+    ghost taken = { λ s. s.all.items };
+
+    ghost is_open = { λ s. nat_lt (vec_len s.all) (vec_capacity s.all) };
+
+    fn take(&mut self, difference: Difference) -> bool {
+        let _ = self.all.push(difference);
+        if self.all.len() < MOST {
+            let _ = self.all.reserve(1);
+        }
+        self.all.len() < self.all.capacity()
+    }
+}
+
+// The text of a first difference.
+fn first_text(alloc: Global, difference: Difference) -> Result<Vec<u8>, AllocError> {
+    let mut text = Vec::new(alloc);
+    say_difference(&mut text, difference)?;
+    Ok(text)
+}
+
+// The text of the first differences, and of the counts of all.
+fn listed_text(
+    alloc: Global,
+    all: &[Difference],
+    limit: u32,
+    is_whole: bool,
+    tally: &Tally,
+    enough: Option<Leaving>,
+) -> Result<Vec<u8>, AllocError> {
+    let mut text = Vec::new(alloc);
+    for difference in all.iter().take(limit as usize) {
+        say_difference(&mut text, *difference)?;
+    }
+    if !is_whole {
+        say(&mut text, "at least ")?;
+    }
+    say_tally(&mut text, tally, enough)?;
+    Ok(text)
+}
+
+// Compares two opened files, and gives the text of all differences; none where there are none.
+fn all_text<S: Store, T: Store, L: Ledger>(
+    alloc: Global,
+    left: &Movie,
+    a: &mut S,
+    right: &Movie,
+    b: &mut T,
+    leaving: Leaving,
+    limit: u32,
+    steps: &mut Steps<L>,
+) -> Result<Option<Vec<u8>>, Refusal> {
+    let mut listed = Listed::new(alloc)?;
+    if !listed.has_room() {
+        return Err(Refusal::Memory);
+    }
+    let is_whole = compare_all(alloc, left, a, right, b, leaving, &mut listed, steps)?;
+    if !is_whole && listed.all.len() < MOST {
+        return Err(Refusal::Memory);
+    }
+    if is_whole && listed.all.is_empty() {
+        return Ok(None);
+    }
+    let tally = Tally::of(listed.all.as_slice());
+    let mut enough = tally.suggests(leaving);
+    if let Some(more) = enough {
+        if compare(alloc, left, a, right, b, more, steps)?.is_some() {
+            enough = None;
+        }
+    }
+    let all = listed.all.as_slice();
+    Ok(Some(listed_text(alloc, all, limit, is_whole, &tally, enough)?))
+}
+
+// Compares two opened files, and gives what there is to say; nothing where they are the same.
+fn text_of<S: Store, T: Store, L: Ledger>(
+    alloc: Global,
+    left: &Movie,
+    a: &mut S,
+    right: &Movie,
+    b: &mut T,
+    leaving: Leaving,
+    listing: Listing,
+    steps: &mut Steps<L>,
+) -> Result<Option<Vec<u8>>, Refusal> {
+    match listing {
+        Listing::First => match compare(alloc, left, a, right, b, leaving, steps)? {
+            None => Ok(None),
+            Some(difference) => Ok(Some(first_text(alloc, difference)?)),
+        },
+        Listing::All { limit } => { all_text(alloc, left, a, right, b, leaving, limit, steps) }
+    }
+}
+
+/// Compares two files by what they say, without what is left out, puts where they differ, and says
+/// whether they are the same. Both are judged before anything is put.
+pub fn compare_files<S: Store, T: Store, K: Sink, L: Ledger>(
+    alloc: Global,
+    a: &mut S,
+    b: &mut T,
+    leaving: Leaving,
+    listing: Listing,
+    sink: &mut K,
+    steps: &mut Steps<L>,
+) -> Result<bool, Failure> {
+    let left = open_movie(alloc, a, steps).map_err(|refusal| Failure {
+        side: Side::First,
+        refusal,
+    })?;
+    let right = open_movie(alloc, b, steps).map_err(|refusal| Failure {
+        side: Side::Second,
+        refusal,
+    })?;
+    let found = text_of(alloc, &left, a, &right, b, leaving, listing, steps).map_err(
+        failed_together,
+    )?;
+    let Some(text) = found else {
+        return Ok(true);
+    };
+    match sink.put(text.as_slice()) {
+        Ok(()) => Ok(false),
+        Err(error) => Err(failed_together(Refusal::from(error))),
+    }
+}

@@ -1,0 +1,125 @@
+//! Comparing, from the names of two files to what is printed.
+use crate::causes::Trouble;
+use crate::checking::shown_name;
+use crate::comparing::{Failure, Listing, Side, compare_files};
+use crate::fault_text::{fault_line, status};
+use crate::sources::{Source, open};
+use crate::wanted::Input;
+use mp4_boxes::{Refusal, Steps};
+use mp4_present::Leaving;
+use mp4_store::{IoSink, MemStore, Store};
+use std::alloc::Global;
+use std::io::{Stdout, Write};
+use std::process::ExitCode;
+use std::sync::ledger::Ledger;
+
+/// The status where two files differ.
+const DIFFER: u8 = 5;
+
+// Compares a store with what is read.
+fn compare_with<S: Store, L: Ledger>(
+    alloc: Global,
+    left: &mut S,
+    right: &mut Source,
+    leaving: Leaving,
+    listing: Listing,
+    output: Stdout,
+    steps: &mut Steps<L>,
+) -> Result<bool, Failure> {
+    let mut sink = IoSink::new(output);
+    match right {
+        Source::File(store, _) => {
+            compare_files(alloc, left, store, leaving, listing, &mut sink, steps)
+        }
+        Source::Input(bytes) => {
+            let mut store = MemStore::new(bytes.as_slice());
+            compare_files(alloc, left, &mut store, leaving, listing, &mut sink, steps)
+        }
+    }
+}
+
+// Compares what is read.
+fn compare_sources<L: Ledger>(
+    rt: &HostRuntime,
+    left: &mut Source,
+    right: &mut Source,
+    leaving: Leaving,
+    listing: Listing,
+    steps: &mut Steps<L>,
+) -> Result<bool, Failure> {
+    let output = rt.stdout();
+    match left {
+        Source::File(store, _) => {
+            compare_with(rt.alloc(), store, right, leaving, listing, output, steps)
+        }
+        Source::Input(bytes) => {
+            let mut store = MemStore::new(bytes.as_slice());
+            compare_with(
+                rt.alloc(),
+                &mut store,
+                right,
+                leaving,
+                listing,
+                output,
+                steps,
+            )
+        }
+    }
+}
+
+// Opens both, and compares them. Then it looks whether either has changed meanwhile.
+fn answer<L: Ledger>(
+    rt: &HostRuntime,
+    left: Input,
+    right: Input,
+    leaving: Leaving,
+    listing: Listing,
+    steps: &mut Steps<L>,
+) -> Result<bool, Failure> {
+    let mut trouble = Trouble::new(false);
+    let of = |side: Side| move |refusal: Refusal| Failure { side, refusal };
+    let mut first = open(rt, left, &mut trouble).map_err(of(Side::First))?;
+    let mut second = open(rt, right, &mut trouble).map_err(of(Side::Second))?;
+    let same = compare_sources(rt, &mut first, &mut second, leaving, listing, steps)?;
+    first.stays().map_err(of(Side::First))?;
+    second.stays().map_err(of(Side::Second))?;
+    Ok(same)
+}
+
+// Says why there is no answer, behind the names of the files that it is about.
+fn tell(rt: &HostRuntime, left: Input, right: Input, failure: Failure) {
+    let mut errors = rt.stderr();
+    if failure.side == Side::First || failure.side == Side::Both {
+        let _ = errors.write_all(shown_name(left));
+    }
+    if failure.side == Side::Both {
+        let _ = errors.write_all(b", ");
+    }
+    if failure.side == Side::Second || failure.side == Side::Both {
+        let _ = errors.write_all(shown_name(right));
+    }
+    if failure.side != Side::Neither {
+        let _ = errors.write_all(b": ");
+    }
+    let _ = errors.write_all(fault_line(&failure.refusal).as_bytes());
+    let _ = errors.write_all(b"\n");
+}
+
+/// Compares two files, prints where they differ, and gives the status.
+pub(crate) fn compare_named<L: Ledger>(
+    rt: &HostRuntime,
+    left: Input,
+    right: Input,
+    leaving: Leaving,
+    listing: Listing,
+    steps: &mut Steps<L>,
+) -> ExitCode {
+    match answer(rt, left, right, leaving, listing, steps) {
+        Ok(true) => ExitCode::SUCCESS,
+        Ok(false) => ExitCode::from(DIFFER),
+        Err(failure) => {
+            tell(rt, left, right, failure);
+            ExitCode::from(status(&failure.refusal))
+        }
+    }
+}

@@ -1,0 +1,214 @@
+//! The line that tells of a difference.
+ghost use Rattle.std.specs.Prelude.{◌≤◌};
+
+use crate::digits::{hex_digit, write_digits};
+use crate::line::Line;
+use mp4_boxes::FourCc;
+use mp4_present::{Difference, Entries, Field, Part, Subject, Value};
+use mp4_tables::GroupKey;
+use std::alloc::AllocError;
+
+/// Adds words to a text.
+pub(crate) fn say(text: &mut Vec<u8>, words: &str) -> Result<(), AllocError> {
+    text.extend_from_slice(words.as_bytes())
+}
+
+/// Adds a number in decimal digits.
+pub(crate) fn say_number(text: &mut Vec<u8>, number: u64) -> Result<(), AllocError> {
+    let mut digits = [0; 20];
+    let start = write_digits(&mut digits, 20, number);
+    text.extend_from_slice(&digits[start..])
+}
+
+fn say_signed(text: &mut Vec<u8>, number: i64) -> Result<(), AllocError> {
+    if number < 0 {
+        say(text, "-")?;
+    }
+    say_number(text, number.unsigned_abs())
+}
+
+// Adds a number in so many hexadecimal digits.
+fn say_hex(text: &mut Vec<u8>, number: u64, digits: u32) -> Result<(), AllocError>
+    requires { digits ≤ 16 }
+{
+    for k in 0..digits {
+        let digit = number >> (4 * (digits - 1 - k)) & 15;
+        text.push(hex_digit(digit as u8))?;
+    }
+    Ok(())
+}
+
+fn say_type(text: &mut Vec<u8>, kind: FourCc) -> Result<(), AllocError> {
+    let mut line = Line::new();
+    line.push_type(kind);
+    text.extend_from_slice(line.as_bytes())
+}
+
+fn say_subject(text: &mut Vec<u8>, subject: Subject) -> Result<(), AllocError> {
+    match subject {
+        Subject::Movie => say(text, "movie: "),
+        Subject::Track(track) => {
+            say(text, "track ")?;
+            say_number(text, track)?;
+            say(text, ": ")
+        }
+        Subject::Sample(track, sample) => {
+            say(text, "track ")?;
+            say_number(text, track)?;
+            say(text, ": sample ")?;
+            say_number(text, u64::from(sample))?;
+            say(text, ": ")
+        }
+    }
+}
+
+// What several entries of a list are called.
+fn name_of_all(entries: Entries) -> &'static str {
+    match entries {
+        Entries::Edits => "edits",
+        Entries::Kept => "kept boxes",
+        Entries::Handler => "handlers",
+        Entries::ExtendedLanguages => "extended languages",
+        Entries::MediaHeader => "media headers",
+        Entries::Descriptions => "descriptions",
+        Entries::GroupDescriptions => "group descriptions",
+    }
+}
+
+// What one of them is called, and whether it has a number.
+fn name_of_one(entries: Entries) -> (&'static str, bool) {
+    match entries {
+        Entries::Edits => ("edit", true),
+        Entries::Kept => ("kept box", true),
+        Entries::Handler => ("handler", false),
+        Entries::ExtendedLanguages => ("extended language", true),
+        Entries::MediaHeader => ("media header", false),
+        Entries::Descriptions => ("description", true),
+        Entries::GroupDescriptions => ("group description", true),
+    }
+}
+
+// A byte of so many.
+fn say_byte(text: &mut Vec<u8>, number: u64, of: u64) -> Result<(), AllocError> {
+    say(text, "byte ")?;
+    say_number(text, number)?;
+    say(text, " of ")?;
+    say_number(text, of)?;
+    say(text, ":")
+}
+
+fn say_part(text: &mut Vec<u8>, part: Part) -> Result<(), AllocError> {
+    match part {
+        Part::Kind => say(text, "type"),
+        Part::Length => say(text, "bytes"),
+        Part::Byte(number, of) => say_byte(text, number, of),
+        Part::SegmentDuration => say(text, "segment duration"),
+        Part::MediaTime => say(text, "media time"),
+        Part::RateInteger => say(text, "rate integer"),
+        Part::RateFraction => say(text, "rate fraction"),
+    }
+}
+
+fn say_entry(
+    text: &mut Vec<u8>,
+    entries: Entries,
+    number: u64,
+    part: Part,
+) -> Result<(), AllocError> {
+    let (name, is_counted) = name_of_one(entries);
+    say(text, name)?;
+    if is_counted {
+        say(text, " ")?;
+        say_number(text, number)?;
+    }
+    say(text, ": ")?;
+    say_part(text, part)
+}
+
+fn say_group(text: &mut Vec<u8>, key: GroupKey) -> Result<(), AllocError> {
+    say(text, "group ")?;
+    say_type(text, key.kind)?;
+    if let Some(parameter) = key.parameter {
+        say(text, " ")?;
+        say_number(text, u64::from(parameter))?;
+    }
+    say(text, ":")
+}
+
+// What a value of one word is called.
+fn name_of(field: Field) -> &'static str {
+    match field {
+        Field::Creation => "creation time",
+        Field::Modification => "modification time",
+        Field::Timescale | Field::MediaTimescale => "timescale",
+        Field::Rate => "rate",
+        Field::Volume => "volume",
+        Field::Tracks => "tracks",
+        Field::Flags => "flags",
+        Field::Id => "id",
+        Field::Layer => "layer",
+        Field::AlternateGroup => "alternate group",
+        Field::Width => "width",
+        Field::Height => "height",
+        Field::MediaCreation => "media creation time",
+        Field::MediaModification => "media modification time",
+        Field::Language => "language",
+        Field::Start => "start",
+        Field::Samples => "samples",
+        Field::Duration => "duration",
+        Field::Offset => "offset",
+        Field::Description => "description",
+        _ => "size",
+    }
+}
+
+fn say_field(text: &mut Vec<u8>, field: Field) -> Result<(), AllocError> {
+    match field {
+        Field::Matrix(number) => {
+            say(text, "matrix entry ")?;
+            say_number(text, number)
+        }
+        Field::Count(entries) => say(text, name_of_all(entries)),
+        Field::Entry(entries, number, part) => say_entry(text, entries, number, part),
+        Field::Group(key) => say_group(text, key),
+        Field::Byte(number, of) => say_byte(text, number, of),
+        _ => say(text, name_of(field)),
+    }
+}
+
+// How many hexadecimal digits a number of this field has; 0 for decimal digits.
+fn digits_of(subject: Subject, field: Field) -> u32
+    ensures { result ≤ 16 }
+{
+    match (subject, field) {
+        (Subject::Sample(_, _), Field::Flags) => 8,
+        (_, Field::Flags) => 6,
+        (_, Field::Language) => 4,
+        _ => 0,
+    }
+}
+
+fn say_value(text: &mut Vec<u8>, value: Value, digits: u32) -> Result<(), AllocError>
+    requires { digits ≤ 16 }
+{
+    match value {
+        Value::Number(number) if digits > 0 => say_hex(text, number, digits),
+        Value::Number(number) => say_number(text, number),
+        Value::Signed(number) => say_signed(text, number),
+        Value::Kind(kind) => say_type(text, kind),
+        Value::Byte(byte) => say_hex(text, u64::from(byte), 2),
+    }
+}
+
+/// Adds the line that tells of a difference: the way to the value, the value in the one file, and
+/// that in the other.
+pub fn say_difference(text: &mut Vec<u8>, difference: Difference) -> Result<(), AllocError> {
+    let digits = digits_of(difference.subject, difference.field);
+    say_subject(text, difference.subject)?;
+    say_field(text, difference.field)?;
+    say(text, " ")?;
+    say_value(text, difference.left, digits)?;
+    say(text, " | ")?;
+    say_value(text, difference.right, digits)?;
+    say(text, "\n")
+}
