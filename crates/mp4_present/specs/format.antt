@@ -3,3 +3,4 @@ pub mod Denotes
 pub mod Stands
 pub mod Reduced
 pub mod Differences
+pub mod Comparison
