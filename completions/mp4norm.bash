@@ -20,12 +20,12 @@ _mp4norm() {
     esac
     case $command in
     '') words='normalise show samples extract boxes strip compare check help --help --version' ;;
-    normalise) words='--out --without --replace --explain --help' ;;
+    normalise) words='--out --without --replace --progress --explain --help' ;;
     show) words='--explain --help' ;;
     samples) words='--track --header --json --explain --help' ;;
-    extract) words='--track --out --replace --explain --help' ;;
+    extract) words='--track --out --replace --progress --explain --help' ;;
     boxes) words='--explain --help' ;;
-    strip) words='--drop --out --replace --explain --help' ;;
+    strip) words='--drop --out --replace --progress --explain --help' ;;
     compare) words='--without --all --limit --help' ;;
     check) words='--names-from --zero --help' ;;
     help) words='normalise show samples extract boxes strip compare check' ;;

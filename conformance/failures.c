@@ -2,6 +2,7 @@
  * standard input, asking for the length of a file, a write, bringing a file to the disk, or renaming one. FAIL_CALL says of
  * which kind (alloc, read, input, length, write, sync, rename), FAIL_AT which one, from 1 on; with FAIL_REST all behind it
  * fail too.
+ * Behind CHANGE_AFTER reads that cover the byte CHANGE_AT of a file, that byte is CHANGE_TO.
  * FAIL_TAKEN says how many bytes of the write that fails are taken first; -1 is all but one. At the end the number of calls
  * of that kind is written to the file FAIL_TOLD, and for writes the length of each. */
 #define _GNU_SOURCE
@@ -50,6 +51,17 @@ void *realloc(void *old, size_t size) {
     return fails("alloc") ? NULL : real(old, size);
 }
 
+/* Changes a byte of what was read, but the first times. */
+static void change(unsigned char *out, ssize_t taken, off_t at) {
+    static long seen;
+    const char *place = getenv("CHANGE_AT"), *to = getenv("CHANGE_TO"), *after = getenv("CHANGE_AFTER");
+    if (!place || !to || !after || taken <= 0) return;
+    off_t from = atol(place);
+    if (from < at || from >= at + taken) return;
+    if (seen >= atol(after)) out[from - at] = (unsigned char)atoi(to);
+    seen++;
+}
+
 ssize_t pread(int file, void *out, size_t count, off_t at) {
     static ssize_t (*real)(int, void *, size_t, off_t);
     if (!real) real = (ssize_t (*)(int, void *, size_t, off_t))dlsym(RTLD_NEXT, "pread");
@@ -57,7 +69,9 @@ ssize_t pread(int file, void *out, size_t count, off_t at) {
         errno = EIO;
         return -1;
     }
-    return real(file, out, count, at);
+    ssize_t taken = real(file, out, count, at);
+    change(out, taken, at);
+    return taken;
 }
 
 ssize_t read(int file, void *out, size_t count) {

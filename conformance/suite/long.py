@@ -13,6 +13,8 @@ GAP = 200_000
 FAR_FRAGMENTS = 30
 # Samples of one byte of a file whose list of samples is long.
 MANY = 90_000
+# Bytes of a sample that no buffer holds.
+LONG = 2**22
 
 
 def pattern(length, first):
@@ -101,17 +103,27 @@ def with_far_fragments():
     return File(boxes)
 
 
-def with_many_samples():
-    """A track of many samples of one byte, so that its list of samples is long."""
-    data = Box('mdat', pattern(MANY, 0))
+def with_one_track(count, size):
+    """A track of so many samples of one size, in one chunk."""
+    data = Box('mdat', pattern(count * size, 0))
     one = track(True, 1, data)
     stbl = [child for child in one.children if child.kind == 'mdia'][0]
     minf = [child for child in stbl.children if child.kind == 'minf'][0]
     minf.children[-1] = Box('stbl', b'', [
         Box('stsd', full(0) + u32(1), [Box('mp4v', bytes(6) + u16(1))]),
-        table('stts', [u32(MANY) + u32(512)]),
-        table('stsc', [u32(1) + u32(MANY) + u32(1)]),
-        Box('stsz', full(0) + u32(1) + u32(MANY)),
+        table('stts', [u32(count) + u32(512)]),
+        table('stsc', [u32(1) + u32(count) + u32(1)]),
+        Box('stsz', full(0) + u32(size) + u32(count)),
         chunk_places(True, data, 0),
     ])
     return File([Box('moov', b'', [movie_header(True), one]), data])
+
+
+def with_many_samples():
+    """A track of many samples of one byte, so that its list of samples is long."""
+    return with_one_track(MANY, 1)
+
+
+def with_long_samples():
+    """Three samples that no buffer holds."""
+    return with_one_track(3, LONG)

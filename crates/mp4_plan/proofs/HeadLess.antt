@@ -39,7 +39,7 @@ pub kept_less : (kept : List Kept) → map kept_seen (filter (λ (k : Kept). not
 kept_less [] = refl
 kept_less (k ∷ kept) = one_less k kept (not (is_among metadata_kinds k.kind.0)) refl (kept_less kept)
 
--- ---- how long the movie is
+-- ---- how long the movie is where edits stay
 
 module _ (l : Leaving) (stay : l.edits ≡ false) where
   longest_same : (timescale most : ℕ) (tracks : List Track) → fold (λ n (t : Track). max n (track_length timescale t)) most (map (reduce_track l) tracks) ≡ fold (λ n (t : Track). max n (track_length timescale t)) most tracks
@@ -51,21 +51,24 @@ module _ (l : Leaving) (stay : l.edits ≡ false) where
   pub same_length : (p : Presentation) → movie_length (reduce l p) ≡ movie_length p
   same_length p = longest_same p.movie.timescale 0 p.tracks
 
+-- ---- the head
+
+module _ (l : Leaving) where
   -- the head that is read anew, and then reduced, is that of the normal form, and short
   pub head_left : (file : List ℕ) (m : MovieSeen) (tree : FileTree) (head left : MovieHead) → IsOpenedAs file m tree → SaysHead (moov_box m) head → movie_seen left ≡ reduce_movie_head l (movie_seen head) → tracks_seen left ≡ map (reduce_track_head l) (tracks_seen head)
-      → IsHeadOf (reduce l (presentation_of file tree)) left m.mehd
+      → IsHeadOf (reduce l (presentation_of file tree)) left (movie_length (reduce l (presentation_of file tree)))
   head_left file m tree head left o says movie_is tracks_are =
       let p = presentation_of file tree in
+      let mehd = movie_length (reduce l p) in
       let said = (said_of (moov_box m) head tree.movie says (sym o.moov) o.is_tree.movie).0 in
       let tracks : tracks_seen head ≡ map (λ (u : Track). u.head) p.tracks = ap (λ (h : heads.Head). h.tracks) said ∙ sym (map_twice (track_of file (file_parts tree)) (λ (u : Track). u.head) tree.movie.tracks) in
       let movie = movie_is ∙ ap (λ (h : heads.Head). reduce_movie_head l h.movie) said in
       let all : tracks_seen left ≡ heads_of (reduce l p) = tracks_are ∙ ap (map (reduce_track_head l)) tracks ∙ map_twice (λ (u : Track). u.head) (reduce_track_head l) p.tracks ∙ sym (map_twice (reduce_track l) (λ (u : Track). u.head) p.tracks) in
-      let same = o.mehd ∙ sym (same_length p) in
       let ftyp : length ftyp_bytes ≡ 24 = refl in
       let fits : normal_moov_length p ≤ 2 ^ 30 = o.limits.moov in
       let less = shorter_moov l p refl (nine_all file tree tree.movie.tracks) in
-      let both = length-append ftyp_bytes (moov_bytes (reduce l p).movie (heads_of (reduce l p)) (movie_length (reduce l p))) in
-      record { bytes = λ i. head_bytes (movie i) (all i) (same i); short = omega (arith, ftyp, fits, less, both) }
+      let both = length-append ftyp_bytes (moov_bytes (reduce l p).movie (heads_of (reduce l p)) mehd) in
+      record { bytes = λ i. head_bytes (movie i) (all i) mehd; short = omega (arith, ftyp, fits, less, both) }
     where
       nine_all : (file : List ℕ) (tree : FileTree) (trees : List TrackTree) → AllByRecursion (λ (t : Track). length t.head.matrix ≡ 9) (map (track_of file (file_parts tree)) trees)
       nine_all file tree [] = tt

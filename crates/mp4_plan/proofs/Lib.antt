@@ -74,6 +74,9 @@ pub mod TakenFrom
 pub mod ReducedTaken
 pub mod CarriedLess
 pub mod HeadLess
+pub mod LeftTimes
+pub mod LeftRefused
+pub mod ReducedFaults
 pub mod FirstTurn
 pub mod NextSamples
 pub mod Planning

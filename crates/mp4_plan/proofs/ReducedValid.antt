@@ -50,7 +50,7 @@ abbrev both_lengths : TrackHead → ℕ
 both_lengths t = length (trak_bytes t) + length (trex_bytes t)
 
 -- how long a track is, by its edits and by how long its samples are
-abbrev length_by : ℕ → ℕ → List Edit → ℕ → ℕ
+abbrev pub length_by : ℕ → ℕ → List Edit → ℕ → ℕ
 length_by timescale media edits total = if says_all edits then sum_of (λ (e : Edit). e.segment_duration) edits else div_ceil (total * timescale) media
 
 module _ (l : Leaving) where
@@ -228,7 +228,7 @@ module _ (l : Leaving) where
 
   -- ---- where edits stay
 
-  durations_same : (samples : List Sample) → total_duration (map (reduce_sample l) samples) ≡ total_duration samples
+  pub durations_same : (samples : List Sample) → total_duration (map (reduce_sample l) samples) ≡ total_duration samples
   durations_same [] = refl
   durations_same (s ∷ samples) = ap (λ n. s.duration + n) (durations_same samples)
 
@@ -238,7 +238,7 @@ module _ (l : Leaving) where
       let n = durations_same t.samples in
       λ i. length_by timescale t.head.media.timescale (same i) (n i)
 
-  in_time_stays : (timescale : ℕ) (t : Track) → l.edits ≡ false → IsInTime timescale t → IsInTime timescale (reduce_track l t)
+  pub in_time_stays : (timescale : ℕ) (t : Track) → l.edits ≡ false → IsInTime timescale t → IsInTime timescale (reduce_track l t)
   in_time_stays timescale t stay h =
       let same : (if l.edits then [] else t.head.edits) ≡ t.head.edits = ap (λ (b : Bool). if b then [] else t.head.edits) stay in
       let n = durations_same t.samples in

@@ -8,3 +8,4 @@ pub mod Laws
 pub mod Held
 pub mod ReducedLaws
 pub mod Agreeing
+pub mod ReducedTimes

@@ -13,3 +13,4 @@ pub mod TurnLaws
 pub mod Stretches
 pub mod HandsFed
 pub mod WriterSteps
+pub mod LeftTimes

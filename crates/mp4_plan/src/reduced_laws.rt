@@ -1,7 +1,7 @@
 //! Laws of what is left of presentations, and of its normal form.
 
 ghost use Rattle.mp4_plan.specs.format.Agreeing.{ReduceIsExact};
-ghost use Rattle.mp4_plan.specs.format.ReducedLaws.{EditsMayHoldTime, NothingReduces, ReduceIsFixed, ReducedIsValid, ReducedNormalDenotes, ReducedNormalIsExact, ReducedNormalIsFixed, ReducedStaysValid, ReducesInAnyOrder, ReducesOnce};
+ghost use Rattle.mp4_plan.specs.format.ReducedLaws.{EditsMayHoldTime, NothingReduces, ReduceIsFixed, ReducedFaultIsOne, ReducedFaultRefuses, ReducedIsValid, ReducedNormalDenotes, ReducedNormalIsExact, ReducedNormalIsFixed, ReducedStaysValid, ReducesInAnyOrder, ReducesOnce};
 
 /// Leaving out nothing changes nothing.
 pub fn nothing_reduces()
@@ -41,6 +41,16 @@ pub fn reduced_stays_valid()
 /// Without its edits what is valid may be too long, whatever else is left out.
 pub fn edits_may_hold_time()
     ensures { EditsMayHoldTime }
+{}
+
+/// Where a fault names a track that is too long without its edits, what is left is too long.
+pub fn reduced_fault_refuses()
+    ensures { ReducedFaultRefuses }
+{}
+
+/// Where what is left is too long, exactly one such fault stands: of the first such track.
+pub fn reduced_fault_is_one()
+    ensures { ReducedFaultIsOne }
 {}
 
 /// The normal form of what is left denotes it, where its tracks are not too long.

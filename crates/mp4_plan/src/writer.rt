@@ -1,5 +1,5 @@
 //! The normal form of a presentation, written.
-ghost use Rattle.std.specs.Prelude.{◌≡◌, ℕ, ◌+◌, ◌*◌, ◌-◌, ◌^◌, ◌<◌, ◌≤◌, min, List, ◌++◌, length, take, drop, slice_index, slice_get, Some, None, false, IfOk, IfErr, OnOk, OnErr};
+ghost use Rattle.std.specs.Prelude.{◌≡◌, ℕ, ◌+◌, ◌*◌, ◌-◌, ◌^◌, ◌<◌, ◌≤◌, min, List, ◌++◌, length, take, drop, slice_index, slice_get, Some, None, IfOk, IfErr, OnOk, OnErr};
 ghost use Rattle.std.specs.Io.KnownBytes.{Appends};
 ghost use Rattle.std.specs.List.{AllByRecursion};
 ghost use Rattle.mp4_boxes.specs.format.Bytes.{sum_of};
@@ -10,9 +10,11 @@ ghost use Rattle.mp4_tables.specs.words.Keys.{keys_seen};
 ghost use Rattle.mp4_tables.specs.declared.sample.SampleAt.{SampleAt};
 ghost use Rattle.mp4_present.specs.declared.track_info.TrackInfo.{TrackInfo};
 ghost use Rattle.mp4_present.specs.words.Carried.{BytesGoOn, waiting};
-ghost use Rattle.mp4_present.specs.format.Reduced.{reduce};
+ghost use Rattle.mp4_present.specs.format.Presentation.{movie_length};
+ghost use Rattle.mp4_present.specs.format.Reduced.{ReducesInTime, reduce};
 ghost use Rattle.mp4_present.specs.declared.leaving.Leaving.{Leaving};
 ghost use Rattle.mp4_plan.specs.words.ComingLess.{ComesLess};
+ghost use Rattle.mp4_plan.specs.words.LeftTimes.{NamesLong, RefusesLeft, RefusesLeftCopy};
 ghost use Rattle.mp4_present.specs.format.Denotes.{FileTree, presentation_of};
 ghost use Rattle.mp4_present.specs.words.Joined.{IsBelow, sample_bytes};
 ghost use Rattle.mp4_present.specs.words.OpenedMovie.{IsOpenedAs};
@@ -31,6 +33,7 @@ use crate::carrying::{Load, carry_later};
 use crate::courses::{next_sample, note_piece, plan_turn};
 use crate::ends::first_goes;
 use crate::joined::Stretches;
+use crate::left_times::length_left;
 use crate::moof_front::{PieceHead, moof_front};
 use crate::moof_rows::{carry_groups, carry_run};
 use crate::moof_sizes::sizes_of;
@@ -244,10 +247,9 @@ fn head_left<'a>(
     movie: &'a Movie,
     leaving: Leaving,
 ) -> Result<MovieHead<'a>, Refusal>
-    requires { leaving.edits ≡ false }
     ensures left { (file : List ℕ) (tree : FileTree) → IsOpenedAs file movie.entry.now tree
-        → IfOk result
-        (λ h. IsHeadOf (reduce leaving (presentation_of file tree)) h movie.entry.now.mehd) }
+        → IfOk result (λ h. IsHeadOf (reduce leaving (presentation_of file tree)) h
+        (movie_length (reduce leaving (presentation_of file tree)))) }
     ensures memory { IfErr result (λ r. r ≡ refusals.Memory) }
 {
     let mut head = movie.head(alloc)?;
@@ -255,10 +257,10 @@ fn head_left<'a>(
     Ok(head)
 }
 
-// The bytes of `ftyp` and `moov`.
-fn head_of(alloc: Global, movie: &Movie, leaving: Leaving) -> Result<Vec<u8>, Refusal>
-    requires { leaving.edits ≡ false }
+// The bytes of `ftyp` and `moov`, where this is the length of the longest track.
+fn head_of(alloc: Global, movie: &Movie, leaving: Leaving, mehd: u64) -> Result<Vec<u8>, Refusal>
     ensures head { (file : List ℕ) (tree : FileTree) → IsOpenedAs file movie.now tree
+        → mehd ≡ movie_length (reduce leaving (presentation_of file tree))
         → IfOk result (λ bytes. bytes.items
         ≡ head_of_normal (reduce leaving (presentation_of file tree))) }
     ensures unchanged { (file : List ℕ) (tree : FileTree) → IsOpenedAs file movie.now tree
@@ -269,10 +271,11 @@ fn head_of(alloc: Global, movie: &Movie, leaving: Leaving) -> Result<Vec<u8>, Re
     if head_len(&head) > MOST_HEAD {
         return Err(Refusal::StoreChanged);
     }
-    Ok(head_bytes(alloc, &head, movie.mehd())?)
+    Ok(head_bytes(alloc, &head, mehd)?)
 }
 
-/// The length of the normal form of what is left of a movie, where edits stay.
+/// The length of the normal form of what is left of a movie; a fault where a track is too long
+/// without its edits.
 pub fn reduced_len<S: Store, L: Ledger>(
     alloc: Global,
     movie: &Movie,
@@ -280,20 +283,24 @@ pub fn reduced_len<S: Store, L: Ledger>(
     leaving: Leaving,
     steps: &mut Steps<L>,
 ) -> Result<u64, Refusal>
-    requires { leaving.edits ≡ false }
     ensures honesty { S.is_honest store.new ≡ S.is_honest store.old }
     ensures file { S.file store.new ≡ S.file store.old }
     ensures length { WhereOpened (S.is_honest store.old) (S.file store.old) movie.now
         (λ tree. IfOk result (λ len. len
         ≡ length (normal (reduce leaving (presentation_of (S.file store.old) tree))))) }
+    ensures in_time { WhereOpened (S.is_honest store.old) (S.file store.old) movie.now
+        (λ tree. OnOk result (ReducesInTime leaving (presentation_of (S.file store.old) tree))) }
+    ensures fault { WhereOpened (S.is_honest store.old) (S.file store.old) movie.now
+        (λ tree. IfErr result (NamesLong leaving (S.file store.old) tree)) }
     ensures unchanged { WhereOpened (S.is_honest store.old) (S.file store.old) movie.now
         (λ tree. IfErr result (λ r. r ≡ refusals.StoreChanged → ⊥)) }
     ensures reads { OnOk result (S.read_failures store.new ≡ S.read_failures store.old) }
     ensures refusal { IfErr result
-        (RefusesPlan (S.read_failures store.old) (S.read_failures store.new)) }
+        (RefusesLeft leaving (S.read_failures store.old) (S.read_failures store.new)) }
     ensures work { WhereOpened (S.is_honest store.old) (S.file store.old) movie.now
         (λ tree. steps.new ≤ steps.old + walks_steps tree) }
 {
+    length_left(alloc, movie, leaving)?;
     let plan = plan_all(alloc, movie, store, leaving, steps)?;
     let head = head_left(alloc, movie, leaving)?;
     Ok(
@@ -353,9 +360,8 @@ fn sequence_behind(sequence: u32, head: &Option<PieceHead>) -> u32
 }
 
 impl Writer {
-    /// Plans all of what is left of a movie, where edits stay, and then takes all memory that
-    /// writing
-    /// it needs.
+    /// Plans all of what is left of a movie, and then takes all memory that writing it needs. A
+    /// track that is too long without its edits is a fault, before anything is read.
     pub fn reduced<S: Store, L: Ledger>(
         alloc: Global,
         movie: &Movie,
@@ -363,7 +369,6 @@ impl Writer {
         leaving: Leaving,
         steps: &mut Steps<L>,
     ) -> Result<Writer, Refusal>
-        requires { leaving.edits ≡ false }
         ensures writer { IfOk result (IsWriterOf movie.now) }
         ensures held { IfOk result (λ w. held w ≡ length w.head.items
             + 2 * (length movie.now.tracks * movie.now.longest) + 24 * length w.rows.items
@@ -377,21 +382,27 @@ impl Writer {
             (λ tree. IfOk result (IsReady (S.file store.old) tree movie.now)) }
         ensures unchanged { WhereOpened (S.is_honest store.old) (S.file store.old) movie.now
             (λ tree. IfErr result (λ r. r ≡ refusals.StoreChanged → ⊥)) }
+        ensures in_time { WhereOpened (S.is_honest store.old) (S.file store.old) movie.now
+            (λ tree. OnOk result
+            (ReducesInTime leaving (presentation_of (S.file store.old) tree))) }
+        ensures fault { WhereOpened (S.is_honest store.old) (S.file store.old) movie.now
+            (λ tree. IfErr result (NamesLong leaving (S.file store.old) tree)) }
         ensures left { IfOk result (λ w. w.leaving ≡ leaving) }
         ensures reads { OnOk result (S.read_failures store.new ≡ S.read_failures store.old) }
         ensures refusal { IfErr result
-            (RefusesPlan (S.read_failures store.old) (S.read_failures store.new)) }
+            (RefusesLeft leaving (S.read_failures store.old) (S.read_failures store.new)) }
         ensures work { WhereOpened (S.is_honest store.old) (S.file store.old) movie.now
             (λ tree. steps.new ≤ steps.old + walks_steps tree) }
         ensures may { WhereOpened (S.is_honest store.old) (S.file store.old) movie.now
             (λ tree. IfOk result (λ w. MayAllBegin (S.file store.old) tree w.planning.items
             × MayAllBegin (S.file store.old) tree w.copying.items)) }
     {
+        let mehd = length_left(alloc, movie, leaving)?;
         let plan = plan_all(alloc, movie, store, leaving, steps)?;
         Ok(Writer {
             leaving,
             carrier: Carrier::new(alloc, PIECE)?,
-            head: head_of(alloc, movie, leaving)?,
+            head: head_of(alloc, movie, leaving, mehd)?,
             rows: vec![in alloc; NO_ROW; plan.longest as usize]?,
             stretches: Stretches::new(),
             planning: walks_of(alloc, movie)?,
@@ -827,9 +838,9 @@ impl Writer {
     }
 }
 
-/// Puts the normal form of what is left of a movie, where edits stay: it is planned, all memory
-/// that
-/// writing it needs is taken, and then it is written. Want of memory comes before the first byte.
+/// Puts the normal form of what is left of a movie: it is planned, all memory that writing it needs
+/// is taken, and then it is written. Want of memory, and the fault of a track that is too long
+/// without its edits, come before the first byte.
 pub fn write_reduced<S: Store, K: Sink, L: Ledger>(
     alloc: Global,
     movie: &Movie,
@@ -838,7 +849,6 @@ pub fn write_reduced<S: Store, K: Sink, L: Ledger>(
     leaving: Leaving,
     steps: &mut Steps<L>,
 ) -> Result<(), Refusal>
-    requires { leaving.edits ≡ false }
     ensures honesty { S.is_honest store.new ≡ S.is_honest store.old }
     ensures file { S.file store.new ≡ S.file store.old }
     ensures bytes { WhereOpened (S.is_honest store.old) (S.file store.old) movie.now
@@ -849,6 +859,13 @@ pub fn write_reduced<S: Store, K: Sink, L: Ledger>(
         (λ tree. OnErr result
         (AppendsPrefix (K.contents sink.old) (K.contents sink.new)
         (normal (reduce leaving (presentation_of (S.file store.old) tree))))) }
+    ensures in_time { WhereOpened (S.is_honest store.old) (S.file store.old) movie.now
+        (λ tree. OnOk result (ReducesInTime leaving (presentation_of (S.file store.old) tree))) }
+    ensures fault { WhereOpened (S.is_honest store.old) (S.file store.old) movie.now
+        (λ tree. IfErr result (NamesLong leaving (S.file store.old) tree)) }
+    ensures nothing { WhereOpened (S.is_honest store.old) (S.file store.old) movie.now
+        (λ tree. (ReducesInTime leaving (presentation_of (S.file store.old) tree) → ⊥)
+        → K.contents sink.new ≡ K.contents sink.old) }
     ensures unchanged { WhereOpened (S.is_honest store.old) (S.file store.old) movie.now
         (λ tree. IfErr result (λ r. r ≡ refusals.StoreChanged → ⊥)) }
     ensures work { WhereOpened (S.is_honest store.old) (S.file store.old) movie.now
@@ -856,7 +873,7 @@ pub fn write_reduced<S: Store, K: Sink, L: Ledger>(
     ensures reads { OnOk result (S.read_failures store.new ≡ S.read_failures store.old) }
     ensures puts { OnOk result (K.put_failures sink.new ≡ K.put_failures sink.old) }
     ensures refusal { IfErr result
-        (RefusesCopy (K.contents sink.old) (K.contents sink.new)
+        (RefusesLeftCopy leaving (K.contents sink.old) (K.contents sink.new)
         (S.read_failures store.old) (S.read_failures store.new)
         (K.put_failures sink.old) (K.put_failures sink.new)) }
 {

@@ -68,4 +68,12 @@ pub mod OpenedDenotes
 pub mod PassedOn
 pub mod GoneBack
 pub mod Differing
+pub mod ComparisonValues
+pub mod ComparisonHeads
+pub mod ComparisonGroups
+pub mod ComparisonWhole
+pub mod ComparisonKeys
+pub mod ComparisonTurned
+pub mod ComparisonPlaces
+pub mod ComparisonVectors
 mod NextSample

@@ -4,3 +4,4 @@ pub mod Stands
 pub mod Reduced
 pub mod Differences
 pub mod Comparison
+pub mod ComparisonLaws

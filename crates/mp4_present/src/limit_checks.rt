@@ -1,5 +1,6 @@
 //! The limits that hold of a presentation as a whole.
-ghost use Rattle.std.specs.Prelude.{◌≡◌, ◌-◌, ◌^◌, ◌<◌, ◌≤◌, if◌then◌else◌, min, max, length, map, Some, None, IfOk, IfErr, codes};
+ghost use Rattle.std.specs.Prelude.{◌≡◌, ◌-◌, ◌*◌, ◌^◌, ◌<◌, ◌≤◌, if◌then◌else◌, min, max, length, map, Some, None, IfOk, IfErr, codes};
+ghost use Rattle.std.specs.Int.{div_ceil};
 ghost use Rattle.std.specs.List.{AllByRecursion};
 ghost use Rattle.mp4_boxes.specs.format.Bytes.{sum_of};
 ghost use Rattle.mp4_boxes.specs.words.View.{box_seen};
@@ -16,7 +17,7 @@ use mp4_frag::TrackState;
 use mp4_head::{Edit, MovieHead, TrackHead, head_len};
 
 /// The latest time and the greatest length of a track.
-const MOST_TIME: u128 = (1 << 63) - 1;
+pub const MOST_TIME: u128 = (1 << 63) - 1;
 
 /// The most bytes of the `moov` in the normal form, and the bytes of the `ftyp` before it.
 const MOST_MOOV: u128 = 1 << 30;
@@ -42,6 +43,15 @@ fn length_of_edits(edits: &[Edit]) -> Option<u128>
     Some(length)
 }
 
+/// How long samples take in the movie's timescale, rounded up, by the sum of their durations in a
+/// timescale of their own. One of 0 is taken for 1.
+pub fn length_of_samples(duration: u64, own: u32, timescale: u32) -> u128
+    ensures { result ≡ div_ceil (duration * timescale) (max own 1) }
+{
+    let scaled = u128::from(duration) * u128::from(timescale);
+    scaled.div_ceil(u128::from(own.max(1)))
+}
+
 // The length of a track in the movie's timescale: by its edits, else by the durations of its
 // samples, rounded up.
 fn track_length(track: &TrackHead, duration: u64, timescale: u32) -> u128
@@ -51,10 +61,7 @@ fn track_length(track: &TrackHead, duration: u64, timescale: u32) -> u128
 {
     match length_of_edits(track.edits.as_slice()) {
         Some(length) => length,
-        None => {
-            let scaled = u128::from(duration) * u128::from(timescale);
-            scaled.div_ceil(u128::from(track.media.timescale.max(1)))
-        }
+        None => length_of_samples(duration, track.media.timescale, timescale),
     }
 }
 

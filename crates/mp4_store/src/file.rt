@@ -4,6 +4,7 @@ ghost use Rattle.std.specs.Prelude.{false, replicate};
 use crate::store::{Store, StoreFailed};
 use std::fs::File;
 use std::io;
+use std::io::{Seek, SeekFrom};
 use std::os::unix::fs::FileExt;
 
 /// A store over an open file, whose length is taken once. What the file gives isn't known.
@@ -15,10 +16,10 @@ pub struct FileStore {
 }
 
 impl FileStore {
-    /// Takes the length that the file has now; later changes of it are not seen, but that a read
-    /// past its end fails.
-    pub fn new(file: File) -> io::Result<FileStore> {
-        let size = file.metadata()?.len();
+    /// Takes the length that the file or block device has now, by going to its end; later changes
+    /// of it are not seen, but that a read past its end fails.
+    pub fn new(mut file: File) -> io::Result<FileStore> {
+        let size = file.seek(SeekFrom::End(0))?;
         Ok(FileStore {
             file,
             size,

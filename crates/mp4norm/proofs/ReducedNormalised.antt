@@ -5,7 +5,6 @@ use Rattle.std.specs.Io.KnownBytes.{Appends}
 use Rattle.mp4_store.specs.words.Device.{AppendsPrefix}
 use Rattle.mp4_boxes.specs.declared.refusal.Refusal.{Refusal}
 use Rattle.mp4_boxes.specs.declared.refusal.Refusal.TheVariants as refusals
-use Rattle.mp4_present.specs.words.Carried.{RefusesCopy}
 use Rattle.mp4_present.specs.format.Denotes.{FileTree, presentation_of}
 use Rattle.mp4_present.specs.format.Reduced.{reduce}
 use Rattle.mp4_present.specs.words.Movies.{MovieSeen}
@@ -14,8 +13,9 @@ use Rattle.mp4_present.specs.words.Opening.{RefusesOpen}
 use Rattle.mp4_present.specs.declared.leaving.Leaving.{Leaving}
 use Rattle.mp4_present.proofs.WalkCopied.{on_err}
 use Rattle.mp4_plan.specs.format.Normal.{normal}
+use Rattle.mp4_plan.specs.words.LeftTimes.{NamesLong, RefusesLeftCopy}
 use Rattle.mp4norm.specs.words.Commands.{PutsFrontOf}
-use Rattle.mp4norm.specs.format.ReducedHeadline.{HasReducedForm}
+use Rattle.mp4norm.specs.format.ReducedHeadline.{HasReducedForm, IsLeftTooLong}
 use Rattle.mp4norm.specs.words.ReducedJob.{RefusesReduced}
 use Rattle.mp4norm.proofs.Normalised.{denotes_nothing}
 use Rattle.mp4norm.proofs.ShownLines.{denoted}
@@ -29,28 +29,50 @@ reduced_form l file m tree o = (presentation_of file tree, denoted file m tree o
 -- a file that isn't opened
 pub reduced_open_refuses : (l : Leaving) (honest : Bool) (file : List ℕ) (held : Option (List ℕ)) (reads reads_after puts : ℕ) (r : Refusal) → RefusesOpen honest file reads reads_after r
     → RefusesReduced l honest file held held reads reads_after puts puts r
-reduced_open_refuses l honest file held reads reads_after puts (refusals.Fault f) w = (λ told. (w told, denotes_nothing file f (w told)), refl)
+reduced_open_refuses l honest file held reads reads_after puts (refusals.Fault f) w = (λ told. inl (w told, denotes_nothing file f (w told)), refl)
 reduced_open_refuses l honest file held reads reads_after puts refusals.Memory w = refl
 reduced_open_refuses l honest file held reads reads_after puts refusals.StoreFailed w = (w, λ told. inl refl)
 reduced_open_refuses l honest file held reads reads_after puts refusals.StoreChanged w = w
 reduced_open_refuses l honest file held reads reads_after puts refusals.WriteFailed w = absurd w
 reduced_open_refuses l honest file held reads reads_after puts refusals.NoSuchTrack w = absurd w
 
-write_refused : (l : Leaving) (honest : Bool) (file : List ℕ) (before after : Option (List ℕ)) (reads reads_after puts puts_after : ℕ) (r : Refusal) → RefusesCopy before after reads reads_after puts puts_after r
-    → (IsTrue honest → PutsFrontOf (HasReducedForm l file) before after) → (IsTrue honest → r ≡ refusals.StoreChanged → ⊥) → RefusesReduced l honest file before after reads reads_after puts puts_after r
-write_refused l honest file before after reads reads_after puts puts_after (refusals.Fault f) w p u = absurd w
-write_refused l honest file before after reads reads_after puts puts_after refusals.Memory w p u = w
-write_refused l honest file before after reads reads_after puts puts_after refusals.StoreFailed w p u = (w, λ told. inr (p told))
-write_refused l honest file before after reads reads_after puts puts_after refusals.StoreChanged w p u = λ told. u told refl
-write_refused l honest file before after reads reads_after puts puts_after refusals.WriteFailed w p u = (w, p)
-write_refused l honest file before after reads reads_after puts puts_after refusals.NoSuchTrack w p u = absurd w
+-- what is named where what is left is too long
+abbrev pub TooLong : Leaving → List ℕ → Refusal → Type 0
+TooLong l file (refusals.Fault f) = IsLeftTooLong l file f
+TooLong l file _ = Unit {0}
+
+write_refused : (l : Leaving) (honest : Bool) (file : List ℕ) (before after : Option (List ℕ)) (reads reads_after puts puts_after : ℕ) (r : Refusal) → RefusesLeftCopy l before after reads reads_after puts puts_after r
+    → (IsTrue honest → PutsFrontOf (HasReducedForm l file) before after) → (IsTrue honest → r ≡ refusals.StoreChanged → ⊥) → (IsTrue honest → TooLong l file r) → RefusesReduced l honest file before after reads reads_after puts puts_after r
+write_refused l honest file before after reads reads_after puts puts_after (refusals.Fault f) w p u t = (λ told. inr (t told), w.1)
+write_refused l honest file before after reads reads_after puts puts_after refusals.Memory w p u t = w
+write_refused l honest file before after reads reads_after puts puts_after refusals.StoreFailed w p u t = (w, λ told. inr (p told))
+write_refused l honest file before after reads reads_after puts puts_after refusals.StoreChanged w p u t = λ told. u told refl
+write_refused l honest file before after reads reads_after puts puts_after refusals.WriteFailed w p u t = (w, p)
+write_refused l honest file before after reads reads_after puts puts_after refusals.NoSuchTrack w p u t = absurd w
 
 -- a movie that isn't written
 pub reduced_write_refuses : (l : Leaving) {T : Type 0} (answer : Result T Refusal) (honest : Bool) (file : List ℕ) (before after : Option (List ℕ)) (reads reads_after puts puts_after : ℕ)
-    → IfErr answer (RefusesCopy before after reads reads_after puts puts_after) → (IsTrue honest → OnErr answer (PutsFrontOf (HasReducedForm l file) before after)) → (IsTrue honest → IfErr answer (λ r. r ≡ refusals.StoreChanged → ⊥))
-    → IfErr answer (RefusesReduced l honest file before after reads reads_after puts puts_after)
-reduced_write_refuses l (Ok x) honest file before after reads reads_after puts puts_after w p u = tt
-reduced_write_refuses l (Err r) honest file before after reads reads_after puts puts_after w p u = write_refused l honest file before after reads reads_after puts puts_after r w p u
+    → IfErr answer (RefusesLeftCopy l before after reads reads_after puts puts_after) → (IsTrue honest → OnErr answer (PutsFrontOf (HasReducedForm l file) before after)) → (IsTrue honest → IfErr answer (λ r. r ≡ refusals.StoreChanged → ⊥))
+    → (IsTrue honest → IfErr answer (TooLong l file)) → IfErr answer (RefusesReduced l honest file before after reads reads_after puts puts_after)
+reduced_write_refuses l (Ok x) honest file before after reads reads_after puts puts_after w p u t = tt
+reduced_write_refuses l (Err r) honest file before after reads reads_after puts puts_after w p u t = write_refused l honest file before after reads reads_after puts puts_after r w p u t
+
+too_long : (l : Leaving) (file : List ℕ) (m : MovieSeen) (tree : FileTree) → IsOpenedAs file m tree → (r : Refusal) → NamesLong l file tree r → TooLong l file r
+too_long l file m tree o (refusals.Fault f) n = record {
+  p = presentation_of file tree;
+  denotes = record { tree = tree; is_tree = o.is_tree; is_sound = o.is_sound; is_consistent = o.is_consistent; says = refl; limits = o.limits };
+  long = n.1;
+  named = n.0;
+}
+too_long l file m tree o refusals.Memory n = tt
+too_long l file m tree o refusals.StoreFailed n = tt
+too_long l file m tree o refusals.StoreChanged n = tt
+too_long l file m tree o refusals.WriteFailed n = tt
+too_long l file m tree o refusals.NoSuchTrack n = tt
+
+if_too_long : (l : Leaving) (file : List ℕ) (m : MovieSeen) (tree : FileTree) → IsOpenedAs file m tree → {T : Type 0} (answer : Result T Refusal) → IfErr answer (NamesLong l file tree) → IfErr answer (TooLong l file)
+if_too_long l file m tree o (Ok x) n = tt
+if_too_long l file m tree o (Err r) n = too_long l file m tree o r n
 
 -- ---- what is so of the boxes of a file that was opened, is so of what it denotes
 
@@ -77,3 +99,6 @@ module _ (l : Leaving) (honest honest_then : Bool) (file file_then : List ℕ) (
 
   pub reduced_unchanged : {T : Type 0} (answer : Result T Refusal) → Then honest_then file_then (λ f t. IfErr answer (λ r. r ≡ refusals.StoreChanged → ⊥)) → IsTrue honest → IfErr answer (λ r. r ≡ refusals.StoreChanged → ⊥)
   reduced_unchanged answer put told = so (λ f t. IfErr answer (λ r. r ≡ refusals.StoreChanged → ⊥)) put told
+
+  pub reduced_too_long : {T : Type 0} (answer : Result T Refusal) → Then honest_then file_then (λ f t. IfErr answer (NamesLong l f t)) → IsTrue honest → IfErr answer (TooLong l file)
+  reduced_too_long answer put told = if_too_long l file m (opened told).0 (opened told).1 answer (so (λ f t. IfErr answer (NamesLong l f t)) put told)

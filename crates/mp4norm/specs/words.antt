@@ -6,3 +6,4 @@ pub mod MainJob
 pub mod Sources
 pub mod ReducedJob
 pub mod Jobs
+pub mod Compares

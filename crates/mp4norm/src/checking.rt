@@ -1,16 +1,16 @@
 //! Many files, judged one after the other.
-use crate::causes::Trouble;
 use crate::input::read_input;
+use crate::reports::Report;
 use crate::sources::{MOST_INPUT, open};
 use crate::verdicts::{first_name, put_verdict, verdict_status};
-use crate::wanted::Input;
+use crate::wanted::{Input, Telling};
 use mp4_boxes::Refusal;
 use mp4_store::{IoSink, Sink};
 use std::fs::File;
 
 // Judges what is read.
 fn answer_of(rt: &HostRuntime, input: Input) -> Result<(), Refusal> {
-    open(rt, input, &mut Trouble::new(false))?.judge(rt.alloc())
+    open(rt, input, &mut Report::new(Telling::NOTHING))?.judge(rt.alloc())
 }
 
 // Judges a file of a list. The system's names are text.

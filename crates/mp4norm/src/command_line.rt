@@ -1,36 +1,16 @@
-//! The command line.
+//! What the words of a command line ask for.
 ghost use Rattle.std.specs.Prelude.{◌≡◌, ◌≤◌, [], IfOk, IfSome, Ok};
 ghost use Rattle.mp4norm.specs.words.Actions.{IsJob, IsAction, boxes_of_input};
 
+use crate::commands::whole_command;
 use crate::comparing::Listing;
 use crate::drop_lists::names_of;
 use crate::leaving_words::leaving_of;
-use crate::wanted::{Action, CommandFault, Form, Input, Job, Target};
+use crate::wanted::{Action, CommandFault, Form, Input, Job, Target, Telling};
 use clap::error::ErrorKind;
-use clap::{Arg, ArgAction, ArgMatches, Command, Error, value_parser};
+use clap::{ArgMatches, Error};
 use mp4_present::Leaving;
 use std::alloc::{AllocError, Global};
-
-/// The program's version, and the number of the normal form.
-const VERSION: &str = "0.2.0, normal form 1";
-
-/// What stands behind the help of the whole program.
-const AFTER_HELP: &str = "\
-With no words it lists the boxes of standard input. A FILE that is named - is standard input, \
-read whole.
-
-Columns of samples: number decode_time composition_time duration flags description size
-
-Status:
-  0   all is done
-  1   refused: the file has a fault; its kind, box and place are named
-  2   failed: memory
-  3   failed: store, failed: store changed, failed: write
-  4   failed: no such track
-  5   compare: the files differ
-  64  the words are wrong
-
-Example: mp4norm normalise movie.mp4 --out normal.mp4";
 
 const REPLACED_OUTPUT: &str = "\
 error: the argument '--replace' cannot be used with '--out -'
@@ -66,274 +46,11 @@ For more information, try '--help'.
 /// How many differences are listed where no number is given.
 const LIMIT: u32 = 100;
 
-const KEPT_RULE: &str = "\
-each word is times, flags, groups or metadata; edits stay in a normal form
-
-For more information, try '--help'.
-";
-
 const INPUT_TWICE: &str = "\
 error: standard input ('-') can be read only once
 
 For more information, try '--help'.
 ";
-
-fn file_arg<'a>(alloc: Global) -> Arg<'a> {
-    Arg::new(alloc, "file")
-        .value_name("FILE")
-        .help("The MP4 file to read, or - for standard input")
-        .required(true)
-        .action(ArgAction::Set)
-}
-
-fn track_arg<'a>(alloc: Global) -> Arg<'a> {
-    Arg::new(alloc, "track")
-        .long("track")
-        .value_name("ID")
-        .help("The track's ID, from 1")
-        .required(true)
-        .action(ArgAction::Set)
-        .value_parser(value_parser!(u32).range(1..))
-}
-
-fn out_arg<'a>(alloc: Global) -> Arg<'a> {
-    Arg::new(alloc, "out")
-        .long("out")
-        .value_name("NEW")
-        .help(
-            "The file to make, or - for standard output; it must not be there, but with --replace",
-        )
-        .required(true)
-        .action(ArgAction::Set)
-}
-
-fn explain_arg<'a>(alloc: Global) -> Arg<'a> {
-    Arg::new(alloc, "explain")
-        .long("explain")
-        .help("Say of a fault where the box stands, which clause tells of it, and what is wrong")
-        .action(ArgAction::SetTrue)
-}
-
-fn replace_arg<'a>(alloc: Global) -> Arg<'a> {
-    Arg::new(alloc, "replace")
-        .long("replace")
-        .help("Replace NEW, and only once all is written: by a new file beside it, NEW.part")
-        .action(ArgAction::SetTrue)
-}
-
-fn header_arg<'a>(alloc: Global) -> Arg<'a> {
-    Arg::new(alloc, "header")
-        .long("header")
-        .help("Begin with a line of the names of the columns")
-        .action(ArgAction::SetTrue)
-}
-
-fn json_arg<'a>(alloc: Global) -> Arg<'a> {
-    Arg::new(alloc, "json")
-        .long("json")
-        .help("List each sample as an object of JSON, in a line of its own")
-        .action(ArgAction::SetTrue)
-}
-
-// A command with an argument more.
-fn with_arg<'a>(command: Command<'a>, arg: Arg<'a>) -> Result<Command<'a>, AllocError> {
-    command.arg(arg)
-}
-
-// A command that writes a file.
-fn with_out<'a>(command: Command<'a>, alloc: Global) -> Result<Command<'a>, AllocError> {
-    let command = with_arg(command, out_arg(alloc))?;
-    with_arg(command, replace_arg(alloc))
-}
-
-// A command with a subcommand more.
-fn with<'a>(command: Command<'a>, subcommand: Command<'a>) -> Result<Command<'a>, AllocError> {
-    command.subcommand(subcommand)
-}
-
-// A command that reads a file.
-fn of_file<'a>(
-    alloc: Global,
-    name: &'a str,
-    about: &'a str,
-    example: &'a str,
-) -> Result<Command<'a>, AllocError> {
-    let command = Command::new(alloc, name).about(about).after_help(example);
-    let command = with_arg(command, file_arg(alloc))?;
-    with_arg(command, explain_arg(alloc))
-}
-
-fn boxes_command<'a>(alloc: Global) -> Result<Command<'a>, AllocError> {
-    of_file(
-        alloc,
-        "boxes",
-        "Lists the boxes of a file: two spaces for each container, type, place, size",
-        "Example: mp4norm boxes movie.mp4",
-    )
-}
-
-fn show_command<'a>(alloc: Global) -> Result<Command<'a>, AllocError> {
-    of_file(
-        alloc,
-        "show",
-        "Shows a movie and its tracks as one line of JSON",
-        "Example: mp4norm show movie.mp4",
-    )
-}
-
-fn samples_command<'a>(alloc: Global) -> Result<Command<'a>, AllocError> {
-    let command = of_file(
-        alloc,
-        "samples",
-        "Lists the samples of a track: number, decode time, composition time, duration, flags, \
-         description, size",
-        "Example: mp4norm samples movie.mp4 --track 1",
-    )?;
-    let command = with_arg(command, track_arg(alloc))?;
-    let command = with_arg(command, header_arg(alloc))?;
-    with_arg(command, json_arg(alloc))
-}
-
-fn extract_command<'a>(alloc: Global) -> Result<Command<'a>, AllocError> {
-    let command = of_file(
-        alloc,
-        "extract",
-        "Writes the bytes of a track's samples, one after the other",
-        "Example: mp4norm extract movie.mp4 --track 1 --out video.bin",
-    )?;
-    let command = with_arg(command, track_arg(alloc))?;
-    with_out(command, alloc)
-}
-
-fn normalise_command<'a>(alloc: Global) -> Result<Command<'a>, AllocError> {
-    let command = of_file(
-        alloc,
-        "normalise",
-        "Writes the normal form of a file",
-        "Example: mp4norm normalise movie.mp4 --out normal.mp4",
-    )?;
-    let help = "What to leave out, words apart by commas: times, flags, groups, metadata";
-    let command = with_arg(command, without_arg(alloc, help))?;
-    with_out(command, alloc)
-}
-
-fn without_arg<'a>(alloc: Global, help: &'a str) -> Arg<'a> {
-    Arg::new(alloc, "without")
-        .long("without")
-        .value_name("WORDS")
-        .help(help)
-        .action(ArgAction::Set)
-}
-
-fn drop_arg<'a>(alloc: Global) -> Arg<'a> {
-    Arg::new(alloc, "drop")
-        .long("drop")
-        .value_name("TYPES")
-        .help("The types of the boxes, apart by commas; moov/uuid means those in a moov alone")
-        .required(true)
-        .action(ArgAction::Set)
-}
-
-fn strip_command<'a>(alloc: Global) -> Result<Command<'a>, AllocError> {
-    let command = of_file(
-        alloc,
-        "strip",
-        "Copies a file, and makes boxes of some types free space",
-        "Example: mp4norm strip movie.mp4 --drop uuid,minf/hdlr --out stripped.mp4",
-    )?;
-    let command = with_arg(command, drop_arg(alloc))?;
-    with_out(command, alloc)
-}
-
-fn files_arg<'a>(alloc: Global) -> Result<Arg<'a>, AllocError> {
-    Arg::new(alloc, "file")
-        .value_name("FILE")
-        .help("The MP4 files to judge, or - for standard input")
-        .num_args(1..)
-        .action(ArgAction::Append)
-        .required_unless_present("names-from")
-}
-
-fn list_arg<'a>(alloc: Global) -> Arg<'a> {
-    Arg::new(alloc, "names-from")
-        .long("names-from")
-        .value_name("LIST")
-        .help("A file of further names, each ended by a zero byte, or - for standard input")
-        .action(ArgAction::Set)
-}
-
-fn zero_arg<'a>(alloc: Global) -> Arg<'a> {
-    Arg::new(alloc, "zero")
-        .long("zero")
-        .help("End each line with a zero byte in place of a line feed")
-        .action(ArgAction::SetTrue)
-}
-
-fn check_command<'a>(alloc: Global) -> Result<Command<'a>, AllocError> {
-    let command = Command::new(alloc, "check")
-        .about("Says of each file whether it has a normal form, a line each")
-        .after_help("Example: mp4norm check *.mp4");
-    let command = with_arg(command, files_arg(alloc)?)?;
-    let command = with_arg(command, list_arg(alloc))?;
-    with_arg(command, zero_arg(alloc))
-}
-
-fn side_arg<'a>(alloc: Global, name: &'a str, shown: &'a str) -> Arg<'a> {
-    Arg::new(alloc, name)
-        .value_name(shown)
-        .help("An MP4 file to compare, or - for standard input")
-        .required(true)
-        .action(ArgAction::Set)
-}
-
-fn all_arg<'a>(alloc: Global) -> Arg<'a> {
-    Arg::new(alloc, "all")
-        .long("all")
-        .help("List all differences, and count them, in place of the first alone")
-        .action(ArgAction::SetTrue)
-}
-
-fn limit_arg<'a>(alloc: Global) -> Arg<'a> {
-    Arg::new(alloc, "limit")
-        .long("limit")
-        .value_name("N")
-        .help("How many differences to list at most with --all; 100 where it isn't given")
-        .action(ArgAction::Set)
-        .value_parser(value_parser!(u32))
-}
-
-fn compare_command<'a>(alloc: Global) -> Result<Command<'a>, AllocError> {
-    let command = Command::new(alloc, "compare")
-        .about("Says whether two files say the same, and names the first difference")
-        .after_help("Example: mp4norm compare one.mp4 other.mp4 --without times,metadata");
-    let command = with_arg(command, side_arg(alloc, "left", "A"))?;
-    let command = with_arg(command, side_arg(alloc, "right", "B"))?;
-    let help = "What to leave out, words apart by commas: times, edits, flags, groups, metadata";
-    let command = with_arg(command, without_arg(alloc, help))?;
-    let command = with_arg(command, all_arg(alloc))?;
-    with_arg(command, limit_arg(alloc))
-}
-
-fn top_command<'a>(alloc: Global) -> Result<Command<'a>, AllocError> {
-    Command::new(alloc, "mp4norm")
-        .about("Rewrites MP4 files in one normal form, and shows what they hold")
-        .after_help(AFTER_HELP)
-        .version(VERSION)
-        .no_binary_name(true)
-        .subcommand_required(true)
-        .bin_name("mp4norm")
-}
-
-fn whole_command<'a>(alloc: Global) -> Result<Command<'a>, AllocError> {
-    let command = with(top_command(alloc)?, boxes_command(alloc)?)?;
-    let command = with(command, show_command(alloc)?)?;
-    let command = with(command, samples_command(alloc)?)?;
-    let command = with(command, extract_command(alloc)?)?;
-    let command = with(command, normalise_command(alloc)?)?;
-    let command = with(command, compare_command(alloc)?)?;
-    let command = with(command, check_command(alloc)?)?;
-    with(command, strip_command(alloc)?)
-}
 
 // The ID of a track; none where it is 0.
 fn track_of(found: &ArgMatches) -> Option<u32>
@@ -356,6 +73,14 @@ fn target_of<'a>(found: &ArgMatches<'a>) -> Target<'a> {
         None | Some("-") => Target::Standard,
         Some(name) if found.get_flag("replace") => Target::Replaced { name },
         Some(name) => Target::New { name },
+    }
+}
+
+// What is said beside the answer.
+fn telling_of(found: &ArgMatches) -> Telling {
+    Telling {
+        explain: found.get_flag("explain"),
+        progress: found.get_flag("progress"),
     }
 }
 
@@ -400,7 +125,7 @@ fn asked<'a>(matches: &ArgMatches<'a>) -> Option<Action<'a>>
         job: job_of(name, found)?,
         input: input_of(found.get_str("file")?),
         target: target_of(found),
-        explain: found.get_flag("explain"),
+        telling: telling_of(found),
     })
 }
 
@@ -440,25 +165,25 @@ fn strip_asked<'a>(alloc: Global, found: &ArgMatches<'a>) -> Result<Action<'a>, 
         names,
         input: input_of(file),
         target: target_of(found),
-        explain: found.get_flag("explain"),
+        telling: telling_of(found),
     })
 }
 
 // What is wrong with a list of what to leave out.
-fn without_fault(alloc: Global, list: &str, rule: &str) -> CommandFault {
-    match format!(in alloc; "error: invalid value '{list}' for '--without <WORDS>': {rule}") {
+fn without_fault(alloc: Global, list: &str) -> CommandFault {
+    match format!(in alloc;
+        "error: invalid value '{list}' for '--without <WORDS>': {WITHOUT_RULE}"
+    ) {
         Ok(text) => CommandFault::Usage(text),
         Err(_) => CommandFault::Memory,
     }
 }
 
-// What is left out of the normal form.
-fn reduced_job(alloc: Global, list: &str) -> Result<Job<'static>, CommandFault>
-    ensures { IfOk result IsJob }
-{
+// What a list of words leaves out.
+fn listed_out(alloc: Global, list: &str) -> Result<Leaving, CommandFault> {
     match leaving_of(list) {
-        Some(leaving) if !leaving.edits => Ok(Job::Reduce { leaving }),
-        _ => Err(without_fault(alloc, list, KEPT_RULE)),
+        Some(leaving) => Ok(leaving),
+        None => Err(without_fault(alloc, list)),
     }
 }
 
@@ -475,19 +200,21 @@ fn reduced_asked<'a>(
         return Err(CommandFault::Usage(String::new(alloc)));
     };
     Ok(Action::Run {
-        job: reduced_job(alloc, list)?,
+        job: Job::Reduce {
+            leaving: listed_out(alloc, list)?,
+        },
         input: input_of(file),
         target: target_of(found),
-        explain: found.get_flag("explain"),
+        telling: telling_of(found),
     })
 }
 
 // What is left out; nothing where no words are given.
 fn left_out(alloc: Global, found: &ArgMatches) -> Result<Leaving, CommandFault> {
-    let Some(list) = found.get_str("without") else {
-        return Ok(Leaving::NOTHING);
-    };
-    leaving_of(list).ok_or_else(|| without_fault(alloc, list, WITHOUT_RULE))
+    match found.get_str("without") {
+        Some(list) => listed_out(alloc, list),
+        None => Ok(Leaving::NOTHING),
+    }
 }
 
 // How differences are to be told of.
@@ -591,7 +318,7 @@ pub fn action<'a>(alloc: Global, words: &'a [String]) -> Result<Action<'a>, Comm
             job: Job::Boxes,
             input: Input::Standard,
             target: Target::Standard,
-            explain: false,
+            telling: Telling::NOTHING,
         });
     }
     let command = whole_command(alloc)?;

@@ -1,4 +1,9 @@
 //! Two files, compared by what they say.
+ghost use Rattle.std.specs.Prelude.{◌≡◌, IfOk, IfErr, OnOk, IsTrue};
+ghost use Rattle.mp4_present.specs.words.Opening.{RefusesOpen};
+ghost use Rattle.mp4_present.specs.words.Differing.{RefusesSample};
+ghost use Rattle.mp4norm.specs.words.Compares.{side_of, DenotesSome, PutsAnswer, StaysAs, RefusesAnswer, RefusesCompare};
+
 use crate::difference_lines::{say, say_difference};
 use crate::tally::{Tally, say_tally};
 use mp4_boxes::{Refusal, Steps};
@@ -8,14 +13,14 @@ use std::alloc::{AllocError, Global};
 use std::sync::ledger::Ledger;
 
 /// How a comparison is told of: by the first difference alone, or by so many and their counts.
-#[derive(Clone, Copy, Debug, PartialEq, Eq)]
+#[derive(Clone, Copy)]
 pub enum Listing {
     First,
     All { limit: u32 },
 }
 
 /// Which file a comparison fails for.
-#[derive(Clone, Copy, Debug, PartialEq, Eq)]
+#[derive(Clone, Copy)]
 pub enum Side {
     First,
     Second,
@@ -24,14 +29,17 @@ pub enum Side {
 }
 
 /// Why a comparison has no answer, and for which file.
-#[derive(Clone, Copy, Debug, PartialEq, Eq)]
+#[derive(Clone, Copy)]
 pub struct Failure {
     pub side: Side,
     pub refusal: Refusal,
 }
 
 // A failure while both files are read, or none is.
-fn failed_together(refusal: Refusal) -> Failure {
+fn failed_together(refusal: Refusal) -> Failure
+    ensures side { result.side ≡ side_of refusal }
+    ensures refusal { result.refusal ≡ refusal }
+{
     let side = match refusal {
         Refusal::StoreFailed | Refusal::StoreChanged => Side::Both,
         _ => Side::Neither,
@@ -120,7 +128,16 @@ fn all_text<S: Store, T: Store, L: Ledger>(
     leaving: Leaving,
     limit: u32,
     steps: &mut Steps<L>,
-) -> Result<Option<Vec<u8>>, Refusal> {
+) -> Result<Option<Vec<u8>>, Refusal>
+    ensures honesty { S.is_honest a.new ≡ S.is_honest a.old }
+    ensures file { S.file a.new ≡ S.file a.old }
+    ensures honesty_right { T.is_honest b.new ≡ T.is_honest b.old }
+    ensures file_right { T.file b.new ≡ T.file b.old }
+    ensures reads { OnOk result (S.read_failures a.new ≡ S.read_failures a.old) }
+    ensures reads_right { OnOk result (T.read_failures b.new ≡ T.read_failures b.old) }
+    ensures refusal { IfErr result (RefusesSample (S.read_failures a.old) (S.read_failures a.new)
+        (T.read_failures b.old) (T.read_failures b.new)) }
+{
     let mut listed = Listed::new(alloc)?;
     if !listed.has_room() {
         return Err(Refusal::Memory);
@@ -153,7 +170,16 @@ fn text_of<S: Store, T: Store, L: Ledger>(
     leaving: Leaving,
     listing: Listing,
     steps: &mut Steps<L>,
-) -> Result<Option<Vec<u8>>, Refusal> {
+) -> Result<Option<Vec<u8>>, Refusal>
+    ensures honesty { S.is_honest a.new ≡ S.is_honest a.old }
+    ensures file { S.file a.new ≡ S.file a.old }
+    ensures honesty_right { T.is_honest b.new ≡ T.is_honest b.old }
+    ensures file_right { T.file b.new ≡ T.file b.old }
+    ensures reads { OnOk result (S.read_failures a.new ≡ S.read_failures a.old) }
+    ensures reads_right { OnOk result (T.read_failures b.new ≡ T.read_failures b.old) }
+    ensures refusal { IfErr result (RefusesSample (S.read_failures a.old) (S.read_failures a.new)
+        (T.read_failures b.old) (T.read_failures b.new)) }
+{
     match listing {
         Listing::First => match compare(alloc, left, a, right, b, leaving, steps)? {
             None => Ok(None),
@@ -161,6 +187,20 @@ fn text_of<S: Store, T: Store, L: Ledger>(
         },
         Listing::All { limit } => { all_text(alloc, left, a, right, b, leaving, limit, steps) }
     }
+}
+
+// Puts what there is to say: that two files differ, or nothing where they are the same.
+fn put_found<K: Sink>(found: Option<Vec<u8>>, sink: &mut K) -> Result<bool, Refusal>
+    ensures puts { OnOk result (K.put_failures sink.new ≡ K.put_failures sink.old) }
+    ensures put { IfOk result (PutsAnswer (K.contents sink.old) (K.contents sink.new)) }
+    ensures refusal { IfErr result (RefusesAnswer (K.contents sink.old) (K.contents sink.new)
+        (K.put_failures sink.old) (K.put_failures sink.new)) }
+{
+    let Some(text) = found else {
+        return Ok(true);
+    };
+    sink.put(text.as_slice())?;
+    Ok(false)
 }
 
 /// Compares two files by what they say, without what is left out, puts where they differ, and says
@@ -173,23 +213,45 @@ pub fn compare_files<S: Store, T: Store, K: Sink, L: Ledger>(
     listing: Listing,
     sink: &mut K,
     steps: &mut Steps<L>,
-) -> Result<bool, Failure> {
-    let left = open_movie(alloc, a, steps).map_err(|refusal| Failure {
-        side: Side::First,
-        refusal,
-    })?;
-    let right = open_movie(alloc, b, steps).map_err(|refusal| Failure {
-        side: Side::Second,
-        refusal,
-    })?;
-    let found = text_of(alloc, &left, a, &right, b, leaving, listing, steps).map_err(
-        failed_together,
-    )?;
-    let Some(text) = found else {
-        return Ok(true);
+) -> Result<bool, Failure>
+    ensures left { StaysAs (S.is_honest a.old) (S.file a.old) (S.is_honest a.new) (S.file a.new) }
+    ensures right { StaysAs (T.is_honest b.old) (T.file b.old) (T.is_honest b.new) (T.file b.new) }
+    ensures reads { OnOk result ((S.read_failures a.new ≡ S.read_failures a.old)
+        × (T.read_failures b.new ≡ T.read_failures b.old)) }
+    ensures puts { OnOk result (K.put_failures sink.new ≡ K.put_failures sink.old) }
+    ensures judged { OnOk result ((IsTrue (S.is_honest a.old) → DenotesSome (S.file a.old))
+        × (IsTrue (T.is_honest b.old) → DenotesSome (T.file b.old))) }
+    ensures put { IfOk result (PutsAnswer (K.contents sink.old) (K.contents sink.new)) }
+    ensures refusal { IfErr result (RefusesCompare
+        (RefusesOpen (S.is_honest a.old) (S.file a.old) (S.read_failures a.old)
+        (S.read_failures a.new))
+        (RefusesOpen (T.is_honest b.old) (T.file b.old) (T.read_failures b.old)
+        (T.read_failures b.new))
+        (RefusesSample (S.read_failures a.old) (S.read_failures a.new) (T.read_failures b.old)
+        (T.read_failures b.new))
+        (K.contents sink.old) (K.contents sink.new) (K.put_failures sink.old)
+        (K.put_failures sink.new)) }
+{
+    let left = match open_movie(alloc, a, steps) {
+        Ok(left) => left,
+        Err(refusal) => return Err(Failure {
+            side: Side::First,
+            refusal,
+        }),
     };
-    match sink.put(text.as_slice()) {
-        Ok(()) => Ok(false),
-        Err(error) => Err(failed_together(Refusal::from(error))),
+    let right = match open_movie(alloc, b, steps) {
+        Ok(right) => right,
+        Err(refusal) => return Err(Failure {
+            side: Side::Second,
+            refusal,
+        }),
+    };
+    let found = match text_of(alloc, &left, a, &right, b, leaving, listing, steps) {
+        Ok(found) => found,
+        Err(refusal) => return Err(failed_together(refusal)),
+    };
+    match put_found(found, sink) {
+        Ok(same) => Ok(same),
+        Err(refusal) => Err(failed_together(refusal)),
     }
 }

@@ -1,10 +1,10 @@
 //! Comparing, from the names of two files to what is printed.
-use crate::causes::Trouble;
 use crate::checking::shown_name;
 use crate::comparing::{Failure, Listing, Side, compare_files};
 use crate::fault_text::{fault_line, status};
+use crate::reports::Report;
 use crate::sources::{Source, open};
-use crate::wanted::Input;
+use crate::wanted::{Input, Telling};
 use mp4_boxes::{Refusal, Steps};
 use mp4_present::Leaving;
 use mp4_store::{IoSink, MemStore, Store};
@@ -67,6 +67,14 @@ fn compare_sources<L: Ledger>(
     }
 }
 
+// What comes of a step over the file of this side.
+fn on_side<R>(step: Result<R, Refusal>, side: Side) -> Result<R, Failure> {
+    match step {
+        Ok(result) => Ok(result),
+        Err(refusal) => Err(Failure { side, refusal }),
+    }
+}
+
 // Opens both, and compares them. Then it looks whether either has changed meanwhile.
 fn answer<L: Ledger>(
     rt: &HostRuntime,
@@ -76,29 +84,34 @@ fn answer<L: Ledger>(
     listing: Listing,
     steps: &mut Steps<L>,
 ) -> Result<bool, Failure> {
-    let mut trouble = Trouble::new(false);
-    let of = |side: Side| move |refusal: Refusal| Failure { side, refusal };
-    let mut first = open(rt, left, &mut trouble).map_err(of(Side::First))?;
-    let mut second = open(rt, right, &mut trouble).map_err(of(Side::Second))?;
+    let mut report = Report::new(Telling::NOTHING);
+    let mut first = on_side(open(rt, left, &mut report), Side::First)?;
+    let mut second = on_side(open(rt, right, &mut report), Side::Second)?;
     let same = compare_sources(rt, &mut first, &mut second, leaving, listing, steps)?;
-    first.stays().map_err(of(Side::First))?;
-    second.stays().map_err(of(Side::Second))?;
+    on_side(first.stays(), Side::First)?;
+    on_side(second.stays(), Side::Second)?;
     Ok(same)
 }
 
 // Says why there is no answer, behind the names of the files that it is about.
 fn tell(rt: &HostRuntime, left: Input, right: Input, failure: Failure) {
+    let (names_left, names_right) = match failure.side {
+        Side::First => (true, false),
+        Side::Second => (false, true),
+        Side::Both => (true, true),
+        Side::Neither => (false, false),
+    };
     let mut errors = rt.stderr();
-    if failure.side == Side::First || failure.side == Side::Both {
+    if names_left {
         let _ = errors.write_all(shown_name(left));
     }
-    if failure.side == Side::Both {
+    if names_left && names_right {
         let _ = errors.write_all(b", ");
     }
-    if failure.side == Side::Second || failure.side == Side::Both {
+    if names_right {
         let _ = errors.write_all(shown_name(right));
     }
-    if failure.side != Side::Neither {
+    if names_left || names_right {
         let _ = errors.write_all(b": ");
     }
     let _ = errors.write_all(fault_line(&failure.refusal).as_bytes());

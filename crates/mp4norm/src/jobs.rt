@@ -6,7 +6,7 @@ ghost use Rattle.mp4norm.specs.words.Jobs.{IsTextOf, RefusesJob, JobWorksWithin}
 use crate::boxes::boxes;
 use crate::extract::extract_counted;
 use crate::normalising::normalise_counted;
-use crate::reducing::{keeping_edits, normalise_reduced};
+use crate::reducing::normalise_reduced;
 use crate::samples::samples_counted;
 use crate::show::show_counted;
 use crate::stripping::strip;
@@ -46,8 +46,6 @@ pub fn perform<S: Store, K: Sink, L: Ledger>(
         Job::Extract { track } => extract_counted(alloc, store, track, sink, steps),
         Job::Strip { names } => strip(alloc, store, names, sink),
         Job::Normalise => normalise_counted(alloc, store, sink, steps),
-        Job::Reduce { leaving } => {
-            normalise_reduced(alloc, store, sink, keeping_edits(leaving), steps)
-        }
+        Job::Reduce { leaving } => normalise_reduced(alloc, store, sink, leaving, steps),
     }
 }

@@ -11,9 +11,9 @@ ghost use Rattle.std.specs.Prelude.{◌≡◌, ◌<◌};
 
 mod backward_line;
 mod boxes;
-mod causes;
 mod checking;
 mod command_line;
+mod commands;
 mod comparing;
 mod comparing_runs;
 mod difference_lines;
@@ -33,8 +33,10 @@ mod line;
 mod movie_json;
 mod named;
 mod normalising;
+mod progress;
 mod reducing;
 mod replacing;
+mod reports;
 mod runs;
 mod sample_lines;
 mod samples;
@@ -44,6 +46,7 @@ mod strip_lines;
 mod stripping;
 mod tally;
 mod targets;
+mod text_lengths;
 mod tracks;
 mod type_names;
 mod verdicts;
@@ -78,8 +81,9 @@ use std::process::ExitCode;
 use std::sync::ledger::{Blank, Ledger};
 use std::{env, io};
 pub use stripping::{count_named, strip};
+pub use text_lengths::text_len;
 pub use verdicts::{first_name, put_verdict, verdict_status};
-pub use wanted::{Action, CommandFault, Form, Input, Job, Target};
+pub use wanted::{Action, CommandFault, Form, Input, Job, Target, Telling};
 pub use ways::{Way, way_to};
 
 /// The status for words that are not known.
@@ -135,18 +139,18 @@ fn act<L: Ledger>(rt: &HostRuntime, action: Action, blank: Blank) -> ExitCode
             job,
             input,
             target,
-            explain,
-        } => end(rt, run(rt, job, input, target, explain, &mut steps)),
+            telling,
+        } => end(rt, run(rt, job, input, target, telling, &mut steps)),
         Action::Strip {
             names,
             input,
             target,
-            explain,
+            telling,
         } => {
             let job = Job::Strip {
                 names: names.as_slice(),
             };
-            end(rt, run(rt, job, input, target, explain, &mut steps))
+            end(rt, run(rt, job, input, target, telling, &mut steps))
         }
         Action::Compare {
             left,
@@ -180,12 +184,3 @@ fn main(rt: HostRuntime) -> ExitCode {
         Err(fault) => tell(&rt, fault),
     }
 }
-
-#[cfg(test)]
-mod counted;
-#[cfg(test)]
-mod failures;
-#[cfg(test)]
-mod fixtures;
-#[cfg(test)]
-mod tests;

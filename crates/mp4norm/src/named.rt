@@ -5,7 +5,7 @@ ghost use Rattle.mp4norm.specs.format.Strips.{holder, is_in, means, is_named};
 use mp4_boxes::{FourCc, Rule};
 
 /// A type of boxes: everywhere, or those that stand in one container alone.
-#[derive(Clone, Copy, Debug, PartialEq, Eq)]
+#[derive(Clone, Copy)]
 pub struct Name {
     /// The container's type, `file` for the file itself.
     pub container: Option<FourCc>,

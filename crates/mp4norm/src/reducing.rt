@@ -1,7 +1,7 @@
 //! The normal form of what is left of a file, where some of what it says is left out.
-ghost use Rattle.std.specs.Prelude.{◌≡◌, ℕ, List, IfErr, OnOk, IsTrue, false};
+ghost use Rattle.std.specs.Prelude.{◌≡◌, ℕ, List, IfErr, OnOk, IsTrue};
 ghost use Rattle.std.specs.Io.KnownBytes.{Appends};
-ghost use Rattle.mp4norm.specs.format.ReducedHeadline.{HasReducedForm, with_edits};
+ghost use Rattle.mp4norm.specs.format.ReducedHeadline.{HasReducedForm};
 ghost use Rattle.mp4norm.specs.format.Steps.{WorksWithin};
 ghost use Rattle.mp4norm.specs.words.ReducedJob.{RefusesReduced};
 
@@ -12,18 +12,10 @@ use mp4_store::{Sink, Store};
 use std::alloc::Global;
 use std::sync::ledger::Ledger;
 
-/// What is left out, but edit lists: these stay.
-pub(crate) fn keeping_edits(leaving: Leaving) -> Leaving
-    ensures { result ≡ with_edits leaving }
-{
-    Leaving {
-        edits: false,
-        ..leaving
-    }
-}
-
-/// As `normalise_counted`, of what is left of the file where creation and modification times, flags
-/// of samples, sample groups or metadata are left out. Edit lists can't be.
+/// As `normalise_counted`, of what is left of the file where creation and modification times, edit
+/// lists, flags of samples, sample groups or metadata are left out. Without its edits a track may
+/// be too long: then the fault is TimeTooLarge at the `tkhd` of the first such track, and nothing is
+/// put.
 pub fn normalise_reduced<S: Store, K: Sink, L: Ledger>(
     alloc: Global,
     store: &mut S,
@@ -31,7 +23,6 @@ pub fn normalise_reduced<S: Store, K: Sink, L: Ledger>(
     leaving: Leaving,
     steps: &mut Steps<L>,
 ) -> Result<(), Refusal>
-    requires { leaving.edits ≡ false }
     ensures honesty { S.is_honest store.new ≡ S.is_honest store.old }
     ensures file { S.file store.new ≡ S.file store.old }
     ensures reads { OnOk result (S.read_failures store.new ≡ S.read_failures store.old) }

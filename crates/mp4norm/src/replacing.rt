@@ -1,7 +1,7 @@
 //! A file that is put in the place of another only once it is whole.
 ghost use Rattle.std.specs.Prelude.{◌≡◌, ◌<◌, ◌++◌, IfOk, string_bytes, codes, decimal};
 
-use crate::causes::Trouble;
+use crate::reports::Report;
 use crate::sources::Source;
 use crate::targets::{Out, write};
 use crate::wanted::Job;
@@ -38,16 +38,16 @@ fn part_name(alloc: Global, name: &str, number: u32) -> Result<String, AllocErro
 
 // Makes a file beside another one. What an interrupted run left there stays, and another name is
 // taken.
-fn make_part(rt: &HostRuntime, beside: &str, trouble: &mut Trouble) -> Result<Part, Refusal> {
+fn make_part(rt: &HostRuntime, beside: &str, report: &mut Report) -> Result<Part, Refusal> {
     for number in 0..MOST_NAMES {
         let name = part_name(rt.alloc(), beside, number)?;
         match File::create_new(rt, name.as_str()) {
             Ok(file) => return Ok(Part { file, name }),
             Err(error) if error.kind() == ErrorKind::AlreadyExists => {
-                trouble.tell_leftover(rt, name.as_str());
+                report.tell_leftover(rt, name.as_str());
             }
             Err(error) => {
-                trouble.note(error.kind());
+                report.note(error.kind());
                 return Err(Refusal::WriteFailed);
             }
         }
@@ -68,11 +68,11 @@ fn look(rt: &HostRuntime, name: &str) -> Result<(), ErrorKind> {
 }
 
 // What comes of a step by which a file is put in its place.
-fn told(step: Result<(), ErrorKind>, trouble: &mut Trouble) -> Result<(), Refusal> {
+fn told(step: Result<(), ErrorKind>, report: &mut Report) -> Result<(), Refusal> {
     match step {
         Ok(()) => Ok(()),
         Err(kind) => {
-            trouble.note(kind);
+            report.note(kind);
             Err(Refusal::WriteFailed)
         }
     }
@@ -86,12 +86,12 @@ fn fill<L: Ledger>(
     steps: &mut Steps<L>,
     part: Part,
     name: &str,
-    trouble: &mut Trouble,
+    report: &mut Report,
 ) -> Result<(), Refusal> {
     let Part { file, name: from } = part;
     let mut out = Out::File(file);
-    let answer = match write(rt.alloc(), job, source, &mut out, steps, trouble) {
-        Ok(()) => told(put_in_place(rt, &out, from.as_str(), name), trouble),
+    let answer = match write(rt.alloc(), job, source, &mut out, steps, report) {
+        Ok(()) => told(put_in_place(rt, &out, from.as_str(), name), report),
         Err(refusal) => Err(refusal),
     };
     if answer.is_err() {
@@ -115,9 +115,9 @@ pub(crate) fn replace<L: Ledger>(
     source: &mut Source,
     steps: &mut Steps<L>,
     name: &str,
-    trouble: &mut Trouble,
+    report: &mut Report,
 ) -> Result<(), Refusal> {
-    told(look(rt, name), trouble)?;
-    let part = make_part(rt, name, trouble)?;
-    fill(rt, job, source, steps, part, name, trouble)
+    told(look(rt, name), report)?;
+    let part = make_part(rt, name, report)?;
+    fill(rt, job, source, steps, part, name, report)
 }

@@ -1,10 +1,10 @@
 //! A command from what is read to where its answer goes.
-use crate::causes::Trouble;
 use crate::replacing::replace;
+use crate::reports::Report;
 use crate::sources::{Source, open};
 use crate::strip_lines::{WARNING, count_line, names_encryption};
 use crate::targets::{Out, make, write};
-use crate::wanted::{Input, Job, Target};
+use crate::wanted::{Input, Job, Target, Telling};
 use mp4_boxes::{Refusal, Steps};
 use mp4_store::IoSink;
 use std::io::Write;
@@ -33,14 +33,14 @@ fn write_to<L: Ledger>(
     source: &mut Source,
     target: Target,
     steps: &mut Steps<L>,
-    trouble: &mut Trouble,
+    report: &mut Report,
 ) -> Result<(), Refusal> {
     let mut out = match target {
         Target::Standard => Out::Standard(rt.stdout()),
-        Target::New { name } => make(rt, name, trouble)?,
-        Target::Replaced { name } => return replace(rt, job, source, steps, name, trouble),
+        Target::New { name } => make(rt, name, report)?,
+        Target::Replaced { name } => return replace(rt, job, source, steps, name, report),
     };
-    write(rt.alloc(), job, source, &mut out, steps, trouble)
+    write(rt.alloc(), job, source, &mut out, steps, report)
 }
 
 // Does a job. Of a copy without some boxes it says how many of each name these are.
@@ -50,38 +50,45 @@ fn answer<L: Ledger>(
     source: &mut Source,
     target: Target,
     steps: &mut Steps<L>,
-    trouble: &mut Trouble,
+    report: &mut Report,
 ) -> Result<(), Refusal> {
     let Job::Strip { names } = job else {
-        return write_to(rt, job, source, target, steps, trouble);
+        return write_to(rt, job, source, target, steps, report);
     };
     let mut errors = rt.stderr();
     if names_encryption(names) {
         let _ = errors.write_all(WARNING);
     }
     let counts = source.count_named(rt.alloc(), names)?;
-    write_to(rt, job, source, target, steps, trouble)?;
+    write_to(rt, job, source, target, steps, report)?;
     for (name, count) in names.iter().zip(counts.iter()) {
         let _ = errors.write_all(count_line(name, *count).as_bytes());
     }
     Ok(())
 }
 
-// Opens what is read, then where the answer goes, and does the job. A fault is explained where that
-// is asked for.
-fn open_and_answer<L: Ledger>(
-    rt: &HostRuntime,
+// Opens what is read, then where the answer goes, and does the job. A fault is explained, and told
+// how far the job has come, where that is asked for.
+fn open_and_answer<'a, L: Ledger>(
+    rt: &'a HostRuntime,
     job: Job,
     input: Input,
     target: Target,
-    explain: bool,
+    telling: Telling,
     steps: &mut Steps<L>,
-    trouble: &mut Trouble,
+    report: &mut Report<'a>,
 ) -> Result<(), Refusal> {
-    let mut source = open(rt, input, trouble)?;
-    let answer = answer(rt, job, &mut source, target, steps, trouble);
+    let mut source = open(rt, input, report)?;
+    if telling.progress {
+        // Where this fails, so does the job, which says why.
+        if let Ok(total) = source.text_len(rt.alloc(), job, steps) {
+            report.begin(rt, total);
+        }
+    }
+    let answer = answer(rt, job, &mut source, target, steps, report);
+    report.end();
     if let Err(Refusal::Fault(fault)) = &answer {
-        if explain {
+        if telling.explain {
             let _ = source.explain(rt.alloc(), fault, &mut IoSink::new(rt.stderr()));
         }
     }
@@ -89,20 +96,21 @@ fn open_and_answer<L: Ledger>(
 }
 
 /// Does a job from what is read to where its answer goes. What is wrong is explained where that is
-/// asked for: a fault, and which file can't be opened, read or written, with the system's cause.
+/// asked for: a fault, and which file can't be opened, read or written, with the system's cause. How
+/// far the job has come is said where that is.
 pub(crate) fn run<L: Ledger>(
     rt: &HostRuntime,
     job: Job,
     input: Input,
     target: Target,
-    explain: bool,
+    telling: Telling,
     steps: &mut Steps<L>,
 ) -> Result<(), Refusal> {
-    let mut trouble = Trouble::new(explain);
-    let answer = open_and_answer(rt, job, input, target, explain, steps, &mut trouble);
+    let mut report = Report::new(telling);
+    let answer = open_and_answer(rt, job, input, target, telling, steps, &mut report);
     match answer {
-        Err(Refusal::StoreFailed) => trouble.tell(rt, input_name(input), "it can't be read"),
-        Err(Refusal::WriteFailed) => trouble.tell(rt, target_name(target), "it can't be written"),
+        Err(Refusal::StoreFailed) => report.tell(rt, input_name(input), "it can't be read"),
+        Err(Refusal::WriteFailed) => report.tell(rt, target_name(target), "it can't be written"),
         _ => {}
     }
     answer

@@ -5,13 +5,14 @@ ghost use Rattle.mp4norm.specs.format.Headline.{HasNormalForm};
 ghost use Rattle.mp4norm.specs.words.Jobs.{IsTextOf, RefusesJob, JobWorksWithin};
 ghost use Rattle.mp4norm.specs.words.MainJob.{RefusesNormalise};
 
-use crate::causes::Trouble;
 use crate::explaining::explain;
 use crate::input::read_input;
 use crate::jobs::perform;
 use crate::judging::check;
 use crate::named::Name;
+use crate::reports::Report;
 use crate::stripping::count_named;
+use crate::text_lengths::text_len;
 use crate::wanted::{Input, Job};
 use crate::watching::Watched;
 use mp4_boxes::{Fault, Refusal, Steps};
@@ -20,6 +21,7 @@ use std::alloc::Global;
 use std::fs;
 use std::fs::File;
 use std::io::ErrorKind;
+use std::os::unix::fs::FileTypeExt;
 use std::sync::ledger::Ledger;
 
 /// The most bytes that are read of standard input.
@@ -32,14 +34,15 @@ pub(crate) enum Source {
     Input(Vec<u8>),
 }
 
-// Opens a regular file. Whatever else there is can't be read by place, or its length isn't known;
-// its kind is looked at first, since opening a pipe would wait for whoever writes it.
+// Opens a regular file or a block device. Whatever else there is can't be read by place, or its
+// length isn't known; its kind is looked at first, since opening a pipe would wait for whoever
+// writes it.
 fn open_file(rt: &HostRuntime, name: &str) -> Result<Source, ErrorKind> {
     let metadata = fs::metadata(rt, name).map_err(|error| error.kind())?;
     if metadata.is_dir() {
         return Err(ErrorKind::IsADirectory);
     }
-    if !metadata.is_file() {
+    if !metadata.is_file() && !metadata.file_type().is_block_device() {
         return Err(ErrorKind::Unsupported);
     }
     let file = File::open(rt, name).map_err(|error| error.kind())?;
@@ -49,11 +52,7 @@ fn open_file(rt: &HostRuntime, name: &str) -> Result<Source, ErrorKind> {
 }
 
 /// Opens what is to be read. Standard input is read to its end.
-pub(crate) fn open(
-    rt: &HostRuntime,
-    input: Input,
-    trouble: &mut Trouble,
-) -> Result<Source, Refusal> {
+pub(crate) fn open(rt: &HostRuntime, input: Input, report: &mut Report) -> Result<Source, Refusal> {
     match input {
         Input::Standard => {
             let bytes = read_input(rt.alloc(), &mut rt.reader(), MOST_INPUT)?;
@@ -62,7 +61,7 @@ pub(crate) fn open(
         Input::File { name } => match open_file(rt, name) {
             Ok(source) => Ok(source),
             Err(kind) => {
-                trouble.note(kind);
+                report.note(kind);
                 Err(Refusal::StoreFailed)
             }
         },
@@ -133,6 +132,22 @@ impl Source {
             Source::Input(bytes) => {
                 let mut store = MemStore::new(bytes.as_slice());
                 count_named(alloc, &mut store, names)
+            }
+        }
+    }
+
+    /// How many bytes a job is to put.
+    pub(crate) fn text_len<L: Ledger>(
+        &mut self,
+        alloc: Global,
+        job: Job,
+        steps: &mut Steps<L>,
+    ) -> Result<u64, Refusal> {
+        match self {
+            Source::File(store, _) => text_len(alloc, job, store, steps),
+            Source::Input(bytes) => {
+                let mut store = MemStore::new(bytes.as_slice());
+                text_len(alloc, job, &mut store, steps)
             }
         }
     }

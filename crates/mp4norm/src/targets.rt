@@ -1,5 +1,5 @@
 //! Where the answer goes.
-use crate::causes::{Noted, Trouble};
+use crate::reports::{Noted, Report};
 use crate::sources::Source;
 use crate::wanted::Job;
 use mp4_boxes::{Refusal, Steps};
@@ -41,11 +41,11 @@ impl Write for Out {
 }
 
 /// Makes a file that isn't there yet.
-pub(crate) fn make(rt: &HostRuntime, name: &str, trouble: &mut Trouble) -> Result<Out, Refusal> {
+pub(crate) fn make(rt: &HostRuntime, name: &str, report: &mut Report) -> Result<Out, Refusal> {
     match File::create_new(rt, name) {
         Ok(file) => Ok(Out::File(file)),
         Err(error) => {
-            trouble.note(error.kind());
+            report.note(error.kind());
             Err(Refusal::WriteFailed)
         }
     }
@@ -70,9 +70,9 @@ pub(crate) fn write<L: Ledger>(
     source: &mut Source,
     out: &mut Out,
     steps: &mut Steps<L>,
-    trouble: &mut Trouble,
+    report: &mut Report,
 ) -> Result<(), Refusal> {
-    let noted = Noted { out, trouble };
+    let noted = Noted { out, report };
     source.perform(alloc, job, &mut IoSink::new(noted), steps)?;
     if answers_for_all(job) {
         source.stays()?;

@@ -6,7 +6,7 @@ use std::alloc::AllocError;
 
 /// How the samples of a track are listed: a line each, the same behind the names of the columns, or
 /// an object of JSON each.
-#[derive(Clone, Copy, Debug, PartialEq)]
+#[derive(Clone, Copy)]
 pub enum Form {
     Plain,
     Named,
@@ -14,20 +14,20 @@ pub enum Form {
 }
 
 /// What is done over a file.
-#[derive(Clone, Copy, Debug, PartialEq)]
+#[derive(Clone, Copy)]
 pub enum Job<'a> {
     Boxes,
     Show,
     Samples { track: u32, form: Form },
     Extract { track: u32 },
     Normalise,
-    /// The normal form of what is left; edit lists stay.
+    /// The normal form of what is left.
     Reduce { leaving: Leaving },
     Strip { names: &'a [Name] },
 }
 
 /// What is read: standard input, or the file of this name.
-#[derive(Clone, Copy, Debug, PartialEq)]
+#[derive(Clone, Copy)]
 pub enum Input<'a> {
     Standard,
     File { name: &'a str },
@@ -35,17 +35,33 @@ pub enum Input<'a> {
 
 /// Where the answer goes: to standard output, to a new file of this name, or to one that takes the
 /// place of what is there.
-#[derive(Clone, Copy, Debug, PartialEq)]
+#[derive(Clone, Copy)]
 pub enum Target<'a> {
     Standard,
     New { name: &'a str },
     Replaced { name: &'a str },
 }
 
+/// What is said on standard error beside the answer: what is wrong, in more words, and how far the
+/// job has come.
+#[derive(Clone, Copy)]
+pub struct Telling {
+    pub explain: bool,
+    pub progress: bool,
+}
+
+impl Telling {
+    /// Nothing but the line of a refusal or failure.
+    pub const NOTHING: Telling = Telling {
+        explain: false,
+        progress: false,
+    };
+}
+
 /// What the words ask for: a job, a copy without the boxes of some names, a comparison of two
 /// files, or a verdict on each of some files and of those that a list names, ended by a line feed
 /// or a zero byte.
-#[derive(Debug, Drop, PartialEq)]
+#[derive(Drop)]
 pub enum Action<'a> {
     Check {
         files: Vec<Input<'a>>,
@@ -62,18 +78,18 @@ pub enum Action<'a> {
         names: Vec<Name>,
         input: Input<'a>,
         target: Target<'a>,
-        explain: bool,
+        telling: Telling,
     },
     Run {
         job: Job<'a>,
         input: Input<'a>,
         target: Target<'a>,
-        explain: bool,
+        telling: Telling,
     },
 }
 
 /// Why there is nothing to do: a text was asked for, the words are wrong, or there is no memory.
-#[derive(Debug, Drop)]
+#[derive(Drop)]
 pub enum CommandFault {
     Help(String),
     Usage(String),

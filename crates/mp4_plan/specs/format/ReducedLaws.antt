@@ -1,10 +1,12 @@
 -- Laws of what is left of presentations (`reduce`), and of its normal form.
-use Rattle.std.specs.Prelude.{◌≡◌, ◌↔◌, ◌||◌, true, false}
+use Rattle.std.specs.Prelude.{◌≡◌, ◌↔◌, ℕ, ◌||◌, List, true, false}
+use Rattle.mp4_boxes.specs.declared.fault.Fault.{Fault}
 use Rattle.mp4_present.specs.format.Presentation.{Presentation, Valid}
 use Rattle.mp4_present.specs.format.Denotes.{Denotes}
 use Rattle.mp4_present.specs.format.Reduced.{reduce, ReducesInTime}
 use Rattle.mp4_present.specs.declared.leaving.Leaving.{Leaving}
 use Rattle.mp4_plan.specs.format.Normal.{normal}
+use Rattle.mp4_plan.specs.format.ReducedTimes.{ReducedFaultStands}
 
 -- nothing is left out
 abbrev pub nothing : Leaving
@@ -73,3 +75,14 @@ abbrev pub ReducedNormalIsExact : Type 0
 ReducedNormalIsExact = (l : Leaving) (p q : Presentation) → Valid p → ReducesInTime l p
     → Valid q → ReducesInTime l q
     → (normal (reduce l p) ≡ normal (reduce l q)) ↔ (reduce l p ≡ reduce l q)
+
+-- Where a track is named that is too long without its edits, what is left of the presentation is.
+abbrev pub ReducedFaultRefuses : Type 0
+ReducedFaultRefuses = (l : Leaving) (file : List ℕ) (f : Fault) (p : Presentation)
+    → ReducedFaultStands l file f → Denotes file p → ReducesInTime l p → ⊥
+
+-- Where what is left is too long, one such fault stands, and no other.
+abbrev pub ReducedFaultIsOne : Type 0
+ReducedFaultIsOne = (l : Leaving) (file : List ℕ) (p : Presentation) → Denotes file p
+    → (ReducesInTime l p → ⊥) → (f : Fault) × ReducedFaultStands l file f
+    × ((g : Fault) → ReducedFaultStands l file g → g ≡ f)

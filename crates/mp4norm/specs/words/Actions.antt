@@ -15,10 +15,11 @@ IsJob _ = Unit {0}
 
 -- and some box is named that is to be free space
 abbrev pub IsAction : Action → Type 0
-IsAction (actions.Run job input target explain) = IsJob job
-IsAction (actions.Strip names input target explain) = 0 < length names.items
+IsAction (actions.Run job input target telling) = IsJob job
+IsAction (actions.Strip names input target telling) = 0 < length names.items
 IsAction _ = Unit {0}
 
 -- the boxes of standard input
 abbrev pub boxes_of_input : Action
-boxes_of_input = actions.Run jobs.Boxes inputs.Standard targets.Standard false
+boxes_of_input = actions.Run jobs.Boxes inputs.Standard targets.Standard
+    (record { explain = false; progress = false })

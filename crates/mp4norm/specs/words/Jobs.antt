@@ -5,7 +5,7 @@ use Rattle.mp4_boxes.specs.declared.refusal.Refusal.{Refusal}
 use Rattle.mp4norm.specs.format.BoxWalk.{RefusesBoxes}
 use Rattle.mp4norm.specs.words.Commands.{ShowsLine, ListsSamples, HasData, RefusesShow, RefusesTrack}
 use Rattle.mp4norm.specs.format.Headline.{HasNormalForm}
-use Rattle.mp4norm.specs.format.ReducedHeadline.{HasReducedForm, with_edits}
+use Rattle.mp4norm.specs.format.ReducedHeadline.{HasReducedForm}
 use Rattle.mp4norm.specs.words.MainJob.{RefusesNormalise}
 use Rattle.mp4norm.specs.words.ReducedJob.{RefusesReduced}
 use Rattle.mp4norm.specs.format.Steps.{WorksWithin, LooksWithin}
@@ -21,7 +21,7 @@ IsTextOf jobs.Show file text = ShowsLine file text
 IsTextOf (jobs.Samples track form) file text = ListsSamples file track form text
 IsTextOf (jobs.Extract track) file text = HasData file track text
 IsTextOf jobs.Normalise file text = HasNormalForm file text
-IsTextOf (jobs.Reduce l) file text = HasReducedForm (with_edits l) file text
+IsTextOf (jobs.Reduce l) file text = HasReducedForm l file text
 IsTextOf (jobs.Strip names) file text = IsStripped names.now file text
 
 -- why it is not put, or not all of it
@@ -40,7 +40,7 @@ RefusesJob (jobs.Extract track) honest file before after reads reads_after puts 
 RefusesJob jobs.Normalise honest file before after reads reads_after puts puts_after r =
     RefusesNormalise honest file before after reads reads_after puts puts_after r
 RefusesJob (jobs.Reduce l) honest file before after reads reads_after puts puts_after r =
-    RefusesReduced (with_edits l) honest file before after reads reads_after puts puts_after r
+    RefusesReduced l honest file before after reads reads_after puts puts_after r
 RefusesJob (jobs.Strip names) honest file before after reads reads_after puts puts_after r =
     RefusesStrip names.now honest file before after reads reads_after puts puts_after r
 

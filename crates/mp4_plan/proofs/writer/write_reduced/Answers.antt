@@ -6,10 +6,11 @@ use Rattle.mp4_store.specs.words.Device.{AppendsPrefix}
 use Rattle.mp4_store.proofs.Known.{AppendsPrefix-nothing}
 use Rattle.mp4_present.specs.format.Denotes.{presentation_of}
 use Rattle.mp4_present.specs.declared.leaving.Leaving.{Leaving}
-use Rattle.mp4_present.specs.format.Reduced.{reduce}
+use Rattle.mp4_present.specs.format.Reduced.{ReducesInTime, reduce}
 use Rattle.mp4_plan.specs.format.Normal.{normal}
 use Rattle.mp4_plan.specs.words.Writers.{IsReady}
 use Rattle.mp4_plan.proofs.AllPut.{still_opened}
+use Rattle.mp4_plan.proofs.LeftRefused.{so_if_ok, carried_names}
 use Rattle.mp4_plan.proofs.writer.write_reduced.Goals as goal
 
 pub returns-in_err-writer-clause-prefix : goal.returns-in_err-writer-clause-prefix
@@ -46,3 +47,13 @@ returns-clause-work g c = λ told tree o.
     let copying = may.1.2 in
     let own = work told tree o may.0.0 may.1.0 may.0.1 may.1.1 in
     omega (arith, plan, planning, copying, own)
+
+pub returns-clause-in_time : goal.returns-clause-in_time
+returns-clause-in_time g c = λ told tree o.
+    so_if_ok c.write.result (ReducesInTime c.args.leaving (presentation_of (g.S.Store.file c.args.store.now) tree)) (c.in_ok-writer.ensures.in_time told tree o)
+
+pub returns-clause-fault : goal.returns-clause-fault
+returns-clause-fault g c = λ told tree o. carried_names c.args.leaving (g.S.Store.file c.args.store.now) tree c.write.result _ _ _ _ c.write.ensures.refusal
+
+pub returns-clause-nothing : goal.returns-clause-nothing
+returns-clause-nothing g c = λ told tree o long. absurd (long (c.in_ok-writer.ensures.in_time told tree o))

@@ -21,13 +21,7 @@ pub returns-in-Extract-clause-text : goal.returns-in-Extract-clause-text
 returns-in-Extract-clause-text g c = rw c.in-Extract.is c.extract_counted.ensures.bytes
 
 pub returns-in-Reduce-clause-text : goal.returns-in-Reduce-clause-text
-returns-in-Reduce-clause-text g c =
-    let file = g.S.Store.file c.args.store.now in
-    let e = subst (λ (l : Leaving). OnOk c.normalise_reduced.result (IsTrue (g.S.Store.is_honest c.args.store.now) → (bytes : List ℕ)
-    × HasReducedForm l file bytes × Appends (g.K.Sink.contents c.args.sink.now) (g.K.Sink.contents c.normalise_reduced.new.sink) bytes)) c.keeping_edits.ensures c.normalise_reduced.ensures.written in
-    rw c.in-Reduce.is e
+returns-in-Reduce-clause-text g c = rw c.in-Reduce.is c.normalise_reduced.ensures.written
 
 pub returns-in-Reduce-clause-refusal : goal.returns-in-Reduce-clause-refusal
-returns-in-Reduce-clause-refusal g c =
-    let e = rw c.keeping_edits.ensures at c.normalise_reduced.ensures.refusal in
-    rw c.in-Reduce.is e
+returns-in-Reduce-clause-refusal g c = rw c.in-Reduce.is c.normalise_reduced.ensures.refusal

@@ -1,6 +1,6 @@
 use Rattle.std.proofs.lemmas.Result.{err_from_is_err_and}
 use Rattle.mp4norm.proofs.StepsTaken.{not_opened, written_within}
-use Rattle.mp4norm.proofs.ReducedNormalised.{reduced_open_refuses, reduced_write_refuses, reduced_written, reduced_front, reduced_unchanged}
+use Rattle.mp4norm.proofs.ReducedNormalised.{reduced_open_refuses, reduced_write_refuses, reduced_written, reduced_front, reduced_unchanged, reduced_too_long}
 use Rattle.mp4norm.proofs.reducing.normalise_reduced.Goals as goal
 
 pub returns-in_err-movie-clause-refusal : goal.returns-in_err-movie-clause-refusal
@@ -18,6 +18,7 @@ returns-clause-refusal g c =
     reduced_write_refuses c.args.leaving c.write_reduced.result _ _ _ _ _ _ _ _ cause
     (reduced_front c.args.leaving _ _ _ _ _ c.in_ok-movie.ensures.honesty c.in_ok-movie.ensures.file c.in_ok-movie.ensures.movie c.write_reduced.result _ _ c.write_reduced.ensures.prefix)
     (reduced_unchanged c.args.leaving _ _ _ _ _ c.in_ok-movie.ensures.honesty c.in_ok-movie.ensures.file c.in_ok-movie.ensures.movie c.write_reduced.result c.write_reduced.ensures.unchanged)
+    (reduced_too_long c.args.leaving _ _ _ _ _ c.in_ok-movie.ensures.honesty c.in_ok-movie.ensures.file c.in_ok-movie.ensures.movie c.write_reduced.result c.write_reduced.ensures.fault)
 
 pub returns-in_err-movie-clause-work : goal.returns-in_err-movie-clause-work
 returns-in_err-movie-clause-work g c = λ told.

@@ -1,4 +1,7 @@
-//! Why a file could not be opened, read or written, where that is to be said.
+//! What is said on standard error beside the answer: why a file could not be opened, read or
+//! written, and how far a job has come.
+use crate::progress::Progress;
+use crate::wanted::Telling;
 use std::io;
 use std::io::{ErrorKind, Write};
 
@@ -19,19 +22,43 @@ fn text_of(kind: ErrorKind) -> &'static str {
     }
 }
 
-/// The cause of a failure, if the system gave one, and whether it is to be said.
+/// What there is to say beside the answer: the cause of a failure, if the system gave one, and how
+/// far the job has come.
 #[derive(Drop)]
-pub(crate) struct Trouble {
-    is_told: bool,
+pub(crate) struct Report<'a> {
+    telling: Telling,
     cause: Option<&'static str>,
+    progress: Option<Progress<'a>>,
 }
 
-impl Trouble {
-    /// No failure yet.
-    pub(crate) fn new(is_told: bool) -> Trouble {
-        Trouble {
-            is_told,
+impl<'a> Report<'a> {
+    /// No failure yet, and nothing done.
+    pub(crate) fn new(telling: Telling) -> Report<'a> {
+        Report {
+            telling,
             cause: None,
+            progress: None,
+        }
+    }
+
+    /// Begins to say how far the job has come, where that is asked for, with so many bytes to put.
+    pub(crate) fn begin(&mut self, rt: &'a HostRuntime, total: u64) {
+        if self.telling.progress {
+            self.progress = Some(Progress::new(rt, total));
+        }
+    }
+
+    // So many bytes more were put.
+    fn pass(&mut self, count: usize) {
+        if let Some(progress) = &mut self.progress {
+            progress.pass(count);
+        }
+    }
+
+    /// The job has come to its end.
+    pub(crate) fn end(&mut self) {
+        if let Some(progress) = &mut self.progress {
+            progress.end();
         }
     }
 
@@ -42,7 +69,7 @@ impl Trouble {
 
     /// Says which file there is trouble with, and why; `else_cause` where the system gave no cause.
     pub(crate) fn tell(&self, rt: &HostRuntime, name: &str, else_cause: &str) {
-        if self.is_told {
+        if self.telling.explain {
             let mut errors = rt.stderr();
             let cause = self.cause.unwrap_or(else_cause);
             for part in ["file: ", name, "\ncause: ", cause, "\n"] {
@@ -53,7 +80,7 @@ impl Trouble {
 
     /// Names a file that an interrupted run left.
     pub(crate) fn tell_leftover(&self, rt: &HostRuntime, name: &str) {
-        if self.is_told {
+        if self.telling.explain {
             let mut errors = rt.stderr();
             for part in ["leftover: ", name, "\n"] {
                 let _ = errors.write_all(part.as_bytes());
@@ -62,19 +89,22 @@ impl Trouble {
     }
 }
 
-/// A writer, and where the cause is kept if it fails.
+/// A writer, of which it is kept how far it has come, and the cause if it fails.
 #[derive(Drop)]
-pub(crate) struct Noted<'a, W> {
+pub(crate) struct Noted<'a, 'r, W> {
     pub(crate) out: &'a mut W,
-    pub(crate) trouble: &'a mut Trouble,
+    pub(crate) report: &'a mut Report<'r>,
 }
 
-impl<'a, W: Write> Write for Noted<'a, W> {
+impl<'a, 'r, W: Write> Write for Noted<'a, 'r, W> {
     fn write(&mut self, piece: &[u8]) -> io::Result<usize> {
         match self.out.write(piece) {
-            Ok(count) => Ok(count),
+            Ok(count) => {
+                self.report.pass(count);
+                Ok(count)
+            }
             Err(error) => {
-                self.trouble.note(error.kind());
+                self.report.note(error.kind());
                 Err(error)
             }
         }

@@ -1,0 +1,55 @@
+-- Why what is left of a movie is not written, where edits stay and where they don't.
+use Rattle.std.proofs.Common.{◌≡◌, ℕ, false, List}
+use Rattle.std.specs.Prelude.{Option, Result, Ok, Err, IfErr, OnOk}
+use Rattle.mp4_boxes.specs.declared.refusal.Refusal.{Refusal}
+use Rattle.mp4_boxes.specs.declared.refusal.Refusal.TheVariants as refusals
+use Rattle.mp4_present.specs.format.Denotes.{FileTree}
+use Rattle.mp4_present.specs.words.Carried.{RefusesCarry, RefusesCopy}
+use Rattle.mp4_present.specs.declared.leaving.Leaving.{Leaving}
+use Rattle.mp4_plan.specs.words.Writers.{RefusesPlan}
+use Rattle.mp4_plan.specs.words.LeftTimes.{NamesLong, RefusesLeft, RefusesLeftCopy}
+
+-- what holds anyway holds of each answer
+pub so_if_ok : {T : Type 0} (answer : Result T Refusal) (P : Type 0) → P → OnOk answer P
+so_if_ok (Ok x) P p = p
+so_if_ok (Err r) P p = tt
+
+carry_names : (l : Leaving) (file : List ℕ) (tree : FileTree) (reads reads_after puts puts_after : ℕ) (r : Refusal) → RefusesCarry reads reads_after puts puts_after r → NamesLong l file tree r
+carry_names l file tree reads reads_after puts puts_after (refusals.Fault f) w = absurd w
+carry_names l file tree reads reads_after puts puts_after refusals.Memory w = tt
+carry_names l file tree reads reads_after puts puts_after refusals.StoreFailed w = tt
+carry_names l file tree reads reads_after puts puts_after refusals.StoreChanged w = tt
+carry_names l file tree reads reads_after puts puts_after refusals.WriteFailed w = tt
+carry_names l file tree reads reads_after puts puts_after refusals.NoSuchTrack w = tt
+
+-- bytes that are not taken along name no fault
+pub carried_names : (l : Leaving) (file : List ℕ) (tree : FileTree) {T : Type 0} (answer : Result T Refusal) (reads reads_after puts puts_after : ℕ) → IfErr answer (RefusesCarry reads reads_after puts puts_after) → IfErr answer (NamesLong l file tree)
+carried_names l file tree (Ok x) reads reads_after puts puts_after w = tt
+carried_names l file tree (Err r) reads reads_after puts puts_after w = carry_names l file tree reads reads_after puts puts_after r w
+
+-- ---- where edits stay no track is too long
+
+plan_left : (l : Leaving) (reads reads_after : ℕ) (r : Refusal) → l.edits ≡ false → RefusesLeft l reads reads_after r → RefusesPlan reads reads_after r
+plan_left l reads reads_after (refusals.Fault f) e w = let out = w.0 in absurd cc
+plan_left l reads reads_after refusals.Memory e w = w
+plan_left l reads reads_after refusals.StoreFailed e w = w
+plan_left l reads reads_after refusals.StoreChanged e w = w
+plan_left l reads reads_after refusals.WriteFailed e w = w
+plan_left l reads reads_after refusals.NoSuchTrack e w = w
+
+pub planned_left : (l : Leaving) {T : Type 0} (answer : Result T Refusal) (reads reads_after : ℕ) → l.edits ≡ false → IfErr answer (RefusesLeft l reads reads_after) → IfErr answer (RefusesPlan reads reads_after)
+planned_left l (Ok x) reads reads_after e w = tt
+planned_left l (Err r) reads reads_after e w = plan_left l reads reads_after r e w
+
+copy_left : (l : Leaving) (before after : Option (List ℕ)) (reads reads_after puts puts_after : ℕ) (r : Refusal) → l.edits ≡ false → RefusesLeftCopy l before after reads reads_after puts puts_after r → RefusesCopy before after reads reads_after puts puts_after r
+copy_left l before after reads reads_after puts puts_after (refusals.Fault f) e w = let out = w.0.0 in absurd cc
+copy_left l before after reads reads_after puts puts_after refusals.Memory e w = w
+copy_left l before after reads reads_after puts puts_after refusals.StoreFailed e w = w
+copy_left l before after reads reads_after puts puts_after refusals.StoreChanged e w = w
+copy_left l before after reads reads_after puts puts_after refusals.WriteFailed e w = w
+copy_left l before after reads reads_after puts puts_after refusals.NoSuchTrack e w = w
+
+pub copied_left : (l : Leaving) {T : Type 0} (answer : Result T Refusal) (before after : Option (List ℕ)) (reads reads_after puts puts_after : ℕ) → l.edits ≡ false
+    → IfErr answer (RefusesLeftCopy l before after reads reads_after puts puts_after) → IfErr answer (RefusesCopy before after reads reads_after puts puts_after)
+copied_left l (Ok x) before after reads reads_after puts puts_after e w = tt
+copied_left l (Err r) before after reads reads_after puts puts_after e w = copy_left l before after reads reads_after puts puts_after r e w

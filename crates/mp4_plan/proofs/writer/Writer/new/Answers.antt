@@ -1,0 +1,7 @@
+use Rattle.std.proofs.Common.{refl}
+use Rattle.mp4_plan.specs.format.ReducedLaws.{nothing}
+use Rattle.mp4_plan.proofs.LeftRefused.{planned_left}
+use Rattle.mp4_plan.proofs.writer.Writer.new.Goals as goal
+
+pub returns-clause-refusal : goal.returns-clause-refusal
+returns-clause-refusal g c = planned_left nothing c.reduced.result _ _ refl c.reduced.ensures.refusal

@@ -1,0 +1,33 @@
+-- Where what is left of a presentation is too long: which fault that is.
+use Rattle.std.specs.Prelude.{◌≡◌, ℕ, List, ◌∷◌, ◌++◌, codes}
+use Rattle.std.specs.List.{AllByRecursion}
+use Rattle.mp4_boxes.specs.format.BoxFaults.{fault_of}
+use Rattle.mp4_boxes.specs.declared.fault.Fault.{Fault}
+use Rattle.mp4_boxes.specs.declared.fault.Kind.TheVariants.{TimeTooLarge}
+use Rattle.mp4_head.specs.format.Tree.{TrackTree, first_of}
+use Rattle.mp4_present.specs.format.Presentation.{Presentation, IsInTime}
+use Rattle.mp4_present.specs.format.Denotes.{Denotes, FileTree, file_parts, movie_timescale, track_of}
+use Rattle.mp4_present.specs.format.Reduced.{reduce_track}
+use Rattle.mp4_present.specs.declared.leaving.Leaving.{Leaving}
+
+-- what is left of a track of the file is not too long
+abbrev pub LeftInTime : Leaving → List ℕ → FileTree → TrackTree → Type 0
+LeftInTime l file tree t = IsInTime (movie_timescale file tree)
+    (reduce_track l (track_of file (file_parts tree) t))
+
+-- What is left of a track is too long: the first such track of the file.
+pub record ReducedTimePasses (l : Leaving) (file : List ℕ) (tree : FileTree) (f : Fault)
+    : Type 0 where
+  pub before : List TrackTree
+  pub t : TrackTree
+  pub after : List TrackTree
+  pub tracks : tree.movie.tracks ≡ before ++ t ∷ after
+  pub in_time : AllByRecursion (LeftInTime l file tree) before
+  pub passes : LeftInTime l file tree t → ⊥
+  pub named : f ≡ fault_of TimeTooLarge (first_of (codes "tkhd") t.track)
+
+-- The file denotes a presentation of which too much is left: the fault names the first such track.
+pub record ReducedFaultStands (l : Leaving) (file : List ℕ) (f : Fault) : Type 0 where
+  pub p : Presentation
+  pub denotes : Denotes file p
+  pub passes : ReducedTimePasses l file denotes.tree f

@@ -1,0 +1,84 @@
+-- How long tracks are by their samples alone, and why nothing is written where one is too long.
+use Rattle.std.specs.Prelude.{◌≡◌, ℕ, ◌*◌, ◌<◌, ◌≤◌, max, List, take, fold, Option, Some, slice_get, codes, true}
+use Rattle.std.specs.Int.{div_ceil}
+use Rattle.std.specs.List.{AllByRecursion}
+use Rattle.mp4_boxes.specs.declared.fault.Fault.{Fault}
+use Rattle.mp4_boxes.specs.declared.fault.Kind.TheVariants.{TimeTooLarge}
+use Rattle.mp4_boxes.specs.declared.refusal.Refusal.{Refusal}
+use Rattle.mp4_boxes.specs.declared.refusal.Refusal.TheVariants as refusals
+use Rattle.mp4_head.specs.declared.heads.TrackHead.{TrackHead}
+use Rattle.mp4_present.specs.format.Presentation.{max_time}
+use Rattle.mp4_present.specs.format.Denotes.{FileTree, presentation_of}
+use Rattle.mp4_present.specs.format.Reduced.{ReducesInTime}
+use Rattle.mp4_present.specs.words.Carried.{RefusesCopy}
+use Rattle.mp4_present.specs.declared.leaving.Leaving.{Leaving}
+use Rattle.mp4_present.specs.declared.track_info.TrackInfo.{TrackInfo}
+use Rattle.mp4_plan.specs.format.ReducedTimes.{ReducedTimePasses}
+use Rattle.mp4_plan.specs.words.Writers.{RefusesPlan}
+
+-- how long the track's samples take in the movie's timescale, rounded up
+abbrev pub samples_length : ℕ → TrackInfo → ℕ
+samples_length timescale info = div_ceil (info.duration * timescale) (max info.timescale 1)
+
+abbrev pub IsShort : ℕ → TrackInfo → Type 0
+IsShort timescale info = samples_length timescale info ≤ max_time
+
+abbrev pub longest_by_samples : ℕ → List TrackInfo → ℕ
+longest_by_samples timescale tracks =
+    fold (λ longest (info : TrackInfo). max longest (samples_length timescale info)) 0 tracks
+
+-- none of the tracks is too long, and this is the longest
+pub record AreShort (timescale : ℕ) (tracks : List TrackInfo) (longest : ℕ) : Type 0 where
+  pub each : AllByRecursion (IsShort timescale) tracks
+  pub longest_is : longest ≡ longest_by_samples timescale tracks
+
+-- what is named where a `tkhd` at this place is that of a track that is too long
+abbrev pub time_fault : ℕ → Fault
+time_fault offset = record { kind = TimeTooLarge; box_type = codes "tkhd"; offset = offset }
+
+-- the first track that is too long is the k-th
+pub record FirstLong (timescale : ℕ) (heads : List TrackHead) (tracks : List TrackInfo) (f : Fault)
+    : Type 0 where
+  pub k : ℕ
+  pub info : TrackInfo
+  pub there : slice_get tracks k ≡ Some info
+  pub before : AllByRecursion (IsShort timescale) (take k tracks)
+  pub long : max_time < samples_length timescale info
+  pub head : TrackHead
+  pub is_head : slice_get heads k ≡ Some head
+  pub named : f ≡ time_fault head.offset
+
+-- ---- refusals
+
+-- Where edits are left out, some track may be too long.
+abbrev pub MayBeLong : Leaving → Fault → Type 0
+MayBeLong l f = (l.edits ≡ true) × (f.kind ≡ TimeTooLarge) × (f.box_type ≡ codes "tkhd")
+
+-- Why the length of what is left is not answered.
+abbrev pub RefusesLength : Leaving → Refusal → Type 0
+RefusesLength l (refusals.Fault f) = MayBeLong l f
+RefusesLength l refusals.Memory = Unit {0}
+RefusesLength l _ = ⊥
+
+-- Why what is left of a movie is not planned. The numbers are counts of failed reads, before and
+-- after.
+abbrev pub RefusesLeft : Leaving → ℕ → ℕ → Refusal → Type 0
+RefusesLeft l reads reads_after (refusals.Fault f) = MayBeLong l f
+RefusesLeft l reads reads_after r = RefusesPlan reads reads_after r
+
+-- Why what is left of a movie is not written: what the sink holds, before and after, and counts of
+-- failed reads, and of failed puts.
+abbrev pub RefusesLeftCopy : Leaving → Option (List ℕ) → Option (List ℕ) → ℕ → ℕ → ℕ → ℕ → Refusal
+    → Type 0
+RefusesLeftCopy l before after reads reads_after puts puts_after (refusals.Fault f) = MayBeLong l f
+    × (after ≡ before)
+RefusesLeftCopy l before after reads reads_after puts puts_after r =
+    RefusesCopy before after reads reads_after puts puts_after r
+
+-- ---- over an opened file
+
+-- a fault is that of the first track that is too long
+abbrev pub NamesLong : Leaving → List ℕ → FileTree → Refusal → Type 0
+NamesLong l file tree (refusals.Fault f) = ReducedTimePasses l file tree f
+    × (ReducesInTime l (presentation_of file tree) → ⊥)
+NamesLong l file tree _ = Unit {0}
