@@ -361,7 +361,7 @@ fn sequence_behind(sequence: u32, head: &Option<PieceHead>) -> u32
 
 impl Writer {
     /// Plans all of what is left of a movie, and then takes all memory that writing it needs. A
-    /// track that is too long without its edits is a fault, before anything is read.
+    /// track that is too long without its edits is a fault.
     pub fn reduced<S: Store, L: Ledger>(
         alloc: Global,
         movie: &Movie,

@@ -35,13 +35,13 @@ itself [] k d lt = absurd (omega (arith, lt))
 itself (x ∷ xs) zero d lt = refl
 itself (x ∷ xs) (suc k) d lt = itself xs k d (omega (arith, lt))
 
-none_behind : {A : Type 0} (xs : List A) (k : ℕ) → length xs ≤ k → drop k xs ≡ []
+pub none_behind : {A : Type 0} (xs : List A) (k : ℕ) → length xs ≤ k → drop k xs ≡ []
 none_behind [] zero le = refl
 none_behind [] (suc k) le = refl
 none_behind (x ∷ xs) zero le = absurd (omega (arith, le))
 none_behind (x ∷ xs) (suc k) le = none_behind xs k (omega (arith, le))
 
-each_ends : {A : Type 0} (one : ℕ → A → A → List Difference) (n : ℕ) (xs : List A) → each_differ one n xs [] ≡ []
+pub each_ends : {A : Type 0} (one : ℕ → A → A → List Difference) (n : ℕ) (xs : List A) → each_differ one n xs [] ≡ []
 each_ends one n [] = refl
 each_ends one n (x ∷ xs) = refl
 

@@ -77,3 +77,8 @@ pub mod ComparisonTurned
 pub mod ComparisonPlaces
 pub mod ComparisonVectors
 mod NextSample
+mod KeysOfBoth
+mod SamplesDiffer
+mod PairsCompared
+mod TracksCompared
+mod FilesCompared

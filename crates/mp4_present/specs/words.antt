@@ -18,3 +18,4 @@ pub mod GoingBack
 pub mod Differing
 pub mod Windows
 pub mod NextSample
+pub mod Compared

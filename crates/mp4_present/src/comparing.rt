@@ -1,16 +1,20 @@
 //! Two opened files, compared by what they say.
-ghost use Rattle.std.specs.Prelude.{◌≡◌, ◌+◌, ◌<◌, ℕ, ◌++◌, length, take, true, IfOk, IfErr, OnOk};
+ghost use Rattle.std.specs.Prelude.{◌≡◌, ◌+◌, ◌<◌, ◌≤◌, ℕ, ◌++◌, length, take, true, slice_get, IfOk, IfErr, OnOk};
+ghost use Rattle.mp4_boxes.specs.declared.refusal.Refusal.TheVariants as refusals;
 ghost use Rattle.mp4_head.specs.words.Seen.{track_seen};
+ghost use Rattle.mp4_present.specs.format.Comparison.{differences};
+ghost use Rattle.mp4_present.specs.format.Denotes.{presentation_of};
 ghost use Rattle.mp4_present.specs.format.Differences.{numbers, head_differences};
-ghost use Rattle.mp4_present.specs.format.Reduced.{reduce_track_head};
+ghost use Rattle.mp4_present.specs.format.Reduced.{reduce, reduce_track_head};
+ghost use Rattle.mp4_present.specs.words.Compared.{WhereBothOpened, AtTracks, AtHeads, TakesFront, samples_differ, tracks_differ};
 ghost use Rattle.mp4_present.specs.words.Differing.{RefusesSample};
+ghost use Rattle.mp4_present.specs.words.WalkSteps.{walk_steps, walks_steps};
 ghost use Rattle.mp4_present.specs.declared.differences.Field.TheVariants as fields;
 
 use crate::comparing_fields::{compare_numbers, compare_u32};
 use crate::comparing_heads::{movie_differences, track_differences};
-use crate::comparing_samples::{compare_bytes, compare_samples, joint_keys};
+use crate::comparing_samples::{Pairing, Side, compare_pair};
 use crate::differences::{Difference, Differences, Field, Subject};
-use crate::file_window::FileWindow;
 use crate::leaving::Leaving;
 use crate::movie::Movie;
 use crate::track_info::TrackInfo;
@@ -20,14 +24,11 @@ use mp4_store::Store;
 use std::alloc::Global;
 use std::sync::ledger::Ledger;
 
-// How many bytes of a file are read at once.
-const WINDOW: usize = 65_536;
-
 // What was found goes to whoever takes it, and whether a further difference is taken.
-fn hand_over<D: Differences>(found: &Vec<Difference>, seen: &mut D) -> bool
+fn hand_over<D: Differences>(found: &[Difference], seen: &mut D) -> bool
     requires { D.is_open seen.old ≡ true }
-    ensures all { result ≡ true → D.taken seen.new ≡ D.taken seen.old ++ found.now.items }
-    ensures front { (n : ℕ) × (D.taken seen.new ≡ D.taken seen.old ++ take n found.now.items) }
+    ensures all { result ≡ true → D.taken seen.new ≡ D.taken seen.old ++ found.now }
+    ensures front { (n : ℕ) × (D.taken seen.new ≡ D.taken seen.old ++ take n found.now) }
     ensures goes { result ≡ D.is_open seen.new }
 {
     for k in 0..found.len() {
@@ -59,36 +60,44 @@ fn compare_track_samples<S: Store, T: Store, D: Differences, L: Ledger>(
     ensures honesty_right { T.is_honest b.new ≡ T.is_honest b.old }
     ensures file_right { T.file b.new ≡ T.file b.old }
     ensures goes { IfOk result (λ all. all ≡ D.is_open seen.new) }
+    ensures all { IfOk result (λ all. all ≡ true → WhereBothOpened (S.is_honest a.old)
+        (S.file a.old) left.now (T.is_honest b.old) (T.file b.old) right.now
+        (λ tree other. AtTracks track tree other (λ t u.
+        D.taken seen.new ≡ D.taken seen.old ++ samples_differ leaving (track + 1) (S.file a.old)
+        tree t (T.file b.old) other u))) }
+    ensures front { WhereBothOpened (S.is_honest a.old) (S.file a.old) left.now
+        (T.is_honest b.old) (T.file b.old) right.now (λ tree other. AtTracks track tree other
+        (λ t u. TakesFront (D.taken seen.old) (D.taken seen.new)
+        (samples_differ leaving (track + 1) (S.file a.old) tree t (T.file b.old) other u))) }
+    ensures unchanged { WhereBothOpened (S.is_honest a.old) (S.file a.old) left.now
+        (T.is_honest b.old) (T.file b.old) right.now (λ tree other. AtTracks track tree other
+        (λ t u. IfErr result (λ r. r ≡ refusals.StoreChanged → ⊥))) }
+    ensures work { WhereBothOpened (S.is_honest a.old) (S.file a.old) left.now
+        (T.is_honest b.old) (T.file b.old) right.now (λ tree other. AtTracks track tree other
+        (λ t u. steps.new ≤ steps.old + (walk_steps tree t + walk_steps other u))) }
     ensures reads { OnOk result (S.read_failures a.new ≡ S.read_failures a.old) }
     ensures reads_right { OnOk result (T.read_failures b.new ≡ T.read_failures b.old) }
     ensures refusal { IfErr result (RefusesSample (S.read_failures a.old) (S.read_failures a.new)
         (T.read_failures b.old) (T.read_failures b.new)) }
 {
-    let mut left_walk = left.walk(alloc, track)?;
-    let mut right_walk = right.walk(alloc, track)?;
-    let mut left_window = FileWindow::new(alloc, WINDOW)?;
-    let mut right_window = FileWindow::new(alloc, WINDOW)?;
-    let info = left.tracks()[track];
-    let other = right.tracks()[track];
-    let keys = joint_keys(alloc, leaving, &info.keys, &other.keys)?;
-    for number in 0..info.samples.min(other.samples) {
-        let x = left_walk.next_sample(left, a, steps)?;
-        let y = right_walk.next_sample(right, b, steps)?;
-        let of = Subject::Sample(track as u64 + 1, number + 1);
-        let mut found = Vec::new(alloc);
-        compare_samples(
-            leaving,
-            of,
-            &keys,
-            &info.keys,
-            &x,
-            &other.keys,
-            &y,
-            &mut found,
+    let by = Pairing::new(alloc, leaving, left, right, track)?;
+    let mut left_side = Side::new(alloc, left, track)?;
+    let mut right_side = Side::new(alloc, right, track)?;
+    let samples = left.tracks()[track].samples;
+    for number in 0..samples.min(right.tracks()[track].samples) {
+        let found = compare_pair(
+            alloc,
+            &by,
+            number + 1,
+            left,
+            &mut left_side,
+            a,
+            right,
+            &mut right_side,
+            b,
+            steps,
         )?;
-        let window = &mut right_window;
-        compare_bytes(of, &x, &mut left_window, a, &y, window, b, &mut found)?;
-        if !hand_over(&found, seen) {
+        if !hand_over(found.as_slice(), seen) {
             return Ok(false);
         }
     }
@@ -117,6 +126,59 @@ fn compare_track_heads(
     Ok(found)
 }
 
+// Compares the tracks at one place, of which these are the heads.
+fn compare_tracks<S: Store, T: Store, D: Differences, L: Ledger>(
+    alloc: Global,
+    track: usize,
+    left: &Movie,
+    head: &TrackHead,
+    a: &mut S,
+    right: &Movie,
+    other_head: &TrackHead,
+    b: &mut T,
+    leaving: Leaving,
+    seen: &mut D,
+    steps: &mut Steps<L>,
+) -> Result<bool, Refusal>
+    requires left { track < length left.now.tracks }
+    requires right { track < length right.now.tracks }
+    requires goes { D.is_open seen.old ≡ true }
+    ensures honesty { S.is_honest a.new ≡ S.is_honest a.old }
+    ensures file { S.file a.new ≡ S.file a.old }
+    ensures honesty_right { T.is_honest b.new ≡ T.is_honest b.old }
+    ensures file_right { T.file b.new ≡ T.file b.old }
+    ensures goes { IfOk result (λ all. all ≡ D.is_open seen.new) }
+    ensures all { IfOk result (λ all. all ≡ true → WhereBothOpened (S.is_honest a.old)
+        (S.file a.old) left.now (T.is_honest b.old) (T.file b.old) right.now
+        (λ tree other. AtHeads track tree other head.now other_head.now (λ t u.
+        D.taken seen.new ≡ D.taken seen.old ++ tracks_differ leaving (track + 1) (S.file a.old)
+        tree t (T.file b.old) other u))) }
+    ensures front { WhereBothOpened (S.is_honest a.old) (S.file a.old) left.now
+        (T.is_honest b.old) (T.file b.old) right.now
+        (λ tree other. AtHeads track tree other head.now other_head.now
+        (λ t u. TakesFront (D.taken seen.old) (D.taken seen.new)
+        (tracks_differ leaving (track + 1) (S.file a.old) tree t (T.file b.old) other u))) }
+    ensures unchanged { WhereBothOpened (S.is_honest a.old) (S.file a.old) left.now
+        (T.is_honest b.old) (T.file b.old) right.now (λ tree other. AtTracks track tree other
+        (λ t u. IfErr result (λ r. r ≡ refusals.StoreChanged → ⊥))) }
+    ensures work { WhereBothOpened (S.is_honest a.old) (S.file a.old) left.now
+        (T.is_honest b.old) (T.file b.old) right.now (λ tree other. AtTracks track tree other
+        (λ t u. steps.new ≤ steps.old + (walk_steps tree t + walk_steps other u))) }
+    ensures reads { OnOk result (S.read_failures a.new ≡ S.read_failures a.old) }
+    ensures reads_right { OnOk result (T.read_failures b.new ≡ T.read_failures b.old) }
+    ensures refusal { IfErr result (RefusesSample (S.read_failures a.old) (S.read_failures a.new)
+        (T.read_failures b.old) (T.read_failures b.new)) }
+{
+    let info = left.tracks()[track];
+    let other = right.tracks()[track];
+    let of = Subject::Track(track as u64 + 1);
+    let found = compare_track_heads(alloc, leaving, of, head, &info, other_head, &other)?;
+    if !hand_over(found.as_slice(), seen) {
+        return Ok(false);
+    }
+    compare_track_samples(alloc, track, left, a, right, b, leaving, seen, steps)
+}
+
 /// Compares two opened files by what they say, without what is left out, and hands each difference
 /// over: the movies, the number of their tracks, and then track by track the heads, the start, the
 /// number of samples, and the samples. True where all was compared, false where no further
@@ -137,29 +199,50 @@ pub fn compare_all<S: Store, T: Store, D: Differences, L: Ledger>(
     ensures honesty_right { T.is_honest b.new ≡ T.is_honest b.old }
     ensures file_right { T.file b.new ≡ T.file b.old }
     ensures goes { IfOk result (λ all. all ≡ D.is_open seen.new) }
+    ensures all { IfOk result (λ all. all ≡ true → WhereBothOpened (S.is_honest a.old)
+        (S.file a.old) left.now (T.is_honest b.old) (T.file b.old) right.now (λ tree other.
+        D.taken seen.new ≡ D.taken seen.old ++ differences
+        (reduce leaving (presentation_of (S.file a.old) tree))
+        (reduce leaving (presentation_of (T.file b.old) other)))) }
+    ensures front { WhereBothOpened (S.is_honest a.old) (S.file a.old) left.now
+        (T.is_honest b.old) (T.file b.old) right.now (λ tree other.
+        TakesFront (D.taken seen.old) (D.taken seen.new)
+        (differences (reduce leaving (presentation_of (S.file a.old) tree))
+        (reduce leaving (presentation_of (T.file b.old) other)))) }
+    ensures unchanged { WhereBothOpened (S.is_honest a.old) (S.file a.old) left.now
+        (T.is_honest b.old) (T.file b.old) right.now
+        (λ tree other. IfErr result (λ r. r ≡ refusals.StoreChanged → ⊥)) }
+    ensures work { WhereBothOpened (S.is_honest a.old) (S.file a.old) left.now
+        (T.is_honest b.old) (T.file b.old) right.now
+        (λ tree other. steps.new ≤ steps.old + (walks_steps tree + walks_steps other)) }
     ensures reads { OnOk result (S.read_failures a.new ≡ S.read_failures a.old) }
     ensures reads_right { OnOk result (T.read_failures b.new ≡ T.read_failures b.old) }
     ensures refusal { IfErr result (RefusesSample (S.read_failures a.old) (S.read_failures a.new)
         (T.read_failures b.old) (T.read_failures b.new)) }
 {
     let head = left.head(alloc)?;
-    let other = right.head(alloc)?;
-    let found = movie_differences(alloc, leaving, &head, &other)?;
-    if !hand_over(&found, seen) {
+    let other_head = right.head(alloc)?;
+    let found = movie_differences(alloc, leaving, &head, &other_head)?;
+    if !hand_over(found.as_slice(), seen) {
         return Ok(false);
     }
-    let infos = left.tracks().len().min(right.tracks().len());
-    for track in 0..infos.min(head.tracks.len()).min(other.tracks.len()) {
-        let of = Subject::Track(track as u64 + 1);
-        let info = left.tracks()[track];
-        let second = right.tracks()[track];
-        let one = &head.tracks[track];
-        let two = &other.tracks[track];
-        let found = compare_track_heads(alloc, leaving, of, one, &info, two, &second)?;
-        if !hand_over(&found, seen) {
-            return Ok(false);
-        }
-        if !compare_track_samples(alloc, track, left, a, right, b, leaving, seen, steps)? {
+    let tracks = left.tracks().len().min(right.tracks().len());
+    for track in 0..tracks.min(head.tracks.len()).min(other_head.tracks.len()) {
+        let track_head = &head.tracks[track];
+        let other_track_head = &other_head.tracks[track];
+        if !compare_tracks(
+            alloc,
+            track,
+            left,
+            track_head,
+            a,
+            right,
+            other_track_head,
+            b,
+            leaving,
+            seen,
+            steps,
+        )? {
             return Ok(false);
         }
     }
@@ -200,6 +283,16 @@ pub fn compare<S: Store, T: Store, L: Ledger>(
     ensures file { S.file a.new ≡ S.file a.old }
     ensures honesty_right { T.is_honest b.new ≡ T.is_honest b.old }
     ensures file_right { T.file b.new ≡ T.file b.old }
+    ensures first { IfOk result (λ first. WhereBothOpened (S.is_honest a.old) (S.file a.old)
+        left.now (T.is_honest b.old) (T.file b.old) right.now (λ tree other.
+        first ≡ slice_get (differences (reduce leaving (presentation_of (S.file a.old) tree))
+        (reduce leaving (presentation_of (T.file b.old) other))) 0)) }
+    ensures unchanged { WhereBothOpened (S.is_honest a.old) (S.file a.old) left.now
+        (T.is_honest b.old) (T.file b.old) right.now
+        (λ tree other. IfErr result (λ r. r ≡ refusals.StoreChanged → ⊥)) }
+    ensures work { WhereBothOpened (S.is_honest a.old) (S.file a.old) left.now
+        (T.is_honest b.old) (T.file b.old) right.now
+        (λ tree other. steps.new ≤ steps.old + (walks_steps tree + walks_steps other)) }
     ensures reads { OnOk result (S.read_failures a.new ≡ S.read_failures a.old) }
     ensures reads_right { OnOk result (T.read_failures b.new ≡ T.read_failures b.old) }
     ensures refusal { IfErr result (RefusesSample (S.read_failures a.old) (S.read_failures a.new)

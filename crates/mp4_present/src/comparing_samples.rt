@@ -1,8 +1,20 @@
 //! Samples of two tracks, compared one by one.
-ghost use Rattle.std.specs.Prelude.{◌≡◌, ◌+◌, ℕ, ◌++◌, IfErr, OnOk, IsTrue};
+ghost use Rattle.std.specs.Prelude.{◌≡◌, ◌+◌, ◌≤◌, ℕ, List, ◌++◌, [], length, map, fold, if◌then◌else◌, IfOk, IfErr, OnOk, OnErr, IsTrue};
+ghost use Rattle.mp4_boxes.specs.declared.refusal.Refusal.TheVariants as refusals;
+ghost use Rattle.mp4_head.specs.format.Tree.{TrackTree};
+ghost use Rattle.mp4_tables.specs.declared.sample.SampleAt.{SampleAt};
+ghost use Rattle.mp4_present.specs.format.Denotes.{FileTree};
+ghost use Rattle.mp4_present.specs.words.Compared.{WhereBothOpened, BothTakeOn, LieIn};
+ghost use Rattle.mp4_present.specs.words.Joined.{IsBelow};
+ghost use Rattle.mp4_present.specs.words.Movies.{IsWalkOf};
+ghost use Rattle.mp4_present.specs.words.NextSample.{TakesFirst};
+ghost use Rattle.mp4_present.specs.words.SamplesComing.{Comes};
+ghost use Rattle.mp4_present.specs.words.WalkSteps.{MayTake};
+ghost use Rattle.mp4_tables.specs.words.Keys.{key_seen, keys_seen};
+ghost use Rattle.mp4_present.specs.format.Comparison.{with_key};
 ghost use Rattle.mp4_present.specs.format.Differences.{numbers, bytes_differ};
 ghost use Rattle.mp4_store.specs.words.Device.{range};
-ghost use Rattle.mp4_present.specs.words.Differing.{flags_left, index_of, group_differences, sample_differences, RefusesSample};
+ghost use Rattle.mp4_present.specs.words.Differing.{flags_left, index_of, group_differences, differences_at, pair_differences, RefusesSample};
 ghost use Rattle.mp4_present.specs.words.Windows.{Shows};
 ghost use Rattle.mp4_present.specs.declared.differences.Field.TheVariants as fields;
 
@@ -11,10 +23,13 @@ use crate::comparing_fields::{compare_i32, compare_numbers, compare_u32, compare
 use crate::differences::{Difference, Field, Subject, Value};
 use crate::file_window::FileWindow;
 use crate::leaving::Leaving;
-use mp4_boxes::{Memory, Refusal};
+use crate::movie::Movie;
+use crate::walks::Walk;
+use mp4_boxes::{Memory, Refusal, Steps};
 use mp4_store::Store;
 use mp4_tables::{GroupKey, Keys, SampleAt};
 use std::alloc::Global;
+use std::sync::ledger::Ledger;
 
 // The flags of a sample; sample_is_non_sync_sample alone, where the others are left out.
 fn flags_left(leaving: Leaving, flags: u32) -> u32
@@ -56,26 +71,51 @@ fn index_at(keys: &Keys, sample: &SampleAt, key: GroupKey) -> u16
     }
 }
 
-// The keys of two tracks, none where groups are left out: those of the first, and then those that
-// the second alone names.
-pub(crate) fn joint_keys(
+// Puts a key among keys in their order, where it isn't there yet.
+fn put_key(keys: &mut Vec<GroupKey>, key: GroupKey) -> Result<(), Memory>
+    ensures { OnOk result (map key_seen keys.new.items
+        ≡ with_key (map key_seen keys.old.items) (key_seen key)) }
+{
+    let rank = key.rank();
+    for k in 0..keys.len() {
+        let other = keys[k].rank();
+        if rank < other {
+            keys.insert(k, key).map_err(|_| Memory)?;
+            return Ok(());
+        }
+        if rank == other {
+            return Ok(());
+        }
+    }
+    keys.push(key).map_err(|_| Memory)?;
+    Ok(())
+}
+
+// Puts the keys of a track among keys in their order.
+fn put_keys(keys: &mut Vec<GroupKey>, more: &Keys) -> Result<(), Memory>
+    ensures { OnOk result (map key_seen keys.new.items
+        ≡ fold with_key (map key_seen keys.old.items) (keys_seen more.now)) }
+{
+    for j in 0..more.count() {
+        put_key(keys, more.key_at(j))?;
+    }
+    Ok(())
+}
+
+// The keys of two tracks in their order, each once; none where groups are left out.
+fn joint_keys(
     alloc: Global,
     leaving: Leaving,
     left: &Keys,
     right: &Keys,
-) -> Result<Vec<GroupKey>, Memory> {
+) -> Result<Vec<GroupKey>, Memory>
+    ensures { IfOk result (λ keys. map key_seen keys.items ≡ (if leaving.groups then []
+        else fold with_key [] (keys_seen left.now ++ keys_seen right.now))) }
+{
     let mut keys = Vec::new(alloc);
-    if leaving.groups {
-        return Ok(keys);
-    }
-    for j in 0..left.count() {
-        keys.push(left.key_at(j)).map_err(|_| Memory)?;
-    }
-    for j in 0..right.count() {
-        let key = right.key_at(j);
-        if left.place(key).is_none() {
-            keys.push(key).map_err(|_| Memory)?;
-        }
+    if !leaving.groups {
+        put_keys(&mut keys, left)?;
+        put_keys(&mut keys, right)?;
     }
     Ok(keys)
 }
@@ -101,14 +141,14 @@ fn compare_index(
 // Adds each index that differs, at these keys.
 fn compare_groups(
     of: Subject,
-    keys: &Vec<GroupKey>,
+    keys: &[GroupKey],
     left_keys: &Keys,
     left: &SampleAt,
     right_keys: &Keys,
     right: &SampleAt,
     found: &mut Vec<Difference>,
 ) -> Result<(), Memory>
-    ensures { OnOk result (found.new.items ≡ found.old.items ++ group_differences of keys.now.items
+    ensures { OnOk result (found.new.items ≡ found.old.items ++ group_differences of keys.now
         left_keys.now left.now right_keys.now right.now) }
 {
     for k in 0..keys.len() {
@@ -118,10 +158,10 @@ fn compare_groups(
 }
 
 // Adds what differs between two samples apart from their bytes.
-pub(crate) fn compare_samples(
+fn compare_samples(
     leaving: Leaving,
     of: Subject,
-    keys: &Vec<GroupKey>,
+    keys: &[GroupKey],
     left_keys: &Keys,
     left: &SampleAt,
     right_keys: &Keys,
@@ -129,7 +169,7 @@ pub(crate) fn compare_samples(
     found: &mut Vec<Difference>,
 ) -> Result<(), Memory>
     ensures { OnOk result (found.new.items ≡ found.old.items
-        ++ sample_differences leaving of keys.now.items left_keys.now left.now right_keys.now
+        ++ differences_at leaving of keys.now left_keys.now left.now right_keys.now
         right.now) }
 {
     compare_u32(of, Field::Duration, left.duration, right.duration, found)?;
@@ -149,7 +189,7 @@ pub(crate) fn compare_samples(
 
 // Adds the first byte that differs, where two samples have one size. A sample that doesn't lie in
 // its file shows that the store has changed.
-pub(crate) fn compare_bytes<S: Store, T: Store>(
+fn compare_bytes<S: Store, T: Store>(
     of: Subject,
     left: &SampleAt,
     left_window: &mut FileWindow,
@@ -172,6 +212,9 @@ pub(crate) fn compare_bytes<S: Store, T: Store>(
         ++ bytes_differ of (λ (k : ℕ). fields.Byte k left.now.size) left.now.size right.now.size
         (range (S.file a.old) left.now.at left.now.size)
         (range (T.file b.old) right.now.at left.now.size)) }
+    ensures unchanged { IsBelow (length (S.file a.old)) left.now
+        → IsBelow (length (T.file b.old)) right.now
+        → IfErr result (λ r. r ≡ refusals.StoreChanged → ⊥) }
     ensures reads { OnOk result (S.read_failures a.new ≡ S.read_failures a.old) }
     ensures reads_right { OnOk result (T.read_failures b.new ≡ T.read_failures b.old) }
     ensures refusal { IfErr result (RefusesSample (S.read_failures a.old) (S.read_failures a.new)
@@ -192,4 +235,163 @@ pub(crate) fn compare_bytes<S: Store, T: Store>(
         compare_values(of, field, Value::Byte(byte), Value::Byte(other), found)?;
     }
     Ok(())
+}
+
+// What samples of two tracks are compared by: what is left out, the number of the tracks, the keys
+// of each, and those of both in their order.
+#[derive(Drop)]
+pub(crate) struct Pairing {
+    leaving: Leaving,
+    track: u64,
+    left: Keys,
+    right: Keys,
+    keys: Vec<GroupKey>,
+}
+
+impl Pairing {
+    ghost use Rattle.std.specs.Prelude.{◌≡◌, ◌<◌, length, slice_get, Some, IfOk};
+    ghost use Rattle.mp4_present.specs.words.Compared.{IsPairingOf};
+    ghost use Rattle.mp4_present.specs.declared.track_info.TrackInfo.{TrackInfo};
+
+    // Of the tracks at this place in both movies.
+    pub(crate) fn new(
+        alloc: Global,
+        leaving: Leaving,
+        left: &Movie,
+        right: &Movie,
+        track: usize,
+    ) -> Result<Pairing, Memory>
+        requires left { track < length left.now.tracks }
+        requires right { track < length right.now.tracks }
+        ensures { IfOk result (λ by. (info other : TrackInfo)
+            → slice_get left.now.tracks track ≡ Some info
+            → slice_get right.now.tracks track ≡ Some other
+            → IsPairingOf leaving track info other by) }
+    {
+        let info = left.tracks()[track];
+        let other = right.tracks()[track];
+        let keys = joint_keys(alloc, leaving, &info.keys, &other.keys)?;
+        Ok(Pairing {
+            leaving,
+            track: track as u64 + 1,
+            left: info.keys,
+            right: other.keys,
+            keys,
+        })
+    }
+}
+
+// How many bytes of a file are read at once.
+const WINDOW: usize = 65_536;
+
+// A track whose samples are compared with those of another: a walk over them, and a window on
+// their bytes.
+#[derive(Drop)]
+pub(crate) struct Side {
+    walk: Walk,
+    window: FileWindow,
+}
+
+impl Side {
+    ghost use Rattle.std.specs.Prelude.{◌≡◌, ◌≤◌, ◌<◌, ℕ, List, length, slice_get, Some, IfOk};
+    ghost use Rattle.mp4_head.specs.format.Tree.{TrackTree};
+    ghost use Rattle.mp4_present.specs.format.Denotes.{FileTree};
+    ghost use Rattle.mp4_present.specs.words.Movies.{IsWalkOf};
+    ghost use Rattle.mp4_present.specs.words.OpenedMovie.{IsOpenedAs};
+    ghost use Rattle.mp4_present.specs.words.SamplesComing.{Comes, track_samples};
+    ghost use Rattle.mp4_present.specs.words.WalkSteps.{MayTake, walk_steps};
+    ghost use Rattle.mp4_present.specs.words.Windows.{Shows};
+
+    // Before the first sample of the track at this place.
+    pub(crate) fn new(alloc: Global, movie: &Movie, track: usize) -> Result<Side, Memory>
+        requires { track < length movie.now.tracks }
+        ensures walk { IfOk result (λ side. IsWalkOf movie.now side.walk) }
+        ensures coming { IfOk result (λ side. (file : List ℕ) (tree : FileTree) (t : TrackTree)
+            → IsOpenedAs file movie.now tree → slice_get tree.movie.tracks track ≡ Some t
+            → Comes file tree t movie.now side.walk (track_samples tree t)) }
+        ensures may { IfOk result (λ side. (file : List ℕ) (tree : FileTree) (t : TrackTree)
+            → IsOpenedAs file movie.now tree → slice_get tree.movie.tracks track ≡ Some t
+            → (n : ℕ) × MayTake file tree t side.walk n × (n ≤ walk_steps tree t)) }
+        ensures shows { IfOk result (λ side. (file : List ℕ) → Shows file side.window) }
+    {
+        let walk = movie.walk(alloc, track)?;
+        let window = FileWindow::new(alloc, WINDOW).map_err(|_| Memory)?;
+        Ok(Side { walk, window })
+    }
+}
+
+// What differs between the next samples of both tracks, which are taken.
+pub(crate) fn compare_pair<S: Store, T: Store, L: Ledger>(
+    alloc: Global,
+    by: &Pairing,
+    number: u32,
+    left: &Movie,
+    left_side: &mut Side,
+    a: &mut S,
+    right: &Movie,
+    right_side: &mut Side,
+    b: &mut T,
+    steps: &mut Steps<L>,
+) -> Result<Vec<Difference>, Refusal>
+    requires walk { IsWalkOf left.now left_side.old.walk }
+    requires walk_right { IsWalkOf right.now right_side.old.walk }
+    requires shows { IsTrue (S.is_honest a.old) → Shows (S.file a.old) left_side.old.window }
+    requires shows_right { IsTrue (T.is_honest b.old)
+        → Shows (T.file b.old) right_side.old.window }
+    ensures honesty { S.is_honest a.new ≡ S.is_honest a.old }
+    ensures file { S.file a.new ≡ S.file a.old }
+    ensures honesty_right { T.is_honest b.new ≡ T.is_honest b.old }
+    ensures file_right { T.file b.new ≡ T.file b.old }
+    ensures walk { OnOk result (IsWalkOf left.now left_side.new.walk) }
+    ensures walk_right { OnOk result (IsWalkOf right.now right_side.new.walk) }
+    ensures shows { OnOk result (IsTrue (S.is_honest a.old)
+        → Shows (S.file a.old) left_side.new.window) }
+    ensures shows_right { OnOk result (IsTrue (T.is_honest b.old)
+        → Shows (T.file b.old) right_side.new.window) }
+    ensures found { WhereBothOpened (S.is_honest a.old) (S.file a.old) left.now
+        (T.is_honest b.old) (T.file b.old) right.now
+        (λ tree other. (t u : TrackTree) (xs ys : List SampleAt)
+        → Comes (S.file a.old) tree t left.now left_side.old.walk xs
+        → Comes (T.file b.old) other u right.now right_side.old.walk ys
+        → IfOk result (λ found. (x y : SampleAt)
+        × TakesFirst (S.file a.old) tree t left.now left_side.new.walk xs x
+        × TakesFirst (T.file b.old) other u right.now right_side.new.walk ys y
+        × (found.items ≡ pair_differences by.now.leaving by.now.track by.now.keys.items by.now.left
+        (S.file a.old) by.now.right (T.file b.old) number x y))) }
+    ensures unchanged { WhereBothOpened (S.is_honest a.old) (S.file a.old) left.now
+        (T.is_honest b.old) (T.file b.old) right.now
+        (λ tree other. (t u : TrackTree) (xs ys : List SampleAt)
+        → Comes (S.file a.old) tree t left.now left_side.old.walk xs
+        → Comes (T.file b.old) other u right.now right_side.old.walk ys
+        → LieIn (S.file a.old) xs → LieIn (T.file b.old) ys
+        → IfErr result (λ r. r ≡ refusals.StoreChanged → ⊥)) }
+    ensures work { WhereBothOpened (S.is_honest a.old) (S.file a.old) left.now
+        (T.is_honest b.old) (T.file b.old) right.now
+        (λ tree other. (t u : TrackTree) (n m : ℕ)
+        → MayTake (S.file a.old) tree t left_side.old.walk n
+        → MayTake (T.file b.old) other u right_side.old.walk m
+        → OnOk result (BothTakeOn (S.file a.old) tree t left_side.new.walk (T.file b.old) other u
+        right_side.new.walk (n + m) steps.old steps.new)) }
+    ensures most { WhereBothOpened (S.is_honest a.old) (S.file a.old) left.now
+        (T.is_honest b.old) (T.file b.old) right.now
+        (λ tree other. (t u : TrackTree) (n m : ℕ)
+        → MayTake (S.file a.old) tree t left_side.old.walk n
+        → MayTake (T.file b.old) other u right_side.old.walk m
+        → OnErr result (steps.new ≤ steps.old + (n + m))) }
+    ensures reads { OnOk result (S.read_failures a.new ≡ S.read_failures a.old) }
+    ensures reads_right { OnOk result (T.read_failures b.new ≡ T.read_failures b.old) }
+    ensures refusal { IfErr result (RefusesSample (S.read_failures a.old) (S.read_failures a.new)
+        (T.read_failures b.old) (T.read_failures b.new)) }
+{
+    let x = left_side.walk.next_sample(left, a, steps)?;
+    let y = right_side.walk.next_sample(right, b, steps)?;
+    let of = Subject::Sample(by.track, number);
+    let keys = by.keys.as_slice();
+    let mut found = Vec::new(alloc);
+    compare_samples(
+        by.leaving, of, keys, &by.left, &x, &by.right, &y, &mut found,
+    )?;
+    let window = &mut right_side.window;
+    compare_bytes(of, &x, &mut left_side.window, a, &y, window, b, &mut found)?;
+    Ok(found)
 }

@@ -22,3 +22,4 @@ pub mod Stripped
 pub mod HeadersUnder
 pub mod BoxSpans
 pub mod ReducedNormalised
+pub mod ComparedFiles

@@ -13,9 +13,11 @@ use Rattle.mp4_present.specs.words.Opening.{RefusesOpen}
 use Rattle.mp4_present.specs.declared.leaving.Leaving.{Leaving}
 use Rattle.mp4_present.proofs.WalkCopied.{on_err}
 use Rattle.mp4_plan.specs.format.Normal.{normal}
+use Rattle.mp4_plan.specs.format.ReducedTimes.{ReducedFaultStands}
 use Rattle.mp4_plan.specs.words.LeftTimes.{NamesLong, RefusesLeftCopy}
+use Rattle.mp4_plan.proofs.ReducedFaults.{opened_stands}
 use Rattle.mp4norm.specs.words.Commands.{PutsFrontOf}
-use Rattle.mp4norm.specs.format.ReducedHeadline.{HasReducedForm, IsLeftTooLong}
+use Rattle.mp4norm.specs.format.ReducedHeadline.{HasReducedForm}
 use Rattle.mp4norm.specs.words.ReducedJob.{RefusesReduced}
 use Rattle.mp4norm.proofs.Normalised.{denotes_nothing}
 use Rattle.mp4norm.proofs.ShownLines.{denoted}
@@ -38,7 +40,7 @@ reduced_open_refuses l honest file held reads reads_after puts refusals.NoSuchTr
 
 -- what is named where what is left is too long
 abbrev pub TooLong : Leaving → List ℕ → Refusal → Type 0
-TooLong l file (refusals.Fault f) = IsLeftTooLong l file f
+TooLong l file (refusals.Fault f) = ReducedFaultStands l file f
 TooLong l file _ = Unit {0}
 
 write_refused : (l : Leaving) (honest : Bool) (file : List ℕ) (before after : Option (List ℕ)) (reads reads_after puts puts_after : ℕ) (r : Refusal) → RefusesLeftCopy l before after reads reads_after puts puts_after r
@@ -58,12 +60,7 @@ reduced_write_refuses l (Ok x) honest file before after reads reads_after puts p
 reduced_write_refuses l (Err r) honest file before after reads reads_after puts puts_after w p u t = write_refused l honest file before after reads reads_after puts puts_after r w p u t
 
 too_long : (l : Leaving) (file : List ℕ) (m : MovieSeen) (tree : FileTree) → IsOpenedAs file m tree → (r : Refusal) → NamesLong l file tree r → TooLong l file r
-too_long l file m tree o (refusals.Fault f) n = record {
-  p = presentation_of file tree;
-  denotes = record { tree = tree; is_tree = o.is_tree; is_sound = o.is_sound; is_consistent = o.is_consistent; says = refl; limits = o.limits };
-  long = n.1;
-  named = n.0;
-}
+too_long l file m tree o (refusals.Fault f) n = opened_stands l file m tree f o n.0
 too_long l file m tree o refusals.Memory n = tt
 too_long l file m tree o refusals.StoreFailed n = tt
 too_long l file m tree o refusals.StoreChanged n = tt

@@ -8,3 +8,4 @@ pub mod Strips
 pub mod StripLaws
 pub mod BoxWalk
 pub mod ReducedHeadline
+pub mod CompareHeadline

@@ -1,8 +1,12 @@
 //! Two files, compared by what they say.
-ghost use Rattle.std.specs.Prelude.{◌≡◌, IfOk, IfErr, OnOk, IsTrue};
+ghost use Rattle.std.specs.Prelude.{◌≡◌, ◌+◌, ◌≤◌, IfOk, IfErr, OnOk, IsTrue};
+ghost use Rattle.mp4_boxes.specs.declared.refusal.Refusal.TheVariants as refusals;
 ghost use Rattle.mp4_present.specs.words.Opening.{RefusesOpen};
+ghost use Rattle.mp4_present.specs.words.Compared.{WhereBothOpened};
 ghost use Rattle.mp4_present.specs.words.Differing.{RefusesSample};
-ghost use Rattle.mp4norm.specs.words.Compares.{side_of, DenotesSome, PutsAnswer, StaysAs, RefusesAnswer, RefusesCompare};
+ghost use Rattle.mp4_present.specs.words.WalkSteps.{walks_steps};
+ghost use Rattle.mp4norm.specs.format.CompareHeadline.{IsVerdict, ComparesWithin};
+ghost use Rattle.mp4norm.specs.words.Compares.{side_of, says_nothing, files_differ, IsSaid, ListsFront, PutsAnswer, StaysAs, WalksTwice, RefusesAnswer, RefusesBoth, RefusesCompare};
 
 use crate::difference_lines::{say, say_difference};
 use crate::tally::{Tally, say_tally};
@@ -57,13 +61,23 @@ struct Listed {
 }
 
 impl Listed {
-    ghost use Rattle.std.specs.Prelude.{◌≡◌, nat_lt};
+    ghost use Rattle.std.specs.Prelude.{◌≡◌, nat_eq, nat_lt, length, IfOk, []};
     ghost use Rattle.std.specs.Vec.{vec_len, vec_capacity};
 
-    fn new(alloc: Global) -> Result<Listed, AllocError> {
+    // None yet.
+    fn new(alloc: Global) -> Result<Listed, AllocError>
+        ensures { IfOk result (λ listed. listed.all.items ≡ []) }
+    {
         let mut all = Vec::new(alloc);
         all.reserve(1)?;
         Ok(Listed { all })
+    }
+
+    // Whether none was taken.
+    fn is_empty(&self) -> bool
+        ensures { result ≡ nat_eq (length self.now.all.items) 0 }
+    {
+        self.all.len() == 0
     }
 
     // Whether there is room for one more.
@@ -118,6 +132,80 @@ fn listed_text(
     Ok(text)
 }
 
+// What differs between two opened files, as much as is counted, and whether that is all.
+fn all_of<S: Store, T: Store, L: Ledger>(
+    alloc: Global,
+    left: &Movie,
+    a: &mut S,
+    right: &Movie,
+    b: &mut T,
+    leaving: Leaving,
+    steps: &mut Steps<L>,
+) -> Result<(Listed, bool), Refusal>
+    ensures honesty { S.is_honest a.new ≡ S.is_honest a.old }
+    ensures file { S.file a.new ≡ S.file a.old }
+    ensures honesty_right { T.is_honest b.new ≡ T.is_honest b.old }
+    ensures file_right { T.file b.new ≡ T.file b.old }
+    ensures reads { OnOk result (S.read_failures a.new ≡ S.read_failures a.old) }
+    ensures reads_right { OnOk result (T.read_failures b.new ≡ T.read_failures b.old) }
+    ensures all { IfOk result (λ found. WhereBothOpened (S.is_honest a.old) (S.file a.old)
+        left.now (T.is_honest b.old) (T.file b.old) right.now (λ tree other. ListsFront
+        found.0.all.items (files_differ leaving (S.file a.old) tree (T.file b.old) other))) }
+    ensures unchanged { WhereBothOpened (S.is_honest a.old) (S.file a.old) left.now
+        (T.is_honest b.old) (T.file b.old) right.now
+        (λ tree other. IfErr result (λ r. r ≡ refusals.StoreChanged → ⊥)) }
+    ensures work { WhereBothOpened (S.is_honest a.old) (S.file a.old) left.now
+        (T.is_honest b.old) (T.file b.old) right.now
+        (λ tree other. steps.new ≤ steps.old + (walks_steps tree + walks_steps other)) }
+    ensures refusal { IfErr result (RefusesSample (S.read_failures a.old) (S.read_failures a.new)
+        (T.read_failures b.old) (T.read_failures b.new)) }
+{
+    let mut listed = Listed::new(alloc)?;
+    if !listed.has_room() {
+        return Err(Refusal::Memory);
+    }
+    let is_whole = compare_all(alloc, left, a, right, b, leaving, &mut listed, steps)?;
+    if !is_whole && listed.all.len() < MOST {
+        return Err(Refusal::Memory);
+    }
+    Ok((listed, is_whole))
+}
+
+// What has to be left out for two opened files to be the same, if leaving things out makes them so.
+fn enough_of<S: Store, T: Store, L: Ledger>(
+    alloc: Global,
+    left: &Movie,
+    a: &mut S,
+    right: &Movie,
+    b: &mut T,
+    leaving: Leaving,
+    tally: &Tally,
+    steps: &mut Steps<L>,
+) -> Result<Option<Leaving>, Refusal>
+    ensures honesty { S.is_honest a.new ≡ S.is_honest a.old }
+    ensures file { S.file a.new ≡ S.file a.old }
+    ensures honesty_right { T.is_honest b.new ≡ T.is_honest b.old }
+    ensures file_right { T.file b.new ≡ T.file b.old }
+    ensures reads { OnOk result (S.read_failures a.new ≡ S.read_failures a.old) }
+    ensures reads_right { OnOk result (T.read_failures b.new ≡ T.read_failures b.old) }
+    ensures unchanged { WhereBothOpened (S.is_honest a.old) (S.file a.old) left.now
+        (T.is_honest b.old) (T.file b.old) right.now
+        (λ tree other. IfErr result (λ r. r ≡ refusals.StoreChanged → ⊥)) }
+    ensures work { WhereBothOpened (S.is_honest a.old) (S.file a.old) left.now
+        (T.is_honest b.old) (T.file b.old) right.now
+        (λ tree other. steps.new ≤ steps.old + (walks_steps tree + walks_steps other)) }
+    ensures refusal { IfErr result (RefusesSample (S.read_failures a.old) (S.read_failures a.new)
+        (T.read_failures b.old) (T.read_failures b.new)) }
+{
+    let Some(more) = tally.suggests(leaving) else {
+        return Ok(None);
+    };
+    match compare(alloc, left, a, right, b, more, steps)? {
+        None => Ok(Some(more)),
+        Some(_) => Ok(None),
+    }
+}
+
 // Compares two opened files, and gives the text of all differences; none where there are none.
 fn all_text<S: Store, T: Store, L: Ledger>(
     alloc: Global,
@@ -135,27 +223,24 @@ fn all_text<S: Store, T: Store, L: Ledger>(
     ensures file_right { T.file b.new ≡ T.file b.old }
     ensures reads { OnOk result (S.read_failures a.new ≡ S.read_failures a.old) }
     ensures reads_right { OnOk result (T.read_failures b.new ≡ T.read_failures b.old) }
+    ensures said { IfOk result (λ text. WhereBothOpened (S.is_honest a.old) (S.file a.old)
+        left.now (T.is_honest b.old) (T.file b.old) right.now (λ tree other.
+        IsSaid text (files_differ leaving (S.file a.old) tree (T.file b.old) other))) }
+    ensures unchanged { WhereBothOpened (S.is_honest a.old) (S.file a.old) left.now
+        (T.is_honest b.old) (T.file b.old) right.now
+        (λ tree other. IfErr result (λ r. r ≡ refusals.StoreChanged → ⊥)) }
+    ensures work { WhereBothOpened (S.is_honest a.old) (S.file a.old) left.now
+        (T.is_honest b.old) (T.file b.old) right.now
+        (λ tree other. WalksTwice tree other steps.old steps.new) }
     ensures refusal { IfErr result (RefusesSample (S.read_failures a.old) (S.read_failures a.new)
         (T.read_failures b.old) (T.read_failures b.new)) }
 {
-    let mut listed = Listed::new(alloc)?;
-    if !listed.has_room() {
-        return Err(Refusal::Memory);
-    }
-    let is_whole = compare_all(alloc, left, a, right, b, leaving, &mut listed, steps)?;
-    if !is_whole && listed.all.len() < MOST {
-        return Err(Refusal::Memory);
-    }
-    if is_whole && listed.all.is_empty() {
+    let (listed, is_whole) = all_of(alloc, left, a, right, b, leaving, steps)?;
+    if listed.is_empty() {
         return Ok(None);
     }
     let tally = Tally::of(listed.all.as_slice());
-    let mut enough = tally.suggests(leaving);
-    if let Some(more) = enough {
-        if compare(alloc, left, a, right, b, more, steps)?.is_some() {
-            enough = None;
-        }
-    }
+    let enough = enough_of(alloc, left, a, right, b, leaving, &tally, steps)?;
     let all = listed.all.as_slice();
     Ok(Some(listed_text(alloc, all, limit, is_whole, &tally, enough)?))
 }
@@ -177,6 +262,15 @@ fn text_of<S: Store, T: Store, L: Ledger>(
     ensures file_right { T.file b.new ≡ T.file b.old }
     ensures reads { OnOk result (S.read_failures a.new ≡ S.read_failures a.old) }
     ensures reads_right { OnOk result (T.read_failures b.new ≡ T.read_failures b.old) }
+    ensures said { IfOk result (λ text. WhereBothOpened (S.is_honest a.old) (S.file a.old)
+        left.now (T.is_honest b.old) (T.file b.old) right.now (λ tree other.
+        IsSaid text (files_differ leaving (S.file a.old) tree (T.file b.old) other))) }
+    ensures unchanged { WhereBothOpened (S.is_honest a.old) (S.file a.old) left.now
+        (T.is_honest b.old) (T.file b.old) right.now
+        (λ tree other. IfErr result (λ r. r ≡ refusals.StoreChanged → ⊥)) }
+    ensures work { WhereBothOpened (S.is_honest a.old) (S.file a.old) left.now
+        (T.is_honest b.old) (T.file b.old) right.now
+        (λ tree other. WalksTwice tree other steps.old steps.new) }
     ensures refusal { IfErr result (RefusesSample (S.read_failures a.old) (S.read_failures a.new)
         (T.read_failures b.old) (T.read_failures b.new)) }
 {
@@ -192,6 +286,7 @@ fn text_of<S: Store, T: Store, L: Ledger>(
 // Puts what there is to say: that two files differ, or nothing where they are the same.
 fn put_found<K: Sink>(found: Option<Vec<u8>>, sink: &mut K) -> Result<bool, Refusal>
     ensures puts { OnOk result (K.put_failures sink.new ≡ K.put_failures sink.old) }
+    ensures is { IfOk result (λ same. same ≡ says_nothing found) }
     ensures put { IfOk result (PutsAnswer (K.contents sink.old) (K.contents sink.new)) }
     ensures refusal { IfErr result (RefusesAnswer (K.contents sink.old) (K.contents sink.new)
         (K.put_failures sink.old) (K.put_failures sink.new)) }
@@ -219,18 +314,20 @@ pub fn compare_files<S: Store, T: Store, K: Sink, L: Ledger>(
     ensures reads { OnOk result ((S.read_failures a.new ≡ S.read_failures a.old)
         × (T.read_failures b.new ≡ T.read_failures b.old)) }
     ensures puts { OnOk result (K.put_failures sink.new ≡ K.put_failures sink.old) }
-    ensures judged { OnOk result ((IsTrue (S.is_honest a.old) → DenotesSome (S.file a.old))
-        × (IsTrue (T.is_honest b.old) → DenotesSome (T.file b.old))) }
+    ensures verdict { IfOk result (λ same. IsTrue (S.is_honest a.old) → IsTrue (T.is_honest b.old)
+        → IsVerdict leaving (S.file a.old) (T.file b.old) same) }
     ensures put { IfOk result (PutsAnswer (K.contents sink.old) (K.contents sink.new)) }
     ensures refusal { IfErr result (RefusesCompare
         (RefusesOpen (S.is_honest a.old) (S.file a.old) (S.read_failures a.old)
         (S.read_failures a.new))
         (RefusesOpen (T.is_honest b.old) (T.file b.old) (T.read_failures b.old)
         (T.read_failures b.new))
-        (RefusesSample (S.read_failures a.old) (S.read_failures a.new) (T.read_failures b.old)
-        (T.read_failures b.new))
+        (RefusesBoth (S.is_honest a.old) (T.is_honest b.old) (S.read_failures a.old)
+        (S.read_failures a.new) (T.read_failures b.old) (T.read_failures b.new))
         (K.contents sink.old) (K.contents sink.new) (K.put_failures sink.old)
         (K.put_failures sink.new)) }
+    ensures work { IsTrue (S.is_honest a.old) → IsTrue (T.is_honest b.old)
+        → ComparesWithin (S.file a.old) (T.file b.old) steps.old steps.new }
 {
     let left = match open_movie(alloc, a, steps) {
         Ok(left) => left,

@@ -14,8 +14,8 @@ use std::sync::ledger::Ledger;
 
 /// As `normalise_counted`, of what is left of the file where creation and modification times, edit
 /// lists, flags of samples, sample groups or metadata are left out. Without its edits a track may
-/// be too long: then the fault is TimeTooLarge at the `tkhd` of the first such track, and nothing is
-/// put.
+/// be too long: then the fault is TimeTooLarge at the `tkhd` of the first such track, and nothing
+/// is put.
 pub fn normalise_reduced<S: Store, K: Sink, L: Ledger>(
     alloc: Global,
     store: &mut S,

@@ -96,8 +96,8 @@ fn open_and_answer<'a, L: Ledger>(
 }
 
 /// Does a job from what is read to where its answer goes. What is wrong is explained where that is
-/// asked for: a fault, and which file can't be opened, read or written, with the system's cause. How
-/// far the job has come is said where that is.
+/// asked for: a fault, and which file can't be opened, read or written, with the system's cause.
+/// How far the job has come is said where that is.
 pub(crate) fn run<L: Ledger>(
     rt: &HostRuntime,
     job: Job,

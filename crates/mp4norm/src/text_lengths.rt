@@ -10,8 +10,8 @@ use mp4_store::Store;
 use std::alloc::Global;
 use std::sync::ledger::Ledger;
 
-/// How many bytes a job puts, of those that copy samples or boxes; 0 of the others, whose text is as
-/// long as it gets. The file is opened and planned for it.
+/// How many bytes a job puts, of those that copy samples or boxes; 0 of the others, whose text is
+/// as long as it gets. The file is opened and planned for it.
 pub fn text_len<S: Store, L: Ledger>(
     alloc: Global,
     job: Job,

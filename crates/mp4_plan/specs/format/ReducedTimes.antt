@@ -26,7 +26,8 @@ pub record ReducedTimePasses (l : Leaving) (file : List ℕ) (tree : FileTree) (
   pub passes : LeftInTime l file tree t → ⊥
   pub named : f ≡ fault_of TimeTooLarge (first_of (codes "tkhd") t.track)
 
--- The file denotes a presentation of which too much is left: the fault names the first such track.
+-- What is left of the presentation that the file denotes is too long: the fault names the first
+-- track of which that is so.
 pub record ReducedFaultStands (l : Leaving) (file : List ℕ) (f : Fault) : Type 0 where
   pub p : Presentation
   pub denotes : Denotes file p

@@ -1,7 +1,7 @@
 -- What two whole presentations don't have in common: the movies, the number of their tracks, and
 -- then track by track, paired by their place, the heads, the start, the number of samples, and the
 -- samples that both have.
-use Rattle.std.specs.Prelude.{◌≡◌, ℕ, nat_lt, if◌then◌else◌, List, [], ◌∷◌, ◌++◌, length, map, flat_map, fold}
+use Rattle.std.specs.Prelude.{ℕ, nat_lt, if◌then◌else◌, List, [], ◌∷◌, ◌++◌, length, map, flat_map, fold}
 use Rattle.mp4_tables.specs.format.Groups.{GroupKey, Groups, key_rank, same_key, index_at}
 use Rattle.mp4_present.specs.format.Presentation.{Sample, Track, Presentation}
 use Rattle.mp4_present.specs.format.Differences.{numbers, signed, bytes_differ, each_differ, head_differences, movie_differences}

@@ -6,12 +6,13 @@ use Rattle.mp4_tables.specs.words.Keys.{key_seen, keys_seen, key_place}
 use Rattle.mp4_tables.specs.declared.keys.GroupKey.{GroupKey}
 use Rattle.mp4_tables.specs.declared.keys.Keys.{Keys}
 use Rattle.mp4_tables.specs.declared.sample.SampleAt.{SampleAt}
-use Rattle.mp4_present.specs.format.Differences.{numbers, signed}
+use Rattle.mp4_present.specs.format.Differences.{numbers, signed, bytes_differ}
 use Rattle.mp4_present.specs.format.Reduced.{sync_flag}
 use Rattle.mp4_present.specs.declared.leaving.Leaving.{Leaving}
 use Rattle.mp4_present.specs.declared.differences.Subject.{Subject}
+use Rattle.mp4_present.specs.declared.differences.Subject.TheVariants as subjects
 use Rattle.mp4_present.specs.declared.differences.Field.TheVariants as fields
-use Rattle.mp4_store.specs.words.Device.{HasRisen}
+use Rattle.mp4_store.specs.words.Device.{HasRisen, range}
 use Rattle.mp4_present.specs.declared.differences.Difference.{Difference}
 
 -- the first that was taken, if there is one
@@ -57,13 +58,21 @@ abbrev pub group_differences : Subject → List GroupKey → Keys → SampleAt �
 group_differences of keys left_keys a right_keys b = flat_map (λ (key : GroupKey).
     numbers of (fields.Group key) (index_of left_keys a key) (index_of right_keys b key)) keys
 
--- what differs between two samples apart from their bytes
-abbrev pub sample_differences : Leaving → Subject → List GroupKey → Keys → SampleAt → Keys
-    → SampleAt → List Difference
-sample_differences l of keys left_keys a right_keys b =
+-- what differs between two samples apart from their bytes, at these keys
+abbrev pub differences_at : Leaving → Subject → List GroupKey → Keys → SampleAt → Keys → SampleAt
+    → List Difference
+differences_at l of keys left_keys a right_keys b =
     numbers of fields.Duration a.duration b.duration
     ++ signed of fields.Offset a.cto b.cto
     ++ numbers of fields.Flags (flags_left l a.flags) (flags_left l b.flags)
     ++ numbers of fields.Description a.description b.description
     ++ group_differences of keys left_keys a right_keys b
     ++ numbers of fields.Size a.size b.size
+
+-- what differs between two samples of two files, which have these numbers: also the first byte
+abbrev pub pair_differences : Leaving → ℕ → List GroupKey → Keys → List ℕ → Keys → List ℕ → ℕ
+    → SampleAt → SampleAt → List Difference
+pair_differences l track keys left_keys file right_keys other n a b =
+    differences_at l (subjects.Sample track n) keys left_keys a right_keys b
+    ++ bytes_differ (subjects.Sample track n) (λ (k : ℕ). fields.Byte k a.size) a.size b.size
+    (range file a.at a.size) (range other b.at a.size)

@@ -8,11 +8,16 @@ use Rattle.mp4_present.specs.words.Movies.{MovieSeen}
 use Rattle.mp4_present.specs.words.SamplesComing.{StandsBefore, Comes, samples_behind}
 use Rattle.mp4_present.specs.declared.walks.Walk.{Walk}
 
+-- this is the first of these samples, and the others come
+abbrev pub TakesFirst : List ℕ → FileTree → TrackTree → MovieSeen → Walk → List SampleAt → SampleAt
+    → Type 0
+TakesFirst file tree t m w samples s =
+    (rest : List SampleAt) × (samples ≡ s ∷ rest) × Comes file tree t m w rest
+
 -- The first of these samples was taken, and the others come; or none of them is in hand, and all
 -- stand behind it.
 abbrev pub TakesSample : List ℕ → FileTree → TrackTree → MovieSeen → Walk → List SampleAt
     → Option SampleAt → Type 0
-TakesSample file tree t m w samples (Some s) =
-    (rest : List SampleAt) × (samples ≡ s ∷ rest) × Comes file tree t m w rest
+TakesSample file tree t m w samples (Some s) = TakesFirst file tree t m w samples s
 TakesSample file tree t m w samples None = (earlier later : List FragmentTree)
     × StandsBefore file tree t earlier later w × (samples ≡ samples_behind tree t earlier later)

@@ -1,34 +1,71 @@
--- Why two files are not compared. `before` and `after` are what the sink holds, the numbers are
--- counts of failed puts.
-use Rattle.std.specs.Prelude.{◌≡◌, ℕ, List, Option, Bool, true, false}
+-- What there is to say of two files that are compared, and why they are not. `before` and `after`
+-- are what the sink holds, the numbers are counts of failed reads and of failed puts.
+use Rattle.std.specs.Prelude.{◌≡◌, ◌⊎◌, ◌+◌, ◌*◌, ◌<◌, ◌≤◌, ℕ, List, [], length, take, Option, None, Some, Bool, true, false, IsTrue}
 use Rattle.std.specs.Io.KnownBytes.{Appends}
 use Rattle.mp4_store.specs.words.Device.{HasRisen, AppendsPrefix}
 use Rattle.mp4_boxes.specs.declared.refusal.Refusal.{Refusal}
 use Rattle.mp4_boxes.specs.declared.refusal.Refusal.TheVariants as refusals
-use Rattle.mp4_present.specs.format.Denotes.{Denotes}
-use Rattle.mp4_present.specs.format.Presentation.{Presentation}
+use Rattle.mp4_present.specs.format.Comparison.{differences}
+use Rattle.mp4_present.specs.format.Denotes.{FileTree, presentation_of}
+use Rattle.mp4_present.specs.format.Reduced.{reduce}
+use Rattle.mp4_present.specs.words.WalkSteps.{walks_steps}
+use Rattle.mp4_present.specs.declared.differences.Difference.{Difference}
+use Rattle.mp4_present.specs.declared.leaving.Leaving.{Leaving}
 use Rattle.mp4norm.specs.declared.comparing.Side.{Side}
 use Rattle.mp4norm.specs.declared.comparing.Side.TheVariants as sides
 use Rattle.mp4norm.specs.declared.comparing.Failure.{Failure}
 
--- the file denotes a presentation
-abbrev pub DenotesSome : List ℕ → Type 0
-DenotesSome file = (p : Presentation) × Denotes file p
+-- ---- what there is to say
 
--- a store is as honest as it was, and its file is the same
-abbrev pub StaysAs : Bool → List ℕ → Bool → List ℕ → Type 0
-StaysAs honest file honest_after file_after = (honest_after ≡ honest) × (file_after ≡ file)
+-- there is something to say exactly where something differs
+abbrev pub IsSaid : {A : Type 0} → Option A → List Difference → Type 0
+IsSaid None differences = differences ≡ []
+IsSaid (Some text) differences = differences ≡ [] → ⊥
+
+-- all of these are listed, or some of the first of them
+abbrev pub ListsFront : List Difference → List Difference → Type 0
+ListsFront listed differences = (listed ≡ differences)
+    ⊎ ((0 < length listed) × (n : ℕ) × (listed ≡ take n differences))
+
+abbrev pub says_nothing : {A : Type 0} → Option A → Bool
+says_nothing None = true
+says_nothing (Some text) = false
+
+-- what differs between two files, behind what is left out
+abbrev pub files_differ : Leaving → List ℕ → FileTree → List ℕ → FileTree → List Difference
+files_differ l file tree file_right other =
+    differences (reduce l (presentation_of file tree)) (reduce l (presentation_of file_right other))
+
+-- the steps of at most two walks over all tracks of both
+abbrev pub WalksTwice : FileTree → FileTree → ℕ → ℕ → Type 0
+WalksTwice tree other old new = new ≤ old + 2 * (walks_steps tree + walks_steps other)
 
 -- nothing was put where two files are the same, else some text
 abbrev pub PutsAnswer : Option (List ℕ) → Option (List ℕ) → Bool → Type 0
 PutsAnswer before after true = after ≡ before
 PutsAnswer before after false = (text : List ℕ) × Appends before after text
 
+-- ---- stores
+
+-- a store is as honest as it was, and its file is the same
+abbrev pub StaysAs : Bool → List ℕ → Bool → List ℕ → Type 0
+StaysAs honest file honest_after file_after = (honest_after ≡ honest) × (file_after ≡ file)
+
+-- ---- refusals
+
 -- the files that a failure is about, once both are judged
 abbrev pub side_of : Refusal → Side
 side_of refusals.StoreFailed = sides.Both
 side_of refusals.StoreChanged = sides.Both
 side_of _ = sides.Neither
+
+-- reading both files side by side failed, or one of them has changed
+abbrev pub RefusesBoth : Bool → Bool → ℕ → ℕ → ℕ → ℕ → Refusal → Type 0
+RefusesBoth honest honest_right left left_after right right_after refusals.StoreFailed =
+    HasRisen left left_after ⊎ HasRisen right right_after
+RefusesBoth honest honest_right left left_after right right_after refusals.StoreChanged =
+    IsTrue honest → IsTrue honest_right → ⊥
+RefusesBoth honest honest_right left left_after right right_after _ = ⊥
 
 -- the answer could not be put, or there was no memory for it
 abbrev pub RefusesAnswer : Option (List ℕ) → Option (List ℕ) → ℕ → ℕ → Refusal → Type 0

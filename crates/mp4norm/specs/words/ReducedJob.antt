@@ -6,15 +6,16 @@ use Rattle.mp4_boxes.specs.declared.refusal.Refusal.{Refusal}
 use Rattle.mp4_boxes.specs.declared.refusal.Refusal.TheVariants as refusals
 use Rattle.mp4_present.specs.format.Stands.{Stands}
 use Rattle.mp4_present.specs.declared.leaving.Leaving.{Leaving}
+use Rattle.mp4_plan.specs.format.ReducedTimes.{ReducedFaultStands}
 use Rattle.mp4norm.specs.words.Commands.{PutsFrontOf}
 use Rattle.mp4norm.specs.format.Headline.{DenotesNothing}
-use Rattle.mp4norm.specs.format.ReducedHeadline.{HasReducedForm, IsLeftTooLong}
+use Rattle.mp4norm.specs.format.ReducedHeadline.{HasReducedForm}
 
 -- as of the normal form of all that the file says, but that what is left may be too long
 abbrev pub RefusesReduced : Leaving → Bool → List ℕ → Option (List ℕ) → Option (List ℕ) → ℕ → ℕ → ℕ
     → ℕ → Refusal → Type 0
 RefusesReduced l honest file before after reads reads_after puts puts_after (refusals.Fault f) =
-    (IsTrue honest → (Stands file f × DenotesNothing file) ⊎ IsLeftTooLong l file f)
+    (IsTrue honest → (Stands file f × DenotesNothing file) ⊎ ReducedFaultStands l file f)
     × (after ≡ before)
 RefusesReduced l honest file before after reads reads_after puts puts_after refusals.Memory = after
     ≡ before

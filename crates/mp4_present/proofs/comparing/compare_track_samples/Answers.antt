@@ -1,5 +1,42 @@
-use Rattle.std.proofs.Common.{rules}
+use Rattle.std.proofs.Common.{rules, refl, List, ◌≡◌, ◌<◌, ◌≤◌, ◌++◌, min, slice_index_or, ap, subst, ◌∙◌}
+use Rattle.std.proofs.lemmas.Result.{err_from_is_err_and}
+use Rattle.mp4_present.specs.words.Compared.{TakesFront}
+use Rattle.mp4_present.specs.declared.differences.Difference.{Difference}
+use Rattle.mp4_present.proofs.MoofTaken.{at_place}
+use Rattle.mp4_present.proofs.PairsCompared.{both_most}
+use Rattle.mp4_present.proofs.TracksCompared.{takes_nothing, grows_front, count_is, rest_lies, pairs_first, pairs_next, pairs_stop, pairs_most, pairs_work, pairs_all, pairs_are, min_over}
 use Rattle.mp4_present.proofs.comparing.compare_track_samples.Goals as goal
+
+pub returns-in_err-by-clause-front : goal.returns-in_err-by-clause-front
+returns-in_err-by-clause-front g c told told_right tree other o p t u at bt = takes_nothing (g.D.Differences.taken c.args.seen.now) _
+
+pub returns-in_err-left_side-clause-front : goal.returns-in_err-left_side-clause-front
+returns-in_err-left_side-clause-front g c told told_right tree other o p t u at bt = takes_nothing (g.D.Differences.taken c.args.seen.now) _
+
+pub returns-in_err-right_side-clause-front : goal.returns-in_err-right_side-clause-front
+returns-in_err-right_side-clause-front g c told told_right tree other o p t u at bt = takes_nothing (g.D.Differences.taken c.args.seen.now) _
+
+pub loop-number-init : goal.loop-number-init
+loop-number-init g c = record {
+  honesty = refl;
+  file = refl;
+  reads = refl;
+  honesty_right = refl;
+  file_right = refl;
+  reads_right = refl;
+  goes = c.requires.goes;
+  walk = c.in_ok-left_side.ensures.walk;
+  walk_right = c.in_ok-right_side.ensures.walk;
+  shows = λ told. c.in_ok-left_side.ensures.shows (g.S.Store.file c.args.a.now);
+  shows_right = λ told. c.in_ok-right_side.ensures.shows (g.T.Store.file c.args.b.now);
+  going = λ told told_right tree other o p t u at bt.
+      let file = g.S.Store.file c.args.a.now in
+      let right_file = g.T.Store.file c.args.b.now in
+      let first = c.in_ok-left_side.ensures in
+      let second = c.in_ok-right_side.ensures in
+      pairs_first c.in_ok-by.by file tree t c.args.left.now right_file other u c.args.right.now (g.D.Differences.taken c.args.seen.now) c.args.steps.now c.in_ok-left_side.left_side.walk c.in_ok-right_side.right_side.walk
+      (first.coming file tree t o at) (second.coming right_file other u p bt) (first.may file tree t o at) (second.may right_file other u p bt);
+}
 
 pub loop-number-preserved : goal.loop-number-preserved
 loop-number-preserved g c = record {
@@ -14,4 +51,180 @@ loop-number-preserved g c = record {
   walk_right = search rules;
   shows = search rules;
   shows_right = search rules;
+  going = λ told told_right tree other o p t u at bt.
+      let i = c.loop-number.invariant in
+      let file = g.S.Store.file c.args.a.now in
+      let right_file = g.T.Store.file c.args.b.now in
+      let left = c.args.left.now in
+      let right = c.args.right.now in
+      let by = c.in_ok-by.by in
+      let h = i.going told told_right tree other o p t u at bt in
+      let before = g.D.Differences.taken c.args.seen.now in
+      let now = g.D.Differences.taken c.loop-number.seen in
+      let w = c.loop-number.left_side.walk in
+      let v = c.loop-number.right_side.walk in
+      pairs_next by file tree t left right_file other u right before c.args.steps.now c.loop-number.number w v c.compare_pair.new.left_side.walk c.compare_pair.new.right_side.walk now
+      (g.D.Differences.taken c.hand_over.new.seen) c.in_ok-found.found.items c.loop-number.steps c.compare_pair.new.steps h
+      ((rw (i.honesty, i.file, i.honesty_right, i.file_right) at c.in_ok-found.ensures.found) told told_right tree other o p t u _ _ h.comes h.comes_right) ((rw c.as_slice.ensures.value at c.if-not-hand_over.ensures.all) refl)
+      (λ q r hx hy. (rw (i.honesty, i.file, i.honesty_right, i.file_right) at c.in_ok-found.ensures.work) told told_right tree other o p t u q r hx hy);
 }
+
+pub returns-in_err-found-clause-front : goal.returns-in_err-found-clause-front
+returns-in_err-found-clause-front g c told told_right tree other o p t u at bt =
+    let i = c.loop-number.invariant in
+    let file = g.S.Store.file c.args.a.now in
+    let right_file = g.T.Store.file c.args.b.now in
+    let left = c.args.left.now in
+    let right = c.args.right.now in
+    let by = c.in_ok-by.by in
+    let h = i.going told told_right tree other o p t u at bt in
+    let before = g.D.Differences.taken c.args.seen.now in
+    let now = g.D.Differences.taken c.loop-number.seen in
+    let info = c.index-tracks-track.result in
+    let other_info = c.index-tracks-track-2.result in
+    let is : info ≡ slice_index_or left.tracks c.args.track info = search rules in
+    let is_right : other_info ≡ slice_index_or right.tracks c.args.track other_info = search rules in
+    let there = at_place left.tracks c.args.track info c.requires.left is in
+    let there_right = at_place right.tracks c.args.track other_info c.requires.right is_right in
+    let are = pairs_are c.args.leaving c.args.track by file right_file left right tree other t u info other_info (c.in_ok-by.ensures info other_info there there_right) o p at bt there there_right in
+    subst (TakesFront before now) are (grows_front _ _ _ _ h.grows)
+
+pub returns-in_err-found-clause-unchanged : goal.returns-in_err-found-clause-unchanged
+returns-in_err-found-clause-unchanged g c told told_right tree other o p t u at bt =
+    let i = c.loop-number.invariant in
+    let file = g.S.Store.file c.args.a.now in
+    let right_file = g.T.Store.file c.args.b.now in
+    let left = c.args.left.now in
+    let right = c.args.right.now in
+    let by = c.in_ok-by.by in
+    let h = i.going told told_right tree other o p t u at bt in
+    let info = c.index-tracks-track.result in
+    let other_info = c.index-tracks-track-2.result in
+    let is : info ≡ slice_index_or left.tracks c.args.track info = search rules in
+    let is_right : other_info ≡ slice_index_or right.tracks c.args.track other_info = search rules in
+    let there = at_place left.tracks c.args.track info c.requires.left is in
+    let there_right = at_place right.tracks c.args.track other_info c.requires.right is_right in
+    let e = err_from_is_err_and c.from_residual-in_err-found.result c.from_residual-in_err-found.ensures.1 in
+    let lt : c.loop-number.number < info.samples = search rules in
+    let lt_right : c.loop-number.number < other_info.samples = search rules in
+    rw (e.1, e.2) ((rw (i.honesty, i.file, i.honesty_right, i.file_right) at c.in_err-found.ensures.unchanged) told told_right tree other o p t u _ _ h.comes h.comes_right
+    (rest_lies file left tree t c.args.track c.loop-number.number info o at there lt) (rest_lies right_file right other u c.args.track c.loop-number.number other_info p bt there_right lt_right))
+
+pub returns-in_err-found-clause-work : goal.returns-in_err-found-clause-work
+returns-in_err-found-clause-work g c told told_right tree other o p t u at bt =
+    let i = c.loop-number.invariant in
+    let file = g.S.Store.file c.args.a.now in
+    let right_file = g.T.Store.file c.args.b.now in
+    let left = c.args.left.now in
+    let right = c.args.right.now in
+    let by = c.in_ok-by.by in
+    let h = i.going told told_right tree other o p t u at bt in
+    let before = g.D.Differences.taken c.args.seen.now in
+    let now = g.D.Differences.taken c.loop-number.seen in
+    let w = c.loop-number.left_side.walk in
+    let v = c.loop-number.right_side.walk in
+    let e = err_from_is_err_and c.from_residual-in_err-found.result c.from_residual-in_err-found.ensures.1 in
+    pairs_most by file tree t left right_file other u right before c.args.steps.now c.loop-number.number w v now c.loop-number.steps c.compare_pair.new.steps h
+    (λ q r hx hy. (rw (i.honesty, i.file, i.honesty_right, i.file_right) at c.in_err-found.ensures.most) told told_right tree other o p t u q r hx hy)
+
+pub returns-then-not-hand_over-clause-front : goal.returns-then-not-hand_over-clause-front
+returns-then-not-hand_over-clause-front g c told told_right tree other o p t u at bt =
+    let i = c.loop-number.invariant in
+    let file = g.S.Store.file c.args.a.now in
+    let right_file = g.T.Store.file c.args.b.now in
+    let left = c.args.left.now in
+    let right = c.args.right.now in
+    let by = c.in_ok-by.by in
+    let h = i.going told told_right tree other o p t u at bt in
+    let before = g.D.Differences.taken c.args.seen.now in
+    let now = g.D.Differences.taken c.loop-number.seen in
+    let w = c.loop-number.left_side.walk in
+    let v = c.loop-number.right_side.walk in
+    let info = c.index-tracks-track.result in
+    let other_info = c.index-tracks-track-2.result in
+    let is : info ≡ slice_index_or left.tracks c.args.track info = search rules in
+    let is_right : other_info ≡ slice_index_or right.tracks c.args.track other_info = search rules in
+    let there = at_place left.tracks c.args.track info c.requires.left is in
+    let there_right = at_place right.tracks c.args.track other_info c.requires.right is_right in
+    let are = pairs_are c.args.leaving c.args.track by file right_file left right tree other t u info other_info (c.in_ok-by.ensures info other_info there there_right) o p at bt there there_right in
+    subst (TakesFront before (g.D.Differences.taken c.hand_over.new.seen)) are
+    (pairs_stop by file tree t left right_file other u right before c.args.steps.now c.loop-number.number w v c.compare_pair.new.left_side.walk c.compare_pair.new.right_side.walk now
+    (g.D.Differences.taken c.hand_over.new.seen) c.in_ok-found.found.items c.loop-number.steps h
+    ((rw (i.honesty, i.file, i.honesty_right, i.file_right) at c.in_ok-found.ensures.found) told told_right tree other o p t u _ _ h.comes h.comes_right) (rw c.as_slice.ensures.value at c.hand_over.ensures.front))
+
+pub returns-then-not-hand_over-clause-work : goal.returns-then-not-hand_over-clause-work
+returns-then-not-hand_over-clause-work g c told told_right tree other o p t u at bt =
+    let i = c.loop-number.invariant in
+    let file = g.S.Store.file c.args.a.now in
+    let right_file = g.T.Store.file c.args.b.now in
+    let left = c.args.left.now in
+    let right = c.args.right.now in
+    let by = c.in_ok-by.by in
+    let h = i.going told told_right tree other o p t u at bt in
+    let before = g.D.Differences.taken c.args.seen.now in
+    let now = g.D.Differences.taken c.loop-number.seen in
+    let w = c.loop-number.left_side.walk in
+    let v = c.loop-number.right_side.walk in
+    pairs_most by file tree t left right_file other u right before c.args.steps.now c.loop-number.number w v now c.loop-number.steps c.compare_pair.new.steps h
+    (λ q r hx hy. both_most file tree t c.compare_pair.new.left_side.walk right_file other u c.compare_pair.new.right_side.walk _ c.loop-number.steps c.compare_pair.new.steps
+    ((rw (i.honesty, i.file, i.honesty_right, i.file_right) at c.in_ok-found.ensures.work) told told_right tree other o p t u q r hx hy))
+
+pub returns-clause-all : goal.returns-clause-all
+returns-clause-all g c whole told told_right tree other o p t u at bt =
+    let i = c.loop-number.invariant in
+    let file = g.S.Store.file c.args.a.now in
+    let right_file = g.T.Store.file c.args.b.now in
+    let left = c.args.left.now in
+    let right = c.args.right.now in
+    let by = c.in_ok-by.by in
+    let h = i.going told told_right tree other o p t u at bt in
+    let before = g.D.Differences.taken c.args.seen.now in
+    let now = g.D.Differences.taken c.loop-number.seen in
+    let w = c.loop-number.left_side.walk in
+    let v = c.loop-number.right_side.walk in
+    let info = c.index-tracks-track.result in
+    let other_info = c.index-tracks-track-2.result in
+    let is : info ≡ slice_index_or left.tracks c.args.track info = search rules in
+    let is_right : other_info ≡ slice_index_or right.tracks c.args.track other_info = search rules in
+    let there = at_place left.tracks c.args.track info c.requires.left is in
+    let there_right = at_place right.tracks c.args.track other_info c.requires.right is_right in
+    let are = pairs_are c.args.leaving c.args.track by file right_file left right tree other t u info other_info (c.in_ok-by.ensures info other_info there there_right) o p at bt there there_right in
+    let le : min info.samples other_info.samples ≤ c.loop-number.number = search rules in
+    pairs_all by file tree t left right_file other u right before c.args.steps.now c.loop-number.number w v now c.loop-number.steps h
+    (min_over info.samples other_info.samples _ _ c.loop-number.number (count_is file left tree t c.args.track info o at there) (count_is right_file right other u c.args.track other_info p bt there_right) le)
+    ∙ ap (λ (ds : List Difference). before ++ ds) are
+
+pub returns-clause-front : goal.returns-clause-front
+returns-clause-front g c told told_right tree other o p t u at bt =
+    let i = c.loop-number.invariant in
+    let file = g.S.Store.file c.args.a.now in
+    let right_file = g.T.Store.file c.args.b.now in
+    let left = c.args.left.now in
+    let right = c.args.right.now in
+    let by = c.in_ok-by.by in
+    let h = i.going told told_right tree other o p t u at bt in
+    let before = g.D.Differences.taken c.args.seen.now in
+    let now = g.D.Differences.taken c.loop-number.seen in
+    let info = c.index-tracks-track.result in
+    let other_info = c.index-tracks-track-2.result in
+    let is : info ≡ slice_index_or left.tracks c.args.track info = search rules in
+    let is_right : other_info ≡ slice_index_or right.tracks c.args.track other_info = search rules in
+    let there = at_place left.tracks c.args.track info c.requires.left is in
+    let there_right = at_place right.tracks c.args.track other_info c.requires.right is_right in
+    let are = pairs_are c.args.leaving c.args.track by file right_file left right tree other t u info other_info (c.in_ok-by.ensures info other_info there there_right) o p at bt there there_right in
+    subst (TakesFront before now) are (grows_front _ _ _ _ h.grows)
+
+pub returns-clause-work : goal.returns-clause-work
+returns-clause-work g c told told_right tree other o p t u at bt =
+    let i = c.loop-number.invariant in
+    let file = g.S.Store.file c.args.a.now in
+    let right_file = g.T.Store.file c.args.b.now in
+    let left = c.args.left.now in
+    let right = c.args.right.now in
+    let by = c.in_ok-by.by in
+    let h = i.going told told_right tree other o p t u at bt in
+    let before = g.D.Differences.taken c.args.seen.now in
+    let now = g.D.Differences.taken c.loop-number.seen in
+    let w = c.loop-number.left_side.walk in
+    let v = c.loop-number.right_side.walk in
+    pairs_work by file tree t left right_file other u right before c.args.steps.now c.loop-number.number w v now c.loop-number.steps h

@@ -1,9 +1,56 @@
-use Rattle.mp4_present.specs.format.Denotes.{presentation_of}
-use Rattle.mp4norm.proofs.ShownLines.{denoted}
+use Rattle.mp4_present.specs.words.Opening.{RefusesOpen}
+use Rattle.mp4norm.proofs.ComparedFiles.{both_looked, both_walked, first_alone, together, verdict}
+use Rattle.mp4norm.proofs.StepsTaken.{not_opened}
 use Rattle.mp4norm.proofs.comparing.compare_files.Goals as goal
 
-pub returns-in-Ok-put_found-clause-judged : goal.returns-in-Ok-put_found-clause-judged
-returns-in-Ok-put_found-clause-judged g c = (
-  λ told. let o = c.in-Ok.ensures.movie told in (presentation_of (g.S.Store.file c.args.a.now) o.0, denoted (g.S.Store.file c.args.a.now) _ o.0 o.1),
-  λ told. let o = c.in-Ok-open_movie.ensures.movie told in (presentation_of (g.T.Store.file c.args.b.now) o.0, denoted (g.T.Store.file c.args.b.now) _ o.0 o.1),
-)
+pub returns-in-Err-clause-work : goal.returns-in-Err-clause-work
+returns-in-Err-clause-work g c = λ told right.
+    let is = c.in-Err in
+    first_alone _ _ _ _ (not_opened _ _ _ _ _ _ is.refusal told is.ensures.refusal (is.ensures.work told) (is.ensures.within told))
+
+pub returns-in-Err-open_movie-clause-work : goal.returns-in-Err-open_movie-clause-work
+returns-in-Err-open_movie-clause-work g c = λ told right.
+    let is = c.in-Err-open_movie in
+    both_looked _ _ c.in-Ok.left _ _ _ (c.in-Ok.ensures.movie told) (c.in-Ok.ensures.work told)
+    (not_opened _ _ _ _ _ _ is.refusal right is.ensures.refusal (is.ensures.work right) (is.ensures.within right))
+
+pub returns-in-Err-text_of-clause-refusal : goal.returns-in-Err-text_of-clause-refusal
+returns-in-Err-text_of-clause-refusal g c =
+    let left = c.in-Ok.ensures in
+    let next = c.in-Ok-open_movie.ensures in
+    let unchanged = rw (left.honesty, left.file, next.honesty, next.file) at c.in-Err-text_of.ensures.unchanged in
+    let cause = rw (left.reads, next.reads) at c.in-Err-text_of.ensures.refusal in
+    together (RefusesOpen (g.S.Store.is_honest c.args.a.now) (g.S.Store.file c.args.a.now) (g.S.Store.read_failures c.args.a.now) (g.S.Store.read_failures c.text_of.new.a))
+    (RefusesOpen (g.T.Store.is_honest c.args.b.now) (g.T.Store.file c.args.b.now) (g.T.Store.read_failures c.args.b.now) (g.T.Store.read_failures c.text_of.new.b))
+    _ _ _ _ _ _ (g.K.Sink.contents c.args.sink.now) (g.K.Sink.put_failures c.args.sink.now) c.in-Err-text_of.refusal c.failed_together.result c.failed_together.ensures.side c.failed_together.ensures.refusal cause
+    (λ told right. let a = left.movie told in let b = next.movie right in unchanged told right a.0 b.0 a.1 b.1)
+
+pub returns-in-Err-text_of-clause-work : goal.returns-in-Err-text_of-clause-work
+returns-in-Err-text_of-clause-work g c = λ told right.
+    let left = c.in-Ok.ensures in
+    let next = c.in-Ok-open_movie.ensures in
+    let walks = rw (left.honesty, left.file, next.honesty, next.file) at c.in-Err-text_of.ensures.work in
+    both_walked _ _ _ _ _ _ _ _ (left.movie told) (next.movie right) (left.work told) (next.work right) (walks told right)
+
+pub returns-in-Ok-put_found-clause-verdict : goal.returns-in-Ok-put_found-clause-verdict
+returns-in-Ok-put_found-clause-verdict g c = λ told right.
+    let left = c.in-Ok.ensures in
+    let next = c.in-Ok-open_movie.ensures in
+    let a = left.movie told in
+    let b = next.movie right in
+    let said = rw (left.honesty, left.file, next.honesty, next.file) at c.in-Ok-text_of.ensures.said in
+    verdict c.args.leaving _ _ _ _ c.in-Ok-text_of.found c.in-Ok-put_found.same c.in-Ok-put_found.ensures.is a b (said told right a.0 b.0 a.1 b.1)
+
+pub returns-in-Ok-put_found-clause-work : goal.returns-in-Ok-put_found-clause-work
+returns-in-Ok-put_found-clause-work g c = λ told right.
+    let left = c.in-Ok.ensures in
+    let next = c.in-Ok-open_movie.ensures in
+    let walks = rw (left.honesty, left.file, next.honesty, next.file) at c.in-Ok-text_of.ensures.work in
+    both_walked _ _ _ _ _ _ _ _ (left.movie told) (next.movie right) (left.work told) (next.work right) (walks told right)
+
+pub returns-clause-work : goal.returns-clause-work
+returns-clause-work g c = λ told right.
+    let left = c.in-Ok.ensures in
+    let next = c.in-Ok-open_movie.ensures in
+    let walks = rw (left.honesty, left.file, next.honesty, next.file) at c.in-Ok-text_of.ensures.work in
+    both_walked _ _ _ _ _ _ _ _ (left.movie told) (next.movie right) (left.work told) (next.work right) (walks told right)

@@ -1,8 +1,3 @@
-use Rattle.std.proofs.Common.{ℕ, List, subst}
-use Rattle.std.specs.Prelude.{OnOk, IsTrue}
-use Rattle.std.specs.Io.KnownBytes.{Appends}
-use Rattle.mp4_present.specs.declared.leaving.Leaving.{Leaving}
-use Rattle.mp4norm.specs.format.ReducedHeadline.{HasReducedForm}
 use Rattle.mp4norm.proofs.jobs.perform.Goals as goal
 
 pub returns-in-Show-clause-text : goal.returns-in-Show-clause-text

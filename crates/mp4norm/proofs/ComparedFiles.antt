@@ -1,0 +1,128 @@
+-- Two files compared: what is listed, and what there is to say of it.
+use Rattle.std.proofs.Common.{◌≡◌, ◌⊎◌, inl, inr, ℕ, zero, suc, ◌+◌, ◌*◌, ◌<◌, ◌≤◌, List, [], ◌∷◌, ◌++◌, length, take, nat_eq, Bool, true, false, refl, sym, ap, subst, ◌∙◌, arith}
+use Rattle.std.specs.Prelude.{◌↔◌, Option, None, Some, slice_get, IsTrue}
+use Rattle.std.proofs.lemmas.Bool.{ne_eqb}
+use Rattle.mp4_boxes.specs.declared.refusal.Refusal.{Refusal}
+use Rattle.mp4_boxes.specs.declared.refusal.Refusal.TheVariants as refusals
+use Rattle.mp4_present.specs.format.Comparison.{differences}
+use Rattle.mp4_present.specs.format.Denotes.{FileTree, IsFileTree, Denotes, presentation_of}
+use Rattle.mp4_present.specs.format.Presentation.{Presentation, Valid, sample_total}
+use Rattle.mp4_present.specs.format.Reduced.{reduce}
+use Rattle.mp4_present.specs.words.Compared.{TakesFront}
+use Rattle.mp4_present.specs.words.Differing.{RefusesSample}
+use Rattle.mp4_present.specs.words.Movies.{MovieSeen}
+use Rattle.mp4_present.specs.words.OpenedMovie.{IsOpenedAs}
+use Rattle.mp4_present.specs.words.WalkSteps.{opening_steps, walks_steps}
+use Rattle.mp4_present.specs.declared.differences.Difference.{Difference}
+use Rattle.mp4_present.specs.declared.leaving.Leaving.{Leaving}
+use Rattle.mp4_present.proofs.ComparisonWhole.{no_difference_is_same}
+use Rattle.mp4_present.proofs.DenotedValid.{denoted_is_valid}
+use Rattle.mp4norm.specs.format.CompareHeadline.{IsVerdict, ComparesWithin}
+use Rattle.mp4norm.specs.format.Steps.{WorksWithin, most_steps, row_total}
+use Rattle.mp4norm.specs.words.Compares.{side_of, says_nothing, files_differ, IsSaid, ListsFront, WalksTwice, RefusesBoth, RefusesCompare}
+use Rattle.mp4norm.specs.declared.comparing.Failure.{Failure}
+use Rattle.mp4norm.proofs.StepsTaken.{opened_within, written_within}
+
+pub listed_front : (old new : List Difference) (whole : Bool) (ds : List Difference) → old ≡ [] → (whole ≡ true → new ≡ old ++ ds) → TakesFront old new ds → (whole ≡ true) ⊎ (0 < length new) → ListsFront new ds
+listed_front old new whole ds none all front (inl e) = inl (all e ∙ ap (λ (xs : List Difference). xs ++ ds) none)
+listed_front old new whole ds none all front (inr long) = inr (long, front.0, front.1 ∙ ap (λ (xs : List Difference). xs ++ take front.0 ds) none)
+
+true_false : true ≡ false → ⊥
+true_false e = cc
+
+none_long : (xs : List Difference) → xs ≡ [] → 0 < length xs → ⊥
+none_long xs e long = let none : length xs ≡ 0 = ap length e in omega (arith, long, none)
+
+take_none : (n : ℕ) (ds : List Difference) → ds ≡ [] → take n ds ≡ []
+take_none zero [] e = refl
+take_none (suc n) [] e = refl
+take_none n (d ∷ ds) e = absurd cc
+
+empty_by : (xs : List Difference) → nat_eq (length xs) 0 ≡ true → xs ≡ []
+empty_by [] e = refl
+empty_by (x ∷ xs) e = absurd (true_false (sym e ∙ ne_eqb (length (x ∷ xs)) 0 (λ z. absurd (omega (arith, z)))))
+
+-- where none is listed, nothing differs
+pub empty_listed : (listed ds : List Difference) → ListsFront listed ds → nat_eq (length listed) 0 ≡ true → ds ≡ []
+empty_listed listed ds (inl e) none = sym e ∙ empty_by listed none
+empty_listed listed ds (inr h) none = absurd (none_long listed (empty_by listed none) h.0)
+
+-- where one is listed, something differs
+pub some_listed : (listed ds : List Difference) → ListsFront listed ds → nat_eq (length listed) 0 ≡ false → ds ≡ [] → ⊥
+some_listed listed ds (inl e) some none = let no : nat_eq (length listed) 0 ≡ true = ap (λ (xs : List Difference). nat_eq (length xs) 0) (e ∙ none) in true_false (sym no ∙ some)
+some_listed listed ds (inr h) some none = none_long listed (h.2 ∙ take_none h.1 ds none) h.0
+
+-- the first that differs is there exactly if one is
+pub first_said : (first : Option Difference) (ds : List Difference) → first ≡ slice_get ds 0 → IsSaid first ds
+first_said first [] e = subst (λ (f : Option Difference). IsSaid f []) (sym e) refl
+first_said first (d ∷ ds) e = subst (λ (f : Option Difference). IsSaid f (d ∷ ds)) (sym e) (λ none. cc)
+
+pub once_of_two : (old new a b : ℕ) → new ≤ old + (a + b) → new ≤ old + 2 * (a + b)
+once_of_two old new a b h = omega (arith, h)
+
+pub both_of_two : (old mid new a b : ℕ) → mid ≤ old + (a + b) → new ≤ mid + (a + b) → new ≤ old + 2 * (a + b)
+both_of_two old mid new a b g h = omega (arith, g, h)
+
+-- ---- the answer
+
+verdict_of : (l : Leaving) (p q : Presentation) {A : Type 0} (found : Option A) (same : Bool) → same ≡ says_nothing found → IsSaid found (differences (reduce l p) (reduce l q)) → Valid p → Valid q → (same ≡ true) ↔ (reduce l p ≡ reduce l q)
+verdict_of l p q None same is said v w = (λ e. (no_difference_is_same l p q v w).0 said, λ e. is)
+verdict_of l p q (Some text) same is said v w = (λ e. absurd (true_false (sym e ∙ is)), λ e. absurd (said ((no_difference_is_same l p q v w).1 e)))
+
+module _ (file : List ℕ) (m : MovieSeen) (tree : FileTree) (o : IsOpenedAs file m tree) where
+  denotes_by : Denotes file (presentation_of file tree)
+  denotes_by = record { tree = tree; is_tree = o.is_tree; is_sound = o.is_sound; is_consistent = o.is_consistent; says = refl; limits = o.limits }
+
+pub verdict : (l : Leaving) (file other : List ℕ) (m n : MovieSeen) {A : Type 0} (found : Option A) (same : Bool) → same ≡ says_nothing found → (a : (tree : FileTree) × IsOpenedAs file m tree) → (b : (tree : FileTree) × IsOpenedAs other n tree)
+    → IsSaid found (files_differ l file a.0 other b.0) → IsVerdict l file other same
+verdict l file other m n found same is a b said = record {
+  p = presentation_of file a.0;
+  q = presentation_of other b.0;
+  first = denotes_by file m a.0 a.1;
+  second = denotes_by other n b.0 b.1;
+  is = λ x y. verdict_of l (presentation_of file a.0) (presentation_of other b.0) found same is said
+      (denoted_is_valid file (presentation_of file a.0) x (denotes_by file m a.0 a.1)) (denoted_is_valid other (presentation_of other b.0) y (denotes_by other n b.0 b.1));
+}
+
+-- ---- refusals
+
+-- what fails once both files are opened
+pub together : (First Second : Refusal → Type 0) (honest honest_right : Bool) (l m r s : ℕ) (held : Option (List ℕ)) (puts : ℕ) (refusal : Refusal) (f : Failure) → f.side ≡ side_of refusal → f.refusal ≡ refusal
+    → RefusesSample l m r s refusal → (IsTrue honest → IsTrue honest_right → refusal ≡ refusals.StoreChanged → ⊥) → RefusesCompare First Second (RefusesBoth honest honest_right l m r s) held held puts puts f
+together First Second honest honest_right l m r s held puts (refusals.Fault g) f side is w u = absurd w
+together First Second honest honest_right l m r s held puts refusals.Memory f side is w u = rw (side, is) refl
+together First Second honest honest_right l m r s held puts refusals.StoreFailed f side is w u = rw (side, is) (w, refl)
+together First Second honest honest_right l m r s held puts refusals.StoreChanged f side is w u = rw (side, is) (λ told right. u told right refl, refl)
+together First Second honest honest_right l m r s held puts refusals.WriteFailed f side is w u = absurd w
+together First Second honest honest_right l m r s held puts refusals.NoSuchTrack f side is w u = absurd w
+
+-- ---- steps
+
+none_taken : (file : List ℕ) (n : ℕ) → WorksWithin file n n
+none_taken file n = record {
+  denoted = λ p d. let rest = most_steps (length p.tracks) (sample_total p) (row_total d.tree) in omega arith;
+  refused = λ nothing. inl refl;
+}
+
+-- the second file was not looked at
+pub first_alone : (file other : List ℕ) (old new : ℕ) → WorksWithin file old new → ComparesWithin file other old new
+first_alone file other old new first = record { between = new; first = first; second = none_taken other new }
+
+-- the first file was opened, and so were the second or not
+pub both_looked : (file other : List ℕ) (m : MovieSeen) (old mid new : ℕ) → ((tree : FileTree) × IsOpenedAs file m tree) → ((tree : FileTree) → IsFileTree file tree → mid ≤ old + opening_steps tree) → WorksWithin other mid new → ComparesWithin file other old new
+both_looked file other m old mid new a opening second = record {
+  between = mid;
+  first = written_within file m old mid mid a opening (λ tree o. omega arith);
+  second = second;
+}
+
+-- both were opened, and walked over at most twice
+pub both_walked : (file other : List ℕ) (m n : MovieSeen) (old mid behind new : ℕ) → ((tree : FileTree) × IsOpenedAs file m tree) → ((tree : FileTree) × IsOpenedAs other n tree) → ((tree : FileTree) → IsFileTree file tree → mid ≤ old + opening_steps tree)
+    → ((tree : FileTree) → IsFileTree other tree → behind ≤ mid + opening_steps tree) → ((tree next : FileTree) → IsOpenedAs file m tree → IsOpenedAs other n next → WalksTwice tree next behind new) → ComparesWithin file other old new
+both_walked file other m n old mid behind new a b opening next walks =
+    record {
+      between = mid + 2 * walks_steps a.0;
+      first = opened_within file old (mid + 2 * walks_steps a.0) m a.0 mid a.1 (opening a.0 a.1.is_tree) (omega arith);
+      second = opened_within other (mid + 2 * walks_steps a.0) new n b.0 (mid + 2 * walks_steps a.0 + opening_steps b.0) b.1 (omega arith)
+          (let more = walks a.0 b.0 a.1 b.1 in let opened = next b.0 b.1.is_tree in omega (arith, more, opened));
+    }

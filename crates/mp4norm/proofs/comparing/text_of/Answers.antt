@@ -1,0 +1,24 @@
+use Rattle.mp4_present.specs.words.WalkSteps.{walks_steps}
+use Rattle.mp4norm.specs.words.Compares.{files_differ}
+use Rattle.mp4norm.proofs.ComparedFiles.{first_said, once_of_two}
+use Rattle.mp4norm.proofs.comparing.text_of.Goals as goal
+
+pub returns-in-None-clause-said : goal.returns-in-None-clause-said
+returns-in-None-clause-said g c = λ told right tree other o u.
+    let is = c.in_ok-compare-in-First in
+    let said = first_said is.field-0 (files_differ c.args.leaving (g.S.Store.file c.args.a.now) tree (g.T.Store.file c.args.b.now) other) (is.ensures.first told right tree other o u) in
+    rw c.in-None.is at said
+
+pub returns-in-None-clause-work : goal.returns-in-None-clause-work
+returns-in-None-clause-work g c = λ told right tree other o u.
+    once_of_two _ _ (walks_steps tree) (walks_steps other) (c.in_ok-compare-in-First.ensures.work told right tree other o u)
+
+pub returns-in_ok-first_text-in-Some-clause-said : goal.returns-in_ok-first_text-in-Some-clause-said
+returns-in_ok-first_text-in-Some-clause-said g c = λ told right tree other o u.
+    let is = c.in_ok-compare-in-First in
+    let said = first_said is.field-0 (files_differ c.args.leaving (g.S.Store.file c.args.a.now) tree (g.T.Store.file c.args.b.now) other) (is.ensures.first told right tree other o u) in
+    rw c.in-Some.is at said
+
+pub returns-in_ok-first_text-in-Some-clause-work : goal.returns-in_ok-first_text-in-Some-clause-work
+returns-in_ok-first_text-in-Some-clause-work g c = λ told right tree other o u.
+    once_of_two _ _ (walks_steps tree) (walks_steps other) (c.in_ok-compare-in-First.ensures.work told right tree other o u)
