@@ -77,6 +77,8 @@ pub mod ComparisonTurned
 pub mod ComparisonPlaces
 pub mod ComparisonVectors
 mod NextSample
+pub mod FaultGaps
+pub mod GapsTold
 mod KeysOfBoth
 mod SamplesDiffer
 mod PairsCompared

@@ -5,3 +5,4 @@ pub mod Reduced
 pub mod Differences
 pub mod Comparison
 pub mod ComparisonLaws
+pub mod FaultNumbers

@@ -19,3 +19,4 @@ pub mod Differing
 pub mod Windows
 pub mod NextSample
 pub mod Compared
+pub mod NumbersTold

@@ -3,10 +3,13 @@
 ghost use Rattle.std.specs.Prelude.{◌≡◌, ◌++◌, OnOk};
 ghost use Rattle.mp4norm.specs.format.Texts.{line_feed};
 
+use crate::difference_lines::{say, say_number};
 use crate::ways::{Way, step_line, way_to};
-use mp4_boxes::{Fault, FourCc, Kind, Refusal};
+use mp4_boxes::{Fault, FourCc, Kind, Refusal, Steps};
+use mp4_present::{FaultNumbers, fault_numbers};
 use mp4_store::{Sink, Store};
 use std::alloc::{AllocError, Global};
+use std::sync::ledger::Ledger;
 
 /// Types of boxes, and the clause of ISO/IEC 14496-12 that tells of them.
 const CLAUSES: [(FourCc, &str); 51] = [
@@ -131,8 +134,35 @@ fn whole_way(way: &mut Way, named: FourCc) -> Result<(), AllocError> {
     Ok(())
 }
 
+// Adds the numbers that go with a fault.
+fn say_numbers(text: &mut Vec<u8>, numbers: FaultNumbers) -> Result<(), AllocError> {
+    say(text, "numbers: ")?;
+    match numbers {
+        FaultNumbers::Gap { track, due, found } => {
+            say(text, "track ")?;
+            say_number(text, u64::from(track))?;
+            say(text, ": time ")?;
+            say_number(text, found)?;
+            say(text, ", due ")?;
+            say_number(text, due)?;
+        }
+        FaultNumbers::Counts { counted, wanted } => {
+            say(text, "counted ")?;
+            say_number(text, counted)?;
+            say(text, ", samples ")?;
+            say_number(text, wanted)?;
+        }
+    }
+    say(text, "\n")
+}
+
 // The lines of an explanation.
-fn explanation(alloc: Global, fault: &Fault, way: &Way) -> Result<Vec<u8>, AllocError> {
+fn explanation(
+    alloc: Global,
+    fault: &Fault,
+    way: &Way,
+    numbers: Option<FaultNumbers>,
+) -> Result<Vec<u8>, AllocError> {
     let mut text = Vec::new(alloc);
     push_line(&mut text, b"way: ", way.text.as_slice())?;
     push_line(
@@ -141,23 +171,28 @@ fn explanation(alloc: Global, fault: &Fault, way: &Way) -> Result<Vec<u8>, Alloc
         clause_of(FourCc(fault.box_type)).as_bytes(),
     )?;
     push_line(&mut text, b"meaning: ", meaning_of(fault.kind).as_bytes())?;
+    if let Some(numbers) = numbers {
+        say_numbers(&mut text, numbers)?;
+    }
     Ok(text)
 }
 
 /// Puts three lines on a fault of a file: the way to the named box, the clause of the standard that
-/// tells of it, and what the kind means.
-pub(crate) fn explain<S: Store, K: Sink>(
+/// tells of it, and what the kind means; and a fourth one where numbers go with the fault.
+pub(crate) fn explain<S: Store, K: Sink, L: Ledger>(
     alloc: Global,
     fault: &Fault,
     store: &mut S,
     sink: &mut K,
+    steps: &mut Steps<L>,
 ) -> Result<(), Refusal>
     ensures honesty { S.is_honest store.new ≡ S.is_honest store.old }
     ensures file { S.file store.new ≡ S.file store.old }
 {
     let mut way = way_to(alloc, store, fault.offset)?;
     whole_way(&mut way, FourCc(fault.box_type))?;
-    let text = explanation(alloc, fault, &way)?;
+    let numbers = fault_numbers(alloc, fault, store, steps)?;
+    let text = explanation(alloc, fault, &way, numbers)?;
     sink.put(text.as_slice())?;
     Ok(())
 }

@@ -55,9 +55,9 @@ impl<'a> Report<'a> {
         }
     }
 
-    /// The job has come to its end.
+    /// The job has come to its end; what is said behind it stands on a line of its own.
     pub(crate) fn end(&mut self) {
-        if let Some(progress) = &mut self.progress {
+        if let Some(mut progress) = self.progress.take() {
             progress.end();
         }
     }

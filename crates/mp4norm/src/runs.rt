@@ -61,6 +61,7 @@ fn answer<L: Ledger>(
     }
     let counts = source.count_named(rt.alloc(), names)?;
     write_to(rt, job, source, target, steps, report)?;
+    report.end();
     for (name, count) in names.iter().zip(counts.iter()) {
         let _ = errors.write_all(count_line(name, *count).as_bytes());
     }
@@ -89,7 +90,8 @@ fn open_and_answer<'a, L: Ledger>(
     report.end();
     if let Err(Refusal::Fault(fault)) = &answer {
         if telling.explain {
-            let _ = source.explain(rt.alloc(), fault, &mut IoSink::new(rt.stderr()));
+            let mut errors = IoSink::new(rt.stderr());
+            let _ = source.explain(rt.alloc(), fault, &mut errors, steps);
         }
     }
     answer

@@ -162,17 +162,18 @@ impl Source {
     }
 
     /// Puts what there is to say of a fault.
-    pub(crate) fn explain<K: Sink>(
+    pub(crate) fn explain<K: Sink, L: Ledger>(
         &mut self,
         alloc: Global,
         fault: &Fault,
         sink: &mut K,
+        steps: &mut Steps<L>,
     ) -> Result<(), Refusal> {
         match self {
-            Source::File(store, _) => explain(alloc, fault, store, sink),
+            Source::File(store, _) => explain(alloc, fault, store, sink, steps),
             Source::Input(bytes) => {
                 let mut store = MemStore::new(bytes.as_slice());
-                explain(alloc, fault, &mut store, sink)
+                explain(alloc, fault, &mut store, sink, steps)
             }
         }
     }

@@ -1,0 +1,71 @@
+-- The `moof` in which a place lies, looked for behind those before it.
+use Rattle.std.proofs.Common.{◌≡◌, ℕ, ◌+◌, ◌-◌, ◌*◌, ◌^◌, ◌≤◌, Bool, true, false, List, [], ◌∷◌, Option, Some, None, find, cond, length, take, refl, sym, subst, arith, length-take}
+use Rattle.std.specs.Prelude.{IsTrue, Contains, IfSome, suc}
+use Rattle.std.proofs.lemmas.List.Elements.{Contains-append_right}
+use Rattle.mp4_boxes.specs.declared.refusal.Refusal.{Refusal}
+use Rattle.mp4_boxes.specs.declared.refusal.Refusal.TheVariants as refusals
+use Rattle.mp4_present.specs.words.Again.{RefusesNext}
+use Rattle.mp4_present.specs.words.NumbersTold.{RefusesSearch, StepsFit}
+use Rattle.mp4_present.specs.words.Movies.{Fills, IsWhole}
+use Rattle.mp4_present.specs.words.Reading.{RefusesPayload}
+use Rattle.mp4_present.specs.declared.reading.TopBox.{TopBox}
+use Rattle.mp4_present.proofs.FragmentPass.{Left}
+use Rattle.mp4_present.proofs.MoofBytes.{MoofsFit}
+
+-- none was found, where all boxes of the file are there
+pub not_found : (honest : Bool) (file : List ℕ) (at most reads reads_after : ℕ) (r : Refusal) → (IsTrue honest → Left file at most) → RefusesNext honest file at reads reads_after r → RefusesSearch honest reads reads_after r
+not_found honest file at most reads reads_after (refusals.Fault f) l w = tt
+not_found honest file at most reads reads_after refusals.Memory l w = absurd w
+not_found honest file at most reads reads_after refusals.StoreFailed l w = w
+not_found honest file at most reads reads_after refusals.StoreChanged l w = λ told. let all = l told in w told all.boxes all.are_from
+not_found honest file at most reads reads_after refusals.WriteFailed l w = w
+not_found honest file at most reads reads_after refusals.NoSuchTrack l w = w
+
+-- one was not read, where there is room for it
+pub not_read : (honest : Bool) (top : TopBox) (room reads reads_after : ℕ) (r : Refusal) → (IsTrue honest → top.header.end ≤ top.offset + room) → RefusesPayload room top reads reads_after r → RefusesSearch honest reads reads_after r
+not_read honest top room reads reads_after (refusals.Fault f) n w = tt
+not_read honest top room reads reads_after refusals.Memory n w = absurd w
+not_read honest top room reads reads_after refusals.StoreFailed n w = w
+not_read honest top room reads reads_after refusals.StoreChanged n w = λ told. let short = n told in omega (arith, short, w)
+not_read honest top room reads reads_after refusals.WriteFailed n w = w
+not_read honest top room reads reads_after refusals.NoSuchTrack n w = w
+
+-- ---- lists of boxes, passed one by one
+
+-- the one in hand is among them
+pub in_hand : {A : Type 0} (xs ys : List A) (x : A) → xs ≡ x ∷ ys → Contains xs x
+in_hand {A} xs ys x e = subst (λ (zs : List A). Contains zs x) (sym e) (0, omega arith, refl)
+
+-- so is each one behind it
+pub later : {A : Type 0} (xs ys : List A) (x y : A) → xs ≡ x ∷ ys → Contains ys y → Contains xs y
+later {A} xs ys x y e h = subst (λ (zs : List A). Contains zs y) (sym e) (Contains-append_right (x ∷ []) ys y h)
+
+-- what is found is there
+found_choice : {A : Type 0} (p : A → Bool) (x y : A) (xs : List A) (v : Bool) → cond v (Some y) (find p xs) ≡ Some x → (find p xs ≡ Some x → Contains xs x) → Contains (y ∷ xs) x
+found_choice {A} p x y xs true e behind = let s : ◌≡◌ {A = Option A} (Some y) (Some x) = e in let same : y ≡ x = cc in (0, omega arith, same)
+found_choice p x y xs false e behind = let r = behind e in let less = r.1 in (suc r.0, omega arith, r.2)
+
+pub found_there : {A : Type 0} (p : A → Bool) (xs : List A) (x : A) → find p xs ≡ Some x → Contains xs x
+found_there p [] x e = absurd cc
+found_there p (y ∷ xs) x e = found_choice p x y xs (p y) e (found_there p xs x)
+
+-- what is so of a value that there may be
+pub some_so : {A : Type 0} (P Q : A → Type 0) (o : Option A) → ((x : A) → P x → Q x) → IfSome o P → IfSome o Q
+some_so P Q None f h = tt
+some_so P Q (Some x) f h = f x h
+
+-- ---- steps
+
+-- the steps that are left before a `moof` behind a place
+pub left_before : (file_length at offset room old new : ℕ) → at ≤ offset → MoofsFit file_length at room old new → StepsFit file_length offset room old new
+left_before file_length at offset room old new on h = omega (arith, on, h)
+
+-- its front was checked
+pub front_fits : (file_length : ℕ) (top : TopBox) (w : IsWhole file_length top) (bytes : List ℕ) (len room old before after : ℕ) → Fills len top → 2 * after ≤ 2 * before + 2 * room + length (take len bytes) → StepsFit file_length top.offset room old before → after ≤ old + (2 ^ 24 + file_length)
+front_fits file_length top w bytes len room old before after fills check h =
+    let within = w.within in
+    omega (arith, within, fills, check, h, length-take len bytes)
+
+-- nothing more was taken
+pub all_left : (file_length at room old new : ℕ) → StepsFit file_length at room old new → new ≤ old + (2 ^ 24 + file_length)
+all_left file_length at room old new h = omega (arith, h)

@@ -1,0 +1,90 @@
+use Rattle.std.proofs.Common.{◌≡◌, List, map, true, subst, sym, ap, rules}
+use Rattle.std.specs.Prelude.{IsTrue}
+use Rattle.mp4_boxes.specs.format.Bytes.{AreBytes}
+use Rattle.mp4_boxes.specs.format.Box.{Box}
+use Rattle.mp4_head.specs.format.Tree.{MovieTree}
+use Rattle.mp4_present.specs.declared.fault_details.FaultNumbers.{FaultNumbers}
+use Rattle.mp4_present.specs.format.FaultNumbers.{Tells}
+use Rattle.mp4_present.specs.words.PassedMoofs.{IsBegun}
+use Rattle.mp4_present.proofs.Assembled.{begun}
+use Rattle.mp4_present.proofs.FaultGaps.{some_so}
+use Rattle.mp4_present.proofs.GapsTold.{tells_counts}
+use Rattle.mp4_present.specs.words.NumbersTold.{IsCounts}
+use Rattle.mp4_boxes.specs.words.View.{box_seen}
+use Rattle.mp4_frag.specs.declared.trex.Trex.{Trex}
+use Rattle.mp4_head.specs.format.Head.{Head}
+use Rattle.mp4_head.specs.format.Tree.{are_distinct}
+use Rattle.mp4_present.proofs.Opened.{IsRead, tracks_read}
+use Rattle.mp4_present.proofs.OpeningBytes.{tables_open, moofs_open, none_open}
+use Rattle.mp4_present.proofs.PlainLists.{found_tables}
+use Rattle.mp4_present.proofs.fault_details.numbers_behind.Goals as goal
+
+pub check_tables-requires : goal.check_tables-requires
+check_tables-requires g c = record {
+  inside = found_tables _ c.in_ok-head.head c.in_ok-head.ensures.head c.in_ok-head.ensures.inside;
+  distinct = subst (λ (xs : List Trex). are_distinct (map (λ (t : Trex). t.id) xs) ≡ true) (sym (ap (λ (x : Head). x.trexes) c.in_ok-head.ensures.head.has.says)) c.in_ok-head.ensures.head.has.is_sound.trex_ids;
+  read = (c.in_ok-head.ensures.head.has.tree.tracks, tracks_read _ c.in_ok-head.head c.in_ok-head.ensures.head);
+}
+
+pub returns-in_err-head-clause-within : goal.returns-in_err-head-clause-within
+returns-in_err-head-clause-within g c = λ told. none_open _ _
+
+pub returns-in_err-plain-clause-within : goal.returns-in_err-plain-clause-within
+returns-in_err-plain-clause-within g c =
+    let honest = g.S.Store.is_honest c.args.store.now in
+    let file = g.S.Store.file c.args.store.now in
+    let outline = c.args.outline.now in
+    let moov = c.args.moov.now in
+    let b = box_seen c.view-view.result in
+    let r : IsRead honest file outline moov b = record { outline = c.requires.outline; is = c.view-view.ensures; fills = c.requires.fills; bytes = c.requires.bytes } in
+    λ told. tables_open honest file outline moov b c.in_ok-head.head r c.in_ok-head.ensures.head told _ _ c.in_err-plain.ensures.within
+
+pub returns-in_err-told-clause-within : goal.returns-in_err-told-clause-within
+returns-in_err-told-clause-within g c =
+    let honest = g.S.Store.is_honest c.args.store.now in
+    let file = g.S.Store.file c.args.store.now in
+    let outline = c.args.outline.now in
+    let moov = c.args.moov.now in
+    let b = box_seen c.view-view.result in
+    let r : IsRead honest file outline moov b = record { outline = c.requires.outline; is = c.view-view.ensures; fills = c.requires.fills; bytes = c.requires.bytes } in
+    let head = c.in_ok-head.head in
+    let says = c.in_ok-head.ensures.head in
+    λ told. moofs_open honest file outline moov b head r says told _ _ _ c.in_ok-plain.ensures.within (c.in_err-told.ensures.within told)
+
+pub returns-clause-within : goal.returns-clause-within
+returns-clause-within g c =
+    let honest = g.S.Store.is_honest c.args.store.now in
+    let file = g.S.Store.file c.args.store.now in
+    let outline = c.args.outline.now in
+    let moov = c.args.moov.now in
+    let b = box_seen c.view-view.result in
+    let r : IsRead honest file outline moov b = record { outline = c.requires.outline; is = c.view-view.ensures; fills = c.requires.fills; bytes = c.requires.bytes } in
+    let head = c.in_ok-head.head in
+    let says = c.in_ok-head.ensures.head in
+    λ told. moofs_open honest file outline moov b head r says told _ _ _ c.in_ok-plain.ensures.within (c.in_ok-told.ensures.within told)
+
+pub returns-clause-told : goal.returns-clause-told
+returns-clause-told g c =
+    let honest = g.S.Store.is_honest c.args.store.now in
+    let file = g.S.Store.file c.args.store.now in
+    let b = box_seen c.view-view.result in
+    let r : IsRead honest file c.args.outline.now c.args.moov.now b = record { outline = c.requires.outline; is = c.view-view.ensures; fills = c.requires.fills; bytes = c.requires.bytes } in
+    let bytes : AreBytes c.args.moov.now = λ k. search rules in
+    let says = c.in_ok-head.ensures.head in
+    let outline = c.args.outline.now in
+    let moov = c.args.moov.now in
+    let head = c.in_ok-head.head in
+    let plain = c.in_ok-plain.plain in
+    let place = c.args.fault.now.offset in
+    some_so (λ (n : FaultNumbers). IsTrue honest → (m : MovieTree) (boxes : List Box) → IsBegun file m boxes plain.states.items plain.room → Tells file place n)
+    (λ (n : FaultNumbers). IsTrue honest → Tells file place n)
+    c.in_ok-told.told
+    (λ n f told. f told _ _ (begun honest file outline moov b head plain r says bytes _ c.len.ensures c.in_ok-plain.ensures.says told))
+    c.in_ok-told.ensures.told
+
+pub returns-then-eq-clause-told : goal.returns-then-eq-clause-told
+returns-then-eq-clause-told g c =
+    let honest = g.S.Store.is_honest c.args.store.now in
+    let file = g.S.Store.file c.args.store.now in
+    let place = c.args.fault.now.offset in
+    some_so IsCounts (λ (n : FaultNumbers). IsTrue honest → Tells file place n) c.counts_in_tables.result (λ n f told. tells_counts file place n f) c.counts_in_tables.ensures

@@ -1,0 +1,75 @@
+-- What numbers say of a fault.
+use Rattle.std.specs.Prelude.{◌≡◌, ℕ, ◌+◌, ◌-◌, ◌^◌, min, List, [], ◌∷◌, ◌++◌, take, map, codes, Contains}
+use Rattle.std.specs.List.{AllByRecursion}
+use Rattle.mp4_boxes.specs.format.Bytes.{field}
+use Rattle.mp4_boxes.specs.format.Box.{Box, Tiles, file_container, box_container, StandsAfter}
+use Rattle.mp4_boxes.specs.format.Children.{of_kind}
+use Rattle.mp4_tables.specs.format.TableRules.{Fit}
+use Rattle.mp4_tables.specs.format.Tables.{tables_of}
+use Rattle.mp4_frag.specs.format.Fragments.{FragmentTree, IsFragmentTree, fragment_of, decode_time_of}
+use Rattle.mp4_frag.specs.format.FragmentSamples.{Part, all_parts, duration_of, fragment_samples}
+use Rattle.mp4_head.specs.format.Tree.{TrackTree, MovieTree, IsMovieTree, IsSoundMovie, track_head_of, trexes_of}
+use Rattle.mp4_present.specs.format.Denotes.{HasSoundTables, surroundings, first_due}
+use Rattle.mp4_present.specs.declared.fault_details.FaultNumbers.{FaultNumbers}
+use Rattle.mp4_present.specs.declared.fault_details.FaultNumbers.TheVariants as numbers
+
+-- one of the boxes that fill a box
+abbrev pub IsChildOf : Box → Box → Type 0
+IsChildOf container b =
+    (boxes : List Box) × Tiles (box_container container) boxes × Contains boxes b
+
+-- a box up to a place in it
+abbrev pub up_to : ℕ → Box → Box
+up_to place b = record b { payload = take (place - (b.offset + b.header)) b.payload }
+
+-- a `traf` of the `moof` says this time in its `tfdt`, which stands at the place, and this track in
+-- its `tfhd`
+pub record SaysTime (moof : Box) (place : ℕ) (traf : Box) (track found : ℕ) : Type 0 where
+  pub is_child : IsChildOf moof traf
+  pub time : Box
+  pub has_time : IsChildOf traf time
+  pub is_time : time.kind ≡ codes "tfdt"
+  pub there : time.offset ≡ place
+  pub found_is : found ≡ decode_time_of time.payload
+  pub head : Box
+  pub has_head : IsChildOf traf head
+  pub is_head : head.kind ≡ codes "tfhd"
+  pub track_is : track ≡ field head.payload 4 4
+
+-- the end of a track behind the samples of its tables and of these parts, as far as 64 bits go
+abbrev pub end_of : TrackTree → List Part → ℕ
+end_of t parts =
+    min (first_due parts t + duration_of (fragment_samples (track_head_of t).id parts)) (2 ^ 64 - 1)
+
+-- All of the `moov`, of the `moof`s before, and of this `moof` up to the `traf` with the `tfdt` at
+-- the place is as it should be. With these samples the track that the `traf` names ends at the time
+-- that is due.
+pub record IsGap (file : List ℕ) (place track due found : ℕ) : Type 0 where
+  pub before : List Box
+  pub moof : Box
+  pub stands : StandsAfter (file_container file) before moof
+  pub is_moof : moof.kind ≡ codes "moof"
+  pub movie : MovieTree
+  pub is_moov : of_kind (codes "moov") before ≡ movie.moov ∷ []
+  pub movie_tree : IsMovieTree movie
+  pub movie_sound : IsSoundMovie movie
+  pub tables_sound : HasSoundTables movie
+  pub tables_fit : AllByRecursion (λ (t : TrackTree). Fit (surroundings file t) (tables_of t.table))
+      movie.tracks
+  pub earlier : List FragmentTree
+  pub earlier_moofs : map (λ (e : FragmentTree). e.moof) earlier ≡ of_kind (codes "moof") before
+  pub traf : Box
+  pub says : SaysTime moof place traf track found
+  pub front : FragmentTree
+  pub is_front : front.moof ≡ up_to traf.offset moof
+  pub trees : AllByRecursion IsFragmentTree (earlier ++ front ∷ [])
+  pub t : TrackTree
+  pub has_track : Contains movie.tracks t
+  pub is_track : (track_head_of t).id ≡ track
+  pub due_is : due ≡ end_of t
+      (all_parts (trexes_of movie) (map fragment_of (earlier ++ front ∷ [])))
+
+-- what is told of a fault at a place; of counts no more than that they are counts
+abbrev pub Tells : List ℕ → ℕ → FaultNumbers → Type 0
+Tells file place (numbers.Gap track due found) = IsGap file place track due found
+Tells file place (numbers.Counts counted wanted) = Unit {0}

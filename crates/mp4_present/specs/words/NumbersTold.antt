@@ -1,0 +1,87 @@
+-- What is told of a fault in numbers, and why nothing is.
+use Rattle.std.specs.Prelude.{ℕ, ◌+◌, ◌-◌, ◌^◌, ◌≤◌, ◌≡◌, ◌-◌, ◌==◌, min, pos, find, codes, Some, List, Bool, IsTrue}
+use Rattle.mp4_store.specs.words.Device.{HasRisen}
+use Rattle.mp4_boxes.specs.declared.refusal.Refusal.{Refusal}
+use Rattle.mp4_boxes.specs.declared.refusal.Refusal.TheVariants as refusals
+use Rattle.mp4_boxes.specs.format.Box.{Box}
+use Rattle.mp4_frag.specs.format.Fragments.{FragmentTree}
+use Rattle.mp4_boxes.specs.format.Children.{of_kind}
+use Rattle.mp4_frag.specs.words.Judged.{AreTrexesOf, IsSoundMoof, AreMovedOn, tree_of}
+use Rattle.mp4_frag.specs.words.RunsJudged.{children_of}
+use Rattle.mp4_frag.specs.declared.trex.Trex.{Trex}
+use Rattle.mp4_present.specs.format.FaultNumbers.{SaysTime, up_to}
+use Rattle.mp4_present.specs.declared.fault_details.FaultNumbers.{FaultNumbers}
+use Rattle.mp4_present.specs.declared.fault_details.FaultNumbers.TheVariants as numbers
+use Rattle.mp4_frag.specs.declared.state.TrackState.{TrackState}
+use Rattle.mp4_head.specs.format.Tree.{MovieTree}
+use Rattle.mp4_present.specs.words.Movies.{IsWhole}
+use Rattle.mp4_present.specs.words.Outline.{box_at}
+use Rattle.mp4_present.specs.words.Passing.{AreBehind, IsNextMoof}
+use Rattle.mp4_present.specs.declared.reading.TopBox.{TopBox}
+use Rattle.mp4_present.specs.declared.fault_gaps.Reached.{Reached}
+
+-- Why no numbers are told of a fault. The numbers are counts of failed reads, before and after.
+abbrev pub RefusesNumbers : Bool → ℕ → ℕ → Refusal → Type 0
+RefusesNumbers honest reads reads_after refusals.Memory = Unit {0}
+RefusesNumbers honest reads reads_after refusals.StoreFailed = HasRisen reads reads_after
+RefusesNumbers honest reads reads_after refusals.StoreChanged = IsTrue honest → ⊥
+RefusesNumbers honest reads reads_after _ = ⊥
+
+-- the same, or a fault is met before what is looked for
+abbrev pub RefusesSearch : Bool → ℕ → ℕ → Refusal → Type 0
+RefusesSearch honest reads reads_after (refusals.Fault f) = Unit {0}
+RefusesSearch honest reads reads_after r = RefusesNumbers honest reads reads_after r
+
+-- so many steps are left of those that the `moof`s of a file of so many bytes may take, with room
+-- for more samples and all bytes from a place on
+abbrev pub StepsFit : ℕ → ℕ → ℕ → ℕ → ℕ → Type 0
+StepsFit file_length at room old new = new + (room + (file_length - at)) ≤ old + (2 ^ 24
+    + file_length)
+
+-- a `moof` that lies in the file, with room for samples before it
+pub record IsReached (file_length : ℕ) (r : Reached) : Type 0 where
+  pub whole : IsWhole file_length r.moof
+  pub few : r.room ≤ 2 ^ 24
+
+-- a `moof` of the file, and the tracks behind all that comes before it
+pub record ComesNext (file : List ℕ) (movie : MovieTree) (r : Reached) (states : List TrackState)
+    : Type 0 where
+  pub earlier : List FragmentTree
+  pub before : List Box
+  pub next : IsNextMoof file movie earlier before (box_at file r.moof)
+  pub behind : AreBehind file movie earlier states r.room
+
+-- a `moof` of which these are the bytes behind its header
+abbrev pub moof_read : TopBox → List ℕ → Box
+moof_read top bytes = record {
+  kind = top.header.kind.0;
+  offset = top.offset;
+  header = top.header.header;
+  payload = bytes;
+}
+
+-- What is due of a track behind the front of a `moof`, where these are the tracks before it, and
+-- what its `traf` says.
+pub record FindsGap (file_length : ℕ) (moof : Box) (states : List TrackState) (room : ℕ)
+    (place track due found : ℕ) : Type 0 where
+  pub traf : Box
+  pub says : SaysTime moof place traf track found
+  pub after : List TrackState
+  pub less : ℕ
+  pub sound : (trexes : List Trex) → AreTrexesOf trexes states
+      → IsSoundMoof file_length trexes states (tree_of (up_to traf.offset moof))
+  pub moved : AreMovedOn moof.offset (pos moof.offset)
+      (of_kind (codes "traf") (children_of (up_to traf.offset moof))) states after room less
+  pub state : TrackState
+  pub found_state : find (λ (t : TrackState). t.id == track) after ≡ Some state
+  pub due_is : due ≡ min state.time (2 ^ 64 - 1)
+
+abbrev pub FindsIn : ℕ → Box → List TrackState → ℕ → ℕ → FaultNumbers → Type 0
+FindsIn file_length moof states room place (numbers.Gap track due found) =
+    FindsGap file_length moof states room place track due found
+FindsIn file_length moof states room place _ = ⊥
+
+-- counts are told
+abbrev pub IsCounts : FaultNumbers → Type 0
+IsCounts (numbers.Counts counted wanted) = Unit {0}
+IsCounts _ = ⊥

@@ -1,0 +1,111 @@
+//! What a table of a track counts, where that isn't what there is (ISO/IEC 14496-12, 8.6.1, 8.7.4
+//! and 8.9.2).
+ghost use Rattle.std.specs.Prelude.{◌≤◌, IfSome};
+ghost use Rattle.mp4_present.specs.words.NumbersTold.{IsCounts};
+
+use crate::fault_details::FaultNumbers;
+use crate::fault_gaps::{child_at, child_of};
+use mp4_boxes::{BoxView, FourCc, u32_at};
+use mp4_head::MovieHead;
+
+// How many samples an `stbl` has, by its `stsz` or `stz2`.
+fn samples_in(stbl: BoxView) -> Option<u64> {
+    let sizes = match child_of(stbl, FourCc(*b"stsz")) {
+        Some(leaf) => leaf,
+        None => child_of(stbl, FourCc(*b"stz2"))?,
+    };
+    if sizes.payload().len() < 12 {
+        return None;
+    }
+    Some(u64::from(u32_at(sizes.payload(), 8)))
+}
+
+// How many samples rows of eight bytes count, which follow their number at a place.
+fn counted_by_rows(payload: &[u8], place: usize) -> Option<u64>
+    requires { place ≤ 12 }
+{
+    if payload.len() < place + 4 {
+        return None;
+    }
+    let count = u32_at(payload, place);
+    if (payload.len() - place - 4) / 8 < count as usize {
+        return None;
+    }
+    let mut counted = 0u64;
+    for k in 0..count {
+        let row = u32_at(payload, place + 4 + 8 * k as usize);
+        counted = counted.saturating_add(u64::from(row));
+    }
+    Some(counted)
+}
+
+// How many chunks an `stbl` has.
+fn chunks_in(stbl: BoxView) -> Option<u32> {
+    let offsets = match child_of(stbl, FourCc(*b"stco")) {
+        Some(leaf) => leaf,
+        None => child_of(stbl, FourCc(*b"co64"))?,
+    };
+    if offsets.payload().len() < 8 {
+        return None;
+    }
+    Some(u32_at(offsets.payload(), 4))
+}
+
+// How many samples the rows of an `stsc` count, where there are so many chunks.
+fn counted_by_chunks(payload: &[u8], chunks: u32) -> Option<u64> {
+    if payload.len() < 8 {
+        return None;
+    }
+    let count = u32_at(payload, 4);
+    if (payload.len() - 8) / 12 < count as usize {
+        return None;
+    }
+    let end = u64::from(chunks) + 1;
+    let mut counted = 0u64;
+    for k in 0..count {
+        let at = 8 + 12 * k as usize;
+        let first = u64::from(u32_at(payload, at));
+        let next = if k + 1 < count {
+            u64::from(u32_at(payload, at + 12)).min(end)
+        } else {
+            end
+        };
+        let samples = u64::from(u32_at(payload, at + 4));
+        counted = counted.saturating_add(next.saturating_sub(first).saturating_mul(samples));
+    }
+    Some(counted)
+}
+
+// How many samples a table of an `stbl` counts.
+fn counted_in(stbl: BoxView, leaf: BoxView) -> Option<u64> {
+    let payload = leaf.payload();
+    match &leaf.kind().0 {
+        b"stts" | b"ctts" => counted_by_rows(payload, 4),
+        b"stsc" => counted_by_chunks(payload, chunks_in(stbl)?),
+        b"sbgp" if !payload.is_empty() && payload[0] == 0 => counted_by_rows(payload, 8),
+        b"sbgp" => counted_by_rows(payload, 12),
+        _ => None,
+    }
+}
+
+// The same, where a table of the track stands at a place of the file.
+fn counts_of(stbl: BoxView, place: u64) -> Option<FaultNumbers>
+    ensures { IfSome result IsCounts }
+{
+    let leaf = child_at(stbl, place)?;
+    let counted = counted_in(stbl, leaf)?;
+    let wanted = samples_in(stbl)?;
+    Some(FaultNumbers::Counts { counted, wanted })
+}
+
+/// What the table at a place of the file counts, and how many samples its track has.
+pub(crate) fn counts_in_tables(head: &MovieHead, place: u64) -> Option<FaultNumbers>
+    ensures { IfSome result IsCounts }
+{
+    for track in &head.tracks {
+        if let Some(counts) = counts_of(track.stbl, place) {
+            return Some(counts);
+        }
+    }
+    None
+}

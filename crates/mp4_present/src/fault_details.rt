@@ -1,0 +1,121 @@
+//! Numbers that go with a fault: what a table counts and what there is, which time is due.
+ghost use Rattle.std.specs.Prelude.{◌≡◌, ◌+◌, length, IfOk, IfErr, IfSome, OnOk, IsTrue};
+ghost use Rattle.mp4_store.specs.words.Device.{range};
+ghost use Rattle.mp4_present.specs.format.FaultNumbers.{Tells};
+ghost use Rattle.mp4_present.specs.words.NumbersTold.{RefusesNumbers, RefusesSearch};
+ghost use Rattle.mp4_present.specs.words.Movies.{Fills};
+ghost use Rattle.mp4_present.specs.words.Opening.{HasOutline};
+ghost use Rattle.mp4_present.specs.words.WalkSteps.{OpensWithin};
+
+use crate::fault_counts::counts_in_tables;
+use crate::fault_gaps::gap_in_fragments;
+use crate::outline::{Outline, read_outline};
+use crate::reading::read_bytes;
+use crate::tables_pass::check_tables;
+use mp4_boxes::{Fault, Kind, Refusal, Steps};
+use mp4_head::read_head;
+use mp4_store::Store;
+use std::alloc::Global;
+use std::sync::ledger::Ledger;
+
+/// Numbers that go with a fault.
+#[derive(Clone, Copy, Debug, PartialEq, Eq)]
+pub enum FaultNumbers {
+    /// The samples of a `traf` of this track begin at the time `found`, where `due` is due: the end
+    /// of the track up to that `traf`, in its timescale.
+    Gap { track: u32, due: u64, found: u64 },
+    /// What the named table counts, and how many samples there are.
+    Counts { counted: u64, wanted: u64 },
+}
+
+// The same, of a file with this outline and this `moov`; or a fault that comes before what is asked
+// for.
+fn numbers_behind<S: Store, L: Ledger>(
+    alloc: Global,
+    fault: &Fault,
+    store: &mut S,
+    outline: &Outline,
+    moov: &[u8],
+    steps: &mut Steps<L>,
+) -> Result<Option<FaultNumbers>, Refusal>
+    requires fills { Fills (length moov.now) outline.now.moov }
+    requires bytes { IsTrue (S.is_honest store.old)
+        → moov.now ≡ range (S.file store.old) (outline.now.moov.offset
+        + outline.now.moov.header.header) (length moov.now) }
+    requires outline { HasOutline (S.is_honest store.old) (S.file store.old) outline.now }
+    ensures honesty { S.is_honest store.new ≡ S.is_honest store.old }
+    ensures file { S.file store.new ≡ S.file store.old }
+    ensures told { IfOk result (λ told. IfSome told (λ n. IsTrue (S.is_honest store.old)
+        → Tells (S.file store.old) fault.now.offset n)) }
+    ensures within { IsTrue (S.is_honest store.old)
+        → OpensWithin (S.file store.old) steps.old steps.new }
+    ensures reads { OnOk result (S.read_failures store.new ≡ S.read_failures store.old) }
+    ensures refusal { IfErr result
+        (RefusesSearch (S.is_honest store.old) (S.read_failures store.old)
+        (S.read_failures store.new)) }
+{
+    let view = outline.moov.view(moov);
+    let head = read_head(alloc, view)?;
+    if fault.kind == Kind::CountMismatch {
+        return Ok(counts_in_tables(&head, fault.offset));
+    }
+    let plain = check_tables(alloc, view, &head, store.len(), steps)?;
+    let told = gap_in_fragments(alloc, store, outline, &plain, fault.offset, steps)?;
+    Ok(told)
+}
+
+// The same, of a file that is read once more.
+fn numbers_in<S: Store, L: Ledger>(
+    alloc: Global,
+    fault: &Fault,
+    store: &mut S,
+    steps: &mut Steps<L>,
+) -> Result<Option<FaultNumbers>, Refusal>
+    ensures honesty { S.is_honest store.new ≡ S.is_honest store.old }
+    ensures file { S.file store.new ≡ S.file store.old }
+    ensures told { IfOk result (λ told. IfSome told (λ n. IsTrue (S.is_honest store.old)
+        → Tells (S.file store.old) fault.now.offset n)) }
+    ensures within { IsTrue (S.is_honest store.old)
+        → OpensWithin (S.file store.old) steps.old steps.new }
+    ensures reads { OnOk result (S.read_failures store.new ≡ S.read_failures store.old) }
+    ensures refusal { IfErr result
+        (RefusesSearch (S.is_honest store.old) (S.read_failures store.old)
+        (S.read_failures store.new)) }
+{
+    let outline = read_outline(store)?;
+    let at = outline.moov.payload_offset();
+    let moov = read_bytes(alloc, store, at, outline.moov.header.end - at)?;
+    let told = numbers_behind(alloc, fault, store, &outline, moov.as_slice(), steps)?;
+    Ok(told)
+}
+
+/// Numbers that go with a fault for which a file was refused, where some are to be had. The file
+/// is read once more, as far as the fault, with no more memory than to open it.
+pub fn fault_numbers<S: Store, L: Ledger>(
+    alloc: Global,
+    fault: &Fault,
+    store: &mut S,
+    steps: &mut Steps<L>,
+) -> Result<Option<FaultNumbers>, Refusal>
+    ensures honesty { S.is_honest store.new ≡ S.is_honest store.old }
+    ensures file { S.file store.new ≡ S.file store.old }
+    ensures told { IfOk result (λ told. IfSome told (λ n. IsTrue (S.is_honest store.old)
+        → Tells (S.file store.old) fault.now.offset n)) }
+    ensures within { IsTrue (S.is_honest store.old)
+        → OpensWithin (S.file store.old) steps.old steps.new }
+    ensures reads { IfOk result (λ told. IfSome told
+        (λ _. S.read_failures store.new ≡ S.read_failures store.old)) }
+    ensures refusal { IfErr result
+        (RefusesNumbers (S.is_honest store.old) (S.read_failures store.old)
+        (S.read_failures store.new)) }
+{
+    match fault.kind {
+        Kind::Gap | Kind::CountMismatch => {}
+        _ => return Ok(None),
+    }
+    match numbers_in(alloc, fault, store, steps) {
+        Ok(told) => Ok(told),
+        Err(Refusal::Fault(_)) => Ok(None),
+        Err(refusal) => Err(refusal),
+    }
+}

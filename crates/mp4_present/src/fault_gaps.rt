@@ -1,0 +1,283 @@
+//! The time that is due where a fragment begins at another one (ISO/IEC 14496-12, 8.8.12).
+ghost use Rattle.std.specs.Prelude.{◌≡◌, ◌+◌, ◌-◌, ◌*◌, ◌^◌, ◌≤◌, ◌==◌, List, length, take, find, IfOk, IfErr, IfSome, OnOk, IsTrue};
+ghost use Rattle.mp4_boxes.specs.format.Bytes.{field};
+ghost use Rattle.mp4_boxes.specs.format.Box.{Box};
+ghost use Rattle.mp4_boxes.specs.words.View.{box_seen};
+ghost use Rattle.mp4_frag.specs.format.Fragments.{decode_time_of};
+ghost use Rattle.mp4_present.specs.format.FaultNumbers.{IsChildOf, SaysTime, Tells};
+ghost use Rattle.mp4_frag.specs.words.States.{HaveRoom};
+ghost use Rattle.mp4_head.specs.format.Tree.{MovieTree};
+ghost use Rattle.mp4_frag.specs.declared.state.TrackState.{TrackState};
+ghost use Rattle.mp4_present.specs.words.NumbersTold.{ComesNext, FindsIn, IsReached, moof_read, RefusesSearch, StepsFit};
+ghost use Rattle.mp4_present.specs.words.Movies.{Fills};
+ghost use Rattle.mp4_present.specs.words.Opening.{HasOutline};
+ghost use Rattle.mp4_present.specs.words.PassedMoofs.{IsBegun};
+
+use crate::fault_details::FaultNumbers;
+use crate::fragments::next_fragment;
+use crate::outline::Outline;
+use crate::reading::{TopBox, read_payload};
+use crate::tables_pass::PlainTracks;
+use crate::totals::in_64_bits;
+use mp4_boxes::{BoxView, Fault, FourCc, Refusal, Steps, TopHeader, children, u32_at, u64_at};
+use mp4_frag::{TrackState, check_moof};
+use mp4_store::Store;
+use std::alloc::Global;
+use std::sync::ledger::Ledger;
+
+const TFHD: FourCc = FourCc(*b"tfhd");
+
+const TFDT: FourCc = FourCc(*b"tfdt");
+
+// A `moof`, with the room for samples that is left before it.
+#[derive(Clone, Copy)]
+struct Reached {
+    moof: TopBox,
+    room: u32,
+}
+
+/// The child in which a place of the file lies.
+pub(crate) fn child_at<'a>(container: BoxView<'a>, place: u64) -> Option<BoxView<'a>>
+    ensures { IfSome result
+        (λ b. IsChildOf (box_seen container.entry) (box_seen b)) }
+{
+    let Ok(boxes) = children(
+        container.payload(),
+        container.payload_offset(),
+        container.kind(),
+    ) else {
+        return None;
+    };
+    for child in boxes {
+        let end = child.payload_offset() + child.payload().len() as u64;
+        if child.offset() <= place && place < end {
+            return Some(child);
+        }
+    }
+    None
+}
+
+/// The first child of a type.
+pub(crate) fn child_of<'a>(container: BoxView<'a>, kind: FourCc) -> Option<BoxView<'a>>
+    ensures child { IfSome result
+        (λ b. IsChildOf (box_seen container.entry) (box_seen b)) }
+    ensures kind { IfSome result (λ b. (box_seen b).kind ≡ kind.0) }
+{
+    let Ok(boxes) = children(
+        container.payload(),
+        container.payload_offset(),
+        container.kind(),
+    ) else {
+        return None;
+    };
+    for child in boxes {
+        if child.kind() == kind {
+            return Some(child);
+        }
+    }
+    None
+}
+
+// The decode time that a `tfdt` says.
+fn time_in(payload: &[u8]) -> Option<u64>
+    ensures { IfSome result (λ t. t ≡ decode_time_of payload.now) }
+{
+    if payload.len() < 8 {
+        return None;
+    }
+    if payload[0] == 0 {
+        return Some(u64::from(u32_at(payload, 4)));
+    }
+    if payload[0] > 1 || payload.len() < 12 {
+        return None;
+    }
+    Some(u64_at(payload, 4))
+}
+
+// The ID that a `tfhd` says.
+fn track_in(payload: &[u8]) -> Option<u32>
+    ensures { IfSome result (λ id. id ≡ field payload.now 4 4) }
+{
+    if payload.len() < 8 {
+        return None;
+    }
+    Some(u32_at(payload, 4))
+}
+
+// The track with an ID.
+fn state_with(states: &[TrackState], id: u32) -> Option<TrackState>
+    ensures { result ≡ find (λ (t : TrackState). t.id == id) states.now }
+{
+    for state in states {
+        if state.id == id {
+            return Some(*state);
+        }
+    }
+    None
+}
+
+// A `moof` of which these are the bytes behind its header, up to a place in it.
+fn front_of<'a>(top: TopBox, bytes: &'a [u8], place: u64) -> Option<BoxView<'a>>
+    requires { Fills (length bytes.now) top }
+    ensures { IfSome result (λ v. box_seen v ≡ record {
+      kind = top.header.kind.0;
+      offset = top.offset;
+      header = top.header.header;
+      payload = take (place - (top.offset + top.header.header)) bytes.entry.now;
+    }) }
+{
+    let start = top.payload_offset();
+    if place < start || place - start > bytes.len() as u64 {
+        return None;
+    }
+    let header = TopHeader {
+        end: place,
+        ..top.header
+    };
+    let front = TopBox {
+        offset: top.offset,
+        header,
+    };
+    Some(front.view(&bytes[..(place - start) as usize]))
+}
+
+// What a `traf` says of its track, where its `tfdt` stands at a place.
+fn said_in(traf: BoxView, place: u64) -> Option<(u32, u64)>
+    ensures { IfSome result (λ said. (moof : Box)
+        → IsChildOf moof (box_seen traf.entry)
+        → SaysTime moof place (box_seen traf.entry) said.0 said.1) }
+{
+    let tfdt = child_of(traf, TFDT)?;
+    if tfdt.offset() != place {
+        return None;
+    }
+    let found = time_in(tfdt.payload())?;
+    let tfhd = child_of(traf, TFHD)?;
+    let track = track_in(tfhd.payload())?;
+    Some((track, found))
+}
+
+// What is due and what is found where a `tfdt` stands at a place in this `moof`. The tracks are
+// moved on by what comes before its `traf`.
+fn gap_in<L: Ledger>(
+    top: TopBox,
+    bytes: &[u8],
+    place: u64,
+    file_len: u64,
+    states: &mut [TrackState],
+    room: u32,
+    steps: &mut Steps<L>,
+) -> Result<Option<FaultNumbers>, Fault>
+    requires fills { Fills (length bytes.now) top }
+    requires few { room ≤ 2 ^ 24 }
+    requires room { HaveRoom room states.old }
+    ensures finds { IfOk result (λ told. IfSome told
+        (FindsIn file_len (moof_read top bytes.now) states.old room place)) }
+    ensures work { 2 * steps.new ≤ 2 * steps.old + 2 * room + length bytes.now }
+{
+    let Some(traf) = child_at(top.view(bytes), place) else {
+        return Ok(None);
+    };
+    let Some((track, found)) = said_in(traf, place) else {
+        return Ok(None);
+    };
+    let Some(front) = front_of(top, bytes, traf.offset()) else {
+        return Ok(None);
+    };
+    let mut room = room;
+    check_moof(front, file_len, states, &mut room, steps)?;
+    let Some(state) = state_with(states, track) else {
+        return Ok(None);
+    };
+    let due = in_64_bits(state.time);
+    Ok(Some(FaultNumbers::Gap { track, due, found }))
+}
+
+// The `moof` in which a place lies, where there is one. The tracks are moved on by those before it.
+fn pass_until<S: Store, L: Ledger>(
+    store: &mut S,
+    outline: &Outline,
+    states: &mut [TrackState],
+    bytes: &mut [u8],
+    room: u32,
+    place: u64,
+    steps: &mut Steps<L>,
+) -> Result<Option<Reached>, Refusal>
+    requires few { room ≤ 2 ^ 24 }
+    requires room { HaveRoom room states.old }
+    requires outline { HasOutline (S.is_honest store.old) (S.file store.old) outline.now }
+    requires longest { length bytes.old ≡ outline.now.longest }
+    ensures honesty { S.is_honest store.new ≡ S.is_honest store.old }
+    ensures file { S.file store.new ≡ S.file store.old }
+    ensures bytes { length bytes.new ≡ length bytes.old }
+    ensures reached { IfOk result (λ found. IfSome found (IsReached (length (S.file store.old)))) }
+    ensures room { IfOk result (λ found. IfSome found (λ r. HaveRoom r.room states.new)) }
+    ensures fits { IfOk result (λ found. IfSome found (λ r. IsTrue (S.is_honest store.old)
+        → r.moof.header.end ≤ r.moof.offset + length bytes.old)) }
+    ensures next { IfOk result (λ found. IfSome found (λ r. IsTrue (S.is_honest store.old)
+        → (movie : MovieTree) (boxes : List Box)
+        → IsBegun (S.file store.old) movie boxes states.old room
+        → ComesNext (S.file store.old) movie r states.new)) }
+    ensures left { IfOk result (λ found. IfSome found (λ r. IsTrue (S.is_honest store.old)
+        → StepsFit (length (S.file store.old)) r.moof.offset r.room steps.old steps.new)) }
+    ensures within { IsTrue (S.is_honest store.old)
+        → steps.new ≤ steps.old + (2 ^ 24 + length (S.file store.old)) }
+    ensures reads { OnOk result (S.read_failures store.new ≡ S.read_failures store.old) }
+    ensures refusal { IfErr result
+        (RefusesSearch (S.is_honest store.old) (S.read_failures store.old)
+        (S.read_failures store.new)) }
+{
+    let file_len = store.len();
+    let mut room = room;
+    let mut next = outline.fragments.unwrap_or(file_len);
+    while let Some(top) = next_fragment(store, next)? {
+        if place < top.header.end {
+            return Ok(Some(Reached { moof: top, room }));
+        }
+        let len = read_payload(store, top, bytes)?;
+        let moof = top.view(&bytes[..len]);
+        check_moof(moof, file_len, states, &mut room, steps)?;
+        next = top.header.end;
+    }
+    Ok(None)
+}
+
+/// What is due and what is found where a `tfdt` stands at a place of the file, behind tables that
+/// were checked.
+pub(crate) fn gap_in_fragments<S: Store, L: Ledger>(
+    alloc: Global,
+    store: &mut S,
+    outline: &Outline,
+    plain: &PlainTracks,
+    place: u64,
+    steps: &mut Steps<L>,
+) -> Result<Option<FaultNumbers>, Refusal>
+    requires few { plain.now.room ≤ 2 ^ 24 }
+    requires room { HaveRoom plain.now.room plain.now.states.items }
+    requires outline { HasOutline (S.is_honest store.old) (S.file store.old) outline.now }
+    ensures honesty { S.is_honest store.new ≡ S.is_honest store.old }
+    ensures file { S.file store.new ≡ S.file store.old }
+    ensures told { IfOk result (λ told. IfSome told (λ n. IsTrue (S.is_honest store.old)
+        → (movie : MovieTree) (boxes : List Box)
+        → IsBegun (S.file store.old) movie boxes plain.now.states.items plain.now.room
+        → Tells (S.file store.old) place n)) }
+    ensures within { IsTrue (S.is_honest store.old)
+        → steps.new ≤ steps.old + (2 ^ 24 + length (S.file store.old)) }
+    ensures reads { OnOk result (S.read_failures store.new ≡ S.read_failures store.old) }
+    ensures refusal { IfErr result
+        (RefusesSearch (S.is_honest store.old) (S.read_failures store.old)
+        (S.read_failures store.new)) }
+{
+    let mut states = Vec::new(alloc);
+    states.extend_from_slice(plain.states.as_slice())?;
+    let states = states.as_mut_slice();
+    let mut bytes = vec![in alloc; 0u8; outline.longest as usize]?;
+    let bytes = bytes.as_mut_slice();
+    let Some(reached) = pass_until(store, outline, states, bytes, plain.room, place, steps)? else {
+        return Ok(None);
+    };
+    let Reached { moof, room } = reached;
+    let len = read_payload(store, moof, bytes)?;
+    let told = gap_in(moof, &bytes[..len], place, store.len(), states, room, steps)?;
+    Ok(told)
+}
