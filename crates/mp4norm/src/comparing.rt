@@ -1,5 +1,5 @@
 //! Two files, compared by what they say.
-ghost use Rattle.std.specs.Prelude.{◌≡◌, ◌+◌, ◌≤◌, IfOk, IfErr, OnOk, IsTrue};
+ghost use Rattle.std.specs.Prelude.{◌≡◌, ◌+◌, ◌<◌, ◌≤◌, length, IfOk, IfErr, IfSome, OnOk, IsTrue};
 ghost use Rattle.mp4_boxes.specs.declared.refusal.Refusal.TheVariants as refusals;
 ghost use Rattle.mp4_present.specs.words.Opening.{RefusesOpen};
 ghost use Rattle.mp4_present.specs.words.Compared.{WhereBothOpened};
@@ -106,7 +106,9 @@ impl Differences for Listed {
 }
 
 // The text of a first difference.
-fn first_text(alloc: Global, difference: Difference) -> Result<Vec<u8>, AllocError> {
+fn first_text(alloc: Global, difference: Difference) -> Result<Vec<u8>, AllocError>
+    ensures { IfOk result (λ text. 0 < length text.items) }
+{
     let mut text = Vec::new(alloc);
     say_difference(&mut text, difference)?;
     Ok(text)
@@ -120,7 +122,9 @@ fn listed_text(
     is_whole: bool,
     tally: &Tally,
     enough: Option<Leaving>,
-) -> Result<Vec<u8>, AllocError> {
+) -> Result<Vec<u8>, AllocError>
+    ensures { IfOk result (λ text. 0 < length text.items) }
+{
     let mut text = Vec::new(alloc);
     for difference in all.iter().take(limit as usize) {
         say_difference(&mut text, *difference)?;
@@ -223,6 +227,7 @@ fn all_text<S: Store, T: Store, L: Ledger>(
     ensures file_right { T.file b.new ≡ T.file b.old }
     ensures reads { OnOk result (S.read_failures a.new ≡ S.read_failures a.old) }
     ensures reads_right { OnOk result (T.read_failures b.new ≡ T.read_failures b.old) }
+    ensures some { IfOk result (λ found. IfSome found (λ text. 0 < length text.items)) }
     ensures said { IfOk result (λ text. WhereBothOpened (S.is_honest a.old) (S.file a.old)
         left.now (T.is_honest b.old) (T.file b.old) right.now (λ tree other.
         IsSaid text (files_differ leaving (S.file a.old) tree (T.file b.old) other))) }
@@ -262,6 +267,7 @@ fn text_of<S: Store, T: Store, L: Ledger>(
     ensures file_right { T.file b.new ≡ T.file b.old }
     ensures reads { OnOk result (S.read_failures a.new ≡ S.read_failures a.old) }
     ensures reads_right { OnOk result (T.read_failures b.new ≡ T.read_failures b.old) }
+    ensures some { IfOk result (λ found. IfSome found (λ text. 0 < length text.items)) }
     ensures said { IfOk result (λ text. WhereBothOpened (S.is_honest a.old) (S.file a.old)
         left.now (T.is_honest b.old) (T.file b.old) right.now (λ tree other.
         IsSaid text (files_differ leaving (S.file a.old) tree (T.file b.old) other))) }
@@ -285,6 +291,7 @@ fn text_of<S: Store, T: Store, L: Ledger>(
 
 // Puts what there is to say: that two files differ, or nothing where they are the same.
 fn put_found<K: Sink>(found: Option<Vec<u8>>, sink: &mut K) -> Result<bool, Refusal>
+    requires { IfSome found (λ text. 0 < length text.items) }
     ensures puts { OnOk result (K.put_failures sink.new ≡ K.put_failures sink.old) }
     ensures is { IfOk result (λ same. same ≡ says_nothing found) }
     ensures put { IfOk result (PutsAnswer (K.contents sink.old) (K.contents sink.new)) }

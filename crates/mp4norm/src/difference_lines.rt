@@ -1,5 +1,5 @@
 //! The line that tells of a difference.
-ghost use Rattle.std.specs.Prelude.{◌≤◌};
+ghost use Rattle.std.specs.Prelude.{◌<◌, ◌≤◌, length, OnOk};
 
 use crate::digits::{hex_digit, write_digits};
 use crate::line::Line;
@@ -11,6 +11,14 @@ use std::alloc::AllocError;
 /// Adds words to a text.
 pub(crate) fn say(text: &mut Vec<u8>, words: &str) -> Result<(), AllocError> {
     text.extend_from_slice(words.as_bytes())
+}
+
+/// Ends a line of a text.
+pub(crate) fn end_line(text: &mut Vec<u8>) -> Result<(), AllocError>
+    ensures { OnOk result (0 < length text.new.items) }
+{
+    text.push(b'\n')?;
+    Ok(())
 }
 
 /// Adds a number in decimal digits.
@@ -202,7 +210,9 @@ fn say_value(text: &mut Vec<u8>, value: Value, digits: u32) -> Result<(), AllocE
 
 /// Adds the line that tells of a difference: the way to the value, the value in the one file, and
 /// that in the other.
-pub fn say_difference(text: &mut Vec<u8>, difference: Difference) -> Result<(), AllocError> {
+pub fn say_difference(text: &mut Vec<u8>, difference: Difference) -> Result<(), AllocError>
+    ensures { OnOk result (0 < length text.new.items) }
+{
     let digits = digits_of(difference.subject, difference.field);
     say_subject(text, difference.subject)?;
     say_field(text, difference.field)?;
@@ -210,5 +220,5 @@ pub fn say_difference(text: &mut Vec<u8>, difference: Difference) -> Result<(), 
     say_value(text, difference.left, digits)?;
     say(text, " | ")?;
     say_value(text, difference.right, digits)?;
-    say(text, "\n")
+    end_line(text)
 }

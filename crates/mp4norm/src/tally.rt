@@ -1,5 +1,7 @@
 //! How many differences of which kind there are, and which words leave them all out.
-use crate::difference_lines::{say, say_number};
+ghost use Rattle.std.specs.Prelude.{◌<◌, length, OnOk};
+
+use crate::difference_lines::{end_line, say, say_number};
 use crate::leaving_words::words_of;
 use mp4_present::{Difference, Entries, Field, Leaving, Subject, Value};
 use std::alloc::AllocError;
@@ -177,7 +179,9 @@ pub(crate) fn say_tally(
     text: &mut Vec<u8>,
     tally: &Tally,
     enough: Option<Leaving>,
-) -> Result<(), AllocError> {
+) -> Result<(), AllocError>
+    ensures { OnOk result (0 < length text.new.items) }
+{
     let total = tally.total();
     say_number(text, total)?;
     say(
@@ -196,5 +200,5 @@ pub(crate) fn say_tally(
         }
         None => say(text, "; no words of --without make them the same")?,
     }
-    say(text, "\n")
+    end_line(text)
 }

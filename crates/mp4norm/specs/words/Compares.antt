@@ -43,7 +43,7 @@ WalksTwice tree other old new = new ≤ old + 2 * (walks_steps tree + walks_step
 -- nothing was put where two files are the same, else some text
 abbrev pub PutsAnswer : Option (List ℕ) → Option (List ℕ) → Bool → Type 0
 PutsAnswer before after true = after ≡ before
-PutsAnswer before after false = (text : List ℕ) × Appends before after text
+PutsAnswer before after false = (text : List ℕ) × (0 < length text) × Appends before after text
 
 -- ---- stores
 
