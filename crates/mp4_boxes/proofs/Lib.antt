@@ -16,3 +16,4 @@ pub mod Refusing
 pub mod OfBytes
 pub mod Sound
 pub mod Vectors
+mod TypeTexts

@@ -5,3 +5,4 @@ pub mod Layout
 pub mod Written
 pub mod Places
 pub mod BoxFaults
+pub mod FaultTexts

@@ -7,7 +7,8 @@
 //!   asks whether each may stand there, and how often ([`Rule`] is the table of containers).
 //! - [`full`] reads version and flags, [`u32_at`] and its kin the numbers behind them.
 //! - [`Fault`] is what a file is refused for: a kind, a box type, a place in the file. [`Refusal`]
-//!   is each reason for which a command has no answer.
+//!   is each reason for which a command has no answer. Both are errors as std has them, and print
+//!   as the program's lines do.
 //! - [`Steps`] counts work in contracts, and takes no bytes in the program.
 //!
 //! Nothing here takes memory, reads a device, or panics. To list or to check children is one pass
@@ -26,6 +27,8 @@
 //! let moov = BoxView::new(FourCc(*b"moov"), 100, 8, &bytes[8..12]);
 //! let fault = Fault::new(Kind::ShortHeader, FourCc(*b"moov"), 108);
 //! assert_eq!(rt; check_children(moov, Rule::Movie).err(), Some(fault));
+//! let text = format!(in rt.alloc(); "{fault}")?;
+//! assert_eq!(rt; text.as_str(), "ShortHeader in moov at 108");
 //! ```
 #![tactic(auto)]
 
@@ -40,6 +43,7 @@ mod rule;
 mod sequence;
 mod spelling;
 mod steps;
+mod texts;
 mod view;
 mod writing;
 

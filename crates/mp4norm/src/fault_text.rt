@@ -1,42 +1,11 @@
 //! What is said of a refusal: a line on standard error, and a status.
-ghost use Rattle.std.specs.Prelude.{◌≡◌, ◌≤◌, length};
-ghost use Rattle.mp4norm.specs.format.Texts.{kind_text, fault_line, status_of};
+ghost use Rattle.std.specs.Prelude.{◌≡◌};
+ghost use Rattle.mp4norm.specs.format.Texts.{fault_line, status_of};
 
 use crate::line::Line;
-use mp4_boxes::{FourCc, Kind, Refusal};
+use mp4_boxes::{FourCc, Refusal};
 
-fn name_of(kind: Kind) -> &'static [u8]
-    ensures name { result.now ≡ kind_text kind }
-    ensures short { length result.now ≤ 19 }
-{
-    match kind {
-        Kind::ShortHeader => b"ShortHeader",
-        Kind::BadSize => b"BadSize",
-        Kind::Overrun => b"Overrun",
-        Kind::ShortBox => b"ShortBox",
-        Kind::BoxNotInProfile => b"BoxNotInProfile",
-        Kind::DuplicateBox => b"DuplicateBox",
-        Kind::MissingBox => b"MissingBox",
-        Kind::BadVersion => b"BadVersion",
-        Kind::BadFlags => b"BadFlags",
-        Kind::BadValue => b"BadValue",
-        Kind::OutsideData => b"OutsideData",
-        Kind::CountMismatch => b"CountMismatch",
-        Kind::BadOrder => b"BadOrder",
-        Kind::BadDescriptionIndex => b"BadDescriptionIndex",
-        Kind::SampleOutsideFile => b"SampleOutsideFile",
-        Kind::UnknownTrack => b"UnknownTrack",
-        Kind::Gap => b"Gap",
-        Kind::OffsetTooLarge => b"OffsetTooLarge",
-        Kind::ItemLocation => b"ItemLocation",
-        Kind::TooManySamples => b"TooManySamples",
-        Kind::TimeTooLarge => b"TimeTooLarge",
-        Kind::MovieTooLarge => b"MovieTooLarge",
-        Kind::FragmentBeforeMovie => b"FragmentBeforeMovie",
-    }
-}
-
-/// What is said of a refusal, without the line feed.
+/// What is said of a refusal, without the line feed: its text, in a line of its own.
 pub fn fault_line(refusal: &Refusal) -> Line
     ensures { result ≡ fault_line refusal.now }
 {
@@ -45,7 +14,7 @@ pub fn fault_line(refusal: &Refusal) -> Line
         Refusal::Fault(fault) => {
             let box_type = fault.box_type;
             line.push_bytes(b"refused: ");
-            line.push_bytes(name_of(fault.kind));
+            line.push_bytes(fault.kind.name().as_bytes());
             line.push_bytes(b" in ");
             line.push_type(FourCc(box_type));
             line.push_bytes(b" at ");

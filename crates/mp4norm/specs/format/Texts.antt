@@ -10,8 +10,7 @@ use Rattle.mp4_boxes.specs.format.Box.{Box, Container, size, box_container, file
 use Rattle.mp4_boxes.specs.format.Places.{Scope, ruled, containers, at_kind}
 use Rattle.mp4_boxes.specs.declared.rule.Rule.{Rule}
 use Rattle.mp4_boxes.specs.declared.rule.Rule.TheVariants as rules
-use Rattle.mp4_boxes.specs.declared.fault.Kind.{Kind}
-use Rattle.mp4_boxes.specs.declared.fault.Kind.TheVariants as kinds
+pub use Rattle.mp4_boxes.specs.format.FaultTexts.{hex_digit, hex_digits, type_text, kind_text, fault_line}
 use Rattle.mp4_boxes.specs.declared.refusal.Refusal.{Refusal}
 use Rattle.mp4_boxes.specs.declared.refusal.Refusal.TheVariants as refusals
 use Rattle.mp4_tables.specs.declared.sample.SampleAt.{SampleAt}
@@ -25,55 +24,6 @@ line_feed = 10 ∷ []
 
 abbrev pub space : List ℕ
 space = 32 ∷ []
-
--- a hexadecimal digit in lower case
-abbrev pub hex_digit : ℕ → ℕ
-hex_digit d = if nat_lt d 10 then 48 + d else 87 + d
-
--- k hexadecimal digits
-abbrev pub hex_digits : ℕ → ℕ → List ℕ
-hex_digits zero n = []
-hex_digits (suc k) n = hex_digit (n / 16 ^ k % 16) ∷ hex_digits k n
-
--- a box's type: its four characters if all can be printed, else hexadecimal
-abbrev pub type_text : List ℕ → List ℕ
-type_text kind = if list_all (λ b. nat_le 32 b && nat_le b 126) kind then kind
-    else flat_map (hex_digits 2) kind
-
-abbrev pub kind_text : Kind → List ℕ
-kind_text kinds.ShortHeader = codes "ShortHeader"
-kind_text kinds.BadSize = codes "BadSize"
-kind_text kinds.Overrun = codes "Overrun"
-kind_text kinds.ShortBox = codes "ShortBox"
-kind_text kinds.BoxNotInProfile = codes "BoxNotInProfile"
-kind_text kinds.DuplicateBox = codes "DuplicateBox"
-kind_text kinds.MissingBox = codes "MissingBox"
-kind_text kinds.BadVersion = codes "BadVersion"
-kind_text kinds.BadFlags = codes "BadFlags"
-kind_text kinds.BadValue = codes "BadValue"
-kind_text kinds.OutsideData = codes "OutsideData"
-kind_text kinds.CountMismatch = codes "CountMismatch"
-kind_text kinds.BadOrder = codes "BadOrder"
-kind_text kinds.BadDescriptionIndex = codes "BadDescriptionIndex"
-kind_text kinds.SampleOutsideFile = codes "SampleOutsideFile"
-kind_text kinds.UnknownTrack = codes "UnknownTrack"
-kind_text kinds.Gap = codes "Gap"
-kind_text kinds.OffsetTooLarge = codes "OffsetTooLarge"
-kind_text kinds.ItemLocation = codes "ItemLocation"
-kind_text kinds.TooManySamples = codes "TooManySamples"
-kind_text kinds.TimeTooLarge = codes "TimeTooLarge"
-kind_text kinds.MovieTooLarge = codes "MovieTooLarge"
-kind_text kinds.FragmentBeforeMovie = codes "FragmentBeforeMovie"
-
--- the line on standard error, without its line feed
-abbrev pub fault_line : Refusal → List ℕ
-fault_line (refusals.Fault f) = codes "refused: " ++ kind_text f.kind ++ codes " in "
-    ++ type_text f.box_type ++ codes " at " ++ decimal f.offset
-fault_line refusals.Memory = codes "failed: memory"
-fault_line refusals.StoreFailed = codes "failed: store"
-fault_line refusals.StoreChanged = codes "failed: store changed"
-fault_line refusals.WriteFailed = codes "failed: write"
-fault_line refusals.NoSuchTrack = codes "failed: no such track"
 
 -- the status that the program ends with
 abbrev pub status_of : Refusal → ℕ
