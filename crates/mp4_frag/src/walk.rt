@@ -5,6 +5,7 @@ ghost use Rattle.mp4_tables.specs.words.Keys.{keys_seen};
 ghost use Rattle.mp4_frag.specs.format.FragmentSamples.{flags_of as flags_by};
 ghost use Rattle.mp4_frag.specs.words.ColumnsRead.{row_room};
 ghost use Rattle.mp4_frag.specs.words.PlacesIn.{LiesIn, IsPlaceIn, IsRowPlace, AreIndexPlaces, run_work, runs_work, group_work, groups_work, work_behind, moof_work};
+ghost use Rattle.mp4_frag.specs.words.Finding.{IsKnown};
 ghost use Rattle.mp4_frag.specs.words.Looks.{AreOthers, is_named, over_run, over_work};
 ghost use Rattle.mp4_frag.specs.words.Times.{time_behind};
 ghost use Rattle.mp4_frag.specs.words.Walks.{Walk, Reached, at_first, rows_here, trafs_coming, row_signed, first_byte, part_of, boxes_between, trex_among, with_head, all_indexes, with_group, with_leaves, before_traf, end_held, rows_coming, run_coming, runs_coming, reached, walk_of, coming, begin as begin_by};
@@ -52,17 +53,28 @@ fn open_group(payload: &[u8], lying: Lying, place: &mut FragPlace)
 }
 
 // What the fragments of the track with this ID inherit, if it is there.
-fn trex_of(tracks: &[TrackState], id: u32) -> Option<Trex>
-    ensures { result ≡ trex_among tracks.now id }
+fn trex_of(tracks: &[TrackState], id: u32, known: &mut Known) -> Option<Trex>
+    requires known { IsKnown tracks.now known.old }
+    ensures known { IsKnown tracks.now known.new }
+    ensures trex { result ≡ trex_among tracks.now id }
 {
-    let k = find_track(tracks, id, &mut Known::first())?;
+    let k = find_track(tracks, id, known)?;
     tracks[k].trex
 }
 
 // Takes what the `tfhd` says.
-fn open_head(payload: &[u8], moof: u64, tracks: &[TrackState], lying: Lying, place: &mut FragPlace)
+fn open_head(
+    payload: &[u8],
+    moof: u64,
+    tracks: &[TrackState],
+    lying: Lying,
+    known: &mut Known,
+    place: &mut FragPlace,
+)
     requires inside { lying.inside ≤ lying.end }
     requires within { lying.end ≤ length payload.now }
+    requires known { IsKnown tracks.now known.old }
+    ensures known { IsKnown tracks.now known.new }
     ensures same { place.new ≡ record place.old {
       is_own = place.new.is_own;
       base = place.new.base;
@@ -76,7 +88,7 @@ fn open_head(payload: &[u8], moof: u64, tracks: &[TrackState], lying: Lying, pla
     let Ok(head) = read_head(&payload[lying.inside..lying.end]) else {
         return;
     };
-    let Some(trex) = trex_of(tracks, head.id) else {
+    let Some(trex) = trex_of(tracks, head.id, known) else {
         return;
     };
     let base = base_of(head, moof, place.at);
@@ -87,9 +99,18 @@ fn open_head(payload: &[u8], moof: u64, tracks: &[TrackState], lying: Lying, pla
 }
 
 // Goes before the first run of a `traf`: its `tfhd` and each `sbgp` may stand behind runs.
-fn open_traf(payload: &[u8], moof: u64, tracks: &[TrackState], lying: Lying, place: &mut FragPlace)
+fn open_traf(
+    payload: &[u8],
+    moof: u64,
+    tracks: &[TrackState],
+    lying: Lying,
+    known: &mut Known,
+    place: &mut FragPlace,
+)
     requires inside { lying.inside ≤ lying.end }
     requires within { lying.end ≤ length payload.now }
+    requires known { IsKnown tracks.now known.old }
+    ensures known { IsKnown tracks.now known.new }
     ensures next { place.new.next ≡ lying.inside }
     ensures end { place.new.traf_end ≡ lying.end }
     ensures same { (place.new.track ≡ place.old.track) × (place.new.keys ≡ place.old.keys)
@@ -115,7 +136,7 @@ fn open_traf(payload: &[u8], moof: u64, tracks: &[TrackState], lying: Lying, pla
         };
         at = child.end;
         if child.kind == TFHD {
-            open_head(payload, moof, tracks, child, place);
+            open_head(payload, moof, tracks, child, known, place);
         } else if child.kind == SBGP {
             open_group(payload, child, place);
         }
@@ -241,12 +262,15 @@ fn pass_traf(
     moof: u64,
     tracks: &[TrackState],
     lying: Lying,
+    known: &mut Known,
     place: FragPlace,
 ) -> FragPlace
     requires inside { lying.inside ≤ lying.end }
     requires within { lying.end ≤ length payload.now }
+    requires known { IsKnown tracks.now known.old }
     requires other { is_named place.track (boxes_between payload.now lying.inside lying.end)
         ≡ false }
+    ensures known { IsKnown tracks.now known.new }
     ensures same { (result.track ≡ place.track) × (result.keys ≡ place.keys)
         × (result.run ≡ place.run) }
     ensures time { result.dts ≡ place.dts }
@@ -262,7 +286,7 @@ fn pass_traf(
         ≡ more (reached payload.now result) }
 {
     let mut passed = place;
-    open_traf(payload, moof, tracks, lying, &mut passed);
+    open_traf(payload, moof, tracks, lying, known, &mut passed);
     let mut at = lying.inside;
     while at < lying.end {
         let Some(child) = box_at(payload, at, lying.end) else {
@@ -283,10 +307,13 @@ fn pass_others(
     tracks: &[TrackState],
     from: usize,
     boxes: usize,
+    known: &mut Known,
     place: FragPlace,
 ) -> FragPlace
+    requires known { IsKnown tracks.now known.old }
     requires others { AreOthers place.track boxes
         (boxes_between payload.now from (length payload.now)) }
+    ensures known { IsKnown tracks.now known.new }
     ensures same { (result.track ≡ place.track) × (result.keys ≡ place.keys)
         × (result.run ≡ place.run) }
     ensures time { result.dts ≡ place.dts }
@@ -306,7 +333,7 @@ fn pass_others(
             return passed;
         };
         if child.kind == TRAF {
-            passed = pass_traf(payload, moof, tracks, child, passed);
+            passed = pass_traf(payload, moof, tracks, child, known, passed);
         }
         at = child.end;
         left -= 1;
@@ -336,10 +363,12 @@ fn next_traf(payload: &[u8], moof: u64, tracks: &[TrackState], place: &mut FragP
         place.traf_end = payload.len();
         return;
     };
+    let mut known = Known::first();
     if !ahead.is_based {
-        *place = pass_others(payload, moof, tracks, place.next, ahead.boxes, *place);
+        let (from, boxes) = (place.next, ahead.boxes);
+        *place = pass_others(payload, moof, tracks, from, boxes, &mut known, *place);
     }
-    open_traf(payload, moof, tracks, traf, place);
+    open_traf(payload, moof, tracks, traf, &mut known, place);
 }
 
 // Goes behind the next box: in the `traf` in hand, or of the `moof`.

@@ -10,4 +10,4 @@ returns-clause-reached c =
     let same : to_z w128 (of_z w128 c.base_of-base.result) ≡ c.base_of-base.result = search rules in
     let before : to_z w128 (of_z w128 c.args.place.now.at) ≡ c.args.place.now.at = search rules in
     rw (same, c.what_is_inherited-place.ensures, c.base_of-base.ensures.is, before)
-    (head_taken (walk_of c.args.moof c.args.tracks.now c.args.place.now) (reached c.args.payload.now c.args.place.now) part c.in-Ok.head (Some c.in-Some.trex) c.in-Ok.ensures.head c.in-Some.ensures)
+    (head_taken (walk_of c.args.moof c.args.tracks.now c.args.place.now) (reached c.args.payload.now c.args.place.now) part c.in-Ok.head (Some c.in-Some.trex) c.in-Ok.ensures.head c.in-Some.ensures.trex)

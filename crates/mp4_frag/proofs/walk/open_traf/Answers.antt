@@ -13,6 +13,7 @@ loop-at-preserved c =
     let o = c.in-Some.ensures.order in
     let work = i.work in
     record {
+      known = i.known;
       within = o.2;
       indexes = i.indexes;
       work = omega (arith, work, groups_fall c.args.payload.now c.loop-at.at child.inside child.end c.args.lying.end child.kind.0 c.in-Some.ensures.some);
@@ -31,6 +32,7 @@ loop-at-preserved-then-eq c =
     let work = i.work in
     let passed : c.open_head.new.place.passed ≡ c.loop-at.place.passed = ap (λ (p : FragPlace). p.passed) c.open_head.ensures.same in
     record {
+      known = c.open_head.ensures.known;
       within = o.2;
       indexes = search rules;
       work = omega (arith, work, passed, groups_fall c.args.payload.now c.loop-at.at child.inside child.end c.args.lying.end child.kind.0 c.in-Some.ensures.some);

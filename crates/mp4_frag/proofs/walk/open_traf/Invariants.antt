@@ -1,4 +1,5 @@
 use Rattle.std.proofs.Common.{◌≡◌, ◌+◌, ◌-◌, ◌≤◌}
+use Rattle.mp4_frag.specs.words.Finding.{IsKnown}
 use Rattle.mp4_frag.specs.words.PlacesIn.{AreIndexPlaces, groups_work}
 use Rattle.mp4_frag.specs.words.Walks.{walk_of, reached, before_traf, with_leaves, boxes_between}
 use Rattle.mp4_frag.proofs.walk.open_traf.Given as goal
@@ -6,6 +7,7 @@ use Rattle.mp4_frag.proofs.walk.open_traf.Given as goal
 -- what the boxes passed say and those left make the whole
 abbrev pub invariant-loop-at : goal.invariant-loop-at
 invariant-loop-at l = record {
+  known : IsKnown l.tracks l.known;
   within : l.at ≤ l.lying.end;
   indexes : AreIndexPlaces l.payload l.place.indexes;
   work : l.place.passed + groups_work (boxes_between l.payload l.at l.lying.end) ≤ l.fn.place.passed + groups_work (boxes_between l.payload l.lying.inside l.lying.end);

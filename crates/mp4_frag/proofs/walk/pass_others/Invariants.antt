@@ -1,4 +1,5 @@
 use Rattle.std.proofs.Common.{◌≡◌, ◌≤◌}
+use Rattle.mp4_frag.specs.words.Finding.{IsKnown}
 use Rattle.mp4_frag.specs.words.Walks.{walk_of, reached}
 use Rattle.mp4_frag.proofs.LooksAhead.{OthersLeft}
 use Rattle.mp4_frag.proofs.walk.pass_others.Given as goal
@@ -6,6 +7,7 @@ use Rattle.mp4_frag.proofs.walk.pass_others.Given as goal
 -- what comes behind the boxes passed is what came before them
 abbrev pub invariant-loop-left : goal.invariant-loop-left
 invariant-loop-left l = record {
+  known : IsKnown l.tracks l.known;
   walk : (l.passed.track ≡ l.fn.place.track) × (l.passed.keys ≡ l.fn.place.keys) × (l.passed.run ≡ l.fn.place.run);
   time : l.passed.dts ≡ l.fn.place.dts;
   on : l.fn.place.passed ≤ l.passed.passed;

@@ -11,6 +11,7 @@ loop-at-preserved c =
     let child = c.in-Some.child in
     let work = i.work in
     record {
+      known = i.known;
       within = c.in-Some.ensures.order.2;
       walk = i.walk;
       time = i.time;

@@ -1,4 +1,5 @@
 use Rattle.std.proofs.Common.{◌≡◌, ◌+◌, ◌-◌, ◌≤◌}
+use Rattle.mp4_frag.specs.words.Finding.{IsKnown}
 use Rattle.mp4_frag.specs.words.Looks.{over_runs}
 use Rattle.mp4_frag.specs.words.PlacesIn.{runs_work, groups_work}
 use Rattle.mp4_frag.specs.words.Walks.{walk_of, reached, before_traf, with_leaves, boxes_between}
@@ -7,6 +8,7 @@ use Rattle.mp4_frag.proofs.walk.pass_traf.Given as goal
 -- behind the runs passed and those left it stands behind all
 abbrev pub invariant-loop-at : goal.invariant-loop-at
 invariant-loop-at l = record {
+  known : IsKnown l.tracks l.known;
   within : l.at ≤ l.lying.end;
   walk : (l.passed.track ≡ l.fn.place.track) × (l.passed.keys ≡ l.fn.place.keys) × (l.passed.run ≡ l.fn.place.run);
   time : l.passed.dts ≡ l.fn.place.dts;
