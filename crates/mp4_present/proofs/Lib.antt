@@ -84,3 +84,7 @@ mod SamplesDiffer
 mod PairsCompared
 mod TracksCompared
 mod FilesCompared
+mod PlacesFound
+mod OwnNoted
+mod MoofsSkipped
+mod MoofsNoted

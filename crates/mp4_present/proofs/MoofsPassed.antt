@@ -51,7 +51,7 @@ pub record IsUnderWay (file : List ℕ) (movie : MovieTree) (boxes : List Box) (
 
 -- ---- before the first `moof`
 
-pub under_way_first : (file : List ℕ) (movie : MovieTree) (boxes known : List Box) (o : Outline) (states : List TrackState) (room : ℕ) → Holds File (file_container file) known → IsOutline file known o → IsBegun file movie boxes states room
+unfoldable pub under_way_first : (file : List ℕ) (movie : MovieTree) (boxes known : List Box) (o : Outline) (states : List TrackState) (room : ℕ) → Holds File (file_container file) known → IsOutline file known o → IsBegun file movie boxes states room
     → IsUnderWay file movie boxes (unwrap_or o.fragments (length file)) o.longest states room
 under_way_first file movie boxes known o states room holds i b =
     let same : known ≡ boxes = tiles_one (file_container file) known boxes holds.tiles b.holds.tiles in
@@ -70,7 +70,7 @@ under_way_first file movie boxes known o states room holds i b =
 
 -- ---- behind the last one
 
-pub all_passed : (file : List ℕ) (movie : MovieTree) (boxes : List Box) (at most : ℕ) (states : List TrackState) (room : ℕ) → (u : IsUnderWay file movie boxes at most states room) → IsNextFragment file at u.left.boxes None
+unfoldable pub all_passed : (file : List ℕ) (movie : MovieTree) (boxes : List Box) (at most : ℕ) (states : List TrackState) (room : ℕ) → (u : IsUnderWay file movie boxes at most states room) → IsNextFragment file at u.left.boxes None
     → IsPassed file movie boxes states
 all_passed file movie boxes at most states room u n = record {
   fragments = u.fragments;
@@ -145,6 +145,11 @@ module _ (file : List ℕ) (movie : MovieTree) (boxes : List Box) (at most : ℕ
         own : moof ∷ [] ≡ of_kind (codes "moof") (moof ∷ [])
         own = let hit : bytes_eq (codes "moof") moof.kind ≡ true = rw n.5 refl in rw hit refl
 
+    -- it is one more
+    pub more_fragments : under_way_more.fragments ≡ u.fragments ++ tree_of moof ∷ []
+    unfolding under_way_more
+    more_fragments = refl
+
 -- a `moof` that was read to the front of a room
 pub record IsRead (file : List ℕ) (top : TopBox) (m : Box) (bytes : List ℕ) (len : ℕ) : Type 0 where
   pub is : m ≡ record { kind = top.header.kind.0; offset = top.offset; header = top.header.header; payload = take len bytes }
@@ -174,6 +179,17 @@ module _ (file : List ℕ) (movie : MovieTree) (boxes : List Box) (at most : ℕ
       let on = subst (λ (x : Box). AreMovedOn x.offset (pos x.offset) (of_kind (codes "traf") (children_of x)) states new room less) there moved in
       let of_bytes : AreBytes (box_at file top).payload = subst (λ (x : Box). AreBytes x.payload) there (subst (λ (x : Box). AreBytes x.payload) (sym r.is) (bytes_taken len bytes r.of_bytes)) in
       under_way_more file movie boxes at most start states whole room b u top w n new less sound on of_bytes
+
+  -- it is one more
+  pub next_fragments : (new : List TrackState) (less : ℕ) (sound_by : (trexes : List Trex) → AreTrexesOf trexes states → IsSoundMoof L trexes states (tree_of m)) (moved : AreMovedOn m.offset (pos m.offset) (of_kind (codes "traf") (children_of m)) states new room less)
+      → (next_passed new less sound_by moved).fragments ≡ u.fragments ++ tree_of (box_at file top) ∷ []
+  unfolding next_passed
+  next_fragments new less sound_by moved =
+      let own = sound_by (trexes_of movie) (trexes_behind file movie u.fragments states room u.behind) in
+      let sound : IsSoundMoof (length file) (trexes_of movie) states (tree_of (box_at file top)) = subst (λ (k : ℕ). IsSoundMoof k (trexes_of movie) states (tree_of (box_at file top))) e (subst (λ (x : Box). IsSoundMoof L (trexes_of movie) states (tree_of x)) there own) in
+      let on = subst (λ (x : Box). AreMovedOn x.offset (pos x.offset) (of_kind (codes "traf") (children_of x)) states new room less) there moved in
+      let of_bytes : AreBytes (box_at file top).payload = subst (λ (x : Box). AreBytes x.payload) there (subst (λ (x : Box). AreBytes x.payload) (sym r.is) (bytes_taken len bytes r.of_bytes)) in
+      more_fragments file movie boxes at most start states whole room b u top w n new less sound on of_bytes
 
   -- it was refused
   pub next_refused : (f : Fault) → MoofFails L states room m f → Stands file f

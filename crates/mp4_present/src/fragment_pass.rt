@@ -1,7 +1,8 @@
 //! The `moof`s of a file, each read, checked and given up before the next.
-ghost use Rattle.std.specs.Prelude.{◌≡◌, ◌+◌, ◌^◌, ◌≤◌, List, length, IfOk, IfErr, OnOk, IsTrue};
+ghost use Rattle.std.specs.Prelude.{◌≡◌, ◌+◌, ◌^◌, ◌≤◌, List, length, map, [], IfOk, IfErr, OnOk, IsTrue};
 ghost use Rattle.mp4_head.specs.format.Tree.{MovieTree};
 ghost use Rattle.mp4_boxes.specs.format.Box.{Box};
+ghost use Rattle.mp4_present.specs.words.OwnMoofs.{AreOwnBehind, own_first, own_seen};
 ghost use Rattle.mp4_present.specs.words.PassedMoofs.{IsBegun, IsPassed, RefusesFragments};
 ghost use Rattle.mp4_frag.specs.words.States.{HaveRoom};
 ghost use Rattle.mp4_present.specs.words.Opening.{HasOutline};
@@ -9,6 +10,7 @@ ghost use Rattle.mp4_present.specs.words.WalkSteps.{ChecksWithin, IfNoFault};
 
 use crate::fragments::next_fragment;
 use crate::outline::Outline;
+use crate::own_moofs::{OwnMoofs, begin_own, note_moof};
 use crate::reading::read_payload;
 use crate::tables_pass::PlainTracks;
 use mp4_boxes::{BoxView, Refusal, Steps};
@@ -22,6 +24,7 @@ fn pass_fragments<S: Store, L: Ledger>(
     store: &mut S,
     outline: &Outline,
     states: &mut [TrackState],
+    own: &mut Vec<OwnMoofs>,
     bytes: &mut [u8],
     room: u32,
     steps: &mut Steps<L>,
@@ -30,12 +33,19 @@ fn pass_fragments<S: Store, L: Ledger>(
     requires room { HaveRoom room states.old }
     requires outline { HasOutline (S.is_honest store.old) (S.file store.old) outline.now }
     requires longest { length bytes.old ≡ outline.now.longest }
+    requires own { length own.old.items ≡ length states.old }
     ensures honesty { S.is_honest store.new ≡ S.is_honest store.old }
     ensures file { S.file store.new ≡ S.file store.old }
     ensures passed { OnOk result (IsTrue (S.is_honest store.old)
         → (movie : MovieTree) (boxes : List Box)
         → IsBegun (S.file store.old) movie boxes states.old room
         → IsPassed (S.file store.old) movie boxes states.new) }
+    ensures own { OnOk result (IsTrue (S.is_honest store.old)
+        → (movie : MovieTree) (boxes : List Box)
+        → IsBegun (S.file store.old) movie boxes states.old room
+        → map own_seen own.old.items ≡ map own_first states.old
+        → AreOwnBehind (S.file store.old) movie boxes states.new (map own_seen own.new.items)) }
+    ensures each { OnOk result (length own.new.items ≡ length own.old.items) }
     ensures work { IsTrue (S.is_honest store.old)
         → IfNoFault result (ChecksWithin (S.file store.old) steps.old steps.new) }
     ensures within { IsTrue (S.is_honest store.old)
@@ -52,19 +62,23 @@ fn pass_fragments<S: Store, L: Ledger>(
         let len = read_payload(store, top, bytes)?;
         let moof = top.view(&bytes[..len]);
         check_moof(moof, file_len, states, &mut room, steps)?;
+        note_moof(own, states, top.offset)?;
         next = top.header.end;
     }
     Ok(())
 }
 
 /// Reads and checks each `moof` of the file: the tracks of the movie behind all of their samples.
+/// Which `moof`s have samples of each is noted.
 pub(crate) fn check_fragments<S: Store, L: Ledger>(
     alloc: Global,
     store: &mut S,
     outline: &Outline,
     plain: &PlainTracks,
+    own: &mut Vec<OwnMoofs>,
     steps: &mut Steps<L>,
 ) -> Result<Vec<TrackState>, Refusal>
+    requires own { own.old.items ≡ [] }
     requires few { plain.now.room ≤ 2 ^ 24 }
     requires room { HaveRoom plain.now.room plain.now.states.items }
     requires outline { HasOutline (S.is_honest store.old) (S.file store.old) outline.now }
@@ -75,6 +89,11 @@ pub(crate) fn check_fragments<S: Store, L: Ledger>(
         → (movie : MovieTree) (boxes : List Box)
         → IsBegun (S.file store.old) movie boxes plain.now.states.items plain.now.room
         → IsPassed (S.file store.old) movie boxes states.items) }
+    ensures own { IfOk result (λ states. IsTrue (S.is_honest store.old)
+        → (movie : MovieTree) (boxes : List Box)
+        → IsBegun (S.file store.old) movie boxes plain.now.states.items plain.now.room
+        → AreOwnBehind (S.file store.old) movie boxes states.items (map own_seen own.new.items)) }
+    ensures each { IfOk result (λ states. length own.new.items ≡ length plain.now.states.items) }
     ensures work { IsTrue (S.is_honest store.old)
         → IfNoFault result (ChecksWithin (S.file store.old) steps.old steps.new) }
     ensures within { IsTrue (S.is_honest store.old)
@@ -87,11 +106,13 @@ pub(crate) fn check_fragments<S: Store, L: Ledger>(
 {
     let mut states = Vec::new(alloc);
     states.extend_from_slice(plain.states.as_slice())?;
+    begin_own(alloc, own, plain.states.as_slice())?;
     let mut bytes = vec![in alloc; 0u8; outline.longest as usize]?;
     pass_fragments(
         store,
         outline,
         states.as_mut_slice(),
+        own,
         bytes.as_mut_slice(),
         plain.room,
         steps,

@@ -1,4 +1,5 @@
 //! A file that was opened: the bytes of its `moov`, and plain numbers.
+use crate::own_moofs::OwnMoofs;
 use crate::reading::TopBox;
 use crate::track_info::TrackInfo;
 use mp4_boxes::{BoxView, FourCc, Memory};
@@ -35,11 +36,14 @@ pub struct Movie {
     pub(crate) states: Vec<TrackState>,
     pub(crate) room: u32,
     pub(crate) tracks: Vec<TrackInfo>,
+    /// Which `moof`s have samples of each track.
+    pub(crate) own: Vec<OwnMoofs>,
     pub(crate) mehd: u64,
 }
 
 impl Model for Movie {
     ghost use Rattle.mp4_present.specs.words.Movies.{MovieSeen, IsMovie};
+    ghost use Rattle.mp4_present.specs.words.OwnMoofs.{places_of};
 
     ghost Value = { MovieSeen };
 
@@ -53,6 +57,7 @@ impl Model for Movie {
       states = m.states.items;
       room = m.room;
       tracks = m.tracks.items;
+      own = places_of m.own.items;
       mehd = m.mehd;
     } };
 
@@ -66,12 +71,14 @@ impl Model for Movie {
       states = m.states.items;
       room = m.room;
       tracks = m.tracks.items;
+      own = places_of m.own.items;
       mehd = m.mehd;
     }) };
 }
 
 impl Movie {
-    ghost use Rattle.std.specs.Prelude.{◌≡◌, ◌<◌, length, slice_get, Some, IfOk};
+    ghost use Rattle.std.specs.Prelude.{ℕ, List, ◌≡◌, ◌<◌, ◌≤◌, ◌++◌, length, slice_get, Some, IfOk, IfSome};
+    ghost use Rattle.std.specs.List.{AllByRecursion};
     ghost use Rattle.mp4_head.specs.words.Found.{SaysHead};
     ghost use Rattle.mp4_present.specs.words.Movies.{IsMovie, moov_box, tables_seen};
     ghost use Rattle.mp4_present.specs.declared.movie.TrackTables.{TrackTables};
@@ -104,6 +111,18 @@ impl Movie {
         ensures is_movie { IsMovie self.now }
     {
         self.states.as_slice()
+    }
+
+    // Where the first `moof` from a place on begins that has samples of a track.
+    pub(crate) fn own_from(&self, track: usize, from: u64) -> Option<u64>
+        requires { track < length self.now.tracks }
+        ensures behind { IfSome result (λ place. from ≤ place) }
+        ensures first { (before later : List ℕ)
+            → slice_get self.now.own track ≡ Some (before ++ later)
+            → AllByRecursion (λ place. place < from) before
+            → AllByRecursion (λ place. from ≤ place) later → result ≡ slice_get later 0 }
+    {
+        self.own[track].from(from)
     }
 
     // The tables of a track.

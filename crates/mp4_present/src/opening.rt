@@ -17,6 +17,7 @@ use crate::fragment_pass::check_fragments;
 use crate::limit_checks::{check_limits, duration_of};
 use crate::movie::Movie;
 use crate::outline::{Outline, read_outline};
+use crate::own_moofs::OwnMoofs;
 use crate::reading::read_bytes;
 use crate::tables_pass::{PlainTracks, check_tables};
 use crate::track_info::TrackInfo;
@@ -32,6 +33,7 @@ use std::sync::ledger::Ledger;
 struct Found {
     plain: PlainTracks,
     tracks: Vec<TrackInfo>,
+    own: Vec<OwnMoofs>,
     mehd: u64,
 }
 
@@ -89,6 +91,7 @@ fn find<S: Store, L: Ledger>(
     ensures honesty { S.is_honest store.new ≡ S.is_honest store.old }
     ensures file { S.file store.new ≡ S.file store.old }
     ensures plain { IfOk result (λ f. ArePlain moov.now (length f.tracks.items) f.plain) }
+    ensures own { IfOk result (λ f. length f.own.items ≡ length f.tracks.items) }
     ensures movie { IfOk result (λ f. IsTrue (S.is_honest store.old) → (t : FileTree)
         × IsOpenedAs (S.file store.old) (kept_of outline.now moov.now (length (S.file store.old)) f)
         t) }
@@ -107,12 +110,14 @@ fn find<S: Store, L: Ledger>(
     let view = outline.moov.view(moov);
     let head = read_head(alloc, view)?;
     let plain = check_tables(alloc, view, &head, store.len(), steps)?;
-    let states = check_fragments(alloc, store, outline, &plain, steps)?;
+    let mut own = Vec::new(alloc);
+    let states = check_fragments(alloc, store, outline, &plain, &mut own, steps)?;
     let mehd = check_limits(view, &head, states.as_slice())?;
     let tracks = infos_of(alloc, &head, states.as_slice())?;
     Ok(Found {
         plain,
         tracks,
+        own,
         mehd,
     })
 }
@@ -155,6 +160,7 @@ pub fn open_movie<S: Store, L: Ledger>(
     let Found {
         plain,
         tracks,
+        own,
         mehd,
     } = find(alloc, store, &outline, moov.as_slice(), steps)?;
     let PlainTracks {
@@ -172,6 +178,7 @@ pub fn open_movie<S: Store, L: Ledger>(
         states,
         room,
         tracks,
+        own,
         mehd,
     })
 }

@@ -222,14 +222,19 @@ impl Walk {
         if self.left == 0 {
             return Ok(false);
         }
-        while let Some(top) = next_fragment(store, self.next)? {
-            self.used = read_payload(store, top, self.bytes.as_mut_slice())?;
-            self.moof = top;
-            self.next = top.header.end;
-            if self.take(movie, steps)? {
-                return Ok(true);
-            }
+        let Some(from) = movie.own_from(self.track, self.next) else {
+            return Err(Refusal::StoreChanged);
+        };
+        let Some(top) = next_fragment(store, from)? else {
+            return Err(Refusal::StoreChanged);
+        };
+        self.used = read_payload(store, top, self.bytes.as_mut_slice())?;
+        self.moof = top;
+        self.next = top.header.end;
+        if self.take(movie, steps)? {
+            Ok(true)
+        } else {
+            Err(Refusal::StoreChanged)
         }
-        Err(Refusal::StoreChanged)
     }
 }

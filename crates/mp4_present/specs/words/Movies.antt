@@ -47,6 +47,8 @@ pub record MovieSeen : Type 0 where
   pub states : List TrackState
   pub room : ℕ
   pub tracks : List TrackInfo
+  -- for each track in order, where the `moof`s begin that have samples of it
+  pub own : List (List ℕ)
   pub mehd : ℕ
 
 -- the payload of the `stbl` of a track
@@ -66,6 +68,7 @@ pub record IsMovie (m : MovieSeen) : Type 0 where
   pub tables : AllByRecursion (LieIn m.moov) m.tables
   pub each_tables : length m.tables ≡ length m.tracks
   pub each_state : length m.states ≡ length m.tracks
+  pub each_own : length m.own ≡ length m.tracks
   pub states : HaveRoom m.room m.states
   pub few : m.room ≤ 2 ^ 24
   pub short : m.file_len < 2 ^ 64

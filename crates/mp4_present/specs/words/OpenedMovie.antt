@@ -17,6 +17,7 @@ use Rattle.mp4_present.specs.format.Denotes.{FileTree, Denotes, IsFileTree, IsSo
 use Rattle.mp4_present.specs.format.Stands.{table_total}
 use Rattle.mp4_present.specs.words.Movies.{MovieSeen, moov_box, table_bytes}
 use Rattle.mp4_present.specs.words.Outline.{BeginAt, longest}
+use Rattle.mp4_present.specs.words.OwnMoofs.{AreOwn, places_of}
 use Rattle.mp4_frag.specs.declared.state.TrackState.{TrackState}
 use Rattle.mp4_head.specs.declared.heads.TrackHead.{TrackHead}
 use Rattle.mp4_present.specs.declared.opening.Found.{Found}
@@ -93,6 +94,7 @@ pub record IsOpenedAs (file : List ℕ) (m : MovieSeen) (t : FileTree) : Type 0 
   pub states : map track_seen m.states ≡ map (plain_seen (trexes_of t.movie)) t.movie.tracks
   pub room : m.room + table_total t.movie.tracks ≡ max_samples
   pub tracks : AllZip (IsInfoOf file t) t.movie.tracks m.tracks
+  pub own : AreOwn t.movie t.fragments m.own
   pub mehd : m.mehd ≡ movie_length (presentation_of file t)
 
 -- the numbers that are kept of a track are its own
@@ -125,5 +127,6 @@ kept_of o moov file_length f = record {
   states = f.plain.states.items;
   room = f.plain.room;
   tracks = f.tracks.items;
+  own = places_of f.own.items;
   mehd = f.mehd;
 }

@@ -1,7 +1,9 @@
-use Rattle.std.proofs.Common.{◌≡◌, rules, length, refl, subst, ℕ}
+use Rattle.std.proofs.Common.{◌≡◌, rules, length, map, refl, subst, ℕ}
 use Rattle.std.specs.Prelude.{unwrap_or}
 use Rattle.std.proofs.lemmas.Result.{err_from_is_err_and}
 use Rattle.mp4_present.proofs.FragmentPass.{Left, left_first, left_next}
+use Rattle.mp4_present.specs.words.OwnMoofs.{own_seen}
+use Rattle.mp4_present.proofs.MoofsNoted.{OwnsUnderWay, owns_first, owns_next, all_noted}
 use Rattle.mp4_present.proofs.MoofsPassed.{IsUnderWay, IsRead, under_way_first, not_read, all_passed, next_passed, next_refused}
 use Rattle.mp4_boxes.specs.words.View.{box_seen}
 use Rattle.mp4_present.proofs.ChecksCounted.{within_first, next_within, checks_done}
@@ -29,6 +31,13 @@ loop-top-init g c = record {
       let outline = c.args.outline.now in
       let next : unwrap_or outline.fragments (length file) ≡ c.unwrap_or-next.result = search rules in
       subst (λ (k : ℕ). IsUnderWay file movie boxes k outline.longest c.args.states.now c.args.room) next (under_way_first file movie boxes o.0 outline c.args.states.now c.args.room o.1 o.3 b);
+  each = refl;
+  own = λ told movie boxes b own.
+      let o = c.requires.outline told in
+      let file = g.S.Store.file c.args.store.now in
+      let outline = c.args.outline.now in
+      let next : unwrap_or outline.fragments (length file) ≡ c.unwrap_or-next.result = search rules in
+      subst (λ (k : ℕ). OwnsUnderWay file movie boxes k outline.longest c.args.states.now c.args.room (map own_seen c.args.own.now.items)) next (owns_first file movie boxes o.0 outline c.args.states.now c.args.room (map own_seen c.args.own.now.items) o.1 o.3 b own);
   work = λ told.
       let o = c.requires.outline told in
       let file = g.S.Store.file c.args.store.now in
@@ -74,6 +83,19 @@ loop-top-preserved g c =
           next_passed file movie boxes c.loop-top.next c.args.outline.now.longest c.args.states.now c.loop-top.states c.args.room c.loop-top.room b u c.in-Some.top within.0 (next told u.left.boxes u.left.are_from)
           (box_seen c.view-moof.result) c.read_payload.new.room c.in_ok-len.len c.len-file_len.result r c.len-file_len.ensures
           c.check_moof.new.tracks c.check_moof.new.room c.in_ok-check_moof.ensures.sound c.in_ok-check_moof.ensures.moved;
+      each = search rules;
+      own = λ told movie boxes b own.
+          let u = i.own told movie boxes b own in
+          let r : IsRead file c.in-Some.top (box_seen c.view-moof.result) c.read_payload.new.room c.in_ok-len.len = record {
+            is = c.view-moof.ensures;
+            fills = c.in_ok-len.ensures.fills.0;
+            within = c.in_ok-len.ensures.fills.1;
+            read = (rw (c.in_ok-top.ensures.honesty, i.honesty, c.in_ok-top.ensures.file, i.file) at c.in_ok-len.ensures.bytes) told;
+            of_bytes = c.in_ok-len.ensures.room;
+          } in
+          rw c.in_ok-note_moof.ensures.noted (owns_next file movie boxes c.loop-top.next c.args.outline.now.longest c.args.states.now c.loop-top.states c.args.room c.loop-top.room (map own_seen c.loop-top.own.items) b u c.in-Some.top within.0 (next told u.0.left.boxes u.0.left.are_from)
+          (box_seen c.view-moof.result) c.read_payload.new.room c.in_ok-len.len c.len-file_len.result r c.len-file_len.ensures
+          c.check_moof.new.tracks c.check_moof.new.room c.in_ok-check_moof.ensures.sound c.in_ok-check_moof.ensures.moved);
       work = λ told all h.
           let u = i.work told all h in
           let r : IsRead file c.in-Some.top (box_seen c.view-moof.result) c.read_payload.new.room c.in_ok-len.len = record {
@@ -123,6 +145,13 @@ returns-clause-passed g c = λ told movie boxes b.
     let file = g.S.Store.file c.args.store.now in
     all_passed file movie boxes c.loop-top.next c.args.outline.now.longest c.loop-top.states c.loop-top.room u ((rw (i.honesty, i.file, c.in_default.is) at c.in_ok-top.ensures.next) told u.left.boxes u.left.are_from)
 
+pub returns-clause-own : goal.returns-clause-own
+returns-clause-own g c = λ told movie boxes b own.
+    let i = c.loop-top.invariant in
+    let u = i.own told movie boxes b own in
+    let file = g.S.Store.file c.args.store.now in
+    all_noted file movie boxes c.loop-top.next c.args.outline.now.longest c.loop-top.states c.loop-top.room (map own_seen c.loop-top.own.items) u ((rw (i.honesty, i.file, c.in_default.is) at c.in_ok-top.ensures.next) told u.0.left.boxes u.0.left.are_from)
+
 pub returns-clause-work : goal.returns-clause-work
 returns-clause-work g c = λ told. checks_done _ _ _ _ (c.loop-top.invariant.work told)
 
@@ -155,3 +184,23 @@ returns-in_err-check_moof-clause-within g c =
       of_bytes = c.in_ok-len.ensures.room;
     } in
     refused_fits file c.loop-top.next c.in-Some.top within.0 within.1 (box_seen c.view-moof.result) c.read_payload.new.room c.in_ok-len.len r _ _ _ _ c.check_moof.ensures.work (i.fit told)
+
+pub returns-in_err-note_moof-clause-work : goal.returns-in_err-note_moof-clause-work
+returns-in_err-note_moof-clause-work g c =
+    let i = c.loop-top.invariant in
+    let file = g.S.Store.file c.args.store.now in
+    let next = rw (i.honesty, i.file, c.in-Some.is) at c.in_ok-top.ensures.next in
+    let within = rw (i.file, c.in-Some.is) at c.in_ok-top.ensures.within in
+    λ told.
+    let r : IsRead file c.in-Some.top (box_seen c.view-moof.result) c.read_payload.new.room c.in_ok-len.len = record {
+      is = c.view-moof.ensures;
+      fills = c.in_ok-len.ensures.fills.0;
+      within = c.in_ok-len.ensures.fills.1;
+      read = (rw (c.in_ok-top.ensures.honesty, i.honesty, c.in_ok-top.ensures.file, i.file) at c.in_ok-len.ensures.bytes) told;
+      of_bytes = c.in_ok-len.ensures.room;
+    } in
+    let e = c.in_ok-check_moof.ensures in
+    if_no_fault _ _ (checks_done file c.in-Some.top.header.end _ _ (λ all h.
+    let u = i.work told all h in
+    next_within file c.loop-top.next c.in-Some.top all within.0 u.0 u.1.0 (next told u.0 u.1.0) (box_seen c.view-moof.result) c.read_payload.new.room c.in_ok-len.len r
+    _ _ _ _ _ _ _ e.moved e.cost u.1.1))

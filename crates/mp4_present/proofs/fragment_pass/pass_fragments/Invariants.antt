@@ -1,10 +1,12 @@
-use Rattle.std.proofs.Common.{◌≡◌, ◌-◌, ◌^◌, ◌≤◌, List, length}
+use Rattle.std.proofs.Common.{◌≡◌, ◌-◌, ◌^◌, ◌≤◌, List, length, map}
 use Rattle.mp4_boxes.specs.format.Box.{Box}
 use Rattle.mp4_head.specs.format.Tree.{MovieTree}
 use Rattle.mp4_present.specs.words.PassedMoofs.{IsBegun}
 use Rattle.mp4_present.proofs.MoofsPassed.{IsUnderWay}
 use Rattle.std.specs.Prelude.{IsTrue}
 use Rattle.mp4_frag.specs.words.States.{HaveRoom}
+use Rattle.mp4_present.specs.words.OwnMoofs.{own_first, own_seen}
+use Rattle.mp4_present.proofs.MoofsNoted.{OwnsUnderWay}
 use Rattle.mp4_present.proofs.FragmentPass.{Left}
 use Rattle.mp4_present.proofs.ChecksCounted.{LeftWithin}
 use Rattle.mp4_present.proofs.MoofBytes.{MoofsFit}
@@ -22,6 +24,8 @@ invariant-loop-top g l =
       longest : length l.bytes ≡ l.outline.longest;
       left : IsTrue (g.S.Store.is_honest l.fn.store) → Left (g.S.Store.file l.fn.store) l.next l.outline.longest;
       so : IsTrue (g.S.Store.is_honest l.fn.store) → (movie : MovieTree) (boxes : List Box) → IsBegun (g.S.Store.file l.fn.store) movie boxes l.fn.states l.fn.room → IsUnderWay (g.S.Store.file l.fn.store) movie boxes l.next l.outline.longest l.states l.room;
+      each : length l.own.items ≡ length l.fn.own.items;
+      own : IsTrue (g.S.Store.is_honest l.fn.store) → (movie : MovieTree) (boxes : List Box) → IsBegun (g.S.Store.file l.fn.store) movie boxes l.fn.states l.fn.room → map own_seen l.fn.own.items ≡ map own_first l.fn.states → OwnsUnderWay (g.S.Store.file l.fn.store) movie boxes l.next l.outline.longest l.states l.room (map own_seen l.own.items);
       work : IsTrue (g.S.Store.is_honest l.fn.store) → LeftWithin (g.S.Store.file l.fn.store) l.next l.fn.steps l.steps;
       fit : IsTrue (g.S.Store.is_honest l.fn.store) → MoofsFit (length (g.S.Store.file l.fn.store)) l.next l.room l.fn.steps l.steps;
     }

@@ -87,11 +87,12 @@ returns-clause-movie g c =
     λ told.
     let own = have honest file outline moov b head plain r says bytes _ c.len.ensures c.in_ok-plain.ensures.says told in
     let begin = begun honest file outline moov b head plain r says bytes _ c.len.ensures c.in_ok-plain.ensures.says told in
-    let passed = c.in_ok-states.ensures.passed told _ _ begin in
+    let kept = c.in_ok-states.ensures.own told _ _ begin in
+    let passed = kept.0 in
     let within = rw c.as_slice.ensures.value at c.in_ok-mehd.ensures.within in
     let w = within _ (measure honest file outline moov b head plain r says told own begin states.items passed) in
-    let found : Found = record { plain = plain; tracks = c.in_ok-tracks.tracks; mehd = c.in_ok-mehd.mehd } in
-    (_, opened_as honest file outline moov b head plain r says told own begin states.items passed found (length file) refl w.0 w.1 w.2 (rw c.as_slice-2.ensures.value at c.in_ok-tracks.ensures.infos) refl)
+    let found : Found = record { plain = plain; tracks = c.in_ok-tracks.tracks; own = c.check_fragments.new.own; mehd = c.in_ok-mehd.mehd } in
+    (_, opened_as honest file outline moov b head plain r says told own begin states.items passed found (length file) refl w.0 w.1 w.2 (rw c.as_slice-2.ensures.value at c.in_ok-tracks.ensures.infos) kept.1 refl)
 
 pub returns-clause-ids : goal.returns-clause-ids
 returns-clause-ids g c =

@@ -1,226 +1,183 @@
-use Rattle.std.proofs.Common.{rules, arith, ℕ, ◌≡◌, ◌<◌, ◌≤◌, length, refl, sym, ◌∙◌}
+use Rattle.std.proofs.Common.{rules, arith, ℕ, ◌≡◌, ◌<◌, ◌≤◌, List, [], ◌∷◌, ◌++◌, length, refl, sym, ap, subst, ◌∙◌}
 use Rattle.std.proofs.lemmas.Result.{err_from_is_err_and}
 use Rattle.std.proofs.lemmas.List.{with_items_is}
-use Rattle.mp4_present.proofs.MoofLoaded.{boxes_from, none_more, fits, first_later, holds_next, next_unchanged, payload_unchanged, goes_past, comes_next, later_is, goes_idle, no_samples, some_left, ends_empty, left_stays}
+use Rattle.mp4_boxes.proofs.Among.{head_is}
+use Rattle.mp4_frag.specs.format.Fragments.{FragmentTree}
+use Rattle.mp4_present.specs.words.SamplesComing.{samples_behind}
+use Rattle.mp4_present.proofs.MoofLoaded.{boxes_from, none_more, fits, first_later, holds_next, next_unchanged, payload_unchanged, comes_next, later_is, no_samples, ends_empty}
+use Rattle.mp4_present.proofs.MoofsSkipped.{at_own, found_own, found_none, gives_some, not_empty, samples_to, stands_at, takes_to, takes_fewer}
 use Rattle.mp4_present.proofs.WayThrough.{takes_none, takes_next, takes_most}
 use Rattle.mp4_present.proofs.WalkPlaces.{walk_past}
 use Rattle.mp4_present.proofs.walks.Walk.load.Goals as goal
 
-farther : (now next offset end : ℕ) → now ≡ end → next ≤ offset → offset < end → next < now
-farther now next offset end e a b = omega (arith, e, a, b)
+farther : (now next from offset end : ℕ) → now ≡ end → next ≤ from → from ≤ offset → offset < end → next < now
+farther now next from offset end e a b d = omega (arith, e, a, b, d)
 
 pub returns-then-branch-clause-walk : goal.returns-then-branch-clause-walk
 returns-then-branch-clause-walk g c =
-    let i = c.loop-top.invariant in
-    let within = rw (i.file, c.in-Some.is) at c.in_ok-top.ensures.within in
-    walk_past c.args.movie.now c.loop-top.self c.take.new.self i.walk c.in_ok-take.ensures.track c.in_ok-take.ensures.mark (farther _ _ _ _ c.in_ok-take.ensures.next within.1 within.2) c.in_ok-take.ensures.place c.in_ok-take.ensures.rest
+    let within = rw c.in-Some-2.is at c.in_ok-top.ensures.within in
+    walk_past c.args.movie.now c.args.self.now c.take.new.self c.requires c.in_ok-take.ensures.track c.in_ok-take.ensures.mark (farther _ _ _ _ _ c.in_ok-take.ensures.next c.in-Some.ensures.behind within.1 within.2) c.in_ok-take.ensures.place c.in_ok-take.ensures.rest
 
-pub loop-top-init : goal.loop-top-init
-loop-top-init g c = record {
-  honesty = refl;
-  file = refl;
-  reads = refl;
-  walk = search rules;
-  mark = refl;
-  room = refl;
-  on = search rules;
-  going = λ told tree t earlier later o h. (earlier, later, (h, refl));
-  idle = λ told tree t earlier later hand o h i z. (earlier, later, hand, (h, i, z));
-  takes = λ told tree t n o h. takes_none (g.S.Store.file c.args.store.now) tree t n c.args.steps.now c.args.self.now h;
-}
+pub returns-in_default-clause-unchanged : goal.returns-in_default-clause-unchanged
+returns-in_default-clause-unchanged g c told tree t earlier later o h = λ _.
+    c.if-self-eq0.false (h.left ∙ ap length (found_none (g.S.Store.file c.args.store.now) c.args.movie.now tree t earlier later c.args.self.now o h c.own_from.result c.own_from.ensures.first c.in_default.is))
 
 pub returns-in_err-top-clause-unchanged : goal.returns-in_err-top-clause-unchanged
 returns-in_err-top-clause-unchanged g c told tree t earlier later o h =
     let p = err_from_is_err_and c.from_residual.result c.from_residual.ensures.1 in
-    let i = c.loop-top.invariant in
     let file = g.S.Store.file c.args.store.now in
-    let u = i.going told tree t earlier later o h in
-    let a = boxes_from file c.args.movie.now tree t u.0 u.1 c.loop-top.self o u.2.0 in
-    rw (p.1, p.2) (next_unchanged _ file c.loop-top.self.next _ _ u.2.0.boxes c.in_err-top.field-0.0 told a (rw (i.honesty, i.file) at c.in_err-top.ensures.refusal))
+    let m = c.args.movie.now in
+    let w = c.args.self.now in
+    let at = c.in-Some.from in
+    let own = found_own file m tree t earlier later w o h c.own_from.result c.own_from.ensures.first at c.in-Some.is in
+    let s = stands_at file m tree t earlier later w o h at own in
+    let a = boxes_from file m tree t (earlier ++ own.skipped) (own.own ∷ own.later) (at_own w at) o s in
+    rw (p.1, p.2) (next_unchanged _ file at _ _ s.boxes c.in_err-top.field-0.0 told a c.in_err-top.ensures.refusal)
+
+pub returns-in_default-2-clause-unchanged : goal.returns-in_default-2-clause-unchanged
+returns-in_default-2-clause-unchanged g c told tree t earlier later o h = λ _.
+    let file = g.S.Store.file c.args.store.now in
+    let m = c.args.movie.now in
+    let w = c.args.self.now in
+    let at = c.in-Some.from in
+    let own = found_own file m tree t earlier later w o h c.own_from.result c.own_from.ensures.first at c.in-Some.is in
+    let s = stands_at file m tree t earlier later w o h at own in
+    let a = boxes_from file m tree t (earlier ++ own.skipped) (own.own ∷ own.later) (at_own w at) o s in
+    let n = (rw c.in_default-2.is at c.in_ok-top.ensures.next) told s.boxes a in
+    not_empty own.own own.later (none_more file m tree t (earlier ++ own.skipped) (own.own ∷ own.later) (at_own w at) o s n)
 
 pub returns-in_err-self-clause-unchanged : goal.returns-in_err-self-clause-unchanged
 returns-in_err-self-clause-unchanged g c told tree t earlier later o h =
     let p = err_from_is_err_and c.from_residual-in_err-self.result c.from_residual-in_err-self.ensures.1 in
-    let i = c.loop-top.invariant in
     let file = g.S.Store.file c.args.store.now in
     let m = c.args.movie.now in
-    let u = i.going told tree t earlier later o h in
-    let a = boxes_from file m tree t u.0 u.1 c.loop-top.self o u.2.0 in
-    let next = rw (i.honesty, i.file, c.in-Some.is) at c.in_ok-top.ensures.next in
-    let within = rw (i.file, c.in-Some.is) at c.in_ok-top.ensures.within in
-    let short = fits file m tree t u.0 u.1 c.loop-top.self o u.2.0 c.in-Some.top within.0 (next told u.2.0.boxes a) in
-    rw (p.1, p.2) (payload_unchanged _ _ _ c.in-Some.top c.in_err-self.field-0.0 short (rw c.as_mut_slice.ensures.value at c.in_err-self.ensures.refusal))
+    let w = c.args.self.now in
+    let at = c.in-Some.from in
+    let own = found_own file m tree t earlier later w o h c.own_from.result c.own_from.ensures.first at c.in-Some.is in
+    let s = stands_at file m tree t earlier later w o h at own in
+    let a = boxes_from file m tree t (earlier ++ own.skipped) (own.own ∷ own.later) (at_own w at) o s in
+    let next = rw c.in-Some-2.is at c.in_ok-top.ensures.next in
+    let within = rw c.in-Some-2.is at c.in_ok-top.ensures.within in
+    let short = fits file m tree t (earlier ++ own.skipped) (own.own ∷ own.later) (at_own w at) o s c.in-Some-2.top within.0 (next told s.boxes a) in
+    rw (p.1, p.2) (payload_unchanged _ _ _ c.in-Some-2.top c.in_err-self.field-0.0 short (rw c.as_mut_slice.ensures.value at c.in_err-self.ensures.refusal))
 
 pub returns-in_err-take-clause-unchanged : goal.returns-in_err-take-clause-unchanged
 returns-in_err-take-clause-unchanged g c told tree t earlier later o h =
-    let i = c.loop-top.invariant in
     let file = g.S.Store.file c.args.store.now in
     let m = c.args.movie.now in
-    let next = rw (i.honesty, i.file, c.in-Some.is) at c.in_ok-top.ensures.next in
-    let within = rw (i.file, c.in-Some.is) at c.in_ok-top.ensures.within in
-    let u = i.going told tree t earlier later o h in
-    let w = c.loop-top.self in
-    let s = u.2.0 in
-    let n = next told s.boxes (boxes_from file m tree t u.0 u.1 w o s) in
-    let f = first_later file m tree t u.0 u.1 w o s c.in-Some.top within.0 n in
+    let w = c.args.self.now in
+    let at = c.in-Some.from in
+    let own = found_own file m tree t earlier later w o h c.own_from.result c.own_from.ensures.first at c.in-Some.is in
+    let before = earlier ++ own.skipped in
+    let s = stands_at file m tree t earlier later w o h at own in
+    let a = boxes_from file m tree t before (own.own ∷ own.later) (at_own w at) o s in
+    let next = rw c.in-Some-2.is at c.in_ok-top.ensures.next in
+    let within = rw c.in-Some-2.is at c.in_ok-top.ensures.within in
+    let n = next told s.boxes a in
+    let f = first_later file m tree t before (own.own ∷ own.later) (at_own w at) o s c.in-Some-2.top within.0 n in
     let bytes = c.read_payload.new.room in
     let same : length bytes ≡ length w.bytes.items = search rules in
-    let read = (rw (c.in_ok-top.ensures.honesty, i.honesty, c.in_ok-top.ensures.file, i.file) at c.in_ok-self.ensures.bytes) told in
+    let read = (rw (c.in_ok-top.ensures.honesty, c.in_ok-top.ensures.file) at c.in_ok-self.ensures.bytes) told in
     let fills = c.in_ok-self.ensures.fills in
-    let held = holds_next file m tree t u.0 u.1 w o s c.in-Some.top within.0 n _ bytes c.in_ok-self.field-0 refl refl refl (with_items_is w.bytes bytes (same ∙ sym w.bytes.ok.0)) same fills.1 fills.0 read refl refl refl in
-    absurd (c.in_err-take.ensures.taken file tree t u.0 f.1 f.0 o held)
+    let held = holds_next file m tree t before (own.own ∷ own.later) (at_own w at) o s c.in-Some-2.top within.0 n _ bytes c.in_ok-self.field-0 refl refl refl (with_items_is w.bytes bytes (same ∙ sym w.bytes.ok.0)) same fills.1 fills.0 read refl refl refl in
+    absurd (c.in_err-take.ensures.taken file tree t before f.1 f.0 o held)
 
 pub returns-then-branch-clause-loaded : goal.returns-then-branch-clause-loaded
 returns-then-branch-clause-loaded g c told tree t earlier later o h =
-    let i = c.loop-top.invariant in
     let file = g.S.Store.file c.args.store.now in
     let m = c.args.movie.now in
-    let next = rw (i.honesty, i.file, c.in-Some.is) at c.in_ok-top.ensures.next in
-    let within = rw (i.file, c.in-Some.is) at c.in_ok-top.ensures.within in
-    let u = i.going told tree t earlier later o h in
-    let w = c.loop-top.self in
-    let s = u.2.0 in
-    let n = next told s.boxes (boxes_from file m tree t u.0 u.1 w o s) in
-    let f = first_later file m tree t u.0 u.1 w o s c.in-Some.top within.0 n in
+    let w = c.args.self.now in
+    let at = c.in-Some.from in
+    let own = found_own file m tree t earlier later w o h c.own_from.result c.own_from.ensures.first at c.in-Some.is in
+    let before = earlier ++ own.skipped in
+    let s = stands_at file m tree t earlier later w o h at own in
+    let a = boxes_from file m tree t before (own.own ∷ own.later) (at_own w at) o s in
+    let next = rw c.in-Some-2.is at c.in_ok-top.ensures.next in
+    let within = rw c.in-Some-2.is at c.in_ok-top.ensures.within in
+    let n = next told s.boxes a in
+    let f = first_later file m tree t before (own.own ∷ own.later) (at_own w at) o s c.in-Some-2.top within.0 n in
     let bytes = c.read_payload.new.room in
     let same : length bytes ≡ length w.bytes.items = search rules in
-    let read = (rw (c.in_ok-top.ensures.honesty, i.honesty, c.in_ok-top.ensures.file, i.file) at c.in_ok-self.ensures.bytes) told in
+    let read = (rw (c.in_ok-top.ensures.honesty, c.in_ok-top.ensures.file) at c.in_ok-self.ensures.bytes) told in
     let fills = c.in_ok-self.ensures.fills in
-    let held = holds_next file m tree t u.0 u.1 w o s c.in-Some.top within.0 n _ bytes c.in_ok-self.field-0 refl refl refl (with_items_is w.bytes bytes (same ∙ sym w.bytes.ok.0)) same fills.1 fills.0 read refl refl refl in
-    comes_next file tree t m _ u.0 f.0 f.1 c.take.new.self c.in_ok-take.field-0 (later_is tree t _ u.0 u.1 f.0 f.1 f.2 u.2.1) (c.in_ok-take.ensures.taken file tree t u.0 f.1 f.0 o held)
+    let held = holds_next file m tree t before (own.own ∷ own.later) (at_own w at) o s c.in-Some-2.top within.0 n _ bytes c.in_ok-self.field-0 refl refl refl (with_items_is w.bytes bytes (same ∙ sym w.bytes.ok.0)) same fills.1 fills.0 read refl refl refl in
+    comes_next file tree t m _ before f.0 f.1 c.take.new.self c.in_ok-take.field-0 (later_is tree t _ before (own.own ∷ own.later) f.0 f.1 f.2 (samples_to file m tree t earlier later w o h at own)) (c.in_ok-take.ensures.taken file tree t before f.1 f.0 o held)
 
-pub loop-top-preserved : goal.loop-top-preserved
-loop-top-preserved g c =
-    let i = c.loop-top.invariant in
+pub returns-else-branch-clause-unchanged : goal.returns-else-branch-clause-unchanged
+returns-else-branch-clause-unchanged g c told tree t earlier later o h = λ _.
     let file = g.S.Store.file c.args.store.now in
     let m = c.args.movie.now in
-    let next = rw (i.honesty, i.file, c.in-Some.is) at c.in_ok-top.ensures.next in
-    let within = rw (i.file, c.in-Some.is) at c.in_ok-top.ensures.within in
-    record {
-      honesty = search rules;
-      file = search rules;
-      reads = search rules;
-      walk = walk_past m c.loop-top.self c.take.new.self i.walk c.in_ok-take.ensures.track c.in_ok-take.ensures.mark (farther _ _ _ _ c.in_ok-take.ensures.next within.1 within.2) c.in_ok-take.ensures.place c.in_ok-take.ensures.rest;
-      mark = c.in_ok-take.ensures.mark ∙ i.mark;
-      room = search rules;
-      on = search rules;
-      going = λ told tree t earlier later o h.
-          let u = i.going told tree t earlier later o h in
-          let w = c.loop-top.self in
-          let s = u.2.0 in
-          let n = next told s.boxes (boxes_from file m tree t u.0 u.1 w o s) in
-          let f = first_later file m tree t u.0 u.1 w o s c.in-Some.top within.0 n in
-          let bytes = c.read_payload.new.room in
-          let same : length bytes ≡ length w.bytes.items = search rules in
-          let read = (rw (c.in_ok-top.ensures.honesty, i.honesty, c.in_ok-top.ensures.file, i.file) at c.in_ok-self.ensures.bytes) told in
-          let fills = c.in_ok-self.ensures.fills in
-          let held = holds_next file m tree t u.0 u.1 w o s c.in-Some.top within.0 n _ bytes c.in_ok-self.field-0 refl refl refl (with_items_is w.bytes bytes (same ∙ sym w.bytes.ok.0)) same fills.1 fills.0 read refl refl refl in
-          goes_past file tree t m _ u.0 f.0 f.1 c.take.new.self c.in_ok-take.field-0 (later_is tree t _ u.0 u.1 f.0 f.1 f.2 u.2.1) c.if-branch.false (c.in_ok-take.ensures.taken file tree t u.0 f.1 f.0 o held);
-      idle = λ told tree t earlier later hand o h _ _.
-          let u = i.going told tree t earlier later o h in
-          let w = c.loop-top.self in
-          let s = u.2.0 in
-          let n = next told s.boxes (boxes_from file m tree t u.0 u.1 w o s) in
-          let f = first_later file m tree t u.0 u.1 w o s c.in-Some.top within.0 n in
-          let bytes = c.read_payload.new.room in
-          let same : length bytes ≡ length w.bytes.items = search rules in
-          let read = (rw (c.in_ok-top.ensures.honesty, i.honesty, c.in_ok-top.ensures.file, i.file) at c.in_ok-self.ensures.bytes) told in
-          let fills = c.in_ok-self.ensures.fills in
-          let held = holds_next file m tree t u.0 u.1 w o s c.in-Some.top within.0 n _ bytes c.in_ok-self.field-0 refl refl refl (with_items_is w.bytes bytes (same ∙ sym w.bytes.ok.0)) same fills.1 fills.0 read refl refl refl in
-          goes_idle file tree t m u.0 f.0 f.1 c.take.new.self c.in_ok-take.field-0 c.if-branch.false (c.in_ok-take.ensures.taken file tree t u.0 f.1 f.0 o held);
-      takes = λ told tree t n o h.
-          let u = i.takes told tree t n o h in
-          let w = c.loop-top.self in
-          let s = u.1.stands in
-          let earlier = u.1.earlier in
-          let later = u.1.later in
-          let is_next = next told s.boxes (boxes_from file m tree t earlier later w o s) in
-          let f = first_later file m tree t earlier later w o s c.in-Some.top within.0 is_next in
-          let bytes = c.read_payload.new.room in
-          let same : length bytes ≡ length w.bytes.items = search rules in
-          let read = (rw (c.in_ok-top.ensures.honesty, i.honesty, c.in_ok-top.ensures.file, i.file) at c.in_ok-self.ensures.bytes) told in
-          let fills = c.in_ok-self.ensures.fills in
-          let held = holds_next file m tree t earlier later w o s c.in-Some.top within.0 is_next _ bytes c.in_ok-self.field-0 refl refl refl (with_items_is w.bytes bytes (same ∙ sym w.bytes.ok.0)) same fills.1 fills.0 read refl refl refl in
-          let e = c.in_ok-take.ensures in
-          takes_next file tree t m n _ _ _ w _ c.take.new.self u f.0 f.1 c.in_ok-take.field-0 f.2 held (e.taken file tree t earlier f.1 f.0 o held) e.moof (e.through t) e.way e.work;
-    }
+    let w = c.args.self.now in
+    let at = c.in-Some.from in
+    let own = found_own file m tree t earlier later w o h c.own_from.result c.own_from.ensures.first at c.in-Some.is in
+    let before = earlier ++ own.skipped in
+    let s = stands_at file m tree t earlier later w o h at own in
+    let a = boxes_from file m tree t before (own.own ∷ own.later) (at_own w at) o s in
+    let next = rw c.in-Some-2.is at c.in_ok-top.ensures.next in
+    let within = rw c.in-Some-2.is at c.in_ok-top.ensures.within in
+    let n = next told s.boxes a in
+    let f = first_later file m tree t before (own.own ∷ own.later) (at_own w at) o s c.in-Some-2.top within.0 n in
+    let bytes = c.read_payload.new.room in
+    let same : length bytes ≡ length w.bytes.items = search rules in
+    let read = (rw (c.in_ok-top.ensures.honesty, c.in_ok-top.ensures.file) at c.in_ok-self.ensures.bytes) told in
+    let fills = c.in_ok-self.ensures.fills in
+    let held = holds_next file m tree t before (own.own ∷ own.later) (at_own w at) o s c.in-Some-2.top within.0 n _ bytes c.in_ok-self.field-0 refl refl refl (with_items_is w.bytes bytes (same ∙ sym w.bytes.ok.0)) same fills.1 fills.0 read refl refl refl in
+    let took = c.in_ok-take.ensures.taken file tree t before f.1 f.0 o held in
+    let is : own.own ≡ f.0 = head_is own.own f.0 own.later f.1 f.2 in
+    gives_some tree t before own.own own.some (ap (λ (x : FragmentTree). samples_behind tree t before (x ∷ [])) is ∙ sym took.1.2 ∙ took.1.3 c.if-branch.false)
 
-pub returns-then-self-eq0-clause-loaded : goal.returns-then-self-eq0-clause-loaded
-returns-then-self-eq0-clause-loaded g c told tree t earlier later o h = no_samples (g.S.Store.file c.args.store.now) tree t earlier later c.args.self.now h c.if-self-eq0.true
+pub returns-then-branch-clause-work : goal.returns-then-branch-clause-work
+returns-then-branch-clause-work g c told tree t n o h =
+    let file = g.S.Store.file c.args.store.now in
+    let m = c.args.movie.now in
+    let w = c.args.self.now in
+    let at = c.in-Some.from in
+    let own = found_own file m tree t h.earlier h.later w o h.stands c.own_from.result c.own_from.ensures.first at c.in-Some.is in
+    let x = takes_to file m tree t w n at o h own in
+    let u = takes_none file tree t x.0 c.args.steps.now (at_own w at) x.1 in
+    let s = u.1.stands in
+    let earlier = u.1.earlier in
+    let later = u.1.later in
+    let next = rw c.in-Some-2.is at c.in_ok-top.ensures.next in
+    let within = rw c.in-Some-2.is at c.in_ok-top.ensures.within in
+    let is_next = next told s.boxes (boxes_from file m tree t earlier later (at_own w at) o s) in
+    let f = first_later file m tree t earlier later (at_own w at) o s c.in-Some-2.top within.0 is_next in
+    let bytes = c.read_payload.new.room in
+    let same : length bytes ≡ length w.bytes.items = search rules in
+    let read = (rw (c.in_ok-top.ensures.honesty, c.in_ok-top.ensures.file) at c.in_ok-self.ensures.bytes) told in
+    let fills = c.in_ok-self.ensures.fills in
+    let held = holds_next file m tree t earlier later (at_own w at) o s c.in-Some-2.top within.0 is_next _ bytes c.in_ok-self.field-0 refl refl refl (with_items_is w.bytes bytes (same ∙ sym w.bytes.ok.0)) same fills.1 fills.0 read refl refl refl in
+    let e = c.in_ok-take.ensures in
+    takes_fewer file tree t x.0 n _ _ _ x.2 (takes_next file tree t m x.0 _ _ _ (at_own w at) _ c.take.new.self u f.0 f.1 c.in_ok-take.field-0 f.2 held (e.taken file tree t earlier f.1 f.0 o held) e.moof (e.through t) e.way e.work)
+
+pub returns-else-branch-clause-most : goal.returns-else-branch-clause-most
+returns-else-branch-clause-most g c told tree t n o h =
+    let file = g.S.Store.file c.args.store.now in
+    let m = c.args.movie.now in
+    let w = c.args.self.now in
+    let at = c.in-Some.from in
+    let own = found_own file m tree t h.earlier h.later w o h.stands c.own_from.result c.own_from.ensures.first at c.in-Some.is in
+    let x = takes_to file m tree t w n at o h own in
+    let u = takes_none file tree t x.0 c.args.steps.now (at_own w at) x.1 in
+    let s = u.1.stands in
+    let earlier = u.1.earlier in
+    let later = u.1.later in
+    let next = rw c.in-Some-2.is at c.in_ok-top.ensures.next in
+    let within = rw c.in-Some-2.is at c.in_ok-top.ensures.within in
+    let is_next = next told s.boxes (boxes_from file m tree t earlier later (at_own w at) o s) in
+    let f = first_later file m tree t earlier later (at_own w at) o s c.in-Some-2.top within.0 is_next in
+    let bytes = c.read_payload.new.room in
+    let same : length bytes ≡ length w.bytes.items = search rules in
+    let read = (rw (c.in_ok-top.ensures.honesty, c.in_ok-top.ensures.file) at c.in_ok-self.ensures.bytes) told in
+    let fills = c.in_ok-self.ensures.fills in
+    let held = holds_next file m tree t earlier later (at_own w at) o s c.in-Some-2.top within.0 is_next _ bytes c.in_ok-self.field-0 refl refl refl (with_items_is w.bytes bytes (same ∙ sym w.bytes.ok.0)) same fills.1 fills.0 read refl refl refl in
+    let e = c.in_ok-take.ensures in
+    takes_most file tree t n _ _ c.take.new.self (takes_fewer file tree t x.0 n _ _ _ x.2 (takes_next file tree t m x.0 _ _ _ (at_own w at) _ c.take.new.self u f.0 f.1 c.in_ok-take.field-0 f.2 held (e.taken file tree t earlier f.1 f.0 o held) e.moof (e.through t) e.way e.work))
+
+pub returns-then-branch-clause-some : goal.returns-then-branch-clause-some
+returns-then-branch-clause-some g c = λ _. c.in_ok-take.ensures.some c.if-branch.true
 
 pub returns-then-self-eq0-clause-ended : goal.returns-then-self-eq0-clause-ended
 returns-then-self-eq0-clause-ended g c told tree t earlier later hand o h at z = λ _.
     let file = g.S.Store.file c.args.store.now in
     ends_empty file tree t c.args.movie.now earlier later hand c.args.self.now (no_samples file tree t earlier later c.args.self.now h c.if-self-eq0.true) h at z
-
-pub returns-clause-unchanged : goal.returns-clause-unchanged
-returns-clause-unchanged g c told tree t earlier later o h = λ _.
-    let i = c.loop-top.invariant in
-    let file = g.S.Store.file c.args.store.now in
-    let m = c.args.movie.now in
-    let u = i.going told tree t earlier later o h in
-    let n = (rw (i.honesty, i.file, c.in_default.is) at c.in_ok-top.ensures.next) told u.2.0.boxes (boxes_from file m tree t u.0 u.1 c.loop-top.self o u.2.0) in
-    let none = some_left file tree t u.0 u.1 c.loop-top.self u.2.0 (none_more file m tree t u.0 u.1 c.loop-top.self o u.2.0 n) in
-    c.if-self-eq0.false (sym (left_stays file tree t earlier later c.args.self.now c.loop-top.self h u) ∙ none)
-
-pub returns-clause-most : goal.returns-clause-most
-returns-clause-most g c told tree t n o h = takes_most (g.S.Store.file c.args.store.now) tree t n _ _ c.loop-top.self (c.loop-top.invariant.takes told tree t n o h)
-
-pub returns-then-branch-clause-work : goal.returns-then-branch-clause-work
-returns-then-branch-clause-work g c told tree t n o h =
-    let i = c.loop-top.invariant in
-    let file = g.S.Store.file c.args.store.now in
-    let m = c.args.movie.now in
-    let next = rw (i.honesty, i.file, c.in-Some.is) at c.in_ok-top.ensures.next in
-    let within = rw (i.file, c.in-Some.is) at c.in_ok-top.ensures.within in
-    let u = i.takes told tree t n o h in
-    let w = c.loop-top.self in
-    let s = u.1.stands in
-    let earlier = u.1.earlier in
-    let later = u.1.later in
-    let is_next = next told s.boxes (boxes_from file m tree t earlier later w o s) in
-    let f = first_later file m tree t earlier later w o s c.in-Some.top within.0 is_next in
-    let bytes = c.read_payload.new.room in
-    let same : length bytes ≡ length w.bytes.items = search rules in
-    let read = (rw (c.in_ok-top.ensures.honesty, i.honesty, c.in_ok-top.ensures.file, i.file) at c.in_ok-self.ensures.bytes) told in
-    let fills = c.in_ok-self.ensures.fills in
-    let held = holds_next file m tree t earlier later w o s c.in-Some.top within.0 is_next _ bytes c.in_ok-self.field-0 refl refl refl (with_items_is w.bytes bytes (same ∙ sym w.bytes.ok.0)) same fills.1 fills.0 read refl refl refl in
-    let e = c.in_ok-take.ensures in
-    takes_next file tree t m n _ _ _ w _ c.take.new.self u f.0 f.1 c.in_ok-take.field-0 f.2 held (e.taken file tree t earlier f.1 f.0 o held) e.moof (e.through t) e.way e.work
-
-pub returns-in_err-top-clause-most : goal.returns-in_err-top-clause-most
-returns-in_err-top-clause-most g c told tree t n o h =
-    let p = err_from_is_err_and c.from_residual.result c.from_residual.ensures.1 in
-    rw p.1 (takes_most (g.S.Store.file c.args.store.now) tree t n _ _ c.loop-top.self (c.loop-top.invariant.takes told tree t n o h))
-
-pub returns-in_err-self-clause-most : goal.returns-in_err-self-clause-most
-returns-in_err-self-clause-most g c told tree t n o h =
-    let p = err_from_is_err_and c.from_residual-in_err-self.result c.from_residual-in_err-self.ensures.1 in
-    rw p.1 (takes_most (g.S.Store.file c.args.store.now) tree t n _ _ c.loop-top.self (c.loop-top.invariant.takes told tree t n o h))
-
-pub returns-in_err-take-clause-most : goal.returns-in_err-take-clause-most
-returns-in_err-take-clause-most g c told tree t n o h =
-    let i = c.loop-top.invariant in
-    let file = g.S.Store.file c.args.store.now in
-    let m = c.args.movie.now in
-    let next = rw (i.honesty, i.file, c.in-Some.is) at c.in_ok-top.ensures.next in
-    let within = rw (i.file, c.in-Some.is) at c.in_ok-top.ensures.within in
-    let u = i.takes told tree t n o h in
-    let w = c.loop-top.self in
-    let s = u.1.stands in
-    let earlier = u.1.earlier in
-    let later = u.1.later in
-    let is_next = next told s.boxes (boxes_from file m tree t earlier later w o s) in
-    let f = first_later file m tree t earlier later w o s c.in-Some.top within.0 is_next in
-    let bytes = c.read_payload.new.room in
-    let same : length bytes ≡ length w.bytes.items = search rules in
-    let read = (rw (c.in_ok-top.ensures.honesty, i.honesty, c.in_ok-top.ensures.file, i.file) at c.in_ok-self.ensures.bytes) told in
-    let fills = c.in_ok-self.ensures.fills in
-    let held = holds_next file m tree t earlier later w o s c.in-Some.top within.0 is_next _ bytes c.in_ok-self.field-0 refl refl refl (with_items_is w.bytes bytes (same ∙ sym w.bytes.ok.0)) same fills.1 fills.0 read refl refl refl in
-    absurd (c.in_err-take.ensures.taken file tree t earlier f.1 f.0 o held)
-
-pub returns-then-len-movie-clause-most : goal.returns-then-len-movie-clause-most
-returns-then-len-movie-clause-most g c told tree t n o h = omega arith
-
-pub returns-then-branch-clause-some : goal.returns-then-branch-clause-some
-returns-then-branch-clause-some g c more = c.in_ok-take.ensures.some c.if-branch.true
