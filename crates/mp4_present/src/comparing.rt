@@ -11,7 +11,7 @@ ghost use Rattle.mp4_present.specs.words.Differing.{RefusesSample};
 ghost use Rattle.mp4_present.specs.words.WalkSteps.{walk_steps, walks_steps};
 ghost use Rattle.mp4_present.specs.declared.differences.Field.TheVariants as fields;
 
-use crate::comparing_fields::{compare_numbers, compare_u32};
+use crate::comparing_fields::compare_numbers;
 use crate::comparing_heads::{movie_differences, track_differences};
 use crate::comparing_samples::{Pairing, Side, compare_pair};
 use crate::differences::{Difference, Differences, Field, Subject};
@@ -122,7 +122,9 @@ fn compare_track_heads(
 {
     let mut found = track_differences(alloc, leaving, of, left, right)?;
     compare_numbers(of, Field::Start, info.start, other.start, &mut found)?;
-    compare_u32(of, Field::Samples, info.samples, other.samples, &mut found)?;
+    let samples = u64::from(info.samples);
+    let others = u64::from(other.samples);
+    compare_numbers(of, Field::Samples, samples, others, &mut found)?;
     Ok(found)
 }
 

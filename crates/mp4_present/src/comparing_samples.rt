@@ -14,12 +14,12 @@ ghost use Rattle.mp4_tables.specs.words.Keys.{key_seen, keys_seen};
 ghost use Rattle.mp4_present.specs.format.Comparison.{with_key};
 ghost use Rattle.mp4_present.specs.format.Differences.{numbers, bytes_differ};
 ghost use Rattle.mp4_store.specs.words.Device.{range};
-ghost use Rattle.mp4_present.specs.words.Differing.{flags_left, index_of, group_differences, differences_at, pair_differences, RefusesSample};
+ghost use Rattle.mp4_present.specs.words.Differing.{flags_left, sample_values, index_of, group_differences, differences_at, pair_differences, RefusesSample};
 ghost use Rattle.mp4_present.specs.words.Windows.{Shows};
 ghost use Rattle.mp4_present.specs.declared.differences.Field.TheVariants as fields;
 
 use crate::comparing_bytes::first_difference;
-use crate::comparing_fields::{compare_i32, compare_numbers, compare_u32, compare_values};
+use crate::comparing_fields::{compare_numbers, compare_value, compare_values, number, signed};
 use crate::differences::{Difference, Field, Subject, Value};
 use crate::file_window::FileWindow;
 use crate::leaving::Leaving;
@@ -42,20 +42,16 @@ fn flags_left(leaving: Leaving, flags: u32) -> u32
     }
 }
 
-// Adds the flags of two samples, where they differ.
-fn compare_flags(
-    leaving: Leaving,
-    of: Subject,
-    left: u32,
-    right: u32,
-    found: &mut Vec<Difference>,
-) -> Result<(), Memory>
-    ensures { OnOk result (found.new.items ≡ found.old.items
-        ++ numbers of fields.Flags (flags_left leaving left) (flags_left leaving right)) }
+// What a sample says before its indexes.
+fn sample_values(leaving: Leaving, sample: &SampleAt) -> [(Field, Value); 4]
+    ensures { result ≡ sample_values leaving sample.now }
 {
-    let first = flags_left(leaving, left);
-    let second = flags_left(leaving, right);
-    compare_u32(of, Field::Flags, first, second, found)
+    [
+        number(Field::Duration, u64::from(sample.duration)),
+        signed(Field::Offset, i64::from(sample.cto)),
+        number(Field::Flags, u64::from(flags_left(leaving, sample.flags))),
+        number(Field::Description, u64::from(sample.description)),
+    ]
 }
 
 // The index of a sample at a key, 0 where its track doesn't name it.
@@ -172,19 +168,11 @@ fn compare_samples(
         ++ differences_at leaving of keys.now left_keys.now left.now right_keys.now
         right.now) }
 {
-    compare_u32(of, Field::Duration, left.duration, right.duration, found)?;
-    compare_i32(of, Field::Offset, left.cto, right.cto, found)?;
-    compare_flags(leaving, of, left.flags, right.flags, found)?;
-    compare_u32(
-        of,
-        Field::Description,
-        left.description,
-        right.description,
-        found,
-    )?;
+    let values = sample_values(leaving, left);
+    compare_values(of, &values, &sample_values(leaving, right), found)?;
     compare_groups(of, keys, left_keys, left, right_keys, right, found)?;
-    compare_u32(of, Field::Size, left.size, right.size, found)?;
-    Ok(())
+    let size = u64::from(left.size);
+    compare_numbers(of, Field::Size, size, u64::from(right.size), found)
 }
 
 // Adds the first byte that differs, where two samples have one size. A sample that doesn't lie in
@@ -232,7 +220,7 @@ fn compare_bytes<S: Store, T: Store>(
     let first = first_difference(left_window, a, left.at, right_window, b, right.at, size)?;
     if let Some((place, byte, other)) = first {
         let field = Field::Byte(place + 1, size);
-        compare_values(of, field, Value::Byte(byte), Value::Byte(other), found)?;
+        compare_value(of, field, Value::Byte(byte), Value::Byte(other), found)?;
     }
     Ok(())
 }

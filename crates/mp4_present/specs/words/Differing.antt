@@ -6,9 +6,16 @@ use Rattle.mp4_tables.specs.words.Keys.{key_seen, keys_seen, key_place}
 use Rattle.mp4_tables.specs.declared.keys.GroupKey.{GroupKey}
 use Rattle.mp4_tables.specs.declared.keys.Keys.{Keys}
 use Rattle.mp4_tables.specs.declared.sample.SampleAt.{SampleAt}
-use Rattle.mp4_present.specs.format.Differences.{numbers, signed, bytes_differ}
+use Rattle.mp4_present.specs.format.Differences.{differ, numbers, signed, bytes_differ, each_differ}
 use Rattle.mp4_present.specs.format.Reduced.{sync_flag}
 use Rattle.mp4_present.specs.declared.leaving.Leaving.{Leaving}
+use Rattle.mp4_head.specs.format.Head.{Edit, Media, TrackHead, MovieHead}
+use Rattle.mp4_present.specs.declared.comparing_entries.Spot.{Spot}
+use Rattle.mp4_present.specs.declared.differences.Entries.{Entries}
+use Rattle.mp4_present.specs.declared.differences.Part.TheVariants as parts
+use Rattle.mp4_present.specs.declared.differences.Field.{Field}
+use Rattle.mp4_present.specs.declared.differences.Value.{Value}
+use Rattle.mp4_present.specs.declared.differences.Value.TheVariants.{Number, Signed}
 use Rattle.mp4_present.specs.declared.differences.Subject.{Subject}
 use Rattle.mp4_present.specs.declared.differences.Subject.TheVariants as subjects
 use Rattle.mp4_present.specs.declared.differences.Field.TheVariants as fields
@@ -41,6 +48,52 @@ RefusesSample left left_after right right_after refusals.StoreChanged = Unit {0}
 RefusesSample left left_after right right_after refusals.Memory = Unit {0}
 RefusesSample left left_after right right_after _ = ⊥
 
+-- ---- values of fields
+
+-- a value of a field, where it differs
+abbrev pub value_differs : Subject → ℕ → Field × Value → Field × Value → List Difference
+value_differs of n x y = differ of x.0 x.1 y.1
+
+-- of two lists of the same fields, each value that differs
+abbrev pub values_differ : Subject → List (Field × Value) → List (Field × Value) → List Difference
+values_differ of xs ys = each_differ (value_differs of) 1 xs ys
+
+-- the fields of `mvhd` before its matrix
+abbrev pub movie_values : MovieHead → List (Field × Value)
+movie_values m = (fields.Creation, Number m.creation) ∷ (fields.Modification, Number m.modification)
+    ∷ (fields.Timescale, Number m.timescale) ∷ (fields.Rate, Signed m.rate)
+    ∷ (fields.Volume, Signed m.volume) ∷ []
+
+-- the fields of `tkhd` before its matrix
+abbrev pub track_values : TrackHead → List (Field × Value)
+track_values t = (fields.Flags, Number t.flags) ∷ (fields.Creation, Number t.creation)
+    ∷ (fields.Modification, Number t.modification) ∷ (fields.Id, Number t.id)
+    ∷ (fields.Layer, Signed t.layer) ∷ (fields.AlternateGroup, Signed t.alternate_group)
+    ∷ (fields.Volume, Signed t.volume) ∷ []
+
+-- the fields of `tkhd` behind its matrix
+abbrev pub size_values : TrackHead → List (Field × Value)
+size_values t = (fields.Width, Number t.width) ∷ (fields.Height, Number t.height) ∷ []
+
+-- the fields of `mdhd`
+abbrev pub media_values : Media → List (Field × Value)
+media_values m = (fields.MediaCreation, Number m.creation)
+    ∷ (fields.MediaModification, Number m.modification)
+    ∷ (fields.MediaTimescale, Number m.timescale) ∷ (fields.Language, Number m.language) ∷ []
+
+-- the fields of an entry of `elst`
+abbrev pub edit_values : Spot → Edit → List (Field × Value)
+edit_values at e = (fields.Entry at.list at.number parts.SegmentDuration, Number e.segment_duration)
+    ∷ (fields.Entry at.list at.number parts.MediaTime, Signed e.media_time)
+    ∷ (fields.Entry at.list at.number parts.RateInteger, Signed e.rate_integer)
+    ∷ (fields.Entry at.list at.number parts.RateFraction, Signed e.rate_fraction) ∷ []
+
+-- what is said of each entry, by its number in a list
+abbrev pub at_number : {A : Type 0} → (Spot → A) → Subject → Entries → ℕ → A
+at_number one of list n = one (record { subject = of; list = list; number = n })
+
+-- ---- samples
+
 -- the index of a sample at a key of its track, 0 where that doesn't name it
 abbrev pub index_in : Option ℕ → List ℕ → ℕ
 index_in None groups = 0
@@ -51,6 +104,12 @@ index_of keys s key = index_in (key_place (key_seen key) (keys_seen keys)) s.gro
 
 abbrev pub flags_left : Leaving → ℕ → ℕ
 flags_left l flags = if l.flags then sync_flag flags else flags
+
+-- what a sample says before its indexes
+abbrev pub sample_values : Leaving → SampleAt → List (Field × Value)
+sample_values l s = (fields.Duration, Number s.duration) ∷ (fields.Offset, Signed s.cto)
+    ∷ (fields.Flags, Number (flags_left l s.flags))
+    ∷ (fields.Description, Number s.description) ∷ []
 
 -- what differs of the indexes at these keys
 abbrev pub group_differences : Subject → List GroupKey → Keys → SampleAt → Keys → SampleAt
