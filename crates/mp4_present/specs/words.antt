@@ -20,3 +20,6 @@ pub mod Windows
 pub mod NextSample
 pub mod Compared
 pub mod NumbersTold
+pub mod OverStores
+pub mod HandCarried
+pub mod ToOpen

@@ -1,21 +1,13 @@
 //! Samples of two tracks, compared one by one.
-ghost use Rattle.std.specs.Prelude.{◌≡◌, ◌+◌, ◌≤◌, ℕ, List, ◌++◌, [], length, map, fold, if◌then◌else◌, IfOk, IfErr, OnOk, OnErr, IsTrue};
-ghost use Rattle.mp4_boxes.specs.declared.refusal.Refusal.TheVariants as refusals;
-ghost use Rattle.mp4_head.specs.format.Tree.{TrackTree};
-ghost use Rattle.mp4_tables.specs.declared.sample.SampleAt.{SampleAt};
-ghost use Rattle.mp4_present.specs.format.Denotes.{FileTree};
-ghost use Rattle.mp4_present.specs.words.Compared.{WhereBothOpened, BothTakeOn, LieIn};
-ghost use Rattle.mp4_present.specs.words.Joined.{IsBelow};
-ghost use Rattle.mp4_present.specs.words.Movies.{IsWalkOf};
-ghost use Rattle.mp4_present.specs.words.NextSample.{TakesFirst};
-ghost use Rattle.mp4_present.specs.words.SamplesComing.{Comes};
-ghost use Rattle.mp4_present.specs.words.WalkSteps.{MayTake};
+ghost use Rattle.std.specs.Prelude.{◌≡◌, ℕ, ◌++◌, [], length, map, fold, if◌then◌else◌, IfOk, OnOk, IsTrue};
 ghost use Rattle.mp4_tables.specs.words.Keys.{key_seen, keys_seen};
 ghost use Rattle.mp4_present.specs.format.Comparison.{with_key};
-ghost use Rattle.mp4_present.specs.format.Differences.{numbers, bytes_differ};
-ghost use Rattle.mp4_store.specs.words.Device.{range};
-ghost use Rattle.mp4_present.specs.words.Differing.{flags_left, sample_values, index_of, group_differences, differences_at, pair_differences, RefusesSample};
-ghost use Rattle.mp4_present.specs.words.Windows.{Shows};
+ghost use Rattle.mp4_present.specs.format.Differences.{numbers};
+ghost use Rattle.mp4_present.specs.words.Compared.{StandsIn, BothCome, PairTaken, BothWork, LieIn};
+ghost use Rattle.mp4_present.specs.words.Differing.{flags_left, sample_values, index_of, group_differences, differences_at, sample_bytes_differ, RefusedBoth, RefusesSample};
+ghost use Rattle.mp4_present.specs.words.Joined.{IsBelow};
+ghost use Rattle.mp4_present.specs.words.OverStores.{OnlyReads, IsUnchanged};
+ghost use Rattle.mp4_present.specs.words.Windows.{BothShow};
 ghost use Rattle.mp4_present.specs.declared.differences.Field.TheVariants as fields;
 
 use crate::comparing_bytes::first_difference;
@@ -187,26 +179,16 @@ fn compare_bytes<S: Store, T: Store>(
     b: &mut T,
     found: &mut Vec<Difference>,
 ) -> Result<(), Refusal>
-    requires shows { IsTrue (S.is_honest a.old) → Shows (S.file a.old) left_window.old }
-    requires shows_right { IsTrue (T.is_honest b.old) → Shows (T.file b.old) right_window.old }
-    ensures honesty { S.is_honest a.new ≡ S.is_honest a.old }
-    ensures file { S.file a.new ≡ S.file a.old }
-    ensures honesty_right { T.is_honest b.new ≡ T.is_honest b.old }
-    ensures file_right { T.file b.new ≡ T.file b.old }
-    ensures shows { IsTrue (S.is_honest a.old) → Shows (S.file a.old) left_window.new }
-    ensures shows_right { IsTrue (T.is_honest b.old) → Shows (T.file b.old) right_window.new }
+    requires shows { BothShow S.Store a.old left_window.old T.Store b.old right_window.old }
+    ensures store { OnlyReads S.Store a.old a.new result }
+    ensures store_right { OnlyReads T.Store b.old b.new result }
+    ensures shows { BothShow S.Store a.old left_window.new T.Store b.old right_window.new }
     ensures bytes { OnOk result (IsTrue (S.is_honest a.old) → IsTrue (T.is_honest b.old)
         → found.new.items ≡ found.old.items
-        ++ bytes_differ of (λ (k : ℕ). fields.Byte k left.now.size) left.now.size right.now.size
-        (range (S.file a.old) left.now.at left.now.size)
-        (range (T.file b.old) right.now.at left.now.size)) }
+        ++ sample_bytes_differ of (S.file a.old) left.now (T.file b.old) right.now) }
     ensures unchanged { IsBelow (length (S.file a.old)) left.now
-        → IsBelow (length (T.file b.old)) right.now
-        → IfErr result (λ r. r ≡ refusals.StoreChanged → ⊥) }
-    ensures reads { OnOk result (S.read_failures a.new ≡ S.read_failures a.old) }
-    ensures reads_right { OnOk result (T.read_failures b.new ≡ T.read_failures b.old) }
-    ensures refusal { IfErr result (RefusesSample (S.read_failures a.old) (S.read_failures a.new)
-        (T.read_failures b.old) (T.read_failures b.new)) }
+        → IsBelow (length (T.file b.old)) right.now → IsUnchanged result }
+    ensures refusal { RefusedBoth S.Store a.old a.new T.Store b.old b.new result RefusesSample }
 {
     if left.size != right.size {
         return Ok(());
@@ -281,11 +263,9 @@ pub(crate) struct Side {
 }
 
 impl Side {
-    ghost use Rattle.std.specs.Prelude.{◌≡◌, ◌≤◌, ◌<◌, ℕ, List, length, slice_get, Some, IfOk};
-    ghost use Rattle.mp4_head.specs.format.Tree.{TrackTree};
-    ghost use Rattle.mp4_present.specs.format.Denotes.{FileTree};
+    ghost use Rattle.std.specs.Prelude.{◌≤◌, ◌<◌, ℕ, List, length, IfOk};
+    ghost use Rattle.mp4_present.specs.words.Compared.{WhereTrackOf};
     ghost use Rattle.mp4_present.specs.words.Movies.{IsWalkOf};
-    ghost use Rattle.mp4_present.specs.words.OpenedMovie.{IsOpenedAs};
     ghost use Rattle.mp4_present.specs.words.SamplesComing.{Comes, track_samples};
     ghost use Rattle.mp4_present.specs.words.WalkSteps.{MayTake, walk_steps};
     ghost use Rattle.mp4_present.specs.words.Windows.{Shows};
@@ -294,12 +274,10 @@ impl Side {
     pub(crate) fn new(alloc: Global, movie: &Movie, track: usize) -> Result<Side, Memory>
         requires { track < length movie.now.tracks }
         ensures walk { IfOk result (λ side. IsWalkOf movie.now side.walk) }
-        ensures coming { IfOk result (λ side. (file : List ℕ) (tree : FileTree) (t : TrackTree)
-            → IsOpenedAs file movie.now tree → slice_get tree.movie.tracks track ≡ Some t
-            → Comes file tree t movie.now side.walk (track_samples tree t)) }
-        ensures may { IfOk result (λ side. (file : List ℕ) (tree : FileTree) (t : TrackTree)
-            → IsOpenedAs file movie.now tree → slice_get tree.movie.tracks track ≡ Some t
-            → (n : ℕ) × MayTake file tree t side.walk n × (n ≤ walk_steps tree t)) }
+        ensures coming { IfOk result (λ side. WhereTrackOf movie.now track (λ file tree t.
+            Comes file tree t movie.now side.walk (track_samples tree t))) }
+        ensures may { IfOk result (λ side. WhereTrackOf movie.now track (λ file tree t.
+            (n : ℕ) × MayTake file tree t side.walk n × (n ≤ walk_steps tree t))) }
         ensures shows { IfOk result (λ side. (file : List ℕ) → Shows file side.window) }
     {
         let walk = movie.walk(alloc, track)?;
@@ -308,7 +286,8 @@ impl Side {
     }
 }
 
-// What differs between the next samples of both tracks, which are taken.
+// What differs between the next samples of both tracks, which are taken: both sides go on, and
+// what they may take of steps is less by those that were taken.
 pub(crate) fn compare_pair<S: Store, T: Store, L: Ledger>(
     alloc: Global,
     by: &Pairing,
@@ -321,55 +300,22 @@ pub(crate) fn compare_pair<S: Store, T: Store, L: Ledger>(
     b: &mut T,
     steps: &mut Steps<L>,
 ) -> Result<Vec<Difference>, Refusal>
-    requires walk { IsWalkOf left.now left_side.old.walk }
-    requires walk_right { IsWalkOf right.now right_side.old.walk }
-    requires shows { IsTrue (S.is_honest a.old) → Shows (S.file a.old) left_side.old.window }
-    requires shows_right { IsTrue (T.is_honest b.old)
-        → Shows (T.file b.old) right_side.old.window }
-    ensures honesty { S.is_honest a.new ≡ S.is_honest a.old }
-    ensures file { S.file a.new ≡ S.file a.old }
-    ensures honesty_right { T.is_honest b.new ≡ T.is_honest b.old }
-    ensures file_right { T.file b.new ≡ T.file b.old }
-    ensures walk { OnOk result (IsWalkOf left.now left_side.new.walk) }
-    ensures walk_right { OnOk result (IsWalkOf right.now right_side.new.walk) }
-    ensures shows { OnOk result (IsTrue (S.is_honest a.old)
-        → Shows (S.file a.old) left_side.new.window) }
-    ensures shows_right { OnOk result (IsTrue (T.is_honest b.old)
-        → Shows (T.file b.old) right_side.new.window) }
-    ensures found { WhereBothOpened (S.is_honest a.old) (S.file a.old) left.now
-        (T.is_honest b.old) (T.file b.old) right.now
-        (λ tree other. (t u : TrackTree) (xs ys : List SampleAt)
-        → Comes (S.file a.old) tree t left.now left_side.old.walk xs
-        → Comes (T.file b.old) other u right.now right_side.old.walk ys
-        → IfOk result (λ found. (x y : SampleAt)
-        × TakesFirst (S.file a.old) tree t left.now left_side.new.walk xs x
-        × TakesFirst (T.file b.old) other u right.now right_side.new.walk ys y
-        × (found.items ≡ pair_differences by.now.leaving by.now.track by.now.keys.items by.now.left
-        (S.file a.old) by.now.right (T.file b.old) number x y))) }
-    ensures unchanged { WhereBothOpened (S.is_honest a.old) (S.file a.old) left.now
-        (T.is_honest b.old) (T.file b.old) right.now
-        (λ tree other. (t u : TrackTree) (xs ys : List SampleAt)
-        → Comes (S.file a.old) tree t left.now left_side.old.walk xs
-        → Comes (T.file b.old) other u right.now right_side.old.walk ys
-        → LieIn (S.file a.old) xs → LieIn (T.file b.old) ys
-        → IfErr result (λ r. r ≡ refusals.StoreChanged → ⊥)) }
-    ensures work { WhereBothOpened (S.is_honest a.old) (S.file a.old) left.now
-        (T.is_honest b.old) (T.file b.old) right.now
-        (λ tree other. (t u : TrackTree) (n m : ℕ)
-        → MayTake (S.file a.old) tree t left_side.old.walk n
-        → MayTake (T.file b.old) other u right_side.old.walk m
-        → OnOk result (BothTakeOn (S.file a.old) tree t left_side.new.walk (T.file b.old) other u
-        right_side.new.walk (n + m) steps.old steps.new)) }
-    ensures most { WhereBothOpened (S.is_honest a.old) (S.file a.old) left.now
-        (T.is_honest b.old) (T.file b.old) right.now
-        (λ tree other. (t u : TrackTree) (n m : ℕ)
-        → MayTake (S.file a.old) tree t left_side.old.walk n
-        → MayTake (T.file b.old) other u right_side.old.walk m
-        → OnErr result (steps.new ≤ steps.old + (n + m))) }
-    ensures reads { OnOk result (S.read_failures a.new ≡ S.read_failures a.old) }
-    ensures reads_right { OnOk result (T.read_failures b.new ≡ T.read_failures b.old) }
-    ensures refusal { IfErr result (RefusesSample (S.read_failures a.old) (S.read_failures a.new)
-        (T.read_failures b.old) (T.read_failures b.new)) }
+    requires left { StandsIn S.Store a.old left.now left_side.old }
+    requires right { StandsIn T.Store b.old right.now right_side.old }
+    ensures store { OnlyReads S.Store a.old a.new result }
+    ensures store_right { OnlyReads T.Store b.old b.new result }
+    ensures left { OnOk result (StandsIn S.Store a.old left.now left_side.new) }
+    ensures right { OnOk result (StandsIn T.Store b.old right.now right_side.new) }
+    ensures found { BothCome S.Store a.old left.now left_side.old T.Store b.old right.now
+        right_side.old (λ tree t xs other u ys. IfOk result (λ found. PairTaken by.now number
+        (S.file a.old) tree t left.now left_side.new xs (T.file b.old) other u right.now
+        right_side.new ys found.items)) }
+    ensures unchanged { BothCome S.Store a.old left.now left_side.old T.Store b.old right.now
+        right_side.old (λ tree t xs other u ys.
+        LieIn (S.file a.old) xs → LieIn (T.file b.old) ys → IsUnchanged result) }
+    ensures work { BothWork S.Store a.old left.now left_side.old left_side.new T.Store b.old
+        right.now right_side.old right_side.new result steps.old steps.new }
+    ensures refusal { RefusedBoth S.Store a.old a.new T.Store b.old b.new result RefusesSample }
 {
     let x = left_side.walk.next_sample(left, a, steps)?;
     let y = right_side.walk.next_sample(right, b, steps)?;

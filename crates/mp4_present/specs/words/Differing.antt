@@ -1,5 +1,5 @@
 -- What two presentations don't have in common.
-use Rattle.std.specs.Prelude.{◌⊎◌, ℕ, Bool, true, false, if◌then◌else◌, List, [], ◌∷◌, ◌++◌, flat_map, slice_index, Option, None, Some}
+use Rattle.std.specs.Prelude.{◌⊎◌, ℕ, Bool, true, false, if◌then◌else◌, List, [], ◌∷◌, ◌++◌, flat_map, slice_index, Option, None, Some, Result, IfErr}
 use Rattle.mp4_boxes.specs.declared.refusal.Refusal.{Refusal}
 use Rattle.mp4_boxes.specs.declared.refusal.Refusal.TheVariants as refusals
 use Rattle.mp4_tables.specs.words.Keys.{key_seen, keys_seen, key_place}
@@ -20,6 +20,7 @@ use Rattle.mp4_present.specs.declared.differences.Subject.{Subject}
 use Rattle.mp4_present.specs.declared.differences.Subject.TheVariants as subjects
 use Rattle.mp4_present.specs.declared.differences.Field.TheVariants as fields
 use Rattle.mp4_store.specs.words.Device.{HasRisen, range}
+use Rattle.mp4_store.specs.declared.store.Store.{Ghosts as Store}
 use Rattle.mp4_present.specs.declared.differences.Difference.{Difference}
 
 -- the first that was taken, if there is one
@@ -47,6 +48,12 @@ RefusesSample left left_after right right_after refusals.StoreFailed =
 RefusesSample left left_after right right_after refusals.StoreChanged = Unit {0}
 RefusesSample left left_after right right_after refusals.Memory = Unit {0}
 RefusesSample left left_after right right_after _ = ⊥
+
+-- why it is refused: by how many reads of two stores had failed before, and have after it
+abbrev pub RefusedBoth : {X Y R : Type 0} → Store X → X → X → Store Y → Y → Y → Result R Refusal
+    → (ℕ → ℕ → ℕ → ℕ → Refusal → Type 0) → Type 0
+RefusedBoth S a a_after T b b_after result why = IfErr result (why (S.read_failures a)
+    (S.read_failures a_after) (T.read_failures b) (T.read_failures b_after))
 
 -- ---- values of fields
 
@@ -127,6 +134,11 @@ differences_at l of keys left_keys a right_keys b =
     ++ numbers of fields.Description a.description b.description
     ++ group_differences of keys left_keys a right_keys b
     ++ numbers of fields.Size a.size b.size
+
+-- the first byte that differs, of two samples of two files and of one size
+abbrev pub sample_bytes_differ : Subject → List ℕ → SampleAt → List ℕ → SampleAt → List Difference
+sample_bytes_differ of file a other b = bytes_differ of (λ (k : ℕ). fields.Byte k a.size) a.size
+    b.size (range file a.at a.size) (range other b.at a.size)
 
 -- what differs between two samples of two files, which have these numbers: also the first byte
 abbrev pub pair_differences : Leaving → ℕ → List GroupKey → Keys → List ℕ → Keys → List ℕ → ℕ
