@@ -21,5 +21,6 @@ pub mod NextSample
 pub mod Compared
 pub mod NumbersTold
 pub mod OverStores
+pub mod HeadsLeft
 pub mod HandCarried
 pub mod ToOpen

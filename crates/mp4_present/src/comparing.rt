@@ -1,16 +1,14 @@
 //! Two opened files, compared by what they say.
 ghost use Rattle.std.specs.Prelude.{◌≡◌, ◌+◌, ◌<◌, ◌≤◌, ℕ, ◌++◌, take, true, slice_get, IfOk, IfErr, OnOk};
 ghost use Rattle.mp4_boxes.specs.declared.refusal.Refusal.TheVariants as refusals;
-ghost use Rattle.mp4_head.specs.words.Seen.{track_seen};
 ghost use Rattle.mp4_present.specs.format.Comparison.{differences};
 ghost use Rattle.mp4_present.specs.format.Denotes.{presentation_of};
-ghost use Rattle.mp4_present.specs.format.Differences.{numbers, head_differences};
-ghost use Rattle.mp4_present.specs.format.Reduced.{reduce, reduce_track_head};
+ghost use Rattle.mp4_present.specs.format.Reduced.{reduce};
 ghost use Rattle.mp4_present.specs.words.Compared.{WhereBothOpened, HaveTracks, WhereTracks, OfSamples, OfTracks, TakesFront, TracksWork};
 ghost use Rattle.mp4_present.specs.words.Differing.{RefusesSample, RefusedBoth};
+ghost use Rattle.mp4_present.specs.words.HeadsLeft.{begun_differ};
 ghost use Rattle.mp4_present.specs.words.OverStores.{OnlyReads, IsUnchanged};
 ghost use Rattle.mp4_present.specs.words.WalkSteps.{walks_steps};
-ghost use Rattle.mp4_present.specs.declared.differences.Field.TheVariants as fields;
 
 use crate::comparing_fields::compare_numbers;
 use crate::comparing_heads::{movie_differences, track_differences};
@@ -103,11 +101,8 @@ fn compare_track_heads(
     right: &TrackHead,
     other: &TrackInfo,
 ) -> Result<Vec<Difference>, Memory>
-    ensures { IfOk result (λ found. found.items ≡ head_differences of
-        (reduce_track_head leaving (track_seen left.now))
-        (reduce_track_head leaving (track_seen right.now))
-        ++ numbers of fields.Start info.now.start other.now.start
-        ++ numbers of fields.Samples info.now.samples other.now.samples) }
+    ensures { IfOk result (λ found. found.items
+        ≡ begun_differ leaving of left.now info.now right.now other.now) }
 {
     let mut found = track_differences(alloc, leaving, of, left, right)?;
     compare_numbers(of, Field::Start, info.start, other.start, &mut found)?;

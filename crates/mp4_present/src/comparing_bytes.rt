@@ -1,8 +1,8 @@
 //! Bytes of samples, compared.
-ghost use Rattle.std.specs.Prelude.{◌≡◌, ◌+◌, ◌<◌, ◌≤◌, IfSome, length, IfOk, IsTrue};
+ghost use Rattle.std.specs.Prelude.{◌≡◌, ◌+◌, ◌<◌, ◌≤◌, IfSome, length, IfOk};
 ghost use Rattle.mp4_store.specs.words.Device.{range};
 ghost use Rattle.mp4_present.specs.format.Differences.{first_unequal};
-ghost use Rattle.mp4_present.specs.words.OverStores.{OnlyReads};
+ghost use Rattle.mp4_present.specs.words.OverStores.{OnlyReads, WhereBothHonest};
 ghost use Rattle.mp4_present.specs.words.Windows.{BothShow};
 ghost use Rattle.mp4_present.specs.words.Differing.{RefusedBoth, RefusesEither};
 
@@ -27,9 +27,8 @@ pub(crate) fn first_difference<S: Store, T: Store>(
     ensures store { OnlyReads S.Store a.old a.new result }
     ensures store_right { OnlyReads T.Store b.old b.new result }
     ensures shows { BothShow S.Store a.old left.new T.Store b.old right.new }
-    ensures found { IfOk result (λ found. IsTrue (S.is_honest a.old) → IsTrue (T.is_honest b.old)
-        → found ≡ first_unequal 0 (range (S.file a.old) left_at len)
-        (range (T.file b.old) right_at len)) }
+    ensures found { IfOk result (λ found. WhereBothHonest S.Store a.old T.Store b.old (λ file other.
+        found ≡ first_unequal 0 (range file left_at len) (range other right_at len))) }
     ensures within { IfOk result (λ found. IfSome found (λ f. f.0 < len)) }
     ensures refusal { RefusedBoth S.Store a.old a.new T.Store b.old b.new result RefusesEither }
 {

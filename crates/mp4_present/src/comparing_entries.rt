@@ -2,8 +2,9 @@
 ghost use Rattle.std.specs.Prelude.{◌≡◌, ◌++◌, List, OnOk};
 ghost use Rattle.mp4_head.specs.words.Seen.{kept_seen, description_seen, edit_seen};
 ghost use Rattle.mp4_present.specs.declared.differences.Difference.{Difference};
-ghost use Rattle.mp4_present.specs.format.Differences.{payload_differences, box_differences, list_differences};
-ghost use Rattle.mp4_present.specs.words.Differing.{values_differ, edit_values, at_number};
+ghost use Rattle.mp4_present.specs.format.Differences.{payload_differences, box_differences};
+ghost use Rattle.mp4_present.specs.words.HeadsLeft.{entries_differ};
+ghost use Rattle.mp4_present.specs.words.Differing.{values_differ, edit_values};
 ghost use Rattle.mp4_present.specs.declared.comparing_entries.Spot.{Spot};
 
 use crate::comparing_fields::{
@@ -148,8 +149,7 @@ pub(crate) fn compare_lists<E: Entry>(
     found: &mut Vec<Difference>,
 ) -> Result<(), Memory>
     ensures { OnOk result (found.new.items ≡ found.old.items
-        ++ list_differences subject list (at_number E.differences subject list)
-        left.now right.now) }
+        ++ entries_differ E.differences subject list left.now right.now) }
 {
     let count = left.len() as u64;
     let others = right.len() as u64;

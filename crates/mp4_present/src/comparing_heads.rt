@@ -1,12 +1,10 @@
 //! Heads of movies and of tracks, compared behind what was left out of them.
-ghost use Rattle.std.specs.Prelude.{◌≡◌, ◌||◌, not, ◌++◌, length, map, if◌then◌else◌, IfOk, OnOk, []};
+ghost use Rattle.std.specs.Prelude.{◌≡◌, ◌||◌, not, ◌++◌, map, if◌then◌else◌, IfOk, OnOk, []};
 ghost use Rattle.mp4_boxes.specs.format.Children.{is_among};
 ghost use Rattle.mp4_head.specs.words.Seen.{kept_seen, media_seen, track_seen, movie_seen};
-ghost use Rattle.mp4_present.specs.format.Differences.{numbers, movie_differences, kept_differences, media_fields, media_lists, head_differences};
 ghost use Rattle.mp4_present.specs.format.Reduced.{metadata_kinds, reduce_kept, reduce_media, reduce_track_head, reduce_movie_head};
+ghost use Rattle.mp4_present.specs.words.HeadsLeft.{movies_differ, kept_differ, media_differ, heads_differ};
 ghost use Rattle.mp4_present.specs.words.Differing.{movie_values, track_values, size_values, media_values};
-ghost use Rattle.mp4_present.specs.declared.differences.Field.TheVariants as fields;
-ghost use Rattle.mp4_present.specs.declared.differences.Subject.TheVariants as subjects;
 
 use crate::comparing_entries::{Entry, Spot, compare_lists, compare_payloads};
 use crate::comparing_fields::{compare_matrices, compare_numbers, compare_values, number, signed};
@@ -59,8 +57,7 @@ fn compare_kept(
     found: &mut Vec<Difference>,
 ) -> Result<(), Memory>
     ensures { OnOk result (found.new.items ≡ found.old.items
-        ++ kept_differences of (reduce_kept leaving (map kept_seen left.now.items))
-        (reduce_kept leaving (map kept_seen right.now.items))) }
+        ++ kept_differ leaving of left.now.items right.now.items) }
 {
     let first = kept_left(alloc, leaving, left)?;
     let second = kept_left(alloc, leaving, right)?;
@@ -131,11 +128,7 @@ pub(crate) fn movie_differences(
     left: &MovieHead,
     right: &MovieHead,
 ) -> Result<Vec<Difference>, Memory>
-    ensures { IfOk result (λ found. found.items
-        ≡ movie_differences (reduce_movie_head leaving (movie_seen left.now))
-        (reduce_movie_head leaving (movie_seen right.now))
-        ++ numbers subjects.Movie fields.Tracks (length left.now.tracks.items)
-        (length right.now.tracks.items)) }
+    ensures { IfOk result (λ found. found.items ≡ movies_differ leaving left.now right.now) }
 {
     let of = Subject::Movie;
     let mut found = Vec::new(alloc);
@@ -158,9 +151,7 @@ fn compare_media(
     found: &mut Vec<Difference>,
 ) -> Result<(), Memory>
     ensures { OnOk result (found.new.items ≡ found.old.items
-        ++ (media_fields of (reduce_media leaving (media_seen left.now))
-        (reduce_media leaving (media_seen right.now))
-        ++ media_lists of (media_seen left.now) (media_seen right.now))) }
+        ++ media_differ leaving of left.now right.now) }
 {
     let values = media_values(leaving, left);
     compare_values(of, &values, &media_values(leaving, right), found)?;
@@ -183,9 +174,7 @@ pub(crate) fn track_differences(
     left: &TrackHead,
     right: &TrackHead,
 ) -> Result<Vec<Difference>, Memory>
-    ensures { IfOk result (λ found. found.items ≡ head_differences of
-        (reduce_track_head leaving (track_seen left.now))
-        (reduce_track_head leaving (track_seen right.now))) }
+    ensures { IfOk result (λ found. found.items ≡ heads_differ leaving of left.now right.now) }
 {
     let mut found = Vec::new(alloc);
     let values = track_values(leaving, left);

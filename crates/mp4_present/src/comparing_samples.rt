@@ -1,14 +1,12 @@
 //! Samples of two tracks, compared one by one.
-ghost use Rattle.std.specs.Prelude.{◌≡◌, ℕ, ◌++◌, [], length, map, fold, if◌then◌else◌, IfOk, OnOk, IsTrue};
+ghost use Rattle.std.specs.Prelude.{◌≡◌, ℕ, ◌++◌, [], length, map, fold, if◌then◌else◌, IfOk, OnOk};
 ghost use Rattle.mp4_tables.specs.words.Keys.{key_seen, keys_seen};
 ghost use Rattle.mp4_present.specs.format.Comparison.{with_key};
-ghost use Rattle.mp4_present.specs.format.Differences.{numbers};
-ghost use Rattle.mp4_present.specs.words.Compared.{StandsIn, BothCome, PairTaken, BothWork, LieIn};
+ghost use Rattle.mp4_present.specs.words.Compared.{StandsIn, PairFound, BothWork, WhereBothLie};
 ghost use Rattle.mp4_present.specs.words.Differing.{flags_left, sample_values, index_of, group_differences, differences_at, sample_bytes_differ, RefusedBoth, RefusesSample};
 ghost use Rattle.mp4_present.specs.words.Joined.{IsBelow};
-ghost use Rattle.mp4_present.specs.words.OverStores.{OnlyReads, IsUnchanged};
+ghost use Rattle.mp4_present.specs.words.OverStores.{OnlyReads, WhereBothHonest, IsUnchanged};
 ghost use Rattle.mp4_present.specs.words.Windows.{BothShow};
-ghost use Rattle.mp4_present.specs.declared.differences.Field.TheVariants as fields;
 
 use crate::comparing_bytes::first_difference;
 use crate::comparing_fields::{compare_numbers, compare_value, compare_values, number, signed};
@@ -108,61 +106,79 @@ fn joint_keys(
     Ok(keys)
 }
 
-// Adds the index at a key, where it differs.
-fn compare_index(
-    of: Subject,
-    key: GroupKey,
-    left_keys: &Keys,
-    left: &SampleAt,
-    right_keys: &Keys,
-    right: &SampleAt,
-    found: &mut Vec<Difference>,
-) -> Result<(), Memory>
-    ensures { OnOk result (found.new.items ≡ found.old.items ++ numbers of (fields.Group key)
-        (index_of left_keys.now left.now key) (index_of right_keys.now right.now key)) }
-{
-    let index = u64::from(index_at(left_keys, left, key));
-    let other = u64::from(index_at(right_keys, right, key));
-    compare_numbers(of, Field::Group(key), index, other, found)
+// What samples of two tracks are compared by: what is left out, the number of the tracks, the keys
+// of each, and those of both in their order.
+#[derive(Drop)]
+pub(crate) struct Pairing {
+    leaving: Leaving,
+    track: u64,
+    left: Keys,
+    right: Keys,
+    keys: Vec<GroupKey>,
 }
 
-// Adds each index that differs, at these keys.
+impl Pairing {
+    ghost use Rattle.std.specs.Prelude.{◌≡◌, Some, IfOk};
+    ghost use Rattle.mp4_present.specs.words.Compared.{HaveTracks, IsPairingAt};
+
+    // Of the tracks at this place in both movies.
+    pub(crate) fn new(
+        alloc: Global,
+        leaving: Leaving,
+        left: &Movie,
+        right: &Movie,
+        track: usize,
+    ) -> Result<Pairing, Memory>
+        requires { HaveTracks track left.now right.now }
+        ensures { IfOk result (IsPairingAt leaving track left.now right.now) }
+    {
+        let info = left.tracks()[track];
+        let other = right.tracks()[track];
+        let keys = joint_keys(alloc, leaving, &info.keys, &other.keys)?;
+        Ok(Pairing {
+            leaving,
+            track: track as u64 + 1,
+            left: info.keys,
+            right: other.keys,
+            keys,
+        })
+    }
+}
+
+// Adds each index that differs.
 fn compare_groups(
     of: Subject,
-    keys: &[GroupKey],
-    left_keys: &Keys,
+    by: &Pairing,
     left: &SampleAt,
-    right_keys: &Keys,
     right: &SampleAt,
     found: &mut Vec<Difference>,
 ) -> Result<(), Memory>
-    ensures { OnOk result (found.new.items ≡ found.old.items ++ group_differences of keys.now
-        left_keys.now left.now right_keys.now right.now) }
+    ensures { OnOk result (found.new.items ≡ found.old.items ++ group_differences of
+        by.now.keys.items by.now.left left.now by.now.right right.now) }
 {
-    for k in 0..keys.len() {
-        compare_index(of, keys[k], left_keys, left, right_keys, right, found)?;
+    for k in 0..by.keys.len() {
+        let key = by.keys[k];
+        let index = u64::from(index_at(&by.left, left, key));
+        let other = u64::from(index_at(&by.right, right, key));
+        compare_numbers(of, Field::Group(key), index, other, found)?;
     }
     Ok(())
 }
 
 // Adds what differs between two samples apart from their bytes.
 fn compare_samples(
-    leaving: Leaving,
     of: Subject,
-    keys: &[GroupKey],
-    left_keys: &Keys,
+    by: &Pairing,
     left: &SampleAt,
-    right_keys: &Keys,
     right: &SampleAt,
     found: &mut Vec<Difference>,
 ) -> Result<(), Memory>
-    ensures { OnOk result (found.new.items ≡ found.old.items
-        ++ differences_at leaving of keys.now left_keys.now left.now right_keys.now
-        right.now) }
+    ensures { OnOk result (found.new.items ≡ found.old.items ++ differences_at by.now.leaving of
+        by.now.keys.items by.now.left left.now by.now.right right.now) }
 {
-    let values = sample_values(leaving, left);
-    compare_values(of, &values, &sample_values(leaving, right), found)?;
-    compare_groups(of, keys, left_keys, left, right_keys, right, found)?;
+    let values = sample_values(by.leaving, left);
+    compare_values(of, &values, &sample_values(by.leaving, right), found)?;
+    compare_groups(of, by, left, right, found)?;
     let size = u64::from(left.size);
     compare_numbers(of, Field::Size, size, u64::from(right.size), found)
 }
@@ -183,9 +199,9 @@ fn compare_bytes<S: Store, T: Store>(
     ensures store { OnlyReads S.Store a.old a.new result }
     ensures store_right { OnlyReads T.Store b.old b.new result }
     ensures shows { BothShow S.Store a.old left_window.new T.Store b.old right_window.new }
-    ensures bytes { OnOk result (IsTrue (S.is_honest a.old) → IsTrue (T.is_honest b.old)
-        → found.new.items ≡ found.old.items
-        ++ sample_bytes_differ of (S.file a.old) left.now (T.file b.old) right.now) }
+    ensures bytes { OnOk result (WhereBothHonest S.Store a.old T.Store b.old (λ file other.
+        found.new.items
+        ≡ found.old.items ++ sample_bytes_differ of file left.now other right.now)) }
     ensures unchanged { IsBelow (length (S.file a.old)) left.now
         → IsBelow (length (T.file b.old)) right.now → IsUnchanged result }
     ensures refusal { RefusedBoth S.Store a.old a.new T.Store b.old b.new result RefusesSample }
@@ -205,50 +221,6 @@ fn compare_bytes<S: Store, T: Store>(
         compare_value(of, field, Value::Byte(byte), Value::Byte(other), found)?;
     }
     Ok(())
-}
-
-// What samples of two tracks are compared by: what is left out, the number of the tracks, the keys
-// of each, and those of both in their order.
-#[derive(Drop)]
-pub(crate) struct Pairing {
-    leaving: Leaving,
-    track: u64,
-    left: Keys,
-    right: Keys,
-    keys: Vec<GroupKey>,
-}
-
-impl Pairing {
-    ghost use Rattle.std.specs.Prelude.{◌≡◌, ◌<◌, length, slice_get, Some, IfOk};
-    ghost use Rattle.mp4_present.specs.words.Compared.{IsPairingOf};
-    ghost use Rattle.mp4_present.specs.declared.track_info.TrackInfo.{TrackInfo};
-
-    // Of the tracks at this place in both movies.
-    pub(crate) fn new(
-        alloc: Global,
-        leaving: Leaving,
-        left: &Movie,
-        right: &Movie,
-        track: usize,
-    ) -> Result<Pairing, Memory>
-        requires left { track < length left.now.tracks }
-        requires right { track < length right.now.tracks }
-        ensures { IfOk result (λ by. (info other : TrackInfo)
-            → slice_get left.now.tracks track ≡ Some info
-            → slice_get right.now.tracks track ≡ Some other
-            → IsPairingOf leaving track info other by) }
-    {
-        let info = left.tracks()[track];
-        let other = right.tracks()[track];
-        let keys = joint_keys(alloc, leaving, &info.keys, &other.keys)?;
-        Ok(Pairing {
-            leaving,
-            track: track as u64 + 1,
-            left: info.keys,
-            right: other.keys,
-            keys,
-        })
-    }
 }
 
 // How many bytes of a file are read at once.
@@ -306,13 +278,10 @@ pub(crate) fn compare_pair<S: Store, T: Store, L: Ledger>(
     ensures store_right { OnlyReads T.Store b.old b.new result }
     ensures left { OnOk result (StandsIn S.Store a.old left.now left_side.new) }
     ensures right { OnOk result (StandsIn T.Store b.old right.now right_side.new) }
-    ensures found { BothCome S.Store a.old left.now left_side.old T.Store b.old right.now
-        right_side.old (λ tree t xs other u ys. IfOk result (λ found. PairTaken by.now number
-        (S.file a.old) tree t left.now left_side.new xs (T.file b.old) other u right.now
-        right_side.new ys found.items)) }
-    ensures unchanged { BothCome S.Store a.old left.now left_side.old T.Store b.old right.now
-        right_side.old (λ tree t xs other u ys.
-        LieIn (S.file a.old) xs → LieIn (T.file b.old) ys → IsUnchanged result) }
+    ensures found { PairFound by.now number S.Store a.old left.now left_side.old left_side.new
+        T.Store b.old right.now right_side.old right_side.new (λ found. found.items) result }
+    ensures unchanged { WhereBothLie S.Store a.old left.now left_side.old T.Store b.old right.now
+        right_side.old (IsUnchanged result) }
     ensures work { BothWork S.Store a.old left.now left_side.old left_side.new T.Store b.old
         right.now right_side.old right_side.new result steps.old steps.new }
     ensures refusal { RefusedBoth S.Store a.old a.new T.Store b.old b.new result RefusesSample }
@@ -320,11 +289,8 @@ pub(crate) fn compare_pair<S: Store, T: Store, L: Ledger>(
     let x = left_side.walk.next_sample(left, a, steps)?;
     let y = right_side.walk.next_sample(right, b, steps)?;
     let of = Subject::Sample(by.track, number);
-    let keys = by.keys.as_slice();
     let mut found = Vec::new(alloc);
-    compare_samples(
-        by.leaving, of, keys, &by.left, &x, &by.right, &y, &mut found,
-    )?;
+    compare_samples(of, by, &x, &y, &mut found)?;
     let window = &mut right_side.window;
     compare_bytes(of, &x, &mut left_side.window, a, &y, window, b, &mut found)?;
     Ok(found)

@@ -1,5 +1,5 @@
 -- Two opened files that are compared, track by track and sample by sample.
-use Rattle.std.specs.Prelude.{◌≡◌, ◌<◌, ◌≤◌, ◌+◌, ℕ, Bool, IsTrue, List, [], ◌++◌, length, take, map, fold, if◌then◌else◌, Some, slice_get, Result, MatchResult}
+use Rattle.std.specs.Prelude.{◌≡◌, ◌<◌, ◌≤◌, ◌+◌, ℕ, Bool, IsTrue, List, [], ◌++◌, length, take, map, fold, if◌then◌else◌, Some, slice_get, Result, MatchResult, IfOk}
 use Rattle.std.specs.List.{AllByRecursion}
 use Rattle.mp4_tables.specs.words.Keys.{key_seen, keys_seen}
 use Rattle.mp4_tables.specs.declared.sample.SampleAt.{SampleAt}
@@ -43,6 +43,11 @@ pub record IsPairingOf (leaving : Leaving) (track : ℕ) (info other : TrackInfo
   pub right_keys : by.right ≡ other.keys
   pub all_keys : map key_seen by.keys.items ≡ (if leaving.groups then []
       else fold with_key [] (keys_seen info.keys ++ keys_seen other.keys))
+
+-- the same of the tracks at this place of two movies
+abbrev pub IsPairingAt : Leaving → ℕ → MovieSeen → MovieSeen → Pairing → Type 0
+IsPairingAt leaving track m n by = (info other : TrackInfo) → slice_get m.tracks track ≡ Some info
+    → slice_get n.tracks track ≡ Some other → IsPairingOf leaving track info other by
 
 -- there is a sample, and all of them lie in the file
 abbrev pub LieIn : List ℕ → List SampleAt → Type 0
@@ -152,6 +157,20 @@ PairTaken by number file tree t m left xs file_right other u n right ys found = 
     × TakesFirst file tree t m left.walk xs x × TakesFirst file_right other u n right.walk ys y
     × (found ≡ pair_differences by.leaving by.track by.keys.items by.left file by.right file_right
     number x y)
+
+-- At Ok the first samples of both were taken, and what is answered are their differences.
+abbrev pub PairFound : {X Y V E : Type 0} → Pairing → ℕ → Store X → X → MovieSeen → Side → Side
+    → Store Y → Y → MovieSeen → Side → Side → (V → List Difference) → Result V E → Type 0
+PairFound by number S a m left left_after T b n right right_after items result =
+    BothCome S a m left T b n right (λ tree t xs other u ys. IfOk result (λ found.
+    PairTaken by number (S.file a) tree t m left_after xs (T.file b) other u n right_after ys
+    (items found)))
+
+-- where the samples that come on both sides lie in their files, and are some, it is so
+abbrev pub WhereBothLie : {X Y : Type 0} → Store X → X → MovieSeen → Side → Store Y → Y
+    → MovieSeen → Side → Type 0 → Type 0
+WhereBothLie S a m left T b n right P = BothCome S a m left T b n right
+    (λ tree t xs other u ys. LieIn (S.file a) xs → LieIn (T.file b) ys → P)
 
 -- At Ok both sides take on what steps are left; at Err no more were taken than both may take.
 abbrev pub BothWork : {X Y T E : Type 0} → Store X → X → MovieSeen → Side → Side → Store Y → Y

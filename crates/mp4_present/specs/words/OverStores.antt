@@ -20,6 +20,12 @@ WhereHonest S store P = IsTrue (S.is_honest store) → P (S.file store)
 abbrev pub WhereRead : {X T E : Type 0} → Store X → X → Result T E → (List ℕ → T → Type 0) → Type 0
 WhereRead S store result P = IfOk result (λ x. IsTrue (S.is_honest store) → P (S.file store) x)
 
+-- the same of two stores
+abbrev pub WhereBothHonest : {X Y : Type 0} → Store X → X → Store Y → Y
+    → (List ℕ → List ℕ → Type 0) → Type 0
+WhereBothHonest S a T b P = IsTrue (S.is_honest a) → IsTrue (T.is_honest b)
+    → P (S.file a) (T.file b)
+
 -- why it is refused: by how many reads had failed before, and have after it
 abbrev pub Refused : {X T : Type 0} → Store X → X → X → Result T Refusal
     → (ℕ → ℕ → Refusal → Type 0) → Type 0

@@ -1,11 +1,16 @@
 -- What is known of a file while it is opened, in few words.
-use Rattle.std.specs.Prelude.{◌≡◌, ℕ, ◌+◌, ◌≤◌, List, length, map, Result}
+use Rattle.std.specs.Prelude.{◌≡◌, ℕ, ◌+◌, ◌≤◌, List, [], ◌∷◌, ◌++◌, length, map, Result}
 use Rattle.mp4_boxes.specs.format.Box.{Box, IsFront, sizes, file_container}
 use Rattle.mp4_boxes.specs.declared.headers.TopHeader.{TopHeader}
 use Rattle.mp4_boxes.specs.declared.refusal.Refusal.{Refusal}
 use Rattle.mp4_store.specs.words.Device.{range}
 use Rattle.mp4_frag.specs.declared.state.TrackState.{TrackState}
-use Rattle.mp4_head.specs.format.Tree.{MovieTree}
+use Rattle.mp4_frag.specs.declared.trex.Trex.{Trex}
+use Rattle.mp4_head.specs.declared.heads.TrackHead.{TrackHead}
+use Rattle.mp4_head.specs.format.Tree.{MovieTree, TrackTree}
+use Rattle.mp4_present.specs.words.Plain.{ArePlain}
+use Rattle.mp4_present.specs.words.TrackTrees.{IsTrackOf, HaveTables}
+use Rattle.mp4_present.specs.declared.tables_pass.PlainTracks.{PlainTracks}
 use Rattle.mp4_present.specs.format.Denotes.{FileTree, IsFileTree, HasMovie}
 use Rattle.mp4_present.specs.words.Outline.{AreSeen}
 use Rattle.mp4_present.specs.words.PassedMoofs.{IsBegun, IsPassed}
@@ -46,3 +51,13 @@ abbrev pub WhereSeen : ℕ → TopHeader → Seen → (List ℕ → List Box →
 WhereSeen at header seen P = (file : List ℕ) (boxes : List Box)
     → IsFront (file_container file) boxes → sizes boxes ≡ at
     → IsTopHeader file at header → AreSeen file boxes seen → P file boxes
+
+-- the tables of one more track are plain in these bytes of a `moov`
+abbrev pub OneMorePlain : List ℕ → PlainTracks → PlainTracks → Type 0
+OneMorePlain moov before after = (n : ℕ) → ArePlain moov n before → ArePlain moov (n + 1) after
+
+-- the tables of one more track are read as its boxes say
+abbrev pub OneMoreSaid : ℕ → List ℕ → List Trex → TrackHead → PlainTracks → PlainTracks → Type 0
+OneMoreSaid file_length moov trexes head before after = (t : TrackTree) (trees : List TrackTree)
+    → IsTrackOf t head → HaveTables file_length moov trexes trees before
+    → HaveTables file_length moov trexes (trees ++ t ∷ []) after
