@@ -112,7 +112,8 @@ fn compare_track_heads(
     Ok(found)
 }
 
-// Compares the tracks at one place, of which these are the heads.
+// Compares the tracks at one place, of which these are the heads: what differs is handed over until
+// no more is taken.
 fn compare_tracks<S: Store, T: Store, D: Differences, L: Ledger>(
     alloc: Global,
     track: usize,
