@@ -68,6 +68,7 @@ pub mod OpenedDenotes
 pub mod PassedOn
 pub mod GoneBack
 pub mod Differing
+pub mod FieldValues
 pub mod ComparisonValues
 pub mod ComparisonHeads
 pub mod ComparisonGroups

@@ -20,4 +20,8 @@ pub mod Windows
 pub mod NextSample
 pub mod Compared
 pub mod NumbersTold
+pub mod OverStores
+pub mod HeadsLeft
+pub mod HandCarried
+pub mod ToOpen
 pub mod OwnMoofs

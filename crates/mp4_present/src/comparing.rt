@@ -1,17 +1,16 @@
 //! Two opened files, compared by what they say.
-ghost use Rattle.std.specs.Prelude.{◌≡◌, ◌+◌, ◌<◌, ◌≤◌, ℕ, ◌++◌, length, take, true, slice_get, IfOk, IfErr, OnOk};
+ghost use Rattle.std.specs.Prelude.{◌≡◌, ◌+◌, ◌<◌, ◌≤◌, ℕ, ◌++◌, take, true, slice_get, IfOk, IfErr, OnOk};
 ghost use Rattle.mp4_boxes.specs.declared.refusal.Refusal.TheVariants as refusals;
-ghost use Rattle.mp4_head.specs.words.Seen.{track_seen};
 ghost use Rattle.mp4_present.specs.format.Comparison.{differences};
 ghost use Rattle.mp4_present.specs.format.Denotes.{presentation_of};
-ghost use Rattle.mp4_present.specs.format.Differences.{numbers, head_differences};
-ghost use Rattle.mp4_present.specs.format.Reduced.{reduce, reduce_track_head};
-ghost use Rattle.mp4_present.specs.words.Compared.{WhereBothOpened, AtTracks, AtHeads, TakesFront, samples_differ, tracks_differ};
-ghost use Rattle.mp4_present.specs.words.Differing.{RefusesSample};
-ghost use Rattle.mp4_present.specs.words.WalkSteps.{walk_steps, walks_steps};
-ghost use Rattle.mp4_present.specs.declared.differences.Field.TheVariants as fields;
+ghost use Rattle.mp4_present.specs.format.Reduced.{reduce};
+ghost use Rattle.mp4_present.specs.words.Compared.{WhereBothOpened, HaveTracks, WhereTracks, OfSamples, OfTracks, TakesFront, TracksWork};
+ghost use Rattle.mp4_present.specs.words.Differing.{RefusesSample, RefusedBoth};
+ghost use Rattle.mp4_present.specs.words.HeadsLeft.{begun_differ};
+ghost use Rattle.mp4_present.specs.words.OverStores.{OnlyReads, IsUnchanged};
+ghost use Rattle.mp4_present.specs.words.WalkSteps.{walks_steps};
 
-use crate::comparing_fields::{compare_numbers, compare_u32};
+use crate::comparing_fields::compare_numbers;
 use crate::comparing_heads::{movie_differences, track_differences};
 use crate::comparing_samples::{Pairing, Side, compare_pair};
 use crate::differences::{Difference, Differences, Field, Subject};
@@ -40,7 +39,8 @@ fn hand_over<D: Differences>(found: &[Difference], seen: &mut D) -> bool
     true
 }
 
-// Compares the samples of two tracks that stand at one place.
+// Compares the samples of two tracks that stand at one place: what differs is handed over until no
+// more is taken.
 fn compare_track_samples<S: Store, T: Store, D: Differences, L: Ledger>(
     alloc: Global,
     track: usize,
@@ -52,33 +52,20 @@ fn compare_track_samples<S: Store, T: Store, D: Differences, L: Ledger>(
     seen: &mut D,
     steps: &mut Steps<L>,
 ) -> Result<bool, Refusal>
-    requires left { track < length left.now.tracks }
-    requires right { track < length right.now.tracks }
+    requires tracks { HaveTracks track left.now right.now }
     requires goes { D.is_open seen.old ≡ true }
-    ensures honesty { S.is_honest a.new ≡ S.is_honest a.old }
-    ensures file { S.file a.new ≡ S.file a.old }
-    ensures honesty_right { T.is_honest b.new ≡ T.is_honest b.old }
-    ensures file_right { T.file b.new ≡ T.file b.old }
+    ensures store { OnlyReads S.Store a.old a.new result }
+    ensures store_right { OnlyReads T.Store b.old b.new result }
     ensures goes { IfOk result (λ all. all ≡ D.is_open seen.new) }
-    ensures all { IfOk result (λ all. all ≡ true → WhereBothOpened (S.is_honest a.old)
-        (S.file a.old) left.now (T.is_honest b.old) (T.file b.old) right.now
-        (λ tree other. AtTracks track tree other (λ t u.
-        D.taken seen.new ≡ D.taken seen.old ++ samples_differ leaving (track + 1) (S.file a.old)
-        tree t (T.file b.old) other u))) }
-    ensures front { WhereBothOpened (S.is_honest a.old) (S.file a.old) left.now
-        (T.is_honest b.old) (T.file b.old) right.now (λ tree other. AtTracks track tree other
-        (λ t u. TakesFront (D.taken seen.old) (D.taken seen.new)
-        (samples_differ leaving (track + 1) (S.file a.old) tree t (T.file b.old) other u))) }
-    ensures unchanged { WhereBothOpened (S.is_honest a.old) (S.file a.old) left.now
-        (T.is_honest b.old) (T.file b.old) right.now (λ tree other. AtTracks track tree other
-        (λ t u. IfErr result (λ r. r ≡ refusals.StoreChanged → ⊥))) }
-    ensures work { WhereBothOpened (S.is_honest a.old) (S.file a.old) left.now
-        (T.is_honest b.old) (T.file b.old) right.now (λ tree other. AtTracks track tree other
-        (λ t u. steps.new ≤ steps.old + (walk_steps tree t + walk_steps other u))) }
-    ensures reads { OnOk result (S.read_failures a.new ≡ S.read_failures a.old) }
-    ensures reads_right { OnOk result (T.read_failures b.new ≡ T.read_failures b.old) }
-    ensures refusal { IfErr result (RefusesSample (S.read_failures a.old) (S.read_failures a.new)
-        (T.read_failures b.old) (T.read_failures b.new)) }
+    ensures all { IfOk result (λ all. all ≡ true → OfSamples S.Store a.old left.now T.Store b.old
+        right.now track leaving (λ ds. D.taken seen.new ≡ D.taken seen.old ++ ds)) }
+    ensures front { OfSamples S.Store a.old left.now T.Store b.old right.now track leaving
+        (TakesFront (D.taken seen.old) (D.taken seen.new)) }
+    ensures unchanged { WhereTracks S.Store a.old left.now T.Store b.old right.now track
+        (λ tree t other u. IsUnchanged result) }
+    ensures work { TracksWork S.Store a.old left.now T.Store b.old right.now track
+        steps.old steps.new }
+    ensures refusal { RefusedBoth S.Store a.old a.new T.Store b.old b.new result RefusesSample }
 {
     let by = Pairing::new(alloc, leaving, left, right, track)?;
     let mut left_side = Side::new(alloc, left, track)?;
@@ -114,19 +101,19 @@ fn compare_track_heads(
     right: &TrackHead,
     other: &TrackInfo,
 ) -> Result<Vec<Difference>, Memory>
-    ensures { IfOk result (λ found. found.items ≡ head_differences of
-        (reduce_track_head leaving (track_seen left.now))
-        (reduce_track_head leaving (track_seen right.now))
-        ++ numbers of fields.Start info.now.start other.now.start
-        ++ numbers of fields.Samples info.now.samples other.now.samples) }
+    ensures { IfOk result (λ found. found.items
+        ≡ begun_differ leaving of left.now info.now right.now other.now) }
 {
     let mut found = track_differences(alloc, leaving, of, left, right)?;
     compare_numbers(of, Field::Start, info.start, other.start, &mut found)?;
-    compare_u32(of, Field::Samples, info.samples, other.samples, &mut found)?;
+    let samples = u64::from(info.samples);
+    let others = u64::from(other.samples);
+    compare_numbers(of, Field::Samples, samples, others, &mut found)?;
     Ok(found)
 }
 
-// Compares the tracks at one place, of which these are the heads.
+// Compares the tracks at one place, of which these are the heads: what differs is handed over until
+// no more is taken.
 fn compare_tracks<S: Store, T: Store, D: Differences, L: Ledger>(
     alloc: Global,
     track: usize,
@@ -140,34 +127,21 @@ fn compare_tracks<S: Store, T: Store, D: Differences, L: Ledger>(
     seen: &mut D,
     steps: &mut Steps<L>,
 ) -> Result<bool, Refusal>
-    requires left { track < length left.now.tracks }
-    requires right { track < length right.now.tracks }
+    requires tracks { HaveTracks track left.now right.now }
     requires goes { D.is_open seen.old ≡ true }
-    ensures honesty { S.is_honest a.new ≡ S.is_honest a.old }
-    ensures file { S.file a.new ≡ S.file a.old }
-    ensures honesty_right { T.is_honest b.new ≡ T.is_honest b.old }
-    ensures file_right { T.file b.new ≡ T.file b.old }
+    ensures store { OnlyReads S.Store a.old a.new result }
+    ensures store_right { OnlyReads T.Store b.old b.new result }
     ensures goes { IfOk result (λ all. all ≡ D.is_open seen.new) }
-    ensures all { IfOk result (λ all. all ≡ true → WhereBothOpened (S.is_honest a.old)
-        (S.file a.old) left.now (T.is_honest b.old) (T.file b.old) right.now
-        (λ tree other. AtHeads track tree other head.now other_head.now (λ t u.
-        D.taken seen.new ≡ D.taken seen.old ++ tracks_differ leaving (track + 1) (S.file a.old)
-        tree t (T.file b.old) other u))) }
-    ensures front { WhereBothOpened (S.is_honest a.old) (S.file a.old) left.now
-        (T.is_honest b.old) (T.file b.old) right.now
-        (λ tree other. AtHeads track tree other head.now other_head.now
-        (λ t u. TakesFront (D.taken seen.old) (D.taken seen.new)
-        (tracks_differ leaving (track + 1) (S.file a.old) tree t (T.file b.old) other u))) }
-    ensures unchanged { WhereBothOpened (S.is_honest a.old) (S.file a.old) left.now
-        (T.is_honest b.old) (T.file b.old) right.now (λ tree other. AtTracks track tree other
-        (λ t u. IfErr result (λ r. r ≡ refusals.StoreChanged → ⊥))) }
-    ensures work { WhereBothOpened (S.is_honest a.old) (S.file a.old) left.now
-        (T.is_honest b.old) (T.file b.old) right.now (λ tree other. AtTracks track tree other
-        (λ t u. steps.new ≤ steps.old + (walk_steps tree t + walk_steps other u))) }
-    ensures reads { OnOk result (S.read_failures a.new ≡ S.read_failures a.old) }
-    ensures reads_right { OnOk result (T.read_failures b.new ≡ T.read_failures b.old) }
-    ensures refusal { IfErr result (RefusesSample (S.read_failures a.old) (S.read_failures a.new)
-        (T.read_failures b.old) (T.read_failures b.new)) }
+    ensures all { IfOk result (λ all. all ≡ true → OfTracks S.Store a.old left.now head.now T.Store
+        b.old right.now other_head.now track leaving
+        (λ ds. D.taken seen.new ≡ D.taken seen.old ++ ds)) }
+    ensures front { OfTracks S.Store a.old left.now head.now T.Store b.old right.now other_head.now
+        track leaving (TakesFront (D.taken seen.old) (D.taken seen.new)) }
+    ensures unchanged { WhereTracks S.Store a.old left.now T.Store b.old right.now track
+        (λ tree t other u. IsUnchanged result) }
+    ensures work { TracksWork S.Store a.old left.now T.Store b.old right.now track
+        steps.old steps.new }
+    ensures refusal { RefusedBoth S.Store a.old a.new T.Store b.old b.new result RefusesSample }
 {
     let info = left.tracks()[track];
     let other = right.tracks()[track];

@@ -1,9 +1,10 @@
 //! Bytes of samples, compared.
-ghost use Rattle.std.specs.Prelude.{◌≡◌, ◌+◌, ◌<◌, ◌≤◌, IfSome, length, IfOk, IfErr, OnOk, IsTrue};
+ghost use Rattle.std.specs.Prelude.{◌≡◌, ◌+◌, ◌<◌, ◌≤◌, IfSome, length, IfOk};
 ghost use Rattle.mp4_store.specs.words.Device.{range};
 ghost use Rattle.mp4_present.specs.format.Differences.{first_unequal};
-ghost use Rattle.mp4_present.specs.words.Windows.{Shows};
-ghost use Rattle.mp4_present.specs.words.Differing.{RefusesEither};
+ghost use Rattle.mp4_present.specs.words.OverStores.{OnlyReads, WhereBothHonest};
+ghost use Rattle.mp4_present.specs.words.Windows.{BothShow};
+ghost use Rattle.mp4_present.specs.words.Differing.{RefusedBoth, RefusesEither};
 
 use crate::comparing_fields::first_unequal;
 use crate::file_window::FileWindow;
@@ -22,22 +23,14 @@ pub(crate) fn first_difference<S: Store, T: Store>(
 ) -> Result<Option<(u64, u8, u8)>, Refusal>
     requires left { left_at + len ≤ length (S.file a.old) }
     requires right { right_at + len ≤ length (T.file b.old) }
-    requires shows { IsTrue (S.is_honest a.old) → Shows (S.file a.old) left.old }
-    requires shows_right { IsTrue (T.is_honest b.old) → Shows (T.file b.old) right.old }
-    ensures honesty { S.is_honest a.new ≡ S.is_honest a.old }
-    ensures file { S.file a.new ≡ S.file a.old }
-    ensures honesty_right { T.is_honest b.new ≡ T.is_honest b.old }
-    ensures file_right { T.file b.new ≡ T.file b.old }
-    ensures shows { IsTrue (S.is_honest a.old) → Shows (S.file a.old) left.new }
-    ensures shows_right { IsTrue (T.is_honest b.old) → Shows (T.file b.old) right.new }
-    ensures found { IfOk result (λ found. IsTrue (S.is_honest a.old) → IsTrue (T.is_honest b.old)
-        → found ≡ first_unequal 0 (range (S.file a.old) left_at len)
-        (range (T.file b.old) right_at len)) }
+    requires shows { BothShow S.Store a.old left.old T.Store b.old right.old }
+    ensures store { OnlyReads S.Store a.old a.new result }
+    ensures store_right { OnlyReads T.Store b.old b.new result }
+    ensures shows { BothShow S.Store a.old left.new T.Store b.old right.new }
+    ensures found { IfOk result (λ found. WhereBothHonest S.Store a.old T.Store b.old (λ file other.
+        found ≡ first_unequal 0 (range file left_at len) (range other right_at len))) }
     ensures within { IfOk result (λ found. IfSome found (λ f. f.0 < len)) }
-    ensures reads { OnOk result (S.read_failures a.new ≡ S.read_failures a.old) }
-    ensures reads_right { OnOk result (T.read_failures b.new ≡ T.read_failures b.old) }
-    ensures refusal { IfErr result (RefusesEither (S.read_failures a.old) (S.read_failures a.new)
-        (T.read_failures b.old) (T.read_failures b.new)) }
+    ensures refusal { RefusedBoth S.Store a.old a.new T.Store b.old b.new result RefusesEither }
 {
     let _left_len = a.len();
     let _right_len = b.len();

@@ -1,25 +1,15 @@
 //! Samples of two tracks, compared one by one.
-ghost use Rattle.std.specs.Prelude.{◌≡◌, ◌+◌, ◌≤◌, ℕ, List, ◌++◌, [], length, map, fold, if◌then◌else◌, IfOk, IfErr, OnOk, OnErr, IsTrue};
-ghost use Rattle.mp4_boxes.specs.declared.refusal.Refusal.TheVariants as refusals;
-ghost use Rattle.mp4_head.specs.format.Tree.{TrackTree};
-ghost use Rattle.mp4_tables.specs.declared.sample.SampleAt.{SampleAt};
-ghost use Rattle.mp4_present.specs.format.Denotes.{FileTree};
-ghost use Rattle.mp4_present.specs.words.Compared.{WhereBothOpened, BothTakeOn, LieIn};
-ghost use Rattle.mp4_present.specs.words.Joined.{IsBelow};
-ghost use Rattle.mp4_present.specs.words.Movies.{IsWalkOf};
-ghost use Rattle.mp4_present.specs.words.NextSample.{TakesFirst};
-ghost use Rattle.mp4_present.specs.words.SamplesComing.{Comes};
-ghost use Rattle.mp4_present.specs.words.WalkSteps.{MayTake};
+ghost use Rattle.std.specs.Prelude.{◌≡◌, ℕ, ◌++◌, [], length, map, fold, if◌then◌else◌, IfOk, OnOk};
 ghost use Rattle.mp4_tables.specs.words.Keys.{key_seen, keys_seen};
 ghost use Rattle.mp4_present.specs.format.Comparison.{with_key};
-ghost use Rattle.mp4_present.specs.format.Differences.{numbers, bytes_differ};
-ghost use Rattle.mp4_store.specs.words.Device.{range};
-ghost use Rattle.mp4_present.specs.words.Differing.{flags_left, index_of, group_differences, differences_at, pair_differences, RefusesSample};
-ghost use Rattle.mp4_present.specs.words.Windows.{Shows};
-ghost use Rattle.mp4_present.specs.declared.differences.Field.TheVariants as fields;
+ghost use Rattle.mp4_present.specs.words.Compared.{StandsIn, PairFound, BothWork, WhereBothLie};
+ghost use Rattle.mp4_present.specs.words.Differing.{flags_left, sample_values, index_of, group_differences, differences_at, sample_bytes_differ, RefusedBoth, RefusesSample};
+ghost use Rattle.mp4_present.specs.words.Joined.{IsBelow};
+ghost use Rattle.mp4_present.specs.words.OverStores.{OnlyReads, WhereBothHonest, IsUnchanged};
+ghost use Rattle.mp4_present.specs.words.Windows.{BothShow};
 
 use crate::comparing_bytes::first_difference;
-use crate::comparing_fields::{compare_i32, compare_numbers, compare_u32, compare_values};
+use crate::comparing_fields::{compare_numbers, compare_value, compare_values, number, signed};
 use crate::differences::{Difference, Field, Subject, Value};
 use crate::file_window::FileWindow;
 use crate::leaving::Leaving;
@@ -42,20 +32,16 @@ fn flags_left(leaving: Leaving, flags: u32) -> u32
     }
 }
 
-// Adds the flags of two samples, where they differ.
-fn compare_flags(
-    leaving: Leaving,
-    of: Subject,
-    left: u32,
-    right: u32,
-    found: &mut Vec<Difference>,
-) -> Result<(), Memory>
-    ensures { OnOk result (found.new.items ≡ found.old.items
-        ++ numbers of fields.Flags (flags_left leaving left) (flags_left leaving right)) }
+// What a sample says before its indexes.
+fn sample_values(leaving: Leaving, sample: &SampleAt) -> [(Field, Value); 4]
+    ensures { result ≡ sample_values leaving sample.now }
 {
-    let first = flags_left(leaving, left);
-    let second = flags_left(leaving, right);
-    compare_u32(of, Field::Flags, first, second, found)
+    [
+        number(Field::Duration, u64::from(sample.duration)),
+        signed(Field::Offset, i64::from(sample.cto)),
+        number(Field::Flags, u64::from(flags_left(leaving, sample.flags))),
+        number(Field::Description, u64::from(sample.description)),
+    ]
 }
 
 // The index of a sample at a key, 0 where its track doesn't name it.
@@ -120,123 +106,6 @@ fn joint_keys(
     Ok(keys)
 }
 
-// Adds the index at a key, where it differs.
-fn compare_index(
-    of: Subject,
-    key: GroupKey,
-    left_keys: &Keys,
-    left: &SampleAt,
-    right_keys: &Keys,
-    right: &SampleAt,
-    found: &mut Vec<Difference>,
-) -> Result<(), Memory>
-    ensures { OnOk result (found.new.items ≡ found.old.items ++ numbers of (fields.Group key)
-        (index_of left_keys.now left.now key) (index_of right_keys.now right.now key)) }
-{
-    let index = u64::from(index_at(left_keys, left, key));
-    let other = u64::from(index_at(right_keys, right, key));
-    compare_numbers(of, Field::Group(key), index, other, found)
-}
-
-// Adds each index that differs, at these keys.
-fn compare_groups(
-    of: Subject,
-    keys: &[GroupKey],
-    left_keys: &Keys,
-    left: &SampleAt,
-    right_keys: &Keys,
-    right: &SampleAt,
-    found: &mut Vec<Difference>,
-) -> Result<(), Memory>
-    ensures { OnOk result (found.new.items ≡ found.old.items ++ group_differences of keys.now
-        left_keys.now left.now right_keys.now right.now) }
-{
-    for k in 0..keys.len() {
-        compare_index(of, keys[k], left_keys, left, right_keys, right, found)?;
-    }
-    Ok(())
-}
-
-// Adds what differs between two samples apart from their bytes.
-fn compare_samples(
-    leaving: Leaving,
-    of: Subject,
-    keys: &[GroupKey],
-    left_keys: &Keys,
-    left: &SampleAt,
-    right_keys: &Keys,
-    right: &SampleAt,
-    found: &mut Vec<Difference>,
-) -> Result<(), Memory>
-    ensures { OnOk result (found.new.items ≡ found.old.items
-        ++ differences_at leaving of keys.now left_keys.now left.now right_keys.now
-        right.now) }
-{
-    compare_u32(of, Field::Duration, left.duration, right.duration, found)?;
-    compare_i32(of, Field::Offset, left.cto, right.cto, found)?;
-    compare_flags(leaving, of, left.flags, right.flags, found)?;
-    compare_u32(
-        of,
-        Field::Description,
-        left.description,
-        right.description,
-        found,
-    )?;
-    compare_groups(of, keys, left_keys, left, right_keys, right, found)?;
-    compare_u32(of, Field::Size, left.size, right.size, found)?;
-    Ok(())
-}
-
-// Adds the first byte that differs, where two samples have one size. A sample that doesn't lie in
-// its file shows that the store has changed.
-fn compare_bytes<S: Store, T: Store>(
-    of: Subject,
-    left: &SampleAt,
-    left_window: &mut FileWindow,
-    a: &mut S,
-    right: &SampleAt,
-    right_window: &mut FileWindow,
-    b: &mut T,
-    found: &mut Vec<Difference>,
-) -> Result<(), Refusal>
-    requires shows { IsTrue (S.is_honest a.old) → Shows (S.file a.old) left_window.old }
-    requires shows_right { IsTrue (T.is_honest b.old) → Shows (T.file b.old) right_window.old }
-    ensures honesty { S.is_honest a.new ≡ S.is_honest a.old }
-    ensures file { S.file a.new ≡ S.file a.old }
-    ensures honesty_right { T.is_honest b.new ≡ T.is_honest b.old }
-    ensures file_right { T.file b.new ≡ T.file b.old }
-    ensures shows { IsTrue (S.is_honest a.old) → Shows (S.file a.old) left_window.new }
-    ensures shows_right { IsTrue (T.is_honest b.old) → Shows (T.file b.old) right_window.new }
-    ensures bytes { OnOk result (IsTrue (S.is_honest a.old) → IsTrue (T.is_honest b.old)
-        → found.new.items ≡ found.old.items
-        ++ bytes_differ of (λ (k : ℕ). fields.Byte k left.now.size) left.now.size right.now.size
-        (range (S.file a.old) left.now.at left.now.size)
-        (range (T.file b.old) right.now.at left.now.size)) }
-    ensures unchanged { IsBelow (length (S.file a.old)) left.now
-        → IsBelow (length (T.file b.old)) right.now
-        → IfErr result (λ r. r ≡ refusals.StoreChanged → ⊥) }
-    ensures reads { OnOk result (S.read_failures a.new ≡ S.read_failures a.old) }
-    ensures reads_right { OnOk result (T.read_failures b.new ≡ T.read_failures b.old) }
-    ensures refusal { IfErr result (RefusesSample (S.read_failures a.old) (S.read_failures a.new)
-        (T.read_failures b.old) (T.read_failures b.new)) }
-{
-    if left.size != right.size {
-        return Ok(());
-    }
-    let size = u64::from(left.size);
-    let len = a.len();
-    let other = b.len();
-    if left.at > len || size > len - left.at || right.at > other || size > other - right.at {
-        return Err(Refusal::StoreChanged);
-    }
-    let first = first_difference(left_window, a, left.at, right_window, b, right.at, size)?;
-    if let Some((place, byte, other)) = first {
-        let field = Field::Byte(place + 1, size);
-        compare_values(of, field, Value::Byte(byte), Value::Byte(other), found)?;
-    }
-    Ok(())
-}
-
 // What samples of two tracks are compared by: what is left out, the number of the tracks, the keys
 // of each, and those of both in their order.
 #[derive(Drop)]
@@ -249,9 +118,8 @@ pub(crate) struct Pairing {
 }
 
 impl Pairing {
-    ghost use Rattle.std.specs.Prelude.{◌≡◌, ◌<◌, length, slice_get, Some, IfOk};
-    ghost use Rattle.mp4_present.specs.words.Compared.{IsPairingOf};
-    ghost use Rattle.mp4_present.specs.declared.track_info.TrackInfo.{TrackInfo};
+    ghost use Rattle.std.specs.Prelude.{◌≡◌, Some, IfOk};
+    ghost use Rattle.mp4_present.specs.words.Compared.{HaveTracks, IsPairingAt};
 
     // Of the tracks at this place in both movies.
     pub(crate) fn new(
@@ -261,12 +129,8 @@ impl Pairing {
         right: &Movie,
         track: usize,
     ) -> Result<Pairing, Memory>
-        requires left { track < length left.now.tracks }
-        requires right { track < length right.now.tracks }
-        ensures { IfOk result (λ by. (info other : TrackInfo)
-            → slice_get left.now.tracks track ≡ Some info
-            → slice_get right.now.tracks track ≡ Some other
-            → IsPairingOf leaving track info other by) }
+        requires { HaveTracks track left.now right.now }
+        ensures { IfOk result (IsPairingAt leaving track left.now right.now) }
     {
         let info = left.tracks()[track];
         let other = right.tracks()[track];
@@ -281,6 +145,84 @@ impl Pairing {
     }
 }
 
+// Adds each index that differs.
+fn compare_groups(
+    of: Subject,
+    by: &Pairing,
+    left: &SampleAt,
+    right: &SampleAt,
+    found: &mut Vec<Difference>,
+) -> Result<(), Memory>
+    ensures { OnOk result (found.new.items ≡ found.old.items ++ group_differences of
+        by.now.keys.items by.now.left left.now by.now.right right.now) }
+{
+    for k in 0..by.keys.len() {
+        let key = by.keys[k];
+        let index = u64::from(index_at(&by.left, left, key));
+        let other = u64::from(index_at(&by.right, right, key));
+        compare_numbers(of, Field::Group(key), index, other, found)?;
+    }
+    Ok(())
+}
+
+// Adds what differs between two samples apart from their bytes.
+fn compare_samples(
+    of: Subject,
+    by: &Pairing,
+    left: &SampleAt,
+    right: &SampleAt,
+    found: &mut Vec<Difference>,
+) -> Result<(), Memory>
+    ensures { OnOk result (found.new.items ≡ found.old.items ++ differences_at by.now.leaving of
+        by.now.keys.items by.now.left left.now by.now.right right.now) }
+{
+    let values = sample_values(by.leaving, left);
+    compare_values(of, &values, &sample_values(by.leaving, right), found)?;
+    compare_groups(of, by, left, right, found)?;
+    let size = u64::from(left.size);
+    compare_numbers(of, Field::Size, size, u64::from(right.size), found)
+}
+
+// Adds the first byte that differs, where two samples have one size. A sample that doesn't lie in
+// its file shows that the store has changed.
+fn compare_bytes<S: Store, T: Store>(
+    of: Subject,
+    left: &SampleAt,
+    left_window: &mut FileWindow,
+    a: &mut S,
+    right: &SampleAt,
+    right_window: &mut FileWindow,
+    b: &mut T,
+    found: &mut Vec<Difference>,
+) -> Result<(), Refusal>
+    requires shows { BothShow S.Store a.old left_window.old T.Store b.old right_window.old }
+    ensures store { OnlyReads S.Store a.old a.new result }
+    ensures store_right { OnlyReads T.Store b.old b.new result }
+    ensures shows { BothShow S.Store a.old left_window.new T.Store b.old right_window.new }
+    ensures bytes { OnOk result (WhereBothHonest S.Store a.old T.Store b.old (λ file other.
+        found.new.items
+        ≡ found.old.items ++ sample_bytes_differ of file left.now other right.now)) }
+    ensures unchanged { IsBelow (length (S.file a.old)) left.now
+        → IsBelow (length (T.file b.old)) right.now → IsUnchanged result }
+    ensures refusal { RefusedBoth S.Store a.old a.new T.Store b.old b.new result RefusesSample }
+{
+    if left.size != right.size {
+        return Ok(());
+    }
+    let size = u64::from(left.size);
+    let len = a.len();
+    let other = b.len();
+    if left.at > len || size > len - left.at || right.at > other || size > other - right.at {
+        return Err(Refusal::StoreChanged);
+    }
+    let first = first_difference(left_window, a, left.at, right_window, b, right.at, size)?;
+    if let Some((place, byte, other)) = first {
+        let field = Field::Byte(place + 1, size);
+        compare_value(of, field, Value::Byte(byte), Value::Byte(other), found)?;
+    }
+    Ok(())
+}
+
 // How many bytes of a file are read at once.
 const WINDOW: usize = 65_536;
 
@@ -293,11 +235,9 @@ pub(crate) struct Side {
 }
 
 impl Side {
-    ghost use Rattle.std.specs.Prelude.{◌≡◌, ◌≤◌, ◌<◌, ℕ, List, length, slice_get, Some, IfOk};
-    ghost use Rattle.mp4_head.specs.format.Tree.{TrackTree};
-    ghost use Rattle.mp4_present.specs.format.Denotes.{FileTree};
+    ghost use Rattle.std.specs.Prelude.{◌≤◌, ◌<◌, ℕ, List, length, IfOk};
+    ghost use Rattle.mp4_present.specs.words.Compared.{WhereTrackOf};
     ghost use Rattle.mp4_present.specs.words.Movies.{IsWalkOf};
-    ghost use Rattle.mp4_present.specs.words.OpenedMovie.{IsOpenedAs};
     ghost use Rattle.mp4_present.specs.words.SamplesComing.{Comes, track_samples};
     ghost use Rattle.mp4_present.specs.words.WalkSteps.{MayTake, walk_steps};
     ghost use Rattle.mp4_present.specs.words.Windows.{Shows};
@@ -306,12 +246,10 @@ impl Side {
     pub(crate) fn new(alloc: Global, movie: &Movie, track: usize) -> Result<Side, Memory>
         requires { track < length movie.now.tracks }
         ensures walk { IfOk result (λ side. IsWalkOf movie.now side.walk) }
-        ensures coming { IfOk result (λ side. (file : List ℕ) (tree : FileTree) (t : TrackTree)
-            → IsOpenedAs file movie.now tree → slice_get tree.movie.tracks track ≡ Some t
-            → Comes file tree t movie.now side.walk (track_samples tree t)) }
-        ensures may { IfOk result (λ side. (file : List ℕ) (tree : FileTree) (t : TrackTree)
-            → IsOpenedAs file movie.now tree → slice_get tree.movie.tracks track ≡ Some t
-            → (n : ℕ) × MayTake file tree t side.walk n × (n ≤ walk_steps tree t)) }
+        ensures coming { IfOk result (λ side. WhereTrackOf movie.now track (λ file tree t.
+            Comes file tree t movie.now side.walk (track_samples tree t))) }
+        ensures may { IfOk result (λ side. WhereTrackOf movie.now track (λ file tree t.
+            (n : ℕ) × MayTake file tree t side.walk n × (n ≤ walk_steps tree t))) }
         ensures shows { IfOk result (λ side. (file : List ℕ) → Shows file side.window) }
     {
         let walk = movie.walk(alloc, track)?;
@@ -320,7 +258,8 @@ impl Side {
     }
 }
 
-// What differs between the next samples of both tracks, which are taken.
+// What differs between the next samples of both tracks, which are taken: both sides go on, and
+// what they may take of steps is less by those that were taken.
 pub(crate) fn compare_pair<S: Store, T: Store, L: Ledger>(
     alloc: Global,
     by: &Pairing,
@@ -333,64 +272,25 @@ pub(crate) fn compare_pair<S: Store, T: Store, L: Ledger>(
     b: &mut T,
     steps: &mut Steps<L>,
 ) -> Result<Vec<Difference>, Refusal>
-    requires walk { IsWalkOf left.now left_side.old.walk }
-    requires walk_right { IsWalkOf right.now right_side.old.walk }
-    requires shows { IsTrue (S.is_honest a.old) → Shows (S.file a.old) left_side.old.window }
-    requires shows_right { IsTrue (T.is_honest b.old)
-        → Shows (T.file b.old) right_side.old.window }
-    ensures honesty { S.is_honest a.new ≡ S.is_honest a.old }
-    ensures file { S.file a.new ≡ S.file a.old }
-    ensures honesty_right { T.is_honest b.new ≡ T.is_honest b.old }
-    ensures file_right { T.file b.new ≡ T.file b.old }
-    ensures walk { OnOk result (IsWalkOf left.now left_side.new.walk) }
-    ensures walk_right { OnOk result (IsWalkOf right.now right_side.new.walk) }
-    ensures shows { OnOk result (IsTrue (S.is_honest a.old)
-        → Shows (S.file a.old) left_side.new.window) }
-    ensures shows_right { OnOk result (IsTrue (T.is_honest b.old)
-        → Shows (T.file b.old) right_side.new.window) }
-    ensures found { WhereBothOpened (S.is_honest a.old) (S.file a.old) left.now
-        (T.is_honest b.old) (T.file b.old) right.now
-        (λ tree other. (t u : TrackTree) (xs ys : List SampleAt)
-        → Comes (S.file a.old) tree t left.now left_side.old.walk xs
-        → Comes (T.file b.old) other u right.now right_side.old.walk ys
-        → IfOk result (λ found. (x y : SampleAt)
-        × TakesFirst (S.file a.old) tree t left.now left_side.new.walk xs x
-        × TakesFirst (T.file b.old) other u right.now right_side.new.walk ys y
-        × (found.items ≡ pair_differences by.now.leaving by.now.track by.now.keys.items by.now.left
-        (S.file a.old) by.now.right (T.file b.old) number x y))) }
-    ensures unchanged { WhereBothOpened (S.is_honest a.old) (S.file a.old) left.now
-        (T.is_honest b.old) (T.file b.old) right.now
-        (λ tree other. (t u : TrackTree) (xs ys : List SampleAt)
-        → Comes (S.file a.old) tree t left.now left_side.old.walk xs
-        → Comes (T.file b.old) other u right.now right_side.old.walk ys
-        → LieIn (S.file a.old) xs → LieIn (T.file b.old) ys
-        → IfErr result (λ r. r ≡ refusals.StoreChanged → ⊥)) }
-    ensures work { WhereBothOpened (S.is_honest a.old) (S.file a.old) left.now
-        (T.is_honest b.old) (T.file b.old) right.now
-        (λ tree other. (t u : TrackTree) (n m : ℕ)
-        → MayTake (S.file a.old) tree t left_side.old.walk n
-        → MayTake (T.file b.old) other u right_side.old.walk m
-        → OnOk result (BothTakeOn (S.file a.old) tree t left_side.new.walk (T.file b.old) other u
-        right_side.new.walk (n + m) steps.old steps.new)) }
-    ensures most { WhereBothOpened (S.is_honest a.old) (S.file a.old) left.now
-        (T.is_honest b.old) (T.file b.old) right.now
-        (λ tree other. (t u : TrackTree) (n m : ℕ)
-        → MayTake (S.file a.old) tree t left_side.old.walk n
-        → MayTake (T.file b.old) other u right_side.old.walk m
-        → OnErr result (steps.new ≤ steps.old + (n + m))) }
-    ensures reads { OnOk result (S.read_failures a.new ≡ S.read_failures a.old) }
-    ensures reads_right { OnOk result (T.read_failures b.new ≡ T.read_failures b.old) }
-    ensures refusal { IfErr result (RefusesSample (S.read_failures a.old) (S.read_failures a.new)
-        (T.read_failures b.old) (T.read_failures b.new)) }
+    requires left { StandsIn S.Store a.old left.now left_side.old }
+    requires right { StandsIn T.Store b.old right.now right_side.old }
+    ensures store { OnlyReads S.Store a.old a.new result }
+    ensures store_right { OnlyReads T.Store b.old b.new result }
+    ensures left { OnOk result (StandsIn S.Store a.old left.now left_side.new) }
+    ensures right { OnOk result (StandsIn T.Store b.old right.now right_side.new) }
+    ensures found { PairFound by.now number S.Store a.old left.now left_side.old left_side.new
+        T.Store b.old right.now right_side.old right_side.new (λ found. found.items) result }
+    ensures unchanged { WhereBothLie S.Store a.old left.now left_side.old T.Store b.old right.now
+        right_side.old (IsUnchanged result) }
+    ensures work { BothWork S.Store a.old left.now left_side.old left_side.new T.Store b.old
+        right.now right_side.old right_side.new result steps.old steps.new }
+    ensures refusal { RefusedBoth S.Store a.old a.new T.Store b.old b.new result RefusesSample }
 {
     let x = left_side.walk.next_sample(left, a, steps)?;
     let y = right_side.walk.next_sample(right, b, steps)?;
     let of = Subject::Sample(by.track, number);
-    let keys = by.keys.as_slice();
     let mut found = Vec::new(alloc);
-    compare_samples(
-        by.leaving, of, keys, &by.left, &x, &by.right, &y, &mut found,
-    )?;
+    compare_samples(of, by, &x, &y, &mut found)?;
     let window = &mut right_side.window;
     compare_bytes(of, &x, &mut left_side.window, a, &y, window, b, &mut found)?;
     Ok(found)

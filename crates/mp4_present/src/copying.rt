@@ -1,20 +1,18 @@
 //! The bytes of a track's samples, copied.
-ghost use Rattle.std.specs.Prelude.{◌≡◌, ℕ, ◌+◌, ◌-◌, ◌<◌, ◌≤◌, List, ◌++◌, length, vec_len, Some, slice_get, IfOk, IfErr, OnOk, OnErr, IsTrue};
+ghost use Rattle.std.specs.Prelude.{◌≡◌, ◌+◌, ◌<◌, ◌≤◌, ◌++◌, length, vec_len, Some, slice_get, IfOk, IfErr, OnOk, OnErr, IsTrue};
 ghost use Rattle.std.specs.Io.KnownBytes.{Appends};
-ghost use Rattle.std.specs.List.{AllByRecursion};
 ghost use Rattle.mp4_boxes.specs.declared.refusal.Refusal.TheVariants as refusals;
-ghost use Rattle.mp4_frag.specs.format.Fragments.{FragmentTree};
 ghost use Rattle.mp4_head.specs.format.Tree.{TrackTree};
-ghost use Rattle.mp4_present.specs.words.SamplesComing.{StandsBefore, track_samples};
-ghost use Rattle.mp4_present.specs.format.Denotes.{FileTree};
-ghost use Rattle.mp4_present.specs.words.OpenedMovie.{IsOpenedAs};
 ghost use Rattle.mp4_store.specs.words.Device.{AppendsPrefix, range};
-ghost use Rattle.mp4_present.specs.declared.in_hand.InHand.{InHand};
-ghost use Rattle.mp4_present.specs.words.InHand.{left_in_hand};
-ghost use Rattle.mp4_present.specs.words.Joined.{IsBelow, sample_bytes, sizes_of};
-ghost use Rattle.mp4_present.specs.words.Movies.{IsWalkOf, InHandOf};
+ghost use Rattle.mp4_present.specs.format.Denotes.{FileTree};
 ghost use Rattle.mp4_present.specs.words.Carried.{waiting, BytesGoOn, GoOnBy, PutsMany, RefusesStretch, RefusesCarry, RefusesCopy};
-ghost use Rattle.mp4_present.specs.words.WalkSteps.{walk_steps, MayTake, TakesOn};
+ghost use Rattle.mp4_present.specs.words.HandCarried.{StaysBefore, CarriesHand, LeavesBytes, KeepsHand, HandWork, RefusedByBoth};
+ghost use Rattle.mp4_present.specs.words.Joined.{sample_bytes};
+ghost use Rattle.mp4_present.specs.words.Movies.{IsWalkOf};
+ghost use Rattle.mp4_present.specs.words.OpenedMovie.{IsOpenedAs};
+ghost use Rattle.mp4_present.specs.words.OverStores.{OnlyReads};
+ghost use Rattle.mp4_present.specs.words.SamplesComing.{track_samples};
+ghost use Rattle.mp4_present.specs.words.WalkSteps.{walk_steps};
 ghost use Rattle.mp4_present.specs.declared.track_info.TrackInfo.{TrackInfo};
 
 use crate::carrier::Carrier;
@@ -65,7 +63,7 @@ impl Carrier {
 }
 
 // Takes the bytes of all samples in hand along, and says how many are left of so many. Where these
-// samples have more bytes, the store has changed.
+// samples have more bytes, the store has changed. The walk then stands behind them.
 fn carry_hand<S: Store, K: Sink, L: Ledger>(
     movie: &Movie,
     walk: &mut Walk,
@@ -76,41 +74,18 @@ fn carry_hand<S: Store, K: Sink, L: Ledger>(
     steps: &mut Steps<L>,
 ) -> Result<u64, Refusal>
     requires { IsWalkOf movie.now walk.old }
-    ensures walk { OnOk result (IsWalkOf movie.now walk.new) }
-    ensures next { OnOk result (walk.new.next ≡ walk.old.next) }
+    ensures walk { OnOk result (StaysBefore movie.now walk.old walk.new) }
     ensures room { vec_len carrier.new.buffer ≡ vec_len carrier.old.buffer }
-    ensures honesty { S.is_honest store.new ≡ S.is_honest store.old }
-    ensures file { S.file store.new ≡ S.file store.old }
-    ensures bytes { OnOk result (IsTrue (S.is_honest store.old) → (hand : InHand)
-        × InHandOf movie.now walk.old hand
-        × BytesGoOn (K.contents sink.old) (K.contents sink.new) (waiting carrier.old)
-        (waiting carrier.new) (sample_bytes (S.file store.old) (left_in_hand hand))) }
-    ensures prefix { OnErr result (IsTrue (S.is_honest store.old) → (hand : InHand)
-        × InHandOf movie.now walk.old hand
-        × AppendsPrefix (K.contents sink.old) (K.contents sink.new) (waiting carrier.old
-        ++ sample_bytes (S.file store.old) (left_in_hand hand))) }
-    ensures many { IfOk result (λ left. (left ≤ bytes)
-        × GoOnBy (K.contents sink.old) (K.contents sink.new) (waiting carrier.old)
-        (waiting carrier.new) (bytes - left)) }
-    ensures sizes { IfOk result (λ left. (hand : InHand) × InHandOf movie.now walk.old hand
-        × (sizes_of (left_in_hand hand) + left ≡ bytes)) }
-    ensures reads { OnOk result (S.read_failures store.new ≡ S.read_failures store.old) }
+    ensures store { OnlyReads S.Store store.old store.new result }
+    ensures bytes { CarriesHand S.Store store.old movie.now walk.old K.Sink sink.old sink.new
+        carrier.old carrier.new result }
+    ensures left { IfOk result (LeavesBytes movie.now walk.old K.Sink sink.old sink.new carrier.old
+        carrier.new bytes) }
     ensures puts { OnOk result (K.put_failures sink.new ≡ K.put_failures sink.old) }
-    ensures stands { OnOk result
-        ((file : List ℕ) (tree : FileTree) (t : TrackTree) (earlier later : List FragmentTree)
-        → StandsBefore file tree t earlier later walk.old
-        → StandsBefore file tree t earlier later walk.new) }
-    ensures unchanged { (hand : InHand) × InHandOf movie.now walk.old hand
-        × (AllByRecursion (IsBelow (length (S.file store.old))) (left_in_hand hand)
-        → sizes_of (left_in_hand hand) ≤ bytes → IfErr result (λ r. r ≡ refusals.StoreChanged
-        → ⊥)) }
-    ensures work { OnOk result ((file : List ℕ) (tree : FileTree) (t : TrackTree) (n : ℕ)
-        → IsOpenedAs file movie.now tree
-        → MayTake file tree t walk.old n → TakesOn file tree t n walk.new steps.old steps.new) }
-    ensures idle { OnErr result (steps.new ≡ steps.old) }
-    ensures refusal { IfErr result
-        (RefusesCarry (S.read_failures store.old) (S.read_failures store.new)
-        (K.put_failures sink.old) (K.put_failures sink.new)) }
+    ensures unchanged { KeepsHand S.Store store.old movie.now walk.old bytes result }
+    ensures work { HandWork movie.now walk.old walk.new result steps.old steps.new }
+    ensures refusal { RefusedByBoth S.Store store.old store.new K.Sink sink.old sink.new result
+        RefusesCarry }
 {
     let mut left = bytes;
     let place = {

@@ -1,10 +1,9 @@
 //! A part of a file in memory, read ahead.
-ghost use Rattle.std.specs.Prelude.{◌≡◌, ◌+◌, ◌<◌, ◌≤◌, length, take, vec_len, IfOk, IfErr, OnOk, IsTrue};
-ghost use Rattle.mp4_boxes.specs.declared.refusal.Refusal.TheVariants as refusals;
-ghost use Rattle.mp4_store.specs.words.Device.{Counts, HasRisen, range};
+ghost use Rattle.std.specs.Prelude.{◌<◌, ◌≤◌, vec_len};
 
+use crate::reading::read_front;
 use mp4_boxes::Refusal;
-use mp4_store::{Store, StoreFailed};
+use mp4_store::Store;
 use std::alloc::{AllocError, Global};
 
 // A buffer that shows some bytes of a file: so many, from a place on.
@@ -17,28 +16,11 @@ pub(crate) struct FileWindow {
     ghost within: { used ≤ vec_len buffer },
 }
 
-// Reads to the front of a buffer, of which the length stays.
-fn read_front<S: Store>(
-    store: &mut S,
-    at: u64,
-    buffer: &mut [u8],
-    len: usize,
-) -> Result<(), StoreFailed>
-    requires place { at + len ≤ length (S.file store.old) }
-    requires room { len ≤ length buffer.old }
-    ensures honesty { S.is_honest store.new ≡ S.is_honest store.old }
-    ensures file { S.file store.new ≡ S.file store.old }
-    ensures bytes { OnOk result (IsTrue (S.is_honest store.old)
-        → take len buffer.new ≡ range (S.file store.old) at len) }
-    ensures cause { Counts (S.read_failures store.old) (S.read_failures store.new) result }
-{
-    store.read_at(at, &mut buffer[..len])
-}
-
 impl FileWindow {
-    ghost use Rattle.std.specs.Prelude.{◌≡◌, ◌+◌, ◌<◌, ◌≤◌, ℕ, List, length, IfOk, IfErr, OnOk, IsTrue};
-    ghost use Rattle.mp4_boxes.specs.declared.refusal.Refusal.TheVariants as refusals;
-    ghost use Rattle.mp4_store.specs.words.Device.{HasRisen, range};
+    ghost use Rattle.std.specs.Prelude.{◌≡◌, ◌+◌, ◌<◌, ◌≤◌, ℕ, List, length, IfOk};
+    ghost use Rattle.mp4_store.specs.words.Device.{range};
+    ghost use Rattle.mp4_present.specs.words.OverStores.{OnlyReads, WhereHonest, Refused};
+    ghost use Rattle.mp4_present.specs.words.Reading.{RefusesFront};
     ghost use Rattle.mp4_present.specs.words.Windows.{Shows, DoesShow};
 
     // A window of so many bytes, at least one.
@@ -73,14 +55,11 @@ impl FileWindow {
     // there on it shows: at least one.
     pub(crate) fn show<S: Store>(&mut self, store: &mut S, at: u64) -> Result<usize, Refusal>
         requires place { at < length (S.file store.old) }
-        requires shows { IsTrue (S.is_honest store.old) → Shows (S.file store.old) self.old }
-        ensures honesty { S.is_honest store.new ≡ S.is_honest store.old }
-        ensures file { S.file store.new ≡ S.file store.old }
-        ensures shows { IsTrue (S.is_honest store.old) → Shows (S.file store.old) self.new }
+        requires shows { WhereHonest S.Store store.old (λ file. Shows file self.old) }
+        ensures store { OnlyReads S.Store store.old store.new result }
+        ensures shows { WhereHonest S.Store store.old (λ file. Shows file self.new) }
         ensures some { IfOk result (λ n. (0 < n) × DoesShow self.new at n) }
-        ensures reads { OnOk result (S.read_failures store.new ≡ S.read_failures store.old) }
-        ensures refusal { IfErr result (λ r. (r ≡ refusals.StoreFailed)
-            × HasRisen (S.read_failures store.old) (S.read_failures store.new)) }
+        ensures refusal { Refused S.Store store.old store.new result RefusesFront }
     {
         let shown = self.shown(at);
         if shown > 0 {

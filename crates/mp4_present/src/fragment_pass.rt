@@ -1,11 +1,11 @@
 //! The `moof`s of a file, each read, checked and given up before the next.
-ghost use Rattle.std.specs.Prelude.{◌≡◌, ◌+◌, ◌^◌, ◌≤◌, List, length, map, [], IfOk, IfErr, OnOk, IsTrue};
-ghost use Rattle.mp4_head.specs.format.Tree.{MovieTree};
-ghost use Rattle.mp4_boxes.specs.format.Box.{Box};
-ghost use Rattle.mp4_present.specs.words.OwnMoofs.{AreOwnBehind, own_first, own_seen};
-ghost use Rattle.mp4_present.specs.words.PassedMoofs.{IsBegun, IsPassed, RefusesFragments};
+ghost use Rattle.std.specs.Prelude.{◌≡◌, ◌+◌, ◌^◌, ◌≤◌, length, map, [], IfOk, OnOk};
+ghost use Rattle.mp4_present.specs.words.OwnMoofs.{own_first, own_seen};
 ghost use Rattle.mp4_frag.specs.words.States.{HaveRoom};
 ghost use Rattle.mp4_present.specs.words.Opening.{HasOutline};
+ghost use Rattle.mp4_present.specs.words.OverStores.{OnlyReads, WhereHonest, WhereRead, RefusedOf};
+ghost use Rattle.mp4_present.specs.words.PassedMoofs.{RefusesFragments};
+ghost use Rattle.mp4_present.specs.words.ToOpen.{PassesNoting, PassesOn};
 ghost use Rattle.mp4_present.specs.words.WalkSteps.{ChecksWithin, IfNoFault};
 
 use crate::fragments::next_fragment;
@@ -19,7 +19,7 @@ use mp4_store::Store;
 use std::alloc::Global;
 use std::sync::ledger::Ledger;
 
-// Reads each `moof` of the file to the room, and checks it.
+// Reads each `moof` of the file to the room, and checks it: the tracks are then behind it.
 fn pass_fragments<S: Store, L: Ledger>(
     store: &mut S,
     outline: &Outline,
@@ -34,26 +34,19 @@ fn pass_fragments<S: Store, L: Ledger>(
     requires outline { HasOutline (S.is_honest store.old) (S.file store.old) outline.now }
     requires longest { length bytes.old ≡ outline.now.longest }
     requires own { length own.old.items ≡ length states.old }
-    ensures honesty { S.is_honest store.new ≡ S.is_honest store.old }
-    ensures file { S.file store.new ≡ S.file store.old }
-    ensures passed { OnOk result (IsTrue (S.is_honest store.old)
-        → (movie : MovieTree) (boxes : List Box)
-        → IsBegun (S.file store.old) movie boxes states.old room
-        → IsPassed (S.file store.old) movie boxes states.new) }
-    ensures own { OnOk result (IsTrue (S.is_honest store.old)
-        → (movie : MovieTree) (boxes : List Box)
-        → IsBegun (S.file store.old) movie boxes states.old room
-        → map own_seen own.old.items ≡ map own_first states.old
-        → AreOwnBehind (S.file store.old) movie boxes states.new (map own_seen own.new.items)) }
+    ensures store { OnlyReads S.Store store.old store.new result }
+    ensures passed { OnOk result (WhereHonest S.Store store.old (λ file.
+        PassesOn file states.old room states.new)) }
+    ensures own { OnOk result (WhereHonest S.Store store.old (λ file.
+        map own_seen own.old.items ≡ map own_first states.old
+        → PassesNoting file states.old room states.new (map own_seen own.new.items))) }
     ensures each { OnOk result (length own.new.items ≡ length own.old.items) }
-    ensures work { IsTrue (S.is_honest store.old)
-        → IfNoFault result (ChecksWithin (S.file store.old) steps.old steps.new) }
-    ensures within { IsTrue (S.is_honest store.old)
-        → steps.new ≤ steps.old + (2 ^ 24 + length (S.file store.old)) }
-    ensures reads { OnOk result (S.read_failures store.new ≡ S.read_failures store.old) }
-    ensures refusal { IfErr result
-        (RefusesFragments (S.is_honest store.old) (S.file store.old) states.old room
-        (S.read_failures store.old) (S.read_failures store.new)) }
+    ensures work { WhereHonest S.Store store.old (λ file.
+        IfNoFault result (ChecksWithin file steps.old steps.new)) }
+    ensures within { WhereHonest S.Store store.old (λ file.
+        steps.new ≤ steps.old + (2 ^ 24 + length file)) }
+    ensures refusal { RefusedOf S.Store store.old store.new result (λ honest file.
+        RefusesFragments honest file states.old room) }
 {
     let file_len = store.len();
     let mut room = room;
@@ -83,26 +76,18 @@ pub(crate) fn check_fragments<S: Store, L: Ledger>(
     requires room { HaveRoom plain.now.room plain.now.states.items }
     requires outline { HasOutline (S.is_honest store.old) (S.file store.old) outline.now }
     ensures states { IfOk result (λ states. length states.items ≡ length plain.now.states.items) }
-    ensures honesty { S.is_honest store.new ≡ S.is_honest store.old }
-    ensures file { S.file store.new ≡ S.file store.old }
-    ensures passed { IfOk result (λ states. IsTrue (S.is_honest store.old)
-        → (movie : MovieTree) (boxes : List Box)
-        → IsBegun (S.file store.old) movie boxes plain.now.states.items plain.now.room
-        → IsPassed (S.file store.old) movie boxes states.items) }
-    ensures own { IfOk result (λ states. IsTrue (S.is_honest store.old)
-        → (movie : MovieTree) (boxes : List Box)
-        → IsBegun (S.file store.old) movie boxes plain.now.states.items plain.now.room
-        → AreOwnBehind (S.file store.old) movie boxes states.items (map own_seen own.new.items)) }
+    ensures store { OnlyReads S.Store store.old store.new result }
+    ensures passed { WhereRead S.Store store.old result (λ file states.
+        PassesOn file plain.now.states.items plain.now.room states.items) }
+    ensures own { WhereRead S.Store store.old result (λ file states. PassesNoting file
+        plain.now.states.items plain.now.room states.items (map own_seen own.new.items)) }
     ensures each { IfOk result (λ states. length own.new.items ≡ length plain.now.states.items) }
-    ensures work { IsTrue (S.is_honest store.old)
-        → IfNoFault result (ChecksWithin (S.file store.old) steps.old steps.new) }
-    ensures within { IsTrue (S.is_honest store.old)
-        → steps.new ≤ steps.old + (2 ^ 24 + length (S.file store.old)) }
-    ensures reads { OnOk result (S.read_failures store.new ≡ S.read_failures store.old) }
-    ensures refusal { IfErr result
-        (RefusesFragments (S.is_honest store.old) (S.file store.old)
-        plain.now.states.items plain.now.room (S.read_failures store.old)
-        (S.read_failures store.new)) }
+    ensures work { WhereHonest S.Store store.old (λ file.
+        IfNoFault result (ChecksWithin file steps.old steps.new)) }
+    ensures within { WhereHonest S.Store store.old (λ file.
+        steps.new ≤ steps.old + (2 ^ 24 + length file)) }
+    ensures refusal { RefusedOf S.Store store.old store.new result (λ honest file.
+        RefusesFragments honest file plain.now.states.items plain.now.room) }
 {
     let mut states = Vec::new(alloc);
     states.extend_from_slice(plain.states.as_slice())?;

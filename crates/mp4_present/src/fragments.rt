@@ -1,7 +1,9 @@
 //! The fragments of a file that was read before, found again.
-ghost use Rattle.std.specs.Prelude.{◌≡◌, ◌+◌, ◌<◌, ◌≤◌, List, length, IfOk, IfErr, IfSome, OnOk, IsTrue};
+ghost use Rattle.std.specs.Prelude.{◌≡◌, ◌<◌, ◌≤◌, List, length, IfOk, IfErr, IfSome, OnOk, IsTrue};
 ghost use Rattle.mp4_boxes.specs.format.Box.{Box};
 ghost use Rattle.mp4_present.specs.words.Movies.{IsWhole};
+ghost use Rattle.mp4_present.specs.words.ToOpen.{EndsWithin};
+ghost use Rattle.mp4_present.specs.words.OverStores.{OnlyReads, WhereRead, RefusedOf};
 ghost use Rattle.mp4_present.specs.words.Reading.{IsTopHeader};
 ghost use Rattle.mp4_present.specs.words.Again.{AreFrom, IsNextFragment, RefusesHeaderAgain, RefusesNext};
 
@@ -14,16 +16,11 @@ use mp4_store::Store;
 // has changed.
 fn read_header_again<S: Store>(store: &mut S, at: u64) -> Result<TopHeader, Refusal>
     requires { at < length (S.file store.old) }
-    ensures honesty { S.is_honest store.new ≡ S.is_honest store.old }
-    ensures file { S.file store.new ≡ S.file store.old }
-    ensures header { IfOk result (λ h. IsTrue (S.is_honest store.old)
-        → IsTopHeader (S.file store.old) at h) }
-    ensures within { IfOk result (λ h. (at + h.header ≤ h.end) × (8 ≤ h.header)
-        × (h.end ≤ length (S.file store.old))) }
-    ensures reads { OnOk result (S.read_failures store.new ≡ S.read_failures store.old) }
-    ensures refusal { IfErr result
-        (RefusesHeaderAgain (S.is_honest store.old) (S.file store.old) at
-        (S.read_failures store.old) (S.read_failures store.new)) }
+    ensures store { OnlyReads S.Store store.old store.new result }
+    ensures header { WhereRead S.Store store.old result (λ file h. IsTopHeader file at h) }
+    ensures within { IfOk result (EndsWithin (length (S.file store.old)) at) }
+    ensures refusal { RefusedOf S.Store store.old store.new result (λ honest file.
+        RefusesHeaderAgain honest file at) }
 {
     match read_top_header(store, at) {
         Ok(header) => Ok(header),

@@ -17,6 +17,8 @@ pub struct Leaving {
 }
 
 impl Leaving {
+    ghost use Rattle.std.specs.Prelude.{◌≡◌, if◌then◌else◌};
+
     /// Nothing is left out.
     pub const NOTHING: Leaving = Leaving {
         times: false,
@@ -25,4 +27,11 @@ impl Leaving {
         groups: false,
         metadata: false,
     };
+
+    // A time; 0 where times don't count.
+    pub(crate) fn time(self, time: u64) -> u64
+        ensures { result ≡ (if self.times then 0 else time) }
+    {
+        if self.times { 0 } else { time }
+    }
 }

@@ -4,12 +4,13 @@ ghost use Rattle.mp4_boxes.specs.declared.refusal.Refusal.TheVariants as refusal
 ghost use Rattle.mp4_present.specs.words.Movies.{Fills};
 ghost use Rattle.mp4_present.specs.words.Plain.{ArePlain};
 ghost use Rattle.mp4_head.specs.declared.heads.TrackHead.{TrackHead};
-ghost use Rattle.mp4_store.specs.words.Device.{range};
 ghost use Rattle.mp4_present.specs.declared.track_info.TrackInfo.{TrackInfo};
 ghost use Rattle.mp4_present.specs.format.Presentation.{Presentation};
 ghost use Rattle.mp4_present.specs.format.Denotes.{Denotes, FileTree, IsFileTree};
 ghost use Rattle.mp4_present.specs.words.OpenedMovie.{AreInfosBy, IsInfoBy, IsOpenedAs, OpensAs, kept_of};
 ghost use Rattle.mp4_present.specs.words.Opening.{HasOutline, IsOpened, RefusesDenoted, RefusesOpen};
+ghost use Rattle.mp4_present.specs.words.OverStores.{OnlyReads, WhereHonest, WhereRead, RefusedOf};
+ghost use Rattle.mp4_present.specs.words.ToOpen.{IsPayloadIn, HasTracks, WorksToOpen, ids_of};
 ghost use Rattle.mp4_present.specs.format.Denotes.{HasMovie};
 ghost use Rattle.mp4_present.specs.words.WalkSteps.{IfNoFault, OpensWithin, opening_steps};
 
@@ -60,7 +61,7 @@ fn infos_of(
 ) -> Result<Vec<TrackInfo>, Refusal>
     requires states { length states.now ≡ length head.now.tracks.items }
     ensures each { IfOk result (λ tracks. length tracks.items ≡ length head.now.tracks.items) }
-    ensures ids { IfOk result (λ tracks. map (λ (t : TrackInfo). t.id) tracks.items
+    ensures ids { IfOk result (λ tracks. ids_of tracks.items
         ≡ map (λ (t : TrackHead). t.id) head.now.tracks.items) }
     ensures infos { IfOk result
         (λ tracks. AreInfosBy head.now.tracks.items states.now tracks.items) }
@@ -75,7 +76,8 @@ fn infos_of(
     Ok(tracks)
 }
 
-// Checks all that a file of this outline has, behind the headers of its own boxes.
+// Checks all that a file of this outline has, behind the headers of its own boxes: what is found is
+// what is kept of an opened movie, or a fault stands in the file.
 fn find<S: Store, L: Ledger>(
     alloc: Global,
     store: &mut S,
@@ -84,28 +86,18 @@ fn find<S: Store, L: Ledger>(
     steps: &mut Steps<L>,
 ) -> Result<Found, Refusal>
     requires fills { Fills (length moov.now) outline.now.moov }
-    requires bytes { IsTrue (S.is_honest store.old)
-        → moov.now ≡ range (S.file store.old) (outline.now.moov.offset
-        + outline.now.moov.header.header) (length moov.now) }
+    requires bytes { WhereHonest S.Store store.old (λ file. IsPayloadIn file outline.now moov.now) }
     requires outline { HasOutline (S.is_honest store.old) (S.file store.old) outline.now }
-    ensures honesty { S.is_honest store.new ≡ S.is_honest store.old }
-    ensures file { S.file store.new ≡ S.file store.old }
+    ensures store { OnlyReads S.Store store.old store.new result }
     ensures plain { IfOk result (λ f. ArePlain moov.now (length f.tracks.items) f.plain) }
     ensures own { IfOk result (λ f. length f.own.items ≡ length f.tracks.items) }
-    ensures movie { IfOk result (λ f. IsTrue (S.is_honest store.old) → (t : FileTree)
-        × IsOpenedAs (S.file store.old) (kept_of outline.now moov.now (length (S.file store.old)) f)
-        t) }
-    ensures ids { IfOk result (λ f. IsTrue (S.is_honest store.old)
-        → HasMovie (S.file store.old) (map (λ (t : TrackInfo). t.id) f.tracks.items)) }
-    ensures work { IsTrue (S.is_honest store.old) → (tree : FileTree)
-        → IsFileTree (S.file store.old) tree
-        → IfNoFault result (steps.new ≤ steps.old + opening_steps tree) }
-    ensures within { IsTrue (S.is_honest store.old)
-        → OpensWithin (S.file store.old) steps.old steps.new }
-    ensures reads { OnOk result (S.read_failures store.new ≡ S.read_failures store.old) }
-    ensures refusal { IfErr result
-        (RefusesOpen (S.is_honest store.old) (S.file store.old) (S.read_failures store.old)
-        (S.read_failures store.new)) }
+    ensures movie { WhereRead S.Store store.old result (λ file f. (t : FileTree)
+        × IsOpenedAs file (kept_of outline.now moov.now (length file) f) t) }
+    ensures ids { WhereRead S.Store store.old result (λ file f. HasTracks file f.tracks.items) }
+    ensures work { WhereHonest S.Store store.old (λ file. WorksToOpen file result steps.old
+        steps.new) }
+    ensures within { WhereHonest S.Store store.old (λ file. OpensWithin file steps.old steps.new) }
+    ensures refusal { RefusedOf S.Store store.old store.new result RefusesOpen }
 {
     let view = outline.moov.view(moov);
     let head = read_head(alloc, view)?;

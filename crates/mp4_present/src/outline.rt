@@ -1,12 +1,13 @@
 //! Where the parts of a file lie, by its top-level headers alone.
 ghost use Rattle.std.specs.Prelude.{◌≡◌, ℕ, ◌+◌, ◌≤◌, ◌++◌, ◌∷◌, [], List, length, true, bytes_eq, IfOk, IfErr, IfSome, OnOk, IsTrue};
-ghost use Rattle.mp4_boxes.specs.format.Box.{Box, IsFront, sizes, file_container};
+ghost use Rattle.mp4_boxes.specs.format.Box.{Box, file_container};
 ghost use Rattle.mp4_boxes.specs.format.Children.{Holds};
 ghost use Rattle.mp4_boxes.specs.declared.rule.Rule.TheVariants.{File};
 ghost use Rattle.mp4_present.specs.words.Movies.{IsWhole};
-ghost use Rattle.mp4_present.specs.words.Reading.{IsTopHeader, top_box};
+ghost use Rattle.mp4_present.specs.words.Reading.{top_box};
 ghost use Rattle.mp4_present.specs.format.Denotes.{begins_with_movie};
 ghost use Rattle.mp4_present.specs.format.Stands.{Stands};
+ghost use Rattle.mp4_present.specs.words.ToOpen.{WhereSeen};
 ghost use Rattle.mp4_present.specs.words.Outline.{AreSeen, IsOutline, RefusesOutline};
 
 use crate::reading::{TopBox, read_top_header};
@@ -49,12 +50,9 @@ fn note(seen: Seen, at: u64, header: TopHeader) -> Result<Seen, Fault>
     requires { at + header.header ≤ header.end }
     ensures within { IfOk result (λ s. (len : ℕ) → header.end ≤ len → IfSome seen.moov (IsWhole len)
         → IfSome s.moov (IsWhole len)) }
-    ensures noted { (file : List ℕ) (boxes : List Box) → IsFront (file_container file) boxes
-        → sizes boxes ≡ at → IsTopHeader file at header → AreSeen file boxes seen
-        → IfOk result (AreSeen file (boxes ++ top_box file at header ∷ [])) }
-    ensures fault { (file : List ℕ) (boxes : List Box) → IsFront (file_container file) boxes
-        → sizes boxes ≡ at → IsTopHeader file at header → AreSeen file boxes seen
-        → IfErr result (Stands file) }
+    ensures noted { WhereSeen at header seen (λ file boxes.
+        IfOk result (AreSeen file (boxes ++ top_box file at header ∷ []))) }
+    ensures fault { WhereSeen at header seen (λ file boxes. IfErr result (Stands file)) }
 {
     if !Rule::File.allows(header.kind) {
         return Err(Fault::new(Kind::BoxNotInProfile, header.kind, at));

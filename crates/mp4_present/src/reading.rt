@@ -4,6 +4,7 @@ ghost use Rattle.mp4_boxes.specs.words.View.{box_seen};
 ghost use Rattle.mp4_boxes.specs.format.Bytes.{AreBytes};
 ghost use Rattle.mp4_store.specs.words.Device.{range};
 ghost use Rattle.mp4_present.specs.words.Movies.{IsWhole, Fills};
+ghost use Rattle.mp4_present.specs.words.OverStores.{OnlyReads, WhereHonest, Refused};
 ghost use Rattle.mp4_present.specs.words.Reading.{IsTopHeader, RefusesHeader, RefusesRead, RefusesFront, RefusesPayload};
 
 use mp4_boxes::{BoxView, Refusal, TopHeader, top_header};
@@ -112,17 +113,19 @@ pub fn read_bytes<S: Store>(
     Ok(bytes)
 }
 
-// Reads to the front of the room, of which the length stays.
-fn read_front<S: Store>(store: &mut S, at: u64, room: &mut [u8], len: usize) -> Result<(), Refusal>
+/// Reads to the front of the room, of which the length stays.
+pub(crate) fn read_front<S: Store>(
+    store: &mut S,
+    at: u64,
+    room: &mut [u8],
+    len: usize,
+) -> Result<(), Refusal>
     requires place { at + len ≤ length (S.file store.old) }
     requires room { len ≤ length room.old }
-    ensures honesty { S.is_honest store.new ≡ S.is_honest store.old }
-    ensures file { S.file store.new ≡ S.file store.old }
-    ensures bytes { OnOk result (IsTrue (S.is_honest store.old)
-        → take len room.new ≡ range (S.file store.old) at len) }
-    ensures reads { OnOk result (S.read_failures store.new ≡ S.read_failures store.old) }
-    ensures refusal { IfErr result
-        (RefusesFront (S.read_failures store.old) (S.read_failures store.new)) }
+    ensures store { OnlyReads S.Store store.old store.new result }
+    ensures bytes { OnOk result (WhereHonest S.Store store.old (λ file.
+        take len room.new ≡ range file at len)) }
+    ensures refusal { Refused S.Store store.old store.new result RefusesFront }
 {
     store.read_at(at, &mut room[..len])?;
     Ok(())

@@ -92,12 +92,13 @@ fn state_of(
 }
 
 impl PlainTracks {
-    ghost use Rattle.std.specs.Prelude.{◌≡◌, ℕ, true, map, List, [], ◌∷◌, ◌++◌, ◌+◌, ◌*◌, ◌≤◌, length, OnOk, IfErr};
+    ghost use Rattle.std.specs.Prelude.{◌≡◌, ℕ, true, map, List, [], ◌+◌, ◌*◌, ◌≤◌, length, OnOk, IfErr};
     ghost use Rattle.mp4_boxes.specs.words.View.{box_seen};
     ghost use Rattle.mp4_frag.specs.declared.trex.Trex.{Trex};
     ghost use Rattle.mp4_head.specs.format.Tree.{TrackTree, are_distinct};
     ghost use Rattle.mp4_present.specs.words.Plain.{ArePlain, HasTablesIn};
     ghost use Rattle.mp4_present.specs.words.TrackTrees.{IsTrackOf, HaveTables, RefusesTable};
+    ghost use Rattle.mp4_present.specs.words.ToOpen.{OneMorePlain, OneMoreSaid};
     ghost use Rattle.mp4_present.specs.words.WalkSteps.{IfNoFault, table_steps};
 
     // No track yet.
@@ -113,7 +114,8 @@ impl PlainTracks {
         }
     }
 
-    // Checks the tables of one more track.
+    // Checks the tables of one more track: they are among those that are plain, and its steps are
+    // as many as its tables have.
     fn push<L: Ledger>(
         &mut self,
         moov: BoxView,
@@ -125,12 +127,10 @@ impl PlainTracks {
         requires inside { HasTablesIn (box_seen moov) track.now }
         requires distinct { are_distinct (map (λ (t : Trex). t.id) trexes.now) ≡ true }
         requires read { (t : TrackTree) × IsTrackOf t track.now }
-        ensures one_more { OnOk result ((n : ℕ) → ArePlain (box_seen moov.entry).payload n self.old
-            → ArePlain (box_seen moov.entry).payload (n + 1) self.new) }
-        ensures says { OnOk result ((t : TrackTree) (trees : List TrackTree) → IsTrackOf t track.now
-            → HaveTables file_len (box_seen moov.entry).payload trexes.now trees self.old
-            → HaveTables file_len (box_seen moov.entry).payload trexes.now (trees ++ t ∷ [])
-            self.new) }
+        ensures one_more { OnOk result
+            (OneMorePlain (box_seen moov.entry).payload self.old self.new) }
+        ensures says { OnOk result (OneMoreSaid file_len (box_seen moov.entry).payload trexes.now
+            track.now self.old self.new) }
         ensures work { IfNoFault result ((t : TrackTree) → IsTrackOf t track.now
             → steps.new ≤ steps.old + table_steps t) }
         ensures within { steps.new ≤ steps.old + 5 * self.old.room

@@ -1,5 +1,5 @@
 -- Two opened files that are compared, track by track and sample by sample.
-use Rattle.std.specs.Prelude.{◌≡◌, ◌<◌, ◌≤◌, ◌+◌, ℕ, Bool, IsTrue, List, [], ◌++◌, length, take, map, fold, if◌then◌else◌, Some, slice_get}
+use Rattle.std.specs.Prelude.{◌≡◌, ◌<◌, ◌≤◌, ◌+◌, ℕ, Bool, IsTrue, List, [], ◌++◌, length, take, map, fold, if◌then◌else◌, Some, slice_get, Result, MatchResult, IfOk}
 use Rattle.std.specs.List.{AllByRecursion}
 use Rattle.mp4_tables.specs.words.Keys.{key_seen, keys_seen}
 use Rattle.mp4_tables.specs.declared.sample.SampleAt.{SampleAt}
@@ -10,11 +10,17 @@ use Rattle.mp4_present.specs.format.Comparison.{with_key, sample_differences, tr
 use Rattle.mp4_present.specs.format.Denotes.{FileTree, file_parts, track_of, presentation_of}
 use Rattle.mp4_present.specs.format.Differences.{each_differ}
 use Rattle.mp4_present.specs.format.Reduced.{reduce_sample, reduce_track, reduce}
+use Rattle.mp4_present.specs.words.Differing.{pair_differences}
 use Rattle.mp4_present.specs.words.Joined.{IsBelow}
-use Rattle.mp4_present.specs.words.Movies.{MovieSeen}
+use Rattle.mp4_present.specs.words.Movies.{MovieSeen, IsWalkOf}
+use Rattle.mp4_present.specs.words.NextSample.{TakesFirst}
 use Rattle.mp4_present.specs.words.OpenedMovie.{IsOpenedAs}
-use Rattle.mp4_present.specs.words.WalkSteps.{MayTake}
+use Rattle.mp4_present.specs.words.SamplesComing.{Comes}
+use Rattle.mp4_present.specs.words.WalkSteps.{MayTake, walk_steps}
+use Rattle.mp4_present.specs.words.Windows.{Shows}
+use Rattle.mp4_store.specs.declared.store.Store.{Ghosts as Store}
 use Rattle.mp4_present.specs.declared.comparing_samples.Pairing.{Pairing}
+use Rattle.mp4_present.specs.declared.comparing_samples.Side.{Side}
 use Rattle.mp4_present.specs.declared.differences.Difference.{Difference}
 use Rattle.mp4_present.specs.declared.leaving.Leaving.{Leaving}
 use Rattle.mp4_present.specs.declared.track_info.TrackInfo.{TrackInfo}
@@ -37,6 +43,11 @@ pub record IsPairingOf (leaving : Leaving) (track : ℕ) (info other : TrackInfo
   pub right_keys : by.right ≡ other.keys
   pub all_keys : map key_seen by.keys.items ≡ (if leaving.groups then []
       else fold with_key [] (keys_seen info.keys ++ keys_seen other.keys))
+
+-- the same of the tracks at this place of two movies
+abbrev pub IsPairingAt : Leaving → ℕ → MovieSeen → MovieSeen → Pairing → Type 0
+IsPairingAt leaving track m n by = (info other : TrackInfo) → slice_get m.tracks track ≡ Some info
+    → slice_get n.tracks track ≡ Some other → IsPairingOf leaving track info other by
 
 -- there is a sample, and all of them lie in the file
 abbrev pub LieIn : List ℕ → List SampleAt → Type 0
@@ -81,3 +92,92 @@ tracks_differ l number file tree t file_right other u = track_differences number
 abbrev pub files_differ : Leaving → List ℕ → FileTree → List ℕ → FileTree → List Difference
 files_differ l file tree file_right other =
     differences (reduce l (presentation_of file tree)) (reduce l (presentation_of file_right other))
+
+-- ---- clauses of calls
+
+-- both movies have a track at this place
+pub record HaveTracks (track : ℕ) (m n : MovieSeen) : Type 0 where
+  pub left : track < length m.tracks
+  pub right : track < length n.tracks
+
+-- of whatever file the movie was opened from, and its track at this place, it is so
+abbrev pub WhereTrackOf : MovieSeen → ℕ → (List ℕ → FileTree → TrackTree → Type 0) → Type 0
+WhereTrackOf m track P = (file : List ℕ) (tree : FileTree) (t : TrackTree) → IsOpenedAs file m tree
+    → slice_get tree.movie.tracks track ≡ Some t → P file tree t
+
+-- over honest stores, of the tracks at this place of two movies, it is so
+abbrev pub WhereTracks : {X Y : Type 0} → Store X → X → MovieSeen → Store Y → Y → MovieSeen → ℕ
+    → (FileTree → TrackTree → FileTree → TrackTree → Type 0) → Type 0
+WhereTracks S a m T b n track P =
+    WhereBothOpened (S.is_honest a) (S.file a) m (T.is_honest b) (T.file b) n
+    (λ tree other. AtTracks track tree other (λ t u. P tree t other u))
+
+-- the same, of what differs between their samples
+abbrev pub OfSamples : {X Y : Type 0} → Store X → X → MovieSeen → Store Y → Y → MovieSeen → ℕ
+    → Leaving → (List Difference → Type 0) → Type 0
+OfSamples S a m T b n track l P = WhereTracks S a m T b n track (λ tree t other u.
+    P (samples_differ l (track + 1) (S.file a) tree t (T.file b) other u))
+
+-- the same, of what differs between them, where these heads were read
+abbrev pub OfTracks : {X Y : Type 0} → Store X → X → MovieSeen → TrackHead → Store Y → Y → MovieSeen
+    → TrackHead → ℕ → Leaving → (List Difference → Type 0) → Type 0
+OfTracks S a m head T b n other_head track l P =
+    WhereBothOpened (S.is_honest a) (S.file a) m (T.is_honest b) (T.file b) n
+    (λ tree other. AtHeads track tree other head other_head (λ t u.
+    P (tracks_differ l (track + 1) (S.file a) tree t (T.file b) other u)))
+
+-- walks over both take no more than these steps
+abbrev pub TracksWork : {X Y : Type 0} → Store X → X → MovieSeen → Store Y → Y → MovieSeen → ℕ
+    → ℕ → ℕ → Type 0
+TracksWork S a m T b n track old new = WhereTracks S a m T b n track (λ tree t other u.
+    new ≤ old + (walk_steps tree t + walk_steps other u))
+
+-- A side walks over the movie, and its window shows the file of an honest store.
+pub record StandsIn {X : Type 0} (S : Store X) (store : X) (m : MovieSeen) (side : Side)
+    : Type 0 where
+  pub walk : IsWalkOf m side.walk
+  pub shows : IsTrue (S.is_honest store) → Shows (S.file store) side.window
+
+-- over honest stores, of the samples that come on both sides, it is so
+abbrev pub BothCome : {X Y : Type 0} → Store X → X → MovieSeen → Side → Store Y → Y → MovieSeen
+    → Side → (FileTree → TrackTree → List SampleAt → FileTree → TrackTree → List SampleAt → Type 0)
+    → Type 0
+BothCome S a m left T b n right P =
+    WhereBothOpened (S.is_honest a) (S.file a) m (T.is_honest b) (T.file b) n
+    (λ tree other. (t u : TrackTree) (xs ys : List SampleAt)
+    → Comes (S.file a) tree t m left.walk xs → Comes (T.file b) other u n right.walk ys
+    → P tree t xs other u ys)
+
+-- The first samples of both were taken, and this differs between them. The lists are the samples
+-- that came before, and the sides are those behind it.
+abbrev pub PairTaken : Pairing → ℕ → List ℕ → FileTree → TrackTree → MovieSeen → Side
+    → List SampleAt → List ℕ → FileTree → TrackTree → MovieSeen → Side → List SampleAt
+    → List Difference → Type 0
+PairTaken by number file tree t m left xs file_right other u n right ys found = (x y : SampleAt)
+    × TakesFirst file tree t m left.walk xs x × TakesFirst file_right other u n right.walk ys y
+    × (found ≡ pair_differences by.leaving by.track by.keys.items by.left file by.right file_right
+    number x y)
+
+-- At Ok the first samples of both were taken, and what is answered are their differences.
+abbrev pub PairFound : {X Y V E : Type 0} → Pairing → ℕ → Store X → X → MovieSeen → Side → Side
+    → Store Y → Y → MovieSeen → Side → Side → (V → List Difference) → Result V E → Type 0
+PairFound by number S a m left left_after T b n right right_after items result =
+    BothCome S a m left T b n right (λ tree t xs other u ys. IfOk result (λ found.
+    PairTaken by number (S.file a) tree t m left_after xs (T.file b) other u n right_after ys
+    (items found)))
+
+-- where the samples that come on both sides lie in their files, and are some, it is so
+abbrev pub WhereBothLie : {X Y : Type 0} → Store X → X → MovieSeen → Side → Store Y → Y
+    → MovieSeen → Side → Type 0 → Type 0
+WhereBothLie S a m left T b n right P = BothCome S a m left T b n right
+    (λ tree t xs other u ys. LieIn (S.file a) xs → LieIn (T.file b) ys → P)
+
+-- At Ok both sides take on what steps are left; at Err no more were taken than both may take.
+abbrev pub BothWork : {X Y T E : Type 0} → Store X → X → MovieSeen → Side → Side → Store Y → Y
+    → MovieSeen → Side → Side → Result T E → ℕ → ℕ → Type 0
+BothWork S a m left left_after T b n right right_after result old new =
+    WhereBothOpened (S.is_honest a) (S.file a) m (T.is_honest b) (T.file b) n
+    (λ tree other. (t u : TrackTree) (p q : ℕ) → MayTake (S.file a) tree t left.walk p
+    → MayTake (T.file b) other u right.walk q → MatchResult result
+    (λ _. BothTakeOn (S.file a) tree t left_after.walk (T.file b) other u right_after.walk (p + q)
+    old new) (λ _. new ≤ old + (p + q)))

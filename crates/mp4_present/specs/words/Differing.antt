@@ -1,18 +1,26 @@
 -- What two presentations don't have in common.
-use Rattle.std.specs.Prelude.{◌⊎◌, ℕ, Bool, true, false, if◌then◌else◌, List, [], ◌∷◌, ◌++◌, flat_map, slice_index, Option, None, Some}
+use Rattle.std.specs.Prelude.{◌⊎◌, ℕ, Bool, true, false, if◌then◌else◌, List, [], ◌∷◌, ◌++◌, flat_map, slice_index, Option, None, Some, Result, IfErr}
 use Rattle.mp4_boxes.specs.declared.refusal.Refusal.{Refusal}
 use Rattle.mp4_boxes.specs.declared.refusal.Refusal.TheVariants as refusals
 use Rattle.mp4_tables.specs.words.Keys.{key_seen, keys_seen, key_place}
 use Rattle.mp4_tables.specs.declared.keys.GroupKey.{GroupKey}
 use Rattle.mp4_tables.specs.declared.keys.Keys.{Keys}
 use Rattle.mp4_tables.specs.declared.sample.SampleAt.{SampleAt}
-use Rattle.mp4_present.specs.format.Differences.{numbers, signed, bytes_differ}
+use Rattle.mp4_present.specs.format.Differences.{differ, numbers, signed, bytes_differ, each_differ}
 use Rattle.mp4_present.specs.format.Reduced.{sync_flag}
 use Rattle.mp4_present.specs.declared.leaving.Leaving.{Leaving}
+use Rattle.mp4_head.specs.format.Head.{Edit, Media, TrackHead, MovieHead}
+use Rattle.mp4_present.specs.declared.comparing_entries.Spot.{Spot}
+use Rattle.mp4_present.specs.declared.differences.Entries.{Entries}
+use Rattle.mp4_present.specs.declared.differences.Part.TheVariants as parts
+use Rattle.mp4_present.specs.declared.differences.Field.{Field}
+use Rattle.mp4_present.specs.declared.differences.Value.{Value}
+use Rattle.mp4_present.specs.declared.differences.Value.TheVariants.{Number, Signed}
 use Rattle.mp4_present.specs.declared.differences.Subject.{Subject}
 use Rattle.mp4_present.specs.declared.differences.Subject.TheVariants as subjects
 use Rattle.mp4_present.specs.declared.differences.Field.TheVariants as fields
 use Rattle.mp4_store.specs.words.Device.{HasRisen, range}
+use Rattle.mp4_store.specs.declared.store.Store.{Ghosts as Store}
 use Rattle.mp4_present.specs.declared.differences.Difference.{Difference}
 
 -- the first that was taken, if there is one
@@ -41,6 +49,58 @@ RefusesSample left left_after right right_after refusals.StoreChanged = Unit {0}
 RefusesSample left left_after right right_after refusals.Memory = Unit {0}
 RefusesSample left left_after right right_after _ = ⊥
 
+-- why it is refused: by how many reads of two stores had failed before, and have after it
+abbrev pub RefusedBoth : {X Y R : Type 0} → Store X → X → X → Store Y → Y → Y → Result R Refusal
+    → (ℕ → ℕ → ℕ → ℕ → Refusal → Type 0) → Type 0
+RefusedBoth S a a_after T b b_after result why = IfErr result (why (S.read_failures a)
+    (S.read_failures a_after) (T.read_failures b) (T.read_failures b_after))
+
+-- ---- values of fields
+
+-- a value of a field, where it differs
+abbrev pub value_differs : Subject → ℕ → Field × Value → Field × Value → List Difference
+value_differs of n x y = differ of x.0 x.1 y.1
+
+-- of two lists of the same fields, each value that differs
+abbrev pub values_differ : Subject → List (Field × Value) → List (Field × Value) → List Difference
+values_differ of xs ys = each_differ (value_differs of) 1 xs ys
+
+-- the fields of `mvhd` before its matrix
+abbrev pub movie_values : MovieHead → List (Field × Value)
+movie_values m = (fields.Creation, Number m.creation) ∷ (fields.Modification, Number m.modification)
+    ∷ (fields.Timescale, Number m.timescale) ∷ (fields.Rate, Signed m.rate)
+    ∷ (fields.Volume, Signed m.volume) ∷ []
+
+-- the fields of `tkhd` before its matrix
+abbrev pub track_values : TrackHead → List (Field × Value)
+track_values t = (fields.Flags, Number t.flags) ∷ (fields.Creation, Number t.creation)
+    ∷ (fields.Modification, Number t.modification) ∷ (fields.Id, Number t.id)
+    ∷ (fields.Layer, Signed t.layer) ∷ (fields.AlternateGroup, Signed t.alternate_group)
+    ∷ (fields.Volume, Signed t.volume) ∷ []
+
+-- the fields of `tkhd` behind its matrix
+abbrev pub size_values : TrackHead → List (Field × Value)
+size_values t = (fields.Width, Number t.width) ∷ (fields.Height, Number t.height) ∷ []
+
+-- the fields of `mdhd`
+abbrev pub media_values : Media → List (Field × Value)
+media_values m = (fields.MediaCreation, Number m.creation)
+    ∷ (fields.MediaModification, Number m.modification)
+    ∷ (fields.MediaTimescale, Number m.timescale) ∷ (fields.Language, Number m.language) ∷ []
+
+-- the fields of an entry of `elst`
+abbrev pub edit_values : Spot → Edit → List (Field × Value)
+edit_values at e = (fields.Entry at.list at.number parts.SegmentDuration, Number e.segment_duration)
+    ∷ (fields.Entry at.list at.number parts.MediaTime, Signed e.media_time)
+    ∷ (fields.Entry at.list at.number parts.RateInteger, Signed e.rate_integer)
+    ∷ (fields.Entry at.list at.number parts.RateFraction, Signed e.rate_fraction) ∷ []
+
+-- what is said of each entry, by its number in a list
+abbrev pub at_number : {A : Type 0} → (Spot → A) → Subject → Entries → ℕ → A
+at_number one of list n = one (record { subject = of; list = list; number = n })
+
+-- ---- samples
+
 -- the index of a sample at a key of its track, 0 where that doesn't name it
 abbrev pub index_in : Option ℕ → List ℕ → ℕ
 index_in None groups = 0
@@ -51,6 +111,12 @@ index_of keys s key = index_in (key_place (key_seen key) (keys_seen keys)) s.gro
 
 abbrev pub flags_left : Leaving → ℕ → ℕ
 flags_left l flags = if l.flags then sync_flag flags else flags
+
+-- what a sample says before its indexes
+abbrev pub sample_values : Leaving → SampleAt → List (Field × Value)
+sample_values l s = (fields.Duration, Number s.duration) ∷ (fields.Offset, Signed s.cto)
+    ∷ (fields.Flags, Number (flags_left l s.flags))
+    ∷ (fields.Description, Number s.description) ∷ []
 
 -- what differs of the indexes at these keys
 abbrev pub group_differences : Subject → List GroupKey → Keys → SampleAt → Keys → SampleAt
@@ -68,6 +134,11 @@ differences_at l of keys left_keys a right_keys b =
     ++ numbers of fields.Description a.description b.description
     ++ group_differences of keys left_keys a right_keys b
     ++ numbers of fields.Size a.size b.size
+
+-- the first byte that differs, of two samples of two files and of one size
+abbrev pub sample_bytes_differ : Subject → List ℕ → SampleAt → List ℕ → SampleAt → List Difference
+sample_bytes_differ of file a other b = bytes_differ of (λ (k : ℕ). fields.Byte k a.size) a.size
+    b.size (range file a.at a.size) (range other b.at a.size)
 
 -- what differs between two samples of two files, which have these numbers: also the first byte
 abbrev pub pair_differences : Leaving → ℕ → List GroupKey → Keys → List ℕ → Keys → List ℕ → ℕ

@@ -84,8 +84,8 @@ returns-in_err-found-clause-front g c told told_right tree other o p t u at bt =
     let other_info = c.index-tracks-track-2.result in
     let is : info ≡ slice_index_or left.tracks c.args.track info = search rules in
     let is_right : other_info ≡ slice_index_or right.tracks c.args.track other_info = search rules in
-    let there = at_place left.tracks c.args.track info c.requires.left is in
-    let there_right = at_place right.tracks c.args.track other_info c.requires.right is_right in
+    let there = at_place left.tracks c.args.track info c.requires.tracks.left is in
+    let there_right = at_place right.tracks c.args.track other_info c.requires.tracks.right is_right in
     let are = pairs_are c.args.leaving c.args.track by file right_file left right tree other t u info other_info (c.in_ok-by.ensures info other_info there there_right) o p at bt there there_right in
     subst (TakesFront before now) are (grows_front _ _ _ _ h.grows)
 
@@ -102,8 +102,8 @@ returns-in_err-found-clause-unchanged g c told told_right tree other o p t u at 
     let other_info = c.index-tracks-track-2.result in
     let is : info ≡ slice_index_or left.tracks c.args.track info = search rules in
     let is_right : other_info ≡ slice_index_or right.tracks c.args.track other_info = search rules in
-    let there = at_place left.tracks c.args.track info c.requires.left is in
-    let there_right = at_place right.tracks c.args.track other_info c.requires.right is_right in
+    let there = at_place left.tracks c.args.track info c.requires.tracks.left is in
+    let there_right = at_place right.tracks c.args.track other_info c.requires.tracks.right is_right in
     let e = err_from_is_err_and c.from_residual-in_err-found.result c.from_residual-in_err-found.ensures.1 in
     let lt : c.loop-number.number < info.samples = search rules in
     let lt_right : c.loop-number.number < other_info.samples = search rules in
@@ -125,7 +125,7 @@ returns-in_err-found-clause-work g c told told_right tree other o p t u at bt =
     let v = c.loop-number.right_side.walk in
     let e = err_from_is_err_and c.from_residual-in_err-found.result c.from_residual-in_err-found.ensures.1 in
     pairs_most by file tree t left right_file other u right before c.args.steps.now c.loop-number.number w v now c.loop-number.steps c.compare_pair.new.steps h
-    (λ q r hx hy. (rw (i.honesty, i.file, i.honesty_right, i.file_right) at c.in_err-found.ensures.most) told told_right tree other o p t u q r hx hy)
+    (λ q r hx hy. (rw (i.honesty, i.file, i.honesty_right, i.file_right) at c.in_err-found.ensures.work) told told_right tree other o p t u q r hx hy)
 
 pub returns-then-not-hand_over-clause-front : goal.returns-then-not-hand_over-clause-front
 returns-then-not-hand_over-clause-front g c told told_right tree other o p t u at bt =
@@ -144,8 +144,8 @@ returns-then-not-hand_over-clause-front g c told told_right tree other o p t u a
     let other_info = c.index-tracks-track-2.result in
     let is : info ≡ slice_index_or left.tracks c.args.track info = search rules in
     let is_right : other_info ≡ slice_index_or right.tracks c.args.track other_info = search rules in
-    let there = at_place left.tracks c.args.track info c.requires.left is in
-    let there_right = at_place right.tracks c.args.track other_info c.requires.right is_right in
+    let there = at_place left.tracks c.args.track info c.requires.tracks.left is in
+    let there_right = at_place right.tracks c.args.track other_info c.requires.tracks.right is_right in
     let are = pairs_are c.args.leaving c.args.track by file right_file left right tree other t u info other_info (c.in_ok-by.ensures info other_info there there_right) o p at bt there there_right in
     subst (TakesFront before (g.D.Differences.taken c.hand_over.new.seen)) are
     (pairs_stop by file tree t left right_file other u right before c.args.steps.now c.loop-number.number w v c.compare_pair.new.left_side.walk c.compare_pair.new.right_side.walk now
@@ -186,8 +186,8 @@ returns-clause-all g c whole told told_right tree other o p t u at bt =
     let other_info = c.index-tracks-track-2.result in
     let is : info ≡ slice_index_or left.tracks c.args.track info = search rules in
     let is_right : other_info ≡ slice_index_or right.tracks c.args.track other_info = search rules in
-    let there = at_place left.tracks c.args.track info c.requires.left is in
-    let there_right = at_place right.tracks c.args.track other_info c.requires.right is_right in
+    let there = at_place left.tracks c.args.track info c.requires.tracks.left is in
+    let there_right = at_place right.tracks c.args.track other_info c.requires.tracks.right is_right in
     let are = pairs_are c.args.leaving c.args.track by file right_file left right tree other t u info other_info (c.in_ok-by.ensures info other_info there there_right) o p at bt there there_right in
     let le : min info.samples other_info.samples ≤ c.loop-number.number = search rules in
     pairs_all by file tree t left right_file other u right before c.args.steps.now c.loop-number.number w v now c.loop-number.steps h
@@ -209,8 +209,8 @@ returns-clause-front g c told told_right tree other o p t u at bt =
     let other_info = c.index-tracks-track-2.result in
     let is : info ≡ slice_index_or left.tracks c.args.track info = search rules in
     let is_right : other_info ≡ slice_index_or right.tracks c.args.track other_info = search rules in
-    let there = at_place left.tracks c.args.track info c.requires.left is in
-    let there_right = at_place right.tracks c.args.track other_info c.requires.right is_right in
+    let there = at_place left.tracks c.args.track info c.requires.tracks.left is in
+    let there_right = at_place right.tracks c.args.track other_info c.requires.tracks.right is_right in
     let are = pairs_are c.args.leaving c.args.track by file right_file left right tree other t u info other_info (c.in_ok-by.ensures info other_info there there_right) o p at bt there there_right in
     subst (TakesFront before now) are (grows_front _ _ _ _ h.grows)
 

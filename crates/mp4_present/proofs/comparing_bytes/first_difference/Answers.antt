@@ -32,11 +32,11 @@ loop-done-preserved g c =
     let none : None ≡ first_unequal 0 c.bytes-first.result.now c.bytes-second.result.now = search rules in
     record {
       within = le;
-      honesty = c.in_ok-shown.ensures.honesty ∙ i.honesty;
-      file = c.in_ok-shown.ensures.file ∙ i.file;
+      honesty = c.in_ok-shown.ensures.store.honesty ∙ i.honesty;
+      file = c.in_ok-shown.ensures.store.file ∙ i.file;
       reads = search rules;
-      honesty_right = c.in_ok-other.ensures.honesty ∙ i.honesty_right;
-      file_right = c.in_ok-other.ensures.file ∙ i.file_right;
+      honesty_right = c.in_ok-other.ensures.store.honesty ∙ i.honesty_right;
+      file_right = c.in_ok-other.ensures.store.file ∙ i.file_right;
       reads_right = search rules;
       shows = λ ha. subst (λ (file : List ℕ). Shows file c.show.new.self) i.file (c.in_ok-shown.ensures.shows (subst IsTrue (sym i.honesty) ha));
       shows_right = λ hb. subst (λ (file : List ℕ). Shows file c.show-in-loop-done.new.self) i.file_right (c.in_ok-other.ensures.shows (subst IsTrue (sym i.honesty_right) hb));

@@ -12,5 +12,5 @@ loop-k-preserved c =
     let k = c.loop-k.k in
     let lx : k < length c.args.left = search rules in
     let ly : k < length c.args.right = search rules in
-    let e : c.compare_i32.new.found.items ≡ c.loop-k.found.items ++ signed c.args.subject (fields.Matrix (k + 1)) (slice_index_or c.args.left k (pos 0)) (slice_index_or c.args.right k (pos 0)) = search rules in
-    goes_at (λ x. x) (λ n x y. signed c.args.subject (fields.Matrix n) x y) c.args.left c.args.right k (pos 0) (pos 0) c.loop-k.found.items c.compare_i32.new.found.items _ lx ly c.loop-k.invariant e
+    let e : c.compare_value.new.found.items ≡ c.loop-k.found.items ++ signed c.args.subject (fields.Matrix (k + 1)) (slice_index_or c.args.left k (pos 0)) (slice_index_or c.args.right k (pos 0)) = search rules in
+    goes_at (λ x. x) (λ n x y. signed c.args.subject (fields.Matrix n) x y) c.args.left c.args.right k (pos 0) (pos 0) c.loop-k.found.items c.compare_value.new.found.items _ lx ly c.loop-k.invariant e

@@ -4,5 +4,5 @@ use Rattle.mp4_present.proofs.comparing_samples.compare_groups.Given as goal
 
 -- what differs at the keys from here on is left
 abbrev pub invariant-loop-k : goal.invariant-loop-k
-invariant-loop-k l = l.found.items ++ group_differences l.fn.of (drop l.k l.keys) l.left_keys l.left l.right_keys l.right
-    ≡ l.fn.found.items ++ group_differences l.fn.of l.keys l.left_keys l.left l.right_keys l.right
+invariant-loop-k l = l.found.items ++ group_differences l.fn.of (drop l.k l.by.keys.items) l.by.left l.left l.by.right l.right
+    ≡ l.fn.found.items ++ group_differences l.fn.of l.by.keys.items l.by.left l.left l.by.right l.right

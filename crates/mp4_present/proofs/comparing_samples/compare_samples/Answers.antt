@@ -1,14 +1,8 @@
-use Rattle.std.proofs.Common.{rules, ◌≡◌, ◌++◌}
-use Rattle.mp4_present.specs.format.Differences.{signed}
-use Rattle.mp4_present.specs.declared.differences.Field.TheVariants as fields
-use Rattle.mp4_present.proofs.Differing.{and_then}
+use Rattle.mp4_present.proofs.FieldValues.{samples_grown}
+use Rattle.mp4_present.proofs.WalkCopied.{on_ok}
 use Rattle.mp4_present.proofs.comparing_samples.compare_samples.Goals as goal
 
 pub returns : goal.returns
 returns c =
-    let offset : c.compare_i32.new.found.items ≡ c.compare_u32.new.found.items ++ signed c.args.of fields.Offset c.args.left.now.cto c.args.right.now.cto = search rules in
-    and_then c.args.found.now.items _ _ _ _ (and_then c.args.found.now.items _ _ _ _ (and_then c.args.found.now.items _ _ _ _ (and_then c.args.found.now.items _ _ _ _ (and_then c.args.found.now.items _ _ _ _ c.in_ok-compare_u32.ensures offset)
-    c.in_ok-compare_flags.ensures)
-    c.in_ok-compare_u32-2.ensures)
-    c.in_ok-compare_groups.ensures)
-    c.in_ok-compare_u32-3.ensures
+    let values = rw (c.sample_values-values.ensures, c.sample_values.ensures) at c.in_ok-compare_values.ensures in
+    on_ok _ _ c.compare_numbers.result (λ p. samples_grown c.args.by.now.leaving c.args.of c.args.left.now c.args.right.now _ _ _ _ _ _ values c.in_ok-compare_groups.ensures (rw (c.from-size.ensures, c.from.ensures) at p)) c.compare_numbers.ensures

@@ -55,10 +55,14 @@ loop-stretch-preserved g c =
 pub returns-clause-walk : goal.returns-clause-walk
 returns-clause-walk g c =
     let i = c.loop-stretch.invariant in
-    rw c.keep.ensures.place (kept_on c.args.movie.now c.args.walk.now i.first _ c.place-place.result (search rules) i.is (follows_on _ _ _ i.later c.next_stretch.ensures.later) c.place-place.ensures)
+    record {
+      walk = rw c.keep.ensures.place (kept_on c.args.movie.now c.args.walk.now i.first _ c.place-place.result (search rules) i.is (follows_on _ _ _ i.later c.next_stretch.ensures.later) c.place-place.ensures);
+      next = search rules;
+      stands = λ file tree t earlier later s. rw c.keep.ensures.place (kept_before file tree t earlier later c.args.walk.now c.place-place.result s);
+    }
 
-pub returns-in_err-carry_stretch-clause-prefix : goal.returns-in_err-carry_stretch-clause-prefix
-returns-in_err-carry_stretch-clause-prefix g c =
+pub returns-in_err-carry_stretch-clause-bytes : goal.returns-in_err-carry_stretch-clause-bytes
+returns-in_err-carry_stretch-clause-bytes g c =
     let p = err_from_is_err_and c.from_residual.result c.from_residual.ensures.1 in
     let i = c.loop-stretch.invariant in
     let x = c.in-Some.stretch in
@@ -74,9 +78,6 @@ returns-clause-bytes g c =
     let i = c.loop-stretch.invariant in
     λ honest. (i.first, i.is, hand_all (g.S.Store.file c.args.store.now) _ _ (waiting c.args.carrier.now) (waiting c.loop-stretch.carrier) (left_in_hand i.first) (left_in_hand c.loop-stretch.hand) (i.bytes honest) (search rules))
 
-pub returns-clause-stands : goal.returns-clause-stands
-returns-clause-stands g c file tree t earlier later s = rw c.keep.ensures.place (kept_before file tree t earlier later c.args.walk.now c.place-place.result s)
-
 pub returns-clause-unchanged : goal.returns-clause-unchanged
 returns-clause-unchanged g c =
     let i = c.loop-stretch.invariant in
@@ -89,8 +90,8 @@ returns-in_err-carry_stretch-clause-unchanged g c =
     let file = g.S.Store.file c.args.store.now in
     rw (p.1, p.2) (i.first, i.is, λ h fits. stretch_there file c.in-Some.stretch _ _ _ _ c.in_err-carry_stretch.field-0.0 (c.in-Some.ensures.within (length file) (i.within (length file) h)) (rw i.file at c.in_err-carry_stretch.ensures.refusal))
 
-pub returns-then-stretch-left-clause-prefix : goal.returns-then-stretch-left-clause-prefix
-returns-then-stretch-left-clause-prefix g c honest =
+pub returns-then-stretch-left-clause-bytes : goal.returns-then-stretch-left-clause-bytes
+returns-then-stretch-left-clause-bytes g c honest =
     let i = c.loop-stretch.invariant in
     (i.first, i.is, hand_front (g.S.Store.file c.args.store.now) _ _ (waiting c.args.carrier.now) (waiting c.loop-stretch.carrier) (left_in_hand i.first) (left_in_hand c.loop-stretch.hand) (i.bytes honest))
 
@@ -105,10 +106,13 @@ returns-then-stretch-left-clause-unchanged g c =
           absurd (omega (arith, room, more)),
     )
 
-pub returns-clause-sizes : goal.returns-clause-sizes
-returns-clause-sizes g c =
+pub returns-clause-left : goal.returns-clause-left
+returns-clause-left g c =
     let i = c.loop-stretch.invariant in
-    (i.first, i.is, sizes_all _ _ c.args.bytes c.loop-stretch.left i.sizes (search rules))
+    record {
+      many = (i.few, i.many);
+      sizes = (i.first, i.is, sizes_all _ _ c.args.bytes c.loop-stretch.left i.sizes (search rules));
+    }
 
 pub returns-clause-work : goal.returns-clause-work
 returns-clause-work g c file tree t n o may =

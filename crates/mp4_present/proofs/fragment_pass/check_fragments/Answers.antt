@@ -30,4 +30,4 @@ returns-clause-own g c =
     let begun : IsBegun file movie boxes c.as_mut_slice.result.now c.args.plain.now.room = subst (λ (xs : List TrackState). IsBegun file movie boxes xs c.args.plain.now.room) old b in
     let given : c.as_slice-2.result.now ≡ c.as_mut_slice.result.now = search rules in
     let first = c.in_ok-begin_own.ensures ∙ ap (map own_first) given in
-    subst (λ (xs : List TrackState). AreOwnBehind file movie boxes xs owns) s (c.in_ok-pass_fragments.ensures.own told movie boxes begun first)
+    subst (λ (xs : List TrackState). AreOwnBehind file movie boxes xs owns) s (c.in_ok-pass_fragments.ensures.own told first movie boxes begun)

@@ -146,7 +146,7 @@ returns-clause-passed g c = λ told movie boxes b.
     all_passed file movie boxes c.loop-top.next c.args.outline.now.longest c.loop-top.states c.loop-top.room u ((rw (i.honesty, i.file, c.in_default.is) at c.in_ok-top.ensures.next) told u.left.boxes u.left.are_from)
 
 pub returns-clause-own : goal.returns-clause-own
-returns-clause-own g c = λ told movie boxes b own.
+returns-clause-own g c = λ told own movie boxes b.
     let i = c.loop-top.invariant in
     let u = i.own told movie boxes b own in
     let file = g.S.Store.file c.args.store.now in

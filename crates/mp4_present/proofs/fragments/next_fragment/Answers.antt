@@ -26,9 +26,9 @@ loop-at-preserved g c =
     let i = c.loop-at.invariant in
     let e = c.in_ok-header.ensures in
     let w = e.within in (
-      e.honesty ∙ i.0,
-      e.file ∙ i.1,
-      e.reads ∙ i.2,
+      e.store.honesty ∙ i.0,
+      e.store.file ∙ i.1,
+      e.store.reads ∙ i.2,
       (λ told boxes a.
           let read = (rw (i.0, i.1) at e.header) told in
           passing_more (g.S.Store.file c.args.store.now) c.args.from c.loop-at.at boxes c.in_ok-header.header (i.3 told boxes a) (search rules) read (omega (arith, w.0)) (search rules)),

@@ -1,0 +1,69 @@
+-- What is known of a file while it is opened, in few words.
+use Rattle.std.specs.Prelude.{◌≡◌, ℕ, ◌+◌, ◌≤◌, List, [], ◌∷◌, ◌++◌, length, map, Result}
+use Rattle.mp4_boxes.specs.format.Box.{Box, IsFront, sizes, file_container}
+use Rattle.mp4_boxes.specs.declared.headers.TopHeader.{TopHeader}
+use Rattle.mp4_boxes.specs.declared.refusal.Refusal.{Refusal}
+use Rattle.mp4_store.specs.words.Device.{range}
+use Rattle.mp4_frag.specs.declared.state.TrackState.{TrackState}
+use Rattle.mp4_frag.specs.declared.trex.Trex.{Trex}
+use Rattle.mp4_head.specs.declared.heads.TrackHead.{TrackHead}
+use Rattle.mp4_head.specs.format.Tree.{MovieTree, TrackTree}
+use Rattle.mp4_present.specs.words.Plain.{ArePlain}
+use Rattle.mp4_present.specs.words.TrackTrees.{IsTrackOf, HaveTables}
+use Rattle.mp4_present.specs.declared.tables_pass.PlainTracks.{PlainTracks}
+use Rattle.mp4_present.specs.format.Denotes.{FileTree, IsFileTree, HasMovie}
+use Rattle.mp4_present.specs.words.Outline.{AreSeen}
+use Rattle.mp4_present.specs.words.OwnMoofs.{AreOwnBehind, OwnSeen}
+use Rattle.mp4_present.specs.words.PassedMoofs.{IsBegun, IsPassed}
+use Rattle.mp4_present.specs.words.Reading.{IsTopHeader}
+use Rattle.mp4_present.specs.words.WalkSteps.{IfNoFault, opening_steps}
+use Rattle.mp4_present.specs.declared.outline.Outline.{Outline}
+use Rattle.mp4_present.specs.declared.outline.Seen.{Seen}
+use Rattle.mp4_present.specs.declared.track_info.TrackInfo.{TrackInfo}
+
+-- these bytes are the payload of the `moov`
+abbrev pub IsPayloadIn : List ℕ → Outline → List ℕ → Type 0
+IsPayloadIn file o moov = moov ≡ range file (o.moov.offset + o.moov.header.header) (length moov)
+
+abbrev pub ids_of : List TrackInfo → List ℕ
+ids_of tracks = map (λ (t : TrackInfo). t.id) tracks
+
+-- these are the tracks of the file's movie, by their IDs
+abbrev pub HasTracks : List ℕ → List TrackInfo → Type 0
+HasTracks file tracks = HasMovie file (ids_of tracks)
+
+-- where no fault is found, a file is opened within the steps of its boxes
+abbrev pub WorksToOpen : {T : Type 0} → List ℕ → Result T Refusal → ℕ → ℕ → Type 0
+WorksToOpen file result old new = (tree : FileTree) → IsFileTree file tree
+    → IfNoFault result (new ≤ old + opening_steps tree)
+
+-- whatever the movie and its boxes are: where the tracks are behind their tables before, they are
+-- behind all `moof`s after it
+abbrev pub PassesOn : List ℕ → List TrackState → ℕ → List TrackState → Type 0
+PassesOn file states room states_after = (movie : MovieTree) (boxes : List Box)
+    → IsBegun file movie boxes states room → IsPassed file movie boxes states_after
+
+-- the same, and these are then noted of each track's `moof`s
+abbrev pub PassesNoting : List ℕ → List TrackState → ℕ → List TrackState → List OwnSeen → Type 0
+PassesNoting file states room states_after owns = (movie : MovieTree) (boxes : List Box)
+    → IsBegun file movie boxes states room → AreOwnBehind file movie boxes states_after owns
+
+-- a header that stands at this place, of a box that ends within so many bytes
+abbrev pub EndsWithin : ℕ → ℕ → TopHeader → Type 0
+EndsWithin len at h = (at + h.header ≤ h.end) × (8 ≤ h.header) × (h.end ≤ len)
+
+-- of a file with this header behind some first boxes, of which this is so, that is so
+abbrev pub WhereSeen : ℕ → TopHeader → Seen → (List ℕ → List Box → Type 0) → Type 0
+WhereSeen at header seen P = (file : List ℕ) (boxes : List Box)
+    → IsFront (file_container file) boxes → sizes boxes ≡ at
+    → IsTopHeader file at header → AreSeen file boxes seen → P file boxes
+
+-- the tables of one more track are plain in these bytes of a `moov`
+abbrev pub OneMorePlain : List ℕ → PlainTracks → PlainTracks → Type 0
+OneMorePlain moov before after = (n : ℕ) → ArePlain moov n before → ArePlain moov (n + 1) after
+
+-- the tables of one more track are read as its boxes say
+abbrev pub OneMoreSaid : ℕ → List ℕ → List Trex → TrackHead → PlainTracks → PlainTracks → Type 0
+OneMoreSaid file_length moov trexes head before after = (t : TrackTree) (trees : List TrackTree)
+    → IsTrackOf t head → HaveTables file_length moov trexes trees before
+    → HaveTables file_length moov trexes (trees ++ t ∷ []) after
