@@ -1,9 +1,16 @@
-use Rattle.std.proofs.Common.{rules, arith, ℕ, ◌≡◌, ◌<◌, ◌≤◌, length, refl, sym, ◌∙◌}
+use Rattle.std.proofs.Common.{rules, arith, ap, subst, ℕ, ◌≡◌, ◌<◌, ◌≤◌, List, length, refl, sym, slice_get, ◌∙◌}
+use Rattle.mp4_boxes.specs.format.Box.{Box}
+use Rattle.mp4_tables.specs.declared.sample.SampleAt.{SampleAt}
+use Rattle.mp4_tables.specs.words.Keys.{keys_seen}
+use Rattle.mp4_frag.specs.words.Walks.{samples_in}
+use Rattle.mp4_present.specs.words.InHand.{left_in_hand}
+use Rattle.mp4_present.specs.declared.in_hand.InHand.{InHand}
+use Rattle.mp4_present.proofs.WalkCopied.{hand_one}
 use Rattle.std.proofs.lemmas.Result.{err_from_is_err_and}
 use Rattle.std.proofs.lemmas.List.{with_items_is}
 use Rattle.mp4_present.proofs.MoofLoaded.{boxes_from, none_more, fits, first_later, holds_next, next_unchanged, payload_unchanged, goes_past, comes_next, later_is, goes_idle, no_samples, some_left, ends_empty, left_stays}
 use Rattle.mp4_present.proofs.WayThrough.{takes_none, takes_next, takes_most}
-use Rattle.mp4_present.proofs.WalkPlaces.{walk_past}
+use Rattle.mp4_present.proofs.WalkPlaces.{got, walk_past}
 use Rattle.mp4_present.proofs.walks.Walk.load.Goals as goal
 
 farther : (now next offset end : ℕ) → now ≡ end → next ≤ offset → offset < end → next < now
@@ -24,6 +31,7 @@ loop-top-init g c = record {
   mark = refl;
   room = refl;
   on = search rules;
+  grows = search rules;
   going = λ told tree t earlier later o h. (earlier, later, (h, refl));
   idle = λ told tree t earlier later hand o h i z. (earlier, later, hand, (h, i, z));
   takes = λ told tree t n o h. takes_none (g.S.Store.file c.args.store.now) tree t n c.args.steps.now c.args.self.now h;
@@ -104,6 +112,7 @@ loop-top-preserved g c =
       mark = c.in_ok-take.ensures.mark ∙ i.mark;
       room = search rules;
       on = search rules;
+      grows = (let before = i.grows in let more = c.in_ok-take.ensures.grows in omega (arith, before, more));
       going = λ told tree t earlier later o h.
           let u = i.going told tree t earlier later o h in
           let w = c.loop-top.self in
@@ -224,3 +233,26 @@ returns-then-len-movie-clause-most g c told tree t n o h = omega arith
 
 pub returns-then-branch-clause-some : goal.returns-then-branch-clause-some
 returns-then-branch-clause-some g c more = c.in_ok-take.ensures.some c.if-branch.true
+
+pub returns-then-branch-clause-holds : goal.returns-then-branch-clause-holds
+returns-then-branch-clause-holds g c more =
+    let e = c.in_ok-take.ensures in
+    let now = c.take.new.self in
+    let m = c.args.movie.now in
+    let found = got m.tracks now.track (subst (λ (k : ℕ). k < length m.tracks) (sym e.track) c.loop-top.invariant.walk.goes_on.track) in
+    let al = e.all found.0 (ap (slice_get m.tracks) (sym e.track) ∙ found.1) in
+    let s = e.some c.if-branch.true in
+    let one = ap (λ (h : InHand). length (left_in_hand h)) (hand_one m now s.0 al.0 s.1 al.1) in
+    let some = s.2 in
+    let sum = al.3 in
+    record {
+      before = record { time = c.loop-top.self.due; left = c.loop-top.self.left };
+      is_before = e.before;
+      some = omega (arith, one, some, sum);
+      all = λ info at.
+          let own = e.all info (ap (slice_get m.tracks) (sym e.track) ∙ at) in
+          let sum = own.3 in
+          let long = ap (λ (ss : List SampleAt). length ss) own.2 in
+          let box = ap (λ (b : Box). length (samples_in b m.states info.id c.loop-top.self.due (keys_seen info.keys))) e.moof in
+          omega (arith, sum, long, box);
+    }

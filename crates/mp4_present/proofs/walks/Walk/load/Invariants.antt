@@ -15,6 +15,7 @@ invariant-loop-top g l = record {
   mark : l.self.mark ≡ l.fn.self.mark;
   room : length l.self.bytes.items ≡ length l.fn.self.bytes.items;
   on : l.fn.self.next ≤ l.self.next;
+  grows : l.fn.steps ≤ l.steps;
   going : IsTrue (g.S.Store.is_honest l.fn.store) → GoesOnBefore (g.S.Store.file l.fn.store) l.movie l.fn.self l.self;
   idle : IsTrue (g.S.Store.is_honest l.fn.store) → IdlesBefore (g.S.Store.file l.fn.store) l.movie l.fn.self l.self;
   takes : IsTrue (g.S.Store.is_honest l.fn.store) → TakesBefore (g.S.Store.file l.fn.store) l.movie l.fn.self l.self l.fn.steps l.steps;
