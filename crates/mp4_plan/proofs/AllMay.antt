@@ -1,6 +1,6 @@
 -- Walks over all tracks that may take some steps each, of which one moves on.
 use Rattle.std.proofs.Common.{◌≡◌, ℕ, zero, suc, ◌+◌, ◌≤◌, List, [], ◌∷◌, ◌++◌, length, take, Some, refl, ap, subst, arith, slice_set}
-use Rattle.std.specs.Prelude.{slice_get, Result, Ok, Err, OnOk, OnErr}
+use Rattle.std.specs.Prelude.{slice_get}
 use Rattle.mp4_boxes.specs.format.Bytes.{sum_of}
 use Rattle.mp4_head.specs.format.Tree.{TrackTree}
 use Rattle.mp4_present.specs.declared.walks.Walk.{Walk}

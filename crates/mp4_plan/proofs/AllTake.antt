@@ -3,17 +3,16 @@ use Rattle.std.proofs.Common.{◌≡◌, ℕ, ◌+◌, ◌*◌, ◌<◌, ◌≤�
 use Rattle.std.specs.Prelude.{slice_get}
 use Rattle.std.proofs.lemmas.List.{take_all}
 use Rattle.mp4_boxes.specs.format.Bytes.{sum_of}
-use Rattle.mp4_frag.specs.format.Fragments.{FragmentTree}
 use Rattle.mp4_head.specs.format.Tree.{TrackTree}
 use Rattle.mp4_tables.specs.declared.sample.SampleAt.{SampleAt}
 use Rattle.mp4_present.specs.format.Denotes.{FileTree}
 use Rattle.mp4_present.specs.words.Movies.{MovieSeen, mark_of}
 use Rattle.mp4_present.specs.words.OpenedMovie.{IsInfoOf, IsOpenedAs}
 use Rattle.mp4_present.specs.words.SamplesComing.{Comes}
-use Rattle.mp4_present.specs.words.WalkSteps.{MayTake, TakesOn, moofs_steps, walk_steps, walks_steps}
+use Rattle.mp4_present.specs.words.WalkSteps.{MayTake, TakesOn, moofs_steps, walk_steps}
 use Rattle.mp4_present.specs.declared.walks.Walk.{Walk}
 use Rattle.mp4_present.proofs.TracksPassed.{zip_length}
-use Rattle.mp4_plan.specs.words.WriterSteps.{MayAllTake, MayAllBegin, MayWrite, WriteAllBegin, again_steps, last_steps, writing_steps}
+use Rattle.mp4_plan.specs.words.WriterSteps.{MayAllTake, MayAllBegin, MayWrite, WriteAllBegin, again_steps}
 use Rattle.mp4_plan.proofs.AllMay.{MayWithin, may_more, one_moves, one_ends}
 use Rattle.mp4_plan.proofs.MoofsAhead.{last_more, steps_append}
 use Rattle.mp4_plan.proofs.TurnTaken.{there_is}

@@ -1,15 +1,11 @@
 -- The parts of a piece that a writer takes along are what is written of it.
-use Rattle.std.proofs.Common.{◌≡◌, ℕ, zero, suc, ◌+◌, ◌-◌, ◌^◌, ◌≤◌, min, List, [], ◌∷◌, ◌++◌, length, take, drop, map, Some, refl, sym, ap, subst, ◌∙◌, append_assoc, length-append, arith}
-use Rattle.mp4_present.specs.declared.leaving.Leaving.{Leaving}
-use Rattle.mp4_plan.specs.words.ComingLess.{ComesLess}
-use Rattle.std.specs.Prelude.{slice_get, slice_set, slice_index_or, codes, Result, Ok, Err, OnOk}
-use Rattle.std.proofs.lemmas.List.{drop_at, length-take, length-drop, length-map, take-append-drop}
+use Rattle.std.proofs.Common.{◌≡◌, ℕ, zero, suc, ◌≤◌, List, [], ◌∷◌, ◌++◌, length, take, map, Some, ap, ◌∙◌, arith}
+use Rattle.std.specs.Prelude.{slice_get, slice_index_or, codes}
+use Rattle.std.proofs.lemmas.List.{length-take, length-map}
 use Rattle.mp4_boxes.specs.format.Written.{header_bytes}
-use Rattle.mp4_head.specs.format.Tree.{TrackTree}
 use Rattle.mp4_present.specs.format.Denotes.{FileTree}
 use Rattle.mp4_present.specs.words.Movies.{MovieSeen}
 use Rattle.mp4_present.specs.declared.carrier.Carrier.{Carrier}
-use Rattle.mp4_present.specs.declared.walks.Walk.{Walk}
 use Rattle.mp4_plan.specs.words.Writers.{IsNoted}
 use Rattle.mp4_plan.specs.declared.writer.Writer.{Writer}
 use Rattle.mp4_tables.specs.declared.sample.SampleAt.{SampleAt}

@@ -1,10 +1,9 @@
 -- Of two walks in one file the one further on has fewer `moof`s before it.
-use Rattle.std.proofs.Common.{◌≡◌, ◌⊎◌, inl, inr, ℕ, zero, suc, ◌+◌, ◌*◌, ◌<◌, ◌≤◌, List, [], ◌∷◌, ◌++◌, length, map, drop, Some, None, refl, sym, ap, subst, ◌∙◌, arith, length-append}
+use Rattle.std.proofs.Common.{◌≡◌, ◌⊎◌, inl, inr, ℕ, zero, suc, ◌+◌, ◌<◌, ◌≤◌, List, [], ◌∷◌, ◌++◌, length, map, drop, Some, None, refl, sym, ap, subst, ◌∙◌, arith, length-append}
 use Rattle.std.specs.Prelude.{Option, Bool, true, slice_get, codes}
 use Rattle.std.specs.List.{AllByRecursion}
 use Rattle.std.proofs.lemmas.List.{length-map, length-drop}
 use Rattle.mp4_boxes.specs.format.Box.{Box, LieEndToEnd, size, sizes}
-use Rattle.mp4_boxes.specs.format.Bytes.{sum_of}
 use Rattle.mp4_boxes.specs.format.Children.{of_kind}
 use Rattle.mp4_boxes.proofs.Among.{of_kind-append}
 use Rattle.mp4_boxes.proofs.Tiling.{first_fits, sizes-cons}
@@ -18,8 +17,8 @@ use Rattle.mp4_frag.specs.format.FragmentSamples.{fragment_samples}
 use Rattle.mp4_head.specs.format.Tree.{TrackTree, track_head_of}
 use Rattle.mp4_present.specs.format.Denotes.{FileTree}
 use Rattle.mp4_present.specs.words.GoingBack.{HoldsSome}
-use Rattle.mp4_present.specs.words.InHand.{AreLast, left_in_hand}
-use Rattle.mp4_present.specs.words.Movies.{MovieSeen, IsWalkOf, IsRest, HandAt, HasSome, InHandOf, all_in_moof, moof_box}
+use Rattle.mp4_present.specs.words.InHand.{left_in_hand}
+use Rattle.mp4_present.specs.words.Movies.{MovieSeen, IsWalkOf, IsRest, HandAt, HasSome, all_in_moof, moof_box}
 use Rattle.mp4_present.specs.words.OpenedMovie.{IsOpenedAs}
 use Rattle.mp4_present.specs.words.SamplesComing.{Comes, HoldsLast, StandsBefore, due_behind, samples_behind, track_keys}
 use Rattle.mp4_present.specs.words.WalkSteps.{moof_steps, moofs_steps, way_through}

@@ -137,5 +137,6 @@ comes_marked l file tree t m w now count left i h marked old new went comes =
     )
 
 -- nothing was noted since
-pub still_marked : (l : Leaving) (file : List ℕ) (tree : FileTree) (t : TrackTree) (m : MovieSeen) (w : Walk) (count : ℕ) (left : List SampleAt) → IsWalkOf m w → ComesLess l file tree t m w left → w.mark ≡ mark_of w (length left) → count ≡ 0 → (k : ComesMarked l file tree t m w count left) × (k.begun ≡ w)
+pub still_marked : (l : Leaving) (file : List ℕ) (tree : FileTree) (t : TrackTree) (m : MovieSeen) (w : Walk) (count : ℕ) (left : List SampleAt) → IsWalkOf m w → ComesLess l file tree t m w left
+    → w.mark ≡ mark_of w (length left) → count ≡ 0 → (k : ComesMarked l file tree t m w count left) × (k.begun ≡ w)
 still_marked l file tree t m w count left i h marked none = comes_marked l file tree t m w w count left i h marked 0 0 (went_none m w 0) (subst (λ n. ComesLess l file tree t m w (drop n left)) (sym none) h)

@@ -56,7 +56,8 @@ module _ (leaving : Leaving) (file : List ℕ) (tree : FileTree) (m : MovieSeen)
   comes_there = subst (λ (l : Leaving). ComesLess l file tree at.t m at.walk at.left) (sym same_leaving) at.comes
 
   -- there is room for the rows
-  pub note_lacks : (X : Type 0) → ((t : TrackTree) (walk : Walk) (left : List SampleAt) → slice_get w.walks.items turn.track ≡ Some walk → ComesLess w.leaving file tree t m walk left → walk.mark ≡ mark_of walk (length left) → slice_get w.nexts.items turn.track ≡ Some (slice_get left 0) → more_of (piece_from turn.end) left ≤ length w.rows.items → X) → X
+  pub note_lacks : (X : Type 0) → ((t : TrackTree) (walk : Walk) (left : List SampleAt) → slice_get w.walks.items turn.track ≡ Some walk → ComesLess w.leaving file tree t m walk left → walk.mark ≡ mark_of walk (length left)
+      → slice_get w.nexts.items turn.track ≡ Some (slice_get left 0) → more_of (piece_from turn.end) left ≤ length w.rows.items → X) → X
   note_lacks X f = f at.t at.walk at.left walk_there comes_there at.is_marked next_there (subst (λ (e : End). more_of (piece_from e) at.left ≤ length w.rows.items) (sym end_is) at.fits)
 
   module _ (w1 : Writer) (n : Noted) (id : ℕ) (noted : (t : TrackTree) (walk : Walk) (left : List SampleAt) → slice_get w.walks.items turn.track ≡ Some walk → ComesLess w.leaving file tree t m walk left → walk.mark ≡ mark_of walk (length left)
@@ -115,7 +116,8 @@ module _ (leaving : Leaving) (file : List ℕ) (tree : FileTree) (m : MovieSeen)
         f at.left is_noted (subst (λ k. k ≤ length at.left) (sym counted) (piece_within end at.left))
         (ap (λ (q : Planned). q.bytes) planned_is ∙ piece_bytes end at.left ∙ ap (λ k. sum_of (λ (x : SampleAt). x.size) (take k at.left)) (sym counted)) at.below
 
-    module _ (w2 : Writer) (next : Option SampleAt) (copied : (samples : List SampleAt) → (k : IsNoted file tree m turn.track n.planned.count samples w1) → HaveCopied file tree m k.t turn.track n.planned.count samples w1 w2) (read : (x : Option SampleAt) → slice_get w2.nexts.items turn.track ≡ Some x → next ≡ x) where
+    module _ (w2 : Writer) (next : Option SampleAt) (copied : (samples : List SampleAt) → (k : IsNoted file tree m turn.track n.planned.count samples w1) → HaveCopied file tree m k.t turn.track n.planned.count samples w1 w2)
+        (read : (x : Option SampleAt) → slice_get w2.nexts.items turn.track ≡ Some x → next ≡ x) where
       done : HaveCopied file tree m at.t turn.track n.planned.count at.left w1 w2
       unfolding at is_noted
       done = copied at.left is_noted

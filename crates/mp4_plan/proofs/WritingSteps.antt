@@ -2,11 +2,10 @@
 use Rattle.std.proofs.Common.{rules, ◌≡◌, ◌⊎◌, ◌&&◌, ◌==◌, Bool, true, false, inl, inr, ℕ, ◌+◌, ◌*◌, ◌<◌, ◌≤◌, List, [], ◌∷◌, length, drop, None, Some, refl, sym, ap, subst, ◌∙◌, arith}
 use Rattle.std.specs.Prelude.{IsTrue, Option, is_none, nat_eq, nat_lt, slice_get, slice_set, if◌then◌else◌}
 use Rattle.std.proofs.lemmas.Bool.{eqb-true}
-use Rattle.std.proofs.lemmas.List.{length-drop}
 use Rattle.mp4_tables.specs.declared.sample.SampleAt.{SampleAt}
 use Rattle.mp4_head.specs.format.Tree.{TrackTree}
 use Rattle.mp4_present.specs.format.Denotes.{FileTree}
-use Rattle.mp4_present.specs.words.GoingBack.{GoesBackTo, HoldsSome, IsMarkInHand, again_from, back_steps, is_mark_farther}
+use Rattle.mp4_present.specs.words.GoingBack.{HoldsSome, IsMarkInHand, again_from, back_steps, is_mark_farther}
 use Rattle.mp4_present.specs.words.Movies.{MovieSeen, HasSome, IsRest, IsWalkOf, mark_of, moof_box}
 use Rattle.mp4_present.specs.words.OpenedMovie.{IsOpenedAs}
 use Rattle.mp4_present.specs.words.SamplesComing.{Comes, StandsBefore}
@@ -24,7 +23,7 @@ use Rattle.mp4_plan.specs.words.GoneOn.{ComesMarked, GoesPast, HasLoaded, Stays,
 use Rattle.mp4_plan.specs.words.WriterSteps.{AllFinishOn, AllWriteOn, CarriesAgain, CarriesInHand, CarriesOn, FinishesOn, MayAllFinish, MayAllWrite, MayFinish, MayWrite, WritesOn, again_steps, last_steps}
 use Rattle.mp4_plan.proofs.AllMay.{may_at}
 use Rattle.mp4_plan.proofs.ComeAt.{set_same, set_there, set_twice}
-use Rattle.mp4_plan.proofs.MoofsAhead.{again_less, ahead_of, between, held_some, last_more, last_of, left_less, not_before, one_place, steps_append, way_some}
+use Rattle.mp4_plan.proofs.MoofsAhead.{again_less, ahead_of, between, held_some, last_more, last_of, not_before, one_place, steps_append, way_some}
 use Rattle.mp4_plan.proofs.ReducedTaken.{less_length}
 use Rattle.mp4_plan.proofs.WalksGone.{stays_holding, still_marked}
 
@@ -74,7 +73,8 @@ module _ (file : List ℕ) (m : MovieSeen) (tree : FileTree) (o : IsOpenedAs fil
 
   -- ---- the next sample is looked for
 
-  pub writes_next : (w now : Walk) (n old new : ℕ) (samples : List SampleAt) (h : MayWrite file tree m t w n) → old ≤ new → Stays w now ⊎ HasLoaded m w now → TakesOn file tree t h.own now old new → Comes file tree t m now samples → now.mark ≡ mark_of now (length samples) → WritesOn file tree m t n now old new
+  pub writes_next : (w now : Walk) (n old new : ℕ) (samples : List SampleAt) (h : MayWrite file tree m t w n) → old ≤ new → Stays w now ⊎ HasLoaded m w now
+      → TakesOn file tree t h.own now old new → Comes file tree t m now samples → now.mark ≡ mark_of now (length samples) → WritesOn file tree m t n now old new
   writes_next w now n old new samples h grows ahead takes comes marked =
       let less = again_less file m tree o t t h.may.earlier h.may.later takes.1.earlier takes.1.later w now h.may.stands takes.1.stands (no_farther_back m w now ahead) in
       let few = rest_few w now h.own old new grows takes in
@@ -85,27 +85,30 @@ module _ (file : List ℕ) (m : MovieSeen) (tree : FileTree) (o : IsOpenedAs fil
 
   -- ---- a piece is noted
 
-  pub finishes_noted : (l : Leaving) (count : ℕ) (w now : Walk) (n old new : ℕ) (left : List SampleAt) (h : MayWrite file tree m t w n) (k : ComesMarked l file tree t m now count left) → k.begun ≡ w → WentOn m w now old new → TakesOn file tree t h.own now old new → (count ≡ 0 → now.mark ≡ mark_of now (length left))
-      → FinishesOn l file tree m count t n now old new
+  pub finishes_noted : (l : Leaving) (count : ℕ) (w now : Walk) (n old new : ℕ) (left : List SampleAt) (h : MayWrite file tree m t w n) (k : ComesMarked l file tree t m now count left)
+      → k.begun ≡ w → WentOn m w now old new → TakesOn file tree t h.own now old new → (count ≡ 0 → now.mark ≡ mark_of now (length left)) → FinishesOn l file tree m count t n now old new
   finishes_noted l count w now n old new left h k same went takes none =
       let few = rest_few w now h.own old new went.grows takes in
       let within = takes.2 in
       let sum = h.sum in
       let began = subst (λ (b : Walk). MayTake file tree t b h.own) (sym same) h.may in
       let begun = one_place file m tree o t t began.earlier began.later h.may.earlier h.may.later k.begun w began.stands h.may.stands (ap (λ (b : Walk). b.next) same) in
-      let again : again_steps began.earlier began.later ≡ again_steps h.may.earlier h.may.later = λ i. again_steps (begun.0 i) (begun.1 i) in
-      (h.own + takes.0 + again_steps began.earlier began.later, record {
-        left = left;
-        marked = k;
-        own = h.own;
-        began = began;
-        now = takes.0;
-        may = takes.1;
-        less = few;
-        ahead = subst (λ (b : Walk). Stays b now ⊎ HasLoaded m b now) (sym same) went.ahead;
-        none = none;
-        sum = refl;
-      }, omega (arith, within, sum, again))
+      let again : again_steps began.earlier began.later ≡ again_steps h.may.earlier h.may.later = λ i. again_steps (begun.0 i) (begun.1 i) in (
+        h.own + takes.0 + again_steps began.earlier began.later,
+        record {
+          left = left;
+          marked = k;
+          own = h.own;
+          began = began;
+          now = takes.0;
+          may = takes.1;
+          less = few;
+          ahead = subst (λ (b : Walk). Stays b now ⊎ HasLoaded m b now) (sym same) went.ahead;
+          none = none;
+          sum = refl;
+        },
+        omega (arith, within, sum, again),
+      )
 
   -- nothing was noted
   pub finishes_none : (l : Leaving) (w : Walk) (n old : ℕ) (left : List SampleAt) (h : MayWrite file tree m t w n) (k : ComesMarked l file tree t m w 0 left) → k.begun ≡ w → w.mark ≡ mark_of w (length left) → FinishesOn l file tree m 0 t n w old old
@@ -114,19 +117,22 @@ module _ (file : List ℕ) (m : MovieSeen) (tree : FileTree) (o : IsOpenedAs fil
       let began = subst (λ (b : Walk). MayTake file tree t b h.own) (sym same) h.may in
       let begun = one_place file m tree o t t began.earlier began.later h.may.earlier h.may.later k.begun w began.stands h.may.stands (ap (λ (b : Walk). b.next) same) in
       let again : again_steps began.earlier began.later ≡ again_steps h.may.earlier h.may.later = λ i. again_steps (begun.0 i) (begun.1 i) in
-      let stays : Stays w w = record { track = refl; next = refl; due = refl; left = refl; box = refl } in
-      (h.own + h.own + again_steps began.earlier began.later, record {
-        left = left;
-        marked = k;
-        own = h.own;
-        began = began;
-        now = h.own;
-        may = h.may;
-        less = omega arith;
-        ahead = subst (λ (b : Walk). Stays b w ⊎ HasLoaded m b w) (sym same) (inl stays);
-        none = λ _. none;
-        sum = refl;
-      }, omega (arith, sum, again))
+      let stays : Stays w w = record { track = refl; next = refl; due = refl; left = refl; box = refl } in (
+        h.own + h.own + again_steps began.earlier began.later,
+        record {
+          left = left;
+          marked = k;
+          own = h.own;
+          began = began;
+          now = h.own;
+          may = h.may;
+          less = omega arith;
+          ahead = subst (λ (b : Walk). Stays b w ⊎ HasLoaded m b w) (sym same) (inl stays);
+          none = λ _. none;
+          sum = refl;
+        },
+        omega (arith, sum, again),
+      )
 
   -- ---- it is carried, and the next sample is looked for
 
@@ -179,7 +185,8 @@ module _ (file : List ℕ) (m : MovieSeen) (tree : FileTree) (o : IsOpenedAs fil
     carries_rest mid old middle (inl c) = let within = c.3 in let own = own_within in (c.0, c.1, omega (arith, within, own))
     carries_rest mid old middle (inr c) = let within = c.4 in let own = again_within in (c.0, c.1, omega (arith, within, own))
 
-    module _ (mid now : Walk) (old middle new : ℕ) (takes : (rest : ℕ) → MayTake file tree t mid rest → TakesOn file tree t rest now middle new) (grows : middle ≤ new) (ahead : Stays mid now ⊎ HasLoaded m mid now) (samples : List SampleAt) (comes : Comes file tree t m now samples) (marked : now.mark ≡ mark_of now (length samples)) where
+    module _ (mid now : Walk) (old middle new : ℕ) (takes : (rest : ℕ) → MayTake file tree t mid rest → TakesOn file tree t rest now middle new) (grows : middle ≤ new) (ahead : Stays mid now ⊎ HasLoaded m mid now)
+        (samples : List SampleAt) (comes : Comes file tree t m now samples) (marked : now.mark ≡ mark_of now (length samples)) where
       farther_on : h.marked.begun.next ≤ mid.next → h.marked.begun.next ≤ now.next
       farther_on on = let more = no_farther_back m mid now ahead in omega (arith, on, more)
 
@@ -325,17 +332,20 @@ module _ (l : Leaving) (file : List ℕ) (m : MovieSeen) (tree : FileTree) (o : 
       let r = may_at (MayWrite file tree m) tree.movie.tracks walks k w n h is in
       let on = notes r.t r.own r.may in
       let all = r.sum in
-      let within = on.2 in
-      (on.0 + r.others, record {
-        t = r.t;
-        walk = now;
-        is_walk = set_there walks k w now is;
-        own = on.0;
-        others = r.others;
-        may = on.1;
-        sum = refl;
-        moved = λ later rest may. subst (λ (ws : List Walk). MayAllWrite file tree m ws (rest + r.others)) (sym (set_twice walks k now later)) (r.moved later rest may);
-      }, omega (arith, all, within))
+      let within = on.2 in (
+        on.0 + r.others,
+        record {
+          t = r.t;
+          walk = now;
+          is_walk = set_there walks k w now is;
+          own = on.0;
+          others = r.others;
+          may = on.1;
+          sum = refl;
+          moved = λ later rest may. subst (λ (ws : List Walk). MayAllWrite file tree m ws (rest + r.others)) (sym (set_twice walks k now later)) (r.moved later rest may);
+        },
+        omega (arith, all, within),
+      )
 
   -- nothing was noted
   pub none_noted : (old : ℕ) → IsWalkOf m w → count ≡ 0 → AllFinishOn l file tree m k count n walks old old
@@ -348,17 +358,20 @@ module _ (l : Leaving) (file : List ℕ) (m : MovieSeen) (tree : FileTree) (o : 
       let since = still_marked l file tree r.t m w 0 left i own marked refl in
       let on = finishes_none file m tree o r.t l w r.own old left r.may since.0 since.1 marked in
       let all = r.sum in
-      let within = on.2 in
-      (on.0 + r.others, record {
-        t = r.t;
-        walk = w;
-        is_walk = is;
-        own = on.0;
-        others = r.others;
-        may = subst (λ c. MayFinish l file tree m c r.t w on.0) (sym none) on.1;
-        sum = refl;
-        moved = r.moved;
-      }, omega (arith, all, within))
+      let within = on.2 in (
+        on.0 + r.others,
+        record {
+          t = r.t;
+          walk = w;
+          is_walk = is;
+          own = on.0;
+          others = r.others;
+          may = subst (λ c. MayFinish l file tree m c r.t w on.0) (sym none) on.1;
+          sum = refl;
+          moved = r.moved;
+        },
+        omega (arith, all, within),
+      )
 
 -- the piece that was noted is carried
 module _ (l : Leaving) (file : List ℕ) (m : MovieSeen) (tree : FileTree) (o : IsOpenedAs file m tree) (walks : List Walk) (k count n : ℕ) (h : MayAllFinish l file tree m k count walks n) where

@@ -452,9 +452,9 @@ fn note_piece<S: Store, L: Ledger>(
     }
 }
 
-/// Plans the next piece of a walk that has marked where it stands, before a sample that goes into the
-/// piece, and notes its samples. Where it has none, or more than are to come, or there is no room
-/// for the rows, the store has changed.
+/// Plans the next piece of a walk that has marked where it stands, before a sample that goes into
+/// it, and notes its samples. Where it has none, or more than are to come, or there is no room for
+/// the rows, the store has changed.
 pub(crate) fn note_marked<S: Store, L: Ledger>(
     walk: &mut Walk,
     leaving: Leaving,
@@ -502,8 +502,8 @@ pub(crate) fn note_marked<S: Store, L: Ledger>(
     ensures work { IsTrue (S.is_honest store.old) → (tree : FileTree) (t : TrackTree) (n : ℕ)
         → IsOpenedAs (S.file store.old) movie.now tree
         → MayWrite (S.file store.old) tree movie.now t walk.old n
-        → IfOk result (λ p. FinishesOn leaving (S.file store.old) tree movie.now p.count t n walk.new
-        steps.old steps.new) }
+        → IfOk result (λ p. FinishesOn leaving (S.file store.old) tree movie.now p.count t n
+        walk.new steps.old steps.new) }
     ensures most { IsTrue (S.is_honest store.old) → (tree : FileTree) (t : TrackTree) (n : ℕ)
         → IsOpenedAs (S.file store.old) movie.now tree
         → MayWrite (S.file store.old) tree movie.now t walk.old n

@@ -1,5 +1,5 @@
 //! The normal form of a presentation, written.
-ghost use Rattle.std.specs.Prelude.{◌≡◌, ℕ, ◌+◌, ◌*◌, ◌-◌, ◌^◌, ◌<◌, ◌≤◌, min, List, ◌++◌, length, map, take, drop, slice_index, slice_get, Some, None, IfOk, IfErr, OnOk, OnErr};
+ghost use Rattle.std.specs.Prelude.{◌≡◌, ℕ, ◌+◌, ◌*◌, ◌-◌, ◌^◌, ◌<◌, ◌≤◌, min, List, ◌++◌, length, map, take, slice_index, slice_get, Some, None, IfOk, IfErr, OnOk, OnErr};
 ghost use Rattle.std.specs.Io.KnownBytes.{Appends};
 ghost use Rattle.std.specs.List.{AllByRecursion};
 ghost use Rattle.mp4_boxes.specs.format.Bytes.{sum_of};
@@ -87,8 +87,8 @@ pub struct Writer {
     rows: Vec<Row>,
     /// Where the bytes of the piece lie that is noted.
     stretches: Stretches,
-    /// For each track a walk that notes its pieces, and goes back for their bytes where these lie in
-    /// too many places.
+    /// For each track a walk that notes its pieces, and goes back for their bytes where these lie
+    /// in too many places.
     walks: Vec<Walk>,
     /// The next sample of each track.
     nexts: Vec<Option<SampleAt>>,

@@ -224,7 +224,8 @@ module _ (file : List ℕ) (m : MovieSeen) (tree : FileTree) (t : TrackTree) (be
         time_is c d e = cc
 
     module _ (samples : List SampleAt) (k : Comes file tree t m begun samples) (front : List FragmentTree) (last : FragmentTree) (is_last : k.0 ≡ front ++ last ∷ []) (first : Walk) (stands : StandsBefore file tree t (front ++ last ∷ []) k.1 first) (box : moof_box first ≡ moof_box begun)
-        (info : TrackInfo) (at : slice_get m.tracks w.track ≡ Some info) (all : InHand) (is_all : InHandOf m first all) (whole : left_in_hand all ≡ all_in_moof m first info d.time) (own : left_in_hand all ≡ samples_behind tree t front (last ∷ [])) (had : d.left ≡ length (samples_behind tree t front (last ∷ k.1))) where
+        (info : TrackInfo) (at : slice_get m.tracks w.track ≡ Some info) (all : InHand) (is_all : InHandOf m first all) (whole : left_in_hand all ≡ all_in_moof m first info d.time)
+        (own : left_in_hand all ≡ samples_behind tree t front (last ∷ [])) (had : d.left ≡ length (samples_behind tree t front (last ∷ k.1))) where
       xs : List SampleAt
       xs = all_in_moof m begun info d.time
 

@@ -146,7 +146,8 @@ impl Walk {
             (next : FragmentTree) (begun : Walk)
             → IsOpenedAs (S.file store.old) movie.now tree
             → HoldsMarked (S.file store.old) tree t earlier next later begun self.old before
-            → OnOk result (Takes (S.file store.old) tree t earlier next later movie.now self.new true
+            → OnOk result
+            (Takes (S.file store.old) tree t earlier next later movie.now self.new true
             × (moof_box self.new ≡ moof_box begun)
             × (steps_to self.new.place ≤ moof_steps (moof_box begun))
             × (steps.new ≡ steps.old + steps_to self.new.place)) }

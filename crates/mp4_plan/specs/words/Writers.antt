@@ -28,7 +28,7 @@ use Rattle.mp4_plan.specs.words.Stretches.{Tells}
 use Rattle.mp4_plan.specs.words.Taken.{piece_front, row_seen}
 use Rattle.mp4_plan.specs.declared.moof_front.PieceHead.{PieceHead}
 use Rattle.mp4_plan.specs.declared.planner.Planned.{Planned}
-use Rattle.mp4_plan.specs.words.Gathering.{planned_of, piece_fed, piece_from, samples_after}
+use Rattle.mp4_plan.specs.words.Gathering.{planned_of, piece_fed, piece_from}
 use Rattle.mp4_plan.specs.declared.schedule.Turn.{Turn}
 use Rattle.mp4_plan.specs.declared.writer.Noted.{Noted}
 use Rattle.mp4_plan.specs.declared.writer.Plan.{Plan}

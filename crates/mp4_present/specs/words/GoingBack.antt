@@ -68,7 +68,7 @@ IsMarkInHand w = (w.next ≡ w.mark.next) × (is_none w.before ≡ is_none w.mar
 
 -- the walk where it has marked its place, which marks where it stood
 abbrev pub turned_back : Walk → Walk
-turned_back w = record (set_back w) { mark = mark_of w w.mark.to_come; }
+turned_back w = record (set_back w) { mark = mark_of w w.mark.to_come }
 
 -- the mark is a place of what is in hand, and more was passed before it
 abbrev pub is_mark_farther : Walk → Bool
@@ -77,7 +77,7 @@ is_mark_farther w = (w.next == w.mark.next) && nat_lt (steps_to w.place) (steps_
 -- the farther one of the walk's place and its mark
 abbrev pub farther : Walk → Walk
 farther w = if is_mark_farther w
-    then record (set_back w) { mark = mark_of (set_back w) w.mark.to_come; } else w
+    then record (set_back w) { mark = mark_of (set_back w) w.mark.to_come } else w
 
 -- ---- a `moof` that was loaded
 

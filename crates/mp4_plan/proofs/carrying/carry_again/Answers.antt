@@ -1,9 +1,8 @@
-use Rattle.std.proofs.Common.{◌≡◌, ◌+◌, ◌≤◌, ◌⊎◌, inl, inr, length, refl, sym, ap, subst, ◌∙◌, arith}
+use Rattle.std.proofs.Common.{arith}
 use Rattle.std.proofs.lemmas.Result.{err_from_is_err_and}
 use Rattle.mp4_store.proofs.Known.{AppendsPrefix-nothing}
 use Rattle.mp4_present.proofs.WalkCopied.{on_ok, on_err}
 use Rattle.mp4_plan.proofs.CarriedLess.{carried_less, prefix_less, lacks_less}
-use Rattle.mp4_plan.proofs.StepsOn.{then_takes, then_stops}
 use Rattle.mp4_plan.proofs.WritingSteps.{gone_past}
 use Rattle.mp4_plan.proofs.carrying.carry_again.Goals as goal
 

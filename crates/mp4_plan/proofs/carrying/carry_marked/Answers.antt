@@ -1,4 +1,4 @@
-use Rattle.std.proofs.Common.{rules, ◌≡◌, ◌≤◌, inl, inr, true, length, take, sym, ap, ◌∙◌, arith}
+use Rattle.std.proofs.Common.{rules, ◌≡◌, inl, inr, true, length, sym, ap, ◌∙◌, arith}
 use Rattle.mp4_boxes.proofs.Each.{each_taken}
 use Rattle.mp4_present.specs.words.Carried.{waiting}
 use Rattle.mp4_present.specs.words.GoingBack.{IsMarkInHand}

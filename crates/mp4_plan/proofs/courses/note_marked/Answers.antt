@@ -1,10 +1,7 @@
-use Rattle.std.proofs.Common.{rules, ◌≡◌, ◌<◌, ◌≤◌, List, length, drop, refl, sym, ap, subst, ◌∙◌, arith}
+use Rattle.std.proofs.Common.{rules, ◌<◌, length, drop, refl, sym, ap, subst, ◌∙◌, arith}
 use Rattle.std.proofs.lemmas.Result.{err_from_is_err_and}
-use Rattle.mp4_tables.specs.declared.sample.SampleAt.{SampleAt}
 use Rattle.mp4_present.specs.words.Movies.{mark_of}
 use Rattle.mp4_plan.specs.words.ComingLess.{ComesLess, less}
-use Rattle.mp4_plan.specs.words.Gathering.{more_of, piece_from, samples_after}
-use Rattle.mp4_plan.specs.words.GoneOn.{ComesMarked}
 use Rattle.mp4_plan.specs.declared.planner.Planned.{Planned}
 use Rattle.mp4_plan.proofs.PieceCounts.{piece_counts, piece_within}
 use Rattle.mp4_plan.proofs.ReducedTaken.{less_length}

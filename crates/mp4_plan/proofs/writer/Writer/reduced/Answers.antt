@@ -1,5 +1,4 @@
 use Rattle.std.proofs.Common.{◌++◌, sym, ◌∙◌}
-use Rattle.std.proofs.lemmas.Result.{err_from_is_err_and}
 use Rattle.mp4_plan.proofs.writer.Writer.reduced.Goals as goal
 
 pub returns-clause-ready : goal.returns-clause-ready

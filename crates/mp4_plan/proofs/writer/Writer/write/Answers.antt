@@ -171,7 +171,8 @@ returns-in_err-pass-clause-prefix g c told tree o ready =
     let put = (rw (c.in_ok-noted.ensures.honesty, c.in_ok-noted.ensures.file, i.honesty, i.file) at c.in_ok-carry_turn.ensures.put) told tree o in
     let copied = (rw (c.in_ok-noted.ensures.honesty, c.in_ok-noted.ensures.file, i.honesty, i.file) at c.in_ok-carry_turn.ensures.copied) told tree o in
     let on = turn_goes c.args.self.now.leaving file tree m o s c.loop-turn.sequence w before after h c.in-Some.turn here ends i.tracks i.writer i.leaving c.note_turn.new.self c.in_ok-noted.noted
-    (get_or c.tracks-tracks.result.now c.in-Some.turn.track c.index-tracks-track.result).id noted c.in_ok-noted.ensures.keeps few is_id c.carry_turn.new.self _ copied (λ x is. read_at c.carry_turn.new.self.nexts.items c.in-Some.turn.track x _ is c.index.ensures) (g.K.Sink.contents c.carry_turn.new.sink) _ put c.in_ok-carry_turn.ensures.keeps refl in
+    (get_or c.tracks-tracks.result.now c.in-Some.turn.track c.index-tracks-track.result).id noted c.in_ok-noted.ensures.keeps few is_id c.carry_turn.new.self _ copied
+    (λ x is. read_at c.carry_turn.new.self.nexts.items c.in-Some.turn.track x _ is c.index.ensures) (g.K.Sink.contents c.carry_turn.new.sink) _ put c.in_ok-carry_turn.ensures.keeps refl in
     rw e.1 (stopped c.args.self.now.leaving file tree m _ _ _ _ _ _ _ _ on)
 
 pub returns-in_err-pass-clause-unchanged : goal.returns-in_err-pass-clause-unchanged
@@ -229,7 +230,8 @@ loop-turn-preserved g c =
           let copied = (rw (c.in_ok-noted.ensures.honesty, c.in_ok-noted.ensures.file, i.honesty, i.file) at c.in_ok-carry_turn.ensures.copied) told tree o in
           rw c.sequence_behind-sequence.ensures
           (turn_goes c.args.self.now.leaving file tree m o s c.loop-turn.sequence w before after h c.in-Some.turn here ends i.tracks i.writer i.leaving c.note_turn.new.self c.in_ok-noted.noted
-          (get_or c.tracks-tracks.result.now c.in-Some.turn.track c.index-tracks-track.result).id noted c.in_ok-noted.ensures.keeps few is_id c.carry_turn.new.self _ copied (λ x is. read_at c.carry_turn.new.self.nexts.items c.in-Some.turn.track x _ is c.index.ensures) (g.K.Sink.contents c.carry_turn.new.sink) c.pass.new.self put c.in_ok-carry_turn.ensures.keeps c.in_ok-pass.ensures.turned);
+          (get_or c.tracks-tracks.result.now c.in-Some.turn.track c.index-tracks-track.result).id noted c.in_ok-noted.ensures.keeps few is_id c.carry_turn.new.self _ copied
+          (λ x is. read_at c.carry_turn.new.self.nexts.items c.in-Some.turn.track x _ is c.index.ensures) (g.K.Sink.contents c.carry_turn.new.sink) c.pass.new.self put c.in_ok-carry_turn.ensures.keeps c.in_ok-pass.ensures.turned);
       within = λ told tree o n may.
           let w = c.loop-turn.self in
           let keep = c.in_ok-noted.ensures.keeps.0 in
