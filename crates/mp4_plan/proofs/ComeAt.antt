@@ -70,3 +70,14 @@ pub set_same : {A : Type 0} (xs : List A) (k : ℕ) (x : A) → slice_get xs k �
 set_same [] k x is = refl
 set_same (y ∷ xs) zero x is = let same : x ≡ y = cc in ap (λ z. z ∷ xs) same
 set_same (y ∷ xs) (suc k) x is = ap (λ zs. y ∷ zs) (set_same xs k x is)
+
+-- what was set at a place is there, and nothing that was set there before
+pub set_there : {A : Type 0} (xs : List A) (k : ℕ) (x y : A) → slice_get xs k ≡ Some x → slice_get (slice_set xs k y) k ≡ Some y
+set_there [] k x y is = absurd cc
+set_there (z ∷ xs) zero x y is = refl
+set_there (z ∷ xs) (suc k) x y is = set_there xs k x y is
+
+pub set_twice : {A : Type 0} (xs : List A) (k : ℕ) (x y : A) → slice_set (slice_set xs k x) k y ≡ slice_set xs k y
+set_twice [] k x y = refl
+set_twice (z ∷ xs) zero x y = refl
+set_twice (z ∷ xs) (suc k) x y = ap (λ zs. z ∷ zs) (set_twice xs k x y)

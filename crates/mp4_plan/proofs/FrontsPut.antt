@@ -1,5 +1,5 @@
 -- What was put when bytes could not be taken along further: a front of all that was to follow.
-use Rattle.std.proofs.Common.{◌≡◌, ℕ, List, ◌++◌, take, drop, sym, ap, subst, ◌∙◌, append_assoc}
+use Rattle.std.proofs.Common.{◌≡◌, ℕ, List, [], ◌++◌, append-nil, take, drop, sym, ap, subst, ◌∙◌, append_assoc}
 use Rattle.std.specs.Prelude.{Option, flat_map}
 use Rattle.std.proofs.lemmas.Grind.{flat_map-append}
 use Rattle.std.proofs.lemmas.List.{take-append-drop}
@@ -33,3 +33,7 @@ bytes_of_both {A} f n xs = ap (λ (ys : List A). flat_map f ys) (sym (take-appen
 -- a front of the same bytes
 pub front_as : (a b : Option (List ℕ)) (held xs ys : List ℕ) → AppendsPrefix a b (held ++ xs) → xs ≡ ys → AppendsPrefix a b (held ++ ys)
 front_as a b held xs ys p e = subst (λ (bs : List ℕ). AppendsPrefix a b (held ++ bs)) e p
+
+-- what went on whole is a front of itself
+pub front_put : (a b : Option (List ℕ)) (held held_b bytes : List ℕ) → BytesGoOn a b held held_b bytes → AppendsPrefix a b (held ++ bytes)
+front_put a b held held_b bytes p = stopped_behind a b held held_b bytes [] bytes p (sym (append-nil bytes))

@@ -24,7 +24,6 @@ pub mod WrittenRun
 mod WalksOn
 mod PieceCarried
 mod PieceFed
-mod PiecePassed
 pub mod WrittenFragment
 pub mod PieceTree
 pub mod PieceSays
@@ -63,7 +62,6 @@ pub mod Lefts
 pub mod FrontsPut
 pub mod SizesSmall
 pub mod ComeAt
-pub mod ComeBehind
 pub mod PieceWritten
 pub mod PartsPut
 pub mod CarriedParts
@@ -85,3 +83,7 @@ pub mod PieceCounts
 pub mod PlannedTurns
 pub mod CourseSteps
 pub mod AllPut
+mod WalksGone
+mod AllMay
+mod MoofsAhead
+mod WritingSteps

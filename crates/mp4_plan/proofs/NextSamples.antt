@@ -1,5 +1,5 @@
 -- The next samples of tracks, and turns in which none goes into a piece.
-use Rattle.std.proofs.Common.{◌≡◌, ℕ, zero, suc, ◌+◌, ◌<◌, ◌≤◌, ◌==◌, ◌&&◌, Bool, false, List, [], ◌∷◌, ◌++◌, length, take, map, Some, None, refl, sym, ap, ◌∙◌, arith, slice_set}
+use Rattle.std.proofs.Common.{rules, ◌≡◌, ℕ, zero, suc, ◌+◌, ◌<◌, ◌≤◌, ◌==◌, ◌&&◌, Bool, true, false, List, [], ◌∷◌, ◌++◌, length, take, map, Some, None, refl, sym, ap, ◌∙◌, arith, slice_set}
 use Rattle.mp4_present.specs.declared.leaving.Leaving.{Leaving}
 use Rattle.std.specs.Prelude.{Option, slice_get, slice_index_or}
 use Rattle.std.proofs.lemmas.List.Sums.{sum_by-cons}
@@ -16,13 +16,26 @@ use Rattle.mp4_plan.specs.format.Held.{rooms}
 use Rattle.mp4_plan.specs.words.Taken.{row_seen}
 use Rattle.mp4_plan.specs.declared.rows.Row.{Row}
 use Rattle.mp4_plan.specs.declared.ends.End.{End}
-use Rattle.mp4_plan.proofs.PlannerSteps.{more_of_no, more_of-nil}
+use Rattle.mp4_plan.proofs.PlannerSteps.{more_of_no, more_of_yes, more_of-nil}
 
 -- where the next sample doesn't go into a new piece, none does
 pub none_goes : (end : End) (left : List SampleAt) (next : Option SampleAt) (v : Bool) → next ≡ slice_get left 0 → v ≡ first_goes end next → v ≡ false → more_of (piece_from end) left ≡ 0
 none_goes end [] next v e f h = more_of-nil (piece_from end)
 none_goes end (s ∷ left) next v e f h =
     more_of_no (piece_from end) s left (ap (λ w. w && (s.description == s.description)) (sym (f ∙ ap (first_goes end) e) ∙ h))
+
+-- where it does, one does at least
+pub some_goes : (end : End) (left : List SampleAt) (next : Option SampleAt) (v : Bool) → next ≡ slice_get left 0 → v ≡ first_goes end next → v ≡ true → 0 < more_of (piece_from end) left
+some_goes end [] next v e f h = absurd (none_goes_not (sym h ∙ f ∙ ap (first_goes end) e))
+  where
+    none_goes_not : true ≡ first_goes end None → ⊥
+    none_goes_not q = absurd cc
+some_goes end (s ∷ left) next v e f h =
+    let more = more_of_yes (piece_from end) s left (ap (λ w. w && (s.description == s.description)) (sym (f ∙ ap (first_goes end) e) ∙ h) ∙ same_goes s.description) in
+    omega (arith, more)
+  where
+    same_goes : (n : ℕ) → (true && (n == n)) ≡ true
+    same_goes n = search rules
 
 -- ---- the next samples of all tracks
 

@@ -6,19 +6,23 @@ use Rattle.std.specs.Prelude.{slice_get, slice_set, slice_index_or, Option}
 use Rattle.std.specs.List.{AllByRecursion}
 use Rattle.std.specs.Option.{MatchOption}
 use Rattle.std.proofs.lemmas.Bool.{eq-eqb}
-use Rattle.std.proofs.lemmas.List.{take_all}
+use Rattle.std.proofs.lemmas.List.{take_all, map-append}
 use Rattle.std.proofs.lemmas.List.Sums.{sum_by-append, sum_by-cons}
 use Rattle.mp4_head.specs.format.Tree.{TrackTree}
 use Rattle.mp4_tables.specs.declared.sample.SampleAt.{SampleAt}
 use Rattle.mp4_present.specs.words.SamplesComing.{Comes, track_samples}
 use Rattle.mp4_present.specs.format.Denotes.{FileTree}
-use Rattle.mp4_present.specs.words.Movies.{MovieSeen, IsWalkOf}
+use Rattle.mp4_present.specs.words.Movies.{MovieSeen, IsWalkOf, mark_of}
 use Rattle.mp4_present.specs.words.OpenedMovie.{IsInfoOf, IsOpenedAs}
 use Rattle.mp4_present.specs.declared.walks.Walk.{Walk}
+use Rattle.mp4_present.specs.declared.track_info.TrackInfo.{TrackInfo}
+use Rattle.mp4_present.proofs.MoofTaken.{zipped_at}
 use Rattle.mp4_present.proofs.TracksPassed.{zip_length}
-use Rattle.mp4_plan.specs.words.Writers.{AreWalksOf, AllCome, AllBegin, first_dts}
+use Rattle.mp4_plan.specs.words.Writers.{AreWalksOf, AreMarked, AllCome, AllBegin, first_dts}
 use Rattle.mp4_plan.specs.format.Held.{rooms}
 use Rattle.mp4_plan.proofs.ComeAt.{come_at, come_with, come_more, set_same}
+use Rattle.mp4_plan.proofs.ReducedTaken.{less_length}
+use Rattle.mp4_plan.proofs.TakenFrom.{as_many}
 use Rattle.mp4_plan.proofs.TurnTaken.{there_is}
 
 -- ---- walks that begin
@@ -49,6 +53,52 @@ all_begin m k walks h le file tree o leaving =
     let many = zip_length (IsInfoOf file tree) tree.movie.tracks m.tracks o.tracks in
     let all = take_all k tree.movie.tracks (omega (arith, le, many)) in
     subst (λ (ts : List TrackTree). AllCome leaving file tree m ts walks (map (left_samples leaving tree) ts)) all (h file tree o leaving)
+
+-- ---- walks that have marked where they begin
+
+abbrev pub BeginMarked : MovieSeen → ℕ → List Walk → Type 0
+BeginMarked m k walks = (file : List ℕ) (tree : FileTree) → IsOpenedAs file m tree → (leaving : Leaving) → AreMarked walks (map (left_samples leaving tree) (take k tree.movie.tracks))
+
+marked_behind : (walks : List Walk) (lefts : List (List SampleAt)) (w : Walk) (left : List SampleAt) → AreMarked walks lefts → w.mark ≡ mark_of w (length left) → AreMarked (walks ++ w ∷ []) (lefts ++ left ∷ [])
+marked_behind [] [] w left h is = (is, tt)
+marked_behind [] (l ∷ lefts) w left h is = absurd h
+marked_behind (v ∷ walks) [] w left h is = absurd h
+marked_behind (v ∷ walks) (l ∷ lefts) w left h is = (h.0, marked_behind walks lefts w left h.1 is)
+
+taken_next : {A : Type 0} (xs : List A) (k : ℕ) (x : A) → slice_get xs k ≡ Some x → take (k + 1) xs ≡ take k xs ++ x ∷ []
+taken_next {A} xs k x is = let one : k + 1 ≡ suc k = omega arith in ap (λ n. take n xs) one ∙ by xs k is
+  where
+    by : (ys : List A) (k : ℕ) → slice_get ys k ≡ Some x → take (suc k) ys ≡ take k ys ++ x ∷ []
+    by [] k e = absurd cc
+    by (y ∷ ys) zero e = let same : y ≡ x = cc in ap (λ z. z ∷ []) same
+    by (y ∷ ys) (suc k) e = ap (λ zs. y ∷ zs) (by ys k e)
+
+pub one_marked : (m : MovieSeen) (k : ℕ) (walks : List Walk) (walk : Walk) → BeginMarked m k walks → k < length m.tracks → ((info : TrackInfo) → slice_get m.tracks k ≡ Some info → walk.mark ≡ mark_of walk info.samples) → BeginMarked m (k + 1) (walks ++ walk ∷ [])
+one_marked m k walks walk h lt mark file tree o leaving =
+    let many = zip_length (IsInfoOf file tree) tree.movie.tracks m.tracks o.tracks in
+    let t = there_is tree.movie.tracks k (omega (arith, lt, many)) in
+    let info = there_is m.tracks k lt in
+    let is = zipped_at (IsInfoOf file tree) tree.movie.tracks m.tracks k t.0 info.0 o.tracks t.1 info.1 in
+    let long = is.samples ∙ sym (less_length leaving (track_samples tree t.0) ∙ as_many file tree t.0) in
+    let all : map (left_samples leaving tree) (take (k + 1) tree.movie.tracks) ≡ map (left_samples leaving tree) (take k tree.movie.tracks) ++ left_samples leaving tree t.0 ∷ [] =
+    ap (map (left_samples leaving tree)) (taken_next tree.movie.tracks k t.0 t.1) ∙ map-append (left_samples leaving tree) (take k tree.movie.tracks) (t.0 ∷ []) in
+    subst (λ (ls : List (List SampleAt)). AreMarked (walks ++ walk ∷ []) ls) (sym all) (marked_behind walks (map (left_samples leaving tree) (take k tree.movie.tracks)) walk (left_samples leaving tree t.0) (h file tree o leaving) (mark info.0 info.1 ∙ ap (mark_of walk) long))
+
+-- all tracks have walks
+pub all_marked : (m : MovieSeen) (k : ℕ) (walks : List Walk) → BeginMarked m k walks → length m.tracks ≤ k → (file : List ℕ) (tree : FileTree) → IsOpenedAs file m tree → (leaving : Leaving) → AreMarked walks (map (left_samples leaving tree) tree.movie.tracks)
+all_marked m k walks h le file tree o leaving =
+    let many = zip_length (IsInfoOf file tree) tree.movie.tracks m.tracks o.tracks in
+    let all = take_all k tree.movie.tracks (omega (arith, le, many)) in
+    subst (λ (ts : List TrackTree). AreMarked walks (map (left_samples leaving tree) ts)) all (h file tree o leaving)
+
+-- where a walk's first sample comes, and what it has marked
+pub first_marked : (m : MovieSeen) (walk : Walk) (k : ℕ) → ((file : List ℕ) (tree : FileTree) (t : TrackTree) → IsOpenedAs file m tree → slice_get tree.movie.tracks k ≡ Some t → Comes file tree t m walk (track_samples tree t)) → k < length m.tracks
+    → ((info : TrackInfo) → slice_get m.tracks k ≡ Some info → walk.mark ≡ mark_of walk info.samples) → (file : List ℕ) (tree : FileTree) (t : TrackTree) → IsOpenedAs file m tree → slice_get tree.movie.tracks k ≡ Some t
+    → (samples : List SampleAt) × Comes file tree t m walk samples × (walk.mark ≡ mark_of walk (length samples))
+first_marked m walk k comes lt mark file tree t o is =
+    let info = there_is m.tracks k lt in
+    let of = zipped_at (IsInfoOf file tree) tree.movie.tracks m.tracks k t info.0 o.tracks is info.1 in
+    (track_samples tree t, comes file tree t o is, mark info.0 info.1 ∙ ap (mark_of walk) (of.samples ∙ sym (as_many file tree t)))
 
 -- ---- the walk of one track
 

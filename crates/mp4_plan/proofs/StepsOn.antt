@@ -1,11 +1,12 @@
 -- The steps that walks over all tracks took so far, and those that they may still take.
-use Rattle.std.proofs.Common.{◌≡◌, ℕ, ◌+◌, ◌≤◌, List, sym, subst, arith}
+use Rattle.std.proofs.Common.{ℕ, ◌+◌, ◌≤◌, List, arith}
 use Rattle.mp4_head.specs.format.Tree.{TrackTree}
 use Rattle.mp4_present.specs.format.Denotes.{FileTree}
+use Rattle.mp4_present.specs.words.Movies.{MovieSeen}
 use Rattle.mp4_present.specs.words.WalkSteps.{MayTake, TakesOn}
+use Rattle.mp4_present.specs.declared.leaving.Leaving.{Leaving}
 use Rattle.mp4_present.specs.declared.walks.Walk.{Walk}
-use Rattle.mp4_plan.specs.words.WriterSteps.{MayAllTake, AllTakeOn}
-use Rattle.mp4_plan.specs.declared.writer.Writer.{Writer}
+use Rattle.mp4_plan.specs.words.WriterSteps.{MayAllTake, AllTakeOn, MayAllWrite, AllWriteOn, MayAllFinish, AllFinishOn}
 
 -- ---- one walk, call after call
 
@@ -53,48 +54,44 @@ module _ (file : List ℕ) (tree : FileTree) where
       let second = stops h.0 h.1 in
       omega (arith, first, second)
 
-  -- ---- walks that plan, and walks that copy
+-- ---- all walks of a writer
 
-  -- Of so many steps some were taken, and the walks that plan and those that copy may take the others.
-  abbrev pub BothTakeOn : ℕ → ℕ → List Walk → List Walk → ℕ → ℕ → Type 0
-  BothTakeOn n c planning copying old new = (a b : ℕ) × MayAllTake file tree tree.movie.tracks planning a × MayAllTake file tree tree.movie.tracks copying b × (new + a + b ≤ old + n + c)
+module _ (file : List ℕ) (tree : FileTree) (m : MovieSeen) where
+  pub writes_none_taken : (walks : List Walk) (n old : ℕ) → MayAllWrite file tree m walks n → AllWriteOn file tree m n walks old old
+  writes_none_taken walks n old h = (n, h, omega arith)
 
-  -- the planning walks begin
-  pub both_begin : (planning copying : List Walk) (n c old new : ℕ) → AllTakeOn file tree n planning old new → MayAllTake file tree tree.movie.tracks copying c → BothTakeOn n c planning copying old new
-  both_begin planning copying n c old new h may =
-      let within = h.2 in
-      (h.0, c, h.1, may, omega (arith, within))
+  pub all_written : (walks : List Walk) (n old new : ℕ) → AllWriteOn file tree m n walks old new → new ≤ old + n
+  all_written walks n old new h = let within = h.2 in omega (arith, within)
 
-  module _ (n c old before : ℕ) (w : Writer) (h : BothTakeOn n c w.planning.items w.copying.items old before) where
-    pub both_taken : before ≤ old + n + c
-    both_taken = let within = h.4 in omega (arith, within)
+  -- so many were taken before
+  pub write_then : (walks later : List Walk) (n old before after : ℕ) → AllWriteOn file tree m n walks old before → ((rest : ℕ) → MayAllWrite file tree m walks rest → AllWriteOn file tree m rest later before after) → AllWriteOn file tree m n later old after
+  write_then walks later n old before after h takes =
+      let on = takes h.0 h.1 in
+      let first = h.2 in
+      let second = on.2 in
+      (on.0, on.1, omega (arith, first, second))
 
-    -- what was planned comes to no more
-    pub note_within : (after : ℕ) → ((a : ℕ) → MayAllTake file tree tree.movie.tracks w.planning.items a → after ≤ before + a) → after ≤ old + n + c
-    note_within after stops =
-        let within = h.4 in
-        let more = stops h.0 h.2 in
-        omega (arith, within, more)
+  pub write_then_stop : (walks : List Walk) (n old before after : ℕ) → AllWriteOn file tree m n walks old before → ((rest : ℕ) → MayAllWrite file tree m walks rest → after ≤ before + rest) → after ≤ old + n
+  write_then_stop walks n old before after h stops =
+      let first = h.2 in
+      let second = stops h.0 h.1 in
+      omega (arith, first, second)
 
-    module _ (w1 : Writer) (mid : ℕ) (noted : (a : ℕ) → MayAllTake file tree tree.movie.tracks w.planning.items a → AllTakeOn file tree a w1.planning.items before mid) (same : w1.copying ≡ w.copying) where
-      both_noted : BothTakeOn n c w1.planning.items w1.copying.items old mid
-      both_noted =
-          let within = h.4 in
-          let on = noted h.0 h.2 in
-          let more = on.2 in
-          (on.0, h.1, on.1, subst (λ v. MayAllTake file tree tree.movie.tracks v.items h.1) (sym same) h.3, omega (arith, within, more))
+  -- a piece was noted, and is carried
+  module _ (l : Leaving) (walks noted : List Walk) (track count n old before mid : ℕ) (h : AllWriteOn file tree m n walks old before) (note : (rest : ℕ) → MayAllWrite file tree m walks rest → AllFinishOn l file tree m track count rest noted before mid) where
+    pub turn_then : (later : List Walk) (after : ℕ) → ((rest : ℕ) → MayAllFinish l file tree m track count noted rest → AllWriteOn file tree m rest later mid after) → AllWriteOn file tree m n later old after
+    turn_then later after carry =
+        let one = note h.0 h.1 in
+        let two = carry one.0 one.1 in
+        let first = h.2 in
+        let second = one.2 in
+        let third = two.2 in
+        (two.0, two.1, omega (arith, first, second, third))
 
-      -- what was copied comes to no more
-      pub copy_within : (after : ℕ) → ((b : ℕ) → MayAllTake file tree tree.movie.tracks w1.copying.items b → after ≤ mid + b) → after ≤ old + n + c
-      copy_within after stops =
-          let within = both_noted.4 in
-          let more = stops both_noted.1 both_noted.3 in
-          omega (arith, within, more)
-
-      -- a turn was planned and copied
-      pub turn_within : (w2 : Writer) (after : ℕ) → ((b : ℕ) → MayAllTake file tree tree.movie.tracks w1.copying.items b → AllTakeOn file tree b w2.copying.items mid after) → w2.planning ≡ w1.planning → BothTakeOn n c w2.planning.items w2.copying.items old after
-      turn_within w2 after copied keeps =
-          let within = both_noted.4 in
-          let on = copied both_noted.1 both_noted.3 in
-          let more = on.2 in
-          (both_noted.0, on.0, subst (λ v. MayAllTake file tree tree.movie.tracks v.items both_noted.0) (sym keeps) both_noted.2, on.1, omega (arith, within, more))
+    pub turn_then_stop : (after : ℕ) → ((rest : ℕ) → MayAllFinish l file tree m track count noted rest → after ≤ mid + rest) → after ≤ old + n
+    turn_then_stop after stops =
+        let one = note h.0 h.1 in
+        let most = stops one.0 one.1 in
+        let first = h.2 in
+        let second = one.2 in
+        omega (arith, first, second, most)

@@ -146,7 +146,7 @@ has_track file m tree k info o e =
 
 -- ---- how many samples there are
 
-as_many : (file : List ℕ) (tree : FileTree) (t : TrackTree) → length (track_samples tree t) ≡ length (track_of file (file_parts tree) t).samples
+pub as_many : (file : List ℕ) (tree : FileTree) (t : TrackTree) → length (track_samples tree t) ≡ length (track_of file (file_parts tree) t).samples
 as_many file tree t =
     let placed = placed_of (file_parts tree) t in
     timed_length (track_keys tree t) (track_of file (file_parts tree) t).start placed ∙ sym (length-map placed (sample_of file))

@@ -17,9 +17,10 @@ use Rattle.mp4_present.specs.words.Carried.{BytesGoOn, waiting}
 use Rattle.mp4_present.specs.words.SamplesComing.{track_samples}
 use Rattle.mp4_present.specs.format.Denotes.{FileTree, presentation_of}
 use Rattle.mp4_present.specs.words.Joined.{IsBelow}
-use Rattle.mp4_present.specs.words.Movies.{MovieSeen}
+use Rattle.mp4_present.specs.words.Movies.{MovieSeen, mark_of}
 use Rattle.mp4_present.specs.words.OpenedMovie.{IsOpenedAs}
 use Rattle.mp4_present.specs.declared.track_info.TrackInfo.{TrackInfo}
+use Rattle.mp4_present.specs.declared.walks.Mark.{Mark}
 use Rattle.mp4_present.specs.declared.walks.Walk.{Walk}
 use Rattle.mp4_present.proofs.Carrying.{BytesGoOn-then, BytesGoOn-all, BytesGoOn-fails}
 use Rattle.mp4_store.proofs.Known.{AppendsPrefix-longer}
@@ -30,14 +31,13 @@ use Rattle.mp4_plan.specs.format.Pieces.{TimedSample, Piece, pieces}
 use Rattle.mp4_plan.specs.words.Taken.{AreTaken}
 use Rattle.mp4_plan.specs.words.TurnLaws.{piece_if}
 use Rattle.mp4_plan.specs.words.Turns.{first_scale, turn_end, turned, track_passed, wrapped, is_over}
-use Rattle.mp4_plan.specs.words.Writers.{AllCome, AllBegin, ComesBehind, IsReady, firsts, first_dts, longest_piece, head_of_normal, turn_head, sequence_behind, turn_bytes}
+use Rattle.mp4_plan.specs.words.Writers.{AllCome, AllBegin, AreMarked, IsReady, firsts, first_dts, longest_piece, head_of_normal, turn_head, sequence_behind, turn_bytes}
 use Rattle.mp4_plan.specs.declared.ends.End.{End}
 use Rattle.mp4_plan.specs.declared.moof_front.PieceHead.{PieceHead}
 use Rattle.mp4_plan.specs.declared.planner.Planned.{Planned}
 use Rattle.mp4_plan.specs.declared.schedule.Schedule.{Schedule}
 use Rattle.mp4_plan.specs.declared.writer.Writer.{Writer}
 use Rattle.mp4_plan.proofs.ComeAt.{come_at, come_with}
-use Rattle.mp4_plan.proofs.ComeBehind.{AllComeBehind, behind_with, none_behind}
 use Rattle.mp4_plan.proofs.EachAt.{holds_with}
 use Rattle.mp4_plan.proofs.FirstTurn.{IsFirst, begins_at, first_turn}
 use Rattle.mp4_plan.proofs.FrontsPut.{stopped_at, stopped_behind}
@@ -105,14 +105,42 @@ piece_small id zero left (s ∷ samples) file keys z = absurd z
 piece_small id (suc n) left [] file keys z = omega arith
 piece_small id (suc n) left (s ∷ samples) file keys z = omega arith
 
+-- ---- walks that have marked where they stand
+
+marked_at : (walks : List Walk) (lefts : List (List SampleAt)) (k : ℕ) (w : Walk) (left : List SampleAt) → AreMarked walks lefts → slice_get walks k ≡ Some w → slice_get lefts k ≡ Some left → w.mark ≡ mark_of w (length left)
+marked_at [] lefts k w left h is at = absurd cc
+marked_at (v ∷ walks) [] k w left h is at = absurd h
+marked_at (v ∷ walks) (l ∷ lefts) zero w left h is at =
+    let one : v ≡ w = cc in
+    let other : l ≡ left = cc in
+    subst (λ (ss : List SampleAt). w.mark ≡ mark_of w (length ss)) other (subst (λ (x : Walk). x.mark ≡ mark_of x (length l)) one h.0)
+marked_at (v ∷ walks) (l ∷ lefts) (suc k) w left h is at = marked_at walks lefts k w left h.1 is at
+
+pub marked_with : (walks : List Walk) (lefts : List (List SampleAt)) (k : ℕ) (w : Walk) (left : List SampleAt) → AreMarked walks lefts → w.mark ≡ mark_of w (length left) → AreMarked (slice_set walks k w) (slice_set lefts k left)
+marked_with [] [] k w left h is = tt
+marked_with [] (l ∷ lefts) k w left h is = absurd h
+marked_with (v ∷ walks) [] k w left h is = absurd h
+marked_with (v ∷ walks) (l ∷ lefts) zero w left h is = (is, h.1)
+marked_with (v ∷ walks) (l ∷ lefts) (suc k) w left h is = (h.0, marked_with walks lefts k w left h.1 is)
+
+-- a walk that has marked another place, before as many samples
+pub marked_kept : (walks : List Walk) (lefts : List (List SampleAt)) (k : ℕ) (w now : Walk) → AreMarked walks lefts → slice_get walks k ≡ Some w → now.mark ≡ mark_of now w.mark.to_come → AreMarked (slice_set walks k now) lefts
+marked_kept [] lefts k w now h is e = absurd cc
+marked_kept (v ∷ walks) [] k w now h is e = absurd h
+marked_kept (v ∷ walks) (l ∷ lefts) zero w now h is e =
+    let one : w ≡ v = cc in
+    let many : w.mark.to_come ≡ length l = ap (λ (x : Walk). x.mark.to_come) one ∙ ap (λ (k : Mark). k.to_come) h.0 in
+    (e ∙ ap (mark_of now) many, h.1)
+marked_kept (v ∷ walks) (l ∷ lefts) (suc k) w now h is e = (h.0, marked_kept walks lefts k w now h.1 is e)
+
 -- ---- at a turn
 
 module _ (leaving : Leaving) (file : List ℕ) (tree : FileTree) (m : MovieSeen) where
-  pub record WritesOn (s : Schedule) (sequence : ℕ) (planning copying : List Walk) (behind : List ℕ) (nexts : List (Option SampleAt)) (rows : ℕ) (before after : Option (List ℕ)) (held : List ℕ) : Type 0 where
+  pub record WritesOn (s : Schedule) (sequence : ℕ) (walks : List Walk) (nexts : List (Option SampleAt)) (rows : ℕ) (before after : Option (List ℕ)) (held : List ℕ) : Type 0 where
     pub lefts : List (List SampleAt)
     pub comings : List Coming
-    pub plan : AllCome leaving file tree m tree.movie.tracks planning lefts
-    pub copy : AllComeBehind leaving file tree m copying behind lefts
+    pub come : AllCome leaving file tree m tree.movie.tracks walks lefts
+    pub marked : AreMarked walks lefts
     pub shown : nexts ≡ firsts lefts
     pub turn : IsTurn file m.tracks s lefts comings
     pub lie : AllByRecursion (λ (left : List SampleAt). AllByRecursion (IsBelow (length file)) left) lefts
@@ -123,49 +151,39 @@ module _ (leaving : Leaving) (file : List ℕ) (tree : FileTree) (m : MovieSeen)
     pub whole : normal (reduce leaving (presentation_of file tree)) ≡ done ++ pieces_bytes sequence (pieces_from s comings)
 
   -- the track whose turn it is, and what its turn takes
-  pub record AtTurn (s : Schedule) (planning copying : List Walk) (behind : List ℕ) (nexts : List (Option SampleAt)) (rows : ℕ) (lefts : List (List SampleAt)) (comings : List Coming) : Type 0 where
+  pub record AtTurn (s : Schedule) (walks : List Walk) (nexts : List (Option SampleAt)) (rows : ℕ) (lefts : List (List SampleAt)) (comings : List Coming) : Type 0 where
     pub t : TrackTree
     pub walk : Walk
-    pub copied : Walk
-    pub number : ℕ
     pub left : List SampleAt
     pub info : TrackInfo
     pub is_tree : slice_get tree.movie.tracks s.track ≡ Some t
-    pub is_walk : slice_get planning s.track ≡ Some walk
-    pub is_copied : slice_get copying s.track ≡ Some copied
-    pub is_number : slice_get behind s.track ≡ Some number
+    pub is_walk : slice_get walks s.track ≡ Some walk
     pub is_info : slice_get m.tracks s.track ≡ Some info
     pub comes : ComesLess leaving file tree t m walk left
-    pub copies : ComesBehind leaving file tree t m copied number left
+    pub is_marked : walk.mark ≡ mark_of walk (length left)
     pub keys : AreKeys (keys_seen info.keys)
     pub taken : TurnTaken file m.tracks s lefts comings info left
     pub below : AllByRecursion (IsBelow (length file)) left
     pub fits : more_of (piece_from (turn_end s info.timescale)) left ≤ rows
     pub shown : slice_get nexts s.track ≡ Some (slice_get left 0)
 
-  pub at_turn : (s : Schedule) (sequence : ℕ) (planning copying : List Walk) (behind : List ℕ) (nexts : List (Option SampleAt)) (rows : ℕ) (before after : Option (List ℕ)) (held : List ℕ) → IsOpenedAs file m tree → (h : WritesOn s sequence planning copying behind nexts rows before after held)
-      → s.track < s.tracks → s.tracks ≡ length m.tracks → length planning ≡ length m.tracks → length copying ≡ length m.tracks → length behind ≡ length m.tracks → AtTurn s planning copying behind nexts rows h.lefts h.comings
-  at_turn s sequence planning copying behind nexts rows before after held o h lt tracks plans copies numbers =
-      let a = come_at leaving file tree m tree.movie.tracks planning h.lefts s.track h.plan (omega (arith, lt, tracks, plans)) in
-      let b = there_is copying s.track (omega (arith, lt, tracks, copies)) in
-      let n = there_is behind s.track (omega (arith, lt, tracks, numbers)) in
+  pub at_turn : (s : Schedule) (sequence : ℕ) (walks : List Walk) (nexts : List (Option SampleAt)) (rows : ℕ) (before after : Option (List ℕ)) (held : List ℕ) → IsOpenedAs file m tree → (h : WritesOn s sequence walks nexts rows before after held)
+      → s.track < s.tracks → s.tracks ≡ length m.tracks → length walks ≡ length m.tracks → AtTurn s walks nexts rows h.lefts h.comings
+  at_turn s sequence walks nexts rows before after held o h lt tracks each =
+      let a = come_at leaving file tree m tree.movie.tracks walks h.lefts s.track h.come (omega (arith, lt, tracks, each)) in
       let i = there_is m.tracks s.track (omega (arith, lt, tracks)) in
       let f = (has_track file m tree s.track i.0 o i.1).facts in
       let taken = turn_taken file m.tracks s h.lefts h.comings i.0 a.left h.turn lt i.1 a.is_left in
       record {
         t = a.t;
         walk = a.walk;
-        copied = b.0;
-        number = n.0;
         left = a.left;
         info = i.0;
         is_tree = a.is_tree;
         is_walk = a.is_walk;
-        is_copied = b.1;
-        is_number = n.1;
         is_info = i.1;
         comes = a.comes;
-        copies = h.copy s.track a.t b.0 n.0 a.left a.is_tree b.1 n.1 a.is_left;
+        is_marked = marked_at walks h.lefts s.track a.walk a.left h.marked a.is_walk a.is_left;
         keys = record { apart = f.apart; named = f.named; few = f.few_keys };
         taken = taken;
         below = member_at (λ (left : List SampleAt). AllByRecursion (IsBelow (length file)) left) h.lefts s.track a.left a.is_left h.lie;
@@ -173,7 +191,7 @@ module _ (leaving : Leaving) (file : List ℕ) (tree : FileTree) (m : MovieSeen)
         shown = ap (λ xs. slice_get xs s.track) h.shown ∙ first_at h.lefts s.track a.left a.is_left;
       }
 
-  module _ (s : Schedule) (sequence : ℕ) (planning copying : List Walk) (behind : List ℕ) (nexts : List (Option SampleAt)) (rows : ℕ) (before after : Option (List ℕ)) (held : List ℕ) (h : WritesOn s sequence planning copying behind nexts rows before after held) where
+  module _ (s : Schedule) (sequence : ℕ) (walks : List Walk) (nexts : List (Option SampleAt)) (rows : ℕ) (before after : Option (List ℕ)) (held : List ℕ) (h : WritesOn s sequence walks nexts rows before after held) where
     -- what was put so far is a front
     pub stopped : AppendsPrefix before after (normal (reduce leaving (presentation_of file tree)))
     stopped = stopped_behind before after [] held h.done (pieces_bytes sequence (pieces_from s h.comings)) (normal (reduce leaving (presentation_of file tree))) h.goes h.whole
@@ -190,7 +208,7 @@ module _ (leaving : Leaving) (file : List ℕ) (tree : FileTree) (m : MovieSeen)
         let q : AppendsPrefix before last (h.done ++ []) = BytesGoOn-fails before after last [] held h.done [] h.goes (AppendsPrefix-longer after last held [] p) in
         subst (λ (bs : List ℕ). AppendsPrefix before last bs) (append-nil h.done ∙ sym (all_done none)) q
 
-    module _ (a : AtTurn s planning copying behind nexts rows h.lefts h.comings) (p : Planned) (is : p ≡ planned_of (piece_fed (piece_from (turn_end s a.info.timescale)) a.left).gathered) (few : IsFew p) where
+    module _ (a : AtTurn s walks nexts rows h.lefts h.comings) (p : Planned) (is : p ≡ planned_of (piece_fed (piece_from (turn_end s a.info.timescale)) a.left).gathered) (few : IsFew p) where
       abbrev end : End
       end = turn_end s a.info.timescale
 
@@ -246,13 +264,10 @@ module _ (leaving : Leaving) (file : List ℕ) (tree : FileTree) (m : MovieSeen)
           (ap (λ (bs : List ℕ). h.done ++ bs) (sym written)) rest_is
 
       -- it is taken along
-      pub turn_over : (later copied : Walk) (number : ℕ) (last : Option (List ℕ)) (held_later : List ℕ) → ComesLess leaving file tree a.t m later rest → ComesBehind leaving file tree a.t m copied number (drop p.count a.left)
-          → BytesGoOn after last held held_later (turn_bytes file head p keys (take p.count a.left))
-          → WritesOn (turned s end p.count (slice_get rest 0)) (sequence_behind sequence head) (slice_set planning s.track later) (slice_set copying s.track copied) (slice_set behind s.track number) (slice_set nexts s.track (slice_get rest 0)) rows before last held_later
-      turn_over later copied number last held_later comes copies bytes =
-          let walks = come_with leaving file tree m tree.movie.tracks planning h.lefts s.track a.t later rest h.plan a.is_tree comes in
-          let own = subst (λ n. ComesBehind leaving file tree a.t m copied number (drop n a.left)) counted copies in
-          let copying_walks = behind_with leaving file tree m copying behind h.lefts s.track a.t copied number rest h.copy a.is_tree own in
+      pub turn_over : (later : Walk) (last : Option (List ℕ)) (held_later : List ℕ) → ComesLess leaving file tree a.t m later rest → later.mark ≡ mark_of later (length rest) → BytesGoOn after last held held_later (turn_bytes file head p keys (take p.count a.left))
+          → WritesOn (turned s end p.count (slice_get rest 0)) (sequence_behind sequence head) (slice_set walks s.track later) (slice_set nexts s.track (slice_get rest 0)) rows before last held_later
+      turn_over later last held_later comes marked bytes =
+          let come = come_with leaving file tree m tree.movie.tracks walks h.lefts s.track a.t later rest h.come a.is_tree comes in
           let small = h.small in
           let few_pieces = small_piece in
           let n = a.taken.few in
@@ -261,11 +276,11 @@ module _ (leaving : Leaving) (file : List ℕ) (tree : FileTree) (m : MovieSeen)
           let by = turned_left s end count (slice_get rest 0) in
           let numbers = numbered in
           let same : next ≡ turned s end p.count (slice_get rest 0) = ap (λ k. turned s end k (slice_get rest 0)) (sym counted) in
-          subst (λ (r : Schedule). WritesOn r (sequence_behind sequence head) (slice_set planning s.track later) (slice_set copying s.track copied) (slice_set behind s.track number) (slice_set nexts s.track (slice_get rest 0)) rows before last held_later) same (record {
+          subst (λ (r : Schedule). WritesOn r (sequence_behind sequence head) (slice_set walks s.track later) (slice_set nexts s.track (slice_get rest 0)) rows before last held_later) same (record {
             lefts = slice_set h.lefts s.track rest;
             comings = a.taken.later;
-            plan = walks;
-            copy = copying_walks;
+            come = come;
+            marked = marked_with walks h.lefts s.track later rest h.marked marked;
             shown = ap (λ xs. slice_set xs s.track (slice_get rest 0)) h.shown ∙ sym (firsts_set h.lefts s.track rest);
             turn = a.taken.on;
             lie = holds_with (λ (l : List SampleAt). AllByRecursion (IsBelow (length file)) l) h.lefts s.track rest (each_dropped (IsBelow (length file)) count a.left a.below) h.lie;
@@ -283,19 +298,19 @@ module _ (leaving : Leaving) (file : List ℕ) (tree : FileTree) (m : MovieSeen)
   all_lie (i ∷ infos) (t ∷ trees) z = (less_below leaving (length file) (track_samples tree t) z.0.lies, all_lie infos trees z.1)
 
   -- the first turn
-  pub begins : (s : Schedule) (w : Writer) (planning copying : List Walk) (behind : List ℕ) (nexts : List (Option SampleAt)) (before after : Option (List ℕ)) (held : List ℕ) → IsOpenedAs file m tree → IsReady file tree m w → w.leaving ≡ leaving
+  pub begins : (s : Schedule) (w : Writer) (walks : List Walk) (nexts : List (Option SampleAt)) (before after : Option (List ℕ)) (held : List ℕ) → IsOpenedAs file m tree → IsReady file tree m w → w.leaving ≡ leaving
       → IsFirst m.tracks (map (left_samples leaving tree) tree.movie.tracks) s
-      → AllBegin leaving file tree m planning → AllBegin leaving file tree m copying → AllByRecursion (λ (n : ℕ). n ≡ 0) behind → nexts ≡ firsts (map (left_samples leaving tree) tree.movie.tracks) → BytesGoOn before after (waiting w.carrier) held w.head.items
-      → WritesOn s 1 planning copying behind nexts (length w.rows.items) before after held
-  begins s w planning copying behind nexts before after held o r same first plan copy zeros shown goes =
+      → AllBegin leaving file tree m walks → AreMarked walks (map (left_samples leaving tree) tree.movie.tracks) → nexts ≡ firsts (map (left_samples leaving tree) tree.movie.tracks) → BytesGoOn before after (waiting w.carrier) held w.head.items
+      → WritesOn s 1 walks nexts (length w.rows.items) before after held
+  begins s w walks nexts before after held o r same first come marked shown goes =
       let all = first_turn leaving file m tree s o first in
       let p = reduce leaving (presentation_of file tree) in
       let few = subst (λ n. n ≤ 2 ^ 24) (sym (less_counted leaving tree tree.movie.tracks)) (few_left file m tree o) in
       record {
         lefts = map (left_samples leaving tree) tree.movie.tracks;
         comings = map coming_of p.tracks;
-        plan = plan;
-        copy = none_behind leaving file tree m copying behind (map (left_samples leaving tree) tree.movie.tracks) copy zeros few;
+        come = come;
+        marked = marked;
         shown = shown;
         turn = all.0;
         lie = all_lie m.tracks tree.movie.tracks (track_facts file m tree o);

@@ -14,3 +14,4 @@ pub mod Stretches
 pub mod HandsFed
 pub mod WriterSteps
 pub mod LeftTimes
+pub mod GoneOn

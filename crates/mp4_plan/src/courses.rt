@@ -1,14 +1,16 @@
 //! Samples of a track, taken piece by piece.
-ghost use Rattle.std.specs.Prelude.{◌≡◌, ℕ, ◌+◌, ◌-◌, ◌*◌, ◌^◌, ◌<◌, ◌≤◌, List, length, map, take, slice_get, slice_index, IsTrue, IfOk, IfErr, OnOk, OnErr};
+ghost use Rattle.std.specs.Prelude.{◌≡◌, ℕ, ◌+◌, ◌-◌, ◌*◌, ◌^◌, ◌<◌, ◌≤◌, List, length, map, take, None, slice_get, slice_index, IsTrue, IfOk, IfErr, OnOk, OnErr};
 ghost use Rattle.mp4_boxes.specs.declared.refusal.Refusal.TheVariants as refusals;
 ghost use Rattle.mp4_head.specs.format.Tree.{TrackTree};
 ghost use Rattle.mp4_present.specs.format.Denotes.{FileTree};
 ghost use Rattle.mp4_present.specs.words.OpenedMovie.{IsOpenedAs};
 ghost use Rattle.mp4_present.specs.words.SamplesComing.{Comes};
 ghost use Rattle.mp4_tables.specs.declared.sample.SampleAt.{SampleAt};
-ghost use Rattle.mp4_present.specs.words.Movies.{IsWalkOf, RefusesLoad};
+ghost use Rattle.mp4_present.specs.words.Movies.{IsWalkOf, HasSome, RefusesLoad, mark_of};
 ghost use Rattle.mp4_plan.specs.words.Gathering.{count_of, more_of, planned_of, piece_from, piece_fed, samples_after};
 ghost use Rattle.mp4_present.specs.words.WalkSteps.{MayTake, TakesOn};
+ghost use Rattle.mp4_plan.specs.words.GoneOn.{ComesMarked, WentOn};
+ghost use Rattle.mp4_plan.specs.words.WriterSteps.{FinishesOn, MayWrite, WritesOn};
 ghost use Rattle.mp4_plan.specs.words.HandsFed.{stop_of, HandFed, HandNoted, KeepsOn};
 ghost use Rattle.mp4_plan.specs.words.ComingLess.{ComesLess, less};
 ghost use Rattle.mp4_plan.specs.words.Stretches.{JoinsOn};
@@ -39,6 +41,7 @@ fn peek_sample<S: Store, L: Ledger>(
     requires { IsWalkOf movie.now walk.old }
     ensures walk { OnOk result (IsWalkOf movie.now walk.new) }
     ensures room { length walk.new.bytes.items ≡ length walk.old.bytes.items }
+    ensures went { OnOk result (WentOn movie.now walk.old walk.new steps.old steps.new) }
     ensures honesty { S.is_honest store.new ≡ S.is_honest store.old }
     ensures file { S.file store.new ≡ S.file store.old }
     ensures coming { IsTrue (S.is_honest store.old)
@@ -47,6 +50,7 @@ fn peek_sample<S: Store, L: Ledger>(
         → Comes (S.file store.old) tree t movie.now walk.old samples
         → IfOk result (λ next. Comes (S.file store.old) tree t movie.now walk.new samples
         × (next ≡ slice_get samples 0)) }
+    ensures some { IfOk result (λ next. (next ≡ None → ⊥) → HasSome movie.now walk.new) }
     ensures unchanged { IsTrue (S.is_honest store.old)
         → (tree : FileTree) (t : TrackTree) (samples : List SampleAt)
         → IsOpenedAs (S.file store.old) movie.now tree
@@ -73,8 +77,9 @@ fn peek_sample<S: Store, L: Ledger>(
 
 // What is left of a sample, where there is one.
 fn reduced_next(leaving: Leaving, next: Option<SampleAt>) -> Option<SampleAt>
-    ensures { (samples : List SampleAt) → next ≡ slice_get samples 0
+    ensures is { (samples : List SampleAt) → next ≡ slice_get samples 0
         → result ≡ slice_get (less leaving samples) 0 }
+    ensures none { next ≡ None → result ≡ None }
 {
     match next {
         Some(sample) => Some(reduced_sample(leaving, sample)),
@@ -93,6 +98,51 @@ pub(crate) fn next_sample<S: Store, L: Ledger>(
     requires { IsWalkOf movie.now walk.old }
     ensures walk { OnOk result (IsWalkOf movie.now walk.new) }
     ensures room { length walk.new.bytes.items ≡ length walk.old.bytes.items }
+    ensures went { OnOk result (WentOn movie.now walk.old walk.new steps.old steps.new) }
+    ensures honesty { S.is_honest store.new ≡ S.is_honest store.old }
+    ensures file { S.file store.new ≡ S.file store.old }
+    ensures coming { IsTrue (S.is_honest store.old)
+        → (tree : FileTree) (t : TrackTree) (samples : List SampleAt)
+        → IsOpenedAs (S.file store.old) movie.now tree
+        → ComesLess leaving (S.file store.old) tree t movie.now walk.old samples
+        → IfOk result (λ next.
+        ComesLess leaving (S.file store.old) tree t movie.now walk.new samples
+        × (next ≡ slice_get samples 0)) }
+    ensures some { IfOk result (λ next. (next ≡ None → ⊥) → HasSome movie.now walk.new) }
+    ensures unchanged { IsTrue (S.is_honest store.old)
+        → (tree : FileTree) (t : TrackTree) (samples : List SampleAt)
+        → IsOpenedAs (S.file store.old) movie.now tree
+        → ComesLess leaving (S.file store.old) tree t movie.now walk.old samples
+        → IfErr result (λ r. r ≡ refusals.StoreChanged → ⊥) }
+    ensures work { IsTrue (S.is_honest store.old) → (tree : FileTree) (t : TrackTree) (n : ℕ)
+        → IsOpenedAs (S.file store.old) movie.now tree
+        → MayTake (S.file store.old) tree t walk.old n
+        → OnOk result (TakesOn (S.file store.old) tree t n walk.new steps.old steps.new) }
+    ensures most { IsTrue (S.is_honest store.old) → (tree : FileTree) (t : TrackTree) (n : ℕ)
+        → IsOpenedAs (S.file store.old) movie.now tree
+        → MayTake (S.file store.old) tree t walk.old n
+        → OnErr result (steps.new ≤ steps.old + n) }
+    ensures reads { OnOk result (S.read_failures store.new ≡ S.read_failures store.old) }
+    ensures refusal { IfErr result
+        (RefusesLoad (S.read_failures store.old) (S.read_failures store.new)) }
+{
+    let next = peek_sample(walk, movie, store, steps)?;
+    Ok(reduced_next(leaving, next))
+}
+
+/// What is left of the next sample of a walk, which stays the next, and is marked. As many samples
+/// are to come as at its mark before.
+pub(crate) fn next_marked<S: Store, L: Ledger>(
+    walk: &mut Walk,
+    leaving: Leaving,
+    movie: &Movie,
+    store: &mut S,
+    steps: &mut Steps<L>,
+) -> Result<Option<SampleAt>, Refusal>
+    requires { IsWalkOf movie.now walk.old }
+    ensures walk { OnOk result (IsWalkOf movie.now walk.new) }
+    ensures room { length walk.new.bytes.items ≡ length walk.old.bytes.items }
+    ensures marked { OnOk result (walk.new.mark ≡ mark_of walk.new walk.old.mark.to_come) }
     ensures honesty { S.is_honest store.new ≡ S.is_honest store.old }
     ensures file { S.file store.new ≡ S.file store.old }
     ensures coming { IsTrue (S.is_honest store.old)
@@ -115,12 +165,19 @@ pub(crate) fn next_sample<S: Store, L: Ledger>(
         → IsOpenedAs (S.file store.old) movie.now tree
         → MayTake (S.file store.old) tree t walk.old n
         → OnErr result (steps.new ≤ steps.old + n) }
+    ensures writes { IsTrue (S.is_honest store.old) → (tree : FileTree) (t : TrackTree) (n : ℕ)
+        → IsOpenedAs (S.file store.old) movie.now tree
+        → MayWrite (S.file store.old) tree movie.now t walk.old n
+        → OnOk result (WritesOn (S.file store.old) tree movie.now t n walk.new steps.old
+        steps.new) }
     ensures reads { OnOk result (S.read_failures store.new ≡ S.read_failures store.old) }
     ensures refusal { IfErr result
         (RefusesLoad (S.read_failures store.old) (S.read_failures store.new)) }
 {
-    let next = peek_sample(walk, movie, store, steps)?;
-    Ok(reduced_next(leaving, next))
+    let left = walk.to_come();
+    let next = next_sample(walk, leaving, movie, store, steps)?;
+    walk.mark(left);
+    Ok(next)
 }
 
 // Why feeding the samples in hand came to an end.
@@ -314,9 +371,9 @@ pub(crate) fn plan_turn<S: Store, L: Ledger>(
     Ok(planned)
 }
 
-/// Plans the next piece of a walk with this end, and notes its samples in the rows, and where their
-/// bytes lie. Where there is no room for the rows, the store has changed.
-pub(crate) fn note_piece<S: Store, L: Ledger>(
+// Plans the next piece of a walk with this end, and notes its samples in the rows, and where their
+// bytes lie. Where there is no room for the rows, the store has changed.
+fn note_piece<S: Store, L: Ledger>(
     walk: &mut Walk,
     leaving: Leaving,
     end: End,
@@ -330,6 +387,7 @@ pub(crate) fn note_piece<S: Store, L: Ledger>(
     requires walk { IsWalkOf movie.now walk.old }
     ensures walk { OnOk result (IsWalkOf movie.now walk.new) }
     ensures room { length walk.new.bytes.items ≡ length walk.old.bytes.items }
+    ensures went { OnOk result (WentOn movie.now walk.old walk.new steps.old steps.new) }
     ensures honesty { S.is_honest store.new ≡ S.is_honest store.old }
     ensures file { S.file store.new ≡ S.file store.old }
     ensures planned { IsTrue (S.is_honest store.old)
@@ -392,4 +450,72 @@ pub(crate) fn note_piece<S: Store, L: Ledger>(
             }
         }
     }
+}
+
+/// Plans the next piece of a walk that has marked where it stands, before a sample that goes into
+/// it, and notes its samples. Where it has none, or more than are to come, or there is no room for
+/// the rows, the store has changed.
+pub(crate) fn note_marked<S: Store, L: Ledger>(
+    walk: &mut Walk,
+    leaving: Leaving,
+    end: End,
+    rows: &mut [Row],
+    stretches: &mut Stretches,
+    movie: &Movie,
+    store: &mut S,
+    steps: &mut Steps<L>,
+) -> Result<Planned, Refusal>
+    requires few { length rows.old < 2 ^ 32 }
+    requires walk { IsWalkOf movie.now walk.old }
+    ensures walk { OnOk result (IsWalkOf movie.now walk.new) }
+    ensures room { length walk.new.bytes.items ≡ length walk.old.bytes.items }
+    ensures honesty { S.is_honest store.new ≡ S.is_honest store.old }
+    ensures file { S.file store.new ≡ S.file store.old }
+    ensures planned { IsTrue (S.is_honest store.old)
+        → (tree : FileTree) (t : TrackTree) (samples : List SampleAt)
+        → IsOpenedAs (S.file store.old) movie.now tree
+        → ComesLess leaving (S.file store.old) tree t movie.now walk.old samples
+        → IfOk result (λ p. (p ≡ planned_of (piece_fed (piece_from end) samples).gathered)
+        × (walk.old.mark ≡ mark_of walk.old (length samples)
+        → ComesMarked leaving (S.file store.old) tree t movie.now walk.new p.count samples)) }
+    ensures noted { IsTrue (S.is_honest store.old)
+        → (tree : FileTree) (t : TrackTree) (samples : List SampleAt)
+        → IsOpenedAs (S.file store.old) movie.now tree
+        → ComesLess leaving (S.file store.old) tree t movie.now walk.old samples
+        → IfOk result (λ p. take p.count rows.new ≡ map row_seen (take p.count samples)) }
+    ensures joined { IsTrue (S.is_honest store.old)
+        → (tree : FileTree) (t : TrackTree) (samples : List SampleAt)
+        → IsOpenedAs (S.file store.old) movie.now tree
+        → ComesLess leaving (S.file store.old) tree t movie.now walk.old samples
+        → IfOk result (λ p. JoinsOn stretches.old stretches.new (take p.count samples)) }
+    ensures unchanged { IsTrue (S.is_honest store.old)
+        → (tree : FileTree) (t : TrackTree) (samples : List SampleAt)
+        → IsOpenedAs (S.file store.old) movie.now tree
+        → ComesLess leaving (S.file store.old) tree t movie.now walk.old samples
+        → walk.old.mark ≡ mark_of walk.old (length samples)
+        → 0 < more_of (piece_from end) samples
+        → more_of (piece_from end) samples ≤ length rows.old
+        → IfErr result (λ r. r ≡ refusals.StoreChanged → ⊥) }
+    ensures few { IfOk result (λ p. (0 < p.count) × (p.count ≤ length rows.old)) }
+    ensures rows { IfOk result (λ p. (j : ℕ) → slice_index p.group_rows j ≤ p.count) }
+    ensures bytes { IfOk result (λ p. p.bytes ≤ p.count * 4294967295) }
+    ensures work { IsTrue (S.is_honest store.old) → (tree : FileTree) (t : TrackTree) (n : ℕ)
+        → IsOpenedAs (S.file store.old) movie.now tree
+        → MayWrite (S.file store.old) tree movie.now t walk.old n
+        → IfOk result (λ p. FinishesOn leaving (S.file store.old) tree movie.now p.count t n
+        walk.new steps.old steps.new) }
+    ensures most { IsTrue (S.is_honest store.old) → (tree : FileTree) (t : TrackTree) (n : ℕ)
+        → IsOpenedAs (S.file store.old) movie.now tree
+        → MayWrite (S.file store.old) tree movie.now t walk.old n
+        → OnErr result (steps.new ≤ steps.old + n) }
+    ensures reads { OnOk result (S.read_failures store.new ≡ S.read_failures store.old) }
+    ensures refusal { IfErr result
+        (RefusesLoad (S.read_failures store.old) (S.read_failures store.new)) }
+{
+    let left = walk.to_come();
+    let planned = note_piece(walk, leaving, end, rows, stretches, movie, store, steps)?;
+    if planned.count == 0 || planned.count > left {
+        return Err(Refusal::StoreChanged);
+    }
+    Ok(planned)
 }

@@ -1,5 +1,5 @@
 //! The normal form of a presentation, written.
-ghost use Rattle.std.specs.Prelude.{◌≡◌, ℕ, ◌+◌, ◌*◌, ◌-◌, ◌^◌, ◌<◌, ◌≤◌, min, List, ◌++◌, length, take, drop, slice_index, slice_get, Some, None, IfOk, IfErr, OnOk, OnErr};
+ghost use Rattle.std.specs.Prelude.{◌≡◌, ℕ, ◌+◌, ◌*◌, ◌-◌, ◌^◌, ◌<◌, ◌≤◌, min, List, ◌++◌, length, map, take, slice_index, slice_get, Some, None, IfOk, IfErr, OnOk, OnErr};
 ghost use Rattle.std.specs.Io.KnownBytes.{Appends};
 ghost use Rattle.std.specs.List.{AllByRecursion};
 ghost use Rattle.mp4_boxes.specs.format.Bytes.{sum_of};
@@ -13,24 +13,24 @@ ghost use Rattle.mp4_present.specs.words.Carried.{BytesGoOn, waiting};
 ghost use Rattle.mp4_present.specs.format.Presentation.{movie_length};
 ghost use Rattle.mp4_present.specs.format.Reduced.{ReducesInTime, reduce};
 ghost use Rattle.mp4_present.specs.declared.leaving.Leaving.{Leaving};
-ghost use Rattle.mp4_plan.specs.words.ComingLess.{ComesLess};
+ghost use Rattle.mp4_plan.specs.words.ComingLess.{ComesLess, left_samples};
 ghost use Rattle.mp4_plan.specs.words.LeftTimes.{NamesLong, RefusesLeft, RefusesLeftCopy};
 ghost use Rattle.mp4_present.specs.format.Denotes.{FileTree, presentation_of};
 ghost use Rattle.mp4_present.specs.words.Joined.{IsBelow, sample_bytes};
 ghost use Rattle.mp4_present.specs.words.OpenedMovie.{IsOpenedAs};
 ghost use Rattle.mp4_present.specs.words.WalkSteps.{walks_steps};
 ghost use Rattle.mp4_plan.specs.format.Normal.{normal};
-ghost use Rattle.mp4_plan.specs.words.WriterSteps.{MayAllTake, AllTakeOn, MayAllBegin};
+ghost use Rattle.mp4_plan.specs.words.WriterSteps.{MayAllTake, AllTakeOn, MayAllBegin, MayAllWrite, AllWriteOn, WriteAllBegin, MayAllFinish, AllFinishOn, writing_steps};
 ghost use Rattle.mp4_plan.specs.words.UsedKeys.{AreApart};
 ghost use Rattle.mp4_present.specs.words.Carried.{RefusesCarry, RefusesCopy};
 ghost use Rattle.mp4_present.specs.declared.walks.Walk.{Walk};
 ghost use Rattle.mp4_plan.specs.words.Gathering.{more_of, piece_from};
-ghost use Rattle.mp4_present.specs.words.Movies.{RefusesLoad};
-ghost use Rattle.mp4_plan.specs.words.Writers.{RefusesMemory, RefusesPlan, IsHeadOf, AreWalksOf, IsWriterOf, turn_head, sequence_behind, AllCome, AllBegin, first_dts, head_of_normal, IsReady, bytes_of_piece, turn_bytes, firsts, HasNoted, IsNoted, HaveCopied, IsPlanOf, WhereOpened, planned_length};
+ghost use Rattle.mp4_present.specs.words.Movies.{RefusesLoad, mark_of};
+ghost use Rattle.mp4_plan.specs.words.Writers.{RefusesMemory, RefusesPlan, AreMarked, IsHeadOf, AreWalksOf, IsWriterOf, turn_head, sequence_behind, AllCome, AllBegin, first_dts, head_of_normal, IsReady, bytes_of_piece, turn_bytes, firsts, HasNoted, IsNoted, HaveCopied, IsPlanOf, WhereOpened, planned_length};
 ghost use Rattle.mp4_plan.specs.format.Held.{rooms, held};
 
-use crate::carrying::{Load, carry_later};
-use crate::courses::{next_sample, note_piece, plan_turn};
+use crate::carrying::{Load, carry_noted};
+use crate::courses::{next_marked, note_marked, plan_turn};
 use crate::ends::first_goes;
 use crate::joined::Stretches;
 use crate::left_times::length_left;
@@ -67,13 +67,12 @@ struct Plan {
     len: u64,
 }
 
-// What a turn comes to: what was planned of its samples, what its piece says once where it has
-// some, and the next sample.
+// What a turn comes to: what was planned of its samples, and what its piece says once where it has
+// some.
 #[derive(Clone, Copy, Debug, PartialEq, Eq)]
 struct Noted {
     planned: Planned,
     head: Option<PieceHead>,
-    next: Option<SampleAt>,
 }
 
 /// Writes the normal form of a movie. All memory that it takes is taken when it is made.
@@ -88,13 +87,9 @@ pub struct Writer {
     rows: Vec<Row>,
     /// Where the bytes of the piece lie that is noted.
     stretches: Stretches,
-    /// For each track a walk that plans its pieces, and one that copies their bytes where these lie
+    /// For each track a walk that notes its pieces, and goes back for their bytes where these lie
     /// in too many places.
-    planning: Vec<Walk>,
-    copying: Vec<Walk>,
-    /// How many samples of each track were copied without the walk that copies, and are before it
-    /// still.
-    behind: Vec<u32>,
+    walks: Vec<Walk>,
     /// The next sample of each track.
     nexts: Vec<Option<SampleAt>>,
 }
@@ -107,10 +102,15 @@ fn walks_of(alloc: Global, movie: &Movie) -> Result<Vec<Walk>, Refusal>
     ensures begin { IfOk result (λ walks. (file : List ℕ) (tree : FileTree)
         → IsOpenedAs file movie.now tree
         → (leaving : Leaving) → AllBegin leaving file tree movie.now walks.items) }
+    ensures marked { IfOk result (λ walks. (file : List ℕ) (tree : FileTree)
+        → IsOpenedAs file movie.now tree → (leaving : Leaving)
+        → AreMarked walks.items (map (left_samples leaving tree) tree.movie.tracks)) }
     ensures memory { IfErr result (λ r. r ≡ refusals.Memory) }
     ensures refusal { IfErr result RefusesMemory }
     ensures may { IfOk result (λ walks. (file : List ℕ) (tree : FileTree)
         → IsOpenedAs file movie.now tree → MayAllBegin file tree walks.items) }
+    ensures writes { IfOk result (λ walks. (file : List ℕ) (tree : FileTree)
+        → IsOpenedAs file movie.now tree → WriteAllBegin file tree movie.now walks.items) }
 {
     let mut walks = Vec::new(alloc);
     for track in 0..movie.tracks().len() {
@@ -139,6 +139,8 @@ fn peek_each<S: Store, L: Ledger>(
         → AllCome leaving (S.file store.old) tree movie.now tree.movie.tracks walks.old lefts
         → OnOk result ((nexts.new ≡ firsts lefts)
         × AllCome leaving (S.file store.old) tree movie.now tree.movie.tracks walks.new lefts)) }
+    ensures marked { (lefts : List (List SampleAt)) → AreMarked walks.old lefts
+        → OnOk result (AreMarked walks.new lefts) }
     ensures unchanged { WhereOpened (S.is_honest store.old) (S.file store.old) movie.now
         (λ tree. (lefts : List (List SampleAt))
         → AllCome leaving (S.file store.old) tree movie.now tree.movie.tracks walks.old lefts
@@ -152,9 +154,16 @@ fn peek_each<S: Store, L: Ledger>(
     ensures most { WhereOpened (S.is_honest store.old) (S.file store.old) movie.now (λ tree. (n : ℕ)
         → MayAllTake (S.file store.old) tree tree.movie.tracks walks.old n
         → OnErr result (steps.new ≤ steps.old + n)) }
+    ensures writes { WhereOpened (S.is_honest store.old) (S.file store.old) movie.now
+        (λ tree. (n : ℕ) → MayAllWrite (S.file store.old) tree movie.now walks.old n
+        → OnOk result (AllWriteOn (S.file store.old) tree movie.now n walks.new steps.old
+        steps.new)) }
+    ensures writes_most { WhereOpened (S.is_honest store.old) (S.file store.old) movie.now
+        (λ tree. (n : ℕ) → MayAllWrite (S.file store.old) tree movie.now walks.old n
+        → OnErr result (steps.new ≤ steps.old + n)) }
 {
     for k in 0..walks.len() {
-        nexts[k] = next_sample(&mut walks[k], leaving, movie, store, steps)?;
+        nexts[k] = next_marked(&mut walks[k], leaving, movie, store, steps)?;
     }
     Ok(())
 }
@@ -371,10 +380,10 @@ impl Writer {
     ) -> Result<Writer, Refusal>
         ensures writer { IfOk result (IsWriterOf movie.now) }
         ensures held { IfOk result (λ w. held w ≡ length w.head.items
-            + 2 * (length movie.now.tracks * movie.now.longest) + 24 * length w.rows.items
+            + length movie.now.tracks * movie.now.longest + 24 * length w.rows.items
             + PIECE) }
         ensures bound { IfOk result (λ w. held w ≤ length (waiting w.carrier ++ w.head.items)
-            + 2 * (length movie.now.tracks * movie.now.longest) + 24 * length w.rows.items
+            + length movie.now.tracks * movie.now.longest + 24 * length w.rows.items
             + MOST_WAITING) }
         ensures honesty { S.is_honest store.new ≡ S.is_honest store.old }
         ensures file { S.file store.new ≡ S.file store.old }
@@ -394,8 +403,8 @@ impl Writer {
         ensures work { WhereOpened (S.is_honest store.old) (S.file store.old) movie.now
             (λ tree. steps.new ≤ steps.old + walks_steps tree) }
         ensures may { WhereOpened (S.is_honest store.old) (S.file store.old) movie.now
-            (λ tree. IfOk result (λ w. MayAllBegin (S.file store.old) tree w.planning.items
-            × MayAllBegin (S.file store.old) tree w.copying.items)) }
+            (λ tree. IfOk result
+            (λ w. WriteAllBegin (S.file store.old) tree movie.now w.walks.items)) }
     {
         let mehd = length_left(alloc, movie, leaving)?;
         let plan = plan_all(alloc, movie, store, leaving, steps)?;
@@ -405,9 +414,7 @@ impl Writer {
             head: head_of(alloc, movie, leaving, mehd)?,
             rows: vec![in alloc; NO_ROW; plan.longest as usize]?,
             stretches: Stretches::new(),
-            planning: walks_of(alloc, movie)?,
-            copying: walks_of(alloc, movie)?,
-            behind: vec![in alloc; 0; movie.tracks().len()]?,
+            walks: walks_of(alloc, movie)?,
             nexts: vec![in alloc; None; movie.tracks().len()]?,
         })
     }
@@ -421,10 +428,10 @@ impl Writer {
     ) -> Result<Writer, Refusal>
         ensures writer { IfOk result (IsWriterOf movie.now) }
         ensures held { IfOk result (λ w. held w ≡ length w.head.items
-            + 2 * (length movie.now.tracks * movie.now.longest) + 24 * length w.rows.items
+            + length movie.now.tracks * movie.now.longest + 24 * length w.rows.items
             + PIECE) }
         ensures bound { IfOk result (λ w. held w ≤ length (waiting w.carrier ++ w.head.items)
-            + 2 * (length movie.now.tracks * movie.now.longest) + 24 * length w.rows.items
+            + length movie.now.tracks * movie.now.longest + 24 * length w.rows.items
             + MOST_WAITING) }
         ensures honesty { S.is_honest store.new ≡ S.is_honest store.old }
         ensures file { S.file store.new ≡ S.file store.old }
@@ -439,8 +446,8 @@ impl Writer {
         ensures work { WhereOpened (S.is_honest store.old) (S.file store.old) movie.now
             (λ tree. steps.new ≤ steps.old + walks_steps tree) }
         ensures may { WhereOpened (S.is_honest store.old) (S.file store.old) movie.now
-            (λ tree. IfOk result (λ w. MayAllBegin (S.file store.old) tree w.planning.items
-            × MayAllBegin (S.file store.old) tree w.copying.items)) }
+            (λ tree. IfOk result
+            (λ w. WriteAllBegin (S.file store.old) tree movie.now w.walks.items)) }
     {
         Writer::reduced(alloc, movie, store, Leaving::NOTHING, steps)
     }
@@ -450,7 +457,6 @@ impl Writer {
     fn note_turn<S: Store, L: Ledger>(
         &mut self,
         turn: &Turn,
-        leaving: Leaving,
         sequence: u32,
         id: u32,
         movie: &Movie,
@@ -461,40 +467,41 @@ impl Writer {
         requires track { turn.now.track < length movie.now.tracks }
         ensures writer { OnOk result (IsWriterOf movie.now self.new) }
         ensures held { held self.new ≡ held self.old }
-        ensures keeps { (self.new.copying ≡ self.old.copying)
+        ensures keeps { (self.new.leaving ≡ self.old.leaving)
             × (self.new.carrier ≡ self.old.carrier)
             × (length self.new.rows.items ≡ length self.old.rows.items)
-            × (self.new.behind ≡ self.old.behind) }
+            × (self.new.nexts ≡ self.old.nexts) }
         ensures honesty { S.is_honest store.new ≡ S.is_honest store.old }
         ensures file { S.file store.new ≡ S.file store.old }
         ensures noted { WhereOpened (S.is_honest store.old) (S.file store.old) movie.now
             (λ tree. (t : TrackTree) (walk : Walk) (left : List SampleAt)
-            → slice_get self.old.planning.items turn.now.track ≡ Some walk
-            → ComesLess leaving (S.file store.old) tree t movie.now walk left
+            → slice_get self.old.walks.items turn.now.track ≡ Some walk
+            → ComesLess self.old.leaving (S.file store.old) tree t movie.now walk left
+            → walk.mark ≡ mark_of walk (length left)
             → slice_get self.old.nexts.items turn.now.track ≡ Some (slice_get left 0)
-            → IfOk result
-            (HasNoted leaving (S.file store.old)
+            → IfOk result (HasNoted (S.file store.old)
             tree t movie.now turn.now sequence id left self.old self.new)) }
         ensures unchanged { WhereOpened (S.is_honest store.old) (S.file store.old) movie.now
             (λ tree. (t : TrackTree) (walk : Walk) (left : List SampleAt)
-            → slice_get self.old.planning.items turn.now.track ≡ Some walk
-            → ComesLess leaving (S.file store.old) tree t movie.now walk left
+            → slice_get self.old.walks.items turn.now.track ≡ Some walk
+            → ComesLess self.old.leaving (S.file store.old) tree t movie.now walk left
+            → walk.mark ≡ mark_of walk (length left)
+            → slice_get self.old.nexts.items turn.now.track ≡ Some (slice_get left 0)
             → more_of (piece_from turn.now.end) left ≤ length self.old.rows.items
             → IfErr result (λ r. r ≡ refusals.StoreChanged → ⊥)) }
         ensures few { IfOk result (λ n. (n.planned.count ≤ length self.old.rows.items)
             × (n.planned.bytes + 16 < 2 ^ 64)
-            × ((j : ℕ) → slice_index n.planned.group_rows j ≤ n.planned.count)) }
+            × ((j : ℕ) → slice_index n.planned.group_rows j ≤ n.planned.count)
+            × (n.head ≡ None → n.planned.count ≡ 0)) }
         ensures reads { OnOk result (S.read_failures store.new ≡ S.read_failures store.old) }
         ensures refusal { IfErr result
             (RefusesLoad (S.read_failures store.old) (S.read_failures store.new)) }
         ensures work { WhereOpened (S.is_honest store.old) (S.file store.old) movie.now
-            (λ tree. (n : ℕ)
-            → MayAllTake (S.file store.old) tree tree.movie.tracks self.old.planning.items n
-            → OnOk result
-            (AllTakeOn (S.file store.old) tree n self.new.planning.items steps.old steps.new)) }
+            (λ tree. (n : ℕ) → MayAllWrite (S.file store.old) tree movie.now self.old.walks.items n
+            → IfOk result (λ noted. AllFinishOn self.old.leaving (S.file store.old) tree movie.now
+            turn.now.track noted.planned.count n self.new.walks.items steps.old steps.new)) }
         ensures most { WhereOpened (S.is_honest store.old) (S.file store.old) movie.now
-            (λ tree. (n : ℕ)
-            → MayAllTake (S.file store.old) tree tree.movie.tracks self.old.planning.items n
+            (λ tree. (n : ℕ) → MayAllWrite (S.file store.old) tree movie.now self.old.walks.items n
             → OnErr result (steps.new ≤ steps.old + n)) }
     {
         self.stretches.clear();
@@ -503,24 +510,21 @@ impl Writer {
             return Ok(Noted {
                 planned: Planner::new(turn.end).piece(),
                 head: None,
-                next: first,
             });
         }
-        let walk = &mut self.planning[turn.track];
+        let leaving = self.leaving;
+        let walk = &mut self.walks[turn.track];
         let rows = self.rows.as_mut_slice();
         let told = &mut self.stretches;
-        let planned = note_piece(walk, leaving, turn.end, rows, told, movie, store, steps)?;
-        let next = next_sample(walk, leaving, movie, store, steps)?;
-        self.nexts[turn.track] = next;
+        let planned = note_marked(walk, leaving, turn.end, rows, told, movie, store, steps)?;
         Ok(Noted {
             planned,
             head: turn_head(sequence, id, planned.count, &first),
-            next,
         })
     }
 
-    // Takes the bytes of a track's samples along that were noted, as many as were planned. Where no
-    // stretch was left out, the walk that copies stays where it is.
+    // Takes the bytes of a track's samples along that were noted, as many as were planned, and
+    // looks for the next one.
     fn carry_data<S: Store, K: Sink, L: Ledger>(
         &mut self,
         track: usize,
@@ -536,72 +540,64 @@ impl Writer {
         ensures held { held self.new ≡ held self.old }
         ensures honesty { S.is_honest store.new ≡ S.is_honest store.old }
         ensures file { S.file store.new ≡ S.file store.old }
-        ensures put { WhereOpened (S.is_honest store.old) (S.file store.old) movie.now (λ tree.
-            (leaving : Leaving) (samples : List SampleAt) → IsNoted leaving (S.file store.old)
-            tree movie.now track planned.now.count samples self.old
-            → OnOk result (BytesGoOn (K.contents sink.old) (K.contents sink.new)
-            (waiting self.old.carrier) (waiting self.new.carrier) (sample_bytes
-            (S.file store.old) (take planned.now.count samples)))) }
+        ensures put { WhereOpened (S.is_honest store.old) (S.file store.old) movie.now
+            (λ tree. (samples : List SampleAt) → IsNoted (S.file store.old) tree movie.now track
+            planned.now.count samples self.old
+            → OnOk result
+            (BytesGoOn (K.contents sink.old) (K.contents sink.new) (waiting self.old.carrier)
+            (waiting self.new.carrier)
+            (sample_bytes (S.file store.old) (take planned.now.count samples)))) }
         ensures prefix { WhereOpened (S.is_honest store.old) (S.file store.old) movie.now
-            (λ tree. (leaving : Leaving) (samples : List SampleAt)
-            → IsNoted leaving (S.file store.old) tree movie.now track planned.now.count samples
-            self.old
-            → OnErr result (AppendsPrefix (K.contents sink.old) (K.contents sink.new)
-            (waiting self.old.carrier ++ sample_bytes (S.file store.old)
-            (take planned.now.count samples)))) }
+            (λ tree. (samples : List SampleAt) → IsNoted (S.file store.old) tree movie.now track
+            planned.now.count samples self.old
+            → OnErr result
+            (AppendsPrefix (K.contents sink.old) (K.contents sink.new) (waiting self.old.carrier
+            ++ sample_bytes (S.file store.old) (take planned.now.count samples)))) }
         ensures copied { WhereOpened (S.is_honest store.old) (S.file store.old) movie.now
-            (λ tree. (leaving : Leaving) (samples : List SampleAt) → planned.now.count ≤ length
-            samples
-            → OnOk result (HaveCopied leaving (S.file store.old) tree movie.now track
+            (λ tree. (samples : List SampleAt) → (noted : IsNoted (S.file store.old) tree movie.now
+            track planned.now.count samples self.old)
+            → OnOk result (HaveCopied (S.file store.old) tree movie.now noted.t track
             planned.now.count samples self.old self.new)) }
-        ensures keeps { OnOk result ((self.new.planning ≡ self.old.planning)
-            × (self.new.rows ≡ self.old.rows) × (self.new.nexts ≡ self.old.nexts)) }
+        ensures keeps { OnOk result ((self.new.leaving ≡ self.old.leaving)
+            × (self.new.rows ≡ self.old.rows)) }
         ensures unchanged { WhereOpened (S.is_honest store.old) (S.file store.old) movie.now
-            (λ tree. (leaving : Leaving) (samples : List SampleAt)
-            → IsNoted leaving (S.file store.old) tree movie.now track planned.now.count samples
-            self.old
+            (λ tree. (samples : List SampleAt) → IsNoted (S.file store.old) tree movie.now track
+            planned.now.count samples self.old
             → planned.now.count ≤ length samples
-            → planned.now.bytes ≡ sum_of (λ (s : SampleAt). s.size)
-            (take planned.now.count samples)
+            → planned.now.bytes ≡ sum_of (λ (s : SampleAt). s.size) (take planned.now.count samples)
             → AllByRecursion (IsBelow (length (S.file store.old))) samples
             → IfErr result (λ r. r ≡ refusals.StoreChanged → ⊥)) }
         ensures reads { OnOk result (S.read_failures store.new ≡ S.read_failures store.old) }
         ensures puts { OnOk result (K.put_failures sink.new ≡ K.put_failures sink.old) }
-        ensures refusal { IfErr result (RefusesCarry (S.read_failures store.old)
-            (S.read_failures store.new) (K.put_failures sink.old) (K.put_failures sink.new)) }
-        ensures work { WhereOpened (S.is_honest store.old) (S.file store.old) movie.now (λ tree.
-            (n : ℕ) → MayAllTake
-            (S.file store.old) tree tree.movie.tracks self.old.copying.items n
-            → OnOk result (AllTakeOn
-            (S.file store.old) tree n self.new.copying.items steps.old steps.new)) }
-        ensures most { WhereOpened (S.is_honest store.old) (S.file store.old) movie.now (λ tree.
-            (n : ℕ) → MayAllTake
-            (S.file store.old) tree tree.movie.tracks self.old.copying.items n
+        ensures refusal { IfErr result
+            (RefusesCarry (S.read_failures store.old) (S.read_failures store.new)
+            (K.put_failures sink.old) (K.put_failures sink.new)) }
+        ensures work { WhereOpened (S.is_honest store.old) (S.file store.old) movie.now
+            (λ tree. (n : ℕ) → MayAllFinish self.old.leaving (S.file store.old) tree movie.now track
+            planned.now.count self.old.walks.items n
+            → OnOk result (AllWriteOn (S.file store.old) tree movie.now n self.new.walks.items
+            steps.old steps.new)) }
+        ensures most { WhereOpened (S.is_honest store.old) (S.file store.old) movie.now
+            (λ tree. (n : ℕ) → MayAllFinish self.old.leaving (S.file store.old) tree movie.now track
+            planned.now.count self.old.walks.items n
             → OnErr result (steps.new ≤ steps.old + n)) }
     {
-        let behind = self.behind[track];
-        if self.stretches.are_all() {
-            self.stretches
-                .carry(planned.bytes, &mut self.carrier, store, sink)?;
-            self.behind[track] = behind.saturating_add(planned.count);
-            return Ok(());
-        }
-        self.behind[track] = 0;
-        let walk = &mut self.copying[track];
         let load = Load {
             samples: planned.count,
             bytes: planned.bytes,
         };
-        carry_later(
-            walk,
-            behind,
+        self.nexts[track] = carry_noted(
+            &mut self.walks[track],
+            self.leaving,
+            &self.stretches,
             load,
             &mut self.carrier,
             movie,
             store,
             sink,
             steps,
-        )
+        )?;
+        Ok(())
     }
 
     // Takes a piece along whose samples were noted.
@@ -625,9 +621,8 @@ impl Writer {
         ensures honesty { S.is_honest store.new ≡ S.is_honest store.old }
         ensures file { S.file store.new ≡ S.file store.old }
         ensures put { WhereOpened (S.is_honest store.old) (S.file store.old) movie.now
-            (λ tree. (leaving : Leaving) (samples : List SampleAt)
-            → IsNoted leaving (S.file store.old) tree movie.now track planned.now.count samples
-            self.old
+            (λ tree. (samples : List SampleAt) → IsNoted (S.file store.old) tree movie.now track
+            planned.now.count samples self.old
             → (info : TrackInfo) → slice_get movie.now.tracks track ≡ Some info
             → AreApart (keys_seen info.keys)
             → OnOk result
@@ -636,9 +631,8 @@ impl Writer {
             (bytes_of_piece (S.file store.old) head planned.now (keys_seen info.keys)
             (take planned.now.count samples)))) }
         ensures prefix { WhereOpened (S.is_honest store.old) (S.file store.old) movie.now
-            (λ tree. (leaving : Leaving) (samples : List SampleAt)
-            → IsNoted leaving (S.file store.old) tree movie.now track planned.now.count samples
-            self.old
+            (λ tree. (samples : List SampleAt) → IsNoted (S.file store.old) tree movie.now track
+            planned.now.count samples self.old
             → (info : TrackInfo) → slice_get movie.now.tracks track ≡ Some info
             → AreApart (keys_seen info.keys)
             → OnErr result
@@ -646,17 +640,15 @@ impl Writer {
             ++ bytes_of_piece (S.file store.old) head planned.now (keys_seen info.keys)
             (take planned.now.count samples)))) }
         ensures copied { WhereOpened (S.is_honest store.old) (S.file store.old) movie.now
-            (λ tree. (leaving : Leaving) (samples : List SampleAt) → planned.now.count ≤ length
-            samples
-            → OnOk result
-            (HaveCopied leaving (S.file store.old)
-            tree movie.now track planned.now.count samples self.old self.new)) }
-        ensures keeps { OnOk result ((self.new.planning ≡ self.old.planning)
-            × (self.new.rows ≡ self.old.rows) × (self.new.nexts ≡ self.old.nexts)) }
+            (λ tree. (samples : List SampleAt) → (noted : IsNoted (S.file store.old) tree movie.now
+            track planned.now.count samples self.old)
+            → OnOk result (HaveCopied (S.file store.old) tree movie.now noted.t track
+            planned.now.count samples self.old self.new)) }
+        ensures keeps { OnOk result ((self.new.leaving ≡ self.old.leaving)
+            × (self.new.rows ≡ self.old.rows)) }
         ensures unchanged { WhereOpened (S.is_honest store.old) (S.file store.old) movie.now
-            (λ tree. (leaving : Leaving) (samples : List SampleAt)
-            → IsNoted leaving (S.file store.old) tree movie.now track planned.now.count samples
-            self.old
+            (λ tree. (samples : List SampleAt) → IsNoted (S.file store.old) tree movie.now track
+            planned.now.count samples self.old
             → planned.now.count ≤ length samples
             → planned.now.bytes ≡ sum_of (λ (s : SampleAt). s.size) (take planned.now.count samples)
             → AllByRecursion (IsBelow (length (S.file store.old))) samples
@@ -667,13 +659,13 @@ impl Writer {
             (RefusesCarry (S.read_failures store.old) (S.read_failures store.new)
             (K.put_failures sink.old) (K.put_failures sink.new)) }
         ensures work { WhereOpened (S.is_honest store.old) (S.file store.old) movie.now
-            (λ tree. (n : ℕ)
-            → MayAllTake (S.file store.old) tree tree.movie.tracks self.old.copying.items n
-            → OnOk result
-            (AllTakeOn (S.file store.old) tree n self.new.copying.items steps.old steps.new)) }
+            (λ tree. (n : ℕ) → MayAllFinish self.old.leaving (S.file store.old) tree movie.now track
+            planned.now.count self.old.walks.items n
+            → OnOk result (AllWriteOn (S.file store.old) tree movie.now n self.new.walks.items
+            steps.old steps.new)) }
         ensures most { WhereOpened (S.is_honest store.old) (S.file store.old) movie.now
-            (λ tree. (n : ℕ)
-            → MayAllTake (S.file store.old) tree tree.movie.tracks self.old.copying.items n
+            (λ tree. (n : ℕ) → MayAllFinish self.old.leaving (S.file store.old) tree movie.now track
+            planned.now.count self.old.walks.items n
             → OnErr result (steps.new ≤ steps.old + n)) }
     {
         let keys = movie.tracks()[track].keys;
@@ -704,14 +696,14 @@ impl Writer {
         requires count { planned.now.count ≤ length self.old.rows.items }
         requires bytes { planned.now.bytes + 16 < 2 ^ 64 }
         requires rows { (j : ℕ) → slice_index planned.now.group_rows j ≤ planned.now.count }
+        requires none { head ≡ None → planned.now.count ≡ 0 }
         ensures writer { OnOk result (IsWriterOf movie.now self.new) }
         ensures held { held self.new ≡ held self.old }
         ensures honesty { S.is_honest store.new ≡ S.is_honest store.old }
         ensures file { S.file store.new ≡ S.file store.old }
         ensures put { WhereOpened (S.is_honest store.old) (S.file store.old) movie.now
-            (λ tree. (leaving : Leaving) (samples : List SampleAt)
-            → IsNoted leaving (S.file store.old) tree movie.now track planned.now.count samples
-            self.old
+            (λ tree. (samples : List SampleAt) → IsNoted (S.file store.old) tree movie.now track
+            planned.now.count samples self.old
             → (info : TrackInfo) → slice_get movie.now.tracks track ≡ Some info
             → AreApart (keys_seen info.keys)
             → OnOk result
@@ -720,9 +712,8 @@ impl Writer {
             (turn_bytes (S.file store.old) head planned.now (keys_seen info.keys)
             (take planned.now.count samples)))) }
         ensures prefix { WhereOpened (S.is_honest store.old) (S.file store.old) movie.now
-            (λ tree. (leaving : Leaving) (samples : List SampleAt)
-            → IsNoted leaving (S.file store.old) tree movie.now track planned.now.count samples
-            self.old
+            (λ tree. (samples : List SampleAt) → IsNoted (S.file store.old) tree movie.now track
+            planned.now.count samples self.old
             → (info : TrackInfo) → slice_get movie.now.tracks track ≡ Some info
             → AreApart (keys_seen info.keys)
             → OnErr result
@@ -730,18 +721,15 @@ impl Writer {
             ++ turn_bytes (S.file store.old) head planned.now (keys_seen info.keys)
             (take planned.now.count samples)))) }
         ensures copied { WhereOpened (S.is_honest store.old) (S.file store.old) movie.now
-            (λ tree. (leaving : Leaving) (samples : List SampleAt) → planned.now.count ≤ length
-            samples
-            → (head ≡ None → drop planned.now.count samples ≡ samples)
-            → OnOk result
-            (HaveCopied leaving (S.file store.old)
-            tree movie.now track planned.now.count samples self.old self.new)) }
-        ensures keeps { OnOk result ((self.new.planning ≡ self.old.planning)
-            × (self.new.rows ≡ self.old.rows) × (self.new.nexts ≡ self.old.nexts)) }
+            (λ tree. (samples : List SampleAt) → (noted : IsNoted (S.file store.old) tree movie.now
+            track planned.now.count samples self.old)
+            → OnOk result (HaveCopied (S.file store.old) tree movie.now noted.t track
+            planned.now.count samples self.old self.new)) }
+        ensures keeps { OnOk result ((self.new.leaving ≡ self.old.leaving)
+            × (self.new.rows ≡ self.old.rows)) }
         ensures unchanged { WhereOpened (S.is_honest store.old) (S.file store.old) movie.now
-            (λ tree. (leaving : Leaving) (samples : List SampleAt)
-            → IsNoted leaving (S.file store.old) tree movie.now track planned.now.count samples
-            self.old
+            (λ tree. (samples : List SampleAt) → IsNoted (S.file store.old) tree movie.now track
+            planned.now.count samples self.old
             → planned.now.count ≤ length samples
             → planned.now.bytes ≡ sum_of (λ (s : SampleAt). s.size) (take planned.now.count samples)
             → AllByRecursion (IsBelow (length (S.file store.old))) samples
@@ -752,13 +740,13 @@ impl Writer {
             (RefusesCarry (S.read_failures store.old) (S.read_failures store.new)
             (K.put_failures sink.old) (K.put_failures sink.new)) }
         ensures work { WhereOpened (S.is_honest store.old) (S.file store.old) movie.now
-            (λ tree. (n : ℕ)
-            → MayAllTake (S.file store.old) tree tree.movie.tracks self.old.copying.items n
-            → OnOk result
-            (AllTakeOn (S.file store.old) tree n self.new.copying.items steps.old steps.new)) }
+            (λ tree. (n : ℕ) → MayAllFinish self.old.leaving (S.file store.old) tree movie.now track
+            planned.now.count self.old.walks.items n
+            → OnOk result (AllWriteOn (S.file store.old) tree movie.now n self.new.walks.items
+            steps.old steps.new)) }
         ensures most { WhereOpened (S.is_honest store.old) (S.file store.old) movie.now
-            (λ tree. (n : ℕ)
-            → MayAllTake (S.file store.old) tree tree.movie.tracks self.old.copying.items n
+            (λ tree. (n : ℕ) → MayAllFinish self.old.leaving (S.file store.old) tree movie.now track
+            planned.now.count self.old.walks.items n
             → OnErr result (steps.new ≤ steps.old + n)) }
     {
         if let Some(head) = head {
@@ -800,39 +788,24 @@ impl Writer {
             (RefusesCarry (S.read_failures store.old) (S.read_failures store.new)
             (K.put_failures sink.old) (K.put_failures sink.new)) }
         ensures work { WhereOpened (S.is_honest store.old) (S.file store.old) movie.now
-            (λ tree. (n c : ℕ)
-            → MayAllTake (S.file store.old) tree tree.movie.tracks self.old.planning.items n
-            → MayAllTake (S.file store.old) tree tree.movie.tracks self.old.copying.items c
-            → steps.new ≤ steps.old + n + c) }
+            (λ tree. (n : ℕ) → MayAllWrite (S.file store.old) tree movie.now self.old.walks.items n
+            → steps.new ≤ steps.old + n) }
     {
         let tracks = movie.tracks();
         let leaving = self.leaving;
         self.carrier.carry(self.head.as_slice(), sink)?;
-        let walks = self.planning.as_mut_slice();
-        peek_each(
-            walks,
-            self.nexts.as_mut_slice(),
-            leaving,
-            movie,
-            store,
-            steps,
-        )?;
+        let walks = self.walks.as_mut_slice();
+        let nexts = self.nexts.as_mut_slice();
+        peek_each(walks, nexts, leaving, movie, store, steps)?;
         let mut schedule = Schedule::new(tracks, first_time(self.nexts.as_slice()));
         let mut sequence: u32 = 1;
         while let Some(turn) = schedule.turn(tracks) {
-            let id = tracks[turn.track].id;
-            let noted = self.note_turn(&turn, leaving, sequence, id, movie, store, steps)?;
+            let track = turn.track;
+            let noted = self.note_turn(&turn, sequence, tracks[track].id, movie, store, steps)?;
             sequence = sequence_behind(sequence, &noted.head);
-            self.carry_turn(
-                turn.track,
-                noted.head,
-                &noted.planned,
-                movie,
-                store,
-                sink,
-                steps,
-            )?;
-            schedule.pass(&turn, noted.planned.count, noted.next)?;
+            let planned = &noted.planned;
+            self.carry_turn(track, noted.head, planned, movie, store, sink, steps)?;
+            schedule.pass(&turn, planned.count, self.nexts[track])?;
         }
         self.carrier.flush(sink)
     }
@@ -869,7 +842,7 @@ pub fn write_reduced<S: Store, K: Sink, L: Ledger>(
     ensures unchanged { WhereOpened (S.is_honest store.old) (S.file store.old) movie.now
         (λ tree. IfErr result (λ r. r ≡ refusals.StoreChanged → ⊥)) }
     ensures work { WhereOpened (S.is_honest store.old) (S.file store.old) movie.now
-        (λ tree. steps.new ≤ steps.old + 3 * walks_steps tree) }
+        (λ tree. steps.new ≤ steps.old + (walks_steps tree + writing_steps tree)) }
     ensures reads { OnOk result (S.read_failures store.new ≡ S.read_failures store.old) }
     ensures puts { OnOk result (K.put_failures sink.new ≡ K.put_failures sink.old) }
     ensures refusal { IfErr result
@@ -903,7 +876,7 @@ pub fn write_normal<S: Store, K: Sink, L: Ledger>(
     ensures unchanged { WhereOpened (S.is_honest store.old) (S.file store.old) movie.now
         (λ tree. IfErr result (λ r. r ≡ refusals.StoreChanged → ⊥)) }
     ensures work { WhereOpened (S.is_honest store.old) (S.file store.old) movie.now
-        (λ tree. steps.new ≤ steps.old + 3 * walks_steps tree) }
+        (λ tree. steps.new ≤ steps.old + (walks_steps tree + writing_steps tree)) }
     ensures reads { OnOk result (S.read_failures store.new ≡ S.read_failures store.old) }
     ensures puts { OnOk result (K.put_failures sink.new ≡ K.put_failures sink.old) }
     ensures refusal { IfErr result

@@ -1,5 +1,5 @@
 -- A walk that goes back to its mark.
-use Rattle.std.proofs.Common.{◌≡◌, ℕ, ◌+◌, ◌-◌, ◌*◌, ◌≤◌, Bool, true, false, List, [], ◌∷◌, ◌++◌, length, take, drop, Option, None, Some, refl, sym, ap, subst, ◌∙◌, arith, min, length-append}
+use Rattle.std.proofs.Common.{rules, ◌≡◌, ℕ, ◌+◌, ◌-◌, ◌*◌, ◌≤◌, Bool, true, false, List, [], ◌∷◌, ◌++◌, length, take, drop, Option, None, Some, refl, sym, ap, subst, ◌∙◌, arith, min, length-append}
 use Rattle.std.specs.Prelude.{⊤, nat_eq, is_none, if◌then◌else◌}
 use Rattle.std.proofs.lemmas.Bool.{eqb-true}
 use Rattle.std.specs.List.{slice_get}
@@ -17,7 +17,7 @@ use Rattle.mp4_frag.specs.words.Walks.{samples_coming, samples_in}
 use Rattle.mp4_head.specs.format.Tree.{TrackTree}
 use Rattle.mp4_present.specs.words.SamplesComing.{StandsBefore, HoldsNext, HoldsLast, Comes, Takes, samples_behind, due_behind}
 use Rattle.mp4_present.specs.format.Denotes.{FileTree}
-use Rattle.mp4_present.specs.words.GoingBack.{GoesBackTo, HoldsMarked, again_from, back_steps, set_back}
+use Rattle.mp4_present.specs.words.GoingBack.{GoesBackTo, HoldsMarked, IsMarkInHand, again_from, back_steps, set_back, turned_back}
 use Rattle.mp4_present.specs.words.InHand.{AreLast, left_in_hand, Follows, IsPlaceOf}
 use Rattle.mp4_present.specs.words.Movies.{MovieSeen, IsWhole, Fills, IsWalkOf, HasMarked, IsRest, StandsAt, HandAt, InHandOf, mark_of, moof_box, moof_bytes, all_in_moof}
 use Rattle.mp4_present.specs.words.Outline.{box_at}
@@ -33,9 +33,10 @@ use Rattle.mp4_present.specs.declared.walks.Due.{Due}
 use Rattle.mp4_present.specs.declared.walks.Mark.{Mark}
 use Rattle.mp4_present.specs.declared.walks.Walk.{Walk}
 use Rattle.mp4_present.proofs.HeldAgain.{held_as, held_box, stands_moved}
+use Rattle.mp4_present.proofs.MoofLoaded.{behind_split}
 use Rattle.mp4_present.proofs.Opened.{moov_is}
 use Rattle.mp4_present.proofs.WalkCopied.{hand_one}
-use Rattle.mp4_present.proofs.WalkPlaces.{marked_here}
+use Rattle.mp4_present.proofs.WalkPlaces.{marked_here, stands_moved as place_moved, rest_moved}
 
 -- ---- what a walk has marked matters for nothing else
 
@@ -195,7 +196,17 @@ module _ (file : List ℕ) (m : MovieSeen) (tree : FileTree) (t : TrackTree) (be
         h.0,
         h.1,
         h.2,
-        record { holds = h.3; moof = moof_is; next_is = ap (λ (k : Mark). k.next) g.mark; is_track = g.stands.is_track; room = room_is earlier later s },
+        record {
+          holds = h.3;
+          moof = moof_is;
+          next_is = ap (λ (k : Mark). k.next) g.mark;
+          is_track = g.stands.is_track;
+          room = room_is earlier later s;
+          behind = record {
+            due = ap (λ (k : Mark). k.due) g.mark ∙ s.due ∙ ap (due_behind tree t) h.2;
+            left = ap (λ (k : Mark). k.left) g.mark ∙ s.left ∙ ap (λ (e : List FragmentTree). length (samples_behind tree t e later)) h.2;
+          };
+        },
       )
 
   module _ (d : Due) (b : w.mark.before ≡ Some d) where
@@ -213,7 +224,8 @@ module _ (file : List ℕ) (m : MovieSeen) (tree : FileTree) (t : TrackTree) (be
         time_is c d e = cc
 
     module _ (samples : List SampleAt) (k : Comes file tree t m begun samples) (front : List FragmentTree) (last : FragmentTree) (is_last : k.0 ≡ front ++ last ∷ []) (first : Walk) (stands : StandsBefore file tree t (front ++ last ∷ []) k.1 first) (box : moof_box first ≡ moof_box begun)
-        (info : TrackInfo) (at : slice_get m.tracks w.track ≡ Some info) (all : InHand) (is_all : InHandOf m first all) (whole : left_in_hand all ≡ all_in_moof m first info d.time) (sum : d.left ≡ length (left_in_hand all) + first.left) where
+        (info : TrackInfo) (at : slice_get m.tracks w.track ≡ Some info) (all : InHand) (is_all : InHandOf m first all) (whole : left_in_hand all ≡ all_in_moof m first info d.time)
+        (own : left_in_hand all ≡ samples_behind tree t front (last ∷ [])) (had : d.left ≡ length (samples_behind tree t front (last ∷ k.1))) where
       xs : List SampleAt
       xs = all_in_moof m begun info d.time
 
@@ -235,12 +247,12 @@ module _ (file : List ℕ) (m : MovieSeen) (tree : FileTree) (t : TrackTree) (be
       rest_long : length (left_in_hand k.2) ≡ length (left_in_hand all) - rest_is.0
       rest_long = ap (λ (ss : List SampleAt). length ss) rest_is.1 ∙ length-drop rest_is.0 (all_in_moof m begun info d.time) ∙ ap (λ (ss : List SampleAt). length ss - rest_is.0) (sym all_is)
 
-      -- what was due behind the `moof` is as it was
-      pub left_holds : first.left ≡ w.mark.left
-      left_holds = first_left ∙ sym (ap (λ (k : Mark). k.left) g.mark ∙ k.3.0.left)
-
-      pub due_holds : first.due ≡ w.mark.due
-      due_holds = stands.due ∙ ap (due_behind tree t) (sym is_last) ∙ sym (ap (λ (k : Mark). k.due) g.mark ∙ k.3.0.due)
+      sum : d.left ≡ length (left_in_hand all) + first.left
+      sum =
+          let long = ap (λ (ss : List SampleAt). length ss) own in
+          let behind = stands.left in
+          let both = ap (λ (ss : List SampleAt). length ss) (behind_split tree t front last k.1) ∙ length-append (samples_behind tree t front (last ∷ [])) (samples_behind tree t (front ++ last ∷ []) k.1) in
+          omega (arith, had, long, behind, both)
 
       pub count_holds : length samples ≤ d.left
       count_holds = let rest = rest_long in let two = both in let left = first_left in omega (arith, rest, two, left, sum)
@@ -258,13 +270,13 @@ module _ (file : List ℕ) (m : MovieSeen) (tree : FileTree) (t : TrackTree) (be
           rest ∙ ap (drop (d.left - length samples)) same ∙ ap (λ (j : ℕ). drop j (left_in_hand all)) count ∙ drop_min rest_is.0 (left_in_hand all) ∙ ap (drop rest_is.0) all_is ∙ sym rest_is.1 in
           (front ++ last ∷ [], k.1, later_hand, (stands_later, is_later, k.3.2 ∙ ap (λ (ss : List SampleAt). ss ++ samples_behind tree t k.0 k.1) (sym left) ∙ ap (λ (ss : List SampleAt). left_in_hand later_hand ++ ss) behind_is))
 
-again_rest : (n old mid near moof more steps way : ℕ) → steps ≤ way → n + steps ≡ way + 2 * more → near ≤ moof → mid ≤ old + moof + near → (rest : ℕ) × (rest + near ≡ moof + 2 * more) × (mid + rest ≤ old + (n + 2 * moof))
+again_rest : (n old mid near moof more steps way : ℕ) → steps ≤ way → n + steps ≡ way + 2 * more → near ≤ moof → mid ≡ old + near → (rest : ℕ) × (rest + near ≡ moof + 2 * more) × (mid + rest ≤ old + (n + moof))
 again_rest n old mid near moof more steps way inside left within work = (moof - near + 2 * more, omega (arith, within), omega (arith, inside, left, within, work))
 
 -- the `moof` was read again, and its first sample is in hand
 pub takes_again : (file : List ℕ) (tree : FileTree) (t : TrackTree) (m : MovieSeen) (begun first : Walk) (n old mid : ℕ) (h : MayTake file tree t begun n) (front : List FragmentTree) (last : FragmentTree) (some : Bool)
     → Takes file tree t front last h.later m first some → moof_box first ≡ moof_box begun → way_through t first first.place ≡ moof_steps (moof_box first) → steps_to first.place ≤ moof_steps (moof_box begun)
-    → mid ≤ old + moof_steps (moof_box begun) + steps_to first.place → TakesOn file tree t (n + 2 * moof_steps (moof_box begun)) first old mid
+    → mid ≡ old + steps_to first.place → TakesOn file tree t (n + moof_steps (moof_box begun)) first old mid
 takes_again file tree t m begun first n old mid h front last some takes box way within work =
     let through : way_through t first first.place ≡ moof_steps (moof_box begun) = way ∙ ap moof_steps box in
     let r = again_rest n old mid (steps_to first.place) (moof_steps (moof_box begun)) (moofs_steps h.later) (steps_to begun.place) (way_through t begun begun.place) h.inside h.left within work in (
@@ -364,8 +376,8 @@ marked_before w d e = by_choice (nat_eq w.next w.mark.next) e
     by_choice true e = absurd (none_is d e)
     by_choice false e = e
 
-pub back_is : (begun w : Walk) (d : Due) → again_from w ≡ Some d → back_steps begun w ≡ 2 * moof_steps (moof_box begun)
-back_is begun w d e = ap (λ (b : Option Due). if is_none b then 0 else 2 * moof_steps (moof_box begun)) e
+pub back_is : (begun w : Walk) (d : Due) → again_from w ≡ Some d → back_steps begun w ≡ moof_steps (moof_box begun)
+back_is begun w d e = ap (λ (b : Option Due). if is_none b then 0 else moof_steps (moof_box begun)) e
 
 -- ---- a walk that was set back
 
@@ -398,3 +410,34 @@ module _ (m : MovieSeen) (w : Walk) (i : IsWalkOf m w) where
   walk_back n e =
       let at = at_by_choice (nat_eq w.next w.mark.next) refl e in
       marked_here m (set_back w) n (record { track = i.goes_on.track }) (stands_there w.mark.before w.mark.place i.mark.place at) (rest_there w.mark.before w.mark.place i.mark.place at)
+
+  -- ---- turned back
+
+  turned_kind : (e : IsMarkInHand w) (b c : Option Due) (q r : Place) → w.before ≡ b → w.mark.before ≡ c → HasMarked m w c r → StandsAt m w q → IsRest m w b q → HasMarked m (turned_back w) b q
+  turned_kind e None c (Tables p) r eb ec k s rest = s
+  turned_kind e None c (Fragment p) r eb ec k s rest = absurd rest
+  turned_kind e (Some d) c (Tables p) r eb ec k s rest = absurd rest
+  turned_kind e (Some d) None (Fragment p) r eb ec k s rest = absurd (none_both (sym (ap is_none eb) ∙ e.1 ∙ ap is_none ec))
+    where
+      none_both : false ≡ true → ⊥
+      none_both n = absurd cc
+  turned_kind e (Some d) (Some f) (Fragment p) (Tables r) eb ec k s rest = absurd k
+  turned_kind e (Some d) (Some f) (Fragment p) (Fragment r) eb ec k s rest =
+      let fills = s.1 in
+      (omega (arith, fills), λ same. (ec ∙ sym (k.1 e.0).0 ∙ eb, refl, s, rest))
+
+  pub walk_turned : IsMarkInHand w → IsWalkOf m (turned_back w)
+  walk_turned e =
+      let at = at_by_next w.mark.before e.0 in
+      let next = e.0 in
+      let place = stands_there w.mark.before w.mark.place i.mark.place at in
+      let rest = rest_there w.mark.before w.mark.place i.mark.place at in
+      record {
+        goes_on = record { track = i.goes_on.track };
+        place = place_moved m (set_back w) w.mark.place (mark_of w w.mark.to_come) w.mark.place place;
+        rest = rest_moved m (set_back w) w.mark.place (mark_of w w.mark.to_come) w.mark.before w.mark.place rest;
+        mark = record { track = refl; behind = omega (arith, next); place = turned_kind e w.before w.mark.before w.place w.mark.place refl refl i.mark.place i.place i.rest };
+      }
+
+  pub none_again : w.next ≡ w.mark.next → again_from w ≡ None
+  none_again e = ap (λ (v : Bool). if v then None else w.mark.before) (let same : nat_eq w.next w.mark.next ≡ true = search rules in same)

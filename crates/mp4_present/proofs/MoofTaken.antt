@@ -27,6 +27,7 @@ use Rattle.mp4_present.specs.format.Denotes.{FileTree, plain_of, file_parts, fir
 use Rattle.mp4_present.specs.words.Passing.{parts_behind}
 use Rattle.mp4_present.specs.words.OpenedMovie.{IsOpenedAs, IsInfoOf}
 use Rattle.mp4_present.specs.words.Movies.{MovieSeen, moof_box, all_in_moof}
+use Rattle.mp4_present.specs.words.GoingBack.{StandsBehind}
 use Rattle.mp4_present.specs.words.SamplesComing.{track_keys, due_behind, samples_behind, StandsBefore, HoldsNext, HoldsLast}
 use Rattle.mp4_present.specs.declared.track_info.TrackInfo.{TrackInfo}
 use Rattle.mp4_present.specs.declared.walks.Due.{Due}
@@ -123,19 +124,12 @@ module _ (file : List ℕ) (m : MovieSeen) (tree : FileTree) (t : TrackTree) (ea
   lasts : sum_of (λ (s : SampleAt). s.duration) (samples_behind tree t earlier (next ∷ [])) ≡ duration_of mine
   lasts = timed_lasts (track_keys tree t) (due_behind tree t earlier) mine
 
-  -- the walk stands behind it
-  pub stands_behind : (now : Walk) → now.track ≡ w.track → now.next ≡ w.next → length now.bytes.items ≡ length w.bytes.items
-      → now.due ≡ min (w.due + min (sum_of (λ (s : SampleAt). s.duration) (samples_behind tree t earlier (next ∷ []))) (2 ^ 64 - 1)) (2 ^ 64 - 1)
-      → now.left ≡ w.left - length (samples_behind tree t earlier (next ∷ [])) → HoldSame w now → now.before ≡ Some (record { time = w.due; left = w.left }) → StandsBefore file tree t (earlier ++ next ∷ []) later now
-  stands_behind now track at bytes due left same last =
+  -- a walk that has taken it stands behind it
+  pub stands_again : (now : Walk) → now.track ≡ w.track → now.next ≡ w.next → length now.bytes.items ≡ length w.bytes.items → StandsBehind tree t earlier next later now.due now.left → HoldSame w now → now.before ≡ Some (record { time = w.due; left = w.left })
+      → StandsBefore file tree t (earlier ++ next ∷ []) later now
+  stands_again now track at bytes behind same last =
       let one : sizes (next.moof ∷ []) ≡ size next.moof = omega (arith, sizes-cons next.moof []) in
       let place = h.place in
-      let ends = in_time file m tree t earlier next later o w.track h.is_track h.split in
-      let behind = due_more tree t earlier next in
-      let before = h.due in
-      let lasting = lasts in
-      let all = both in
-      let had = h.left in
       record {
         is_track = subst (λ (k : ℕ). slice_get tree.movie.tracks k ≡ Some t) (sym track) h.is_track;
         split = h.split ∙ sym (append_assoc earlier (next ∷ []) later);
@@ -146,12 +140,25 @@ module _ (file : List ℕ) (m : MovieSeen) (tree : FileTree) (t : TrackTree) (ea
         moofs_passed = map-append (λ (f : FragmentTree). f.moof) earlier (next ∷ []) ∙ ap (λ (bs : List Box). bs ++ next.moof ∷ []) h.moofs_passed
             ∙ ap (λ (bs : List Box). of_kind (codes "moof") h.passed ++ bs) (sym (hit_choice (codes "moof") next.moof (bytes_eq (codes "moof") next.moof.kind) refl (rw h.is_moof refl))) ∙ sym (of_kind-append (codes "moof") h.passed (next.moof ∷ []));
         moofs_left = h.moofs_left;
-        due = due_is _ _ _ _ _ (due_behind tree t earlier) due before lasting behind ends;
-        left = omega (arith, left, all, had);
+        due = behind.due;
+        left = behind.left;
         room = bytes ∙ h.room;
         held = subst (λ (b : Option Due). HoldsLast file tree t (earlier ++ next ∷ []) later now b) (sym last)
             (earlier, next, refl, holds_as file tree t w (record now { due = w.due; left = w.left }) (record { track = same.track; next = same.next; moof = same.moof; room = same.room; box = same.box }) earlier next later refl refl h);
       }
+
+  -- the walk stands behind it
+  pub stands_behind : (now : Walk) → now.track ≡ w.track → now.next ≡ w.next → length now.bytes.items ≡ length w.bytes.items
+      → now.due ≡ min (w.due + min (sum_of (λ (s : SampleAt). s.duration) (samples_behind tree t earlier (next ∷ []))) (2 ^ 64 - 1)) (2 ^ 64 - 1)
+      → now.left ≡ w.left - length (samples_behind tree t earlier (next ∷ [])) → HoldSame w now → now.before ≡ Some (record { time = w.due; left = w.left }) → StandsBefore file tree t (earlier ++ next ∷ []) later now
+  stands_behind now track at bytes due left same last =
+      let ends = in_time file m tree t earlier next later o w.track h.is_track h.split in
+      let behind = due_more tree t earlier next in
+      let before = h.due in
+      let lasting = lasts in
+      let all = both in
+      let had = h.left in
+      stands_again now track at bytes (record { due = due_is _ _ _ _ _ (due_behind tree t earlier) due before lasting behind ends; left = omega (arith, left, all, had) }) same last
     where
       due_is : (now was sum own next due : ℕ) → now ≡ min (was + min sum (2 ^ 64 - 1)) (2 ^ 64 - 1) → was ≡ due → sum ≡ own → next ≡ due + own → due + own ≤ max_time → now ≡ next
       due_is now was sum own next due a b c d e = omega arith

@@ -37,14 +37,14 @@ of_got P (y ∷ ys) (suc k) x e h = of_got P ys k x e h.1
 
 -- ---- where a walk stands doesn't depend on where it stood, nor on what it has marked
 
-abbrev moved : Walk → Place → Mark → Walk
+abbrev pub moved : Walk → Place → Mark → Walk
 moved w p k = record w { place = p; mark = k }
 
-stands_moved : (m : MovieSeen) (w : Walk) (p : Place) (k : Mark) (q : Place) → StandsAt m w q → StandsAt m (moved w p k) q
+pub stands_moved : (m : MovieSeen) (w : Walk) (p : Place) (k : Mark) (q : Place) → StandsAt m w q → StandsAt m (moved w p k) q
 stands_moved m w p k (Tables q) s = s
 stands_moved m w p k (Fragment q) s = s
 
-rest_moved : (m : MovieSeen) (w : Walk) (p : Place) (k : Mark) (b : Option Due) (q : Place) → IsRest m w b q → IsRest m (moved w p k) b q
+pub rest_moved : (m : MovieSeen) (w : Walk) (p : Place) (k : Mark) (b : Option Due) (q : Place) → IsRest m w b q → IsRest m (moved w p k) b q
 rest_moved m w p k None (Tables q) r = tt
 rest_moved m w p k None (Fragment q) r = absurd r
 rest_moved m w p k (Some d) (Tables q) r = absurd r

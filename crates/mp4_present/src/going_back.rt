@@ -1,23 +1,25 @@
 //! How a walk goes back to where it stood.
-ghost use Rattle.std.specs.Prelude.{ℕ, ◌≡◌, ◌+◌, ◌≤◌, List, length, drop, Bool, true, false, Ok, Err, Some, slice_get, IfErr, OnOk, OnErr, IsOk, IsTrue};
+ghost use Rattle.std.specs.Prelude.{ℕ, ◌≡◌, ◌+◌, ◌≤◌, List, length, drop, if◌then◌else◌, true, false, Ok, Err, Some, slice_get, IfErr, OnOk, OnErr, IsOk, IsTrue};
 ghost use Rattle.mp4_boxes.specs.declared.refusal.Refusal.TheVariants as refusals;
 ghost use Rattle.mp4_frag.specs.format.Fragments.{FragmentTree};
 ghost use Rattle.mp4_head.specs.format.Tree.{TrackTree};
 ghost use Rattle.mp4_tables.specs.declared.sample.SampleAt.{SampleAt};
-ghost use Rattle.mp4_present.specs.words.SamplesComing.{Comes, StandsBefore, Takes};
+ghost use Rattle.mp4_present.specs.words.SamplesComing.{Comes, HoldsNext, StandsBefore, Takes};
 ghost use Rattle.mp4_present.specs.format.Denotes.{FileTree};
-ghost use Rattle.mp4_present.specs.words.GoingBack.{GoesBackTo, HoldsMarked, again_from, back_steps, is_at_hand, set_back};
+ghost use Rattle.mp4_present.specs.words.GoingBack.{GoesBackTo, HoldsMarked, StandsBehind, again_from, back_steps, farther, IsMarkInHand, is_at_hand, is_mark_farther, set_back, turned_back};
 ghost use Rattle.mp4_present.specs.words.InHand.{left_in_hand};
-ghost use Rattle.mp4_present.specs.words.Movies.{MovieSeen, GoesOn, StandsAt, IsRest, IsWalkOf, InHandOf, RefusesLoad, all_in_moof, mark_of, moof_box};
+ghost use Rattle.mp4_present.specs.words.Movies.{MovieSeen, Fills, GoesOn, StandsAt, IsRest, IsWalkOf, InHandOf, RefusesLoad, all_in_moof, mark_of, moof_box};
 ghost use Rattle.mp4_present.specs.words.OpenedMovie.{IsOpenedAs};
 ghost use Rattle.mp4_present.specs.words.WalkSteps.{MayTake, TakesOn, moof_steps, steps_to, way_through};
 ghost use Rattle.mp4_present.specs.declared.in_hand.InHand.{InHand};
 ghost use Rattle.mp4_present.specs.declared.track_info.TrackInfo.{TrackInfo};
 
+use crate::in_hand::Place;
 use crate::movie::Movie;
 use crate::reading::read_payload;
 use crate::walks::{Due, Mark, Walk};
 use mp4_boxes::{Refusal, Steps};
+use mp4_frag::{FragCursor, FragView};
 use mp4_store::Store;
 use mp4_tables::Samples;
 use std::sync::ledger::Ledger;
@@ -86,6 +88,38 @@ impl Walk {
         self.next = self.mark.next;
     }
 
+    // Takes the samples of the `moof` in the room into hand again, before which this was due. How
+    // many they are, and when the next is due behind them, is known.
+    fn take_again<L: Ledger>(&mut self, before: Due, movie: &Movie, steps: &mut Steps<L>)
+        requires movie { GoesOn movie.now self.old }
+        requires fills { Fills self.old.used self.old.moof }
+        requires used { self.old.used ≤ length self.old.bytes.items }
+        ensures same { self.new ≡ record self.old { place = self.new.place; before = Some before } }
+        ensures place { StandsAt movie.now self.new self.new.place }
+        ensures rest { IsRest movie.now self.new (Some before) self.new.place }
+        ensures all { (info : TrackInfo) → slice_get movie.now.tracks self.old.track ≡ Some info
+            → (hand : InHand) × InHandOf movie.now self.new hand
+            × (left_in_hand hand ≡ all_in_moof movie.now self.old info before.time) }
+        ensures taken { (file : List ℕ) (tree : FileTree) (t : TrackTree)
+            (earlier later : List FragmentTree) (next : FragmentTree)
+            → IsOpenedAs file movie.now tree
+            → HoldsNext file tree t earlier next later
+            (record self.old { due = before.time; left = before.left })
+            → StandsBehind tree t earlier next later self.old.due self.old.left
+            → Takes file tree t earlier next later movie.now self.new true }
+        ensures way { steps_to self.new.place ≤ moof_steps (moof_box self.old) }
+        ensures through { (t : TrackTree)
+            → way_through t self.new self.new.place ≡ moof_steps (moof_box self.new) }
+        ensures work { steps.new ≡ steps.old + steps_to self.new.place }
+    {
+        let view = FragView::again(self.moof.view(&self.bytes[..self.used]));
+        let info = movie.tracks()[self.track];
+        let cursor = FragCursor::start(&view, movie.states(), info.id, before.time, info.keys);
+        self.place = Place::Fragment(cursor.place());
+        self.before = Some(before);
+        steps.add(self.place.passed());
+    }
+
     // Reads the `moof` of the mark again, where this was due, and takes its samples into hand. The
     // mark is given up for one before these.
     fn read_again<S: Store, L: Ledger>(
@@ -101,22 +135,22 @@ impl Walk {
         ensures file { S.file store.new ≡ S.file store.old }
         ensures walk { OnOk result (IsWalkOf movie.now self.new) }
         ensures room { length self.new.bytes.items ≡ length self.old.bytes.items }
-        ensures next { OnOk result (self.new.next ≡ self.old.mark.next) }
+        ensures same { OnOk result ((self.new.next ≡ self.old.mark.next)
+            × (self.new.due ≡ self.old.mark.due) × (self.new.left ≡ self.old.mark.left)) }
         ensures all { OnOk result ((info : TrackInfo)
             → slice_get movie.now.tracks self.old.track ≡ Some info
             → (hand : InHand) × InHandOf movie.now self.new hand
-            × (left_in_hand hand ≡ all_in_moof movie.now self.new info before.time)
-            × (before.left ≡ length (left_in_hand hand) + self.new.left)) }
+            × (left_in_hand hand ≡ all_in_moof movie.now self.new info before.time)) }
         ensures taken { IsTrue (S.is_honest store.old)
             → (tree : FileTree) (t : TrackTree) (earlier later : List FragmentTree)
             (next : FragmentTree) (begun : Walk)
             → IsOpenedAs (S.file store.old) movie.now tree
             → HoldsMarked (S.file store.old) tree t earlier next later begun self.old before
-            → OnOk result ((some : Bool)
-            × Takes (S.file store.old) tree t earlier next later movie.now self.new some
+            → OnOk result
+            (Takes (S.file store.old) tree t earlier next later movie.now self.new true
             × (moof_box self.new ≡ moof_box begun)
             × (steps_to self.new.place ≤ moof_steps (moof_box begun))
-            × (steps.new ≤ steps.old + moof_steps (moof_box begun) + steps_to self.new.place)) }
+            × (steps.new ≡ steps.old + steps_to self.new.place)) }
         ensures unchanged { IsTrue (S.is_honest store.old)
             → (tree : FileTree) (t : TrackTree) (earlier later : List FragmentTree)
             (next : FragmentTree) (begun : Walk)
@@ -139,10 +173,10 @@ impl Walk {
         }
         self.used = read_payload(store, mark.moof, self.bytes.as_mut_slice())?;
         self.moof = mark.moof;
-        self.due = before.time;
-        self.left = before.left;
+        self.due = mark.due;
+        self.left = mark.left;
         self.next = mark.next;
-        let _some = self.take(movie, steps)?;
+        self.take_again(before, movie, steps);
         self.mark(mark.to_come);
         Ok(())
     }
@@ -187,9 +221,9 @@ impl Walk {
     }
 
     /// Goes back to the mark. Where what was in hand there is at hand, nothing is read, and no step
-    /// taken; else the `moof` is read again, and its samples before the mark are passed. It takes
-    /// no memory. Where the store has another length, or other samples than it had, so far as their
-    /// number and their time shows it, the answer is StoreChanged.
+    /// taken; else the `moof` is read again, and its samples before the mark are passed: they were
+    /// counted when it was loaded, and are not counted again. It takes no memory. Where the store
+    /// has another length, or fewer samples before the mark, the answer is StoreChanged.
     pub fn go_back<S: Store, L: Ledger>(
         &mut self,
         movie: &Movie,
@@ -236,9 +270,6 @@ impl Walk {
         ensures left { OnOk result ((self.new.left ≡ self.old.mark.left)
             × (self.new.due ≡ self.old.mark.due)
             × (self.new.next ≡ self.old.mark.next)) }
-        ensures again { is_at_hand self.old ≡ false → OnOk result ((hand : InHand)
-            × InHandOf movie.now self.new hand
-            × (length (left_in_hand hand) + self.new.left ≡ self.old.mark.to_come)) }
         ensures length { is_at_hand self.old ≡ false
             → (length (S.file store.old) ≡ movie.now.file_len → ⊥)
             → result ≡ Err refusals.StoreChanged }
@@ -253,11 +284,80 @@ impl Walk {
             return Ok(());
         };
         self.read_again(before, movie, store, steps)?;
-        if self.left != mark.left || self.due != mark.due || before.left < mark.to_come {
+        if before.left < mark.to_come {
             return Err(Refusal::StoreChanged);
         }
         self.pass(before.left - mark.to_come, movie, steps)?;
         self.mark(mark.to_come);
         Ok(())
+    }
+
+    /// How many samples were to come at the mark.
+    pub fn to_come(&self) -> u32
+        ensures { result ≡ self.now.mark.to_come }
+    {
+        self.mark.to_come
+    }
+
+    /// Whether the mark is a place of what is in hand.
+    pub fn is_mark_in_hand(&self) -> bool
+        ensures yes { IsTrue result → IsMarkInHand self.now }
+        ensures no { IsMarkInHand self.now → IsTrue result }
+    {
+        self.next == self.mark.next && self.before.is_none() == self.mark.before.is_none()
+    }
+
+    /// Goes back to the mark, a place of what is in hand, and marks where it stood, for go_farther.
+    /// Nothing is read.
+    pub fn turn_back(&mut self)
+        requires { IsMarkInHand self.old }
+        ensures is { self.new ≡ turned_back self.old }
+        ensures room { self.new.bytes ≡ self.old.bytes }
+        ensures walk { (m : MovieSeen) → IsWalkOf m self.old → IsWalkOf m self.new }
+        ensures back { (file : List ℕ) (tree : FileTree) (t : TrackTree) (m : MovieSeen)
+            (begun : Walk) (before : ℕ) (samples : List SampleAt)
+            → GoesBackTo file tree t m begun self.old before → IsWalkOf m self.old
+            → Comes file tree t m begun samples → Comes file tree t m self.new samples }
+        ensures may { (file : List ℕ) (tree : FileTree) (t : TrackTree) (m : MovieSeen)
+            (begun : Walk) (before n : ℕ)
+            → GoesBackTo file tree t m begun self.old before → IsWalkOf m self.old
+            → MayTake file tree t begun n → MayTake file tree t self.new n }
+    {
+        let there = Mark {
+            track: self.track,
+            place: self.place,
+            moof: self.moof,
+            before: self.before,
+            due: self.due,
+            left: self.left,
+            next: self.next,
+            to_come: self.mark.to_come,
+        };
+        self.set_back();
+        self.mark = there;
+    }
+
+    /// Goes on from the mark, where this is a place of what is in hand and farther on.
+    pub fn go_farther(&mut self)
+        ensures is { self.new ≡ farther self.old }
+        ensures walk { (m : MovieSeen) → IsWalkOf m self.old → IsWalkOf m self.new }
+        ensures room { self.new.bytes ≡ self.old.bytes }
+        ensures next { self.new.next ≡ self.old.next }
+        ensures coming { (file : List ℕ) (tree : FileTree) (t : TrackTree) (m : MovieSeen)
+            (begun : Walk) (before : ℕ) (there here : List SampleAt)
+            → GoesBackTo file tree t m begun self.old before → IsWalkOf m self.old
+            → Comes file tree t m begun there → Comes file tree t m self.old here
+            → Comes file tree t m self.new (if is_mark_farther self.old then there else here) }
+        ensures may { (file : List ℕ) (tree : FileTree) (t : TrackTree) (m : MovieSeen)
+            (begun : Walk) (before a b : ℕ)
+            → GoesBackTo file tree t m begun self.old before → IsWalkOf m self.old
+            → MayTake file tree t begun a → MayTake file tree t self.old b
+            → MayTake file tree t self.new (if is_mark_farther self.old then a else b) }
+    {
+        if self.next == self.mark.next && self.place.passed() < self.mark.place.passed() {
+            let to_come = self.mark.to_come;
+            self.set_back();
+            self.mark(to_come);
+        }
     }
 }

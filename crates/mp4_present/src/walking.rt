@@ -3,6 +3,7 @@ ghost use Rattle.std.specs.Prelude.{ℕ, ◌≡◌, ◌+◌, ◌-◌, ◌^◌, �
 ghost use Rattle.mp4_frag.specs.format.Fragments.{FragmentTree};
 ghost use Rattle.mp4_head.specs.format.Tree.{TrackTree};
 ghost use Rattle.mp4_present.specs.format.Denotes.{FileTree};
+ghost use Rattle.mp4_present.specs.words.GoingBack.{HoldsSome};
 ghost use Rattle.mp4_present.specs.words.OpenedMovie.{IsOpenedAs};
 ghost use Rattle.mp4_present.specs.words.SamplesComing.{track_samples, samples_behind, StandsBefore, Comes, HoldsNext, Takes, Loads};
 ghost use Rattle.mp4_present.specs.words.WalkSteps.{steps_to, moof_steps, way_through, walk_steps, MayTake, TakesOn};
@@ -129,6 +130,9 @@ impl Walk {
         ensures mark { self.new.mark ≡ self.old.mark }
         ensures room { self.new.bytes ≡ self.old.bytes }
         ensures next { self.new.next ≡ self.old.next }
+        ensures before { OnOk result (self.new.before
+            ≡ Some (record { time = self.old.due; left = self.old.left })) }
+        ensures grows { steps.old ≤ steps.new }
         ensures idle { OnErr result (steps.new ≡ steps.old) }
         ensures refusal { IfErr result (λ r. r ≡ refusals.StoreChanged) }
         ensures taken { (file : List ℕ) (tree : FileTree) (t : TrackTree)
@@ -206,6 +210,9 @@ impl Walk {
             → MayTake (S.file store.old) tree t self.old n
             → IfErr result (λ r. steps.new ≤ steps.old + n) }
         ensures some { IfOk result (λ more. IsTrue more → HasSome movie.now self.new) }
+        ensures holds { IfOk result (λ more. IsTrue more → HoldsSome movie.now self.new) }
+        ensures still { IfOk result (λ more. more ≡ false → self.new ≡ self.old) }
+        ensures grows { steps.old ≤ steps.new }
         ensures none { IfOk result (λ more. more ≡ false → self.new.left ≡ 0) }
         ensures length { (length (S.file store.old) ≡ movie.now.file_len → ⊥)
             → result ≡ Err refusals.StoreChanged }

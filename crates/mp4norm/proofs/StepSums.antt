@@ -1,4 +1,4 @@
--- The steps of opening a file and of three walks over each of its tracks are within the bound.
+-- The steps of opening a file, of planning and of writing are within the bound.
 use Rattle.std.proofs.Common.{◌≡◌, ℕ, zero, suc, ◌+◌, ◌*◌, ◌≤◌, List, [], ◌∷◌, Some, length, map, refl, sym, ap, subst, ◌∙◌, arith, mul-le-mul_left}
 use Rattle.std.proofs.lemmas.List.{length-map}
 use Rattle.std.specs.List.{AllByRecursion, slice_get}
@@ -17,6 +17,7 @@ use Rattle.mp4_present.specs.format.Denotes.{FileTree, IsFileTree, IsConsistent,
 use Rattle.mp4_present.specs.format.Presentation.{Presentation, sample_total}
 use Rattle.mp4_present.specs.format.Stands.{table_total}
 use Rattle.mp4_present.specs.words.WalkSteps.{moof_steps, moofs_steps, table_steps, opening_steps, table_way, walk_steps, walks_steps}
+use Rattle.mp4_plan.specs.words.WriterSteps.{writing_steps}
 use Rattle.mp4_present.proofs.Counts.{parts_total, sum-append, sizes_few, fragments_total, total_is, all_belong}
 use Rattle.mp4norm.specs.format.Steps.{row_total, most_steps}
 
@@ -63,7 +64,7 @@ moofs_sum trexes (f ∷ fragments) h =
 -- ---- the bound
 
 -- of tracks with so many samples and rows in tables, where each `moof`'s steps are within the other samples and rows
-bounded : (k m s f r more checks ways : ℕ) → (k ≡ 0 → r + s ≡ 0) → m ≤ f + more → checks ≡ 7 * r + 3 * s → ways ≡ r + 3 * s + k * (2 * m) → (checks + m) + 3 * ways ≤ 8 * ((k + 1) * ((s + f) + (r + more)))
+bounded : (k m s f r more checks ways : ℕ) → (k ≡ 0 → r + s ≡ 0) → m ≤ f + more → checks ≡ 7 * r + 3 * s → ways ≡ r + 3 * s + k * (2 * m) → (checks + m) + (ways + (2 * ways + k * (2 * m))) ≤ 8 * ((k + 1) * ((s + f) + (r + more)))
 bounded zero m s f r more checks ways none le c w = let n = none refl in omega (arith, n, le, c, w)
 bounded (suc k) m s f r more checks ways none le c w =
     let grow = mul-le-mul_left (suc k) le in
@@ -74,7 +75,7 @@ none_of : (tracks : List TrackTree) → length tracks ≡ 0 → rows_of tracks +
 none_of [] e = refl
 none_of (t ∷ tracks) e = absurd (omega (arith, e))
 
-tree_within : (file : List ℕ) (tree : FileTree) → IsFileTree file tree → IsConsistent file tree → opening_steps tree + 3 * walks_steps tree ≤ most_steps (length (presentation_of file tree).tracks) (sample_total (presentation_of file tree)) (row_total tree)
+tree_within : (file : List ℕ) (tree : FileTree) → IsFileTree file tree → IsConsistent file tree → opening_steps tree + (walks_steps tree + writing_steps tree) ≤ most_steps (length (presentation_of file tree).tracks) (sample_total (presentation_of file tree)) (row_total tree)
 tree_within file tree h c =
     let tracks = tree.movie.tracks in
     let fragments = tree.fragments in
@@ -86,12 +87,12 @@ tree_within file tree h c =
     let known = all_belong tree.movie parts c.known in
     let few : moofs_steps fragments ≤ fragments_total parts tracks + fragment_rows_of fragments = omega (arith, moofs, known) in
     let all = bounded (length tracks) (moofs_steps fragments) (plain_total tracks) (fragments_total parts tracks) (rows_of tracks) (fragment_rows_of fragments) (sum_of table_steps tracks) (walks_steps tree) (none_of tracks) few (checks_sum tracks) (ways_sum (2 * moofs_steps fragments) tracks) in
-    subst (λ n. opening_steps tree + 3 * walks_steps tree ≤ most_steps n (sample_total (presentation_of file tree)) (row_total tree)) (sym count)
-    (subst (λ n. opening_steps tree + 3 * walks_steps tree ≤ most_steps (length tracks) n (row_total tree)) (sym total) all)
+    subst (λ n. opening_steps tree + (walks_steps tree + writing_steps tree) ≤ most_steps n (sample_total (presentation_of file tree)) (row_total tree)) (sym count)
+    (subst (λ n. opening_steps tree + (walks_steps tree + writing_steps tree) ≤ most_steps (length tracks) n (row_total tree)) (sym total) all)
 
--- opening a file and three walks over each of its tracks
-pub all_within : (file : List ℕ) (p : Presentation) (d : Denotes file p) → opening_steps d.tree + 3 * walks_steps d.tree ≤ most_steps (length p.tracks) (sample_total p) (row_total d.tree)
-all_within file p d = subst (λ (q : Presentation). opening_steps d.tree + 3 * walks_steps d.tree ≤ most_steps (length q.tracks) (sample_total q) (row_total d.tree)) (sym d.says) (tree_within file d.tree d.is_tree d.is_consistent)
+-- opening a file, planning and writing
+pub all_within : (file : List ℕ) (p : Presentation) (d : Denotes file p) → opening_steps d.tree + (walks_steps d.tree + writing_steps d.tree) ≤ most_steps (length p.tracks) (sample_total p) (row_total d.tree)
+all_within file p d = subst (λ (q : Presentation). opening_steps d.tree + (walks_steps d.tree + writing_steps d.tree) ≤ most_steps (length q.tracks) (sample_total q) (row_total d.tree)) (sym d.says) (tree_within file d.tree d.is_tree d.is_consistent)
 
 -- ---- a look, and a way over one track
 

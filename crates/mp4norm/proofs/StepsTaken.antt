@@ -14,6 +14,7 @@ use Rattle.mp4_present.proofs.One.{file_tree_one}
 use Rattle.mp4norm.specs.format.Steps.{WorksWithin, LooksWithin, row_total}
 use Rattle.mp4norm.proofs.Normalised.{denotes_nothing}
 use Rattle.mp4norm.proofs.ShownLines.{denoted}
+use Rattle.mp4_plan.specs.words.WriterSteps.{writing_steps}
 use Rattle.mp4norm.proofs.StepSums.{all_within, opened_looks, walked_looks}
 
 few_times : (k n : ℕ) → 8 * n ≤ 8 * ((k + 1) * n)
@@ -50,12 +51,12 @@ module _ (file : List ℕ) (old new : ℕ) where
         refused = l.refused;
       }
 
-  -- a file that is opened, and walked over at most three times
-  pub opened_within : (m : MovieSeen) (tree : FileTree) (behind : ℕ) → IsOpenedAs file m tree → behind ≤ old + opening_steps tree → new ≤ behind + 3 * walks_steps tree → WorksWithin file old new
+  -- a file that is opened, planned and written, or walked over at most three times
+  pub opened_within : (m : MovieSeen) (tree : FileTree) (behind : ℕ) → IsOpenedAs file m tree → behind ≤ old + opening_steps tree → new ≤ behind + (walks_steps tree + writing_steps tree) → WorksWithin file old new
   opened_within m tree behind o opening walks = record {
     denoted = λ p d.
         let same = file_tree_one file tree d.tree o.is_tree d.is_tree in
-        let own = subst (λ (t : FileTree). new ≤ old + (opening_steps t + 3 * walks_steps t)) same (omega (arith, opening, walks)) in
+        let own = subst (λ (t : FileTree). new ≤ old + (opening_steps t + (walks_steps t + writing_steps t))) same (omega (arith, opening, walks)) in
         let all = all_within file p d in
         omega (arith, own, all);
     refused = λ nothing. absurd (nothing (presentation_of file tree) (denoted file m tree o));
@@ -85,5 +86,5 @@ module _ (file : List ℕ) (old new : ℕ) where
 
 -- a movie that is written or not
 pub written_within : (file : List ℕ) (m : MovieSeen) (old behind new : ℕ) → ((tree : FileTree) × IsOpenedAs file m tree) → ((tree : FileTree) → IsFileTree file tree → behind ≤ old + opening_steps tree)
-    → ((tree : FileTree) → IsOpenedAs file m tree → new ≤ behind + 3 * walks_steps tree) → WorksWithin file old new
+    → ((tree : FileTree) → IsOpenedAs file m tree → new ≤ behind + (walks_steps tree + writing_steps tree)) → WorksWithin file old new
 written_within file m old behind new opened opening write = opened_within file old new m opened.0 behind opened.1 (opening opened.0 opened.1.is_tree) (write opened.0 opened.1)

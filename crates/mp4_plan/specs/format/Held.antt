@@ -12,4 +12,4 @@ rooms walks = sum_by (λ (walk : Walk). length walk.bytes.items) walks
 -- 24 bytes for each row, and a `moof` in each walk
 abbrev pub held : Writer → ℕ
 held w = length w.head.items + length w.carrier.buffer.items + 24 * length w.rows.items
-    + rooms w.planning.items + rooms w.copying.items
+    + rooms w.walks.items

@@ -110,16 +110,6 @@ HandNoted l m w room before after stop place rows told told_after =
     (fed : HandFed l m w room before after stop place)
     × (take (length fed.done) rows ≡ map row_seen fed.done) × JoinsOn told told_after fed.done
 
--- The samples in hand of a walk were passed, so many at most, and the walk goes on from a place.
--- Where more were to be passed, none is left in hand.
-pub record HandPassed (m : MovieSeen) (w : Walk) (most left : ℕ) (place : Place) : Type 0 where
-  pub hand : InHand
-  pub is_hand : InHandOf m w hand
-  pub later : InHand
-  pub is_later : InHandOf m (record w { place = place }) later
-  pub taken : TakesFirst most left (left_in_hand hand) (left_in_hand later)
-  pub ends : 0 < left → left_in_hand later ≡ []
-
 -- A walk that goes on from this place of what it has in hand took the steps to there, and may take
 -- the others.
 abbrev pub KeepsOn : MovieSeen → Walk → Place → Type 0

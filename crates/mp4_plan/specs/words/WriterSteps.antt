@@ -1,16 +1,27 @@
 -- The steps of walks over all tracks of a file.
-use Rattle.std.specs.Prelude.{◌≡◌, ℕ, ◌+◌, ◌≤◌, List, [], ◌∷◌}
+use Rattle.std.specs.Prelude.{◌≡◌, ◌⊎◌, ℕ, ◌+◌, ◌*◌, ◌≤◌, List, [], ◌∷◌, length, slice_get, slice_set, Some}
+use Rattle.mp4_tables.specs.declared.sample.SampleAt.{SampleAt}
+use Rattle.mp4_frag.specs.format.Fragments.{FragmentTree}
 use Rattle.mp4_head.specs.format.Tree.{TrackTree}
 use Rattle.mp4_present.specs.format.Denotes.{FileTree}
-use Rattle.mp4_present.specs.words.WalkSteps.{MayTake, walks_steps}
+use Rattle.mp4_present.specs.words.GoingBack.{IsMarkInHand, back_steps}
+use Rattle.mp4_present.specs.words.Movies.{MovieSeen, mark_of}
+use Rattle.mp4_present.specs.words.SamplesComing.{Comes}
+use Rattle.mp4_present.specs.words.WalkSteps.{MayTake, moof_steps, moofs_steps, walks_steps}
+use Rattle.mp4_present.specs.declared.leaving.Leaving.{Leaving}
 use Rattle.mp4_present.specs.declared.walks.Walk.{Walk}
+use Rattle.mp4_plan.specs.words.GoneOn.{ComesMarked, HasLoaded, Stays, GoesPast}
 
--- these walks, one for each track, may take so many steps together
+-- each of these walks, one for each track, may take some steps, and all may take so many together
+abbrev pub MayAll : (TrackTree → Walk → ℕ → Type 0) → List TrackTree → List Walk → ℕ → Type 0
+MayAll May [] [] n = n ≡ 0
+MayAll May (t ∷ trees) (w ∷ walks) n = (own others : ℕ) × May t w own
+    × MayAll May trees walks others × (n ≡ own + others)
+MayAll May _ _ n = ⊥
+
+-- these walks may take so many steps together
 abbrev pub MayAllTake : List ℕ → FileTree → List TrackTree → List Walk → ℕ → Type 0
-MayAllTake file tree [] [] n = n ≡ 0
-MayAllTake file tree (t ∷ trees) (w ∷ walks) n = (own others : ℕ) × MayTake file tree t w own
-    × MayAllTake file tree trees walks others × (n ≡ own + others)
-MayAllTake file tree _ _ n = ⊥
+MayAllTake file tree trees walks n = MayAll (MayTake file tree) trees walks n
 
 -- Of so many steps some were taken, and the walks over all tracks may take the others.
 abbrev pub AllTakeOn : List ℕ → FileTree → ℕ → List Walk → ℕ → ℕ → Type 0
@@ -21,3 +32,107 @@ AllTakeOn file tree n walks old new = (rest : ℕ) × MayAllTake file tree tree.
 abbrev pub MayAllBegin : List ℕ → FileTree → List Walk → Type 0
 MayAllBegin file tree walks = (n : ℕ) × MayAllTake file tree tree.movie.tracks walks n
     × (n ≤ walks_steps tree)
+
+-- ---- a walk that goes back
+
+-- the steps of the last of these `moof`s, or so many where there is none
+abbrev pub last_steps : ℕ → List FragmentTree → ℕ
+last_steps n [] = n
+last_steps n (f ∷ moofs) = last_steps (moof_steps f.moof) moofs
+
+-- to read the `moof` in hand and each one behind it once more, and to read each one behind it twice
+abbrev pub again_steps : List FragmentTree → List FragmentTree → ℕ
+again_steps earlier later = last_steps 0 earlier + 2 * moofs_steps later
+
+-- The walk may take so many steps where it notes each piece, and goes back for its bytes: twice
+-- those of its way, and those of reading each `moof` again that a piece began in.
+pub record MayWrite (file : List ℕ) (tree : FileTree) (m : MovieSeen) (t : TrackTree) (w : Walk)
+    (n : ℕ) : Type 0 where
+  pub samples : List SampleAt
+  pub comes : Comes file tree t m w samples
+  pub marked : w.mark ≡ mark_of w (length samples)
+  pub own : ℕ
+  pub may : MayTake file tree t w own
+  pub sum : n ≡ 2 * own + again_steps may.earlier may.later
+
+-- Of so many steps some were taken, and the walk may take the others.
+abbrev pub WritesOn : List ℕ → FileTree → MovieSeen → TrackTree → ℕ → Walk → ℕ → ℕ → Type 0
+WritesOn file tree m t n w old new = (rest : ℕ) × MayWrite file tree m t w rest
+    × (new + rest ≤ old + n)
+
+-- The walk has noted a piece of so many samples since its mark, and may take so many steps: to copy
+-- the piece, and to go on.
+pub record MayFinish (l : Leaving) (file : List ℕ) (tree : FileTree) (m : MovieSeen) (count : ℕ)
+    (t : TrackTree) (w : Walk) (n : ℕ) : Type 0 where
+  pub left : List SampleAt
+  pub marked : ComesMarked l file tree t m w count left
+  pub own : ℕ
+  pub began : MayTake file tree t marked.begun own
+  pub now : ℕ
+  pub may : MayTake file tree t w now
+  pub less : now ≤ own
+  pub ahead : Stays marked.begun w ⊎ HasLoaded m marked.begun w
+  pub none : count ≡ 0 → w.mark ≡ mark_of w (length left)
+  pub sum : n ≡ own + now + again_steps began.earlier began.later
+
+abbrev pub FinishesOn : Leaving → List ℕ → FileTree → MovieSeen → ℕ → TrackTree → ℕ → Walk → ℕ → ℕ
+    → Type 0
+FinishesOn l file tree m count t n w old new = (rest : ℕ) × MayFinish l file tree m count t w rest
+    × (new + rest ≤ old + n)
+
+-- A walk that may take so many steps was set back to where it might take more, took them again, and
+-- may now take no more than before.
+abbrev pub CarriesInHand : List ℕ → FileTree → TrackTree → ℕ → ℕ → Walk → ℕ → ℕ → Type 0
+CarriesInHand file tree t own now after old new = (rest : ℕ) × MayTake file tree t after rest
+    × (rest ≤ now) × (new + rest ≤ old + own)
+
+-- Or its mark was in another `moof`, which was read again.
+abbrev pub CarriesAgain : List ℕ → FileTree → TrackTree → MovieSeen → Walk → ℕ → Walk → Walk → ℕ
+    → ℕ → Type 0
+CarriesAgain file tree t m begun own before after old new = (rest : ℕ)
+    × MayTake file tree t after rest × (IsMarkInHand before → ⊥)
+    × GoesPast m begun.next after
+    × (new + rest ≤ old + (own + back_steps begun before))
+
+abbrev pub CarriesOn : List ℕ → FileTree → TrackTree → MovieSeen → Walk → ℕ → Walk → ℕ → Walk → ℕ
+    → ℕ → Type 0
+CarriesOn file tree t m begun own before now after old new =
+    CarriesInHand file tree t own now after old new
+    ⊎ CarriesAgain file tree t m begun own before after old new
+
+-- ---- all walks of a writer
+
+abbrev pub MayAllWrite : List ℕ → FileTree → MovieSeen → List Walk → ℕ → Type 0
+MayAllWrite file tree m walks n = MayAll (MayWrite file tree m) tree.movie.tracks walks n
+
+abbrev pub AllWriteOn : List ℕ → FileTree → MovieSeen → ℕ → List Walk → ℕ → ℕ → Type 0
+AllWriteOn file tree m n walks old new = (rest : ℕ) × MayAllWrite file tree m walks rest
+    × (new + rest ≤ old + n)
+
+-- they begin: to write takes no more than two walks over each track, and to read each `moof` twice
+-- more for each
+abbrev pub writing_steps : FileTree → ℕ
+writing_steps tree = 2 * walks_steps tree
+    + length tree.movie.tracks * (2 * moofs_steps tree.fragments)
+
+abbrev pub WriteAllBegin : List ℕ → FileTree → MovieSeen → List Walk → Type 0
+WriteAllBegin file tree m walks = (n : ℕ) × MayAllWrite file tree m walks n
+    × (n ≤ writing_steps tree)
+
+-- one of them has noted a piece
+pub record MayAllFinish (l : Leaving) (file : List ℕ) (tree : FileTree) (m : MovieSeen)
+    (track count : ℕ) (walks : List Walk) (n : ℕ) : Type 0 where
+  pub t : TrackTree
+  pub walk : Walk
+  pub is_walk : slice_get walks track ≡ Some walk
+  pub own : ℕ
+  pub others : ℕ
+  pub may : MayFinish l file tree m count t walk own
+  pub sum : n ≡ own + others
+  pub moved : (now : Walk) (rest : ℕ) → MayWrite file tree m t now rest
+      → MayAllWrite file tree m (slice_set walks track now) (rest + others)
+
+abbrev pub AllFinishOn : Leaving → List ℕ → FileTree → MovieSeen → ℕ → ℕ → ℕ → List Walk → ℕ → ℕ
+    → Type 0
+AllFinishOn l file tree m track count n walks old new = (rest : ℕ)
+    × MayAllFinish l file tree m track count walks rest × (new + rest ≤ old + n)

@@ -13,12 +13,13 @@ use Rattle.mp4_present.specs.format.Reduced.{reduce}
 use Rattle.mp4_present.specs.declared.leaving.Leaving.{Leaving}
 use Rattle.mp4_present.specs.format.Denotes.{FileTree, presentation_of}
 use Rattle.mp4_present.specs.words.Joined.{sample_bytes}
-use Rattle.mp4_present.specs.words.Movies.{MovieSeen, IsWalkOf}
+use Rattle.mp4_present.specs.words.Movies.{MovieSeen, IsWalkOf, mark_of}
 use Rattle.mp4_present.specs.words.OpenedMovie.{IsOpenedAs}
 use Rattle.mp4_present.specs.format.Presentation.{Presentation, heads, movie_length}
 use Rattle.mp4_present.specs.declared.walks.Walk.{Walk}
 use Rattle.mp4_tables.specs.declared.sample.SampleAt.{SampleAt}
 use Rattle.mp4_plan.specs.words.ComingLess.{ComesLess, left_samples}
+use Rattle.mp4_plan.specs.words.GoneOn.{ComesMarked}
 use Rattle.mp4_plan.specs.words.Sizes.{moof_sizes}
 use Rattle.mp4_plan.specs.format.Pieces.{Piece, pieces}
 use Rattle.mp4_head.specs.words.Seen.{movie_seen, tracks_seen}
@@ -27,7 +28,7 @@ use Rattle.mp4_plan.specs.words.Stretches.{Tells}
 use Rattle.mp4_plan.specs.words.Taken.{piece_front, row_seen}
 use Rattle.mp4_plan.specs.declared.moof_front.PieceHead.{PieceHead}
 use Rattle.mp4_plan.specs.declared.planner.Planned.{Planned}
-use Rattle.mp4_plan.specs.words.Gathering.{planned_of, piece_fed, piece_from, samples_after}
+use Rattle.mp4_plan.specs.words.Gathering.{planned_of, piece_fed, piece_from}
 use Rattle.mp4_plan.specs.declared.schedule.Turn.{Turn}
 use Rattle.mp4_plan.specs.declared.writer.Noted.{Noted}
 use Rattle.mp4_plan.specs.declared.writer.Plan.{Plan}
@@ -41,11 +42,9 @@ pub record AreWalksOf (m : MovieSeen) (walks : List Walk) : Type 0 where
 
 -- a writer of this movie
 pub record IsWriterOf (m : MovieSeen) (w : Writer) : Type 0 where
-  pub planning : AreWalksOf m w.planning.items
-  pub copying : AreWalksOf m w.copying.items
+  pub walks : AreWalksOf m w.walks.items
   pub few : length w.rows.items ≤ 2 ^ 24
   pub nexts : length w.nexts.items ≡ length m.tracks
-  pub behind : length w.behind.items ≡ length m.tracks
 
 -- Why what was read before is not made again: there is no memory, or the bytes are others.
 abbrev pub RefusesMemory : Refusal → Type 0
@@ -91,6 +90,13 @@ abbrev pub AllBegin : Leaving → List ℕ → FileTree → MovieSeen → List W
 AllBegin l file tree m walks = AllCome l file tree m tree.movie.tracks walks
     (map (left_samples l tree) tree.movie.tracks)
 
+-- each of these walks has marked where it stands, before so many samples
+abbrev pub AreMarked : List Walk → List (List SampleAt) → Type 0
+AreMarked [] [] = Unit {0}
+AreMarked (w ∷ walks) (samples ∷ more) = (w.mark ≡ mark_of w (length samples))
+    × AreMarked walks more
+AreMarked _ _ = ⊥
+
 -- the most samples of a piece
 abbrev pub longest_piece : List Piece → ℕ
 longest_piece pieces = fold (λ most (piece : Piece). max most (length piece.samples)) 0 pieces
@@ -112,23 +118,20 @@ pub record IsReady (file : List ℕ) (tree : FileTree) (m : MovieSeen) (w : Writ
       ≡ head_of_normal (reduce w.leaving (presentation_of file tree))
   pub rows : length w.rows.items
       ≡ longest_piece (pieces (reduce w.leaving (presentation_of file tree)))
-  pub planning : AllBegin w.leaving file tree m w.planning.items
-  pub copying : AllBegin w.leaving file tree m w.copying.items
-  pub behind : AllByRecursion (λ (n : ℕ). n ≡ 0) w.behind.items
+  pub walks : AllBegin w.leaving file tree m w.walks.items
+  pub marked : AreMarked w.walks.items (map (left_samples w.leaving tree) tree.movie.tracks)
 
--- What was noted at a turn, of a track of which these samples come: a piece of them, and its walk
--- stands behind it.
-pub record HasNoted (l : Leaving) (file : List ℕ) (tree : FileTree) (t : TrackTree) (m : MovieSeen)
-    (turn : Turn) (sequence id : ℕ) (left : List SampleAt) (before after : Writer)
-    (n : Noted) : Type 0 where
+-- What was noted at a turn, of a track of which these samples come: a piece of them. Its walk can
+-- go back to where it stood.
+pub record HasNoted (file : List ℕ) (tree : FileTree) (t : TrackTree) (m : MovieSeen) (turn : Turn)
+    (sequence id : ℕ) (left : List SampleAt) (before after : Writer) (n : Noted) : Type 0 where
   pub planned : n.planned ≡ planned_of (piece_fed (piece_from turn.end) left).gathered
   pub head : n.head ≡ turn_head sequence id n.planned.count (slice_get left 0)
-  pub next : n.next ≡ slice_get (samples_after (piece_from turn.end) left) 0
   pub rows : take n.planned.count after.rows.items ≡ map row_seen (take n.planned.count left)
   pub walk : Walk
-  pub planning : after.planning.items ≡ slice_set before.planning.items turn.track walk
-  pub nexts : after.nexts.items ≡ slice_set before.nexts.items turn.track n.next
-  pub comes : ComesLess l file tree t m walk (samples_after (piece_from turn.end) left)
+  pub walks : after.walks.items ≡ slice_set before.walks.items turn.track walk
+  pub comes : ComesMarked before.leaving file tree t m walk n.planned.count left
+  pub none : n.planned.count ≡ 0 → walk.mark ≡ mark_of walk (length left)
   pub stretches : Tells after.stretches (take n.planned.count left)
 
 -- what is written of a piece, by what was planned of its samples
@@ -141,38 +144,27 @@ abbrev pub turn_bytes : List ℕ → Option PieceHead → Planned → List Group
 turn_bytes file None p keys samples = []
 turn_bytes file (Some head) p keys samples = bytes_of_piece file head p keys samples
 
--- So many samples come in a walk that were copied without it, and then these.
-pub record ComesBehind (l : Leaving) (file : List ℕ) (tree : FileTree) (t : TrackTree)
-    (m : MovieSeen) (walk : Walk) (behind : ℕ) (samples : List SampleAt) : Type 0 where
-  pub copied : List SampleAt
-  pub many : length copied ≡ behind
-  pub comes : ComesLess l file tree t m walk (copied ++ samples)
-  pub few : behind + length samples ≤ 2 ^ 24
-
 -- The samples of a track that are to be copied were noted, so many of them: their rows, and where
 -- their bytes lie.
-pub record IsNoted (l : Leaving) (file : List ℕ) (tree : FileTree) (m : MovieSeen)
-    (track count : ℕ) (samples : List SampleAt) (w : Writer) : Type 0 where
+pub record IsNoted (file : List ℕ) (tree : FileTree) (m : MovieSeen) (track count : ℕ)
+    (samples : List SampleAt) (w : Writer) : Type 0 where
   pub t : TrackTree
   pub walk : Walk
-  pub behind : ℕ
-  pub is_walk : slice_get w.copying.items track ≡ Some walk
-  pub is_behind : slice_get w.behind.items track ≡ Some behind
-  pub comes : ComesBehind l file tree t m walk behind samples
+  pub is_walk : slice_get w.walks.items track ≡ Some walk
+  pub comes : ComesMarked w.leaving file tree t m walk count samples
+  pub none : count ≡ 0 → walk.mark ≡ mark_of walk (length samples)
+  pub next : slice_get w.nexts.items track ≡ Some (slice_get samples 0)
   pub rows : take count w.rows.items ≡ map row_seen (take count samples)
   pub stretches : Tells w.stretches (take count samples)
 
--- so many samples of a track were copied, by its walk or without it
-abbrev pub HaveCopied : Leaving → List ℕ → FileTree → MovieSeen → ℕ → ℕ → List SampleAt → Writer
+-- so many samples of a track were copied, and its walk has marked where it stands before the next
+abbrev pub HaveCopied : List ℕ → FileTree → MovieSeen → TrackTree → ℕ → ℕ → List SampleAt → Writer
     → Writer → Type 0
-HaveCopied l file tree m track count samples before after =
-    (t : TrackTree) (walk : Walk) (behind : ℕ) → slice_get before.copying.items track ≡ Some walk
-    → slice_get before.behind.items track ≡ Some behind
-    → ComesBehind l file tree t m walk behind samples
-    → (next : Walk) × (later : ℕ)
-    × (after.copying.items ≡ slice_set before.copying.items track next)
-    × (after.behind.items ≡ slice_set before.behind.items track later)
-    × ComesBehind l file tree t m next later (drop count samples)
+HaveCopied file tree m t track count samples before after =
+    (next : Walk) × (after.walks.items ≡ slice_set before.walks.items track next)
+    × (after.nexts.items ≡ slice_set before.nexts.items track (slice_get (drop count samples) 0))
+    × ComesLess before.leaving file tree t m next (drop count samples)
+    × (next.mark ≡ mark_of next (length (drop count samples)))
 
 -- the next sample of each track
 abbrev pub firsts : List (List SampleAt) → List (Option SampleAt)

@@ -1,11 +1,12 @@
 -- A walk that goes back to where it has marked its place.
-use Rattle.std.specs.Prelude.{◌≡◌, ℕ, ◌*◌, ◌==◌, if◌then◌else◌, Bool, List, length, Option, None, Some, is_none, slice_get}
+use Rattle.std.specs.Prelude.{◌≡◌, ℕ, ◌+◌, ◌<◌, ◌==◌, ◌&&◌, nat_lt, if◌then◌else◌, Bool, List, [], ◌∷◌, ◌++◌, length, Option, None, Some, is_none, slice_get}
 use Rattle.mp4_frag.specs.format.Fragments.{FragmentTree}
 use Rattle.mp4_head.specs.format.Tree.{TrackTree}
-use Rattle.mp4_present.specs.words.SamplesComing.{StandsBefore, HoldsNext}
+use Rattle.mp4_present.specs.words.SamplesComing.{StandsBefore, HoldsNext, due_behind, samples_behind}
 use Rattle.mp4_present.specs.format.Denotes.{FileTree}
-use Rattle.mp4_present.specs.words.Movies.{MovieSeen, IsWalkOf, mark_of, moof_box}
-use Rattle.mp4_present.specs.words.WalkSteps.{moof_steps}
+use Rattle.mp4_present.specs.words.Movies.{MovieSeen, IsWalkOf, all_in_moof, mark_of, moof_box}
+use Rattle.mp4_present.specs.words.WalkSteps.{moof_steps, steps_to}
+use Rattle.mp4_present.specs.declared.track_info.TrackInfo.{TrackInfo}
 use Rattle.mp4_present.specs.declared.walks.Due.{Due}
 use Rattle.mp4_present.specs.declared.walks.Walk.{Walk}
 
@@ -37,10 +38,15 @@ pub record GoesBackTo (file : List ℕ) (tree : FileTree) (t : TrackTree) (m : M
   pub later : List FragmentTree
   pub stands : StandsBefore file tree t earlier later w
 
--- how many steps it takes to go back: where a `moof` has to be read again, a check and a way
--- through it
+-- how many steps it takes to go back: where a `moof` has to be read again, a way through it
 abbrev pub back_steps : Walk → Walk → ℕ
-back_steps begun w = if is_at_hand w then 0 else 2 * moof_steps (moof_box begun)
+back_steps begun w = if is_at_hand w then 0 else moof_steps (moof_box begun)
+
+-- what is due and left behind a `moof`
+pub record StandsBehind (tree : FileTree) (t : TrackTree) (earlier : List FragmentTree)
+    (next : FragmentTree) (later : List FragmentTree) (time many : ℕ) : Type 0 where
+  pub due : time ≡ due_behind tree t (earlier ++ next ∷ [])
+  pub left : many ≡ length (samples_behind tree t (earlier ++ next ∷ []) later)
 
 -- The mark is in this `moof`, which was the next of the walk where this was due.
 pub record HoldsMarked (file : List ℕ) (tree : FileTree) (t : TrackTree)
@@ -52,3 +58,34 @@ pub record HoldsMarked (file : List ℕ) (tree : FileTree) (t : TrackTree)
   pub next_is : w.mark.next ≡ begun.next
   pub is_track : slice_get tree.movie.tracks w.track ≡ Some t
   pub room : length w.bytes.items ≡ length begun.bytes.items
+  pub behind : StandsBehind tree t earlier next later w.mark.due w.mark.left
+
+-- ---- a mark in what is in hand
+
+-- the mark is a place of what is in hand
+abbrev pub IsMarkInHand : Walk → Type 0
+IsMarkInHand w = (w.next ≡ w.mark.next) × (is_none w.before ≡ is_none w.mark.before)
+
+-- the walk where it has marked its place, which marks where it stood
+abbrev pub turned_back : Walk → Walk
+turned_back w = record (set_back w) { mark = mark_of w w.mark.to_come }
+
+-- the mark is a place of what is in hand, and more was passed before it
+abbrev pub is_mark_farther : Walk → Bool
+is_mark_farther w = (w.next == w.mark.next) && nat_lt (steps_to w.place) (steps_to w.mark.place)
+
+-- the farther one of the walk's place and its mark
+abbrev pub farther : Walk → Walk
+farther w = if is_mark_farther w
+    then record (set_back w) { mark = mark_of (set_back w) w.mark.to_come } else w
+
+-- ---- a `moof` that was loaded
+
+-- The walk has loaded the `moof` in hand, and it holds samples of the track, as many as are left
+-- less behind it than before it.
+pub record HoldsSome (m : MovieSeen) (w : Walk) : Type 0 where
+  pub before : Due
+  pub is_before : w.before ≡ Some before
+  pub some : w.left < before.left
+  pub all : (info : TrackInfo) → slice_get m.tracks w.track ≡ Some info
+      → length (all_in_moof m w info before.time) + w.left ≡ before.left

@@ -8,6 +8,7 @@ use Rattle.mp4_present.specs.words.SamplesComing.{Comes}
 use Rattle.mp4_present.specs.words.Movies.{InHandOf}
 use Rattle.mp4_present.proofs.WayThrough.{takes_none}
 use Rattle.mp4_plan.proofs.CourseSteps.{hand_keeps, keeps_before, loads_before, most_before, fails_before, as_many}
+use Rattle.mp4_plan.proofs.WalksGone.{went_none, went_kept, went_loaded}
 use Rattle.mp4_plan.proofs.carrying.carry_piece.Goals as goal
 use Rattle.mp4_plan.proofs.carrying.carry_piece.Goals.{else-left-eq0-via-then-left-eq0+else-left-eq0-2, else-left-eq0-via-else-left-eq0, then-left-eq0-3-via-then-left-eq0-3, then-left-eq0-3-via-else-left-eq0-3+in_ok-load+then-not-branch}
 
@@ -29,6 +30,7 @@ loop-left-init g c = record {
   puts = refl;
   buffer = refl;
   carried = λ told tree t samples o h. (samples, (h, carried_none _ _ _ _ _));
+  went = went_none c.args.movie.now c.args.walk.now c.args.steps.now;
   takes = λ told tree t n o h. takes_none (g.S.Store.file c.args.store.now) tree t n c.args.steps.now c.args.walk.now h;
 }
 
@@ -65,6 +67,10 @@ loop-left-preserved g c =
           ((rw (i.honesty, i.file) at e.bytes) told) c.keep.ensures.place in
           let is_hand = subst (λ w. InHandOf m w later) (sym c.keep.ensures.place) (hand_kept m c.loop-left.walk c.in_hand-hand.result later place c.in_hand-hand.ensures.hand e.later c.place-place.ensures) in
           next_carried file m c.args.walk.now c.keep.new.self c.load.new.self _ _ _ _ c.args.load c.in_ok-left.left later c.in_ok-load.field-0 on is_hand (e.ends (search rules)) ((rw (e.honesty, i.honesty, e.file, i.file) at l.loaded) told) (search rules);
+      went =
+          let m = c.args.movie.now in
+          let more = l.next (search rules) in
+          went_loaded m c.args.walk.now c.keep.new.self _ _ (went_kept m c.args.walk.now c.loop-left.walk _ _ i.went c.place-place.result c.keep.new.self _ c.keep.ensures.place c.keep.ensures.work) c.load.new.self _ l.mark l.grows more.0 (l.holds (search rules));
       takes = λ told.
           let file = g.S.Store.file c.args.store.now in
           let m = c.args.movie.now in
@@ -187,3 +193,6 @@ returns-then-left-eq0-3-clause-most g c told tree t n o h =
           (let all = loads_before file m c.args.walk.now c.keep.new.self _ _ kept w.load.new.self _ ((rw (e.honesty, i.honesty, e.file, i.file) at w.in_ok-load.ensures.work) told) in
           as_many _ _ _ w.steps-is (most_before file m c.args.walk.now w.load.new.self _ _ all tree t n o h))
     ]
+
+pub returns-then-left-eq0-2-clause-went : goal.returns-then-left-eq0-2-clause-went
+returns-then-left-eq0-2-clause-went g c = went_kept c.args.movie.now c.args.walk.now c.loop-left.walk _ _ c.loop-left.invariant.went c.place-place.result c.keep.new.self _ c.keep.ensures.place c.keep.ensures.work

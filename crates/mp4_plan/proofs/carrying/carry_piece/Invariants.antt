@@ -4,6 +4,7 @@ use Rattle.mp4_present.specs.words.Carried.{waiting}
 use Rattle.mp4_present.specs.words.Movies.{IsWalkOf}
 use Rattle.mp4_plan.proofs.PieceCarried.{CarriesOn}
 use Rattle.mp4_present.proofs.WayThrough.{TakesBefore}
+use Rattle.mp4_plan.specs.words.GoneOn.{WentOn}
 use Rattle.mp4_plan.proofs.carrying.carry_piece.Given as goal
 
 -- the walk goes on, and the bytes of the samples before are taken along
@@ -18,6 +19,7 @@ invariant-loop-left g l = record {
   buffer : vec_len l.carrier.buffer ≡ vec_len l.fn.carrier.buffer;
   carried : IsTrue (g.S.Store.is_honest l.fn.store)
       → CarriesOn (g.S.Store.file l.fn.store) l.movie l.fn.walk l.walk (g.K.Sink.contents l.fn.sink) (g.K.Sink.contents l.sink) (waiting l.fn.carrier) (waiting l.carrier) l.fn.load l.left;
+  went : WentOn l.movie l.fn.walk l.walk l.fn.steps l.steps;
   takes : IsTrue (g.S.Store.is_honest l.fn.store) → TakesBefore (g.S.Store.file l.fn.store) l.movie l.fn.walk l.walk l.fn.steps l.steps;
 }
 

@@ -17,4 +17,7 @@ returns-in_err-next-clause-most g c told tree t n o h =
 pub returns-clause-coming : goal.returns-clause-coming
 returns-clause-coming g c told tree t samples o h =
     let r = c.in_ok-next.ensures.coming told tree t h.samples o h.comes in
-    (record { samples = h.samples; comes = r.0; is_left = h.is_left }, c.reduced_next.ensures h.samples r.1 ∙ ap (λ (ss : List SampleAt). slice_get ss 0) (sym h.is_left))
+    (record { samples = h.samples; comes = r.0; is_left = h.is_left }, c.reduced_next.ensures.is h.samples r.1 ∙ ap (λ (ss : List SampleAt). slice_get ss 0) (sym h.is_left))
+
+pub returns-clause-some : goal.returns-clause-some
+returns-clause-some g c some = c.in_ok-next.ensures.some (λ none. some (c.reduced_next.ensures.none none))

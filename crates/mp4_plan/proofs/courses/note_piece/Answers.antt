@@ -8,6 +8,7 @@ use Rattle.mp4_plan.proofs.PlannerSteps.{planned_counts}
 use Rattle.mp4_plan.specs.declared.planner.Planned.{Planned}
 use Rattle.mp4_present.proofs.WayThrough.{takes_none}
 use Rattle.mp4_plan.proofs.CourseSteps.{keeps_before, loads_before, most_before, fails_before}
+use Rattle.mp4_plan.proofs.WalksGone.{went_none, went_kept, went_loaded, went_ended}
 use Rattle.mp4_plan.proofs.courses.note_piece.Goals as goal
 
 pub loop-planner-init : goal.loop-planner-init
@@ -22,6 +23,7 @@ loop-planner-init g c = record {
   fed = λ told. feeds_new c.args.leaving (g.S.Store.file c.args.store.now) c.args.movie.now c.args.walk.now c.args.end c.new-planner.result c.new-planner.ensures;
   noted = λ told. notes_new c.args.leaving (g.S.Store.file c.args.store.now) c.args.movie.now c.args.walk.now c.args.end c.new-planner.result c.args.rows.now c.new-planner.ensures;
   joined = λ told. joins_new c.args.leaving (g.S.Store.file c.args.store.now) c.args.movie.now c.args.walk.now c.args.end c.new-planner.result c.args.stretches.now c.new-planner.ensures;
+  went = went_none c.args.movie.now c.args.walk.now c.args.steps.now;
   takes = λ told tree t n o h. takes_none (g.S.Store.file c.args.store.now) tree t n c.args.steps.now c.args.walk.now h;
 }
 
@@ -77,6 +79,10 @@ loop-planner-preserved g c =
       joined = λ told. hand_joined c.args.leaving (g.S.Store.file c.args.store.now) c.args.movie.now c.args.walk.now c.loop-planner.walk _ _ c.loop-planner.planner c.note_hand-hand.new.planner c.note_hand-hand.result.stop c.note_hand-hand.result.place _ c.args.stretches.now _ _ (i.fed told)
           (i.joined told)
           c.note_hand-hand.ensures.fed;
+      went =
+          let m = c.args.movie.now in
+          let more = l.next (search rules) in
+          went_loaded m c.args.walk.now c.keep.new.self _ _ (went_kept m c.args.walk.now c.loop-planner.walk _ _ i.went c.note_hand-hand.result.place c.keep.new.self _ c.keep.ensures.place c.keep.ensures.work) c.load.new.self _ l.mark l.grows more.0 (l.holds (search rules));
       takes = λ told.
           let file = g.S.Store.file c.args.store.now in
           let m = c.args.movie.now in
@@ -173,3 +179,12 @@ returns-then-not-branch-clause-joined g c told tree t samples o h =
     let on = hand_joined c.args.leaving (g.S.Store.file c.args.store.now) c.args.movie.now c.args.walk.now c.loop-planner.walk _ _ c.loop-planner.planner c.note_hand-hand.new.planner c.note_hand-hand.result.stop c.note_hand-hand.result.place _ c.args.stretches.now _ _ (i.fed told) (i.joined told)
     c.note_hand-hand.ensures.fed in
     rw counted_now (on tree t samples o h)
+
+pub returns-in-Ended-clause-went : goal.returns-in-Ended-clause-went
+returns-in-Ended-clause-went g c = went_kept c.args.movie.now c.args.walk.now c.loop-planner.walk _ _ c.loop-planner.invariant.went c.note_hand-hand.result.place c.keep.new.self _ c.keep.ensures.place c.keep.ensures.work
+
+pub returns-then-not-branch-clause-went : goal.returns-then-not-branch-clause-went
+returns-then-not-branch-clause-went g c =
+    let m = c.args.movie.now in
+    let l = c.in_ok-load-in-Empty.ensures in
+    went_ended m c.args.walk.now c.keep.new.self _ _ (went_kept m c.args.walk.now c.loop-planner.walk _ _ c.loop-planner.invariant.went c.note_hand-hand.result.place c.keep.new.self _ c.keep.ensures.place c.keep.ensures.work) c.load.new.self _ (l.still (search rules)) l.grows

@@ -4,6 +4,7 @@ use Rattle.mp4_present.specs.words.Movies.{IsWalkOf}
 use Rattle.mp4_plan.specs.words.Gathering.{count_of, piece_from}
 use Rattle.mp4_plan.proofs.PieceFed.{FeedsOn, NotesOn, JoinsFor}
 use Rattle.mp4_present.proofs.WayThrough.{TakesBefore}
+use Rattle.mp4_plan.specs.words.GoneOn.{WentOn}
 use Rattle.mp4_plan.proofs.courses.note_piece.Given as goal
 
 -- the walk goes on, and the piece is fed and noted
@@ -19,6 +20,7 @@ invariant-loop-planner g l = record {
   fed : IsTrue (g.S.Store.is_honest l.fn.store) → FeedsOn l.leaving (g.S.Store.file l.fn.store) l.movie l.fn.walk l.walk (piece_from l.fn.end) l.planner;
   noted : IsTrue (g.S.Store.is_honest l.fn.store) → NotesOn l.leaving (g.S.Store.file l.fn.store) l.movie l.fn.walk l.planner l.rows;
   joined : IsTrue (g.S.Store.is_honest l.fn.store) → JoinsFor l.leaving (g.S.Store.file l.fn.store) l.movie l.fn.walk l.planner l.fn.stretches l.stretches;
+  went : WentOn l.movie l.fn.walk l.walk l.fn.steps l.steps;
   takes : IsTrue (g.S.Store.is_honest l.fn.store) → TakesBefore (g.S.Store.file l.fn.store) l.movie l.fn.walk l.walk l.fn.steps l.steps;
 }
 

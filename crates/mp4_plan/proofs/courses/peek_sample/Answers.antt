@@ -1,9 +1,11 @@
 use Rattle.std.proofs.Common.{rules, ◌≡◌, None, refl, sym, ap, ◌∙◌}
 use Rattle.std.specs.Prelude.{slice_get}
+use Rattle.mp4_present.specs.words.InHand.{left_in_hand}
 use Rattle.std.proofs.lemmas.Result.{err_from_is_err_and}
 use Rattle.mp4_plan.proofs.WalksOn.{none_left, loads_on, loads_none, ends_none, hand_none, peeked, by_test}
 use Rattle.mp4_present.proofs.WayThrough.{takes_none}
 use Rattle.mp4_plan.proofs.CourseSteps.{loads_before, fails_before}
+use Rattle.mp4_plan.proofs.WalksGone.{went_none, went_loaded, went_ended, hand_has}
 use Rattle.mp4_plan.proofs.courses.peek_sample.Goals as goal
 
 pub loop-walk-init : goal.loop-walk-init
@@ -15,6 +17,7 @@ loop-walk-init g c = record {
   reads = refl;
   first = (c.in_hand.result, (c.in_hand.ensures.hand, c.peek-next.ensures));
   coming = λ told tree t samples o h. h;
+  went = went_none c.args.movie.now c.args.walk.now c.args.steps.now;
   takes = λ told tree t n o h. takes_none (g.S.Store.file c.args.store.now) tree t n c.args.steps.now c.args.walk.now h;
 }
 
@@ -41,6 +44,7 @@ loop-walk-preserved g c =
           let k = i.coming told tree t samples o h in
           loads_on (g.S.Store.file c.args.store.now) c.args.movie.now tree t c.loop-walk.walk c.load.new.self samples k i.first.0 i.first.1.0 (none_left i.first.0 c.loop-walk.next i.first.1.1 is_none) c.in_ok-load.field-0 c.if-branch.true
           ((rw (i.honesty, i.file) at e.loaded) told tree t k.0 k.1 o k.3.0);
+      went = went_loaded c.args.movie.now c.args.walk.now c.loop-walk.walk _ _ i.went c.load.new.self _ e.mark e.grows (e.next c.if-branch.true).0 (e.holds c.if-branch.true);
       takes = λ told. loads_before (g.S.Store.file c.args.store.now) c.args.movie.now c.args.walk.now c.loop-walk.walk _ _ (i.takes told) c.load.new.self _ ((rw (i.honesty, i.file) at e.work) told);
     }
 
@@ -78,3 +82,13 @@ returns-else-branch-clause-work g c told tree t n o h =
 
 pub returns-after-loop-walk-clause-work : goal.returns-after-loop-walk-clause-work
 returns-after-loop-walk-clause-work g c told tree t n o h = c.loop-walk.invariant.takes told tree t n o h
+
+pub returns-else-branch-clause-went : goal.returns-else-branch-clause-went
+returns-else-branch-clause-went g c =
+    let e = c.in_ok-load.ensures in
+    went_ended c.args.movie.now c.args.walk.now c.loop-walk.walk _ _ c.loop-walk.invariant.went c.load.new.self _ (e.still c.if-branch.false) e.grows
+
+pub returns-after-loop-walk-clause-some : goal.returns-after-loop-walk-clause-some
+returns-after-loop-walk-clause-some g c some =
+    let f = c.loop-walk.invariant.first in
+    (f.0, f.1.0, hand_has c.loop-walk.next (left_in_hand f.0) f.1.1 some)

@@ -5,6 +5,7 @@ use Rattle.mp4_present.specs.words.Movies.{IsWalkOf, InHandOf}
 use Rattle.mp4_present.specs.declared.in_hand.InHand.{InHand}
 use Rattle.mp4_plan.proofs.WalksOn.{StillComes}
 use Rattle.mp4_present.proofs.WayThrough.{TakesBefore}
+use Rattle.mp4_plan.specs.words.GoneOn.{WentOn}
 use Rattle.mp4_plan.proofs.courses.peek_sample.Given as goal
 
 -- the walk goes on, before the same samples, and this is the next one in hand
@@ -17,6 +18,7 @@ invariant-loop-walk g l = record {
   reads : g.S.Store.read_failures l.store ≡ g.S.Store.read_failures l.fn.store;
   first : (hand : InHand) × (InHandOf l.movie l.walk hand × (l.next ≡ slice_get (left_in_hand hand) 0));
   coming : IsTrue (g.S.Store.is_honest l.fn.store) → StillComes (g.S.Store.file l.fn.store) l.movie l.fn.walk l.walk;
+  went : WentOn l.movie l.fn.walk l.walk l.fn.steps l.steps;
   takes : IsTrue (g.S.Store.is_honest l.fn.store) → TakesBefore (g.S.Store.file l.fn.store) l.movie l.fn.walk l.walk l.fn.steps l.steps;
 }
 

@@ -1,7 +1,7 @@
 use Rattle.std.proofs.Common.{◌≡◌, ℕ, List, length, take}
 use Rattle.mp4_tables.specs.declared.sample.SampleAt.{SampleAt}
-use Rattle.mp4_plan.specs.words.WriterSteps.{MayAllTake, AllTakeOn}
-use Rattle.mp4_plan.specs.words.Writers.{AreWalksOf, AllCome, WhereOpened, firsts}
+use Rattle.mp4_plan.specs.words.WriterSteps.{MayAllTake, AllTakeOn, MayAllWrite, AllWriteOn}
+use Rattle.mp4_plan.specs.words.Writers.{AreMarked, AreWalksOf, AllCome, WhereOpened, firsts}
 use Rattle.mp4_plan.specs.format.Held.{rooms}
 use Rattle.mp4_plan.proofs.writer.peek_each.Given as goal
 
@@ -18,4 +18,6 @@ invariant-loop-k g l = record {
   shown : WhereOpened (g.S.Store.is_honest l.fn.store) (g.S.Store.file l.fn.store) l.movie (λ tree. (lefts : List (List SampleAt)) → AllCome l.leaving (g.S.Store.file l.fn.store) tree l.movie tree.movie.tracks l.fn.walks lefts
       → AllCome l.leaving (g.S.Store.file l.fn.store) tree l.movie tree.movie.tracks l.walks lefts × (take l.k l.nexts ≡ firsts (take l.k lefts)));
   takes : WhereOpened (g.S.Store.is_honest l.fn.store) (g.S.Store.file l.fn.store) l.movie (λ tree. (n : ℕ) → MayAllTake (g.S.Store.file l.fn.store) tree tree.movie.tracks l.fn.walks n → AllTakeOn (g.S.Store.file l.fn.store) tree n l.walks l.fn.steps l.steps);
+  marked : (lefts : List (List SampleAt)) → AreMarked l.fn.walks lefts → AreMarked l.walks lefts;
+  writes : WhereOpened (g.S.Store.is_honest l.fn.store) (g.S.Store.file l.fn.store) l.movie (λ tree. (n : ℕ) → MayAllWrite (g.S.Store.file l.fn.store) tree l.movie l.fn.walks n → AllWriteOn (g.S.Store.file l.fn.store) tree l.movie n l.walks l.fn.steps l.steps);
 }

@@ -1,8 +1,8 @@
 use Rattle.std.proofs.Common.{rules, ◌<◌, [], ◌∷◌, length}
 use Rattle.mp4_present.specs.words.Movies.{IsWalkOf}
 use Rattle.mp4_plan.proofs.Filters.{all_append}
-use Rattle.mp4_plan.proofs.Planning.{one_room, one_begins, all_begin}
-use Rattle.mp4_plan.proofs.AllTake.{one_to_take, all_to_take}
+use Rattle.mp4_plan.proofs.Planning.{one_room, one_begins, all_begin, one_marked, all_marked, first_marked}
+use Rattle.mp4_plan.proofs.AllTake.{one_to_take, all_to_take, one_to_write, all_to_write}
 use Rattle.mp4_plan.proofs.writer.walks_of.Goals as goal
 
 pub loop-track-preserved : goal.loop-track-preserved
@@ -18,6 +18,8 @@ loop-track-preserved c =
       one_room c.loop-track.walks.items walk c.loop-track.track m.longest i.2 e.room,
       one_begins m c.loop-track.track c.loop-track.walks.items walk i.3 i.1 lt (λ file tree t o. e.coming file tree t o),
       one_to_take m c.loop-track.track c.loop-track.walks.items walk i.4 i.1 lt (λ file tree t o. e.may file tree t o),
+      one_marked m c.loop-track.track c.loop-track.walks.items walk i.5 lt e.mark,
+      one_to_write m c.loop-track.track c.loop-track.walks.items walk i.6 i.1 lt (first_marked m walk c.loop-track.track (λ file tree t o. e.coming file tree t o) lt e.mark) (λ file tree t o. e.may file tree t o),
     )
 
 pub returns-clause-begin : goal.returns-clause-begin
@@ -25,3 +27,9 @@ returns-clause-begin c = all_begin c.args.movie.now c.loop-track.track c.loop-tr
 
 pub returns-clause-may : goal.returns-clause-may
 returns-clause-may c = all_to_take c.args.movie.now c.loop-track.track c.loop-track.walks.items c.loop-track.invariant.4 (search rules)
+
+pub returns-clause-marked : goal.returns-clause-marked
+returns-clause-marked c = all_marked c.args.movie.now c.loop-track.track c.loop-track.walks.items c.loop-track.invariant.5 (search rules)
+
+pub returns-clause-writes : goal.returns-clause-writes
+returns-clause-writes c = all_to_write c.args.movie.now c.loop-track.track c.loop-track.walks.items c.loop-track.invariant.6 (search rules)

@@ -43,10 +43,9 @@ returns-clause-work g c = λ told tree o.
     let work = rw (c.in_ok-writer.ensures.honesty, c.in_ok-writer.ensures.file) at c.write.ensures.work in
     let plan = c.in_ok-writer.ensures.work told tree o in
     let may = c.in_ok-writer.ensures.may told tree o in
-    let planning = may.0.2 in
-    let copying = may.1.2 in
-    let own = work told tree o may.0.0 may.1.0 may.0.1 may.1.1 in
-    omega (arith, plan, planning, copying, own)
+    let writing = may.2 in
+    let own = work told tree o may.0 may.1 in
+    omega (arith, plan, writing, own)
 
 pub returns-clause-in_time : goal.returns-clause-in_time
 returns-clause-in_time g c = λ told tree o.

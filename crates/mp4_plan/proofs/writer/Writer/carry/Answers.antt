@@ -20,7 +20,7 @@ pub moof_front-front-requires : goal.moof_front-front-requires
 moof_front-front-requires g c = let n = c.requires.count in let few = c.requires.writer.few in c.sizes_of-sizes.ensures.small (omega (arith, n, few)) c.requires.rows
 
 pub returns-in_err-carry-clause-prefix : goal.returns-in_err-carry-clause-prefix
-returns-in_err-carry-clause-prefix g c told_honest tree o leaving samples noted_are info is apart =
+returns-in_err-carry-clause-prefix g c told_honest tree o samples noted_are info is apart =
     let e = err_from_is_err_and c.from_residual.result c.from_residual.ensures.1 in
     let file = g.S.Store.file c.args.store.now in
     let p = c.args.planned.now in
@@ -37,7 +37,7 @@ returns-in_err-carry-clause-prefix g c told_honest tree o leaving samples noted_
     (stop_one front (run_rows p noted) (groups_bytes noted p told) mdat bytes_there (g.K.Sink.contents c.args.sink.now) (g.K.Sink.contents c.carry.new.sink) (waiting c.args.self.now.carrier) c.in_err-carry.ensures.prefix) whole)
 
 pub returns-in_err-carry_run-clause-prefix : goal.returns-in_err-carry_run-clause-prefix
-returns-in_err-carry_run-clause-prefix g c told_honest tree o leaving samples noted_are info is apart =
+returns-in_err-carry_run-clause-prefix g c told_honest tree o samples noted_are info is apart =
     let e = err_from_is_err_and c.from_residual-in_err-carry_run.result c.from_residual-in_err-carry_run.ensures.1 in
     let file = g.S.Store.file c.args.store.now in
     let p = c.args.planned.now in
@@ -56,7 +56,7 @@ returns-in_err-carry_run-clause-prefix g c told_honest tree o leaving samples no
     c.in_ok-carry.ensures.bytes c.in_err-carry_run.ensures.prefix) whole)
 
 pub returns-in_err-carry_groups-clause-prefix : goal.returns-in_err-carry_groups-clause-prefix
-returns-in_err-carry_groups-clause-prefix g c told_honest tree o leaving samples noted_are info is apart =
+returns-in_err-carry_groups-clause-prefix g c told_honest tree o samples noted_are info is apart =
     let e = err_from_is_err_and c.from_residual-in_err-carry_groups.result c.from_residual-in_err-carry_groups.ensures.1 in
     let file = g.S.Store.file c.args.store.now in
     let p = c.args.planned.now in
@@ -75,7 +75,7 @@ returns-in_err-carry_groups-clause-prefix g c told_honest tree o leaving samples
     c.in_ok-carry.ensures.bytes c.in_ok-carry_run.ensures.bytes (c.in_err-carry_groups.ensures.prefix (subst AreApart (sym keys) apart))) whole)
 
 pub returns-in_err-carry-2-clause-prefix : goal.returns-in_err-carry-2-clause-prefix
-returns-in_err-carry-2-clause-prefix g c told_honest tree o leaving samples noted_are info is apart =
+returns-in_err-carry-2-clause-prefix g c told_honest tree o samples noted_are info is apart =
     let e = err_from_is_err_and c.from_residual-in_err-carry-2.result c.from_residual-in_err-carry-2.ensures.1 in
     let file = g.S.Store.file c.args.store.now in
     let p = c.args.planned.now in
@@ -94,7 +94,7 @@ returns-in_err-carry-2-clause-prefix g c told_honest tree o leaving samples note
     (c.in_ok-carry_groups.ensures.bytes (subst AreApart (sym keys) apart)) c.in_err-carry-2.ensures.prefix) whole)
 
 pub returns-clause-prefix : goal.returns-clause-prefix
-returns-clause-prefix g c told_honest tree o leaving samples noted_are info is apart =
+returns-clause-prefix g c told_honest tree o samples noted_are info is apart =
     let file = g.S.Store.file c.args.store.now in
     let p = c.args.planned.now in
     let there = get_or c.tracks.result.now c.args.track c.index-tracks-track.result in
@@ -106,15 +106,15 @@ returns-clause-prefix g c told_honest tree o leaving samples noted_are info is a
     let keys = ap (λ (t : TrackInfo). keys_seen t.keys) (sym c.index-tracks-track.is ∙ read_at c.args.movie.now.tracks c.args.track info c.index-tracks-track.result is (rw c.tracks.ensures at c.index-tracks-track.is)) in
     let whole = parts_are c.args.head p c.sizes_of-sizes.result (keys_seen info.keys) told (map row_seen (take p.count samples)) noted front mdat bytes_there (c.as_bytes.ensures ∙ c.moof_front-front.ensures) c.sizes_of-sizes.ensures.is keys (ap (take p.count) c.deref.ensures.value
     ∙ noted_are.rows) (c.bytes.ensures ∙ c.header-mdat.ensures) in
-    let here = noted_with leaving file tree c.args.movie.now c.args.track p.count samples c.args.self.now c.carry-2.new.self noted_are in
+    let here = noted_with file tree c.args.movie.now c.args.track p.count samples c.args.self.now c.carry-2.new.self noted_are in
     on_err _ _ c.carry_data.result
     (λ x. (front_as (g.K.Sink.contents c.args.sink.now) (g.K.Sink.contents c.carry_data.new.sink) (waiting c.args.self.now.carrier) _ _
     (stop_five front (run_rows p noted) (groups_bytes noted p told) mdat bytes_there (g.K.Sink.contents c.args.sink.now) (g.K.Sink.contents c.carry.new.sink) (g.K.Sink.contents c.carry_run.new.sink) (g.K.Sink.contents c.carry_groups.new.sink) (g.K.Sink.contents c.carry-2.new.sink)
     (g.K.Sink.contents c.carry_data.new.sink) (waiting c.args.self.now.carrier) (waiting c.carry.new.self) (waiting c.carry_run.new.carrier) (waiting c.carry_groups.new.carrier) (waiting c.carry-2.new.self) (waiting c.carry_data.new.self.carrier)
-    c.in_ok-carry.ensures.bytes c.in_ok-carry_run.ensures.bytes (c.in_ok-carry_groups.ensures.bytes (subst AreApart (sym keys) apart)) c.in_ok-carry-2.ensures.bytes x) whole)) (c.carry_data.ensures.prefix told_honest tree o leaving samples here)
+    c.in_ok-carry.ensures.bytes c.in_ok-carry_run.ensures.bytes (c.in_ok-carry_groups.ensures.bytes (subst AreApart (sym keys) apart)) c.in_ok-carry-2.ensures.bytes x) whole)) (c.carry_data.ensures.prefix told_honest tree o samples here)
 
 pub returns-clause-put : goal.returns-clause-put
-returns-clause-put g c told_honest tree o leaving samples noted_are info is apart =
+returns-clause-put g c told_honest tree o samples noted_are info is apart =
     let file = g.S.Store.file c.args.store.now in
     let p = c.args.planned.now in
     let there = get_or c.tracks.result.now c.args.track c.index-tracks-track.result in
@@ -126,39 +126,43 @@ returns-clause-put g c told_honest tree o leaving samples noted_are info is apar
     let keys = ap (λ (t : TrackInfo). keys_seen t.keys) (sym c.index-tracks-track.is ∙ read_at c.args.movie.now.tracks c.args.track info c.index-tracks-track.result is (rw c.tracks.ensures at c.index-tracks-track.is)) in
     let whole = parts_are c.args.head p c.sizes_of-sizes.result (keys_seen info.keys) told (map row_seen (take p.count samples)) noted front mdat bytes_there (c.as_bytes.ensures ∙ c.moof_front-front.ensures) c.sizes_of-sizes.ensures.is keys (ap (take p.count) c.deref.ensures.value
     ∙ noted_are.rows) (c.bytes.ensures ∙ c.header-mdat.ensures) in
-    let here = noted_with leaving file tree c.args.movie.now c.args.track p.count samples c.args.self.now c.carry-2.new.self noted_are in
+    let here = noted_with file tree c.args.movie.now c.args.track p.count samples c.args.self.now c.carry-2.new.self noted_are in
     on_ok _ _ c.carry_data.result
     (λ x. goes_on_as (g.K.Sink.contents c.args.sink.now) (g.K.Sink.contents c.carry_data.new.sink) (waiting c.args.self.now.carrier) (waiting c.carry_data.new.self.carrier) _ _
     (go_five front (run_rows p noted) (groups_bytes noted p told) mdat bytes_there (g.K.Sink.contents c.args.sink.now) (g.K.Sink.contents c.carry.new.sink) (g.K.Sink.contents c.carry_run.new.sink) (g.K.Sink.contents c.carry_groups.new.sink) (g.K.Sink.contents c.carry-2.new.sink)
     (g.K.Sink.contents c.carry_data.new.sink) (waiting c.args.self.now.carrier) (waiting c.carry.new.self) (waiting c.carry_run.new.carrier) (waiting c.carry_groups.new.carrier) (waiting c.carry-2.new.self) (waiting c.carry_data.new.self.carrier)
-    c.in_ok-carry.ensures.bytes c.in_ok-carry_run.ensures.bytes (c.in_ok-carry_groups.ensures.bytes (subst AreApart (sym keys) apart)) c.in_ok-carry-2.ensures.bytes x) whole) (c.carry_data.ensures.put told_honest tree o leaving samples here)
+    c.in_ok-carry.ensures.bytes c.in_ok-carry_run.ensures.bytes (c.in_ok-carry_groups.ensures.bytes (subst AreApart (sym keys) apart)) c.in_ok-carry-2.ensures.bytes x) whole) (c.carry_data.ensures.put told_honest tree o samples here)
 
 pub returns-clause-copied : goal.returns-clause-copied
-returns-clause-copied g c told_honest tree o leaving samples many = c.carry_data.ensures.copied told_honest tree o leaving samples many
+unfolding noted_with
+returns-clause-copied g c told_honest tree o samples noted_are =
+    let file = g.S.Store.file c.args.store.now in
+    let here = noted_with file tree c.args.movie.now c.args.track c.args.planned.now.count samples c.args.self.now c.carry-2.new.self noted_are in
+    c.carry_data.ensures.copied told_honest tree o samples here
 
 pub returns-clause-unchanged : goal.returns-clause-unchanged
-returns-clause-unchanged g c told_honest tree o leaving samples noted_are few bytes lie =
+returns-clause-unchanged g c told_honest tree o samples noted_are few bytes lie =
     let file = g.S.Store.file c.args.store.now in
-    let here = noted_with leaving file tree c.args.movie.now c.args.track c.args.planned.now.count samples c.args.self.now c.carry-2.new.self noted_are in
-    c.carry_data.ensures.unchanged told_honest tree o leaving samples here few bytes lie
+    let here = noted_with file tree c.args.movie.now c.args.track c.args.planned.now.count samples c.args.self.now c.carry-2.new.self noted_are in
+    c.carry_data.ensures.unchanged told_honest tree o samples here few bytes lie
 
 pub returns-in_err-carry-clause-unchanged : goal.returns-in_err-carry-clause-unchanged
-returns-in_err-carry-clause-unchanged g c told_honest tree o leaving samples noted_are few bytes lie =
+returns-in_err-carry-clause-unchanged g c told_honest tree o samples noted_are few bytes lie =
     let e = err_from_is_err_and c.from_residual.result c.from_residual.ensures.1 in
     rw (e.1, e.2) (put_unchanged _ _ _ c.in_err-carry.ensures.refusal)
 
 pub returns-in_err-carry_run-clause-unchanged : goal.returns-in_err-carry_run-clause-unchanged
-returns-in_err-carry_run-clause-unchanged g c told_honest tree o leaving samples noted_are few bytes lie =
+returns-in_err-carry_run-clause-unchanged g c told_honest tree o samples noted_are few bytes lie =
     let e = err_from_is_err_and c.from_residual-in_err-carry_run.result c.from_residual-in_err-carry_run.ensures.1 in
     rw (e.1, e.2) (put_unchanged _ _ _ c.in_err-carry_run.ensures.refusal)
 
 pub returns-in_err-carry_groups-clause-unchanged : goal.returns-in_err-carry_groups-clause-unchanged
-returns-in_err-carry_groups-clause-unchanged g c told_honest tree o leaving samples noted_are few bytes lie =
+returns-in_err-carry_groups-clause-unchanged g c told_honest tree o samples noted_are few bytes lie =
     let e = err_from_is_err_and c.from_residual-in_err-carry_groups.result c.from_residual-in_err-carry_groups.ensures.1 in
     rw (e.1, e.2) (put_unchanged _ _ _ c.in_err-carry_groups.ensures.refusal)
 
 pub returns-in_err-carry-2-clause-unchanged : goal.returns-in_err-carry-2-clause-unchanged
-returns-in_err-carry-2-clause-unchanged g c told_honest tree o leaving samples noted_are few bytes lie =
+returns-in_err-carry-2-clause-unchanged g c told_honest tree o samples noted_are few bytes lie =
     let e = err_from_is_err_and c.from_residual-in_err-carry-2.result c.from_residual-in_err-carry-2.ensures.1 in
     rw (e.1, e.2) (put_unchanged _ _ _ c.in_err-carry-2.ensures.refusal)
 

@@ -14,7 +14,7 @@ use Rattle.mp4_plan.proofs.PieceWritten.{IsFew}
 use Rattle.mp4_plan.proofs.TurnTaken.{turns_end}
 use Rattle.mp4_plan.proofs.WritesOn.{stopped, all_put, not_all_put, begins, head_stops, head_put, is_first}
 use Rattle.mp4_plan.proofs.WriterTurns.{note_lacks, carry_stops, carry_lacks, pass_lacks, turn_goes}
-use Rattle.mp4_plan.proofs.StepsOn.{both_begin, both_taken, note_within, copy_within, turn_within}
+use Rattle.mp4_plan.proofs.StepsOn.{all_written, write_then_stop, turn_then, turn_then_stop}
 use Rattle.mp4_plan.proofs.writer.Writer.write.Goals as goal
 
 pub returns-in_err-carry-clause-prefix : goal.returns-in_err-carry-clause-prefix
@@ -30,31 +30,32 @@ returns-in_err-peek_each-clause-prefix g c told tree o ready =
 pub returns-in_err-peek_each-clause-unchanged : goal.returns-in_err-peek_each-clause-unchanged
 returns-in_err-peek_each-clause-unchanged g c told tree o ready =
     let e = err_from_is_err_and c.from_residual-in_err-peek_each.result c.from_residual-in_err-peek_each.ensures.1 in
-    rw (e.1, e.2) (c.in_err-peek_each.ensures.unchanged told tree o (map (left_samples c.args.self.now.leaving tree) tree.movie.tracks) (rw c.as_mut_slice-walks.ensures.value ready.planning))
+    rw (e.1, e.2) (c.in_err-peek_each.ensures.unchanged told tree o (map (left_samples c.args.self.now.leaving tree) tree.movie.tracks) (rw c.as_mut_slice-walks.ensures.value ready.walks))
 
 pub loop-turn-init : goal.loop-turn-init
 loop-turn-init g c =
     let w = c.args.self.now in
     let e = c.in_ok-peek_each.ensures in
     let count = e.walks.count in
-    let planned = c.requires.planning.count in
-    let len = w.planning.ok.0 in
-    let many : length c.peek_each.new.walks ≡ w.planning.len = omega (arith, count, planned, len) in
-    let walks = with_items_is w.planning c.peek_each.new.walks many in
+    let each_walk = c.requires.walks.count in
+    let len = w.walks.ok.0 in
+    let many : length c.peek_each.new.walks ≡ w.walks.len = omega (arith, count, each_walk, len) in
+    let walks = with_items_is w.walks c.peek_each.new.walks many in
     let each : length c.peek_each.new.nexts ≡ w.nexts.len = search rules in
     let nexts = with_items_is w.nexts c.peek_each.new.nexts each in
     let next_count = c.requires.nexts in
     let next_len = w.nexts.ok.0 in
     let next_many = ap length nexts in
     record {
-      writer = record { planning = rw walks e.walks; copying = c.requires.copying; few = c.requires.few; nexts = omega (arith, each, next_count, next_len, next_many); behind = c.requires.behind };
+      writer = record { walks = rw walks e.walks; few = c.requires.few; nexts = omega (arith, each, next_count, next_len, next_many) };
       held =
           let room = c.in_ok-carry.ensures.room in
           let old = w.carrier.buffer.ok.0 in
           let new = c.carry.new.self.buffer.ok.0 in
           let rooms_are = e.rooms in
-          let planning = ap rooms walks ∙ rooms_are ∙ ap rooms c.as_mut_slice-walks.ensures.value in
-          omega (arith, room, old, new, planning);
+          let own = ap rooms walks ∙ rooms_are ∙ ap rooms c.as_mut_slice-walks.ensures.value in
+          omega (arith, room, old, new, own);
+      leaving = refl;
       tracks = rw c.tracks-tracks.ensures at c.new-schedule.ensures.tracks;
       honesty = e.honesty;
       file = e.file;
@@ -65,16 +66,15 @@ loop-turn-init g c =
           let file = g.S.Store.file c.args.store.now in
           let m = c.args.movie.now in
           let lefts = map (left_samples c.args.self.now.leaving tree) tree.movie.tracks in
-          let shown = e.shown told tree o lefts (rw c.as_mut_slice-walks.ensures.value ready.planning) in
+          let shown = e.shown told tree o lefts (rw c.as_mut_slice-walks.ensures.value ready.walks) in
+          let marked = e.marked lefts (rw c.as_mut_slice-walks.ensures.value ready.marked) in
           let time = c.first_time.ensures lefts (c.as_slice-2.ensures.value ∙ nexts ∙ shown.0) in
           let tracks = c.tracks-tracks.ensures in
           let first = is_first c.args.self.now.leaving file tree m c.new-schedule.result c.first_time.result o (rw tracks at c.new-schedule.ensures.tracks) (rw tracks at c.new-schedule.ensures.first) c.new-schedule.ensures.starts (rw tracks at c.new-schedule.ensures.left) time in
-          begins c.args.self.now.leaving file tree m c.new-schedule.result w (with_items w.planning c.peek_each.new.walks).items w.copying.items w.behind.items (with_items w.nexts c.peek_each.new.nexts).items (g.K.Sink.contents c.args.sink.now) (g.K.Sink.contents c.carry.new.sink)
+          begins c.args.self.now.leaving file tree m c.new-schedule.result w (with_items w.walks c.peek_each.new.walks).items (with_items w.nexts c.peek_each.new.nexts).items (g.K.Sink.contents c.args.sink.now) (g.K.Sink.contents c.carry.new.sink)
           (waiting c.carry.new.self) o ready refl first
-          (rw walks shown.1) ready.copying ready.behind (nexts ∙ shown.0) (rw c.as_slice.ensures.value at c.in_ok-carry.ensures.bytes);
-      within = λ told tree o n k plan copy.
-          let on = e.work told tree o n (rw c.as_mut_slice-walks.ensures.value plan) in
-          both_begin (g.S.Store.file c.args.store.now) tree (with_items w.planning c.peek_each.new.walks).items w.copying.items n k _ _ (rw walks on) copy;
+          (rw walks shown.1) (rw walks marked) (nexts ∙ shown.0) (rw c.as_slice.ensures.value at c.in_ok-carry.ensures.bytes);
+      within = λ told tree o n may. rw walks (e.writes told tree o n (rw c.as_mut_slice-walks.ensures.value may));
     }
 
 pub returns-in_err-noted-clause-prefix : goal.returns-in_err-noted-clause-prefix
@@ -88,7 +88,7 @@ returns-in_err-noted-clause-prefix g c told tree o ready =
     let h = i.on told tree o ready in
     let before = g.K.Sink.contents c.args.sink.now in
     let after = g.K.Sink.contents c.loop-turn.sink in
-    rw e.1 (stopped c.args.self.now.leaving file tree m s c.loop-turn.sequence w.planning.items w.copying.items w.behind.items w.nexts.items (length w.rows.items) before after (waiting w.carrier) h)
+    rw e.1 (stopped c.args.self.now.leaving file tree m s c.loop-turn.sequence w.walks.items w.nexts.items (length w.rows.items) before after (waiting w.carrier) h)
 
 pub returns-in_err-noted-clause-unchanged : goal.returns-in_err-noted-clause-unchanged
 returns-in_err-noted-clause-unchanged g c told tree o ready =
@@ -103,7 +103,7 @@ returns-in_err-noted-clause-unchanged g c told tree o ready =
     let after = g.K.Sink.contents c.loop-turn.sink in
     let here = c.in-Some.ensures.track in
     let ends : (info : TrackInfo) → slice_get m.tracks s.track ≡ Some info → c.in-Some.turn.end ≡ turn_end s info.timescale = λ info is. c.in-Some.ensures.end info (rw c.tracks-tracks.ensures is) in
-    rw (e.1, e.2) (note_lacks c.args.self.now.leaving file tree m o s c.loop-turn.sequence w before after h c.in-Some.turn here ends i.tracks i.writer _ ((rw (i.honesty, i.file) at c.in_err-noted.ensures.unchanged) told tree o))
+    rw (e.1, e.2) (note_lacks c.args.self.now.leaving file tree m o s c.loop-turn.sequence w before after h c.in-Some.turn here ends i.tracks i.writer i.leaving _ ((rw (i.honesty, i.file) at c.in_err-noted.ensures.unchanged) told tree o))
 
 pub returns-in_err-carry_turn-clause-prefix : goal.returns-in_err-carry_turn-clause-prefix
 returns-in_err-carry_turn-clause-prefix g c told tree o ready =
@@ -121,11 +121,11 @@ returns-in_err-carry_turn-clause-prefix g c told tree o ready =
     let noted = (rw (i.honesty, i.file) at c.in_ok-noted.ensures.noted) told tree o in
     let few : IsFew c.in_ok-noted.noted.planned = record { count = (let n = c.in_ok-noted.ensures.few.0 in let r = i.writer.few in omega (arith, n, r)); rows = c.in_ok-noted.ensures.few.2 } in
     let is_id : (info : TrackInfo) → slice_get m.tracks s.track ≡ Some info
-    → (get_or c.tracks-tracks.result.now c.in-Some.turn.track c.index-tracks-turn.result).id
-    ≡ info.id = λ info is. ap (λ (x : TrackInfo). x.id) (sym c.index-tracks-turn.is ∙ read_at m.tracks s.track info c.index-tracks-turn.result is (rw (here.0, c.tracks-tracks.ensures) at c.index-tracks-turn.is)) in
-    rw e.1 (carry_stops c.args.self.now.leaving file tree m o s c.loop-turn.sequence w before after h c.in-Some.turn here ends i.tracks i.writer c.note_turn.new.self c.in_ok-noted.noted
-    (get_or c.tracks-tracks.result.now c.in-Some.turn.track c.index-tracks-turn.result).id noted c.in_ok-noted.ensures.keeps few is_id
-    (g.K.Sink.contents c.carry_turn.new.sink) ((rw (c.in_ok-noted.ensures.honesty, c.in_ok-noted.ensures.file, i.honesty, i.file) at c.in_err-carry_turn.ensures.prefix) told tree o c.args.self.now.leaving))
+    → (get_or c.tracks-tracks.result.now c.in-Some.turn.track c.index-tracks-track.result).id
+    ≡ info.id = λ info is. ap (λ (x : TrackInfo). x.id) (sym c.index-tracks-track.is ∙ read_at m.tracks s.track info c.index-tracks-track.result is (rw (here.0, c.tracks-tracks.ensures) at c.index-tracks-track.is)) in
+    rw e.1 (carry_stops c.args.self.now.leaving file tree m o s c.loop-turn.sequence w before after h c.in-Some.turn here ends i.tracks i.writer i.leaving c.note_turn.new.self c.in_ok-noted.noted
+    (get_or c.tracks-tracks.result.now c.in-Some.turn.track c.index-tracks-track.result).id noted c.in_ok-noted.ensures.keeps few is_id
+    (g.K.Sink.contents c.carry_turn.new.sink) ((rw (c.in_ok-noted.ensures.honesty, c.in_ok-noted.ensures.file, i.honesty, i.file) at c.in_err-carry_turn.ensures.prefix) told tree o))
 
 pub returns-in_err-carry_turn-clause-unchanged : goal.returns-in_err-carry_turn-clause-unchanged
 returns-in_err-carry_turn-clause-unchanged g c told tree o ready =
@@ -143,12 +143,12 @@ returns-in_err-carry_turn-clause-unchanged g c told tree o ready =
     let noted = (rw (i.honesty, i.file) at c.in_ok-noted.ensures.noted) told tree o in
     let few : IsFew c.in_ok-noted.noted.planned = record { count = (let n = c.in_ok-noted.ensures.few.0 in let r = i.writer.few in omega (arith, n, r)); rows = c.in_ok-noted.ensures.few.2 } in
     let is_id : (info : TrackInfo) → slice_get m.tracks s.track ≡ Some info
-    → (get_or c.tracks-tracks.result.now c.in-Some.turn.track c.index-tracks-turn.result).id
-    ≡ info.id = λ info is. ap (λ (x : TrackInfo). x.id) (sym c.index-tracks-turn.is ∙ read_at m.tracks s.track info c.index-tracks-turn.result is (rw (here.0, c.tracks-tracks.ensures) at c.index-tracks-turn.is)) in
+    → (get_or c.tracks-tracks.result.now c.in-Some.turn.track c.index-tracks-track.result).id
+    ≡ info.id = λ info is. ap (λ (x : TrackInfo). x.id) (sym c.index-tracks-track.is ∙ read_at m.tracks s.track info c.index-tracks-track.result is (rw (here.0, c.tracks-tracks.ensures) at c.index-tracks-track.is)) in
     rw (e.1, e.2)
-    (carry_lacks c.args.self.now.leaving file tree m o s c.loop-turn.sequence w before after h c.in-Some.turn here ends i.tracks i.writer c.note_turn.new.self c.in_ok-noted.noted
-    (get_or c.tracks-tracks.result.now c.in-Some.turn.track c.index-tracks-turn.result).id noted c.in_ok-noted.ensures.keeps few is_id _
-    ((rw (c.in_ok-noted.ensures.honesty, c.in_ok-noted.ensures.file, i.honesty, i.file) at c.in_err-carry_turn.ensures.unchanged) told tree o c.args.self.now.leaving))
+    (carry_lacks c.args.self.now.leaving file tree m o s c.loop-turn.sequence w before after h c.in-Some.turn here ends i.tracks i.writer i.leaving c.note_turn.new.self c.in_ok-noted.noted
+    (get_or c.tracks-tracks.result.now c.in-Some.turn.track c.index-tracks-track.result).id noted c.in_ok-noted.ensures.keeps few is_id _
+    ((rw (c.in_ok-noted.ensures.honesty, c.in_ok-noted.ensures.file, i.honesty, i.file) at c.in_err-carry_turn.ensures.unchanged) told tree o))
 
 pub returns-in_err-pass-clause-prefix : goal.returns-in_err-pass-clause-prefix
 returns-in_err-pass-clause-prefix g c told tree o ready =
@@ -166,13 +166,14 @@ returns-in_err-pass-clause-prefix g c told tree o ready =
     let noted = (rw (i.honesty, i.file) at c.in_ok-noted.ensures.noted) told tree o in
     let few : IsFew c.in_ok-noted.noted.planned = record { count = (let n = c.in_ok-noted.ensures.few.0 in let r = i.writer.few in omega (arith, n, r)); rows = c.in_ok-noted.ensures.few.2 } in
     let is_id : (info : TrackInfo) → slice_get m.tracks s.track ≡ Some info
-    → (get_or c.tracks-tracks.result.now c.in-Some.turn.track c.index-tracks-turn.result).id
-    ≡ info.id = λ info is. ap (λ (x : TrackInfo). x.id) (sym c.index-tracks-turn.is ∙ read_at m.tracks s.track info c.index-tracks-turn.result is (rw (here.0, c.tracks-tracks.ensures) at c.index-tracks-turn.is)) in
-    let put = (rw (c.in_ok-noted.ensures.honesty, c.in_ok-noted.ensures.file, i.honesty, i.file) at c.in_ok-carry_turn.ensures.put) told tree o c.args.self.now.leaving in
-    let copied = (rw (c.in_ok-noted.ensures.honesty, c.in_ok-noted.ensures.file, i.honesty, i.file) at c.in_ok-carry_turn.ensures.copied) told tree o c.args.self.now.leaving in
-    let on = turn_goes c.args.self.now.leaving file tree m o s c.loop-turn.sequence w before after h c.in-Some.turn here ends i.tracks i.writer c.note_turn.new.self c.in_ok-noted.noted
-    (get_or c.tracks-tracks.result.now c.in-Some.turn.track c.index-tracks-turn.result).id noted c.in_ok-noted.ensures.keeps few is_id c.carry_turn.new.self (g.K.Sink.contents c.carry_turn.new.sink) _ put copied c.in_ok-carry_turn.ensures.keeps refl in
-    rw e.1 (stopped c.args.self.now.leaving file tree m _ _ _ _ _ _ _ _ _ _ on)
+    → (get_or c.tracks-tracks.result.now c.in-Some.turn.track c.index-tracks-track.result).id
+    ≡ info.id = λ info is. ap (λ (x : TrackInfo). x.id) (sym c.index-tracks-track.is ∙ read_at m.tracks s.track info c.index-tracks-track.result is (rw (here.0, c.tracks-tracks.ensures) at c.index-tracks-track.is)) in
+    let put = (rw (c.in_ok-noted.ensures.honesty, c.in_ok-noted.ensures.file, i.honesty, i.file) at c.in_ok-carry_turn.ensures.put) told tree o in
+    let copied = (rw (c.in_ok-noted.ensures.honesty, c.in_ok-noted.ensures.file, i.honesty, i.file) at c.in_ok-carry_turn.ensures.copied) told tree o in
+    let on = turn_goes c.args.self.now.leaving file tree m o s c.loop-turn.sequence w before after h c.in-Some.turn here ends i.tracks i.writer i.leaving c.note_turn.new.self c.in_ok-noted.noted
+    (get_or c.tracks-tracks.result.now c.in-Some.turn.track c.index-tracks-track.result).id noted c.in_ok-noted.ensures.keeps few is_id c.carry_turn.new.self _ copied
+    (λ x is. read_at c.carry_turn.new.self.nexts.items c.in-Some.turn.track x _ is c.index.ensures) (g.K.Sink.contents c.carry_turn.new.sink) _ put c.in_ok-carry_turn.ensures.keeps refl in
+    rw e.1 (stopped c.args.self.now.leaving file tree m _ _ _ _ _ _ _ _ on)
 
 pub returns-in_err-pass-clause-unchanged : goal.returns-in_err-pass-clause-unchanged
 returns-in_err-pass-clause-unchanged g c told tree o ready =
@@ -190,11 +191,12 @@ returns-in_err-pass-clause-unchanged g c told tree o ready =
     let noted = (rw (i.honesty, i.file) at c.in_ok-noted.ensures.noted) told tree o in
     let few : IsFew c.in_ok-noted.noted.planned = record { count = (let n = c.in_ok-noted.ensures.few.0 in let r = i.writer.few in omega (arith, n, r)); rows = c.in_ok-noted.ensures.few.2 } in
     let is_id : (info : TrackInfo) → slice_get m.tracks s.track ≡ Some info
-    → (get_or c.tracks-tracks.result.now c.in-Some.turn.track c.index-tracks-turn.result).id
-    ≡ info.id = λ info is. ap (λ (x : TrackInfo). x.id) (sym c.index-tracks-turn.is ∙ read_at m.tracks s.track info c.index-tracks-turn.result is (rw (here.0, c.tracks-tracks.ensures) at c.index-tracks-turn.is)) in
+    → (get_or c.tracks-tracks.result.now c.in-Some.turn.track c.index-tracks-track.result).id
+    ≡ info.id = λ info is. ap (λ (x : TrackInfo). x.id) (sym c.index-tracks-track.is ∙ read_at m.tracks s.track info c.index-tracks-track.result is (rw (here.0, c.tracks-tracks.ensures) at c.index-tracks-track.is)) in
+    let copied = (rw (c.in_ok-noted.ensures.honesty, c.in_ok-noted.ensures.file, i.honesty, i.file) at c.in_ok-carry_turn.ensures.copied) told tree o in
     rw (e.1, e.2)
-    (λ r. pass_lacks c.args.self.now.leaving file tree m o s c.loop-turn.sequence w before after h c.in-Some.turn here ends i.tracks i.writer c.note_turn.new.self c.in_ok-noted.noted
-    (get_or c.tracks-tracks.result.now c.in-Some.turn.track c.index-tracks-turn.result).id noted c.in_ok-noted.ensures.keeps few is_id c.in_err-pass.ensures.refusal.1)
+    (λ r. pass_lacks c.args.self.now.leaving file tree m o s c.loop-turn.sequence w before after h c.in-Some.turn here ends i.tracks i.writer i.leaving c.note_turn.new.self c.in_ok-noted.noted
+    (get_or c.tracks-tracks.result.now c.in-Some.turn.track c.index-tracks-track.result).id noted c.in_ok-noted.ensures.keeps few is_id c.carry_turn.new.self _ copied (λ x is. read_at c.carry_turn.new.self.nexts.items c.in-Some.turn.track x _ is c.index.ensures) c.in_err-pass.ensures.refusal.1)
 
 pub loop-turn-preserved : goal.loop-turn-preserved
 loop-turn-preserved g c =
@@ -207,6 +209,7 @@ loop-turn-preserved g c =
       file = c.in_ok-carry_turn.ensures.file ∙ c.in_ok-noted.ensures.file ∙ i.file;
       reads = c.in_ok-carry_turn.ensures.reads ∙ c.in_ok-noted.ensures.reads ∙ i.reads;
       puts = c.in_ok-carry_turn.ensures.puts ∙ i.puts;
+      leaving = c.in_ok-carry_turn.ensures.keeps.0 ∙ c.in_ok-noted.ensures.keeps.0 ∙ i.leaving;
       rows = ap (λ v. length v.items) c.in_ok-carry_turn.ensures.keeps.1 ∙ c.in_ok-noted.ensures.keeps.2 ∙ i.rows;
       on = λ told tree o ready.
           let file = g.S.Store.file c.args.store.now in
@@ -221,16 +224,20 @@ loop-turn-preserved g c =
           let noted = (rw (i.honesty, i.file) at c.in_ok-noted.ensures.noted) told tree o in
           let few : IsFew c.in_ok-noted.noted.planned = record { count = (let n = c.in_ok-noted.ensures.few.0 in let r = i.writer.few in omega (arith, n, r)); rows = c.in_ok-noted.ensures.few.2 } in
           let is_id : (info : TrackInfo) → slice_get m.tracks s.track ≡ Some info
-          → (get_or c.tracks-tracks.result.now c.in-Some.turn.track c.index-tracks-turn.result).id
-          ≡ info.id = λ info is. ap (λ (x : TrackInfo). x.id) (sym c.index-tracks-turn.is ∙ read_at m.tracks s.track info c.index-tracks-turn.result is (rw (here.0, c.tracks-tracks.ensures) at c.index-tracks-turn.is)) in
-          let put = (rw (c.in_ok-noted.ensures.honesty, c.in_ok-noted.ensures.file, i.honesty, i.file) at c.in_ok-carry_turn.ensures.put) told tree o c.args.self.now.leaving in
-          let copied = (rw (c.in_ok-noted.ensures.honesty, c.in_ok-noted.ensures.file, i.honesty, i.file) at c.in_ok-carry_turn.ensures.copied) told tree o c.args.self.now.leaving in
+          → (get_or c.tracks-tracks.result.now c.in-Some.turn.track c.index-tracks-track.result).id
+          ≡ info.id = λ info is. ap (λ (x : TrackInfo). x.id) (sym c.index-tracks-track.is ∙ read_at m.tracks s.track info c.index-tracks-track.result is (rw (here.0, c.tracks-tracks.ensures) at c.index-tracks-track.is)) in
+          let put = (rw (c.in_ok-noted.ensures.honesty, c.in_ok-noted.ensures.file, i.honesty, i.file) at c.in_ok-carry_turn.ensures.put) told tree o in
+          let copied = (rw (c.in_ok-noted.ensures.honesty, c.in_ok-noted.ensures.file, i.honesty, i.file) at c.in_ok-carry_turn.ensures.copied) told tree o in
           rw c.sequence_behind-sequence.ensures
-          (turn_goes c.args.self.now.leaving file tree m o s c.loop-turn.sequence w before after h c.in-Some.turn here ends i.tracks i.writer c.note_turn.new.self c.in_ok-noted.noted
-          (get_or c.tracks-tracks.result.now c.in-Some.turn.track c.index-tracks-turn.result).id noted c.in_ok-noted.ensures.keeps few is_id c.carry_turn.new.self (g.K.Sink.contents c.carry_turn.new.sink) c.pass.new.self put copied c.in_ok-carry_turn.ensures.keeps c.in_ok-pass.ensures.turned);
-      within = λ told tree o n k plan copy.
-          turn_within (g.S.Store.file c.args.store.now) tree n k _ _ c.loop-turn.self (i.within told tree o n k plan copy) c.note_turn.new.self _ ((rw (i.honesty, i.file) at c.in_ok-noted.ensures.work) told tree o) c.in_ok-noted.ensures.keeps.0 c.carry_turn.new.self _
-          ((rw (c.in_ok-noted.ensures.honesty, c.in_ok-noted.ensures.file, i.honesty, i.file) at c.in_ok-carry_turn.ensures.work) told tree o) c.in_ok-carry_turn.ensures.keeps.0;
+          (turn_goes c.args.self.now.leaving file tree m o s c.loop-turn.sequence w before after h c.in-Some.turn here ends i.tracks i.writer i.leaving c.note_turn.new.self c.in_ok-noted.noted
+          (get_or c.tracks-tracks.result.now c.in-Some.turn.track c.index-tracks-track.result).id noted c.in_ok-noted.ensures.keeps few is_id c.carry_turn.new.self _ copied
+          (λ x is. read_at c.carry_turn.new.self.nexts.items c.in-Some.turn.track x _ is c.index.ensures) (g.K.Sink.contents c.carry_turn.new.sink) c.pass.new.self put c.in_ok-carry_turn.ensures.keeps c.in_ok-pass.ensures.turned);
+      within = λ told tree o n may.
+          let w = c.loop-turn.self in
+          let keep = c.in_ok-noted.ensures.keeps.0 in
+          turn_then (g.S.Store.file c.args.store.now) tree c.args.movie.now w.leaving w.walks.items c.note_turn.new.self.walks.items c.in-Some.turn.track c.in_ok-noted.noted.planned.count n _ _ _ (i.within told tree o n may)
+          ((rw (i.honesty, i.file) at c.in_ok-noted.ensures.work) told tree o) c.carry_turn.new.self.walks.items _
+          (rw keep at ((rw (c.in_ok-noted.ensures.honesty, c.in_ok-noted.ensures.file, i.honesty, i.file) at c.in_ok-carry_turn.ensures.work) told tree o));
     }
 
 pub returns-clause-bytes : goal.returns-clause-bytes
@@ -244,7 +251,7 @@ returns-clause-bytes g c told tree o ready =
     let before = g.K.Sink.contents c.args.sink.now in
     let after = g.K.Sink.contents c.loop-turn.sink in
     let none = turns_end file m.tracks s h.lefts h.comings h.turn (c.in_default.ensures.none refl) in
-    on_ok _ _ c.flush.result (λ x. all_put c.args.self.now.leaving file tree m s c.loop-turn.sequence w.planning.items w.copying.items w.behind.items w.nexts.items (length w.rows.items) before after (waiting w.carrier) h _ none x) c.flush.ensures.bytes
+    on_ok _ _ c.flush.result (λ x. all_put c.args.self.now.leaving file tree m s c.loop-turn.sequence w.walks.items w.nexts.items (length w.rows.items) before after (waiting w.carrier) h _ none x) c.flush.ensures.bytes
 
 pub returns-clause-prefix : goal.returns-clause-prefix
 returns-clause-prefix g c told tree o ready =
@@ -257,35 +264,39 @@ returns-clause-prefix g c told tree o ready =
     let before = g.K.Sink.contents c.args.sink.now in
     let after = g.K.Sink.contents c.loop-turn.sink in
     let none = turns_end file m.tracks s h.lefts h.comings h.turn (c.in_default.ensures.none refl) in
-    on_err _ _ c.flush.result (λ x. not_all_put c.args.self.now.leaving file tree m s c.loop-turn.sequence w.planning.items w.copying.items w.behind.items w.nexts.items (length w.rows.items) before after (waiting w.carrier) h _ none x) c.flush.ensures.prefix
+    on_err _ _ c.flush.result (λ x. not_all_put c.args.self.now.leaving file tree m s c.loop-turn.sequence w.walks.items w.nexts.items (length w.rows.items) before after (waiting w.carrier) h _ none x) c.flush.ensures.prefix
 
 pub returns-clause-unchanged : goal.returns-clause-unchanged
 returns-clause-unchanged g c told tree o ready =
     if_err _ _ c.flush.result (λ r x. put_unchanged _ _ r x) c.flush.ensures.refusal
 
 pub returns-in_err-peek_each-clause-work : goal.returns-in_err-peek_each-clause-work
-returns-in_err-peek_each-clause-work g c told tree o n k plan copy =
-    let most = c.in_err-peek_each.ensures.most told tree o n (rw c.as_mut_slice-walks.ensures.value plan) in
-    omega (arith, most)
+returns-in_err-peek_each-clause-work g c told tree o n may = c.in_err-peek_each.ensures.writes_most told tree o n (rw c.as_mut_slice-walks.ensures.value may)
 
 pub returns-in_err-noted-clause-work : goal.returns-in_err-noted-clause-work
-returns-in_err-noted-clause-work g c told tree o n k plan copy =
+returns-in_err-noted-clause-work g c told tree o n may =
     let i = c.loop-turn.invariant in
-    note_within (g.S.Store.file c.args.store.now) tree n k _ _ c.loop-turn.self (i.within told tree o n k plan copy) _ ((rw (i.honesty, i.file) at c.in_err-noted.ensures.most) told tree o)
+    write_then_stop (g.S.Store.file c.args.store.now) tree c.args.movie.now c.loop-turn.self.walks.items n _ _ _ (i.within told tree o n may) ((rw (i.honesty, i.file) at c.in_err-noted.ensures.most) told tree o)
 
 pub returns-in_err-carry_turn-clause-work : goal.returns-in_err-carry_turn-clause-work
-returns-in_err-carry_turn-clause-work g c told tree o n k plan copy =
+returns-in_err-carry_turn-clause-work g c told tree o n may =
     let i = c.loop-turn.invariant in
-    copy_within (g.S.Store.file c.args.store.now) tree n k _ _ c.loop-turn.self (i.within told tree o n k plan copy) c.note_turn.new.self _ ((rw (i.honesty, i.file) at c.in_ok-noted.ensures.work) told tree o) c.in_ok-noted.ensures.keeps.0 _
-    ((rw (c.in_ok-noted.ensures.honesty, c.in_ok-noted.ensures.file, i.honesty, i.file) at c.in_err-carry_turn.ensures.most) told tree o)
+    let w = c.loop-turn.self in
+    let keep = c.in_ok-noted.ensures.keeps.0 in
+    turn_then_stop (g.S.Store.file c.args.store.now) tree c.args.movie.now w.leaving w.walks.items c.note_turn.new.self.walks.items c.in-Some.turn.track c.in_ok-noted.noted.planned.count n _ _ _ (i.within told tree o n may)
+    ((rw (i.honesty, i.file) at c.in_ok-noted.ensures.work) told tree o) _
+    (rw keep at ((rw (c.in_ok-noted.ensures.honesty, c.in_ok-noted.ensures.file, i.honesty, i.file) at c.in_err-carry_turn.ensures.most) told tree o))
 
 pub returns-in_err-pass-clause-work : goal.returns-in_err-pass-clause-work
-returns-in_err-pass-clause-work g c told tree o n k plan copy =
+returns-in_err-pass-clause-work g c told tree o n may =
     let i = c.loop-turn.invariant in
     let file = g.S.Store.file c.args.store.now in
-    let on = turn_within file tree n k _ _ c.loop-turn.self (i.within told tree o n k plan copy) c.note_turn.new.self _ ((rw (i.honesty, i.file) at c.in_ok-noted.ensures.work) told tree o) c.in_ok-noted.ensures.keeps.0 c.carry_turn.new.self _
-    ((rw (c.in_ok-noted.ensures.honesty, c.in_ok-noted.ensures.file, i.honesty, i.file) at c.in_ok-carry_turn.ensures.work) told tree o) c.in_ok-carry_turn.ensures.keeps.0 in
-    both_taken file tree n k _ _ c.carry_turn.new.self on
+    let w = c.loop-turn.self in
+    let keep = c.in_ok-noted.ensures.keeps.0 in
+    all_written file tree c.args.movie.now c.carry_turn.new.self.walks.items n _ _
+    (turn_then file tree c.args.movie.now w.leaving w.walks.items c.note_turn.new.self.walks.items c.in-Some.turn.track c.in_ok-noted.noted.planned.count n _ _ _ (i.within told tree o n may)
+    ((rw (i.honesty, i.file) at c.in_ok-noted.ensures.work) told tree o) c.carry_turn.new.self.walks.items _
+    (rw keep at ((rw (c.in_ok-noted.ensures.honesty, c.in_ok-noted.ensures.file, i.honesty, i.file) at c.in_ok-carry_turn.ensures.work) told tree o)))
 
 pub returns-clause-work : goal.returns-clause-work
-returns-clause-work g c told tree o n k plan copy = both_taken (g.S.Store.file c.args.store.now) tree n k _ _ c.loop-turn.self (c.loop-turn.invariant.within told tree o n k plan copy)
+returns-clause-work g c told tree o n may = all_written (g.S.Store.file c.args.store.now) tree c.args.movie.now c.loop-turn.self.walks.items n _ _ (c.loop-turn.invariant.within told tree o n may)

@@ -5,8 +5,7 @@ use Rattle.mp4_plan.specs.words.Writers.{IsWriterOf, WhereOpened, IsReady}
 use Rattle.mp4_plan.specs.format.Held.{held}
 use Rattle.mp4_plan.proofs.WritesOn.{WritesOn}
 use Rattle.std.specs.Prelude.{ℕ}
-use Rattle.mp4_plan.specs.words.WriterSteps.{MayAllTake}
-use Rattle.mp4_plan.proofs.StepsOn.{BothTakeOn}
+use Rattle.mp4_plan.specs.words.WriterSteps.{MayAllWrite, AllWriteOn}
 use Rattle.mp4_plan.proofs.writer.Writer.write.Given as goal
 
 -- the walks go on, what was put and what waits are the pieces of the turns before, and they took no more steps than they may
@@ -14,6 +13,7 @@ abbrev pub invariant-loop-turn : goal.invariant-loop-turn
 invariant-loop-turn g l = record {
   writer : IsWriterOf l.movie l.self;
   held : held l.self ≡ held l.fn.self;
+  leaving : l.self.leaving ≡ l.fn.self.leaving;
   tracks : l.schedule.tracks ≡ length l.movie.tracks;
   honesty : g.S.Store.is_honest l.store ≡ g.S.Store.is_honest l.fn.store;
   file : g.S.Store.file l.store ≡ g.S.Store.file l.fn.store;
@@ -22,10 +22,9 @@ invariant-loop-turn g l = record {
   rows : length l.self.rows.items ≡ length l.fn.self.rows.items;
   on : WhereOpened (g.S.Store.is_honest l.fn.store) (g.S.Store.file l.fn.store) l.movie
       (λ tree. IsReady (g.S.Store.file l.fn.store) tree l.movie l.fn.self
-      → WritesOn l.fn.self.leaving (g.S.Store.file l.fn.store) tree l.movie l.schedule l.sequence l.self.planning.items l.self.copying.items l.self.behind.items l.self.nexts.items (length l.self.rows.items) (g.K.Sink.contents l.fn.sink) (g.K.Sink.contents l.sink) (waiting l.self.carrier));
+      → WritesOn l.fn.self.leaving (g.S.Store.file l.fn.store) tree l.movie l.schedule l.sequence l.self.walks.items l.self.nexts.items (length l.self.rows.items) (g.K.Sink.contents l.fn.sink) (g.K.Sink.contents l.sink) (waiting l.self.carrier));
   within : WhereOpened (g.S.Store.is_honest l.fn.store) (g.S.Store.file l.fn.store) l.movie
-      (λ tree. (n c : ℕ) → MayAllTake (g.S.Store.file l.fn.store) tree tree.movie.tracks l.fn.self.planning.items n → MayAllTake (g.S.Store.file l.fn.store) tree tree.movie.tracks l.fn.self.copying.items c
-      → BothTakeOn (g.S.Store.file l.fn.store) tree n c l.self.planning.items l.self.copying.items l.fn.steps l.steps);
+      (λ tree. (n : ℕ) → MayAllWrite (g.S.Store.file l.fn.store) tree l.movie l.fn.self.walks.items n → AllWriteOn (g.S.Store.file l.fn.store) tree l.movie n l.self.walks.items l.fn.steps l.steps);
 }
 
 abbrev pub decreases-loop-turn : goal.decreases-loop-turn

@@ -1,21 +1,18 @@
-use Rattle.std.proofs.Common.{refl, ◌≡◌, ◌+◌, ◌-◌, ◌*◌, ◌∙◌, ℕ, List, [], ◌∷◌, ◌++◌, None, Some, length, drop, sym, ap, subst, arith}
-use Rattle.std.proofs.lemmas.List.{length-drop}
+use Rattle.std.proofs.Common.{refl, true, ◌≡◌, ◌+◌, ◌-◌, ◌∙◌, ℕ, [], ◌∷◌, ◌++◌, None, Some, length, drop, sym, ap, subst, arith}
 use Rattle.std.proofs.lemmas.Result.{err_from_is_err_and}
-use Rattle.mp4_tables.specs.declared.sample.SampleAt.{SampleAt}
 use Rattle.mp4_present.specs.words.SamplesComing.{Comes}
 use Rattle.mp4_present.specs.words.GoingBack.{again_from}
 use Rattle.mp4_present.specs.words.InHand.{left_in_hand}
-use Rattle.mp4_present.specs.words.Movies.{IsWalkOf, InHandOf, mark_of, moof_box}
+use Rattle.mp4_present.specs.words.Movies.{IsWalkOf, mark_of, moof_box}
 use Rattle.mp4_present.specs.words.WalkSteps.{MayTake, moof_steps}
 use Rattle.mp4_present.specs.declared.in_hand.InHand.{InHand}
 use Rattle.mp4_present.specs.declared.walks.Mark.{Mark}
 use Rattle.mp4_present.specs.declared.walks.Walk.{Walk}
-use Rattle.mp4_present.proofs.GoneBack.{at_hand, comes_back, may_back, walk_back, marked_before, holds_marked, left_holds, due_holds, count_holds, few_passed, comes_again, takes_again, back_is, hand_of_marked}
+use Rattle.mp4_present.proofs.GoneBack.{at_hand, comes_back, may_back, walk_back, marked_before, holds_marked, count_holds, few_passed, comes_again, takes_again, back_is}
 use Rattle.mp4_present.proofs.WalkCopied.{hand_one}
 use Rattle.mp4_present.proofs.WalkPlaces.{got}
 use Rattle.mp4_present.proofs.WayThrough.{takes_then}
 use Rattle.mp4_present.proofs.walks.Walk.go_back.Goals as goal
-use Rattle.mp4_present.proofs.walks.Walk.go_back.Goals.{then-self-mark-via-then-self-mark, then-self-mark-via-else-self-mark+then-self-mark-2, then-self-mark-via-else-self-mark+else-self-mark-2+then-before-mark}
 
 -- ---- what was in hand is at hand
 
@@ -63,8 +60,8 @@ returns-in_err-read_again-clause-unchanged g c told tree t begun samples o h k =
     let hm = holds_marked file m tree t begun w (length samples) h c.requires d k.0 k.1 k.3.0 b in
     rw (p.1, p.2) (c.in_err-read_again.ensures.unchanged told tree t hm.0 k.1 hm.1 begun o hm.3)
 
-pub returns-then-self-mark-clause-unchanged : goal.returns-then-self-mark-clause-unchanged
-returns-then-self-mark-clause-unchanged g c told tree t begun samples o h k e =
+pub returns-then-before-mark-clause-unchanged : goal.returns-then-before-mark-clause-unchanged
+returns-then-before-mark-clause-unchanged g c told tree t begun samples o h k e =
     let file = g.S.Store.file c.args.store.now in
     let m = c.args.movie.now in
     let w = c.args.self.now in
@@ -76,18 +73,14 @@ returns-then-self-mark-clause-unchanged g c told tree t begun samples o h k e =
     let found = got m.tracks w.track c.requires.goes_on.track in
     let al = c.in_ok-read_again.ensures.all found.0 found.1 in
     let first = c.read_again.new.self in
-    let left = left_holds file m tree t begun w (length samples) h c.requires d b samples k hm.0 hm.1 hm.2 first tk.1.1.0 tk.2 found.0 found.1 al.0 al.1 al.2 al.3 in
-    let due = due_holds file m tree t begun w (length samples) h c.requires d b samples k hm.0 hm.1 hm.2 first tk.1.1.0 tk.2 found.0 found.1 al.0 al.1 al.2 al.3 in
-    let count = count_holds file m tree t begun w (length samples) h c.requires d b samples k hm.0 hm.1 hm.2 first tk.1.1.0 tk.2 found.0 found.1 al.0 al.1 al.2 al.3 in
+    let own = ap left_in_hand (hand_one m first al.0 tk.0.0 al.1 tk.0.1.1) ∙ tk.0.1.2 in
+    let count = count_holds file m tree t begun w (length samples) h c.requires d b samples k hm.0 hm.1 hm.2 first tk.0.1.0 tk.1 found.0 found.1 al.0 al.1 al.2 own hm.3.holds.left in
     let to_come = ap (λ (k : Mark). k.to_come) h.mark in
-    elim c.then-self-mark.branch [
-      | then-self-mark-via-then-self-mark v ↦ v.if-self-mark.true left
-      | then-self-mark-via-else-self-mark+then-self-mark-2 v ↦ v.if-self-mark-2.true due
-      | then-self-mark-via-else-self-mark+else-self-mark-2+then-before-mark v ↦ (let more = v.if-before-mark.true in absurd (omega (arith, more, count, to_come)))
-    ]
+    let more = c.if-before-mark.true in
+    absurd (omega (arith, more, count, to_come))
 
-pub returns-then-self-mark-clause-most : goal.returns-then-self-mark-clause-most
-returns-then-self-mark-clause-most g c told tree t begun to_come n o h may =
+pub returns-then-before-mark-clause-most : goal.returns-then-before-mark-clause-most
+returns-then-before-mark-clause-most g c told tree t begun to_come n o h may =
     let file = g.S.Store.file c.args.store.now in
     let m = c.args.movie.now in
     let w = c.args.self.now in
@@ -97,8 +90,8 @@ returns-then-self-mark-clause-most g c told tree t begun to_come n o h may =
     let hm = holds_marked file m tree t begun w to_come h c.requires d may.earlier may.later may.stands b in
     let tk = c.in_ok-read_again.ensures.taken told tree t hm.0 may.later hm.1 begun o hm.3 in
     let back = back_is begun w d some in
-    let way = tk.3 in
-    let work = tk.4 in
+    let way = tk.2 in
+    let work = tk.3 in
     omega (arith, back, way, work)
 
 pub returns-in_err-pass-clause-unchanged : goal.returns-in_err-pass-clause-unchanged
@@ -115,7 +108,8 @@ returns-in_err-pass-clause-unchanged g c told tree t begun samples o h k =
     let found = got m.tracks w.track c.requires.goes_on.track in
     let al = c.in_ok-read_again.ensures.all found.0 found.1 in
     let first = c.read_again.new.self in
-    let few = few_passed file m tree t begun w (length samples) h c.requires d b samples k hm.0 hm.1 hm.2 first tk.1.1.0 tk.2 found.0 found.1 al.0 al.1 al.2 al.3 in
+    let own = ap left_in_hand (hand_one m first al.0 tk.0.0 al.1 tk.0.1.1) ∙ tk.0.1.2 in
+    let few = few_passed file m tree t begun w (length samples) h c.requires d b samples k hm.0 hm.1 hm.2 first tk.0.1.0 tk.1 found.0 found.1 al.0 al.1 al.2 own hm.3.holds.left in
     let to_come = ap (λ (k : Mark). k.to_come) h.mark in
     let x = c.in_err-pass.ensures.enough in
     let same = ap (λ (y : InHand). length (left_in_hand y)) (hand_one m first x.0 al.0 x.1 al.1) in
@@ -133,8 +127,8 @@ returns-in_err-pass-clause-most g c told tree t begun to_come n o h may =
     let hm = holds_marked file m tree t begun w to_come h c.requires d may.earlier may.later may.stands b in
     let tk = c.in_ok-read_again.ensures.taken told tree t hm.0 may.later hm.1 begun o hm.3 in
     let back = back_is begun w d some in
-    let way = tk.3 in
-    let work = tk.4 in
+    let way = tk.2 in
+    let work = tk.3 in
     let idle = c.in_err-pass.ensures.idle in
     rw p.1 (omega (arith, back, way, work, idle))
 
@@ -151,11 +145,12 @@ returns-clause-back g c told tree t begun samples o h k =
     let found = got m.tracks w.track c.requires.goes_on.track in
     let al = c.in_ok-read_again.ensures.all found.0 found.1 in
     let first = c.read_again.new.self in
+    let own = ap left_in_hand (hand_one m first al.0 tk.0.0 al.1 tk.0.1.1) ∙ tk.0.1.2 in
     let ps = c.in_ok-pass.ensures.passed in
     let to_come = ap (λ (k : Mark). k.to_come) h.mark in
     let rest = ps.4 ∙ ap (λ (j : ℕ). drop (d.left - j) (left_in_hand ps.0)) to_come in
-    let stands = c.in_ok-pass.ensures.stands file tree t (hm.0 ++ hm.1 ∷ []) k.1 tk.1.1.0 in
-    c.mark-2.ensures.coming file tree t m samples (comes_again file m tree t begun w (length samples) h c.requires d b samples k hm.0 hm.1 hm.2 first tk.1.1.0 tk.2 found.0 found.1 al.0 al.1 al.2 al.3 c.pass.new.self ps.0 ps.1 ps.2 ps.3 rest stands)
+    let stands = c.in_ok-pass.ensures.stands file tree t (hm.0 ++ hm.1 ∷ []) k.1 tk.0.1.0 in
+    c.mark-2.ensures.coming file tree t m samples (comes_again file m tree t begun w (length samples) h c.requires d b samples k hm.0 hm.1 hm.2 first tk.0.1.0 tk.1 found.0 found.1 al.0 al.1 al.2 own hm.3.holds.left c.pass.new.self ps.0 ps.1 ps.2 ps.3 rest stands)
 
 pub returns-clause-work : goal.returns-clause-work
 returns-clause-work g c told tree t begun to_come n o h may =
@@ -168,26 +163,7 @@ returns-clause-work g c told tree t begun to_come n o h may =
     let hm = holds_marked file m tree t begun w to_come h c.requires d may.earlier may.later may.stands b in
     let tk = c.in_ok-read_again.ensures.taken told tree t hm.0 may.later hm.1 begun o hm.3 in
     let back = back_is begun w d some in
-    let again = takes_again file tree t m begun c.read_again.new.self n _ _ may hm.0 hm.1 tk.0 tk.1 tk.2 (c.in_ok-read_again.ensures.through t) tk.3 tk.4 in
-    let all = takes_then file tree t (n + 2 * moof_steps (moof_box begun)) _ _ _ c.read_again.new.self c.pass.new.self again (λ j may. c.in_ok-pass.ensures.work file tree t j o may) in
+    let again = takes_again file tree t m begun c.read_again.new.self n _ _ may hm.0 hm.1 true tk.0 tk.1 (c.in_ok-read_again.ensures.through t) tk.2 tk.3 in
+    let all = takes_then file tree t (n + moof_steps (moof_box begun)) _ _ _ c.read_again.new.self c.pass.new.self again (λ j may. c.in_ok-pass.ensures.work file tree t j o may) in
     let taken = all.2 in
     (all.0, c.mark-2.ensures.may file tree t all.0 all.1, omega (arith, taken, back))
-
-pub returns-clause-again : goal.returns-clause-again
-returns-clause-again g c hand =
-    let m = c.args.movie.now in
-    let w = c.args.self.now in
-    let d = c.in-Some.before in
-    let found = got m.tracks w.track c.requires.goes_on.track in
-    let al = c.in_ok-read_again.ensures.all found.0 found.1 in
-    let first = c.read_again.new.self in
-    let now = c.pass.new.self in
-    let ps = c.in_ok-pass.ensures.passed in
-    let same = ap (λ (y : InHand). length (left_in_hand y)) (hand_one m first ps.0 al.0 ps.2 al.1) in
-    let long = ap (λ (ss : List SampleAt). length ss) ps.4 ∙ length-drop (d.left - w.mark.to_come) (left_in_hand ps.0) in
-    let few = ps.5 in
-    let sum = al.3 in
-    let left = c.in_ok-pass.ensures.same.0 in
-    let less = c.if-before-mark.false in
-    let count : length (left_in_hand ps.1) + now.left ≡ w.mark.to_come = omega (arith, same, long, few, sum, left, less) in
-    subst (λ (v : Walk). (hand : InHand) × InHandOf m v hand × (length (left_in_hand hand) + v.left ≡ w.mark.to_come)) (sym c.mark-2.ensures.mark) (ps.1, hand_of_marked m now (mark_of now w.mark.to_come) ps.1 ps.3, count)

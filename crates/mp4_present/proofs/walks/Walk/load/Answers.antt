@@ -1,13 +1,20 @@
-use Rattle.std.proofs.Common.{rules, arith, ℕ, ◌≡◌, ◌<◌, ◌≤◌, List, [], ◌∷◌, ◌++◌, length, refl, sym, ap, subst, ◌∙◌}
+use Rattle.std.proofs.Common.{rules, arith, ℕ, ◌≡◌, ◌<◌, ◌≤◌, List, [], ◌∷◌, ◌++◌, length, slice_get, refl, sym, ap, subst, ◌∙◌}
 use Rattle.std.proofs.lemmas.Result.{err_from_is_err_and}
 use Rattle.std.proofs.lemmas.List.{with_items_is}
+use Rattle.mp4_boxes.specs.format.Box.{Box}
 use Rattle.mp4_boxes.proofs.Among.{head_is}
+use Rattle.mp4_tables.specs.declared.sample.SampleAt.{SampleAt}
+use Rattle.mp4_tables.specs.words.Keys.{keys_seen}
+use Rattle.mp4_frag.specs.words.Walks.{samples_in}
+use Rattle.mp4_present.specs.words.InHand.{left_in_hand}
+use Rattle.mp4_present.specs.declared.in_hand.InHand.{InHand}
+use Rattle.mp4_present.proofs.WalkCopied.{hand_one}
 use Rattle.mp4_frag.specs.format.Fragments.{FragmentTree}
 use Rattle.mp4_present.specs.words.SamplesComing.{samples_behind}
 use Rattle.mp4_present.proofs.MoofLoaded.{boxes_from, none_more, fits, first_later, holds_next, next_unchanged, payload_unchanged, comes_next, later_is, no_samples, ends_empty}
 use Rattle.mp4_present.proofs.MoofsSkipped.{at_own, found_own, found_none, gives_some, not_empty, samples_to, stands_at, takes_to, takes_fewer}
 use Rattle.mp4_present.proofs.WayThrough.{takes_none, takes_next, takes_most}
-use Rattle.mp4_present.proofs.WalkPlaces.{walk_past}
+use Rattle.mp4_present.proofs.WalkPlaces.{got, walk_past}
 use Rattle.mp4_present.proofs.walks.Walk.load.Goals as goal
 
 farther : (now next from offset end : ℕ) → now ≡ end → next ≤ from → from ≤ offset → offset < end → next < now
@@ -181,3 +188,26 @@ pub returns-then-self-eq0-clause-ended : goal.returns-then-self-eq0-clause-ended
 returns-then-self-eq0-clause-ended g c told tree t earlier later hand o h at z = λ _.
     let file = g.S.Store.file c.args.store.now in
     ends_empty file tree t c.args.movie.now earlier later hand c.args.self.now (no_samples file tree t earlier later c.args.self.now h c.if-self-eq0.true) h at z
+
+pub returns-then-branch-clause-holds : goal.returns-then-branch-clause-holds
+returns-then-branch-clause-holds g c more =
+    let e = c.in_ok-take.ensures in
+    let now = c.take.new.self in
+    let m = c.args.movie.now in
+    let found = got m.tracks now.track (subst (λ (k : ℕ). k < length m.tracks) (sym e.track) c.requires.goes_on.track) in
+    let al = e.all found.0 (ap (slice_get m.tracks) (sym e.track) ∙ found.1) in
+    let s = e.some c.if-branch.true in
+    let one = ap (λ (h : InHand). length (left_in_hand h)) (hand_one m now s.0 al.0 s.1 al.1) in
+    let some = s.2 in
+    let sum = al.3 in
+    record {
+      before = record { time = c.args.self.now.due; left = c.args.self.now.left };
+      is_before = e.before;
+      some = omega (arith, one, some, sum);
+      all = λ info at.
+          let own = e.all info (ap (slice_get m.tracks) (sym e.track) ∙ at) in
+          let sum = own.3 in
+          let long = ap (λ (ss : List SampleAt). length ss) own.2 in
+          let box = ap (λ (b : Box). length (samples_in b m.states info.id c.args.self.now.due (keys_seen info.keys))) e.moof in
+          omega (arith, sum, long, box);
+    }

@@ -1,4 +1,4 @@
-use Rattle.std.proofs.Common.{rules, ◌≡◌, ◌+◌, ◌≤◌, ◌∙◌, Bool, length, refl, sym, ap, subst, arith}
+use Rattle.std.proofs.Common.{rules, ◌≡◌, ◌+◌, ◌≤◌, ◌∙◌, true, length, refl, sym, ap, subst, arith}
 use Rattle.std.proofs.lemmas.Result.{err_from_is_err_and}
 use Rattle.std.proofs.lemmas.List.{with_items_is}
 use Rattle.mp4_boxes.specs.format.Box.{Box}
@@ -19,23 +19,15 @@ returns-in_err-self-clause-unchanged g c told tree t earlier later next begun o 
     let short = fits_again (g.S.Store.file c.args.store.now) tree t earlier next later begun c.args.self.now c.args.before h in
     rw (p.1, p.2) (payload_there _ _ _ c.args.self.now.mark.moof c.in_err-self.field-0.0 short (rw c.as_mut_slice.ensures.value at c.in_err-self.ensures.refusal))
 
-pub returns-in_err-_some-clause-unchanged : goal.returns-in_err-_some-clause-unchanged
-returns-in_err-_some-clause-unchanged g c told tree t earlier later next begun o h =
-    let file = g.S.Store.file c.args.store.now in
-    let bytes = c.read_payload.new.room in
-    let same : length bytes ≡ length c.args.self.now.bytes.items = search rules in
-    let fills = c.in_ok-self.ensures.fills in
-    let held = holds_again file tree t earlier next later begun c.args.self.now c.args.before h _ bytes c.in_ok-self.field-0 refl refl refl (with_items_is c.args.self.now.bytes bytes (same ∙ sym c.args.self.now.bytes.ok.0)) same fills.1 fills.0 (c.in_ok-self.ensures.bytes told) refl refl refl in
-    absurd (c.in_err-_some.ensures.taken file tree t earlier later next o held)
-
 pub returns-clause-all : goal.returns-clause-all
 returns-clause-all g c info at =
-    let x = c.in_ok-_some.ensures.all info at in
-    let now = c.take.new.self in
+    let x = c.take_again.ensures.all info at in
+    let now = c.take_again.new.self in
     let m = c.args.movie.now in
-    let same = ap (λ (b : Box). samples_in b m.states info.id c.args.before.time (keys_seen info.keys)) (sym c.in_ok-_some.ensures.moof) in
-    subst (λ (w : Walk). (hand : InHand) × InHandOf m w hand × (left_in_hand hand ≡ all_in_moof m w info c.args.before.time) × (c.args.before.left ≡ length (left_in_hand hand) + w.left)) (sym c.mark.ensures.mark)
-    (x.0, hand_of_marked m now (mark_of now c.args.self.now.mark.to_come) x.0 x.1, x.2 ∙ same, x.3)
+    let box : moof_box now ≡ moof_box (record now { place = c.args.self.now.place }) = refl in
+    let same = ap (λ (b : Box). samples_in b m.states info.id c.args.before.time (keys_seen info.keys)) (sym (ap moof_box c.take_again.ensures.same)) in
+    subst (λ (w : Walk). (hand : InHand) × InHandOf m w hand × (left_in_hand hand ≡ all_in_moof m w info c.args.before.time)) (sym c.mark.ensures.mark)
+    (x.0, hand_of_marked m now (mark_of now c.args.self.now.mark.to_come) x.0 x.1, x.2 ∙ same)
 
 pub returns-clause-taken : goal.returns-clause-taken
 returns-clause-taken g c told tree t earlier later next begun o h =
@@ -44,17 +36,17 @@ returns-clause-taken g c told tree t earlier later next begun o h =
     let same : length bytes ≡ length c.args.self.now.bytes.items = search rules in
     let fills = c.in_ok-self.ensures.fills in
     let held = holds_again file tree t earlier next later begun c.args.self.now c.args.before h _ bytes c.in_ok-self.field-0 refl refl refl (with_items_is c.args.self.now.bytes bytes (same ∙ sym c.args.self.now.bytes.ok.0)) same fills.1 fills.0 (c.in_ok-self.ensures.bytes told) refl refl refl in
-    let e = c.in_ok-_some.ensures in
-    let now = c.take.new.self in
+    let e = c.take_again.ensures in
+    let now = c.take_again.new.self in
     let m = c.args.movie.now in
-    let same = box_again file tree t earlier next later begun c.args.self.now c.args.before h _ held in
-    let steps = ap moof_steps same in
+    let box = ap moof_box e.same ∙ box_again file tree t earlier next later begun c.args.self.now c.args.before h _ held in
+    let steps = ap moof_steps (box_again file tree t earlier next later begun c.args.self.now c.args.before h _ held) in
     let way = e.way in
     let work = e.work in
-    subst (λ (w : Walk). (some : Bool) × Takes file tree t earlier next later m w some × (moof_box w ≡ moof_box begun) × (steps_to w.place ≤ moof_steps (moof_box begun)) × (c.take.new.steps ≤ c.args.steps.now + moof_steps (moof_box begun) + steps_to w.place)) (sym c.mark.ensures.mark)
-    (c.in_ok-_some._some, takes_marked file tree t m earlier next later now (mark_of now c.args.self.now.mark.to_come) c.in_ok-_some._some (e.taken file tree t earlier later next o held), e.moof ∙ same, omega (arith, steps, way), omega (arith, steps, work))
+    subst (λ (w : Walk). Takes file tree t earlier next later m w true × (moof_box w ≡ moof_box begun) × (steps_to w.place ≤ moof_steps (moof_box begun)) × (c.take_again.new.steps ≡ c.args.steps.now + steps_to w.place)) (sym c.mark.ensures.mark)
+    (takes_marked file tree t m earlier next later now (mark_of now c.args.self.now.mark.to_come) true (e.taken file tree t earlier later next o held h.behind), box, omega (arith, steps, way), work)
 
 pub returns-clause-through : goal.returns-clause-through
 returns-clause-through g c t =
-    let now = c.take.new.self in
-    subst (λ (w : Walk). way_through t w w.place ≡ moof_steps (moof_box w)) (sym c.mark.ensures.mark) (way_marked t now (mark_of now c.args.self.now.mark.to_come) now.place ∙ c.in_ok-_some.ensures.through t)
+    let now = c.take_again.new.self in
+    subst (λ (w : Walk). way_through t w w.place ≡ moof_steps (moof_box w)) (sym c.mark.ensures.mark) (way_marked t now (mark_of now c.args.self.now.mark.to_come) now.place ∙ c.take_again.ensures.through t)

@@ -1,0 +1,44 @@
+-- How a walk goes on from where it stood.
+use Rattle.std.specs.Prelude.{◌≡◌, ◌⊎◌, ℕ, ◌<◌, ◌≤◌, List, length, drop}
+use Rattle.mp4_tables.specs.declared.sample.SampleAt.{SampleAt}
+use Rattle.mp4_head.specs.format.Tree.{TrackTree}
+use Rattle.mp4_present.specs.format.Denotes.{FileTree}
+use Rattle.mp4_present.specs.words.GoingBack.{GoesBackTo, HoldsSome}
+use Rattle.mp4_present.specs.words.Movies.{MovieSeen, moof_box}
+use Rattle.mp4_present.specs.words.SamplesComing.{Comes}
+use Rattle.mp4_present.specs.declared.leaving.Leaving.{Leaving}
+use Rattle.mp4_present.specs.declared.walks.Walk.{Walk}
+use Rattle.mp4_plan.specs.words.ComingLess.{ComesLess, less}
+
+-- it has the same in hand
+pub record Stays (before after : Walk) : Type 0 where
+  pub track : after.track ≡ before.track
+  pub next : after.next ≡ before.next
+  pub due : after.before ≡ before.before
+  pub left : after.left ≡ before.left
+  pub box : moof_box after ≡ moof_box before
+
+-- it has loaded a `moof` further on, with samples of the track
+abbrev pub HasLoaded : MovieSeen → Walk → Walk → Type 0
+HasLoaded m before after = (before.next < after.next) × HoldsSome m after
+
+-- The walk went on and keeps its mark, and the number of steps grew.
+pub record WentOn (m : MovieSeen) (before after : Walk) (old new : ℕ) : Type 0 where
+  pub mark : after.mark ≡ before.mark
+  pub grows : old ≤ new
+  pub ahead : Stays before after ⊎ HasLoaded m before after
+
+-- It stands where the next `moof` is looked for from here, or has loaded one further on.
+abbrev pub GoesPast : MovieSeen → ℕ → Walk → Type 0
+GoesPast m next after = (after.next ≡ next) ⊎ ((next < after.next) × HoldsSome m after)
+
+-- The walk has marked where some samples came, of which these are left, and has passed so many of
+-- them since.
+pub record ComesMarked (l : Leaving) (file : List ℕ) (tree : FileTree) (t : TrackTree)
+    (m : MovieSeen) (walk : Walk) (count : ℕ) (left : List SampleAt) : Type 0 where
+  pub begun : Walk
+  pub samples : List SampleAt
+  pub is_left : left ≡ less l samples
+  pub back : GoesBackTo file tree t m begun walk (length samples)
+  pub from : Comes file tree t m begun samples
+  pub comes : ComesLess l file tree t m walk (drop count left)
