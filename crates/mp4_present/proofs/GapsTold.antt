@@ -1,5 +1,5 @@
 -- What is due behind the front of a `moof`.
-use Rattle.std.proofs.Common.{◌≡◌, ℕ, ◌+◌, ◌-◌, ◌^◌, ◌==◌, List, [], ◌∷◌, ◌++◌, Some, find, length, map, min, pos, refl, sym, ap, subst, ◌∙◌}
+use Rattle.std.proofs.Common.{◌≡◌, ℕ, ◌-◌, ◌^◌, ◌==◌, List, [], ◌∷◌, ◌++◌, Some, find, length, map, min, pos, refl, sym, ap, subst, ◌∙◌}
 use Rattle.std.specs.Prelude.{codes, option_map}
 use Rattle.mp4_boxes.specs.format.Box.{Box}
 use Rattle.mp4_boxes.specs.format.Children.{of_kind}

@@ -1,8 +1,8 @@
 -- The places of each track's `moof`s, noted one `moof` after the other.
-use Rattle.std.proofs.Common.{◌≡◌, ℕ, ◌+◌, ◌<◌, Bool, true, false, List, [], ◌∷◌, ◌++◌, length, map, refl, sym, ap, subst, ◌∙◌, arith, length-append, Some, None}
+use Rattle.std.proofs.Common.{◌≡◌, ℕ, ◌+◌, ◌<◌, true, false, List, [], ◌∷◌, ◌++◌, length, map, refl, sym, ap, subst, ◌∙◌, arith, length-append, Some, None}
 use Rattle.std.proofs.lemmas.List.{append-nil}
 use Rattle.std.specs.Prelude.{nat_lt, unwrap_or, pos, codes}
-use Rattle.std.specs.List.{AllByRecursion, AllZip}
+use Rattle.std.specs.List.{AllZip}
 use Rattle.mp4_boxes.specs.format.Box.{Box, file_container}
 use Rattle.mp4_boxes.specs.format.Children.{Holds, of_kind}
 use Rattle.mp4_boxes.specs.declared.rule.Rule.TheVariants.{File}
@@ -19,8 +19,8 @@ use Rattle.mp4_present.specs.format.Denotes.{plain_of, placed_of}
 use Rattle.mp4_present.specs.words.Again.{IsNextFragment}
 use Rattle.mp4_present.specs.words.Movies.{IsWhole}
 use Rattle.mp4_present.specs.words.Outline.{IsOutline, box_at}
-use Rattle.mp4_present.specs.words.OwnMoofs.{AreOwn, AreOwnBehind, OwnSeen, own_first, own_moofs, own_noted, noted, place_where}
-use Rattle.mp4_present.specs.words.PassedMoofs.{IsBegun, IsPassed}
+use Rattle.mp4_present.specs.words.OwnMoofs.{AreOwnBehind, OwnSeen, own_first, own_moofs, own_noted, noted, place_where}
+use Rattle.mp4_present.specs.words.PassedMoofs.{IsBegun}
 use Rattle.mp4_present.specs.words.Passing.{parts_behind, seen_behind}
 use Rattle.mp4_present.specs.declared.outline.Outline.{Outline}
 use Rattle.mp4_present.specs.declared.reading.TopBox.{TopBox}
@@ -123,11 +123,13 @@ OwnsUnderWay file movie boxes at most states room owns = (u : IsUnderWay file mo
 pub owns_first : (file : List ℕ) (movie : MovieTree) (boxes known : List Box) (o : Outline) (states : List TrackState) (room : ℕ) (owns : List OwnSeen) → Holds File (file_container file) known → IsOutline file known o → IsBegun file movie boxes states room → owns ≡ map own_first states
     → OwnsUnderWay file movie boxes (unwrap_or o.fragments (length file)) o.longest states room owns
 unfolding under_way_first
-owns_first file movie boxes known o states room owns holds i b e =
-    (under_way_first file movie boxes known o states room holds i b, record {
-      counts = ap counts_of e ∙ first_counts states;
-      places = subst (AreNotedOf movie [] movie.tracks) (sym e) (first_places movie (parts_behind movie []) movie.tracks states b.behind.seen);
-    })
+owns_first file movie boxes known o states room owns holds i b e = (
+  under_way_first file movie boxes known o states room holds i b,
+  record {
+    counts = ap counts_of e ∙ first_counts states;
+    places = subst (AreNotedOf movie [] movie.tracks) (sym e) (first_places movie (parts_behind movie []) movie.tracks states b.behind.seen);
+  },
+)
 
 module _ (file : List ℕ) (movie : MovieTree) (boxes : List Box) (at most : ℕ) (start states : List TrackState) (whole room : ℕ) (owns : List OwnSeen) (b : IsBegun file movie boxes start whole)
     (u : OwnsUnderWay file movie boxes at most states room owns) (top : TopBox) (w : IsWhole (length file) top) (n : IsNextFragment file at u.0.left.boxes (Some top)) (m : Box) (bytes : List ℕ) (len L : ℕ) (r : IsRead file top m bytes len) (e : L ≡ length file) where

@@ -11,14 +11,13 @@ use Rattle.mp4_boxes.proofs.Tiling.{first_fits, lies_behind, sizes-append, sizes
 use Rattle.mp4_tables.specs.format.Groups.{GroupKey}
 use Rattle.mp4_tables.specs.format.PlainSamples.{PlacedSample}
 use Rattle.mp4_tables.specs.words.Timed.{timed}
-use Rattle.mp4_tables.specs.declared.sample.SampleAt.{SampleAt}
 use Rattle.mp4_frag.specs.format.Fragments.{FragmentTree}
 use Rattle.mp4_frag.specs.format.FragmentSamples.{duration_of, fragment_samples}
 use Rattle.mp4_head.specs.format.Tree.{TrackTree, MovieTree, track_head_of}
 use Rattle.mp4_present.specs.format.Denotes.{FileTree, file_parts, first_due}
 use Rattle.mp4_present.specs.words.OpenedMovie.{IsOpenedAs}
 use Rattle.mp4_present.specs.words.Movies.{MovieSeen}
-use Rattle.mp4_present.specs.words.OwnMoofs.{AreOwn, own_moofs, place_where}
+use Rattle.mp4_present.specs.words.OwnMoofs.{own_moofs, place_where}
 use Rattle.mp4_present.specs.words.Passing.{parts_behind}
 use Rattle.mp4_present.specs.words.SamplesComing.{track_keys, due_behind, samples_behind, StandsBefore}
 use Rattle.mp4_present.specs.words.WalkSteps.{MayTake, TakesOn, moofs_steps, steps_to, way_through}

@@ -1,8 +1,7 @@
 -- What is noted of each track, one track after the other.
-use Rattle.std.proofs.Common.{◌≡◌, ℕ, ◌+◌, ◌<◌, ◌≤◌, Bool, true, false, List, [], ◌∷◌, ◌++◌, Option, None, Some, length, map, take, drop, refl, sym, ap, subst, ◌∙◌, arith, take_all, slice_get, slice_set, get_or}
+use Rattle.std.proofs.Common.{◌≡◌, ℕ, ◌+◌, ◌<◌, List, [], ◌∷◌, ◌++◌, Some, length, map, take, drop, refl, sym, ap, subst, arith, take_all, slice_get, slice_set, get_or}
 use Rattle.std.specs.Prelude.{zero, suc}
 use Rattle.std.proofs.lemmas.List.{append-nil, drop_all}
-use Rattle.std.specs.List.{AllByRecursion}
 use Rattle.mp4_frag.specs.declared.state.TrackState.{TrackState}
 use Rattle.mp4_present.specs.words.OwnMoofs.{OwnSeen, own_noted, noted, places_of}
 use Rattle.mp4_present.specs.declared.own_moofs.OwnMoofs.{OwnMoofs}

@@ -1,5 +1,5 @@
 -- Where, among places that rise, those from one on begin.
-use Rattle.std.proofs.Common.{◌≡◌, ◌⊎◌, ℕ, ◌<◌, ◌≤◌, Bool, true, false, List, [], ◌∷◌, ◌++◌, Option, None, Some, length, refl, sym, ap, ◌∙◌, arith, inl, inr, ⊎_elim, subst, length-append, slice_get, slice_index_or}
+use Rattle.std.proofs.Common.{◌≡◌, ◌⊎◌, ℕ, ◌<◌, ◌≤◌, Bool, true, false, List, [], ◌∷◌, ◌++◌, Some, length, refl, ap, ◌∙◌, arith, inl, inr, ⊎_elim, subst, length-append, slice_get, slice_index_or}
 use Rattle.std.specs.Prelude.{zero, suc, nat_lt}
 use Rattle.std.specs.List.{AllByRecursion}
 use Rattle.std.specs.List.Sorted.{IsPartitionedBy, IsPartitionPoint}
@@ -47,9 +47,9 @@ module _ (from : ℕ) (before later : List ℕ) (a : AllByRecursion (λ place. p
   parted_at k most p = ⊎_elim
       (λ less. absurd (not_both _ (in_front (λ place. nat_lt place from ≡ true) before later k 0 (tests from before a) less) (p.1 k 0 (omega arith) (let all = length-append before later in omega (arith, less, all)))))
       (λ more. ⊎_elim
-          (λ past. absurd (not_both _ (p.0 (length before) 0 (omega arith) past) (in_back (λ place. nat_lt place from ≡ false) before later (length before) 0 (fails from later b) (omega arith) (omega (arith, past, most)))))
-          (λ same. omega (arith, more, same))
-          (order (length before) k))
+      (λ past. absurd (not_both _ (p.0 (length before) 0 (omega arith) past) (in_back (λ place. nat_lt place from ≡ false) before later (length before) 0 (fails from later b) (omega arith) (omega (arith, past, most)))))
+      (λ same. omega (arith, more, same))
+      (order (length before) k))
       (order k (length before))
 
 pub first_behind : (before later : List ℕ) (k : ℕ) → k ≡ length before → slice_get (before ++ later) k ≡ slice_get later 0

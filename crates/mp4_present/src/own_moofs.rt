@@ -2,7 +2,7 @@
 ghost use Rattle.std.specs.Prelude.{ℕ, List, ◌≡◌, ◌<◌, ◌≤◌, ◌++◌, [], length, map, slice_get, IfSome, OnOk};
 ghost use Rattle.std.specs.List.{AllByRecursion};
 ghost use Rattle.mp4_frag.specs.declared.state.TrackState.{TrackState};
-ghost use Rattle.mp4_present.specs.words.OwnMoofs.{OwnSeen, own_first, own_seen, own_noted, noted};
+ghost use Rattle.mp4_present.specs.words.OwnMoofs.{own_first, own_seen, own_noted, noted};
 
 use mp4_boxes::Memory;
 use mp4_frag::TrackState;

@@ -1,7 +1,7 @@
 -- The texts that the commands write.
-use Rattle.std.specs.Prelude.{◌≡◌, ℕ, zero, suc, ◌+◌, ◌*◌, ◌/◌, ◌%◌, ◌^◌, nat_le, nat_lt, ◌&&◌, if◌then◌else◌, List, [], ◌∷◌, ◌++◌, length, map, flat_map, replicate, Option, Some, None, ℤ, pos, ◌+ℤ◌, codes, decimal}
+use Rattle.std.specs.Prelude.{◌≡◌, ℕ, zero, suc, ◌+◌, ◌*◌, List, [], ◌∷◌, ◌++◌, length, map, flat_map, replicate, Option, Some, None, ℤ, pos, ◌+ℤ◌, codes, decimal}
 use Rattle.std.specs.Fmt.{signed_decimal}
-use Rattle.std.specs.List.{list_all, AllZip, concat}
+use Rattle.std.specs.List.{AllZip, concat}
 use Rattle.serde_json.specs.Data.{unsigned, Data, number, string, array, object, Members, no_members, member}
 use Rattle.serde_json.specs.Find.{of_integer}
 use Rattle.serde_json.specs.View.{items_of}

@@ -1,6 +1,6 @@
 use Rattle.std.proofs.Common.{rules, ◌≡◌, ◌∙◌, sym, ap, map, length, slice_set, slice_get, Some, subst, get_or, arith}
 use Rattle.std.proofs.lemmas.Grind.{common_steps}
-use Rattle.mp4_present.specs.words.OwnMoofs.{OwnSeen, own_noted, own_seen}
+use Rattle.mp4_present.specs.words.OwnMoofs.{own_noted, own_seen}
 use Rattle.mp4_present.proofs.OwnNoted.{set_mapped, next_noted, all_tracks, got, got_mapped}
 use Rattle.mp4_present.proofs.own_moofs.note_moof.Goals as goal
 
@@ -15,7 +15,7 @@ loop-k-preserved c =
     let v = own_noted c.args.place state.count (own_seen c.index_mut.result.now) in (
       search rules,
       set_mapped own_seen items k c.note.new.self ∙ ap (λ x. slice_set (map own_seen items) k x) c.in_ok-note.ensures ∙ ap (λ xs. slice_set xs k v) i
-      ∙ next_noted c.args.place (map own_seen c.args.own.now.items) c.args.states.now k (own_seen c.index_mut.result.now) state (subst (λ xs. slice_get xs k ≡ Some (own_seen c.index_mut.result.now)) i o) s,
+          ∙ next_noted c.args.place (map own_seen c.args.own.now.items) c.args.states.now k (own_seen c.index_mut.result.now) state (subst (λ xs. slice_get xs k ≡ Some (own_seen c.index_mut.result.now)) i o) s,
     )
 
 pub returns-clause-noted : goal.returns-clause-noted

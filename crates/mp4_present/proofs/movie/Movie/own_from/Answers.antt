@@ -1,6 +1,6 @@
-use Rattle.std.proofs.Common.{arith, ◌≡◌, ◌<◌, ◌∙◌, ℕ, List, ◌++◌, length, map, sym, ap, subst, slice_get, Some}
+use Rattle.std.proofs.Common.{arith, ◌≡◌, ◌<◌, ◌∙◌, ◌++◌, length, map, sym, ap, slice_get, Some}
 use Rattle.mp4_present.specs.words.Movies.{MovieSeen}
-use Rattle.mp4_present.specs.words.OwnMoofs.{OwnSeen, own_seen, places_of}
+use Rattle.mp4_present.specs.words.OwnMoofs.{OwnSeen, own_seen}
 use Rattle.mp4_present.proofs.OwnNoted.{got, got_mapped, length_places, some_is}
 use Rattle.mp4_present.proofs.movie.Movie.own_from.Goals as goal
 
