@@ -25,7 +25,8 @@ invariant-loop-top g l =
       left : IsTrue (g.S.Store.is_honest l.fn.store) → Left (g.S.Store.file l.fn.store) l.next l.outline.longest;
       so : IsTrue (g.S.Store.is_honest l.fn.store) → (movie : MovieTree) (boxes : List Box) → IsBegun (g.S.Store.file l.fn.store) movie boxes l.fn.states l.fn.room → IsUnderWay (g.S.Store.file l.fn.store) movie boxes l.next l.outline.longest l.states l.room;
       each : length l.own.items ≡ length l.fn.own.items;
-      own : IsTrue (g.S.Store.is_honest l.fn.store) → (movie : MovieTree) (boxes : List Box) → IsBegun (g.S.Store.file l.fn.store) movie boxes l.fn.states l.fn.room → map own_seen l.fn.own.items ≡ map own_first l.fn.states → OwnsUnderWay (g.S.Store.file l.fn.store) movie boxes l.next l.outline.longest l.states l.room (map own_seen l.own.items);
+      own : IsTrue (g.S.Store.is_honest l.fn.store) → (movie : MovieTree) (boxes : List Box) → IsBegun (g.S.Store.file l.fn.store) movie boxes l.fn.states l.fn.room → map own_seen l.fn.own.items ≡ map own_first l.fn.states
+          → OwnsUnderWay (g.S.Store.file l.fn.store) movie boxes l.next l.outline.longest l.states l.room (map own_seen l.own.items);
       work : IsTrue (g.S.Store.is_honest l.fn.store) → LeftWithin (g.S.Store.file l.fn.store) l.next l.fn.steps l.steps;
       fit : IsTrue (g.S.Store.is_honest l.fn.store) → MoofsFit (length (g.S.Store.file l.fn.store)) l.next l.room l.fn.steps l.steps;
     }
