@@ -7,3 +7,4 @@ pub mod Sources
 pub mod ReducedJob
 pub mod Jobs
 pub mod Compares
+pub mod Pairs
