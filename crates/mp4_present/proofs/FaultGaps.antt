@@ -1,5 +1,5 @@
 -- The `moof` in which a place lies, looked for behind those before it.
-use Rattle.std.proofs.Common.{◌≡◌, ℕ, ◌+◌, ◌-◌, ◌*◌, ◌^◌, ◌≤◌, Bool, true, false, List, [], ◌∷◌, Option, Some, None, find, cond, length, take, refl, sym, subst, arith, length-take}
+use Rattle.std.proofs.Common.{◌≡◌, ℕ, ◌+◌, ◌*◌, ◌^◌, ◌≤◌, Bool, true, false, List, [], ◌∷◌, Option, Some, None, find, cond, length, take, refl, sym, subst, arith, length-take}
 use Rattle.std.specs.Prelude.{IsTrue, Contains, IfSome, suc}
 use Rattle.std.proofs.lemmas.List.Elements.{Contains-append_right}
 use Rattle.mp4_boxes.specs.declared.refusal.Refusal.{Refusal}
