@@ -20,3 +20,4 @@ pub mod Windows
 pub mod NextSample
 pub mod Compared
 pub mod NumbersTold
+pub mod OverStores

@@ -8,3 +8,6 @@ pub mod ReducedJob
 pub mod Jobs
 pub mod Compares
 pub mod Pairs
+pub mod OverDevices
+pub mod OverFiles
+pub mod ListedWalks
