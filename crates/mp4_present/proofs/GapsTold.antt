@@ -10,7 +10,7 @@ use Rattle.mp4_frag.specs.declared.state.TrackState.{TrackState}
 use Rattle.mp4_frag.specs.declared.trex.Trex.{Trex}
 use Rattle.mp4_head.specs.format.Tree.{MovieTree, trexes_of}
 use Rattle.mp4_present.specs.format.FaultNumbers.{Tells, up_to}
-use Rattle.mp4_present.specs.words.NumbersTold.{ComesNext, FindsIn, IsCounts}
+use Rattle.mp4_present.specs.words.NumbersTold.{ComesNext, FindsIn, IsPlain}
 use Rattle.mp4_present.specs.words.Outline.{box_at}
 use Rattle.mp4_present.specs.words.PassedMoofs.{IsBegun}
 use Rattle.mp4_present.specs.words.Passing.{AreBehind, parts_behind}
@@ -66,9 +66,16 @@ module _ (file : List ℕ) (movie : MovieTree) (boxes : List Box) (start states 
         is_track = t.same;
         due_is = f.due_is ∙ ap (λ (s : TrackSeen). min s.time (2 ^ 64 - 1)) (sym t.seen);
       }
-  tells_gap place (numbers.Counts counted wanted) f = absurd f
+  tells_gap place (numbers.Counts counted wanted) f = tt
+  tells_gap place (numbers.Outside at size told) f = (f.0 ∙ e, rw (← e) f.1)
 
--- counts are told as counts
-pub tells_counts : (file : List ℕ) (place : ℕ) (told : FaultNumbers) → IsCounts told → Tells file place told
-tells_counts file place (numbers.Gap track due found) f = absurd f
-tells_counts file place (numbers.Counts counted wanted) f = tt
+-- what goes by no fragments is told as it is
+pub tells_plain : (file : List ℕ) (file_length place : ℕ) (told : FaultNumbers) → file_length ≡ length file → IsPlain file_length told → Tells file place told
+tells_plain file file_length place (numbers.Gap track due found) e f = absurd f
+tells_plain file file_length place (numbers.Counts counted wanted) e f = tt
+tells_plain file file_length place (numbers.Outside at size told) e f = (f.0 ∙ e, rw (← e) f.1)
+
+pub finds_plain : (file_length : ℕ) (moof : Box) (states : List TrackState) (room place : ℕ) (told : FaultNumbers) → IsPlain file_length told → FindsIn file_length moof states room place told
+finds_plain file_length moof states room place (numbers.Gap track due found) f = absurd f
+finds_plain file_length moof states room place (numbers.Counts counted wanted) f = f
+finds_plain file_length moof states room place (numbers.Outside at size told) f = f

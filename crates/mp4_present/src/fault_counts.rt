@@ -1,15 +1,15 @@
-//! What a table of a track counts, where that isn't what there is (ISO/IEC 14496-12, 8.6.1, 8.7.4
-//! and 8.9.2).
-ghost use Rattle.std.specs.Prelude.{◌≤◌, IfSome};
-ghost use Rattle.mp4_present.specs.words.NumbersTold.{IsCounts};
+//! What a table of a track or of a `traf` counts, where that isn't what there is (ISO/IEC 14496-12,
+//! 8.6.1, 8.7.4 and 8.9.2).
+ghost use Rattle.std.specs.Prelude.{ℕ, ◌≤◌, IfSome};
+ghost use Rattle.mp4_present.specs.words.NumbersTold.{IsPlain};
 
 use crate::fault_details::FaultNumbers;
 use crate::fault_gaps::{child_at, child_of};
-use mp4_boxes::{BoxView, FourCc, u32_at};
+use mp4_boxes::{BoxView, FourCc, children, u32_at};
 use mp4_head::MovieHead;
 
 // How many samples an `stbl` has, by its `stsz` or `stz2`.
-fn samples_in(stbl: BoxView) -> Option<u64> {
+pub(crate) fn samples_in(stbl: BoxView) -> Option<u64> {
     let sizes = match child_of(stbl, FourCc(*b"stsz")) {
         Some(leaf) => leaf,
         None => child_of(stbl, FourCc(*b"stz2"))?,
@@ -40,7 +40,7 @@ fn counted_by_rows(payload: &[u8], place: usize) -> Option<u64>
 }
 
 // How many chunks an `stbl` has.
-fn chunks_in(stbl: BoxView) -> Option<u32> {
+pub(crate) fn chunks_in(stbl: BoxView) -> Option<u32> {
     let offsets = match child_of(stbl, FourCc(*b"stco")) {
         Some(leaf) => leaf,
         None => child_of(stbl, FourCc(*b"co64"))?,
@@ -76,21 +76,46 @@ fn counted_by_chunks(payload: &[u8], chunks: u32) -> Option<u64> {
     Some(counted)
 }
 
+// How many samples an `sbgp` counts.
+fn counted_by_groups(payload: &[u8]) -> Option<u64> {
+    if !payload.is_empty() && payload[0] == 0 {
+        counted_by_rows(payload, 8)
+    } else {
+        counted_by_rows(payload, 12)
+    }
+}
+
+// How many samples the runs of a `traf` have.
+fn samples_in_runs(traf: BoxView) -> Option<u64> {
+    let Ok(boxes) = children(traf.payload(), traf.payload_offset(), traf.kind()) else {
+        return None;
+    };
+    let mut samples = 0u64;
+    for run in boxes {
+        if run.kind() == FourCc(*b"trun") {
+            if run.payload().len() < 8 {
+                return None;
+            }
+            samples = samples.saturating_add(u64::from(u32_at(run.payload(), 4)));
+        }
+    }
+    Some(samples)
+}
+
 // How many samples a table of an `stbl` counts.
 fn counted_in(stbl: BoxView, leaf: BoxView) -> Option<u64> {
     let payload = leaf.payload();
     match &leaf.kind().0 {
         b"stts" | b"ctts" => counted_by_rows(payload, 4),
         b"stsc" => counted_by_chunks(payload, chunks_in(stbl)?),
-        b"sbgp" if !payload.is_empty() && payload[0] == 0 => counted_by_rows(payload, 8),
-        b"sbgp" => counted_by_rows(payload, 12),
+        b"sbgp" => counted_by_groups(payload),
         _ => None,
     }
 }
 
 // The same, where a table of the track stands at a place of the file.
 fn counts_of(stbl: BoxView, place: u64) -> Option<FaultNumbers>
-    ensures { IfSome result IsCounts }
+    ensures { (file_len : ℕ) → IfSome result (IsPlain file_len) }
 {
     let leaf = child_at(stbl, place)?;
     let counted = counted_in(stbl, leaf)?;
@@ -100,7 +125,7 @@ fn counts_of(stbl: BoxView, place: u64) -> Option<FaultNumbers>
 
 /// What the table at a place of the file counts, and how many samples its track has.
 pub(crate) fn counts_in_tables(head: &MovieHead, place: u64) -> Option<FaultNumbers>
-    ensures { IfSome result IsCounts }
+    ensures { (file_len : ℕ) → IfSome result (IsPlain file_len) }
 {
     for track in &head.tracks {
         if let Some(counts) = counts_of(track.stbl, place) {
@@ -108,4 +133,19 @@ pub(crate) fn counts_in_tables(head: &MovieHead, place: u64) -> Option<FaultNumb
         }
     }
     None
+}
+
+/// What the `sbgp` at a place of the file counts, in a `traf` of this `moof`, and how many samples
+/// the `traf` has.
+pub(crate) fn counts_in_fragment(moof: BoxView, place: u64) -> Option<FaultNumbers>
+    ensures { (file_len : ℕ) → IfSome result (IsPlain file_len) }
+{
+    let traf = child_at(moof, place)?;
+    let leaf = child_at(traf, place)?;
+    if leaf.kind() != FourCc(*b"sbgp") {
+        return None;
+    }
+    let counted = counted_by_groups(leaf.payload())?;
+    let wanted = samples_in_runs(traf)?;
+    Some(FaultNumbers::Counts { counted, wanted })
 }

@@ -1,19 +1,21 @@
-//! Numbers that go with a fault: what a table counts and what there is, which time is due.
+//! Numbers that go with a fault: what a table counts and what there is, which time is due, where a
+//! sample would end.
 ghost use Rattle.std.specs.Prelude.{◌≡◌, ◌+◌, length, IfOk, IfErr, IfSome, OnOk, IsTrue};
 ghost use Rattle.mp4_store.specs.words.Device.{range};
 ghost use Rattle.mp4_present.specs.format.FaultNumbers.{Tells};
-ghost use Rattle.mp4_present.specs.words.NumbersTold.{RefusesNumbers, RefusesSearch};
+ghost use Rattle.mp4_present.specs.words.NumbersTold.{IsPlain, RefusesNumbers, RefusesSearch};
 ghost use Rattle.mp4_present.specs.words.Movies.{Fills};
 ghost use Rattle.mp4_present.specs.words.Opening.{HasOutline};
 ghost use Rattle.mp4_present.specs.words.WalkSteps.{OpensWithin};
 
 use crate::fault_counts::counts_in_tables;
-use crate::fault_gaps::gap_in_fragments;
+use crate::fault_gaps::numbers_in_fragments;
+use crate::fault_places::outside_in_tables;
 use crate::outline::{Outline, read_outline};
 use crate::reading::read_bytes;
 use crate::tables_pass::check_tables;
 use mp4_boxes::{Fault, Kind, Refusal, Steps};
-use mp4_head::read_head;
+use mp4_head::{MovieHead, read_head};
 use mp4_store::Store;
 use std::alloc::Global;
 use std::sync::ledger::Ledger;
@@ -26,6 +28,19 @@ pub enum FaultNumbers {
     Gap { track: u32, due: u64, found: u64 },
     /// What the named table counts, and how many samples there are.
     Counts { counted: u64, wanted: u64 },
+    /// A sample of so many bytes at a place, of which some lie behind the file's last one.
+    Outside { at: u64, size: u32, file_len: u64 },
+}
+
+// The same, where the fault is of a track's tables.
+fn numbers_in_tables(head: &MovieHead, fault: &Fault, file_len: u64) -> Option<FaultNumbers>
+    ensures { IfSome result (IsPlain file_len) }
+{
+    match fault.kind {
+        Kind::CountMismatch => counts_in_tables(head, fault.offset),
+        Kind::SampleOutsideFile => outside_in_tables(head, fault.offset, file_len),
+        _ => None,
+    }
 }
 
 // The same, of a file with this outline and this `moov`; or a fault that comes before what is asked
@@ -56,11 +71,11 @@ fn numbers_behind<S: Store, L: Ledger>(
 {
     let view = outline.moov.view(moov);
     let head = read_head(alloc, view)?;
-    if fault.kind == Kind::CountMismatch {
-        return Ok(counts_in_tables(&head, fault.offset));
+    if let Some(told) = numbers_in_tables(&head, fault, store.len()) {
+        return Ok(Some(told));
     }
     let plain = check_tables(alloc, view, &head, store.len(), steps)?;
-    let told = gap_in_fragments(alloc, store, outline, &plain, fault.offset, steps)?;
+    let told = numbers_in_fragments(alloc, store, outline, &plain, fault, steps)?;
     Ok(told)
 }
 
@@ -110,7 +125,7 @@ pub fn fault_numbers<S: Store, L: Ledger>(
         (S.read_failures store.new)) }
 {
     match fault.kind {
-        Kind::Gap | Kind::CountMismatch => {}
+        Kind::Gap | Kind::CountMismatch | Kind::SampleOutsideFile => {}
         _ => return Ok(None),
     }
     match numbers_in(alloc, fault, store, steps) {

@@ -1,4 +1,5 @@
-//! The time that is due where a fragment begins at another one (ISO/IEC 14496-12, 8.8.12).
+//! Numbers of a fault in a fragment; and the time that is due where one begins at another (ISO/IEC
+//! 14496-12, 8.8.12).
 ghost use Rattle.std.specs.Prelude.{◌≡◌, ◌+◌, ◌-◌, ◌*◌, ◌^◌, ◌≤◌, ◌==◌, List, length, take, find, IfOk, IfErr, IfSome, OnOk, IsTrue};
 ghost use Rattle.mp4_boxes.specs.format.Bytes.{field};
 ghost use Rattle.mp4_boxes.specs.format.Box.{Box};
@@ -13,13 +14,17 @@ ghost use Rattle.mp4_present.specs.words.Movies.{Fills};
 ghost use Rattle.mp4_present.specs.words.Opening.{HasOutline};
 ghost use Rattle.mp4_present.specs.words.PassedMoofs.{IsBegun};
 
+use crate::fault_counts::counts_in_fragment;
 use crate::fault_details::FaultNumbers;
+use crate::fault_places::outside_in_fragment;
 use crate::fragments::next_fragment;
 use crate::outline::Outline;
 use crate::reading::{TopBox, read_payload};
 use crate::tables_pass::PlainTracks;
 use crate::totals::in_64_bits;
-use mp4_boxes::{BoxView, Fault, FourCc, Refusal, Steps, TopHeader, children, u32_at, u64_at};
+use mp4_boxes::{
+    BoxView, Fault, FourCc, Kind, Refusal, Steps, TopHeader, children, u32_at, u64_at,
+};
 use mp4_frag::{TrackState, check_moof};
 use mp4_store::Store;
 use std::alloc::Global;
@@ -104,8 +109,8 @@ fn track_in(payload: &[u8]) -> Option<u32>
     Some(u32_at(payload, 4))
 }
 
-// The track with an ID.
-fn state_with(states: &[TrackState], id: u32) -> Option<TrackState>
+/// The track with an ID.
+pub(crate) fn state_with(states: &[TrackState], id: u32) -> Option<TrackState>
     ensures { result ≡ find (λ (t : TrackState). t.id == id) states.now }
 {
     for state in states {
@@ -193,6 +198,34 @@ fn gap_in<L: Ledger>(
     Ok(Some(FaultNumbers::Gap { track, due, found }))
 }
 
+// What is told of a fault of this kind where the named box stands at a place in this `moof`.
+fn told_in<L: Ledger>(
+    kind: Kind,
+    top: TopBox,
+    bytes: &[u8],
+    place: u64,
+    file_len: u64,
+    states: &mut [TrackState],
+    room: u32,
+    steps: &mut Steps<L>,
+) -> Result<Option<FaultNumbers>, Fault>
+    requires fills { Fills (length bytes.now) top }
+    requires few { room ≤ 2 ^ 24 }
+    requires room { HaveRoom room states.old }
+    ensures finds { IfOk result (λ told. IfSome told
+        (FindsIn file_len (moof_read top bytes.now) states.old room place)) }
+    ensures work { 2 * steps.new ≤ 2 * steps.old + 2 * room + length bytes.now }
+{
+    match kind {
+        Kind::CountMismatch => Ok(counts_in_fragment(top.view(bytes), place)),
+        Kind::SampleOutsideFile => {
+            let moof = top.view(bytes);
+            Ok(outside_in_fragment(moof, place, states, file_len))
+        }
+        _ => gap_in(top, bytes, place, file_len, states, room, steps),
+    }
+}
+
 // The `moof` in which a place lies, where there is one. The tracks are moved on by those before it.
 fn pass_until<S: Store, L: Ledger>(
     store: &mut S,
@@ -242,14 +275,13 @@ fn pass_until<S: Store, L: Ledger>(
     Ok(None)
 }
 
-/// What is due and what is found where a `tfdt` stands at a place of the file, behind tables that
-/// were checked.
-pub(crate) fn gap_in_fragments<S: Store, L: Ledger>(
+/// Numbers that go with a fault of a `moof`, behind tables that were checked.
+pub(crate) fn numbers_in_fragments<S: Store, L: Ledger>(
     alloc: Global,
     store: &mut S,
     outline: &Outline,
     plain: &PlainTracks,
-    place: u64,
+    fault: &Fault,
     steps: &mut Steps<L>,
 ) -> Result<Option<FaultNumbers>, Refusal>
     requires few { plain.now.room ≤ 2 ^ 24 }
@@ -260,7 +292,7 @@ pub(crate) fn gap_in_fragments<S: Store, L: Ledger>(
     ensures told { IfOk result (λ told. IfSome told (λ n. IsTrue (S.is_honest store.old)
         → (movie : MovieTree) (boxes : List Box)
         → IsBegun (S.file store.old) movie boxes plain.now.states.items plain.now.room
-        → Tells (S.file store.old) place n)) }
+        → Tells (S.file store.old) fault.now.offset n)) }
     ensures within { IsTrue (S.is_honest store.old)
         → steps.new ≤ steps.old + (2 ^ 24 + length (S.file store.old)) }
     ensures reads { OnOk result (S.read_failures store.new ≡ S.read_failures store.old) }
@@ -273,11 +305,16 @@ pub(crate) fn gap_in_fragments<S: Store, L: Ledger>(
     let states = states.as_mut_slice();
     let mut bytes = vec![in alloc; 0u8; outline.longest as usize]?;
     let bytes = bytes.as_mut_slice();
+    let place = fault.offset;
     let Some(reached) = pass_until(store, outline, states, bytes, plain.room, place, steps)? else {
         return Ok(None);
     };
     let Reached { moof, room } = reached;
     let len = read_payload(store, moof, bytes)?;
-    let told = gap_in(moof, &bytes[..len], place, store.len(), states, room, steps)?;
+    let file_len = store.len();
+    let bytes = &bytes[..len];
+    let told = told_in(
+        fault.kind, moof, bytes, place, file_len, states, room, steps,
+    )?;
     Ok(told)
 }

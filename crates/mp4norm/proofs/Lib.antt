@@ -23,3 +23,4 @@ pub mod HeadersUnder
 pub mod BoxSpans
 pub mod ReducedNormalised
 pub mod ComparedFiles
+pub mod Fronts

@@ -1,5 +1,5 @@
 -- The parts of a line.
-use Rattle.std.proofs.Common.{◌≡◌, ◌⊎◌, inl, inr, ℕ, ℤ, pos, negsuc, ◌+ℤ◌, List, [], ◌∷◌, ◌++◌, refl, sym, ap, ◌∙◌, codes, decimal, append_assoc}
+use Rattle.std.proofs.Common.{◌≡◌, ◌⊎◌, inl, inr, ℕ, ℤ, pos, negsuc, ◌+ℤ◌, List, ◌++◌, refl, sym, ap, ◌∙◌, codes, decimal, append_assoc}
 use Rattle.std.specs.Fmt.{signed_decimal}
 use Rattle.serde_json.proofs.OnLiterals.{serde_json_on_literals}
 use Rattle.serde_json.specs.Find.{of_integer}
@@ -7,12 +7,7 @@ use Rattle.serde_json.specs.Written.{number_text}
 use Rattle.mp4_tables.specs.declared.sample.SampleAt.{SampleAt}
 use Rattle.mp4norm.specs.declared.wanted.Form.{Form}
 use Rattle.mp4norm.specs.declared.wanted.Form.TheVariants as forms
-use Rattle.mp4norm.specs.format.Texts.{space, line_feed, form_line, sample_at_line}
-
--- seven fields, joined from the last to the first
-pub seven_fields : (a b c d e f g : List ℕ)
-    → a ++ 32 ∷ (b ++ 32 ∷ (c ++ 32 ∷ (d ++ 32 ∷ (e ++ 32 ∷ (f ++ 32 ∷ (g ++ 10 ∷ [])))))) ≡ a ++ space ++ b ++ space ++ c ++ space ++ d ++ space ++ e ++ space ++ f ++ space ++ g ++ line_feed
-seven_fields a b c d e f g = simp append_assoc
+use Rattle.mp4norm.specs.format.Texts.{line_feed, form_line, sample_at_line}
 
 integer_text : (z : ℤ) → number_text (of_integer z) ≡ signed_decimal z
 integer_text (pos n) = refl
@@ -24,6 +19,12 @@ named_fields : (a b c d e f g : List ℕ)
     ≡ (codes "{\"composition_time\":" ++ (a ++ (codes ",\"decode_time\":" ++ (b ++ (codes ",\"description\":" ++ (c ++ (codes ",\"duration\":" ++ (d ++ (codes ",\"flags\":" ++ (e ++ (codes ",\"number\":" ++ (f ++ (codes ",\"size\":" ++ (g ++ codes "}")))))))))))))) ++ line_feed
 named_fields a b c d e f g = simp append_assoc
 
+-- seven named fields before other text
+named_before : (a b c d e f g behind : List ℕ)
+    → codes "{\"composition_time\":" ++ (a ++ (codes ",\"decode_time\":" ++ (b ++ (codes ",\"description\":" ++ (c ++ (codes ",\"duration\":" ++ (d ++ (codes ",\"flags\":" ++ (e ++ (codes ",\"number\":" ++ (f ++ (codes ",\"size\":" ++ (g ++ (codes "}\n" ++ behind))))))))))))))
+    ≡ (codes "{\"composition_time\":" ++ (a ++ (codes ",\"decode_time\":" ++ (b ++ (codes ",\"description\":" ++ (c ++ (codes ",\"duration\":" ++ (d ++ (codes ",\"flags\":" ++ (e ++ (codes ",\"number\":" ++ (f ++ (codes ",\"size\":" ++ (g ++ codes "}\n")))))))))))))) ++ behind
+named_before a b c d e f g behind = simp append_assoc
+
 -- the fields of a sample as an object, joined from the last to the first
 pub json_fields : (i time : ℕ) (offset : ℤ) (duration flags description size : ℕ)
     → codes "{\"composition_time\":" ++ (signed_decimal (pos time +ℤ offset) ++ (codes ",\"decode_time\":" ++ (decimal time ++ (codes ",\"description\":" ++ (decimal description ++ (codes ",\"duration\":" ++ (decimal duration
@@ -34,6 +35,15 @@ json_fields i time offset duration flags description size =
     named_fields (signed_decimal (pos time +ℤ offset)) (decimal time) (decimal description) (decimal duration) (decimal flags) (decimal i) (decimal size)
     ∙ ap (λ (text : List ℕ). (codes "{\"composition_time\":" ++ (text ++ (codes ",\"decode_time\":" ++ (decimal time ++ (codes ",\"description\":" ++ (decimal description ++ (codes ",\"duration\":" ++ (decimal duration
     ++ (codes ",\"flags\":" ++ (decimal flags ++ (codes ",\"number\":" ++ (decimal i ++ (codes ",\"size\":" ++ (decimal size ++ codes "}")))))))))))))) ++ line_feed) (sym (integer_text (pos time +ℤ offset)))
+
+-- the same before other text
+pub json_fields_before : (i time : ℕ) (offset : ℤ) (duration flags description size : ℕ) (behind : List ℕ)
+    → codes "{\"composition_time\":" ++ (signed_decimal (pos time +ℤ offset) ++ (codes ",\"decode_time\":" ++ (decimal time ++ (codes ",\"description\":" ++ (decimal description ++ (codes ",\"duration\":" ++ (decimal duration
+    ++ (codes ",\"flags\":" ++ (decimal flags ++ (codes ",\"number\":" ++ (decimal i ++ (codes ",\"size\":" ++ (decimal size ++ (codes "}\n" ++ behind))))))))))))))
+    ≡ form_line forms.Json i time offset duration flags description size ++ behind
+json_fields_before i time offset duration flags description size behind =
+    named_before (signed_decimal (pos time +ℤ offset)) (decimal time) (decimal description) (decimal duration) (decimal flags) (decimal i) (decimal size) behind
+    ∙ ap (λ (text : List ℕ). text ++ behind) (json_fields i time offset duration flags description size)
 
 -- the names of the columns change no line
 pub plain_lines : (form : Form) → (form ≡ forms.Plain) ⊎ (form ≡ forms.Named) → (i : ℕ) (s : SampleAt) → sample_at_line form i s ≡ sample_at_line forms.Plain i s

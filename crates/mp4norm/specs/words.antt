@@ -7,3 +7,7 @@ pub mod Sources
 pub mod ReducedJob
 pub mod Jobs
 pub mod Compares
+pub mod Pairs
+pub mod OverDevices
+pub mod OverFiles
+pub mod ListedWalks

@@ -1,11 +1,12 @@
 //! The boxes of a file, a line each.
 ghost use Rattle.std.specs.Prelude.{◌≡◌, ℕ, ◌+◌, ◌≤◌, ◌++◌, List, length, IfOk, IfErr, OnOk, IsTrue};
 ghost use Rattle.std.specs.List.{All};
-ghost use Rattle.std.specs.Io.KnownBytes.{Appends};
 ghost use Rattle.mp4_boxes.specs.format.Box.{Tiles};
 ghost use Rattle.mp4norm.specs.format.BoxWalk.{height, rule_inside, RefusesBoxes, tops_seen, IsWithin, RefusesTops};
 ghost use Rattle.mp4norm.specs.format.Texts.{line_text, AreBoxLines, BoxLines};
 ghost use Rattle.mp4norm.specs.words.BoxSpans.{span_of, RefusesSpan};
+ghost use Rattle.mp4_present.specs.words.OverStores.{OnlyReads};
+ghost use Rattle.mp4norm.specs.words.OverDevices.{NoPutFails, PutsTextOf, Refuses};
 
 use crate::headers_under::read_header;
 use crate::line::Line;
@@ -141,18 +142,12 @@ fn list_boxes<S: Store>(alloc: Global, store: &mut S) -> Result<Vec<u8>, Refusal
 /// each container that it stands in, its type, its place, its size. Every type is accepted. Where
 /// any header that is looked at is at fault, nothing is put.
 pub fn boxes<S: Store, K: Sink>(alloc: Global, store: &mut S, sink: &mut K) -> Result<(), Refusal>
-    ensures honesty { S.is_honest store.new ≡ S.is_honest store.old }
-    ensures file { S.file store.new ≡ S.file store.old }
-    ensures reads { OnOk result (S.read_failures store.new ≡ S.read_failures store.old) }
-    ensures puts { OnOk result (K.put_failures sink.new ≡ K.put_failures sink.old) }
-    ensures lines { OnOk result (IsTrue (S.is_honest store.old) → (text : List ℕ)
-        × BoxLines (S.file store.old) text
-        × Appends (K.contents sink.old) (K.contents sink.new) text) }
-    ensures refusal { IfErr result
-        (RefusesBoxes (S.is_honest store.old) (S.file store.old) (K.contents sink.old)
-        (K.contents sink.new)
-        (S.read_failures store.old) (S.read_failures store.new) (K.put_failures sink.old)
-        (K.put_failures sink.new)) }
+    ensures store { OnlyReads S.Store store.old store.new result }
+    ensures puts { NoPutFails K.Sink sink.old sink.new result }
+    ensures lines { PutsTextOf S.Store store.old K.Sink sink.old sink.new result
+        BoxLines }
+    ensures refusal { Refuses S.Store store.old store.new K.Sink sink.old sink.new result
+        RefusesBoxes }
 {
     let text = list_boxes(alloc, store)?;
     sink.put(text.as_slice())?;

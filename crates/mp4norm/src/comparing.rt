@@ -1,12 +1,10 @@
 //! Two files, compared by what they say.
-ghost use Rattle.std.specs.Prelude.{◌≡◌, ◌+◌, ◌<◌, ◌≤◌, length, IfOk, IfErr, IfSome, OnOk, IsTrue};
-ghost use Rattle.mp4_boxes.specs.declared.refusal.Refusal.TheVariants as refusals;
-ghost use Rattle.mp4_present.specs.words.Opening.{RefusesOpen};
-ghost use Rattle.mp4_present.specs.words.Compared.{WhereBothOpened};
-ghost use Rattle.mp4_present.specs.words.Differing.{RefusesSample};
-ghost use Rattle.mp4_present.specs.words.WalkSteps.{walks_steps};
+ghost use Rattle.std.specs.Prelude.{◌≡◌, ◌<◌, length, IfOk, IfErr, IfSome};
 ghost use Rattle.mp4norm.specs.format.CompareHeadline.{IsVerdict, ComparesWithin};
-ghost use Rattle.mp4norm.specs.words.Compares.{side_of, says_nothing, files_differ, IsSaid, ListsFront, PutsAnswer, StaysAs, WalksTwice, RefusesAnswer, RefusesBoth, RefusesCompare};
+ghost use Rattle.mp4norm.specs.words.Compares.{side_of, says_nothing, IsSaid, ListsFront, PutsAnswer, WalksTwice, RefusesAnswer};
+ghost use Rattle.mp4_present.specs.words.OverStores.{OnlyReads, IsUnchanged};
+ghost use Rattle.mp4norm.specs.words.OverDevices.{NoPutFails};
+ghost use Rattle.mp4norm.specs.words.OverFiles.{FailsCompare, RefusesReads, WalksOnce, WhereDiffer, WhereHonestBoth, WhereOpenedBoth};
 
 use crate::difference_lines::{say, say_difference};
 use crate::tally::{Tally, say_tally};
@@ -146,23 +144,15 @@ fn all_of<S: Store, T: Store, L: Ledger>(
     leaving: Leaving,
     steps: &mut Steps<L>,
 ) -> Result<(Listed, bool), Refusal>
-    ensures honesty { S.is_honest a.new ≡ S.is_honest a.old }
-    ensures file { S.file a.new ≡ S.file a.old }
-    ensures honesty_right { T.is_honest b.new ≡ T.is_honest b.old }
-    ensures file_right { T.file b.new ≡ T.file b.old }
-    ensures reads { OnOk result (S.read_failures a.new ≡ S.read_failures a.old) }
-    ensures reads_right { OnOk result (T.read_failures b.new ≡ T.read_failures b.old) }
-    ensures all { IfOk result (λ found. WhereBothOpened (S.is_honest a.old) (S.file a.old)
-        left.now (T.is_honest b.old) (T.file b.old) right.now (λ tree other. ListsFront
-        found.0.all.items (files_differ leaving (S.file a.old) tree (T.file b.old) other))) }
-    ensures unchanged { WhereBothOpened (S.is_honest a.old) (S.file a.old) left.now
-        (T.is_honest b.old) (T.file b.old) right.now
-        (λ tree other. IfErr result (λ r. r ≡ refusals.StoreChanged → ⊥)) }
-    ensures work { WhereBothOpened (S.is_honest a.old) (S.file a.old) left.now
-        (T.is_honest b.old) (T.file b.old) right.now
-        (λ tree other. steps.new ≤ steps.old + (walks_steps tree + walks_steps other)) }
-    ensures refusal { IfErr result (RefusesSample (S.read_failures a.old) (S.read_failures a.new)
-        (T.read_failures b.old) (T.read_failures b.new)) }
+    ensures store { OnlyReads S.Store a.old a.new result }
+    ensures store_right { OnlyReads T.Store b.old b.new result }
+    ensures all { IfOk result (λ found. WhereDiffer S.Store a.old left.now T.Store b.old right.now
+        leaving (ListsFront found.0.all.items)) }
+    ensures unchanged { WhereOpenedBoth S.Store a.old left.now T.Store b.old right.now
+        (λ tree other. IsUnchanged result) }
+    ensures work { WhereOpenedBoth S.Store a.old left.now T.Store b.old right.now
+        (λ tree other. WalksOnce tree other steps.old steps.new) }
+    ensures refusal { RefusesReads S.Store a.old a.new T.Store b.old b.new result }
 {
     let mut listed = Listed::new(alloc)?;
     if !listed.has_room() {
@@ -186,20 +176,13 @@ fn enough_of<S: Store, T: Store, L: Ledger>(
     tally: &Tally,
     steps: &mut Steps<L>,
 ) -> Result<Option<Leaving>, Refusal>
-    ensures honesty { S.is_honest a.new ≡ S.is_honest a.old }
-    ensures file { S.file a.new ≡ S.file a.old }
-    ensures honesty_right { T.is_honest b.new ≡ T.is_honest b.old }
-    ensures file_right { T.file b.new ≡ T.file b.old }
-    ensures reads { OnOk result (S.read_failures a.new ≡ S.read_failures a.old) }
-    ensures reads_right { OnOk result (T.read_failures b.new ≡ T.read_failures b.old) }
-    ensures unchanged { WhereBothOpened (S.is_honest a.old) (S.file a.old) left.now
-        (T.is_honest b.old) (T.file b.old) right.now
-        (λ tree other. IfErr result (λ r. r ≡ refusals.StoreChanged → ⊥)) }
-    ensures work { WhereBothOpened (S.is_honest a.old) (S.file a.old) left.now
-        (T.is_honest b.old) (T.file b.old) right.now
-        (λ tree other. steps.new ≤ steps.old + (walks_steps tree + walks_steps other)) }
-    ensures refusal { IfErr result (RefusesSample (S.read_failures a.old) (S.read_failures a.new)
-        (T.read_failures b.old) (T.read_failures b.new)) }
+    ensures store { OnlyReads S.Store a.old a.new result }
+    ensures store_right { OnlyReads T.Store b.old b.new result }
+    ensures unchanged { WhereOpenedBoth S.Store a.old left.now T.Store b.old right.now
+        (λ tree other. IsUnchanged result) }
+    ensures work { WhereOpenedBoth S.Store a.old left.now T.Store b.old right.now
+        (λ tree other. WalksOnce tree other steps.old steps.new) }
+    ensures refusal { RefusesReads S.Store a.old a.new T.Store b.old b.new result }
 {
     let Some(more) = tally.suggests(leaving) else {
         return Ok(None);
@@ -221,24 +204,16 @@ fn all_text<S: Store, T: Store, L: Ledger>(
     limit: u32,
     steps: &mut Steps<L>,
 ) -> Result<Option<Vec<u8>>, Refusal>
-    ensures honesty { S.is_honest a.new ≡ S.is_honest a.old }
-    ensures file { S.file a.new ≡ S.file a.old }
-    ensures honesty_right { T.is_honest b.new ≡ T.is_honest b.old }
-    ensures file_right { T.file b.new ≡ T.file b.old }
-    ensures reads { OnOk result (S.read_failures a.new ≡ S.read_failures a.old) }
-    ensures reads_right { OnOk result (T.read_failures b.new ≡ T.read_failures b.old) }
+    ensures store { OnlyReads S.Store a.old a.new result }
+    ensures store_right { OnlyReads T.Store b.old b.new result }
     ensures some { IfOk result (λ found. IfSome found (λ text. 0 < length text.items)) }
-    ensures said { IfOk result (λ text. WhereBothOpened (S.is_honest a.old) (S.file a.old)
-        left.now (T.is_honest b.old) (T.file b.old) right.now (λ tree other.
-        IsSaid text (files_differ leaving (S.file a.old) tree (T.file b.old) other))) }
-    ensures unchanged { WhereBothOpened (S.is_honest a.old) (S.file a.old) left.now
-        (T.is_honest b.old) (T.file b.old) right.now
-        (λ tree other. IfErr result (λ r. r ≡ refusals.StoreChanged → ⊥)) }
-    ensures work { WhereBothOpened (S.is_honest a.old) (S.file a.old) left.now
-        (T.is_honest b.old) (T.file b.old) right.now
+    ensures said { IfOk result (λ text. WhereDiffer S.Store a.old left.now T.Store b.old right.now
+        leaving (IsSaid text)) }
+    ensures unchanged { WhereOpenedBoth S.Store a.old left.now T.Store b.old right.now
+        (λ tree other. IsUnchanged result) }
+    ensures work { WhereOpenedBoth S.Store a.old left.now T.Store b.old right.now
         (λ tree other. WalksTwice tree other steps.old steps.new) }
-    ensures refusal { IfErr result (RefusesSample (S.read_failures a.old) (S.read_failures a.new)
-        (T.read_failures b.old) (T.read_failures b.new)) }
+    ensures refusal { RefusesReads S.Store a.old a.new T.Store b.old b.new result }
 {
     let (listed, is_whole) = all_of(alloc, left, a, right, b, leaving, steps)?;
     if listed.is_empty() {
@@ -261,24 +236,16 @@ fn text_of<S: Store, T: Store, L: Ledger>(
     listing: Listing,
     steps: &mut Steps<L>,
 ) -> Result<Option<Vec<u8>>, Refusal>
-    ensures honesty { S.is_honest a.new ≡ S.is_honest a.old }
-    ensures file { S.file a.new ≡ S.file a.old }
-    ensures honesty_right { T.is_honest b.new ≡ T.is_honest b.old }
-    ensures file_right { T.file b.new ≡ T.file b.old }
-    ensures reads { OnOk result (S.read_failures a.new ≡ S.read_failures a.old) }
-    ensures reads_right { OnOk result (T.read_failures b.new ≡ T.read_failures b.old) }
+    ensures store { OnlyReads S.Store a.old a.new result }
+    ensures store_right { OnlyReads T.Store b.old b.new result }
     ensures some { IfOk result (λ found. IfSome found (λ text. 0 < length text.items)) }
-    ensures said { IfOk result (λ text. WhereBothOpened (S.is_honest a.old) (S.file a.old)
-        left.now (T.is_honest b.old) (T.file b.old) right.now (λ tree other.
-        IsSaid text (files_differ leaving (S.file a.old) tree (T.file b.old) other))) }
-    ensures unchanged { WhereBothOpened (S.is_honest a.old) (S.file a.old) left.now
-        (T.is_honest b.old) (T.file b.old) right.now
-        (λ tree other. IfErr result (λ r. r ≡ refusals.StoreChanged → ⊥)) }
-    ensures work { WhereBothOpened (S.is_honest a.old) (S.file a.old) left.now
-        (T.is_honest b.old) (T.file b.old) right.now
+    ensures said { IfOk result (λ text. WhereDiffer S.Store a.old left.now T.Store b.old right.now
+        leaving (IsSaid text)) }
+    ensures unchanged { WhereOpenedBoth S.Store a.old left.now T.Store b.old right.now
+        (λ tree other. IsUnchanged result) }
+    ensures work { WhereOpenedBoth S.Store a.old left.now T.Store b.old right.now
         (λ tree other. WalksTwice tree other steps.old steps.new) }
-    ensures refusal { IfErr result (RefusesSample (S.read_failures a.old) (S.read_failures a.new)
-        (T.read_failures b.old) (T.read_failures b.new)) }
+    ensures refusal { RefusesReads S.Store a.old a.new T.Store b.old b.new result }
 {
     match listing {
         Listing::First => match compare(alloc, left, a, right, b, leaving, steps)? {
@@ -292,7 +259,7 @@ fn text_of<S: Store, T: Store, L: Ledger>(
 // Puts what there is to say: that two files differ, or nothing where they are the same.
 fn put_found<K: Sink>(found: Option<Vec<u8>>, sink: &mut K) -> Result<bool, Refusal>
     requires { IfSome found (λ text. 0 < length text.items) }
-    ensures puts { OnOk result (K.put_failures sink.new ≡ K.put_failures sink.old) }
+    ensures puts { NoPutFails K.Sink sink.old sink.new result }
     ensures is { IfOk result (λ same. same ≡ says_nothing found) }
     ensures put { IfOk result (PutsAnswer (K.contents sink.old) (K.contents sink.new)) }
     ensures refusal { IfErr result (RefusesAnswer (K.contents sink.old) (K.contents sink.new)
@@ -316,25 +283,16 @@ pub fn compare_files<S: Store, T: Store, K: Sink, L: Ledger>(
     sink: &mut K,
     steps: &mut Steps<L>,
 ) -> Result<bool, Failure>
-    ensures left { StaysAs (S.is_honest a.old) (S.file a.old) (S.is_honest a.new) (S.file a.new) }
-    ensures right { StaysAs (T.is_honest b.old) (T.file b.old) (T.is_honest b.new) (T.file b.new) }
-    ensures reads { OnOk result ((S.read_failures a.new ≡ S.read_failures a.old)
-        × (T.read_failures b.new ≡ T.read_failures b.old)) }
-    ensures puts { OnOk result (K.put_failures sink.new ≡ K.put_failures sink.old) }
-    ensures verdict { IfOk result (λ same. IsTrue (S.is_honest a.old) → IsTrue (T.is_honest b.old)
-        → IsVerdict leaving (S.file a.old) (T.file b.old) same) }
+    ensures store { OnlyReads S.Store a.old a.new result }
+    ensures store_right { OnlyReads T.Store b.old b.new result }
+    ensures puts { NoPutFails K.Sink sink.old sink.new result }
+    ensures verdict { IfOk result (λ same. WhereHonestBoth S.Store a.old T.Store b.old
+        (λ file other. IsVerdict leaving file other same)) }
     ensures put { IfOk result (PutsAnswer (K.contents sink.old) (K.contents sink.new)) }
-    ensures refusal { IfErr result (RefusesCompare
-        (RefusesOpen (S.is_honest a.old) (S.file a.old) (S.read_failures a.old)
-        (S.read_failures a.new))
-        (RefusesOpen (T.is_honest b.old) (T.file b.old) (T.read_failures b.old)
-        (T.read_failures b.new))
-        (RefusesBoth (S.is_honest a.old) (T.is_honest b.old) (S.read_failures a.old)
-        (S.read_failures a.new) (T.read_failures b.old) (T.read_failures b.new))
-        (K.contents sink.old) (K.contents sink.new) (K.put_failures sink.old)
-        (K.put_failures sink.new)) }
-    ensures work { IsTrue (S.is_honest a.old) → IsTrue (T.is_honest b.old)
-        → ComparesWithin (S.file a.old) (T.file b.old) steps.old steps.new }
+    ensures refusal { FailsCompare S.Store a.old a.new T.Store b.old b.new
+        K.Sink sink.old sink.new result }
+    ensures work { WhereHonestBoth S.Store a.old T.Store b.old
+        (λ file other. ComparesWithin file other steps.old steps.new) }
 {
     let left = match open_movie(alloc, a, steps) {
         Ok(left) => left,

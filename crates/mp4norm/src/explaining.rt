@@ -152,6 +152,14 @@ fn say_numbers(text: &mut Vec<u8>, numbers: FaultNumbers) -> Result<(), AllocErr
             say(text, ", samples ")?;
             say_number(text, wanted)?;
         }
+        FaultNumbers::Outside { at, size, file_len } => {
+            say(text, "sample at ")?;
+            say_number(text, at)?;
+            say(text, ", size ")?;
+            say_number(text, u64::from(size))?;
+            say(text, ", file ")?;
+            say_number(text, file_len)?;
+        }
     }
     say(text, "\n")
 }

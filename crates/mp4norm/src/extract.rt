@@ -1,8 +1,9 @@
 //! The bytes of a track's samples.
-ghost use Rattle.std.specs.Prelude.{◌≡◌, ℕ, ◌<◌, List, IfErr, OnOk, IsTrue};
-ghost use Rattle.std.specs.Io.KnownBytes.{Appends};
+ghost use Rattle.std.specs.Prelude.{◌≡◌, ◌<◌};
 ghost use Rattle.mp4norm.specs.format.Steps.{LooksWithin};
-ghost use Rattle.mp4norm.specs.words.Commands.{HasData, RefusesTrack};
+ghost use Rattle.mp4norm.specs.words.Commands.{HasData, RefusesData};
+ghost use Rattle.mp4_present.specs.words.OverStores.{OnlyReads, WhereHonest};
+ghost use Rattle.mp4norm.specs.words.OverDevices.{NoPutFails, PutsTextOf, Refuses};
 
 use crate::tracks::track_with;
 use mp4_boxes::{Refusal, Steps};
@@ -21,20 +22,13 @@ pub fn extract_counted<S: Store, K: Sink, L: Ledger>(
     sink: &mut K,
     steps: &mut Steps<L>,
 ) -> Result<(), Refusal>
-    ensures honesty { S.is_honest store.new ≡ S.is_honest store.old }
-    ensures file { S.file store.new ≡ S.file store.old }
-    ensures reads { OnOk result (S.read_failures store.new ≡ S.read_failures store.old) }
-    ensures puts { OnOk result (K.put_failures sink.new ≡ K.put_failures sink.old) }
-    ensures bytes { OnOk result (IsTrue (S.is_honest store.old) → (text : List ℕ)
-        × HasData (S.file store.old) id text
-        × Appends (K.contents sink.old) (K.contents sink.new) text) }
-    ensures refusal { IfErr result
-        (RefusesTrack (S.is_honest store.old) (S.file store.old) id (HasData (S.file store.old) id)
-        (K.contents sink.old) (K.contents sink.new)
-        (S.read_failures store.old) (S.read_failures store.new) (K.put_failures sink.old)
-        (K.put_failures sink.new)) }
-    ensures work { IsTrue (S.is_honest store.old)
-        → LooksWithin (S.file store.old) steps.old steps.new }
+    ensures store { OnlyReads S.Store store.old store.new result }
+    ensures puts { NoPutFails K.Sink sink.old sink.new result }
+    ensures bytes { PutsTextOf S.Store store.old K.Sink sink.old sink.new result
+        (λ file text. HasData file id text) }
+    ensures refusal { Refuses S.Store store.old store.new K.Sink sink.old sink.new result
+        (RefusesData id) }
+    ensures work { WhereHonest S.Store store.old (λ file. LooksWithin file steps.old steps.new) }
 {
     let movie = open_movie(alloc, store, steps)?;
     let track = track_with(movie.tracks(), id)?;
@@ -52,18 +46,12 @@ fn extract_blank<S: Store, K: Sink, L: Ledger>(
     requires name { blank.name ≡ L.name }
     requires parts { blank.parts ≡ L.parts }
     requires some { 0 < L.parts }
-    ensures honesty { S.is_honest store.new ≡ S.is_honest store.old }
-    ensures file { S.file store.new ≡ S.file store.old }
-    ensures reads { OnOk result (S.read_failures store.new ≡ S.read_failures store.old) }
-    ensures puts { OnOk result (K.put_failures sink.new ≡ K.put_failures sink.old) }
-    ensures bytes { OnOk result (IsTrue (S.is_honest store.old) → (text : List ℕ)
-        × HasData (S.file store.old) id text
-        × Appends (K.contents sink.old) (K.contents sink.new) text) }
-    ensures refusal { IfErr result
-        (RefusesTrack (S.is_honest store.old) (S.file store.old) id (HasData (S.file store.old) id)
-        (K.contents sink.old) (K.contents sink.new)
-        (S.read_failures store.old) (S.read_failures store.new) (K.put_failures sink.old)
-        (K.put_failures sink.new)) }
+    ensures store { OnlyReads S.Store store.old store.new result }
+    ensures puts { NoPutFails K.Sink sink.old sink.new result }
+    ensures bytes { PutsTextOf S.Store store.old K.Sink sink.old sink.new result
+        (λ file text. HasData file id text) }
+    ensures refusal { Refuses S.Store store.old store.new K.Sink sink.old sink.new result
+        (RefusesData id) }
 {
     let mut steps = Steps::<L>::new(blank);
     extract_counted(alloc, store, id, sink, &mut steps)
@@ -77,18 +65,12 @@ pub fn extract<S: Store, K: Sink>(
     id: u32,
     sink: &mut K,
 ) -> Result<(), Refusal>
-    ensures honesty { S.is_honest store.new ≡ S.is_honest store.old }
-    ensures file { S.file store.new ≡ S.file store.old }
-    ensures reads { OnOk result (S.read_failures store.new ≡ S.read_failures store.old) }
-    ensures puts { OnOk result (K.put_failures sink.new ≡ K.put_failures sink.old) }
-    ensures bytes { OnOk result (IsTrue (S.is_honest store.old) → (text : List ℕ)
-        × HasData (S.file store.old) id text
-        × Appends (K.contents sink.old) (K.contents sink.new) text) }
-    ensures refusal { IfErr result
-        (RefusesTrack (S.is_honest store.old) (S.file store.old) id (HasData (S.file store.old) id)
-        (K.contents sink.old) (K.contents sink.new)
-        (S.read_failures store.old) (S.read_failures store.new) (K.put_failures sink.old)
-        (K.put_failures sink.new)) }
+    ensures store { OnlyReads S.Store store.old store.new result }
+    ensures puts { NoPutFails K.Sink sink.old sink.new result }
+    ensures bytes { PutsTextOf S.Store store.old K.Sink sink.old sink.new result
+        (λ file text. HasData file id text) }
+    ensures refusal { Refuses S.Store store.old store.new K.Sink sink.old sink.new result
+        (RefusesData id) }
 {
     extract_blank::<S, K, Brand>(alloc, store, id, sink, Blank::new(1))
 }

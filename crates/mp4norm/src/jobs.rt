@@ -1,7 +1,7 @@
 //! What a command does over a store.
-ghost use Rattle.std.specs.Prelude.{◌≡◌, ℕ, List, IfErr, OnOk, IsTrue};
-ghost use Rattle.std.specs.Io.KnownBytes.{Appends};
 ghost use Rattle.mp4norm.specs.words.Jobs.{IsTextOf, RefusesJob, JobWorksWithin};
+ghost use Rattle.mp4_present.specs.words.OverStores.{OnlyReads, WhereHonest};
+ghost use Rattle.mp4norm.specs.words.OverDevices.{NoPutFails, PutsTextOf, Refuses};
 
 use crate::boxes::boxes;
 use crate::extract::extract_counted;
@@ -25,19 +25,14 @@ pub fn perform<S: Store, K: Sink, L: Ledger>(
     sink: &mut K,
     steps: &mut Steps<L>,
 ) -> Result<(), Refusal>
-    ensures honesty { S.is_honest store.new ≡ S.is_honest store.old }
-    ensures file { S.file store.new ≡ S.file store.old }
-    ensures reads { OnOk result (S.read_failures store.new ≡ S.read_failures store.old) }
-    ensures puts { OnOk result (K.put_failures sink.new ≡ K.put_failures sink.old) }
-    ensures text { OnOk result (IsTrue (S.is_honest store.old) → (text : List ℕ)
-        × IsTextOf job.entry (S.file store.old) text
-        × Appends (K.contents sink.old) (K.contents sink.new) text) }
-    ensures refusal { IfErr result (RefusesJob job.entry (S.is_honest store.old) (S.file store.old)
-        (K.contents sink.old) (K.contents sink.new) (S.read_failures store.old)
-        (S.read_failures store.new)
-        (K.put_failures sink.old) (K.put_failures sink.new)) }
-    ensures work { IsTrue (S.is_honest store.old)
-        → JobWorksWithin job.entry (S.file store.old) steps.old steps.new }
+    ensures store { OnlyReads S.Store store.old store.new result }
+    ensures puts { NoPutFails K.Sink sink.old sink.new result }
+    ensures text { PutsTextOf S.Store store.old K.Sink sink.old sink.new result
+        (IsTextOf job.entry) }
+    ensures refusal { Refuses S.Store store.old store.new K.Sink sink.old sink.new result
+        (RefusesJob job.entry) }
+    ensures work { WhereHonest S.Store store.old
+        (λ file. JobWorksWithin job.entry file steps.old steps.new) }
 {
     match job {
         Job::Boxes => boxes(alloc, store, sink),

@@ -1,7 +1,8 @@
 //! Whether a file has a normal form.
-ghost use Rattle.std.specs.Prelude.{◌≡◌, ℕ, ◌<◌, List, None, IfErr, OnOk, IsTrue};
+ghost use Rattle.std.specs.Prelude.{◌≡◌, ℕ, ◌<◌, List, OnOk};
 ghost use Rattle.mp4norm.specs.format.Headline.{HasNormalForm};
-ghost use Rattle.mp4norm.specs.words.MainJob.{RefusesNormalise};
+ghost use Rattle.mp4norm.specs.words.MainJob.{RefusesCheck};
+ghost use Rattle.mp4_present.specs.words.OverStores.{OnlyReads, RefusedOf, WhereHonest};
 
 use mp4_boxes::{Refusal, Steps};
 use mp4_plan::Writer;
@@ -20,14 +21,10 @@ fn check_counted<S: Store, L: Ledger>(
     requires name { blank.name ≡ L.name }
     requires parts { blank.parts ≡ L.parts }
     requires some { 0 < L.parts }
-    ensures honesty { S.is_honest store.new ≡ S.is_honest store.old }
-    ensures file { S.file store.new ≡ S.file store.old }
-    ensures reads { OnOk result (S.read_failures store.new ≡ S.read_failures store.old) }
-    ensures accepted { OnOk result (IsTrue (S.is_honest store.old) → (bytes : List ℕ)
-        × HasNormalForm (S.file store.old) bytes) }
-    ensures refusal { IfErr result
-        (RefusesNormalise (S.is_honest store.old) (S.file store.old) None None
-        (S.read_failures store.old) (S.read_failures store.new) 0 0) }
+    ensures store { OnlyReads S.Store store.old store.new result }
+    ensures accepted { OnOk result
+        (WhereHonest S.Store store.old (λ file. (bytes : List ℕ) × HasNormalForm file bytes)) }
+    ensures refusal { RefusedOf S.Store store.old store.new result RefusesCheck }
 {
     let mut steps = Steps::<L>::new(blank);
     let movie = open_movie(alloc, store, &mut steps)?;
@@ -39,14 +36,10 @@ fn check_counted<S: Store, L: Ledger>(
 /// memory that writing would need is taken. So it answers what `normalise` would, but for a read or
 /// a put that fails there later.
 pub fn check<S: Store>(alloc: Global, store: &mut S) -> Result<(), Refusal>
-    ensures honesty { S.is_honest store.new ≡ S.is_honest store.old }
-    ensures file { S.file store.new ≡ S.file store.old }
-    ensures reads { OnOk result (S.read_failures store.new ≡ S.read_failures store.old) }
-    ensures accepted { OnOk result (IsTrue (S.is_honest store.old) → (bytes : List ℕ)
-        × HasNormalForm (S.file store.old) bytes) }
-    ensures refusal { IfErr result
-        (RefusesNormalise (S.is_honest store.old) (S.file store.old) None None
-        (S.read_failures store.old) (S.read_failures store.new) 0 0) }
+    ensures store { OnlyReads S.Store store.old store.new result }
+    ensures accepted { OnOk result
+        (WhereHonest S.Store store.old (λ file. (bytes : List ℕ) × HasNormalForm file bytes)) }
+    ensures refusal { RefusedOf S.Store store.old store.new result RefusesCheck }
 {
     check_counted::<S, Brand>(alloc, store, Blank::new(1))
 }

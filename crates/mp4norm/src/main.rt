@@ -9,7 +9,6 @@
 
 ghost use Rattle.std.specs.Prelude.{◌≡◌, ◌<◌};
 
-mod backward_line;
 mod boxes;
 mod checking;
 mod command_line;
@@ -27,9 +26,14 @@ mod headers_under;
 mod input;
 mod jobs;
 mod judging;
+mod kept_line;
+mod kept_middle;
+mod kept_number;
+mod kept_text;
 pub mod laws;
 mod leaving_words;
 mod line;
+mod line_block;
 mod movie_json;
 mod named;
 mod normalising;

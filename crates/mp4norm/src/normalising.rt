@@ -1,9 +1,10 @@
 //! The normal form of a file.
-ghost use Rattle.std.specs.Prelude.{◌≡◌, ℕ, ◌<◌, List, Some, IfErr, IfSome, OnOk, IsTrue};
-ghost use Rattle.std.specs.Io.KnownBytes.{Appends};
+ghost use Rattle.std.specs.Prelude.{◌≡◌, ◌<◌};
 ghost use Rattle.mp4norm.specs.format.Headline.{HasNormalForm, Normalises};
 ghost use Rattle.mp4norm.specs.words.MainJob.{RefusesNormalise};
 ghost use Rattle.mp4norm.specs.format.Steps.{WorksWithin};
+ghost use Rattle.mp4_present.specs.words.OverStores.{OnlyReads, WhereHonest};
+ghost use Rattle.mp4norm.specs.words.OverDevices.{NoPutFails, PutsTextOf, Refuses, WhereTold};
 
 use mp4_boxes::{Refusal, Steps};
 use mp4_plan::write_normal;
@@ -20,20 +21,13 @@ fn write_file<S: Store, K: Sink, L: Ledger>(
     sink: &mut K,
     steps: &mut Steps<L>,
 ) -> Result<(), Refusal>
-    ensures honesty { S.is_honest store.new ≡ S.is_honest store.old }
-    ensures file { S.file store.new ≡ S.file store.old }
-    ensures reads { OnOk result (S.read_failures store.new ≡ S.read_failures store.old) }
-    ensures puts { OnOk result (K.put_failures sink.new ≡ K.put_failures sink.old) }
-    ensures written { OnOk result (IsTrue (S.is_honest store.old) → (bytes : List ℕ)
-        × HasNormalForm (S.file store.old) bytes
-        × Appends (K.contents sink.old) (K.contents sink.new) bytes) }
-    ensures refusal { IfErr result
-        (RefusesNormalise (S.is_honest store.old) (S.file store.old) (K.contents sink.old)
-        (K.contents sink.new)
-        (S.read_failures store.old) (S.read_failures store.new) (K.put_failures sink.old)
-        (K.put_failures sink.new)) }
-    ensures work { IsTrue (S.is_honest store.old)
-        → WorksWithin (S.file store.old) steps.old steps.new }
+    ensures store { OnlyReads S.Store store.old store.new result }
+    ensures puts { NoPutFails K.Sink sink.old sink.new result }
+    ensures written { PutsTextOf S.Store store.old K.Sink sink.old sink.new result
+        HasNormalForm }
+    ensures refusal { Refuses S.Store store.old store.new K.Sink sink.old sink.new result
+        RefusesNormalise }
+    ensures work { WhereHonest S.Store store.old (λ file. WorksWithin file steps.old steps.new) }
 {
     let movie = open_movie(alloc, store, steps)?;
     write_normal(alloc, &movie, store, sink, steps)
@@ -47,23 +41,15 @@ pub fn normalise_counted<S: Store, K: Sink, L: Ledger>(
     sink: &mut K,
     steps: &mut Steps<L>,
 ) -> Result<(), Refusal>
-    ensures honesty { S.is_honest store.new ≡ S.is_honest store.old }
-    ensures file { S.file store.new ≡ S.file store.old }
-    ensures reads { OnOk result (S.read_failures store.new ≡ S.read_failures store.old) }
-    ensures puts { OnOk result (K.put_failures sink.new ≡ K.put_failures sink.old) }
-    ensures written { OnOk result (IsTrue (S.is_honest store.old) → (bytes : List ℕ)
-        × HasNormalForm (S.file store.old) bytes
-        × Appends (K.contents sink.old) (K.contents sink.new) bytes) }
-    ensures refusal { IfErr result
-        (RefusesNormalise (S.is_honest store.old) (S.file store.old) (K.contents sink.old)
-        (K.contents sink.new)
-        (S.read_failures store.old) (S.read_failures store.new) (K.put_failures sink.old)
-        (K.put_failures sink.new)) }
-    ensures work { IsTrue (S.is_honest store.old)
-        → WorksWithin (S.file store.old) steps.old steps.new }
-    ensures headline { IsTrue (S.is_honest store.old)
-        → IfSome (K.contents sink.old) (λ before. (after : List ℕ)
-        × (K.contents sink.new ≡ Some after) × Normalises (S.file store.old) before after result) }
+    ensures store { OnlyReads S.Store store.old store.new result }
+    ensures puts { NoPutFails K.Sink sink.old sink.new result }
+    ensures written { PutsTextOf S.Store store.old K.Sink sink.old sink.new result
+        HasNormalForm }
+    ensures refusal { Refuses S.Store store.old store.new K.Sink sink.old sink.new result
+        RefusesNormalise }
+    ensures work { WhereHonest S.Store store.old (λ file. WorksWithin file steps.old steps.new) }
+    ensures headline { WhereHonest S.Store store.old (λ file. WhereTold K.Sink sink.old sink.new
+        (λ before after. Normalises file before after result)) }
 {
     write_file(alloc, store, sink, steps)
 }
@@ -78,18 +64,12 @@ fn normalise_blank<S: Store, K: Sink, L: Ledger>(
     requires name { blank.name ≡ L.name }
     requires parts { blank.parts ≡ L.parts }
     requires some { 0 < L.parts }
-    ensures honesty { S.is_honest store.new ≡ S.is_honest store.old }
-    ensures file { S.file store.new ≡ S.file store.old }
-    ensures reads { OnOk result (S.read_failures store.new ≡ S.read_failures store.old) }
-    ensures puts { OnOk result (K.put_failures sink.new ≡ K.put_failures sink.old) }
-    ensures written { OnOk result (IsTrue (S.is_honest store.old) → (bytes : List ℕ)
-        × HasNormalForm (S.file store.old) bytes
-        × Appends (K.contents sink.old) (K.contents sink.new) bytes) }
-    ensures refusal { IfErr result
-        (RefusesNormalise (S.is_honest store.old) (S.file store.old) (K.contents sink.old)
-        (K.contents sink.new)
-        (S.read_failures store.old) (S.read_failures store.new) (K.put_failures sink.old)
-        (K.put_failures sink.new)) }
+    ensures store { OnlyReads S.Store store.old store.new result }
+    ensures puts { NoPutFails K.Sink sink.old sink.new result }
+    ensures written { PutsTextOf S.Store store.old K.Sink sink.old sink.new result
+        HasNormalForm }
+    ensures refusal { Refuses S.Store store.old store.new K.Sink sink.old sink.new result
+        RefusesNormalise }
 {
     let mut steps = Steps::<L>::new(blank);
     normalise_counted(alloc, store, sink, &mut steps)
@@ -102,21 +82,14 @@ pub fn normalise<S: Store, K: Sink>(
     store: &mut S,
     sink: &mut K,
 ) -> Result<(), Refusal>
-    ensures honesty { S.is_honest store.new ≡ S.is_honest store.old }
-    ensures file { S.file store.new ≡ S.file store.old }
-    ensures reads { OnOk result (S.read_failures store.new ≡ S.read_failures store.old) }
-    ensures puts { OnOk result (K.put_failures sink.new ≡ K.put_failures sink.old) }
-    ensures written { OnOk result (IsTrue (S.is_honest store.old) → (bytes : List ℕ)
-        × HasNormalForm (S.file store.old) bytes
-        × Appends (K.contents sink.old) (K.contents sink.new) bytes) }
-    ensures refusal { IfErr result
-        (RefusesNormalise (S.is_honest store.old) (S.file store.old) (K.contents sink.old)
-        (K.contents sink.new)
-        (S.read_failures store.old) (S.read_failures store.new) (K.put_failures sink.old)
-        (K.put_failures sink.new)) }
-    ensures headline { IsTrue (S.is_honest store.old)
-        → IfSome (K.contents sink.old) (λ before. (after : List ℕ)
-        × (K.contents sink.new ≡ Some after) × Normalises (S.file store.old) before after result) }
+    ensures store { OnlyReads S.Store store.old store.new result }
+    ensures puts { NoPutFails K.Sink sink.old sink.new result }
+    ensures written { PutsTextOf S.Store store.old K.Sink sink.old sink.new result
+        HasNormalForm }
+    ensures refusal { Refuses S.Store store.old store.new K.Sink sink.old sink.new result
+        RefusesNormalise }
+    ensures headline { WhereHonest S.Store store.old (λ file. WhereTold K.Sink sink.old sink.new
+        (λ before after. Normalises file before after result)) }
 {
     normalise_blank::<S, K, Brand>(alloc, store, sink, Blank::new(1))
 }

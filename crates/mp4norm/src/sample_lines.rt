@@ -1,87 +1,158 @@
 //! The lines of samples.
-ghost use Rattle.std.specs.Prelude.{◌≡◌, ◌+◌, ◌^◌, ◌<◌, [], ◌++◌, length, IfErr, OnOk, OnErr};
+ghost use Rattle.std.specs.Prelude.{◌≡◌, ◌+◌, ◌^◌, ◌<◌, ◌≤◌, [], ◌++◌, length, drop, IfErr, OnOk, OnErr};
 ghost use Rattle.mp4_store.specs.words.Device.{AppendsPrefix};
 ghost use Rattle.mp4_present.specs.words.Carried.{waiting, BytesGoOn, RefusesPut};
 ghost use Rattle.mp4norm.specs.declared.wanted.Form.TheVariants as forms;
 ghost use Rattle.mp4norm.specs.format.Texts.{sample_at_line, sample_at_lines};
 
-use crate::backward_line::BackwardLine;
+use crate::digits::{write_byte, write_bytes, write_digits, write_short_digits};
+use crate::kept_line::KeptLine;
+use crate::kept_number::{write_kept_number, write_kept_sum};
+use crate::kept_text::write_text;
+use crate::line_block::LineBlock;
 use crate::wanted::Form;
 use mp4_boxes::Refusal;
 use mp4_present::Carrier;
 use mp4_store::Sink;
 use mp4_tables::{SampleAt, Samples};
 
-// The plain line of a sample: its number, decode time, composition time, duration, flags,
-// description index, size.
-fn plain_line(number: u64, sample: &SampleAt) -> BackwardLine<136>
-    ensures { result ≡ sample_at_line forms.Plain number sample.now }
+/// More than the bytes of any line.
+const LONGEST: usize = 240;
+
+/// The bytes of a line and those that are copied with it.
+const ROOM_OF_LINE: usize = 304;
+
+/// How many bytes of lines go on together.
+const ROOM_OF_BLOCK: usize = 2_048;
+
+// Writes the plain line of a sample so that it ends at `end`, and says where it begins: its number,
+// decode time, composition time, duration, flags, description index, size.
+#[inline(always)]
+fn plain_line(
+    text: &mut [u8],
+    end: usize,
+    kept: &mut KeptLine,
+    number: u64,
+    sample: &SampleAt,
+) -> usize
+    requires room { LONGEST ≤ end }
+    requires within { end ≤ length text.old }
+    ensures before { result ≤ end }
+    ensures written { drop result text.new
+        ≡ sample_at_line forms.Plain number sample.now ++ drop end text.old }
 {
-    let mut line = BackwardLine::new();
-    line.push(b'\n');
-    line.push_short_number(sample.size);
-    line.push(b' ');
-    line.push_short_number(sample.description);
-    line.push(b' ');
-    line.push_hex(sample.flags);
-    line.push(b' ');
-    line.push_short_number(sample.duration);
-    line.push(b' ');
-    line.push_sum(sample.dts, sample.cto);
-    line.push(b' ');
-    line.push_number(sample.dts);
-    line.push(b' ');
-    line.push_number(number);
-    line
+    let mut start = write_byte(text, end, b'\n');
+    start = write_short_digits(text, start, sample.size);
+    start = write_byte(text, start, b' ');
+    kept.middle.renew(sample.flags, sample.description);
+    start = write_text(text, start, kept.middle.text());
+    start = write_byte(text, start, b' ');
+    start = write_short_digits(text, start, sample.duration);
+    start = write_byte(text, start, b' ');
+    start = write_kept_sum(text, start, sample.dts, sample.cto, &mut kept.composition);
+    start = write_byte(text, start, b' ');
+    start = write_kept_number(text, start, sample.dts, &mut kept.time);
+    start = write_byte(text, start, b' ');
+    write_kept_number(text, start, number, &mut kept.number)
 }
 
 // The same as an object of JSON, with its names in order of their bytes.
-fn json_line(number: u64, sample: &SampleAt) -> BackwardLine<240>
-    ensures { result ≡ sample_at_line forms.Json number sample.now }
+fn json_line(
+    text: &mut [u8],
+    end: usize,
+    kept: &mut KeptLine,
+    number: u64,
+    sample: &SampleAt,
+) -> usize
+    requires room { LONGEST ≤ end }
+    requires within { end ≤ length text.old }
+    ensures before { result ≤ end }
+    ensures written { drop result text.new
+        ≡ sample_at_line forms.Json number sample.now ++ drop end text.old }
 {
-    let mut line = BackwardLine::new();
-    line.push_bytes(b"}\n");
-    line.push_short_number(sample.size);
-    line.push_bytes(b",\"size\":");
-    line.push_number(number);
-    line.push_bytes(b",\"number\":");
-    line.push_short_number(sample.flags);
-    line.push_bytes(b",\"flags\":");
-    line.push_short_number(sample.duration);
-    line.push_bytes(b",\"duration\":");
-    line.push_short_number(sample.description);
-    line.push_bytes(b",\"description\":");
-    line.push_number(sample.dts);
-    line.push_bytes(b",\"decode_time\":");
-    line.push_sum(sample.dts, sample.cto);
-    line.push_bytes(b"{\"composition_time\":");
-    line
+    let mut start = write_bytes(text, end, b"}\n");
+    start = write_short_digits(text, start, sample.size);
+    start = write_bytes(text, start, b",\"size\":");
+    start = write_digits(text, start, number);
+    start = write_bytes(text, start, b",\"number\":");
+    start = write_short_digits(text, start, sample.flags);
+    start = write_bytes(text, start, b",\"flags\":");
+    start = write_short_digits(text, start, sample.duration);
+    start = write_bytes(text, start, b",\"duration\":");
+    start = write_short_digits(text, start, sample.description);
+    start = write_bytes(text, start, b",\"description\":");
+    start = write_digits(text, start, sample.dts);
+    start = write_bytes(text, start, b",\"decode_time\":");
+    start = write_kept_sum(text, start, sample.dts, sample.cto, &mut kept.composition);
+    write_bytes(text, start, b"{\"composition_time\":")
 }
 
-// Takes the line of a sample along.
-fn carry_line<K: Sink>(
+// The line of a sample in this form.
+#[inline(always)]
+fn sample_line(
+    form: Form,
+    text: &mut [u8],
+    end: usize,
+    kept: &mut KeptLine,
+    number: u64,
+    sample: &SampleAt,
+) -> usize
+    requires room { LONGEST ≤ end }
+    requires within { end ≤ length text.old }
+    ensures before { result ≤ end }
+    ensures written { drop result text.new
+        ≡ sample_at_line form number sample.now ++ drop end text.old }
+{
+    match form {
+        Form::Plain | Form::Named => plain_line(text, end, kept, number, sample),
+        Form::Json => json_line(text, end, kept, number, sample),
+    }
+}
+
+// Adds the line of a sample to a block. It is written in `text`, so that it ends at `LONGEST`.
+#[inline(always)]
+fn add_line(
     form: Form,
     number: u64,
     sample: &SampleAt,
+    kept: &mut KeptLine,
+    text: &mut [u8],
+    block: &mut LineBlock<ROOM_OF_BLOCK>,
+)
+    requires text { length text.old ≡ ROOM_OF_LINE }
+    requires room { length block.old + ROOM_OF_LINE ≤ ROOM_OF_BLOCK }
+    ensures { block.new ≡ block.old ++ sample_at_line form number sample.now }
+{
+    let start = sample_line(form, text, LONGEST, kept, number, sample);
+    let (_unused, line) = text.split_at(start);
+    block.push_front(line, LONGEST - start);
+}
+
+// Makes room for a line in a block: what it has is taken along, if need be.
+#[inline(always)]
+fn make_room<K: Sink>(
+    block: &mut LineBlock<ROOM_OF_BLOCK>,
     carrier: &mut Carrier,
     sink: &mut K,
 ) -> Result<(), Refusal>
+    ensures room { OnOk result (length block.new + ROOM_OF_LINE ≤ ROOM_OF_BLOCK) }
     ensures bytes { OnOk result (BytesGoOn (K.contents sink.old) (K.contents sink.new)
-        (waiting carrier.old) (waiting carrier.new) (sample_at_line form number sample.now)) }
+        (waiting carrier.old ++ block.old) (waiting carrier.new ++ block.new) []) }
     ensures prefix { OnErr result (AppendsPrefix (K.contents sink.old) (K.contents sink.new)
-        (waiting carrier.old ++ sample_at_line form number sample.now)) }
+        (waiting carrier.old ++ block.old)) }
     ensures puts { OnOk result (K.put_failures sink.new ≡ K.put_failures sink.old) }
     ensures refusal { IfErr result
         (RefusesPut (K.put_failures sink.old) (K.put_failures sink.new)) }
 {
-    match form {
-        Form::Plain | Form::Named => carrier.carry(plain_line(number, sample).as_bytes(), sink),
-        Form::Json => carrier.carry(json_line(number, sample).as_bytes(), sink),
+    if !block.has_room(ROOM_OF_LINE) {
+        carrier.carry(block.as_bytes(), sink)?;
+        block.clear();
     }
+    Ok(())
 }
 
-/// Takes a line for each sample still to come along. The number is that of the next one; it stays
-/// at 2^64 - 1.
+/// Takes a line for each sample still to come along: at Ok all of them, at Err a front of what they
+/// and what waited before are. The number is that of the next one; it stays at 2^64 - 1.
 pub fn put_lines<C: Samples, K: Sink>(
     form: Form,
     samples: &mut C,
@@ -103,9 +174,13 @@ pub fn put_lines<C: Samples, K: Sink>(
         (RefusesPut (K.put_failures sink.old) (K.put_failures sink.new)) }
     ensures later { C.follows samples.old samples.new }
 {
+    let mut kept = KeptLine::new();
+    let mut text = [0; ROOM_OF_LINE];
+    let mut block = LineBlock::new();
     while let Some(sample) = samples.next() {
-        carry_line(form, *number, &sample, carrier, sink)?;
+        make_room(&mut block, carrier, sink)?;
+        add_line(form, *number, &sample, &mut kept, &mut text, &mut block);
         *number = number.saturating_add(1);
     }
-    Ok(())
+    carrier.carry(block.as_bytes(), sink)
 }

@@ -1,22 +1,22 @@
 //! The samples of a track, a line each.
 ghost use Rattle.std.specs.Prelude.{◌≡◌, ℕ, ◌+◌, ◌^◌, ◌<◌, ◌≤◌, List, ◌++◌, length, IfErr, OnOk, OnErr, IsTrue};
-ghost use Rattle.std.specs.Io.KnownBytes.{Appends};
-ghost use Rattle.mp4_boxes.specs.declared.refusal.Refusal.TheVariants as refusals;
 ghost use Rattle.mp4_frag.specs.format.Fragments.{FragmentTree};
 ghost use Rattle.mp4_head.specs.format.Tree.{TrackTree};
-ghost use Rattle.mp4_tables.specs.declared.sample.SampleAt.{SampleAt};
 ghost use Rattle.mp4_store.specs.words.Device.{AppendsPrefix};
 ghost use Rattle.mp4_present.specs.declared.in_hand.InHand.{InHand};
-ghost use Rattle.mp4_present.specs.words.SamplesComing.{Comes, StandsBefore};
+ghost use Rattle.mp4_present.specs.words.SamplesComing.{StandsBefore};
 ghost use Rattle.mp4_present.specs.format.Denotes.{FileTree};
 ghost use Rattle.mp4_present.specs.words.InHand.{left_in_hand};
 ghost use Rattle.mp4_present.specs.words.OpenedMovie.{IsOpenedAs};
 ghost use Rattle.mp4_present.specs.words.Movies.{IsWalkOf, InHandOf};
 ghost use Rattle.mp4_present.specs.words.WalkSteps.{MayTake, TakesOn};
-ghost use Rattle.mp4_present.specs.words.Carried.{waiting, BytesGoOn, RefusesPut, RefusesCarry};
+ghost use Rattle.mp4_present.specs.words.Carried.{waiting, BytesGoOn, RefusesPut};
 ghost use Rattle.mp4norm.specs.format.Texts.{sample_at_lines};
 ghost use Rattle.mp4norm.specs.format.Steps.{LooksWithin};
-ghost use Rattle.mp4norm.specs.words.Commands.{ListsSamples, RefusesTrack};
+ghost use Rattle.mp4norm.specs.words.Commands.{ListsSamples, RefusesListing};
+ghost use Rattle.mp4_present.specs.words.OverStores.{IsUnchanged, OnlyReads, WhereHonest};
+ghost use Rattle.mp4norm.specs.words.OverDevices.{NoPutFails, PutsTextOf, Refuses};
+ghost use Rattle.mp4norm.specs.words.ListedWalks.{Stops, Takes, TakesFront, WhereComes};
 
 use crate::forms::head_of;
 use crate::sample_lines::put_lines;
@@ -75,7 +75,8 @@ fn put_hand<K: Sink, L: Ledger>(
     Ok(())
 }
 
-// Puts the lines of all samples of a walk.
+// Puts the lines of all samples of a walk: at Ok all of them, at Err a front of them. A store that
+// doesn't change is not taken as changed.
 fn put_walk<S: Store, K: Sink, L: Ledger>(
     form: Form,
     movie: &Movie,
@@ -86,30 +87,15 @@ fn put_walk<S: Store, K: Sink, L: Ledger>(
     steps: &mut Steps<L>,
 ) -> Result<(), Refusal>
     requires { IsWalkOf movie.now walk.old }
-    ensures honesty { S.is_honest store.new ≡ S.is_honest store.old }
-    ensures file { S.file store.new ≡ S.file store.old }
-    ensures reads { OnOk result (S.read_failures store.new ≡ S.read_failures store.old) }
-    ensures puts { OnOk result (K.put_failures sink.new ≡ K.put_failures sink.old) }
-    ensures lines { OnOk result (IsTrue (S.is_honest store.old)
-        → (tree : FileTree) (t : TrackTree) (samples : List SampleAt)
-        → IsOpenedAs (S.file store.old) movie.now tree
-        → Comes (S.file store.old) tree t movie.now walk.old samples → length samples < 2 ^ 32
-        → Appends (K.contents sink.old) (K.contents sink.new) (waiting carrier.old
-        ++ sample_at_lines form 1 samples)) }
-    ensures prefix { OnErr result (IsTrue (S.is_honest store.old)
-        → (tree : FileTree) (t : TrackTree) (samples : List SampleAt)
-        → IsOpenedAs (S.file store.old) movie.now tree
-        → Comes (S.file store.old) tree t movie.now walk.old samples → length samples < 2 ^ 32
-        → AppendsPrefix (K.contents sink.old) (K.contents sink.new) (waiting carrier.old
-        ++ sample_at_lines form 1 samples)) }
-    ensures unchanged { IsTrue (S.is_honest store.old)
-        → (tree : FileTree) (t : TrackTree) (samples : List SampleAt)
-        → IsOpenedAs (S.file store.old) movie.now tree
-        → Comes (S.file store.old) tree t movie.now walk.old samples → length samples < 2 ^ 32
-        → IfErr result (λ r. r ≡ refusals.StoreChanged → ⊥) }
-    ensures refusal { IfErr result
-        (RefusesCarry (S.read_failures store.old) (S.read_failures store.new)
-        (K.put_failures sink.old) (K.put_failures sink.new)) }
+    ensures store { OnlyReads S.Store store.old store.new result }
+    ensures puts { NoPutFails K.Sink sink.old sink.new result }
+    ensures lines { OnOk result (WhereComes S.Store store.old movie.now walk.old
+        (λ samples. Takes K.Sink sink.old sink.new carrier.old (sample_at_lines form 1 samples))) }
+    ensures prefix { OnErr result (WhereComes S.Store store.old movie.now walk.old (λ samples.
+        TakesFront K.Sink sink.old sink.new carrier.old (sample_at_lines form 1 samples))) }
+    ensures unchanged { WhereComes S.Store store.old movie.now walk.old
+        (λ samples. IsUnchanged result) }
+    ensures refusal { Stops S.Store store.old store.new K.Sink sink.old sink.new result }
     ensures work { IsTrue (S.is_honest store.old) → (tree : FileTree) (t : TrackTree) (n : ℕ)
         → IsOpenedAs (S.file store.old) movie.now tree
         → MayTake (S.file store.old) tree t walk.old n → steps.new ≤ steps.old + n }
@@ -132,20 +118,13 @@ pub fn samples_counted<S: Store, K: Sink, L: Ledger>(
     sink: &mut K,
     steps: &mut Steps<L>,
 ) -> Result<(), Refusal>
-    ensures honesty { S.is_honest store.new ≡ S.is_honest store.old }
-    ensures file { S.file store.new ≡ S.file store.old }
-    ensures reads { OnOk result (S.read_failures store.new ≡ S.read_failures store.old) }
-    ensures puts { OnOk result (K.put_failures sink.new ≡ K.put_failures sink.old) }
-    ensures lines { OnOk result (IsTrue (S.is_honest store.old) → (text : List ℕ)
-        × ListsSamples (S.file store.old) id form text
-        × Appends (K.contents sink.old) (K.contents sink.new) text) }
-    ensures refusal { IfErr result
-        (RefusesTrack (S.is_honest store.old) (S.file store.old) id
-        (ListsSamples (S.file store.old) id form) (K.contents sink.old) (K.contents sink.new)
-        (S.read_failures store.old) (S.read_failures store.new) (K.put_failures sink.old)
-        (K.put_failures sink.new)) }
-    ensures work { IsTrue (S.is_honest store.old)
-        → LooksWithin (S.file store.old) steps.old steps.new }
+    ensures store { OnlyReads S.Store store.old store.new result }
+    ensures puts { NoPutFails K.Sink sink.old sink.new result }
+    ensures lines { PutsTextOf S.Store store.old K.Sink sink.old sink.new result
+        (λ file text. ListsSamples file id form text) }
+    ensures refusal { Refuses S.Store store.old store.new K.Sink sink.old sink.new result
+        (RefusesListing id form) }
+    ensures work { WhereHonest S.Store store.old (λ file. LooksWithin file steps.old steps.new) }
 {
     let movie = open_movie(alloc, store, steps)?;
     let track = track_with(movie.tracks(), id)?;
@@ -167,18 +146,12 @@ fn samples_blank<S: Store, K: Sink, L: Ledger>(
     requires name { blank.name ≡ L.name }
     requires parts { blank.parts ≡ L.parts }
     requires some { 0 < L.parts }
-    ensures honesty { S.is_honest store.new ≡ S.is_honest store.old }
-    ensures file { S.file store.new ≡ S.file store.old }
-    ensures reads { OnOk result (S.read_failures store.new ≡ S.read_failures store.old) }
-    ensures puts { OnOk result (K.put_failures sink.new ≡ K.put_failures sink.old) }
-    ensures lines { OnOk result (IsTrue (S.is_honest store.old) → (text : List ℕ)
-        × ListsSamples (S.file store.old) id form text
-        × Appends (K.contents sink.old) (K.contents sink.new) text) }
-    ensures refusal { IfErr result
-        (RefusesTrack (S.is_honest store.old) (S.file store.old) id
-        (ListsSamples (S.file store.old) id form) (K.contents sink.old) (K.contents sink.new)
-        (S.read_failures store.old) (S.read_failures store.new) (K.put_failures sink.old)
-        (K.put_failures sink.new)) }
+    ensures store { OnlyReads S.Store store.old store.new result }
+    ensures puts { NoPutFails K.Sink sink.old sink.new result }
+    ensures lines { PutsTextOf S.Store store.old K.Sink sink.old sink.new result
+        (λ file text. ListsSamples file id form text) }
+    ensures refusal { Refuses S.Store store.old store.new K.Sink sink.old sink.new result
+        (RefusesListing id form) }
 {
     let mut steps = Steps::<L>::new(blank);
     samples_counted(alloc, store, id, form, sink, &mut steps)
@@ -194,18 +167,12 @@ pub fn samples<S: Store, K: Sink>(
     form: Form,
     sink: &mut K,
 ) -> Result<(), Refusal>
-    ensures honesty { S.is_honest store.new ≡ S.is_honest store.old }
-    ensures file { S.file store.new ≡ S.file store.old }
-    ensures reads { OnOk result (S.read_failures store.new ≡ S.read_failures store.old) }
-    ensures puts { OnOk result (K.put_failures sink.new ≡ K.put_failures sink.old) }
-    ensures lines { OnOk result (IsTrue (S.is_honest store.old) → (text : List ℕ)
-        × ListsSamples (S.file store.old) id form text
-        × Appends (K.contents sink.old) (K.contents sink.new) text) }
-    ensures refusal { IfErr result
-        (RefusesTrack (S.is_honest store.old) (S.file store.old) id
-        (ListsSamples (S.file store.old) id form) (K.contents sink.old) (K.contents sink.new)
-        (S.read_failures store.old) (S.read_failures store.new) (K.put_failures sink.old)
-        (K.put_failures sink.new)) }
+    ensures store { OnlyReads S.Store store.old store.new result }
+    ensures puts { NoPutFails K.Sink sink.old sink.new result }
+    ensures lines { PutsTextOf S.Store store.old K.Sink sink.old sink.new result
+        (λ file text. ListsSamples file id form text) }
+    ensures refusal { Refuses S.Store store.old store.new K.Sink sink.old sink.new result
+        (RefusesListing id form) }
 {
     samples_blank::<S, K, Brand>(alloc, store, id, form, sink, Blank::new(1))
 }

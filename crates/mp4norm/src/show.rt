@@ -1,9 +1,10 @@
 //! A movie and its tracks, shown.
-ghost use Rattle.std.specs.Prelude.{◌≡◌, ℕ, ◌<◌, List, IfOk, IfErr, OnOk, IsTrue, string_bytes};
-ghost use Rattle.std.specs.Io.KnownBytes.{Appends};
+ghost use Rattle.std.specs.Prelude.{◌≡◌, ◌<◌, string_bytes};
 ghost use Rattle.mp4_present.specs.words.Opening.{RefusesOpen};
 ghost use Rattle.mp4norm.specs.format.Steps.{LooksWithin};
 ghost use Rattle.mp4norm.specs.words.Commands.{ShowsLine, RefusesShow};
+ghost use Rattle.mp4_present.specs.words.OverStores.{OnlyReads, RefusedOf, WhereHonest, WhereRead};
+ghost use Rattle.mp4norm.specs.words.OverDevices.{NoPutFails, PutsTextOf, Refuses};
 
 use crate::movie_json::show_text;
 use mp4_boxes::{Refusal, Steps};
@@ -19,16 +20,11 @@ fn movie_line<S: Store, L: Ledger>(
     store: &mut S,
     steps: &mut Steps<L>,
 ) -> Result<String, Refusal>
-    ensures honesty { S.is_honest store.new ≡ S.is_honest store.old }
-    ensures file { S.file store.new ≡ S.file store.old }
-    ensures reads { OnOk result (S.read_failures store.new ≡ S.read_failures store.old) }
-    ensures line { IfOk result (λ text. IsTrue (S.is_honest store.old)
-        → ShowsLine (S.file store.old) (string_bytes text)) }
-    ensures refusal { IfErr result
-        (RefusesOpen (S.is_honest store.old) (S.file store.old) (S.read_failures store.old)
-        (S.read_failures store.new)) }
-    ensures work { IsTrue (S.is_honest store.old)
-        → LooksWithin (S.file store.old) steps.old steps.new }
+    ensures store { OnlyReads S.Store store.old store.new result }
+    ensures line { WhereRead S.Store store.old result
+        (λ file text. ShowsLine file (string_bytes text)) }
+    ensures refusal { RefusedOf S.Store store.old store.new result RefusesOpen }
+    ensures work { WhereHonest S.Store store.old (λ file. LooksWithin file steps.old steps.new) }
 {
     let movie = open_movie(alloc, store, steps)?;
     let head = movie.head(alloc)?;
@@ -45,20 +41,13 @@ pub fn show_counted<S: Store, K: Sink, L: Ledger>(
     sink: &mut K,
     steps: &mut Steps<L>,
 ) -> Result<(), Refusal>
-    ensures honesty { S.is_honest store.new ≡ S.is_honest store.old }
-    ensures file { S.file store.new ≡ S.file store.old }
-    ensures reads { OnOk result (S.read_failures store.new ≡ S.read_failures store.old) }
-    ensures puts { OnOk result (K.put_failures sink.new ≡ K.put_failures sink.old) }
-    ensures line { OnOk result (IsTrue (S.is_honest store.old) → (line : List ℕ)
-        × ShowsLine (S.file store.old) line
-        × Appends (K.contents sink.old) (K.contents sink.new) line) }
-    ensures refusal { IfErr result
-        (RefusesShow (S.is_honest store.old) (S.file store.old) (K.contents sink.old)
-        (K.contents sink.new)
-        (S.read_failures store.old) (S.read_failures store.new) (K.put_failures sink.old)
-        (K.put_failures sink.new)) }
-    ensures work { IsTrue (S.is_honest store.old)
-        → LooksWithin (S.file store.old) steps.old steps.new }
+    ensures store { OnlyReads S.Store store.old store.new result }
+    ensures puts { NoPutFails K.Sink sink.old sink.new result }
+    ensures line { PutsTextOf S.Store store.old K.Sink sink.old sink.new result
+        ShowsLine }
+    ensures refusal { Refuses S.Store store.old store.new K.Sink sink.old sink.new result
+        RefusesShow }
+    ensures work { WhereHonest S.Store store.old (λ file. LooksWithin file steps.old steps.new) }
 {
     let text = movie_line(alloc, store, steps)?;
     sink.put(text.as_str().as_bytes())?;
@@ -75,18 +64,12 @@ fn show_blank<S: Store, K: Sink, L: Ledger>(
     requires name { blank.name ≡ L.name }
     requires parts { blank.parts ≡ L.parts }
     requires some { 0 < L.parts }
-    ensures honesty { S.is_honest store.new ≡ S.is_honest store.old }
-    ensures file { S.file store.new ≡ S.file store.old }
-    ensures reads { OnOk result (S.read_failures store.new ≡ S.read_failures store.old) }
-    ensures puts { OnOk result (K.put_failures sink.new ≡ K.put_failures sink.old) }
-    ensures line { OnOk result (IsTrue (S.is_honest store.old) → (line : List ℕ)
-        × ShowsLine (S.file store.old) line
-        × Appends (K.contents sink.old) (K.contents sink.new) line) }
-    ensures refusal { IfErr result
-        (RefusesShow (S.is_honest store.old) (S.file store.old) (K.contents sink.old)
-        (K.contents sink.new)
-        (S.read_failures store.old) (S.read_failures store.new) (K.put_failures sink.old)
-        (K.put_failures sink.new)) }
+    ensures store { OnlyReads S.Store store.old store.new result }
+    ensures puts { NoPutFails K.Sink sink.old sink.new result }
+    ensures line { PutsTextOf S.Store store.old K.Sink sink.old sink.new result
+        ShowsLine }
+    ensures refusal { Refuses S.Store store.old store.new K.Sink sink.old sink.new result
+        RefusesShow }
 {
     let mut steps = Steps::<L>::new(blank);
     show_counted(alloc, store, sink, &mut steps)
@@ -95,18 +78,12 @@ fn show_blank<S: Store, K: Sink, L: Ledger>(
 /// Puts one line of compact JSON: what the movie and its tracks say of themselves, in numbers. The
 /// file is judged first.
 pub fn show<S: Store, K: Sink>(alloc: Global, store: &mut S, sink: &mut K) -> Result<(), Refusal>
-    ensures honesty { S.is_honest store.new ≡ S.is_honest store.old }
-    ensures file { S.file store.new ≡ S.file store.old }
-    ensures reads { OnOk result (S.read_failures store.new ≡ S.read_failures store.old) }
-    ensures puts { OnOk result (K.put_failures sink.new ≡ K.put_failures sink.old) }
-    ensures line { OnOk result (IsTrue (S.is_honest store.old) → (line : List ℕ)
-        × ShowsLine (S.file store.old) line
-        × Appends (K.contents sink.old) (K.contents sink.new) line) }
-    ensures refusal { IfErr result
-        (RefusesShow (S.is_honest store.old) (S.file store.old) (K.contents sink.old)
-        (K.contents sink.new)
-        (S.read_failures store.old) (S.read_failures store.new) (K.put_failures sink.old)
-        (K.put_failures sink.new)) }
+    ensures store { OnlyReads S.Store store.old store.new result }
+    ensures puts { NoPutFails K.Sink sink.old sink.new result }
+    ensures line { PutsTextOf S.Store store.old K.Sink sink.old sink.new result
+        ShowsLine }
+    ensures refusal { Refuses S.Store store.old store.new K.Sink sink.old sink.new result
+        RefusesShow }
 {
     show_blank::<S, K, Brand>(alloc, store, sink, Blank::new(1))
 }

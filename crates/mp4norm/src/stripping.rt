@@ -1,6 +1,5 @@
 //! A copy of a file in which the boxes of some types are free space.
 ghost use Rattle.std.specs.Prelude.{◌≡◌, ℕ, ◌+◌, ◌-◌, ◌<◌, ◌≤◌, List, ◌++◌, length, Ok, Err, IfOk, IfErr, OnOk, OnErr, IsTrue};
-ghost use Rattle.std.specs.Io.KnownBytes.{Appends};
 ghost use Rattle.mp4_boxes.specs.format.Box.{header_at};
 ghost use Rattle.mp4_boxes.specs.words.View.{top_header_seen};
 ghost use Rattle.mp4_boxes.specs.declared.refusal.Refusal.TheVariants as refusals;
@@ -8,6 +7,8 @@ ghost use Rattle.mp4_boxes.specs.declared.rule.Rule.TheVariants.{File};
 ghost use Rattle.mp4_store.specs.words.Device.{AppendsPrefix, range};
 ghost use Rattle.mp4_present.specs.words.Carried.{waiting, BytesGoOn, RefusesCarry, RefusesRange};
 ghost use Rattle.mp4norm.specs.format.Strips.{is_top, freed, Strips, IsStripped, RefusesHeaderAgain, RefusesWalk, RefusesStrip};
+ghost use Rattle.mp4_present.specs.words.OverStores.{OnlyReads};
+ghost use Rattle.mp4norm.specs.words.OverDevices.{NoPutFails, PutsTextOf, Refuses};
 
 use crate::boxes::rule_inside;
 use crate::headers_under::read_header;
@@ -197,18 +198,12 @@ pub fn strip<S: Store, K: Sink>(
     names: &[Name],
     sink: &mut K,
 ) -> Result<(), Refusal>
-    ensures honesty { S.is_honest store.new ≡ S.is_honest store.old }
-    ensures file { S.file store.new ≡ S.file store.old }
-    ensures reads { OnOk result (S.read_failures store.new ≡ S.read_failures store.old) }
-    ensures puts { OnOk result (K.put_failures sink.new ≡ K.put_failures sink.old) }
-    ensures bytes { OnOk result (IsTrue (S.is_honest store.old) → (text : List ℕ)
-        × IsStripped names.now (S.file store.old) text
-        × Appends (K.contents sink.old) (K.contents sink.new) text) }
-    ensures refusal { IfErr result
-        (RefusesStrip names.now (S.is_honest store.old) (S.file store.old) (K.contents sink.old)
-        (K.contents sink.new)
-        (S.read_failures store.old) (S.read_failures store.new) (K.put_failures sink.old)
-        (K.put_failures sink.new)) }
+    ensures store { OnlyReads S.Store store.old store.new result }
+    ensures puts { NoPutFails K.Sink sink.old sink.new result }
+    ensures bytes { PutsTextOf S.Store store.old K.Sink sink.old sink.new result
+        (IsStripped names.now) }
+    ensures refusal { Refuses S.Store store.old store.new K.Sink sink.old sink.new result
+        (RefusesStrip names.now) }
 {
     let mut carrier = Carrier::new(alloc, ROOM)?;
     let end = store.len();

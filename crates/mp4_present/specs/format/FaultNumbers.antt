@@ -1,5 +1,5 @@
 -- What numbers say of a fault.
-use Rattle.std.specs.Prelude.{◌≡◌, ℕ, ◌+◌, ◌-◌, ◌^◌, min, List, [], ◌∷◌, ◌++◌, take, map, codes, Contains}
+use Rattle.std.specs.Prelude.{◌≡◌, ℕ, ◌+◌, ◌-◌, ◌^◌, ◌<◌, min, List, [], ◌∷◌, ◌++◌, length, take, map, codes, Contains}
 use Rattle.std.specs.List.{AllByRecursion}
 use Rattle.mp4_boxes.specs.format.Bytes.{field}
 use Rattle.mp4_boxes.specs.format.Box.{Box, Tiles, file_container, box_container, StandsAfter}
@@ -69,7 +69,12 @@ pub record IsGap (file : List ℕ) (place track due found : ℕ) : Type 0 where
   pub due_is : due ≡ end_of t
       (all_parts (trexes_of movie) (map fragment_of (earlier ++ front ∷ [])))
 
+-- a sample of this size at this place does not end in the file, which has this length
+abbrev pub IsOutside : List ℕ → ℕ → ℕ → ℕ → Type 0
+IsOutside file at size file_length = (file_length ≡ length file) × (length file < at + size)
+
 -- what is told of a fault at a place; of counts no more than that they are counts
 abbrev pub Tells : List ℕ → ℕ → FaultNumbers → Type 0
 Tells file place (numbers.Gap track due found) = IsGap file place track due found
 Tells file place (numbers.Counts counted wanted) = Unit {0}
+Tells file place (numbers.Outside at size file_length) = IsOutside file at size file_length

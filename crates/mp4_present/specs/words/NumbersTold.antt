@@ -1,5 +1,5 @@
 -- What is told of a fault in numbers, and why nothing is.
-use Rattle.std.specs.Prelude.{ℕ, ◌+◌, ◌-◌, ◌^◌, ◌≤◌, ◌≡◌, ◌-◌, ◌==◌, min, pos, find, codes, Some, List, Bool, IsTrue}
+use Rattle.std.specs.Prelude.{ℕ, ◌+◌, ◌-◌, ◌^◌, ◌<◌, ◌≤◌, ◌≡◌, ◌==◌, min, pos, find, codes, Some, List, Bool, IsTrue}
 use Rattle.mp4_store.specs.words.Device.{HasRisen}
 use Rattle.mp4_boxes.specs.declared.refusal.Refusal.{Refusal}
 use Rattle.mp4_boxes.specs.declared.refusal.Refusal.TheVariants as refusals
@@ -76,12 +76,15 @@ pub record FindsGap (file_length : ℕ) (moof : Box) (states : List TrackState) 
   pub found_state : find (λ (t : TrackState). t.id == track) after ≡ Some state
   pub due_is : due ≡ min state.time (2 ^ 64 - 1)
 
+-- numbers that are told without the fragments before: counts; and a sample that passes the end of
+-- a file of this length
+abbrev pub IsPlain : ℕ → FaultNumbers → Type 0
+IsPlain file_length (numbers.Gap track due found) = ⊥
+IsPlain file_length (numbers.Counts counted wanted) = Unit {0}
+IsPlain file_length (numbers.Outside at size told_length) = (told_length ≡ file_length)
+    × (file_length < at + size)
+
 abbrev pub FindsIn : ℕ → Box → List TrackState → ℕ → ℕ → FaultNumbers → Type 0
 FindsIn file_length moof states room place (numbers.Gap track due found) =
     FindsGap file_length moof states room place track due found
-FindsIn file_length moof states room place _ = ⊥
-
--- counts are told
-abbrev pub IsCounts : FaultNumbers → Type 0
-IsCounts (numbers.Counts counted wanted) = Unit {0}
-IsCounts _ = ⊥
+FindsIn file_length moof states room place n = IsPlain file_length n

@@ -83,3 +83,16 @@ RefusesTrack honest file id IsText before after reads reads_after puts puts_afte
     HasRisen puts puts_after × (IsTrue honest → PutsFrontOf IsText before after)
 RefusesTrack honest file id IsText before after reads reads_after puts puts_after
     refusals.NoSuchTrack = (IsTrue honest → LacksTrack file id) × (after ≡ before)
+
+-- why the samples of the track with this ID are not listed in this form
+abbrev pub RefusesListing : ℕ → Form → Bool → List ℕ → Option (List ℕ) → Option (List ℕ)
+    → ℕ → ℕ → ℕ → ℕ → Refusal → Type 0
+RefusesListing id form honest file before after reads reads_after puts puts_after r =
+    RefusesTrack honest file id (ListsSamples file id form) before after reads reads_after puts
+    puts_after r
+
+-- why the bytes of its samples are not put
+abbrev pub RefusesData : ℕ → Bool → List ℕ → Option (List ℕ) → Option (List ℕ)
+    → ℕ → ℕ → ℕ → ℕ → Refusal → Type 0
+RefusesData id honest file before after reads reads_after puts puts_after r =
+    RefusesTrack honest file id (HasData file id) before after reads reads_after puts puts_after r

@@ -45,12 +45,6 @@ abbrev pub PutsAnswer : Option (List ℕ) → Option (List ℕ) → Bool → Typ
 PutsAnswer before after true = after ≡ before
 PutsAnswer before after false = (text : List ℕ) × (0 < length text) × Appends before after text
 
--- ---- stores
-
--- a store is as honest as it was, and its file is the same
-abbrev pub StaysAs : Bool → List ℕ → Bool → List ℕ → Type 0
-StaysAs honest file honest_after file_after = (honest_after ≡ honest) × (file_after ≡ file)
-
 -- ---- refusals
 
 -- the files that a failure is about, once both are judged

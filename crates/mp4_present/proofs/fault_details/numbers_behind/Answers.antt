@@ -8,8 +8,7 @@ use Rattle.mp4_present.specs.format.FaultNumbers.{Tells}
 use Rattle.mp4_present.specs.words.PassedMoofs.{IsBegun}
 use Rattle.mp4_present.proofs.Assembled.{begun}
 use Rattle.mp4_present.proofs.FaultGaps.{some_so}
-use Rattle.mp4_present.proofs.GapsTold.{tells_counts}
-use Rattle.mp4_present.specs.words.NumbersTold.{IsCounts}
+use Rattle.mp4_present.proofs.GapsTold.{tells_plain}
 use Rattle.mp4_boxes.specs.words.View.{box_seen}
 use Rattle.mp4_frag.specs.declared.trex.Trex.{Trex}
 use Rattle.mp4_head.specs.format.Head.{Head}
@@ -79,12 +78,8 @@ returns-clause-told g c =
     some_so (λ (n : FaultNumbers). IsTrue honest → (m : MovieTree) (boxes : List Box) → IsBegun file m boxes plain.states.items plain.room → Tells file place n)
     (λ (n : FaultNumbers). IsTrue honest → Tells file place n)
     c.in_ok-told.told
-    (λ n f told. f told _ _ (begun honest file outline moov b head plain r says bytes _ c.len.ensures c.in_ok-plain.ensures.says told))
+    (λ n f told. f told _ _ (begun honest file outline moov b head plain r says bytes _ c.len-2.ensures c.in_ok-plain.ensures.says told))
     c.in_ok-told.ensures.told
 
-pub returns-then-eq-clause-told : goal.returns-then-eq-clause-told
-returns-then-eq-clause-told g c =
-    let honest = g.S.Store.is_honest c.args.store.now in
-    let file = g.S.Store.file c.args.store.now in
-    let place = c.args.fault.now.offset in
-    some_so IsCounts (λ (n : FaultNumbers). IsTrue honest → Tells file place n) c.counts_in_tables.result (λ n f told. tells_counts file place n f) c.counts_in_tables.ensures
+pub returns-in-Some-clause-told : goal.returns-in-Some-clause-told
+returns-in-Some-clause-told g c = λ told. tells_plain (g.S.Store.file c.args.store.now) _ c.args.fault.now.offset c.in-Some.told c.len.ensures c.in-Some.ensures

@@ -18,19 +18,19 @@ pub returns-in_err-enough-clause-unchanged : goal.returns-in_err-enough-clause-u
 returns-in_err-enough-clause-unchanged g c = λ told right tree other o u.
     let p = err_from_is_err_and c.from_residual-in_err-enough.result c.from_residual-in_err-enough.ensures.1 in
     let is = c.in_ok-listed.ensures in
-    let cause = rw (is.honesty, is.file, is.honesty_right, is.file_right) at c.in_err-enough.ensures.unchanged in
+    let cause = rw (is.store.honesty, is.store.file, is.store_right.honesty, is.store_right.file) at c.in_err-enough.ensures.unchanged in
     rw (p.1, p.2) (cause told right tree other o u)
 
 pub returns-in_err-enough-clause-work : goal.returns-in_err-enough-clause-work
 returns-in_err-enough-clause-work g c = λ told right tree other o u.
     let is = c.in_ok-listed.ensures in
-    let more = rw (is.honesty, is.file, is.honesty_right, is.file_right) at c.in_err-enough.ensures.work in
+    let more = rw (is.store.honesty, is.store.file, is.store_right.honesty, is.store_right.file) at c.in_err-enough.ensures.work in
     both_of_two _ _ _ (walks_steps tree) (walks_steps other) (is.work told right tree other o u) (more told right tree other o u)
 
 pub returns-in_err-listed_text-clause-work : goal.returns-in_err-listed_text-clause-work
 returns-in_err-listed_text-clause-work g c = λ told right tree other o u.
     let is = c.in_ok-listed.ensures in
-    let more = rw (is.honesty, is.file, is.honesty_right, is.file_right) at c.in_ok-enough.ensures.work in
+    let more = rw (is.store.honesty, is.store.file, is.store_right.honesty, is.store_right.file) at c.in_ok-enough.ensures.work in
     both_of_two _ _ _ (walks_steps tree) (walks_steps other) (is.work told right tree other o u) (more told right tree other o u)
 
 pub returns-clause-said : goal.returns-clause-said
@@ -41,5 +41,5 @@ returns-clause-said g c = λ told right tree other o u.
 pub returns-clause-work : goal.returns-clause-work
 returns-clause-work g c = λ told right tree other o u.
     let is = c.in_ok-listed.ensures in
-    let more = rw (is.honesty, is.file, is.honesty_right, is.file_right) at c.in_ok-enough.ensures.work in
+    let more = rw (is.store.honesty, is.store.file, is.store_right.honesty, is.store_right.file) at c.in_ok-enough.ensures.work in
     both_of_two _ _ _ (walks_steps tree) (walks_steps other) (is.work told right tree other o u) (more told right tree other o u)

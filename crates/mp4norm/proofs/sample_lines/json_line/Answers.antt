@@ -1,28 +1,27 @@
-use Rattle.std.proofs.Common.{rules, ◌≡◌, to_z, of_z, w32}
-use Rattle.mp4norm.proofs.LineParts.{json_fields}
+use Rattle.std.proofs.Common.{rules, ◌≡◌, drop, to_z, of_z, w32}
+use Rattle.mp4norm.proofs.LineParts.{json_fields_before}
 use Rattle.mp4norm.proofs.sample_lines.json_line.Goals as goal
 
-pub returns : goal.returns
-returns c =
+pub returns-clause-written : goal.returns-clause-written
+returns-clause-written c =
     let s = c.args.sample.now in
     let cto : to_z w32 (of_z w32 s.cto) ≡ s.cto = search rules in
-    let sum = rw cto at c.push_sum.ensures.text in
+    let sum = rw cto at c.write_kept_sum-start.ensures.written in
     rw (
-      c.push_bytes-8.ensures.text,
+      c.write_bytes.ensures.written,
       sum,
-      c.push_bytes-7.ensures.text,
-      c.push_number-2.ensures.text,
-      c.push_bytes-6.ensures.text,
-      c.push_short_number-4.ensures.text,
-      c.push_bytes-5.ensures.text,
-      c.push_short_number-3.ensures.text,
-      c.push_bytes-4.ensures.text,
-      c.push_short_number-2.ensures.text,
-      c.push_bytes-3.ensures.text,
-      c.push_number.ensures.text,
-      c.push_bytes-2.ensures.text,
-      c.push_short_number.ensures.text,
-      c.push_bytes.ensures.text,
-      c.new-line.ensures,
+      c.write_bytes-start-7.ensures.written,
+      c.write_digits-start-2.ensures.written,
+      c.write_bytes-start-6.ensures.written,
+      c.write_short_digits-start-4.ensures.written,
+      c.write_bytes-start-5.ensures.written,
+      c.write_short_digits-start-3.ensures.written,
+      c.write_bytes-start-4.ensures.written,
+      c.write_short_digits-start-2.ensures.written,
+      c.write_bytes-start-3.ensures.written,
+      c.write_digits-start.ensures.written,
+      c.write_bytes-start-2.ensures.written,
+      c.write_short_digits-start.ensures.written,
+      c.write_bytes-start.ensures.written,
     )
-    (json_fields c.args.number s.dts s.cto s.duration s.flags s.description s.size)
+    (json_fields_before c.args.number s.dts s.cto s.duration s.flags s.description s.size (drop c.args.end c.args.text.now))

@@ -1,29 +1,26 @@
-use Rattle.std.proofs.Common.{rules, ◌≡◌, to_z, of_z, w32, pos, ◌+ℤ◌, decimal}
-use Rattle.std.specs.Fmt.{signed_decimal}
-use Rattle.mp4norm.specs.format.Texts.{hex_digits}
-use Rattle.mp4norm.proofs.LineParts.{seven_fields}
+use Rattle.std.proofs.Common.{rules, ◌≡◌, to_z, of_z, w32, append_assoc}
 use Rattle.mp4norm.proofs.sample_lines.plain_line.Goals as goal
 
-pub returns : goal.returns
-returns c =
+pub returns-clause-written : goal.returns-clause-written
+returns-clause-written c =
     let s = c.args.sample.now in
     let cto : to_z w32 (of_z w32 s.cto) ≡ s.cto = search rules in
-    let sum = rw cto at c.push_sum.ensures.text in
+    let sum = rw cto at c.write_kept_sum-start.ensures.written in
     rw (
-      c.push_number-2.ensures.text,
-      c.push-7.ensures,
-      c.push_number.ensures.text,
-      c.push-6.ensures,
+      c.write_kept_number.ensures.written,
+      c.write_byte-start-6.ensures.written,
+      c.write_kept_number-start.ensures.written,
+      c.write_byte-start-5.ensures.written,
       sum,
-      c.push-5.ensures,
-      c.push_short_number-3.ensures.text,
-      c.push-4.ensures,
-      c.push_hex.ensures.text,
-      c.push-3.ensures,
-      c.push_short_number-2.ensures.text,
-      c.push-2.ensures,
-      c.push_short_number.ensures.text,
-      c.push.ensures,
-      c.new-line.ensures,
+      c.write_byte-start-4.ensures.written,
+      c.write_short_digits-start-2.ensures.written,
+      c.write_byte-start-3.ensures.written,
+      c.write_text-start.ensures.written,
+      c.text.ensures,
+      c.renew.ensures.flags,
+      c.renew.ensures.description,
+      c.write_byte-start-2.ensures.written,
+      c.write_short_digits-start.ensures.written,
+      c.write_byte-start.ensures.written,
     )
-    (seven_fields (decimal c.args.number) (decimal s.dts) (signed_decimal (pos s.dts +ℤ s.cto)) (decimal s.duration) (hex_digits 8 s.flags) (decimal s.description) (decimal s.size))
+    (simp append_assoc)

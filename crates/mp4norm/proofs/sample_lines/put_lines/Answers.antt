@@ -1,32 +1,55 @@
-use Rattle.std.proofs.Common.{◌≡◌, ◌+◌, ◌^◌, ◌<◌, ◌∙◌, length, arith}
+use Rattle.std.proofs.Common.{◌≡◌, ◌+◌, ◌^◌, ◌<◌, ◌++◌, ◌∙◌, length, arith}
 use Rattle.std.proofs.lemmas.Result.{err_from_is_err_and}
 use Rattle.mp4_present.specs.words.Carried.{waiting}
-use Rattle.mp4norm.specs.format.Texts.{sample_at_lines}
-use Rattle.mp4norm.proofs.Going.{going_more, going_fails, one_fewer}
+use Rattle.mp4norm.specs.format.Texts.{sample_at_line, sample_at_lines}
+use Rattle.mp4norm.proofs.Going.{going_more, line_added, block_fails, all_lines_put, last_block_fails, none_left, one_fewer}
 use Rattle.mp4norm.proofs.sample_lines.put_lines.Goals as goal
 
-pub returns-in_err-carry_line-clause-prefix : goal.returns-in_err-carry_line-clause-prefix
-returns-in_err-carry_line-clause-prefix g c =
+pub returns-in_err-make_room-clause-prefix : goal.returns-in_err-make_room-clause-prefix
+returns-in_err-make_room-clause-prefix g c =
     let rest = g.C.Samples.rest in
     let contents = g.K.Sink.contents in
+    let l = c.loop-sample in
     let p = err_from_is_err_and c.from_residual.result c.from_residual.ensures.1 in
-    rw p.1 (λ fits. going_fails c.args.form (contents c.args.sink.now) (contents c.loop-sample.sink) (contents c.carry_line.new.sink) (waiting c.args.carrier.now) (waiting c.loop-sample.carrier) (sample_at_lines c.args.form c.args.number.now (rest c.args.samples.now))
-    c.loop-sample.number (rest c.loop-sample.samples) c.in-Some.sample (c.loop-sample.invariant.lines fits) c.in-Some.ensures.given c.in_err-carry_line.ensures.prefix)
+    rw p.1 (λ fits. block_fails (contents c.args.sink.now) (contents l.sink) (contents c.make_room.new.sink) (waiting c.args.carrier.now) (waiting l.carrier ++ l.block) (sample_at_lines c.args.form l.number (rest l.samples))
+    (sample_at_lines c.args.form c.args.number.now (rest c.args.samples.now)) (l.invariant.lines fits) c.in_err-make_room.ensures.prefix)
 
 pub loop-sample-preserved : goal.loop-sample-preserved
 loop-sample-preserved g c =
-    let i = c.loop-sample.invariant in
+    let l = c.loop-sample in
+    let i = l.invariant in
     let rest = g.C.Samples.rest in
     let contents = g.K.Sink.contents in
-    let e = c.in_ok-carry_line.ensures in
-    let fewer = one_fewer (rest c.loop-sample.samples) (rest c.next.new.self) c.in-Some.sample c.in-Some.ensures.given c.next.ensures.rest in
+    let new = c.make_room.new in
+    let line = sample_at_line c.args.form l.number c.in-Some.sample in
+    let e = c.in_ok-make_room.ensures in
+    let fewer = one_fewer (rest l.samples) (rest c.next.new.self) c.in-Some.sample c.in-Some.ensures.given c.next.ensures.rest in
     let following = λ (fits : c.args.number.now + length (rest c.args.samples.now) < 2 ^ 64). (
-    let whole = i.number fits in let least = c.saturating_add.ensures in let same : c.saturating_add.result ≡ c.loop-sample.number + 1 = omega arith in same) in
+    let whole = i.number fits in let least = c.saturating_add.ensures in let same : c.saturating_add.result ≡ l.number + 1 = omega arith in same) in
     record {
       number = λ fits. let whole = i.number fits in let next = following fits in omega arith;
-      lines = λ fits. going_more c.args.form (contents c.args.sink.now) (contents c.loop-sample.sink) (contents c.carry_line.new.sink)
-          (waiting c.args.carrier.now) (waiting c.loop-sample.carrier) (waiting c.carry_line.new.carrier) (sample_at_lines c.args.form c.args.number.now (rest c.args.samples.now))
-          c.loop-sample.number _ (rest c.loop-sample.samples) (rest c.next.new.self) c.in-Some.sample (i.lines fits) c.in-Some.ensures.given c.next.ensures.rest (following fits) e.bytes;
+      lines = λ fits. rw c.add_line.ensures (going_more c.args.form (contents c.args.sink.now) (contents l.sink) (contents new.sink)
+          (waiting c.args.carrier.now) (waiting l.carrier ++ l.block) (waiting new.carrier ++ (new.block ++ line)) (sample_at_lines c.args.form c.args.number.now (rest c.args.samples.now))
+          l.number _ (rest l.samples) (rest c.next.new.self) c.in-Some.sample (i.lines fits) c.in-Some.ensures.given c.next.ensures.rest (following fits)
+          (line_added (contents l.sink) (contents new.sink) (waiting l.carrier ++ l.block) (waiting new.carrier) new.block line e.bytes));
       failures = e.puts ∙ i.failures;
       later = g.met.C.Samples.follows_on _ _ _ i.later c.next.ensures.later;
     }
+
+pub returns-clause-lines : goal.returns-clause-lines
+returns-clause-lines g c =
+    let rest = g.C.Samples.rest in
+    let contents = g.K.Sink.contents in
+    let l = c.loop-sample in
+    all_lines_put c.carry.result (c.args.number.now + length (rest c.args.samples.now) < 2 ^ 64) c.args.form (contents c.args.sink.now) (contents l.sink) (contents c.carry.new.sink)
+    (waiting c.args.carrier.now) (waiting l.carrier) (waiting c.carry.new.self) l.block (sample_at_lines c.args.form c.args.number.now (rest c.args.samples.now)) l.number (rest l.samples)
+    (λ fits. l.invariant.lines fits) (none_left (rest l.samples) c.in_default.ensures.given) (rw c.as_bytes.ensures at c.carry.ensures.bytes)
+
+pub returns-clause-prefix : goal.returns-clause-prefix
+returns-clause-prefix g c =
+    let rest = g.C.Samples.rest in
+    let contents = g.K.Sink.contents in
+    let l = c.loop-sample in
+    last_block_fails c.carry.result (c.args.number.now + length (rest c.args.samples.now) < 2 ^ 64) (contents c.args.sink.now) (contents l.sink) (contents c.carry.new.sink)
+    (waiting c.args.carrier.now) (waiting l.carrier ++ l.block) (sample_at_lines c.args.form l.number (rest l.samples)) (sample_at_lines c.args.form c.args.number.now (rest c.args.samples.now))
+    (λ fits. l.invariant.lines fits) (rw c.as_bytes.ensures at c.carry.ensures.prefix)
