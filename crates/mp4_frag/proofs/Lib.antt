@@ -5,6 +5,7 @@ pub mod PartReasons
 pub mod SeenLists
 pub mod MoofExcludes
 pub mod Costs
+pub mod CheckLooks
 pub mod WalkWork
 pub mod WalkBound
 pub mod SaidSamples

@@ -35,6 +35,12 @@ pub unread_head : (track : ℕ) (kind payload : List ℕ) (fault : Kind) → Fai
 unfolding names
 unread_head track kind payload fault f = ap (λ v. bytes_eq (codes "tfhd") kind && (v && (head_of payload).id == track)) (head_unread payload fault f) ∙ nothing (bytes_eq (codes "tfhd") kind)
 
+-- nor does one with another ID
+pub other_id : (track : ℕ) (kind payload : List ℕ) → ((head_of payload).id == track) ≡ false → names track kind payload ≡ false
+unfolding names
+other_id track kind payload e =
+    ap (λ v. bytes_eq (codes "tfhd") kind && (can_read tfhd payload && v)) e ∙ nor_then (bytes_eq (codes "tfhd") kind) (can_read tfhd payload)
+
 -- one that can be read names the track with its ID
 pub read_names : (track : ℕ) (kind payload : List ℕ) (head : Head) → bytes_eq kind (codes "tfhd") ≡ true → IsHead payload head → names track kind payload ≡ (head.id == track)
 unfolding names

@@ -13,3 +13,4 @@ pub mod RunsJudged
 pub mod GroupsJudged
 pub mod Finding
 pub mod Durations
+pub mod CheckWork

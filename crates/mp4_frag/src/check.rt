@@ -1,23 +1,23 @@
 //! A `moof`, checked behind what came before it (ISO/IEC 14496-12, 8.8).
-ghost use Rattle.std.specs.Prelude.{ℕ, pos, List, nat_lt, not, ◌&&◌, ◌≡◌, ◌+◌, ◌*◌, ◌^◌, ◌<◌, ◌≤◌, ◌==◌, [], length, None, option_map, codes, IfOk, IfErr};
-ghost use Rattle.mp4_boxes.specs.format.Box.{Tiles, box_container};
+ghost use Rattle.std.specs.Prelude.{List, nat_lt, not, ◌&&◌, ◌≡◌, ◌+◌, ◌*◌, ◌^◌, ◌<◌, ◌≤◌, ◌==◌, [], length, None, option_map, codes, IfOk, IfErr};
+ghost use Rattle.mp4_boxes.specs.format.Box.{box_container};
 ghost use Rattle.mp4_boxes.specs.format.BoxFaults.{IsChildFault, fault_of};
 ghost use Rattle.mp4_boxes.specs.declared.rule.Rule.TheVariants as rules;
 ghost use Rattle.mp4_boxes.specs.words.View.{box_seen};
 ghost use Rattle.mp4_tables.specs.format.Groups.{groupings_of, keys_after};
 ghost use Rattle.mp4_tables.specs.words.Keys.{keys_seen};
+ghost use Rattle.mp4_frag.specs.words.CheckWork.{TrafWork, TrafLooks, MoofWork, MoofLooks};
 ghost use Rattle.mp4_frag.specs.words.Finding.{IsKnown};
 ghost use Rattle.mp4_frag.specs.words.GroupsJudged.{groups_in, AreGroupsSound, GroupsFail};
-ghost use Rattle.mp4_frag.specs.words.Passing.{IsNear, IsNearer, IsUpTo, is_late_at, start_with, due_with};
-ghost use Rattle.mp4_boxes.specs.format.Children.{Holds, of_kind};
-ghost use Rattle.mp4_frag.specs.words.RunsJudged.{children_of, only_list, runs_in, AreRunsSound, all_end, runs_total, runs_lasting, runs_filling, RunsFail};
-ghost use Rattle.mp4_frag.specs.words.Judged.{AreTrexesOf, own_trexes, IsAcceptable, IsSoundMoof, IsTrafSound, IsMovedOn, AreMovedOn, tree_of};
+ghost use Rattle.mp4_frag.specs.words.Passing.{IsNearer, IsUpTo, EndsNear, IsPassed, AreBounded, is_late_at, state_with};
+ghost use Rattle.mp4_boxes.specs.format.Children.{of_kind};
+ghost use Rattle.mp4_frag.specs.words.RunsJudged.{children_of, HoldsChildren, only_list, runs_in, AreRunsPassed, RunsFail};
+ghost use Rattle.mp4_frag.specs.words.Judged.{AreTrexesOf, IsAcceptable, IsAccepted, IsSoundMoof, IsTrafPassed, IsMoofMovedOn, KeepRoom, tree_of};
 ghost use Rattle.mp4_tables.specs.format.TableRules.{is_index};
 ghost use Rattle.mp4_frag.specs.declared.trex.Trex.{Trex};
-ghost use Rattle.mp4_frag.specs.words.Walks.{trex_among};
-ghost use Rattle.mp4_frag.specs.words.States.{HaveRoom};
-ghost use Rattle.mp4_frag.specs.words.TrafFaults.{TrafFails, MoofFails, traf_in};
-ghost use Rattle.mp4_frag.specs.format.FragmentRows.{group_rows, traf_rows, fragment_rows, moof_says};
+ghost use Rattle.mp4_frag.specs.words.States.{HasRoom, IsRoomFor};
+ghost use Rattle.mp4_frag.specs.words.TrafFaults.{HoldsBoxes, TrafFails, MoofFails, traf_in};
+ghost use Rattle.mp4_frag.specs.format.FragmentRows.{group_rows};
 ghost use Rattle.mp4_frag.specs.words.FragmentsSeen.{moof_seen};
 ghost use Rattle.mp4_frag.specs.declared.state.TrackState.{TrackState};
 
@@ -58,9 +58,7 @@ struct Heads<'a> {
 
 // Checks which boxes stand in a `traf`.
 fn check_boxes<'a>(traf: BoxView<'a>) -> Result<Heads<'a>, Fault>
-    ensures holds { IfOk result
-        (λ h. Holds rules.TrackFragment (box_container (box_seen traf.entry))
-        (children_of (box_seen traf.entry))) }
+    ensures holds { IfOk result (λ h. HoldsBoxes (box_seen traf.entry)) }
     ensures head { IfOk result (λ h. only_list (option_map box_seen h.head)
         ≡ of_kind (codes "tfhd") (children_of (box_seen traf.entry))) }
     ensures time { IfOk result (λ h. only_list (option_map box_seen h.time)
@@ -82,7 +80,8 @@ fn check_boxes<'a>(traf: BoxView<'a>) -> Result<Heads<'a>, Fault>
     Ok(heads)
 }
 
-// Checks the runs of a `traf` in file order.
+// Checks the runs of a `traf` in file order: all are sound, and what was passed is what they come
+// to, or one has a fault, at a step for each run and sample.
 fn check_runs<L: Ledger>(
     traf: BoxView,
     judged: Judged,
@@ -91,24 +90,11 @@ fn check_runs<L: Ledger>(
 ) -> Result<Passed, Fault>
     requires few { room.old ≤ 2 ^ 24 }
     requires base { IsNearer judged.base }
-    ensures few { IfOk result (λ p. p.count + room.new ≡ room.old) }
-    ensures duration { IfOk result (λ p. p.duration ≤ 2 ^ 32 * p.count) }
-    ensures bytes { IfOk result (λ p. p.bytes ≤ 2 ^ 32 * p.count) }
-    ensures near { IfOk result (λ p. IsNear p.at) }
-    ensures bound { IfOk result (λ p. (n : ℕ) → 2 ^ 64 ≤ n → IsUpTo n judged.base
-        → IsUpTo (n + 2 ^ 31) p.at) }
-    ensures sound { IfOk result
-        (λ p. AreRunsSound judged.file_len judged.inherited judged.base judged.base
-        (runs_in (box_seen traf.entry))) }
-    ensures end { IfOk result (λ p. p.at
-        ≡ all_end judged.inherited judged.base judged.base (runs_in (box_seen traf.entry))) }
-    ensures count { IfOk result (λ p. p.count ≡ runs_total (runs_in (box_seen traf.entry))) }
-    ensures lasting { IfOk result (λ p. p.duration
-        ≡ runs_lasting judged.inherited (runs_in (box_seen traf.entry))) }
-    ensures filling { IfOk result (λ p. p.bytes ≡ runs_filling judged.inherited
-        (runs_in (box_seen traf.entry))) }
-    ensures fault { IfErr result
-        (λ f. Tiles (box_container (box_seen traf.entry)) (children_of (box_seen traf.entry))
+    ensures passed { IfOk result IsPassed }
+    ensures runs { IfOk result (AreRunsPassed judged (runs_in (box_seen traf.entry))) }
+    ensures taken { IfOk result (λ p. p.count + room.new ≡ room.old) }
+    ensures bound { IfOk result (λ p. EndsNear judged.base p.at) }
+    ensures fault { IfErr result (λ f. HoldsChildren (box_seen traf.entry)
         → RunsFail judged.file_len judged.inherited judged.base judged.base room.old
         (runs_in (box_seen traf.entry)) f) }
     ensures cost { IfOk result (λ p. steps.new ≤ steps.old
@@ -147,8 +133,7 @@ fn check_groups<L: Ledger>(
         (λ k. AreGroupsSound n (keys_seen keys) [] (groups_in (box_seen traf.entry))) }
     ensures keys { IfOk result (λ k. keys_seen k
         ≡ keys_after (keys_seen keys) (groupings_of (groups_in (box_seen traf.entry)))) }
-    ensures fault { IfErr result
-        (λ f. Tiles (box_container (box_seen traf.entry)) (children_of (box_seen traf.entry))
+    ensures fault { IfErr result (λ f. HoldsChildren (box_seen traf.entry)
         → GroupsFail n (keys_seen keys) [] (groups_in (box_seen traf.entry)) f) }
     ensures cost { IfOk result (λ k. steps.new ≤ steps.old
         + group_rows (traf_in (box_seen traf.entry)).groups) }
@@ -183,25 +168,16 @@ fn is_late(state: TrackState, time: Option<u64>, passed: Passed) -> bool
     }
 }
 
-// The track behind these samples.
+// The track behind these samples: with their number, their time and their bytes, if there are any,
+// and with these keys.
 fn moved_on(state: TrackState, time: Option<u64>, passed: Passed, keys: Keys) -> TrackState
-    requires few { state.count + passed.count ≤ 2 ^ 24 }
-    requires time { state.time ≤ 2 ^ 64 + 2 ^ 32 * state.count }
-    requires duration { passed.duration ≤ 2 ^ 32 * passed.count }
-    requires bytes { state.bytes ≤ 2 ^ 32 * state.count }
-    requires size { passed.bytes ≤ 2 ^ 32 * passed.count }
+    requires room { HasRoom passed.count state }
+    requires sums { AreBounded passed.count passed.duration passed.bytes }
     ensures same { (result.id ≡ state.id) × (result.trex ≡ state.trex) }
     ensures count { result.count ≡ state.count + passed.count }
-    ensures time { result.time ≤ 2 ^ 64 + 2 ^ 32 * result.count }
-    ensures bytes { result.bytes ≤ 2 ^ 32 * result.count }
+    ensures room { HasRoom 0 result }
     ensures none { passed.count ≡ 0 → result ≡ record state { keys = keys } }
-    ensures some { 0 < passed.count → result ≡ record state {
-      start = start_with state time;
-      count = state.count + passed.count;
-      time = due_with state time + passed.duration;
-      bytes = state.bytes + passed.bytes;
-      keys = keys;
-    } }
+    ensures some { 0 < passed.count → result ≡ state_with state time passed keys }
 {
     if passed.count == 0 {
         return TrackState { keys, ..state };
@@ -222,9 +198,10 @@ fn moved_on(state: TrackState, time: Option<u64>, passed: Passed, keys: Keys) ->
     }
 }
 
-// Checks a `traf` of a `moof` at this place, where the data of the `traf` before ends there, and
-// answers where its own ends.
-fn check_traf<L: Ledger>(
+// Checks a `traf` of a `moof` at this place, where the data of the `traf` before ends there: it
+// passes, its own data ends at the answer, and the tracks and the room are those behind it; or it
+// has the fault, at a step for each row, run and sample, and a look at each track at most.
+fn check_traf<L: Ledger, M: Ledger>(
     traf: BoxView,
     moof: u64,
     before: i128,
@@ -233,34 +210,20 @@ fn check_traf<L: Ledger>(
     known: &mut Known,
     room: &mut u32,
     steps: &mut Steps<L>,
+    looks: &mut Steps<M>,
 ) -> Result<i128, Fault>
-    requires few { room.old ≤ 2 ^ 24 }
-    requires room { HaveRoom room.old tracks.old }
+    requires room { IsRoomFor tracks.old room.old }
     requires near { IsUpTo (2 ^ 98) before }
     requires known { IsKnown tracks.old known.old }
     ensures known { IfOk result (λ at. IsKnown tracks.new known.new) }
-    ensures few { IfOk result (λ at. room.new ≤ room.old) }
-    ensures room { IfOk result (λ at. HaveRoom room.new tracks.new) }
-    ensures holds { IfOk result
-        (λ at. Holds rules.TrackFragment (box_container (box_seen traf.entry))
-        (children_of (box_seen traf.entry))) }
-    ensures sound { IfOk result
-        (λ at. IsTrafSound file_len moof before tracks.old (children_of (box_seen traf.entry)) at) }
-    ensures bound { IfOk result (λ at. (n : ℕ) → 2 ^ 64 ≤ n → IsUpTo n before
-        → IsUpTo (n + 2 ^ 31) at) }
-    ensures same { IfOk result (λ at. (id : ℕ)
-        → trex_among tracks.new id ≡ trex_among tracks.old id) }
-    ensures fault { IfErr result
-        (λ f. TrafFails file_len moof before tracks.old room.old (box_seen traf.entry) f) }
-    ensures moved { IfOk result
-        (λ at. IsMovedOn moof before (children_of (box_seen traf.entry))
+    ensures passed { IfOk result (IsTrafPassed file_len moof before (box_seen traf.entry)
         tracks.old tracks.new room.old room.new) }
-    ensures cost { IfOk result (λ at. steps.new + room.new + 1 ≤ steps.old + room.old
-        + traf_rows (traf_in (box_seen traf.entry))) }
-    ensures within { IfOk result (λ at. 8 * steps.new + 8 * room.new ≤ 8 * steps.old + 8 * room.old
-        + 3 * length (box_seen traf.entry).payload) }
-    ensures work { 8 * steps.new ≤ 8 * steps.old + 8 * room.old
-        + 3 * length (box_seen traf.entry).payload }
+    ensures kept { IfOk result (λ at. KeepRoom tracks.old tracks.new room.old room.new) }
+    ensures fault { IfErr result
+        (TrafFails file_len moof before tracks.old room.old (box_seen traf.entry)) }
+    ensures work { TrafWork (box_seen traf.entry) steps.old steps.new room.old room.new result }
+    ensures looks { TrafLooks (length tracks.old) looks.old looks.new result }
+    ensures many { length tracks.new ≡ length tracks.old }
 {
     let heads = check_boxes(traf)?;
     let Some(tfhd) = heads.head else {
@@ -270,7 +233,7 @@ fn check_traf<L: Ledger>(
         Ok(head) => head,
         Err(kind) => return Err(fault(kind, tfhd)),
     };
-    let Some(k) = find_track(tracks, head.id, known) else {
+    let Some(k) = find_track(tracks, head.id, known, looks) else {
         return Err(fault(Kind::UnknownTrack, tfhd));
     };
     let state = tracks[k];
@@ -305,38 +268,30 @@ fn check_traf<L: Ledger>(
 
 /// Checks a `moof` of a file of this length behind what came before it. The tracks move on by its
 /// samples, and the room for samples falls by their number. After a fault both may have any values.
-pub fn check_moof<'a, L: Ledger>(
+/// A step is taken for each `traf`, run, row and sample; and each track is looked at once at most
+/// for each `traf`.
+pub fn check_moof<'a, L: Ledger, M: Ledger>(
     moof: BoxView<'a>,
     file_len: u64,
     tracks: &mut [TrackState],
     room: &mut u32,
     steps: &mut Steps<L>,
+    looks: &mut Steps<M>,
 ) -> Result<FragView<'a>, Fault>
-    requires few { room.old ≤ 2 ^ 24 }
-    requires room { HaveRoom room.old tracks.old }
+    requires room { IsRoomFor tracks.old room.old }
     ensures view { IfOk result (λ view. moof_seen view ≡ box_seen moof.entry) }
     ensures sound { IfOk result (λ view. (trexes : List Trex) → AreTrexesOf trexes tracks.old
         → IsSoundMoof file_len trexes tracks.old (tree_of (box_seen moof.entry))) }
-    ensures own { IfOk result (λ view.
-        IsSoundMoof file_len (own_trexes tracks.old) tracks.old (tree_of (box_seen moof.entry))) }
-    ensures fault { IfErr result (λ f. MoofFails file_len tracks.old room.old (box_seen moof.entry)
-        f) }
+    ensures accepted { IfOk result (λ view. IsAccepted file_len (box_seen moof.entry)
+        tracks.old tracks.new room.old room.new) }
+    ensures fault { IfErr result
+        (MoofFails file_len tracks.old room.old (box_seen moof.entry)) }
     ensures only { IfErr result
         (λ f. IsAcceptable file_len tracks.old room.old (box_seen moof.entry) → ⊥) }
-    ensures same { IfOk result (λ view. (id : ℕ)
-        → trex_among tracks.new id ≡ trex_among tracks.old id) }
-    ensures moved { IfOk result
-        (λ view. AreMovedOn (box_seen moof.entry).offset (pos (box_seen moof.entry).offset)
-        (of_kind (codes "traf") (children_of (box_seen moof.entry)))
-        tracks.old tracks.new room.old room.new) }
-    ensures few { IfOk result (λ view. room.new ≤ room.old) }
-    ensures room { IfOk result (λ view. HaveRoom room.new tracks.new) }
-    ensures cost { IfOk result (λ view. steps.new + room.new ≤ steps.old + room.old
-        + fragment_rows (moof_says (box_seen moof.entry))) }
-    ensures within { IfOk result (λ view. 2 * steps.new + 2 * room.new ≤ 2 * steps.old
-        + 2 * room.old + length (box_seen moof.entry).payload) }
-    ensures work { 2 * steps.new ≤ 2 * steps.old + 2 * room.old
-        + length (box_seen moof.entry).payload }
+    ensures moved { IfOk result (λ view.
+        IsMoofMovedOn (box_seen moof.entry) tracks.old tracks.new room.old room.new) }
+    ensures work { MoofWork (box_seen moof.entry) steps.old steps.new room.old room.new result }
+    ensures looks { MoofLooks (box_seen moof.entry) (length tracks.old) looks.old looks.new result }
 {
     let mut before = i128::from(moof.offset());
     let mut known = Known::first();
@@ -352,6 +307,7 @@ pub fn check_moof<'a, L: Ledger>(
                 &mut known,
                 room,
                 steps,
+                looks,
             )?;
         }
     }

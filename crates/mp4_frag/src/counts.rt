@@ -1,8 +1,8 @@
 //! How many samples of a track a `moof` has, and how long they last: by rows, without a walk from
 //! sample to sample.
-ghost use Rattle.std.specs.Prelude.{◌≡◌, ◌+◌, ◌≤◌, ◌++◌};
+ghost use Rattle.std.specs.Prelude.{◌≡◌, ◌+◌, ◌++◌};
 ghost use Rattle.mp4_frag.specs.words.Durations.{durations_of, rows_durations, rows_lasting};
-ghost use Rattle.mp4_frag.specs.words.PlacesIn.{LiesIn, IsRowPlace};
+ghost use Rattle.mp4_frag.specs.words.PlacesIn.{KeepsWalk, LiesIn, IsRowPlace};
 ghost use Rattle.mp4_frag.specs.words.Walks.{Walk, coming, rows_here};
 
 use crate::places::{FragPlace, RowPlace};
@@ -38,8 +38,7 @@ pub(crate) fn leave_run(payload: &[u8], place: &mut FragPlace) -> u64
     requires { LiesIn payload.now place.old }
     ensures place { LiesIn payload.now place.new }
     ensures none { place.new.run.left ≡ 0 }
-    ensures same { (place.new.track ≡ place.old.track) × (place.new.keys ≡ place.old.keys) }
-    ensures on { place.old.passed ≤ place.new.passed }
+    ensures walk { KeepsWalk place.old place.new }
     ensures lasting { result
         ≡ rows_lasting place.old.inherited.duration (rows_here payload.now place.old.run) }
     ensures coming { (w : Walk) → durations_of (coming payload.now w place.old)

@@ -48,7 +48,8 @@ impl<'a> FragCursor<'a> {
     ghost use Rattle.mp4_frag.specs.words.Walks.{samples_coming, samples_in};
     ghost use Rattle.mp4_tables.specs.words.Keys.{keys_seen};
 
-    /// The walk from the first sample of the track with this ID on, at this decode time.
+    /// The walk from the first sample of the track with this ID on, at this decode time: over the
+    /// samples of the definition, where the `moof` is sound.
     pub fn start(
         view: &FragView<'a>,
         tracks: &'a [TrackState],

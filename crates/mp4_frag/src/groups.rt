@@ -1,5 +1,5 @@
 //! `sbgp` in a `traf`: which group description its samples have (ISO/IEC 14496-12, 8.9.2).
-ghost use Rattle.std.specs.Prelude.{◌≡◌, ◌+◌, ◌*◌, ◌<◌, ◌≤◌, ◌∷◌, drop, nat_le, length, List, is_some, OnOk, IfOk, IfErr, IfSome, ◌++◌, []};
+ghost use Rattle.std.specs.Prelude.{◌≡◌, ◌+◌, ◌*◌, ◌<◌, ◌≤◌, ◌∷◌, drop, nat_le, length, is_some, OnOk, IfOk, IfErr, IfSome, ◌++◌, []};
 ghost use Rattle.mp4_boxes.specs.format.BoxFaults.{Fails};
 ghost use Rattle.mp4_boxes.specs.format.Layout.{sbgp, row_count};
 ghost use Rattle.mp4_boxes.specs.format.Layout.{version as version_of};
@@ -9,10 +9,9 @@ ghost use Rattle.mp4_tables.specs.format.Groups.{max_index};
 ghost use Rattle.mp4_tables.specs.format.Repeated.{total as total_of};
 ghost use Rattle.mp4_frag.specs.words.Reading.{IsGroup, group_runs};
 ghost use Rattle.std.specs.List.{list_all};
-ghost use Rattle.mp4_tables.specs.format.Groups.{GroupKey as GroupKeyOf};
 ghost use Rattle.mp4_tables.specs.format.Groups.{Grouping, grouping_of};
 ghost use Rattle.mp4_tables.specs.words.Keys.{keys_seen};
-ghost use Rattle.mp4_frag.specs.words.GroupsJudged.{AreNamed, NamesOneMore, IsNameFault, IsGroupSound, IsGroupFault};
+ghost use Rattle.mp4_frag.specs.words.GroupsJudged.{AreNamed, WhereNamed, NamesOneMore, IsNameFault, IsGroupSound, IsGroupFault};
 
 use crate::fronts::front;
 use mp4_boxes::{FourCc, Kind, Steps, u32_at};
@@ -133,13 +132,11 @@ pub(crate) fn read_group(payload: &[u8]) -> Result<Group, Kind>
 // Names the key of an `sbgp`, which no other of the `traf` may have, and which may not be the fifth
 // of the track.
 fn name(key: GroupKey, keys: &mut Keys, named: &mut KeysNamed) -> Result<(), Kind>
-    ensures named { OnOk result ((first : List GroupKeyOf) (before : List Grouping) (g : Grouping)
-        → g.key ≡ key_seen key → AreNamed first before (keys_seen keys.old) named.old
-        → NamesOneMore first before g (keys_seen keys.new) named.new) }
-    ensures fault { IfErr result
-        (λ kind. (first : List GroupKeyOf) (before : List Grouping) (g : Grouping)
-        → g.key ≡ key_seen key → AreNamed first before (keys_seen keys.old) named.old
-        → IsNameFault first before g kind) }
+    ensures named { OnOk result (WhereNamed (keys_seen keys.old) named.old (λ first before.
+        (g : Grouping) → g.key ≡ key_seen key
+        → NamesOneMore first before g (keys_seen keys.new) named.new)) }
+    ensures fault { IfErr result (λ kind. WhereNamed (keys_seen keys.old) named.old
+        (λ first before. (g : Grouping) → g.key ≡ key_seen key → IsNameFault first before g kind)) }
 {
     let place = match keys.place(key) {
         Some(j) => {
@@ -200,15 +197,12 @@ pub(crate) fn check_group<L: Ledger>(
     named: &mut KeysNamed,
     steps: &mut Steps<L>,
 ) -> Result<(), Kind>
-    ensures sound { OnOk result ((first : List GroupKeyOf) (before : List Grouping)
-        → AreNamed first before (keys_seen keys.old) named.old
-        → IsGroupSound n first before payload.now) }
-    ensures named { OnOk result ((first : List GroupKeyOf) (before : List Grouping)
-        → AreNamed first before (keys_seen keys.old) named.old
-        → AreNamed first (before ++ grouping_of payload.now ∷ []) (keys_seen keys.new) named.new) }
-    ensures fault { IfErr result (λ kind. (first : List GroupKeyOf) (before : List Grouping)
-        → AreNamed first before (keys_seen keys.old) named.old
-        → IsGroupFault n first before payload.now kind) }
+    ensures sound { OnOk result (WhereNamed (keys_seen keys.old) named.old
+        (λ first before. IsGroupSound n first before payload.now)) }
+    ensures named { OnOk result (WhereNamed (keys_seen keys.old) named.old (λ first before.
+        AreNamed first (before ++ grouping_of payload.now ∷ []) (keys_seen keys.new) named.new)) }
+    ensures fault { IfErr result (λ kind. WhereNamed (keys_seen keys.old) named.old
+        (λ first before. IsGroupFault n first before payload.now kind)) }
     ensures cost { steps.new ≤ steps.old + row_count sbgp payload.now }
     ensures work { 8 * steps.new ≤ 8 * steps.old + length payload.now }
 {

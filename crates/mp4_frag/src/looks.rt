@@ -1,12 +1,14 @@
 //! Looks ahead in a `moof`: which `traf` is the next that names a track.
-ghost use Rattle.std.specs.Prelude.{◌≡◌, ◌<◌, ◌≤◌, ◌+◌, ◌-◌, ◌∷◌, [], length, drop, suc, None, true, false, codes, bytes_eq, IfSome, MatchOption};
+ghost use Rattle.std.specs.Prelude.{◌≡◌, ◌==◌, ◌<◌, ◌≤◌, ◌+◌, ◌-◌, [], length, drop, suc, None, true, false, IfSome, MatchOption};
 ghost use Rattle.mp4_frag.specs.words.Looks.{names, has_base as says_base, is_named, is_based, AreOthers, looks};
 ghost use Rattle.mp4_frag.specs.words.Reading.{as_traf};
-ghost use Rattle.mp4_frag.specs.words.Walks.{head_of, part_of, boxes_between};
+ghost use Rattle.mp4_frag.specs.words.PlacesIn.{IsBoxIn, bytes_inside, boxes_inside, boxes_from, IsTrafAt};
+ghost use Rattle.mp4_frag.specs.words.Walks.{head_of};
 
 use crate::check::{TFHD, TRAF};
 use crate::heads::{Head, read_head};
 use crate::lying::{Lying, box_at};
+use mp4_boxes::u32_at;
 
 // Whether a `tfhd` of a `traf` names the track, and whether one that does says where data is
 // counted from.
@@ -29,19 +31,30 @@ pub(crate) struct Ahead {
     pub(crate) is_based: bool,
 }
 
-// The `tfhd` that a box is, if it can be read and names the track.
+// Whether a `tfhd` has room for an ID, and has another one.
+fn has_other_id(tfhd: &[u8], track: u32) -> bool
+    ensures { result ≡ true → ((head_of tfhd.now).id == track) ≡ false }
+{
+    tfhd.len() >= 8 && u32_at(tfhd, 4) != track
+}
+
+// The `tfhd` that a box is, if it can be read and names the track. Of one that names another its ID
+// alone is read.
 fn naming_head(payload: &[u8], lying: Lying, track: u32) -> Option<Head>
-    requires inside { lying.inside ≤ lying.end }
-    requires within { lying.end ≤ length payload.now }
+    requires lies { IsBoxIn payload.now lying }
     ensures { MatchOption result
-        (names track lying.kind.0 (part_of payload.now lying.inside lying.end) ≡ false)
-        (λ h. (names track lying.kind.0 (part_of payload.now lying.inside lying.end) ≡ true)
-        × (as_traf h ≡ head_of (part_of payload.now lying.inside lying.end))) }
+        (names track lying.kind.0 (bytes_inside payload.now lying) ≡ false)
+        (λ h. (names track lying.kind.0 (bytes_inside payload.now lying) ≡ true)
+        × (as_traf h ≡ head_of (bytes_inside payload.now lying))) }
 {
     if lying.kind != TFHD {
         return None;
     }
-    let Ok(head) = read_head(&payload[lying.inside..lying.end]) else {
+    let tfhd = &payload[lying.inside..lying.end];
+    if has_other_id(tfhd, track) {
+        return None;
+    }
+    let Ok(head) = read_head(tfhd) else {
         return None;
     };
     if head.id == track { Some(head) } else { None }
@@ -56,12 +69,9 @@ fn has_base(head: Head) -> bool
 
 // Looks at the `tfhd`s of a `traf`.
 fn look(payload: &[u8], traf: Lying, track: u32) -> Named
-    requires inside { traf.inside ≤ traf.end }
-    requires within { traf.end ≤ length payload.now }
-    ensures named { result.is_named
-        ≡ is_named track (boxes_between payload.now traf.inside traf.end) }
-    ensures based { result.is_based
-        ≡ is_based track (boxes_between payload.now traf.inside traf.end) }
+    requires lies { IsBoxIn payload.now traf }
+    ensures named { result.is_named ≡ is_named track (boxes_inside payload.now traf) }
+    ensures based { result.is_based ≡ is_based track (boxes_inside payload.now traf) }
 {
     let mut named = Named {
         is_named: false,
@@ -83,33 +93,21 @@ fn look(payload: &[u8], traf: Lying, track: u32) -> Named
     named
 }
 
-/// Looks at each `traf` of a `moof` from a box on, until one names the track.
+/// Looks at each `traf` of a `moof` from a box on, until one names the track: the boxes before it
+/// do not, and each `traf` is looked at once.
 pub(crate) fn look_ahead(payload: &[u8], from: usize, track: u32) -> Ahead
     requires { from ≤ length payload.now }
     ensures order { (from ≤ result.at) × (result.at ≤ length payload.now) }
-    ensures rest { drop result.boxes (boxes_between payload.now from (length payload.now))
-        ≡ boxes_between payload.now result.at (length payload.now) }
-    ensures others { AreOthers track result.boxes
-        (boxes_between payload.now from (length payload.now)) }
-    ensures none { result.traf ≡ None → boxes_between payload.now result.at (length payload.now)
-        ≡ [] }
-    ensures looks { result.looks
-        ≤ suc (looks result.boxes (boxes_between payload.now from (length payload.now))) }
+    ensures rest { drop result.boxes (boxes_from payload.now from)
+        ≡ boxes_from payload.now result.at }
+    ensures others { AreOthers track result.boxes (boxes_from payload.now from) }
+    ensures none { result.traf ≡ None → boxes_from payload.now result.at ≡ [] }
+    ensures looks { result.looks ≤ suc (looks result.boxes (boxes_from payload.now from)) }
     ensures few { result.traf ≡ None
-        → result.looks ≤ looks result.boxes (boxes_between payload.now from (length payload.now)) }
-    ensures inside { IfSome result.traf (λ t. (result.at < t.inside) × (t.inside ≤ t.end)
-        × (t.end ≤ length payload.now)) }
-    ensures some { IfSome result.traf (λ t. boxes_between payload.now result.at (length payload.now)
-        ≡ record {
-          kind = t.kind.0;
-          offset = result.at;
-          header = t.inside - result.at;
-          payload = part_of payload.now t.inside t.end;
-        }
-        ∷ boxes_between payload.now t.end (length payload.now)) }
-    ensures kind { IfSome result.traf (λ t. bytes_eq t.kind.0 (codes "traf") ≡ true) }
+        → result.looks ≤ looks result.boxes (boxes_from payload.now from) }
+    ensures traf { IfSome result.traf (IsTrafAt payload.now result.at) }
     ensures based { IfSome result.traf (λ t. result.is_based
-        ≡ is_based track (boxes_between payload.now t.inside t.end)) }
+        ≡ is_based track (boxes_inside payload.now t)) }
 {
     let mut ahead = Ahead {
         boxes: 0,

@@ -1,7 +1,8 @@
 //! Boxes of a payload by their places in it.
 ghost use Rattle.std.specs.Prelude.{◌≡◌, ◌+◌, ◌-◌, ◌<◌, ◌≤◌, ◌∷◌, [], length, None, Ok, IfSome, MatchOption, IsErr, false};
 ghost use Rattle.mp4_boxes.specs.format.Box.{header_at};
-ghost use Rattle.mp4_frag.specs.words.Walks.{part_of, boxes_between};
+ghost use Rattle.mp4_frag.specs.words.PlacesIn.{box_in};
+ghost use Rattle.mp4_frag.specs.words.Walks.{boxes_between};
 
 use mp4_boxes::{FourCc, u32_at, u64_at};
 
@@ -52,12 +53,7 @@ pub(crate) fn box_at(payload: &[u8], at: usize, end: usize) -> Option<Lying>
     requires within { end ≤ length payload.now }
     ensures order { IfSome result (λ b. (at < b.inside) × (b.inside ≤ b.end) × (b.end ≤ end)) }
     ensures some { IfSome result (λ b. boxes_between payload.now at end
-        ≡ record {
-          kind = b.kind.0;
-          offset = at;
-          header = b.inside - at;
-          payload = part_of payload.now b.inside b.end;
-        } ∷ boxes_between payload.now b.end end) }
+        ≡ box_in payload.now at b ∷ boxes_between payload.now b.end end) }
     ensures none { result ≡ None → boxes_between payload.now at end ≡ [] }
 {
     let header = read_header(&payload[at..end])?;

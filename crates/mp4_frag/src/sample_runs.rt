@@ -1,10 +1,9 @@
 //! The samples of a run, passed one by one to judge them.
-ghost use Rattle.std.specs.Prelude.{ℕ, ◌≡◌, ◌+◌, ◌*◌, ◌^◌, ◌<◌, ◌≤◌, ◌∷◌, [], ◌||◌, ◌+ℤ◌, pos, true, length, IfOk, IfErr, ◌-◌, not, ◌&&◌};
+ghost use Rattle.std.specs.Prelude.{ℕ, ◌≡◌, ◌+◌, ◌*◌, ◌^◌, ◌<◌, ◌≤◌, ◌∷◌, [], ◌||◌, ◌+ℤ◌, pos, true, IfOk, IfErr, ◌-◌, not, ◌&&◌};
 ghost use Rattle.mp4_boxes.specs.format.Layout.{too_large};
 ghost use Rattle.mp4_tables.specs.format.TableRules.{lies_within as lies_in};
-ghost use Rattle.mp4_frag.specs.words.ColumnsRead.{row_room};
 ghost use Rattle.mp4_frag.specs.format.FragmentSamples.{run_start as run_start_by};
-ghost use Rattle.mp4_frag.specs.words.Passing.{IsNear, IsNearer, IsUpTo, IsRunFault, IsRunPassed, rows_left, offsets_left, row_seen, within_from, end_from, lasting, filling};
+ghost use Rattle.mp4_frag.specs.words.Passing.{IsNear, IsNearer, IsUpTo, HasRows, AreSamplesOf, AreBounded, IsPassed, IsPassedWith, IsRunFault, rows_left, offsets_left, row_seen, within_from};
 
 use crate::heads::Inherited;
 use crate::rows::{Row, row_at, row_size};
@@ -91,7 +90,7 @@ fn is_too_large(before: bool, row: Row) -> bool
 // Row `k` of a run.
 #[inline]
 fn row_of(payload: &[u8], run: Run, k: u32) -> Row
-    requires room { run.rows + run.count * row_room run.bits ≤ length payload.now }
+    requires rows { HasRows payload.now run }
     requires inside { k < run.count }
     ensures row { rows_left payload.now run k ≡ row_seen run result
         ∷ rows_left payload.now run (k + 1) }
@@ -105,7 +104,8 @@ fn row_of(payload: &[u8], run: Run, k: u32) -> Row
     )
 }
 
-// The samples of a run that begins at a place.
+// The samples of a run that begins at a place: whether all lie in the file, and what they come to
+// where they do.
 fn pass_samples<L: Ledger>(
     payload: &[u8],
     run: Run,
@@ -113,20 +113,12 @@ fn pass_samples<L: Ledger>(
     judged: Judged,
     steps: &mut Steps<L>,
 ) -> Samples
-    requires room { run.rows + run.count * row_room run.bits ≤ length payload.now }
+    requires rows { HasRows payload.now run }
     requires near { IsNear at }
     ensures within { result.are_within
         ≡ within_from judged.file_len judged.inherited.size at (rows_left payload.now run 0) }
-    ensures end { result.are_within ≡ true
-        → result.end ≡ end_from judged.inherited.size at (rows_left payload.now run 0) }
-    ensures duration { result.are_within ≡ true
-        → result.duration ≡ lasting judged.inherited.duration (rows_left payload.now run 0) }
-    ensures bytes { result.are_within ≡ true
-        → result.bytes ≡ filling judged.inherited.size (rows_left payload.now run 0) }
-    ensures large { result.are_within ≡ true
-        → result.are_large ≡ too_large (offsets_left payload.now run 0) }
-    ensures short { result.duration ≤ 2 ^ 32 * run.count }
-    ensures small { result.bytes ≤ 2 ^ 32 * run.count }
+    ensures samples { result.are_within ≡ true → AreSamplesOf judged at payload.now run result }
+    ensures sums { AreBounded run.count result.duration result.bytes }
     ensures near { IsNear result.end }
     ensures cost { steps.new ≤ steps.old + run.count }
 {
@@ -166,7 +158,8 @@ fn have_large_offset(run: Run, samples: Samples) -> bool
     !run.is_signed && samples.are_large
 }
 
-/// Checks a `trun`, behind others of its `traf`.
+/// Checks a `trun`, behind others of its `traf`: its samples are passed too, or it has the fault; a
+/// step for each sample.
 pub(crate) fn check_run<L: Ledger>(
     payload: &[u8],
     judged: Judged,
@@ -175,24 +168,14 @@ pub(crate) fn check_run<L: Ledger>(
     steps: &mut Steps<L>,
 ) -> Result<Passed, Kind>
     requires few { passed.count + room.old ≤ 2 ^ 24 }
-    requires duration { passed.duration ≤ 2 ^ 32 * passed.count }
-    requires bytes { passed.bytes ≤ 2 ^ 32 * passed.count }
+    requires passed { IsPassed passed }
     requires base { IsNearer judged.base }
-    requires near { IsNear passed.at }
-    ensures near { IfOk result (λ p. IsNear p.at) }
-    ensures passed { IfOk result
-        (λ p. IsRunPassed judged.file_len judged.inherited judged.base passed.at payload.now p.at
-        (p.count - passed.count) (p.duration - passed.duration)
-        (p.bytes - passed.bytes)) }
+    ensures passed { IfOk result IsPassed }
+    ensures run { IfOk result (IsPassedWith judged payload.now passed room.old room.new) }
     ensures bound { IfOk result (λ p. (n : ℕ) → 2 ^ 64 ≤ n → IsUpTo n judged.base
         → IsUpTo (n + 2 ^ 31) passed.at → IsUpTo (n + 2 ^ 31) p.at) }
     ensures fault { IfErr result
         (IsRunFault judged.file_len judged.inherited judged.base passed.at room.old payload.now) }
-    ensures few { IfOk result (λ p. p.count + room.new ≡ passed.count + room.old) }
-    ensures duration { IfOk result (λ p. p.duration ≤ 2 ^ 32 * p.count) }
-    ensures bytes { IfOk result (λ p. p.bytes ≤ 2 ^ 32 * p.count) }
-    ensures more { IfOk result (λ p. (passed.count ≤ p.count) × (passed.duration ≤ p.duration)
-        × (passed.bytes ≤ p.bytes)) }
     ensures cost { IfOk result (λ p. steps.new + passed.count ≤ steps.old + p.count) }
     ensures work { steps.new ≤ steps.old + room.old }
 {

@@ -4,14 +4,14 @@ ghost use Rattle.mp4_boxes.specs.format.Bytes.{AreBytes};
 ghost use Rattle.mp4_tables.specs.words.Keys.{keys_seen};
 ghost use Rattle.mp4_frag.specs.format.FragmentSamples.{flags_of as flags_by};
 ghost use Rattle.mp4_frag.specs.words.ColumnsRead.{row_room};
-ghost use Rattle.mp4_frag.specs.words.PlacesIn.{LiesIn, IsPlaceIn, IsRowPlace, AreIndexPlaces, run_work, runs_work, group_work, groups_work, work_behind, moof_work};
+ghost use Rattle.mp4_frag.specs.words.PlacesIn.{row_behind, ChangesIndexes, ChangesHead, IsBoxIn, bytes_inside, boxes_inside, boxes_from, KeepsWalk, SameToCome, traf_opened, left_coming, LiesIn, IsPlaceIn, IsRowPlace, AreIndexPlaces, run_work, runs_work, group_work, groups_work, work_behind, moof_work};
 ghost use Rattle.mp4_frag.specs.words.Finding.{IsKnown};
 ghost use Rattle.mp4_frag.specs.words.Looks.{AreOthers, is_named, over_run, over_work};
 ghost use Rattle.mp4_frag.specs.words.Times.{time_behind};
-ghost use Rattle.mp4_frag.specs.words.Walks.{Walk, Reached, at_first, rows_here, trafs_coming, row_signed, first_byte, part_of, boxes_between, trex_among, with_head, all_indexes, with_group, with_leaves, before_traf, end_held, rows_coming, run_coming, runs_coming, reached, walk_of, coming, begin as begin_by};
+ghost use Rattle.mp4_frag.specs.words.Walks.{Walk, Reached, at_first, rows_here, trafs_coming, row_signed, first_byte, trex_among, with_head, all_indexes, with_group, end_held, run_coming, runs_coming, reached, walk_of, coming, begin as begin_by};
 
 use crate::check::{SBGP, TFHD, TRAF, TRUN};
-use crate::finding::{Known, find_track};
+use crate::finding::{Known, find_uncounted};
 use crate::groups::read_group;
 use crate::heads::{base_of, nothing_inherited, read_head, what_is_inherited};
 use crate::indexes::{first_index, indexes_here, no_indexes, pass_indexes, with_index};
@@ -24,22 +24,19 @@ use crate::state::TrackState;
 use crate::trex::Trex;
 use mp4_tables::{Keys, SampleAt};
 
-// Takes the rows of an `sbgp`, if its key is one of the track's.
+// Takes the rows of an `sbgp`, if its key is one of the track's: its indexes are to come there, at
+// a step for each row.
 fn open_group(payload: &[u8], lying: Lying, place: &mut FragPlace)
-    requires inside { lying.inside ≤ lying.end }
-    requires within { lying.end ≤ length payload.now }
+    requires lies { IsBoxIn payload.now lying }
     requires places { AreIndexPlaces payload.now place.old.indexes }
     ensures places { AreIndexPlaces payload.now place.new.indexes }
-    ensures same { place.new ≡ record place.old {
-      indexes = place.new.indexes;
-      passed = place.new.passed;
-    } }
+    ensures same { ChangesIndexes place.old place.new }
     ensures on { place.old.passed ≤ place.new.passed }
     ensures work { place.new.passed ≤ place.old.passed
-        + group_work (part_of payload.now lying.inside lying.end) }
+        + group_work (bytes_inside payload.now lying) }
     ensures indexes { all_indexes payload.now place.new.indexes
         ≡ with_group (keys_seen place.old.keys) (all_indexes payload.now place.old.indexes)
-        (part_of payload.now lying.inside lying.end) }
+        (bytes_inside payload.now lying) }
 {
     let Ok(group) = read_group(&payload[lying.inside..lying.end]) else {
         return;
@@ -58,7 +55,7 @@ fn trex_of(tracks: &[TrackState], id: u32, known: &mut Known) -> Option<Trex>
     ensures known { IsKnown tracks.now known.new }
     ensures trex { result ≡ trex_among tracks.now id }
 {
-    let k = find_track(tracks, id, known)?;
+    let k = find_uncounted(tracks, id, known)?;
     tracks[k].trex
 }
 
@@ -71,19 +68,13 @@ fn open_head(
     known: &mut Known,
     place: &mut FragPlace,
 )
-    requires inside { lying.inside ≤ lying.end }
-    requires within { lying.end ≤ length payload.now }
+    requires lies { IsBoxIn payload.now lying }
     requires known { IsKnown tracks.now known.old }
     ensures known { IsKnown tracks.now known.new }
-    ensures same { place.new ≡ record place.old {
-      is_own = place.new.is_own;
-      base = place.new.base;
-      at = place.new.at;
-      inherited = place.new.inherited;
-    } }
+    ensures same { ChangesHead place.old place.new }
     ensures reached { reached payload.now place.new
         ≡ with_head (walk_of moof tracks.now place.old) (reached payload.now place.old)
-        (part_of payload.now lying.inside lying.end) }
+        (bytes_inside payload.now lying) }
 {
     let Ok(head) = read_head(&payload[lying.inside..lying.end]) else {
         return;
@@ -98,7 +89,8 @@ fn open_head(
     place.inherited = what_is_inherited(head, trex);
 }
 
-// Goes before the first run of a `traf`: its `tfhd` and each `sbgp` may stand behind runs.
+// Goes before the first run of a `traf`: its `tfhd` and each `sbgp` may stand behind runs. What
+// goes for the next sample is what they say, at a step for each row of an `sbgp`.
 fn open_traf(
     payload: &[u8],
     moof: u64,
@@ -107,23 +99,18 @@ fn open_traf(
     known: &mut Known,
     place: &mut FragPlace,
 )
-    requires inside { lying.inside ≤ lying.end }
-    requires within { lying.end ≤ length payload.now }
+    requires lies { IsBoxIn payload.now lying }
     requires known { IsKnown tracks.now known.old }
     ensures known { IsKnown tracks.now known.new }
-    ensures next { place.new.next ≡ lying.inside }
-    ensures end { place.new.traf_end ≡ lying.end }
-    ensures same { (place.new.track ≡ place.old.track) × (place.new.keys ≡ place.old.keys)
-        × (place.new.run ≡ place.old.run) }
+    ensures at { (place.new.next ≡ lying.inside) × (place.new.traf_end ≡ lying.end) }
+    ensures walk { KeepsWalk place.old place.new }
+    ensures run { place.new.run ≡ place.old.run }
     ensures time { place.new.dts ≡ place.old.dts }
     ensures indexes { AreIndexPlaces payload.now place.new.indexes }
-    ensures on { place.old.passed ≤ place.new.passed }
     ensures work { place.new.passed
-        ≤ place.old.passed + groups_work (boxes_between payload.now lying.inside lying.end) }
+        ≤ place.old.passed + groups_work (boxes_inside payload.now lying) }
     ensures reached { reached payload.now place.new
-        ≡ with_leaves (walk_of moof tracks.now place.old)
-        (before_traf (reached payload.now place.old))
-        (boxes_between payload.now lying.inside lying.end) }
+        ≡ traf_opened payload.now moof tracks.now place.old lying }
 {
     place.next = lying.inside;
     place.traf_end = lying.end;
@@ -148,12 +135,8 @@ fn open_traf(
 pub(crate) fn row_here(payload: &[u8], run: RowPlace) -> Row
     requires some { 0 < run.left }
     requires place { IsRowPlace payload.now run }
-    ensures { rows_here payload.now run ≡ row_signed result
-        ∷ rows_here payload.now (record run {
-          row = run.row + row_room run.bits;
-          left = run.left - 1;
-          first_flags = None;
-        }) }
+    ensures { rows_here payload.now run
+        ≡ row_signed result ∷ rows_here payload.now (row_behind run) }
 {
     row_at(payload, run.row, run.bits)
 }
@@ -185,14 +168,12 @@ fn begin(base: i128, before: i128, data_offset: Option<i32>) -> i128
 
 // The place behind a run that gives no samples.
 fn pass_run(payload: &[u8], lying: Lying, place: FragPlace) -> FragPlace
-    requires inside { lying.inside ≤ lying.end }
-    requires within { lying.end ≤ length payload.now }
+    requires lies { IsBoxIn payload.now lying }
     ensures same { result ≡ record place { at = result.at; passed = result.passed } }
     ensures on { place.passed ≤ result.passed }
-    ensures work { result.passed ≤ place.passed
-        + run_work (part_of payload.now lying.inside lying.end) }
+    ensures work { result.passed ≤ place.passed + run_work (bytes_inside payload.now lying) }
     ensures reached { reached payload.now result
-        ≡ over_run (reached payload.now place) (part_of payload.now lying.inside lying.end) }
+        ≡ over_run (reached payload.now place) (bytes_inside payload.now lying) }
 {
     let passed = place.passed.saturating_add(1);
     let Ok(run) = read_run(&payload[lying.inside..lying.end]) else {
@@ -215,26 +196,22 @@ fn pass_run(payload: &[u8], lying: Lying, place: FragPlace) -> FragPlace
     }
 }
 
-// Goes to the samples of a run; behind them where they are another track's.
+// Goes to the samples of a run; behind them where they are another track's. Those to come are the
+// same as before it.
 fn open_run(payload: &[u8], lying: Lying, place: &mut FragPlace)
-    requires inside { lying.inside ≤ lying.end }
-    requires within { lying.end ≤ length payload.now }
+    requires lies { IsBoxIn payload.now lying }
     requires order { (place.old.next < lying.inside) × (lying.end ≤ place.old.traf_end) }
     requires none { place.old.run.left ≡ 0 }
     requires place { LiesIn payload.now place.old }
-    requires work { place.old.passed + run_work (part_of payload.now lying.inside lying.end)
+    requires work { place.old.passed + run_work (bytes_inside payload.now lying)
         + work_behind payload.now lying.end place.old.traf_end ≤ moof_work payload.now }
     ensures place { LiesIn payload.now place.new }
-    ensures next { place.new.next ≡ lying.end }
-    ensures same { (place.new.track ≡ place.old.track) × (place.new.keys ≡ place.old.keys)
-        × (place.new.traf_end ≡ place.old.traf_end) }
+    ensures at { (place.new.next ≡ lying.end) × (place.new.traf_end ≡ place.old.traf_end) }
+    ensures walk { KeepsWalk place.old place.new }
     ensures time { place.new.dts ≡ place.old.dts }
-    ensures on { place.old.passed ≤ place.new.passed }
     ensures coming { (more : Reached → List SampleAt)
-        → rows_coming (reached payload.now place.new) place.new.run.first_flags
-        (rows_here payload.now place.new.run) more
-        ≡ run_coming (reached payload.now place.old) (part_of payload.now lying.inside lying.end)
-        more }
+        → left_coming payload.now place.new more
+        ≡ run_coming (reached payload.now place.old) (bytes_inside payload.now lying) more }
 {
     if !place.is_own {
         *place = pass_run(payload, lying, *place);
@@ -256,7 +233,7 @@ fn open_run(payload: &[u8], lying: Lying, place: &mut FragPlace)
 }
 
 // The place behind a `traf` of another track, for the one behind it, whose data may begin where
-// that of this one ends.
+// that of this one ends. The same samples are to come, at a step for each run and row.
 fn pass_traf(
     payload: &[u8],
     moof: u64,
@@ -265,25 +242,19 @@ fn pass_traf(
     known: &mut Known,
     place: FragPlace,
 ) -> FragPlace
-    requires inside { lying.inside ≤ lying.end }
-    requires within { lying.end ≤ length payload.now }
+    requires lies { IsBoxIn payload.now lying }
     requires known { IsKnown tracks.now known.old }
-    requires other { is_named place.track (boxes_between payload.now lying.inside lying.end)
-        ≡ false }
+    requires other { is_named place.track (boxes_inside payload.now lying) ≡ false }
     ensures known { IsKnown tracks.now known.new }
-    ensures same { (result.track ≡ place.track) × (result.keys ≡ place.keys)
-        × (result.run ≡ place.run) }
+    ensures walk { KeepsWalk place result }
+    ensures run { result.run ≡ place.run }
     ensures time { result.dts ≡ place.dts }
-    ensures on { place.passed ≤ result.passed }
     ensures work { result.passed ≤ place.passed
-        + (groups_work (boxes_between payload.now lying.inside lying.end)
-        + runs_work (boxes_between payload.now lying.inside lying.end)) }
+        + (groups_work (boxes_inside payload.now lying)
+        + runs_work (boxes_inside payload.now lying)) }
     ensures coming { (more : Reached → List SampleAt)
-        → runs_coming
-        (with_leaves (walk_of moof tracks.now place) (before_traf (reached payload.now place))
-        (boxes_between payload.now lying.inside lying.end))
-        (boxes_between payload.now lying.inside lying.end) more
-        ≡ more (reached payload.now result) }
+        → runs_coming (traf_opened payload.now moof tracks.now place lying)
+        (boxes_inside payload.now lying) more ≡ more (reached payload.now result) }
 {
     let mut passed = place;
     open_traf(payload, moof, tracks, lying, known, &mut passed);
@@ -301,6 +272,7 @@ fn pass_traf(
 }
 
 // The place behind so many boxes of the `moof` from one on, none of which is a `traf` of the track.
+// The same samples are to come.
 fn pass_others(
     payload: &[u8],
     moof: u64,
@@ -311,19 +283,15 @@ fn pass_others(
     place: FragPlace,
 ) -> FragPlace
     requires known { IsKnown tracks.now known.old }
-    requires others { AreOthers place.track boxes
-        (boxes_between payload.now from (length payload.now)) }
+    requires others { AreOthers place.track boxes (boxes_from payload.now from) }
     ensures known { IsKnown tracks.now known.new }
-    ensures same { (result.track ≡ place.track) × (result.keys ≡ place.keys)
-        × (result.run ≡ place.run) }
+    ensures walk { KeepsWalk place result }
+    ensures run { result.run ≡ place.run }
     ensures time { result.dts ≡ place.dts }
-    ensures on { place.passed ≤ result.passed }
-    ensures work { result.passed
-        ≤ place.passed + over_work boxes (boxes_between payload.now from (length payload.now)) }
+    ensures work { result.passed ≤ place.passed + over_work boxes (boxes_from payload.now from) }
     ensures coming { trafs_coming (walk_of moof tracks.now place) (reached payload.now result)
-        (drop boxes (boxes_between payload.now from (length payload.now)))
-        ≡ trafs_coming (walk_of moof tracks.now place) (reached payload.now place)
-        (boxes_between payload.now from (length payload.now)) }
+        (drop boxes (boxes_from payload.now from)) ≡ trafs_coming (walk_of moof tracks.now place)
+        (reached payload.now place) (boxes_from payload.now from) }
 {
     let mut passed = place;
     let mut at = from;
@@ -342,7 +310,7 @@ fn pass_others(
 }
 
 // The place in the next `traf` that names the track. Others are passed by a look; where data begins
-// where theirs ends, all that stands in them is passed too.
+// where theirs ends, all that stands in them is passed too. The same samples are to come.
 fn next_traf(payload: &[u8], moof: u64, tracks: &[TrackState], place: &mut FragPlace)
     requires none { place.old.run.left ≡ 0 }
     requires end { place.old.next ≡ place.old.traf_end }
@@ -350,11 +318,9 @@ fn next_traf(payload: &[u8], moof: u64, tracks: &[TrackState], place: &mut FragP
     requires place { LiesIn payload.now place.old }
     ensures place { LiesIn payload.now place.new }
     ensures next { place.old.next < place.new.next }
-    ensures same { (place.new.track ≡ place.old.track) × (place.new.keys ≡ place.old.keys) }
+    ensures walk { KeepsWalk place.old place.new }
     ensures time { place.new.dts ≡ place.old.dts }
-    ensures on { place.old.passed ≤ place.new.passed }
-    ensures coming { coming payload.now (walk_of moof tracks.now place.old) place.new
-        ≡ coming payload.now (walk_of moof tracks.now place.old) place.old }
+    ensures coming { SameToCome payload.now moof tracks.now place.old place.new }
 {
     let ahead = look_ahead(payload, place.next, place.track);
     place.passed = place.passed.saturating_add(ahead.looks);
@@ -371,18 +337,16 @@ fn next_traf(payload: &[u8], moof: u64, tracks: &[TrackState], place: &mut FragP
     open_traf(payload, moof, tracks, traf, &mut known, place);
 }
 
-// Goes behind the next box: in the `traf` in hand, or of the `moof`.
+// Goes behind the next box: in the `traf` in hand, or of the `moof`. The same samples are to come.
 fn pass_box(payload: &[u8], moof: u64, tracks: &[TrackState], place: &mut FragPlace)
     requires none { place.old.run.left ≡ 0 }
     requires some { place.old.next < length payload.now }
     requires place { LiesIn payload.now place.old }
     ensures place { LiesIn payload.now place.new }
     ensures next { place.old.next < place.new.next }
-    ensures same { (place.new.track ≡ place.old.track) × (place.new.keys ≡ place.old.keys) }
+    ensures walk { KeepsWalk place.old place.new }
     ensures time { place.new.dts ≡ place.old.dts }
-    ensures on { place.old.passed ≤ place.new.passed }
-    ensures coming { coming payload.now (walk_of moof tracks.now place.old) place.new
-        ≡ coming payload.now (walk_of moof tracks.now place.old) place.old }
+    ensures coming { SameToCome payload.now moof tracks.now place.old place.new }
 {
     if place.next >= place.traf_end {
         next_traf(payload, moof, tracks, place);
@@ -399,18 +363,16 @@ fn pass_box(payload: &[u8], moof: u64, tracks: &[TrackState], place: &mut FragPl
     }
 }
 
-// Passes boxes until a sample of the track is left.
+// Passes boxes until a sample of the track is left. The same samples are to come.
 #[cold]
 #[inline(never)]
 pub(crate) fn settle(payload: &[u8], moof: u64, tracks: &[TrackState], place: &mut FragPlace)
     requires { LiesIn payload.now place.old }
     ensures bytes { AreBytes payload.now }
     ensures place { IsPlaceIn payload.now place.new }
-    ensures same { (place.new.track ≡ place.old.track) × (place.new.keys ≡ place.old.keys) }
+    ensures walk { KeepsWalk place.old place.new }
     ensures time { place.new.dts ≡ place.old.dts }
-    ensures on { place.old.passed ≤ place.new.passed }
-    ensures coming { coming payload.now (walk_of moof tracks.now place.old) place.new
-        ≡ coming payload.now (walk_of moof tracks.now place.old) place.old }
+    ensures coming { SameToCome payload.now moof tracks.now place.old place.new }
 {
     while place.run.left == 0 && place.next < payload.len() {
         pass_box(payload, moof, tracks, place);
@@ -462,11 +424,7 @@ pub(crate) fn sample_here(payload: &[u8], place: &FragPlace) -> SampleAt
 pub(crate) fn next_row(run: RowPlace) -> RowPlace
     requires some { 0 < run.left }
     requires fits { run.row + row_room run.bits ≤ usize.MAX }
-    ensures { result ≡ record run {
-      row = run.row + row_room run.bits;
-      left = run.left - 1;
-      first_flags = None;
-    } }
+    ensures { result ≡ row_behind run }
 {
     RowPlace {
         row: run.row + row_size(run.bits),
@@ -476,14 +434,13 @@ pub(crate) fn next_row(run: RowPlace) -> RowPlace
     }
 }
 
-// Passes a sample, which may be the last of its run.
+// Passes a sample, which may be the last of its run: those behind it are to come, at their times.
 #[inline(always)]
 fn pass_row(payload: &[u8], place: &mut FragPlace)
     requires some { 0 < place.old.run.left }
     requires place { LiesIn payload.now place.old }
     ensures place { LiesIn payload.now place.new }
-    ensures same { (place.new.track ≡ place.old.track) × (place.new.keys ≡ place.old.keys) }
-    ensures on { place.old.passed ≤ place.new.passed }
+    ensures walk { KeepsWalk place.old place.new }
     ensures time { (w : Walk)
         → time_behind payload.now w place.new ≡ time_behind payload.now w place.old }
     ensures coming { (w : Walk)
@@ -499,14 +456,13 @@ fn pass_row(payload: &[u8], place: &mut FragPlace)
     pass_indexes(payload, &mut place.indexes);
 }
 
-// Goes one sample on.
-#[inline(never)]
+// Goes one sample on: those behind it are to come, at their times.
+#[inline(always)]
 pub(crate) fn pass_sample(payload: &[u8], moof: u64, tracks: &[TrackState], place: &mut FragPlace)
     requires some { 0 < place.old.run.left }
     requires place { LiesIn payload.now place.old }
     ensures place { IsPlaceIn payload.now place.new }
-    ensures same { (place.new.track ≡ place.old.track) × (place.new.keys ≡ place.old.keys) }
-    ensures on { place.old.passed ≤ place.new.passed }
+    ensures walk { KeepsWalk place.old place.new }
     ensures time { time_behind payload.now (walk_of moof tracks.now place.old) place.new
         ≡ time_behind payload.now (walk_of moof tracks.now place.old) place.old }
     ensures coming { coming payload.now (walk_of moof tracks.now place.old) place.new
@@ -525,7 +481,7 @@ pub(crate) fn first_place(moof: u64, track: u32, dts: u64, keys: Keys) -> FragPl
     ensures time { result.dts ≡ dts }
     ensures coming { (payload : List ℕ) (w : Walk)
         → coming payload w result
-        ≡ trafs_coming w (at_first moof dts) (boxes_between payload 0 (length payload)) }
+        ≡ trafs_coming w (at_first moof dts) (boxes_from payload 0) }
 {
     FragPlace {
         track,

@@ -23,8 +23,7 @@ use Rattle.mp4_present.specs.declared.leaving.Leaving.{Leaving}
 use Rattle.mp4_head.specs.words.Parts.{capped}
 use Rattle.mp4_plan.specs.format.Normal.{normal, pieces_bytes}
 use Rattle.mp4_plan.specs.format.Pieces.{pieces}
-use Rattle.mp4_plan.specs.words.Writers.{IsHeadOf, IsPlanOf, head_of_normal}
-use Rattle.mp4_plan.specs.declared.writer.Plan.{Plan}
+use Rattle.mp4_plan.specs.words.Writers.{ArePiecesLong, IsHeadOf, head_of_normal}
 use Rattle.mp4_plan.proofs.HeadAgain.{both_long}
 use Rattle.mp4_plan.proofs.ReducedValid.{shorter_moov, same_track_length}
 
@@ -111,9 +110,9 @@ reduced_all l (x ∷ old) (y ∷ now) (suc k) h le = λ i. h.0 i ∷ reduced_all
 
 -- ---- how long the normal form is
 
-pub less_long : (p : Presentation) (head : MovieHead) (mehd : ℕ) (plan : Plan) (n short total : ℕ) → IsHeadOf p head mehd → IsPlanOf p plan → n ≡ capped (length (head_bytes (movie_seen head) (tracks_seen head) mehd))
-    → short ≡ min n (2 ^ 30 + 24) → total ≡ min (plan.len + short) (2 ^ 64 - 1) → total ≡ length (normal p)
-less_long p head mehd plan n short total h is count cut sum =
+pub less_long : (p : Presentation) (head : MovieHead) (mehd len n short total : ℕ) → IsHeadOf p head mehd → ArePiecesLong p len → n ≡ capped (length (head_bytes (movie_seen head) (tracks_seen head) mehd))
+    → short ≡ min n (2 ^ 30 + 24) → total ≡ min (len + short) (2 ^ 64 - 1) → total ≡ length (normal p)
+less_long p head mehd len n short total h is count cut sum =
     let same = ap (λ (bs : List ℕ). length bs) h.bytes in
     let few = h.short in
-    both_long (head_of_normal p) (pieces_bytes 1 (pieces p)) n short plan.len total (omega (arith, same, few, count)) (omega (arith, same, few, count)) cut is.len is.within sum
+    both_long (head_of_normal p) (pieces_bytes 1 (pieces p)) n short len total (omega (arith, same, few, count)) (omega (arith, same, few, count)) cut is.len is.within sum

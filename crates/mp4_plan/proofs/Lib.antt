@@ -24,6 +24,7 @@ pub mod WrittenRun
 mod WalksOn
 mod PieceCarried
 mod PieceFed
+mod HandsCounted
 pub mod WrittenFragment
 pub mod PieceTree
 pub mod PieceSays
@@ -33,6 +34,7 @@ pub mod GoodPieces
 pub mod NormalGroups
 pub mod NormalDenotes
 pub mod TurnOrder
+mod LooksOn
 pub mod Reducing
 pub mod ReducedValid
 pub mod ReducedNormal
@@ -87,3 +89,5 @@ mod WalksGone
 mod AllMay
 mod MoofsAhead
 mod WritingSteps
+mod PiecesPut
+mod BytesLeft

@@ -90,7 +90,7 @@ LoadsFor file m w next more = (tree : FileTree) (t : TrackTree) (earlier later :
 -- then nothing comes, where nothing was
 abbrev pub EndsFor : List ℕ → MovieSeen → Walk → Walk → Bool → Type 0
 EndsFor file m w next more =
-    (tree : FileTree) (t : TrackTree) (earlier later : List FragmentTree) (hand : InHand) → IsOpenedAs file m tree → StandsBefore file tree t earlier later w → InHandOf m w hand → left_in_hand hand ≡ [] → more ≡ false → Comes file tree t m next []
+    (tree : FileTree) (t : TrackTree) (earlier later : List FragmentTree) → IsOpenedAs file m tree → StandsBefore file tree t earlier later w → (hand : InHand) → InHandOf m w hand → left_in_hand hand ≡ [] → more ≡ false → Comes file tree t m next []
 
 -- more was loaded
 pub next_carried : (file : List ℕ) (m : MovieSeen) (begun w next : Walk) (a b : Option (List ℕ)) (held held_b : List ℕ) (load left : Load) (hand : InHand) (more : Bool) → CarriesOn file m begun w a b held held_b load left → InHandOf m w hand

@@ -112,12 +112,12 @@ fed_coming leaving file m tree t w now place rest k later is_later is = record {
 }
 
 -- what is left of those in hand, and of those behind them
-hand_less : (leaving : Leaving) (file : List ℕ) (m : MovieSeen) (tree : FileTree) (t : TrackTree) (w : Walk) (rest : List SampleAt) (k : ComesLess leaving file tree t m w rest) (hand : InHand) → InHandOf m w hand
+pub hand_less : (leaving : Leaving) (file : List ℕ) (m : MovieSeen) (tree : FileTree) (t : TrackTree) (w : Walk) (rest : List SampleAt) (k : ComesLess leaving file tree t m w rest) (hand : InHand) → InHandOf m w hand
     → rest ≡ less leaving (left_in_hand hand) ++ less leaving (samples_behind tree t k.comes.0 k.comes.1)
 hand_less leaving file m tree t w rest k hand is_hand =
     k.is_left ∙ ap (less leaving) (hand_first file m tree t w k.samples k.comes hand is_hand) ∙ less_append leaving (left_in_hand hand) (samples_behind tree t k.comes.0 k.comes.1)
 
-nothing_left : (leaving : Leaving) (samples : List SampleAt) → less leaving samples ≡ [] → samples ≡ []
+pub nothing_left : (leaving : Leaving) (samples : List SampleAt) → less leaving samples ≡ [] → samples ≡ []
 nothing_left leaving [] e = refl
 nothing_left leaving (s ∷ samples) e = absurd cc
 
@@ -201,7 +201,7 @@ none_fed leaving file m begun w next start p hand more on is_hand none loads e e
     let z : rest ≡ [] = k.is_left ∙ ap (less leaving) (loads_none file m tree t w next k.samples k.comes hand is_hand empty more e (loads tree t k.comes.0 k.comes.1 o k.comes.3.0)) in
     let after : samples_after start samples ≡ [] = u.same.1 ∙ ap (samples_after p) z ∙ after_none p [] (more_of-nil p) in (
       sym (u.same.0 ∙ ap (piece_fed p) z ∙ fed_none p [] (more_of-nil p)),
-      subst (λ (l : List SampleAt). ComesLess leaving file tree t m next l) (sym after) (record { samples = []; comes = ends tree t k.comes.0 k.comes.1 k.comes.2 o k.comes.3.0 k.comes.3.1 (hand_none file m tree t w next k.samples k.comes hand is_hand empty) e; is_left = refl }),
+      subst (λ (l : List SampleAt). ComesLess leaving file tree t m next l) (sym after) (record { samples = []; comes = ends tree t k.comes.0 k.comes.1 o k.comes.3.0 k.comes.2 k.comes.3.1 (hand_none file m tree t w next k.samples k.comes hand is_hand empty) e; is_left = refl }),
     )
 
 -- ---- rows

@@ -25,17 +25,15 @@ use Rattle.mp4_plan.specs.words.Sizes.{moof_sizes}
 use Rattle.mp4_plan.specs.words.Taken.{AreTaken}
 use Rattle.mp4_plan.specs.words.TurnLaws.{piece_if}
 use Rattle.mp4_plan.specs.words.Turns.{first_scale, turn_end, turned, Sticks}
-use Rattle.mp4_plan.specs.words.Writers.{AllCome, AllBegin, firsts, IsPlanOf, longest_piece, planned_length}
+use Rattle.mp4_plan.specs.words.Writers.{AllCome, AllBegin, ArePiecesLong, firsts, longest_piece, planned_length}
 use Rattle.mp4_plan.specs.words.Writers as writers
 use Rattle.mp4_plan.specs.declared.ends.End.{End}
 use Rattle.mp4_plan.specs.declared.planner.Planned.{Planned}
 use Rattle.mp4_plan.specs.declared.schedule.Schedule.{Schedule}
-use Rattle.mp4_plan.specs.declared.writer.Plan.{Plan}
 use Rattle.mp4_plan.proofs.ComeAt.{come_with}
 use Rattle.mp4_plan.proofs.FirstTurn.{begins_at, first_turn}
 use Rattle.mp4_plan.proofs.Lefts.{left_count, pieces_from, IsTurn}
 use Rattle.mp4_plan.proofs.NextSamples.{first_at, firsts_set}
-use Rattle.mp4_plan.proofs.PieceCounts.{piece_counts}
 use Rattle.mp4_plan.proofs.PieceWritten.{AreKeys, IsFew, bytes_of_two}
 use Rattle.mp4_plan.proofs.Planning.{comes_there}
 use Rattle.mp4_plan.proofs.SizesSmall.{moof_small}
@@ -104,18 +102,17 @@ kept_there infos k place info d e is at = at ∙ by infos k (subst (λ j. slice_
     by (x ∷ infos) zero f = let same : x ≡ info = cc in same
     by (x ∷ infos) (suc k) f = by infos k f
 
--- The plan with what a turn takes.
-pub record Adds (keys : List GroupKey) (p : Planned) (plan next : Plan) : Type 0 where
-  pub longest : next.longest ≡ max plan.longest p.count
-  pub none : p.count ≡ 0 → next.len ≡ plan.len
-  pub some : 0 < p.count → next.len ≡ min (plan.len + planned_length p keys) (2 ^ 64 - 1)
+-- The length so far with that of the piece of a turn, as far as 64 bits go.
+pub record Adds (keys : List GroupKey) (p : Planned) (len next : ℕ) : Type 0 where
+  pub none : p.count ≡ 0 → next ≡ len
+  pub some : 0 < p.count → next ≡ min (len + planned_length p keys) (2 ^ 64 - 1)
 
 -- a sum that stays below 2^57 is that of all bytes
-added : (keys : List GroupKey) (p : Planned) (plan next : Plan) (long left : ℕ) → Adds keys p plan next → length keys ≤ 4 → IsSmall p → (p.count ≡ 0 → long ≡ 0) → (0 < p.count → long ≡ planned_length p keys) → p.count ≤ left
-    → plan.len + left * 2 ^ 33 ≤ 2 ^ 57 → (next.len ≡ plan.len + long) × (long ≤ p.count * 2 ^ 33)
-added keys p plan next long left adds four small none some le fits = by p.count refl
+added : (keys : List GroupKey) (p : Planned) (len next : ℕ) (long left : ℕ) → Adds keys p len next → length keys ≤ 4 → IsSmall p → (p.count ≡ 0 → long ≡ 0) → (0 < p.count → long ≡ planned_length p keys) → p.count ≤ left
+    → len + left * 2 ^ 33 ≤ 2 ^ 57 → (next ≡ len + long) × (long ≤ p.count * 2 ^ 33)
+added keys p len next long left adds four small none some le fits = by p.count refl
   where
-    by : (n : ℕ) → p.count ≡ n → (next.len ≡ plan.len + long) × (long ≤ p.count * 2 ^ 33)
+    by : (n : ℕ) → p.count ≡ n → (next ≡ len + long) × (long ≤ p.count * 2 ^ 33)
     by zero e =
         let a = adds.none e in
         let b = none e in
@@ -130,81 +127,114 @@ added keys p plan next long left adds four small none some le fits = by p.count 
 
 -- ---- all turns
 
--- What was planned of the pieces before a turn, and the walks that go on from it.
-pub record IsPlanning (leaving : Leaving) (file : List ℕ) (tree : FileTree) (m : MovieSeen) (s : Schedule) (walks : List Walk) (nexts : List (Option SampleAt)) (plan : Plan) : Type 0 where
-  pub lefts : List (List SampleAt)
-  pub comings : List Coming
+-- The walks stand before a turn: these samples are left of each track, and these are the next ones.
+pub record StandsAt (leaving : Leaving) (file : List ℕ) (tree : FileTree) (m : MovieSeen) (s : Schedule) (walks : List Walk) (nexts : List (Option SampleAt)) (lefts : List (List SampleAt)) (comings : List Coming) : Type 0 where
   pub come : AllCome leaving file tree m tree.movie.tracks walks lefts
   pub shown : nexts ≡ firsts lefts
   pub turn : IsTurn file m.tracks s lefts comings
   pub few : left_count lefts ≤ 2 ^ 24
-  pub fits : plan.len + left_count lefts * 2 ^ 33 ≤ 2 ^ 57
-  pub longest : max plan.longest (longest_piece (pieces_from s comings)) ≡ longest_piece (pieces (reduce leaving (presentation_of file tree)))
+
+-- The most samples of a piece before it.
+pub record IsLongest (leaving : Leaving) (file : List ℕ) (tree : FileTree) (m : MovieSeen) (s : Schedule) (walks : List Walk) (nexts : List (Option SampleAt)) (most : ℕ) : Type 0 where
+  pub lefts : List (List SampleAt)
+  pub comings : List Coming
+  pub at : StandsAt leaving file tree m s walks nexts lefts comings
+  pub longest : max most (longest_piece (pieces_from s comings)) ≡ longest_piece (pieces (reduce leaving (presentation_of file tree)))
+
+-- The bytes of the pieces before it.
+pub record IsLength (leaving : Leaving) (file : List ℕ) (tree : FileTree) (m : MovieSeen) (s : Schedule) (walks : List Walk) (nexts : List (Option SampleAt)) (so_far : ℕ) : Type 0 where
+  pub lefts : List (List SampleAt)
+  pub comings : List Coming
+  pub at : StandsAt leaving file tree m s walks nexts lefts comings
+  pub fits : so_far + left_count lefts * 2 ^ 33 ≤ 2 ^ 57
   pub number : ℕ
-  pub len : plan.len + length (pieces_bytes number (pieces_from s comings)) ≡ length (pieces_bytes 1 (pieces (reduce leaving (presentation_of file tree))))
+  pub len : so_far + length (pieces_bytes number (pieces_from s comings)) ≡ length (pieces_bytes 1 (pieces (reduce leaving (presentation_of file tree))))
 
 begins_same : (lefts : List (List SampleAt)) → writers.first_dts lefts ≡ begins_at lefts
 begins_same [] = refl
 begins_same ([] ∷ lefts) = refl
 begins_same ((s ∷ samples) ∷ lefts) = refl
 
-no_plan : Plan
-no_plan = record { longest = 0; len = 0 }
+module _ (leaving : Leaving) (file : List ℕ) (tree : FileTree) (m : MovieSeen) (s : Schedule) (walks : List Walk) (nexts : List (Option SampleAt)) (from : ℕ) (o : IsOpenedAs file m tree) (come : AllBegin leaving file tree m walks)
+    (shown : nexts ≡ firsts (map (left_samples leaving tree) tree.movie.tracks)) (time : from ≡ writers.first_dts (map (left_samples leaving tree) tree.movie.tracks))
+    (tracks : s.tracks ≡ length m.tracks) (first : s.first ≡ first_scale m.tracks) (left : s.left ≡ sum_by (λ (i : TrackInfo). i.samples) m.tracks) (starts : (s.track ≡ 0) × (s.from ≡ from) × (s.next ≡ None)) where
+  abbrev all_lefts : List (List SampleAt)
+  all_lefts = map (left_samples leaving tree) tree.movie.tracks
 
--- Before the first turn nothing is planned.
-pub planning_first : (leaving : Leaving) (file : List ℕ) (tree : FileTree) (m : MovieSeen) (s : Schedule) (walks : List Walk) (nexts : List (Option SampleAt)) (from : ℕ) → IsOpenedAs file m tree → AllBegin leaving file tree m walks → nexts ≡ firsts (map (left_samples leaving tree) tree.movie.tracks)
-    → from ≡ writers.first_dts (map (left_samples leaving tree) tree.movie.tracks)
-    → s.tracks ≡ length m.tracks → s.first ≡ first_scale m.tracks → s.left ≡ min (sum_by (λ (i : TrackInfo). i.samples) m.tracks) (2 ^ 64 - 1) → (s.track ≡ 0) × (s.from ≡ from) × (s.next ≡ None) → IsPlanning leaving file tree m s walks nexts (record { longest = 0; len = 0 })
-planning_first leaving file tree m s walks nexts from o come shown time tracks first left starts =
-    let lefts = map (left_samples leaving tree) tree.movie.tracks in
-    let count = all_counted file m tree s.left o left ∙ sym (less_counted leaving tree tree.movie.tracks) in
-    let is = first_turn leaving file m tree s o (record { tracks = tracks; first = first; track = starts.0; from = starts.1 ∙ time ∙ begins_same lefts; next = starts.2; left = count }) in
-    let few = subst (λ n. n ≤ 2 ^ 24) (sym (less_counted leaving tree tree.movie.tracks)) (taken_from.few_left file m tree o) in
-    record {
-      lefts = lefts;
-      comings = map coming_of (reduce leaving (presentation_of file tree)).tracks;
-      come = come;
-      shown = shown;
-      turn = is.0;
-      few = few;
-      fits = omega (arith, few);
-      longest = (let n : max 0 (longest_piece (pieces_from s (map coming_of (reduce leaving (presentation_of file tree)).tracks))) ≡ longest_piece (pieces_from s (map coming_of (reduce leaving (presentation_of file tree)).tracks)) = omega arith in n) ∙ ap longest_piece is.1;
-      number = 1;
-      len = (let n : 0 + length (pieces_bytes 1 (pieces_from s (map coming_of (reduce leaving (presentation_of file tree)).tracks))) ≡ length (pieces_bytes 1 (pieces_from s (map coming_of (reduce leaving (presentation_of file tree)).tracks))) = omega arith in n)
-          ∙ ap (λ ps. length (pieces_bytes 1 ps)) is.1;
-    }
+  abbrev all_comings : List Coming
+  all_comings = map coming_of (reduce leaving (presentation_of file tree)).tracks
 
-module _ (leaving : Leaving) (file : List ℕ) (tree : FileTree) (m : MovieSeen) (s : Schedule) (walks : List Walk) (nexts : List (Option SampleAt)) (plan : Plan) (o : IsOpenedAs file m tree) (h : IsPlanning leaving file tree m s walks nexts plan) where
-  -- Behind the last turn all is planned.
-  pub planning_end : s.tracks ≤ s.track → IsPlanOf (reduce leaving (presentation_of file tree)) plan
-  planning_end le =
-      let none = turns_end file m.tracks s h.lefts h.comings h.turn le in
-      let longest = subst (λ ps. max plan.longest (longest_piece ps) ≡ longest_piece (pieces (reduce leaving (presentation_of file tree)))) none h.longest in
-      let len = subst (λ ps. plan.len + length (pieces_bytes h.number ps) ≡ length (pieces_bytes 1 (pieces (reduce leaving (presentation_of file tree))))) none h.len in
+  few_first : left_count all_lefts ≤ 2 ^ 24
+  few_first = subst (λ n. n ≤ 2 ^ 24) (sym (less_counted leaving tree tree.movie.tracks)) (taken_from.few_left file m tree o)
+
+  begins : IsTurn file m.tracks s all_lefts all_comings × (pieces_from s all_comings ≡ pieces (reduce leaving (presentation_of file tree)))
+  begins =
+      let count = all_counted file m tree s.left o left ∙ sym (less_counted leaving tree tree.movie.tracks) in
+      first_turn leaving file m tree s o (record { tracks = tracks; first = first; track = starts.0; from = starts.1 ∙ time ∙ begins_same all_lefts; next = starts.2; left = count })
+
+  -- Before the first turn all pieces are left.
+  pub stands_first : StandsAt leaving file tree m s walks nexts all_lefts all_comings
+  stands_first = record { come = come; shown = shown; turn = begins.0; few = few_first }
+
+  pub longest_first : IsLongest leaving file tree m s walks nexts 0
+  longest_first = record {
+    lefts = all_lefts;
+    comings = all_comings;
+    at = stands_first;
+    longest = (let n : max 0 (longest_piece (pieces_from s all_comings)) ≡ longest_piece (pieces_from s all_comings) = omega arith in n) ∙ ap longest_piece begins.1;
+  }
+
+  pub length_first : IsLength leaving file tree m s walks nexts 0
+  length_first =
+      let few = few_first in
+      record {
+        lefts = all_lefts;
+        comings = all_comings;
+        at = stands_first;
+        fits = omega (arith, few);
+        number = 1;
+        len = (let n : 0 + length (pieces_bytes 1 (pieces_from s all_comings)) ≡ length (pieces_bytes 1 (pieces_from s all_comings)) = omega arith in n) ∙ ap (λ ps. length (pieces_bytes 1 ps)) begins.1;
+      }
+
+module _ (leaving : Leaving) (file : List ℕ) (tree : FileTree) (m : MovieSeen) (s : Schedule) (walks : List Walk) (nexts : List (Option SampleAt)) where
+  -- Behind the last turn all were passed.
+  pub longest_end : (most : ℕ) → IsLongest leaving file tree m s walks nexts most → s.tracks ≤ s.track → most ≡ longest_piece (pieces (reduce leaving (presentation_of file tree)))
+  longest_end most h le =
+      let none = turns_end file m.tracks s h.lefts h.comings h.at.turn le in
+      let longest = subst (λ ps. max most (longest_piece ps) ≡ longest_piece (pieces (reduce leaving (presentation_of file tree)))) none h.longest in
+      (let n : most ≡ max most 0 = omega arith in n) ∙ longest
+
+  pub length_end : (total : ℕ) → IsLength leaving file tree m s walks nexts total → s.tracks ≤ s.track → ArePiecesLong (reduce leaving (presentation_of file tree)) total
+  length_end total h le =
+      let none = turns_end file m.tracks s h.lefts h.comings h.at.turn le in
+      let len = subst (λ ps. total + length (pieces_bytes h.number ps) ≡ length (pieces_bytes 1 (pieces (reduce leaving (presentation_of file tree))))) none h.len in
       let fits = h.fits in
-      record { longest = (let n : plan.longest ≡ max plan.longest 0 = omega arith in n) ∙ longest; len = (let n : plan.len ≡ plan.len + 0 = omega arith in n) ∙ len; within = omega (arith, fits) }
+      record { len = (let n : total ≡ total + 0 = omega arith in n) ∙ len; within = omega (arith, fits) }
 
-  -- The turn of a track: what is kept of it, and what comes of it.
-  pub record HasTurn (k : ℕ) (walk : Walk) (end : End) : Type 0 where
-    pub info : TrackInfo
-    pub left : List SampleAt
-    pub t : TrackTree
-    pub is_info : slice_get m.tracks s.track ≡ Some info
-    pub is_tree : slice_get tree.movie.tracks s.track ≡ Some t
-    pub is_left : slice_get h.lefts s.track ≡ Some left
-    pub place : k ≡ s.track
-    pub end_is : end ≡ turn_end s info.timescale
-    pub comes : ComesLess leaving file tree t m walk left
-    pub few : length left ≤ 2 ^ 24
-    pub shown : slice_get nexts s.track ≡ Some (slice_get left 0)
+-- The turn of a track: what is kept of it, and what comes of it.
+pub record HasTurn (leaving : Leaving) (file : List ℕ) (tree : FileTree) (m : MovieSeen) (s : Schedule) (nexts : List (Option SampleAt)) (lefts : List (List SampleAt)) (k : ℕ) (walk : Walk) (end : End) : Type 0 where
+  pub info : TrackInfo
+  pub left : List SampleAt
+  pub t : TrackTree
+  pub is_info : slice_get m.tracks s.track ≡ Some info
+  pub is_tree : slice_get tree.movie.tracks s.track ≡ Some t
+  pub is_left : slice_get lefts s.track ≡ Some left
+  pub place : k ≡ s.track
+  pub end_is : end ≡ turn_end s info.timescale
+  pub comes : ComesLess leaving file tree t m walk left
+  pub few : length left ≤ 2 ^ 24
+  pub shown : slice_get nexts s.track ≡ Some (slice_get left 0)
 
-  pub has_turn : (k : ℕ) (walk : Walk) (end : End) → (k ≡ s.track) × (s.track < s.tracks) → walk ≡ slice_index_or walks k walk → length walks ≡ length m.tracks → ((info : TrackInfo) → slice_get m.tracks s.track ≡ Some info → end ≡ turn_end s info.timescale) → HasTurn k walk end
+module _ (leaving : Leaving) (file : List ℕ) (tree : FileTree) (m : MovieSeen) (s : Schedule) (walks : List Walk) (nexts : List (Option SampleAt)) (lefts : List (List SampleAt)) (comings : List Coming) (o : IsOpenedAs file m tree)
+    (h : StandsAt leaving file tree m s walks nexts lefts comings) where
+  pub has_turn : (k : ℕ) (walk : Walk) (end : End) → (k ≡ s.track) × (s.track < s.tracks) → walk ≡ slice_index_or walks k walk → length walks ≡ length m.tracks → ((info : TrackInfo) → slice_get m.tracks s.track ≡ Some info → end ≡ turn_end s info.timescale)
+      → HasTurn leaving file tree m s nexts lefts k walk end
   has_turn k walk end at is_walk many is_end =
       let lt = at.1 in
-      let tracks = turn_tracks file m.tracks s h.lefts h.comings h.turn in
+      let tracks = turn_tracks file m.tracks s lefts comings h.turn in
       let info = there_is m.tracks s.track (omega (arith, lt, tracks)) in
-      let r = comes_there leaving file tree m walks h.lefts s.track walk h.come (omega (arith, lt, tracks, many)) in
-      let fits = few_left h.lefts s.track (length r.left) r.left r.is_left (omega arith) in
+      let r = comes_there leaving file tree m walks lefts s.track walk h.come (omega (arith, lt, tracks, many)) in
+      let fits = few_left lefts s.track (length r.left) r.left r.is_left (omega arith) in
       let all = h.few in
       record {
         info = info.0;
@@ -217,88 +247,99 @@ module _ (leaving : Leaving) (file : List ℕ) (tree : FileTree) (m : MovieSeen)
         end_is = is_end info.0 info.1;
         comes = subst (λ w. ComesLess leaving file tree r.t m w r.left) (sym is_walk) (subst (λ j. ComesLess leaving file tree r.t m (slice_index_or walks j walk) r.left) (sym at.0) r.comes);
         few = omega (arith, fits, all);
-        shown = ap (λ xs. slice_get xs s.track) h.shown ∙ first_at h.lefts s.track r.left r.is_left;
+        shown = ap (λ xs. slice_get xs s.track) h.shown ∙ first_at lefts s.track r.left r.is_left;
       }
 
-  module _ (k : ℕ) (walk : Walk) (end : End) (t : HasTurn k walk end) (lt : s.track < s.tracks) where
-    taken : TurnTakes file m.tracks s h.lefts h.comings t.info t.left end
-    taken = subst (λ e. TurnTakes file m.tracks s h.lefts h.comings t.info t.left e) (sym t.end_is) (turn_taken file m.tracks s h.lefts h.comings t.info t.left h.turn lt t.is_info t.is_left)
+  module _ (k : ℕ) (walk : Walk) (end : End) (t : HasTurn leaving file tree m s nexts lefts k walk end) (lt : s.track < s.tracks) where
+    pub taken : TurnTakes file m.tracks s lefts comings t.info t.left end
+    taken = subst (λ e. TurnTakes file m.tracks s lefts comings t.info t.left e) (sym t.end_is) (turn_taken file m.tracks s lefts comings t.info t.left h.turn lt t.is_info t.is_left)
 
-    -- it leads on
-    pub planning_moves : (p : Planned) (next : Option SampleAt) → p ≡ planned_of (piece_fed (piece_from end) t.left).gathered → next ≡ slice_get (samples_after (piece_from end) t.left) 0 → ¬ Sticks s end p.count next
-    planning_moves p next is after =
-        let count = ap (λ (q : Planned). q.count) is ∙ piece_counts end t.left in
-        let at_end = subst (λ e. ¬ Sticks s e (more_of (piece_from e) t.left) (slice_get (samples_after (piece_from e) t.left) 0)) (sym t.end_is) (turn_moves file m.tracks s h.lefts h.comings t.info t.left (turn_taken file m.tracks s h.lefts h.comings t.info t.left h.turn lt t.is_info t.is_left)) in
-        subst (λ n. ¬ Sticks s end n next) (sym count) (subst (λ x. ¬ Sticks s end (more_of (piece_from end) t.left) x) (sym after) at_end)
+    abbrev pub piece_size : ℕ
+    piece_size = more_of (piece_from end) t.left
 
-    -- Behind it one more piece is planned, if it took samples.
-    pub planning_next : (p : Planned) (now : Walk) (next : Option SampleAt) (later : Plan) (on : Schedule) → p ≡ planned_of (piece_fed (piece_from end) t.left).gathered → ComesLess leaving file tree t.t m now (samples_after (piece_from end) t.left)
-        → next ≡ slice_get (samples_after (piece_from end) t.left) 0 → IsSmall p → Adds (keys_seen t.info.keys) p plan later → on ≡ turned s end p.count next → IsPlanning leaving file tree m on (slice_set walks k now) (slice_set nexts k next) later
-    planning_next p now next later on is comes after small adds goes =
-        subst (λ j. IsPlanning leaving file tree m on (slice_set walks j now) (slice_set nexts j next) later) (sym t.place) (subst (λ (r : Schedule). IsPlanning leaving file tree m r (slice_set walks s.track now) (slice_set nexts s.track next) later) (sym turned_is) planned)
-      where
-        n : ℕ
-        n = more_of (piece_from end) t.left
+    abbrev pub left_behind_it : List SampleAt
+    left_behind_it = samples_after (piece_from end) t.left
 
-        behind : List SampleAt
-        behind = samples_after (piece_from end) t.left
+    -- the turn leads on
+    pub turn_leads : (n : ℕ) (next : Option SampleAt) → n ≡ piece_size → next ≡ slice_get left_behind_it 0 → ¬ Sticks s end n next
+    turn_leads n next is after =
+        let at_end = subst (λ e. ¬ Sticks s e (more_of (piece_from e) t.left) (slice_get (samples_after (piece_from e) t.left) 0)) (sym t.end_is) (turn_moves file m.tracks s lefts comings t.info t.left (turn_taken file m.tracks s lefts comings t.info t.left h.turn lt t.is_info t.is_left)) in
+        subst (λ i. ¬ Sticks s end i next) (sym is) (subst (λ x. ¬ Sticks s end piece_size x) (sym after) at_end)
 
-        count : p.count ≡ n
-        count = ap (λ (q : Planned). q.count) is ∙ piece_counts end t.left
+    within_left : piece_size ≤ length t.left
+    within_left = more_few (piece_from end) t.left
 
-        turned_is : on ≡ turned s end n (slice_get behind 0)
-        turned_is = goes ∙ (λ i. turned s end (count i) (after i))
+    fewer_left : piece_size ≤ left_count lefts
+    fewer_left = few_left lefts s.track piece_size t.left t.is_left within_left
 
-        u : TurnTakes file m.tracks s h.lefts h.comings t.info t.left end
-        u = taken
+    count_left : left_count lefts - piece_size ≡ left_count (slice_set lefts s.track left_behind_it)
+    count_left = count_behind lefts s.track piece_size t.left t.is_left within_left
 
-        xs : List Piece
-        xs = piece_if t.info.id u.samples
+    many_taken : length taken.samples ≡ piece_size
+    many_taken = sym (taken_count file (keys_seen t.info.keys) (take piece_size t.left) taken.samples taken.taken) ∙ length-take-le piece_size t.left within_left
 
-        ys : List Piece
-        ys = pieces_from (turned s end n (slice_get behind 0)) u.later
+    module _ (now : Walk) (n : ℕ) (next : Option SampleAt) (on : Schedule) (is : n ≡ piece_size) (comes : ComesLess leaving file tree t.t m now left_behind_it) (after : next ≡ slice_get left_behind_it 0) (goes : on ≡ turned s end n next) where
+      turned_is : on ≡ turned s end piece_size (slice_get left_behind_it 0)
+      turned_is = goes ∙ (λ i. turned s end (is i) (after i))
 
-        le : n ≤ length t.left
-        le = more_few (piece_from end) t.left
+      stands_next : StandsAt leaving file tree m (turned s end piece_size (slice_get left_behind_it 0)) (slice_set walks s.track now) (slice_set nexts s.track next) (slice_set lefts s.track left_behind_it) taken.later
+      stands_next = record {
+        come = come_with leaving file tree m tree.movie.tracks walks lefts s.track t.t now left_behind_it h.come t.is_tree comes;
+        shown = (λ i. slice_set (h.shown i) s.track (after i)) ∙ sym (firsts_set lefts s.track left_behind_it);
+        turn = taken.on;
+        few = (let all = h.few in let less = count_left in omega (arith, all, less));
+      }
 
-        fewer : n ≤ left_count h.lefts
-        fewer = few_left h.lefts s.track n t.left t.is_left le
+      -- Behind it one more piece is looked at, if it took samples.
+      pub longest_next : (most later : ℕ) → max most (longest_piece (pieces_from s comings)) ≡ longest_piece (pieces (reduce leaving (presentation_of file tree))) → later ≡ max most n → IsLongest leaving file tree m on (slice_set walks k now) (slice_set nexts k next) later
+      longest_next most later longest e =
+          subst (λ j. IsLongest leaving file tree m on (slice_set walks j now) (slice_set nexts j next) later) (sym t.place) (subst (λ (r : Schedule). IsLongest leaving file tree m r (slice_set walks s.track now) (slice_set nexts s.track next) later) (sym turned_is) (record {
+            lefts = slice_set lefts s.track left_behind_it;
+            comings = taken.later;
+            at = stands_next;
+            longest = (λ i. max ((e ∙ ap (max most) is) i) (longest_piece (pieces_from (turned s end piece_size (slice_get left_behind_it 0)) taken.later)))
+                ∙ sym (turn_longest most t.info.id piece_size taken.samples (pieces_from (turned s end piece_size (slice_get left_behind_it 0)) taken.later) many_taken)
+                ∙ ap (λ ps. max most (longest_piece ps)) (sym taken.pieces) ∙ longest;
+          }))
 
-        left_is : left_count h.lefts - n ≡ left_count (slice_set h.lefts s.track behind)
-        left_is = count_behind h.lefts s.track n t.left t.is_left le
+      -- And its bytes are added.
+      pub length_next : (len later number : ℕ) (p : Planned) → n ≡ p.count → p ≡ planned_of (piece_fed (piece_from end) t.left).gathered → IsSmall p → Adds (keys_seen t.info.keys) p len later → len + left_count lefts * 2 ^ 33 ≤ 2 ^ 57
+          → len + length (pieces_bytes number (pieces_from s comings)) ≡ length (pieces_bytes 1 (pieces (reduce leaving (presentation_of file tree)))) → IsLength leaving file tree m on (slice_set walks k now) (slice_set nexts k next) later
+      length_next len later number p counted planned small adds fits so_far =
+          subst (λ j. IsLength leaving file tree m on (slice_set walks j now) (slice_set nexts j next) later) (sym t.place) (subst (λ (r : Schedule). IsLength leaving file tree m r (slice_set walks s.track now) (slice_set nexts s.track next) later) (sym turned_is) (record {
+            lefts = slice_set lefts s.track left_behind_it;
+            comings = taken.later;
+            at = stands_next;
+            fits = (let b = sum.0 in let c = sum.1 in let d = count_left in let e = fewer_left in omega (arith, fits, b, c, d, e, count));
+            number = number + length xs;
+            len =
+                (let a = sum.0 in
+                let two = ap (λ (bs : List ℕ). length bs) (bytes_of_two number xs ys) ∙ length-append (pieces_bytes number xs) (pieces_bytes (number + length xs) ys) in
+                let n : later + length (pieces_bytes (number + length xs) ys) ≡ len + length (pieces_bytes number (xs ++ ys)) = omega (arith, a, two) in
+                n)
+                ∙ ap (λ ps. len + length (pieces_bytes number ps)) (sym taken.pieces) ∙ so_far;
+          }))
+        where
+          count : p.count ≡ piece_size
+          count = sym counted ∙ is
 
-        facts : taken_from.TrackFacts file tree t.info t.t
-        facts = track_facts_at file m tree s.track t.info t.t o t.is_info t.is_tree
+          xs : List Piece
+          xs = piece_if t.info.id taken.samples
 
-        keys : AreKeys (keys_seen t.info.keys)
-        keys = record { apart = facts.apart; named = facts.named; few = facts.few_keys }
+          ys : List Piece
+          ys = pieces_from (turned s end piece_size (slice_get left_behind_it 0)) taken.later
 
-        long : ℕ
-        long = length (pieces_bytes h.number xs)
+          facts : taken_from.TrackFacts file tree t.info t.t
+          facts = track_facts_at file m tree s.track t.info t.t o t.is_info t.is_tree
 
-        sum : (later.len ≡ plan.len + long) × (long ≤ p.count * 2 ^ 33)
-        sum =
-            added (keys_seen t.info.keys) p plan later long (left_count h.lefts) adds keys.few small (λ e. none_long file (keys_seen t.info.keys) h.number t.info.id n t.left u.samples u.taken (sym count ∙ e))
-            (λ some. some_long file (keys_seen t.info.keys) h.number t.info.id n t.left u.samples p keys u.taken is (omega (arith, some, count)) le small.few) (omega (arith, count, fewer)) h.fits
+          keys : AreKeys (keys_seen t.info.keys)
+          keys = record { apart = facts.apart; named = facts.named; few = facts.few_keys }
 
-        many : length u.samples ≡ n
-        many = sym (taken_count file (keys_seen t.info.keys) (take n t.left) u.samples u.taken) ∙ length-take-le n t.left le
+          long : ℕ
+          long = length (pieces_bytes number xs)
 
-        planned : IsPlanning leaving file tree m (turned s end n (slice_get behind 0)) (slice_set walks s.track now) (slice_set nexts s.track next) later
-        planned = record {
-          lefts = slice_set h.lefts s.track behind;
-          comings = u.later;
-          come = come_with leaving file tree m tree.movie.tracks walks h.lefts s.track t.t now behind h.come t.is_tree comes;
-          shown = (λ i. slice_set (h.shown i) s.track (after i)) ∙ sym (firsts_set h.lefts s.track behind);
-          turn = u.on;
-          few = (let all = h.few in omega (arith, all, left_is));
-          fits = (let a = h.fits in let b = sum.0 in let c = sum.1 in omega (arith, a, b, c, left_is, fewer, count));
-          longest = (λ i. max ((adds.longest ∙ ap (max plan.longest) count) i) (longest_piece ys)) ∙ sym (turn_longest plan.longest t.info.id n u.samples ys many) ∙ ap (λ ps. max plan.longest (longest_piece ps)) (sym u.pieces) ∙ h.longest;
-          number = h.number + length xs;
-          len =
-              (let a = sum.0 in
-              let two = ap (λ (bs : List ℕ). length bs) (bytes_of_two h.number xs ys) ∙ length-append (pieces_bytes h.number xs) (pieces_bytes (h.number + length xs) ys) in
-              let n : later.len + length (pieces_bytes (h.number + length xs) ys) ≡ plan.len + length (pieces_bytes h.number (xs ++ ys)) = omega (arith, a, two) in
-              n)
-              ∙ ap (λ ps. plan.len + length (pieces_bytes h.number ps)) (sym u.pieces) ∙ h.len;
-        }
+          sum : (later ≡ len + long) × (long ≤ p.count * 2 ^ 33)
+          sum =
+              let less = fewer_left in
+              added (keys_seen t.info.keys) p len later long (left_count lefts) adds keys.few small (λ e. none_long file (keys_seen t.info.keys) number t.info.id piece_size t.left taken.samples taken.taken (sym count ∙ e))
+              (λ some. some_long file (keys_seen t.info.keys) number t.info.id piece_size t.left taken.samples p keys taken.taken planned (omega (arith, some, count)) within_left small.few) (omega (arith, count, less)) fits

@@ -12,7 +12,7 @@ use Rattle.mp4_head.specs.format.Tree.{TrackTree}
 use Rattle.mp4_tables.specs.declared.sample.SampleAt.{SampleAt}
 use Rattle.mp4_present.specs.words.SamplesComing.{Comes, track_samples}
 use Rattle.mp4_present.specs.format.Denotes.{FileTree}
-use Rattle.mp4_present.specs.words.Movies.{MovieSeen, IsWalkOf, mark_of}
+use Rattle.mp4_present.specs.words.Movies.{MovieSeen, IsWalkOf, mark_of, own_room}
 use Rattle.mp4_present.specs.words.OpenedMovie.{IsInfoOf, IsOpenedAs}
 use Rattle.mp4_present.specs.declared.walks.Walk.{Walk}
 use Rattle.mp4_present.specs.declared.track_info.TrackInfo.{TrackInfo}
@@ -20,6 +20,7 @@ use Rattle.mp4_present.proofs.MoofTaken.{zipped_at}
 use Rattle.mp4_present.proofs.TracksPassed.{zip_length}
 use Rattle.mp4_plan.specs.words.Writers.{AreWalksOf, AreMarked, AllCome, AllBegin, first_dts}
 use Rattle.mp4_plan.specs.format.Held.{rooms}
+use Rattle.mp4_plan.specs.words.OwnRooms.{own_rooms}
 use Rattle.mp4_plan.proofs.ComeAt.{come_at, come_with, come_more, set_same}
 use Rattle.mp4_plan.proofs.ReducedTaken.{less_length}
 use Rattle.mp4_plan.proofs.TakenFrom.{as_many}
@@ -32,12 +33,24 @@ abbrev pub BeginSoFar : MovieSeen → ℕ → List Walk → Type 0
 BeginSoFar m k walks = (file : List ℕ) (tree : FileTree) → IsOpenedAs file m tree → (leaving : Leaving) → AllCome leaving file tree m (take k tree.movie.tracks) walks (map (left_samples leaving tree) (take k tree.movie.tracks))
 
 -- the room of one walk more
-pub one_room : (walks : List Walk) (walk : Walk) (k n : ℕ) → rooms walks ≡ k * n → length walk.bytes.items ≡ n → rooms (walks ++ walk ∷ []) ≡ (k + 1) * n
-one_room walks walk k n h e =
+more_room : (walks : List Walk) (walk : Walk) → rooms (walks ++ walk ∷ []) ≡ rooms walks + length walk.bytes.items
+more_room walks walk =
     let room = λ (w : Walk). length w.bytes.items in
     let both = sum_by-append room walks (walk ∷ []) in
     let one = sum_by-cons room walk [] in
-    omega (arith, h, e, both, one)
+    omega (arith, both, one)
+
+next_rooms : (m : MovieSeen) (k : ℕ) → own_rooms m (k + 1) ≡ own_rooms m k + own_room m k
+next_rooms m k = let e : k + 1 ≡ suc k = omega arith in ap (own_rooms m) e
+
+pub one_room : (m : MovieSeen) (k : ℕ) (walks : List Walk) (walk : Walk) → rooms walks ≡ own_rooms m k → length walk.bytes.items ≡ own_room m k → rooms (walks ++ walk ∷ []) ≡ own_rooms m (k + 1)
+one_room m k walks walk h e =
+    let more = more_room walks walk in
+    let next = next_rooms m k in
+    omega (arith, h, e, more, next)
+
+pub one_within : (walks : List Walk) (walk : Walk) (k n : ℕ) → rooms walks ≤ k * n → length walk.bytes.items ≤ n → rooms (walks ++ walk ∷ []) ≤ (k + 1) * n
+one_within walks walk k n h e = let more = more_room walks walk in omega (arith, h, e, more)
 
 -- a walk over one track more
 pub one_begins : (m : MovieSeen) (k : ℕ) (walks : List Walk) (walk : Walk) → BeginSoFar m k walks → length walks ≡ k → k < length m.tracks

@@ -1,6 +1,6 @@
 -- What an opened file says of its tracks: their samples are those of the presentation that it denotes, and lie in it; their keys differ, and are at most four.
-use Rattle.std.proofs.Common.{◌≡◌, ℕ, zero, suc, ◌+◌, ◌-◌, ◌^◌, ◌≤◌, false, List, [], ◌∷◌, length, Some, refl, sym, ap, subst, ◌∙◌, arith}
-use Rattle.std.specs.Prelude.{map, min, IsTrue, ℤ, pos, negsuc}
+use Rattle.std.proofs.Common.{◌≡◌, ℕ, zero, suc, ◌+◌, ◌^◌, ◌≤◌, false, List, [], ◌∷◌, length, Some, refl, sym, ap, subst, ◌∙◌, arith}
+use Rattle.std.specs.Prelude.{map, IsTrue, ℤ, pos, negsuc}
 use Rattle.std.specs.List.{AllByRecursion, AllZip, list_any, slice_get, sum_by}
 use Rattle.std.proofs.lemmas.Bool.{or_from}
 use Rattle.std.proofs.lemmas.List.{length-map}
@@ -180,9 +180,6 @@ samples_left file m tree o = kept_total file tree tree.movie.tracks m.tracks o.t
 pub few_left : (file : List ℕ) (m : MovieSeen) (tree : FileTree) → IsOpenedAs file m tree → left_count (map (track_samples tree) tree.movie.tracks) ≤ 2 ^ 24
 few_left file m tree o = subst (λ n. n ≤ 2 ^ 24) (sym (left_total file tree tree.movie.tracks)) o.limits.samples
 
--- a sum of them that stops at the largest number of 64 bits is all
-pub all_counted : (file : List ℕ) (m : MovieSeen) (tree : FileTree) (n : ℕ) → IsOpenedAs file m tree → n ≡ min (sum_by (λ (i : TrackInfo). i.samples) m.tracks) (2 ^ 64 - 1) → n ≡ left_count (map (track_samples tree) tree.movie.tracks)
-all_counted file m tree n o e = few_enough n _ _ e (samples_left file m tree o) (few_left file m tree o)
-  where
-    few_enough : (n total left : ℕ) → n ≡ min total (2 ^ 64 - 1) → total ≡ left → left ≤ 2 ^ 24 → n ≡ left
-    few_enough n total left e f g = omega (arith, e, f, g)
+-- so what is counted of them is all
+pub all_counted : (file : List ℕ) (m : MovieSeen) (tree : FileTree) (n : ℕ) → IsOpenedAs file m tree → n ≡ sum_by (λ (i : TrackInfo). i.samples) m.tracks → n ≡ left_count (map (track_samples tree) tree.movie.tracks)
+all_counted file m tree n o e = e ∙ samples_left file m tree o

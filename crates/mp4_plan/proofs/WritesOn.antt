@@ -1,5 +1,5 @@
 -- The writer from turn to turn: what was put and what waits are the head and the pieces so far, and the walks stand before the samples that are left.
-use Rattle.std.proofs.Common.{◌≡◌, ℕ, zero, suc, ◌+◌, ◌-◌, ◌^◌, ◌<◌, ◌≤◌, max, min, ◌==◌, Bool, true, false, List, [], ◌∷◌, ◌++◌, length, take, drop, Some, None, refl, sym, ap, subst, ◌∙◌, append_assoc, append-nil, arith, slice_set}
+use Rattle.std.proofs.Common.{◌≡◌, ℕ, zero, suc, ◌+◌, ◌-◌, ◌^◌, ◌<◌, ◌≤◌, max, ◌==◌, Bool, true, false, List, [], ◌∷◌, ◌++◌, length, take, drop, Some, None, refl, sym, ap, subst, ◌∙◌, append_assoc, append-nil, arith, slice_set}
 use Rattle.mp4_present.specs.declared.leaving.Leaving.{Leaving}
 use Rattle.mp4_plan.specs.words.ComingLess.{ComesLess, left_samples}
 use Rattle.mp4_present.specs.format.Reduced.{reduce}
@@ -37,13 +37,14 @@ use Rattle.mp4_plan.specs.declared.moof_front.PieceHead.{PieceHead}
 use Rattle.mp4_plan.specs.declared.planner.Planned.{Planned}
 use Rattle.mp4_plan.specs.declared.schedule.Schedule.{Schedule}
 use Rattle.mp4_plan.specs.declared.writer.Writer.{Writer}
+use Rattle.mp4_plan.proofs.BytesLeft.{left_bytes, bytes_behind, all_bytes, none_behind}
 use Rattle.mp4_plan.proofs.ComeAt.{come_at, come_with}
 use Rattle.mp4_plan.proofs.EachAt.{holds_with}
 use Rattle.mp4_plan.proofs.FirstTurn.{IsFirst, begins_at, first_turn}
 use Rattle.mp4_plan.proofs.FrontsPut.{stopped_at, stopped_behind}
 use Rattle.mp4_plan.proofs.NextSamples.{first_at, firsts_set}
 use Rattle.mp4_plan.proofs.Lefts.{left_count, pieces_from, IsTurn}
-use Rattle.mp4_plan.proofs.PieceCounts.{piece_counts, piece_within, piece_gathers}
+use Rattle.mp4_plan.proofs.PieceCounts.{piece_bytes, piece_counts, piece_within, piece_gathers}
 use Rattle.mp4_plan.proofs.PieceWritten.{AreKeys, IsFew, turn_written, head_some, head_counts, bytes_of_two}
 use Rattle.mp4_plan.proofs.TakenFrom.{TrackFacts, track_facts, has_track, few_left, all_counted}
 use Rattle.mp4_plan.proofs.TurnTaken.{TurnTaken, turn_taken, turn_fits, there_is}
@@ -88,7 +89,7 @@ passed_left s time = by_first (s.track == 0)
     by_first true = by_wrap (record s { next = time; track = 1 }) time
     by_first false = by_wrap (record s { track = s.track + 1 }) s.next
 
-turned_left : (s : Schedule) (end : End) (n : ℕ) (next : Option SampleAt) → (turned s end n next).left ≡ s.left - n
+pub turned_left : (s : Schedule) (end : End) (n : ℕ) (next : Option SampleAt) → (turned s end n next).left ≡ s.left - n
 turned_left s end n next = by_over (is_over end next)
   where
     time : Option ℕ
@@ -136,7 +137,7 @@ marked_kept (v ∷ walks) (l ∷ lefts) (suc k) w now h is e = (h.0, marked_kept
 -- ---- at a turn
 
 module _ (leaving : Leaving) (file : List ℕ) (tree : FileTree) (m : MovieSeen) where
-  pub record WritesOn (s : Schedule) (sequence : ℕ) (walks : List Walk) (nexts : List (Option SampleAt)) (rows : ℕ) (before after : Option (List ℕ)) (held : List ℕ) : Type 0 where
+  pub record WritesOn (s : Schedule) (sequence sent : ℕ) (walks : List Walk) (nexts : List (Option SampleAt)) (rows : ℕ) (before after : Option (List ℕ)) (held : List ℕ) : Type 0 where
     pub lefts : List (List SampleAt)
     pub comings : List Coming
     pub come : AllCome leaving file tree m tree.movie.tracks walks lefts
@@ -146,6 +147,7 @@ module _ (leaving : Leaving) (file : List ℕ) (tree : FileTree) (m : MovieSeen)
     pub lie : AllByRecursion (λ (left : List SampleAt). AllByRecursion (IsBelow (length file)) left) lefts
     pub fits : AllByRecursion (λ (p : Piece). length p.samples ≤ rows) (pieces_from s comings)
     pub small : sequence + left_count lefts ≤ 2 ^ 24 + 1
+    pub sizes : sent + left_bytes lefts ≡ sum_by (λ (i : TrackInfo). i.bytes) m.tracks
     pub done : List ℕ
     pub goes : BytesGoOn before after [] held done
     pub whole : normal (reduce leaving (presentation_of file tree)) ≡ done ++ pieces_bytes sequence (pieces_from s comings)
@@ -159,6 +161,7 @@ module _ (leaving : Leaving) (file : List ℕ) (tree : FileTree) (m : MovieSeen)
     pub is_tree : slice_get tree.movie.tracks s.track ≡ Some t
     pub is_walk : slice_get walks s.track ≡ Some walk
     pub is_info : slice_get m.tracks s.track ≡ Some info
+    pub is_left : slice_get lefts s.track ≡ Some left
     pub comes : ComesLess leaving file tree t m walk left
     pub is_marked : walk.mark ≡ mark_of walk (length left)
     pub keys : AreKeys (keys_seen info.keys)
@@ -167,9 +170,9 @@ module _ (leaving : Leaving) (file : List ℕ) (tree : FileTree) (m : MovieSeen)
     pub fits : more_of (piece_from (turn_end s info.timescale)) left ≤ rows
     pub shown : slice_get nexts s.track ≡ Some (slice_get left 0)
 
-  pub at_turn : (s : Schedule) (sequence : ℕ) (walks : List Walk) (nexts : List (Option SampleAt)) (rows : ℕ) (before after : Option (List ℕ)) (held : List ℕ) → IsOpenedAs file m tree → (h : WritesOn s sequence walks nexts rows before after held)
+  pub at_turn : (s : Schedule) (sequence sent : ℕ) (walks : List Walk) (nexts : List (Option SampleAt)) (rows : ℕ) (before after : Option (List ℕ)) (held : List ℕ) → IsOpenedAs file m tree → (h : WritesOn s sequence sent walks nexts rows before after held)
       → s.track < s.tracks → s.tracks ≡ length m.tracks → length walks ≡ length m.tracks → AtTurn s walks nexts rows h.lefts h.comings
-  at_turn s sequence walks nexts rows before after held o h lt tracks each =
+  at_turn s sequence sent walks nexts rows before after held o h lt tracks each =
       let a = come_at leaving file tree m tree.movie.tracks walks h.lefts s.track h.come (omega (arith, lt, tracks, each)) in
       let i = there_is m.tracks s.track (omega (arith, lt, tracks)) in
       let f = (has_track file m tree s.track i.0 o i.1).facts in
@@ -182,6 +185,7 @@ module _ (leaving : Leaving) (file : List ℕ) (tree : FileTree) (m : MovieSeen)
         is_tree = a.is_tree;
         is_walk = a.is_walk;
         is_info = i.1;
+        is_left = a.is_left;
         comes = a.comes;
         is_marked = marked_at walks h.lefts s.track a.walk a.left h.marked a.is_walk a.is_left;
         keys = record { apart = f.apart; named = f.named; few = f.few_keys };
@@ -191,7 +195,7 @@ module _ (leaving : Leaving) (file : List ℕ) (tree : FileTree) (m : MovieSeen)
         shown = ap (λ xs. slice_get xs s.track) h.shown ∙ first_at h.lefts s.track a.left a.is_left;
       }
 
-  module _ (s : Schedule) (sequence : ℕ) (walks : List Walk) (nexts : List (Option SampleAt)) (rows : ℕ) (before after : Option (List ℕ)) (held : List ℕ) (h : WritesOn s sequence walks nexts rows before after held) where
+  module _ (s : Schedule) (sequence sent : ℕ) (walks : List Walk) (nexts : List (Option SampleAt)) (rows : ℕ) (before after : Option (List ℕ)) (held : List ℕ) (h : WritesOn s sequence sent walks nexts rows before after held) where
     -- what was put so far is a front
     pub stopped : AppendsPrefix before after (normal (reduce leaving (presentation_of file tree)))
     stopped = stopped_behind before after [] held h.done (pieces_bytes sequence (pieces_from s h.comings)) (normal (reduce leaving (presentation_of file tree))) h.goes h.whole
@@ -207,6 +211,10 @@ module _ (leaving : Leaving) (file : List ℕ) (tree : FileTree) (m : MovieSeen)
     not_all_put last none p =
         let q : AppendsPrefix before last (h.done ++ []) = BytesGoOn-fails before after last [] held h.done [] h.goes (AppendsPrefix-longer after last held [] p) in
         subst (λ (bs : List ℕ). AppendsPrefix before last bs) (append-nil h.done ∙ sym (all_done none)) q
+
+    -- behind the last turn all samples were taken, and all their bytes
+    pub all_taken : s.tracks ≤ s.track → (s.left ≡ 0) × (sent ≡ sum_by (λ (i : TrackInfo). i.bytes) m.tracks)
+    all_taken last = let none = none_behind file m.tracks s h.lefts h.comings h.turn last in let no_bytes = none.0 in let sizes = h.sizes in (none.1, omega (arith, no_bytes, sizes))
 
     module _ (a : AtTurn s walks nexts rows h.lefts h.comings) (p : Planned) (is : p ≡ planned_of (piece_fed (piece_from (turn_end s a.info.timescale)) a.left).gathered) (few : IsFew p) where
       abbrev end : End
@@ -265,7 +273,7 @@ module _ (leaving : Leaving) (file : List ℕ) (tree : FileTree) (m : MovieSeen)
 
       -- it is taken along
       pub turn_over : (later : Walk) (last : Option (List ℕ)) (held_later : List ℕ) → ComesLess leaving file tree a.t m later rest → later.mark ≡ mark_of later (length rest) → BytesGoOn after last held held_later (turn_bytes file head p keys (take p.count a.left))
-          → WritesOn (turned s end p.count (slice_get rest 0)) (sequence_behind sequence head) (slice_set walks s.track later) (slice_set nexts s.track (slice_get rest 0)) rows before last held_later
+          → WritesOn (turned s end p.count (slice_get rest 0)) (sequence_behind sequence head) (sent + p.bytes) (slice_set walks s.track later) (slice_set nexts s.track (slice_get rest 0)) rows before last held_later
       turn_over later last held_later comes marked bytes =
           let come = come_with leaving file tree m tree.movie.tracks walks h.lefts s.track a.t later rest h.come a.is_tree comes in
           let small = h.small in
@@ -276,7 +284,7 @@ module _ (leaving : Leaving) (file : List ℕ) (tree : FileTree) (m : MovieSeen)
           let by = turned_left s end count (slice_get rest 0) in
           let numbers = numbered in
           let same : next ≡ turned s end p.count (slice_get rest 0) = ap (λ k. turned s end k (slice_get rest 0)) (sym counted) in
-          subst (λ (r : Schedule). WritesOn r (sequence_behind sequence head) (slice_set walks s.track later) (slice_set nexts s.track (slice_get rest 0)) rows before last held_later) same (record {
+          subst (λ (r : Schedule). WritesOn r (sequence_behind sequence head) (sent + p.bytes) (slice_set walks s.track later) (slice_set nexts s.track (slice_get rest 0)) rows before last held_later) same (record {
             lefts = slice_set h.lefts s.track rest;
             comings = a.taken.later;
             come = come;
@@ -286,6 +294,7 @@ module _ (leaving : Leaving) (file : List ℕ) (tree : FileTree) (m : MovieSeen)
             lie = holds_with (λ (l : List SampleAt). AllByRecursion (IsBelow (length file)) l) h.lefts s.track rest (each_dropped (IsBelow (length file)) count a.left a.below) h.lie;
             fits = (turn_fits rows file m.tracks s h.lefts h.comings a.info a.left a.taken h.fits).1;
             small = omega (arith, small, few_pieces, n, left, later_left, by, numbers);
+            sizes = bytes_behind h.lefts s.track count sent p.bytes _ a.left a.is_left (ap (λ (q : Planned). q.bytes) is ∙ piece_bytes end a.left) h.sizes;
             done = h.done ++ pieces_bytes sequence piece;
             goes = BytesGoOn-then before after last [] held held_later h.done (turn_bytes file head p keys (take p.count a.left)) (h.done ++ pieces_bytes sequence piece) h.goes bytes (ap (λ (bs : List ℕ). h.done ++ bs) (sym written));
             whole = rest_is;
@@ -301,7 +310,7 @@ module _ (leaving : Leaving) (file : List ℕ) (tree : FileTree) (m : MovieSeen)
   pub begins : (s : Schedule) (w : Writer) (walks : List Walk) (nexts : List (Option SampleAt)) (before after : Option (List ℕ)) (held : List ℕ) → IsOpenedAs file m tree → IsReady file tree m w → w.leaving ≡ leaving
       → IsFirst m.tracks (map (left_samples leaving tree) tree.movie.tracks) s
       → AllBegin leaving file tree m walks → AreMarked walks (map (left_samples leaving tree) tree.movie.tracks) → nexts ≡ firsts (map (left_samples leaving tree) tree.movie.tracks) → BytesGoOn before after (waiting w.carrier) held w.head.items
-      → WritesOn s 1 walks nexts (length w.rows.items) before after held
+      → WritesOn s 1 0 walks nexts (length w.rows.items) before after held
   begins s w walks nexts before after held o r same first come marked shown goes =
       let all = first_turn leaving file m tree s o first in
       let p = reduce leaving (presentation_of file tree) in
@@ -317,6 +326,7 @@ module _ (leaving : Leaving) (file : List ℕ) (tree : FileTree) (m : MovieSeen)
         fits = subst (λ (ps : List Piece). AllByRecursion (λ (q : Piece). length q.samples ≤ length w.rows.items) ps) (sym all.1)
             (subst (λ n. AllByRecursion (λ (q : Piece). length q.samples ≤ n) (pieces p)) (sym (r.rows ∙ ap (λ (k : Leaving). longest_piece (pieces (reduce k (presentation_of file tree)))) same)) (no_longer (pieces p)));
         small = omega (arith, few);
+        sizes = (let all = all_bytes leaving file m tree o in omega (arith, all));
         done = waiting w.carrier ++ w.head.items;
         goes = goes;
         whole = (let head = sym (r.head ∙ ap (λ (k : Leaving). head_of_normal (reduce k (presentation_of file tree))) same) in let ps = sym all.1 in λ i. head i ++ pieces_bytes 1 (ps i));
@@ -339,7 +349,7 @@ module _ (leaving : Leaving) (file : List ℕ) (tree : FileTree) (m : MovieSeen)
       stopped_behind before after [] held (waiting w.carrier ++ bytes) (pieces_bytes 1 (pieces p)) (normal p) q (ap (λ (bs : List ℕ). bs ++ pieces_bytes 1 (pieces p)) (sym whole))
 
   -- a new schedule stands at the first turn
-  pub is_first : (s : Schedule) (from : ℕ) → IsOpenedAs file m tree → s.tracks ≡ length m.tracks → s.first ≡ first_scale m.tracks → (s.track ≡ 0) × (s.from ≡ from) × (s.next ≡ None) → s.left ≡ min (sum_by (λ (i : TrackInfo). i.samples) m.tracks) (2 ^ 64 - 1)
+  pub is_first : (s : Schedule) (from : ℕ) → IsOpenedAs file m tree → s.tracks ≡ length m.tracks → s.first ≡ first_scale m.tracks → (s.track ≡ 0) × (s.from ≡ from) × (s.next ≡ None) → s.left ≡ sum_by (λ (i : TrackInfo). i.samples) m.tracks
       → from ≡ first_dts (map (left_samples leaving tree) tree.movie.tracks) → IsFirst m.tracks (map (left_samples leaving tree) tree.movie.tracks) s
   is_first s from o tracks first starts left time = record {
     tracks = tracks;

@@ -15,3 +15,8 @@ pub mod HandsFed
 pub mod WriterSteps
 pub mod LeftTimes
 pub mod GoneOn
+pub mod PutPieces
+pub mod Counting
+pub mod OverLess
+pub mod OwnRooms
+pub mod OverDevices

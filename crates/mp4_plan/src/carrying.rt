@@ -1,11 +1,11 @@
 //! Bytes of a track's samples, copied piece by piece.
-ghost use Rattle.std.specs.Prelude.{◌≡◌, ℕ, ◌+◌, ◌<◌, ◌≤◌, List, [], length, take, drop, slice_get, vec_len, ◌++◌, IsTrue, IfOk, IfErr, OnOk, OnErr};
+ghost use Rattle.std.specs.Prelude.{◌≡◌, ℕ, ◌+◌, ◌-◌, ◌<◌, ◌≤◌, List, [], length, take, drop, slice_get, vec_len, ◌++◌, IsTrue, IfOk, IfErr, OnOk, OnErr};
 ghost use Rattle.std.specs.List.{AllByRecursion};
 ghost use Rattle.mp4_boxes.specs.declared.refusal.Refusal.TheVariants as refusals;
 ghost use Rattle.mp4_store.specs.words.Device.{AppendsPrefix};
 ghost use Rattle.mp4_tables.specs.declared.sample.SampleAt.{SampleAt};
 ghost use Rattle.mp4_head.specs.format.Tree.{TrackTree};
-ghost use Rattle.mp4_present.specs.words.Carried.{BytesGoOn, RefusesCarry, waiting};
+ghost use Rattle.mp4_present.specs.words.Carried.{BytesGoOn, GoOnBy, RefusesCarry, waiting};
 ghost use Rattle.mp4_present.specs.words.GoingBack.{GoesBackTo, IsMarkInHand, back_steps};
 ghost use Rattle.mp4_present.specs.declared.leaving.Leaving.{Leaving};
 ghost use Rattle.mp4_present.specs.words.SamplesComing.{Comes};
@@ -54,6 +54,9 @@ fn carry_hand<S: Store, K: Sink>(
     ensures prefix { OnErr result (IsTrue (S.is_honest store.old)
         → AppendsPrefix (K.contents sink.old) (K.contents sink.new) (waiting carrier.old
         ++ sample_bytes (S.file store.old) (take load.samples (left_in_hand hand.old)))) }
+    ensures many { IfOk result (λ left. (left.bytes ≤ load.bytes)
+        × GoOnBy (K.contents sink.old) (K.contents sink.new) (waiting carrier.old)
+        (waiting carrier.new) (load.bytes - left.bytes)) }
     ensures ends { IfOk result (λ left. 0 < left.samples → left_in_hand hand.new ≡ []) }
     ensures unchanged { IsTrue (S.is_honest store.old)
         → AllByRecursion (IsBelow (length (S.file store.old))) (left_in_hand hand.old)
@@ -119,6 +122,8 @@ fn carry_piece<S: Store, K: Sink, L: Ledger>(
         → load.samples ≤ length samples → load.bytes ≡ sizes_of (take load.samples samples)
         → AllByRecursion (IsBelow (length (S.file store.old))) samples
         → IfErr result (λ r. r ≡ refusals.StoreChanged → ⊥) }
+    ensures many { OnOk result (GoOnBy (K.contents sink.old) (K.contents sink.new)
+        (waiting carrier.old) (waiting carrier.new) load.bytes) }
     ensures buffer { vec_len carrier.new.buffer ≡ vec_len carrier.old.buffer }
     ensures work { IsTrue (S.is_honest store.old) → (tree : FileTree) (t : TrackTree) (n : ℕ)
         → IsOpenedAs (S.file store.old) movie.now tree
@@ -189,6 +194,8 @@ fn carry_in_hand<S: Store, K: Sink, L: Ledger>(
         → load.samples ≤ length samples → load.bytes ≡ sizes_of (take load.samples samples)
         → AllByRecursion (IsBelow (length (S.file store.old))) samples
         → IfErr result (λ r. r ≡ refusals.StoreChanged → ⊥) }
+    ensures many { OnOk result (GoOnBy (K.contents sink.old) (K.contents sink.new)
+        (waiting carrier.old) (waiting carrier.new) load.bytes) }
     ensures buffer { vec_len carrier.new.buffer ≡ vec_len carrier.old.buffer }
     ensures work { IsTrue (S.is_honest store.old) → (tree : FileTree) (t : TrackTree)
         (begun : Walk) (before own now : ℕ) → IsOpenedAs (S.file store.old) movie.now tree
@@ -252,6 +259,8 @@ fn carry_again<S: Store, K: Sink, L: Ledger>(
         → load.samples ≤ length samples → load.bytes ≡ sizes_of (take load.samples samples)
         → AllByRecursion (IsBelow (length (S.file store.old))) samples
         → IfErr result (λ r. r ≡ refusals.StoreChanged → ⊥) }
+    ensures many { OnOk result (GoOnBy (K.contents sink.old) (K.contents sink.new)
+        (waiting carrier.old) (waiting carrier.new) load.bytes) }
     ensures buffer { vec_len carrier.new.buffer ≡ vec_len carrier.old.buffer }
     ensures work { IsTrue (S.is_honest store.old) → (tree : FileTree) (t : TrackTree)
         (begun : Walk) (before own : ℕ) → IsOpenedAs (S.file store.old) movie.now tree
@@ -322,6 +331,8 @@ fn carry_marked<S: Store, K: Sink, L: Ledger>(
         → load.samples ≤ length samples → load.bytes ≡ sizes_of (take load.samples samples)
         → AllByRecursion (IsBelow (length (S.file store.old))) samples
         → IfErr result (λ r. r ≡ refusals.StoreChanged → ⊥) }
+    ensures many { OnOk result (GoOnBy (K.contents sink.old) (K.contents sink.new)
+        (waiting carrier.old) (waiting carrier.new) load.bytes) }
     ensures buffer { vec_len carrier.new.buffer ≡ vec_len carrier.old.buffer }
     ensures work { IsTrue (S.is_honest store.old) → (tree : FileTree) (t : TrackTree)
         (begun : Walk) (before own now : ℕ) → IsOpenedAs (S.file store.old) movie.now tree
@@ -396,6 +407,8 @@ pub(crate) fn carry_noted<S: Store, K: Sink, L: Ledger>(
         → load.samples ≤ length samples → load.bytes ≡ sizes_of (take load.samples samples)
         → AllByRecursion (IsBelow (length (S.file store.old))) samples
         → IfErr result (λ r. r ≡ refusals.StoreChanged → ⊥) }
+    ensures many { OnOk result (GoOnBy (K.contents sink.old) (K.contents sink.new)
+        (waiting carrier.old) (waiting carrier.new) load.bytes) }
     ensures buffer { vec_len carrier.new.buffer ≡ vec_len carrier.old.buffer }
     ensures work { IsTrue (S.is_honest store.old) → (tree : FileTree) (t : TrackTree) (n : ℕ)
         → IsOpenedAs (S.file store.old) movie.now tree

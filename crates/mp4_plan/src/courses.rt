@@ -1,20 +1,16 @@
 //! Samples of a track, taken piece by piece.
-ghost use Rattle.std.specs.Prelude.{◌≡◌, ℕ, ◌+◌, ◌-◌, ◌*◌, ◌^◌, ◌<◌, ◌≤◌, List, length, map, take, None, slice_get, slice_index, IsTrue, IfOk, IfErr, OnOk, OnErr};
-ghost use Rattle.mp4_boxes.specs.declared.refusal.Refusal.TheVariants as refusals;
-ghost use Rattle.mp4_head.specs.format.Tree.{TrackTree};
-ghost use Rattle.mp4_present.specs.format.Denotes.{FileTree};
-ghost use Rattle.mp4_present.specs.words.OpenedMovie.{IsOpenedAs};
+ghost use Rattle.std.specs.Prelude.{◌≡◌, ◌+◌, ◌-◌, ◌*◌, ◌^◌, ◌<◌, ◌≤◌, List, length, None, slice_get, IfOk, OnOk, MatchResult};
 ghost use Rattle.mp4_present.specs.words.SamplesComing.{Comes};
-ghost use Rattle.mp4_tables.specs.declared.sample.SampleAt.{SampleAt};
 ghost use Rattle.mp4_present.specs.words.Movies.{IsWalkOf, HasSome, RefusesLoad, mark_of};
+ghost use Rattle.mp4_present.specs.words.OverStores.{IsUnchanged, OnlyReads, Refused};
+ghost use Rattle.mp4_present.specs.words.OverWalks.{TakesSteps, WhereComes};
 ghost use Rattle.mp4_plan.specs.words.Gathering.{count_of, more_of, planned_of, piece_from, piece_fed, samples_after};
-ghost use Rattle.mp4_present.specs.words.WalkSteps.{MayTake, TakesOn};
 ghost use Rattle.mp4_plan.specs.words.GoneOn.{ComesMarked, WentOn};
-ghost use Rattle.mp4_plan.specs.words.WriterSteps.{FinishesOn, MayWrite, WritesOn};
+ghost use Rattle.mp4_plan.specs.words.WriterSteps.{FinishesOn, WritesOn};
 ghost use Rattle.mp4_plan.specs.words.HandsFed.{stop_of, HandFed, HandNoted, KeepsOn};
 ghost use Rattle.mp4_plan.specs.words.ComingLess.{ComesLess, less};
-ghost use Rattle.mp4_plan.specs.words.Stretches.{JoinsOn};
-ghost use Rattle.mp4_plan.specs.words.Taken.{row_seen};
+ghost use Rattle.mp4_plan.specs.words.OverLess.{HasBounds, HasRows, KeepsWalk, MayNote, WhereLess, WhereMayWrite};
+ghost use Rattle.mp4_tables.specs.declared.sample.SampleAt.{SampleAt};
 
 use crate::ends::{End, first_goes};
 use crate::joined::Stretches;
@@ -29,7 +25,7 @@ use mp4_tables::{SampleAt, Samples};
 use std::sync::ledger::Ledger;
 
 /// The most samples of a presentation.
-const MOST_SAMPLES: u32 = 1 << 24;
+pub(crate) const MOST_SAMPLES: u32 = 1 << 24;
 
 /// The next sample of a walk, which stays the next.
 fn peek_sample<S: Store, L: Ledger>(
@@ -39,34 +35,18 @@ fn peek_sample<S: Store, L: Ledger>(
     steps: &mut Steps<L>,
 ) -> Result<Option<SampleAt>, Refusal>
     requires { IsWalkOf movie.now walk.old }
-    ensures walk { OnOk result (IsWalkOf movie.now walk.new) }
-    ensures room { length walk.new.bytes.items ≡ length walk.old.bytes.items }
+    ensures walk { KeepsWalk movie.now walk.old walk.new result }
     ensures went { OnOk result (WentOn movie.now walk.old walk.new steps.old steps.new) }
-    ensures honesty { S.is_honest store.new ≡ S.is_honest store.old }
-    ensures file { S.file store.new ≡ S.file store.old }
-    ensures coming { IsTrue (S.is_honest store.old)
-        → (tree : FileTree) (t : TrackTree) (samples : List SampleAt)
-        → IsOpenedAs (S.file store.old) movie.now tree
-        → Comes (S.file store.old) tree t movie.now walk.old samples
-        → IfOk result (λ next. Comes (S.file store.old) tree t movie.now walk.new samples
-        × (next ≡ slice_get samples 0)) }
+    ensures store { OnlyReads S.Store store.old store.new result }
+    ensures coming { WhereComes S.Store store.old movie.now walk.old
+        (λ file tree t samples. IfOk result (λ next. Comes file tree t movie.now walk.new samples
+        × (next ≡ slice_get samples 0))) }
     ensures some { IfOk result (λ next. (next ≡ None → ⊥) → HasSome movie.now walk.new) }
-    ensures unchanged { IsTrue (S.is_honest store.old)
-        → (tree : FileTree) (t : TrackTree) (samples : List SampleAt)
-        → IsOpenedAs (S.file store.old) movie.now tree
-        → Comes (S.file store.old) tree t movie.now walk.old samples
-        → IfErr result (λ r. r ≡ refusals.StoreChanged → ⊥) }
-    ensures work { IsTrue (S.is_honest store.old) → (tree : FileTree) (t : TrackTree) (n : ℕ)
-        → IsOpenedAs (S.file store.old) movie.now tree
-        → MayTake (S.file store.old) tree t walk.old n
-        → OnOk result (TakesOn (S.file store.old) tree t n walk.new steps.old steps.new) }
-    ensures most { IsTrue (S.is_honest store.old) → (tree : FileTree) (t : TrackTree) (n : ℕ)
-        → IsOpenedAs (S.file store.old) movie.now tree
-        → MayTake (S.file store.old) tree t walk.old n
-        → OnErr result (steps.new ≤ steps.old + n) }
-    ensures reads { OnOk result (S.read_failures store.new ≡ S.read_failures store.old) }
-    ensures refusal { IfErr result
-        (RefusesLoad (S.read_failures store.old) (S.read_failures store.new)) }
+    ensures unchanged { WhereComes S.Store store.old movie.now walk.old
+        (λ file tree t samples. IsUnchanged result) }
+    ensures work { TakesSteps S.Store store.old movie.now walk.old walk.new result steps.old
+        steps.new }
+    ensures refusal { Refused S.Store store.old store.new result RefusesLoad }
 {
     let mut next = walk.in_hand(movie).peek();
     while next.is_none() && walk.load(movie, store, steps)? {
@@ -96,35 +76,19 @@ pub(crate) fn next_sample<S: Store, L: Ledger>(
     steps: &mut Steps<L>,
 ) -> Result<Option<SampleAt>, Refusal>
     requires { IsWalkOf movie.now walk.old }
-    ensures walk { OnOk result (IsWalkOf movie.now walk.new) }
-    ensures room { length walk.new.bytes.items ≡ length walk.old.bytes.items }
+    ensures walk { KeepsWalk movie.now walk.old walk.new result }
     ensures went { OnOk result (WentOn movie.now walk.old walk.new steps.old steps.new) }
-    ensures honesty { S.is_honest store.new ≡ S.is_honest store.old }
-    ensures file { S.file store.new ≡ S.file store.old }
-    ensures coming { IsTrue (S.is_honest store.old)
-        → (tree : FileTree) (t : TrackTree) (samples : List SampleAt)
-        → IsOpenedAs (S.file store.old) movie.now tree
-        → ComesLess leaving (S.file store.old) tree t movie.now walk.old samples
-        → IfOk result (λ next.
-        ComesLess leaving (S.file store.old) tree t movie.now walk.new samples
-        × (next ≡ slice_get samples 0)) }
+    ensures store { OnlyReads S.Store store.old store.new result }
+    ensures coming { WhereLess S.Store store.old movie.now leaving walk.old
+        (λ file tree t samples. IfOk result (λ next.
+        ComesLess leaving file tree t movie.now walk.new samples
+        × (next ≡ slice_get samples 0))) }
     ensures some { IfOk result (λ next. (next ≡ None → ⊥) → HasSome movie.now walk.new) }
-    ensures unchanged { IsTrue (S.is_honest store.old)
-        → (tree : FileTree) (t : TrackTree) (samples : List SampleAt)
-        → IsOpenedAs (S.file store.old) movie.now tree
-        → ComesLess leaving (S.file store.old) tree t movie.now walk.old samples
-        → IfErr result (λ r. r ≡ refusals.StoreChanged → ⊥) }
-    ensures work { IsTrue (S.is_honest store.old) → (tree : FileTree) (t : TrackTree) (n : ℕ)
-        → IsOpenedAs (S.file store.old) movie.now tree
-        → MayTake (S.file store.old) tree t walk.old n
-        → OnOk result (TakesOn (S.file store.old) tree t n walk.new steps.old steps.new) }
-    ensures most { IsTrue (S.is_honest store.old) → (tree : FileTree) (t : TrackTree) (n : ℕ)
-        → IsOpenedAs (S.file store.old) movie.now tree
-        → MayTake (S.file store.old) tree t walk.old n
-        → OnErr result (steps.new ≤ steps.old + n) }
-    ensures reads { OnOk result (S.read_failures store.new ≡ S.read_failures store.old) }
-    ensures refusal { IfErr result
-        (RefusesLoad (S.read_failures store.old) (S.read_failures store.new)) }
+    ensures unchanged { WhereLess S.Store store.old movie.now leaving walk.old
+        (λ file tree t samples. IsUnchanged result) }
+    ensures work { TakesSteps S.Store store.old movie.now walk.old walk.new result steps.old
+        steps.new }
+    ensures refusal { Refused S.Store store.old store.new result RefusesLoad }
 {
     let next = peek_sample(walk, movie, store, steps)?;
     Ok(reduced_next(leaving, next))
@@ -140,39 +104,20 @@ pub(crate) fn next_marked<S: Store, L: Ledger>(
     steps: &mut Steps<L>,
 ) -> Result<Option<SampleAt>, Refusal>
     requires { IsWalkOf movie.now walk.old }
-    ensures walk { OnOk result (IsWalkOf movie.now walk.new) }
-    ensures room { length walk.new.bytes.items ≡ length walk.old.bytes.items }
+    ensures walk { KeepsWalk movie.now walk.old walk.new result }
     ensures marked { OnOk result (walk.new.mark ≡ mark_of walk.new walk.old.mark.to_come) }
-    ensures honesty { S.is_honest store.new ≡ S.is_honest store.old }
-    ensures file { S.file store.new ≡ S.file store.old }
-    ensures coming { IsTrue (S.is_honest store.old)
-        → (tree : FileTree) (t : TrackTree) (samples : List SampleAt)
-        → IsOpenedAs (S.file store.old) movie.now tree
-        → ComesLess leaving (S.file store.old) tree t movie.now walk.old samples
-        → IfOk result (λ next.
-        ComesLess leaving (S.file store.old) tree t movie.now walk.new samples
-        × (next ≡ slice_get samples 0)) }
-    ensures unchanged { IsTrue (S.is_honest store.old)
-        → (tree : FileTree) (t : TrackTree) (samples : List SampleAt)
-        → IsOpenedAs (S.file store.old) movie.now tree
-        → ComesLess leaving (S.file store.old) tree t movie.now walk.old samples
-        → IfErr result (λ r. r ≡ refusals.StoreChanged → ⊥) }
-    ensures work { IsTrue (S.is_honest store.old) → (tree : FileTree) (t : TrackTree) (n : ℕ)
-        → IsOpenedAs (S.file store.old) movie.now tree
-        → MayTake (S.file store.old) tree t walk.old n
-        → OnOk result (TakesOn (S.file store.old) tree t n walk.new steps.old steps.new) }
-    ensures most { IsTrue (S.is_honest store.old) → (tree : FileTree) (t : TrackTree) (n : ℕ)
-        → IsOpenedAs (S.file store.old) movie.now tree
-        → MayTake (S.file store.old) tree t walk.old n
-        → OnErr result (steps.new ≤ steps.old + n) }
-    ensures writes { IsTrue (S.is_honest store.old) → (tree : FileTree) (t : TrackTree) (n : ℕ)
-        → IsOpenedAs (S.file store.old) movie.now tree
-        → MayWrite (S.file store.old) tree movie.now t walk.old n
-        → OnOk result (WritesOn (S.file store.old) tree movie.now t n walk.new steps.old
-        steps.new) }
-    ensures reads { OnOk result (S.read_failures store.new ≡ S.read_failures store.old) }
-    ensures refusal { IfErr result
-        (RefusesLoad (S.read_failures store.old) (S.read_failures store.new)) }
+    ensures store { OnlyReads S.Store store.old store.new result }
+    ensures coming { WhereLess S.Store store.old movie.now leaving walk.old
+        (λ file tree t samples. IfOk result (λ next.
+        ComesLess leaving file tree t movie.now walk.new samples
+        × (next ≡ slice_get samples 0))) }
+    ensures unchanged { WhereLess S.Store store.old movie.now leaving walk.old
+        (λ file tree t samples. IsUnchanged result) }
+    ensures work { TakesSteps S.Store store.old movie.now walk.old walk.new result steps.old
+        steps.new }
+    ensures writes { WhereMayWrite S.Store store.old movie.now walk.old (λ file tree t n.
+        OnOk result (WritesOn file tree movie.now t n walk.new steps.old steps.new)) }
+    ensures refusal { Refused S.Store store.old store.new result RefusesLoad }
 {
     let left = walk.to_come();
     let next = next_sample(walk, leaving, movie, store, steps)?;
@@ -271,36 +216,19 @@ pub(crate) fn plan_piece<S: Store, L: Ledger>(
     steps: &mut Steps<L>,
 ) -> Result<Planned, Refusal>
     requires { IsWalkOf movie.now walk.old }
-    ensures walk { OnOk result (IsWalkOf movie.now walk.new) }
-    ensures room { length walk.new.bytes.items ≡ length walk.old.bytes.items }
-    ensures honesty { S.is_honest store.new ≡ S.is_honest store.old }
-    ensures file { S.file store.new ≡ S.file store.old }
-    ensures planned { IsTrue (S.is_honest store.old)
-        → (tree : FileTree) (t : TrackTree) (samples : List SampleAt)
-        → IsOpenedAs (S.file store.old) movie.now tree
-        → ComesLess leaving (S.file store.old) tree t movie.now walk.old samples
-        → IfOk result (λ p. (p ≡ planned_of (piece_fed (piece_from end) samples).gathered)
-        × ComesLess leaving (S.file store.old) tree t movie.now walk.new
-        (samples_after (piece_from end) samples)) }
-    ensures unchanged { IsTrue (S.is_honest store.old)
-        → (tree : FileTree) (t : TrackTree) (samples : List SampleAt)
-        → IsOpenedAs (S.file store.old) movie.now tree
-        → ComesLess leaving (S.file store.old) tree t movie.now walk.old samples
-        → length samples ≤ MOST_SAMPLES → IfErr result (λ r. r ≡ refusals.StoreChanged → ⊥) }
-    ensures few { IfOk result (λ p. p.count ≤ MOST_SAMPLES) }
-    ensures rows { IfOk result (λ p. (j : ℕ) → slice_index p.group_rows j ≤ p.count) }
-    ensures bytes { IfOk result (λ p. p.bytes ≤ p.count * 4294967295) }
-    ensures work { IsTrue (S.is_honest store.old) → (tree : FileTree) (t : TrackTree) (n : ℕ)
-        → IsOpenedAs (S.file store.old) movie.now tree
-        → MayTake (S.file store.old) tree t walk.old n
-        → OnOk result (TakesOn (S.file store.old) tree t n walk.new steps.old steps.new) }
-    ensures most { IsTrue (S.is_honest store.old) → (tree : FileTree) (t : TrackTree) (n : ℕ)
-        → IsOpenedAs (S.file store.old) movie.now tree
-        → MayTake (S.file store.old) tree t walk.old n
-        → OnErr result (steps.new ≤ steps.old + n) }
-    ensures reads { OnOk result (S.read_failures store.new ≡ S.read_failures store.old) }
-    ensures refusal { IfErr result
-        (RefusesLoad (S.read_failures store.old) (S.read_failures store.new)) }
+    ensures walk { KeepsWalk movie.now walk.old walk.new result }
+    ensures store { OnlyReads S.Store store.old store.new result }
+    ensures planned { WhereLess S.Store store.old movie.now leaving walk.old
+        (λ file tree t samples. IfOk result (λ p.
+        (p ≡ planned_of (piece_fed (piece_from end) samples).gathered)
+        × ComesLess leaving file tree t movie.now walk.new
+        (samples_after (piece_from end) samples))) }
+    ensures unchanged { WhereLess S.Store store.old movie.now leaving walk.old
+        (λ file tree t samples. length samples ≤ MOST_SAMPLES → IsUnchanged result) }
+    ensures bounds { IfOk result (HasBounds MOST_SAMPLES) }
+    ensures work { TakesSteps S.Store store.old movie.now walk.old walk.new result steps.old
+        steps.new }
+    ensures refusal { Refused S.Store store.old store.new result RefusesLoad }
 {
     let mut planner = Planner::new(end);
     loop {
@@ -330,38 +258,20 @@ pub(crate) fn plan_turn<S: Store, L: Ledger>(
     steps: &mut Steps<L>,
 ) -> Result<Planned, Refusal>
     requires { IsWalkOf movie.now walk.old }
-    ensures walk { OnOk result (IsWalkOf movie.now walk.new) }
-    ensures room { length walk.new.bytes.items ≡ length walk.old.bytes.items }
-    ensures honesty { S.is_honest store.new ≡ S.is_honest store.old }
-    ensures file { S.file store.new ≡ S.file store.old }
-    ensures planned { IsTrue (S.is_honest store.old)
-        → (tree : FileTree) (t : TrackTree) (samples : List SampleAt)
-        → IsOpenedAs (S.file store.old) movie.now tree
-        → ComesLess leaving (S.file store.old) tree t movie.now walk.old samples
-        → next.old ≡ slice_get samples 0
+    ensures walk { KeepsWalk movie.now walk.old walk.new result }
+    ensures store { OnlyReads S.Store store.old store.new result }
+    ensures planned { WhereLess S.Store store.old movie.now leaving walk.old
+        (λ file tree t samples. next.old ≡ slice_get samples 0
         → IfOk result (λ p. (p ≡ planned_of (piece_fed (piece_from end) samples).gathered)
-        × ComesLess leaving (S.file store.old) tree t movie.now walk.new
+        × ComesLess leaving file tree t movie.now walk.new
         (samples_after (piece_from end) samples)
-        × (next.new ≡ slice_get (samples_after (piece_from end) samples) 0)) }
-    ensures unchanged { IsTrue (S.is_honest store.old)
-        → (tree : FileTree) (t : TrackTree) (samples : List SampleAt)
-        → IsOpenedAs (S.file store.old) movie.now tree
-        → ComesLess leaving (S.file store.old) tree t movie.now walk.old samples
-        → length samples ≤ MOST_SAMPLES → IfErr result (λ r. r ≡ refusals.StoreChanged → ⊥) }
-    ensures few { IfOk result (λ p. p.count ≤ MOST_SAMPLES) }
-    ensures rows { IfOk result (λ p. (j : ℕ) → slice_index p.group_rows j ≤ p.count) }
-    ensures bytes { IfOk result (λ p. p.bytes ≤ p.count * 4294967295) }
-    ensures work { IsTrue (S.is_honest store.old) → (tree : FileTree) (t : TrackTree) (n : ℕ)
-        → IsOpenedAs (S.file store.old) movie.now tree
-        → MayTake (S.file store.old) tree t walk.old n
-        → OnOk result (TakesOn (S.file store.old) tree t n walk.new steps.old steps.new) }
-    ensures most { IsTrue (S.is_honest store.old) → (tree : FileTree) (t : TrackTree) (n : ℕ)
-        → IsOpenedAs (S.file store.old) movie.now tree
-        → MayTake (S.file store.old) tree t walk.old n
-        → OnErr result (steps.new ≤ steps.old + n) }
-    ensures reads { OnOk result (S.read_failures store.new ≡ S.read_failures store.old) }
-    ensures refusal { IfErr result
-        (RefusesLoad (S.read_failures store.old) (S.read_failures store.new)) }
+        × (next.new ≡ slice_get (samples_after (piece_from end) samples) 0))) }
+    ensures unchanged { WhereLess S.Store store.old movie.now leaving walk.old
+        (λ file tree t samples. length samples ≤ MOST_SAMPLES → IsUnchanged result) }
+    ensures bounds { IfOk result (HasBounds MOST_SAMPLES) }
+    ensures work { TakesSteps S.Store store.old movie.now walk.old walk.new result steps.old
+        steps.new }
+    ensures refusal { Refused S.Store store.old store.new result RefusesLoad }
 {
     if !first_goes(&end, next) {
         return Ok(Planner::new(end).piece());
@@ -383,50 +293,25 @@ fn note_piece<S: Store, L: Ledger>(
     store: &mut S,
     steps: &mut Steps<L>,
 ) -> Result<Planned, Refusal>
-    requires few { length rows.old < 2 ^ 32 }
-    requires walk { IsWalkOf movie.now walk.old }
-    ensures walk { OnOk result (IsWalkOf movie.now walk.new) }
-    ensures room { length walk.new.bytes.items ≡ length walk.old.bytes.items }
+    requires { MayNote movie.now walk.old rows.old }
+    ensures walk { KeepsWalk movie.now walk.old walk.new result }
     ensures went { OnOk result (WentOn movie.now walk.old walk.new steps.old steps.new) }
-    ensures honesty { S.is_honest store.new ≡ S.is_honest store.old }
-    ensures file { S.file store.new ≡ S.file store.old }
-    ensures planned { IsTrue (S.is_honest store.old)
-        → (tree : FileTree) (t : TrackTree) (samples : List SampleAt)
-        → IsOpenedAs (S.file store.old) movie.now tree
-        → ComesLess leaving (S.file store.old) tree t movie.now walk.old samples
-        → IfOk result (λ p. (p ≡ planned_of (piece_fed (piece_from end) samples).gathered)
-        × ComesLess leaving (S.file store.old) tree t movie.now walk.new
-        (samples_after (piece_from end) samples)) }
-    ensures noted { IsTrue (S.is_honest store.old)
-        → (tree : FileTree) (t : TrackTree) (samples : List SampleAt)
-        → IsOpenedAs (S.file store.old) movie.now tree
-        → ComesLess leaving (S.file store.old) tree t movie.now walk.old samples
-        → IfOk result (λ p. take p.count rows.new ≡ map row_seen (take p.count samples)) }
-    ensures joined { IsTrue (S.is_honest store.old)
-        → (tree : FileTree) (t : TrackTree) (samples : List SampleAt)
-        → IsOpenedAs (S.file store.old) movie.now tree
-        → ComesLess leaving (S.file store.old) tree t movie.now walk.old samples
-        → IfOk result (λ p. JoinsOn stretches.old stretches.new (take p.count samples)) }
-    ensures unchanged { IsTrue (S.is_honest store.old)
-        → (tree : FileTree) (t : TrackTree) (samples : List SampleAt)
-        → IsOpenedAs (S.file store.old) movie.now tree
-        → ComesLess leaving (S.file store.old) tree t movie.now walk.old samples
-        → more_of (piece_from end) samples ≤ length rows.old
-        → IfErr result (λ r. r ≡ refusals.StoreChanged → ⊥) }
-    ensures few { IfOk result (λ p. p.count ≤ length rows.old) }
-    ensures rows { IfOk result (λ p. (j : ℕ) → slice_index p.group_rows j ≤ p.count) }
-    ensures bytes { IfOk result (λ p. p.bytes ≤ p.count * 4294967295) }
-    ensures work { IsTrue (S.is_honest store.old) → (tree : FileTree) (t : TrackTree) (n : ℕ)
-        → IsOpenedAs (S.file store.old) movie.now tree
-        → MayTake (S.file store.old) tree t walk.old n
-        → OnOk result (TakesOn (S.file store.old) tree t n walk.new steps.old steps.new) }
-    ensures most { IsTrue (S.is_honest store.old) → (tree : FileTree) (t : TrackTree) (n : ℕ)
-        → IsOpenedAs (S.file store.old) movie.now tree
-        → MayTake (S.file store.old) tree t walk.old n
-        → OnErr result (steps.new ≤ steps.old + n) }
-    ensures reads { OnOk result (S.read_failures store.new ≡ S.read_failures store.old) }
-    ensures refusal { IfErr result
-        (RefusesLoad (S.read_failures store.old) (S.read_failures store.new)) }
+    ensures store { OnlyReads S.Store store.old store.new result }
+    ensures planned { WhereLess S.Store store.old movie.now leaving walk.old
+        (λ file tree t samples. IfOk result (λ p.
+        (p ≡ planned_of (piece_fed (piece_from end) samples).gathered)
+        × ComesLess leaving file tree t movie.now walk.new
+        (samples_after (piece_from end) samples))) }
+    ensures noted { WhereLess S.Store store.old movie.now leaving walk.old
+        (λ file tree t samples. IfOk result
+        (λ p. HasRows p.count samples rows.new stretches.old stretches.new)) }
+    ensures unchanged { WhereLess S.Store store.old movie.now leaving walk.old
+        (λ file tree t samples. more_of (piece_from end) samples ≤ length rows.old
+        → IsUnchanged result) }
+    ensures bounds { IfOk result (HasBounds (length rows.old)) }
+    ensures work { TakesSteps S.Store store.old movie.now walk.old walk.new result steps.old
+        steps.new }
+    ensures refusal { Refused S.Store store.old store.new result RefusesLoad }
 {
     let mut planner = Planner::new(end);
     loop {
@@ -465,52 +350,28 @@ pub(crate) fn note_marked<S: Store, L: Ledger>(
     store: &mut S,
     steps: &mut Steps<L>,
 ) -> Result<Planned, Refusal>
-    requires few { length rows.old < 2 ^ 32 }
-    requires walk { IsWalkOf movie.now walk.old }
-    ensures walk { OnOk result (IsWalkOf movie.now walk.new) }
-    ensures room { length walk.new.bytes.items ≡ length walk.old.bytes.items }
-    ensures honesty { S.is_honest store.new ≡ S.is_honest store.old }
-    ensures file { S.file store.new ≡ S.file store.old }
-    ensures planned { IsTrue (S.is_honest store.old)
-        → (tree : FileTree) (t : TrackTree) (samples : List SampleAt)
-        → IsOpenedAs (S.file store.old) movie.now tree
-        → ComesLess leaving (S.file store.old) tree t movie.now walk.old samples
-        → IfOk result (λ p. (p ≡ planned_of (piece_fed (piece_from end) samples).gathered)
+    requires { MayNote movie.now walk.old rows.old }
+    ensures walk { KeepsWalk movie.now walk.old walk.new result }
+    ensures store { OnlyReads S.Store store.old store.new result }
+    ensures planned { WhereLess S.Store store.old movie.now leaving walk.old
+        (λ file tree t samples. IfOk result (λ p.
+        (p ≡ planned_of (piece_fed (piece_from end) samples).gathered)
         × (walk.old.mark ≡ mark_of walk.old (length samples)
-        → ComesMarked leaving (S.file store.old) tree t movie.now walk.new p.count samples)) }
-    ensures noted { IsTrue (S.is_honest store.old)
-        → (tree : FileTree) (t : TrackTree) (samples : List SampleAt)
-        → IsOpenedAs (S.file store.old) movie.now tree
-        → ComesLess leaving (S.file store.old) tree t movie.now walk.old samples
-        → IfOk result (λ p. take p.count rows.new ≡ map row_seen (take p.count samples)) }
-    ensures joined { IsTrue (S.is_honest store.old)
-        → (tree : FileTree) (t : TrackTree) (samples : List SampleAt)
-        → IsOpenedAs (S.file store.old) movie.now tree
-        → ComesLess leaving (S.file store.old) tree t movie.now walk.old samples
-        → IfOk result (λ p. JoinsOn stretches.old stretches.new (take p.count samples)) }
-    ensures unchanged { IsTrue (S.is_honest store.old)
-        → (tree : FileTree) (t : TrackTree) (samples : List SampleAt)
-        → IsOpenedAs (S.file store.old) movie.now tree
-        → ComesLess leaving (S.file store.old) tree t movie.now walk.old samples
-        → walk.old.mark ≡ mark_of walk.old (length samples)
+        → ComesMarked leaving file tree t movie.now walk.new p.count samples))) }
+    ensures noted { WhereLess S.Store store.old movie.now leaving walk.old
+        (λ file tree t samples. IfOk result
+        (λ p. HasRows p.count samples rows.new stretches.old stretches.new)) }
+    ensures unchanged { WhereLess S.Store store.old movie.now leaving walk.old
+        (λ file tree t samples. walk.old.mark ≡ mark_of walk.old (length samples)
         → 0 < more_of (piece_from end) samples
         → more_of (piece_from end) samples ≤ length rows.old
-        → IfErr result (λ r. r ≡ refusals.StoreChanged → ⊥) }
-    ensures few { IfOk result (λ p. (0 < p.count) × (p.count ≤ length rows.old)) }
-    ensures rows { IfOk result (λ p. (j : ℕ) → slice_index p.group_rows j ≤ p.count) }
-    ensures bytes { IfOk result (λ p. p.bytes ≤ p.count * 4294967295) }
-    ensures work { IsTrue (S.is_honest store.old) → (tree : FileTree) (t : TrackTree) (n : ℕ)
-        → IsOpenedAs (S.file store.old) movie.now tree
-        → MayWrite (S.file store.old) tree movie.now t walk.old n
-        → IfOk result (λ p. FinishesOn leaving (S.file store.old) tree movie.now p.count t n
-        walk.new steps.old steps.new) }
-    ensures most { IsTrue (S.is_honest store.old) → (tree : FileTree) (t : TrackTree) (n : ℕ)
-        → IsOpenedAs (S.file store.old) movie.now tree
-        → MayWrite (S.file store.old) tree movie.now t walk.old n
-        → OnErr result (steps.new ≤ steps.old + n) }
-    ensures reads { OnOk result (S.read_failures store.new ≡ S.read_failures store.old) }
-    ensures refusal { IfErr result
-        (RefusesLoad (S.read_failures store.old) (S.read_failures store.new)) }
+        → IsUnchanged result) }
+    ensures some { IfOk result (λ p. 0 < p.count) }
+    ensures bounds { IfOk result (HasBounds (length rows.old)) }
+    ensures work { WhereMayWrite S.Store store.old movie.now walk.old (λ file tree t n.
+        MatchResult result (λ p. FinishesOn leaving file tree movie.now p.count t n walk.new
+        steps.old steps.new) (λ r. steps.new ≤ steps.old + n)) }
+    ensures refusal { Refused S.Store store.old store.new result RefusesLoad }
 {
     let left = walk.to_come();
     let planned = note_piece(walk, leaving, end, rows, stretches, movie, store, steps)?;

@@ -32,7 +32,7 @@ impl Span {
     ghost use Rattle.std.specs.Prelude.{◌≡◌, ◌+◌, ◌≤◌, ◌++◌, length, vec_len, IfOk, IfErr, OnOk, OnErr, IsTrue};
     ghost use Rattle.mp4_boxes.specs.declared.refusal.Refusal.TheVariants as refusals;
     ghost use Rattle.mp4_store.specs.words.Device.{AppendsPrefix};
-    ghost use Rattle.mp4_present.specs.words.Carried.{BytesGoOn, RefusesCarry, waiting};
+    ghost use Rattle.mp4_present.specs.words.Carried.{BytesGoOn, GoOnBy, RefusesCarry, waiting};
     ghost use Rattle.mp4_plan.specs.words.Stretches.{span_len, span_bytes, EndsBelow};
 
     // How many bytes these are.
@@ -55,6 +55,8 @@ impl Span {
         ensures bytes { OnOk result (IsTrue (S.is_honest store.old)
             → BytesGoOn (K.contents sink.old) (K.contents sink.new) (waiting carrier.old)
             (waiting carrier.new) (span_bytes (S.file store.old) self.now)) }
+        ensures many { OnOk result (GoOnBy (K.contents sink.old) (K.contents sink.new)
+            (waiting carrier.old) (waiting carrier.new) (span_len self.now)) }
         ensures prefix { OnErr result (IsTrue (S.is_honest store.old)
             → AppendsPrefix (K.contents sink.old) (K.contents sink.new)
             (waiting carrier.old ++ span_bytes (S.file store.old) self.now)) }
@@ -89,7 +91,7 @@ impl Stretches {
     ghost use Rattle.mp4_boxes.specs.declared.refusal.Refusal.TheVariants as refusals;
     ghost use Rattle.mp4_store.specs.words.Device.{AppendsPrefix};
     ghost use Rattle.mp4_tables.specs.declared.sample.SampleAt.{SampleAt};
-    ghost use Rattle.mp4_present.specs.words.Carried.{BytesGoOn, RefusesCarry, waiting};
+    ghost use Rattle.mp4_present.specs.words.Carried.{BytesGoOn, GoOnBy, RefusesCarry, waiting};
     ghost use Rattle.mp4_plan.specs.words.Stretches.{AreBytesOf, spans_of, spans_bytes, spans_len, EndsBelow, Tells, JoinsOn, IsRoomFor};
 
     /// Those of no samples.
@@ -185,6 +187,8 @@ impl Stretches {
         ensures bytes { OnOk result (IsTrue (S.is_honest store.old)
             → BytesGoOn (K.contents sink.old) (K.contents sink.new) (waiting carrier.old)
             (waiting carrier.new) (spans_bytes (S.file store.old) (spans_of self.now))) }
+        ensures many { OnOk result (GoOnBy (K.contents sink.old) (K.contents sink.new)
+            (waiting carrier.old) (waiting carrier.new) bytes) }
         ensures prefix { OnErr result (IsTrue (S.is_honest store.old)
             → AppendsPrefix (K.contents sink.old) (K.contents sink.new)
             (waiting carrier.old ++ spans_bytes (S.file store.old) (spans_of self.now))) }

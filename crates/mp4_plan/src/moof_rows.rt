@@ -2,11 +2,12 @@
 //! 8.9.2).
 ghost use Rattle.std.specs.Prelude.{◌≡◌, ℕ, ◌+◌, ◌-◌, ◌^◌, ◌<◌, ◌≤◌, List, [], ◌∷◌, ◌++◌, None, flat_map, vec_len, length, IfSome, IfOk, IfErr, OnOk, OnErr};
 ghost use Rattle.mp4_store.specs.words.Device.{AppendsPrefix};
+ghost use Rattle.mp4_tables.specs.format.Groups.{GroupKey as KeySeen};
 ghost use Rattle.mp4_tables.specs.words.Keys.{key_seen, keys_seen};
 ghost use Rattle.mp4_present.specs.words.Carried.{RefusesPut, BytesGoOn, waiting};
 ghost use Rattle.mp4_plan.specs.format.Normal.{own};
 ghost use Rattle.mp4_plan.specs.words.Spelling.{offset_of, run_row, run_rows, group_row, group_rows, runs_left, WritesRuns};
-ghost use Rattle.mp4_plan.specs.words.UsedKeys.{used_seen, is_above, is_below, least_above, used_from, IsKeyAt, AreApart, key_front, group_front, group_bytes, groups_bytes};
+ghost use Rattle.mp4_plan.specs.words.UsedKeys.{used_seen, is_above, is_below, least_above, used_from, IsKeyAt, AreApart, key_front, group_front, group_bytes, groups_bytes, some_groups};
 
 use crate::moof_sizes::{group_size, short};
 use crate::planner::Planned;
@@ -307,6 +308,9 @@ pub(crate) fn carry_groups<K: Sink>(
     ensures bytes { OnOk result (AreApart (keys_seen keys.now)
         → BytesGoOn (K.contents sink.old) (K.contents sink.new) (waiting carrier.old)
         (waiting carrier.new) (groups_bytes rows.now planned.now (keys_seen keys.now))) }
+    ensures some { OnOk result ((groups : List (ℕ × KeySeen)) × (length groups ≤ 4)
+        × BytesGoOn (K.contents sink.old) (K.contents sink.new) (waiting carrier.old)
+        (waiting carrier.new) (some_groups rows.now planned.now groups)) }
     ensures prefix { OnErr result (AreApart (keys_seen keys.now)
         → AppendsPrefix (K.contents sink.old) (K.contents sink.new) (waiting carrier.old
         ++ groups_bytes rows.now planned.now (keys_seen keys.now))) }

@@ -2,9 +2,10 @@
 ghost use Rattle.std.specs.Prelude.{◌≡◌, ◌<◌, false, true, None};
 
 use crate::ends::{End, has_ended};
-use mp4_boxes::Refusal;
+use mp4_boxes::{Refusal, Steps};
 use mp4_present::TrackInfo;
 use mp4_tables::SampleAt;
+use std::sync::ledger::Ledger;
 
 /// What is to come: a piece of a track with an end, or nothing more.
 #[derive(Clone, Copy, Debug, PartialEq, Eq)]
@@ -25,7 +26,7 @@ pub(crate) struct Schedule {
     pub(crate) from: u64,
     pub(crate) next: Option<u64>,
     /// How many samples were not scheduled yet.
-    pub(crate) left: u64,
+    pub(crate) left: u128,
 }
 
 // Whether a turn without samples leads nowhere.
@@ -46,7 +47,7 @@ fn may_pass(is_over: bool, is_first: bool, sample: &Option<SampleAt>) -> bool
 }
 
 impl Schedule {
-    ghost use Rattle.std.specs.Prelude.{◌≡◌, ◌-◌, ◌^◌, ◌<◌, ◌≤◌, min, length, option_map, slice_get, Some, None, IfSome, IfErr, OnOk};
+    ghost use Rattle.std.specs.Prelude.{◌≡◌, ◌+◌, ◌*◌, ◌^◌, ◌<◌, ◌≤◌, length, option_map, slice_get, Some, None, IfSome, MatchOption, IfErr, OnOk};
     ghost use Rattle.std.specs.List.{sum_by};
     ghost use Rattle.mp4_present.specs.declared.track_info.TrackInfo.{TrackInfo};
     ghost use Rattle.mp4_plan.specs.words.Turns.{to_come, track_passed, first_scale, turn_end, turned, Sticks};
@@ -57,13 +58,13 @@ impl Schedule {
     pub(crate) fn new(tracks: &[TrackInfo], from: u64) -> Schedule
         ensures tracks { result.tracks ≡ length tracks.now }
         ensures first { result.first ≡ first_scale tracks.now }
-        ensures left { result.left
-            ≡ min (sum_by (λ (i : TrackInfo). i.samples) tracks.now) (2 ^ 64 - 1) }
+        ensures left { result.left ≡ sum_by (λ (i : TrackInfo). i.samples) tracks.now }
+        ensures few { result.left ≤ 2 ^ 64 * 4294967295 }
         ensures starts { (result.track ≡ 0) × (result.from ≡ from) × (result.next ≡ None) }
     {
-        let mut left: u64 = 0;
+        let mut left: u128 = 0;
         for track in tracks {
-            left = left.saturating_add(u64::from(track.samples));
+            left += u128::from(track.samples);
         }
         let first = match tracks.first() {
             Some(track) => track.timescale,
@@ -79,8 +80,8 @@ impl Schedule {
         }
     }
 
-    /// Whose turn it is.
-    pub(crate) fn turn(&self, tracks: &[TrackInfo]) -> Option<Turn>
+    /// Whose turn it is. Each turn is a look, which is counted.
+    pub(crate) fn turn<M: Ledger>(&self, tracks: &[TrackInfo], looks: &mut Steps<M>) -> Option<Turn>
         requires { self.now.tracks ≡ length tracks.now }
         ensures track { IfSome result (λ t. (t.track ≡ self.now.track)
             × (self.now.track < self.now.tracks)) }
@@ -88,10 +89,13 @@ impl Schedule {
             → slice_get tracks.now self.now.track ≡ Some info
             → t.end ≡ turn_end self.now info.timescale) }
         ensures none { result ≡ None → self.now.tracks ≤ self.now.track }
+        ensures looks { MatchOption result (looks.new ≡ looks.old)
+            (λ t. looks.new ≡ looks.old + 1) }
     {
         if self.track >= self.tracks {
             return None;
         }
+        looks.tick();
         let scale = tracks[self.track].timescale;
         let end = if self.track == 0 {
             End::Sync {
@@ -144,6 +148,7 @@ impl Schedule {
         requires { self.old.track < self.old.tracks }
         ensures tracks { OnOk result (self.new.tracks ≡ self.old.tracks) }
         ensures turned { OnOk result (self.new ≡ turned self.old turn.now.end count sample) }
+        ensures enough { OnOk result (count ≤ self.old.left) }
         ensures less { OnOk result (to_come self.new < to_come self.old) }
         ensures refusal { IfErr result (λ r. (r ≡ refusals.StoreChanged)
             × Sticks self.old turn.now.end count sample) }
@@ -153,10 +158,10 @@ impl Schedule {
             None => true,
         };
         let is_passed = may_pass(is_over, self.track == 0, &sample);
-        if u64::from(count) > self.left || is_stuck(count, is_passed) {
+        if u128::from(count) > self.left || is_stuck(count, is_passed) {
             return Err(Refusal::StoreChanged);
         }
-        self.left -= u64::from(count);
+        self.left -= u128::from(count);
         if is_over {
             self.pass_track(sample);
         }

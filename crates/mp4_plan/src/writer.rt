@@ -1,7 +1,7 @@
 //! The normal form of a presentation, written.
-ghost use Rattle.std.specs.Prelude.{◌≡◌, ℕ, ◌+◌, ◌*◌, ◌-◌, ◌^◌, ◌<◌, ◌≤◌, min, List, ◌++◌, length, map, take, slice_index, slice_get, Some, None, IfOk, IfErr, OnOk, OnErr};
+ghost use Rattle.std.specs.Prelude.{◌≡◌, ℕ, ◌+◌, ◌*◌, ◌-◌, ◌^◌, ◌<◌, ◌≤◌, max, min, List, ◌++◌, length, map, take, slice_index, slice_get, Some, None, true, false, IfOk, IfErr, MatchResult, OnOk, OnErr};
 ghost use Rattle.std.specs.Io.KnownBytes.{Appends};
-ghost use Rattle.std.specs.List.{AllByRecursion};
+ghost use Rattle.std.specs.List.{AllByRecursion, sum_by};
 ghost use Rattle.mp4_boxes.specs.format.Bytes.{sum_of};
 ghost use Rattle.mp4_boxes.specs.declared.refusal.Refusal.TheVariants as refusals;
 ghost use Rattle.mp4_store.specs.words.Device.{AppendsPrefix};
@@ -9,7 +9,7 @@ ghost use Rattle.mp4_head.specs.format.Tree.{TrackTree};
 ghost use Rattle.mp4_tables.specs.words.Keys.{keys_seen};
 ghost use Rattle.mp4_tables.specs.declared.sample.SampleAt.{SampleAt};
 ghost use Rattle.mp4_present.specs.declared.track_info.TrackInfo.{TrackInfo};
-ghost use Rattle.mp4_present.specs.words.Carried.{BytesGoOn, waiting};
+ghost use Rattle.mp4_present.specs.words.Carried.{BytesGoOn, GoOnBy, waiting};
 ghost use Rattle.mp4_present.specs.format.Presentation.{movie_length};
 ghost use Rattle.mp4_present.specs.format.Reduced.{ReducesInTime, reduce};
 ghost use Rattle.mp4_present.specs.declared.leaving.Leaving.{Leaving};
@@ -18,18 +18,26 @@ ghost use Rattle.mp4_plan.specs.words.LeftTimes.{NamesLong, RefusesLeft, Refuses
 ghost use Rattle.mp4_present.specs.format.Denotes.{FileTree, presentation_of};
 ghost use Rattle.mp4_present.specs.words.Joined.{IsBelow, sample_bytes};
 ghost use Rattle.mp4_present.specs.words.OpenedMovie.{IsOpenedAs};
+ghost use Rattle.mp4_present.specs.words.OverStores.{IsUnchanged, OnlyReads, Refused};
 ghost use Rattle.mp4_present.specs.words.WalkSteps.{walks_steps};
 ghost use Rattle.mp4_plan.specs.format.Normal.{normal};
+ghost use Rattle.mp4_plan.specs.format.Pieces.{pieces};
+ghost use Rattle.mp4_plan.specs.words.PutPieces.{PiecesFollow, IsPutWhole};
 ghost use Rattle.mp4_plan.specs.words.WriterSteps.{MayAllTake, AllTakeOn, MayAllBegin, MayAllWrite, AllWriteOn, WriteAllBegin, MayAllFinish, AllFinishOn, writing_steps};
+ghost use Rattle.mp4_plan.specs.words.OverDevices.{AreWalksStill, IsMade, OnlyCopies, OverOpened, TellsLong};
+ghost use Rattle.mp4_plan.specs.words.Turns.{movie_turns};
+ghost use Rattle.mp4_present.specs.words.HandCarried.{RefusedByBoth};
 ghost use Rattle.mp4_plan.specs.words.UsedKeys.{AreApart};
 ghost use Rattle.mp4_present.specs.words.Carried.{RefusesCarry, RefusesCopy};
 ghost use Rattle.mp4_present.specs.declared.walks.Walk.{Walk};
 ghost use Rattle.mp4_plan.specs.words.Gathering.{more_of, piece_from};
 ghost use Rattle.mp4_present.specs.words.Movies.{RefusesLoad, mark_of};
-ghost use Rattle.mp4_plan.specs.words.Writers.{RefusesMemory, RefusesPlan, AreMarked, IsHeadOf, AreWalksOf, IsWriterOf, turn_head, sequence_behind, AllCome, AllBegin, first_dts, head_of_normal, IsReady, bytes_of_piece, turn_bytes, firsts, HasNoted, IsNoted, HaveCopied, IsPlanOf, WhereOpened, planned_length};
+ghost use Rattle.mp4_plan.specs.words.Writers.{RefusesMemory, RefusesPlan, AreMarked, IsHeadOf, AreWalksOf, IsWriterOf, turn_head, sequence_behind, AllCome, AllBegin, first_dts, head_of_normal, IsReady, bytes_of_piece, turn_bytes, firsts, HasNoted, IsNoted, HaveCopied, ArePiecesLong, WhereOpened, longest_piece, planned_length};
 ghost use Rattle.mp4_plan.specs.format.Held.{rooms, held};
+ghost use Rattle.mp4_plan.specs.words.OwnRooms.{own_rooms};
 
 use crate::carrying::{Load, carry_noted};
+use crate::counting::count_turn;
 use crate::courses::{next_marked, note_marked, plan_turn};
 use crate::ends::first_goes;
 use crate::joined::Stretches;
@@ -43,7 +51,7 @@ use crate::rows::{NO_ROW, Row};
 use crate::schedule::{Schedule, Turn};
 use mp4_boxes::{FourCc, Refusal, Steps, header};
 use mp4_head::{MovieHead, head_bytes, head_len};
-use mp4_present::{Carrier, Leaving, Movie, Walk};
+use mp4_present::{Carrier, Leaving, Movie, TrackInfo, Walk};
 use mp4_store::{Sink, Store};
 use mp4_tables::{Keys, SampleAt};
 use std::alloc::Global;
@@ -57,15 +65,6 @@ const MOST_WAITING: usize = 65_000;
 
 /// The most bytes of `ftyp` and `moov`.
 const MOST_HEAD: u128 = (1 << 30) + 24;
-
-// What all pieces of a presentation come to.
-#[derive(Clone, Copy, Debug, PartialEq, Eq)]
-struct Plan {
-    /// The most samples of a piece.
-    longest: u32,
-    /// The bytes of all pieces.
-    len: u64,
-}
 
 // What a turn comes to: what was planned of its samples, and what its piece says once where it has
 // some.
@@ -97,8 +96,10 @@ pub struct Writer {
 // A walk over each track.
 fn walks_of(alloc: Global, movie: &Movie) -> Result<Vec<Walk>, Refusal>
     ensures walks { IfOk result (λ walks. AreWalksOf movie.now walks.items) }
-    ensures rooms { IfOk result (λ walks. rooms walks.items
-        ≡ length movie.now.tracks * movie.now.longest) }
+    ensures rooms { IfOk result (λ walks.
+        rooms walks.items ≡ own_rooms movie.now (length movie.now.tracks)) }
+    ensures within { IfOk result (λ walks.
+        rooms walks.items ≤ length movie.now.tracks * movie.now.longest) }
     ensures begin { IfOk result (λ walks. (file : List ℕ) (tree : FileTree)
         → IsOpenedAs file movie.now tree
         → (leaving : Leaving) → AllBegin leaving file tree movie.now walks.items) }
@@ -130,37 +131,28 @@ fn peek_each<S: Store, L: Ledger>(
 ) -> Result<(), Refusal>
     requires walks { AreWalksOf movie.now walks.old }
     requires nexts { length nexts.old ≡ length walks.old }
-    ensures walks { OnOk result (AreWalksOf movie.now walks.new) }
-    ensures rooms { rooms walks.new ≡ rooms walks.old }
-    ensures honesty { S.is_honest store.new ≡ S.is_honest store.old }
-    ensures file { S.file store.new ≡ S.file store.old }
-    ensures shown { WhereOpened (S.is_honest store.old) (S.file store.old) movie.now
-        (λ tree. (lefts : List (List SampleAt))
-        → AllCome leaving (S.file store.old) tree movie.now tree.movie.tracks walks.old lefts
+    ensures walks { AreWalksStill movie.now walks.old walks.new result }
+    ensures store { OnlyReads S.Store store.old store.new result }
+    ensures shown { OverOpened S.Store store.old movie.now
+        (λ file tree. (lefts : List (List SampleAt))
+        → AllCome leaving file tree movie.now tree.movie.tracks walks.old lefts
         → OnOk result ((nexts.new ≡ firsts lefts)
-        × AllCome leaving (S.file store.old) tree movie.now tree.movie.tracks walks.new lefts)) }
+        × AllCome leaving file tree movie.now tree.movie.tracks walks.new lefts)) }
     ensures marked { (lefts : List (List SampleAt)) → AreMarked walks.old lefts
         → OnOk result (AreMarked walks.new lefts) }
-    ensures unchanged { WhereOpened (S.is_honest store.old) (S.file store.old) movie.now
-        (λ tree. (lefts : List (List SampleAt))
-        → AllCome leaving (S.file store.old) tree movie.now tree.movie.tracks walks.old lefts
-        → IfErr result (λ r. r ≡ refusals.StoreChanged → ⊥)) }
-    ensures reads { OnOk result (S.read_failures store.new ≡ S.read_failures store.old) }
-    ensures refusal { IfErr result
-        (RefusesLoad (S.read_failures store.old) (S.read_failures store.new)) }
-    ensures work { WhereOpened (S.is_honest store.old) (S.file store.old) movie.now (λ tree. (n : ℕ)
-        → MayAllTake (S.file store.old) tree tree.movie.tracks walks.old n
-        → OnOk result (AllTakeOn (S.file store.old) tree n walks.new steps.old steps.new)) }
-    ensures most { WhereOpened (S.is_honest store.old) (S.file store.old) movie.now (λ tree. (n : ℕ)
-        → MayAllTake (S.file store.old) tree tree.movie.tracks walks.old n
-        → OnErr result (steps.new ≤ steps.old + n)) }
-    ensures writes { WhereOpened (S.is_honest store.old) (S.file store.old) movie.now
-        (λ tree. (n : ℕ) → MayAllWrite (S.file store.old) tree movie.now walks.old n
-        → OnOk result (AllWriteOn (S.file store.old) tree movie.now n walks.new steps.old
-        steps.new)) }
-    ensures writes_most { WhereOpened (S.is_honest store.old) (S.file store.old) movie.now
-        (λ tree. (n : ℕ) → MayAllWrite (S.file store.old) tree movie.now walks.old n
-        → OnErr result (steps.new ≤ steps.old + n)) }
+    ensures unchanged { OverOpened S.Store store.old movie.now
+        (λ file tree. (lefts : List (List SampleAt))
+        → AllCome leaving file tree movie.now tree.movie.tracks walks.old lefts
+        → IsUnchanged result) }
+    ensures refusal { Refused S.Store store.old store.new result RefusesLoad }
+    ensures work { OverOpened S.Store store.old movie.now
+        (λ file tree. (n : ℕ) → MayAllTake file tree tree.movie.tracks walks.old n
+        → MatchResult result (λ _. AllTakeOn file tree n walks.new steps.old steps.new)
+        (λ _. steps.new ≤ steps.old + n)) }
+    ensures writes { OverOpened S.Store store.old movie.now
+        (λ file tree. (n : ℕ) → MayAllWrite file tree movie.now walks.old n
+        → MatchResult result (λ _. AllWriteOn file tree movie.now n walks.new steps.old steps.new)
+        (λ _. steps.new ≤ steps.old + n)) }
 {
     for k in 0..walks.len() {
         nexts[k] = next_marked(&mut walks[k], leaving, movie, store, steps)?;
@@ -178,6 +170,27 @@ fn first_time(nexts: &[Option<SampleAt>]) -> u64
     }
 }
 
+// The bytes of the samples of all tracks, as many as opening counted.
+fn bytes_of(tracks: &[TrackInfo]) -> u128
+    ensures { result ≡ sum_by (λ (i : TrackInfo). i.bytes) tracks.now }
+{
+    let mut bytes: u128 = 0;
+    for track in tracks {
+        bytes += u128::from(track.bytes);
+    }
+    bytes
+}
+
+// Whether no sample is left to come, and so many bytes are those of all samples of all tracks.
+fn are_all(left: u128, bytes: u128, tracks: &[TrackInfo]) -> bool
+    ensures all { result ≡ true
+        → (left ≡ 0) × (bytes ≡ sum_by (λ (i : TrackInfo). i.bytes) tracks.now) }
+    ensures missing { result ≡ false
+        → ((left ≡ 0) × (bytes ≡ sum_by (λ (i : TrackInfo). i.bytes) tracks.now) → ⊥) }
+{
+    left == 0 && bytes == bytes_of(tracks)
+}
+
 // The bytes of a piece, as far as 64 bits go: its `moof`, and its `mdat`.
 fn piece_len(planned: &Planned, keys: &Keys) -> u64
     ensures { result ≡ min (planned_length planned.now (keys_seen keys.now)) (2 ^ 64 - 1) }
@@ -186,45 +199,45 @@ fn piece_len(planned: &Planned, keys: &Keys) -> u64
     (sizes_of(planned, keys).moof + header).saturating_add(planned.bytes)
 }
 
-impl Plan {
-    ghost use Rattle.std.specs.Prelude.{max};
-
-    // The plan with one more piece.
-    fn add(&mut self, planned: &Planned, keys: &Keys)
-        ensures longest { self.new.longest ≡ max self.old.longest planned.now.count }
-        ensures none { planned.now.count ≡ 0 → self.new.len ≡ self.old.len }
-        ensures some { 0 < planned.now.count
-            → self.new.len ≡ min (self.old.len + planned_length planned.now (keys_seen keys.now))
-            (2 ^ 64 - 1) }
-    {
-        if planned.count > 0 {
-            self.longest = self.longest.max(planned.count);
-            self.len = self.len.saturating_add(piece_len(planned, keys));
-        }
+// The length of some pieces and of one more, where it has samples, as far as 64 bits go.
+fn len_with(len: u64, planned: &Planned, keys: &Keys) -> u64
+    ensures none { planned.now.count ≡ 0 → result ≡ len }
+    ensures some { 0 < planned.now.count
+        → result ≡ min (len + planned_length planned.now (keys_seen keys.now)) (2 ^ 64 - 1) }
+{
+    if planned.count == 0 {
+        return len;
     }
+    len.saturating_add(piece_len(planned, keys))
 }
 
-// Plans all pieces of what is left of a movie.
-fn plan_all<S: Store, L: Ledger>(
+// The greater one of two numbers of samples.
+fn longer(one: u32, other: u32) -> u32
+    ensures { result ≡ max one other }
+{
+    one.max(other)
+}
+
+// The most samples of a piece of what is left of a movie.
+fn longest_piece<S: Store, L: Ledger, M: Ledger>(
     alloc: Global,
     movie: &Movie,
     store: &mut S,
     leaving: Leaving,
     steps: &mut Steps<L>,
-) -> Result<Plan, Refusal>
-    ensures honesty { S.is_honest store.new ≡ S.is_honest store.old }
-    ensures file { S.file store.new ≡ S.file store.old }
-    ensures few { IfOk result (λ plan. plan.longest ≤ 2 ^ 24) }
-    ensures plan { WhereOpened (S.is_honest store.old) (S.file store.old) movie.now
-        (λ tree. IfOk result
-        (IsPlanOf (reduce leaving (presentation_of (S.file store.old) tree)))) }
+    looks: &mut Steps<M>,
+) -> Result<u32, Refusal>
+    ensures store { OnlyReads S.Store store.old store.new result }
+    ensures few { IfOk result (λ longest. longest ≤ 2 ^ 24) }
+    ensures longest { WhereOpened (S.is_honest store.old) (S.file store.old) movie.now
+        (λ tree. IfOk result (λ longest. longest
+        ≡ longest_piece (pieces (reduce leaving (presentation_of (S.file store.old) tree))))) }
     ensures unchanged { WhereOpened (S.is_honest store.old) (S.file store.old) movie.now
-        (λ tree. IfErr result (λ r. r ≡ refusals.StoreChanged → ⊥)) }
-    ensures reads { OnOk result (S.read_failures store.new ≡ S.read_failures store.old) }
-    ensures refusal { IfErr result
-        (RefusesPlan (S.read_failures store.old) (S.read_failures store.new)) }
+        (λ tree. IsUnchanged result) }
+    ensures refusal { Refused S.Store store.old store.new result RefusesPlan }
     ensures work { WhereOpened (S.is_honest store.old) (S.file store.old) movie.now
         (λ tree. steps.new ≤ steps.old + walks_steps tree) }
+    ensures turns { looks.new ≤ looks.old + movie_turns movie.now }
 {
     let tracks = movie.tracks();
     let mut walks = walks_of(alloc, movie)?;
@@ -238,16 +251,60 @@ fn plan_all<S: Store, L: Ledger>(
         steps,
     )?;
     let mut schedule = Schedule::new(tracks, first_time(nexts.as_slice()));
-    let mut plan = Plan { longest: 0, len: 0 };
-    while let Some(turn) = schedule.turn(tracks) {
+    let mut longest = 0;
+    while let Some(turn) = schedule.turn(tracks, looks) {
+        let walk = &mut walks[turn.track];
+        let next = &mut nexts[turn.track];
+        let count = count_turn(walk, leaving, next, &turn.end, movie, store, steps)?;
+        let sample = *next;
+        longest = longer(longest, count);
+        schedule.pass(&turn, count, sample)?;
+    }
+    Ok(longest)
+}
+
+// The bytes of all pieces of what is left of a movie.
+fn pieces_len<S: Store, L: Ledger, M: Ledger>(
+    alloc: Global,
+    movie: &Movie,
+    store: &mut S,
+    leaving: Leaving,
+    steps: &mut Steps<L>,
+    looks: &mut Steps<M>,
+) -> Result<u64, Refusal>
+    ensures store { OnlyReads S.Store store.old store.new result }
+    ensures length { WhereOpened (S.is_honest store.old) (S.file store.old) movie.now
+        (λ tree. IfOk result
+        (ArePiecesLong (reduce leaving (presentation_of (S.file store.old) tree)))) }
+    ensures unchanged { WhereOpened (S.is_honest store.old) (S.file store.old) movie.now
+        (λ tree. IsUnchanged result) }
+    ensures refusal { Refused S.Store store.old store.new result RefusesPlan }
+    ensures work { WhereOpened (S.is_honest store.old) (S.file store.old) movie.now
+        (λ tree. steps.new ≤ steps.old + walks_steps tree) }
+    ensures turns { looks.new ≤ looks.old + movie_turns movie.now }
+{
+    let tracks = movie.tracks();
+    let mut walks = walks_of(alloc, movie)?;
+    let mut nexts = vec![in alloc; None; tracks.len()]?;
+    peek_each(
+        walks.as_mut_slice(),
+        nexts.as_mut_slice(),
+        leaving,
+        movie,
+        store,
+        steps,
+    )?;
+    let mut schedule = Schedule::new(tracks, first_time(nexts.as_slice()));
+    let mut len = 0;
+    while let Some(turn) = schedule.turn(tracks, looks) {
         let walk = &mut walks[turn.track];
         let next = &mut nexts[turn.track];
         let planned = plan_turn(walk, leaving, next, turn.end, movie, store, steps)?;
         let sample = *next;
-        plan.add(&planned, &tracks[turn.track].keys);
+        len = len_with(len, &planned, &tracks[turn.track].keys);
         schedule.pass(&turn, planned.count, sample)?;
     }
-    Ok(plan)
+    Ok(len)
 }
 
 // The head of what is left of a movie.
@@ -285,60 +342,51 @@ fn head_of(alloc: Global, movie: &Movie, leaving: Leaving, mehd: u64) -> Result<
 
 /// The length of the normal form of what is left of a movie; a fault where a track is too long
 /// without its edits.
-pub fn reduced_len<S: Store, L: Ledger>(
+pub fn reduced_len<S: Store, L: Ledger, M: Ledger>(
     alloc: Global,
     movie: &Movie,
     store: &mut S,
     leaving: Leaving,
     steps: &mut Steps<L>,
+    looks: &mut Steps<M>,
 ) -> Result<u64, Refusal>
-    ensures honesty { S.is_honest store.new ≡ S.is_honest store.old }
-    ensures file { S.file store.new ≡ S.file store.old }
-    ensures length { WhereOpened (S.is_honest store.old) (S.file store.old) movie.now
-        (λ tree. IfOk result (λ len. len
-        ≡ length (normal (reduce leaving (presentation_of (S.file store.old) tree))))) }
-    ensures in_time { WhereOpened (S.is_honest store.old) (S.file store.old) movie.now
-        (λ tree. OnOk result (ReducesInTime leaving (presentation_of (S.file store.old) tree))) }
-    ensures fault { WhereOpened (S.is_honest store.old) (S.file store.old) movie.now
-        (λ tree. IfErr result (NamesLong leaving (S.file store.old) tree)) }
-    ensures unchanged { WhereOpened (S.is_honest store.old) (S.file store.old) movie.now
-        (λ tree. IfErr result (λ r. r ≡ refusals.StoreChanged → ⊥)) }
-    ensures reads { OnOk result (S.read_failures store.new ≡ S.read_failures store.old) }
-    ensures refusal { IfErr result
-        (RefusesLeft leaving (S.read_failures store.old) (S.read_failures store.new)) }
-    ensures work { WhereOpened (S.is_honest store.old) (S.file store.old) movie.now
-        (λ tree. steps.new ≤ steps.old + walks_steps tree) }
+    ensures store { OnlyReads S.Store store.old store.new result }
+    ensures length { OverOpened S.Store store.old movie.now (λ file tree.
+        IfOk result (λ len. len ≡ length (normal (reduce leaving (presentation_of file tree))))) }
+    ensures in_time { OverOpened S.Store store.old movie.now
+        (λ file tree. OnOk result (ReducesInTime leaving (presentation_of file tree))) }
+    ensures fault { OverOpened S.Store store.old movie.now
+        (λ file tree. IfErr result (NamesLong leaving file tree)) }
+    ensures unchanged { OverOpened S.Store store.old movie.now (λ file tree. IsUnchanged result) }
+    ensures refusal { Refused S.Store store.old store.new result (RefusesLeft leaving) }
+    ensures work { OverOpened S.Store store.old movie.now
+        (λ file tree. steps.new ≤ steps.old + walks_steps tree) }
+    ensures turns { looks.new ≤ looks.old + movie_turns movie.now }
 {
     length_left(alloc, movie, leaving)?;
-    let plan = plan_all(alloc, movie, store, leaving, steps)?;
+    let len = pieces_len(alloc, movie, store, leaving, steps, looks)?;
     let head = head_left(alloc, movie, leaving)?;
-    Ok(
-        plan.len
-            .saturating_add(head_len(&head).min(MOST_HEAD) as u64),
-    )
+    Ok(len.saturating_add(head_len(&head).min(MOST_HEAD) as u64))
 }
 
 /// The length of the normal form of a movie.
-pub fn normal_len<S: Store, L: Ledger>(
+pub fn normal_len<S: Store, L: Ledger, M: Ledger>(
     alloc: Global,
     movie: &Movie,
     store: &mut S,
     steps: &mut Steps<L>,
+    looks: &mut Steps<M>,
 ) -> Result<u64, Refusal>
-    ensures honesty { S.is_honest store.new ≡ S.is_honest store.old }
-    ensures file { S.file store.new ≡ S.file store.old }
-    ensures length { WhereOpened (S.is_honest store.old) (S.file store.old) movie.now
-        (λ tree. IfOk result (λ len. len
-        ≡ length (normal (presentation_of (S.file store.old) tree)))) }
-    ensures unchanged { WhereOpened (S.is_honest store.old) (S.file store.old) movie.now
-        (λ tree. IfErr result (λ r. r ≡ refusals.StoreChanged → ⊥)) }
-    ensures reads { OnOk result (S.read_failures store.new ≡ S.read_failures store.old) }
-    ensures refusal { IfErr result
-        (RefusesPlan (S.read_failures store.old) (S.read_failures store.new)) }
-    ensures work { WhereOpened (S.is_honest store.old) (S.file store.old) movie.now
-        (λ tree. steps.new ≤ steps.old + walks_steps tree) }
+    ensures store { OnlyReads S.Store store.old store.new result }
+    ensures length { OverOpened S.Store store.old movie.now (λ file tree.
+        IfOk result (λ len. len ≡ length (normal (presentation_of file tree)))) }
+    ensures unchanged { OverOpened S.Store store.old movie.now (λ file tree. IsUnchanged result) }
+    ensures refusal { Refused S.Store store.old store.new result RefusesPlan }
+    ensures work { OverOpened S.Store store.old movie.now
+        (λ file tree. steps.new ≤ steps.old + walks_steps tree) }
+    ensures turns { looks.new ≤ looks.old + movie_turns movie.now }
 {
-    reduced_len(alloc, movie, store, Leaving::NOTHING, steps)
+    reduced_len(alloc, movie, store, Leaving::NOTHING, steps, looks)
 }
 
 // What a piece of so many samples says once, of which the first is this one; nothing where it has
@@ -371,48 +419,38 @@ fn sequence_behind(sequence: u32, head: &Option<PieceHead>) -> u32
 impl Writer {
     /// Plans all of what is left of a movie, and then takes all memory that writing it needs. A
     /// track that is too long without its edits is a fault.
-    pub fn reduced<S: Store, L: Ledger>(
+    pub fn reduced<S: Store, L: Ledger, M: Ledger>(
         alloc: Global,
         movie: &Movie,
         store: &mut S,
         leaving: Leaving,
         steps: &mut Steps<L>,
+        looks: &mut Steps<M>,
     ) -> Result<Writer, Refusal>
-        ensures writer { IfOk result (IsWriterOf movie.now) }
-        ensures held { IfOk result (λ w. held w ≡ length w.head.items
-            + length movie.now.tracks * movie.now.longest + 24 * length w.rows.items
-            + PIECE) }
-        ensures bound { IfOk result (λ w. held w ≤ length (waiting w.carrier ++ w.head.items)
-            + length movie.now.tracks * movie.now.longest + 24 * length w.rows.items
-            + MOST_WAITING) }
-        ensures honesty { S.is_honest store.new ≡ S.is_honest store.old }
-        ensures file { S.file store.new ≡ S.file store.old }
-        ensures ready { WhereOpened (S.is_honest store.old) (S.file store.old) movie.now
-            (λ tree. IfOk result (IsReady (S.file store.old) tree movie.now)) }
-        ensures unchanged { WhereOpened (S.is_honest store.old) (S.file store.old) movie.now
-            (λ tree. IfErr result (λ r. r ≡ refusals.StoreChanged → ⊥)) }
-        ensures in_time { WhereOpened (S.is_honest store.old) (S.file store.old) movie.now
-            (λ tree. OnOk result
-            (ReducesInTime leaving (presentation_of (S.file store.old) tree))) }
-        ensures fault { WhereOpened (S.is_honest store.old) (S.file store.old) movie.now
-            (λ tree. IfErr result (NamesLong leaving (S.file store.old) tree)) }
-        ensures left { IfOk result (λ w. w.leaving ≡ leaving) }
-        ensures reads { OnOk result (S.read_failures store.new ≡ S.read_failures store.old) }
-        ensures refusal { IfErr result
-            (RefusesLeft leaving (S.read_failures store.old) (S.read_failures store.new)) }
-        ensures work { WhereOpened (S.is_honest store.old) (S.file store.old) movie.now
-            (λ tree. steps.new ≤ steps.old + walks_steps tree) }
-        ensures may { WhereOpened (S.is_honest store.old) (S.file store.old) movie.now
-            (λ tree. IfOk result
-            (λ w. WriteAllBegin (S.file store.old) tree movie.now w.walks.items)) }
+        ensures made { IfOk result (IsMade movie.now leaving) }
+        ensures store { OnlyReads S.Store store.old store.new result }
+        ensures ready { OverOpened S.Store store.old movie.now
+            (λ file tree. IfOk result (IsReady file tree movie.now)) }
+        ensures unchanged { OverOpened S.Store store.old movie.now
+            (λ file tree. IsUnchanged result) }
+        ensures in_time { OverOpened S.Store store.old movie.now
+            (λ file tree. OnOk result (ReducesInTime leaving (presentation_of file tree))) }
+        ensures fault { OverOpened S.Store store.old movie.now
+            (λ file tree. IfErr result (NamesLong leaving file tree)) }
+        ensures refusal { Refused S.Store store.old store.new result (RefusesLeft leaving) }
+        ensures work { OverOpened S.Store store.old movie.now
+            (λ file tree. steps.new ≤ steps.old + walks_steps tree) }
+        ensures may { OverOpened S.Store store.old movie.now (λ file tree.
+            IfOk result (λ w. WriteAllBegin file tree movie.now w.walks.items)) }
+        ensures turns { looks.new ≤ looks.old + movie_turns movie.now }
     {
         let mehd = length_left(alloc, movie, leaving)?;
-        let plan = plan_all(alloc, movie, store, leaving, steps)?;
+        let longest = longest_piece(alloc, movie, store, leaving, steps, looks)?;
         Ok(Writer {
             leaving,
             carrier: Carrier::new(alloc, PIECE)?,
             head: head_of(alloc, movie, leaving, mehd)?,
-            rows: vec![in alloc; NO_ROW; plan.longest as usize]?,
+            rows: vec![in alloc; NO_ROW; longest as usize]?,
             stretches: Stretches::new(),
             walks: walks_of(alloc, movie)?,
             nexts: vec![in alloc; None; movie.tracks().len()]?,
@@ -420,36 +458,27 @@ impl Writer {
     }
 
     /// Plans the whole movie, and then takes all memory that writing it needs.
-    pub fn new<S: Store, L: Ledger>(
+    pub fn new<S: Store, L: Ledger, M: Ledger>(
         alloc: Global,
         movie: &Movie,
         store: &mut S,
         steps: &mut Steps<L>,
+        looks: &mut Steps<M>,
     ) -> Result<Writer, Refusal>
-        ensures writer { IfOk result (IsWriterOf movie.now) }
-        ensures held { IfOk result (λ w. held w ≡ length w.head.items
-            + length movie.now.tracks * movie.now.longest + 24 * length w.rows.items
-            + PIECE) }
-        ensures bound { IfOk result (λ w. held w ≤ length (waiting w.carrier ++ w.head.items)
-            + length movie.now.tracks * movie.now.longest + 24 * length w.rows.items
-            + MOST_WAITING) }
-        ensures honesty { S.is_honest store.new ≡ S.is_honest store.old }
-        ensures file { S.file store.new ≡ S.file store.old }
-        ensures ready { WhereOpened (S.is_honest store.old) (S.file store.old) movie.now
-            (λ tree. IfOk result (IsReady (S.file store.old) tree movie.now)) }
-        ensures unchanged { WhereOpened (S.is_honest store.old) (S.file store.old) movie.now
-            (λ tree. IfErr result (λ r. r ≡ refusals.StoreChanged → ⊥)) }
-        ensures whole { IfOk result (λ w. w.leaving ≡ Leaving.NOTHING) }
-        ensures reads { OnOk result (S.read_failures store.new ≡ S.read_failures store.old) }
-        ensures refusal { IfErr result
-            (RefusesPlan (S.read_failures store.old) (S.read_failures store.new)) }
-        ensures work { WhereOpened (S.is_honest store.old) (S.file store.old) movie.now
-            (λ tree. steps.new ≤ steps.old + walks_steps tree) }
-        ensures may { WhereOpened (S.is_honest store.old) (S.file store.old) movie.now
-            (λ tree. IfOk result
-            (λ w. WriteAllBegin (S.file store.old) tree movie.now w.walks.items)) }
+        ensures made { IfOk result (IsMade movie.now Leaving.NOTHING) }
+        ensures store { OnlyReads S.Store store.old store.new result }
+        ensures ready { OverOpened S.Store store.old movie.now
+            (λ file tree. IfOk result (IsReady file tree movie.now)) }
+        ensures unchanged { OverOpened S.Store store.old movie.now
+            (λ file tree. IsUnchanged result) }
+        ensures refusal { Refused S.Store store.old store.new result RefusesPlan }
+        ensures work { OverOpened S.Store store.old movie.now
+            (λ file tree. steps.new ≤ steps.old + walks_steps tree) }
+        ensures may { OverOpened S.Store store.old movie.now (λ file tree.
+            IfOk result (λ w. WriteAllBegin file tree movie.now w.walks.items)) }
+        ensures turns { looks.new ≤ looks.old + movie_turns movie.now }
     {
-        Writer::reduced(alloc, movie, store, Leaving::NOTHING, steps)
+        Writer::reduced(alloc, movie, store, Leaving::NOTHING, steps, looks)
     }
 
     // Plans the piece of a turn, and notes its samples. The next piece has this sequence number,
@@ -493,6 +522,7 @@ impl Writer {
             × (n.planned.bytes + 16 < 2 ^ 64)
             × ((j : ℕ) → slice_index n.planned.group_rows j ≤ n.planned.count)
             × (n.head ≡ None → n.planned.count ≡ 0)) }
+        ensures sizes { IfOk result (λ n. n.planned.bytes ≤ n.planned.count * 4294967295) }
         ensures reads { OnOk result (S.read_failures store.new ≡ S.read_failures store.old) }
         ensures refusal { IfErr result
             (RefusesLoad (S.read_failures store.old) (S.read_failures store.new)) }
@@ -547,6 +577,8 @@ impl Writer {
             (BytesGoOn (K.contents sink.old) (K.contents sink.new) (waiting self.old.carrier)
             (waiting self.new.carrier)
             (sample_bytes (S.file store.old) (take planned.now.count samples)))) }
+        ensures many { OnOk result (GoOnBy (K.contents sink.old) (K.contents sink.new)
+            (waiting self.old.carrier) (waiting self.new.carrier) planned.now.bytes) }
         ensures prefix { WhereOpened (S.is_honest store.old) (S.file store.old) movie.now
             (λ tree. (samples : List SampleAt) → IsNoted (S.file store.old) tree movie.now track
             planned.now.count samples self.old
@@ -630,6 +662,9 @@ impl Writer {
             (waiting self.new.carrier)
             (bytes_of_piece (S.file store.old) head planned.now (keys_seen info.keys)
             (take planned.now.count samples)))) }
+        ensures many { OnOk result (PiecesFollow (K.contents sink.old) (K.contents sink.new)
+            (waiting self.old.carrier) (waiting self.new.carrier) 0 planned.now.count
+            planned.now.bytes) }
         ensures prefix { WhereOpened (S.is_honest store.old) (S.file store.old) movie.now
             (λ tree. (samples : List SampleAt) → IsNoted (S.file store.old) tree movie.now track
             planned.now.count samples self.old
@@ -697,6 +732,7 @@ impl Writer {
         requires bytes { planned.now.bytes + 16 < 2 ^ 64 }
         requires rows { (j : ℕ) → slice_index planned.now.group_rows j ≤ planned.now.count }
         requires none { head ≡ None → planned.now.count ≡ 0 }
+        requires sizes { planned.now.bytes ≤ planned.now.count * 4294967295 }
         ensures writer { OnOk result (IsWriterOf movie.now self.new) }
         ensures held { held self.new ≡ held self.old }
         ensures honesty { S.is_honest store.new ≡ S.is_honest store.old }
@@ -711,6 +747,9 @@ impl Writer {
             (waiting self.new.carrier)
             (turn_bytes (S.file store.old) head planned.now (keys_seen info.keys)
             (take planned.now.count samples)))) }
+        ensures many { OnOk result (PiecesFollow (K.contents sink.old) (K.contents sink.new)
+            (waiting self.old.carrier) (waiting self.new.carrier) 0 planned.now.count
+            planned.now.bytes) }
         ensures prefix { WhereOpened (S.is_honest store.old) (S.file store.old) movie.now
             (λ tree. (samples : List SampleAt) → IsNoted (S.file store.old) tree movie.now track
             planned.now.count samples self.old
@@ -756,40 +795,37 @@ impl Writer {
     }
 
     /// Puts the normal form of what is left of the movie. It takes no memory; after an answer that
-    /// isn't Ok it is
-    /// of no more use.
-    pub fn write<S: Store, K: Sink, L: Ledger>(
+    /// isn't Ok it is of no more use. Where the samples aren't as many any more as when the movie
+    /// was opened, or have fewer or more bytes, the answer is StoreChanged.
+    pub fn write<S: Store, K: Sink, L: Ledger, M: Ledger>(
         &mut self,
         movie: &Movie,
         store: &mut S,
         sink: &mut K,
         steps: &mut Steps<L>,
+        looks: &mut Steps<M>,
     ) -> Result<(), Refusal>
         requires { IsWriterOf movie.now self.old }
         ensures held { held self.new ≡ held self.old }
-        ensures honesty { S.is_honest store.new ≡ S.is_honest store.old }
-        ensures file { S.file store.new ≡ S.file store.old }
-        ensures bytes { WhereOpened (S.is_honest store.old) (S.file store.old) movie.now
-            (λ tree. IsReady (S.file store.old) tree movie.now self.old
-            → OnOk result
-            (Appends (K.contents sink.old) (K.contents sink.new)
-            (normal (reduce self.old.leaving (presentation_of (S.file store.old) tree))))) }
-        ensures prefix { WhereOpened (S.is_honest store.old) (S.file store.old) movie.now
-            (λ tree. IsReady (S.file store.old) tree movie.now self.old
-            → OnErr result
-            (AppendsPrefix (K.contents sink.old) (K.contents sink.new)
-            (normal (reduce self.old.leaving (presentation_of (S.file store.old) tree))))) }
-        ensures unchanged { WhereOpened (S.is_honest store.old) (S.file store.old) movie.now
-            (λ tree. IsReady (S.file store.old) tree movie.now self.old
-            → IfErr result (λ r. r ≡ refusals.StoreChanged → ⊥)) }
-        ensures reads { OnOk result (S.read_failures store.new ≡ S.read_failures store.old) }
-        ensures puts { OnOk result (K.put_failures sink.new ≡ K.put_failures sink.old) }
-        ensures refusal { IfErr result
-            (RefusesCarry (S.read_failures store.old) (S.read_failures store.new)
-            (K.put_failures sink.old) (K.put_failures sink.new)) }
-        ensures work { WhereOpened (S.is_honest store.old) (S.file store.old) movie.now
-            (λ tree. (n : ℕ) → MayAllWrite (S.file store.old) tree movie.now self.old.walks.items n
+        ensures devices { OnlyCopies S.Store store.old store.new K.Sink sink.old sink.new result }
+        ensures bytes { OverOpened S.Store store.old movie.now (λ file tree.
+            IsReady file tree movie.now self.old
+            → OnOk result (Appends (K.contents sink.old) (K.contents sink.new)
+            (normal (reduce self.old.leaving (presentation_of file tree))))) }
+        ensures prefix { OverOpened S.Store store.old movie.now (λ file tree.
+            IsReady file tree movie.now self.old
+            → OnErr result (AppendsPrefix (K.contents sink.old) (K.contents sink.new)
+            (normal (reduce self.old.leaving (presentation_of file tree))))) }
+        ensures unchanged { OverOpened S.Store store.old movie.now (λ file tree.
+            IsReady file tree movie.now self.old → IsUnchanged result) }
+        ensures whole { OnOk result (IsPutWhole movie.now (K.contents sink.old)
+            (K.contents sink.new) (waiting self.old.carrier ++ self.old.head.items)) }
+        ensures refusal { RefusedByBoth S.Store store.old store.new K.Sink sink.old sink.new result
+            RefusesCarry }
+        ensures work { OverOpened S.Store store.old movie.now (λ file tree. (n : ℕ)
+            → MayAllWrite file tree movie.now self.old.walks.items n
             → steps.new ≤ steps.old + n) }
+        ensures turns { looks.new ≤ looks.old + movie_turns movie.now }
     {
         let tracks = movie.tracks();
         let leaving = self.leaving;
@@ -799,13 +835,18 @@ impl Writer {
         peek_each(walks, nexts, leaving, movie, store, steps)?;
         let mut schedule = Schedule::new(tracks, first_time(self.nexts.as_slice()));
         let mut sequence: u32 = 1;
-        while let Some(turn) = schedule.turn(tracks) {
+        let mut bytes: u128 = 0;
+        while let Some(turn) = schedule.turn(tracks, looks) {
             let track = turn.track;
             let noted = self.note_turn(&turn, sequence, tracks[track].id, movie, store, steps)?;
             sequence = sequence_behind(sequence, &noted.head);
             let planned = &noted.planned;
             self.carry_turn(track, noted.head, planned, movie, store, sink, steps)?;
             schedule.pass(&turn, planned.count, self.nexts[track])?;
+            bytes += u128::from(planned.bytes);
+        }
+        if !are_all(schedule.left, bytes, tracks) {
+            return Err(Refusal::StoreChanged);
         }
         self.carrier.flush(sink)
     }
@@ -814,74 +855,62 @@ impl Writer {
 /// Puts the normal form of what is left of a movie: it is planned, all memory that writing it needs
 /// is taken, and then it is written. Want of memory, and the fault of a track that is too long
 /// without its edits, come before the first byte.
-pub fn write_reduced<S: Store, K: Sink, L: Ledger>(
+pub fn write_reduced<S: Store, K: Sink, L: Ledger, M: Ledger>(
     alloc: Global,
     movie: &Movie,
     store: &mut S,
     sink: &mut K,
     leaving: Leaving,
     steps: &mut Steps<L>,
+    looks: &mut Steps<M>,
 ) -> Result<(), Refusal>
-    ensures honesty { S.is_honest store.new ≡ S.is_honest store.old }
-    ensures file { S.file store.new ≡ S.file store.old }
-    ensures bytes { WhereOpened (S.is_honest store.old) (S.file store.old) movie.now
-        (λ tree. OnOk result
-        (Appends (K.contents sink.old) (K.contents sink.new)
-        (normal (reduce leaving (presentation_of (S.file store.old) tree))))) }
-    ensures prefix { WhereOpened (S.is_honest store.old) (S.file store.old) movie.now
-        (λ tree. OnErr result
-        (AppendsPrefix (K.contents sink.old) (K.contents sink.new)
-        (normal (reduce leaving (presentation_of (S.file store.old) tree))))) }
-    ensures in_time { WhereOpened (S.is_honest store.old) (S.file store.old) movie.now
-        (λ tree. OnOk result (ReducesInTime leaving (presentation_of (S.file store.old) tree))) }
-    ensures fault { WhereOpened (S.is_honest store.old) (S.file store.old) movie.now
-        (λ tree. IfErr result (NamesLong leaving (S.file store.old) tree)) }
-    ensures nothing { WhereOpened (S.is_honest store.old) (S.file store.old) movie.now
-        (λ tree. (ReducesInTime leaving (presentation_of (S.file store.old) tree) → ⊥)
-        → K.contents sink.new ≡ K.contents sink.old) }
-    ensures unchanged { WhereOpened (S.is_honest store.old) (S.file store.old) movie.now
-        (λ tree. IfErr result (λ r. r ≡ refusals.StoreChanged → ⊥)) }
-    ensures work { WhereOpened (S.is_honest store.old) (S.file store.old) movie.now
-        (λ tree. steps.new ≤ steps.old + (walks_steps tree + writing_steps tree)) }
-    ensures reads { OnOk result (S.read_failures store.new ≡ S.read_failures store.old) }
-    ensures puts { OnOk result (K.put_failures sink.new ≡ K.put_failures sink.old) }
-    ensures refusal { IfErr result
-        (RefusesLeftCopy leaving (K.contents sink.old) (K.contents sink.new)
-        (S.read_failures store.old) (S.read_failures store.new)
-        (K.put_failures sink.old) (K.put_failures sink.new)) }
+    ensures devices { OnlyCopies S.Store store.old store.new K.Sink sink.old sink.new result }
+    ensures bytes { OverOpened S.Store store.old movie.now (λ file tree.
+        OnOk result (Appends (K.contents sink.old) (K.contents sink.new)
+        (normal (reduce leaving (presentation_of file tree))))) }
+    ensures prefix { OverOpened S.Store store.old movie.now (λ file tree.
+        OnErr result (AppendsPrefix (K.contents sink.old) (K.contents sink.new)
+        (normal (reduce leaving (presentation_of file tree))))) }
+    ensures long { OverOpened S.Store store.old movie.now (λ file tree.
+        TellsLong leaving file tree result (K.contents sink.new ≡ K.contents sink.old)) }
+    ensures unchanged { OverOpened S.Store store.old movie.now (λ file tree. IsUnchanged result) }
+    ensures whole { OnOk result ((head : List ℕ)
+        × IsPutWhole movie.now (K.contents sink.old) (K.contents sink.new) head) }
+    ensures refusal { RefusedByBoth S.Store store.old store.new K.Sink sink.old sink.new result
+        (RefusesLeftCopy leaving (K.contents sink.old) (K.contents sink.new)) }
+    ensures work { OverOpened S.Store store.old movie.now
+        (λ file tree. steps.new ≤ steps.old + (walks_steps tree + writing_steps tree)) }
+    ensures turns { looks.new ≤ looks.old + 2 * movie_turns movie.now }
 {
-    let mut writer = Writer::reduced(alloc, movie, store, leaving, steps)?;
-    writer.write(movie, store, sink, steps)
+    let mut writer = Writer::reduced(alloc, movie, store, leaving, steps, looks)?;
+    writer.write(movie, store, sink, steps, looks)
 }
 
 /// Puts the normal form of a movie: it is planned, all memory that writing it needs is taken, and
 /// then it is written. Want of memory comes before the first byte.
-pub fn write_normal<S: Store, K: Sink, L: Ledger>(
+pub fn write_normal<S: Store, K: Sink, L: Ledger, M: Ledger>(
     alloc: Global,
     movie: &Movie,
     store: &mut S,
     sink: &mut K,
     steps: &mut Steps<L>,
+    looks: &mut Steps<M>,
 ) -> Result<(), Refusal>
-    ensures honesty { S.is_honest store.new ≡ S.is_honest store.old }
-    ensures file { S.file store.new ≡ S.file store.old }
-    ensures bytes { WhereOpened (S.is_honest store.old) (S.file store.old) movie.now
-        (λ tree. OnOk result
-        (Appends (K.contents sink.old) (K.contents sink.new)
-        (normal (presentation_of (S.file store.old) tree)))) }
-    ensures prefix { WhereOpened (S.is_honest store.old) (S.file store.old) movie.now
-        (λ tree. OnErr result
-        (AppendsPrefix (K.contents sink.old) (K.contents sink.new)
-        (normal (presentation_of (S.file store.old) tree)))) }
-    ensures unchanged { WhereOpened (S.is_honest store.old) (S.file store.old) movie.now
-        (λ tree. IfErr result (λ r. r ≡ refusals.StoreChanged → ⊥)) }
-    ensures work { WhereOpened (S.is_honest store.old) (S.file store.old) movie.now
-        (λ tree. steps.new ≤ steps.old + (walks_steps tree + writing_steps tree)) }
-    ensures reads { OnOk result (S.read_failures store.new ≡ S.read_failures store.old) }
-    ensures puts { OnOk result (K.put_failures sink.new ≡ K.put_failures sink.old) }
-    ensures refusal { IfErr result
-        (RefusesCopy (K.contents sink.old) (K.contents sink.new) (S.read_failures store.old)
-        (S.read_failures store.new) (K.put_failures sink.old) (K.put_failures sink.new)) }
+    ensures devices { OnlyCopies S.Store store.old store.new K.Sink sink.old sink.new result }
+    ensures bytes { OverOpened S.Store store.old movie.now (λ file tree.
+        OnOk result (Appends (K.contents sink.old) (K.contents sink.new)
+        (normal (presentation_of file tree)))) }
+    ensures prefix { OverOpened S.Store store.old movie.now (λ file tree.
+        OnErr result (AppendsPrefix (K.contents sink.old) (K.contents sink.new)
+        (normal (presentation_of file tree)))) }
+    ensures unchanged { OverOpened S.Store store.old movie.now (λ file tree. IsUnchanged result) }
+    ensures whole { OnOk result ((head : List ℕ)
+        × IsPutWhole movie.now (K.contents sink.old) (K.contents sink.new) head) }
+    ensures refusal { RefusedByBoth S.Store store.old store.new K.Sink sink.old sink.new result
+        (RefusesCopy (K.contents sink.old) (K.contents sink.new)) }
+    ensures work { OverOpened S.Store store.old movie.now
+        (λ file tree. steps.new ≤ steps.old + (walks_steps tree + writing_steps tree)) }
+    ensures turns { looks.new ≤ looks.old + 2 * movie_turns movie.now }
 {
-    write_reduced(alloc, movie, store, sink, Leaving::NOTHING, steps)
+    write_reduced(alloc, movie, store, sink, Leaving::NOTHING, steps, looks)
 }

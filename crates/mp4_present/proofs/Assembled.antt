@@ -32,7 +32,7 @@ use Rattle.mp4_boxes.specs.declared.fault.Fault.{Fault}
 use Rattle.mp4_boxes.specs.declared.fault.Kind.TheVariants.{TimeTooLarge, MovieTooLarge}
 use Rattle.mp4_head.proofs.Inside.{first_is}
 use Rattle.mp4_present.specs.words.OpenedMovie.{IsInfoBy, AreInfosBy, IsInfoOf, IsOpenedAs, kept_of, plain_seen}
-use Rattle.mp4_present.specs.words.OwnMoofs.{AreOwn, places_of}
+use Rattle.mp4_present.specs.words.OwnMoofs.{AreOwn, own_seen}
 use Rattle.mp4_present.specs.words.PassedMoofs.{IsBegun, IsPassed}
 use Rattle.mp4_present.specs.words.Passing.{seen_behind}
 use Rattle.mp4_present.specs.format.Presentation.{Track, IsInTime, total_duration, end_time, movie_length, normal_moov_length, max_moov}
@@ -276,7 +276,7 @@ module _ (honest : Bool) (file : List ℕ) (o : Outline) (moov : List ℕ) (b : 
 
   -- within the limits
   pub opened_as : (found : Found) (file_length : ℕ) → found.plain ≡ plain → AllByRecursion (IsInTime (presentation_of file tree).movie.timescale) (presentation_of file tree).tracks → found.mehd ≡ movie_length (presentation_of file tree) → normal_moov_length (presentation_of file tree) ≤ max_moov
-      → AreInfosBy head.tracks.items states found.tracks.items → AreOwn says.has.tree p.fragments (places_of found.own.items) → file_length ≡ length file → IsOpenedAs file (kept_of o moov file_length found) tree
+      → AreInfosBy head.tracks.items states found.tracks.items → AreOwn says.has.tree p.fragments (map own_seen found.own.items) → file_length ≡ length file → IsOpenedAs file (kept_of o moov file_length found) tree
   opened_as found file_length same times longest short infos own e =
       let k = r.outline told in
       let kept : HaveTables (length file) moov (trexes_of says.has.tree) says.has.tree.tracks found.plain = subst (λ (x : PlainTracks). HaveTables (length file) moov (trexes_of says.has.tree) says.has.tree.tracks x) (sym same) have in

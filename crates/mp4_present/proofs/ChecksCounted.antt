@@ -24,17 +24,24 @@ abbrev pub LeftWithin : List ℕ → ℕ → ℕ → ℕ → Type 0
 LeftWithin file at old new =
     (all : List Box) → Holds File (file_container file) all → (boxes : List Box) × (AreFrom file at boxes × (new + boxes_steps (of_kind (codes "moof") boxes) ≤ old + boxes_steps (of_kind (codes "moof") all)))
 
--- before the first one
-pub within_first : (file : List ℕ) (known : List Box) (o : Outline) (at start : ℕ) → Holds File (file_container file) known → IsOutline file known o → unwrap_or o.fragments (length file) ≡ at → LeftWithin file at start start
-within_first file known o at start holds i e all h =
+-- the boxes from the place on at which the first `moof` is looked for: all `moof`s are among them
+pub first_left : (file : List ℕ) (known : List Box) (o : Outline) (at : ℕ) → Holds File (file_container file) known → IsOutline file known o → unwrap_or o.fragments (length file) ≡ at → (all : List Box) → Holds File (file_container file) all
+    → (boxes : List Box) × AreFrom file at boxes × (of_kind (codes "moof") all ≡ of_kind (codes "moof") boxes)
+first_left file known o at holds i e all h =
     let same : known ≡ all = tiles_one (file_container file) known all holds.tiles h.tiles in
     let a = whole_file file known holds in
     let l = left_at file known o.fragments a i.fragments in
     let f = first_passed file known o.fragments a i.fragments in
     let moofs : of_kind (codes "moof") all ≡ of_kind (codes "moof") l.boxes =
     ap (of_kind (codes "moof")) (sym same ∙ f.1) ∙ of_kind-append (codes "moof") f.0 l.boxes ∙ ap (λ (bs : List Box). bs ++ of_kind (codes "moof") l.boxes) f.2 in
-    let steps = ap boxes_steps moofs in
-    (l.boxes, (subst (λ (k : ℕ). AreFrom file k l.boxes) e l.are_from, omega (arith, steps)))
+    (l.boxes, subst (λ (k : ℕ). AreFrom file k l.boxes) e l.are_from, moofs)
+
+-- before the first one
+pub within_first : (file : List ℕ) (known : List Box) (o : Outline) (at start : ℕ) → Holds File (file_container file) known → IsOutline file known o → unwrap_or o.fragments (length file) ≡ at → LeftWithin file at start start
+within_first file known o at start holds i e all h =
+    let l = first_left file known o at holds i e all h in
+    let steps = ap boxes_steps l.2 in
+    (l.0, (l.1, omega (arith, steps)))
 
 -- where no further one is checked
 pub checks_done : (file : List ℕ) (at old new : ℕ) → LeftWithin file at old new → ChecksWithin file old new
@@ -43,20 +50,28 @@ checks_done file at old new left all h = let some = (left all h).1.1 in omega (a
 one_less : (w rest all before after old : ℕ) → after ≤ before + w → before + (w + rest) ≤ old + all → after + rest ≤ old + all
 one_less w rest all before after old a h = omega (arith, a, h)
 
--- one more was checked
-pub next_within : (file : List ℕ) (at : ℕ) (top : TopBox) (all : List Box) (w : IsWhole (length file) top) (boxes : List Box) (a : AreFrom file at boxes) → IsNextFragment file at boxes (Some top)
-    → (m : Box) (bytes : List ℕ) (len : ℕ) → IsRead file top m bytes len → (old new : List TrackState) (room less before after start : ℕ) → MovedBy m old new room less → after + less ≤ before + room + fragment_rows (moof_says m)
-    → before + boxes_steps (of_kind (codes "moof") boxes) ≤ start + boxes_steps (of_kind (codes "moof") all)
-    → (left : List Box) × (AreFrom file top.header.end left × (after + boxes_steps (of_kind (codes "moof") left) ≤ start + boxes_steps (of_kind (codes "moof") all)))
-next_within file at top all w boxes a next m bytes len r old new room less before after start moved cost h =
+-- the boxes behind the next `moof`: it was the first `moof` of those before
+pub next_left : (file : List ℕ) (at : ℕ) (top : TopBox) (w : IsWhole (length file) top) (boxes : List Box) (a : AreFrom file at boxes) → IsNextFragment file at boxes (Some top)
+    → (m : Box) (bytes : List ℕ) (len : ℕ) → IsRead file top m bytes len
+    → (left : List Box) × AreFrom file top.header.end left × (of_kind (codes "moof") boxes ≡ m ∷ of_kind (codes "moof") left)
+next_left file at top w boxes a next m bytes len r =
     let b = box_at file top in
-    let there : m ≡ b = read_is file top m bytes len r in
+    let there : b ≡ m = sym (read_is file top m bytes len r) in
     let l : Left file at (longest (of_kind (codes "moof") boxes)) = record { boxes = boxes; are_from = a; short = le_refl _ } in
     let on = (left_next file at (longest (of_kind (codes "moof") boxes)) top l w next).left in
     let same : on.boxes ≡ next.1 = next_boxes file at (longest (of_kind (codes "moof") boxes)) top l w next in
     let kind : bytes_eq (codes "moof") b.kind ≡ true = rw next.5 refl in
     let moofs : of_kind (codes "moof") boxes ≡ b ∷ of_kind (codes "moof") next.1 =
     ap (of_kind (codes "moof")) next.2 ∙ of_kind-split (codes "moof") next.0 next.1 b kind ∙ ap (λ (bs : List Box). bs ++ b ∷ of_kind (codes "moof") next.1) next.3 in
-    let check = checked_within old new room less before after m b there moved cost in
-    let sum = subst (λ (bs : List Box). before + boxes_steps bs ≤ start + boxes_steps (of_kind (codes "moof") all)) moofs h in
-    (next.1, (subst (λ (bs : List Box). AreFrom file top.header.end bs) same on.are_from, one_less (moof_steps b) (boxes_steps (of_kind (codes "moof") next.1)) _ before after start check sum))
+    (next.1, subst (λ (bs : List Box). AreFrom file top.header.end bs) same on.are_from, moofs ∙ ap (λ (x : Box). x ∷ of_kind (codes "moof") next.1) there)
+
+-- one more was checked
+pub next_within : (file : List ℕ) (at : ℕ) (top : TopBox) (all : List Box) (w : IsWhole (length file) top) (boxes : List Box) (a : AreFrom file at boxes) → IsNextFragment file at boxes (Some top)
+    → (m : Box) (bytes : List ℕ) (len : ℕ) → IsRead file top m bytes len → (old new : List TrackState) (room less before after start : ℕ) → MovedBy m old new room less → after + less ≤ before + room + fragment_rows (moof_says m)
+    → before + boxes_steps (of_kind (codes "moof") boxes) ≤ start + boxes_steps (of_kind (codes "moof") all)
+    → (left : List Box) × (AreFrom file top.header.end left × (after + boxes_steps (of_kind (codes "moof") left) ≤ start + boxes_steps (of_kind (codes "moof") all)))
+next_within file at top all w boxes a next m bytes len r old new room less before after start moved cost h =
+    let l = next_left file at top w boxes a next m bytes len r in
+    let check = checked_within old new room less before after m m refl moved cost in
+    let sum = subst (λ (bs : List Box). before + boxes_steps bs ≤ start + boxes_steps (of_kind (codes "moof") all)) l.2 h in
+    (l.0, (l.1, one_less (moof_steps m) (boxes_steps (of_kind (codes "moof") l.0)) _ before after start check sum))

@@ -25,6 +25,7 @@ pub mod Outlines
 pub mod Fragmented
 pub mod Payloads
 pub mod WalkPlaces
+pub mod WalkRooms
 pub mod HeldAgain
 pub mod JoinedSamples
 pub mod PlainLists
@@ -61,6 +62,7 @@ pub mod WalkBegun
 pub mod TrexPlaces
 pub mod WalkWork
 pub mod ChecksCounted
+pub mod LooksCounted
 pub mod MoofBytes
 pub mod TablesWork
 pub mod WayThrough

@@ -1,6 +1,6 @@
 -- The next `moof` of a walk, read again to its room.
-use Rattle.std.proofs.Common.{◌≡◌, ℕ, ◌+◌, ◌≤◌, true, false, List, [], ◌∷◌, ◌++◌, Some, None, max, length, take, map, refl, sym, ap, subst, ◌∙◌, arith, append_assoc, slice_get, length-take}
-use Rattle.std.specs.Prelude.{codes, fold, bytes_eq, Bool, IsTrue}
+use Rattle.std.proofs.Common.{◌≡◌, ℕ, ◌+◌, ◌≤◌, true, false, List, [], ◌∷◌, ◌++◌, Some, None, length, take, map, refl, sym, ap, subst, ◌∙◌, arith, append_assoc, slice_get, length-take}
+use Rattle.std.specs.Prelude.{codes, bytes_eq, Bool, IsTrue}
 use Rattle.std.proofs.lemmas.List.{append-nil}
 use Rattle.mp4_store.specs.words.Device.{range}
 use Rattle.mp4_boxes.specs.format.Box.{Box, size, sizes}
@@ -17,7 +17,7 @@ use Rattle.mp4_frag.proofs.RunsTied.{timed-append, duration-append}
 use Rattle.mp4_head.specs.format.Tree.{TrackTree, track_head_of}
 use Rattle.mp4_present.specs.words.Again.{AreFrom, IsNextFragment, RefusesNext}
 use Rattle.mp4_present.specs.format.Denotes.{FileTree, file_parts, first_due}
-use Rattle.mp4_present.specs.words.Outline.{box_at, longest}
+use Rattle.mp4_present.specs.words.Outline.{box_at}
 use Rattle.mp4_present.specs.words.OpenedMovie.{IsOpenedAs}
 use Rattle.mp4_present.specs.words.InHand.{left_in_hand}
 use Rattle.mp4_present.specs.words.Movies.{MovieSeen, InHandOf, IsWhole, Fills, moof_box}
@@ -27,7 +27,7 @@ use Rattle.mp4_present.specs.words.Reading.{RefusesPayload}
 use Rattle.mp4_present.specs.words.SamplesComing.{track_keys, due_behind, samples_behind, StandsBefore, Comes, HoldsNext, Takes}
 use Rattle.mp4_present.specs.declared.reading.TopBox.{TopBox}
 use Rattle.mp4_present.specs.declared.walks.Walk.{Walk}
-use Rattle.mp4_present.proofs.FragmentPass.{Left, left_next, behind, whole_file, longest_from, size_at}
+use Rattle.mp4_present.proofs.FragmentPass.{behind, whole_file, size_at}
 use Rattle.mp4_present.proofs.Fronts.{next_map}
 use Rattle.mp4_present.proofs.Opened.{moov_is}
 use Rattle.mp4_present.proofs.DueBehind.{own_samples}
@@ -59,13 +59,6 @@ nothing_left : (fs : List FragmentTree) → ◌≡◌ {A = List Box} (map (λ (f
 nothing_left [] e = refl
 nothing_left (f ∷ fs) e = absurd cc
 
-fold_append : (m : ℕ) (xs ys : List Box) → fold (λ (most : ℕ) (b : Box). max most (size b)) m (xs ++ ys) ≡ fold (λ (most : ℕ) (b : Box). max most (size b)) (fold (λ (most : ℕ) (b : Box). max most (size b)) m xs) ys
-fold_append m [] ys = refl
-fold_append m (x ∷ xs) ys = fold_append (max m (size x)) xs ys
-
-longest_later : (xs ys : List Box) → longest ys ≤ longest (xs ++ ys)
-longest_later xs ys = let all = fold_append 0 xs ys in let from = longest_from (longest xs) ys in omega (arith, all, from)
-
 module _ (file : List ℕ) (m : MovieSeen) (tree : FileTree) (t : TrackTree) (earlier later : List FragmentTree) (w : Walk) (o : IsOpenedAs file m tree) (h : StandsBefore file tree t earlier later w) where
   -- the boxes from the walk's place on
   pub boxes_from : AreFrom file w.next h.boxes
@@ -78,22 +71,7 @@ module _ (file : List ℕ) (m : MovieSeen) (tree : FileTree) (t : TrackTree) (ea
   pub none_more : IsNextFragment file w.next h.boxes None → later ≡ []
   none_more n = nothing_left later (h.moofs_left ∙ n)
 
-  -- no `moof` is longer than the room
-  left_short : Left file w.next (length w.bytes.items)
-  left_short = record {
-    boxes = h.boxes;
-    are_from = boxes_from;
-    short =
-        let all = ap longest (ap (of_kind (codes "moof")) h.top ∙ of_kind-append (codes "moof") h.passed h.boxes) in
-        let room = h.room in
-        omega (arith, all, room, longest_later (of_kind (codes "moof") h.passed) (of_kind (codes "moof") h.boxes));
-  }
-
   module _ (top : TopBox) (whole : IsWhole (length file) top) (n : IsNextFragment file w.next h.boxes (Some top)) where
-    pub fits : top.header.end ≤ top.offset + length w.bytes.items
-    unfolding left_short
-    fits = (left_next file w.next (length w.bytes.items) top left_short whole n).short
-
     here : of_kind (codes "moof") h.boxes ≡ box_at file top ∷ of_kind (codes "moof") n.1
     here =
         let hit : bytes_eq (codes "moof") (box_at file top).kind ≡ true = rw n.5 refl in

@@ -17,7 +17,7 @@ use Rattle.mp4_head.specs.format.Tree.{TrackTree, MovieTree, track_head_of}
 use Rattle.mp4_present.specs.format.Denotes.{FileTree, file_parts, first_due}
 use Rattle.mp4_present.specs.words.OpenedMovie.{IsOpenedAs}
 use Rattle.mp4_present.specs.words.Movies.{MovieSeen}
-use Rattle.mp4_present.specs.words.OwnMoofs.{own_moofs, place_where}
+use Rattle.mp4_present.specs.words.OwnMoofs.{IsOwn, OwnSeen, own_moofs, place_where}
 use Rattle.mp4_present.specs.words.Passing.{parts_behind}
 use Rattle.mp4_present.specs.words.SamplesComing.{track_keys, due_behind, samples_behind, StandsBefore}
 use Rattle.mp4_present.specs.words.WalkSteps.{MayTake, TakesOn, moofs_steps, steps_to, way_through}
@@ -295,7 +295,7 @@ none_first : (xs : List ℕ) → slice_get xs 0 ≡ None → xs ≡ []
 none_first [] e = refl
 none_first (x ∷ xs) e = absurd cc
 
-zip_got : {A B : Type 0} (R : A → B → Type 0) (xs : List A) (ys : List B) (k : ℕ) (x : A) → AllZip R xs ys → slice_get xs k ≡ Some x → (y : B) × (slice_get ys k ≡ Some y) × R x y
+pub zip_got : {A B : Type 0} (R : A → B → Type 0) (xs : List A) (ys : List B) (k : ℕ) (x : A) → AllZip R xs ys → slice_get xs k ≡ Some x → (y : B) × (slice_get ys k ≡ Some y) × R x y
 zip_got R [] ys k x h a = absurd (cc)
 zip_got R (v ∷ xs) [] k x h a = absurd h
 zip_got R (v ∷ xs) (w ∷ ys) zero x h a = (w, refl, subst (λ c. R c w) (some_is v x a) h.0)
@@ -303,16 +303,16 @@ zip_got R (v ∷ xs) (w ∷ ys) (suc k) x h a = zip_got R xs ys k x h.1 a
 
 -- what is answered for a track and a place: the first of its places from there on
 abbrev pub FindsFrom : MovieSeen → ℕ → ℕ → Option ℕ → Type 0
-FindsFrom m track from result = (before later : List ℕ) → slice_get m.own track ≡ Some (before ++ later)
+FindsFrom m track from result = (own : OwnSeen) (before later : List ℕ) → slice_get m.own track ≡ Some own → own.places ≡ before ++ later
     → AllByRecursion (λ place. place < from) before → AllByRecursion (λ place. from ≤ place) later → result ≡ slice_get later 0
 
 module _ (file : List ℕ) (m : MovieSeen) (tree : FileTree) (t : TrackTree) (earlier later : List FragmentTree) (w : Walk) (o : IsOpenedAs file m tree) (h : StandsBefore file tree t earlier later w) (result : Option ℕ) (finds : FindsFrom m w.track w.next result) where
   is_first : result ≡ slice_get (own_moofs tree.movie (track_head_of t).id later) 0
   is_first =
       let id = (track_head_of t).id in
-      let got = zip_got (λ (t : TrackTree) places. places ≡ own_moofs tree.movie (track_head_of t).id tree.fragments) tree.movie.tracks m.own w.track t o.own h.is_track in
-      let all = got.2 ∙ ap (own_moofs tree.movie id) h.split ∙ own_append tree.movie id earlier later in
-      finds (own_moofs tree.movie id earlier) (own_moofs tree.movie id later) (got.1 ∙ ap Some all) (own_earlier file m tree t earlier later w o h) (own_later file m tree t earlier later w o h)
+      let got = zip_got (λ (t : TrackTree) own. IsOwn tree.movie (track_head_of t).id tree.fragments own) tree.movie.tracks m.own w.track t o.own h.is_track in
+      let all = got.2.places ∙ ap (own_moofs tree.movie id) h.split ∙ own_append tree.movie id earlier later in
+      finds got.0 (own_moofs tree.movie id earlier) (own_moofs tree.movie id later) got.1 all (own_earlier file m tree t earlier later w o h) (own_later file m tree t earlier later w o h)
 
   pub found_own : (place : ℕ) → result ≡ Some place → NextOwn tree.movie (track_head_of t).id later place
   found_own place e =

@@ -46,7 +46,7 @@ module _ (honest : Bool) (file : List ℕ) (o : Outline) (moov : List ℕ) (b : 
       let moov : b ≡ tree.movie.moov = head_is b tree.movie.moov [] [] (sym (its_moov honest file o moov b r told) ∙ ap (of_kind (codes "moov")) top ∙ is.moov) in
       movie_tree_one says.has.tree tree.movie (says.has.is_moov ∙ moov) says.has.is_tree is.movie
 
-  tracks_are : AreTracksOf tree.movie.tracks head.tracks.items
+  pub tracks_are : AreTracksOf tree.movie.tracks head.tracks.items
   tracks_are = subst (λ (m : MovieTree). AreTracksOf m.tracks head.tracks.items) movie_is (tracks_read b head says)
 
   -- the tables were checked, and no `moof`

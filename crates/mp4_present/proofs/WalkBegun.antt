@@ -21,7 +21,7 @@ use Rattle.mp4_head.specs.format.Tree.{TrackTree, track_head_of, trexes_of}
 use Rattle.mp4_present.specs.format.Denotes.{FileTree, plain_of, plain_keys, file_parts, parts_of_track, placed_of, sample_of}
 use Rattle.mp4_present.specs.words.Outline.{BeginAt}
 use Rattle.mp4_present.specs.words.OpenedMovie.{IsOpenedAs, IsInfoOf, AreTablesOf, plain_seen}
-use Rattle.mp4_present.specs.words.Movies.{MovieSeen, table_bytes, tables_seen}
+use Rattle.mp4_present.specs.words.Movies.{MovieSeen, own_room, table_bytes, tables_seen}
 use Rattle.mp4_present.specs.words.Passing.{parts_behind}
 use Rattle.mp4_present.specs.words.SamplesComing.{track_keys, track_samples, due_behind, samples_behind, StandsBefore, HoldsLast}
 use Rattle.mp4_present.specs.declared.track_info.TrackInfo.{TrackInfo}
@@ -32,6 +32,7 @@ use Rattle.mp4_present.proofs.FragmentPass.{whole_file}
 use Rattle.mp4_present.proofs.KeysExtended.{HaveNone, grouped_within, timed_with}
 use Rattle.mp4_present.proofs.MoofTaken.{zipped_at, seen_at, tables_in_time}
 use Rattle.mp4_present.proofs.SamplesLie.{timed_length}
+use Rattle.mp4_present.proofs.WalkRooms.{room_opened}
 
 -- ---- the samples of the tables
 
@@ -106,7 +107,7 @@ module _ (file : List ℕ) (m : MovieSeen) (tree : FileTree) (t : TrackTree) (o 
       let own = timed_length (track_keys tree t) (due_behind tree t []) (fragment_samples (track_head_of t).id (parts_behind tree.movie tree.fragments)) in
       omega (arith, all, plain, own)
 
-module _ (file : List ℕ) (m : MovieSeen) (tree : FileTree) (t : TrackTree) (o : IsOpenedAs file m tree) (w : Walk) (at : slice_get tree.movie.tracks w.track ≡ Some t) (bytes : length w.bytes.items ≡ m.longest) (due : w.due ≡ due_behind tree t [])
+module _ (file : List ℕ) (m : MovieSeen) (tree : FileTree) (t : TrackTree) (o : IsOpenedAs file m tree) (w : Walk) (at : slice_get tree.movie.tracks w.track ≡ Some t) (bytes : length w.bytes.items ≡ own_room m w.track) (due : w.due ≡ due_behind tree t [])
     (left : w.left ≡ length (samples_behind tree t [] tree.fragments)) (before : w.before ≡ None) where
   none_held : HoldsLast file tree t [] tree.fragments w w.before
   none_held = subst (λ (b : Option Due). HoldsLast file tree t [] tree.fragments w b) (sym before) tt
@@ -124,7 +125,7 @@ module _ (file : List ℕ) (m : MovieSeen) (tree : FileTree) (t : TrackTree) (o 
     moofs_left = o.is_tree.moofs ∙ b;
     due = due;
     left = left;
-    room = bytes ∙ o.longest_is;
+    room = bytes ∙ room_opened file m tree t w.track o at;
     held = none_held;
   }
   stands_first (Some from) e next b = record {
@@ -138,6 +139,6 @@ module _ (file : List ℕ) (m : MovieSeen) (tree : FileTree) (t : TrackTree) (o 
     moofs_left = o.is_tree.moofs ∙ ap (of_kind (codes "moof")) (sym b.2) ∙ of_kind-append (codes "moof") b.0 b.1 ∙ ap (λ (bs : List Box). bs ++ of_kind (codes "moof") b.1) b.3;
     due = due;
     left = left;
-    room = bytes ∙ o.longest_is;
+    room = bytes ∙ room_opened file m tree t w.track o at;
     held = none_held;
   }

@@ -24,4 +24,5 @@ pub mod OverStores
 pub mod HeadsLeft
 pub mod HandCarried
 pub mod ToOpen
+pub mod OverWalks
 pub mod OwnMoofs

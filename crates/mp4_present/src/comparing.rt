@@ -1,10 +1,6 @@
 //! Two opened files, compared by what they say.
-ghost use Rattle.std.specs.Prelude.{◌≡◌, ◌+◌, ◌<◌, ◌≤◌, ℕ, ◌++◌, take, true, slice_get, IfOk, IfErr, OnOk};
-ghost use Rattle.mp4_boxes.specs.declared.refusal.Refusal.TheVariants as refusals;
-ghost use Rattle.mp4_present.specs.format.Comparison.{differences};
-ghost use Rattle.mp4_present.specs.format.Denotes.{presentation_of};
-ghost use Rattle.mp4_present.specs.format.Reduced.{reduce};
-ghost use Rattle.mp4_present.specs.words.Compared.{WhereBothOpened, HaveTracks, WhereTracks, OfSamples, OfTracks, TakesFront, TracksWork};
+ghost use Rattle.std.specs.Prelude.{◌≡◌, ◌+◌, ◌<◌, ◌≤◌, ℕ, ◌++◌, take, true, slice_get, IfOk};
+ghost use Rattle.mp4_present.specs.words.Compared.{WhereOpenedBoth, HaveTracks, OfFiles, WhereTracks, OfSamples, OfTracks, TakesFront, TracksWork};
 ghost use Rattle.mp4_present.specs.words.Differing.{RefusesSample, RefusedBoth};
 ghost use Rattle.mp4_present.specs.words.HeadsLeft.{begun_differ};
 ghost use Rattle.mp4_present.specs.words.OverStores.{OnlyReads, IsUnchanged};
@@ -168,31 +164,18 @@ pub fn compare_all<S: Store, T: Store, D: Differences, L: Ledger>(
     steps: &mut Steps<L>,
 ) -> Result<bool, Refusal>
     requires { D.is_open seen.old ≡ true }
-    ensures honesty { S.is_honest a.new ≡ S.is_honest a.old }
-    ensures file { S.file a.new ≡ S.file a.old }
-    ensures honesty_right { T.is_honest b.new ≡ T.is_honest b.old }
-    ensures file_right { T.file b.new ≡ T.file b.old }
+    ensures left { OnlyReads S.Store a.old a.new result }
+    ensures right { OnlyReads T.Store b.old b.new result }
     ensures goes { IfOk result (λ all. all ≡ D.is_open seen.new) }
-    ensures all { IfOk result (λ all. all ≡ true → WhereBothOpened (S.is_honest a.old)
-        (S.file a.old) left.now (T.is_honest b.old) (T.file b.old) right.now (λ tree other.
-        D.taken seen.new ≡ D.taken seen.old ++ differences
-        (reduce leaving (presentation_of (S.file a.old) tree))
-        (reduce leaving (presentation_of (T.file b.old) other)))) }
-    ensures front { WhereBothOpened (S.is_honest a.old) (S.file a.old) left.now
-        (T.is_honest b.old) (T.file b.old) right.now (λ tree other.
-        TakesFront (D.taken seen.old) (D.taken seen.new)
-        (differences (reduce leaving (presentation_of (S.file a.old) tree))
-        (reduce leaving (presentation_of (T.file b.old) other)))) }
-    ensures unchanged { WhereBothOpened (S.is_honest a.old) (S.file a.old) left.now
-        (T.is_honest b.old) (T.file b.old) right.now
-        (λ tree other. IfErr result (λ r. r ≡ refusals.StoreChanged → ⊥)) }
-    ensures work { WhereBothOpened (S.is_honest a.old) (S.file a.old) left.now
-        (T.is_honest b.old) (T.file b.old) right.now
+    ensures all { IfOk result (λ all. all ≡ true → OfFiles S.Store a.old left.now T.Store b.old
+        right.now leaving (λ found. D.taken seen.new ≡ D.taken seen.old ++ found)) }
+    ensures front { OfFiles S.Store a.old left.now T.Store b.old right.now leaving
+        (TakesFront (D.taken seen.old) (D.taken seen.new)) }
+    ensures unchanged { WhereOpenedBoth S.Store a.old left.now T.Store b.old right.now
+        (λ tree other. IsUnchanged result) }
+    ensures work { WhereOpenedBoth S.Store a.old left.now T.Store b.old right.now
         (λ tree other. steps.new ≤ steps.old + (walks_steps tree + walks_steps other)) }
-    ensures reads { OnOk result (S.read_failures a.new ≡ S.read_failures a.old) }
-    ensures reads_right { OnOk result (T.read_failures b.new ≡ T.read_failures b.old) }
-    ensures refusal { IfErr result (RefusesSample (S.read_failures a.old) (S.read_failures a.new)
-        (T.read_failures b.old) (T.read_failures b.new)) }
+    ensures refusal { RefusedBoth S.Store a.old a.new T.Store b.old b.new result RefusesSample }
 {
     let head = left.head(alloc)?;
     let other_head = right.head(alloc)?;
@@ -253,24 +236,15 @@ pub fn compare<S: Store, T: Store, L: Ledger>(
     leaving: Leaving,
     steps: &mut Steps<L>,
 ) -> Result<Option<Difference>, Refusal>
-    ensures honesty { S.is_honest a.new ≡ S.is_honest a.old }
-    ensures file { S.file a.new ≡ S.file a.old }
-    ensures honesty_right { T.is_honest b.new ≡ T.is_honest b.old }
-    ensures file_right { T.file b.new ≡ T.file b.old }
-    ensures first { IfOk result (λ first. WhereBothOpened (S.is_honest a.old) (S.file a.old)
-        left.now (T.is_honest b.old) (T.file b.old) right.now (λ tree other.
-        first ≡ slice_get (differences (reduce leaving (presentation_of (S.file a.old) tree))
-        (reduce leaving (presentation_of (T.file b.old) other))) 0)) }
-    ensures unchanged { WhereBothOpened (S.is_honest a.old) (S.file a.old) left.now
-        (T.is_honest b.old) (T.file b.old) right.now
-        (λ tree other. IfErr result (λ r. r ≡ refusals.StoreChanged → ⊥)) }
-    ensures work { WhereBothOpened (S.is_honest a.old) (S.file a.old) left.now
-        (T.is_honest b.old) (T.file b.old) right.now
+    ensures left { OnlyReads S.Store a.old a.new result }
+    ensures right { OnlyReads T.Store b.old b.new result }
+    ensures first { IfOk result (λ first. OfFiles S.Store a.old left.now T.Store b.old right.now
+        leaving (λ found. first ≡ slice_get found 0)) }
+    ensures unchanged { WhereOpenedBoth S.Store a.old left.now T.Store b.old right.now
+        (λ tree other. IsUnchanged result) }
+    ensures work { WhereOpenedBoth S.Store a.old left.now T.Store b.old right.now
         (λ tree other. steps.new ≤ steps.old + (walks_steps tree + walks_steps other)) }
-    ensures reads { OnOk result (S.read_failures a.new ≡ S.read_failures a.old) }
-    ensures reads_right { OnOk result (T.read_failures b.new ≡ T.read_failures b.old) }
-    ensures refusal { IfErr result (RefusesSample (S.read_failures a.old) (S.read_failures a.new)
-        (T.read_failures b.old) (T.read_failures b.new)) }
+    ensures refusal { RefusedBoth S.Store a.old a.new T.Store b.old b.new result RefusesSample }
 {
     let mut seen = FirstDifference { first: None };
     let _all = compare_all(alloc, left, a, right, b, leaving, &mut seen, steps)?;

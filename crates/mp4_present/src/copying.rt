@@ -1,16 +1,13 @@
 //! The bytes of a track's samples, copied.
 ghost use Rattle.std.specs.Prelude.{◌≡◌, ◌+◌, ◌<◌, ◌≤◌, ◌++◌, length, vec_len, Some, slice_get, IfOk, IfErr, OnOk, OnErr, IsTrue};
 ghost use Rattle.std.specs.Io.KnownBytes.{Appends};
-ghost use Rattle.mp4_boxes.specs.declared.refusal.Refusal.TheVariants as refusals;
-ghost use Rattle.mp4_head.specs.format.Tree.{TrackTree};
 ghost use Rattle.mp4_store.specs.words.Device.{AppendsPrefix, range};
-ghost use Rattle.mp4_present.specs.format.Denotes.{FileTree};
 ghost use Rattle.mp4_present.specs.words.Carried.{waiting, BytesGoOn, GoOnBy, PutsMany, RefusesStretch, RefusesCarry, RefusesCopy};
 ghost use Rattle.mp4_present.specs.words.HandCarried.{StaysBefore, CarriesHand, LeavesBytes, KeepsHand, HandWork, RefusedByBoth};
 ghost use Rattle.mp4_present.specs.words.Joined.{sample_bytes};
 ghost use Rattle.mp4_present.specs.words.Movies.{IsWalkOf};
-ghost use Rattle.mp4_present.specs.words.OpenedMovie.{IsOpenedAs};
-ghost use Rattle.mp4_present.specs.words.OverStores.{OnlyReads};
+ghost use Rattle.mp4_present.specs.words.OverStores.{IsUnchanged, OnlyReads};
+ghost use Rattle.mp4_present.specs.words.OverWalks.{WhereTrack};
 ghost use Rattle.mp4_present.specs.words.SamplesComing.{track_samples};
 ghost use Rattle.mp4_present.specs.words.WalkSteps.{walk_steps};
 ghost use Rattle.mp4_present.specs.declared.track_info.TrackInfo.{TrackInfo};
@@ -117,34 +114,23 @@ impl Movie {
         steps: &mut Steps<L>,
     ) -> Result<(), Refusal>
         requires { track < length self.now.tracks }
-        ensures honesty { S.is_honest store.new ≡ S.is_honest store.old }
-        ensures file { S.file store.new ≡ S.file store.old }
-        ensures reads { OnOk result (S.read_failures store.new ≡ S.read_failures store.old) }
+        ensures store { OnlyReads S.Store store.old store.new result }
         ensures puts { OnOk result (K.put_failures sink.new ≡ K.put_failures sink.old) }
-        ensures bytes { OnOk result (IsTrue (S.is_honest store.old)
-            → (tree : FileTree) (t : TrackTree) → IsOpenedAs (S.file store.old) self.now tree
-            → slice_get tree.movie.tracks track ≡ Some t
-            → Appends (K.contents sink.old) (K.contents sink.new)
-            (sample_bytes (S.file store.old) (track_samples tree t))) }
-        ensures prefix { OnErr result (IsTrue (S.is_honest store.old)
-            → (tree : FileTree) (t : TrackTree) → IsOpenedAs (S.file store.old) self.now tree
-            → slice_get tree.movie.tracks track ≡ Some t
-            → AppendsPrefix (K.contents sink.old) (K.contents sink.new)
-            (sample_bytes (S.file store.old) (track_samples tree t))) }
+        ensures bytes { OnOk result (WhereTrack S.Store store.old self.now track (λ file tree t.
+            Appends (K.contents sink.old) (K.contents sink.new)
+            (sample_bytes file (track_samples tree t)))) }
+        ensures prefix { OnErr result (WhereTrack S.Store store.old self.now track (λ file tree t.
+            AppendsPrefix (K.contents sink.old) (K.contents sink.new)
+            (sample_bytes file (track_samples tree t)))) }
         ensures whole { OnOk result ((info : TrackInfo)
             → slice_get self.now.tracks track ≡ Some info
             → PutsMany (K.contents sink.old) (K.contents sink.new) info.bytes) }
-        ensures unchanged { IsTrue (S.is_honest store.old) → (tree : FileTree) (t : TrackTree)
-            → IsOpenedAs (S.file store.old) self.now tree
-            → slice_get tree.movie.tracks track ≡ Some t
-            → IfErr result (λ r. r ≡ refusals.StoreChanged → ⊥) }
-        ensures work { IsTrue (S.is_honest store.old) → (tree : FileTree) (t : TrackTree)
-            → IsOpenedAs (S.file store.old) self.now tree
-            → slice_get tree.movie.tracks track ≡ Some t
-            → steps.new ≤ steps.old + walk_steps tree t }
-        ensures refusal { IfErr result
-            (RefusesCopy (K.contents sink.old) (K.contents sink.new) (S.read_failures store.old)
-            (S.read_failures store.new) (K.put_failures sink.old) (K.put_failures sink.new)) }
+        ensures unchanged { WhereTrack S.Store store.old self.now track
+            (λ file tree t. IsUnchanged result) }
+        ensures work { WhereTrack S.Store store.old self.now track
+            (λ file tree t. steps.new ≤ steps.old + walk_steps tree t) }
+        ensures refusal { RefusedByBoth S.Store store.old store.new K.Sink sink.old sink.new result
+            (RefusesCopy (K.contents sink.old) (K.contents sink.new)) }
     {
         let mut walk = self.walk(alloc, track)?;
         let mut carrier = Carrier::new(alloc, PIECE)?;

@@ -6,6 +6,7 @@ ghost use Rattle.mp4_present.specs.format.FaultNumbers.{Tells};
 ghost use Rattle.mp4_present.specs.words.NumbersTold.{IsPlain, RefusesNumbers, RefusesSearch};
 ghost use Rattle.mp4_present.specs.words.Movies.{Fills};
 ghost use Rattle.mp4_present.specs.words.Opening.{HasOutline};
+ghost use Rattle.mp4_present.specs.words.ToOpen.{LooksByBytes};
 ghost use Rattle.mp4_present.specs.words.WalkSteps.{OpensWithin};
 
 use crate::fault_counts::counts_in_tables;
@@ -45,13 +46,14 @@ fn numbers_in_tables(head: &MovieHead, fault: &Fault, file_len: u64) -> Option<F
 
 // The same, of a file with this outline and this `moov`; or a fault that comes before what is asked
 // for.
-fn numbers_behind<S: Store, L: Ledger>(
+fn numbers_behind<S: Store, L: Ledger, M: Ledger>(
     alloc: Global,
     fault: &Fault,
     store: &mut S,
     outline: &Outline,
     moov: &[u8],
     steps: &mut Steps<L>,
+    looks: &mut Steps<M>,
 ) -> Result<Option<FaultNumbers>, Refusal>
     requires fills { Fills (length moov.now) outline.now.moov }
     requires bytes { IsTrue (S.is_honest store.old)
@@ -64,6 +66,8 @@ fn numbers_behind<S: Store, L: Ledger>(
         → Tells (S.file store.old) fault.now.offset n)) }
     ensures within { IsTrue (S.is_honest store.old)
         → OpensWithin (S.file store.old) steps.old steps.new }
+    ensures looks { IsTrue (S.is_honest store.old)
+        → LooksByBytes (S.file store.old) looks.old looks.new }
     ensures reads { OnOk result (S.read_failures store.new ≡ S.read_failures store.old) }
     ensures refusal { IfErr result
         (RefusesSearch (S.is_honest store.old) (S.read_failures store.old)
@@ -75,16 +79,17 @@ fn numbers_behind<S: Store, L: Ledger>(
         return Ok(Some(told));
     }
     let plain = check_tables(alloc, view, &head, store.len(), steps)?;
-    let told = numbers_in_fragments(alloc, store, outline, &plain, fault, steps)?;
+    let told = numbers_in_fragments(alloc, store, outline, &plain, fault, steps, looks)?;
     Ok(told)
 }
 
 // The same, of a file that is read once more.
-fn numbers_in<S: Store, L: Ledger>(
+fn numbers_in<S: Store, L: Ledger, M: Ledger>(
     alloc: Global,
     fault: &Fault,
     store: &mut S,
     steps: &mut Steps<L>,
+    looks: &mut Steps<M>,
 ) -> Result<Option<FaultNumbers>, Refusal>
     ensures honesty { S.is_honest store.new ≡ S.is_honest store.old }
     ensures file { S.file store.new ≡ S.file store.old }
@@ -92,6 +97,8 @@ fn numbers_in<S: Store, L: Ledger>(
         → Tells (S.file store.old) fault.now.offset n)) }
     ensures within { IsTrue (S.is_honest store.old)
         → OpensWithin (S.file store.old) steps.old steps.new }
+    ensures looks { IsTrue (S.is_honest store.old)
+        → LooksByBytes (S.file store.old) looks.old looks.new }
     ensures reads { OnOk result (S.read_failures store.new ≡ S.read_failures store.old) }
     ensures refusal { IfErr result
         (RefusesSearch (S.is_honest store.old) (S.read_failures store.old)
@@ -100,17 +107,18 @@ fn numbers_in<S: Store, L: Ledger>(
     let outline = read_outline(store)?;
     let at = outline.moov.payload_offset();
     let moov = read_bytes(alloc, store, at, outline.moov.header.end - at)?;
-    let told = numbers_behind(alloc, fault, store, &outline, moov.as_slice(), steps)?;
+    let told = numbers_behind(alloc, fault, store, &outline, moov.as_slice(), steps, looks)?;
     Ok(told)
 }
 
 /// Numbers that go with a fault for which a file was refused, where some are to be had. The file
 /// is read once more, as far as the fault, with no more memory than to open it.
-pub fn fault_numbers<S: Store, L: Ledger>(
+pub fn fault_numbers<S: Store, L: Ledger, M: Ledger>(
     alloc: Global,
     fault: &Fault,
     store: &mut S,
     steps: &mut Steps<L>,
+    looks: &mut Steps<M>,
 ) -> Result<Option<FaultNumbers>, Refusal>
     ensures honesty { S.is_honest store.new ≡ S.is_honest store.old }
     ensures file { S.file store.new ≡ S.file store.old }
@@ -118,6 +126,8 @@ pub fn fault_numbers<S: Store, L: Ledger>(
         → Tells (S.file store.old) fault.now.offset n)) }
     ensures within { IsTrue (S.is_honest store.old)
         → OpensWithin (S.file store.old) steps.old steps.new }
+    ensures looks { IsTrue (S.is_honest store.old)
+        → LooksByBytes (S.file store.old) looks.old looks.new }
     ensures reads { IfOk result (λ told. IfSome told
         (λ _. S.read_failures store.new ≡ S.read_failures store.old)) }
     ensures refusal { IfErr result
@@ -128,7 +138,7 @@ pub fn fault_numbers<S: Store, L: Ledger>(
         Kind::Gap | Kind::CountMismatch | Kind::SampleOutsideFile => {}
         _ => return Ok(None),
     }
-    match numbers_in(alloc, fault, store, steps) {
+    match numbers_in(alloc, fault, store, steps, looks) {
         Ok(told) => Ok(told),
         Err(Refusal::Fault(_)) => Ok(None),
         Err(refusal) => Err(refusal),

@@ -1,6 +1,6 @@
 //! Numbers of a fault in a fragment; and the time that is due where one begins at another (ISO/IEC
 //! 14496-12, 8.8.12).
-ghost use Rattle.std.specs.Prelude.{◌≡◌, ◌+◌, ◌-◌, ◌*◌, ◌^◌, ◌≤◌, ◌==◌, List, length, take, find, IfOk, IfErr, IfSome, OnOk, IsTrue};
+ghost use Rattle.std.specs.Prelude.{◌≡◌, ◌+◌, ◌-◌, ◌*◌, ◌^◌, ◌≤◌, ◌==◌, List, length, take, find, IfOk, IfSome};
 ghost use Rattle.mp4_boxes.specs.format.Bytes.{field};
 ghost use Rattle.mp4_boxes.specs.format.Box.{Box};
 ghost use Rattle.mp4_boxes.specs.words.View.{box_seen};
@@ -9,7 +9,8 @@ ghost use Rattle.mp4_present.specs.format.FaultNumbers.{IsChildOf, SaysTime, Tel
 ghost use Rattle.mp4_frag.specs.words.States.{HaveRoom};
 ghost use Rattle.mp4_head.specs.format.Tree.{MovieTree};
 ghost use Rattle.mp4_frag.specs.declared.state.TrackState.{TrackState};
-ghost use Rattle.mp4_present.specs.words.NumbersTold.{ComesNext, FindsIn, IsReached, moof_read, RefusesSearch, StepsFit};
+ghost use Rattle.mp4_present.specs.words.NumbersTold.{FindsIn, IsBehind, IsReached, moof_read, RefusesSearch};
+ghost use Rattle.mp4_present.specs.words.OverStores.{OnlyReads, RefusedOf, WhereHonest};
 ghost use Rattle.mp4_present.specs.words.Movies.{Fills};
 ghost use Rattle.mp4_present.specs.words.Opening.{HasOutline};
 ghost use Rattle.mp4_present.specs.words.PassedMoofs.{IsBegun};
@@ -30,7 +31,7 @@ use mp4_store::Store;
 use std::alloc::Global;
 use std::sync::ledger::Ledger;
 
-const TFHD: FourCc = FourCc(*b"tfhd");
+pub(crate) const TFHD: FourCc = FourCc(*b"tfhd");
 
 const TFDT: FourCc = FourCc(*b"tfdt");
 
@@ -99,8 +100,8 @@ fn time_in(payload: &[u8]) -> Option<u64>
     Some(u64_at(payload, 4))
 }
 
-// The ID that a `tfhd` says.
-fn track_in(payload: &[u8]) -> Option<u32>
+/// The ID that a `tfhd` says.
+pub(crate) fn track_in(payload: &[u8]) -> Option<u32>
     ensures { IfSome result (λ id. id ≡ field payload.now 4 4) }
 {
     if payload.len() < 8 {
@@ -109,8 +110,8 @@ fn track_in(payload: &[u8]) -> Option<u32>
     Some(u32_at(payload, 4))
 }
 
-/// The track with an ID.
-pub(crate) fn state_with(states: &[TrackState], id: u32) -> Option<TrackState>
+// The track with an ID.
+fn state_with(states: &[TrackState], id: u32) -> Option<TrackState>
     ensures { result ≡ find (λ (t : TrackState). t.id == id) states.now }
 {
     for state in states {
@@ -164,7 +165,7 @@ fn said_in(traf: BoxView, place: u64) -> Option<(u32, u64)>
 
 // What is due and what is found where a `tfdt` stands at a place in this `moof`. The tracks are
 // moved on by what comes before its `traf`.
-fn gap_in<L: Ledger>(
+fn gap_in<L: Ledger, M: Ledger>(
     top: TopBox,
     bytes: &[u8],
     place: u64,
@@ -172,6 +173,7 @@ fn gap_in<L: Ledger>(
     states: &mut [TrackState],
     room: u32,
     steps: &mut Steps<L>,
+    looks: &mut Steps<M>,
 ) -> Result<Option<FaultNumbers>, Fault>
     requires fills { Fills (length bytes.now) top }
     requires few { room ≤ 2 ^ 24 }
@@ -179,6 +181,7 @@ fn gap_in<L: Ledger>(
     ensures finds { IfOk result (λ told. IfSome told
         (FindsIn file_len (moof_read top bytes.now) states.old room place)) }
     ensures work { 2 * steps.new ≤ 2 * steps.old + 2 * room + length bytes.now }
+    ensures looks { 8 * looks.new ≤ 8 * looks.old + length states.old * length bytes.now }
 {
     let Some(traf) = child_at(top.view(bytes), place) else {
         return Ok(None);
@@ -190,7 +193,7 @@ fn gap_in<L: Ledger>(
         return Ok(None);
     };
     let mut room = room;
-    check_moof(front, file_len, states, &mut room, steps)?;
+    check_moof(front, file_len, states, &mut room, steps, looks)?;
     let Some(state) = state_with(states, track) else {
         return Ok(None);
     };
@@ -199,7 +202,7 @@ fn gap_in<L: Ledger>(
 }
 
 // What is told of a fault of this kind where the named box stands at a place in this `moof`.
-fn told_in<L: Ledger>(
+fn told_in<L: Ledger, M: Ledger>(
     kind: Kind,
     top: TopBox,
     bytes: &[u8],
@@ -208,6 +211,7 @@ fn told_in<L: Ledger>(
     states: &mut [TrackState],
     room: u32,
     steps: &mut Steps<L>,
+    looks: &mut Steps<M>,
 ) -> Result<Option<FaultNumbers>, Fault>
     requires fills { Fills (length bytes.now) top }
     requires few { room ≤ 2 ^ 24 }
@@ -215,6 +219,7 @@ fn told_in<L: Ledger>(
     ensures finds { IfOk result (λ told. IfSome told
         (FindsIn file_len (moof_read top bytes.now) states.old room place)) }
     ensures work { 2 * steps.new ≤ 2 * steps.old + 2 * room + length bytes.now }
+    ensures looks { 8 * looks.new ≤ 8 * looks.old + length states.old * length bytes.now }
 {
     match kind {
         Kind::CountMismatch => Ok(counts_in_fragment(top.view(bytes), place)),
@@ -222,12 +227,12 @@ fn told_in<L: Ledger>(
             let moof = top.view(bytes);
             Ok(outside_in_fragment(moof, place, states, file_len))
         }
-        _ => gap_in(top, bytes, place, file_len, states, room, steps),
+        _ => gap_in(top, bytes, place, file_len, states, room, steps, looks),
     }
 }
 
 // The `moof` in which a place lies, where there is one. The tracks are moved on by those before it.
-fn pass_until<S: Store, L: Ledger>(
+fn pass_until<S: Store, L: Ledger, M: Ledger>(
     store: &mut S,
     outline: &Outline,
     states: &mut [TrackState],
@@ -235,30 +240,24 @@ fn pass_until<S: Store, L: Ledger>(
     room: u32,
     place: u64,
     steps: &mut Steps<L>,
+    looks: &mut Steps<M>,
 ) -> Result<Option<Reached>, Refusal>
-    requires few { room ≤ 2 ^ 24 }
-    requires room { HaveRoom room states.old }
+    requires room { (room ≤ 2 ^ 24) × HaveRoom room states.old }
     requires outline { HasOutline (S.is_honest store.old) (S.file store.old) outline.now }
     requires longest { length bytes.old ≡ outline.now.longest }
-    ensures honesty { S.is_honest store.new ≡ S.is_honest store.old }
-    ensures file { S.file store.new ≡ S.file store.old }
+    ensures store { OnlyReads S.Store store.old store.new result }
     ensures bytes { length bytes.new ≡ length bytes.old }
-    ensures reached { IfOk result (λ found. IfSome found (IsReached (length (S.file store.old)))) }
-    ensures room { IfOk result (λ found. IfSome found (λ r. HaveRoom r.room states.new)) }
-    ensures fits { IfOk result (λ found. IfSome found (λ r. IsTrue (S.is_honest store.old)
-        → r.moof.header.end ≤ r.moof.offset + length bytes.old)) }
-    ensures next { IfOk result (λ found. IfSome found (λ r. IsTrue (S.is_honest store.old)
-        → (movie : MovieTree) (boxes : List Box)
-        → IsBegun (S.file store.old) movie boxes states.old room
-        → ComesNext (S.file store.old) movie r states.new)) }
-    ensures left { IfOk result (λ found. IfSome found (λ r. IsTrue (S.is_honest store.old)
-        → StepsFit (length (S.file store.old)) r.moof.offset r.room steps.old steps.new)) }
-    ensures within { IsTrue (S.is_honest store.old)
-        → steps.new ≤ steps.old + (2 ^ 24 + length (S.file store.old)) }
-    ensures reads { OnOk result (S.read_failures store.new ≡ S.read_failures store.old) }
-    ensures refusal { IfErr result
-        (RefusesSearch (S.is_honest store.old) (S.read_failures store.old)
-        (S.read_failures store.new)) }
+    ensures reached { IfOk result (λ found. IfSome found
+        (IsReached (length (S.file store.old)) states.new)) }
+    ensures next { IfOk result (λ found. IfSome found (λ r. WhereHonest S.Store store.old (λ file.
+        IsBehind file states.old room (length bytes.old) r states.new steps.old steps.new
+        looks.old looks.new))) }
+    ensures within { WhereHonest S.Store store.old (λ file.
+        steps.new ≤ steps.old + (2 ^ 24 + length file)) }
+    ensures looks { WhereHonest S.Store store.old (λ file.
+        8 * looks.new ≤ 8 * looks.old + length states.old * length file) }
+    ensures refusal { RefusedOf S.Store store.old store.new result
+        (λ honest file. RefusesSearch honest) }
 {
     let file_len = store.len();
     let mut room = room;
@@ -269,36 +268,36 @@ fn pass_until<S: Store, L: Ledger>(
         }
         let len = read_payload(store, top, bytes)?;
         let moof = top.view(&bytes[..len]);
-        check_moof(moof, file_len, states, &mut room, steps)?;
+        check_moof(moof, file_len, states, &mut room, steps, looks)?;
         next = top.header.end;
     }
     Ok(None)
 }
 
 /// Numbers that go with a fault of a `moof`, behind tables that were checked.
-pub(crate) fn numbers_in_fragments<S: Store, L: Ledger>(
+pub(crate) fn numbers_in_fragments<S: Store, L: Ledger, M: Ledger>(
     alloc: Global,
     store: &mut S,
     outline: &Outline,
     plain: &PlainTracks,
     fault: &Fault,
     steps: &mut Steps<L>,
+    looks: &mut Steps<M>,
 ) -> Result<Option<FaultNumbers>, Refusal>
-    requires few { plain.now.room ≤ 2 ^ 24 }
-    requires room { HaveRoom plain.now.room plain.now.states.items }
+    requires room { (plain.now.room ≤ 2 ^ 24)
+        × HaveRoom plain.now.room plain.now.states.items }
     requires outline { HasOutline (S.is_honest store.old) (S.file store.old) outline.now }
-    ensures honesty { S.is_honest store.new ≡ S.is_honest store.old }
-    ensures file { S.file store.new ≡ S.file store.old }
-    ensures told { IfOk result (λ told. IfSome told (λ n. IsTrue (S.is_honest store.old)
-        → (movie : MovieTree) (boxes : List Box)
-        → IsBegun (S.file store.old) movie boxes plain.now.states.items plain.now.room
-        → Tells (S.file store.old) fault.now.offset n)) }
-    ensures within { IsTrue (S.is_honest store.old)
-        → steps.new ≤ steps.old + (2 ^ 24 + length (S.file store.old)) }
-    ensures reads { OnOk result (S.read_failures store.new ≡ S.read_failures store.old) }
-    ensures refusal { IfErr result
-        (RefusesSearch (S.is_honest store.old) (S.read_failures store.old)
-        (S.read_failures store.new)) }
+    ensures store { OnlyReads S.Store store.old store.new result }
+    ensures told { IfOk result (λ told. IfSome told (λ n. WhereHonest S.Store store.old (λ file.
+        (movie : MovieTree) (boxes : List Box)
+        → IsBegun file movie boxes plain.now.states.items plain.now.room
+        → Tells file fault.now.offset n))) }
+    ensures within { WhereHonest S.Store store.old (λ file.
+        steps.new ≤ steps.old + (2 ^ 24 + length file)) }
+    ensures looks { WhereHonest S.Store store.old (λ file.
+        8 * looks.new ≤ 8 * looks.old + length plain.now.states.items * length file) }
+    ensures refusal { RefusedOf S.Store store.old store.new result
+        (λ honest file. RefusesSearch honest) }
 {
     let mut states = Vec::new(alloc);
     states.extend_from_slice(plain.states.as_slice())?;
@@ -306,7 +305,10 @@ pub(crate) fn numbers_in_fragments<S: Store, L: Ledger>(
     let mut bytes = vec![in alloc; 0u8; outline.longest as usize]?;
     let bytes = bytes.as_mut_slice();
     let place = fault.offset;
-    let Some(reached) = pass_until(store, outline, states, bytes, plain.room, place, steps)? else {
+    let Some(reached) = pass_until(
+        store, outline, states, bytes, plain.room, place, steps, looks,
+    )?
+    else {
         return Ok(None);
     };
     let Reached { moof, room } = reached;
@@ -314,7 +316,7 @@ pub(crate) fn numbers_in_fragments<S: Store, L: Ledger>(
     let file_len = store.len();
     let bytes = &bytes[..len];
     let told = told_in(
-        fault.kind, moof, bytes, place, file_len, states, room, steps,
+        fault.kind, moof, bytes, place, file_len, states, room, steps, looks,
     )?;
     Ok(told)
 }

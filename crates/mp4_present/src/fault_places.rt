@@ -1,20 +1,15 @@
 //! The sample that does not lie in the file, where a table or a run is faulty for it (ISO/IEC
 //! 14496-12, 8.7.3 to 8.7.5, 8.8.7 and 8.8.8).
-ghost use Rattle.std.specs.Prelude.{IfSome, IfErr};
+ghost use Rattle.std.specs.Prelude.{IfSome};
 ghost use Rattle.mp4_present.specs.words.NumbersTold.{IsPlain};
 
 use crate::fault_counts::{chunks_in, samples_in};
 use crate::fault_details::FaultNumbers;
-use crate::fault_gaps::{child_at, child_of, state_with};
-use mp4_boxes::{BoxView, FourCc, children, i32_at, u16_at, u32_at, u64_at};
-use mp4_frag::TrackState;
+use crate::fault_gaps::{TFHD, child_at, child_of, track_in};
+use mp4_boxes::{BoxView, FourCc, u16_at, u32_at, u64_at};
+use mp4_frag::{FragCursor, FragView, TrackState};
 use mp4_head::MovieHead;
-
-const TRAF: FourCc = FourCc(*b"traf");
-
-const TFHD: FourCc = FourCc(*b"tfhd");
-
-const TRUN: FourCc = FourCc(*b"trun");
+use mp4_tables::{Keys, Samples};
 
 // A sample, where it does not lie in a file of this length.
 fn outside(at: u64, size: u32, file_len: u64) -> Option<FaultNumbers>
@@ -147,125 +142,24 @@ pub(crate) fn outside_in_tables(head: &MovieHead, place: u64, file_len: u64) -> 
 
 // ---- runs
 
-// What a `tfhd` says: its track, where its runs are counted from, how long a sample is.
-#[derive(Clone, Copy)]
-struct RunsHead {
-    track: u32,
-    base: Option<u64>,
-    is_moof_base: bool,
-    size: Option<u32>,
-}
-
-fn head_in(payload: &[u8]) -> Option<RunsHead> {
-    let flags = number_at(payload, 0)?;
-    let track = number_at(payload, 4)?;
-    let mut place = 8;
-    let mut base = None;
-    if flags & 1 != 0 {
-        if payload.len() < 16 {
+// The first of these samples that does not lie in the file. A place below 0, or of more than 64
+// bits, is handed out as 0: from there on nothing is told.
+fn first_outside<C: Samples>(samples: &mut C, file_len: u64) -> Option<FaultNumbers>
+    ensures { IfSome result (IsPlain file_len) }
+{
+    while let Some(sample) = samples.next() {
+        if sample.at == 0 {
             return None;
         }
-        base = Some(u64_at(payload, 8));
-        place = 16;
-    }
-    let skipped = if flags & 2 != 0 { 4 } else { 0 } + if flags & 8 != 0 { 4 } else { 0 };
-    let mut size = None;
-    if flags & 0x10 != 0 {
-        size = Some(number_at(payload, place + skipped)?);
-    }
-    Some(RunsHead {
-        track,
-        base,
-        is_moof_base: flags & 0x2_0000 != 0,
-        size,
-    })
-}
-
-// Where a run begins: at its offset from the base, else where the data before it ends.
-fn start_of(payload: &[u8], base: u64, before: u64) -> Option<u64> {
-    if number_at(payload, 0)? & 1 == 0 {
-        return Some(before);
-    }
-    if payload.len() < 12 {
-        return None;
-    }
-    let offset = i32_at(payload, 8);
-    let apart = u64::from(offset.unsigned_abs());
-    if offset < 0 {
-        base.checked_sub(apart)
-    } else {
-        base.checked_add(apart)
-    }
-}
-
-// How the rows of a run are laid out.
-#[derive(Clone, Copy)]
-struct RunRows {
-    count: u32,
-    /// The place of the first size, where rows say sizes.
-    sizes: Option<usize>,
-    row_len: usize,
-}
-
-fn rows_in(payload: &[u8]) -> Option<RunRows> {
-    let flags = number_at(payload, 0)?;
-    let count = number_at(payload, 4)?;
-    let mut place = 8usize;
-    for flag in [1, 4, 0x100] {
-        if flags & flag != 0 {
-            place = place.saturating_add(4);
+        if let Some(numbers) = outside(sample.at, sample.size, file_len) {
+            return Some(numbers);
         }
     }
-    let mut row_len = 0usize;
-    for flag in [0x100, 0x200, 0x400, 0x800] {
-        if flags & flag != 0 {
-            row_len = row_len.saturating_add(4);
-        }
-    }
-    let sizes = if flags & 0x200 != 0 {
-        Some(place)
-    } else {
-        None
-    };
-    Some(RunRows {
-        count,
-        sizes,
-        row_len,
-    })
+    None
 }
 
-// Where a run ends; or its first sample that does not lie in the file, or nothing where it can't be
-// read. A sample that says no size has this one.
-fn pass_run(
-    payload: &[u8],
-    rows: RunRows,
-    start: u64,
-    size: u32,
-    file_len: u64,
-) -> Result<u64, Option<FaultNumbers>>
-    ensures { IfErr result (λ told. IfSome told (IsPlain file_len)) }
-{
-    let mut at = start;
-    let mut place = rows.sizes;
-    for _sample in 0..rows.count {
-        let mut own = size;
-        if let Some(there) = place {
-            match number_at(payload, there) {
-                Some(size) => own = size,
-                None => return Err(None),
-            }
-            place = Some(there.saturating_add(rows.row_len));
-        }
-        if let Some(numbers) = outside(at, own, file_len) {
-            return Err(Some(numbers));
-        }
-        at = at.saturating_add(u64::from(own));
-    }
-    Ok(at)
-}
-
-/// The first sample that does not lie in the file, of the `trun` at a place of the file in this
-/// `moof`. Nothing is told where the runs are counted from the end of another `traf`.
+/// The first sample that does not lie in the file, of the track whose `trun` lies at a place of the
+/// file in this `moof`. These are the states of the tracks before it.
 pub(crate) fn outside_in_fragment(
     moof: BoxView,
     place: u64,
@@ -275,44 +169,8 @@ pub(crate) fn outside_in_fragment(
     ensures { IfSome result (IsPlain file_len) }
 {
     let traf = child_at(moof, place)?;
-    let head = head_in(child_of(traf, TFHD)?.payload())?;
-    let is_first = child_of(moof, TRAF)?.offset() == traf.offset();
-    let base = match head.base {
-        Some(base) => base,
-        None if head.is_moof_base || is_first => moof.offset(),
-        None => return None,
-    };
-    let size = match head.size {
-        Some(size) => size,
-        None => state_with(states, head.track)?.trex?.size,
-    };
-    outside_in_runs(traf, place, base, size, file_len)
-}
-
-// The same, of the runs of a `traf` with this base and this size.
-fn outside_in_runs(
-    traf: BoxView,
-    place: u64,
-    base: u64,
-    size: u32,
-    file_len: u64,
-) -> Option<FaultNumbers>
-    ensures { IfSome result (IsPlain file_len) }
-{
-    let Ok(boxes) = children(traf.payload(), traf.payload_offset(), traf.kind()) else {
-        return None;
-    };
-    let mut end = base;
-    for run in boxes {
-        if run.kind() == TRUN {
-            let start = start_of(run.payload(), base, end)?;
-            let rows = rows_in(run.payload())?;
-            match pass_run(run.payload(), rows, start, size, file_len) {
-                Ok(behind) => end = behind,
-                Err(told) if run.offset() == place => return told,
-                Err(_) => return None,
-            }
-        }
-    }
-    None
+    let track = track_in(child_of(traf, TFHD)?.payload())?;
+    let view = FragView::again(moof);
+    let mut cursor = FragCursor::start(&view, states, track, 0, Keys::new());
+    first_outside(&mut cursor, file_len)
 }

@@ -5,7 +5,7 @@ ghost use Rattle.mp4_frag.specs.words.States.{HaveRoom};
 ghost use Rattle.mp4_present.specs.words.Opening.{HasOutline};
 ghost use Rattle.mp4_present.specs.words.OverStores.{OnlyReads, WhereHonest, WhereRead, RefusedOf};
 ghost use Rattle.mp4_present.specs.words.PassedMoofs.{RefusesFragments};
-ghost use Rattle.mp4_present.specs.words.ToOpen.{PassesNoting, PassesOn};
+ghost use Rattle.mp4_present.specs.words.ToOpen.{LooksAtMoofs, PassesNoting, PassesOn};
 ghost use Rattle.mp4_present.specs.words.WalkSteps.{ChecksWithin, IfNoFault};
 
 use crate::fragments::next_fragment;
@@ -19,8 +19,9 @@ use mp4_store::Store;
 use std::alloc::Global;
 use std::sync::ledger::Ledger;
 
-// Reads each `moof` of the file to the room, and checks it: the tracks are then behind it.
-fn pass_fragments<S: Store, L: Ledger>(
+// Reads each `moof` of the file to the room, and checks it: the tracks are then behind it. All of
+// them are looked at once for it, and each once at most for each of its `traf`s.
+fn pass_fragments<S: Store, L: Ledger, M: Ledger>(
     store: &mut S,
     outline: &Outline,
     states: &mut [TrackState],
@@ -28,23 +29,25 @@ fn pass_fragments<S: Store, L: Ledger>(
     bytes: &mut [u8],
     room: u32,
     steps: &mut Steps<L>,
+    looks: &mut Steps<M>,
 ) -> Result<(), Refusal>
-    requires few { room ≤ 2 ^ 24 }
-    requires room { HaveRoom room states.old }
+    requires room { (room ≤ 2 ^ 24) × HaveRoom room states.old }
     requires outline { HasOutline (S.is_honest store.old) (S.file store.old) outline.now }
-    requires longest { length bytes.old ≡ outline.now.longest }
-    requires own { length own.old.items ≡ length states.old }
+    requires rooms { (length bytes.old ≡ outline.now.longest)
+        × (length own.old.items ≡ length states.old) }
     ensures store { OnlyReads S.Store store.old store.new result }
     ensures passed { OnOk result (WhereHonest S.Store store.old (λ file.
         PassesOn file states.old room states.new)) }
-    ensures own { OnOk result (WhereHonest S.Store store.old (λ file.
-        map own_seen own.old.items ≡ map own_first states.old
+    ensures own { OnOk result ((length own.new.items ≡ length own.old.items)
+        × WhereHonest S.Store store.old (λ file. map own_seen own.old.items
+        ≡ map own_first states.old
         → PassesNoting file states.old room states.new (map own_seen own.new.items))) }
-    ensures each { OnOk result (length own.new.items ≡ length own.old.items) }
     ensures work { WhereHonest S.Store store.old (λ file.
         IfNoFault result (ChecksWithin file steps.old steps.new)) }
     ensures within { WhereHonest S.Store store.old (λ file.
         steps.new ≤ steps.old + (2 ^ 24 + length file)) }
+    ensures looks { WhereHonest S.Store store.old (λ file.
+        LooksAtMoofs file (length states.old) result looks.old looks.new) }
     ensures refusal { RefusedOf S.Store store.old store.new result (λ honest file.
         RefusesFragments honest file states.old room) }
 {
@@ -54,8 +57,8 @@ fn pass_fragments<S: Store, L: Ledger>(
     while let Some(top) = next_fragment(store, next)? {
         let len = read_payload(store, top, bytes)?;
         let moof = top.view(&bytes[..len]);
-        check_moof(moof, file_len, states, &mut room, steps)?;
-        note_moof(own, states, top.offset)?;
+        check_moof(moof, file_len, states, &mut room, steps, looks)?;
+        note_moof(own, states, top.offset, top.header.end - top.offset, looks)?;
         next = top.header.end;
     }
     Ok(())
@@ -63,29 +66,30 @@ fn pass_fragments<S: Store, L: Ledger>(
 
 /// Reads and checks each `moof` of the file: the tracks of the movie behind all of their samples.
 /// Which `moof`s have samples of each is noted.
-pub(crate) fn check_fragments<S: Store, L: Ledger>(
+pub(crate) fn check_fragments<S: Store, L: Ledger, M: Ledger>(
     alloc: Global,
     store: &mut S,
     outline: &Outline,
     plain: &PlainTracks,
     own: &mut Vec<OwnMoofs>,
     steps: &mut Steps<L>,
+    looks: &mut Steps<M>,
 ) -> Result<Vec<TrackState>, Refusal>
     requires own { own.old.items ≡ [] }
-    requires few { plain.now.room ≤ 2 ^ 24 }
-    requires room { HaveRoom plain.now.room plain.now.states.items }
+    requires room { (plain.now.room ≤ 2 ^ 24)
+        × HaveRoom plain.now.room plain.now.states.items }
     requires outline { HasOutline (S.is_honest store.old) (S.file store.old) outline.now }
-    ensures states { IfOk result (λ states. length states.items ≡ length plain.now.states.items) }
+    ensures each { IfOk result (λ states. (length states.items ≡ length plain.now.states.items)
+        × (length own.new.items ≡ length plain.now.states.items)) }
     ensures store { OnlyReads S.Store store.old store.new result }
-    ensures passed { WhereRead S.Store store.old result (λ file states.
-        PassesOn file plain.now.states.items plain.now.room states.items) }
     ensures own { WhereRead S.Store store.old result (λ file states. PassesNoting file
         plain.now.states.items plain.now.room states.items (map own_seen own.new.items)) }
-    ensures each { IfOk result (λ states. length own.new.items ≡ length plain.now.states.items) }
     ensures work { WhereHonest S.Store store.old (λ file.
         IfNoFault result (ChecksWithin file steps.old steps.new)) }
     ensures within { WhereHonest S.Store store.old (λ file.
         steps.new ≤ steps.old + (2 ^ 24 + length file)) }
+    ensures looks { WhereHonest S.Store store.old (λ file.
+        LooksAtMoofs file (length plain.now.states.items) result looks.old looks.new) }
     ensures refusal { RefusedOf S.Store store.old store.new result (λ honest file.
         RefusesFragments honest file plain.now.states.items plain.now.room) }
 {
@@ -101,6 +105,7 @@ pub(crate) fn check_fragments<S: Store, L: Ledger>(
         bytes.as_mut_slice(),
         plain.room,
         steps,
+        looks,
     )?;
     Ok(states)
 }

@@ -39,7 +39,7 @@ pub(crate) fn next_fragment<S: Store>(store: &mut S, from: u64) -> Result<Option
         → IsNextFragment (S.file store.old) from boxes found) }
     ensures within { IfOk result
         (λ found. IfSome found (λ top. IsWhole (length (S.file store.old)) top × (from ≤ top.offset)
-        × (top.offset < top.header.end))) }
+        × (top.offset < top.header.end) × (8 ≤ top.header.header))) }
     ensures reads { OnOk result (S.read_failures store.new ≡ S.read_failures store.old) }
     ensures refusal { IfErr result
         (RefusesNext (S.is_honest store.old) (S.file store.old) from (S.read_failures store.old)

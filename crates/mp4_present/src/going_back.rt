@@ -1,5 +1,5 @@
 //! How a walk goes back to where it stood.
-ghost use Rattle.std.specs.Prelude.{ℕ, ◌≡◌, ◌+◌, ◌≤◌, List, length, drop, if◌then◌else◌, true, false, Ok, Err, Some, slice_get, IfErr, OnOk, OnErr, IsOk, IsTrue};
+ghost use Rattle.std.specs.Prelude.{ℕ, ◌≡◌, ◌+◌, ◌≤◌, List, length, drop, if◌then◌else◌, true, false, Err, Some, IfErr, OnOk, OnErr, IsOk, IsTrue, MatchResult};
 ghost use Rattle.mp4_boxes.specs.declared.refusal.Refusal.TheVariants as refusals;
 ghost use Rattle.mp4_frag.specs.format.Fragments.{FragmentTree};
 ghost use Rattle.mp4_head.specs.format.Tree.{TrackTree};
@@ -8,11 +8,12 @@ ghost use Rattle.mp4_present.specs.words.SamplesComing.{Comes, HoldsNext, Stands
 ghost use Rattle.mp4_present.specs.format.Denotes.{FileTree};
 ghost use Rattle.mp4_present.specs.words.GoingBack.{GoesBackTo, HoldsMarked, StandsBehind, again_from, back_steps, farther, IsMarkInHand, is_at_hand, is_mark_farther, set_back, turned_back};
 ghost use Rattle.mp4_present.specs.words.InHand.{left_in_hand};
-ghost use Rattle.mp4_present.specs.words.Movies.{MovieSeen, Fills, GoesOn, StandsAt, IsRest, IsWalkOf, InHandOf, RefusesLoad, all_in_moof, mark_of, moof_box};
+ghost use Rattle.mp4_present.specs.words.Movies.{MovieSeen, GoesOn, IsRest, IsWalkOf, InHandOf, RefusesLoad, StandsAt, mark_of};
 ghost use Rattle.mp4_present.specs.words.OpenedMovie.{IsOpenedAs};
-ghost use Rattle.mp4_present.specs.words.WalkSteps.{MayTake, TakesOn, moof_steps, steps_to, way_through};
+ghost use Rattle.mp4_present.specs.words.WalkSteps.{MayTake, TakesOn, steps_to};
 ghost use Rattle.mp4_present.specs.declared.in_hand.InHand.{InHand};
-ghost use Rattle.mp4_present.specs.declared.track_info.TrackInfo.{TrackInfo};
+ghost use Rattle.mp4_present.specs.words.OverStores.{OnlyReads, Refused};
+ghost use Rattle.mp4_present.specs.words.OverWalks.{HasInHand, HasMoof, IsAtMark, IsReadAgain, TakesMarked, WhereMarkMayTake, WhereMarked, back_at_mark};
 
 use crate::in_hand::Place;
 use crate::movie::Movie;
@@ -92,14 +93,9 @@ impl Walk {
     // many they are, and when the next is due behind them, is known.
     fn take_again<L: Ledger>(&mut self, before: Due, movie: &Movie, steps: &mut Steps<L>)
         requires movie { GoesOn movie.now self.old }
-        requires fills { Fills self.old.used self.old.moof }
-        requires used { self.old.used ≤ length self.old.bytes.items }
+        requires moof { HasMoof self.old }
         ensures same { self.new ≡ record self.old { place = self.new.place; before = Some before } }
-        ensures place { StandsAt movie.now self.new self.new.place }
-        ensures rest { IsRest movie.now self.new (Some before) self.new.place }
-        ensures all { (info : TrackInfo) → slice_get movie.now.tracks self.old.track ≡ Some info
-            → (hand : InHand) × InHandOf movie.now self.new hand
-            × (left_in_hand hand ≡ all_in_moof movie.now self.old info before.time) }
+        ensures hand { HasInHand movie.now self.old self.new before }
         ensures taken { (file : List ℕ) (tree : FileTree) (t : TrackTree)
             (earlier later : List FragmentTree) (next : FragmentTree)
             → IsOpenedAs file movie.now tree
@@ -107,9 +103,6 @@ impl Walk {
             (record self.old { due = before.time; left = before.left })
             → StandsBehind tree t earlier next later self.old.due self.old.left
             → Takes file tree t earlier next later movie.now self.new true }
-        ensures way { steps_to self.new.place ≤ moof_steps (moof_box self.old) }
-        ensures through { (t : TrackTree)
-            → way_through t self.new self.new.place ≡ moof_steps (moof_box self.new) }
         ensures work { steps.new ≡ steps.old + steps_to self.new.place }
     {
         let view = FragView::again(self.moof.view(&self.bytes[..self.used]));
@@ -131,40 +124,21 @@ impl Walk {
     ) -> Result<(), Refusal>
         requires walk { IsWalkOf movie.now self.old }
         requires marked { self.old.mark.before ≡ Some before }
-        ensures honesty { S.is_honest store.new ≡ S.is_honest store.old }
-        ensures file { S.file store.new ≡ S.file store.old }
+        ensures store { OnlyReads S.Store store.old store.new result }
         ensures walk { OnOk result (IsWalkOf movie.now self.new) }
         ensures room { length self.new.bytes.items ≡ length self.old.bytes.items }
-        ensures same { OnOk result ((self.new.next ≡ self.old.mark.next)
-            × (self.new.due ≡ self.old.mark.due) × (self.new.left ≡ self.old.mark.left)) }
-        ensures all { OnOk result ((info : TrackInfo)
-            → slice_get movie.now.tracks self.old.track ≡ Some info
-            → (hand : InHand) × InHandOf movie.now self.new hand
-            × (left_in_hand hand ≡ all_in_moof movie.now self.new info before.time)) }
+        ensures again { OnOk result (IsReadAgain movie.now self.old self.new before) }
         ensures taken { IsTrue (S.is_honest store.old)
             → (tree : FileTree) (t : TrackTree) (earlier later : List FragmentTree)
             (next : FragmentTree) (begun : Walk)
             → IsOpenedAs (S.file store.old) movie.now tree
             → HoldsMarked (S.file store.old) tree t earlier next later begun self.old before
-            → OnOk result
-            (Takes (S.file store.old) tree t earlier next later movie.now self.new true
-            × (moof_box self.new ≡ moof_box begun)
-            × (steps_to self.new.place ≤ moof_steps (moof_box begun))
-            × (steps.new ≡ steps.old + steps_to self.new.place)) }
-        ensures unchanged { IsTrue (S.is_honest store.old)
-            → (tree : FileTree) (t : TrackTree) (earlier later : List FragmentTree)
-            (next : FragmentTree) (begun : Walk)
-            → IsOpenedAs (S.file store.old) movie.now tree
-            → HoldsMarked (S.file store.old) tree t earlier next later begun self.old before
-            → IfErr result (λ r. r ≡ refusals.StoreChanged → ⊥) }
-        ensures through { OnOk result ((t : TrackTree)
-            → way_through t self.new self.new.place ≡ moof_steps (moof_box self.new)) }
+            → MatchResult result (λ _. TakesMarked (S.file store.old) tree t earlier next later
+            movie.now begun self.new steps.old steps.new) (λ r. r ≡ refusals.StoreChanged → ⊥) }
         ensures idle { OnErr result (steps.new ≡ steps.old) }
         ensures length { (length (S.file store.old) ≡ movie.now.file_len → ⊥)
             → result ≡ Err refusals.StoreChanged }
-        ensures reads { OnOk result (S.read_failures store.new ≡ S.read_failures store.old) }
-        ensures refusal { IfErr result (RefusesLoad (S.read_failures store.old)
-            (S.read_failures store.new)) }
+        ensures refusal { Refused S.Store store.old store.new result RefusesLoad }
     {
         let mark = self.mark;
         let len = store.len();
@@ -231,51 +205,24 @@ impl Walk {
         steps: &mut Steps<L>,
     ) -> Result<(), Refusal>
         requires { IsWalkOf movie.now self.old }
-        ensures honesty { S.is_honest store.new ≡ S.is_honest store.old }
-        ensures file { S.file store.new ≡ S.file store.old }
+        ensures store { OnlyReads S.Store store.old store.new result }
         ensures walk { OnOk result (IsWalkOf movie.now self.new) }
         ensures room { length self.new.bytes.items ≡ length self.old.bytes.items }
-        ensures mark { OnOk result (self.new.mark ≡ mark_of self.new self.old.mark.to_come) }
-        ensures back { IsTrue (S.is_honest store.old)
-            → (tree : FileTree) (t : TrackTree) (begun : Walk) (samples : List SampleAt)
-            → IsOpenedAs (S.file store.old) movie.now tree
-            → GoesBackTo (S.file store.old) tree t movie.now begun self.old (length samples)
-            → Comes (S.file store.old) tree t movie.now begun samples
-            → OnOk result (Comes (S.file store.old) tree t movie.now self.new samples) }
-        ensures unchanged { IsTrue (S.is_honest store.old)
-            → (tree : FileTree) (t : TrackTree) (begun : Walk) (samples : List SampleAt)
-            → IsOpenedAs (S.file store.old) movie.now tree
-            → GoesBackTo (S.file store.old) tree t movie.now begun self.old (length samples)
-            → Comes (S.file store.old) tree t movie.now begun samples
-            → IfErr result (λ r. r ≡ refusals.StoreChanged → ⊥) }
-        ensures work { IsTrue (S.is_honest store.old)
-            → (tree : FileTree) (t : TrackTree) (begun : Walk) (to_come n : ℕ)
-            → IsOpenedAs (S.file store.old) movie.now tree
-            → GoesBackTo (S.file store.old) tree t movie.now begun self.old to_come
-            → MayTake (S.file store.old) tree t begun n
-            → OnOk result (TakesOn (S.file store.old) tree t
-            (n + back_steps begun self.old) self.new steps.old steps.new) }
-        ensures most { IsTrue (S.is_honest store.old)
-            → (tree : FileTree) (t : TrackTree) (begun : Walk) (to_come n : ℕ)
-            → IsOpenedAs (S.file store.old) movie.now tree
-            → GoesBackTo (S.file store.old) tree t movie.now begun self.old to_come
-            → MayTake (S.file store.old) tree t begun n
-            → OnErr result (steps.new ≤ steps.old + back_steps begun self.old) }
+        ensures mark { OnOk result (IsAtMark self.old self.new) }
+        ensures back { WhereMarked S.Store store.old movie.now self.old
+            (λ file tree t samples. MatchResult result
+            (λ _. Comes file tree t movie.now self.new samples)
+            (λ r. r ≡ refusals.StoreChanged → ⊥)) }
+        ensures work { WhereMarkMayTake S.Store store.old movie.now self.old
+            (λ file tree t begun n. MatchResult result
+            (λ _. TakesOn file tree t (n + back_steps begun self.old) self.new steps.old steps.new)
+            (λ _. steps.new ≤ steps.old + back_steps begun self.old)) }
         ensures still { is_at_hand self.old ≡ true → IsOk result × (store.new ≡ store.old)
-            × (steps.new ≡ steps.old)
-            × (self.new ≡ record (set_back self.old) {
-              mark = mark_of
-                  (set_back self.old) self.old.mark.to_come;
-            }) }
-        ensures left { OnOk result ((self.new.left ≡ self.old.mark.left)
-            × (self.new.due ≡ self.old.mark.due)
-            × (self.new.next ≡ self.old.mark.next)) }
+            × (steps.new ≡ steps.old) × (self.new ≡ back_at_mark self.old) }
         ensures length { is_at_hand self.old ≡ false
             → (length (S.file store.old) ≡ movie.now.file_len → ⊥)
             → result ≡ Err refusals.StoreChanged }
-        ensures reads { OnOk result (S.read_failures store.new ≡ S.read_failures store.old) }
-        ensures refusal { IfErr result (RefusesLoad (S.read_failures store.old)
-            (S.read_failures store.new)) }
+        ensures refusal { Refused S.Store store.old store.new result RefusesLoad }
     {
         let mark = self.mark;
         let Some(before) = self.again_from() else {

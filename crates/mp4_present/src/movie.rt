@@ -42,8 +42,9 @@ pub struct Movie {
 }
 
 impl Model for Movie {
+    ghost use Rattle.std.specs.Prelude.{map};
     ghost use Rattle.mp4_present.specs.words.Movies.{MovieSeen, IsMovie};
-    ghost use Rattle.mp4_present.specs.words.OwnMoofs.{places_of};
+    ghost use Rattle.mp4_present.specs.words.OwnMoofs.{own_seen};
 
     ghost Value = { MovieSeen };
 
@@ -57,7 +58,7 @@ impl Model for Movie {
       states = m.states.items;
       room = m.room;
       tracks = m.tracks.items;
-      own = places_of m.own.items;
+      own = map own_seen m.own.items;
       mehd = m.mehd;
     } };
 
@@ -71,7 +72,7 @@ impl Model for Movie {
       states = m.states.items;
       room = m.room;
       tracks = m.tracks.items;
-      own = places_of m.own.items;
+      own = map own_seen m.own.items;
       mehd = m.mehd;
     }) };
 }
@@ -80,7 +81,8 @@ impl Movie {
     ghost use Rattle.std.specs.Prelude.{ℕ, List, ◌≡◌, ◌<◌, ◌≤◌, ◌++◌, length, slice_get, Some, IfOk, IfSome};
     ghost use Rattle.std.specs.List.{AllByRecursion};
     ghost use Rattle.mp4_head.specs.words.Found.{SaysHead};
-    ghost use Rattle.mp4_present.specs.words.Movies.{IsMovie, moov_box, tables_seen};
+    ghost use Rattle.mp4_present.specs.words.Movies.{IsMovie, moov_box, own_room, tables_seen};
+    ghost use Rattle.mp4_present.specs.words.OwnMoofs.{OwnSeen};
     ghost use Rattle.mp4_present.specs.declared.movie.TrackTables.{TrackTables};
 
     /// What the movie and its tracks say of themselves, read anew from the bytes of the `moov`.
@@ -117,12 +119,21 @@ impl Movie {
     pub(crate) fn own_from(&self, track: usize, from: u64) -> Option<u64>
         requires { track < length self.now.tracks }
         ensures behind { IfSome result (λ place. from ≤ place) }
-        ensures first { (before later : List ℕ)
-            → slice_get self.now.own track ≡ Some (before ++ later)
+        ensures first { (own : OwnSeen) (before later : List ℕ)
+            → slice_get self.now.own track ≡ Some own → own.places ≡ before ++ later
             → AllByRecursion (λ place. place < from) before
             → AllByRecursion (λ place. from ≤ place) later → result ≡ slice_get later 0 }
     {
         self.own[track].from(from)
+    }
+
+    // The room of a walk over a track: for the longest `moof` that has samples of it.
+    pub(crate) fn room_for(&self, track: usize) -> u64
+        requires { track < length self.now.tracks }
+        ensures room { result ≡ own_room self.now track }
+        ensures within { result ≤ self.now.longest }
+    {
+        self.own[track].room(self.longest)
     }
 
     // The tables of a track.

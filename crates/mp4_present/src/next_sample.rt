@@ -1,6 +1,5 @@
 //! The samples of a track one by one, over its tables and each `moof`.
-ghost use Rattle.std.specs.Prelude.{◌≡◌, ◌+◌, ◌≤◌, ℕ, List, [], None, IfOk, IfErr, OnOk, OnErr, IsTrue};
-ghost use Rattle.mp4_boxes.specs.declared.refusal.Refusal.TheVariants as refusals;
+ghost use Rattle.std.specs.Prelude.{◌≡◌, ℕ, List, [], None, IfOk, OnOk};
 ghost use Rattle.mp4_head.specs.format.Tree.{TrackTree};
 ghost use Rattle.mp4_tables.specs.declared.sample.SampleAt.{SampleAt};
 ghost use Rattle.mp4_present.specs.format.Denotes.{FileTree};
@@ -8,6 +7,8 @@ ghost use Rattle.mp4_present.specs.words.SamplesComing.{Comes};
 ghost use Rattle.mp4_present.specs.words.NextSample.{TakesFirst, TakesSample};
 ghost use Rattle.mp4_present.specs.words.Movies.{IsWalkOf, HasSome, RefusesLoad};
 ghost use Rattle.mp4_present.specs.words.OpenedMovie.{IsOpenedAs};
+ghost use Rattle.mp4_present.specs.words.OverStores.{IsUnchanged, OnlyReads, Refused};
+ghost use Rattle.mp4_present.specs.words.OverWalks.{TakesSteps, WhereComes};
 ghost use Rattle.mp4_present.specs.words.WalkSteps.{MayTake, TakesOn};
 
 use crate::movie::Movie;
@@ -49,29 +50,14 @@ impl Walk {
     ) -> Result<SampleAt, Refusal>
         requires { IsWalkOf movie.now self.old }
         ensures walk { OnOk result (IsWalkOf movie.now self.new) }
-        ensures honesty { S.is_honest store.new ≡ S.is_honest store.old }
-        ensures file { S.file store.new ≡ S.file store.old }
-        ensures next { IsTrue (S.is_honest store.old)
-            → (tree : FileTree) (t : TrackTree) (samples : List SampleAt)
-            → IsOpenedAs (S.file store.old) movie.now tree
-            → Comes (S.file store.old) tree t movie.now self.old samples
-            → IfOk result (TakesFirst (S.file store.old) tree t movie.now self.new samples) }
-        ensures unchanged { IsTrue (S.is_honest store.old)
-            → (tree : FileTree) (t : TrackTree) (samples : List SampleAt)
-            → IsOpenedAs (S.file store.old) movie.now tree
-            → Comes (S.file store.old) tree t movie.now self.old samples → (samples ≡ [] → ⊥)
-            → IfErr result (λ r. r ≡ refusals.StoreChanged → ⊥) }
-        ensures work { IsTrue (S.is_honest store.old) → (tree : FileTree) (t : TrackTree) (n : ℕ)
-            → IsOpenedAs (S.file store.old) movie.now tree
-            → MayTake (S.file store.old) tree t self.old n
-            → OnOk result (TakesOn (S.file store.old) tree t n self.new steps.old steps.new) }
-        ensures most { IsTrue (S.is_honest store.old) → (tree : FileTree) (t : TrackTree) (n : ℕ)
-            → IsOpenedAs (S.file store.old) movie.now tree
-            → MayTake (S.file store.old) tree t self.old n
-            → OnErr result (steps.new ≤ steps.old + n) }
-        ensures reads { OnOk result (S.read_failures store.new ≡ S.read_failures store.old) }
-        ensures refusal { IfErr result
-            (RefusesLoad (S.read_failures store.old) (S.read_failures store.new)) }
+        ensures store { OnlyReads S.Store store.old store.new result }
+        ensures next { WhereComes S.Store store.old movie.now self.old (λ file tree t samples.
+            IfOk result (TakesFirst file tree t movie.now self.new samples)) }
+        ensures unchanged { WhereComes S.Store store.old movie.now self.old (λ file tree t samples.
+            (samples ≡ [] → ⊥) → IsUnchanged result) }
+        ensures work { TakesSteps S.Store store.old movie.now self.old self.new result steps.old
+            steps.new }
+        ensures refusal { Refused S.Store store.old store.new result RefusesLoad }
     {
         if let Some(sample) = self.take_in_hand(movie, steps) {
             return Ok(sample);

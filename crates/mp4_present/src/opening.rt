@@ -1,18 +1,15 @@
 //! A file, read to one presentation or refused.
-ghost use Rattle.std.specs.Prelude.{◌≡◌, ◌+◌, ◌≤◌, length, map, IfOk, IfErr, OnOk, IsTrue};
+ghost use Rattle.std.specs.Prelude.{◌≡◌, length, map, IfOk, IfErr};
 ghost use Rattle.mp4_boxes.specs.declared.refusal.Refusal.TheVariants as refusals;
 ghost use Rattle.mp4_present.specs.words.Movies.{Fills};
-ghost use Rattle.mp4_present.specs.words.Plain.{ArePlain};
 ghost use Rattle.mp4_head.specs.declared.heads.TrackHead.{TrackHead};
-ghost use Rattle.mp4_present.specs.declared.track_info.TrackInfo.{TrackInfo};
 ghost use Rattle.mp4_present.specs.format.Presentation.{Presentation};
-ghost use Rattle.mp4_present.specs.format.Denotes.{Denotes, FileTree, IsFileTree};
+ghost use Rattle.mp4_present.specs.format.Denotes.{Denotes, FileTree};
 ghost use Rattle.mp4_present.specs.words.OpenedMovie.{AreInfosBy, IsInfoBy, IsOpenedAs, OpensAs, kept_of};
 ghost use Rattle.mp4_present.specs.words.Opening.{HasOutline, IsOpened, RefusesDenoted, RefusesOpen};
-ghost use Rattle.mp4_present.specs.words.OverStores.{OnlyReads, WhereHonest, WhereRead, RefusedOf};
-ghost use Rattle.mp4_present.specs.words.ToOpen.{IsPayloadIn, HasTracks, WorksToOpen, ids_of};
-ghost use Rattle.mp4_present.specs.format.Denotes.{HasMovie};
-ghost use Rattle.mp4_present.specs.words.WalkSteps.{IfNoFault, OpensWithin, opening_steps};
+ghost use Rattle.mp4_present.specs.words.OverStores.{OnlyReads, WhereHonest, WhereRead, Refused, RefusedOf};
+ghost use Rattle.mp4_present.specs.words.ToOpen.{IsPayloadIn, HasTables, HasTracks, LooksToOpen, WorksToOpen, ids_of};
+ghost use Rattle.mp4_present.specs.words.WalkSteps.{OpensWithin};
 
 use crate::fragment_pass::check_fragments;
 use crate::limit_checks::{check_limits, duration_of};
@@ -78,32 +75,34 @@ fn infos_of(
 
 // Checks all that a file of this outline has, behind the headers of its own boxes: what is found is
 // what is kept of an opened movie, or a fault stands in the file.
-fn find<S: Store, L: Ledger>(
+fn find<S: Store, L: Ledger, M: Ledger>(
     alloc: Global,
     store: &mut S,
     outline: &Outline,
     moov: &[u8],
     steps: &mut Steps<L>,
+    looks: &mut Steps<M>,
 ) -> Result<Found, Refusal>
-    requires fills { Fills (length moov.now) outline.now.moov }
-    requires bytes { WhereHonest S.Store store.old (λ file. IsPayloadIn file outline.now moov.now) }
+    requires moov { Fills (length moov.now) outline.now.moov
+        × WhereHonest S.Store store.old (λ file. IsPayloadIn file outline.now moov.now) }
     requires outline { HasOutline (S.is_honest store.old) (S.file store.old) outline.now }
     ensures store { OnlyReads S.Store store.old store.new result }
-    ensures plain { IfOk result (λ f. ArePlain moov.now (length f.tracks.items) f.plain) }
-    ensures own { IfOk result (λ f. length f.own.items ≡ length f.tracks.items) }
+    ensures tables { IfOk result (HasTables moov.now) }
     ensures movie { WhereRead S.Store store.old result (λ file f. (t : FileTree)
         × IsOpenedAs file (kept_of outline.now moov.now (length file) f) t) }
     ensures ids { WhereRead S.Store store.old result (λ file f. HasTracks file f.tracks.items) }
     ensures work { WhereHonest S.Store store.old (λ file. WorksToOpen file result steps.old
         steps.new) }
     ensures within { WhereHonest S.Store store.old (λ file. OpensWithin file steps.old steps.new) }
+    ensures looks { WhereHonest S.Store store.old (λ file. LooksToOpen file result looks.old
+        looks.new) }
     ensures refusal { RefusedOf S.Store store.old store.new result RefusesOpen }
 {
     let view = outline.moov.view(moov);
     let head = read_head(alloc, view)?;
     let plain = check_tables(alloc, view, &head, store.len(), steps)?;
     let mut own = Vec::new(alloc);
-    let states = check_fragments(alloc, store, outline, &plain, &mut own, steps)?;
+    let states = check_fragments(alloc, store, outline, &plain, &mut own, steps, looks)?;
     let mehd = check_limits(view, &head, states.as_slice())?;
     let tracks = infos_of(alloc, &head, states.as_slice())?;
     Ok(Found {
@@ -116,34 +115,28 @@ fn find<S: Store, L: Ledger>(
 
 /// Reads a file to the presentation that it denotes, or names a fault that stands in it. The `moov`
 /// is read once and kept; each `moof` is read, checked and given up before the next; media data is
-/// not read.
-pub fn open_movie<S: Store, L: Ledger>(
+/// not read. Steps are rows, runs, samples and `traf`s; looks are those at tracks: which one a
+/// `traf` is of, and which have samples in a `moof`.
+pub fn open_movie<S: Store, L: Ledger, M: Ledger>(
     alloc: Global,
     store: &mut S,
     steps: &mut Steps<L>,
+    looks: &mut Steps<M>,
 ) -> Result<Movie, Refusal>
-    ensures honesty { S.is_honest store.new ≡ S.is_honest store.old }
-    ensures file { S.file store.new ≡ S.file store.old }
-    ensures opened { IfOk result (λ m. IsTrue (S.is_honest store.old)
-        → IsOpened (S.file store.old) m) }
-    ensures movie { IfOk result (λ m. IsTrue (S.is_honest store.old) → (t : FileTree)
-        × IsOpenedAs (S.file store.old) m t) }
-    ensures denotes { IfOk result (λ m. IsTrue (S.is_honest store.old)
-        → OpensAs (S.file store.old) m) }
-    ensures ids { IfOk result (λ m. IsTrue (S.is_honest store.old)
-        → HasMovie (S.file store.old) (map (λ (t : TrackInfo). t.id) m.tracks)) }
-    ensures only { (p : Presentation) → IsTrue (S.is_honest store.old)
-        → Denotes (S.file store.old) p
-        → IfErr result (RefusesDenoted (S.read_failures store.old) (S.read_failures store.new)) }
-    ensures work { IsTrue (S.is_honest store.old) → (tree : FileTree)
-        → IsFileTree (S.file store.old) tree
-        → IfNoFault result (steps.new ≤ steps.old + opening_steps tree) }
-    ensures within { IsTrue (S.is_honest store.old)
-        → OpensWithin (S.file store.old) steps.old steps.new }
-    ensures reads { OnOk result (S.read_failures store.new ≡ S.read_failures store.old) }
-    ensures refusal { IfErr result
-        (RefusesOpen (S.is_honest store.old) (S.file store.old) (S.read_failures store.old)
-        (S.read_failures store.new)) }
+    ensures store { OnlyReads S.Store store.old store.new result }
+    ensures opened { WhereRead S.Store store.old result IsOpened }
+    ensures movie { WhereRead S.Store store.old result
+        (λ file m. (t : FileTree) × IsOpenedAs file m t) }
+    ensures denotes { WhereRead S.Store store.old result OpensAs }
+    ensures ids { WhereRead S.Store store.old result (λ file m. HasTracks file m.tracks) }
+    ensures only { (p : Presentation) → WhereHonest S.Store store.old (λ file. Denotes file p
+        → Refused S.Store store.old store.new result RefusesDenoted) }
+    ensures work { WhereHonest S.Store store.old (λ file. WorksToOpen file result steps.old
+        steps.new) }
+    ensures within { WhereHonest S.Store store.old (λ file. OpensWithin file steps.old steps.new) }
+    ensures looks { WhereHonest S.Store store.old (λ file. LooksToOpen file result looks.old
+        looks.new) }
+    ensures refusal { RefusedOf S.Store store.old store.new result RefusesOpen }
 {
     let outline = read_outline(store)?;
     let at = outline.moov.payload_offset();
@@ -154,7 +147,7 @@ pub fn open_movie<S: Store, L: Ledger>(
         tracks,
         own,
         mehd,
-    } = find(alloc, store, &outline, moov.as_slice(), steps)?;
+    } = find(alloc, store, &outline, moov.as_slice(), steps, looks)?;
     let PlainTracks {
         tables,
         states,

@@ -1,20 +1,23 @@
 //! Which `moof`s of a file have samples of a track (ISO/IEC 14496-12, 8.8.4).
-ghost use Rattle.std.specs.Prelude.{ℕ, List, ◌≡◌, ◌<◌, ◌≤◌, ◌++◌, [], length, map, slice_get, IfSome, OnOk};
+ghost use Rattle.std.specs.Prelude.{ℕ, List, ◌≡◌, ◌+◌, ◌<◌, ◌≤◌, ◌++◌, [], length, map, min, slice_get, IfSome, OnOk};
 ghost use Rattle.std.specs.List.{AllByRecursion};
 ghost use Rattle.mp4_frag.specs.declared.state.TrackState.{TrackState};
 ghost use Rattle.mp4_present.specs.words.OwnMoofs.{own_first, own_seen, own_noted, noted};
 
-use mp4_boxes::Memory;
+use mp4_boxes::{Memory, Steps};
 use mp4_frag::TrackState;
 use std::alloc::Global;
+use std::sync::ledger::Ledger;
 
-/// The `moof`s that have samples of a track, by the places at which they begin, in file order. It
-/// takes 8 bytes for each, and up to 16 while the list grows.
+/// The `moof`s that have samples of a track, by the places at which they begin, in file order, and
+/// how long the longest is. It takes 8 bytes for each, and up to 16 while the list grows.
 #[derive(Drop)]
 pub(crate) struct OwnMoofs {
     /// How many samples the track has in its tables and in the `moof`s that were passed.
     count: u32,
     pub(crate) places: Vec<u64>,
+    /// The length of the longest of these.
+    longest: u64,
 }
 
 // How many of these places, which rise, lie before one.
@@ -30,25 +33,36 @@ fn count_before(places: &[u64], from: u64) -> usize
 impl OwnMoofs {
     // None was passed, and the tables have so many samples.
     fn new(alloc: Global, count: u32) -> OwnMoofs
-        ensures { own_seen result ≡ record { count = count; places = [] } }
+        ensures { own_seen result ≡ record { count = count; places = []; longest = 0 } }
     {
         OwnMoofs {
             count,
             places: Vec::new(alloc),
+            longest: 0,
         }
     }
 
-    // A `moof` was passed that begins at this place; with it the track has so many samples.
-    fn note(&mut self, count: u32, place: u64) -> Result<(), Memory>
-        ensures { OnOk result (own_seen self.new ≡ own_noted place count (own_seen self.old)) }
+    // A `moof` was passed that begins at this place and is so long; with it the track has so many
+    // samples.
+    fn note(&mut self, count: u32, place: u64, bytes: u64) -> Result<(), Memory>
+        ensures { OnOk result
+            (own_seen self.new ≡ own_noted place bytes count (own_seen self.old)) }
     {
         if count > self.count {
             let Ok(()) = self.places.push(place) else {
                 return Err(Memory);
             };
             self.count = count;
+            self.longest = self.longest.max(bytes);
         }
         Ok(())
+    }
+
+    /// The room for each of these `moof`s, of a file of which the longest `moof` is so long.
+    pub(crate) fn room(&self, longest: u64) -> u64
+        ensures { result ≡ min (own_seen self.now).longest longest }
+    {
+        self.longest.min(longest)
     }
 
     /// Where the first of these `moof`s from a place on begins.
@@ -85,19 +99,25 @@ pub(crate) fn begin_own(
     Ok(())
 }
 
-/// A `moof` was passed that begins at this place, and these are the tracks behind it.
-pub(crate) fn note_moof(
+/// A `moof` was passed that begins at this place and is so long. These are the tracks behind it:
+/// each is looked at once.
+pub(crate) fn note_moof<M: Ledger>(
     own: &mut Vec<OwnMoofs>,
     states: &[TrackState],
     place: u64,
+    bytes: u64,
+    looks: &mut Steps<M>,
 ) -> Result<(), Memory>
     requires { length own.old.items ≡ length states.now }
     ensures noted { OnOk result (map own_seen own.new.items
-        ≡ noted place (map own_seen own.old.items) states.now) }
+        ≡ noted place bytes (map own_seen own.old.items) states.now) }
     ensures each { OnOk result (length own.new.items ≡ length own.old.items) }
+    ensures all { OnOk result (looks.new ≡ looks.old + length states.now) }
+    ensures looks { looks.new ≤ looks.old + length states.now }
 {
     for k in 0..own.len() {
-        own[k].note(states[k].count, place)?;
+        looks.tick();
+        own[k].note(states[k].count, place, bytes)?;
     }
     Ok(())
 }

@@ -1,16 +1,17 @@
 //! How a walk begins and goes on.
-ghost use Rattle.std.specs.Prelude.{ℕ, ◌≡◌, ◌+◌, ◌-◌, ◌^◌, ◌<◌, ◌≤◌, min, List, [], length, false, Some, Err, slice_get, IfOk, IfErr, OnOk, OnErr, IsTrue, IsOkAnd};
+ghost use Rattle.std.specs.Prelude.{ℕ, ◌≡◌, ◌+◌, ◌-◌, ◌^◌, ◌<◌, ◌≤◌, min, List, [], length, false, Some, Err, slice_get, IfOk, IfErr, OnOk, IsTrue, IsOkAnd, MatchResult};
 ghost use Rattle.mp4_frag.specs.format.Fragments.{FragmentTree};
 ghost use Rattle.mp4_head.specs.format.Tree.{TrackTree};
 ghost use Rattle.mp4_present.specs.format.Denotes.{FileTree};
-ghost use Rattle.mp4_present.specs.words.GoingBack.{HoldsSome};
 ghost use Rattle.mp4_present.specs.words.OpenedMovie.{IsOpenedAs};
-ghost use Rattle.mp4_present.specs.words.SamplesComing.{track_samples, samples_behind, StandsBefore, Comes, HoldsNext, Takes, Loads};
-ghost use Rattle.mp4_present.specs.words.WalkSteps.{steps_to, moof_steps, way_through, walk_steps, MayTake, TakesOn};
+ghost use Rattle.mp4_present.specs.words.SamplesComing.{track_samples, samples_behind, Comes, HoldsNext, Takes, Loads};
+ghost use Rattle.mp4_present.specs.words.WalkSteps.{steps_to, moof_steps, walk_steps, MayTake};
 ghost use Rattle.mp4_boxes.specs.declared.refusal.Refusal.TheVariants as refusals;
 ghost use Rattle.mp4_present.specs.words.InHand.{left_in_hand};
-ghost use Rattle.mp4_present.specs.words.Movies.{Fills, IsMovie, GoesOn, IsWalkOf, StandsAt, IsRest, InHandOf, HasSome, RefusesLoad, moof_box, all_in_moof, mark_of};
+ghost use Rattle.mp4_present.specs.words.Movies.{IsMovie, GoesOn, IsWalkOf, InHandOf, HasSome, RefusesLoad, moof_box, mark_of, own_room};
 ghost use Rattle.mp4_present.specs.declared.track_info.TrackInfo.{TrackInfo};
+ghost use Rattle.mp4_present.specs.words.OverStores.{OnlyReads, Refused};
+ghost use Rattle.mp4_present.specs.words.OverWalks.{CountsOff, HasInHand, HasMoof, IsLoaded, IsWalkStill, KeepsRoom, TakesSteps, WhereStands};
 
 use crate::fragments::next_fragment;
 use crate::in_hand::{InHand, Place};
@@ -27,11 +28,13 @@ use std::sync::ledger::Ledger;
 
 impl Movie {
     /// A walk over the samples of the track at this place among the tracks. All room that it needs
-    /// is made here.
+    /// is made here: for the longest `moof` that has samples of the track. It stands before the
+    /// first sample, and has marked this place.
     pub fn walk(&self, alloc: Global, track: usize) -> Result<Walk, Memory>
         requires { track < length self.now.tracks }
         ensures walk { IfOk result (IsWalkOf self.now) }
-        ensures room { IfOk result (λ walk. length walk.bytes.items ≡ self.now.longest) }
+        ensures room { IfOk result (λ walk. length walk.bytes.items ≡ own_room self.now track) }
+        ensures within { IfOk result (λ walk. length walk.bytes.items ≤ self.now.longest) }
         ensures coming { IfOk result (λ walk. (file : List ℕ) (tree : FileTree) (t : TrackTree)
             → IsOpenedAs file self.now tree → slice_get tree.movie.tracks track ≡ Some t
             → Comes file tree t self.now walk (track_samples tree t)) }
@@ -42,7 +45,7 @@ impl Movie {
             → slice_get self.now.tracks track ≡ Some info
             → walk.mark ≡ mark_of walk info.samples) }
     {
-        let Ok(bytes) = vec![in alloc; 0u8; self.longest as usize] else {
+        let Ok(bytes) = vec![in alloc; 0u8; self.room_for(track) as usize] else {
             return Err(Memory);
         };
         let cursor = TableCursor::start(&self.tables_of(track));
@@ -110,43 +113,30 @@ impl Walk {
     }
 
     // Takes the samples of the `moof` in the room into hand, and says whether there are any. Where
-    // there are more than are left, the store has changed.
+    // there are more than are left, the store has changed. All of its samples are in hand then, and
+    // as many less are left.
     pub(crate) fn take<L: Ledger>(
         &mut self,
         movie: &Movie,
         steps: &mut Steps<L>,
     ) -> Result<bool, Refusal>
         requires movie { GoesOn movie.now self.old }
-        requires fills { Fills self.old.used self.old.moof }
-        requires used { self.old.used ≤ length self.old.bytes.items }
-        ensures place { OnOk result (StandsAt movie.now self.new self.new.place) }
-        ensures rest { OnOk result (IsRest movie.now self.new self.new.before self.new.place) }
-        ensures all { OnOk result ((info : TrackInfo)
-            → slice_get movie.now.tracks self.old.track ≡ Some info
-            → (hand : InHand) × InHandOf movie.now self.new hand
-            × (left_in_hand hand ≡ all_in_moof movie.now self.old info self.old.due)
-            × (self.old.left ≡ length (left_in_hand hand) + self.new.left)) }
-        ensures track { self.new.track ≡ self.old.track }
-        ensures mark { self.new.mark ≡ self.old.mark }
-        ensures room { self.new.bytes ≡ self.old.bytes }
-        ensures next { self.new.next ≡ self.old.next }
-        ensures before { OnOk result (self.new.before
-            ≡ Some (record { time = self.old.due; left = self.old.left })) }
-        ensures grows { steps.old ≤ steps.new }
-        ensures idle { OnErr result (steps.new ≡ steps.old) }
-        ensures refusal { IfErr result (λ r. r ≡ refusals.StoreChanged) }
+        requires moof { HasMoof self.old }
+        ensures hand { OnOk result (HasInHand movie.now self.old self.new
+            (record { time = self.old.due; left = self.old.left })) }
+        ensures counts { OnOk result (CountsOff movie.now self.old self.new) }
+        ensures keeps { KeepsRoom self.old self.new }
         ensures taken { (file : List ℕ) (tree : FileTree) (t : TrackTree)
             (earlier later : List FragmentTree) (next : FragmentTree)
             → IsOpenedAs file movie.now tree → HoldsNext file tree t earlier next later self.old
             → IsOkAnd result
             (λ some. Takes file tree t earlier next later movie.now self.new some) }
         ensures some { IfOk result (λ some. IsTrue some → HasSome movie.now self.new) }
-        ensures moof { OnOk result (moof_box self.new ≡ moof_box self.old) }
-        ensures way { OnOk result (steps_to self.new.place ≤ moof_steps (moof_box self.old)) }
-        ensures through { OnOk result ((t : TrackTree)
-            → way_through t self.new self.new.place ≡ moof_steps (moof_box self.new)) }
-        ensures work { OnOk result (steps.new ≤ steps.old + moof_steps (moof_box self.old)
-            + steps_to self.new.place) }
+        ensures grows { steps.old ≤ steps.new }
+        ensures work { MatchResult result (λ _. steps.new ≤ steps.old
+            + moof_steps (moof_box self.old) + steps_to self.new.place)
+            (λ _. steps.new ≡ steps.old) }
+        ensures refusal { IfErr result (λ r. r ≡ refusals.StoreChanged) }
     {
         let view = FragView::again(self.moof.view(&self.bytes[..self.used]));
         let info = movie.tracks()[self.track];
@@ -177,51 +167,24 @@ impl Walk {
         steps: &mut Steps<L>,
     ) -> Result<bool, Refusal>
         requires { IsWalkOf movie.now self.old }
-        ensures honesty { S.is_honest store.new ≡ S.is_honest store.old }
-        ensures file { S.file store.new ≡ S.file store.old }
-        ensures walk { OnOk result (IsWalkOf movie.now self.new) }
-        ensures room { length self.new.bytes.items ≡ length self.old.bytes.items }
-        ensures loaded { IsTrue (S.is_honest store.old)
-            → (tree : FileTree) (t : TrackTree) (earlier later : List FragmentTree)
-            → IsOpenedAs (S.file store.old) movie.now tree
-            → StandsBefore (S.file store.old) tree t earlier later self.old
-            → IfOk result
-            (λ more. Loads (S.file store.old) tree t movie.now (samples_behind tree t earlier later)
-            self.new more) }
-        ensures unchanged { IsTrue (S.is_honest store.old)
-            → (tree : FileTree) (t : TrackTree) (earlier later : List FragmentTree)
-            → IsOpenedAs (S.file store.old) movie.now tree
-            → StandsBefore (S.file store.old) tree t earlier later self.old
-            → IfErr result (λ r. r ≡ refusals.StoreChanged → ⊥) }
-        ensures ended { IsTrue (S.is_honest store.old)
-            → (tree : FileTree) (t : TrackTree) (earlier later : List FragmentTree) (hand : InHand)
-            → IsOpenedAs (S.file store.old) movie.now tree
-            → StandsBefore (S.file store.old) tree t earlier later self.old
-            → InHandOf movie.now self.old hand → left_in_hand hand ≡ []
-            → IfOk result (λ more. more ≡ false
-            → Comes (S.file store.old) tree t movie.now self.new []) }
-        ensures work { IsTrue (S.is_honest store.old) → (tree : FileTree) (t : TrackTree) (n : ℕ)
-            → IsOpenedAs (S.file store.old) movie.now tree
-            → MayTake (S.file store.old) tree t self.old n
-            → IfOk result
-            (λ more. TakesOn (S.file store.old) tree t n self.new steps.old steps.new) }
-        ensures most { IsTrue (S.is_honest store.old) → (tree : FileTree) (t : TrackTree) (n : ℕ)
-            → IsOpenedAs (S.file store.old) movie.now tree
-            → MayTake (S.file store.old) tree t self.old n
-            → IfErr result (λ r. steps.new ≤ steps.old + n) }
-        ensures some { IfOk result (λ more. IsTrue more → HasSome movie.now self.new) }
-        ensures holds { IfOk result (λ more. IsTrue more → HoldsSome movie.now self.new) }
-        ensures still { IfOk result (λ more. more ≡ false → self.new ≡ self.old) }
+        ensures store { OnlyReads S.Store store.old store.new result }
+        ensures walk { IsWalkStill movie.now self.old self.new result }
+        ensures loaded { WhereStands S.Store store.old movie.now self.old
+            (λ file tree t earlier later. MatchResult result
+            (λ more. Loads file tree t movie.now (samples_behind tree t earlier later) self.new
+            more) (λ r. r ≡ refusals.StoreChanged → ⊥)) }
+        ensures ended { WhereStands S.Store store.old movie.now self.old
+            (λ file tree t earlier later. (hand : InHand) → InHandOf movie.now self.old hand
+            → left_in_hand hand ≡ []
+            → IfOk result (λ more. more ≡ false → Comes file tree t movie.now self.new [])) }
+        ensures answer { IfOk result
+            (IsLoaded (length (S.file store.old)) movie.now self.old self.new) }
         ensures grows { steps.old ≤ steps.new }
-        ensures none { IfOk result (λ more. more ≡ false → self.new.left ≡ 0) }
+        ensures work { TakesSteps S.Store store.old movie.now self.old self.new result steps.old
+            steps.new }
         ensures length { (length (S.file store.old) ≡ movie.now.file_len → ⊥)
             → result ≡ Err refusals.StoreChanged }
-        ensures mark { self.new.mark ≡ self.old.mark }
-        ensures next { IfOk result (λ more. IsTrue more → (self.old.next < self.new.next)
-            × (self.new.next ≤ length (S.file store.old))) }
-        ensures reads { OnOk result (S.read_failures store.new ≡ S.read_failures store.old) }
-        ensures refusal { IfErr result
-            (RefusesLoad (S.read_failures store.old) (S.read_failures store.new)) }
+        ensures refusal { Refused S.Store store.old store.new result RefusesLoad }
     {
         if store.len() != movie.file_len {
             return Err(Refusal::StoreChanged);

@@ -24,8 +24,8 @@ pub(crate) struct Mark {
     pub(crate) to_come: u32,
 }
 
-/// A walk over the samples of a track. It has room for one `moof`, and holds neither the movie nor
-/// the store: what reads takes them again.
+/// A walk over the samples of a track. It has room for one `moof` that has samples of the track,
+/// and holds neither the movie nor the store: what reads takes them again.
 #[derive(Drop)]
 pub struct Walk {
     pub(crate) track: usize,

@@ -5,9 +5,14 @@ use Rattle.std.proofs.lemmas.List.{drop_more, drop-drop, drop_all}
 use Rattle.std.proofs.lemmas.Bool.{cases_lt}
 use Rattle.mp4_tables.specs.format.Tables.{ChunkRow}
 use Rattle.mp4_tables.specs.format.PlainSamples.{Spot, in_chunks, in_chunks_total}
+use Rattle.mp4_tables.specs.words.ChunkPlaces.{LiesInChunks}
+use Rattle.mp4_tables.specs.words.Rows.{chunk_rows_at, offsets_at, offset_width}
 use Rattle.mp4_tables.specs.words.TablesComing.{IsRowPlace, spots_coming, no_spots, next_spot, all_lie_within, IsChunkPlace}
 use Rattle.mp4_tables.specs.declared.places.ChunkPlace.{ChunkPlace}
+use Rattle.mp4_tables.specs.declared.places.ChunksAt.{ChunksAt}
+use Rattle.mp4_tables.specs.declared.places.RowsAt.{RowsAt}
 use Rattle.mp4_tables.proofs.Counts.{chunks_length}
+use Rattle.mp4_tables.proofs.RowLists.{chunk_rows_length, numbers_length}
 use Rattle.mp4_tables.proofs.ChunkLists.{spots_first}
 
 -- what is left from a place on begins with these: so does what is left one further
@@ -26,6 +31,15 @@ spot_left rows offsets sizes p k all at h = elim (cases_lt 0 p.left) [
       let long = chunks_length rows 1 offsets sizes (omega arith) in
       absurd (some_behind (in_chunks rows 1 offsets sizes) k (omega arith) (at.rest ∙ ap (λ f. f (drop k sizes)) (at.settled (omega arith))))
 ]
+
+-- a place before a sample lies in the chunks
+pub lies_in_chunks : (payload : List ℕ) (rows : RowsAt) (chunks : ChunksAt) (sizes : List ℕ) (p : ChunkPlace) (k : ℕ) → IsChunkPlace (chunk_rows_at payload rows) (offsets_at payload chunks) sizes p k → LiesInChunks payload rows chunks p
+lies_in_chunks payload rows chunks sizes p k at =
+    let m = numbers_length (offset_width chunks.is_wide) payload chunks.rows in
+    let n = chunk_rows_length payload rows in
+    let opened = at.opened in
+    let passed = at.passed in
+    record { at = λ h. at.row (omega arith); opened = omega arith; passed = omega arith }
 
 -- before the first sample
 pub spot_first : (rows : List ChunkRow) (offsets sizes : List ℕ) (p q : ChunkPlace) → q ≡ record { opened = 0; row = record { row = 0; samples = 0; description = 0 }; left = 0; at = 0 }

@@ -5,3 +5,4 @@ pub mod Timed
 pub mod Accepted
 pub mod TablesSeen
 pub mod Leaves
+pub mod ChunkPlaces

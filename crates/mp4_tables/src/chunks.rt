@@ -3,6 +3,7 @@ ghost use Rattle.std.specs.Prelude.{◌≡◌, ℕ, List, ◌+◌, ◌*◌, ◌^
 ghost use Rattle.mp4_tables.specs.words.Rows.{HaveRoom, chunk_rows_at, offsets_at, offset_width};
 ghost use Rattle.mp4_tables.specs.format.PlainSamples.{in_chunks_total};
 ghost use Rattle.mp4_tables.specs.format.TableRules.{is_chunk_order, is_index};
+ghost use Rattle.mp4_tables.specs.words.ChunkPlaces.{LiesInChunks};
 ghost use Rattle.mp4_tables.specs.words.TablesComing.{IsRowPlace, spots_coming, no_spots, next_spot, IsChunkPlace};
 ghost use Rattle.mp4_tables.specs.words.TablesComing.{are_described as described_from};
 
@@ -145,16 +146,14 @@ pub(crate) fn are_described<L: Ledger>(
 }
 
 #[tactic(auto, using(crate::proofs::ChunkLists::opening))]
-// Opens chunks until a sample is left in one.
+// Opens chunks until a sample is left in one. The samples still to come are the same, and the place
+// goes no way back.
 #[cold]
 #[inline(never)]
 pub(crate) fn open_chunk(payload: &[u8], rows: &RowsAt, chunks: &ChunksAt, place: &mut ChunkPlace)
     requires room { HaveRoom 12 payload.now rows.now }
     requires offsets { HaveRoom (offset_width chunks.now.is_wide) payload.now chunks.now.rows }
-    requires at { place.old.opened < chunks.now.rows.count
-        → IsRowPlace (chunk_rows_at payload.now rows.now) place.old.opened place.old.row }
-    requires opened { place.old.opened ≤ chunks.now.rows.count }
-    requires passed { place.old.row.row ≤ rows.now.count }
+    requires place { LiesInChunks payload.now rows.now chunks.now place.old }
     ensures same { spots_coming (chunk_rows_at payload.now rows.now)
         (offsets_at payload.now chunks.now) place.new
         ≡ spots_coming (chunk_rows_at payload.now rows.now) (offsets_at payload.now chunks.now)
@@ -162,10 +161,7 @@ pub(crate) fn open_chunk(payload: &[u8], rows: &RowsAt, chunks: &ChunksAt, place
     ensures settled { place.new.left ≡ 0
         → spots_coming (chunk_rows_at payload.now rows.now) (offsets_at payload.now chunks.now)
         place.new ≡ no_spots }
-    ensures at { place.new.opened < chunks.now.rows.count
-        → IsRowPlace (chunk_rows_at payload.now rows.now) place.new.opened place.new.row }
-    ensures opened { place.new.opened ≤ chunks.now.rows.count }
-    ensures passed { place.new.row.row ≤ rows.now.count }
+    ensures place { LiesInChunks payload.now rows.now chunks.now place.new }
     ensures on { (place.old.opened ≤ place.new.opened) × (place.old.row.row ≤ place.new.row.row) }
 {
     while place.left == 0 && place.opened < chunks.rows.count {
@@ -201,7 +197,8 @@ pub(crate) fn first_chunk(payload: &[u8], rows: RowsAt, chunks: ChunksAt) -> Chu
 }
 
 #[tactic(auto, using(crate::proofs::ChunkLists::spots_first))]
-// Passes the next sample, which has this size.
+// Passes the next sample, which has this size. Those behind it are still to come, and a sample is
+// left in the chunk, or none is to come.
 #[inline]
 pub(crate) fn pass_spot(
     payload: &[u8],
@@ -212,10 +209,7 @@ pub(crate) fn pass_spot(
 )
     requires room { HaveRoom 12 payload.now rows.now }
     requires offsets { HaveRoom (offset_width chunks.now.is_wide) payload.now chunks.now.rows }
-    requires at { place.old.opened < chunks.now.rows.count
-        → IsRowPlace (chunk_rows_at payload.now rows.now) place.old.opened place.old.row }
-    requires opened { place.old.opened ≤ chunks.now.rows.count }
-    requires passed { place.old.row.row ≤ rows.now.count }
+    requires place { LiesInChunks payload.now rows.now chunks.now place.old }
     requires some { 0 < place.old.left }
     requires fits { place.old.at + size < 2 ^ 64 }
     ensures next { (sizes : List ℕ)
@@ -227,10 +221,7 @@ pub(crate) fn pass_spot(
     ensures settled { place.new.left ≡ 0
         → spots_coming (chunk_rows_at payload.now rows.now) (offsets_at payload.now chunks.now)
         place.new ≡ no_spots }
-    ensures at { place.new.opened < chunks.now.rows.count
-        → IsRowPlace (chunk_rows_at payload.now rows.now) place.new.opened place.new.row }
-    ensures opened { place.new.opened ≤ chunks.now.rows.count }
-    ensures passed { place.new.row.row ≤ rows.now.count }
+    ensures place { LiesInChunks payload.now rows.now chunks.now place.new }
     ensures on { (place.old.opened ≤ place.new.opened) × (place.old.row.row ≤ place.new.row.row) }
 {
     place.left -= 1;

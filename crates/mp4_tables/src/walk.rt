@@ -137,7 +137,7 @@ fn pass_sync_in(payload: &[u8], sync: Option<RowsAt>, place: &mut SyncPlace, i: 
 }
 
 // Goes one sample on.
-#[inline(never)]
+#[inline(always)]
 pub(crate) fn pass_place(payload: &[u8], at: &TablesAt, place: &mut TablePlace)
     requires ok { IsAccepted payload.now at.now }
     requires place { IsPlace payload.now at.now place.old }

@@ -19,7 +19,8 @@ use Rattle.mp4_present.proofs.ComparisonWhole.{no_difference_is_same}
 use Rattle.mp4_present.proofs.DenotedValid.{denoted_is_valid}
 use Rattle.mp4norm.specs.format.CompareHeadline.{IsVerdict, ComparesWithin}
 use Rattle.mp4norm.specs.format.Steps.{WorksWithin, most_steps, row_total}
-use Rattle.mp4norm.specs.words.Compares.{side_of, says_nothing, files_differ, IsSaid, ListsFront, WalksTwice, RefusesBoth, RefusesCompare}
+use Rattle.mp4_present.specs.words.Compared.{files_differ}
+use Rattle.mp4norm.specs.words.Compares.{side_of, says_nothing, IsSaid, ListsFront, WalksTwice, RefusesBoth, RefusesCompare}
 use Rattle.mp4norm.specs.declared.comparing.Failure.{Failure}
 use Rattle.mp4norm.proofs.StepsTaken.{opened_within, written_within}
 

@@ -13,6 +13,7 @@ pub mod TrackTexts
 pub mod Normalised
 pub mod StepSums
 pub mod StepsTaken
+pub mod LooksTaken
 pub mod Judged
 pub mod WaysTo
 pub mod StripWalks

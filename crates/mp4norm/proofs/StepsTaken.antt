@@ -11,7 +11,7 @@ use Rattle.mp4_present.specs.words.OpenedMovie.{IsOpenedAs}
 use Rattle.mp4_present.specs.words.Opening.{RefusesOpen}
 use Rattle.mp4_present.specs.words.WalkSteps.{IfNoFault, OpensWithin, opening_steps, walk_steps, walks_steps}
 use Rattle.mp4_present.proofs.One.{file_tree_one}
-use Rattle.mp4norm.specs.format.Steps.{WorksWithin, LooksWithin, row_total}
+use Rattle.mp4norm.specs.format.Steps.{WorksWithin, WalksWithin, row_total}
 use Rattle.mp4norm.proofs.Normalised.{denotes_nothing}
 use Rattle.mp4norm.proofs.ShownLines.{denoted}
 use Rattle.mp4_plan.specs.words.WriterSteps.{writing_steps}
@@ -22,7 +22,7 @@ few_times k n = let small : n ≤ (k + 1) * n = omega arith in omega (arith, sma
 
 module _ (file : List ℕ) (old new : ℕ) where
   -- as many as opening takes, and no more
-  opening_only : ((tree : FileTree) → IsFileTree file tree → new ≤ old + opening_steps tree) → OpensWithin file old new → LooksWithin file old new
+  opening_only : ((tree : FileTree) → IsFileTree file tree → new ≤ old + opening_steps tree) → OpensWithin file old new → WalksWithin file old new
   opening_only work within = record {
     denoted = λ p d. let own = work d.tree d.is_tree in let all = opened_looks file p d in omega (arith, own, all);
     refused = λ nothing. within;
@@ -30,7 +30,7 @@ module _ (file : List ℕ) (old new : ℕ) where
 
   -- a file that isn't opened
   pub not_looked : (honest : Bool) (reads reads_after : ℕ) (r : Refusal) → IsTrue honest → RefusesOpen honest file reads reads_after r → ((tree : FileTree) → IsFileTree file tree → IfNoFault {A = Unit {0}} (Err r) (new ≤ old + opening_steps tree)) → OpensWithin file old new
-      → LooksWithin file old new
+      → WalksWithin file old new
   not_looked honest reads reads_after (refusals.Fault f) told refuses work within = record {
     denoted = λ p d. absurd (denotes_nothing file f (refuses told) p d);
     refused = λ nothing. within;
@@ -63,7 +63,7 @@ module _ (file : List ℕ) (old new : ℕ) where
   }
 
   -- a file that is opened, and of which no track is walked over
-  pub looked_within : (m : MovieSeen) (tree : FileTree) → IsOpenedAs file m tree → new ≤ old + opening_steps tree → LooksWithin file old new
+  pub looked_within : (m : MovieSeen) (tree : FileTree) → IsOpenedAs file m tree → new ≤ old + opening_steps tree → WalksWithin file old new
   looked_within m tree o opening = record {
     denoted = λ p d.
         let same = file_tree_one file tree d.tree o.is_tree d.is_tree in
@@ -74,7 +74,7 @@ module _ (file : List ℕ) (old new : ℕ) where
   }
 
   -- a file that is opened, and of which one track is walked over once
-  pub walked_within : (m : MovieSeen) (tree : FileTree) (behind k : ℕ) (t : TrackTree) → IsOpenedAs file m tree → behind ≤ old + opening_steps tree → slice_get tree.movie.tracks k ≡ Some t → new ≤ behind + walk_steps tree t → LooksWithin file old new
+  pub walked_within : (m : MovieSeen) (tree : FileTree) (behind k : ℕ) (t : TrackTree) → IsOpenedAs file m tree → behind ≤ old + opening_steps tree → slice_get tree.movie.tracks k ≡ Some t → new ≤ behind + walk_steps tree t → WalksWithin file old new
   walked_within m tree behind k t o opening is walk = record {
     denoted = λ p d.
         let same = file_tree_one file tree d.tree o.is_tree d.is_tree in

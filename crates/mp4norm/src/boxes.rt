@@ -1,11 +1,11 @@
 //! The boxes of a file, a line each.
-ghost use Rattle.std.specs.Prelude.{◌≡◌, ℕ, ◌+◌, ◌≤◌, ◌++◌, List, length, IfOk, IfErr, OnOk, IsTrue};
+ghost use Rattle.std.specs.Prelude.{◌≡◌, ℕ, ◌+◌, ◌≤◌, ◌++◌, List, length, IfOk, OnOk, IsTrue};
 ghost use Rattle.std.specs.List.{All};
 ghost use Rattle.mp4_boxes.specs.format.Box.{Tiles};
 ghost use Rattle.mp4norm.specs.format.BoxWalk.{height, rule_inside, RefusesBoxes, tops_seen, IsWithin, RefusesTops};
 ghost use Rattle.mp4norm.specs.format.Texts.{line_text, AreBoxLines, BoxLines};
 ghost use Rattle.mp4norm.specs.words.BoxSpans.{span_of, RefusesSpan};
-ghost use Rattle.mp4_present.specs.words.OverStores.{OnlyReads};
+ghost use Rattle.mp4_present.specs.words.OverStores.{OnlyReads, RefusedOf, WhereRead};
 ghost use Rattle.mp4norm.specs.words.OverDevices.{NoPutFails, PutsTextOf, Refuses};
 
 use crate::headers_under::read_header;
@@ -63,16 +63,13 @@ fn boxes_between<S: Store>(
 ) -> Result<Vec<TopBox>, Refusal>
     requires span { from ≤ end }
     requires within { end ≤ length (S.file store.old) }
-    ensures honesty { S.is_honest store.new ≡ S.is_honest store.old }
-    ensures file { S.file store.new ≡ S.file store.old }
+    ensures store { OnlyReads S.Store store.old store.new result }
     ensures tiles { IfOk result (λ boxes. IsTrue (S.is_honest store.old) → (start : ℕ)
         → Tiles (span_of (S.file store.old) rule start from end)
         (tops_seen (S.file store.old) boxes.items)) }
     ensures within { IfOk result (λ boxes. All (IsWithin (S.file store.old)) boxes.items) }
-    ensures reads { OnOk result (S.read_failures store.new ≡ S.read_failures store.old) }
-    ensures refusal { IfErr result
-        (RefusesSpan (S.is_honest store.old) (S.file store.old) rule from end
-        (S.read_failures store.old) (S.read_failures store.new)) }
+    ensures refusal { RefusedOf S.Store store.old store.new result (λ honest file.
+        RefusesSpan honest file rule from end) }
 {
     let mut boxes = Vec::new(alloc);
     let mut at = from;
@@ -98,15 +95,12 @@ fn push_boxes<S: Store>(
     requires levels { depth + height rule ≤ 6 }
     requires span { from ≤ end }
     requires within { end ≤ length (S.file store.old) }
-    ensures honesty { S.is_honest store.new ≡ S.is_honest store.old }
-    ensures file { S.file store.new ≡ S.file store.old }
+    ensures store { OnlyReads S.Store store.old store.new result }
     ensures lines { OnOk result (IsTrue (S.is_honest store.old) → (start : ℕ) → (part : List ℕ)
         × AreBoxLines (height rule) depth rule (span_of (S.file store.old) rule start from end) part
         × (text.new.items ≡ text.old.items ++ part)) }
-    ensures reads { OnOk result (S.read_failures store.new ≡ S.read_failures store.old) }
-    ensures refusal { IfErr result
-        (RefusesSpan (S.is_honest store.old) (S.file store.old) rule from end
-        (S.read_failures store.old) (S.read_failures store.new)) }
+    ensures refusal { RefusedOf S.Store store.old store.new result (λ honest file.
+        RefusesSpan honest file rule from end) }
 {
     let boxes = boxes_between(alloc, store, rule, from, end)?;
     for found in &boxes {
@@ -123,14 +117,9 @@ fn push_boxes<S: Store>(
 
 // The lines of all boxes that are listed.
 fn list_boxes<S: Store>(alloc: Global, store: &mut S) -> Result<Vec<u8>, Refusal>
-    ensures honesty { S.is_honest store.new ≡ S.is_honest store.old }
-    ensures file { S.file store.new ≡ S.file store.old }
-    ensures reads { OnOk result (S.read_failures store.new ≡ S.read_failures store.old) }
-    ensures lines { IfOk result (λ text. IsTrue (S.is_honest store.old)
-        → BoxLines (S.file store.old) text.items) }
-    ensures refusal { IfErr result
-        (RefusesTops (S.is_honest store.old) (S.file store.old) (S.read_failures store.old)
-        (S.read_failures store.new)) }
+    ensures store { OnlyReads S.Store store.old store.new result }
+    ensures lines { WhereRead S.Store store.old result (λ file text. BoxLines file text.items) }
+    ensures refusal { RefusedOf S.Store store.old store.new result RefusesTops }
 {
     let mut text = Vec::new(alloc);
     let end = store.len();

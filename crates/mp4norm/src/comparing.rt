@@ -1,10 +1,12 @@
 //! Two files, compared by what they say.
 ghost use Rattle.std.specs.Prelude.{◌≡◌, ◌<◌, length, IfOk, IfErr, IfSome};
-ghost use Rattle.mp4norm.specs.format.CompareHeadline.{IsVerdict, ComparesWithin};
+ghost use Rattle.mp4norm.specs.format.CompareHeadline.{IsVerdict, ComparesWithin, FindsBothWithin};
 ghost use Rattle.mp4norm.specs.words.Compares.{side_of, says_nothing, IsSaid, ListsFront, PutsAnswer, WalksTwice, RefusesAnswer};
-ghost use Rattle.mp4_present.specs.words.OverStores.{OnlyReads, IsUnchanged};
+ghost use Rattle.mp4_present.specs.words.Differing.{RefusedBoth, RefusesSample};
+ghost use Rattle.mp4_present.specs.words.OverStores.{OnlyReads, IsUnchanged, WhereBothHonest};
 ghost use Rattle.mp4norm.specs.words.OverDevices.{NoPutFails};
-ghost use Rattle.mp4norm.specs.words.OverFiles.{FailsCompare, RefusesReads, WalksOnce, WhereDiffer, WhereHonestBoth, WhereOpenedBoth};
+ghost use Rattle.mp4_present.specs.words.Compared.{OfFiles, WhereOpenedBoth};
+ghost use Rattle.mp4norm.specs.words.OverFiles.{FailsCompare, WalksOnce};
 
 use crate::difference_lines::{say, say_difference};
 use crate::tally::{Tally, say_tally};
@@ -146,13 +148,13 @@ fn all_of<S: Store, T: Store, L: Ledger>(
 ) -> Result<(Listed, bool), Refusal>
     ensures store { OnlyReads S.Store a.old a.new result }
     ensures store_right { OnlyReads T.Store b.old b.new result }
-    ensures all { IfOk result (λ found. WhereDiffer S.Store a.old left.now T.Store b.old right.now
+    ensures all { IfOk result (λ found. OfFiles S.Store a.old left.now T.Store b.old right.now
         leaving (ListsFront found.0.all.items)) }
     ensures unchanged { WhereOpenedBoth S.Store a.old left.now T.Store b.old right.now
         (λ tree other. IsUnchanged result) }
     ensures work { WhereOpenedBoth S.Store a.old left.now T.Store b.old right.now
         (λ tree other. WalksOnce tree other steps.old steps.new) }
-    ensures refusal { RefusesReads S.Store a.old a.new T.Store b.old b.new result }
+    ensures refusal { RefusedBoth S.Store a.old a.new T.Store b.old b.new result RefusesSample }
 {
     let mut listed = Listed::new(alloc)?;
     if !listed.has_room() {
@@ -182,7 +184,7 @@ fn enough_of<S: Store, T: Store, L: Ledger>(
         (λ tree other. IsUnchanged result) }
     ensures work { WhereOpenedBoth S.Store a.old left.now T.Store b.old right.now
         (λ tree other. WalksOnce tree other steps.old steps.new) }
-    ensures refusal { RefusesReads S.Store a.old a.new T.Store b.old b.new result }
+    ensures refusal { RefusedBoth S.Store a.old a.new T.Store b.old b.new result RefusesSample }
 {
     let Some(more) = tally.suggests(leaving) else {
         return Ok(None);
@@ -207,13 +209,13 @@ fn all_text<S: Store, T: Store, L: Ledger>(
     ensures store { OnlyReads S.Store a.old a.new result }
     ensures store_right { OnlyReads T.Store b.old b.new result }
     ensures some { IfOk result (λ found. IfSome found (λ text. 0 < length text.items)) }
-    ensures said { IfOk result (λ text. WhereDiffer S.Store a.old left.now T.Store b.old right.now
+    ensures said { IfOk result (λ text. OfFiles S.Store a.old left.now T.Store b.old right.now
         leaving (IsSaid text)) }
     ensures unchanged { WhereOpenedBoth S.Store a.old left.now T.Store b.old right.now
         (λ tree other. IsUnchanged result) }
     ensures work { WhereOpenedBoth S.Store a.old left.now T.Store b.old right.now
         (λ tree other. WalksTwice tree other steps.old steps.new) }
-    ensures refusal { RefusesReads S.Store a.old a.new T.Store b.old b.new result }
+    ensures refusal { RefusedBoth S.Store a.old a.new T.Store b.old b.new result RefusesSample }
 {
     let (listed, is_whole) = all_of(alloc, left, a, right, b, leaving, steps)?;
     if listed.is_empty() {
@@ -239,13 +241,13 @@ fn text_of<S: Store, T: Store, L: Ledger>(
     ensures store { OnlyReads S.Store a.old a.new result }
     ensures store_right { OnlyReads T.Store b.old b.new result }
     ensures some { IfOk result (λ found. IfSome found (λ text. 0 < length text.items)) }
-    ensures said { IfOk result (λ text. WhereDiffer S.Store a.old left.now T.Store b.old right.now
+    ensures said { IfOk result (λ text. OfFiles S.Store a.old left.now T.Store b.old right.now
         leaving (IsSaid text)) }
     ensures unchanged { WhereOpenedBoth S.Store a.old left.now T.Store b.old right.now
         (λ tree other. IsUnchanged result) }
     ensures work { WhereOpenedBoth S.Store a.old left.now T.Store b.old right.now
         (λ tree other. WalksTwice tree other steps.old steps.new) }
-    ensures refusal { RefusesReads S.Store a.old a.new T.Store b.old b.new result }
+    ensures refusal { RefusedBoth S.Store a.old a.new T.Store b.old b.new result RefusesSample }
 {
     match listing {
         Listing::First => match compare(alloc, left, a, right, b, leaving, steps)? {
@@ -274,7 +276,7 @@ fn put_found<K: Sink>(found: Option<Vec<u8>>, sink: &mut K) -> Result<bool, Refu
 
 /// Compares two files by what they say, without what is left out, puts where they differ, and says
 /// whether they are the same. Both are judged before anything is put.
-pub fn compare_files<S: Store, T: Store, K: Sink, L: Ledger>(
+pub fn compare_files<S: Store, T: Store, K: Sink, L: Ledger, M: Ledger>(
     alloc: Global,
     a: &mut S,
     b: &mut T,
@@ -282,26 +284,29 @@ pub fn compare_files<S: Store, T: Store, K: Sink, L: Ledger>(
     listing: Listing,
     sink: &mut K,
     steps: &mut Steps<L>,
+    looks: &mut Steps<M>,
 ) -> Result<bool, Failure>
     ensures store { OnlyReads S.Store a.old a.new result }
     ensures store_right { OnlyReads T.Store b.old b.new result }
     ensures puts { NoPutFails K.Sink sink.old sink.new result }
-    ensures verdict { IfOk result (λ same. WhereHonestBoth S.Store a.old T.Store b.old
+    ensures verdict { IfOk result (λ same. WhereBothHonest S.Store a.old T.Store b.old
         (λ file other. IsVerdict leaving file other same)) }
     ensures put { IfOk result (PutsAnswer (K.contents sink.old) (K.contents sink.new)) }
     ensures refusal { FailsCompare S.Store a.old a.new T.Store b.old b.new
         K.Sink sink.old sink.new result }
-    ensures work { WhereHonestBoth S.Store a.old T.Store b.old
+    ensures work { WhereBothHonest S.Store a.old T.Store b.old
         (λ file other. ComparesWithin file other steps.old steps.new) }
+    ensures looks { WhereBothHonest S.Store a.old T.Store b.old
+        (λ file other. FindsBothWithin file other looks.old looks.new) }
 {
-    let left = match open_movie(alloc, a, steps) {
+    let left = match open_movie(alloc, a, steps, looks) {
         Ok(left) => left,
         Err(refusal) => return Err(Failure {
             side: Side::First,
             refusal,
         }),
     };
-    let right = match open_movie(alloc, b, steps) {
+    let right = match open_movie(alloc, b, steps, looks) {
         Ok(right) => right,
         Err(refusal) => return Err(Failure {
             side: Side::Second,

@@ -17,7 +17,7 @@ use std::sync::ledger::Ledger;
 const DIFFER: u8 = 5;
 
 // Compares a store with what is read.
-fn compare_with<S: Store, L: Ledger>(
+fn compare_with<S: Store, L: Ledger, M: Ledger>(
     alloc: Global,
     left: &mut S,
     right: &mut Source,
@@ -25,32 +25,47 @@ fn compare_with<S: Store, L: Ledger>(
     listing: Listing,
     output: Stdout,
     steps: &mut Steps<L>,
+    looks: &mut Steps<M>,
 ) -> Result<bool, Failure> {
     let mut sink = IoSink::new(output);
     match right {
         Source::File(store, _) => {
-            compare_files(alloc, left, store, leaving, listing, &mut sink, steps)
+            compare_files(
+                alloc, left, store, leaving, listing, &mut sink, steps, looks,
+            )
         }
         Source::Input(bytes) => {
             let mut store = MemStore::new(bytes.as_slice());
-            compare_files(alloc, left, &mut store, leaving, listing, &mut sink, steps)
+            compare_files(
+                alloc, left, &mut store, leaving, listing, &mut sink, steps, looks,
+            )
         }
     }
 }
 
 // Compares what is read.
-fn compare_sources<L: Ledger>(
+fn compare_sources<L: Ledger, M: Ledger>(
     rt: &HostRuntime,
     left: &mut Source,
     right: &mut Source,
     leaving: Leaving,
     listing: Listing,
     steps: &mut Steps<L>,
+    looks: &mut Steps<M>,
 ) -> Result<bool, Failure> {
     let output = rt.stdout();
     match left {
         Source::File(store, _) => {
-            compare_with(rt.alloc(), store, right, leaving, listing, output, steps)
+            compare_with(
+                rt.alloc(),
+                store,
+                right,
+                leaving,
+                listing,
+                output,
+                steps,
+                looks,
+            )
         }
         Source::Input(bytes) => {
             let mut store = MemStore::new(bytes.as_slice());
@@ -62,6 +77,7 @@ fn compare_sources<L: Ledger>(
                 listing,
                 output,
                 steps,
+                looks,
             )
         }
     }
@@ -76,18 +92,19 @@ fn on_side<R>(step: Result<R, Refusal>, side: Side) -> Result<R, Failure> {
 }
 
 // Opens both, and compares them. Then it looks whether either has changed meanwhile.
-fn answer<L: Ledger>(
+fn answer<L: Ledger, M: Ledger>(
     rt: &HostRuntime,
     left: Input,
     right: Input,
     leaving: Leaving,
     listing: Listing,
     steps: &mut Steps<L>,
+    looks: &mut Steps<M>,
 ) -> Result<bool, Failure> {
     let mut report = Report::new(Telling::NOTHING);
     let mut first = on_side(open(rt, left, &mut report), Side::First)?;
     let mut second = on_side(open(rt, right, &mut report), Side::Second)?;
-    let same = compare_sources(rt, &mut first, &mut second, leaving, listing, steps)?;
+    let same = compare_sources(rt, &mut first, &mut second, leaving, listing, steps, looks)?;
     on_side(first.stays(), Side::First)?;
     on_side(second.stays(), Side::Second)?;
     Ok(same)
@@ -119,15 +136,16 @@ fn tell(rt: &HostRuntime, left: Input, right: Input, failure: Failure) {
 }
 
 /// Compares two files, prints where they differ, and gives the status.
-pub(crate) fn compare_named<L: Ledger>(
+pub(crate) fn compare_named<L: Ledger, M: Ledger>(
     rt: &HostRuntime,
     left: Input,
     right: Input,
     leaving: Leaving,
     listing: Listing,
     steps: &mut Steps<L>,
+    looks: &mut Steps<M>,
 ) -> ExitCode {
-    match answer(rt, left, right, leaving, listing, steps) {
+    match answer(rt, left, right, leaving, listing, steps, looks) {
         Ok(true) => ExitCode::SUCCESS,
         Ok(false) => ExitCode::from(DIFFER),
         Err(failure) => {

@@ -187,19 +187,20 @@ fn explanation(
 
 /// Puts three lines on a fault of a file: the way to the named box, the clause of the standard that
 /// tells of it, and what the kind means; and a fourth one where numbers go with the fault.
-pub(crate) fn explain<S: Store, K: Sink, L: Ledger>(
+pub(crate) fn explain<S: Store, K: Sink, L: Ledger, M: Ledger>(
     alloc: Global,
     fault: &Fault,
     store: &mut S,
     sink: &mut K,
     steps: &mut Steps<L>,
+    looks: &mut Steps<M>,
 ) -> Result<(), Refusal>
     ensures honesty { S.is_honest store.new ≡ S.is_honest store.old }
     ensures file { S.file store.new ≡ S.file store.old }
 {
     let mut way = way_to(alloc, store, fault.offset)?;
     whole_way(&mut way, FourCc(fault.box_type))?;
-    let numbers = fault_numbers(alloc, fault, store, steps)?;
+    let numbers = fault_numbers(alloc, fault, store, steps, looks)?;
     let text = explanation(alloc, fault, &way, numbers)?;
     sink.put(text.as_slice())?;
     Ok(())

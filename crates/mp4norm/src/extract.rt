@@ -1,6 +1,6 @@
 //! The bytes of a track's samples.
 ghost use Rattle.std.specs.Prelude.{◌≡◌, ◌<◌};
-ghost use Rattle.mp4norm.specs.format.Steps.{LooksWithin};
+ghost use Rattle.mp4norm.specs.format.Steps.{WalksWithin, FindsWithin};
 ghost use Rattle.mp4norm.specs.words.Commands.{HasData, RefusesData};
 ghost use Rattle.mp4_present.specs.words.OverStores.{OnlyReads, WhereHonest};
 ghost use Rattle.mp4norm.specs.words.OverDevices.{NoPutFails, PutsTextOf, Refuses};
@@ -15,12 +15,13 @@ use std::sync::ledger::{Blank, Ledger};
 
 /// As `extract`, with the steps that it takes counted: at most 8 for each sample and each row
 /// of the file, however many tracks it has.
-pub fn extract_counted<S: Store, K: Sink, L: Ledger>(
+pub fn extract_counted<S: Store, K: Sink, L: Ledger, M: Ledger>(
     alloc: Global,
     store: &mut S,
     id: u32,
     sink: &mut K,
     steps: &mut Steps<L>,
+    looks: &mut Steps<M>,
 ) -> Result<(), Refusal>
     ensures store { OnlyReads S.Store store.old store.new result }
     ensures puts { NoPutFails K.Sink sink.old sink.new result }
@@ -28,24 +29,25 @@ pub fn extract_counted<S: Store, K: Sink, L: Ledger>(
         (λ file text. HasData file id text) }
     ensures refusal { Refuses S.Store store.old store.new K.Sink sink.old sink.new result
         (RefusesData id) }
-    ensures work { WhereHonest S.Store store.old (λ file. LooksWithin file steps.old steps.new) }
+    ensures work { WhereHonest S.Store store.old (λ file. WalksWithin file steps.old steps.new) }
+    ensures looks { WhereHonest S.Store store.old (λ file. FindsWithin file looks.old looks.new) }
 {
-    let movie = open_movie(alloc, store, steps)?;
+    let movie = open_movie(alloc, store, steps, looks)?;
     let track = track_with(movie.tracks(), id)?;
     movie.copy_track(alloc, track, store, sink, steps)
 }
 
-// As `extract`; its steps are counted in this ledger.
-fn extract_blank<S: Store, K: Sink, L: Ledger>(
+// As `extract`; its steps and looks are counted in these ledgers.
+fn extract_blank<S: Store, K: Sink, L: Ledger, M: Ledger>(
     alloc: Global,
     store: &mut S,
     id: u32,
     sink: &mut K,
     blank: Blank,
+    other: Blank,
 ) -> Result<(), Refusal>
-    requires name { blank.name ≡ L.name }
-    requires parts { blank.parts ≡ L.parts }
-    requires some { 0 < L.parts }
+    requires blank { (blank.name ≡ L.name) × (blank.parts ≡ L.parts) × (0 < L.parts) }
+    requires other { (other.name ≡ M.name) × (other.parts ≡ M.parts) × (0 < M.parts) }
     ensures store { OnlyReads S.Store store.old store.new result }
     ensures puts { NoPutFails K.Sink sink.old sink.new result }
     ensures bytes { PutsTextOf S.Store store.old K.Sink sink.old sink.new result
@@ -54,7 +56,8 @@ fn extract_blank<S: Store, K: Sink, L: Ledger>(
         (RefusesData id) }
 {
     let mut steps = Steps::<L>::new(blank);
-    extract_counted(alloc, store, id, sink, &mut steps)
+    let mut looks = Steps::<M>::new(other);
+    extract_counted(alloc, store, id, sink, &mut steps, &mut looks)
 }
 
 /// Puts the bytes of the samples of the track with this ID, one after the other. The whole file is
@@ -72,5 +75,5 @@ pub fn extract<S: Store, K: Sink>(
     ensures refusal { Refuses S.Store store.old store.new K.Sink sink.old sink.new result
         (RefusesData id) }
 {
-    extract_blank::<S, K, Brand>(alloc, store, id, sink, Blank::new(1))
+    extract_blank::<S, K, Brand, Brand>(alloc, store, id, sink, Blank::new(1), Blank::new(1))
 }

@@ -1,9 +1,10 @@
 //! A header of a box in a container of boxes, read by place.
-ghost use Rattle.std.specs.Prelude.{◌≡◌, ◌+◌, ◌-◌, ◌^◌, ◌<◌, ◌≤◌, min, length, Ok, Err, IfOk, IfErr, OnOk, IsTrue};
+ghost use Rattle.std.specs.Prelude.{◌≡◌, ◌+◌, ◌-◌, ◌^◌, ◌<◌, ◌≤◌, min, length, Ok, Err, IfOk, IfErr};
 ghost use Rattle.mp4_boxes.specs.format.Box.{header_at};
 ghost use Rattle.mp4_boxes.specs.format.BoxFaults.{header_there};
 ghost use Rattle.mp4_boxes.specs.words.View.{top_header_seen};
 ghost use Rattle.mp4_store.specs.words.Device.{range};
+ghost use Rattle.mp4_present.specs.words.OverStores.{OnlyReads, RefusedOf, WhereRead};
 ghost use Rattle.mp4norm.specs.format.Strips.{holder, is_top, RefusesHeaderUnder};
 
 use crate::named::holder;
@@ -46,16 +47,12 @@ pub(crate) fn read_header<S: Store>(
 ) -> Result<TopHeader, Refusal>
     requires some { at < end }
     requires within { end ≤ length (S.file store.old) }
-    ensures honesty { S.is_honest store.new ≡ S.is_honest store.old }
-    ensures file { S.file store.new ≡ S.file store.old }
-    ensures header { IfOk result (λ h. IsTrue (S.is_honest store.old)
-        → header_at (is_top rule) (range (S.file store.old) at (end - at))
-        ≡ Ok (top_header_seen at h)) }
+    ensures store { OnlyReads S.Store store.old store.new result }
+    ensures header { WhereRead S.Store store.old result (λ file h.
+        header_at (is_top rule) (range file at (end - at)) ≡ Ok (top_header_seen at h)) }
     ensures fits { IfOk result (λ h. (at + h.header ≤ h.end) × (8 ≤ h.header) × (h.end ≤ end)) }
-    ensures reads { OnOk result (S.read_failures store.new ≡ S.read_failures store.old) }
-    ensures refusal { IfErr result
-        (RefusesHeaderUnder (S.is_honest store.old) (range (S.file store.old) at (end - at)) rule at
-        (S.read_failures store.old) (S.read_failures store.new)) }
+    ensures refusal { RefusedOf S.Store store.old store.new result (λ honest file.
+        RefusesHeaderUnder honest (range file at (end - at)) rule at) }
 {
     let _size = store.len();
     let left = end - at;

@@ -1,5 +1,5 @@
 //! What a command does over a store.
-ghost use Rattle.mp4norm.specs.words.Jobs.{IsTextOf, RefusesJob, JobWorksWithin};
+ghost use Rattle.mp4norm.specs.words.Jobs.{IsTextOf, RefusesJob, JobWorksWithin, JobLooksWithin};
 ghost use Rattle.mp4_present.specs.words.OverStores.{OnlyReads, WhereHonest};
 ghost use Rattle.mp4norm.specs.words.OverDevices.{NoPutFails, PutsTextOf, Refuses};
 
@@ -18,12 +18,13 @@ use std::sync::ledger::Ledger;
 
 /// Does a job: all that is put is the job's own text of the file. The steps are counted, and
 /// are those of one run; those of `boxes` and `strip`, which only look at headers, are not.
-pub fn perform<S: Store, K: Sink, L: Ledger>(
+pub fn perform<S: Store, K: Sink, L: Ledger, M: Ledger>(
     alloc: Global,
     job: Job,
     store: &mut S,
     sink: &mut K,
     steps: &mut Steps<L>,
+    looks: &mut Steps<M>,
 ) -> Result<(), Refusal>
     ensures store { OnlyReads S.Store store.old store.new result }
     ensures puts { NoPutFails K.Sink sink.old sink.new result }
@@ -33,14 +34,18 @@ pub fn perform<S: Store, K: Sink, L: Ledger>(
         (RefusesJob job.entry) }
     ensures work { WhereHonest S.Store store.old
         (λ file. JobWorksWithin job.entry file steps.old steps.new) }
+    ensures looks { WhereHonest S.Store store.old
+        (λ file. JobLooksWithin job.entry file looks.old looks.new) }
 {
     match job {
         Job::Boxes => boxes(alloc, store, sink),
-        Job::Show => show_counted(alloc, store, sink, steps),
-        Job::Samples { track, form } => samples_counted(alloc, store, track, form, sink, steps),
-        Job::Extract { track } => extract_counted(alloc, store, track, sink, steps),
+        Job::Show => show_counted(alloc, store, sink, steps, looks),
+        Job::Samples { track, form } => samples_counted(
+            alloc, store, track, form, sink, steps, looks,
+        ),
+        Job::Extract { track } => extract_counted(alloc, store, track, sink, steps, looks),
         Job::Strip { names } => strip(alloc, store, names, sink),
-        Job::Normalise => normalise_counted(alloc, store, sink, steps),
-        Job::Reduce { leaving } => normalise_reduced(alloc, store, sink, leaving, steps),
+        Job::Normalise => normalise_counted(alloc, store, sink, steps, looks),
+        Job::Reduce { leaving } => normalise_reduced(alloc, store, sink, leaving, steps, looks),
     }
 }

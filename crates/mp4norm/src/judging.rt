@@ -12,23 +12,24 @@ use std::alloc::Global;
 use std::marker::Brand;
 use std::sync::ledger::{Blank, Ledger};
 
-// As `check`; its steps are counted in this ledger.
-fn check_counted<S: Store, L: Ledger>(
+// As `check`; its steps and looks are counted in these ledgers.
+fn check_counted<S: Store, L: Ledger, M: Ledger>(
     alloc: Global,
     store: &mut S,
     blank: Blank,
+    other: Blank,
 ) -> Result<(), Refusal>
-    requires name { blank.name ≡ L.name }
-    requires parts { blank.parts ≡ L.parts }
-    requires some { 0 < L.parts }
+    requires blank { (blank.name ≡ L.name) × (blank.parts ≡ L.parts) × (0 < L.parts) }
+    requires other { (other.name ≡ M.name) × (other.parts ≡ M.parts) × (0 < M.parts) }
     ensures store { OnlyReads S.Store store.old store.new result }
     ensures accepted { OnOk result
         (WhereHonest S.Store store.old (λ file. (bytes : List ℕ) × HasNormalForm file bytes)) }
     ensures refusal { RefusedOf S.Store store.old store.new result RefusesCheck }
 {
     let mut steps = Steps::<L>::new(blank);
-    let movie = open_movie(alloc, store, &mut steps)?;
-    let _writer = Writer::new(alloc, &movie, store, &mut steps)?;
+    let mut looks = Steps::<M>::new(other);
+    let movie = open_movie(alloc, store, &mut steps, &mut looks)?;
+    let _writer = Writer::new(alloc, &movie, store, &mut steps, &mut looks)?;
     Ok(())
 }
 
@@ -41,5 +42,5 @@ pub fn check<S: Store>(alloc: Global, store: &mut S) -> Result<(), Refusal>
         (WhereHonest S.Store store.old (λ file. (bytes : List ℕ) × HasNormalForm file bytes)) }
     ensures refusal { RefusedOf S.Store store.old store.new result RefusesCheck }
 {
-    check_counted::<S, Brand>(alloc, store, Blank::new(1))
+    check_counted::<S, Brand, Brand>(alloc, store, Blank::new(1), Blank::new(1))
 }

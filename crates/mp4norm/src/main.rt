@@ -131,20 +131,28 @@ fn judge(rt: &HostRuntime, files: &[Input], list: Option<Input>, zero: bool) -> 
     }
 }
 
-// Does what the words ask for. Steps are counted in this ledger.
-fn act<L: Ledger>(rt: &HostRuntime, action: Action, blank: Blank) -> ExitCode
-    requires name { blank.name ≡ L.name }
-    requires parts { blank.parts ≡ L.parts }
-    requires some { 0 < L.parts }
+// Does what the words ask for. Steps and looks are counted in these ledgers.
+fn act<L: Ledger, M: Ledger>(
+    rt: &HostRuntime,
+    action: Action,
+    blank: Blank,
+    other: Blank,
+) -> ExitCode
+    requires blank { (blank.name ≡ L.name) × (blank.parts ≡ L.parts) × (0 < L.parts) }
+    requires other { (other.name ≡ M.name) × (other.parts ≡ M.parts) × (0 < M.parts) }
 {
     let mut steps = Steps::<L>::new(blank);
+    let mut looks = Steps::<M>::new(other);
     match action {
         Action::Run {
             job,
             input,
             target,
             telling,
-        } => end(rt, run(rt, job, input, target, telling, &mut steps)),
+        } => end(
+            rt,
+            run(rt, job, input, target, telling, &mut steps, &mut looks),
+        ),
         Action::Strip {
             names,
             input,
@@ -154,14 +162,17 @@ fn act<L: Ledger>(rt: &HostRuntime, action: Action, blank: Blank) -> ExitCode
             let job = Job::Strip {
                 names: names.as_slice(),
             };
-            end(rt, run(rt, job, input, target, telling, &mut steps))
+            end(
+                rt,
+                run(rt, job, input, target, telling, &mut steps, &mut looks),
+            )
         }
         Action::Compare {
             left,
             right,
             leaving,
             listing,
-        } => compare_named(rt, left, right, leaving, listing, &mut steps),
+        } => compare_named(rt, left, right, leaving, listing, &mut steps, &mut looks),
         Action::Check { files, list, zero } => judge(rt, files.as_slice(), list, zero),
     }
 }
@@ -184,7 +195,7 @@ fn main(rt: HostRuntime) -> ExitCode {
         Err(fault) => return tell(&rt, fault),
     };
     match action(rt.alloc(), words.as_slice()) {
-        Ok(action) => act::<Brand>(&rt, action, Blank::new(1)),
+        Ok(action) => act::<Brand, Brand>(&rt, action, Blank::new(1), Blank::new(1)),
         Err(fault) => tell(&rt, fault),
     }
 }

@@ -2,7 +2,7 @@
 ghost use Rattle.std.specs.Prelude.{◌≡◌, ◌<◌};
 ghost use Rattle.mp4norm.specs.format.Headline.{HasNormalForm, Normalises};
 ghost use Rattle.mp4norm.specs.words.MainJob.{RefusesNormalise};
-ghost use Rattle.mp4norm.specs.format.Steps.{WorksWithin};
+ghost use Rattle.mp4norm.specs.format.Steps.{WorksWithin, TurnsWithin};
 ghost use Rattle.mp4_present.specs.words.OverStores.{OnlyReads, WhereHonest};
 ghost use Rattle.mp4norm.specs.words.OverDevices.{NoPutFails, PutsTextOf, Refuses, WhereTold};
 
@@ -15,11 +15,12 @@ use std::marker::Brand;
 use std::sync::ledger::{Blank, Ledger};
 
 // As `normalise_counted`.
-fn write_file<S: Store, K: Sink, L: Ledger>(
+fn write_file<S: Store, K: Sink, L: Ledger, M: Ledger>(
     alloc: Global,
     store: &mut S,
     sink: &mut K,
     steps: &mut Steps<L>,
+    looks: &mut Steps<M>,
 ) -> Result<(), Refusal>
     ensures store { OnlyReads S.Store store.old store.new result }
     ensures puts { NoPutFails K.Sink sink.old sink.new result }
@@ -28,18 +29,20 @@ fn write_file<S: Store, K: Sink, L: Ledger>(
     ensures refusal { Refuses S.Store store.old store.new K.Sink sink.old sink.new result
         RefusesNormalise }
     ensures work { WhereHonest S.Store store.old (λ file. WorksWithin file steps.old steps.new) }
+    ensures looks { WhereHonest S.Store store.old (λ file. TurnsWithin file looks.old looks.new) }
 {
-    let movie = open_movie(alloc, store, steps)?;
-    write_normal(alloc, &movie, store, sink, steps)
+    let movie = open_movie(alloc, store, steps, looks)?;
+    write_normal(alloc, &movie, store, sink, steps, looks)
 }
 
 /// As `normalise`, with the steps that it takes counted: one for each table row, `traf`, run and
 /// sample that is passed. At most 8 * (k + 1) for each sample and each row of a file with k tracks.
-pub fn normalise_counted<S: Store, K: Sink, L: Ledger>(
+pub fn normalise_counted<S: Store, K: Sink, L: Ledger, M: Ledger>(
     alloc: Global,
     store: &mut S,
     sink: &mut K,
     steps: &mut Steps<L>,
+    looks: &mut Steps<M>,
 ) -> Result<(), Refusal>
     ensures store { OnlyReads S.Store store.old store.new result }
     ensures puts { NoPutFails K.Sink sink.old sink.new result }
@@ -48,22 +51,23 @@ pub fn normalise_counted<S: Store, K: Sink, L: Ledger>(
     ensures refusal { Refuses S.Store store.old store.new K.Sink sink.old sink.new result
         RefusesNormalise }
     ensures work { WhereHonest S.Store store.old (λ file. WorksWithin file steps.old steps.new) }
+    ensures looks { WhereHonest S.Store store.old (λ file. TurnsWithin file looks.old looks.new) }
     ensures headline { WhereHonest S.Store store.old (λ file. WhereTold K.Sink sink.old sink.new
         (λ before after. Normalises file before after result)) }
 {
-    write_file(alloc, store, sink, steps)
+    write_file(alloc, store, sink, steps, looks)
 }
 
-// As `normalise`; its steps are counted in this ledger.
-fn normalise_blank<S: Store, K: Sink, L: Ledger>(
+// As `normalise`; its steps and looks are counted in these ledgers.
+fn normalise_blank<S: Store, K: Sink, L: Ledger, M: Ledger>(
     alloc: Global,
     store: &mut S,
     sink: &mut K,
     blank: Blank,
+    other: Blank,
 ) -> Result<(), Refusal>
-    requires name { blank.name ≡ L.name }
-    requires parts { blank.parts ≡ L.parts }
-    requires some { 0 < L.parts }
+    requires blank { (blank.name ≡ L.name) × (blank.parts ≡ L.parts) × (0 < L.parts) }
+    requires other { (other.name ≡ M.name) × (other.parts ≡ M.parts) × (0 < M.parts) }
     ensures store { OnlyReads S.Store store.old store.new result }
     ensures puts { NoPutFails K.Sink sink.old sink.new result }
     ensures written { PutsTextOf S.Store store.old K.Sink sink.old sink.new result
@@ -72,7 +76,8 @@ fn normalise_blank<S: Store, K: Sink, L: Ledger>(
         RefusesNormalise }
 {
     let mut steps = Steps::<L>::new(blank);
-    normalise_counted(alloc, store, sink, &mut steps)
+    let mut looks = Steps::<M>::new(other);
+    normalise_counted(alloc, store, sink, &mut steps, &mut looks)
 }
 
 /// Puts the normal form of what the file denotes: one canonical fragmented file. The whole file is
@@ -91,5 +96,5 @@ pub fn normalise<S: Store, K: Sink>(
     ensures headline { WhereHonest S.Store store.old (λ file. WhereTold K.Sink sink.old sink.new
         (λ before after. Normalises file before after result)) }
 {
-    normalise_blank::<S, K, Brand>(alloc, store, sink, Blank::new(1))
+    normalise_blank::<S, K, Brand, Brand>(alloc, store, sink, Blank::new(1), Blank::new(1))
 }

@@ -1,6 +1,6 @@
 //! The normal form of what is left of a file, where some of what it says is left out.
 ghost use Rattle.mp4norm.specs.format.ReducedHeadline.{HasReducedForm};
-ghost use Rattle.mp4norm.specs.format.Steps.{WorksWithin};
+ghost use Rattle.mp4norm.specs.format.Steps.{WorksWithin, TurnsWithin};
 ghost use Rattle.mp4norm.specs.words.ReducedJob.{RefusesReduced};
 ghost use Rattle.mp4_present.specs.words.OverStores.{OnlyReads, WhereHonest};
 ghost use Rattle.mp4norm.specs.words.OverDevices.{NoPutFails, PutsTextOf, Refuses};
@@ -16,12 +16,13 @@ use std::sync::ledger::Ledger;
 /// lists, flags of samples, sample groups or metadata are left out. Without its edits a track may
 /// be too long: then the fault is TimeTooLarge at the `tkhd` of the first such track, and nothing
 /// is put.
-pub fn normalise_reduced<S: Store, K: Sink, L: Ledger>(
+pub fn normalise_reduced<S: Store, K: Sink, L: Ledger, M: Ledger>(
     alloc: Global,
     store: &mut S,
     sink: &mut K,
     leaving: Leaving,
     steps: &mut Steps<L>,
+    looks: &mut Steps<M>,
 ) -> Result<(), Refusal>
     ensures store { OnlyReads S.Store store.old store.new result }
     ensures puts { NoPutFails K.Sink sink.old sink.new result }
@@ -30,7 +31,8 @@ pub fn normalise_reduced<S: Store, K: Sink, L: Ledger>(
     ensures refusal { Refuses S.Store store.old store.new K.Sink sink.old sink.new result
         (RefusesReduced leaving) }
     ensures work { WhereHonest S.Store store.old (λ file. WorksWithin file steps.old steps.new) }
+    ensures looks { WhereHonest S.Store store.old (λ file. TurnsWithin file looks.old looks.new) }
 {
-    let movie = open_movie(alloc, store, steps)?;
-    write_reduced(alloc, &movie, store, sink, leaving, steps)
+    let movie = open_movie(alloc, store, steps, looks)?;
+    write_reduced(alloc, &movie, store, sink, leaving, steps, looks)
 }

@@ -79,18 +79,19 @@ fn told(step: Result<(), ErrorKind>, report: &mut Report) -> Result<(), Refusal>
 }
 
 // Fills a new file, and gives it its name once all of it has reached the disk.
-fn fill<L: Ledger>(
+fn fill<L: Ledger, M: Ledger>(
     rt: &HostRuntime,
     job: Job,
     source: &mut Source,
     steps: &mut Steps<L>,
+    looks: &mut Steps<M>,
     part: Part,
     name: &str,
     report: &mut Report,
 ) -> Result<(), Refusal> {
     let Part { file, name: from } = part;
     let mut out = Out::File(file);
-    let answer = match write(rt.alloc(), job, source, &mut out, steps, report) {
+    let answer = match write(rt.alloc(), job, source, &mut out, steps, looks, report) {
         Ok(()) => told(put_in_place(rt, &out, from.as_str(), name), report),
         Err(refusal) => Err(refusal),
     };
@@ -109,15 +110,16 @@ fn put_in_place(rt: &HostRuntime, out: &Out, from: &str, name: &str) -> Result<(
 /// Does a job whose text goes to a new file, which takes the place of the one of this name only
 /// where the whole text was written. After any other answer what is there is as it was, and the new
 /// file is taken away.
-pub(crate) fn replace<L: Ledger>(
+pub(crate) fn replace<L: Ledger, M: Ledger>(
     rt: &HostRuntime,
     job: Job,
     source: &mut Source,
     steps: &mut Steps<L>,
+    looks: &mut Steps<M>,
     name: &str,
     report: &mut Report,
 ) -> Result<(), Refusal> {
     told(look(rt, name), report)?;
     let part = make_part(rt, name, report)?;
-    fill(rt, job, source, steps, part, name, report)
+    fill(rt, job, source, steps, looks, part, name, report)
 }

@@ -1,5 +1,5 @@
 //! The samples of a track, a line each.
-ghost use Rattle.std.specs.Prelude.{◌≡◌, ℕ, ◌+◌, ◌^◌, ◌<◌, ◌≤◌, List, ◌++◌, length, IfErr, OnOk, OnErr, IsTrue};
+ghost use Rattle.std.specs.Prelude.{◌≡◌, ℕ, ◌+◌, ◌^◌, ◌<◌, ◌≤◌, List, ◌++◌, length, IfErr, OnOk, OnErr};
 ghost use Rattle.mp4_frag.specs.format.Fragments.{FragmentTree};
 ghost use Rattle.mp4_head.specs.format.Tree.{TrackTree};
 ghost use Rattle.mp4_store.specs.words.Device.{AppendsPrefix};
@@ -10,13 +10,15 @@ ghost use Rattle.mp4_present.specs.words.InHand.{left_in_hand};
 ghost use Rattle.mp4_present.specs.words.OpenedMovie.{IsOpenedAs};
 ghost use Rattle.mp4_present.specs.words.Movies.{IsWalkOf, InHandOf};
 ghost use Rattle.mp4_present.specs.words.WalkSteps.{MayTake, TakesOn};
-ghost use Rattle.mp4_present.specs.words.Carried.{waiting, BytesGoOn, RefusesPut};
+ghost use Rattle.mp4_present.specs.words.Carried.{waiting, BytesGoOn, RefusesCarry, RefusesPut};
+ghost use Rattle.mp4_present.specs.words.OverWalks.{WhereMayTake};
 ghost use Rattle.mp4norm.specs.format.Texts.{sample_at_lines};
-ghost use Rattle.mp4norm.specs.format.Steps.{LooksWithin};
+ghost use Rattle.mp4norm.specs.format.Steps.{WalksWithin, FindsWithin};
 ghost use Rattle.mp4norm.specs.words.Commands.{ListsSamples, RefusesListing};
+ghost use Rattle.mp4_present.specs.words.HandCarried.{RefusedByBoth};
 ghost use Rattle.mp4_present.specs.words.OverStores.{IsUnchanged, OnlyReads, WhereHonest};
 ghost use Rattle.mp4norm.specs.words.OverDevices.{NoPutFails, PutsTextOf, Refuses};
-ghost use Rattle.mp4norm.specs.words.ListedWalks.{Stops, Takes, TakesFront, WhereComes};
+ghost use Rattle.mp4norm.specs.words.ListedWalks.{Takes, TakesFront, WhereFewCome};
 
 use crate::forms::head_of;
 use crate::sample_lines::put_lines;
@@ -89,16 +91,16 @@ fn put_walk<S: Store, K: Sink, L: Ledger>(
     requires { IsWalkOf movie.now walk.old }
     ensures store { OnlyReads S.Store store.old store.new result }
     ensures puts { NoPutFails K.Sink sink.old sink.new result }
-    ensures lines { OnOk result (WhereComes S.Store store.old movie.now walk.old
+    ensures lines { OnOk result (WhereFewCome S.Store store.old movie.now walk.old
         (λ samples. Takes K.Sink sink.old sink.new carrier.old (sample_at_lines form 1 samples))) }
-    ensures prefix { OnErr result (WhereComes S.Store store.old movie.now walk.old (λ samples.
+    ensures prefix { OnErr result (WhereFewCome S.Store store.old movie.now walk.old (λ samples.
         TakesFront K.Sink sink.old sink.new carrier.old (sample_at_lines form 1 samples))) }
-    ensures unchanged { WhereComes S.Store store.old movie.now walk.old
+    ensures unchanged { WhereFewCome S.Store store.old movie.now walk.old
         (λ samples. IsUnchanged result) }
-    ensures refusal { Stops S.Store store.old store.new K.Sink sink.old sink.new result }
-    ensures work { IsTrue (S.is_honest store.old) → (tree : FileTree) (t : TrackTree) (n : ℕ)
-        → IsOpenedAs (S.file store.old) movie.now tree
-        → MayTake (S.file store.old) tree t walk.old n → steps.new ≤ steps.old + n }
+    ensures refusal { RefusedByBoth S.Store store.old store.new K.Sink sink.old sink.new result
+        RefusesCarry }
+    ensures work { WhereMayTake S.Store store.old movie.now walk.old
+        (λ file tree t n. steps.new ≤ steps.old + n) }
 {
     let mut number = 1;
     put_hand(form, movie, walk, &mut number, carrier, sink, steps)?;
@@ -110,13 +112,14 @@ fn put_walk<S: Store, K: Sink, L: Ledger>(
 
 /// As `samples`, with the steps that it takes counted: at most 8 for each sample and each row
 /// of the file, however many tracks it has.
-pub fn samples_counted<S: Store, K: Sink, L: Ledger>(
+pub fn samples_counted<S: Store, K: Sink, L: Ledger, M: Ledger>(
     alloc: Global,
     store: &mut S,
     id: u32,
     form: Form,
     sink: &mut K,
     steps: &mut Steps<L>,
+    looks: &mut Steps<M>,
 ) -> Result<(), Refusal>
     ensures store { OnlyReads S.Store store.old store.new result }
     ensures puts { NoPutFails K.Sink sink.old sink.new result }
@@ -124,9 +127,10 @@ pub fn samples_counted<S: Store, K: Sink, L: Ledger>(
         (λ file text. ListsSamples file id form text) }
     ensures refusal { Refuses S.Store store.old store.new K.Sink sink.old sink.new result
         (RefusesListing id form) }
-    ensures work { WhereHonest S.Store store.old (λ file. LooksWithin file steps.old steps.new) }
+    ensures work { WhereHonest S.Store store.old (λ file. WalksWithin file steps.old steps.new) }
+    ensures looks { WhereHonest S.Store store.old (λ file. FindsWithin file looks.old looks.new) }
 {
-    let movie = open_movie(alloc, store, steps)?;
+    let movie = open_movie(alloc, store, steps, looks)?;
     let track = track_with(movie.tracks(), id)?;
     let mut walk = movie.walk(alloc, track)?;
     let mut carrier = Carrier::new(alloc, ROOM)?;
@@ -134,18 +138,18 @@ pub fn samples_counted<S: Store, K: Sink, L: Ledger>(
     put_walk(form, &movie, &mut walk, &mut carrier, store, sink, steps)
 }
 
-// As `samples`; its steps are counted in this ledger.
-fn samples_blank<S: Store, K: Sink, L: Ledger>(
+// As `samples`; its steps and looks are counted in these ledgers.
+fn samples_blank<S: Store, K: Sink, L: Ledger, M: Ledger>(
     alloc: Global,
     store: &mut S,
     id: u32,
     form: Form,
     sink: &mut K,
     blank: Blank,
+    other: Blank,
 ) -> Result<(), Refusal>
-    requires name { blank.name ≡ L.name }
-    requires parts { blank.parts ≡ L.parts }
-    requires some { 0 < L.parts }
+    requires blank { (blank.name ≡ L.name) × (blank.parts ≡ L.parts) × (0 < L.parts) }
+    requires other { (other.name ≡ M.name) × (other.parts ≡ M.parts) × (0 < M.parts) }
     ensures store { OnlyReads S.Store store.old store.new result }
     ensures puts { NoPutFails K.Sink sink.old sink.new result }
     ensures lines { PutsTextOf S.Store store.old K.Sink sink.old sink.new result
@@ -154,7 +158,8 @@ fn samples_blank<S: Store, K: Sink, L: Ledger>(
         (RefusesListing id form) }
 {
     let mut steps = Steps::<L>::new(blank);
-    samples_counted(alloc, store, id, form, sink, &mut steps)
+    let mut looks = Steps::<M>::new(other);
+    samples_counted(alloc, store, id, form, sink, &mut steps, &mut looks)
 }
 
 /// Puts a line for each sample of the track with this ID: number, decode time, composition time,
@@ -174,5 +179,5 @@ pub fn samples<S: Store, K: Sink>(
     ensures refusal { Refuses S.Store store.old store.new K.Sink sink.old sink.new result
         (RefusesListing id form) }
 {
-    samples_blank::<S, K, Brand>(alloc, store, id, form, sink, Blank::new(1))
+    samples_blank::<S, K, Brand, Brand>(alloc, store, id, form, sink, Blank::new(1), Blank::new(1))
 }

@@ -2,7 +2,7 @@
 ghost use Rattle.std.specs.Prelude.{◌≡◌, ℕ, List, None, true, IfErr, OnOk};
 ghost use Rattle.std.specs.Io.KnownBytes.{Appends};
 ghost use Rattle.mp4norm.specs.format.Headline.{HasNormalForm};
-ghost use Rattle.mp4norm.specs.words.Jobs.{IsTextOf, RefusesJob, JobWorksWithin};
+ghost use Rattle.mp4norm.specs.words.Jobs.{IsTextOf, RefusesJob, JobWorksWithin, JobLooksWithin};
 ghost use Rattle.mp4norm.specs.words.MainJob.{RefusesNormalise};
 
 use crate::explaining::explain;
@@ -81,12 +81,13 @@ impl Source {
     ghost use Rattle.mp4norm.specs.words.Sources.{IfInput};
 
     /// Does a job. Of standard input all that is put is the job's text of the bytes that were read.
-    pub(crate) fn perform<K: Sink, L: Ledger>(
+    pub(crate) fn perform<K: Sink, L: Ledger, M: Ledger>(
         &mut self,
         alloc: Global,
         job: Job,
         sink: &mut K,
         steps: &mut Steps<L>,
+        looks: &mut Steps<M>,
     ) -> Result<(), Refusal>
         ensures puts { OnOk result (K.put_failures sink.new ≡ K.put_failures sink.old) }
         ensures text { IfInput self.old (λ file. OnOk result ((text : List ℕ)
@@ -97,12 +98,14 @@ impl Source {
             (K.put_failures sink.new))) }
         ensures work { IfInput self.old
             (λ file. JobWorksWithin job.entry file steps.old steps.new) }
+        ensures looks { IfInput self.old
+            (λ file. JobLooksWithin job.entry file looks.old looks.new) }
     {
         match self {
-            Source::File(store, _) => perform(alloc, job, store, sink, steps),
+            Source::File(store, _) => perform(alloc, job, store, sink, steps, looks),
             Source::Input(bytes) => {
                 let mut store = MemStore::new(bytes.as_slice());
-                perform(alloc, job, &mut store, sink, steps)
+                perform(alloc, job, &mut store, sink, steps, looks)
             }
         }
     }
@@ -137,17 +140,18 @@ impl Source {
     }
 
     /// How many bytes a job is to put.
-    pub(crate) fn text_len<L: Ledger>(
+    pub(crate) fn text_len<L: Ledger, M: Ledger>(
         &mut self,
         alloc: Global,
         job: Job,
         steps: &mut Steps<L>,
+        looks: &mut Steps<M>,
     ) -> Result<u64, Refusal> {
         match self {
-            Source::File(store, _) => text_len(alloc, job, store, steps),
+            Source::File(store, _) => text_len(alloc, job, store, steps, looks),
             Source::Input(bytes) => {
                 let mut store = MemStore::new(bytes.as_slice());
-                text_len(alloc, job, &mut store, steps)
+                text_len(alloc, job, &mut store, steps, looks)
             }
         }
     }
@@ -162,18 +166,19 @@ impl Source {
     }
 
     /// Puts what there is to say of a fault.
-    pub(crate) fn explain<K: Sink, L: Ledger>(
+    pub(crate) fn explain<K: Sink, L: Ledger, M: Ledger>(
         &mut self,
         alloc: Global,
         fault: &Fault,
         sink: &mut K,
         steps: &mut Steps<L>,
+        looks: &mut Steps<M>,
     ) -> Result<(), Refusal> {
         match self {
-            Source::File(store, _) => explain(alloc, fault, store, sink, steps),
+            Source::File(store, _) => explain(alloc, fault, store, sink, steps, looks),
             Source::Input(bytes) => {
                 let mut store = MemStore::new(bytes.as_slice());
-                explain(alloc, fault, &mut store, sink, steps)
+                explain(alloc, fault, &mut store, sink, steps, looks)
             }
         }
     }

@@ -1,13 +1,13 @@
 //! A copy of a file in which the boxes of some types are free space.
-ghost use Rattle.std.specs.Prelude.{◌≡◌, ℕ, ◌+◌, ◌-◌, ◌<◌, ◌≤◌, List, ◌++◌, length, Ok, Err, IfOk, IfErr, OnOk, OnErr, IsTrue};
+ghost use Rattle.std.specs.Prelude.{◌≡◌, ℕ, ◌+◌, ◌-◌, ◌<◌, ◌≤◌, List, ◌++◌, length, Ok, Err, IfOk, OnOk, OnErr, IsTrue};
 ghost use Rattle.mp4_boxes.specs.format.Box.{header_at};
 ghost use Rattle.mp4_boxes.specs.words.View.{top_header_seen};
-ghost use Rattle.mp4_boxes.specs.declared.refusal.Refusal.TheVariants as refusals;
 ghost use Rattle.mp4_boxes.specs.declared.rule.Rule.TheVariants.{File};
 ghost use Rattle.mp4_store.specs.words.Device.{AppendsPrefix, range};
 ghost use Rattle.mp4_present.specs.words.Carried.{waiting, BytesGoOn, RefusesCarry, RefusesRange};
 ghost use Rattle.mp4norm.specs.format.Strips.{is_top, freed, Strips, IsStripped, RefusesHeaderAgain, RefusesWalk, RefusesStrip};
-ghost use Rattle.mp4_present.specs.words.OverStores.{OnlyReads};
+ghost use Rattle.mp4_present.specs.words.HandCarried.{RefusedByBoth};
+ghost use Rattle.mp4_present.specs.words.OverStores.{IsUnchanged, OnlyReads, RefusedOf, WhereHonest, WhereRead};
 ghost use Rattle.mp4norm.specs.words.OverDevices.{NoPutFails, PutsTextOf, Refuses};
 
 use crate::boxes::rule_inside;
@@ -30,16 +30,12 @@ fn read_header_again<S: Store>(
 ) -> Result<TopHeader, Refusal>
     requires some { at < end }
     requires within { end ≤ length (S.file store.old) }
-    ensures honesty { S.is_honest store.new ≡ S.is_honest store.old }
-    ensures file { S.file store.new ≡ S.file store.old }
-    ensures header { IfOk result (λ h. IsTrue (S.is_honest store.old)
-        → header_at (is_top rule) (range (S.file store.old) at (end - at))
-        ≡ Ok (top_header_seen at h)) }
+    ensures store { OnlyReads S.Store store.old store.new result }
+    ensures header { WhereRead S.Store store.old result (λ file h.
+        header_at (is_top rule) (range file at (end - at)) ≡ Ok (top_header_seen at h)) }
     ensures fits { IfOk result (λ h. (at + h.header ≤ h.end) × (8 ≤ h.header) × (h.end ≤ end)) }
-    ensures reads { OnOk result (S.read_failures store.new ≡ S.read_failures store.old) }
-    ensures refusal { IfErr result
-        (RefusesHeaderAgain (S.is_honest store.old) (range (S.file store.old) at (end - at)) rule at
-        (S.read_failures store.old) (S.read_failures store.new)) }
+    ensures refusal { RefusedOf S.Store store.old store.new result (λ honest file.
+        RefusesHeaderAgain honest (range file at (end - at)) rule at) }
 {
     match read_header(store, rule, at, end) {
         Ok(header) => Ok(header),
@@ -58,13 +54,9 @@ fn read_headers<S: Store>(
 ) -> Result<(), Refusal>
     requires span { from ≤ end }
     requires within { end ≤ length (S.file store.old) }
-    ensures honesty { S.is_honest store.new ≡ S.is_honest store.old }
-    ensures file { S.file store.new ≡ S.file store.old }
-    ensures reads { OnOk result (S.read_failures store.new ≡ S.read_failures store.old) }
-    ensures refusal { IfErr result
-        (RefusesWalk names.now (S.is_honest store.old) rule from
-        (range (S.file store.old) from (end - from)) (S.read_failures store.old)
-        (S.read_failures store.new)) }
+    ensures store { OnlyReads S.Store store.old store.new result }
+    ensures refusal { RefusedOf S.Store store.old store.new result (λ honest file.
+        RefusesWalk names.now honest rule from (range file from (end - from))) }
 {
     let mut at = from;
     while at < end {
@@ -87,15 +79,11 @@ fn judge_boxes<S: Store>(
 ) -> Result<(), Refusal>
     requires span { from ≤ end }
     requires within { end ≤ length (S.file store.old) }
-    ensures honesty { S.is_honest store.new ≡ S.is_honest store.old }
-    ensures file { S.file store.new ≡ S.file store.old }
-    ensures reads { OnOk result (S.read_failures store.new ≡ S.read_failures store.old) }
+    ensures store { OnlyReads S.Store store.old store.new result }
     ensures judged { OnOk result (IsTrue (S.is_honest store.old) → (text : List ℕ)
         × Strips names.now rule (range (S.file store.old) from (end - from)) text) }
-    ensures refusal { IfErr result
-        (RefusesWalk names.now (S.is_honest store.old) rule from
-        (range (S.file store.old) from (end - from)) (S.read_failures store.old)
-        (S.read_failures store.new)) }
+    ensures refusal { RefusedOf S.Store store.old store.new result (λ honest file.
+        RefusesWalk names.now honest rule from (range file from (end - from))) }
 {
     read_headers(names, rule, from, end, store)?;
     let mut at = from;
@@ -122,9 +110,7 @@ fn carry_freed<S: Store, K: Sink>(
 ) -> Result<(), Refusal>
     requires some { at + 8 ≤ end }
     requires within { end ≤ length (S.file store.old) }
-    ensures honesty { S.is_honest store.new ≡ S.is_honest store.old }
-    ensures file { S.file store.new ≡ S.file store.old }
-    ensures reads { OnOk result (S.read_failures store.new ≡ S.read_failures store.old) }
+    ensures store { OnlyReads S.Store store.old store.new result }
     ensures puts { OnOk result (K.put_failures sink.new ≡ K.put_failures sink.old) }
     ensures bytes { OnOk result (IsTrue (S.is_honest store.old)
         → BytesGoOn (K.contents sink.old) (K.contents sink.new) (waiting carrier.old)
@@ -132,9 +118,8 @@ fn carry_freed<S: Store, K: Sink>(
     ensures prefix { OnErr result (IsTrue (S.is_honest store.old)
         → AppendsPrefix (K.contents sink.old) (K.contents sink.new) (waiting carrier.old
         ++ freed (range (S.file store.old) at (end - at)))) }
-    ensures refusal { IfErr result
-        (RefusesRange (S.read_failures store.old) (S.read_failures store.new)
-        (K.put_failures sink.old) (K.put_failures sink.new)) }
+    ensures refusal { RefusedByBoth S.Store store.old store.new K.Sink sink.old sink.new result
+        RefusesRange }
 {
     carrier.carry_range(store, at, 4, sink)?;
     carrier.carry(b"free", sink)?;
@@ -153,9 +138,7 @@ fn carry_boxes<S: Store, K: Sink>(
 ) -> Result<(), Refusal>
     requires span { from ≤ end }
     requires within { end ≤ length (S.file store.old) }
-    ensures honesty { S.is_honest store.new ≡ S.is_honest store.old }
-    ensures file { S.file store.new ≡ S.file store.old }
-    ensures reads { OnOk result (S.read_failures store.new ≡ S.read_failures store.old) }
+    ensures store { OnlyReads S.Store store.old store.new result }
     ensures puts { OnOk result (K.put_failures sink.new ≡ K.put_failures sink.old) }
     ensures bytes { OnOk result (IsTrue (S.is_honest store.old) → (text : List ℕ)
         → Strips names.now rule (range (S.file store.old) from (end - from)) text
@@ -164,12 +147,10 @@ fn carry_boxes<S: Store, K: Sink>(
     ensures prefix { OnErr result (IsTrue (S.is_honest store.old) → (text : List ℕ)
         → Strips names.now rule (range (S.file store.old) from (end - from)) text
         → AppendsPrefix (K.contents sink.old) (K.contents sink.new) (waiting carrier.old ++ text)) }
-    ensures unchanged { IsTrue (S.is_honest store.old) → (text : List ℕ)
-        → Strips names.now rule (range (S.file store.old) from (end - from)) text
-        → IfErr result (λ r. r ≡ refusals.StoreChanged → ⊥) }
-    ensures refusal { IfErr result
-        (RefusesCarry (S.read_failures store.old) (S.read_failures store.new)
-        (K.put_failures sink.old) (K.put_failures sink.new)) }
+    ensures unchanged { WhereHonest S.Store store.old (λ file. (text : List ℕ)
+        → Strips names.now rule (range file from (end - from)) text → IsUnchanged result) }
+    ensures refusal { RefusedByBoth S.Store store.old store.new K.Sink sink.old sink.new result
+        RefusesCarry }
 {
     let mut at = from;
     while at < end {

@@ -64,16 +64,17 @@ fn answers_for_all(job: Job) -> bool {
 }
 
 /// Writes a job's text. Where a file changed meanwhile of which all was to be read, that is said.
-pub(crate) fn write<L: Ledger>(
+pub(crate) fn write<L: Ledger, M: Ledger>(
     alloc: Global,
     job: Job,
     source: &mut Source,
     out: &mut Out,
     steps: &mut Steps<L>,
+    looks: &mut Steps<M>,
     report: &mut Report,
 ) -> Result<(), Refusal> {
     let noted = Noted { out, report };
-    source.perform(alloc, job, &mut IoSink::new(noted), steps)?;
+    source.perform(alloc, job, &mut IoSink::new(noted), steps, looks)?;
     if answers_for_all(job) {
         source.stays()?;
     }

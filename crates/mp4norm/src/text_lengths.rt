@@ -1,5 +1,5 @@
 //! How many bytes a job puts.
-ghost use Rattle.std.specs.Prelude.{◌≡◌, OnOk};
+ghost use Rattle.mp4_present.specs.words.OverStores.{OnlyReads};
 
 use crate::tracks::track_with;
 use crate::wanted::Job;
@@ -12,30 +12,29 @@ use std::sync::ledger::Ledger;
 
 /// How many bytes a job puts, of those that copy samples or boxes; 0 of the others, whose text is
 /// as long as it gets. The file is opened and planned for it.
-pub fn text_len<S: Store, L: Ledger>(
+pub fn text_len<S: Store, L: Ledger, M: Ledger>(
     alloc: Global,
     job: Job,
     store: &mut S,
     steps: &mut Steps<L>,
+    looks: &mut Steps<M>,
 ) -> Result<u64, Refusal>
-    ensures honesty { S.is_honest store.new ≡ S.is_honest store.old }
-    ensures file { S.file store.new ≡ S.file store.old }
-    ensures reads { OnOk result (S.read_failures store.new ≡ S.read_failures store.old) }
+    ensures store { OnlyReads S.Store store.old store.new result }
 {
     match job {
         Job::Strip { .. } => Ok(store.len()),
         Job::Extract { track } => {
-            let movie = open_movie(alloc, store, steps)?;
+            let movie = open_movie(alloc, store, steps, looks)?;
             let place = track_with(movie.tracks(), track)?;
             Ok(movie.tracks()[place].bytes)
         }
         Job::Normalise => {
-            let movie = open_movie(alloc, store, steps)?;
-            normal_len(alloc, &movie, store, steps)
+            let movie = open_movie(alloc, store, steps, looks)?;
+            normal_len(alloc, &movie, store, steps, looks)
         }
         Job::Reduce { leaving } => {
-            let movie = open_movie(alloc, store, steps)?;
-            reduced_len(alloc, &movie, store, leaving, steps)
+            let movie = open_movie(alloc, store, steps, looks)?;
+            reduced_len(alloc, &movie, store, leaving, steps, looks)
         }
         Job::Boxes | Job::Show | Job::Samples { .. } => Ok(0),
     }

@@ -81,3 +81,9 @@ abbrev pub IsNameFault : List GroupKey → List Grouping → Grouping → Kind �
 IsNameFault keys before g kind = ((kind ≡ group_kind one_of_key)
     × (keeps one_of_key 0 keys before g ≡ false))
     ⊎ ((kind ≡ group_kind few_keys) × (keeps few_keys 0 keys before g ≡ false))
+
+-- it holds of each `traf` so far whose track has these keys now, of which these are named
+abbrev pub WhereNamed : List GroupKey → KeysNamed → (List GroupKey → List Grouping → Type 0)
+    → Type 0
+WhereNamed now named P = (keys : List GroupKey) (before : List Grouping)
+    → AreNamed keys before now named → P keys before

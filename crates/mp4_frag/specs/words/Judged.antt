@@ -1,8 +1,8 @@
 -- What a `moof` has to keep behind what came before it, by what is known of the tracks.
-use Rattle.std.specs.Prelude.{◌≡◌, ℕ, ◌+◌, ◌^◌, ◌<◌, ◌==◌, cond, if◌then◌else◌, ℤ, pos, List, [], ◌∷◌, length, take, map, find, slice_get, slice_set, codes, Bool, Option, Some, None, is_some, unwrap_or, IsTrue}
+use Rattle.std.specs.Prelude.{◌≡◌, ℕ, ◌+◌, ◌^◌, ◌<◌, ◌≤◌, ◌==◌, cond, if◌then◌else◌, ℤ, pos, List, [], ◌∷◌, length, take, map, find, slice_get, slice_set, codes, Bool, Option, Some, None, is_some, unwrap_or, IsTrue}
 use Rattle.std.specs.List.{AllByRecursion, list_all}
-use Rattle.mp4_boxes.specs.format.Box.{Box}
-use Rattle.mp4_boxes.specs.format.Children.{of_kind}
+use Rattle.mp4_boxes.specs.format.Box.{Box, box_container}
+use Rattle.mp4_boxes.specs.format.Children.{Holds, of_kind}
 use Rattle.mp4_boxes.specs.format.Places.{ruled, AreSound}
 use Rattle.mp4_boxes.specs.declared.rule.Rule.TheVariants as rules
 use Rattle.mp4_tables.specs.format.Groups.{GroupKey, GroupRule, keys_after}
@@ -12,7 +12,9 @@ use Rattle.mp4_tables.specs.format.PlainSamples.{PlacedSample}
 use Rattle.mp4_frag.specs.format.Fragments.{TrackFragment, FragmentTree, IsFragmentTree, fragment_of, track_fragment_of}
 use Rattle.mp4_frag.specs.format.FragmentSamples.{Part, parts_of, trex_for, has_groups, fragment_samples, base_of, runs_samples, runs_end, part_samples, has_samples, is_on_time, duration_of, bytes_of}
 use Rattle.mp4_frag.specs.format.FragmentRules.{is_within}
+use Rattle.mp4_frag.specs.words.Passing.{EndsNear}
 use Rattle.mp4_frag.specs.words.RunsJudged.{children_of}
+use Rattle.mp4_frag.specs.words.States.{HaveRoom}
 use Rattle.mp4_frag.specs.words.Walks.{trex_among}
 use Rattle.mp4_frag.specs.declared.state.TrackState.{TrackState}
 use Rattle.mp4_frag.specs.declared.trex.Trex.{Trex}
@@ -172,6 +174,26 @@ AreMovedOn moof before (b ∷ trafs) old new room less =
     × AreMovedOn moof (end_with moof before m.trex (track_fragment_of (children_of b)))
     trafs between new rest less)
 
+-- the same for a `moof`
+abbrev pub IsMoofMovedOn : Box → List TrackState → List TrackState → ℕ → ℕ → Type 0
+IsMoofMovedOn moof old new room less = AreMovedOn moof.offset (pos moof.offset)
+    (of_kind (codes "traf") (children_of moof)) old new room less
+
+-- a `traf` that passed: its boxes are those of the profile, they are sound, its data ends here, and
+-- the tracks and the room are moved on by it
+pub record IsTrafPassed (file_length moof : ℕ) (before : ℤ) (traf : Box) (old new : List TrackState)
+    (room less : ℕ) (ends : ℤ) : Type 0 where
+  pub holds : Holds rules.TrackFragment (box_container traf) (children_of traf)
+  pub sound : IsTrafSound file_length moof before old (children_of traf) ends
+  pub bound : EndsNear before ends
+  pub moved : IsMovedOn moof before (children_of traf) old new room less
+
+-- tracks that moved on have the room that is left, and what their fragments inherit is the same
+pub record KeepRoom (old new : List TrackState) (room less : ℕ) : Type 0 where
+  pub few : less ≤ room
+  pub each : HaveRoom less new
+  pub same : (id : ℕ) → trex_among new id ≡ trex_among old id
+
 -- a `moof` that is accepted behind these tracks, where there is room for so many samples: it is
 -- sound, and each of its parts was due
 pub record IsAcceptable (file_length : ℕ) (tracks : List TrackState) (room : ℕ) (moof : Box)
@@ -179,5 +201,10 @@ pub record IsAcceptable (file_length : ℕ) (tracks : List TrackState) (room : �
   pub sound : IsSoundMoof file_length (own_trexes tracks) tracks (tree_of moof)
   pub after : List TrackState
   pub less : ℕ
-  pub moved : AreMovedOn moof.offset (pos moof.offset) (of_kind (codes "traf") (children_of moof))
-      tracks after room less
+  pub moved : IsMoofMovedOn moof tracks after room less
+
+-- it was accepted, and the tracks moved on
+pub record IsAccepted (file_length : ℕ) (moof : Box) (old new : List TrackState) (room less : ℕ)
+    : Type 0 where
+  pub own : IsSoundMoof file_length (own_trexes old) old (tree_of moof)
+  pub kept : KeepRoom old new room less

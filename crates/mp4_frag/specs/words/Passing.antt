@@ -1,17 +1,21 @@
 -- Rows of a `trun`, passed one by one, and tracks moved on by samples.
-use Rattle.std.specs.Prelude.{◌≡◌, ℕ, suc, ◌+◌, ◌-◌, ◌<◌, ◌≤◌, ◌*◌, ◌^◌, nat_lt, ◌==◌, ◌&&◌, not, Bool, true, false, if◌then◌else◌, List, [], ◌∷◌, drop, Option, Some, None, unwrap_or, option_map, ℤ, pos, negsuc, ◌+ℤ◌, ◌≤ℤ◌}
+use Rattle.std.specs.Prelude.{◌≡◌, ℕ, suc, ◌+◌, ◌-◌, ◌<◌, ◌≤◌, ◌*◌, ◌^◌, nat_lt, ◌==◌, ◌&&◌, not, Bool, true, false, if◌then◌else◌, List, [], ◌∷◌, length, drop, Option, Some, None, unwrap_or, option_map, ℤ, pos, negsuc, ◌+ℤ◌, ◌≤ℤ◌}
 use Rattle.mp4_tables.specs.format.TableRules.{lies_within}
 use Rattle.mp4_frag.specs.words.ColumnsRead.{row_room}
 use Rattle.mp4_frag.specs.format.Fragments.{RunRow, run_rows, run_of}
 use Rattle.mp4_frag.specs.format.FragmentSamples.{run_start}
 use Rattle.mp4_frag.specs.declared.heads.Inherited.{Inherited}
-use Rattle.mp4_boxes.specs.format.Layout.{run_offsets, trun, row_count, IsReadable, IsSound}
+use Rattle.mp4_boxes.specs.format.Layout.{run_offsets, too_large, trun, row_count, IsReadable, IsSound}
 use Rattle.mp4_boxes.specs.format.BoxFaults.{Fails}
 use Rattle.mp4_boxes.specs.declared.fault.Kind.{Kind}
 use Rattle.mp4_boxes.specs.declared.fault.Kind.TheVariants.{TooManySamples, SampleOutsideFile}
 use Rattle.mp4_tables.specs.format.Tables.{composition_offset}
+use Rattle.mp4_tables.specs.declared.keys.Keys.{Keys}
 use Rattle.mp4_frag.specs.declared.rows.Row.{Row}
 use Rattle.mp4_frag.specs.declared.runs.Run.{Run}
+use Rattle.mp4_frag.specs.declared.sample_runs.Judged.{Judged}
+use Rattle.mp4_frag.specs.declared.sample_runs.Passed.{Passed}
+use Rattle.mp4_frag.specs.declared.sample_runs.Samples.{Samples}
 use Rattle.mp4_frag.specs.declared.state.TrackState.{TrackState}
 
 -- places that are far from the limits of 128 bits
@@ -26,6 +30,14 @@ IsNearer at = (at ≤ℤ pos (2 ^ 99)) × (pos 0 ≤ℤ (at +ℤ pos (2 ^ 99)))
 abbrev pub IsUpTo : ℕ → ℤ → Type 0
 IsUpTo n (pos k) = k ≤ n
 IsUpTo n (negsuc k) = suc k ≤ n
+
+-- data ends no more than 2^31 further from 0 than where it is counted from, or than 2^64
+abbrev pub EndsNear : ℤ → ℤ → Type 0
+EndsNear base ends = (n : ℕ) → 2 ^ 64 ≤ n → IsUpTo n base → IsUpTo (n + 2 ^ 31) ends
+
+-- there are bytes for each row of a run
+abbrev pub HasRows : List ℕ → Run → Type 0
+HasRows payload run = run.rows + run.count * row_room run.bits ≤ length payload
 
 -- the version of a `trun` by whether its offsets are signed
 abbrev pub run_version : Run → ℕ
@@ -75,6 +87,25 @@ abbrev pub filling : ℕ → List RunRow → ℕ
 filling size [] = 0
 filling size (row ∷ rows) = unwrap_or row.size size + filling size rows
 
+-- the samples of all rows of a run, from a place on: where their data ends, how long they last, how
+-- many bytes they take, and whether an offset is too large
+pub record AreSamplesOf (judged : Judged) (at : ℤ) (payload : List ℕ) (run : Run) (s : Samples)
+    : Type 0 where
+  pub end : s.end ≡ end_from judged.inherited.size at (rows_left payload run 0)
+  pub duration : s.duration ≡ lasting judged.inherited.duration (rows_left payload run 0)
+  pub bytes : s.bytes ≡ filling judged.inherited.size (rows_left payload run 0)
+  pub large : s.are_large ≡ too_large (offsets_left payload run 0)
+
+-- so many samples last and take no more than 2^32 each
+pub record AreBounded (count lasts fills : ℕ) : Type 0 where
+  pub duration : lasts ≤ 2 ^ 32 * count
+  pub bytes : fills ≤ 2 ^ 32 * count
+
+-- those that were passed do, and their data ends far from the limits of 128 bits
+pub record IsPassed (p : Passed) : Type 0 where
+  pub near : IsNear p.at
+  pub sums : AreBounded p.count p.duration p.bytes
+
 -- samples begin at another time than is due; the first ones of a track begin when they say
 abbrev pub is_late_at : TrackState → Option ℕ → ℕ → Bool
 is_late_at state None samples = false
@@ -88,6 +119,16 @@ start_with state time = if state.count == 0 then unwrap_or time 0 else state.sta
 -- the time at which they are due
 abbrev pub due_with : TrackState → Option ℕ → ℕ
 due_with state time = if state.count == 0 then unwrap_or time 0 else state.time
+
+-- the track behind such samples, with these keys
+abbrev pub state_with : TrackState → Option ℕ → Passed → Keys → TrackState
+state_with state time passed keys = record state {
+  start = start_with state time;
+  count = state.count + passed.count;
+  time = due_with state time + passed.duration;
+  bytes = state.bytes + passed.bytes;
+  keys = keys;
+}
 
 -- what is wrong with a `trun`, behind samples whose data ends at a place, where there is room for
 -- so many: it can't be read; it has more samples; one of them does not lie in the file; an offset
@@ -113,3 +154,13 @@ pub record IsRunPassed (file_length : ℕ) (inherited : Inherited) (base before 
   pub count : samples ≡ row_count trun payload
   pub duration : lasts ≡ lasting inherited.duration (run_of payload).rows
   pub bytes : fills ≡ filling inherited.size (run_of payload).rows
+
+-- samples were passed, and now those of one run more, for which there was room
+pub record IsPassedWith (judged : Judged) (payload : List ℕ) (old : Passed) (room less : ℕ)
+    (new : Passed) : Type 0 where
+  pub run : IsRunPassed judged.file_len judged.inherited judged.base old.at payload new.at
+      (new.count - old.count) (new.duration - old.duration) (new.bytes - old.bytes)
+  pub count : old.count ≤ new.count
+  pub duration : old.duration ≤ new.duration
+  pub bytes : old.bytes ≤ new.bytes
+  pub taken : new.count + less ≡ old.count + room

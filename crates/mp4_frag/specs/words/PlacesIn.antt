@@ -1,13 +1,48 @@
 -- Places in the payload of a `moof`, and what a walk costs.
-use Rattle.std.specs.Prelude.{◌≡◌, ℕ, suc, ◌+◌, ◌*◌, ◌≤◌, cond, List, [], ◌∷◌, length, codes, bytes_eq}
+use Rattle.std.specs.Prelude.{◌≡◌, ℕ, suc, ◌+◌, ◌-◌, ◌*◌, ◌<◌, ◌≤◌, cond, List, [], ◌∷◌, length, None, codes, bytes_eq, true}
 use Rattle.mp4_boxes.specs.format.Box.{Box}
 use Rattle.mp4_boxes.specs.format.Layout.{trun, sbgp, row_count}
 use Rattle.mp4_frag.specs.words.ColumnsRead.{row_room}
-use Rattle.mp4_frag.specs.words.Walks.{can_read, boxes_in, boxes_between}
+use Rattle.mp4_tables.specs.declared.sample.SampleAt.{SampleAt}
+use Rattle.mp4_frag.specs.words.Walks.{Reached, can_read, part_of, boxes_in, boxes_between, with_leaves, before_traf, rows_here, rows_coming, reached, walk_of, coming}
+use Rattle.mp4_frag.specs.declared.lying.Lying.{Lying}
 use Rattle.mp4_frag.specs.declared.places.FragPlace.{FragPlace}
 use Rattle.mp4_frag.specs.declared.places.IndexPlace.{IndexPlace}
 use Rattle.mp4_frag.specs.declared.places.IndexPlaces.{IndexPlaces}
 use Rattle.mp4_frag.specs.declared.places.RowPlace.{RowPlace}
+use Rattle.mp4_frag.specs.declared.state.TrackState.{TrackState}
+
+-- a box lies in the payload
+pub record IsBoxIn (payload : List ℕ) (b : Lying) : Type 0 where
+  pub inside : b.inside ≤ b.end
+  pub within : b.end ≤ length payload
+
+-- the bytes in it
+abbrev pub bytes_inside : List ℕ → Lying → List ℕ
+bytes_inside payload b = part_of payload b.inside b.end
+
+-- the boxes in it
+abbrev pub boxes_inside : List ℕ → Lying → List Box
+boxes_inside payload b = boxes_between payload b.inside b.end
+
+-- the box that lies there, behind its header, which begins at a place
+abbrev pub box_in : List ℕ → ℕ → Lying → Box
+box_in payload at b = record {
+  kind = b.kind.0;
+  offset = at;
+  header = b.inside - at;
+  payload = bytes_inside payload b;
+}
+
+-- the boxes from a place on
+abbrev pub boxes_from : List ℕ → ℕ → List Box
+boxes_from payload at = boxes_between payload at (length payload)
+
+-- a `traf` begins at a place
+pub record IsTrafAt (payload : List ℕ) (at : ℕ) (traf : Lying) : Type 0 where
+  pub inside : (at < traf.inside) × (traf.inside ≤ traf.end) × (traf.end ≤ length payload)
+  pub some : boxes_from payload at ≡ box_in payload at traf ∷ boxes_from payload traf.end
+  pub kind : bytes_eq traf.kind.0 (codes "traf") ≡ true
 
 -- there are bytes for the rows left of an `sbgp`
 abbrev pub HasIndexRows : List ℕ → IndexPlace → Type 0
@@ -26,6 +61,14 @@ AreIndexPlaces payload places = IsIndexPlace payload places.first
 -- there are bytes for the rows left of a `trun`
 abbrev pub IsRowPlace : List ℕ → RowPlace → Type 0
 IsRowPlace payload place = place.row + place.left * row_room place.bits ≤ length payload
+
+-- the place behind the next of them, whose flags are not those of the first
+abbrev pub row_behind : RowPlace → RowPlace
+row_behind place = record place {
+  row = place.row + row_room place.bits;
+  left = place.left - 1;
+  first_flags = None;
+}
 
 -- a step for a run, and one for each of its rows, if it can be read
 abbrev pub run_work : List ℕ → ℕ
@@ -77,3 +120,39 @@ pub record LiesIn (payload : List ℕ) (place : FragPlace) : Type 0 where
 pub record IsPlaceIn (payload : List ℕ) (place : FragPlace) : Type 0 where
   pub lies : LiesIn payload place
   pub settled : place.run.left ≡ 0 → place.next ≡ length payload
+
+-- ---- from place to place
+
+-- the walk is of the same track with the same keys, and has no fewer steps behind it
+pub record KeepsWalk (old new : FragPlace) : Type 0 where
+  pub track : new.track ≡ old.track
+  pub keys : new.keys ≡ old.keys
+  pub on : old.passed ≤ new.passed
+
+-- only the indexes to come and the steps are others
+abbrev pub ChangesIndexes : FragPlace → FragPlace → Type 0
+ChangesIndexes old new = new ≡ record old { indexes = new.indexes; passed = new.passed }
+
+-- only what a `tfhd` says is another
+abbrev pub ChangesHead : FragPlace → FragPlace → Type 0
+ChangesHead old new = new ≡ record old {
+  is_own = new.is_own;
+  base = new.base;
+  at = new.at;
+  inherited = new.inherited;
+}
+
+-- the same samples are to come
+abbrev pub SameToCome : List ℕ → ℕ → List TrackState → FragPlace → FragPlace → Type 0
+SameToCome payload moof tracks old new =
+    coming payload (walk_of moof tracks old) new ≡ coming payload (walk_of moof tracks old) old
+
+-- what goes for the next sample behind what the boxes of a `traf` say
+abbrev pub traf_opened : List ℕ → ℕ → List TrackState → FragPlace → Lying → Reached
+traf_opened payload moof tracks p traf = with_leaves (walk_of moof tracks p)
+    (before_traf (reached payload p)) (boxes_inside payload traf)
+
+-- the samples of the rows left of a run, and then those of what is behind it
+abbrev pub left_coming : List ℕ → FragPlace → (Reached → List SampleAt) → List SampleAt
+left_coming payload p more = rows_coming (reached payload p) p.run.first_flags
+    (rows_here payload p.run) more

@@ -1,7 +1,7 @@
 -- The runs of a `traf` judged one after the other, in file order.
 use Rattle.std.specs.Prelude.{◌≡◌, ℕ, ◌+◌, ◌-◌, ◌≤◌, ◌⊎◌, true, List, [], ◌∷◌, Option, Some, None, ℤ, codes, ⊤}
 use Rattle.mp4_boxes.specs.format.Bytes.{sum_of}
-use Rattle.mp4_boxes.specs.format.Box.{Box}
+use Rattle.mp4_boxes.specs.format.Box.{Box, Tiles, box_container}
 use Rattle.mp4_boxes.specs.format.BoxFaults.{fault_of}
 use Rattle.mp4_boxes.specs.format.Children.{of_kind}
 use Rattle.mp4_boxes.specs.format.Layout.{trun, row_count, IsSound}
@@ -12,10 +12,16 @@ use Rattle.mp4_frag.specs.format.FragmentSamples.{run_start}
 use Rattle.mp4_frag.specs.words.Passing.{within_from, end_from, lasting, filling, IsRunFault}
 use Rattle.mp4_frag.specs.words.Walks.{boxes_in}
 use Rattle.mp4_frag.specs.declared.heads.Inherited.{Inherited}
+use Rattle.mp4_frag.specs.declared.sample_runs.Judged.{Judged}
+use Rattle.mp4_frag.specs.declared.sample_runs.Passed.{Passed}
 
 -- the boxes in a box
 abbrev pub children_of : Box → List Box
 children_of b = boxes_in (b.offset + b.header) b.payload
+
+-- they fill it
+abbrev pub HoldsChildren : Box → Type 0
+HoldsChildren b = Tiles (box_container b) (children_of b)
 
 -- the one box that there is, or none
 abbrev pub only_list : Option Box → List Box
@@ -65,6 +71,15 @@ runs_lasting inherited runs =
 abbrev pub runs_filling : Inherited → List Box → ℕ
 runs_filling inherited runs = sum_of (λ (b : Box). filling inherited.size (run_of b.payload).rows)
     runs
+
+-- the runs are sound, and these are their samples: where their data ends, how many there are, how
+-- long they last, and how many bytes they take
+pub record AreRunsPassed (judged : Judged) (runs : List Box) (p : Passed) : Type 0 where
+  pub sound : AreRunsSound judged.file_len judged.inherited judged.base judged.base runs
+  pub end : p.at ≡ all_end judged.inherited judged.base judged.base runs
+  pub count : p.count ≡ runs_total runs
+  pub lasting : p.duration ≡ runs_lasting judged.inherited runs
+  pub filling : p.bytes ≡ runs_filling judged.inherited runs
 
 -- The fault is one of the runs, where there is room for so many samples: of the first, or of one
 -- behind it, where the first is sound and there is room for its samples.

@@ -12,3 +12,8 @@ pub record HasRoom (room : ℕ) (t : TrackState) : Type 0 where
 
 abbrev pub HaveRoom : ℕ → List TrackState → Type 0
 HaveRoom room tracks = AllByRecursion (HasRoom room) tracks
+
+-- room for no more than 2^24 samples, which each of the tracks has
+pub record IsRoomFor (tracks : List TrackState) (room : ℕ) : Type 0 where
+  pub few : room ≤ 2 ^ 24
+  pub each : HaveRoom room tracks

@@ -83,3 +83,7 @@ group_bytes rows p place key = group_front key (slice_index p.group_rows place)
 abbrev pub groups_bytes : List Row → Planned → List GroupKey → List ℕ
 groups_bytes rows p keys = flat_map (λ key. group_bytes rows p (place_at keys key) key)
     (in_key_order (used_from p.group_rows 0 keys))
+
+-- `sbgp`s, each of a key at its place
+abbrev pub some_groups : List Row → Planned → List (ℕ × GroupKey) → List ℕ
+some_groups rows p groups = flat_map (λ (g : ℕ × GroupKey). group_bytes rows p g.0 g.1) groups

@@ -31,7 +31,6 @@ use Rattle.mp4_plan.specs.declared.planner.Planned.{Planned}
 use Rattle.mp4_plan.specs.words.Gathering.{planned_of, piece_fed, piece_from}
 use Rattle.mp4_plan.specs.declared.schedule.Turn.{Turn}
 use Rattle.mp4_plan.specs.declared.writer.Noted.{Noted}
-use Rattle.mp4_plan.specs.declared.writer.Plan.{Plan}
 use Rattle.mp4_plan.specs.declared.writer.Writer.{Writer}
 use Rattle.mp4_plan.specs.format.Normal.{pieces_bytes}
 
@@ -176,11 +175,10 @@ first_dts [] = 0
 first_dts ([] ∷ lefts) = 0
 first_dts ((s ∷ samples) ∷ lefts) = s.dts
 
--- The plan of a presentation: the most samples of a piece, and the bytes of all pieces.
-pub record IsPlanOf (p : Presentation) (plan : Plan) : Type 0 where
-  pub longest : plan.longest ≡ longest_piece (pieces p)
-  pub len : plan.len ≡ length (pieces_bytes 1 (pieces p))
-  pub within : plan.len ≤ 2 ^ 57
+-- The bytes of all pieces of a presentation are so many, and far below 2^64.
+pub record ArePiecesLong (p : Presentation) (n : ℕ) : Type 0 where
+  pub len : n ≡ length (pieces_bytes 1 (pieces p))
+  pub within : n ≤ 2 ^ 57
 
 -- the bytes of a piece, by what was planned of it
 abbrev pub planned_length : Planned → List GroupKey → ℕ

@@ -95,6 +95,18 @@ files_differ l file tree file_right other =
 
 -- ---- clauses of calls
 
+-- over honest stores, of movies that were opened from them: this is true of what both files have
+abbrev pub WhereOpenedBoth : {X Y : Type 0} → Store X → X → MovieSeen → Store Y → Y → MovieSeen
+    → (FileTree → FileTree → Type 0) → Type 0
+WhereOpenedBoth S a m T b n P =
+    WhereBothOpened (S.is_honest a) (S.file a) m (T.is_honest b) (T.file b) n P
+
+-- the same, of what differs between them, behind what is left out
+abbrev pub OfFiles : {X Y : Type 0} → Store X → X → MovieSeen → Store Y → Y → MovieSeen → Leaving
+    → (List Difference → Type 0) → Type 0
+OfFiles S a m T b n l P = WhereOpenedBoth S a m T b n
+    (λ tree other. P (files_differ l (S.file a) tree (T.file b) other))
+
 -- both movies have a track at this place
 pub record HaveTracks (track : ℕ) (m n : MovieSeen) : Type 0 where
   pub left : track < length m.tracks

@@ -1,5 +1,5 @@
 -- A file that was opened, and a walk over the samples of one of its tracks.
-use Rattle.std.specs.Prelude.{◌≡◌, ℕ, ◌+◌, ◌^◌, ◌<◌, ◌≤◌, ⊤, List, length, take, drop, Option, None, Some, slice_get}
+use Rattle.std.specs.Prelude.{◌≡◌, ℕ, ◌+◌, ◌^◌, ◌<◌, ◌≤◌, ⊤, min, List, length, take, drop, Option, None, Some, slice_get}
 use Rattle.std.specs.List.{AllByRecursion}
 use Rattle.mp4_boxes.specs.format.Box.{Box}
 use Rattle.mp4_tables.specs.words.Accepted.{IsAccepted, IsPlace}
@@ -16,6 +16,7 @@ use Rattle.mp4_store.specs.words.Device.{HasRisen}
 use Rattle.mp4_boxes.specs.declared.refusal.Refusal.{Refusal}
 use Rattle.mp4_boxes.specs.declared.refusal.Refusal.TheVariants as refusals
 use Rattle.mp4_present.specs.words.InHand.{left_in_hand, AreLast}
+use Rattle.mp4_present.specs.words.OwnMoofs.{OwnSeen}
 use Rattle.mp4_present.specs.declared.in_hand.InHand.{InHand}
 use Rattle.mp4_present.specs.declared.in_hand.InHand.TheVariants as hands
 use Rattle.mp4_present.specs.declared.in_hand.Place.{Place}
@@ -47,9 +48,19 @@ pub record MovieSeen : Type 0 where
   pub states : List TrackState
   pub room : ℕ
   pub tracks : List TrackInfo
-  -- for each track in order, where the `moof`s begin that have samples of it
-  pub own : List (List ℕ)
+  -- for each track in order, which `moof`s have samples of it
+  pub own : List OwnSeen
   pub mehd : ℕ
+
+-- how long the longest `moof` of a track is, where there is such a track, and no longer than the
+-- longest of the file
+abbrev pub room_of : Option OwnSeen → ℕ → ℕ
+room_of None longest = 0
+room_of (Some own) longest = min own.longest longest
+
+-- the room of a walk over the track at this place among the tracks
+abbrev pub own_room : MovieSeen → ℕ → ℕ
+own_room m track = room_of (slice_get m.own track) m.longest
 
 -- the payload of the `stbl` of a track
 abbrev pub table_bytes : List ℕ → TrackTables → List ℕ

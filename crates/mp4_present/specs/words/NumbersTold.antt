@@ -1,5 +1,5 @@
 -- What is told of a fault in numbers, and why nothing is.
-use Rattle.std.specs.Prelude.{ℕ, ◌+◌, ◌-◌, ◌^◌, ◌<◌, ◌≤◌, ◌≡◌, ◌==◌, min, pos, find, codes, Some, List, Bool, IsTrue}
+use Rattle.std.specs.Prelude.{ℕ, ◌+◌, ◌-◌, ◌*◌, ◌^◌, ◌<◌, ◌≤◌, ◌≡◌, ◌==◌, min, pos, find, codes, Some, List, length, Bool, IsTrue}
 use Rattle.mp4_store.specs.words.Device.{HasRisen}
 use Rattle.mp4_boxes.specs.declared.refusal.Refusal.{Refusal}
 use Rattle.mp4_boxes.specs.declared.refusal.Refusal.TheVariants as refusals
@@ -16,6 +16,8 @@ use Rattle.mp4_frag.specs.declared.state.TrackState.{TrackState}
 use Rattle.mp4_head.specs.format.Tree.{MovieTree}
 use Rattle.mp4_present.specs.words.Movies.{IsWhole}
 use Rattle.mp4_present.specs.words.Outline.{box_at}
+use Rattle.mp4_present.specs.words.PassedMoofs.{IsBegun}
+use Rattle.mp4_frag.specs.words.States.{HaveRoom}
 use Rattle.mp4_present.specs.words.Passing.{AreBehind, IsNextMoof}
 use Rattle.mp4_present.specs.declared.reading.TopBox.{TopBox}
 use Rattle.mp4_present.specs.declared.fault_gaps.Reached.{Reached}
@@ -38,10 +40,17 @@ abbrev pub StepsFit : ℕ → ℕ → ℕ → ℕ → ℕ → Type 0
 StepsFit file_length at room old new = new + (room + (file_length - at)) ≤ old + (2 ^ 24
     + file_length)
 
--- a `moof` that lies in the file, with room for samples before it
-pub record IsReached (file_length : ℕ) (r : Reached) : Type 0 where
+-- looks at so many tracks, and a place from which bytes of the file are left: 8 of these count once
+-- for each track
+abbrev pub LooksFit : ℕ → ℕ → ℕ → ℕ → ℕ → Type 0
+LooksFit file_length at tracks old new = 8 * new + tracks * (file_length - at) ≤ 8 * old
+    + tracks * file_length
+
+-- a `moof` that lies in the file, with room for samples before it and in the tracks before it
+pub record IsReached (file_length : ℕ) (states : List TrackState) (r : Reached) : Type 0 where
   pub whole : IsWhole file_length r.moof
   pub few : r.room ≤ 2 ^ 24
+  pub room : HaveRoom r.room states
 
 -- a `moof` of the file, and the tracks behind all that comes before it
 pub record ComesNext (file : List ℕ) (movie : MovieTree) (r : Reached) (states : List TrackState)
@@ -50,6 +59,16 @@ pub record ComesNext (file : List ℕ) (movie : MovieTree) (r : Reached) (states
   pub before : List Box
   pub next : IsNextMoof file movie earlier before (box_at file r.moof)
   pub behind : AreBehind file movie earlier states r.room
+
+-- It fits into so many bytes, these are the tracks behind all that comes before it, and the steps
+-- and looks to it leave enough for it.
+pub record IsBehind (file : List ℕ) (states : List TrackState) (room bytes : ℕ) (r : Reached)
+    (states_after : List TrackState) (old new looks more : ℕ) : Type 0 where
+  pub fits : r.moof.header.end ≤ r.moof.offset + bytes
+  pub next : (movie : MovieTree) (boxes : List Box) → IsBegun file movie boxes states room
+      → ComesNext file movie r states_after
+  pub left : StepsFit (length file) r.moof.offset r.room old new
+  pub looked : LooksFit (length file) r.moof.offset (length states) looks more
 
 -- a `moof` of which these are the bytes behind its header
 abbrev pub moof_read : TopBox → List ℕ → Box

@@ -17,7 +17,7 @@ use Rattle.mp4_present.specs.format.Denotes.{FileTree, Denotes, IsFileTree, IsSo
 use Rattle.mp4_present.specs.format.Stands.{table_total}
 use Rattle.mp4_present.specs.words.Movies.{MovieSeen, moov_box, table_bytes}
 use Rattle.mp4_present.specs.words.Outline.{BeginAt, longest}
-use Rattle.mp4_present.specs.words.OwnMoofs.{AreOwn, places_of}
+use Rattle.mp4_present.specs.words.OwnMoofs.{AreOwn, own_seen}
 use Rattle.mp4_frag.specs.declared.state.TrackState.{TrackState}
 use Rattle.mp4_head.specs.declared.heads.TrackHead.{TrackHead}
 use Rattle.mp4_present.specs.declared.opening.Found.{Found}
@@ -127,6 +127,6 @@ kept_of o moov file_length f = record {
   states = f.plain.states.items;
   room = f.plain.room;
   tracks = f.tracks.items;
-  own = places_of f.own.items;
+  own = map own_seen f.own.items;
   mehd = f.mehd;
 }

@@ -11,8 +11,9 @@ use Rattle.mp4_frag.specs.format.FragmentSamples.{start_of, duration_of, keys_be
 use Rattle.mp4_head.specs.format.Tree.{TrackTree, track_head_of}
 use Rattle.mp4_present.specs.format.Denotes.{FileTree, plain_of, plain_keys, file_parts, parts_of_track, first_due, placed_of}
 use Rattle.mp4_present.specs.words.Passing.{parts_behind}
-use Rattle.mp4_present.specs.words.Outline.{box_at, longest}
+use Rattle.mp4_present.specs.words.Outline.{box_at}
 use Rattle.mp4_present.specs.words.InHand.{left_in_hand}
+use Rattle.mp4_present.specs.words.OwnMoofs.{own_longest}
 use Rattle.mp4_present.specs.words.Movies.{MovieSeen, IsWhole, InHandOf, moof_box}
 use Rattle.mp4_present.specs.declared.in_hand.InHand.{InHand}
 use Rattle.mp4_present.specs.declared.walks.Due.{Due}
@@ -39,6 +40,10 @@ abbrev pub samples_behind : FileTree → TrackTree → List FragmentTree → Lis
 samples_behind tree t earlier later = timed (track_keys tree t) (due_behind tree t earlier)
     (fragment_samples (track_head_of t).id (parts_behind tree.movie later))
 
+-- the room of a walk over the track: for the longest `moof` that has samples of the track
+abbrev pub walk_room : FileTree → TrackTree → ℕ
+walk_room tree t = own_longest tree.movie (track_head_of t).id tree.fragments
+
 -- The walk holds the next `moof`, whose samples are not in hand yet.
 pub record HoldsNext (file : List ℕ) (tree : FileTree) (t : TrackTree) (earlier : List FragmentTree)
     (next : FragmentTree) (later : List FragmentTree) (w : Walk) : Type 0 where
@@ -52,7 +57,7 @@ pub record HoldsNext (file : List ℕ) (tree : FileTree) (t : TrackTree) (earlie
   pub moofs_left : map (λ (f : FragmentTree). f.moof) later ≡ of_kind (codes "moof") boxes
   pub due : w.due ≡ due_behind tree t earlier
   pub left : w.left ≡ length (samples_behind tree t earlier (next ∷ later))
-  pub room : length w.bytes.items ≡ longest (of_kind (codes "moof") tree.top)
+  pub room : length w.bytes.items ≡ walk_room tree t
   pub is_moof : next.moof.kind ≡ codes "moof"
   pub bytes : moof_box w ≡ next.moof
   -- where it lies in the file
@@ -82,7 +87,7 @@ pub record StandsBefore (file : List ℕ) (tree : FileTree) (t : TrackTree)
   pub moofs_left : map (λ (f : FragmentTree). f.moof) later ≡ of_kind (codes "moof") boxes
   pub due : w.due ≡ due_behind tree t earlier
   pub left : w.left ≡ length (samples_behind tree t earlier later)
-  pub room : length w.bytes.items ≡ longest (of_kind (codes "moof") tree.top)
+  pub room : length w.bytes.items ≡ walk_room tree t
   pub held : HoldsLast file tree t earlier later w w.before
 
 -- the samples in hand, and then those of the `moof`s behind, are these

@@ -1,9 +1,14 @@
 -- What is known of a file while it is opened, in few words.
-use Rattle.std.specs.Prelude.{◌≡◌, ℕ, ◌+◌, ◌≤◌, List, [], ◌∷◌, ◌++◌, length, map, Result}
+use Rattle.std.specs.Prelude.{◌≡◌, ◌⊎◌, ℕ, ◌+◌, ◌*◌, ◌≤◌, List, [], ◌∷◌, ◌++◌, length, map, codes, Result}
+use Rattle.mp4_boxes.specs.format.Bytes.{sum_of}
 use Rattle.mp4_boxes.specs.format.Box.{Box, IsFront, sizes, file_container}
+use Rattle.mp4_boxes.specs.format.Children.{Holds, of_kind}
 use Rattle.mp4_boxes.specs.declared.headers.TopHeader.{TopHeader}
 use Rattle.mp4_boxes.specs.declared.refusal.Refusal.{Refusal}
+use Rattle.mp4_boxes.specs.declared.rule.Rule.TheVariants.{File}
 use Rattle.mp4_store.specs.words.Device.{range}
+use Rattle.mp4_frag.specs.format.Fragments.{FragmentTree}
+use Rattle.mp4_frag.specs.format.FragmentRows.{moof_says}
 use Rattle.mp4_frag.specs.declared.state.TrackState.{TrackState}
 use Rattle.mp4_frag.specs.declared.trex.Trex.{Trex}
 use Rattle.mp4_head.specs.declared.heads.TrackHead.{TrackHead}
@@ -17,6 +22,7 @@ use Rattle.mp4_present.specs.words.OwnMoofs.{AreOwnBehind, OwnSeen}
 use Rattle.mp4_present.specs.words.PassedMoofs.{IsBegun, IsPassed}
 use Rattle.mp4_present.specs.words.Reading.{IsTopHeader}
 use Rattle.mp4_present.specs.words.WalkSteps.{IfNoFault, opening_steps}
+use Rattle.mp4_present.specs.declared.opening.Found.{Found}
 use Rattle.mp4_present.specs.declared.outline.Outline.{Outline}
 use Rattle.mp4_present.specs.declared.outline.Seen.{Seen}
 use Rattle.mp4_present.specs.declared.track_info.TrackInfo.{TrackInfo}
@@ -28,6 +34,12 @@ IsPayloadIn file o moov = moov ≡ range file (o.moov.offset + o.moov.header.hea
 abbrev pub ids_of : List TrackInfo → List ℕ
 ids_of tracks = map (λ (t : TrackInfo). t.id) tracks
 
+-- the tables of all tracks that were found are plain in these bytes of a `moov`, and which `moof`s
+-- each has is noted
+pub record HasTables (moov : List ℕ) (f : Found) : Type 0 where
+  pub plain : ArePlain moov (length f.tracks.items) f.plain
+  pub own : length f.own.items ≡ length f.tracks.items
+
 -- these are the tracks of the file's movie, by their IDs
 abbrev pub HasTracks : List ℕ → List TrackInfo → Type 0
 HasTracks file tracks = HasMovie file (ids_of tracks)
@@ -36,6 +48,50 @@ HasTracks file tracks = HasMovie file (ids_of tracks)
 abbrev pub WorksToOpen : {T : Type 0} → List ℕ → Result T Refusal → ℕ → ℕ → Type 0
 WorksToOpen file result old new = (tree : FileTree) → IsFileTree file tree
     → IfNoFault result (new ≤ old + opening_steps tree)
+
+-- ---- looks at tracks
+
+-- how often each track is looked at for a `moof`: once for each of its `traf`s, and once when it is
+-- noted whether samples of the track are in it
+unfoldable pub moof_looks : Box → ℕ
+moof_looks moof = 1 + length (moof_says moof).trafs
+
+-- the same for all of these
+abbrev pub boxes_looks : List Box → ℕ
+boxes_looks moofs = sum_of moof_looks moofs
+
+-- all looks at the tracks of a file while it is opened
+abbrev pub opening_looks : FileTree → ℕ
+opening_looks tree = length tree.movie.tracks
+    * sum_of (λ (t : FragmentTree). moof_looks t.moof) tree.fragments
+
+-- so many tracks were looked at for the `moof`s of a file with these boxes
+abbrev pub LooksWithin : List ℕ → ℕ → ℕ → ℕ → Type 0
+LooksWithin file tracks old new = (boxes : List Box) → Holds File (file_container file) boxes
+    → new ≤ old + tracks * boxes_looks (of_kind (codes "moof") boxes)
+
+-- the looks of the checks of all `moof`s of a file: where no fault is found, no more than they say;
+-- and always, for each track, no more than one for 8 bytes
+pub record LooksAtMoofs {T : Type 0} (file : List ℕ) (tracks : ℕ) (result : Result T Refusal)
+    (old new : ℕ) : Type 0 where
+  pub said : IfNoFault result (LooksWithin file tracks old new)
+  pub within : 8 * new ≤ 8 * old + tracks * length file
+
+-- By bytes, whatever the file says: there was no look, or its `moov` holds some tracks, and for
+-- each of these there was no more than one for 8 bytes of the file.
+abbrev pub LooksByBytes : List ℕ → ℕ → ℕ → Type 0
+LooksByBytes file old new = (new ≡ old)
+    ⊎ ((ids : List ℕ) × HasMovie file ids × (8 * new ≤ 8 * old + length ids * length file))
+
+-- the looks at tracks while a file is opened: by its boxes where no fault is found, and by its
+-- bytes
+pub record LooksToOpen {T : Type 0} (file : List ℕ) (result : Result T Refusal) (old new : ℕ)
+    : Type 0 where
+  pub said : (tree : FileTree) → IsFileTree file tree
+      → IfNoFault result (new ≤ old + opening_looks tree)
+  pub within : LooksByBytes file old new
+
+-- ---- tracks and tables
 
 -- whatever the movie and its boxes are: where the tracks are behind their tables before, they are
 -- behind all `moof`s after it

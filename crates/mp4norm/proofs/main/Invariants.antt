@@ -1,4 +1,7 @@
 use Rattle.mp4norm.proofs.main.Given as goal
 
-abbrev pub ghosts-act : goal.ghosts-act
-ghosts-act a = record { name = a.blank.name; parts = a.blank.parts }
+abbrev pub ghosts-act-L-Ledger : goal.ghosts-act-L-Ledger
+ghosts-act-L-Ledger a = record { name = a.blank.name; parts = a.blank.parts }
+
+abbrev pub ghosts-act-M-Ledger : goal.ghosts-act-M-Ledger
+ghosts-act-M-Ledger a = record { name = a.other.name; parts = a.other.parts }

@@ -5,7 +5,7 @@ use Rattle.mp4_present.specs.format.Presentation.{Presentation}
 use Rattle.mp4_present.specs.format.Denotes.{Denotes}
 use Rattle.mp4_present.specs.format.Reduced.{reduce}
 use Rattle.mp4_present.specs.declared.leaving.Leaving.{Leaving}
-use Rattle.mp4norm.specs.format.Steps.{WorksWithin}
+use Rattle.mp4norm.specs.format.Steps.{WorksWithin, FindsWithin}
 
 -- Both files denote a presentation, and the answer is whether the same is left of both.
 pub record IsVerdict (l : Leaving) (file other : List ℕ) (same : Bool) : Type 0 where
@@ -20,3 +20,9 @@ pub record ComparesWithin (file other : List ℕ) (old new : ℕ) : Type 0 where
   pub between : ℕ
   pub first : WorksWithin file old between
   pub second : WorksWithin other between new
+
+-- Their looks: those that opening each may take.
+pub record FindsBothWithin (file other : List ℕ) (old new : ℕ) : Type 0 where
+  pub between : ℕ
+  pub first : FindsWithin file old between
+  pub second : FindsWithin other between new

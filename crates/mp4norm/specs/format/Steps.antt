@@ -1,5 +1,5 @@
--- How many steps a whole run may take: one is a row, a `traf`, a run or a sample that a check or a
--- cursor passes.
+-- How many steps and looks a whole run may take. A step is a row, a `traf`, a run or a sample that
+-- a check or a cursor passes. A look passes none of these: it compares a track, or is a turn.
 use Rattle.std.specs.Prelude.{◌≡◌, ◌⊎◌, ℕ, ◌+◌, ◌*◌, ◌^◌, ◌≤◌, List, length}
 use Rattle.mp4_boxes.specs.format.Bytes.{sum_of}
 use Rattle.mp4_tables.specs.format.Tables.{tables_of}
@@ -37,7 +37,37 @@ pub record WorksWithin (file : List ℕ) (old new : ℕ) : Type 0 where
 
 -- The steps of looking at a file, and of a walk over one of its tracks: 8 for each sample and each
 -- row, however many tracks there are.
-pub record LooksWithin (file : List ℕ) (old new : ℕ) : Type 0 where
+pub record WalksWithin (file : List ℕ) (old new : ℕ) : Type 0 where
   pub denoted : (p : Presentation) → (d : Denotes file p)
       → new ≤ old + 8 * (sample_total p + row_total d.tree)
   pub refused : DenotesNothing file → RefusedWithin file old new
+
+-- ---- looks
+
+-- at how many places of a file its tracks are looked at: each `traf`, and each `moof`
+abbrev pub place_total : FileTree → ℕ
+place_total tree = sum_of (λ (f : FragmentTree). 1 + length (fragment_of f).trafs) tree.fragments
+
+-- The looks at a file that denotes nothing: for each track of its `moov` one for 8 bytes; or there
+-- was none.
+abbrev pub FoundWithin : List ℕ → ℕ → ℕ → Type 0
+FoundWithin file old new = (new ≡ old)
+    ⊎ ((ids : List ℕ) × HasMovie file ids × (8 * new ≤ 8 * old + length ids * length file))
+
+-- The looks at a file: at each track, at most one for each `traf` and each `moof`.
+pub record FindsWithin (file : List ℕ) (old new : ℕ) : Type 0 where
+  pub denoted : (p : Presentation) → (d : Denotes file p)
+      → new ≤ old + length p.tracks * place_total d.tree
+  pub refused : DenotesNothing file → FoundWithin file old new
+
+-- The turns of a way over all pieces: each takes a sample, or leads on to the next track or
+-- fragment.
+abbrev pub most_turns : ℕ → ℕ → ℕ
+most_turns samples tracks = samples * (tracks + 2) + tracks
+
+-- The looks taken to write a file's normal form: those at the file, and the turns of two ways over
+-- all pieces, to plan and to write.
+pub record TurnsWithin (file : List ℕ) (old new : ℕ) : Type 0 where
+  pub denoted : (p : Presentation) → (d : Denotes file p) → new ≤ old
+      + (length p.tracks * place_total d.tree + 2 * most_turns (sample_total p) (length p.tracks))
+  pub refused : DenotesNothing file → FoundWithin file old new

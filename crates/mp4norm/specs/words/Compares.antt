@@ -6,11 +6,9 @@ use Rattle.mp4_store.specs.words.Device.{HasRisen, AppendsPrefix}
 use Rattle.mp4_boxes.specs.declared.refusal.Refusal.{Refusal}
 use Rattle.mp4_boxes.specs.declared.refusal.Refusal.TheVariants as refusals
 use Rattle.mp4_present.specs.format.Comparison.{differences}
-use Rattle.mp4_present.specs.format.Denotes.{FileTree, presentation_of}
-use Rattle.mp4_present.specs.format.Reduced.{reduce}
+use Rattle.mp4_present.specs.format.Denotes.{FileTree}
 use Rattle.mp4_present.specs.words.WalkSteps.{walks_steps}
 use Rattle.mp4_present.specs.declared.differences.Difference.{Difference}
-use Rattle.mp4_present.specs.declared.leaving.Leaving.{Leaving}
 use Rattle.mp4norm.specs.declared.comparing.Side.{Side}
 use Rattle.mp4norm.specs.declared.comparing.Side.TheVariants as sides
 use Rattle.mp4norm.specs.declared.comparing.Failure.{Failure}
@@ -30,11 +28,6 @@ ListsFront listed differences = (listed ≡ differences)
 abbrev pub says_nothing : {A : Type 0} → Option A → Bool
 says_nothing None = true
 says_nothing (Some text) = false
-
--- what differs between two files, behind what is left out
-abbrev pub files_differ : Leaving → List ℕ → FileTree → List ℕ → FileTree → List Difference
-files_differ l file tree file_right other =
-    differences (reduce l (presentation_of file tree)) (reduce l (presentation_of file_right other))
 
 -- the steps of at most two walks over all tracks of both
 abbrev pub WalksTwice : FileTree → FileTree → ℕ → ℕ → Type 0

@@ -8,7 +8,7 @@ use Rattle.mp4norm.specs.format.Headline.{HasNormalForm}
 use Rattle.mp4norm.specs.format.ReducedHeadline.{HasReducedForm}
 use Rattle.mp4norm.specs.words.MainJob.{RefusesNormalise}
 use Rattle.mp4norm.specs.words.ReducedJob.{RefusesReduced}
-use Rattle.mp4norm.specs.format.Steps.{WorksWithin, LooksWithin}
+use Rattle.mp4norm.specs.format.Steps.{WorksWithin, WalksWithin, FindsWithin, TurnsWithin}
 use Rattle.mp4norm.specs.format.Strips.{IsStripped, RefusesStrip}
 use Rattle.mp4norm.specs.format.Texts.{BoxLines}
 use Rattle.mp4norm.specs.declared.wanted.Job.{Job}
@@ -47,9 +47,19 @@ RefusesJob (jobs.Strip names) honest file before after reads reads_after puts pu
 -- how many steps it may take, where that is counted
 abbrev pub JobWorksWithin : Job → List ℕ → ℕ → ℕ → Type 0
 JobWorksWithin jobs.Boxes file old new = Unit {0}
-JobWorksWithin jobs.Show file old new = LooksWithin file old new
-JobWorksWithin (jobs.Samples track form) file old new = LooksWithin file old new
-JobWorksWithin (jobs.Extract track) file old new = LooksWithin file old new
+JobWorksWithin jobs.Show file old new = WalksWithin file old new
+JobWorksWithin (jobs.Samples track form) file old new = WalksWithin file old new
+JobWorksWithin (jobs.Extract track) file old new = WalksWithin file old new
 JobWorksWithin jobs.Normalise file old new = WorksWithin file old new
 JobWorksWithin (jobs.Reduce l) file old new = WorksWithin file old new
 JobWorksWithin (jobs.Strip names) file old new = Unit {0}
+
+-- how many looks it may take, where these are counted
+abbrev pub JobLooksWithin : Job → List ℕ → ℕ → ℕ → Type 0
+JobLooksWithin jobs.Boxes file old new = Unit {0}
+JobLooksWithin jobs.Show file old new = FindsWithin file old new
+JobLooksWithin (jobs.Samples track form) file old new = FindsWithin file old new
+JobLooksWithin (jobs.Extract track) file old new = FindsWithin file old new
+JobLooksWithin jobs.Normalise file old new = TurnsWithin file old new
+JobLooksWithin (jobs.Reduce l) file old new = TurnsWithin file old new
+JobLooksWithin (jobs.Strip names) file old new = Unit {0}

@@ -1,8 +1,9 @@
-use Rattle.std.proofs.Common.{◌≤◌}
+use Rattle.std.proofs.Common.{◌≡◌, ◌≤◌, length}
 use Rattle.mp4_boxes.specs.words.View.{box_seen}
 use Rattle.mp4_frag.specs.words.Finding.{IsKnown}
 use Rattle.mp4_frag.specs.words.States.{HaveRoom}
 use Rattle.mp4_frag.proofs.Costs.{MoofCost}
+use Rattle.mp4_frag.proofs.CheckLooks.{MoofLooked}
 use Rattle.mp4_frag.proofs.MoofPassed.{MoofSeen, MovesSeen}
 use Rattle.mp4_frag.proofs.check.check_moof.Given as goal
 
@@ -17,3 +18,5 @@ invariant-loop-child g l =
     × MovesSeen l.file_len (box_seen l.moof).offset l.fn.tracks l.fn.room l.initial.child-iterator l.child-iterator l.before l.tracks l.room
     × MoofCost l.initial.child-iterator l.child-iterator l.fn.steps l.fn.room l.steps l.room
     × IsKnown l.tracks l.known
+    × MoofLooked l.initial.child-iterator l.child-iterator (length l.fn.tracks) l.fn.looks l.looks
+    × (length l.tracks ≡ length l.fn.tracks)

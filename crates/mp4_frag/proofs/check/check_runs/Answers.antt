@@ -11,51 +11,36 @@ loop-child-preserved-then-eq g c =
       tt,
       tt,
       search rules,
-      r.near,
-      r.duration,
-      r.bytes,
-      (λ n big base. r.bound n big base (i.6 n big base)),
-      seen_run _ _ _ _ _ _ (box_seen c.in-Some.child) _ _ _ _ _ _ _ _ _ _ _ i.7 c.in-Some.ensures.steps (rw c.kind-in-loop-child.ensures at (sym c.if-eq.ensures)) (rw c.payload-then-eq.ensures at r.passed) r.more.0 r.more.1 r.more.2 r.few,
-      runs_cost_run _ _ _ (box_seen c.in-Some.child) _ _ _ _ _ i.8 c.in-Some.ensures.steps (rw c.kind-in-loop-child.ensures at (sym c.if-eq.ensures)) (rw c.tick.ensures.one_more at r.cost),
+      r.passed,
+      (λ n big base. r.bound n big base (i.4 n big base)),
+      seen_run _ _ _ _ _ _ (box_seen c.in-Some.child) _ _ _ _ _ _ _ _ _ _ _ i.5 c.in-Some.ensures.steps (rw c.kind-in-loop-child.ensures at (sym c.if-eq.ensures)) (rw c.payload-then-eq.ensures at r.run.run) r.run.count r.run.duration r.run.bytes r.run.taken,
+      runs_cost_run _ _ _ (box_seen c.in-Some.child) _ _ _ _ _ i.6 c.in-Some.ensures.steps (rw c.kind-in-loop-child.ensures at (sym c.if-eq.ensures)) (rw c.tick.ensures.one_more at r.cost),
     )
 
-pub returns-clause-sound : goal.returns-clause-sound
-returns-clause-sound g c =
-    let all = all_children (box_seen c.args.traf) _ _ _ _ c.payload.ensures c.payload_offset.ensures c.in_ok-child-items.ensures.tiles in
-    runs_sound _ _ _ _ _ _ _ _ _ _ _ _ c.loop-child.invariant.7 c.in-None.ensures.steps.0 (c.into_iter-child-iterator.ensures.into_iter_gives ∙ all)
-
-pub returns-clause-end : goal.returns-clause-end
-returns-clause-end g c =
-    let all = all_children (box_seen c.args.traf) _ _ _ _ c.payload.ensures c.payload_offset.ensures c.in_ok-child-items.ensures.tiles in
-    (runs_ended _ _ _ _ _ _ _ _ _ _ _ _ c.loop-child.invariant.7 c.in-None.ensures.steps.0 (c.into_iter-child-iterator.ensures.into_iter_gives ∙ all)).0
-
-pub returns-clause-count : goal.returns-clause-count
-returns-clause-count g c =
-    let all = all_children (box_seen c.args.traf) _ _ _ _ c.payload.ensures c.payload_offset.ensures c.in_ok-child-items.ensures.tiles in
-    (runs_ended _ _ _ _ _ _ _ _ _ _ _ _ c.loop-child.invariant.7 c.in-None.ensures.steps.0 (c.into_iter-child-iterator.ensures.into_iter_gives ∙ all)).1
-
-pub returns-clause-lasting : goal.returns-clause-lasting
-returns-clause-lasting g c =
-    let all = all_children (box_seen c.args.traf) _ _ _ _ c.payload.ensures c.payload_offset.ensures c.in_ok-child-items.ensures.tiles in
-    (runs_ended _ _ _ _ _ _ _ _ _ _ _ _ c.loop-child.invariant.7 c.in-None.ensures.steps.0 (c.into_iter-child-iterator.ensures.into_iter_gives ∙ all)).2
-
-pub returns-clause-filling : goal.returns-clause-filling
-returns-clause-filling g c =
-    let all = all_children (box_seen c.args.traf) _ _ _ _ c.payload.ensures c.payload_offset.ensures c.in_ok-child-items.ensures.tiles in
-    (runs_ended _ _ _ _ _ _ _ _ _ _ _ _ c.loop-child.invariant.7 c.in-None.ensures.steps.0 (c.into_iter-child-iterator.ensures.into_iter_gives ∙ all)).3
+pub returns-clause-runs : goal.returns-clause-runs
+returns-clause-runs g c =
+    let same = c.into_iter-child-iterator.ensures.into_iter_gives ∙ all_children (box_seen c.args.traf) _ _ _ _ c.payload.ensures c.payload_offset.ensures c.in_ok-child-items.ensures.tiles in
+    let ended = runs_ended _ _ _ _ _ _ _ _ _ _ _ _ c.loop-child.invariant.5 c.in-None.ensures.steps.0 same in
+    record {
+      sound = runs_sound _ _ _ _ _ _ _ _ _ _ _ _ c.loop-child.invariant.5 c.in-None.ensures.steps.0 same;
+      end = ended.0;
+      count = ended.1;
+      lasting = ended.2;
+      filling = ended.3;
+    }
 
 pub returns-clause-cost : goal.returns-clause-cost
 returns-clause-cost g c =
     let all = all_children (box_seen c.args.traf) _ _ _ _ c.payload.ensures c.payload_offset.ensures c.in_ok-child-items.ensures.tiles in
-    runs_cost_said _ _ _ _ _ _ c.loop-child.invariant.8 (c.into_iter-child-iterator.ensures.into_iter_gives ∙ all)
+    runs_cost_said _ _ _ _ _ _ c.loop-child.invariant.6 (c.into_iter-child-iterator.ensures.into_iter_gives ∙ all)
 
 pub returns-clause-within : goal.returns-clause-within
-returns-clause-within g c = runs_cost_ended _ _ _ _ _ _ _ _ _ _ c.loop-child.invariant.8 c.into_iter-child-iterator.ensures.into_iter_gives c.in_ok-child-items.ensures.tiles c.payload.ensures
+returns-clause-within g c = runs_cost_ended _ _ _ _ _ _ _ _ _ _ c.loop-child.invariant.6 c.into_iter-child-iterator.ensures.into_iter_gives c.in_ok-child-items.ensures.tiles c.payload.ensures
 
 pub returns-clause-work : goal.returns-clause-work
-returns-clause-work g c = runs_work_ended _ _ _ _ _ _ _ _ _ _ _ _ c.loop-child.invariant.8 c.into_iter-child-iterator.ensures.into_iter_gives c.in_ok-child-items.ensures.tiles c.payload.ensures c.loop-child.invariant.2
+returns-clause-work g c = runs_work_ended _ _ _ _ _ _ _ _ _ _ _ _ c.loop-child.invariant.6 c.into_iter-child-iterator.ensures.into_iter_gives c.in_ok-child-items.ensures.tiles c.payload.ensures c.loop-child.invariant.2
 
 pub returns-in-Err-clause-work : goal.returns-in-Err-clause-work
 returns-in-Err-clause-work g c =
-    runs_cost_fault _ _ _ _ (box_seen c.in-Some.child) _ _ _ _ _ _ _ _ _ _ c.loop-child.invariant.8 c.in-Some.ensures.steps c.into_iter-child-iterator.ensures.into_iter_gives c.in_ok-child-items.ensures.tiles c.payload.ensures c.loop-child.invariant.2
+    runs_cost_fault _ _ _ _ (box_seen c.in-Some.child) _ _ _ _ _ _ _ _ _ _ c.loop-child.invariant.6 c.in-Some.ensures.steps c.into_iter-child-iterator.ensures.into_iter_gives c.in_ok-child-items.ensures.tiles c.payload.ensures c.loop-child.invariant.2
     (rw c.tick.ensures.one_more at c.in-Err.ensures.work)

@@ -1,5 +1,5 @@
-use Rattle.std.proofs.Common.{◌≡◌, ℕ, ◌+◌, ◌*◌, ◌^◌, ◌≤◌}
-use Rattle.mp4_frag.specs.words.Passing.{IsNear, IsUpTo}
+use Rattle.std.proofs.Common.{◌≡◌, ◌+◌}
+use Rattle.mp4_frag.specs.words.Passing.{IsPassed, EndsNear}
 use Rattle.mp4_frag.proofs.Costs.{RunsCost}
 use Rattle.mp4_frag.proofs.RunsPassed.{RunsSeen}
 use Rattle.mp4_frag.proofs.check.check_runs.Given as goal
@@ -10,9 +10,7 @@ invariant-loop-child g l =
     (goal.iterator-loop-child g).can_next l.child-iterator
     × (goal.iterator-loop-child g).is_finite l.child-iterator
     × (l.passed.count + l.room ≡ l.fn.room)
-    × IsNear l.passed.at
-    × (l.passed.duration ≤ 2 ^ 32 * l.passed.count)
-    × (l.passed.bytes ≤ 2 ^ 32 * l.passed.count)
-    × ((n : ℕ) → 2 ^ 64 ≤ n → IsUpTo n l.judged.base → IsUpTo (n + 2 ^ 31) l.passed.at)
+    × IsPassed l.passed
+    × EndsNear l.judged.base l.passed.at
     × RunsSeen l.judged.file_len l.judged.inherited l.judged.base l.initial.child-iterator l.child-iterator l.fn.room l.room l.passed.at l.passed.count l.passed.duration l.passed.bytes
     × RunsCost l.initial.child-iterator l.child-iterator l.fn.steps l.steps l.passed.count

@@ -33,59 +33,42 @@ check_runs-requires-clause-base g c =
     let near : IsUpTo (2 ^ 98) c.base_of.result = (rw before at c.base_of.ensures.bound) (2 ^ 98) (search rules) c.requires.near in
     rw same (up_to_near (2 ^ 98) c.base_of.result (search rules) near)
 
-pub moved_on-requires-clause-few : goal.moved_on-requires-clause-few
-moved_on-requires-clause-few g c =
-    let before : HasRoom c.args.room.now c.index-tracks-k.result = rw (c.index-tracks-k.is) (has_room c.args.room.now c.in-Some-find_track.k c.args.tracks.now _ c.in-Some-find_track.ensures.inside c.requires.room) in
+pub moved_on-requires-clause-room : goal.moved_on-requires-clause-room
+moved_on-requires-clause-room g c =
+    let before : HasRoom c.args.room.now c.index-tracks-k.result = rw (c.index-tracks-k.is) (has_room c.args.room.now c.in-Some-find_track.k c.args.tracks.now _ c.in-Some-find_track.ensures.inside c.requires.room.each) in
     let room = before.few in
-    let taken = c.in_ok-passed.ensures.few in
-    omega arith
-
-pub moved_on-requires-clause-time : goal.moved_on-requires-clause-time
-moved_on-requires-clause-time g c =
-    let before : HasRoom c.args.room.now c.index-tracks-k.result = rw (c.index-tracks-k.is) (has_room c.args.room.now c.in-Some-find_track.k c.args.tracks.now _ c.in-Some-find_track.ensures.inside c.requires.room) in
-    before.time
-
-pub moved_on-requires-clause-bytes : goal.moved_on-requires-clause-bytes
-moved_on-requires-clause-bytes g c =
-    let before : HasRoom c.args.room.now c.index-tracks-k.result = rw (c.index-tracks-k.is) (has_room c.args.room.now c.in-Some-find_track.k c.args.tracks.now _ c.in-Some-find_track.ensures.inside c.requires.room) in
-    before.bytes
-
-pub returns-clause-room : goal.returns-clause-room
-returns-clause-room g c =
-    let before : HasRoom c.args.room.now c.index-tracks-k.result = rw (c.index-tracks-k.is) (has_room c.args.room.now c.in-Some-find_track.k c.args.tracks.now _ c.in-Some-find_track.ensures.inside c.requires.room) in
-    let room = before.few in
-    let count = c.moved_on.ensures.count in
-    let taken = c.in_ok-passed.ensures.few in
-    let few : c.moved_on.result.count + c.check_runs.new.room ≤ 2 ^ 24 = rw count (omega arith) in
-    let less : c.check_runs.new.room ≤ c.args.room.now = omega arith in
-    let with : HasRoom c.check_runs.new.room c.moved_on.result = record { few = few; time = c.moved_on.ensures.time; bytes = c.moved_on.ensures.bytes } in
-    room_with c.check_runs.new.room c.in-Some-find_track.k c.args.tracks.now c.moved_on.result with
-    (less_room c.args.room.now c.check_runs.new.room c.args.tracks.now less c.requires.room)
+    let taken = c.in_ok-passed.ensures.taken in
+    record { few = omega arith; time = before.time; bytes = before.bytes }
 
 pub returns-clause-known : goal.returns-clause-known
 returns-clause-known g c =
     known_set c.in-Some-find_track.k c.args.tracks.now _ c.moved_on.result c.find_track.new.known c.find_track.ensures.known (c.moved_on.ensures.same.0 ∙ ap (λ (t : TrackState). t.id) c.index-tracks-k.is)
 
-pub returns-clause-bound : goal.returns-clause-bound
-returns-clause-bound g c n big near =
-    let same : to_z w128 (of_z w128 c.base_of.result) ≡ c.base_of.result = search rules in
-    let before : to_z w128 (of_z w128 c.args.before) ≡ c.args.before = search rules in
-    let kept : to_z w128 (of_z w128 c.in_ok-passed.passed.at) ≡ c.in_ok-passed.passed.at = search rules in
-    let base : IsUpTo n c.base_of.result = (rw before at c.base_of.ensures.bound) n big near in
-    rw kept ((rw same at c.in_ok-passed.ensures.bound) n big base)
+pub returns-clause-kept : goal.returns-clause-kept
+returns-clause-kept g c =
+    let before : HasRoom c.args.room.now c.index-tracks-k.result = rw (c.index-tracks-k.is) (has_room c.args.room.now c.in-Some-find_track.k c.args.tracks.now _ c.in-Some-find_track.ensures.inside c.requires.room.each) in
+    let room = before.few in
+    let count = c.moved_on.ensures.count in
+    let taken = c.in_ok-passed.ensures.taken in
+    let few : c.moved_on.result.count + c.check_runs.new.room ≤ 2 ^ 24 = rw count (omega arith) in
+    let less : c.check_runs.new.room ≤ c.args.room.now = omega arith in
+    let with : HasRoom c.check_runs.new.room c.moved_on.result = record { few = few; time = c.moved_on.ensures.room.time; bytes = c.moved_on.ensures.room.bytes } in
+    record {
+      few = less;
+      each = room_with c.check_runs.new.room c.in-Some-find_track.k c.args.tracks.now c.moved_on.result with
+          (less_room c.args.room.now c.check_runs.new.room c.args.tracks.now less c.requires.room.each);
+      same = λ id.
+          trex_same c.args.tracks.now c.in-Some-find_track.k _ c.moved_on.result id c.in-Some-find_track.ensures.inside (c.moved_on.ensures.same.0 ∙ ap (λ t. t.id) c.index-tracks-k.is) (c.moved_on.ensures.same.1 ∙ ap (λ t. t.trex) c.index-tracks-k.is);
+    }
 
-pub returns-clause-same : goal.returns-clause-same
-returns-clause-same g c id =
-    trex_same c.args.tracks.now c.in-Some-find_track.k _ c.moved_on.result id c.in-Some-find_track.ensures.inside (c.moved_on.ensures.same.0 ∙ ap (λ t. t.id) c.index-tracks-k.is) (c.moved_on.ensures.same.1 ∙ ap (λ t. t.trex) c.index-tracks-k.is)
-
-pub returns-clause-sound : goal.returns-clause-sound
-returns-clause-sound g c =
+pub returns-clause-passed : goal.returns-clause-passed
+returns-clause-passed g c =
     let boxes = children_of (box_seen c.args.traf) in
     let same : to_z w128 (of_z w128 c.base_of.result) ≡ c.base_of.result = search rules in
     let before : to_z w128 (of_z w128 c.args.before) ≡ c.args.before = search rules in
     let kept : to_z w128 (of_z w128 c.in_ok-passed.passed.at) ≡ c.in_ok-passed.passed.at = search rules in
     let head : of_kind (codes "tfhd") boxes ≡ box_seen c.in-Some.tfhd ∷ [] = sym c.in_ok-heads.ensures.head ∙ ap (λ (o : Option BoxView). only_list (option_map box_seen o)) c.in-Some.is in
-    let known : trex_among c.args.tracks.now c.in-Ok.head.id ≡ Some c.in-Some-trex.trex = found_trex c.args.tracks.now c.in-Ok.head.id c.in-Some-find_track.k _ c.in-Some-trex.trex c.in-Some-find_track.ensures.inside c.in-Some-find_track.ensures.found (ap (λ t. t.trex) (sym c.index-tracks-k.is)
+    let known : trex_among c.args.tracks.now c.in-Ok.head.id ≡ Some c.in-Some-trex.trex = found_trex c.args.tracks.now c.in-Ok.head.id c.in-Some-find_track.k _ c.in-Some-trex.trex c.in-Some-find_track.ensures.inside c.in-Some-find_track.ensures.there.found (ap (λ t. t.trex) (sym c.index-tracks-k.is)
     ∙ c.in-Some-trex.is) in
     let times : AllByRecursion (λ (b : Box). IsSound tfdt b.payload) (of_kind (codes "tfdt") boxes) =
     elim c.match-heads-2.branch [
@@ -94,13 +77,6 @@ returns-clause-sound g c =
           only_sound (codes "tfdt") tfdt _ boxes there (time_sound _ (rw w.payload-in-Some-time.ensures at w.in-Ok-read_time.ensures.readable))
       | in-None w ↦ none_sound (codes "tfdt") tfdt boxes (sym c.in_ok-heads.ensures.time ∙ ap (λ (o : Option BoxView). only_list (option_map box_seen o)) w.in-None.is)
     ] in
-    rw kept (traf_sound c.args.file_len c.args.moof c.in_ok-passed.passed.count c.args.before c.base_of.result c.in_ok-passed.passed.at c.args.tracks.now boxes (box_seen c.in-Some.tfhd) c.in-Ok.head c.in-Some-trex.trex c.what_is_inherited.result (keys_seen c.index-tracks-k.result.keys)
-    head (rw c.payload.ensures at c.in-Ok.ensures.head) known times (rw before at c.base_of.ensures.is) c.what_is_inherited.ensures (rw same at c.in_ok-passed.ensures.sound) (rw same at c.in_ok-passed.ensures.end) c.in_ok-passed.ensures.count c.in_ok-keys.ensures.sound)
-
-pub returns-clause-moved : goal.returns-clause-moved
-returns-clause-moved g c =
-    let boxes = children_of (box_seen c.args.traf) in
-    let head : of_kind (codes "tfhd") boxes ≡ box_seen c.in-Some.tfhd ∷ [] = sym c.in_ok-heads.ensures.head ∙ ap (λ (o : Option BoxView). only_list (option_map box_seen o)) c.in-Some.is in
     let m = c.moved_on.ensures in
     let late : is_late_at c.index-tracks-k.result c.match-heads-2.time c.in_ok-passed.passed.count ≡ false =
     elim c.match-heads-3.branch [
@@ -118,11 +94,19 @@ returns-clause-moved g c =
           its_time _ boxes _ there (rw w.payload-in-Some-time.ensures at w.in-Ok-read_time.ensures.time) ∙ sym w.time-is
       | in-None w ↦ no_time boxes (sym c.in_ok-heads.ensures.time ∙ ap (λ (o : Option BoxView). only_list (option_map box_seen o)) w.in-None.is) ∙ sym w.time-is
     ] in
-    traf_moved c.args.moof c.in_ok-passed.passed.count c.in_ok-passed.passed.duration c.in_ok-passed.passed.bytes c.in-Some-find_track.k c.args.room.now c.check_runs.new.room c.args.before c.args.tracks.now _ c.index-tracks-k.result c.moved_on.result boxes (box_seen c.in-Some.tfhd)
-    c.in-Ok.head c.in-Some-trex.trex c.what_is_inherited.result c.in_ok-keys.keys c.match-heads-2.time
-    head (rw c.payload.ensures at c.in-Ok.ensures.head)
-    c.in-Some-find_track.ensures.inside c.in-Some-find_track.ensures.found c.in-Some-find_track.ensures.first c.index-tracks-k.is c.in-Some-trex.is c.what_is_inherited.ensures c.in_ok-passed.ensures.count c.in_ok-passed.ensures.lasting c.in_ok-passed.ensures.filling
-    c.in_ok-keys.ensures.sound c.in_ok-keys.ensures.keys (sym c.if-lacks_description.ensures) late time m.none m.some c.in_ok-passed.ensures.few
+    record {
+      holds = c.in_ok-heads.ensures.holds;
+      sound = rw kept (traf_sound c.args.file_len c.args.moof c.in_ok-passed.passed.count c.args.before c.base_of.result c.in_ok-passed.passed.at c.args.tracks.now boxes (box_seen c.in-Some.tfhd) c.in-Ok.head c.in-Some-trex.trex c.what_is_inherited.result (keys_seen c.index-tracks-k.result.keys)
+          head (rw c.payload.ensures at c.in-Ok.ensures.head) known times (rw before at c.base_of.ensures.is) c.what_is_inherited.ensures (rw same at c.in_ok-passed.ensures.runs.sound) (rw same at c.in_ok-passed.ensures.runs.end) c.in_ok-passed.ensures.runs.count c.in_ok-keys.ensures.sound);
+      bound = λ n big near.
+          let base : IsUpTo n c.base_of.result = (rw before at c.base_of.ensures.bound) n big near in
+          rw kept ((rw same at c.in_ok-passed.ensures.bound) n big base);
+      moved = traf_moved c.args.moof c.in_ok-passed.passed.count c.in_ok-passed.passed.duration c.in_ok-passed.passed.bytes c.in-Some-find_track.k c.args.room.now c.check_runs.new.room c.args.before c.args.tracks.now _ c.index-tracks-k.result c.moved_on.result boxes (box_seen c.in-Some.tfhd)
+          c.in-Ok.head c.in-Some-trex.trex c.what_is_inherited.result c.in_ok-keys.keys c.match-heads-2.time
+          head (rw c.payload.ensures at c.in-Ok.ensures.head)
+          c.in-Some-find_track.ensures.inside c.in-Some-find_track.ensures.there.found c.in-Some-find_track.ensures.there.first c.index-tracks-k.is c.in-Some-trex.is c.what_is_inherited.ensures c.in_ok-passed.ensures.runs.count c.in_ok-passed.ensures.runs.lasting c.in_ok-passed.ensures.runs.filling
+          c.in_ok-keys.ensures.sound c.in_ok-keys.ensures.keys (sym c.if-lacks_description.ensures) late time m.none m.some c.in_ok-passed.ensures.taken;
+    }
 
 pub returns-in_default-clause-fault : goal.returns-in_default-clause-fault
 returns-in_default-clause-fault g c =
@@ -144,7 +128,7 @@ pub returns-in_default-trex-clause-fault : goal.returns-in_default-trex-clause-f
 returns-in_default-trex-clause-fault g c =
     let head = sym c.in_ok-heads.ensures.head ∙ ap (λ (o : Option BoxView). only_list (option_map box_seen o)) c.in-Some.is in
     unknown_trex c.args.file_len c.args.moof c.args.room.now c.in-Some-find_track.k c.args.before c.args.tracks.now _ c.index-tracks-k.result (box_seen c.args.traf) (box_seen c.in-Some.tfhd) c.in-Ok.head _ c.in_ok-heads.ensures.holds head (rw c.payload.ensures at c.in-Ok.ensures.head)
-    c.in-Some-find_track.ensures.inside c.in-Some-find_track.ensures.found c.index-tracks-k.is c.in_default-trex.is c.fault-in_default-trex.ensures
+    c.in-Some-find_track.ensures.inside c.in-Some-find_track.ensures.there.found c.index-tracks-k.is c.in_default-trex.is c.fault-in_default-trex.ensures
 
 pub returns-in-Err-read_time-clause-fault : goal.returns-in-Err-read_time-clause-fault
 returns-in-Err-read_time-clause-fault g c =
@@ -159,7 +143,7 @@ returns-in_err-passed-clause-fault g c =
     let before : to_z w128 (of_z w128 c.args.before) ≡ c.args.before = search rules in
     let o = opened c.args.moof c.in-Some-find_track.k c.args.before c.base_of.result c.args.tracks.now _ c.index-tracks-k.result (box_seen c.args.traf) (box_seen c.in-Some.tfhd) c.in-Ok.head c.in-Some-trex.trex c.what_is_inherited.result c.in_ok-heads.ensures.holds head
     (rw c.payload.ensures at c.in-Ok.ensures.head)
-    c.in-Some-find_track.ensures.inside c.in-Some-find_track.ensures.found c.index-tracks-k.is c.in-Some-trex.is (rw before at c.base_of.ensures.is) c.what_is_inherited.ensures in
+    c.in-Some-find_track.ensures.inside c.in-Some-find_track.ensures.there.found c.index-tracks-k.is c.in-Some-trex.is (rw before at c.base_of.ensures.is) c.what_is_inherited.ensures in
     rw (p.1, p.2) (runs_refused c.args.file_len c.args.moof c.args.room.now c.args.before c.base_of.result c.args.tracks.now (box_seen c.args.traf) (box_seen c.in-Some.tfhd) c.index-tracks-k.result c.in-Some-trex.trex c.what_is_inherited.result c.in_err-passed.field-0.0 o
     ((rw same at c.in_err-passed.ensures.fault) c.in_ok-heads.ensures.holds.tiles))
 
@@ -170,9 +154,9 @@ returns-then-lacks_description-clause-fault g c =
     let before : to_z w128 (of_z w128 c.args.before) ≡ c.args.before = search rules in
     let o = opened c.args.moof c.in-Some-find_track.k c.args.before c.base_of.result c.args.tracks.now _ c.index-tracks-k.result (box_seen c.args.traf) (box_seen c.in-Some.tfhd) c.in-Ok.head c.in-Some-trex.trex c.what_is_inherited.result c.in_ok-heads.ensures.holds head
     (rw c.payload.ensures at c.in-Ok.ensures.head)
-    c.in-Some-find_track.ensures.inside c.in-Some-find_track.ensures.found c.index-tracks-k.is c.in-Some-trex.is (rw before at c.base_of.ensures.is) c.what_is_inherited.ensures in
+    c.in-Some-find_track.ensures.inside c.in-Some-find_track.ensures.there.found c.index-tracks-k.is c.in-Some-trex.is (rw before at c.base_of.ensures.is) c.what_is_inherited.ensures in
     description_refused c.args.file_len c.args.moof c.args.room.now c.in_ok-passed.passed.count c.args.before c.base_of.result c.args.tracks.now (box_seen c.args.traf) (box_seen c.in-Some.tfhd) c.index-tracks-k.result c.in-Some-trex.trex c.what_is_inherited.result _ o
-    (rw same at c.in_ok-passed.ensures.sound) c.in_ok-passed.ensures.count (sym c.if-lacks_description.ensures) c.fault-then-lacks_description.ensures
+    (rw same at c.in_ok-passed.ensures.runs.sound) c.in_ok-passed.ensures.runs.count (sym c.if-lacks_description.ensures) c.fault-then-lacks_description.ensures
 
 pub returns-in_err-keys-clause-fault : goal.returns-in_err-keys-clause-fault
 returns-in_err-keys-clause-fault g c =
@@ -182,9 +166,9 @@ returns-in_err-keys-clause-fault g c =
     let before : to_z w128 (of_z w128 c.args.before) ≡ c.args.before = search rules in
     let o = opened c.args.moof c.in-Some-find_track.k c.args.before c.base_of.result c.args.tracks.now _ c.index-tracks-k.result (box_seen c.args.traf) (box_seen c.in-Some.tfhd) c.in-Ok.head c.in-Some-trex.trex c.what_is_inherited.result c.in_ok-heads.ensures.holds head
     (rw c.payload.ensures at c.in-Ok.ensures.head)
-    c.in-Some-find_track.ensures.inside c.in-Some-find_track.ensures.found c.index-tracks-k.is c.in-Some-trex.is (rw before at c.base_of.ensures.is) c.what_is_inherited.ensures in
+    c.in-Some-find_track.ensures.inside c.in-Some-find_track.ensures.there.found c.index-tracks-k.is c.in-Some-trex.is (rw before at c.base_of.ensures.is) c.what_is_inherited.ensures in
     rw (p.1, p.2) (groups_refused c.args.file_len c.args.moof c.args.room.now c.in_ok-passed.passed.count c.args.before c.base_of.result c.args.tracks.now (box_seen c.args.traf) (box_seen c.in-Some.tfhd) c.index-tracks-k.result c.in-Some-trex.trex c.what_is_inherited.result c.in_err-keys.field-0.0 o
-    (rw same at c.in_ok-passed.ensures.sound) c.in_ok-passed.ensures.count (c.in_err-keys.ensures.fault c.in_ok-heads.ensures.holds.tiles))
+    (rw same at c.in_ok-passed.ensures.runs.sound) c.in_ok-passed.ensures.runs.count (c.in_err-keys.ensures.fault c.in_ok-heads.ensures.holds.tiles))
 
 pub returns-then-is_late-clause-fault : goal.returns-then-is_late-clause-fault
 returns-then-is_late-clause-fault g c =
@@ -209,6 +193,6 @@ returns-then-is_late-clause-fault g c =
     let before : to_z w128 (of_z w128 c.args.before) ≡ c.args.before = search rules in
     let o = opened c.args.moof c.in-Some-find_track.k c.args.before c.base_of.result c.args.tracks.now _ c.index-tracks-k.result (box_seen c.args.traf) (box_seen c.in-Some.tfhd) c.in-Ok.head c.in-Some-trex.trex c.what_is_inherited.result c.in_ok-heads.ensures.holds head
     (rw c.payload.ensures at c.in-Ok.ensures.head)
-    c.in-Some-find_track.ensures.inside c.in-Some-find_track.ensures.found c.index-tracks-k.is c.in-Some-trex.is (rw before at c.base_of.ensures.is) c.what_is_inherited.ensures in
+    c.in-Some-find_track.ensures.inside c.in-Some-find_track.ensures.there.found c.index-tracks-k.is c.in-Some-trex.is (rw before at c.base_of.ensures.is) c.what_is_inherited.ensures in
     time_refused c.args.file_len c.args.moof c.args.room.now c.in_ok-passed.passed.count c.args.before c.base_of.result c.args.tracks.now (box_seen c.args.traf) (box_seen c.in-Some.tfhd) (box_seen c.in-Some-time-2.tfdt)
-    c.index-tracks-k.result c.in-Some-trex.trex c.what_is_inherited.result c.match-heads-2.time _ o (rw same at c.in_ok-passed.ensures.sound) c.in_ok-passed.ensures.count c.in_ok-keys.ensures.sound there times time (sym c.if-is_late.ensures) c.fault-then-is_late.ensures
+    c.index-tracks-k.result c.in-Some-trex.trex c.what_is_inherited.result c.match-heads-2.time _ o (rw same at c.in_ok-passed.ensures.runs.sound) c.in_ok-passed.ensures.runs.count c.in_ok-keys.ensures.sound there times time (sym c.if-is_late.ensures) c.fault-then-is_late.ensures

@@ -2,24 +2,17 @@ use Rattle.std.proofs.Common.{rules, arith, ◌≡◌, ◌+◌, ◌<◌, ◌==�
 use Rattle.mp4_frag.proofs.TracksFound.{found_is, none_below, none_higher, none_with}
 use Rattle.mp4_frag.proofs.finding.find_rising.Goals as goal
 
-pub returns-then-last-id-clause-first : goal.returns-then-last-id-clause-first
-returns-then-last-id-clause-first c =
+pub returns-then-last-id-clause-there : goal.returns-then-last-id-clause-there
+returns-then-last-id-clause-there g c =
     let few = c.requires.known.inside c.requires.some in
     let last = c.requires.known.last in
     let inside : c.args.known.last < length c.args.tracks.now = omega arith in
     let same : c.index-tracks-known.result.id ≡ c.args.id = search rules in
-    none_below c.args.id c.args.known.rising c.args.known.last c.args.tracks.now _ c.index-tracks-known.result c.requires.known.rising last inside c.index-tracks-known.is (omega (arith, same))
-
-pub returns-then-last-id-clause-found : goal.returns-then-last-id-clause-found
-returns-then-last-id-clause-found c =
-    let few = c.requires.known.inside c.requires.some in
-    let last = c.requires.known.last in
-    let inside : c.args.known.last < length c.args.tracks.now = omega arith in
-    let same : c.index-tracks-known.result.id ≡ c.args.id = search rules in
-    found_is c.args.id c.args.known.last c.args.tracks.now _ c.index-tracks-known.result inside c.index-tracks-known.is same (returns-then-last-id-clause-first c)
+    let none = none_below c.args.id c.args.known.rising c.args.known.last c.args.tracks.now _ c.index-tracks-known.result c.requires.known.rising last inside c.index-tracks-known.is (omega (arith, same)) in
+    record { found = found_is c.args.id c.args.known.last c.args.tracks.now _ c.index-tracks-known.result inside c.index-tracks-known.is same none; first = none }
 
 pub find_above-requires-clause-none : goal.find_above-requires-clause-none
-find_above-requires-clause-none c =
+find_above-requires-clause-none g c =
     let few = c.requires.known.inside c.requires.some in
     let last = c.requires.known.last in
     let inside : c.args.known.last < length c.args.tracks.now = omega arith in
@@ -29,7 +22,7 @@ find_above-requires-clause-none c =
     none_with c.args.id c.args.known.last (c.args.known.last + 1) c.args.tracks.now _ c.index-tracks-known.result inside refl c.index-tracks-known.is other none
 
 pub find_below-requires-clause-none : goal.find_below-requires-clause-none
-find_below-requires-clause-none c =
+find_below-requires-clause-none g c =
     let few = c.requires.known.inside c.requires.some in
     let last = c.requires.known.last in
     let inside : c.args.known.last < length c.args.tracks.now = omega arith in

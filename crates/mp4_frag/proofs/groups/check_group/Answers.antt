@@ -8,7 +8,7 @@ pub returns-in_err-name-clause-fault : goal.returns-in_err-name-clause-fault
 returns-in_err-name-clause-fault g c =
     let p = err_from_is_err_and c.from_residual-in_err-name.result c.from_residual-in_err-name.ensures.1 in
     let r = c.in_ok-group.ensures.group in
-    rw (p.1, p.2) (λ first before a. name_fault c.args.n first before c.args.payload.now c.in_ok-group.group c.in_err-name.field-0.0 r (c.in_err-name.ensures.fault first before (grouping_of c.args.payload.now) (key_is c.args.payload.now c.in_ok-group.group r) a))
+    rw (p.1, p.2) (λ first before a. name_fault c.args.n first before c.args.payload.now c.in_ok-group.group c.in_err-name.field-0.0 r (c.in_err-name.ensures.fault first before a (grouping_of c.args.payload.now) (key_is c.args.payload.now c.in_ok-group.group r)))
 
 pub returns-in_default-clause-fault : goal.returns-in_default-clause-fault
 returns-in_default-clause-fault g c first before a =
@@ -22,11 +22,11 @@ returns-then-total-from-clause-fault g c first before a =
 pub returns-clause-sound : goal.returns-clause-sound
 returns-clause-sound g c first before a =
     let r = c.in_ok-group.ensures.group in
-    let names = c.in_ok-name.ensures.named first before (grouping_of c.args.payload.now) (key_is c.args.payload.now c.in_ok-group.group r) a in
+    let names = c.in_ok-name.ensures.named first before a (grouping_of c.args.payload.now) (key_is c.args.payload.now c.in_ok-group.group r) in
     let few : true ≡ nat_le c.in-Some.total c.args.n = search rules in
     group_sound c.args.n first _ before c.args.payload.now c.in_ok-group.group _ r names c.in-Some.ensures.indexes (few ∙ ap (λ m. nat_le m c.args.n) c.in-Some.ensures.total)
 
 pub returns-clause-named : goal.returns-clause-named
 returns-clause-named g c first before a =
     let r = c.in_ok-group.ensures.group in
-    (c.in_ok-name.ensures.named first before (grouping_of c.args.payload.now) (key_is c.args.payload.now c.in_ok-group.group r) a).names
+    (c.in_ok-name.ensures.named first before a (grouping_of c.args.payload.now) (key_is c.args.payload.now c.in_ok-group.group r)).names

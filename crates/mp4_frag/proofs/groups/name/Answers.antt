@@ -6,12 +6,12 @@ use Rattle.mp4_frag.proofs.groups.name.Goals as goal
 use Rattle.mp4_frag.proofs.groups.name.Goals.{in-Some+else-has, in-None+else-count-ge4}
 
 pub returns-then-has-clause-fault : goal.returns-then-has-clause-fault
-returns-then-has-clause-fault c first before g e a =
+returns-then-has-clause-fault c first before a g e =
     let now = keys_seen c.args.keys.now in
     inl (refl, name_again 0 first now before c.args.named.now g c.in-Some.j a (ap (λ (k : GroupKeyOf). key_place k now) e ∙ sym c.in-Some.ensures) (sym c.if-has.ensures))
 
 pub returns-clause-named : goal.returns-clause-named
-returns-clause-named c first before g e a =
+returns-clause-named c first before a g e =
     let now = keys_seen c.args.keys.now in
     elim c.match-place.branch [
       | in-Some+else-has w ↦ rw (w.keys-is, c.with.ensures, w.place-is) (name_found first now before c.args.named.now g w.in-Some.j a (ap (λ (k : GroupKeyOf). key_place k now) e ∙ sym w.in-Some.ensures) (sym w.if-has.ensures))

@@ -2,7 +2,7 @@ use Rattle.std.proofs.Common.{◌≡◌, ◌==◌, Bool, true, false, not, refl,
 use Rattle.std.proofs.lemmas.Bool.{eq-eqb}
 use Rattle.mp4_frag.specs.words.Walks.{part_of}
 use Rattle.mp4_frag.proofs.LeavesRead.{head_is}
-use Rattle.mp4_frag.proofs.LooksRead.{other_kind, unread_head, read_names}
+use Rattle.mp4_frag.proofs.LooksRead.{other_kind, other_id, unread_head, read_names}
 use Rattle.mp4_frag.proofs.looks.naming_head.Goals as goal
 
 is_other : (v : Bool) → true ≡ not v → v ≡ false
@@ -15,6 +15,9 @@ is_one false e = absurd cc
 
 pub returns-then-ne : goal.returns-then-ne
 returns-then-ne c = other_kind c.args.track c.args.lying.kind.0 (part_of c.args.payload.now c.args.lying.inside c.args.lying.end) (is_other _ c.if-ne.ensures)
+
+pub returns-then-has_other_id : goal.returns-then-has_other_id
+returns-then-has_other_id c = other_id c.args.track c.args.lying.kind.0 (part_of c.args.payload.now c.args.lying.inside c.args.lying.end) (c.has_other_id.ensures c.if-has_other_id.true)
 
 pub returns-in_default : goal.returns-in_default
 returns-in_default c = unread_head c.args.track c.args.lying.kind.0 (part_of c.args.payload.now c.args.lying.inside c.args.lying.end) _ c.in_default.ensures.fault

@@ -8,30 +8,36 @@ use Rattle.mp4_frag.proofs.sample_runs.check_run.Goals as goal
 pub returns-clause-fault : goal.returns-clause-fault
 returns-clause-fault g c =
     let r = c.in_ok-run.ensures.run in
-    let start = rw (nearer_again c.args.judged.base c.requires.base, near_again c.args.passed.at c.requires.near) at c.run_start-start.ensures.is in
+    let start = rw (nearer_again c.args.judged.base c.requires.base, near_again c.args.passed.at c.requires.passed.near) at c.run_start-start.ensures.is in
     let within = rw (near_again c.run_start-start.result c.run_start-start.ensures.near) at c.pass_samples-samples.ensures.within in
     (r.readable, run_outside c.args.payload.now c.in_ok-run.run' c.args.judged.file_len c.args.judged.inherited.size c.args.judged.base c.args.passed.at c.run_start-start.result _ r start within c.if-samples.false)
 
 pub returns-then-have_large_offset-clause-fault : goal.returns-then-have_large_offset-clause-fault
 returns-then-have_large_offset-clause-fault g c =
     let r = c.in_ok-run.ensures.run in
-    let large = c.pass_samples-samples.ensures.large c.if-samples.true in
+    let large = (c.pass_samples-samples.ensures.samples c.if-samples.true).large in
     (r.readable, sym (large_is c.args.payload.now c.in_ok-run.run' _ r large) ∙ sym c.have_large_offset.ensures ∙ c.if-have_large_offset.true)
 
-pub returns-then-samples-clause-passed : goal.returns-then-samples-clause-passed
-returns-then-samples-clause-passed g c =
+pub returns-then-samples-clause-run : goal.returns-then-samples-clause-run
+returns-then-samples-clause-run g c =
     let r = c.in_ok-run.ensures.run in
-    let start = rw (nearer_again c.args.judged.base c.requires.base, near_again c.args.passed.at c.requires.near) at c.run_start-start.ensures.is in
+    let start = rw (nearer_again c.args.judged.base c.requires.base, near_again c.args.passed.at c.requires.passed.near) at c.run_start-start.ensures.is in
     let again = near_again c.run_start-start.result c.run_start-start.ensures.near in
     let within = rw again at c.pass_samples-samples.ensures.within in
-    let end = rw again at c.pass_samples-samples.ensures.end c.if-samples.true in
+    let samples = c.pass_samples-samples.ensures.samples c.if-samples.true in
+    let end = rw again at samples.end in
     let small = sym c.have_large_offset.ensures ∙ c.if-have_large_offset.false in
-    rw (added c.args.passed.count c.in_ok-run.run'.count, added c.args.passed.duration c.pass_samples-samples.result.duration, added c.args.passed.bytes c.pass_samples-samples.result.bytes, near_again c.pass_samples-samples.result.end c.pass_samples-samples.ensures.near)
-    (run_passes c.args.payload.now c.in_ok-run.run' c.args.judged.file_len c.args.judged.inherited c.args.judged.base c.args.passed.at c.run_start-start.result _ _ _ _ _ r start within c.if-samples.true end
-    (c.pass_samples-samples.ensures.duration c.if-samples.true) (c.pass_samples-samples.ensures.bytes c.if-samples.true) (c.pass_samples-samples.ensures.large c.if-samples.true) small)
+    record {
+      run = rw (added c.args.passed.count c.in_ok-run.run'.count, added c.args.passed.duration c.pass_samples-samples.result.duration, added c.args.passed.bytes c.pass_samples-samples.result.bytes, near_again c.pass_samples-samples.result.end c.pass_samples-samples.ensures.near)
+          (run_passes c.args.payload.now c.in_ok-run.run' c.args.judged.file_len c.args.judged.inherited c.args.judged.base c.args.passed.at c.run_start-start.result _ _ _ _ _ r start within c.if-samples.true end samples.duration samples.bytes samples.large small);
+      count = search rules;
+      duration = search rules;
+      bytes = search rules;
+      taken = search rules;
+    }
 
 pub returns-then-samples-clause-bound : goal.returns-then-samples-clause-bound
 returns-then-samples-clause-bound g c n big base before =
     let bytes : AreBytes c.args.payload.now = λ i. search rules in
     let short : c.args.judged.file_len < 2 ^ 64 = search rules in
-    run_up_to n c.args.judged.file_len c.args.judged.inherited c.args.judged.base c.args.passed.at c.args.payload.now _ _ _ _ bytes short (returns-then-samples-clause-passed g c) big base before
+    run_up_to n c.args.judged.file_len c.args.judged.inherited c.args.judged.base c.args.passed.at c.args.payload.now _ _ _ _ bytes short (returns-then-samples-clause-run g c).run big base before

@@ -14,29 +14,15 @@ returns-clause-within g c =
     let same = rw (none, to_z-of_z w128 c.args.at c.ranges.at) at c.loop-k.invariant.within in
     c.loop-k.invariant.are_within ∙ sym same
 
-pub returns-clause-end : goal.returns-clause-end
-returns-clause-end g c within =
+pub returns-clause-samples : goal.returns-clause-samples
+returns-clause-samples g c within =
     let none : rows_left c.args.payload.now c.args.run c.loop-k.k ≡ [] = rows_none c.args.payload.now c.args.run c.loop-k.k c.loop-k-test.false in
-    let same = rw (none, to_z-of_z w128 c.args.at c.ranges.at) at c.loop-k.invariant.end in
-    sym (same)
-
-pub returns-clause-duration : goal.returns-clause-duration
-returns-clause-duration g c within =
-    let none : rows_left c.args.payload.now c.args.run c.loop-k.k ≡ [] = rows_none c.args.payload.now c.args.run c.loop-k.k c.loop-k-test.false in
-    let same = rw none at c.loop-k.invariant.lasts in
-    sym (same ∙ add-zero _)
-
-pub returns-clause-bytes : goal.returns-clause-bytes
-returns-clause-bytes g c within =
-    let none : rows_left c.args.payload.now c.args.run c.loop-k.k ≡ [] = rows_none c.args.payload.now c.args.run c.loop-k.k c.loop-k-test.false in
-    let same = rw none at c.loop-k.invariant.fills in
-    sym (same ∙ add-zero _)
-
-pub returns-clause-large : goal.returns-clause-large
-returns-clause-large g c within =
-    let none : offsets_left c.args.payload.now c.args.run c.loop-k.k ≡ [] = offsets_none c.args.payload.now c.args.run c.loop-k.k c.loop-k-test.false in
-    let same = rw none at c.loop-k.invariant.large in
-    sym (same ∙ or_false _)
+    let no_offsets : offsets_left c.args.payload.now c.args.run c.loop-k.k ≡ [] = offsets_none c.args.payload.now c.args.run c.loop-k.k c.loop-k-test.false in
+    let end = rw (none, to_z-of_z w128 c.args.at c.ranges.at) at c.loop-k.invariant.end in
+    let lasts = rw none at c.loop-k.invariant.lasts in
+    let fills = rw none at c.loop-k.invariant.fills in
+    let large = rw no_offsets at c.loop-k.invariant.large in
+    record { end = sym end; duration = sym (lasts ∙ add-zero _); bytes = sym (fills ∙ add-zero _); large = sym (large ∙ or_false _) }
 
 pub loop-k-preserved : goal.loop-k-preserved
 loop-k-preserved g c =

@@ -50,20 +50,21 @@ returns-clause-place c =
     let looked : c.saturating_add-place.result ≤ p.passed + suc (looks a.result.boxes all) = search (rules, few) in
     let behind : c.if-not-ahead.place.passed ≤ p.passed + suc (looks a.result.boxes all) + over_work a.result.boxes all =
     elim c.if-not-ahead.branch [ else-not-ahead w ↦ rw w.place-is (omega (arith, looked)) | then-not-ahead w ↦ rw w.place-is (let over = w.pass_others.ensures.work in omega (arith, looked, over)) ] in
-    let run : c.if-not-ahead.place.run ≡ p.run = elim c.if-not-ahead.branch [ else-not-ahead w ↦ ap (λ (f : FragPlace). f.run) w.place-is | then-not-ahead w ↦ ap (λ (f : FragPlace). f.run) w.place-is ∙ w.pass_others.ensures.same.2 ] in
-    let same : r.run ≡ p.run = opened.same.2 ∙ run in
+    let run : c.if-not-ahead.place.run ≡ p.run = elim c.if-not-ahead.branch [ else-not-ahead w ↦ ap (λ (f : FragPlace). f.run) w.place-is | then-not-ahead w ↦ ap (λ (f : FragPlace). f.run) w.place-is ∙ w.pass_others.ensures.run ] in
+    let same : r.run ≡ p.run = opened.run ∙ run in
     let none : r.run.left ≡ 0 = ap (λ (row : RowPlace). row.left) same ∙ c.requires.none in
-    let inside = rw c.in-Some.is at a.ensures.inside in
-    let some = rw c.in-Some.is at a.ensures.some in
-    let kind = rw c.in-Some.is at a.ensures.kind in
+    let named = rw c.in-Some.is at a.ensures.traf in
+    let inside = named.inside in
+    let some = named.some in
+    let kind = named.kind in
     let cost = opened.work in
     let more : r.passed ≤ p.passed + suc (looks a.result.boxes all) + over_work a.result.boxes all + groups_work (boxes_between payload traf.inside traf.end) = omega (arith, behind, cost) in
     record {
-      next = rw (opened.next, opened.end) inside.1;
-      traf = rw opened.end inside.2;
+      next = rw (opened.at.0, opened.at.1) inside.1;
+      traf = rw opened.at.1 inside.2;
       rows = rw same q.rows;
       indexes = opened.indexes;
-      work = rw (opened.next, opened.end) (work_found payload p.passed r.passed p.run.left r.run.left p.next p.traf_end a.result.boxes a.result.at traf.inside traf.end traf.kind.0 c.requires.end none a.ensures.rest inside.0 some kind more q.work);
+      work = rw (opened.at.0, opened.at.1) (work_found payload p.passed r.passed p.run.left r.run.left p.next p.traf_end a.result.boxes a.result.at traf.inside traf.end traf.kind.0 c.requires.end none a.ensures.rest inside.0 some kind more q.work);
     }
 
 pub returns-clause-coming : goal.returns-clause-coming
@@ -78,13 +79,14 @@ returns-clause-coming c =
     let traf = c.in-Some.traf in
     let all = boxes_between payload p.next (length payload) in
     let there = boxes_between payload a.result.at (length payload) in
-    let inside = rw c.in-Some.is at a.ensures.inside in
-    let some = rw c.in-Some.is at a.ensures.some in
-    let kind = rw c.in-Some.is at a.ensures.kind in
-    let run : behind.run ≡ p.run = elim c.if-not-ahead.branch [ else-not-ahead v ↦ ap (λ (f : FragPlace). f.run) v.place-is | then-not-ahead v ↦ ap (λ (f : FragPlace). f.run) v.place-is ∙ v.pass_others.ensures.same.2 ] in
-    let track : behind.track ≡ p.track = elim c.if-not-ahead.branch [ else-not-ahead v ↦ ap (λ (f : FragPlace). f.track) v.place-is | then-not-ahead v ↦ ap (λ (f : FragPlace). f.track) v.place-is ∙ v.pass_others.ensures.same.0 ] in
-    let keys : behind.keys ≡ p.keys = elim c.if-not-ahead.branch [ else-not-ahead v ↦ ap (λ (f : FragPlace). f.keys) v.place-is | then-not-ahead v ↦ ap (λ (f : FragPlace). f.keys) v.place-is ∙ v.pass_others.ensures.same.1 ] in
-    let none : r.run.left ≡ 0 = ap (λ (row : RowPlace). row.left) (opened.same.2 ∙ run) ∙ c.requires.none in
+    let named = rw c.in-Some.is at a.ensures.traf in
+    let inside = named.inside in
+    let some = named.some in
+    let kind = named.kind in
+    let run : behind.run ≡ p.run = elim c.if-not-ahead.branch [ else-not-ahead v ↦ ap (λ (f : FragPlace). f.run) v.place-is | then-not-ahead v ↦ ap (λ (f : FragPlace). f.run) v.place-is ∙ v.pass_others.ensures.run ] in
+    let track : behind.track ≡ p.track = elim c.if-not-ahead.branch [ else-not-ahead v ↦ ap (λ (f : FragPlace). f.track) v.place-is | then-not-ahead v ↦ ap (λ (f : FragPlace). f.track) v.place-is ∙ v.pass_others.ensures.walk.track ] in
+    let keys : behind.keys ≡ p.keys = elim c.if-not-ahead.branch [ else-not-ahead v ↦ ap (λ (f : FragPlace). f.keys) v.place-is | then-not-ahead v ↦ ap (λ (f : FragPlace). f.keys) v.place-is ∙ v.pass_others.ensures.walk.keys ] in
+    let none : r.run.left ≡ 0 = ap (λ (row : RowPlace). row.left) (opened.run ∙ run) ∙ c.requires.none in
     let same : walk_of c.args.moof c.args.tracks.now behind ≡ w = λ k. record { moof = c.args.moof; tracks = c.args.tracks.now; track = track k; keys = keys_seen (keys k) } in
     let on : trafs_coming w (reached payload behind) there ≡ trafs_coming w (reached payload p) all =
     elim c.if-not-ahead.branch [
@@ -95,4 +97,4 @@ returns-clause-coming c =
           let over = v.pass_others.ensures.coming in
           rw v.place-is (ap (trafs_coming w (reached payload v.pass_others.result)) (sym a.ensures.rest) ∙ over)
     ] in
-    next_found payload w p r (reached payload behind) a.result.at traf.inside traf.end traf.kind.0 c.requires.none c.requires.end none opened.next opened.end inside.0 some kind (rw same at opened.reached) on
+    next_found payload w p r (reached payload behind) a.result.at traf.inside traf.end traf.kind.0 c.requires.none c.requires.end none opened.at.0 opened.at.1 inside.0 some kind (rw same at opened.reached) on

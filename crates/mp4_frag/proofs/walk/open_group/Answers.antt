@@ -8,4 +8,4 @@ pub returns-clause-indexes : goal.returns-clause-indexes
 returns-clause-indexes c =
     c.with_index-place.ensures.is c.args.payload.now
     ∙ group_taken c.args.payload.now c.args.lying.inside c.args.lying.end c.in-Some.j c.in-Ok.group (keys_seen c.args.place.now.keys) (all_indexes c.args.payload.now c.args.place.now.indexes) (indexes_here c.args.payload.now c.first_index-rows.result)
-    c.requires.inside c.requires.within c.in-Ok.ensures.group c.in-Some.ensures c.first_index-rows.ensures.is
+    c.requires.lies.inside c.requires.lies.within c.in-Ok.ensures.group c.in-Some.ensures c.first_index-rows.ensures.is

@@ -15,7 +15,7 @@ pub returns-then-eq-clause-coming : goal.returns-then-eq-clause-coming
 returns-then-eq-clause-coming c =
     let p = c.args.place.now in
     let child = c.in-Some.child in
-    run_opened c.args.payload.now (walk_of c.args.moof c.args.tracks.now p) p c.open_run.new.place child.inside child.end child.kind.0 c.in-Some.ensures.some (sym c.if-eq.ensures) c.requires.none c.open_run.ensures.next c.open_run.ensures.same.2 c.open_run.ensures.coming
+    run_opened c.args.payload.now (walk_of c.args.moof c.args.tracks.now p) p c.open_run.new.place child.inside child.end child.kind.0 c.in-Some.ensures.some (sym c.if-eq.ensures) c.requires.none c.open_run.ensures.at.0 c.open_run.ensures.at.1 c.open_run.ensures.coming
 
 pub returns-else-eq-clause-coming : goal.returns-else-eq-clause-coming
 returns-else-eq-clause-coming c =

@@ -31,9 +31,9 @@ loop-left-preserved c =
           let same : walk_of c.args.moof c.args.tracks.now l.passed ≡ w = λ k. record { moof = c.args.moof; tracks = c.args.tracks.now; track = i.walk.0 k; keys = keys_seen (i.walk.1 k) } in
           rw (v.passed-is, v.known-is) (record {
             known = p.known;
-            walk = (p.same.0 ∙ i.walk.0, p.same.1 ∙ i.walk.1, p.same.2 ∙ i.walk.2);
+            walk = (p.walk.track ∙ i.walk.0, p.walk.keys ∙ i.walk.1, p.run ∙ i.walk.2);
             time = p.time ∙ i.time;
-            on = le_trans i.on p.on;
+            on = le_trans i.on p.walk.on;
             others = others_traf payload w (reached payload before) (reached payload l.passed) (reached payload v.pass_traf-passed.result) c.args.from c.args.boxes l.at l.left before.passed l.passed.passed v.pass_traf-passed.result.passed child.inside child.end child.kind.0
                 c.loop-left-test.true c.in-Some.ensures.some c.in-Some.ensures.order.0 (sym v.if-eq.ensures) p.work (rw same at p.coming) i.others;
           })

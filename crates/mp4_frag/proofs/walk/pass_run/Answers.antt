@@ -19,5 +19,5 @@ returns-clause-reached c =
     let before : to_z w128 (of_z w128 c.args.place.at) ≡ c.args.place.at = search rules in
     let begun : to_z w128 (of_z w128 c.begin.result) ≡ c.begin.result = search rules in
     let run = c.in-Ok.run' in
-    let rows = rows_taken c.args.payload.now c.args.lying.inside c.args.lying.end run run.first_flags c.requires.inside c.requires.within c.in-Ok.ensures.run in
+    let rows = rows_taken c.args.payload.now c.args.lying.inside c.args.lying.end run run.first_flags c.requires.lies.inside c.requires.lies.within c.in-Ok.ensures.run in
     rw (at, base, base) (over_read (reached c.args.payload.now c.args.place) part run c.begin.result c.run_end.result _ c.in-Ok.ensures.run (rw (base, before) at c.begin.ensures) rows (rw begun at c.run_end.ensures))

@@ -1,6 +1,8 @@
-use Rattle.std.proofs.Common.{◌∙◌, refl, rules, length, arith}
+use Rattle.std.proofs.Common.{◌∙◌, ◌-◌, refl, rules, length, arith}
 use Rattle.std.proofs.lemmas.Result.{err_from_is_err_and}
+use Rattle.mp4_present.specs.words.Carried.{waiting}
 use Rattle.mp4_present.specs.words.InHand.{follows_itself, follows_on}
+use Rattle.mp4_present.proofs.Carrying.{GoOnBy-none, GoOnBy-then}
 use Rattle.mp4_plan.proofs.HandsCarried.{carried_none, carried_more, carried_as, carried_front, stretch_fails, stretch_fits, next_below}
 use Rattle.mp4_present.proofs.WalkCopied.{stretch_there}
 use Rattle.mp4_plan.proofs.carrying.carry_hand.Goals as goal
@@ -13,6 +15,8 @@ loop-stretch-init g c = record {
   reads = refl;
   puts = refl;
   room = refl;
+  few = omega arith;
+  many = GoOnBy-none _ _ _ (omega arith);
   bytes = λ _. carried_none _ _ _ _ _;
 }
 
@@ -28,6 +32,11 @@ loop-stretch-preserved g c =
       reads = e.reads ∙ i.reads;
       puts = e.puts ∙ i.puts;
       room = e.room ∙ i.room;
+      few = (let few = i.few in omega (arith, few));
+      many =
+          let few = i.few in
+          let fits = c.if-stretch-left.false in
+          GoOnBy-then _ _ _ _ (waiting c.loop-stretch.carrier) _ (c.args.load.bytes - c.loop-stretch.left.bytes) c.in-Some.stretch.len _ i.many e.many (omega (arith, few, fits));
       bytes = λ honest.
           carried_more _ _ _ _ _ _ _ _ _ _ _ _ _ c.in-Some.stretch.samples c.in-Some.stretch.at c.in-Some.stretch.len (i.bytes honest) c.in-Some.ensures.stretch c.in-Some.ensures.within c.in-Some.ensures.samples.2 c.in-Some.ensures.samples.1
           (search rules) refl refl c.in-Some.ensures.samples.3 ((rw (i.honesty, i.file) at e.bytes) honest);
@@ -35,6 +44,9 @@ loop-stretch-preserved g c =
 
 pub returns-clause-bytes : goal.returns-clause-bytes
 returns-clause-bytes g c = λ honest. carried_as _ _ _ _ _ _ _ _ _ _ (c.loop-stretch.invariant.bytes honest) (c.in_default.ensures.kept refl)
+
+pub returns-clause-many : goal.returns-clause-many
+returns-clause-many g c = (c.loop-stretch.invariant.few, c.loop-stretch.invariant.many)
 
 pub returns-clause-ends : goal.returns-clause-ends
 returns-clause-ends g c = λ some. c.in_default.ensures.kept refl ∙ c.in_default.ensures.none refl some

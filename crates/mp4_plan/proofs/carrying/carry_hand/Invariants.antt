@@ -1,6 +1,6 @@
 use Rattle.std.specs.Prelude.{vec_len, IsTrue}
-use Rattle.std.proofs.Common.{◌≡◌, length}
-use Rattle.mp4_present.specs.words.Carried.{waiting}
+use Rattle.std.proofs.Common.{◌≡◌, ◌-◌, ◌≤◌, length}
+use Rattle.mp4_present.specs.words.Carried.{GoOnBy, waiting}
 use Rattle.mp4_present.specs.words.InHand.{Follows, left_in_hand}
 use Rattle.mp4_plan.specs.words.HandsFed.{BytesCarried}
 use Rattle.mp4_plan.proofs.carrying.carry_hand.Given as goal
@@ -15,6 +15,8 @@ invariant-loop-stretch g l =
       reads : g.S.Store.read_failures l.store ≡ g.S.Store.read_failures l.fn.store;
       puts : g.K.Sink.put_failures l.sink ≡ g.K.Sink.put_failures l.fn.sink;
       room : vec_len l.carrier.buffer ≡ vec_len l.fn.carrier.buffer;
+      few : l.left.bytes ≤ l.fn.load.bytes;
+      many : GoOnBy (g.K.Sink.contents l.fn.sink) (g.K.Sink.contents l.sink) (waiting l.fn.carrier) (waiting l.carrier) (l.fn.load.bytes - l.left.bytes);
       bytes : IsTrue (g.S.Store.is_honest l.fn.store)
           → BytesCarried (g.S.Store.file l.fn.store) (g.K.Sink.contents l.fn.sink) (g.K.Sink.contents l.sink) (waiting l.fn.carrier) (waiting l.carrier) (left_in_hand l.fn.hand) (left_in_hand l.hand) l.fn.load l.left;
     }

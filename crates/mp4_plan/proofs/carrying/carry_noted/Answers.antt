@@ -46,7 +46,7 @@ returns-in_err-next-clause-most g c told tree t n o h =
     let e = c.in_ok-carry_marked.ensures in
     let x = e.work told tree t h.marked.begun (length h.marked.samples) h.own h.now o h.marked.back h.began h.may h.less in
     let k = carries_rest (g.S.Store.file c.args.store.now) c.args.movie.now tree o t c.args.leaving c.args.load.samples c.args.walk.now n h c.requires c.carry_marked.new.walk _ _ x in
-    let most = (rw (e.honesty, e.file) at c.in_err-next.ensures.most) told tree t k.0 o k.1 in
+    let most = (rw (e.honesty, e.file) at c.in_err-next.ensures.work) told tree t k.0 o k.1 in
     let within = k.2 in
     rw p.1 (omega (arith, most, within))
 
@@ -94,7 +94,7 @@ returns-clause-work g c told tree t n o h =
     let next = ap (λ (k : Mark). k.next) h.marked.back.mark in
     let on = e.on in
     let number = c.saturating_sub-left.result in
-    let walk = f.walk in
+    let walk = f.walk.walk in
     writes_on file m tree o t c.args.leaving count w n h c.requires mid now _ _ _ (λ rest may. (let k = takes told tree t rest o may in (k.0, c.mark.ensures.may file tree t k.0 k.1, k.2)))
     f.went.grows (marked_ahead m mid last now number c.mark.ensures.mark f.went.ahead) r.0.samples (c.mark.ensures.coming file tree t m r.0.samples r.0.comes) (marked_is last now number c.mark.ensures.mark ∙ ap (mark_of now) (left ∙ same))
     (c.mark.ensures.walk m walk.goes_on walk.place walk.rest)

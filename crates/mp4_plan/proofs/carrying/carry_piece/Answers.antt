@@ -1,5 +1,7 @@
-use Rattle.std.proofs.Common.{rules, refl, sym, subst, ◌∙◌, arith}
+use Rattle.std.proofs.Common.{◌≡◌, ◌-◌, rules, refl, sym, subst, ◌∙◌, arith}
 use Rattle.std.proofs.lemmas.Result.{err_from_is_err_and}
+use Rattle.mp4_present.specs.words.Carried.{waiting}
+use Rattle.mp4_present.proofs.Carrying.{GoOnBy-none, GoOnBy-then}
 use Rattle.mp4_present.proofs.WalkPlaces.{kept_on}
 use Rattle.mp4_plan.proofs.HandsCarried.{carried_none}
 use Rattle.mp4_plan.proofs.PieceCarried.{hand_carried, carried_all, next_carried, hand_fails, hand_there, front_carried, no_bytes_left, none_left_to_carry, AreThere}
@@ -29,6 +31,8 @@ loop-left-init g c = record {
   reads = refl;
   puts = refl;
   buffer = refl;
+  few = omega arith;
+  many = GoOnBy-none _ _ _ (omega arith);
   carried = λ told tree t samples o h. (samples, (h, carried_none _ _ _ _ _));
   went = went_none c.args.movie.now c.args.walk.now c.args.steps.now;
   takes = λ told tree t n o h. takes_none (g.S.Store.file c.args.store.now) tree t n c.args.steps.now c.args.walk.now h;
@@ -45,19 +49,33 @@ returns-then-left-eq0-2-clause-carried g c told tree t samples o h =
     let all = carried_all file _ _ _ _ samples u.0 c.args.load c.in_ok-left.left (search rules) u.1.1 in
     (all.0, subst (λ ss. Comes file tree t m c.keep.new.self ss) all.1 u.1.0)
 
+pub returns-then-left-eq0-2-clause-many : goal.returns-then-left-eq0-2-clause-many
+returns-then-left-eq0-2-clause-many g c =
+    let i = c.loop-left.invariant in
+    let e = c.in_ok-left.ensures in
+    let few = i.few in
+    let fewer = e.many.0 in
+    let none : c.in_ok-left.left.bytes ≡ 0 = search rules in
+    GoOnBy-then _ _ _ _ (waiting c.loop-left.carrier) _ (c.args.load.bytes - c.loop-left.left.bytes) (c.loop-left.left.bytes - c.in_ok-left.left.bytes) _ i.many e.many.1 (omega (arith, few, fewer, none))
+
 pub loop-left-preserved : goal.loop-left-preserved
 loop-left-preserved g c =
     let i = c.loop-left.invariant in
     let e = c.in_ok-left.ensures in
     let l = c.in_ok-load.ensures in
     record {
-      walk = l.walk;
+      walk = l.walk.walk;
       room = search rules;
-      honesty = l.honesty ∙ e.honesty ∙ i.honesty;
-      file = l.file ∙ e.file ∙ i.file;
+      honesty = l.store.honesty ∙ e.honesty ∙ i.honesty;
+      file = l.store.file ∙ e.file ∙ i.file;
       reads = search rules;
       puts = e.puts ∙ i.puts;
       buffer = e.room ∙ i.buffer;
+      few = (let few = i.few in let fewer = e.many.0 in omega (arith, few, fewer));
+      many =
+          let few = i.few in
+          let fewer = e.many.0 in
+          GoOnBy-then _ _ _ _ (waiting c.loop-left.carrier) _ (c.args.load.bytes - c.loop-left.left.bytes) (c.loop-left.left.bytes - c.in_ok-left.left.bytes) _ i.many e.many.1 (omega (arith, few, fewer));
       carried = λ told.
           let file = g.S.Store.file c.args.store.now in
           let m = c.args.movie.now in
@@ -69,8 +87,8 @@ loop-left-preserved g c =
           next_carried file m c.args.walk.now c.keep.new.self c.load.new.self _ _ _ _ c.args.load c.in_ok-left.left later c.in_ok-load.field-0 on is_hand (e.ends (search rules)) ((rw (e.honesty, i.honesty, e.file, i.file) at l.loaded) told) (search rules);
       went =
           let m = c.args.movie.now in
-          let more = l.next (search rules) in
-          went_loaded m c.args.walk.now c.keep.new.self _ _ (went_kept m c.args.walk.now c.loop-left.walk _ _ i.went c.place-place.result c.keep.new.self _ c.keep.ensures.place c.keep.ensures.work) c.load.new.self _ l.mark l.grows more.0 (l.holds (search rules));
+          let more = l.answer.next (search rules) in
+          went_loaded m c.args.walk.now c.keep.new.self _ _ (went_kept m c.args.walk.now c.loop-left.walk _ _ i.went c.place-place.result c.keep.new.self _ c.keep.ensures.place c.keep.ensures.work) c.load.new.self _ l.walk.mark l.grows more.0 (l.answer.holds (search rules));
       takes = λ told.
           let file = g.S.Store.file c.args.store.now in
           let m = c.args.movie.now in
@@ -115,7 +133,7 @@ returns-in_err-load-clause-unchanged g c told tree t samples o h many sizes belo
     let on = hand_carried file m c.args.walk.now c.loop-left.walk c.keep.new.self _ _ _ _ _ _ c.args.load c.loop-left.left c.in_ok-left.left c.in_hand-hand.result c.carry_hand.new.hand c.place-place.result (i.carried told) c.in_hand-hand.ensures.hand e.later c.place-place.ensures
     ((rw (i.honesty, i.file) at e.bytes) told) c.keep.ensures.place in
     let k = (on tree t samples o h).1.0 in
-    rw (p.1, p.2) ((rw (e.honesty, i.honesty, e.file, i.file) at c.in_err-load.ensures.unchanged) told tree t k.0 k.1 o k.3.0)
+    rw (p.1, p.2) ((rw (e.honesty, i.honesty, e.file, i.file) at c.in_err-load.ensures.loaded) told tree t k.0 k.1 o k.3.0)
 
 pub returns-then-left-eq0-3-clause-prefix : goal.returns-then-left-eq0-3-clause-prefix
 returns-then-left-eq0-3-clause-prefix g c told tree t samples o h =
@@ -177,7 +195,7 @@ returns-in_err-load-clause-most g c told tree t n o h =
     let m = c.args.movie.now in
     let on = hand_keeps m c.loop-left.walk c.in_hand-hand.result c.carry_hand.new.hand c.place-place.result c.in_hand-hand.ensures.movie i.walk c.in_hand-hand.ensures.hand e.later c.place-place.ensures in
     let kept = keeps_before file m c.args.walk.now c.loop-left.walk _ _ (i.takes told) c.place-place.result c.keep.new.self _ on c.keep.ensures.place c.keep.ensures.work in
-    rw p.1 (fails_before file m c.args.walk.now c.keep.new.self _ _ kept _ ((rw (e.honesty, i.honesty, e.file, i.file) at c.in_err-load.ensures.most) told) tree t n o h)
+    rw p.1 (fails_before file m c.args.walk.now c.keep.new.self _ _ kept _ ((rw (e.honesty, i.honesty, e.file, i.file) at c.in_err-load.ensures.work) told) tree t n o h)
 
 pub returns-then-left-eq0-3-clause-most : goal.returns-then-left-eq0-3-clause-most
 returns-then-left-eq0-3-clause-most g c told tree t n o h =

@@ -1,6 +1,6 @@
 use Rattle.std.specs.Prelude.{vec_len, IsTrue}
-use Rattle.std.proofs.Common.{◌≡◌, ◌-◌, length}
-use Rattle.mp4_present.specs.words.Carried.{waiting}
+use Rattle.std.proofs.Common.{◌≡◌, ◌-◌, ◌≤◌, length}
+use Rattle.mp4_present.specs.words.Carried.{GoOnBy, waiting}
 use Rattle.mp4_present.specs.words.Movies.{IsWalkOf}
 use Rattle.mp4_plan.proofs.PieceCarried.{CarriesOn}
 use Rattle.mp4_present.proofs.WayThrough.{TakesBefore}
@@ -17,6 +17,8 @@ invariant-loop-left g l = record {
   reads : g.S.Store.read_failures l.store ≡ g.S.Store.read_failures l.fn.store;
   puts : g.K.Sink.put_failures l.sink ≡ g.K.Sink.put_failures l.fn.sink;
   buffer : vec_len l.carrier.buffer ≡ vec_len l.fn.carrier.buffer;
+  few : l.left.bytes ≤ l.fn.load.bytes;
+  many : GoOnBy (g.K.Sink.contents l.fn.sink) (g.K.Sink.contents l.sink) (waiting l.fn.carrier) (waiting l.carrier) (l.fn.load.bytes - l.left.bytes);
   carried : IsTrue (g.S.Store.is_honest l.fn.store)
       → CarriesOn (g.S.Store.file l.fn.store) l.movie l.fn.walk l.walk (g.K.Sink.contents l.fn.sink) (g.K.Sink.contents l.sink) (waiting l.fn.carrier) (waiting l.carrier) l.fn.load l.left;
   went : WentOn l.movie l.fn.walk l.walk l.fn.steps l.steps;

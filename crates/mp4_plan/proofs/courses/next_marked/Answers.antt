@@ -11,10 +11,10 @@ returns-in_err-next-clause-unchanged g c told tree t samples o h =
     let p = err_from_is_err_and c.from_residual.result c.from_residual.ensures.1 in
     rw (p.1, p.2) (c.in_err-next.ensures.unchanged told tree t samples o h)
 
-pub returns-in_err-next-clause-most : goal.returns-in_err-next-clause-most
-returns-in_err-next-clause-most g c told tree t n o h =
+pub returns-in_err-next-clause-work : goal.returns-in_err-next-clause-work
+returns-in_err-next-clause-work g c told tree t n o h =
     let p = err_from_is_err_and c.from_residual.result c.from_residual.ensures.1 in
-    rw p.1 (c.in_err-next.ensures.most told tree t n o h)
+    rw p.1 (c.in_err-next.ensures.work told tree t n o h)
 
 pub returns-clause-marked : goal.returns-clause-marked
 returns-clause-marked g c = marked_is c.next_sample.new.walk c.mark.new.self c.to_come-left.result c.mark.ensures.mark ∙ ap (mark_of c.mark.new.self) c.to_come-left.ensures

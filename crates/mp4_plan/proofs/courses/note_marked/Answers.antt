@@ -15,10 +15,10 @@ returns-in_err-planned-clause-unchanged g c told tree t samples o h marked some 
     let p = err_from_is_err_and c.from_residual.result c.from_residual.ensures.1 in
     rw (p.1, p.2) (c.in_err-planned.ensures.unchanged told tree t samples o h few)
 
-pub returns-in_err-planned-clause-most : goal.returns-in_err-planned-clause-most
-returns-in_err-planned-clause-most g c told tree t n o h =
+pub returns-in_err-planned-clause-work : goal.returns-in_err-planned-clause-work
+returns-in_err-planned-clause-work g c told tree t n o h =
     let p = err_from_is_err_and c.from_residual.result c.from_residual.ensures.1 in
-    let most = c.in_err-planned.ensures.most told tree t h.own o h.may in
+    let most = c.in_err-planned.ensures.work told tree t h.own o h.may in
     let sum = h.sum in
     rw p.1 (omega (arith, most, sum))
 
@@ -33,8 +33,8 @@ returns-then-planned-eq0-clause-unchanged g c told tree t samples o h marked som
       | then-planned-eq0-via-else-planned-eq0+then-planned-left v ↦ (let more = v.if-planned-left.true in absurd (omega (arith, more, counted, within, left)))
     ]
 
-pub returns-then-planned-eq0-clause-most : goal.returns-then-planned-eq0-clause-most
-returns-then-planned-eq0-clause-most g c told tree t n o h =
+pub returns-then-planned-eq0-clause-work : goal.returns-then-planned-eq0-clause-work
+returns-then-planned-eq0-clause-work g c told tree t n o h =
     let k = c.in_ok-planned.ensures.work told tree t h.own o h.may in
     let within = k.2 in
     let sum = h.sum in

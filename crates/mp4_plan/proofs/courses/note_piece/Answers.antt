@@ -55,11 +55,11 @@ loop-planner-preserved g c =
     let i = c.loop-planner.invariant in
     let l = c.in_ok-load-in-Empty.ensures in
     record {
-      walk = l.walk;
+      walk = l.walk.walk;
       room = search rules;
-      honesty = l.honesty ∙ i.honesty;
-      file = l.file ∙ i.file;
-      reads = l.reads ∙ i.reads;
+      honesty = l.store.honesty ∙ i.honesty;
+      file = l.store.file ∙ i.file;
+      reads = l.store.reads ∙ i.reads;
       few = search rules;
       rows = search rules;
       fed = λ told.
@@ -81,8 +81,8 @@ loop-planner-preserved g c =
           c.note_hand-hand.ensures.fed;
       went =
           let m = c.args.movie.now in
-          let more = l.next (search rules) in
-          went_loaded m c.args.walk.now c.keep.new.self _ _ (went_kept m c.args.walk.now c.loop-planner.walk _ _ i.went c.note_hand-hand.result.place c.keep.new.self _ c.keep.ensures.place c.keep.ensures.work) c.load.new.self _ l.mark l.grows more.0 (l.holds (search rules));
+          let more = l.answer.next (search rules) in
+          went_loaded m c.args.walk.now c.keep.new.self _ _ (went_kept m c.args.walk.now c.loop-planner.walk _ _ i.went c.note_hand-hand.result.place c.keep.new.self _ c.keep.ensures.place c.keep.ensures.work) c.load.new.self _ l.walk.mark l.grows more.0 (l.answer.holds (search rules));
       takes = λ told.
           let file = g.S.Store.file c.args.store.now in
           let m = c.args.movie.now in
@@ -97,7 +97,7 @@ returns-in_err-load-in-Empty-clause-unchanged g c told tree t samples o h few =
     let fed = (rw c.in-Empty.is at c.note_hand-hand.ensures.fed).0 in
     let on = hand_fed c.args.leaving (g.S.Store.file c.args.store.now) c.args.movie.now c.args.walk.now c.loop-planner.walk c.keep.new.self _ _ c.loop-planner.planner c.note_hand-hand.new.planner c.note_hand-hand.result.place (i.fed told) fed c.keep.ensures.place in
     let k = (on tree t samples o h).comes.comes in
-    rw (p.1, p.2) ((rw (i.honesty, i.file) at c.in_err-load-in-Empty.ensures.unchanged) told tree t k.0 k.1 o k.3.0)
+    rw (p.1, p.2) ((rw (i.honesty, i.file) at c.in_err-load-in-Empty.ensures.loaded) told tree t k.0 k.1 o k.3.0)
 
 pub returns-in-Full-clause-unchanged : goal.returns-in-Full-clause-unchanged
 returns-in-Full-clause-unchanged g c told tree t samples o h few =
@@ -113,24 +113,42 @@ returns-in-Full-clause-unchanged g c told tree t samples o h few =
     λ e. absurd (omega (arith, full, few, within, as_many, counted, length-take (length rows - n) (drop n rows), length-drop n rows))
 
 pub returns-in-Ended-clause-noted : goal.returns-in-Ended-clause-noted
-returns-in-Ended-clause-noted g c told tree t samples o h =
-    let i = c.loop-planner.invariant in
-    let counted = ap (λ (p : Planned). p.count) c.piece.ensures.is ∙ planned_counts c.loop-planner.planner.gathered in
-    let counted_now = ap (λ (p : Planned). p.count) c.piece-in-Ended.ensures.is ∙ planned_counts c.note_hand-hand.new.planner.gathered in
-    let on = hand_noted c.args.leaving (g.S.Store.file c.args.store.now)
-    c.args.movie.now c.args.walk.now c.loop-planner.walk _ c.piece.result.count _ c.loop-planner.planner c.note_hand-hand.new.planner c.note_hand-hand.result.stop c.note_hand-hand.result.place c.loop-planner.rows c.note_hand-hand.new.rows _ _ _
-    (i.fed told) (i.noted told) c.note_hand-hand.ensures.fed counted (search rules) in
-    rw counted_now (on tree t samples o h)
+returns-in-Ended-clause-noted g c told tree t samples o h = record {
+  seen = (
+      let i = c.loop-planner.invariant in
+      let counted = ap (λ (p : Planned). p.count) c.piece.ensures.is ∙ planned_counts c.loop-planner.planner.gathered in
+      let counted_now = ap (λ (p : Planned). p.count) c.piece-in-Ended.ensures.is ∙ planned_counts c.note_hand-hand.new.planner.gathered in
+      let on = hand_noted c.args.leaving (g.S.Store.file c.args.store.now)
+      c.args.movie.now c.args.walk.now c.loop-planner.walk _ c.piece.result.count _ c.loop-planner.planner c.note_hand-hand.new.planner c.note_hand-hand.result.stop c.note_hand-hand.result.place c.loop-planner.rows c.note_hand-hand.new.rows _ _ _
+      (i.fed told) (i.noted told) c.note_hand-hand.ensures.fed counted (search rules) in
+      rw counted_now (on tree t samples o h));
+  joined = (
+      let i = c.loop-planner.invariant in
+      let counted_now = ap (λ (p : Planned). p.count) c.piece-in-Ended.ensures.is ∙ planned_counts c.note_hand-hand.new.planner.gathered in
+      let on = hand_joined c.args.leaving (g.S.Store.file c.args.store.now) c.args.movie.now c.args.walk.now c.loop-planner.walk _ _ c.loop-planner.planner c.note_hand-hand.new.planner c.note_hand-hand.result.stop c.note_hand-hand.result.place _
+      c.args.stretches.now _ _ (i.fed told) (i.joined told)
+      c.note_hand-hand.ensures.fed in
+      rw counted_now (on tree t samples o h));
+}
 
 pub returns-then-not-branch-clause-noted : goal.returns-then-not-branch-clause-noted
-returns-then-not-branch-clause-noted g c told tree t samples o h =
-    let i = c.loop-planner.invariant in
-    let counted = ap (λ (p : Planned). p.count) c.piece.ensures.is ∙ planned_counts c.loop-planner.planner.gathered in
-    let counted_now = ap (λ (p : Planned). p.count) c.piece-then-not-branch.ensures.is ∙ planned_counts c.note_hand-hand.new.planner.gathered in
-    let on = hand_noted c.args.leaving (g.S.Store.file c.args.store.now)
-    c.args.movie.now c.args.walk.now c.loop-planner.walk _ c.piece.result.count _ c.loop-planner.planner c.note_hand-hand.new.planner c.note_hand-hand.result.stop c.note_hand-hand.result.place c.loop-planner.rows c.note_hand-hand.new.rows _ _ _
-    (i.fed told) (i.noted told) c.note_hand-hand.ensures.fed counted (search rules) in
-    rw counted_now (on tree t samples o h)
+returns-then-not-branch-clause-noted g c told tree t samples o h = record {
+  seen = (
+      let i = c.loop-planner.invariant in
+      let counted = ap (λ (p : Planned). p.count) c.piece.ensures.is ∙ planned_counts c.loop-planner.planner.gathered in
+      let counted_now = ap (λ (p : Planned). p.count) c.piece-then-not-branch.ensures.is ∙ planned_counts c.note_hand-hand.new.planner.gathered in
+      let on = hand_noted c.args.leaving (g.S.Store.file c.args.store.now)
+      c.args.movie.now c.args.walk.now c.loop-planner.walk _ c.piece.result.count _ c.loop-planner.planner c.note_hand-hand.new.planner c.note_hand-hand.result.stop c.note_hand-hand.result.place c.loop-planner.rows c.note_hand-hand.new.rows _ _ _
+      (i.fed told) (i.noted told) c.note_hand-hand.ensures.fed counted (search rules) in
+      rw counted_now (on tree t samples o h));
+  joined = (
+      let i = c.loop-planner.invariant in
+      let counted_now = ap (λ (p : Planned). p.count) c.piece-then-not-branch.ensures.is ∙ planned_counts c.note_hand-hand.new.planner.gathered in
+      let on = hand_joined c.args.leaving (g.S.Store.file c.args.store.now) c.args.movie.now c.args.walk.now c.loop-planner.walk _ _ c.loop-planner.planner c.note_hand-hand.new.planner c.note_hand-hand.result.stop c.note_hand-hand.result.place _
+      c.args.stretches.now _ _ (i.fed told) (i.joined told)
+      c.note_hand-hand.ensures.fed in
+      rw counted_now (on tree t samples o h));
+}
 
 pub returns-in-Ended-clause-work : goal.returns-in-Ended-clause-work
 returns-in-Ended-clause-work g c told tree t n o h =
@@ -147,38 +165,22 @@ returns-then-not-branch-clause-work g c told tree t n o h =
     let kept = keeps_before file m c.args.walk.now c.loop-planner.walk _ _ (i.takes told) c.note_hand-hand.result.place c.keep.new.self _ c.note_hand-hand.ensures.keeps c.keep.ensures.place c.keep.ensures.work in
     loads_before file m c.args.walk.now c.keep.new.self _ _ kept c.load.new.self _ ((rw (i.honesty, i.file) at c.in_ok-load-in-Empty.ensures.work) told) tree t n o h
 
-pub returns-in-Full-clause-most : goal.returns-in-Full-clause-most
-returns-in-Full-clause-most g c told tree t n o h =
+pub returns-in-Full-clause-work : goal.returns-in-Full-clause-work
+returns-in-Full-clause-work g c told tree t n o h =
     let i = c.loop-planner.invariant in
     let file = g.S.Store.file c.args.store.now in
     let m = c.args.movie.now in
     let kept = keeps_before file m c.args.walk.now c.loop-planner.walk _ _ (i.takes told) c.note_hand-hand.result.place c.keep.new.self _ c.note_hand-hand.ensures.keeps c.keep.ensures.place c.keep.ensures.work in
     most_before file m c.args.walk.now c.keep.new.self _ _ kept tree t n o h
 
-pub returns-in_err-load-in-Empty-clause-most : goal.returns-in_err-load-in-Empty-clause-most
-returns-in_err-load-in-Empty-clause-most g c told tree t n o h =
+pub returns-in_err-load-in-Empty-clause-work : goal.returns-in_err-load-in-Empty-clause-work
+returns-in_err-load-in-Empty-clause-work g c told tree t n o h =
     let p = err_from_is_err_and c.from_residual.result c.from_residual.ensures.1 in
     let i = c.loop-planner.invariant in
     let file = g.S.Store.file c.args.store.now in
     let m = c.args.movie.now in
     let kept = keeps_before file m c.args.walk.now c.loop-planner.walk _ _ (i.takes told) c.note_hand-hand.result.place c.keep.new.self _ c.note_hand-hand.ensures.keeps c.keep.ensures.place c.keep.ensures.work in
-    rw p.1 (fails_before file m c.args.walk.now c.keep.new.self _ _ kept _ ((rw (i.honesty, i.file) at c.in_err-load-in-Empty.ensures.most) told) tree t n o h)
-
-pub returns-in-Ended-clause-joined : goal.returns-in-Ended-clause-joined
-returns-in-Ended-clause-joined g c told tree t samples o h =
-    let i = c.loop-planner.invariant in
-    let counted_now = ap (λ (p : Planned). p.count) c.piece-in-Ended.ensures.is ∙ planned_counts c.note_hand-hand.new.planner.gathered in
-    let on = hand_joined c.args.leaving (g.S.Store.file c.args.store.now) c.args.movie.now c.args.walk.now c.loop-planner.walk _ _ c.loop-planner.planner c.note_hand-hand.new.planner c.note_hand-hand.result.stop c.note_hand-hand.result.place _ c.args.stretches.now _ _ (i.fed told) (i.joined told)
-    c.note_hand-hand.ensures.fed in
-    rw counted_now (on tree t samples o h)
-
-pub returns-then-not-branch-clause-joined : goal.returns-then-not-branch-clause-joined
-returns-then-not-branch-clause-joined g c told tree t samples o h =
-    let i = c.loop-planner.invariant in
-    let counted_now = ap (λ (p : Planned). p.count) c.piece-then-not-branch.ensures.is ∙ planned_counts c.note_hand-hand.new.planner.gathered in
-    let on = hand_joined c.args.leaving (g.S.Store.file c.args.store.now) c.args.movie.now c.args.walk.now c.loop-planner.walk _ _ c.loop-planner.planner c.note_hand-hand.new.planner c.note_hand-hand.result.stop c.note_hand-hand.result.place _ c.args.stretches.now _ _ (i.fed told) (i.joined told)
-    c.note_hand-hand.ensures.fed in
-    rw counted_now (on tree t samples o h)
+    rw p.1 (fails_before file m c.args.walk.now c.keep.new.self _ _ kept _ ((rw (i.honesty, i.file) at c.in_err-load-in-Empty.ensures.work) told) tree t n o h)
 
 pub returns-in-Ended-clause-went : goal.returns-in-Ended-clause-went
 returns-in-Ended-clause-went g c = went_kept c.args.movie.now c.args.walk.now c.loop-planner.walk _ _ c.loop-planner.invariant.went c.note_hand-hand.result.place c.keep.new.self _ c.keep.ensures.place c.keep.ensures.work
@@ -187,4 +189,4 @@ pub returns-then-not-branch-clause-went : goal.returns-then-not-branch-clause-we
 returns-then-not-branch-clause-went g c =
     let m = c.args.movie.now in
     let l = c.in_ok-load-in-Empty.ensures in
-    went_ended m c.args.walk.now c.keep.new.self _ _ (went_kept m c.args.walk.now c.loop-planner.walk _ _ c.loop-planner.invariant.went c.note_hand-hand.result.place c.keep.new.self _ c.keep.ensures.place c.keep.ensures.work) c.load.new.self _ (l.still (search rules)) l.grows
+    went_ended m c.args.walk.now c.keep.new.self _ _ (went_kept m c.args.walk.now c.loop-planner.walk _ _ c.loop-planner.invariant.went c.note_hand-hand.result.place c.keep.new.self _ c.keep.ensures.place c.keep.ensures.work) c.load.new.self _ (l.answer.still (search rules)) l.grows

@@ -26,7 +26,7 @@ returns-in_err-load-clause-unchanged g c told tree t samples o h =
     let p = err_from_is_err_and c.from_residual.result c.from_residual.ensures.1 in
     let i = c.loop-walk.invariant in
     let k = i.coming told tree t samples o h in
-    rw (p.1, p.2) ((rw (i.honesty, i.file) at c.in_err-load.ensures.unchanged) told tree t k.0 k.1 o k.3.0)
+    rw (p.1, p.2) ((rw (i.honesty, i.file) at c.in_err-load.ensures.loaded) told tree t k.0 k.1 o k.3.0)
 
 pub loop-walk-preserved : goal.loop-walk-preserved
 loop-walk-preserved g c =
@@ -34,17 +34,17 @@ loop-walk-preserved g c =
     let e = c.in_ok-load.ensures in
     let is_none : c.loop-walk.next ≡ None = search rules in
     record {
-      walk = e.walk;
-      room = e.room ∙ i.room;
-      honesty = e.honesty ∙ i.honesty;
-      file = e.file ∙ i.file;
-      reads = e.reads ∙ i.reads;
+      walk = e.walk.walk;
+      room = e.walk.room ∙ i.room;
+      honesty = e.store.honesty ∙ i.honesty;
+      file = e.store.file ∙ i.file;
+      reads = e.store.reads ∙ i.reads;
       first = (c.in_hand-in-loop-walk.result, (c.in_hand-in-loop-walk.ensures.hand, c.peek-next-in-loop-walk.ensures));
       coming = λ told tree t samples o h.
           let k = i.coming told tree t samples o h in
           loads_on (g.S.Store.file c.args.store.now) c.args.movie.now tree t c.loop-walk.walk c.load.new.self samples k i.first.0 i.first.1.0 (none_left i.first.0 c.loop-walk.next i.first.1.1 is_none) c.in_ok-load.field-0 c.if-branch.true
           ((rw (i.honesty, i.file) at e.loaded) told tree t k.0 k.1 o k.3.0);
-      went = went_loaded c.args.movie.now c.args.walk.now c.loop-walk.walk _ _ i.went c.load.new.self _ e.mark e.grows (e.next c.if-branch.true).0 (e.holds c.if-branch.true);
+      went = went_loaded c.args.movie.now c.args.walk.now c.loop-walk.walk _ _ i.went c.load.new.self _ e.walk.mark e.grows (e.answer.next c.if-branch.true).0 (e.answer.holds c.if-branch.true);
       takes = λ told. loads_before (g.S.Store.file c.args.store.now) c.args.movie.now c.args.walk.now c.loop-walk.walk _ _ (i.takes told) c.load.new.self _ ((rw (i.honesty, i.file) at e.work) told);
     }
 
@@ -59,7 +59,7 @@ returns-else-branch-clause-coming g c told tree t samples o h =
     let w = c.loop-walk.walk in
     let z = loads_none file c.args.movie.now tree t w c.load.new.self samples k i.first.0 i.first.1.0 none c.in_ok-load.field-0 c.if-branch.false ((rw (i.honesty, i.file) at e.loaded) told tree t k.0 k.1 o k.3.0) in
     let hand_is = hand_none file c.args.movie.now tree t w c.load.new.self samples k i.first.0 i.first.1.0 none in (
-      ends_none file c.args.movie.now tree t w c.load.new.self samples k i.first.0 i.first.1.0 none z ((rw (i.honesty, i.file) at e.ended) told tree t k.0 k.1 k.2 o k.3.0 k.3.1 hand_is c.if-branch.false),
+      ends_none file c.args.movie.now tree t w c.load.new.self samples k i.first.0 i.first.1.0 none z ((rw (i.honesty, i.file) at e.ended) told tree t k.0 k.1 o k.3.0 k.2 k.3.1 hand_is c.if-branch.false),
       is_none ∙ sym (ap (λ ss. slice_get ss 0) z),
     )
 
@@ -69,11 +69,11 @@ returns-after-loop-walk-clause-coming g c told tree t samples o h =
     let k = i.coming told tree t samples o h in
     (k, peeked (g.S.Store.file c.args.store.now) c.args.movie.now tree t c.loop-walk.walk samples k i.first.0 i.first.1.0 c.loop-walk.next i.first.1.1 (search rules))
 
-pub returns-in_err-load-clause-most : goal.returns-in_err-load-clause-most
-returns-in_err-load-clause-most g c told tree t n o h =
+pub returns-in_err-load-clause-work : goal.returns-in_err-load-clause-work
+returns-in_err-load-clause-work g c told tree t n o h =
     let p = err_from_is_err_and c.from_residual.result c.from_residual.ensures.1 in
     let i = c.loop-walk.invariant in
-    rw p.1 (fails_before (g.S.Store.file c.args.store.now) c.args.movie.now c.args.walk.now c.loop-walk.walk _ _ (i.takes told) _ ((rw (i.honesty, i.file) at c.in_err-load.ensures.most) told) tree t n o h)
+    rw p.1 (fails_before (g.S.Store.file c.args.store.now) c.args.movie.now c.args.walk.now c.loop-walk.walk _ _ (i.takes told) _ ((rw (i.honesty, i.file) at c.in_err-load.ensures.work) told) tree t n o h)
 
 pub returns-else-branch-clause-work : goal.returns-else-branch-clause-work
 returns-else-branch-clause-work g c told tree t n o h =
@@ -86,7 +86,7 @@ returns-after-loop-walk-clause-work g c told tree t n o h = c.loop-walk.invarian
 pub returns-else-branch-clause-went : goal.returns-else-branch-clause-went
 returns-else-branch-clause-went g c =
     let e = c.in_ok-load.ensures in
-    went_ended c.args.movie.now c.args.walk.now c.loop-walk.walk _ _ c.loop-walk.invariant.went c.load.new.self _ (e.still c.if-branch.false) e.grows
+    went_ended c.args.movie.now c.args.walk.now c.loop-walk.walk _ _ c.loop-walk.invariant.went c.load.new.self _ (e.answer.still c.if-branch.false) e.grows
 
 pub returns-after-loop-walk-clause-some : goal.returns-after-loop-walk-clause-some
 returns-after-loop-walk-clause-some g c some =

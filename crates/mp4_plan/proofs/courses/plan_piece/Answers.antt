@@ -48,11 +48,11 @@ loop-planner-preserved g c =
     let i = c.loop-planner.invariant in
     let l = c.in_ok-load-in-Empty.ensures in
     record {
-      walk = l.walk;
+      walk = l.walk.walk;
       room = search rules;
-      honesty = l.honesty ∙ i.honesty;
-      file = l.file ∙ i.file;
-      reads = l.reads ∙ i.reads;
+      honesty = l.store.honesty ∙ i.honesty;
+      file = l.store.file ∙ i.file;
+      reads = l.store.reads ∙ i.reads;
       few = c.feed_hand-hand.ensures.few;
       fed = λ told.
           let file = g.S.Store.file c.args.store.now in
@@ -77,7 +77,7 @@ returns-in_err-load-in-Empty-clause-unchanged g c told tree t samples o h few =
     let fed = rw c.in-Empty.is at c.feed_hand-hand.ensures.fed in
     let on = hand_fed c.args.leaving (g.S.Store.file c.args.store.now) c.args.movie.now c.args.walk.now c.loop-planner.walk c.keep.new.self _ _ c.loop-planner.planner c.feed_hand-hand.new.planner c.feed_hand-hand.result.place (i.fed told) fed c.keep.ensures.place in
     let k = (on tree t samples o h).comes.comes in
-    rw (p.1, p.2) ((rw (i.honesty, i.file) at c.in_err-load-in-Empty.ensures.unchanged) told tree t k.0 k.1 o k.3.0)
+    rw (p.1, p.2) ((rw (i.honesty, i.file) at c.in_err-load-in-Empty.ensures.loaded) told tree t k.0 k.1 o k.3.0)
 
 pub returns-in-Full-clause-unchanged : goal.returns-in-Full-clause-unchanged
 returns-in-Full-clause-unchanged g c told tree t samples o h few =
@@ -102,19 +102,19 @@ returns-then-not-branch-clause-work g c told tree t n o h =
     let kept = keeps_before file m c.args.walk.now c.loop-planner.walk _ _ (i.takes told) c.feed_hand-hand.result.place c.keep.new.self _ c.feed_hand-hand.ensures.keeps c.keep.ensures.place c.keep.ensures.work in
     loads_before file m c.args.walk.now c.keep.new.self _ _ kept c.load.new.self _ ((rw (i.honesty, i.file) at c.in_ok-load-in-Empty.ensures.work) told) tree t n o h
 
-pub returns-in-Full-clause-most : goal.returns-in-Full-clause-most
-returns-in-Full-clause-most g c told tree t n o h =
+pub returns-in-Full-clause-work : goal.returns-in-Full-clause-work
+returns-in-Full-clause-work g c told tree t n o h =
     let i = c.loop-planner.invariant in
     let file = g.S.Store.file c.args.store.now in
     let m = c.args.movie.now in
     let kept = keeps_before file m c.args.walk.now c.loop-planner.walk _ _ (i.takes told) c.feed_hand-hand.result.place c.keep.new.self _ c.feed_hand-hand.ensures.keeps c.keep.ensures.place c.keep.ensures.work in
     most_before file m c.args.walk.now c.keep.new.self _ _ kept tree t n o h
 
-pub returns-in_err-load-in-Empty-clause-most : goal.returns-in_err-load-in-Empty-clause-most
-returns-in_err-load-in-Empty-clause-most g c told tree t n o h =
+pub returns-in_err-load-in-Empty-clause-work : goal.returns-in_err-load-in-Empty-clause-work
+returns-in_err-load-in-Empty-clause-work g c told tree t n o h =
     let p = err_from_is_err_and c.from_residual.result c.from_residual.ensures.1 in
     let i = c.loop-planner.invariant in
     let file = g.S.Store.file c.args.store.now in
     let m = c.args.movie.now in
     let kept = keeps_before file m c.args.walk.now c.loop-planner.walk _ _ (i.takes told) c.feed_hand-hand.result.place c.keep.new.self _ c.feed_hand-hand.ensures.keeps c.keep.ensures.place c.keep.ensures.work in
-    rw p.1 (fails_before file m c.args.walk.now c.keep.new.self _ _ kept _ ((rw (i.honesty, i.file) at c.in_err-load-in-Empty.ensures.most) told) tree t n o h)
+    rw p.1 (fails_before file m c.args.walk.now c.keep.new.self _ _ kept _ ((rw (i.honesty, i.file) at c.in_err-load-in-Empty.ensures.work) told) tree t n o h)

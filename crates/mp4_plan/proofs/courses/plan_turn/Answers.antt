@@ -29,34 +29,34 @@ returns-in_err-planned-clause-unchanged g c told tree t samples o h few =
     let e = err_from_is_err_and c.from_residual.result c.from_residual.ensures.1 in
     rw (e.1, e.2) (c.in_err-planned.ensures.unchanged told tree t samples o h few)
 
-pub returns-in_err-planned-clause-most : goal.returns-in_err-planned-clause-most
-returns-in_err-planned-clause-most g c told tree t n o h =
+pub returns-in_err-planned-clause-work : goal.returns-in_err-planned-clause-work
+returns-in_err-planned-clause-work g c told tree t n o h =
     let e = err_from_is_err_and c.from_residual.result c.from_residual.ensures.1 in
-    rw e.1 (c.in_err-planned.ensures.most told tree t n o h)
+    rw e.1 (c.in_err-planned.ensures.work told tree t n o h)
 
 pub returns-in_err-next-clause-unchanged : goal.returns-in_err-next-clause-unchanged
 returns-in_err-next-clause-unchanged g c told tree t samples o h few =
     let e = err_from_is_err_and c.from_residual-in_err-next.result c.from_residual-in_err-next.ensures.1 in
     let p = c.in_ok-planned.ensures in
     let planned = p.planned told tree t samples o h in
-    rw (e.1, e.2) ((rw (p.honesty, p.file) at c.in_err-next.ensures.unchanged) told tree t (samples_after (piece_from c.args.end) samples) o planned.1)
+    rw (e.1, e.2) ((rw (p.store.honesty, p.store.file) at c.in_err-next.ensures.unchanged) told tree t (samples_after (piece_from c.args.end) samples) o planned.1)
 
-pub returns-in_err-next-clause-most : goal.returns-in_err-next-clause-most
-returns-in_err-next-clause-most g c told tree t n o h =
+pub returns-in_err-next-clause-work : goal.returns-in_err-next-clause-work
+returns-in_err-next-clause-work g c told tree t n o h =
     let e = err_from_is_err_and c.from_residual-in_err-next.result c.from_residual-in_err-next.ensures.1 in
     let p = c.in_ok-planned.ensures in
     let file = g.S.Store.file c.args.store.now in
-    rw e.1 (then_stops file tree t n _ c.plan_piece.new.walk _ _ (p.work told tree t n o h) (λ left more. (rw (p.honesty, p.file) at c.in_err-next.ensures.most) told tree t left o more))
+    rw e.1 (then_stops file tree t n _ c.plan_piece.new.walk _ _ (p.work told tree t n o h) (λ left more. (rw (p.store.honesty, p.store.file) at c.in_err-next.ensures.work) told tree t left o more))
 
 pub returns-clause-planned : goal.returns-clause-planned
 returns-clause-planned g c told tree t samples o h first =
     let p = c.in_ok-planned.ensures in
     let planned = p.planned told tree t samples o h in
-    let next = (rw (p.honesty, p.file) at c.in_ok-next.ensures.coming) told tree t (samples_after (piece_from c.args.end) samples) o planned.1 in
+    let next = (rw (p.store.honesty, p.store.file) at c.in_ok-next.ensures.coming) told tree t (samples_after (piece_from c.args.end) samples) o planned.1 in
     (planned.0, next.0, next.1)
 
 pub returns-clause-work : goal.returns-clause-work
 returns-clause-work g c told tree t n o h =
     let p = c.in_ok-planned.ensures in
     let file = g.S.Store.file c.args.store.now in
-    then_takes file tree t n _ c.plan_piece.new.walk c.next_sample.new.walk _ _ (p.work told tree t n o h) (λ left more. (rw (p.honesty, p.file) at c.in_ok-next.ensures.work) told tree t left o more)
+    then_takes file tree t n _ c.plan_piece.new.walk c.next_sample.new.walk _ _ (p.work told tree t n o h) (λ left more. (rw (p.store.honesty, p.store.file) at c.in_ok-next.ensures.work) told tree t left o more)

@@ -1,4 +1,4 @@
-use Rattle.std.proofs.Common.{Some, ◌∙◌, refl, ap, [], ◌∷◌, ◌++◌, length, rules, arith}
+use Rattle.std.proofs.Common.{Some, ◌∙◌, refl, ap, [], ◌∷◌, ◌++◌, length, length-append, rules, arith}
 use Rattle.std.specs.Prelude.{flat_map}
 use Rattle.mp4_present.proofs.Carrying.{BytesGoOn-nothing, BytesGoOn-then}
 use Rattle.mp4_tables.specs.format.Groups.{GroupKey}
@@ -6,6 +6,7 @@ use Rattle.mp4_tables.specs.words.Keys.{key_seen, keys_seen}
 use Rattle.mp4_plan.specs.format.Normal.{in_key_order}
 use Rattle.mp4_plan.specs.words.UsedKeys.{used_from, place_at, group_bytes}
 use Rattle.mp4_plan.proofs.NextKeys.{all_to_come, few_used, used_apart, found_first, none_above, place_is, key_written, keys_written, one_less, none_left}
+use Rattle.mp4_plan.proofs.PiecesPut.{groups_more}
 use Rattle.mp4_plan.proofs.Pushes.{goes_on_as}
 use Rattle.std.proofs.lemmas.Result.{err_from_is_err_and}
 use Rattle.std.proofs.Common.{sym}
@@ -21,7 +22,7 @@ loop-key-init g c =
     let keys = keys_seen c.args.keys.now in
     let order = in_key_order (used_from c.args.planned.now.group_rows 0 keys) in
     let all = all_to_come order in
-    (refl, refl, λ apart. ([], BytesGoOn-nothing _ _, all, (let few = few_used c.args.planned.now.group_rows keys in let same = ap length all in omega (arith, few, same))))
+    (refl, refl, λ apart. ([], BytesGoOn-nothing _ _, all, (let few = few_used c.args.planned.now.group_rows keys in let same = ap length all in omega (arith, few, same))), ([], omega arith, omega arith, BytesGoOn-nothing _ _))
 
 pub loop-key-preserved : goal.loop-key-preserved
 loop-key-preserved g c =
@@ -43,6 +44,15 @@ loop-key-preserved g c =
                 (next.0 ∙ ap (λ p. flat_map f (i.2 apart).0 ++ group_bytes c.args.rows.now c.args.planned.now p key) place),
             next.1,
             one_less order c.loop-key.behind key c.loop-key._key (length keys) found (i.2 apart).3,
+          ),
+      let some = i.3 in
+          let own = some.1 in
+          let test = c.loop-key-test.true in
+          let most = c.count-key-end.ensures.few in (
+            some.0 ++ (c.in-Some.used.place, key) ∷ [],
+            omega (arith, own, length-append some.0 ((c.in-Some.used.place, key) ∷ [])),
+            omega (arith, own, test, most, length-append some.0 ((c.in-Some.used.place, key) ∷ [])),
+            groups_more c.args.rows.now c.args.planned.now some.0 c.in-Some.used.place key _ _ _ _ _ _ some.3 c.in_ok-carry_group.ensures.bytes,
           ),
     )
 
@@ -81,3 +91,9 @@ returns-in_err-carry_group-clause-prefix g c =
     let place = place_is keys c.in-Some.used.place key apart c.in-Some.ensures.place.1 in
     stopped_at _ _ _ _ _ (flat_map f done) (group_bytes c.args.rows.now c.args.planned.now c.in-Some.used.place key) (flat_map f (done ++ key ∷ [])) (flat_map f later) (flat_map f order) (i.2 apart).1 c.in_err-carry_group.ensures.prefix
     (next.0 ∙ ap (λ q. flat_map f done ++ group_bytes c.args.rows.now c.args.planned.now q key) place) (ap (flat_map f) (sym next.1) ∙ flat_map-append f (done ++ key ∷ []) later))
+
+pub returns-in_default-clause-some : goal.returns-in_default-clause-some
+returns-in_default-clause-some g c = let some = c.loop-key.invariant.3 in (some.0, some.2, some.3)
+
+pub returns-clause-some : goal.returns-clause-some
+returns-clause-some g c = let some = c.loop-key.invariant.3 in (some.0, some.2, some.3)

@@ -1,10 +1,10 @@
 use Rattle.std.specs.Prelude.{vec_len, flat_map, filter}
-use Rattle.std.proofs.Common.{◌≡◌, ◌+◌, ◌≤◌, List, ◌++◌, length}
+use Rattle.std.proofs.Common.{◌≡◌, ℕ, ◌+◌, ◌≤◌, List, ◌++◌, length}
 use Rattle.mp4_tables.specs.format.Groups.{GroupKey}
 use Rattle.mp4_tables.specs.words.Keys.{keys_seen}
 use Rattle.mp4_present.specs.words.Carried.{BytesGoOn, waiting}
 use Rattle.mp4_plan.specs.format.Normal.{in_key_order}
-use Rattle.mp4_plan.specs.words.UsedKeys.{AreApart, is_above, used_from, place_at, group_bytes}
+use Rattle.mp4_plan.specs.words.UsedKeys.{AreApart, is_above, used_from, place_at, group_bytes, some_groups}
 use Rattle.mp4_plan.proofs.moof_rows.carry_groups.Given as goal
 
 -- the groups of the first keys are written, and those above the last are to come
@@ -18,3 +18,5 @@ invariant-loop-key g l =
     × BytesGoOn (g.K.Sink.contents l.fn.sink) (g.K.Sink.contents l.sink) (waiting l.fn.carrier) (waiting l.carrier) (flat_map (λ key. group_bytes l.rows l.planned (place_at keys key) key) done)
     × (done ++ filter (is_above l.behind) order ≡ order)
     × (length (filter (is_above l.behind) order) + l._key ≤ length keys))
+    × ((used : List (ℕ × GroupKey)) × (length used ≤ l._key) × (length used ≤ 4)
+    × BytesGoOn (g.K.Sink.contents l.fn.sink) (g.K.Sink.contents l.sink) (waiting l.fn.carrier) (waiting l.carrier) (some_groups l.rows l.planned used))

@@ -40,13 +40,13 @@ loop-k-preserved g c =
     let inside : k < length walks = omega (arith, lt, many) in
     let within : k < length c.loop-k.nexts = omega (arith, inside, each) in
     record {
-      walks = walks_set m walks k now i.walks e.walk;
+      walks = walks_set m walks k now i.walks e.walk.walk;
       nexts = search rules;
       many = search rules;
-      rooms = rooms_set walks k now c.index-walks-k.result inside e.room ∙ i.rooms;
-      honesty = e.honesty ∙ i.honesty;
-      file = e.file ∙ i.file;
-      reads = e.reads ∙ i.reads;
+      rooms = rooms_set walks k now c.index-walks-k.result inside e.walk.room ∙ i.rooms;
+      honesty = e.store.honesty ∙ i.honesty;
+      file = e.store.file ∙ i.file;
+      reads = e.store.reads ∙ i.reads;
       shown = λ told tree o lefts h.
           let was = i.shown told tree o lefts h in
           let r = comes_there c.args.leaving file tree m walks lefts k c.index-walks-k.result was.0 inside in
@@ -71,8 +71,8 @@ returns-in_err-nexts-clause-unchanged g c told tree o lefts h =
     let r = comes_there c.args.leaving (g.S.Store.file c.args.store.now) tree c.args.movie.now c.loop-k.walks lefts c.loop-k.k c.index-walks-k.result was.0 (omega (arith, lt, many)) in
     rw (p.1, p.2) ((rw (i.honesty, i.file) at c.in_err-nexts.ensures.unchanged) told tree r.t r.left o r.comes)
 
-pub returns-in_err-nexts-clause-most : goal.returns-in_err-nexts-clause-most
-returns-in_err-nexts-clause-most g c told tree o n h =
+pub returns-in_err-nexts-clause-work : goal.returns-in_err-nexts-clause-work
+returns-in_err-nexts-clause-work g c told tree o n h =
     let p = err_from_is_err_and c.from_residual.result c.from_residual.ensures.1 in
     let i = c.loop-k.invariant in
     let file = g.S.Store.file c.args.store.now in
@@ -80,7 +80,7 @@ returns-in_err-nexts-clause-most g c told tree o n h =
     let lt = c.loop-k-test.true in
     let many = i.many in
     rw p.1 (all_then_stop file tree walks n _ _ _ (i.takes told tree o n h) (λ rest may. one_stops file tree tree.movie.tracks walks c.loop-k.k _ rest _ _ may (slice_get-get_or walks c.loop-k.k c.index-walks-k.result (omega (arith, lt, many))) (λ t own own_may.
-    (rw (i.honesty, i.file) at c.in_err-nexts.ensures.most) told tree t own o own_may)))
+    (rw (i.honesty, i.file) at c.in_err-nexts.ensures.work) told tree t own o own_may)))
 
 pub returns-clause-shown : goal.returns-clause-shown
 returns-clause-shown g c told tree o lefts h =
@@ -92,8 +92,8 @@ returns-clause-shown g c told tree o lefts h =
     let all = come_length c.args.leaving (g.S.Store.file c.args.store.now) tree c.args.movie.now tree.movie.tracks c.loop-k.walks lefts was.0 in
     (noted_all c.loop-k.nexts lefts c.loop-k.k was.1 (omega (arith, last, many, each)) (omega (arith, last, many, all)), was.0)
 
-pub returns-in_err-nexts-clause-writes_most : goal.returns-in_err-nexts-clause-writes_most
-returns-in_err-nexts-clause-writes_most g c told tree o n h =
+pub returns-in_err-nexts-clause-writes : goal.returns-in_err-nexts-clause-writes
+returns-in_err-nexts-clause-writes g c told tree o n h =
     let p = err_from_is_err_and c.from_residual.result c.from_residual.ensures.1 in
     let i = c.loop-k.invariant in
     let file = g.S.Store.file c.args.store.now in
@@ -102,4 +102,4 @@ returns-in_err-nexts-clause-writes_most g c told tree o n h =
     let lt = c.loop-k-test.true in
     let many = i.many in
     rw p.1 (write_then_stop file tree m walks n _ _ _ (i.writes told tree o n h) (λ rest may. one_ends (MayWrite file tree m) tree.movie.tracks walks c.loop-k.k _ rest _ _ may (slice_get-get_or walks c.loop-k.k c.index-walks-k.result (omega (arith, lt, many)))
-    (λ t own own_may. (let most = (rw (i.honesty, i.file) at c.in_err-nexts.ensures.most) told tree t own_may.own o own_may.may in let sum = own_may.sum in omega (arith, most, sum)))))
+    (λ t own own_may. (let most = (rw (i.honesty, i.file) at c.in_err-nexts.ensures.work) told tree t own_may.own o own_may.may in let sum = own_may.sum in omega (arith, most, sum)))))

@@ -8,7 +8,7 @@ pub returns-clause-length : goal.returns-clause-length
 returns-clause-length g c told tree o =
     let file = g.S.Store.file c.args.store.now in
     let mehd = movie_length (reduce c.args.leaving (presentation_of file tree)) in
-    less_long _ c.in_ok-head.head mehd c.in_ok-plan.plan c.head_len.result c.min.result c.saturating_add.result (c.in_ok-head.ensures.left file tree o) (c.in_ok-plan.ensures.plan told tree o) (c.head_len.ensures.length mehd) c.min.ensures c.saturating_add.ensures
+    less_long _ c.in_ok-head.head mehd c.in_ok-len.len c.head_len.result c.min.result c.saturating_add.result (c.in_ok-head.ensures.left file tree o) (c.in_ok-len.ensures.length told tree o) (c.head_len.ensures.length mehd) c.min.ensures c.saturating_add.ensures
 
 pub returns-clause-in_time : goal.returns-clause-in_time
 returns-clause-in_time g c told tree o = (c.in_ok-length_left.ensures.left (g.S.Store.file c.args.store.now) tree o).0

@@ -1,7 +1,7 @@
 use Rattle.std.proofs.Common.{rules, ◌<◌, [], ◌∷◌, length}
 use Rattle.mp4_present.specs.words.Movies.{IsWalkOf}
 use Rattle.mp4_plan.proofs.Filters.{all_append}
-use Rattle.mp4_plan.proofs.Planning.{one_room, one_begins, all_begin, one_marked, all_marked, first_marked}
+use Rattle.mp4_plan.proofs.Planning.{one_room, one_within, one_begins, all_begin, one_marked, all_marked, first_marked}
 use Rattle.mp4_plan.proofs.AllTake.{one_to_take, all_to_take, one_to_write, all_to_write}
 use Rattle.mp4_plan.proofs.writer.walks_of.Goals as goal
 
@@ -15,7 +15,7 @@ loop-track-preserved c =
     rw c.in_ok-push.ensures.items (
       all_append (IsWalkOf m) c.loop-track.walks.items (walk ∷ []) i.0 (e.walk, tt),
       search rules,
-      one_room c.loop-track.walks.items walk c.loop-track.track m.longest i.2 e.room,
+      (one_room m c.loop-track.track c.loop-track.walks.items walk i.2.0 e.room, one_within c.loop-track.walks.items walk c.loop-track.track m.longest i.2.1 e.within),
       one_begins m c.loop-track.track c.loop-track.walks.items walk i.3 i.1 lt (λ file tree t o. e.coming file tree t o),
       one_to_take m c.loop-track.track c.loop-track.walks.items walk i.4 i.1 lt (λ file tree t o. e.may file tree t o),
       one_marked m c.loop-track.track c.loop-track.walks.items walk i.5 lt e.mark,

@@ -1,4 +1,4 @@
-use Rattle.std.proofs.Common.{arith, subst}
+use Rattle.std.proofs.Common.{◌++◌, arith, refl, subst}
 use Rattle.std.proofs.lemmas.Result.{err_from_is_err_and}
 use Rattle.std.specs.Io.KnownBytes.{Appends}
 use Rattle.std.specs.Prelude.{OnOk, OnErr}
@@ -7,6 +7,8 @@ use Rattle.mp4_store.proofs.Known.{AppendsPrefix-nothing}
 use Rattle.mp4_present.specs.format.Denotes.{presentation_of}
 use Rattle.mp4_present.specs.declared.leaving.Leaving.{Leaving}
 use Rattle.mp4_present.specs.format.Reduced.{ReducesInTime, reduce}
+use Rattle.mp4_present.specs.words.Carried.{waiting}
+use Rattle.mp4_present.proofs.WalkCopied.{on_ok}
 use Rattle.mp4_plan.specs.format.Normal.{normal}
 use Rattle.mp4_plan.specs.words.Writers.{IsReady}
 use Rattle.mp4_plan.proofs.AllPut.{still_opened}
@@ -21,38 +23,46 @@ returns-in_err-writer-clause-prefix g c = λ told tree o.
 pub returns-clause-bytes : goal.returns-clause-bytes
 returns-clause-bytes g c = λ told tree o.
     let bytes = still_opened _ _ _ _ c.args.movie.now (λ file t. IsReady file t c.args.movie.now c.in_ok-writer.writer → OnOk c.write.result (Appends (g.K.Sink.contents c.args.sink.now) (g.K.Sink.contents c.write.new.sink) (normal (reduce c.in_ok-writer.writer.leaving (presentation_of file t)))))
-    c.in_ok-writer.ensures.honesty c.in_ok-writer.ensures.file c.write.ensures.bytes in
+    c.in_ok-writer.ensures.store.honesty c.in_ok-writer.ensures.store.file c.write.ensures.bytes in
     subst (λ (l : Leaving). OnOk c.write.result (Appends (g.K.Sink.contents c.args.sink.now) (g.K.Sink.contents c.write.new.sink) (normal (reduce l (presentation_of (g.S.Store.file c.args.store.now) tree)))))
-    c.in_ok-writer.ensures.left (bytes told tree o (c.in_ok-writer.ensures.ready told tree o))
+    c.in_ok-writer.ensures.made.left (bytes told tree o (c.in_ok-writer.ensures.ready told tree o))
 
 pub returns-clause-prefix : goal.returns-clause-prefix
 returns-clause-prefix g c = λ told tree o.
     let prefix = still_opened _ _ _ _ c.args.movie.now (λ file t. IsReady file t c.args.movie.now c.in_ok-writer.writer
     → OnErr c.write.result (AppendsPrefix (g.K.Sink.contents c.args.sink.now) (g.K.Sink.contents c.write.new.sink) (normal (reduce c.in_ok-writer.writer.leaving (presentation_of file t)))))
-    c.in_ok-writer.ensures.honesty c.in_ok-writer.ensures.file c.write.ensures.prefix in
+    c.in_ok-writer.ensures.store.honesty c.in_ok-writer.ensures.store.file c.write.ensures.prefix in
     subst (λ (l : Leaving). OnErr c.write.result (AppendsPrefix (g.K.Sink.contents c.args.sink.now) (g.K.Sink.contents c.write.new.sink) (normal (reduce l (presentation_of (g.S.Store.file c.args.store.now) tree)))))
-    c.in_ok-writer.ensures.left (prefix told tree o (c.in_ok-writer.ensures.ready told tree o))
+    c.in_ok-writer.ensures.made.left (prefix told tree o (c.in_ok-writer.ensures.ready told tree o))
+
+pub returns-clause-whole : goal.returns-clause-whole
+returns-clause-whole g c = on_ok _ _ c.write.result (λ x. (waiting c.in_ok-writer.writer.carrier ++ c.in_ok-writer.writer.head.items, x)) c.write.ensures.whole
 
 pub returns-clause-unchanged : goal.returns-clause-unchanged
 returns-clause-unchanged g c = λ told tree o.
-    let unchanged = rw (c.in_ok-writer.ensures.honesty, c.in_ok-writer.ensures.file) at c.write.ensures.unchanged in
+    let unchanged = rw (c.in_ok-writer.ensures.store.honesty, c.in_ok-writer.ensures.store.file) at c.write.ensures.unchanged in
     unchanged told tree o (c.in_ok-writer.ensures.ready told tree o)
 
 pub returns-clause-work : goal.returns-clause-work
 returns-clause-work g c = λ told tree o.
-    let work = rw (c.in_ok-writer.ensures.honesty, c.in_ok-writer.ensures.file) at c.write.ensures.work in
+    let work = rw (c.in_ok-writer.ensures.store.honesty, c.in_ok-writer.ensures.store.file) at c.write.ensures.work in
     let plan = c.in_ok-writer.ensures.work told tree o in
     let may = c.in_ok-writer.ensures.may told tree o in
     let writing = may.2 in
     let own = work told tree o may.0 may.1 in
     omega (arith, plan, writing, own)
 
-pub returns-clause-in_time : goal.returns-clause-in_time
-returns-clause-in_time g c = λ told tree o.
-    so_if_ok c.write.result (ReducesInTime c.args.leaving (presentation_of (g.S.Store.file c.args.store.now) tree)) (c.in_ok-writer.ensures.in_time told tree o)
+pub returns-in_err-writer-clause-long : goal.returns-in_err-writer-clause-long
+returns-in_err-writer-clause-long g c = λ told tree o.
+    let p = err_from_is_err_and c.from_residual.result c.from_residual.ensures.1 in
+    rw (p.1, p.2) (record { in_time = tt; fault = c.in_err-writer.ensures.fault told tree o; nothing = λ long. refl })
 
-pub returns-clause-fault : goal.returns-clause-fault
-returns-clause-fault g c = λ told tree o. carried_names c.args.leaving (g.S.Store.file c.args.store.now) tree c.write.result _ _ _ _ c.write.ensures.refusal
-
-pub returns-clause-nothing : goal.returns-clause-nothing
-returns-clause-nothing g c = λ told tree o long. absurd (long (c.in_ok-writer.ensures.in_time told tree o))
+pub returns-clause-long : goal.returns-clause-long
+returns-clause-long g c = λ told tree o.
+    let file = g.S.Store.file c.args.store.now in
+    let in_time = c.in_ok-writer.ensures.in_time told tree o in
+    record {
+      in_time = so_if_ok c.write.result (ReducesInTime c.args.leaving (presentation_of file tree)) in_time;
+      fault = carried_names c.args.leaving file tree c.write.result _ _ _ _ c.write.ensures.refusal;
+      nothing = λ long. absurd (long in_time);
+    }

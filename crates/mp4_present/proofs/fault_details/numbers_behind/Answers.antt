@@ -1,4 +1,4 @@
-use Rattle.std.proofs.Common.{◌≡◌, List, map, true, subst, sym, ap, rules}
+use Rattle.std.proofs.Common.{◌≡◌, List, length, map, true, subst, sym, ap, rules}
 use Rattle.std.specs.Prelude.{IsTrue}
 use Rattle.mp4_boxes.specs.format.Bytes.{AreBytes}
 use Rattle.mp4_boxes.specs.format.Box.{Box}
@@ -9,6 +9,7 @@ use Rattle.mp4_present.specs.words.PassedMoofs.{IsBegun}
 use Rattle.mp4_present.proofs.Assembled.{begun}
 use Rattle.mp4_present.proofs.FaultGaps.{some_so}
 use Rattle.mp4_present.proofs.GapsTold.{tells_plain}
+use Rattle.mp4_present.proofs.LooksCounted.{looks_open}
 use Rattle.mp4_boxes.specs.words.View.{box_seen}
 use Rattle.mp4_frag.specs.declared.trex.Trex.{Trex}
 use Rattle.mp4_head.specs.format.Head.{Head}
@@ -83,3 +84,29 @@ returns-clause-told g c =
 
 pub returns-in-Some-clause-told : goal.returns-in-Some-clause-told
 returns-in-Some-clause-told g c = λ told. tells_plain (g.S.Store.file c.args.store.now) _ c.args.fault.now.offset c.in-Some.told c.len.ensures c.in-Some.ensures
+
+pub returns-in_err-told-clause-looks : goal.returns-in_err-told-clause-looks
+returns-in_err-told-clause-looks g c =
+    let honest = g.S.Store.is_honest c.args.store.now in
+    let file = g.S.Store.file c.args.store.now in
+    let outline = c.args.outline.now in
+    let moov = c.args.moov.now in
+    let b = box_seen c.view-view.result in
+    let r : IsRead honest file outline moov b = record { outline = c.requires.outline; is = c.view-view.ensures; fills = c.requires.fills; bytes = c.requires.bytes } in
+    let head = c.in_ok-head.head in
+    let says = c.in_ok-head.ensures.head in
+    let many : length c.in_ok-plain.plain.states.items ≡ length head.tracks.items = search rules in
+    λ told. looks_open honest file outline moov b head r says told _ _ (rw many at (c.in_err-told.ensures.looks told))
+
+pub returns-clause-looks : goal.returns-clause-looks
+returns-clause-looks g c =
+    let honest = g.S.Store.is_honest c.args.store.now in
+    let file = g.S.Store.file c.args.store.now in
+    let outline = c.args.outline.now in
+    let moov = c.args.moov.now in
+    let b = box_seen c.view-view.result in
+    let r : IsRead honest file outline moov b = record { outline = c.requires.outline; is = c.view-view.ensures; fills = c.requires.fills; bytes = c.requires.bytes } in
+    let head = c.in_ok-head.head in
+    let says = c.in_ok-head.ensures.head in
+    let many : length c.in_ok-plain.plain.states.items ≡ length head.tracks.items = search rules in
+    λ told. looks_open honest file outline moov b head r says told _ _ (rw many at (c.in_ok-told.ensures.looks told))

@@ -25,7 +25,7 @@ returns-clause-told g c =
     let whole = c.args.plain.now.room in
     let old : c.args.plain.now.states.items ≡ start = search rules in
     let passed = c.in_ok-reached.ensures in
-    let len_is : c.len-file_len.result ≡ length file = c.len-file_len.ensures ∙ ap length (c.in_ok-len.ensures.file ∙ passed.file) in
+    let len_is : c.len-file_len.result ≡ length file = c.len-file_len.ensures ∙ ap length (c.in_ok-len.ensures.file ∙ passed.store.file) in
     let next = rw c.in-Some.is at passed.next in
     some_so (λ (n : FaultNumbers). FindsIn c.len-file_len.result m states reached.room place n)
     (λ (n : FaultNumbers). IsTrue honest → (movie : MovieTree) (boxes : List Box) → IsBegun file movie boxes c.args.plain.now.states.items whole → Tells file place n)
@@ -36,9 +36,9 @@ returns-clause-told g c =
       is = refl;
       fills = c.in_ok-len.ensures.fills.0;
       within = c.in_ok-len.ensures.fills.1;
-      read = (rw (passed.honesty, passed.file) at c.in_ok-len.ensures.bytes) told;
+      read = (rw (passed.store.honesty, passed.store.file) at c.in_ok-len.ensures.bytes) told;
       of_bytes = c.in_ok-len.ensures.room;
     } in
-    tells_gap file movie boxes start states whole c.len-file_len.result begun reached (next told movie boxes begun) len_is place n
+    tells_gap file movie boxes start states whole c.len-file_len.result begun reached ((next told).next movie boxes begun) len_is place n
     (subst (λ (x : Box). FindsIn c.len-file_len.result x states reached.room place n) (read_is file reached.moof m bytes c.in_ok-len.len r) f))
     c.in_ok-told.ensures.finds

@@ -1,9 +1,10 @@
-use Rattle.std.proofs.Common.{◌≡◌, rules, length, refl, subst, ℕ}
+use Rattle.std.proofs.Common.{◌≡◌, ◌+◌, ◌≤◌, rules, arith, length, refl, subst, ℕ}
 use Rattle.std.specs.Prelude.{unwrap_or}
 use Rattle.std.proofs.lemmas.Result.{err_from_is_err_and}
 use Rattle.mp4_boxes.specs.words.View.{box_seen}
 use Rattle.mp4_present.proofs.FaultGaps.{not_found, not_read, left_before}
 use Rattle.mp4_present.proofs.FragmentPass.{Left, left_first, left_next}
+use Rattle.mp4_present.proofs.LooksCounted.{none_looked, all_looked, looks_before, next_looks, refused_looks}
 use Rattle.mp4_present.proofs.MoofBytes.{none_fit, next_fits, all_fit, refused_fits}
 use Rattle.mp4_present.proofs.MoofsPassed.{IsUnderWay, IsRead, under_way_first, stands_next, next_passed}
 use Rattle.mp4_present.proofs.fault_gaps.pass_until.Goals as goal
@@ -28,7 +29,8 @@ loop-top-init g c = record {
       let outline = c.args.outline.now in
       let next : unwrap_or outline.fragments (length file) ≡ c.unwrap_or-next.result = search rules in
       subst (λ (k : ℕ). IsUnderWay file movie boxes k outline.longest c.args.states.now c.args.room) next (under_way_first file movie boxes o.0 outline c.args.states.now c.args.room o.1 o.3 b);
-  fit = λ told. none_fit _ _ _ _ c.requires.few;
+  looks = λ told. none_looked _ _ _ _;
+  fit = λ told. none_fit _ _ _ _ c.requires.room.0;
 }
 
 pub returns-in_err-top-clause-refusal : goal.returns-in_err-top-clause-refusal
@@ -41,41 +43,6 @@ returns-in_err-top-clause-refusal g c =
 
 pub returns-in_err-top-clause-within : goal.returns-in_err-top-clause-within
 returns-in_err-top-clause-within g c = λ told. all_fit _ _ _ _ _ (c.loop-top.invariant.fit told)
-
-pub returns-then-place-top-clause-reached : goal.returns-then-place-top-clause-reached
-returns-then-place-top-clause-reached g c =
-    let i = c.loop-top.invariant in
-    let within = rw (i.file, c.in-Some.is) at c.in_ok-top.ensures.within in
-    record { whole = within.0; few = i.few }
-
-pub returns-then-place-top-clause-fits : goal.returns-then-place-top-clause-fits
-returns-then-place-top-clause-fits g c =
-    let i = c.loop-top.invariant in
-    let file = g.S.Store.file c.args.store.now in
-    let next = rw (i.honesty, i.file, c.in-Some.is) at c.in_ok-top.ensures.next in
-    let within = rw (i.file, c.in-Some.is) at c.in_ok-top.ensures.within in
-    λ told. let l = i.left told in rw c.requires.longest (left_next file _ _ c.in-Some.top l within.0 (next told l.boxes l.are_from)).short
-
-pub returns-then-place-top-clause-next : goal.returns-then-place-top-clause-next
-returns-then-place-top-clause-next g c =
-    let i = c.loop-top.invariant in
-    let file = g.S.Store.file c.args.store.now in
-    let next = rw (i.honesty, i.file, c.in-Some.is) at c.in_ok-top.ensures.next in
-    let within = rw (i.file, c.in-Some.is) at c.in_ok-top.ensures.within in
-    λ told movie boxes b.
-    let u = i.so told movie boxes b in
-    record {
-      earlier = u.fragments;
-      before = _;
-      next = stands_next file movie boxes c.loop-top.next c.args.outline.now.longest c.args.states.now c.loop-top.states c.args.room c.loop-top.room b u c.in-Some.top within.0 (next told u.left.boxes u.left.are_from);
-      behind = u.behind;
-    }
-
-pub returns-then-place-top-clause-left : goal.returns-then-place-top-clause-left
-returns-then-place-top-clause-left g c =
-    let i = c.loop-top.invariant in
-    let within = rw (i.file, c.in-Some.is) at c.in_ok-top.ensures.within in
-    λ told. left_before _ _ _ _ _ _ within.1 (i.fit told)
 
 pub returns-then-place-top-clause-within : goal.returns-then-place-top-clause-within
 returns-then-place-top-clause-within g c = λ told. all_fit _ _ _ _ _ (c.loop-top.invariant.fit told)
@@ -107,7 +74,7 @@ returns-in_err-check_moof-clause-within g c =
       read = (rw (c.in_ok-top.ensures.honesty, i.honesty, c.in_ok-top.ensures.file, i.file) at c.in_ok-len.ensures.bytes) told;
       of_bytes = c.in_ok-len.ensures.room;
     } in
-    refused_fits file c.loop-top.next c.in-Some.top within.0 within.1 (box_seen c.view-moof.result) c.read_payload.new.room c.in_ok-len.len r _ _ _ _ c.check_moof.ensures.work (i.fit told)
+    refused_fits file c.loop-top.next c.in-Some.top within.0 within.1 (box_seen c.view-moof.result) c.read_payload.new.room c.in_ok-len.len r _ _ _ _ c.check_moof.ensures.work.most (i.fit told)
 
 pub loop-top-preserved : goal.loop-top-preserved
 loop-top-preserved g c =
@@ -115,6 +82,7 @@ loop-top-preserved g c =
     let file = g.S.Store.file c.args.store.now in
     let next = rw (i.honesty, i.file, c.in-Some.is) at c.in_ok-top.ensures.next in
     let within = rw (i.file, c.in-Some.is) at c.in_ok-top.ensures.within in
+    let many : length c.loop-top.states ≡ length c.args.states.now = search rules in
     record {
       honesty = search rules;
       file = search rules;
@@ -135,6 +103,17 @@ loop-top-preserved g c =
           next_passed file movie boxes c.loop-top.next c.args.outline.now.longest c.args.states.now c.loop-top.states c.args.room c.loop-top.room b u c.in-Some.top within.0 (next told u.left.boxes u.left.are_from)
           (box_seen c.view-moof.result) c.read_payload.new.room c.in_ok-len.len c.len-file_len.result r c.len-file_len.ensures
           c.check_moof.new.tracks c.check_moof.new.room c.in_ok-check_moof.ensures.sound c.in_ok-check_moof.ensures.moved;
+      looks = λ told.
+          let r : IsRead file c.in-Some.top (box_seen c.view-moof.result) c.read_payload.new.room c.in_ok-len.len = record {
+            is = c.view-moof.ensures;
+            fills = c.in_ok-len.ensures.fills.0;
+            within = c.in_ok-len.ensures.fills.1;
+            read = (rw (c.in_ok-top.ensures.honesty, i.honesty, c.in_ok-top.ensures.file, i.file) at c.in_ok-len.ensures.bytes) told;
+            of_bytes = c.in_ok-len.ensures.room;
+          } in
+          let some : c.check_moof.new.looks ≤ c.check_moof.new.looks + length c.args.states.now = omega arith in
+          next_looks file c.loop-top.next c.in-Some.top within.0 within.1 within.3 (box_seen c.view-moof.result) c.read_payload.new.room c.in_ok-len.len r
+          (length c.args.states.now) _ _ _ _ (rw many at c.check_moof.ensures.looks.most) some (i.looks told);
       fit = λ told.
           let r : IsRead file c.in-Some.top (box_seen c.view-moof.result) c.read_payload.new.room c.in_ok-len.len = record {
             is = c.view-moof.ensures;
@@ -143,8 +122,63 @@ loop-top-preserved g c =
             read = (rw (c.in_ok-top.ensures.honesty, i.honesty, c.in_ok-top.ensures.file, i.file) at c.in_ok-len.ensures.bytes) told;
             of_bytes = c.in_ok-len.ensures.room;
           } in
-          next_fits file c.loop-top.next c.in-Some.top within.0 within.1 (box_seen c.view-moof.result) c.read_payload.new.room c.in_ok-len.len r _ _ _ _ _ c.in_ok-check_moof.ensures.within (i.fit told);
+          next_fits file c.loop-top.next c.in-Some.top within.0 within.1 (box_seen c.view-moof.result) c.read_payload.new.room c.in_ok-len.len r _ _ _ _ _ c.in_ok-check_moof.ensures.work.within (i.fit told);
     }
 
 pub returns-clause-within : goal.returns-clause-within
 returns-clause-within g c = λ told. all_fit _ _ _ _ _ (c.loop-top.invariant.fit told)
+
+pub returns-then-place-top-clause-reached : goal.returns-then-place-top-clause-reached
+returns-then-place-top-clause-reached g c =
+    let i = c.loop-top.invariant in
+    let within = rw (i.file, c.in-Some.is) at c.in_ok-top.ensures.within in
+    record { whole = within.0; few = i.few; room = i.states }
+
+pub returns-then-place-top-clause-next : goal.returns-then-place-top-clause-next
+returns-then-place-top-clause-next g c =
+    let i = c.loop-top.invariant in
+    let file = g.S.Store.file c.args.store.now in
+    let next = rw (i.honesty, i.file, c.in-Some.is) at c.in_ok-top.ensures.next in
+    let within = rw (i.file, c.in-Some.is) at c.in_ok-top.ensures.within in
+    λ told. record {
+      fits = let l = i.left told in rw c.requires.longest (left_next file _ _ c.in-Some.top l within.0 (next told l.boxes l.are_from)).short;
+      next = λ movie boxes b.
+          let u = i.so told movie boxes b in
+          record {
+            earlier = u.fragments;
+            before = _;
+            next = stands_next file movie boxes c.loop-top.next c.args.outline.now.longest c.args.states.now c.loop-top.states c.args.room c.loop-top.room b u c.in-Some.top within.0 (next told u.left.boxes u.left.are_from);
+            behind = u.behind;
+          };
+      left = left_before _ _ _ _ _ _ within.1 (i.fit told);
+      looked = looks_before _ _ _ _ _ _ within.1 (i.looks told);
+    }
+
+pub returns-in_err-top-clause-looks : goal.returns-in_err-top-clause-looks
+returns-in_err-top-clause-looks g c = λ told. all_looked _ _ _ _ _ (c.loop-top.invariant.looks told)
+
+pub returns-then-place-top-clause-looks : goal.returns-then-place-top-clause-looks
+returns-then-place-top-clause-looks g c = λ told. all_looked _ _ _ _ _ (c.loop-top.invariant.looks told)
+
+pub returns-in_err-len-clause-looks : goal.returns-in_err-len-clause-looks
+returns-in_err-len-clause-looks g c = λ told. all_looked _ _ _ _ _ (c.loop-top.invariant.looks told)
+
+pub returns-clause-looks : goal.returns-clause-looks
+returns-clause-looks g c = λ told. all_looked _ _ _ _ _ (c.loop-top.invariant.looks told)
+
+pub returns-in_err-check_moof-clause-looks : goal.returns-in_err-check_moof-clause-looks
+returns-in_err-check_moof-clause-looks g c =
+    let i = c.loop-top.invariant in
+    let file = g.S.Store.file c.args.store.now in
+    let within = rw (i.file, c.in-Some.is) at c.in_ok-top.ensures.within in
+    let many : length c.loop-top.states ≡ length c.args.states.now = search rules in
+    λ told.
+    let r : IsRead file c.in-Some.top (box_seen c.view-moof.result) c.read_payload.new.room c.in_ok-len.len = record {
+      is = c.view-moof.ensures;
+      fills = c.in_ok-len.ensures.fills.0;
+      within = c.in_ok-len.ensures.fills.1;
+      read = (rw (c.in_ok-top.ensures.honesty, i.honesty, c.in_ok-top.ensures.file, i.file) at c.in_ok-len.ensures.bytes) told;
+      of_bytes = c.in_ok-len.ensures.room;
+    } in
+    refused_looks file c.loop-top.next c.in-Some.top within.0 within.1 within.3 (box_seen c.view-moof.result) c.read_payload.new.room c.in_ok-len.len r
+    (length c.args.states.now) _ _ _ (rw many at c.check_moof.ensures.looks.most) (i.looks told)

@@ -3,6 +3,7 @@ use Rattle.std.specs.Prelude.{IsTrue}
 use Rattle.mp4_boxes.specs.format.Box.{Box}
 use Rattle.mp4_frag.specs.words.States.{HaveRoom}
 use Rattle.mp4_head.specs.format.Tree.{MovieTree}
+use Rattle.mp4_present.specs.words.NumbersTold.{LooksFit}
 use Rattle.mp4_present.specs.words.PassedMoofs.{IsBegun}
 use Rattle.mp4_present.proofs.FragmentPass.{Left}
 use Rattle.mp4_present.proofs.MoofBytes.{MoofsFit}
@@ -21,6 +22,7 @@ invariant-loop-top g l =
       longest : length l.bytes ≡ l.outline.longest;
       left : IsTrue (g.S.Store.is_honest l.fn.store) → Left (g.S.Store.file l.fn.store) l.next l.outline.longest;
       so : IsTrue (g.S.Store.is_honest l.fn.store) → (movie : MovieTree) (boxes : List Box) → IsBegun (g.S.Store.file l.fn.store) movie boxes l.fn.states l.fn.room → IsUnderWay (g.S.Store.file l.fn.store) movie boxes l.next l.outline.longest l.states l.room;
+      looks : IsTrue (g.S.Store.is_honest l.fn.store) → LooksFit (length (g.S.Store.file l.fn.store)) l.next (length l.fn.states) l.fn.looks l.looks;
       fit : IsTrue (g.S.Store.is_honest l.fn.store) → MoofsFit (length (g.S.Store.file l.fn.store)) l.next l.room l.fn.steps l.steps;
     }
 

@@ -7,6 +7,7 @@ use Rattle.mp4_present.proofs.MoofsNoted.{OwnsUnderWay, owns_first, owns_next, a
 use Rattle.mp4_present.proofs.MoofsPassed.{IsUnderWay, IsRead, under_way_first, not_read, all_passed, next_passed, next_refused}
 use Rattle.mp4_boxes.specs.words.View.{box_seen}
 use Rattle.mp4_present.proofs.ChecksCounted.{within_first, next_within, checks_done}
+use Rattle.mp4_present.proofs.LooksCounted.{looks_first, looks_done, next_looked, none_looked, all_looked, next_looks, refused_looks}
 use Rattle.mp4_present.proofs.MoofBytes.{none_fit, next_fits, all_fit, refused_fits}
 use Rattle.mp4_present.proofs.TablesWork.{if_no_fault}
 use Rattle.mp4_present.proofs.fragment_pass.pass_fragments.Goals as goal
@@ -44,7 +45,14 @@ loop-top-init g c = record {
       let outline = c.args.outline.now in
       let next : unwrap_or outline.fragments (length file) ≡ c.unwrap_or-next.result = search rules in
       within_first file o.0 outline _ _ o.1 o.3 next;
-  fit = λ told. none_fit _ _ _ _ c.requires.few;
+  looked = λ told.
+      let o = c.requires.outline told in
+      let file = g.S.Store.file c.args.store.now in
+      let outline = c.args.outline.now in
+      let next : unwrap_or outline.fragments (length file) ≡ c.unwrap_or-next.result = search rules in
+      looks_first file o.0 outline _ _ _ o.1 o.3 next;
+  looks = λ told. none_looked _ _ _ _;
+  fit = λ told. none_fit _ _ _ _ c.requires.room.0;
 }
 
 pub returns-in_err-len-clause-refusal : goal.returns-in_err-len-clause-refusal
@@ -63,6 +71,8 @@ loop-top-preserved g c =
     let file = g.S.Store.file c.args.store.now in
     let next = rw (i.honesty, i.file, c.in-Some.is) at c.in_ok-top.ensures.next in
     let within = rw (i.file, c.in-Some.is) at c.in_ok-top.ensures.within in
+    let many : length c.loop-top.states ≡ length c.args.states.now = search rules in
+    let after : length c.check_moof.new.tracks ≡ length c.args.states.now = search rules in
     record {
       honesty = search rules;
       file = search rules;
@@ -107,7 +117,28 @@ loop-top-preserved g c =
           } in
           let e = c.in_ok-check_moof.ensures in
           next_within file c.loop-top.next c.in-Some.top all within.0 u.0 u.1.0 (next told u.0 u.1.0) (box_seen c.view-moof.result) c.read_payload.new.room c.in_ok-len.len r
-          _ _ _ _ _ _ _ e.moved e.cost u.1.1;
+          _ _ _ _ _ _ _ e.moved e.work.cost u.1.1;
+      looked = λ told all h.
+          let u = i.looked told all h in
+          let r : IsRead file c.in-Some.top (box_seen c.view-moof.result) c.read_payload.new.room c.in_ok-len.len = record {
+            is = c.view-moof.ensures;
+            fills = c.in_ok-len.ensures.fills.0;
+            within = c.in_ok-len.ensures.fills.1;
+            read = (rw (c.in_ok-top.ensures.honesty, i.honesty, c.in_ok-top.ensures.file, i.file) at c.in_ok-len.ensures.bytes) told;
+            of_bytes = c.in_ok-len.ensures.room;
+          } in
+          next_looked file c.loop-top.next c.in-Some.top all within.0 u.0 u.1.0 (next told u.0 u.1.0) (box_seen c.view-moof.result) c.read_payload.new.room c.in_ok-len.len r
+          (length c.args.states.now) _ _ _ _ (rw many at c.in_ok-check_moof.ensures.looks.each) (rw after at c.note_moof.ensures.looks) u.1.1;
+      looks = λ told.
+          let r : IsRead file c.in-Some.top (box_seen c.view-moof.result) c.read_payload.new.room c.in_ok-len.len = record {
+            is = c.view-moof.ensures;
+            fills = c.in_ok-len.ensures.fills.0;
+            within = c.in_ok-len.ensures.fills.1;
+            read = (rw (c.in_ok-top.ensures.honesty, i.honesty, c.in_ok-top.ensures.file, i.file) at c.in_ok-len.ensures.bytes) told;
+            of_bytes = c.in_ok-len.ensures.room;
+          } in
+          next_looks file c.loop-top.next c.in-Some.top within.0 within.1 within.3 (box_seen c.view-moof.result) c.read_payload.new.room c.in_ok-len.len r
+          (length c.args.states.now) _ _ _ _ (rw many at c.check_moof.ensures.looks.most) (rw after at c.note_moof.ensures.looks) (i.looks told);
       fit = λ told.
           let r : IsRead file c.in-Some.top (box_seen c.view-moof.result) c.read_payload.new.room c.in_ok-len.len = record {
             is = c.view-moof.ensures;
@@ -116,7 +147,7 @@ loop-top-preserved g c =
             read = (rw (c.in_ok-top.ensures.honesty, i.honesty, c.in_ok-top.ensures.file, i.file) at c.in_ok-len.ensures.bytes) told;
             of_bytes = c.in_ok-len.ensures.room;
           } in
-          next_fits file c.loop-top.next c.in-Some.top within.0 within.1 (box_seen c.view-moof.result) c.read_payload.new.room c.in_ok-len.len r _ _ _ _ _ c.in_ok-check_moof.ensures.within (i.fit told);
+          next_fits file c.loop-top.next c.in-Some.top within.0 within.1 (box_seen c.view-moof.result) c.read_payload.new.room c.in_ok-len.len r _ _ _ _ _ c.in_ok-check_moof.ensures.work.within (i.fit told);
     }
 
 pub returns-in_err-check_moof-clause-refusal : goal.returns-in_err-check_moof-clause-refusal
@@ -146,11 +177,14 @@ returns-clause-passed g c = λ told movie boxes b.
     all_passed file movie boxes c.loop-top.next c.args.outline.now.longest c.loop-top.states c.loop-top.room u ((rw (i.honesty, i.file, c.in_default.is) at c.in_ok-top.ensures.next) told u.left.boxes u.left.are_from)
 
 pub returns-clause-own : goal.returns-clause-own
-returns-clause-own g c = λ told own movie boxes b.
-    let i = c.loop-top.invariant in
-    let u = i.own told movie boxes b own in
-    let file = g.S.Store.file c.args.store.now in
-    all_noted file movie boxes c.loop-top.next c.args.outline.now.longest c.loop-top.states c.loop-top.room (map own_seen c.loop-top.own.items) u ((rw (i.honesty, i.file, c.in_default.is) at c.in_ok-top.ensures.next) told u.0.left.boxes u.0.left.are_from)
+returns-clause-own g c = (
+  search rules,
+  λ told own movie boxes b.
+      let i = c.loop-top.invariant in
+      let u = i.own told movie boxes b own in
+      let file = g.S.Store.file c.args.store.now in
+      all_noted file movie boxes c.loop-top.next c.args.outline.now.longest c.loop-top.states c.loop-top.room (map own_seen c.loop-top.own.items) u ((rw (i.honesty, i.file, c.in_default.is) at c.in_ok-top.ensures.next) told u.0.left.boxes u.0.left.are_from),
+)
 
 pub returns-clause-work : goal.returns-clause-work
 returns-clause-work g c = λ told. checks_done _ _ _ _ (c.loop-top.invariant.work told)
@@ -183,7 +217,7 @@ returns-in_err-check_moof-clause-within g c =
       read = (rw (c.in_ok-top.ensures.honesty, i.honesty, c.in_ok-top.ensures.file, i.file) at c.in_ok-len.ensures.bytes) told;
       of_bytes = c.in_ok-len.ensures.room;
     } in
-    refused_fits file c.loop-top.next c.in-Some.top within.0 within.1 (box_seen c.view-moof.result) c.read_payload.new.room c.in_ok-len.len r _ _ _ _ c.check_moof.ensures.work (i.fit told)
+    refused_fits file c.loop-top.next c.in-Some.top within.0 within.1 (box_seen c.view-moof.result) c.read_payload.new.room c.in_ok-len.len r _ _ _ _ c.check_moof.ensures.work.most (i.fit told)
 
 pub returns-in_err-note_moof-clause-work : goal.returns-in_err-note_moof-clause-work
 returns-in_err-note_moof-clause-work g c =
@@ -203,4 +237,60 @@ returns-in_err-note_moof-clause-work g c =
     if_no_fault _ _ (checks_done file c.in-Some.top.header.end _ _ (λ all h.
     let u = i.work told all h in
     next_within file c.loop-top.next c.in-Some.top all within.0 u.0 u.1.0 (next told u.0 u.1.0) (box_seen c.view-moof.result) c.read_payload.new.room c.in_ok-len.len r
-    _ _ _ _ _ _ _ e.moved e.cost u.1.1))
+    _ _ _ _ _ _ _ e.moved e.work.cost u.1.1))
+
+pub returns-clause-looks : goal.returns-clause-looks
+returns-clause-looks g c = λ told. record { said = looks_done _ _ _ _ _ (c.loop-top.invariant.looked told); within = all_looked _ _ _ _ _ (c.loop-top.invariant.looks told) }
+
+pub returns-in_err-top-clause-looks : goal.returns-in_err-top-clause-looks
+returns-in_err-top-clause-looks g c = λ told. record { said = if_no_fault _ _ (looks_done _ _ _ _ _ (c.loop-top.invariant.looked told)); within = all_looked _ _ _ _ _ (c.loop-top.invariant.looks told) }
+
+pub returns-in_err-len-clause-looks : goal.returns-in_err-len-clause-looks
+returns-in_err-len-clause-looks g c = λ told. record { said = if_no_fault _ _ (looks_done _ _ _ _ _ (c.loop-top.invariant.looked told)); within = all_looked _ _ _ _ _ (c.loop-top.invariant.looks told) }
+
+pub returns-in_err-check_moof-clause-looks : goal.returns-in_err-check_moof-clause-looks
+returns-in_err-check_moof-clause-looks g c =
+    let p = err_from_is_err_and c.from_residual-in_err-check_moof.result c.from_residual-in_err-check_moof.ensures.1 in
+    let i = c.loop-top.invariant in
+    let file = g.S.Store.file c.args.store.now in
+    let within = rw (i.file, c.in-Some.is) at c.in_ok-top.ensures.within in
+    let many : length c.loop-top.states ≡ length c.args.states.now = search rules in
+    rw (p.1, p.2) (λ told.
+    let r : IsRead file c.in-Some.top (box_seen c.view-moof.result) c.read_payload.new.room c.in_ok-len.len = record {
+      is = c.view-moof.ensures;
+      fills = c.in_ok-len.ensures.fills.0;
+      within = c.in_ok-len.ensures.fills.1;
+      read = (rw (c.in_ok-top.ensures.honesty, i.honesty, c.in_ok-top.ensures.file, i.file) at c.in_ok-len.ensures.bytes) told;
+      of_bytes = c.in_ok-len.ensures.room;
+    } in
+    record {
+      said = tt;
+      within = refused_looks file c.loop-top.next c.in-Some.top within.0 within.1 within.3 (box_seen c.view-moof.result) c.read_payload.new.room c.in_ok-len.len r
+          (length c.args.states.now) _ _ _ (rw many at c.check_moof.ensures.looks.most) (i.looks told);
+    })
+
+pub returns-in_err-note_moof-clause-looks : goal.returns-in_err-note_moof-clause-looks
+returns-in_err-note_moof-clause-looks g c =
+    let i = c.loop-top.invariant in
+    let file = g.S.Store.file c.args.store.now in
+    let next = rw (i.honesty, i.file, c.in-Some.is) at c.in_ok-top.ensures.next in
+    let within = rw (i.file, c.in-Some.is) at c.in_ok-top.ensures.within in
+    let many : length c.loop-top.states ≡ length c.args.states.now = search rules in
+    let after : length c.check_moof.new.tracks ≡ length c.args.states.now = search rules in
+    λ told.
+    let r : IsRead file c.in-Some.top (box_seen c.view-moof.result) c.read_payload.new.room c.in_ok-len.len = record {
+      is = c.view-moof.ensures;
+      fills = c.in_ok-len.ensures.fills.0;
+      within = c.in_ok-len.ensures.fills.1;
+      read = (rw (c.in_ok-top.ensures.honesty, i.honesty, c.in_ok-top.ensures.file, i.file) at c.in_ok-len.ensures.bytes) told;
+      of_bytes = c.in_ok-len.ensures.room;
+    } in
+    let fit = next_looks file c.loop-top.next c.in-Some.top within.0 within.1 within.3 (box_seen c.view-moof.result) c.read_payload.new.room c.in_ok-len.len r
+    (length c.args.states.now) _ _ _ _ (rw many at c.check_moof.ensures.looks.most) (rw after at c.note_moof.ensures.looks) (i.looks told) in
+    record {
+      said = if_no_fault _ _ (looks_done file c.in-Some.top.header.end _ _ _ (λ all h.
+          let u = i.looked told all h in
+          next_looked file c.loop-top.next c.in-Some.top all within.0 u.0 u.1.0 (next told u.0 u.1.0) (box_seen c.view-moof.result) c.read_payload.new.room c.in_ok-len.len r
+          (length c.args.states.now) _ _ _ _ (rw many at c.in_ok-check_moof.ensures.looks.each) (rw after at c.note_moof.ensures.looks) u.1.1));
+      within = all_looked _ _ _ _ _ fit;
+    }

@@ -9,7 +9,9 @@ use Rattle.mp4_present.specs.words.OwnMoofs.{own_first, own_seen}
 use Rattle.mp4_present.proofs.MoofsNoted.{OwnsUnderWay}
 use Rattle.mp4_present.proofs.FragmentPass.{Left}
 use Rattle.mp4_present.proofs.ChecksCounted.{LeftWithin}
+use Rattle.mp4_present.proofs.LooksCounted.{LooksLeft}
 use Rattle.mp4_present.proofs.MoofBytes.{MoofsFit}
+use Rattle.mp4_present.specs.words.NumbersTold.{LooksFit}
 use Rattle.mp4_present.proofs.fragment_pass.pass_fragments.Given as goal
 
 -- there is room for more samples, and the `moof`s to come are known
@@ -28,6 +30,8 @@ invariant-loop-top g l =
       own : IsTrue (g.S.Store.is_honest l.fn.store) → (movie : MovieTree) (boxes : List Box) → IsBegun (g.S.Store.file l.fn.store) movie boxes l.fn.states l.fn.room → map own_seen l.fn.own.items ≡ map own_first l.fn.states
           → OwnsUnderWay (g.S.Store.file l.fn.store) movie boxes l.next l.outline.longest l.states l.room (map own_seen l.own.items);
       work : IsTrue (g.S.Store.is_honest l.fn.store) → LeftWithin (g.S.Store.file l.fn.store) l.next l.fn.steps l.steps;
+      looked : IsTrue (g.S.Store.is_honest l.fn.store) → LooksLeft (g.S.Store.file l.fn.store) l.next (length l.fn.states) l.fn.looks l.looks;
+      looks : IsTrue (g.S.Store.is_honest l.fn.store) → LooksFit (length (g.S.Store.file l.fn.store)) l.next (length l.fn.states) l.fn.looks l.looks;
       fit : IsTrue (g.S.Store.is_honest l.fn.store) → MoofsFit (length (g.S.Store.file l.fn.store)) l.next l.room l.fn.steps l.steps;
     }
 

@@ -43,4 +43,4 @@ pub returns-then-is-clause-within : goal.returns-then-is-clause-within
 returns-then-is-clause-within g c =
     let i = c.loop-at.invariant in
     let w = c.in_ok-header.ensures.within in
-    (record { header = w.0; within = subst (λ (bs : List ℕ). c.in_ok-header.header.end ≤ length bs) i.1 w.2 }, i.4, omega (arith, w.0, w.1))
+    (record { header = w.0; within = subst (λ (bs : List ℕ). c.in_ok-header.header.end ≤ length bs) i.1 w.2 }, i.4, omega (arith, w.0, w.1), w.1)

@@ -8,6 +8,7 @@ use Rattle.mp4_boxes.specs.format.Bytes.{AreBytes}
 use Rattle.mp4_present.proofs.Assembled.{movie, begun, have, opened_as, limit_stands, measure}
 use Rattle.std.proofs.lemmas.Result.{err_from_is_err_and}
 use Rattle.mp4_present.proofs.Opened.{IsRead, its_movie, tracks_read, open_not_sound, open_not_fit, open_not_passed}
+use Rattle.mp4_present.proofs.LooksCounted.{looks_counted, looks_of, looks_open, none_looks}
 use Rattle.mp4_present.proofs.OpeningBytes.{tables_open, moofs_open, none_open}
 use Rattle.mp4_present.proofs.OpeningSteps.{tables_counted, moofs_counted}
 use Rattle.mp4_present.proofs.PlainLists.{found_tables}
@@ -24,13 +25,13 @@ check_tables-requires g c = record {
 pub returns-in_err-head-clause-refusal : goal.returns-in_err-head-clause-refusal
 returns-in_err-head-clause-refusal g c =
     let p = err_from_is_err_and c.from_residual.result c.from_residual.ensures.1 in
-    let r : IsRead (g.S.Store.is_honest c.args.store.now) (g.S.Store.file c.args.store.now) c.args.outline.now c.args.moov.now _ = record { outline = c.requires.outline; is = c.view-view.ensures; fills = c.requires.fills; bytes = c.requires.bytes } in
+    let r : IsRead (g.S.Store.is_honest c.args.store.now) (g.S.Store.file c.args.store.now) c.args.outline.now c.args.moov.now _ = record { outline = c.requires.outline; is = c.view-view.ensures; fills = c.requires.moov.0; bytes = c.requires.moov.1 } in
     rw (p.1, p.2) (open_not_sound (g.S.Store.is_honest c.args.store.now) (g.S.Store.file c.args.store.now) c.args.outline.now c.args.moov.now _ _ _ r c.in_err-head.ensures.fault)
 
 pub returns-in_err-plain-clause-refusal : goal.returns-in_err-plain-clause-refusal
 returns-in_err-plain-clause-refusal g c =
     let p = err_from_is_err_and c.from_residual-in_err-plain.result c.from_residual-in_err-plain.ensures.1 in
-    let r : IsRead (g.S.Store.is_honest c.args.store.now) (g.S.Store.file c.args.store.now) c.args.outline.now c.args.moov.now _ = record { outline = c.requires.outline; is = c.view-view.ensures; fills = c.requires.fills; bytes = c.requires.bytes } in
+    let r : IsRead (g.S.Store.is_honest c.args.store.now) (g.S.Store.file c.args.store.now) c.args.outline.now c.args.moov.now _ = record { outline = c.requires.outline; is = c.view-view.ensures; fills = c.requires.moov.0; bytes = c.requires.moov.1 } in
     rw (p.1, p.2) (open_not_fit _ _ c.args.outline.now c.args.moov.now _ c.in_ok-head.head _ _ _ r c.in_ok-head.ensures.head c.len.ensures c.in_err-plain.ensures.refusal)
 
 pub returns-in_err-states-clause-refusal : goal.returns-in_err-states-clause-refusal
@@ -38,7 +39,7 @@ returns-in_err-states-clause-refusal g c =
     let p = err_from_is_err_and c.from_residual-in_err-states.result c.from_residual-in_err-states.ensures.1 in
     let honest = g.S.Store.is_honest c.args.store.now in
     let file = g.S.Store.file c.args.store.now in
-    let r : IsRead honest file c.args.outline.now c.args.moov.now _ = record { outline = c.requires.outline; is = c.view-view.ensures; fills = c.requires.fills; bytes = c.requires.bytes } in
+    let r : IsRead honest file c.args.outline.now c.args.moov.now _ = record { outline = c.requires.outline; is = c.view-view.ensures; fills = c.requires.moov.0; bytes = c.requires.moov.1 } in
     let bytes : AreBytes c.args.moov.now = λ k. search rules in
     let says = c.in_ok-head.ensures.head in
     rw (p.1, p.2) (open_not_passed honest file _ _ _ _ _
@@ -55,7 +56,7 @@ returns-in_err-mehd-clause-refusal g c =
     let honest = g.S.Store.is_honest c.args.store.now in
     let file = g.S.Store.file c.args.store.now in
     let b = box_seen c.view-view.result in
-    let r : IsRead honest file c.args.outline.now c.args.moov.now b = record { outline = c.requires.outline; is = c.view-view.ensures; fills = c.requires.fills; bytes = c.requires.bytes } in
+    let r : IsRead honest file c.args.outline.now c.args.moov.now b = record { outline = c.requires.outline; is = c.view-view.ensures; fills = c.requires.moov.0; bytes = c.requires.moov.1 } in
     let bytes : AreBytes c.args.moov.now = λ k. search rules in
     let says = c.in_ok-head.ensures.head in
     let outline = c.args.outline.now in
@@ -66,7 +67,7 @@ returns-in_err-mehd-clause-refusal g c =
     rw (q.1, q.2) (λ told.
     let own = have honest file outline moov b head plain r says bytes _ c.len.ensures c.in_ok-plain.ensures.says told in
     let begin = begun honest file outline moov b head plain r says bytes _ c.len.ensures c.in_ok-plain.ensures.says told in
-    let passed = c.in_ok-states.ensures.passed told _ _ begin in
+    let passed = (c.in_ok-states.ensures.own told _ _ begin).0 in
     let fails = rw c.as_slice.ensures.value at c.in_err-mehd.ensures.fault in
     limit_stands honest file outline moov b head plain r says told own begin states.items passed c.in_err-mehd.field-0.0
     (fails _ (measure honest file outline moov b head plain r says told own begin states.items passed)))
@@ -76,7 +77,7 @@ returns-clause-movie g c =
     let honest = g.S.Store.is_honest c.args.store.now in
     let file = g.S.Store.file c.args.store.now in
     let b = box_seen c.view-view.result in
-    let r : IsRead honest file c.args.outline.now c.args.moov.now b = record { outline = c.requires.outline; is = c.view-view.ensures; fills = c.requires.fills; bytes = c.requires.bytes } in
+    let r : IsRead honest file c.args.outline.now c.args.moov.now b = record { outline = c.requires.outline; is = c.view-view.ensures; fills = c.requires.moov.0; bytes = c.requires.moov.1 } in
     let bytes : AreBytes c.args.moov.now = λ k. search rules in
     let says = c.in_ok-head.ensures.head in
     let outline = c.args.outline.now in
@@ -96,7 +97,7 @@ returns-clause-movie g c =
 
 pub returns-clause-ids : goal.returns-clause-ids
 returns-clause-ids g c =
-    let r : IsRead (g.S.Store.is_honest c.args.store.now) (g.S.Store.file c.args.store.now) c.args.outline.now c.args.moov.now _ = record { outline = c.requires.outline; is = c.view-view.ensures; fills = c.requires.fills; bytes = c.requires.bytes } in
+    let r : IsRead (g.S.Store.is_honest c.args.store.now) (g.S.Store.file c.args.store.now) c.args.outline.now c.args.moov.now _ = record { outline = c.requires.outline; is = c.view-view.ensures; fills = c.requires.moov.0; bytes = c.requires.moov.1 } in
     its_movie _ _ c.args.outline.now c.args.moov.now _ c.in_ok-head.head _ r c.in_ok-head.ensures.head c.in_ok-tracks.ensures.ids
 
 pub returns-in_err-head-clause-work : goal.returns-in_err-head-clause-work
@@ -110,7 +111,7 @@ returns-in_err-plain-clause-work g c =
     let outline = c.args.outline.now in
     let moov = c.args.moov.now in
     let b = box_seen c.view-view.result in
-    let r : IsRead honest file outline moov b = record { outline = c.requires.outline; is = c.view-view.ensures; fills = c.requires.fills; bytes = c.requires.bytes } in
+    let r : IsRead honest file outline moov b = record { outline = c.requires.outline; is = c.view-view.ensures; fills = c.requires.moov.0; bytes = c.requires.moov.1 } in
     rw (p.1, p.2) (λ told tree is. handed_on Found _ _ _ (tables_counted honest file outline moov b c.in_ok-head.head r c.in_ok-head.ensures.head told tree is _ _) c.in_err-plain.ensures.work)
 
 pub returns-in_err-states-clause-work : goal.returns-in_err-states-clause-work
@@ -121,7 +122,7 @@ returns-in_err-states-clause-work g c =
     let outline = c.args.outline.now in
     let moov = c.args.moov.now in
     let b = box_seen c.view-view.result in
-    let r : IsRead honest file outline moov b = record { outline = c.requires.outline; is = c.view-view.ensures; fills = c.requires.fills; bytes = c.requires.bytes } in
+    let r : IsRead honest file outline moov b = record { outline = c.requires.outline; is = c.view-view.ensures; fills = c.requires.moov.0; bytes = c.requires.moov.1 } in
     rw (p.1, p.2) (λ told tree is. handed_on Found _ _ _ (moofs_counted honest file outline moov b c.in_ok-head.head r c.in_ok-head.ensures.head told tree is _ _ _ c.in_ok-plain.ensures.work) (c.in_err-states.ensures.work told))
 
 pub returns-in_err-mehd-clause-work : goal.returns-in_err-mehd-clause-work
@@ -131,7 +132,7 @@ returns-in_err-mehd-clause-work g c =
     let outline = c.args.outline.now in
     let moov = c.args.moov.now in
     let b = box_seen c.view-view.result in
-    let r : IsRead honest file outline moov b = record { outline = c.requires.outline; is = c.view-view.ensures; fills = c.requires.fills; bytes = c.requires.bytes } in
+    let r : IsRead honest file outline moov b = record { outline = c.requires.outline; is = c.view-view.ensures; fills = c.requires.moov.0; bytes = c.requires.moov.1 } in
     λ told tree is. if_no_fault _ _ (moofs_counted honest file outline moov b c.in_ok-head.head r c.in_ok-head.ensures.head told tree is _ _ _ c.in_ok-plain.ensures.work (c.in_ok-states.ensures.work told))
 
 pub returns-in_err-tracks-clause-work : goal.returns-in_err-tracks-clause-work
@@ -141,7 +142,7 @@ returns-in_err-tracks-clause-work g c =
     let outline = c.args.outline.now in
     let moov = c.args.moov.now in
     let b = box_seen c.view-view.result in
-    let r : IsRead honest file outline moov b = record { outline = c.requires.outline; is = c.view-view.ensures; fills = c.requires.fills; bytes = c.requires.bytes } in
+    let r : IsRead honest file outline moov b = record { outline = c.requires.outline; is = c.view-view.ensures; fills = c.requires.moov.0; bytes = c.requires.moov.1 } in
     λ told tree is. if_no_fault _ _ (moofs_counted honest file outline moov b c.in_ok-head.head r c.in_ok-head.ensures.head told tree is _ _ _ c.in_ok-plain.ensures.work (c.in_ok-states.ensures.work told))
 
 pub returns-clause-work : goal.returns-clause-work
@@ -151,7 +152,7 @@ returns-clause-work g c =
     let outline = c.args.outline.now in
     let moov = c.args.moov.now in
     let b = box_seen c.view-view.result in
-    let r : IsRead honest file outline moov b = record { outline = c.requires.outline; is = c.view-view.ensures; fills = c.requires.fills; bytes = c.requires.bytes } in
+    let r : IsRead honest file outline moov b = record { outline = c.requires.outline; is = c.view-view.ensures; fills = c.requires.moov.0; bytes = c.requires.moov.1 } in
     λ told tree is. moofs_counted honest file outline moov b c.in_ok-head.head r c.in_ok-head.ensures.head told tree is _ _ _ c.in_ok-plain.ensures.work (c.in_ok-states.ensures.work told)
 
 pub returns-in_err-head-clause-within : goal.returns-in_err-head-clause-within
@@ -164,7 +165,7 @@ returns-in_err-plain-clause-within g c =
     let outline = c.args.outline.now in
     let moov = c.args.moov.now in
     let b = box_seen c.view-view.result in
-    let r : IsRead honest file outline moov b = record { outline = c.requires.outline; is = c.view-view.ensures; fills = c.requires.fills; bytes = c.requires.bytes } in
+    let r : IsRead honest file outline moov b = record { outline = c.requires.outline; is = c.view-view.ensures; fills = c.requires.moov.0; bytes = c.requires.moov.1 } in
     λ told. tables_open honest file outline moov b c.in_ok-head.head r c.in_ok-head.ensures.head told _ _ c.in_err-plain.ensures.within
 
 pub returns-in_err-states-clause-within : goal.returns-in_err-states-clause-within
@@ -174,7 +175,7 @@ returns-in_err-states-clause-within g c =
     let outline = c.args.outline.now in
     let moov = c.args.moov.now in
     let b = box_seen c.view-view.result in
-    let r : IsRead honest file outline moov b = record { outline = c.requires.outline; is = c.view-view.ensures; fills = c.requires.fills; bytes = c.requires.bytes } in
+    let r : IsRead honest file outline moov b = record { outline = c.requires.outline; is = c.view-view.ensures; fills = c.requires.moov.0; bytes = c.requires.moov.1 } in
     let head = c.in_ok-head.head in
     let says = c.in_ok-head.ensures.head in
     λ told. moofs_open honest file outline moov b head r says told _ _ _ c.in_ok-plain.ensures.within (c.in_err-states.ensures.within told)
@@ -186,7 +187,7 @@ returns-in_err-mehd-clause-within g c =
     let outline = c.args.outline.now in
     let moov = c.args.moov.now in
     let b = box_seen c.view-view.result in
-    let r : IsRead honest file outline moov b = record { outline = c.requires.outline; is = c.view-view.ensures; fills = c.requires.fills; bytes = c.requires.bytes } in
+    let r : IsRead honest file outline moov b = record { outline = c.requires.outline; is = c.view-view.ensures; fills = c.requires.moov.0; bytes = c.requires.moov.1 } in
     let head = c.in_ok-head.head in
     let says = c.in_ok-head.ensures.head in
     λ told. moofs_open honest file outline moov b head r says told _ _ _ c.in_ok-plain.ensures.within (c.in_ok-states.ensures.within told)
@@ -198,7 +199,7 @@ returns-in_err-tracks-clause-within g c =
     let outline = c.args.outline.now in
     let moov = c.args.moov.now in
     let b = box_seen c.view-view.result in
-    let r : IsRead honest file outline moov b = record { outline = c.requires.outline; is = c.view-view.ensures; fills = c.requires.fills; bytes = c.requires.bytes } in
+    let r : IsRead honest file outline moov b = record { outline = c.requires.outline; is = c.view-view.ensures; fills = c.requires.moov.0; bytes = c.requires.moov.1 } in
     let head = c.in_ok-head.head in
     let says = c.in_ok-head.ensures.head in
     λ told. moofs_open honest file outline moov b head r says told _ _ _ c.in_ok-plain.ensures.within (c.in_ok-states.ensures.within told)
@@ -210,7 +211,86 @@ returns-clause-within g c =
     let outline = c.args.outline.now in
     let moov = c.args.moov.now in
     let b = box_seen c.view-view.result in
-    let r : IsRead honest file outline moov b = record { outline = c.requires.outline; is = c.view-view.ensures; fills = c.requires.fills; bytes = c.requires.bytes } in
+    let r : IsRead honest file outline moov b = record { outline = c.requires.outline; is = c.view-view.ensures; fills = c.requires.moov.0; bytes = c.requires.moov.1 } in
     let head = c.in_ok-head.head in
     let says = c.in_ok-head.ensures.head in
     λ told. moofs_open honest file outline moov b head r says told _ _ _ c.in_ok-plain.ensures.within (c.in_ok-states.ensures.within told)
+
+pub returns-in_err-head-clause-looks : goal.returns-in_err-head-clause-looks
+returns-in_err-head-clause-looks g c = λ told. record { said = λ tree is. if_no_fault _ _ (none_taken _ _); within = none_looks _ _ }
+
+pub returns-in_err-plain-clause-looks : goal.returns-in_err-plain-clause-looks
+returns-in_err-plain-clause-looks g c = λ told. record { said = λ tree is. if_no_fault _ _ (none_taken _ _); within = none_looks _ _ }
+
+pub returns-in_err-states-clause-looks : goal.returns-in_err-states-clause-looks
+returns-in_err-states-clause-looks g c =
+    let p = err_from_is_err_and c.from_residual-in_err-states.result c.from_residual-in_err-states.ensures.1 in
+    let honest = g.S.Store.is_honest c.args.store.now in
+    let file = g.S.Store.file c.args.store.now in
+    let outline = c.args.outline.now in
+    let moov = c.args.moov.now in
+    let b = box_seen c.view-view.result in
+    let r : IsRead honest file outline moov b = record { outline = c.requires.outline; is = c.view-view.ensures; fills = c.requires.moov.0; bytes = c.requires.moov.1 } in
+    let head = c.in_ok-head.head in
+    let says = c.in_ok-head.ensures.head in
+    let many : length c.in_ok-plain.plain.states.items ≡ length head.tracks.items = search rules in
+    rw (p.1, p.2) (λ told.
+    let l = c.in_err-states.ensures.looks told in
+    record {
+      said = λ tree is. handed_on Found _ _ _ (looks_of honest file outline moov b head r says told tree is _ _ _ many) l.said;
+      within = looks_open honest file outline moov b head r says told _ _ (rw many at l.within);
+    })
+
+pub returns-in_err-mehd-clause-looks : goal.returns-in_err-mehd-clause-looks
+returns-in_err-mehd-clause-looks g c =
+    let honest = g.S.Store.is_honest c.args.store.now in
+    let file = g.S.Store.file c.args.store.now in
+    let outline = c.args.outline.now in
+    let moov = c.args.moov.now in
+    let b = box_seen c.view-view.result in
+    let r : IsRead honest file outline moov b = record { outline = c.requires.outline; is = c.view-view.ensures; fills = c.requires.moov.0; bytes = c.requires.moov.1 } in
+    let head = c.in_ok-head.head in
+    let says = c.in_ok-head.ensures.head in
+    let many : length c.in_ok-plain.plain.states.items ≡ length head.tracks.items = search rules in
+    λ told.
+    let l = c.in_ok-states.ensures.looks told in
+    record {
+      said = λ tree is. if_no_fault _ _ (looks_counted honest file outline moov b head r says told tree is _ _ (rw many at l.said));
+      within = looks_open honest file outline moov b head r says told _ _ (rw many at l.within);
+    }
+
+pub returns-in_err-tracks-clause-looks : goal.returns-in_err-tracks-clause-looks
+returns-in_err-tracks-clause-looks g c =
+    let honest = g.S.Store.is_honest c.args.store.now in
+    let file = g.S.Store.file c.args.store.now in
+    let outline = c.args.outline.now in
+    let moov = c.args.moov.now in
+    let b = box_seen c.view-view.result in
+    let r : IsRead honest file outline moov b = record { outline = c.requires.outline; is = c.view-view.ensures; fills = c.requires.moov.0; bytes = c.requires.moov.1 } in
+    let head = c.in_ok-head.head in
+    let says = c.in_ok-head.ensures.head in
+    let many : length c.in_ok-plain.plain.states.items ≡ length head.tracks.items = search rules in
+    λ told.
+    let l = c.in_ok-states.ensures.looks told in
+    record {
+      said = λ tree is. if_no_fault _ _ (looks_counted honest file outline moov b head r says told tree is _ _ (rw many at l.said));
+      within = looks_open honest file outline moov b head r says told _ _ (rw many at l.within);
+    }
+
+pub returns-clause-looks : goal.returns-clause-looks
+returns-clause-looks g c =
+    let honest = g.S.Store.is_honest c.args.store.now in
+    let file = g.S.Store.file c.args.store.now in
+    let outline = c.args.outline.now in
+    let moov = c.args.moov.now in
+    let b = box_seen c.view-view.result in
+    let r : IsRead honest file outline moov b = record { outline = c.requires.outline; is = c.view-view.ensures; fills = c.requires.moov.0; bytes = c.requires.moov.1 } in
+    let head = c.in_ok-head.head in
+    let says = c.in_ok-head.ensures.head in
+    let many : length c.in_ok-plain.plain.states.items ≡ length head.tracks.items = search rules in
+    λ told.
+    let l = c.in_ok-states.ensures.looks told in
+    record {
+      said = λ tree is. looks_counted honest file outline moov b head r says told tree is _ _ (rw many at l.said);
+      within = looks_open honest file outline moov b head r says told _ _ (rw many at l.within);
+    }

@@ -1,6 +1,7 @@
 use Rattle.std.proofs.Common.{◌≡◌, ℕ, length, subst, sym, ap, ◌∙◌}
 use Rattle.std.proofs.lemmas.Result.{err_from_is_err_and}
 use Rattle.mp4_present.proofs.DenotedOpens.{denoted_opens, outline_refuses, read_refuses}
+use Rattle.mp4_present.proofs.LooksCounted.{none_looks}
 use Rattle.mp4_present.proofs.OpeningBytes.{none_open}
 use Rattle.mp4_present.proofs.OpenedDenotes.{opened_denotes}
 use Rattle.mp4_present.proofs.OpeningSteps.{opened_of}
@@ -95,3 +96,24 @@ returns-clause-within g c =
     let outline = c.in_ok-outline.ensures in
     let moov = c.in_ok-moov.ensures in
     rw (moov.honesty, outline.honesty, moov.file, outline.file) at c.in_ok-plain.ensures.within
+
+pub returns-in_err-outline-clause-looks : goal.returns-in_err-outline-clause-looks
+returns-in_err-outline-clause-looks g c = λ told. record { said = λ tree is. if_no_fault _ _ (none_taken _ _); within = none_looks _ _ }
+
+pub returns-in_err-moov-clause-looks : goal.returns-in_err-moov-clause-looks
+returns-in_err-moov-clause-looks g c = λ told. record { said = λ tree is. if_no_fault _ _ (none_taken _ _); within = none_looks _ _ }
+
+pub returns-in_err-plain-clause-looks : goal.returns-in_err-plain-clause-looks
+returns-in_err-plain-clause-looks g c =
+    let q = err_from_is_err_and c.from_residual-in_err-plain.result c.from_residual-in_err-plain.ensures.1 in
+    let outline = c.in_ok-outline.ensures in
+    let moov = c.in_ok-moov.ensures in
+    let looks = rw (moov.honesty, outline.honesty, moov.file, outline.file) at c.in_err-plain.ensures.looks in
+    rw (q.1, q.2) (λ told. record { said = (looks told).said; within = (looks told).within })
+
+pub returns-clause-looks : goal.returns-clause-looks
+returns-clause-looks g c =
+    let outline = c.in_ok-outline.ensures in
+    let moov = c.in_ok-moov.ensures in
+    let looks = rw (moov.honesty, outline.honesty, moov.file, outline.file) at c.in_ok-plain.ensures.looks in
+    λ told. record { said = (looks told).said; within = (looks told).within }

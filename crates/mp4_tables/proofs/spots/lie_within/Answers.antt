@@ -1,7 +1,7 @@
 use Rattle.std.proofs.Common.{arith, sym, refl, ◌∙◌}
 use Rattle.mp4_tables.specs.words.Rows.{chunk_rows_at, offsets_at, offset_width, sizes_at}
 use Rattle.mp4_tables.proofs.RowLists.{chunk_rows_length, numbers_length, sizes_length}
-use Rattle.mp4_tables.proofs.SpotLists.{spot_left, spot_passed, within_yes, within_no, within_all}
+use Rattle.mp4_tables.proofs.SpotLists.{lies_in_chunks, spot_left, spot_passed, within_yes, within_no, within_all}
 use Rattle.mp4_tables.proofs.spots.lie_within.Goals as goal
 
 pub loop-i-init : goal.loop-i-init
@@ -18,22 +18,8 @@ returns-then-not-lies-clause-same g c =
     ∙ within_no (chunk_rows_at c.args.payload.now c.args.rows) (offsets_at c.args.payload.now c.args.chunks) (sizes_at c.args.payload.now c.args.sizes) c.loop-i.place c.args.file_len c.loop-i.i c.size_at-size.result
     (c.requires.counts ∙ sym n) c.loop-i.invariant.place (omega arith) c.size_at-size.ensures (sym c.if-not-lies.ensures))
 
-pub pass_spot-requires-clause-at : goal.pass_spot-requires-clause-at
-pass_spot-requires-clause-at g c =
-    let m = numbers_length (offset_width c.args.chunks.is_wide) c.args.payload.now c.args.chunks.rows in
-    λ h. c.loop-i.invariant.place.row (omega arith)
-
-pub pass_spot-requires-clause-opened : goal.pass_spot-requires-clause-opened
-pass_spot-requires-clause-opened g c =
-    let m = numbers_length (offset_width c.args.chunks.is_wide) c.args.payload.now c.args.chunks.rows in
-    let h = c.loop-i.invariant.place.opened in
-    omega arith
-
-pub pass_spot-requires-clause-passed : goal.pass_spot-requires-clause-passed
-pass_spot-requires-clause-passed g c =
-    let m = chunk_rows_length c.args.payload.now c.args.rows in
-    let h = c.loop-i.invariant.place.passed in
-    omega arith
+pub pass_spot-requires-clause-place : goal.pass_spot-requires-clause-place
+pass_spot-requires-clause-place g c = lies_in_chunks c.args.payload.now c.args.rows c.args.chunks _ _ _ c.loop-i.invariant.place
 
 pub pass_spot-requires-clause-some : goal.pass_spot-requires-clause-some
 pass_spot-requires-clause-some g c =
@@ -46,9 +32,11 @@ loop-i-preserved g c =
     let m = numbers_length (offset_width c.args.chunks.is_wide) c.args.payload.now c.args.chunks.rows in
     let k = chunk_rows_length c.args.payload.now c.args.rows in
     let e = c.pass_spot.ensures in
+    let opened = e.place.opened in
+    let passed = e.place.passed in
     record {
       place = spot_passed (chunk_rows_at c.args.payload.now c.args.rows) (offsets_at c.args.payload.now c.args.chunks) (sizes_at c.args.payload.now c.args.sizes) c.loop-i.place c.pass_spot.new.place c.loop-i.i c.size_at-size.result
-          c.loop-i.invariant.place (omega arith) c.size_at-size.ensures e.next e.settled (λ h. e.at (omega arith)) (omega arith) (omega arith);
+          c.loop-i.invariant.place (omega arith) c.size_at-size.ensures e.next e.settled (λ h. e.place.at (omega arith)) (omega arith) (omega arith);
       same = c.loop-i.invariant.same
           ∙ within_yes (chunk_rows_at c.args.payload.now c.args.rows) (offsets_at c.args.payload.now c.args.chunks) (sizes_at c.args.payload.now c.args.sizes) c.loop-i.place c.args.file_len c.loop-i.i c.size_at-size.result
           (c.requires.counts ∙ sym n) c.loop-i.invariant.place (omega arith) c.size_at-size.ensures (sym c.if-not-lies.ensures);

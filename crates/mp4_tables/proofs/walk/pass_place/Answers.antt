@@ -1,7 +1,6 @@
-use Rattle.std.proofs.Common.{◌<◌, ◌^◌, rules, arith}
-use Rattle.mp4_tables.specs.words.Rows.{offset_width}
-use Rattle.mp4_tables.proofs.RowLists.{numbers_length, chunk_rows_length}
+use Rattle.std.proofs.Common.{◌<◌, ◌^◌, rules}
 use Rattle.mp4_tables.proofs.PlaceLists.{duration_left, duration_within, offset_left, offset_within, chunk_left, end_fits, place_passed}
+use Rattle.mp4_tables.proofs.SpotLists.{lies_in_chunks}
 use Rattle.mp4_tables.proofs.walk.pass_place.Goals as goal
 
 pub pass-requires-clause-within : goal.pass-requires-clause-within
@@ -16,20 +15,8 @@ pass-requires-2-clause-within c = offset_within c.args.payload.now c.args.at.now
 pub pass-requires-2-clause-some : goal.pass-requires-2-clause-some
 pass-requires-2-clause-some c = offset_left c.args.payload.now c.args.at.now c.args.place.now c.requires.ok c.requires.place c.requires.inside
 
-pub pass_spot-requires-clause-at : goal.pass_spot-requires-clause-at
-pass_spot-requires-clause-at c =
-    let m = numbers_length (offset_width c.args.at.now.chunks.is_wide) c.args.payload.now c.args.at.now.chunks.rows in
-    λ h. c.requires.place.chunk.row (omega arith)
-
-pub pass_spot-requires-clause-opened : goal.pass_spot-requires-clause-opened
-pass_spot-requires-clause-opened c =
-    let m = numbers_length (offset_width c.args.at.now.chunks.is_wide) c.args.payload.now c.args.at.now.chunks.rows in
-    let h = c.requires.place.chunk.opened in omega arith
-
-pub pass_spot-requires-clause-passed : goal.pass_spot-requires-clause-passed
-pass_spot-requires-clause-passed c =
-    let m = chunk_rows_length c.args.payload.now c.args.at.now.chunk_rows in
-    let h = c.requires.place.chunk.passed in omega arith
+pub pass_spot-requires-clause-place : goal.pass_spot-requires-clause-place
+pass_spot-requires-clause-place c = lies_in_chunks c.args.payload.now c.args.at.now.chunk_rows c.args.at.now.chunks _ _ _ c.requires.place.chunk
 
 pub pass_spot-requires-clause-some : goal.pass_spot-requires-clause-some
 pass_spot-requires-clause-some c = chunk_left c.args.payload.now c.args.at.now c.args.place.now c.requires.ok c.requires.place c.requires.inside
@@ -45,5 +32,5 @@ returns-clause-place c =
     let o = c.pass-2.ensures in
     let s = c.pass_spot.ensures in
     rw c.from.ensures (place_passed c.args.payload.now c.args.at.now p c.size_at-size.result c.offset_rows.result c.pass.new.place c.pass-2.new.place c.pass_spot.new.place c.pass_sync_in.new.place c.pass_groups.new.places
-    c.requires.ok c.requires.place c.requires.inside c.size_at-size.ensures small c.offset_rows.ensures d.next d.settled d.within o.next o.settled o.within s.next s.settled s.at s.opened s.passed
+    c.requires.ok c.requires.place c.requires.inside c.size_at-size.ensures small c.offset_rows.ensures d.next d.settled d.within o.next o.settled o.within s.next s.settled s.place.at s.place.opened s.place.passed
     c.pass_sync_in.ensures.at c.pass_groups.ensures.at)

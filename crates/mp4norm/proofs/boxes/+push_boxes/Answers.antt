@@ -17,9 +17,9 @@ pub loop-found-init : goal.loop-found-init
 loop-found-init g t c =
     let e = c.in_ok-boxes.ensures in
     record {
-      honesty = e.honesty;
-      file = e.file;
-      reads = e.reads;
+      honesty = e.store.honesty;
+      file = e.store.file;
+      reads = e.store.reads;
       listed = λ told. listed_none (IsListed c.args.rule c.args.depth) (tops_seen (g.S.Store.file c.args.store.now) c.deref-found-items.result.now) c.args.text.now.items;
     }
 
@@ -64,9 +64,9 @@ loop-found-preserved g t c =
           let into : rule_inside c.args.rule top.header.kind.0 ≡ Some b.in-Some.inner = search rules in
           let e = b.in_ok-push_boxes.ensures in
           rw (b.text-is, b.store-is) (record {
-            honesty = e.honesty ∙ i.honesty;
-            file = e.file ∙ i.file;
-            reads = e.reads ∙ i.reads;
+            honesty = e.store.honesty ∙ i.honesty;
+            file = e.store.file ∙ i.file;
+            reads = e.store.reads ∙ i.reads;
             listed = λ told.
                 let lines = rw (i.honesty, i.file, b.from.ensures) at e.lines in
                 let part = lines told top.offset in

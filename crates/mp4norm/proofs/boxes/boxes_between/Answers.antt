@@ -27,9 +27,9 @@ loop-at-preserved g c =
     let top : TopBox = record { offset = c.loop-at.at; header = h } in
     record {
       span = w.2;
-      honesty = e.honesty ∙ i.honesty;
-      file = e.file ∙ i.file;
-      reads = e.reads ∙ i.reads;
+      honesty = e.store.honesty ∙ i.honesty;
+      file = e.store.file ∙ i.file;
+      reads = e.store.reads ∙ i.reads;
       passed = λ told.
           let read = rw (i.honesty, i.file) at e.header in
           let more = span_more file c.args.rule c.args.from c.args.end (tops_seen file c.loop-at.boxes.items) c.loop-at.at h (i.passed told) (read told) w.0 w.2 in

@@ -1,7 +1,7 @@
 use Rattle.std.proofs.Common.{sym, ◌∙◌}
 use Rattle.std.proofs.lemmas.Result.{err_from_is_err_and}
 use Rattle.mp4_present.specs.words.WalkSteps.{walks_steps}
-use Rattle.mp4norm.specs.words.Compares.{files_differ}
+use Rattle.mp4_present.specs.words.Compared.{files_differ}
 use Rattle.mp4norm.proofs.ComparedFiles.{both_of_two, empty_listed, once_of_two, some_listed}
 use Rattle.mp4norm.proofs.comparing.all_text.Goals as goal
 

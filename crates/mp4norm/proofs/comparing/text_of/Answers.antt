@@ -1,5 +1,5 @@
 use Rattle.mp4_present.specs.words.WalkSteps.{walks_steps}
-use Rattle.mp4norm.specs.words.Compares.{files_differ}
+use Rattle.mp4_present.specs.words.Compared.{files_differ}
 use Rattle.mp4norm.proofs.ComparedFiles.{first_said, once_of_two}
 use Rattle.mp4norm.proofs.comparing.text_of.Goals as goal
 

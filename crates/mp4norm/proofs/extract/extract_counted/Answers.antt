@@ -6,6 +6,7 @@ use Rattle.mp4_present.specs.words.Joined.{sample_bytes}
 use Rattle.mp4norm.specs.words.Commands.{HasData}
 use Rattle.mp4norm.proofs.TrackTexts.{track_found, lacks, has_data, open_refuses, text_refuses}
 use Rattle.mp4norm.proofs.StepsTaken.{not_looked, looked_within, walked_within}
+use Rattle.mp4norm.proofs.LooksTaken.{not_found, finds_taken}
 use Rattle.mp4norm.proofs.extract.extract_counted.Goals as goal
 
 pub returns-in_err-movie-clause-refusal : goal.returns-in_err-movie-clause-refusal
@@ -26,14 +27,14 @@ returns-clause-bytes g c =
     let o = c.in_ok-movie.ensures.movie told in
     let f = track_found file c.in_ok-movie.movie o.0 c.in_ok-track.track c.args.id o.1 (rw c.tracks.ensures at c.in_ok-track.ensures.within) (rw c.tracks.ensures at c.in_ok-track.ensures.track) in
     (sample_bytes file (track_samples o.0 f.t), has_data file o.0 c.in_ok-track.track c.args.id f, all told o.0 f.t o.1 f.is_there))
-    (rw (c.in_ok-movie.ensures.honesty, c.in_ok-movie.ensures.file) at c.copy_track.ensures.bytes)
+    (rw (c.in_ok-movie.ensures.store.honesty, c.in_ok-movie.ensures.store.file) at c.copy_track.ensures.bytes)
 
 pub returns-clause-refusal : goal.returns-clause-refusal
 returns-clause-refusal g c =
     let file = g.S.Store.file c.args.store.now in
-    let prefix = rw (c.in_ok-movie.ensures.honesty, c.in_ok-movie.ensures.file) at c.copy_track.ensures.prefix in
-    let unchanged = rw (c.in_ok-movie.ensures.honesty, c.in_ok-movie.ensures.file) at c.copy_track.ensures.unchanged in
-    let cause = rw c.in_ok-movie.ensures.reads at c.copy_track.ensures.refusal in
+    let prefix = rw (c.in_ok-movie.ensures.store.honesty, c.in_ok-movie.ensures.store.file) at c.copy_track.ensures.prefix in
+    let unchanged = rw (c.in_ok-movie.ensures.store.honesty, c.in_ok-movie.ensures.store.file) at c.copy_track.ensures.unchanged in
+    let cause = rw c.in_ok-movie.ensures.store.reads at c.copy_track.ensures.refusal in
     text_refuses c.copy_track.result (g.S.Store.is_honest c.args.store.now) file c.args.id (HasData file c.args.id) _ _ _ _ _ _ cause
     (λ told.
     let o = c.in_ok-movie.ensures.movie told in
@@ -60,5 +61,20 @@ returns-clause-work g c = λ told.
     let file = g.S.Store.file c.args.store.now in
     let o = c.in_ok-movie.ensures.movie told in
     let f = track_found file c.in_ok-movie.movie o.0 c.in_ok-track.track c.args.id o.1 (rw c.tracks.ensures at c.in_ok-track.ensures.within) (rw c.tracks.ensures at c.in_ok-track.ensures.track) in
-    let walk = (rw (c.in_ok-movie.ensures.honesty, c.in_ok-movie.ensures.file) at c.copy_track.ensures.work) told o.0 f.t o.1 f.is_there in
+    let walk = (rw (c.in_ok-movie.ensures.store.honesty, c.in_ok-movie.ensures.store.file) at c.copy_track.ensures.work) told o.0 f.t o.1 f.is_there in
     walked_within file _ _ c.in_ok-movie.movie o.0 _ c.in_ok-track.track f.t o.1 (c.in_ok-movie.ensures.work told o.0 o.1.is_tree) f.is_there walk
+
+-- ---- looks
+
+pub returns-in_err-movie-clause-looks : goal.returns-in_err-movie-clause-looks
+returns-in_err-movie-clause-looks g c = λ told.
+    let l = c.in_err-movie.ensures.looks told in
+    not_found _ _ _ _ _ _ c.in_err-movie.field-0.0 told c.in_err-movie.ensures.refusal l.said l.within
+
+pub returns-in_err-track-clause-looks : goal.returns-in_err-track-clause-looks
+returns-in_err-track-clause-looks g c = λ told.
+    finds_taken _ c.in_ok-movie.movie _ _ (c.in_ok-movie.ensures.movie told) (c.in_ok-movie.ensures.looks told).said
+
+pub returns-clause-looks : goal.returns-clause-looks
+returns-clause-looks g c = λ told.
+    finds_taken _ c.in_ok-movie.movie _ _ (c.in_ok-movie.ensures.movie told) (c.in_ok-movie.ensures.looks told).said

@@ -1,4 +1,7 @@
 use Rattle.mp4norm.proofs.judging.check.Given as goal
 
-abbrev pub ghosts-check_counted : goal.ghosts-check_counted
-ghosts-check_counted g a = record { name = a.blank.name; parts = a.blank.parts }
+abbrev pub ghosts-check_counted-L-Ledger : goal.ghosts-check_counted-L-Ledger
+ghosts-check_counted-L-Ledger g a = record { name = a.blank.name; parts = a.blank.parts }
+
+abbrev pub ghosts-check_counted-M-Ledger : goal.ghosts-check_counted-M-Ledger
+ghosts-check_counted-M-Ledger g a = record { name = a.other.name; parts = a.other.parts }

@@ -14,8 +14,8 @@ returns-in_err-movie-clause-refusal g c =
 pub returns-in_err-_writer-clause-refusal : goal.returns-in_err-_writer-clause-refusal
 returns-in_err-_writer-clause-refusal g c =
     let p = err_from_is_err_and c.from_residual-in_err-_writer.result c.from_residual-in_err-_writer.ensures.1 in
-    let cause = rw c.in_ok-movie.ensures.reads at c.in_err-_writer.ensures.refusal in
-    rw (p.1, p.2) (plan_refuses _ _ _ _ c.in_ok-movie.movie c.in_ok-movie.ensures.honesty c.in_ok-movie.ensures.file c.in_ok-movie.ensures.movie _ _
+    let cause = rw c.in_ok-movie.ensures.store.reads at c.in_err-_writer.ensures.refusal in
+    rw (p.1, p.2) (plan_refuses _ _ _ _ c.in_ok-movie.movie c.in_ok-movie.ensures.store.honesty c.in_ok-movie.ensures.store.file c.in_ok-movie.ensures.movie _ _
     c.in_err-_writer.field-0.0 cause c.in_err-_writer.ensures.unchanged)
 
 pub returns-clause-accepted : goal.returns-clause-accepted

@@ -51,7 +51,7 @@ returns-in_err-load-clause-unchanged g c told tree t samples o k few =
     let p = err_from_is_err_and c.from_residual-in_err-load.result c.from_residual-in_err-load.ensures.1 in
     let i = c.loop-walk.invariant in
     let u = i.going told tree t samples o k few in
-    rw (p.1, p.2) ((rw (i.honesty, i.file) at c.in_err-load.ensures.unchanged) told tree t u.earlier u.later o u.stands)
+    rw (p.1, p.2) ((rw (i.honesty, i.file) at c.in_err-load.ensures.loaded) told tree t u.earlier u.later o u.stands)
 
 pub loop-walk-preserved : goal.loop-walk-preserved
 loop-walk-preserved g c =
@@ -62,9 +62,9 @@ loop-walk-preserved g c =
     let m = c.args.movie.now in
     record {
       walk = e.walk;
-      honesty = l.honesty ∙ i.honesty;
-      file = l.file ∙ i.file;
-      reads = l.reads ∙ i.reads;
+      honesty = l.store.honesty ∙ i.honesty;
+      file = l.store.file ∙ i.file;
+      reads = l.store.reads ∙ i.reads;
       puts = e.puts ∙ i.puts;
       going = λ told tree t samples o k few.
           let u = i.going told tree t samples o k few in
@@ -127,7 +127,7 @@ returns-in_err-put_hand-clause-work g c told tree t n o may = let idle = c.in_er
 pub returns-in_err-load-clause-work : goal.returns-in_err-load-clause-work
 returns-in_err-load-clause-work g c told tree t n o may =
     let i = c.loop-walk.invariant in
-    most_then (g.S.Store.file c.args.store.now) tree t n _ _ _ c.loop-walk.walk (i.takes told tree t n o may) (λ k may. (rw (i.honesty, i.file) at c.in_err-load.ensures.most) told tree t k o may)
+    most_then (g.S.Store.file c.args.store.now) tree t n _ _ _ c.loop-walk.walk (i.takes told tree t n o may) (λ k may. (rw (i.honesty, i.file) at c.in_err-load.ensures.work) told tree t k o may)
 
 pub returns-in_err-put_hand-2-clause-work : goal.returns-in_err-put_hand-2-clause-work
 returns-in_err-put_hand-2-clause-work g c told tree t n o may =

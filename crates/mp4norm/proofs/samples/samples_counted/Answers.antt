@@ -9,6 +9,7 @@ use Rattle.mp4norm.proofs.TrackTexts.{track_found, lacks, lists, open_refuses, p
 use Rattle.mp4norm.proofs.WalkLines.{headed_whole, headed_fails}
 use Rattle.mp4_store.proofs.Known.{AppendsPrefix-longer}
 use Rattle.mp4norm.proofs.StepsTaken.{not_looked, looked_within, walked_within}
+use Rattle.mp4norm.proofs.LooksTaken.{not_found, finds_taken}
 use Rattle.mp4norm.proofs.samples.samples_counted.Goals as goal
 
 pub returns-in_err-movie-clause-refusal : goal.returns-in_err-movie-clause-refusal
@@ -28,7 +29,7 @@ returns-in_err-carry-clause-refusal g c =
     let file = g.S.Store.file c.args.store.now in
     let form = c.args.form in
     let front = rw (c.in_ok-carrier.ensures.empty, c.head_of.ensures) at c.in_err-carry.ensures.prefix in
-    rw (p.1, p.2, c.in_ok-movie.ensures.reads) (put_refuses (g.S.Store.is_honest c.args.store.now) file c.args.id (ListsSamples file c.args.id form) _ _ _ _ _ c.in_err-carry.field-0.0 c.in_err-carry.ensures.refusal
+    rw (p.1, p.2, c.in_ok-movie.ensures.store.reads) (put_refuses (g.S.Store.is_honest c.args.store.now) file c.args.id (ListsSamples file c.args.id form) _ _ _ _ _ c.in_err-carry.field-0.0 c.in_err-carry.ensures.refusal
     (λ told.
     let o = c.in_ok-movie.ensures.movie told in
     let f = track_found file c.in_ok-movie.movie o.0 c.in_ok-track.track c.args.id o.1 (rw c.tracks.ensures at c.in_ok-track.ensures.within) (rw c.tracks.ensures at c.in_ok-track.ensures.track) in
@@ -46,16 +47,16 @@ returns-clause-lines g c =
     let samples = track_samples o.0 f.t in
     let lines = sample_at_lines form 1 samples in
     (listing_head form ++ lines, lists form file o.0 c.in_ok-track.track c.args.id f, headed_whole _ _ _ _ (listing_head form) lines went (all told o.0 f.t samples o.1 (c.in_ok-walk.ensures.coming file o.0 f.t o.1 f.is_there) f.few)))
-    (rw (c.in_ok-movie.ensures.honesty, c.in_ok-movie.ensures.file) at c.put_walk.ensures.lines)
+    (rw (c.in_ok-movie.ensures.store.honesty, c.in_ok-movie.ensures.store.file) at c.put_walk.ensures.lines)
 
 pub returns-clause-refusal : goal.returns-clause-refusal
 returns-clause-refusal g c =
     let file = g.S.Store.file c.args.store.now in
     let form = c.args.form in
     let went = rw (c.in_ok-carrier.ensures.empty, c.head_of.ensures) at c.in_ok-carry.ensures.bytes in
-    let prefix = rw (c.in_ok-movie.ensures.honesty, c.in_ok-movie.ensures.file) at c.put_walk.ensures.prefix in
-    let unchanged = rw (c.in_ok-movie.ensures.honesty, c.in_ok-movie.ensures.file) at c.put_walk.ensures.unchanged in
-    let cause = rw (c.in_ok-movie.ensures.reads, c.in_ok-carry.ensures.puts) at c.put_walk.ensures.refusal in
+    let prefix = rw (c.in_ok-movie.ensures.store.honesty, c.in_ok-movie.ensures.store.file) at c.put_walk.ensures.prefix in
+    let unchanged = rw (c.in_ok-movie.ensures.store.honesty, c.in_ok-movie.ensures.store.file) at c.put_walk.ensures.unchanged in
+    let cause = rw (c.in_ok-movie.ensures.store.reads, c.in_ok-carry.ensures.puts) at c.put_walk.ensures.refusal in
     text_refuses c.put_walk.result (g.S.Store.is_honest c.args.store.now) file c.args.id (ListsSamples file c.args.id form) _ _ _ _ _ _ (if_err _ _ c.put_walk.result (λ r x. copy_not_carried _ _ _ _ _ _ r x) cause)
     (λ told.
     let o = c.in_ok-movie.ensures.movie told in
@@ -101,5 +102,32 @@ returns-clause-work g c = λ told.
     let f = track_found file c.in_ok-movie.movie o.0 c.in_ok-track.track c.args.id o.1 (rw c.tracks.ensures at c.in_ok-track.ensures.within) (rw c.tracks.ensures at c.in_ok-track.ensures.track) in
     let may = c.in_ok-walk.ensures.may file o.0 f.t o.1 f.is_there in
     let few = may.2 in
-    let walk = (rw (c.in_ok-movie.ensures.honesty, c.in_ok-movie.ensures.file) at c.put_walk.ensures.work) told o.0 f.t may.0 o.1 may.1 in
+    let walk = (rw (c.in_ok-movie.ensures.store.honesty, c.in_ok-movie.ensures.store.file) at c.put_walk.ensures.work) told o.0 f.t may.0 o.1 may.1 in
     walked_within file _ _ c.in_ok-movie.movie o.0 _ c.in_ok-track.track f.t o.1 (c.in_ok-movie.ensures.work told o.0 o.1.is_tree) f.is_there (omega (arith, few, walk))
+
+-- ---- looks
+
+pub returns-in_err-movie-clause-looks : goal.returns-in_err-movie-clause-looks
+returns-in_err-movie-clause-looks g c = λ told.
+    let l = c.in_err-movie.ensures.looks told in
+    not_found _ _ _ _ _ _ c.in_err-movie.field-0.0 told c.in_err-movie.ensures.refusal l.said l.within
+
+pub returns-in_err-track-clause-looks : goal.returns-in_err-track-clause-looks
+returns-in_err-track-clause-looks g c = λ told.
+    finds_taken _ c.in_ok-movie.movie _ _ (c.in_ok-movie.ensures.movie told) (c.in_ok-movie.ensures.looks told).said
+
+pub returns-in_err-walk-clause-looks : goal.returns-in_err-walk-clause-looks
+returns-in_err-walk-clause-looks g c = λ told.
+    finds_taken _ c.in_ok-movie.movie _ _ (c.in_ok-movie.ensures.movie told) (c.in_ok-movie.ensures.looks told).said
+
+pub returns-in_err-carrier-clause-looks : goal.returns-in_err-carrier-clause-looks
+returns-in_err-carrier-clause-looks g c = λ told.
+    finds_taken _ c.in_ok-movie.movie _ _ (c.in_ok-movie.ensures.movie told) (c.in_ok-movie.ensures.looks told).said
+
+pub returns-in_err-carry-clause-looks : goal.returns-in_err-carry-clause-looks
+returns-in_err-carry-clause-looks g c = λ told.
+    finds_taken _ c.in_ok-movie.movie _ _ (c.in_ok-movie.ensures.movie told) (c.in_ok-movie.ensures.looks told).said
+
+pub returns-clause-looks : goal.returns-clause-looks
+returns-clause-looks g c = λ told.
+    finds_taken _ c.in_ok-movie.movie _ _ (c.in_ok-movie.ensures.movie told) (c.in_ok-movie.ensures.looks told).said

@@ -2,6 +2,7 @@ use Rattle.std.proofs.Common.{ℕ, List, ◌++◌, rules, arith, ap, ◌∙◌}
 use Rattle.std.specs.Prelude.{string_bytes}
 use Rattle.mp4norm.proofs.ShownLines.{shows}
 use Rattle.mp4norm.proofs.StepsTaken.{not_looked, looked_within}
+use Rattle.mp4norm.proofs.LooksTaken.{not_found, finds_taken}
 use Rattle.mp4norm.proofs.show.movie_line.Goals as goal
 
 pub returns-clause-line : goal.returns-clause-line
@@ -35,3 +36,26 @@ pub returns-clause-work : goal.returns-clause-work
 returns-clause-work g c = λ told.
     let o = c.in_ok-movie.ensures.movie told in
     looked_within _ _ _ c.in_ok-movie.movie o.0 o.1 (c.in_ok-movie.ensures.work told o.0 o.1.is_tree)
+
+-- ---- looks
+
+pub returns-in_err-movie-clause-looks : goal.returns-in_err-movie-clause-looks
+returns-in_err-movie-clause-looks g c = λ told.
+    let l = c.in_err-movie.ensures.looks told in
+    not_found _ _ _ _ _ _ c.in_err-movie.field-0.0 told c.in_err-movie.ensures.refusal l.said l.within
+
+pub returns-in_err-head-clause-looks : goal.returns-in_err-head-clause-looks
+returns-in_err-head-clause-looks g c = λ told.
+    finds_taken _ c.in_ok-movie.movie _ _ (c.in_ok-movie.ensures.movie told) (c.in_ok-movie.ensures.looks told).said
+
+pub returns-in_err-text-clause-looks : goal.returns-in_err-text-clause-looks
+returns-in_err-text-clause-looks g c = λ told.
+    finds_taken _ c.in_ok-movie.movie _ _ (c.in_ok-movie.ensures.movie told) (c.in_ok-movie.ensures.looks told).said
+
+pub returns-in_err-push-clause-looks : goal.returns-in_err-push-clause-looks
+returns-in_err-push-clause-looks g c = λ told.
+    finds_taken _ c.in_ok-movie.movie _ _ (c.in_ok-movie.ensures.movie told) (c.in_ok-movie.ensures.looks told).said
+
+pub returns-clause-looks : goal.returns-clause-looks
+returns-clause-looks g c = λ told.
+    finds_taken _ c.in_ok-movie.movie _ _ (c.in_ok-movie.ensures.movie told) (c.in_ok-movie.ensures.looks told).said

@@ -46,7 +46,7 @@ returns-in_err-carry_freed-clause-prefix g t c =
     let read = rw (i.honesty, i.file) at e.header in
     let some = some_there file c.loop-at.at c.args.end c.loop-at-test.true c.requires.within in
     let named : is_named c.args.names.now c.args.rule c.in_ok-header.header.kind.0 ≡ true = search rules in
-    let x = rw (e.honesty ∙ i.honesty, e.file ∙ i.file) at c.in_err-carry_freed.ensures.prefix in
+    let x = rw (e.store.honesty ∙ i.honesty, e.store.file ∙ i.file) at c.in_err-carry_freed.ensures.prefix in
     rw p.1 (λ told text s. freed_fails c.args.names.now c.args.rule file c.args.end c.loop-at.at h w.0 w.2 some (read told) _ _ (waiting c.args.carrier.now) (waiting c.loop-at.carrier) text (i.goes told text s) _ named (x told))
 
 pub returns-in_err-carry_freed-clause-unchanged : goal.returns-in_err-carry_freed-clause-unchanged
@@ -60,7 +60,7 @@ returns-in_err-carry_freed-clause-refusal g t c =
     let i = c.loop-at.invariant in
     let file = g.S.Store.file c.args.store.now in
     let e = c.in_ok-header.ensures in
-    rw (p.1, p.2) (range_carried _ _ _ _ c.in_err-carry_freed.field-0.0 (rw (e.reads ∙ i.reads, i.puts) at c.in_err-carry_freed.ensures.refusal))
+    rw (p.1, p.2) (range_carried _ _ _ _ c.in_err-carry_freed.field-0.0 (rw (e.store.reads ∙ i.reads, i.puts) at c.in_err-carry_freed.ensures.refusal))
 
 pub returns-in_err-carry_range-clause-prefix : goal.returns-in_err-carry_range-clause-prefix
 returns-in_err-carry_range-clause-prefix g t c =
@@ -74,7 +74,7 @@ returns-in_err-carry_range-clause-prefix g t c =
     let some = some_there file c.loop-at.at c.args.end c.loop-at-test.true c.requires.within in
     let named : is_named c.args.names.now c.args.rule c.in_ok-header.header.kind.0 ≡ false = search rules in
     let into : rule_inside c.args.rule c.in_ok-header.header.kind.0 ≡ Some c.in-Some.inner = search rules in
-    let x = rw (c.from-head.ensures, e.honesty ∙ i.honesty, e.file ∙ i.file) at c.in_err-carry_range.ensures.prefix in
+    let x = rw (c.from-head.ensures, e.store.honesty ∙ i.honesty, e.store.file ∙ i.file) at c.in_err-carry_range.ensures.prefix in
     rw p.1 (λ told text s. entered_header_fails c.args.names.now c.args.rule file c.args.end c.loop-at.at h w.0 w.2 some (read told) _ _ (waiting c.args.carrier.now) (waiting c.loop-at.carrier) text (i.goes told text s) c.in-Some.inner named into _ (x told))
 
 pub returns-in_err-carry_range-clause-unchanged : goal.returns-in_err-carry_range-clause-unchanged
@@ -88,7 +88,7 @@ returns-in_err-carry_range-clause-refusal g t c =
     let i = c.loop-at.invariant in
     let file = g.S.Store.file c.args.store.now in
     let e = c.in_ok-header.ensures in
-    rw (p.1, p.2) (range_carried _ _ _ _ c.in_err-carry_range.field-0.0 (rw (e.reads ∙ i.reads, i.puts) at c.in_err-carry_range.ensures.refusal))
+    rw (p.1, p.2) (range_carried _ _ _ _ c.in_err-carry_range.field-0.0 (rw (e.store.reads ∙ i.reads, i.puts) at c.in_err-carry_range.ensures.refusal))
 
 pub returns-in_err-carry_boxes-clause-prefix : goal.returns-in_err-carry_boxes-clause-prefix
 returns-in_err-carry_boxes-clause-prefix g t c =
@@ -103,8 +103,8 @@ returns-in_err-carry_boxes-clause-prefix g t c =
     let named : is_named c.args.names.now c.args.rule c.in_ok-header.header.kind.0 ≡ false = search rules in
     let into : rule_inside c.args.rule c.in_ok-header.header.kind.0 ≡ Some c.in-Some.inner = search rules in
     let head = c.in_ok-carry_range.ensures in
-    let first = rw (c.from-head.ensures, e.honesty ∙ i.honesty, e.file ∙ i.file) at head.bytes in
-    let x = rw (c.from-head.ensures, head.honesty ∙ e.honesty ∙ i.honesty, head.file ∙ e.file ∙ i.file) at c.in_err-carry_boxes.ensures.prefix in
+    let first = rw (c.from-head.ensures, e.store.honesty ∙ i.honesty, e.store.file ∙ i.file) at head.bytes in
+    let x = rw (c.from-head.ensures, head.honesty ∙ e.store.honesty ∙ i.honesty, head.file ∙ e.store.file ∙ i.file) at c.in_err-carry_boxes.ensures.prefix in
     rw p.1 (λ told text s. entered_fails c.args.names.now c.args.rule file c.args.end c.loop-at.at h w.0 w.2 some (read told) _ _ (waiting c.args.carrier.now) (waiting c.loop-at.carrier) text (i.goes told text s) c.in-Some.inner named into _ _ (waiting c.carry_range.new.self) (first told) (x told))
 
 pub returns-in_err-carry_boxes-clause-unchanged : goal.returns-in_err-carry_boxes-clause-unchanged
@@ -120,7 +120,7 @@ returns-in_err-carry_boxes-clause-unchanged g t c told text s =
     let named : is_named c.args.names.now c.args.rule c.in_ok-header.header.kind.0 ≡ false = search rules in
     let into : rule_inside c.args.rule c.in_ok-header.header.kind.0 ≡ Some c.in-Some.inner = search rules in
     let head = c.in_ok-carry_range.ensures in
-    let x = rw (c.from-head.ensures, head.honesty ∙ e.honesty ∙ i.honesty, head.file ∙ e.file ∙ i.file) at c.in_err-carry_boxes.ensures.unchanged in
+    let x = rw (c.from-head.ensures, head.honesty ∙ e.store.honesty ∙ i.honesty, head.file ∙ e.store.file ∙ i.file) at c.in_err-carry_boxes.ensures.unchanged in
     let y = entered_part c.args.names.now c.args.rule file c.args.end c.loop-at.at h w.0 w.2 some (read told) _ _ (waiting c.args.carrier.now) (waiting c.loop-at.carrier) text (i.goes told text s) c.in-Some.inner named into in
     rw (p.1, p.2) (x told y.0 y.2)
 
@@ -131,7 +131,7 @@ returns-in_err-carry_boxes-clause-refusal g t c =
     let file = g.S.Store.file c.args.store.now in
     let e = c.in_ok-header.ensures in
     let head = c.in_ok-carry_range.ensures in
-    rw (p.1, p.2) (rw (head.reads ∙ e.reads ∙ i.reads, head.puts ∙ i.puts) at c.in_err-carry_boxes.ensures.refusal)
+    rw (p.1, p.2) (rw (head.reads ∙ e.store.reads ∙ i.reads, head.puts ∙ i.puts) at c.in_err-carry_boxes.ensures.refusal)
 
 pub returns-in_err-carry_range-2-clause-prefix : goal.returns-in_err-carry_range-2-clause-prefix
 returns-in_err-carry_range-2-clause-prefix g t c =
@@ -145,7 +145,7 @@ returns-in_err-carry_range-2-clause-prefix g t c =
     let some = some_there file c.loop-at.at c.args.end c.loop-at-test.true c.requires.within in
     let named : is_named c.args.names.now c.args.rule c.in_ok-header.header.kind.0 ≡ false = search rules in
     let into : rule_inside c.args.rule c.in_ok-header.header.kind.0 ≡ None = search rules in
-    let x = rw (e.honesty ∙ i.honesty, e.file ∙ i.file) at c.in_err-carry_range-2.ensures.prefix in
+    let x = rw (e.store.honesty ∙ i.honesty, e.store.file ∙ i.file) at c.in_err-carry_range-2.ensures.prefix in
     rw p.1 (λ told text s. kept_fails c.args.names.now c.args.rule file c.args.end c.loop-at.at h w.0 w.2 some (read told) _ _ (waiting c.args.carrier.now) (waiting c.loop-at.carrier) text (i.goes told text s) _ named into (x told))
 
 pub returns-in_err-carry_range-2-clause-unchanged : goal.returns-in_err-carry_range-2-clause-unchanged
@@ -159,7 +159,7 @@ returns-in_err-carry_range-2-clause-refusal g t c =
     let i = c.loop-at.invariant in
     let file = g.S.Store.file c.args.store.now in
     let e = c.in_ok-header.ensures in
-    rw (p.1, p.2) (range_carried _ _ _ _ c.in_err-carry_range-2.field-0.0 (rw (e.reads ∙ i.reads, i.puts) at c.in_err-carry_range-2.ensures.refusal))
+    rw (p.1, p.2) (range_carried _ _ _ _ c.in_err-carry_range-2.field-0.0 (rw (e.store.reads ∙ i.reads, i.puts) at c.in_err-carry_range-2.ensures.refusal))
 
 pub loop-at-preserved-in_ok-carry_freed : goal.loop-at-preserved-in_ok-carry_freed
 loop-at-preserved-in_ok-carry_freed g t c =
@@ -172,12 +172,12 @@ loop-at-preserved-in_ok-carry_freed g t c =
     let some = some_there file c.loop-at.at c.args.end c.loop-at-test.true c.requires.within in
     let named : is_named c.args.names.now c.args.rule c.in_ok-header.header.kind.0 ≡ true = search rules in
     let j = c.in_ok-carry_freed.ensures in
-    let x = rw (e.honesty ∙ i.honesty, e.file ∙ i.file) at j.bytes in
+    let x = rw (e.store.honesty ∙ i.honesty, e.store.file ∙ i.file) at j.bytes in
     record {
       span = w.2;
-      honesty = j.honesty ∙ e.honesty ∙ i.honesty;
-      file = j.file ∙ e.file ∙ i.file;
-      reads = j.reads ∙ e.reads ∙ i.reads;
+      honesty = j.store.honesty ∙ e.store.honesty ∙ i.honesty;
+      file = j.store.file ∙ e.store.file ∙ i.file;
+      reads = j.store.reads ∙ e.store.reads ∙ i.reads;
       puts = j.puts ∙ i.puts;
       goes = λ told text s. copy_freed c.args.names.now c.args.rule file c.args.end c.loop-at.at h w.0 w.2 some (read told) _ _ (waiting c.args.carrier.now) (waiting c.loop-at.carrier) text (i.goes told text s) _ (waiting c.carry_freed.new.carrier) named (x told);
     }
@@ -195,13 +195,13 @@ loop-at-preserved-in_ok-carry_boxes g t c =
     let into : rule_inside c.args.rule c.in_ok-header.header.kind.0 ≡ Some c.in-Some.inner = search rules in
     let head = c.in_ok-carry_range.ensures in
     let j = c.in_ok-carry_boxes.ensures in
-    let first = rw (c.from-head.ensures, e.honesty ∙ i.honesty, e.file ∙ i.file) at head.bytes in
-    let x = rw (c.from-head.ensures, head.honesty ∙ e.honesty ∙ i.honesty, head.file ∙ e.file ∙ i.file) at j.bytes in
+    let first = rw (c.from-head.ensures, e.store.honesty ∙ i.honesty, e.store.file ∙ i.file) at head.bytes in
+    let x = rw (c.from-head.ensures, head.honesty ∙ e.store.honesty ∙ i.honesty, head.file ∙ e.store.file ∙ i.file) at j.bytes in
     record {
       span = w.2;
-      honesty = j.honesty ∙ head.honesty ∙ e.honesty ∙ i.honesty;
-      file = j.file ∙ head.file ∙ e.file ∙ i.file;
-      reads = j.reads ∙ head.reads ∙ e.reads ∙ i.reads;
+      honesty = j.store.honesty ∙ head.honesty ∙ e.store.honesty ∙ i.honesty;
+      file = j.store.file ∙ head.file ∙ e.store.file ∙ i.file;
+      reads = j.store.reads ∙ head.reads ∙ e.store.reads ∙ i.reads;
       puts = j.puts ∙ head.puts ∙ i.puts;
       goes = λ told text s. copy_entered c.args.names.now c.args.rule file c.args.end c.loop-at.at h w.0 w.2 some (read told) _ _ (waiting c.args.carrier.now) (waiting c.loop-at.carrier) text (i.goes told text s) c.in-Some.inner named into _ _ (waiting c.carry_range.new.self)
           (waiting c.carry_boxes.new.carrier) (first told) (x told);
@@ -219,12 +219,12 @@ loop-at-preserved g t c =
     let named : is_named c.args.names.now c.args.rule c.in_ok-header.header.kind.0 ≡ false = search rules in
     let into : rule_inside c.args.rule c.in_ok-header.header.kind.0 ≡ None = search rules in
     let j = c.in_ok-carry_range-2.ensures in
-    let x = rw (e.honesty ∙ i.honesty, e.file ∙ i.file) at j.bytes in
+    let x = rw (e.store.honesty ∙ i.honesty, e.store.file ∙ i.file) at j.bytes in
     record {
       span = w.2;
-      honesty = j.honesty ∙ e.honesty ∙ i.honesty;
-      file = j.file ∙ e.file ∙ i.file;
-      reads = j.reads ∙ e.reads ∙ i.reads;
+      honesty = j.honesty ∙ e.store.honesty ∙ i.honesty;
+      file = j.file ∙ e.store.file ∙ i.file;
+      reads = j.reads ∙ e.store.reads ∙ i.reads;
       puts = j.puts ∙ i.puts;
       goes = λ told text s. copy_kept c.args.names.now c.args.rule file c.args.end c.loop-at.at h w.0 w.2 some (read told) _ _ (waiting c.args.carrier.now) (waiting c.loop-at.carrier) text (i.goes told text s) _ (waiting c.carry_range-in_default.new.self) named into (x told);
     }
@@ -249,7 +249,7 @@ carry_boxes-requires g t c κs within =
       omega arith,
       (
         within.0,
-        (within.1, (omega (arith, from, w.0), subst (λ (xs : List ℕ). h.end ≤ length xs) (sym (head.file ∙ e.file ∙ i.file)) (omega (arith, w.2, le)))),
+        (within.1, (omega (arith, from, w.0), subst (λ (xs : List ℕ). h.end ≤ length xs) (sym (head.file ∙ e.store.file ∙ i.file)) (omega (arith, w.2, le)))),
       ),
     )
 

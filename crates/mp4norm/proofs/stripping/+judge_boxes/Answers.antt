@@ -28,7 +28,7 @@ judge_boxes-requires g t c κs within =
     let from : c.from.result ≡ h.header = c.from.ensures in
     let le = c.requires.within in (
       omega arith,
-      (within, (omega (arith, from, w.0), subst (λ (xs : List ℕ). h.end ≤ length xs) (sym (e.file ∙ i.file)) (omega (arith, w.2, le)))),
+      (within, (omega (arith, from, w.0), subst (λ (xs : List ℕ). h.end ≤ length xs) (sym (e.store.file ∙ i.file)) (omega (arith, w.2, le)))),
     )
 
 pub returns-in_err-judge_boxes-clause-refusal : goal.returns-in_err-judge_boxes-clause-refusal
@@ -42,7 +42,7 @@ returns-in_err-judge_boxes-clause-refusal g t c =
     let read = rw (i.honesty, i.file) at e.header in
     let named : is_named c.args.names.now c.args.rule h.kind.0 ≡ false = search rules in
     let into : rule_inside c.args.rule h.kind.0 ≡ Some c.in-Some.inner = search rules in
-    let x = rw (c.from.ensures, e.honesty ∙ i.honesty, e.file ∙ i.file, e.reads ∙ i.reads) at c.in_err-judge_boxes.ensures.refusal in
+    let x = rw (c.from.ensures, e.store.honesty ∙ i.honesty, e.store.file ∙ i.file, e.store.reads ∙ i.reads) at c.in_err-judge_boxes.ensures.refusal in
     rw (p.1, p.2) (refuses_inside c.args.names.now (g.S.Store.is_honest c.args.store.now) c.args.rule c.in-Some.inner file c.args.from c.loop-at.at c.args.end (c.loop-at.at + h.header) h.end (g.S.Store.read_failures c.args.store.now) (g.S.Store.read_failures c.judge_boxes.new.store)
     c.in_err-judge_boxes.field-0.0
     (λ told f y. halts_within c.args.names.now c.args.rule file c.loop-at.at c.args.end h w.0 w.2 (read told) f c.in-Some.inner named into y) i.halts x)
@@ -58,9 +58,9 @@ loop-at-preserved-then-is_named g t c =
     let named : is_named c.args.names.now c.args.rule h.kind.0 ≡ true = search rules in
     record {
       span = w.2;
-      honesty = e.honesty ∙ i.honesty;
-      file = e.file ∙ i.file;
-      reads = e.reads ∙ i.reads;
+      honesty = e.store.honesty ∙ i.honesty;
+      file = e.store.file ∙ i.file;
+      reads = e.store.reads ∙ i.reads;
       judged = λ told s. i.judged told (walk_frees c.args.names.now c.args.rule file c.loop-at.at c.args.end h w.0 w.2 (read told) named s);
       halts = λ told f x. i.halts told f (halts_behind c.args.names.now c.args.rule file c.loop-at.at c.args.end h w.0 w.2 (read told) f x);
     }
@@ -76,12 +76,12 @@ loop-at-preserved-in_ok-judge_boxes g t c =
     let read = rw (i.honesty, i.file) at e.header in
     let named : is_named c.args.names.now c.args.rule h.kind.0 ≡ false = search rules in
     let into : rule_inside c.args.rule h.kind.0 ≡ Some c.in-Some.inner = search rules in
-    let held = rw (c.from.ensures, e.honesty ∙ i.honesty, e.file ∙ i.file) at j.judged in
+    let held = rw (c.from.ensures, e.store.honesty ∙ i.honesty, e.store.file ∙ i.file) at j.judged in
     record {
       span = w.2;
-      honesty = j.honesty ∙ e.honesty ∙ i.honesty;
-      file = j.file ∙ e.file ∙ i.file;
-      reads = j.reads ∙ e.reads ∙ i.reads;
+      honesty = j.store.honesty ∙ e.store.honesty ∙ i.honesty;
+      file = j.store.file ∙ e.store.file ∙ i.file;
+      reads = j.store.reads ∙ e.store.reads ∙ i.reads;
       judged = λ told s. i.judged told (walk_enters c.args.names.now c.args.rule file c.loop-at.at c.args.end h w.0 w.2 (read told) c.in-Some.inner named into (held told) s);
       halts = λ told f x. i.halts told f (halts_behind c.args.names.now c.args.rule file c.loop-at.at c.args.end h w.0 w.2 (read told) f x);
     }
@@ -98,9 +98,9 @@ loop-at-preserved g t c =
     let into : rule_inside c.args.rule h.kind.0 ≡ None = search rules in
     record {
       span = w.2;
-      honesty = e.honesty ∙ i.honesty;
-      file = e.file ∙ i.file;
-      reads = e.reads ∙ i.reads;
+      honesty = e.store.honesty ∙ i.honesty;
+      file = e.store.file ∙ i.file;
+      reads = e.store.reads ∙ i.reads;
       judged = λ told s. i.judged told (walk_keeps c.args.names.now c.args.rule file c.loop-at.at c.args.end h w.0 w.2 (read told) named into s);
       halts = λ told f x. i.halts told f (halts_behind c.args.names.now c.args.rule file c.loop-at.at c.args.end h w.0 w.2 (read told) f x);
     }

@@ -23,8 +23,8 @@ loop-at-preserved g c =
     let read = rw (i.honesty, i.file) at e.header in
     record {
       span = w.2;
-      honesty = e.honesty ∙ i.honesty;
-      file = e.file ∙ i.file;
-      reads = e.reads ∙ i.reads;
+      honesty = e.store.honesty ∙ i.honesty;
+      file = e.store.file ∙ i.file;
+      reads = e.store.reads ∙ i.reads;
       halts = λ told f x. i.halts told f (halts_behind c.args.names.now c.args.rule file c.loop-at.at c.args.end h w.0 w.2 (read told) f x);
     }

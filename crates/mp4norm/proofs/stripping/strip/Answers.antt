@@ -18,9 +18,9 @@ returns-in_err-carry_boxes-clause-refusal g c =
     let x = c.in_err-carry_boxes.ensures in
     let file = g.S.Store.file c.args.store.now in
     let judged = rw c.len-end.ensures at j.judged in
-    let cause = rw j.reads at x.refusal in
-    let prefix = rw (c.len-end.ensures, j.honesty, j.file, c.in_ok-carrier.ensures.empty) at x.prefix in
-    let unchanged = rw (c.len-end.ensures, j.honesty, j.file) at x.unchanged in
+    let cause = rw j.store.reads at x.refusal in
+    let prefix = rw (c.len-end.ensures, j.store.honesty, j.store.file, c.in_ok-carrier.ensures.empty) at x.prefix in
+    let unchanged = rw (c.len-end.ensures, j.store.honesty, j.store.file) at x.unchanged in
     rw (p.1, p.2) (carry_refuses c.args.names.now _ file _ _ _ _ _ _ c.in_err-carry_boxes.field-0.0 cause
     (λ told. let t = judged told in (t.0, of_file c.args.names.now file t.0 t.1, prefix told t.0 t.1))
     (λ told. let t = judged told in unchanged told t.0 t.1))
@@ -30,7 +30,7 @@ returns-clause-bytes g c =
     let j = c.in_ok-judge_boxes.ensures in
     let file = g.S.Store.file c.args.store.now in
     let judged = rw c.len-end.ensures at j.judged in
-    let goes = rw (c.len-end.ensures, j.honesty, j.file) at c.in_ok-carry_boxes.ensures.bytes in
+    let goes = rw (c.len-end.ensures, j.store.honesty, j.store.file) at c.in_ok-carry_boxes.ensures.bytes in
     on_ok _ _ c.flush.result (λ put told.
     let t = judged told in
     (t.0, of_file c.args.names.now file t.0 t.1, all_put _ _ _ (waiting c.in_ok-carrier.carrier) (waiting c.carry_boxes.new.carrier) t.0 c.in_ok-carrier.ensures.empty (goes told t.0 t.1) put)) c.flush.ensures.bytes
@@ -41,9 +41,9 @@ returns-clause-refusal g c =
     let k = c.in_ok-carry_boxes.ensures in
     let file = g.S.Store.file c.args.store.now in
     let judged = rw c.len-end.ensures at j.judged in
-    let goes = rw (c.len-end.ensures, j.honesty, j.file) at k.bytes in
+    let goes = rw (c.len-end.ensures, j.store.honesty, j.store.file) at k.bytes in
     let cause = rw k.puts at c.flush.ensures.refusal in
-    rw (k.reads ∙ j.reads) (flush_refuses c.flush.result c.args.names.now _ file _ _ _ _ _ cause
+    rw (k.store.reads ∙ j.store.reads) (flush_refuses c.flush.result c.args.names.now _ file _ _ _ _ _ cause
     (λ told.
     let t = judged told in
     on_err _ _ c.flush.result (λ put. (t.0, of_file c.args.names.now file t.0 t.1, end_fails _ _ _ (waiting c.in_ok-carrier.carrier) (waiting c.carry_boxes.new.carrier) t.0 c.in_ok-carrier.ensures.empty (goes told t.0 t.1) put)) c.flush.ensures.prefix))

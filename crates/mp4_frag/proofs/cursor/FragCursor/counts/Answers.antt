@@ -54,8 +54,8 @@ turn c =
     let here : c.self.inside.payload.now ≡ s.payload = ap (λ (v : CursorSeen). v.payload) c.self.view_is in
     let moof : c.self.inside.moof ≡ s.moof = ap (λ (v : CursorSeen). v.moof) c.self.view_is in
     let tracks : c.self.inside.tracks.now ≡ s.tracks = ap (λ (v : CursorSeen). v.tracks) c.self.view_is in
-    let track = c.leave_run.ensures.same.0 ∙ c.loop-place.invariant.same.0 in
-    let keys = c.leave_run.ensures.same.1 ∙ c.loop-place.invariant.same.1 in
+    let track = c.leave_run.ensures.walk.track ∙ c.loop-place.invariant.same.0 in
+    let keys = c.leave_run.ensures.walk.keys ∙ c.loop-place.invariant.same.1 in
     let w = walk_of s.moof s.tracks s.place in
     let same : walk_of c.self.inside.moof c.self.inside.tracks.now c.leave_run.new.place ≡ w = λ i. record { moof = moof i; tracks = tracks i; track = track i; keys = keys_seen (keys i) } in
     let both = counted_on s.payload c.self.inside.payload.now w _ c.loop-place.place c.leave_run.new.place c.settle.new.place here same (c.leave_run.ensures.coming w) c.settle.ensures.coming in
@@ -72,7 +72,7 @@ loop-place-preserved c =
     let here : c.self.inside.payload.now ≡ c.args.self.now.payload = ap (λ (v : CursorSeen). v.payload) c.self.view_is in
     record {
       place = subst (λ (b : List ℕ). IsPlaceIn b c.settle.new.place) here c.settle.ensures.place;
-      same = (c.settle.ensures.same.0 ∙ c.leave_run.ensures.same.0 ∙ i.same.0, c.settle.ensures.same.1 ∙ c.leave_run.ensures.same.1 ∙ i.same.1);
+      same = (c.settle.ensures.walk.track ∙ c.leave_run.ensures.walk.track ∙ i.same.0, c.settle.ensures.walk.keys ∙ c.leave_run.ensures.walk.keys ∙ i.same.1);
       count = omega (arith, counted, i.count);
       few = omega (arith, i.few, c.if-place-most.false);
       duration = omega (arith, lasted, i.duration, c.saturating_add-duration.ensures);

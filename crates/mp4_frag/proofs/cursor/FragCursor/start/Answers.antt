@@ -17,7 +17,7 @@ returns-clause-samples c =
     ap samples_coming c.at.ensures
     ∙ started (moof_seen c.args.view.now).payload c.payload.result.now (moof_seen c.args.view.now).offset c.offset-2.result c.offset.result c.args.dts c.args.tracks.now c.first_place-place.result c.settle.new.place c.args.track c.args.keys
     (c.payload.ensures ∙ ap (λ (b : Box). b.payload) moof) (c.offset-2.ensures ∙ ap (λ (b : Box). b.offset) moof) (c.offset.ensures ∙ ap (λ (b : Box). b.offset) moof)
-    first.walk.0 first.walk.1 settled.same.0 settled.same.1 settled.coming first.coming
+    first.walk.0 first.walk.1 settled.walk.track settled.walk.keys settled.coming first.coming
 
 pub returns-clause-definition : goal.returns-clause-definition
 returns-clause-definition c file_length trexes t is sound defaults distinct fits =
@@ -28,7 +28,7 @@ returns-clause-definition c file_length trexes t is sound defaults distinct fits
     let samples = ap samples_coming c.at.ensures
     ∙ started seen.payload c.payload.result.now seen.offset c.offset-2.result c.offset.result c.args.dts c.args.tracks.now c.first_place-place.result c.settle.new.place c.args.track c.args.keys
     (c.payload.ensures ∙ ap (λ (b : Box). b.payload) moof) (c.offset-2.ensures ∙ ap (λ (b : Box). b.offset) moof) (c.offset.ensures ∙ ap (λ (b : Box). b.offset) moof)
-    first.walk.0 first.walk.1 settled.same.0 settled.same.1 settled.coming first.coming in
+    first.walk.0 first.walk.1 settled.walk.track settled.walk.keys settled.coming first.coming in
     let whole = c.args.view.now.moof.fits in
     let early : seen.offset < 2 ^ 64 = omega arith in
     let small : length seen.payload < 2 ^ 64 = omega arith in

@@ -1,5 +1,7 @@
-use Rattle.std.proofs.Common.{◌+◌, ◌∷◌, ◌++◌, [], length, take, drop, refl, ◌∙◌, arith}
+use Rattle.std.proofs.Common.{◌+◌, ◌-◌, ◌∷◌, ◌++◌, [], length, take, drop, refl, ◌∙◌, arith}
 use Rattle.std.proofs.lemmas.Result.{err_from_is_err_and}
+use Rattle.mp4_present.specs.words.Carried.{waiting}
+use Rattle.mp4_present.proofs.Carrying.{GoOnBy-then}
 use Rattle.mp4_plan.proofs.Stretched.{spans_more, spans_fail, spans_front, spans_whole, spans_counted, span_there, span_fits, next_span, last_span}
 use Rattle.mp4_plan.proofs.joined.Stretches.carry.Goals as goal
 
@@ -17,6 +19,11 @@ loop-span-preserved g c =
       reads = e.reads ∙ i.reads;
       puts = e.puts ∙ i.puts;
       room = e.room ∙ i.room;
+      few = (let few = i.few in let fewer = e.left in omega (arith, few, fewer));
+      many =
+          let few = i.few in
+          let fewer = e.left in
+          GoOnBy-then _ _ _ _ (waiting c.loop-span.carrier) _ (c.args.bytes - c.loop-span.left) _ _ i.many e.many (omega (arith, few, fewer));
       carried = spans_more _ _ _ _ _ _ _ _ _ _ i.carried _ _ _ (drop (k + 1) items ++ w.last ∷ []) _ (next_span items k _ w.last c.loop-span-test.true) e.left (rw (i.honesty, i.file) at e.bytes);
     }
 
@@ -90,6 +97,15 @@ returns-clause-len g c =
     let count = spans_counted _ _ _ _ _ _ _ _ _ _ all refl in
     let none = c.if-left-gt0.false in
     omega (arith, count, none)
+
+pub returns-clause-many : goal.returns-clause-many
+returns-clause-many g c =
+    let i = c.loop-span.invariant in
+    let e = c.in_ok-left-2.ensures in
+    let few = i.few in
+    let fewer = e.left in
+    let none = c.if-left-gt0.false in
+    GoOnBy-then _ _ _ _ (waiting c.loop-span.carrier) _ (c.args.bytes - c.loop-span.left) _ _ i.many e.many (omega (arith, few, fewer, none))
 
 pub returns-clause-bytes : goal.returns-clause-bytes
 returns-clause-bytes g c honest =

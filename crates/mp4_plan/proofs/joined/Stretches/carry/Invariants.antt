@@ -1,6 +1,6 @@
 use Rattle.std.specs.Prelude.{vec_len, IsTrue}
-use Rattle.std.proofs.Common.{◌≡◌, ◌∷◌, ◌++◌, [], take, drop}
-use Rattle.mp4_present.specs.words.Carried.{waiting}
+use Rattle.std.proofs.Common.{◌≡◌, ◌-◌, ◌≤◌, ◌∷◌, ◌++◌, [], take, drop}
+use Rattle.mp4_present.specs.words.Carried.{GoOnBy, waiting}
 use Rattle.mp4_plan.specs.words.Stretches.{spans_of}
 use Rattle.mp4_plan.proofs.Stretched.{SpansCarried}
 use Rattle.mp4_plan.proofs.joined.Stretches.carry.Given as goal
@@ -14,5 +14,7 @@ invariant-loop-span g l = record {
   reads : g.S.Store.read_failures l.store ≡ g.S.Store.read_failures l.fn.store;
   puts : g.K.Sink.put_failures l.sink ≡ g.K.Sink.put_failures l.fn.sink;
   room : vec_len l.carrier.buffer ≡ vec_len l.fn.carrier.buffer;
+  few : l.left ≤ l.bytes;
+  many : GoOnBy (g.K.Sink.contents l.fn.sink) (g.K.Sink.contents l.sink) (waiting l.fn.carrier) (waiting l.carrier) (l.bytes - l.left);
   carried : SpansCarried (IsTrue (g.S.Store.is_honest l.fn.store)) (g.S.Store.file l.fn.store) (g.K.Sink.contents l.fn.sink) (g.K.Sink.contents l.sink) (waiting l.fn.carrier) (waiting l.carrier) (spans_of l.self) (drop l.span-index l.span-items ++ l.self.last ∷ []) l.bytes l.left;
 }

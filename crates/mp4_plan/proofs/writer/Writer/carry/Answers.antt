@@ -1,4 +1,5 @@
-use Rattle.std.proofs.Common.{get_or, ℕ, List, take, map, refl, sym, ap, subst, ◌∙◌, arith}
+use Rattle.std.proofs.Common.{get_or, ℕ, List, length, take, map, refl, sym, ap, subst, ◌≡◌, ◌∙◌, arith}
+use Rattle.std.proofs.lemmas.List.{length-take-le}
 use Rattle.std.specs.Prelude.{codes}
 use Rattle.std.proofs.lemmas.Result.{err_from_is_err_and}
 use Rattle.mp4_boxes.specs.format.Written.{header_bytes}
@@ -6,10 +7,12 @@ use Rattle.mp4_tables.specs.words.Keys.{keys_seen}
 use Rattle.mp4_present.specs.words.Joined.{sample_bytes}
 use Rattle.mp4_present.specs.declared.track_info.TrackInfo.{TrackInfo}
 use Rattle.mp4_present.proofs.WalkCopied.{put_unchanged, on_ok, on_err}
-use Rattle.mp4_plan.specs.words.Spelling.{run_rows}
+use Rattle.mp4_plan.specs.words.PutPieces.{PutPiece}
+use Rattle.mp4_plan.specs.words.Spelling.{moof_front, run_rows}
 use Rattle.mp4_plan.specs.words.Taken.{row_seen}
 use Rattle.mp4_plan.specs.words.UsedKeys.{AreApart, groups_bytes}
 use Rattle.mp4_plan.proofs.CarriedParts.{parts_are, read_at, noted_with}
+use Rattle.mp4_plan.proofs.PiecesPut.{piece_follows}
 use Rattle.mp4_plan.proofs.PartsPut.{go_five, stop_one, stop_two, stop_three, stop_four, stop_five}
 use Rattle.mp4_plan.proofs.FrontsPut.{front_as}
 use Rattle.mp4_plan.proofs.Pushes.{goes_on_as}
@@ -132,6 +135,22 @@ returns-clause-put g c told_honest tree o samples noted_are info is apart =
     (go_five front (run_rows p noted) (groups_bytes noted p told) mdat bytes_there (g.K.Sink.contents c.args.sink.now) (g.K.Sink.contents c.carry.new.sink) (g.K.Sink.contents c.carry_run.new.sink) (g.K.Sink.contents c.carry_groups.new.sink) (g.K.Sink.contents c.carry-2.new.sink)
     (g.K.Sink.contents c.carry_data.new.sink) (waiting c.args.self.now.carrier) (waiting c.carry.new.self) (waiting c.carry_run.new.carrier) (waiting c.carry_groups.new.carrier) (waiting c.carry-2.new.self) (waiting c.carry_data.new.self.carrier)
     c.in_ok-carry.ensures.bytes c.in_ok-carry_run.ensures.bytes (c.in_ok-carry_groups.ensures.bytes (subst AreApart (sym keys) apart)) c.in_ok-carry-2.ensures.bytes x) whole) (c.carry_data.ensures.put told_honest tree o samples here)
+
+pub returns-clause-many : goal.returns-clause-many
+returns-clause-many g c =
+    let p = c.args.planned.now in
+    let there = get_or c.tracks.result.now c.args.track c.index-tracks-track.result in
+    let noted = take p.count c.deref.result.now in
+    let groups = c.in_ok-carry_groups.ensures.some in
+    let few = c.requires.count in
+    let rows = ap length c.deref.ensures.value in
+    let each : length noted ≡ p.count = length-take-le p.count c.deref.result.now (omega (arith, few, rows)) in
+    let q : PutPiece = record { head = c.args.head; planned = p; keys = keys_seen there.keys; rows = noted; groups = groups.0; each = each; few = groups.1 } in
+    let front = c.as_bytes.ensures ∙ c.moof_front-front.ensures ∙ ap (moof_front c.args.head p) c.sizes_of-sizes.ensures.is in
+    on_ok _ _ c.carry_data.result
+    (λ x. piece_follows q c.as_bytes.result.now c.bytes.result.now (g.K.Sink.contents c.args.sink.now) (g.K.Sink.contents c.carry.new.sink) (g.K.Sink.contents c.carry_run.new.sink) (g.K.Sink.contents c.carry_groups.new.sink) (g.K.Sink.contents c.carry-2.new.sink)
+    (g.K.Sink.contents c.carry_data.new.sink) (waiting c.args.self.now.carrier) (waiting c.carry.new.self) (waiting c.carry_run.new.carrier) (waiting c.carry_groups.new.carrier) (waiting c.carry-2.new.self) (waiting c.carry_data.new.self.carrier) front
+    (c.bytes.ensures ∙ c.header-mdat.ensures) c.in_ok-carry.ensures.bytes c.in_ok-carry_run.ensures.bytes groups.2 c.in_ok-carry-2.ensures.bytes x) c.carry_data.ensures.many
 
 pub returns-clause-copied : goal.returns-clause-copied
 unfolding noted_with

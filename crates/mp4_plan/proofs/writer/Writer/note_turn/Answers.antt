@@ -83,16 +83,16 @@ returns-clause-noted g c told tree o t walk left is comes marked shown =
     let two = p.planned told tree t left o here in
     let many : length c.note_marked.new.rows ≡ c.args.self.now.rows.len = search rules in
     let rows = with_items_is c.args.self.now.rows c.note_marked.new.rows many in
-    let some = p.few.0 in
+    let some = p.some in
     record {
       planned = two.0;
       head = c.turn_head.ensures ∙ ap (turn_head c.args.sequence c.args.id c.in_ok-planned.planned.count) first;
-      rows = ap (take c.in_ok-planned.planned.count) rows ∙ p.noted told tree t left o here;
+      rows = ap (take c.in_ok-planned.planned.count) rows ∙ (p.noted told tree t left o here).seen;
       walk = c.note_marked.new.walk;
       walks = refl;
       comes = two.1 there;
       none = λ zero. absurd (omega (arith, some, zero));
-      stretches = p.joined told tree t left o here [] c.clear.ensures.told;
+      stretches = (p.noted told tree t left o here).joined [] c.clear.ensures.told;
     }
 
 pub returns-clause-work : goal.returns-clause-work
@@ -117,4 +117,4 @@ returns-in_err-planned-clause-most g c told tree o n h =
     let lt = c.requires.track in
     let many = c.requires.writer.walks.count in
     let there = slice_get_read walks (length walks) k c.index_mut-walk.result.now refl (omega (arith, lt, many)) c.index_mut-walk.ensures.value in
-    rw e.1 (one_ends (MayWrite file tree m) tree.movie.tracks walks k c.index_mut-walk.result.now n _ _ h there (λ t own may. c.in_err-planned.ensures.most told tree t own o may))
+    rw e.1 (one_ends (MayWrite file tree m) tree.movie.tracks walks k c.index_mut-walk.result.now n _ _ h there (λ t own may. c.in_err-planned.ensures.work told tree t own o may))

@@ -6,7 +6,7 @@ returns-clause-ready g c told tree o =
     let file = g.S.Store.file c.args.store.now in
     record {
       head = (λ i. c.in_ok-new.ensures.empty i ++ c.in_ok-head_of.field-0.items) ∙ c.in_ok-head_of.ensures.head file tree o (c.in_ok-mehd.ensures.left file tree o).1;
-      rows = sym c.in_ok-vec.field-0.ok.0 ∙ c.in_ok-vec.ensures.len ∙ (c.in_ok-plan.ensures.plan told tree o).longest;
+      rows = sym c.in_ok-vec.field-0.ok.0 ∙ c.in_ok-vec.ensures.len ∙ c.in_ok-longest.ensures.longest told tree o;
       walks = c.in_ok-walks_of.ensures.begin file tree o c.args.leaving;
       marked = c.in_ok-walks_of.ensures.marked file tree o c.args.leaving;
     }

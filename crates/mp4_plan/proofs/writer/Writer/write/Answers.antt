@@ -1,19 +1,25 @@
-use Rattle.std.proofs.Common.{rules, get_or, ◌≡◌, length, map, refl, sym, ap, ◌∙◌, arith}
+use Rattle.std.proofs.Common.{rules, get_or, ◌≡◌, ◌+◌, List, length, map, refl, sym, ap, subst, ◌∙◌, arith}
+use Rattle.std.specs.List.{sum_by}
 use Rattle.std.specs.Vec.{with_items}
 use Rattle.std.proofs.lemmas.List.{with_items_is}
 use Rattle.std.proofs.lemmas.Result.{err_from_is_err_and}
 use Rattle.mp4_present.specs.words.Carried.{waiting}
 use Rattle.mp4_plan.specs.words.ComingLess.{left_samples}
+use Rattle.mp4_plan.specs.words.PutPieces.{PiecesFollow}
+use Rattle.mp4_plan.specs.declared.schedule.Schedule.{Schedule}
+use Rattle.mp4_present.specs.declared.carrier.Carrier.{Carrier}
 use Rattle.mp4_present.specs.declared.track_info.TrackInfo.{TrackInfo}
 use Rattle.mp4_present.proofs.WalkCopied.{put_unchanged, on_ok, on_err, if_err}
 use Rattle.std.specs.Prelude.{Some, slice_get}
-use Rattle.mp4_plan.specs.words.Turns.{turn_end}
+use Rattle.mp4_plan.specs.words.Turns.{movie_turns, turn_end}
 use Rattle.mp4_plan.specs.format.Held.{rooms}
 use Rattle.mp4_plan.proofs.CarriedParts.{read_at}
 use Rattle.mp4_plan.proofs.PieceWritten.{IsFew}
+use Rattle.mp4_plan.proofs.PiecesPut.{all_follow, fewer_to_come, first_put, follow_then, no_more, still_fits, sum_fits}
 use Rattle.mp4_plan.proofs.TurnTaken.{turns_end}
-use Rattle.mp4_plan.proofs.WritesOn.{stopped, all_put, not_all_put, begins, head_stops, head_put, is_first}
+use Rattle.mp4_plan.proofs.WritesOn.{stopped, all_taken, all_put, not_all_put, begins, head_stops, head_put, is_first, turned_left}
 use Rattle.mp4_plan.proofs.WriterTurns.{note_lacks, carry_stops, carry_lacks, pass_lacks, turn_goes}
+use Rattle.mp4_plan.proofs.LooksOn.{begins_within, looks_on, looks_within}
 use Rattle.mp4_plan.proofs.StepsOn.{all_written, write_then_stop, turn_then, turn_then_stop}
 use Rattle.mp4_plan.proofs.writer.Writer.write.Goals as goal
 
@@ -36,7 +42,7 @@ pub loop-turn-init : goal.loop-turn-init
 loop-turn-init g c =
     let w = c.args.self.now in
     let e = c.in_ok-peek_each.ensures in
-    let count = e.walks.count in
+    let count = e.walks.walks.count in
     let each_walk = c.requires.walks.count in
     let len = w.walks.ok.0 in
     let many : length c.peek_each.new.walks ≡ w.walks.len = omega (arith, count, each_walk, len) in
@@ -47,21 +53,23 @@ loop-turn-init g c =
     let next_len = w.nexts.ok.0 in
     let next_many = ap length nexts in
     record {
-      writer = record { walks = rw walks e.walks; few = c.requires.few; nexts = omega (arith, each, next_count, next_len, next_many) };
+      writer = record { walks = rw walks e.walks.walks; few = c.requires.few; nexts = omega (arith, each, next_count, next_len, next_many) };
       held =
           let room = c.in_ok-carry.ensures.room in
           let old = w.carrier.buffer.ok.0 in
           let new = c.carry.new.self.buffer.ok.0 in
-          let rooms_are = e.rooms in
+          let rooms_are = e.walks.rooms in
           let own = ap rooms walks ∙ rooms_are ∙ ap rooms c.as_mut_slice-walks.ensures.value in
           omega (arith, room, old, new, own);
       leaving = refl;
       tracks = rw c.tracks-tracks.ensures at c.new-schedule.ensures.tracks;
-      honesty = e.honesty;
-      file = e.file;
-      reads = e.reads;
+      honesty = e.store.honesty;
+      file = e.store.file;
+      reads = e.store.reads;
       puts = c.in_ok-carry.ensures.puts;
       rows = refl;
+      few = (let few = c.new-schedule.ensures.few in omega (arith, few));
+      sent = (0, (let left = rw c.tracks-tracks.ensures at c.new-schedule.ensures.left in omega (arith, left)), first_put _ _ _ _ w.head.items (rw c.as_slice.ensures.value at c.in_ok-carry.ensures.bytes));
       on = λ told tree o ready.
           let file = g.S.Store.file c.args.store.now in
           let m = c.args.movie.now in
@@ -75,6 +83,7 @@ loop-turn-init g c =
           (waiting c.carry.new.self) o ready refl first
           (rw walks shown.1) (rw walks marked) (nexts ∙ shown.0) (rw c.as_slice.ensures.value at c.in_ok-carry.ensures.bytes);
       within = λ told tree o n may. rw walks (e.writes told tree o n (rw c.as_mut_slice-walks.ensures.value may));
+      looks = begins_within c.args.movie.now.tracks c.new-schedule.result c.args.looks.now (rw c.tracks-tracks.ensures at c.new-schedule.ensures.tracks) (rw c.tracks-tracks.ensures at c.new-schedule.ensures.left) c.new-schedule.ensures.starts.0 c.new-schedule.ensures.starts.2;
     }
 
 pub returns-in_err-noted-clause-prefix : goal.returns-in_err-noted-clause-prefix
@@ -88,7 +97,7 @@ returns-in_err-noted-clause-prefix g c told tree o ready =
     let h = i.on told tree o ready in
     let before = g.K.Sink.contents c.args.sink.now in
     let after = g.K.Sink.contents c.loop-turn.sink in
-    rw e.1 (stopped c.args.self.now.leaving file tree m s c.loop-turn.sequence w.walks.items w.nexts.items (length w.rows.items) before after (waiting w.carrier) h)
+    rw e.1 (stopped c.args.self.now.leaving file tree m s c.loop-turn.sequence c.loop-turn.bytes w.walks.items w.nexts.items (length w.rows.items) before after (waiting w.carrier) h)
 
 pub returns-in_err-noted-clause-unchanged : goal.returns-in_err-noted-clause-unchanged
 returns-in_err-noted-clause-unchanged g c told tree o ready =
@@ -103,7 +112,7 @@ returns-in_err-noted-clause-unchanged g c told tree o ready =
     let after = g.K.Sink.contents c.loop-turn.sink in
     let here = c.in-Some.ensures.track in
     let ends : (info : TrackInfo) → slice_get m.tracks s.track ≡ Some info → c.in-Some.turn.end ≡ turn_end s info.timescale = λ info is. c.in-Some.ensures.end info (rw c.tracks-tracks.ensures is) in
-    rw (e.1, e.2) (note_lacks c.args.self.now.leaving file tree m o s c.loop-turn.sequence w before after h c.in-Some.turn here ends i.tracks i.writer i.leaving _ ((rw (i.honesty, i.file) at c.in_err-noted.ensures.unchanged) told tree o))
+    rw (e.1, e.2) (note_lacks c.args.self.now.leaving file tree m o s c.loop-turn.sequence c.loop-turn.bytes w before after h c.in-Some.turn here ends i.tracks i.writer i.leaving _ ((rw (i.honesty, i.file) at c.in_err-noted.ensures.unchanged) told tree o))
 
 pub returns-in_err-carry_turn-clause-prefix : goal.returns-in_err-carry_turn-clause-prefix
 returns-in_err-carry_turn-clause-prefix g c told tree o ready =
@@ -119,11 +128,11 @@ returns-in_err-carry_turn-clause-prefix g c told tree o ready =
     let here = c.in-Some.ensures.track in
     let ends : (info : TrackInfo) → slice_get m.tracks s.track ≡ Some info → c.in-Some.turn.end ≡ turn_end s info.timescale = λ info is. c.in-Some.ensures.end info (rw c.tracks-tracks.ensures is) in
     let noted = (rw (i.honesty, i.file) at c.in_ok-noted.ensures.noted) told tree o in
-    let few : IsFew c.in_ok-noted.noted.planned = record { count = (let n = c.in_ok-noted.ensures.few.0 in let r = i.writer.few in omega (arith, n, r)); rows = c.in_ok-noted.ensures.few.2 } in
+    let few : IsFew c.in_ok-noted.noted.planned = record { count = no_more _ _ _ c.in_ok-noted.ensures.few.0 i.writer.few; rows = c.in_ok-noted.ensures.few.2 } in
     let is_id : (info : TrackInfo) → slice_get m.tracks s.track ≡ Some info
     → (get_or c.tracks-tracks.result.now c.in-Some.turn.track c.index-tracks-track.result).id
     ≡ info.id = λ info is. ap (λ (x : TrackInfo). x.id) (sym c.index-tracks-track.is ∙ read_at m.tracks s.track info c.index-tracks-track.result is (rw (here.0, c.tracks-tracks.ensures) at c.index-tracks-track.is)) in
-    rw e.1 (carry_stops c.args.self.now.leaving file tree m o s c.loop-turn.sequence w before after h c.in-Some.turn here ends i.tracks i.writer i.leaving c.note_turn.new.self c.in_ok-noted.noted
+    rw e.1 (carry_stops c.args.self.now.leaving file tree m o s c.loop-turn.sequence c.loop-turn.bytes w before after h c.in-Some.turn here ends i.tracks i.writer i.leaving c.note_turn.new.self c.in_ok-noted.noted
     (get_or c.tracks-tracks.result.now c.in-Some.turn.track c.index-tracks-track.result).id noted c.in_ok-noted.ensures.keeps few is_id
     (g.K.Sink.contents c.carry_turn.new.sink) ((rw (c.in_ok-noted.ensures.honesty, c.in_ok-noted.ensures.file, i.honesty, i.file) at c.in_err-carry_turn.ensures.prefix) told tree o))
 
@@ -141,12 +150,12 @@ returns-in_err-carry_turn-clause-unchanged g c told tree o ready =
     let here = c.in-Some.ensures.track in
     let ends : (info : TrackInfo) → slice_get m.tracks s.track ≡ Some info → c.in-Some.turn.end ≡ turn_end s info.timescale = λ info is. c.in-Some.ensures.end info (rw c.tracks-tracks.ensures is) in
     let noted = (rw (i.honesty, i.file) at c.in_ok-noted.ensures.noted) told tree o in
-    let few : IsFew c.in_ok-noted.noted.planned = record { count = (let n = c.in_ok-noted.ensures.few.0 in let r = i.writer.few in omega (arith, n, r)); rows = c.in_ok-noted.ensures.few.2 } in
+    let few : IsFew c.in_ok-noted.noted.planned = record { count = no_more _ _ _ c.in_ok-noted.ensures.few.0 i.writer.few; rows = c.in_ok-noted.ensures.few.2 } in
     let is_id : (info : TrackInfo) → slice_get m.tracks s.track ≡ Some info
     → (get_or c.tracks-tracks.result.now c.in-Some.turn.track c.index-tracks-track.result).id
     ≡ info.id = λ info is. ap (λ (x : TrackInfo). x.id) (sym c.index-tracks-track.is ∙ read_at m.tracks s.track info c.index-tracks-track.result is (rw (here.0, c.tracks-tracks.ensures) at c.index-tracks-track.is)) in
     rw (e.1, e.2)
-    (carry_lacks c.args.self.now.leaving file tree m o s c.loop-turn.sequence w before after h c.in-Some.turn here ends i.tracks i.writer i.leaving c.note_turn.new.self c.in_ok-noted.noted
+    (carry_lacks c.args.self.now.leaving file tree m o s c.loop-turn.sequence c.loop-turn.bytes w before after h c.in-Some.turn here ends i.tracks i.writer i.leaving c.note_turn.new.self c.in_ok-noted.noted
     (get_or c.tracks-tracks.result.now c.in-Some.turn.track c.index-tracks-track.result).id noted c.in_ok-noted.ensures.keeps few is_id _
     ((rw (c.in_ok-noted.ensures.honesty, c.in_ok-noted.ensures.file, i.honesty, i.file) at c.in_err-carry_turn.ensures.unchanged) told tree o))
 
@@ -164,16 +173,16 @@ returns-in_err-pass-clause-prefix g c told tree o ready =
     let here = c.in-Some.ensures.track in
     let ends : (info : TrackInfo) → slice_get m.tracks s.track ≡ Some info → c.in-Some.turn.end ≡ turn_end s info.timescale = λ info is. c.in-Some.ensures.end info (rw c.tracks-tracks.ensures is) in
     let noted = (rw (i.honesty, i.file) at c.in_ok-noted.ensures.noted) told tree o in
-    let few : IsFew c.in_ok-noted.noted.planned = record { count = (let n = c.in_ok-noted.ensures.few.0 in let r = i.writer.few in omega (arith, n, r)); rows = c.in_ok-noted.ensures.few.2 } in
+    let few : IsFew c.in_ok-noted.noted.planned = record { count = no_more _ _ _ c.in_ok-noted.ensures.few.0 i.writer.few; rows = c.in_ok-noted.ensures.few.2 } in
     let is_id : (info : TrackInfo) → slice_get m.tracks s.track ≡ Some info
     → (get_or c.tracks-tracks.result.now c.in-Some.turn.track c.index-tracks-track.result).id
     ≡ info.id = λ info is. ap (λ (x : TrackInfo). x.id) (sym c.index-tracks-track.is ∙ read_at m.tracks s.track info c.index-tracks-track.result is (rw (here.0, c.tracks-tracks.ensures) at c.index-tracks-track.is)) in
     let put = (rw (c.in_ok-noted.ensures.honesty, c.in_ok-noted.ensures.file, i.honesty, i.file) at c.in_ok-carry_turn.ensures.put) told tree o in
     let copied = (rw (c.in_ok-noted.ensures.honesty, c.in_ok-noted.ensures.file, i.honesty, i.file) at c.in_ok-carry_turn.ensures.copied) told tree o in
-    let on = turn_goes c.args.self.now.leaving file tree m o s c.loop-turn.sequence w before after h c.in-Some.turn here ends i.tracks i.writer i.leaving c.note_turn.new.self c.in_ok-noted.noted
+    let on = turn_goes c.args.self.now.leaving file tree m o s c.loop-turn.sequence c.loop-turn.bytes w before after h c.in-Some.turn here ends i.tracks i.writer i.leaving c.note_turn.new.self c.in_ok-noted.noted
     (get_or c.tracks-tracks.result.now c.in-Some.turn.track c.index-tracks-track.result).id noted c.in_ok-noted.ensures.keeps few is_id c.carry_turn.new.self _ copied
     (λ x is. read_at c.carry_turn.new.self.nexts.items c.in-Some.turn.track x _ is c.index.ensures) (g.K.Sink.contents c.carry_turn.new.sink) _ put c.in_ok-carry_turn.ensures.keeps refl in
-    rw e.1 (stopped c.args.self.now.leaving file tree m _ _ _ _ _ _ _ _ on)
+    rw e.1 (stopped c.args.self.now.leaving file tree m _ _ _ _ _ _ _ _ _ on)
 
 pub returns-in_err-pass-clause-unchanged : goal.returns-in_err-pass-clause-unchanged
 returns-in_err-pass-clause-unchanged g c told tree o ready =
@@ -189,13 +198,13 @@ returns-in_err-pass-clause-unchanged g c told tree o ready =
     let here = c.in-Some.ensures.track in
     let ends : (info : TrackInfo) → slice_get m.tracks s.track ≡ Some info → c.in-Some.turn.end ≡ turn_end s info.timescale = λ info is. c.in-Some.ensures.end info (rw c.tracks-tracks.ensures is) in
     let noted = (rw (i.honesty, i.file) at c.in_ok-noted.ensures.noted) told tree o in
-    let few : IsFew c.in_ok-noted.noted.planned = record { count = (let n = c.in_ok-noted.ensures.few.0 in let r = i.writer.few in omega (arith, n, r)); rows = c.in_ok-noted.ensures.few.2 } in
+    let few : IsFew c.in_ok-noted.noted.planned = record { count = no_more _ _ _ c.in_ok-noted.ensures.few.0 i.writer.few; rows = c.in_ok-noted.ensures.few.2 } in
     let is_id : (info : TrackInfo) → slice_get m.tracks s.track ≡ Some info
     → (get_or c.tracks-tracks.result.now c.in-Some.turn.track c.index-tracks-track.result).id
     ≡ info.id = λ info is. ap (λ (x : TrackInfo). x.id) (sym c.index-tracks-track.is ∙ read_at m.tracks s.track info c.index-tracks-track.result is (rw (here.0, c.tracks-tracks.ensures) at c.index-tracks-track.is)) in
     let copied = (rw (c.in_ok-noted.ensures.honesty, c.in_ok-noted.ensures.file, i.honesty, i.file) at c.in_ok-carry_turn.ensures.copied) told tree o in
     rw (e.1, e.2)
-    (λ r. pass_lacks c.args.self.now.leaving file tree m o s c.loop-turn.sequence w before after h c.in-Some.turn here ends i.tracks i.writer i.leaving c.note_turn.new.self c.in_ok-noted.noted
+    (λ r. pass_lacks c.args.self.now.leaving file tree m o s c.loop-turn.sequence c.loop-turn.bytes w before after h c.in-Some.turn here ends i.tracks i.writer i.leaving c.note_turn.new.self c.in_ok-noted.noted
     (get_or c.tracks-tracks.result.now c.in-Some.turn.track c.index-tracks-track.result).id noted c.in_ok-noted.ensures.keeps few is_id c.carry_turn.new.self _ copied (λ x is. read_at c.carry_turn.new.self.nexts.items c.in-Some.turn.track x _ is c.index.ensures) c.in_err-pass.ensures.refusal.1)
 
 pub loop-turn-preserved : goal.loop-turn-preserved
@@ -211,6 +220,19 @@ loop-turn-preserved g c =
       puts = c.in_ok-carry_turn.ensures.puts ∙ i.puts;
       leaving = c.in_ok-carry_turn.ensures.keeps.0 ∙ c.in_ok-noted.ensures.keeps.0 ∙ i.leaving;
       rows = ap (λ v. length v.items) c.in_ok-carry_turn.ensures.keeps.1 ∙ c.in_ok-noted.ensures.keeps.2 ∙ i.rows;
+      few = (let left = ap (λ (x : Schedule). x.left) c.in_ok-pass.ensures.turned ∙ turned_left c.loop-turn.schedule c.in-Some.turn.end c.in_ok-noted.noted.planned.count c.index.result.now in
+          rw c.from-bytes.ensures (still_fits c.loop-turn.bytes c.loop-turn.schedule.left c.in_ok-noted.noted.planned.bytes c.in_ok-noted.noted.planned.count c.pass.new.self.left _ i.few c.in_ok-noted.ensures.sizes c.in_ok-pass.ensures.enough left));
+      sent =
+          let count = c.in_ok-noted.noted.planned.count in
+          let bytes = c.in_ok-noted.noted.planned.bytes in
+          let left = ap (λ (x : Schedule). x.left) c.in_ok-pass.ensures.turned ∙ turned_left c.loop-turn.schedule c.in-Some.turn.end c.in_ok-noted.noted.planned.count c.index.result.now in
+          let more = subst (λ (k : Carrier). PiecesFollow (g.K.Sink.contents c.loop-turn.sink) (g.K.Sink.contents c.carry_turn.new.sink) (waiting k) (waiting c.carry_turn.new.self.carrier) 0 count bytes) c.in_ok-noted.ensures.keeps.1 c.in_ok-carry_turn.ensures.many in
+          rw c.from-bytes.ensures (
+            i.sent.0 + count,
+            fewer_to_come i.sent.0 c.loop-turn.schedule.left count c.pass.new.self.left _ i.sent.1 c.in_ok-pass.ensures.enough left,
+            follow_then (g.K.Sink.contents c.args.sink.now) (g.K.Sink.contents c.loop-turn.sink) (g.K.Sink.contents c.carry_turn.new.sink) (waiting c.args.self.now.carrier) (waiting c.loop-turn.self.carrier) (waiting c.carry_turn.new.self.carrier) (length c.args.self.now.head.items) i.sent.0
+                c.loop-turn.bytes count bytes i.sent.2 more,
+          );
       on = λ told tree o ready.
           let file = g.S.Store.file c.args.store.now in
           let m = c.args.movie.now in
@@ -222,14 +244,14 @@ loop-turn-preserved g c =
           let here = c.in-Some.ensures.track in
           let ends : (info : TrackInfo) → slice_get m.tracks s.track ≡ Some info → c.in-Some.turn.end ≡ turn_end s info.timescale = λ info is. c.in-Some.ensures.end info (rw c.tracks-tracks.ensures is) in
           let noted = (rw (i.honesty, i.file) at c.in_ok-noted.ensures.noted) told tree o in
-          let few : IsFew c.in_ok-noted.noted.planned = record { count = (let n = c.in_ok-noted.ensures.few.0 in let r = i.writer.few in omega (arith, n, r)); rows = c.in_ok-noted.ensures.few.2 } in
+          let few : IsFew c.in_ok-noted.noted.planned = record { count = no_more _ _ _ c.in_ok-noted.ensures.few.0 i.writer.few; rows = c.in_ok-noted.ensures.few.2 } in
           let is_id : (info : TrackInfo) → slice_get m.tracks s.track ≡ Some info
           → (get_or c.tracks-tracks.result.now c.in-Some.turn.track c.index-tracks-track.result).id
           ≡ info.id = λ info is. ap (λ (x : TrackInfo). x.id) (sym c.index-tracks-track.is ∙ read_at m.tracks s.track info c.index-tracks-track.result is (rw (here.0, c.tracks-tracks.ensures) at c.index-tracks-track.is)) in
           let put = (rw (c.in_ok-noted.ensures.honesty, c.in_ok-noted.ensures.file, i.honesty, i.file) at c.in_ok-carry_turn.ensures.put) told tree o in
           let copied = (rw (c.in_ok-noted.ensures.honesty, c.in_ok-noted.ensures.file, i.honesty, i.file) at c.in_ok-carry_turn.ensures.copied) told tree o in
-          rw c.sequence_behind-sequence.ensures
-          (turn_goes c.args.self.now.leaving file tree m o s c.loop-turn.sequence w before after h c.in-Some.turn here ends i.tracks i.writer i.leaving c.note_turn.new.self c.in_ok-noted.noted
+          rw (c.sequence_behind-sequence.ensures, c.from-bytes.ensures)
+          (turn_goes c.args.self.now.leaving file tree m o s c.loop-turn.sequence c.loop-turn.bytes w before after h c.in-Some.turn here ends i.tracks i.writer i.leaving c.note_turn.new.self c.in_ok-noted.noted
           (get_or c.tracks-tracks.result.now c.in-Some.turn.track c.index-tracks-track.result).id noted c.in_ok-noted.ensures.keeps few is_id c.carry_turn.new.self _ copied
           (λ x is. read_at c.carry_turn.new.self.nexts.items c.in-Some.turn.track x _ is c.index.ensures) (g.K.Sink.contents c.carry_turn.new.sink) c.pass.new.self put c.in_ok-carry_turn.ensures.keeps c.in_ok-pass.ensures.turned);
       within = λ told tree o n may.
@@ -238,6 +260,7 @@ loop-turn-preserved g c =
           turn_then (g.S.Store.file c.args.store.now) tree c.args.movie.now w.leaving w.walks.items c.note_turn.new.self.walks.items c.in-Some.turn.track c.in_ok-noted.noted.planned.count n _ _ _ (i.within told tree o n may)
           ((rw (i.honesty, i.file) at c.in_ok-noted.ensures.work) told tree o) c.carry_turn.new.self.walks.items _
           (rw keep at ((rw (c.in_ok-noted.ensures.honesty, c.in_ok-noted.ensures.file, i.honesty, i.file) at c.in_ok-carry_turn.ensures.work) told tree o));
+      looks = looks_on c.loop-turn.schedule c.pass.new.self c.args.looks.now _ _ (movie_turns c.args.movie.now) i.looks c.in-Some.ensures.looks c.in_ok-pass.ensures.less;
     }
 
 pub returns-clause-bytes : goal.returns-clause-bytes
@@ -251,7 +274,7 @@ returns-clause-bytes g c told tree o ready =
     let before = g.K.Sink.contents c.args.sink.now in
     let after = g.K.Sink.contents c.loop-turn.sink in
     let none = turns_end file m.tracks s h.lefts h.comings h.turn (c.in_default.ensures.none refl) in
-    on_ok _ _ c.flush.result (λ x. all_put c.args.self.now.leaving file tree m s c.loop-turn.sequence w.walks.items w.nexts.items (length w.rows.items) before after (waiting w.carrier) h _ none x) c.flush.ensures.bytes
+    on_ok _ _ c.flush.result (λ x. all_put c.args.self.now.leaving file tree m s c.loop-turn.sequence c.loop-turn.bytes w.walks.items w.nexts.items (length w.rows.items) before after (waiting w.carrier) h _ none x) c.flush.ensures.bytes
 
 pub returns-clause-prefix : goal.returns-clause-prefix
 returns-clause-prefix g c told tree o ready =
@@ -264,14 +287,14 @@ returns-clause-prefix g c told tree o ready =
     let before = g.K.Sink.contents c.args.sink.now in
     let after = g.K.Sink.contents c.loop-turn.sink in
     let none = turns_end file m.tracks s h.lefts h.comings h.turn (c.in_default.ensures.none refl) in
-    on_err _ _ c.flush.result (λ x. not_all_put c.args.self.now.leaving file tree m s c.loop-turn.sequence w.walks.items w.nexts.items (length w.rows.items) before after (waiting w.carrier) h _ none x) c.flush.ensures.prefix
+    on_err _ _ c.flush.result (λ x. not_all_put c.args.self.now.leaving file tree m s c.loop-turn.sequence c.loop-turn.bytes w.walks.items w.nexts.items (length w.rows.items) before after (waiting w.carrier) h _ none x) c.flush.ensures.prefix
 
 pub returns-clause-unchanged : goal.returns-clause-unchanged
 returns-clause-unchanged g c told tree o ready =
     if_err _ _ c.flush.result (λ r x. put_unchanged _ _ r x) c.flush.ensures.refusal
 
 pub returns-in_err-peek_each-clause-work : goal.returns-in_err-peek_each-clause-work
-returns-in_err-peek_each-clause-work g c told tree o n may = c.in_err-peek_each.ensures.writes_most told tree o n (rw c.as_mut_slice-walks.ensures.value may)
+returns-in_err-peek_each-clause-work g c told tree o n may = c.in_err-peek_each.ensures.writes told tree o n (rw c.as_mut_slice-walks.ensures.value may)
 
 pub returns-in_err-noted-clause-work : goal.returns-in_err-noted-clause-work
 returns-in_err-noted-clause-work g c told tree o n may =
@@ -300,3 +323,62 @@ returns-in_err-pass-clause-work g c told tree o n may =
 
 pub returns-clause-work : goal.returns-clause-work
 returns-clause-work g c told tree o n may = all_written (g.S.Store.file c.args.store.now) tree c.args.movie.now c.loop-turn.self.walks.items n _ _ (c.loop-turn.invariant.within told tree o n may)
+
+pub overflow_add-bytes : goal.overflow_add-bytes
+overflow_add-bytes g c =
+    let sum = sum_fits c.loop-turn.bytes c.loop-turn.schedule.left c.in_ok-noted.noted.planned.bytes c.loop-turn.invariant.few c.in_ok-noted.ensures.few.1 in
+    let same = c.from-bytes.ensures in
+    omega (arith, sum, same)
+
+-- ---- where samples or bytes are missing
+
+pub returns-then-not-are_all-clause-prefix : goal.returns-then-not-are_all-clause-prefix
+returns-then-not-are_all-clause-prefix g c told tree o ready =
+    let i = c.loop-turn.invariant in
+    let w = c.loop-turn.self in
+    stopped c.args.self.now.leaving (g.S.Store.file c.args.store.now) tree c.args.movie.now c.loop-turn.schedule c.loop-turn.sequence c.loop-turn.bytes w.walks.items w.nexts.items (length w.rows.items) (g.K.Sink.contents c.args.sink.now) (g.K.Sink.contents c.loop-turn.sink)
+    (waiting w.carrier) (i.on told tree o ready)
+
+pub returns-then-not-are_all-clause-unchanged : goal.returns-then-not-are_all-clause-unchanged
+returns-then-not-are_all-clause-unchanged g c told tree o ready e =
+    let i = c.loop-turn.invariant in
+    let w = c.loop-turn.self in
+    let m = c.args.movie.now in
+    let all = all_taken c.args.self.now.leaving (g.S.Store.file c.args.store.now) tree m c.loop-turn.schedule c.loop-turn.sequence c.loop-turn.bytes w.walks.items w.nexts.items (length w.rows.items) (g.K.Sink.contents c.args.sink.now) (g.K.Sink.contents c.loop-turn.sink)
+    (waiting w.carrier) (i.on told tree o ready) (c.in_default.ensures.none refl) in
+    c.are_all.ensures.missing c.if-not-are_all.true (all.0, all.1 ∙ ap (λ (infos : List TrackInfo). sum_by (λ (x : TrackInfo). x.bytes) infos) (sym c.tracks-tracks.ensures))
+
+pub returns-then-not-are_all-clause-work : goal.returns-then-not-are_all-clause-work
+returns-then-not-are_all-clause-work g c told tree o n may = all_written (g.S.Store.file c.args.store.now) tree c.args.movie.now c.loop-turn.self.walks.items n _ _ (c.loop-turn.invariant.within told tree o n may)
+
+pub returns-clause-whole : goal.returns-clause-whole
+returns-clause-whole g c =
+    let i = c.loop-turn.invariant in
+    let w = c.loop-turn.self in
+    let sum = i.sent.1 in
+    let all = (rw c.tracks-tracks.ensures at c.are_all.ensures.all) c.if-not-are_all.false in
+    let none = all.0 in
+    on_ok _ _ c.flush.result
+    (λ x. all_follow c.args.movie.now (g.K.Sink.contents c.args.sink.now) (g.K.Sink.contents c.loop-turn.sink) (g.K.Sink.contents c.flush.new.sink) (waiting c.args.self.now.carrier) (waiting w.carrier) c.args.self.now.head.items i.sent.0 c.loop-turn.bytes i.sent.2 (omega (arith, none, sum)) all.1 x)
+    c.flush.ensures.bytes
+
+pub returns-in_err-noted-clause-turns : goal.returns-in_err-noted-clause-turns
+returns-in_err-noted-clause-turns g c = looks_within c.loop-turn.schedule c.args.looks.now _ _ (movie_turns c.args.movie.now) c.loop-turn.invariant.looks c.in-Some.ensures.looks c.in-Some.ensures.track.1
+
+pub returns-in_err-carry_turn-clause-turns : goal.returns-in_err-carry_turn-clause-turns
+returns-in_err-carry_turn-clause-turns g c = looks_within c.loop-turn.schedule c.args.looks.now _ _ (movie_turns c.args.movie.now) c.loop-turn.invariant.looks c.in-Some.ensures.looks c.in-Some.ensures.track.1
+
+pub returns-in_err-pass-clause-turns : goal.returns-in_err-pass-clause-turns
+returns-in_err-pass-clause-turns g c = looks_within c.loop-turn.schedule c.args.looks.now _ _ (movie_turns c.args.movie.now) c.loop-turn.invariant.looks c.in-Some.ensures.looks c.in-Some.ensures.track.1
+
+pub returns-then-not-are_all-clause-turns : goal.returns-then-not-are_all-clause-turns
+returns-then-not-are_all-clause-turns g c =
+    let within = c.loop-turn.invariant.looks in
+    let same = c.in_default.ensures.looks in
+    omega (arith, within, same)
+
+pub returns-clause-turns : goal.returns-clause-turns
+returns-clause-turns g c =
+    let within = c.loop-turn.invariant.looks in
+    let same = c.in_default.ensures.looks in
+    omega (arith, within, same)

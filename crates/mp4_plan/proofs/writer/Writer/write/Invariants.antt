@@ -1,6 +1,9 @@
-use Rattle.std.proofs.Common.{◌≡◌, length}
+use Rattle.std.proofs.Common.{◌≡◌, ◌+◌, ◌*◌, ◌^◌, ◌≤◌, length}
+use Rattle.std.specs.List.{sum_by}
 use Rattle.mp4_present.specs.words.Carried.{waiting}
-use Rattle.mp4_plan.specs.words.Turns.{to_come}
+use Rattle.mp4_present.specs.declared.track_info.TrackInfo.{TrackInfo}
+use Rattle.mp4_plan.specs.words.PutPieces.{PiecesFollow}
+use Rattle.mp4_plan.specs.words.Turns.{movie_turns, to_come}
 use Rattle.mp4_plan.specs.words.Writers.{IsWriterOf, WhereOpened, IsReady}
 use Rattle.mp4_plan.specs.format.Held.{held}
 use Rattle.mp4_plan.proofs.WritesOn.{WritesOn}
@@ -8,7 +11,7 @@ use Rattle.std.specs.Prelude.{ℕ}
 use Rattle.mp4_plan.specs.words.WriterSteps.{MayAllWrite, AllWriteOn}
 use Rattle.mp4_plan.proofs.writer.Writer.write.Given as goal
 
--- the walks go on, what was put and what waits are the pieces of the turns before, and they took no more steps than they may
+-- the walks go on, what was put and what waits are the pieces of the turns before, with the samples that are no more to come, and they took no more steps than they may
 abbrev pub invariant-loop-turn : goal.invariant-loop-turn
 invariant-loop-turn g l = record {
   writer : IsWriterOf l.movie l.self;
@@ -20,11 +23,15 @@ invariant-loop-turn g l = record {
   reads : g.S.Store.read_failures l.store ≡ g.S.Store.read_failures l.fn.store;
   puts : g.K.Sink.put_failures l.sink ≡ g.K.Sink.put_failures l.fn.sink;
   rows : length l.self.rows.items ≡ length l.fn.self.rows.items;
+  few : l.bytes + l.schedule.left * 4294967295 ≤ 2 ^ 64 * 4294967295 * 4294967295;
+  sent : (samples : ℕ) × (samples + l.schedule.left ≡ sum_by (λ (i : TrackInfo). i.samples) l.movie.tracks)
+      × PiecesFollow (g.K.Sink.contents l.fn.sink) (g.K.Sink.contents l.sink) (waiting l.fn.self.carrier) (waiting l.self.carrier) (length l.fn.self.head.items) samples l.bytes;
   on : WhereOpened (g.S.Store.is_honest l.fn.store) (g.S.Store.file l.fn.store) l.movie
       (λ tree. IsReady (g.S.Store.file l.fn.store) tree l.movie l.fn.self
-      → WritesOn l.fn.self.leaving (g.S.Store.file l.fn.store) tree l.movie l.schedule l.sequence l.self.walks.items l.self.nexts.items (length l.self.rows.items) (g.K.Sink.contents l.fn.sink) (g.K.Sink.contents l.sink) (waiting l.self.carrier));
+      → WritesOn l.fn.self.leaving (g.S.Store.file l.fn.store) tree l.movie l.schedule l.sequence l.bytes l.self.walks.items l.self.nexts.items (length l.self.rows.items) (g.K.Sink.contents l.fn.sink) (g.K.Sink.contents l.sink) (waiting l.self.carrier));
   within : WhereOpened (g.S.Store.is_honest l.fn.store) (g.S.Store.file l.fn.store) l.movie
       (λ tree. (n : ℕ) → MayAllWrite (g.S.Store.file l.fn.store) tree l.movie l.fn.self.walks.items n → AllWriteOn (g.S.Store.file l.fn.store) tree l.movie n l.self.walks.items l.fn.steps l.steps);
+  looks : l.looks + to_come l.schedule ≤ l.fn.looks + movie_turns l.movie;
 }
 
 abbrev pub decreases-loop-turn : goal.decreases-loop-turn

@@ -92,7 +92,7 @@ returns-in_err-load-clause-unchanged g c told tree t o is =
     let p = err_from_is_err_and c.from_residual-in_err-load.result c.from_residual-in_err-load.ensures.1 in
     let i = c.loop-carrier.invariant in
     let u = i.going told tree t o is in
-    rw (p.1, p.2) ((rw (i.honesty, i.file) at c.in_err-load.ensures.unchanged) told tree t u.earlier u.later o u.stands)
+    rw (p.1, p.2) ((rw (i.honesty, i.file) at c.in_err-load.ensures.loaded) told tree t u.earlier u.later o u.stands)
 
 pub returns-in_err-load-clause-refusal : goal.returns-in_err-load-clause-refusal
 returns-in_err-load-clause-refusal g c =
@@ -109,15 +109,15 @@ loop-carrier-preserved g c =
     let m = c.args.self.now in
     record {
       walk = e.walk.walk;
-      honesty = e.store.honesty ∙ l.honesty ∙ i.honesty;
-      file = e.store.file ∙ l.file ∙ i.file;
-      reads = e.store.reads ∙ l.reads ∙ i.reads;
+      honesty = e.store.honesty ∙ l.store.honesty ∙ i.honesty;
+      file = e.store.file ∙ l.store.file ∙ i.file;
+      reads = e.store.reads ∙ l.store.reads ∙ i.reads;
       puts = e.puts ∙ i.puts;
       going = λ told tree t o is.
           let u = i.going told tree t o is in
           let to_come = samples_behind tree t u.earlier u.later in
           let comes = loads_more file tree t m to_come c.load.new.self c.in_ok-load.field-0 c.if-branch.true ((rw (i.honesty, i.file) at l.loaded) told tree t u.earlier u.later o u.stands) in
-          let x = (rw (l.honesty, i.honesty, l.file, i.file) at e.bytes) told in
+          let x = (rw (l.store.honesty, i.honesty, l.store.file, i.file) at e.bytes) told in
           let y = e.left.sizes in
           track_next file tree t m _ _ _ (waiting c.loop-carrier.carrier) (waiting c.carry_hand-in-loop-carrier.new.carrier) c.load.new.self c.carry_hand-in-loop-carrier.new.walk (track_samples tree t) to_come c.loop-carrier.left c.in_ok-left-2.left u.goes comes u.sizes y.0 y.1 y.2
           x.0 x.1 x.2 e.walk.stands;
@@ -144,7 +144,7 @@ returns-in_err-left-2-clause-prefix g c =
     let u = i.going told tree t o is in
     let to_come = samples_behind tree t u.earlier u.later in
     let comes = loads_more file tree t m to_come c.load.new.self c.in_ok-load.field-0 c.if-branch.true ((rw (i.honesty, i.file) at l.loaded) told tree t u.earlier u.later o u.stands) in
-    let x = (rw (l.honesty, i.honesty, l.file, i.file) at c.in_err-left-2.ensures.bytes) told in
+    let x = (rw (l.store.honesty, i.honesty, l.store.file, i.file) at c.in_err-left-2.ensures.bytes) told in
     track_fails file tree t m _ _ _ (waiting c.loop-carrier.carrier) c.load.new.self (track_samples tree t) to_come u.goes comes x.0 x.1 x.2)
 
 pub returns-in_err-left-2-clause-unchanged : goal.returns-in_err-left-2-clause-unchanged
@@ -157,14 +157,14 @@ returns-in_err-left-2-clause-unchanged g c told tree t o is =
     let u = i.going told tree t o is in
     let to_come = samples_behind tree t u.earlier u.later in
     let comes = loads_more file tree t m to_come c.load.new.self c.in_ok-load.field-0 c.if-branch.true ((rw (i.honesty, i.file) at l.loaded) told tree t u.earlier u.later o u.stands) in
-    let x = rw (l.file, i.file) at c.in_err-left-2.ensures.unchanged in
+    let x = rw (l.store.file, i.file) at c.in_err-left-2.ensures.unchanged in
     rw (p.1, p.2) (in_hand_lies file tree t m _ _ (waiting c.loop-carrier.carrier) c.load.new.self (track_samples tree t) to_come _ c.loop-carrier.left _ u.goes comes u.sizes (track_lies file m tree t c.args.track o is) x.0 x.1 x.2)
 
 pub returns-in_err-left-2-clause-refusal : goal.returns-in_err-left-2-clause-refusal
 returns-in_err-left-2-clause-refusal g c =
     let p = err_from_is_err_and c.from_residual-in_err-left-2.result c.from_residual-in_err-left-2.ensures.1 in
     let i = c.loop-carrier.invariant in
-    rw (p.1, p.2) (copy_not_carried _ _ _ _ _ _ _ (rw (c.in_ok-load.ensures.reads, i.reads, i.puts) at c.in_err-left-2.ensures.refusal))
+    rw (p.1, p.2) (copy_not_carried _ _ _ _ _ _ _ (rw (c.in_ok-load.ensures.store.reads, i.reads, i.puts) at c.in_err-left-2.ensures.refusal))
 
 pub returns-clause-bytes : goal.returns-clause-bytes
 returns-clause-bytes g c =
@@ -223,7 +223,7 @@ returns-then-left-gt0-clause-unchanged g c told tree t o is e =
 pub returns-in_err-load-clause-work : goal.returns-in_err-load-clause-work
 returns-in_err-load-clause-work g c told tree t o is =
     let i = c.loop-carrier.invariant in
-    most_then (g.S.Store.file c.args.store.now) tree t (walk_steps tree t) _ _ _ c.loop-carrier.walk (i.takes told tree t o is) (λ k may. (rw (i.honesty, i.file) at c.in_err-load.ensures.most) told tree t k o may)
+    most_then (g.S.Store.file c.args.store.now) tree t (walk_steps tree t) _ _ _ c.loop-carrier.walk (i.takes told tree t o is) (λ k may. (rw (i.honesty, i.file) at c.in_err-load.ensures.work) told tree t k o may)
 
 pub returns-in_err-left-2-clause-work : goal.returns-in_err-left-2-clause-work
 returns-in_err-left-2-clause-work g c told tree t o is =

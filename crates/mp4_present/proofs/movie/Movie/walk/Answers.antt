@@ -2,7 +2,7 @@ use Rattle.std.proofs.Common.{rules, ℕ, List, slice_index_or, length, ◌≡�
 use Rattle.std.specs.Prelude.{unwrap_or}
 use Rattle.mp4_tables.specs.words.Accepted.{IsPlace}
 use Rattle.mp4_tables.specs.words.TablesSeen.{TablesSeen}
-use Rattle.mp4_present.specs.words.Movies.{MovieSeen, IsMovie, tables_seen}
+use Rattle.mp4_present.specs.words.Movies.{MovieSeen, IsMovie, own_room, tables_seen}
 use Rattle.mp4_present.proofs.WalkPlaces.{begun, got}
 use Rattle.mp4_present.proofs.WalkBegun.{stands_first, tables_in_hand, plain_first, due_is, left_is}
 use Rattle.mp4_present.proofs.MoofTaken.{at_place}
@@ -27,7 +27,7 @@ returns-clause-coming c file tree t o at =
     let each = i.each_tables in
     let inside = c.requires in
     let found = got m.tables c.args.track (omega (arith, each, inside)) in
-    let bytes : length c.in-Ok.bytes.items ≡ m.longest = search rules in
+    let bytes : length c.in-Ok.bytes.items ≡ own_room m c.args.track = search rules in
     let states = i.each_state in
     let info_at = at_place m.tracks c.args.track c.index-info.result.now inside (subst (λ (xs : List TrackInfo). c.index-info.result.now ≡ slice_index_or xs c.args.track c.index-info.result.now) (ap (λ (n : MovieSeen). n.tracks) c.self.view_is) c.index-info.ensures) in
     let state_at = at_place m.states c.args.track c.index-state.result.now (omega (arith, states, inside)) (subst (λ (xs : List TrackState). c.index-state.result.now ≡ slice_index_or xs c.args.track c.index-state.result.now) (ap (λ (n : MovieSeen). n.states) c.self.view_is) c.index-state.ensures) in
@@ -45,7 +45,7 @@ returns-clause-may c file tree t o at =
     let each = i.each_tables in
     let inside = c.requires in
     let found = got m.tables c.args.track (omega (arith, each, inside)) in
-    let bytes : length c.in-Ok.bytes.items ≡ m.longest = search rules in
+    let bytes : length c.in-Ok.bytes.items ≡ own_room m c.args.track = search rules in
     let states = i.each_state in
     let info_at = at_place m.tracks c.args.track c.index-info.result.now inside (subst (λ (xs : List TrackInfo). c.index-info.result.now ≡ slice_index_or xs c.args.track c.index-info.result.now) (ap (λ (n : MovieSeen). n.tracks) c.self.view_is) c.index-info.ensures) in
     let state_at = at_place m.states c.args.track c.index-state.result.now (omega (arith, states, inside)) (subst (λ (xs : List TrackState). c.index-state.result.now ≡ slice_index_or xs c.args.track c.index-state.result.now) (ap (λ (n : MovieSeen). n.states) c.self.view_is) c.index-state.ensures) in

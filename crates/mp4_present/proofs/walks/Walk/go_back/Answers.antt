@@ -48,8 +48,8 @@ returns-in_default-clause-still g c none =
 
 -- ---- the `moof` of the mark is read again
 
-pub returns-in_err-read_again-clause-unchanged : goal.returns-in_err-read_again-clause-unchanged
-returns-in_err-read_again-clause-unchanged g c told tree t begun samples o h k =
+pub returns-in_err-read_again-clause-back : goal.returns-in_err-read_again-clause-back
+returns-in_err-read_again-clause-back g c told tree t begun samples o h k =
     let p = err_from_is_err_and c.from_residual.result c.from_residual.ensures.1 in
     let file = g.S.Store.file c.args.store.now in
     let m = c.args.movie.now in
@@ -58,10 +58,10 @@ returns-in_err-read_again-clause-unchanged g c told tree t begun samples o h k =
     let some : again_from w ≡ Some d = sym c.again_from.ensures ∙ c.in-Some.is in
     let b = marked_before w d some in
     let hm = holds_marked file m tree t begun w (length samples) h c.requires d k.0 k.1 k.3.0 b in
-    rw (p.1, p.2) (c.in_err-read_again.ensures.unchanged told tree t hm.0 k.1 hm.1 begun o hm.3)
+    rw (p.1, p.2) (c.in_err-read_again.ensures.taken told tree t hm.0 k.1 hm.1 begun o hm.3)
 
-pub returns-then-before-mark-clause-unchanged : goal.returns-then-before-mark-clause-unchanged
-returns-then-before-mark-clause-unchanged g c told tree t begun samples o h k e =
+pub returns-then-before-mark-clause-back : goal.returns-then-before-mark-clause-back
+returns-then-before-mark-clause-back g c told tree t begun samples o h k e =
     let file = g.S.Store.file c.args.store.now in
     let m = c.args.movie.now in
     let w = c.args.self.now in
@@ -71,16 +71,16 @@ returns-then-before-mark-clause-unchanged g c told tree t begun samples o h k e 
     let hm = holds_marked file m tree t begun w (length samples) h c.requires d k.0 k.1 k.3.0 b in
     let tk = c.in_ok-read_again.ensures.taken told tree t hm.0 k.1 hm.1 begun o hm.3 in
     let found = got m.tracks w.track c.requires.goes_on.track in
-    let al = c.in_ok-read_again.ensures.all found.0 found.1 in
+    let al = c.in_ok-read_again.ensures.again.all found.0 found.1 in
     let first = c.read_again.new.self in
-    let own = ap left_in_hand (hand_one m first al.0 tk.0.0 al.1 tk.0.1.1) ∙ tk.0.1.2 in
-    let count = count_holds file m tree t begun w (length samples) h c.requires d b samples k hm.0 hm.1 hm.2 first tk.0.1.0 tk.1 found.0 found.1 al.0 al.1 al.2 own hm.3.holds.left in
+    let own = ap left_in_hand (hand_one m first al.0 tk.takes.0 al.1 tk.takes.1.1) ∙ tk.takes.1.2 in
+    let count = count_holds file m tree t begun w (length samples) h c.requires d b samples k hm.0 hm.1 hm.2 first tk.takes.1.0 tk.moof found.0 found.1 al.0 al.1 al.2 own hm.3.holds.left in
     let to_come = ap (λ (k : Mark). k.to_come) h.mark in
     let more = c.if-before-mark.true in
     absurd (omega (arith, more, count, to_come))
 
-pub returns-then-before-mark-clause-most : goal.returns-then-before-mark-clause-most
-returns-then-before-mark-clause-most g c told tree t begun to_come n o h may =
+pub returns-then-before-mark-clause-work : goal.returns-then-before-mark-clause-work
+returns-then-before-mark-clause-work g c told tree t begun to_come n o h may =
     let file = g.S.Store.file c.args.store.now in
     let m = c.args.movie.now in
     let w = c.args.self.now in
@@ -90,12 +90,12 @@ returns-then-before-mark-clause-most g c told tree t begun to_come n o h may =
     let hm = holds_marked file m tree t begun w to_come h c.requires d may.earlier may.later may.stands b in
     let tk = c.in_ok-read_again.ensures.taken told tree t hm.0 may.later hm.1 begun o hm.3 in
     let back = back_is begun w d some in
-    let way = tk.2 in
-    let work = tk.3 in
+    let way = tk.way in
+    let work = tk.steps in
     omega (arith, back, way, work)
 
-pub returns-in_err-pass-clause-unchanged : goal.returns-in_err-pass-clause-unchanged
-returns-in_err-pass-clause-unchanged g c told tree t begun samples o h k =
+pub returns-in_err-pass-clause-back : goal.returns-in_err-pass-clause-back
+returns-in_err-pass-clause-back g c told tree t begun samples o h k =
     let p = err_from_is_err_and c.from_residual-in_err-pass.result c.from_residual-in_err-pass.ensures.1 in
     let file = g.S.Store.file c.args.store.now in
     let m = c.args.movie.now in
@@ -106,17 +106,17 @@ returns-in_err-pass-clause-unchanged g c told tree t begun samples o h k =
     let hm = holds_marked file m tree t begun w (length samples) h c.requires d k.0 k.1 k.3.0 b in
     let tk = c.in_ok-read_again.ensures.taken told tree t hm.0 k.1 hm.1 begun o hm.3 in
     let found = got m.tracks w.track c.requires.goes_on.track in
-    let al = c.in_ok-read_again.ensures.all found.0 found.1 in
+    let al = c.in_ok-read_again.ensures.again.all found.0 found.1 in
     let first = c.read_again.new.self in
-    let own = ap left_in_hand (hand_one m first al.0 tk.0.0 al.1 tk.0.1.1) ∙ tk.0.1.2 in
-    let few = few_passed file m tree t begun w (length samples) h c.requires d b samples k hm.0 hm.1 hm.2 first tk.0.1.0 tk.1 found.0 found.1 al.0 al.1 al.2 own hm.3.holds.left in
+    let own = ap left_in_hand (hand_one m first al.0 tk.takes.0 al.1 tk.takes.1.1) ∙ tk.takes.1.2 in
+    let few = few_passed file m tree t begun w (length samples) h c.requires d b samples k hm.0 hm.1 hm.2 first tk.takes.1.0 tk.moof found.0 found.1 al.0 al.1 al.2 own hm.3.holds.left in
     let to_come = ap (λ (k : Mark). k.to_come) h.mark in
     let x = c.in_err-pass.ensures.enough in
     let same = ap (λ (y : InHand). length (left_in_hand y)) (hand_one m first x.0 al.0 x.1 al.1) in
     absurd (cc (x.2 (omega (arith, few, to_come, same))))
 
-pub returns-in_err-pass-clause-most : goal.returns-in_err-pass-clause-most
-returns-in_err-pass-clause-most g c told tree t begun to_come n o h may =
+pub returns-in_err-pass-clause-work : goal.returns-in_err-pass-clause-work
+returns-in_err-pass-clause-work g c told tree t begun to_come n o h may =
     let p = err_from_is_err_and c.from_residual-in_err-pass.result c.from_residual-in_err-pass.ensures.1 in
     let file = g.S.Store.file c.args.store.now in
     let m = c.args.movie.now in
@@ -127,8 +127,8 @@ returns-in_err-pass-clause-most g c told tree t begun to_come n o h may =
     let hm = holds_marked file m tree t begun w to_come h c.requires d may.earlier may.later may.stands b in
     let tk = c.in_ok-read_again.ensures.taken told tree t hm.0 may.later hm.1 begun o hm.3 in
     let back = back_is begun w d some in
-    let way = tk.2 in
-    let work = tk.3 in
+    let way = tk.way in
+    let work = tk.steps in
     let idle = c.in_err-pass.ensures.idle in
     rw p.1 (omega (arith, back, way, work, idle))
 
@@ -143,14 +143,14 @@ returns-clause-back g c told tree t begun samples o h k =
     let hm = holds_marked file m tree t begun w (length samples) h c.requires d k.0 k.1 k.3.0 b in
     let tk = c.in_ok-read_again.ensures.taken told tree t hm.0 k.1 hm.1 begun o hm.3 in
     let found = got m.tracks w.track c.requires.goes_on.track in
-    let al = c.in_ok-read_again.ensures.all found.0 found.1 in
+    let al = c.in_ok-read_again.ensures.again.all found.0 found.1 in
     let first = c.read_again.new.self in
-    let own = ap left_in_hand (hand_one m first al.0 tk.0.0 al.1 tk.0.1.1) ∙ tk.0.1.2 in
+    let own = ap left_in_hand (hand_one m first al.0 tk.takes.0 al.1 tk.takes.1.1) ∙ tk.takes.1.2 in
     let ps = c.in_ok-pass.ensures.passed in
     let to_come = ap (λ (k : Mark). k.to_come) h.mark in
     let rest = ps.4 ∙ ap (λ (j : ℕ). drop (d.left - j) (left_in_hand ps.0)) to_come in
-    let stands = c.in_ok-pass.ensures.stands file tree t (hm.0 ++ hm.1 ∷ []) k.1 tk.0.1.0 in
-    c.mark-2.ensures.coming file tree t m samples (comes_again file m tree t begun w (length samples) h c.requires d b samples k hm.0 hm.1 hm.2 first tk.0.1.0 tk.1 found.0 found.1 al.0 al.1 al.2 own hm.3.holds.left c.pass.new.self ps.0 ps.1 ps.2 ps.3 rest stands)
+    let stands = c.in_ok-pass.ensures.stands file tree t (hm.0 ++ hm.1 ∷ []) k.1 tk.takes.1.0 in
+    c.mark-2.ensures.coming file tree t m samples (comes_again file m tree t begun w (length samples) h c.requires d b samples k hm.0 hm.1 hm.2 first tk.takes.1.0 tk.moof found.0 found.1 al.0 al.1 al.2 own hm.3.holds.left c.pass.new.self ps.0 ps.1 ps.2 ps.3 rest stands)
 
 pub returns-clause-work : goal.returns-clause-work
 returns-clause-work g c told tree t begun to_come n o h may =
@@ -163,7 +163,7 @@ returns-clause-work g c told tree t begun to_come n o h may =
     let hm = holds_marked file m tree t begun w to_come h c.requires d may.earlier may.later may.stands b in
     let tk = c.in_ok-read_again.ensures.taken told tree t hm.0 may.later hm.1 begun o hm.3 in
     let back = back_is begun w d some in
-    let again = takes_again file tree t m begun c.read_again.new.self n _ _ may hm.0 hm.1 true tk.0 tk.1 (c.in_ok-read_again.ensures.through t) tk.2 tk.3 in
+    let again = takes_again file tree t m begun c.read_again.new.self n _ _ may hm.0 hm.1 true tk.takes tk.moof (c.in_ok-read_again.ensures.again.through t) tk.way tk.steps in
     let all = takes_then file tree t (n + moof_steps (moof_box begun)) _ _ _ c.read_again.new.self c.pass.new.self again (λ j may. c.in_ok-pass.ensures.work file tree t j o may) in
     let taken = all.2 in
     (all.0, c.mark-2.ensures.may file tree t all.0 all.1, omega (arith, taken, back))

@@ -1,4 +1,4 @@
-use Rattle.std.proofs.Common.{arith, ◌≡◌, ◌+◌, ◌-◌, ◌^◌, ◌∙◌, length, List, min, ap, refl, sym}
+use Rattle.std.proofs.Common.{rules, arith, ◌≡◌, ◌+◌, ◌-◌, ◌^◌, ◌∙◌, length, List, min, ap, refl, sym}
 use Rattle.mp4_boxes.specs.format.Box.{Box}
 use Rattle.mp4_boxes.specs.format.Bytes.{sum_of}
 use Rattle.mp4_boxes.specs.words.View.{box_seen}
@@ -51,12 +51,6 @@ returns-in_default-clause-taken g c file tree t earlier later next o h =
     let least = few file m tree t earlier next later w o h in
     omega (arith, long, all, least)
 
-pub returns-clause-way : goal.returns-clause-way
-returns-clause-way g c =
-    let view : box_seen c.view.result ≡ moof_box c.args.self.now = rw c.deref.ensures.value at c.view.ensures in
-    let seen : moof_seen c.again-view.result ≡ moof_box c.args.self.now = c.again-view.ensures ∙ view in
-    place_within (moof_box c.args.self.now) _ _ (c.start-cursor.ensures.payload ∙ ap (λ (b : Box). b.payload) seen) c.place.ensures.said
-
 pub returns-clause-work : goal.returns-clause-work
 returns-clause-work g c =
     let view : box_seen c.view.result ≡ moof_box c.args.self.now = rw c.deref.ensures.value at c.view.ensures in
@@ -66,9 +60,6 @@ returns-clause-work g c =
     let first = c.passed.ensures in
     let two = c.add-2.ensures.more in
     omega (arith, way, one, first, two)
-
-pub returns-clause-through : goal.returns-clause-through
-returns-clause-through g c t = refl
 
 pub returns-clause-some : goal.returns-clause-some
 returns-clause-some g c some =
@@ -86,38 +77,38 @@ returns-clause-some g c some =
       some_counted c.in-Some.counts.samples _ some counted,
     )
 
-pub returns-clause-rest : goal.returns-clause-rest
-returns-clause-rest g c info at =
+pub returns-clause-hand : goal.returns-clause-hand
+returns-clause-hand g c =
     let w = c.args.self.now in
     let m = c.args.movie.now in
     let view : box_seen c.view.result ≡ moof_box w = rw c.deref.ensures.value at c.view.ensures in
     let seen : moof_seen c.again-view.result ≡ moof_box w = c.again-view.ensures ∙ view in
     let info_at = at_place m.tracks w.track c.index-tracks-self.result c.requires.movie.track (rw c.tracks.ensures at c.index-tracks-self.is) in
-    let all = all_taken m w w.track w.due c.index-tracks-self.result info _ _ _ info_at at seen c.states.ensures.same c.start-cursor.ensures.samples in
     let hand : c.start-cursor.result ≡ moof_hand m w c.place.result = λ i. record {
       payload = (c.start-cursor.ensures.payload ∙ ap (λ (b : Box). b.payload) seen) i;
       moof = (c.start-cursor.ensures.moof ∙ ap (λ (b : Box). b.offset) seen) i;
       tracks = (c.start-cursor.ensures.tracks ∙ c.states.ensures.same) i;
       place = sym c.place.ensures.is i;
     } in
-    (0, sym (ap samples_coming hand) ∙ all)
+    record {
+      place = search rules;
+      rest = λ info at. (0, sym (ap samples_coming hand) ∙ all_taken m w w.track w.due c.index-tracks-self.result info _ _ _ info_at at seen c.states.ensures.same c.start-cursor.ensures.samples);
+      all = λ info at. (hands.Fragment c.start-cursor.result, hand, all_taken m w w.track w.due c.index-tracks-self.result info _ _ _ info_at at seen c.states.ensures.same c.start-cursor.ensures.samples);
+      way = place_within (moof_box w) _ _ (c.start-cursor.ensures.payload ∙ ap (λ (b : Box). b.payload) seen) c.place.ensures.said;
+      through = λ t. refl;
+    }
 
-pub returns-clause-all : goal.returns-clause-all
-returns-clause-all g c info at =
+pub returns-clause-counts : goal.returns-clause-counts
+returns-clause-counts g c =
     let w = c.args.self.now in
     let m = c.args.movie.now in
     let view : box_seen c.view.result ≡ moof_box w = rw c.deref.ensures.value at c.view.ensures in
     let seen : moof_seen c.again-view.result ≡ moof_box w = c.again-view.ensures ∙ view in
     let info_at = at_place m.tracks w.track c.index-tracks-self.result c.requires.movie.track (rw c.tracks.ensures at c.index-tracks-self.is) in
-    let all = all_taken m w w.track w.due c.index-tracks-self.result info _ _ _ info_at at seen c.states.ensures.same c.start-cursor.ensures.samples in
-    let counted = c.in-Some.ensures.samples in (
-      hands.Fragment c.start-cursor.result,
-      (λ i. record {
-        payload = (c.start-cursor.ensures.payload ∙ ap (λ (b : Box). b.payload) seen) i;
-        moof = (c.start-cursor.ensures.moof ∙ ap (λ (b : Box). b.offset) seen) i;
-        tracks = (c.start-cursor.ensures.tracks ∙ c.states.ensures.same) i;
-        place = sym c.place.ensures.is i;
-      }),
-      all,
-      counted_left w.left c.in-Some.counts.samples _ _ refl c.in-Some.ensures.few counted,
-    )
+    record {
+      before = refl;
+      moof = refl;
+      counted = λ info at.
+          let all = all_taken m w w.track w.due c.index-tracks-self.result info _ _ _ info_at at seen c.states.ensures.same c.start-cursor.ensures.samples in
+          counted_left w.left c.in-Some.counts.samples _ _ refl c.in-Some.ensures.few (c.in-Some.ensures.samples ∙ ap (λ (ss : List SampleAt). length ss) all);
+    }

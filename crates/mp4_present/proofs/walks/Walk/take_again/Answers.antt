@@ -1,4 +1,4 @@
-use Rattle.std.proofs.Common.{◌≡◌, ◌∙◌, ap, refl, sym}
+use Rattle.std.proofs.Common.{rules, ◌≡◌, ◌∙◌, ap, refl, sym}
 use Rattle.mp4_boxes.specs.format.Box.{Box}
 use Rattle.mp4_boxes.specs.words.View.{box_seen}
 use Rattle.mp4_frag.specs.words.FragmentsSeen.{moof_seen}
@@ -9,41 +9,6 @@ use Rattle.mp4_present.specs.declared.walks.Walk.{Walk}
 use Rattle.mp4_present.proofs.MoofTaken.{stands_again, taken, at_place, all_taken}
 use Rattle.mp4_present.proofs.WalkWork.{place_within}
 use Rattle.mp4_present.proofs.walks.Walk.take_again.Goals as goal
-
-pub returns-clause-rest : goal.returns-clause-rest
-returns-clause-rest g c info at =
-    let w = c.args.self.now in
-    let m = c.args.movie.now in
-    let first : Walk = record w { due = c.args.before.time } in
-    let view : box_seen c.view.result ≡ moof_box w = rw c.deref.ensures.value at c.view.ensures in
-    let seen : moof_seen c.again-view.result ≡ moof_box w = c.again-view.ensures ∙ view in
-    let info_at = at_place m.tracks w.track c.index-tracks-self.result c.requires.movie.track (rw c.tracks.ensures at c.index-tracks-self.is) in
-    let all = all_taken m first w.track c.args.before.time c.index-tracks-self.result info _ _ _ info_at at seen c.states.ensures.same c.start-cursor.ensures.samples in
-    let hand : c.start-cursor.result ≡ moof_hand m w c.place.result = λ i. record {
-      payload = (c.start-cursor.ensures.payload ∙ ap (λ (b : Box). b.payload) seen) i;
-      moof = (c.start-cursor.ensures.moof ∙ ap (λ (b : Box). b.offset) seen) i;
-      tracks = (c.start-cursor.ensures.tracks ∙ c.states.ensures.same) i;
-      place = sym c.place.ensures.is i;
-    } in
-    (0, sym (ap samples_coming hand) ∙ all)
-
-pub returns-clause-all : goal.returns-clause-all
-returns-clause-all g c info at =
-    let w = c.args.self.now in
-    let m = c.args.movie.now in
-    let view : box_seen c.view.result ≡ moof_box w = rw c.deref.ensures.value at c.view.ensures in
-    let seen : moof_seen c.again-view.result ≡ moof_box w = c.again-view.ensures ∙ view in
-    let info_at = at_place m.tracks w.track c.index-tracks-self.result c.requires.movie.track (rw c.tracks.ensures at c.index-tracks-self.is) in
-    let all = all_taken m w w.track c.args.before.time c.index-tracks-self.result info _ _ _ info_at at seen c.states.ensures.same c.start-cursor.ensures.samples in (
-      hands.Fragment c.start-cursor.result,
-      (λ i. record {
-        payload = (c.start-cursor.ensures.payload ∙ ap (λ (b : Box). b.payload) seen) i;
-        moof = (c.start-cursor.ensures.moof ∙ ap (λ (b : Box). b.offset) seen) i;
-        tracks = (c.start-cursor.ensures.tracks ∙ c.states.ensures.same) i;
-        place = sym c.place.ensures.is i;
-      }),
-      all,
-    )
 
 pub returns-clause-taken : goal.returns-clause-taken
 returns-clause-taken g c file tree t earlier later next o h behind =
@@ -70,11 +35,24 @@ returns-clause-taken g c file tree t earlier later next o h behind =
       ),
     )
 
-pub returns-clause-way : goal.returns-clause-way
-returns-clause-way g c =
-    let view : box_seen c.view.result ≡ moof_box c.args.self.now = rw c.deref.ensures.value at c.view.ensures in
-    let seen : moof_seen c.again-view.result ≡ moof_box c.args.self.now = c.again-view.ensures ∙ view in
-    place_within (moof_box c.args.self.now) _ _ (c.start-cursor.ensures.payload ∙ ap (λ (b : Box). b.payload) seen) c.place.ensures.said
-
-pub returns-clause-through : goal.returns-clause-through
-returns-clause-through g c t = refl
+pub returns-clause-hand : goal.returns-clause-hand
+returns-clause-hand g c =
+    let w = c.args.self.now in
+    let m = c.args.movie.now in
+    let first : Walk = record w { due = c.args.before.time } in
+    let view : box_seen c.view.result ≡ moof_box w = rw c.deref.ensures.value at c.view.ensures in
+    let seen : moof_seen c.again-view.result ≡ moof_box w = c.again-view.ensures ∙ view in
+    let info_at = at_place m.tracks w.track c.index-tracks-self.result c.requires.movie.track (rw c.tracks.ensures at c.index-tracks-self.is) in
+    let hand : c.start-cursor.result ≡ moof_hand m w c.place.result = λ i. record {
+      payload = (c.start-cursor.ensures.payload ∙ ap (λ (b : Box). b.payload) seen) i;
+      moof = (c.start-cursor.ensures.moof ∙ ap (λ (b : Box). b.offset) seen) i;
+      tracks = (c.start-cursor.ensures.tracks ∙ c.states.ensures.same) i;
+      place = sym c.place.ensures.is i;
+    } in
+    record {
+      place = search rules;
+      rest = λ info at. (0, sym (ap samples_coming hand) ∙ all_taken m first w.track c.args.before.time c.index-tracks-self.result info _ _ _ info_at at seen c.states.ensures.same c.start-cursor.ensures.samples);
+      all = λ info at. (hands.Fragment c.start-cursor.result, hand, all_taken m w w.track c.args.before.time c.index-tracks-self.result info _ _ _ info_at at seen c.states.ensures.same c.start-cursor.ensures.samples);
+      way = place_within (moof_box w) _ _ (c.start-cursor.ensures.payload ∙ ap (λ (b : Box). b.payload) seen) c.place.ensures.said;
+      through = λ t. refl;
+    }

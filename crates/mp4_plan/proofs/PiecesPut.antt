@@ -1,0 +1,107 @@
+-- Pieces that are put over any store: so many follow, with so many samples and so many bytes of these.
+use Rattle.std.proofs.Common.{◌≡◌, ℕ, ◌+◌, ◌-◌, ◌*◌, ◌^◌, ◌<◌, ◌≤◌, List, [], ◌∷◌, ◌++◌, length, refl, sym, ap, subst, ◌∙◌, length-append, arith}
+use Rattle.std.specs.Prelude.{Option, codes}
+use Rattle.std.specs.Io.KnownBytes.{Appends}
+use Rattle.std.specs.List.{sum_by}
+use Rattle.std.proofs.lemmas.List.Sums.{sum_by-append, sum_by-cons}
+use Rattle.std.proofs.lemmas.Grind.{flat_map-append}
+use Rattle.std.proofs.lemmas.List.{append-nil}
+use Rattle.mp4_boxes.specs.format.Written.{header_bytes}
+use Rattle.mp4_tables.specs.format.Groups.{GroupKey}
+use Rattle.mp4_store.proofs.Known.{Appends-then}
+use Rattle.mp4_present.specs.words.Carried.{BytesGoOn, GoOnBy}
+use Rattle.mp4_present.specs.words.Movies.{MovieSeen}
+use Rattle.mp4_present.specs.declared.track_info.TrackInfo.{TrackInfo}
+use Rattle.mp4_present.proofs.Carrying.{BytesGoOn-then, GoOnBy-none, GoOnBy-then, GoOnBy-bytes}
+use Rattle.mp4_plan.specs.words.PutPieces.{PutPiece, put_length, PiecesFollow, IsPutWhole}
+use Rattle.mp4_plan.specs.words.Sizes.{moof_sizes}
+use Rattle.mp4_plan.specs.words.Spelling.{moof_front, run_rows}
+use Rattle.mp4_plan.specs.words.UsedKeys.{group_bytes, some_groups}
+use Rattle.mp4_plan.specs.declared.planner.Planned.{Planned}
+use Rattle.mp4_plan.specs.declared.rows.Row.{Row}
+use Rattle.mp4_plan.proofs.PartsPut.{go_four}
+
+-- none
+pub none_follow : (known : Option (List ℕ)) (held : List ℕ) (samples bytes : ℕ) → samples ≡ 0 → bytes ≡ 0 → PiecesFollow known known held held 0 samples bytes
+none_follow known held samples bytes no_samples no_bytes = record { pieces = []; counts = sym no_samples; sizes = sym no_bytes; long = GoOnBy-none known held 0 refl }
+
+-- none yet, behind so many bytes
+pub first_put : (a b : Option (List ℕ)) (held held_b first : List ℕ) → BytesGoOn a b held held_b first → PiecesFollow a b held held_b (length first) 0 0
+first_put a b held held_b first p = record { pieces = []; counts = refl; sizes = refl; long = subst (λ n. GoOnBy a b held held_b n) (omega arith) (GoOnBy-bytes a b held held_b first p) }
+
+-- others behind them
+pub follow_then : (a b c : Option (List ℕ)) (held held_b held_c : List ℕ) (first samples bytes more_samples more_bytes : ℕ) → PiecesFollow a b held held_b first samples bytes → PiecesFollow b c held_b held_c 0 more_samples more_bytes
+    → PiecesFollow a c held held_c first (samples + more_samples) (bytes + more_bytes)
+follow_then a b c held held_b held_c first samples bytes more_samples more_bytes p q =
+    let counts = sum_by-append (λ (x : PutPiece). x.planned.count) p.pieces q.pieces in
+    let sizes = sum_by-append (λ (x : PutPiece). x.planned.bytes) p.pieces q.pieces in
+    let lengths = sum_by-append put_length p.pieces q.pieces in
+    let one = p.counts in
+    let two = q.counts in
+    let three = p.sizes in
+    let four = q.sizes in
+    record {
+      pieces = p.pieces ++ q.pieces;
+      counts = omega (arith, counts, one, two);
+      sizes = omega (arith, sizes, three, four);
+      long = GoOnBy-then a b c held held_b held_c (first + sum_by put_length p.pieces) (0 + sum_by put_length q.pieces) _ p.long q.long (omega (arith, lengths));
+    }
+
+-- one, of which the parts in front are these, and then its bytes
+pub piece_follows : (q : PutPiece) (front mdat : List ℕ) (a b c d e f : Option (List ℕ)) (h1 h2 h3 h4 h5 h6 : List ℕ) → front ≡ moof_front q.head q.planned (moof_sizes q.planned q.keys) → mdat ≡ header_bytes (codes "mdat") q.planned.bytes
+    → BytesGoOn a b h1 h2 front → BytesGoOn b c h2 h3 (run_rows q.planned q.rows) → BytesGoOn c d h3 h4 (some_groups q.rows q.planned q.groups) → BytesGoOn d e h4 h5 mdat → GoOnBy e f h5 h6 q.planned.bytes
+    → PiecesFollow a f h1 h6 0 q.planned.count q.planned.bytes
+piece_follows q front mdat a b c d e f h1 h2 h3 h4 h5 h6 is_front is_mdat x y z u v =
+    let own_front = moof_front q.head q.planned (moof_sizes q.planned q.keys) in
+    let own_mdat : List ℕ = header_bytes (codes "mdat") q.planned.bytes in
+    let run = run_rows q.planned q.rows in
+    let groups = some_groups q.rows q.planned q.groups in
+    let first = subst (λ (bs : List ℕ). BytesGoOn a b h1 h2 bs) is_front x in
+    let last = subst (λ (bs : List ℕ). BytesGoOn d e h4 h5 bs) is_mdat u in
+    let whole = GoOnBy-bytes a e h1 h5 (own_front ++ run ++ groups ++ own_mdat) (go_four own_front run groups own_mdat [] a b c d e f h1 h2 h3 h4 h5 h6 first y z last) in
+    let counts = sum_by-cons (λ (x : PutPiece). x.planned.count) q [] in
+    let sizes = sum_by-cons (λ (x : PutPiece). x.planned.bytes) q [] in
+    let lengths = sum_by-cons put_length q [] in
+    record {
+      pieces = q ∷ [];
+      counts = omega (arith, counts);
+      sizes = omega (arith, sizes);
+      long = GoOnBy-then a e f h1 h5 h6 (length (own_front ++ run ++ groups ++ own_mdat)) q.planned.bytes _ whole v (omega (arith, lengths));
+    }
+
+-- at last what waits is put: they have as many samples and bytes as the movie says
+pub all_follow : (m : MovieSeen) (a b c : Option (List ℕ)) (held held_b head : List ℕ) (samples bytes : ℕ) → PiecesFollow a b held held_b (length head) samples bytes
+    → samples ≡ sum_by (λ (i : TrackInfo). i.samples) m.tracks → bytes ≡ sum_by (λ (i : TrackInfo). i.bytes) m.tracks → Appends b c held_b → IsPutWhole m a c (held ++ head)
+all_follow m a b c held held_b head samples bytes p counts sizes q =
+    let put = p.long.0 in
+    let long = p.long.2 in
+    record {
+      pieces = p.pieces;
+      counts = p.counts ∙ counts;
+      sizes = p.sizes ∙ sizes;
+      long = (put ++ held_b, Appends-then a b c put held_b (put ++ held_b) p.long.1 q refl, omega (arith, long, length-append put held_b, length-append held head));
+    }
+
+-- one `sbgp` more
+pub groups_more : (rows : List Row) (p : Planned) (used : List (ℕ × GroupKey)) (place : ℕ) (key : GroupKey) (a b c : Option (List ℕ)) (h1 h2 h3 : List ℕ) → BytesGoOn a b h1 h2 (some_groups rows p used) → BytesGoOn b c h2 h3 (group_bytes rows p place key)
+    → BytesGoOn a c h1 h3 (some_groups rows p (used ++ (place, key) ∷ []))
+groups_more rows p used place key a b c h1 h2 h3 x y =
+    BytesGoOn-then a b c h1 h2 h3 (some_groups rows p used) (group_bytes rows p place key) (some_groups rows p (used ++ (place, key) ∷ [])) x y
+    (flat_map-append (λ (g : ℕ × GroupKey). group_bytes rows p g.0 g.1) used ((place, key) ∷ []) ∙ ap (λ (bs : List ℕ). some_groups rows p used ++ bs) (append-nil (group_bytes rows p place key)))
+
+-- ---- counts
+
+-- as many samples fewer are to come as were taken
+pub fewer_to_come : (samples left count after all : ℕ) → samples + left ≡ all → count ≤ left → after ≡ left - count → samples + count + after ≡ all
+fewer_to_come samples left count after all sum few is = omega (arith, sum, few, is)
+
+-- a sample has fewer than 2^32 bytes
+pub still_fits : (sent left bytes count after most : ℕ) → sent + left * 4294967295 ≤ most → bytes ≤ count * 4294967295 → count ≤ left → after ≡ left - count → sent + bytes + after * 4294967295 ≤ most
+still_fits sent left bytes count after most fits sizes few is = omega (arith, fits, sizes, few, is)
+
+pub sum_fits : (sent left bytes : ℕ) → sent + left * 4294967295 ≤ 2 ^ 64 * 4294967295 * 4294967295 → bytes + 16 < 2 ^ 64 → sent + bytes < 2 ^ 128
+sum_fits sent left bytes fits small = omega (arith, fits, small)
+
+-- no more than the rows, of which there are few
+pub no_more : (a b c : ℕ) → a ≤ b → b ≤ c → a ≤ c
+no_more a b c p q = omega (arith, p, q)

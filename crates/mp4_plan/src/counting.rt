@@ -1,0 +1,173 @@
+//! How many samples the next piece of a walk has.
+ghost use Rattle.std.specs.Prelude.{◌≡◌, ◌+◌, ◌≤◌, length, slice_get, IfOk};
+ghost use Rattle.mp4_present.specs.words.Movies.{IsWalkOf, RefusesLoad};
+ghost use Rattle.mp4_present.specs.words.OverStores.{IsUnchanged, OnlyReads, Refused};
+ghost use Rattle.mp4_present.specs.words.OverWalks.{TakesSteps};
+ghost use Rattle.mp4_plan.specs.words.Counting.{CountsFirst, HandCounted, HasCounted, PieceCounted, StopsAt};
+ghost use Rattle.mp4_plan.specs.words.Ends.{goes_in};
+ghost use Rattle.mp4_plan.specs.words.HandsFed.{KeepsOn};
+ghost use Rattle.mp4_plan.specs.words.OverLess.{KeepsWalk, WhereLess};
+
+use crate::courses::MOST_SAMPLES;
+use crate::ends::{End, has_ended};
+use crate::reduced::Reduced;
+use mp4_boxes::{Refusal, Steps};
+use mp4_present::{Leaving, Movie, Place, Walk};
+use mp4_store::Store;
+use mp4_tables::{SampleAt, Samples};
+use std::sync::ledger::Ledger;
+
+// How many samples a piece has, and the next one behind them.
+#[derive(Clone, Copy, Debug, PartialEq, Eq)]
+struct Counted {
+    count: u32,
+    next: Option<SampleAt>,
+}
+
+// The same of what is in hand, and where that goes on.
+#[derive(Drop)]
+struct CountedHand {
+    count: u32,
+    next: Option<SampleAt>,
+    place: Place,
+}
+
+// Whether a sample goes into a piece with this end and description.
+#[inline(always)]
+fn goes_in(end: &End, description: u32, sample: &SampleAt) -> bool
+    ensures { result ≡ goes_in end.now description sample.now }
+{
+    !has_ended(end, sample) && sample.description == description
+}
+
+// Passes the samples that go into a piece with this end and description, at most so many, and
+// counts them.
+#[inline(always)]
+fn count_in<S: Samples>(samples: &mut S, end: &End, description: u32, most: u32) -> u32
+    ensures counts { CountsFirst (goes_in end.now description) result (S.rest samples.old)
+        (S.rest samples.new) }
+    ensures few { result ≤ most }
+    ensures stops { StopsAt (goes_in end.now description) most result
+        (slice_get (S.rest samples.new) 0) }
+    ensures later { S.follows samples.old samples.new }
+{
+    let mut count = 0;
+    while count < most {
+        let Some(sample) = samples.peek() else {
+            return count;
+        };
+        if !goes_in(end, description, &sample) {
+            return count;
+        }
+        let _ = samples.next();
+        count += 1;
+    }
+    count
+}
+
+// Counts the samples in hand that go into a piece with this end and description, at most so many.
+fn count_hand(
+    walk: &Walk,
+    leaving: Leaving,
+    movie: &Movie,
+    end: &End,
+    description: u32,
+    most: u32,
+) -> CountedHand
+    requires { IsWalkOf movie.now walk.now }
+    ensures counted { HandCounted leaving movie.now walk.now (goes_in end.now description) most
+        result.count result.next result.place }
+    ensures place { IsWalkOf movie.now (record walk.now { place = result.place }) }
+    ensures keeps { KeepsOn movie.now walk.now result.place }
+{
+    let mut hand = Reduced {
+        inner: walk.in_hand(movie),
+        leaving,
+    };
+    let count = count_in(&mut hand, end, description, most);
+    CountedHand {
+        count,
+        next: hand.peek(),
+        place: hand.inner.place(),
+    }
+}
+
+// Passes the samples of a walk that go into a piece with this end and description, and counts them.
+// Where they are more than 2^24, the store has changed.
+fn count_piece<S: Store, L: Ledger>(
+    walk: &mut Walk,
+    leaving: Leaving,
+    end: &End,
+    description: u32,
+    movie: &Movie,
+    store: &mut S,
+    steps: &mut Steps<L>,
+) -> Result<Counted, Refusal>
+    requires { IsWalkOf movie.now walk.old }
+    ensures walk { KeepsWalk movie.now walk.old walk.new result }
+    ensures store { OnlyReads S.Store store.old store.new result }
+    ensures counted { WhereLess S.Store store.old movie.now leaving walk.old
+        (λ file tree t samples. IfOk result (λ c. HasCounted leaving file tree t movie.now walk.new
+        (goes_in end.now description) samples c.count c.next)) }
+    ensures unchanged { WhereLess S.Store store.old movie.now leaving walk.old
+        (λ file tree t samples. length samples ≤ MOST_SAMPLES → IsUnchanged result) }
+    ensures few { IfOk result (λ c. c.count ≤ MOST_SAMPLES) }
+    ensures work { TakesSteps S.Store store.old movie.now walk.old walk.new result steps.old
+        steps.new }
+    ensures refusal { Refused S.Store store.old store.new result RefusesLoad }
+{
+    let mut count = 0;
+    loop {
+        let hand = count_hand(walk, leaving, movie, end, description, MOST_SAMPLES - count);
+        walk.keep(hand.place, steps);
+        count += hand.count;
+        if let Some(sample) = hand.next {
+            if goes_in(end, description, &sample) {
+                return Err(Refusal::StoreChanged);
+            }
+            return Ok(Counted {
+                count,
+                next: hand.next,
+            });
+        }
+        if !walk.load(movie, store, steps)? {
+            return Ok(Counted { count, next: None });
+        }
+    }
+}
+
+/// Counts the samples of the piece of a turn, which may have none, of a walk of which this sample
+/// is the next. Where they are more than 2^24, the store has changed.
+pub(crate) fn count_turn<S: Store, L: Ledger>(
+    walk: &mut Walk,
+    leaving: Leaving,
+    next: &mut Option<SampleAt>,
+    end: &End,
+    movie: &Movie,
+    store: &mut S,
+    steps: &mut Steps<L>,
+) -> Result<u32, Refusal>
+    requires { IsWalkOf movie.now walk.old }
+    ensures walk { KeepsWalk movie.now walk.old walk.new result }
+    ensures store { OnlyReads S.Store store.old store.new result }
+    ensures counted { WhereLess S.Store store.old movie.now leaving walk.old
+        (λ file tree t samples. next.old ≡ slice_get samples 0
+        → IfOk result (λ n. PieceCounted leaving file tree t movie.now walk.new end.now samples n
+        next.new)) }
+    ensures unchanged { WhereLess S.Store store.old movie.now leaving walk.old
+        (λ file tree t samples. length samples ≤ MOST_SAMPLES → IsUnchanged result) }
+    ensures few { IfOk result (λ n. n ≤ MOST_SAMPLES) }
+    ensures work { TakesSteps S.Store store.old movie.now walk.old walk.new result steps.old
+        steps.new }
+    ensures refusal { Refused S.Store store.old store.new result RefusesLoad }
+{
+    let Some(first) = *next else {
+        return Ok(0);
+    };
+    if has_ended(end, &first) {
+        return Ok(0);
+    }
+    let piece = count_piece(walk, leaving, end, first.description, movie, store, steps)?;
+    *next = piece.next;
+    Ok(piece.count)
+}

@@ -1,0 +1,145 @@
+-- The looks at tracks for all `moof`s of a file, by what these say and by their bytes.
+use Rattle.std.proofs.Common.{◌≡◌, Bool, ℕ, ◌+◌, ◌-◌, ◌*◌, ◌≤◌, List, [], ◌∷◌, Some, length, map, take, inl, inr, refl, sym, ap, subst, ◌∙◌, arith, length-take, mul-le-mul_left}
+use Rattle.std.proofs.Math.Nat.{mul-add, mul-one}
+use Rattle.std.proofs.lemmas.List.{length-map}
+use Rattle.std.proofs.lemmas.Slice.Zip.{AllZip-long}
+use Rattle.std.specs.Prelude.{codes, unwrap_or, IsTrue}
+use Rattle.mp4_boxes.specs.format.Bytes.{sum_of}
+use Rattle.mp4_boxes.specs.format.Box.{Box, file_container}
+use Rattle.mp4_boxes.specs.format.Children.{Holds, of_kind}
+use Rattle.mp4_boxes.specs.declared.rule.Rule.TheVariants.{File}
+use Rattle.mp4_frag.specs.format.Fragments.{FragmentTree}
+use Rattle.mp4_frag.specs.format.FragmentRows.{moof_says}
+use Rattle.mp4_head.specs.words.Found.{SaysHead}
+use Rattle.mp4_head.specs.declared.heads.MovieHead.{MovieHead}
+use Rattle.mp4_head.specs.declared.heads.TrackHead.{TrackHead}
+use Rattle.mp4_present.specs.format.Denotes.{FileTree, IsFileTree}
+use Rattle.mp4_present.specs.words.Again.{AreFrom, IsNextFragment}
+use Rattle.mp4_present.specs.words.Movies.{Fills, IsWhole}
+use Rattle.mp4_present.specs.words.NumbersTold.{LooksFit}
+use Rattle.mp4_present.specs.words.Outline.{IsOutline}
+use Rattle.mp4_present.specs.words.ToOpen.{LooksByBytes, LooksWithin, boxes_looks, moof_looks, opening_looks}
+use Rattle.mp4_present.specs.words.TrackTrees.{IsTrackOf}
+use Rattle.mp4_present.specs.declared.outline.Outline.{Outline}
+use Rattle.mp4_present.specs.declared.reading.TopBox.{TopBox}
+use Rattle.mp4_present.proofs.ChecksCounted.{first_left, next_left}
+use Rattle.mp4_present.proofs.MoofsPassed.{IsRead}
+use Rattle.mp4_present.proofs.Opened.{IsRead as IsMoovRead, its_movie}
+use Rattle.mp4_present.proofs.OpeningSteps.{tracks_are}
+
+-- ---- by what the `moof`s say
+
+-- so many looks were taken, and for each `moof` from a place on no more than it says are left of those for all
+abbrev pub LooksLeft : List ℕ → ℕ → ℕ → ℕ → ℕ → Type 0
+LooksLeft file at tracks old new =
+    (all : List Box) → Holds File (file_container file) all → (boxes : List Box) × (AreFrom file at boxes × (new + tracks * boxes_looks (of_kind (codes "moof") boxes) ≤ old + tracks * boxes_looks (of_kind (codes "moof") all)))
+
+-- before the first one
+pub looks_first : (file : List ℕ) (known : List Box) (o : Outline) (at tracks start : ℕ) → Holds File (file_container file) known → IsOutline file known o → unwrap_or o.fragments (length file) ≡ at → LooksLeft file at tracks start start
+looks_first file known o at tracks start holds i e all h =
+    let l = first_left file known o at holds i e all h in
+    let looks = ap (λ (bs : List Box). tracks * boxes_looks bs) l.2 in
+    (l.0, (l.1, omega (arith, looks)))
+
+-- where no further one is checked
+pub looks_done : (file : List ℕ) (at tracks old new : ℕ) → LooksLeft file at tracks old new → LooksWithin file tracks old new
+looks_done file at tracks old new left all h = let some = (left all h).1.1 in omega (arith, some)
+
+one_more : (tracks trafs rest all old before mid after : ℕ) → mid ≤ before + tracks * trafs → after ≤ mid + tracks → before + tracks * (1 + trafs + rest) ≤ old + all → after + tracks * rest ≤ old + all
+one_more tracks trafs rest all old before mid after check note h =
+    let one = mul-add tracks 1 trafs in
+    let sum = mul-add tracks (1 + trafs) rest in
+    omega (arith, check, note, h, one, sum, mul-one tracks)
+
+-- one more was checked and noted
+pub next_looked : (file : List ℕ) (at : ℕ) (top : TopBox) (all : List Box) (w : IsWhole (length file) top) (boxes : List Box) (a : AreFrom file at boxes) → IsNextFragment file at boxes (Some top)
+    → (m : Box) (bytes : List ℕ) (len : ℕ) → IsRead file top m bytes len → (tracks old before mid after : ℕ) → mid ≤ before + tracks * length (moof_says m).trafs → after ≤ mid + tracks
+    → before + tracks * boxes_looks (of_kind (codes "moof") boxes) ≤ old + tracks * boxes_looks (of_kind (codes "moof") all)
+    → (left : List Box) × (AreFrom file top.header.end left × (after + tracks * boxes_looks (of_kind (codes "moof") left) ≤ old + tracks * boxes_looks (of_kind (codes "moof") all)))
+unfolding moof_looks
+next_looked file at top all w boxes a next m bytes len r tracks old before mid after check note h =
+    let l = next_left file at top w boxes a next m bytes len r in
+    let sum = subst (λ (bs : List Box). before + tracks * boxes_looks bs ≤ old + tracks * boxes_looks (of_kind (codes "moof") all)) l.2 h in
+    (l.0, (l.1, one_more tracks (length (moof_says m).trafs) (boxes_looks (of_kind (codes "moof") l.0)) (tracks * boxes_looks (of_kind (codes "moof") all)) old before mid after check note sum))
+
+-- ---- by bytes
+
+pub none_looked : (file_length at tracks start : ℕ) → LooksFit file_length at tracks start start
+none_looked file_length at tracks start =
+    let less : file_length - at ≤ file_length = omega arith in
+    omega (arith, mul-le-mul_left tracks less)
+
+pub all_looked : (file_length at tracks old new : ℕ) → LooksFit file_length at tracks old new → 8 * new ≤ 8 * old + tracks * file_length
+all_looked file_length at tracks old new h = omega (arith, h)
+
+-- those left before a `moof` behind a place
+pub looks_before : (file_length at offset tracks old new : ℕ) → at ≤ offset → LooksFit file_length at tracks old new → LooksFit file_length offset tracks old new
+looks_before file_length at offset tracks old new on h =
+    let less : file_length - offset ≤ file_length - at = omega (arith, on) in
+    omega (arith, h, mul-le-mul_left tracks less)
+
+looks_sum : (tracks left len whole all old before mid after : ℕ) → left + (len + 8) ≤ whole → 8 * mid ≤ 8 * before + tracks * len → after ≤ mid + tracks → 8 * before + tracks * whole ≤ 8 * old + all → 8 * after + tracks * left ≤ 8 * old + all
+looks_sum tracks left len whole all old before mid after taken check note h =
+    let each = mul-le-mul_left tracks taken in
+    let sum = mul-add tracks left (len + 8) in
+    let own = mul-add tracks len 8 in
+    omega (arith, check, note, h, each, sum, own)
+
+module _ (file : List ℕ) (at : ℕ) (top : TopBox) (w : IsWhole (length file) top) (behind : at ≤ top.offset) (front : 8 ≤ top.header.header) (m : Box) (bytes : List ℕ) (len : ℕ) (r : IsRead file top m bytes len) where
+  -- its bytes, and those of its header, lie behind the place, up to its end
+  its_bytes : (length file - top.header.end) + (length m.payload + 8) ≤ length file - at
+  its_bytes =
+      let within = r.within in
+      let fills = r.fills in
+      let whole = w.within in
+      let count : length m.payload ≡ length (take len bytes) = ap (λ (b : Box). length b.payload) r.is in
+      omega (arith, within, fills, whole, behind, front, count, length-take len bytes)
+
+  -- it was accepted, and noted; or it could not be noted of all
+  pub next_looks : (tracks old before mid after : ℕ) → 8 * mid ≤ 8 * before + tracks * length m.payload → after ≤ mid + tracks → LooksFit (length file) at tracks old before → LooksFit (length file) top.header.end tracks old after
+  next_looks tracks old before mid after check note h = looks_sum tracks (length file - top.header.end) (length m.payload) (length file - at) (tracks * length file) old before mid after its_bytes check note h
+
+  -- it was refused
+  pub refused_looks : (tracks old before after : ℕ) → 8 * after ≤ 8 * before + tracks * length m.payload → LooksFit (length file) at tracks old before → 8 * after ≤ 8 * old + tracks * length file
+  refused_looks tracks old before after check h =
+      let some : after ≤ after + tracks = omega arith in
+      let fit = next_looks tracks old before after after check some h in
+      omega (arith, fit)
+
+-- a front of a `moof` was checked behind some looks
+pub front_looks : (file_length : ℕ) (top : TopBox) (w : IsWhole file_length top) (bytes : List ℕ) (len tracks old before after : ℕ) → Fills len top → 8 * after ≤ 8 * before + tracks * length (take len bytes) → LooksFit file_length top.offset tracks old before
+    → 8 * after ≤ 8 * old + tracks * file_length
+front_looks file_length top w bytes len tracks old before after fills check h =
+    let within = w.within in
+    let fits : length (take len bytes) ≤ file_length - top.offset = omega (arith, within, fills, length-take len bytes) in
+    omega (arith, check, h, mul-le-mul_left tracks fits)
+
+-- ---- a file whose head was read
+
+each_moof : (moofs : List FragmentTree) → sum_of (λ (t : FragmentTree). moof_looks t.moof) moofs ≡ boxes_looks (map (λ (t : FragmentTree). t.moof) moofs)
+each_moof [] = refl
+each_moof (t ∷ moofs) = ap (λ (n : ℕ). moof_looks t.moof + n) (each_moof moofs)
+
+module _ (honest : Bool) (file : List ℕ) (o : Outline) (moov : List ℕ) (b : Box) (head : MovieHead) (r : IsMoovRead honest file o moov b) (says : SaysHead b head) (told : IsTrue honest) where
+  -- by its boxes
+  pub looks_counted : (tree : FileTree) → IsFileTree file tree → (before after : ℕ) → LooksWithin file (length head.tracks.items) before after → after ≤ before + opening_looks tree
+  looks_counted tree is before after within =
+      let many : length head.tracks.items ≡ length tree.movie.tracks = AllZip-long IsTrackOf tree.movie.tracks head.tracks.items (tracks_are honest file o moov b head r says told tree is) in
+      let moofs : boxes_looks (of_kind (codes "moof") tree.top) ≡ sum_of (λ (t : FragmentTree). moof_looks t.moof) tree.fragments = sym (each_moof tree.fragments ∙ ap boxes_looks is.moofs) in
+      rw (many, moofs) at (within tree.top is.top)
+
+  -- the same, of as many tracks
+  pub looks_of : (tree : FileTree) → IsFileTree file tree → (n before after : ℕ) → n ≡ length head.tracks.items → LooksWithin file n before after → after ≤ before + opening_looks tree
+  looks_of tree is n before after many within = looks_counted tree is before after (subst (λ (k : ℕ). LooksWithin file k before after) many within)
+
+  -- by its bytes
+  pub looks_open : (before after : ℕ) → 8 * after ≤ 8 * before + length head.tracks.items * length file → LooksByBytes file before after
+  looks_open before after h =
+      let ids = map (λ (t : TrackHead). t.id) head.tracks.items in
+      let has = its_movie honest file o moov b head ids r says refl told in
+      let many : length head.tracks.items ≡ length ids = sym (length-map head.tracks.items (λ (t : TrackHead). t.id)) in
+      inr (ids, has, subst (λ (n : ℕ). 8 * after ≤ 8 * before + n * length file) many h)
+
+-- there was no look
+pub none_looks : (file : List ℕ) (start : ℕ) → LooksByBytes file start start
+none_looks file start = inl refl
