@@ -65,8 +65,8 @@ own_longest movie id (f ∷ fs) = longer_where (fragment_samples id (parts_behin
 -- this is what is noted of these `moof`s for the track with this ID
 pub record IsOwn (movie : MovieTree) (id : ℕ) (fs : List FragmentTree) (own : OwnSeen) : Type 0
   where
-  pub places : own.places ≡ own_moofs movie id fs
-  pub longest : own.longest ≡ own_longest movie id fs
+    pub places : own.places ≡ own_moofs movie id fs
+    pub longest : own.longest ≡ own_longest movie id fs
 
 -- the same for each track in order
 abbrev pub AreOwn : MovieTree → List FragmentTree → List OwnSeen → Type 0
