@@ -2,7 +2,8 @@
 use Rattle.std.proofs.Common.{◌≡◌, ℕ, ◌+◌, ◌*◌, ◌<◌, ◌≤◌, List, length, None, ap, arith}
 use Rattle.std.specs.List.{sum_by}
 use Rattle.mp4_present.specs.declared.track_info.TrackInfo.{TrackInfo}
-use Rattle.mp4_plan.specs.words.Turns.{follows_one, most_turns, to_come}
+use Rattle.mp4_plan.specs.words.Turns.{follows_one, to_come}
+use Rattle.mp4_plan.specs.format.TurnCount.{most_turns}
 use Rattle.mp4_plan.specs.declared.schedule.Schedule.{Schedule}
 
 -- before the first turn none was looked at

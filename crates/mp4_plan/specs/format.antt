@@ -9,3 +9,4 @@ pub mod Held
 pub mod ReducedLaws
 pub mod Agreeing
 pub mod ReducedTimes
+pub mod TurnCount

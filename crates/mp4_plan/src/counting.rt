@@ -9,7 +9,7 @@ ghost use Rattle.mp4_plan.specs.words.HandsFed.{KeepsOn};
 ghost use Rattle.mp4_plan.specs.words.OverLess.{KeepsWalk, WhereLess};
 
 use crate::courses::MOST_SAMPLES;
-use crate::ends::{End, has_ended};
+use crate::ends::{End, goes_in, has_ended};
 use crate::reduced::Reduced;
 use mp4_boxes::{Refusal, Steps};
 use mp4_present::{Leaving, Movie, Place, Walk};
@@ -30,14 +30,6 @@ struct CountedHand {
     count: u32,
     next: Option<SampleAt>,
     place: Place,
-}
-
-// Whether a sample goes into a piece with this end and description.
-#[inline(always)]
-fn goes_in(end: &End, description: u32, sample: &SampleAt) -> bool
-    ensures { result ≡ goes_in end.now description sample.now }
-{
-    !has_ended(end, sample) && sample.description == description
 }
 
 // Passes the samples that go into a piece with this end and description, at most so many, and

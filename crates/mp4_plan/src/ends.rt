@@ -1,6 +1,6 @@
 //! The ends of pieces.
 ghost use Rattle.std.specs.Prelude.{◌≡◌};
-ghost use Rattle.mp4_plan.specs.words.Ends.{first_goes, has_ended};
+ghost use Rattle.mp4_plan.specs.words.Ends.{first_goes, goes_in, has_ended};
 
 use mp4_tables::SampleAt;
 
@@ -56,4 +56,12 @@ pub(crate) fn has_ended(end: &End, sample: &SampleAt) -> bool
             scale,
         } => u128::from(cut) * u128::from(scale) <= u128::from(sample.dts) * u128::from(first),
     }
+}
+
+/// Whether a sample goes into a piece with this end and description.
+#[inline(always)]
+pub(crate) fn goes_in(end: &End, description: u32, sample: &SampleAt) -> bool
+    ensures { result ≡ goes_in end.now description sample.now }
+{
+    !has_ended(end, sample) && sample.description == description
 }

@@ -1,5 +1,5 @@
 //! A piece that is fed with samples.
-use crate::ends::{End, Fed, has_ended};
+use crate::ends::{End, Fed, goes_in};
 use crate::gathered::{Gathered, gather_more, gathered_first};
 use crate::joined::Stretches;
 use crate::rows::{Row, row_of};
@@ -111,13 +111,11 @@ impl Planner {
         ensures { result ≡ goes_in self.now.end (description_in self.now.gathered (sample.now ∷ []))
             sample.now }
     {
-        if has_ended(&self.end, sample) {
-            return false;
-        }
-        match &self.gathered {
-            Some(gathered) => sample.description == gathered.description,
-            None => true,
-        }
+        let description = match &self.gathered {
+            Some(gathered) => gathered.description,
+            None => sample.description,
+        };
+        goes_in(&self.end, description, sample)
     }
 
     // Takes a sample into the piece.

@@ -211,13 +211,6 @@ fn len_with(len: u64, planned: &Planned, keys: &Keys) -> u64
     len.saturating_add(piece_len(planned, keys))
 }
 
-// The greater one of two numbers of samples.
-fn longer(one: u32, other: u32) -> u32
-    ensures { result ≡ max one other }
-{
-    one.max(other)
-}
-
 // The most samples of a piece of what is left of a movie.
 fn longest_piece<S: Store, L: Ledger, M: Ledger>(
     alloc: Global,
@@ -251,13 +244,13 @@ fn longest_piece<S: Store, L: Ledger, M: Ledger>(
         steps,
     )?;
     let mut schedule = Schedule::new(tracks, first_time(nexts.as_slice()));
-    let mut longest = 0;
+    let mut longest: u32 = 0;
     while let Some(turn) = schedule.turn(tracks, looks) {
         let walk = &mut walks[turn.track];
         let next = &mut nexts[turn.track];
         let count = count_turn(walk, leaving, next, &turn.end, movie, store, steps)?;
         let sample = *next;
-        longest = longer(longest, count);
+        longest = longest.max(count);
         schedule.pass(&turn, count, sample)?;
     }
     Ok(longest)

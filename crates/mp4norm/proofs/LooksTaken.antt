@@ -19,7 +19,8 @@ use Rattle.mp4_present.specs.words.Opening.{RefusesOpen}
 use Rattle.mp4_present.specs.words.ToOpen.{moof_looks, opening_looks, LooksByBytes}
 use Rattle.mp4_present.specs.words.WalkSteps.{IfNoFault}
 use Rattle.mp4_present.proofs.One.{file_tree_one}
-use Rattle.mp4norm.specs.format.Steps.{FindsWithin, TurnsWithin, place_total, most_turns}
+use Rattle.mp4norm.specs.format.Steps.{FindsWithin, TurnsWithin, place_total}
+use Rattle.mp4_plan.specs.format.TurnCount.{most_turns}
 use Rattle.mp4norm.specs.format.CompareHeadline.{FindsBothWithin}
 use Rattle.mp4norm.proofs.Normalised.{denotes_nothing}
 use Rattle.mp4norm.proofs.ShownLines.{denoted}

@@ -43,11 +43,11 @@ fn extract_blank<S: Store, K: Sink, L: Ledger, M: Ledger>(
     store: &mut S,
     id: u32,
     sink: &mut K,
-    blank: Blank,
-    other: Blank,
+    steps: Blank,
+    looks: Blank,
 ) -> Result<(), Refusal>
-    requires blank { (blank.name ≡ L.name) × (blank.parts ≡ L.parts) × (0 < L.parts) }
-    requires other { (other.name ≡ M.name) × (other.parts ≡ M.parts) × (0 < M.parts) }
+    requires steps { (steps.name ≡ L.name) × (steps.parts ≡ L.parts) × (0 < L.parts) }
+    requires looks { (looks.name ≡ M.name) × (looks.parts ≡ M.parts) × (0 < M.parts) }
     ensures store { OnlyReads S.Store store.old store.new result }
     ensures puts { NoPutFails K.Sink sink.old sink.new result }
     ensures bytes { PutsTextOf S.Store store.old K.Sink sink.old sink.new result
@@ -55,8 +55,8 @@ fn extract_blank<S: Store, K: Sink, L: Ledger, M: Ledger>(
     ensures refusal { Refuses S.Store store.old store.new K.Sink sink.old sink.new result
         (RefusesData id) }
 {
-    let mut steps = Steps::<L>::new(blank);
-    let mut looks = Steps::<M>::new(other);
+    let mut steps = Steps::<L>::new(steps);
+    let mut looks = Steps::<M>::new(looks);
     extract_counted(alloc, store, id, sink, &mut steps, &mut looks)
 }
 

@@ -16,18 +16,18 @@ use std::sync::ledger::{Blank, Ledger};
 fn check_counted<S: Store, L: Ledger, M: Ledger>(
     alloc: Global,
     store: &mut S,
-    blank: Blank,
-    other: Blank,
+    steps: Blank,
+    looks: Blank,
 ) -> Result<(), Refusal>
-    requires blank { (blank.name ≡ L.name) × (blank.parts ≡ L.parts) × (0 < L.parts) }
-    requires other { (other.name ≡ M.name) × (other.parts ≡ M.parts) × (0 < M.parts) }
+    requires steps { (steps.name ≡ L.name) × (steps.parts ≡ L.parts) × (0 < L.parts) }
+    requires looks { (looks.name ≡ M.name) × (looks.parts ≡ M.parts) × (0 < M.parts) }
     ensures store { OnlyReads S.Store store.old store.new result }
     ensures accepted { OnOk result
         (WhereHonest S.Store store.old (λ file. (bytes : List ℕ) × HasNormalForm file bytes)) }
     ensures refusal { RefusedOf S.Store store.old store.new result RefusesCheck }
 {
-    let mut steps = Steps::<L>::new(blank);
-    let mut looks = Steps::<M>::new(other);
+    let mut steps = Steps::<L>::new(steps);
+    let mut looks = Steps::<M>::new(looks);
     let movie = open_movie(alloc, store, &mut steps, &mut looks)?;
     let _writer = Writer::new(alloc, &movie, store, &mut steps, &mut looks)?;
     Ok(())

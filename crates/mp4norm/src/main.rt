@@ -135,14 +135,14 @@ fn judge(rt: &HostRuntime, files: &[Input], list: Option<Input>, zero: bool) -> 
 fn act<L: Ledger, M: Ledger>(
     rt: &HostRuntime,
     action: Action,
-    blank: Blank,
-    other: Blank,
+    steps: Blank,
+    looks: Blank,
 ) -> ExitCode
-    requires blank { (blank.name ≡ L.name) × (blank.parts ≡ L.parts) × (0 < L.parts) }
-    requires other { (other.name ≡ M.name) × (other.parts ≡ M.parts) × (0 < M.parts) }
+    requires steps { (steps.name ≡ L.name) × (steps.parts ≡ L.parts) × (0 < L.parts) }
+    requires looks { (looks.name ≡ M.name) × (looks.parts ≡ M.parts) × (0 < M.parts) }
 {
-    let mut steps = Steps::<L>::new(blank);
-    let mut looks = Steps::<M>::new(other);
+    let mut steps = Steps::<L>::new(steps);
+    let mut looks = Steps::<M>::new(looks);
     match action {
         Action::Run {
             job,

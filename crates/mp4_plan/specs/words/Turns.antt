@@ -4,6 +4,7 @@ use Rattle.std.specs.List.{sum_by}
 use Rattle.mp4_present.specs.words.Movies.{MovieSeen}
 use Rattle.mp4_tables.specs.declared.sample.SampleAt.{SampleAt}
 use Rattle.mp4_present.specs.declared.track_info.TrackInfo.{TrackInfo}
+use Rattle.mp4_plan.specs.format.TurnCount.{most_turns}
 use Rattle.mp4_plan.specs.words.Ends.{has_ended}
 use Rattle.mp4_plan.specs.declared.ends.End.{End}
 use Rattle.mp4_plan.specs.declared.ends.End.TheVariants.{Sync, Before}
@@ -18,12 +19,7 @@ follows_one tracks track (Some cut) = if track == 0 then 0 else tracks + 1
 unfoldable pub to_come : Schedule → ℕ
 to_come s = s.left * (s.tracks + 2) + (s.tracks - s.track) + follows_one s.tracks s.track s.next
 
--- The most turns over so many samples of so many tracks: a fragment begins only at a sample of the
--- first track, and passes each track once.
-abbrev pub most_turns : ℕ → ℕ → ℕ
-most_turns samples tracks = samples * (tracks + 2) + tracks
-
--- over all samples that opening counted
+-- the most turns over all samples that opening counted
 abbrev pub movie_turns : MovieSeen → ℕ
 movie_turns m = most_turns (sum_by (λ (i : TrackInfo). i.samples) m.tracks) (length m.tracks)
 

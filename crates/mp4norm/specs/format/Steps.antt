@@ -10,6 +10,7 @@ use Rattle.mp4_head.specs.format.Tree.{TrackTree}
 use Rattle.mp4_present.specs.format.Denotes.{FileTree, Denotes}
 use Rattle.mp4_present.specs.format.Denotes.{HasMovie}
 use Rattle.mp4_present.specs.format.Presentation.{Presentation, sample_total}
+use Rattle.mp4_plan.specs.format.TurnCount.{most_turns}
 use Rattle.mp4norm.specs.format.Headline.{DenotesNothing}
 
 -- the rows of all tables of a file, and the `traf`s, runs and rows of `sbgp` of all its `moof`s
@@ -60,13 +61,9 @@ pub record FindsWithin (file : List ℕ) (old new : ℕ) : Type 0 where
       → new ≤ old + length p.tracks * place_total d.tree
   pub refused : DenotesNothing file → FoundWithin file old new
 
--- The turns of a way over all pieces: each takes a sample, or leads on to the next track or
--- fragment.
-abbrev pub most_turns : ℕ → ℕ → ℕ
-most_turns samples tracks = samples * (tracks + 2) + tracks
-
 -- The looks taken to write a file's normal form: those at the file, and the turns of two ways over
--- all pieces, to plan and to write.
+-- all pieces, to plan and to write; a turn takes a sample, or leads on to the next track or
+-- fragment.
 pub record TurnsWithin (file : List ℕ) (old new : ℕ) : Type 0 where
   pub denoted : (p : Presentation) → (d : Denotes file p) → new ≤ old
       + (length p.tracks * place_total d.tree + 2 * most_turns (sample_total p) (length p.tracks))

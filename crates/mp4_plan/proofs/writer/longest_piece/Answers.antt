@@ -97,7 +97,7 @@ loop-turn-preserved g c =
           let first = read_at nexts turn.track (slice_get t.left 0) c.index_mut-next.result.now (ap (λ k. slice_get nexts k) t.place ∙ t.shown) c.index_mut-next.ensures.value in
           let counted = (rw (i.5, i.2) at p.counted) told tree t.t t.left o t.comes first in
           longest_next c.args.leaving file tree m s walks nexts h.lefts h.comings o h.at turn.track c.index_mut-walk.result.now turn.end t at.1 c.count_turn.new.walk c.in_ok-count.count c.count_turn.new.next c.pass.new.self (piece_size_is turn.end t.left
-          c.in_ok-count.count counted.counts) counted.comes counted.shown c.in_ok-pass.ensures.turned c.loop-turn.longest c.longer-longest.result h.longest c.longer-longest.ensures,
+          c.in_ok-count.count counted.counts) counted.comes counted.shown c.in_ok-pass.ensures.turned c.loop-turn.longest c.max-longest.result h.longest c.max-longest.ensures,
       λ told tree o.
           let k = c.in-Some.turn.track in
           let lt : k < length walks = search rules in

@@ -1,7 +1,7 @@
 use Rattle.mp4norm.proofs.samples.samples.Given as goal
 
 abbrev pub ghosts-samples_blank-L-Ledger : goal.ghosts-samples_blank-L-Ledger
-ghosts-samples_blank-L-Ledger g a = record { name = a.blank.name; parts = a.blank.parts }
+ghosts-samples_blank-L-Ledger g a = record { name = a.steps.name; parts = a.steps.parts }
 
 abbrev pub ghosts-samples_blank-M-Ledger : goal.ghosts-samples_blank-M-Ledger
-ghosts-samples_blank-M-Ledger g a = record { name = a.other.name; parts = a.other.parts }
+ghosts-samples_blank-M-Ledger g a = record { name = a.looks.name; parts = a.looks.parts }
