@@ -1,38 +1,37 @@
 //! The normal form of a presentation, written.
-ghost use Rattle.std.specs.Prelude.{◌≡◌, ℕ, ◌+◌, ◌*◌, ◌-◌, ◌^◌, ◌<◌, ◌≤◌, max, min, List, ◌++◌, length, map, take, slice_index, slice_get, Some, None, true, false, IfOk, IfErr, MatchResult, OnOk, OnErr};
+ghost use Rattle.std.specs.Prelude.{◌≡◌, ℕ, ◌+◌, ◌*◌, ◌-◌, ◌^◌, ◌<◌, ◌≤◌, max, min, List, ◌++◌, length, map, take, Some, None, true, false, IfOk, IfErr, MatchResult, OnOk, OnErr};
 ghost use Rattle.std.specs.Io.KnownBytes.{Appends};
-ghost use Rattle.std.specs.List.{AllByRecursion, sum_by};
-ghost use Rattle.mp4_boxes.specs.format.Bytes.{sum_of};
+ghost use Rattle.std.specs.List.{sum_by};
 ghost use Rattle.mp4_boxes.specs.declared.refusal.Refusal.TheVariants as refusals;
 ghost use Rattle.mp4_store.specs.words.Device.{AppendsPrefix};
-ghost use Rattle.mp4_head.specs.format.Tree.{TrackTree};
 ghost use Rattle.mp4_tables.specs.words.Keys.{keys_seen};
 ghost use Rattle.mp4_tables.specs.declared.sample.SampleAt.{SampleAt};
 ghost use Rattle.mp4_present.specs.declared.track_info.TrackInfo.{TrackInfo};
-ghost use Rattle.mp4_present.specs.words.Carried.{BytesGoOn, GoOnBy, waiting};
+ghost use Rattle.mp4_present.specs.words.Carried.{GoOnBy, waiting};
 ghost use Rattle.mp4_present.specs.format.Presentation.{movie_length};
 ghost use Rattle.mp4_present.specs.format.Reduced.{ReducesInTime, reduce};
 ghost use Rattle.mp4_present.specs.declared.leaving.Leaving.{Leaving};
-ghost use Rattle.mp4_plan.specs.words.ComingLess.{ComesLess, left_samples};
+ghost use Rattle.mp4_plan.specs.words.ComingLess.{left_samples};
 ghost use Rattle.mp4_plan.specs.words.LeftTimes.{NamesLong, RefusesLeft, RefusesLeftCopy};
 ghost use Rattle.mp4_present.specs.format.Denotes.{FileTree, presentation_of};
-ghost use Rattle.mp4_present.specs.words.Joined.{IsBelow, sample_bytes};
+ghost use Rattle.mp4_present.specs.words.Joined.{sample_bytes};
 ghost use Rattle.mp4_present.specs.words.OpenedMovie.{IsOpenedAs};
 ghost use Rattle.mp4_present.specs.words.OverStores.{IsUnchanged, OnlyReads, Refused};
 ghost use Rattle.mp4_present.specs.words.WalkSteps.{walks_steps};
 ghost use Rattle.mp4_plan.specs.format.Normal.{normal};
 ghost use Rattle.mp4_plan.specs.format.Pieces.{pieces};
 ghost use Rattle.mp4_plan.specs.words.PutPieces.{PiecesFollow, IsPutWhole};
-ghost use Rattle.mp4_plan.specs.words.WriterSteps.{MayAllTake, AllTakeOn, MayAllBegin, MayAllWrite, AllWriteOn, WriteAllBegin, MayAllFinish, AllFinishOn, writing_steps};
+ghost use Rattle.mp4_plan.specs.words.WriterSteps.{MayAllTake, AllTakeOn, MayAllBegin, MayAllWrite, AllWriteOn, WriteAllBegin, writing_steps};
+ghost use Rattle.mp4_plan.specs.words.OverCarrying.{AreThere, Carries};
+ghost use Rattle.mp4_plan.specs.words.OverWriters.{IsPlanned, MayCarry, OnTurn, OnlyCarries, OnlyNotes, StepsToCarry, StepsToNote, WhereNoted, WithKeys};
 ghost use Rattle.mp4_plan.specs.words.OverDevices.{AreWalksStill, IsMade, OnlyCopies, OverOpened, TellsLong};
 ghost use Rattle.mp4_plan.specs.words.Turns.{movie_turns};
 ghost use Rattle.mp4_present.specs.words.HandCarried.{RefusedByBoth};
-ghost use Rattle.mp4_plan.specs.words.UsedKeys.{AreApart};
 ghost use Rattle.mp4_present.specs.words.Carried.{RefusesCarry, RefusesCopy};
 ghost use Rattle.mp4_present.specs.declared.walks.Walk.{Walk};
 ghost use Rattle.mp4_plan.specs.words.Gathering.{more_of, piece_from};
-ghost use Rattle.mp4_present.specs.words.Movies.{RefusesLoad, mark_of};
-ghost use Rattle.mp4_plan.specs.words.Writers.{RefusesMemory, RefusesPlan, AreMarked, IsHeadOf, AreWalksOf, IsWriterOf, turn_head, sequence_behind, AllCome, AllBegin, first_dts, head_of_normal, IsReady, bytes_of_piece, turn_bytes, firsts, HasNoted, IsNoted, HaveCopied, ArePiecesLong, WhereOpened, longest_piece, planned_length};
+ghost use Rattle.mp4_present.specs.words.Movies.{RefusesLoad};
+ghost use Rattle.mp4_plan.specs.words.Writers.{RefusesMemory, RefusesPlan, AreMarked, IsHeadOf, AreWalksOf, IsWriterOf, turn_head, sequence_behind, AllCome, AllBegin, first_dts, head_of_normal, IsReady, bytes_of_piece, turn_bytes, firsts, HasNoted, HaveCopied, ArePiecesLong, longest_piece, planned_length};
 ghost use Rattle.mp4_plan.specs.format.Held.{rooms, held};
 ghost use Rattle.mp4_plan.specs.words.OwnRooms.{own_rooms};
 
@@ -222,14 +221,12 @@ fn longest_piece<S: Store, L: Ledger, M: Ledger>(
 ) -> Result<u32, Refusal>
     ensures store { OnlyReads S.Store store.old store.new result }
     ensures few { IfOk result (λ longest. longest ≤ 2 ^ 24) }
-    ensures longest { WhereOpened (S.is_honest store.old) (S.file store.old) movie.now
-        (λ tree. IfOk result (λ longest. longest
-        ≡ longest_piece (pieces (reduce leaving (presentation_of (S.file store.old) tree))))) }
-    ensures unchanged { WhereOpened (S.is_honest store.old) (S.file store.old) movie.now
-        (λ tree. IsUnchanged result) }
+    ensures longest { OverOpened S.Store store.old movie.now (λ file tree. IfOk result (λ longest.
+        longest ≡ longest_piece (pieces (reduce leaving (presentation_of file tree))))) }
+    ensures unchanged { OverOpened S.Store store.old movie.now (λ file tree. IsUnchanged result) }
     ensures refusal { Refused S.Store store.old store.new result RefusesPlan }
-    ensures work { WhereOpened (S.is_honest store.old) (S.file store.old) movie.now
-        (λ tree. steps.new ≤ steps.old + walks_steps tree) }
+    ensures work { OverOpened S.Store store.old movie.now
+        (λ file tree. steps.new ≤ steps.old + walks_steps tree) }
     ensures turns { looks.new ≤ looks.old + movie_turns movie.now }
 {
     let tracks = movie.tracks();
@@ -266,14 +263,12 @@ fn pieces_len<S: Store, L: Ledger, M: Ledger>(
     looks: &mut Steps<M>,
 ) -> Result<u64, Refusal>
     ensures store { OnlyReads S.Store store.old store.new result }
-    ensures length { WhereOpened (S.is_honest store.old) (S.file store.old) movie.now
-        (λ tree. IfOk result
-        (ArePiecesLong (reduce leaving (presentation_of (S.file store.old) tree)))) }
-    ensures unchanged { WhereOpened (S.is_honest store.old) (S.file store.old) movie.now
-        (λ tree. IsUnchanged result) }
+    ensures length { OverOpened S.Store store.old movie.now (λ file tree.
+        IfOk result (ArePiecesLong (reduce leaving (presentation_of file tree)))) }
+    ensures unchanged { OverOpened S.Store store.old movie.now (λ file tree. IsUnchanged result) }
     ensures refusal { Refused S.Store store.old store.new result RefusesPlan }
-    ensures work { WhereOpened (S.is_honest store.old) (S.file store.old) movie.now
-        (λ tree. steps.new ≤ steps.old + walks_steps tree) }
+    ensures work { OverOpened S.Store store.old movie.now
+        (λ file tree. steps.new ≤ steps.old + walks_steps tree) }
     ensures turns { looks.new ≤ looks.old + movie_turns movie.now }
 {
     let tracks = movie.tracks();
@@ -487,45 +482,18 @@ impl Writer {
     ) -> Result<Noted, Refusal>
         requires writer { IsWriterOf movie.now self.old }
         requires track { turn.now.track < length movie.now.tracks }
-        ensures writer { OnOk result (IsWriterOf movie.now self.new) }
-        ensures held { held self.new ≡ held self.old }
-        ensures keeps { (self.new.leaving ≡ self.old.leaving)
-            × (self.new.carrier ≡ self.old.carrier)
-            × (length self.new.rows.items ≡ length self.old.rows.items)
-            × (self.new.nexts ≡ self.old.nexts) }
-        ensures honesty { S.is_honest store.new ≡ S.is_honest store.old }
-        ensures file { S.file store.new ≡ S.file store.old }
-        ensures noted { WhereOpened (S.is_honest store.old) (S.file store.old) movie.now
-            (λ tree. (t : TrackTree) (walk : Walk) (left : List SampleAt)
-            → slice_get self.old.walks.items turn.now.track ≡ Some walk
-            → ComesLess self.old.leaving (S.file store.old) tree t movie.now walk left
-            → walk.mark ≡ mark_of walk (length left)
-            → slice_get self.old.nexts.items turn.now.track ≡ Some (slice_get left 0)
-            → IfOk result (HasNoted (S.file store.old)
-            tree t movie.now turn.now sequence id left self.old self.new)) }
-        ensures unchanged { WhereOpened (S.is_honest store.old) (S.file store.old) movie.now
-            (λ tree. (t : TrackTree) (walk : Walk) (left : List SampleAt)
-            → slice_get self.old.walks.items turn.now.track ≡ Some walk
-            → ComesLess self.old.leaving (S.file store.old) tree t movie.now walk left
-            → walk.mark ≡ mark_of walk (length left)
-            → slice_get self.old.nexts.items turn.now.track ≡ Some (slice_get left 0)
-            → more_of (piece_from turn.now.end) left ≤ length self.old.rows.items
-            → IfErr result (λ r. r ≡ refusals.StoreChanged → ⊥)) }
-        ensures few { IfOk result (λ n. (n.planned.count ≤ length self.old.rows.items)
-            × (n.planned.bytes + 16 < 2 ^ 64)
-            × ((j : ℕ) → slice_index n.planned.group_rows j ≤ n.planned.count)
-            × (n.head ≡ None → n.planned.count ≡ 0)) }
-        ensures sizes { IfOk result (λ n. n.planned.bytes ≤ n.planned.count * 4294967295) }
-        ensures reads { OnOk result (S.read_failures store.new ≡ S.read_failures store.old) }
-        ensures refusal { IfErr result
-            (RefusesLoad (S.read_failures store.old) (S.read_failures store.new)) }
-        ensures work { WhereOpened (S.is_honest store.old) (S.file store.old) movie.now
-            (λ tree. (n : ℕ) → MayAllWrite (S.file store.old) tree movie.now self.old.walks.items n
-            → IfOk result (λ noted. AllFinishOn self.old.leaving (S.file store.old) tree movie.now
-            turn.now.track noted.planned.count n self.new.walks.items steps.old steps.new)) }
-        ensures most { WhereOpened (S.is_honest store.old) (S.file store.old) movie.now
-            (λ tree. (n : ℕ) → MayAllWrite (S.file store.old) tree movie.now self.old.walks.items n
-            → OnErr result (steps.new ≤ steps.old + n)) }
+        ensures writer { OnlyNotes movie.now self.old self.new result }
+        ensures store { OnlyReads S.Store store.old store.new result }
+        ensures noted { OnTurn S.Store store.old movie.now turn.now self.old (λ file tree t left.
+            IfOk result
+            (HasNoted file tree t movie.now turn.now sequence id left self.old self.new)) }
+        ensures unchanged { OnTurn S.Store store.old movie.now turn.now self.old
+            (λ file tree t left. more_of (piece_from turn.now.end) left ≤ length self.old.rows.items
+            → IsUnchanged result) }
+        ensures planned { IfOk result (IsPlanned (length self.old.rows.items)) }
+        ensures refusal { Refused S.Store store.old store.new result RefusesLoad }
+        ensures work { StepsToNote S.Store store.old movie.now turn.now.track self.old self.new
+            result steps.old steps.new }
     {
         self.stretches.clear();
         let first = self.nexts[turn.track];
@@ -559,53 +527,24 @@ impl Writer {
     ) -> Result<(), Refusal>
         requires writer { IsWriterOf movie.now self.old }
         requires track { track < length movie.now.tracks }
-        ensures writer { OnOk result (IsWriterOf movie.now self.new) }
-        ensures held { held self.new ≡ held self.old }
-        ensures honesty { S.is_honest store.new ≡ S.is_honest store.old }
-        ensures file { S.file store.new ≡ S.file store.old }
-        ensures put { WhereOpened (S.is_honest store.old) (S.file store.old) movie.now
-            (λ tree. (samples : List SampleAt) → IsNoted (S.file store.old) tree movie.now track
-            planned.now.count samples self.old
-            → OnOk result
-            (BytesGoOn (K.contents sink.old) (K.contents sink.new) (waiting self.old.carrier)
-            (waiting self.new.carrier)
-            (sample_bytes (S.file store.old) (take planned.now.count samples)))) }
+        ensures writer { OnlyCarries movie.now self.old self.new result }
+        ensures devices { OnlyCopies S.Store store.old store.new K.Sink sink.old sink.new result }
+        ensures put { WhereNoted S.Store store.old movie.now track planned.now.count self.old
+            (λ file tree t samples.
+            Carries K.Sink sink.old sink.new self.old.carrier self.new.carrier result
+            (sample_bytes file (take planned.now.count samples))) }
         ensures many { OnOk result (GoOnBy (K.contents sink.old) (K.contents sink.new)
             (waiting self.old.carrier) (waiting self.new.carrier) planned.now.bytes) }
-        ensures prefix { WhereOpened (S.is_honest store.old) (S.file store.old) movie.now
-            (λ tree. (samples : List SampleAt) → IsNoted (S.file store.old) tree movie.now track
-            planned.now.count samples self.old
-            → OnErr result
-            (AppendsPrefix (K.contents sink.old) (K.contents sink.new) (waiting self.old.carrier
-            ++ sample_bytes (S.file store.old) (take planned.now.count samples)))) }
-        ensures copied { WhereOpened (S.is_honest store.old) (S.file store.old) movie.now
-            (λ tree. (samples : List SampleAt) → (noted : IsNoted (S.file store.old) tree movie.now
-            track planned.now.count samples self.old)
-            → OnOk result (HaveCopied (S.file store.old) tree movie.now noted.t track
-            planned.now.count samples self.old self.new)) }
-        ensures keeps { OnOk result ((self.new.leaving ≡ self.old.leaving)
-            × (self.new.rows ≡ self.old.rows)) }
-        ensures unchanged { WhereOpened (S.is_honest store.old) (S.file store.old) movie.now
-            (λ tree. (samples : List SampleAt) → IsNoted (S.file store.old) tree movie.now track
-            planned.now.count samples self.old
-            → planned.now.count ≤ length samples
-            → planned.now.bytes ≡ sum_of (λ (s : SampleAt). s.size) (take planned.now.count samples)
-            → AllByRecursion (IsBelow (length (S.file store.old))) samples
-            → IfErr result (λ r. r ≡ refusals.StoreChanged → ⊥)) }
-        ensures reads { OnOk result (S.read_failures store.new ≡ S.read_failures store.old) }
-        ensures puts { OnOk result (K.put_failures sink.new ≡ K.put_failures sink.old) }
-        ensures refusal { IfErr result
-            (RefusesCarry (S.read_failures store.old) (S.read_failures store.new)
-            (K.put_failures sink.old) (K.put_failures sink.new)) }
-        ensures work { WhereOpened (S.is_honest store.old) (S.file store.old) movie.now
-            (λ tree. (n : ℕ) → MayAllFinish self.old.leaving (S.file store.old) tree movie.now track
-            planned.now.count self.old.walks.items n
-            → OnOk result (AllWriteOn (S.file store.old) tree movie.now n self.new.walks.items
-            steps.old steps.new)) }
-        ensures most { WhereOpened (S.is_honest store.old) (S.file store.old) movie.now
-            (λ tree. (n : ℕ) → MayAllFinish self.old.leaving (S.file store.old) tree movie.now track
-            planned.now.count self.old.walks.items n
-            → OnErr result (steps.new ≤ steps.old + n)) }
+        ensures copied { WhereNoted S.Store store.old movie.now track planned.now.count self.old
+            (λ file tree t samples. OnOk result
+            (HaveCopied file tree movie.now t track planned.now.count samples self.old self.new)) }
+        ensures unchanged { WhereNoted S.Store store.old movie.now track planned.now.count self.old
+            (λ file tree t samples. AreThere file planned.now.count planned.now.bytes samples
+            → IsUnchanged result) }
+        ensures refusal { RefusedByBoth S.Store store.old store.new K.Sink sink.old sink.new result
+            RefusesCarry }
+        ensures work { StepsToCarry S.Store store.old movie.now track planned.now.count self.old
+            self.new result steps.old steps.new }
     {
         let load = Load {
             samples: planned.count,
@@ -636,65 +575,26 @@ impl Writer {
         sink: &mut K,
         steps: &mut Steps<L>,
     ) -> Result<(), Refusal>
-        requires writer { IsWriterOf movie.now self.old }
-        requires track { track < length movie.now.tracks }
-        requires count { planned.now.count ≤ length self.old.rows.items }
-        requires bytes { planned.now.bytes + 16 < 2 ^ 64 }
-        requires rows { (j : ℕ) → slice_index planned.now.group_rows j ≤ planned.now.count }
-        ensures writer { OnOk result (IsWriterOf movie.now self.new) }
-        ensures held { held self.new ≡ held self.old }
-        ensures honesty { S.is_honest store.new ≡ S.is_honest store.old }
-        ensures file { S.file store.new ≡ S.file store.old }
-        ensures put { WhereOpened (S.is_honest store.old) (S.file store.old) movie.now
-            (λ tree. (samples : List SampleAt) → IsNoted (S.file store.old) tree movie.now track
-            planned.now.count samples self.old
-            → (info : TrackInfo) → slice_get movie.now.tracks track ≡ Some info
-            → AreApart (keys_seen info.keys)
-            → OnOk result
-            (BytesGoOn (K.contents sink.old) (K.contents sink.new) (waiting self.old.carrier)
-            (waiting self.new.carrier)
-            (bytes_of_piece (S.file store.old) head planned.now (keys_seen info.keys)
-            (take planned.now.count samples)))) }
+        requires { MayCarry movie.now self.old track planned.now }
+        ensures writer { OnlyCarries movie.now self.old self.new result }
+        ensures devices { OnlyCopies S.Store store.old store.new K.Sink sink.old sink.new result }
+        ensures put { WhereNoted S.Store store.old movie.now track planned.now.count self.old
+            (λ file tree t samples. WithKeys movie.now track (λ keys.
+            Carries K.Sink sink.old sink.new self.old.carrier self.new.carrier result
+            (bytes_of_piece file head planned.now keys (take planned.now.count samples)))) }
         ensures many { OnOk result (PiecesFollow (K.contents sink.old) (K.contents sink.new)
             (waiting self.old.carrier) (waiting self.new.carrier) 0 planned.now.count
             planned.now.bytes) }
-        ensures prefix { WhereOpened (S.is_honest store.old) (S.file store.old) movie.now
-            (λ tree. (samples : List SampleAt) → IsNoted (S.file store.old) tree movie.now track
-            planned.now.count samples self.old
-            → (info : TrackInfo) → slice_get movie.now.tracks track ≡ Some info
-            → AreApart (keys_seen info.keys)
-            → OnErr result
-            (AppendsPrefix (K.contents sink.old) (K.contents sink.new) (waiting self.old.carrier
-            ++ bytes_of_piece (S.file store.old) head planned.now (keys_seen info.keys)
-            (take planned.now.count samples)))) }
-        ensures copied { WhereOpened (S.is_honest store.old) (S.file store.old) movie.now
-            (λ tree. (samples : List SampleAt) → (noted : IsNoted (S.file store.old) tree movie.now
-            track planned.now.count samples self.old)
-            → OnOk result (HaveCopied (S.file store.old) tree movie.now noted.t track
-            planned.now.count samples self.old self.new)) }
-        ensures keeps { OnOk result ((self.new.leaving ≡ self.old.leaving)
-            × (self.new.rows ≡ self.old.rows)) }
-        ensures unchanged { WhereOpened (S.is_honest store.old) (S.file store.old) movie.now
-            (λ tree. (samples : List SampleAt) → IsNoted (S.file store.old) tree movie.now track
-            planned.now.count samples self.old
-            → planned.now.count ≤ length samples
-            → planned.now.bytes ≡ sum_of (λ (s : SampleAt). s.size) (take planned.now.count samples)
-            → AllByRecursion (IsBelow (length (S.file store.old))) samples
-            → IfErr result (λ r. r ≡ refusals.StoreChanged → ⊥)) }
-        ensures reads { OnOk result (S.read_failures store.new ≡ S.read_failures store.old) }
-        ensures puts { OnOk result (K.put_failures sink.new ≡ K.put_failures sink.old) }
-        ensures refusal { IfErr result
-            (RefusesCarry (S.read_failures store.old) (S.read_failures store.new)
-            (K.put_failures sink.old) (K.put_failures sink.new)) }
-        ensures work { WhereOpened (S.is_honest store.old) (S.file store.old) movie.now
-            (λ tree. (n : ℕ) → MayAllFinish self.old.leaving (S.file store.old) tree movie.now track
-            planned.now.count self.old.walks.items n
-            → OnOk result (AllWriteOn (S.file store.old) tree movie.now n self.new.walks.items
-            steps.old steps.new)) }
-        ensures most { WhereOpened (S.is_honest store.old) (S.file store.old) movie.now
-            (λ tree. (n : ℕ) → MayAllFinish self.old.leaving (S.file store.old) tree movie.now track
-            planned.now.count self.old.walks.items n
-            → OnErr result (steps.new ≤ steps.old + n)) }
+        ensures copied { WhereNoted S.Store store.old movie.now track planned.now.count self.old
+            (λ file tree t samples. OnOk result
+            (HaveCopied file tree movie.now t track planned.now.count samples self.old self.new)) }
+        ensures unchanged { WhereNoted S.Store store.old movie.now track planned.now.count self.old
+            (λ file tree t samples. AreThere file planned.now.count planned.now.bytes samples
+            → IsUnchanged result) }
+        ensures refusal { RefusedByBoth S.Store store.old store.new K.Sink sink.old sink.new result
+            RefusesCarry }
+        ensures work { StepsToCarry S.Store store.old movie.now track planned.now.count self.old
+            self.new result steps.old steps.new }
     {
         let keys = movie.tracks()[track].keys;
         let sizes = sizes_of(planned, &keys);
@@ -719,67 +619,27 @@ impl Writer {
         sink: &mut K,
         steps: &mut Steps<L>,
     ) -> Result<(), Refusal>
-        requires writer { IsWriterOf movie.now self.old }
-        requires track { track < length movie.now.tracks }
-        requires count { planned.now.count ≤ length self.old.rows.items }
-        requires bytes { planned.now.bytes + 16 < 2 ^ 64 }
-        requires rows { (j : ℕ) → slice_index planned.now.group_rows j ≤ planned.now.count }
+        requires may { MayCarry movie.now self.old track planned.now }
         requires none { head ≡ None → planned.now.count ≡ 0 }
-        requires sizes { planned.now.bytes ≤ planned.now.count * 4294967295 }
-        ensures writer { OnOk result (IsWriterOf movie.now self.new) }
-        ensures held { held self.new ≡ held self.old }
-        ensures honesty { S.is_honest store.new ≡ S.is_honest store.old }
-        ensures file { S.file store.new ≡ S.file store.old }
-        ensures put { WhereOpened (S.is_honest store.old) (S.file store.old) movie.now
-            (λ tree. (samples : List SampleAt) → IsNoted (S.file store.old) tree movie.now track
-            planned.now.count samples self.old
-            → (info : TrackInfo) → slice_get movie.now.tracks track ≡ Some info
-            → AreApart (keys_seen info.keys)
-            → OnOk result
-            (BytesGoOn (K.contents sink.old) (K.contents sink.new) (waiting self.old.carrier)
-            (waiting self.new.carrier)
-            (turn_bytes (S.file store.old) head planned.now (keys_seen info.keys)
-            (take planned.now.count samples)))) }
+        ensures writer { OnlyCarries movie.now self.old self.new result }
+        ensures devices { OnlyCopies S.Store store.old store.new K.Sink sink.old sink.new result }
+        ensures put { WhereNoted S.Store store.old movie.now track planned.now.count self.old
+            (λ file tree t samples. WithKeys movie.now track (λ keys.
+            Carries K.Sink sink.old sink.new self.old.carrier self.new.carrier result
+            (turn_bytes file head planned.now keys (take planned.now.count samples)))) }
         ensures many { OnOk result (PiecesFollow (K.contents sink.old) (K.contents sink.new)
             (waiting self.old.carrier) (waiting self.new.carrier) 0 planned.now.count
             planned.now.bytes) }
-        ensures prefix { WhereOpened (S.is_honest store.old) (S.file store.old) movie.now
-            (λ tree. (samples : List SampleAt) → IsNoted (S.file store.old) tree movie.now track
-            planned.now.count samples self.old
-            → (info : TrackInfo) → slice_get movie.now.tracks track ≡ Some info
-            → AreApart (keys_seen info.keys)
-            → OnErr result
-            (AppendsPrefix (K.contents sink.old) (K.contents sink.new) (waiting self.old.carrier
-            ++ turn_bytes (S.file store.old) head planned.now (keys_seen info.keys)
-            (take planned.now.count samples)))) }
-        ensures copied { WhereOpened (S.is_honest store.old) (S.file store.old) movie.now
-            (λ tree. (samples : List SampleAt) → (noted : IsNoted (S.file store.old) tree movie.now
-            track planned.now.count samples self.old)
-            → OnOk result (HaveCopied (S.file store.old) tree movie.now noted.t track
-            planned.now.count samples self.old self.new)) }
-        ensures keeps { OnOk result ((self.new.leaving ≡ self.old.leaving)
-            × (self.new.rows ≡ self.old.rows)) }
-        ensures unchanged { WhereOpened (S.is_honest store.old) (S.file store.old) movie.now
-            (λ tree. (samples : List SampleAt) → IsNoted (S.file store.old) tree movie.now track
-            planned.now.count samples self.old
-            → planned.now.count ≤ length samples
-            → planned.now.bytes ≡ sum_of (λ (s : SampleAt). s.size) (take planned.now.count samples)
-            → AllByRecursion (IsBelow (length (S.file store.old))) samples
-            → IfErr result (λ r. r ≡ refusals.StoreChanged → ⊥)) }
-        ensures reads { OnOk result (S.read_failures store.new ≡ S.read_failures store.old) }
-        ensures puts { OnOk result (K.put_failures sink.new ≡ K.put_failures sink.old) }
-        ensures refusal { IfErr result
-            (RefusesCarry (S.read_failures store.old) (S.read_failures store.new)
-            (K.put_failures sink.old) (K.put_failures sink.new)) }
-        ensures work { WhereOpened (S.is_honest store.old) (S.file store.old) movie.now
-            (λ tree. (n : ℕ) → MayAllFinish self.old.leaving (S.file store.old) tree movie.now track
-            planned.now.count self.old.walks.items n
-            → OnOk result (AllWriteOn (S.file store.old) tree movie.now n self.new.walks.items
-            steps.old steps.new)) }
-        ensures most { WhereOpened (S.is_honest store.old) (S.file store.old) movie.now
-            (λ tree. (n : ℕ) → MayAllFinish self.old.leaving (S.file store.old) tree movie.now track
-            planned.now.count self.old.walks.items n
-            → OnErr result (steps.new ≤ steps.old + n)) }
+        ensures copied { WhereNoted S.Store store.old movie.now track planned.now.count self.old
+            (λ file tree t samples. OnOk result
+            (HaveCopied file tree movie.now t track planned.now.count samples self.old self.new)) }
+        ensures unchanged { WhereNoted S.Store store.old movie.now track planned.now.count self.old
+            (λ file tree t samples. AreThere file planned.now.count planned.now.bytes samples
+            → IsUnchanged result) }
+        ensures refusal { RefusedByBoth S.Store store.old store.new K.Sink sink.old sink.new result
+            RefusesCarry }
+        ensures work { StepsToCarry S.Store store.old movie.now track planned.now.count self.old
+            self.new result steps.old steps.new }
     {
         if let Some(head) = head {
             self.carry(track, head, planned, movie, store, sink, steps)?;
