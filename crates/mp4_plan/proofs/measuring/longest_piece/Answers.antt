@@ -12,7 +12,7 @@ use Rattle.mp4_plan.proofs.PlannedTurns.{has_turn, turn_leads, longest_first, lo
 use Rattle.mp4_plan.specs.words.Turns.{movie_turns}
 use Rattle.mp4_plan.proofs.LooksOn.{begins_within, looks_on, looks_within}
 use Rattle.mp4_plan.proofs.StepsOn.{all_taken, all_within, all_then, all_then_stop}
-use Rattle.mp4_plan.proofs.writer.longest_piece.Goals as goal
+use Rattle.mp4_plan.proofs.measuring.longest_piece.Goals as goal
 
 pub loop-turn-init : goal.loop-turn-init
 loop-turn-init g c =

@@ -4,7 +4,7 @@ use Rattle.mp4_plan.specs.words.WriterSteps.{MayAllTake, AllTakeOn, MayAllWrite,
 use Rattle.mp4_plan.specs.words.OverDevices.{OverOpened}
 use Rattle.mp4_plan.specs.words.Writers.{AreMarked, AreWalksOf, AllCome, firsts}
 use Rattle.mp4_plan.specs.format.Held.{rooms}
-use Rattle.mp4_plan.proofs.writer.peek_each.Given as goal
+use Rattle.mp4_plan.proofs.measuring.peek_each.Given as goal
 
 -- the walks stand where they stood, and the next samples of the first of them are noted
 abbrev pub invariant-loop-k : goal.invariant-loop-k
