@@ -1,14 +1,15 @@
 -- The bytes of samples, carried along to a sink. `S` and `K` are what bounds say of the types of a
 -- store and of a sink.
-use Rattle.std.specs.Prelude.{◌≡◌, ℕ, ◌+◌, ◌≤◌, List, ◌++◌, length, take, slice_get, vec_len, Option, IsTrue, Result, MatchResult, OnOk}
+use Rattle.std.specs.Prelude.{◌≡◌, ℕ, ◌+◌, ◌≤◌, List, ◌++◌, length, take, slice_get, vec_len, Option, IsTrue, Result, MatchResult, IfErr, OnOk}
 use Rattle.std.specs.List.{AllByRecursion}
+use Rattle.mp4_boxes.specs.declared.refusal.Refusal.{Refusal}
 use Rattle.mp4_store.specs.words.Device.{AppendsPrefix}
 use Rattle.mp4_store.specs.declared.store.Store.{Ghosts as Store}
 use Rattle.mp4_store.specs.declared.sink.Sink.{Ghosts as Sink}
 use Rattle.mp4_tables.specs.declared.sample.SampleAt.{SampleAt}
 use Rattle.mp4_head.specs.format.Tree.{TrackTree}
 use Rattle.mp4_present.specs.format.Denotes.{FileTree}
-use Rattle.mp4_present.specs.words.Carried.{BytesGoOn, GoOnBy, waiting}
+use Rattle.mp4_present.specs.words.Carried.{BytesGoOn, GoOnBy, RefusesPut, waiting}
 use Rattle.mp4_present.specs.words.GoingBack.{IsMarkInHand, back_steps}
 use Rattle.mp4_present.specs.words.Joined.{IsBelow, sample_bytes}
 use Rattle.mp4_present.specs.words.Movies.{MovieSeen, IsWalkOf, mark_of}
@@ -50,6 +51,14 @@ pub record TakesAlong {Y T E : Type 0} (K : Sink Y) (sink sink_after : Y) (c c_a
   pub many : OnOk result
       (GoOnBy (K.contents sink) (K.contents sink_after) (waiting c) (waiting c_after) n)
   pub buffer : vec_len c_after.buffer ≡ vec_len c.buffer
+
+-- nothing but puts can fail: the buffer keeps its length, at Ok no put failed, and it is refused
+-- only where one did
+pub record OnlyPuts {Y T : Type 0} (K : Sink Y) (sink sink_after : Y) (c c_after : Carrier)
+    (result : Result T Refusal) : Type 0 where
+  pub buffer : vec_len c_after.buffer ≡ vec_len c.buffer
+  pub puts : OnOk result (K.put_failures sink_after ≡ K.put_failures sink)
+  pub refusal : IfErr result (RefusesPut (K.put_failures sink) (K.put_failures sink_after))
 
 -- these samples lie in the file, and so many of them have so many bytes
 pub record AreThere (file : List ℕ) (count bytes : ℕ) (samples : List SampleAt) : Type 0 where

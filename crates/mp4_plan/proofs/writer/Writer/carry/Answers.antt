@@ -57,7 +57,7 @@ returns-in_err-carry_run-clause-put g c told_honest tree o samples noted_are inf
     rw e.1 (front_as (g.K.Sink.contents c.args.sink.now) (g.K.Sink.contents c.carry_run.new.sink) (waiting c.args.self.now.carrier) _ _
     (stop_two front (run_rows p noted) (groups_bytes noted p told) mdat bytes_there (g.K.Sink.contents c.args.sink.now) (g.K.Sink.contents c.carry.new.sink) (g.K.Sink.contents c.carry_run.new.sink) (g.K.Sink.contents c.carry_run.new.sink) (g.K.Sink.contents c.carry_run.new.sink)
     (g.K.Sink.contents c.carry_run.new.sink) (waiting c.args.self.now.carrier) (waiting c.carry.new.self) (waiting c.carry_run.new.carrier) (waiting c.carry_run.new.carrier) (waiting c.carry_run.new.carrier) (waiting c.carry_run.new.carrier)
-    c.in_ok-carry.ensures.bytes c.in_err-carry_run.ensures.prefix) whole)
+    c.in_ok-carry.ensures.bytes c.in_err-carry_run.ensures.put) whole)
 
 pub returns-in_err-carry_groups-clause-put : goal.returns-in_err-carry_groups-clause-put
 returns-in_err-carry_groups-clause-put g c told_honest tree o samples noted_are info is apart =
@@ -76,7 +76,7 @@ returns-in_err-carry_groups-clause-put g c told_honest tree o samples noted_are 
     rw e.1 (front_as (g.K.Sink.contents c.args.sink.now) (g.K.Sink.contents c.carry_groups.new.sink) (waiting c.args.self.now.carrier) _ _
     (stop_three front (run_rows p noted) (groups_bytes noted p told) mdat bytes_there (g.K.Sink.contents c.args.sink.now) (g.K.Sink.contents c.carry.new.sink) (g.K.Sink.contents c.carry_run.new.sink) (g.K.Sink.contents c.carry_groups.new.sink) (g.K.Sink.contents c.carry_groups.new.sink)
     (g.K.Sink.contents c.carry_groups.new.sink) (waiting c.args.self.now.carrier) (waiting c.carry.new.self) (waiting c.carry_run.new.carrier) (waiting c.carry_groups.new.carrier) (waiting c.carry_groups.new.carrier) (waiting c.carry_groups.new.carrier)
-    c.in_ok-carry.ensures.bytes c.in_ok-carry_run.ensures.bytes (c.in_err-carry_groups.ensures.prefix (subst AreApart (sym keys) apart))) whole)
+    c.in_ok-carry.ensures.bytes c.in_ok-carry_run.ensures.put (c.in_err-carry_groups.ensures.put (subst AreApart (sym keys) apart))) whole)
 
 pub returns-in_err-carry-2-clause-put : goal.returns-in_err-carry-2-clause-put
 returns-in_err-carry-2-clause-put g c told_honest tree o samples noted_are info is apart =
@@ -94,8 +94,8 @@ returns-in_err-carry-2-clause-put g c told_honest tree o samples noted_are info 
     ∙ noted_are.rows) (c.bytes.ensures ∙ c.header-mdat.ensures) in
     rw e.1 (front_as (g.K.Sink.contents c.args.sink.now) (g.K.Sink.contents c.carry-2.new.sink) (waiting c.args.self.now.carrier) _ _
     (stop_four front (run_rows p noted) (groups_bytes noted p told) mdat bytes_there (g.K.Sink.contents c.args.sink.now) (g.K.Sink.contents c.carry.new.sink) (g.K.Sink.contents c.carry_run.new.sink) (g.K.Sink.contents c.carry_groups.new.sink) (g.K.Sink.contents c.carry-2.new.sink)
-    (g.K.Sink.contents c.carry-2.new.sink) (waiting c.args.self.now.carrier) (waiting c.carry.new.self) (waiting c.carry_run.new.carrier) (waiting c.carry_groups.new.carrier) (waiting c.carry-2.new.self) (waiting c.carry-2.new.self) c.in_ok-carry.ensures.bytes c.in_ok-carry_run.ensures.bytes
-    (c.in_ok-carry_groups.ensures.bytes (subst AreApart (sym keys) apart)) c.in_err-carry-2.ensures.prefix) whole)
+    (g.K.Sink.contents c.carry-2.new.sink) (waiting c.args.self.now.carrier) (waiting c.carry.new.self) (waiting c.carry_run.new.carrier) (waiting c.carry_groups.new.carrier) (waiting c.carry-2.new.self) (waiting c.carry-2.new.self) c.in_ok-carry.ensures.bytes c.in_ok-carry_run.ensures.put
+    (c.in_ok-carry_groups.ensures.put (subst AreApart (sym keys) apart)) c.in_err-carry-2.ensures.prefix) whole)
 
 pub returns-clause-put : goal.returns-clause-put
 returns-clause-put g c told_honest tree o samples noted_are info is apart =
@@ -115,11 +115,11 @@ returns-clause-put g c told_honest tree o samples noted_are info is apart =
     (λ x. goes_on_as (g.K.Sink.contents c.args.sink.now) (g.K.Sink.contents c.carry_data.new.sink) (waiting c.args.self.now.carrier) (waiting c.carry_data.new.self.carrier) _ _
     (go_five front (run_rows p noted) (groups_bytes noted p told) mdat bytes_there (g.K.Sink.contents c.args.sink.now) (g.K.Sink.contents c.carry.new.sink) (g.K.Sink.contents c.carry_run.new.sink) (g.K.Sink.contents c.carry_groups.new.sink) (g.K.Sink.contents c.carry-2.new.sink)
     (g.K.Sink.contents c.carry_data.new.sink) (waiting c.args.self.now.carrier) (waiting c.carry.new.self) (waiting c.carry_run.new.carrier) (waiting c.carry_groups.new.carrier) (waiting c.carry-2.new.self) (waiting c.carry_data.new.self.carrier)
-    c.in_ok-carry.ensures.bytes c.in_ok-carry_run.ensures.bytes (c.in_ok-carry_groups.ensures.bytes (subst AreApart (sym keys) apart)) c.in_ok-carry-2.ensures.bytes x) whole)
+    c.in_ok-carry.ensures.bytes c.in_ok-carry_run.ensures.put (c.in_ok-carry_groups.ensures.put (subst AreApart (sym keys) apart)) c.in_ok-carry-2.ensures.bytes x) whole)
     (λ x. (front_as (g.K.Sink.contents c.args.sink.now) (g.K.Sink.contents c.carry_data.new.sink) (waiting c.args.self.now.carrier) _ _
     (stop_five front (run_rows p noted) (groups_bytes noted p told) mdat bytes_there (g.K.Sink.contents c.args.sink.now) (g.K.Sink.contents c.carry.new.sink) (g.K.Sink.contents c.carry_run.new.sink) (g.K.Sink.contents c.carry_groups.new.sink) (g.K.Sink.contents c.carry-2.new.sink)
     (g.K.Sink.contents c.carry_data.new.sink) (waiting c.args.self.now.carrier) (waiting c.carry.new.self) (waiting c.carry_run.new.carrier) (waiting c.carry_groups.new.carrier) (waiting c.carry-2.new.self) (waiting c.carry_data.new.self.carrier)
-    c.in_ok-carry.ensures.bytes c.in_ok-carry_run.ensures.bytes (c.in_ok-carry_groups.ensures.bytes (subst AreApart (sym keys) apart)) c.in_ok-carry-2.ensures.bytes x) whole))
+    c.in_ok-carry.ensures.bytes c.in_ok-carry_run.ensures.put (c.in_ok-carry_groups.ensures.put (subst AreApart (sym keys) apart)) c.in_ok-carry-2.ensures.bytes x) whole))
     (c.carry_data.ensures.put told_honest tree o samples here)
 
 pub returns-clause-many : goal.returns-clause-many
@@ -136,7 +136,7 @@ returns-clause-many g c =
     on_ok _ _ c.carry_data.result
     (λ x. piece_follows q c.as_bytes.result.now c.bytes.result.now (g.K.Sink.contents c.args.sink.now) (g.K.Sink.contents c.carry.new.sink) (g.K.Sink.contents c.carry_run.new.sink) (g.K.Sink.contents c.carry_groups.new.sink) (g.K.Sink.contents c.carry-2.new.sink)
     (g.K.Sink.contents c.carry_data.new.sink) (waiting c.args.self.now.carrier) (waiting c.carry.new.self) (waiting c.carry_run.new.carrier) (waiting c.carry_groups.new.carrier) (waiting c.carry-2.new.self) (waiting c.carry_data.new.self.carrier) front
-    (c.bytes.ensures ∙ c.header-mdat.ensures) c.in_ok-carry.ensures.bytes c.in_ok-carry_run.ensures.bytes groups.2 c.in_ok-carry-2.ensures.bytes x) c.carry_data.ensures.many
+    (c.bytes.ensures ∙ c.header-mdat.ensures) c.in_ok-carry.ensures.bytes c.in_ok-carry_run.ensures.put groups.2 c.in_ok-carry-2.ensures.bytes x) c.carry_data.ensures.many
 
 pub returns-clause-copied : goal.returns-clause-copied
 unfolding noted_with
@@ -159,12 +159,12 @@ returns-in_err-carry-clause-unchanged g c told_honest tree o samples noted_are t
 pub returns-in_err-carry_run-clause-unchanged : goal.returns-in_err-carry_run-clause-unchanged
 returns-in_err-carry_run-clause-unchanged g c told_honest tree o samples noted_are there =
     let e = err_from_is_err_and c.from_residual-in_err-carry_run.result c.from_residual-in_err-carry_run.ensures.1 in
-    rw (e.1, e.2) (put_unchanged _ _ _ c.in_err-carry_run.ensures.refusal)
+    rw (e.1, e.2) (put_unchanged _ _ _ c.in_err-carry_run.ensures.sink.refusal)
 
 pub returns-in_err-carry_groups-clause-unchanged : goal.returns-in_err-carry_groups-clause-unchanged
 returns-in_err-carry_groups-clause-unchanged g c told_honest tree o samples noted_are there =
     let e = err_from_is_err_and c.from_residual-in_err-carry_groups.result c.from_residual-in_err-carry_groups.ensures.1 in
-    rw (e.1, e.2) (put_unchanged _ _ _ c.in_err-carry_groups.ensures.refusal)
+    rw (e.1, e.2) (put_unchanged _ _ _ c.in_err-carry_groups.ensures.sink.refusal)
 
 pub returns-in_err-carry-2-clause-unchanged : goal.returns-in_err-carry-2-clause-unchanged
 returns-in_err-carry-2-clause-unchanged g c told_honest tree o samples noted_are there =
