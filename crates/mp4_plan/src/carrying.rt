@@ -73,7 +73,8 @@ fn carry_hand<S: Store, K: Sink>(
     Ok(left)
 }
 
-// Takes the bytes of the next samples of a walk along, so many samples with so many bytes.
+// Takes the bytes of the next samples of a walk along, so many samples with so many bytes. Where
+// these are not as many, the store has changed.
 fn carry_piece<S: Store, K: Sink, L: Ledger>(
     walk: &mut Walk,
     load: Load,

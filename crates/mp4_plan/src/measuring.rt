@@ -1,13 +1,12 @@
 //! What is found of a movie before any byte is put: the longest piece, the head, and the length of
 //! the normal form.
-ghost use Rattle.std.specs.Prelude.{◌≡◌, ℕ, ◌+◌, ◌*◌, ◌-◌, ◌^◌, ◌<◌, ◌≤◌, max, min, List, length, map, Some, None, IfOk, IfErr, MatchResult, OnOk};
+ghost use Rattle.std.specs.Prelude.{◌≡◌, ℕ, ◌+◌, ◌*◌, ◌-◌, ◌^◌, ◌<◌, ◌≤◌, max, min, List, length, Some, None, IfOk, IfErr, OnOk};
 ghost use Rattle.mp4_boxes.specs.declared.refusal.Refusal.TheVariants as refusals;
 ghost use Rattle.mp4_tables.specs.words.Keys.{keys_seen};
 ghost use Rattle.mp4_tables.specs.declared.sample.SampleAt.{SampleAt};
 ghost use Rattle.mp4_present.specs.format.Presentation.{movie_length};
 ghost use Rattle.mp4_present.specs.format.Reduced.{ReducesInTime, reduce};
 ghost use Rattle.mp4_present.specs.declared.leaving.Leaving.{Leaving};
-ghost use Rattle.mp4_plan.specs.words.ComingLess.{left_samples};
 ghost use Rattle.mp4_plan.specs.words.LeftTimes.{NamesLong, RefusesLeft};
 ghost use Rattle.mp4_present.specs.format.Denotes.{FileTree, presentation_of};
 ghost use Rattle.mp4_present.specs.words.OpenedMovie.{IsOpenedAs};
@@ -15,14 +14,12 @@ ghost use Rattle.mp4_present.specs.words.OverStores.{IsUnchanged, OnlyReads, Ref
 ghost use Rattle.mp4_present.specs.words.WalkSteps.{walks_steps};
 ghost use Rattle.mp4_plan.specs.format.Normal.{normal};
 ghost use Rattle.mp4_plan.specs.format.Pieces.{pieces};
-ghost use Rattle.mp4_plan.specs.words.WriterSteps.{MayAllTake, AllTakeOn, MayAllBegin, MayAllWrite, AllWriteOn, WriteAllBegin};
+ghost use Rattle.mp4_plan.specs.words.OverWriters.{AllStart, HaveRooms, StepsOfAll, StepsToWrite, WhereAllCome};
 ghost use Rattle.mp4_plan.specs.words.OverDevices.{AreWalksStill, OverOpened};
 ghost use Rattle.mp4_plan.specs.words.Turns.{movie_turns};
 ghost use Rattle.mp4_present.specs.declared.walks.Walk.{Walk};
 ghost use Rattle.mp4_present.specs.words.Movies.{RefusesLoad};
-ghost use Rattle.mp4_plan.specs.words.Writers.{RefusesMemory, RefusesPlan, AreMarked, IsHeadOf, AreWalksOf, AllCome, AllBegin, first_dts, head_of_normal, firsts, ArePiecesLong, longest_piece, planned_length};
-ghost use Rattle.mp4_plan.specs.format.Held.{rooms};
-ghost use Rattle.mp4_plan.specs.words.OwnRooms.{own_rooms};
+ghost use Rattle.mp4_plan.specs.words.Writers.{RefusesMemory, RefusesPlan, AreMarked, IsHeadOf, AreWalksOf, AllCome, first_dts, head_of_normal, firsts, ArePiecesLong, longest_piece, planned_length};
 
 use crate::counting::count_turn;
 use crate::courses::{next_marked, plan_turn};
@@ -44,23 +41,10 @@ const MOST_HEAD: u128 = (1 << 30) + 24;
 
 /// A walk over each track.
 pub(crate) fn walks_of(alloc: Global, movie: &Movie) -> Result<Vec<Walk>, Refusal>
-    ensures walks { IfOk result (λ walks. AreWalksOf movie.now walks.items) }
-    ensures rooms { IfOk result (λ walks.
-        rooms walks.items ≡ own_rooms movie.now (length movie.now.tracks)) }
-    ensures within { IfOk result (λ walks.
-        rooms walks.items ≤ length movie.now.tracks * movie.now.longest) }
-    ensures begin { IfOk result (λ walks. (file : List ℕ) (tree : FileTree)
-        → IsOpenedAs file movie.now tree
-        → (leaving : Leaving) → AllBegin leaving file tree movie.now walks.items) }
-    ensures marked { IfOk result (λ walks. (file : List ℕ) (tree : FileTree)
-        → IsOpenedAs file movie.now tree → (leaving : Leaving)
-        → AreMarked walks.items (map (left_samples leaving tree) tree.movie.tracks)) }
+    ensures walks { IfOk result (λ walks. HaveRooms movie.now walks.items) }
+    ensures start { IfOk result (λ walks. AllStart movie.now walks.items) }
     ensures memory { IfErr result (λ r. r ≡ refusals.Memory) }
     ensures refusal { IfErr result RefusesMemory }
-    ensures may { IfOk result (λ walks. (file : List ℕ) (tree : FileTree)
-        → IsOpenedAs file movie.now tree → MayAllBegin file tree walks.items) }
-    ensures writes { IfOk result (λ walks. (file : List ℕ) (tree : FileTree)
-        → IsOpenedAs file movie.now tree → WriteAllBegin file tree movie.now walks.items) }
 {
     let mut walks = Vec::new(alloc);
     for track in 0..movie.tracks().len() {
@@ -82,26 +66,18 @@ pub(crate) fn peek_each<S: Store, L: Ledger>(
     requires nexts { length nexts.old ≡ length walks.old }
     ensures walks { AreWalksStill movie.now walks.old walks.new result }
     ensures store { OnlyReads S.Store store.old store.new result }
-    ensures shown { OverOpened S.Store store.old movie.now
-        (λ file tree. (lefts : List (List SampleAt))
-        → AllCome leaving file tree movie.now tree.movie.tracks walks.old lefts
-        → OnOk result ((nexts.new ≡ firsts lefts)
+    ensures shown { WhereAllCome S.Store store.old movie.now leaving walks.old
+        (λ file tree lefts. OnOk result ((nexts.new ≡ firsts lefts)
         × AllCome leaving file tree movie.now tree.movie.tracks walks.new lefts)) }
     ensures marked { (lefts : List (List SampleAt)) → AreMarked walks.old lefts
         → OnOk result (AreMarked walks.new lefts) }
-    ensures unchanged { OverOpened S.Store store.old movie.now
-        (λ file tree. (lefts : List (List SampleAt))
-        → AllCome leaving file tree movie.now tree.movie.tracks walks.old lefts
-        → IsUnchanged result) }
+    ensures unchanged { WhereAllCome S.Store store.old movie.now leaving walks.old
+        (λ file tree lefts. IsUnchanged result) }
     ensures refusal { Refused S.Store store.old store.new result RefusesLoad }
-    ensures work { OverOpened S.Store store.old movie.now
-        (λ file tree. (n : ℕ) → MayAllTake file tree tree.movie.tracks walks.old n
-        → MatchResult result (λ _. AllTakeOn file tree n walks.new steps.old steps.new)
-        (λ _. steps.new ≤ steps.old + n)) }
-    ensures writes { OverOpened S.Store store.old movie.now
-        (λ file tree. (n : ℕ) → MayAllWrite file tree movie.now walks.old n
-        → MatchResult result (λ _. AllWriteOn file tree movie.now n walks.new steps.old steps.new)
-        (λ _. steps.new ≤ steps.old + n)) }
+    ensures work { StepsOfAll S.Store store.old movie.now walks.old walks.new result steps.old
+        steps.new }
+    ensures writes { StepsToWrite S.Store store.old movie.now walks.old walks.new result steps.old
+        steps.new }
 {
     for k in 0..walks.len() {
         nexts[k] = next_marked(&mut walks[k], leaving, movie, store, steps)?;

@@ -288,7 +288,8 @@ impl Writer {
         Ok(())
     }
 
-    // Takes a piece along whose samples were noted.
+    // Takes a piece along whose samples were noted: its front and rows, and the bytes of its
+    // samples.
     fn carry<S: Store, K: Sink, L: Ledger>(
         &mut self,
         track: usize,

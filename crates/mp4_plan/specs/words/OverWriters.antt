@@ -1,6 +1,6 @@
--- A writer, and what it notes and takes along of a track, said of the store that it reads. `S` is
--- what a bound says of the store's type.
-use Rattle.std.specs.Prelude.{◌≡◌, ℕ, ◌+◌, ◌^◌, ◌<◌, ◌≤◌, List, length, slice_get, Some, None, Result, MatchResult, OnOk}
+-- The walks of a writer, and what it notes and takes along of a track, said of the store that it
+-- reads. `S` is what a bound says of the store's type.
+use Rattle.std.specs.Prelude.{◌≡◌, ℕ, ◌+◌, ◌*◌, ◌^◌, ◌<◌, ◌≤◌, List, length, map, slice_get, Some, None, Result, MatchResult, OnOk}
 use Rattle.mp4_store.specs.declared.store.Store.{Ghosts as Store}
 use Rattle.mp4_tables.specs.format.Groups.{GroupKey}
 use Rattle.mp4_tables.specs.words.Keys.{keys_seen}
@@ -8,19 +8,67 @@ use Rattle.mp4_tables.specs.declared.sample.SampleAt.{SampleAt}
 use Rattle.mp4_head.specs.format.Tree.{TrackTree}
 use Rattle.mp4_present.specs.format.Denotes.{FileTree}
 use Rattle.mp4_present.specs.words.Movies.{MovieSeen, mark_of}
+use Rattle.mp4_present.specs.words.OpenedMovie.{IsOpenedAs}
+use Rattle.mp4_present.specs.declared.leaving.Leaving.{Leaving}
 use Rattle.mp4_present.specs.declared.track_info.TrackInfo.{TrackInfo}
 use Rattle.mp4_present.specs.declared.walks.Walk.{Walk}
 use Rattle.mp4_plan.specs.format.Held as memory
-use Rattle.mp4_plan.specs.words.ComingLess.{ComesLess}
+use Rattle.mp4_plan.specs.words.ComingLess.{ComesLess, left_samples}
 use Rattle.mp4_plan.specs.words.OverDevices.{OverOpened}
 use Rattle.mp4_plan.specs.words.OverLess.{HasBounds}
+use Rattle.mp4_plan.specs.words.OwnRooms.{own_rooms}
 use Rattle.mp4_plan.specs.words.UsedKeys.{AreApart}
-use Rattle.mp4_plan.specs.words.WriterSteps.{AllFinishOn, AllWriteOn, MayAllFinish, MayAllWrite}
-use Rattle.mp4_plan.specs.words.Writers.{IsNoted, IsWriterOf}
+use Rattle.mp4_plan.specs.words.WriterSteps.{AllFinishOn, AllTakeOn, AllWriteOn, MayAllBegin, MayAllFinish, MayAllTake, MayAllWrite, WriteAllBegin}
+use Rattle.mp4_plan.specs.words.Writers.{AllBegin, AllCome, AreMarked, AreWalksOf, IsNoted, IsWriterOf}
 use Rattle.mp4_plan.specs.declared.planner.Planned.{Planned}
 use Rattle.mp4_plan.specs.declared.schedule.Turn.{Turn}
 use Rattle.mp4_plan.specs.declared.writer.Noted.{Noted}
 use Rattle.mp4_plan.specs.declared.writer.Writer.{Writer}
+
+-- ---- the walks over all tracks
+
+-- a walk for each track: together they have the rooms that the tracks need, at most the longest for
+-- each
+pub record HaveRooms (m : MovieSeen) (all : List Walk) : Type 0 where
+  pub walks : AreWalksOf m all
+  pub rooms : memory.rooms all ≡ own_rooms m (length m.tracks)
+  pub within : memory.rooms all ≤ length m.tracks * m.longest
+
+-- These walks begin, in each file from which the movie was opened: all samples are to come, and
+-- each walk has marked where it stands. They take no more steps together than walks over all
+-- samples, and no more to write than writing takes.
+pub record AllStart (m : MovieSeen) (walks : List Walk) : Type 0 where
+  pub begin : (file : List ℕ) (tree : FileTree) → IsOpenedAs file m tree → (l : Leaving)
+      → AllBegin l file tree m walks
+  pub marked : (file : List ℕ) (tree : FileTree) → IsOpenedAs file m tree → (l : Leaving)
+      → AreMarked walks (map (left_samples l tree) tree.movie.tracks)
+  pub may : (file : List ℕ) (tree : FileTree) → IsOpenedAs file m tree
+      → MayAllBegin file tree walks
+  pub writes : (file : List ℕ) (tree : FileTree) → IsOpenedAs file m tree
+      → WriteAllBegin file tree m walks
+
+-- over an honest store that has the file from which the movie was opened: it is so of what is left
+-- of the samples that each of these walks has to come
+abbrev pub WhereAllCome : {X : Type 0} → Store X → X → MovieSeen → Leaving → List Walk
+    → (List ℕ → FileTree → List (List SampleAt) → Type 0) → Type 0
+WhereAllCome S store m l walks P = OverOpened S store m (λ file tree.
+    (lefts : List (List SampleAt)) → AllCome l file tree m tree.movie.tracks walks lefts
+    → P file tree lefts)
+
+-- of the steps that these walks may take together, they take some: at Ok the others are left to
+-- them, and at Err they took no more than all
+abbrev pub StepsOfAll : {X T E : Type 0} → Store X → X → MovieSeen → List Walk → List Walk
+    → Result T E → ℕ → ℕ → Type 0
+StepsOfAll S store m walks walks_after result old new = OverOpened S store m (λ file tree.
+    (n : ℕ) → MayAllTake file tree tree.movie.tracks walks n → MatchResult result
+    (λ _. AllTakeOn file tree n walks_after old new) (λ _. new ≤ old + n))
+
+-- the same of the steps that they may take to write
+abbrev pub StepsToWrite : {X T E : Type 0} → Store X → X → MovieSeen → List Walk → List Walk
+    → Result T E → ℕ → ℕ → Type 0
+StepsToWrite S store m walks walks_after result old new = OverOpened S store m (λ file tree.
+    (n : ℕ) → MayAllWrite file tree m walks n → MatchResult result
+    (λ _. AllWriteOn file tree m n walks_after old new) (λ _. new ≤ old + n))
 
 -- ---- a turn
 

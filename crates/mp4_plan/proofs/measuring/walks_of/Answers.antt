@@ -22,14 +22,10 @@ loop-track-preserved c =
       one_to_write m c.loop-track.track c.loop-track.walks.items walk i.6 i.1 lt (first_marked m walk c.loop-track.track (λ file tree t o. e.coming file tree t o) lt e.mark) (λ file tree t o. e.may file tree t o),
     )
 
-pub returns-clause-begin : goal.returns-clause-begin
-returns-clause-begin c = all_begin c.args.movie.now c.loop-track.track c.loop-track.walks.items c.loop-track.invariant.3 (search rules)
-
-pub returns-clause-may : goal.returns-clause-may
-returns-clause-may c = all_to_take c.args.movie.now c.loop-track.track c.loop-track.walks.items c.loop-track.invariant.4 (search rules)
-
-pub returns-clause-marked : goal.returns-clause-marked
-returns-clause-marked c = all_marked c.args.movie.now c.loop-track.track c.loop-track.walks.items c.loop-track.invariant.5 (search rules)
-
-pub returns-clause-writes : goal.returns-clause-writes
-returns-clause-writes c = all_to_write c.args.movie.now c.loop-track.track c.loop-track.walks.items c.loop-track.invariant.6 (search rules)
+pub returns-clause-start : goal.returns-clause-start
+returns-clause-start c = record {
+  begin = all_begin c.args.movie.now c.loop-track.track c.loop-track.walks.items c.loop-track.invariant.3 (search rules);
+  marked = all_marked c.args.movie.now c.loop-track.track c.loop-track.walks.items c.loop-track.invariant.5 (search rules);
+  may = all_to_take c.args.movie.now c.loop-track.track c.loop-track.walks.items c.loop-track.invariant.4 (search rules);
+  writes = all_to_write c.args.movie.now c.loop-track.track c.loop-track.walks.items c.loop-track.invariant.6 (search rules);
+}
