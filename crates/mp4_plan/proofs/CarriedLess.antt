@@ -15,6 +15,7 @@ use Rattle.mp4_present.specs.declared.walks.Walk.{Walk}
 use Rattle.mp4_plan.specs.words.ComingLess.{less, ComesLess}
 use Rattle.mp4_plan.specs.words.GoneOn.{ComesMarked}
 use Rattle.mp4_plan.specs.words.HandsFed.{sizes_of}
+use Rattle.mp4_plan.specs.words.OverCarrying.{AreThere}
 use Rattle.mp4_plan.proofs.FrontsPut.{front_as}
 use Rattle.mp4_plan.proofs.Pushes.{goes_on_as}
 use Rattle.mp4_plan.proofs.ReducedTaken.{bytes_stay, less_length, less_sizes, above_less, less_drop, less_take}
@@ -30,23 +31,30 @@ module _ (l : Leaving) (file : List ℕ) (tree : FileTree) (t : TrackTree) (m : 
   bytes_same = sym (ap (sample_bytes file) front_left ∙ bytes_stay l file (take count h.samples))
 
   -- what was carried of the samples is so of what is left of them
-  pub carried_less : (now : Walk) (a b : Option (List ℕ)) (c d : List ℕ) → BytesGoOn a b c d (sample_bytes file (take count h.samples)) → Comes file tree t m now (drop count h.samples)
-      → BytesGoOn a b c d (sample_bytes file (take count left)) × ComesLess l file tree t m now (drop count left)
-  carried_less now a b c d bytes comes = (goes_on_as a b c d _ _ bytes bytes_same, record { samples = drop count h.samples; comes = comes; is_left = rest_left })
+  pub carried_less : (a b : Option (List ℕ)) (c d : List ℕ) → BytesGoOn a b c d (sample_bytes file (take count h.samples)) → BytesGoOn a b c d (sample_bytes file (take count left))
+  carried_less a b c d bytes = goes_on_as a b c d _ _ bytes bytes_same
+
+  pub prefix_less : (a b : Option (List ℕ)) (c : List ℕ) → AppendsPrefix a b (c ++ sample_bytes file (take count h.samples)) → AppendsPrefix a b (c ++ sample_bytes file (take count left))
+  prefix_less a b c p = front_as a b c _ _ p bytes_same
+
+  -- those behind them come
+  pub comes_less : (now : Walk) → Comes file tree t m now (drop count h.samples) → ComesLess l file tree t m now (drop count left)
+  comes_less now comes = record { samples = drop count h.samples; comes = comes; is_left = rest_left }
 
   -- the walk goes on from the one or the other of two places before the same
-  pub carried_either : (v : Bool) (now : Walk) (a b : Option (List ℕ)) (c d : List ℕ) → BytesGoOn a b c d (sample_bytes file (take count h.samples)) → Comes file tree t m now (if v then h.comes.samples else drop count h.samples)
-      → BytesGoOn a b c d (sample_bytes file (take count left)) × ComesLess l file tree t m now (drop count left)
-  carried_either v now a b c d bytes comes = (goes_on_as a b c d _ _ bytes bytes_same, record { samples = if v then h.comes.samples else drop count h.samples; comes = comes; is_left = by v })
+  pub comes_either : (v : Bool) (now : Walk) → Comes file tree t m now (if v then h.comes.samples else drop count h.samples) → ComesLess l file tree t m now (drop count left)
+  comes_either v now comes = record { samples = if v then h.comes.samples else drop count h.samples; comes = comes; is_left = by v }
     where
       by : (v : Bool) → drop count left ≡ less l (if v then h.comes.samples else drop count h.samples)
       by true = h.comes.is_left
       by false = rest_left
 
-  pub prefix_less : (a b : Option (List ℕ)) (c : List ℕ) → AppendsPrefix a b (c ++ sample_bytes file (take count h.samples)) → AppendsPrefix a b (c ++ sample_bytes file (take count left))
-  prefix_less a b c p = front_as a b c _ _ p bytes_same
-
-  pub lacks_less : (bytes : ℕ) (X : Type 0) → (count ≤ length h.samples → bytes ≡ sizes_of (take count h.samples) → AllByRecursion (IsBelow (length file)) h.samples → X) → count ≤ length left → bytes ≡ sizes_of (take count left) → AllByRecursion (IsBelow (length file)) left → X
-  lacks_less bytes X f few sizes lie =
+  -- they lie in the file where what is left of them does
+  pub there_less : (bytes : ℕ) → AreThere file count bytes left → AreThere file count bytes h.samples
+  there_less bytes there =
       let many = ap (λ (ss : List SampleAt). length ss) h.is_left ∙ less_length l h.samples in
-      f (subst (λ n. count ≤ n) many few) (sizes ∙ ap sizes_of front_left ∙ less_sizes l (take count h.samples)) (above_less l (length file) h.samples (subst (λ (ss : List SampleAt). AllByRecursion (IsBelow (length file)) ss) h.is_left lie))
+      record {
+        many = subst (λ n. count ≤ n) many there.many;
+        sizes = there.sizes ∙ ap sizes_of front_left ∙ less_sizes l (take count h.samples);
+        below = above_less l (length file) h.samples (subst (λ (ss : List SampleAt). AllByRecursion (IsBelow (length file)) ss) h.is_left there.below);
+      }

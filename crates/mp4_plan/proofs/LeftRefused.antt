@@ -1,6 +1,6 @@
 -- Why what is left of a movie is not written, where edits stay and where they don't.
 use Rattle.std.proofs.Common.{◌≡◌, ℕ, false, List}
-use Rattle.std.specs.Prelude.{Option, Result, Ok, Err, IfErr, OnOk, OnErr}
+use Rattle.std.specs.Prelude.{Option, Result, Ok, Err, IfErr, MatchResult, OnOk, OnErr}
 use Rattle.mp4_boxes.specs.declared.refusal.Refusal.{Refusal}
 use Rattle.mp4_boxes.specs.declared.refusal.Refusal.TheVariants as refusals
 use Rattle.mp4_present.specs.format.Denotes.{FileTree}
@@ -22,6 +22,19 @@ so_if_err (Err r) P p = p
 pub on_ok_two : {A B C : Type 0} {T : Type 0} (answer : Result T Refusal) → (A → B → C) → OnOk answer A → OnOk answer B → OnOk answer C
 on_ok_two (Ok x) f a b = f a b
 on_ok_two (Err r) f a b = tt
+
+-- what is so at Ok gives one thing, and what is so at Err another
+pub on_both : {A B X Y : Type 0} {T : Type 0} (answer : Result T Refusal) → (A → B) → (X → Y) → MatchResult answer (λ _. A) (λ _. X) → MatchResult answer (λ _. B) (λ _. Y)
+on_both (Ok x) f g a = f a
+on_both (Err r) f g a = g a
+
+pub on_both_two : {A B C X Y : Type 0} {T : Type 0} (answer : Result T Refusal) → (A → B → C) → (X → Y) → MatchResult answer (λ _. A) (λ _. X) → OnOk answer B → MatchResult answer (λ _. C) (λ _. Y)
+on_both_two (Ok x) f g a b = f a b
+on_both_two (Err r) f g a b = g a
+
+pub so_both : {T : Type 0} (answer : Result T Refusal) (P Q : Type 0) → P → Q → MatchResult answer (λ _. P) (λ _. Q)
+so_both (Ok x) P Q p q = p
+so_both (Err r) P Q p q = q
 
 carry_names : (l : Leaving) (file : List ℕ) (tree : FileTree) (reads reads_after puts puts_after : ℕ) (r : Refusal) → RefusesCarry reads reads_after puts puts_after r → NamesLong l file tree r
 carry_names l file tree reads reads_after puts puts_after (refusals.Fault f) w = absurd w

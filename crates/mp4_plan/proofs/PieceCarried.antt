@@ -24,6 +24,7 @@ use Rattle.mp4_present.proofs.Carrying.{BytesGoOn-then}
 use Rattle.mp4_present.proofs.Counts.{sum-append}
 use Rattle.mp4_present.proofs.Hands.{bytes_of_two}
 use Rattle.mp4_plan.specs.words.HandsFed.{BytesCarried, sizes_of}
+use Rattle.mp4_plan.specs.words.OverCarrying.{AreThere}
 use Rattle.mp4_plan.specs.declared.carrying.Load.{Load}
 use Rattle.mp4_plan.proofs.HandsCarried.{carried_front, carried_fails, load_is, next_below}
 use Rattle.mp4_plan.proofs.WalksOn.{hand_first, loads_on, loads_none, kept_coming}
@@ -128,15 +129,9 @@ hand_fails file m begun w a b c held held_b load left hand on is_hand p tree t s
 
 -- ---- an honest store has not changed
 
--- Samples that lie in the file, with as many bytes as are to be taken along.
-pub record AreThere (file : List ℕ) (load : Load) (samples : List SampleAt) : Type 0 where
-  pub many : load.samples ≤ length samples
-  pub sizes : load.bytes ≡ sizes_of (take load.samples samples)
-  pub below : AllByRecursion (IsBelow (length file)) samples
-
 -- Those in hand lie in the file, and have no more bytes than are left.
 pub hand_there : (file : List ℕ) (m : MovieSeen) (begun w : Walk) (a b : Option (List ℕ)) (held held_b : List ℕ) (load left : Load) (hand : InHand) → CarriesOn file m begun w a b held held_b load left → InHandOf m w hand
-    → (tree : FileTree) (t : TrackTree) (samples : List SampleAt) → IsOpenedAs file m tree → Comes file tree t m begun samples → AreThere file load samples
+    → (tree : FileTree) (t : TrackTree) (samples : List SampleAt) → IsOpenedAs file m tree → Comes file tree t m begun samples → AreThere file load.samples load.bytes samples
     → AllByRecursion (IsBelow (length file)) (left_in_hand hand) × (sizes_of (take left.samples (left_in_hand hand)) ≤ left.bytes)
 hand_there file m begun w a b held held_b load left hand on is_hand tree t samples o h there =
     let u = on tree t samples o h in
@@ -155,7 +150,7 @@ hand_there file m begun w a b held held_b load left hand on is_hand tree t sampl
 
 -- none is left to be taken along, so no bytes are
 pub no_bytes_left : (file : List ℕ) (m : MovieSeen) (begun w : Walk) (a b : Option (List ℕ)) (held held_b : List ℕ) (load left : Load) → CarriesOn file m begun w a b held held_b load left → left.samples ≡ 0
-    → (tree : FileTree) (t : TrackTree) (samples : List SampleAt) → IsOpenedAs file m tree → Comes file tree t m begun samples → AreThere file load samples → left.bytes ≡ 0
+    → (tree : FileTree) (t : TrackTree) (samples : List SampleAt) → IsOpenedAs file m tree → Comes file tree t m begun samples → AreThere file load.samples load.bytes samples → left.bytes ≡ 0
 no_bytes_left file m begun w a b held held_b load left on none tree t samples o h there =
     let u = on tree t samples o h in
     let size : SampleAt → ℕ = λ s. s.size in
@@ -169,7 +164,7 @@ no_bytes_left file m begun w a b held held_b load left on none tree t samples o 
 -- nothing more comes, so none is left to be taken along
 pub none_left_to_carry : (file : List ℕ) (m : MovieSeen) (begun w next : Walk) (a b : Option (List ℕ)) (held held_b : List ℕ) (load left : Load) (hand : InHand) (more : Bool) → CarriesOn file m begun w a b held held_b load left → InHandOf m w hand
     → left_in_hand hand ≡ [] → LoadsFor file m w next more → more ≡ false
-    → (tree : FileTree) (t : TrackTree) (samples : List SampleAt) → IsOpenedAs file m tree → Comes file tree t m begun samples → AreThere file load samples → left.samples ≡ 0
+    → (tree : FileTree) (t : TrackTree) (samples : List SampleAt) → IsOpenedAs file m tree → Comes file tree t m begun samples → AreThere file load.samples load.bytes samples → left.samples ≡ 0
 none_left_to_carry file m begun w next a b held held_b load left hand more on is_hand none loads e tree t samples o h there =
     let u = on tree t samples o h in
     let k = u.1.0 in

@@ -4,7 +4,6 @@ use Rattle.mp4_present.specs.declared.leaving.Leaving.{Leaving}
 use Rattle.mp4_plan.specs.words.ComingLess.{ComesLess}
 use Rattle.mp4_present.specs.format.Reduced.{reduce}
 use Rattle.std.specs.Prelude.{Option, slice_get}
-use Rattle.std.specs.List.{AllByRecursion}
 use Rattle.mp4_boxes.specs.format.Bytes.{sum_of}
 use Rattle.mp4_head.specs.format.Tree.{TrackTree}
 use Rattle.mp4_store.specs.words.Device.{AppendsPrefix}
@@ -12,7 +11,6 @@ use Rattle.mp4_tables.specs.words.Keys.{keys_seen}
 use Rattle.mp4_tables.specs.declared.sample.SampleAt.{SampleAt}
 use Rattle.mp4_present.specs.words.Carried.{BytesGoOn, waiting}
 use Rattle.mp4_present.specs.format.Denotes.{FileTree, presentation_of}
-use Rattle.mp4_present.specs.words.Joined.{IsBelow}
 use Rattle.mp4_present.specs.words.Movies.{MovieSeen, mark_of}
 use Rattle.mp4_present.specs.words.OpenedMovie.{IsOpenedAs}
 use Rattle.mp4_present.specs.declared.carrier.Carrier.{Carrier}
@@ -21,6 +19,7 @@ use Rattle.mp4_present.specs.declared.walks.Walk.{Walk}
 use Rattle.mp4_plan.specs.words.GoneOn.{ComesMarked}
 use Rattle.mp4_plan.specs.words.Gathering.{piece_from, piece_fed, samples_after, more_of, planned_of}
 use Rattle.mp4_plan.specs.format.Normal.{normal}
+use Rattle.mp4_plan.specs.words.OverCarrying.{AreThere}
 use Rattle.mp4_plan.specs.words.Turns.{turn_end, turned, Sticks}
 use Rattle.mp4_plan.specs.words.UsedKeys.{AreApart}
 use Rattle.mp4_plan.specs.words.Writers.{IsWriterOf, HasNoted, IsNoted, HaveCopied, turn_head, sequence_behind, turn_bytes}
@@ -110,11 +109,14 @@ module _ (leaving : Leaving) (file : List ℕ) (tree : FileTree) (m : MovieSeen)
         turn_stops leaving file tree m s sequence sent w.walks.items w.nexts.items (length w.rows.items) before after (waiting w.carrier) h at n.planned planned_is few last same
 
     -- its samples lie in the file, with as many bytes as were planned
-    pub carry_lacks : (X : Type 0) → ((samples : List SampleAt) → IsNoted file tree m turn.track n.planned.count samples w1 → n.planned.count ≤ length samples → n.planned.bytes ≡ sum_of (λ (x : SampleAt). x.size) (take n.planned.count samples)
-        → AllByRecursion (IsBelow (length file)) samples → X) → X
+    pub carry_lacks : (X : Type 0) → ((samples : List SampleAt) → IsNoted file tree m turn.track n.planned.count samples w1 → AreThere file n.planned.count n.planned.bytes samples → X) → X
     carry_lacks X f =
-        f at.left is_noted (subst (λ k. k ≤ length at.left) (sym counted) (piece_within end at.left))
-        (ap (λ (q : Planned). q.bytes) planned_is ∙ piece_bytes end at.left ∙ ap (λ k. sum_of (λ (x : SampleAt). x.size) (take k at.left)) (sym counted)) at.below
+        f at.left is_noted
+        (record {
+          many = subst (λ k. k ≤ length at.left) (sym counted) (piece_within end at.left);
+          sizes = ap (λ (q : Planned). q.bytes) planned_is ∙ piece_bytes end at.left ∙ ap (λ k. sum_of (λ (x : SampleAt). x.size) (take k at.left)) (sym counted);
+          below = at.below;
+        })
 
     module _ (w2 : Writer) (next : Option SampleAt) (copied : (samples : List SampleAt) → (k : IsNoted file tree m turn.track n.planned.count samples w1) → HaveCopied file tree m k.t turn.track n.planned.count samples w1 w2)
         (read : (x : Option SampleAt) → slice_get w2.nexts.items turn.track ≡ Some x → next ≡ x) where

@@ -20,3 +20,5 @@ pub mod Counting
 pub mod OverLess
 pub mod OwnRooms
 pub mod OverDevices
+pub mod OverCarrying
+pub mod OverWriters

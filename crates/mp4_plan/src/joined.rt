@@ -29,10 +29,12 @@ pub(crate) struct Stretches {
 }
 
 impl Span {
-    ghost use Rattle.std.specs.Prelude.{◌≡◌, ◌+◌, ◌≤◌, ◌++◌, length, vec_len, IfOk, IfErr, OnOk, OnErr, IsTrue};
-    ghost use Rattle.mp4_boxes.specs.declared.refusal.Refusal.TheVariants as refusals;
-    ghost use Rattle.mp4_store.specs.words.Device.{AppendsPrefix};
-    ghost use Rattle.mp4_present.specs.words.Carried.{BytesGoOn, GoOnBy, RefusesCarry, waiting};
+    ghost use Rattle.std.specs.Prelude.{◌≡◌, ◌+◌, ◌≤◌, length, IfOk};
+    ghost use Rattle.mp4_present.specs.words.Carried.{RefusesCarry};
+    ghost use Rattle.mp4_present.specs.words.HandCarried.{RefusedByBoth};
+    ghost use Rattle.mp4_present.specs.words.OverStores.{IsUnchanged, WhereHonest};
+    ghost use Rattle.mp4_plan.specs.words.OverCarrying.{Carries, TakesAlong};
+    ghost use Rattle.mp4_plan.specs.words.OverDevices.{OnlyCopies};
     ghost use Rattle.mp4_plan.specs.words.Stretches.{span_len, span_bytes, EndsBelow};
 
     // How many bytes these are.
@@ -52,23 +54,16 @@ impl Span {
         sink: &mut K,
     ) -> Result<u64, Refusal>
         ensures left { IfOk result (λ n. n + span_len self.now ≡ left) }
-        ensures bytes { OnOk result (IsTrue (S.is_honest store.old)
-            → BytesGoOn (K.contents sink.old) (K.contents sink.new) (waiting carrier.old)
-            (waiting carrier.new) (span_bytes (S.file store.old) self.now)) }
-        ensures many { OnOk result (GoOnBy (K.contents sink.old) (K.contents sink.new)
-            (waiting carrier.old) (waiting carrier.new) (span_len self.now)) }
-        ensures prefix { OnErr result (IsTrue (S.is_honest store.old)
-            → AppendsPrefix (K.contents sink.old) (K.contents sink.new)
-            (waiting carrier.old ++ span_bytes (S.file store.old) self.now)) }
+        ensures put { WhereHonest S.Store store.old (λ file.
+            Carries K.Sink sink.old sink.new carrier.old carrier.new result
+            (span_bytes file self.now)) }
+        ensures along { TakesAlong K.Sink sink.old sink.new carrier.old carrier.new result
+            (span_len self.now) }
         ensures unchanged { EndsBelow (length (S.file store.old)) self.now
-            → span_len self.now ≤ left → IfErr result (λ r. r ≡ refusals.StoreChanged → ⊥) }
-        ensures honesty { S.is_honest store.new ≡ S.is_honest store.old }
-        ensures file { S.file store.new ≡ S.file store.old }
-        ensures room { vec_len carrier.new.buffer ≡ vec_len carrier.old.buffer }
-        ensures reads { OnOk result (S.read_failures store.new ≡ S.read_failures store.old) }
-        ensures puts { OnOk result (K.put_failures sink.new ≡ K.put_failures sink.old) }
-        ensures refusal { IfErr result (RefusesCarry (S.read_failures store.old)
-            (S.read_failures store.new) (K.put_failures sink.old) (K.put_failures sink.new)) }
+            → span_len self.now ≤ left → IsUnchanged result }
+        ensures devices { OnlyCopies S.Store store.old store.new K.Sink sink.old sink.new result }
+        ensures refusal { RefusedByBoth S.Store store.old store.new K.Sink sink.old sink.new result
+            RefusesCarry }
     {
         let len = self.len();
         if len > left {
@@ -86,12 +81,14 @@ impl Span {
 }
 
 impl Stretches {
-    ghost use Rattle.std.specs.Prelude.{◌≡◌, ◌+◌, ◌<◌, ◌≤◌, ◌++◌, ◌∷◌, [], List, take, length, true, vec_len, IfErr, OnOk, OnErr, IsTrue};
+    ghost use Rattle.std.specs.Prelude.{◌≡◌, ◌+◌, ◌<◌, ◌≤◌, ◌∷◌, [], List, take, length, true, OnOk};
     ghost use Rattle.std.specs.List.{AllByRecursion};
-    ghost use Rattle.mp4_boxes.specs.declared.refusal.Refusal.TheVariants as refusals;
-    ghost use Rattle.mp4_store.specs.words.Device.{AppendsPrefix};
     ghost use Rattle.mp4_tables.specs.declared.sample.SampleAt.{SampleAt};
-    ghost use Rattle.mp4_present.specs.words.Carried.{BytesGoOn, GoOnBy, RefusesCarry, waiting};
+    ghost use Rattle.mp4_present.specs.words.Carried.{RefusesCarry};
+    ghost use Rattle.mp4_present.specs.words.HandCarried.{RefusedByBoth};
+    ghost use Rattle.mp4_present.specs.words.OverStores.{IsUnchanged, WhereHonest};
+    ghost use Rattle.mp4_plan.specs.words.OverCarrying.{Carries, TakesAlong};
+    ghost use Rattle.mp4_plan.specs.words.OverDevices.{OnlyCopies};
     ghost use Rattle.mp4_plan.specs.words.Stretches.{AreBytesOf, spans_of, spans_bytes, spans_len, EndsBelow, Tells, JoinsOn, IsRoomFor};
 
     /// Those of no samples.
@@ -184,25 +181,16 @@ impl Stretches {
         sink: &mut K,
     ) -> Result<(), Refusal>
         ensures len { OnOk result (spans_len (spans_of self.now) ≡ bytes) }
-        ensures bytes { OnOk result (IsTrue (S.is_honest store.old)
-            → BytesGoOn (K.contents sink.old) (K.contents sink.new) (waiting carrier.old)
-            (waiting carrier.new) (spans_bytes (S.file store.old) (spans_of self.now))) }
-        ensures many { OnOk result (GoOnBy (K.contents sink.old) (K.contents sink.new)
-            (waiting carrier.old) (waiting carrier.new) bytes) }
-        ensures prefix { OnErr result (IsTrue (S.is_honest store.old)
-            → AppendsPrefix (K.contents sink.old) (K.contents sink.new)
-            (waiting carrier.old ++ spans_bytes (S.file store.old) (spans_of self.now))) }
-        ensures unchanged { IsTrue (S.is_honest store.old)
-            → AllByRecursion (EndsBelow (length (S.file store.old))) (spans_of self.now)
-            → spans_len (spans_of self.now) ≡ bytes
-            → IfErr result (λ r. r ≡ refusals.StoreChanged → ⊥) }
-        ensures honesty { S.is_honest store.new ≡ S.is_honest store.old }
-        ensures file { S.file store.new ≡ S.file store.old }
-        ensures room { vec_len carrier.new.buffer ≡ vec_len carrier.old.buffer }
-        ensures reads { OnOk result (S.read_failures store.new ≡ S.read_failures store.old) }
-        ensures puts { OnOk result (K.put_failures sink.new ≡ K.put_failures sink.old) }
-        ensures refusal { IfErr result (RefusesCarry (S.read_failures store.old)
-            (S.read_failures store.new) (K.put_failures sink.old) (K.put_failures sink.new)) }
+        ensures put { WhereHonest S.Store store.old (λ file.
+            Carries K.Sink sink.old sink.new carrier.old carrier.new result
+            (spans_bytes file (spans_of self.now))) }
+        ensures along { TakesAlong K.Sink sink.old sink.new carrier.old carrier.new result bytes }
+        ensures unchanged { WhereHonest S.Store store.old (λ file.
+            AllByRecursion (EndsBelow (length file)) (spans_of self.now)
+            → spans_len (spans_of self.now) ≡ bytes → IsUnchanged result) }
+        ensures devices { OnlyCopies S.Store store.old store.new K.Sink sink.old sink.new result }
+        ensures refusal { RefusedByBoth S.Store store.old store.new K.Sink sink.old sink.new result
+            RefusesCarry }
     {
         let mut left = bytes;
         for span in &self.earlier[..self.used] {

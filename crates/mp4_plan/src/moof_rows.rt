@@ -1,11 +1,12 @@
 //! The rows of a `moof`: those of `trun`, and the `sbgp`s behind it (ISO/IEC 14496-12, 8.8.8 and
 //! 8.9.2).
-ghost use Rattle.std.specs.Prelude.{◌≡◌, ℕ, ◌+◌, ◌-◌, ◌^◌, ◌<◌, ◌≤◌, List, [], ◌∷◌, ◌++◌, None, flat_map, vec_len, length, IfSome, IfOk, IfErr, OnOk, OnErr};
+ghost use Rattle.std.specs.Prelude.{◌≡◌, ℕ, ◌+◌, ◌-◌, ◌^◌, ◌<◌, ◌≤◌, List, [], ◌∷◌, ◌++◌, None, flat_map, length, IfSome, IfOk, MatchResult, OnOk};
 ghost use Rattle.mp4_store.specs.words.Device.{AppendsPrefix};
 ghost use Rattle.mp4_tables.specs.format.Groups.{GroupKey as KeySeen};
 ghost use Rattle.mp4_tables.specs.words.Keys.{key_seen, keys_seen};
-ghost use Rattle.mp4_present.specs.words.Carried.{RefusesPut, BytesGoOn, waiting};
+ghost use Rattle.mp4_present.specs.words.Carried.{BytesGoOn, waiting};
 ghost use Rattle.mp4_plan.specs.format.Normal.{own};
+ghost use Rattle.mp4_plan.specs.words.OverCarrying.{Carries, OnlyPuts};
 ghost use Rattle.mp4_plan.specs.words.Spelling.{offset_of, run_row, run_rows, group_row, group_rows, runs_left, WritesRuns};
 ghost use Rattle.mp4_plan.specs.words.UsedKeys.{used_seen, is_above, is_below, least_above, used_from, IsKeyAt, AreApart, key_front, group_front, group_bytes, groups_bytes, some_groups};
 
@@ -74,16 +75,9 @@ pub(crate) fn carry_run<K: Sink>(
     carrier: &mut Carrier,
     sink: &mut K,
 ) -> Result<(), Refusal>
-    ensures room { vec_len carrier.new.buffer ≡ vec_len carrier.old.buffer }
-    ensures bytes { OnOk result
-        (BytesGoOn (K.contents sink.old) (K.contents sink.new) (waiting carrier.old)
-        (waiting carrier.new) (run_rows planned.now rows.now)) }
-    ensures prefix { OnErr result
-        (AppendsPrefix (K.contents sink.old) (K.contents sink.new) (waiting carrier.old
-        ++ run_rows planned.now rows.now)) }
-    ensures puts { OnOk result (K.put_failures sink.new ≡ K.put_failures sink.old) }
-    ensures refusal { IfErr result
-        (RefusesPut (K.put_failures sink.old) (K.put_failures sink.new)) }
+    ensures sink { OnlyPuts K.Sink sink.old sink.new carrier.old carrier.new result }
+    ensures put { Carries K.Sink sink.old sink.new carrier.old carrier.new result
+        (run_rows planned.now rows.now) }
 {
     let mut block = Spelled::new();
     let mut done = 0;
@@ -149,16 +143,9 @@ fn carry_index_run<K: Sink>(
     carrier: &mut Carrier,
     sink: &mut K,
 ) -> Result<(), Refusal>
-    ensures room { vec_len carrier.new.buffer ≡ vec_len carrier.old.buffer }
-    ensures bytes { OnOk result
-        (BytesGoOn (K.contents sink.old) (K.contents sink.new) (waiting carrier.old)
-        (waiting carrier.new) (flat_map group_row (runs_left run.count run.index []))) }
-    ensures prefix { OnErr result
-        (AppendsPrefix (K.contents sink.old) (K.contents sink.new) (waiting carrier.old
-        ++ flat_map group_row (runs_left run.count run.index []))) }
-    ensures puts { OnOk result (K.put_failures sink.new ≡ K.put_failures sink.old) }
-    ensures refusal { IfErr result
-        (RefusesPut (K.put_failures sink.old) (K.put_failures sink.new)) }
+    ensures sink { OnlyPuts K.Sink sink.old sink.new carrier.old carrier.new result }
+    ensures put { Carries K.Sink sink.old sink.new carrier.old carrier.new result
+        (flat_map group_row (runs_left run.count run.index [])) }
 {
     if run.count > 0 {
         carrier.carry(group_row(run.count, run.index).as_bytes(), sink)?;
@@ -174,17 +161,13 @@ fn carry_index<K: Sink>(
     sink: &mut K,
 ) -> Result<IndexRun, Refusal>
     requires { run.count + 1 < 2 ^ 32 }
-    ensures room { vec_len carrier.new.buffer ≡ vec_len carrier.old.buffer }
+    ensures sink { OnlyPuts K.Sink sink.old sink.new carrier.old carrier.new result }
     ensures count { IfOk result (λ next. next.count ≤ run.count + 1) }
-    ensures bytes { IfOk result (λ next. (values : List ℕ)
-        → WritesRuns (K.contents sink.old) (K.contents sink.new) (waiting carrier.old)
-        (waiting carrier.new) run next index values) }
-    ensures prefix { OnErr result ((values : List ℕ)
-        → AppendsPrefix (K.contents sink.old) (K.contents sink.new) (waiting carrier.old
+    ensures put { (values : List ℕ) → MatchResult result
+        (λ next. WritesRuns (K.contents sink.old) (K.contents sink.new) (waiting carrier.old)
+        (waiting carrier.new) run next index values)
+        (λ _. AppendsPrefix (K.contents sink.old) (K.contents sink.new) (waiting carrier.old
         ++ flat_map group_row (runs_left run.count run.index (index ∷ values)))) }
-    ensures puts { OnOk result (K.put_failures sink.new ≡ K.put_failures sink.old) }
-    ensures refusal { IfErr result
-        (RefusesPut (K.put_failures sink.old) (K.put_failures sink.new)) }
 {
     if run.count > 0 && run.index == index {
         return Ok(IndexRun {
@@ -205,16 +188,9 @@ fn carry_indexes<K: Sink>(
 ) -> Result<(), Refusal>
     requires place { place < 4 }
     requires few { length rows.now < 2 ^ 32 - 1 }
-    ensures room { vec_len carrier.new.buffer ≡ vec_len carrier.old.buffer }
-    ensures bytes { OnOk result
-        (BytesGoOn (K.contents sink.old) (K.contents sink.new) (waiting carrier.old)
-        (waiting carrier.new) (group_rows place rows.now)) }
-    ensures prefix { OnErr result
-        (AppendsPrefix (K.contents sink.old) (K.contents sink.new) (waiting carrier.old
-        ++ group_rows place rows.now)) }
-    ensures puts { OnOk result (K.put_failures sink.new ≡ K.put_failures sink.old) }
-    ensures refusal { IfErr result
-        (RefusesPut (K.put_failures sink.old) (K.put_failures sink.new)) }
+    ensures sink { OnlyPuts K.Sink sink.old sink.new carrier.old carrier.new result }
+    ensures put { Carries K.Sink sink.old sink.new carrier.old carrier.new result
+        (group_rows place rows.now) }
 {
     let mut run = IndexRun { count: 0, index: 0 };
     for row in rows {
@@ -278,16 +254,9 @@ fn carry_group<K: Sink>(
 ) -> Result<(), Refusal>
     requires place { used.place < 4 }
     requires few { length rows.now < 2 ^ 32 - 1 }
-    ensures room { vec_len carrier.new.buffer ≡ vec_len carrier.old.buffer }
-    ensures bytes { OnOk result
-        (BytesGoOn (K.contents sink.old) (K.contents sink.new) (waiting carrier.old)
-        (waiting carrier.new) (group_bytes rows.now planned.now used.place (key_seen used.key))) }
-    ensures prefix { OnErr result
-        (AppendsPrefix (K.contents sink.old) (K.contents sink.new) (waiting carrier.old
-        ++ group_bytes rows.now planned.now used.place (key_seen used.key))) }
-    ensures puts { OnOk result (K.put_failures sink.new ≡ K.put_failures sink.old) }
-    ensures refusal { IfErr result
-        (RefusesPut (K.put_failures sink.old) (K.put_failures sink.new)) }
+    ensures sink { OnlyPuts K.Sink sink.old sink.new carrier.old carrier.new result }
+    ensures put { Carries K.Sink sink.old sink.new carrier.old carrier.new result
+        (group_bytes rows.now planned.now used.place (key_seen used.key)) }
 {
     let front = group_front(used.key, planned.rows_at(used.place));
     carrier.carry(front.as_bytes(), sink)?;
@@ -304,19 +273,13 @@ pub(crate) fn carry_groups<K: Sink>(
     sink: &mut K,
 ) -> Result<(), Refusal>
     requires { length rows.now < 2 ^ 32 - 1 }
-    ensures room { vec_len carrier.new.buffer ≡ vec_len carrier.old.buffer }
-    ensures bytes { OnOk result (AreApart (keys_seen keys.now)
-        → BytesGoOn (K.contents sink.old) (K.contents sink.new) (waiting carrier.old)
-        (waiting carrier.new) (groups_bytes rows.now planned.now (keys_seen keys.now))) }
+    ensures sink { OnlyPuts K.Sink sink.old sink.new carrier.old carrier.new result }
+    ensures put { AreApart (keys_seen keys.now)
+        → Carries K.Sink sink.old sink.new carrier.old carrier.new result
+        (groups_bytes rows.now planned.now (keys_seen keys.now)) }
     ensures some { OnOk result ((groups : List (ℕ × KeySeen)) × (length groups ≤ 4)
         × BytesGoOn (K.contents sink.old) (K.contents sink.new) (waiting carrier.old)
         (waiting carrier.new) (some_groups rows.now planned.now groups)) }
-    ensures prefix { OnErr result (AreApart (keys_seen keys.now)
-        → AppendsPrefix (K.contents sink.old) (K.contents sink.new) (waiting carrier.old
-        ++ groups_bytes rows.now planned.now (keys_seen keys.now))) }
-    ensures puts { OnOk result (K.put_failures sink.new ≡ K.put_failures sink.old) }
-    ensures refusal { IfErr result
-        (RefusesPut (K.put_failures sink.old) (K.put_failures sink.new)) }
 {
     let mut behind = None;
     for _key in 0..keys.count() {

@@ -1,59 +1,49 @@
 //! The normal form of a presentation, written.
-ghost use Rattle.std.specs.Prelude.{◌≡◌, ℕ, ◌+◌, ◌*◌, ◌-◌, ◌^◌, ◌<◌, ◌≤◌, max, min, List, ◌++◌, length, map, take, slice_index, slice_get, Some, None, true, false, IfOk, IfErr, MatchResult, OnOk, OnErr};
+ghost use Rattle.std.specs.Prelude.{◌≡◌, ℕ, ◌+◌, ◌*◌, ◌-◌, ◌<◌, ◌≤◌, List, ◌++◌, length, take, Some, None, true, false, IfOk, IfErr, OnOk, OnErr};
 ghost use Rattle.std.specs.Io.KnownBytes.{Appends};
-ghost use Rattle.std.specs.List.{AllByRecursion, sum_by};
-ghost use Rattle.mp4_boxes.specs.format.Bytes.{sum_of};
-ghost use Rattle.mp4_boxes.specs.declared.refusal.Refusal.TheVariants as refusals;
+ghost use Rattle.std.specs.List.{sum_by};
 ghost use Rattle.mp4_store.specs.words.Device.{AppendsPrefix};
-ghost use Rattle.mp4_head.specs.format.Tree.{TrackTree};
-ghost use Rattle.mp4_tables.specs.words.Keys.{keys_seen};
 ghost use Rattle.mp4_tables.specs.declared.sample.SampleAt.{SampleAt};
 ghost use Rattle.mp4_present.specs.declared.track_info.TrackInfo.{TrackInfo};
-ghost use Rattle.mp4_present.specs.words.Carried.{BytesGoOn, GoOnBy, waiting};
-ghost use Rattle.mp4_present.specs.format.Presentation.{movie_length};
+ghost use Rattle.mp4_present.specs.words.Carried.{GoOnBy, waiting};
 ghost use Rattle.mp4_present.specs.format.Reduced.{ReducesInTime, reduce};
 ghost use Rattle.mp4_present.specs.declared.leaving.Leaving.{Leaving};
-ghost use Rattle.mp4_plan.specs.words.ComingLess.{ComesLess, left_samples};
 ghost use Rattle.mp4_plan.specs.words.LeftTimes.{NamesLong, RefusesLeft, RefusesLeftCopy};
-ghost use Rattle.mp4_present.specs.format.Denotes.{FileTree, presentation_of};
-ghost use Rattle.mp4_present.specs.words.Joined.{IsBelow, sample_bytes};
-ghost use Rattle.mp4_present.specs.words.OpenedMovie.{IsOpenedAs};
+ghost use Rattle.mp4_present.specs.format.Denotes.{presentation_of};
+ghost use Rattle.mp4_present.specs.words.Joined.{sample_bytes};
 ghost use Rattle.mp4_present.specs.words.OverStores.{IsUnchanged, OnlyReads, Refused};
 ghost use Rattle.mp4_present.specs.words.WalkSteps.{walks_steps};
 ghost use Rattle.mp4_plan.specs.format.Normal.{normal};
-ghost use Rattle.mp4_plan.specs.format.Pieces.{pieces};
 ghost use Rattle.mp4_plan.specs.words.PutPieces.{PiecesFollow, IsPutWhole};
-ghost use Rattle.mp4_plan.specs.words.WriterSteps.{MayAllTake, AllTakeOn, MayAllBegin, MayAllWrite, AllWriteOn, WriteAllBegin, MayAllFinish, AllFinishOn, writing_steps};
-ghost use Rattle.mp4_plan.specs.words.OverDevices.{AreWalksStill, IsMade, OnlyCopies, OverOpened, TellsLong};
+ghost use Rattle.mp4_plan.specs.words.WriterSteps.{MayAllWrite, WriteAllBegin, writing_steps};
+ghost use Rattle.mp4_plan.specs.words.OverCarrying.{AreThere, Carries};
+ghost use Rattle.mp4_plan.specs.words.OverWriters.{IsPlanned, MayCarry, OnTurn, OnlyCarries, OnlyNotes, StepsToCarry, StepsToNote, WhereNoted, WithKeys};
+ghost use Rattle.mp4_plan.specs.words.OverDevices.{IsMade, OnlyCopies, OverOpened, TellsLong};
 ghost use Rattle.mp4_plan.specs.words.Turns.{movie_turns};
 ghost use Rattle.mp4_present.specs.words.HandCarried.{RefusedByBoth};
-ghost use Rattle.mp4_plan.specs.words.UsedKeys.{AreApart};
 ghost use Rattle.mp4_present.specs.words.Carried.{RefusesCarry, RefusesCopy};
 ghost use Rattle.mp4_present.specs.declared.walks.Walk.{Walk};
 ghost use Rattle.mp4_plan.specs.words.Gathering.{more_of, piece_from};
-ghost use Rattle.mp4_present.specs.words.Movies.{RefusesLoad, mark_of};
-ghost use Rattle.mp4_plan.specs.words.Writers.{RefusesMemory, RefusesPlan, AreMarked, IsHeadOf, AreWalksOf, IsWriterOf, turn_head, sequence_behind, AllCome, AllBegin, first_dts, head_of_normal, IsReady, bytes_of_piece, turn_bytes, firsts, HasNoted, IsNoted, HaveCopied, ArePiecesLong, WhereOpened, longest_piece, planned_length};
-ghost use Rattle.mp4_plan.specs.format.Held.{rooms, held};
-ghost use Rattle.mp4_plan.specs.words.OwnRooms.{own_rooms};
+ghost use Rattle.mp4_present.specs.words.Movies.{RefusesLoad};
+ghost use Rattle.mp4_plan.specs.words.Writers.{RefusesPlan, IsWriterOf, turn_head, sequence_behind, IsReady, bytes_of_piece, turn_bytes, HasNoted, HaveCopied};
+ghost use Rattle.mp4_plan.specs.format.Held.{held};
 
 use crate::carrying::{Load, carry_noted};
-use crate::counting::count_turn;
-use crate::courses::{next_marked, note_marked, plan_turn};
+use crate::courses::note_marked;
 use crate::ends::first_goes;
 use crate::joined::Stretches;
 use crate::left_times::length_left;
+use crate::measuring::{first_time, head_of, longest_piece, peek_each, walks_of};
 use crate::moof_front::{PieceHead, moof_front};
 use crate::moof_rows::{carry_groups, carry_run};
 use crate::moof_sizes::sizes_of;
 use crate::planner::{Planned, Planner};
-use crate::reduced_head::reduce_head;
 use crate::rows::{NO_ROW, Row};
 use crate::schedule::{Schedule, Turn};
 use mp4_boxes::{FourCc, Refusal, Steps, header};
-use mp4_head::{MovieHead, head_bytes, head_len};
 use mp4_present::{Carrier, Leaving, Movie, TrackInfo, Walk};
 use mp4_store::{Sink, Store};
-use mp4_tables::{Keys, SampleAt};
+use mp4_tables::SampleAt;
 use std::alloc::Global;
 use std::sync::ledger::Ledger;
 
@@ -62,9 +52,6 @@ const PIECE: usize = 61_440;
 
 /// The most bytes that a writer holds beside the head, its rows and its walks.
 const MOST_WAITING: usize = 65_000;
-
-/// The most bytes of `ftyp` and `moov`.
-const MOST_HEAD: u128 = (1 << 30) + 24;
 
 // What a turn comes to: what was planned of its samples, and what its piece says once where it has
 // some.
@@ -93,83 +80,6 @@ pub struct Writer {
     nexts: Vec<Option<SampleAt>>,
 }
 
-// A walk over each track.
-fn walks_of(alloc: Global, movie: &Movie) -> Result<Vec<Walk>, Refusal>
-    ensures walks { IfOk result (λ walks. AreWalksOf movie.now walks.items) }
-    ensures rooms { IfOk result (λ walks.
-        rooms walks.items ≡ own_rooms movie.now (length movie.now.tracks)) }
-    ensures within { IfOk result (λ walks.
-        rooms walks.items ≤ length movie.now.tracks * movie.now.longest) }
-    ensures begin { IfOk result (λ walks. (file : List ℕ) (tree : FileTree)
-        → IsOpenedAs file movie.now tree
-        → (leaving : Leaving) → AllBegin leaving file tree movie.now walks.items) }
-    ensures marked { IfOk result (λ walks. (file : List ℕ) (tree : FileTree)
-        → IsOpenedAs file movie.now tree → (leaving : Leaving)
-        → AreMarked walks.items (map (left_samples leaving tree) tree.movie.tracks)) }
-    ensures memory { IfErr result (λ r. r ≡ refusals.Memory) }
-    ensures refusal { IfErr result RefusesMemory }
-    ensures may { IfOk result (λ walks. (file : List ℕ) (tree : FileTree)
-        → IsOpenedAs file movie.now tree → MayAllBegin file tree walks.items) }
-    ensures writes { IfOk result (λ walks. (file : List ℕ) (tree : FileTree)
-        → IsOpenedAs file movie.now tree → WriteAllBegin file tree movie.now walks.items) }
-{
-    let mut walks = Vec::new(alloc);
-    for track in 0..movie.tracks().len() {
-        walks.push(movie.walk(alloc, track)?)?;
-    }
-    Ok(walks)
-}
-
-// Notes what is left of the next sample of each walk.
-fn peek_each<S: Store, L: Ledger>(
-    walks: &mut [Walk],
-    nexts: &mut [Option<SampleAt>],
-    leaving: Leaving,
-    movie: &Movie,
-    store: &mut S,
-    steps: &mut Steps<L>,
-) -> Result<(), Refusal>
-    requires walks { AreWalksOf movie.now walks.old }
-    requires nexts { length nexts.old ≡ length walks.old }
-    ensures walks { AreWalksStill movie.now walks.old walks.new result }
-    ensures store { OnlyReads S.Store store.old store.new result }
-    ensures shown { OverOpened S.Store store.old movie.now
-        (λ file tree. (lefts : List (List SampleAt))
-        → AllCome leaving file tree movie.now tree.movie.tracks walks.old lefts
-        → OnOk result ((nexts.new ≡ firsts lefts)
-        × AllCome leaving file tree movie.now tree.movie.tracks walks.new lefts)) }
-    ensures marked { (lefts : List (List SampleAt)) → AreMarked walks.old lefts
-        → OnOk result (AreMarked walks.new lefts) }
-    ensures unchanged { OverOpened S.Store store.old movie.now
-        (λ file tree. (lefts : List (List SampleAt))
-        → AllCome leaving file tree movie.now tree.movie.tracks walks.old lefts
-        → IsUnchanged result) }
-    ensures refusal { Refused S.Store store.old store.new result RefusesLoad }
-    ensures work { OverOpened S.Store store.old movie.now
-        (λ file tree. (n : ℕ) → MayAllTake file tree tree.movie.tracks walks.old n
-        → MatchResult result (λ _. AllTakeOn file tree n walks.new steps.old steps.new)
-        (λ _. steps.new ≤ steps.old + n)) }
-    ensures writes { OverOpened S.Store store.old movie.now
-        (λ file tree. (n : ℕ) → MayAllWrite file tree movie.now walks.old n
-        → MatchResult result (λ _. AllWriteOn file tree movie.now n walks.new steps.old steps.new)
-        (λ _. steps.new ≤ steps.old + n)) }
-{
-    for k in 0..walks.len() {
-        nexts[k] = next_marked(&mut walks[k], leaving, movie, store, steps)?;
-    }
-    Ok(())
-}
-
-// When the first track begins, 0 where it has no sample.
-fn first_time(nexts: &[Option<SampleAt>]) -> u64
-    ensures { (lefts : List (List SampleAt)) → nexts.now ≡ firsts lefts → result ≡ first_dts lefts }
-{
-    match nexts.first() {
-        Some(Some(first)) => first.dts,
-        _ => 0,
-    }
-}
-
 // The bytes of the samples of all tracks, as many as opening counted.
 fn bytes_of(tracks: &[TrackInfo]) -> u128
     ensures { result ≡ sum_by (λ (i : TrackInfo). i.bytes) tracks.now }
@@ -189,197 +99,6 @@ fn are_all(left: u128, bytes: u128, tracks: &[TrackInfo]) -> bool
         → ((left ≡ 0) × (bytes ≡ sum_by (λ (i : TrackInfo). i.bytes) tracks.now) → ⊥) }
 {
     left == 0 && bytes == bytes_of(tracks)
-}
-
-// The bytes of a piece, as far as 64 bits go: its `moof`, and its `mdat`.
-fn piece_len(planned: &Planned, keys: &Keys) -> u64
-    ensures { result ≡ min (planned_length planned.now (keys_seen keys.now)) (2 ^ 64 - 1) }
-{
-    let header = if planned.bytes < (1 << 32) - 8 { 8 } else { 16 };
-    (sizes_of(planned, keys).moof + header).saturating_add(planned.bytes)
-}
-
-// The length of some pieces and of one more, where it has samples, as far as 64 bits go.
-fn len_with(len: u64, planned: &Planned, keys: &Keys) -> u64
-    ensures none { planned.now.count ≡ 0 → result ≡ len }
-    ensures some { 0 < planned.now.count
-        → result ≡ min (len + planned_length planned.now (keys_seen keys.now)) (2 ^ 64 - 1) }
-{
-    if planned.count == 0 {
-        return len;
-    }
-    len.saturating_add(piece_len(planned, keys))
-}
-
-// The most samples of a piece of what is left of a movie.
-fn longest_piece<S: Store, L: Ledger, M: Ledger>(
-    alloc: Global,
-    movie: &Movie,
-    store: &mut S,
-    leaving: Leaving,
-    steps: &mut Steps<L>,
-    looks: &mut Steps<M>,
-) -> Result<u32, Refusal>
-    ensures store { OnlyReads S.Store store.old store.new result }
-    ensures few { IfOk result (λ longest. longest ≤ 2 ^ 24) }
-    ensures longest { WhereOpened (S.is_honest store.old) (S.file store.old) movie.now
-        (λ tree. IfOk result (λ longest. longest
-        ≡ longest_piece (pieces (reduce leaving (presentation_of (S.file store.old) tree))))) }
-    ensures unchanged { WhereOpened (S.is_honest store.old) (S.file store.old) movie.now
-        (λ tree. IsUnchanged result) }
-    ensures refusal { Refused S.Store store.old store.new result RefusesPlan }
-    ensures work { WhereOpened (S.is_honest store.old) (S.file store.old) movie.now
-        (λ tree. steps.new ≤ steps.old + walks_steps tree) }
-    ensures turns { looks.new ≤ looks.old + movie_turns movie.now }
-{
-    let tracks = movie.tracks();
-    let mut walks = walks_of(alloc, movie)?;
-    let mut nexts = vec![in alloc; None; tracks.len()]?;
-    peek_each(
-        walks.as_mut_slice(),
-        nexts.as_mut_slice(),
-        leaving,
-        movie,
-        store,
-        steps,
-    )?;
-    let mut schedule = Schedule::new(tracks, first_time(nexts.as_slice()));
-    let mut longest: u32 = 0;
-    while let Some(turn) = schedule.turn(tracks, looks) {
-        let walk = &mut walks[turn.track];
-        let next = &mut nexts[turn.track];
-        let count = count_turn(walk, leaving, next, &turn.end, movie, store, steps)?;
-        let sample = *next;
-        longest = longest.max(count);
-        schedule.pass(&turn, count, sample)?;
-    }
-    Ok(longest)
-}
-
-// The bytes of all pieces of what is left of a movie.
-fn pieces_len<S: Store, L: Ledger, M: Ledger>(
-    alloc: Global,
-    movie: &Movie,
-    store: &mut S,
-    leaving: Leaving,
-    steps: &mut Steps<L>,
-    looks: &mut Steps<M>,
-) -> Result<u64, Refusal>
-    ensures store { OnlyReads S.Store store.old store.new result }
-    ensures length { WhereOpened (S.is_honest store.old) (S.file store.old) movie.now
-        (λ tree. IfOk result
-        (ArePiecesLong (reduce leaving (presentation_of (S.file store.old) tree)))) }
-    ensures unchanged { WhereOpened (S.is_honest store.old) (S.file store.old) movie.now
-        (λ tree. IsUnchanged result) }
-    ensures refusal { Refused S.Store store.old store.new result RefusesPlan }
-    ensures work { WhereOpened (S.is_honest store.old) (S.file store.old) movie.now
-        (λ tree. steps.new ≤ steps.old + walks_steps tree) }
-    ensures turns { looks.new ≤ looks.old + movie_turns movie.now }
-{
-    let tracks = movie.tracks();
-    let mut walks = walks_of(alloc, movie)?;
-    let mut nexts = vec![in alloc; None; tracks.len()]?;
-    peek_each(
-        walks.as_mut_slice(),
-        nexts.as_mut_slice(),
-        leaving,
-        movie,
-        store,
-        steps,
-    )?;
-    let mut schedule = Schedule::new(tracks, first_time(nexts.as_slice()));
-    let mut len = 0;
-    while let Some(turn) = schedule.turn(tracks, looks) {
-        let walk = &mut walks[turn.track];
-        let next = &mut nexts[turn.track];
-        let planned = plan_turn(walk, leaving, next, turn.end, movie, store, steps)?;
-        let sample = *next;
-        len = len_with(len, &planned, &tracks[turn.track].keys);
-        schedule.pass(&turn, planned.count, sample)?;
-    }
-    Ok(len)
-}
-
-// The head of what is left of a movie.
-fn head_left<'a>(
-    alloc: Global,
-    movie: &'a Movie,
-    leaving: Leaving,
-) -> Result<MovieHead<'a>, Refusal>
-    ensures left { (file : List ℕ) (tree : FileTree) → IsOpenedAs file movie.entry.now tree
-        → IfOk result (λ h. IsHeadOf (reduce leaving (presentation_of file tree)) h
-        (movie_length (reduce leaving (presentation_of file tree)))) }
-    ensures memory { IfErr result (λ r. r ≡ refusals.Memory) }
-{
-    let mut head = movie.head(alloc)?;
-    reduce_head(&mut head, leaving);
-    Ok(head)
-}
-
-// The bytes of `ftyp` and `moov`, where this is the length of the longest track.
-fn head_of(alloc: Global, movie: &Movie, leaving: Leaving, mehd: u64) -> Result<Vec<u8>, Refusal>
-    ensures head { (file : List ℕ) (tree : FileTree) → IsOpenedAs file movie.now tree
-        → mehd ≡ movie_length (reduce leaving (presentation_of file tree))
-        → IfOk result (λ bytes. bytes.items
-        ≡ head_of_normal (reduce leaving (presentation_of file tree))) }
-    ensures unchanged { (file : List ℕ) (tree : FileTree) → IsOpenedAs file movie.now tree
-        → IfErr result (λ r. r ≡ refusals.StoreChanged → ⊥) }
-    ensures refusal { IfErr result RefusesMemory }
-{
-    let head = head_left(alloc, movie, leaving)?;
-    if head_len(&head) > MOST_HEAD {
-        return Err(Refusal::StoreChanged);
-    }
-    Ok(head_bytes(alloc, &head, mehd)?)
-}
-
-/// The length of the normal form of what is left of a movie; a fault where a track is too long
-/// without its edits.
-pub fn reduced_len<S: Store, L: Ledger, M: Ledger>(
-    alloc: Global,
-    movie: &Movie,
-    store: &mut S,
-    leaving: Leaving,
-    steps: &mut Steps<L>,
-    looks: &mut Steps<M>,
-) -> Result<u64, Refusal>
-    ensures store { OnlyReads S.Store store.old store.new result }
-    ensures length { OverOpened S.Store store.old movie.now (λ file tree.
-        IfOk result (λ len. len ≡ length (normal (reduce leaving (presentation_of file tree))))) }
-    ensures in_time { OverOpened S.Store store.old movie.now
-        (λ file tree. OnOk result (ReducesInTime leaving (presentation_of file tree))) }
-    ensures fault { OverOpened S.Store store.old movie.now
-        (λ file tree. IfErr result (NamesLong leaving file tree)) }
-    ensures unchanged { OverOpened S.Store store.old movie.now (λ file tree. IsUnchanged result) }
-    ensures refusal { Refused S.Store store.old store.new result (RefusesLeft leaving) }
-    ensures work { OverOpened S.Store store.old movie.now
-        (λ file tree. steps.new ≤ steps.old + walks_steps tree) }
-    ensures turns { looks.new ≤ looks.old + movie_turns movie.now }
-{
-    length_left(alloc, movie, leaving)?;
-    let len = pieces_len(alloc, movie, store, leaving, steps, looks)?;
-    let head = head_left(alloc, movie, leaving)?;
-    Ok(len.saturating_add(head_len(&head).min(MOST_HEAD) as u64))
-}
-
-/// The length of the normal form of a movie.
-pub fn normal_len<S: Store, L: Ledger, M: Ledger>(
-    alloc: Global,
-    movie: &Movie,
-    store: &mut S,
-    steps: &mut Steps<L>,
-    looks: &mut Steps<M>,
-) -> Result<u64, Refusal>
-    ensures store { OnlyReads S.Store store.old store.new result }
-    ensures length { OverOpened S.Store store.old movie.now (λ file tree.
-        IfOk result (λ len. len ≡ length (normal (presentation_of file tree)))) }
-    ensures unchanged { OverOpened S.Store store.old movie.now (λ file tree. IsUnchanged result) }
-    ensures refusal { Refused S.Store store.old store.new result RefusesPlan }
-    ensures work { OverOpened S.Store store.old movie.now
-        (λ file tree. steps.new ≤ steps.old + walks_steps tree) }
-    ensures turns { looks.new ≤ looks.old + movie_turns movie.now }
-{
-    reduced_len(alloc, movie, store, Leaving::NOTHING, steps, looks)
 }
 
 // What a piece of so many samples says once, of which the first is this one; nothing where it has
@@ -487,45 +206,18 @@ impl Writer {
     ) -> Result<Noted, Refusal>
         requires writer { IsWriterOf movie.now self.old }
         requires track { turn.now.track < length movie.now.tracks }
-        ensures writer { OnOk result (IsWriterOf movie.now self.new) }
-        ensures held { held self.new ≡ held self.old }
-        ensures keeps { (self.new.leaving ≡ self.old.leaving)
-            × (self.new.carrier ≡ self.old.carrier)
-            × (length self.new.rows.items ≡ length self.old.rows.items)
-            × (self.new.nexts ≡ self.old.nexts) }
-        ensures honesty { S.is_honest store.new ≡ S.is_honest store.old }
-        ensures file { S.file store.new ≡ S.file store.old }
-        ensures noted { WhereOpened (S.is_honest store.old) (S.file store.old) movie.now
-            (λ tree. (t : TrackTree) (walk : Walk) (left : List SampleAt)
-            → slice_get self.old.walks.items turn.now.track ≡ Some walk
-            → ComesLess self.old.leaving (S.file store.old) tree t movie.now walk left
-            → walk.mark ≡ mark_of walk (length left)
-            → slice_get self.old.nexts.items turn.now.track ≡ Some (slice_get left 0)
-            → IfOk result (HasNoted (S.file store.old)
-            tree t movie.now turn.now sequence id left self.old self.new)) }
-        ensures unchanged { WhereOpened (S.is_honest store.old) (S.file store.old) movie.now
-            (λ tree. (t : TrackTree) (walk : Walk) (left : List SampleAt)
-            → slice_get self.old.walks.items turn.now.track ≡ Some walk
-            → ComesLess self.old.leaving (S.file store.old) tree t movie.now walk left
-            → walk.mark ≡ mark_of walk (length left)
-            → slice_get self.old.nexts.items turn.now.track ≡ Some (slice_get left 0)
-            → more_of (piece_from turn.now.end) left ≤ length self.old.rows.items
-            → IfErr result (λ r. r ≡ refusals.StoreChanged → ⊥)) }
-        ensures few { IfOk result (λ n. (n.planned.count ≤ length self.old.rows.items)
-            × (n.planned.bytes + 16 < 2 ^ 64)
-            × ((j : ℕ) → slice_index n.planned.group_rows j ≤ n.planned.count)
-            × (n.head ≡ None → n.planned.count ≡ 0)) }
-        ensures sizes { IfOk result (λ n. n.planned.bytes ≤ n.planned.count * 4294967295) }
-        ensures reads { OnOk result (S.read_failures store.new ≡ S.read_failures store.old) }
-        ensures refusal { IfErr result
-            (RefusesLoad (S.read_failures store.old) (S.read_failures store.new)) }
-        ensures work { WhereOpened (S.is_honest store.old) (S.file store.old) movie.now
-            (λ tree. (n : ℕ) → MayAllWrite (S.file store.old) tree movie.now self.old.walks.items n
-            → IfOk result (λ noted. AllFinishOn self.old.leaving (S.file store.old) tree movie.now
-            turn.now.track noted.planned.count n self.new.walks.items steps.old steps.new)) }
-        ensures most { WhereOpened (S.is_honest store.old) (S.file store.old) movie.now
-            (λ tree. (n : ℕ) → MayAllWrite (S.file store.old) tree movie.now self.old.walks.items n
-            → OnErr result (steps.new ≤ steps.old + n)) }
+        ensures writer { OnlyNotes movie.now self.old self.new result }
+        ensures store { OnlyReads S.Store store.old store.new result }
+        ensures noted { OnTurn S.Store store.old movie.now turn.now self.old (λ file tree t left.
+            IfOk result
+            (HasNoted file tree t movie.now turn.now sequence id left self.old self.new)) }
+        ensures unchanged { OnTurn S.Store store.old movie.now turn.now self.old
+            (λ file tree t left. more_of (piece_from turn.now.end) left ≤ length self.old.rows.items
+            → IsUnchanged result) }
+        ensures planned { IfOk result (IsPlanned (length self.old.rows.items)) }
+        ensures refusal { Refused S.Store store.old store.new result RefusesLoad }
+        ensures work { StepsToNote S.Store store.old movie.now turn.now.track self.old self.new
+            result steps.old steps.new }
     {
         self.stretches.clear();
         let first = self.nexts[turn.track];
@@ -559,53 +251,24 @@ impl Writer {
     ) -> Result<(), Refusal>
         requires writer { IsWriterOf movie.now self.old }
         requires track { track < length movie.now.tracks }
-        ensures writer { OnOk result (IsWriterOf movie.now self.new) }
-        ensures held { held self.new ≡ held self.old }
-        ensures honesty { S.is_honest store.new ≡ S.is_honest store.old }
-        ensures file { S.file store.new ≡ S.file store.old }
-        ensures put { WhereOpened (S.is_honest store.old) (S.file store.old) movie.now
-            (λ tree. (samples : List SampleAt) → IsNoted (S.file store.old) tree movie.now track
-            planned.now.count samples self.old
-            → OnOk result
-            (BytesGoOn (K.contents sink.old) (K.contents sink.new) (waiting self.old.carrier)
-            (waiting self.new.carrier)
-            (sample_bytes (S.file store.old) (take planned.now.count samples)))) }
+        ensures writer { OnlyCarries movie.now self.old self.new result }
+        ensures devices { OnlyCopies S.Store store.old store.new K.Sink sink.old sink.new result }
+        ensures put { WhereNoted S.Store store.old movie.now track planned.now.count self.old
+            (λ file tree t samples.
+            Carries K.Sink sink.old sink.new self.old.carrier self.new.carrier result
+            (sample_bytes file (take planned.now.count samples))) }
         ensures many { OnOk result (GoOnBy (K.contents sink.old) (K.contents sink.new)
             (waiting self.old.carrier) (waiting self.new.carrier) planned.now.bytes) }
-        ensures prefix { WhereOpened (S.is_honest store.old) (S.file store.old) movie.now
-            (λ tree. (samples : List SampleAt) → IsNoted (S.file store.old) tree movie.now track
-            planned.now.count samples self.old
-            → OnErr result
-            (AppendsPrefix (K.contents sink.old) (K.contents sink.new) (waiting self.old.carrier
-            ++ sample_bytes (S.file store.old) (take planned.now.count samples)))) }
-        ensures copied { WhereOpened (S.is_honest store.old) (S.file store.old) movie.now
-            (λ tree. (samples : List SampleAt) → (noted : IsNoted (S.file store.old) tree movie.now
-            track planned.now.count samples self.old)
-            → OnOk result (HaveCopied (S.file store.old) tree movie.now noted.t track
-            planned.now.count samples self.old self.new)) }
-        ensures keeps { OnOk result ((self.new.leaving ≡ self.old.leaving)
-            × (self.new.rows ≡ self.old.rows)) }
-        ensures unchanged { WhereOpened (S.is_honest store.old) (S.file store.old) movie.now
-            (λ tree. (samples : List SampleAt) → IsNoted (S.file store.old) tree movie.now track
-            planned.now.count samples self.old
-            → planned.now.count ≤ length samples
-            → planned.now.bytes ≡ sum_of (λ (s : SampleAt). s.size) (take planned.now.count samples)
-            → AllByRecursion (IsBelow (length (S.file store.old))) samples
-            → IfErr result (λ r. r ≡ refusals.StoreChanged → ⊥)) }
-        ensures reads { OnOk result (S.read_failures store.new ≡ S.read_failures store.old) }
-        ensures puts { OnOk result (K.put_failures sink.new ≡ K.put_failures sink.old) }
-        ensures refusal { IfErr result
-            (RefusesCarry (S.read_failures store.old) (S.read_failures store.new)
-            (K.put_failures sink.old) (K.put_failures sink.new)) }
-        ensures work { WhereOpened (S.is_honest store.old) (S.file store.old) movie.now
-            (λ tree. (n : ℕ) → MayAllFinish self.old.leaving (S.file store.old) tree movie.now track
-            planned.now.count self.old.walks.items n
-            → OnOk result (AllWriteOn (S.file store.old) tree movie.now n self.new.walks.items
-            steps.old steps.new)) }
-        ensures most { WhereOpened (S.is_honest store.old) (S.file store.old) movie.now
-            (λ tree. (n : ℕ) → MayAllFinish self.old.leaving (S.file store.old) tree movie.now track
-            planned.now.count self.old.walks.items n
-            → OnErr result (steps.new ≤ steps.old + n)) }
+        ensures copied { WhereNoted S.Store store.old movie.now track planned.now.count self.old
+            (λ file tree t samples. OnOk result
+            (HaveCopied file tree movie.now t track planned.now.count samples self.old self.new)) }
+        ensures unchanged { WhereNoted S.Store store.old movie.now track planned.now.count self.old
+            (λ file tree t samples. AreThere file planned.now.count planned.now.bytes samples
+            → IsUnchanged result) }
+        ensures refusal { RefusedByBoth S.Store store.old store.new K.Sink sink.old sink.new result
+            RefusesCarry }
+        ensures work { StepsToCarry S.Store store.old movie.now track planned.now.count self.old
+            self.new result steps.old steps.new }
     {
         let load = Load {
             samples: planned.count,
@@ -625,7 +288,8 @@ impl Writer {
         Ok(())
     }
 
-    // Takes a piece along whose samples were noted.
+    // Takes a piece along whose samples were noted: its front and rows, and the bytes of its
+    // samples.
     fn carry<S: Store, K: Sink, L: Ledger>(
         &mut self,
         track: usize,
@@ -636,65 +300,26 @@ impl Writer {
         sink: &mut K,
         steps: &mut Steps<L>,
     ) -> Result<(), Refusal>
-        requires writer { IsWriterOf movie.now self.old }
-        requires track { track < length movie.now.tracks }
-        requires count { planned.now.count ≤ length self.old.rows.items }
-        requires bytes { planned.now.bytes + 16 < 2 ^ 64 }
-        requires rows { (j : ℕ) → slice_index planned.now.group_rows j ≤ planned.now.count }
-        ensures writer { OnOk result (IsWriterOf movie.now self.new) }
-        ensures held { held self.new ≡ held self.old }
-        ensures honesty { S.is_honest store.new ≡ S.is_honest store.old }
-        ensures file { S.file store.new ≡ S.file store.old }
-        ensures put { WhereOpened (S.is_honest store.old) (S.file store.old) movie.now
-            (λ tree. (samples : List SampleAt) → IsNoted (S.file store.old) tree movie.now track
-            planned.now.count samples self.old
-            → (info : TrackInfo) → slice_get movie.now.tracks track ≡ Some info
-            → AreApart (keys_seen info.keys)
-            → OnOk result
-            (BytesGoOn (K.contents sink.old) (K.contents sink.new) (waiting self.old.carrier)
-            (waiting self.new.carrier)
-            (bytes_of_piece (S.file store.old) head planned.now (keys_seen info.keys)
-            (take planned.now.count samples)))) }
+        requires { MayCarry movie.now self.old track planned.now }
+        ensures writer { OnlyCarries movie.now self.old self.new result }
+        ensures devices { OnlyCopies S.Store store.old store.new K.Sink sink.old sink.new result }
+        ensures put { WhereNoted S.Store store.old movie.now track planned.now.count self.old
+            (λ file tree t samples. WithKeys movie.now track (λ keys.
+            Carries K.Sink sink.old sink.new self.old.carrier self.new.carrier result
+            (bytes_of_piece file head planned.now keys (take planned.now.count samples)))) }
         ensures many { OnOk result (PiecesFollow (K.contents sink.old) (K.contents sink.new)
             (waiting self.old.carrier) (waiting self.new.carrier) 0 planned.now.count
             planned.now.bytes) }
-        ensures prefix { WhereOpened (S.is_honest store.old) (S.file store.old) movie.now
-            (λ tree. (samples : List SampleAt) → IsNoted (S.file store.old) tree movie.now track
-            planned.now.count samples self.old
-            → (info : TrackInfo) → slice_get movie.now.tracks track ≡ Some info
-            → AreApart (keys_seen info.keys)
-            → OnErr result
-            (AppendsPrefix (K.contents sink.old) (K.contents sink.new) (waiting self.old.carrier
-            ++ bytes_of_piece (S.file store.old) head planned.now (keys_seen info.keys)
-            (take planned.now.count samples)))) }
-        ensures copied { WhereOpened (S.is_honest store.old) (S.file store.old) movie.now
-            (λ tree. (samples : List SampleAt) → (noted : IsNoted (S.file store.old) tree movie.now
-            track planned.now.count samples self.old)
-            → OnOk result (HaveCopied (S.file store.old) tree movie.now noted.t track
-            planned.now.count samples self.old self.new)) }
-        ensures keeps { OnOk result ((self.new.leaving ≡ self.old.leaving)
-            × (self.new.rows ≡ self.old.rows)) }
-        ensures unchanged { WhereOpened (S.is_honest store.old) (S.file store.old) movie.now
-            (λ tree. (samples : List SampleAt) → IsNoted (S.file store.old) tree movie.now track
-            planned.now.count samples self.old
-            → planned.now.count ≤ length samples
-            → planned.now.bytes ≡ sum_of (λ (s : SampleAt). s.size) (take planned.now.count samples)
-            → AllByRecursion (IsBelow (length (S.file store.old))) samples
-            → IfErr result (λ r. r ≡ refusals.StoreChanged → ⊥)) }
-        ensures reads { OnOk result (S.read_failures store.new ≡ S.read_failures store.old) }
-        ensures puts { OnOk result (K.put_failures sink.new ≡ K.put_failures sink.old) }
-        ensures refusal { IfErr result
-            (RefusesCarry (S.read_failures store.old) (S.read_failures store.new)
-            (K.put_failures sink.old) (K.put_failures sink.new)) }
-        ensures work { WhereOpened (S.is_honest store.old) (S.file store.old) movie.now
-            (λ tree. (n : ℕ) → MayAllFinish self.old.leaving (S.file store.old) tree movie.now track
-            planned.now.count self.old.walks.items n
-            → OnOk result (AllWriteOn (S.file store.old) tree movie.now n self.new.walks.items
-            steps.old steps.new)) }
-        ensures most { WhereOpened (S.is_honest store.old) (S.file store.old) movie.now
-            (λ tree. (n : ℕ) → MayAllFinish self.old.leaving (S.file store.old) tree movie.now track
-            planned.now.count self.old.walks.items n
-            → OnErr result (steps.new ≤ steps.old + n)) }
+        ensures copied { WhereNoted S.Store store.old movie.now track planned.now.count self.old
+            (λ file tree t samples. OnOk result
+            (HaveCopied file tree movie.now t track planned.now.count samples self.old self.new)) }
+        ensures unchanged { WhereNoted S.Store store.old movie.now track planned.now.count self.old
+            (λ file tree t samples. AreThere file planned.now.count planned.now.bytes samples
+            → IsUnchanged result) }
+        ensures refusal { RefusedByBoth S.Store store.old store.new K.Sink sink.old sink.new result
+            RefusesCarry }
+        ensures work { StepsToCarry S.Store store.old movie.now track planned.now.count self.old
+            self.new result steps.old steps.new }
     {
         let keys = movie.tracks()[track].keys;
         let sizes = sizes_of(planned, &keys);
@@ -719,67 +344,27 @@ impl Writer {
         sink: &mut K,
         steps: &mut Steps<L>,
     ) -> Result<(), Refusal>
-        requires writer { IsWriterOf movie.now self.old }
-        requires track { track < length movie.now.tracks }
-        requires count { planned.now.count ≤ length self.old.rows.items }
-        requires bytes { planned.now.bytes + 16 < 2 ^ 64 }
-        requires rows { (j : ℕ) → slice_index planned.now.group_rows j ≤ planned.now.count }
+        requires may { MayCarry movie.now self.old track planned.now }
         requires none { head ≡ None → planned.now.count ≡ 0 }
-        requires sizes { planned.now.bytes ≤ planned.now.count * 4294967295 }
-        ensures writer { OnOk result (IsWriterOf movie.now self.new) }
-        ensures held { held self.new ≡ held self.old }
-        ensures honesty { S.is_honest store.new ≡ S.is_honest store.old }
-        ensures file { S.file store.new ≡ S.file store.old }
-        ensures put { WhereOpened (S.is_honest store.old) (S.file store.old) movie.now
-            (λ tree. (samples : List SampleAt) → IsNoted (S.file store.old) tree movie.now track
-            planned.now.count samples self.old
-            → (info : TrackInfo) → slice_get movie.now.tracks track ≡ Some info
-            → AreApart (keys_seen info.keys)
-            → OnOk result
-            (BytesGoOn (K.contents sink.old) (K.contents sink.new) (waiting self.old.carrier)
-            (waiting self.new.carrier)
-            (turn_bytes (S.file store.old) head planned.now (keys_seen info.keys)
-            (take planned.now.count samples)))) }
+        ensures writer { OnlyCarries movie.now self.old self.new result }
+        ensures devices { OnlyCopies S.Store store.old store.new K.Sink sink.old sink.new result }
+        ensures put { WhereNoted S.Store store.old movie.now track planned.now.count self.old
+            (λ file tree t samples. WithKeys movie.now track (λ keys.
+            Carries K.Sink sink.old sink.new self.old.carrier self.new.carrier result
+            (turn_bytes file head planned.now keys (take planned.now.count samples)))) }
         ensures many { OnOk result (PiecesFollow (K.contents sink.old) (K.contents sink.new)
             (waiting self.old.carrier) (waiting self.new.carrier) 0 planned.now.count
             planned.now.bytes) }
-        ensures prefix { WhereOpened (S.is_honest store.old) (S.file store.old) movie.now
-            (λ tree. (samples : List SampleAt) → IsNoted (S.file store.old) tree movie.now track
-            planned.now.count samples self.old
-            → (info : TrackInfo) → slice_get movie.now.tracks track ≡ Some info
-            → AreApart (keys_seen info.keys)
-            → OnErr result
-            (AppendsPrefix (K.contents sink.old) (K.contents sink.new) (waiting self.old.carrier
-            ++ turn_bytes (S.file store.old) head planned.now (keys_seen info.keys)
-            (take planned.now.count samples)))) }
-        ensures copied { WhereOpened (S.is_honest store.old) (S.file store.old) movie.now
-            (λ tree. (samples : List SampleAt) → (noted : IsNoted (S.file store.old) tree movie.now
-            track planned.now.count samples self.old)
-            → OnOk result (HaveCopied (S.file store.old) tree movie.now noted.t track
-            planned.now.count samples self.old self.new)) }
-        ensures keeps { OnOk result ((self.new.leaving ≡ self.old.leaving)
-            × (self.new.rows ≡ self.old.rows)) }
-        ensures unchanged { WhereOpened (S.is_honest store.old) (S.file store.old) movie.now
-            (λ tree. (samples : List SampleAt) → IsNoted (S.file store.old) tree movie.now track
-            planned.now.count samples self.old
-            → planned.now.count ≤ length samples
-            → planned.now.bytes ≡ sum_of (λ (s : SampleAt). s.size) (take planned.now.count samples)
-            → AllByRecursion (IsBelow (length (S.file store.old))) samples
-            → IfErr result (λ r. r ≡ refusals.StoreChanged → ⊥)) }
-        ensures reads { OnOk result (S.read_failures store.new ≡ S.read_failures store.old) }
-        ensures puts { OnOk result (K.put_failures sink.new ≡ K.put_failures sink.old) }
-        ensures refusal { IfErr result
-            (RefusesCarry (S.read_failures store.old) (S.read_failures store.new)
-            (K.put_failures sink.old) (K.put_failures sink.new)) }
-        ensures work { WhereOpened (S.is_honest store.old) (S.file store.old) movie.now
-            (λ tree. (n : ℕ) → MayAllFinish self.old.leaving (S.file store.old) tree movie.now track
-            planned.now.count self.old.walks.items n
-            → OnOk result (AllWriteOn (S.file store.old) tree movie.now n self.new.walks.items
-            steps.old steps.new)) }
-        ensures most { WhereOpened (S.is_honest store.old) (S.file store.old) movie.now
-            (λ tree. (n : ℕ) → MayAllFinish self.old.leaving (S.file store.old) tree movie.now track
-            planned.now.count self.old.walks.items n
-            → OnErr result (steps.new ≤ steps.old + n)) }
+        ensures copied { WhereNoted S.Store store.old movie.now track planned.now.count self.old
+            (λ file tree t samples. OnOk result
+            (HaveCopied file tree movie.now t track planned.now.count samples self.old self.new)) }
+        ensures unchanged { WhereNoted S.Store store.old movie.now track planned.now.count self.old
+            (λ file tree t samples. AreThere file planned.now.count planned.now.bytes samples
+            → IsUnchanged result) }
+        ensures refusal { RefusedByBoth S.Store store.old store.new K.Sink sink.old sink.new result
+            RefusesCarry }
+        ensures work { StepsToCarry S.Store store.old movie.now track planned.now.count self.old
+            self.new result steps.old steps.new }
     {
         if let Some(head) = head {
             self.carry(track, head, planned, movie, store, sink, steps)?;

@@ -1,5 +1,5 @@
 -- A writer of the normal form of a movie.
-use Rattle.std.specs.Prelude.{◌≡◌, ℕ, ◌+◌, ◌-◌, ◌^◌, ◌≤◌, max, min, nat_lt, if◌then◌else◌, List, [], ◌∷◌, ◌++◌, length, take, drop, map, fold, Option, Some, None, slice_get, slice_set, Bool, IsTrue}
+use Rattle.std.specs.Prelude.{◌≡◌, ℕ, ◌+◌, ◌-◌, ◌^◌, ◌≤◌, max, min, nat_lt, if◌then◌else◌, List, [], ◌∷◌, ◌++◌, length, take, drop, map, fold, Option, Some, None, slice_get, slice_set}
 use Rattle.std.specs.List.{AllByRecursion}
 use Rattle.mp4_store.specs.words.Device.{HasRisen}
 use Rattle.mp4_boxes.specs.declared.refusal.Refusal.{Refusal}
@@ -14,7 +14,6 @@ use Rattle.mp4_present.specs.declared.leaving.Leaving.{Leaving}
 use Rattle.mp4_present.specs.format.Denotes.{FileTree, presentation_of}
 use Rattle.mp4_present.specs.words.Joined.{sample_bytes}
 use Rattle.mp4_present.specs.words.Movies.{MovieSeen, IsWalkOf, mark_of}
-use Rattle.mp4_present.specs.words.OpenedMovie.{IsOpenedAs}
 use Rattle.mp4_present.specs.format.Presentation.{Presentation, heads, movie_length}
 use Rattle.mp4_present.specs.declared.walks.Walk.{Walk}
 use Rattle.mp4_tables.specs.declared.sample.SampleAt.{SampleAt}
@@ -71,10 +70,6 @@ sequence_behind sequence None = sequence
 sequence_behind sequence (Some head) = min (sequence + 1) (2 ^ 32 - 1)
 
 -- ---- over an opened file
-
--- over an honest store, of a movie that was opened from its file: this is true of the file's boxes
-abbrev pub WhereOpened : Bool → List ℕ → MovieSeen → (FileTree → Type 0) → Type 0
-WhereOpened honest file m P = IsTrue honest → (tree : FileTree) → IsOpenedAs file m tree → P tree
 
 -- for each track a walk of which these samples come
 abbrev pub AllCome : Leaving → List ℕ → FileTree → MovieSeen → List TrackTree → List Walk

@@ -42,8 +42,8 @@ loop-stretch-preserved g c =
           (search rules) refl refl c.in-Some.ensures.samples.3 ((rw (i.honesty, i.file) at e.bytes) honest);
     }
 
-pub returns-clause-bytes : goal.returns-clause-bytes
-returns-clause-bytes g c = λ honest. carried_as _ _ _ _ _ _ _ _ _ _ (c.loop-stretch.invariant.bytes honest) (c.in_default.ensures.kept refl)
+pub returns-clause-put : goal.returns-clause-put
+returns-clause-put g c = λ honest. carried_as _ _ _ _ _ _ _ _ _ _ (c.loop-stretch.invariant.bytes honest) (c.in_default.ensures.kept refl)
 
 pub returns-clause-many : goal.returns-clause-many
 returns-clause-many g c = (c.loop-stretch.invariant.few, c.loop-stretch.invariant.many)
@@ -51,12 +51,12 @@ returns-clause-many g c = (c.loop-stretch.invariant.few, c.loop-stretch.invarian
 pub returns-clause-ends : goal.returns-clause-ends
 returns-clause-ends g c = λ some. c.in_default.ensures.kept refl ∙ c.in_default.ensures.none refl some
 
-pub returns-in_err-carry_stretch-clause-prefix : goal.returns-in_err-carry_stretch-clause-prefix
-returns-in_err-carry_stretch-clause-prefix g c =
+pub returns-in_err-carry_stretch-clause-put : goal.returns-in_err-carry_stretch-clause-put
+returns-in_err-carry_stretch-clause-put g c honest =
     let p = err_from_is_err_and c.from_residual.result c.from_residual.ensures.1 in
     let i = c.loop-stretch.invariant in
     let x = c.in-Some.stretch in
-    rw p.1 (λ honest. stretch_fails _ _ _ _ _ _ _ _ _ (i.bytes honest) _ x.samples x.at x.len c.in-Some.ensures.stretch c.in-Some.ensures.samples.1 ((rw (i.honesty, i.file) at c.in_err-carry_stretch.ensures.prefix) honest))
+    rw p.1 (stretch_fails _ _ _ _ _ _ _ _ _ (i.bytes honest) _ x.samples x.at x.len c.in-Some.ensures.stretch c.in-Some.ensures.samples.1 ((rw (i.honesty, i.file) at c.in_err-carry_stretch.ensures.prefix) honest))
 
 pub returns-in_err-carry_stretch-clause-unchanged : goal.returns-in_err-carry_stretch-clause-unchanged
 returns-in_err-carry_stretch-clause-unchanged g c honest below fits =
@@ -65,8 +65,8 @@ returns-in_err-carry_stretch-clause-unchanged g c honest below fits =
     let file = g.S.Store.file c.args.store.now in
     rw (p.1, p.2) (stretch_there file c.in-Some.stretch _ _ _ _ c.in_err-carry_stretch.field-0.0 (c.in-Some.ensures.within (length file) (next_below _ _ _ _ _ _ _ _ _ (i.bytes honest) (length file) below)) (rw i.file at c.in_err-carry_stretch.ensures.refusal))
 
-pub returns-then-stretch-left-clause-prefix : goal.returns-then-stretch-left-clause-prefix
-returns-then-stretch-left-clause-prefix g c honest = carried_front _ _ _ _ _ _ _ _ _ (c.loop-stretch.invariant.bytes honest)
+pub returns-then-stretch-left-clause-put : goal.returns-then-stretch-left-clause-put
+returns-then-stretch-left-clause-put g c honest = carried_front _ _ _ _ _ _ _ _ _ (c.loop-stretch.invariant.bytes honest)
 
 pub returns-then-stretch-left-clause-unchanged : goal.returns-then-stretch-left-clause-unchanged
 returns-then-stretch-left-clause-unchanged g c honest below fits e =

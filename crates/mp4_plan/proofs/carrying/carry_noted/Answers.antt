@@ -11,60 +11,61 @@ use Rattle.mp4_plan.proofs.WalksGone.{marked_ahead, marked_has, marked_is, some_
 use Rattle.mp4_plan.proofs.WritingSteps.{again_within, carries_rest, writes_on}
 use Rattle.mp4_plan.proofs.carrying.carry_noted.Goals as goal
 
-pub returns-in_err-carry_marked-clause-prefix : goal.returns-in_err-carry_marked-clause-prefix
-returns-in_err-carry_marked-clause-prefix g c told tree t samples o h tells =
+pub returns-in_err-carry_marked-clause-put : goal.returns-in_err-carry_marked-clause-put
+returns-in_err-carry_marked-clause-put g c told tree t samples o h tells =
     let p = err_from_is_err_and c.from_residual.result c.from_residual.ensures.1 in
-    rw p.1 (c.in_err-carry_marked.ensures.prefix told tree t c.args.leaving samples o h tells)
+    rw p.1 (c.in_err-carry_marked.ensures.put c.args.leaving told tree t samples o h tells)
 
 pub returns-in_err-carry_marked-clause-unchanged : goal.returns-in_err-carry_marked-clause-unchanged
-returns-in_err-carry_marked-clause-unchanged g c told tree t samples o h tells few bytes lie =
+returns-in_err-carry_marked-clause-unchanged g c told tree t samples o h tells there =
     let p = err_from_is_err_and c.from_residual.result c.from_residual.ensures.1 in
-    rw (p.1, p.2) (c.in_err-carry_marked.ensures.unchanged told tree t c.args.leaving samples o h tells few bytes lie)
+    rw (p.1, p.2) (c.in_err-carry_marked.ensures.unchanged c.args.leaving told tree t samples o h tells there)
 
-pub returns-in_err-carry_marked-clause-most : goal.returns-in_err-carry_marked-clause-most
-returns-in_err-carry_marked-clause-most g c told tree t n o h =
+pub returns-in_err-carry_marked-clause-work : goal.returns-in_err-carry_marked-clause-work
+returns-in_err-carry_marked-clause-work g c told tree t n o h =
     let p = err_from_is_err_and c.from_residual.result c.from_residual.ensures.1 in
-    let most = c.in_err-carry_marked.ensures.most told tree t h.marked.begun (length h.marked.samples) h.own o h.marked.back h.began in
+    let most = c.in_err-carry_marked.ensures.work told tree t h.marked.begun (length h.marked.samples) h.own o h.marked.back h.began in
     let within = again_within (g.S.Store.file c.args.store.now) c.args.movie.now tree o t c.args.leaving c.args.load.samples c.args.walk.now n h c.requires in
     rw p.1 (omega (arith, most, within))
 
-pub returns-in_err-next-clause-prefix : goal.returns-in_err-next-clause-prefix
-returns-in_err-next-clause-prefix g c told tree t samples o h tells =
+pub returns-in_err-next-clause-put : goal.returns-in_err-next-clause-put
+returns-in_err-next-clause-put g c told tree t samples o h tells =
     let p = err_from_is_err_and c.from_residual-in_err-next.result c.from_residual-in_err-next.ensures.1 in
     let e = c.in_ok-carry_marked.ensures in
-    rw p.1 (front_put (g.K.Sink.contents c.args.sink.now) (g.K.Sink.contents c.carry_marked.new.sink) (waiting c.args.carrier.now) (waiting c.carry_marked.new.carrier) _ (e.carried told tree t c.args.leaving samples o h tells).0)
+    rw p.1 (front_put (g.K.Sink.contents c.args.sink.now) (g.K.Sink.contents c.carry_marked.new.sink) (waiting c.args.carrier.now) (waiting c.carry_marked.new.carrier) _ (e.put c.args.leaving told tree t samples o h tells))
 
 pub returns-in_err-next-clause-unchanged : goal.returns-in_err-next-clause-unchanged
-returns-in_err-next-clause-unchanged g c told tree t samples o h tells few bytes lie =
+returns-in_err-next-clause-unchanged g c told tree t samples o h tells there =
     let p = err_from_is_err_and c.from_residual-in_err-next.result c.from_residual-in_err-next.ensures.1 in
     let e = c.in_ok-carry_marked.ensures in
-    rw (p.1, p.2) ((rw (e.honesty, e.file) at c.in_err-next.ensures.unchanged) told tree t (drop c.args.load.samples samples) o (e.carried told tree t c.args.leaving samples o h tells).1)
+    rw (p.1, p.2) ((rw (e.devices.honesty, e.devices.file) at c.in_err-next.ensures.unchanged) told tree t (drop c.args.load.samples samples) o (e.comes c.args.leaving told tree t samples o h))
 
-pub returns-in_err-next-clause-most : goal.returns-in_err-next-clause-most
-returns-in_err-next-clause-most g c told tree t n o h =
+pub returns-in_err-next-clause-work : goal.returns-in_err-next-clause-work
+returns-in_err-next-clause-work g c told tree t n o h =
     let p = err_from_is_err_and c.from_residual-in_err-next.result c.from_residual-in_err-next.ensures.1 in
     let e = c.in_ok-carry_marked.ensures in
-    let x = e.work told tree t h.marked.begun (length h.marked.samples) h.own h.now o h.marked.back h.began h.may h.less in
+    let x = e.work told tree t h.marked.begun (length h.marked.samples) h.own o h.marked.back h.began h.now h.may h.less in
     let k = carries_rest (g.S.Store.file c.args.store.now) c.args.movie.now tree o t c.args.leaving c.args.load.samples c.args.walk.now n h c.requires c.carry_marked.new.walk _ _ x in
-    let most = (rw (e.honesty, e.file) at c.in_err-next.ensures.work) told tree t k.0 o k.1 in
+    let most = (rw (e.devices.honesty, e.devices.file) at c.in_err-next.ensures.work) told tree t k.0 o k.1 in
     let within = k.2 in
     rw p.1 (omega (arith, most, within))
 
-pub returns-clause-carried : goal.returns-clause-carried
-returns-clause-carried g c told tree t samples o h tells =
+pub returns-clause-put : goal.returns-clause-put
+returns-clause-put g c told tree t samples o h tells = c.in_ok-carry_marked.ensures.put c.args.leaving told tree t samples o h tells
+
+pub returns-clause-next : goal.returns-clause-next
+returns-clause-next g c told tree t samples o h tells =
     let file = g.S.Store.file c.args.store.now in
     let m = c.args.movie.now in
     let e = c.in_ok-carry_marked.ensures in
     let count = c.args.load.samples in
-    let x = e.carried told tree t c.args.leaving samples o h tells in
-    let r = (rw (e.honesty, e.file) at c.in_ok-next.ensures.coming) told tree t (drop count samples) o x.1 in
+    let r = (rw (e.devices.honesty, e.devices.file) at c.in_ok-next.ensures.coming) told tree t (drop count samples) o (e.comes c.args.leaving told tree t samples o h) in
     let now = c.mark.new.self in
     let to_come = ap (λ (k : Mark). k.to_come) h.back.mark in
     let all = ap (λ (ss : List SampleAt). length ss) h.is_left ∙ less_length c.args.leaving h.samples in
     let first = c.to_come.ensures in
     let less : c.saturating_sub-left.result ≡ c.to_come.result - count = search rules in
     let many : c.saturating_sub-left.result ≡ length (drop count samples) = omega (arith, to_come, all, first, less, length-drop count samples) in (
-      x.0,
       record { samples = r.0.samples; comes = c.mark.ensures.coming file tree t m r.0.samples r.0.comes; is_left = r.0.is_left },
       marked_is c.next_sample.new.walk now c.saturating_sub-left.result c.mark.ensures.mark ∙ ap (mark_of now) many,
       r.1,
@@ -81,10 +82,10 @@ returns-clause-work g c told tree t n o h =
     let e = c.in_ok-carry_marked.ensures in
     let f = c.in_ok-next.ensures in
     let count = c.args.load.samples in
-    let x = e.work told tree t h.marked.begun (length h.marked.samples) h.own h.now o h.marked.back h.began h.may h.less in
-    let comes = e.coming told tree t c.args.leaving h.left o h.marked in
-    let r = (rw (e.honesty, e.file) at f.coming) told tree t (drop count h.left) o comes in
-    let takes = rw (e.honesty, e.file) at f.work in
+    let x = e.work told tree t h.marked.begun (length h.marked.samples) h.own o h.marked.back h.began h.now h.may h.less in
+    let comes = e.comes c.args.leaving told tree t h.left o h.marked in
+    let r = (rw (e.devices.honesty, e.devices.file) at f.coming) told tree t (drop count h.left) o comes in
+    let takes = rw (e.devices.honesty, e.devices.file) at f.work in
     let to_come = ap (λ (k : Mark). k.to_come) h.marked.back.mark in
     let all = ap (λ (ss : List SampleAt). length ss) h.marked.is_left ∙ less_length c.args.leaving h.marked.samples in
     let first = c.to_come.ensures in

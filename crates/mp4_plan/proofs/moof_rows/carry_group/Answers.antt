@@ -7,26 +7,26 @@ use Rattle.std.proofs.lemmas.Result.{err_from_is_err_and}
 use Rattle.mp4_plan.proofs.FrontsPut.{stopped_first, stopped_last}
 use Rattle.mp4_plan.proofs.moof_rows.carry_group.Goals as goal
 
-pub returns-clause-bytes : goal.returns-clause-bytes
+pub returns-clause-put : goal.returns-clause-put
 unfolding group_bytes
-returns-clause-bytes g c =
+returns-clause-put g c =
     let front : List ℕ = c.as_bytes.result.now in
     let rows = group_rows c.args.used.place c.args.rows.now in
     let is = c.as_bytes.ensures ∙ c.group_front-front.ensures ∙ ap (group_front (key_seen c.args.used.key)) c.rows_at.ensures in
-    BytesGoOn-then _ _ _ _ _ _ front rows _ c.in_ok-carry.ensures.bytes c.in_ok-carry_indexes.ensures.bytes (ap (λ (l : List ℕ). l ++ rows) (sym is))
+    BytesGoOn-then _ _ _ _ _ _ front rows _ c.in_ok-carry.ensures.bytes c.in_ok-carry_indexes.ensures.put (ap (λ (l : List ℕ). l ++ rows) (sym is))
 
-pub returns-in_err-carry-clause-prefix : goal.returns-in_err-carry-clause-prefix
+pub returns-in_err-carry-clause-put : goal.returns-in_err-carry-clause-put
 unfolding group_bytes
-returns-in_err-carry-clause-prefix g c =
+returns-in_err-carry-clause-put g c =
     let p = err_from_is_err_and c.from_residual.result c.from_residual.ensures.1 in
     let rows = group_rows c.args.used.place c.args.rows.now in
     let is = c.as_bytes.ensures ∙ c.group_front-front.ensures ∙ ap (group_front (key_seen c.args.used.key)) c.rows_at.ensures in
     rw p.1 (stopped_first _ _ _ c.as_bytes.result.now rows _ c.in_err-carry.ensures.prefix (ap (λ (l : List ℕ). l ++ rows) (sym is)))
 
-pub returns-in_err-carry_indexes-clause-prefix : goal.returns-in_err-carry_indexes-clause-prefix
+pub returns-in_err-carry_indexes-clause-put : goal.returns-in_err-carry_indexes-clause-put
 unfolding group_bytes
-returns-in_err-carry_indexes-clause-prefix g c =
+returns-in_err-carry_indexes-clause-put g c =
     let p = err_from_is_err_and c.from_residual-in_err-carry_indexes.result c.from_residual-in_err-carry_indexes.ensures.1 in
     let rows = group_rows c.args.used.place c.args.rows.now in
     let is = c.as_bytes.ensures ∙ c.group_front-front.ensures ∙ ap (group_front (key_seen c.args.used.key)) c.rows_at.ensures in
-    rw p.1 (stopped_last _ _ _ _ _ c.as_bytes.result.now rows _ c.in_ok-carry.ensures.bytes c.in_err-carry_indexes.ensures.prefix (ap (λ (l : List ℕ). l ++ rows) (sym is)))
+    rw p.1 (stopped_last _ _ _ _ _ c.as_bytes.result.now rows _ c.in_ok-carry.ensures.bytes c.in_err-carry_indexes.ensures.put (ap (λ (l : List ℕ). l ++ rows) (sym is)))

@@ -32,15 +32,15 @@ loop-key-preserved g c =
     let order = in_key_order (used_from rows 0 keys) in
     let key = key_seen c.in-Some.used.key in
     let f = λ (k : GroupKey). group_bytes c.args.rows.now c.args.planned.now (place_at keys k) k in (
-      c.in_ok-carry_group.ensures.room ∙ i.0,
-      c.in_ok-carry_group.ensures.puts ∙ i.1,
+      c.in_ok-carry_group.ensures.sink.buffer ∙ i.0,
+      c.in_ok-carry_group.ensures.sink.puts ∙ i.1,
       λ apart.
           let found = found_first c.loop-key.behind (used_from rows 0 keys) key (used_apart rows 0 keys apart) c.in-Some.ensures.next in
           let next = key_written f order (i.2 apart).0 c.loop-key.behind key (i.2 apart).2 found in
           let place = place_is keys c.in-Some.used.place key apart c.in-Some.ensures.place.1 in
           rw c.rank.ensures (
             (i.2 apart).0 ++ key ∷ [],
-            BytesGoOn-then _ _ _ _ _ _ (flat_map f (i.2 apart).0) (group_bytes c.args.rows.now c.args.planned.now c.in-Some.used.place key) _ (i.2 apart).1 c.in_ok-carry_group.ensures.bytes
+            BytesGoOn-then _ _ _ _ _ _ (flat_map f (i.2 apart).0) (group_bytes c.args.rows.now c.args.planned.now c.in-Some.used.place key) _ (i.2 apart).1 c.in_ok-carry_group.ensures.put
                 (next.0 ∙ ap (λ p. flat_map f (i.2 apart).0 ++ group_bytes c.args.rows.now c.args.planned.now p key) place),
             next.1,
             one_less order c.loop-key.behind key c.loop-key._key (length keys) found (i.2 apart).3,
@@ -52,30 +52,30 @@ loop-key-preserved g c =
             some.0 ++ (c.in-Some.used.place, key) ∷ [],
             omega (arith, own, length-append some.0 ((c.in-Some.used.place, key) ∷ [])),
             omega (arith, own, test, most, length-append some.0 ((c.in-Some.used.place, key) ∷ [])),
-            groups_more c.args.rows.now c.args.planned.now some.0 c.in-Some.used.place key _ _ _ _ _ _ some.3 c.in_ok-carry_group.ensures.bytes,
+            groups_more c.args.rows.now c.args.planned.now some.0 c.in-Some.used.place key _ _ _ _ _ _ some.3 c.in_ok-carry_group.ensures.put,
           ),
     )
 
-pub returns-in_default-clause-bytes : goal.returns-in_default-clause-bytes
-returns-in_default-clause-bytes g c =
+pub returns-in_default-clause-put : goal.returns-in_default-clause-put
+returns-in_default-clause-put g c apart =
     let i = c.loop-key.invariant in
     let keys = keys_seen c.args.keys.now in
     let rows = c.args.planned.now.group_rows in
     let order = in_key_order (used_from rows 0 keys) in
     let f = λ (k : GroupKey). group_bytes c.args.rows.now c.args.planned.now (place_at keys k) k in
-    λ apart. goes_on_as _ _ _ _ _ _ (i.2 apart).1 (keys_written f order (i.2 apart).0 _ (i.2 apart).2 (none_above c.loop-key.behind (used_from rows 0 keys) c.in_default.ensures.next))
+    goes_on_as _ _ _ _ _ _ (i.2 apart).1 (keys_written f order (i.2 apart).0 _ (i.2 apart).2 (none_above c.loop-key.behind (used_from rows 0 keys) c.in_default.ensures.next))
 
-pub returns-clause-bytes : goal.returns-clause-bytes
-returns-clause-bytes g c =
+pub returns-clause-put : goal.returns-clause-put
+returns-clause-put g c apart =
     let i = c.loop-key.invariant in
     let keys = keys_seen c.args.keys.now in
     let rows = c.args.planned.now.group_rows in
     let order = in_key_order (used_from rows 0 keys) in
     let f = λ (k : GroupKey). group_bytes c.args.rows.now c.args.planned.now (place_at keys k) k in
-    λ apart. goes_on_as _ _ _ _ _ _ (i.2 apart).1 (keys_written f order (i.2 apart).0 _ (i.2 apart).2 (none_left order c.loop-key.behind c.loop-key._key (length keys) (search rules) (i.2 apart).3))
+    goes_on_as _ _ _ _ _ _ (i.2 apart).1 (keys_written f order (i.2 apart).0 _ (i.2 apart).2 (none_left order c.loop-key.behind c.loop-key._key (length keys) (search rules) (i.2 apart).3))
 
-pub returns-in_err-carry_group-clause-prefix : goal.returns-in_err-carry_group-clause-prefix
-returns-in_err-carry_group-clause-prefix g c =
+pub returns-in_err-carry_group-clause-put : goal.returns-in_err-carry_group-clause-put
+returns-in_err-carry_group-clause-put g c apart =
     let p = err_from_is_err_and c.from_residual.result c.from_residual.ensures.1 in
     let i = c.loop-key.invariant in
     let keys = keys_seen c.args.keys.now in
@@ -83,13 +83,13 @@ returns-in_err-carry_group-clause-prefix g c =
     let order = in_key_order (used_from rows 0 keys) in
     let key = key_seen c.in-Some.used.key in
     let f = λ (k : GroupKey). group_bytes c.args.rows.now c.args.planned.now (place_at keys k) k in
-    rw p.1 (λ apart.
+    rw p.1 (
     let done = (i.2 apart).0 in
     let later = filter (is_above (Some (key_rank key))) order in
     let found = found_first c.loop-key.behind (used_from rows 0 keys) key (used_apart rows 0 keys apart) c.in-Some.ensures.next in
     let next = key_written f order done c.loop-key.behind key (i.2 apart).2 found in
     let place = place_is keys c.in-Some.used.place key apart c.in-Some.ensures.place.1 in
-    stopped_at _ _ _ _ _ (flat_map f done) (group_bytes c.args.rows.now c.args.planned.now c.in-Some.used.place key) (flat_map f (done ++ key ∷ [])) (flat_map f later) (flat_map f order) (i.2 apart).1 c.in_err-carry_group.ensures.prefix
+    stopped_at _ _ _ _ _ (flat_map f done) (group_bytes c.args.rows.now c.args.planned.now c.in-Some.used.place key) (flat_map f (done ++ key ∷ [])) (flat_map f later) (flat_map f order) (i.2 apart).1 c.in_err-carry_group.ensures.put
     (next.0 ∙ ap (λ q. flat_map f done ++ group_bytes c.args.rows.now c.args.planned.now q key) place) (ap (flat_map f) (sym next.1) ∙ flat_map-append f (done ++ key ∷ []) later))
 
 pub returns-in_default-clause-some : goal.returns-in_default-clause-some

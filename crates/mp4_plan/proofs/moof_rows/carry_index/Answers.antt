@@ -9,11 +9,11 @@ use Rattle.std.specs.Prelude.{flat_map}
 use Rattle.mp4_plan.proofs.FrontsPut.{stopped_first}
 use Rattle.mp4_plan.proofs.moof_rows.carry_index.Goals as goal
 
-pub returns-clause-bytes : goal.returns-clause-bytes
-returns-clause-bytes g c = λ values. (runs_left c.args.run.count c.args.run.index [], c.in_ok-carry_index_run.ensures.bytes, left_new c.args.run.count c.args.run.index c.args.index values (λ lt. search rules))
+pub returns-clause-put : goal.returns-clause-put
+returns-clause-put g c values = (runs_left c.args.run.count c.args.run.index [], c.in_ok-carry_index_run.ensures.put, left_new c.args.run.count c.args.run.index c.args.index values (λ lt. search rules))
 
-pub returns-in_err-carry_index_run-clause-prefix : goal.returns-in_err-carry_index_run-clause-prefix
-returns-in_err-carry_index_run-clause-prefix g c =
+pub returns-in_err-carry_index_run-clause-put : goal.returns-in_err-carry_index_run-clause-put
+returns-in_err-carry_index_run-clause-put g c values =
     let p = err_from_is_err_and c.from_residual.result c.from_residual.ensures.1 in
     let run = c.args.run in
-    rw p.1 (λ values. stopped_first _ _ _ _ _ _ c.in_err-carry_index_run.ensures.prefix (ap (flat_map group_row) (left_new run.count run.index c.args.index values (λ lt. search rules)) ∙ flat_map-append group_row (runs_left run.count run.index []) (runs_left 1 c.args.index values)))
+    rw p.1 (stopped_first _ _ _ _ _ _ c.in_err-carry_index_run.ensures.put (ap (flat_map group_row) (left_new run.count run.index c.args.index values (λ lt. search rules)) ∙ flat_map-append group_row (runs_left run.count run.index []) (runs_left 1 c.args.index values)))

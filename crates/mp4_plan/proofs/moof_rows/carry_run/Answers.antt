@@ -18,8 +18,8 @@ loop-done-preserved g c =
       within = search rules;
     }
 
-pub returns-in_err-carry-clause-prefix : goal.returns-in_err-carry-clause-prefix
-returns-in_err-carry-clause-prefix g c =
+pub returns-in_err-carry-clause-put : goal.returns-in_err-carry-clause-put
+returns-in_err-carry-clause-put g c =
     let p = err_from_is_err_and c.from_residual.result c.from_residual.ensures.1 in
     let i = c.loop-done.invariant in
     let row = run_row c.args.planned.now in

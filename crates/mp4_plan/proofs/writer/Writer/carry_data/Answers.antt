@@ -7,35 +7,35 @@ use Rattle.mp4_plan.proofs.CarriedParts.{read_at}
 use Rattle.mp4_plan.proofs.WritingSteps.{all_carried, all_carried_most}
 use Rattle.mp4_plan.proofs.writer.Writer.carry_data.Goals as goal
 
-pub returns-in_err-self-clause-prefix : goal.returns-in_err-self-clause-prefix
-returns-in_err-self-clause-prefix g c told tree o samples noted =
+pub returns-in_err-self-clause-put : goal.returns-in_err-self-clause-put
+returns-in_err-self-clause-put g c told tree o samples noted =
     let e = err_from_is_err_and c.from_residual.result c.from_residual.ensures.1 in
     let file = g.S.Store.file c.args.store.now in
     let m = c.args.movie.now in
     let w = c.args.self.now in
     let same = read_at w.walks.items c.args.track noted.walk c.index_mut.result.now noted.is_walk c.index_mut.ensures.value in
     let comes = subst (λ (v : Walk). ComesMarked w.leaving file tree noted.t m v c.args.planned.now.count samples) (sym same) noted.comes in
-    rw e.1 (c.in_err-self.ensures.prefix told tree noted.t samples o comes noted.stretches)
+    rw e.1 (c.in_err-self.ensures.put told tree noted.t samples o comes noted.stretches)
 
 pub returns-in_err-self-clause-unchanged : goal.returns-in_err-self-clause-unchanged
-returns-in_err-self-clause-unchanged g c told tree o samples noted few bytes lie =
+returns-in_err-self-clause-unchanged g c told tree o samples noted there =
     let e = err_from_is_err_and c.from_residual.result c.from_residual.ensures.1 in
     let file = g.S.Store.file c.args.store.now in
     let m = c.args.movie.now in
     let w = c.args.self.now in
     let same = read_at w.walks.items c.args.track noted.walk c.index_mut.result.now noted.is_walk c.index_mut.ensures.value in
     let comes = subst (λ (v : Walk). ComesMarked w.leaving file tree noted.t m v c.args.planned.now.count samples) (sym same) noted.comes in
-    rw (e.1, e.2) (c.in_err-self.ensures.unchanged told tree noted.t samples o comes noted.stretches few bytes lie)
+    rw (e.1, e.2) (c.in_err-self.ensures.unchanged told tree noted.t samples o comes noted.stretches there)
 
-pub returns-in_err-self-clause-most : goal.returns-in_err-self-clause-most
-returns-in_err-self-clause-most g c told tree o n h =
+pub returns-in_err-self-clause-work : goal.returns-in_err-self-clause-work
+returns-in_err-self-clause-work g c told tree o n h =
     let e = err_from_is_err_and c.from_residual.result c.from_residual.ensures.1 in
     let file = g.S.Store.file c.args.store.now in
     let m = c.args.movie.now in
     let w = c.args.self.now in
     let count = c.args.planned.now.count in
     let same = read_at w.walks.items c.args.track h.walk c.index_mut.result.now h.is_walk c.index_mut.ensures.value in
-    rw e.1 (all_carried_most w.leaving file m tree o w.walks.items c.args.track count n h _ _ (λ t own may. c.in_err-self.ensures.most told tree t own o (subst (λ (v : Walk). MayFinish w.leaving file tree m count t v own) (sym same) may)))
+    rw e.1 (all_carried_most w.leaving file m tree o w.walks.items c.args.track count n h _ _ (λ t own may. c.in_err-self.ensures.work told tree t own o (subst (λ (v : Walk). MayFinish w.leaving file tree m count t v own) (sym same) may)))
 
 pub returns-clause-put : goal.returns-clause-put
 returns-clause-put g c told tree o samples noted =
@@ -44,7 +44,7 @@ returns-clause-put g c told tree o samples noted =
     let w = c.args.self.now in
     let same = read_at w.walks.items c.args.track noted.walk c.index_mut.result.now noted.is_walk c.index_mut.ensures.value in
     let comes = subst (λ (v : Walk). ComesMarked w.leaving file tree noted.t m v c.args.planned.now.count samples) (sym same) noted.comes in
-    (c.in_ok-self.ensures.carried told tree noted.t samples o comes noted.stretches).0
+    c.in_ok-self.ensures.put told tree noted.t samples o comes noted.stretches
 
 pub returns-clause-copied : goal.returns-clause-copied
 returns-clause-copied g c told tree o samples noted =
@@ -53,8 +53,8 @@ returns-clause-copied g c told tree o samples noted =
     let w = c.args.self.now in
     let same = read_at w.walks.items c.args.track noted.walk c.index_mut.result.now noted.is_walk c.index_mut.ensures.value in
     let comes = subst (λ (v : Walk). ComesMarked w.leaving file tree noted.t m v c.args.planned.now.count samples) (sym same) noted.comes in
-    let x = c.in_ok-self.ensures.carried told tree noted.t samples o comes noted.stretches in
-    (c.carry_noted.new.walk, refl, ap (slice_set w.nexts.items c.args.track) x.3, x.1, x.2)
+    let x = c.in_ok-self.ensures.next told tree noted.t samples o comes noted.stretches in
+    (c.carry_noted.new.walk, refl, ap (slice_set w.nexts.items c.args.track) x.2, x.0, x.1)
 
 pub returns-clause-work : goal.returns-clause-work
 returns-clause-work g c told tree o n h =

@@ -9,15 +9,15 @@ use Rattle.mp4_plan.proofs.ComeAt.{set_same}
 use Rattle.mp4_plan.proofs.WritingSteps.{none_carried}
 use Rattle.mp4_plan.proofs.writer.Writer.carry_turn.Goals as goal
 
-pub returns-in_err-carry-clause-prefix : goal.returns-in_err-carry-clause-prefix
-returns-in_err-carry-clause-prefix g c told tree o samples noted info is apart =
+pub returns-in_err-carry-clause-put : goal.returns-in_err-carry-clause-put
+returns-in_err-carry-clause-put g c told tree o samples noted info is apart =
     let e = err_from_is_err_and c.from_residual.result c.from_residual.ensures.1 in
-    rw (e.1, c.in-Some.is) (c.in_err-carry.ensures.prefix told tree o samples noted info is apart)
+    rw (e.1, c.in-Some.is) (c.in_err-carry.ensures.put told tree o samples noted info is apart)
 
 pub returns-in_err-carry-clause-unchanged : goal.returns-in_err-carry-clause-unchanged
-returns-in_err-carry-clause-unchanged g c told tree o samples noted few bytes lie =
+returns-in_err-carry-clause-unchanged g c told tree o samples noted there =
     let e = err_from_is_err_and c.from_residual.result c.from_residual.ensures.1 in
-    rw (e.1, e.2) (c.in_err-carry.ensures.unchanged told tree o samples noted few bytes lie)
+    rw (e.1, e.2) (c.in_err-carry.ensures.unchanged told tree o samples noted there)
 
 pub returns-in_ok-carry-clause-put : goal.returns-in_ok-carry-clause-put
 returns-in_ok-carry-clause-put g c told tree o samples noted info is apart = rw c.in-Some.is (c.in_ok-carry.ensures.put told tree o samples noted info is apart)
@@ -40,10 +40,10 @@ returns-in_default-clause-copied g c told tree o samples noted =
       noted.none none ∙ ap (λ (ss : List SampleAt). mark_of noted.walk (length ss)) (sym all),
     )
 
-pub returns-in_err-carry-clause-most : goal.returns-in_err-carry-clause-most
-returns-in_err-carry-clause-most g c told tree o n h =
+pub returns-in_err-carry-clause-work : goal.returns-in_err-carry-clause-work
+returns-in_err-carry-clause-work g c told tree o n h =
     let e = err_from_is_err_and c.from_residual.result c.from_residual.ensures.1 in
-    rw e.1 (c.in_err-carry.ensures.most told tree o n h)
+    rw e.1 (c.in_err-carry.ensures.work told tree o n h)
 
 pub returns-in_ok-carry-clause-work : goal.returns-in_ok-carry-clause-work
 returns-in_ok-carry-clause-work g c told tree o n h = c.in_ok-carry.ensures.work told tree o n h
@@ -52,4 +52,4 @@ pub returns-in_default-clause-work : goal.returns-in_default-clause-work
 returns-in_default-clause-work g c told tree o n h =
     let w = c.args.self.now in
     let m = c.args.movie.now in
-    none_carried w.leaving (g.S.Store.file c.args.store.now) m tree o w.walks.items c.args.track c.args.planned.now.count n h _ (of_got (IsWalkOf m) w.walks.items c.args.track h.walk h.is_walk c.requires.writer.walks.each) (c.requires.none c.in_default.is)
+    none_carried w.leaving (g.S.Store.file c.args.store.now) m tree o w.walks.items c.args.track c.args.planned.now.count n h _ (of_got (IsWalkOf m) w.walks.items c.args.track h.walk h.is_walk c.requires.may.writer.walks.each) (c.requires.none c.in_default.is)

@@ -107,8 +107,8 @@ returns-clause-work g c told tree o n h =
     let there = slice_get_read walks (length walks) k c.index_mut-walk.result.now refl (omega (arith, lt, many)) c.index_mut-walk.ensures.value in
     all_noted w.leaving file m tree o walks k c.in_ok-planned.planned.count c.index_mut-walk.result.now n h there c.note_marked.new.walk _ _ (λ t own may. c.in_ok-planned.ensures.work told tree t own o may)
 
-pub returns-in_err-planned-clause-most : goal.returns-in_err-planned-clause-most
-returns-in_err-planned-clause-most g c told tree o n h =
+pub returns-in_err-planned-clause-work : goal.returns-in_err-planned-clause-work
+returns-in_err-planned-clause-work g c told tree o n h =
     let e = err_from_is_err_and c.from_residual.result c.from_residual.ensures.1 in
     let file = g.S.Store.file c.args.store.now in
     let m = c.args.movie.now in

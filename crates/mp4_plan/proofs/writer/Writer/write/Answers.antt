@@ -128,13 +128,13 @@ returns-in_err-carry_turn-clause-prefix g c told tree o ready =
     let here = c.in-Some.ensures.track in
     let ends : (info : TrackInfo) → slice_get m.tracks s.track ≡ Some info → c.in-Some.turn.end ≡ turn_end s info.timescale = λ info is. c.in-Some.ensures.end info (rw c.tracks-tracks.ensures is) in
     let noted = (rw (i.honesty, i.file) at c.in_ok-noted.ensures.noted) told tree o in
-    let few : IsFew c.in_ok-noted.noted.planned = record { count = no_more _ _ _ c.in_ok-noted.ensures.few.0 i.writer.few; rows = c.in_ok-noted.ensures.few.2 } in
+    let few : IsFew c.in_ok-noted.noted.planned = record { count = no_more _ _ _ c.in_ok-noted.ensures.planned.bounds.few i.writer.few; rows = c.in_ok-noted.ensures.planned.bounds.rows } in
     let is_id : (info : TrackInfo) → slice_get m.tracks s.track ≡ Some info
     → (get_or c.tracks-tracks.result.now c.in-Some.turn.track c.index-tracks-track.result).id
     ≡ info.id = λ info is. ap (λ (x : TrackInfo). x.id) (sym c.index-tracks-track.is ∙ read_at m.tracks s.track info c.index-tracks-track.result is (rw (here.0, c.tracks-tracks.ensures) at c.index-tracks-track.is)) in
     rw e.1 (carry_stops c.args.self.now.leaving file tree m o s c.loop-turn.sequence c.loop-turn.bytes w before after h c.in-Some.turn here ends i.tracks i.writer i.leaving c.note_turn.new.self c.in_ok-noted.noted
-    (get_or c.tracks-tracks.result.now c.in-Some.turn.track c.index-tracks-track.result).id noted c.in_ok-noted.ensures.keeps few is_id
-    (g.K.Sink.contents c.carry_turn.new.sink) ((rw (c.in_ok-noted.ensures.honesty, c.in_ok-noted.ensures.file, i.honesty, i.file) at c.in_err-carry_turn.ensures.prefix) told tree o))
+    (get_or c.tracks-tracks.result.now c.in-Some.turn.track c.index-tracks-track.result).id noted c.in_ok-noted.ensures.writer.keeps few is_id
+    (g.K.Sink.contents c.carry_turn.new.sink) ((rw (c.in_ok-noted.ensures.store.honesty, c.in_ok-noted.ensures.store.file, i.honesty, i.file) at c.in_err-carry_turn.ensures.put) told tree o))
 
 pub returns-in_err-carry_turn-clause-unchanged : goal.returns-in_err-carry_turn-clause-unchanged
 returns-in_err-carry_turn-clause-unchanged g c told tree o ready =
@@ -150,14 +150,14 @@ returns-in_err-carry_turn-clause-unchanged g c told tree o ready =
     let here = c.in-Some.ensures.track in
     let ends : (info : TrackInfo) → slice_get m.tracks s.track ≡ Some info → c.in-Some.turn.end ≡ turn_end s info.timescale = λ info is. c.in-Some.ensures.end info (rw c.tracks-tracks.ensures is) in
     let noted = (rw (i.honesty, i.file) at c.in_ok-noted.ensures.noted) told tree o in
-    let few : IsFew c.in_ok-noted.noted.planned = record { count = no_more _ _ _ c.in_ok-noted.ensures.few.0 i.writer.few; rows = c.in_ok-noted.ensures.few.2 } in
+    let few : IsFew c.in_ok-noted.noted.planned = record { count = no_more _ _ _ c.in_ok-noted.ensures.planned.bounds.few i.writer.few; rows = c.in_ok-noted.ensures.planned.bounds.rows } in
     let is_id : (info : TrackInfo) → slice_get m.tracks s.track ≡ Some info
     → (get_or c.tracks-tracks.result.now c.in-Some.turn.track c.index-tracks-track.result).id
     ≡ info.id = λ info is. ap (λ (x : TrackInfo). x.id) (sym c.index-tracks-track.is ∙ read_at m.tracks s.track info c.index-tracks-track.result is (rw (here.0, c.tracks-tracks.ensures) at c.index-tracks-track.is)) in
     rw (e.1, e.2)
     (carry_lacks c.args.self.now.leaving file tree m o s c.loop-turn.sequence c.loop-turn.bytes w before after h c.in-Some.turn here ends i.tracks i.writer i.leaving c.note_turn.new.self c.in_ok-noted.noted
-    (get_or c.tracks-tracks.result.now c.in-Some.turn.track c.index-tracks-track.result).id noted c.in_ok-noted.ensures.keeps few is_id _
-    ((rw (c.in_ok-noted.ensures.honesty, c.in_ok-noted.ensures.file, i.honesty, i.file) at c.in_err-carry_turn.ensures.unchanged) told tree o))
+    (get_or c.tracks-tracks.result.now c.in-Some.turn.track c.index-tracks-track.result).id noted c.in_ok-noted.ensures.writer.keeps few is_id _
+    ((rw (c.in_ok-noted.ensures.store.honesty, c.in_ok-noted.ensures.store.file, i.honesty, i.file) at c.in_err-carry_turn.ensures.unchanged) told tree o))
 
 pub returns-in_err-pass-clause-prefix : goal.returns-in_err-pass-clause-prefix
 returns-in_err-pass-clause-prefix g c told tree o ready =
@@ -173,15 +173,15 @@ returns-in_err-pass-clause-prefix g c told tree o ready =
     let here = c.in-Some.ensures.track in
     let ends : (info : TrackInfo) → slice_get m.tracks s.track ≡ Some info → c.in-Some.turn.end ≡ turn_end s info.timescale = λ info is. c.in-Some.ensures.end info (rw c.tracks-tracks.ensures is) in
     let noted = (rw (i.honesty, i.file) at c.in_ok-noted.ensures.noted) told tree o in
-    let few : IsFew c.in_ok-noted.noted.planned = record { count = no_more _ _ _ c.in_ok-noted.ensures.few.0 i.writer.few; rows = c.in_ok-noted.ensures.few.2 } in
+    let few : IsFew c.in_ok-noted.noted.planned = record { count = no_more _ _ _ c.in_ok-noted.ensures.planned.bounds.few i.writer.few; rows = c.in_ok-noted.ensures.planned.bounds.rows } in
     let is_id : (info : TrackInfo) → slice_get m.tracks s.track ≡ Some info
     → (get_or c.tracks-tracks.result.now c.in-Some.turn.track c.index-tracks-track.result).id
     ≡ info.id = λ info is. ap (λ (x : TrackInfo). x.id) (sym c.index-tracks-track.is ∙ read_at m.tracks s.track info c.index-tracks-track.result is (rw (here.0, c.tracks-tracks.ensures) at c.index-tracks-track.is)) in
-    let put = (rw (c.in_ok-noted.ensures.honesty, c.in_ok-noted.ensures.file, i.honesty, i.file) at c.in_ok-carry_turn.ensures.put) told tree o in
-    let copied = (rw (c.in_ok-noted.ensures.honesty, c.in_ok-noted.ensures.file, i.honesty, i.file) at c.in_ok-carry_turn.ensures.copied) told tree o in
+    let put = (rw (c.in_ok-noted.ensures.store.honesty, c.in_ok-noted.ensures.store.file, i.honesty, i.file) at c.in_ok-carry_turn.ensures.put) told tree o in
+    let copied = (rw (c.in_ok-noted.ensures.store.honesty, c.in_ok-noted.ensures.store.file, i.honesty, i.file) at c.in_ok-carry_turn.ensures.copied) told tree o in
     let on = turn_goes c.args.self.now.leaving file tree m o s c.loop-turn.sequence c.loop-turn.bytes w before after h c.in-Some.turn here ends i.tracks i.writer i.leaving c.note_turn.new.self c.in_ok-noted.noted
-    (get_or c.tracks-tracks.result.now c.in-Some.turn.track c.index-tracks-track.result).id noted c.in_ok-noted.ensures.keeps few is_id c.carry_turn.new.self _ copied
-    (λ x is. read_at c.carry_turn.new.self.nexts.items c.in-Some.turn.track x _ is c.index.ensures) (g.K.Sink.contents c.carry_turn.new.sink) _ put c.in_ok-carry_turn.ensures.keeps refl in
+    (get_or c.tracks-tracks.result.now c.in-Some.turn.track c.index-tracks-track.result).id noted c.in_ok-noted.ensures.writer.keeps few is_id c.carry_turn.new.self _ copied
+    (λ x is. read_at c.carry_turn.new.self.nexts.items c.in-Some.turn.track x _ is c.index.ensures) (g.K.Sink.contents c.carry_turn.new.sink) _ put c.in_ok-carry_turn.ensures.writer.keeps refl in
     rw e.1 (stopped c.args.self.now.leaving file tree m _ _ _ _ _ _ _ _ _ on)
 
 pub returns-in_err-pass-clause-unchanged : goal.returns-in_err-pass-clause-unchanged
@@ -198,35 +198,36 @@ returns-in_err-pass-clause-unchanged g c told tree o ready =
     let here = c.in-Some.ensures.track in
     let ends : (info : TrackInfo) → slice_get m.tracks s.track ≡ Some info → c.in-Some.turn.end ≡ turn_end s info.timescale = λ info is. c.in-Some.ensures.end info (rw c.tracks-tracks.ensures is) in
     let noted = (rw (i.honesty, i.file) at c.in_ok-noted.ensures.noted) told tree o in
-    let few : IsFew c.in_ok-noted.noted.planned = record { count = no_more _ _ _ c.in_ok-noted.ensures.few.0 i.writer.few; rows = c.in_ok-noted.ensures.few.2 } in
+    let few : IsFew c.in_ok-noted.noted.planned = record { count = no_more _ _ _ c.in_ok-noted.ensures.planned.bounds.few i.writer.few; rows = c.in_ok-noted.ensures.planned.bounds.rows } in
     let is_id : (info : TrackInfo) → slice_get m.tracks s.track ≡ Some info
     → (get_or c.tracks-tracks.result.now c.in-Some.turn.track c.index-tracks-track.result).id
     ≡ info.id = λ info is. ap (λ (x : TrackInfo). x.id) (sym c.index-tracks-track.is ∙ read_at m.tracks s.track info c.index-tracks-track.result is (rw (here.0, c.tracks-tracks.ensures) at c.index-tracks-track.is)) in
-    let copied = (rw (c.in_ok-noted.ensures.honesty, c.in_ok-noted.ensures.file, i.honesty, i.file) at c.in_ok-carry_turn.ensures.copied) told tree o in
+    let copied = (rw (c.in_ok-noted.ensures.store.honesty, c.in_ok-noted.ensures.store.file, i.honesty, i.file) at c.in_ok-carry_turn.ensures.copied) told tree o in
     rw (e.1, e.2)
     (λ r. pass_lacks c.args.self.now.leaving file tree m o s c.loop-turn.sequence c.loop-turn.bytes w before after h c.in-Some.turn here ends i.tracks i.writer i.leaving c.note_turn.new.self c.in_ok-noted.noted
-    (get_or c.tracks-tracks.result.now c.in-Some.turn.track c.index-tracks-track.result).id noted c.in_ok-noted.ensures.keeps few is_id c.carry_turn.new.self _ copied (λ x is. read_at c.carry_turn.new.self.nexts.items c.in-Some.turn.track x _ is c.index.ensures) c.in_err-pass.ensures.refusal.1)
+    (get_or c.tracks-tracks.result.now c.in-Some.turn.track c.index-tracks-track.result).id noted c.in_ok-noted.ensures.writer.keeps few is_id c.carry_turn.new.self _ copied (λ x is. read_at c.carry_turn.new.self.nexts.items c.in-Some.turn.track x _ is c.index.ensures)
+    c.in_err-pass.ensures.refusal.1)
 
 pub loop-turn-preserved : goal.loop-turn-preserved
 loop-turn-preserved g c =
     let i = c.loop-turn.invariant in
     record {
-      writer = c.in_ok-carry_turn.ensures.writer;
-      held = c.in_ok-carry_turn.ensures.held ∙ c.in_ok-noted.ensures.held ∙ i.held;
+      writer = c.in_ok-carry_turn.ensures.writer.writer;
+      held = c.in_ok-carry_turn.ensures.writer.held ∙ c.in_ok-noted.ensures.writer.held ∙ i.held;
       tracks = c.in_ok-pass.ensures.tracks ∙ i.tracks;
-      honesty = c.in_ok-carry_turn.ensures.honesty ∙ c.in_ok-noted.ensures.honesty ∙ i.honesty;
-      file = c.in_ok-carry_turn.ensures.file ∙ c.in_ok-noted.ensures.file ∙ i.file;
-      reads = c.in_ok-carry_turn.ensures.reads ∙ c.in_ok-noted.ensures.reads ∙ i.reads;
-      puts = c.in_ok-carry_turn.ensures.puts ∙ i.puts;
-      leaving = c.in_ok-carry_turn.ensures.keeps.0 ∙ c.in_ok-noted.ensures.keeps.0 ∙ i.leaving;
-      rows = ap (λ v. length v.items) c.in_ok-carry_turn.ensures.keeps.1 ∙ c.in_ok-noted.ensures.keeps.2 ∙ i.rows;
+      honesty = c.in_ok-carry_turn.ensures.devices.honesty ∙ c.in_ok-noted.ensures.store.honesty ∙ i.honesty;
+      file = c.in_ok-carry_turn.ensures.devices.file ∙ c.in_ok-noted.ensures.store.file ∙ i.file;
+      reads = c.in_ok-carry_turn.ensures.devices.reads ∙ c.in_ok-noted.ensures.store.reads ∙ i.reads;
+      puts = c.in_ok-carry_turn.ensures.devices.puts ∙ i.puts;
+      leaving = c.in_ok-carry_turn.ensures.writer.keeps.0 ∙ c.in_ok-noted.ensures.writer.keeps.0 ∙ i.leaving;
+      rows = ap (λ v. length v.items) c.in_ok-carry_turn.ensures.writer.keeps.1 ∙ c.in_ok-noted.ensures.writer.keeps.2 ∙ i.rows;
       few = (let left = ap (λ (x : Schedule). x.left) c.in_ok-pass.ensures.turned ∙ turned_left c.loop-turn.schedule c.in-Some.turn.end c.in_ok-noted.noted.planned.count c.index.result.now in
-          rw c.from-bytes.ensures (still_fits c.loop-turn.bytes c.loop-turn.schedule.left c.in_ok-noted.noted.planned.bytes c.in_ok-noted.noted.planned.count c.pass.new.self.left _ i.few c.in_ok-noted.ensures.sizes c.in_ok-pass.ensures.enough left));
+          rw c.from-bytes.ensures (still_fits c.loop-turn.bytes c.loop-turn.schedule.left c.in_ok-noted.noted.planned.bytes c.in_ok-noted.noted.planned.count c.pass.new.self.left _ i.few c.in_ok-noted.ensures.planned.bounds.bytes c.in_ok-pass.ensures.enough left));
       sent =
           let count = c.in_ok-noted.noted.planned.count in
           let bytes = c.in_ok-noted.noted.planned.bytes in
           let left = ap (λ (x : Schedule). x.left) c.in_ok-pass.ensures.turned ∙ turned_left c.loop-turn.schedule c.in-Some.turn.end c.in_ok-noted.noted.planned.count c.index.result.now in
-          let more = subst (λ (k : Carrier). PiecesFollow (g.K.Sink.contents c.loop-turn.sink) (g.K.Sink.contents c.carry_turn.new.sink) (waiting k) (waiting c.carry_turn.new.self.carrier) 0 count bytes) c.in_ok-noted.ensures.keeps.1 c.in_ok-carry_turn.ensures.many in
+          let more = subst (λ (k : Carrier). PiecesFollow (g.K.Sink.contents c.loop-turn.sink) (g.K.Sink.contents c.carry_turn.new.sink) (waiting k) (waiting c.carry_turn.new.self.carrier) 0 count bytes) c.in_ok-noted.ensures.writer.keeps.1 c.in_ok-carry_turn.ensures.many in
           rw c.from-bytes.ensures (
             i.sent.0 + count,
             fewer_to_come i.sent.0 c.loop-turn.schedule.left count c.pass.new.self.left _ i.sent.1 c.in_ok-pass.ensures.enough left,
@@ -244,22 +245,22 @@ loop-turn-preserved g c =
           let here = c.in-Some.ensures.track in
           let ends : (info : TrackInfo) → slice_get m.tracks s.track ≡ Some info → c.in-Some.turn.end ≡ turn_end s info.timescale = λ info is. c.in-Some.ensures.end info (rw c.tracks-tracks.ensures is) in
           let noted = (rw (i.honesty, i.file) at c.in_ok-noted.ensures.noted) told tree o in
-          let few : IsFew c.in_ok-noted.noted.planned = record { count = no_more _ _ _ c.in_ok-noted.ensures.few.0 i.writer.few; rows = c.in_ok-noted.ensures.few.2 } in
+          let few : IsFew c.in_ok-noted.noted.planned = record { count = no_more _ _ _ c.in_ok-noted.ensures.planned.bounds.few i.writer.few; rows = c.in_ok-noted.ensures.planned.bounds.rows } in
           let is_id : (info : TrackInfo) → slice_get m.tracks s.track ≡ Some info
           → (get_or c.tracks-tracks.result.now c.in-Some.turn.track c.index-tracks-track.result).id
           ≡ info.id = λ info is. ap (λ (x : TrackInfo). x.id) (sym c.index-tracks-track.is ∙ read_at m.tracks s.track info c.index-tracks-track.result is (rw (here.0, c.tracks-tracks.ensures) at c.index-tracks-track.is)) in
-          let put = (rw (c.in_ok-noted.ensures.honesty, c.in_ok-noted.ensures.file, i.honesty, i.file) at c.in_ok-carry_turn.ensures.put) told tree o in
-          let copied = (rw (c.in_ok-noted.ensures.honesty, c.in_ok-noted.ensures.file, i.honesty, i.file) at c.in_ok-carry_turn.ensures.copied) told tree o in
+          let put = (rw (c.in_ok-noted.ensures.store.honesty, c.in_ok-noted.ensures.store.file, i.honesty, i.file) at c.in_ok-carry_turn.ensures.put) told tree o in
+          let copied = (rw (c.in_ok-noted.ensures.store.honesty, c.in_ok-noted.ensures.store.file, i.honesty, i.file) at c.in_ok-carry_turn.ensures.copied) told tree o in
           rw (c.sequence_behind-sequence.ensures, c.from-bytes.ensures)
           (turn_goes c.args.self.now.leaving file tree m o s c.loop-turn.sequence c.loop-turn.bytes w before after h c.in-Some.turn here ends i.tracks i.writer i.leaving c.note_turn.new.self c.in_ok-noted.noted
-          (get_or c.tracks-tracks.result.now c.in-Some.turn.track c.index-tracks-track.result).id noted c.in_ok-noted.ensures.keeps few is_id c.carry_turn.new.self _ copied
-          (λ x is. read_at c.carry_turn.new.self.nexts.items c.in-Some.turn.track x _ is c.index.ensures) (g.K.Sink.contents c.carry_turn.new.sink) c.pass.new.self put c.in_ok-carry_turn.ensures.keeps c.in_ok-pass.ensures.turned);
+          (get_or c.tracks-tracks.result.now c.in-Some.turn.track c.index-tracks-track.result).id noted c.in_ok-noted.ensures.writer.keeps few is_id c.carry_turn.new.self _ copied
+          (λ x is. read_at c.carry_turn.new.self.nexts.items c.in-Some.turn.track x _ is c.index.ensures) (g.K.Sink.contents c.carry_turn.new.sink) c.pass.new.self put c.in_ok-carry_turn.ensures.writer.keeps c.in_ok-pass.ensures.turned);
       within = λ told tree o n may.
           let w = c.loop-turn.self in
-          let keep = c.in_ok-noted.ensures.keeps.0 in
+          let keep = c.in_ok-noted.ensures.writer.keeps.0 in
           turn_then (g.S.Store.file c.args.store.now) tree c.args.movie.now w.leaving w.walks.items c.note_turn.new.self.walks.items c.in-Some.turn.track c.in_ok-noted.noted.planned.count n _ _ _ (i.within told tree o n may)
           ((rw (i.honesty, i.file) at c.in_ok-noted.ensures.work) told tree o) c.carry_turn.new.self.walks.items _
-          (rw keep at ((rw (c.in_ok-noted.ensures.honesty, c.in_ok-noted.ensures.file, i.honesty, i.file) at c.in_ok-carry_turn.ensures.work) told tree o));
+          (rw keep at ((rw (c.in_ok-noted.ensures.store.honesty, c.in_ok-noted.ensures.store.file, i.honesty, i.file) at c.in_ok-carry_turn.ensures.work) told tree o));
       looks = looks_on c.loop-turn.schedule c.pass.new.self c.args.looks.now _ _ (movie_turns c.args.movie.now) i.looks c.in-Some.ensures.looks c.in_ok-pass.ensures.less;
     }
 
@@ -299,34 +300,34 @@ returns-in_err-peek_each-clause-work g c told tree o n may = c.in_err-peek_each.
 pub returns-in_err-noted-clause-work : goal.returns-in_err-noted-clause-work
 returns-in_err-noted-clause-work g c told tree o n may =
     let i = c.loop-turn.invariant in
-    write_then_stop (g.S.Store.file c.args.store.now) tree c.args.movie.now c.loop-turn.self.walks.items n _ _ _ (i.within told tree o n may) ((rw (i.honesty, i.file) at c.in_err-noted.ensures.most) told tree o)
+    write_then_stop (g.S.Store.file c.args.store.now) tree c.args.movie.now c.loop-turn.self.walks.items n _ _ _ (i.within told tree o n may) ((rw (i.honesty, i.file) at c.in_err-noted.ensures.work) told tree o)
 
 pub returns-in_err-carry_turn-clause-work : goal.returns-in_err-carry_turn-clause-work
 returns-in_err-carry_turn-clause-work g c told tree o n may =
     let i = c.loop-turn.invariant in
     let w = c.loop-turn.self in
-    let keep = c.in_ok-noted.ensures.keeps.0 in
+    let keep = c.in_ok-noted.ensures.writer.keeps.0 in
     turn_then_stop (g.S.Store.file c.args.store.now) tree c.args.movie.now w.leaving w.walks.items c.note_turn.new.self.walks.items c.in-Some.turn.track c.in_ok-noted.noted.planned.count n _ _ _ (i.within told tree o n may)
     ((rw (i.honesty, i.file) at c.in_ok-noted.ensures.work) told tree o) _
-    (rw keep at ((rw (c.in_ok-noted.ensures.honesty, c.in_ok-noted.ensures.file, i.honesty, i.file) at c.in_err-carry_turn.ensures.most) told tree o))
+    (rw keep at ((rw (c.in_ok-noted.ensures.store.honesty, c.in_ok-noted.ensures.store.file, i.honesty, i.file) at c.in_err-carry_turn.ensures.work) told tree o))
 
 pub returns-in_err-pass-clause-work : goal.returns-in_err-pass-clause-work
 returns-in_err-pass-clause-work g c told tree o n may =
     let i = c.loop-turn.invariant in
     let file = g.S.Store.file c.args.store.now in
     let w = c.loop-turn.self in
-    let keep = c.in_ok-noted.ensures.keeps.0 in
+    let keep = c.in_ok-noted.ensures.writer.keeps.0 in
     all_written file tree c.args.movie.now c.carry_turn.new.self.walks.items n _ _
     (turn_then file tree c.args.movie.now w.leaving w.walks.items c.note_turn.new.self.walks.items c.in-Some.turn.track c.in_ok-noted.noted.planned.count n _ _ _ (i.within told tree o n may)
     ((rw (i.honesty, i.file) at c.in_ok-noted.ensures.work) told tree o) c.carry_turn.new.self.walks.items _
-    (rw keep at ((rw (c.in_ok-noted.ensures.honesty, c.in_ok-noted.ensures.file, i.honesty, i.file) at c.in_ok-carry_turn.ensures.work) told tree o)))
+    (rw keep at ((rw (c.in_ok-noted.ensures.store.honesty, c.in_ok-noted.ensures.store.file, i.honesty, i.file) at c.in_ok-carry_turn.ensures.work) told tree o)))
 
 pub returns-clause-work : goal.returns-clause-work
 returns-clause-work g c told tree o n may = all_written (g.S.Store.file c.args.store.now) tree c.args.movie.now c.loop-turn.self.walks.items n _ _ (c.loop-turn.invariant.within told tree o n may)
 
 pub overflow_add-bytes : goal.overflow_add-bytes
 overflow_add-bytes g c =
-    let sum = sum_fits c.loop-turn.bytes c.loop-turn.schedule.left c.in_ok-noted.noted.planned.bytes c.loop-turn.invariant.few c.in_ok-noted.ensures.few.1 in
+    let sum = sum_fits c.loop-turn.bytes c.loop-turn.schedule.left c.in_ok-noted.noted.planned.bytes c.loop-turn.invariant.few c.in_ok-noted.ensures.planned.room in
     let same = c.from-bytes.ensures in
     omega (arith, sum, same)
 

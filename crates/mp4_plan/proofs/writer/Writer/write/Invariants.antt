@@ -4,7 +4,8 @@ use Rattle.mp4_present.specs.words.Carried.{waiting}
 use Rattle.mp4_present.specs.declared.track_info.TrackInfo.{TrackInfo}
 use Rattle.mp4_plan.specs.words.PutPieces.{PiecesFollow}
 use Rattle.mp4_plan.specs.words.Turns.{movie_turns, to_come}
-use Rattle.mp4_plan.specs.words.Writers.{IsWriterOf, WhereOpened, IsReady}
+use Rattle.mp4_plan.specs.words.OverDevices.{OverOpened}
+use Rattle.mp4_plan.specs.words.Writers.{IsWriterOf, IsReady}
 use Rattle.mp4_plan.specs.format.Held.{held}
 use Rattle.mp4_plan.proofs.WritesOn.{WritesOn}
 use Rattle.std.specs.Prelude.{ℕ}
@@ -26,11 +27,11 @@ invariant-loop-turn g l = record {
   few : l.bytes + l.schedule.left * 4294967295 ≤ 2 ^ 64 * 4294967295 * 4294967295;
   sent : (samples : ℕ) × (samples + l.schedule.left ≡ sum_by (λ (i : TrackInfo). i.samples) l.movie.tracks)
       × PiecesFollow (g.K.Sink.contents l.fn.sink) (g.K.Sink.contents l.sink) (waiting l.fn.self.carrier) (waiting l.self.carrier) (length l.fn.self.head.items) samples l.bytes;
-  on : WhereOpened (g.S.Store.is_honest l.fn.store) (g.S.Store.file l.fn.store) l.movie
-      (λ tree. IsReady (g.S.Store.file l.fn.store) tree l.movie l.fn.self
-      → WritesOn l.fn.self.leaving (g.S.Store.file l.fn.store) tree l.movie l.schedule l.sequence l.bytes l.self.walks.items l.self.nexts.items (length l.self.rows.items) (g.K.Sink.contents l.fn.sink) (g.K.Sink.contents l.sink) (waiting l.self.carrier));
-  within : WhereOpened (g.S.Store.is_honest l.fn.store) (g.S.Store.file l.fn.store) l.movie
-      (λ tree. (n : ℕ) → MayAllWrite (g.S.Store.file l.fn.store) tree l.movie l.fn.self.walks.items n → AllWriteOn (g.S.Store.file l.fn.store) tree l.movie n l.self.walks.items l.fn.steps l.steps);
+  on : OverOpened g.S.Store l.fn.store l.movie
+      (λ file tree. IsReady file tree l.movie l.fn.self
+      → WritesOn l.fn.self.leaving file tree l.movie l.schedule l.sequence l.bytes l.self.walks.items l.self.nexts.items (length l.self.rows.items) (g.K.Sink.contents l.fn.sink) (g.K.Sink.contents l.sink) (waiting l.self.carrier));
+  within : OverOpened g.S.Store l.fn.store l.movie
+      (λ file tree. (n : ℕ) → MayAllWrite file tree l.movie l.fn.self.walks.items n → AllWriteOn file tree l.movie n l.self.walks.items l.fn.steps l.steps);
   looks : l.looks + to_come l.schedule ≤ l.fn.looks + movie_turns l.movie;
 }
 

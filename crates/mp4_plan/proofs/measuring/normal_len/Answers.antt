@@ -6,7 +6,7 @@ use Rattle.mp4_plan.specs.format.Normal.{normal}
 use Rattle.mp4_plan.specs.format.ReducedLaws.{nothing}
 use Rattle.mp4_plan.proofs.Reducing.{nothing_reduces}
 use Rattle.mp4_plan.proofs.LeftRefused.{planned_left}
-use Rattle.mp4_plan.proofs.writer.normal_len.Goals as goal
+use Rattle.mp4_plan.proofs.measuring.normal_len.Goals as goal
 
 pub returns-clause-length : goal.returns-clause-length
 returns-clause-length g c told tree o =

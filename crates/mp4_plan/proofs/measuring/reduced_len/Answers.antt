@@ -2,7 +2,7 @@ use Rattle.mp4_present.specs.format.Denotes.{presentation_of}
 use Rattle.mp4_present.specs.format.Presentation.{movie_length}
 use Rattle.mp4_present.specs.format.Reduced.{reduce}
 use Rattle.mp4_plan.proofs.HeadLess.{less_long}
-use Rattle.mp4_plan.proofs.writer.reduced_len.Goals as goal
+use Rattle.mp4_plan.proofs.measuring.reduced_len.Goals as goal
 
 pub returns-clause-length : goal.returns-clause-length
 returns-clause-length g c told tree o =

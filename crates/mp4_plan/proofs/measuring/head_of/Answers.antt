@@ -5,7 +5,7 @@ use Rattle.mp4_present.specs.format.Denotes.{presentation_of}
 use Rattle.mp4_present.specs.format.Presentation.{movie_length}
 use Rattle.mp4_present.specs.format.Reduced.{reduce}
 use Rattle.mp4_plan.proofs.HeadLimit.{moov_fits}
-use Rattle.mp4_plan.proofs.writer.head_of.Goals as goal
+use Rattle.mp4_plan.proofs.measuring.head_of.Goals as goal
 
 pub head_bytes-requires : goal.head_bytes-requires
 head_bytes-requires c = record { limit = moov_fits (movie_seen c.in_ok-head.head) (tracks_seen c.in_ok-head.head) c.args.mehd c.head_len.result (c.head_len.ensures.length c.args.mehd) (search rules) }

@@ -8,7 +8,7 @@ use Rattle.mp4_plan.specs.words.WriterSteps.{MayWrite}
 use Rattle.mp4_plan.proofs.AllMay.{one_moves, one_ends}
 use Rattle.mp4_plan.proofs.StepsOn.{none_taken, all_then, all_then_stop, writes_none_taken, write_then, write_then_stop}
 use Rattle.mp4_plan.proofs.WritesOn.{marked_kept}
-use Rattle.mp4_plan.proofs.writer.peek_each.Goals as goal
+use Rattle.mp4_plan.proofs.measuring.peek_each.Goals as goal
 
 pub loop-k-init : goal.loop-k-init
 loop-k-init g c = record {

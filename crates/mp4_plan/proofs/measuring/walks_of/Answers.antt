@@ -3,7 +3,7 @@ use Rattle.mp4_present.specs.words.Movies.{IsWalkOf}
 use Rattle.mp4_plan.proofs.Filters.{all_append}
 use Rattle.mp4_plan.proofs.Planning.{one_room, one_within, one_begins, all_begin, one_marked, all_marked, first_marked}
 use Rattle.mp4_plan.proofs.AllTake.{one_to_take, all_to_take, one_to_write, all_to_write}
-use Rattle.mp4_plan.proofs.writer.walks_of.Goals as goal
+use Rattle.mp4_plan.proofs.measuring.walks_of.Goals as goal
 
 pub loop-track-preserved : goal.loop-track-preserved
 loop-track-preserved c =
@@ -22,14 +22,10 @@ loop-track-preserved c =
       one_to_write m c.loop-track.track c.loop-track.walks.items walk i.6 i.1 lt (first_marked m walk c.loop-track.track (λ file tree t o. e.coming file tree t o) lt e.mark) (λ file tree t o. e.may file tree t o),
     )
 
-pub returns-clause-begin : goal.returns-clause-begin
-returns-clause-begin c = all_begin c.args.movie.now c.loop-track.track c.loop-track.walks.items c.loop-track.invariant.3 (search rules)
-
-pub returns-clause-may : goal.returns-clause-may
-returns-clause-may c = all_to_take c.args.movie.now c.loop-track.track c.loop-track.walks.items c.loop-track.invariant.4 (search rules)
-
-pub returns-clause-marked : goal.returns-clause-marked
-returns-clause-marked c = all_marked c.args.movie.now c.loop-track.track c.loop-track.walks.items c.loop-track.invariant.5 (search rules)
-
-pub returns-clause-writes : goal.returns-clause-writes
-returns-clause-writes c = all_to_write c.args.movie.now c.loop-track.track c.loop-track.walks.items c.loop-track.invariant.6 (search rules)
+pub returns-clause-start : goal.returns-clause-start
+returns-clause-start c = record {
+  begin = all_begin c.args.movie.now c.loop-track.track c.loop-track.walks.items c.loop-track.invariant.3 (search rules);
+  marked = all_marked c.args.movie.now c.loop-track.track c.loop-track.walks.items c.loop-track.invariant.5 (search rules);
+  may = all_to_take c.args.movie.now c.loop-track.track c.loop-track.walks.items c.loop-track.invariant.4 (search rules);
+  writes = all_to_write c.args.movie.now c.loop-track.track c.loop-track.walks.items c.loop-track.invariant.6 (search rules);
+}

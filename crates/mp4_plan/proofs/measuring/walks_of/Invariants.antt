@@ -5,7 +5,7 @@ use Rattle.std.specs.List.{AllByRecursion}
 use Rattle.mp4_present.specs.words.Movies.{IsWalkOf}
 use Rattle.mp4_plan.proofs.Planning.{BeginSoFar, BeginMarked}
 use Rattle.mp4_plan.proofs.AllTake.{BeginToTake, BeginToWrite}
-use Rattle.mp4_plan.proofs.writer.walks_of.Given as goal
+use Rattle.mp4_plan.proofs.measuring.walks_of.Given as goal
 
 -- one for each track so far
 abbrev pub invariant-loop-track : goal.invariant-loop-track
