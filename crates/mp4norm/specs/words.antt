@@ -11,3 +11,5 @@ pub mod Pairs
 pub mod OverDevices
 pub mod OverFiles
 pub mod ListedWalks
+pub mod StripSpans
+pub mod AddedWays

@@ -1,12 +1,11 @@
 //! The boxes of a file, a line each.
-ghost use Rattle.std.specs.Prelude.{◌≡◌, ℕ, ◌+◌, ◌≤◌, ◌++◌, List, length, IfOk, OnOk, IsTrue};
+ghost use Rattle.std.specs.Prelude.{◌≡◌, ◌+◌, ◌≤◌, length, IfOk, OnOk};
 ghost use Rattle.std.specs.List.{All};
-ghost use Rattle.mp4_boxes.specs.format.Box.{Tiles};
-ghost use Rattle.mp4norm.specs.format.BoxWalk.{height, rule_inside, RefusesBoxes, tops_seen, IsWithin, RefusesTops};
-ghost use Rattle.mp4norm.specs.format.Texts.{line_text, AreBoxLines, BoxLines};
-ghost use Rattle.mp4norm.specs.words.BoxSpans.{span_of, RefusesSpan};
-ghost use Rattle.mp4_present.specs.words.OverStores.{OnlyReads, RefusedOf, WhereRead};
-ghost use Rattle.mp4norm.specs.words.OverDevices.{NoPutFails, PutsTextOf, Refuses};
+ghost use Rattle.mp4norm.specs.format.BoxWalk.{height, rule_inside, RefusesBoxes, IsWithin, RefusesTops};
+ghost use Rattle.mp4norm.specs.format.Texts.{line_text, BoxLines};
+ghost use Rattle.mp4norm.specs.words.BoxSpans.{AddsLines, RefusesSpan, TilesSpan};
+ghost use Rattle.mp4_present.specs.words.OverStores.{OnlyReads, RefusedOf, WhereHonest, WhereRead};
+ghost use Rattle.mp4norm.specs.words.OverDevices.{Answers, Reads};
 
 use crate::headers_under::read_header;
 use crate::line::Line;
@@ -64,9 +63,8 @@ fn boxes_between<S: Store>(
     requires span { from ≤ end }
     requires within { end ≤ length (S.file store.old) }
     ensures store { OnlyReads S.Store store.old store.new result }
-    ensures tiles { IfOk result (λ boxes. IsTrue (S.is_honest store.old) → (start : ℕ)
-        → Tiles (span_of (S.file store.old) rule start from end)
-        (tops_seen (S.file store.old) boxes.items)) }
+    ensures tiles { WhereRead S.Store store.old result
+        (λ file boxes. TilesSpan file rule from end boxes.items) }
     ensures within { IfOk result (λ boxes. All (IsWithin (S.file store.old)) boxes.items) }
     ensures refusal { RefusedOf S.Store store.old store.new result (λ honest file.
         RefusesSpan honest file rule from end) }
@@ -96,9 +94,8 @@ fn push_boxes<S: Store>(
     requires span { from ≤ end }
     requires within { end ≤ length (S.file store.old) }
     ensures store { OnlyReads S.Store store.old store.new result }
-    ensures lines { OnOk result (IsTrue (S.is_honest store.old) → (start : ℕ) → (part : List ℕ)
-        × AreBoxLines (height rule) depth rule (span_of (S.file store.old) rule start from end) part
-        × (text.new.items ≡ text.old.items ++ part)) }
+    ensures lines { OnOk result (WhereHonest S.Store store.old
+        (λ file. AddsLines file rule depth from end text.old.items text.new.items)) }
     ensures refusal { RefusedOf S.Store store.old store.new result (λ honest file.
         RefusesSpan honest file rule from end) }
 {
@@ -117,9 +114,8 @@ fn push_boxes<S: Store>(
 
 // The lines of all boxes that are listed.
 fn list_boxes<S: Store>(alloc: Global, store: &mut S) -> Result<Vec<u8>, Refusal>
-    ensures store { OnlyReads S.Store store.old store.new result }
-    ensures lines { WhereRead S.Store store.old result (λ file text. BoxLines file text.items) }
-    ensures refusal { RefusedOf S.Store store.old store.new result RefusesTops }
+    ensures answer { Reads S.Store store.old store.new result
+        (λ file text. BoxLines file text.items) RefusesTops }
 {
     let mut text = Vec::new(alloc);
     let end = store.len();
@@ -131,12 +127,8 @@ fn list_boxes<S: Store>(alloc: Global, store: &mut S) -> Result<Vec<u8>, Refusal
 /// each container that it stands in, its type, its place, its size. Every type is accepted. Where
 /// any header that is looked at is at fault, nothing is put.
 pub fn boxes<S: Store, K: Sink>(alloc: Global, store: &mut S, sink: &mut K) -> Result<(), Refusal>
-    ensures store { OnlyReads S.Store store.old store.new result }
-    ensures puts { NoPutFails K.Sink sink.old sink.new result }
-    ensures lines { PutsTextOf S.Store store.old K.Sink sink.old sink.new result
-        BoxLines }
-    ensures refusal { Refuses S.Store store.old store.new K.Sink sink.old sink.new result
-        RefusesBoxes }
+    ensures answer { Answers S.Store store.old store.new K.Sink sink.old sink.new result
+        BoxLines RefusesBoxes }
 {
     let text = list_boxes(alloc, store)?;
     sink.put(text.as_slice())?;

@@ -2,11 +2,10 @@
 ghost use Rattle.std.specs.Prelude.{◌≡◌, ◌<◌, length, IfOk, IfErr, IfSome};
 ghost use Rattle.mp4norm.specs.format.CompareHeadline.{IsVerdict, ComparesWithin, FindsBothWithin};
 ghost use Rattle.mp4norm.specs.words.Compares.{side_of, says_nothing, IsSaid, ListsFront, PutsAnswer, WalksTwice, RefusesAnswer};
-ghost use Rattle.mp4_present.specs.words.Differing.{RefusedBoth, RefusesSample};
-ghost use Rattle.mp4_present.specs.words.OverStores.{OnlyReads, IsUnchanged, WhereBothHonest};
+ghost use Rattle.mp4_present.specs.words.OverStores.{IsUnchanged, WhereBothHonest};
 ghost use Rattle.mp4norm.specs.words.OverDevices.{NoPutFails};
 ghost use Rattle.mp4_present.specs.words.Compared.{OfFiles, WhereOpenedBoth};
-ghost use Rattle.mp4norm.specs.words.OverFiles.{FailsCompare, WalksOnce};
+ghost use Rattle.mp4norm.specs.words.OverFiles.{ComparesBoth, ReadsBoth, WalksOnce};
 
 use crate::difference_lines::{say, say_difference};
 use crate::tally::{Tally, say_tally};
@@ -146,15 +145,11 @@ fn all_of<S: Store, T: Store, L: Ledger>(
     leaving: Leaving,
     steps: &mut Steps<L>,
 ) -> Result<(Listed, bool), Refusal>
-    ensures store { OnlyReads S.Store a.old a.new result }
-    ensures store_right { OnlyReads T.Store b.old b.new result }
+    ensures stores { ReadsBoth S.Store a.old a.new T.Store b.old b.new result }
     ensures all { IfOk result (λ found. OfFiles S.Store a.old left.now T.Store b.old right.now
         leaving (ListsFront found.0.all.items)) }
-    ensures unchanged { WhereOpenedBoth S.Store a.old left.now T.Store b.old right.now
-        (λ tree other. IsUnchanged result) }
-    ensures work { WhereOpenedBoth S.Store a.old left.now T.Store b.old right.now
-        (λ tree other. WalksOnce tree other steps.old steps.new) }
-    ensures refusal { RefusedBoth S.Store a.old a.new T.Store b.old b.new result RefusesSample }
+    ensures opened { WhereOpenedBoth S.Store a.old left.now T.Store b.old right.now
+        (λ tree other. IsUnchanged result × WalksOnce tree other steps.old steps.new) }
 {
     let mut listed = Listed::new(alloc)?;
     if !listed.has_room() {
@@ -178,13 +173,9 @@ fn enough_of<S: Store, T: Store, L: Ledger>(
     tally: &Tally,
     steps: &mut Steps<L>,
 ) -> Result<Option<Leaving>, Refusal>
-    ensures store { OnlyReads S.Store a.old a.new result }
-    ensures store_right { OnlyReads T.Store b.old b.new result }
-    ensures unchanged { WhereOpenedBoth S.Store a.old left.now T.Store b.old right.now
-        (λ tree other. IsUnchanged result) }
-    ensures work { WhereOpenedBoth S.Store a.old left.now T.Store b.old right.now
-        (λ tree other. WalksOnce tree other steps.old steps.new) }
-    ensures refusal { RefusedBoth S.Store a.old a.new T.Store b.old b.new result RefusesSample }
+    ensures stores { ReadsBoth S.Store a.old a.new T.Store b.old b.new result }
+    ensures opened { WhereOpenedBoth S.Store a.old left.now T.Store b.old right.now
+        (λ tree other. IsUnchanged result × WalksOnce tree other steps.old steps.new) }
 {
     let Some(more) = tally.suggests(leaving) else {
         return Ok(None);
@@ -206,16 +197,12 @@ fn all_text<S: Store, T: Store, L: Ledger>(
     limit: u32,
     steps: &mut Steps<L>,
 ) -> Result<Option<Vec<u8>>, Refusal>
-    ensures store { OnlyReads S.Store a.old a.new result }
-    ensures store_right { OnlyReads T.Store b.old b.new result }
+    ensures stores { ReadsBoth S.Store a.old a.new T.Store b.old b.new result }
     ensures some { IfOk result (λ found. IfSome found (λ text. 0 < length text.items)) }
     ensures said { IfOk result (λ text. OfFiles S.Store a.old left.now T.Store b.old right.now
         leaving (IsSaid text)) }
-    ensures unchanged { WhereOpenedBoth S.Store a.old left.now T.Store b.old right.now
-        (λ tree other. IsUnchanged result) }
-    ensures work { WhereOpenedBoth S.Store a.old left.now T.Store b.old right.now
-        (λ tree other. WalksTwice tree other steps.old steps.new) }
-    ensures refusal { RefusedBoth S.Store a.old a.new T.Store b.old b.new result RefusesSample }
+    ensures opened { WhereOpenedBoth S.Store a.old left.now T.Store b.old right.now
+        (λ tree other. IsUnchanged result × WalksTwice tree other steps.old steps.new) }
 {
     let (listed, is_whole) = all_of(alloc, left, a, right, b, leaving, steps)?;
     if listed.is_empty() {
@@ -238,16 +225,12 @@ fn text_of<S: Store, T: Store, L: Ledger>(
     listing: Listing,
     steps: &mut Steps<L>,
 ) -> Result<Option<Vec<u8>>, Refusal>
-    ensures store { OnlyReads S.Store a.old a.new result }
-    ensures store_right { OnlyReads T.Store b.old b.new result }
+    ensures stores { ReadsBoth S.Store a.old a.new T.Store b.old b.new result }
     ensures some { IfOk result (λ found. IfSome found (λ text. 0 < length text.items)) }
     ensures said { IfOk result (λ text. OfFiles S.Store a.old left.now T.Store b.old right.now
         leaving (IsSaid text)) }
-    ensures unchanged { WhereOpenedBoth S.Store a.old left.now T.Store b.old right.now
-        (λ tree other. IsUnchanged result) }
-    ensures work { WhereOpenedBoth S.Store a.old left.now T.Store b.old right.now
-        (λ tree other. WalksTwice tree other steps.old steps.new) }
-    ensures refusal { RefusedBoth S.Store a.old a.new T.Store b.old b.new result RefusesSample }
+    ensures opened { WhereOpenedBoth S.Store a.old left.now T.Store b.old right.now
+        (λ tree other. IsUnchanged result × WalksTwice tree other steps.old steps.new) }
 {
     match listing {
         Listing::First => match compare(alloc, left, a, right, b, leaving, steps)? {
@@ -286,14 +269,10 @@ pub fn compare_files<S: Store, T: Store, K: Sink, L: Ledger, M: Ledger>(
     steps: &mut Steps<L>,
     looks: &mut Steps<M>,
 ) -> Result<bool, Failure>
-    ensures store { OnlyReads S.Store a.old a.new result }
-    ensures store_right { OnlyReads T.Store b.old b.new result }
-    ensures puts { NoPutFails K.Sink sink.old sink.new result }
+    ensures answer { ComparesBoth S.Store a.old a.new T.Store b.old b.new
+        K.Sink sink.old sink.new result }
     ensures verdict { IfOk result (λ same. WhereBothHonest S.Store a.old T.Store b.old
         (λ file other. IsVerdict leaving file other same)) }
-    ensures put { IfOk result (PutsAnswer (K.contents sink.old) (K.contents sink.new)) }
-    ensures refusal { FailsCompare S.Store a.old a.new T.Store b.old b.new
-        K.Sink sink.old sink.new result }
     ensures work { WhereBothHonest S.Store a.old T.Store b.old
         (λ file other. ComparesWithin file other steps.old steps.new) }
     ensures looks { WhereBothHonest S.Store a.old T.Store b.old

@@ -1,11 +1,10 @@
 //! A header of a box in a container of boxes, read by place.
-ghost use Rattle.std.specs.Prelude.{◌≡◌, ◌+◌, ◌-◌, ◌^◌, ◌<◌, ◌≤◌, min, length, Ok, Err, IfOk, IfErr};
-ghost use Rattle.mp4_boxes.specs.format.Box.{header_at};
+ghost use Rattle.std.specs.Prelude.{◌≡◌, ◌+◌, ◌^◌, ◌<◌, ◌≤◌, min, length, Ok, Err, IfOk, IfErr};
 ghost use Rattle.mp4_boxes.specs.format.BoxFaults.{header_there};
 ghost use Rattle.mp4_boxes.specs.words.View.{top_header_seen};
-ghost use Rattle.mp4_store.specs.words.Device.{range};
 ghost use Rattle.mp4_present.specs.words.OverStores.{OnlyReads, RefusedOf, WhereRead};
-ghost use Rattle.mp4norm.specs.format.Strips.{holder, is_top, RefusesHeaderUnder};
+ghost use Rattle.mp4norm.specs.format.Strips.{holder, is_top};
+ghost use Rattle.mp4norm.specs.words.StripSpans.{IsHeaderAt, LiesBetween, RefusesHeaderAt};
 
 use crate::named::holder;
 use mp4_boxes::{Fault, FourCc, Kind, Refusal, Rule, TopHeader, top_header, u32_at};
@@ -19,8 +18,7 @@ fn header_under(bytes: &[u8], rule: Rule, at: u64, left: u64) -> Result<TopHeade
     requires there { length bytes.now ≡ min left 16 }
     ensures header { IfOk result (λ h. header_there (is_top rule) left bytes.now (holder rule) at
         ≡ Ok (top_header_seen at h)) }
-    ensures within { IfOk result (λ h. (at + h.header ≤ h.end) × (8 ≤ h.header)
-        × (h.end ≤ at + left)) }
+    ensures within { IfOk result (LiesBetween at (at + left)) }
     ensures fault { IfErr result (λ f. header_there (is_top rule) left bytes.now (holder rule) at
         ≡ Err f) }
 {
@@ -48,11 +46,9 @@ pub(crate) fn read_header<S: Store>(
     requires some { at < end }
     requires within { end ≤ length (S.file store.old) }
     ensures store { OnlyReads S.Store store.old store.new result }
-    ensures header { WhereRead S.Store store.old result (λ file h.
-        header_at (is_top rule) (range file at (end - at)) ≡ Ok (top_header_seen at h)) }
-    ensures fits { IfOk result (λ h. (at + h.header ≤ h.end) × (8 ≤ h.header) × (h.end ≤ end)) }
-    ensures refusal { RefusedOf S.Store store.old store.new result (λ honest file.
-        RefusesHeaderUnder honest (range file at (end - at)) rule at) }
+    ensures header { WhereRead S.Store store.old result (IsHeaderAt rule at end) }
+    ensures fits { IfOk result (LiesBetween at end) }
+    ensures refusal { RefusedOf S.Store store.old store.new result (RefusesHeaderAt rule at end) }
 {
     let _size = store.len();
     let left = end - at;

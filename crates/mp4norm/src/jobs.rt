@@ -1,7 +1,7 @@
 //! What a command does over a store.
 ghost use Rattle.mp4norm.specs.words.Jobs.{IsTextOf, RefusesJob, JobWorksWithin, JobLooksWithin};
-ghost use Rattle.mp4_present.specs.words.OverStores.{OnlyReads, WhereHonest};
-ghost use Rattle.mp4norm.specs.words.OverDevices.{NoPutFails, PutsTextOf, Refuses};
+ghost use Rattle.mp4_present.specs.words.OverStores.{WhereHonest};
+ghost use Rattle.mp4norm.specs.words.OverDevices.{Answers, IsOf};
 
 use crate::boxes::boxes;
 use crate::extract::extract_counted;
@@ -14,7 +14,7 @@ use crate::wanted::Job;
 use mp4_boxes::{Refusal, Steps};
 use mp4_store::{Sink, Store};
 use std::alloc::Global;
-use std::sync::ledger::Ledger;
+use std::sync::ledger::{Blank, Ledger};
 
 /// Does a job: all that is put is the job's own text of the file. The steps are counted, and
 /// are those of one run; those of `boxes` and `strip`, which only look at headers, are not.
@@ -26,12 +26,8 @@ pub fn perform<S: Store, K: Sink, L: Ledger, M: Ledger>(
     steps: &mut Steps<L>,
     looks: &mut Steps<M>,
 ) -> Result<(), Refusal>
-    ensures store { OnlyReads S.Store store.old store.new result }
-    ensures puts { NoPutFails K.Sink sink.old sink.new result }
-    ensures text { PutsTextOf S.Store store.old K.Sink sink.old sink.new result
-        (IsTextOf job.entry) }
-    ensures refusal { Refuses S.Store store.old store.new K.Sink sink.old sink.new result
-        (RefusesJob job.entry) }
+    ensures answer { Answers S.Store store.old store.new K.Sink sink.old sink.new result
+        (IsTextOf job.entry) (RefusesJob job.entry) }
     ensures work { WhereHonest S.Store store.old
         (λ file. JobWorksWithin job.entry file steps.old steps.new) }
     ensures looks { WhereHonest S.Store store.old
@@ -48,4 +44,23 @@ pub fn perform<S: Store, K: Sink, L: Ledger, M: Ledger>(
         Job::Normalise => normalise_counted(alloc, store, sink, steps, looks),
         Job::Reduce { leaving } => normalise_reduced(alloc, store, sink, leaving, steps, looks),
     }
+}
+
+/// As `perform`; steps and looks are counted in these ledgers, for nobody.
+pub(crate) fn perform_blank<S: Store, K: Sink, L: Ledger, M: Ledger>(
+    alloc: Global,
+    job: Job,
+    store: &mut S,
+    sink: &mut K,
+    steps: Blank,
+    looks: Blank,
+) -> Result<(), Refusal>
+    requires steps { IsOf L.Ledger steps }
+    requires looks { IsOf M.Ledger looks }
+    ensures answer { Answers S.Store store.old store.new K.Sink sink.old sink.new result
+        (IsTextOf job.entry) (RefusesJob job.entry) }
+{
+    let mut steps = Steps::<L>::new(steps);
+    let mut looks = Steps::<M>::new(looks);
+    perform(alloc, job, store, sink, &mut steps, &mut looks)
 }

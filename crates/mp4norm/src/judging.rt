@@ -1,8 +1,6 @@
 //! Whether a file has a normal form.
-ghost use Rattle.std.specs.Prelude.{◌≡◌, ℕ, ◌<◌, List, OnOk};
-ghost use Rattle.mp4norm.specs.format.Headline.{HasNormalForm};
-ghost use Rattle.mp4norm.specs.words.MainJob.{RefusesCheck};
-ghost use Rattle.mp4_present.specs.words.OverStores.{OnlyReads, RefusedOf, WhereHonest};
+ghost use Rattle.mp4norm.specs.words.MainJob.{MayBeNormalised, RefusesCheck};
+ghost use Rattle.mp4norm.specs.words.OverDevices.{IsOf, Reads};
 
 use mp4_boxes::{Refusal, Steps};
 use mp4_plan::Writer;
@@ -19,12 +17,10 @@ fn check_counted<S: Store, L: Ledger, M: Ledger>(
     steps: Blank,
     looks: Blank,
 ) -> Result<(), Refusal>
-    requires steps { (steps.name ≡ L.name) × (steps.parts ≡ L.parts) × (0 < L.parts) }
-    requires looks { (looks.name ≡ M.name) × (looks.parts ≡ M.parts) × (0 < M.parts) }
-    ensures store { OnlyReads S.Store store.old store.new result }
-    ensures accepted { OnOk result
-        (WhereHonest S.Store store.old (λ file. (bytes : List ℕ) × HasNormalForm file bytes)) }
-    ensures refusal { RefusedOf S.Store store.old store.new result RefusesCheck }
+    requires steps { IsOf L.Ledger steps }
+    requires looks { IsOf M.Ledger looks }
+    ensures answer { Reads S.Store store.old store.new result
+        (λ file done. MayBeNormalised file) RefusesCheck }
 {
     let mut steps = Steps::<L>::new(steps);
     let mut looks = Steps::<M>::new(looks);
@@ -37,10 +33,8 @@ fn check_counted<S: Store, L: Ledger, M: Ledger>(
 /// memory that writing would need is taken. So it answers what `normalise` would, but for a read or
 /// a put that fails there later.
 pub fn check<S: Store>(alloc: Global, store: &mut S) -> Result<(), Refusal>
-    ensures store { OnlyReads S.Store store.old store.new result }
-    ensures accepted { OnOk result
-        (WhereHonest S.Store store.old (λ file. (bytes : List ℕ) × HasNormalForm file bytes)) }
-    ensures refusal { RefusedOf S.Store store.old store.new result RefusesCheck }
+    ensures answer { Reads S.Store store.old store.new result
+        (λ file done. MayBeNormalised file) RefusesCheck }
 {
     check_counted::<S, Brand, Brand>(alloc, store, Blank::new(1), Blank::new(1))
 }

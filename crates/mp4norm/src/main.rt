@@ -7,7 +7,7 @@
 //! doesn't know.
 #![tactic(auto)]
 
-ghost use Rattle.std.specs.Prelude.{◌≡◌, ◌<◌};
+ghost use Rattle.mp4norm.specs.words.OverDevices.{IsOf};
 
 mod boxes;
 mod checking;
@@ -53,6 +53,7 @@ mod targets;
 mod text_lengths;
 mod tracks;
 mod type_names;
+mod uncounted;
 mod verdicts;
 mod wanted;
 mod watching;
@@ -64,7 +65,7 @@ pub use command_line::action;
 pub use comparing::{Failure, Listing, Side, compare_files};
 use comparing_runs::compare_named;
 pub use difference_lines::say_difference;
-pub use extract::{extract, extract_counted};
+pub use extract::extract_counted;
 pub use fault_text::{fault_line, status};
 pub use jobs::perform;
 pub use judging::check;
@@ -73,12 +74,12 @@ pub use movie_json::show_text;
 use mp4_boxes::{Refusal, Steps};
 use mp4_store::{IoSink, Sink};
 pub use named::Name;
-pub use normalising::{normalise, normalise_counted};
+pub use normalising::normalise_counted;
 pub use reducing::normalise_reduced;
 use runs::run;
 pub use sample_lines::put_lines;
-pub use samples::{samples, samples_counted};
-pub use show::{show, show_counted};
+pub use samples::samples_counted;
+pub use show::show_counted;
 use std::io::Write;
 use std::marker::Brand;
 use std::process::ExitCode;
@@ -86,6 +87,7 @@ use std::sync::ledger::{Blank, Ledger};
 use std::{env, io};
 pub use stripping::{count_named, strip};
 pub use text_lengths::text_len;
+pub use uncounted::{extract, normalise, samples, show};
 pub use verdicts::{first_name, put_verdict, verdict_status};
 pub use wanted::{Action, CommandFault, Form, Input, Job, Target, Telling};
 pub use ways::{Way, way_to};
@@ -138,8 +140,8 @@ fn act<L: Ledger, M: Ledger>(
     steps: Blank,
     looks: Blank,
 ) -> ExitCode
-    requires steps { (steps.name ≡ L.name) × (steps.parts ≡ L.parts) × (0 < L.parts) }
-    requires looks { (looks.name ≡ M.name) × (looks.parts ≡ M.parts) × (0 < M.parts) }
+    requires steps { IsOf L.Ledger steps }
+    requires looks { IsOf M.Ledger looks }
 {
     let mut steps = Steps::<L>::new(steps);
     let mut looks = Steps::<M>::new(looks);

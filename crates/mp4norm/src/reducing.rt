@@ -2,8 +2,8 @@
 ghost use Rattle.mp4norm.specs.format.ReducedHeadline.{HasReducedForm};
 ghost use Rattle.mp4norm.specs.format.Steps.{WorksWithin, TurnsWithin};
 ghost use Rattle.mp4norm.specs.words.ReducedJob.{RefusesReduced};
-ghost use Rattle.mp4_present.specs.words.OverStores.{OnlyReads, WhereHonest};
-ghost use Rattle.mp4norm.specs.words.OverDevices.{NoPutFails, PutsTextOf, Refuses};
+ghost use Rattle.mp4_present.specs.words.OverStores.{WhereHonest};
+ghost use Rattle.mp4norm.specs.words.OverDevices.{Answers};
 
 use mp4_boxes::{Refusal, Steps};
 use mp4_plan::write_reduced;
@@ -24,12 +24,8 @@ pub fn normalise_reduced<S: Store, K: Sink, L: Ledger, M: Ledger>(
     steps: &mut Steps<L>,
     looks: &mut Steps<M>,
 ) -> Result<(), Refusal>
-    ensures store { OnlyReads S.Store store.old store.new result }
-    ensures puts { NoPutFails K.Sink sink.old sink.new result }
-    ensures written { PutsTextOf S.Store store.old K.Sink sink.old sink.new result
-        (HasReducedForm leaving) }
-    ensures refusal { Refuses S.Store store.old store.new K.Sink sink.old sink.new result
-        (RefusesReduced leaving) }
+    ensures answer { Answers S.Store store.old store.new K.Sink sink.old sink.new result
+        (HasReducedForm leaving) (RefusesReduced leaving) }
     ensures work { WhereHonest S.Store store.old (λ file. WorksWithin file steps.old steps.new) }
     ensures looks { WhereHonest S.Store store.old (λ file. TurnsWithin file looks.old looks.new) }
 {

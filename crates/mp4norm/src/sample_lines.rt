@@ -1,9 +1,10 @@
 //! The lines of samples.
-ghost use Rattle.std.specs.Prelude.{◌≡◌, ◌+◌, ◌^◌, ◌<◌, ◌≤◌, [], ◌++◌, length, drop, IfErr, OnOk, OnErr};
-ghost use Rattle.mp4_store.specs.words.Device.{AppendsPrefix};
-ghost use Rattle.mp4_present.specs.words.Carried.{waiting, BytesGoOn, RefusesPut};
+ghost use Rattle.std.specs.Prelude.{◌≡◌, ◌+◌, ◌≤◌, [], ◌++◌, length, drop, OnOk};
+ghost use Rattle.mp4_present.specs.words.Carried.{waiting};
 ghost use Rattle.mp4norm.specs.declared.wanted.Form.TheVariants as forms;
-ghost use Rattle.mp4norm.specs.format.Texts.{sample_at_line, sample_at_lines};
+ghost use Rattle.mp4norm.specs.format.Texts.{sample_at_line};
+ghost use Rattle.mp4norm.specs.words.ListedWalks.{PassesOn, PutsLines};
+ghost use Rattle.mp4norm.specs.words.OverDevices.{PutsOrFails};
 
 use crate::digits::{write_byte, write_bytes, write_digits, write_short_digits};
 use crate::kept_line::KeptLine;
@@ -136,13 +137,9 @@ fn make_room<K: Sink>(
     sink: &mut K,
 ) -> Result<(), Refusal>
     ensures room { OnOk result (length block.new + ROOM_OF_LINE ≤ ROOM_OF_BLOCK) }
-    ensures bytes { OnOk result (BytesGoOn (K.contents sink.old) (K.contents sink.new)
-        (waiting carrier.old ++ block.old) (waiting carrier.new ++ block.new) []) }
-    ensures prefix { OnErr result (AppendsPrefix (K.contents sink.old) (K.contents sink.new)
-        (waiting carrier.old ++ block.old)) }
-    ensures puts { OnOk result (K.put_failures sink.new ≡ K.put_failures sink.old) }
-    ensures refusal { IfErr result
-        (RefusesPut (K.put_failures sink.old) (K.put_failures sink.new)) }
+    ensures bytes { PassesOn K.Sink sink.old sink.new (waiting carrier.old ++ block.old)
+        (waiting carrier.new ++ block.new) result }
+    ensures puts { PutsOrFails K.Sink sink.old sink.new result }
 {
     if !block.has_room(ROOM_OF_LINE) {
         carrier.carry(block.as_bytes(), sink)?;
@@ -160,18 +157,10 @@ pub fn put_lines<C: Samples, K: Sink>(
     carrier: &mut Carrier,
     sink: &mut K,
 ) -> Result<(), Refusal>
-    ensures lines { OnOk result (number.old + length (C.rest samples.old) < 2 ^ 64
-        → BytesGoOn (K.contents sink.old) (K.contents sink.new) (waiting carrier.old)
-        (waiting carrier.new) (sample_at_lines form number.old (C.rest samples.old))) }
-    ensures number { OnOk result (number.old + length (C.rest samples.old) < 2 ^ 64
-        → number.new ≡ number.old + length (C.rest samples.old)) }
+    ensures lines { PutsLines K.Sink sink.old sink.new carrier.old carrier.new form number.old
+        number.new (C.rest samples.old) result }
     ensures rest { OnOk result (C.rest samples.new ≡ []) }
-    ensures prefix { OnErr result (number.old + length (C.rest samples.old) < 2 ^ 64
-        → AppendsPrefix (K.contents sink.old) (K.contents sink.new) (waiting carrier.old
-        ++ sample_at_lines form number.old (C.rest samples.old))) }
-    ensures puts { OnOk result (K.put_failures sink.new ≡ K.put_failures sink.old) }
-    ensures refusal { IfErr result
-        (RefusesPut (K.put_failures sink.old) (K.put_failures sink.new)) }
+    ensures puts { PutsOrFails K.Sink sink.old sink.new result }
     ensures later { C.follows samples.old samples.new }
 {
     let mut kept = KeptLine::new();

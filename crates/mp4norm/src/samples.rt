@@ -1,24 +1,16 @@
 //! The samples of a track, a line each.
-ghost use Rattle.std.specs.Prelude.{◌≡◌, ℕ, ◌+◌, ◌^◌, ◌<◌, ◌≤◌, List, ◌++◌, length, IfErr, OnOk, OnErr};
-ghost use Rattle.mp4_frag.specs.format.Fragments.{FragmentTree};
-ghost use Rattle.mp4_head.specs.format.Tree.{TrackTree};
-ghost use Rattle.mp4_store.specs.words.Device.{AppendsPrefix};
-ghost use Rattle.mp4_present.specs.declared.in_hand.InHand.{InHand};
-ghost use Rattle.mp4_present.specs.words.SamplesComing.{StandsBefore};
-ghost use Rattle.mp4_present.specs.format.Denotes.{FileTree};
+ghost use Rattle.std.specs.Prelude.{◌+◌, ◌≤◌, OnOk};
 ghost use Rattle.mp4_present.specs.words.InHand.{left_in_hand};
-ghost use Rattle.mp4_present.specs.words.OpenedMovie.{IsOpenedAs};
-ghost use Rattle.mp4_present.specs.words.Movies.{IsWalkOf, InHandOf};
-ghost use Rattle.mp4_present.specs.words.WalkSteps.{MayTake, TakesOn};
-ghost use Rattle.mp4_present.specs.words.Carried.{waiting, BytesGoOn, RefusesCarry, RefusesPut};
+ghost use Rattle.mp4_present.specs.words.Movies.{IsWalkOf};
+ghost use Rattle.mp4_present.specs.words.Carried.{RefusesCarry};
 ghost use Rattle.mp4_present.specs.words.OverWalks.{WhereMayTake};
 ghost use Rattle.mp4norm.specs.format.Texts.{sample_at_lines};
 ghost use Rattle.mp4norm.specs.format.Steps.{WalksWithin, FindsWithin};
 ghost use Rattle.mp4norm.specs.words.Commands.{ListsSamples, RefusesListing};
-ghost use Rattle.mp4_present.specs.words.HandCarried.{RefusedByBoth};
-ghost use Rattle.mp4_present.specs.words.OverStores.{IsUnchanged, OnlyReads, WhereHonest};
-ghost use Rattle.mp4norm.specs.words.OverDevices.{NoPutFails, PutsTextOf, Refuses};
-ghost use Rattle.mp4norm.specs.words.ListedWalks.{Takes, TakesFront, WhereFewCome};
+ghost use Rattle.mp4_present.specs.words.HandCarried.{StaysBefore, OfHand, HandWork, RefusedByBoth};
+ghost use Rattle.mp4_present.specs.words.OverStores.{OnlyReads, WhereHonest};
+ghost use Rattle.mp4norm.specs.words.OverDevices.{Answers, NoPutFails, PutsOrFails};
+ghost use Rattle.mp4norm.specs.words.ListedWalks.{PutsAll, PutsLines, WhereFewCome};
 
 use crate::forms::head_of;
 use crate::sample_lines::put_lines;
@@ -28,8 +20,7 @@ use mp4_boxes::{Refusal, Steps};
 use mp4_present::{Carrier, Movie, Walk, open_movie};
 use mp4_store::{Sink, Store};
 use std::alloc::Global;
-use std::marker::Brand;
-use std::sync::ledger::{Blank, Ledger};
+use std::sync::ledger::Ledger;
 
 /// How many bytes are put at once: a power of two, so that each put fills whole pages.
 const ROOM: usize = 32_768;
@@ -45,28 +36,11 @@ fn put_hand<K: Sink, L: Ledger>(
     steps: &mut Steps<L>,
 ) -> Result<(), Refusal>
     requires { IsWalkOf movie.now walk.old }
-    ensures walk { OnOk result (IsWalkOf movie.now walk.new) }
-    ensures next { OnOk result (walk.new.next ≡ walk.old.next) }
-    ensures lines { OnOk result ((hand : InHand) × InHandOf movie.now walk.old hand
-        × (number.old + length (left_in_hand hand) < 2 ^ 64
-        → BytesGoOn (K.contents sink.old) (K.contents sink.new) (waiting carrier.old)
-        (waiting carrier.new) (sample_at_lines form number.old (left_in_hand hand))
-        × (number.new ≡ number.old + length (left_in_hand hand)))) }
-    ensures prefix { OnErr result ((hand : InHand) × InHandOf movie.now walk.old hand
-        × (number.old + length (left_in_hand hand) < 2 ^ 64
-        → AppendsPrefix (K.contents sink.old) (K.contents sink.new) (waiting carrier.old
-        ++ sample_at_lines form number.old (left_in_hand hand)))) }
-    ensures puts { OnOk result (K.put_failures sink.new ≡ K.put_failures sink.old) }
-    ensures stands { OnOk result
-        ((file : List ℕ) (tree : FileTree) (t : TrackTree) (earlier later : List FragmentTree)
-        → StandsBefore file tree t earlier later walk.old
-        → StandsBefore file tree t earlier later walk.new) }
-    ensures refusal { IfErr result
-        (RefusesPut (K.put_failures sink.old) (K.put_failures sink.new)) }
-    ensures work { OnOk result ((file : List ℕ) (tree : FileTree) (t : TrackTree) (n : ℕ)
-        → IsOpenedAs file movie.now tree
-        → MayTake file tree t walk.old n → TakesOn file tree t n walk.new steps.old steps.new) }
-    ensures idle { OnErr result (steps.new ≡ steps.old) }
+    ensures walk { OnOk result (StaysBefore movie.now walk.old walk.new) }
+    ensures lines { OfHand movie.now walk.old (λ hand. PutsLines K.Sink sink.old sink.new
+        carrier.old carrier.new form number.old number.new (left_in_hand hand) result) }
+    ensures puts { PutsOrFails K.Sink sink.old sink.new result }
+    ensures work { HandWork movie.now walk.old walk.new result steps.old steps.new }
 {
     let place = {
         let mut hand = walk.in_hand(movie);
@@ -91,12 +65,8 @@ fn put_walk<S: Store, K: Sink, L: Ledger>(
     requires { IsWalkOf movie.now walk.old }
     ensures store { OnlyReads S.Store store.old store.new result }
     ensures puts { NoPutFails K.Sink sink.old sink.new result }
-    ensures lines { OnOk result (WhereFewCome S.Store store.old movie.now walk.old
-        (λ samples. Takes K.Sink sink.old sink.new carrier.old (sample_at_lines form 1 samples))) }
-    ensures prefix { OnErr result (WhereFewCome S.Store store.old movie.now walk.old (λ samples.
-        TakesFront K.Sink sink.old sink.new carrier.old (sample_at_lines form 1 samples))) }
-    ensures unchanged { WhereFewCome S.Store store.old movie.now walk.old
-        (λ samples. IsUnchanged result) }
+    ensures lines { WhereFewCome S.Store store.old movie.now walk.old (λ samples. PutsAll
+        K.Sink sink.old sink.new carrier.old (sample_at_lines form 1 samples) result) }
     ensures refusal { RefusedByBoth S.Store store.old store.new K.Sink sink.old sink.new result
         RefusesCarry }
     ensures work { WhereMayTake S.Store store.old movie.now walk.old
@@ -121,12 +91,8 @@ pub fn samples_counted<S: Store, K: Sink, L: Ledger, M: Ledger>(
     steps: &mut Steps<L>,
     looks: &mut Steps<M>,
 ) -> Result<(), Refusal>
-    ensures store { OnlyReads S.Store store.old store.new result }
-    ensures puts { NoPutFails K.Sink sink.old sink.new result }
-    ensures lines { PutsTextOf S.Store store.old K.Sink sink.old sink.new result
-        (λ file text. ListsSamples file id form text) }
-    ensures refusal { Refuses S.Store store.old store.new K.Sink sink.old sink.new result
-        (RefusesListing id form) }
+    ensures answer { Answers S.Store store.old store.new K.Sink sink.old sink.new result
+        (λ file text. ListsSamples file id form text) (RefusesListing id form) }
     ensures work { WhereHonest S.Store store.old (λ file. WalksWithin file steps.old steps.new) }
     ensures looks { WhereHonest S.Store store.old (λ file. FindsWithin file looks.old looks.new) }
 {
@@ -136,48 +102,4 @@ pub fn samples_counted<S: Store, K: Sink, L: Ledger, M: Ledger>(
     let mut carrier = Carrier::new(alloc, ROOM)?;
     carrier.carry(head_of(form), sink)?;
     put_walk(form, &movie, &mut walk, &mut carrier, store, sink, steps)
-}
-
-// As `samples`; its steps and looks are counted in these ledgers.
-fn samples_blank<S: Store, K: Sink, L: Ledger, M: Ledger>(
-    alloc: Global,
-    store: &mut S,
-    id: u32,
-    form: Form,
-    sink: &mut K,
-    steps: Blank,
-    looks: Blank,
-) -> Result<(), Refusal>
-    requires steps { (steps.name ≡ L.name) × (steps.parts ≡ L.parts) × (0 < L.parts) }
-    requires looks { (looks.name ≡ M.name) × (looks.parts ≡ M.parts) × (0 < M.parts) }
-    ensures store { OnlyReads S.Store store.old store.new result }
-    ensures puts { NoPutFails K.Sink sink.old sink.new result }
-    ensures lines { PutsTextOf S.Store store.old K.Sink sink.old sink.new result
-        (λ file text. ListsSamples file id form text) }
-    ensures refusal { Refuses S.Store store.old store.new K.Sink sink.old sink.new result
-        (RefusesListing id form) }
-{
-    let mut steps = Steps::<L>::new(steps);
-    let mut looks = Steps::<M>::new(looks);
-    samples_counted(alloc, store, id, form, sink, &mut steps, &mut looks)
-}
-
-/// Puts a line for each sample of the track with this ID: number, decode time, composition time,
-/// duration, flags, description index, size. The whole file is judged, and all memory is taken,
-/// before the first line is put.
-pub fn samples<S: Store, K: Sink>(
-    alloc: Global,
-    store: &mut S,
-    id: u32,
-    form: Form,
-    sink: &mut K,
-) -> Result<(), Refusal>
-    ensures store { OnlyReads S.Store store.old store.new result }
-    ensures puts { NoPutFails K.Sink sink.old sink.new result }
-    ensures lines { PutsTextOf S.Store store.old K.Sink sink.old sink.new result
-        (λ file text. ListsSamples file id form text) }
-    ensures refusal { Refuses S.Store store.old store.new K.Sink sink.old sink.new result
-        (RefusesListing id form) }
-{
-    samples_blank::<S, K, Brand, Brand>(alloc, store, id, form, sink, Blank::new(1), Blank::new(1))
 }

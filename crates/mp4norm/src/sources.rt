@@ -1,9 +1,7 @@
 //! What a command reads: a file, by place, or standard input, whole.
-ghost use Rattle.std.specs.Prelude.{◌≡◌, ℕ, List, None, true, IfErr, OnOk};
-ghost use Rattle.std.specs.Io.KnownBytes.{Appends};
-ghost use Rattle.mp4norm.specs.format.Headline.{HasNormalForm};
 ghost use Rattle.mp4norm.specs.words.Jobs.{IsTextOf, RefusesJob, JobWorksWithin, JobLooksWithin};
-ghost use Rattle.mp4norm.specs.words.MainJob.{RefusesNormalise};
+ghost use Rattle.mp4norm.specs.words.MainJob.{Judges};
+ghost use Rattle.mp4norm.specs.words.OverDevices.{AnswersBytes, NoPutFails};
 
 use crate::explaining::explain;
 use crate::input::read_input;
@@ -70,8 +68,7 @@ pub(crate) fn open(rt: &HostRuntime, input: Input, report: &mut Report) -> Resul
 
 // Whether these bytes have a normal form.
 fn check_bytes(alloc: Global, bytes: &[u8]) -> Result<(), Refusal>
-    ensures accepted { OnOk result ((normal : List ℕ) × HasNormalForm bytes.now normal) }
-    ensures refusal { IfErr result (RefusesNormalise true bytes.now None None 0 0 0 0) }
+    ensures answer { Judges bytes.now result }
 {
     let mut store = MemStore::new(bytes);
     check(alloc, &mut store)
@@ -89,13 +86,9 @@ impl Source {
         steps: &mut Steps<L>,
         looks: &mut Steps<M>,
     ) -> Result<(), Refusal>
-        ensures puts { OnOk result (K.put_failures sink.new ≡ K.put_failures sink.old) }
-        ensures text { IfInput self.old (λ file. OnOk result ((text : List ℕ)
-            × IsTextOf job.entry file text
-            × Appends (K.contents sink.old) (K.contents sink.new) text)) }
-        ensures refusal { IfInput self.old (λ file. IfErr result (RefusesJob job.entry true file
-            (K.contents sink.old) (K.contents sink.new) 0 0 (K.put_failures sink.old)
-            (K.put_failures sink.new))) }
+        ensures puts { NoPutFails K.Sink sink.old sink.new result }
+        ensures answer { IfInput self.old (λ file. AnswersBytes file K.Sink sink.old sink.new result
+            (IsTextOf job.entry) (RefusesJob job.entry)) }
         ensures work { IfInput self.old
             (λ file. JobWorksWithin job.entry file steps.old steps.new) }
         ensures looks { IfInput self.old
@@ -113,10 +106,7 @@ impl Source {
     /// Whether what is read has a normal form. Of standard input the answer is of the bytes that
     /// were read.
     pub(crate) fn judge(&mut self, alloc: Global) -> Result<(), Refusal>
-        ensures accepted { IfInput self.old
-            (λ file. OnOk result ((bytes : List ℕ) × HasNormalForm file bytes)) }
-        ensures refusal { IfInput self.old
-            (λ file. IfErr result (RefusesNormalise true file None None 0 0 0 0)) }
+        ensures answer { IfInput self.old (λ file. Judges file result) }
     {
         match self {
             Source::File(store, _) => check(alloc, store),

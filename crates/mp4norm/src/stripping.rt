@@ -1,14 +1,13 @@
 //! A copy of a file in which the boxes of some types are free space.
-ghost use Rattle.std.specs.Prelude.{◌≡◌, ℕ, ◌+◌, ◌-◌, ◌<◌, ◌≤◌, List, ◌++◌, length, Ok, Err, IfOk, OnOk, OnErr, IsTrue};
-ghost use Rattle.mp4_boxes.specs.format.Box.{header_at};
-ghost use Rattle.mp4_boxes.specs.words.View.{top_header_seen};
-ghost use Rattle.mp4_boxes.specs.declared.rule.Rule.TheVariants.{File};
-ghost use Rattle.mp4_store.specs.words.Device.{AppendsPrefix, range};
-ghost use Rattle.mp4_present.specs.words.Carried.{waiting, BytesGoOn, RefusesCarry, RefusesRange};
-ghost use Rattle.mp4norm.specs.format.Strips.{is_top, freed, Strips, IsStripped, RefusesHeaderAgain, RefusesWalk, RefusesStrip};
+ghost use Rattle.std.specs.Prelude.{◌≡◌, ◌+◌, ◌-◌, ◌<◌, ◌≤◌, length, IfOk, OnOk};
+ghost use Rattle.mp4_store.specs.words.Device.{range};
+ghost use Rattle.mp4_present.specs.words.Carried.{RefusesCarry, RefusesRange};
+ghost use Rattle.mp4norm.specs.format.Strips.{freed, IsStripped, RefusesStrip};
 ghost use Rattle.mp4_present.specs.words.HandCarried.{RefusedByBoth};
 ghost use Rattle.mp4_present.specs.words.OverStores.{IsUnchanged, OnlyReads, RefusedOf, WhereHonest, WhereRead};
-ghost use Rattle.mp4norm.specs.words.OverDevices.{NoPutFails, PutsTextOf, Refuses};
+ghost use Rattle.mp4norm.specs.words.ListedWalks.{Carries};
+ghost use Rattle.mp4norm.specs.words.OverDevices.{Answers, KeepsFile, NoPutFails};
+ghost use Rattle.mp4norm.specs.words.StripSpans.{HasCopy, IsHeaderAt, LiesBetween, RefusesAgainAt, RefusesWalkAt, WhereStrips};
 
 use crate::boxes::rule_inside;
 use crate::headers_under::read_header;
@@ -31,11 +30,9 @@ fn read_header_again<S: Store>(
     requires some { at < end }
     requires within { end ≤ length (S.file store.old) }
     ensures store { OnlyReads S.Store store.old store.new result }
-    ensures header { WhereRead S.Store store.old result (λ file h.
-        header_at (is_top rule) (range file at (end - at)) ≡ Ok (top_header_seen at h)) }
-    ensures fits { IfOk result (λ h. (at + h.header ≤ h.end) × (8 ≤ h.header) × (h.end ≤ end)) }
-    ensures refusal { RefusedOf S.Store store.old store.new result (λ honest file.
-        RefusesHeaderAgain honest (range file at (end - at)) rule at) }
+    ensures header { WhereRead S.Store store.old result (IsHeaderAt rule at end) }
+    ensures fits { IfOk result (LiesBetween at end) }
+    ensures refusal { RefusedOf S.Store store.old store.new result (RefusesAgainAt rule at end) }
 {
     match read_header(store, rule, at, end) {
         Ok(header) => Ok(header),
@@ -55,8 +52,8 @@ fn read_headers<S: Store>(
     requires span { from ≤ end }
     requires within { end ≤ length (S.file store.old) }
     ensures store { OnlyReads S.Store store.old store.new result }
-    ensures refusal { RefusedOf S.Store store.old store.new result (λ honest file.
-        RefusesWalk names.now honest rule from (range file from (end - from))) }
+    ensures refusal { RefusedOf S.Store store.old store.new result
+        (RefusesWalkAt names.now rule from end) }
 {
     let mut at = from;
     while at < end {
@@ -80,10 +77,10 @@ fn judge_boxes<S: Store>(
     requires span { from ≤ end }
     requires within { end ≤ length (S.file store.old) }
     ensures store { OnlyReads S.Store store.old store.new result }
-    ensures judged { OnOk result (IsTrue (S.is_honest store.old) → (text : List ℕ)
-        × Strips names.now rule (range (S.file store.old) from (end - from)) text) }
-    ensures refusal { RefusedOf S.Store store.old store.new result (λ honest file.
-        RefusesWalk names.now honest rule from (range file from (end - from))) }
+    ensures judged { OnOk result (WhereHonest S.Store store.old
+        (HasCopy names.now rule from end)) }
+    ensures refusal { RefusedOf S.Store store.old store.new result
+        (RefusesWalkAt names.now rule from end) }
 {
     read_headers(names, rule, from, end, store)?;
     let mut at = from;
@@ -111,13 +108,9 @@ fn carry_freed<S: Store, K: Sink>(
     requires some { at + 8 ≤ end }
     requires within { end ≤ length (S.file store.old) }
     ensures store { OnlyReads S.Store store.old store.new result }
-    ensures puts { OnOk result (K.put_failures sink.new ≡ K.put_failures sink.old) }
-    ensures bytes { OnOk result (IsTrue (S.is_honest store.old)
-        → BytesGoOn (K.contents sink.old) (K.contents sink.new) (waiting carrier.old)
-        (waiting carrier.new) (freed (range (S.file store.old) at (end - at)))) }
-    ensures prefix { OnErr result (IsTrue (S.is_honest store.old)
-        → AppendsPrefix (K.contents sink.old) (K.contents sink.new) (waiting carrier.old
-        ++ freed (range (S.file store.old) at (end - at)))) }
+    ensures puts { NoPutFails K.Sink sink.old sink.new result }
+    ensures bytes { WhereHonest S.Store store.old (λ file. Carries K.Sink sink.old sink.new
+        carrier.old carrier.new (freed (range file at (end - at))) result) }
     ensures refusal { RefusedByBoth S.Store store.old store.new K.Sink sink.old sink.new result
         RefusesRange }
 {
@@ -139,16 +132,11 @@ fn carry_boxes<S: Store, K: Sink>(
     requires span { from ≤ end }
     requires within { end ≤ length (S.file store.old) }
     ensures store { OnlyReads S.Store store.old store.new result }
-    ensures puts { OnOk result (K.put_failures sink.new ≡ K.put_failures sink.old) }
-    ensures bytes { OnOk result (IsTrue (S.is_honest store.old) → (text : List ℕ)
-        → Strips names.now rule (range (S.file store.old) from (end - from)) text
-        → BytesGoOn (K.contents sink.old) (K.contents sink.new) (waiting carrier.old)
-        (waiting carrier.new) text) }
-    ensures prefix { OnErr result (IsTrue (S.is_honest store.old) → (text : List ℕ)
-        → Strips names.now rule (range (S.file store.old) from (end - from)) text
-        → AppendsPrefix (K.contents sink.old) (K.contents sink.new) (waiting carrier.old ++ text)) }
-    ensures unchanged { WhereHonest S.Store store.old (λ file. (text : List ℕ)
-        → Strips names.now rule (range file from (end - from)) text → IsUnchanged result) }
+    ensures puts { NoPutFails K.Sink sink.old sink.new result }
+    ensures bytes { WhereStrips S.Store store.old names.now rule from end (λ text.
+        Carries K.Sink sink.old sink.new carrier.old carrier.new text result) }
+    ensures unchanged { WhereStrips S.Store store.old names.now rule from end
+        (λ text. IsUnchanged result) }
     ensures refusal { RefusedByBoth S.Store store.old store.new K.Sink sink.old sink.new result
         RefusesCarry }
 {
@@ -179,12 +167,8 @@ pub fn strip<S: Store, K: Sink>(
     names: &[Name],
     sink: &mut K,
 ) -> Result<(), Refusal>
-    ensures store { OnlyReads S.Store store.old store.new result }
-    ensures puts { NoPutFails K.Sink sink.old sink.new result }
-    ensures bytes { PutsTextOf S.Store store.old K.Sink sink.old sink.new result
-        (IsStripped names.now) }
-    ensures refusal { Refuses S.Store store.old store.new K.Sink sink.old sink.new result
-        (RefusesStrip names.now) }
+    ensures answer { Answers S.Store store.old store.new K.Sink sink.old sink.new result
+        (IsStripped names.now) (RefusesStrip names.now) }
 {
     let mut carrier = Carrier::new(alloc, ROOM)?;
     let end = store.len();
@@ -200,8 +184,7 @@ pub fn count_named<S: Store>(
     store: &mut S,
     names: &[Name],
 ) -> Result<Vec<u64>, Refusal>
-    ensures honesty { S.is_honest store.new ≡ S.is_honest store.old }
-    ensures file { S.file store.new ≡ S.file store.old }
+    ensures store { KeepsFile S.Store store.old store.new }
     ensures many { IfOk result (λ counts. length counts.items ≡ length names.now) }
 {
     let mut counts = vec![in alloc; 0u64; names.len()]?;

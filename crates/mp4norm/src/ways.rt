@@ -1,9 +1,12 @@
 //! The way to a place of a file: the boxes in which it lies, from the file's own box on.
-ghost use Rattle.std.specs.Prelude.{◌≡◌, ℕ, ◌<◌, ◌≤◌, List, ◌++◌, OnOk, IfOk, IfSome, IsTrue};
+ghost use Rattle.std.specs.Prelude.{◌≡◌, ◌<◌, ◌≤◌, OnOk, IfSome, IsTrue};
 ghost use Rattle.mp4_boxes.specs.words.View.{box_seen};
 ghost use Rattle.mp4_present.specs.words.Reading.{IsTopHeader};
 ghost use Rattle.mp4norm.specs.format.BoxWalk.{IsWithin, top_seen};
-ghost use Rattle.mp4norm.specs.format.Ways.{HoldsPlace, IsChildAt, step_text, IsWay, IsWayIn};
+ghost use Rattle.mp4_present.specs.words.OverStores.{WhereHonest, WhereRead};
+ghost use Rattle.mp4norm.specs.format.Ways.{HoldsPlace, IsChildAt, step_text, IsWayIn};
+ghost use Rattle.mp4norm.specs.words.OverDevices.{KeepsFile};
+ghost use Rattle.mp4norm.specs.words.AddedWays.{AddsWay};
 
 use crate::boxes::rule_inside;
 use crate::line::Line;
@@ -70,8 +73,7 @@ fn child_at<'a>(view: &BoxView<'a>, place: u64) -> Option<BoxView<'a>>
 
 // Adds the way on from a box, and gives the type of the last one.
 fn push_way(text: &mut Vec<u8>, view: BoxView, rule: Rule, place: u64) -> Result<FourCc, AllocError>
-    ensures { OnOk result ((part : List ℕ) × IsWay place (box_seen view.entry) part
-        × (text.new.items ≡ text.old.items ++ part)) }
+    ensures { OnOk result (AddsWay place (box_seen view.entry) text.old.items text.new.items) }
 {
     let Some(inner) = rule_inside(rule, view.kind()) else {
         return Ok(view.kind());
@@ -91,11 +93,10 @@ fn push_way(text: &mut Vec<u8>, view: BoxView, rule: Rule, place: u64) -> Result
 // The file's own box in which the place lies, and which `moof` it is, if it is one. None where the
 // place lies behind a header that can't be read.
 fn top_at<S: Store>(store: &mut S, place: u64) -> Option<(TopBox, Option<u64>)>
-    ensures honesty { S.is_honest store.new ≡ S.is_honest store.old }
-    ensures file { S.file store.new ≡ S.file store.old }
+    ensures store { KeepsFile S.Store store.old store.new }
     ensures within { IfSome result (λ found. IsWithin (S.file store.old) found.0) }
-    ensures header { IfSome result (λ found. IsTrue (S.is_honest store.old)
-        → IsTopHeader (S.file store.old) found.0.offset found.0.header) }
+    ensures header { IfSome result (λ found. WhereHonest S.Store store.old
+        (λ file. IsTopHeader file found.0.offset found.0.header)) }
     ensures holds { IfSome result (λ found. (found.0.offset ≤ place)
         × (place < found.0.header.end)) }
 {
@@ -125,11 +126,9 @@ fn push_top_way<S: Store>(
     place: u64,
 ) -> Result<FourCc, Refusal>
     requires { IsWithin (S.file store.old) top }
-    ensures honesty { S.is_honest store.new ≡ S.is_honest store.old }
-    ensures file { S.file store.new ≡ S.file store.old }
-    ensures way { OnOk result (IsTrue (S.is_honest store.old) → (part : List ℕ)
-        × IsWay place (top_seen (S.file store.old) top) part
-        × (text.new.items ≡ text.old.items ++ part)) }
+    ensures store { KeepsFile S.Store store.old store.new }
+    ensures way { OnOk result (WhereHonest S.Store store.old
+        (λ file. AddsWay place (top_seen file top) text.old.items text.new.items)) }
 {
     let header = top.header;
     if top.offset == place || rule_inside(Rule::File, header.kind).is_none() {
@@ -144,10 +143,8 @@ fn push_top_way<S: Store>(
 
 /// The way to a place of the file, as far as its boxes can be read.
 pub fn way_to<S: Store>(alloc: Global, store: &mut S, place: u64) -> Result<Way, Refusal>
-    ensures honesty { S.is_honest store.new ≡ S.is_honest store.old }
-    ensures file { S.file store.new ≡ S.file store.old }
-    ensures way { IfOk result (λ w. IsTrue (S.is_honest store.old)
-        → IsWayIn (S.file store.old) place w.text.items) }
+    ensures store { KeepsFile S.Store store.old store.new }
+    ensures way { WhereRead S.Store store.old result (λ file w. IsWayIn file place w.text.items) }
 {
     let mut text = Vec::new(alloc);
     let Some((top, number)) = top_at(store, place) else {

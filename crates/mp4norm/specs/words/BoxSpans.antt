@@ -1,12 +1,14 @@
 -- The boxes between two places of a file, as boxes of a container.
-use Rattle.std.specs.Prelude.{ℕ, ◌-◌, List, Bool, true, false, IsTrue}
+use Rattle.std.specs.Prelude.{◌≡◌, ℕ, ◌-◌, List, ◌++◌, Bool, true, false, IsTrue}
 use Rattle.mp4_store.specs.words.Device.{HasRisen, range}
-use Rattle.mp4_boxes.specs.format.Box.{Container, Extent, to_end_of_file, to_end_of_box}
+use Rattle.mp4_boxes.specs.format.Box.{Container, Extent, Tiles, to_end_of_file, to_end_of_box}
 use Rattle.mp4_boxes.specs.declared.rule.Rule.{Rule}
 use Rattle.mp4_boxes.specs.declared.refusal.Refusal.{Refusal}
 use Rattle.mp4_boxes.specs.declared.refusal.Refusal.TheVariants as refusals
-use Rattle.mp4norm.specs.format.BoxWalk.{under, FaultSeen}
+use Rattle.mp4_present.specs.declared.reading.TopBox.{TopBox}
+use Rattle.mp4norm.specs.format.BoxWalk.{height, under, tops_seen, FaultSeen}
 use Rattle.mp4norm.specs.format.Strips.{holder, is_top}
+use Rattle.mp4norm.specs.format.Texts.{AreBoxLines}
 
 -- how far boxes go: those of the file itself to its end, others to the end of their box
 abbrev pub extent_of : Bool → Extent
@@ -23,6 +25,17 @@ span_of file rule start from end = record {
   bytes = range file from (end - from);
   extent = extent_of (is_top rule);
 }
+
+-- these are its boxes, wherever it begins itself
+abbrev pub TilesSpan : List ℕ → Rule → ℕ → ℕ → List TopBox → Type 0
+TilesSpan file rule from end boxes =
+    (start : ℕ) → Tiles (span_of file rule start from end) (tops_seen file boxes)
+
+-- the lines of its boxes, and of those in them, are added to a text, in so many containers
+abbrev pub AddsLines : List ℕ → Rule → ℕ → ℕ → ℕ → List ℕ → List ℕ → Type 0
+AddsLines file rule depth from end old new = (start : ℕ) → (part : List ℕ)
+    × AreBoxLines (height rule) depth rule (span_of file rule start from end) part
+    × (new ≡ old ++ part)
 
 -- why they are not listed
 abbrev pub RefusesSpan : Bool → List ℕ → Rule → ℕ → ℕ → ℕ → ℕ → Refusal → Type 0

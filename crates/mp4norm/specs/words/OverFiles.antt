@@ -1,12 +1,16 @@
 -- Two files that are compared, said of their stores. `S` and `T` are what bounds say of these.
-use Rattle.std.specs.Prelude.{ℕ, ◌+◌, ◌≤◌, Result, IfErr}
+use Rattle.std.specs.Prelude.{ℕ, ◌+◌, ◌≤◌, Bool, Result, IfOk, IfErr}
+use Rattle.mp4_boxes.specs.declared.refusal.Refusal.{Refusal}
 use Rattle.mp4_store.specs.declared.store.Store.{Ghosts as Store}
 use Rattle.mp4_store.specs.declared.sink.Sink.{Ghosts as Sink}
 use Rattle.mp4_present.specs.format.Denotes.{FileTree}
+use Rattle.mp4_present.specs.words.Differing.{RefusedBoth, RefusesSample}
 use Rattle.mp4_present.specs.words.Opening.{RefusesOpen}
+use Rattle.mp4_present.specs.words.OverStores.{OnlyReads}
 use Rattle.mp4_present.specs.words.WalkSteps.{walks_steps}
 use Rattle.mp4norm.specs.declared.comparing.Failure.{Failure}
-use Rattle.mp4norm.specs.words.Compares.{RefusesBoth, RefusesCompare}
+use Rattle.mp4norm.specs.words.Compares.{PutsAnswer, RefusesBoth, RefusesCompare}
+use Rattle.mp4norm.specs.words.OverDevices.{NoPutFails}
 
 -- the steps of one walk over all tracks of both
 abbrev pub WalksOnce : FileTree → FileTree → ℕ → ℕ → Type 0
@@ -21,3 +25,21 @@ FailsCompare S a a_after T b b_after K sink sink_after result = IfErr result (Re
     (RefusesBoth (S.is_honest a) (T.is_honest b) (S.read_failures a) (S.read_failures a_after)
     (T.read_failures b) (T.read_failures b_after))
     (K.contents sink) (K.contents sink_after) (K.put_failures sink) (K.put_failures sink_after))
+
+-- It only reads both stores, and is refused for a read of one of them, a sample that doesn't lie in
+-- its file any more, or want of memory.
+pub record ReadsBoth {X Y R : Type 0} (S : Store X) (a a_after : X) (T : Store Y) (b b_after : Y)
+    (result : Result R Refusal) : Type 0 where
+  pub left : OnlyReads S a a_after result
+  pub right : OnlyReads T b b_after result
+  pub refusal : RefusedBoth S a a_after T b b_after result RefusesSample
+
+-- It only reads both stores, and answers whether their files are the same: where they are, nothing
+-- is put, else some text. Or they are not compared, for a reason of the file that is named.
+pub record ComparesBoth {X Y Z : Type 0} (S : Store X) (a a_after : X) (T : Store Y)
+    (b b_after : Y) (K : Sink Z) (to to_after : Z) (result : Result Bool Failure) : Type 0 where
+  pub left : OnlyReads S a a_after result
+  pub right : OnlyReads T b b_after result
+  pub puts : NoPutFails K to to_after result
+  pub put : IfOk result (PutsAnswer (K.contents to) (K.contents to_after))
+  pub refusal : FailsCompare S a a_after T b b_after K to to_after result

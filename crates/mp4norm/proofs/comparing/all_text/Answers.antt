@@ -10,36 +10,40 @@ returns-then-is_empty-clause-said g c = λ told right tree other o u.
     empty_listed c.in_ok-listed.listed.all.items (files_differ c.args.leaving (g.S.Store.file c.args.a.now) tree (g.T.Store.file c.args.b.now) other)
     (c.in_ok-listed.ensures.all told right tree other o u) (sym c.is_empty.ensures ∙ c.if-is_empty.true)
 
-pub returns-then-is_empty-clause-work : goal.returns-then-is_empty-clause-work
-returns-then-is_empty-clause-work g c = λ told right tree other o u.
-    once_of_two _ _ (walks_steps tree) (walks_steps other) (c.in_ok-listed.ensures.work told right tree other o u)
+pub returns-then-is_empty-clause-opened : goal.returns-then-is_empty-clause-opened
+returns-then-is_empty-clause-opened g c = λ told right tree other o u.
+    (tt, once_of_two _ _ (walks_steps tree) (walks_steps other) (c.in_ok-listed.ensures.opened told right tree other o u).1)
 
-pub returns-in_err-enough-clause-unchanged : goal.returns-in_err-enough-clause-unchanged
-returns-in_err-enough-clause-unchanged g c = λ told right tree other o u.
+pub returns-in_err-enough-clause-opened : goal.returns-in_err-enough-clause-opened
+returns-in_err-enough-clause-opened g c =
     let p = err_from_is_err_and c.from_residual-in_err-enough.result c.from_residual-in_err-enough.ensures.1 in
     let is = c.in_ok-listed.ensures in
-    let cause = rw (is.store.honesty, is.store.file, is.store_right.honesty, is.store_right.file) at c.in_err-enough.ensures.unchanged in
-    rw (p.1, p.2) (cause told right tree other o u)
+    let more = rw (is.stores.left.honesty, is.stores.left.file, is.stores.right.honesty, is.stores.right.file) at c.in_err-enough.ensures.opened in
+    rw (p.1, p.2) (λ told right tree other o u.
+    let e = more told right tree other o u in
+    (e.0, both_of_two _ _ _ (walks_steps tree) (walks_steps other) (is.opened told right tree other o u).1 e.1))
 
-pub returns-in_err-enough-clause-work : goal.returns-in_err-enough-clause-work
-returns-in_err-enough-clause-work g c = λ told right tree other o u.
-    let is = c.in_ok-listed.ensures in
-    let more = rw (is.store.honesty, is.store.file, is.store_right.honesty, is.store_right.file) at c.in_err-enough.ensures.work in
-    both_of_two _ _ _ (walks_steps tree) (walks_steps other) (is.work told right tree other o u) (more told right tree other o u)
+pub returns-in_err-listed-clause-opened : goal.returns-in_err-listed-clause-opened
+returns-in_err-listed-clause-opened g c =
+    let p = err_from_is_err_and c.from_residual.result c.from_residual.ensures.1 in
+    rw (p.1, p.2) (λ told right tree other o u.
+    let e = c.in_err-listed.ensures.opened told right tree other o u in
+    (e.0, once_of_two _ _ (walks_steps tree) (walks_steps other) e.1))
 
-pub returns-in_err-listed_text-clause-work : goal.returns-in_err-listed_text-clause-work
-returns-in_err-listed_text-clause-work g c = λ told right tree other o u.
+pub returns-in_err-listed_text-clause-opened : goal.returns-in_err-listed_text-clause-opened
+returns-in_err-listed_text-clause-opened g c =
+    let p = err_from_is_err_and c.from_residual-in_err-listed_text.result c.from_residual-in_err-listed_text.ensures.1 in
     let is = c.in_ok-listed.ensures in
-    let more = rw (is.store.honesty, is.store.file, is.store_right.honesty, is.store_right.file) at c.in_ok-enough.ensures.work in
-    both_of_two _ _ _ (walks_steps tree) (walks_steps other) (is.work told right tree other o u) (more told right tree other o u)
+    let more = rw (is.stores.left.honesty, is.stores.left.file, is.stores.right.honesty, is.stores.right.file) at c.in_ok-enough.ensures.opened in
+    rw (p.1, p.2) (λ told right tree other o u. (λ e. cc, both_of_two _ _ _ (walks_steps tree) (walks_steps other) (is.opened told right tree other o u).1 (more told right tree other o u).1))
 
 pub returns-clause-said : goal.returns-clause-said
 returns-clause-said g c = λ told right tree other o u.
     some_listed c.in_ok-listed.listed.all.items (files_differ c.args.leaving (g.S.Store.file c.args.a.now) tree (g.T.Store.file c.args.b.now) other)
     (c.in_ok-listed.ensures.all told right tree other o u) (sym c.is_empty.ensures ∙ c.if-is_empty.false)
 
-pub returns-clause-work : goal.returns-clause-work
-returns-clause-work g c = λ told right tree other o u.
+pub returns-clause-opened : goal.returns-clause-opened
+returns-clause-opened g c = λ told right tree other o u.
     let is = c.in_ok-listed.ensures in
-    let more = rw (is.store.honesty, is.store.file, is.store_right.honesty, is.store_right.file) at c.in_ok-enough.ensures.work in
-    both_of_two _ _ _ (walks_steps tree) (walks_steps other) (is.work told right tree other o u) (more told right tree other o u)
+    let more = rw (is.stores.left.honesty, is.stores.left.file, is.stores.right.honesty, is.stores.right.file) at c.in_ok-enough.ensures.opened in
+    (tt, both_of_two _ _ _ (walks_steps tree) (walks_steps other) (is.opened told right tree other o u).1 (more told right tree other o u).1)

@@ -1,3 +1,4 @@
+use Rattle.std.proofs.Common.{◌∙◌}
 use Rattle.mp4_present.specs.words.Opening.{RefusesOpen}
 use Rattle.mp4norm.proofs.ComparedFiles.{both_looked, both_walked, first_alone, together, verdict}
 use Rattle.mp4norm.proofs.StepsTaken.{not_opened}
@@ -15,23 +16,30 @@ returns-in-Err-open_movie-clause-work g c = λ told right.
     both_looked _ _ c.in-Ok.left _ _ _ (c.in-Ok.ensures.movie told) (c.in-Ok.ensures.work told)
     (not_opened _ _ _ _ _ _ is.refusal right is.ensures.refusal (is.ensures.work right) (is.ensures.within right))
 
-pub returns-in-Err-text_of-clause-refusal : goal.returns-in-Err-text_of-clause-refusal
-returns-in-Err-text_of-clause-refusal g c =
+pub returns-in-Err-text_of-clause-answer : goal.returns-in-Err-text_of-clause-answer
+returns-in-Err-text_of-clause-answer g c =
     let left = c.in-Ok.ensures in
     let next = c.in-Ok-open_movie.ensures in
-    let unchanged = rw (left.store.honesty, left.store.file, next.store.honesty, next.store.file) at c.in-Err-text_of.ensures.unchanged in
-    let cause = rw (left.store.reads, next.store.reads) at c.in-Err-text_of.ensures.refusal in
-    together (RefusesOpen (g.S.Store.is_honest c.args.a.now) (g.S.Store.file c.args.a.now) (g.S.Store.read_failures c.args.a.now) (g.S.Store.read_failures c.text_of.new.a))
-    (RefusesOpen (g.T.Store.is_honest c.args.b.now) (g.T.Store.file c.args.b.now) (g.T.Store.read_failures c.args.b.now) (g.T.Store.read_failures c.text_of.new.b))
-    _ _ _ _ _ _ (g.K.Sink.contents c.args.sink.now) (g.K.Sink.put_failures c.args.sink.now) c.in-Err-text_of.refusal c.failed_together.result c.failed_together.ensures.side c.failed_together.ensures.refusal cause
-    (λ told right. let a = left.movie told in let b = next.movie right in unchanged told right a.0 b.0 a.1 b.1)
+    let e = c.in-Err-text_of.ensures in
+    let opened = rw (left.store.honesty, left.store.file, next.store.honesty, next.store.file) at e.opened in
+    let cause = rw (left.store.reads, next.store.reads) at e.stores.refusal in
+    record {
+      left = record { honesty = e.stores.left.honesty ∙ left.store.honesty; file = e.stores.left.file ∙ left.store.file; reads = tt };
+      right = record { honesty = e.stores.right.honesty ∙ next.store.honesty; file = e.stores.right.file ∙ next.store.file; reads = tt };
+      puts = tt;
+      put = tt;
+      refusal = together (RefusesOpen (g.S.Store.is_honest c.args.a.now) (g.S.Store.file c.args.a.now) (g.S.Store.read_failures c.args.a.now) (g.S.Store.read_failures c.text_of.new.a))
+          (RefusesOpen (g.T.Store.is_honest c.args.b.now) (g.T.Store.file c.args.b.now) (g.T.Store.read_failures c.args.b.now) (g.T.Store.read_failures c.text_of.new.b))
+          _ _ _ _ _ _ (g.K.Sink.contents c.args.sink.now) (g.K.Sink.put_failures c.args.sink.now) c.in-Err-text_of.refusal c.failed_together.result c.failed_together.ensures.side c.failed_together.ensures.refusal cause
+          (λ told right. let a = left.movie told in let b = next.movie right in (opened told right a.0 b.0 a.1 b.1).0);
+    }
 
 pub returns-in-Err-text_of-clause-work : goal.returns-in-Err-text_of-clause-work
 returns-in-Err-text_of-clause-work g c = λ told right.
     let left = c.in-Ok.ensures in
     let next = c.in-Ok-open_movie.ensures in
-    let walks = rw (left.store.honesty, left.store.file, next.store.honesty, next.store.file) at c.in-Err-text_of.ensures.work in
-    both_walked _ _ _ _ _ _ _ _ (left.movie told) (next.movie right) (left.work told) (next.work right) (walks told right)
+    let walks = rw (left.store.honesty, left.store.file, next.store.honesty, next.store.file) at c.in-Err-text_of.ensures.opened in
+    both_walked _ _ _ _ _ _ _ _ (left.movie told) (next.movie right) (left.work told) (next.work right) (λ tree other o u. (walks told right tree other o u).1)
 
 pub returns-in-Ok-put_found-clause-verdict : goal.returns-in-Ok-put_found-clause-verdict
 returns-in-Ok-put_found-clause-verdict g c = λ told right.
@@ -46,15 +54,15 @@ pub returns-in-Ok-put_found-clause-work : goal.returns-in-Ok-put_found-clause-wo
 returns-in-Ok-put_found-clause-work g c = λ told right.
     let left = c.in-Ok.ensures in
     let next = c.in-Ok-open_movie.ensures in
-    let walks = rw (left.store.honesty, left.store.file, next.store.honesty, next.store.file) at c.in-Ok-text_of.ensures.work in
-    both_walked _ _ _ _ _ _ _ _ (left.movie told) (next.movie right) (left.work told) (next.work right) (walks told right)
+    let walks = rw (left.store.honesty, left.store.file, next.store.honesty, next.store.file) at c.in-Ok-text_of.ensures.opened in
+    both_walked _ _ _ _ _ _ _ _ (left.movie told) (next.movie right) (left.work told) (next.work right) (λ tree other o u. (walks told right tree other o u).1)
 
 pub returns-clause-work : goal.returns-clause-work
 returns-clause-work g c = λ told right.
     let left = c.in-Ok.ensures in
     let next = c.in-Ok-open_movie.ensures in
-    let walks = rw (left.store.honesty, left.store.file, next.store.honesty, next.store.file) at c.in-Ok-text_of.ensures.work in
-    both_walked _ _ _ _ _ _ _ _ (left.movie told) (next.movie right) (left.work told) (next.work right) (walks told right)
+    let walks = rw (left.store.honesty, left.store.file, next.store.honesty, next.store.file) at c.in-Ok-text_of.ensures.opened in
+    both_walked _ _ _ _ _ _ _ _ (left.movie told) (next.movie right) (left.work told) (next.work right) (λ tree other o u. (walks told right tree other o u).1)
 
 -- ---- looks
 

@@ -9,9 +9,9 @@ returns-in-None-clause-said g c = λ told right tree other o u.
     let said = first_said is.field-0 (files_differ c.args.leaving (g.S.Store.file c.args.a.now) tree (g.T.Store.file c.args.b.now) other) (is.ensures.first told right tree other o u) in
     rw c.in-None.is at said
 
-pub returns-in-None-clause-work : goal.returns-in-None-clause-work
-returns-in-None-clause-work g c = λ told right tree other o u.
-    once_of_two _ _ (walks_steps tree) (walks_steps other) (c.in_ok-compare-in-First.ensures.work told right tree other o u)
+pub returns-in-None-clause-opened : goal.returns-in-None-clause-opened
+returns-in-None-clause-opened g c = λ told right tree other o u.
+    (tt, once_of_two _ _ (walks_steps tree) (walks_steps other) (c.in_ok-compare-in-First.ensures.work told right tree other o u))
 
 pub returns-in_ok-first_text-in-Some-clause-said : goal.returns-in_ok-first_text-in-Some-clause-said
 returns-in_ok-first_text-in-Some-clause-said g c = λ told right tree other o u.
@@ -19,6 +19,6 @@ returns-in_ok-first_text-in-Some-clause-said g c = λ told right tree other o u.
     let said = first_said is.field-0 (files_differ c.args.leaving (g.S.Store.file c.args.a.now) tree (g.T.Store.file c.args.b.now) other) (is.ensures.first told right tree other o u) in
     rw c.in-Some.is at said
 
-pub returns-in_ok-first_text-in-Some-clause-work : goal.returns-in_ok-first_text-in-Some-clause-work
-returns-in_ok-first_text-in-Some-clause-work g c = λ told right tree other o u.
-    once_of_two _ _ (walks_steps tree) (walks_steps other) (c.in_ok-compare-in-First.ensures.work told right tree other o u)
+pub returns-in_ok-first_text-in-Some-clause-opened : goal.returns-in_ok-first_text-in-Some-clause-opened
+returns-in_ok-first_text-in-Some-clause-opened g c = λ told right tree other o u.
+    (tt, once_of_two _ _ (walks_steps tree) (walks_steps other) (c.in_ok-compare-in-First.ensures.work told right tree other o u))

@@ -1,4 +1,4 @@
-use Rattle.std.proofs.Common.{refl}
+use Rattle.std.proofs.Common.{refl, ◌∙◌}
 use Rattle.std.proofs.lemmas.Result.{err_from_is_err_and}
 use Rattle.mp4_present.specs.words.SamplesComing.{track_samples}
 use Rattle.mp4_present.proofs.WalkCopied.{on_ok, on_err}
@@ -9,41 +9,55 @@ use Rattle.mp4norm.proofs.StepsTaken.{not_looked, looked_within, walked_within}
 use Rattle.mp4norm.proofs.LooksTaken.{not_found, finds_taken}
 use Rattle.mp4norm.proofs.extract.extract_counted.Goals as goal
 
-pub returns-in_err-movie-clause-refusal : goal.returns-in_err-movie-clause-refusal
-returns-in_err-movie-clause-refusal g c =
+pub returns-in_err-movie-clause-answer : goal.returns-in_err-movie-clause-answer
+returns-in_err-movie-clause-answer g c =
     let p = err_from_is_err_and c.from_residual.result c.from_residual.ensures.1 in
-    rw (p.1, p.2) (open_refuses _ _ _ _ _ _ _ _ c.in_err-movie.field-0.0 c.in_err-movie.ensures.refusal)
+    let e = c.in_err-movie.ensures in
+    rw (p.1, p.2) (record {
+      store = record { honesty = e.store.honesty; file = e.store.file; reads = tt };
+      puts = tt;
+      written = tt;
+      refusal = open_refuses _ _ _ _ _ _ _ _ c.in_err-movie.field-0.0 e.refusal;
+    })
 
-pub returns-in_err-track-clause-refusal : goal.returns-in_err-track-clause-refusal
-returns-in_err-track-clause-refusal g c =
+pub returns-in_err-track-clause-answer : goal.returns-in_err-track-clause-answer
+returns-in_err-track-clause-answer g c =
     let p = err_from_is_err_and c.from_residual-in_err-track.result c.from_residual-in_err-track.ensures.1 in
+    let e = c.in_ok-movie.ensures in
     let n = rw c.tracks.ensures at c.in_err-track.ensures.none in
-    rw (p.1, p.2, n.0) (λ told. (let o = c.in_ok-movie.ensures.movie told in lacks (g.S.Store.file c.args.store.now) c.in_ok-movie.movie o.0 c.args.id o.1 n.1), refl)
+    rw (p.1, p.2, n.0) (record {
+      store = record { honesty = e.store.honesty; file = e.store.file; reads = tt };
+      puts = tt;
+      written = tt;
+      refusal = (λ told. (let o = e.movie told in lacks (g.S.Store.file c.args.store.now) c.in_ok-movie.movie o.0 c.args.id o.1 n.1), refl);
+    })
 
-pub returns-clause-bytes : goal.returns-clause-bytes
-returns-clause-bytes g c =
+pub returns-clause-answer : goal.returns-clause-answer
+returns-clause-answer g c =
     let file = g.S.Store.file c.args.store.now in
-    on_ok _ _ c.copy_track.result (λ all told.
-    let o = c.in_ok-movie.ensures.movie told in
-    let f = track_found file c.in_ok-movie.movie o.0 c.in_ok-track.track c.args.id o.1 (rw c.tracks.ensures at c.in_ok-track.ensures.within) (rw c.tracks.ensures at c.in_ok-track.ensures.track) in
-    (sample_bytes file (track_samples o.0 f.t), has_data file o.0 c.in_ok-track.track c.args.id f, all told o.0 f.t o.1 f.is_there))
-    (rw (c.in_ok-movie.ensures.store.honesty, c.in_ok-movie.ensures.store.file) at c.copy_track.ensures.bytes)
-
-pub returns-clause-refusal : goal.returns-clause-refusal
-returns-clause-refusal g c =
-    let file = g.S.Store.file c.args.store.now in
-    let prefix = rw (c.in_ok-movie.ensures.store.honesty, c.in_ok-movie.ensures.store.file) at c.copy_track.ensures.prefix in
-    let unchanged = rw (c.in_ok-movie.ensures.store.honesty, c.in_ok-movie.ensures.store.file) at c.copy_track.ensures.unchanged in
-    let cause = rw c.in_ok-movie.ensures.store.reads at c.copy_track.ensures.refusal in
-    text_refuses c.copy_track.result (g.S.Store.is_honest c.args.store.now) file c.args.id (HasData file c.args.id) _ _ _ _ _ _ cause
-    (λ told.
-    let o = c.in_ok-movie.ensures.movie told in
-    let f = track_found file c.in_ok-movie.movie o.0 c.in_ok-track.track c.args.id o.1 (rw c.tracks.ensures at c.in_ok-track.ensures.within) (rw c.tracks.ensures at c.in_ok-track.ensures.track) in
-    on_err _ _ c.copy_track.result (λ all. (sample_bytes file (track_samples o.0 f.t), has_data file o.0 c.in_ok-track.track c.args.id f, all told o.0 f.t o.1 f.is_there)) prefix)
-    (λ told.
-    let o = c.in_ok-movie.ensures.movie told in
-    let f = track_found file c.in_ok-movie.movie o.0 c.in_ok-track.track c.args.id o.1 (rw c.tracks.ensures at c.in_ok-track.ensures.within) (rw c.tracks.ensures at c.in_ok-track.ensures.track) in
-    unchanged told o.0 f.t o.1 f.is_there)
+    let e = c.in_ok-movie.ensures in
+    let y = c.copy_track.ensures in
+    let bytes = rw (e.store.honesty, e.store.file) at y.bytes in
+    let prefix = rw (e.store.honesty, e.store.file) at y.prefix in
+    let unchanged = rw (e.store.honesty, e.store.file) at y.unchanged in
+    let cause = rw e.store.reads at y.refusal in
+    record {
+      store = record { honesty = y.store.honesty ∙ e.store.honesty; file = y.store.file ∙ e.store.file; reads = rw e.store.reads at y.store.reads };
+      puts = y.puts;
+      written = on_ok _ _ c.copy_track.result (λ all told.
+          let o = e.movie told in
+          let f = track_found file c.in_ok-movie.movie o.0 c.in_ok-track.track c.args.id o.1 (rw c.tracks.ensures at c.in_ok-track.ensures.within) (rw c.tracks.ensures at c.in_ok-track.ensures.track) in
+          (sample_bytes file (track_samples o.0 f.t), has_data file o.0 c.in_ok-track.track c.args.id f, all told o.0 f.t o.1 f.is_there)) bytes;
+      refusal = text_refuses c.copy_track.result (g.S.Store.is_honest c.args.store.now) file c.args.id (HasData file c.args.id) _ _ _ _ _ _ cause
+          (λ told.
+          let o = e.movie told in
+          let f = track_found file c.in_ok-movie.movie o.0 c.in_ok-track.track c.args.id o.1 (rw c.tracks.ensures at c.in_ok-track.ensures.within) (rw c.tracks.ensures at c.in_ok-track.ensures.track) in
+          on_err _ _ c.copy_track.result (λ all. (sample_bytes file (track_samples o.0 f.t), has_data file o.0 c.in_ok-track.track c.args.id f, all told o.0 f.t o.1 f.is_there)) prefix)
+          (λ told.
+          let o = e.movie told in
+          let f = track_found file c.in_ok-movie.movie o.0 c.in_ok-track.track c.args.id o.1 (rw c.tracks.ensures at c.in_ok-track.ensures.within) (rw c.tracks.ensures at c.in_ok-track.ensures.track) in
+          unchanged told o.0 f.t o.1 f.is_there);
+    }
 
 -- ---- steps
 

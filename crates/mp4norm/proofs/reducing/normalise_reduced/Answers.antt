@@ -1,25 +1,36 @@
+use Rattle.std.proofs.Common.{◌∙◌}
 use Rattle.std.proofs.lemmas.Result.{err_from_is_err_and}
 use Rattle.mp4norm.proofs.StepsTaken.{not_opened, written_within}
 use Rattle.mp4norm.proofs.LooksTaken.{not_found, not_turned, turns_taken}
 use Rattle.mp4norm.proofs.ReducedNormalised.{reduced_open_refuses, reduced_write_refuses, reduced_written, reduced_front, reduced_unchanged, reduced_too_long}
 use Rattle.mp4norm.proofs.reducing.normalise_reduced.Goals as goal
 
-pub returns-in_err-movie-clause-refusal : goal.returns-in_err-movie-clause-refusal
-returns-in_err-movie-clause-refusal g c =
+pub returns-in_err-movie-clause-answer : goal.returns-in_err-movie-clause-answer
+returns-in_err-movie-clause-answer g c =
     let p = err_from_is_err_and c.from_residual.result c.from_residual.ensures.1 in
-    rw (p.1, p.2) (reduced_open_refuses c.args.leaving _ _ _ _ _ _ c.in_err-movie.field-0.0 c.in_err-movie.ensures.refusal)
+    let e = c.in_err-movie.ensures in
+    rw (p.1, p.2) (record {
+      store = record { honesty = e.store.honesty; file = e.store.file; reads = tt };
+      puts = tt;
+      written = tt;
+      refusal = reduced_open_refuses c.args.leaving _ _ _ _ _ _ c.in_err-movie.field-0.0 e.refusal;
+    })
 
-pub returns-clause-written : goal.returns-clause-written
-returns-clause-written g c =
-    reduced_written c.args.leaving _ _ _ _ _ c.in_ok-movie.ensures.store.honesty c.in_ok-movie.ensures.store.file c.in_ok-movie.ensures.movie c.write_reduced.result _ _ c.write_reduced.ensures.bytes
-
-pub returns-clause-refusal : goal.returns-clause-refusal
-returns-clause-refusal g c =
-    let cause = rw c.in_ok-movie.ensures.store.reads at c.write_reduced.ensures.refusal in
-    reduced_write_refuses c.args.leaving c.write_reduced.result _ _ _ _ _ _ _ _ cause
-    (reduced_front c.args.leaving _ _ _ _ _ c.in_ok-movie.ensures.store.honesty c.in_ok-movie.ensures.store.file c.in_ok-movie.ensures.movie c.write_reduced.result _ _ c.write_reduced.ensures.prefix)
-    (reduced_unchanged c.args.leaving _ _ _ _ _ c.in_ok-movie.ensures.store.honesty c.in_ok-movie.ensures.store.file c.in_ok-movie.ensures.movie c.write_reduced.result c.write_reduced.ensures.unchanged)
-    (reduced_too_long c.args.leaving _ _ _ _ _ c.in_ok-movie.ensures.store.honesty c.in_ok-movie.ensures.store.file c.in_ok-movie.ensures.movie c.write_reduced.result (λ told tree o. (c.write_reduced.ensures.long told tree o).fault))
+pub returns-clause-answer : goal.returns-clause-answer
+returns-clause-answer g c =
+    let l = c.args.leaving in
+    let o = c.in_ok-movie.ensures in
+    let w = c.write_reduced.ensures in
+    let cause = rw o.store.reads at w.refusal in
+    record {
+      store = record { honesty = w.devices.honesty ∙ o.store.honesty; file = w.devices.file ∙ o.store.file; reads = rw o.store.reads at w.devices.reads };
+      puts = w.devices.puts;
+      written = reduced_written l _ _ _ _ _ o.store.honesty o.store.file o.movie c.write_reduced.result _ _ w.bytes;
+      refusal = reduced_write_refuses l c.write_reduced.result _ _ _ _ _ _ _ _ cause
+          (reduced_front l _ _ _ _ _ o.store.honesty o.store.file o.movie c.write_reduced.result _ _ w.prefix)
+          (reduced_unchanged l _ _ _ _ _ o.store.honesty o.store.file o.movie c.write_reduced.result w.unchanged)
+          (reduced_too_long l _ _ _ _ _ o.store.honesty o.store.file o.movie c.write_reduced.result (λ told tree o. (w.long told tree o).fault));
+    }
 
 pub returns-in_err-movie-clause-work : goal.returns-in_err-movie-clause-work
 returns-in_err-movie-clause-work g c = λ told.

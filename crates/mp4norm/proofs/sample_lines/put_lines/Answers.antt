@@ -3,16 +3,18 @@ use Rattle.std.proofs.lemmas.Result.{err_from_is_err_and}
 use Rattle.mp4_present.specs.words.Carried.{waiting}
 use Rattle.mp4norm.specs.format.Texts.{sample_at_line, sample_at_lines}
 use Rattle.mp4norm.proofs.Going.{going_more, line_added, block_fails, all_lines_put, last_block_fails, none_left, one_fewer}
+use Rattle.mp4_present.proofs.WalkCopied.{on_ok}
+use Rattle.mp4norm.proofs.Matched.{match_both}
 use Rattle.mp4norm.proofs.sample_lines.put_lines.Goals as goal
 
-pub returns-in_err-make_room-clause-prefix : goal.returns-in_err-make_room-clause-prefix
-returns-in_err-make_room-clause-prefix g c =
+pub returns-in_err-make_room-clause-lines : goal.returns-in_err-make_room-clause-lines
+returns-in_err-make_room-clause-lines g c =
     let rest = g.C.Samples.rest in
     let contents = g.K.Sink.contents in
     let l = c.loop-sample in
     let p = err_from_is_err_and c.from_residual.result c.from_residual.ensures.1 in
     rw p.1 (λ fits. block_fails (contents c.args.sink.now) (contents l.sink) (contents c.make_room.new.sink) (waiting c.args.carrier.now) (waiting l.carrier ++ l.block) (sample_at_lines c.args.form l.number (rest l.samples))
-    (sample_at_lines c.args.form c.args.number.now (rest c.args.samples.now)) (l.invariant.lines fits) c.in_err-make_room.ensures.prefix)
+    (sample_at_lines c.args.form c.args.number.now (rest c.args.samples.now)) (l.invariant.lines fits) c.in_err-make_room.ensures.bytes)
 
 pub loop-sample-preserved : goal.loop-sample-preserved
 loop-sample-preserved g c =
@@ -41,15 +43,12 @@ returns-clause-lines g c =
     let rest = g.C.Samples.rest in
     let contents = g.K.Sink.contents in
     let l = c.loop-sample in
-    all_lines_put c.carry.result (c.args.number.now + length (rest c.args.samples.now) < 2 ^ 64) c.args.form (contents c.args.sink.now) (contents l.sink) (contents c.carry.new.sink)
+    let none = none_left (rest l.samples) c.in_default.ensures.given in
+    match_both _ _ c.carry.result
+    (on_ok _ _ c.carry.result (λ lines fits. (lines fits, (let whole = rw none at l.invariant.number fits in omega (arith, whole))))
+    (all_lines_put c.carry.result (c.args.number.now + length (rest c.args.samples.now) < 2 ^ 64) c.args.form (contents c.args.sink.now) (contents l.sink) (contents c.carry.new.sink)
     (waiting c.args.carrier.now) (waiting l.carrier) (waiting c.carry.new.self) l.block (sample_at_lines c.args.form c.args.number.now (rest c.args.samples.now)) l.number (rest l.samples)
-    (λ fits. l.invariant.lines fits) (none_left (rest l.samples) c.in_default.ensures.given) (rw c.as_bytes.ensures at c.carry.ensures.bytes)
-
-pub returns-clause-prefix : goal.returns-clause-prefix
-returns-clause-prefix g c =
-    let rest = g.C.Samples.rest in
-    let contents = g.K.Sink.contents in
-    let l = c.loop-sample in
-    last_block_fails c.carry.result (c.args.number.now + length (rest c.args.samples.now) < 2 ^ 64) (contents c.args.sink.now) (contents l.sink) (contents c.carry.new.sink)
+    (λ fits. l.invariant.lines fits) none (rw c.as_bytes.ensures at c.carry.ensures.bytes)))
+    (last_block_fails c.carry.result (c.args.number.now + length (rest c.args.samples.now) < 2 ^ 64) (contents c.args.sink.now) (contents l.sink) (contents c.carry.new.sink)
     (waiting c.args.carrier.now) (waiting l.carrier ++ l.block) (sample_at_lines c.args.form l.number (rest l.samples)) (sample_at_lines c.args.form c.args.number.now (rest c.args.samples.now))
-    (λ fits. l.invariant.lines fits) (rw c.as_bytes.ensures at c.carry.ensures.prefix)
+    (λ fits. l.invariant.lines fits) (rw c.as_bytes.ensures at c.carry.ensures.prefix))

@@ -9,19 +9,18 @@ use Rattle.mp4norm.proofs.WalkLines.{lines_next, lines_fail, lines_stop, lines_w
 use Rattle.mp4_present.proofs.WayThrough.{takes_then, takes_most, most_then}
 use Rattle.mp4norm.proofs.samples.put_walk.Goals as goal
 
-pub returns-in_err-put_hand-clause-prefix : goal.returns-in_err-put_hand-clause-prefix
-returns-in_err-put_hand-clause-prefix g c =
+pub returns-in_err-put_hand-clause-lines : goal.returns-in_err-put_hand-clause-lines
+returns-in_err-put_hand-clause-lines g c =
     let p = err_from_is_err_and c.from_residual.result c.from_residual.ensures.1 in
     let file = g.S.Store.file c.args.store.now in
     let contents = g.K.Sink.contents c.args.sink.now in
     let held = waiting c.args.carrier.now in
-    let x = c.in_err-put_hand.ensures.prefix in
-    rw p.1 (λ told tree t samples o k few. lines_fail c.args.form file tree t c.args.movie.now contents contents _ held held c.args.walk.now 1 samples samples (going_none contents held (sample_at_lines c.args.form 1 samples)) refl few k x.0 x.1 x.2)
-
-pub returns-in_err-put_hand-clause-unchanged : goal.returns-in_err-put_hand-clause-unchanged
-returns-in_err-put_hand-clause-unchanged g c told tree t samples o k few =
-    let p = err_from_is_err_and c.from_residual.result c.from_residual.ensures.1 in
-    rw (p.1, p.2) (put_unchanged _ _ c.in_err-put_hand.field-0.0 c.in_err-put_hand.ensures.refusal)
+    let x = c.in_err-put_hand.ensures.lines in
+    rw (p.1, p.2) (λ told tree t samples o k few. record {
+      all = tt;
+      front = lines_fail c.args.form file tree t c.args.movie.now contents contents _ held held c.args.walk.now 1 samples samples (going_none contents held (sample_at_lines c.args.form 1 samples)) refl few k x.0 x.1 x.2;
+      unchanged = put_unchanged _ _ c.in_err-put_hand.field-0.0 c.in_err-put_hand.ensures.puts;
+    })
 
 pub loop-walk-init : goal.loop-walk-init
 loop-walk-init g c =
@@ -30,28 +29,28 @@ loop-walk-init g c =
     let contents = g.K.Sink.contents c.args.sink.now in
     let held = waiting c.args.carrier.now in
     record {
-      walk = e.walk;
+      walk = e.walk.walk;
       honesty = refl;
       file = refl;
       reads = refl;
       puts = e.puts;
       going = λ told tree t samples o k few.
           lines_next c.args.form file tree t c.args.movie.now contents contents _ held held c.args.walk.now 1 samples samples (going_none contents held (sample_at_lines c.args.form 1 samples)) refl few k e.lines.0 e.lines.1
-          (waiting c.put_hand.new.carrier) c.put_hand.new.walk c.put_hand.new.number e.lines.2 e.stands;
+          (waiting c.put_hand.new.carrier) c.put_hand.new.walk c.put_hand.new.number e.lines.2 e.walk.stands;
       takes = λ told tree t n o may. e.work file tree t n o may;
     }
 
-pub returns-in_err-load-clause-prefix : goal.returns-in_err-load-clause-prefix
-returns-in_err-load-clause-prefix g c =
-    let p = err_from_is_err_and c.from_residual-in_err-load.result c.from_residual-in_err-load.ensures.1 in
-    rw p.1 (λ told tree t samples o k few. let u = c.loop-walk.invariant.going told tree t samples o k few in lines_stop c.args.form _ _ (waiting c.args.carrier.now) (waiting c.loop-walk.carrier) c.loop-walk.number (samples_behind tree t u.earlier u.later) samples u.goes)
-
-pub returns-in_err-load-clause-unchanged : goal.returns-in_err-load-clause-unchanged
-returns-in_err-load-clause-unchanged g c told tree t samples o k few =
+pub returns-in_err-load-clause-lines : goal.returns-in_err-load-clause-lines
+returns-in_err-load-clause-lines g c =
     let p = err_from_is_err_and c.from_residual-in_err-load.result c.from_residual-in_err-load.ensures.1 in
     let i = c.loop-walk.invariant in
+    rw (p.1, p.2) (λ told tree t samples o k few.
     let u = i.going told tree t samples o k few in
-    rw (p.1, p.2) ((rw (i.honesty, i.file) at c.in_err-load.ensures.loaded) told tree t u.earlier u.later o u.stands)
+    record {
+      all = tt;
+      front = lines_stop c.args.form _ _ (waiting c.args.carrier.now) (waiting c.loop-walk.carrier) c.loop-walk.number (samples_behind tree t u.earlier u.later) samples u.goes;
+      unchanged = (rw (i.honesty, i.file) at c.in_err-load.ensures.loaded) told tree t u.earlier u.later o u.stands;
+    })
 
 pub loop-walk-preserved : goal.loop-walk-preserved
 loop-walk-preserved g c =
@@ -61,7 +60,7 @@ loop-walk-preserved g c =
     let file = g.S.Store.file c.args.store.now in
     let m = c.args.movie.now in
     record {
-      walk = e.walk;
+      walk = e.walk.walk;
       honesty = l.store.honesty ∙ i.honesty;
       file = l.store.file ∙ i.file;
       reads = l.store.reads ∙ i.reads;
@@ -71,58 +70,47 @@ loop-walk-preserved g c =
           let to_come = samples_behind tree t u.earlier u.later in
           let comes = loads_more file tree t m to_come c.load.new.self c.in_ok-load.field-0 c.if-branch.true ((rw (i.honesty, i.file) at l.loaded) told tree t u.earlier u.later o u.stands) in
           lines_next c.args.form file tree t m _ _ _ (waiting c.args.carrier.now) (waiting c.loop-walk.carrier) c.load.new.self c.loop-walk.number samples to_come u.goes u.count few comes e.lines.0 e.lines.1 (waiting c.put_hand-in-loop-walk.new.carrier)
-          c.put_hand-in-loop-walk.new.walk c.put_hand-in-loop-walk.new.number e.lines.2 e.stands;
+          c.put_hand-in-loop-walk.new.walk c.put_hand-in-loop-walk.new.number e.lines.2 e.walk.stands;
       takes = λ told tree t n o may.
           let loads = takes_then file tree t n _ _ _ c.loop-walk.walk c.load.new.self (i.takes told tree t n o may) (λ k may. (rw (i.honesty, i.file) at l.work) told tree t k o may) in
           takes_then file tree t n _ _ _ c.load.new.self c.put_hand-in-loop-walk.new.walk loads (λ k may. e.work file tree t k o may);
     }
 
-pub returns-in_err-put_hand-2-clause-prefix : goal.returns-in_err-put_hand-2-clause-prefix
-returns-in_err-put_hand-2-clause-prefix g c =
+pub returns-in_err-put_hand-2-clause-lines : goal.returns-in_err-put_hand-2-clause-lines
+returns-in_err-put_hand-2-clause-lines g c =
     let p = err_from_is_err_and c.from_residual-in_err-put_hand-2.result c.from_residual-in_err-put_hand-2.ensures.1 in
     let i = c.loop-walk.invariant in
     let l = c.in_ok-load.ensures in
     let file = g.S.Store.file c.args.store.now in
     let m = c.args.movie.now in
-    let x = c.in_err-put_hand-2.ensures.prefix in
-    rw p.1 (λ told tree t samples o k few.
+    let x = c.in_err-put_hand-2.ensures.lines in
+    rw (p.1, p.2) (λ told tree t samples o k few.
     let u = i.going told tree t samples o k few in
     let to_come = samples_behind tree t u.earlier u.later in
     let comes = loads_more file tree t m to_come c.load.new.self c.in_ok-load.field-0 c.if-branch.true ((rw (i.honesty, i.file) at l.loaded) told tree t u.earlier u.later o u.stands) in
-    lines_fail c.args.form file tree t m _ _ _ (waiting c.args.carrier.now) (waiting c.loop-walk.carrier) c.load.new.self c.loop-walk.number samples to_come u.goes u.count few comes x.0 x.1 x.2)
-
-pub returns-in_err-put_hand-2-clause-unchanged : goal.returns-in_err-put_hand-2-clause-unchanged
-returns-in_err-put_hand-2-clause-unchanged g c told tree t samples o k few =
-    let p = err_from_is_err_and c.from_residual-in_err-put_hand-2.result c.from_residual-in_err-put_hand-2.ensures.1 in
-    rw (p.1, p.2) (put_unchanged _ _ c.in_err-put_hand-2.field-0.0 c.in_err-put_hand-2.ensures.refusal)
+    record {
+      all = tt;
+      front = lines_fail c.args.form file tree t m _ _ _ (waiting c.args.carrier.now) (waiting c.loop-walk.carrier) c.load.new.self c.loop-walk.number samples to_come u.goes u.count few comes x.0 x.1 x.2;
+      unchanged = put_unchanged _ _ c.in_err-put_hand-2.field-0.0 c.in_err-put_hand-2.ensures.puts;
+    })
 
 pub returns-clause-lines : goal.returns-clause-lines
-returns-clause-lines g c =
+returns-clause-lines g c told tree t samples o k few =
     let i = c.loop-walk.invariant in
     let file = g.S.Store.file c.args.store.now in
-    on_ok _ _ c.flush.result (λ p told tree t samples o k few.
     let u = i.going told tree t samples o k few in
     let to_come = samples_behind tree t u.earlier u.later in
     let none = loads_none file tree t c.args.movie.now to_come c.load.new.self c.in_ok-load.field-0 c.if-branch.false ((rw (i.honesty, i.file) at c.in_ok-load.ensures.loaded) told tree t u.earlier u.later o u.stands) in
-    lines_whole c.args.form _ _ _ (waiting c.args.carrier.now) (waiting c.loop-walk.carrier) c.loop-walk.number to_come samples u.goes none p) c.flush.ensures.bytes
-
-pub returns-clause-prefix : goal.returns-clause-prefix
-returns-clause-prefix g c =
-    let i = c.loop-walk.invariant in
-    let file = g.S.Store.file c.args.store.now in
-    on_err _ _ c.flush.result (λ p told tree t samples o k few.
-    let u = i.going told tree t samples o k few in
-    let to_come = samples_behind tree t u.earlier u.later in
-    let none = loads_none file tree t c.args.movie.now to_come c.load.new.self c.in_ok-load.field-0 c.if-branch.false ((rw (i.honesty, i.file) at c.in_ok-load.ensures.loaded) told tree t u.earlier u.later o u.stands) in
-    lines_not_put c.args.form _ _ _ (waiting c.args.carrier.now) (waiting c.loop-walk.carrier) c.loop-walk.number to_come samples u.goes none p) c.flush.ensures.prefix
-
-pub returns-clause-unchanged : goal.returns-clause-unchanged
-returns-clause-unchanged g c told tree t samples o k few = if_err _ _ c.flush.result (λ r w. put_unchanged _ _ r w) c.flush.ensures.refusal
+    record {
+      all = on_ok _ _ c.flush.result (λ p. lines_whole c.args.form _ _ _ (waiting c.args.carrier.now) (waiting c.loop-walk.carrier) c.loop-walk.number to_come samples u.goes none p) c.flush.ensures.bytes;
+      front = on_err _ _ c.flush.result (λ p. lines_not_put c.args.form _ _ _ (waiting c.args.carrier.now) (waiting c.loop-walk.carrier) c.loop-walk.number to_come samples u.goes none p) c.flush.ensures.prefix;
+      unchanged = if_err _ _ c.flush.result (λ r w. put_unchanged _ _ r w) c.flush.ensures.refusal;
+    }
 
 -- ---- steps
 
 pub returns-in_err-put_hand-clause-work : goal.returns-in_err-put_hand-clause-work
-returns-in_err-put_hand-clause-work g c told tree t n o may = let idle = c.in_err-put_hand.ensures.idle in omega (arith, idle)
+returns-in_err-put_hand-clause-work g c told tree t n o may = let idle = c.in_err-put_hand.ensures.work in omega (arith, idle)
 
 pub returns-in_err-load-clause-work : goal.returns-in_err-load-clause-work
 returns-in_err-load-clause-work g c told tree t n o may =
@@ -135,7 +123,7 @@ returns-in_err-put_hand-2-clause-work g c told tree t n o may =
     let file = g.S.Store.file c.args.store.now in
     let loads = takes_then file tree t n _ _ _ c.loop-walk.walk c.load.new.self (i.takes told tree t n o may) (λ k may. (rw (i.honesty, i.file) at c.in_ok-load.ensures.work) told tree t k o may) in
     let most = takes_most file tree t n _ _ c.load.new.self loads in
-    let idle = c.in_err-put_hand-2.ensures.idle in
+    let idle = c.in_err-put_hand-2.ensures.work in
     omega (arith, most, idle)
 
 pub returns-clause-work : goal.returns-clause-work

@@ -9,8 +9,8 @@ use Rattle.mp4norm.proofs.HeadersUnder.{some_there}
 use Rattle.mp4norm.proofs.StripCopies.{copying_none, copying_all, copying_stops, copy_freed, freed_fails, copy_kept, kept_fails, copy_entered, entered_header_fails, entered_fails, entered_part, again_unchanged, again_carried, range_unchanged, range_carried}
 use Rattle.mp4norm.proofs.stripping.+carry_boxes.Goals as goal
 
-pub returns-in_err-header-clause-prefix : goal.returns-in_err-header-clause-prefix
-returns-in_err-header-clause-prefix g t c =
+pub returns-in_err-header-clause-bytes : goal.returns-in_err-header-clause-bytes
+returns-in_err-header-clause-bytes g t c =
     let p = err_from_is_err_and c.from_residual.result c.from_residual.ensures.1 in
     let i = c.loop-at.invariant in
     let file = g.S.Store.file c.args.store.now in
@@ -35,8 +35,8 @@ returns-in_err-header-clause-refusal g t c =
     rw (p.1, p.2) (again_carried (g.S.Store.is_honest c.args.store.now) (range file c.loop-at.at (c.args.end - c.loop-at.at)) c.args.rule c.loop-at.at (g.S.Store.read_failures c.args.store.now) (g.S.Store.read_failures c.read_header_again.new.store) (g.K.Sink.put_failures c.args.sink.now)
     (g.K.Sink.put_failures c.loop-at.sink) c.in_err-header.field-0.0 x)
 
-pub returns-in_err-carry_freed-clause-prefix : goal.returns-in_err-carry_freed-clause-prefix
-returns-in_err-carry_freed-clause-prefix g t c =
+pub returns-in_err-carry_freed-clause-bytes : goal.returns-in_err-carry_freed-clause-bytes
+returns-in_err-carry_freed-clause-bytes g t c =
     let p = err_from_is_err_and c.from_residual-in_err-carry_freed.result c.from_residual-in_err-carry_freed.ensures.1 in
     let i = c.loop-at.invariant in
     let file = g.S.Store.file c.args.store.now in
@@ -46,7 +46,7 @@ returns-in_err-carry_freed-clause-prefix g t c =
     let read = rw (i.honesty, i.file) at e.header in
     let some = some_there file c.loop-at.at c.args.end c.loop-at-test.true c.requires.within in
     let named : is_named c.args.names.now c.args.rule c.in_ok-header.header.kind.0 ≡ true = search rules in
-    let x = rw (e.store.honesty ∙ i.honesty, e.store.file ∙ i.file) at c.in_err-carry_freed.ensures.prefix in
+    let x = rw (e.store.honesty ∙ i.honesty, e.store.file ∙ i.file) at c.in_err-carry_freed.ensures.bytes in
     rw p.1 (λ told text s. freed_fails c.args.names.now c.args.rule file c.args.end c.loop-at.at h w.0 w.2 some (read told) _ _ (waiting c.args.carrier.now) (waiting c.loop-at.carrier) text (i.goes told text s) _ named (x told))
 
 pub returns-in_err-carry_freed-clause-unchanged : goal.returns-in_err-carry_freed-clause-unchanged
@@ -62,8 +62,8 @@ returns-in_err-carry_freed-clause-refusal g t c =
     let e = c.in_ok-header.ensures in
     rw (p.1, p.2) (range_carried _ _ _ _ c.in_err-carry_freed.field-0.0 (rw (e.store.reads ∙ i.reads, i.puts) at c.in_err-carry_freed.ensures.refusal))
 
-pub returns-in_err-carry_range-clause-prefix : goal.returns-in_err-carry_range-clause-prefix
-returns-in_err-carry_range-clause-prefix g t c =
+pub returns-in_err-carry_range-clause-bytes : goal.returns-in_err-carry_range-clause-bytes
+returns-in_err-carry_range-clause-bytes g t c =
     let p = err_from_is_err_and c.from_residual-in_err-carry_range.result c.from_residual-in_err-carry_range.ensures.1 in
     let i = c.loop-at.invariant in
     let file = g.S.Store.file c.args.store.now in
@@ -90,8 +90,8 @@ returns-in_err-carry_range-clause-refusal g t c =
     let e = c.in_ok-header.ensures in
     rw (p.1, p.2) (range_carried _ _ _ _ c.in_err-carry_range.field-0.0 (rw (e.store.reads ∙ i.reads, i.puts) at c.in_err-carry_range.ensures.refusal))
 
-pub returns-in_err-carry_boxes-clause-prefix : goal.returns-in_err-carry_boxes-clause-prefix
-returns-in_err-carry_boxes-clause-prefix g t c =
+pub returns-in_err-carry_boxes-clause-bytes : goal.returns-in_err-carry_boxes-clause-bytes
+returns-in_err-carry_boxes-clause-bytes g t c =
     let p = err_from_is_err_and c.from_residual-in_err-carry_boxes.result c.from_residual-in_err-carry_boxes.ensures.1 in
     let i = c.loop-at.invariant in
     let file = g.S.Store.file c.args.store.now in
@@ -104,7 +104,7 @@ returns-in_err-carry_boxes-clause-prefix g t c =
     let into : rule_inside c.args.rule c.in_ok-header.header.kind.0 ≡ Some c.in-Some.inner = search rules in
     let head = c.in_ok-carry_range.ensures in
     let first = rw (c.from-head.ensures, e.store.honesty ∙ i.honesty, e.store.file ∙ i.file) at head.bytes in
-    let x = rw (c.from-head.ensures, head.honesty ∙ e.store.honesty ∙ i.honesty, head.file ∙ e.store.file ∙ i.file) at c.in_err-carry_boxes.ensures.prefix in
+    let x = rw (c.from-head.ensures, head.honesty ∙ e.store.honesty ∙ i.honesty, head.file ∙ e.store.file ∙ i.file) at c.in_err-carry_boxes.ensures.bytes in
     rw p.1 (λ told text s. entered_fails c.args.names.now c.args.rule file c.args.end c.loop-at.at h w.0 w.2 some (read told) _ _ (waiting c.args.carrier.now) (waiting c.loop-at.carrier) text (i.goes told text s) c.in-Some.inner named into _ _ (waiting c.carry_range.new.self) (first told) (x told))
 
 pub returns-in_err-carry_boxes-clause-unchanged : goal.returns-in_err-carry_boxes-clause-unchanged
@@ -133,8 +133,8 @@ returns-in_err-carry_boxes-clause-refusal g t c =
     let head = c.in_ok-carry_range.ensures in
     rw (p.1, p.2) (rw (head.reads ∙ e.store.reads ∙ i.reads, head.puts ∙ i.puts) at c.in_err-carry_boxes.ensures.refusal)
 
-pub returns-in_err-carry_range-2-clause-prefix : goal.returns-in_err-carry_range-2-clause-prefix
-returns-in_err-carry_range-2-clause-prefix g t c =
+pub returns-in_err-carry_range-2-clause-bytes : goal.returns-in_err-carry_range-2-clause-bytes
+returns-in_err-carry_range-2-clause-bytes g t c =
     let p = err_from_is_err_and c.from_residual-in_err-carry_range-2.result c.from_residual-in_err-carry_range-2.ensures.1 in
     let i = c.loop-at.invariant in
     let file = g.S.Store.file c.args.store.now in

@@ -7,7 +7,7 @@ use Rattle.mp4norm.proofs.ways.way_to.Goals as goal
 pub returns-clause-way : goal.returns-clause-way
 returns-clause-way g c = λ told.
     let file = g.S.Store.file c.args.store.now in
-    let way = rw (c.in-Some.ensures.honesty, c.in-Some.ensures.file) at c.in_ok-last.ensures.way in
+    let way = rw (c.in-Some.ensures.store.honesty, c.in-Some.ensures.store.file) at c.in_ok-last.ensures.way in
     let w = way told in
     let first : c.extend_from_slice.new.self.items ≡ step_text c.in-Some.top.header.kind.0 c.in-Some.number = search rules in
     top_goes file c.args.place c.in-Some.top c.in-Some.number (top_seen file c.in-Some.top) w.0 c.push_top_way.new.text.items

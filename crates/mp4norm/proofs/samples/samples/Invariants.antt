@@ -1,7 +1,0 @@
-use Rattle.mp4norm.proofs.samples.samples.Given as goal
-
-abbrev pub ghosts-samples_blank-L-Ledger : goal.ghosts-samples_blank-L-Ledger
-ghosts-samples_blank-L-Ledger g a = record { name = a.steps.name; parts = a.steps.parts }
-
-abbrev pub ghosts-samples_blank-M-Ledger : goal.ghosts-samples_blank-M-Ledger
-ghosts-samples_blank-M-Ledger g a = record { name = a.looks.name; parts = a.looks.parts }
