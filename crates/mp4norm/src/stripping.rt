@@ -5,7 +5,7 @@ ghost use Rattle.mp4_present.specs.words.Carried.{RefusesCarry, RefusesRange};
 ghost use Rattle.mp4norm.specs.format.Strips.{freed, IsStripped, RefusesStrip};
 ghost use Rattle.mp4_present.specs.words.HandCarried.{RefusedByBoth};
 ghost use Rattle.mp4_present.specs.words.OverStores.{IsUnchanged, OnlyReads, RefusedOf, WhereHonest, WhereRead};
-ghost use Rattle.mp4norm.specs.words.ListedWalks.{Carries};
+ghost use Rattle.mp4_plan.specs.words.OverCarrying.{Carries};
 ghost use Rattle.mp4norm.specs.words.OverDevices.{Answers, KeepsFile, NoPutFails};
 ghost use Rattle.mp4norm.specs.words.StripSpans.{HasCopy, IsHeaderAt, LiesBetween, RefusesAgainAt, RefusesWalkAt, WhereStrips};
 
@@ -110,7 +110,7 @@ fn carry_freed<S: Store, K: Sink>(
     ensures store { OnlyReads S.Store store.old store.new result }
     ensures puts { NoPutFails K.Sink sink.old sink.new result }
     ensures bytes { WhereHonest S.Store store.old (λ file. Carries K.Sink sink.old sink.new
-        carrier.old carrier.new (freed (range file at (end - at))) result) }
+        carrier.old carrier.new result (freed (range file at (end - at)))) }
     ensures refusal { RefusedByBoth S.Store store.old store.new K.Sink sink.old sink.new result
         RefusesRange }
 {
@@ -134,7 +134,7 @@ fn carry_boxes<S: Store, K: Sink>(
     ensures store { OnlyReads S.Store store.old store.new result }
     ensures puts { NoPutFails K.Sink sink.old sink.new result }
     ensures bytes { WhereStrips S.Store store.old names.now rule from end (λ text.
-        Carries K.Sink sink.old sink.new carrier.old carrier.new text result) }
+        Carries K.Sink sink.old sink.new carrier.old carrier.new result text) }
     ensures unchanged { WhereStrips S.Store store.old names.now rule from end
         (λ text. IsUnchanged result) }
     ensures refusal { RefusedByBoth S.Store store.old store.new K.Sink sink.old sink.new result

@@ -38,13 +38,6 @@ PassesOn K sink sink_after held held_after result = MatchResult result
     (λ _. BytesGoOn (K.contents sink) (K.contents sink_after) held held_after [])
     (λ _. AppendsPrefix (K.contents sink) (K.contents sink_after) held)
 
--- these bytes follow what waited; at Err some of the first bytes of both were put
-abbrev pub Carries : {Y T E : Type 0} → Sink Y → Y → Y → Carrier → Carrier → List ℕ → Result T E
-    → Type 0
-Carries K sink sink_after c c_after bytes result = MatchResult result
-    (λ _. BytesGoOn (K.contents sink) (K.contents sink_after) (waiting c) (waiting c_after) bytes)
-    (λ _. AppendsPrefix (K.contents sink) (K.contents sink_after) (waiting c ++ bytes))
-
 -- The lines of these samples follow, numbered on from a number, where 64 bits can number them: at
 -- Ok all of them, and the number goes on by as many; at Err some of the first bytes were put.
 abbrev pub PutsLines : {Y T E : Type 0} → Sink Y → Y → Y → Carrier → Carrier → Form → ℕ → ℕ
