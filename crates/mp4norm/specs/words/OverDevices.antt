@@ -42,8 +42,8 @@ Refuses S store store_after K sink sink_after result why = IfErr result
     (S.read_failures store) (S.read_failures store_after)
     (K.put_failures sink) (K.put_failures sink_after))
 
--- It only reads the store, and answers with a text for which this is true of its file; or it is
--- refused, for a reason for which that is true.
+-- It only reads the store, and answers with a text: over an honest store this is true of the file
+-- and of the text. Or it is refused, for a reason for which that is true.
 pub record Answers {X Y T : Type 0} (S : Store X) (from from_after : X) (K : Sink Y)
     (to to_after : Y) (result : Result T Refusal) (IsText : List ℕ → List ℕ → Type 0)
     (why : Bool → List ℕ → Option (List ℕ) → Option (List ℕ) → ℕ → ℕ → ℕ → ℕ → Refusal → Type 0)
@@ -75,8 +75,8 @@ pub record KeepsFile {X : Type 0} (S : Store X) (before after : X) : Type 0 wher
   pub honesty : S.is_honest after ≡ S.is_honest before
   pub file : S.file after ≡ S.file before
 
--- It only reads the store, and gives an answer for which this is true of its file; or it is
--- refused, for a reason for which that is true.
+-- It only reads the store, and gives an answer: over an honest store this is true of the file and
+-- of the answer. Or it is refused, for a reason for which that is true.
 pub record Reads {X T : Type 0} (S : Store X) (before after : X) (result : Result T Refusal)
     (IsAnswer : List ℕ → T → Type 0) (why : Bool → List ℕ → ℕ → ℕ → Refusal → Type 0)
     : Type 0 where
