@@ -1,5 +1,5 @@
 //! A piece that is fed with samples.
-use crate::ends::{End, Fed, goes_in, has_ended};
+use crate::ends::{End, Fed, has_ended};
 use crate::gathered::{Gathered, gather_more, gathered_first};
 use crate::joined::Stretches;
 use crate::rows::{Row, row_of};
@@ -111,9 +111,12 @@ impl Planner {
         ensures { result ≡ goes_in self.now.end (description_in self.now.gathered (sample.now ∷ []))
             sample.now }
     {
+        if has_ended(&self.end, sample) {
+            return false;
+        }
         match &self.gathered {
-            Some(gathered) => goes_in(&self.end, gathered.description, sample),
-            None => !has_ended(&self.end, sample),
+            Some(gathered) => sample.description == gathered.description,
+            None => true,
         }
     }
 
