@@ -23,6 +23,7 @@ pub mod NumbersTold
 pub mod OverStores
 pub mod HeadsLeft
 pub mod HandCarried
+pub mod OverCarriers
 pub mod ToOpen
 pub mod OverWalks
 pub mod OwnMoofs
