@@ -26,4 +26,9 @@ pub mod HandCarried
 pub mod OverCarriers
 pub mod ToOpen
 pub mod OverWalks
+pub mod OverMarks
+pub mod OverFaults
+pub mod OverDifferences
+pub mod OverTables
+pub mod OverHands
 pub mod OwnMoofs
