@@ -8,13 +8,13 @@ ghost use Rattle.mp4_present.specs.words.SamplesComing.{Comes};
 ghost use Rattle.mp4_present.specs.words.InHand.{Follows, left_in_hand};
 ghost use Rattle.mp4_present.specs.words.Joined.{IsBelow, sample_bytes};
 ghost use Rattle.mp4_present.specs.words.Movies.{IsWalkOf};
+ghost use Rattle.mp4_present.specs.words.OverCarriers.{Carries, OnlyCopies, TakesAlong};
 ghost use Rattle.mp4_present.specs.words.OverStores.{IsUnchanged, WhereHonest};
 ghost use Rattle.mp4_present.specs.words.OverWalks.{TakesSteps, WhereComes};
 ghost use Rattle.mp4_plan.specs.words.ComingLess.{ComesLess};
 ghost use Rattle.mp4_plan.specs.words.GoneOn.{GoesPast, WentOn};
 ghost use Rattle.mp4_plan.specs.words.HandsFed.{sizes_of};
-ghost use Rattle.mp4_plan.specs.words.OverCarrying.{AreThere, Carries, CarriesFirst, HasMarkInHand, MarksNext, StepsAgain, StepsInHand, StepsMarked, TakesAlong, WhereMarkedLess, WhereMayFinish, WhereToldLess};
-ghost use Rattle.mp4_plan.specs.words.OverDevices.{OnlyCopies};
+ghost use Rattle.mp4_plan.specs.words.OverCarrying.{AreThere, CarriesFirst, HasMarkInHand, MarksNext, StepsAgain, StepsInHand, StepsMarked, WhereMarkedLess, WhereMayFinish, WhereToldLess};
 ghost use Rattle.mp4_plan.specs.words.OverLess.{KeepsWalk};
 ghost use Rattle.mp4_plan.specs.words.WriterSteps.{WritesOn};
 

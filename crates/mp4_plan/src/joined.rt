@@ -32,9 +32,8 @@ impl Span {
     ghost use Rattle.std.specs.Prelude.{◌≡◌, ◌+◌, ◌≤◌, length, IfOk};
     ghost use Rattle.mp4_present.specs.words.Carried.{RefusesCarry};
     ghost use Rattle.mp4_present.specs.words.HandCarried.{RefusedByBoth};
+    ghost use Rattle.mp4_present.specs.words.OverCarriers.{Carries, OnlyCopies, TakesAlong};
     ghost use Rattle.mp4_present.specs.words.OverStores.{IsUnchanged, WhereHonest};
-    ghost use Rattle.mp4_plan.specs.words.OverCarrying.{Carries, TakesAlong};
-    ghost use Rattle.mp4_plan.specs.words.OverDevices.{OnlyCopies};
     ghost use Rattle.mp4_plan.specs.words.Stretches.{span_len, span_bytes, EndsBelow};
 
     // How many bytes these are.
@@ -86,9 +85,8 @@ impl Stretches {
     ghost use Rattle.mp4_tables.specs.declared.sample.SampleAt.{SampleAt};
     ghost use Rattle.mp4_present.specs.words.Carried.{RefusesCarry};
     ghost use Rattle.mp4_present.specs.words.HandCarried.{RefusedByBoth};
+    ghost use Rattle.mp4_present.specs.words.OverCarriers.{Carries, OnlyCopies, TakesAlong};
     ghost use Rattle.mp4_present.specs.words.OverStores.{IsUnchanged, WhereHonest};
-    ghost use Rattle.mp4_plan.specs.words.OverCarrying.{Carries, TakesAlong};
-    ghost use Rattle.mp4_plan.specs.words.OverDevices.{OnlyCopies};
     ghost use Rattle.mp4_plan.specs.words.Stretches.{AreBytesOf, spans_of, spans_bytes, spans_len, EndsBelow, Tells, JoinsOn, IsRoomFor};
 
     /// Those of no samples.

@@ -5,8 +5,8 @@ ghost use Rattle.mp4_store.specs.words.Device.{AppendsPrefix};
 ghost use Rattle.mp4_tables.specs.format.Groups.{GroupKey as KeySeen};
 ghost use Rattle.mp4_tables.specs.words.Keys.{key_seen, keys_seen};
 ghost use Rattle.mp4_present.specs.words.Carried.{BytesGoOn, waiting};
+ghost use Rattle.mp4_present.specs.words.OverCarriers.{Carries, OnlyPuts};
 ghost use Rattle.mp4_plan.specs.format.Normal.{own};
-ghost use Rattle.mp4_plan.specs.words.OverCarrying.{Carries, OnlyPuts};
 ghost use Rattle.mp4_plan.specs.words.Spelling.{offset_of, run_row, run_rows, group_row, group_rows, runs_left, WritesRuns};
 ghost use Rattle.mp4_plan.specs.words.UsedKeys.{used_seen, is_above, is_below, least_above, used_from, IsKeyAt, AreApart, key_front, group_front, group_bytes, groups_bytes, some_groups};
 

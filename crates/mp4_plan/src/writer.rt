@@ -16,15 +16,16 @@ ghost use Rattle.mp4_present.specs.words.WalkSteps.{walks_steps};
 ghost use Rattle.mp4_plan.specs.format.Normal.{normal};
 ghost use Rattle.mp4_plan.specs.words.PutPieces.{PiecesFollow, IsPutWhole};
 ghost use Rattle.mp4_plan.specs.words.WriterSteps.{MayAllWrite, WriteAllBegin, writing_steps};
-ghost use Rattle.mp4_plan.specs.words.OverCarrying.{AreThere, Carries};
+ghost use Rattle.mp4_plan.specs.words.OverCarrying.{AreThere};
 ghost use Rattle.mp4_plan.specs.words.OverWriters.{IsPlanned, MayCarry, OnTurn, OnlyCarries, OnlyNotes, StepsToCarry, StepsToNote, WhereNoted, WithKeys};
-ghost use Rattle.mp4_plan.specs.words.OverDevices.{IsMade, OnlyCopies, OverOpened, TellsLong};
+ghost use Rattle.mp4_plan.specs.words.OverDevices.{IsMade, OverOpened, TellsLong};
 ghost use Rattle.mp4_plan.specs.words.Turns.{movie_turns};
 ghost use Rattle.mp4_present.specs.words.HandCarried.{RefusedByBoth};
 ghost use Rattle.mp4_present.specs.words.Carried.{RefusesCarry, RefusesCopy};
 ghost use Rattle.mp4_present.specs.declared.walks.Walk.{Walk};
 ghost use Rattle.mp4_plan.specs.words.Gathering.{more_of, piece_from};
 ghost use Rattle.mp4_present.specs.words.Movies.{RefusesLoad};
+ghost use Rattle.mp4_present.specs.words.OverCarriers.{Carries, OnlyCopies};
 ghost use Rattle.mp4_plan.specs.words.Writers.{RefusesPlan, IsWriterOf, turn_head, sequence_behind, IsReady, bytes_of_piece, turn_bytes, HasNoted, HaveCopied};
 ghost use Rattle.mp4_plan.specs.format.Held.{held};
 

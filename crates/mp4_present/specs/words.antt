@@ -23,6 +23,12 @@ pub mod NumbersTold
 pub mod OverStores
 pub mod HeadsLeft
 pub mod HandCarried
+pub mod OverCarriers
 pub mod ToOpen
 pub mod OverWalks
+pub mod OverMarks
+pub mod OverFaults
+pub mod OverDifferences
+pub mod OverTables
+pub mod OverHands
 pub mod OwnMoofs

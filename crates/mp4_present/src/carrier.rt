@@ -1,7 +1,8 @@
 //! Bytes on their way to a sink, through one buffer.
-ghost use Rattle.std.specs.Prelude.{◌≡◌, ◌+◌, ◌<◌, ◌≤◌, ◌++◌, length, take, vec_len, IfErr, OnOk, IsTrue};
-ghost use Rattle.mp4_boxes.specs.declared.refusal.Refusal.TheVariants as refusals;
-ghost use Rattle.mp4_store.specs.words.Device.{HasRisen, range};
+ghost use Rattle.std.specs.Prelude.{◌≡◌, ◌+◌, ◌<◌, ◌≤◌, ◌++◌, length, take, vec_len, OnOk};
+ghost use Rattle.mp4_store.specs.words.Device.{range};
+ghost use Rattle.mp4_present.specs.words.OverStores.{OnlyReads, Refused, WhereHonest};
+ghost use Rattle.mp4_present.specs.words.Reading.{RefusesFront};
 
 use mp4_boxes::Refusal;
 use mp4_store::{Sink, Store};
@@ -34,24 +35,24 @@ fn read_in<S: Store>(
 ) -> Result<(), Refusal>
     requires place { from + len ≤ length (S.file store.old) }
     requires room { at + len ≤ length buffer.old }
-    ensures honesty { S.is_honest store.new ≡ S.is_honest store.old }
-    ensures file { S.file store.new ≡ S.file store.old }
-    ensures bytes { OnOk result (IsTrue (S.is_honest store.old)
-        → take (at + len) buffer.new ≡ take at buffer.old ++ range (S.file store.old) from len) }
-    ensures reads { OnOk result (S.read_failures store.new ≡ S.read_failures store.old) }
-    ensures refusal { IfErr result (λ r. (r ≡ refusals.StoreFailed)
-        × HasRisen (S.read_failures store.old) (S.read_failures store.new)) }
+    ensures store { OnlyReads S.Store store.old store.new result }
+    ensures bytes { OnOk result (WhereHonest S.Store store.old (λ file.
+        take (at + len) buffer.new ≡ take at buffer.old ++ range file from len)) }
+    ensures refusal { Refused S.Store store.old store.new result RefusesFront }
 {
     store.read_at(from, &mut buffer[at..at + len])?;
     Ok(())
 }
 
 impl Carrier {
-    ghost use Rattle.std.specs.Prelude.{◌≡◌, ◌+◌, ◌<◌, ◌≤◌, [], ◌++◌, length, vec_len, IfOk, IfErr, OnOk, OnErr, IsTrue};
+    ghost use Rattle.std.specs.Prelude.{◌≡◌, ◌+◌, ◌<◌, ◌≤◌, [], ◌++◌, length, vec_len, IfOk, OnOk, OnErr};
     ghost use Rattle.std.specs.Io.KnownBytes.{Appends};
-    ghost use Rattle.mp4_boxes.specs.declared.refusal.Refusal.TheVariants as refusals;
-    ghost use Rattle.mp4_store.specs.words.Device.{AppendsPrefix, HasRisen, range};
-    ghost use Rattle.mp4_present.specs.words.Carried.{waiting, BytesGoOn, GoOnBy, RefusesPut, RefusesRange};
+    ghost use Rattle.mp4_store.specs.words.Device.{AppendsPrefix, range};
+    ghost use Rattle.mp4_present.specs.words.Carried.{waiting, RefusesRange};
+    ghost use Rattle.mp4_present.specs.words.HandCarried.{RefusedByBoth};
+    ghost use Rattle.mp4_present.specs.words.OverCarriers.{Carries, HasRoomFor, OnlyPuts, PutsFrontOf, RefusedByPut, TakesBytes, TakesMany};
+    ghost use Rattle.mp4_present.specs.words.OverStores.{OnlyReads, Refused, WhereHonest};
+    ghost use Rattle.mp4_present.specs.words.Reading.{RefusesFront};
 
     /// A buffer of so many bytes, at least one.
     pub fn new(alloc: Global, len: usize) -> Result<Carrier, AllocError>
@@ -72,8 +73,7 @@ impl Carrier {
         ensures prefix { OnErr result
             (AppendsPrefix (K.contents sink.old) (K.contents sink.new) (waiting self.old)) }
         ensures puts { OnOk result (K.put_failures sink.new ≡ K.put_failures sink.old) }
-        ensures refusal { IfErr result
-            (RefusesPut (K.put_failures sink.old) (K.put_failures sink.new)) }
+        ensures refusal { RefusedByPut K.Sink sink.old sink.new result }
     {
         if self.used > 0 {
             sink.put(&self.buffer[..self.used])?;
@@ -84,17 +84,9 @@ impl Carrier {
 
     // How many bytes have room, of so many; at least one, if there are any. A full buffer is put.
     fn make_room<K: Sink>(&mut self, wanted: u64, sink: &mut K) -> Result<usize, Refusal>
-        ensures room { vec_len self.new.buffer ≡ vec_len self.old.buffer }
-        ensures few { IfOk result (λ n. self.new.used + n ≤ vec_len self.new.buffer) }
-        ensures some { IfOk result (λ n. (n ≤ wanted) × (0 < wanted → 0 < n)) }
-        ensures bytes { OnOk result
-            (BytesGoOn (K.contents sink.old) (K.contents sink.new) (waiting self.old)
-            (waiting self.new) []) }
-        ensures prefix { OnErr result
-            (AppendsPrefix (K.contents sink.old) (K.contents sink.new) (waiting self.old)) }
-        ensures puts { OnOk result (K.put_failures sink.new ≡ K.put_failures sink.old) }
-        ensures refusal { IfErr result
-            (RefusesPut (K.put_failures sink.old) (K.put_failures sink.new)) }
+        ensures room { IfOk result (HasRoomFor self.new wanted) }
+        ensures put { Carries K.Sink sink.old sink.new self.old self.new result [] }
+        ensures puts { OnlyPuts K.Sink sink.old sink.new self.old self.new result }
     {
         if self.used == self.buffer.len() {
             self.flush(sink)?;
@@ -122,14 +114,11 @@ impl Carrier {
         requires place { from + len ≤ length (S.file store.old) }
         requires fits { self.old.used + len ≤ vec_len self.old.buffer }
         ensures room { vec_len self.new.buffer ≡ vec_len self.old.buffer }
-        ensures honesty { S.is_honest store.new ≡ S.is_honest store.old }
-        ensures file { S.file store.new ≡ S.file store.old }
-        ensures bytes { OnOk result (IsTrue (S.is_honest store.old)
-            → waiting self.new ≡ waiting self.old ++ range (S.file store.old) from len) }
+        ensures store { OnlyReads S.Store store.old store.new result }
+        ensures bytes { OnOk result (WhereHonest S.Store store.old (λ file.
+            waiting self.new ≡ waiting self.old ++ range file from len)) }
         ensures many { OnOk result (length (waiting self.new) ≡ length (waiting self.old) + len) }
-        ensures reads { OnOk result (S.read_failures store.new ≡ S.read_failures store.old) }
-        ensures refusal { IfErr result (λ r. (r ≡ refusals.StoreFailed)
-            × HasRisen (S.read_failures store.old) (S.read_failures store.new)) }
+        ensures refusal { Refused S.Store store.old store.new result RefusesFront }
     {
         read_in(store, from, self.buffer.as_mut_slice(), self.used, len)?;
         self.used += len;
@@ -140,14 +129,10 @@ impl Carrier {
     pub fn carry<K: Sink>(&mut self, bytes: &[u8], sink: &mut K) -> Result<(), Refusal>
         ensures room { vec_len self.new.buffer ≡ vec_len self.old.buffer }
         ensures bytes { OnOk result
-            (BytesGoOn (K.contents sink.old) (K.contents sink.new) (waiting self.old)
-            (waiting self.new) bytes.now) }
-        ensures prefix { OnErr result
-            (AppendsPrefix (K.contents sink.old) (K.contents sink.new) (waiting self.old
-            ++ bytes.now)) }
+            (TakesBytes K.Sink sink.old sink.new self.old self.new bytes.now) }
+        ensures prefix { OnErr result (PutsFrontOf K.Sink sink.old sink.new self.old bytes.now) }
         ensures puts { OnOk result (K.put_failures sink.new ≡ K.put_failures sink.old) }
-        ensures refusal { IfErr result
-            (RefusesPut (K.put_failures sink.old) (K.put_failures sink.new)) }
+        ensures refusal { RefusedByPut K.Sink sink.old sink.new result }
     {
         let mut done = 0;
         while done < bytes.len() {
@@ -170,19 +155,15 @@ impl Carrier {
         ensures room { vec_len self.new.buffer ≡ vec_len self.old.buffer }
         ensures honesty { S.is_honest store.new ≡ S.is_honest store.old }
         ensures file { S.file store.new ≡ S.file store.old }
-        ensures bytes { OnOk result (IsTrue (S.is_honest store.old)
-            → BytesGoOn (K.contents sink.old) (K.contents sink.new) (waiting self.old)
-            (waiting self.new) (range (S.file store.old) at len)) }
-        ensures many { OnOk result (GoOnBy (K.contents sink.old) (K.contents sink.new)
-            (waiting self.old) (waiting self.new) len) }
-        ensures prefix { OnErr result (IsTrue (S.is_honest store.old)
-            → AppendsPrefix (K.contents sink.old) (K.contents sink.new) (waiting self.old
-            ++ range (S.file store.old) at len)) }
+        ensures bytes { OnOk result (WhereHonest S.Store store.old (λ file.
+            TakesBytes K.Sink sink.old sink.new self.old self.new (range file at len))) }
+        ensures many { OnOk result (TakesMany K.Sink sink.old sink.new self.old self.new len) }
+        ensures prefix { OnErr result (WhereHonest S.Store store.old (λ file.
+            PutsFrontOf K.Sink sink.old sink.new self.old (range file at len))) }
         ensures reads { OnOk result (S.read_failures store.new ≡ S.read_failures store.old) }
         ensures puts { OnOk result (K.put_failures sink.new ≡ K.put_failures sink.old) }
-        ensures refusal { IfErr result
-            (RefusesRange (S.read_failures store.old) (S.read_failures store.new)
-            (K.put_failures sink.old) (K.put_failures sink.new)) }
+        ensures refusal { RefusedByBoth S.Store store.old store.new K.Sink sink.old sink.new result
+            RefusesRange }
     {
         let _size = store.len();
         let mut done = 0;

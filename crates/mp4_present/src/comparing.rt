@@ -3,6 +3,7 @@ ghost use Rattle.std.specs.Prelude.{◌≡◌, ◌+◌, ◌<◌, ◌≤◌, ℕ,
 ghost use Rattle.mp4_present.specs.words.Compared.{WhereOpenedBoth, HaveTracks, OfFiles, WhereTracks, OfSamples, OfTracks, TakesFront, TracksWork};
 ghost use Rattle.mp4_present.specs.words.Differing.{RefusesSample, RefusedBoth};
 ghost use Rattle.mp4_present.specs.words.HeadsLeft.{begun_differ};
+ghost use Rattle.mp4_present.specs.words.OverDifferences.{HandsOver, OnlyReadsBoth};
 ghost use Rattle.mp4_present.specs.words.OverStores.{OnlyReads, IsUnchanged};
 ghost use Rattle.mp4_present.specs.words.WalkSteps.{walks_steps};
 
@@ -50,13 +51,9 @@ fn compare_track_samples<S: Store, T: Store, D: Differences, L: Ledger>(
 ) -> Result<bool, Refusal>
     requires tracks { HaveTracks track left.now right.now }
     requires goes { D.is_open seen.old ≡ true }
-    ensures store { OnlyReads S.Store a.old a.new result }
-    ensures store_right { OnlyReads T.Store b.old b.new result }
-    ensures goes { IfOk result (λ all. all ≡ D.is_open seen.new) }
-    ensures all { IfOk result (λ all. all ≡ true → OfSamples S.Store a.old left.now T.Store b.old
-        right.now track leaving (λ ds. D.taken seen.new ≡ D.taken seen.old ++ ds)) }
-    ensures front { OfSamples S.Store a.old left.now T.Store b.old right.now track leaving
-        (TakesFront (D.taken seen.old) (D.taken seen.new)) }
+    ensures stores { OnlyReadsBoth S.Store a.old a.new T.Store b.old b.new result }
+    ensures handed { HandsOver D.Differences seen.old seen.new result
+        (OfSamples S.Store a.old left.now T.Store b.old right.now track leaving) }
     ensures unchanged { WhereTracks S.Store a.old left.now T.Store b.old right.now track
         (λ tree t other u. IsUnchanged result) }
     ensures work { TracksWork S.Store a.old left.now T.Store b.old right.now track
@@ -125,14 +122,9 @@ fn compare_tracks<S: Store, T: Store, D: Differences, L: Ledger>(
 ) -> Result<bool, Refusal>
     requires tracks { HaveTracks track left.now right.now }
     requires goes { D.is_open seen.old ≡ true }
-    ensures store { OnlyReads S.Store a.old a.new result }
-    ensures store_right { OnlyReads T.Store b.old b.new result }
-    ensures goes { IfOk result (λ all. all ≡ D.is_open seen.new) }
-    ensures all { IfOk result (λ all. all ≡ true → OfTracks S.Store a.old left.now head.now T.Store
-        b.old right.now other_head.now track leaving
-        (λ ds. D.taken seen.new ≡ D.taken seen.old ++ ds)) }
-    ensures front { OfTracks S.Store a.old left.now head.now T.Store b.old right.now other_head.now
-        track leaving (TakesFront (D.taken seen.old) (D.taken seen.new)) }
+    ensures stores { OnlyReadsBoth S.Store a.old a.new T.Store b.old b.new result }
+    ensures handed { HandsOver D.Differences seen.old seen.new result (OfTracks S.Store a.old
+        left.now head.now T.Store b.old right.now other_head.now track leaving) }
     ensures unchanged { WhereTracks S.Store a.old left.now T.Store b.old right.now track
         (λ tree t other u. IsUnchanged result) }
     ensures work { TracksWork S.Store a.old left.now T.Store b.old right.now track

@@ -2,7 +2,8 @@
 ghost use Rattle.std.specs.Prelude.{◌≡◌, ◌+◌, ◌<◌, ◌≤◌, IfSome, length, IfOk};
 ghost use Rattle.mp4_store.specs.words.Device.{range};
 ghost use Rattle.mp4_present.specs.format.Differences.{first_unequal};
-ghost use Rattle.mp4_present.specs.words.OverStores.{OnlyReads, WhereBothHonest};
+ghost use Rattle.mp4_present.specs.words.OverDifferences.{OnlyReadsBoth};
+ghost use Rattle.mp4_present.specs.words.OverStores.{WhereBothHonest};
 ghost use Rattle.mp4_present.specs.words.Windows.{BothShow};
 ghost use Rattle.mp4_present.specs.words.Differing.{RefusedBoth, RefusesEither};
 
@@ -24,8 +25,7 @@ pub(crate) fn first_difference<S: Store, T: Store>(
     requires left { left_at + len ≤ length (S.file a.old) }
     requires right { right_at + len ≤ length (T.file b.old) }
     requires shows { BothShow S.Store a.old left.old T.Store b.old right.old }
-    ensures store { OnlyReads S.Store a.old a.new result }
-    ensures store_right { OnlyReads T.Store b.old b.new result }
+    ensures stores { OnlyReadsBoth S.Store a.old a.new T.Store b.old b.new result }
     ensures shows { BothShow S.Store a.old left.new T.Store b.old right.new }
     ensures found { IfOk result (λ found. WhereBothHonest S.Store a.old T.Store b.old (λ file other.
         found ≡ first_unequal 0 (range file left_at len) (range other right_at len))) }

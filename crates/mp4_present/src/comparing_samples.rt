@@ -5,7 +5,8 @@ ghost use Rattle.mp4_present.specs.format.Comparison.{with_key};
 ghost use Rattle.mp4_present.specs.words.Compared.{StandsIn, PairFound, BothWork, WhereBothLie};
 ghost use Rattle.mp4_present.specs.words.Differing.{flags_left, sample_values, index_of, group_differences, differences_at, sample_bytes_differ, RefusedBoth, RefusesSample};
 ghost use Rattle.mp4_present.specs.words.Joined.{IsBelow};
-ghost use Rattle.mp4_present.specs.words.OverStores.{OnlyReads, WhereBothHonest, IsUnchanged};
+ghost use Rattle.mp4_present.specs.words.OverDifferences.{OnlyReadsBoth};
+ghost use Rattle.mp4_present.specs.words.OverStores.{WhereBothHonest, IsUnchanged};
 ghost use Rattle.mp4_present.specs.words.Windows.{BothShow};
 
 use crate::comparing_bytes::first_difference;
@@ -196,8 +197,7 @@ fn compare_bytes<S: Store, T: Store>(
     found: &mut Vec<Difference>,
 ) -> Result<(), Refusal>
     requires shows { BothShow S.Store a.old left_window.old T.Store b.old right_window.old }
-    ensures store { OnlyReads S.Store a.old a.new result }
-    ensures store_right { OnlyReads T.Store b.old b.new result }
+    ensures stores { OnlyReadsBoth S.Store a.old a.new T.Store b.old b.new result }
     ensures shows { BothShow S.Store a.old left_window.new T.Store b.old right_window.new }
     ensures bytes { OnOk result (WhereBothHonest S.Store a.old T.Store b.old (λ file other.
         found.new.items
@@ -274,8 +274,7 @@ pub(crate) fn compare_pair<S: Store, T: Store, L: Ledger>(
 ) -> Result<Vec<Difference>, Refusal>
     requires left { StandsIn S.Store a.old left.now left_side.old }
     requires right { StandsIn T.Store b.old right.now right_side.old }
-    ensures store { OnlyReads S.Store a.old a.new result }
-    ensures store_right { OnlyReads T.Store b.old b.new result }
+    ensures stores { OnlyReadsBoth S.Store a.old a.new T.Store b.old b.new result }
     ensures left { OnOk result (StandsIn S.Store a.old left.now left_side.new) }
     ensures right { OnOk result (StandsIn T.Store b.old right.now right_side.new) }
     ensures found { PairFound by.now number S.Store a.old left.now left_side.old left_side.new

@@ -1,12 +1,13 @@
 //! The bytes of a track's samples, copied.
-ghost use Rattle.std.specs.Prelude.{◌≡◌, ◌+◌, ◌<◌, ◌≤◌, ◌++◌, length, vec_len, Some, slice_get, IfOk, IfErr, OnOk, OnErr, IsTrue};
+ghost use Rattle.std.specs.Prelude.{◌≡◌, ◌+◌, ◌<◌, ◌≤◌, length, vec_len, Some, slice_get, OnOk, OnErr};
 ghost use Rattle.std.specs.Io.KnownBytes.{Appends};
 ghost use Rattle.mp4_store.specs.words.Device.{AppendsPrefix, range};
-ghost use Rattle.mp4_present.specs.words.Carried.{waiting, BytesGoOn, GoOnBy, PutsMany, RefusesStretch, RefusesCarry, RefusesCopy};
-ghost use Rattle.mp4_present.specs.words.HandCarried.{StaysBefore, CarriesHand, LeavesBytes, KeepsHand, HandWork, RefusedByBoth};
+ghost use Rattle.mp4_present.specs.words.Carried.{PutsMany, RefusesStretch, RefusesCarry, RefusesCopy};
+ghost use Rattle.mp4_present.specs.words.HandCarried.{HandWork, KeepsHand, RefusedByBoth, StaysBefore, TakesHand};
 ghost use Rattle.mp4_present.specs.words.Joined.{sample_bytes};
 ghost use Rattle.mp4_present.specs.words.Movies.{IsWalkOf};
-ghost use Rattle.mp4_present.specs.words.OverStores.{IsUnchanged, OnlyReads};
+ghost use Rattle.mp4_present.specs.words.OverCarriers.{OnlyCopies, PutsFrontOf, TakesBytes, TakesMany};
+ghost use Rattle.mp4_present.specs.words.OverStores.{IsUnchanged, OnlyReads, WhereHonest};
 ghost use Rattle.mp4_present.specs.words.OverWalks.{WhereTrack};
 ghost use Rattle.mp4_present.specs.words.SamplesComing.{track_samples};
 ghost use Rattle.mp4_present.specs.words.WalkSteps.{walk_steps};
@@ -37,19 +38,16 @@ impl Carrier {
         ensures room { vec_len self.new.buffer ≡ vec_len self.old.buffer }
         ensures honesty { S.is_honest store.new ≡ S.is_honest store.old }
         ensures file { S.file store.new ≡ S.file store.old }
-        ensures bytes { OnOk result (IsTrue (S.is_honest store.old)
-            → BytesGoOn (K.contents sink.old) (K.contents sink.new) (waiting self.old)
-            (waiting self.new) (range (S.file store.old) stretch.at stretch.len)) }
-        ensures many { OnOk result (GoOnBy (K.contents sink.old) (K.contents sink.new)
-            (waiting self.old) (waiting self.new) stretch.len) }
-        ensures prefix { OnErr result (IsTrue (S.is_honest store.old)
-            → AppendsPrefix (K.contents sink.old) (K.contents sink.new) (waiting self.old
-            ++ range (S.file store.old) stretch.at stretch.len)) }
+        ensures bytes { OnOk result (WhereHonest S.Store store.old (λ file. TakesBytes K.Sink
+            sink.old sink.new self.old self.new (range file stretch.at stretch.len))) }
+        ensures many { OnOk result
+            (TakesMany K.Sink sink.old sink.new self.old self.new stretch.len) }
+        ensures prefix { OnErr result (WhereHonest S.Store store.old (λ file.
+            PutsFrontOf K.Sink sink.old sink.new self.old (range file stretch.at stretch.len))) }
         ensures reads { OnOk result (S.read_failures store.new ≡ S.read_failures store.old) }
         ensures puts { OnOk result (K.put_failures sink.new ≡ K.put_failures sink.old) }
-        ensures refusal { IfErr result
-            (RefusesStretch (S.file store.old) stretch (S.read_failures store.old)
-            (S.read_failures store.new) (K.put_failures sink.old) (K.put_failures sink.new)) }
+        ensures refusal { RefusedByBoth S.Store store.old store.new K.Sink sink.old sink.new result
+            (RefusesStretch (S.file store.old) stretch) }
     {
         let len = store.len();
         if stretch.at > len || stretch.len > len - stretch.at {
@@ -72,13 +70,9 @@ fn carry_hand<S: Store, K: Sink, L: Ledger>(
 ) -> Result<u64, Refusal>
     requires { IsWalkOf movie.now walk.old }
     ensures walk { OnOk result (StaysBefore movie.now walk.old walk.new) }
-    ensures room { vec_len carrier.new.buffer ≡ vec_len carrier.old.buffer }
-    ensures store { OnlyReads S.Store store.old store.new result }
-    ensures bytes { CarriesHand S.Store store.old movie.now walk.old K.Sink sink.old sink.new
-        carrier.old carrier.new result }
-    ensures left { IfOk result (LeavesBytes movie.now walk.old K.Sink sink.old sink.new carrier.old
-        carrier.new bytes) }
-    ensures puts { OnOk result (K.put_failures sink.new ≡ K.put_failures sink.old) }
+    ensures taken { TakesHand S.Store store.old movie.now walk.old K.Sink sink.old sink.new
+        carrier.old carrier.new bytes result }
+    ensures store { OnlyCopies S.Store store.old store.new K.Sink sink.old sink.new result }
     ensures unchanged { KeepsHand S.Store store.old movie.now walk.old bytes result }
     ensures work { HandWork movie.now walk.old walk.new result steps.old steps.new }
     ensures refusal { RefusedByBoth S.Store store.old store.new K.Sink sink.old sink.new result

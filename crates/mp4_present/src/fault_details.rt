@@ -1,12 +1,13 @@
 //! Numbers that go with a fault: what a table counts and what there is, which time is due, where a
 //! sample would end.
-ghost use Rattle.std.specs.Prelude.{◌≡◌, ◌+◌, length, IfOk, IfErr, IfSome, OnOk, IsTrue};
-ghost use Rattle.mp4_store.specs.words.Device.{range};
+ghost use Rattle.std.specs.Prelude.{◌≡◌, length, IfOk, IfErr, IfSome, IsTrue};
 ghost use Rattle.mp4_present.specs.format.FaultNumbers.{Tells};
 ghost use Rattle.mp4_present.specs.words.NumbersTold.{IsPlain, RefusesNumbers, RefusesSearch};
 ghost use Rattle.mp4_present.specs.words.Movies.{Fills};
 ghost use Rattle.mp4_present.specs.words.Opening.{HasOutline};
-ghost use Rattle.mp4_present.specs.words.ToOpen.{LooksByBytes};
+ghost use Rattle.mp4_present.specs.words.OverFaults.{SearchesWithin, TellsOf};
+ghost use Rattle.mp4_present.specs.words.OverStores.{OnlyReads, RefusedOf, WhereHonest};
+ghost use Rattle.mp4_present.specs.words.ToOpen.{IsPayloadIn, LooksByBytes};
 ghost use Rattle.mp4_present.specs.words.WalkSteps.{OpensWithin};
 
 use crate::fault_counts::counts_in_tables;
@@ -56,22 +57,15 @@ fn numbers_behind<S: Store, L: Ledger, M: Ledger>(
     looks: &mut Steps<M>,
 ) -> Result<Option<FaultNumbers>, Refusal>
     requires fills { Fills (length moov.now) outline.now.moov }
-    requires bytes { IsTrue (S.is_honest store.old)
-        → moov.now ≡ range (S.file store.old) (outline.now.moov.offset
-        + outline.now.moov.header.header) (length moov.now) }
+    requires bytes { WhereHonest S.Store store.old (λ file.
+        IsPayloadIn file outline.now moov.now) }
     requires outline { HasOutline (S.is_honest store.old) (S.file store.old) outline.now }
-    ensures honesty { S.is_honest store.new ≡ S.is_honest store.old }
-    ensures file { S.file store.new ≡ S.file store.old }
-    ensures told { IfOk result (λ told. IfSome told (λ n. IsTrue (S.is_honest store.old)
-        → Tells (S.file store.old) fault.now.offset n)) }
-    ensures within { IsTrue (S.is_honest store.old)
-        → OpensWithin (S.file store.old) steps.old steps.new }
-    ensures looks { IsTrue (S.is_honest store.old)
-        → LooksByBytes (S.file store.old) looks.old looks.new }
-    ensures reads { OnOk result (S.read_failures store.new ≡ S.read_failures store.old) }
-    ensures refusal { IfErr result
-        (RefusesSearch (S.is_honest store.old) (S.read_failures store.old)
-        (S.read_failures store.new)) }
+    ensures store { OnlyReads S.Store store.old store.new result }
+    ensures told { TellsOf S.Store store.old fault.now.offset result }
+    ensures work { WhereHonest S.Store store.old (λ file.
+        SearchesWithin file steps.old steps.new looks.old looks.new) }
+    ensures refusal { RefusedOf S.Store store.old store.new result
+        (λ honest file. RefusesSearch honest) }
 {
     let view = outline.moov.view(moov);
     let head = read_head(alloc, view)?;
@@ -91,18 +85,12 @@ fn numbers_in<S: Store, L: Ledger, M: Ledger>(
     steps: &mut Steps<L>,
     looks: &mut Steps<M>,
 ) -> Result<Option<FaultNumbers>, Refusal>
-    ensures honesty { S.is_honest store.new ≡ S.is_honest store.old }
-    ensures file { S.file store.new ≡ S.file store.old }
-    ensures told { IfOk result (λ told. IfSome told (λ n. IsTrue (S.is_honest store.old)
-        → Tells (S.file store.old) fault.now.offset n)) }
-    ensures within { IsTrue (S.is_honest store.old)
-        → OpensWithin (S.file store.old) steps.old steps.new }
-    ensures looks { IsTrue (S.is_honest store.old)
-        → LooksByBytes (S.file store.old) looks.old looks.new }
-    ensures reads { OnOk result (S.read_failures store.new ≡ S.read_failures store.old) }
-    ensures refusal { IfErr result
-        (RefusesSearch (S.is_honest store.old) (S.read_failures store.old)
-        (S.read_failures store.new)) }
+    ensures store { OnlyReads S.Store store.old store.new result }
+    ensures told { TellsOf S.Store store.old fault.now.offset result }
+    ensures work { WhereHonest S.Store store.old (λ file.
+        SearchesWithin file steps.old steps.new looks.old looks.new) }
+    ensures refusal { RefusedOf S.Store store.old store.new result
+        (λ honest file. RefusesSearch honest) }
 {
     let outline = read_outline(store)?;
     let at = outline.moov.payload_offset();

@@ -9,7 +9,8 @@ ghost use Rattle.mp4_present.specs.format.FaultNumbers.{IsChildOf, SaysTime, Tel
 ghost use Rattle.mp4_frag.specs.words.States.{HaveRoom};
 ghost use Rattle.mp4_head.specs.format.Tree.{MovieTree};
 ghost use Rattle.mp4_frag.specs.declared.state.TrackState.{TrackState};
-ghost use Rattle.mp4_present.specs.words.NumbersTold.{FindsIn, IsBehind, IsReached, moof_read, RefusesSearch};
+ghost use Rattle.mp4_present.specs.words.NumbersTold.{IsBehind, IsReached, RefusesSearch};
+ghost use Rattle.mp4_present.specs.words.OverFaults.{FindsOf, PassesWithin};
 ghost use Rattle.mp4_present.specs.words.OverStores.{OnlyReads, RefusedOf, WhereHonest};
 ghost use Rattle.mp4_present.specs.words.Movies.{Fills};
 ghost use Rattle.mp4_present.specs.words.Opening.{HasOutline};
@@ -176,10 +177,8 @@ fn gap_in<L: Ledger, M: Ledger>(
     looks: &mut Steps<M>,
 ) -> Result<Option<FaultNumbers>, Fault>
     requires fills { Fills (length bytes.now) top }
-    requires few { room ≤ 2 ^ 24 }
-    requires room { HaveRoom room states.old }
-    ensures finds { IfOk result (λ told. IfSome told
-        (FindsIn file_len (moof_read top bytes.now) states.old room place)) }
+    requires room { (room ≤ 2 ^ 24) × HaveRoom room states.old }
+    ensures finds { FindsOf file_len top bytes.now states.old room place result }
     ensures work { 2 * steps.new ≤ 2 * steps.old + 2 * room + length bytes.now }
     ensures looks { 8 * looks.new ≤ 8 * looks.old + length states.old * length bytes.now }
 {
@@ -214,10 +213,8 @@ fn told_in<L: Ledger, M: Ledger>(
     looks: &mut Steps<M>,
 ) -> Result<Option<FaultNumbers>, Fault>
     requires fills { Fills (length bytes.now) top }
-    requires few { room ≤ 2 ^ 24 }
-    requires room { HaveRoom room states.old }
-    ensures finds { IfOk result (λ told. IfSome told
-        (FindsIn file_len (moof_read top bytes.now) states.old room place)) }
+    requires room { (room ≤ 2 ^ 24) × HaveRoom room states.old }
+    ensures finds { FindsOf file_len top bytes.now states.old room place result }
     ensures work { 2 * steps.new ≤ 2 * steps.old + 2 * room + length bytes.now }
     ensures looks { 8 * looks.new ≤ 8 * looks.old + length states.old * length bytes.now }
 {
@@ -252,10 +249,8 @@ fn pass_until<S: Store, L: Ledger, M: Ledger>(
     ensures next { IfOk result (λ found. IfSome found (λ r. WhereHonest S.Store store.old (λ file.
         IsBehind file states.old room (length bytes.old) r states.new steps.old steps.new
         looks.old looks.new))) }
-    ensures within { WhereHonest S.Store store.old (λ file.
-        steps.new ≤ steps.old + (2 ^ 24 + length file)) }
-    ensures looks { WhereHonest S.Store store.old (λ file.
-        8 * looks.new ≤ 8 * looks.old + length states.old * length file) }
+    ensures work { WhereHonest S.Store store.old (λ file. PassesWithin file (length states.old)
+        steps.old steps.new looks.old looks.new) }
     ensures refusal { RefusedOf S.Store store.old store.new result
         (λ honest file. RefusesSearch honest) }
 {
@@ -292,10 +287,8 @@ pub(crate) fn numbers_in_fragments<S: Store, L: Ledger, M: Ledger>(
         (movie : MovieTree) (boxes : List Box)
         → IsBegun file movie boxes plain.now.states.items plain.now.room
         → Tells file fault.now.offset n))) }
-    ensures within { WhereHonest S.Store store.old (λ file.
-        steps.new ≤ steps.old + (2 ^ 24 + length file)) }
-    ensures looks { WhereHonest S.Store store.old (λ file.
-        8 * looks.new ≤ 8 * looks.old + length plain.now.states.items * length file) }
+    ensures work { WhereHonest S.Store store.old (λ file. PassesWithin file
+        (length plain.now.states.items) steps.old steps.new looks.old looks.new) }
     ensures refusal { RefusedOf S.Store store.old store.new result
         (λ honest file. RefusesSearch honest) }
 {

@@ -1,5 +1,5 @@
 //! The fragments of a file that was read before, found again.
-ghost use Rattle.std.specs.Prelude.{◌≡◌, ◌<◌, ◌≤◌, List, length, IfOk, IfErr, IfSome, OnOk, IsTrue};
+ghost use Rattle.std.specs.Prelude.{◌<◌, ◌≤◌, List, length, IfOk, IfSome};
 ghost use Rattle.mp4_boxes.specs.format.Box.{Box};
 ghost use Rattle.mp4_present.specs.words.Movies.{IsWhole};
 ghost use Rattle.mp4_present.specs.words.ToOpen.{EndsWithin};
@@ -32,18 +32,14 @@ fn read_header_again<S: Store>(store: &mut S, at: u64) -> Result<TopHeader, Refu
 /// The next `moof` at the place `from` or behind it, where one of the file's own boxes begins, or
 /// the file ends.
 pub(crate) fn next_fragment<S: Store>(store: &mut S, from: u64) -> Result<Option<TopBox>, Refusal>
-    ensures honesty { S.is_honest store.new ≡ S.is_honest store.old }
-    ensures file { S.file store.new ≡ S.file store.old }
-    ensures next { IfOk result (λ found. IsTrue (S.is_honest store.old) → (boxes : List Box)
-        → AreFrom (S.file store.old) from boxes
-        → IsNextFragment (S.file store.old) from boxes found) }
+    ensures store { OnlyReads S.Store store.old store.new result }
+    ensures next { WhereRead S.Store store.old result (λ file found. (boxes : List Box)
+        → AreFrom file from boxes → IsNextFragment file from boxes found) }
     ensures within { IfOk result
         (λ found. IfSome found (λ top. IsWhole (length (S.file store.old)) top × (from ≤ top.offset)
         × (top.offset < top.header.end) × (8 ≤ top.header.header))) }
-    ensures reads { OnOk result (S.read_failures store.new ≡ S.read_failures store.old) }
-    ensures refusal { IfErr result
-        (RefusesNext (S.is_honest store.old) (S.file store.old) from (S.read_failures store.old)
-        (S.read_failures store.new)) }
+    ensures refusal { RefusedOf S.Store store.old store.new result
+        (λ honest file. RefusesNext honest file from) }
 {
     let len = store.len();
     let mut at = from;

@@ -1,19 +1,18 @@
 //! How a walk goes back to where it stood.
 ghost use Rattle.std.specs.Prelude.{ℕ, ◌≡◌, ◌+◌, ◌≤◌, List, length, drop, if◌then◌else◌, true, false, Err, Some, IfErr, OnOk, OnErr, IsOk, IsTrue, MatchResult};
 ghost use Rattle.mp4_boxes.specs.declared.refusal.Refusal.TheVariants as refusals;
-ghost use Rattle.mp4_frag.specs.format.Fragments.{FragmentTree};
 ghost use Rattle.mp4_head.specs.format.Tree.{TrackTree};
 ghost use Rattle.mp4_tables.specs.declared.sample.SampleAt.{SampleAt};
-ghost use Rattle.mp4_present.specs.words.SamplesComing.{Comes, HoldsNext, StandsBefore, Takes};
+ghost use Rattle.mp4_present.specs.words.SamplesComing.{Comes};
 ghost use Rattle.mp4_present.specs.format.Denotes.{FileTree};
-ghost use Rattle.mp4_present.specs.words.GoingBack.{GoesBackTo, HoldsMarked, StandsBehind, again_from, back_steps, farther, IsMarkInHand, is_at_hand, is_mark_farther, set_back, turned_back};
+ghost use Rattle.mp4_present.specs.words.GoingBack.{GoesBackTo, again_from, back_steps, farther, IsMarkInHand, is_at_hand, is_mark_farther, set_back, turned_back};
+ghost use Rattle.mp4_present.specs.words.HandCarried.{OfHand};
 ghost use Rattle.mp4_present.specs.words.InHand.{left_in_hand};
-ghost use Rattle.mp4_present.specs.words.Movies.{MovieSeen, GoesOn, IsRest, IsWalkOf, InHandOf, RefusesLoad, StandsAt, mark_of};
-ghost use Rattle.mp4_present.specs.words.OpenedMovie.{IsOpenedAs};
+ghost use Rattle.mp4_present.specs.words.Movies.{MovieSeen, GoesOn, IsRest, IsWalkOf, RefusesLoad, StandsAt, mark_of};
 ghost use Rattle.mp4_present.specs.words.WalkSteps.{MayTake, TakesOn, steps_to};
-ghost use Rattle.mp4_present.specs.declared.in_hand.InHand.{InHand};
+ghost use Rattle.mp4_present.specs.words.OverMarks.{FindsFewer, HasReadAgain, KeepsRest, KnowsLength, PassesInHand, ReadsMarked, TakesAgain};
 ghost use Rattle.mp4_present.specs.words.OverStores.{OnlyReads, Refused};
-ghost use Rattle.mp4_present.specs.words.OverWalks.{HasInHand, HasMoof, IsAtMark, IsReadAgain, TakesMarked, WhereMarkMayTake, WhereMarked, back_at_mark};
+ghost use Rattle.mp4_present.specs.words.OverWalks.{HasInHand, HasMoof, IsAtMark, WhereMarkMayTake, WhereMarked, back_at_mark};
 
 use crate::in_hand::Place;
 use crate::movie::Movie;
@@ -96,13 +95,7 @@ impl Walk {
         requires moof { HasMoof self.old }
         ensures same { self.new ≡ record self.old { place = self.new.place; before = Some before } }
         ensures hand { HasInHand movie.now self.old self.new before }
-        ensures taken { (file : List ℕ) (tree : FileTree) (t : TrackTree)
-            (earlier later : List FragmentTree) (next : FragmentTree)
-            → IsOpenedAs file movie.now tree
-            → HoldsNext file tree t earlier next later
-            (record self.old { due = before.time; left = before.left })
-            → StandsBehind tree t earlier next later self.old.due self.old.left
-            → Takes file tree t earlier next later movie.now self.new true }
+        ensures taken { TakesAgain movie.now self.old self.new before }
         ensures work { steps.new ≡ steps.old + steps_to self.new.place }
     {
         let view = FragView::again(self.moof.view(&self.bytes[..self.used]));
@@ -125,19 +118,12 @@ impl Walk {
         requires walk { IsWalkOf movie.now self.old }
         requires marked { self.old.mark.before ≡ Some before }
         ensures store { OnlyReads S.Store store.old store.new result }
-        ensures walk { OnOk result (IsWalkOf movie.now self.new) }
         ensures room { length self.new.bytes.items ≡ length self.old.bytes.items }
-        ensures again { OnOk result (IsReadAgain movie.now self.old self.new before) }
-        ensures taken { IsTrue (S.is_honest store.old)
-            → (tree : FileTree) (t : TrackTree) (earlier later : List FragmentTree)
-            (next : FragmentTree) (begun : Walk)
-            → IsOpenedAs (S.file store.old) movie.now tree
-            → HoldsMarked (S.file store.old) tree t earlier next later begun self.old before
-            → MatchResult result (λ _. TakesMarked (S.file store.old) tree t earlier next later
-            movie.now begun self.new steps.old steps.new) (λ r. r ≡ refusals.StoreChanged → ⊥) }
+        ensures again { OnOk result (HasReadAgain movie.now self.old self.new before) }
+        ensures taken { ReadsMarked S.Store store.old movie.now self.old self.new before result
+            steps.old steps.new }
         ensures idle { OnErr result (steps.new ≡ steps.old) }
-        ensures length { (length (S.file store.old) ≡ movie.now.file_len → ⊥)
-            → result ≡ Err refusals.StoreChanged }
+        ensures length { KnowsLength S.Store store.old movie.now result }
         ensures refusal { Refused S.Store store.old store.new result RefusesLoad }
     {
         let mark = self.mark;
@@ -163,25 +149,12 @@ impl Walk {
         steps: &mut Steps<L>,
     ) -> Result<(), Refusal>
         requires { IsWalkOf movie.now self.old }
-        ensures walk { OnOk result (IsWalkOf movie.now self.new) }
-        ensures passed { OnOk result ((hand later : InHand) × InHandOf movie.now self.old hand
-            × InHandOf movie.now self.new later
-            × (left_in_hand later ≡ drop count (left_in_hand hand))
-            × (count ≤ length (left_in_hand hand))) }
-        ensures enough { (hand : InHand) × InHandOf movie.now self.old hand
-            × (count ≤ length (left_in_hand hand) → IsOk result) }
-        ensures same { (self.new.left ≡ self.old.left) × (self.new.due ≡ self.old.due)
-            × (self.new.next ≡ self.old.next) × (self.new.track ≡ self.old.track)
-            × (self.new.bytes ≡ self.old.bytes) }
-        ensures stands { OnOk result ((file : List ℕ) (tree : FileTree) (t : TrackTree)
-            (earlier later : List FragmentTree)
-            → StandsBefore file tree t earlier later self.old
-            → StandsBefore file tree t earlier later self.new) }
-        ensures work { OnOk result ((file : List ℕ) (tree : FileTree) (t : TrackTree) (n : ℕ)
-            → IsOpenedAs file movie.now tree
-            → MayTake file tree t self.old n → TakesOn file tree t n self.new steps.old steps.new) }
-        ensures idle { OnErr result (steps.new ≡ steps.old) }
-        ensures refusal { IfErr result (λ r. r ≡ refusals.StoreChanged) }
+        ensures passed { OnOk result
+            (PassesInHand movie.now self.old self.new count steps.old steps.new) }
+        ensures enough { OfHand movie.now self.old
+            (λ hand. count ≤ length (left_in_hand hand) → IsOk result) }
+        ensures same { KeepsRest self.old self.new }
+        ensures fewer { IfErr result (FindsFewer steps.old steps.new) }
     {
         let place = {
             let mut hand = self.in_hand(movie);

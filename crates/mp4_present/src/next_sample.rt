@@ -1,15 +1,11 @@
 //! The samples of a track one by one, over its tables and each `moof`.
-ghost use Rattle.std.specs.Prelude.{◌≡◌, ℕ, List, [], None, IfOk, OnOk};
-ghost use Rattle.mp4_head.specs.format.Tree.{TrackTree};
+ghost use Rattle.std.specs.Prelude.{◌≡◌, [], None, IfOk, OnOk};
 ghost use Rattle.mp4_tables.specs.declared.sample.SampleAt.{SampleAt};
-ghost use Rattle.mp4_present.specs.format.Denotes.{FileTree};
-ghost use Rattle.mp4_present.specs.words.SamplesComing.{Comes};
-ghost use Rattle.mp4_present.specs.words.NextSample.{TakesFirst, TakesSample};
+ghost use Rattle.mp4_present.specs.words.NextSample.{TakesFirst};
 ghost use Rattle.mp4_present.specs.words.Movies.{IsWalkOf, HasSome, RefusesLoad};
-ghost use Rattle.mp4_present.specs.words.OpenedMovie.{IsOpenedAs};
+ghost use Rattle.mp4_present.specs.words.OverHands.{TakesNext, TakesOnIn};
 ghost use Rattle.mp4_present.specs.words.OverStores.{IsUnchanged, OnlyReads, Refused};
 ghost use Rattle.mp4_present.specs.words.OverWalks.{TakesSteps, WhereComes};
-ghost use Rattle.mp4_present.specs.words.WalkSteps.{MayTake, TakesOn};
 
 use crate::movie::Movie;
 use crate::walks::Walk;
@@ -23,13 +19,9 @@ impl Walk {
     fn take_in_hand<L: Ledger>(&mut self, movie: &Movie, steps: &mut Steps<L>) -> Option<SampleAt>
         requires { IsWalkOf movie.now self.old }
         ensures walk { IsWalkOf movie.now self.new }
-        ensures takes { (file : List ℕ) (tree : FileTree) (t : TrackTree) (samples : List SampleAt)
-            → Comes file tree t movie.now self.old samples
-            → TakesSample file tree t movie.now self.new samples result }
+        ensures takes { TakesNext movie.now self.old self.new result }
         ensures some { HasSome movie.now self.old → result ≡ None → ⊥ }
-        ensures work { (file : List ℕ) (tree : FileTree) (t : TrackTree) (n : ℕ)
-            → IsOpenedAs file movie.now tree → MayTake file tree t self.old n
-            → TakesOn file tree t n self.new steps.old steps.new }
+        ensures work { TakesOnIn movie.now self.old self.new steps.old steps.new }
         ensures track { self.new.track ≡ self.old.track }
     {
         let (sample, place) = {

@@ -1,14 +1,13 @@
 //! Where the parts of a file lie, by its top-level headers alone.
-ghost use Rattle.std.specs.Prelude.{◌≡◌, ℕ, ◌+◌, ◌≤◌, ◌++◌, ◌∷◌, [], List, length, true, bytes_eq, IfOk, IfErr, IfSome, OnOk, IsTrue};
-ghost use Rattle.mp4_boxes.specs.format.Box.{Box, file_container};
-ghost use Rattle.mp4_boxes.specs.format.Children.{Holds};
+ghost use Rattle.std.specs.Prelude.{◌≡◌, ℕ, ◌+◌, ◌≤◌, ◌++◌, ◌∷◌, [], length, bytes_eq, IfOk, IfErr, IfSome};
 ghost use Rattle.mp4_boxes.specs.declared.rule.Rule.TheVariants.{File};
 ghost use Rattle.mp4_present.specs.words.Movies.{IsWhole};
 ghost use Rattle.mp4_present.specs.words.Reading.{top_box};
-ghost use Rattle.mp4_present.specs.format.Denotes.{begins_with_movie};
 ghost use Rattle.mp4_present.specs.format.Stands.{Stands};
 ghost use Rattle.mp4_present.specs.words.ToOpen.{WhereSeen};
-ghost use Rattle.mp4_present.specs.words.Outline.{AreSeen, IsOutline, RefusesOutline};
+ghost use Rattle.mp4_present.specs.words.Outline.{AreSeen, RefusesOutline};
+ghost use Rattle.mp4_present.specs.words.Opening.{HasOutline};
+ghost use Rattle.mp4_present.specs.words.OverStores.{OnlyReads, RefusedOf};
 
 use crate::reading::{TopBox, read_top_header};
 use mp4_boxes::{Fault, FourCc, Kind, Refusal, Rule, TopHeader};
@@ -82,16 +81,10 @@ fn note(seen: Seen, at: u64, header: TopHeader) -> Result<Seen, Fault>
 
 /// Reads the headers of a file's own boxes, each by one read of at most 16 bytes.
 pub(crate) fn read_outline<S: Store>(store: &mut S) -> Result<Outline, Refusal>
-    ensures honesty { S.is_honest store.new ≡ S.is_honest store.old }
-    ensures file { S.file store.new ≡ S.file store.old }
-    ensures outline { IfOk result (λ o. IsTrue (S.is_honest store.old) → (boxes : List Box)
-        × Holds File (file_container (S.file store.old)) boxes × (begins_with_movie boxes ≡ true)
-        × IsOutline (S.file store.old) boxes o) }
+    ensures store { OnlyReads S.Store store.old store.new result }
+    ensures outline { IfOk result (HasOutline (S.is_honest store.old) (S.file store.old)) }
     ensures within { IfOk result (λ o. IsWhole (length (S.file store.old)) o.moov) }
-    ensures reads { OnOk result (S.read_failures store.new ≡ S.read_failures store.old) }
-    ensures refusal { IfErr result
-        (RefusesOutline (S.is_honest store.old) (S.file store.old) (S.read_failures store.old)
-        (S.read_failures store.new)) }
+    ensures refusal { RefusedOf S.Store store.old store.new result RefusesOutline }
 {
     let len = store.len();
     let mut seen = Seen {

@@ -4,7 +4,7 @@ ghost use Rattle.mp4_boxes.specs.words.View.{box_seen};
 ghost use Rattle.mp4_boxes.specs.format.Bytes.{AreBytes};
 ghost use Rattle.mp4_store.specs.words.Device.{range};
 ghost use Rattle.mp4_present.specs.words.Movies.{IsWhole, Fills};
-ghost use Rattle.mp4_present.specs.words.OverStores.{OnlyReads, WhereHonest, Refused};
+ghost use Rattle.mp4_present.specs.words.OverStores.{OnlyReads, WhereHonest, WhereRead, Refused};
 ghost use Rattle.mp4_present.specs.words.Reading.{IsTopHeader, RefusesHeader, RefusesRead, RefusesFront, RefusesPayload};
 
 use mp4_boxes::{BoxView, Refusal, TopHeader, top_header};
@@ -139,16 +139,13 @@ pub(crate) fn read_payload<S: Store>(
     room: &mut [u8],
 ) -> Result<usize, Refusal>
     requires { IsWhole (length (S.file store.old)) top }
-    ensures honesty { S.is_honest store.new ≡ S.is_honest store.old }
-    ensures file { S.file store.new ≡ S.file store.old }
+    ensures store { OnlyReads S.Store store.old store.new result }
     ensures fills { IfOk result (λ len. Fills len top × (len ≤ length room.new)) }
     ensures room { AreBytes room.new }
-    ensures bytes { IfOk result (λ len. IsTrue (S.is_honest store.old)
-        → take len room.new ≡ range (S.file store.old) (top.offset + top.header.header) len) }
-    ensures reads { OnOk result (S.read_failures store.new ≡ S.read_failures store.old) }
-    ensures refusal { IfErr result
-        (RefusesPayload (length room.old) top (S.read_failures store.old)
-        (S.read_failures store.new)) }
+    ensures bytes { WhereRead S.Store store.old result (λ file len.
+        take len room.new ≡ range file (top.offset + top.header.header) len) }
+    ensures refusal { Refused S.Store store.old store.new result
+        (RefusesPayload (length room.old) top) }
 {
     let at = top.payload_offset();
     let len = top.header.end - at;

@@ -5,6 +5,7 @@ ghost use Rattle.mp4_boxes.specs.words.View.{box_seen};
 ghost use Rattle.mp4_frag.specs.format.FragmentSamples as fragments;
 ghost use Rattle.mp4_frag.specs.declared.trex.Trex.{Trex};
 ghost use Rattle.mp4_head.specs.format.Tree.{TrackTree, are_distinct};
+ghost use Rattle.mp4_present.specs.words.OverTables.{IsStateBehind};
 ghost use Rattle.mp4_present.specs.words.Plain.{ArePlain, HaveTablesIn};
 ghost use Rattle.mp4_present.specs.words.TrackTrees.{AreTracksOf, HaveTables, RefusesTables};
 ghost use Rattle.mp4_present.specs.words.WalkSteps.{IfNoFault, table_steps};
@@ -69,15 +70,7 @@ fn state_of(
     keys: Keys,
 ) -> TrackState
     requires { are_distinct (map (λ (t : Trex). t.id) trexes.now) ≡ true }
-    ensures id { result.id ≡ track.now.id }
-    ensures descriptions { result.descriptions
-        ≡ min (length track.now.media.descriptions.items) (2 ^ 32 - 1) }
-    ensures trex { result.trex ≡ fragments.trex_for trexes.now track.now.id }
-    ensures start { result.start ≡ 0 }
-    ensures count { result.count ≡ count }
-    ensures time { result.time ≡ totals.duration }
-    ensures bytes { result.bytes ≡ totals.bytes }
-    ensures keys { result.keys ≡ keys }
+    ensures { IsStateBehind track.now trexes.now totals count keys result }
 {
     TrackState {
         id: track.id,

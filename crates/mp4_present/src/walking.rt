@@ -1,15 +1,15 @@
 //! How a walk begins and goes on.
-ghost use Rattle.std.specs.Prelude.{ℕ, ◌≡◌, ◌+◌, ◌-◌, ◌^◌, ◌<◌, ◌≤◌, min, List, [], length, false, Some, Err, slice_get, IfOk, IfErr, OnOk, IsTrue, IsOkAnd, MatchResult};
-ghost use Rattle.mp4_frag.specs.format.Fragments.{FragmentTree};
+ghost use Rattle.std.specs.Prelude.{ℕ, ◌≡◌, ◌+◌, ◌-◌, ◌^◌, ◌<◌, ◌≤◌, min, List, [], length, false, Some, Err, slice_get, IfOk, IfErr, OnOk, IsTrue, MatchResult};
 ghost use Rattle.mp4_head.specs.format.Tree.{TrackTree};
 ghost use Rattle.mp4_present.specs.format.Denotes.{FileTree};
 ghost use Rattle.mp4_present.specs.words.OpenedMovie.{IsOpenedAs};
-ghost use Rattle.mp4_present.specs.words.SamplesComing.{track_samples, samples_behind, Comes, HoldsNext, Takes, Loads};
+ghost use Rattle.mp4_present.specs.words.SamplesComing.{track_samples, samples_behind, Comes, Loads};
 ghost use Rattle.mp4_present.specs.words.WalkSteps.{steps_to, moof_steps, walk_steps, MayTake};
 ghost use Rattle.mp4_boxes.specs.declared.refusal.Refusal.TheVariants as refusals;
 ghost use Rattle.mp4_present.specs.words.InHand.{left_in_hand};
 ghost use Rattle.mp4_present.specs.words.Movies.{IsMovie, GoesOn, IsWalkOf, InHandOf, HasSome, RefusesLoad, moof_box, mark_of, own_room};
 ghost use Rattle.mp4_present.specs.declared.track_info.TrackInfo.{TrackInfo};
+ghost use Rattle.mp4_present.specs.words.OverHands.{TakesNextMoof};
 ghost use Rattle.mp4_present.specs.words.OverStores.{OnlyReads, Refused};
 ghost use Rattle.mp4_present.specs.words.OverWalks.{CountsOff, HasInHand, HasMoof, IsLoaded, IsWalkStill, KeepsRoom, TakesSteps, WhereStands};
 
@@ -126,11 +126,7 @@ impl Walk {
             (record { time = self.old.due; left = self.old.left })) }
         ensures counts { OnOk result (CountsOff movie.now self.old self.new) }
         ensures keeps { KeepsRoom self.old self.new }
-        ensures taken { (file : List ℕ) (tree : FileTree) (t : TrackTree)
-            (earlier later : List FragmentTree) (next : FragmentTree)
-            → IsOpenedAs file movie.now tree → HoldsNext file tree t earlier next later self.old
-            → IsOkAnd result
-            (λ some. Takes file tree t earlier next later movie.now self.new some) }
+        ensures taken { TakesNextMoof movie.now self.old self.new result }
         ensures some { IfOk result (λ some. IsTrue some → HasSome movie.now self.new) }
         ensures grows { steps.old ≤ steps.new }
         ensures work { MatchResult result (λ _. steps.new ≤ steps.old

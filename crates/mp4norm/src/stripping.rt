@@ -4,8 +4,8 @@ ghost use Rattle.mp4_store.specs.words.Device.{range};
 ghost use Rattle.mp4_present.specs.words.Carried.{RefusesCarry, RefusesRange};
 ghost use Rattle.mp4norm.specs.format.Strips.{freed, IsStripped, RefusesStrip};
 ghost use Rattle.mp4_present.specs.words.HandCarried.{RefusedByBoth};
+ghost use Rattle.mp4_present.specs.words.OverCarriers.{Carries};
 ghost use Rattle.mp4_present.specs.words.OverStores.{IsUnchanged, OnlyReads, RefusedOf, WhereHonest, WhereRead};
-ghost use Rattle.mp4_plan.specs.words.OverCarrying.{Carries};
 ghost use Rattle.mp4norm.specs.words.OverDevices.{Answers, KeepsFile, NoPutFails};
 ghost use Rattle.mp4norm.specs.words.StripSpans.{HasCopy, IsHeaderAt, LiesBetween, RefusesAgainAt, RefusesWalkAt, WhereStrips};
 

@@ -1,15 +1,14 @@
 -- The bytes of samples, carried along to a sink. `S` and `K` are what bounds say of the types of a
 -- store and of a sink.
-use Rattle.std.specs.Prelude.{◌≡◌, ℕ, ◌+◌, ◌≤◌, List, ◌++◌, length, take, slice_get, vec_len, Option, IsTrue, Result, MatchResult, IfErr, OnOk}
+use Rattle.std.specs.Prelude.{◌≡◌, ℕ, ◌+◌, ◌≤◌, List, ◌++◌, length, take, slice_get, Option, IsTrue, Result, MatchResult}
 use Rattle.std.specs.List.{AllByRecursion}
-use Rattle.mp4_boxes.specs.declared.refusal.Refusal.{Refusal}
 use Rattle.mp4_store.specs.words.Device.{AppendsPrefix}
 use Rattle.mp4_store.specs.declared.store.Store.{Ghosts as Store}
 use Rattle.mp4_store.specs.declared.sink.Sink.{Ghosts as Sink}
 use Rattle.mp4_tables.specs.declared.sample.SampleAt.{SampleAt}
 use Rattle.mp4_head.specs.format.Tree.{TrackTree}
 use Rattle.mp4_present.specs.format.Denotes.{FileTree}
-use Rattle.mp4_present.specs.words.Carried.{BytesGoOn, GoOnBy, RefusesPut, waiting}
+use Rattle.mp4_present.specs.words.Carried.{waiting}
 use Rattle.mp4_present.specs.words.GoingBack.{IsMarkInHand, back_steps}
 use Rattle.mp4_present.specs.words.Joined.{IsBelow, sample_bytes}
 use Rattle.mp4_present.specs.words.Movies.{MovieSeen, IsWalkOf, mark_of}
@@ -27,14 +26,6 @@ use Rattle.mp4_plan.specs.words.WriterSteps.{CarriesInHand, CarriesOn, MayFinish
 use Rattle.mp4_plan.specs.declared.carrying.Load.{Load}
 use Rattle.mp4_plan.specs.declared.joined.Stretches.{Stretches}
 
--- these bytes are taken along: at Ok all of them, and at Err a front of what waited and of them was
--- put
-abbrev pub Carries : {Y T E : Type 0} → Sink Y → Y → Y → Carrier → Carrier → Result T E → List ℕ
-    → Type 0
-Carries K sink sink_after c c_after result bytes = MatchResult result
-    (λ _. BytesGoOn (K.contents sink) (K.contents sink_after) (waiting c) (waiting c_after) bytes)
-    (λ _. AppendsPrefix (K.contents sink) (K.contents sink_after) (waiting c ++ bytes))
-
 -- the first of all these samples are taken along: at Ok those that are not to come any more, as
 -- many as the load became less by, and at Err a front of what waited and of its bytes was put
 abbrev pub CarriesFirst : {Y E : Type 0} → List ℕ → Sink Y → Y → Y → Carrier → Carrier
@@ -44,21 +35,6 @@ CarriesFirst file K sink sink_after c c_after result load all to_come = MatchRes
     (waiting c_after) all to_come load left)
     (λ _. AppendsPrefix (K.contents sink) (K.contents sink_after) (waiting c
     ++ sample_bytes file (take load.samples all)))
-
--- so many bytes are taken along, whichever these are, and the buffer keeps its length
-pub record TakesAlong {Y T E : Type 0} (K : Sink Y) (sink sink_after : Y) (c c_after : Carrier)
-    (result : Result T E) (n : ℕ) : Type 0 where
-  pub many : OnOk result
-      (GoOnBy (K.contents sink) (K.contents sink_after) (waiting c) (waiting c_after) n)
-  pub buffer : vec_len c_after.buffer ≡ vec_len c.buffer
-
--- nothing but puts can fail: the buffer keeps its length, at Ok no put failed, and it is refused
--- only where one did
-pub record OnlyPuts {Y T : Type 0} (K : Sink Y) (sink sink_after : Y) (c c_after : Carrier)
-    (result : Result T Refusal) : Type 0 where
-  pub buffer : vec_len c_after.buffer ≡ vec_len c.buffer
-  pub puts : OnOk result (K.put_failures sink_after ≡ K.put_failures sink)
-  pub refusal : IfErr result (RefusesPut (K.put_failures sink) (K.put_failures sink_after))
 
 -- these samples lie in the file, and so many of them have so many bytes
 pub record AreThere (file : List ℕ) (count bytes : ℕ) (samples : List SampleAt) : Type 0 where

@@ -3,7 +3,6 @@
 use Rattle.std.specs.Prelude.{◌≡◌, ℕ, ◌+◌, ◌*◌, ◌≤◌, List, [], ◌++◌, length, Result, IsTrue, OnOk, IfErr}
 use Rattle.mp4_boxes.specs.declared.refusal.Refusal.{Refusal}
 use Rattle.mp4_store.specs.declared.store.Store.{Ghosts as Store}
-use Rattle.mp4_store.specs.declared.sink.Sink.{Ghosts as Sink}
 use Rattle.mp4_present.specs.format.Denotes.{FileTree, presentation_of}
 use Rattle.mp4_present.specs.format.Reduced.{ReducesInTime}
 use Rattle.mp4_present.specs.words.Carried.{waiting}
@@ -16,14 +15,6 @@ use Rattle.mp4_plan.specs.words.LeftTimes.{NamesLong}
 use Rattle.mp4_plan.specs.words.OwnRooms.{own_rooms}
 use Rattle.mp4_plan.specs.words.Writers.{AreWalksOf, IsWriterOf}
 use Rattle.mp4_plan.specs.declared.writer.Writer.{Writer}
-
--- the store is as it was, but for failed reads, and at Ok no read and no put failed
-pub record OnlyCopies {X Y T E : Type 0} (S : Store X) (before after : X) (K : Sink Y)
-    (sink sink_after : Y) (result : Result T E) : Type 0 where
-  pub honesty : S.is_honest after ≡ S.is_honest before
-  pub file : S.file after ≡ S.file before
-  pub reads : OnOk result (S.read_failures after ≡ S.read_failures before)
-  pub puts : OnOk result (K.put_failures sink_after ≡ K.put_failures sink)
 
 -- over an honest store that has the file from which the movie was opened: this is true of it
 abbrev pub OverOpened : {X : Type 0} → Store X → X → MovieSeen → (List ℕ → FileTree → Type 0)

@@ -1,6 +1,6 @@
 -- The samples in hand of a walk, carried along to a sink. `S` and `K` are what bounds say of the
 -- types of a store and of a sink.
-use Rattle.std.specs.Prelude.{◌≡◌, ℕ, ◌+◌, ◌-◌, ◌≤◌, List, ◌++◌, length, IsTrue, Result, MatchResult, IfErr}
+use Rattle.std.specs.Prelude.{◌≡◌, ℕ, ◌+◌, ◌-◌, ◌≤◌, List, ◌++◌, length, vec_len, IsTrue, Result, MatchResult, IfOk, IfErr}
 use Rattle.std.specs.List.{AllByRecursion}
 use Rattle.mp4_boxes.specs.declared.refusal.Refusal.{Refusal}
 use Rattle.mp4_store.specs.words.Device.{AppendsPrefix}
@@ -50,6 +50,15 @@ pub record LeavesBytes {Y : Type 0} (m : MovieSeen) (w : Walk) (K : Sink Y) (sin
   pub many : (left ≤ bytes) × GoOnBy (K.contents sink) (K.contents sink_after) (waiting c)
       (waiting c_after) (bytes - left)
   pub sizes : OfHand m w (λ hand. sizes_of (left_in_hand hand) + left ≡ bytes)
+
+-- The bytes of the samples in hand are taken along, at Ok all of them, of so many bytes so many are
+-- left then, and the buffer keeps its length.
+pub record TakesHand {X Y E : Type 0} (S : Store X) (store : X) (m : MovieSeen) (w : Walk)
+    (K : Sink Y) (sink sink_after : Y) (c c_after : Carrier) (bytes : ℕ) (result : Result ℕ E)
+    : Type 0 where
+  pub put : CarriesHand S store m w K sink sink_after c c_after result
+  pub left : IfOk result (LeavesBytes m w K sink sink_after c c_after bytes)
+  pub buffer : vec_len c_after.buffer ≡ vec_len c.buffer
 
 -- the store is not taken as changed where the samples in hand lie in its file, and are not longer
 abbrev pub KeepsHand : {X T : Type 0} → Store X → X → MovieSeen → Walk → ℕ → Result T Refusal

@@ -65,7 +65,7 @@ returns-in_err-compare_tracks-clause-front g c told told_right tree other o p =
     let e = head_own file c.args.left.now tree head track t.0 first o c.in_ok-head.ensures t.1 (at_place head.tracks.items track first lt is) in
     let f = head_own right_file c.args.right.now other other_head track u.0 second p c.in_ok-other_head.ensures u.1 (at_place other_head.tracks.items track second lt_right is_right) in
     files_stop c.args.leaving file tree right_file other before c.args.steps.now track now c.loop-track.steps h t.0 u.0 t.1 u.1 (g.D.Differences.taken c.compare_tracks.new.seen)
-    ((rw (i.honesty, i.file, i.honesty_right, i.file_right) at c.in_err-compare_tracks.ensures.front) told told_right tree other o p t.0 u.0 t.1 u.1 e f)
+    ((rw (i.honesty, i.file, i.honesty_right, i.file_right) at c.in_err-compare_tracks.ensures.handed.front) told told_right tree other o p t.0 u.0 t.1 u.1 e f)
 
 pub returns-in_err-compare_tracks-clause-unchanged : goal.returns-in_err-compare_tracks-clause-unchanged
 returns-in_err-compare_tracks-clause-unchanged g c told told_right tree other o p =
@@ -133,7 +133,7 @@ returns-then-not-branch-clause-front g c told told_right tree other o p =
     let e = head_own file c.args.left.now tree head track t.0 first o c.in_ok-head.ensures t.1 (at_place head.tracks.items track first lt is) in
     let f = head_own right_file c.args.right.now other other_head track u.0 second p c.in_ok-other_head.ensures u.1 (at_place other_head.tracks.items track second lt_right is_right) in
     files_stop c.args.leaving file tree right_file other before c.args.steps.now track now c.loop-track.steps h t.0 u.0 t.1 u.1 (g.D.Differences.taken c.compare_tracks.new.seen)
-    ((rw (i.honesty, i.file, i.honesty_right, i.file_right) at c.in_ok-compare_tracks.ensures.front) told told_right tree other o p t.0 u.0 t.1 u.1 e f)
+    ((rw (i.honesty, i.file, i.honesty_right, i.file_right) at c.in_ok-compare_tracks.ensures.handed.front) told told_right tree other o p t.0 u.0 t.1 u.1 e f)
 
 pub returns-then-not-branch-clause-work : goal.returns-then-not-branch-clause-work
 returns-then-not-branch-clause-work g c told told_right tree other o p =
@@ -187,7 +187,7 @@ loop-track-preserved g c = record {
       let e = head_own file c.args.left.now tree head track t.0 first o c.in_ok-head.ensures t.1 (at_place head.tracks.items track first lt is) in
       let f = head_own right_file c.args.right.now other other_head track u.0 second p c.in_ok-other_head.ensures u.1 (at_place other_head.tracks.items track second lt_right is_right) in
       files_next c.args.leaving file tree right_file other before c.args.steps.now track now c.loop-track.steps h t.0 u.0 t.1 u.1 (g.D.Differences.taken c.compare_tracks.new.seen) c.compare_tracks.new.steps
-      ((rw (i.honesty, i.file, i.honesty_right, i.file_right) at c.in_ok-compare_tracks.ensures.all) c.if-not-branch.false told told_right tree other o p t.0 u.0 t.1 u.1 e f)
+      ((rw (i.honesty, i.file, i.honesty_right, i.file_right) at c.in_ok-compare_tracks.ensures.handed.all) c.if-not-branch.false told told_right tree other o p t.0 u.0 t.1 u.1 e f)
       ((rw (i.honesty, i.file, i.honesty_right, i.file_right) at c.in_ok-compare_tracks.ensures.work) told told_right tree other o p t.0 u.0 t.1 u.1);
 }
 

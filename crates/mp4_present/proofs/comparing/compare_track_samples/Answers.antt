@@ -7,14 +7,29 @@ use Rattle.mp4_present.proofs.PairsCompared.{both_most}
 use Rattle.mp4_present.proofs.TracksCompared.{takes_nothing, grows_front, count_is, rest_lies, pairs_first, pairs_next, pairs_stop, pairs_most, pairs_work, pairs_all, pairs_are, min_over}
 use Rattle.mp4_present.proofs.comparing.compare_track_samples.Goals as goal
 
-pub returns-in_err-by-clause-front : goal.returns-in_err-by-clause-front
-returns-in_err-by-clause-front g c told told_right tree other o p t u at bt = takes_nothing (g.D.Differences.taken c.args.seen.now) _
+pub returns-in_err-by-clause-handed : goal.returns-in_err-by-clause-handed
+returns-in_err-by-clause-handed g c =
+    record {
+      goes = search rules;
+      all = search rules;
+      front = λ told told_right tree other o p t u at bt. takes_nothing (g.D.Differences.taken c.args.seen.now) _;
+    }
 
-pub returns-in_err-left_side-clause-front : goal.returns-in_err-left_side-clause-front
-returns-in_err-left_side-clause-front g c told told_right tree other o p t u at bt = takes_nothing (g.D.Differences.taken c.args.seen.now) _
+pub returns-in_err-left_side-clause-handed : goal.returns-in_err-left_side-clause-handed
+returns-in_err-left_side-clause-handed g c =
+    record {
+      goes = search rules;
+      all = search rules;
+      front = λ told told_right tree other o p t u at bt. takes_nothing (g.D.Differences.taken c.args.seen.now) _;
+    }
 
-pub returns-in_err-right_side-clause-front : goal.returns-in_err-right_side-clause-front
-returns-in_err-right_side-clause-front g c told told_right tree other o p t u at bt = takes_nothing (g.D.Differences.taken c.args.seen.now) _
+pub returns-in_err-right_side-clause-handed : goal.returns-in_err-right_side-clause-handed
+returns-in_err-right_side-clause-handed g c =
+    record {
+      goes = search rules;
+      all = search rules;
+      front = λ told told_right tree other o p t u at bt. takes_nothing (g.D.Differences.taken c.args.seen.now) _;
+    }
 
 pub loop-number-init : goal.loop-number-init
 loop-number-init g c = record {
@@ -69,25 +84,30 @@ loop-number-preserved g c = record {
       (λ q r hx hy. (rw (i.honesty, i.file, i.honesty_right, i.file_right) at c.in_ok-found.ensures.work) told told_right tree other o p t u q r hx hy);
 }
 
-pub returns-in_err-found-clause-front : goal.returns-in_err-found-clause-front
-returns-in_err-found-clause-front g c told told_right tree other o p t u at bt =
-    let i = c.loop-number.invariant in
-    let file = g.S.Store.file c.args.a.now in
-    let right_file = g.T.Store.file c.args.b.now in
-    let left = c.args.left.now in
-    let right = c.args.right.now in
-    let by = c.in_ok-by.by in
-    let h = i.going told told_right tree other o p t u at bt in
-    let before = g.D.Differences.taken c.args.seen.now in
-    let now = g.D.Differences.taken c.loop-number.seen in
-    let info = c.index-tracks-track.result in
-    let other_info = c.index-tracks-track-2.result in
-    let is : info ≡ slice_index_or left.tracks c.args.track info = search rules in
-    let is_right : other_info ≡ slice_index_or right.tracks c.args.track other_info = search rules in
-    let there = at_place left.tracks c.args.track info c.requires.tracks.left is in
-    let there_right = at_place right.tracks c.args.track other_info c.requires.tracks.right is_right in
-    let are = pairs_are c.args.leaving c.args.track by file right_file left right tree other t u info other_info (c.in_ok-by.ensures info other_info there there_right) o p at bt there there_right in
-    subst (TakesFront before now) are (grows_front _ _ _ _ h.grows)
+pub returns-in_err-found-clause-handed : goal.returns-in_err-found-clause-handed
+returns-in_err-found-clause-handed g c =
+    record {
+      goes = search rules;
+      all = search rules;
+      front = λ told told_right tree other o p t u at bt.
+          let i = c.loop-number.invariant in
+          let file = g.S.Store.file c.args.a.now in
+          let right_file = g.T.Store.file c.args.b.now in
+          let left = c.args.left.now in
+          let right = c.args.right.now in
+          let by = c.in_ok-by.by in
+          let h = i.going told told_right tree other o p t u at bt in
+          let before = g.D.Differences.taken c.args.seen.now in
+          let now = g.D.Differences.taken c.loop-number.seen in
+          let info = c.index-tracks-track.result in
+          let other_info = c.index-tracks-track-2.result in
+          let is : info ≡ slice_index_or left.tracks c.args.track info = search rules in
+          let is_right : other_info ≡ slice_index_or right.tracks c.args.track other_info = search rules in
+          let there = at_place left.tracks c.args.track info c.requires.tracks.left is in
+          let there_right = at_place right.tracks c.args.track other_info c.requires.tracks.right is_right in
+          let are = pairs_are c.args.leaving c.args.track by file right_file left right tree other t u info other_info (c.in_ok-by.ensures info other_info there there_right) o p at bt there there_right in
+          subst (TakesFront before now) are (grows_front _ _ _ _ h.grows);
+    }
 
 pub returns-in_err-found-clause-unchanged : goal.returns-in_err-found-clause-unchanged
 returns-in_err-found-clause-unchanged g c told told_right tree other o p t u at bt =
@@ -127,30 +147,35 @@ returns-in_err-found-clause-work g c told told_right tree other o p t u at bt =
     pairs_most by file tree t left right_file other u right before c.args.steps.now c.loop-number.number w v now c.loop-number.steps c.compare_pair.new.steps h
     (λ q r hx hy. (rw (i.honesty, i.file, i.honesty_right, i.file_right) at c.in_err-found.ensures.work) told told_right tree other o p t u q r hx hy)
 
-pub returns-then-not-hand_over-clause-front : goal.returns-then-not-hand_over-clause-front
-returns-then-not-hand_over-clause-front g c told told_right tree other o p t u at bt =
-    let i = c.loop-number.invariant in
-    let file = g.S.Store.file c.args.a.now in
-    let right_file = g.T.Store.file c.args.b.now in
-    let left = c.args.left.now in
-    let right = c.args.right.now in
-    let by = c.in_ok-by.by in
-    let h = i.going told told_right tree other o p t u at bt in
-    let before = g.D.Differences.taken c.args.seen.now in
-    let now = g.D.Differences.taken c.loop-number.seen in
-    let w = c.loop-number.left_side.walk in
-    let v = c.loop-number.right_side.walk in
-    let info = c.index-tracks-track.result in
-    let other_info = c.index-tracks-track-2.result in
-    let is : info ≡ slice_index_or left.tracks c.args.track info = search rules in
-    let is_right : other_info ≡ slice_index_or right.tracks c.args.track other_info = search rules in
-    let there = at_place left.tracks c.args.track info c.requires.tracks.left is in
-    let there_right = at_place right.tracks c.args.track other_info c.requires.tracks.right is_right in
-    let are = pairs_are c.args.leaving c.args.track by file right_file left right tree other t u info other_info (c.in_ok-by.ensures info other_info there there_right) o p at bt there there_right in
-    subst (TakesFront before (g.D.Differences.taken c.hand_over.new.seen)) are
-    (pairs_stop by file tree t left right_file other u right before c.args.steps.now c.loop-number.number w v c.compare_pair.new.left_side.walk c.compare_pair.new.right_side.walk now
-    (g.D.Differences.taken c.hand_over.new.seen) c.in_ok-found.found.items c.loop-number.steps h
-    ((rw (i.honesty, i.file, i.honesty_right, i.file_right) at c.in_ok-found.ensures.found) told told_right tree other o p t u _ _ h.comes h.comes_right) (rw c.as_slice.ensures.value at c.hand_over.ensures.front))
+pub returns-then-not-hand_over-clause-handed : goal.returns-then-not-hand_over-clause-handed
+returns-then-not-hand_over-clause-handed g c =
+    record {
+      goes = search rules;
+      all = search rules;
+      front = λ told told_right tree other o p t u at bt.
+          let i = c.loop-number.invariant in
+          let file = g.S.Store.file c.args.a.now in
+          let right_file = g.T.Store.file c.args.b.now in
+          let left = c.args.left.now in
+          let right = c.args.right.now in
+          let by = c.in_ok-by.by in
+          let h = i.going told told_right tree other o p t u at bt in
+          let before = g.D.Differences.taken c.args.seen.now in
+          let now = g.D.Differences.taken c.loop-number.seen in
+          let w = c.loop-number.left_side.walk in
+          let v = c.loop-number.right_side.walk in
+          let info = c.index-tracks-track.result in
+          let other_info = c.index-tracks-track-2.result in
+          let is : info ≡ slice_index_or left.tracks c.args.track info = search rules in
+          let is_right : other_info ≡ slice_index_or right.tracks c.args.track other_info = search rules in
+          let there = at_place left.tracks c.args.track info c.requires.tracks.left is in
+          let there_right = at_place right.tracks c.args.track other_info c.requires.tracks.right is_right in
+          let are = pairs_are c.args.leaving c.args.track by file right_file left right tree other t u info other_info (c.in_ok-by.ensures info other_info there there_right) o p at bt there there_right in
+          subst (TakesFront before (g.D.Differences.taken c.hand_over.new.seen)) are
+          (pairs_stop by file tree t left right_file other u right before c.args.steps.now c.loop-number.number w v c.compare_pair.new.left_side.walk c.compare_pair.new.right_side.walk now
+          (g.D.Differences.taken c.hand_over.new.seen) c.in_ok-found.found.items c.loop-number.steps h
+          ((rw (i.honesty, i.file, i.honesty_right, i.file_right) at c.in_ok-found.ensures.found) told told_right tree other o p t u _ _ h.comes h.comes_right) (rw c.as_slice.ensures.value at c.hand_over.ensures.front));
+    }
 
 pub returns-then-not-hand_over-clause-work : goal.returns-then-not-hand_over-clause-work
 returns-then-not-hand_over-clause-work g c told told_right tree other o p t u at bt =
@@ -169,50 +194,52 @@ returns-then-not-hand_over-clause-work g c told told_right tree other o p t u at
     (λ q r hx hy. both_most file tree t c.compare_pair.new.left_side.walk right_file other u c.compare_pair.new.right_side.walk _ c.loop-number.steps c.compare_pair.new.steps
     ((rw (i.honesty, i.file, i.honesty_right, i.file_right) at c.in_ok-found.ensures.work) told told_right tree other o p t u q r hx hy))
 
-pub returns-clause-all : goal.returns-clause-all
-returns-clause-all g c whole told told_right tree other o p t u at bt =
-    let i = c.loop-number.invariant in
-    let file = g.S.Store.file c.args.a.now in
-    let right_file = g.T.Store.file c.args.b.now in
-    let left = c.args.left.now in
-    let right = c.args.right.now in
-    let by = c.in_ok-by.by in
-    let h = i.going told told_right tree other o p t u at bt in
-    let before = g.D.Differences.taken c.args.seen.now in
-    let now = g.D.Differences.taken c.loop-number.seen in
-    let w = c.loop-number.left_side.walk in
-    let v = c.loop-number.right_side.walk in
-    let info = c.index-tracks-track.result in
-    let other_info = c.index-tracks-track-2.result in
-    let is : info ≡ slice_index_or left.tracks c.args.track info = search rules in
-    let is_right : other_info ≡ slice_index_or right.tracks c.args.track other_info = search rules in
-    let there = at_place left.tracks c.args.track info c.requires.tracks.left is in
-    let there_right = at_place right.tracks c.args.track other_info c.requires.tracks.right is_right in
-    let are = pairs_are c.args.leaving c.args.track by file right_file left right tree other t u info other_info (c.in_ok-by.ensures info other_info there there_right) o p at bt there there_right in
-    let le : min info.samples other_info.samples ≤ c.loop-number.number = search rules in
-    pairs_all by file tree t left right_file other u right before c.args.steps.now c.loop-number.number w v now c.loop-number.steps h
-    (min_over info.samples other_info.samples _ _ c.loop-number.number (count_is file left tree t c.args.track info o at there) (count_is right_file right other u c.args.track other_info p bt there_right) le)
-    ∙ ap (λ (ds : List Difference). before ++ ds) are
-
-pub returns-clause-front : goal.returns-clause-front
-returns-clause-front g c told told_right tree other o p t u at bt =
-    let i = c.loop-number.invariant in
-    let file = g.S.Store.file c.args.a.now in
-    let right_file = g.T.Store.file c.args.b.now in
-    let left = c.args.left.now in
-    let right = c.args.right.now in
-    let by = c.in_ok-by.by in
-    let h = i.going told told_right tree other o p t u at bt in
-    let before = g.D.Differences.taken c.args.seen.now in
-    let now = g.D.Differences.taken c.loop-number.seen in
-    let info = c.index-tracks-track.result in
-    let other_info = c.index-tracks-track-2.result in
-    let is : info ≡ slice_index_or left.tracks c.args.track info = search rules in
-    let is_right : other_info ≡ slice_index_or right.tracks c.args.track other_info = search rules in
-    let there = at_place left.tracks c.args.track info c.requires.tracks.left is in
-    let there_right = at_place right.tracks c.args.track other_info c.requires.tracks.right is_right in
-    let are = pairs_are c.args.leaving c.args.track by file right_file left right tree other t u info other_info (c.in_ok-by.ensures info other_info there there_right) o p at bt there there_right in
-    subst (TakesFront before now) are (grows_front _ _ _ _ h.grows)
+pub returns-clause-handed : goal.returns-clause-handed
+returns-clause-handed g c =
+    record {
+      goes = search rules;
+      all = λ whole told told_right tree other o p t u at bt.
+          let i = c.loop-number.invariant in
+          let file = g.S.Store.file c.args.a.now in
+          let right_file = g.T.Store.file c.args.b.now in
+          let left = c.args.left.now in
+          let right = c.args.right.now in
+          let by = c.in_ok-by.by in
+          let h = i.going told told_right tree other o p t u at bt in
+          let before = g.D.Differences.taken c.args.seen.now in
+          let now = g.D.Differences.taken c.loop-number.seen in
+          let w = c.loop-number.left_side.walk in
+          let v = c.loop-number.right_side.walk in
+          let info = c.index-tracks-track.result in
+          let other_info = c.index-tracks-track-2.result in
+          let is : info ≡ slice_index_or left.tracks c.args.track info = search rules in
+          let is_right : other_info ≡ slice_index_or right.tracks c.args.track other_info = search rules in
+          let there = at_place left.tracks c.args.track info c.requires.tracks.left is in
+          let there_right = at_place right.tracks c.args.track other_info c.requires.tracks.right is_right in
+          let are = pairs_are c.args.leaving c.args.track by file right_file left right tree other t u info other_info (c.in_ok-by.ensures info other_info there there_right) o p at bt there there_right in
+          let le : min info.samples other_info.samples ≤ c.loop-number.number = search rules in
+          pairs_all by file tree t left right_file other u right before c.args.steps.now c.loop-number.number w v now c.loop-number.steps h
+          (min_over info.samples other_info.samples _ _ c.loop-number.number (count_is file left tree t c.args.track info o at there) (count_is right_file right other u c.args.track other_info p bt there_right) le)
+          ∙ ap (λ (ds : List Difference). before ++ ds) are;
+      front = λ told told_right tree other o p t u at bt.
+          let i = c.loop-number.invariant in
+          let file = g.S.Store.file c.args.a.now in
+          let right_file = g.T.Store.file c.args.b.now in
+          let left = c.args.left.now in
+          let right = c.args.right.now in
+          let by = c.in_ok-by.by in
+          let h = i.going told told_right tree other o p t u at bt in
+          let before = g.D.Differences.taken c.args.seen.now in
+          let now = g.D.Differences.taken c.loop-number.seen in
+          let info = c.index-tracks-track.result in
+          let other_info = c.index-tracks-track-2.result in
+          let is : info ≡ slice_index_or left.tracks c.args.track info = search rules in
+          let is_right : other_info ≡ slice_index_or right.tracks c.args.track other_info = search rules in
+          let there = at_place left.tracks c.args.track info c.requires.tracks.left is in
+          let there_right = at_place right.tracks c.args.track other_info c.requires.tracks.right is_right in
+          let are = pairs_are c.args.leaving c.args.track by file right_file left right tree other t u info other_info (c.in_ok-by.ensures info other_info there there_right) o p at bt there there_right in
+          subst (TakesFront before now) are (grows_front _ _ _ _ h.grows);
+    }
 
 pub returns-clause-work : goal.returns-clause-work
 returns-clause-work g c told told_right tree other o p t u at bt =

@@ -4,62 +4,74 @@ use Rattle.mp4_present.proofs.TracksCompared.{takes_nothing}
 use Rattle.mp4_present.proofs.FilesCompared.{if_ok, first_part, second_part, both_parts, track_begun}
 use Rattle.mp4_present.proofs.comparing.compare_tracks.Goals as goal
 
-pub returns-in_err-found-clause-front : goal.returns-in_err-found-clause-front
-returns-in_err-found-clause-front g c told told_right tree other o p t u at bt e f = takes_nothing (g.D.Differences.taken c.args.seen.now) _
+pub returns-in_err-found-clause-handed : goal.returns-in_err-found-clause-handed
+returns-in_err-found-clause-handed g c =
+    record {
+      goes = search rules;
+      all = search rules;
+      front = λ told told_right tree other o p t u at bt e f. takes_nothing (g.D.Differences.taken c.args.seen.now) _;
+    }
 
-pub returns-then-not-hand_over-clause-front : goal.returns-then-not-hand_over-clause-front
-returns-then-not-hand_over-clause-front g c told told_right tree other o p t u at bt e f =
-    let file = g.S.Store.file c.args.a.now in
-    let right_file = g.T.Store.file c.args.b.now in
-    let left = c.args.left.now in
-    let right = c.args.right.now in
-    let info = c.index-tracks-track.result in
-    let other_info = c.index-tracks-track-2.result in
-    let is : info ≡ slice_index_or left.tracks c.args.track info = search rules in
-    let is_right : other_info ≡ slice_index_or right.tracks c.args.track other_info = search rules in
-    let there = at_place left.tracks c.args.track info c.requires.tracks.left is in
-    let there_right = at_place right.tracks c.args.track other_info c.requires.tracks.right is_right in
-    let begun = track_begun c.args.leaving (c.args.track + 1) c.args.track file right_file left right tree other t u info other_info c.args.head.now c.args.other_head.now o p at bt there there_right e f c.in_ok-found.found.items c.in_ok-found.ensures in
-    let before = g.D.Differences.taken c.args.seen.now in
-    let mid = g.D.Differences.taken c.hand_over.new.seen in
-    first_part before mid _ c.in_ok-found.found.items _ begun (rw c.as_slice.ensures.value at c.hand_over.ensures.front)
+pub returns-then-not-hand_over-clause-handed : goal.returns-then-not-hand_over-clause-handed
+returns-then-not-hand_over-clause-handed g c =
+    record {
+      goes = search rules;
+      all = search rules;
+      front = λ told told_right tree other o p t u at bt e f.
+          let file = g.S.Store.file c.args.a.now in
+          let right_file = g.T.Store.file c.args.b.now in
+          let left = c.args.left.now in
+          let right = c.args.right.now in
+          let info = c.index-tracks-track.result in
+          let other_info = c.index-tracks-track-2.result in
+          let is : info ≡ slice_index_or left.tracks c.args.track info = search rules in
+          let is_right : other_info ≡ slice_index_or right.tracks c.args.track other_info = search rules in
+          let there = at_place left.tracks c.args.track info c.requires.tracks.left is in
+          let there_right = at_place right.tracks c.args.track other_info c.requires.tracks.right is_right in
+          let begun = track_begun c.args.leaving (c.args.track + 1) c.args.track file right_file left right tree other t u info other_info c.args.head.now c.args.other_head.now o p at bt there there_right e f c.in_ok-found.found.items c.in_ok-found.ensures in
+          let before = g.D.Differences.taken c.args.seen.now in
+          let mid = g.D.Differences.taken c.hand_over.new.seen in
+          first_part before mid _ c.in_ok-found.found.items _ begun (rw c.as_slice.ensures.value at c.hand_over.ensures.front);
+    }
 
-pub returns-clause-all : goal.returns-clause-all
-returns-clause-all g c =
-    if_ok _ _ c.compare_track_samples.result (λ all given whole told told_right tree other o p t u at bt e f.
-    let file = g.S.Store.file c.args.a.now in
-    let right_file = g.T.Store.file c.args.b.now in
-    let left = c.args.left.now in
-    let right = c.args.right.now in
-    let info = c.index-tracks-track.result in
-    let other_info = c.index-tracks-track-2.result in
-    let is : info ≡ slice_index_or left.tracks c.args.track info = search rules in
-    let is_right : other_info ≡ slice_index_or right.tracks c.args.track other_info = search rules in
-    let there = at_place left.tracks c.args.track info c.requires.tracks.left is in
-    let there_right = at_place right.tracks c.args.track other_info c.requires.tracks.right is_right in
-    let begun = track_begun c.args.leaving (c.args.track + 1) c.args.track file right_file left right tree other t u info other_info c.args.head.now c.args.other_head.now o p at bt there there_right e f c.in_ok-found.found.items c.in_ok-found.ensures in
-    let before = g.D.Differences.taken c.args.seen.now in
-    let mid = g.D.Differences.taken c.hand_over.new.seen in
-    let next = g.D.Differences.taken c.compare_track_samples.new.seen in
-    let handed = (rw c.as_slice.ensures.value at c.if-not-hand_over.ensures.all) refl in
-    both_parts before mid next _ c.in_ok-found.found.items _ begun handed (given whole told told_right tree other o p t u at bt))
-    c.compare_track_samples.ensures.all
-
-pub returns-clause-front : goal.returns-clause-front
-returns-clause-front g c told told_right tree other o p t u at bt e f =
-    let file = g.S.Store.file c.args.a.now in
-    let right_file = g.T.Store.file c.args.b.now in
-    let left = c.args.left.now in
-    let right = c.args.right.now in
-    let info = c.index-tracks-track.result in
-    let other_info = c.index-tracks-track-2.result in
-    let is : info ≡ slice_index_or left.tracks c.args.track info = search rules in
-    let is_right : other_info ≡ slice_index_or right.tracks c.args.track other_info = search rules in
-    let there = at_place left.tracks c.args.track info c.requires.tracks.left is in
-    let there_right = at_place right.tracks c.args.track other_info c.requires.tracks.right is_right in
-    let begun = track_begun c.args.leaving (c.args.track + 1) c.args.track file right_file left right tree other t u info other_info c.args.head.now c.args.other_head.now o p at bt there there_right e f c.in_ok-found.found.items c.in_ok-found.ensures in
-    let before = g.D.Differences.taken c.args.seen.now in
-    let mid = g.D.Differences.taken c.hand_over.new.seen in
-    let next = g.D.Differences.taken c.compare_track_samples.new.seen in
-    let handed = (rw c.as_slice.ensures.value at c.if-not-hand_over.ensures.all) refl in
-    second_part before mid next _ c.in_ok-found.found.items _ begun handed (c.compare_track_samples.ensures.front told told_right tree other o p t u at bt)
+pub returns-clause-handed : goal.returns-clause-handed
+returns-clause-handed g c =
+    record {
+      goes = c.compare_track_samples.ensures.handed.goes;
+      all =
+          if_ok _ _ c.compare_track_samples.result (λ all given whole told told_right tree other o p t u at bt e f.
+          let file = g.S.Store.file c.args.a.now in
+          let right_file = g.T.Store.file c.args.b.now in
+          let left = c.args.left.now in
+          let right = c.args.right.now in
+          let info = c.index-tracks-track.result in
+          let other_info = c.index-tracks-track-2.result in
+          let is : info ≡ slice_index_or left.tracks c.args.track info = search rules in
+          let is_right : other_info ≡ slice_index_or right.tracks c.args.track other_info = search rules in
+          let there = at_place left.tracks c.args.track info c.requires.tracks.left is in
+          let there_right = at_place right.tracks c.args.track other_info c.requires.tracks.right is_right in
+          let begun = track_begun c.args.leaving (c.args.track + 1) c.args.track file right_file left right tree other t u info other_info c.args.head.now c.args.other_head.now o p at bt there there_right e f c.in_ok-found.found.items c.in_ok-found.ensures in
+          let before = g.D.Differences.taken c.args.seen.now in
+          let mid = g.D.Differences.taken c.hand_over.new.seen in
+          let next = g.D.Differences.taken c.compare_track_samples.new.seen in
+          let handed = (rw c.as_slice.ensures.value at c.if-not-hand_over.ensures.all) refl in
+          both_parts before mid next _ c.in_ok-found.found.items _ begun handed (given whole told told_right tree other o p t u at bt))
+          c.compare_track_samples.ensures.handed.all;
+      front = λ told told_right tree other o p t u at bt e f.
+          let file = g.S.Store.file c.args.a.now in
+          let right_file = g.T.Store.file c.args.b.now in
+          let left = c.args.left.now in
+          let right = c.args.right.now in
+          let info = c.index-tracks-track.result in
+          let other_info = c.index-tracks-track-2.result in
+          let is : info ≡ slice_index_or left.tracks c.args.track info = search rules in
+          let is_right : other_info ≡ slice_index_or right.tracks c.args.track other_info = search rules in
+          let there = at_place left.tracks c.args.track info c.requires.tracks.left is in
+          let there_right = at_place right.tracks c.args.track other_info c.requires.tracks.right is_right in
+          let begun = track_begun c.args.leaving (c.args.track + 1) c.args.track file right_file left right tree other t u info other_info c.args.head.now c.args.other_head.now o p at bt there there_right e f c.in_ok-found.found.items c.in_ok-found.ensures in
+          let before = g.D.Differences.taken c.args.seen.now in
+          let mid = g.D.Differences.taken c.hand_over.new.seen in
+          let next = g.D.Differences.taken c.compare_track_samples.new.seen in
+          let handed = (rw c.as_slice.ensures.value at c.if-not-hand_over.ensures.all) refl in
+          second_part before mid next _ c.in_ok-found.found.items _ begun handed (c.compare_track_samples.ensures.handed.front told told_right tree other o p t u at bt);
+    }

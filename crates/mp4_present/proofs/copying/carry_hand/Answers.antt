@@ -61,22 +61,33 @@ returns-clause-walk g c =
       stands = λ file tree t earlier later s. rw c.keep.ensures.place (kept_before file tree t earlier later c.args.walk.now c.place-place.result s);
     }
 
-pub returns-in_err-carry_stretch-clause-bytes : goal.returns-in_err-carry_stretch-clause-bytes
-returns-in_err-carry_stretch-clause-bytes g c =
+pub returns-in_err-carry_stretch-clause-taken : goal.returns-in_err-carry_stretch-clause-taken
+returns-in_err-carry_stretch-clause-taken g c =
     let p = err_from_is_err_and c.from_residual.result c.from_residual.ensures.1 in
     let i = c.loop-stretch.invariant in
     let x = c.in-Some.stretch in
-    rw p.1 (λ honest. (
-      i.first,
-      i.is,
-      hand_fails (g.S.Store.file c.args.store.now) _ _ _ (waiting c.args.carrier.now) (waiting c.loop-stretch.carrier) (left_in_hand i.first) (left_in_hand c.loop-stretch.hand) x.samples x.at x.len (i.bytes honest) c.in-Some.ensures.stretch
-          ((rw (i.honesty, i.file) at c.in_err-carry_stretch.ensures.prefix) honest),
-    ))
+    rw p.1 (record {
+      put = λ honest. (
+        i.first,
+        i.is,
+        hand_fails (g.S.Store.file c.args.store.now) _ _ _ (waiting c.args.carrier.now) (waiting c.loop-stretch.carrier) (left_in_hand i.first) (left_in_hand c.loop-stretch.hand) x.samples x.at x.len (i.bytes honest) c.in-Some.ensures.stretch
+            ((rw (i.honesty, i.file) at c.in_err-carry_stretch.ensures.prefix) honest),
+      );
+      left = tt;
+      buffer = c.in_err-carry_stretch.ensures.room ∙ i.room;
+    })
 
-pub returns-clause-bytes : goal.returns-clause-bytes
-returns-clause-bytes g c =
+pub returns-clause-taken : goal.returns-clause-taken
+returns-clause-taken g c =
     let i = c.loop-stretch.invariant in
-    λ honest. (i.first, i.is, hand_all (g.S.Store.file c.args.store.now) _ _ (waiting c.args.carrier.now) (waiting c.loop-stretch.carrier) (left_in_hand i.first) (left_in_hand c.loop-stretch.hand) (i.bytes honest) (search rules))
+    record {
+      put = λ honest. (i.first, i.is, hand_all (g.S.Store.file c.args.store.now) _ _ (waiting c.args.carrier.now) (waiting c.loop-stretch.carrier) (left_in_hand i.first) (left_in_hand c.loop-stretch.hand) (i.bytes honest) (search rules));
+      left = record {
+        many = (i.few, i.many);
+        sizes = (i.first, i.is, sizes_all _ _ c.args.bytes c.loop-stretch.left i.sizes (search rules));
+      };
+      buffer = i.room;
+    }
 
 pub returns-clause-unchanged : goal.returns-clause-unchanged
 returns-clause-unchanged g c =
@@ -90,10 +101,14 @@ returns-in_err-carry_stretch-clause-unchanged g c =
     let file = g.S.Store.file c.args.store.now in
     rw (p.1, p.2) (i.first, i.is, λ h fits. stretch_there file c.in-Some.stretch _ _ _ _ c.in_err-carry_stretch.field-0.0 (c.in-Some.ensures.within (length file) (i.within (length file) h)) (rw i.file at c.in_err-carry_stretch.ensures.refusal))
 
-pub returns-then-stretch-left-clause-bytes : goal.returns-then-stretch-left-clause-bytes
-returns-then-stretch-left-clause-bytes g c honest =
+pub returns-then-stretch-left-clause-taken : goal.returns-then-stretch-left-clause-taken
+returns-then-stretch-left-clause-taken g c =
     let i = c.loop-stretch.invariant in
-    (i.first, i.is, hand_front (g.S.Store.file c.args.store.now) _ _ (waiting c.args.carrier.now) (waiting c.loop-stretch.carrier) (left_in_hand i.first) (left_in_hand c.loop-stretch.hand) (i.bytes honest))
+    record {
+      put = λ honest. (i.first, i.is, hand_front (g.S.Store.file c.args.store.now) _ _ (waiting c.args.carrier.now) (waiting c.loop-stretch.carrier) (left_in_hand i.first) (left_in_hand c.loop-stretch.hand) (i.bytes honest));
+      left = tt;
+      buffer = i.room;
+    }
 
 pub returns-then-stretch-left-clause-unchanged : goal.returns-then-stretch-left-clause-unchanged
 returns-then-stretch-left-clause-unchanged g c =
@@ -105,14 +120,6 @@ returns-then-stretch-left-clause-unchanged g c =
           let room = sizes_fit _ _ c.args.bytes c.loop-stretch.left c.in-Some.stretch.samples c.in-Some.stretch.at c.in-Some.stretch.len i.sizes c.in-Some.ensures.stretch c.in-Some.ensures.within fits in
           absurd (omega (arith, room, more)),
     )
-
-pub returns-clause-left : goal.returns-clause-left
-returns-clause-left g c =
-    let i = c.loop-stretch.invariant in
-    record {
-      many = (i.few, i.many);
-      sizes = (i.first, i.is, sizes_all _ _ c.args.bytes c.loop-stretch.left i.sizes (search rules));
-    }
 
 pub returns-clause-work : goal.returns-clause-work
 returns-clause-work g c file tree t n o may =

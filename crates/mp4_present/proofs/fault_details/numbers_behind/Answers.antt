@@ -9,7 +9,7 @@ use Rattle.mp4_present.specs.words.PassedMoofs.{IsBegun}
 use Rattle.mp4_present.proofs.Assembled.{begun}
 use Rattle.mp4_present.proofs.FaultGaps.{some_so}
 use Rattle.mp4_present.proofs.GapsTold.{tells_plain}
-use Rattle.mp4_present.proofs.LooksCounted.{looks_open}
+use Rattle.mp4_present.proofs.LooksCounted.{looks_open, none_looks}
 use Rattle.mp4_boxes.specs.words.View.{box_seen}
 use Rattle.mp4_frag.specs.declared.trex.Trex.{Trex}
 use Rattle.mp4_head.specs.format.Head.{Head}
@@ -26,33 +26,21 @@ check_tables-requires g c = record {
   read = (c.in_ok-head.ensures.head.has.tree.tracks, tracks_read _ c.in_ok-head.head c.in_ok-head.ensures.head);
 }
 
-pub returns-in_err-head-clause-within : goal.returns-in_err-head-clause-within
-returns-in_err-head-clause-within g c = λ told. none_open _ _
+pub returns-in_err-head-clause-work : goal.returns-in_err-head-clause-work
+returns-in_err-head-clause-work g c = λ told. record { steps = none_open _ _; looks = none_looks _ _ }
 
-pub returns-in_err-plain-clause-within : goal.returns-in_err-plain-clause-within
-returns-in_err-plain-clause-within g c =
+pub returns-in_err-plain-clause-work : goal.returns-in_err-plain-clause-work
+returns-in_err-plain-clause-work g c =
     let honest = g.S.Store.is_honest c.args.store.now in
     let file = g.S.Store.file c.args.store.now in
     let outline = c.args.outline.now in
     let moov = c.args.moov.now in
     let b = box_seen c.view-view.result in
     let r : IsRead honest file outline moov b = record { outline = c.requires.outline; is = c.view-view.ensures; fills = c.requires.fills; bytes = c.requires.bytes } in
-    λ told. tables_open honest file outline moov b c.in_ok-head.head r c.in_ok-head.ensures.head told _ _ c.in_err-plain.ensures.within
+    λ told. record { steps = tables_open honest file outline moov b c.in_ok-head.head r c.in_ok-head.ensures.head told _ _ c.in_err-plain.ensures.within; looks = none_looks _ _ }
 
-pub returns-in_err-told-clause-within : goal.returns-in_err-told-clause-within
-returns-in_err-told-clause-within g c =
-    let honest = g.S.Store.is_honest c.args.store.now in
-    let file = g.S.Store.file c.args.store.now in
-    let outline = c.args.outline.now in
-    let moov = c.args.moov.now in
-    let b = box_seen c.view-view.result in
-    let r : IsRead honest file outline moov b = record { outline = c.requires.outline; is = c.view-view.ensures; fills = c.requires.fills; bytes = c.requires.bytes } in
-    let head = c.in_ok-head.head in
-    let says = c.in_ok-head.ensures.head in
-    λ told. moofs_open honest file outline moov b head r says told _ _ _ c.in_ok-plain.ensures.within (c.in_err-told.ensures.within told)
-
-pub returns-clause-within : goal.returns-clause-within
-returns-clause-within g c =
+pub returns-in_err-told-clause-work : goal.returns-in_err-told-clause-work
+returns-in_err-told-clause-work g c =
     let honest = g.S.Store.is_honest c.args.store.now in
     let file = g.S.Store.file c.args.store.now in
     let outline = c.args.outline.now in
@@ -61,7 +49,31 @@ returns-clause-within g c =
     let r : IsRead honest file outline moov b = record { outline = c.requires.outline; is = c.view-view.ensures; fills = c.requires.fills; bytes = c.requires.bytes } in
     let head = c.in_ok-head.head in
     let says = c.in_ok-head.ensures.head in
-    λ told. moofs_open honest file outline moov b head r says told _ _ _ c.in_ok-plain.ensures.within (c.in_ok-told.ensures.within told)
+    let many : length c.in_ok-plain.plain.states.items ≡ length head.tracks.items = search rules in
+    λ told.
+    let work = c.in_err-told.ensures.work told in
+    record {
+      steps = moofs_open honest file outline moov b head r says told _ _ _ c.in_ok-plain.ensures.within work.steps;
+      looks = looks_open honest file outline moov b head r says told _ _ (rw many at work.looks);
+    }
+
+pub returns-clause-work : goal.returns-clause-work
+returns-clause-work g c =
+    let honest = g.S.Store.is_honest c.args.store.now in
+    let file = g.S.Store.file c.args.store.now in
+    let outline = c.args.outline.now in
+    let moov = c.args.moov.now in
+    let b = box_seen c.view-view.result in
+    let r : IsRead honest file outline moov b = record { outline = c.requires.outline; is = c.view-view.ensures; fills = c.requires.fills; bytes = c.requires.bytes } in
+    let head = c.in_ok-head.head in
+    let says = c.in_ok-head.ensures.head in
+    let many : length c.in_ok-plain.plain.states.items ≡ length head.tracks.items = search rules in
+    λ told.
+    let work = c.in_ok-told.ensures.work told in
+    record {
+      steps = moofs_open honest file outline moov b head r says told _ _ _ c.in_ok-plain.ensures.within work.steps;
+      looks = looks_open honest file outline moov b head r says told _ _ (rw many at work.looks);
+    }
 
 pub returns-clause-told : goal.returns-clause-told
 returns-clause-told g c =
@@ -84,29 +96,3 @@ returns-clause-told g c =
 
 pub returns-in-Some-clause-told : goal.returns-in-Some-clause-told
 returns-in-Some-clause-told g c = λ told. tells_plain (g.S.Store.file c.args.store.now) _ c.args.fault.now.offset c.in-Some.told c.len.ensures c.in-Some.ensures
-
-pub returns-in_err-told-clause-looks : goal.returns-in_err-told-clause-looks
-returns-in_err-told-clause-looks g c =
-    let honest = g.S.Store.is_honest c.args.store.now in
-    let file = g.S.Store.file c.args.store.now in
-    let outline = c.args.outline.now in
-    let moov = c.args.moov.now in
-    let b = box_seen c.view-view.result in
-    let r : IsRead honest file outline moov b = record { outline = c.requires.outline; is = c.view-view.ensures; fills = c.requires.fills; bytes = c.requires.bytes } in
-    let head = c.in_ok-head.head in
-    let says = c.in_ok-head.ensures.head in
-    let many : length c.in_ok-plain.plain.states.items ≡ length head.tracks.items = search rules in
-    λ told. looks_open honest file outline moov b head r says told _ _ (rw many at (c.in_err-told.ensures.looks told))
-
-pub returns-clause-looks : goal.returns-clause-looks
-returns-clause-looks g c =
-    let honest = g.S.Store.is_honest c.args.store.now in
-    let file = g.S.Store.file c.args.store.now in
-    let outline = c.args.outline.now in
-    let moov = c.args.moov.now in
-    let b = box_seen c.view-view.result in
-    let r : IsRead honest file outline moov b = record { outline = c.requires.outline; is = c.view-view.ensures; fills = c.requires.fills; bytes = c.requires.bytes } in
-    let head = c.in_ok-head.head in
-    let says = c.in_ok-head.ensures.head in
-    let many : length c.in_ok-plain.plain.states.items ≡ length head.tracks.items = search rules in
-    λ told. looks_open honest file outline moov b head r says told _ _ (rw many at (c.in_ok-told.ensures.looks told))

@@ -25,7 +25,7 @@ returns-clause-told g c =
     let whole = c.args.plain.now.room in
     let old : c.args.plain.now.states.items ≡ start = search rules in
     let passed = c.in_ok-reached.ensures in
-    let len_is : c.len-file_len.result ≡ length file = c.len-file_len.ensures ∙ ap length (c.in_ok-len.ensures.file ∙ passed.store.file) in
+    let len_is : c.len-file_len.result ≡ length file = c.len-file_len.ensures ∙ ap length (c.in_ok-len.ensures.store.file ∙ passed.store.file) in
     let next = rw c.in-Some.is at passed.next in
     some_so (λ (n : FaultNumbers). FindsIn c.len-file_len.result m states reached.room place n)
     (λ (n : FaultNumbers). IsTrue honest → (movie : MovieTree) (boxes : List Box) → IsBegun file movie boxes c.args.plain.now.states.items whole → Tells file place n)

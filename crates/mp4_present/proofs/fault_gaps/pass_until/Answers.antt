@@ -41,14 +41,14 @@ returns-in_err-top-clause-refusal g c =
     rw (p.1, p.2) (not_found (g.S.Store.is_honest c.args.store.now) file c.loop-top.next c.args.outline.now.longest _ _ _ i.left
     (rw (i.honesty, i.file, i.reads) at c.in_err-top.ensures.refusal))
 
-pub returns-in_err-top-clause-within : goal.returns-in_err-top-clause-within
-returns-in_err-top-clause-within g c = λ told. all_fit _ _ _ _ _ (c.loop-top.invariant.fit told)
+pub returns-in_err-top-clause-work : goal.returns-in_err-top-clause-work
+returns-in_err-top-clause-work g c = λ told. record { steps = all_fit _ _ _ _ _ (c.loop-top.invariant.fit told); looks = all_looked _ _ _ _ _ (c.loop-top.invariant.looks told) }
 
-pub returns-then-place-top-clause-within : goal.returns-then-place-top-clause-within
-returns-then-place-top-clause-within g c = λ told. all_fit _ _ _ _ _ (c.loop-top.invariant.fit told)
+pub returns-then-place-top-clause-work : goal.returns-then-place-top-clause-work
+returns-then-place-top-clause-work g c = λ told. record { steps = all_fit _ _ _ _ _ (c.loop-top.invariant.fit told); looks = all_looked _ _ _ _ _ (c.loop-top.invariant.looks told) }
 
-pub returns-in_err-len-clause-within : goal.returns-in_err-len-clause-within
-returns-in_err-len-clause-within g c = λ told. all_fit _ _ _ _ _ (c.loop-top.invariant.fit told)
+pub returns-in_err-len-clause-work : goal.returns-in_err-len-clause-work
+returns-in_err-len-clause-work g c = λ told. record { steps = all_fit _ _ _ _ _ (c.loop-top.invariant.fit told); looks = all_looked _ _ _ _ _ (c.loop-top.invariant.looks told) }
 
 pub returns-in_err-len-clause-refusal : goal.returns-in_err-len-clause-refusal
 returns-in_err-len-clause-refusal g c =
@@ -59,22 +59,27 @@ returns-in_err-len-clause-refusal g c =
     let within = rw (i.file, c.in-Some.is) at c.in_ok-top.ensures.within in
     rw (p.1, p.2) (not_read (g.S.Store.is_honest c.args.store.now) c.in-Some.top _ _ _ _
     (λ told. let l = i.left told in rw i.longest (left_next file _ _ c.in-Some.top l within.0 (next told l.boxes l.are_from)).short)
-    (rw (c.in_ok-top.ensures.reads, i.reads) at c.in_err-len.ensures.refusal))
+    (rw (c.in_ok-top.ensures.store.reads, i.reads) at c.in_err-len.ensures.refusal))
 
-pub returns-in_err-check_moof-clause-within : goal.returns-in_err-check_moof-clause-within
-returns-in_err-check_moof-clause-within g c =
+pub returns-in_err-check_moof-clause-work : goal.returns-in_err-check_moof-clause-work
+returns-in_err-check_moof-clause-work g c =
     let i = c.loop-top.invariant in
     let file = g.S.Store.file c.args.store.now in
     let within = rw (i.file, c.in-Some.is) at c.in_ok-top.ensures.within in
+    let many : length c.loop-top.states ≡ length c.args.states.now = search rules in
     λ told.
     let r : IsRead file c.in-Some.top (box_seen c.view-moof.result) c.read_payload.new.room c.in_ok-len.len = record {
       is = c.view-moof.ensures;
       fills = c.in_ok-len.ensures.fills.0;
       within = c.in_ok-len.ensures.fills.1;
-      read = (rw (c.in_ok-top.ensures.honesty, i.honesty, c.in_ok-top.ensures.file, i.file) at c.in_ok-len.ensures.bytes) told;
+      read = (rw (c.in_ok-top.ensures.store.honesty, i.honesty, c.in_ok-top.ensures.store.file, i.file) at c.in_ok-len.ensures.bytes) told;
       of_bytes = c.in_ok-len.ensures.room;
     } in
-    refused_fits file c.loop-top.next c.in-Some.top within.0 within.1 (box_seen c.view-moof.result) c.read_payload.new.room c.in_ok-len.len r _ _ _ _ c.check_moof.ensures.work.most (i.fit told)
+    record {
+      steps = refused_fits file c.loop-top.next c.in-Some.top within.0 within.1 (box_seen c.view-moof.result) c.read_payload.new.room c.in_ok-len.len r _ _ _ _ c.check_moof.ensures.work.most (i.fit told);
+      looks = refused_looks file c.loop-top.next c.in-Some.top within.0 within.1 within.3 (box_seen c.view-moof.result) c.read_payload.new.room c.in_ok-len.len r
+          (length c.args.states.now) _ _ _ (rw many at c.check_moof.ensures.looks.most) (i.looks told);
+    }
 
 pub loop-top-preserved : goal.loop-top-preserved
 loop-top-preserved g c =
@@ -97,7 +102,7 @@ loop-top-preserved g c =
             is = c.view-moof.ensures;
             fills = c.in_ok-len.ensures.fills.0;
             within = c.in_ok-len.ensures.fills.1;
-            read = (rw (c.in_ok-top.ensures.honesty, i.honesty, c.in_ok-top.ensures.file, i.file) at c.in_ok-len.ensures.bytes) told;
+            read = (rw (c.in_ok-top.ensures.store.honesty, i.honesty, c.in_ok-top.ensures.store.file, i.file) at c.in_ok-len.ensures.bytes) told;
             of_bytes = c.in_ok-len.ensures.room;
           } in
           next_passed file movie boxes c.loop-top.next c.args.outline.now.longest c.args.states.now c.loop-top.states c.args.room c.loop-top.room b u c.in-Some.top within.0 (next told u.left.boxes u.left.are_from)
@@ -108,7 +113,7 @@ loop-top-preserved g c =
             is = c.view-moof.ensures;
             fills = c.in_ok-len.ensures.fills.0;
             within = c.in_ok-len.ensures.fills.1;
-            read = (rw (c.in_ok-top.ensures.honesty, i.honesty, c.in_ok-top.ensures.file, i.file) at c.in_ok-len.ensures.bytes) told;
+            read = (rw (c.in_ok-top.ensures.store.honesty, i.honesty, c.in_ok-top.ensures.store.file, i.file) at c.in_ok-len.ensures.bytes) told;
             of_bytes = c.in_ok-len.ensures.room;
           } in
           let some : c.check_moof.new.looks ≤ c.check_moof.new.looks + length c.args.states.now = omega arith in
@@ -119,14 +124,14 @@ loop-top-preserved g c =
             is = c.view-moof.ensures;
             fills = c.in_ok-len.ensures.fills.0;
             within = c.in_ok-len.ensures.fills.1;
-            read = (rw (c.in_ok-top.ensures.honesty, i.honesty, c.in_ok-top.ensures.file, i.file) at c.in_ok-len.ensures.bytes) told;
+            read = (rw (c.in_ok-top.ensures.store.honesty, i.honesty, c.in_ok-top.ensures.store.file, i.file) at c.in_ok-len.ensures.bytes) told;
             of_bytes = c.in_ok-len.ensures.room;
           } in
           next_fits file c.loop-top.next c.in-Some.top within.0 within.1 (box_seen c.view-moof.result) c.read_payload.new.room c.in_ok-len.len r _ _ _ _ _ c.in_ok-check_moof.ensures.work.within (i.fit told);
     }
 
-pub returns-clause-within : goal.returns-clause-within
-returns-clause-within g c = λ told. all_fit _ _ _ _ _ (c.loop-top.invariant.fit told)
+pub returns-clause-work : goal.returns-clause-work
+returns-clause-work g c = λ told. record { steps = all_fit _ _ _ _ _ (c.loop-top.invariant.fit told); looks = all_looked _ _ _ _ _ (c.loop-top.invariant.looks told) }
 
 pub returns-then-place-top-clause-reached : goal.returns-then-place-top-clause-reached
 returns-then-place-top-clause-reached g c =
@@ -153,32 +158,3 @@ returns-then-place-top-clause-next g c =
       left = left_before _ _ _ _ _ _ within.1 (i.fit told);
       looked = looks_before _ _ _ _ _ _ within.1 (i.looks told);
     }
-
-pub returns-in_err-top-clause-looks : goal.returns-in_err-top-clause-looks
-returns-in_err-top-clause-looks g c = λ told. all_looked _ _ _ _ _ (c.loop-top.invariant.looks told)
-
-pub returns-then-place-top-clause-looks : goal.returns-then-place-top-clause-looks
-returns-then-place-top-clause-looks g c = λ told. all_looked _ _ _ _ _ (c.loop-top.invariant.looks told)
-
-pub returns-in_err-len-clause-looks : goal.returns-in_err-len-clause-looks
-returns-in_err-len-clause-looks g c = λ told. all_looked _ _ _ _ _ (c.loop-top.invariant.looks told)
-
-pub returns-clause-looks : goal.returns-clause-looks
-returns-clause-looks g c = λ told. all_looked _ _ _ _ _ (c.loop-top.invariant.looks told)
-
-pub returns-in_err-check_moof-clause-looks : goal.returns-in_err-check_moof-clause-looks
-returns-in_err-check_moof-clause-looks g c =
-    let i = c.loop-top.invariant in
-    let file = g.S.Store.file c.args.store.now in
-    let within = rw (i.file, c.in-Some.is) at c.in_ok-top.ensures.within in
-    let many : length c.loop-top.states ≡ length c.args.states.now = search rules in
-    λ told.
-    let r : IsRead file c.in-Some.top (box_seen c.view-moof.result) c.read_payload.new.room c.in_ok-len.len = record {
-      is = c.view-moof.ensures;
-      fills = c.in_ok-len.ensures.fills.0;
-      within = c.in_ok-len.ensures.fills.1;
-      read = (rw (c.in_ok-top.ensures.honesty, i.honesty, c.in_ok-top.ensures.file, i.file) at c.in_ok-len.ensures.bytes) told;
-      of_bytes = c.in_ok-len.ensures.room;
-    } in
-    refused_looks file c.loop-top.next c.in-Some.top within.0 within.1 within.3 (box_seen c.view-moof.result) c.read_payload.new.room c.in_ok-len.len r
-    (length c.args.states.now) _ _ _ (rw many at c.check_moof.ensures.looks.most) (i.looks told)

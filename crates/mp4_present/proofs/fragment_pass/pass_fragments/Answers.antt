@@ -63,7 +63,7 @@ returns-in_err-len-clause-refusal g c =
     let next = rw (i.honesty, i.file, c.in-Some.is) at c.in_ok-top.ensures.next in
     let within = rw (i.file, c.in-Some.is) at c.in_ok-top.ensures.within in
     rw (p.1, p.2) (not_read (g.S.Store.is_honest c.args.store.now) file c.args.states.now c.args.room c.in-Some.top c.args.outline.now.longest _ _ _ _ (λ told. let l = i.left told in left_next file _ _ c.in-Some.top l within.0 (next told l.boxes l.are_from)) (search rules)
-    (rw (c.in_ok-top.ensures.reads, i.reads) at c.in_err-len.ensures.refusal))
+    (rw (c.in_ok-top.ensures.store.reads, i.reads) at c.in_err-len.ensures.refusal))
 
 pub loop-top-preserved : goal.loop-top-preserved
 loop-top-preserved g c =
@@ -87,7 +87,7 @@ loop-top-preserved g c =
             is = c.view-moof.ensures;
             fills = c.in_ok-len.ensures.fills.0;
             within = c.in_ok-len.ensures.fills.1;
-            read = (rw (c.in_ok-top.ensures.honesty, i.honesty, c.in_ok-top.ensures.file, i.file) at c.in_ok-len.ensures.bytes) told;
+            read = (rw (c.in_ok-top.ensures.store.honesty, i.honesty, c.in_ok-top.ensures.store.file, i.file) at c.in_ok-len.ensures.bytes) told;
             of_bytes = c.in_ok-len.ensures.room;
           } in
           next_passed file movie boxes c.loop-top.next c.args.outline.now.longest c.args.states.now c.loop-top.states c.args.room c.loop-top.room b u c.in-Some.top within.0 (next told u.left.boxes u.left.are_from)
@@ -100,7 +100,7 @@ loop-top-preserved g c =
             is = c.view-moof.ensures;
             fills = c.in_ok-len.ensures.fills.0;
             within = c.in_ok-len.ensures.fills.1;
-            read = (rw (c.in_ok-top.ensures.honesty, i.honesty, c.in_ok-top.ensures.file, i.file) at c.in_ok-len.ensures.bytes) told;
+            read = (rw (c.in_ok-top.ensures.store.honesty, i.honesty, c.in_ok-top.ensures.store.file, i.file) at c.in_ok-len.ensures.bytes) told;
             of_bytes = c.in_ok-len.ensures.room;
           } in
           rw c.in_ok-note_moof.ensures.noted (owns_next file movie boxes c.loop-top.next c.args.outline.now.longest c.args.states.now c.loop-top.states c.args.room c.loop-top.room (map own_seen c.loop-top.own.items) b u c.in-Some.top within.0 (next told u.0.left.boxes u.0.left.are_from)
@@ -112,7 +112,7 @@ loop-top-preserved g c =
             is = c.view-moof.ensures;
             fills = c.in_ok-len.ensures.fills.0;
             within = c.in_ok-len.ensures.fills.1;
-            read = (rw (c.in_ok-top.ensures.honesty, i.honesty, c.in_ok-top.ensures.file, i.file) at c.in_ok-len.ensures.bytes) told;
+            read = (rw (c.in_ok-top.ensures.store.honesty, i.honesty, c.in_ok-top.ensures.store.file, i.file) at c.in_ok-len.ensures.bytes) told;
             of_bytes = c.in_ok-len.ensures.room;
           } in
           let e = c.in_ok-check_moof.ensures in
@@ -124,7 +124,7 @@ loop-top-preserved g c =
             is = c.view-moof.ensures;
             fills = c.in_ok-len.ensures.fills.0;
             within = c.in_ok-len.ensures.fills.1;
-            read = (rw (c.in_ok-top.ensures.honesty, i.honesty, c.in_ok-top.ensures.file, i.file) at c.in_ok-len.ensures.bytes) told;
+            read = (rw (c.in_ok-top.ensures.store.honesty, i.honesty, c.in_ok-top.ensures.store.file, i.file) at c.in_ok-len.ensures.bytes) told;
             of_bytes = c.in_ok-len.ensures.room;
           } in
           next_looked file c.loop-top.next c.in-Some.top all within.0 u.0 u.1.0 (next told u.0 u.1.0) (box_seen c.view-moof.result) c.read_payload.new.room c.in_ok-len.len r
@@ -134,7 +134,7 @@ loop-top-preserved g c =
             is = c.view-moof.ensures;
             fills = c.in_ok-len.ensures.fills.0;
             within = c.in_ok-len.ensures.fills.1;
-            read = (rw (c.in_ok-top.ensures.honesty, i.honesty, c.in_ok-top.ensures.file, i.file) at c.in_ok-len.ensures.bytes) told;
+            read = (rw (c.in_ok-top.ensures.store.honesty, i.honesty, c.in_ok-top.ensures.store.file, i.file) at c.in_ok-len.ensures.bytes) told;
             of_bytes = c.in_ok-len.ensures.room;
           } in
           next_looks file c.loop-top.next c.in-Some.top within.0 within.1 within.3 (box_seen c.view-moof.result) c.read_payload.new.room c.in_ok-len.len r
@@ -144,7 +144,7 @@ loop-top-preserved g c =
             is = c.view-moof.ensures;
             fills = c.in_ok-len.ensures.fills.0;
             within = c.in_ok-len.ensures.fills.1;
-            read = (rw (c.in_ok-top.ensures.honesty, i.honesty, c.in_ok-top.ensures.file, i.file) at c.in_ok-len.ensures.bytes) told;
+            read = (rw (c.in_ok-top.ensures.store.honesty, i.honesty, c.in_ok-top.ensures.store.file, i.file) at c.in_ok-len.ensures.bytes) told;
             of_bytes = c.in_ok-len.ensures.room;
           } in
           next_fits file c.loop-top.next c.in-Some.top within.0 within.1 (box_seen c.view-moof.result) c.read_payload.new.room c.in_ok-len.len r _ _ _ _ _ c.in_ok-check_moof.ensures.work.within (i.fit told);
@@ -163,7 +163,7 @@ returns-in_err-check_moof-clause-refusal g c =
       is = c.view-moof.ensures;
       fills = c.in_ok-len.ensures.fills.0;
       within = c.in_ok-len.ensures.fills.1;
-      read = (rw (c.in_ok-top.ensures.honesty, i.honesty, c.in_ok-top.ensures.file, i.file) at c.in_ok-len.ensures.bytes) told;
+      read = (rw (c.in_ok-top.ensures.store.honesty, i.honesty, c.in_ok-top.ensures.store.file, i.file) at c.in_ok-len.ensures.bytes) told;
       of_bytes = c.in_ok-len.ensures.room;
     } in
     next_refused file movie boxes c.loop-top.next c.args.outline.now.longest c.args.states.now c.loop-top.states c.args.room c.loop-top.room b u c.in-Some.top within.0 (next told u.left.boxes u.left.are_from)
@@ -214,7 +214,7 @@ returns-in_err-check_moof-clause-within g c =
       is = c.view-moof.ensures;
       fills = c.in_ok-len.ensures.fills.0;
       within = c.in_ok-len.ensures.fills.1;
-      read = (rw (c.in_ok-top.ensures.honesty, i.honesty, c.in_ok-top.ensures.file, i.file) at c.in_ok-len.ensures.bytes) told;
+      read = (rw (c.in_ok-top.ensures.store.honesty, i.honesty, c.in_ok-top.ensures.store.file, i.file) at c.in_ok-len.ensures.bytes) told;
       of_bytes = c.in_ok-len.ensures.room;
     } in
     refused_fits file c.loop-top.next c.in-Some.top within.0 within.1 (box_seen c.view-moof.result) c.read_payload.new.room c.in_ok-len.len r _ _ _ _ c.check_moof.ensures.work.most (i.fit told)
@@ -230,7 +230,7 @@ returns-in_err-note_moof-clause-work g c =
       is = c.view-moof.ensures;
       fills = c.in_ok-len.ensures.fills.0;
       within = c.in_ok-len.ensures.fills.1;
-      read = (rw (c.in_ok-top.ensures.honesty, i.honesty, c.in_ok-top.ensures.file, i.file) at c.in_ok-len.ensures.bytes) told;
+      read = (rw (c.in_ok-top.ensures.store.honesty, i.honesty, c.in_ok-top.ensures.store.file, i.file) at c.in_ok-len.ensures.bytes) told;
       of_bytes = c.in_ok-len.ensures.room;
     } in
     let e = c.in_ok-check_moof.ensures in
@@ -260,7 +260,7 @@ returns-in_err-check_moof-clause-looks g c =
       is = c.view-moof.ensures;
       fills = c.in_ok-len.ensures.fills.0;
       within = c.in_ok-len.ensures.fills.1;
-      read = (rw (c.in_ok-top.ensures.honesty, i.honesty, c.in_ok-top.ensures.file, i.file) at c.in_ok-len.ensures.bytes) told;
+      read = (rw (c.in_ok-top.ensures.store.honesty, i.honesty, c.in_ok-top.ensures.store.file, i.file) at c.in_ok-len.ensures.bytes) told;
       of_bytes = c.in_ok-len.ensures.room;
     } in
     record {
@@ -282,7 +282,7 @@ returns-in_err-note_moof-clause-looks g c =
       is = c.view-moof.ensures;
       fills = c.in_ok-len.ensures.fills.0;
       within = c.in_ok-len.ensures.fills.1;
-      read = (rw (c.in_ok-top.ensures.honesty, i.honesty, c.in_ok-top.ensures.file, i.file) at c.in_ok-len.ensures.bytes) told;
+      read = (rw (c.in_ok-top.ensures.store.honesty, i.honesty, c.in_ok-top.ensures.store.file, i.file) at c.in_ok-len.ensures.bytes) told;
       of_bytes = c.in_ok-len.ensures.room;
     } in
     let fit = next_looks file c.loop-top.next c.in-Some.top within.0 within.1 within.3 (box_seen c.view-moof.result) c.read_payload.new.room c.in_ok-len.len r

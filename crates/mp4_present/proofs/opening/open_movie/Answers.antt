@@ -15,8 +15,8 @@ returns-clause-movie g c = λ told.
     let moov = c.in_ok-moov.ensures in
     let file = g.S.Store.file c.args.store.now in
     let found = c.in_ok-plain.field-0 in
-    let r = (rw (moov.honesty, outline.honesty, moov.file, outline.file, c.as_slice.ensures.value) at c.in_ok-plain.ensures.movie) told in
-    let len : length file ≡ c.len-file_len.result = ap length (sym (moov.file ∙ outline.file)) ∙ sym c.len-file_len.ensures in
+    let r = (rw (moov.honesty, outline.store.honesty, moov.file, outline.store.file, c.as_slice.ensures.value) at c.in_ok-plain.ensures.movie) told in
+    let len : length file ≡ c.len-file_len.result = ap length (sym (moov.file ∙ outline.store.file)) ∙ sym c.len-file_len.ensures in
     (r.0, subst (λ (n : ℕ). IsOpenedAs file (kept_of c.in_ok-outline.outline c.in_ok-moov.moov.items n found) r.0) len r.1)
 
 pub returns-in_err-outline-clause-only : goal.returns-in_err-outline-clause-only
@@ -29,7 +29,7 @@ returns-in_err-outline-clause-only g c = λ p told d.
 pub returns-in_err-moov-clause-only : goal.returns-in_err-moov-clause-only
 returns-in_err-moov-clause-only g c = λ p told d.
     let q = err_from_is_err_and c.from_residual-in_err-moov.result c.from_residual-in_err-moov.ensures.1 in
-    rw (q.1, q.2) (read_refuses _ _ _ (rw c.in_ok-outline.ensures.reads at c.in_err-moov.ensures.refusal))
+    rw (q.1, q.2) (read_refuses _ _ _ (rw c.in_ok-outline.ensures.store.reads at c.in_err-moov.ensures.refusal))
 
 pub returns-in_err-plain-clause-only : goal.returns-in_err-plain-clause-only
 returns-in_err-plain-clause-only g c = λ p told d.
@@ -38,7 +38,7 @@ returns-in_err-plain-clause-only g c = λ p told d.
     let moov = c.in_ok-moov.ensures in
     let honest = g.S.Store.is_honest c.args.store.now in
     let file = g.S.Store.file c.args.store.now in
-    rw (q.1, q.2) (denoted_opens honest file p _ _ _ told d (rw (moov.honesty, outline.honesty, moov.file, outline.file, moov.reads, outline.reads) at c.in_err-plain.ensures.refusal))
+    rw (q.1, q.2) (denoted_opens honest file p _ _ _ told d (rw (moov.honesty, outline.store.honesty, moov.file, outline.store.file, moov.reads, outline.store.reads) at c.in_err-plain.ensures.refusal))
 
 pub returns-clause-denotes : goal.returns-clause-denotes
 returns-clause-denotes g c = λ told.
@@ -46,8 +46,8 @@ returns-clause-denotes g c = λ told.
     let moov = c.in_ok-moov.ensures in
     let file = g.S.Store.file c.args.store.now in
     let found = c.in_ok-plain.field-0 in
-    let r = (rw (moov.honesty, outline.honesty, moov.file, outline.file, c.as_slice.ensures.value) at c.in_ok-plain.ensures.movie) told in
-    let len : length file ≡ c.len-file_len.result = ap length (sym (moov.file ∙ outline.file)) ∙ sym c.len-file_len.ensures in
+    let r = (rw (moov.honesty, outline.store.honesty, moov.file, outline.store.file, c.as_slice.ensures.value) at c.in_ok-plain.ensures.movie) told in
+    let len : length file ≡ c.len-file_len.result = ap length (sym (moov.file ∙ outline.store.file)) ∙ sym c.len-file_len.ensures in
     opened_denotes file _ r.0 (subst (λ (n : ℕ). IsOpenedAs file (kept_of c.in_ok-outline.outline c.in_ok-moov.moov.items n found) r.0) len r.1)
 
 pub returns-clause-opened : goal.returns-clause-opened
@@ -56,8 +56,8 @@ returns-clause-opened g c = λ told.
     let moov = c.in_ok-moov.ensures in
     let file = g.S.Store.file c.args.store.now in
     let found = c.in_ok-plain.field-0 in
-    let r = (rw (moov.honesty, outline.honesty, moov.file, outline.file, c.as_slice.ensures.value) at c.in_ok-plain.ensures.movie) told in
-    let len : length file ≡ c.len-file_len.result = ap length (sym (moov.file ∙ outline.file)) ∙ sym c.len-file_len.ensures in
+    let r = (rw (moov.honesty, outline.store.honesty, moov.file, outline.store.file, c.as_slice.ensures.value) at c.in_ok-plain.ensures.movie) told in
+    let len : length file ≡ c.len-file_len.result = ap length (sym (moov.file ∙ outline.store.file)) ∙ sym c.len-file_len.ensures in
     opened_of file _ r.0 (subst (λ (n : ℕ). IsOpenedAs file (kept_of c.in_ok-outline.outline c.in_ok-moov.moov.items n found) r.0) len r.1)
 
 pub returns-in_err-outline-clause-work : goal.returns-in_err-outline-clause-work
@@ -71,13 +71,13 @@ returns-in_err-plain-clause-work g c =
     let q = err_from_is_err_and c.from_residual-in_err-plain.result c.from_residual-in_err-plain.ensures.1 in
     let outline = c.in_ok-outline.ensures in
     let moov = c.in_ok-moov.ensures in
-    rw (q.1, q.2) (rw (moov.honesty, outline.honesty, moov.file, outline.file) at c.in_err-plain.ensures.work)
+    rw (q.1, q.2) (rw (moov.honesty, outline.store.honesty, moov.file, outline.store.file) at c.in_err-plain.ensures.work)
 
 pub returns-clause-work : goal.returns-clause-work
 returns-clause-work g c =
     let outline = c.in_ok-outline.ensures in
     let moov = c.in_ok-moov.ensures in
-    rw (moov.honesty, outline.honesty, moov.file, outline.file) at c.in_ok-plain.ensures.work
+    rw (moov.honesty, outline.store.honesty, moov.file, outline.store.file) at c.in_ok-plain.ensures.work
 
 pub returns-in_err-outline-clause-within : goal.returns-in_err-outline-clause-within
 returns-in_err-outline-clause-within g c = λ told. none_open _ _
@@ -89,13 +89,13 @@ pub returns-in_err-plain-clause-within : goal.returns-in_err-plain-clause-within
 returns-in_err-plain-clause-within g c =
     let outline = c.in_ok-outline.ensures in
     let moov = c.in_ok-moov.ensures in
-    rw (moov.honesty, outline.honesty, moov.file, outline.file) at c.in_err-plain.ensures.within
+    rw (moov.honesty, outline.store.honesty, moov.file, outline.store.file) at c.in_err-plain.ensures.within
 
 pub returns-clause-within : goal.returns-clause-within
 returns-clause-within g c =
     let outline = c.in_ok-outline.ensures in
     let moov = c.in_ok-moov.ensures in
-    rw (moov.honesty, outline.honesty, moov.file, outline.file) at c.in_ok-plain.ensures.within
+    rw (moov.honesty, outline.store.honesty, moov.file, outline.store.file) at c.in_ok-plain.ensures.within
 
 pub returns-in_err-outline-clause-looks : goal.returns-in_err-outline-clause-looks
 returns-in_err-outline-clause-looks g c = λ told. record { said = λ tree is. if_no_fault _ _ (none_taken _ _); within = none_looks _ _ }
@@ -108,12 +108,12 @@ returns-in_err-plain-clause-looks g c =
     let q = err_from_is_err_and c.from_residual-in_err-plain.result c.from_residual-in_err-plain.ensures.1 in
     let outline = c.in_ok-outline.ensures in
     let moov = c.in_ok-moov.ensures in
-    let looks = rw (moov.honesty, outline.honesty, moov.file, outline.file) at c.in_err-plain.ensures.looks in
+    let looks = rw (moov.honesty, outline.store.honesty, moov.file, outline.store.file) at c.in_err-plain.ensures.looks in
     rw (q.1, q.2) (λ told. record { said = (looks told).said; within = (looks told).within })
 
 pub returns-clause-looks : goal.returns-clause-looks
 returns-clause-looks g c =
     let outline = c.in_ok-outline.ensures in
     let moov = c.in_ok-moov.ensures in
-    let looks = rw (moov.honesty, outline.honesty, moov.file, outline.file) at c.in_ok-plain.ensures.looks in
+    let looks = rw (moov.honesty, outline.store.honesty, moov.file, outline.store.file) at c.in_ok-plain.ensures.looks in
     λ told. record { said = (looks told).said; within = (looks told).within }

@@ -40,7 +40,7 @@ returns-in_err-left-clause-prefix g c =
     let p = err_from_is_err_and c.from_residual-in_err-left.result c.from_residual-in_err-left.ensures.1 in
     let file = g.S.Store.file c.args.store.now in
     rw p.1 (λ told tree t o is.
-    let x = (rw c.in_ok-carrier.ensures.empty at c.in_err-left.ensures.bytes) told in
+    let x = (rw c.in_ok-carrier.ensures.empty at c.in_err-left.ensures.taken.put) told in
     track_fails file tree t c.args.self.now _ _ _ [] c.in_ok-walk.walk (track_samples tree t) (track_samples tree t) (hand_none file _ [] _) (c.in_ok-walk.ensures.coming file tree t o is) x.0 x.1 x.2)
 
 pub returns-in_err-left-clause-unchanged : goal.returns-in_err-left-clause-unchanged
@@ -67,15 +67,15 @@ loop-carrier-init g c =
       honesty = e.store.honesty;
       file = e.store.file;
       reads = e.store.reads;
-      puts = e.puts;
+      puts = e.store.puts;
       going = λ told tree t o is.
-          let x = (rw c.in_ok-carrier.ensures.empty at e.bytes) told in
-          let y = e.left.sizes in
+          let x = (rw c.in_ok-carrier.ensures.empty at e.taken.put) told in
+          let y = e.taken.left.sizes in
           track_next file tree t m _ _ _ [] (waiting c.carry_hand.new.carrier) c.in_ok-walk.walk c.carry_hand.new.walk (track_samples tree t) (track_samples tree t) info.bytes c.in_ok-left.left (hand_none file _ [] _) (c.in_ok-walk.ensures.coming file tree t o is)
           (track_sizes file m tree t c.args.track info o is info_at) y.0 y.1 y.2 x.0 x.1 x.2 e.walk.stands;
       many = λ other at.
           subst (λ (i : TrackInfo). (c.in_ok-left.left ≤ i.bytes) × GoOnBy (g.K.Sink.contents c.args.sink.now) (g.K.Sink.contents c.carry_hand.new.sink) [] (waiting c.carry_hand.new.carrier) (i.bytes - c.in_ok-left.left)) (same_info info other (sym info_at ∙ at))
-          (rw c.in_ok-carrier.ensures.empty at e.left.many);
+          (rw c.in_ok-carrier.ensures.empty at e.taken.left.many);
       takes = λ told tree t o is.
           let may = c.in_ok-walk.ensures.may file tree t o is in
           takes_within file tree t may.0 (walk_steps tree t) _ _ c.carry_hand.new.walk may.2 (e.work file tree t may.0 o may.1);
@@ -112,18 +112,18 @@ loop-carrier-preserved g c =
       honesty = e.store.honesty ∙ l.store.honesty ∙ i.honesty;
       file = e.store.file ∙ l.store.file ∙ i.file;
       reads = e.store.reads ∙ l.store.reads ∙ i.reads;
-      puts = e.puts ∙ i.puts;
+      puts = e.store.puts ∙ i.puts;
       going = λ told tree t o is.
           let u = i.going told tree t o is in
           let to_come = samples_behind tree t u.earlier u.later in
           let comes = loads_more file tree t m to_come c.load.new.self c.in_ok-load.field-0 c.if-branch.true ((rw (i.honesty, i.file) at l.loaded) told tree t u.earlier u.later o u.stands) in
-          let x = (rw (l.store.honesty, i.honesty, l.store.file, i.file) at e.bytes) told in
-          let y = e.left.sizes in
+          let x = (rw (l.store.honesty, i.honesty, l.store.file, i.file) at e.taken.put) told in
+          let y = e.taken.left.sizes in
           track_next file tree t m _ _ _ (waiting c.loop-carrier.carrier) (waiting c.carry_hand-in-loop-carrier.new.carrier) c.load.new.self c.carry_hand-in-loop-carrier.new.walk (track_samples tree t) to_come c.loop-carrier.left c.in_ok-left-2.left u.goes comes u.sizes y.0 y.1 y.2
           x.0 x.1 x.2 e.walk.stands;
       many = λ info at.
           let before = i.many info at in
-          let more = e.left.many in (
+          let more = e.taken.left.many in (
             fewer info.bytes c.loop-carrier.left c.in_ok-left-2.left before.0 more.0,
             GoOnBy-then _ _ _ [] (waiting c.loop-carrier.carrier) (waiting c.carry_hand-in-loop-carrier.new.carrier) (info.bytes - c.loop-carrier.left) (c.loop-carrier.left - c.in_ok-left-2.left) (info.bytes - c.in_ok-left-2.left) before.1 more.1
                 (less_by info.bytes c.loop-carrier.left c.in_ok-left-2.left before.0 more.0),
@@ -144,7 +144,7 @@ returns-in_err-left-2-clause-prefix g c =
     let u = i.going told tree t o is in
     let to_come = samples_behind tree t u.earlier u.later in
     let comes = loads_more file tree t m to_come c.load.new.self c.in_ok-load.field-0 c.if-branch.true ((rw (i.honesty, i.file) at l.loaded) told tree t u.earlier u.later o u.stands) in
-    let x = (rw (l.store.honesty, i.honesty, l.store.file, i.file) at c.in_err-left-2.ensures.bytes) told in
+    let x = (rw (l.store.honesty, i.honesty, l.store.file, i.file) at c.in_err-left-2.ensures.taken.put) told in
     track_fails file tree t m _ _ _ (waiting c.loop-carrier.carrier) c.load.new.self (track_samples tree t) to_come u.goes comes x.0 x.1 x.2)
 
 pub returns-in_err-left-2-clause-unchanged : goal.returns-in_err-left-2-clause-unchanged

@@ -71,7 +71,7 @@ returns-then-before-mark-clause-back g c told tree t begun samples o h k e =
     let hm = holds_marked file m tree t begun w (length samples) h c.requires d k.0 k.1 k.3.0 b in
     let tk = c.in_ok-read_again.ensures.taken told tree t hm.0 k.1 hm.1 begun o hm.3 in
     let found = got m.tracks w.track c.requires.goes_on.track in
-    let al = c.in_ok-read_again.ensures.again.all found.0 found.1 in
+    let al = c.in_ok-read_again.ensures.again.moof.all found.0 found.1 in
     let first = c.read_again.new.self in
     let own = ap left_in_hand (hand_one m first al.0 tk.takes.0 al.1 tk.takes.1.1) ∙ tk.takes.1.2 in
     let count = count_holds file m tree t begun w (length samples) h c.requires d b samples k hm.0 hm.1 hm.2 first tk.takes.1.0 tk.moof found.0 found.1 al.0 al.1 al.2 own hm.3.holds.left in
@@ -106,7 +106,7 @@ returns-in_err-pass-clause-back g c told tree t begun samples o h k =
     let hm = holds_marked file m tree t begun w (length samples) h c.requires d k.0 k.1 k.3.0 b in
     let tk = c.in_ok-read_again.ensures.taken told tree t hm.0 k.1 hm.1 begun o hm.3 in
     let found = got m.tracks w.track c.requires.goes_on.track in
-    let al = c.in_ok-read_again.ensures.again.all found.0 found.1 in
+    let al = c.in_ok-read_again.ensures.again.moof.all found.0 found.1 in
     let first = c.read_again.new.self in
     let own = ap left_in_hand (hand_one m first al.0 tk.takes.0 al.1 tk.takes.1.1) ∙ tk.takes.1.2 in
     let few = few_passed file m tree t begun w (length samples) h c.requires d b samples k hm.0 hm.1 hm.2 first tk.takes.1.0 tk.moof found.0 found.1 al.0 al.1 al.2 own hm.3.holds.left in
@@ -129,7 +129,7 @@ returns-in_err-pass-clause-work g c told tree t begun to_come n o h may =
     let back = back_is begun w d some in
     let way = tk.way in
     let work = tk.steps in
-    let idle = c.in_err-pass.ensures.idle in
+    let idle = c.in_err-pass.ensures.fewer.idle in
     rw p.1 (omega (arith, back, way, work, idle))
 
 pub returns-clause-back : goal.returns-clause-back
@@ -143,13 +143,13 @@ returns-clause-back g c told tree t begun samples o h k =
     let hm = holds_marked file m tree t begun w (length samples) h c.requires d k.0 k.1 k.3.0 b in
     let tk = c.in_ok-read_again.ensures.taken told tree t hm.0 k.1 hm.1 begun o hm.3 in
     let found = got m.tracks w.track c.requires.goes_on.track in
-    let al = c.in_ok-read_again.ensures.again.all found.0 found.1 in
+    let al = c.in_ok-read_again.ensures.again.moof.all found.0 found.1 in
     let first = c.read_again.new.self in
     let own = ap left_in_hand (hand_one m first al.0 tk.takes.0 al.1 tk.takes.1.1) ∙ tk.takes.1.2 in
-    let ps = c.in_ok-pass.ensures.passed in
+    let ps = c.in_ok-pass.ensures.passed.passed in
     let to_come = ap (λ (k : Mark). k.to_come) h.mark in
     let rest = ps.4 ∙ ap (λ (j : ℕ). drop (d.left - j) (left_in_hand ps.0)) to_come in
-    let stands = c.in_ok-pass.ensures.stands file tree t (hm.0 ++ hm.1 ∷ []) k.1 tk.takes.1.0 in
+    let stands = c.in_ok-pass.ensures.passed.stands file tree t (hm.0 ++ hm.1 ∷ []) k.1 tk.takes.1.0 in
     c.mark-2.ensures.coming file tree t m samples (comes_again file m tree t begun w (length samples) h c.requires d b samples k hm.0 hm.1 hm.2 first tk.takes.1.0 tk.moof found.0 found.1 al.0 al.1 al.2 own hm.3.holds.left c.pass.new.self ps.0 ps.1 ps.2 ps.3 rest stands)
 
 pub returns-clause-work : goal.returns-clause-work
@@ -163,7 +163,7 @@ returns-clause-work g c told tree t begun to_come n o h may =
     let hm = holds_marked file m tree t begun w to_come h c.requires d may.earlier may.later may.stands b in
     let tk = c.in_ok-read_again.ensures.taken told tree t hm.0 may.later hm.1 begun o hm.3 in
     let back = back_is begun w d some in
-    let again = takes_again file tree t m begun c.read_again.new.self n _ _ may hm.0 hm.1 true tk.takes tk.moof (c.in_ok-read_again.ensures.again.through t) tk.way tk.steps in
-    let all = takes_then file tree t (n + moof_steps (moof_box begun)) _ _ _ c.read_again.new.self c.pass.new.self again (λ j may. c.in_ok-pass.ensures.work file tree t j o may) in
+    let again = takes_again file tree t m begun c.read_again.new.self n _ _ may hm.0 hm.1 true tk.takes tk.moof (c.in_ok-read_again.ensures.again.moof.through t) tk.way tk.steps in
+    let all = takes_then file tree t (n + moof_steps (moof_box begun)) _ _ _ c.read_again.new.self c.pass.new.self again (λ j may. c.in_ok-pass.ensures.passed.work file tree t j o may) in
     let taken = all.2 in
     (all.0, c.mark-2.ensures.may file tree t all.0 all.1, omega (arith, taken, back))

@@ -47,14 +47,17 @@ returns-clause-again g c =
     let m = c.args.movie.now in
     let e = c.take_again.ensures in
     record {
-      next = search rules;
-      due = search rules;
-      left = search rules;
-      all = λ info at.
-          let x = e.hand.all info at in
-          let same = ap (λ (b : Box). samples_in b m.states info.id c.args.before.time (keys_seen info.keys)) (sym (ap moof_box e.same)) in
-          subst (λ (w : Walk). (hand : InHand) × InHandOf m w hand × (left_in_hand hand ≡ all_in_moof m w info c.args.before.time)) (sym c.mark.ensures.mark)
-          (x.0, hand_of_marked m now (mark_of now c.args.self.now.mark.to_come) x.0 x.1, x.2 ∙ same);
-      through = λ t.
-          subst (λ (w : Walk). way_through t w w.place ≡ moof_steps (moof_box w)) (sym c.mark.ensures.mark) (way_marked t now (mark_of now c.args.self.now.mark.to_come) now.place ∙ e.hand.through t);
+      walk = search rules;
+      moof = record {
+        next = search rules;
+        due = search rules;
+        left = search rules;
+        all = λ info at.
+            let x = e.hand.all info at in
+            let same = ap (λ (b : Box). samples_in b m.states info.id c.args.before.time (keys_seen info.keys)) (sym (ap moof_box e.same)) in
+            subst (λ (w : Walk). (hand : InHand) × InHandOf m w hand × (left_in_hand hand ≡ all_in_moof m w info c.args.before.time)) (sym c.mark.ensures.mark)
+            (x.0, hand_of_marked m now (mark_of now c.args.self.now.mark.to_come) x.0 x.1, x.2 ∙ same);
+        through = λ t.
+            subst (λ (w : Walk). way_through t w w.place ≡ moof_steps (moof_box w)) (sym c.mark.ensures.mark) (way_marked t now (mark_of now c.args.self.now.mark.to_come) now.place ∙ e.hand.through t);
+      };
     }

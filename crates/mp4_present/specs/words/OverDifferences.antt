@@ -1,0 +1,23 @@
+-- Two files that are compared: what is left of their stores, and which differences are handed over.
+-- `S`, `T` and `D` are what bounds say of the types of the stores and of who takes differences.
+use Rattle.std.specs.Prelude.{◌≡◌, List, ◌++◌, Bool, true, Result, IfOk}
+use Rattle.mp4_store.specs.declared.store.Store.{Ghosts as Store}
+use Rattle.mp4_present.specs.words.Compared.{TakesFront}
+use Rattle.mp4_present.specs.words.OverStores.{OnlyReads}
+use Rattle.mp4_present.specs.declared.differences.Difference.{Difference}
+use Rattle.mp4_present.specs.declared.differences.Differences.{Ghosts as Differences}
+
+-- both stores are as they were, but for failed reads, and at Ok none failed
+pub record OnlyReadsBoth {X Y V E : Type 0} (S : Store X) (a a_after : X) (T : Store Y)
+    (b b_after : Y) (result : Result V E) : Type 0 where
+  pub left : OnlyReads S a a_after result
+  pub right : OnlyReads T b b_after result
+
+-- A front of the differences was taken; where the answer is true, all of them; and the answer says
+-- whether a further one is taken. `Of` says of which lists something is true.
+pub record HandsOver {Z E : Type 0} (D : Differences Z) (seen seen_after : Z)
+    (result : Result Bool E) (Of : (List Difference → Type 0) → Type 0) : Type 0 where
+  pub goes : IfOk result (λ all. all ≡ D.is_open seen_after)
+  pub all : IfOk result (λ all. all ≡ true
+      → Of (λ ds. D.taken seen_after ≡ D.taken seen ++ ds))
+  pub front : Of (TakesFront (D.taken seen) (D.taken seen_after))

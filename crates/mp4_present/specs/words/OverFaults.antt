@@ -1,0 +1,33 @@
+-- What a search for the numbers of a fault tells, and what it takes. `S` is what a bound says of
+-- the store's type.
+use Rattle.std.specs.Prelude.{ℕ, ◌+◌, ◌*◌, ◌^◌, ◌≤◌, List, length, Option, Result, IsTrue, IfOk, IfSome}
+use Rattle.mp4_store.specs.declared.store.Store.{Ghosts as Store}
+use Rattle.mp4_frag.specs.declared.state.TrackState.{TrackState}
+use Rattle.mp4_present.specs.declared.fault_details.FaultNumbers.{FaultNumbers}
+use Rattle.mp4_present.specs.declared.reading.TopBox.{TopBox}
+use Rattle.mp4_present.specs.format.FaultNumbers.{Tells}
+use Rattle.mp4_present.specs.words.NumbersTold.{FindsIn, moof_read}
+use Rattle.mp4_present.specs.words.ToOpen.{LooksByBytes}
+use Rattle.mp4_present.specs.words.WalkSteps.{OpensWithin}
+
+-- over an honest store: the numbers that are told are those of a fault at this place of its file
+abbrev pub TellsOf : {X E : Type 0} → Store X → X → ℕ → Result (Option FaultNumbers) E → Type 0
+TellsOf S store place result = IfOk result (λ told. IfSome told (λ n. IsTrue (S.is_honest store)
+    → Tells (S.file store) place n))
+
+-- the numbers that are told are those of a fault at this place, by a `moof` of which these are the
+-- bytes behind its header
+abbrev pub FindsOf : {E : Type 0} → ℕ → TopBox → List ℕ → List TrackState → ℕ → ℕ
+    → Result (Option FaultNumbers) E → Type 0
+FindsOf file_length top bytes states room place result = IfOk result (λ told. IfSome told
+    (FindsIn file_length (moof_read top bytes) states room place))
+
+-- the steps and the looks of a search in a file, by its bytes
+pub record SearchesWithin (file : List ℕ) (old new before after : ℕ) : Type 0 where
+  pub steps : OpensWithin file old new
+  pub looks : LooksByBytes file before after
+
+-- the same in all of its `moof`s, for so many tracks
+pub record PassesWithin (file : List ℕ) (tracks old new before after : ℕ) : Type 0 where
+  pub steps : new ≤ old + (2 ^ 24 + length file)
+  pub looks : 8 * after ≤ 8 * before + tracks * length file
