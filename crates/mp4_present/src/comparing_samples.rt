@@ -2,10 +2,10 @@
 ghost use Rattle.std.specs.Prelude.{◌≡◌, ℕ, ◌++◌, [], length, map, fold, if◌then◌else◌, IfOk, OnOk};
 ghost use Rattle.mp4_tables.specs.words.Keys.{key_seen, keys_seen};
 ghost use Rattle.mp4_present.specs.format.Comparison.{with_key};
-ghost use Rattle.mp4_present.specs.words.Compared.{StandsIn, PairFound, BothWork, WhereBothLie};
+ghost use Rattle.mp4_present.specs.words.Compared.{PairFound, BothWork, WhereBothLie};
 ghost use Rattle.mp4_present.specs.words.Differing.{flags_left, sample_values, index_of, group_differences, differences_at, sample_bytes_differ, RefusedBoth, RefusesSample};
 ghost use Rattle.mp4_present.specs.words.Joined.{IsBelow};
-ghost use Rattle.mp4_present.specs.words.OverDifferences.{OnlyReadsBoth};
+ghost use Rattle.mp4_present.specs.words.OverDifferences.{BothStand, OnlyReadsBoth};
 ghost use Rattle.mp4_present.specs.words.OverStores.{WhereBothHonest, IsUnchanged};
 ghost use Rattle.mp4_present.specs.words.Windows.{BothShow};
 
@@ -272,11 +272,11 @@ pub(crate) fn compare_pair<S: Store, T: Store, L: Ledger>(
     b: &mut T,
     steps: &mut Steps<L>,
 ) -> Result<Vec<Difference>, Refusal>
-    requires left { StandsIn S.Store a.old left.now left_side.old }
-    requires right { StandsIn T.Store b.old right.now right_side.old }
+    requires sides { BothStand S.Store a.old left.now left_side.old T.Store b.old right.now
+        right_side.old }
     ensures stores { OnlyReadsBoth S.Store a.old a.new T.Store b.old b.new result }
-    ensures left { OnOk result (StandsIn S.Store a.old left.now left_side.new) }
-    ensures right { OnOk result (StandsIn T.Store b.old right.now right_side.new) }
+    ensures sides { OnOk result (BothStand S.Store a.old left.now left_side.new T.Store b.old
+        right.now right_side.new) }
     ensures found { PairFound by.now number S.Store a.old left.now left_side.old left_side.new
         T.Store b.old right.now right_side.old right_side.new (λ found. found.items) result }
     ensures unchanged { WhereBothLie S.Store a.old left.now left_side.old T.Store b.old right.now

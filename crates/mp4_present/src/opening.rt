@@ -7,6 +7,7 @@ ghost use Rattle.mp4_present.specs.format.Presentation.{Presentation};
 ghost use Rattle.mp4_present.specs.format.Denotes.{Denotes, FileTree};
 ghost use Rattle.mp4_present.specs.words.OpenedMovie.{AreInfosBy, IsInfoBy, IsOpenedAs, OpensAs, kept_of};
 ghost use Rattle.mp4_present.specs.words.Opening.{HasOutline, IsOpened, RefusesDenoted, RefusesOpen};
+ghost use Rattle.mp4_present.specs.words.OverOpening.{ChecksFile};
 ghost use Rattle.mp4_present.specs.words.OverStores.{OnlyReads, WhereHonest, WhereRead, Refused, RefusedOf};
 ghost use Rattle.mp4_present.specs.words.ToOpen.{IsPayloadIn, HasTables, HasTracks, LooksToOpen, WorksToOpen, ids_of};
 ghost use Rattle.mp4_present.specs.words.WalkSteps.{OpensWithin};
@@ -91,11 +92,8 @@ fn find<S: Store, L: Ledger, M: Ledger>(
     ensures movie { WhereRead S.Store store.old result (λ file f. (t : FileTree)
         × IsOpenedAs file (kept_of outline.now moov.now (length file) f) t) }
     ensures ids { WhereRead S.Store store.old result (λ file f. HasTracks file f.tracks.items) }
-    ensures work { WhereHonest S.Store store.old (λ file. WorksToOpen file result steps.old
-        steps.new) }
-    ensures within { WhereHonest S.Store store.old (λ file. OpensWithin file steps.old steps.new) }
-    ensures looks { WhereHonest S.Store store.old (λ file. LooksToOpen file result looks.old
-        looks.new) }
+    ensures work { WhereHonest S.Store store.old (λ file.
+        ChecksFile file result steps.old steps.new looks.old looks.new) }
     ensures refusal { RefusedOf S.Store store.old store.new result RefusesOpen }
 {
     let view = outline.moov.view(moov);
