@@ -1,5 +1,5 @@
 //! Samples of two tracks, compared one by one.
-ghost use Rattle.std.specs.Prelude.{◌≡◌, ℕ, ◌++◌, [], length, map, fold, if◌then◌else◌, IfOk, OnOk};
+ghost use Rattle.std.specs.Prelude.{◌≡◌, ◌++◌, [], length, map, fold, if◌then◌else◌, IfOk, OnOk};
 ghost use Rattle.mp4_tables.specs.words.Keys.{key_seen, keys_seen};
 ghost use Rattle.mp4_present.specs.format.Comparison.{with_key};
 ghost use Rattle.mp4_present.specs.words.Compared.{PairFound, BothWork, WhereBothLie};
@@ -235,22 +235,13 @@ pub(crate) struct Side {
 }
 
 impl Side {
-    ghost use Rattle.std.specs.Prelude.{◌≤◌, ◌<◌, ℕ, List, length, IfOk};
-    ghost use Rattle.mp4_present.specs.words.Compared.{WhereTrackOf};
-    ghost use Rattle.mp4_present.specs.words.Movies.{IsWalkOf};
-    ghost use Rattle.mp4_present.specs.words.SamplesComing.{Comes, track_samples};
-    ghost use Rattle.mp4_present.specs.words.WalkSteps.{MayTake, walk_steps};
-    ghost use Rattle.mp4_present.specs.words.Windows.{Shows};
+    ghost use Rattle.std.specs.Prelude.{◌<◌, length, IfOk};
+    ghost use Rattle.mp4_present.specs.words.OverDifferences.{Begins};
 
     // Before the first sample of the track at this place.
     pub(crate) fn new(alloc: Global, movie: &Movie, track: usize) -> Result<Side, Memory>
         requires { track < length movie.now.tracks }
-        ensures walk { IfOk result (λ side. IsWalkOf movie.now side.walk) }
-        ensures coming { IfOk result (λ side. WhereTrackOf movie.now track (λ file tree t.
-            Comes file tree t movie.now side.walk (track_samples tree t))) }
-        ensures may { IfOk result (λ side. WhereTrackOf movie.now track (λ file tree t.
-            (n : ℕ) × MayTake file tree t side.walk n × (n ≤ walk_steps tree t))) }
-        ensures shows { IfOk result (λ side. (file : List ℕ) → Shows file side.window) }
+        ensures { IfOk result (Begins movie.now track) }
     {
         let walk = movie.walk(alloc, track)?;
         let window = FileWindow::new(alloc, WINDOW).map_err(|_| Memory)?;

@@ -1,9 +1,9 @@
 //! The `moof`s of a file, each read, checked and given up before the next.
 ghost use Rattle.std.specs.Prelude.{◌≡◌, ◌^◌, ◌≤◌, length, map, [], IfOk, OnOk};
-ghost use Rattle.mp4_present.specs.words.OwnMoofs.{own_first, own_seen};
+ghost use Rattle.mp4_present.specs.words.OwnMoofs.{own_seen};
 ghost use Rattle.mp4_frag.specs.words.States.{HaveRoom};
 ghost use Rattle.mp4_present.specs.words.Opening.{HasOutline};
-ghost use Rattle.mp4_present.specs.words.OverOpening.{ChecksMoofs};
+ghost use Rattle.mp4_present.specs.words.OverOpening.{ChecksMoofs, NotesOn};
 ghost use Rattle.mp4_present.specs.words.OverStores.{OnlyReads, WhereHonest, WhereRead, RefusedOf};
 ghost use Rattle.mp4_present.specs.words.PassedMoofs.{RefusesFragments};
 ghost use Rattle.mp4_present.specs.words.ToOpen.{PassesNoting, PassesOn};
@@ -39,9 +39,8 @@ fn pass_fragments<S: Store, L: Ledger, M: Ledger>(
     ensures passed { OnOk result (WhereHonest S.Store store.old (λ file.
         PassesOn file states.old room states.new)) }
     ensures own { OnOk result ((length own.new.items ≡ length own.old.items)
-        × WhereHonest S.Store store.old (λ file. map own_seen own.old.items
-        ≡ map own_first states.old
-        → PassesNoting file states.old room states.new (map own_seen own.new.items))) }
+        × WhereHonest S.Store store.old (λ file.
+        NotesOn file states.old room states.new own.old.items own.new.items)) }
     ensures work { WhereHonest S.Store store.old (λ file. ChecksMoofs file (length states.old)
         result steps.old steps.new looks.old looks.new) }
     ensures refusal { RefusedOf S.Store store.old store.new result (λ honest file.

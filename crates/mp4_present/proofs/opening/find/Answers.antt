@@ -93,12 +93,12 @@ returns-clause-movie g c =
     let within = rw c.as_slice.ensures.value at c.in_ok-mehd.ensures.within in
     let w = within _ (measure honest file outline moov b head plain r says told own begin states.items passed) in
     let found : Found = record { plain = plain; tracks = c.in_ok-tracks.tracks; own = c.check_fragments.new.own; mehd = c.in_ok-mehd.mehd } in
-    (_, opened_as honest file outline moov b head plain r says told own begin states.items passed found (length file) refl w.0 w.1 w.2 (rw c.as_slice-2.ensures.value at c.in_ok-tracks.ensures.infos) kept.1 refl)
+    (_, opened_as honest file outline moov b head plain r says told own begin states.items passed found (length file) refl w.0 w.1 w.2 (rw c.as_slice-2.ensures.value at c.in_ok-tracks.ensures.infos.infos) kept.1 refl)
 
 pub returns-clause-ids : goal.returns-clause-ids
 returns-clause-ids g c =
     let r : IsRead (g.S.Store.is_honest c.args.store.now) (g.S.Store.file c.args.store.now) c.args.outline.now c.args.moov.now _ = record { outline = c.requires.outline; is = c.view-view.ensures; fills = c.requires.moov.0; bytes = c.requires.moov.1 } in
-    its_movie _ _ c.args.outline.now c.args.moov.now _ c.in_ok-head.head _ r c.in_ok-head.ensures.head c.in_ok-tracks.ensures.ids
+    its_movie _ _ c.args.outline.now c.args.moov.now _ c.in_ok-head.head _ r c.in_ok-head.ensures.head c.in_ok-tracks.ensures.infos.ids
 
 pub returns-in_err-head-clause-work : goal.returns-in_err-head-clause-work
 returns-in_err-head-clause-work g c =
