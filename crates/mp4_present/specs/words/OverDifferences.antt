@@ -24,8 +24,8 @@ pub record BothStand {X Y : Type 0} (S : Store X) (a : X) (m : MovieSeen) (one :
   pub left : StandsIn S a m one
   pub right : StandsIn T b n other
 
--- A side walks over this track of the movie, before its first sample, and its window shows the
--- bytes of any file.
+-- A side walks over this track of the movie, before its first sample, and its window is one on
+-- whatever file.
 pub record Begins (m : MovieSeen) (track : ℕ) (side : Side) : Type 0 where
   pub walk : IsWalkOf m side.walk
   pub coming : WhereTrackOf m track (λ file tree t.

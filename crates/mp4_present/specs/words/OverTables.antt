@@ -15,9 +15,8 @@ use Rattle.mp4_present.specs.words.WalkSteps.{IfNoFault, table_steps}
 abbrev pub WhereTrees : List TrackHead → (List TrackTree → Type 0) → Type 0
 WhereTrees heads P = (trees : List TrackTree) → AreTracksOf trees heads → P trees
 
--- The check of a track's tables, which lie in so many bytes: where no fault is found, it takes no
--- more steps than they say; and always no more than their bytes and the room for samples allow, of
--- which some is left at Ok.
+-- What a check of a track's tables takes: where no fault is found no more steps than they say, and
+-- always no more than the bytes and the room for samples allow.
 pub record ChecksTables {T : Type 0} (track : TrackHead) (bytes room room_after : ℕ)
     (result : Result T Refusal) (old new : ℕ) : Type 0 where
   pub said : IfNoFault result ((t : TrackTree) → IsTrackOf t track → new ≤ old + table_steps t)
