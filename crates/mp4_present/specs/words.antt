@@ -30,5 +30,6 @@ pub mod OverMarks
 pub mod OverFaults
 pub mod OverDifferences
 pub mod OverTables
+pub mod OverOpening
 pub mod OverHands
 pub mod OwnMoofs

@@ -1,11 +1,11 @@
 //! Samples of two tracks, compared one by one.
-ghost use Rattle.std.specs.Prelude.{◌≡◌, ℕ, ◌++◌, [], length, map, fold, if◌then◌else◌, IfOk, OnOk};
+ghost use Rattle.std.specs.Prelude.{◌≡◌, ◌++◌, [], length, map, fold, if◌then◌else◌, IfOk, OnOk};
 ghost use Rattle.mp4_tables.specs.words.Keys.{key_seen, keys_seen};
 ghost use Rattle.mp4_present.specs.format.Comparison.{with_key};
-ghost use Rattle.mp4_present.specs.words.Compared.{StandsIn, PairFound, BothWork, WhereBothLie};
+ghost use Rattle.mp4_present.specs.words.Compared.{PairFound, BothWork, WhereBothLie};
 ghost use Rattle.mp4_present.specs.words.Differing.{flags_left, sample_values, index_of, group_differences, differences_at, sample_bytes_differ, RefusedBoth, RefusesSample};
 ghost use Rattle.mp4_present.specs.words.Joined.{IsBelow};
-ghost use Rattle.mp4_present.specs.words.OverDifferences.{OnlyReadsBoth};
+ghost use Rattle.mp4_present.specs.words.OverDifferences.{BothStand, OnlyReadsBoth};
 ghost use Rattle.mp4_present.specs.words.OverStores.{WhereBothHonest, IsUnchanged};
 ghost use Rattle.mp4_present.specs.words.Windows.{BothShow};
 
@@ -235,22 +235,13 @@ pub(crate) struct Side {
 }
 
 impl Side {
-    ghost use Rattle.std.specs.Prelude.{◌≤◌, ◌<◌, ℕ, List, length, IfOk};
-    ghost use Rattle.mp4_present.specs.words.Compared.{WhereTrackOf};
-    ghost use Rattle.mp4_present.specs.words.Movies.{IsWalkOf};
-    ghost use Rattle.mp4_present.specs.words.SamplesComing.{Comes, track_samples};
-    ghost use Rattle.mp4_present.specs.words.WalkSteps.{MayTake, walk_steps};
-    ghost use Rattle.mp4_present.specs.words.Windows.{Shows};
+    ghost use Rattle.std.specs.Prelude.{◌<◌, length, IfOk};
+    ghost use Rattle.mp4_present.specs.words.OverDifferences.{Begins};
 
     // Before the first sample of the track at this place.
     pub(crate) fn new(alloc: Global, movie: &Movie, track: usize) -> Result<Side, Memory>
         requires { track < length movie.now.tracks }
-        ensures walk { IfOk result (λ side. IsWalkOf movie.now side.walk) }
-        ensures coming { IfOk result (λ side. WhereTrackOf movie.now track (λ file tree t.
-            Comes file tree t movie.now side.walk (track_samples tree t))) }
-        ensures may { IfOk result (λ side. WhereTrackOf movie.now track (λ file tree t.
-            (n : ℕ) × MayTake file tree t side.walk n × (n ≤ walk_steps tree t))) }
-        ensures shows { IfOk result (λ side. (file : List ℕ) → Shows file side.window) }
+        ensures { IfOk result (Begins movie.now track) }
     {
         let walk = movie.walk(alloc, track)?;
         let window = FileWindow::new(alloc, WINDOW).map_err(|_| Memory)?;
@@ -272,11 +263,11 @@ pub(crate) fn compare_pair<S: Store, T: Store, L: Ledger>(
     b: &mut T,
     steps: &mut Steps<L>,
 ) -> Result<Vec<Difference>, Refusal>
-    requires left { StandsIn S.Store a.old left.now left_side.old }
-    requires right { StandsIn T.Store b.old right.now right_side.old }
+    requires sides { BothStand S.Store a.old left.now left_side.old T.Store b.old right.now
+        right_side.old }
     ensures stores { OnlyReadsBoth S.Store a.old a.new T.Store b.old b.new result }
-    ensures left { OnOk result (StandsIn S.Store a.old left.now left_side.new) }
-    ensures right { OnOk result (StandsIn T.Store b.old right.now right_side.new) }
+    ensures sides { OnOk result (BothStand S.Store a.old left.now left_side.new T.Store b.old
+        right.now right_side.new) }
     ensures found { PairFound by.now number S.Store a.old left.now left_side.old left_side.new
         T.Store b.old right.now right_side.old right_side.new (λ found. found.items) result }
     ensures unchanged { WhereBothLie S.Store a.old left.now left_side.old T.Store b.old right.now

@@ -1,20 +1,18 @@
 //! Numbers of a fault in a fragment; and the time that is due where one begins at another (ISO/IEC
 //! 14496-12, 8.8.12).
-ghost use Rattle.std.specs.Prelude.{◌≡◌, ◌+◌, ◌-◌, ◌*◌, ◌^◌, ◌≤◌, ◌==◌, List, length, take, find, IfOk, IfSome};
+ghost use Rattle.std.specs.Prelude.{◌≡◌, ◌+◌, ◌-◌, ◌*◌, ◌^◌, ◌≤◌, ◌==◌, length, take, find, IfOk, IfSome};
 ghost use Rattle.mp4_boxes.specs.format.Bytes.{field};
 ghost use Rattle.mp4_boxes.specs.format.Box.{Box};
 ghost use Rattle.mp4_boxes.specs.words.View.{box_seen};
 ghost use Rattle.mp4_frag.specs.format.Fragments.{decode_time_of};
-ghost use Rattle.mp4_present.specs.format.FaultNumbers.{IsChildOf, SaysTime, Tells};
+ghost use Rattle.mp4_present.specs.format.FaultNumbers.{IsChildOf, SaysTime};
 ghost use Rattle.mp4_frag.specs.words.States.{HaveRoom};
-ghost use Rattle.mp4_head.specs.format.Tree.{MovieTree};
 ghost use Rattle.mp4_frag.specs.declared.state.TrackState.{TrackState};
 ghost use Rattle.mp4_present.specs.words.NumbersTold.{IsBehind, IsReached, RefusesSearch};
-ghost use Rattle.mp4_present.specs.words.OverFaults.{FindsOf, PassesWithin};
+ghost use Rattle.mp4_present.specs.words.OverFaults.{FindsOf, PassesWithin, TellsBehind};
 ghost use Rattle.mp4_present.specs.words.OverStores.{OnlyReads, RefusedOf, WhereHonest};
 ghost use Rattle.mp4_present.specs.words.Movies.{Fills};
 ghost use Rattle.mp4_present.specs.words.Opening.{HasOutline};
-ghost use Rattle.mp4_present.specs.words.PassedMoofs.{IsBegun};
 
 use crate::fault_counts::counts_in_fragment;
 use crate::fault_details::FaultNumbers;
@@ -283,10 +281,7 @@ pub(crate) fn numbers_in_fragments<S: Store, L: Ledger, M: Ledger>(
         × HaveRoom plain.now.room plain.now.states.items }
     requires outline { HasOutline (S.is_honest store.old) (S.file store.old) outline.now }
     ensures store { OnlyReads S.Store store.old store.new result }
-    ensures told { IfOk result (λ told. IfSome told (λ n. WhereHonest S.Store store.old (λ file.
-        (movie : MovieTree) (boxes : List Box)
-        → IsBegun file movie boxes plain.now.states.items plain.now.room
-        → Tells file fault.now.offset n))) }
+    ensures told { TellsBehind S.Store store.old plain.now fault.now.offset result }
     ensures work { WhereHonest S.Store store.old (λ file. PassesWithin file
         (length plain.now.states.items) steps.old steps.new looks.old looks.new) }
     ensures refusal { RefusedOf S.Store store.old store.new result

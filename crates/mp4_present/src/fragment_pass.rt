@@ -1,12 +1,12 @@
 //! The `moof`s of a file, each read, checked and given up before the next.
-ghost use Rattle.std.specs.Prelude.{◌≡◌, ◌+◌, ◌^◌, ◌≤◌, length, map, [], IfOk, OnOk};
-ghost use Rattle.mp4_present.specs.words.OwnMoofs.{own_first, own_seen};
+ghost use Rattle.std.specs.Prelude.{◌≡◌, ◌^◌, ◌≤◌, length, map, [], IfOk, OnOk};
+ghost use Rattle.mp4_present.specs.words.OwnMoofs.{own_seen};
 ghost use Rattle.mp4_frag.specs.words.States.{HaveRoom};
 ghost use Rattle.mp4_present.specs.words.Opening.{HasOutline};
+ghost use Rattle.mp4_present.specs.words.OverOpening.{ChecksMoofs, NotesOn};
 ghost use Rattle.mp4_present.specs.words.OverStores.{OnlyReads, WhereHonest, WhereRead, RefusedOf};
 ghost use Rattle.mp4_present.specs.words.PassedMoofs.{RefusesFragments};
-ghost use Rattle.mp4_present.specs.words.ToOpen.{LooksAtMoofs, PassesNoting, PassesOn};
-ghost use Rattle.mp4_present.specs.words.WalkSteps.{ChecksWithin, IfNoFault};
+ghost use Rattle.mp4_present.specs.words.ToOpen.{PassesNoting, PassesOn};
 
 use crate::fragments::next_fragment;
 use crate::outline::Outline;
@@ -39,15 +39,10 @@ fn pass_fragments<S: Store, L: Ledger, M: Ledger>(
     ensures passed { OnOk result (WhereHonest S.Store store.old (λ file.
         PassesOn file states.old room states.new)) }
     ensures own { OnOk result ((length own.new.items ≡ length own.old.items)
-        × WhereHonest S.Store store.old (λ file. map own_seen own.old.items
-        ≡ map own_first states.old
-        → PassesNoting file states.old room states.new (map own_seen own.new.items))) }
-    ensures work { WhereHonest S.Store store.old (λ file.
-        IfNoFault result (ChecksWithin file steps.old steps.new)) }
-    ensures within { WhereHonest S.Store store.old (λ file.
-        steps.new ≤ steps.old + (2 ^ 24 + length file)) }
-    ensures looks { WhereHonest S.Store store.old (λ file.
-        LooksAtMoofs file (length states.old) result looks.old looks.new) }
+        × WhereHonest S.Store store.old (λ file.
+        NotesOn file states.old room states.new own.old.items own.new.items)) }
+    ensures work { WhereHonest S.Store store.old (λ file. ChecksMoofs file (length states.old)
+        result steps.old steps.new looks.old looks.new) }
     ensures refusal { RefusedOf S.Store store.old store.new result (λ honest file.
         RefusesFragments honest file states.old room) }
 {
@@ -84,12 +79,8 @@ pub(crate) fn check_fragments<S: Store, L: Ledger, M: Ledger>(
     ensures store { OnlyReads S.Store store.old store.new result }
     ensures own { WhereRead S.Store store.old result (λ file states. PassesNoting file
         plain.now.states.items plain.now.room states.items (map own_seen own.new.items)) }
-    ensures work { WhereHonest S.Store store.old (λ file.
-        IfNoFault result (ChecksWithin file steps.old steps.new)) }
-    ensures within { WhereHonest S.Store store.old (λ file.
-        steps.new ≤ steps.old + (2 ^ 24 + length file)) }
-    ensures looks { WhereHonest S.Store store.old (λ file.
-        LooksAtMoofs file (length plain.now.states.items) result looks.old looks.new) }
+    ensures work { WhereHonest S.Store store.old (λ file. ChecksMoofs file
+        (length plain.now.states.items) result steps.old steps.new looks.old looks.new) }
     ensures refusal { RefusedOf S.Store store.old store.new result (λ honest file.
         RefusesFragments honest file plain.now.states.items plain.now.room) }
 {

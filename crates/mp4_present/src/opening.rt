@@ -1,14 +1,15 @@
 //! A file, read to one presentation or refused.
-ghost use Rattle.std.specs.Prelude.{◌≡◌, length, map, IfOk, IfErr};
+ghost use Rattle.std.specs.Prelude.{◌≡◌, length, IfOk, IfErr};
 ghost use Rattle.mp4_boxes.specs.declared.refusal.Refusal.TheVariants as refusals;
 ghost use Rattle.mp4_present.specs.words.Movies.{Fills};
 ghost use Rattle.mp4_head.specs.declared.heads.TrackHead.{TrackHead};
 ghost use Rattle.mp4_present.specs.format.Presentation.{Presentation};
 ghost use Rattle.mp4_present.specs.format.Denotes.{Denotes, FileTree};
-ghost use Rattle.mp4_present.specs.words.OpenedMovie.{AreInfosBy, IsInfoBy, IsOpenedAs, OpensAs, kept_of};
+ghost use Rattle.mp4_present.specs.words.OpenedMovie.{IsInfoBy, IsOpenedAs, OpensAs, kept_of};
 ghost use Rattle.mp4_present.specs.words.Opening.{HasOutline, IsOpened, RefusesDenoted, RefusesOpen};
+ghost use Rattle.mp4_present.specs.words.OverOpening.{ChecksFile, HaveInfos};
 ghost use Rattle.mp4_present.specs.words.OverStores.{OnlyReads, WhereHonest, WhereRead, Refused, RefusedOf};
-ghost use Rattle.mp4_present.specs.words.ToOpen.{IsPayloadIn, HasTables, HasTracks, LooksToOpen, WorksToOpen, ids_of};
+ghost use Rattle.mp4_present.specs.words.ToOpen.{IsPayloadIn, HasTables, HasTracks, LooksToOpen, WorksToOpen};
 ghost use Rattle.mp4_present.specs.words.WalkSteps.{OpensWithin};
 
 use crate::fragment_pass::check_fragments;
@@ -57,11 +58,8 @@ fn infos_of(
     states: &[TrackState],
 ) -> Result<Vec<TrackInfo>, Refusal>
     requires states { length states.now ≡ length head.now.tracks.items }
-    ensures each { IfOk result (λ tracks. length tracks.items ≡ length head.now.tracks.items) }
-    ensures ids { IfOk result (λ tracks. ids_of tracks.items
-        ≡ map (λ (t : TrackHead). t.id) head.now.tracks.items) }
     ensures infos { IfOk result
-        (λ tracks. AreInfosBy head.now.tracks.items states.now tracks.items) }
+        (λ tracks. HaveInfos head.now.tracks.items states.now tracks.items) }
     ensures refusal { IfErr result (λ r. r ≡ refusals.Memory) }
 {
     let mut tracks = Vec::new(alloc);
@@ -91,11 +89,8 @@ fn find<S: Store, L: Ledger, M: Ledger>(
     ensures movie { WhereRead S.Store store.old result (λ file f. (t : FileTree)
         × IsOpenedAs file (kept_of outline.now moov.now (length file) f) t) }
     ensures ids { WhereRead S.Store store.old result (λ file f. HasTracks file f.tracks.items) }
-    ensures work { WhereHonest S.Store store.old (λ file. WorksToOpen file result steps.old
-        steps.new) }
-    ensures within { WhereHonest S.Store store.old (λ file. OpensWithin file steps.old steps.new) }
-    ensures looks { WhereHonest S.Store store.old (λ file. LooksToOpen file result looks.old
-        looks.new) }
+    ensures work { WhereHonest S.Store store.old (λ file.
+        ChecksFile file result steps.old steps.new looks.old looks.new) }
     ensures refusal { RefusedOf S.Store store.old store.new result RefusesOpen }
 {
     let view = outline.moov.view(moov);

@@ -5,7 +5,7 @@ ghost use Rattle.mp4_boxes.specs.words.View.{box_seen};
 ghost use Rattle.mp4_frag.specs.format.FragmentSamples as fragments;
 ghost use Rattle.mp4_frag.specs.declared.trex.Trex.{Trex};
 ghost use Rattle.mp4_head.specs.format.Tree.{TrackTree, are_distinct};
-ghost use Rattle.mp4_present.specs.words.OverTables.{IsStateBehind};
+ghost use Rattle.mp4_present.specs.words.OverTables.{IsStateBehind, WhereTrees};
 ghost use Rattle.mp4_present.specs.words.Plain.{ArePlain, HaveTablesIn};
 ghost use Rattle.mp4_present.specs.words.TrackTrees.{AreTracksOf, HaveTables, RefusesTables};
 ghost use Rattle.mp4_present.specs.words.WalkSteps.{IfNoFault, table_steps};
@@ -89,6 +89,7 @@ impl PlainTracks {
     ghost use Rattle.mp4_boxes.specs.words.View.{box_seen};
     ghost use Rattle.mp4_frag.specs.declared.trex.Trex.{Trex};
     ghost use Rattle.mp4_head.specs.format.Tree.{TrackTree, are_distinct};
+    ghost use Rattle.mp4_present.specs.words.OverTables.{ChecksTables};
     ghost use Rattle.mp4_present.specs.words.Plain.{ArePlain, HasTablesIn};
     ghost use Rattle.mp4_present.specs.words.TrackTrees.{IsTrackOf, HaveTables, RefusesTable};
     ghost use Rattle.mp4_present.specs.words.ToOpen.{OneMorePlain, OneMoreSaid};
@@ -124,12 +125,8 @@ impl PlainTracks {
             (OneMorePlain (box_seen moov.entry).payload self.old self.new) }
         ensures says { OnOk result (OneMoreSaid file_len (box_seen moov.entry).payload trexes.now
             track.now self.old self.new) }
-        ensures work { IfNoFault result ((t : TrackTree) → IsTrackOf t track.now
-            → steps.new ≤ steps.old + table_steps t) }
-        ensures within { steps.new ≤ steps.old + 5 * self.old.room
-            + 6 * length (box_seen moov.entry).payload }
-        ensures less { OnOk result (steps.new + 5 * self.new.room ≤ steps.old + 5 * self.old.room
-            + 6 * length (box_seen moov.entry).payload) }
+        ensures work { ChecksTables track.now (length (box_seen moov.entry).payload) self.old.room
+            self.new.room result steps.old steps.new }
         ensures refusal { IfErr result (RefusesTable file_len self.old.room track.now) }
     {
         let mut keys = Keys::new();
@@ -163,12 +160,10 @@ pub(crate) fn check_tables<L: Ledger>(
     requires read { (trees : List TrackTree) × AreTracksOf trees head.now.tracks.items }
     ensures plain { IfOk result
         (ArePlain (box_seen moov.entry).payload (length head.now.tracks.items)) }
-    ensures says { IfOk result (λ p. (trees : List TrackTree)
-        → AreTracksOf trees head.now.tracks.items
-        → HaveTables file_len (box_seen moov.entry).payload head.now.trexes.items trees p) }
-    ensures work { IfNoFault result ((trees : List TrackTree)
-        → AreTracksOf trees head.now.tracks.items
-        → steps.new ≤ steps.old + sum_of table_steps trees) }
+    ensures says { IfOk result (λ p. WhereTrees head.now.tracks.items (λ trees.
+        HaveTables file_len (box_seen moov.entry).payload head.now.trexes.items trees p)) }
+    ensures work { IfNoFault result (WhereTrees head.now.tracks.items (λ trees.
+        steps.new ≤ steps.old + sum_of table_steps trees)) }
     ensures within { steps.new ≤ steps.old + 5 * 2 ^ 24
         + 6 * (length head.now.tracks.items * length (box_seen moov.entry).payload) }
     ensures refusal { IfErr result (RefusesTables file_len head.now.tracks.items) }

@@ -1,9 +1,14 @@
 -- Two files that are compared: what is left of their stores, and which differences are handed over.
 -- `S`, `T` and `D` are what bounds say of the types of the stores and of who takes differences.
-use Rattle.std.specs.Prelude.{◌≡◌, List, ◌++◌, Bool, true, Result, IfOk}
+use Rattle.std.specs.Prelude.{◌≡◌, ℕ, ◌≤◌, List, ◌++◌, Bool, true, Result, IfOk}
 use Rattle.mp4_store.specs.declared.store.Store.{Ghosts as Store}
-use Rattle.mp4_present.specs.words.Compared.{TakesFront}
+use Rattle.mp4_present.specs.words.Compared.{StandsIn, TakesFront, WhereTrackOf}
+use Rattle.mp4_present.specs.words.Movies.{MovieSeen, IsWalkOf}
 use Rattle.mp4_present.specs.words.OverStores.{OnlyReads}
+use Rattle.mp4_present.specs.words.SamplesComing.{Comes, track_samples}
+use Rattle.mp4_present.specs.words.WalkSteps.{MayTake, walk_steps}
+use Rattle.mp4_present.specs.words.Windows.{Shows}
+use Rattle.mp4_present.specs.declared.comparing_samples.Side.{Side}
 use Rattle.mp4_present.specs.declared.differences.Difference.{Difference}
 use Rattle.mp4_present.specs.declared.differences.Differences.{Ghosts as Differences}
 
@@ -12,6 +17,22 @@ pub record OnlyReadsBoth {X Y V E : Type 0} (S : Store X) (a a_after : X) (T : S
     (b b_after : Y) (result : Result V E) : Type 0 where
   pub left : OnlyReads S a a_after result
   pub right : OnlyReads T b b_after result
+
+-- each side walks over its movie, and its window shows the file of its store, where this is honest
+pub record BothStand {X Y : Type 0} (S : Store X) (a : X) (m : MovieSeen) (one : Side)
+    (T : Store Y) (b : Y) (n : MovieSeen) (other : Side) : Type 0 where
+  pub left : StandsIn S a m one
+  pub right : StandsIn T b n other
+
+-- A side walks over this track of the movie, before its first sample, and its window is one on
+-- whatever file.
+pub record Begins (m : MovieSeen) (track : ℕ) (side : Side) : Type 0 where
+  pub walk : IsWalkOf m side.walk
+  pub coming : WhereTrackOf m track (λ file tree t.
+      Comes file tree t m side.walk (track_samples tree t))
+  pub may : WhereTrackOf m track (λ file tree t.
+      (n : ℕ) × MayTake file tree t side.walk n × (n ≤ walk_steps tree t))
+  pub shows : (file : List ℕ) → Shows file side.window
 
 -- A front of the differences was taken; where the answer is true, all of them; and the answer says
 -- whether a further one is taken. `Of` says of which lists something is true.

@@ -1,18 +1,30 @@
 -- What a search for the numbers of a fault tells, and what it takes. `S` is what a bound says of
 -- the store's type.
 use Rattle.std.specs.Prelude.{ℕ, ◌+◌, ◌*◌, ◌^◌, ◌≤◌, List, length, Option, Result, IsTrue, IfOk, IfSome}
+use Rattle.mp4_boxes.specs.format.Box.{Box}
 use Rattle.mp4_store.specs.declared.store.Store.{Ghosts as Store}
 use Rattle.mp4_frag.specs.declared.state.TrackState.{TrackState}
+use Rattle.mp4_head.specs.format.Tree.{MovieTree}
 use Rattle.mp4_present.specs.declared.fault_details.FaultNumbers.{FaultNumbers}
 use Rattle.mp4_present.specs.declared.reading.TopBox.{TopBox}
+use Rattle.mp4_present.specs.declared.tables_pass.PlainTracks.{PlainTracks}
 use Rattle.mp4_present.specs.format.FaultNumbers.{Tells}
 use Rattle.mp4_present.specs.words.NumbersTold.{FindsIn, moof_read}
+use Rattle.mp4_present.specs.words.PassedMoofs.{IsBegun}
 use Rattle.mp4_present.specs.words.ToOpen.{LooksByBytes}
 use Rattle.mp4_present.specs.words.WalkSteps.{OpensWithin}
 
 -- over an honest store: the numbers that are told are those of a fault at this place of its file
 abbrev pub TellsOf : {X E : Type 0} → Store X → X → ℕ → Result (Option FaultNumbers) E → Type 0
 TellsOf S store place result = IfOk result (λ told. IfSome told (λ n. IsTrue (S.is_honest store)
+    → Tells (S.file store) place n))
+
+-- the same behind the tables of these tracks
+abbrev pub TellsBehind : {X E : Type 0} → Store X → X → PlainTracks → ℕ
+    → Result (Option FaultNumbers) E → Type 0
+TellsBehind S store plain place result = IfOk result (λ told. IfSome told
+    (λ n. IsTrue (S.is_honest store) → (movie : MovieTree) (boxes : List Box)
+    → IsBegun (S.file store) movie boxes plain.states.items plain.room
     → Tells (S.file store) place n))
 
 -- the numbers that are told are those of a fault at this place, by a `moof` of which these are the

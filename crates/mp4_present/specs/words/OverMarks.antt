@@ -47,7 +47,7 @@ pub record HasReadAgain (m : MovieSeen) (w w_after : Walk) (before : Due) : Type
   pub walk : IsWalkOf m w_after
   pub moof : IsReadAgain m w w_after before
 
--- a store of another length than the file has changed
+-- of a store whose file has another length than the opened one, the answer is that it has changed
 abbrev pub KnowsLength : {X T : Type 0} → Store X → X → MovieSeen → Result T Refusal → Type 0
 KnowsLength S store m result = (length (S.file store) ≡ m.file_len → ⊥)
     → result ≡ Err refusals.StoreChanged
@@ -65,7 +65,7 @@ pub record PassesInHand (m : MovieSeen) (w w_after : Walk) (count old new : ℕ)
   pub work : (file : List ℕ) (tree : FileTree) (t : TrackTree) (n : ℕ) → IsOpenedAs file m tree
       → MayTake file tree t w n → TakesOn file tree t n w_after old new
 
--- nothing but its place in hand and what it has marked may be another
+-- its track and its room are the same, and what is due, left and next behind what is in hand
 pub record KeepsRest (w w_after : Walk) : Type 0 where
   pub left : w_after.left ≡ w.left
   pub due : w_after.due ≡ w.due
@@ -73,7 +73,7 @@ pub record KeepsRest (w w_after : Walk) : Type 0 where
   pub track : w_after.track ≡ w.track
   pub bytes : w_after.bytes ≡ w.bytes
 
--- the store has changed, which took no step
+-- the answer is that the store has changed, and no step was taken
 pub record FindsFewer (old new : ℕ) (r : Refusal) : Type 0 where
   pub changed : r ≡ refusals.StoreChanged
   pub idle : new ≡ old

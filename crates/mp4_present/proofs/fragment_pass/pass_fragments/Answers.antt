@@ -187,69 +187,31 @@ returns-clause-own g c = (
 )
 
 pub returns-clause-work : goal.returns-clause-work
-returns-clause-work g c = λ told. checks_done _ _ _ _ (c.loop-top.invariant.work told)
+returns-clause-work g c =
+    λ told. record {
+      work = checks_done _ _ _ _ (c.loop-top.invariant.work told);
+      within = all_fit _ _ _ _ _ (c.loop-top.invariant.fit told);
+      looks = record { said = looks_done _ _ _ _ _ (c.loop-top.invariant.looked told); within = all_looked _ _ _ _ _ (c.loop-top.invariant.looks told) };
+    }
 
 pub returns-in_err-top-clause-work : goal.returns-in_err-top-clause-work
-returns-in_err-top-clause-work g c = λ told. if_no_fault _ _ (checks_done _ _ _ _ (c.loop-top.invariant.work told))
+returns-in_err-top-clause-work g c =
+    λ told. record {
+      work = if_no_fault _ _ (checks_done _ _ _ _ (c.loop-top.invariant.work told));
+      within = all_fit _ _ _ _ _ (c.loop-top.invariant.fit told);
+      looks = record { said = if_no_fault _ _ (looks_done _ _ _ _ _ (c.loop-top.invariant.looked told)); within = all_looked _ _ _ _ _ (c.loop-top.invariant.looks told) };
+    }
 
 pub returns-in_err-len-clause-work : goal.returns-in_err-len-clause-work
-returns-in_err-len-clause-work g c = λ told. if_no_fault _ _ (checks_done _ _ _ _ (c.loop-top.invariant.work told))
+returns-in_err-len-clause-work g c =
+    λ told. record {
+      work = if_no_fault _ _ (checks_done _ _ _ _ (c.loop-top.invariant.work told));
+      within = all_fit _ _ _ _ _ (c.loop-top.invariant.fit told);
+      looks = record { said = if_no_fault _ _ (looks_done _ _ _ _ _ (c.loop-top.invariant.looked told)); within = all_looked _ _ _ _ _ (c.loop-top.invariant.looks told) };
+    }
 
-pub returns-clause-within : goal.returns-clause-within
-returns-clause-within g c = λ told. all_fit _ _ _ _ _ (c.loop-top.invariant.fit told)
-
-pub returns-in_err-top-clause-within : goal.returns-in_err-top-clause-within
-returns-in_err-top-clause-within g c = λ told. all_fit _ _ _ _ _ (c.loop-top.invariant.fit told)
-
-pub returns-in_err-len-clause-within : goal.returns-in_err-len-clause-within
-returns-in_err-len-clause-within g c = λ told. all_fit _ _ _ _ _ (c.loop-top.invariant.fit told)
-
-pub returns-in_err-check_moof-clause-within : goal.returns-in_err-check_moof-clause-within
-returns-in_err-check_moof-clause-within g c =
-    let i = c.loop-top.invariant in
-    let file = g.S.Store.file c.args.store.now in
-    let within = rw (i.file, c.in-Some.is) at c.in_ok-top.ensures.within in
-    λ told.
-    let r : IsRead file c.in-Some.top (box_seen c.view-moof.result) c.read_payload.new.room c.in_ok-len.len = record {
-      is = c.view-moof.ensures;
-      fills = c.in_ok-len.ensures.fills.0;
-      within = c.in_ok-len.ensures.fills.1;
-      read = (rw (c.in_ok-top.ensures.store.honesty, i.honesty, c.in_ok-top.ensures.store.file, i.file) at c.in_ok-len.ensures.bytes) told;
-      of_bytes = c.in_ok-len.ensures.room;
-    } in
-    refused_fits file c.loop-top.next c.in-Some.top within.0 within.1 (box_seen c.view-moof.result) c.read_payload.new.room c.in_ok-len.len r _ _ _ _ c.check_moof.ensures.work.most (i.fit told)
-
-pub returns-in_err-note_moof-clause-work : goal.returns-in_err-note_moof-clause-work
-returns-in_err-note_moof-clause-work g c =
-    let i = c.loop-top.invariant in
-    let file = g.S.Store.file c.args.store.now in
-    let next = rw (i.honesty, i.file, c.in-Some.is) at c.in_ok-top.ensures.next in
-    let within = rw (i.file, c.in-Some.is) at c.in_ok-top.ensures.within in
-    λ told.
-    let r : IsRead file c.in-Some.top (box_seen c.view-moof.result) c.read_payload.new.room c.in_ok-len.len = record {
-      is = c.view-moof.ensures;
-      fills = c.in_ok-len.ensures.fills.0;
-      within = c.in_ok-len.ensures.fills.1;
-      read = (rw (c.in_ok-top.ensures.store.honesty, i.honesty, c.in_ok-top.ensures.store.file, i.file) at c.in_ok-len.ensures.bytes) told;
-      of_bytes = c.in_ok-len.ensures.room;
-    } in
-    let e = c.in_ok-check_moof.ensures in
-    if_no_fault _ _ (checks_done file c.in-Some.top.header.end _ _ (λ all h.
-    let u = i.work told all h in
-    next_within file c.loop-top.next c.in-Some.top all within.0 u.0 u.1.0 (next told u.0 u.1.0) (box_seen c.view-moof.result) c.read_payload.new.room c.in_ok-len.len r
-    _ _ _ _ _ _ _ e.moved e.work.cost u.1.1))
-
-pub returns-clause-looks : goal.returns-clause-looks
-returns-clause-looks g c = λ told. record { said = looks_done _ _ _ _ _ (c.loop-top.invariant.looked told); within = all_looked _ _ _ _ _ (c.loop-top.invariant.looks told) }
-
-pub returns-in_err-top-clause-looks : goal.returns-in_err-top-clause-looks
-returns-in_err-top-clause-looks g c = λ told. record { said = if_no_fault _ _ (looks_done _ _ _ _ _ (c.loop-top.invariant.looked told)); within = all_looked _ _ _ _ _ (c.loop-top.invariant.looks told) }
-
-pub returns-in_err-len-clause-looks : goal.returns-in_err-len-clause-looks
-returns-in_err-len-clause-looks g c = λ told. record { said = if_no_fault _ _ (looks_done _ _ _ _ _ (c.loop-top.invariant.looked told)); within = all_looked _ _ _ _ _ (c.loop-top.invariant.looks told) }
-
-pub returns-in_err-check_moof-clause-looks : goal.returns-in_err-check_moof-clause-looks
-returns-in_err-check_moof-clause-looks g c =
+pub returns-in_err-check_moof-clause-work : goal.returns-in_err-check_moof-clause-work
+returns-in_err-check_moof-clause-work g c =
     let p = err_from_is_err_and c.from_residual-in_err-check_moof.result c.from_residual-in_err-check_moof.ensures.1 in
     let i = c.loop-top.invariant in
     let file = g.S.Store.file c.args.store.now in
@@ -264,13 +226,17 @@ returns-in_err-check_moof-clause-looks g c =
       of_bytes = c.in_ok-len.ensures.room;
     } in
     record {
-      said = tt;
-      within = refused_looks file c.loop-top.next c.in-Some.top within.0 within.1 within.3 (box_seen c.view-moof.result) c.read_payload.new.room c.in_ok-len.len r
-          (length c.args.states.now) _ _ _ (rw many at c.check_moof.ensures.looks.most) (i.looks told);
+      work = tt;
+      within = refused_fits file c.loop-top.next c.in-Some.top within.0 within.1 (box_seen c.view-moof.result) c.read_payload.new.room c.in_ok-len.len r _ _ _ _ c.check_moof.ensures.work.most (i.fit told);
+      looks = record {
+        said = tt;
+        within = refused_looks file c.loop-top.next c.in-Some.top within.0 within.1 within.3 (box_seen c.view-moof.result) c.read_payload.new.room c.in_ok-len.len r
+            (length c.args.states.now) _ _ _ (rw many at c.check_moof.ensures.looks.most) (i.looks told);
+      };
     })
 
-pub returns-in_err-note_moof-clause-looks : goal.returns-in_err-note_moof-clause-looks
-returns-in_err-note_moof-clause-looks g c =
+pub returns-in_err-note_moof-clause-work : goal.returns-in_err-note_moof-clause-work
+returns-in_err-note_moof-clause-work g c =
     let i = c.loop-top.invariant in
     let file = g.S.Store.file c.args.store.now in
     let next = rw (i.honesty, i.file, c.in-Some.is) at c.in_ok-top.ensures.next in
@@ -287,10 +253,19 @@ returns-in_err-note_moof-clause-looks g c =
     } in
     let fit = next_looks file c.loop-top.next c.in-Some.top within.0 within.1 within.3 (box_seen c.view-moof.result) c.read_payload.new.room c.in_ok-len.len r
     (length c.args.states.now) _ _ _ _ (rw many at c.check_moof.ensures.looks.most) (rw after at c.note_moof.ensures.looks) (i.looks told) in
+    let e = c.in_ok-check_moof.ensures in
+    let room = next_fits file c.loop-top.next c.in-Some.top within.0 within.1 (box_seen c.view-moof.result) c.read_payload.new.room c.in_ok-len.len r _ _ _ _ _ e.work.within (i.fit told) in
     record {
-      said = if_no_fault _ _ (looks_done file c.in-Some.top.header.end _ _ _ (λ all h.
-          let u = i.looked told all h in
-          next_looked file c.loop-top.next c.in-Some.top all within.0 u.0 u.1.0 (next told u.0 u.1.0) (box_seen c.view-moof.result) c.read_payload.new.room c.in_ok-len.len r
-          (length c.args.states.now) _ _ _ _ (rw many at c.in_ok-check_moof.ensures.looks.each) (rw after at c.note_moof.ensures.looks) u.1.1));
-      within = all_looked _ _ _ _ _ fit;
+      work = if_no_fault _ _ (checks_done file c.in-Some.top.header.end _ _ (λ all h.
+          let u = i.work told all h in
+          next_within file c.loop-top.next c.in-Some.top all within.0 u.0 u.1.0 (next told u.0 u.1.0) (box_seen c.view-moof.result) c.read_payload.new.room c.in_ok-len.len r
+          _ _ _ _ _ _ _ e.moved e.work.cost u.1.1));
+      within = all_fit _ _ _ _ _ room;
+      looks = record {
+        said = if_no_fault _ _ (looks_done file c.in-Some.top.header.end _ _ _ (λ all h.
+            let u = i.looked told all h in
+            next_looked file c.loop-top.next c.in-Some.top all within.0 u.0 u.1.0 (next told u.0 u.1.0) (box_seen c.view-moof.result) c.read_payload.new.room c.in_ok-len.len r
+            (length c.args.states.now) _ _ _ _ (rw many at c.in_ok-check_moof.ensures.looks.each) (rw after at c.note_moof.ensures.looks) u.1.1));
+        within = all_looked _ _ _ _ _ fit;
+      };
     }

@@ -93,15 +93,20 @@ returns-clause-movie g c =
     let within = rw c.as_slice.ensures.value at c.in_ok-mehd.ensures.within in
     let w = within _ (measure honest file outline moov b head plain r says told own begin states.items passed) in
     let found : Found = record { plain = plain; tracks = c.in_ok-tracks.tracks; own = c.check_fragments.new.own; mehd = c.in_ok-mehd.mehd } in
-    (_, opened_as honest file outline moov b head plain r says told own begin states.items passed found (length file) refl w.0 w.1 w.2 (rw c.as_slice-2.ensures.value at c.in_ok-tracks.ensures.infos) kept.1 refl)
+    (_, opened_as honest file outline moov b head plain r says told own begin states.items passed found (length file) refl w.0 w.1 w.2 (rw c.as_slice-2.ensures.value at c.in_ok-tracks.ensures.infos.infos) kept.1 refl)
 
 pub returns-clause-ids : goal.returns-clause-ids
 returns-clause-ids g c =
     let r : IsRead (g.S.Store.is_honest c.args.store.now) (g.S.Store.file c.args.store.now) c.args.outline.now c.args.moov.now _ = record { outline = c.requires.outline; is = c.view-view.ensures; fills = c.requires.moov.0; bytes = c.requires.moov.1 } in
-    its_movie _ _ c.args.outline.now c.args.moov.now _ c.in_ok-head.head _ r c.in_ok-head.ensures.head c.in_ok-tracks.ensures.ids
+    its_movie _ _ c.args.outline.now c.args.moov.now _ c.in_ok-head.head _ r c.in_ok-head.ensures.head c.in_ok-tracks.ensures.infos.ids
 
 pub returns-in_err-head-clause-work : goal.returns-in_err-head-clause-work
-returns-in_err-head-clause-work g c = λ told tree is. if_no_fault _ _ (none_taken _ _)
+returns-in_err-head-clause-work g c =
+    λ told. record {
+      work = λ tree is. if_no_fault _ _ (none_taken _ _);
+      within = none_open _ _;
+      looks = record { said = λ tree is. if_no_fault _ _ (none_taken _ _); within = none_looks _ _ };
+    }
 
 pub returns-in_err-plain-clause-work : goal.returns-in_err-plain-clause-work
 returns-in_err-plain-clause-work g c =
@@ -112,7 +117,11 @@ returns-in_err-plain-clause-work g c =
     let moov = c.args.moov.now in
     let b = box_seen c.view-view.result in
     let r : IsRead honest file outline moov b = record { outline = c.requires.outline; is = c.view-view.ensures; fills = c.requires.moov.0; bytes = c.requires.moov.1 } in
-    rw (p.1, p.2) (λ told tree is. handed_on Found _ _ _ (tables_counted honest file outline moov b c.in_ok-head.head r c.in_ok-head.ensures.head told tree is _ _) c.in_err-plain.ensures.work)
+    λ told. record {
+      work = rw (p.1, p.2) (λ tree is. handed_on Found _ _ _ (tables_counted honest file outline moov b c.in_ok-head.head r c.in_ok-head.ensures.head told tree is _ _) c.in_err-plain.ensures.work);
+      within = tables_open honest file outline moov b c.in_ok-head.head r c.in_ok-head.ensures.head told _ _ c.in_err-plain.ensures.within;
+      looks = record { said = λ tree is. if_no_fault _ _ (none_taken _ _); within = none_looks _ _ };
+    }
 
 pub returns-in_err-states-clause-work : goal.returns-in_err-states-clause-work
 returns-in_err-states-clause-work g c =
@@ -123,7 +132,18 @@ returns-in_err-states-clause-work g c =
     let moov = c.args.moov.now in
     let b = box_seen c.view-view.result in
     let r : IsRead honest file outline moov b = record { outline = c.requires.outline; is = c.view-view.ensures; fills = c.requires.moov.0; bytes = c.requires.moov.1 } in
-    rw (p.1, p.2) (λ told tree is. handed_on Found _ _ _ (moofs_counted honest file outline moov b c.in_ok-head.head r c.in_ok-head.ensures.head told tree is _ _ _ c.in_ok-plain.ensures.work) (c.in_err-states.ensures.work told))
+    let head = c.in_ok-head.head in
+    let says = c.in_ok-head.ensures.head in
+    let many : length c.in_ok-plain.plain.states.items ≡ length head.tracks.items = search rules in
+    λ told. record {
+      work = rw (p.1, p.2) (λ tree is. handed_on Found _ _ _ (moofs_counted honest file outline moov b c.in_ok-head.head r c.in_ok-head.ensures.head told tree is _ _ _ c.in_ok-plain.ensures.work) (c.in_err-states.ensures.work told).work);
+      within = moofs_open honest file outline moov b head r says told _ _ _ c.in_ok-plain.ensures.within (c.in_err-states.ensures.work told).within;
+      looks = rw (p.1, p.2) (let l = (c.in_err-states.ensures.work told).looks in
+          record {
+            said = λ tree is. handed_on Found _ _ _ (looks_of honest file outline moov b head r says told tree is _ _ _ many) l.said;
+            within = looks_open honest file outline moov b head r says told _ _ (rw many at l.within);
+          });
+    }
 
 pub returns-in_err-mehd-clause-work : goal.returns-in_err-mehd-clause-work
 returns-in_err-mehd-clause-work g c =
@@ -133,7 +153,18 @@ returns-in_err-mehd-clause-work g c =
     let moov = c.args.moov.now in
     let b = box_seen c.view-view.result in
     let r : IsRead honest file outline moov b = record { outline = c.requires.outline; is = c.view-view.ensures; fills = c.requires.moov.0; bytes = c.requires.moov.1 } in
-    λ told tree is. if_no_fault _ _ (moofs_counted honest file outline moov b c.in_ok-head.head r c.in_ok-head.ensures.head told tree is _ _ _ c.in_ok-plain.ensures.work (c.in_ok-states.ensures.work told))
+    let head = c.in_ok-head.head in
+    let says = c.in_ok-head.ensures.head in
+    let many : length c.in_ok-plain.plain.states.items ≡ length head.tracks.items = search rules in
+    λ told. record {
+      work = λ tree is. if_no_fault _ _ (moofs_counted honest file outline moov b c.in_ok-head.head r c.in_ok-head.ensures.head told tree is _ _ _ c.in_ok-plain.ensures.work (c.in_ok-states.ensures.work told).work);
+      within = moofs_open honest file outline moov b head r says told _ _ _ c.in_ok-plain.ensures.within (c.in_ok-states.ensures.work told).within;
+      looks = let l = (c.in_ok-states.ensures.work told).looks in
+          record {
+            said = λ tree is. if_no_fault _ _ (looks_counted honest file outline moov b head r says told tree is _ _ (rw many at l.said));
+            within = looks_open honest file outline moov b head r says told _ _ (rw many at l.within);
+          };
+    }
 
 pub returns-in_err-tracks-clause-work : goal.returns-in_err-tracks-clause-work
 returns-in_err-tracks-clause-work g c =
@@ -143,7 +174,18 @@ returns-in_err-tracks-clause-work g c =
     let moov = c.args.moov.now in
     let b = box_seen c.view-view.result in
     let r : IsRead honest file outline moov b = record { outline = c.requires.outline; is = c.view-view.ensures; fills = c.requires.moov.0; bytes = c.requires.moov.1 } in
-    λ told tree is. if_no_fault _ _ (moofs_counted honest file outline moov b c.in_ok-head.head r c.in_ok-head.ensures.head told tree is _ _ _ c.in_ok-plain.ensures.work (c.in_ok-states.ensures.work told))
+    let head = c.in_ok-head.head in
+    let says = c.in_ok-head.ensures.head in
+    let many : length c.in_ok-plain.plain.states.items ≡ length head.tracks.items = search rules in
+    λ told. record {
+      work = λ tree is. if_no_fault _ _ (moofs_counted honest file outline moov b c.in_ok-head.head r c.in_ok-head.ensures.head told tree is _ _ _ c.in_ok-plain.ensures.work (c.in_ok-states.ensures.work told).work);
+      within = moofs_open honest file outline moov b head r says told _ _ _ c.in_ok-plain.ensures.within (c.in_ok-states.ensures.work told).within;
+      looks = let l = (c.in_ok-states.ensures.work told).looks in
+          record {
+            said = λ tree is. if_no_fault _ _ (looks_counted honest file outline moov b head r says told tree is _ _ (rw many at l.said));
+            within = looks_open honest file outline moov b head r says told _ _ (rw many at l.within);
+          };
+    }
 
 pub returns-clause-work : goal.returns-clause-work
 returns-clause-work g c =
@@ -153,144 +195,15 @@ returns-clause-work g c =
     let moov = c.args.moov.now in
     let b = box_seen c.view-view.result in
     let r : IsRead honest file outline moov b = record { outline = c.requires.outline; is = c.view-view.ensures; fills = c.requires.moov.0; bytes = c.requires.moov.1 } in
-    λ told tree is. moofs_counted honest file outline moov b c.in_ok-head.head r c.in_ok-head.ensures.head told tree is _ _ _ c.in_ok-plain.ensures.work (c.in_ok-states.ensures.work told)
-
-pub returns-in_err-head-clause-within : goal.returns-in_err-head-clause-within
-returns-in_err-head-clause-within g c = λ told. none_open _ _
-
-pub returns-in_err-plain-clause-within : goal.returns-in_err-plain-clause-within
-returns-in_err-plain-clause-within g c =
-    let honest = g.S.Store.is_honest c.args.store.now in
-    let file = g.S.Store.file c.args.store.now in
-    let outline = c.args.outline.now in
-    let moov = c.args.moov.now in
-    let b = box_seen c.view-view.result in
-    let r : IsRead honest file outline moov b = record { outline = c.requires.outline; is = c.view-view.ensures; fills = c.requires.moov.0; bytes = c.requires.moov.1 } in
-    λ told. tables_open honest file outline moov b c.in_ok-head.head r c.in_ok-head.ensures.head told _ _ c.in_err-plain.ensures.within
-
-pub returns-in_err-states-clause-within : goal.returns-in_err-states-clause-within
-returns-in_err-states-clause-within g c =
-    let honest = g.S.Store.is_honest c.args.store.now in
-    let file = g.S.Store.file c.args.store.now in
-    let outline = c.args.outline.now in
-    let moov = c.args.moov.now in
-    let b = box_seen c.view-view.result in
-    let r : IsRead honest file outline moov b = record { outline = c.requires.outline; is = c.view-view.ensures; fills = c.requires.moov.0; bytes = c.requires.moov.1 } in
-    let head = c.in_ok-head.head in
-    let says = c.in_ok-head.ensures.head in
-    λ told. moofs_open honest file outline moov b head r says told _ _ _ c.in_ok-plain.ensures.within (c.in_err-states.ensures.within told)
-
-pub returns-in_err-mehd-clause-within : goal.returns-in_err-mehd-clause-within
-returns-in_err-mehd-clause-within g c =
-    let honest = g.S.Store.is_honest c.args.store.now in
-    let file = g.S.Store.file c.args.store.now in
-    let outline = c.args.outline.now in
-    let moov = c.args.moov.now in
-    let b = box_seen c.view-view.result in
-    let r : IsRead honest file outline moov b = record { outline = c.requires.outline; is = c.view-view.ensures; fills = c.requires.moov.0; bytes = c.requires.moov.1 } in
-    let head = c.in_ok-head.head in
-    let says = c.in_ok-head.ensures.head in
-    λ told. moofs_open honest file outline moov b head r says told _ _ _ c.in_ok-plain.ensures.within (c.in_ok-states.ensures.within told)
-
-pub returns-in_err-tracks-clause-within : goal.returns-in_err-tracks-clause-within
-returns-in_err-tracks-clause-within g c =
-    let honest = g.S.Store.is_honest c.args.store.now in
-    let file = g.S.Store.file c.args.store.now in
-    let outline = c.args.outline.now in
-    let moov = c.args.moov.now in
-    let b = box_seen c.view-view.result in
-    let r : IsRead honest file outline moov b = record { outline = c.requires.outline; is = c.view-view.ensures; fills = c.requires.moov.0; bytes = c.requires.moov.1 } in
-    let head = c.in_ok-head.head in
-    let says = c.in_ok-head.ensures.head in
-    λ told. moofs_open honest file outline moov b head r says told _ _ _ c.in_ok-plain.ensures.within (c.in_ok-states.ensures.within told)
-
-pub returns-clause-within : goal.returns-clause-within
-returns-clause-within g c =
-    let honest = g.S.Store.is_honest c.args.store.now in
-    let file = g.S.Store.file c.args.store.now in
-    let outline = c.args.outline.now in
-    let moov = c.args.moov.now in
-    let b = box_seen c.view-view.result in
-    let r : IsRead honest file outline moov b = record { outline = c.requires.outline; is = c.view-view.ensures; fills = c.requires.moov.0; bytes = c.requires.moov.1 } in
-    let head = c.in_ok-head.head in
-    let says = c.in_ok-head.ensures.head in
-    λ told. moofs_open honest file outline moov b head r says told _ _ _ c.in_ok-plain.ensures.within (c.in_ok-states.ensures.within told)
-
-pub returns-in_err-head-clause-looks : goal.returns-in_err-head-clause-looks
-returns-in_err-head-clause-looks g c = λ told. record { said = λ tree is. if_no_fault _ _ (none_taken _ _); within = none_looks _ _ }
-
-pub returns-in_err-plain-clause-looks : goal.returns-in_err-plain-clause-looks
-returns-in_err-plain-clause-looks g c = λ told. record { said = λ tree is. if_no_fault _ _ (none_taken _ _); within = none_looks _ _ }
-
-pub returns-in_err-states-clause-looks : goal.returns-in_err-states-clause-looks
-returns-in_err-states-clause-looks g c =
-    let p = err_from_is_err_and c.from_residual-in_err-states.result c.from_residual-in_err-states.ensures.1 in
-    let honest = g.S.Store.is_honest c.args.store.now in
-    let file = g.S.Store.file c.args.store.now in
-    let outline = c.args.outline.now in
-    let moov = c.args.moov.now in
-    let b = box_seen c.view-view.result in
-    let r : IsRead honest file outline moov b = record { outline = c.requires.outline; is = c.view-view.ensures; fills = c.requires.moov.0; bytes = c.requires.moov.1 } in
     let head = c.in_ok-head.head in
     let says = c.in_ok-head.ensures.head in
     let many : length c.in_ok-plain.plain.states.items ≡ length head.tracks.items = search rules in
-    rw (p.1, p.2) (λ told.
-    let l = c.in_err-states.ensures.looks told in
-    record {
-      said = λ tree is. handed_on Found _ _ _ (looks_of honest file outline moov b head r says told tree is _ _ _ many) l.said;
-      within = looks_open honest file outline moov b head r says told _ _ (rw many at l.within);
-    })
-
-pub returns-in_err-mehd-clause-looks : goal.returns-in_err-mehd-clause-looks
-returns-in_err-mehd-clause-looks g c =
-    let honest = g.S.Store.is_honest c.args.store.now in
-    let file = g.S.Store.file c.args.store.now in
-    let outline = c.args.outline.now in
-    let moov = c.args.moov.now in
-    let b = box_seen c.view-view.result in
-    let r : IsRead honest file outline moov b = record { outline = c.requires.outline; is = c.view-view.ensures; fills = c.requires.moov.0; bytes = c.requires.moov.1 } in
-    let head = c.in_ok-head.head in
-    let says = c.in_ok-head.ensures.head in
-    let many : length c.in_ok-plain.plain.states.items ≡ length head.tracks.items = search rules in
-    λ told.
-    let l = c.in_ok-states.ensures.looks told in
-    record {
-      said = λ tree is. if_no_fault _ _ (looks_counted honest file outline moov b head r says told tree is _ _ (rw many at l.said));
-      within = looks_open honest file outline moov b head r says told _ _ (rw many at l.within);
-    }
-
-pub returns-in_err-tracks-clause-looks : goal.returns-in_err-tracks-clause-looks
-returns-in_err-tracks-clause-looks g c =
-    let honest = g.S.Store.is_honest c.args.store.now in
-    let file = g.S.Store.file c.args.store.now in
-    let outline = c.args.outline.now in
-    let moov = c.args.moov.now in
-    let b = box_seen c.view-view.result in
-    let r : IsRead honest file outline moov b = record { outline = c.requires.outline; is = c.view-view.ensures; fills = c.requires.moov.0; bytes = c.requires.moov.1 } in
-    let head = c.in_ok-head.head in
-    let says = c.in_ok-head.ensures.head in
-    let many : length c.in_ok-plain.plain.states.items ≡ length head.tracks.items = search rules in
-    λ told.
-    let l = c.in_ok-states.ensures.looks told in
-    record {
-      said = λ tree is. if_no_fault _ _ (looks_counted honest file outline moov b head r says told tree is _ _ (rw many at l.said));
-      within = looks_open honest file outline moov b head r says told _ _ (rw many at l.within);
-    }
-
-pub returns-clause-looks : goal.returns-clause-looks
-returns-clause-looks g c =
-    let honest = g.S.Store.is_honest c.args.store.now in
-    let file = g.S.Store.file c.args.store.now in
-    let outline = c.args.outline.now in
-    let moov = c.args.moov.now in
-    let b = box_seen c.view-view.result in
-    let r : IsRead honest file outline moov b = record { outline = c.requires.outline; is = c.view-view.ensures; fills = c.requires.moov.0; bytes = c.requires.moov.1 } in
-    let head = c.in_ok-head.head in
-    let says = c.in_ok-head.ensures.head in
-    let many : length c.in_ok-plain.plain.states.items ≡ length head.tracks.items = search rules in
-    λ told.
-    let l = c.in_ok-states.ensures.looks told in
-    record {
-      said = λ tree is. looks_counted honest file outline moov b head r says told tree is _ _ (rw many at l.said);
-      within = looks_open honest file outline moov b head r says told _ _ (rw many at l.within);
+    λ told. record {
+      work = λ tree is. moofs_counted honest file outline moov b c.in_ok-head.head r c.in_ok-head.ensures.head told tree is _ _ _ c.in_ok-plain.ensures.work (c.in_ok-states.ensures.work told).work;
+      within = moofs_open honest file outline moov b head r says told _ _ _ c.in_ok-plain.ensures.within (c.in_ok-states.ensures.work told).within;
+      looks = let l = (c.in_ok-states.ensures.work told).looks in
+          record {
+            said = λ tree is. looks_counted honest file outline moov b head r says told tree is _ _ (rw many at l.said);
+            within = looks_open honest file outline moov b head r says told _ _ (rw many at l.within);
+          };
     }

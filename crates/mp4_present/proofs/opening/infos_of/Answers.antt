@@ -15,9 +15,5 @@ loop-k-preserved c =
 pub returns-clause-infos : goal.returns-clause-infos
 returns-clause-infos c =
     let all : length c.args.head.now.tracks.items ≤ c.loop-k.k = search rules in
-    infos_whole c.args.head.now.tracks.items c.args.states.now c.loop-k.tracks.items c.loop-k.k c.requires.states all c.loop-k.invariant.1
-
-pub returns-clause-ids : goal.returns-clause-ids
-returns-clause-ids c =
-    let all : length c.args.head.now.tracks.items ≤ c.loop-k.k = search rules in
-    infos_ids _ _ _ (infos_whole c.args.head.now.tracks.items c.args.states.now c.loop-k.tracks.items c.loop-k.k c.requires.states all c.loop-k.invariant.1)
+    let infos = infos_whole c.args.head.now.tracks.items c.args.states.now c.loop-k.tracks.items c.loop-k.k c.requires.states all c.loop-k.invariant.1 in
+    record { each = search rules; ids = infos_ids _ _ _ infos; infos = infos }

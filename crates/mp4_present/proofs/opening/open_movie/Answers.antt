@@ -71,13 +71,13 @@ returns-in_err-plain-clause-work g c =
     let q = err_from_is_err_and c.from_residual-in_err-plain.result c.from_residual-in_err-plain.ensures.1 in
     let outline = c.in_ok-outline.ensures in
     let moov = c.in_ok-moov.ensures in
-    rw (q.1, q.2) (rw (moov.honesty, outline.store.honesty, moov.file, outline.store.file) at c.in_err-plain.ensures.work)
+    rw (q.1, q.2) (λ told. ((rw (moov.honesty, outline.store.honesty, moov.file, outline.store.file) at c.in_err-plain.ensures.work) told).work)
 
 pub returns-clause-work : goal.returns-clause-work
 returns-clause-work g c =
     let outline = c.in_ok-outline.ensures in
     let moov = c.in_ok-moov.ensures in
-    rw (moov.honesty, outline.store.honesty, moov.file, outline.store.file) at c.in_ok-plain.ensures.work
+    λ told. ((rw (moov.honesty, outline.store.honesty, moov.file, outline.store.file) at c.in_ok-plain.ensures.work) told).work
 
 pub returns-in_err-outline-clause-within : goal.returns-in_err-outline-clause-within
 returns-in_err-outline-clause-within g c = λ told. none_open _ _
@@ -89,13 +89,13 @@ pub returns-in_err-plain-clause-within : goal.returns-in_err-plain-clause-within
 returns-in_err-plain-clause-within g c =
     let outline = c.in_ok-outline.ensures in
     let moov = c.in_ok-moov.ensures in
-    rw (moov.honesty, outline.store.honesty, moov.file, outline.store.file) at c.in_err-plain.ensures.within
+    λ told. ((rw (moov.honesty, outline.store.honesty, moov.file, outline.store.file) at c.in_err-plain.ensures.work) told).within
 
 pub returns-clause-within : goal.returns-clause-within
 returns-clause-within g c =
     let outline = c.in_ok-outline.ensures in
     let moov = c.in_ok-moov.ensures in
-    rw (moov.honesty, outline.store.honesty, moov.file, outline.store.file) at c.in_ok-plain.ensures.within
+    λ told. ((rw (moov.honesty, outline.store.honesty, moov.file, outline.store.file) at c.in_ok-plain.ensures.work) told).within
 
 pub returns-in_err-outline-clause-looks : goal.returns-in_err-outline-clause-looks
 returns-in_err-outline-clause-looks g c = λ told. record { said = λ tree is. if_no_fault _ _ (none_taken _ _); within = none_looks _ _ }
@@ -108,12 +108,12 @@ returns-in_err-plain-clause-looks g c =
     let q = err_from_is_err_and c.from_residual-in_err-plain.result c.from_residual-in_err-plain.ensures.1 in
     let outline = c.in_ok-outline.ensures in
     let moov = c.in_ok-moov.ensures in
-    let looks = rw (moov.honesty, outline.store.honesty, moov.file, outline.store.file) at c.in_err-plain.ensures.looks in
-    rw (q.1, q.2) (λ told. record { said = (looks told).said; within = (looks told).within })
+    let work = rw (moov.honesty, outline.store.honesty, moov.file, outline.store.file) at c.in_err-plain.ensures.work in
+    rw (q.1, q.2) (λ told. record { said = (work told).looks.said; within = (work told).looks.within })
 
 pub returns-clause-looks : goal.returns-clause-looks
 returns-clause-looks g c =
     let outline = c.in_ok-outline.ensures in
     let moov = c.in_ok-moov.ensures in
-    let looks = rw (moov.honesty, outline.store.honesty, moov.file, outline.store.file) at c.in_ok-plain.ensures.looks in
-    λ told. record { said = (looks told).said; within = (looks told).within }
+    let work = rw (moov.honesty, outline.store.honesty, moov.file, outline.store.file) at c.in_ok-plain.ensures.work in
+    λ told. record { said = (work told).looks.said; within = (work told).looks.within }

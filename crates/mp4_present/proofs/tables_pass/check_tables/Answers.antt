@@ -21,8 +21,8 @@ loop-track-preserved g c =
       c.in_ok-push.ensures.one_more _ i.0,
       subst (λ (k : ℕ). HaveTablesIn (box_seen c.args.moov) (drop k c.deref-track-items.result.now)) (next_of c.loop-track.track-index) (from_next (HasTablesIn (box_seen c.args.moov)) c.deref-track-items.result.now c.loop-track.track-index i.1),
       passed_more _ _ _ _ _ _ i.2 c.track-item.result c.push.new.self c.loop-track-test.true c.track-item.is (rw c.deref.ensures.value at c.in_ok-push.ensures.says),
-      next_left _ _ _ _ _ c.track-item.result c.loop-track-test.true c.track-item.is c.in_ok-push.ensures.work i.3,
-      next_fit _ _ _ _ _ _ _ i.4 c.in_ok-push.ensures.less,
+      next_left _ _ _ _ _ c.track-item.result c.loop-track-test.true c.track-item.is c.in_ok-push.ensures.work.said i.3,
+      next_fit _ _ _ _ _ _ _ i.4 c.in_ok-push.ensures.work.less,
     )
 
 pub returns-in_err-push-clause-refusal : goal.returns-in_err-push-clause-refusal
@@ -37,13 +37,13 @@ pub returns-in_err-push-clause-work : goal.returns-in_err-push-clause-work
 returns-in_err-push-clause-work g c =
     let p = err_from_is_err_and c.from_residual.result c.from_residual.ensures.1 in
     let done = rw c.deref-track-items.ensures.value at (next_done c.deref-track-items.result.now c.loop-track.track-index c.args.steps.now c.loop-track.steps c.push.new.steps c.track-item.result c.loop-track-test.true c.track-item.is c.loop-track.invariant.3) in
-    rw (p.1, p.2) (handed_on PlainTracks _ _ c.in_err-push.field-0.0 done c.in_err-push.ensures.work)
+    rw (p.1, p.2) (handed_on PlainTracks _ _ c.in_err-push.field-0.0 done c.in_err-push.ensures.work.said)
 
 pub returns-clause-work : goal.returns-clause-work
 returns-clause-work g c = rw c.deref-track-items.ensures.value at (tracks_done _ _ _ _ c.loop-track.invariant.3)
 
 pub returns-in_err-push-clause-within : goal.returns-in_err-push-clause-within
-returns-in_err-push-clause-within g c = rw c.deref-track-items.ensures.value at (last_fit _ _ _ _ _ _ _ c.loop-track-test.true c.loop-track.invariant.4 c.push.ensures.within)
+returns-in_err-push-clause-within g c = rw c.deref-track-items.ensures.value at (last_fit _ _ _ _ _ _ _ c.loop-track-test.true c.loop-track.invariant.4 c.push.ensures.work.within)
 
 pub returns-clause-within : goal.returns-clause-within
 returns-clause-within g c =

@@ -70,37 +70,22 @@ returns-in_err-tables-clause-refusal g c =
 pub returns-clause-work : goal.returns-clause-work
 returns-clause-work g c =
     let e = c.in_ok-tables.ensures in
-    track_within _ _ _ c.args.track.now c.in_ok-tables.tables _ _ _ e.tables e.passed c.totals-totals.ensures.work
+    let less = track_fits _ _ _ (box_seen c.args.moov) (box_seen c.args.track.now.stbl) c.in_ok-tables.tables c.count.result _ _ _ c.requires.inside.inside e.tables e.payload c.count.ensures e.within c.totals-totals.ensures.work in
+    record { said = track_within _ _ _ c.args.track.now c.in_ok-tables.tables _ _ _ e.tables e.passed c.totals-totals.ensures.work; within = of_less _ _ _ _ _ less; less = less }
 
 pub returns-in_err-push-clause-work : goal.returns-in_err-push-clause-work
 returns-in_err-push-clause-work g c =
     let e = c.in_ok-tables.ensures in
-    if_no_fault _ _ (track_within _ _ _ c.args.track.now c.in_ok-tables.tables _ _ _ e.tables e.passed c.totals-totals.ensures.work)
+    let less = track_fits _ _ _ (box_seen c.args.moov) (box_seen c.args.track.now.stbl) c.in_ok-tables.tables c.count.result _ _ _ c.requires.inside.inside e.tables e.payload c.count.ensures e.within c.totals-totals.ensures.work in
+    record { said = if_no_fault _ _ (track_within _ _ _ c.args.track.now c.in_ok-tables.tables _ _ _ e.tables e.passed c.totals-totals.ensures.work); within = of_less _ _ _ _ _ less; less = search rules }
 
 pub returns-in_err-push-2-clause-work : goal.returns-in_err-push-2-clause-work
 returns-in_err-push-2-clause-work g c =
     let e = c.in_ok-tables.ensures in
-    if_no_fault _ _ (track_within _ _ _ c.args.track.now c.in_ok-tables.tables _ _ _ e.tables e.passed c.totals-totals.ensures.work)
+    let less = track_fits _ _ _ (box_seen c.args.moov) (box_seen c.args.track.now.stbl) c.in_ok-tables.tables c.count.result _ _ _ c.requires.inside.inside e.tables e.payload c.count.ensures e.within c.totals-totals.ensures.work in
+    record { said = if_no_fault _ _ (track_within _ _ _ c.args.track.now c.in_ok-tables.tables _ _ _ e.tables e.passed c.totals-totals.ensures.work); within = of_less _ _ _ _ _ less; less = search rules }
 
-pub returns-clause-less : goal.returns-clause-less
-returns-clause-less g c =
-    let e = c.in_ok-tables.ensures in
-    track_fits _ _ _ (box_seen c.args.moov) (box_seen c.args.track.now.stbl) c.in_ok-tables.tables c.count.result _ _ _ c.requires.inside.inside e.tables e.payload c.count.ensures e.within c.totals-totals.ensures.work
-
-pub returns-clause-within : goal.returns-clause-within
-returns-clause-within g c =
-    let e = c.in_ok-tables.ensures in
-    of_less _ _ _ _ _ (track_fits _ _ _ (box_seen c.args.moov) (box_seen c.args.track.now.stbl) c.in_ok-tables.tables c.count.result _ _ _ c.requires.inside.inside e.tables e.payload c.count.ensures e.within c.totals-totals.ensures.work)
-
-pub returns-in_err-push-clause-within : goal.returns-in_err-push-clause-within
-returns-in_err-push-clause-within g c =
-    let e = c.in_ok-tables.ensures in
-    of_less _ _ _ _ _ (track_fits _ _ _ (box_seen c.args.moov) (box_seen c.args.track.now.stbl) c.in_ok-tables.tables c.count.result _ _ _ c.requires.inside.inside e.tables e.payload c.count.ensures e.within c.totals-totals.ensures.work)
-
-pub returns-in_err-push-2-clause-within : goal.returns-in_err-push-2-clause-within
-returns-in_err-push-2-clause-within g c =
-    let e = c.in_ok-tables.ensures in
-    of_less _ _ _ _ _ (track_fits _ _ _ (box_seen c.args.moov) (box_seen c.args.track.now.stbl) c.in_ok-tables.tables c.count.result _ _ _ c.requires.inside.inside e.tables e.payload c.count.ensures e.within c.totals-totals.ensures.work)
-
-pub returns-in_err-tables-clause-within : goal.returns-in_err-tables-clause-within
-returns-in_err-tables-clause-within g c = refused_fits (box_seen c.args.moov) (box_seen c.args.track.now.stbl) _ _ _ c.requires.inside.inside c.check.ensures.work
+pub returns-in_err-tables-clause-work : goal.returns-in_err-tables-clause-work
+returns-in_err-tables-clause-work g c =
+    let p = err_from_is_err_and c.from_residual.result c.from_residual.ensures.1 in
+    rw (p.1, p.2) (record { said = tt; within = refused_fits (box_seen c.args.moov) (box_seen c.args.track.now.stbl) _ _ _ c.requires.inside.inside c.check.ensures.work; less = tt })
