@@ -1,5 +1,5 @@
 -- A walk over boxes that lie end to end, one header after the other.
-use Rattle.std.proofs.Common.{◌≡◌, ℕ, zero, suc, ◌+◌, ◌-◌, ◌<◌, ◌≤◌, false, List, [], ◌∷◌, ◌++◌, length, take, drop, Result, Ok, Err, IfOk, IsOk, refl, sym, ap, subst, ◌∙◌, arith, length-append, length-drop}
+use Rattle.std.proofs.Common.{◌≡◌, ℕ, zero, suc, ◌+◌, ◌-◌, ◌<◌, ◌≤◌, false, List, [], ◌∷◌, ◌++◌, length, take, drop, Result, Ok, Err, IfOk, IsErr, IsOk, refl, sym, ap, subst, ◌∙◌, arith, length-append, length-drop}
 use Rattle.std.proofs.lemmas.List.{drop-take, take_rest}
 use Rattle.mp4_boxes.specs.format.Box.{Box, Header, header_at, box_of, size, sizes, LieEndToEnd, box_and_more, first_boxes, HasBoxes}
 use Rattle.mp4_boxes.specs.format.Box.{Tiles, to_end_of_box}
@@ -73,25 +73,16 @@ first_boxes-lie at bytes (b ∷ boxes) l =
 pub at_ok : {A : Type 0} (r : Result A Kind) (P : A → Type 0) (x : A) → r ≡ Ok x → IfOk {E = Kind} r P → P x
 at_ok {A} r P x e p = let q : IfOk {E = Kind} (Ok x) P = subst (λ (s : Result A Kind). IfOk {E = Kind} s P) e p in q
 
-part_is : (at : ℕ) (bytes : List ℕ) (r : Result Header Kind) (length_read size_read : ℕ) (kind rest whole payload : List ℕ) → header_at false bytes ≡ r
-    → IfOk r (λ h. (length_read ≡ h.length) × (size_read ≡ h.size)) → kind ≡ take 4 (drop 4 bytes) → whole ≡ take size_read bytes → rest ≡ drop size_read bytes → payload ≡ drop length_read whole
-    → IfOk r (λ h. (record { kind = kind; offset = at; header = length_read; payload = payload } ≡ box_of at bytes h) × (rest ≡ drop h.size bytes))
-part_is at bytes (Ok h) l s kind rest whole payload e are k w r p =
+-- The parts of the bytes by a header that was read are its box and what follows.
+pub first_part : (at : ℕ) (bytes : List ℕ) (h : Header) (rest whole payload : List ℕ) → header_at false bytes ≡ Ok h → whole ≡ take h.size bytes → rest ≡ drop h.size bytes → payload ≡ drop h.length whole
+    → IfOk (header_at false bytes) (λ g. (record { kind = h.kind; offset = at; header = h.length; payload = payload } ≡ box_of at bytes g) × (rest ≡ drop g.size bytes))
+first_part at bytes h rest whole payload e w r p =
     let read = header_is false bytes h e in
-    let i = read.inside in
+    let inside = read.inside in
     let split : h.length + (h.size - h.length) ≡ h.size = omega arith in
-    let cut : payload ≡ drop h.length (take h.size bytes) = p ∙ (λ i. drop (are.0 i) (w i)) ∙ ap (λ (n : ℕ). drop h.length (take n bytes)) are.1 in
     let parts : payload ≡ take (h.size - h.length) (drop h.length bytes) =
-    cut ∙ ap (λ (n : ℕ). drop h.length (take n bytes)) (sym split) ∙ drop-take h.length (h.size - h.length) bytes in
-    let same : kind ≡ h.kind = k ∙ sym (header_kind false (length bytes) bytes h e) in
-    ((λ i. record { kind = same i; offset = at; header = are.0 i; payload = parts i }), r ∙ ap (λ (n : ℕ). drop n bytes) are.1)
-part_is at bytes (Err kind) l s k rest whole payload e are f w r p = tt
-
--- The parts of the bytes by a header that can be read are its box and what follows.
-pub first_part : (at : ℕ) (bytes : List ℕ) (length_read size_read : ℕ) (kind rest whole payload : List ℕ)
-    → IfOk (header_at false bytes) (λ h. (length_read ≡ h.length) × (size_read ≡ h.size)) → kind ≡ take 4 (drop 4 bytes) → whole ≡ take size_read bytes → rest ≡ drop size_read bytes → payload ≡ drop length_read whole
-    → IfOk (header_at false bytes) (λ h. (record { kind = kind; offset = at; header = length_read; payload = payload } ≡ box_of at bytes h) × (rest ≡ drop h.size bytes))
-first_part at bytes l s kind rest whole payload are k w r p = part_is at bytes (header_at false bytes) l s kind rest whole payload refl are k w r p
+    p ∙ ap (drop h.length) w ∙ ap (λ (n : ℕ). drop h.length (take n bytes)) (sym split) ∙ drop-take h.length (h.size - h.length) bytes in
+    rw e ((λ i. record { kind = h.kind; offset = at; header = h.length; payload = parts i }), r)
 
 -- Of some boxes in front of the bytes: the first, and the others behind it.
 pub record Next (count at : ℕ) (bytes : List ℕ) : Type 0 where
@@ -162,6 +153,13 @@ located_ok container at box_type (Err k) h e = absurd cc
 pub located_err : (container : List ℕ) (at : ℕ) (box_type : List ℕ) (r : Result Header Kind) (f : Fault) → located container at box_type r ≡ Err f → (kind : Kind) × (r ≡ Err kind) × (f ≡ unreadable container at box_type kind)
 located_err container at box_type (Ok g) f e = absurd cc
 located_err container at box_type (Err k) f e = let same : unreadable container at box_type k ≡ f = cc in (k, refl, sym same)
+
+-- a header that was read in front of all bytes of a container, and a fault that was found there
+pub read_there : (bytes container : List ℕ) (place : ℕ) (h : Header) → header_there false (length bytes) bytes container place ≡ Ok h → header_at false bytes ≡ Ok h
+read_there bytes container place h e = located_ok container place (type_of bytes) (header_at false bytes) h e
+
+pub none_there : (bytes container : List ℕ) (place : ℕ) (f : Fault) → header_there false (length bytes) bytes container place ≡ Err f → IsErr (header_at false bytes)
+none_there bytes container place f e = let found = located_err container place (type_of bytes) (header_at false bytes) f e in rw found.1 refl
 
 -- the same for a header that was read behind some bytes
 pub read_behind : (bytes : List ℕ) (at : ℕ) (container : List ℕ) (place : ℕ) (h : Header)

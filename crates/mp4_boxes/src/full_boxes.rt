@@ -9,6 +9,19 @@ use crate::fault::{Fault, Kind};
 use crate::view::BoxView;
 use byteorder::{BigEndian, ByteOrder};
 
+/// The version and the flags in front of a payload.
+pub fn front(payload: &[u8]) -> Result<(u8, u32), Kind>
+    ensures version { IfOk result (λ r. r.0 ≡ version payload.now) }
+    ensures flags { IfOk result (λ r. r.1 ≡ flags payload.now) }
+    ensures long { IfOk result (λ r. 4 ≤ length payload.now) }
+    ensures fault { IfErr result (λ kind. (length payload.now < 4) × (kind ≡ kinds.ShortBox)) }
+{
+    if payload.len() < 4 {
+        return Err(Kind::ShortBox);
+    }
+    Ok((payload[0], BigEndian::read_u24(&payload[1..])))
+}
+
 /// The version, the flags and what follows them.
 pub fn full<'a>(view: BoxView<'a>) -> Result<(u8, u32, &'a [u8]), Fault>
     ensures version { IfOk result (λ r. r.0 ≡ version (box_seen view.entry).payload) }
@@ -19,9 +32,8 @@ pub fn full<'a>(view: BoxView<'a>) -> Result<(u8, u32, &'a [u8]), Fault>
         × (f ≡ fault_of kinds.ShortBox (box_seen view.entry))) }
 {
     let payload = view.payload();
-    if payload.len() < 4 {
-        return Err(Fault::new(Kind::ShortBox, view.kind(), view.offset()));
+    match front(payload) {
+        Ok((version, flags)) => Ok((version, flags, &payload[4..])),
+        Err(kind) => Err(view.fault(kind)),
     }
-    let (front, rest) = payload.split_at(4);
-    Ok((front[0], BigEndian::read_u24(&front[1..]), rest))
 }

@@ -17,7 +17,7 @@ pub(crate) struct HeaderFields {
     pub(crate) size: u64,
 }
 
-/// The header of a box of the file itself.
+/// The header of a box that lies in the file at a place.
 #[derive(Clone, Copy, Debug, PartialEq, Eq)]
 pub struct TopHeader {
     pub kind: FourCc,
@@ -68,6 +68,31 @@ pub(crate) fn read_header(
     Ok(HeaderFields { kind, length, size })
 }
 
+/// The header of a box at the place `at` of the file, where `left` bytes are left in a container of
+/// this type. The bytes are the first 16 of these, or all, or more of the file. The container is
+/// open if it is the file: there a size of 0 goes to the end (ISO/IEC 14496-12, 4.2.2).
+pub fn box_header(
+    bytes: &[u8],
+    at: u64,
+    left: u64,
+    is_open: bool,
+    container: FourCc,
+) -> Result<TopHeader, Fault>
+    requires fits { at + left < 2 ^ 64 }
+    requires there { min left 16 ≤ length bytes.now }
+    ensures header { IfOk result (λ h. header_there is_open left bytes.now container.0 at
+        ≡ Ok (top_header_seen at h)) }
+    ensures within { IfOk result (λ h. (at + h.header ≤ h.end) × (h.end ≤ at + left)) }
+    ensures fault { IfErr result (λ f. header_there is_open left bytes.now container.0 at ≡ Err f) }
+{
+    let header = read_header(bytes, left, is_open, container, at)?;
+    Ok(TopHeader {
+        kind: header.kind,
+        header: header.length,
+        end: at + header.size,
+    })
+}
+
 /// The header of a box of the file itself, at the place `at`, where `left` bytes are left in the
 /// file. The bytes are the first 16 of these, or all.
 pub fn top_header(bytes: &[u8], at: u64, left: u64) -> Result<TopHeader, Fault>
@@ -79,10 +104,5 @@ pub fn top_header(bytes: &[u8], at: u64, left: u64) -> Result<TopHeader, Fault>
     ensures within { IfOk result (λ h. (at + h.header ≤ h.end) × (h.end ≤ at + left)) }
     ensures fault { IfErr result (λ f. header_there true left bytes.now (codes "file") at ≡ Err f) }
 {
-    let header = read_header(bytes, left, true, FourCc::FILE, at)?;
-    Ok(TopHeader {
-        kind: header.kind,
-        header: header.length,
-        end: at + header.size,
-    })
+    box_header(bytes, at, left, true, FourCc::FILE)
 }

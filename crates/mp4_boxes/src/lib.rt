@@ -1,11 +1,11 @@
 //! Boxes: their headers, how they lie in a container, which of them may stand where, and the
 //! faults of a file (ISO/IEC 14496-12, 4.2, 6.2.2 and the syntax of each box in clause 8).
 //!
-//! - [`top_header`] reads the header of a box of the file itself, 8 or 16 bytes; [`BoxView`] is a
-//!   box with its payload in memory, borrowed.
+//! - [`top_header`] reads the header of a box of the file itself, 8 or 16 bytes, [`box_header`] that
+//!   of a box in any container; [`BoxView`] is a box with its payload in memory, borrowed.
 //! - [`children`] lists the boxes in a payload where they lie end to end; [`check_children`] also
 //!   asks whether each may stand there, and how often ([`Rule`] is the table of containers).
-//! - [`full`] reads version and flags, [`u32_at`] and its kin the numbers behind them.
+//! - [`full`] and [`front`] read version and flags, [`u32_at`] and its kin the numbers behind them.
 //! - [`Fault`] is what a file is refused for: a kind, a box type, a place in the file. [`Refusal`]
 //!   is each reason for which a command has no answer. Both are errors as std has them, and print
 //!   as the program's lines do.
@@ -49,8 +49,8 @@ mod writing;
 
 pub use fault::{Fault, Kind};
 pub use four_cc::FourCc;
-pub use full_boxes::full;
-pub use headers::{TopHeader, top_header};
+pub use full_boxes::{front, full};
+pub use headers::{TopHeader, box_header, top_header};
 pub use listing::{check_children, children, counted};
 pub use numbers::{i32_at, i64_at, u16_at, u32_at, u64_at};
 pub use refusal::{Memory, Refusal};

@@ -148,7 +148,7 @@ pub fn check_children<'a>(view: BoxView<'a>, rule: Rule) -> Result<Children<'a>,
         count += 1;
     }
     if lacks(rule, bytes, base, count) {
-        return Err(Fault::new(Kind::MissingBox, view.kind(), view.offset()));
+        return Err(view.fault(Kind::MissingBox));
     }
     Ok(Children {
         bytes,

@@ -3,8 +3,8 @@ ghost use Rattle.std.specs.Prelude.{◌≡◌, ◌+◌, ◌^◌, ◌<◌, length
 ghost use Rattle.std.specs.Iterator.{YieldsFirstBy, item_count};
 ghost use Rattle.mp4_boxes.specs.format.Box.{header_at, box_of};
 
-use crate::headers::kind_of;
-use crate::numbers::{u32_at, u64_at};
+use crate::four_cc::FourCc;
+use crate::headers::read_header;
 use crate::view::BoxView;
 use std::marker::Model;
 
@@ -30,19 +30,6 @@ impl<'a> Model for Children<'a> {
 
 ghost use Rattle.mp4_boxes.specs.words.View.{box_seen};
 
-// The lengths of a header that can be read and of its box.
-#[tactic(auto, using(crate::proofs::Tiling::header_is))]
-fn known_sizes(bytes: &[u8]) -> (u8, u64)
-    requires { IsOk (header_at false bytes.now) }
-    ensures { IfOk (header_at false bytes.now) (λ h. (result.0 ≡ h.length) × (result.1 ≡ h.size)) }
-{
-    let small = u32_at(bytes, 0);
-    if small == 1 {
-        return (16, u64_at(bytes, 8));
-    }
-    (8, u64::from(small))
-}
-
 // The box in front of the bytes, which lie at the place `base` of the file, and what follows it.
 fn split_first<'a>(bytes: &'a [u8], base: u64) -> (BoxView<'a>, &'a [u8])
     requires header { IsOk (header_at false bytes.now) }
@@ -51,10 +38,15 @@ fn split_first<'a>(bytes: &'a [u8], base: u64) -> (BoxView<'a>, &'a [u8])
         (λ h. (box_seen result.0 ≡ box_of base bytes.entry.now h)
         × (result.1.now ≡ drop h.size bytes.entry.now)) }
 {
-    let (length, size) = known_sizes(bytes);
-    let (whole, rest) = bytes.split_at(size as usize);
-    let (_, payload) = whole.split_at(length as usize);
-    (BoxView::new(kind_of(bytes), base, length, payload), rest)
+    let Ok(header) = read_header(bytes, bytes.len() as u64, false, FourCc::FILE, base) else {
+        unreachable!()
+    };
+    let (whole, rest) = bytes.split_at(header.size as usize);
+    let (_, payload) = whole.split_at(header.length as usize);
+    (
+        BoxView::new(header.kind, base, header.length, payload),
+        rest,
+    )
 }
 
 impl<'a> Iterator for Children<'a> {

@@ -1,6 +1,7 @@
 //! One box of a file in memory.
 ghost use Rattle.std.specs.Prelude.{◌≡◌, ◌+◌, ◌^◌, ◌<◌, length};
 
+use crate::fault::{Fault, Kind};
 use crate::four_cc::FourCc;
 
 /// A box: its type, where it stands in the file, and the bytes that follow its header.
@@ -14,6 +15,7 @@ pub struct BoxView<'a> {
 }
 
 impl<'a> BoxView<'a> {
+    ghost use Rattle.mp4_boxes.specs.format.BoxFaults.{fault_of};
     ghost use Rattle.mp4_boxes.specs.words.View.{box_seen};
 
     /// A box of this type at this place of the file, with a header of so many bytes.
@@ -59,5 +61,11 @@ impl<'a> BoxView<'a> {
         ensures { result ≡ (box_seen self.now).offset + (box_seen self.now).header }
     {
         self.offset + u64::from(self.header)
+    }
+    /// A fault of this kind that names the box.
+    pub fn fault(&self, kind: Kind) -> Fault
+        ensures { result ≡ fault_of kind (box_seen self.now) }
+    {
+        Fault::new(kind, self.kind, self.offset)
     }
 }

@@ -63,15 +63,11 @@ lacks-requires-clause-has c = passed_has _ _ _ _ c.loop-at.invariant.passed
 
 pub returns-then-lacks-clause-fault : goal.returns-then-lacks-clause-fault
 returns-then-lacks-clause-fault c =
-    rw (
-      c.new-then-lacks.ensures,
-      c.kind-then-lacks.ensures,
-      c.offset.ensures,
-    )
+    rw c.fault.ensures
     (inr (inr (inr (one_missing c.args.rule (box_seen c.args.view) c.payload_offset-base.result c.payload-bytes.result.now c.loop-at.count c.loop-at.at c.payload_offset-base.ensures c.payload-bytes.ensures c.loop-at.invariant (search rules) (sym c.lacks.ensures ∙ c.if-lacks.true)))))
 
 pub returns-then-lacks-clause-only : goal.returns-then-lacks-clause-only
-returns-then-lacks-clause-only c boxes t = child_fault_refuses c.args.rule (box_container (box_seen c.args.view)) c.new-then-lacks.result boxes (returns-then-lacks-clause-fault c) t
+returns-then-lacks-clause-only c boxes t = child_fault_refuses c.args.rule (box_container (box_seen c.args.view)) c.fault.result boxes (returns-then-lacks-clause-fault c) t
 
 pub invariant_of-result : goal.invariant_of-result
 invariant_of-result c = (passed_has _ _ _ _ c.loop-at.invariant.passed, search rules)
