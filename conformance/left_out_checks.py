@@ -79,7 +79,9 @@ def of_boxes():
              *[f'narrow-bytes-behind-the-boxes-of-{name}' for name in CONTAINERS]),
         unless('mp4_boxes/src/full_boxes.rt', 'payload.len() < 4',
                'ShortBox for the first four bytes',
-               'narrow-mvhd-of-three-bytes', 'narrow-reference-of-three-bytes'),
+               'narrow-mvhd-of-three-bytes', 'narrow-reference-of-three-bytes',
+               'narrow-tfhd-of-three-bytes', 'narrow-tfdt-of-three-bytes',
+               'narrow-trun-of-three-bytes', 'narrow-fragment-sbgp-of-three-bytes'),
     ]
 
 
@@ -330,10 +332,6 @@ def of_fragments():
                'narrow-tfdt-of-version-2'),
         unless('mp4_frag/src/times.rt', 'payload.len() < needed', 'ShortBox of tfdt',
                'narrow-tfdt-with-short-fields'),
-        unless('mp4_frag/src/fronts.rt', 'payload.len() < 4',
-               'ShortBox for the first four bytes in traf',
-               'narrow-tfhd-of-three-bytes', 'narrow-tfdt-of-three-bytes',
-               'narrow-trun-of-three-bytes', 'narrow-fragment-sbgp-of-three-bytes'),
     ]
 
 
