@@ -22,8 +22,8 @@ use Rattle.mp4_plan.specs.words.HandsFed.{HandFed, HandNoted}
 use Rattle.mp4_plan.specs.words.Stretches.{JoinsOn}
 use Rattle.mp4_plan.specs.words.Taken.{row_seen}
 use Rattle.mp4_plan.specs.declared.ends.End.{End}
-use Rattle.mp4_plan.specs.declared.courses.Stop.{Stop}
-use Rattle.mp4_plan.specs.declared.courses.Stop.TheVariants.{Empty, Ended, Full}
+use Rattle.mp4_plan.specs.declared.track_pieces.Stop.{Stop}
+use Rattle.mp4_plan.specs.declared.track_pieces.Stop.TheVariants.{Empty, Ended, Full}
 use Rattle.mp4_plan.specs.declared.joined.Stretches.{Stretches}
 use Rattle.mp4_plan.specs.declared.rows.Row.{Row}
 use Rattle.mp4_plan.proofs.PlannerSteps.{fed_more, after_more, fed_none, after_none, more_of_no, more_of-nil}

@@ -8,7 +8,7 @@ ghost use Rattle.mp4_plan.specs.words.Ends.{goes_in};
 ghost use Rattle.mp4_plan.specs.words.HandsFed.{KeepsOn};
 ghost use Rattle.mp4_plan.specs.words.OverLess.{KeepsWalk, WhereLess};
 
-use crate::courses::MOST_SAMPLES;
+use crate::track_pieces::MOST_SAMPLES;
 use crate::ends::{End, goes_in, has_ended};
 use crate::reduced::Reduced;
 use mp4_boxes::{Refusal, Steps};

@@ -22,7 +22,7 @@ ghost use Rattle.mp4_present.specs.words.Movies.{RefusesLoad};
 ghost use Rattle.mp4_plan.specs.words.Writers.{RefusesMemory, RefusesPlan, AreMarked, IsHeadOf, AreWalksOf, AllCome, first_dts, head_of_normal, firsts, ArePiecesLong, longest_piece, planned_length};
 
 use crate::counting::count_turn;
-use crate::courses::{next_marked, plan_turn};
+use crate::track_pieces::{next_marked, plan_turn};
 use crate::left_times::length_left;
 use crate::moof_sizes::sizes_of;
 use crate::planner::Planned;

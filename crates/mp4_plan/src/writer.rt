@@ -30,7 +30,7 @@ ghost use Rattle.mp4_plan.specs.words.Writers.{RefusesPlan, IsWriterOf, turn_hea
 ghost use Rattle.mp4_plan.specs.format.Held.{held};
 
 use crate::carrying::{Load, carry_noted};
-use crate::courses::note_marked;
+use crate::track_pieces::note_marked;
 use crate::ends::first_goes;
 use crate::joined::Stretches;
 use crate::left_times::length_left;

@@ -18,7 +18,8 @@ use Rattle.mp4_present.specs.words.Again.{AreFrom, IsNextFragment}
 use Rattle.mp4_present.specs.words.Movies.{Fills, IsWhole}
 use Rattle.mp4_present.specs.words.NumbersTold.{LooksFit}
 use Rattle.mp4_present.specs.words.Outline.{IsOutline}
-use Rattle.mp4_present.specs.words.ToOpen.{LooksByBytes, LooksWithin, boxes_looks, moof_looks, opening_looks}
+use Rattle.mp4_present.specs.format.ByBytes.{LooksByBytes}
+use Rattle.mp4_present.specs.words.ToOpen.{LooksWithin, boxes_looks, moof_looks, opening_looks}
 use Rattle.mp4_present.specs.words.TrackTrees.{IsTrackOf}
 use Rattle.mp4_present.specs.declared.outline.Outline.{Outline}
 use Rattle.mp4_present.specs.declared.reading.TopBox.{TopBox}

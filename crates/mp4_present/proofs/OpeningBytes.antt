@@ -13,7 +13,7 @@ use Rattle.mp4_tables.proofs.PlaceLists.{count_is}
 use Rattle.mp4_head.specs.words.Found.{LiesIn, SaysHead}
 use Rattle.mp4_head.specs.declared.heads.MovieHead.{MovieHead}
 use Rattle.mp4_head.specs.declared.heads.TrackHead.{TrackHead}
-use Rattle.mp4_present.specs.words.WalkSteps.{OpensWithin}
+use Rattle.mp4_present.specs.format.ByBytes.{OpensWithin}
 use Rattle.mp4_present.specs.declared.outline.Outline.{Outline}
 use Rattle.mp4_present.proofs.Opened.{IsRead, its_movie}
 

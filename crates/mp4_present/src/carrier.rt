@@ -4,6 +4,7 @@ ghost use Rattle.mp4_store.specs.words.Device.{range};
 ghost use Rattle.mp4_present.specs.words.OverStores.{OnlyReads, Refused, WhereHonest};
 ghost use Rattle.mp4_present.specs.words.Reading.{RefusesFront};
 
+use crate::stretches::Stretch;
 use mp4_boxes::Refusal;
 use mp4_store::{Sink, Store};
 use std::alloc::{AllocError, Global};
@@ -48,9 +49,9 @@ impl Carrier {
     ghost use Rattle.std.specs.Prelude.{◌≡◌, ◌+◌, ◌<◌, ◌≤◌, [], ◌++◌, length, vec_len, IfOk, OnOk, OnErr};
     ghost use Rattle.std.specs.Io.KnownBytes.{Appends};
     ghost use Rattle.mp4_store.specs.words.Device.{AppendsPrefix, range};
-    ghost use Rattle.mp4_present.specs.words.Carried.{waiting, RefusesRange};
+    ghost use Rattle.mp4_present.specs.words.Carried.{waiting, RefusesRange, RefusesStretch};
     ghost use Rattle.mp4_present.specs.words.HandCarried.{RefusedByBoth};
-    ghost use Rattle.mp4_present.specs.words.OverCarriers.{Carries, HasRoomFor, OnlyPuts, PutsFrontOf, RefusedByPut, TakesBytes, TakesMany};
+    ghost use Rattle.mp4_present.specs.words.OverCarriers.{Carries, HasRoomFor, OnlyCopies, OnlyPuts, PutsFrontOf, RefusedByPut, TakesAlong, TakesBytes};
     ghost use Rattle.mp4_present.specs.words.OverStores.{OnlyReads, Refused, WhereHonest};
     ghost use Rattle.mp4_present.specs.words.Reading.{RefusesFront};
 
@@ -152,16 +153,12 @@ impl Carrier {
         sink: &mut K,
     ) -> Result<(), Refusal>
         requires { at + len ≤ length (S.file store.old) }
-        ensures room { vec_len self.new.buffer ≡ vec_len self.old.buffer }
-        ensures honesty { S.is_honest store.new ≡ S.is_honest store.old }
-        ensures file { S.file store.new ≡ S.file store.old }
+        ensures store { OnlyCopies S.Store store.old store.new K.Sink sink.old sink.new result }
+        ensures along { TakesAlong K.Sink sink.old sink.new self.old self.new result len }
         ensures bytes { OnOk result (WhereHonest S.Store store.old (λ file.
             TakesBytes K.Sink sink.old sink.new self.old self.new (range file at len))) }
-        ensures many { OnOk result (TakesMany K.Sink sink.old sink.new self.old self.new len) }
         ensures prefix { OnErr result (WhereHonest S.Store store.old (λ file.
             PutsFrontOf K.Sink sink.old sink.new self.old (range file at len))) }
-        ensures reads { OnOk result (S.read_failures store.new ≡ S.read_failures store.old) }
-        ensures puts { OnOk result (K.put_failures sink.new ≡ K.put_failures sink.old) }
         ensures refusal { RefusedByBoth S.Store store.old store.new K.Sink sink.old sink.new result
             RefusesRange }
     {
@@ -173,5 +170,29 @@ impl Carrier {
             done += count as u64;
         }
         Ok(())
+    }
+
+    /// Takes the bytes of some samples along. Where the store has not as many bytes, it has
+    /// changed.
+    pub fn carry_stretch<S: Store, K: Sink>(
+        &mut self,
+        stretch: Stretch,
+        store: &mut S,
+        sink: &mut K,
+    ) -> Result<(), Refusal>
+        ensures store { OnlyCopies S.Store store.old store.new K.Sink sink.old sink.new result }
+        ensures along { TakesAlong K.Sink sink.old sink.new self.old self.new result stretch.len }
+        ensures bytes { OnOk result (WhereHonest S.Store store.old (λ file. TakesBytes K.Sink
+            sink.old sink.new self.old self.new (range file stretch.at stretch.len))) }
+        ensures prefix { OnErr result (WhereHonest S.Store store.old (λ file.
+            PutsFrontOf K.Sink sink.old sink.new self.old (range file stretch.at stretch.len))) }
+        ensures refusal { RefusedByBoth S.Store store.old store.new K.Sink sink.old sink.new result
+            (RefusesStretch (S.file store.old) stretch) }
+    {
+        let len = store.len();
+        if stretch.at > len || stretch.len > len - stretch.at {
+            return Err(Refusal::StoreChanged);
+        }
+        self.carry_range(store, stretch.at, stretch.len, sink)
     }
 }

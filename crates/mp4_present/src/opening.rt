@@ -10,9 +10,9 @@ ghost use Rattle.mp4_present.specs.words.Opening.{HasOutline, IsOpened, RefusesD
 ghost use Rattle.mp4_present.specs.words.OverOpening.{ChecksFile, HaveInfos};
 ghost use Rattle.mp4_present.specs.words.OverStores.{OnlyReads, WhereHonest, WhereRead, Refused, RefusedOf};
 ghost use Rattle.mp4_present.specs.words.ToOpen.{IsPayloadIn, HasTables, HasTracks, LooksToOpen, WorksToOpen};
-ghost use Rattle.mp4_present.specs.words.WalkSteps.{OpensWithin};
+ghost use Rattle.mp4_present.specs.format.ByBytes.{OpensWithin};
 
-use crate::fragment_pass::check_fragments;
+use crate::fragments::check_fragments;
 use crate::limit_checks::{check_limits, duration_of};
 use crate::movie::Movie;
 use crate::outline::{Outline, read_outline};

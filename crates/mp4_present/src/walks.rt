@@ -1,6 +1,29 @@
 //! A walk over all samples of a track: of its tables, then of each `moof`.
-use crate::in_hand::Place;
-use crate::reading::TopBox;
+ghost use Rattle.std.specs.Prelude.{ℕ, ◌≡◌, ◌+◌, ◌-◌, ◌^◌, ◌<◌, ◌≤◌, min, List, [], length, false, Some, Err, slice_get, IfOk, IfErr, OnOk, IsTrue, MatchResult};
+ghost use Rattle.mp4_head.specs.format.Tree.{TrackTree};
+ghost use Rattle.mp4_present.specs.format.Denotes.{FileTree};
+ghost use Rattle.mp4_present.specs.words.OpenedMovie.{IsOpenedAs};
+ghost use Rattle.mp4_present.specs.words.SamplesComing.{track_samples, samples_behind, Comes, Loads};
+ghost use Rattle.mp4_present.specs.words.WalkSteps.{steps_to, moof_steps, walk_steps, MayTake};
+ghost use Rattle.mp4_present.specs.words.InHand.{left_in_hand};
+ghost use Rattle.mp4_present.specs.words.Movies.{IsMovie, GoesOn, IsWalkOf, InHandOf, HasSome, RefusesLoad, moof_box, mark_of, own_room};
+ghost use Rattle.mp4_present.specs.declared.track_info.TrackInfo.{TrackInfo};
+ghost use Rattle.mp4_present.specs.words.OverHands.{TakesNextMoof};
+ghost use Rattle.mp4_present.specs.words.OverStores.{OnlyReads, Refused};
+ghost use Rattle.mp4_present.specs.words.OverWalks.{CountsOff, HasInHand, HasMoof, IsLoaded, IsWalkStill, KeepsRoom, TakesSteps, WhereStands};
+ghost use Rattle.mp4_boxes.specs.declared.refusal.Refusal.TheVariants as refusals;
+
+use crate::fragments::next_fragment;
+use crate::in_hand::{InHand, Place};
+use crate::movie::Movie;
+use crate::reading::{TopBox, read_payload};
+use crate::totals::in_64_bits;
+use mp4_boxes::{Memory, Refusal, Steps};
+use mp4_frag::{FragCursor, FragView};
+use mp4_store::Store;
+use mp4_tables::TableCursor;
+use std::alloc::Global;
+use std::sync::ledger::Ledger;
 
 /// When the next sample of a track is due, and how many are left from it on.
 #[derive(Clone, Copy, Debug, PartialEq, Eq)]
@@ -44,4 +67,183 @@ pub struct Walk {
     pub(crate) next: u64,
     /// Where the walk goes back to.
     pub(crate) mark: Mark,
+}
+
+impl Movie {
+    /// A walk over the samples of the track at this place among the tracks. All room that it needs
+    /// is made here: for the longest `moof` that has samples of the track. It stands before the
+    /// first sample, and has marked this place.
+    pub fn walk(&self, alloc: Global, track: usize) -> Result<Walk, Memory>
+        requires { track < length self.now.tracks }
+        ensures walk { IfOk result (IsWalkOf self.now) }
+        ensures room { IfOk result (λ walk. length walk.bytes.items ≡ own_room self.now track) }
+        ensures within { IfOk result (λ walk. length walk.bytes.items ≤ self.now.longest) }
+        ensures coming { IfOk result (λ walk. (file : List ℕ) (tree : FileTree) (t : TrackTree)
+            → IsOpenedAs file self.now tree → slice_get tree.movie.tracks track ≡ Some t
+            → Comes file tree t self.now walk (track_samples tree t)) }
+        ensures may { IfOk result (λ walk. (file : List ℕ) (tree : FileTree) (t : TrackTree)
+            → IsOpenedAs file self.now tree → slice_get tree.movie.tracks track ≡ Some t
+            → (n : ℕ) × MayTake file tree t walk n × (n ≤ walk_steps tree t)) }
+        ensures mark { IfOk result (λ walk. (info : TrackInfo)
+            → slice_get self.now.tracks track ≡ Some info
+            → walk.mark ≡ mark_of walk info.samples) }
+    {
+        let Ok(bytes) = vec![in alloc; 0u8; self.room_for(track) as usize] else {
+            return Err(Memory);
+        };
+        let cursor = TableCursor::start(&self.tables_of(track));
+        let info = self.tracks[track];
+        let state = self.states[track];
+        let mark = Mark {
+            track,
+            place: Place::Tables(cursor.place()),
+            moof: self.top,
+            before: None,
+            due: due_first(info.start, state.time),
+            left: info.samples.saturating_sub(state.count),
+            next: self.fragments.unwrap_or(self.file_len),
+            to_come: info.samples,
+        };
+        Ok(Walk {
+            track,
+            place: mark.place,
+            moof: self.top,
+            bytes,
+            used: 0,
+            before: None,
+            due: mark.due,
+            left: mark.left,
+            next: mark.next,
+            mark,
+        })
+    }
+}
+
+// When the first sample behind the tables is due, of a track that starts at a time and whose tables
+// last so long.
+fn due_first(start: u64, time: u128) -> u64
+    ensures { result ≡ min (start + time) (2 ^ 64 - 1) }
+{
+    in_64_bits(u128::from(start).saturating_add(time))
+}
+
+impl Walk {
+    /// The samples left of what is in memory: of the tables, or of a `moof`.
+    pub fn in_hand<'a>(&'a self, movie: &'a Movie) -> InHand<'a>
+        requires { IsWalkOf movie.now self.now }
+        ensures hand { InHandOf movie.entry.now self.entry.now result }
+        ensures movie { IsMovie movie.entry.now }
+    {
+        let states = movie.states();
+        match self.place {
+            Place::Tables(place) => {
+                InHand::Tables(TableCursor::at(&movie.tables_of(self.track), place))
+            }
+            Place::Fragment(place) => {
+                let view = FragView::again(self.moof.view(&self.bytes[..self.used]));
+                InHand::Fragment(FragCursor::at(&view, states, place))
+            }
+        }
+    }
+
+    /// The walk goes on from a place of what is in hand. The steps to there are counted.
+    pub fn keep<L: Ledger>(&mut self, place: Place, steps: &mut Steps<L>)
+        ensures place { self.new ≡ record self.old { place = place } }
+        ensures work { steps.new ≡ steps.old + (steps_to place - steps_to self.old.place) }
+    {
+        steps.add(place.passed().saturating_sub(self.place.passed()));
+        self.place = place;
+    }
+
+    // Takes the samples of the `moof` in the room into hand, and says whether there are any. Where
+    // there are more than are left, the store has changed. All of its samples are in hand then, and
+    // as many less are left.
+    pub(crate) fn take<L: Ledger>(
+        &mut self,
+        movie: &Movie,
+        steps: &mut Steps<L>,
+    ) -> Result<bool, Refusal>
+        requires movie { GoesOn movie.now self.old }
+        requires moof { HasMoof self.old }
+        ensures hand { OnOk result (HasInHand movie.now self.old self.new
+            (record { time = self.old.due; left = self.old.left })) }
+        ensures counts { OnOk result (CountsOff movie.now self.old self.new) }
+        ensures keeps { KeepsRoom self.old self.new }
+        ensures taken { TakesNextMoof movie.now self.old self.new result }
+        ensures some { IfOk result (λ some. IsTrue some → HasSome movie.now self.new) }
+        ensures grows { steps.old ≤ steps.new }
+        ensures work { MatchResult result (λ _. steps.new ≤ steps.old
+            + moof_steps (moof_box self.old) + steps_to self.new.place)
+            (λ _. steps.new ≡ steps.old) }
+        ensures refusal { IfErr result (λ r. r ≡ refusals.StoreChanged) }
+    {
+        let view = FragView::again(self.moof.view(&self.bytes[..self.used]));
+        let info = movie.tracks()[self.track];
+        let cursor = FragCursor::start(&view, movie.states(), info.id, self.due, info.keys);
+        let Some(counts) = cursor.counts(self.left) else {
+            return Err(Refusal::StoreChanged);
+        };
+        steps.add(counts.passed);
+        self.place = Place::Fragment(cursor.place());
+        self.before = Some(Due {
+            time: self.due,
+            left: self.left,
+        });
+        self.due = self.due.saturating_add(counts.duration);
+        self.left -= counts.samples;
+        steps.add(self.place.passed());
+        Ok(counts.samples > 0)
+    }
+
+    /// Reads the next `moof` that has samples of the track, where nothing is left in hand; false
+    /// where there is none. It takes no memory. Where the store has another length, or other
+    /// samples than it had when the movie was opened, so far as their number shows it, the answer
+    /// is StoreChanged.
+    pub fn load<S: Store, L: Ledger>(
+        &mut self,
+        movie: &Movie,
+        store: &mut S,
+        steps: &mut Steps<L>,
+    ) -> Result<bool, Refusal>
+        requires { IsWalkOf movie.now self.old }
+        ensures store { OnlyReads S.Store store.old store.new result }
+        ensures walk { IsWalkStill movie.now self.old self.new result }
+        ensures loaded { WhereStands S.Store store.old movie.now self.old
+            (λ file tree t earlier later. MatchResult result
+            (λ more. Loads file tree t movie.now (samples_behind tree t earlier later) self.new
+            more) (λ r. r ≡ refusals.StoreChanged → ⊥)) }
+        ensures ended { WhereStands S.Store store.old movie.now self.old
+            (λ file tree t earlier later. (hand : InHand) → InHandOf movie.now self.old hand
+            → left_in_hand hand ≡ []
+            → IfOk result (λ more. more ≡ false → Comes file tree t movie.now self.new [])) }
+        ensures answer { IfOk result
+            (IsLoaded (length (S.file store.old)) movie.now self.old self.new) }
+        ensures grows { steps.old ≤ steps.new }
+        ensures work { TakesSteps S.Store store.old movie.now self.old self.new result steps.old
+            steps.new }
+        ensures length { (length (S.file store.old) ≡ movie.now.file_len → ⊥)
+            → result ≡ Err refusals.StoreChanged }
+        ensures refusal { Refused S.Store store.old store.new result RefusesLoad }
+    {
+        if store.len() != movie.file_len {
+            return Err(Refusal::StoreChanged);
+        }
+        if self.left == 0 {
+            return Ok(false);
+        }
+        let Some(from) = movie.own_from(self.track, self.next) else {
+            return Err(Refusal::StoreChanged);
+        };
+        let Some(top) = next_fragment(store, from)? else {
+            return Err(Refusal::StoreChanged);
+        };
+        self.used = read_payload(store, top, self.bytes.as_mut_slice())?;
+        self.moof = top;
+        self.next = top.header.end;
+        if self.take(movie, steps)? {
+            Ok(true)
+        } else {
+            Err(Refusal::StoreChanged)
+        }
+    }
 }

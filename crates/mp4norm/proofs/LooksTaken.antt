@@ -16,7 +16,8 @@ use Rattle.mp4_present.specs.declared.track_info.TrackInfo.{TrackInfo}
 use Rattle.mp4_present.specs.words.Movies.{MovieSeen}
 use Rattle.mp4_present.specs.words.OpenedMovie.{IsOpenedAs, IsInfoOf}
 use Rattle.mp4_present.specs.words.Opening.{RefusesOpen}
-use Rattle.mp4_present.specs.words.ToOpen.{moof_looks, opening_looks, LooksByBytes}
+use Rattle.mp4_present.specs.format.ByBytes.{LooksByBytes}
+use Rattle.mp4_present.specs.words.ToOpen.{moof_looks, opening_looks}
 use Rattle.mp4_present.specs.words.WalkSteps.{IfNoFault}
 use Rattle.mp4_present.proofs.One.{file_tree_one}
 use Rattle.mp4norm.specs.format.Steps.{FindsWithin, TurnsWithin, place_total}

@@ -15,7 +15,7 @@ use Rattle.mp4_present.specs.format.Stands.{Stands}
 use Rattle.mp4_present.proofs.DenotedOpens.{stands_refuses}
 use Rattle.mp4_present.proofs.WalkCopied.{on_err}
 use Rattle.mp4_plan.specs.format.Normal.{normal}
-use Rattle.mp4norm.specs.words.Commands.{PutsFrontOf}
+use Rattle.mp4norm.specs.words.Commands.{PutsAFront}
 use Rattle.mp4norm.specs.format.Headline.{HasNormalForm, DenotesNothing, PutsFront, Normalises}
 use Rattle.mp4norm.specs.words.MainJob.{RefusesNormalise}
 use Rattle.mp4norm.proofs.ShownLines.{denoted}
@@ -41,7 +41,7 @@ open_refuses honest file held reads reads_after puts refusals.WriteFailed w = ab
 open_refuses honest file held reads reads_after puts refusals.NoSuchTrack w = absurd w
 
 write_refused : (honest : Bool) (file : List ℕ) (before after : Option (List ℕ)) (reads reads_after puts puts_after : ℕ) (r : Refusal) → RefusesCopy before after reads reads_after puts puts_after r
-    → (IsTrue honest → PutsFrontOf (HasNormalForm file) before after) → (IsTrue honest → r ≡ refusals.StoreChanged → ⊥) → RefusesNormalise honest file before after reads reads_after puts puts_after r
+    → (IsTrue honest → PutsAFront (HasNormalForm file) before after) → (IsTrue honest → r ≡ refusals.StoreChanged → ⊥) → RefusesNormalise honest file before after reads reads_after puts puts_after r
 write_refused honest file before after reads reads_after puts puts_after (refusals.Fault f) w p u = absurd w
 write_refused honest file before after reads reads_after puts puts_after refusals.Memory w p u = w
 write_refused honest file before after reads reads_after puts puts_after refusals.StoreFailed w p u = (w, λ told. inr (p told))
@@ -51,7 +51,7 @@ write_refused honest file before after reads reads_after puts puts_after refusal
 
 -- a movie that isn't written
 pub write_refuses : {T : Type 0} (answer : Result T Refusal) (honest : Bool) (file : List ℕ) (before after : Option (List ℕ)) (reads reads_after puts puts_after : ℕ)
-    → IfErr answer (RefusesCopy before after reads reads_after puts puts_after) → (IsTrue honest → OnErr answer (PutsFrontOf (HasNormalForm file) before after)) → (IsTrue honest → IfErr answer (λ r. r ≡ refusals.StoreChanged → ⊥))
+    → IfErr answer (RefusesCopy before after reads reads_after puts puts_after) → (IsTrue honest → OnErr answer (PutsAFront (HasNormalForm file) before after)) → (IsTrue honest → IfErr answer (λ r. r ≡ refusals.StoreChanged → ⊥))
     → IfErr answer (RefusesNormalise honest file before after reads reads_after puts puts_after)
 write_refuses (Ok x) honest file before after reads reads_after puts puts_after w p u = tt
 write_refuses (Err r) honest file before after reads reads_after puts puts_after w p u = write_refused honest file before after reads reads_after puts puts_after r w p u
@@ -75,7 +75,7 @@ module _ (honest honest_then : Bool) (file file_then : List ℕ) (m : MovieSeen)
   all_written (Err r) before after put = tt
 
   pub front_written : {T : Type 0} (answer : Result T Refusal) (before after : Option (List ℕ)) → Then honest_then file_then (λ f t. OnErr answer (AppendsPrefix before after (normal (presentation_of f t))))
-      → IsTrue honest → OnErr answer (PutsFrontOf (HasNormalForm file) before after)
+      → IsTrue honest → OnErr answer (PutsAFront (HasNormalForm file) before after)
   front_written answer before after put told =
       on_err _ _ answer (λ a. (normal (presentation_of file (opened told).0), normal_form file m (opened told).0 (opened told).1, a)) (so (λ f t. OnErr answer (AppendsPrefix before after (normal (presentation_of f t)))) put told)
 
@@ -88,7 +88,7 @@ appended : (before : List ℕ) (new : Option (List ℕ)) (bytes : List ℕ) → 
 appended before None bytes a = absurd a
 appended before (Some after) bytes a = (after, refl, a)
 
-front_put : (file before : List ℕ) (new : Option (List ℕ)) → PutsFrontOf (HasNormalForm file) (Some before) new → (after : List ℕ) × (new ≡ Some after) × PutsFront file before after
+front_put : (file before : List ℕ) (new : Option (List ℕ)) → PutsAFront (HasNormalForm file) (Some before) new → (after : List ℕ) × (new ≡ Some after) × PutsFront file before after
 front_put file before new p =
     let n = p.2.0 in
     let a = appended before new (take n p.0) p.2.2 in
@@ -98,7 +98,7 @@ front_put file before new p =
 abbrev Answers : (T : Type 0) → List ℕ → List ℕ → Option (List ℕ) → Result T Refusal → Type 0
 Answers T file before new answer = (after : List ℕ) × (new ≡ Some after) × Normalises file before after answer
 
-failed_read : (T : Type 0) (file before : List ℕ) (new : Option (List ℕ)) → (new ≡ Some before) ⊎ PutsFrontOf (HasNormalForm file) (Some before) new → Answers T file before new (Err refusals.StoreFailed)
+failed_read : (T : Type 0) (file before : List ℕ) (new : Option (List ℕ)) → (new ≡ Some before) ⊎ PutsAFront (HasNormalForm file) (Some before) new → Answers T file before new (Err refusals.StoreFailed)
 failed_read T file before new (inl e) = (before, e, inl refl)
 failed_read T file before new (inr p) = let f = front_put file before new p in (f.0, f.1, inr f.2)
 

@@ -16,7 +16,7 @@ use Rattle.mp4_plan.specs.format.Normal.{normal}
 use Rattle.mp4_plan.specs.format.ReducedTimes.{ReducedFaultStands}
 use Rattle.mp4_plan.specs.words.LeftTimes.{NamesLong, RefusesLeftCopy}
 use Rattle.mp4_plan.proofs.ReducedFaults.{opened_stands}
-use Rattle.mp4norm.specs.words.Commands.{PutsFrontOf}
+use Rattle.mp4norm.specs.words.Commands.{PutsAFront}
 use Rattle.mp4norm.specs.format.ReducedHeadline.{HasReducedForm}
 use Rattle.mp4norm.specs.words.ReducedJob.{RefusesReduced}
 use Rattle.mp4norm.proofs.Normalised.{denotes_nothing}
@@ -44,7 +44,7 @@ TooLong l file (refusals.Fault f) = ReducedFaultStands l file f
 TooLong l file _ = Unit {0}
 
 write_refused : (l : Leaving) (honest : Bool) (file : List ℕ) (before after : Option (List ℕ)) (reads reads_after puts puts_after : ℕ) (r : Refusal) → RefusesLeftCopy l before after reads reads_after puts puts_after r
-    → (IsTrue honest → PutsFrontOf (HasReducedForm l file) before after) → (IsTrue honest → r ≡ refusals.StoreChanged → ⊥) → (IsTrue honest → TooLong l file r) → RefusesReduced l honest file before after reads reads_after puts puts_after r
+    → (IsTrue honest → PutsAFront (HasReducedForm l file) before after) → (IsTrue honest → r ≡ refusals.StoreChanged → ⊥) → (IsTrue honest → TooLong l file r) → RefusesReduced l honest file before after reads reads_after puts puts_after r
 write_refused l honest file before after reads reads_after puts puts_after (refusals.Fault f) w p u t = (λ told. inr (t told), w.1)
 write_refused l honest file before after reads reads_after puts puts_after refusals.Memory w p u t = w
 write_refused l honest file before after reads reads_after puts puts_after refusals.StoreFailed w p u t = (w, λ told. inr (p told))
@@ -54,7 +54,7 @@ write_refused l honest file before after reads reads_after puts puts_after refus
 
 -- a movie that isn't written
 pub reduced_write_refuses : (l : Leaving) {T : Type 0} (answer : Result T Refusal) (honest : Bool) (file : List ℕ) (before after : Option (List ℕ)) (reads reads_after puts puts_after : ℕ)
-    → IfErr answer (RefusesLeftCopy l before after reads reads_after puts puts_after) → (IsTrue honest → OnErr answer (PutsFrontOf (HasReducedForm l file) before after)) → (IsTrue honest → IfErr answer (λ r. r ≡ refusals.StoreChanged → ⊥))
+    → IfErr answer (RefusesLeftCopy l before after reads reads_after puts puts_after) → (IsTrue honest → OnErr answer (PutsAFront (HasReducedForm l file) before after)) → (IsTrue honest → IfErr answer (λ r. r ≡ refusals.StoreChanged → ⊥))
     → (IsTrue honest → IfErr answer (TooLong l file)) → IfErr answer (RefusesReduced l honest file before after reads reads_after puts puts_after)
 reduced_write_refuses l (Ok x) honest file before after reads reads_after puts puts_after w p u t = tt
 reduced_write_refuses l (Err r) honest file before after reads reads_after puts puts_after w p u t = write_refused l honest file before after reads reads_after puts puts_after r w p u t
@@ -90,7 +90,7 @@ module _ (l : Leaving) (honest honest_then : Bool) (file file_then : List ℕ) (
   reduced_written (Err r) before after put = tt
 
   pub reduced_front : {T : Type 0} (answer : Result T Refusal) (before after : Option (List ℕ)) → Then honest_then file_then (λ f t. OnErr answer (AppendsPrefix before after (normal (reduce l (presentation_of f t)))))
-      → IsTrue honest → OnErr answer (PutsFrontOf (HasReducedForm l file) before after)
+      → IsTrue honest → OnErr answer (PutsAFront (HasReducedForm l file) before after)
   reduced_front answer before after put told =
       on_err _ _ answer (λ a. (normal (reduce l (presentation_of file (opened told).0)), reduced_form l file m (opened told).0 (opened told).1, a)) (so (λ f t. OnErr answer (AppendsPrefix before after (normal (reduce l (presentation_of f t))))) put told)
 

@@ -9,7 +9,8 @@ use Rattle.mp4_present.specs.format.Presentation.{sample_total}
 use Rattle.mp4_present.specs.words.Movies.{MovieSeen}
 use Rattle.mp4_present.specs.words.OpenedMovie.{IsOpenedAs}
 use Rattle.mp4_present.specs.words.Opening.{RefusesOpen}
-use Rattle.mp4_present.specs.words.WalkSteps.{IfNoFault, OpensWithin, opening_steps, walk_steps, walks_steps}
+use Rattle.mp4_present.specs.format.ByBytes.{OpensWithin}
+use Rattle.mp4_present.specs.words.WalkSteps.{IfNoFault, opening_steps, walk_steps, walks_steps}
 use Rattle.mp4_present.proofs.One.{file_tree_one}
 use Rattle.mp4norm.specs.format.Steps.{WorksWithin, WalksWithin, row_total}
 use Rattle.mp4norm.proofs.Normalised.{denotes_nothing}

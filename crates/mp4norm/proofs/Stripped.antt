@@ -9,7 +9,7 @@ use Rattle.mp4_boxes.specs.declared.refusal.Refusal.TheVariants as refusals
 use Rattle.mp4_boxes.specs.declared.rule.Rule.TheVariants.{File}
 use Rattle.mp4_present.specs.words.Carried.{BytesGoOn, RefusesPut, RefusesCarry}
 use Rattle.mp4_present.proofs.Carrying.{BytesGoOn-all}
-use Rattle.mp4norm.specs.words.Commands.{PutsFrontOf}
+use Rattle.mp4norm.specs.words.Commands.{PutsAFront}
 use Rattle.mp4norm.specs.declared.named.Name.{Name}
 use Rattle.mp4norm.specs.format.Strips.{Strips, IsStripped, Halts, RefusesWalk, RefusesStrip}
 use Rattle.mp4norm.proofs.StripCopies.{front_fails}
@@ -33,7 +33,7 @@ walk_refuses names honest file held reads reads_after puts refusals.NoSuchTrack 
 
 -- one that is not copied
 pub carry_refuses : (names : List Name) (honest : Bool) (file : List ℕ) (before after : Option (List ℕ)) (reads reads_after puts puts_after : ℕ) (r : Refusal) → RefusesCarry reads reads_after puts puts_after r
-    → (IsTrue honest → PutsFrontOf (IsStripped names file) before after) → (IsTrue honest → r ≡ refusals.StoreChanged → ⊥) → RefusesStrip names honest file before after reads reads_after puts puts_after r
+    → (IsTrue honest → PutsAFront (IsStripped names file) before after) → (IsTrue honest → r ≡ refusals.StoreChanged → ⊥) → RefusesStrip names honest file before after reads reads_after puts puts_after r
 carry_refuses names honest file before after reads reads_after puts puts_after (refusals.Fault f) w p u = absurd w
 carry_refuses names honest file before after reads reads_after puts puts_after refusals.Memory w p u = absurd w
 carry_refuses names honest file before after reads reads_after puts puts_after refusals.StoreFailed w p u = (w, λ told. inr (p told))
@@ -43,7 +43,7 @@ carry_refuses names honest file before after reads reads_after puts puts_after r
 
 -- one whose end is not put
 flush_refused : (names : List Name) (honest : Bool) (file : List ℕ) (before after : Option (List ℕ)) (reads puts puts_after : ℕ) (r : Refusal) → RefusesPut puts puts_after r
-    → (IsTrue honest → PutsFrontOf (IsStripped names file) before after) → RefusesStrip names honest file before after reads reads puts puts_after r
+    → (IsTrue honest → PutsAFront (IsStripped names file) before after) → RefusesStrip names honest file before after reads reads puts puts_after r
 flush_refused names honest file before after reads puts puts_after (refusals.Fault f) w p = absurd w
 flush_refused names honest file before after reads puts puts_after refusals.Memory w p = absurd w
 flush_refused names honest file before after reads puts puts_after refusals.StoreFailed w p = absurd w
@@ -52,7 +52,7 @@ flush_refused names honest file before after reads puts puts_after refusals.Writ
 flush_refused names honest file before after reads puts puts_after refusals.NoSuchTrack w p = absurd w
 
 pub flush_refuses : {T : Type 0} (answer : Result T Refusal) (names : List Name) (honest : Bool) (file : List ℕ) (before after : Option (List ℕ)) (reads puts puts_after : ℕ) → IfErr answer (RefusesPut puts puts_after)
-    → (IsTrue honest → OnErr answer (PutsFrontOf (IsStripped names file) before after)) → IfErr answer (RefusesStrip names honest file before after reads reads puts puts_after)
+    → (IsTrue honest → OnErr answer (PutsAFront (IsStripped names file) before after)) → IfErr answer (RefusesStrip names honest file before after reads reads puts puts_after)
 flush_refuses (Ok x) names honest file before after reads puts puts_after w p = tt
 flush_refuses (Err r) names honest file before after reads puts puts_after w p = flush_refused names honest file before after reads puts puts_after r w p
 

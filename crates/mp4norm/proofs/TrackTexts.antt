@@ -21,7 +21,7 @@ use Rattle.mp4_present.specs.declared.track_info.TrackInfo.{TrackInfo}
 use Rattle.mp4_present.proofs.SamplesLie.{all_whole, timed_data, timed_length}
 use Rattle.mp4_present.proofs.WalkPlaces.{of_got}
 use Rattle.mp4_plan.proofs.TakenFrom.{got_map}
-use Rattle.mp4norm.specs.words.Commands.{AreOthers, LacksTrack, IsTrackWith, ListsSamples, HasData, PutsFrontOf, RefusesTrack}
+use Rattle.mp4norm.specs.words.Commands.{AreOthers, LacksTrack, IsTrackWith, ListsSamples, HasData, PutsAFront, RefusesTrack}
 use Rattle.mp4norm.specs.declared.wanted.Form.{Form}
 use Rattle.mp4norm.specs.format.Texts.{listing_head, sample_at_lines}
 use Rattle.mp4norm.proofs.SampleTexts.{lines_of_placed}
@@ -98,7 +98,7 @@ open_refuses honest file id IsText known reads reads_after puts refusals.WriteFa
 open_refuses honest file id IsText known reads reads_after puts refusals.NoSuchTrack w = absurd w
 
 text_refused : (honest : Bool) (file : List ℕ) (id : ℕ) (IsText : List ℕ → Type 0) (before after : Option (List ℕ)) (reads reads_after puts puts_after : ℕ) (r : Refusal) → RefusesCopy before after reads reads_after puts puts_after r
-    → (IsTrue honest → PutsFrontOf IsText before after) → (IsTrue honest → r ≡ refusals.StoreChanged → ⊥) → RefusesTrack honest file id IsText before after reads reads_after puts puts_after r
+    → (IsTrue honest → PutsAFront IsText before after) → (IsTrue honest → r ≡ refusals.StoreChanged → ⊥) → RefusesTrack honest file id IsText before after reads reads_after puts puts_after r
 text_refused honest file id IsText before after reads reads_after puts puts_after (refusals.Fault f) w p u = absurd w
 text_refused honest file id IsText before after reads reads_after puts puts_after refusals.Memory w p u = w
 text_refused honest file id IsText before after reads reads_after puts puts_after refusals.StoreFailed w p u = (w, λ told. inr (p told))
@@ -107,7 +107,7 @@ text_refused honest file id IsText before after reads reads_after puts puts_afte
 text_refused honest file id IsText before after reads reads_after puts puts_after refusals.NoSuchTrack w p u = absurd w
 
 -- a put fails before the rest is made
-pub put_refuses : (honest : Bool) (file : List ℕ) (id : ℕ) (IsText : List ℕ → Type 0) (before after : Option (List ℕ)) (reads puts puts_after : ℕ) (r : Refusal) → RefusesPut puts puts_after r → (IsTrue honest → PutsFrontOf IsText before after)
+pub put_refuses : (honest : Bool) (file : List ℕ) (id : ℕ) (IsText : List ℕ → Type 0) (before after : Option (List ℕ)) (reads puts puts_after : ℕ) (r : Refusal) → RefusesPut puts puts_after r → (IsTrue honest → PutsAFront IsText before after)
     → RefusesTrack honest file id IsText before after reads reads puts puts_after r
 put_refuses honest file id IsText before after reads puts puts_after (refusals.Fault f) w p = absurd w
 put_refuses honest file id IsText before after reads puts puts_after refusals.Memory w p = absurd w
@@ -118,7 +118,7 @@ put_refuses honest file id IsText before after reads puts puts_after refusals.No
 
 -- of an answer
 pub text_refuses : {T : Type 0} (answer : Result T Refusal) (honest : Bool) (file : List ℕ) (id : ℕ) (IsText : List ℕ → Type 0) (before after : Option (List ℕ)) (reads reads_after puts puts_after : ℕ)
-    → IfErr answer (RefusesCopy before after reads reads_after puts puts_after) → (IsTrue honest → OnErr answer (PutsFrontOf IsText before after)) → (IsTrue honest → IfErr answer (λ r. r ≡ refusals.StoreChanged → ⊥))
+    → IfErr answer (RefusesCopy before after reads reads_after puts puts_after) → (IsTrue honest → OnErr answer (PutsAFront IsText before after)) → (IsTrue honest → IfErr answer (λ r. r ≡ refusals.StoreChanged → ⊥))
     → IfErr answer (RefusesTrack honest file id IsText before after reads reads_after puts puts_after)
 text_refuses (Ok x) honest file id IsText before after reads reads_after puts puts_after w p u = tt
 text_refuses (Err r) honest file id IsText before after reads reads_after puts puts_after w p u = text_refused honest file id IsText before after reads reads_after puts puts_after r w p u

@@ -16,31 +16,6 @@ pub record OnlyCopies {X Y T E : Type 0} (S : Store X) (before after : X) (K : S
   pub reads : OnOk result (S.read_failures after ≡ S.read_failures before)
   pub puts : OnOk result (K.put_failures sink_after ≡ K.put_failures sink)
 
--- these bytes are taken along: at Ok all of them, and at Err a front of what waited and of them was
--- put
-abbrev pub Carries : {Y T E : Type 0} → Sink Y → Y → Y → Carrier → Carrier → Result T E → List ℕ
-    → Type 0
-Carries K sink sink_after c c_after result bytes = MatchResult result
-    (λ _. BytesGoOn (K.contents sink) (K.contents sink_after) (waiting c) (waiting c_after) bytes)
-    (λ _. AppendsPrefix (K.contents sink) (K.contents sink_after) (waiting c ++ bytes))
-
--- so many bytes are taken along, whichever these are, and the buffer keeps its length
-pub record TakesAlong {Y T E : Type 0} (K : Sink Y) (sink sink_after : Y) (c c_after : Carrier)
-    (result : Result T E) (n : ℕ) : Type 0 where
-  pub many : OnOk result
-      (GoOnBy (K.contents sink) (K.contents sink_after) (waiting c) (waiting c_after) n)
-  pub buffer : vec_len c_after.buffer ≡ vec_len c.buffer
-
--- nothing but puts can fail: the buffer keeps its length, at Ok no put failed, and it is refused
--- only where one did
-pub record OnlyPuts {Y T : Type 0} (K : Sink Y) (sink sink_after : Y) (c c_after : Carrier)
-    (result : Result T Refusal) : Type 0 where
-  pub buffer : vec_len c_after.buffer ≡ vec_len c.buffer
-  pub puts : OnOk result (K.put_failures sink_after ≡ K.put_failures sink)
-  pub refusal : IfErr result (RefusesPut (K.put_failures sink) (K.put_failures sink_after))
-
--- ---- its parts
-
 -- these bytes are taken along
 abbrev pub TakesBytes : {Y : Type 0} → Sink Y → Y → Y → Carrier → Carrier → List ℕ → Type 0
 TakesBytes K sink sink_after c c_after bytes =
@@ -60,6 +35,27 @@ PutsFrontOf K sink sink_after c bytes =
 abbrev pub RefusedByPut : {Y T : Type 0} → Sink Y → Y → Y → Result T Refusal → Type 0
 RefusedByPut K sink sink_after result =
     IfErr result (RefusesPut (K.put_failures sink) (K.put_failures sink_after))
+
+-- these bytes are taken along: at Ok all of them, and at Err a front of what waited and of them was
+-- put
+abbrev pub Carries : {Y T E : Type 0} → Sink Y → Y → Y → Carrier → Carrier → Result T E → List ℕ
+    → Type 0
+Carries K sink sink_after c c_after result bytes = MatchResult result
+    (λ _. TakesBytes K sink sink_after c c_after bytes) (λ _. PutsFrontOf K sink sink_after c bytes)
+
+-- so many bytes are taken along, whichever these are, and the buffer keeps its length
+pub record TakesAlong {Y T E : Type 0} (K : Sink Y) (sink sink_after : Y) (c c_after : Carrier)
+    (result : Result T E) (n : ℕ) : Type 0 where
+  pub many : OnOk result (TakesMany K sink sink_after c c_after n)
+  pub buffer : vec_len c_after.buffer ≡ vec_len c.buffer
+
+-- nothing but puts can fail: the buffer keeps its length, at Ok no put failed, and it is refused
+-- only where one did
+pub record OnlyPuts {Y T : Type 0} (K : Sink Y) (sink sink_after : Y) (c c_after : Carrier)
+    (result : Result T Refusal) : Type 0 where
+  pub buffer : vec_len c_after.buffer ≡ vec_len c.buffer
+  pub puts : OnOk result (K.put_failures sink_after ≡ K.put_failures sink)
+  pub refusal : RefusedByPut K sink sink_after result
 
 -- so many bytes have room, at most as many as are wanted; at least one, where any are
 pub record HasRoomFor (c : Carrier) (wanted n : ℕ) : Type 0 where

@@ -6,7 +6,8 @@ use Rattle.mp4_head.specs.declared.heads.TrackHead.{TrackHead}
 use Rattle.mp4_present.specs.words.OpenedMovie.{AreInfosBy}
 use Rattle.mp4_present.specs.words.OwnMoofs.{own_first, own_seen}
 use Rattle.mp4_present.specs.words.ToOpen.{LooksAtMoofs, LooksToOpen, PassesNoting, WorksToOpen, ids_of}
-use Rattle.mp4_present.specs.words.WalkSteps.{ChecksWithin, IfNoFault, OpensWithin}
+use Rattle.mp4_present.specs.format.ByBytes.{OpensWithin}
+use Rattle.mp4_present.specs.words.WalkSteps.{ChecksWithin, IfNoFault}
 use Rattle.mp4_present.specs.declared.own_moofs.OwnMoofs.{OwnMoofs}
 use Rattle.mp4_present.specs.declared.track_info.TrackInfo.{TrackInfo}
 

@@ -1,5 +1,5 @@
 -- What is known of a file while it is opened, in few words.
-use Rattle.std.specs.Prelude.{◌≡◌, ◌⊎◌, ℕ, ◌+◌, ◌*◌, ◌≤◌, List, [], ◌∷◌, ◌++◌, length, map, codes, Result}
+use Rattle.std.specs.Prelude.{◌≡◌, ℕ, ◌+◌, ◌*◌, ◌≤◌, List, [], ◌∷◌, ◌++◌, length, map, codes, Result}
 use Rattle.mp4_boxes.specs.format.Bytes.{sum_of}
 use Rattle.mp4_boxes.specs.format.Box.{Box, IsFront, sizes, file_container}
 use Rattle.mp4_boxes.specs.format.Children.{Holds, of_kind}
@@ -13,6 +13,7 @@ use Rattle.mp4_frag.specs.declared.state.TrackState.{TrackState}
 use Rattle.mp4_frag.specs.declared.trex.Trex.{Trex}
 use Rattle.mp4_head.specs.declared.heads.TrackHead.{TrackHead}
 use Rattle.mp4_head.specs.format.Tree.{MovieTree, TrackTree}
+use Rattle.mp4_present.specs.format.ByBytes.{LooksByBytes}
 use Rattle.mp4_present.specs.words.Plain.{ArePlain}
 use Rattle.mp4_present.specs.words.TrackTrees.{IsTrackOf, HaveTables}
 use Rattle.mp4_present.specs.declared.tables_pass.PlainTracks.{PlainTracks}
@@ -76,12 +77,6 @@ pub record LooksAtMoofs {T : Type 0} (file : List ℕ) (tracks : ℕ) (result : 
     (old new : ℕ) : Type 0 where
   pub said : IfNoFault result (LooksWithin file tracks old new)
   pub within : 8 * new ≤ 8 * old + tracks * length file
-
--- By bytes, whatever the file says: there was no look, or its `moov` holds some tracks, and for
--- each of these there was no more than one for 8 bytes of the file.
-abbrev pub LooksByBytes : List ℕ → ℕ → ℕ → Type 0
-LooksByBytes file old new = (new ≡ old)
-    ⊎ ((ids : List ℕ) × HasMovie file ids × (8 * new ≤ 8 * old + length ids * length file))
 
 -- the looks at tracks while a file is opened: by its boxes where no fault is found, and by its
 -- bytes

@@ -1,6 +1,6 @@
 -- The steps of opening a file, and of walks over its samples: one for each row, `traf`, run or
 -- sample that a check or a cursor passes.
-use Rattle.std.specs.Prelude.{◌≡◌, ◌⊎◌, ℕ, ◌+◌, ◌*◌, ◌^◌, ◌≤◌, List, length, codes, Result, Ok, Err}
+use Rattle.std.specs.Prelude.{◌≡◌, ℕ, ◌+◌, ◌*◌, ◌≤◌, List, length, codes, Result, Ok, Err}
 use Rattle.mp4_boxes.specs.format.Bytes.{sum_of}
 use Rattle.mp4_boxes.specs.format.Box.{Box, file_container}
 use Rattle.mp4_boxes.specs.format.Children.{Holds, of_kind}
@@ -59,13 +59,6 @@ IfNoFault (Err r) P = P
 abbrev pub ChecksWithin : List ℕ → ℕ → ℕ → Type 0
 ChecksWithin file old new = (boxes : List Box) → Holds File (file_container file) boxes
     → new ≤ old + boxes_steps (of_kind (codes "moof") boxes)
-
--- By bytes, whatever the file says: no step was taken, or its `moov` holds some tracks, and for
--- each of these, and once more, no more than 8 for each byte and each sample that a file may have.
-abbrev pub OpensWithin : List ℕ → ℕ → ℕ → Type 0
-OpensWithin file old new = (new ≡ old)
-    ⊎ ((ids : List ℕ) × HasMovie file ids
-    × (new ≤ old + 8 * ((length ids + 1) * (2 ^ 24 + length file))))
 
 -- ---- walks
 

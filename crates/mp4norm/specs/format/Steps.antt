@@ -1,14 +1,14 @@
 -- How many steps and looks a whole run may take. A step is a row, a `traf`, a run or a sample that
 -- a check or a cursor passes. A look passes none of these: it compares a track, or is a turn.
-use Rattle.std.specs.Prelude.{◌≡◌, ◌⊎◌, ℕ, ◌+◌, ◌*◌, ◌^◌, ◌≤◌, List, length}
+use Rattle.std.specs.Prelude.{ℕ, ◌+◌, ◌*◌, ◌≤◌, List, length}
 use Rattle.mp4_boxes.specs.format.Bytes.{sum_of}
 use Rattle.mp4_tables.specs.format.Tables.{tables_of}
 use Rattle.mp4_tables.specs.format.TableRows.{table_rows}
 use Rattle.mp4_frag.specs.format.Fragments.{FragmentTree, fragment_of}
 use Rattle.mp4_frag.specs.format.FragmentRows.{fragment_rows}
 use Rattle.mp4_head.specs.format.Tree.{TrackTree}
+use Rattle.mp4_present.specs.format.ByBytes.{OpensWithin, LooksByBytes}
 use Rattle.mp4_present.specs.format.Denotes.{FileTree, Denotes}
-use Rattle.mp4_present.specs.format.Denotes.{HasMovie}
 use Rattle.mp4_present.specs.format.Presentation.{Presentation, sample_total}
 use Rattle.mp4_plan.specs.format.TurnCount.{most_turns}
 use Rattle.mp4norm.specs.format.Headline.{DenotesNothing}
@@ -22,26 +22,19 @@ row_total tree = sum_of (λ (t : TrackTree). table_rows (tables_of t.table)) tre
 abbrev pub most_steps : ℕ → ℕ → ℕ → ℕ
 most_steps tracks samples rows = 8 * ((tracks + 1) * (samples + rows))
 
--- The steps taken over a file that denotes nothing: by the tracks of its `moov`, as if it had 2^24
--- samples and a row for each byte; or none was taken.
-abbrev pub RefusedWithin : List ℕ → ℕ → ℕ → Type 0
-RefusedWithin file old new = (new ≡ old)
-    ⊎ ((ids : List ℕ) × HasMovie file ids
-    × (new ≤ old + most_steps (length ids) (2 ^ 24) (length file)))
-
 -- The steps taken over a file to write its normal form. Where it denotes a presentation: by the
--- tracks, samples and rows of that.
+-- tracks, samples and rows of that. Where it denotes nothing: by its bytes.
 pub record WorksWithin (file : List ℕ) (old new : ℕ) : Type 0 where
   pub denoted : (p : Presentation) → (d : Denotes file p)
       → new ≤ old + most_steps (length p.tracks) (sample_total p) (row_total d.tree)
-  pub refused : DenotesNothing file → RefusedWithin file old new
+  pub refused : DenotesNothing file → OpensWithin file old new
 
 -- The steps of looking at a file, and of a walk over one of its tracks: 8 for each sample and each
 -- row, however many tracks there are.
 pub record WalksWithin (file : List ℕ) (old new : ℕ) : Type 0 where
   pub denoted : (p : Presentation) → (d : Denotes file p)
       → new ≤ old + 8 * (sample_total p + row_total d.tree)
-  pub refused : DenotesNothing file → RefusedWithin file old new
+  pub refused : DenotesNothing file → OpensWithin file old new
 
 -- ---- looks
 
@@ -49,17 +42,12 @@ pub record WalksWithin (file : List ℕ) (old new : ℕ) : Type 0 where
 abbrev pub place_total : FileTree → ℕ
 place_total tree = sum_of (λ (f : FragmentTree). 1 + length (fragment_of f).trafs) tree.fragments
 
--- The looks at a file that denotes nothing: for each track of its `moov` one for 8 bytes; or there
--- was none.
-abbrev pub FoundWithin : List ℕ → ℕ → ℕ → Type 0
-FoundWithin file old new = (new ≡ old)
-    ⊎ ((ids : List ℕ) × HasMovie file ids × (8 * new ≤ 8 * old + length ids * length file))
-
--- The looks at a file: at each track, at most one for each `traf` and each `moof`.
+-- The looks at a file: at each track, at most one for each `traf` and each `moof`. Where it denotes
+-- nothing: by its bytes.
 pub record FindsWithin (file : List ℕ) (old new : ℕ) : Type 0 where
   pub denoted : (p : Presentation) → (d : Denotes file p)
       → new ≤ old + length p.tracks * place_total d.tree
-  pub refused : DenotesNothing file → FoundWithin file old new
+  pub refused : DenotesNothing file → LooksByBytes file old new
 
 -- The looks taken to write a file's normal form: those at the file, and the turns of two ways over
 -- all pieces, to plan and to write; a turn takes a sample, or leads on to the next track or
@@ -67,4 +55,4 @@ pub record FindsWithin (file : List ℕ) (old new : ℕ) : Type 0 where
 pub record TurnsWithin (file : List ℕ) (old new : ℕ) : Type 0 where
   pub denoted : (p : Presentation) → (d : Denotes file p) → new ≤ old
       + (length p.tracks * place_total d.tree + 2 * most_turns (sample_total p) (length p.tracks))
-  pub refused : DenotesNothing file → FoundWithin file old new
+  pub refused : DenotesNothing file → LooksByBytes file old new

@@ -11,7 +11,7 @@ use Rattle.mp4_boxes.specs.declared.fault.Fault.{Fault}
 use Rattle.mp4_boxes.specs.declared.refusal.Refusal.{Refusal}
 use Rattle.mp4_boxes.specs.declared.refusal.Refusal.TheVariants as refusals
 use Rattle.mp4norm.specs.format.BoxWalk.{rule_inside}
-use Rattle.mp4norm.specs.words.Commands.{PutsFrontOf}
+use Rattle.mp4norm.specs.words.Commands.{PutsAFront}
 use Rattle.mp4norm.specs.declared.named.Name.{Name}
 
 -- ---- which boxes are named
@@ -129,10 +129,10 @@ RefusesStrip names honest file before after reads reads_after puts puts_after re
     after ≡ before
 RefusesStrip names honest file before after reads reads_after puts puts_after refusals.StoreFailed =
     HasRisen reads reads_after
-    × (IsTrue honest → (after ≡ before) ⊎ PutsFrontOf (IsStripped names file) before after)
+    × (IsTrue honest → (after ≡ before) ⊎ PutsAFront (IsStripped names file) before after)
 RefusesStrip names honest file before after reads reads_after puts puts_after
     refusals.StoreChanged = IsTrue honest → ⊥
 RefusesStrip names honest file before after reads reads_after puts puts_after refusals.WriteFailed =
-    HasRisen puts puts_after × (IsTrue honest → PutsFrontOf (IsStripped names file) before after)
+    HasRisen puts puts_after × (IsTrue honest → PutsAFront (IsStripped names file) before after)
 RefusesStrip names honest file before after reads reads_after puts puts_after refusals.NoSuchTrack =
     ⊥

@@ -61,8 +61,8 @@ RefusesShow honest file before after reads reads_after puts puts_after refusals.
 RefusesShow honest file before after reads reads_after puts puts_after refusals.NoSuchTrack = ⊥
 
 -- some of the first bytes of such a text were put
-abbrev pub PutsFrontOf : (List ℕ → Type 0) → Option (List ℕ) → Option (List ℕ) → Type 0
-PutsFrontOf IsText before after = (text : List ℕ) × IsText text × AppendsPrefix before after text
+abbrev pub PutsAFront : (List ℕ → Type 0) → Option (List ℕ) → Option (List ℕ) → Type 0
+PutsAFront IsText before after = (text : List ℕ) × IsText text × AppendsPrefix before after text
 
 -- Why such a text of the track with this ID is not put: the file is judged, and all memory is
 -- taken, before the first byte is put.
@@ -75,12 +75,12 @@ RefusesTrack honest file id IsText before after reads reads_after puts puts_afte
 RefusesTrack honest file id IsText before after reads reads_after puts puts_after
     refusals.StoreFailed =
     HasRisen reads reads_after
-    × (IsTrue honest → (after ≡ before) ⊎ PutsFrontOf IsText before after)
+    × (IsTrue honest → (after ≡ before) ⊎ PutsAFront IsText before after)
 RefusesTrack honest file id IsText before after reads reads_after puts puts_after
     refusals.StoreChanged = IsTrue honest → ⊥
 RefusesTrack honest file id IsText before after reads reads_after puts puts_after
     refusals.WriteFailed =
-    HasRisen puts puts_after × (IsTrue honest → PutsFrontOf IsText before after)
+    HasRisen puts puts_after × (IsTrue honest → PutsAFront IsText before after)
 RefusesTrack honest file id IsText before after reads reads_after puts puts_after
     refusals.NoSuchTrack = (IsTrue honest → LacksTrack file id) × (after ≡ before)
 

@@ -5,7 +5,7 @@ use Rattle.mp4_store.specs.words.Device.{HasRisen}
 use Rattle.mp4_boxes.specs.declared.refusal.Refusal.{Refusal}
 use Rattle.mp4_boxes.specs.declared.refusal.Refusal.TheVariants as refusals
 use Rattle.mp4_present.specs.format.Stands.{Stands}
-use Rattle.mp4norm.specs.words.Commands.{PutsFrontOf}
+use Rattle.mp4norm.specs.words.Commands.{PutsAFront}
 use Rattle.mp4norm.specs.format.Headline.{HasNormalForm, DenotesNothing}
 
 -- The file is judged and planned, and all memory is taken, before the first byte is put.
@@ -17,11 +17,11 @@ RefusesNormalise honest file before after reads reads_after puts puts_after refu
     ≡ before
 RefusesNormalise honest file before after reads reads_after puts puts_after refusals.StoreFailed =
     HasRisen reads reads_after
-    × (IsTrue honest → (after ≡ before) ⊎ PutsFrontOf (HasNormalForm file) before after)
+    × (IsTrue honest → (after ≡ before) ⊎ PutsAFront (HasNormalForm file) before after)
 RefusesNormalise honest file before after reads reads_after puts puts_after refusals.StoreChanged =
     IsTrue honest → ⊥
 RefusesNormalise honest file before after reads reads_after puts puts_after refusals.WriteFailed =
-    HasRisen puts puts_after × (IsTrue honest → PutsFrontOf (HasNormalForm file) before after)
+    HasRisen puts puts_after × (IsTrue honest → PutsAFront (HasNormalForm file) before after)
 RefusesNormalise honest file before after reads reads_after puts puts_after refusals.NoSuchTrack = ⊥
 
 -- the file has a normal form

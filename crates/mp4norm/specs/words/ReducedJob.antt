@@ -7,7 +7,7 @@ use Rattle.mp4_boxes.specs.declared.refusal.Refusal.TheVariants as refusals
 use Rattle.mp4_present.specs.format.Stands.{Stands}
 use Rattle.mp4_present.specs.declared.leaving.Leaving.{Leaving}
 use Rattle.mp4_plan.specs.format.ReducedTimes.{ReducedFaultStands}
-use Rattle.mp4norm.specs.words.Commands.{PutsFrontOf}
+use Rattle.mp4norm.specs.words.Commands.{PutsAFront}
 use Rattle.mp4norm.specs.format.Headline.{DenotesNothing}
 use Rattle.mp4norm.specs.format.ReducedHeadline.{HasReducedForm}
 
@@ -21,9 +21,9 @@ RefusesReduced l honest file before after reads reads_after puts puts_after refu
     ≡ before
 RefusesReduced l honest file before after reads reads_after puts puts_after refusals.StoreFailed =
     HasRisen reads reads_after
-    × (IsTrue honest → (after ≡ before) ⊎ PutsFrontOf (HasReducedForm l file) before after)
+    × (IsTrue honest → (after ≡ before) ⊎ PutsAFront (HasReducedForm l file) before after)
 RefusesReduced l honest file before after reads reads_after puts puts_after refusals.StoreChanged =
     IsTrue honest → ⊥
 RefusesReduced l honest file before after reads reads_after puts puts_after refusals.WriteFailed =
-    HasRisen puts puts_after × (IsTrue honest → PutsFrontOf (HasReducedForm l file) before after)
+    HasRisen puts puts_after × (IsTrue honest → PutsAFront (HasReducedForm l file) before after)
 RefusesReduced l honest file before after reads reads_after puts puts_after refusals.NoSuchTrack = ⊥

@@ -27,16 +27,16 @@ loop-stretch-preserved g c =
     let s = c.next_stretch.ensures in
     record {
       later = follows_on _ _ _ i.later s.later;
-      honesty = e.honesty ∙ i.honesty;
-      file = e.file ∙ i.file;
-      reads = e.reads ∙ i.reads;
-      puts = e.puts ∙ i.puts;
-      room = e.room ∙ i.room;
+      honesty = e.store.honesty ∙ i.honesty;
+      file = e.store.file ∙ i.file;
+      reads = e.store.reads ∙ i.reads;
+      puts = e.store.puts ∙ i.puts;
+      room = e.along.buffer ∙ i.room;
       few = (let few = i.few in omega (arith, few));
       many =
           let few = i.few in
           let fits = c.if-stretch-left.false in
-          GoOnBy-then _ _ _ _ (waiting c.loop-stretch.carrier) _ (c.args.load.bytes - c.loop-stretch.left.bytes) c.in-Some.stretch.len _ i.many e.many (omega (arith, few, fits));
+          GoOnBy-then _ _ _ _ (waiting c.loop-stretch.carrier) _ (c.args.load.bytes - c.loop-stretch.left.bytes) c.in-Some.stretch.len _ i.many e.along.many (omega (arith, few, fits));
       bytes = λ honest.
           carried_more _ _ _ _ _ _ _ _ _ _ _ _ _ c.in-Some.stretch.samples c.in-Some.stretch.at c.in-Some.stretch.len (i.bytes honest) c.in-Some.ensures.stretch c.in-Some.ensures.within c.in-Some.ensures.samples.2 c.in-Some.ensures.samples.1
           (search rules) refl refl c.in-Some.ensures.samples.3 ((rw (i.honesty, i.file) at e.bytes) honest);

@@ -104,7 +104,7 @@ returns-in_err-carry_boxes-clause-bytes g t c =
     let into : rule_inside c.args.rule c.in_ok-header.header.kind.0 ≡ Some c.in-Some.inner = search rules in
     let head = c.in_ok-carry_range.ensures in
     let first = rw (c.from-head.ensures, e.store.honesty ∙ i.honesty, e.store.file ∙ i.file) at head.bytes in
-    let x = rw (c.from-head.ensures, head.honesty ∙ e.store.honesty ∙ i.honesty, head.file ∙ e.store.file ∙ i.file) at c.in_err-carry_boxes.ensures.bytes in
+    let x = rw (c.from-head.ensures, head.store.honesty ∙ e.store.honesty ∙ i.honesty, head.store.file ∙ e.store.file ∙ i.file) at c.in_err-carry_boxes.ensures.bytes in
     rw p.1 (λ told text s. entered_fails c.args.names.now c.args.rule file c.args.end c.loop-at.at h w.0 w.2 some (read told) _ _ (waiting c.args.carrier.now) (waiting c.loop-at.carrier) text (i.goes told text s) c.in-Some.inner named into _ _ (waiting c.carry_range.new.self) (first told) (x told))
 
 pub returns-in_err-carry_boxes-clause-unchanged : goal.returns-in_err-carry_boxes-clause-unchanged
@@ -120,7 +120,7 @@ returns-in_err-carry_boxes-clause-unchanged g t c told text s =
     let named : is_named c.args.names.now c.args.rule c.in_ok-header.header.kind.0 ≡ false = search rules in
     let into : rule_inside c.args.rule c.in_ok-header.header.kind.0 ≡ Some c.in-Some.inner = search rules in
     let head = c.in_ok-carry_range.ensures in
-    let x = rw (c.from-head.ensures, head.honesty ∙ e.store.honesty ∙ i.honesty, head.file ∙ e.store.file ∙ i.file) at c.in_err-carry_boxes.ensures.unchanged in
+    let x = rw (c.from-head.ensures, head.store.honesty ∙ e.store.honesty ∙ i.honesty, head.store.file ∙ e.store.file ∙ i.file) at c.in_err-carry_boxes.ensures.unchanged in
     let y = entered_part c.args.names.now c.args.rule file c.args.end c.loop-at.at h w.0 w.2 some (read told) _ _ (waiting c.args.carrier.now) (waiting c.loop-at.carrier) text (i.goes told text s) c.in-Some.inner named into in
     rw (p.1, p.2) (x told y.0 y.2)
 
@@ -131,7 +131,7 @@ returns-in_err-carry_boxes-clause-refusal g t c =
     let file = g.S.Store.file c.args.store.now in
     let e = c.in_ok-header.ensures in
     let head = c.in_ok-carry_range.ensures in
-    rw (p.1, p.2) (rw (head.reads ∙ e.store.reads ∙ i.reads, head.puts ∙ i.puts) at c.in_err-carry_boxes.ensures.refusal)
+    rw (p.1, p.2) (rw (head.store.reads ∙ e.store.reads ∙ i.reads, head.store.puts ∙ i.puts) at c.in_err-carry_boxes.ensures.refusal)
 
 pub returns-in_err-carry_range-2-clause-bytes : goal.returns-in_err-carry_range-2-clause-bytes
 returns-in_err-carry_range-2-clause-bytes g t c =
@@ -196,13 +196,13 @@ loop-at-preserved-in_ok-carry_boxes g t c =
     let head = c.in_ok-carry_range.ensures in
     let j = c.in_ok-carry_boxes.ensures in
     let first = rw (c.from-head.ensures, e.store.honesty ∙ i.honesty, e.store.file ∙ i.file) at head.bytes in
-    let x = rw (c.from-head.ensures, head.honesty ∙ e.store.honesty ∙ i.honesty, head.file ∙ e.store.file ∙ i.file) at j.bytes in
+    let x = rw (c.from-head.ensures, head.store.honesty ∙ e.store.honesty ∙ i.honesty, head.store.file ∙ e.store.file ∙ i.file) at j.bytes in
     record {
       span = w.2;
-      honesty = j.store.honesty ∙ head.honesty ∙ e.store.honesty ∙ i.honesty;
-      file = j.store.file ∙ head.file ∙ e.store.file ∙ i.file;
-      reads = j.store.reads ∙ head.reads ∙ e.store.reads ∙ i.reads;
-      puts = j.puts ∙ head.puts ∙ i.puts;
+      honesty = j.store.honesty ∙ head.store.honesty ∙ e.store.honesty ∙ i.honesty;
+      file = j.store.file ∙ head.store.file ∙ e.store.file ∙ i.file;
+      reads = j.store.reads ∙ head.store.reads ∙ e.store.reads ∙ i.reads;
+      puts = j.puts ∙ head.store.puts ∙ i.puts;
       goes = λ told text s. copy_entered c.args.names.now c.args.rule file c.args.end c.loop-at.at h w.0 w.2 some (read told) _ _ (waiting c.args.carrier.now) (waiting c.loop-at.carrier) text (i.goes told text s) c.in-Some.inner named into _ _ (waiting c.carry_range.new.self)
           (waiting c.carry_boxes.new.carrier) (first told) (x told);
     }
@@ -222,10 +222,10 @@ loop-at-preserved g t c =
     let x = rw (e.store.honesty ∙ i.honesty, e.store.file ∙ i.file) at j.bytes in
     record {
       span = w.2;
-      honesty = j.honesty ∙ e.store.honesty ∙ i.honesty;
-      file = j.file ∙ e.store.file ∙ i.file;
-      reads = j.reads ∙ e.store.reads ∙ i.reads;
-      puts = j.puts ∙ i.puts;
+      honesty = j.store.honesty ∙ e.store.honesty ∙ i.honesty;
+      file = j.store.file ∙ e.store.file ∙ i.file;
+      reads = j.store.reads ∙ e.store.reads ∙ i.reads;
+      puts = j.store.puts ∙ i.puts;
       goes = λ told text s. copy_kept c.args.names.now c.args.rule file c.args.end c.loop-at.at h w.0 w.2 some (read told) _ _ (waiting c.args.carrier.now) (waiting c.loop-at.carrier) text (i.goes told text s) _ (waiting c.carry_range-in_default.new.self) named into (x told);
     }
 
@@ -249,7 +249,7 @@ carry_boxes-requires g t c κs within =
       omega arith,
       (
         within.0,
-        (within.1, (omega (arith, from, w.0), subst (λ (xs : List ℕ). h.end ≤ length xs) (sym (head.file ∙ e.store.file ∙ i.file)) (omega (arith, w.2, le)))),
+        (within.1, (omega (arith, from, w.0), subst (λ (xs : List ℕ). h.end ≤ length xs) (sym (head.store.file ∙ e.store.file ∙ i.file)) (omega (arith, w.2, le)))),
       ),
     )
 

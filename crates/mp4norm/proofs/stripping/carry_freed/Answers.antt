@@ -19,8 +19,8 @@ pub returns-clause-bytes : goal.returns-clause-bytes
 returns-clause-bytes g c = λ honest.
     let first = c.in_ok-carry_range.ensures in
     let file = g.S.Store.file c.args.store.now in
-    let all = (rw (first.honesty, first.file) at c.carry_range-2.ensures.bytes) in
-    let front = (rw (first.honesty, first.file) at c.carry_range-2.ensures.prefix) in
+    let all = (rw (first.store.honesty, first.store.file) at c.carry_range-2.ensures.bytes) in
+    let front = (rw (first.store.honesty, first.store.file) at c.carry_range-2.ensures.prefix) in
     match_both _ _ c.carry_range-2.result
     (on_ok _ _ c.carry_range-2.result (λ x. freed_goes file c.args.at c.args.end c.requires.some _ _ (waiting c.args.carrier.now) (waiting c.carry_range.new.self) (first.bytes honest) _ _ (waiting c.carry.new.self) c.in_ok-carry.ensures.bytes (waiting c.carry_range-2.new.self) (x honest)) all)
     (on_err _ _ c.carry_range-2.result (λ x. rest_fails file c.args.at c.args.end c.requires.some _ _ (waiting c.args.carrier.now) (waiting c.carry_range.new.self) (first.bytes honest) _ _ (waiting c.carry.new.self) c.in_ok-carry.ensures.bytes (x honest)) front)

@@ -1,0 +1,192 @@
+use Rattle.std.proofs.Common.{rules, ◌-◌, length, take, drop, refl, sym, ap, subst, ◌∙◌, arith}
+use Rattle.std.proofs.lemmas.List.{length-take, length-drop}
+use Rattle.std.proofs.lemmas.Result.{err_from_is_err_and}
+use Rattle.mp4_present.specs.words.Movies.{InHandOf}
+use Rattle.mp4_plan.specs.words.Gathering.{Planning, planned_of}
+use Rattle.mp4_plan.proofs.PieceFed.{hand_fed, hand_ended, hand_full, hand_noted, hand_joined, notes_new, joins_new, next_fed, none_fed, feeds_new}
+use Rattle.mp4_plan.proofs.PlannerSteps.{planned_counts}
+use Rattle.mp4_plan.specs.declared.planner.Planned.{Planned}
+use Rattle.mp4_present.proofs.WayThrough.{takes_none}
+use Rattle.mp4_plan.proofs.CourseSteps.{keeps_before, loads_before, most_before, fails_before}
+use Rattle.mp4_plan.proofs.WalksGone.{went_none, went_kept, went_loaded, went_ended}
+use Rattle.mp4_plan.proofs.track_pieces.note_piece.Goals as goal
+
+pub loop-planner-init : goal.loop-planner-init
+loop-planner-init g c = record {
+  walk = c.requires.walk;
+  room = refl;
+  honesty = refl;
+  file = refl;
+  reads = refl;
+  few = search rules;
+  rows = refl;
+  fed = λ told. feeds_new c.args.leaving (g.S.Store.file c.args.store.now) c.args.movie.now c.args.walk.now c.args.end c.new-planner.result c.new-planner.ensures;
+  noted = λ told. notes_new c.args.leaving (g.S.Store.file c.args.store.now) c.args.movie.now c.args.walk.now c.args.end c.new-planner.result c.args.rows.now c.new-planner.ensures;
+  joined = λ told. joins_new c.args.leaving (g.S.Store.file c.args.store.now) c.args.movie.now c.args.walk.now c.args.end c.new-planner.result c.args.stretches.now c.new-planner.ensures;
+  went = went_none c.args.movie.now c.args.walk.now c.args.steps.now;
+  takes = λ told tree t n o h. takes_none (g.S.Store.file c.args.store.now) tree t n c.args.steps.now c.args.walk.now h;
+}
+
+pub returns-in-Ended-clause-planned : goal.returns-in-Ended-clause-planned
+returns-in-Ended-clause-planned g c told tree t samples o h =
+    let i = c.loop-planner.invariant in
+    let file = g.S.Store.file c.args.store.now in
+    let fed = (rw c.in-Ended.is at c.note_hand-hand.ensures.fed).0 in
+    let r = hand_ended c.args.leaving file c.args.movie.now c.args.walk.now c.loop-planner.walk c.keep.new.self _ _ c.loop-planner.planner c.note_hand-hand.new.planner c.note_hand-hand.result.place (i.fed told) fed c.keep.ensures.place tree t samples o h in
+    (c.piece-in-Ended.ensures.is ∙ ap (λ (p : Planning). planned_of p.gathered) r.0, r.1)
+
+pub returns-then-not-branch-clause-planned : goal.returns-then-not-branch-clause-planned
+returns-then-not-branch-clause-planned g c told tree t samples o h =
+    let i = c.loop-planner.invariant in
+    let file = g.S.Store.file c.args.store.now in
+    let m = c.args.movie.now in
+    let place = c.note_hand-hand.result.place in
+    let planner = c.note_hand-hand.new.planner in
+    let fed = (rw c.in-Empty.is at c.note_hand-hand.ensures.fed).0 in
+    let on = hand_fed c.args.leaving file m c.args.walk.now c.loop-planner.walk c.keep.new.self _ _ c.loop-planner.planner planner place (i.fed told) fed c.keep.ensures.place in
+    let is_hand = subst (λ w. InHandOf m w fed.later) (sym c.keep.ensures.place) fed.is_later in
+    let l = c.in_ok-load-in-Empty.ensures in
+    let r = none_fed c.args.leaving file m c.args.walk.now c.keep.new.self c.load.new.self _ planner fed.later c.in_ok-load-in-Empty.field-0 on is_hand fed.taken.2 ((rw (i.honesty, i.file) at l.loaded) told) c.if-not-branch.true
+    ((rw (i.honesty, i.file) at l.ended) told) tree t samples o h in
+    (c.piece-then-not-branch.ensures.is ∙ ap (λ (p : Planning). planned_of p.gathered) r.0, r.1)
+
+pub loop-planner-preserved : goal.loop-planner-preserved
+loop-planner-preserved g c =
+    let i = c.loop-planner.invariant in
+    let l = c.in_ok-load-in-Empty.ensures in
+    record {
+      walk = l.walk.walk;
+      room = search rules;
+      honesty = l.store.honesty ∙ i.honesty;
+      file = l.store.file ∙ i.file;
+      reads = l.store.reads ∙ i.reads;
+      few = search rules;
+      rows = search rules;
+      fed = λ told.
+          let file = g.S.Store.file c.args.store.now in
+          let m = c.args.movie.now in
+          let place = c.note_hand-hand.result.place in
+          let planner = c.note_hand-hand.new.planner in
+          let fed = (rw c.in-Empty.is at c.note_hand-hand.ensures.fed).0 in
+          let on = hand_fed c.args.leaving file m c.args.walk.now c.loop-planner.walk c.keep.new.self _ _ c.loop-planner.planner planner place (i.fed told) fed c.keep.ensures.place in
+          let is_hand = subst (λ w. InHandOf m w fed.later) (sym c.keep.ensures.place) fed.is_later in
+          next_fed c.args.leaving file m c.args.walk.now c.keep.new.self c.load.new.self _ planner fed.later c.in_ok-load-in-Empty.field-0 on is_hand fed.taken.2 ((rw (i.honesty, i.file) at l.loaded) told) (search rules);
+      noted = λ told. (let rows = c.loop-planner.rows in
+          let counted = ap (λ (p : Planned). p.count) c.piece.ensures.is ∙ planned_counts c.loop-planner.planner.gathered in
+          hand_noted c.args.leaving (g.S.Store.file c.args.store.now) c.args.movie.now c.args.walk.now c.loop-planner.walk _ c.piece.result.count _ c.loop-planner.planner c.note_hand-hand.new.planner c.note_hand-hand.result.stop c.note_hand-hand.result.place rows c.note_hand-hand.new.rows _ _ _
+          (i.fed told)
+          (i.noted told) c.note_hand-hand.ensures.fed counted (search rules));
+      joined = λ told. hand_joined c.args.leaving (g.S.Store.file c.args.store.now) c.args.movie.now c.args.walk.now c.loop-planner.walk _ _ c.loop-planner.planner c.note_hand-hand.new.planner c.note_hand-hand.result.stop c.note_hand-hand.result.place _ c.args.stretches.now _ _ (i.fed told)
+          (i.joined told)
+          c.note_hand-hand.ensures.fed;
+      went =
+          let m = c.args.movie.now in
+          let more = l.answer.next (search rules) in
+          went_loaded m c.args.walk.now c.keep.new.self _ _ (went_kept m c.args.walk.now c.loop-planner.walk _ _ i.went c.note_hand-hand.result.place c.keep.new.self _ c.keep.ensures.place c.keep.ensures.work) c.load.new.self _ l.walk.mark l.grows more.0 (l.answer.holds (search rules));
+      takes = λ told.
+          let file = g.S.Store.file c.args.store.now in
+          let m = c.args.movie.now in
+          let kept = keeps_before file m c.args.walk.now c.loop-planner.walk _ _ (i.takes told) c.note_hand-hand.result.place c.keep.new.self _ c.note_hand-hand.ensures.keeps c.keep.ensures.place c.keep.ensures.work in
+          loads_before file m c.args.walk.now c.keep.new.self _ _ kept c.load.new.self _ ((rw (i.honesty, i.file) at l.work) told);
+    }
+
+pub returns-in_err-load-in-Empty-clause-unchanged : goal.returns-in_err-load-in-Empty-clause-unchanged
+returns-in_err-load-in-Empty-clause-unchanged g c told tree t samples o h few =
+    let p = err_from_is_err_and c.from_residual.result c.from_residual.ensures.1 in
+    let i = c.loop-planner.invariant in
+    let fed = (rw c.in-Empty.is at c.note_hand-hand.ensures.fed).0 in
+    let on = hand_fed c.args.leaving (g.S.Store.file c.args.store.now) c.args.movie.now c.args.walk.now c.loop-planner.walk c.keep.new.self _ _ c.loop-planner.planner c.note_hand-hand.new.planner c.note_hand-hand.result.place (i.fed told) fed c.keep.ensures.place in
+    let k = (on tree t samples o h).comes.comes in
+    rw (p.1, p.2) ((rw (i.honesty, i.file) at c.in_err-load-in-Empty.ensures.loaded) told tree t k.0 k.1 o k.3.0)
+
+pub returns-in-Full-clause-unchanged : goal.returns-in-Full-clause-unchanged
+returns-in-Full-clause-unchanged g c told tree t samples o h few =
+    let i = c.loop-planner.invariant in
+    let file = g.S.Store.file c.args.store.now in
+    let fed = (rw c.in-Full.is at c.note_hand-hand.ensures.fed).0 in
+    let rows = c.loop-planner.rows in
+    let n = c.piece.result.count in
+    let counted = ap (λ (p : Planned). p.count) c.piece.ensures.is ∙ planned_counts c.loop-planner.planner.gathered in
+    let full = hand_full c.args.leaving file c.args.movie.now c.args.walk.now c.loop-planner.walk (length (take (length rows - n) (drop n rows))) _ c.loop-planner.planner c.note_hand-hand.new.planner c.note_hand-hand.result.place (i.fed told) fed tree t samples o h in
+    let within = i.few in
+    let as_many = i.rows in
+    λ e. absurd (omega (arith, full, few, within, as_many, counted, length-take (length rows - n) (drop n rows), length-drop n rows))
+
+pub returns-in-Ended-clause-noted : goal.returns-in-Ended-clause-noted
+returns-in-Ended-clause-noted g c told tree t samples o h = record {
+  seen = (
+      let i = c.loop-planner.invariant in
+      let counted = ap (λ (p : Planned). p.count) c.piece.ensures.is ∙ planned_counts c.loop-planner.planner.gathered in
+      let counted_now = ap (λ (p : Planned). p.count) c.piece-in-Ended.ensures.is ∙ planned_counts c.note_hand-hand.new.planner.gathered in
+      let on = hand_noted c.args.leaving (g.S.Store.file c.args.store.now)
+      c.args.movie.now c.args.walk.now c.loop-planner.walk _ c.piece.result.count _ c.loop-planner.planner c.note_hand-hand.new.planner c.note_hand-hand.result.stop c.note_hand-hand.result.place c.loop-planner.rows c.note_hand-hand.new.rows _ _ _
+      (i.fed told) (i.noted told) c.note_hand-hand.ensures.fed counted (search rules) in
+      rw counted_now (on tree t samples o h));
+  joined = (
+      let i = c.loop-planner.invariant in
+      let counted_now = ap (λ (p : Planned). p.count) c.piece-in-Ended.ensures.is ∙ planned_counts c.note_hand-hand.new.planner.gathered in
+      let on = hand_joined c.args.leaving (g.S.Store.file c.args.store.now) c.args.movie.now c.args.walk.now c.loop-planner.walk _ _ c.loop-planner.planner c.note_hand-hand.new.planner c.note_hand-hand.result.stop c.note_hand-hand.result.place _
+      c.args.stretches.now _ _ (i.fed told) (i.joined told)
+      c.note_hand-hand.ensures.fed in
+      rw counted_now (on tree t samples o h));
+}
+
+pub returns-then-not-branch-clause-noted : goal.returns-then-not-branch-clause-noted
+returns-then-not-branch-clause-noted g c told tree t samples o h = record {
+  seen = (
+      let i = c.loop-planner.invariant in
+      let counted = ap (λ (p : Planned). p.count) c.piece.ensures.is ∙ planned_counts c.loop-planner.planner.gathered in
+      let counted_now = ap (λ (p : Planned). p.count) c.piece-then-not-branch.ensures.is ∙ planned_counts c.note_hand-hand.new.planner.gathered in
+      let on = hand_noted c.args.leaving (g.S.Store.file c.args.store.now)
+      c.args.movie.now c.args.walk.now c.loop-planner.walk _ c.piece.result.count _ c.loop-planner.planner c.note_hand-hand.new.planner c.note_hand-hand.result.stop c.note_hand-hand.result.place c.loop-planner.rows c.note_hand-hand.new.rows _ _ _
+      (i.fed told) (i.noted told) c.note_hand-hand.ensures.fed counted (search rules) in
+      rw counted_now (on tree t samples o h));
+  joined = (
+      let i = c.loop-planner.invariant in
+      let counted_now = ap (λ (p : Planned). p.count) c.piece-then-not-branch.ensures.is ∙ planned_counts c.note_hand-hand.new.planner.gathered in
+      let on = hand_joined c.args.leaving (g.S.Store.file c.args.store.now) c.args.movie.now c.args.walk.now c.loop-planner.walk _ _ c.loop-planner.planner c.note_hand-hand.new.planner c.note_hand-hand.result.stop c.note_hand-hand.result.place _
+      c.args.stretches.now _ _ (i.fed told) (i.joined told)
+      c.note_hand-hand.ensures.fed in
+      rw counted_now (on tree t samples o h));
+}
+
+pub returns-in-Ended-clause-work : goal.returns-in-Ended-clause-work
+returns-in-Ended-clause-work g c told tree t n o h =
+    let i = c.loop-planner.invariant in
+    let file = g.S.Store.file c.args.store.now in
+    let m = c.args.movie.now in
+    keeps_before file m c.args.walk.now c.loop-planner.walk _ _ (i.takes told) c.note_hand-hand.result.place c.keep.new.self _ c.note_hand-hand.ensures.keeps c.keep.ensures.place c.keep.ensures.work tree t n o h
+
+pub returns-then-not-branch-clause-work : goal.returns-then-not-branch-clause-work
+returns-then-not-branch-clause-work g c told tree t n o h =
+    let i = c.loop-planner.invariant in
+    let file = g.S.Store.file c.args.store.now in
+    let m = c.args.movie.now in
+    let kept = keeps_before file m c.args.walk.now c.loop-planner.walk _ _ (i.takes told) c.note_hand-hand.result.place c.keep.new.self _ c.note_hand-hand.ensures.keeps c.keep.ensures.place c.keep.ensures.work in
+    loads_before file m c.args.walk.now c.keep.new.self _ _ kept c.load.new.self _ ((rw (i.honesty, i.file) at c.in_ok-load-in-Empty.ensures.work) told) tree t n o h
+
+pub returns-in-Full-clause-work : goal.returns-in-Full-clause-work
+returns-in-Full-clause-work g c told tree t n o h =
+    let i = c.loop-planner.invariant in
+    let file = g.S.Store.file c.args.store.now in
+    let m = c.args.movie.now in
+    let kept = keeps_before file m c.args.walk.now c.loop-planner.walk _ _ (i.takes told) c.note_hand-hand.result.place c.keep.new.self _ c.note_hand-hand.ensures.keeps c.keep.ensures.place c.keep.ensures.work in
+    most_before file m c.args.walk.now c.keep.new.self _ _ kept tree t n o h
+
+pub returns-in_err-load-in-Empty-clause-work : goal.returns-in_err-load-in-Empty-clause-work
+returns-in_err-load-in-Empty-clause-work g c told tree t n o h =
+    let p = err_from_is_err_and c.from_residual.result c.from_residual.ensures.1 in
+    let i = c.loop-planner.invariant in
+    let file = g.S.Store.file c.args.store.now in
+    let m = c.args.movie.now in
+    let kept = keeps_before file m c.args.walk.now c.loop-planner.walk _ _ (i.takes told) c.note_hand-hand.result.place c.keep.new.self _ c.note_hand-hand.ensures.keeps c.keep.ensures.place c.keep.ensures.work in
+    rw p.1 (fails_before file m c.args.walk.now c.keep.new.self _ _ kept _ ((rw (i.honesty, i.file) at c.in_err-load-in-Empty.ensures.work) told) tree t n o h)
+
+pub returns-in-Ended-clause-went : goal.returns-in-Ended-clause-went
+returns-in-Ended-clause-went g c = went_kept c.args.movie.now c.args.walk.now c.loop-planner.walk _ _ c.loop-planner.invariant.went c.note_hand-hand.result.place c.keep.new.self _ c.keep.ensures.place c.keep.ensures.work
+
+pub returns-then-not-branch-clause-went : goal.returns-then-not-branch-clause-went
+returns-then-not-branch-clause-went g c =
+    let m = c.args.movie.now in
+    let l = c.in_ok-load-in-Empty.ensures in
+    went_ended m c.args.walk.now c.keep.new.self _ _ (went_kept m c.args.walk.now c.loop-planner.walk _ _ c.loop-planner.invariant.went c.note_hand-hand.result.place c.keep.new.self _ c.keep.ensures.place c.keep.ensures.work) c.load.new.self _ (l.answer.still (search rules)) l.grows
