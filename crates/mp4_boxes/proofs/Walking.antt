@@ -6,7 +6,7 @@ use Rattle.mp4_boxes.specs.format.Box.{Tiles, to_end_of_box}
 use Rattle.mp4_boxes.specs.format.BoxFaults.{IsHeaderFault, located, header_there, type_of, unreadable}
 use Rattle.mp4_boxes.specs.declared.fault.Fault.{Fault}
 use Rattle.mp4_boxes.specs.declared.fault.Kind.{Kind}
-use Rattle.mp4_boxes.proofs.Tiling.{header_is, header_kind, box_size, first_fits, lies_push, sizes-append, sizes-cons, sizes_fit}
+use Rattle.mp4_boxes.proofs.Tiling.{header_is, box_size, first_fits, lies_push, sizes-append, sizes-cons, sizes_fit}
 
 -- Boxes lie end to end from the front of the bytes up to a place of them; so many were passed.
 pub record Passed (base : ℕ) (bytes : List ℕ) (count at : ℕ) : Type 0 where
