@@ -1,8 +1,8 @@
 //! Boxes: their headers, how they lie in a container, which of them may stand where, and the
 //! faults of a file (ISO/IEC 14496-12, 4.2, 6.2.2 and the syntax of each box in clause 8).
 //!
-//! - [`top_header`] reads the header of a box of the file itself, 8 or 16 bytes, [`box_header`] that
-//!   of a box in any container; [`BoxView`] is a box with its payload in memory, borrowed.
+//! - [`top_header`] reads the header of a box of the file itself, 8 or 16 bytes, [`box_header`] one
+//!   in any container; [`BoxView`] is a box with its payload in memory, borrowed.
 //! - [`children`] lists the boxes in a payload where they lie end to end; [`check_children`] also
 //!   asks whether each may stand there, and how often ([`Rule`] is the table of containers).
 //! - [`full`] and [`front`] read version and flags, [`u32_at`] and its kin the numbers behind them.
