@@ -14,7 +14,6 @@ use Rattle.mp4_frag.specs.format.Fragments.{FragmentTree}
 use Rattle.mp4_frag.specs.format.FragmentRows.{fragment_rows, fragment_length, moof_says}
 use Rattle.mp4_head.specs.format.Tree.{TrackTree}
 use Rattle.mp4_present.specs.format.Denotes.{FileTree, plain_of}
-use Rattle.mp4_present.specs.format.Denotes.{HasMovie}
 use Rattle.mp4_present.specs.words.SamplesComing.{StandsBefore}
 use Rattle.mp4_present.specs.words.Movies.{moof_box}
 use Rattle.mp4_present.specs.declared.walks.Walk.{Walk}
