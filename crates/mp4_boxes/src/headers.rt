@@ -82,6 +82,7 @@ pub fn box_header(
     requires there { min left 16 ≤ length bytes.now }
     ensures header { IfOk result (λ h. header_there is_open left bytes.now container.0 at
         ≡ Ok (top_header_seen at h)) }
+    ensures long { IfOk result (λ h. 8 ≤ h.header) }
     ensures within { IfOk result (λ h. (at + h.header ≤ h.end) × (h.end ≤ at + left)) }
     ensures fault { IfErr result (λ f. header_there is_open left bytes.now container.0 at ≡ Err f) }
 {
