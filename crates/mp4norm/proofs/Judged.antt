@@ -1,13 +1,13 @@
 -- Why a file is not accepted.
 use Rattle.std.proofs.Common.{◌≡◌, inl, ℕ, List, None, refl, sym, subst}
-use Rattle.std.specs.Prelude.{Bool, true, IsTrue, Result, Ok, Err, IfOk, IfErr}
+use Rattle.std.specs.Prelude.{Bool, IsTrue}
 use Rattle.mp4_boxes.specs.declared.refusal.Refusal.{Refusal}
 use Rattle.mp4_boxes.specs.declared.refusal.Refusal.TheVariants as refusals
 use Rattle.mp4_present.specs.format.Denotes.{FileTree}
 use Rattle.mp4_present.specs.words.Movies.{MovieSeen}
 use Rattle.mp4_present.specs.words.OpenedMovie.{IsOpenedAs}
 use Rattle.mp4_plan.specs.words.Writers.{RefusesPlan}
-use Rattle.mp4norm.specs.words.MainJob.{Judges, MayBeNormalised, RefusesNormalise}
+use Rattle.mp4norm.specs.words.MainJob.{RefusesNormalise}
 
 plan_refused : (honest : Bool) (file : List ℕ) (reads reads_after : ℕ) (r : Refusal) → RefusesPlan reads reads_after r
     → (IsTrue honest → r ≡ refusals.StoreChanged → ⊥) → RefusesNormalise honest file None None reads reads_after 0 0 r
@@ -27,8 +27,3 @@ plan_refuses honest honest_then file file_then m same_honesty same_file opened r
     plan_refused honest file reads reads_after r w
     (λ told. u (subst (λ (b : Bool). IsTrue b) (sym same_honesty) told) (opened told).0
     (subst (λ (f : List ℕ). IsOpenedAs f m (opened told).0) (sym same_file) (opened told).1))
-
--- bytes at hand are judged
-pub judges_bytes : {T : Type 0} (bytes : List ℕ) (answer : Result T Refusal) → IsTrue true → IfOk answer (λ x. IsTrue true → MayBeNormalised bytes) → IfErr answer (RefusesNormalise true bytes None None 0 0 0 0) → Judges bytes answer
-judges_bytes bytes (Ok x) told a w = a told
-judges_bytes bytes (Err r) told a w = w

@@ -1,5 +1,6 @@
 //! Many files, judged one after the other.
 use crate::input::read_input;
+use crate::judging::check;
 use crate::reports::Report;
 use crate::sources::{MOST_INPUT, open};
 use crate::verdicts::{first_name, put_verdict, verdict_status};
@@ -10,7 +11,8 @@ use std::fs::File;
 
 // Judges what is read.
 fn answer_of(rt: &HostRuntime, input: Input) -> Result<(), Refusal> {
-    open(rt, input, &mut Report::new(Telling::NOTHING))?.judge(rt.alloc())
+    let mut source = open(rt, input, &mut Report::new(Telling::NOTHING))?;
+    check(rt.alloc(), &mut source)
 }
 
 // Judges a file of a list. The system's names are text.

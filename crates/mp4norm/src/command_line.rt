@@ -95,40 +95,6 @@ fn form_of(found: &ArgMatches) -> Form {
     }
 }
 
-// What is to be done; nothing where a word is missing.
-fn job_of(name: &str, found: &ArgMatches) -> Option<Job<'static>>
-    ensures { IfSome result IsJob }
-{
-    match name {
-        "boxes" => Some(Job::Boxes),
-        "show" => Some(Job::Show),
-        "samples" => {
-            let track = track_of(found)?;
-            let form = form_of(found);
-            Some(Job::Samples { track, form })
-        }
-        "extract" => {
-            let track = track_of(found)?;
-            Some(Job::Extract { track })
-        }
-        "normalise" => Some(Job::Normalise),
-        _ => None,
-    }
-}
-
-// What the words of a command ask for; nothing where a word is missing.
-fn asked<'a>(matches: &ArgMatches<'a>) -> Option<Action<'a>>
-    ensures { IfSome result IsAction }
-{
-    let (name, found) = matches.subcommand()?;
-    Some(Action::Run {
-        job: job_of(name, found)?,
-        input: input_of(found.get_str("file")?),
-        target: target_of(found),
-        telling: telling_of(found),
-    })
-}
-
 // Which files are to be judged.
 fn check_asked<'a>(alloc: Global, found: &ArgMatches<'a>) -> Result<Action<'a>, AllocError>
     ensures { IfOk result IsAction }
@@ -150,13 +116,17 @@ fn drop_fault(alloc: Global, list: &str) -> CommandFault {
     }
 }
 
+// A word is missing. clap has seen that none is.
+fn missing(alloc: Global) -> CommandFault {
+    CommandFault::Usage(String::new(alloc))
+}
+
 // Which boxes of which file are to be free space.
 fn strip_asked<'a>(alloc: Global, found: &ArgMatches<'a>) -> Result<Action<'a>, CommandFault>
     ensures { IfOk result IsAction }
 {
     let (Some(file), Some(list)) = (found.get_str("file"), found.get_str("drop")) else {
-        // clap has seen that no word is missing.
-        return Err(CommandFault::Usage(String::new(alloc)));
+        return Err(missing(alloc));
     };
     let Some(names) = names_of(alloc, list)? else {
         return Err(drop_fault(alloc, list));
@@ -187,34 +157,59 @@ fn listed_out(alloc: Global, list: &str) -> Result<Leaving, CommandFault> {
     }
 }
 
-// Which file's normal form is asked for, and what is left out of it.
-fn reduced_asked<'a>(
-    alloc: Global,
-    found: &ArgMatches<'a>,
-    list: &str,
-) -> Result<Action<'a>, CommandFault>
-    ensures { IfOk result IsAction }
-{
-    let Some(file) = found.get_str("file") else {
-        // clap has seen that no word is missing.
-        return Err(CommandFault::Usage(String::new(alloc)));
-    };
-    Ok(Action::Run {
-        job: Job::Reduce {
-            leaving: listed_out(alloc, list)?,
-        },
-        input: input_of(file),
-        target: target_of(found),
-        telling: telling_of(found),
-    })
-}
-
 // What is left out; nothing where no words are given.
 fn left_out(alloc: Global, found: &ArgMatches) -> Result<Leaving, CommandFault> {
     match found.get_str("without") {
         Some(list) => listed_out(alloc, list),
         None => Ok(Leaving::NOTHING),
     }
+}
+
+// What is to be done; nothing where a word is missing.
+fn job_of(
+    alloc: Global,
+    name: &str,
+    found: &ArgMatches,
+) -> Result<Option<Job<'static>>, CommandFault>
+    ensures { IfOk result (λ job. IfSome job IsJob) }
+{
+    let job = match (name, track_of(found)) {
+        ("boxes", _) => Job::Boxes,
+        ("show", _) => Job::Show,
+        ("samples", Some(track)) => {
+            let form = form_of(found);
+            Job::Samples { track, form }
+        }
+        ("extract", Some(track)) => Job::Extract { track },
+        ("normalise", _) => match found.get_str("without") {
+            Some(list) => {
+                let leaving = listed_out(alloc, list)?;
+                Job::Reduce { leaving }
+            }
+            None => Job::Normalise,
+        },
+        _ => return Ok(None),
+    };
+    Ok(Some(job))
+}
+
+// Which job is asked for, over which file.
+fn run_asked<'a>(
+    alloc: Global,
+    name: &str,
+    found: &ArgMatches<'a>,
+) -> Result<Action<'a>, CommandFault>
+    ensures { IfOk result IsAction }
+{
+    let (Some(job), Some(file)) = (job_of(alloc, name, found)?, found.get_str("file")) else {
+        return Err(missing(alloc));
+    };
+    Ok(Action::Run {
+        job,
+        input: input_of(file),
+        target: target_of(found),
+        telling: telling_of(found),
+    })
 }
 
 // How differences are to be told of.
@@ -231,8 +226,7 @@ fn compare_asked<'a>(alloc: Global, found: &ArgMatches<'a>) -> Result<Action<'a>
     ensures { IfOk result IsAction }
 {
     let (Some(left), Some(right)) = (found.get_str("left"), found.get_str("right")) else {
-        // clap has seen that no word is missing.
-        return Err(CommandFault::Usage(String::new(alloc)));
+        return Err(missing(alloc));
     };
     Ok(Action::Compare {
         left: input_of(left),
@@ -287,24 +281,14 @@ fn of_matches<'a>(alloc: Global, matches: &ArgMatches<'a>) -> Result<Action<'a>,
     if let Some(text) = odds_of(matches) {
         return Err(CommandFault::Usage(String::from_str(alloc, text)?));
     }
-    if let Some(found) = matches.subcommand_matches("check") {
-        return Ok(check_asked(alloc, found)?);
-    }
-    if let Some(found) = matches.subcommand_matches("strip") {
-        return strip_asked(alloc, found);
-    }
-    if let Some(found) = matches.subcommand_matches("compare") {
-        return compare_asked(alloc, found);
-    }
-    if let Some(found) = matches.subcommand_matches("normalise") {
-        if let Some(list) = found.get_str("without") {
-            return reduced_asked(alloc, found, list);
-        }
-    }
-    match asked(matches) {
-        Some(action) => Ok(action),
-        // clap has seen that no word is missing.
-        None => Err(CommandFault::Usage(String::new(alloc))),
+    let Some((name, found)) = matches.subcommand() else {
+        return Err(missing(alloc));
+    };
+    match name {
+        "check" => Ok(check_asked(alloc, found)?),
+        "strip" => strip_asked(alloc, found),
+        "compare" => compare_asked(alloc, found),
+        name => run_asked(alloc, name, found),
     }
 }
 

@@ -3,85 +3,17 @@ use crate::checking::shown_name;
 use crate::comparing::{Failure, Listing, Side, compare_files};
 use crate::fault_text::{fault_line, status};
 use crate::reports::Report;
-use crate::sources::{Source, open};
+use crate::sources::open;
 use crate::wanted::{Input, Telling};
 use mp4_boxes::{Refusal, Steps};
 use mp4_present::Leaving;
-use mp4_store::{IoSink, MemStore, Store};
-use std::alloc::Global;
-use std::io::{Stdout, Write};
+use mp4_store::IoSink;
+use std::io::Write;
 use std::process::ExitCode;
 use std::sync::ledger::Ledger;
 
 /// The status where two files differ.
 const DIFFER: u8 = 5;
-
-// Compares a store with what is read.
-fn compare_with<S: Store, L: Ledger, M: Ledger>(
-    alloc: Global,
-    left: &mut S,
-    right: &mut Source,
-    leaving: Leaving,
-    listing: Listing,
-    output: Stdout,
-    steps: &mut Steps<L>,
-    looks: &mut Steps<M>,
-) -> Result<bool, Failure> {
-    let mut sink = IoSink::new(output);
-    match right {
-        Source::File(store, _) => {
-            compare_files(
-                alloc, left, store, leaving, listing, &mut sink, steps, looks,
-            )
-        }
-        Source::Input(bytes) => {
-            let mut store = MemStore::new(bytes.as_slice());
-            compare_files(
-                alloc, left, &mut store, leaving, listing, &mut sink, steps, looks,
-            )
-        }
-    }
-}
-
-// Compares what is read.
-fn compare_sources<L: Ledger, M: Ledger>(
-    rt: &HostRuntime,
-    left: &mut Source,
-    right: &mut Source,
-    leaving: Leaving,
-    listing: Listing,
-    steps: &mut Steps<L>,
-    looks: &mut Steps<M>,
-) -> Result<bool, Failure> {
-    let output = rt.stdout();
-    match left {
-        Source::File(store, _) => {
-            compare_with(
-                rt.alloc(),
-                store,
-                right,
-                leaving,
-                listing,
-                output,
-                steps,
-                looks,
-            )
-        }
-        Source::Input(bytes) => {
-            let mut store = MemStore::new(bytes.as_slice());
-            compare_with(
-                rt.alloc(),
-                &mut store,
-                right,
-                leaving,
-                listing,
-                output,
-                steps,
-                looks,
-            )
-        }
-    }
-}
 
 // What comes of a step over the file of this side.
 fn on_side<R>(step: Result<R, Refusal>, side: Side) -> Result<R, Failure> {
@@ -104,7 +36,9 @@ fn answer<L: Ledger, M: Ledger>(
     let mut report = Report::new(Telling::NOTHING);
     let mut first = on_side(open(rt, left, &mut report), Side::First)?;
     let mut second = on_side(open(rt, right, &mut report), Side::Second)?;
-    let same = compare_sources(rt, &mut first, &mut second, leaving, listing, steps, looks)?;
+    let mut sink = IoSink::new(rt.stdout());
+    let (a, b) = (&mut first, &mut second);
+    let same = compare_files(rt.alloc(), a, b, leaving, listing, &mut sink, steps, looks)?;
     on_side(first.stays(), Side::First)?;
     on_side(second.stays(), Side::Second)?;
     Ok(same)

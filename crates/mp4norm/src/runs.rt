@@ -1,9 +1,12 @@
 //! A command from what is read to where its answer goes.
+use crate::explaining::explain;
 use crate::replacing::replace;
 use crate::reports::Report;
 use crate::sources::{Source, open};
 use crate::strip_lines::{WARNING, count_line, names_encryption};
+use crate::stripping::count_named;
 use crate::targets::{Out, make, write};
+use crate::text_lengths::text_len;
 use crate::wanted::{Input, Job, Target, Telling};
 use mp4_boxes::{Refusal, Steps};
 use mp4_store::IoSink;
@@ -61,7 +64,7 @@ fn answer<L: Ledger, M: Ledger>(
     if names_encryption(names) {
         let _ = errors.write_all(WARNING);
     }
-    let counts = source.count_named(rt.alloc(), names)?;
+    let counts = count_named(rt.alloc(), source, names)?;
     write_to(rt, job, source, target, steps, looks, report)?;
     report.end();
     for (name, count) in names.iter().zip(counts.iter()) {
@@ -85,7 +88,7 @@ fn open_and_answer<'a, L: Ledger, M: Ledger>(
     let mut source = open(rt, input, report)?;
     if telling.progress {
         // Where this fails, so does the job, which says why.
-        if let Ok(total) = source.text_len(rt.alloc(), job, steps, looks) {
+        if let Ok(total) = text_len(rt.alloc(), job, &mut source, steps, looks) {
             report.begin(rt, total);
         }
     }
@@ -94,7 +97,7 @@ fn open_and_answer<'a, L: Ledger, M: Ledger>(
     if let Err(Refusal::Fault(fault)) = &answer {
         if telling.explain {
             let mut errors = IoSink::new(rt.stderr());
-            let _ = source.explain(rt.alloc(), fault, &mut errors, steps, looks);
+            let _ = explain(rt.alloc(), fault, &mut source, &mut errors, steps, looks);
         }
     }
     answer

@@ -1,4 +1,5 @@
 //! Where the answer goes.
+use crate::jobs::perform;
 use crate::reports::{Noted, Report};
 use crate::sources::Source;
 use crate::wanted::Job;
@@ -74,7 +75,7 @@ pub(crate) fn write<L: Ledger, M: Ledger>(
     report: &mut Report,
 ) -> Result<(), Refusal> {
     let noted = Noted { out, report };
-    source.perform(alloc, job, &mut IoSink::new(noted), steps, looks)?;
+    perform(alloc, job, source, &mut IoSink::new(noted), steps, looks)?;
     if answers_for_all(job) {
         source.stays()?;
     }

@@ -1,6 +1,6 @@
 -- Why a file is not normalised. `before` and `after` are what the sink holds, the numbers are
 -- counts of failed reads and of failed puts.
-use Rattle.std.specs.Prelude.{◌≡◌, ◌⊎◌, ℕ, List, Option, None, Bool, true, IsTrue, Result, MatchResult}
+use Rattle.std.specs.Prelude.{◌≡◌, ◌⊎◌, ℕ, List, Option, None, Bool, IsTrue}
 use Rattle.mp4_store.specs.words.Device.{HasRisen}
 use Rattle.mp4_boxes.specs.declared.refusal.Refusal.{Refusal}
 use Rattle.mp4_boxes.specs.declared.refusal.Refusal.TheVariants as refusals
@@ -32,8 +32,3 @@ MayBeNormalised file = (bytes : List ℕ) × HasNormalForm file bytes
 abbrev pub RefusesCheck : Bool → List ℕ → ℕ → ℕ → Refusal → Type 0
 RefusesCheck honest file reads reads_after r =
     RefusesNormalise honest file None None reads reads_after 0 0 r
-
--- bytes at hand are judged: they have a normal form, or are refused for such a reason
-abbrev pub Judges : {T : Type 0} → List ℕ → Result T Refusal → Type 0
-Judges bytes result =
-    MatchResult result (λ _. MayBeNormalised bytes) (RefusesNormalise true bytes None None 0 0 0 0)

@@ -1,5 +1,5 @@
 -- What a command does, said of a store and of a sink. `S` and `K` are what bounds say of them.
-use Rattle.std.specs.Prelude.{◌≡◌, ℕ, ◌<◌, Bool, true, List, Option, Some, Result, MatchResult, IsTrue, OnOk, IfErr, IfSome}
+use Rattle.std.specs.Prelude.{◌≡◌, ℕ, ◌<◌, Bool, List, Option, Some, Result, MatchResult, IsTrue, OnOk, IfErr, IfSome}
 use Rattle.std.specs.Io.KnownBytes.{Appends}
 use Rattle.std.specs.declared.sync.ledger.Blank.{Blank}
 use Rattle.std.specs.declared.sync.ledger.Ledger.{Ghosts as Ledger}
@@ -52,16 +52,6 @@ pub record Answers {X Y T : Type 0} (S : Store X) (from from_after : X) (K : Sin
   pub puts : NoPutFails K to to_after result
   pub written : PutsTextOf S from K to to_after result IsText
   pub refusal : Refuses S from from_after K to to_after result why
-
--- the same of bytes at hand, of which no read fails
-pub record AnswersBytes {Y T : Type 0} (bytes : List ℕ) (K : Sink Y) (to to_after : Y)
-    (result : Result T Refusal) (IsText : List ℕ → List ℕ → Type 0)
-    (why : Bool → List ℕ → Option (List ℕ) → Option (List ℕ) → ℕ → ℕ → ℕ → ℕ → Refusal → Type 0)
-    : Type 0 where
-  pub written : OnOk result ((text : List ℕ) × IsText bytes text
-      × Appends (K.contents to) (K.contents to_after) text)
-  pub refusal : IfErr result (why true bytes (K.contents to) (K.contents to_after) 0 0
-      (K.put_failures to) (K.put_failures to_after))
 
 -- where the sink tells what it holds, this is true of its bytes before and after
 abbrev pub WhereTold : {Y : Type 0} → Sink Y → Y → Y → (List ℕ → List ℕ → Type 0) → Type 0
