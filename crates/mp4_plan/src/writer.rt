@@ -26,7 +26,7 @@ ghost use Rattle.mp4_present.specs.declared.walks.Walk.{Walk};
 ghost use Rattle.mp4_plan.specs.words.Gathering.{more_of, piece_from};
 ghost use Rattle.mp4_present.specs.words.Movies.{RefusesLoad};
 ghost use Rattle.mp4_present.specs.words.OverCarriers.{Carries, OnlyCopies};
-ghost use Rattle.mp4_plan.specs.words.Writers.{RefusesPlan, IsWriterOf, turn_head, sequence_behind, IsReady, bytes_of_piece, turn_bytes, HasNoted, HaveCopied};
+ghost use Rattle.mp4_plan.specs.words.Writers.{RefusesPlan, IsWriterOf, turn_head, sequence_behind, IsReady, turn_bytes, HasNoted, HaveCopied};
 ghost use Rattle.mp4_plan.specs.format.Held.{held};
 
 use crate::carrying::{Load, carry_noted};
@@ -289,52 +289,8 @@ impl Writer {
         Ok(())
     }
 
-    // Takes a piece along whose samples were noted: its front and rows, and the bytes of its
-    // samples.
-    fn carry<S: Store, K: Sink, L: Ledger>(
-        &mut self,
-        track: usize,
-        head: PieceHead,
-        planned: &Planned,
-        movie: &Movie,
-        store: &mut S,
-        sink: &mut K,
-        steps: &mut Steps<L>,
-    ) -> Result<(), Refusal>
-        requires { MayCarry movie.now self.old track planned.now }
-        ensures writer { OnlyCarries movie.now self.old self.new result }
-        ensures devices { OnlyCopies S.Store store.old store.new K.Sink sink.old sink.new result }
-        ensures put { WhereNoted S.Store store.old movie.now track planned.now.count self.old
-            (λ file tree t samples. WithKeys movie.now track (λ keys.
-            Carries K.Sink sink.old sink.new self.old.carrier self.new.carrier result
-            (bytes_of_piece file head planned.now keys (take planned.now.count samples)))) }
-        ensures many { OnOk result (PiecesFollow (K.contents sink.old) (K.contents sink.new)
-            (waiting self.old.carrier) (waiting self.new.carrier) 0 planned.now.count
-            planned.now.bytes) }
-        ensures copied { WhereNoted S.Store store.old movie.now track planned.now.count self.old
-            (λ file tree t samples. OnOk result
-            (HaveCopied file tree movie.now t track planned.now.count samples self.old self.new)) }
-        ensures unchanged { WhereNoted S.Store store.old movie.now track planned.now.count self.old
-            (λ file tree t samples. AreThere file planned.now.count planned.now.bytes samples
-            → IsUnchanged result) }
-        ensures refusal { RefusedByBoth S.Store store.old store.new K.Sink sink.old sink.new result
-            RefusesCarry }
-        ensures work { StepsToCarry S.Store store.old movie.now track planned.now.count self.old
-            self.new result steps.old steps.new }
-    {
-        let keys = movie.tracks()[track].keys;
-        let sizes = sizes_of(planned, &keys);
-        let rows = &self.rows[..planned.count as usize];
-        let front = moof_front(&head, planned, &sizes);
-        self.carrier.carry(front.as_bytes(), sink)?;
-        carry_run(rows, planned, &mut self.carrier, sink)?;
-        carry_groups(rows, planned, &keys, &mut self.carrier, sink)?;
-        let mdat = header(FourCc(*b"mdat"), planned.bytes);
-        self.carrier.carry(mdat.bytes(), sink)?;
-        self.carry_data(track, planned, movie, store, sink, steps)
-    }
-
-    // Takes the piece of a turn along whose samples were noted, where it has some.
+    // Takes the piece of a turn along whose samples were noted, where it has some: its front and
+    // rows, and the bytes of its samples.
     fn carry_turn<S: Store, K: Sink, L: Ledger>(
         &mut self,
         track: usize,
@@ -367,10 +323,19 @@ impl Writer {
         ensures work { StepsToCarry S.Store store.old movie.now track planned.now.count self.old
             self.new result steps.old steps.new }
     {
-        if let Some(head) = head {
-            self.carry(track, head, planned, movie, store, sink, steps)?;
-        }
-        Ok(())
+        let Some(head) = head else {
+            return Ok(());
+        };
+        let keys = movie.tracks()[track].keys;
+        let sizes = sizes_of(planned, &keys);
+        let rows = &self.rows[..planned.count as usize];
+        let front = moof_front(&head, planned, &sizes);
+        self.carrier.carry(front.as_bytes(), sink)?;
+        carry_run(rows, planned, &mut self.carrier, sink)?;
+        carry_groups(rows, planned, &keys, &mut self.carrier, sink)?;
+        let mdat = header(FourCc(*b"mdat"), planned.bytes);
+        self.carrier.carry(mdat.bytes(), sink)?;
+        self.carry_data(track, planned, movie, store, sink, steps)
     }
 
     /// Puts the normal form of what is left of the movie. It takes no memory; after an answer that
