@@ -14,8 +14,8 @@ use std::os::unix::fs::FileTypeExt;
 /// The most bytes that are read of standard input.
 pub(crate) const MOST_INPUT: usize = 1 << 30;
 
-/// What is read: a file, of which nothing is known, or the bytes of standard input. As a store it is
-/// honest where it is standard input: all reads are of the bytes that were read.
+/// What is read: a file, of which nothing is known, or the bytes of standard input. As a store it
+/// is honest where it is standard input: all reads are of the bytes that were read.
 #[derive(Drop)]
 pub(crate) enum Source {
     File(BufferedStore<FileStore>, Watched),

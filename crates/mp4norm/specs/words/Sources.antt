@@ -1,5 +1,5 @@
--- What is read, as a store: a file, or the bytes of standard input. `S` is what the bound says of the
--- store over a file.
+-- What is read, as a store: a file, or the bytes of standard input. `S` is what the bound says of
+-- the store over a file.
 use Rattle.std.specs.Prelude.{ℕ, List, Bool, true}
 use Rattle.mp4_store.specs.declared.buffered.BufferedStore.{BufferedStore}
 use Rattle.mp4_store.specs.declared.file.FileStore.{FileStore}
