@@ -14,6 +14,7 @@ use Rattle.mp4_plan.specs.format.Held as memory
 use Rattle.mp4_plan.specs.words.LeftTimes.{NamesLong}
 use Rattle.mp4_plan.specs.words.OwnRooms.{own_rooms}
 use Rattle.mp4_plan.specs.words.Writers.{AreWalksOf, IsWriterOf}
+use Rattle.mp4_plan.specs.declared.writer.TheConstants.{MOST_WAITING, PIECE}
 use Rattle.mp4_plan.specs.declared.writer.Writer.{Writer}
 
 -- over an honest store that has the file from which the movie was opened: this is true of it
@@ -40,8 +41,8 @@ pub record AreWalksStill {T E : Type 0} (m : MovieSeen) (before after : List Wal
 pub record IsMade (m : MovieSeen) (l : Leaving) (w : Writer) : Type 0 where
   pub writer : IsWriterOf m w
   pub held : memory.held w
-      ≡ length w.head.items + own_rooms m (length m.tracks) + 24 * length w.rows.items + 61440
+      ≡ length w.head.items + own_rooms m (length m.tracks) + 24 * length w.rows.items + PIECE
   pub bound : memory.held w ≤ length (waiting w.carrier ++ w.head.items)
-      + length m.tracks * m.longest + 24 * length w.rows.items + 65000
+      + length m.tracks * m.longest + 24 * length w.rows.items + MOST_WAITING
   pub left : w.leaving ≡ l
   pub empty : waiting w.carrier ≡ []
