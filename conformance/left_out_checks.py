@@ -86,8 +86,8 @@ def of_boxes():
 
 
 def of_heads():
-    version = refuses('version > last', 'fault(Kind::BadVersion, view)')
-    short = refuses('view.payload().len() < fixed + times * width', 'fault(Kind::ShortBox, view)')
+    version = refuses('version > last', 'view.fault(Kind::BadVersion)')
+    short = refuses('view.payload().len() < fixed + times * width', 'view.fault(Kind::ShortBox)')
     width = '    let width = width_of_times(version);\n'
     return [
         unless(LEAVES, 'version > last', 'BadVersion of the boxes of the moov',

@@ -12,7 +12,7 @@ ghost use Rattle.mp4_boxes.specs.declared.rule.Rule.TheVariants.{Edits};
 ghost use Rattle.mp4_head.specs.words.Containers.{SaysEdits};
 ghost use Rattle.mp4_head.specs.words.Refuses.{RefusesLeaf, RefusesIn, place_of};
 
-use crate::leaves::{fault, i16_at, is, open, time_at};
+use crate::leaves::{i16_at, is, open, time_at};
 use mp4_boxes::{
     BoxView, Fault, FourCc, Kind, Refusal, Rule, check_children, i32_at, i64_at, u32_at,
 };
@@ -68,7 +68,7 @@ fn open_edit_list(view: BoxView) -> Result<(usize, usize), Fault>
     let width = open(view, 1, 8, 0)?;
     let count = u32_at(view.payload(), 4) as usize;
     if view.payload().len() - 8 < count * (2 * width + 4) {
-        return Err(fault(Kind::ShortBox, view));
+        return Err(view.fault(Kind::ShortBox));
     }
     Ok((count, width))
 }

@@ -10,7 +10,7 @@ ghost use Rattle.mp4_head.specs.words.Containers.{SaysExtends};
 ghost use Rattle.mp4_head.specs.words.Leaves.{IsFaultOf};
 ghost use Rattle.mp4_head.specs.words.Refuses.{RefusesIn, place_of};
 
-use crate::leaves::{fault, is, open};
+use crate::leaves::{is, open};
 use mp4_boxes::{BoxView, Fault, FourCc, Kind, Refusal, Rule, check_children, u32_at};
 use mp4_frag::Trex;
 use std::alloc::Global;
@@ -44,7 +44,7 @@ pub(crate) fn read_extends(alloc: Global, mvex: BoxView) -> Result<Vec<Trex>, Re
         if is(child, FourCc(*b"trex")) {
             let trex = read_trex(child)?;
             if !ids.insert(trex.id)? {
-                return Err(Refusal::from(fault(Kind::BadValue, child)));
+                return Err(Refusal::from(child.fault(Kind::BadValue)));
             }
             trexes.push(trex)?;
         }

@@ -12,7 +12,7 @@ ghost use Rattle.mp4_head.specs.words.Seen.{kept_seen, description_seen};
 ghost use Rattle.mp4_boxes.specs.format.Children.{is_among, media_headers};
 
 use crate::kept_boxes::{Kept, keep};
-use crate::leaves::{fault, is, open};
+use crate::leaves::{is, open};
 use crate::sample_table::{SampleTable, read_sample_table};
 use mp4_boxes::{
     BoxView, Fault, FourCc, Kind, Refusal, Rule, check_children, counted, full, u32_at,
@@ -26,11 +26,11 @@ fn check_reference(entry: BoxView) -> Result<(), Fault>
     ensures fault { IfErr result (FailsAsReference (box_seen entry.entry)) }
 {
     if !is(entry, FourCc(*b"url ")) {
-        return Err(fault(Kind::OutsideData, entry));
+        return Err(entry.fault(Kind::OutsideData));
     }
     let (_, flags, _) = full(entry)?;
     if flags & 1 == 0 {
-        return Err(fault(Kind::OutsideData, entry));
+        return Err(entry.fault(Kind::OutsideData));
     }
     Ok(())
 }
@@ -42,7 +42,7 @@ fn check_references(view: BoxView) -> Result<(), Fault>
 {
     open(view, 0, 8, 0)?;
     if u32_at(view.payload(), 4) != 1 {
-        return Err(fault(Kind::OutsideData, view));
+        return Err(view.fault(Kind::OutsideData));
     }
     for entry in counted(view)? {
         check_reference(entry)?;
@@ -101,10 +101,10 @@ pub(crate) fn read_information<'a>(
         }
     }
     let Some(header) = header else {
-        return Err(Refusal::from(fault(Kind::MissingBox, minf)));
+        return Err(Refusal::from(minf.fault(Kind::MissingBox)));
     };
     let Some((stbl, table)) = tables else {
-        return Err(Refusal::from(fault(Kind::MissingBox, minf)));
+        return Err(Refusal::from(minf.fault(Kind::MissingBox)));
     };
     Ok(Information {
         header,

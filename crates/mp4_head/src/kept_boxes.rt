@@ -7,7 +7,6 @@ ghost use Rattle.mp4_head.specs.words.Containers.{kept_of};
 ghost use Rattle.mp4_head.specs.format.Head.{names_item_location};
 ghost use Rattle.mp4_head.specs.words.Seen.{kept_seen};
 
-use crate::leaves::fault;
 use memchr::memmem;
 use mp4_boxes::{BoxView, Fault, FourCc, Kind};
 
@@ -50,7 +49,7 @@ pub(crate) fn keep_unplaced<'a>(view: BoxView<'a>) -> Result<Kept<'a>, Fault>
     ensures fault { IfErr result (λ f. f ≡ fault_of kinds.ItemLocation (box_seen view.entry)) }
 {
     if names_item_location(view.payload()) {
-        return Err(fault(Kind::ItemLocation, view));
+        return Err(view.fault(Kind::ItemLocation));
     }
     Ok(keep(view))
 }

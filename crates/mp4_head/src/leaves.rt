@@ -2,19 +2,11 @@
 ghost use Rattle.std.specs.Prelude.{◌≡◌, ◌+◌, ◌*◌, ◌≤◌, ◌⊎◌, length, bytes_eq, map, IfOk, IfErr};
 ghost use Rattle.byteorder.specs.Endian.{twos_complement};
 ghost use Rattle.mp4_boxes.specs.format.Bytes.{field, signed_field};
-ghost use Rattle.mp4_boxes.specs.format.BoxFaults.{fault_of};
 ghost use Rattle.mp4_boxes.specs.format.Layout.{version, time_width};
 ghost use Rattle.mp4_boxes.specs.words.View.{box_seen};
 ghost use Rattle.mp4_head.specs.words.Leaves.{IsOpen, FailsToOpen, nine};
 
 use mp4_boxes::{BoxView, Fault, FourCc, Kind, full, i32_at, u16_at, u32_at, u64_at};
-
-// A fault that names this box.
-pub(crate) fn fault(kind: Kind, view: BoxView) -> Fault
-    ensures { result ≡ fault_of kind (box_seen view.entry) }
-{
-    Fault::new(kind, view.kind(), view.offset())
-}
 
 // Whether a box has this type.
 pub(crate) fn is(view: BoxView, name: FourCc) -> bool
@@ -40,11 +32,11 @@ pub(crate) fn open(view: BoxView, last: u8, fixed: usize, times: usize) -> Resul
 {
     let (version, _, _) = full(view)?;
     if version > last {
-        return Err(fault(Kind::BadVersion, view));
+        return Err(view.fault(Kind::BadVersion));
     }
     let width = width_of_times(version);
     if view.payload().len() < fixed + times * width {
-        return Err(fault(Kind::ShortBox, view));
+        return Err(view.fault(Kind::ShortBox));
     }
     Ok(width)
 }

@@ -10,7 +10,7 @@ ghost use Rattle.mp4_head.specs.words.Refuses.{RefusesIn, place_of};
 ghost use Rattle.mp4_head.specs.words.Seen.{kept_seen, description_seen};
 
 use crate::information::{Information, read_information};
-use crate::leaves::{fault, is, open, time_at};
+use crate::leaves::{is, open, time_at};
 use mp4_boxes::{BoxView, Fault, FourCc, Kind, Refusal, Rule, check_children, u16_at, u32_at};
 use std::alloc::Global;
 
@@ -46,7 +46,7 @@ fn read_media_header(view: BoxView) -> Result<MediaHeader, Fault>
     let width = open(view, 1, 12, 3)?;
     let header = fields_of(view.payload(), width);
     if header.timescale == 0 {
-        return Err(fault(Kind::BadValue, view));
+        return Err(view.fault(Kind::BadValue));
     }
     Ok(header)
 }
@@ -59,7 +59,7 @@ fn read_handler<'a>(view: BoxView<'a>) -> Result<&'a [u8], Fault>
 {
     let payload = view.payload();
     if payload.len() < 24 {
-        return Err(fault(Kind::ShortBox, view));
+        return Err(view.fault(Kind::ShortBox));
     }
     Ok(payload)
 }
@@ -99,13 +99,13 @@ pub(crate) fn read_media<'a>(alloc: Global, mdia: BoxView<'a>) -> Result<MediaPa
         }
     }
     let Some(header) = header else {
-        return Err(Refusal::from(fault(Kind::MissingBox, mdia)));
+        return Err(Refusal::from(mdia.fault(Kind::MissingBox)));
     };
     let Some(handler) = handler else {
-        return Err(Refusal::from(fault(Kind::MissingBox, mdia)));
+        return Err(Refusal::from(mdia.fault(Kind::MissingBox)));
     };
     let Some(information) = information else {
-        return Err(Refusal::from(fault(Kind::MissingBox, mdia)));
+        return Err(Refusal::from(mdia.fault(Kind::MissingBox)));
     };
     Ok(MediaParts {
         header,

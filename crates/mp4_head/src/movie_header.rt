@@ -4,7 +4,7 @@ ghost use Rattle.mp4_boxes.specs.format.Layout.{mvhd, version, time_width, IsSou
 ghost use Rattle.mp4_boxes.specs.words.View.{box_seen};
 ghost use Rattle.mp4_head.specs.words.Leaves.{IsFaultOf, SaysMovie};
 
-use crate::leaves::{fault, i16_at, matrix_at, open, time_at};
+use crate::leaves::{i16_at, matrix_at, open, time_at};
 use mp4_boxes::{BoxView, Fault, Kind, i32_at, u32_at};
 
 #[derive(Clone, Copy, Debug)]
@@ -43,7 +43,7 @@ pub(crate) fn read_movie_header(view: BoxView) -> Result<MovieHeader, Fault>
     let width = open(view, 1, 88, 3)?;
     let header = fields_of(view.payload(), width);
     if header.timescale == 0 {
-        return Err(fault(Kind::BadValue, view));
+        return Err(view.fault(Kind::BadValue));
     }
     Ok(header)
 }

@@ -15,7 +15,7 @@ ghost use Rattle.mp4_head.specs.format.Tree.{MovieTree, IsMovieTree, IsSoundMovi
 use crate::extends::read_extends;
 use crate::heads::{MovieHead, TrackHead};
 use crate::kept_boxes::{Kept, keep_unplaced};
-use crate::leaves::{fault, is};
+use crate::leaves::is;
 use crate::movie_header::{MovieHeader, read_movie_header};
 use crate::track_boxes::read_track;
 use mp4_boxes::{BoxView, FourCc, Kind, Refusal, Rule, check_children};
@@ -84,7 +84,7 @@ pub fn read_head<'a>(alloc: Global, moov: BoxView<'a>) -> Result<MovieHead<'a>, 
         }
     }
     let Some(header) = header else {
-        return Err(Refusal::from(fault(Kind::MissingBox, moov)));
+        return Err(Refusal::from(moov.fault(Kind::MissingBox)));
     };
     Ok(head_of(header, kept, tracks, trexes))
 }

@@ -11,7 +11,7 @@ ghost use Rattle.mp4_head.specs.words.Refuses.{RefusesBoth, RefusesIn, place_of}
 ghost use Rattle.mp4_head.specs.words.Seen.{description_seen};
 
 use crate::kept_boxes::Description;
-use crate::leaves::{fault, is, open};
+use crate::leaves::{is, open};
 use mp4_boxes::{BoxView, Fault, FourCc, Kind, Refusal, Rule, check_children, counted, u16_at};
 use std::alloc::Global;
 
@@ -31,10 +31,10 @@ fn read_description<'a>(entry: BoxView<'a>) -> Result<Description<'a>, Fault>
 {
     let payload = entry.payload();
     if payload.len() < 8 {
-        return Err(fault(Kind::ShortBox, entry));
+        return Err(entry.fault(Kind::ShortBox));
     }
     if u16_at(payload, 6) != 1 {
-        return Err(fault(Kind::BadValue, entry));
+        return Err(entry.fault(Kind::BadValue));
     }
     Ok(Description {
         kind: entry.kind(),

@@ -12,7 +12,7 @@ ghost use Rattle.mp4_head.specs.words.Seen.{edit_seen, kept_seen, track_seen};
 use crate::edit_list::{Edit, read_edits};
 use crate::heads::{Media, TrackHead};
 use crate::kept_boxes::{Kept, keep_unplaced};
-use crate::leaves::{fault, is};
+use crate::leaves::is;
 use crate::media_boxes::{MediaParts, read_media};
 use crate::track_header::{TrackHeader, read_track_header};
 use mp4_boxes::{BoxView, FourCc, Kind, Refusal, Rule, check_children};
@@ -28,7 +28,7 @@ fn read_new_track_header(view: BoxView, ids: &mut BTreeSet<u32>) -> Result<Track
 {
     let header = read_track_header(view)?;
     if !ids.insert(header.id)? {
-        return Err(Refusal::from(fault(Kind::BadValue, view)));
+        return Err(Refusal::from(view.fault(Kind::BadValue)));
     }
     Ok(header)
 }
@@ -114,7 +114,7 @@ pub(crate) fn read_track<'a>(
         }
     }
     let (Some((header, offset)), Some(media)) = (header, media) else {
-        return Err(Refusal::from(fault(Kind::MissingBox, trak)));
+        return Err(Refusal::from(trak.fault(Kind::MissingBox)));
     };
     Ok(head_of(header, offset, edits, kept, media))
 }

@@ -4,7 +4,7 @@ ghost use Rattle.mp4_boxes.specs.format.Layout.{tkhd, version, time_width, IsSou
 ghost use Rattle.mp4_boxes.specs.words.View.{box_seen};
 ghost use Rattle.mp4_head.specs.words.Leaves.{IsFaultOf, SaysTrack};
 
-use crate::leaves::{fault, i16_at, matrix_at, open, time_at};
+use crate::leaves::{i16_at, matrix_at, open, time_at};
 use byteorder::{BigEndian, ByteOrder};
 use mp4_boxes::{BoxView, Fault, Kind, u32_at};
 
@@ -52,7 +52,7 @@ pub(crate) fn read_track_header(view: BoxView) -> Result<TrackHeader, Fault>
     let times = open(view, 1, 72, 3)?;
     let header = fields_of(view.payload(), times);
     if header.id == 0 {
-        return Err(fault(Kind::BadValue, view));
+        return Err(view.fault(Kind::BadValue));
     }
     Ok(header)
 }
