@@ -122,7 +122,7 @@ pub group_next : (stbl b : Box) (key : GroupKey) (r : RowsAt) (n : ℕ) (at afte
 group_next stbl b key r n at after g new four small few l ks slot = record {
   readable = g.readable;
   so = λ gs so. subst (λ (x : Grouping). GroupsSo stbl.payload n (gs ++ x ∷ []) after) ((λ j. record { key = g.named j; rows = g.same j }))
-      (group_added stbl.payload n (length (keys_seen at.keys)) at after gs key r so ks refl slot new l g.have small few);
+      (group_added stbl.payload n at after gs key r so ks slot new l g.have small few);
 }
 
 pub not_true : ◌≡◌ {A = Bool} false true → ⊥

@@ -6,7 +6,7 @@ ghost use Rattle.mp4_tables.specs.words.Keys.{key_seen, keys_seen};
 ghost use Rattle.mp4_tables.specs.words.Leaves.{HasTables, IsChild, FailsAs, SlotTaken, GroupRead, GroupFails, GroupNext, ChildRead, ChildFails, GroupsRead, GroupsSo, GroupPassed, SizesKnown, IsFault};
 ghost use Rattle.mp4_tables.specs.words.Accepted.{group_count};
 
-use crate::groups::NO_ROWS;
+use crate::indexes::{IndexRows, NO_ROWS};
 use crate::keys::{GroupKey, Keys};
 use crate::leaves::{Limits, children_of, fault_at, rows_of, version_of};
 use crate::places::{GroupsAt, RowsAt};
@@ -71,31 +71,11 @@ fn add_group(groups: GroupsAt, key: GroupKey, rows: RowsAt) -> GroupsAt
     ensures keys { keys_seen result.keys ≡ keys_seen groups.keys ++ key_seen key ∷ [] }
     ensures slot { SlotTaken (length (keys_seen groups.keys)) groups rows result }
 {
-    let mut keys = groups.keys;
-    let place = keys.count();
-    keys.push(key);
-    match place {
-        0 => GroupsAt {
-            keys,
-            first: rows,
-            ..groups
-        },
-        1 => GroupsAt {
-            keys,
-            second: rows,
-            ..groups
-        },
-        2 => GroupsAt {
-            keys,
-            third: rows,
-            ..groups
-        },
-        _ => GroupsAt {
-            keys,
-            fourth: rows,
-            ..groups
-        },
-    }
+    let mut next = groups;
+    let place = usize::from(next.keys.count());
+    next.rows.by_key[place] = rows;
+    next.keys.push(key);
+    next
 }
 
 // The groups with one more `sbgp` of `n` samples, behind those that were read.
@@ -170,10 +150,9 @@ fn no_groups(payload: &[u8], n: u32) -> GroupsAt
     let _ = n;
     GroupsAt {
         keys: Keys::new(),
-        first: NO_ROWS,
-        second: NO_ROWS,
-        third: NO_ROWS,
-        fourth: NO_ROWS,
+        rows: IndexRows {
+            by_key: [NO_ROWS, NO_ROWS, NO_ROWS, NO_ROWS],
+        },
     }
 }
 
