@@ -8,7 +8,7 @@ ghost use Rattle.mp4_tables.specs.words.Timed.{samples_of};
 ghost use Rattle.mp4_tables.specs.words.Accepted.{IsAccepted, IsPlace, HaveBytes, HaveOffsets, HaveSync, IsRunPlaceAt, IsSyncPlaceIn, AreInOrder, tables_at, bytes_at, bytes_for, passed, offset_values, flags_here};
 ghost use Rattle.mp4_tables.specs.words.Accepted.{offset_rows as rows_of_offsets};
 
-use crate::chunks::{first_chunk, pass_spot};
+use crate::chunks::{first_chunk, pass_sample};
 use crate::indexes::IndexPlaces;
 use crate::places::{BytesAt, OffsetsAt, RowsAt, RunPlace, SyncPlace, TablePlace, TablesAt};
 use crate::runs::{pass, settle};
@@ -134,7 +134,7 @@ pub(crate) fn pass_place(payload: &[u8], at: &TablesAt, place: &mut TablePlace)
     place.dts += u64::from(place.duration.value);
     pass(payload, at.durations, &mut place.duration);
     pass(payload, offset_rows(at.offsets), &mut place.offset);
-    pass_spot(payload, &at.chunk_rows, &at.chunks, &mut place.chunk, size);
+    pass_sample(payload, &at.chunk_rows, &at.chunks, &mut place.chunk, size);
     pass_sync_in(payload, at.sync, &mut place.sync, number + 1);
     place.groups.pass(payload, &at.groups.rows);
 }
