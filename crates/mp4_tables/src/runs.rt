@@ -9,6 +9,13 @@ use crate::rows::run_at;
 use mp4_boxes::Steps;
 use std::sync::ledger::Ledger;
 
+// Before the first row.
+pub(crate) const BEFORE_ROWS: RunPlace = RunPlace {
+    row: 0,
+    left: 0,
+    value: 0,
+};
+
 // The sum of the counts of the rows, if it is no more than `n`.
 #[tactic(auto, using(crate::proofs::RunLists::counting))]
 fn total_within<L: Ledger>(
