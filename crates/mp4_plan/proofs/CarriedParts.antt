@@ -17,7 +17,7 @@ use Rattle.mp4_plan.specs.words.UsedKeys.{groups_bytes}
 use Rattle.mp4_plan.specs.declared.moof_front.PieceHead.{PieceHead}
 use Rattle.mp4_plan.specs.declared.moof_sizes.MoofSizes.{MoofSizes}
 use Rattle.mp4_plan.specs.declared.planner.Planned.{Planned}
-use Rattle.mp4_plan.specs.declared.rows.Row.{Row}
+use Rattle.mp4_plan.specs.declared.noted_rows.Row.{Row}
 
 -- the parts together
 pub parts_are : (head : PieceHead) (p : Planned) (sizes : MoofSizes) (keys told : List GroupKey) (rows noted : List Row) (front mdat bytes_there : List ℕ) → front ≡ moof_front head p sizes → sizes ≡ moof_sizes p told → told ≡ keys → noted ≡ rows → mdat ≡ header_bytes (codes "mdat") p.bytes

@@ -8,7 +8,7 @@ use Rattle.mp4_plan.specs.words.Ends.{goes_in}
 use Rattle.mp4_plan.specs.words.Gathering.{Planning, description_in, gather, count_of, more_of, piece_fed, samples_after}
 use Rattle.mp4_plan.specs.words.HandsFed.{TakesFirst, Notes}
 use Rattle.mp4_plan.specs.words.Taken.{row_seen}
-use Rattle.mp4_plan.specs.declared.rows.Row.{Row}
+use Rattle.mp4_plan.specs.declared.noted_rows.Row.{Row}
 use Rattle.mp4_plan.proofs.HandsTaken.{few_more}
 use Rattle.mp4_plan.proofs.PlannerSteps.{first_is, none_is, fed_more, fed_none, more_of_yes, more_of_no, more_of-nil}
 

@@ -14,7 +14,7 @@ use Rattle.mp4_plan.specs.words.Gathering.{piece_from, more_of}
 use Rattle.mp4_plan.specs.words.Writers.{AllCome, firsts, first_dts, turn_head}
 use Rattle.mp4_plan.specs.format.Held.{rooms}
 use Rattle.mp4_plan.specs.words.Taken.{row_seen}
-use Rattle.mp4_plan.specs.declared.rows.Row.{Row}
+use Rattle.mp4_plan.specs.declared.noted_rows.Row.{Row}
 use Rattle.mp4_plan.specs.declared.ends.End.{End}
 use Rattle.mp4_plan.proofs.PlannerSteps.{more_of_no, more_of_yes, more_of-nil}
 

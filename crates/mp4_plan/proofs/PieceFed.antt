@@ -25,7 +25,7 @@ use Rattle.mp4_plan.specs.declared.ends.End.{End}
 use Rattle.mp4_plan.specs.declared.track_pieces.Stop.{Stop}
 use Rattle.mp4_plan.specs.declared.track_pieces.Stop.TheVariants.{Empty, Ended, Full}
 use Rattle.mp4_plan.specs.declared.joined.Stretches.{Stretches}
-use Rattle.mp4_plan.specs.declared.rows.Row.{Row}
+use Rattle.mp4_plan.specs.declared.noted_rows.Row.{Row}
 use Rattle.mp4_plan.proofs.PlannerSteps.{fed_more, after_more, fed_none, after_none, more_of_no, more_of-nil}
 use Rattle.mp4_plan.proofs.HandsTaken.{more_with, counted_fed}
 use Rattle.mp4_present.proofs.WalkCopied.{kept_before}

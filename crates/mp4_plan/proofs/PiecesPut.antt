@@ -18,7 +18,7 @@ use Rattle.mp4_plan.specs.words.Sizes.{moof_sizes}
 use Rattle.mp4_plan.specs.words.Spelling.{moof_front, run_rows}
 use Rattle.mp4_plan.specs.words.UsedKeys.{group_bytes, some_groups}
 use Rattle.mp4_plan.specs.declared.planner.Planned.{Planned}
-use Rattle.mp4_plan.specs.declared.rows.Row.{Row}
+use Rattle.mp4_plan.specs.declared.noted_rows.Row.{Row}
 use Rattle.mp4_plan.proofs.PartsPut.{go_four}
 
 -- none

@@ -4,7 +4,7 @@ use Rattle.std.specs.Prelude.{if◌then◌else◌, flat_map}
 use Rattle.std.proofs.lemmas.Grind.{flat_map-append}
 use Rattle.std.proofs.lemmas.List.{drop_more, drop_all}
 use Rattle.mp4_plan.specs.declared.moof_rows.IndexRun.{IndexRun}
-use Rattle.mp4_plan.specs.declared.rows.Row.{Row}
+use Rattle.mp4_plan.specs.declared.noted_rows.Row.{Row}
 use Rattle.std.proofs.lemmas.Bool.{eq-eqb}
 use Rattle.mp4_plan.specs.format.Normal.{longest_runs, put_run}
 use Rattle.mp4_plan.specs.words.Spelling.{resumed, runs_left}

@@ -9,7 +9,7 @@ use Rattle.mp4_plan.specs.format.Normal.{Shared, own, row_flags}
 use Rattle.mp4_plan.specs.words.Sizes.{own_size, offset_size, row_size}
 use Rattle.mp4_plan.specs.words.Spelling.{option_bytes, offset_of, run_row, run_rows, box_front, bit_of, bit_without, bit_if}
 use Rattle.mp4_plan.specs.declared.planner.Planned.{Planned}
-use Rattle.mp4_plan.specs.declared.rows.Row.{Row}
+use Rattle.mp4_plan.specs.declared.noted_rows.Row.{Row}
 use Rattle.mp4_plan.proofs.WrittenRun.{head_payload}
 
 -- a box with its size in front

@@ -19,7 +19,7 @@ use Rattle.mp4_plan.specs.words.Spelling.{box_front, group_row, group_rows}
 use Rattle.mp4_plan.specs.words.Taken.{AreTaken, IsNamed, row_seen}
 use Rattle.mp4_plan.specs.words.UsedKeys.{AreApart, IsKeyAt, place_at, used_from, key_front, group_front, group_bytes, groups_bytes}
 use Rattle.mp4_plan.specs.declared.planner.Planned.{Planned}
-use Rattle.mp4_plan.specs.declared.rows.Row.{Row}
+use Rattle.mp4_plan.specs.declared.noted_rows.Row.{Row}
 use Rattle.mp4_plan.proofs.Filters.{flat_map_agree, all_append, all_weaker}
 use Rattle.mp4_plan.specs.format.TableLaws.{IsKey}
 use Rattle.mp4_plan.proofs.KeyOrder.{key_of_group, order_each}

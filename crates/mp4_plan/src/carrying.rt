@@ -18,8 +18,8 @@ ghost use Rattle.mp4_plan.specs.words.OverCarrying.{AreThere, CarriesFirst, HasM
 ghost use Rattle.mp4_plan.specs.words.OverLess.{KeepsWalk};
 ghost use Rattle.mp4_plan.specs.words.WriterSteps.{WritesOn};
 
-use crate::track_pieces::next_sample;
 use crate::joined::Stretches;
+use crate::track_pieces::next_sample;
 use mp4_boxes::{Refusal, Steps};
 use mp4_present::{Carrier, InHand, Leaving, Movie, Walk, next_stretch};
 use mp4_store::{Sink, Store};

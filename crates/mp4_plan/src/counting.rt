@@ -8,9 +8,9 @@ ghost use Rattle.mp4_plan.specs.words.Ends.{goes_in};
 ghost use Rattle.mp4_plan.specs.words.HandsFed.{KeepsOn};
 ghost use Rattle.mp4_plan.specs.words.OverLess.{KeepsWalk, WhereLess};
 
-use crate::track_pieces::MOST_SAMPLES;
 use crate::ends::{End, goes_in, has_ended};
 use crate::reduced::Reduced;
+use crate::track_pieces::MOST_SAMPLES;
 use mp4_boxes::{Refusal, Steps};
 use mp4_present::{Leaving, Movie, Place, Walk};
 use mp4_store::Store;

@@ -22,12 +22,12 @@ ghost use Rattle.mp4_present.specs.words.Movies.{RefusesLoad};
 ghost use Rattle.mp4_plan.specs.words.Writers.{RefusesMemory, RefusesPlan, AreMarked, IsHeadOf, AreWalksOf, AllCome, first_dts, head_of_normal, firsts, ArePiecesLong, longest_piece, planned_length};
 
 use crate::counting::count_turn;
-use crate::track_pieces::{next_marked, plan_turn};
 use crate::left_times::length_left;
 use crate::moof_sizes::sizes_of;
 use crate::planner::Planned;
 use crate::reduced_head::reduce_head;
 use crate::schedule::Schedule;
+use crate::track_pieces::{next_marked, plan_turn};
 use mp4_boxes::{Refusal, Steps};
 use mp4_head::{MovieHead, head_bytes, head_len};
 use mp4_present::{Leaving, Movie, Walk};

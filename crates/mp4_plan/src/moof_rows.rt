@@ -11,8 +11,8 @@ ghost use Rattle.mp4_plan.specs.words.Spelling.{offset_of, run_row, run_rows, gr
 ghost use Rattle.mp4_plan.specs.words.UsedKeys.{used_seen, is_above, is_below, least_above, used_from, IsKeyAt, AreApart, key_front, group_front, group_bytes, groups_bytes, some_groups};
 
 use crate::moof_sizes::{group_size, short};
+use crate::noted_rows::Row;
 use crate::planner::Planned;
-use crate::rows::Row;
 use crate::spelled::Spelled;
 use mp4_boxes::{FourCc, Refusal};
 use mp4_present::Carrier;

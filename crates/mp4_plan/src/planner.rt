@@ -2,7 +2,7 @@
 use crate::ends::{End, Fed, has_ended};
 use crate::gathered::{Gathered, gather_more, gathered_first};
 use crate::joined::Stretches;
-use crate::rows::{Row, row_of};
+use crate::noted_rows::{Row, row_of};
 use mp4_tables::{SampleAt, Samples};
 use std::marker::Model;
 

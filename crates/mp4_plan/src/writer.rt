@@ -30,7 +30,6 @@ ghost use Rattle.mp4_plan.specs.words.Writers.{RefusesPlan, IsWriterOf, turn_hea
 ghost use Rattle.mp4_plan.specs.format.Held.{held};
 
 use crate::carrying::{Load, carry_noted};
-use crate::track_pieces::note_marked;
 use crate::ends::first_goes;
 use crate::joined::Stretches;
 use crate::left_times::length_left;
@@ -38,9 +37,10 @@ use crate::measuring::{first_time, head_of, longest_piece, peek_each, walks_of};
 use crate::moof_front::{PieceHead, moof_front};
 use crate::moof_rows::{carry_groups, carry_run};
 use crate::moof_sizes::sizes_of;
+use crate::noted_rows::{NO_ROW, Row};
 use crate::planner::{Planned, Planner};
-use crate::rows::{NO_ROW, Row};
 use crate::schedule::{Schedule, Turn};
+use crate::track_pieces::note_marked;
 use mp4_boxes::{FourCc, Refusal, Steps, header};
 use mp4_present::{Carrier, Leaving, Movie, TrackInfo, Walk};
 use mp4_store::{Sink, Store};

@@ -8,8 +8,8 @@ ghost use Rattle.mp4_present.specs.words.Opening.{HasOutline};
 ghost use Rattle.mp4_present.specs.words.OverFaults.{SearchesWithin, TellsOf};
 ghost use Rattle.mp4_present.specs.words.OverStores.{OnlyReads, RefusedOf, WhereHonest};
 ghost use Rattle.mp4_present.specs.words.ToOpen.{IsPayloadIn};
-
 ghost use Rattle.mp4_present.specs.format.ByBytes.{OpensWithin, LooksByBytes};
+
 use crate::fault_counts::counts_in_tables;
 use crate::fault_gaps::numbers_in_fragments;
 use crate::fault_places::outside_in_tables;

@@ -8,7 +8,7 @@ ghost use Rattle.mp4_tables.specs.words.TablesComing.{IsRowPlace, spots_coming, 
 ghost use Rattle.mp4_tables.specs.words.TablesComing.{are_described as described_from};
 
 use crate::places::{ChunkPlace, ChunksAt, RowPlace, RowsAt};
-use crate::rows::{chunk_row_at, offset_at};
+use crate::table_rows::{chunk_row_at, offset_at};
 use mp4_boxes::Steps;
 use std::sync::ledger::Ledger;
 

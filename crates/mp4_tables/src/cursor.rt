@@ -1,8 +1,8 @@
 //! A walk over the samples of tables, one by one.
 use crate::places::{TablePlace, TablesAt};
 use crate::sample::{SampleAt, Samples};
+use crate::table_samples::{first_place, pass_place, sample_here};
 use crate::tables::Tables;
-use crate::walk::{first_place, pass_place, sample_here};
 use std::marker::Model;
 
 /// The samples of tables from a place on. No step takes memory, and all steps together pass each

@@ -5,7 +5,7 @@ ghost use Rattle.mp4_tables.specs.words.Rows.{HaveRoom, runs_at};
 ghost use Rattle.mp4_tables.specs.words.TablesComing.{coming, all_below};
 
 use crate::places::{RowsAt, RunPlace};
-use crate::rows::run_at;
+use crate::table_rows::run_at;
 use mp4_boxes::Steps;
 use std::sync::ledger::Ledger;
 

@@ -5,7 +5,7 @@ ghost use Rattle.mp4_tables.specs.format.TableRules.{is_sync_order};
 ghost use Rattle.mp4_tables.specs.words.TablesComing.{IsSyncPlace};
 
 use crate::places::{RowsAt, SyncPlace};
-use crate::rows::number_at;
+use crate::table_rows::number_at;
 use mp4_boxes::Steps;
 use std::sync::ledger::Ledger;
 

@@ -5,8 +5,8 @@ ghost use Rattle.mp4_tables.specs.format.Repeated.{repeated};
 ghost use Rattle.mp4_tables.specs.words.Rows.{HaveRoom, HaveSizes, runs_at, sizes_at};
 
 use crate::places::{RowsAt, SizesAt};
-use crate::rows::run_at;
 use crate::sizes::size_at;
+use crate::table_rows::run_at;
 use mp4_boxes::Steps;
 use std::sync::ledger::Ledger;
 

@@ -25,7 +25,7 @@ use Rattle.mp4_plan.specs.declared.joined.Stretches.{Stretches}
 use Rattle.mp4_plan.specs.declared.track_pieces.Stop.{Stop}
 use Rattle.mp4_plan.specs.declared.track_pieces.Stop.TheVariants.{Empty, Ended, Full}
 use Rattle.mp4_plan.specs.declared.carrying.Load.{Load}
-use Rattle.mp4_plan.specs.declared.rows.Row.{Row}
+use Rattle.mp4_plan.specs.declared.noted_rows.Row.{Row}
 
 -- the number of bytes of some samples
 abbrev pub sizes_of : List SampleAt → ℕ

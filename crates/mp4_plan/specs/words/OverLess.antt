@@ -15,7 +15,7 @@ use Rattle.mp4_plan.specs.words.Taken.{row_seen}
 use Rattle.mp4_plan.specs.words.WriterSteps.{MayWrite}
 use Rattle.mp4_plan.specs.declared.joined.Stretches.{Stretches}
 use Rattle.mp4_plan.specs.declared.planner.Planned.{Planned}
-use Rattle.mp4_plan.specs.declared.rows.Row.{Row}
+use Rattle.mp4_plan.specs.declared.noted_rows.Row.{Row}
 
 -- it stays a walk over its track, and keeps its room
 pub record KeepsWalk {T E : Type 0} (m : MovieSeen) (w w_after : Walk) (result : Result T E)

@@ -10,7 +10,7 @@ use Rattle.mp4_plan.specs.format.Normal.{own, longest_runs}
 use Rattle.mp4_plan.specs.declared.moof_front.PieceHead.{PieceHead}
 use Rattle.mp4_plan.specs.declared.planner.Planned.{Planned}
 use Rattle.mp4_plan.specs.declared.moof_sizes.MoofSizes.{MoofSizes}
-use Rattle.mp4_plan.specs.declared.rows.Row.{Row}
+use Rattle.mp4_plan.specs.declared.noted_rows.Row.{Row}
 
 -- a number of 32 bits, where there is one
 abbrev pub option_bytes : Option ℕ → List ℕ

@@ -20,7 +20,7 @@ use Rattle.mp4_plan.specs.words.TurnLaws.{turn_count}
 use Rattle.mp4_plan.specs.declared.ends.End.{End}
 use Rattle.mp4_plan.specs.declared.moof_front.PieceHead.{PieceHead}
 use Rattle.mp4_plan.specs.declared.planner.Planned.{Planned}
-use Rattle.mp4_plan.specs.declared.rows.Row.{Row}
+use Rattle.mp4_plan.specs.declared.noted_rows.Row.{Row}
 
 -- A sample of a track with these keys is this one of a presentation: it says the same, and its
 -- bytes lie in the file where it says.

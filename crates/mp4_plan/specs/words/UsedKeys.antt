@@ -9,7 +9,7 @@ use Rattle.mp4_plan.specs.words.Sizes.{group_size}
 use Rattle.mp4_plan.specs.words.Spelling.{box_front, short, group_rows}
 use Rattle.mp4_plan.specs.declared.moof_rows.UsedKey.{UsedKey}
 use Rattle.mp4_plan.specs.declared.planner.Planned.{Planned}
-use Rattle.mp4_plan.specs.declared.rows.Row.{Row}
+use Rattle.mp4_plan.specs.declared.noted_rows.Row.{Row}
 
 -- ---- keys by their places
 

@@ -11,8 +11,8 @@ use Rattle.mp4_present.specs.declared.tables_pass.PlainTracks.{PlainTracks}
 use Rattle.mp4_present.specs.format.FaultNumbers.{Tells}
 use Rattle.mp4_present.specs.words.NumbersTold.{FindsIn, moof_read}
 use Rattle.mp4_present.specs.words.PassedMoofs.{IsBegun}
-
 use Rattle.mp4_present.specs.format.ByBytes.{OpensWithin, LooksByBytes}
+
 -- over an honest store: the numbers that are told are those of a fault at this place of its file
 abbrev pub TellsOf : {X E : Type 0} → Store X → X → ℕ → Result (Option FaultNumbers) E → Type 0
 TellsOf S store place result = IfOk result (λ told. IfSome told (λ n. IsTrue (S.is_honest store)

@@ -3,7 +3,7 @@ use Rattle.std.specs.Prelude.{slice_index, flat_map}
 use Rattle.std.proofs.Math.Nat.{le_refl}
 use Rattle.mp4_present.proofs.Carrying.{BytesGoOn-nothing, BytesGoOn-then}
 use Rattle.mp4_plan.specs.words.Spelling.{group_row, runs_left}
-use Rattle.mp4_plan.specs.declared.rows.Row.{Row}
+use Rattle.mp4_plan.specs.declared.noted_rows.Row.{Row}
 use Rattle.mp4_plan.proofs.RunsResumed.{written_more, written_all}
 use Rattle.std.proofs.lemmas.Result.{err_from_is_err_and}
 use Rattle.std.proofs.Common.{sym, ap}

@@ -3,7 +3,7 @@ use Rattle.std.specs.Prelude.{flat_map, slice_index, vec_len}
 use Rattle.mp4_present.specs.words.Carried.{BytesGoOn, waiting}
 use Rattle.mp4_plan.specs.format.Normal.{longest_runs}
 use Rattle.mp4_plan.specs.words.Spelling.{group_row, runs_left}
-use Rattle.mp4_plan.specs.declared.rows.Row.{Row}
+use Rattle.mp4_plan.specs.declared.noted_rows.Row.{Row}
 use Rattle.mp4_plan.proofs.moof_rows.carry_indexes.Given as goal
 
 -- the first runs are written, and with the one in hand the others come

@@ -1,6 +1,6 @@
 use Rattle.std.proofs.Common.{arith, ◌+◌}
 use Rattle.mp4_tables.proofs.PlaceLists.{byte_room}
-use Rattle.mp4_tables.proofs.walk.flags_at.Goals as goal
+use Rattle.mp4_tables.proofs.table_samples.flags_at.Goals as goal
 
 pub dependency_at-dependency-requires-clause-inside : goal.dependency_at-dependency-requires-clause-inside
 dependency_at-dependency-requires-clause-inside c =

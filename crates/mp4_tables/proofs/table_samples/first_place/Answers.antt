@@ -1,7 +1,7 @@
 use Rattle.std.proofs.Common.{arith}
 use Rattle.mp4_tables.specs.words.Rows.{sizes_at}
 use Rattle.mp4_tables.proofs.PlaceLists.{time_first, sync_ordered, chunks_ordered}
-use Rattle.mp4_tables.proofs.walk.first_place.Goals as goal
+use Rattle.mp4_tables.proofs.table_samples.first_place.Goals as goal
 
 pub first_chunk-chunk-requires-clause-ordered : goal.first_chunk-chunk-requires-clause-ordered
 first_chunk-chunk-requires-clause-ordered c = chunks_ordered c.args.payload.now c.args.at.now c.requires

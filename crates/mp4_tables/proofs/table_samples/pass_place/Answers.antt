@@ -2,7 +2,7 @@ use Rattle.std.proofs.Common.{◌<◌, ◌^◌, rules}
 use Rattle.mp4_tables.proofs.GroupsHere.{groups_next}
 use Rattle.mp4_tables.proofs.PlaceLists.{duration_left, duration_within, offset_left, offset_within, chunk_left, end_fits, place_passed}
 use Rattle.mp4_tables.proofs.SpotLists.{lies_in_chunks}
-use Rattle.mp4_tables.proofs.walk.pass_place.Goals as goal
+use Rattle.mp4_tables.proofs.table_samples.pass_place.Goals as goal
 
 pub pass-requires-clause-within : goal.pass-requires-clause-within
 pass-requires-clause-within c = duration_within c.args.payload.now c.args.at.now c.args.place.now c.requires.place

@@ -3,7 +3,7 @@ use Rattle.std.specs.Int.{w32, cast_signed, cast_unsigned}
 use Rattle.std.proofs.lemmas.Int.{to_z-of_z}
 use Rattle.mp4_tables.proofs.GroupsHere.{groups_here}
 use Rattle.mp4_tables.proofs.PlaceLists.{sample_is}
-use Rattle.mp4_tables.proofs.walk.sample_here.Goals as goal
+use Rattle.mp4_tables.proofs.table_samples.sample_here.Goals as goal
 
 pub returns : goal.returns
 returns c =
