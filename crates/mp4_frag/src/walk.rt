@@ -11,7 +11,7 @@ ghost use Rattle.mp4_frag.specs.words.Times.{time_behind};
 ghost use Rattle.mp4_frag.specs.words.Walks.{Walk, Reached, at_first, rows_here, trafs_coming, row_signed, first_byte, trex_among, with_head, all_indexes, with_group, end_held, run_coming, runs_coming, reached, walk_of, coming, begin as begin_by};
 
 use crate::check::{SBGP, TFHD, TRAF, TRUN};
-use crate::finding::{Known, find_uncounted};
+use crate::finding::{Known, search};
 use crate::groups::read_group;
 use crate::heads::{base_of, nothing_inherited, read_head, what_is_inherited};
 use crate::indexes::{first_index, indexes_here, no_indexes, pass_indexes, with_index};
@@ -55,7 +55,7 @@ fn trex_of(tracks: &[TrackState], id: u32, known: &mut Known) -> Option<Trex>
     ensures known { IsKnown tracks.now known.new }
     ensures trex { result ≡ trex_among tracks.now id }
 {
-    let k = find_uncounted(tracks, id, known)?;
+    let k = search(tracks, id, known).place?;
     tracks[k].trex
 }
 
