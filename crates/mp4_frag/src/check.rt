@@ -1,7 +1,7 @@
 //! A `moof`, checked behind what came before it (ISO/IEC 14496-12, 8.8).
 ghost use Rattle.std.specs.Prelude.{List, nat_lt, not, ◌&&◌, ◌≡◌, ◌+◌, ◌*◌, ◌^◌, ◌<◌, ◌≤◌, ◌==◌, [], length, None, option_map, codes, IfOk, IfErr};
 ghost use Rattle.mp4_boxes.specs.format.Box.{box_container};
-ghost use Rattle.mp4_boxes.specs.format.BoxFaults.{IsChildFault, fault_of};
+ghost use Rattle.mp4_boxes.specs.format.BoxFaults.{IsChildFault};
 ghost use Rattle.mp4_boxes.specs.declared.rule.Rule.TheVariants as rules;
 ghost use Rattle.mp4_boxes.specs.words.View.{box_seen};
 ghost use Rattle.mp4_tables.specs.format.Groups.{groupings_of, keys_after};
@@ -22,7 +22,7 @@ ghost use Rattle.mp4_frag.specs.words.FragmentsSeen.{moof_seen};
 ghost use Rattle.mp4_frag.specs.declared.state.TrackState.{TrackState};
 
 use crate::finding::{Known, find_track};
-use crate::groups::{KeysNamed, check_group};
+use crate::groups::check_group;
 use crate::heads::{base_of, read_head, what_is_inherited};
 use crate::sample_runs::{Judged, Passed, check_run};
 use crate::state::TrackState;
@@ -41,13 +41,6 @@ const TFDT: FourCc = FourCc(*b"tfdt");
 pub(crate) const TRUN: FourCc = FourCc(*b"trun");
 
 pub(crate) const SBGP: FourCc = FourCc(*b"sbgp");
-
-// A fault of this box.
-fn fault(kind: Kind, named: BoxView) -> Fault
-    ensures { result ≡ fault_of kind (box_seen named.entry) }
-{
-    Fault::new(kind, named.kind(), named.offset())
-}
 
 // The `tfhd` of a `traf`, and its `tfdt` if there is one.
 #[derive(Clone, Copy)]
@@ -115,7 +108,7 @@ fn check_runs<L: Ledger>(
             steps.tick();
             passed = match check_run(child.payload(), judged, passed, room, steps) {
                 Ok(passed) => passed,
-                Err(kind) => return Err(fault(kind, child)),
+                Err(kind) => return Err(child.fault(kind)),
             };
         }
     }
@@ -140,11 +133,11 @@ fn check_groups<L: Ledger>(
     ensures work { 8 * steps.new ≤ 8 * steps.old + length (box_seen traf.entry).payload }
 {
     let mut keys = keys;
-    let mut named = KeysNamed::none();
+    let mut named = [false; 4];
     for child in children(traf.payload(), traf.payload_offset(), traf.kind())? {
         if child.kind() == SBGP {
             if let Err(kind) = check_group(child.payload(), n, &mut keys, &mut named, steps) {
-                return Err(fault(kind, child));
+                return Err(child.fault(kind));
             }
         }
     }
@@ -227,23 +220,23 @@ fn check_traf<L: Ledger, M: Ledger>(
 {
     let heads = check_boxes(traf)?;
     let Some(tfhd) = heads.head else {
-        return Err(fault(Kind::MissingBox, traf));
+        return Err(traf.fault(Kind::MissingBox));
     };
     let head = match read_head(tfhd.payload()) {
         Ok(head) => head,
-        Err(kind) => return Err(fault(kind, tfhd)),
+        Err(kind) => return Err(tfhd.fault(kind)),
     };
     let Some(k) = find_track(tracks, head.id, known, looks) else {
-        return Err(fault(Kind::UnknownTrack, tfhd));
+        return Err(tfhd.fault(Kind::UnknownTrack));
     };
     let state = tracks[k];
     let Some(trex) = state.trex else {
-        return Err(fault(Kind::UnknownTrack, tfhd));
+        return Err(tfhd.fault(Kind::UnknownTrack));
     };
     let time = match heads.time {
         Some(tfdt) => match read_time(tfdt.payload()) {
             Ok(time) => Some(time),
-            Err(kind) => return Err(fault(kind, tfdt)),
+            Err(kind) => return Err(tfdt.fault(kind)),
         },
         None => None,
     };
@@ -254,12 +247,12 @@ fn check_traf<L: Ledger, M: Ledger>(
     };
     let passed = check_runs(traf, judged, room, steps)?;
     if lacks_description(state, judged.inherited.description, passed) {
-        return Err(fault(Kind::BadDescriptionIndex, tfhd));
+        return Err(tfhd.fault(Kind::BadDescriptionIndex));
     }
     let keys = check_groups(traf, passed.count, state.keys, steps)?;
     if let Some(tfdt) = heads.time {
         if is_late(state, time, passed) {
-            return Err(fault(Kind::Gap, tfdt));
+            return Err(tfdt.fault(Kind::Gap));
         }
     }
     tracks[k] = moved_on(state, time, passed, keys);

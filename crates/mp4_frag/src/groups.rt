@@ -13,8 +13,7 @@ ghost use Rattle.mp4_tables.specs.format.Groups.{Grouping, grouping_of};
 ghost use Rattle.mp4_tables.specs.words.Keys.{keys_seen};
 ghost use Rattle.mp4_frag.specs.words.GroupsJudged.{AreNamed, WhereNamed, NamesOneMore, IsNameFault, IsGroupSound, IsGroupFault};
 
-use crate::fronts::front;
-use mp4_boxes::{FourCc, Kind, Steps, u32_at};
+use mp4_boxes::{FourCc, Kind, Steps, front, u32_at};
 use mp4_tables::{GroupKey, Keys};
 use std::sync::ledger::Ledger;
 
@@ -27,66 +26,6 @@ pub(crate) struct Group {
     pub(crate) key: GroupKey,
     pub(crate) rows: usize,
     pub(crate) count: u32,
-}
-
-/// Which keys of a track the `sbgp`s of a `traf` have named, by their places among its keys.
-#[derive(Clone, Copy)]
-pub(crate) struct KeysNamed {
-    first: bool,
-    second: bool,
-    third: bool,
-    fourth: bool,
-}
-
-impl KeysNamed {
-    ghost use Rattle.std.specs.Prelude.{◌≡◌, false};
-    ghost use Rattle.mp4_frag.specs.words.GroupsJudged.{is_named_at, with_name};
-
-    // None yet.
-    pub(crate) fn none() -> KeysNamed
-        ensures { result ≡ record { first = false; second = false; third = false; fourth = false } }
-    {
-        KeysNamed {
-            first: false,
-            second: false,
-            third: false,
-            fourth: false,
-        }
-    }
-
-    fn has(&self, j: u8) -> bool
-        ensures { result ≡ is_named_at self.now j }
-    {
-        match j {
-            0 => self.first,
-            1 => self.second,
-            2 => self.third,
-            _ => self.fourth,
-        }
-    }
-
-    fn with(self, j: u8) -> KeysNamed
-        ensures { result ≡ with_name self j }
-    {
-        match j {
-            0 => KeysNamed {
-                first: true,
-                ..self
-            },
-            1 => KeysNamed {
-                second: true,
-                ..self
-            },
-            2 => KeysNamed {
-                third: true,
-                ..self
-            },
-            _ => KeysNamed {
-                fourth: true,
-                ..self
-            },
-        }
-    }
 }
 
 // The type and the parameter.
@@ -130,8 +69,8 @@ pub(crate) fn read_group(payload: &[u8]) -> Result<Group, Kind>
 }
 
 // Names the key of an `sbgp`, which no other of the `traf` may have, and which may not be the fifth
-// of the track.
-fn name(key: GroupKey, keys: &mut Keys, named: &mut KeysNamed) -> Result<(), Kind>
+// of the track. Whether a key is named stands at its place among the track's.
+fn name(key: GroupKey, keys: &mut Keys, named: &mut [bool; 4]) -> Result<(), Kind>
     ensures named { OnOk result (WhereNamed (keys_seen keys.old) named.old (λ first before.
         (g : Grouping) → g.key ≡ key_seen key
         → NamesOneMore first before g (keys_seen keys.new) named.new)) }
@@ -140,7 +79,7 @@ fn name(key: GroupKey, keys: &mut Keys, named: &mut KeysNamed) -> Result<(), Kin
 {
     let place = match keys.place(key) {
         Some(j) => {
-            if named.has(j) {
+            if named[j as usize] {
                 return Err(Kind::DuplicateBox);
             }
             j
@@ -154,7 +93,7 @@ fn name(key: GroupKey, keys: &mut Keys, named: &mut KeysNamed) -> Result<(), Kin
             count
         }
     };
-    *named = named.with(place);
+    named[place as usize] = true;
     Ok(())
 }
 
@@ -194,7 +133,7 @@ pub(crate) fn check_group<L: Ledger>(
     payload: &[u8],
     n: u32,
     keys: &mut Keys,
-    named: &mut KeysNamed,
+    named: &mut [bool; 4],
     steps: &mut Steps<L>,
 ) -> Result<(), Kind>
     ensures sound { OnOk result (WhereNamed (keys_seen keys.old) named.old
