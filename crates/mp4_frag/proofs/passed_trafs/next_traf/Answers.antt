@@ -6,8 +6,8 @@ use Rattle.mp4_frag.specs.words.PlacesIn.{groups_work}
 use Rattle.mp4_frag.specs.declared.places.FragPlace.{FragPlace}
 use Rattle.mp4_frag.specs.declared.places.RowPlace.{RowPlace}
 use Rattle.mp4_frag.proofs.LooksAhead.{work_none, work_found, next_none, next_found, based_found}
-use Rattle.mp4_frag.proofs.walk.next_traf.Goals as goal
-use Rattle.mp4_frag.proofs.walk.next_traf.Goals.{then-not-ahead, else-not-ahead}
+use Rattle.mp4_frag.proofs.passed_trafs.next_traf.Goals as goal
+use Rattle.mp4_frag.proofs.passed_trafs.next_traf.Goals.{then-not-ahead, else-not-ahead}
 
 yes : (v : Bool) → not v ≡ false → v ≡ true
 yes true e = refl

@@ -4,7 +4,7 @@ use Rattle.mp4_frag.specs.declared.places.FragPlace.{FragPlace}
 use Rattle.mp4_frag.proofs.BoxPlaces.{box_end}
 use Rattle.mp4_frag.proofs.Comings.{leaf_other, leaves_done}
 use Rattle.mp4_frag.proofs.WalkWork.{groups_fall}
-use Rattle.mp4_frag.proofs.walk.open_traf.Goals as goal
+use Rattle.mp4_frag.proofs.opened_trafs.open_traf.Goals as goal
 
 pub loop-at-preserved : goal.loop-at-preserved
 loop-at-preserved c =

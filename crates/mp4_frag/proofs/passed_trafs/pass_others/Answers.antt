@@ -5,8 +5,8 @@ use Rattle.mp4_frag.specs.words.Looks.{is_named}
 use Rattle.mp4_frag.specs.words.Walks.{walk_of, reached, boxes_between}
 use Rattle.mp4_frag.proofs.BoxPlaces.{box_end}
 use Rattle.mp4_frag.proofs.LooksAhead.{others_box, others_traf, other_here, others_done}
-use Rattle.mp4_frag.proofs.walk.pass_others.Goals as goal
-use Rattle.mp4_frag.proofs.walk.pass_others.Goals.{then-eq, else-eq}
+use Rattle.mp4_frag.proofs.passed_trafs.pass_others.Goals as goal
+use Rattle.mp4_frag.proofs.passed_trafs.pass_others.Goals.{then-eq, else-eq}
 
 pub pass_traf-passed-requires-clause-other : goal.pass_traf-passed-requires-clause-other
 pass_traf-passed-requires-clause-other c =

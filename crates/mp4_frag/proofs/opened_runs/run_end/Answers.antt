@@ -1,7 +1,7 @@
 use Rattle.std.proofs.Common.{◌≡◌, ◌∙◌, sym, arith}
 use Rattle.mp4_frag.specs.words.Walks.{rows_here}
 use Rattle.mp4_frag.proofs.RowsLeft.{end_none, no_rows}
-use Rattle.mp4_frag.proofs.walk.run_end.Goals as goal
+use Rattle.mp4_frag.proofs.opened_runs.run_end.Goals as goal
 
 pub returns : goal.returns
 returns c =

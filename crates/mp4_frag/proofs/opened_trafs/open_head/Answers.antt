@@ -2,7 +2,7 @@ use Rattle.std.proofs.Common.{◌≡◌, to_z, of_z, Some, rules}
 use Rattle.std.specs.Int.{w128}
 use Rattle.mp4_frag.specs.words.Walks.{walk_of, reached, part_of}
 use Rattle.mp4_frag.proofs.LeavesRead.{head_taken}
-use Rattle.mp4_frag.proofs.walk.open_head.Goals as goal
+use Rattle.mp4_frag.proofs.opened_trafs.open_head.Goals as goal
 
 pub returns-clause-reached : goal.returns-clause-reached
 returns-clause-reached c =

@@ -2,7 +2,7 @@ use Rattle.std.proofs.Common.{◌≡◌, to_z, of_z, rules}
 use Rattle.std.specs.Int.{w128}
 use Rattle.mp4_frag.specs.words.Walks.{reached, part_of}
 use Rattle.mp4_frag.proofs.LeavesRead.{rows_taken, over_unread, over_read}
-use Rattle.mp4_frag.proofs.walk.pass_run.Goals as goal
+use Rattle.mp4_frag.proofs.opened_runs.pass_run.Goals as goal
 
 pub returns-in_default-clause-reached : goal.returns-in_default-clause-reached
 returns-in_default-clause-reached c =

@@ -2,7 +2,7 @@ use Rattle.std.proofs.Common.{◌≡◌, ◌≤◌}
 use Rattle.mp4_frag.specs.words.Finding.{IsKnown}
 use Rattle.mp4_frag.specs.words.Walks.{walk_of, reached}
 use Rattle.mp4_frag.proofs.LooksAhead.{OthersLeft}
-use Rattle.mp4_frag.proofs.walk.pass_others.Given as goal
+use Rattle.mp4_frag.proofs.passed_trafs.pass_others.Given as goal
 
 -- what comes behind the boxes passed is what came before them
 abbrev pub invariant-loop-left : goal.invariant-loop-left

@@ -2,7 +2,7 @@ use Rattle.std.proofs.Common.{◌≡◌, ◌+◌, ◌-◌, ◌≤◌}
 use Rattle.mp4_frag.specs.words.Finding.{IsKnown}
 use Rattle.mp4_frag.specs.words.PlacesIn.{AreIndexPlaces, groups_work}
 use Rattle.mp4_frag.specs.words.Walks.{walk_of, reached, before_traf, with_leaves, boxes_between}
-use Rattle.mp4_frag.proofs.walk.open_traf.Given as goal
+use Rattle.mp4_frag.proofs.opened_trafs.open_traf.Given as goal
 
 -- what the boxes passed say and those left make the whole
 abbrev pub invariant-loop-at : goal.invariant-loop-at

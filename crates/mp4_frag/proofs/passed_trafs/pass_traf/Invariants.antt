@@ -3,7 +3,7 @@ use Rattle.mp4_frag.specs.words.Finding.{IsKnown}
 use Rattle.mp4_frag.specs.words.Looks.{over_runs}
 use Rattle.mp4_frag.specs.words.PlacesIn.{runs_work, groups_work}
 use Rattle.mp4_frag.specs.words.Walks.{walk_of, reached, before_traf, with_leaves, boxes_between}
-use Rattle.mp4_frag.proofs.walk.pass_traf.Given as goal
+use Rattle.mp4_frag.proofs.passed_trafs.pass_traf.Given as goal
 
 -- behind the runs passed and those left it stands behind all
 abbrev pub invariant-loop-at : goal.invariant-loop-at

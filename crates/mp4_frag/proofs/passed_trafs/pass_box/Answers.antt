@@ -2,7 +2,7 @@ use Rattle.std.proofs.Common.{◌∙◌, refl, sym, rules, arith}
 use Rattle.mp4_frag.specs.words.Walks.{walk_of, reached}
 use Rattle.mp4_frag.proofs.Comings.{rows_done, traf_ends, other_leaf, run_opened}
 use Rattle.mp4_frag.proofs.WalkWork.{work_traf_ends, work_leaf, work_run}
-use Rattle.mp4_frag.proofs.walk.pass_box.Goals as goal
+use Rattle.mp4_frag.proofs.passed_trafs.pass_box.Goals as goal
 
 pub returns-in_default-clause-coming : goal.returns-in_default-clause-coming
 returns-in_default-clause-coming c =

@@ -1,7 +1,7 @@
 use Rattle.std.proofs.Common.{◌≡◌, ◌-◌, ◌≤◌, length}
 use Rattle.mp4_frag.specs.words.PlacesIn.{LiesIn}
 use Rattle.mp4_frag.specs.words.Walks.{walk_of, coming}
-use Rattle.mp4_frag.proofs.walk.settle.Given as goal
+use Rattle.mp4_frag.proofs.passed_trafs.settle.Given as goal
 
 -- the same samples are to come
 abbrev pub invariant-loop-place : goal.invariant-loop-place

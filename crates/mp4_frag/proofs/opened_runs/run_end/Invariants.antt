@@ -1,7 +1,7 @@
 use Rattle.std.proofs.Common.{◌≡◌}
 use Rattle.mp4_frag.specs.words.PlacesIn.{IsRowPlace}
 use Rattle.mp4_frag.specs.words.Walks.{rows_here, end_held}
-use Rattle.mp4_frag.proofs.walk.run_end.Given as goal
+use Rattle.mp4_frag.proofs.opened_runs.run_end.Given as goal
 
 -- the end is where the rows left end
 abbrev pub invariant-loop-run : goal.invariant-loop-run

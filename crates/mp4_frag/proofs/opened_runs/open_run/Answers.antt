@@ -6,7 +6,7 @@ use Rattle.mp4_frag.proofs.RowsLeft.{no_rows}
 use Rattle.mp4_frag.proofs.WalkWork.{run_cost, own_work}
 use Rattle.mp4_frag.specs.declared.places.FragPlace.{FragPlace}
 use Rattle.mp4_frag.proofs.TrafsSkipped.{run_over}
-use Rattle.mp4_frag.proofs.walk.open_run.Goals as goal
+use Rattle.mp4_frag.proofs.opened_runs.open_run.Goals as goal
 
 pub returns-in_default-clause-coming : goal.returns-in_default-clause-coming
 returns-in_default-clause-coming c more =

@@ -3,7 +3,7 @@ use Rattle.mp4_frag.specs.words.Walks.{walk_of, reached, boxes_between}
 use Rattle.mp4_frag.proofs.BoxPlaces.{box_end}
 use Rattle.mp4_frag.proofs.TrafsSkipped.{over_other, over_done, traf_passed}
 use Rattle.mp4_frag.proofs.WalkWork.{runs_fall}
-use Rattle.mp4_frag.proofs.walk.pass_traf.Goals as goal
+use Rattle.mp4_frag.proofs.passed_trafs.pass_traf.Goals as goal
 
 pub loop-at-preserved : goal.loop-at-preserved
 loop-at-preserved c =

@@ -2,7 +2,7 @@ use Rattle.std.proofs.Common.{◌∙◌}
 use Rattle.mp4_tables.specs.words.Keys.{keys_seen}
 use Rattle.mp4_frag.specs.words.Walks.{all_indexes, indexes_here}
 use Rattle.mp4_frag.proofs.LeavesRead.{group_taken}
-use Rattle.mp4_frag.proofs.walk.open_group.Goals as goal
+use Rattle.mp4_frag.proofs.opened_trafs.open_group.Goals as goal
 
 pub returns-clause-indexes : goal.returns-clause-indexes
 returns-clause-indexes c =
