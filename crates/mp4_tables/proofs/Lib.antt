@@ -22,6 +22,7 @@ pub mod SyncLists
 pub mod SpotLists
 pub mod ChunkLists
 pub mod RunLists
+pub mod IndexesLeft
 pub mod NamedKeys
 pub mod GroupMaps
 pub mod Placed

@@ -6,3 +6,4 @@ pub mod Accepted
 pub mod TablesSeen
 pub mod Leaves
 pub mod ChunkPlaces
+pub mod Indexes

@@ -129,7 +129,7 @@ pub struct TablePlace {
 }
 
 // A number of rows, in 64 bits.
-fn rows(count: u32) -> u64
+pub(crate) fn rows(count: u32) -> u64
     ensures is { result ≡ count }
     ensures small { result < 2 ^ 32 }
 {
