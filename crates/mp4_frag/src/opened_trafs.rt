@@ -1,32 +1,34 @@
 //! A `traf` is opened: what goes for its samples.
 ghost use Rattle.std.specs.Prelude.{◌≡◌, ◌+◌, ◌≤◌};
+ghost use Rattle.mp4_tables.specs.words.Indexes.{AreIndexPlaces, indexes_coming};
 ghost use Rattle.mp4_tables.specs.words.Keys.{keys_seen};
-ghost use Rattle.mp4_frag.specs.words.PlacesIn.{ChangesIndexes, ChangesHead, IsBoxIn, bytes_inside, boxes_inside, KeepsWalk, traf_opened, AreIndexPlaces, group_work, groups_work};
+ghost use Rattle.mp4_frag.specs.words.PlacesIn.{ChangesIndexes, ChangesHead, IsBoxIn, bytes_inside, boxes_inside, KeepsWalk, traf_opened, group_work, groups_work};
 ghost use Rattle.mp4_frag.specs.words.Finding.{IsKnown};
-ghost use Rattle.mp4_frag.specs.words.Walks.{trex_among, with_head, all_indexes, with_group, reached, walk_of};
+ghost use Rattle.mp4_frag.specs.words.Walks.{trex_among, with_head, with_group, reached, walk_of};
 
 use crate::check::{SBGP, TFHD};
 use crate::finding::{Known, search};
 use crate::groups::read_group;
 use crate::heads::{base_of, read_head, what_is_inherited};
-use crate::indexes::{first_index, no_indexes, with_index};
 use crate::lying::{Lying, box_at};
 use crate::places::FragPlace;
 use crate::state::TrackState;
 use crate::trex::Trex;
+use mp4_tables::{no_indexes, open_rows};
 
 // Takes the rows of an `sbgp`, if its key is one of the track's: its indexes are to come there, at
 // a step for each row.
 fn open_group(payload: &[u8], lying: Lying, place: &mut FragPlace)
     requires lies { IsBoxIn payload.now lying }
-    requires places { AreIndexPlaces payload.now place.old.indexes }
-    ensures places { AreIndexPlaces payload.now place.new.indexes }
+    requires places { AreIndexPlaces payload.now place.old.index_rows place.old.indexes }
+    ensures places { AreIndexPlaces payload.now place.new.index_rows place.new.indexes }
     ensures same { ChangesIndexes place.old place.new }
     ensures on { place.old.passed ≤ place.new.passed }
     ensures work { place.new.passed ≤ place.old.passed
         + group_work (bytes_inside payload.now lying) }
-    ensures indexes { all_indexes payload.now place.new.indexes
-        ≡ with_group (keys_seen place.old.keys) (all_indexes payload.now place.old.indexes)
+    ensures indexes { indexes_coming payload.now place.new.index_rows place.new.indexes
+        ≡ with_group (keys_seen place.old.keys)
+        (indexes_coming payload.now place.old.index_rows place.old.indexes)
         (bytes_inside payload.now lying) }
 {
     let Ok(group) = read_group(&payload[lying.inside..lying.end]) else {
@@ -35,8 +37,15 @@ fn open_group(payload: &[u8], lying: Lying, place: &mut FragPlace)
     let Some(j) = place.keys.place(group.key) else {
         return;
     };
-    let rows = first_index(payload, lying.inside, group);
-    place.indexes = with_index(place.indexes, j, rows);
+    let at = lying.inside + group.rows;
+    open_rows(
+        payload,
+        &mut place.index_rows,
+        &mut place.indexes,
+        j,
+        at,
+        group.count,
+    );
     place.passed = place.passed.saturating_add(u64::from(group.count));
 }
 
@@ -97,7 +106,7 @@ pub(crate) fn open_traf(
     ensures walk { KeepsWalk place.old place.new }
     ensures run { place.new.run ≡ place.old.run }
     ensures time { place.new.dts ≡ place.old.dts }
-    ensures indexes { AreIndexPlaces payload.now place.new.indexes }
+    ensures indexes { AreIndexPlaces payload.now place.new.index_rows place.new.indexes }
     ensures work { place.new.passed
         ≤ place.old.passed + groups_work (boxes_inside payload.now lying) }
     ensures reached { reached payload.now place.new
@@ -106,7 +115,7 @@ pub(crate) fn open_traf(
     place.next = lying.inside;
     place.traf_end = lying.end;
     place.is_own = false;
-    place.indexes = no_indexes();
+    (place.index_rows, place.indexes) = no_indexes();
     let mut at = lying.inside;
     while at < lying.end {
         let Some(child) = box_at(payload, at, lying.end) else {

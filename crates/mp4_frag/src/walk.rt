@@ -6,13 +6,12 @@ ghost use Rattle.mp4_frag.specs.words.Times.{time_behind};
 ghost use Rattle.mp4_frag.specs.words.Walks.{Walk, at_first, trafs_coming, first_byte, walk_of, coming};
 
 use crate::heads::nothing_inherited;
-use crate::indexes::{indexes_here, no_indexes, pass_indexes};
 use crate::opened_runs::{next_row, row_here};
 use crate::passed_trafs::settle;
 use crate::places::{FragPlace, RowPlace};
 use crate::runs::signed;
 use crate::state::TrackState;
-use mp4_tables::{Keys, SampleAt};
+use mp4_tables::{Keys, SampleAt, no_indexes};
 
 // The flags of a sample: those of its run's first sample, its own, or the inherited ones. The four
 // highest bits are reserved.
@@ -50,7 +49,7 @@ pub(crate) fn sample_here(payload: &[u8], place: &FragPlace) -> SampleAt
         description: place.inherited.description,
         at: file_place(place.at),
         size: row.size.unwrap_or(place.inherited.size),
-        groups: indexes_here(&place.indexes),
+        groups: place.indexes.here(),
     }
 }
 
@@ -73,7 +72,7 @@ fn pass_row(payload: &[u8], place: &mut FragPlace)
     place.at = place.at.saturating_add(i128::from(size));
     place.run = next_row(place.run);
     place.passed = place.passed.saturating_add(1);
-    pass_indexes(payload, &mut place.indexes);
+    place.indexes.pass(payload, &place.index_rows);
 }
 
 /// Goes one sample on: those behind it are to come, at their times.
@@ -103,6 +102,7 @@ pub(crate) fn first_place(moof: u64, track: u32, dts: u64, keys: Keys) -> FragPl
         → coming payload w result
         ≡ trafs_coming w (at_first moof dts) (boxes_from payload 0) }
 {
+    let (index_rows, indexes) = no_indexes();
     FragPlace {
         track,
         keys,
@@ -119,7 +119,8 @@ pub(crate) fn first_place(moof: u64, track: u32, dts: u64, keys: Keys) -> FragPl
             bits: 0,
             first_flags: None,
         },
-        indexes: no_indexes(),
+        index_rows,
+        indexes,
         passed: 0,
     }
 }
