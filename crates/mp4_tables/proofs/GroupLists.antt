@@ -1,7 +1,6 @@
 -- Indexes of samples by their rows.
 use Rattle.std.proofs.Common.{◌≡◌, ℕ, zero, suc, ◌+◌, ◌-◌, ◌<◌, ◌≤◌, List, [], ◌∷◌, length, drop, replicate, slice_index, ap, sym, subst, ◌∙◌, arith, inl, inr, length-drop}
 use Rattle.std.specs.List.{AllByRecursion}
-use Rattle.std.proofs.lemmas.List.{drop-drop, get_or-drop}
 use Rattle.std.proofs.lemmas.Bool.{cases_lt}
 use Rattle.mp4_boxes.proofs.Among.{all_append}
 use Rattle.mp4_tables.specs.format.Repeated.{repeated}
@@ -59,29 +58,13 @@ run_passed payload at p q values k was next settled within =
       within = omega (arith, runs_length payload at);
     }
 
--- behind the last value there is nothing to pass
-pub run_ended : (runs : List (ℕ × ℕ)) (p : RunPlace) (values : List ℕ) (k : ℕ) → IsRunPlace runs p (drop k values) → p.left ≡ 0 → IsRunPlace runs p (drop (k + 1) values)
-run_ended runs p values k at e =
-    let none = at.settled e in
-    let rest : drop (k + 1) values ≡ [] = sym (drop-drop 1 k values) ∙ ap (drop 1) none in
-    record {
-      rest = at.rest ∙ none ∙ sym rest;
-      settled = λ _. rest;
-      within = at.within;
-    }
-
-pub index_ended : (runs : List (ℕ × ℕ)) (p : RunPlace) (values : List ℕ) (k : ℕ) → IsRunPlace runs p (drop k values) → p.left ≡ 0 → slice_index values k ≡ 0
-index_ended runs p values k at e =
-    let z : k + 0 ≡ k = omega arith in
-    ap (slice_index values) (sym z) ∙ sym (get_or-drop k values 0 0) ∙ ap (λ l. slice_index l 0) (at.settled e)
-
 -- ---- what holds of each row's value holds of each value
 
 all_same : (P : ℕ → Type 0) (n value : ℕ) → P value → AllByRecursion P (replicate n value)
 all_same P zero value h = tt
 all_same P (suc n) value h = (h, all_same P n value h)
 
-all_repeated : (P : ℕ → Type 0) (runs : List (ℕ × ℕ)) → AllByRecursion (λ (run : ℕ × ℕ). P run.1) runs → AllByRecursion P (repeated runs)
+pub all_repeated : (P : ℕ → Type 0) (runs : List (ℕ × ℕ)) → AllByRecursion (λ (run : ℕ × ℕ). P run.1) runs → AllByRecursion P (repeated runs)
 all_repeated P [] h = tt
 all_repeated P (run ∷ runs) h = all_append P (replicate run.0 run.1) (repeated runs) (all_same P run.0 run.1 h.0) (all_repeated P runs h.1)
 

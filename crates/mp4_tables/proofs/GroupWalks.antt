@@ -1,13 +1,14 @@
 -- Sample groups child by child: what was read so far, the faults of the next child, and the rows that were passed.
 use Rattle.std.proofs.Common.{◌≡◌, ℕ, suc, ◌+◌, ◌*◌, ◌<◌, ◌≤◌, inl, inr, List, [], ◌∷◌, ◌++◌, length, take, drop, map, subst, refl, ap, sym, ◌∙◌, arith, Bool, true, false, Some}
-use Rattle.std.specs.Prelude.{bytes_eq, codes}
+use Rattle.std.specs.Prelude.{bytes_eq, codes, slice_set, slice_index_or}
 use Rattle.std.specs.List.{AllByRecursion, slice_get}
 use Rattle.std.proofs.lemmas.List.{append-nil, append_assoc}
 use Rattle.mp4_tables.proofs.RowLists.{runs_all, runs_length}
 use Rattle.mp4_boxes.proofs.Among.{all_append, of_kind-split, of_kind-append}
 use Rattle.mp4_tables.specs.format.Groups.{GroupKey, GroupRule, one_of_key, few_keys, index_range, group_counts, grouping_of, groupings_of, keeps, group_test, group_reads}
 use Rattle.mp4_tables.specs.words.Keys.{keys_seen}
-use Rattle.mp4_tables.specs.words.Rows.{runs_at}
+use Rattle.mp4_boxes.specs.format.Bytes.{sum_of}
+use Rattle.mp4_tables.specs.words.Rows.{HaveRoom, runs_at}
 use Rattle.mp4_tables.specs.words.Accepted.{group_count, grouped, group_rows, AreDistinct, AreUsed, AreIndexes, HaveGroups}
 use Rattle.mp4_boxes.specs.format.Box.{Box}
 use Rattle.mp4_boxes.specs.format.Children.{of_kind}
@@ -22,6 +23,7 @@ use Rattle.mp4_boxes.specs.declared.fault.Fault.{Fault}
 use Rattle.mp4_tables.specs.words.Leaves.{GroupsSo, GroupPassed, SlotTaken, HasTables, IsChild, boxes_of, AllOf, tables_in, SizesKnown, IsFault, ChildFails, ChildRead, GroupsRead}
 use Rattle.mp4_tables.specs.declared.places.RowsAt.{RowsAt}
 use Rattle.mp4_tables.specs.declared.places.GroupsAt.{GroupsAt}
+use Rattle.mp4_tables.proofs.IndexesLeft.{four}
 use Rattle.mp4_tables.proofs.GroupsKept.{found_none, test_at, test_none}
 
 -- ---- lifting to the children of an `stbl`
@@ -125,26 +127,26 @@ child_fault l stbl b n at left later f h s p e (inr (k, inr r)) =
     never x = cc
 
 -- ---- walking over the children
-pub no_groups_so : (payload : List ℕ) (n : ℕ) (at : GroupsAt) → keys_seen at.keys ≡ [] → at.first.count ≡ 0 → at.second.count ≡ 0 → at.third.count ≡ 0 → at.fourth.count ≡ 0
-    → at.first.place ≡ 0 → at.second.place ≡ 0 → at.third.place ≡ 0 → at.fourth.place ≡ 0 → GroupsSo payload n [] at
-no_groups_so payload n at k a b c d e f g h = record {
+pub no_groups_so : (payload : List ℕ) (n : ℕ) (at : GroupsAt) → keys_seen at.keys ≡ [] → at.rows.by_key ≡ record { place = 0; count = 0 } ∷ record { place = 0; count = 0 } ∷ record { place = 0; count = 0 } ∷ record { place = 0; count = 0 } ∷ []
+    → GroupsSo payload n [] at
+no_groups_so payload n at k e = record {
   same = ap (λ ks. grouped ks (group_rows payload at)) k;
   have = record {
-    first = (omega arith, none_index payload at.first a);
-    second = (omega arith, none_index payload at.second b);
-    third = (omega arith, none_index payload at.third c);
-    fourth = (omega arith, none_index payload at.fourth d);
+    four = ap (λ (rows : List RowsAt). length rows) e;
+    room = subst (AllByRecursion (HaveRoom 8 payload)) (sym e) (omega arith, (omega arith, (omega arith, (omega arith, tt))));
+    indexes = subst (AllByRecursion (λ (rows : RowsAt). AreIndexes (runs_at payload rows))) (sym e) (none_index, (none_index, (none_index, (none_index, tt))));
     distinct = subst AreDistinct (sym k) tt;
-    used = subst (λ ks. AreUsed ks (group_rows payload at)) (sym k) (no_rows payload at.first a, (no_rows payload at.second b, (no_rows payload at.third c, (no_rows payload at.fourth d, tt))));
+    used = subst (λ ks. AreUsed ks (group_rows payload at)) (sym k)
+        (subst (λ rows. AllByRecursion (λ (runs : List (ℕ × ℕ)). runs ≡ []) (map (runs_at payload) rows)) (sym e) (no_rows, (no_rows, (no_rows, (no_rows, tt)))));
   };
   tests = λ rule i. test_none rule n i [] (found_none [] i (omega arith));
 }
   where
-    no_rows : (payload : List ℕ) (r : RowsAt) → r.count ≡ 0 → runs_at payload r ≡ []
-    no_rows payload r z = runs_all payload r 0 (omega arith)
+    no_rows : runs_at payload (record { place = 0; count = 0 }) ≡ []
+    no_rows = runs_all payload (record { place = 0; count = 0 }) 0 (omega arith)
 
-    none_index : (payload : List ℕ) (r : RowsAt) → r.count ≡ 0 → AreIndexes (runs_at payload r)
-    none_index payload r z = subst AreIndexes (sym (runs_all payload r 0 (omega arith))) tt
+    none_index : AreIndexes (runs_at payload (record { place = 0; count = 0 }))
+    none_index = subst AreIndexes (sym no_rows) tt
 
 pub passed_first : (stbl : Box) (n : ℕ) (at : GroupsAt) (left : List Box) → GroupsSo stbl.payload n [] at → left ≡ boxes_of stbl → GroupsPassed stbl n at left
 passed_first stbl n at left s e = record { passed = []; is = sym e; so = s; groups = tt; described = tt }
@@ -203,26 +205,24 @@ none_counted : (payload : List ℕ) (r : RowsAt) → runs_at payload r ≡ [] �
 none_counted payload r e = sym (runs_length payload r) ∙ ap (λ (xs : List (ℕ × ℕ)). length xs) e
 
 -- one more `sbgp` has its rows in an empty slot
-slot_counted : (payload : List ℕ) (keys : List GroupKey) (at after : GroupsAt) (r : RowsAt) → AreUsed keys (group_rows payload at) → SlotTaken (length keys) at r after → length keys < 4 → group_count after ≡ group_count at + r.count
-slot_counted payload [] at after r u (a, b, c, d) h =
-    let z = none_counted payload at.first u.0 in
-    omega (arith, z, ap (λ (x : RowsAt). x.count) a, ap (λ (x : RowsAt). x.count) b, ap (λ (x : RowsAt). x.count) c, ap (λ (x : RowsAt). x.count) d)
-slot_counted payload (k ∷ []) at after r u (a, b, c, d) h =
-    let z = none_counted payload at.second u.0 in
-    omega (arith, z, ap (λ (x : RowsAt). x.count) a, ap (λ (x : RowsAt). x.count) b, ap (λ (x : RowsAt). x.count) c, ap (λ (x : RowsAt). x.count) d)
-slot_counted payload (k ∷ l ∷ []) at after r u (a, b, c, d) h =
-    let z = none_counted payload at.third u.0 in
-    omega (arith, z, ap (λ (x : RowsAt). x.count) a, ap (λ (x : RowsAt). x.count) b, ap (λ (x : RowsAt). x.count) c, ap (λ (x : RowsAt). x.count) d)
-slot_counted payload (k ∷ l ∷ m ∷ []) at after r u (a, b, c, d) h =
-    let z = none_counted payload at.fourth u.0 in
-    omega (arith, z, ap (λ (x : RowsAt). x.count) a, ap (λ (x : RowsAt). x.count) b, ap (λ (x : RowsAt). x.count) c, ap (λ (x : RowsAt). x.count) d)
-slot_counted payload (k ∷ l ∷ m ∷ o ∷ keys) at after r u s h = absurd (omega (arith, h))
+slot_counted : (payload : List ℕ) (keys : List GroupKey) (rows : List RowsAt) (r : RowsAt) → AreUsed keys (map (runs_at payload) rows) → length keys < length rows
+    → sum_of (λ (x : RowsAt). x.count) (slice_set rows (length keys) r) ≡ sum_of (λ (x : RowsAt). x.count) rows + r.count
+slot_counted payload keys [] r u h = absurd (omega (arith, h))
+slot_counted payload [] (s ∷ rows) r u h = let z = none_counted payload s u.0 in omega (arith, z)
+slot_counted payload (k ∷ keys) (s ∷ rows) r u h = let more = slot_counted payload keys rows r u (omega (arith, h)) in omega (arith, more)
 
 pub group_passed : (payload : List ℕ) (n old new : ℕ) (at after : GroupsAt) (r : RowsAt) → SlotTaken (length (keys_seen at.keys)) at r after → length (keys_seen at.keys) < 4 → new ≤ old + 2 * r.count → GroupPassed payload n at after old new
-group_passed payload n old new at after r s few h = λ gs so. let e = slot_counted payload (keys_seen at.keys) at after r so.have.used s few in omega arith
+group_passed payload n old new at after r s few h = λ gs so.
+    let four = so.have.four in
+    let e = ap (λ rows. sum_of (λ (x : RowsAt). x.count) rows) s ∙ slot_counted payload (keys_seen at.keys) at.rows.by_key r so.have.used (omega (arith, four, few)) in
+    omega (arith, e, h)
 
 -- all rows that were read lie in the payload
 pub rows_bounded : (payload : List ℕ) (at : GroupsAt) → HaveGroups payload at → 2 * group_count at ≤ length payload
 rows_bounded payload at h =
-    let a = h.first.0 in let b = h.second.0 in let c = h.third.0 in let d = h.fourth.0 in
-    omega arith
+    let d : RowsAt = record { place = 0; count = 0 } in
+    let e = four at.rows.by_key d h.four in
+    let room : AllByRecursion (HaveRoom 8 payload) (slice_index_or at.rows.by_key 0 d ∷ slice_index_or at.rows.by_key 1 d ∷ slice_index_or at.rows.by_key 2 d ∷ slice_index_or at.rows.by_key 3 d ∷ []) = subst (AllByRecursion (HaveRoom 8 payload)) e h.room in
+    let n = ap (λ rows. sum_of (λ (x : RowsAt). x.count) rows) e in
+    let first = room.0 in let second = room.1.0 in let third = room.1.1.0 in let fourth = room.1.1.1.0 in
+    omega (arith, n, first, second, third, fourth)

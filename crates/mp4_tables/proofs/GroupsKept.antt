@@ -1,8 +1,9 @@
 -- Sample groups one after the other: with one more their rules are kept where it keeps them.
 use Rattle.std.proofs.Common.{◌≡◌, ℕ, zero, suc, ◌<◌, ◌≤◌, inl, inr, List, [], ◌∷◌, ◌++◌, length, take, map, subst, refl, ap, sym, ◌∙◌, arith, Bool, true, false, Some, None, length-append}
-use Rattle.std.specs.Prelude.{nat_le, nat_lt, ◌==◌, ◌||◌, ◌&&◌, not}
+use Rattle.std.specs.Prelude.{nat_le, nat_lt, ◌==◌, ◌||◌, ◌&&◌, not, slice_set}
 use Rattle.std.specs.List.{AllByRecursion, list_all, list_any, slice_get}
 use Rattle.std.proofs.lemmas.Bool.{cases_lt}
+use Rattle.std.proofs.lemmas.List.{length-set}
 use Rattle.std.proofs.lemmas.Bool.Decides.{nat_tests}
 use Rattle.mp4_boxes.proofs.Among.{all_append}
 use Rattle.mp4_tables.specs.format.Repeated.{total}
@@ -10,7 +11,7 @@ use Rattle.mp4_tables.specs.format.Groups.{GroupKey, Grouping, GroupRule, one_of
 use Rattle.mp4_tables.specs.words.Keys.{keys_seen}
 use Rattle.mp4_tables.specs.words.Rows.{HaveRoom, runs_at}
 use Rattle.mp4_tables.specs.words.TablesComing.{all_below}
-use Rattle.mp4_tables.specs.words.Accepted.{grouped, group_rows, groupings_at, AreDistinct, AreUsed, AreIndexes, HaveGroup, HaveGroups}
+use Rattle.mp4_tables.specs.words.Accepted.{grouped, group_rows, groupings_at, AreDistinct, AreUsed, AreIndexes, HaveGroups}
 use Rattle.mp4_tables.specs.words.Leaves.{GroupsSo, SlotTaken}
 use Rattle.mp4_tables.specs.declared.places.RowsAt.{RowsAt}
 use Rattle.mp4_tables.specs.declared.places.GroupsAt.{GroupsAt}
@@ -119,33 +120,17 @@ index_rows [] e = tt
 index_rows (run ∷ runs) e = let p = both (nat_lt run.1 65536) (all_below 65536 runs) e in let l = lt_yes run.1 65536 p.0 in (omega arith, index_rows runs p.1)
 
 -- the rows of the groupings, with one slot taken
-shape : (payload : List ℕ) (at after : GroupsAt) (k : GroupKey) (r : RowsAt) (m : ℕ) (keys : List GroupKey) → m ≡ length keys → m < 4 → AreUsed keys (group_rows payload at) → SlotTaken m at r after
-    → (grouped (keys ++ k ∷ []) (group_rows payload after) ≡ grouped keys (group_rows payload at) ++ record { key = k; rows = runs_at payload r } ∷ []) × AreUsed (keys ++ k ∷ []) (group_rows payload after)
-shape payload at after k r zero [] e l u s =
-    (ap (λ x. record { key = k; rows = runs_at payload x } ∷ []) s.0, (ap (runs_at payload) s.1 ∙ u.1.0, (ap (runs_at payload) s.2 ∙ u.1.1.0, (ap (runs_at payload) s.3 ∙ u.1.1.1.0, tt))))
-shape payload at after k r zero (a ∷ keys) e l u s = absurd (omega (arith, e))
-shape payload at after k r (suc zero) [] e l u s = absurd (omega (arith, e))
-shape payload at after k r (suc zero) (a ∷ []) e l u s =
-    ((λ i. record { key = a; rows = runs_at payload (s.0 i) } ∷ record { key = k; rows = runs_at payload (s.1 i) } ∷ []), (ap (runs_at payload) s.2 ∙ u.1.0, (ap (runs_at payload) s.3 ∙ u.1.1.0, tt)))
-shape payload at after k r (suc zero) (a ∷ b ∷ keys) e l u s = absurd (omega (arith, e))
-shape payload at after k r (suc (suc zero)) [] e l u s = absurd (omega (arith, e))
-shape payload at after k r (suc (suc zero)) (a ∷ []) e l u s = absurd (omega (arith, e))
-shape payload at after k r (suc (suc zero)) (a ∷ b ∷ []) e l u s =
-    ((λ i. record { key = a; rows = runs_at payload (s.0 i) } ∷ record { key = b; rows = runs_at payload (s.1 i) } ∷ record { key = k; rows = runs_at payload (s.2 i) } ∷ []), (ap (runs_at payload) s.3 ∙ u.1.0, tt))
-shape payload at after k r (suc (suc zero)) (a ∷ b ∷ c ∷ keys) e l u s = absurd (omega (arith, e))
-shape payload at after k r (suc (suc (suc m))) [] e l u s = absurd (omega (arith, e))
-shape payload at after k r (suc (suc (suc m))) (a ∷ []) e l u s = absurd (omega (arith, e))
-shape payload at after k r (suc (suc (suc m))) (a ∷ b ∷ []) e l u s = absurd (omega (arith, e))
-shape payload at after k r (suc (suc (suc m))) (a ∷ b ∷ c ∷ []) e l u s =
-    ((λ i. record { key = a; rows = runs_at payload (s.0 i) } ∷ record { key = b; rows = runs_at payload (s.1 i) } ∷ record { key = c; rows = runs_at payload (s.2 i) } ∷ record { key = k; rows = runs_at payload (s.3 i) } ∷ []), tt)
-shape payload at after k r (suc (suc (suc m))) (a ∷ b ∷ c ∷ d ∷ keys) e l u s = absurd (omega (arith, e, l))
+shape : (payload : List ℕ) (keys : List GroupKey) (rows : List RowsAt) (k : GroupKey) (r : RowsAt) → length keys < length rows → AreUsed keys (map (runs_at payload) rows)
+    → (grouped (keys ++ k ∷ []) (map (runs_at payload) (slice_set rows (length keys) r)) ≡ grouped keys (map (runs_at payload) rows) ++ record { key = k; rows = runs_at payload r } ∷ [])
+    × AreUsed (keys ++ k ∷ []) (map (runs_at payload) (slice_set rows (length keys) r))
+shape payload keys [] k r l u = absurd (omega (arith, l))
+shape payload [] (s ∷ rows) k r l u = (refl, u.1)
+shape payload (a ∷ keys) (s ∷ rows) k r l u = let h = shape payload keys rows k r (omega (arith, l)) u in (ap (λ (gs : List Grouping). record { key = a; rows = runs_at payload s } ∷ gs) h.0, h.1)
 
-slot_have : (payload : List ℕ) (at after : GroupsAt) (r : RowsAt) (m : ℕ) → SlotTaken m at r after → HaveGroup payload r → HaveGroups payload at
-    → HaveGroup payload after.first × HaveGroup payload after.second × HaveGroup payload after.third × HaveGroup payload after.fourth
-slot_have payload at after r zero s n h = (subst (HaveGroup payload) (sym s.0) n, subst (HaveGroup payload) (sym s.1) h.second, subst (HaveGroup payload) (sym s.2) h.third, subst (HaveGroup payload) (sym s.3) h.fourth)
-slot_have payload at after r (suc zero) s n h = (subst (HaveGroup payload) (sym s.0) h.first, subst (HaveGroup payload) (sym s.1) n, subst (HaveGroup payload) (sym s.2) h.third, subst (HaveGroup payload) (sym s.3) h.fourth)
-slot_have payload at after r (suc (suc zero)) s n h = (subst (HaveGroup payload) (sym s.0) h.first, subst (HaveGroup payload) (sym s.1) h.second, subst (HaveGroup payload) (sym s.2) n, subst (HaveGroup payload) (sym s.3) h.fourth)
-slot_have payload at after r (suc (suc (suc m))) s n h = (subst (HaveGroup payload) (sym s.0) h.first, subst (HaveGroup payload) (sym s.1) h.second, subst (HaveGroup payload) (sym s.2) h.third, subst (HaveGroup payload) (sym s.3) n)
+all_set : {A : Type 0} (P : A → Type 0) (xs : List A) (j : ℕ) (x : A) → AllByRecursion P xs → P x → AllByRecursion P (slice_set xs j x)
+all_set P [] j x h own = tt
+all_set P (y ∷ xs) zero x h own = (own, h.1)
+all_set P (y ∷ xs) (suc j) x h own = (h.0, all_set P xs j x h.1 own)
 
 all_keep : (payload : List ℕ) (n : ℕ) (at : GroupsAt) (gs : List Grouping) (g : Grouping) → GroupsSo payload n gs at → list_any (same_key g.key) (keys_seen at.keys) ≡ false → (length (keys_seen at.keys) == 4) ≡ false → all_below 65536 g.rows ≡ true → nat_le (total g.rows) n ≡ true
     → (rule : GroupRule) → keeps rule n [] gs g ≡ true
@@ -155,23 +140,23 @@ all_keep payload n at gs g s k f b t index_range = keeps_range n gs g true b
 all_keep payload n at gs g s k f b t group_counts = t
 
 -- with one more `sbgp` that keeps all rules, all are still kept
-pub group_added : (payload : List ℕ) (n m : ℕ) (at after : GroupsAt) (gs : List Grouping) (k : GroupKey) (r : RowsAt) → GroupsSo payload n gs at → keys_seen after.keys ≡ keys_seen at.keys ++ k ∷ [] → m ≡ length (keys_seen at.keys) → SlotTaken m at r after
-    → list_any (same_key k) (keys_seen at.keys) ≡ false → m < 4 → HaveRoom 8 payload r → all_below 65536 (runs_at payload r) ≡ true → total (runs_at payload r) ≤ n → GroupsSo payload n (gs ++ record { key = k; rows = runs_at payload r } ∷ []) after
-group_added payload n m at after gs k r s ks e slot new l room small few =
+pub group_added : (payload : List ℕ) (n : ℕ) (at after : GroupsAt) (gs : List Grouping) (k : GroupKey) (r : RowsAt) → GroupsSo payload n gs at → keys_seen after.keys ≡ keys_seen at.keys ++ k ∷ [] → SlotTaken (length (keys_seen at.keys)) at r after
+    → list_any (same_key k) (keys_seen at.keys) ≡ false → length (keys_seen at.keys) < 4 → HaveRoom 8 payload r → all_below 65536 (runs_at payload r) ≡ true → total (runs_at payload r) ≤ n → GroupsSo payload n (gs ++ record { key = k; rows = runs_at payload r } ∷ []) after
+group_added payload n at after gs k r s ks slot new l room small few =
     let keys = keys_seen at.keys in
     let g : Grouping = record { key = k; rows = runs_at payload r } in
-    let sh = shape payload at after k r m keys e l s.have.used slot in
-    let hs = slot_have payload at after r m slot (room, index_rows (runs_at payload r) small) s.have in
+    let four = s.have.four in
+    let sh = shape payload keys at.rows.by_key k r (omega (arith, four, l)) s.have.used in
     let many : (length keys == 4) ≡ false = not_four (length keys) (omega arith) in
     record {
-      same = ap (λ x. grouped x (group_rows payload after)) ks ∙ sh.0 ∙ ap (λ (x : List Grouping). x ++ g ∷ []) s.same;
+      same = ap (λ x. grouped x (group_rows payload after)) ks ∙ ap (λ rows. grouped (keys ++ k ∷ []) (map (runs_at payload) rows)) slot ∙ sh.0 ∙ ap (λ (x : List Grouping). x ++ g ∷ []) s.same;
       have = record {
-        first = hs.0;
-        second = hs.1;
-        third = hs.2;
-        fourth = hs.3;
+        four = ap (λ (rows : List RowsAt). length rows) slot ∙ length-set at.rows.by_key (length keys) r ∙ four;
+        room = subst (AllByRecursion (HaveRoom 8 payload)) (sym slot) (all_set (HaveRoom 8 payload) at.rows.by_key (length keys) r s.have.room room);
+        indexes = subst (AllByRecursion (λ (rows : RowsAt). AreIndexes (runs_at payload rows))) (sym slot)
+            (all_set (λ (rows : RowsAt). AreIndexes (runs_at payload rows)) at.rows.by_key (length keys) r s.have.indexes (index_rows (runs_at payload r) small));
         distinct = subst AreDistinct (sym ks) (snoc_distinct keys k s.have.distinct (differs_from k keys new));
-        used = subst (λ x. AreUsed x (group_rows payload after)) (sym ks) sh.1;
+        used = subst (λ x. AreUsed x (group_rows payload after)) (sym ks) (subst (λ rows. AreUsed (keys ++ k ∷ []) (map (runs_at payload) rows)) (sym slot) sh.1);
       };
       tests = λ rule i. tests_more rule n gs g (s.tests rule) (all_keep payload n at gs g s new many small (yes_le (total (runs_at payload r)) n few) rule) i;
     }

@@ -1,11 +1,11 @@
 -- Indexes of samples to come, key by key.
-use Rattle.std.proofs.Common.{◌≡◌, ℕ, zero, suc, ◌+◌, ◌-◌, ◌<◌, ◌≤◌, ◌∷◌, List, [], length, drop, map, slice_index, slice_index_or, refl, ap, sym, subst, ◌∙◌, arith}
+use Rattle.std.proofs.Common.{◌≡◌, ℕ, zero, suc, ◌+◌, ◌<◌, ◌≤◌, ◌∷◌, List, [], length, drop, map, slice_index, slice_index_or, refl, ap, sym, subst, ◌∙◌, arith}
 use Rattle.std.specs.Prelude.{slice_set}
 use Rattle.std.specs.List.{AllByRecursion, AllZip}
-use Rattle.mp4_tables.specs.format.Repeated.{repeated}
+use Rattle.mp4_boxes.specs.format.Bytes.{sum_of}
 use Rattle.mp4_tables.specs.words.Rows.{runs_at}
 use Rattle.mp4_tables.specs.words.TablesComing.{coming}
-use Rattle.mp4_tables.specs.words.Indexes.{low_half, indexes_left, each_left, indexes_coming, IsIndexPlace, AreIndexPlaces, rows_before, rows_passed}
+use Rattle.mp4_tables.specs.words.Indexes.{low_half, indexes_left, indexes_in, each_left, indexes_coming, IsIndexPlace, AreIndexPlaces, rows_before, rows_passed}
 use Rattle.mp4_tables.specs.declared.indexes.IndexRows.{IndexRows}
 use Rattle.mp4_tables.specs.declared.indexes.IndexPlaces.{IndexPlaces}
 use Rattle.mp4_tables.specs.declared.places.RowsAt.{RowsAt}
@@ -16,7 +16,7 @@ use Rattle.mp4_tables.proofs.RunLists.{coming_first, coming_start, coming_all}
 
 -- before the first row
 pub left_start : (payload : List ℕ) (rows : RowsAt) (p : RunPlace) → coming (runs_at payload rows) p ≡ coming (runs_at payload rows) (record { row = 0; left = 0; value = 0 })
-    → indexes_left payload rows p ≡ map low_half (repeated (runs_at payload rows))
+    → indexes_left payload rows p ≡ indexes_in payload rows
 left_start payload rows p e = ap (map low_half) (e ∙ coming_start (runs_at payload rows) 0 0)
 
 -- the one in hand
@@ -81,7 +81,7 @@ all_here payload (r ∷ rows) (p ∷ places) (x ∷ xs) h each = rw (each.0 r h.
 -- ---- four keys
 
 -- a list of four members is these
-four : {A : Type 0} (xs : List A) (d : A) → length xs ≡ 4 → xs ≡ slice_index_or xs 0 d ∷ slice_index_or xs 1 d ∷ slice_index_or xs 2 d ∷ slice_index_or xs 3 d ∷ []
+pub four : {A : Type 0} (xs : List A) (d : A) → length xs ≡ 4 → xs ≡ slice_index_or xs 0 d ∷ slice_index_or xs 1 d ∷ slice_index_or xs 2 d ∷ slice_index_or xs 3 d ∷ []
 four [] d h = absurd (omega (arith, h))
 four (a ∷ []) d h = absurd (omega (arith, h))
 four (a ∷ b ∷ []) d h = absurd (omega (arith, h))
@@ -151,6 +151,25 @@ four_passed payload rows places d f a b c e m n p q r s =
     (subst (λ ps. each_left payload (slice_index_or rows.by_key 0 d ∷ slice_index_or rows.by_key 1 d ∷ slice_index_or rows.by_key 2 d ∷ slice_index_or rows.by_key 3 d ∷ []) (a ∷ b ∷ c ∷ e ∷ [])
     ≡ map (drop 1) (each_left payload (slice_index_or rows.by_key 0 d ∷ slice_index_or rows.by_key 1 d ∷ slice_index_or rows.by_key 2 d ∷ slice_index_or rows.by_key 3 d ∷ []) ps))
     (sym (four places.by_key f n)) (rw (p, q, r, s) refl))
+
+-- before the first index of each key
+pub four_first : (payload : List ℕ) (rows : IndexRows) (d : RowsAt) (a b c e : RunPlace) → length rows.by_key ≡ 4
+    → indexes_left payload (slice_index_or rows.by_key 0 d) a ≡ indexes_in payload (slice_index_or rows.by_key 0 d) → indexes_left payload (slice_index_or rows.by_key 1 d) b ≡ indexes_in payload (slice_index_or rows.by_key 1 d)
+    → indexes_left payload (slice_index_or rows.by_key 2 d) c ≡ indexes_in payload (slice_index_or rows.by_key 2 d) → indexes_left payload (slice_index_or rows.by_key 3 d) e ≡ indexes_in payload (slice_index_or rows.by_key 3 d)
+    → indexes_coming payload rows (record { by_key = a ∷ b ∷ c ∷ e ∷ [] }) ≡ map (indexes_in payload) rows.by_key
+unfolding indexes_coming
+four_first payload rows d a b c e n p q r s = subst (λ rs. each_left payload rs (a ∷ b ∷ c ∷ e ∷ []) ≡ map (indexes_in payload) rs) (sym (four rows.by_key d n)) (rw (p, q, r, s) refl)
+
+-- no more rows were passed than there are
+rows_within : (payload : List ℕ) (rows : List RowsAt) (places : List RunPlace) → AllZip (IsIndexPlace payload) rows places → rows_before places ≤ sum_of (λ (r : RowsAt). r.count) rows
+rows_within payload [] [] h = omega arith
+rows_within payload [] (p ∷ places) h = absurd h
+rows_within payload (r ∷ rows) [] h = absurd h
+rows_within payload (r ∷ rows) (p ∷ places) h = let own = h.0.within in let more = rows_within payload rows places h.1 in omega (arith, own, more)
+
+pub passed_few : (payload : List ℕ) (rows : IndexRows) (places : IndexPlaces) → AreIndexPlaces payload rows places → rows_passed places ≤ sum_of (λ (r : RowsAt). r.count) rows.by_key
+unfolding rows_passed
+passed_few payload rows places h = rows_within payload rows.by_key places.by_key h.each
 
 -- the rows passed, one by one
 pub rows_counted : (places : IndexPlaces) (d : RunPlace) → length places.by_key ≡ 4

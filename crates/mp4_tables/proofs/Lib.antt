@@ -23,10 +23,10 @@ pub mod SpotLists
 pub mod ChunkLists
 pub mod RunLists
 pub mod IndexesLeft
+pub mod GroupsHere
 pub mod NamedKeys
 pub mod GroupMaps
 pub mod Placed
 pub mod Vectors
 pub mod TableRows
-pub mod GroupsOver
 pub mod Sums

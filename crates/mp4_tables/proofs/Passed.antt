@@ -9,6 +9,7 @@ use Rattle.mp4_tables.specs.declared.places.SyncPlace.{SyncPlace}
 use Rattle.mp4_tables.specs.declared.places.TablesAt.{TablesAt}
 use Rattle.mp4_tables.specs.declared.places.TablePlace.{TablePlace}
 use Rattle.mp4_tables.proofs.RowLists.{runs_length, numbers_length, chunk_rows_length}
+use Rattle.mp4_tables.proofs.IndexesLeft.{passed_few}
 use Rattle.mp4_tables.proofs.GroupWalks.{rows_bounded}
 
 run_within : (payload : List ℕ) (r : RowsAt) (p : RunPlace) (k : ℕ) → IsRunPlaceAt (runs_at payload r) p k → p.row ≤ r.count
@@ -30,10 +31,7 @@ passed_within payload at p h =
     let row = h.chunk.passed in
     let rows = chunk_rows_length payload at.chunk_rows in
     let sync = sync_within payload at.sync p.sync (p.number + 1) h.sync in
-    let first = run_within payload at.groups.first p.groups.first p.number h.groups.first in
-    let second = run_within payload at.groups.second p.groups.second p.number h.groups.second in
-    let third = run_within payload at.groups.third p.groups.third p.number h.groups.third in
-    let fourth = run_within payload at.groups.fourth p.groups.fourth p.number h.groups.fourth in
+    let groups = passed_few payload at.groups.rows p.groups h.groups.places in
     omega arith
 
 offsets_bounded : (payload : List ℕ) (o : Option OffsetsAt) → HaveOffsets payload o → 8 * (offset_rows o).count ≤ length payload

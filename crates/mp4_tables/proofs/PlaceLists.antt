@@ -21,7 +21,7 @@ use Rattle.mp4_tables.specs.declared.places.TablesAt.{TablesAt}
 use Rattle.mp4_tables.specs.declared.places.RunPlace.{RunPlace}
 use Rattle.mp4_tables.specs.declared.places.ChunkPlace.{ChunkPlace}
 use Rattle.mp4_tables.specs.declared.places.SyncPlace.{SyncPlace}
-use Rattle.mp4_tables.specs.declared.places.GroupPlaces.{GroupPlaces}
+use Rattle.mp4_tables.specs.declared.indexes.IndexPlaces.{IndexPlaces}
 use Rattle.mp4_tables.specs.declared.places.TablePlace.{TablePlace}
 use Rattle.mp4_tables.proofs.Counts.{eqb_is, leb_is, repeated_length, plain_length}
 use Rattle.mp4_tables.proofs.RowLists.{runs_length, sizes_length, numbers_length, chunk_rows_length}
@@ -212,7 +212,7 @@ sample_is payload at p cto flags size groups ok is h is_cto is_flags is_size is_
     let o : composition_offset (offset_version (are_signed at.offsets)) p.offset.value ≡ cto =
     offset_read (are_signed at.offsets) p.offset.value (offset_small payload at.offsets p.offset at.sizes.rows.count k ok.have.offsets is.offset some) ∙ sym is_cto in
     let g : indexes keys (map_here payload at p) ≡ groups =
-    indexes_are at.sizes.rows.count k (keys_seen at.groups.keys) (group_rows payload at.groups) h ok.have.groups.distinct ok.have.groups.used refl ∙ sym is_groups in
+    indexes_are at.sizes.rows.count k (keys_seen at.groups.keys) (group_rows payload at.groups) h ok.have.groups.distinct ok.have.groups.used (length-map at.groups.rows.by_key (runs_at payload) ∙ ok.have.groups.four) ∙ sym is_groups in
     let f = sym is_flags in
     first ∙ (λ i. record { dts = p.dts; duration = p.duration.value; cto = o i; flags = f i; description = p.chunk.row.description; at = p.chunk.at; size = size; groups = g i } ∷ sym behind i)
 
@@ -251,7 +251,7 @@ duration_within payload at p is = let n = runs_length payload at.durations in le
 pub offset_within : (payload : List ℕ) (at : TablesAt) (p : TablePlace) (rows : RowsAt) → IsPlace payload at p → rows ≡ offset_rows at.offsets → p.offset.row ≤ rows.count
 offset_within payload at p rows is e = let n = runs_length payload (offset_rows at.offsets) in let h = is.offset.within in let f = ap (λ (r : RowsAt). r.count) e in omega arith
 
-pub place_passed : (payload : List ℕ) (at : TablesAt) (p : TablePlace) (size : ℕ) (rows : RowsAt) (duration offset : RunPlace) (chunk : ChunkPlace) (sync : SyncPlace) (groups : GroupPlaces)
+pub place_passed : (payload : List ℕ) (at : TablesAt) (p : TablePlace) (size : ℕ) (rows : RowsAt) (duration offset : RunPlace) (chunk : ChunkPlace) (sync : SyncPlace) (groups : IndexPlaces)
     → IsAccepted payload at → IsPlace payload at p → p.number < at.sizes.rows.count → size ≡ slice_index (sizes_at payload at.sizes) p.number → p.duration.value < 2 ^ 32 → rows ≡ offset_rows at.offsets
     → coming (runs_at payload at.durations) p.duration ≡ p.duration.value ∷ coming (runs_at payload at.durations) duration → (duration.left ≡ 0 → coming (runs_at payload at.durations) duration ≡ []) → duration.row ≤ at.durations.count
     → coming (runs_at payload rows) p.offset ≡ p.offset.value ∷ coming (runs_at payload rows) offset → (offset.left ≡ 0 → coming (runs_at payload rows) offset ≡ []) → offset.row ≤ rows.count

@@ -1,5 +1,5 @@
 -- The rows of tables that lie in a payload are those of the tables that lie there.
-use Rattle.std.proofs.Common.{◌≡◌, ℕ, ◌+◌, List, [], ◌∷◌, length, Option, Some, None, refl, sym, ap, ◌∙◌, arith}
+use Rattle.std.proofs.Common.{◌≡◌, ℕ, ◌+◌, List, [], ◌∷◌, length, map, Option, Some, None, refl, sym, ap, ◌∙◌, arith}
 use Rattle.std.specs.Prelude.{option_map}
 use Rattle.std.specs.List.{AllByRecursion}
 use Rattle.std.proofs.lemmas.List.{length-map}
@@ -32,14 +32,12 @@ used_rows [] rows h = none_left rows h
 used_rows (key ∷ keys) [] h = absurd h
 used_rows (key ∷ keys) (runs ∷ rows) h = ap (λ n. length runs + n) (used_rows keys rows h)
 
+counts_are : (payload : List ℕ) (rows : List RowsAt) → sum_of (λ (r : RowsAt). r.count) rows ≡ sum_of (λ (runs : List (ℕ × ℕ)). length runs) (map (runs_at payload) rows)
+counts_are payload [] = refl
+counts_are payload (r ∷ rows) = let own = runs_length payload r in let more = counts_are payload rows in omega (arith, own, more)
+
 groups_count : (payload : List ℕ) (at : GroupsAt) → AreUsed (keys_seen at.keys) (group_rows payload at) → group_count at ≡ sum_of (λ (g : Grouping). length g.rows) (groupings_at payload at)
-groups_count payload at h =
-    let first = runs_length payload at.first in
-    let second = runs_length payload at.second in
-    let third = runs_length payload at.third in
-    let fourth = runs_length payload at.fourth in
-    let used = used_rows (keys_seen at.keys) (group_rows payload at) h in
-    omega (arith, first, second, third, fourth, used)
+groups_count payload at h = counts_are payload at.rows.by_key ∙ used_rows (keys_seen at.keys) (group_rows payload at) h
 
 pub rows_are : (payload : List ℕ) (at : TablesAt) → HaveTables payload at → rows_in at ≡ table_rows (tables_at payload at)
 unfolding tables_at

@@ -7,3 +7,4 @@ pub mod TablesSeen
 pub mod Leaves
 pub mod ChunkPlaces
 pub mod Indexes
+pub mod GroupBoxes

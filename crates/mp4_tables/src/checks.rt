@@ -7,7 +7,7 @@ ghost use Rattle.mp4_tables.specs.words.Accepted.{offset_rows, count_of, rows_in
 
 use crate::chunks::{are_described, are_ordered, chunk_counts_are};
 use crate::group_checks::read_groups;
-use crate::leaves::{Limits, fault_at, first_of, only_of, place_in, table_rows, version_of};
+use crate::leaves::{Limits, first_of, only_of, place_in, table_rows, version_of};
 use crate::places::{BytesAt, ChunksAt, OffsetsAt, RowsAt, SizesAt, TablesAt};
 use crate::runs::{are_below, counts_are};
 use crate::size_checks::read_sizes;
@@ -47,7 +47,7 @@ pub(crate) fn read_durations<L: Ledger>(
     let leaf = only_of(stbl, STTS);
     let rows = table_rows(stbl, leaf, 0, 8)?;
     if !counts_are(stbl.payload(), rows, n, steps) {
-        return Err(fault_at(leaf, Kind::CountMismatch));
+        return Err(leaf.fault(Kind::CountMismatch));
     }
     Ok(rows)
 }
@@ -79,7 +79,7 @@ pub(crate) fn read_offsets<L: Ledger>(
     };
     let rows = table_rows(stbl, leaf, 1, 8)?;
     if !counts_are(stbl.payload(), rows, n, steps) {
-        return Err(fault_at(leaf, Kind::CountMismatch));
+        return Err(leaf.fault(Kind::CountMismatch));
     }
     if is_signed(leaf) {
         return Ok(Some(OffsetsAt {
@@ -88,7 +88,7 @@ pub(crate) fn read_offsets<L: Ledger>(
         }));
     }
     if !are_below(stbl.payload(), rows, 0x8000_0000, steps) {
-        return Err(fault_at(leaf, Kind::OffsetTooLarge));
+        return Err(leaf.fault(Kind::OffsetTooLarge));
     }
     Ok(Some(OffsetsAt {
         rows,
@@ -154,13 +154,13 @@ pub(crate) fn read_chunk_rows<L: Ledger>(
     let rows = table_rows(stbl, leaf, 0, 12)?;
     let payload = stbl.payload();
     if !are_ordered(payload, rows, 0 < chunks.rows.count, steps) {
-        return Err(fault_at(leaf, Kind::BadOrder));
+        return Err(leaf.fault(Kind::BadOrder));
     }
     if !chunk_counts_are(payload, rows, chunks, n, steps) {
-        return Err(fault_at(leaf, Kind::CountMismatch));
+        return Err(leaf.fault(Kind::CountMismatch));
     }
     if !are_described(payload, rows, chunks, limits.descriptions, steps) {
-        return Err(fault_at(leaf, Kind::BadDescriptionIndex));
+        return Err(leaf.fault(Kind::BadDescriptionIndex));
     }
     Ok(rows)
 }
@@ -184,7 +184,7 @@ pub(crate) fn read_sync<L: Ledger>(
     };
     let rows = table_rows(stbl, leaf, 0, 4)?;
     if !are_numbers(stbl.payload(), rows, n, steps) {
-        return Err(fault_at(leaf, Kind::BadOrder));
+        return Err(leaf.fault(Kind::BadOrder));
     }
     Ok(Some(rows))
 }
@@ -206,7 +206,7 @@ pub(crate) fn read_dependencies(
     version_of(leaf, 0)?;
     let length = leaf.payload().len() - 4;
     if length < n as usize {
-        return Err(fault_at(leaf, Kind::ShortBox));
+        return Err(leaf.fault(Kind::ShortBox));
     }
     Ok(Some(BytesAt {
         place: place_in(stbl, leaf) + 4,
@@ -232,7 +232,7 @@ pub(crate) fn check_places<L: Ledger>(
     ensures passed { steps.new ≤ steps.old + 2 * sizes.rows.count + 2 * chunks.rows.count }
 {
     if !lie_within(stbl.payload(), sizes, rows, chunks, limits.file_len, steps) {
-        return Err(fault_at(offsets_leaf(stbl), Kind::SampleOutsideFile));
+        return Err(offsets_leaf(stbl).fault(Kind::SampleOutsideFile));
     }
     Ok(())
 }

@@ -6,12 +6,13 @@ ghost use Rattle.mp4_tables.specs.words.Keys.{key_seen, keys_seen};
 ghost use Rattle.mp4_tables.specs.words.Leaves.{HasTables, IsChild, FailsAs, SlotTaken, GroupRead, GroupFails, GroupNext, ChildRead, ChildFails, GroupsRead, GroupsSo, GroupPassed, SizesKnown, IsFault};
 ghost use Rattle.mp4_tables.specs.words.Accepted.{group_count};
 
-use crate::groups::NO_ROWS;
+use crate::group_boxes::read_group;
+use crate::indexes::{IndexRows, NO_ROWS};
 use crate::keys::{GroupKey, Keys};
-use crate::leaves::{Limits, children_of, fault_at, rows_of, version_of};
+use crate::leaves::{Limits, children_of, place_in, version_of};
 use crate::places::{GroupsAt, RowsAt};
 use crate::runs::{are_below, counts_are_within};
-use mp4_boxes::{BoxView, Fault, FourCc, Kind, Steps, u32_at};
+use mp4_boxes::{BoxView, Fault, FourCc, Kind, Steps};
 use std::sync::ledger::Ledger;
 
 const SBGP: FourCc = FourCc(*b"sbgp");
@@ -25,17 +26,9 @@ fn check_descriptions(leaf: BoxView) -> Result<(), Fault>
 {
     version_of(leaf, 1)?;
     if leaf.payload().len() < 8 {
-        return Err(fault_at(leaf, Kind::ShortBox));
+        return Err(leaf.fault(Kind::ShortBox));
     }
     Ok(())
-}
-
-// The four bytes of a grouping type.
-fn grouping_type(payload: &[u8]) -> FourCc
-    requires { 8 ≤ length payload.now }
-    ensures { result.0 ≡ take 4 (drop 4 payload.now) }
-{
-    FourCc([payload[4], payload[5], payload[6], payload[7]])
 }
 
 // The key and the rows of an `sbgp`.
@@ -46,23 +39,15 @@ fn read_grouping(stbl: BoxView, leaf: BoxView) -> Result<(GroupKey, RowsAt), Fau
         (λ r. GroupRead (box_seen stbl.entry) (box_seen leaf.entry) (key_seen r.0) r.1) }
     ensures fault { IfErr result (FailsAs sbgp (box_seen leaf.entry)) }
 {
-    let version = version_of(leaf, 1)?;
-    if version == 0 {
-        let short_rows = rows_of(stbl, leaf, 12, 8)?;
-        let kind = grouping_type(leaf.payload());
-        let short_key = GroupKey {
-            kind,
-            parameter: None,
-        };
-        return Ok((short_key, short_rows));
-    }
-    let rows = rows_of(stbl, leaf, 16, 8)?;
-    let payload = leaf.payload();
-    let key = GroupKey {
-        kind: grouping_type(payload),
-        parameter: Some(u32_at(payload, 8)),
+    let group = match read_group(leaf.payload()) {
+        Ok(group) => group,
+        Err(kind) => return Err(leaf.fault(kind)),
     };
-    Ok((key, rows))
+    let rows = RowsAt {
+        place: place_in(stbl, leaf) + group.rows,
+        count: group.count,
+    };
+    Ok((group.key, rows))
 }
 
 // The groups with one more key and its rows.
@@ -71,35 +56,15 @@ fn add_group(groups: GroupsAt, key: GroupKey, rows: RowsAt) -> GroupsAt
     ensures keys { keys_seen result.keys ≡ keys_seen groups.keys ++ key_seen key ∷ [] }
     ensures slot { SlotTaken (length (keys_seen groups.keys)) groups rows result }
 {
-    let mut keys = groups.keys;
-    let place = keys.count();
-    keys.push(key);
-    match place {
-        0 => GroupsAt {
-            keys,
-            first: rows,
-            ..groups
-        },
-        1 => GroupsAt {
-            keys,
-            second: rows,
-            ..groups
-        },
-        2 => GroupsAt {
-            keys,
-            third: rows,
-            ..groups
-        },
-        _ => GroupsAt {
-            keys,
-            fourth: rows,
-            ..groups
-        },
-    }
+    let mut next = groups;
+    let place = usize::from(next.keys.count());
+    next.rows.by_key[place] = rows;
+    next.keys.push(key);
+    next
 }
 
 // The groups with one more `sbgp` of `n` samples, behind those that were read.
-fn read_group<L: Ledger>(
+fn read_next<L: Ledger>(
     stbl: BoxView,
     leaf: BoxView,
     groups: GroupsAt,
@@ -119,16 +84,16 @@ fn read_group<L: Ledger>(
     let (key, rows) = read_grouping(stbl, leaf)?;
     let payload = stbl.payload();
     if groups.keys.names(key) {
-        return Err(fault_at(leaf, Kind::DuplicateBox));
+        return Err(leaf.fault(Kind::DuplicateBox));
     }
     if groups.keys.count() == 4 {
-        return Err(fault_at(leaf, Kind::BadValue));
+        return Err(leaf.fault(Kind::BadValue));
     }
     if !are_below(payload, rows, 0x1_0000, steps) {
-        return Err(fault_at(leaf, Kind::BadValue));
+        return Err(leaf.fault(Kind::BadValue));
     }
     if !counts_are_within(payload, rows, n, steps) {
-        return Err(fault_at(leaf, Kind::CountMismatch));
+        return Err(leaf.fault(Kind::CountMismatch));
     }
     Ok(add_group(groups, key, rows))
 }
@@ -152,7 +117,7 @@ fn read_child<L: Ledger>(
     ensures work { 4 * steps.new ≤ 4 * steps.old + length (box_seen stbl.entry).payload }
 {
     if child.kind() == SBGP {
-        let next = read_group(stbl, child, groups, n, steps)?;
+        let next = read_next(stbl, child, groups, n, steps)?;
         return Ok(next);
     }
     if child.kind() == SGPD {
@@ -170,10 +135,9 @@ fn no_groups(payload: &[u8], n: u32) -> GroupsAt
     let _ = n;
     GroupsAt {
         keys: Keys::new(),
-        first: NO_ROWS,
-        second: NO_ROWS,
-        third: NO_ROWS,
-        fourth: NO_ROWS,
+        rows: IndexRows {
+            by_key: [NO_ROWS, NO_ROWS, NO_ROWS, NO_ROWS],
+        },
     }
 }
 

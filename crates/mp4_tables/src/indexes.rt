@@ -3,7 +3,7 @@ ghost use Rattle.std.specs.Prelude.{ℕ, List, ◌≡◌, ◌+◌, ◌*◌, ◌�
 ghost use Rattle.mp4_tables.specs.format.Repeated.{repeated};
 ghost use Rattle.mp4_tables.specs.declared.places.RowsAt.{RowsAt};
 ghost use Rattle.mp4_tables.specs.words.Rows.{HaveRoom, runs_at};
-ghost use Rattle.mp4_tables.specs.words.Indexes.{IsIndexPlace, AreIndexPlaces, indexes_left, indexes_coming, low_half};
+ghost use Rattle.mp4_tables.specs.words.Indexes.{IsIndexPlace, AreIndexPlaces, indexes_left, indexes_in, indexes_coming, low_half};
 
 use crate::places::{RowsAt, RunPlace, rows};
 use crate::runs::{pass, settle};
@@ -20,7 +20,7 @@ pub struct IndexPlaces {
     by_key: [RunPlace; 4],
 }
 
-const NO_ROWS: RowsAt = RowsAt { place: 0, count: 0 };
+pub(crate) const NO_ROWS: RowsAt = RowsAt { place: 0, count: 0 };
 
 const NO_PLACE: RunPlace = RunPlace {
     row: 0,
@@ -48,8 +48,7 @@ pub fn no_indexes() -> (IndexRows, IndexPlaces)
 fn first_index(payload: &[u8], rows: RowsAt) -> RunPlace
     requires { HaveRoom 8 payload.now rows }
     ensures place { IsIndexPlace payload.now rows result }
-    ensures all { indexes_left payload.now rows result
-        ≡ map low_half (repeated (runs_at payload.now rows)) }
+    ensures all { indexes_left payload.now rows result ≡ indexes_in payload.now rows }
 {
     settle(payload, rows, NO_PLACE)
 }
@@ -110,9 +109,26 @@ impl IndexPlaces {
     ghost use Rattle.std.specs.Prelude.{ℕ, List, ◌≡◌, ◌≤◌, ◌<◌, ◌^◌, map, drop, slice_index, IsTrue};
     ghost use Rattle.std.specs.List.{AllByRecursion};
     ghost use Rattle.mp4_tables.specs.words.Rows.{HaveRoom, runs_at};
-    ghost use Rattle.mp4_tables.specs.words.Indexes.{AreIndexPlaces, indexes_coming, rows_passed};
+    ghost use Rattle.mp4_tables.specs.words.Indexes.{AreIndexPlaces, indexes_coming, indexes_in, rows_passed};
     ghost use Rattle.mp4_tables.specs.declared.indexes.IndexRows.{IndexRows};
     ghost use Rattle.mp4_tables.specs.declared.places.RunPlace.{RunPlace};
+
+    // Before the first sample.
+    pub(crate) fn first(payload: &[u8], rows: &IndexRows) -> IndexPlaces
+        requires { AllByRecursion (HaveRoom 8 payload.now) rows.now.by_key }
+        ensures places { AreIndexPlaces payload.now rows.now result }
+        ensures all { indexes_coming payload.now rows.now result
+            ≡ map (indexes_in payload.now) rows.now.by_key }
+    {
+        IndexPlaces {
+            by_key: [
+                first_index(payload, rows.by_key[0]),
+                first_index(payload, rows.by_key[1]),
+                first_index(payload, rows.by_key[2]),
+                first_index(payload, rows.by_key[3]),
+            ],
+        }
+    }
 
     // Whether no index is left in hand: where there are no `sbgp`s, and behind their last rows.
     #[inline(always)]

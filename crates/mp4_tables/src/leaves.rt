@@ -1,14 +1,13 @@
 //! The children of an `stbl`: which box is which table, and where its rows lie.
 ghost use Rattle.std.specs.Prelude.{◌≡◌, ◌+◌, ◌*◌, ◌-◌, ◌^◌, ◌<◌, ◌≤◌, length, [], ◌∷◌, IfOk, IfErr, MatchOption};
 ghost use Rattle.mp4_boxes.specs.format.Bytes.{field};
-ghost use Rattle.mp4_boxes.specs.format.BoxFaults.{fault_of};
 ghost use Rattle.mp4_boxes.specs.format.Children.{count_among};
-ghost use Rattle.mp4_boxes.specs.format.Layout.{version};
+ghost use Rattle.mp4_boxes.specs.format.Layout.{version as version_in};
 ghost use Rattle.mp4_boxes.specs.words.View.{box_seen};
 ghost use Rattle.mp4_tables.specs.words.Leaves.{boxes_of, HasTables, IsFirstOf, IsChild, VersionFails, RowsFail, ShapeFails, RowsRead};
 
 use crate::places::RowsAt;
-use mp4_boxes::{BoxView, Children, Fault, FourCc, Kind, children, u32_at};
+use mp4_boxes::{BoxView, Children, Fault, FourCc, Kind, children, full, u32_at};
 
 /// What the tables of a track are held against: the length of the file, the number of sample
 /// descriptions, and how many samples are still allowed.
@@ -66,28 +65,18 @@ pub(crate) fn place_in(stbl: BoxView, leaf: BoxView) -> usize
     (leaf.payload_offset() - stbl.payload_offset()) as usize
 }
 
-// A fault that names a leaf.
-pub(crate) fn fault_at(leaf: BoxView, kind: Kind) -> Fault
-    ensures { result ≡ fault_of kind (box_seen leaf.entry) }
-{
-    Fault::new(kind, leaf.kind(), leaf.offset())
-}
-
 // The version of a full box, if it is at most the last one that the profile knows.
 pub(crate) fn version_of(leaf: BoxView, last: u8) -> Result<u8, Fault>
-    ensures version { IfOk result (λ v. v ≡ version (box_seen leaf.entry).payload) }
+    ensures version { IfOk result (λ v. v ≡ version_in (box_seen leaf.entry).payload) }
     ensures known { IfOk result (λ v. v ≤ last) }
     ensures long { IfOk result (λ v. 4 ≤ length (box_seen leaf.entry).payload) }
     ensures fault { IfErr result (VersionFails last (box_seen leaf.entry)) }
 {
-    let payload = leaf.payload();
-    if payload.len() < 4 {
-        return Err(fault_at(leaf, Kind::ShortBox));
+    let (version, _, _) = full(leaf)?;
+    if version > last {
+        return Err(leaf.fault(Kind::BadVersion));
     }
-    if payload[0] > last {
-        return Err(fault_at(leaf, Kind::BadVersion));
-    }
-    Ok(payload[0])
+    Ok(version)
 }
 
 // The rows of a leaf with a version, a count at the place `fields - 4`, and rows of so many bytes
@@ -109,11 +98,11 @@ pub(crate) fn rows_of(stbl: BoxView, leaf: BoxView, fields: u8, width: u8) -> Re
     let payload = leaf.payload();
     let fields = fields as usize;
     if payload.len() < fields {
-        return Err(fault_at(leaf, Kind::ShortBox));
+        return Err(leaf.fault(Kind::ShortBox));
     }
     let count = u32_at(payload, fields - 4);
     if payload.len() - fields < width as usize * count as usize {
-        return Err(fault_at(leaf, Kind::ShortBox));
+        return Err(leaf.fault(Kind::ShortBox));
     }
     Ok(RowsAt {
         place: place_in(stbl, leaf) + fields,

@@ -2,6 +2,7 @@
 //! them: plain numbers.
 ghost use Rattle.std.specs.Prelude.{◌≡◌, ◌^◌, ◌<◌};
 
+use crate::indexes::{IndexPlaces, IndexRows};
 use crate::keys::Keys;
 
 /// Rows of a table: where the first begins in the payload of `stbl`, and how many there are.
@@ -42,14 +43,11 @@ pub(crate) struct ChunksAt {
     pub(crate) is_wide: bool,
 }
 
-/// The rows of each `sbgp`, in file order.
+/// The keys of the `sbgp`s, and the rows of each, in file order.
 #[derive(Clone, Copy)]
 pub(crate) struct GroupsAt {
     pub(crate) keys: Keys,
-    pub(crate) first: RowsAt,
-    pub(crate) second: RowsAt,
-    pub(crate) third: RowsAt,
-    pub(crate) fourth: RowsAt,
+    pub(crate) rows: IndexRows,
 }
 
 /// The bytes of `sdtp`, one a sample.
@@ -107,15 +105,6 @@ pub(crate) struct SyncPlace {
     pub(crate) next: u32,
 }
 
-/// A place in the rows of each `sbgp`.
-#[derive(Clone, Copy)]
-pub(crate) struct GroupPlaces {
-    pub(crate) first: RunPlace,
-    pub(crate) second: RunPlace,
-    pub(crate) third: RunPlace,
-    pub(crate) fourth: RunPlace,
-}
-
 /// A place among the samples of tables: how many were passed, and a place in each table.
 #[derive(Clone, Copy)]
 pub struct TablePlace {
@@ -125,7 +114,7 @@ pub struct TablePlace {
     pub(crate) offset: RunPlace,
     pub(crate) chunk: ChunkPlace,
     pub(crate) sync: SyncPlace,
-    pub(crate) groups: GroupPlaces,
+    pub(crate) groups: IndexPlaces,
 }
 
 // A number of rows, in 64 bits.
@@ -145,16 +134,12 @@ impl TablePlace {
     pub fn passed(&self) -> u64
         ensures { result ≡ passed self.now }
     {
-        let groups = self.groups;
         3 * rows(self.number)
             + rows(self.duration.row)
             + rows(self.offset.row)
             + rows(self.chunk.opened)
             + rows(self.chunk.row.row)
             + rows(self.sync.row)
-            + rows(groups.first.row)
-            + rows(groups.second.row)
-            + rows(groups.third.row)
-            + rows(groups.fourth.row)
+            + self.groups.rows_passed()
     }
 }

@@ -6,7 +6,7 @@ ghost use Rattle.mp4_boxes.specs.format.Layout.{is_size_bits};
 ghost use Rattle.mp4_boxes.specs.words.View.{box_seen};
 ghost use Rattle.mp4_tables.specs.words.Leaves.{boxes_of, HasTables, IsFirstOf, SizesRead, IsFormOf, IsFault};
 
-use crate::leaves::{Limits, fault_at, first_of, only_of, place_in, version_of};
+use crate::leaves::{Limits, first_of, only_of, place_in, version_of};
 use crate::places::{RowsAt, SizeForm, SizesAt};
 use mp4_boxes::{BoxView, Fault, FourCc, Kind, u32_at};
 
@@ -24,7 +24,7 @@ fn read_words(stbl: BoxView, leaf: BoxView, limits: Limits) -> Result<SizesAt, F
     version_of(leaf, 0)?;
     let payload = leaf.payload();
     if payload.len() < 12 {
-        return Err(fault_at(leaf, Kind::ShortBox));
+        return Err(leaf.fault(Kind::ShortBox));
     }
     let size = u32_at(payload, 4);
     let count = u32_at(payload, 8);
@@ -32,10 +32,10 @@ fn read_words(stbl: BoxView, leaf: BoxView, limits: Limits) -> Result<SizesAt, F
     let rows = RowsAt { place, count };
     if size == 0 {
         if payload.len() - 12 < 4 * count as usize {
-            return Err(fault_at(leaf, Kind::ShortBox));
+            return Err(leaf.fault(Kind::ShortBox));
         }
         if count > limits.room {
-            return Err(fault_at(leaf, Kind::TooManySamples));
+            return Err(leaf.fault(Kind::TooManySamples));
         }
         return Ok(SizesAt {
             form: SizeForm::Words,
@@ -43,7 +43,7 @@ fn read_words(stbl: BoxView, leaf: BoxView, limits: Limits) -> Result<SizesAt, F
         });
     }
     if count > limits.room {
-        return Err(fault_at(leaf, Kind::TooManySamples));
+        return Err(leaf.fault(Kind::TooManySamples));
     }
     Ok(SizesAt {
         form: SizeForm::One(size),
@@ -85,15 +85,15 @@ fn read_compact(stbl: BoxView, leaf: BoxView, limits: Limits) -> Result<SizesAt,
     version_of(leaf, 0)?;
     let payload = leaf.payload();
     if payload.len() < 12 {
-        return Err(fault_at(leaf, Kind::ShortBox));
+        return Err(leaf.fault(Kind::ShortBox));
     }
     let bits = payload[7];
     let count = u32_at(payload, 8);
     if ((payload.len() - 12) as u64) < compact_len(bits, count) {
-        return Err(fault_at(leaf, Kind::ShortBox));
+        return Err(leaf.fault(Kind::ShortBox));
     }
     if count > limits.room {
-        return Err(fault_at(leaf, Kind::TooManySamples));
+        return Err(leaf.fault(Kind::TooManySamples));
     }
     match compact_form(bits) {
         Some(form) => {
@@ -103,7 +103,7 @@ fn read_compact(stbl: BoxView, leaf: BoxView, limits: Limits) -> Result<SizesAt,
                 rows: RowsAt { place, count },
             })
         }
-        None => Err(fault_at(leaf, Kind::BadValue)),
+        None => Err(leaf.fault(Kind::BadValue)),
     }
 }
 

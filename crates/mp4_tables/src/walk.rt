@@ -5,14 +5,12 @@ ghost use Rattle.mp4_tables.specs.words.Rows.{HaveRoom, numbers_at, runs_at};
 ghost use Rattle.mp4_tables.specs.words.TablesComing.{IsRunPlace};
 ghost use Rattle.mp4_tables.specs.format.PlainSamples.{non_sync};
 ghost use Rattle.mp4_tables.specs.words.Timed.{samples_of};
-ghost use Rattle.mp4_tables.specs.words.Accepted.{IsAccepted, IsPlace, HaveBytes, HaveOffsets, HaveSync, IsRunPlaceAt, IsSyncPlaceIn, AreInOrder, tables_at, bytes_at, bytes_for, passed, offset_values, flags_here, indexes_here, HaveGroups, AreGroupPlaces};
+ghost use Rattle.mp4_tables.specs.words.Accepted.{IsAccepted, IsPlace, HaveBytes, HaveOffsets, HaveSync, IsRunPlaceAt, IsSyncPlaceIn, AreInOrder, tables_at, bytes_at, bytes_for, passed, offset_values, flags_here};
 ghost use Rattle.mp4_tables.specs.words.Accepted.{offset_rows as rows_of_offsets};
 
 use crate::chunks::{first_chunk, pass_spot};
-use crate::groups::{are_over, first_groups, index_here, pass_groups};
-use crate::places::{
-    BytesAt, GroupPlaces, GroupsAt, OffsetsAt, RowsAt, RunPlace, SyncPlace, TablePlace, TablesAt,
-};
+use crate::indexes::IndexPlaces;
+use crate::places::{BytesAt, OffsetsAt, RowsAt, RunPlace, SyncPlace, TablePlace, TablesAt};
 use crate::runs::{pass, settle};
 use crate::sample::SampleAt;
 use crate::sizes::size_at;
@@ -83,24 +81,6 @@ fn flags_at(payload: &[u8], at: &TablesAt, place: &TablePlace) -> u32
     dependency * 0x10_0000 + non_sync * 0x1_0000
 }
 
-// Its index in each `sbgp`.
-#[inline(always)]
-fn indexes_at(payload: &[u8], groups: &GroupsAt, places: &GroupPlaces, number: u32) -> [u16; 4]
-    requires have { HaveGroups payload.now groups.now }
-    requires at { AreGroupPlaces payload.now groups.now places.now number }
-    ensures { result ≡ indexes_here payload.now groups.now number }
-{
-    if are_over(places) {
-        return [0; 4];
-    }
-    [
-        index_here(payload, groups.first, places.first, number),
-        index_here(payload, groups.second, places.second, number),
-        index_here(payload, groups.third, places.third, number),
-        index_here(payload, groups.fourth, places.fourth, number),
-    ]
-}
-
 // The sample before which the place lies.
 #[inline(always)]
 pub(crate) fn sample_here(payload: &[u8], at: &TablesAt, place: &TablePlace) -> SampleAt
@@ -118,7 +98,7 @@ pub(crate) fn sample_here(payload: &[u8], at: &TablesAt, place: &TablePlace) -> 
         description: place.chunk.row.description,
         at: place.chunk.at,
         size: size_at(payload, at.sizes, place.number),
-        groups: indexes_at(payload, &at.groups, &place.groups, place.number),
+        groups: place.groups.here(),
     }
 }
 
@@ -156,7 +136,7 @@ pub(crate) fn pass_place(payload: &[u8], at: &TablesAt, place: &mut TablePlace)
     pass(payload, offset_rows(at.offsets), &mut place.offset);
     pass_spot(payload, &at.chunk_rows, &at.chunks, &mut place.chunk, size);
     pass_sync_in(payload, at.sync, &mut place.sync, number + 1);
-    pass_groups(payload, &at.groups, &mut place.groups, number);
+    place.groups.pass(payload, &at.groups.rows);
 }
 
 // Before the first composition offset: one 0 for each sample where there is no table.
@@ -224,7 +204,7 @@ pub(crate) fn first_place(payload: &[u8], at: &TablesAt) -> TablePlace
     let offset = first_offset(payload, at.offsets, count);
     let chunk = first_chunk(payload, at.chunk_rows, at.chunks);
     let sync = first_sync_in(payload, at.sync, count);
-    let groups = first_groups(payload, &at.groups);
+    let groups = IndexPlaces::first(payload, &at.groups.rows);
     TablePlace {
         number: 0,
         dts: 0,

@@ -1,6 +1,7 @@
 -- Tables by where they lie in the payload of their `stbl`, and what a check has found of them.
 use Rattle.std.specs.Prelude.{◌≡◌, ℕ, ◌+◌, ◌-◌, ◌*◌, ◌^◌, ◌<◌, ◌≤◌, List, [], ◌∷◌, length, take, drop, map, replicate, Bool, true, false, Option, Some, None, option_map, unwrap_or, ℤ, slice_index}
 use Rattle.std.specs.List.{AllByRecursion}
+use Rattle.mp4_boxes.specs.format.Bytes.{sum_of}
 use Rattle.mp4_tables.specs.format.Repeated.{repeated}
 use Rattle.mp4_tables.specs.format.Groups.{GroupKey, Grouping, same_key}
 use Rattle.mp4_tables.specs.format.Tables.{Tables, composition_offset}
@@ -8,6 +9,7 @@ use Rattle.mp4_tables.specs.format.PlainSamples.{plain_samples, non_sync}
 use Rattle.mp4_tables.specs.format.TableRules.{Surroundings, Fit, is_sync_order}
 use Rattle.mp4_tables.specs.words.Keys.{keys_seen}
 use Rattle.mp4_tables.specs.words.Rows.{HaveRoom, HaveSizes, runs_at, chunk_rows_at, numbers_at, offsets_at, offset_width, sizes_at}
+use Rattle.mp4_tables.specs.words.Indexes.{indexes_in, indexes_coming, AreIndexPlaces, rows_passed}
 use Rattle.mp4_tables.specs.words.TablesComing.{IsRunPlace, IsChunkPlace, IsSyncPlace}
 use Rattle.mp4_tables.specs.words.Timed.{timed, samples_of}
 use Rattle.mp4_tables.specs.format.Groups.{keys_after}
@@ -18,7 +20,7 @@ use Rattle.mp4_tables.specs.declared.places.GroupsAt.{GroupsAt}
 use Rattle.mp4_tables.specs.declared.places.TablesAt.{TablesAt}
 use Rattle.mp4_tables.specs.declared.places.RunPlace.{RunPlace}
 use Rattle.mp4_tables.specs.declared.places.SyncPlace.{SyncPlace}
-use Rattle.mp4_tables.specs.declared.places.GroupPlaces.{GroupPlaces}
+use Rattle.mp4_tables.specs.declared.indexes.IndexPlaces.{IndexPlaces}
 use Rattle.mp4_tables.specs.declared.places.TablePlace.{TablePlace}
 
 -- the version of `ctts` that has signed offsets is 1
@@ -38,8 +40,7 @@ grouped (key ∷ keys) [] = []
 grouped (key ∷ keys) (runs ∷ rows) = record { key = key; rows = runs } ∷ grouped keys rows
 
 abbrev pub group_rows : List ℕ → GroupsAt → List (List (ℕ × ℕ))
-group_rows payload at = runs_at payload at.first ∷ runs_at payload at.second
-    ∷ runs_at payload at.third ∷ runs_at payload at.fourth ∷ []
+group_rows payload at = map (runs_at payload) at.rows.by_key
 
 abbrev pub groupings_at : List ℕ → GroupsAt → List Grouping
 groupings_at payload at = grouped (keys_seen at.keys) (group_rows payload at)
@@ -95,14 +96,10 @@ HaveBytes payload (Some at) = at.place + at.length ≤ length payload
 abbrev pub AreIndexes : List (ℕ × ℕ) → Type 0
 AreIndexes runs = AllByRecursion (λ (run : ℕ × ℕ). run.1 ≤ 65535) runs
 
-abbrev pub HaveGroup : List ℕ → RowsAt → Type 0
-HaveGroup payload at = HaveRoom 8 payload at × AreIndexes (runs_at payload at)
-
 pub record HaveGroups (payload : List ℕ) (at : GroupsAt) : Type 0 where
-  pub first : HaveGroup payload at.first
-  pub second : HaveGroup payload at.second
-  pub third : HaveGroup payload at.third
-  pub fourth : HaveGroup payload at.fourth
+  pub four : length at.rows.by_key ≡ 4
+  pub room : AllByRecursion (HaveRoom 8 payload) at.rows.by_key
+  pub indexes : AllByRecursion (λ (rows : RowsAt). AreIndexes (runs_at payload rows)) at.rows.by_key
   pub distinct : AreDistinct (keys_seen at.keys)
   pub used : AreUsed (keys_seen at.keys) (group_rows payload at)
 
@@ -158,12 +155,12 @@ AreInOrder payload (Some at) n = is_sync_order n (numbers_at 4 payload at) ≡ t
 abbrev pub IsRunPlaceAt : List (ℕ × ℕ) → RunPlace → ℕ → Type 0
 IsRunPlaceAt runs p k = IsRunPlace runs p (drop k (repeated runs))
 
-pub record AreGroupPlaces (payload : List ℕ) (at : GroupsAt) (p : GroupPlaces) (k : ℕ)
+-- the places lie before sample k of each `sbgp`
+pub record AreGroupPlaces (payload : List ℕ) (at : GroupsAt) (p : IndexPlaces) (k : ℕ)
     : Type 0 where
-  pub first : IsRunPlaceAt (runs_at payload at.first) p.first k
-  pub second : IsRunPlaceAt (runs_at payload at.second) p.second k
-  pub third : IsRunPlaceAt (runs_at payload at.third) p.third k
-  pub fourth : IsRunPlaceAt (runs_at payload at.fourth) p.fourth k
+  pub places : AreIndexPlaces payload at.rows p
+  pub coming : indexes_coming payload at.rows p
+      ≡ map (λ (rows : RowsAt). drop k (indexes_in payload rows)) at.rows.by_key
 
 -- the place lies before sample p.number (from 0), or behind them all
 pub record IsPlace (payload : List ℕ) (at : TablesAt) (p : TablePlace) : Type 0 where
@@ -196,8 +193,7 @@ indexes_here payload at k = map (λ (runs : List (ℕ × ℕ)). slice_index (rep
 -- of samples at most as many as its number each
 abbrev pub passed : TablePlace → ℕ
 passed p = 3 * p.number + p.duration.row + p.offset.row + p.chunk.opened + p.chunk.row.row
-    + p.sync.row + p.groups.first.row + p.groups.second.row + p.groups.third.row
-    + p.groups.fourth.row
+    + p.sync.row + rows_passed p.groups
 
 -- how many rows a table has, if there is one
 abbrev pub count_of : Option RowsAt → ℕ
@@ -206,7 +202,7 @@ count_of (Some at) = at.count
 
 -- how many rows all `sbgp`s have
 abbrev pub group_count : GroupsAt → ℕ
-group_count at = at.first.count + at.second.count + at.third.count + at.fourth.count
+group_count at = sum_of (λ (rows : RowsAt). rows.count) at.rows.by_key
 
 -- how many rows the tables have, beside the sizes and the bytes of `sdtp`, which are one a sample
 abbrev pub rows_in : TablesAt → ℕ

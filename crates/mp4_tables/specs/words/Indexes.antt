@@ -1,6 +1,7 @@
 -- Indexes of samples still to come in the `sbgp` of each key of a track.
 use Rattle.std.specs.Prelude.{◌≡◌, ℕ, ◌+◌, ◌%◌, ◌^◌, ◌≤◌, List, [], ◌∷◌, map}
 use Rattle.std.specs.List.{AllZip}
+use Rattle.mp4_tables.specs.format.Repeated.{repeated}
 use Rattle.mp4_tables.specs.words.Rows.{HaveRoom, runs_at}
 use Rattle.mp4_tables.specs.words.TablesComing.{coming}
 use Rattle.mp4_tables.specs.declared.places.RowsAt.{RowsAt}
@@ -12,7 +13,11 @@ use Rattle.mp4_tables.specs.declared.indexes.IndexPlaces.{IndexPlaces}
 abbrev pub low_half : ℕ → ℕ
 low_half index = index % 2 ^ 16
 
--- the indexes to come of the rows of one key
+-- the indexes that the rows of one key give
+abbrev pub indexes_in : List ℕ → RowsAt → List ℕ
+indexes_in payload rows = map low_half (repeated (runs_at payload rows))
+
+-- those to come
 abbrev pub indexes_left : List ℕ → RowsAt → RunPlace → List ℕ
 indexes_left payload rows p = map low_half (coming (runs_at payload rows) p)
 

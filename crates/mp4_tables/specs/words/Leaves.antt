@@ -1,6 +1,6 @@
 -- The children of an `stbl`, which of them is which table, and what is so where a check names a
 -- fault.
-use Rattle.std.specs.Prelude.{◌≡◌, ℕ, zero, suc, ◌+◌, ◌-◌, ◌*◌, ◌<◌, ◌≤◌, ◌⊎◌, ◌==◌, List, [], ◌∷◌, ◌++◌, length, take, drop, true, false, IsTrue, Option, Some, bytes_eq, codes, option_map, unwrap_or, nat_le, ℤ}
+use Rattle.std.specs.Prelude.{◌≡◌, ℕ, ◌+◌, ◌-◌, ◌*◌, ◌<◌, ◌≤◌, ◌⊎◌, ◌==◌, List, [], ◌∷◌, ◌++◌, length, take, drop, true, false, IsTrue, Option, Some, bytes_eq, codes, option_map, unwrap_or, nat_le, ℤ, slice_set}
 use Rattle.std.specs.List.{AllByRecursion}
 use Rattle.mp4_boxes.specs.format.Bytes.{field}
 use Rattle.mp4_boxes.specs.format.Box.{Box, box_container, first_boxes}
@@ -218,14 +218,7 @@ pub record GroupsSo (payload : List ℕ) (n : ℕ) (gs : List Grouping) (at : Gr
 
 -- one slot of rows is taken, the others stay
 abbrev pub SlotTaken : ℕ → GroupsAt → RowsAt → GroupsAt → Type 0
-SlotTaken zero g r h = (h.first ≡ r) × (h.second ≡ g.second) × (h.third ≡ g.third)
-    × (h.fourth ≡ g.fourth)
-SlotTaken (suc zero) g r h = (h.first ≡ g.first) × (h.second ≡ r) × (h.third ≡ g.third)
-    × (h.fourth ≡ g.fourth)
-SlotTaken (suc (suc zero)) g r h = (h.first ≡ g.first) × (h.second ≡ g.second) × (h.third ≡ r)
-    × (h.fourth ≡ g.fourth)
-SlotTaken (suc (suc (suc n))) g r h = (h.first ≡ g.first) × (h.second ≡ g.second)
-    × (h.third ≡ g.third) × (h.fourth ≡ r)
+SlotTaken m g r h = h.rows.by_key ≡ slice_set g.rows.by_key m r
 
 -- an `sbgp` was read: its key and its rows
 pub record GroupRead (stbl b : Box) (key : GroupKey) (r : RowsAt) : Type 0 where

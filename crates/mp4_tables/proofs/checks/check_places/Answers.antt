@@ -20,8 +20,8 @@ lie_within-requires-clause-counts g c = rw c.payload.ensures (places_counted c.a
 
 pub returns-then-not-lie_within-clause-fault : goal.returns-then-not-lie_within-clause-fault
 returns-then-not-lie_within-clause-fault g c =
-    places_outside c.args.limits (box_seen c.args.stbl) (box_seen c.offsets_leaf.result) c.args.sizes.rows.count c.args.sizes c.args.chunks c.args.rows c.fault_at.result c.requires.tables c.offsets_leaf.ensures c.requires.sizes c.requires.chunks c.requires.rows
-    (rw c.payload.ensures at (sym c.if-not-lie_within.ensures.same)) c.fault_at.ensures
+    places_outside c.args.limits (box_seen c.args.stbl) (box_seen c.offsets_leaf.result) c.args.sizes.rows.count c.args.sizes c.args.chunks c.args.rows c.fault.result c.requires.tables c.offsets_leaf.ensures c.requires.sizes c.requires.chunks c.requires.rows
+    (rw c.payload.ensures at (sym c.if-not-lie_within.ensures.same)) c.fault.ensures
 
 pub returns-clause-places : goal.returns-clause-places
 returns-clause-places g c =

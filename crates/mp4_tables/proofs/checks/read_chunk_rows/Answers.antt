@@ -24,14 +24,14 @@ are_ordered-requires g c = rw c.payload-payload.ensures (rows_have 0 12 (codes "
 
 pub returns-then-not-are_ordered-clause-fault : goal.returns-then-not-are_ordered-clause-fault
 returns-then-not-are_ordered-clause-fault g c = λ _.
-    chunk_rows_disorder c.args.limits (box_seen c.args.stbl) (box_seen c.only_of-leaf.result) c.args.chunks c.in_ok-rows.rows c.fault_at.result c.requires.tables c.only_of-leaf.ensures c.in_ok-rows.ensures.rows c.requires.chunks
-    (rw c.payload-payload.ensures at (sym c.if-not-are_ordered.ensures.same)) c.fault_at.ensures
+    chunk_rows_disorder c.args.limits (box_seen c.args.stbl) (box_seen c.only_of-leaf.result) c.args.chunks c.in_ok-rows.rows c.fault.result c.requires.tables c.only_of-leaf.ensures c.in_ok-rows.ensures.rows c.requires.chunks
+    (rw c.payload-payload.ensures at (sym c.if-not-are_ordered.ensures.same)) c.fault.ensures
 
 pub returns-then-not-are_ordered-clause-only : goal.returns-then-not-are_ordered-clause-only
 returns-then-not-are_ordered-clause-only g c = λ a.
     absurd (fault_excludes c.args.limits (box_seen c.args.stbl) _ c.requires.tables
-    (chunk_rows_disorder c.args.limits (box_seen c.args.stbl) (box_seen c.only_of-leaf.result) c.args.chunks c.in_ok-rows.rows c.fault_at.result c.requires.tables c.only_of-leaf.ensures c.in_ok-rows.ensures.rows c.requires.chunks
-    (rw c.payload-payload.ensures at (sym c.if-not-are_ordered.ensures.same)) c.fault_at.ensures) a)
+    (chunk_rows_disorder c.args.limits (box_seen c.args.stbl) (box_seen c.only_of-leaf.result) c.args.chunks c.in_ok-rows.rows c.fault.result c.requires.tables c.only_of-leaf.ensures c.in_ok-rows.ensures.rows c.requires.chunks
+    (rw c.payload-payload.ensures at (sym c.if-not-are_ordered.ensures.same)) c.fault.ensures) a)
 
 pub returns-then-not-are_ordered-clause-work : goal.returns-then-not-are_ordered-clause-work
 returns-then-not-are_ordered-clause-work g c =
@@ -50,14 +50,14 @@ chunk_counts_are-requires-clause-ordered g c = sym c.if-not-are_ordered.ensures.
 
 pub returns-then-not-chunk_counts_are-clause-fault : goal.returns-then-not-chunk_counts_are-clause-fault
 returns-then-not-chunk_counts_are-clause-fault g c = λ _.
-    chunk_rows_mismatch c.args.limits (box_seen c.args.stbl) (box_seen c.only_of-leaf.result) c.args.chunks c.in_ok-rows.rows c.args.n c.fault_at-then-not-chunk_counts_are.result c.requires.tables c.only_of-leaf.ensures c.in_ok-rows.ensures.rows c.requires.chunks c.requires.sizes
-    (rw c.payload-payload.ensures at (sym c.if-not-are_ordered.ensures.same)) (rw c.payload-payload.ensures at (sym c.if-not-chunk_counts_are.ensures.same)) c.fault_at-then-not-chunk_counts_are.ensures
+    chunk_rows_mismatch c.args.limits (box_seen c.args.stbl) (box_seen c.only_of-leaf.result) c.args.chunks c.in_ok-rows.rows c.args.n c.fault-then-not-chunk_counts_are.result c.requires.tables c.only_of-leaf.ensures c.in_ok-rows.ensures.rows c.requires.chunks c.requires.sizes
+    (rw c.payload-payload.ensures at (sym c.if-not-are_ordered.ensures.same)) (rw c.payload-payload.ensures at (sym c.if-not-chunk_counts_are.ensures.same)) c.fault-then-not-chunk_counts_are.ensures
 
 pub returns-then-not-chunk_counts_are-clause-only : goal.returns-then-not-chunk_counts_are-clause-only
 returns-then-not-chunk_counts_are-clause-only g c = λ a.
     absurd (fault_excludes c.args.limits (box_seen c.args.stbl) _ c.requires.tables
-    (chunk_rows_mismatch c.args.limits (box_seen c.args.stbl) (box_seen c.only_of-leaf.result) c.args.chunks c.in_ok-rows.rows c.args.n c.fault_at-then-not-chunk_counts_are.result c.requires.tables c.only_of-leaf.ensures c.in_ok-rows.ensures.rows c.requires.chunks c.requires.sizes
-    (rw c.payload-payload.ensures at (sym c.if-not-are_ordered.ensures.same)) (rw c.payload-payload.ensures at (sym c.if-not-chunk_counts_are.ensures.same)) c.fault_at-then-not-chunk_counts_are.ensures) a)
+    (chunk_rows_mismatch c.args.limits (box_seen c.args.stbl) (box_seen c.only_of-leaf.result) c.args.chunks c.in_ok-rows.rows c.args.n c.fault-then-not-chunk_counts_are.result c.requires.tables c.only_of-leaf.ensures c.in_ok-rows.ensures.rows c.requires.chunks c.requires.sizes
+    (rw c.payload-payload.ensures at (sym c.if-not-are_ordered.ensures.same)) (rw c.payload-payload.ensures at (sym c.if-not-chunk_counts_are.ensures.same)) c.fault-then-not-chunk_counts_are.ensures) a)
 
 pub returns-then-not-chunk_counts_are-clause-work : goal.returns-then-not-chunk_counts_are-clause-work
 returns-then-not-chunk_counts_are-clause-work g c =
@@ -78,10 +78,10 @@ are_described-requires-clause-ordered g c = sym c.if-not-are_ordered.ensures.sam
 
 pub returns-then-not-are_described-clause-fault : goal.returns-then-not-are_described-clause-fault
 returns-then-not-are_described-clause-fault g c = λ d.
-    let is = c.fault_at-then-not-are_described.ensures in
-    chunk_rows_undescribed c.args.limits (box_seen c.args.stbl) (box_seen c.only_of-leaf.result) c.args.chunks c.in_ok-rows.rows c.args.n c.fault_at-then-not-are_described.result c.requires.tables (d (ap (λ (f : Fault). f.kind) is))
+    let is = c.fault-then-not-are_described.ensures in
+    chunk_rows_undescribed c.args.limits (box_seen c.args.stbl) (box_seen c.only_of-leaf.result) c.args.chunks c.in_ok-rows.rows c.args.n c.fault-then-not-are_described.result c.requires.tables (d (ap (λ (f : Fault). f.kind) is))
     c.only_of-leaf.ensures c.in_ok-rows.ensures.rows c.requires.chunks c.requires.sizes
-    (rw c.payload-payload.ensures at (sym c.if-not-are_ordered.ensures.same)) (rw c.payload-payload.ensures at (sym c.if-not-chunk_counts_are.ensures.same)) (rw c.payload-payload.ensures at (sym c.if-not-are_described.ensures.same)) c.fault_at-then-not-are_described.ensures
+    (rw c.payload-payload.ensures at (sym c.if-not-are_ordered.ensures.same)) (rw c.payload-payload.ensures at (sym c.if-not-chunk_counts_are.ensures.same)) (rw c.payload-payload.ensures at (sym c.if-not-are_described.ensures.same)) c.fault-then-not-are_described.ensures
 
 pub returns-then-not-are_described-clause-only : goal.returns-then-not-are_described-clause-only
 returns-then-not-are_described-clause-only g c = λ a.

@@ -19,7 +19,7 @@ returns-then-length-n-clause-fault c =
     let v = c.in_ok-version_of.ensures.version in
     let k = c.in_ok-version_of.ensures.known in
     let l = c.in_ok-version_of.ensures.long in
-    dependencies_short c.args.limits (box_seen c.args.stbl) (box_seen c.in-Some.leaf) c.args.n c.fault_at.result c.requires.tables c.in-Some.ensures (omega arith) (omega arith) c.requires.sizes (omega arith) c.fault_at.ensures
+    dependencies_short c.args.limits (box_seen c.args.stbl) (box_seen c.in-Some.leaf) c.args.n c.fault.result c.requires.tables c.in-Some.ensures (omega arith) (omega arith) c.requires.sizes (omega arith) c.fault.ensures
 
 pub place_in-requires : goal.place_in-requires
 place_in-requires c = let i = (lies_in (box_seen c.args.stbl) (box_seen c.in-Some.leaf) c.requires.tables (first_is_child (codes "sdtp") (box_seen c.args.stbl) (box_seen c.in-Some.leaf) c.in-Some.ensures)).is in omega arith

@@ -15,8 +15,8 @@ counts_are-requires g c =
 
 pub returns-then-not-counts_are-clause-fault : goal.returns-then-not-counts_are-clause-fault
 returns-then-not-counts_are-clause-fault g c =
-    durations_mismatch c.args.limits (box_seen c.args.stbl) (box_seen c.only_of-leaf.result) c.in_ok-rows.rows c.args.n c.fault_at.result c.requires.tables c.only_of-leaf.ensures c.in_ok-rows.ensures.rows c.requires.sizes
-    (rw c.payload.ensures at (sym c.if-not-counts_are.ensures.same)) c.fault_at.ensures
+    durations_mismatch c.args.limits (box_seen c.args.stbl) (box_seen c.only_of-leaf.result) c.in_ok-rows.rows c.args.n c.fault.result c.requires.tables c.only_of-leaf.ensures c.in_ok-rows.ensures.rows c.requires.sizes
+    (rw c.payload.ensures at (sym c.if-not-counts_are.ensures.same)) c.fault.ensures
 
 pub returns-then-not-counts_are-clause-work : goal.returns-then-not-counts_are-clause-work
 returns-then-not-counts_are-clause-work g c =

@@ -18,8 +18,8 @@ counts_are-requires g c = rw c.payload.ensures (rows_have 1 8 (codes "ctts") (bo
 
 pub returns-then-not-counts_are-clause-fault : goal.returns-then-not-counts_are-clause-fault
 returns-then-not-counts_are-clause-fault g c =
-    offsets_mismatch c.args.limits (box_seen c.args.stbl) (box_seen c.in-Some.leaf) c.in_ok-rows.rows c.args.n c.fault_at.result c.requires.tables c.in-Some.ensures c.in_ok-rows.ensures.rows c.requires.sizes
-    (rw c.payload.ensures at (sym c.if-not-counts_are.ensures.same)) c.fault_at.ensures
+    offsets_mismatch c.args.limits (box_seen c.args.stbl) (box_seen c.in-Some.leaf) c.in_ok-rows.rows c.args.n c.fault.result c.requires.tables c.in-Some.ensures c.in_ok-rows.ensures.rows c.requires.sizes
+    (rw c.payload.ensures at (sym c.if-not-counts_are.ensures.same)) c.fault.ensures
 
 pub returns-then-not-counts_are-clause-work : goal.returns-then-not-counts_are-clause-work
 returns-then-not-counts_are-clause-work g c =
@@ -46,9 +46,9 @@ are_below-requires g c = rw c.payload-2.ensures (rows_have 1 8 (codes "ctts") (b
 
 pub returns-then-not-are_below-clause-fault : goal.returns-then-not-are_below-clause-fault
 returns-then-not-are_below-clause-fault g c =
-    offsets_large c.args.limits (box_seen c.args.stbl) (box_seen c.in-Some.leaf) c.in_ok-rows.rows c.fault_at-then-not-are_below.result c.requires.tables c.in-Some.ensures c.in_ok-rows.ensures.rows
+    offsets_large c.args.limits (box_seen c.args.stbl) (box_seen c.in-Some.leaf) c.in_ok-rows.rows c.fault-then-not-are_below.result c.requires.tables c.in-Some.ensures c.in_ok-rows.ensures.rows
     (unsigned_version (box_seen c.in-Some.leaf) c.in_ok-rows.ensures.rows.version (sym c.if-is_signed.false ∙ c.is_signed.ensures))
-    (rw c.payload-2.ensures at (sym c.if-not-are_below.ensures.same)) c.fault_at-then-not-are_below.ensures
+    (rw c.payload-2.ensures at (sym c.if-not-are_below.ensures.same)) c.fault-then-not-are_below.ensures
 
 pub returns-then-not-are_below-clause-work : goal.returns-then-not-are_below-clause-work
 returns-then-not-are_below-clause-work g c =

@@ -18,8 +18,8 @@ are_numbers-requires g c =
 
 pub returns-then-not-are_numbers-clause-fault : goal.returns-then-not-are_numbers-clause-fault
 returns-then-not-are_numbers-clause-fault g c =
-    sync_disorder c.args.limits (box_seen c.args.stbl) (box_seen c.in-Some.leaf) c.in_ok-rows.rows c.args.n c.fault_at.result c.requires.tables c.in-Some.ensures c.in_ok-rows.ensures.rows c.requires.sizes
-    (rw c.payload.ensures at (sym c.if-not-are_numbers.ensures.same)) c.fault_at.ensures
+    sync_disorder c.args.limits (box_seen c.args.stbl) (box_seen c.in-Some.leaf) c.in_ok-rows.rows c.args.n c.fault.result c.requires.tables c.in-Some.ensures c.in_ok-rows.ensures.rows c.requires.sizes
+    (rw c.payload.ensures at (sym c.if-not-are_numbers.ensures.same)) c.fault.ensures
 
 pub returns-then-not-are_numbers-clause-work : goal.returns-then-not-are_numbers-clause-work
 returns-then-not-are_numbers-clause-work g c =

@@ -1,7 +1,7 @@
 use Rattle.std.proofs.Common.{arith}
 use Rattle.std.proofs.lemmas.Result.{err_from_is_err_and}
 use Rattle.mp4_boxes.specs.words.View.{box_seen}
-use Rattle.mp4_tables.proofs.GroupWalks.{next_child, passed_next, child_fault}
+use Rattle.mp4_tables.proofs.GroupWalks.{next_child, passed_next, child_fault, rows_bounded}
 use Rattle.mp4_tables.proofs.group_checks.read_groups.Goals as goal
 
 pub read_child-requires-clause-child : goal.read_child-requires-clause-child
@@ -18,3 +18,16 @@ loop-child-preserved g c =
     let p = c.loop-child.invariant.3 in
     let q = c.in_ok-groups.ensures.passed _ c.loop-child.invariant.2.so in
     (tt, tt, passed_next (box_seen c.args.stbl) (box_seen c.in-Some.child) c.args.n c.loop-child.groups c.in_ok-groups.groups c.loop-child.child-iterator c.next.new.self c.loop-child.invariant.2 c.in-Some.ensures.steps c.in_ok-groups.ensures.next, omega arith)
+
+pub returns-in_err-groups-clause-work : goal.returns-in_err-groups-clause-work
+returns-in_err-groups-clause-work g c =
+    let bound = rows_bounded (box_seen c.args.stbl).payload c.loop-child.groups c.loop-child.invariant.2.so.have in
+    let steps = c.loop-child.invariant.3 in
+    let last = c.in_err-groups.ensures.work in
+    omega (arith, bound, steps, last)
+
+pub returns-clause-work : goal.returns-clause-work
+returns-clause-work g c =
+    let bound = rows_bounded (box_seen c.args.stbl).payload c.loop-child.groups c.loop-child.invariant.2.so.have in
+    let steps = c.loop-child.invariant.3 in
+    omega (arith, bound, steps)

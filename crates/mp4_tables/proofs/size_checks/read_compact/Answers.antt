@@ -16,7 +16,7 @@ returns-in_err-version_of-clause-fault c =
 pub returns-then-payload-lt12-clause-fault : goal.returns-then-payload-lt12-clause-fault
 returns-then-payload-lt12-clause-fault c =
     let q = ap (λ (xs : List ℕ). length xs) c.payload-payload.ensures in
-    compact_short c.args.limits (box_seen c.args.stbl) (box_seen c.args.leaf) c.fault_at.result c.requires.first (omega arith) c.fault_at.ensures
+    compact_short c.args.limits (box_seen c.args.stbl) (box_seen c.args.leaf) c.fault.result c.requires.first (omega arith) c.fault.ensures
 
 pub returns-then-payload-compact_len-clause-fault : goal.returns-then-payload-compact_len-clause-fault
 returns-then-payload-compact_len-clause-fault c =
@@ -25,7 +25,7 @@ returns-then-payload-compact_len-clause-fault c =
     let k = c.in_ok-version_of.ensures.known in
     let count : c.u32_at-count.result ≡ field (box_seen c.args.leaf).payload 8 4 = rw c.payload-payload.ensures at c.u32_at-count.ensures in
     let l = compact_len_is (box_seen c.args.leaf) c.payload-payload.result.now _ c.u32_at-count.result c.compact_len.result c.payload-payload.ensures refl c.u32_at-count.ensures c.compact_len.ensures in
-    compact_short c.args.limits (box_seen c.args.stbl) (box_seen c.args.leaf) c.fault_at-then-payload-compact_len.result c.requires.first (omega arith) c.fault_at-then-payload-compact_len.ensures
+    compact_short c.args.limits (box_seen c.args.stbl) (box_seen c.args.leaf) c.fault-then-payload-compact_len.result c.requires.first (omega arith) c.fault-then-payload-compact_len.ensures
 
 pub returns-then-count-limits-clause-fault : goal.returns-then-count-limits-clause-fault
 returns-then-count-limits-clause-fault c =
@@ -34,7 +34,7 @@ returns-then-count-limits-clause-fault c =
     let k = c.in_ok-version_of.ensures.known in
     let count : c.u32_at-count.result ≡ field (box_seen c.args.leaf).payload 8 4 = rw c.payload-payload.ensures at c.u32_at-count.ensures in
     let l = compact_len_is (box_seen c.args.leaf) c.payload-payload.result.now _ c.u32_at-count.result c.compact_len.result c.payload-payload.ensures refl c.u32_at-count.ensures c.compact_len.ensures in
-    compact_many c.args.limits (box_seen c.args.stbl) (box_seen c.args.leaf) c.fault_at-then-count-limits.result c.requires.tables c.requires.none c.requires.first (omega arith) (omega arith) (omega arith) c.fault_at-then-count-limits.ensures
+    compact_many c.args.limits (box_seen c.args.stbl) (box_seen c.args.leaf) c.fault-then-count-limits.result c.requires.tables c.requires.none c.requires.first (omega arith) (omega arith) (omega arith) c.fault-then-count-limits.ensures
 
 pub place_in-place-requires : goal.place_in-place-requires
 place_in-place-requires c = let i = (lies_in (box_seen c.args.stbl) (box_seen c.args.leaf) c.requires.tables (first_is_child (codes "stz2") (box_seen c.args.stbl) (box_seen c.args.leaf) c.requires.first)).is in omega arith
@@ -58,4 +58,4 @@ returns-in-None-clause-fault c =
     let count : c.u32_at-count.result ≡ field (box_seen c.args.leaf).payload 8 4 = rw c.payload-payload.ensures at c.u32_at-count.ensures in
     let l = compact_len_is (box_seen c.args.leaf) c.payload-payload.result.now _ c.u32_at-count.result c.compact_len.result c.payload-payload.ensures refl c.u32_at-count.ensures c.compact_len.ensures in
     let bits : slice_index c.payload-payload.result.now 7 ≡ size_bits (box_seen c.args.leaf).payload = bits_are c.payload-payload.result.now (slice_index c.payload-payload.result.now 7) refl ∙ ap size_bits c.payload-payload.ensures in
-    compact_value c.args.limits (box_seen c.args.stbl) (box_seen c.args.leaf) c.fault_at-in-None.result c.requires.first (omega arith) (omega arith) (ap is_size_bits (sym bits) ∙ c.in-None.ensures) c.fault_at-in-None.ensures
+    compact_value c.args.limits (box_seen c.args.stbl) (box_seen c.args.leaf) c.fault-in-None.result c.requires.first (omega arith) (omega arith) (ap is_size_bits (sym bits) ∙ c.in-None.ensures) c.fault-in-None.ensures

@@ -14,7 +14,7 @@ returns-in_err-version_of-clause-fault c =
 pub returns-then-payload-lt12-clause-fault : goal.returns-then-payload-lt12-clause-fault
 returns-then-payload-lt12-clause-fault c =
     let q = ap (λ (xs : List ℕ). length xs) c.payload-payload.ensures in
-    words_short c.args.limits (box_seen c.args.stbl) (box_seen c.args.leaf) c.fault_at.result c.requires.first (omega arith) c.fault_at.ensures
+    words_short c.args.limits (box_seen c.args.stbl) (box_seen c.args.leaf) c.fault.result c.requires.first (omega arith) c.fault.ensures
 
 pub place_in-place-requires : goal.place_in-place-requires
 place_in-place-requires c = let i = (lies_in (box_seen c.args.stbl) (box_seen c.args.leaf) c.requires.tables (first_is_child (codes "stsz") (box_seen c.args.stbl) (box_seen c.args.leaf) c.requires.first)).is in omega arith
@@ -27,7 +27,7 @@ returns-then-payload-count-clause-fault c =
     let size : c.u32_at-size.result ≡ field (box_seen c.args.leaf).payload 4 4 = rw c.payload-payload.ensures at c.u32_at-size.ensures in
     let count : c.u32_at-count.result ≡ field (box_seen c.args.leaf).payload 8 4 = rw c.payload-payload.ensures at c.u32_at-count.ensures in
     let p = c.place_in-place.ensures in
-    words_rows_short c.args.limits (box_seen c.args.stbl) (box_seen c.args.leaf) c.fault_at-then-payload-count.result c.requires.first (sym size ∙ c.if-size-eq0.true) (omega arith) c.fault_at-then-payload-count.ensures
+    words_rows_short c.args.limits (box_seen c.args.stbl) (box_seen c.args.leaf) c.fault-then-payload-count.result c.requires.first (sym size ∙ c.if-size-eq0.true) (omega arith) c.fault-then-payload-count.ensures
 
 pub returns-then-count-limits-clause-fault : goal.returns-then-count-limits-clause-fault
 returns-then-count-limits-clause-fault c =
@@ -37,7 +37,7 @@ returns-then-count-limits-clause-fault c =
     let size : c.u32_at-size.result ≡ field (box_seen c.args.leaf).payload 4 4 = rw c.payload-payload.ensures at c.u32_at-size.ensures in
     let count : c.u32_at-count.result ≡ field (box_seen c.args.leaf).payload 8 4 = rw c.payload-payload.ensures at c.u32_at-count.ensures in
     let p = c.place_in-place.ensures in
-    words_many c.args.limits (box_seen c.args.stbl) (box_seen c.args.leaf) true c.fault_at-then-count-limits.result c.requires.tables c.requires.first (is_zero _ _ size c.if-size-eq0.true) (omega arith) (omega arith) (omega arith) c.fault_at-then-count-limits.ensures
+    words_many c.args.limits (box_seen c.args.stbl) (box_seen c.args.leaf) true c.fault-then-count-limits.result c.requires.tables c.requires.first (is_zero _ _ size c.if-size-eq0.true) (omega arith) (omega arith) (omega arith) c.fault-then-count-limits.ensures
 
 pub returns-then-size-eq0-clause-sizes : goal.returns-then-size-eq0-clause-sizes
 returns-then-size-eq0-clause-sizes c =
@@ -57,7 +57,7 @@ returns-then-count-limits-2-clause-fault c =
     let size : c.u32_at-size.result ≡ field (box_seen c.args.leaf).payload 4 4 = rw c.payload-payload.ensures at c.u32_at-size.ensures in
     let count : c.u32_at-count.result ≡ field (box_seen c.args.leaf).payload 8 4 = rw c.payload-payload.ensures at c.u32_at-count.ensures in
     let p = c.place_in-place.ensures in
-    words_many c.args.limits (box_seen c.args.stbl) (box_seen c.args.leaf) false c.fault_at-then-count-limits-2.result c.requires.tables c.requires.first (is_some _ _ size c.if-size-eq0.false) (omega arith) (omega arith) (omega arith) c.fault_at-then-count-limits-2.ensures
+    words_many c.args.limits (box_seen c.args.stbl) (box_seen c.args.leaf) false c.fault-then-count-limits-2.result c.requires.tables c.requires.first (is_some _ _ size c.if-size-eq0.false) (omega arith) (omega arith) (omega arith) c.fault-then-count-limits-2.ensures
 
 pub returns-clause-sizes : goal.returns-clause-sizes
 returns-clause-sizes c =

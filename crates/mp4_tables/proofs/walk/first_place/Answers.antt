@@ -18,5 +18,5 @@ returns-clause-place c = record {
   offset = c.first_offset-offset.ensures;
   chunk = c.first_chunk-chunk.ensures (sizes_at c.args.payload.now c.args.at.now.sizes);
   sync = c.first_sync_in-sync.ensures;
-  groups = c.first_groups-groups.ensures;
+  groups = record { places = c.first-groups.ensures.places; coming = c.first-groups.ensures.all };
 }

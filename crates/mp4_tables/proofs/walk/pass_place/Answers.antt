@@ -1,4 +1,5 @@
 use Rattle.std.proofs.Common.{◌<◌, ◌^◌, rules}
+use Rattle.mp4_tables.proofs.GroupsHere.{groups_next}
 use Rattle.mp4_tables.proofs.PlaceLists.{duration_left, duration_within, offset_left, offset_within, chunk_left, end_fits, place_passed}
 use Rattle.mp4_tables.proofs.SpotLists.{lies_in_chunks}
 use Rattle.mp4_tables.proofs.walk.pass_place.Goals as goal
@@ -31,6 +32,6 @@ returns-clause-place c =
     let d = c.pass.ensures in
     let o = c.pass-2.ensures in
     let s = c.pass_spot.ensures in
-    rw c.from.ensures (place_passed c.args.payload.now c.args.at.now p c.size_at-size.result c.offset_rows.result c.pass.new.place c.pass-2.new.place c.pass_spot.new.place c.pass_sync_in.new.place c.pass_groups.new.places
+    rw c.from.ensures (place_passed c.args.payload.now c.args.at.now p c.size_at-size.result c.offset_rows.result c.pass.new.place c.pass-2.new.place c.pass_spot.new.place c.pass_sync_in.new.place c.pass-3.new.self
     c.requires.ok c.requires.place c.requires.inside c.size_at-size.ensures small c.offset_rows.ensures d.next d.settled d.within o.next o.settled o.within s.next s.settled s.place.at s.place.opened s.place.passed
-    c.pass_sync_in.ensures.at c.pass_groups.ensures.at)
+    c.pass_sync_in.ensures.at (groups_next c.args.payload.now c.args.at.now.groups p.groups c.pass-3.new.self p.number c.requires.place.groups c.pass-3.ensures.places c.pass-3.ensures.next))
