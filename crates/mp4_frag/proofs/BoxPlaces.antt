@@ -1,5 +1,5 @@
 -- Boxes between two places of a payload, one by one.
-use Rattle.std.proofs.Common.{◌≡◌, ℕ, zero, suc, ◌+◌, ◌-◌, ◌<◌, ◌≤◌, false, List, [], ◌∷◌, length, take, drop, Result, Ok, Err, IsErr, refl, sym, ap, ◌∙◌, arith, length-take, length-drop}
+use Rattle.std.proofs.Common.{◌≡◌, ℕ, zero, suc, ◌+◌, ◌-◌, ◌≤◌, false, List, [], ◌∷◌, length, take, drop, Result, Ok, Err, IsErr, refl, sym, ap, ◌∙◌, arith, length-take, length-drop}
 use Rattle.std.proofs.lemmas.List.{drop-drop, drop-take}
 use Rattle.mp4_boxes.specs.format.Box.{Box, Header, header_at, box_of, box_and_more, first_boxes}
 use Rattle.mp4_boxes.specs.format.BoxFaults.{header_there}
@@ -88,15 +88,6 @@ box_there payload at end kind l size h k e =
     ∙ (let payload_is = part_inside payload at l size end inside (omega arith) in
     let behind = part_behind payload at size end (omega arith) in
     λ i. record { kind = kind; offset = at; header = sym width i; payload = payload_is i } ∷ boxes_in (at + size) (behind i))
-
-pub box_places : (payload : List ℕ) (at end : ℕ) (h : Header) → at ≤ end → end ≤ length payload → header_at false (part_of payload at end) ≡ Ok h → (at < at + h.length) × (at + h.length ≤ at + h.size) × (at + h.size ≤ end)
-box_places payload at end h le k e =
-    let r = header_is false (part_of payload at end) h e in
-    let long = part_length payload at end le k in
-    let eight = r.length in
-    let inside = r.inside in
-    let fits = r.fits in
-    (omega arith, omega arith, omega arith)
 
 -- where none can be read, there is no box
 pub box_none : (payload : List ℕ) (at end : ℕ) → IsErr (header_at false (part_of payload at end)) → boxes_between payload at end ≡ []

@@ -15,8 +15,8 @@ use Rattle.mp4_tables.specs.words.Keys.{key_seen}
 use Rattle.mp4_tables.specs.format.Repeated.{total}
 use Rattle.mp4_tables.specs.words.Rows.{run_of, runs_at}
 use Rattle.mp4_frag.specs.words.GroupsJudged.{IsGroupSound, AreGroupsSound, IsGroupFault, GroupsFail, AreNamed, NamesOneMore, IsNameFault, is_named_at}
-use Rattle.mp4_frag.specs.words.Reading.{IsGroup, group_runs}
-use Rattle.mp4_frag.specs.declared.groups.Group.{Group}
+use Rattle.mp4_tables.specs.words.GroupBoxes.{IsGroup, group_runs}
+use Rattle.mp4_tables.specs.declared.group_boxes.Group.{Group}
 use Rattle.mp4_frag.proofs.Comings.{turned}
 
 -- ---- one `sbgp`

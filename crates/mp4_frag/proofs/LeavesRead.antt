@@ -13,7 +13,9 @@ use Rattle.mp4_frag.specs.words.ColumnsRead.{row_room}
 use Rattle.mp4_frag.specs.format.Fragments.{RunRow, run_of, run_rows}
 use Rattle.mp4_frag.proofs.BoxPlaces.{part_length}
 use Rattle.mp4_frag.specs.words.Looks.{over_run}
-use Rattle.mp4_frag.specs.words.Reading.{IsGroup, IsHead, IsRun, as_traf, head_values}
+use Rattle.mp4_tables.specs.words.GroupBoxes.{IsGroup}
+use Rattle.mp4_tables.specs.declared.group_boxes.Group.{Group}
+use Rattle.mp4_frag.specs.words.Reading.{IsHead, IsRun, as_traf, head_values}
 use Rattle.mp4_frag.specs.words.Walks.{can_read, indexes_of, with_group, part_of, Walk, Reached, head_of, with_trex, trex_among, with_head, rows_here, rows_of, rows_coming, run_coming, begin, end_held}
 use Rattle.mp4_boxes.specs.format.BoxFaults.{Fails}
 use Rattle.mp4_boxes.specs.declared.fault.Kind.{Kind}
@@ -22,7 +24,6 @@ use Rattle.mp4_frag.specs.declared.heads.Head.{Head}
 use Rattle.mp4_frag.specs.declared.runs.Run.{Run}
 use Rattle.mp4_frag.specs.declared.state.TrackState.{TrackState}
 use Rattle.mp4_frag.specs.declared.trex.Trex.{Trex}
-use Rattle.mp4_frag.specs.declared.groups.Group.{Group}
 use Rattle.mp4_frag.proofs.PartsRead.{runs_in_part, run_rows_in_part}
 
 -- a leaf that can be read

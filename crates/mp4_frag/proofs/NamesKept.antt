@@ -155,7 +155,8 @@ name_fifth n first now before named g a e h =
     rw (not_there, four) refl
 
 -- its key is new to the track
-pub name_new : (first now : List GroupKey) (before : List Grouping) (named : List Bool) (g : Grouping) → AreNamed first before now named → key_place g.key now ≡ None → length now < max_keys → length now < length named → NamesOneMore first before g (now ++ g.key ∷ []) (slice_set named (length now) true)
+pub name_new : (first now : List GroupKey) (before : List Grouping) (named : List Bool) (g : Grouping) → AreNamed first before now named → key_place g.key now ≡ None → length now < max_keys → length now < length named
+    → NamesOneMore first before g (now ++ g.key ∷ []) (slice_set named (length now) true)
 name_new first now before named g a e h inside =
     let not_there : list_any (same_key g.key) (keys_after first before) ≡ false = ap (list_any (same_key g.key)) (sym a.keys_now) ∙ not_named_yet g.key now e in
     let long = length-append now (g.key ∷ []) in

@@ -1,72 +1,21 @@
 //! `sbgp` in a `traf`: which group description its samples have (ISO/IEC 14496-12, 8.9.2).
-ghost use Rattle.std.specs.Prelude.{◌≡◌, ◌+◌, ◌*◌, ◌<◌, ◌≤◌, ◌∷◌, drop, nat_le, length, is_some, OnOk, IfOk, IfErr, IfSome, ◌++◌, []};
-ghost use Rattle.mp4_boxes.specs.format.BoxFaults.{Fails};
+ghost use Rattle.std.specs.Prelude.{◌≡◌, ◌+◌, ◌*◌, ◌<◌, ◌≤◌, ◌∷◌, drop, nat_le, length, is_some, OnOk, IfErr, IfSome, ◌++◌, []};
 ghost use Rattle.mp4_boxes.specs.format.Layout.{sbgp, row_count};
-ghost use Rattle.mp4_boxes.specs.format.Layout.{version as version_of};
-ghost use Rattle.mp4_tables.specs.format.Groups.{key_of as key_in};
 ghost use Rattle.mp4_tables.specs.words.Keys.{key_seen};
 ghost use Rattle.mp4_tables.specs.format.Groups.{max_index};
 ghost use Rattle.mp4_tables.specs.format.Repeated.{total as total_of};
-ghost use Rattle.mp4_frag.specs.words.Reading.{IsGroup, group_runs};
+ghost use Rattle.mp4_tables.specs.words.GroupBoxes.{group_runs};
 ghost use Rattle.std.specs.List.{list_all};
 ghost use Rattle.mp4_tables.specs.format.Groups.{Grouping, grouping_of};
 ghost use Rattle.mp4_tables.specs.words.Keys.{keys_seen};
 ghost use Rattle.mp4_frag.specs.words.GroupsJudged.{AreNamed, WhereNamed, NamesOneMore, IsNameFault, IsGroupSound, IsGroupFault};
 
-use mp4_boxes::{FourCc, Kind, Steps, front, u32_at};
-use mp4_tables::{GroupKey, Keys};
+use mp4_boxes::{Kind, Steps, u32_at};
+use mp4_tables::{Group, GroupKey, Keys, read_group};
 use std::sync::ledger::Ledger;
 
 /// The largest index of a group description.
 const MAX_INDEX: u32 = 65_535;
-
-/// What an `sbgp` says, and where its rows begin in its payload.
-#[derive(Clone, Copy)]
-pub(crate) struct Group {
-    pub(crate) key: GroupKey,
-    pub(crate) rows: usize,
-    pub(crate) count: u32,
-}
-
-// The type and the parameter.
-fn key_of(payload: &[u8], version: u8) -> GroupKey
-    requires room { 12 ≤ length payload.now }
-    requires version { version ≡ version_of payload.now }
-    ensures { key_seen result ≡ key_in payload.now }
-{
-    GroupKey {
-        kind: FourCc([payload[4], payload[5], payload[6], payload[7]]),
-        parameter: if version == 0 {
-            None
-        } else {
-            Some(u32_at(payload, 8))
-        },
-    }
-}
-
-/// What the `sbgp` says.
-pub(crate) fn read_group(payload: &[u8]) -> Result<Group, Kind>
-    ensures group { IfOk result (IsGroup payload.now) }
-    ensures fault { IfErr result (Fails sbgp payload.now) }
-{
-    let (version, _) = front(payload)?;
-    if version > 1 {
-        return Err(Kind::BadVersion);
-    }
-    let rows = if version == 0 { 12 } else { 16 };
-    if payload.len() < rows {
-        return Err(Kind::ShortBox);
-    }
-    let count = u32_at(payload, rows - 4);
-    if payload.len() < rows + 8 * count as usize {
-        return Err(Kind::ShortBox);
-    }
-    Ok(Group {
-        key: key_of(payload, version),
-        rows,
-        count,
-    })
-}
 
 // Names the key of an `sbgp`, which no other of the `traf` may have, and which may not be the fifth
 // of the track. Whether a key is named stands at its place among the track's.

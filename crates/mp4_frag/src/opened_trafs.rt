@@ -8,13 +8,12 @@ ghost use Rattle.mp4_frag.specs.words.Walks.{trex_among, with_head, with_group, 
 
 use crate::check::{SBGP, TFHD};
 use crate::finding::{Known, search};
-use crate::groups::read_group;
 use crate::heads::{base_of, read_head, what_is_inherited};
 use crate::lying::{Lying, box_at};
 use crate::places::FragPlace;
 use crate::state::TrackState;
 use crate::trex::Trex;
-use mp4_tables::{no_indexes, open_rows};
+use mp4_tables::{no_indexes, open_rows, read_group};
 
 // Takes the rows of an `sbgp`, if its key is one of the track's: its indexes are to come there, at
 // a step for each row.

@@ -64,8 +64,8 @@ returns-clause-passed g c =
     let before : to_z w128 (of_z w128 c.args.before) ≡ c.args.before = search rules in
     let kept : to_z w128 (of_z w128 c.in_ok-passed.passed.at) ≡ c.in_ok-passed.passed.at = search rules in
     let head : of_kind (codes "tfhd") boxes ≡ box_seen c.in-Some.tfhd ∷ [] = sym c.in_ok-heads.ensures.head ∙ ap (λ (o : Option BoxView). only_list (option_map box_seen o)) c.in-Some.is in
-    let known : trex_among c.args.tracks.now c.in_ok-head.head.id ≡ Some c.in-Some-trex.trex = found_trex c.args.tracks.now c.in_ok-head.head.id c.in-Some-find_track.k _ c.in-Some-trex.trex c.in-Some-find_track.ensures.inside c.in-Some-find_track.ensures.there.found (ap (λ t. t.trex) (sym c.index-tracks-k.is)
-    ∙ c.in-Some-trex.is) in
+    let known : trex_among c.args.tracks.now c.in_ok-head.head.id ≡ Some c.in-Some-trex.trex = found_trex c.args.tracks.now c.in_ok-head.head.id c.in-Some-find_track.k _ c.in-Some-trex.trex
+    c.in-Some-find_track.ensures.inside c.in-Some-find_track.ensures.there.found (ap (λ t. t.trex) (sym c.index-tracks-k.is) ∙ c.in-Some-trex.is) in
     let m = c.moved_on.ensures in
     let late : is_late_at c.index-tracks-k.result c.in_ok-time.time c.in_ok-passed.passed.count ≡ false =
     elim c.match-heads-2.branch [
@@ -76,7 +76,8 @@ returns-clause-passed g c =
     ] in
     record {
       holds = c.in_ok-heads.ensures.holds;
-      sound = rw kept (traf_sound c.args.file_len c.args.moof c.in_ok-passed.passed.count c.args.before c.base_of.result c.in_ok-passed.passed.at c.args.tracks.now boxes (box_seen c.in-Some.tfhd) c.in_ok-head.head c.in-Some-trex.trex c.what_is_inherited.result (keys_seen c.index-tracks-k.result.keys)
+      sound = rw kept (traf_sound c.args.file_len c.args.moof c.in_ok-passed.passed.count c.args.before c.base_of.result c.in_ok-passed.passed.at c.args.tracks.now boxes (box_seen c.in-Some.tfhd) c.in_ok-head.head c.in-Some-trex.trex
+          c.what_is_inherited.result (keys_seen c.index-tracks-k.result.keys)
           head c.in_ok-head.ensures.head known c.in_ok-time.ensures.sound (rw before at c.base_of.ensures.is) c.what_is_inherited.ensures (rw same at c.in_ok-passed.ensures.runs.sound) (rw same at c.in_ok-passed.ensures.runs.end) c.in_ok-passed.ensures.runs.count c.in_ok-keys.ensures.sound);
       bound = λ n big near.
           let base : IsUpTo n c.base_of.result = (rw before at c.base_of.ensures.bound) n big near in
@@ -164,4 +165,5 @@ returns-then-is_late-clause-fault g c =
     c.in_ok-head.ensures.head
     c.in-Some-find_track.ensures.inside c.in-Some-find_track.ensures.there.found c.index-tracks-k.is c.in-Some-trex.is (rw before at c.base_of.ensures.is) c.what_is_inherited.ensures in
     time_refused c.args.file_len c.args.moof c.args.room.now c.in_ok-passed.passed.count c.args.before c.base_of.result c.args.tracks.now (box_seen c.args.traf) (box_seen c.in-Some.tfhd) (box_seen c.in-Some-time.tfdt)
-    c.index-tracks-k.result c.in-Some-trex.trex c.what_is_inherited.result c.in_ok-time.time _ o (rw same at c.in_ok-passed.ensures.runs.sound) c.in_ok-passed.ensures.runs.count c.in_ok-keys.ensures.sound there c.in_ok-time.ensures.sound c.in_ok-time.ensures.time (sym c.if-is_late.ensures) c.fault-then-is_late.ensures
+    c.index-tracks-k.result c.in-Some-trex.trex c.what_is_inherited.result c.in_ok-time.time _ o (rw same at c.in_ok-passed.ensures.runs.sound) c.in_ok-passed.ensures.runs.count c.in_ok-keys.ensures.sound there
+    c.in_ok-time.ensures.sound c.in_ok-time.ensures.time (sym c.if-is_late.ensures) c.fault-then-is_late.ensures
