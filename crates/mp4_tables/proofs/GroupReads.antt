@@ -1,5 +1,5 @@
 -- One `sbgp`, as it was read: what it is, and which rule it does not keep.
-use Rattle.std.proofs.Common.{◌≡◌, ◌≢◌, ℕ, ◌+◌, ◌<◌, ◌≤◌, inr, [], ◌∷◌, ◌++◌, length, drop, map, subst, ap, sym, ◌∙◌, arith, Bool, true, false}
+use Rattle.std.proofs.Common.{◌≡◌, ℕ, ◌+◌, ◌<◌, ◌≤◌, inr, [], ◌∷◌, ◌++◌, length, drop, map, subst, ap, sym, ◌∙◌, arith, Bool, true, false}
 use Rattle.std.specs.Prelude.{nat_le, ◌==◌}
 use Rattle.std.specs.List.{list_any}
 use Rattle.std.proofs.lemmas.Bool.Decides.{nat_tests}
@@ -53,9 +53,6 @@ group_twice stbl b key r n at f g e s = inr (record {
 
 four_is : (x : ℕ) → x ≡ 4 → (x == 4) ≡ true
 four_is x e = grind (arith, nat_tests)
-
-four_not : (x : ℕ) → (x ≡ 4 → ⊥) → (x == 4) ≡ false
-four_not x e = let h : x ≢ 4 = e in grind (arith, nat_tests)
 
 pub group_fifth : (stbl b : Box) (key : GroupKey) (r : RowsAt) (n : ℕ) (at : GroupsAt) (f : Fault) → GroupRead stbl b key r → list_any (same_key key) (keys_seen at.keys) ≡ false → length (keys_seen at.keys) ≡ 4 → f ≡ fault_of (group_kind few_keys) b → GroupFails stbl.payload n at b f
 group_fifth stbl b key r n at f g e l s = inr (record {

@@ -6,12 +6,12 @@ ghost use Rattle.mp4_tables.specs.words.Leaves.{HasTables, SizesKnown, Durations
 ghost use Rattle.mp4_tables.specs.words.Accepted.{offset_rows, count_of, rows_in};
 
 use crate::chunks::{are_described, are_ordered, chunk_counts_are};
+use crate::data_places::lie_within;
 use crate::group_checks::read_groups;
 use crate::leaves::{Limits, first_of, only_of, place_in, table_rows, version_of};
 use crate::places::{BytesAt, ChunksAt, OffsetsAt, RowsAt, SizesAt, TablesAt};
 use crate::runs::{are_below, counts_are};
 use crate::size_checks::read_sizes;
-use crate::spots::lie_within;
 use crate::sync_samples::are_numbers;
 use mp4_boxes::{BoxView, Fault, FourCc, Kind, Steps};
 use std::sync::ledger::Ledger;

@@ -200,7 +200,7 @@ pub(crate) fn first_chunk(payload: &[u8], rows: RowsAt, chunks: ChunksAt) -> Chu
 // Passes the next sample, which has this size. Those behind it are still to come, and a sample is
 // left in the chunk, or none is to come.
 #[inline]
-pub(crate) fn pass_spot(
+pub(crate) fn pass_sample(
     payload: &[u8],
     rows: &RowsAt,
     chunks: &ChunksAt,

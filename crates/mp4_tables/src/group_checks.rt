@@ -1,5 +1,5 @@
 //! Sample groups, read and judged: `sgpd` and `sbgp` (ISO/IEC 14496-12, 8.9).
-ghost use Rattle.std.specs.Prelude.{◌≡◌, ◌+◌, ◌*◌, ◌≤◌, ◌<◌, ◌++◌, ◌∷◌, [], length, take, drop, IfOk, IfErr};
+ghost use Rattle.std.specs.Prelude.{◌≡◌, ◌+◌, ◌*◌, ◌≤◌, ◌<◌, ◌++◌, ◌∷◌, [], length, IfOk, IfErr};
 ghost use Rattle.mp4_boxes.specs.format.Layout.{sbgp, sgpd, IsSound};
 ghost use Rattle.mp4_boxes.specs.words.View.{box_seen};
 ghost use Rattle.mp4_tables.specs.words.Keys.{key_seen, keys_seen};

@@ -6,7 +6,7 @@ ghost use Rattle.mp4_tables.specs.words.Rows.{HaveRoom, runs_at};
 ghost use Rattle.mp4_tables.specs.words.Indexes.{IsIndexPlace, AreIndexPlaces, indexes_left, indexes_in, indexes_coming, low_half};
 
 use crate::places::{RowsAt, RunPlace, rows};
-use crate::runs::{pass, settle};
+use crate::runs::{BEFORE_ROWS, pass, settle};
 
 /// Where the rows of the `sbgp` of each key of a track lie in a payload: by the places of the keys.
 #[derive(Clone, Copy)]
@@ -22,12 +22,6 @@ pub struct IndexPlaces {
 
 pub(crate) const NO_ROWS: RowsAt = RowsAt { place: 0, count: 0 };
 
-const NO_PLACE: RunPlace = RunPlace {
-    row: 0,
-    left: 0,
-    value: 0,
-};
-
 /// Rows of no key, and the places in them.
 pub fn no_indexes() -> (IndexRows, IndexPlaces)
     ensures places { (payload : List ℕ) → AreIndexPlaces payload result.0 result.1 }
@@ -38,7 +32,7 @@ pub fn no_indexes() -> (IndexRows, IndexPlaces)
         by_key: [NO_ROWS, NO_ROWS, NO_ROWS, NO_ROWS],
     };
     let places = IndexPlaces {
-        by_key: [NO_PLACE, NO_PLACE, NO_PLACE, NO_PLACE],
+        by_key: [BEFORE_ROWS, BEFORE_ROWS, BEFORE_ROWS, BEFORE_ROWS],
     };
     (rows, places)
 }
@@ -50,7 +44,7 @@ fn first_index(payload: &[u8], rows: RowsAt) -> RunPlace
     ensures place { IsIndexPlace payload.now rows result }
     ensures all { indexes_left payload.now rows result ≡ indexes_in payload.now rows }
 {
-    settle(payload, rows, NO_PLACE)
+    settle(payload, rows, BEFORE_ROWS)
 }
 
 /// Takes rows of the key at this place among the track's: its indexes are to come from the first

@@ -1,5 +1,5 @@
 //! Rows that repeat a value: `stts`, `ctts` and `sbgp` (ISO/IEC 14496-12, 8.6.1, 8.9.2).
-ghost use Rattle.std.specs.Prelude.{◌≡◌, ◌+◌, ◌<◌, ◌≤◌, ◌∷◌, ◌==◌, ◌↔◌, IsTrue, []};
+ghost use Rattle.std.specs.Prelude.{◌≡◌, ◌+◌, ◌<◌, ◌≤◌, ◌∷◌, ◌==◌, ◌↔◌, IsTrue, IfSome, IfNone, []};
 ghost use Rattle.mp4_tables.specs.format.Repeated.{total};
 ghost use Rattle.mp4_tables.specs.words.Rows.{HaveRoom, runs_at};
 ghost use Rattle.mp4_tables.specs.words.TablesComing.{coming, all_below};
@@ -9,8 +9,38 @@ use crate::rows::run_at;
 use mp4_boxes::Steps;
 use std::sync::ledger::Ledger;
 
-// Whether the counts of the rows add up to `n`.
+// Before the first row.
+pub(crate) const BEFORE_ROWS: RunPlace = RunPlace {
+    row: 0,
+    left: 0,
+    value: 0,
+};
+
+// The sum of the counts of the rows, if it is no more than `n`.
 #[tactic(auto, using(crate::proofs::RunLists::counting))]
+fn total_within<L: Ledger>(
+    payload: &[u8],
+    rows: RowsAt,
+    n: u32,
+    steps: &mut Steps<L>,
+) -> Option<u64>
+    requires { HaveRoom 8 payload.now rows }
+    ensures some { IfSome result (λ sum. (sum ≡ total (runs_at payload.now rows)) × (sum ≤ n)) }
+    ensures none { IfNone result (n < total (runs_at payload.now rows)) }
+    ensures cost { steps.new ≤ steps.old + rows.count }
+{
+    let mut total: u64 = 0;
+    for k in 0..rows.count {
+        steps.tick();
+        total += u64::from(run_at(payload, rows, k).count);
+        if total > u64::from(n) {
+            return None;
+        }
+    }
+    Some(total)
+}
+
+// Whether the counts of the rows add up to `n`.
 pub(crate) fn counts_are<L: Ledger>(
     payload: &[u8],
     rows: RowsAt,
@@ -21,19 +51,13 @@ pub(crate) fn counts_are<L: Ledger>(
     ensures same { result ≡ (total (runs_at payload.now rows) == n) }
     ensures cost { steps.new ≤ steps.old + rows.count }
 {
-    let mut total: u64 = 0;
-    for k in 0..rows.count {
-        steps.tick();
-        total += u64::from(run_at(payload, rows, k).count);
-        if total > u64::from(n) {
-            return false;
-        }
+    match total_within(payload, rows, n, steps) {
+        Some(total) => total == u64::from(n),
+        None => false,
     }
-    total == u64::from(n)
 }
 
 // Whether the counts of the rows add up to no more than `n`.
-#[tactic(auto, using(crate::proofs::RunLists::counting))]
 pub(crate) fn counts_are_within<L: Ledger>(
     payload: &[u8],
     rows: RowsAt,
@@ -44,15 +68,7 @@ pub(crate) fn counts_are_within<L: Ledger>(
     ensures same { IsTrue result ↔ (total (runs_at payload.now rows) ≤ n) }
     ensures cost { steps.new ≤ steps.old + rows.count }
 {
-    let mut total: u64 = 0;
-    for k in 0..rows.count {
-        steps.tick();
-        total += u64::from(run_at(payload, rows, k).count);
-        if total > u64::from(n) {
-            return false;
-        }
-    }
-    true
+    total_within(payload, rows, n, steps).is_some()
 }
 
 // Whether the value of each row is below a bound.

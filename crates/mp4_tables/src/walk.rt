@@ -8,10 +8,10 @@ ghost use Rattle.mp4_tables.specs.words.Timed.{samples_of};
 ghost use Rattle.mp4_tables.specs.words.Accepted.{IsAccepted, IsPlace, HaveBytes, HaveOffsets, HaveSync, IsRunPlaceAt, IsSyncPlaceIn, AreInOrder, tables_at, bytes_at, bytes_for, passed, offset_values, flags_here};
 ghost use Rattle.mp4_tables.specs.words.Accepted.{offset_rows as rows_of_offsets};
 
-use crate::chunks::{first_chunk, pass_spot};
-use crate::indexes::IndexPlaces;
+use crate::chunks::{first_chunk, pass_sample};
+use crate::indexes::{IndexPlaces, NO_ROWS};
 use crate::places::{BytesAt, OffsetsAt, RowsAt, RunPlace, SyncPlace, TablePlace, TablesAt};
-use crate::runs::{pass, settle};
+use crate::runs::{BEFORE_ROWS, pass, settle};
 use crate::sample::SampleAt;
 use crate::sizes::size_at;
 use crate::sync_samples::{first_sync, pass_sync};
@@ -23,7 +23,7 @@ fn offset_rows(offsets: Option<OffsetsAt>) -> RowsAt
 {
     match offsets {
         Some(at) => at.rows,
-        None => RowsAt { place: 0, count: 0 },
+        None => NO_ROWS,
     }
 }
 
@@ -134,7 +134,7 @@ pub(crate) fn pass_place(payload: &[u8], at: &TablesAt, place: &mut TablePlace)
     place.dts += u64::from(place.duration.value);
     pass(payload, at.durations, &mut place.duration);
     pass(payload, offset_rows(at.offsets), &mut place.offset);
-    pass_spot(payload, &at.chunk_rows, &at.chunks, &mut place.chunk, size);
+    pass_sample(payload, &at.chunk_rows, &at.chunks, &mut place.chunk, size);
     pass_sync_in(payload, at.sync, &mut place.sync, number + 1);
     place.groups.pass(payload, &at.groups.rows);
 }
@@ -147,15 +147,7 @@ fn first_offset(payload: &[u8], offsets: Option<OffsetsAt>, n: u32) -> RunPlace
         (offset_values payload.now offsets n) }
 {
     match offsets {
-        Some(at) => settle(
-            payload,
-            at.rows,
-            RunPlace {
-                row: 0,
-                left: 0,
-                value: 0,
-            },
-        ),
+        Some(at) => settle(payload, at.rows, BEFORE_ROWS),
         None => RunPlace {
             row: 0,
             left: n,
@@ -170,15 +162,7 @@ fn first_duration(payload: &[u8], rows: RowsAt) -> RunPlace
     requires { HaveRoom 8 payload.now rows }
     ensures { IsRunPlaceAt (runs_at payload.now rows) result 0 }
 {
-    settle(
-        payload,
-        rows,
-        RunPlace {
-            row: 0,
-            left: 0,
-            value: 0,
-        },
-    )
+    settle(payload, rows, BEFORE_ROWS)
 }
 
 // Before the first sync sample, where there is a table of them.

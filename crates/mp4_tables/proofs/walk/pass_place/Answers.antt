@@ -16,14 +16,14 @@ pass-requires-2-clause-within c = offset_within c.args.payload.now c.args.at.now
 pub pass-requires-2-clause-some : goal.pass-requires-2-clause-some
 pass-requires-2-clause-some c = offset_left c.args.payload.now c.args.at.now c.args.place.now c.requires.ok c.requires.place c.requires.inside
 
-pub pass_spot-requires-clause-place : goal.pass_spot-requires-clause-place
-pass_spot-requires-clause-place c = lies_in_chunks c.args.payload.now c.args.at.now.chunk_rows c.args.at.now.chunks _ _ _ c.requires.place.chunk
+pub pass_sample-requires-clause-place : goal.pass_sample-requires-clause-place
+pass_sample-requires-clause-place c = lies_in_chunks c.args.payload.now c.args.at.now.chunk_rows c.args.at.now.chunks _ _ _ c.requires.place.chunk
 
-pub pass_spot-requires-clause-some : goal.pass_spot-requires-clause-some
-pass_spot-requires-clause-some c = chunk_left c.args.payload.now c.args.at.now c.args.place.now c.requires.ok c.requires.place c.requires.inside
+pub pass_sample-requires-clause-some : goal.pass_sample-requires-clause-some
+pass_sample-requires-clause-some c = chunk_left c.args.payload.now c.args.at.now c.args.place.now c.requires.ok c.requires.place c.requires.inside
 
-pub pass_spot-requires-clause-fits : goal.pass_spot-requires-clause-fits
-pass_spot-requires-clause-fits c = end_fits c.args.payload.now c.args.at.now c.args.place.now c.size_at-size.result c.requires.ok c.requires.place c.requires.inside c.size_at-size.ensures
+pub pass_sample-requires-clause-fits : goal.pass_sample-requires-clause-fits
+pass_sample-requires-clause-fits c = end_fits c.args.payload.now c.args.at.now c.args.place.now c.size_at-size.result c.requires.ok c.requires.place c.requires.inside c.size_at-size.ensures
 
 pub returns-clause-place : goal.returns-clause-place
 returns-clause-place c =
@@ -31,7 +31,7 @@ returns-clause-place c =
     let small : p.duration.value < 2 ^ 32 = search rules in
     let d = c.pass.ensures in
     let o = c.pass-2.ensures in
-    let s = c.pass_spot.ensures in
-    rw c.from.ensures (place_passed c.args.payload.now c.args.at.now p c.size_at-size.result c.offset_rows.result c.pass.new.place c.pass-2.new.place c.pass_spot.new.place c.pass_sync_in.new.place c.pass-3.new.self
+    let s = c.pass_sample.ensures in
+    rw c.from.ensures (place_passed c.args.payload.now c.args.at.now p c.size_at-size.result c.offset_rows.result c.pass.new.place c.pass-2.new.place c.pass_sample.new.place c.pass_sync_in.new.place c.pass-3.new.self
     c.requires.ok c.requires.place c.requires.inside c.size_at-size.ensures small c.offset_rows.ensures d.next d.settled d.within o.next o.settled o.within s.next s.settled s.place.at s.place.opened s.place.passed
     c.pass_sync_in.ensures.at (groups_next c.args.payload.now c.args.at.now.groups p.groups c.pass-3.new.self p.number c.requires.place.groups c.pass-3.ensures.places c.pass-3.ensures.next))

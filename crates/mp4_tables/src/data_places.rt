@@ -5,7 +5,7 @@ ghost use Rattle.mp4_tables.specs.format.PlainSamples.{in_chunks, in_chunks_tota
 ghost use Rattle.mp4_tables.specs.format.TableRules.{is_chunk_order};
 ghost use Rattle.mp4_tables.specs.words.TablesComing.{all_lie_within};
 
-use crate::chunks::{first_chunk, pass_spot};
+use crate::chunks::{first_chunk, pass_sample};
 use crate::places::{ChunksAt, RowsAt, SizesAt};
 use crate::sizes::size_at;
 use mp4_boxes::Steps;
@@ -49,7 +49,7 @@ pub(crate) fn lie_within<L: Ledger>(
         if !lies(place.at, size, file_len) {
             return false;
         }
-        pass_spot(payload, &rows, &chunks, &mut place, size);
+        pass_sample(payload, &rows, &chunks, &mut place, size);
     }
     true
 }

@@ -1,7 +1,7 @@
 use Rattle.std.proofs.Common.{◌≡◌, ◌+◌, ◌≤◌, drop}
 use Rattle.mp4_tables.specs.format.Repeated.{total}
 use Rattle.mp4_tables.specs.words.Rows.{runs_at}
-use Rattle.mp4_tables.proofs.runs.counts_are_within.Given as goal
+use Rattle.mp4_tables.proofs.runs.total_within.Given as goal
 
 -- what was counted and what is left make the whole
 abbrev pub invariant-loop-k : goal.invariant-loop-k

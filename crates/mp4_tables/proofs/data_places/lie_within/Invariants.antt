@@ -2,7 +2,7 @@ use Rattle.std.proofs.Common.{◌≡◌, ◌+◌, ◌*◌, ◌≤◌, drop}
 use Rattle.mp4_tables.specs.format.PlainSamples.{in_chunks}
 use Rattle.mp4_tables.specs.words.Rows.{chunk_rows_at, offsets_at, sizes_at}
 use Rattle.mp4_tables.specs.words.TablesComing.{all_lie_within, IsChunkPlace}
-use Rattle.mp4_tables.proofs.spots.lie_within.Given as goal
+use Rattle.mp4_tables.proofs.data_places.lie_within.Given as goal
 
 -- all lie in the file exactly if the others do
 abbrev pub invariant-loop-i : goal.invariant-loop-i

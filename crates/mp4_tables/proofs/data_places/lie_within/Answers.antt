@@ -2,7 +2,7 @@ use Rattle.std.proofs.Common.{arith, sym, refl, ◌∙◌}
 use Rattle.mp4_tables.specs.words.Rows.{chunk_rows_at, offsets_at, offset_width, sizes_at}
 use Rattle.mp4_tables.proofs.RowLists.{chunk_rows_length, numbers_length, sizes_length}
 use Rattle.mp4_tables.proofs.SpotLists.{lies_in_chunks, spot_left, spot_passed, within_yes, within_no, within_all}
-use Rattle.mp4_tables.proofs.spots.lie_within.Goals as goal
+use Rattle.mp4_tables.proofs.data_places.lie_within.Goals as goal
 
 pub loop-i-init : goal.loop-i-init
 loop-i-init g c = record {
@@ -18,11 +18,11 @@ returns-then-not-lies-clause-same g c =
     ∙ within_no (chunk_rows_at c.args.payload.now c.args.rows) (offsets_at c.args.payload.now c.args.chunks) (sizes_at c.args.payload.now c.args.sizes) c.loop-i.place c.args.file_len c.loop-i.i c.size_at-size.result
     (c.requires.counts ∙ sym n) c.loop-i.invariant.place (omega arith) c.size_at-size.ensures (sym c.if-not-lies.ensures))
 
-pub pass_spot-requires-clause-place : goal.pass_spot-requires-clause-place
-pass_spot-requires-clause-place g c = lies_in_chunks c.args.payload.now c.args.rows c.args.chunks _ _ _ c.loop-i.invariant.place
+pub pass_sample-requires-clause-place : goal.pass_sample-requires-clause-place
+pass_sample-requires-clause-place g c = lies_in_chunks c.args.payload.now c.args.rows c.args.chunks _ _ _ c.loop-i.invariant.place
 
-pub pass_spot-requires-clause-some : goal.pass_spot-requires-clause-some
-pass_spot-requires-clause-some g c =
+pub pass_sample-requires-clause-some : goal.pass_sample-requires-clause-some
+pass_sample-requires-clause-some g c =
     let n = sizes_length c.args.sizes.form c.args.payload.now c.args.sizes.rows in
     spot_left (chunk_rows_at c.args.payload.now c.args.rows) (offsets_at c.args.payload.now c.args.chunks) (sizes_at c.args.payload.now c.args.sizes) c.loop-i.place c.loop-i.i (c.requires.counts ∙ sym n) c.loop-i.invariant.place (omega arith)
 
@@ -31,11 +31,11 @@ loop-i-preserved g c =
     let n = sizes_length c.args.sizes.form c.args.payload.now c.args.sizes.rows in
     let m = numbers_length (offset_width c.args.chunks.is_wide) c.args.payload.now c.args.chunks.rows in
     let k = chunk_rows_length c.args.payload.now c.args.rows in
-    let e = c.pass_spot.ensures in
+    let e = c.pass_sample.ensures in
     let opened = e.place.opened in
     let passed = e.place.passed in
     record {
-      place = spot_passed (chunk_rows_at c.args.payload.now c.args.rows) (offsets_at c.args.payload.now c.args.chunks) (sizes_at c.args.payload.now c.args.sizes) c.loop-i.place c.pass_spot.new.place c.loop-i.i c.size_at-size.result
+      place = spot_passed (chunk_rows_at c.args.payload.now c.args.rows) (offsets_at c.args.payload.now c.args.chunks) (sizes_at c.args.payload.now c.args.sizes) c.loop-i.place c.pass_sample.new.place c.loop-i.i c.size_at-size.result
           c.loop-i.invariant.place (omega arith) c.size_at-size.ensures e.next e.settled (λ h. e.place.at (omega arith)) (omega arith) (omega arith);
       same = c.loop-i.invariant.same
           ∙ within_yes (chunk_rows_at c.args.payload.now c.args.rows) (offsets_at c.args.payload.now c.args.chunks) (sizes_at c.args.payload.now c.args.sizes) c.loop-i.place c.args.file_len c.loop-i.i c.size_at-size.result
