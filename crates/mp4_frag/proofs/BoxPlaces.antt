@@ -1,8 +1,11 @@
 -- Boxes between two places of a payload, one by one.
-use Rattle.std.proofs.Common.{◌≡◌, ℕ, zero, suc, ◌+◌, ◌-◌, ◌<◌, ◌≤◌, false, List, [], ◌∷◌, length, take, drop, Result, Ok, Err, IsErr, refl, sym, ap, ◌∙◌, arith, length-take, length-drop}
+use Rattle.std.proofs.Common.{◌≡◌, ℕ, zero, suc, ◌+◌, ◌-◌, ◌≤◌, false, List, [], ◌∷◌, length, take, drop, Result, Ok, Err, IsErr, refl, sym, ap, ◌∙◌, arith, length-take, length-drop}
 use Rattle.std.proofs.lemmas.List.{drop-drop, drop-take}
 use Rattle.mp4_boxes.specs.format.Box.{Box, Header, header_at, box_of, box_and_more, first_boxes}
+use Rattle.mp4_boxes.specs.format.BoxFaults.{header_there}
+use Rattle.mp4_boxes.specs.declared.fault.Fault.{Fault}
 use Rattle.mp4_boxes.specs.declared.fault.Kind.{Kind}
+use Rattle.mp4_boxes.proofs.Walking.{read_there, none_there}
 use Rattle.mp4_boxes.proofs.Tiling.{header_is}
 use Rattle.mp4_frag.specs.words.Walks.{part_of, boxes_in, boxes_between}
 
@@ -86,15 +89,6 @@ box_there payload at end kind l size h k e =
     let behind = part_behind payload at size end (omega arith) in
     λ i. record { kind = kind; offset = at; header = sym width i; payload = payload_is i } ∷ boxes_in (at + size) (behind i))
 
-pub box_places : (payload : List ℕ) (at end : ℕ) (h : Header) → at ≤ end → end ≤ length payload → header_at false (part_of payload at end) ≡ Ok h → (at < at + h.length) × (at + h.length ≤ at + h.size) × (at + h.size ≤ end)
-box_places payload at end h le k e =
-    let r = header_is false (part_of payload at end) h e in
-    let long = part_length payload at end le k in
-    let eight = r.length in
-    let inside = r.inside in
-    let fits = r.fits in
-    (omega arith, omega arith, omega arith)
-
 -- where none can be read, there is no box
 pub box_none : (payload : List ℕ) (at end : ℕ) → IsErr (header_at false (part_of payload at end)) → boxes_between payload at end ≡ []
 unfolding boxes_between
@@ -107,6 +101,22 @@ box_none payload at end e = none (length (part_of payload at end)) (header_at fa
     none : (n : ℕ) (r : Result Header Kind) → header_at false (part_of payload at end) ≡ r → IsErr (header_at false (part_of payload at end)) → first_boxes n at (part_of payload at end) ≡ []
     none zero r f g = refl
     none (suc n) r f g = none_more n (header_at false (part_of payload at end)) g
+
+-- where a header was read that says where its box ends
+pub box_read : (payload : List ℕ) (at end : ℕ) (kind container : List ℕ) (place l behind left : ℕ) → at ≤ end → end ≤ length payload → left ≡ end - at → at + l ≤ behind
+    → header_there false left (part_of payload at end) container place ≡ Ok (record { kind = kind; length = l; size = behind - at })
+    → boxes_between payload at end ≡ record { kind = kind; offset = at; header = at + l - at; payload = part_of payload (at + l) behind } ∷ boxes_between payload behind end
+box_read payload at end kind container place l behind left h k e f g =
+    let all : left ≡ length (part_of payload at end) = e ∙ sym (part_length payload at end h k) in
+    let size : at + (behind - at) ≡ behind = omega arith in
+    rw size at (box_there payload at end kind l (behind - at) h k (read_there (part_of payload at end) container place _ (rw all at g)))
+
+-- and where a fault was found
+pub none_read : (payload : List ℕ) (at end : ℕ) (container : List ℕ) (place left : ℕ) (fault : Fault) → at ≤ end → end ≤ length payload → left ≡ end - at
+    → header_there false left (part_of payload at end) container place ≡ Err fault → boxes_between payload at end ≡ []
+none_read payload at end container place left fault h k e g =
+    let all : left ≡ length (part_of payload at end) = e ∙ sym (part_length payload at end h k) in
+    box_none payload at end (none_there (part_of payload at end) container place fault (rw all at g))
 
 -- nor behind the end
 pub box_end : (payload : List ℕ) (at end : ℕ) → end ≤ at → boxes_between payload at end ≡ []

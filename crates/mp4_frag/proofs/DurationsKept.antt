@@ -4,7 +4,7 @@ use Rattle.std.proofs.lemmas.List.{length-map, length-append}
 use Rattle.std.specs.Prelude.{codes, bytes_eq, unwrap_or}
 use Rattle.mp4_boxes.specs.format.Box.{Box}
 use Rattle.mp4_boxes.specs.format.Bytes.{sum_of, width_of}
-use Rattle.mp4_boxes.specs.format.Layout.{tfhd, trun, sbgp, present, sample_columns}
+use Rattle.mp4_boxes.specs.format.Layout.{tfhd, trun, present, sample_columns}
 use Rattle.mp4_tables.proofs.Sums.{sum_joined}
 use Rattle.mp4_tables.specs.declared.sample.SampleAt.{SampleAt}
 use Rattle.mp4_frag.specs.format.Fragments.{RunRow, TrackFragment, run_of, run_rows}

@@ -1,5 +1,5 @@
 -- The `sbgp`s of a `traf`, passed one by one.
-use Rattle.std.proofs.Common.{◌≡◌, ℕ, zero, suc, ◌≤◌, length, true, false, nat_le, List, [], ◌∷◌, ◌++◌, map, drop, inl, inr, refl, sym, ap, subst, ◌∙◌}
+use Rattle.std.proofs.Common.{◌≡◌, ℕ, zero, suc, ◌≤◌, length, Bool, true, false, nat_le, List, [], ◌∷◌, ◌++◌, map, drop, replicate, inl, inr, refl, sym, ap, subst, ◌∙◌}
 use Rattle.std.specs.Prelude.{codes, bytes_eq, IsTrue}
 use Rattle.std.specs.List.{list_all}
 use Rattle.std.proofs.lemmas.List.{append_assoc, append-nil}
@@ -15,9 +15,8 @@ use Rattle.mp4_tables.specs.words.Keys.{key_seen}
 use Rattle.mp4_tables.specs.format.Repeated.{total}
 use Rattle.mp4_tables.specs.words.Rows.{run_of, runs_at}
 use Rattle.mp4_frag.specs.words.GroupsJudged.{IsGroupSound, AreGroupsSound, IsGroupFault, GroupsFail, AreNamed, NamesOneMore, IsNameFault, is_named_at}
-use Rattle.mp4_frag.specs.words.Reading.{IsGroup, group_runs}
-use Rattle.mp4_frag.specs.declared.groups.Group.{Group}
-use Rattle.mp4_frag.specs.declared.groups.KeysNamed.{KeysNamed}
+use Rattle.mp4_tables.specs.words.GroupBoxes.{IsGroup, group_runs}
+use Rattle.mp4_tables.specs.declared.group_boxes.Group.{Group}
 use Rattle.mp4_frag.proofs.Comings.{turned}
 
 -- ---- one `sbgp`
@@ -43,7 +42,7 @@ pub count_fault : (n : ℕ) (first : List GroupKey) (before : List Grouping) (pa
 count_fault n first before payload group g e = inr (g.readable, (group_counts, refl, ap (λ runs. nat_le (total runs) n) (sym (rows_are payload group g)) ∙ sym e))
 
 -- it keeps all rules
-pub group_sound : (n : ℕ) (first now : List GroupKey) (before : List Grouping) (payload : List ℕ) (group : Group) (named : KeysNamed) → IsGroup payload group → NamesOneMore first before (grouping_of payload) now named
+pub group_sound : (n : ℕ) (first now : List GroupKey) (before : List Grouping) (payload : List ℕ) (group : Group) (named : List Bool) → IsGroup payload group → NamesOneMore first before (grouping_of payload) now named
     → true ≡ list_all (λ run. nat_le run.1 max_index) (group_runs payload group) → true ≡ nat_le (total (group_runs payload group)) n → IsGroupSound n first before payload
 group_sound n first now before payload group named g m e f = record { readable = g.readable; rules = rule }
   where
@@ -59,24 +58,25 @@ abbrev groups_of : List Box → List Box
 groups_of boxes = of_kind (codes "sbgp") boxes
 
 -- Of all boxes these are left; the groupings passed named the keys.
-pub record GroupsSeen (n : ℕ) (first : List GroupKey) (all left : List Box) (now : List GroupKey) (named : KeysNamed) : Type 0 where
+pub record GroupsSeen (n : ℕ) (first : List GroupKey) (all left : List Box) (now : List GroupKey) (named : List Bool) : Type 0 where
   pub before : List Grouping
   pub names : AreNamed first before now named
   pub groupings : groupings_of (groups_of all) ≡ before ++ groupings_of (groups_of left)
   pub sound : AreGroupsSound n first before (groups_of left) → AreGroupsSound n first [] (groups_of all)
   pub fails : (f : Fault) → GroupsFail n first before (groups_of left) f → GroupsFail n first [] (groups_of all) f
 
-none_named : (j : ℕ) → is_named_at (record { first = false; second = false; third = false; fourth = false }) j ≡ false
+none_named : (j : ℕ) → is_named_at (replicate 4 false) j ≡ false
 none_named zero = refl
 none_named (suc zero) = refl
 none_named (suc (suc zero)) = refl
-none_named (suc (suc (suc j))) = refl
+none_named (suc (suc (suc zero))) = refl
+none_named (suc (suc (suc (suc j)))) = refl
 
 -- none was passed
-pub groups_none : (n : ℕ) (first : List GroupKey) (all : List Box) (named : KeysNamed) → length first ≤ 4 → named ≡ record { first = false; second = false; third = false; fourth = false } → GroupsSeen n first all all first named
+pub groups_none : (n : ℕ) (first : List GroupKey) (all : List Box) (named : List Bool) → length first ≤ 4 → named ≡ replicate 4 false → GroupsSeen n first all all first named
 groups_none n first all named few e = record {
   before = [];
-  names = record { keys_now = refl; few = few; there = λ key j f. ap (λ (m : KeysNamed). is_named_at m j) e ∙ none_named j; missing = λ key f. refl };
+  names = record { keys_now = refl; few = few; there = λ key j f. ap (λ (m : List Bool). is_named_at m j) e ∙ none_named j; missing = λ key f. refl };
   groupings = refl;
   sound = λ h. h;
   fails = λ f h. h;
@@ -89,7 +89,7 @@ group_kept : (b : Box) (boxes : List Box) → bytes_eq b.kind (codes "sbgp") ≡
 group_kept b boxes e = rw (turned (codes "sbgp") b.kind ∙ e) refl
 
 -- another box
-pub groups_other : (n : ℕ) (first : List GroupKey) (all left later : List Box) (b : Box) (now : List GroupKey) (named : KeysNamed) → GroupsSeen n first all left now named → left ≡ b ∷ later → bytes_eq b.kind (codes "sbgp") ≡ false → GroupsSeen n first all later now named
+pub groups_other : (n : ℕ) (first : List GroupKey) (all left later : List Box) (b : Box) (now : List GroupKey) (named : List Bool) → GroupsSeen n first all left now named → left ≡ b ∷ later → bytes_eq b.kind (codes "sbgp") ≡ false → GroupsSeen n first all later now named
 groups_other n first all left later b now named s e k =
     let same : groups_of left ≡ groups_of later = ap groups_of e ∙ other_kept b later k in
     record {
@@ -101,7 +101,7 @@ groups_other n first all left later b now named s e k =
     }
 
 -- an `sbgp` that is sound
-pub groups_more : (n : ℕ) (first : List GroupKey) (all left later : List Box) (b : Box) (now then_now : List GroupKey) (named then_named : KeysNamed) → GroupsSeen n first all left now named → left ≡ b ∷ later → bytes_eq b.kind (codes "sbgp") ≡ true
+pub groups_more : (n : ℕ) (first : List GroupKey) (all left later : List Box) (b : Box) (now then_now : List GroupKey) (named then_named : List Bool) → GroupsSeen n first all left now named → left ≡ b ∷ later → bytes_eq b.kind (codes "sbgp") ≡ true
     → ((keys : List GroupKey) (before : List Grouping) → AreNamed keys before now named → IsGroupSound n keys before b.payload)
     → ((keys : List GroupKey) (before : List Grouping) → AreNamed keys before now named → AreNamed keys (before ++ grouping_of b.payload ∷ []) then_now then_named)
     → GroupsSeen n first all later then_now then_named
@@ -117,17 +117,17 @@ groups_more n first all left later b now then_now named then_named s e k is_soun
     }
 
 -- one that is not
-pub groups_fault : (n : ℕ) (first : List GroupKey) (all left later : List Box) (b : Box) (now : List GroupKey) (named : KeysNamed) (kind : Kind) (f : Fault) → GroupsSeen n first all left now named → left ≡ b ∷ later → bytes_eq b.kind (codes "sbgp") ≡ true
+pub groups_fault : (n : ℕ) (first : List GroupKey) (all left later : List Box) (b : Box) (now : List GroupKey) (named : List Bool) (kind : Kind) (f : Fault) → GroupsSeen n first all left now named → left ≡ b ∷ later → bytes_eq b.kind (codes "sbgp") ≡ true
     → ((keys : List GroupKey) (before : List Grouping) → AreNamed keys before now named → IsGroupFault n keys before b.payload kind) → f ≡ fault_of kind b → GroupsFail n first [] (groups_of all) f
 groups_fault n first all left later b now named kind f s e k h m =
     let same : groups_of left ≡ b ∷ groups_of later = ap groups_of e ∙ group_kept b later k in
     s.fails f (subst (λ boxes. GroupsFail n first s.before boxes f) (sym same) (inl (kind, m, h first s.before s.names)))
 
 -- behind the last box
-pub groups_sound : (n : ℕ) (first : List GroupKey) (all left boxes : List Box) (now : List GroupKey) (named : KeysNamed) → GroupsSeen n first all left now named → left ≡ [] → all ≡ boxes → AreGroupsSound n first [] (groups_of boxes)
+pub groups_sound : (n : ℕ) (first : List GroupKey) (all left boxes : List Box) (now : List GroupKey) (named : List Bool) → GroupsSeen n first all left now named → left ≡ [] → all ≡ boxes → AreGroupsSound n first [] (groups_of boxes)
 groups_sound n first all left boxes now named s e f = subst (λ bs. AreGroupsSound n first [] (groups_of bs)) f (s.sound (subst (λ bs. AreGroupsSound n first s.before (groups_of bs)) (sym e) tt))
 
-pub groups_keys : (n : ℕ) (first : List GroupKey) (all left boxes : List Box) (now : List GroupKey) (named : KeysNamed) → GroupsSeen n first all left now named → left ≡ [] → all ≡ boxes → now ≡ keys_after first (groupings_of (groups_of boxes))
+pub groups_keys : (n : ℕ) (first : List GroupKey) (all left boxes : List Box) (now : List GroupKey) (named : List Bool) → GroupsSeen n first all left now named → left ≡ [] → all ≡ boxes → now ≡ keys_after first (groupings_of (groups_of boxes))
 groups_keys n first all left boxes now named s e f =
     let whole : groupings_of (groups_of all) ≡ s.before = s.groupings ∙ ap (λ bs. s.before ++ groupings_of (groups_of bs)) e ∙ append-nil s.before in
     s.names.keys_now ∙ ap (keys_after first) (sym whole) ∙ ap (λ bs. keys_after first (groupings_of (groups_of bs))) f

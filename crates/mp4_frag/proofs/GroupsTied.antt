@@ -10,8 +10,9 @@ use Rattle.mp4_tables.specs.format.Repeated.{repeated, total}
 use Rattle.mp4_tables.specs.words.Timed.{padded, indexes}
 use Rattle.mp4_tables.specs.words.Accepted.{AreDistinct}
 use Rattle.mp4_tables.proofs.SampleLists.{NotIn, put_one, put_not_in, absent, put_there, put_beside, same_both, maps_length}
+use Rattle.mp4_tables.specs.words.Indexes.{low_half}
 use Rattle.mp4_frag.proofs.RowsTied.{both}
-use Rattle.mp4_frag.specs.words.Walks.{low_half, with_key, no_indexes}
+use Rattle.mp4_frag.specs.words.Walks.{with_key, no_indexes}
 
 -- ---- one index in the map of a sample
 

@@ -1,5 +1,5 @@
 -- What a walk takes from the leaves of a `traf`.
-use Rattle.std.proofs.Common.{◌≡◌, ℕ, zero, suc, ◌+◌, ◌*◌, ◌<◌, ◌≤◌, drop, slice_index_or, ◌&&◌, Bool, true, false, cond, List, [], ◌∷◌, length, map, Option, Some, None, nat_le, refl, sym, ap, ◌∙◌, rules, arith}
+use Rattle.std.proofs.Common.{◌≡◌, ℕ, zero, suc, ◌+◌, ◌*◌, ◌<◌, ◌≤◌, drop, slice_index_or, slice_set, min, ◌&&◌, Bool, true, false, cond, List, [], ◌∷◌, length, map, Option, Some, None, nat_le, refl, sym, ap, ◌∙◌, rules, arith}
 use Rattle.std.specs.Prelude.{ℤ}
 use Rattle.std.specs.List.{slice_get}
 use Rattle.mp4_boxes.specs.format.Layout.{Leaf, tfhd, trun, sbgp, knows_version, knows_flags, needed, IsReadable}
@@ -8,12 +8,15 @@ use Rattle.mp4_tables.specs.words.Keys.{key_seen, key_place}
 use Rattle.mp4_tables.specs.format.Repeated.{repeated}
 use Rattle.mp4_tables.specs.words.Rows.{runs_at}
 use Rattle.mp4_tables.specs.declared.sample.SampleAt.{SampleAt}
+use Rattle.mp4_tables.specs.words.Indexes.{low_half}
 use Rattle.mp4_frag.specs.words.ColumnsRead.{row_room}
 use Rattle.mp4_frag.specs.format.Fragments.{RunRow, run_of, run_rows}
 use Rattle.mp4_frag.proofs.BoxPlaces.{part_length}
 use Rattle.mp4_frag.specs.words.Looks.{over_run}
-use Rattle.mp4_frag.specs.words.Reading.{IsGroup, IsHead, IsRun, as_traf, head_values}
-use Rattle.mp4_frag.specs.words.Walks.{can_read, low_half, indexes_of, with_indexes, with_group, part_of, Walk, Reached, head_of, with_trex, trex_among, with_head, rows_here, rows_of, rows_coming, run_coming, begin, end_held}
+use Rattle.mp4_tables.specs.words.GroupBoxes.{IsGroup}
+use Rattle.mp4_tables.specs.declared.group_boxes.Group.{Group}
+use Rattle.mp4_frag.specs.words.Reading.{IsHead, IsRun, as_traf, head_values}
+use Rattle.mp4_frag.specs.words.Walks.{can_read, indexes_of, with_group, part_of, Walk, Reached, head_of, with_trex, trex_among, with_head, rows_here, rows_of, rows_coming, run_coming, begin, end_held}
 use Rattle.mp4_boxes.specs.format.BoxFaults.{Fails}
 use Rattle.mp4_boxes.specs.declared.fault.Kind.{Kind}
 use Rattle.mp4_boxes.specs.declared.fault.Kind.TheVariants as kinds
@@ -21,7 +24,6 @@ use Rattle.mp4_frag.specs.declared.heads.Head.{Head}
 use Rattle.mp4_frag.specs.declared.runs.Run.{Run}
 use Rattle.mp4_frag.specs.declared.state.TrackState.{TrackState}
 use Rattle.mp4_frag.specs.declared.trex.Trex.{Trex}
-use Rattle.mp4_frag.specs.declared.groups.Group.{Group}
 use Rattle.mp4_frag.proofs.PartsRead.{runs_in_part, run_rows_in_part}
 
 -- a leaf that can be read
@@ -39,7 +41,7 @@ unfolding_indexes part group g = let rows = g.rows in let count = g.count in λ 
 
 pub group_taken : (payload : List ℕ) (inside end j : ℕ) (group : Group) (keys : List GroupKey) (lists : List (List ℕ)) (indexes : List ℕ) → inside ≤ end → end ≤ length payload
     → IsGroup (part_of payload inside end) group → Some j ≡ key_place (key_seen group.key) keys → indexes ≡ map low_half (repeated (runs_at payload (record { place = inside + group.rows; count = group.count })))
-    → with_indexes lists j indexes ≡ with_group keys lists (part_of payload inside end)
+    → slice_set lists (min j 3) indexes ≡ with_group keys lists (part_of payload inside end)
 group_taken payload inside end j group keys lists indexes h k g place e =
     let part = part_of payload inside end in
     let there = read sbgp part g.readable in

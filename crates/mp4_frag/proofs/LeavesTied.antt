@@ -11,9 +11,10 @@ use Rattle.mp4_tables.specs.format.Groups.{GroupKey, Grouping, grouping_of, grou
 use Rattle.mp4_tables.specs.words.Keys.{key_place}
 use Rattle.mp4_tables.specs.format.Repeated.{repeated}
 use Rattle.mp4_tables.specs.words.Rows.{runs_at}
+use Rattle.mp4_tables.specs.words.Indexes.{low_half}
 use Rattle.mp4_frag.specs.format.Fragments.{TrackFragment, track_fragment_of}
 use Rattle.mp4_frag.specs.format.FragmentSamples.{base_of}
-use Rattle.mp4_frag.specs.words.Walks.{Walk, Reached, low_half, indexes_of, with_key, with_group, with_head, with_leaves, head_of, trex_among}
+use Rattle.mp4_frag.specs.words.Walks.{Walk, Reached, indexes_of, with_key, with_group, with_head, with_leaves, head_of, trex_among}
 use Rattle.mp4_frag.specs.declared.heads.Inherited.{Inherited}
 use Rattle.mp4_frag.specs.declared.trex.Trex.{Trex}
 use Rattle.mp4_frag.proofs.LeavesRead.{read}

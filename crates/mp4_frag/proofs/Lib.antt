@@ -35,7 +35,6 @@ pub mod PartsRead
 pub mod LeavesRead
 pub mod RowsLeft
 pub mod BoxPlaces
-pub mod IndexPlaces
 pub mod SamplesOfRows
 pub mod RunsRead
 pub mod RunRows

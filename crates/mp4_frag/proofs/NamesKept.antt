@@ -1,5 +1,5 @@
 -- The keys that the groupings of a `traf` name, one by one.
-use Rattle.std.proofs.Common.{◌≡◌, ℕ, zero, suc, ◌+◌, ◌<◌, ◌≤◌, ◌==◌, ◌||◌, Bool, true, false, not, cond, List, [], ◌∷◌, ◌++◌, length, map, Option, Some, None, nat_eq, refl, sym, ap, ◌∙◌, arith, length-append}
+use Rattle.std.proofs.Common.{◌≡◌, ℕ, zero, suc, ◌+◌, ◌<◌, ◌≤◌, ◌==◌, ◌||◌, Bool, true, false, not, cond, List, [], ◌∷◌, ◌++◌, length, map, slice_set, Option, Some, None, nat_eq, refl, sym, ap, ◌∙◌, arith, length-append}
 use Rattle.std.specs.List.{list_any, position_from}
 use Rattle.std.proofs.lemmas.List.{map-append}
 use Rattle.std.proofs.lemmas.List.Folds.{list_any-append}
@@ -8,8 +8,7 @@ use Rattle.mp4_tables.specs.format.Groups.{GroupKey, Grouping, one_of_key, few_k
 use Rattle.mp4_tables.specs.words.Keys.{key_place}
 use Rattle.mp4_tables.proofs.KeyLists.{not_named_yet, named_before}
 use Rattle.mp4_tables.proofs.SampleLists.{same_both}
-use Rattle.mp4_frag.specs.words.GroupsJudged.{is_named_at, with_name, AreNamed, NamesOneMore}
-use Rattle.mp4_frag.specs.declared.groups.KeysNamed.{KeysNamed}
+use Rattle.mp4_frag.specs.words.GroupsJudged.{is_named_at, AreNamed, NamesOneMore}
 
 -- ---- places of keys
 
@@ -28,6 +27,10 @@ place_low a i j (k ∷ keys) e = by_first a i j k keys (same_key a k) e (λ f. p
     by_first : (a : GroupKey) (i j : ℕ) (k : GroupKey) (keys : List GroupKey) (v : Bool) → cond v (Some i) (position_from (same_key a) (i + 1) keys) ≡ Some j → (position_from (same_key a) (i + 1) keys ≡ Some j → (i + 1 ≤ j) × (j < i + 1 + length keys)) → (i ≤ j) × (j < i + suc (length keys))
     by_first a i j k keys true e more = let same : i ≡ j = cc in (omega arith, omega arith)
     by_first a i j k keys false e more = let m = more e in let low = m.0 in let high = m.1 in (omega arith, omega arith)
+
+-- the place of a key is one of theirs
+pub place_inside : (key : GroupKey) (j : ℕ) (keys : List GroupKey) → key_place key keys ≡ Some j → j < length keys
+place_inside key j keys e = let high = (place_low key 0 j keys e).1 in omega arith
 
 -- keys of one place have one rank
 place_same : (a b : GroupKey) (i j : ℕ) (keys : List GroupKey) → position_from (same_key a) i keys ≡ Some j → position_from (same_key b) i keys ≡ Some j → same_key a b ≡ true
@@ -71,29 +74,17 @@ keys_one_more keys before g = ap (keys_with keys) (map-append (λ (h : Grouping)
 
 -- ---- names
 
-name_there : (named : KeysNamed) (j : ℕ) → is_named_at (with_name named j) j ≡ true
-name_there named zero = refl
-name_there named (suc zero) = refl
-name_there named (suc (suc zero)) = refl
-name_there named (suc (suc (suc j))) = refl
+name_there : (named : List Bool) (j : ℕ) → j < length named → is_named_at (slice_set named j true) j ≡ true
+name_there [] j h = absurd (omega arith)
+name_there (b ∷ named) zero h = refl
+name_there (b ∷ named) (suc j) h = name_there named j (omega arith)
 
-name_beside : (named : KeysNamed) (i j : ℕ) → i < 4 → j < 4 → (i ≡ j → ⊥) → is_named_at (with_name named i) j ≡ is_named_at named j
-name_beside named zero zero h k d = absurd (d refl)
-name_beside named zero (suc zero) h k d = refl
-name_beside named zero (suc (suc zero)) h k d = refl
-name_beside named zero (suc (suc (suc j))) h k d = refl
-name_beside named (suc zero) zero h k d = refl
-name_beside named (suc zero) (suc zero) h k d = absurd (d refl)
-name_beside named (suc zero) (suc (suc zero)) h k d = refl
-name_beside named (suc zero) (suc (suc (suc j))) h k d = refl
-name_beside named (suc (suc zero)) zero h k d = refl
-name_beside named (suc (suc zero)) (suc zero) h k d = refl
-name_beside named (suc (suc zero)) (suc (suc zero)) h k d = absurd (d refl)
-name_beside named (suc (suc zero)) (suc (suc (suc j))) h k d = refl
-name_beside named (suc (suc (suc i))) zero h k d = refl
-name_beside named (suc (suc (suc i))) (suc zero) h k d = refl
-name_beside named (suc (suc (suc i))) (suc (suc zero)) h k d = refl
-name_beside named (suc (suc (suc i))) (suc (suc (suc j))) h k d = absurd (d (omega arith))
+name_beside : (named : List Bool) (i j : ℕ) → (i ≡ j → ⊥) → is_named_at (slice_set named i true) j ≡ is_named_at named j
+name_beside [] i j d = refl
+name_beside (b ∷ named) zero zero d = absurd (d refl)
+name_beside (b ∷ named) zero (suc j) d = refl
+name_beside (b ∷ named) (suc i) zero d = refl
+name_beside (b ∷ named) (suc i) (suc j) d = name_beside named i j (λ e. d (ap suc e))
 
 -- ---- one more grouping
 
@@ -121,12 +112,12 @@ true_is_not_false : (b : Bool) → b ≡ true → b ≡ false → ⊥
 true_is_not_false b e f = cc
 
 -- its key was named in the `traf`
-pub name_again : (n : ℕ) (first now : List GroupKey) (before : List Grouping) (named : KeysNamed) (g : Grouping) (j : ℕ) → AreNamed first before now named → key_place g.key now ≡ Some j → is_named_at named j ≡ true → keeps one_of_key n first before g ≡ false
+pub name_again : (n : ℕ) (first now : List GroupKey) (before : List Grouping) (named : List Bool) (g : Grouping) (j : ℕ) → AreNamed first before now named → key_place g.key now ≡ Some j → is_named_at named j ≡ true → keeps one_of_key n first before g ≡ false
 name_again n first now before named g j a e h = ap not (sym (a.there g.key j e) ∙ h)
 
 -- its key was named by the track, and not in the `traf`
-pub name_found : (first now : List GroupKey) (before : List Grouping) (named : KeysNamed) (g : Grouping) (j : ℕ) → AreNamed first before now named → key_place g.key now ≡ Some j → is_named_at named j ≡ false → NamesOneMore first before g now (with_name named j)
-name_found first now before named g j a e h =
+pub name_found : (first now : List GroupKey) (before : List Grouping) (named : List Bool) (g : Grouping) (j : ℕ) → AreNamed first before now named → key_place g.key now ≡ Some j → is_named_at named j ≡ false → j < length named → NamesOneMore first before g now (slice_set named j true)
+name_found first now before named g j a e h inside =
     let in_keys = named_before g.key now j e in
     let after : list_any (same_key g.key) (keys_after first before) ≡ true = ap (list_any (same_key g.key)) (sym a.keys_now) ∙ in_keys in
     record {
@@ -141,24 +132,21 @@ name_found first now before named g j a e h =
     }
   where
     there_by : (key : GroupKey) (i : ℕ) → key_place key now ≡ Some i → (v : Bool) → same_key key g.key ≡ v → (key_place key now ≡ Some j → same_key key g.key ≡ true) → (u : Bool) → nat_eq j i ≡ u
-        → is_named_at (with_name named j) i ≡ list_any (λ (h : Grouping). same_key key h.key) (before ++ g ∷ [])
+        → is_named_at (slice_set named j true) i ≡ list_any (λ (h : Grouping). same_key key h.key) (before ++ g ∷ [])
     there_by key i f true k back u m =
         let same : j ≡ i = some_is j i (sym e ∙ place_alike g.key key 0 now (same_both g.key key ∙ k) ∙ f) in
-        ap (is_named_at (with_name named j)) (sym same) ∙ name_there named j ∙ sym (yes_same before g key k)
+        ap (is_named_at (slice_set named j true)) (sym same) ∙ name_there named j inside ∙ sym (yes_same before g key k)
     there_by key i f false k back true m = let same : j ≡ i = grind (arith, nat_tests) in absurd (true_is_not_false (same_key key g.key) (back (f ∙ ap Some (sym same))) k)
     there_by key i f false k back false m =
-        let few = a.few in
-        let high = (place_low key 0 i now f).1 in
-        let high_too = (place_low g.key 0 j now e).1 in
         let differ : j ≡ i → ⊥ = λ s. true_is_not_false (same_key key g.key) (back (f ∙ ap Some (sym s))) k in
-        name_beside named j i (omega arith) (omega arith) differ ∙ a.there key i f ∙ sym (no_same before g key k)
+        name_beside named j i differ ∙ a.there key i f ∙ sym (no_same before g key k)
 
     missing_by : (key : GroupKey) → key_place key now ≡ None → (v : Bool) → same_key key g.key ≡ v → list_any (λ (h : Grouping). same_key key h.key) (before ++ g ∷ []) ≡ false
     missing_by key f true k = absurd (none_some j (sym f ∙ place_alike key g.key 0 now k ∙ e))
     missing_by key f false k = no_same before g key k ∙ a.missing key f
 
 -- it is the fifth of the track
-pub name_fifth : (n : ℕ) (first now : List GroupKey) (before : List Grouping) (named : KeysNamed) (g : Grouping) → AreNamed first before now named → key_place g.key now ≡ None → max_keys ≤ length now → keeps few_keys n first before g ≡ false
+pub name_fifth : (n : ℕ) (first now : List GroupKey) (before : List Grouping) (named : List Bool) (g : Grouping) → AreNamed first before now named → key_place g.key now ≡ None → max_keys ≤ length now → keeps few_keys n first before g ≡ false
 name_fifth n first now before named g a e h =
     let few = a.few in
     let not_there : list_any (same_key g.key) (keys_after first before) ≡ false = ap (list_any (same_key g.key)) (sym a.keys_now) ∙ not_named_yet g.key now e in
@@ -167,8 +155,9 @@ name_fifth n first now before named g a e h =
     rw (not_there, four) refl
 
 -- its key is new to the track
-pub name_new : (first now : List GroupKey) (before : List Grouping) (named : KeysNamed) (g : Grouping) → AreNamed first before now named → key_place g.key now ≡ None → length now < max_keys → NamesOneMore first before g (now ++ g.key ∷ []) (with_name named (length now))
-name_new first now before named g a e h =
+pub name_new : (first now : List GroupKey) (before : List Grouping) (named : List Bool) (g : Grouping) → AreNamed first before now named → key_place g.key now ≡ None → length now < max_keys → length now < length named
+    → NamesOneMore first before g (now ++ g.key ∷ []) (slice_set named (length now) true)
+name_new first now before named g a e h inside =
     let not_there : list_any (same_key g.key) (keys_after first before) ≡ false = ap (list_any (same_key g.key)) (sym a.keys_now) ∙ not_named_yet g.key now e in
     let long = length-append now (g.key ∷ []) in
     let room : (length (keys_after first before) == max_keys) ≡ false = ap (λ (ks : List GroupKey). length ks == max_keys) (sym a.keys_now) ∙ (let lt : length now < 4 = h in grind (arith, nat_tests)) in
@@ -184,17 +173,17 @@ name_new first now before named g a e h =
     }
   where
     there_by : (key : GroupKey) (i : ℕ) → key_place key (now ++ g.key ∷ []) ≡ Some i → (o : Option ℕ) → key_place key now ≡ o → (v : Bool) → same_key key g.key ≡ v
-        → is_named_at (with_name named (length now)) i ≡ list_any (λ (h : Grouping). same_key key h.key) (before ++ g ∷ [])
+        → is_named_at (slice_set named (length now) true) i ≡ list_any (λ (h : Grouping). same_key key h.key) (before ++ g ∷ [])
     there_by key i f (Some m) p true k = absurd (none_some m (sym e ∙ place_alike g.key key 0 now (same_both g.key key ∙ k) ∙ p))
     there_by key i f (Some m) p false k =
         let same : m ≡ i = some_is m i (sym (place_before key g.key 0 m now p) ∙ f) in
         let low = (place_low key 0 m now p).1 in
-        name_beside named (length now) i h (omega arith) (λ s. omega (arith, s)) ∙ a.there key i (p ∙ ap Some same) ∙ sym (no_same before g key k)
+        name_beside named (length now) i (λ s. omega (arith, s)) ∙ a.there key i (p ∙ ap Some same) ∙ sym (no_same before g key k)
     there_by key i f None p true k =
         let at : Some (0 + length now) ≡ Some i = sym (place_at_end key g.key 0 now p ∙ rw k refl) ∙ f in
         let there = some_is (0 + length now) i at in
         let same : length now ≡ i = omega (arith, there) in
-        ap (is_named_at (with_name named (length now))) (sym same) ∙ name_there named (length now) ∙ sym (yes_same before g key k)
+        ap (is_named_at (slice_set named (length now) true)) (sym same) ∙ name_there named (length now) inside ∙ sym (yes_same before g key k)
     there_by key i f None p false k = absurd (none_some i (sym (place_at_end key g.key 0 now p ∙ rw k refl) ∙ f))
 
     missing_by : (key : GroupKey) → key_place key (now ++ g.key ∷ []) ≡ None → (o : Option ℕ) → key_place key now ≡ o → (v : Bool) → same_key key g.key ≡ v → list_any (λ (h : Grouping). same_key key h.key) (before ++ g ∷ []) ≡ false

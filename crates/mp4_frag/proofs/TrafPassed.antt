@@ -182,9 +182,6 @@ payload_is kind b boxes e = ap (λ (o : Option (List ℕ)). unwrap_or o []) (pay
 pub only_sound : (kind : List ℕ) (leaf : Leaf) (b : Box) (boxes : List Box) → of_kind kind boxes ≡ b ∷ [] → IsSound leaf b.payload → AllByRecursion (λ (c : Box). IsSound leaf c.payload) (of_kind kind boxes)
 only_sound kind leaf b boxes e s = subst (AllByRecursion (λ (c : Box). IsSound leaf c.payload)) (sym e) (s, tt)
 
-pub none_sound : (kind : List ℕ) (leaf : Leaf) (boxes : List Box) → of_kind kind boxes ≡ [] → AllByRecursion (λ (c : Box). IsSound leaf c.payload) (of_kind kind boxes)
-none_sound kind leaf boxes e = subst (AllByRecursion (λ (c : Box). IsSound leaf c.payload)) (sym e) tt
-
 runs_leaves : (L : ℕ) (inherited : Inherited) (base before : ℤ) (runs : List Box) → AreRunsSound L inherited base before runs → AllByRecursion (λ (b : Box). IsSound trun b.payload) runs
 runs_leaves L inherited base before [] h = tt
 runs_leaves L inherited base before (b ∷ runs) h = (h.0.sound, runs_leaves L inherited base (run_ends inherited base before b.payload) runs h.1)

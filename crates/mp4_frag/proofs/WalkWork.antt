@@ -4,9 +4,10 @@ use Rattle.std.specs.Prelude.{codes, bytes_eq}
 use Rattle.mp4_boxes.specs.format.Box.{Box}
 use Rattle.mp4_boxes.specs.format.Layout.{trun, sbgp, row_count}
 use Rattle.mp4_frag.specs.words.PlacesIn.{run_work, runs_work, group_work, groups_work, traf_work, trafs_work, moof_work, work_behind}
-use Rattle.mp4_frag.specs.words.Reading.{IsRun, IsGroup}
+use Rattle.mp4_tables.specs.words.GroupBoxes.{IsGroup}
+use Rattle.mp4_tables.specs.declared.group_boxes.Group.{Group}
+use Rattle.mp4_frag.specs.words.Reading.{IsRun}
 use Rattle.mp4_frag.specs.words.Walks.{boxes_in, boxes_between, part_of}
-use Rattle.mp4_frag.specs.declared.groups.Group.{Group}
 use Rattle.mp4_frag.specs.declared.runs.Run.{Run}
 use Rattle.mp4_frag.proofs.BoxPlaces.{box_end}
 use Rattle.mp4_frag.proofs.Comings.{turned}

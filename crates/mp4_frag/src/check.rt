@@ -1,7 +1,7 @@
 //! A `moof`, checked behind what came before it (ISO/IEC 14496-12, 8.8).
 ghost use Rattle.std.specs.Prelude.{List, nat_lt, not, ◌&&◌, ◌≡◌, ◌+◌, ◌*◌, ◌^◌, ◌<◌, ◌≤◌, ◌==◌, [], length, None, option_map, codes, IfOk, IfErr};
 ghost use Rattle.mp4_boxes.specs.format.Box.{box_container};
-ghost use Rattle.mp4_boxes.specs.format.BoxFaults.{IsChildFault, fault_of};
+ghost use Rattle.mp4_boxes.specs.format.BoxFaults.{IsChildFault};
 ghost use Rattle.mp4_boxes.specs.declared.rule.Rule.TheVariants as rules;
 ghost use Rattle.mp4_boxes.specs.words.View.{box_seen};
 ghost use Rattle.mp4_tables.specs.format.Groups.{groupings_of, keys_after};
@@ -11,19 +11,22 @@ ghost use Rattle.mp4_frag.specs.words.Finding.{IsKnown};
 ghost use Rattle.mp4_frag.specs.words.GroupsJudged.{groups_in, AreGroupsSound, GroupsFail};
 ghost use Rattle.mp4_frag.specs.words.Passing.{IsNearer, IsUpTo, EndsNear, IsPassed, AreBounded, is_late_at, state_with};
 ghost use Rattle.mp4_boxes.specs.format.Children.{of_kind};
+ghost use Rattle.mp4_boxes.specs.format.Layout.{IsSound, tfdt as tfdt_leaf, tfhd as tfhd_leaf};
+ghost use Rattle.std.specs.List.{AllByRecursion};
+ghost use Rattle.mp4_frag.specs.words.Reading.{IsHead};
 ghost use Rattle.mp4_frag.specs.words.RunsJudged.{children_of, HoldsChildren, only_list, runs_in, AreRunsPassed, RunsFail};
 ghost use Rattle.mp4_frag.specs.words.Judged.{AreTrexesOf, IsAcceptable, IsAccepted, IsSoundMoof, IsTrafPassed, IsMoofMovedOn, KeepRoom, tree_of};
 ghost use Rattle.mp4_tables.specs.format.TableRules.{is_index};
 ghost use Rattle.mp4_frag.specs.declared.trex.Trex.{Trex};
 ghost use Rattle.mp4_frag.specs.words.States.{HasRoom, IsRoomFor};
-ghost use Rattle.mp4_frag.specs.words.TrafFaults.{HoldsBoxes, TrafFails, MoofFails, traf_in};
+ghost use Rattle.mp4_frag.specs.words.TrafFaults.{HoldsBoxes, IsLeafFault, IsTimeFault, TrafFails, MoofFails, traf_in};
 ghost use Rattle.mp4_frag.specs.format.FragmentRows.{group_rows};
 ghost use Rattle.mp4_frag.specs.words.FragmentsSeen.{moof_seen};
 ghost use Rattle.mp4_frag.specs.declared.state.TrackState.{TrackState};
 
 use crate::finding::{Known, find_track};
-use crate::groups::{KeysNamed, check_group};
-use crate::heads::{base_of, read_head, what_is_inherited};
+use crate::groups::check_group;
+use crate::heads::{Head, base_of, read_head, what_is_inherited};
 use crate::sample_runs::{Judged, Passed, check_run};
 use crate::state::TrackState;
 use crate::times::read_time;
@@ -41,13 +44,6 @@ const TFDT: FourCc = FourCc(*b"tfdt");
 pub(crate) const TRUN: FourCc = FourCc(*b"trun");
 
 pub(crate) const SBGP: FourCc = FourCc(*b"sbgp");
-
-// A fault of this box.
-fn fault(kind: Kind, named: BoxView) -> Fault
-    ensures { result ≡ fault_of kind (box_seen named.entry) }
-{
-    Fault::new(kind, named.kind(), named.offset())
-}
 
 // The `tfhd` of a `traf`, and its `tfdt` if there is one.
 #[derive(Clone, Copy)]
@@ -78,6 +74,35 @@ fn check_boxes<'a>(traf: BoxView<'a>) -> Result<Heads<'a>, Fault>
         }
     }
     Ok(heads)
+}
+
+// What the `tfhd` says.
+fn head_of(tfhd: BoxView) -> Result<Head, Fault>
+    ensures head { IfOk result (IsHead (box_seen tfhd.entry).payload) }
+    ensures fault { IfErr result (IsLeafFault tfhd_leaf (box_seen tfhd.entry)) }
+{
+    match read_head(tfhd.payload()) {
+        Ok(head) => Ok(head),
+        Err(kind) => Err(tfhd.fault(kind)),
+    }
+}
+
+// The decode time of a `traf`, if it has a `tfdt`.
+fn time_of(traf: BoxView, tfdt: Option<BoxView>) -> Result<Option<u64>, Fault>
+    requires only { only_list (option_map box_seen tfdt)
+        ≡ of_kind (codes "tfdt") (children_of (box_seen traf)) }
+    ensures sound { IfOk result (λ time. AllByRecursion (λ b. IsSound tfdt_leaf b.payload)
+        (of_kind (codes "tfdt") (children_of (box_seen traf.entry)))) }
+    ensures time { IfOk result (λ time. (traf_in (box_seen traf.entry)).decode_time ≡ time) }
+    ensures fault { IfErr result (IsTimeFault (box_seen traf.entry)) }
+{
+    let Some(tfdt) = tfdt else {
+        return Ok(None);
+    };
+    match read_time(tfdt.payload()) {
+        Ok(time) => Ok(Some(time)),
+        Err(kind) => Err(tfdt.fault(kind)),
+    }
 }
 
 // Checks the runs of a `traf` in file order: all are sound, and what was passed is what they come
@@ -115,7 +140,7 @@ fn check_runs<L: Ledger>(
             steps.tick();
             passed = match check_run(child.payload(), judged, passed, room, steps) {
                 Ok(passed) => passed,
-                Err(kind) => return Err(fault(kind, child)),
+                Err(kind) => return Err(child.fault(kind)),
             };
         }
     }
@@ -140,11 +165,11 @@ fn check_groups<L: Ledger>(
     ensures work { 8 * steps.new ≤ 8 * steps.old + length (box_seen traf.entry).payload }
 {
     let mut keys = keys;
-    let mut named = KeysNamed::none();
+    let mut named = [false; 4];
     for child in children(traf.payload(), traf.payload_offset(), traf.kind())? {
         if child.kind() == SBGP {
             if let Err(kind) = check_group(child.payload(), n, &mut keys, &mut named, steps) {
-                return Err(fault(kind, child));
+                return Err(child.fault(kind));
             }
         }
     }
@@ -227,26 +252,17 @@ fn check_traf<L: Ledger, M: Ledger>(
 {
     let heads = check_boxes(traf)?;
     let Some(tfhd) = heads.head else {
-        return Err(fault(Kind::MissingBox, traf));
+        return Err(traf.fault(Kind::MissingBox));
     };
-    let head = match read_head(tfhd.payload()) {
-        Ok(head) => head,
-        Err(kind) => return Err(fault(kind, tfhd)),
-    };
+    let head = head_of(tfhd)?;
     let Some(k) = find_track(tracks, head.id, known, looks) else {
-        return Err(fault(Kind::UnknownTrack, tfhd));
+        return Err(tfhd.fault(Kind::UnknownTrack));
     };
     let state = tracks[k];
     let Some(trex) = state.trex else {
-        return Err(fault(Kind::UnknownTrack, tfhd));
+        return Err(tfhd.fault(Kind::UnknownTrack));
     };
-    let time = match heads.time {
-        Some(tfdt) => match read_time(tfdt.payload()) {
-            Ok(time) => Some(time),
-            Err(kind) => return Err(fault(kind, tfdt)),
-        },
-        None => None,
-    };
+    let time = time_of(traf, heads.time)?;
     let judged = Judged {
         file_len,
         base: base_of(head, moof, before),
@@ -254,12 +270,12 @@ fn check_traf<L: Ledger, M: Ledger>(
     };
     let passed = check_runs(traf, judged, room, steps)?;
     if lacks_description(state, judged.inherited.description, passed) {
-        return Err(fault(Kind::BadDescriptionIndex, tfhd));
+        return Err(tfhd.fault(Kind::BadDescriptionIndex));
     }
     let keys = check_groups(traf, passed.count, state.keys, steps)?;
     if let Some(tfdt) = heads.time {
         if is_late(state, time, passed) {
-            return Err(fault(Kind::Gap, tfdt));
+            return Err(tfdt.fault(Kind::Gap));
         }
     }
     tracks[k] = moved_on(state, time, passed, keys);

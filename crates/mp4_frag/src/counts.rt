@@ -5,8 +5,8 @@ ghost use Rattle.mp4_frag.specs.words.Durations.{durations_of, rows_durations, r
 ghost use Rattle.mp4_frag.specs.words.PlacesIn.{KeepsWalk, LiesIn, IsRowPlace};
 ghost use Rattle.mp4_frag.specs.words.Walks.{Walk, coming, rows_here};
 
+use crate::opened_runs::{next_row, row_here};
 use crate::places::{FragPlace, RowPlace};
-use crate::walk::{next_row, row_here};
 
 /// Samples that were counted: how many there are, how long they last together, as far as 64 bits
 /// go, and how many steps lead behind them from the first `traf` on.

@@ -1,9 +1,10 @@
 //! A walk over the samples of a track in a `moof`, one by one.
 use crate::counts::{Counts, leave_run};
+use crate::passed_trafs::settle;
 use crate::places::FragPlace;
 use crate::state::TrackState;
 use crate::view::FragView;
-use crate::walk::{first_place, pass_sample, sample_here, settle};
+use crate::walk::{first_place, pass_sample, sample_here};
 use mp4_tables::{Keys, SampleAt, Samples};
 use std::marker::Model;
 

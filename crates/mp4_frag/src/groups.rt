@@ -1,137 +1,25 @@
 //! `sbgp` in a `traf`: which group description its samples have (ISO/IEC 14496-12, 8.9.2).
-ghost use Rattle.std.specs.Prelude.{◌≡◌, ◌+◌, ◌*◌, ◌<◌, ◌≤◌, ◌∷◌, drop, nat_le, length, is_some, OnOk, IfOk, IfErr, IfSome, ◌++◌, []};
-ghost use Rattle.mp4_boxes.specs.format.BoxFaults.{Fails};
+ghost use Rattle.std.specs.Prelude.{◌≡◌, ◌+◌, ◌*◌, ◌<◌, ◌≤◌, ◌∷◌, drop, nat_le, length, is_some, OnOk, IfErr, IfSome, ◌++◌, []};
 ghost use Rattle.mp4_boxes.specs.format.Layout.{sbgp, row_count};
-ghost use Rattle.mp4_boxes.specs.format.Layout.{version as version_of};
-ghost use Rattle.mp4_tables.specs.format.Groups.{key_of as key_in};
 ghost use Rattle.mp4_tables.specs.words.Keys.{key_seen};
 ghost use Rattle.mp4_tables.specs.format.Groups.{max_index};
 ghost use Rattle.mp4_tables.specs.format.Repeated.{total as total_of};
-ghost use Rattle.mp4_frag.specs.words.Reading.{IsGroup, group_runs};
+ghost use Rattle.mp4_tables.specs.words.GroupBoxes.{group_runs};
 ghost use Rattle.std.specs.List.{list_all};
 ghost use Rattle.mp4_tables.specs.format.Groups.{Grouping, grouping_of};
 ghost use Rattle.mp4_tables.specs.words.Keys.{keys_seen};
 ghost use Rattle.mp4_frag.specs.words.GroupsJudged.{AreNamed, WhereNamed, NamesOneMore, IsNameFault, IsGroupSound, IsGroupFault};
 
-use crate::fronts::front;
-use mp4_boxes::{FourCc, Kind, Steps, u32_at};
-use mp4_tables::{GroupKey, Keys};
+use mp4_boxes::{Kind, Steps, u32_at};
+use mp4_tables::{Group, GroupKey, Keys, read_group};
 use std::sync::ledger::Ledger;
 
 /// The largest index of a group description.
 const MAX_INDEX: u32 = 65_535;
 
-/// What an `sbgp` says, and where its rows begin in its payload.
-#[derive(Clone, Copy)]
-pub(crate) struct Group {
-    pub(crate) key: GroupKey,
-    pub(crate) rows: usize,
-    pub(crate) count: u32,
-}
-
-/// Which keys of a track the `sbgp`s of a `traf` have named, by their places among its keys.
-#[derive(Clone, Copy)]
-pub(crate) struct KeysNamed {
-    first: bool,
-    second: bool,
-    third: bool,
-    fourth: bool,
-}
-
-impl KeysNamed {
-    ghost use Rattle.std.specs.Prelude.{◌≡◌, false};
-    ghost use Rattle.mp4_frag.specs.words.GroupsJudged.{is_named_at, with_name};
-
-    // None yet.
-    pub(crate) fn none() -> KeysNamed
-        ensures { result ≡ record { first = false; second = false; third = false; fourth = false } }
-    {
-        KeysNamed {
-            first: false,
-            second: false,
-            third: false,
-            fourth: false,
-        }
-    }
-
-    fn has(&self, j: u8) -> bool
-        ensures { result ≡ is_named_at self.now j }
-    {
-        match j {
-            0 => self.first,
-            1 => self.second,
-            2 => self.third,
-            _ => self.fourth,
-        }
-    }
-
-    fn with(self, j: u8) -> KeysNamed
-        ensures { result ≡ with_name self j }
-    {
-        match j {
-            0 => KeysNamed {
-                first: true,
-                ..self
-            },
-            1 => KeysNamed {
-                second: true,
-                ..self
-            },
-            2 => KeysNamed {
-                third: true,
-                ..self
-            },
-            _ => KeysNamed {
-                fourth: true,
-                ..self
-            },
-        }
-    }
-}
-
-// The type and the parameter.
-fn key_of(payload: &[u8], version: u8) -> GroupKey
-    requires room { 12 ≤ length payload.now }
-    requires version { version ≡ version_of payload.now }
-    ensures { key_seen result ≡ key_in payload.now }
-{
-    GroupKey {
-        kind: FourCc([payload[4], payload[5], payload[6], payload[7]]),
-        parameter: if version == 0 {
-            None
-        } else {
-            Some(u32_at(payload, 8))
-        },
-    }
-}
-
-/// What the `sbgp` says.
-pub(crate) fn read_group(payload: &[u8]) -> Result<Group, Kind>
-    ensures group { IfOk result (IsGroup payload.now) }
-    ensures fault { IfErr result (Fails sbgp payload.now) }
-{
-    let (version, _) = front(payload)?;
-    if version > 1 {
-        return Err(Kind::BadVersion);
-    }
-    let rows = if version == 0 { 12 } else { 16 };
-    if payload.len() < rows {
-        return Err(Kind::ShortBox);
-    }
-    let count = u32_at(payload, rows - 4);
-    if payload.len() < rows + 8 * count as usize {
-        return Err(Kind::ShortBox);
-    }
-    Ok(Group {
-        key: key_of(payload, version),
-        rows,
-        count,
-    })
-}
-
 // Names the key of an `sbgp`, which no other of the `traf` may have, and which may not be the fifth
-// of the track.
-fn name(key: GroupKey, keys: &mut Keys, named: &mut KeysNamed) -> Result<(), Kind>
+// of the track. Whether a key is named stands at its place among the track's.
+fn name(key: GroupKey, keys: &mut Keys, named: &mut [bool; 4]) -> Result<(), Kind>
     ensures named { OnOk result (WhereNamed (keys_seen keys.old) named.old (λ first before.
         (g : Grouping) → g.key ≡ key_seen key
         → NamesOneMore first before g (keys_seen keys.new) named.new)) }
@@ -140,7 +28,7 @@ fn name(key: GroupKey, keys: &mut Keys, named: &mut KeysNamed) -> Result<(), Kin
 {
     let place = match keys.place(key) {
         Some(j) => {
-            if named.has(j) {
+            if named[j as usize] {
                 return Err(Kind::DuplicateBox);
             }
             j
@@ -154,7 +42,7 @@ fn name(key: GroupKey, keys: &mut Keys, named: &mut KeysNamed) -> Result<(), Kin
             count
         }
     };
-    *named = named.with(place);
+    named[place as usize] = true;
     Ok(())
 }
 
@@ -194,7 +82,7 @@ pub(crate) fn check_group<L: Ledger>(
     payload: &[u8],
     n: u32,
     keys: &mut Keys,
-    named: &mut KeysNamed,
+    named: &mut [bool; 4],
     steps: &mut Steps<L>,
 ) -> Result<(), Kind>
     ensures sound { OnOk result (WhereNamed (keys_seen keys.old) named.old

@@ -10,9 +10,8 @@ ghost use Rattle.mp4_frag.specs.format.FragmentSamples.{base_of as base_by};
 ghost use Rattle.mp4_frag.specs.words.Reading.{IsHead, head_values, as_traf, inheritance};
 
 use crate::columns::{behind, has, number_at, wide_at};
-use crate::fronts::front;
 use crate::trex::Trex;
-use mp4_boxes::{Kind, u32_at};
+use mp4_boxes::{Kind, front, u32_at};
 
 const BASE_DATA_OFFSET: u32 = 0x00_0001;
 

@@ -1,26 +1,6 @@
 //! How far a walk has come in a `moof`: plain numbers.
 use crate::heads::Inherited;
-use mp4_tables::Keys;
-
-/// A place in the rows of an `sbgp`: the index that comes `left` more times, and the rows behind
-/// it.
-#[derive(Clone, Copy)]
-pub(crate) struct IndexPlace {
-    /// Where the next row begins in the payload of the `moof`, and how many rows follow.
-    pub(crate) row: usize,
-    pub(crate) rows: u32,
-    pub(crate) left: u32,
-    pub(crate) index: u16,
-}
-
-/// A place in the rows of the `sbgp` of each key of the track.
-#[derive(Clone, Copy)]
-pub(crate) struct IndexPlaces {
-    pub(crate) first: IndexPlace,
-    pub(crate) second: IndexPlace,
-    pub(crate) third: IndexPlace,
-    pub(crate) fourth: IndexPlace,
-}
+use mp4_tables::{IndexPlaces, IndexRows, Keys};
 
 /// A place in the rows of a `trun`.
 #[derive(Clone, Copy)]
@@ -52,6 +32,8 @@ pub struct FragPlace {
     pub(crate) base: i128,
     pub(crate) inherited: Inherited,
     pub(crate) run: RowPlace,
+    /// The rows of the `sbgp` of each key of the track, and the places in them.
+    pub(crate) index_rows: IndexRows,
     pub(crate) indexes: IndexPlaces,
     /// How many `traf`s, rows of `sbgp`, runs and samples were passed: all rows of an `sbgp` where
     /// its `traf` is opened, and of a `traf` that names another track one step, unless a later

@@ -4,8 +4,7 @@ ghost use Rattle.mp4_boxes.specs.format.BoxFaults.{Fails};
 ghost use Rattle.mp4_boxes.specs.format.Layout.{IsReadable, tfdt};
 ghost use Rattle.mp4_frag.specs.format.Fragments.{decode_time_of};
 
-use crate::fronts::front;
-use mp4_boxes::{Kind, u32_at, u64_at};
+use mp4_boxes::{Kind, front, u32_at, u64_at};
 
 /// The decode time that a `tfdt` says.
 pub(crate) fn read_time(payload: &[u8]) -> Result<u64, Kind>

@@ -1,5 +1,5 @@
 -- The `sbgp`s of a `traf` judged one after the other, in file order.
-use Rattle.std.specs.Prelude.{◌≡◌, ℕ, zero, suc, ◌≤◌, ◌⊎◌, Bool, true, false, IsTrue, List, [], ◌∷◌, ◌++◌, length, Some, None, codes, ⊤}
+use Rattle.std.specs.Prelude.{◌≡◌, ℕ, ◌≤◌, ◌⊎◌, Bool, true, false, IsTrue, List, [], ◌∷◌, ◌++◌, length, slice_index_or, Some, None, codes, ⊤}
 use Rattle.std.specs.List.{list_any}
 use Rattle.mp4_boxes.specs.format.Box.{Box}
 use Rattle.mp4_boxes.specs.format.BoxFaults.{fault_of, Fails}
@@ -10,7 +10,6 @@ use Rattle.mp4_boxes.specs.declared.fault.Kind.{Kind}
 use Rattle.mp4_tables.specs.format.Groups.{GroupKey, Grouping, GroupRule, one_of_key, few_keys, grouping_of, group_kind, keeps, same_key, keys_after, max_keys}
 use Rattle.mp4_tables.specs.words.Keys.{key_place}
 use Rattle.mp4_frag.specs.words.RunsJudged.{children_of}
-use Rattle.mp4_frag.specs.declared.groups.KeysNamed.{KeysNamed}
 
 -- the `sbgp`s in a `traf`
 abbrev pub groups_in : Box → List Box
@@ -45,23 +44,13 @@ GroupsFail n keys before (b ∷ boxes) f =
     × GroupsFail n keys (before ++ grouping_of b.payload ∷ []) boxes f)
 
 -- whether the key at a place among the track's was named
-abbrev pub is_named_at : KeysNamed → ℕ → Bool
-is_named_at named zero = named.first
-is_named_at named (suc zero) = named.second
-is_named_at named (suc (suc zero)) = named.third
-is_named_at named (suc (suc (suc j))) = named.fourth
-
--- the names with that at one more place
-abbrev pub with_name : KeysNamed → ℕ → KeysNamed
-with_name named zero = record named { first = true }
-with_name named (suc zero) = record named { second = true }
-with_name named (suc (suc zero)) = record named { third = true }
-with_name named (suc (suc (suc j))) = record named { fourth = true }
+abbrev pub is_named_at : List Bool → ℕ → Bool
+is_named_at named j = slice_index_or named j false
 
 -- the keys of a track that named some before, and which of them the groupings of a `traf` so far
 -- have named
 pub record AreNamed (keys : List GroupKey) (before : List Grouping) (now : List GroupKey)
-    (named : KeysNamed) : Type 0 where
+    (named : List Bool) : Type 0 where
   pub keys_now : now ≡ keys_after keys before
   pub few : length now ≤ max_keys
   pub there : (key : GroupKey) (j : ℕ) → key_place key now ≡ Some j
@@ -71,7 +60,7 @@ pub record AreNamed (keys : List GroupKey) (before : List Grouping) (now : List 
 
 -- one more grouping keeps the rules of keys, and these are the keys and names with it
 pub record NamesOneMore (keys : List GroupKey) (before : List Grouping) (g : Grouping)
-    (now : List GroupKey) (named : KeysNamed) : Type 0 where
+    (now : List GroupKey) (named : List Bool) : Type 0 where
   pub once : keeps one_of_key 0 keys before g ≡ true
   pub room : keeps few_keys 0 keys before g ≡ true
   pub names : AreNamed keys (before ++ g ∷ []) now named
@@ -83,7 +72,7 @@ IsNameFault keys before g kind = ((kind ≡ group_kind one_of_key)
     ⊎ ((kind ≡ group_kind few_keys) × (keeps few_keys 0 keys before g ≡ false))
 
 -- it holds of each `traf` so far whose track has these keys now, of which these are named
-abbrev pub WhereNamed : List GroupKey → KeysNamed → (List GroupKey → List Grouping → Type 0)
+abbrev pub WhereNamed : List GroupKey → List Bool → (List GroupKey → List Grouping → Type 0)
     → Type 0
 WhereNamed now named P = (keys : List GroupKey) (before : List Grouping)
     → AreNamed keys before now named → P keys before

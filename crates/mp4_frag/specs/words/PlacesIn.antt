@@ -2,13 +2,12 @@
 use Rattle.std.specs.Prelude.{◌≡◌, ℕ, suc, ◌+◌, ◌-◌, ◌*◌, ◌<◌, ◌≤◌, cond, List, [], ◌∷◌, length, None, codes, bytes_eq, true}
 use Rattle.mp4_boxes.specs.format.Box.{Box}
 use Rattle.mp4_boxes.specs.format.Layout.{trun, sbgp, row_count}
+use Rattle.mp4_tables.specs.words.Indexes.{AreIndexPlaces}
 use Rattle.mp4_frag.specs.words.ColumnsRead.{row_room}
 use Rattle.mp4_tables.specs.declared.sample.SampleAt.{SampleAt}
 use Rattle.mp4_frag.specs.words.Walks.{Reached, can_read, part_of, boxes_in, boxes_between, with_leaves, before_traf, rows_here, rows_coming, reached, walk_of, coming}
 use Rattle.mp4_frag.specs.declared.lying.Lying.{Lying}
 use Rattle.mp4_frag.specs.declared.places.FragPlace.{FragPlace}
-use Rattle.mp4_frag.specs.declared.places.IndexPlace.{IndexPlace}
-use Rattle.mp4_frag.specs.declared.places.IndexPlaces.{IndexPlaces}
 use Rattle.mp4_frag.specs.declared.places.RowPlace.{RowPlace}
 use Rattle.mp4_frag.specs.declared.state.TrackState.{TrackState}
 
@@ -43,20 +42,6 @@ pub record IsTrafAt (payload : List ℕ) (at : ℕ) (traf : Lying) : Type 0 wher
   pub inside : (at < traf.inside) × (traf.inside ≤ traf.end) × (traf.end ≤ length payload)
   pub some : boxes_from payload at ≡ box_in payload at traf ∷ boxes_from payload traf.end
   pub kind : bytes_eq traf.kind.0 (codes "traf") ≡ true
-
--- there are bytes for the rows left of an `sbgp`
-abbrev pub HasIndexRows : List ℕ → IndexPlace → Type 0
-HasIndexRows payload place = place.row + 8 * place.rows ≤ length payload
-
--- and an index is in hand, or no row is left
-pub record IsIndexPlace (payload : List ℕ) (place : IndexPlace) : Type 0 where
-  pub rows : HasIndexRows payload place
-  pub settled : place.left ≡ 0 → place.rows ≡ 0
-
-abbrev pub AreIndexPlaces : List ℕ → IndexPlaces → Type 0
-AreIndexPlaces payload places = IsIndexPlace payload places.first
-    × IsIndexPlace payload places.second × IsIndexPlace payload places.third
-    × IsIndexPlace payload places.fourth
 
 -- there are bytes for the rows left of a `trun`
 abbrev pub IsRowPlace : List ℕ → RowPlace → Type 0
@@ -111,7 +96,7 @@ pub record LiesIn (payload : List ℕ) (place : FragPlace) : Type 0 where
   pub next : place.next ≤ place.traf_end
   pub traf : place.traf_end ≤ length payload
   pub rows : IsRowPlace payload place.run
-  pub indexes : AreIndexPlaces payload place.indexes
+  pub indexes : AreIndexPlaces payload place.index_rows place.indexes
   -- what was passed and what is left cost no more than all
   pub work : place.passed + place.run.left + work_behind payload place.next place.traf_end
       ≤ moof_work payload
@@ -131,7 +116,11 @@ pub record KeepsWalk (old new : FragPlace) : Type 0 where
 
 -- only the indexes to come and the steps are others
 abbrev pub ChangesIndexes : FragPlace → FragPlace → Type 0
-ChangesIndexes old new = new ≡ record old { indexes = new.indexes; passed = new.passed }
+ChangesIndexes old new = new ≡ record old {
+  index_rows = new.index_rows;
+  indexes = new.indexes;
+  passed = new.passed;
+}
 
 -- only what a `tfhd` says is another
 abbrev pub ChangesHead : FragPlace → FragPlace → Type 0

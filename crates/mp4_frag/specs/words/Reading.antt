@@ -1,11 +1,7 @@
 -- What is read of the leaves of a `traf`, as plain numbers.
 use Rattle.std.specs.Prelude.{◌≡◌, ℕ, ◌+◌, ◌*◌, ◌≤◌, List, [], ◌∷◌, length, drop, Option, None, unwrap_or, option_map, slice_index, nat_eq}
 use Rattle.byteorder.specs.Endian.{twos_complement}
-use Rattle.mp4_boxes.specs.format.Bytes.{width_of}
-use Rattle.mp4_boxes.specs.format.Layout.{has, flags, version, fields, column_values, leaf_fields, tfhd, trun, sbgp, row_count, tfhd_columns, trun_columns, default_base_is_moof, IsReadable}
-use Rattle.mp4_tables.specs.format.Groups.{key_of}
-use Rattle.mp4_tables.specs.words.Keys.{key_seen}
-use Rattle.mp4_tables.specs.words.Rows.{runs_at}
+use Rattle.mp4_boxes.specs.format.Layout.{has, flags, version, column_values, leaf_fields, tfhd, trun, row_count, tfhd_columns, trun_columns, default_base_is_moof, IsReadable}
 use Rattle.mp4_frag.specs.words.ColumnsRead.{row_room, rows_from}
 use Rattle.mp4_frag.specs.format.Fragments.{column, TrackFragment}
 use Rattle.mp4_frag.specs.declared.heads.Inherited.{Inherited}
@@ -13,7 +9,6 @@ use Rattle.mp4_frag.specs.declared.trex.Trex.{Trex}
 use Rattle.mp4_frag.specs.declared.rows.Row.{Row}
 use Rattle.mp4_frag.specs.declared.runs.Run.{Run}
 use Rattle.mp4_frag.specs.declared.heads.Head.{Head}
-use Rattle.mp4_frag.specs.declared.groups.Group.{Group}
 
 -- the values in a row of `trun`
 abbrev pub row_values : Row → List (Option ℕ)
@@ -43,18 +38,6 @@ pub record IsRun (payload : List ℕ) (run : Run) : Type 0 where
   pub rows : run.rows ≡ rows_from (flags payload)
   pub room : run.rows + run.count * row_room run.bits ≤ length payload
   pub readable : IsReadable trun payload
-
--- what was read of an `sbgp`
-pub record IsGroup (payload : List ℕ) (group : Group) : Type 0 where
-  pub key : key_seen group.key ≡ key_of payload
-  pub count : group.count ≡ row_count sbgp payload
-  pub rows : group.rows ≡ width_of (fields sbgp (version payload))
-  pub room : group.rows + 8 * group.count ≤ length payload
-  pub readable : IsReadable sbgp payload
-
--- the rows of an `sbgp`
-abbrev pub group_runs : List ℕ → Group → List (ℕ × ℕ)
-group_runs payload group = runs_at payload (record { place = group.rows; count = group.count })
 
 -- a `traf` of this `tfhd`
 abbrev pub as_traf : Head → TrackFragment

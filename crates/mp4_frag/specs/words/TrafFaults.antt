@@ -3,7 +3,7 @@ use Rattle.std.specs.Prelude.{◌≡◌, ◌⊎◌, ℕ, pos, ◌<◌, ◌==◌,
 use Rattle.mp4_boxes.specs.format.Box.{Box, box_container}
 use Rattle.mp4_boxes.specs.format.BoxFaults.{fault_of, Fails, IsChildFault}
 use Rattle.mp4_boxes.specs.format.Children.{of_kind, Holds}
-use Rattle.mp4_boxes.specs.format.Layout.{tfhd, tfdt, IsReadable}
+use Rattle.mp4_boxes.specs.format.Layout.{Leaf, tfhd, tfdt, IsReadable}
 use Rattle.mp4_boxes.specs.declared.fault.Fault.{Fault}
 use Rattle.mp4_boxes.specs.declared.fault.Kind.{Kind}
 use Rattle.mp4_boxes.specs.declared.fault.Kind.TheVariants.{UnknownTrack, BadDescriptionIndex, Gap}
@@ -50,6 +50,14 @@ pub record HasHead (b h : Box) : Type 0 where
   pub holds : HoldsBoxes b
   pub only : IsOnly (codes "tfhd") b h
   pub readable : IsReadable tfhd h.payload
+
+-- a leaf can't be read, and this is its fault
+abbrev pub IsLeafFault : Leaf → Box → Fault → Type 0
+IsLeafFault leaf b f = (kind : Kind) × Fails leaf b.payload kind × (f ≡ fault_of kind b)
+
+-- so it is of the `tfdt` of a `traf`
+abbrev pub IsTimeFault : Box → Fault → Type 0
+IsTimeFault b f = (h : Box) × IsOnly (codes "tfdt") b h × IsLeafFault tfdt h f
 
 -- The fault is one of the `traf`; in this order they are looked for.
 pub data TrafFails (file_length moof : ℕ) (before : ℤ) (tracks : List TrackState) (room : ℕ)

@@ -1,7 +1,7 @@
 -- A walk over the samples of a track in a `moof`: which samples are to come, by rows of runs and by
 -- boxes. It is said of every `moof`, and so of one that no check accepted: a box that can't be read
 -- is left out, and numbers go no further than they can be held.
-use Rattle.std.specs.Prelude.{ℕ, ◌+◌, ◌-◌, ◌^◌, ◌%◌, ◌==◌, ◌&&◌, nat_lt, nat_le, min, Bool, false, cond, if◌then◌else◌, List, [], ◌∷◌, ◌++◌, length, take, drop, map, find, replicate, slice_index, slice_set, Option, Some, None, unwrap_or, option_map, ℤ, pos, negsuc, ◌+ℤ◌, codes, bytes_eq}
+use Rattle.std.specs.Prelude.{ℕ, ◌+◌, ◌-◌, ◌^◌, ◌==◌, ◌&&◌, nat_lt, nat_le, min, Bool, false, cond, if◌then◌else◌, List, [], ◌∷◌, length, take, drop, map, find, slice_index, slice_set, Option, Some, None, unwrap_or, option_map, ℤ, pos, negsuc, ◌+ℤ◌, codes, bytes_eq}
 use Rattle.std.specs.Int.{w128, saturate_signed}
 use Rattle.mp4_boxes.specs.format.Bytes.{width_of}
 use Rattle.mp4_boxes.specs.format.Box.{Box, first_boxes}
@@ -10,6 +10,7 @@ use Rattle.mp4_tables.specs.format.Groups.{GroupKey, key_of}
 use Rattle.mp4_tables.specs.words.Keys.{keys_seen, key_place}
 use Rattle.mp4_tables.specs.format.Repeated.{repeated}
 use Rattle.mp4_tables.specs.words.Rows.{runs_at}
+use Rattle.mp4_tables.specs.words.Indexes.{low_half, indexes_coming}
 use Rattle.mp4_tables.specs.format.Tables.{composition_offset}
 use Rattle.mp4_tables.specs.declared.sample.SampleAt.{SampleAt}
 use Rattle.mp4_frag.specs.words.ColumnsRead.{rows_from}
@@ -19,8 +20,6 @@ use Rattle.mp4_frag.specs.words.Reading.{inheritance}
 use Rattle.mp4_frag.specs.words.FragmentsSeen.{CursorSeen}
 use Rattle.mp4_frag.specs.declared.heads.Inherited.{Inherited}
 use Rattle.mp4_frag.specs.declared.places.FragPlace.{FragPlace}
-use Rattle.mp4_frag.specs.declared.places.IndexPlace.{IndexPlace}
-use Rattle.mp4_frag.specs.declared.places.IndexPlaces.{IndexPlaces}
 use Rattle.mp4_frag.specs.declared.places.RowPlace.{RowPlace}
 use Rattle.mp4_frag.specs.declared.rows.Row.{Row}
 use Rattle.mp4_frag.specs.declared.state.TrackState.{TrackState}
@@ -162,10 +161,6 @@ abbrev pub with_head : Walk → Reached → List ℕ → Reached
 with_head w s payload = cond (can_read tfhd payload)
     (with_trex w s (head_of payload) (trex_among w.tracks (head_of payload).id)) s
 
--- an index has 16 bits
-abbrev pub low_half : ℕ → ℕ
-low_half index = index % 2 ^ 16
-
 -- the indexes that an `sbgp` gives to samples
 unfoldable pub indexes_of : List ℕ → List ℕ
 indexes_of payload =
@@ -176,12 +171,9 @@ indexes_of payload =
     })))
 
 -- the indexes with those at the key of this place among the four
-abbrev pub with_indexes : List (List ℕ) → ℕ → List ℕ → List (List ℕ)
-with_indexes lists j indexes = slice_set lists (min j 3) indexes
-
 abbrev pub with_key : List (List ℕ) → List ℕ → Option ℕ → List (List ℕ)
 with_key lists indexes None = lists
-with_key lists indexes (Some j) = with_indexes lists j indexes
+with_key lists indexes (Some j) = slice_set lists (min j 3) indexes
 
 -- the indexes with those of an `sbgp`
 abbrev pub with_group : List GroupKey → List (List ℕ) → List ℕ → List (List ℕ)
@@ -264,15 +256,7 @@ row_signed row = record {
 unfoldable pub rows_here : List ℕ → RowPlace → List RunRow
 rows_here payload p = run_rows p.left 1 p.bits (drop p.row payload)
 
--- the indexes left of an `sbgp`
-unfoldable pub indexes_here : List ℕ → IndexPlace → List ℕ
-indexes_here payload p = replicate p.left p.index
-    ++ map low_half (repeated (runs_at payload (record { place = p.row; count = p.rows })))
-
-abbrev pub all_indexes : List ℕ → IndexPlaces → List (List ℕ)
-all_indexes payload p = indexes_here payload p.first ∷ indexes_here payload p.second
-    ∷ indexes_here payload p.third ∷ indexes_here payload p.fourth ∷ []
-
+-- what goes for the next sample at a place
 abbrev pub reached : List ℕ → FragPlace → Reached
 reached payload p = record {
   dts = p.dts;
@@ -280,7 +264,7 @@ reached payload p = record {
   is_own = p.is_own;
   base = p.base;
   inherited = p.inherited;
-  indexes = all_indexes payload p.indexes;
+  indexes = indexes_coming payload p.index_rows p.indexes;
 }
 
 abbrev pub walk_of : ℕ → List TrackState → FragPlace → Walk

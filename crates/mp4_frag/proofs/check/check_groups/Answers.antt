@@ -1,4 +1,4 @@
-use Rattle.std.proofs.Common.{◌≤◌, length, take, ◌∙◌, sym, arith}
+use Rattle.std.proofs.Common.{◌≤◌, length, take, ◌∙◌, sym, refl, arith}
 use Rattle.std.proofs.lemmas.List.{length-map, length-take}
 use Rattle.mp4_boxes.specs.words.View.{box_seen}
 use Rattle.mp4_tables.specs.words.Keys.{key_seen, keys_seen}
@@ -11,7 +11,7 @@ pub loop-child-init : goal.loop-child-init
 loop-child-init g c =
     let keys = c.args.keys in
     let few : length (keys_seen keys) ≤ 4 = omega (arith, length-map (take keys.count keys.named) key_seen, length-take keys.count keys.named, keys.few) in
-    (tt, tt, groups_none c.args.n (keys_seen keys) c.into_iter-child-iterator.result c.none-named.result few c.none-named.ensures, groups_cost_none _ _)
+    (tt, tt, groups_none c.args.n (keys_seen keys) c.into_iter-child-iterator.result _ few refl, groups_cost_none _ _)
 
 pub loop-child-preserved-in_default : goal.loop-child-preserved-in_default
 loop-child-preserved-in_default g c = (

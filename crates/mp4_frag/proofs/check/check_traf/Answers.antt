@@ -2,19 +2,15 @@ use Rattle.std.proofs.Common.{◌≡◌, ℕ, false, ◌+◌, ◌^◌, ◌≤◌
 use Rattle.std.specs.Prelude.{codes, option_map}
 use Rattle.std.proofs.lemmas.Result.{err_from_is_err_and}
 use Rattle.std.specs.Int.{w128}
-use Rattle.std.specs.List.{AllByRecursion}
-use Rattle.mp4_boxes.specs.format.Box.{Box}
 use Rattle.mp4_boxes.specs.format.Children.{of_kind}
-use Rattle.mp4_boxes.specs.format.Layout.{tfdt, IsSound}
 use Rattle.mp4_boxes.specs.words.View.{box_seen}
 use Rattle.mp4_boxes.specs.declared.view.BoxView.{BoxView}
 use Rattle.mp4_tables.specs.words.Keys.{keys_seen}
 use Rattle.mp4_frag.specs.words.Passing.{IsUpTo}
-use Rattle.mp4_frag.specs.format.Fragments.{track_fragment_of}
 use Rattle.mp4_frag.specs.words.Passing.{is_late_at}
 use Rattle.mp4_frag.specs.words.TrafFaults.{head_fails, time_fails}
 use Rattle.mp4_frag.proofs.TrafRefused.{no_head, unknown_id, unknown_trex, opened, runs_refused, description_refused, groups_refused, time_refused}
-use Rattle.mp4_frag.proofs.TracksMoved.{traf_moved, its_time, no_time}
+use Rattle.mp4_frag.proofs.TracksMoved.{traf_moved, no_time}
 use Rattle.mp4_frag.specs.words.RunsJudged.{children_of, only_list}
 use Rattle.mp4_frag.specs.words.States.{HasRoom}
 use Rattle.mp4_frag.specs.words.Walks.{trex_among}
@@ -22,9 +18,9 @@ use Rattle.mp4_frag.proofs.Bounds.{up_to_near}
 use Rattle.mp4_frag.proofs.StateLists.{has_room, less_room, room_with}
 use Rattle.mp4_frag.proofs.TracksFound.{known_set}
 use Rattle.mp4_frag.specs.declared.state.TrackState.{TrackState}
-use Rattle.mp4_frag.proofs.TrafPassed.{traf_sound, found_trex, trex_same, only_sound, none_sound, time_sound}
+use Rattle.mp4_frag.proofs.TrafPassed.{traf_sound, found_trex, trex_same}
 use Rattle.mp4_frag.proofs.check.check_traf.Goals as goal
-use Rattle.mp4_frag.proofs.check.check_traf.Goals.{in-Some-time+in-Ok-read_time, in-None, in-Some-time-2+else-is_late, in_default-time}
+use Rattle.mp4_frag.proofs.check.check_traf.Goals.{in-Some-time+else-is_late, in_default-time}
 
 pub check_runs-requires-clause-base : goal.check_runs-requires-clause-base
 check_runs-requires-clause-base g c =
@@ -68,44 +64,29 @@ returns-clause-passed g c =
     let before : to_z w128 (of_z w128 c.args.before) ≡ c.args.before = search rules in
     let kept : to_z w128 (of_z w128 c.in_ok-passed.passed.at) ≡ c.in_ok-passed.passed.at = search rules in
     let head : of_kind (codes "tfhd") boxes ≡ box_seen c.in-Some.tfhd ∷ [] = sym c.in_ok-heads.ensures.head ∙ ap (λ (o : Option BoxView). only_list (option_map box_seen o)) c.in-Some.is in
-    let known : trex_among c.args.tracks.now c.in-Ok.head.id ≡ Some c.in-Some-trex.trex = found_trex c.args.tracks.now c.in-Ok.head.id c.in-Some-find_track.k _ c.in-Some-trex.trex c.in-Some-find_track.ensures.inside c.in-Some-find_track.ensures.there.found (ap (λ t. t.trex) (sym c.index-tracks-k.is)
-    ∙ c.in-Some-trex.is) in
-    let times : AllByRecursion (λ (b : Box). IsSound tfdt b.payload) (of_kind (codes "tfdt") boxes) =
-    elim c.match-heads-2.branch [
-      | in-Some-time+in-Ok-read_time w ↦
-          let there = sym c.in_ok-heads.ensures.time ∙ ap (λ (o : Option BoxView). only_list (option_map box_seen o)) w.in-Some-time.is in
-          only_sound (codes "tfdt") tfdt _ boxes there (time_sound _ (rw w.payload-in-Some-time.ensures at w.in-Ok-read_time.ensures.readable))
-      | in-None w ↦ none_sound (codes "tfdt") tfdt boxes (sym c.in_ok-heads.ensures.time ∙ ap (λ (o : Option BoxView). only_list (option_map box_seen o)) w.in-None.is)
-    ] in
+    let known : trex_among c.args.tracks.now c.in_ok-head.head.id ≡ Some c.in-Some-trex.trex = found_trex c.args.tracks.now c.in_ok-head.head.id c.in-Some-find_track.k _ c.in-Some-trex.trex
+    c.in-Some-find_track.ensures.inside c.in-Some-find_track.ensures.there.found (ap (λ t. t.trex) (sym c.index-tracks-k.is) ∙ c.in-Some-trex.is) in
     let m = c.moved_on.ensures in
-    let late : is_late_at c.index-tracks-k.result c.match-heads-2.time c.in_ok-passed.passed.count ≡ false =
-    elim c.match-heads-3.branch [
-      | in-Some-time-2+else-is_late w ↦ sym w.if-is_late.ensures
-      | in_default-time w ↦
-          elim c.match-heads-2.branch [
-            | in-Some-time+in-Ok-read_time v ↦ absurd (w.in_default-time.not-Some _ v.in-Some-time.is)
-            | in-None v ↦ ap (λ (o : Option ℕ). is_late_at c.index-tracks-k.result o c.in_ok-passed.passed.count) v.time-is
-          ]
-    ] in
-    let time : (track_fragment_of boxes).decode_time ≡ c.match-heads-2.time =
+    let late : is_late_at c.index-tracks-k.result c.in_ok-time.time c.in_ok-passed.passed.count ≡ false =
     elim c.match-heads-2.branch [
-      | in-Some-time+in-Ok-read_time w ↦
-          let there = sym c.in_ok-heads.ensures.time ∙ ap (λ (o : Option BoxView). only_list (option_map box_seen o)) w.in-Some-time.is in
-          its_time _ boxes _ there (rw w.payload-in-Some-time.ensures at w.in-Ok-read_time.ensures.time) ∙ sym w.time-is
-      | in-None w ↦ no_time boxes (sym c.in_ok-heads.ensures.time ∙ ap (λ (o : Option BoxView). only_list (option_map box_seen o)) w.in-None.is) ∙ sym w.time-is
+      | in-Some-time+else-is_late w ↦ sym w.if-is_late.ensures
+      | in_default-time w ↦
+          let none = no_time boxes (sym c.in_ok-heads.ensures.time ∙ ap (λ (o : Option BoxView). only_list (option_map box_seen o)) w.in_default-time.is) in
+          ap (λ (o : Option ℕ). is_late_at c.index-tracks-k.result o c.in_ok-passed.passed.count) (sym c.in_ok-time.ensures.time ∙ none)
     ] in
     record {
       holds = c.in_ok-heads.ensures.holds;
-      sound = rw kept (traf_sound c.args.file_len c.args.moof c.in_ok-passed.passed.count c.args.before c.base_of.result c.in_ok-passed.passed.at c.args.tracks.now boxes (box_seen c.in-Some.tfhd) c.in-Ok.head c.in-Some-trex.trex c.what_is_inherited.result (keys_seen c.index-tracks-k.result.keys)
-          head (rw c.payload.ensures at c.in-Ok.ensures.head) known times (rw before at c.base_of.ensures.is) c.what_is_inherited.ensures (rw same at c.in_ok-passed.ensures.runs.sound) (rw same at c.in_ok-passed.ensures.runs.end) c.in_ok-passed.ensures.runs.count c.in_ok-keys.ensures.sound);
+      sound = rw kept (traf_sound c.args.file_len c.args.moof c.in_ok-passed.passed.count c.args.before c.base_of.result c.in_ok-passed.passed.at c.args.tracks.now boxes (box_seen c.in-Some.tfhd) c.in_ok-head.head c.in-Some-trex.trex
+          c.what_is_inherited.result (keys_seen c.index-tracks-k.result.keys)
+          head c.in_ok-head.ensures.head known c.in_ok-time.ensures.sound (rw before at c.base_of.ensures.is) c.what_is_inherited.ensures (rw same at c.in_ok-passed.ensures.runs.sound) (rw same at c.in_ok-passed.ensures.runs.end) c.in_ok-passed.ensures.runs.count c.in_ok-keys.ensures.sound);
       bound = λ n big near.
           let base : IsUpTo n c.base_of.result = (rw before at c.base_of.ensures.bound) n big near in
           rw kept ((rw same at c.in_ok-passed.ensures.bound) n big base);
       moved = traf_moved c.args.moof c.in_ok-passed.passed.count c.in_ok-passed.passed.duration c.in_ok-passed.passed.bytes c.in-Some-find_track.k c.args.room.now c.check_runs.new.room c.args.before c.args.tracks.now _ c.index-tracks-k.result c.moved_on.result boxes (box_seen c.in-Some.tfhd)
-          c.in-Ok.head c.in-Some-trex.trex c.what_is_inherited.result c.in_ok-keys.keys c.match-heads-2.time
-          head (rw c.payload.ensures at c.in-Ok.ensures.head)
+          c.in_ok-head.head c.in-Some-trex.trex c.what_is_inherited.result c.in_ok-keys.keys c.in_ok-time.time
+          head c.in_ok-head.ensures.head
           c.in-Some-find_track.ensures.inside c.in-Some-find_track.ensures.there.found c.in-Some-find_track.ensures.there.first c.index-tracks-k.is c.in-Some-trex.is c.what_is_inherited.ensures c.in_ok-passed.ensures.runs.count c.in_ok-passed.ensures.runs.lasting c.in_ok-passed.ensures.runs.filling
-          c.in_ok-keys.ensures.sound c.in_ok-keys.ensures.keys (sym c.if-lacks_description.ensures) late time m.none m.some c.in_ok-passed.ensures.taken;
+          c.in_ok-keys.ensures.sound c.in_ok-keys.ensures.keys (sym c.if-lacks_description.ensures) late c.in_ok-time.ensures.time m.none m.some c.in_ok-passed.ensures.taken;
     }
 
 pub returns-in_default-clause-fault : goal.returns-in_default-clause-fault
@@ -113,27 +94,30 @@ returns-in_default-clause-fault g c =
     let none : [] ≡ of_kind (codes "tfhd") (children_of (box_seen c.args.traf)) = ap (λ (o : Option BoxView). only_list (option_map box_seen o)) (sym c.in_default.is) ∙ c.in_ok-heads.ensures.head in
     absurd (no_head (box_seen c.args.traf) (children_of (box_seen c.args.traf)) c.in_ok-heads.ensures.holds (sym none))
 
-pub returns-in-Err-clause-fault : goal.returns-in-Err-clause-fault
-returns-in-Err-clause-fault g c =
+pub returns-in_err-head-clause-fault : goal.returns-in_err-head-clause-fault
+returns-in_err-head-clause-fault g c =
+    let p = err_from_is_err_and c.from_residual-in_err-head.result c.from_residual-in_err-head.ensures.1 in
     let head = sym c.in_ok-heads.ensures.head ∙ ap (λ (o : Option BoxView). only_list (option_map box_seen o)) c.in-Some.is in
-    head_fails (box_seen c.in-Some.tfhd) c.in-Err.kind c.in_ok-heads.ensures.holds head (rw c.payload.ensures at c.in-Err.ensures.fault) c.fault-in-Err.ensures
+    let e = c.in_err-head.ensures.fault in
+    rw (p.1, p.2) (head_fails (box_seen c.in-Some.tfhd) e.0 c.in_ok-heads.ensures.holds head e.1 e.2)
 
 pub returns-in_default-find_track-clause-fault : goal.returns-in_default-find_track-clause-fault
 returns-in_default-find_track-clause-fault g c =
     let head = sym c.in_ok-heads.ensures.head ∙ ap (λ (o : Option BoxView). only_list (option_map box_seen o)) c.in-Some.is in
-    unknown_id c.args.file_len c.args.moof c.args.room.now c.args.before c.args.tracks.now (box_seen c.args.traf) (box_seen c.in-Some.tfhd) c.in-Ok.head _ c.in_ok-heads.ensures.holds head (rw c.payload.ensures at c.in-Ok.ensures.head) (c.in_default-find_track.ensures.none refl)
+    unknown_id c.args.file_len c.args.moof c.args.room.now c.args.before c.args.tracks.now (box_seen c.args.traf) (box_seen c.in-Some.tfhd) c.in_ok-head.head _ c.in_ok-heads.ensures.holds head c.in_ok-head.ensures.head (c.in_default-find_track.ensures.none refl)
     c.fault-in_default-find_track.ensures
 
 pub returns-in_default-trex-clause-fault : goal.returns-in_default-trex-clause-fault
 returns-in_default-trex-clause-fault g c =
     let head = sym c.in_ok-heads.ensures.head ∙ ap (λ (o : Option BoxView). only_list (option_map box_seen o)) c.in-Some.is in
-    unknown_trex c.args.file_len c.args.moof c.args.room.now c.in-Some-find_track.k c.args.before c.args.tracks.now _ c.index-tracks-k.result (box_seen c.args.traf) (box_seen c.in-Some.tfhd) c.in-Ok.head _ c.in_ok-heads.ensures.holds head (rw c.payload.ensures at c.in-Ok.ensures.head)
+    unknown_trex c.args.file_len c.args.moof c.args.room.now c.in-Some-find_track.k c.args.before c.args.tracks.now _ c.index-tracks-k.result (box_seen c.args.traf) (box_seen c.in-Some.tfhd) c.in_ok-head.head _ c.in_ok-heads.ensures.holds head c.in_ok-head.ensures.head
     c.in-Some-find_track.ensures.inside c.in-Some-find_track.ensures.there.found c.index-tracks-k.is c.in_default-trex.is c.fault-in_default-trex.ensures
 
-pub returns-in-Err-read_time-clause-fault : goal.returns-in-Err-read_time-clause-fault
-returns-in-Err-read_time-clause-fault g c =
-    let there = sym c.in_ok-heads.ensures.time ∙ ap (λ (o : Option BoxView). only_list (option_map box_seen o)) c.in-Some-time.is in
-    time_fails (box_seen c.in-Some-time.tfdt) c.in-Err-read_time.kind c.in_ok-heads.ensures.holds there (rw c.payload-in-Some-time.ensures at c.in-Err-read_time.ensures.fault) c.fault-in-Err-read_time.ensures
+pub returns-in_err-time-clause-fault : goal.returns-in_err-time-clause-fault
+returns-in_err-time-clause-fault g c =
+    let p = err_from_is_err_and c.from_residual-in_err-time.result c.from_residual-in_err-time.ensures.1 in
+    let e = c.in_err-time.ensures.fault in
+    rw (p.1, p.2) (time_fails e.0 e.2.0 c.in_ok-heads.ensures.holds e.1 e.2.1 e.2.2)
 
 pub returns-in_err-passed-clause-fault : goal.returns-in_err-passed-clause-fault
 returns-in_err-passed-clause-fault g c =
@@ -141,8 +125,8 @@ returns-in_err-passed-clause-fault g c =
     let head = sym c.in_ok-heads.ensures.head ∙ ap (λ (o : Option BoxView). only_list (option_map box_seen o)) c.in-Some.is in
     let same : to_z w128 (of_z w128 c.base_of.result) ≡ c.base_of.result = search rules in
     let before : to_z w128 (of_z w128 c.args.before) ≡ c.args.before = search rules in
-    let o = opened c.args.moof c.in-Some-find_track.k c.args.before c.base_of.result c.args.tracks.now _ c.index-tracks-k.result (box_seen c.args.traf) (box_seen c.in-Some.tfhd) c.in-Ok.head c.in-Some-trex.trex c.what_is_inherited.result c.in_ok-heads.ensures.holds head
-    (rw c.payload.ensures at c.in-Ok.ensures.head)
+    let o = opened c.args.moof c.in-Some-find_track.k c.args.before c.base_of.result c.args.tracks.now _ c.index-tracks-k.result (box_seen c.args.traf) (box_seen c.in-Some.tfhd) c.in_ok-head.head c.in-Some-trex.trex c.what_is_inherited.result c.in_ok-heads.ensures.holds head
+    c.in_ok-head.ensures.head
     c.in-Some-find_track.ensures.inside c.in-Some-find_track.ensures.there.found c.index-tracks-k.is c.in-Some-trex.is (rw before at c.base_of.ensures.is) c.what_is_inherited.ensures in
     rw (p.1, p.2) (runs_refused c.args.file_len c.args.moof c.args.room.now c.args.before c.base_of.result c.args.tracks.now (box_seen c.args.traf) (box_seen c.in-Some.tfhd) c.index-tracks-k.result c.in-Some-trex.trex c.what_is_inherited.result c.in_err-passed.field-0.0 o
     ((rw same at c.in_err-passed.ensures.fault) c.in_ok-heads.ensures.holds.tiles))
@@ -152,8 +136,8 @@ returns-then-lacks_description-clause-fault g c =
     let head = sym c.in_ok-heads.ensures.head ∙ ap (λ (o : Option BoxView). only_list (option_map box_seen o)) c.in-Some.is in
     let same : to_z w128 (of_z w128 c.base_of.result) ≡ c.base_of.result = search rules in
     let before : to_z w128 (of_z w128 c.args.before) ≡ c.args.before = search rules in
-    let o = opened c.args.moof c.in-Some-find_track.k c.args.before c.base_of.result c.args.tracks.now _ c.index-tracks-k.result (box_seen c.args.traf) (box_seen c.in-Some.tfhd) c.in-Ok.head c.in-Some-trex.trex c.what_is_inherited.result c.in_ok-heads.ensures.holds head
-    (rw c.payload.ensures at c.in-Ok.ensures.head)
+    let o = opened c.args.moof c.in-Some-find_track.k c.args.before c.base_of.result c.args.tracks.now _ c.index-tracks-k.result (box_seen c.args.traf) (box_seen c.in-Some.tfhd) c.in_ok-head.head c.in-Some-trex.trex c.what_is_inherited.result c.in_ok-heads.ensures.holds head
+    c.in_ok-head.ensures.head
     c.in-Some-find_track.ensures.inside c.in-Some-find_track.ensures.there.found c.index-tracks-k.is c.in-Some-trex.is (rw before at c.base_of.ensures.is) c.what_is_inherited.ensures in
     description_refused c.args.file_len c.args.moof c.args.room.now c.in_ok-passed.passed.count c.args.before c.base_of.result c.args.tracks.now (box_seen c.args.traf) (box_seen c.in-Some.tfhd) c.index-tracks-k.result c.in-Some-trex.trex c.what_is_inherited.result _ o
     (rw same at c.in_ok-passed.ensures.runs.sound) c.in_ok-passed.ensures.runs.count (sym c.if-lacks_description.ensures) c.fault-then-lacks_description.ensures
@@ -164,8 +148,8 @@ returns-in_err-keys-clause-fault g c =
     let head = sym c.in_ok-heads.ensures.head ∙ ap (λ (o : Option BoxView). only_list (option_map box_seen o)) c.in-Some.is in
     let same : to_z w128 (of_z w128 c.base_of.result) ≡ c.base_of.result = search rules in
     let before : to_z w128 (of_z w128 c.args.before) ≡ c.args.before = search rules in
-    let o = opened c.args.moof c.in-Some-find_track.k c.args.before c.base_of.result c.args.tracks.now _ c.index-tracks-k.result (box_seen c.args.traf) (box_seen c.in-Some.tfhd) c.in-Ok.head c.in-Some-trex.trex c.what_is_inherited.result c.in_ok-heads.ensures.holds head
-    (rw c.payload.ensures at c.in-Ok.ensures.head)
+    let o = opened c.args.moof c.in-Some-find_track.k c.args.before c.base_of.result c.args.tracks.now _ c.index-tracks-k.result (box_seen c.args.traf) (box_seen c.in-Some.tfhd) c.in_ok-head.head c.in-Some-trex.trex c.what_is_inherited.result c.in_ok-heads.ensures.holds head
+    c.in_ok-head.ensures.head
     c.in-Some-find_track.ensures.inside c.in-Some-find_track.ensures.there.found c.index-tracks-k.is c.in-Some-trex.is (rw before at c.base_of.ensures.is) c.what_is_inherited.ensures in
     rw (p.1, p.2) (groups_refused c.args.file_len c.args.moof c.args.room.now c.in_ok-passed.passed.count c.args.before c.base_of.result c.args.tracks.now (box_seen c.args.traf) (box_seen c.in-Some.tfhd) c.index-tracks-k.result c.in-Some-trex.trex c.what_is_inherited.result c.in_err-keys.field-0.0 o
     (rw same at c.in_ok-passed.ensures.runs.sound) c.in_ok-passed.ensures.runs.count (c.in_err-keys.ensures.fault c.in_ok-heads.ensures.holds.tiles))
@@ -173,26 +157,13 @@ returns-in_err-keys-clause-fault g c =
 pub returns-then-is_late-clause-fault : goal.returns-then-is_late-clause-fault
 returns-then-is_late-clause-fault g c =
     let boxes = children_of (box_seen c.args.traf) in
-    let there = sym c.in_ok-heads.ensures.time ∙ ap (λ (o : Option BoxView). only_list (option_map box_seen o)) c.in-Some-time-2.is in
-    let time : (track_fragment_of boxes).decode_time ≡ c.match-heads-2.time =
-    elim c.match-heads-2.branch [
-      | in-Some-time+in-Ok-read_time w ↦
-          let at = sym c.in_ok-heads.ensures.time ∙ ap (λ (o : Option BoxView). only_list (option_map box_seen o)) w.in-Some-time.is in
-          its_time _ boxes _ at (rw w.payload-in-Some-time.ensures at w.in-Ok-read_time.ensures.time) ∙ sym w.time-is
-      | in-None w ↦ no_time boxes (sym c.in_ok-heads.ensures.time ∙ ap (λ (o : Option BoxView). only_list (option_map box_seen o)) w.in-None.is) ∙ sym w.time-is
-    ] in
-    let times : AllByRecursion (λ (b : Box). IsSound tfdt b.payload) (of_kind (codes "tfdt") boxes) =
-    elim c.match-heads-2.branch [
-      | in-Some-time+in-Ok-read_time w ↦
-          let found = sym c.in_ok-heads.ensures.time ∙ ap (λ (o : Option BoxView). only_list (option_map box_seen o)) w.in-Some-time.is in
-          only_sound (codes "tfdt") tfdt _ boxes found (time_sound _ (rw w.payload-in-Some-time.ensures at w.in-Ok-read_time.ensures.readable))
-      | in-None w ↦ none_sound (codes "tfdt") tfdt boxes (sym c.in_ok-heads.ensures.time ∙ ap (λ (o : Option BoxView). only_list (option_map box_seen o)) w.in-None.is)
-    ] in
+    let there = sym c.in_ok-heads.ensures.time ∙ ap (λ (o : Option BoxView). only_list (option_map box_seen o)) c.in-Some-time.is in
     let head = sym c.in_ok-heads.ensures.head ∙ ap (λ (o : Option BoxView). only_list (option_map box_seen o)) c.in-Some.is in
     let same : to_z w128 (of_z w128 c.base_of.result) ≡ c.base_of.result = search rules in
     let before : to_z w128 (of_z w128 c.args.before) ≡ c.args.before = search rules in
-    let o = opened c.args.moof c.in-Some-find_track.k c.args.before c.base_of.result c.args.tracks.now _ c.index-tracks-k.result (box_seen c.args.traf) (box_seen c.in-Some.tfhd) c.in-Ok.head c.in-Some-trex.trex c.what_is_inherited.result c.in_ok-heads.ensures.holds head
-    (rw c.payload.ensures at c.in-Ok.ensures.head)
+    let o = opened c.args.moof c.in-Some-find_track.k c.args.before c.base_of.result c.args.tracks.now _ c.index-tracks-k.result (box_seen c.args.traf) (box_seen c.in-Some.tfhd) c.in_ok-head.head c.in-Some-trex.trex c.what_is_inherited.result c.in_ok-heads.ensures.holds head
+    c.in_ok-head.ensures.head
     c.in-Some-find_track.ensures.inside c.in-Some-find_track.ensures.there.found c.index-tracks-k.is c.in-Some-trex.is (rw before at c.base_of.ensures.is) c.what_is_inherited.ensures in
-    time_refused c.args.file_len c.args.moof c.args.room.now c.in_ok-passed.passed.count c.args.before c.base_of.result c.args.tracks.now (box_seen c.args.traf) (box_seen c.in-Some.tfhd) (box_seen c.in-Some-time-2.tfdt)
-    c.index-tracks-k.result c.in-Some-trex.trex c.what_is_inherited.result c.match-heads-2.time _ o (rw same at c.in_ok-passed.ensures.runs.sound) c.in_ok-passed.ensures.runs.count c.in_ok-keys.ensures.sound there times time (sym c.if-is_late.ensures) c.fault-then-is_late.ensures
+    time_refused c.args.file_len c.args.moof c.args.room.now c.in_ok-passed.passed.count c.args.before c.base_of.result c.args.tracks.now (box_seen c.args.traf) (box_seen c.in-Some.tfhd) (box_seen c.in-Some-time.tfdt)
+    c.index-tracks-k.result c.in-Some-trex.trex c.what_is_inherited.result c.in_ok-time.time _ o (rw same at c.in_ok-passed.ensures.runs.sound) c.in_ok-passed.ensures.runs.count c.in_ok-keys.ensures.sound there
+    c.in_ok-time.ensures.sound c.in_ok-time.ensures.time (sym c.if-is_late.ensures) c.fault-then-is_late.ensures

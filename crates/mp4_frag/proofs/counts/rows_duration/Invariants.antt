@@ -1,4 +1,4 @@
-use Rattle.std.proofs.Common.{◌≡◌, ◌+◌, ◌-◌, ◌*◌, ◌^◌, ◌≤◌}
+use Rattle.std.proofs.Common.{◌≡◌, ◌+◌, ◌*◌, ◌^◌, ◌≤◌}
 use Rattle.mp4_frag.specs.words.Durations.{rows_lasting}
 use Rattle.mp4_frag.specs.words.PlacesIn.{IsRowPlace}
 use Rattle.mp4_frag.specs.words.Walks.{rows_here}

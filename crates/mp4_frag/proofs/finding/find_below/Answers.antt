@@ -5,7 +5,7 @@ use Rattle.mp4_frag.proofs.TracksFound.{found_is, none_below, none_higher, none_
 use Rattle.mp4_frag.proofs.finding.find_below.Goals as goal
 
 pub returns-then-other-id-clause-there : goal.returns-then-other-id-clause-there
-returns-then-other-id-clause-there g c =
+returns-then-other-id-clause-there c =
     let few = c.requires.known.inside c.requires.some in
     let last = c.requires.known.last in
     let lt = c.loop-step-test.true in
@@ -17,7 +17,7 @@ returns-then-other-id-clause-there g c =
     record { found = found_is c.args.id k c.args.tracks.now _ c.index-tracks-k.result inside c.index-tracks-k.is same none; first = none }
 
 pub returns-then-other-id-2-clause-none : goal.returns-then-other-id-2-clause-none
-returns-then-other-id-2-clause-none g c e =
+returns-then-other-id-2-clause-none c e =
     let few = c.requires.known.inside c.requires.some in
     let last = c.requires.known.last in
     let lt = c.loop-step-test.true in
@@ -31,7 +31,7 @@ returns-then-other-id-2-clause-none g c e =
     c.loop-step.invariant.0 ∙ none_with c.args.id k (c.args.known.last - c.loop-step.step) c.args.tracks.now _ c.index-tracks-k.result inside next c.index-tracks-k.is other none
 
 pub loop-step-preserved : goal.loop-step-preserved
-loop-step-preserved g c =
+loop-step-preserved c =
     let few = c.requires.known.inside c.requires.some in
     let last = c.requires.known.last in
     let lt = c.loop-step-test.true in
@@ -42,5 +42,4 @@ loop-step-preserved g c =
     let less : c.args.id < c.index-tracks-k.result.id = search rules in
     let next : k ≡ c.args.known.last - (c.loop-step.step + 1) = omega arith in
     let looks = c.loop-step.invariant.1 in
-    let one = c.tick.ensures.one_more in
-    (none_higher c.args.id c.args.known.rising k c.args.tracks.now _ c.index-tracks-k.result c.requires.known.rising fits inside c.index-tracks-k.is less ∙ ap (λ n. find (λ (t : TrackState). t.id == c.args.id) (take n c.args.tracks.now)) next, omega (arith, looks, one))
+    (none_higher c.args.id c.args.known.rising k c.args.tracks.now _ c.index-tracks-k.result c.requires.known.rising fits inside c.index-tracks-k.is less ∙ ap (λ n. find (λ (t : TrackState). t.id == c.args.id) (take n c.args.tracks.now)) next, omega (arith, looks))

@@ -3,7 +3,7 @@ use Rattle.mp4_frag.proofs.TracksFound.{found_is, none_below, none_higher, none_
 use Rattle.mp4_frag.proofs.finding.find_rising.Goals as goal
 
 pub returns-then-last-id-clause-there : goal.returns-then-last-id-clause-there
-returns-then-last-id-clause-there g c =
+returns-then-last-id-clause-there c =
     let few = c.requires.known.inside c.requires.some in
     let last = c.requires.known.last in
     let inside : c.args.known.last < length c.args.tracks.now = omega arith in
@@ -11,8 +11,8 @@ returns-then-last-id-clause-there g c =
     let none = none_below c.args.id c.args.known.rising c.args.known.last c.args.tracks.now _ c.index-tracks-known.result c.requires.known.rising last inside c.index-tracks-known.is (omega (arith, same)) in
     record { found = found_is c.args.id c.args.known.last c.args.tracks.now _ c.index-tracks-known.result inside c.index-tracks-known.is same none; first = none }
 
-pub find_above-requires-clause-none : goal.find_above-requires-clause-none
-find_above-requires-clause-none g c =
+pub find_above-found-requires-clause-none : goal.find_above-found-requires-clause-none
+find_above-found-requires-clause-none c =
     let few = c.requires.known.inside c.requires.some in
     let last = c.requires.known.last in
     let inside : c.args.known.last < length c.args.tracks.now = omega arith in
@@ -21,8 +21,8 @@ find_above-requires-clause-none g c =
     let none = none_below c.args.id c.args.known.rising c.args.known.last c.args.tracks.now _ c.index-tracks-known.result c.requires.known.rising last inside c.index-tracks-known.is (omega (arith, less)) in
     none_with c.args.id c.args.known.last (c.args.known.last + 1) c.args.tracks.now _ c.index-tracks-known.result inside refl c.index-tracks-known.is other none
 
-pub find_below-requires-clause-none : goal.find_below-requires-clause-none
-find_below-requires-clause-none g c =
+pub find_below-found-requires-clause-none : goal.find_below-found-requires-clause-none
+find_below-found-requires-clause-none c =
     let few = c.requires.known.inside c.requires.some in
     let last = c.requires.known.last in
     let inside : c.args.known.last < length c.args.tracks.now = omega arith in

@@ -1,6 +1,6 @@
 use Rattle.std.proofs.Common.{◌≡◌, drop, [], sym, arith}
 use Rattle.mp4_tables.proofs.RowLists.{runs_all}
-use Rattle.mp4_frag.specs.words.Reading.{group_runs}
+use Rattle.mp4_tables.specs.words.GroupBoxes.{group_runs}
 use Rattle.mp4_frag.proofs.groups.count_samples.Goals as goal
 
 pub returns-clause-indexes : goal.returns-clause-indexes

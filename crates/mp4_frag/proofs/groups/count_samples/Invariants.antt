@@ -2,7 +2,7 @@ use Rattle.std.proofs.Common.{◌≡◌, ◌+◌, ◌*◌, ◌^◌, ◌≤◌, d
 use Rattle.std.specs.List.{list_all}
 use Rattle.mp4_tables.specs.format.Groups.{max_index}
 use Rattle.mp4_tables.specs.format.Repeated.{total}
-use Rattle.mp4_frag.specs.words.Reading.{group_runs}
+use Rattle.mp4_tables.specs.words.GroupBoxes.{group_runs}
 use Rattle.mp4_frag.proofs.groups.count_samples.Given as goal
 
 -- those passed are indexes; what was counted and what is left make the whole

@@ -5,7 +5,7 @@ use Rattle.mp4_frag.proofs.Comings.{first_coming}
 use Rattle.mp4_frag.proofs.walk.first_place.Goals as goal
 
 pub returns-clause-place : goal.returns-clause-place
-returns-clause-place c payload = record { next = search rules; traf = search rules; rows = search rules; indexes = c.no_indexes.ensures.place payload; work = omega (arith, work_first payload) }
+returns-clause-place c payload = record { next = search rules; traf = search rules; rows = search rules; indexes = c.no_indexes.ensures.places payload; work = omega (arith, work_first payload) }
 
 pub returns-clause-coming : goal.returns-clause-coming
 returns-clause-coming c payload w =

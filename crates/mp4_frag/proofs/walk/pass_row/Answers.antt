@@ -19,9 +19,9 @@ returns-clause-coming c w =
     let wide : to_z w128 (of_z w128 c.from-2.result) ≡ c.from-2.result = search rules in
     let size = wide ∙ c.from-2.ensures ∙ ap pos c.unwrap_or-size.ensures in
     let at = kept ∙ c.saturating_add-place-2.ensures ∙ (λ i. held (before i +ℤ size i)) in
-    let indexes = c.pass_indexes.ensures.next in
+    let indexes = c.pass.ensures.next in
     let next : c.next_row-place.result ≡ record place.run { row = place.run.row + row_room place.run.bits; left = place.run.left - 1; first_flags = None } = c.next_row-place.ensures in
-    sample_passed payload w place (record place { dts = c.saturating_add-place.result; at = to_z w128 (of_z w128 c.saturating_add-place-2.result); run = c.next_row-place.result; passed = c.saturating_add-place-3.result; indexes = c.pass_indexes.new.places }) row
+    sample_passed payload w place (record place { dts = c.saturating_add-place.result; at = to_z w128 (of_z w128 c.saturating_add-place-2.result); run = c.next_row-place.result; passed = c.saturating_add-place-3.result; indexes = c.pass.new.self }) row
     (c.row_here-row.ensures ∙ ap (λ (r : RowPlace). row_signed c.row_here-row.result ∷ rows_here payload r) (sym next))
     (ap (λ (r : RowPlace). r.first_flags) next)
     (λ i. record { dts = dts i; at = at i; is_own = place.is_own; base = place.base; inherited = place.inherited; indexes = indexes i })

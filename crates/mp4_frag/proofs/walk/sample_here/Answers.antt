@@ -16,6 +16,6 @@ returns c w =
     let flags = c.flags_of.ensures in
     let there = c.file_place.ensures ∙ ap first_byte at in
     let size = c.unwrap_or-3.ensures in
-    let groups = c.indexes_here.ensures payload c.requires.place.indexes in
+    let groups = c.here.ensures payload place.index_rows c.requires.place.indexes in
     sample_first payload w place (row_signed c.row_here-row.result) _ _ c.row_here-row.ensures
     (λ i. record { dts = place.dts; duration = duration i; cto = cto i; flags = flags i; description = place.inherited.description; at = there i; size = size i; groups = groups i })
