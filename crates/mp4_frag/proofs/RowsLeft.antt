@@ -8,7 +8,7 @@ use Rattle.mp4_frag.specs.format.Fragments.{RunRow, run_rows, run_row_of}
 use Rattle.mp4_frag.specs.words.Reading.{row_values}
 use Rattle.mp4_frag.specs.words.Walks.{rows_here, row_signed, end_held, held}
 use Rattle.mp4_frag.specs.declared.places.RowPlace.{RowPlace}
-use Rattle.mp4_frag.specs.declared.rows.Row.{Row}
+use Rattle.mp4_frag.specs.declared.run_rows.Row.{Row}
 
 rows_next : (n bits place : ℕ) (payload : List ℕ) → 0 < n
     → run_rows n 1 bits (drop place payload) ≡ run_row_of 1 (column_values bits sample_columns (drop place payload)) ∷ run_rows (n - 1) 1 bits (drop (place + row_room bits) payload)

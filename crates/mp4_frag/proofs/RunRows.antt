@@ -10,7 +10,7 @@ use Rattle.mp4_frag.specs.words.ColumnsRead.{row_room}
 use Rattle.mp4_frag.specs.format.Fragments.{RunRow}
 use Rattle.mp4_frag.specs.words.Reading.{row_values}
 use Rattle.mp4_frag.specs.words.Passing.{rows_left, offsets_left, bytes_left, row_seen, IsNear, IsNearer, within_from, end_from, lasting, filling}
-use Rattle.mp4_frag.specs.declared.rows.Row.{Row}
+use Rattle.mp4_frag.specs.declared.run_rows.Row.{Row}
 use Rattle.mp4_frag.specs.declared.runs.Run.{Run}
 
 -- one less is left behind a row

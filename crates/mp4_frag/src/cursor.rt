@@ -1,10 +1,10 @@
 //! A walk over the samples of a track in a `moof`, one by one.
 use crate::counts::{Counts, leave_run};
+use crate::moof_samples::{first_place, pass_sample, sample_here};
 use crate::passed_trafs::settle;
 use crate::places::FragPlace;
 use crate::state::TrackState;
 use crate::view::FragView;
-use crate::walk::{first_place, pass_sample, sample_here};
 use mp4_tables::{Keys, SampleAt, Samples};
 use std::marker::Model;
 

@@ -8,7 +8,7 @@ ghost use Rattle.mp4_frag.specs.words.Walks.{Reached, rows_here, row_signed, end
 
 use crate::lying::Lying;
 use crate::places::{FragPlace, RowPlace};
-use crate::rows::{Row, row_at, row_size};
+use crate::run_rows::{Row, row_at, row_size};
 use crate::runs::read_run;
 
 /// The next row of a run.

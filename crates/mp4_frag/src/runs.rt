@@ -8,7 +8,7 @@ ghost use Rattle.mp4_frag.specs.words.ColumnsRead.{rows_from};
 ghost use Rattle.mp4_frag.specs.words.Reading.{IsRun};
 
 use crate::columns::{behind, has, number_at};
-use crate::rows::{FIRST_FLAGS, ROW_FLAGS, row_size};
+use crate::run_rows::{FIRST_FLAGS, ROW_FLAGS, row_size};
 use mp4_boxes::{Kind, front, u32_at};
 
 const DATA_OFFSET: u32 = 0x00_0001;

@@ -6,7 +6,7 @@ ghost use Rattle.mp4_frag.specs.format.FragmentSamples.{run_start as run_start_b
 ghost use Rattle.mp4_frag.specs.words.Passing.{IsNear, IsNearer, IsUpTo, HasRows, AreSamplesOf, AreBounded, IsPassed, IsPassedWith, IsRunFault, rows_left, offsets_left, row_seen, within_from};
 
 use crate::heads::Inherited;
-use crate::rows::{Row, row_at, row_size};
+use crate::run_rows::{Row, row_at, row_size};
 use crate::runs::{Run, read_run};
 use mp4_boxes::{Kind, Steps};
 use std::sync::ledger::Ledger;

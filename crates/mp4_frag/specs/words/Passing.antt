@@ -11,7 +11,7 @@ use Rattle.mp4_boxes.specs.declared.fault.Kind.{Kind}
 use Rattle.mp4_boxes.specs.declared.fault.Kind.TheVariants.{TooManySamples, SampleOutsideFile}
 use Rattle.mp4_tables.specs.format.Tables.{composition_offset}
 use Rattle.mp4_tables.specs.declared.keys.Keys.{Keys}
-use Rattle.mp4_frag.specs.declared.rows.Row.{Row}
+use Rattle.mp4_frag.specs.declared.run_rows.Row.{Row}
 use Rattle.mp4_frag.specs.declared.runs.Run.{Run}
 use Rattle.mp4_frag.specs.declared.sample_runs.Judged.{Judged}
 use Rattle.mp4_frag.specs.declared.sample_runs.Passed.{Passed}

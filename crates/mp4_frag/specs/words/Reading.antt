@@ -6,7 +6,7 @@ use Rattle.mp4_frag.specs.words.ColumnsRead.{row_room, rows_from}
 use Rattle.mp4_frag.specs.format.Fragments.{column, TrackFragment}
 use Rattle.mp4_frag.specs.declared.heads.Inherited.{Inherited}
 use Rattle.mp4_frag.specs.declared.trex.Trex.{Trex}
-use Rattle.mp4_frag.specs.declared.rows.Row.{Row}
+use Rattle.mp4_frag.specs.declared.run_rows.Row.{Row}
 use Rattle.mp4_frag.specs.declared.runs.Run.{Run}
 use Rattle.mp4_frag.specs.declared.heads.Head.{Head}
 

@@ -6,7 +6,7 @@ use Rattle.mp4_frag.specs.words.Walks.{row_signed, rows_here, held, capped, comi
 use Rattle.mp4_frag.specs.declared.places.RowPlace.{RowPlace}
 use Rattle.mp4_frag.proofs.Comings.{sample_first, sample_passed}
 use Rattle.mp4_frag.proofs.TimesKept.{time_kept}
-use Rattle.mp4_frag.proofs.walk.pass_row.Goals as goal
+use Rattle.mp4_frag.proofs.moof_samples.pass_row.Goals as goal
 
 pub returns-clause-coming : goal.returns-clause-coming
 returns-clause-coming c w =

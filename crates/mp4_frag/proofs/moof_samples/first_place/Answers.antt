@@ -2,7 +2,7 @@ use Rattle.std.proofs.Common.{◌≡◌, ◌∙◌, refl, false, to_z, of_z, rul
 use Rattle.std.specs.Int.{w128}
 use Rattle.mp4_frag.proofs.WalkWork.{work_first}
 use Rattle.mp4_frag.proofs.Comings.{first_coming}
-use Rattle.mp4_frag.proofs.walk.first_place.Goals as goal
+use Rattle.mp4_frag.proofs.moof_samples.first_place.Goals as goal
 
 pub returns-clause-place : goal.returns-clause-place
 returns-clause-place c payload = record { next = search rules; traf = search rules; rows = search rules; indexes = c.no_indexes.ensures.places payload; work = omega (arith, work_first payload) }

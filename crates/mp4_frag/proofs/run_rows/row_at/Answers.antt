@@ -1,5 +1,5 @@
 use Rattle.mp4_frag.proofs.ColumnValues.{row_read}
-use Rattle.mp4_frag.proofs.rows.row_at.Goals as goal
+use Rattle.mp4_frag.proofs.run_rows.row_at.Goals as goal
 
 pub returns : goal.returns
 returns c =

@@ -3,7 +3,7 @@ use Rattle.std.specs.Prelude.{ℤ, pos, unwrap_or, Option}
 use Rattle.std.specs.Int.{w32, w128}
 use Rattle.mp4_frag.specs.words.Walks.{row_signed, first_byte}
 use Rattle.mp4_frag.proofs.Comings.{sample_first}
-use Rattle.mp4_frag.proofs.walk.sample_here.Goals as goal
+use Rattle.mp4_frag.proofs.moof_samples.sample_here.Goals as goal
 
 pub returns : goal.returns
 returns c w =
