@@ -46,15 +46,16 @@ RUNS = 'mp4_frag/src/runs.rt'
 RUN_CHECKS = 'mp4_frag/src/sample_runs.rt'
 TRAF = 'mp4_frag/src/check.rt'
 FRAGMENT_GROUPS = 'mp4_frag/src/groups.rt'
+GROUP_BOXES = 'mp4_tables/src/group_boxes.rt'
 OUTLINE = 'mp4_present/src/outline.rt'
 LIMITS = 'mp4_present/src/limit_checks.rt'
 STORE = 'mp4_store/src/file.rt'
 DREF = 'mp4_head/src/information.rt'
 STSD = 'mp4_head/src/sample_table.rt'
 TOO_MANY = ('if count > limits.room {\n'
-            '            return Err(fault_at(leaf, Kind::TooManySamples));\n        }\n')
+            '            return Err(leaf.fault(Kind::TooManySamples));\n        }\n')
 SHORT_SIZES = ('if payload.len() - 12 < 4 * count as usize {\n'
-               '            return Err(fault_at(leaf, Kind::ShortBox));\n        }\n')
+               '            return Err(leaf.fault(Kind::ShortBox));\n        }\n')
 COUNTS = 'if !counts_are(stbl.payload(), rows, n, steps) {'
 
 
@@ -158,30 +159,28 @@ def of_sizes():
         Edit('mp4_present/src/tables_pass.rt', 'self.room -= tables.count();',
              'self.room -= tables.count() / 100;', 'TooManySamples over all tables together',
              'too-many-samples-in-the-second-track'),
-        unless(TABLE_LEAVES, 'payload[0] > last', 'BadVersion of tables',
+        unless(TABLE_LEAVES, 'version > last', 'BadVersion of tables',
                *[f'narrow-{name}' for name in ('stsz-of-version-1', 'stts-of-version-1',
                                                'ctts-of-version-2', 'stco-of-version-1',
                                                'stsc-of-version-1', 'stss-of-version-1',
-                                               'sdtp-of-version-1', 'sgpd-of-version-2',
-                                               'sbgp-of-version-2')]),
+                                               'sdtp-of-version-1', 'sgpd-of-version-2')]),
         unless(TABLE_LEAVES, 'payload.len() - fields < width as usize * count as usize',
                'ShortBox of the rows of tables',
                *[f'narrow-{name}-with-a-short-row' for name in ('stts', 'ctts', 'stco', 'stsc',
-                                                                'stss',
-                                                                'sbgp')]),
+                                                                'stss')]),
         unless(TABLE_LEAVES, 'payload.len() < fields', 'ShortBox of the count of tables',
                *[f'narrow-{name}-with-short-fields' for name in ('stts', 'ctts', 'stco', 'stsc',
-                                                                 'stss', 'sbgp')]),
+                                                                 'stss')]),
     ]
 
 
 def of_tables():
     order = refuses('!are_ordered(payload, rows, 0 < chunks.rows.count, steps)',
-                    'fault_at(leaf, Kind::BadOrder)')
+                    'leaf.fault(Kind::BadOrder)')
     counts = refuses('!chunk_counts_are(payload, rows, chunks, n, steps)',
-                     'fault_at(leaf, Kind::CountMismatch)')
+                     'leaf.fault(Kind::CountMismatch)')
     described = refuses('!are_described(payload, rows, chunks, limits.descriptions, steps)',
-                        'fault_at(leaf, Kind::BadDescriptionIndex)')
+                        'leaf.fault(Kind::BadDescriptionIndex)')
     places = '    check_places(stbl, limits, sizes, chunks, chunk_rows, steps)?;\n'
     sync = '    let sync = read_sync(stbl, limits, n, steps)?;\n'
     durations = '    let durations = read_durations(stbl, limits, n, steps)?;\n'
@@ -223,11 +222,11 @@ def of_tables():
 
 
 def of_groups():
-    twice = refuses('groups.keys.names(key)', 'fault_at(leaf, Kind::DuplicateBox)')
-    fifth = refuses('groups.keys.count() == 4', 'fault_at(leaf, Kind::BadValue)')
-    index = refuses('!are_below(payload, rows, 0x1_0000, steps)', 'fault_at(leaf, Kind::BadValue)')
+    twice = refuses('groups.keys.names(key)', 'leaf.fault(Kind::DuplicateBox)')
+    fifth = refuses('groups.keys.count() == 4', 'leaf.fault(Kind::BadValue)')
+    index = refuses('!are_below(payload, rows, 0x1_0000, steps)', 'leaf.fault(Kind::BadValue)')
     counts = refuses('!counts_are_within(payload, rows, n, steps)',
-                     'fault_at(leaf, Kind::CountMismatch)')
+                     'leaf.fault(Kind::CountMismatch)')
     return [
         *of_groupings(GROUPS, 'stbl', '', 'five-keys-in-stbl',
                       ('groups.keys.names(key)', 'groups.keys.count() == 4',
@@ -248,13 +247,16 @@ def of_groups():
              'DuplicateBox before BadValue in sbgp', 'key-twice-before-its-index'),
         swapped(GROUPS, index, '', counts, 'BadValue before CountMismatch in sbgp',
                 'narrow-group-index-65536-in-sbgp-and-groups-count-too-many-in-sbgp'),
-        unless(FRAGMENT_GROUPS, 'version > 1', 'BadVersion of sbgp in traf',
-               'narrow-fragment-sbgp-of-version-2'),
+        unless(GROUP_BOXES, 'version > 1', 'BadVersion of sbgp',
+               'narrow-sbgp-of-version-2', 'narrow-fragment-sbgp-of-version-2'),
+        unless(GROUP_BOXES, 'payload.len() < rows', 'ShortBox of the count of sbgp',
+               'narrow-sbgp-with-short-fields', 'narrow-fragment-sbgp-with-short-fields'),
         *of_groupings(FRAGMENT_GROUPS, 'traf', 'fragment-', 'fifth-key-in-traf',
-                      ('named.has(j)', 'count >= 4', 'index > MAX_INDEX',
+                      ('named[j as usize]', 'count >= 4', 'index > MAX_INDEX',
                        'total > u64::from(n)')),
-        unless(FRAGMENT_GROUPS, 'payload.len() < rows + 8 * count as usize',
-               'ShortBox of the rows of sbgp in traf', 'narrow-fragment-sbgp-with-a-short-row'),
+        unless(GROUP_BOXES, 'payload.len() < rows + 8 * count as usize',
+               'ShortBox of the rows of sbgp',
+               'narrow-sbgp-with-a-short-row', 'narrow-fragment-sbgp-with-a-short-row'),
     ]
 
 
@@ -276,10 +278,10 @@ def of_fragments():
     flags = refuses('bits & KNOWN != bits', 'Kind::BadFlags')
     short = refuses('payload.len() < head_size(bits)', 'Kind::ShortBox')
     described = refuses('lacks_description(state, judged.inherited.description, passed)',
-                        'fault(Kind::BadDescriptionIndex, tfhd)')
+                        'tfhd.fault(Kind::BadDescriptionIndex)')
     groups = '    let keys = check_groups(traf, passed.count, state.keys, steps)?;\n'
     gap = ('    if let Some(tfdt) = heads.time {\n        if is_late(state, time, passed) {\n'
-           '            return Err(fault(Kind::Gap, tfdt));\n        }\n    }\n')
+           '            return Err(tfdt.fault(Kind::Gap));\n        }\n    }\n')
     return [
         unless(HEADS, 'version != 0', 'BadVersion of tfhd', 'narrow-tfhd-of-version-1',
                'narrow-second-tfhd-of-version-1'),
@@ -312,7 +314,8 @@ def of_fragments():
              '        return Err(Kind::OffsetTooLarge);\n    }\n    if samples.are_within {',
              'SampleOutsideFile before OffsetTooLarge in trun',
              'late-sample-outside-before-a-large-offset'),
-        Edit(TRAF, 'if tracks[k].id == id {', 'if tracks[k].id == id || id > 2 {',
+        Edit(TRAF, 'find_track(tracks, head.id, known, looks) else {',
+             'find_track(tracks, head.id, known, looks).or(Some(0)) else {',
              'UnknownTrack: no track', 'narrow-tfhd-of-no-track', 'unknown-track-without-runs'),
         Edit('mp4_present/src/tables_pass.rt', '        if trex.id == id {',
              '        if trex.id == id || trex.id > 2 {', 'UnknownTrack: no trex',
@@ -352,7 +355,8 @@ def of_the_file():
         Edit(STORE, 'self.file.read_exact_at(out, at)',
              'self.file.read_exact_at(out, at % 0x1_0000_0000)', 'places of more than 32 bits',
              'movie-behind-five-gigabytes', 'fragments-behind-five-gigabytes'),
-        Edit(STORE, 'file.metadata()?.len();', 'file.metadata()?.len() % 0x1_0000_0000_0000;',
+        Edit(STORE, 'file.seek(SeekFrom::End(0))?;',
+             'file.seek(SeekFrom::End(0))? % 0x1_0000_0000_0000;',
              'lengths of 2^48 and more', 'movie-behind-2-to-the-48'),
     ]
 
