@@ -58,6 +58,8 @@ fn count_in<S: Samples>(samples: &mut S, end: &End, description: u32, most: u32)
 }
 
 // Counts the samples in hand that go into a piece with this end and description, at most so many.
+// Its loop stays apart from that of its one caller, which would make it slower (`bench/samples`).
+#[inline(never)]
 fn count_hand(
     walk: &Walk,
     leaving: Leaving,

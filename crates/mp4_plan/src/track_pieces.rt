@@ -154,7 +154,9 @@ fn stop_at(planner: &Planner, next: Option<SampleAt>) -> Stop
     }
 }
 
-// Feeds the samples in hand to a planner, at most 2^24 for a piece.
+// Feeds the samples in hand to a planner, at most 2^24 for a piece. Its loop stays apart from that
+// of its one caller, as that of `count_hand` does.
+#[inline(never)]
 fn feed_hand(planner: &mut Planner, walk: &Walk, leaving: Leaving, movie: &Movie) -> FedHand
     requires walk { IsWalkOf movie.now walk.now }
     requires few { count_of planner.old.gathered ≤ MOST_SAMPLES }
@@ -178,7 +180,9 @@ fn feed_hand(planner: &mut Planner, walk: &Walk, leaving: Leaving, movie: &Movie
     }
 }
 
-// Feeds the samples in hand to a planner and notes them, at most as many as there are rows.
+// Feeds the samples in hand to a planner and notes them, at most as many as there are rows. Its loop
+// stays apart, too.
+#[inline(never)]
 fn note_hand(
     planner: &mut Planner,
     walk: &Walk,
