@@ -180,8 +180,8 @@ fn feed_hand(planner: &mut Planner, walk: &Walk, leaving: Leaving, movie: &Movie
     }
 }
 
-// Feeds the samples in hand to a planner and notes them, at most as many as there are rows. Its loop
-// stays apart, too.
+// Feeds the samples in hand to a planner and notes them, at most as many as there are rows. Its
+// loop stays apart, too.
 #[inline(never)]
 fn note_hand(
     planner: &mut Planner,
