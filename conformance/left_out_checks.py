@@ -164,11 +164,11 @@ def of_sizes():
                                                'ctts-of-version-2', 'stco-of-version-1',
                                                'stsc-of-version-1', 'stss-of-version-1',
                                                'sdtp-of-version-1', 'sgpd-of-version-2')]),
-        unless(TABLE_LEAVES, 'payload.len() - fields < width as usize * count as usize',
+        unless(TABLE_LEAVES, 'payload.len() - 8 < width as usize * count as usize',
                'ShortBox of the rows of tables',
                *[f'narrow-{name}-with-a-short-row' for name in ('stts', 'ctts', 'stco', 'stsc',
                                                                 'stss')]),
-        unless(TABLE_LEAVES, 'payload.len() < fields', 'ShortBox of the count of tables',
+        unless(TABLE_LEAVES, 'payload.len() < 8', 'ShortBox of the count of tables',
                *[f'narrow-{name}-with-short-fields' for name in ('stts', 'ctts', 'stco', 'stsc',
                                                                  'stss')]),
     ]

@@ -1,6 +1,6 @@
 -- What stands in a tiled container is one of its boxes, and the only one of a type that stands once.
 use Rattle.std.proofs.Common.{◌≡◌, ℕ, ◌+◌, ◌<◌, ◌≤◌, Bool, true, false, List, [], ◌∷◌, ◌++◌, length, drop, refl, sym, ap, subst, ◌∙◌, length-append, append_assoc, arith, inl, inr}
-use Rattle.std.specs.Prelude.{◌⊎◌, find, unwrap_or, bytes_eq}
+use Rattle.std.specs.Prelude.{find, unwrap_or, bytes_eq}
 use Rattle.std.proofs.lemmas.Bool.{cases_lt}
 use Rattle.mp4_boxes.specs.format.Box.{Box, Extent, to_end_of_file, to_end_of_box, counted, may_be_open, sizes, LieEndToEnd, Container, IsFull, IsCounted, Tiles, StandsAfter}
 use Rattle.mp4_boxes.specs.format.Children.{count_among}
@@ -8,10 +8,6 @@ use Rattle.mp4_boxes.proofs.Tiling.{front_by_length, lies_behind, first_fits, si
 
 one_more : (before more : List Box) (b : Box) → before ++ b ∷ more ≡ (before ++ b ∷ []) ++ more
 one_more before more b = simp append_assoc
-
--- two lists in front of the same bytes: one is a front of the other
-comparable : (is_open : Bool) (at : ℕ) (bytes : List ℕ) (bs cs : List Box) → LieEndToEnd is_open at bytes bs → LieEndToEnd is_open at bytes cs → length bs ≤ length cs → (more : List Box) × (cs ≡ bs ++ more)
-comparable = front_by_length
 
 -- a box of a type counts
 count_one : (kind : List ℕ) (before after : List Box) (b : Box) → bytes_eq kind b.kind ≡ true → 1 ≤ count_among (kind ∷ []) (before ++ b ∷ after)
@@ -37,14 +33,6 @@ pub only_one : (kind : List ℕ) (before after : List Box) (b empty : Box) → b
     → found kind empty (before ++ b ∷ after) ≡ b
 only_one kind [] after b empty e n = rw e refl
 only_one kind (c ∷ before) after b empty e n = found_behind kind c b empty (before ++ b ∷ after) (bytes_eq kind c.kind) refl (count_one kind before after b e) n (only_one kind before after b empty e)
-
--- a list of which another is no front is a front of it
-front_either : (is_open : Bool) (at : ℕ) (bytes : List ℕ) (bs cs : List Box) → LieEndToEnd is_open at bytes bs → LieEndToEnd is_open at bytes cs
-    → ((more : List Box) × (cs ≡ bs ++ more)) ⊎ ((more : List Box) × (bs ≡ cs ++ more) × (length cs < length bs))
-front_either is_open at bytes bs cs l m = elim (cases_lt (length cs) (length bs)) [
-  | inl lt ↦ let r = front_by_length is_open at bytes cs bs m l (omega (arith, lt)) in inr (r.0, r.1, lt)
-  | inr le ↦ inl (front_by_length is_open at bytes bs cs l m le)
-]
 
 -- a list that is longer than another in front of the same bytes takes more of them
 longer_takes_more : (is_open : Bool) (at : ℕ) (bytes : List ℕ) (bs cs : List Box) → LieEndToEnd is_open at bytes bs → LieEndToEnd is_open at bytes cs → length cs < length bs → sizes cs < sizes bs

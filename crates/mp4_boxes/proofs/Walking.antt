@@ -138,10 +138,6 @@ moved count at bytes b rest has some is =
       shorter = omega arith;
     }
 
--- a first box can be read
-pub first_readable : (count at : ℕ) (bytes : List ℕ) → HasBoxes count at bytes → 0 < count → IsOk (header_at false bytes)
-first_readable count at bytes has some = let n = next_of count at bytes has some in rw n.readable refl
-
 -- ---- what a walk answers
 
 -- a header that was read is one

@@ -23,18 +23,6 @@ pub record MoofLooked (all left : List Box) (tracks first looks : ℕ) : Type 0 
   pub some : first + trafs ≤ looks
   pub most : looks ≤ first + tracks * trafs
 
-pub looked_none : (all : List Box) (tracks looks : ℕ) → MoofLooked all all tracks looks looks
-looked_none all tracks looks = record { trafs = 0; said = omega arith; boxes = omega arith; some = omega arith; most = omega arith }
-
-pub looked_other : (all left later : List Box) (b : Box) (tracks first looks : ℕ) → MoofLooked all left tracks first looks → left ≡ b ∷ later → bytes_eq b.kind (codes "traf") ≡ false → MoofLooked all later tracks first looks
-looked_other all left later b tracks first looks h e k =
-    let skipped : of_kind (codes "traf") (b ∷ later) ≡ of_kind (codes "traf") later = rw (turned (codes "traf") b.kind ∙ k) refl in
-    let same : how_many left ≡ how_many later = ap how_many e ∙ ap (λ (bs : List Box). length bs) skipped in
-    let longer : length left ≡ suc (length later) = ap (λ (bs : List Box). length bs) e in
-    let said = h.said in
-    let boxes = h.boxes in
-    record { trafs = h.trafs; said = omega (arith, said, same); boxes = omega (arith, boxes, longer); some = h.some; most = h.most }
-
 pub looked_traf : (all left later : List Box) (b : Box) (tracks first looks more : ℕ) → MoofLooked all left tracks first looks → left ≡ b ∷ later → bytes_eq b.kind (codes "traf") ≡ true → looks < more → more ≤ looks + tracks → MoofLooked all later tracks first more
 looked_traf all left later b tracks first looks more h e k one each =
     let kept : of_kind (codes "traf") (b ∷ later) ≡ b ∷ of_kind (codes "traf") later = rw (turned (codes "traf") b.kind ∙ k) refl in

@@ -2,7 +2,7 @@
 use Rattle.std.proofs.Common.{◌≡◌, ℕ, ◌+◌, List, [], ◌∷◌, drop, Bool, true, false, cond, Option, Some, None, refl, sym, ap, ◌∙◌, add-zero, arith}
 use Rattle.std.proofs.lemmas.List.{drop-drop}
 use Rattle.mp4_boxes.specs.format.Bytes.{field, width_of}
-use Rattle.mp4_boxes.specs.format.Layout.{Column, has, present, column_values, sample_columns, trun_columns, tfhd_columns}
+use Rattle.mp4_boxes.specs.format.Layout.{Column, has, present, column_values, sample_columns, tfhd_columns}
 use Rattle.mp4_boxes.proofs.OfBytes.{field_dropped}
 use Rattle.mp4_frag.specs.words.ColumnsRead.{taken, number_if, row_room, rows_from, head_room}
 
@@ -68,15 +68,6 @@ row_read bits p q r s bytes a b c d t u v w ea eb ec ed eq er es et eu ev ew =
     (value_more bits (column 512 4) (column 1024 4 ∷ column 2048 4 ∷ []) q r bytes b u (v ∷ w ∷ []) eb er eu
     (value_more bits (column 1024 4) (column 2048 4 ∷ []) r s bytes c v (w ∷ []) ec es ev
     (value_more bits (column 2048 4) [] s (s + taken d 4) bytes d w [] ed refl ew refl)))
-
--- the values in front of the rows of a `trun`
-pub trun_read : (bits q : ℕ) (bytes : List ℕ) (a b : Bool) (t u : Option ℕ)
-    → a ≡ has bits 1 → b ≡ has bits 4 → q ≡ 8 + taken a 4
-    → t ≡ number_if a bytes 8 4 → u ≡ number_if b bytes q 4
-    → t ∷ u ∷ [] ≡ column_values bits trun_columns (drop 8 bytes)
-trun_read bits q bytes a b t u ea eb eq et eu =
-    value_more bits (column 1 4) (column 4 4 ∷ []) 8 q bytes a t (u ∷ []) ea eq et
-    (value_more bits (column 4 4) [] q (q + taken b 4) bytes b u [] eb refl eu refl)
 
 -- the values of a `tfhd`
 pub tfhd_read : (bits q r s o : ℕ) (bytes : List ℕ) (a b c d e : Bool) (t u v w x : Option ℕ)

@@ -6,7 +6,7 @@ use Rattle.std.proofs.lemmas.Bool.Decides.{nat_tests}
 use Rattle.mp4_boxes.specs.format.Box.{Box}
 use Rattle.mp4_tables.specs.declared.sample.SampleAt.{SampleAt}
 use Rattle.mp4_frag.specs.format.Fragments.{RunRow}
-use Rattle.mp4_frag.specs.words.Walks.{Walk, Reached, part_of, boxes_in, boxes_between, boxes_coming, reached, rows_here, rows_coming, run_coming, runs_coming, trafs_coming, traf_coming, before_traf, with_leaf, with_leaves, with_head, with_group, coming, sample_of, behind_row, walk_of, at_first}
+use Rattle.mp4_frag.specs.words.Walks.{Walk, Reached, part_of, boxes_in, boxes_between, boxes_coming, reached, rows_here, rows_coming, run_coming, runs_coming, trafs_coming, traf_coming, before_traf, with_leaf, with_leaves, with_group, coming, sample_of, behind_row, walk_of, at_first}
 use Rattle.mp4_frag.specs.declared.places.FragPlace.{FragPlace}
 use Rattle.mp4_frag.specs.declared.state.TrackState.{TrackState}
 use Rattle.mp4_tables.specs.words.Keys.{keys_seen}
@@ -87,19 +87,6 @@ yes b x y e = rw e refl
 
 no : (b : Bool) (x y : Reached) → b ≡ false → y ≡ cond b x y
 no b x y e = rw e refl
-
--- its `tfhd`
-pub leaf_head : (payload : List ℕ) (w : Walk) (s headed : Reached) (at end inside behind : ℕ) (kind : List ℕ) → boxes_between payload at end ≡ box_at_place payload kind at inside behind ∷ boxes_between payload behind end
-    → bytes_eq kind (codes "tfhd") ≡ true → headed ≡ with_head w s (part_of payload inside behind) → with_leaves w headed (boxes_between payload behind end) ≡ with_leaves w s (boxes_between payload at end)
-leaf_head payload w s headed at end inside behind kind e k h =
-    leaf_is payload w s headed at end inside behind kind e (h ∙ yes (bytes_eq (codes "tfhd") kind) _ _ (turned (codes "tfhd") kind ∙ k))
-
-pub leaf_group : (payload : List ℕ) (w : Walk) (s : Reached) (lists : List (List ℕ)) (at end inside behind : ℕ) (kind : List ℕ) → boxes_between payload at end ≡ box_at_place payload kind at inside behind ∷ boxes_between payload behind end
-    → bytes_eq kind (codes "tfhd") ≡ false → bytes_eq kind (codes "sbgp") ≡ true → lists ≡ with_group w.keys s.indexes (part_of payload inside behind)
-    → with_leaves w (record s { indexes = lists }) (boxes_between payload behind end) ≡ with_leaves w s (boxes_between payload at end)
-leaf_group payload w s lists at end inside behind kind e k g h =
-    leaf_is payload w s (record s { indexes = lists }) at end inside behind kind e
-    (ap (λ (l : List (List ℕ)). record s { indexes = l }) h ∙ yes (bytes_eq (codes "sbgp") kind) _ s (turned (codes "sbgp") kind ∙ g) ∙ no (bytes_eq (codes "tfhd") kind) _ _ (turned (codes "tfhd") kind ∙ k))
 
 pub leaf_other : (payload : List ℕ) (w : Walk) (s : Reached) (at end inside behind : ℕ) (kind : List ℕ) → boxes_between payload at end ≡ box_at_place payload kind at inside behind ∷ boxes_between payload behind end
     → bytes_eq kind (codes "tfhd") ≡ false → bytes_eq kind (codes "sbgp") ≡ false → with_leaves w s (boxes_between payload behind end) ≡ with_leaves w s (boxes_between payload at end)

@@ -34,12 +34,6 @@ no_more : (v : Bool) (f : Box → ℕ) (b : Box) (boxes : List Box) → sum_of f
 no_more true f b boxes = omega arith
 no_more false f b boxes = omega arith
 
--- what is left of them falls from box to box
-sum_less : (kind : List ℕ) (f : Box → ℕ) (left later : List Box) (b : Box) → left ≡ b ∷ later → sum_of f (of_kind kind later) ≤ sum_of f (of_kind kind left)
-sum_less kind f left later b e =
-    let all = ap (λ boxes. sum_of f (of_kind kind boxes)) e in
-    omega (arith, all, no_more (bytes_eq kind b.kind) f b (of_kind kind later))
-
 kept : (kind : List ℕ) (b : Box) (boxes : List Box) → bytes_eq b.kind kind ≡ true → of_kind kind (b ∷ boxes) ≡ b ∷ of_kind kind boxes
 kept kind b boxes e = rw (turned kind b.kind ∙ e) refl
 
@@ -60,15 +54,6 @@ runs_said (b ∷ runs) = let others = runs_said runs in omega (arith, others)
 pub record RunsCost (all left : List Box) (first steps count : ℕ) : Type 0 where
   pub most : steps + length left ≤ first + count + length all
   pub said : steps + runs_among left ≤ first + count + runs_among all
-
-pub runs_cost_none : (all : List Box) (steps : ℕ) → RunsCost all all steps steps 0
-runs_cost_none all steps = record { most = omega arith; said = omega arith }
-
-pub runs_cost_other : (all left later : List Box) (b : Box) (first steps count : ℕ) → RunsCost all left first steps count → left ≡ b ∷ later → RunsCost all later first steps count
-runs_cost_other all left later b first steps count h e =
-    let most = h.most in
-    let said = h.said in
-    record { most = omega (arith, most, one_longer left later b e); said = omega (arith, said, sum_less (codes "trun") (λ (c : Box). 1) left later b e) }
 
 pub runs_cost_run : (all left later : List Box) (b : Box) (first steps more count longer : ℕ) → RunsCost all left first steps count → left ≡ b ∷ later → bytes_eq b.kind (codes "trun") ≡ true → more + count ≤ steps + 1 + longer → RunsCost all later first more longer
 runs_cost_run all left later b first steps more count longer h e is_run k =
@@ -126,12 +111,6 @@ pub record GroupsCost (all left : List Box) (first steps : ℕ) : Type 0 where
 pub groups_cost_none : (all : List Box) (steps : ℕ) → GroupsCost all all steps steps
 groups_cost_none all steps = record { most = omega arith; said = omega arith }
 
-pub groups_cost_other : (all left later : List Box) (b : Box) (first steps : ℕ) → GroupsCost all left first steps → left ≡ b ∷ later → GroupsCost all later first steps
-groups_cost_other all left later b first steps h e =
-    let most = h.most in
-    let said = h.said in
-    record { most = omega (arith, most, one_larger left later b e); said = omega (arith, said, sum_less (codes "sbgp") (λ (c : Box). row_count sbgp c.payload) left later b e) }
-
 pub groups_cost_more : (all left later : List Box) (b : Box) (payload : List ℕ) (first steps more : ℕ) → GroupsCost all left first steps → left ≡ b ∷ later → bytes_eq b.kind (codes "sbgp") ≡ true → payload ≡ b.payload
     → more ≤ steps + row_count sbgp payload → 8 * more ≤ 8 * steps + length payload → GroupsCost all later first more
 groups_cost_more all left later b payload first steps more h e is_group p k l =
@@ -148,9 +127,6 @@ groups_cost_said all left boxes first steps h same =
     let said = h.said in
     omega (arith, said, ap rows_among same, rows_said (of_kind (codes "sbgp") boxes))
 
-pub groups_cost_ended : (all left boxes : List Box) (kind : List ℕ) (base : ℕ) (payload : List ℕ) (first steps : ℕ) → GroupsCost all left first steps → all ≡ boxes → Tiles (bytes_container kind base payload) boxes → 8 * steps ≤ 8 * first + length payload
-groups_cost_ended all left boxes kind base payload first steps h same t = let most = h.most in omega (arith, most, sizes_fit false base payload boxes t.front.0, ap sizes same)
-
 -- ---- the `traf`s of a `moof`
 
 abbrev pub trafs_among : List Box → ℕ
@@ -164,15 +140,6 @@ trafs_said (b ∷ trafs) = ap (λ n. traf_rows (traf_in b) + n) (trafs_said traf
 pub record MoofCost (all left : List Box) (first whole steps room : ℕ) : Type 0 where
   pub most : 8 * steps + 8 * room + (8 * length left + 3 * sizes left) ≤ 8 * first + 8 * whole + (8 * length all + 3 * sizes all)
   pub said : steps + room + trafs_among left ≤ first + whole + trafs_among all
-
-pub moof_cost_none : (all : List Box) (steps room : ℕ) → MoofCost all all steps room steps room
-moof_cost_none all steps room = record { most = omega arith; said = omega arith }
-
-pub moof_cost_other : (all left later : List Box) (b : Box) (first whole steps room : ℕ) → MoofCost all left first whole steps room → left ≡ b ∷ later → MoofCost all later first whole steps room
-moof_cost_other all left later b first whole steps room h e =
-    let most = h.most in
-    let said = h.said in
-    record { most = omega (arith, most, one_larger left later b e, one_longer left later b e); said = omega (arith, said, sum_less (codes "traf") (λ (c : Box). traf_rows (traf_in c)) left later b e) }
 
 pub moof_cost_traf : (all left later : List Box) (b : Box) (first whole steps more room less : ℕ) → MoofCost all left first whole steps room → left ≡ b ∷ later → bytes_eq b.kind (codes "traf") ≡ true
     → more + less + 1 ≤ steps + 1 + room + traf_rows (traf_in b) → 8 * more + 8 * less ≤ 8 * (steps + 1) + 8 * room + 3 * length b.payload → MoofCost all later first whole more less

@@ -145,10 +145,6 @@ split_lasting inherited rows before after e =
     sum_of_mapped (λ (s : SampleAt). s.duration) before ∙ ap (sum_of (λ (n : ℕ). n)) e ∙ sum_joined (λ (n : ℕ). n) (rows_durations inherited rows) (durations_of after)
     ∙ (λ i. sym (sum_of_mapped (λ (row : RunRow). unwrap_or row.duration inherited) rows) i + sym (sum_of_mapped (λ (s : SampleAt). s.duration) after) i)
 
--- a row more of those left
-pub lasting_more : (inherited : ℕ) (rows later : List RunRow) (row : RunRow) → rows ≡ row ∷ later → rows_lasting inherited rows ≡ unwrap_or row.duration inherited + rows_lasting inherited later
-lasting_more inherited rows later row e = ap (rows_lasting inherited) e
-
 -- at least those of the rows left are to come
 pub as_many : (payload : List ℕ) (w : Walk) (p : FragPlace) → p.run.left ≤ length (coming payload w p)
 as_many payload w p =

@@ -5,7 +5,6 @@ use Rattle.std.specs.List.{list_all}
 use Rattle.std.proofs.lemmas.List.{append_assoc, append-nil}
 use Rattle.mp4_boxes.specs.format.Bytes.{rows}
 use Rattle.mp4_boxes.specs.format.Box.{Box}
-use Rattle.mp4_boxes.specs.format.BoxFaults.{fault_of}
 use Rattle.mp4_boxes.specs.format.Children.{of_kind}
 use Rattle.mp4_boxes.specs.declared.fault.Fault.{Fault}
 use Rattle.mp4_boxes.specs.declared.fault.Kind.{Kind}
@@ -88,18 +87,6 @@ other_kept b boxes e = rw (turned (codes "sbgp") b.kind ∙ e) refl
 group_kept : (b : Box) (boxes : List Box) → bytes_eq b.kind (codes "sbgp") ≡ true → groups_of (b ∷ boxes) ≡ b ∷ groups_of boxes
 group_kept b boxes e = rw (turned (codes "sbgp") b.kind ∙ e) refl
 
--- another box
-pub groups_other : (n : ℕ) (first : List GroupKey) (all left later : List Box) (b : Box) (now : List GroupKey) (named : List Bool) → GroupsSeen n first all left now named → left ≡ b ∷ later → bytes_eq b.kind (codes "sbgp") ≡ false → GroupsSeen n first all later now named
-groups_other n first all left later b now named s e k =
-    let same : groups_of left ≡ groups_of later = ap groups_of e ∙ other_kept b later k in
-    record {
-      before = s.before;
-      names = s.names;
-      groupings = s.groupings ∙ ap (λ boxes. s.before ++ groupings_of boxes) same;
-      sound = λ h. s.sound (subst (AreGroupsSound n first s.before) (sym same) h);
-      fails = λ f h. s.fails f (subst (λ boxes. GroupsFail n first s.before boxes f) (sym same) h);
-    }
-
 -- an `sbgp` that is sound
 pub groups_more : (n : ℕ) (first : List GroupKey) (all left later : List Box) (b : Box) (now then_now : List GroupKey) (named then_named : List Bool) → GroupsSeen n first all left now named → left ≡ b ∷ later → bytes_eq b.kind (codes "sbgp") ≡ true
     → ((keys : List GroupKey) (before : List Grouping) → AreNamed keys before now named → IsGroupSound n keys before b.payload)
@@ -115,13 +102,6 @@ groups_more n first all left later b now then_now named then_named s e k is_soun
       sound = λ h. s.sound (subst (AreGroupsSound n first s.before) (sym same) (one, h));
       fails = λ f h. s.fails f (subst (λ boxes. GroupsFail n first s.before boxes f) (sym same) (inr (one, h)));
     }
-
--- one that is not
-pub groups_fault : (n : ℕ) (first : List GroupKey) (all left later : List Box) (b : Box) (now : List GroupKey) (named : List Bool) (kind : Kind) (f : Fault) → GroupsSeen n first all left now named → left ≡ b ∷ later → bytes_eq b.kind (codes "sbgp") ≡ true
-    → ((keys : List GroupKey) (before : List Grouping) → AreNamed keys before now named → IsGroupFault n keys before b.payload kind) → f ≡ fault_of kind b → GroupsFail n first [] (groups_of all) f
-groups_fault n first all left later b now named kind f s e k h m =
-    let same : groups_of left ≡ b ∷ groups_of later = ap groups_of e ∙ group_kept b later k in
-    s.fails f (subst (λ boxes. GroupsFail n first s.before boxes f) (sym same) (inl (kind, m, h first s.before s.names)))
 
 -- behind the last box
 pub groups_sound : (n : ℕ) (first : List GroupKey) (all left boxes : List Box) (now : List GroupKey) (named : List Bool) → GroupsSeen n first all left now named → left ≡ [] → all ≡ boxes → AreGroupsSound n first [] (groups_of boxes)

@@ -8,7 +8,6 @@ use Rattle.mp4_boxes.specs.declared.rule.Rule.{Rule}
 use Rattle.mp4_tables.specs.words.Leaves.{boxes_of}
 use Rattle.mp4_tables.proofs.LeafLists.{boxes_are}
 use Rattle.mp4_frag.specs.words.RunsJudged.{children_of, only_list}
-use Rattle.mp4_frag.proofs.Comings.{turned}
 
 -- the last box, or what came before them
 abbrev pub last_from : Option Box → List Box → Option Box
@@ -18,21 +17,6 @@ last_from o (b ∷ boxes) = last_from (Some b) boxes
 -- of all boxes these are left; the last of a type so far is this one
 pub record LastSeen (kind : List ℕ) (all left : List Box) (last : Option Box) : Type 0 where
   pub same : last_from None (of_kind kind all) ≡ last_from last (of_kind kind left)
-
-pub last_none : (kind : List ℕ) (all : List Box) → LastSeen kind all all None
-last_none kind all = record { same = refl }
-
--- a box of another type
-pub last_other : (kind : List ℕ) (all left later : List Box) (b : Box) (last : Option Box) → LastSeen kind all left last → left ≡ b ∷ later → bytes_eq b.kind kind ≡ false → LastSeen kind all later last
-last_other kind all left later b last s e k =
-    let kept : of_kind kind left ≡ of_kind kind later = ap (of_kind kind) e ∙ (rw (turned kind b.kind ∙ k) refl) in
-    record { same = s.same ∙ ap (last_from last) kept }
-
--- one of the type
-pub last_this : (kind : List ℕ) (all left later : List Box) (b : Box) (last : Option Box) → LastSeen kind all left last → left ≡ b ∷ later → bytes_eq b.kind kind ≡ true → LastSeen kind all later (Some b)
-last_this kind all left later b last s e k =
-    let kept : of_kind kind left ≡ b ∷ of_kind kind later = ap (of_kind kind) e ∙ (rw (turned kind b.kind ∙ k) refl) in
-    record { same = s.same ∙ ap (last_from last) kept }
 
 count_by : (b : Box) (kept : List Box) (n : ℕ) (v : Bool) → length kept ≡ n → length (cond v (b ∷ kept) kept) ≡ cond (v || false) 1 0 + n
 count_by b kept n true e = omega arith

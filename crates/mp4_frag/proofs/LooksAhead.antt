@@ -80,10 +80,6 @@ look_traf payload track from at boxes steps inside behind kind e lt k n h =
       steps = (let one = looks_one boxes all (boxes_between payload behind (length payload)) b there in let some : cond {A = ℕ} (bytes_eq (codes "traf") kind) 1 0 ≡ 1 = ap (λ v. cond {A = ℕ} v 1 0) yes in omega (arith, h.steps, one, some));
     })
 
--- no box was passed yet
-pub look_first : (payload : List ℕ) (track from : ℕ) → LooksOn payload track from from 0 0
-look_first payload track from = record { rest = refl; others = tt; steps = refl }
-
 -- so many looks at most
 pub looks_fit : (payload : List ℕ) (track from at boxes steps : ℕ) → LooksOn payload track from at boxes steps → steps ≤ boxes
 looks_fit payload track from at boxes steps h = let few = few_looks boxes (boxes_between payload from (length payload)) in omega (arith, h.steps, few)
@@ -96,9 +92,6 @@ pub record OthersLeft (payload : List ℕ) (w : Walk) (before here : Reached) (f
   pub rest : drop left (boxes_between payload at (length payload)) ≡ drop boxes (boxes_between payload from (length payload))
   pub work : n + over_work left (boxes_between payload at (length payload)) ≤ first + over_work boxes (boxes_between payload from (length payload))
   pub coming : trafs_coming w here (boxes_between payload at (length payload)) ≡ trafs_coming w before (boxes_between payload from (length payload))
-
-pub others_first : (payload : List ℕ) (w : Walk) (s : Reached) (from boxes n : ℕ) → AreOthers w.track boxes (boxes_between payload from (length payload)) → OthersLeft payload w s s from boxes from boxes n n
-others_first payload w s from boxes n o = record { others = o; rest = refl; work = omega arith; coming = refl }
 
 -- a box is passed, and what it said of the samples to come
 others_pass : (payload : List ℕ) (w : Walk) (before here there : Reached) (from boxes at left first n more : ℕ) (b : Box) (later : List Box) → 0 < left → boxes_between payload at (length payload) ≡ b ∷ later
@@ -159,9 +152,6 @@ pub others_done : (payload : List ℕ) (w : Walk) (before here : Reached) (from 
     → trafs_coming w here (drop boxes (boxes_between payload from (length payload))) ≡ trafs_coming w before (boxes_between payload from (length payload))
 others_done payload w before here from boxes at left first n h (inl e) = ap (trafs_coming w here) (sym h.rest ∙ ap (λ m. drop m (boxes_between payload at (length payload))) e) ∙ h.coming
 others_done payload w before here from boxes at left first n h (inr e) = ap (trafs_coming w here) (sym h.rest ∙ ap (drop left) e ∙ none_left left ∙ sym e) ∙ h.coming
-
-pub others_cost : (payload : List ℕ) (w : Walk) (before here : Reached) (from boxes at left first n : ℕ) → OthersLeft payload w before here from boxes at left first n → n ≤ first + over_work boxes (boxes_between payload from (length payload))
-others_cost payload w before here from boxes at left first n h = let work = h.work in omega (arith, work)
 
 -- ---- what looks cost, and what going over all costs beside them
 

@@ -7,7 +7,7 @@ use Rattle.mp4_boxes.specs.format.Layout.{tfhd, knows_version, knows_flags, need
 use Rattle.mp4_boxes.specs.declared.fault.Kind.{Kind}
 use Rattle.mp4_boxes.specs.declared.fault.Kind.TheVariants as kinds
 use Rattle.mp4_frag.specs.format.Fragments.{TrackFragment}
-use Rattle.mp4_frag.specs.words.Looks.{names, has_base, is_named, is_based}
+use Rattle.mp4_frag.specs.words.Looks.{names, is_named, is_based}
 use Rattle.mp4_frag.specs.words.Reading.{IsHead}
 use Rattle.mp4_frag.specs.words.Walks.{can_read, head_of, part_of, boxes_between}
 use Rattle.mp4_frag.specs.declared.heads.Head.{Head}
@@ -54,20 +54,6 @@ read_names track kind payload head e h =
 pub none_named : (payload : List ℕ) (track : ℕ) (at end inside behind : ℕ) (kind : List ℕ) → boxes_between payload at end ≡ box_at_place payload kind at inside behind ∷ boxes_between payload behind end
     → names track kind (part_of payload inside behind) ≡ false → is_named track (boxes_between payload at end) ≡ is_named track (boxes_between payload behind end)
 none_named payload track at end inside behind kind e n = rw (e, n) refl
-
-pub none_based : (payload : List ℕ) (track : ℕ) (at end inside behind : ℕ) (kind : List ℕ) → boxes_between payload at end ≡ box_at_place payload kind at inside behind ∷ boxes_between payload behind end
-    → names track kind (part_of payload inside behind) ≡ false → is_based track (boxes_between payload at end) ≡ is_based track (boxes_between payload behind end)
-none_based payload track at end inside behind kind e n = rw (e, n) refl
-
--- one that names it
-pub one_named : (payload : List ℕ) (track : ℕ) (at end inside behind : ℕ) (kind : List ℕ) → boxes_between payload at end ≡ box_at_place payload kind at inside behind ∷ boxes_between payload behind end
-    → names track kind (part_of payload inside behind) ≡ true → is_named track (boxes_between payload at end) ≡ true
-one_named payload track at end inside behind kind e n = rw (e, n) refl
-
-pub one_based : (payload : List ℕ) (track : ℕ) (at end inside behind : ℕ) (kind : List ℕ) (head : TrackFragment) → boxes_between payload at end ≡ box_at_place payload kind at inside behind ∷ boxes_between payload behind end
-    → names track kind (part_of payload inside behind) ≡ true → head ≡ head_of (part_of payload inside behind)
-    → is_based track (boxes_between payload at end) ≡ (has_base head || is_based track (boxes_between payload behind end))
-one_based payload track at end inside behind kind head e n h = rw (e, n, h) refl
 
 -- behind the last box
 or_nothing : (v : Bool) → v ≡ (v || false)

@@ -6,9 +6,8 @@ use Rattle.mp4_boxes.specs.format.Box.{Box, box_container}
 use Rattle.mp4_boxes.specs.format.Children.{of_kind, Holds}
 use Rattle.mp4_boxes.specs.format.Places.{ruled, AreSound}
 use Rattle.mp4_boxes.specs.declared.rule.Rule.TheVariants as rules
-use Rattle.mp4_boxes.proofs.Each.{each_weaker}
-use Rattle.mp4_frag.specs.format.Fragments.{FragmentTree, AreTrafs, fragment_of, track_fragment_of}
-use Rattle.mp4_frag.specs.format.FragmentSamples.{Part, parts_of, parts_after, trex_for, no_trex}
+use Rattle.mp4_frag.specs.format.Fragments.{AreTrafs, track_fragment_of}
+use Rattle.mp4_frag.specs.format.FragmentSamples.{Part, parts_after, trex_for, no_trex}
 use Rattle.mp4_frag.specs.words.Judged.{is_known_among, IsPlacedWithin, IsGrouped, IsSoundMoof, IsTrafSound, IsMovedOn, AreMovedOn, end_with, tree_of}
 use Rattle.mp4_frag.specs.words.Passing.{IsUpTo}
 use Rattle.mp4_frag.specs.words.RunsJudged.{children_of}
@@ -19,7 +18,6 @@ use Rattle.mp4_frag.specs.declared.state.TrackState.{TrackState}
 use Rattle.mp4_frag.specs.declared.trex.Trex.{Trex}
 use Rattle.mp4_frag.proofs.Comings.{turned}
 use Rattle.mp4_frag.proofs.Bounds.{up_to_more}
-use Rattle.mp4_frag.proofs.MoofTied.{boxes_few}
 use Rattle.mp4_frag.proofs.OwnTrexes.{Agree}
 
 -- each `traf` is sound, behind data that ends at a place
@@ -36,23 +34,11 @@ pub record MoofSeen (L moof : ℕ) (first : List TrackState) (all left : List Bo
   pub passed : count + length left ≤ length all
   pub same : (id : ℕ) → trex_among tracks id ≡ trex_among first id
 
-pub moof_none : (L moof : ℕ) (first : List TrackState) (all : List Box) → moof < 2 ^ 64 → MoofSeen L moof first all all (pos moof) first
-moof_none L moof first all short = record { sound = λ h. h; count = 0; near = omega arith; passed = omega arith; same = λ id. refl }
-
 other_kept : (b : Box) (boxes : List Box) → bytes_eq b.kind (codes "traf") ≡ false → of_kind (codes "traf") (b ∷ boxes) ≡ of_kind (codes "traf") boxes
 other_kept b boxes e = rw (turned (codes "traf") b.kind ∙ e) refl
 
 traf_kept : (b : Box) (boxes : List Box) → bytes_eq b.kind (codes "traf") ≡ true → of_kind (codes "traf") (b ∷ boxes) ≡ b ∷ of_kind (codes "traf") boxes
 traf_kept b boxes e = rw (turned (codes "traf") b.kind ∙ e) refl
-
--- another box
-pub moof_other : (L moof : ℕ) (first : List TrackState) (all left later : List Box) (b : Box) (before : ℤ) (tracks : List TrackState) → MoofSeen L moof first all left before tracks → left ≡ b ∷ later → bytes_eq b.kind (codes "traf") ≡ false
-    → MoofSeen L moof first all later before tracks
-moof_other L moof first all left later b before tracks s e k =
-    let kept : of_kind (codes "traf") left ≡ of_kind (codes "traf") later = ap (of_kind (codes "traf")) e ∙ other_kept b later k in
-    let long : length left ≡ suc (length later) = ap (λ (bs : List Box). length bs) e in
-    let passed = s.passed in
-    record { sound = λ h. s.sound (subst (AreTrafsSound L moof before first) (sym kept) h); count = s.count; near = s.near; passed = omega arith; same = s.same }
 
 -- the same `traf` by what was known first
 known_first : (L moof : ℕ) (before ends : ℤ) (first tracks : List TrackState) (boxes : List Box) → ((id : ℕ) → trex_among tracks id ≡ trex_among first id) → IsTrafSound L moof before tracks boxes ends → IsTrafSound L moof before first boxes ends
@@ -74,15 +60,6 @@ moof_traf L moof first all left later b before ends tracks now s e k holds t bou
       passed = omega arith;
       same = λ id. same id ∙ s.same id;
     }
-
--- the data of a `traf` begins near the file
-pub moof_near : (L moof : ℕ) (first : List TrackState) (all left : List Box) (before : ℤ) (tracks : List TrackState) (b : Box) → MoofSeen L moof first all left before tracks → Holds rules.MovieFragment (box_container b) all → length b.payload < 2 ^ 64 → IsUpTo (2 ^ 98) before
-moof_near L moof first all left before tracks b s h short =
-    let tiles = h.tiles in
-    let many = boxes_few false (b.offset + b.header) b.payload all tiles.front.0 in
-    let full = tiles.full in
-    let passed = s.passed in
-    up_to_more (2 ^ 64 + 2 ^ 31 * s.count) (2 ^ 98) before (omega arith) s.near
 
 -- behind the last box
 pub moof_ended : (L moof : ℕ) (first : List TrackState) (all left boxes : List Box) (before : ℤ) (tracks : List TrackState) → MoofSeen L moof first all left before tracks → left ≡ [] → all ≡ boxes → AreTrafsSound L moof (pos moof) first (of_kind (codes "traf") boxes)
@@ -150,15 +127,6 @@ pub record MovesSeen (L moof : ℕ) (first : List TrackState) (whole : ℕ) (all
   pub moves : (new : List TrackState) (less : ℕ) → AreMovedOn moof before (of_kind (codes "traf") left) tracks new room less → AreMovedOn moof (pos moof) (of_kind (codes "traf") all) first new whole less
   pub fails : (f : Fault) → TrafsFail L moof before tracks room (of_kind (codes "traf") left) f → TrafsFail L moof (pos moof) first whole (of_kind (codes "traf") all) f
 
-pub moves_none : (L moof : ℕ) (first : List TrackState) (whole : ℕ) (all : List Box) → MovesSeen L moof first whole all all (pos moof) first whole
-moves_none L moof first whole all = record { moves = λ new less h. h; fails = λ f h. h }
-
-pub moves_other : (L moof : ℕ) (first : List TrackState) (whole : ℕ) (all left later : List Box) (b : Box) (before : ℤ) (tracks : List TrackState) (room : ℕ) → MovesSeen L moof first whole all left before tracks room → left ≡ b ∷ later → bytes_eq b.kind (codes "traf") ≡ false
-    → MovesSeen L moof first whole all later before tracks room
-moves_other L moof first whole all left later b before tracks room s e k =
-    let kept : of_kind (codes "traf") left ≡ of_kind (codes "traf") later = ap (of_kind (codes "traf")) e ∙ other_kept b later k in
-    record { moves = λ new less h. s.moves new less (subst (λ (bs : List Box). AreMovedOn moof before bs tracks new room less) (sym kept) h); fails = λ f h. s.fails f (subst (λ (bs : List Box). TrafsFail L moof before tracks room bs f) (sym kept) h) }
-
 some_trex : (x y : Trex) → ◌≡◌ {A = Option Trex} (Some x) (Some y) → x ≡ y
 some_trex x y e = cc
 
@@ -188,14 +156,3 @@ pub moves_ended : (L moof : ℕ) (first : List TrackState) (whole : ℕ) (all le
     → AreMovedOn moof (pos moof) (of_kind (codes "traf") boxes) first tracks whole room
 moves_ended L moof first whole all left boxes before tracks room s e f =
     subst (λ (bs : List Box). AreMovedOn moof (pos moof) (of_kind (codes "traf") bs) first tracks whole room) f (s.moves tracks room (subst (λ (bs : List Box). AreMovedOn moof before (of_kind (codes "traf") bs) tracks tracks room room) (sym e) (refl, refl)))
-
--- A `moof` that is sound by some tracks is sound by others of the same IDs and defaults, as they are later.
-pub sound_alike : (L : ℕ) (trexes : List Trex) (tracks now : List TrackState) (t : FragmentTree) → ((id : ℕ) → trex_among now id ≡ trex_among tracks id) → IsSoundMoof L trexes tracks t → IsSoundMoof L trexes now t
-sound_alike L trexes tracks now t same s = record {
-  short = s.short;
-  tree = s.tree;
-  leaves = s.leaves;
-  known = each_weaker (λ (part : Part). IsTrue (is_known_among tracks part)) (λ (part : Part). IsTrue (is_known_among now part)) (λ part h. ap is_some (same part.id) ∙ h) (parts_of trexes (fragment_of t)) s.known;
-  places = s.places;
-  groups = s.groups;
-}

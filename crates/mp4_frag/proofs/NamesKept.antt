@@ -4,7 +4,7 @@ use Rattle.std.specs.List.{list_any, position_from}
 use Rattle.std.proofs.lemmas.List.{map-append}
 use Rattle.std.proofs.lemmas.List.Folds.{list_any-append}
 use Rattle.std.proofs.lemmas.Bool.Decides.{nat_tests}
-use Rattle.mp4_tables.specs.format.Groups.{GroupKey, Grouping, one_of_key, few_keys, keeps, same_key, keys_with, keys_after, max_keys}
+use Rattle.mp4_tables.specs.format.Groups.{GroupKey, Grouping, one_of_key, keeps, same_key, keys_with, keys_after, max_keys}
 use Rattle.mp4_tables.specs.words.Keys.{key_place}
 use Rattle.mp4_tables.proofs.KeyLists.{not_named_yet, named_before}
 use Rattle.mp4_tables.proofs.SampleLists.{same_both}
@@ -144,15 +144,6 @@ name_found first now before named g j a e h inside =
     missing_by : (key : GroupKey) → key_place key now ≡ None → (v : Bool) → same_key key g.key ≡ v → list_any (λ (h : Grouping). same_key key h.key) (before ++ g ∷ []) ≡ false
     missing_by key f true k = absurd (none_some j (sym f ∙ place_alike key g.key 0 now k ∙ e))
     missing_by key f false k = no_same before g key k ∙ a.missing key f
-
--- it is the fifth of the track
-pub name_fifth : (n : ℕ) (first now : List GroupKey) (before : List Grouping) (named : List Bool) (g : Grouping) → AreNamed first before now named → key_place g.key now ≡ None → max_keys ≤ length now → keeps few_keys n first before g ≡ false
-name_fifth n first now before named g a e h =
-    let few = a.few in
-    let not_there : list_any (same_key g.key) (keys_after first before) ≡ false = ap (list_any (same_key g.key)) (sym a.keys_now) ∙ not_named_yet g.key now e in
-    let full : length now ≡ max_keys = omega arith in
-    let four : length (keys_after first before) ≡ 4 = ap (λ (ks : List GroupKey). length ks) (sym a.keys_now) ∙ full in
-    rw (not_there, four) refl
 
 -- its key is new to the track
 pub name_new : (first now : List GroupKey) (before : List Grouping) (named : List Bool) (g : Grouping) → AreNamed first before now named → key_place g.key now ≡ None → length now < max_keys → length now < length named

@@ -69,11 +69,6 @@ lasting_step duration row rows later e = rw e refl
 pub filling_step : (size : ℕ) (row : RunRow) (rows later : List RunRow) → rows ≡ row ∷ later → filling size rows ≡ unwrap_or row.size size + filling size later
 filling_step size row rows later e = rw e refl
 
--- one of them does not lie in the file
-pub not_within : (length size : ℕ) (at : ℤ) (row : RunRow) (rows later : List RunRow) → rows ≡ row ∷ later → lies_within length at (unwrap_or row.size size) ≡ false
-    → within_from length size at rows ≡ false
-not_within length size at row rows later e lies = rw (e, lies) refl
-
 pub large_step : (n : Option ℕ) (ns later : List (Option ℕ)) → ns ≡ n ∷ later → too_large ns ≡ (too_large (n ∷ []) || too_large later)
 large_step n ns later e = rw e (large_more n later)
 

@@ -1,16 +1,14 @@
 -- The runs of a `traf`, passed one by one.
-use Rattle.std.proofs.Common.{◌≡◌, ℕ, ◌+◌, ◌-◌, ◌≤◌, true, false, List, [], ◌∷◌, inl, inr, refl, sym, ap, subst, ◌∙◌, arith}
+use Rattle.std.proofs.Common.{◌≡◌, ℕ, ◌+◌, ◌-◌, ◌≤◌, true, false, List, [], ◌∷◌, inr, refl, sym, ap, subst, ◌∙◌, arith}
 use Rattle.std.specs.Prelude.{ℤ, codes, bytes_eq}
 use Rattle.mp4_boxes.specs.format.Box.{Box, Tiles, box_container, bytes_container}
 use Rattle.mp4_tables.specs.words.Leaves.{boxes_of}
 use Rattle.mp4_tables.proofs.LeafLists.{boxes_are}
-use Rattle.mp4_boxes.specs.format.BoxFaults.{fault_of}
 use Rattle.mp4_boxes.specs.format.Children.{of_kind}
 use Rattle.mp4_boxes.specs.format.Layout.{trun, row_count}
 use Rattle.mp4_boxes.specs.declared.fault.Fault.{Fault}
-use Rattle.mp4_boxes.specs.declared.fault.Kind.{Kind}
 use Rattle.mp4_frag.specs.format.Fragments.{run_of}
-use Rattle.mp4_frag.specs.words.Passing.{lasting, filling, IsRunFault, IsRunPassed}
+use Rattle.mp4_frag.specs.words.Passing.{lasting, filling, IsRunPassed}
 use Rattle.mp4_frag.specs.words.RunsJudged.{children_of, run_ends, IsRunSound, AreRunsSound, all_end, runs_total, runs_lasting, runs_filling, RunsFail}
 use Rattle.mp4_frag.specs.declared.heads.Inherited.{Inherited}
 use Rattle.mp4_frag.proofs.Comings.{turned}
@@ -26,10 +24,6 @@ pub record RunsSeen (file_length : ℕ) (inherited : Inherited) (base : ℤ) (al
   pub lasting : runs_lasting inherited (runs_of all) ≡ lasts + runs_lasting inherited (runs_of left)
   pub filling : runs_filling inherited (runs_of all) ≡ fills + runs_filling inherited (runs_of left)
   pub fails : (f : Fault) → RunsFail file_length inherited base at room (runs_of left) f → RunsFail file_length inherited base base whole (runs_of all) f
-
--- none was passed
-pub seen_none : (L : ℕ) (inherited : Inherited) (base : ℤ) (all : List Box) (room : ℕ) → RunsSeen L inherited base all all room room base 0 0 0
-seen_none L inherited base all room = record { sound = λ h. h; end = refl; total = omega arith; lasting = omega arith; filling = omega arith; fails = λ f h. h }
 
 other_kept : (b : Box) (boxes : List Box) → bytes_eq b.kind (codes "trun") ≡ false → runs_of (b ∷ boxes) ≡ runs_of boxes
 other_kept b boxes e = rw (turned (codes "trun") b.kind ∙ e) refl
@@ -87,14 +81,6 @@ seen_run L inherited base all left later b whole room less at to count more last
 
     behind : (f : Fault) → to ≡ run_ends inherited base at b.payload → less ≡ room - row_count trun b.payload → RunsFail L inherited base to less (runs_of later) f → RunsFail L inherited base (run_ends inherited base at b.payload) (room - row_count trun b.payload) (runs_of later) f
     behind f ends room_left h = subst (λ m. RunsFail L inherited base (run_ends inherited base at b.payload) m (runs_of later) f) room_left (subst (λ (place : ℤ). RunsFail L inherited base place less (runs_of later) f) ends h)
-
--- one that does not
-pub seen_fault : (L : ℕ) (inherited : Inherited) (base : ℤ) (all left later : List Box) (b : Box) (whole room : ℕ) (at : ℤ) (count lasts fills : ℕ) (kind : Kind) (f : Fault) → RunsSeen L inherited base all left whole room at count lasts fills → left ≡ b ∷ later
-    → bytes_eq b.kind (codes "trun") ≡ true
-    → IsRunFault L inherited base at room b.payload kind → f ≡ fault_of kind b → RunsFail L inherited base base whole (runs_of all) f
-seen_fault L inherited base all left later b whole room at count lasts fills kind f s e k h n =
-    let same : runs_of left ≡ b ∷ runs_of later = ap runs_of e ∙ run_kept b later k in
-    s.fails f (subst (λ runs. RunsFail L inherited base at room runs f) (sym same) (inl (kind, n, h)))
 
 -- ---- the boxes in a box
 

@@ -66,13 +66,6 @@ over_other payload s at end inside behind kind e k =
     let no = turned (codes "trun") kind ∙ k in
     sym (ap (over_runs s) e ∙ ap (λ v. over_runs (cond v (over_run s (part_of payload inside behind)) s) (boxes_between payload behind end)) no)
 
-pub over_one : (payload : List ℕ) (s t : Reached) (at end inside behind : ℕ) (kind : List ℕ) → boxes_between payload at end ≡ box_at_place payload kind at inside behind ∷ boxes_between payload behind end
-    → bytes_eq kind (codes "trun") ≡ true → t ≡ over_run s (part_of payload inside behind) → over_runs t (boxes_between payload behind end) ≡ over_runs s (boxes_between payload at end)
-over_one payload s t at end inside behind kind e k o =
-    let yes = turned (codes "trun") kind ∙ k in
-    ap (λ u. over_runs u (boxes_between payload behind end)) o
-    ∙ sym (ap (over_runs s) e ∙ ap (λ v. over_runs (cond v (over_run s (part_of payload inside behind)) s) (boxes_between payload behind end)) yes)
-
 pub over_done : (payload : List ℕ) (s : Reached) (at end : ℕ) → boxes_between payload at end ≡ [] → s ≡ over_runs s (boxes_between payload at end)
 over_done payload s at end e = rw e refl
 

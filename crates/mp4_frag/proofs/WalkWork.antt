@@ -2,10 +2,8 @@
 use Rattle.std.proofs.Common.{◌≡◌, ℕ, suc, ◌+◌, ◌-◌, ◌<◌, ◌≤◌, true, cond, List, [], ◌∷◌, length, refl, sym, ap, ◌∙◌, arith}
 use Rattle.std.specs.Prelude.{codes, bytes_eq}
 use Rattle.mp4_boxes.specs.format.Box.{Box}
-use Rattle.mp4_boxes.specs.format.Layout.{trun, sbgp, row_count}
-use Rattle.mp4_frag.specs.words.PlacesIn.{run_work, runs_work, group_work, groups_work, traf_work, trafs_work, moof_work, work_behind}
-use Rattle.mp4_tables.specs.words.GroupBoxes.{IsGroup}
-use Rattle.mp4_tables.specs.declared.group_boxes.Group.{Group}
+use Rattle.mp4_boxes.specs.format.Layout.{trun, row_count}
+use Rattle.mp4_frag.specs.words.PlacesIn.{run_work, runs_work, groups_work, traf_work, trafs_work, moof_work, work_behind}
 use Rattle.mp4_frag.specs.words.Reading.{IsRun}
 use Rattle.mp4_frag.specs.words.Walks.{boxes_in, boxes_between, part_of}
 use Rattle.mp4_frag.specs.declared.runs.Run.{Run}
@@ -66,30 +64,10 @@ run_cost payload run r = ap (λ v. suc (cond v (row_count trun payload) 0)) (rea
 pub own_work : (run passed more rows rest most : ℕ) → run ≡ suc rows → more ≤ passed + 1 → passed + run + rest ≤ most → more + rows + rest ≤ most
 own_work run passed more rows rest most e l h = omega arith
 
--- an `sbgp` that can be read costs a step for each of its rows
-pub group_cost : (payload : List ℕ) (group : Group) → IsGroup payload group → group_work payload ≡ group.count
-group_cost payload group g = ap (λ v. cond v (row_count sbgp payload) 0) (read sbgp payload g.readable) ∙ sym g.count
-
 -- what the `sbgp`s left of a `traf` cost falls from box to box
 pub groups_fall : (payload : List ℕ) (at inside behind end : ℕ) (kind : List ℕ) → boxes_between payload at end ≡ box_here payload at inside behind kind ∷ boxes_between payload behind end → groups_work (boxes_between payload behind end) ≤ groups_work (boxes_between payload at end)
 groups_fall payload at inside behind end kind e = let all = ap groups_work e in omega (arith, all)
 
-one_group : (b : Box) (boxes : List Box) → bytes_eq b.kind (codes "sbgp") ≡ true → groups_work (b ∷ boxes) ≡ group_work b.payload + groups_work boxes
-one_group b boxes e = rw (turned (codes "sbgp") b.kind ∙ e) refl
-
--- by what one of them costs
-pub groups_pass : (payload : List ℕ) (passed more most at inside behind end : ℕ) (kind : List ℕ) → boxes_between payload at end ≡ box_here payload at inside behind kind ∷ boxes_between payload behind end → bytes_eq kind (codes "sbgp") ≡ true
-    → more ≤ passed + group_work (part_of payload inside behind) → passed + groups_work (boxes_between payload at end) ≤ most → more + groups_work (boxes_between payload behind end) ≤ most
-groups_pass payload passed more most at inside behind end kind e k l h =
-    let all = ap groups_work e ∙ one_group (box_here payload at inside behind kind) (boxes_between payload behind end) k in
-    omega (arith, all, l, h)
-
 -- so that of its runs
 pub runs_fall : (payload : List ℕ) (at inside behind end : ℕ) (kind : List ℕ) → boxes_between payload at end ≡ box_here payload at inside behind kind ∷ boxes_between payload behind end → runs_work (boxes_between payload behind end) ≤ runs_work (boxes_between payload at end)
 runs_fall payload at inside behind end kind e = let all = ap runs_work e in omega (arith, all)
-
-pub runs_pass : (payload : List ℕ) (passed more most at inside behind end : ℕ) (kind : List ℕ) → boxes_between payload at end ≡ box_here payload at inside behind kind ∷ boxes_between payload behind end → bytes_eq kind (codes "trun") ≡ true
-    → more ≤ passed + run_work (part_of payload inside behind) → passed + runs_work (boxes_between payload at end) ≤ most → more + runs_work (boxes_between payload behind end) ≤ most
-runs_pass payload passed more most at inside behind end kind e k l h =
-    let all = ap runs_work e ∙ one_run (box_here payload at inside behind kind) (boxes_between payload behind end) k in
-    omega (arith, all, l, h)

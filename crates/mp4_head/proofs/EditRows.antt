@@ -1,14 +1,12 @@
 -- The rows of an `elst`, one after the other.
 use Rattle.std.proofs.Common.{◌≡◌, ℕ, zero, suc, ◌+◌, ◌*◌, ◌<◌, ◌≤◌, List, [], ◌∷◌, ◌++◌, length, take, drop, map, refl, sym, ap, subst, ◌∙◌, arith, append_assoc}
 use Rattle.std.specs.Prelude.{slice_index}
-use Rattle.std.proofs.lemmas.Bool.{le-leb}
 use Rattle.std.proofs.lemmas.List.{length-drop, append-nil, map-append}
 use Rattle.mp4_boxes.specs.format.Bytes.{field, numbers, rows, width_of}
-use Rattle.mp4_boxes.specs.format.Layout.{elst, row, row_count, version, time_width, needed, IsSound}
+use Rattle.mp4_boxes.specs.format.Layout.{elst, row, time_width}
 use Rattle.mp4_head.specs.format.Head as heads
 use Rattle.mp4_head.specs.words.Seen.{edit_seen}
 use Rattle.mp4_head.specs.format.Tree.{edit_of}
-use Rattle.mp4_head.specs.words.Leaves.{IsOpen}
 use Rattle.mp4_head.specs.declared.edit_list.Edit.{Edit}
 use Rattle.mp4_head.proofs.Opening.{number_is}
 
@@ -60,12 +58,3 @@ pub rows_all : (all : List heads.Edit) (v width left : ℕ) (edits : List Edit) 
 rows_all all v width left edits rest r none =
     let whole : map edit_seen edits ++ [] ≡ all = subst (λ (n : ℕ). map edit_seen edits ++ edits_in v n rest ≡ all) none r.whole in
     sym (append-nil (map edit_seen edits)) ∙ whole
-
--- an `elst` with room for its rows is sound
-pub edit_list_sound : (payload : List ℕ) (width count : ℕ) → IsOpen 1 8 0 payload width → count ≡ row_count elst payload → 8 + count * (2 * width + 4) ≤ length payload → IsSound elst payload
-edit_list_sound payload width count o n room =
-    let v = version payload in
-    let size = row_size v width o.width_is in
-    let rows_room : 8 + row_count elst payload * width_of (row elst v) ≤ length payload = rw (size, ← n) room in
-    let r : needed elst payload ≤ length payload = omega arith in
-    record { readable = record { version = le-leb (version payload) 1 o.version_is; flags = refl; room = r }; value = refl; inside = refl; offsets = refl }

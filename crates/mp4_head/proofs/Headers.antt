@@ -1,17 +1,17 @@
 -- What the headers of a movie, a track and its media say, by the places of their numbers.
-use Rattle.std.proofs.Common.{◌≡◌, ℕ, zero, suc, ◌+◌, ◌*◌, ◌<◌, ◌≤◌, false, eqb, List, [], ◌∷◌, length, take, refl, sym, ap, ◌∙◌, arith, lit<, lit≤}
+use Rattle.std.proofs.Common.{◌≡◌, ℕ, zero, suc, ◌+◌, ◌*◌, ◌<◌, false, eqb, List, [], ◌∷◌, length, take, refl, sym, ap, ◌∙◌, arith, lit<}
 use Rattle.std.specs.Prelude.{slice_index, map}
 use Rattle.byteorder.specs.Endian.{twos_complement}
 use Rattle.std.proofs.Math.Dec.{eqb-suc-zero}
 use Rattle.mp4_boxes.specs.format.Bytes.{field, width_of}
 use Rattle.mp4_boxes.specs.format.Box.{Box}
 use Rattle.mp4_boxes.specs.format.BoxFaults.{fault_of}
-use Rattle.mp4_boxes.specs.format.Layout.{mvhd, tkhd, mdhd, hdlr, fields, leaf_fields, version, time_width, needed, IsReadable, IsSound}
+use Rattle.mp4_boxes.specs.format.Layout.{mvhd, tkhd, mdhd, fields, leaf_fields, version, time_width, needed, IsReadable, IsSound}
 use Rattle.mp4_boxes.specs.declared.fault.Fault.{Fault}
-use Rattle.mp4_boxes.specs.declared.fault.Kind.TheVariants.{BadValue, ShortBox}
+use Rattle.mp4_boxes.specs.declared.fault.Kind.TheVariants.{BadValue}
 use Rattle.mp4_head.specs.format.Tree.{matrix_of}
-use Rattle.mp4_head.specs.words.Leaves.{IsFaultOf, FailsToOpen, IsOpen, nine}
-use Rattle.mp4_head.proofs.Opening.{open_readable, open_fails, number_is}
+use Rattle.mp4_head.specs.words.Leaves.{IsFaultOf, IsOpen, nine}
+use Rattle.mp4_head.proofs.Opening.{open_readable, number_is}
 
 -- a number that is not 0
 pub not_zero : (n : ℕ) → ¬ (n ≡ 0) → eqb n 0 ≡ false
@@ -55,9 +55,6 @@ movie_sound payload width timescale o e ne =
 pub movie_fault : (b : Box) (f : Fault) (width timescale : ℕ) → IsOpen 1 88 3 b.payload width → timescale ≡ slice_index (leaf_fields mvhd b.payload) 4 → timescale ≡ 0 → f ≡ fault_of BadValue b → IsFaultOf mvhd b f
 movie_fault b f width timescale o e z named = record { kind = BadValue; fails = (movie_readable b.payload width o, ap (λ (n : ℕ). eqb n 0) (sym e ∙ z)); named = named }
 
-pub movie_unopened : (b : Box) (f : Fault) → FailsToOpen 1 88 3 b f → IsFaultOf mvhd b f
-movie_unopened b f u = let n = movie_needs b.payload in open_fails mvhd 1 88 3 b f refl (lit≤ tt) (omega arith) u
-
 -- ---- `tkhd`
 
 -- a number of a `tkhd` at its place
@@ -95,9 +92,6 @@ track_sound payload width id o e ne =
 pub track_fault : (b : Box) (f : Fault) (width id : ℕ) → IsOpen 1 72 3 b.payload width → id ≡ slice_index (leaf_fields tkhd b.payload) 4 → id ≡ 0 → f ≡ fault_of BadValue b → IsFaultOf tkhd b f
 track_fault b f width id o e z named = record { kind = BadValue; fails = (track_readable b.payload width o, ap (λ (n : ℕ). eqb n 0) (sym e ∙ z)); named = named }
 
-pub track_unopened : (b : Box) (f : Fault) → FailsToOpen 1 72 3 b f → IsFaultOf tkhd b f
-track_unopened b f u = let n = track_needs b.payload in open_fails tkhd 1 72 3 b f refl (lit≤ tt) (omega arith) u
-
 -- ---- `mdhd` and `hdlr`
 
 -- a number of an `mdhd` at its place
@@ -119,19 +113,3 @@ media_sound payload width timescale o e ne =
 -- one without is at fault
 pub media_fault : (b : Box) (f : Fault) (width timescale : ℕ) → IsOpen 1 12 3 b.payload width → timescale ≡ slice_index (leaf_fields mdhd b.payload) 4 → timescale ≡ 0 → f ≡ fault_of BadValue b → IsFaultOf mdhd b f
 media_fault b f width timescale o e z named = record { kind = BadValue; fails = (media_readable b.payload width o, ap (λ (n : ℕ). eqb n 0) (sym e ∙ z)); named = named }
-
-pub media_unopened : (b : Box) (f : Fault) → FailsToOpen 1 12 3 b f → IsFaultOf mdhd b f
-media_unopened b f u = let n = media_needs b.payload in open_fails mdhd 1 12 3 b f refl (lit≤ tt) (omega arith) u
-
-handler_needs : (payload : List ℕ) → needed hdlr payload ≡ 24
-handler_needs payload = omega arith
-
--- a `hdlr` of any version with room is sound
-pub handler_sound : (payload : List ℕ) → 24 ≤ length payload → IsSound hdlr payload
-handler_sound payload room =
-    let n = handler_needs payload in
-    record { readable = record { version = refl; flags = refl; room = omega arith }; value = refl; inside = refl; offsets = refl }
-
--- one without room is at fault
-pub handler_short : (b : Box) (f : Fault) → length b.payload < 24 → f ≡ fault_of ShortBox b → IsFaultOf hdlr b f
-handler_short b f short named = let n = handler_needs b.payload in record { kind = ShortBox; fails = omega arith; named = named }

@@ -10,7 +10,7 @@ use Rattle.mp4_boxes.specs.declared.rule.Rule.TheVariants as kinds
 use Rattle.mp4_boxes.specs.declared.refusal.Refusal.{Refusal}
 use Rattle.mp4_boxes.proofs.Refusing.{holds_only}
 use Rattle.mp4_boxes.proofs.Sound.{same_kind}
-use Rattle.mp4_head.specs.words.Seen.{kept_seen, description_seen}
+use Rattle.mp4_head.specs.words.Seen.{kept_seen}
 use Rattle.mp4_head.specs.declared.kept_boxes.Kept.{Kept}
 use Rattle.mp4_head.specs.declared.sample_table.SampleTable.{SampleTable}
 use Rattle.mp4_head.specs.words.Containers.{SaysDataInformation, SaysTable, SaysInformation, kept_of}
@@ -26,7 +26,7 @@ IsHeader b k = kept_seen k ≡ kept_of b
 
 pub record IsTable (b : Box) (t : BoxView × SampleTable) : Type 0 where
   pub same : box_seen t.0 ≡ b
-  pub says : SaysTable b (map description_seen t.1.descriptions.items) (map (λ p. p.now) t.1.group_descriptions.items)
+  pub says : SaysTable b (map kept_seen t.1.descriptions.items) (map (λ p. p.now) t.1.group_descriptions.items)
 
 -- what was read of the boxes that were passed
 pub record InformationPassed (all left : List Box) (header : Option Kept) (tables : Option (BoxView × SampleTable)) : Type 0 where
@@ -90,7 +90,7 @@ information_other all left later child header tables p e n m a = record {
 
 -- all were
 pub information_all : (b : Box) (all left : List Box) (k : Kept) (t : BoxView × SampleTable) → Holds kinds.MediaInformation (box_container b) all → InformationPassed all left (Some k) (Some t) → left ≡ []
-    → SaysInformation b (kept_seen k) (box_seen t.0) (map description_seen t.1.descriptions.items) (map (λ p. p.now) t.1.group_descriptions.items)
+    → SaysInformation b (kept_seen k) (box_seen t.0) (map kept_seen t.1.descriptions.items) (map (λ p. p.now) t.1.group_descriptions.items)
 information_all b all left k t h p e =
     let same = walk_all all left p.walk e in
     let table = first_read IsTable (codes "stbl") all p.walk.passed t same p.table in
@@ -112,7 +112,7 @@ information_tableless b all left header h p e = first_missing IsTable (codes "st
 
 -- the same by what a walk holds at its end
 pub information_said : (b : Box) (all left : List Box) (header : Option Kept) (tables : Option (BoxView × SampleTable)) (k : Kept) (t : BoxView × SampleTable) → Holds kinds.MediaInformation (box_container b) all → InformationPassed all left header tables → left ≡ []
-    → header ≡ Some k → tables ≡ Some t → SaysInformation b (kept_seen k) (box_seen t.0) (map description_seen t.1.descriptions.items) (map (λ p. p.now) t.1.group_descriptions.items)
+    → header ≡ Some k → tables ≡ Some t → SaysInformation b (kept_seen k) (box_seen t.0) (map kept_seen t.1.descriptions.items) (map (λ p. p.now) t.1.group_descriptions.items)
 information_said b all left header tables k t h p e a c =
     let q = subst (λ (x : Option Kept). InformationPassed all left x tables) a p in
     let r = subst (λ (x : Option (BoxView × SampleTable)). InformationPassed all left (Some k) x) c q in

@@ -13,7 +13,7 @@ use Rattle.mp4_boxes.specs.declared.refusal.Refusal.TheVariants as refusals
 use Rattle.mp4_boxes.specs.declared.fault.Fault.{Fault}
 use Rattle.mp4_boxes.proofs.Refusing.{holds_only}
 use Rattle.mp4_boxes.proofs.Sound.{same_kind}
-use Rattle.mp4_head.specs.words.Seen.{kept_seen, description_seen}
+use Rattle.mp4_head.specs.words.Seen.{kept_seen}
 use Rattle.mp4_head.specs.declared.media_boxes.MediaHeader.{MediaHeader}
 use Rattle.mp4_head.specs.declared.information.Information.{Information}
 use Rattle.mp4_head.specs.words.Containers.{SaysInformation, SaysMediaBoxes}
@@ -30,7 +30,7 @@ abbrev pub IsHandler : Box → Bor (List ℕ) → Type 0
 IsHandler b r = r.now ≡ b.payload
 
 pub record IsInformation (b : Box) (i : Information) : Type 0 where
-  pub says : SaysInformation b (kept_seen i.header) (box_seen i.stbl) (map description_seen i.table.descriptions.items) (map (λ p. p.now) i.table.group_descriptions.items)
+  pub says : SaysInformation b (kept_seen i.header) (box_seen i.stbl) (map kept_seen i.table.descriptions.items) (map (λ p. p.now) i.table.group_descriptions.items)
 
 -- what was read of the boxes that were passed
 pub record MediaPassed (all left : List Box) (header : Option MediaHeader) (handler : Option (Bor (List ℕ))) (languages : List (List ℕ)) (information : Option Information) : Type 0 where
@@ -135,7 +135,7 @@ media_other b all left later child header handler languages information h p e n0
 
 -- all were
 pub media_all : (b : Box) (all left : List Box) (x : MediaHeader) (r : Bor (List ℕ)) (languages : List (List ℕ)) (i : Information) → Holds kinds.Media (box_container b) all → MediaPassed all left (Some x) (Some r) languages (Some i) → left ≡ []
-    → SaysMediaBoxes b x r.now languages (kept_seen i.header) (box_seen i.stbl) (map description_seen i.table.descriptions.items) (map (λ p. p.now) i.table.group_descriptions.items)
+    → SaysMediaBoxes b x r.now languages (kept_seen i.header) (box_seen i.stbl) (map kept_seen i.table.descriptions.items) (map (λ p. p.now) i.table.group_descriptions.items)
 media_all b all left x r languages i h p e =
     let same = walk_all all left p.walk e in
     let inside = first_read IsInformation (codes "minf") all p.walk.passed i same p.inside in
@@ -152,7 +152,7 @@ media_all b all left x r languages i h p e =
 -- the same by what a walk holds at its end
 pub media_said : (b : Box) (all left : List Box) (header : Option MediaHeader) (handler : Option (Bor (List ℕ))) (languages : List (List ℕ)) (information : Option Information) (x : MediaHeader) (r : Bor (List ℕ)) (i : Information) → Holds kinds.Media (box_container b) all
     → MediaPassed all left header handler languages information → left ≡ [] → header ≡ Some x → handler ≡ Some r → information ≡ Some i
-    → SaysMediaBoxes b x r.now languages (kept_seen i.header) (box_seen i.stbl) (map description_seen i.table.descriptions.items) (map (λ p. p.now) i.table.group_descriptions.items)
+    → SaysMediaBoxes b x r.now languages (kept_seen i.header) (box_seen i.stbl) (map kept_seen i.table.descriptions.items) (map (λ p. p.now) i.table.group_descriptions.items)
 media_said b all left header handler languages information x r i h p e a c d =
     let q = subst (λ (o : Option MediaHeader). MediaPassed all left o handler languages information) a p in
     let s = subst (λ (o : Option (Bor (List ℕ))). MediaPassed all left (Some x) o languages information) c q in

@@ -322,7 +322,3 @@ found_inside moov (u ∷ trees) (t ∷ tracks) l z = (subst (LiesIn moov) (sym z
 -- the `stbl` of each track that was found lies in the `moov`
 pub said_inside : (b : Box) (head : MovieHead) → SaysHead b head → AllByRecursion (λ (t : TrackHead). LiesIn b (box_seen t.stbl)) head.tracks.items
 said_inside b head s = subst (λ (m : Box). AllByRecursion (λ (t : TrackHead). LiesIn m (box_seen t.stbl)) head.tracks.items) s.has.is_moov (found_inside s.has.tree.moov s.has.tree.tracks head.tracks.items (stbls_lie s.has.tree s.has.is_tree) s.tracks)
-
--- the boxes of a track's tables are those of its tree
-pub tables_there : (t : TrackTree) (h : TrackHead) → IsTrackTree t → IsFoundIn t h → Holds kinds.SampleTable (box_container (box_seen h.stbl)) t.table
-tables_there t h i f = subst (λ (b : Box). Holds kinds.SampleTable (box_container b) t.table) (sym f.stbl) i.table

@@ -98,12 +98,6 @@ boxed_room out kind payload later at n k e =
 pub record Folded {A B : Type 0} (f : B → A → B) (start : B) (all : List A) (i : ℕ) (b : B) : Type 0 where
   pub whole : fold f b (drop i all) ≡ fold f start all
 
-pub folded_more : {A B : Type 0} (f : B → A → B) (start : B) (all : List A) (i : ℕ) (d : A) (b later : B) → i < length all → later ≡ f b (get_or all i d) → Folded f start all i b → Folded f start all (i + 1) later
-folded_more f start all i d b later lt e p = record { whole = ap (λ x. fold f x (drop (i + 1) all)) e ∙ sym (ap (fold f b) (drop_more all i d lt)) ∙ p.whole }
-
-pub folded_all : {A B : Type 0} (f : B → A → B) (start : B) (all : List A) (i : ℕ) (b : B) → length all ≤ i → Folded f start all i b → b ≡ fold f start all
-folded_all f start all i b end p = sym (ap (fold f b) (drop_all i all end)) ∙ p.whole
-
 -- members that are seen in another way
 pub folded_seen : {A B C : Type 0} (f : B → C → B) (v : A → C) (start : B) (all : List A) → fold (λ b x. f b (v x)) start all ≡ fold f start (map v all)
 folded_seen f v start [] = refl

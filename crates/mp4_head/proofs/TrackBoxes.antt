@@ -18,7 +18,7 @@ use Rattle.mp4_boxes.proofs.Sound.{same_kind}
 use Rattle.mp4_head.specs.format.Head as heads
 use Rattle.mp4_head.specs.format.Head.{names_item_location}
 use Rattle.mp4_head.specs.format.Tree.{first_of, TrackTree, IsTrackTree, IsSoundTrack, HoldsIfThere, edits_of, track_head_of}
-use Rattle.mp4_head.specs.words.Seen.{kept_seen, description_seen}
+use Rattle.mp4_head.specs.words.Seen.{kept_seen}
 use Rattle.mp4_head.specs.declared.track_header.TrackHeader.{TrackHeader}
 use Rattle.mp4_head.specs.declared.media_boxes.MediaParts.{MediaParts}
 use Rattle.mp4_head.specs.words.Containers.{SaysEdits, SaysMediaBoxes, kept_of}
@@ -37,7 +37,7 @@ pub record IsTrackHeader (b : Box) (x : TrackHeader × ℕ) : Type 0 where
   pub offset : x.1 ≡ b.offset
 
 pub record IsMedia (b : Box) (m : MediaParts) : Type 0 where
-  pub says : SaysMediaBoxes b m.header m.handler.now (map (λ p. p.now) m.extended_languages.items) (kept_seen m.information.header) (box_seen m.information.stbl) (map description_seen m.information.table.descriptions.items) (map (λ p. p.now) m.information.table.group_descriptions.items)
+  pub says : SaysMediaBoxes b m.header m.handler.now (map (λ p. p.now) m.extended_languages.items) (kept_seen m.information.header) (box_seen m.information.stbl) (map kept_seen m.information.table.descriptions.items) (map (λ p. p.now) m.information.table.group_descriptions.items)
 
 -- the set with the ID, once that was read
 pub data IdsAfter (old ids : BTreeSet ℕ) : Option (TrackHeader × ℕ) → Type 0 where

@@ -1,6 +1,6 @@
 //! The heads: a movie, its tracks, their media.
 use crate::edit_list::Edit;
-use crate::kept_boxes::{Description, Kept};
+use crate::kept_boxes::Kept;
 use mp4_boxes::BoxView;
 use mp4_frag::Trex;
 
@@ -18,7 +18,8 @@ pub struct Media<'a> {
     pub extended_languages: Vec<&'a [u8]>,
     /// The media header, as `vmhd`.
     pub header: Kept<'a>,
-    pub descriptions: Vec<Description<'a>>,
+    /// The entries of `stsd`.
+    pub descriptions: Vec<Kept<'a>>,
 }
 
 /// What `trak` says of a track, apart from its tables.

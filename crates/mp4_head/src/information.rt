@@ -8,7 +8,7 @@ ghost use Rattle.mp4_head.specs.words.Containers.{SaysReferences, SaysDataInform
 ghost use Rattle.mp4_head.specs.format.HeadFaults.{HeadStands};
 ghost use Rattle.mp4_head.specs.words.Leaves.{FailsAsReference};
 ghost use Rattle.mp4_head.specs.words.Refuses.{StandsOrFails, RefusesIn, place_of};
-ghost use Rattle.mp4_head.specs.words.Seen.{kept_seen, description_seen};
+ghost use Rattle.mp4_head.specs.words.Seen.{kept_seen};
 ghost use Rattle.mp4_boxes.specs.format.Children.{is_among, media_headers};
 
 use crate::kept_boxes::{Kept, keep};
@@ -84,7 +84,7 @@ pub(crate) fn read_information<'a>(
 ) -> Result<Information<'a>, Refusal>
     ensures says { IfOk result
         (λ i. SaysInformation (box_seen minf.entry) (kept_seen i.header) (box_seen i.stbl)
-        (map description_seen i.table.descriptions.items)
+        (map kept_seen i.table.descriptions.items)
         (map (λ p. p.now) i.table.group_descriptions.items)) }
     ensures refusal { IfErr result
         (RefusesIn (place_of (ruled rules.MediaInformation) (box_seen minf.entry))) }

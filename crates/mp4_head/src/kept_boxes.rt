@@ -10,16 +10,10 @@ ghost use Rattle.mp4_head.specs.words.Seen.{kept_seen};
 use memchr::memmem;
 use mp4_boxes::{BoxView, Fault, FourCc, Kind};
 
-/// A box that is kept as it is: its type and its payload.
+/// A box that is passed on as it is: its type and its payload. An entry of `stsd`, which says how
+/// samples are coded, is one too (ISO/IEC 14496-12, 8.5.2).
 #[derive(Clone, Copy, Debug, PartialEq, Eq)]
 pub struct Kept<'a> {
-    pub kind: FourCc,
-    pub payload: &'a [u8],
-}
-
-/// An entry of `stsd`: how samples are coded (ISO/IEC 14496-12, 8.5.2).
-#[derive(Clone, Copy, Debug, PartialEq, Eq)]
-pub struct Description<'a> {
     pub kind: FourCc,
     pub payload: &'a [u8],
 }

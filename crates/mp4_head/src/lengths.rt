@@ -3,12 +3,12 @@ ghost use Rattle.std.specs.Prelude.{◌≡◌, ℕ, ◌+◌, length, map};
 ghost use Rattle.std.specs.List.{flat_map};
 ghost use Rattle.mp4_boxes.specs.format.Written.{box_bytes};
 ghost use Rattle.mp4_head.specs.words.Parts.{capped};
-ghost use Rattle.mp4_head.specs.words.Seen.{kept_seen, description_seen, edit_seen, track_seen, movie_seen, tracks_seen};
+ghost use Rattle.mp4_head.specs.words.Seen.{kept_seen, edit_seen, track_seen, movie_seen, tracks_seen};
 ghost use Rattle.mp4_head.specs.format.Writing as written;
 
 use crate::edit_list::Edit;
 use crate::heads::{MovieHead, TrackHead};
-use crate::kept_boxes::{Description, Kept};
+use crate::kept_boxes::Kept;
 use mp4_boxes::FourCc;
 
 // One more box.
@@ -28,19 +28,6 @@ fn add_kept(before: u128, kept: &[Kept]) -> u128
 {
     let mut total = before;
     for one in kept {
-        total = add_box(total, one.kind, one.payload);
-    }
-    total
-}
-
-// More entries of `stsd`.
-fn add_descriptions(before: u128, descriptions: &[Description]) -> u128
-    ensures { result
-        ≡ capped (before
-        + length (flat_map written.kept_bytes (map description_seen descriptions.now))) }
-{
-    let mut total = before;
-    for one in descriptions {
         total = add_box(total, one.kind, one.payload);
     }
     total
@@ -83,7 +70,7 @@ fn add_track(before: u128, track: &TrackHead) -> u128
     let handled = add_box(kept, FourCc(*b"hdlr"), media.handler);
     let told = add_boxes(handled, FourCc(*b"elng"), &media.extended_languages);
     let headed = add_box(told, media.header.kind, media.header.payload);
-    let described = add_descriptions(headed, &media.descriptions);
+    let described = add_kept(headed, &media.descriptions);
     add_boxes(described, FourCc(*b"sgpd"), &track.group_descriptions)
 }
 

@@ -7,7 +7,7 @@ ghost use Rattle.mp4_boxes.specs.declared.rule.Rule.TheVariants as rules;
 ghost use Rattle.mp4_head.specs.words.Containers.{SaysMediaBoxes};
 ghost use Rattle.mp4_head.specs.words.Leaves.{IsFaultOf, SaysMedia};
 ghost use Rattle.mp4_head.specs.words.Refuses.{RefusesIn, place_of};
-ghost use Rattle.mp4_head.specs.words.Seen.{kept_seen, description_seen};
+ghost use Rattle.mp4_head.specs.words.Seen.{kept_seen};
 
 use crate::information::{Information, read_information};
 use crate::leaves::{is, open, time_at};
@@ -78,7 +78,7 @@ pub(crate) fn read_media<'a>(alloc: Global, mdia: BoxView<'a>) -> Result<MediaPa
         (λ m. SaysMediaBoxes (box_seen mdia.entry) m.header m.handler.now
         (map (λ p. p.now) m.extended_languages.items) (kept_seen m.information.header)
         (box_seen m.information.stbl)
-        (map description_seen m.information.table.descriptions.items)
+        (map kept_seen m.information.table.descriptions.items)
         (map (λ p. p.now) m.information.table.group_descriptions.items)) }
     ensures refusal { IfErr result
         (RefusesIn (place_of (ruled rules.Media) (box_seen mdia.entry))) }

@@ -5,12 +5,12 @@ ghost use Rattle.mp4_boxes.specs.format.Layout.{sample_entry, stsd, IsSound};
 ghost use Rattle.mp4_boxes.specs.format.Places.{ruled, sample_entries};
 ghost use Rattle.mp4_boxes.specs.words.View.{box_seen};
 ghost use Rattle.mp4_boxes.specs.declared.rule.Rule.TheVariants as rules;
-ghost use Rattle.mp4_head.specs.words.Containers.{SaysDescriptions, SaysTable};
+ghost use Rattle.mp4_head.specs.words.Containers.{SaysDescriptions, SaysTable, kept_of};
 ghost use Rattle.mp4_head.specs.words.Leaves.{IsFaultOf};
 ghost use Rattle.mp4_head.specs.words.Refuses.{RefusesBoth, RefusesIn, place_of};
-ghost use Rattle.mp4_head.specs.words.Seen.{description_seen};
+ghost use Rattle.mp4_head.specs.words.Seen.{kept_seen};
 
-use crate::kept_boxes::Description;
+use crate::kept_boxes::{Kept, keep};
 use crate::leaves::{is, open};
 use mp4_boxes::{BoxView, Fault, FourCc, Kind, Refusal, Rule, check_children, counted, u16_at};
 use std::alloc::Global;
@@ -18,14 +18,13 @@ use std::alloc::Global;
 // What of an `stbl` is no table.
 #[derive(Debug, Drop)]
 pub(crate) struct SampleTable<'a> {
-    pub(crate) descriptions: Vec<Description<'a>>,
+    pub(crate) descriptions: Vec<Kept<'a>>,
     pub(crate) group_descriptions: Vec<&'a [u8]>,
 }
 
 // An entry of `stsd`, which names the first data reference.
-fn read_description<'a>(entry: BoxView<'a>) -> Result<Description<'a>, Fault>
-    ensures says { IfOk result (λ d. description_seen d
-        ≡ record { kind = (box_seen entry.entry).kind; payload = (box_seen entry.entry).payload }) }
+fn read_description<'a>(entry: BoxView<'a>) -> Result<Kept<'a>, Fault>
+    ensures says { IfOk result (λ d. kept_seen d ≡ kept_of (box_seen entry.entry)) }
     ensures sound { OnOk result (IsSound sample_entry (box_seen entry.entry).payload) }
     ensures fault { IfErr result (IsFaultOf sample_entry (box_seen entry.entry)) }
 {
@@ -36,16 +35,13 @@ fn read_description<'a>(entry: BoxView<'a>) -> Result<Description<'a>, Fault>
     if u16_at(payload, 6) != 1 {
         return Err(entry.fault(Kind::BadValue));
     }
-    Ok(Description {
-        kind: entry.kind(),
-        payload,
-    })
+    Ok(keep(entry))
 }
 
 // The entries of an `stsd`.
-fn read_descriptions<'a>(alloc: Global, view: BoxView<'a>) -> Result<Vec<Description<'a>>, Refusal>
+fn read_descriptions<'a>(alloc: Global, view: BoxView<'a>) -> Result<Vec<Kept<'a>>, Refusal>
     ensures says { IfOk result
-        (λ ds. SaysDescriptions (box_seen view.entry) (map description_seen ds.items)) }
+        (λ ds. SaysDescriptions (box_seen view.entry) (map kept_seen ds.items)) }
     ensures refusal { IfErr result (RefusesBoth stsd sample_entries (box_seen view.entry)) }
 {
     open(view, 0, 8, 0)?;
@@ -61,7 +57,7 @@ pub(crate) fn read_sample_table<'a>(
     stbl: BoxView<'a>,
 ) -> Result<SampleTable<'a>, Refusal>
     ensures says { IfOk result
-        (λ t. SaysTable (box_seen stbl.entry) (map description_seen t.descriptions.items)
+        (λ t. SaysTable (box_seen stbl.entry) (map kept_seen t.descriptions.items)
         (map (λ p. p.now) t.group_descriptions.items)) }
     ensures refusal { IfErr result
         (RefusesIn (place_of (ruled rules.SampleTable) (box_seen stbl.entry))) }

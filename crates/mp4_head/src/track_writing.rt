@@ -1,14 +1,14 @@
 //! `trak` in its one spelling (ISO/IEC 14496-12, 8.3 to 8.7).
 ghost use Rattle.std.specs.Prelude.{◌≡◌, ◌+◌, ◌++◌, map, OnOk};
 ghost use Rattle.std.specs.List.{flat_map};
-ghost use Rattle.mp4_head.specs.words.Seen.{description_seen, edit_seen, media_seen, track_seen};
+ghost use Rattle.mp4_head.specs.words.Seen.{kept_seen, edit_seen, media_seen, track_seen};
 ghost use Rattle.mp4_head.specs.format.Writing as written;
 ghost use Rattle.mp4_head.specs.words.Parts.{edit_list_bytes, descriptions_bytes, information_bytes};
 ghost use Rattle.mp4_boxes.specs.format.Written.{box_bytes};
 
 use crate::edit_list::Edit;
 use crate::heads::{Media, TrackHead};
-use crate::kept_boxes::Description;
+use crate::kept_boxes::Kept;
 use crate::spelling::{
     close_box, open_box, put, put_box, put_i16, put_i64, put_length, put_matrix, put_u16, put_u32,
     put_u64,
@@ -126,37 +126,27 @@ fn put_boxes(out: &mut Vec<u8>, kind: FourCc, payloads: &[&[u8]]) -> Result<(), 
     Ok(())
 }
 
-fn put_entries(out: &mut Vec<u8>, descriptions: &[Description]) -> Result<(), Memory>
-    ensures { OnOk result (out.new.items ≡ out.old.items
-        ++ flat_map written.kept_bytes (map description_seen descriptions.now)) }
-{
-    for one in descriptions {
-        put_box(out, one.kind, one.payload)?;
-    }
-    Ok(())
-}
-
 // `stsd`.
-fn put_descriptions(out: &mut Vec<u8>, descriptions: &[Description]) -> Result<(), Memory>
+fn put_descriptions(out: &mut Vec<u8>, descriptions: &[Kept]) -> Result<(), Memory>
     ensures { OnOk result (out.new.items ≡ out.old.items
-        ++ descriptions_bytes (map description_seen descriptions.now)) }
+        ++ descriptions_bytes (map kept_seen descriptions.now)) }
 {
     let at = out.len();
     open_box(out, FourCc(*b"stsd"))?;
     put(out, &[0, 0, 0, 0])?;
     put_length(out, descriptions.len())?;
-    put_entries(out, descriptions)?;
+    put_kept(out, descriptions)?;
     close_box(out, at);
     Ok(())
 }
 
 fn put_sample_table(
     out: &mut Vec<u8>,
-    descriptions: &[Description],
+    descriptions: &[Kept],
     group_descriptions: &[&[u8]],
 ) -> Result<(), Memory>
     ensures { OnOk result (out.new.items ≡ out.old.items
-        ++ written.stbl_bytes (map description_seen descriptions.now)
+        ++ written.stbl_bytes (map kept_seen descriptions.now)
         (map (λ p. p.now) group_descriptions.now)) }
 {
     let at = out.len();

@@ -1,7 +1,6 @@
 -- The parts of a piece that a writer takes along are what is written of it.
-use Rattle.std.proofs.Common.{◌≡◌, ℕ, zero, suc, ◌≤◌, List, [], ◌∷◌, ◌++◌, length, take, map, Some, ap, ◌∙◌, arith}
+use Rattle.std.proofs.Common.{◌≡◌, ℕ, zero, suc, List, [], ◌∷◌, ◌++◌, Some, ap, ◌∙◌}
 use Rattle.std.specs.Prelude.{slice_get, slice_index_or, codes}
-use Rattle.std.proofs.lemmas.List.{length-take, length-map}
 use Rattle.mp4_boxes.specs.format.Written.{header_bytes}
 use Rattle.mp4_present.specs.format.Denotes.{FileTree}
 use Rattle.mp4_present.specs.words.Movies.{MovieSeen}
@@ -12,7 +11,7 @@ use Rattle.mp4_tables.specs.declared.sample.SampleAt.{SampleAt}
 use Rattle.mp4_tables.specs.format.Groups.{GroupKey}
 use Rattle.mp4_plan.specs.words.Sizes.{moof_sizes}
 use Rattle.mp4_plan.specs.words.Spelling.{moof_front, run_rows}
-use Rattle.mp4_plan.specs.words.Taken.{piece_front, row_seen}
+use Rattle.mp4_plan.specs.words.Taken.{piece_front}
 use Rattle.mp4_plan.specs.words.UsedKeys.{groups_bytes}
 use Rattle.mp4_plan.specs.declared.moof_front.PieceHead.{PieceHead}
 use Rattle.mp4_plan.specs.declared.moof_sizes.MoofSizes.{MoofSizes}
@@ -37,9 +36,3 @@ unfoldable pub noted_with : (file : List ℕ) (tree : FileTree) (m : MovieSeen) 
 noted_with file tree m track count samples w c h = record { t = h.t; walk = h.walk; is_walk = h.is_walk; comes = h.comes; none = h.none; next = h.next; rows = h.rows; stretches = h.stretches }
 
 -- ---- the bytes of a piece
-
--- those that were noted are no more than there are
-pub noted_few : (count : ℕ) (rows : List Row) (samples : List SampleAt) → count ≤ length rows → take count rows ≡ map row_seen (take count samples) → count ≤ length samples
-noted_few count rows samples few noted =
-    let long = ap (λ (l : List Row). length l) noted in
-    omega (arith, few, long, length-take count rows, length-map (take count samples) row_seen, length-take count samples)

@@ -1,6 +1,6 @@
 -- Why what is left of a movie is not written, where edits stay and where they don't.
 use Rattle.std.proofs.Common.{◌≡◌, ℕ, false, List}
-use Rattle.std.specs.Prelude.{Option, Result, Ok, Err, IfErr, MatchResult, OnOk, OnErr}
+use Rattle.std.specs.Prelude.{Option, Result, Ok, Err, IfErr, MatchResult, OnOk}
 use Rattle.mp4_boxes.specs.declared.refusal.Refusal.{Refusal}
 use Rattle.mp4_boxes.specs.declared.refusal.Refusal.TheVariants as refusals
 use Rattle.mp4_present.specs.format.Denotes.{FileTree}
@@ -13,15 +13,6 @@ use Rattle.mp4_plan.specs.words.LeftTimes.{NamesLong, RefusesLeft, RefusesLeftCo
 pub so_if_ok : {T : Type 0} (answer : Result T Refusal) (P : Type 0) → P → OnOk answer P
 so_if_ok (Ok x) P p = p
 so_if_ok (Err r) P p = tt
-
-pub so_if_err : {T : Type 0} (answer : Result T Refusal) (P : Type 0) → P → OnErr answer P
-so_if_err (Ok x) P p = tt
-so_if_err (Err r) P p = p
-
--- two things that are so at Ok give a third
-pub on_ok_two : {A B C : Type 0} {T : Type 0} (answer : Result T Refusal) → (A → B → C) → OnOk answer A → OnOk answer B → OnOk answer C
-on_ok_two (Ok x) f a b = f a b
-on_ok_two (Err r) f a b = tt
 
 -- what is so at Ok gives one thing, and what is so at Err another
 pub on_both : {A B X Y : Type 0} {T : Type 0} (answer : Result T Refusal) → (A → B) → (X → Y) → MatchResult answer (λ _. A) (λ _. X) → MatchResult answer (λ _. B) (λ _. Y)

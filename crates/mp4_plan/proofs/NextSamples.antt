@@ -11,7 +11,7 @@ use Rattle.mp4_present.specs.words.Movies.{MovieSeen}
 use Rattle.mp4_present.specs.declared.walks.Walk.{Walk}
 use Rattle.mp4_plan.specs.words.Ends.{first_goes}
 use Rattle.mp4_plan.specs.words.Gathering.{piece_from, more_of}
-use Rattle.mp4_plan.specs.words.Writers.{AllCome, firsts, first_dts, turn_head}
+use Rattle.mp4_plan.specs.words.Writers.{AllCome, firsts, turn_head}
 use Rattle.mp4_plan.specs.format.Held.{rooms}
 use Rattle.mp4_plan.specs.words.Taken.{row_seen}
 use Rattle.mp4_plan.specs.declared.noted_rows.Row.{Row}
@@ -68,17 +68,6 @@ noted_more nexts lefts k left next h lt is e =
 
 pub noted_all : (nexts : List (Option SampleAt)) (lefts : List (List SampleAt)) (k : ℕ) → take k nexts ≡ firsts (take k lefts) → length nexts ≤ k → length lefts ≤ k → nexts ≡ firsts lefts
 noted_all nexts lefts k h a b = sym (take_all k nexts a) ∙ h ∙ ap firsts (take_all k lefts b)
-
--- when the first track begins
-pub first_begins : (lefts : List (List SampleAt)) (s : SampleAt) → slice_get (firsts lefts) 0 ≡ Some (Some s) → s.dts ≡ first_dts lefts
-first_begins [] s e = absurd cc
-first_begins ([] ∷ lefts) s e = absurd cc
-first_begins ((x ∷ left) ∷ lefts) s e = let same : x ≡ s = cc in ap (λ (y : SampleAt). y.dts) (sym same)
-
-pub none_begins : (lefts : List (List SampleAt)) → ((s : SampleAt) → slice_get (firsts lefts) 0 ≡ Some (Some s) → ⊥) → 0 ≡ first_dts lefts
-none_begins [] h = refl
-none_begins ([] ∷ lefts) h = refl
-none_begins ((x ∷ left) ∷ lefts) h = absurd (h x refl)
 
 -- as many tracks as walks
 pub come_length : (leaving : Leaving) (file : List ℕ) (tree : FileTree) (m : MovieSeen) (trees : List TrackTree) (walks : List Walk) (lefts : List (List SampleAt)) → AllCome leaving file tree m trees walks lefts → length lefts ≡ length walks

@@ -12,7 +12,6 @@ use Rattle.mp4_boxes.specs.format.Written.{header_length}
 use Rattle.mp4_tables.specs.format.Groups.{maps_of}
 use Rattle.mp4_tables.specs.format.PlainSamples.{PlacedSample, with_groups}
 use Rattle.mp4_frag.specs.declared.trex.Trex.{Trex}
-use Rattle.mp4_frag.specs.format.Fragments.{Fragment}
 use Rattle.mp4_frag.specs.format.FragmentSamples.{run_samples, Part, part_samples}
 use Rattle.mp4_frag.specs.format.FragmentRules.{is_within}
 use Rattle.mp4_present.specs.format.Presentation.{Sample}
@@ -103,10 +102,6 @@ data_is (s ∷ samples) = ap (λ (l : List ℕ). s.sample.bytes ++ l) (data_is s
 -- where the data of a piece begins behind the first byte of its `moof`
 abbrev pub offset_of : Piece → ℕ
 offset_of piece = moof_length piece + header_length (length (piece_data piece))
-
--- the fragment of a piece whose `moof` begins at a place
-abbrev pub piece_fragment : ℕ → Piece → Fragment
-piece_fragment at piece = record { at = at; trafs = traf_read (offset_of piece) piece ∷ [] }
 
 -- the samples of the one run of a piece
 abbrev pub placed_run : Trex → ℕ → Piece → List PlacedSample

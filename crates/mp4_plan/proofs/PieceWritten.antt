@@ -32,10 +32,6 @@ pub record IsFew (p : Planned) : Type 0 where
 some_counted : (k n : ℕ) → k ≡ suc n → nat_lt 0 k ≡ true
 some_counted k n e = lt-ltb 0 k (omega (arith, e))
 
--- a turn that takes samples has a head
-pub head_some : (sequence id n : ℕ) (a : SampleAt) → turn_head sequence id (suc n) (Some a) ≡ Some (record { sequence = sequence; id = id; time = a.dts; description = a.description })
-head_some sequence id n a = let head : PieceHead = record { sequence = sequence; id = id; time = a.dts; description = a.description } in ap (λ v. cond v (Some head) None) (some_counted (suc n) n refl)
-
 module _ (file : List ℕ) (keys : List GroupKey) where
   head_same : (sequence id : ℕ) (a : SampleAt) (s : TimedSample) (more : List SampleAt) (samples : List TimedSample) → AreTaken file keys (a ∷ more) (s ∷ samples)
       → (record { sequence = sequence; id = id; time = a.dts; description = a.description }) ≡ head_of sequence id (s ∷ samples)

@@ -1,5 +1,5 @@
 -- Pieces that are put over any store: so many follow, with so many samples and so many bytes of these.
-use Rattle.std.proofs.Common.{◌≡◌, ℕ, ◌+◌, ◌-◌, ◌*◌, ◌^◌, ◌<◌, ◌≤◌, List, [], ◌∷◌, ◌++◌, length, refl, sym, ap, subst, ◌∙◌, length-append, arith}
+use Rattle.std.proofs.Common.{◌≡◌, ℕ, ◌+◌, ◌-◌, ◌*◌, ◌^◌, ◌<◌, ◌≤◌, List, [], ◌∷◌, ◌++◌, length, refl, ap, subst, ◌∙◌, length-append, arith}
 use Rattle.std.specs.Prelude.{Option, codes}
 use Rattle.std.specs.Io.KnownBytes.{Appends}
 use Rattle.std.specs.List.{sum_by}
@@ -12,7 +12,7 @@ use Rattle.mp4_store.proofs.Known.{Appends-then}
 use Rattle.mp4_present.specs.words.Carried.{BytesGoOn, GoOnBy}
 use Rattle.mp4_present.specs.words.Movies.{MovieSeen}
 use Rattle.mp4_present.specs.declared.track_info.TrackInfo.{TrackInfo}
-use Rattle.mp4_present.proofs.Carrying.{BytesGoOn-then, GoOnBy-none, GoOnBy-then, GoOnBy-bytes}
+use Rattle.mp4_present.proofs.Carrying.{BytesGoOn-then, GoOnBy-then, GoOnBy-bytes}
 use Rattle.mp4_plan.specs.words.PutPieces.{PutPiece, put_length, PiecesFollow, IsPutWhole}
 use Rattle.mp4_plan.specs.words.Sizes.{moof_sizes}
 use Rattle.mp4_plan.specs.words.Spelling.{moof_front, run_rows}
@@ -20,10 +20,6 @@ use Rattle.mp4_plan.specs.words.UsedKeys.{group_bytes, some_groups}
 use Rattle.mp4_plan.specs.declared.planner.Planned.{Planned}
 use Rattle.mp4_plan.specs.declared.noted_rows.Row.{Row}
 use Rattle.mp4_plan.proofs.PartsPut.{go_four}
-
--- none
-pub none_follow : (known : Option (List ℕ)) (held : List ℕ) (samples bytes : ℕ) → samples ≡ 0 → bytes ≡ 0 → PiecesFollow known known held held 0 samples bytes
-none_follow known held samples bytes no_samples no_bytes = record { pieces = []; counts = sym no_samples; sizes = sym no_bytes; long = GoOnBy-none known held 0 refl }
 
 -- none yet, behind so many bytes
 pub first_put : (a b : Option (List ℕ)) (held held_b first : List ℕ) → BytesGoOn a b held held_b first → PiecesFollow a b held held_b (length first) 0 0

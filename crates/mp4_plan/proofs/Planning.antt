@@ -1,11 +1,9 @@
 -- Walks over the tracks of an opened file, and what is planned of the pieces that come in them.
-use Rattle.std.proofs.Common.{◌≡◌, ℕ, zero, suc, ◌+◌, ◌*◌, ◌<◌, ◌≤◌, ◌==◌, Bool, false, List, [], ◌∷◌, ◌++◌, length, take, map, Some, refl, sym, ap, subst, ◌∙◌, arith, true≢false, length-set}
+use Rattle.std.proofs.Common.{◌≡◌, ℕ, zero, suc, ◌+◌, ◌*◌, ◌<◌, ◌≤◌, List, [], ◌∷◌, ◌++◌, length, take, map, Some, refl, sym, ap, subst, ◌∙◌, arith, length-set}
 use Rattle.mp4_present.specs.declared.leaving.Leaving.{Leaving}
 use Rattle.mp4_plan.specs.words.ComingLess.{ComesLess, left_samples}
-use Rattle.std.specs.Prelude.{slice_get, slice_set, slice_index_or, Option}
+use Rattle.std.specs.Prelude.{slice_get, slice_set, slice_index_or}
 use Rattle.std.specs.List.{AllByRecursion}
-use Rattle.std.specs.Option.{MatchOption}
-use Rattle.std.proofs.lemmas.Bool.{eq-eqb}
 use Rattle.std.proofs.lemmas.List.{take_all, map-append}
 use Rattle.std.proofs.lemmas.List.Sums.{sum_by-append, sum_by-cons}
 use Rattle.mp4_head.specs.format.Tree.{TrackTree}
@@ -18,7 +16,7 @@ use Rattle.mp4_present.specs.declared.walks.Walk.{Walk}
 use Rattle.mp4_present.specs.declared.track_info.TrackInfo.{TrackInfo}
 use Rattle.mp4_present.proofs.MoofTaken.{zipped_at}
 use Rattle.mp4_present.proofs.TracksPassed.{zip_length}
-use Rattle.mp4_plan.specs.words.Writers.{AreWalksOf, AreMarked, AllCome, AllBegin, first_dts}
+use Rattle.mp4_plan.specs.words.Writers.{AreWalksOf, AreMarked, AllCome, AllBegin}
 use Rattle.mp4_plan.specs.format.Held.{rooms}
 use Rattle.mp4_plan.specs.words.OwnRooms.{own_rooms}
 use Rattle.mp4_plan.proofs.ComeAt.{come_at, come_with, come_more, set_same}
@@ -154,24 +152,3 @@ pub walks_set : (m : MovieSeen) (walks : List Walk) (k : ℕ) (next : Walk) → 
 walks_set m walks k next h w = record { each = each_set (IsWalkOf m) walks k next h.each w; count = length-set walks k next ∙ h.count }
 
 -- ---- when the first track begins
-
-pub some_walk : (n : ℕ) (v : Bool) → v ≡ (n == 0) → v ≡ false → 0 < n
-some_walk zero v e f = absurd (true≢false (sym (e ∙ eq-eqb 0 0 refl) ∙ f))
-some_walk (suc n) v e f = omega arith
-
-pub no_walks : (leaving : Leaving) (file : List ℕ) (tree : FileTree) (m : MovieSeen) (trees : List TrackTree) (walks : List Walk) (lefts : List (List SampleAt)) → AllCome leaving file tree m trees walks lefts → length walks ≡ 0 → 0 ≡ first_dts lefts
-no_walks leaving file tree m [] [] [] h e = refl
-no_walks leaving file tree m [] [] (l ∷ lefts) h e = absurd h
-no_walks leaving file tree m [] (w ∷ walks) lefts h e = absurd (omega (arith, e))
-no_walks leaving file tree m (t ∷ trees) [] lefts h e = absurd h
-no_walks leaving file tree m (t ∷ trees) (w ∷ walks) lefts h e = absurd (omega (arith, e))
-
-pub begins_with : (lefts : List (List SampleAt)) (left : List SampleAt) (next : Option SampleAt) (n : ℕ) → slice_get lefts 0 ≡ Some left → next ≡ slice_get left 0 → MatchOption next (n ≡ 0) (λ (s : SampleAt). n ≡ s.dts) → n ≡ first_dts lefts
-begins_with [] left next n e f h = absurd cc
-begins_with (l ∷ lefts) left next n e f h =
-    let same : l ≡ left = some_is l left e in
-    by l (subst (λ (o : Option SampleAt). MatchOption o (n ≡ 0) (λ (s : SampleAt). n ≡ s.dts)) (f ∙ ap (λ (ss : List SampleAt). slice_get ss 0) (sym same)) h)
-  where
-    by : (l : List SampleAt) → MatchOption (slice_get l 0) (n ≡ 0) (λ (s : SampleAt). n ≡ s.dts) → n ≡ first_dts (l ∷ lefts)
-    by [] h = h
-    by (s ∷ samples) h = h

@@ -59,10 +59,6 @@ resumed_first v vs = resumed_is vs 1 v ∙ one_run v (longest_runs vs)
 
 -- ---- written one by one
 
--- an index of the run in hand
-pub left_same : (count index : ℕ) (vs : List ℕ) → runs_left (suc count) index (index ∷ vs) ≡ runs_left (suc (suc count)) index vs
-left_same count index vs = let t : (index == index) ≡ true = eq-eqb index index refl in rw t refl
-
 -- the first index of all
 pub left_first : (index v : ℕ) (vs : List ℕ) → runs_left 0 index (v ∷ vs) ≡ runs_left 1 v vs
 left_first index v vs = sym (resumed_first v vs)
@@ -75,13 +71,6 @@ left_other count index v vs e = rw e refl
 pub left_new : (count index v : ℕ) (vs : List ℕ) → (0 < count → (index == v) ≡ false) → runs_left count index (v ∷ vs) ≡ runs_left count index [] ++ runs_left 1 v vs
 left_new zero index v vs e = left_first index v vs
 left_new (suc count) index v vs e = left_other count index v vs (e (omega arith))
-
--- an index that is
-pub left_more : (count index v : ℕ) (vs : List ℕ) → 0 < count → index ≡ v → runs_left count index (v ∷ vs) ≡ [] ++ runs_left (count + 1) v vs
-left_more zero index v vs lt e = absurd (omega (arith, lt))
-left_more (suc count) index v vs lt e =
-    let n : suc (suc count) ≡ suc count + 1 = omega arith in
-    ap (λ i. runs_left (suc count) i (v ∷ vs)) e ∙ left_same count v vs ∙ ap (λ k. runs_left k v vs) n
 
 -- one row more of many
 pub written_more : (f : ℕ × ℕ → List ℕ) (done more : List (ℕ × ℕ)) (run next : IndexRun) (index : Row → ℕ) (rows : List Row) (k : ℕ) (d : Row) (v : ℕ) → k < length rows → v ≡ index (get_or rows k d)

@@ -1,5 +1,5 @@
 -- Stretches of a file that are the bytes of samples: how they are joined, and taken along one after the other.
-use Rattle.std.proofs.Common.{◌≡◌, ℕ, ◌+◌, ◌<◌, ◌≤◌, true, List, [], ◌∷◌, ◌++◌, length, take, drop, get_or, refl, sym, ap, subst, ◌∙◌, append_assoc, arith}
+use Rattle.std.proofs.Common.{◌≡◌, ℕ, ◌+◌, ◌<◌, ◌≤◌, List, [], ◌∷◌, ◌++◌, length, take, drop, get_or, sym, ap, subst, ◌∙◌, append_assoc, arith}
 use Rattle.std.specs.Prelude.{Option}
 use Rattle.std.specs.List.{AllByRecursion}
 use Rattle.std.proofs.lemmas.Grind.{flat_map-append}
@@ -10,7 +10,7 @@ use Rattle.mp4_store.proofs.Known.{range-add, AppendsPrefix-longer}
 use Rattle.mp4_tables.specs.declared.sample.SampleAt.{SampleAt}
 use Rattle.mp4_present.specs.words.Carried.{BytesGoOn}
 use Rattle.mp4_present.specs.words.Joined.{IsBelow}
-use Rattle.mp4_present.proofs.Carrying.{BytesGoOn-nothing, BytesGoOn-then, BytesGoOn-fails, BytesGoOn-front}
+use Rattle.mp4_present.proofs.Carrying.{BytesGoOn-then, BytesGoOn-fails, BytesGoOn-front}
 use Rattle.mp4_present.proofs.Counts.{sum-append}
 use Rattle.mp4_plan.specs.words.Stretches.{span_len, span_bytes, EndsBelow, spans_len, spans_bytes, AreBytesOf, Tells, JoinsOn}
 use Rattle.mp4_plan.specs.declared.joined.Span.{Span}
@@ -86,10 +86,6 @@ tells_none s used at end = record {
   kept = λ e. subst (λ n. AreBytesOf (take n s.earlier ++ s.last ∷ []) []) (sym used) (bytes_none s.last at end);
 }
 
--- samples of which some were left out
-pub tells_some : (s : Stretches) (xs : List SampleAt) → s.last.at ≤ s.last.end → (s.are_all ≡ true → ⊥) → Tells s xs
-tells_some s xs ordered some = record { ordered = ordered; kept = λ e. absurd (some e) }
-
 pub joins_none : (s : Stretches) → JoinsOn s s []
 joins_none s earlier h = subst (λ (xs : List SampleAt). Tells s xs) (sym (append-nil earlier)) h
 
@@ -105,9 +101,6 @@ pub record SpansCarried (honest : Type 0) (file : List ℕ) (before after : Opti
   pub whole : all ≡ done ++ to_come
   pub count : bytes ≡ spans_len done + left
   pub goes : honest → BytesGoOn before after held held_after (spans_bytes file done)
-
-pub spans_none : (honest : Type 0) (file : List ℕ) (known : Option (List ℕ)) (held : List ℕ) (all : List Span) (bytes : ℕ) → SpansCarried honest file known known held held all all bytes bytes
-spans_none honest file known held all bytes = record { done = []; whole = refl; count = omega arith; goes = λ h. BytesGoOn-nothing known held }
 
 -- the members of a list from a place on, and then one more
 pub next_span : (items : List Span) (i : ℕ) (d last : Span) → i < length items → drop i items ++ last ∷ [] ≡ get_or items i d ∷ (drop (i + 1) items ++ last ∷ [])

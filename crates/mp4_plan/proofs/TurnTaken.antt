@@ -475,11 +475,6 @@ pieces_few (suc fuel) most file infos s lefts comings less le h = by (nat_lt s.t
         let both = few_joined most n (left_count (slice_set lefts s.track behind)) (piece_if info.id t.samples) (pieces_from p t.later) (one.0, omega (arith, many_one, c, d)) later_few in
         subst (λ l. AreFew most (left_count lefts) l) (sym t.pieces) (subst (λ k. AreFew most k (piece_if info.id t.samples ++ pieces_from p t.later)) e both)
 
--- No piece that is left has more samples than are left, and there are no more pieces than samples.
-pub counts_bounded : (file : List ℕ) (infos : List TrackInfo) (s : Schedule) (lefts : List (List SampleAt)) (comings : List Coming) → IsTurn file infos s lefts comings
-    → AllByRecursion (λ (p : Piece). length p.samples ≤ left_count lefts) (pieces_from s comings) × (length (pieces_from s comings) ≤ left_count lefts)
-counts_bounded file infos s lefts comings h = pieces_few (suc (to_come s)) (left_count lefts) file infos s lefts comings (omega arith) (omega arith) h
-
 -- Where no piece that is left has more than so many samples, a turn takes no more, and no piece behind it has more.
 pub turn_fits : (most : ℕ) (file : List ℕ) (infos : List TrackInfo) (s : Schedule) (lefts : List (List SampleAt)) (comings : List Coming) (info : TrackInfo) (left : List SampleAt) → (t : TurnTaken file infos s lefts comings info left)
     → AllByRecursion (λ (p : Piece). length p.samples ≤ most) (pieces_from s comings)

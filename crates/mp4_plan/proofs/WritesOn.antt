@@ -1,5 +1,5 @@
 -- The writer from turn to turn: what was put and what waits are the head and the pieces so far, and the walks stand before the samples that are left.
-use Rattle.std.proofs.Common.{◌≡◌, ℕ, zero, suc, ◌+◌, ◌-◌, ◌^◌, ◌<◌, ◌≤◌, max, ◌==◌, Bool, true, false, List, [], ◌∷◌, ◌++◌, length, take, drop, Some, None, refl, sym, ap, subst, ◌∙◌, append_assoc, append-nil, arith, slice_set}
+use Rattle.std.proofs.Common.{◌≡◌, ℕ, zero, suc, ◌+◌, ◌-◌, ◌^◌, ◌<◌, ◌≤◌, max, ◌==◌, Bool, true, false, List, [], ◌∷◌, ◌++◌, length, take, Some, None, refl, sym, ap, subst, ◌∙◌, append_assoc, append-nil, arith, slice_set}
 use Rattle.mp4_present.specs.declared.leaving.Leaving.{Leaving}
 use Rattle.mp4_plan.specs.words.ComingLess.{ComesLess, left_samples}
 use Rattle.mp4_present.specs.format.Reduced.{reduce}
@@ -45,7 +45,7 @@ use Rattle.mp4_plan.proofs.FrontsPut.{stopped_at, stopped_behind}
 use Rattle.mp4_plan.proofs.NextSamples.{first_at, firsts_set}
 use Rattle.mp4_plan.proofs.Lefts.{left_count, pieces_from, IsTurn}
 use Rattle.mp4_plan.proofs.PieceCounts.{piece_bytes, piece_counts, piece_within, piece_gathers}
-use Rattle.mp4_plan.proofs.PieceWritten.{AreKeys, IsFew, turn_written, head_some, head_counts, bytes_of_two}
+use Rattle.mp4_plan.proofs.PieceWritten.{AreKeys, IsFew, turn_written, head_counts, bytes_of_two}
 use Rattle.mp4_plan.proofs.TakenFrom.{TrackFacts, track_facts, has_track, few_left, all_counted}
 use Rattle.mp4_plan.proofs.TurnTaken.{TurnTaken, turn_taken, turn_fits, there_is}
 
@@ -68,10 +68,6 @@ member_at : {A : Type 0} (P : A → Type 0) (xs : List A) (k : ℕ) (x : A) → 
 member_at P [] k x is h = absurd cc
 member_at P (y ∷ xs) zero x is h = let same : y ≡ x = cc in subst P same h.0
 member_at P (y ∷ xs) (suc k) x is h = member_at P xs k x is h.1
-
--- two members at one place
-one_member : {A : Type 0} (xs : List A) (k : ℕ) (x y : A) → slice_get xs k ≡ Some x → slice_get xs k ≡ Some y → x ≡ y
-one_member xs k x y p q = let same : Some x ≡ Some y = sym p ∙ q in cc
 
 -- how many samples a schedule has left behind a turn
 passed_left : (s : Schedule) (time : Option ℕ) → (track_passed s time).left ≡ s.left
@@ -364,12 +360,3 @@ module _ (leaving : Leaving) (file : List ℕ) (tree : FileTree) (m : MovieSeen)
       same_dts [] = refl
       same_dts ([] ∷ lefts) = refl
       same_dts ((x ∷ samples) ∷ lefts) = refl
-
--- a turn without a head takes no samples
-pub head_none : (sequence id count : ℕ) (left : List SampleAt) → turn_head sequence id count (slice_get left 0) ≡ None → drop count left ≡ left
-head_none sequence id zero left e = refl
-head_none sequence id (suc count) [] e = refl
-head_none sequence id (suc count) (x ∷ left) e = absurd (none_is_some (sym (head_some sequence id count x) ∙ e))
-  where
-    none_is_some : {A : Type 0} {y : A} → Some y ≡ None → ⊥
-    none_is_some q = absurd cc

@@ -137,14 +137,8 @@ pub(crate) fn longest_piece<S: Store, L: Ledger, M: Ledger>(
     let tracks = movie.tracks();
     let mut walks = walks_of(alloc, movie)?;
     let mut nexts = vec![in alloc; None; tracks.len()]?;
-    peek_each(
-        walks.as_mut_slice(),
-        nexts.as_mut_slice(),
-        leaving,
-        movie,
-        store,
-        steps,
-    )?;
+    let all = walks.as_mut_slice();
+    peek_each(all, nexts.as_mut_slice(), leaving, movie, store, steps)?;
     let mut schedule = Schedule::new(tracks, first_time(nexts.as_slice()));
     let mut longest: u32 = 0;
     while let Some(turn) = schedule.turn(tracks, looks) {
@@ -179,14 +173,8 @@ fn pieces_len<S: Store, L: Ledger, M: Ledger>(
     let tracks = movie.tracks();
     let mut walks = walks_of(alloc, movie)?;
     let mut nexts = vec![in alloc; None; tracks.len()]?;
-    peek_each(
-        walks.as_mut_slice(),
-        nexts.as_mut_slice(),
-        leaving,
-        movie,
-        store,
-        steps,
-    )?;
+    let all = walks.as_mut_slice();
+    peek_each(all, nexts.as_mut_slice(), leaving, movie, store, steps)?;
     let mut schedule = Schedule::new(tracks, first_time(nexts.as_slice()));
     let mut len = 0;
     while let Some(turn) = schedule.turn(tracks, looks) {

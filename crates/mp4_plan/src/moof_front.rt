@@ -132,20 +132,11 @@ pub(crate) fn moof_front(head: &PieceHead, planned: &Planned, sizes: &MoofSizes)
     out.push_box(FourCc(*b"moof"), short(sizes.moof));
     push_mfhd(&mut out, head.sequence);
     out.push_box(FourCc(*b"traf"), short(sizes.traf));
-    push_tfhd(
-        &mut out,
-        head,
-        planned,
-        head_bits(planned),
-        short(sizes.tfhd),
-    );
+    let bits = head_bits(planned);
+    push_tfhd(&mut out, head, planned, bits, short(sizes.tfhd));
     push_tfdt(&mut out, head.time);
-    push_trun(
-        &mut out,
-        run_bits(planned),
-        planned.count,
-        data_place(sizes.moof as u32, planned.bytes),
-        short(sizes.trun),
-    );
+    let bits = run_bits(planned);
+    let place = data_place(sizes.moof as u32, planned.bytes);
+    push_trun(&mut out, bits, planned.count, place, short(sizes.trun));
     out
 }

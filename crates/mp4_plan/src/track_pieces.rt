@@ -320,14 +320,8 @@ fn note_piece<S: Store, L: Ledger>(
     let mut planner = Planner::new(end);
     loop {
         let noted = planner.piece().count as usize;
-        let hand = note_hand(
-            &mut planner,
-            walk,
-            leaving,
-            movie,
-            &mut rows[noted..],
-            stretches,
-        );
+        let rows = &mut rows[noted..];
+        let hand = note_hand(&mut planner, walk, leaving, movie, rows, stretches);
         walk.keep(hand.place, steps);
         match hand.stop {
             Stop::Full => return Err(Refusal::StoreChanged),

@@ -110,19 +110,10 @@ nowhere n (x ∷ xs) = same_byte n x x xs xs refl ∙ nowhere (suc n) xs
 pub nowhere_same : (n : ℕ) (xs ys : List ℕ) → xs ≡ ys → None ≡ first_unequal n xs ys
 nowhere_same n xs ys e = sym (ap (λ (zs : List ℕ). first_unequal n zs ys) e ∙ nowhere n ys)
 
--- bytes from a place on
-pub byte_passed : (k x y : ℕ) (xs ys : List ℕ) (whole : Option (ℕ × ℕ × ℕ)) → k < length xs → k < length ys → x ≡ slice_index_or xs k x → y ≡ slice_index_or ys k y → x ≡ y
-    → first_unequal k (drop k xs) (drop k ys) ≡ whole → first_unequal (k + 1) (drop (k + 1) xs) (drop (k + 1) ys) ≡ whole
-byte_passed k x y xs ys whole lx ly ex ey e h =
-    (λ i. first_unequal (plus_one k i) (drop (plus_one k i) xs) (drop (plus_one k i) ys)) ∙ sym (same_byte k x y (drop (suc k) xs) (drop (suc k) ys) e) ∙ sym (λ i. first_unequal k (at_drop xs k x lx ex i) (at_drop ys k y ly ey i)) ∙ h
-
 pub byte_found : (k x y : ℕ) (xs ys : List ℕ) (whole : Option (ℕ × ℕ × ℕ)) → k < length xs → k < length ys → x ≡ slice_index_or xs k x → y ≡ slice_index_or ys k y → (x ≡ y → ⊥)
     → first_unequal k (drop k xs) (drop k ys) ≡ whole → Some (k, x, y) ≡ whole
 byte_found k x y xs ys whole lx ly ex ey e h =
     sym (other_byte k x y (drop (suc k) xs) (drop (suc k) ys) e) ∙ sym (λ i. first_unequal k (at_drop xs k x lx ex i) (at_drop ys k y ly ey i)) ∙ h
-
-pub no_byte_left : (k : ℕ) (xs ys : List ℕ) (whole : Option (ℕ × ℕ × ℕ)) → length xs ≤ k → first_unequal k (drop k xs) (drop k ys) ≡ whole → None ≡ whole
-no_byte_left k xs ys whole le h = (λ i. first_unequal k (sym (none_behind xs k le) i) (drop k ys)) ∙ h
 
 -- ---- kept boxes
 

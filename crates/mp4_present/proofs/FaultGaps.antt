@@ -1,12 +1,11 @@
 -- The `moof` in which a place lies, looked for behind those before it.
-use Rattle.std.proofs.Common.{◌≡◌, ℕ, ◌+◌, ◌*◌, ◌^◌, ◌≤◌, Bool, true, false, List, [], ◌∷◌, Option, Some, None, find, cond, length, take, refl, sym, subst, arith, length-take}
+use Rattle.std.proofs.Common.{◌≡◌, ℕ, ◌+◌, ◌^◌, ◌≤◌, Bool, true, false, List, [], ◌∷◌, Option, Some, None, find, cond, refl, sym, subst, arith}
 use Rattle.std.specs.Prelude.{IsTrue, Contains, IfSome, suc}
 use Rattle.std.proofs.lemmas.List.Elements.{Contains-append_right}
 use Rattle.mp4_boxes.specs.declared.refusal.Refusal.{Refusal}
 use Rattle.mp4_boxes.specs.declared.refusal.Refusal.TheVariants as refusals
 use Rattle.mp4_present.specs.words.Again.{RefusesNext}
 use Rattle.mp4_present.specs.words.NumbersTold.{RefusesSearch, StepsFit}
-use Rattle.mp4_present.specs.words.Movies.{Fills, IsWhole}
 use Rattle.mp4_present.specs.words.Reading.{RefusesPayload}
 use Rattle.mp4_present.specs.declared.reading.TopBox.{TopBox}
 use Rattle.mp4_present.proofs.FragmentPass.{Left}
@@ -59,12 +58,6 @@ some_so P Q (Some x) f h = f x h
 -- the steps that are left before a `moof` behind a place
 pub left_before : (file_length at offset room old new : ℕ) → at ≤ offset → MoofsFit file_length at room old new → StepsFit file_length offset room old new
 left_before file_length at offset room old new on h = omega (arith, on, h)
-
--- its front was checked
-pub front_fits : (file_length : ℕ) (top : TopBox) (w : IsWhole file_length top) (bytes : List ℕ) (len room old before after : ℕ) → Fills len top → 2 * after ≤ 2 * before + 2 * room + length (take len bytes) → StepsFit file_length top.offset room old before → after ≤ old + (2 ^ 24 + file_length)
-front_fits file_length top w bytes len room old before after fills check h =
-    let within = w.within in
-    omega (arith, within, fills, check, h, length-take len bytes)
 
 -- nothing more was taken
 pub all_left : (file_length at room old new : ℕ) → StepsFit file_length at room old new → new ≤ old + (2 ^ 24 + file_length)

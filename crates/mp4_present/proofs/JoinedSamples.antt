@@ -1,8 +1,6 @@
 -- Samples that are taken one by one: their sums, and their bytes.
 use Rattle.std.proofs.Common.{◌≡◌, ℕ, ◌+◌, ◌<◌, ◌≤◌, List, [], ◌∷◌, ◌++◌, length, take, drop, Some, refl, sym, ap, subst, ◌∙◌, zero, suc, arith}
-use Rattle.std.specs.Prelude.{min}
 use Rattle.std.specs.List.{slice_get, AllByRecursion}
-use Rattle.mp4_boxes.specs.format.Bytes.{sum_of}
 use Rattle.mp4_boxes.proofs.Each.{each_dropped}
 use Rattle.std.proofs.lemmas.Grind.{flat_map-append}
 use Rattle.std.proofs.lemmas.List.{append-nil}
@@ -20,19 +18,12 @@ pub length_one_more : (xs ys : List SampleAt) (s : SampleAt) → Some s ≡ slic
 length_one_more [] ys s e d = absurd (cc)
 length_one_more (x ∷ xs) ys s e d = rw d (omega arith)
 
-pub sum_more : (f : SampleAt → ℕ) (xs ys : List SampleAt) (s : SampleAt) → Some s ≡ slice_get xs 0 → ys ≡ drop 1 xs → sum_of f xs ≡ f s + sum_of f ys
-sum_more f xs ys s e d = ap (sum_of f) (first_of xs s e) ∙ ap (λ zs. f s + sum_of f zs) (sym d)
-
 -- one less is left
 pub one_less : (xs ys : List SampleAt) (s : SampleAt) → Some s ≡ slice_get xs 0 → ys ≡ drop 1 xs → length xs ≡ 1 + length ys
 one_less xs ys s e d =
     let all = ap (λ (zs : List SampleAt). length zs) (first_of xs s e) in
     let others = ap (λ (zs : List SampleAt). length zs) d in
     omega (arith, all, others)
-
--- one more number is added to a sum that stays at its most
-pub capped_more : (now one sum left next most total : ℕ) → sum ≡ one + left → next ≡ min (now + one) most → min (now + sum) most ≡ total → min (next + left) most ≡ total
-capped_more now one sum left next most total e n t = omega (arith, e, n, t)
 
 some_is : (x y : SampleAt) → Some x ≡ Some y → x ≡ y
 some_is x y e = cc

@@ -15,7 +15,7 @@ use Rattle.mp4_head.specs.declared.heads.MovieHead.{MovieHead}
 use Rattle.mp4_head.specs.declared.heads.TrackHead.{TrackHead}
 use Rattle.mp4_present.specs.format.Denotes.{FileTree, IsFileTree}
 use Rattle.mp4_present.specs.words.Again.{AreFrom, IsNextFragment}
-use Rattle.mp4_present.specs.words.Movies.{Fills, IsWhole}
+use Rattle.mp4_present.specs.words.Movies.{IsWhole}
 use Rattle.mp4_present.specs.words.NumbersTold.{LooksFit}
 use Rattle.mp4_present.specs.words.Outline.{IsOutline}
 use Rattle.mp4_present.specs.format.ByBytes.{LooksByBytes}
@@ -106,14 +106,6 @@ module _ (file : List ℕ) (at : ℕ) (top : TopBox) (w : IsWhole (length file) 
       let some : after ≤ after + tracks = omega arith in
       let fit = next_looks tracks old before after after check some h in
       omega (arith, fit)
-
--- a front of a `moof` was checked behind some looks
-pub front_looks : (file_length : ℕ) (top : TopBox) (w : IsWhole file_length top) (bytes : List ℕ) (len tracks old before after : ℕ) → Fills len top → 8 * after ≤ 8 * before + tracks * length (take len bytes) → LooksFit file_length top.offset tracks old before
-    → 8 * after ≤ 8 * old + tracks * file_length
-front_looks file_length top w bytes len tracks old before after fills check h =
-    let within = w.within in
-    let fits : length (take len bytes) ≤ file_length - top.offset = omega (arith, within, fills, length-take len bytes) in
-    omega (arith, check, h, mul-le-mul_left tracks fits)
 
 -- ---- a file whose head was read
 

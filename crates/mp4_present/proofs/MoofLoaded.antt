@@ -1,5 +1,5 @@
 -- The next `moof` of a walk, read again to its room.
-use Rattle.std.proofs.Common.{◌≡◌, ℕ, ◌+◌, ◌≤◌, true, false, List, [], ◌∷◌, ◌++◌, Some, None, length, take, map, refl, sym, ap, subst, ◌∙◌, arith, append_assoc, slice_get, length-take}
+use Rattle.std.proofs.Common.{◌≡◌, ℕ, ◌+◌, ◌≤◌, true, List, [], ◌∷◌, ◌++◌, Some, None, length, take, map, refl, sym, ap, subst, ◌∙◌, arith, append_assoc, slice_get, length-take}
 use Rattle.std.specs.Prelude.{codes, bytes_eq, Bool, IsTrue}
 use Rattle.std.proofs.lemmas.List.{append-nil}
 use Rattle.mp4_store.specs.words.Device.{range}
@@ -125,20 +125,6 @@ module _ (file : List ℕ) (m : MovieSeen) (tree : FileTree) (t : TrackTree) (ea
 abbrev pub Going : List ℕ → FileTree → TrackTree → List SampleAt → Walk → Type 0
 Going file tree t samples w = (earlier later : List FragmentTree) × (StandsBefore file tree t earlier later w × (samples ≡ samples_behind tree t earlier later))
 
--- the same, for each tree that the movie was opened as
-abbrev pub GoesOnBefore : List ℕ → MovieSeen → Walk → Walk → Type 0
-GoesOnBefore file m begun w =
-    (tree : FileTree) (t : TrackTree) (earlier later : List FragmentTree) → IsOpenedAs file m tree → StandsBefore file tree t earlier later begun → Going file tree t (samples_behind tree t earlier later) w
-
--- a walk behind some `moof`s, with nothing left in hand
-abbrev pub Idles : List ℕ → FileTree → TrackTree → MovieSeen → Walk → Type 0
-Idles file tree t m w = (earlier later : List FragmentTree) × (hand : InHand) × (StandsBefore file tree t earlier later w × InHandOf m w hand × (left_in_hand hand ≡ []))
-
--- the same, for each tree that the movie was opened as, where nothing was left in hand
-abbrev pub IdlesBefore : List ℕ → MovieSeen → Walk → Walk → Type 0
-IdlesBefore file m begun w =
-    (tree : FileTree) (t : TrackTree) (earlier later : List FragmentTree) (hand : InHand) → IsOpenedAs file m tree → StandsBefore file tree t earlier later begun → InHandOf m begun hand → left_in_hand hand ≡ [] → Idles file tree t m w
-
 -- ---- why nothing is loaded
 
 pub next_unchanged : (honest : Bool) (file : List ℕ) (from reads reads_after : ℕ) (boxes : List Box) (r : Refusal) → IsTrue honest → AreFrom file from boxes → RefusesNext honest file from reads reads_after r → r ≡ refusals.StoreChanged → ⊥
@@ -149,33 +135,14 @@ payload_unchanged room reads reads_after top r short w e = let late = subst (λ 
 
 -- ---- what is loaded
 
--- the next `moof` has no samples of the track
-pub goes_past : (file : List ℕ) (tree : FileTree) (t : TrackTree) (m : MovieSeen) (samples : List SampleAt) (earlier : List FragmentTree) (next : FragmentTree) (more : List FragmentTree) (w : Walk) (some : Bool)
-    → samples ≡ samples_behind tree t earlier (next ∷ more) → some ≡ false → Takes file tree t earlier next more m w some → Going file tree t samples w
-goes_past file tree t m samples earlier next more w some e none h =
-    (earlier ++ next ∷ [], more, (h.1.0, e ∙ behind_split tree t earlier next more ∙ ap (λ ss. ss ++ samples_behind tree t (earlier ++ next ∷ []) more) (sym h.1.2 ∙ h.1.3 none)))
-
-pub goes_idle : (file : List ℕ) (tree : FileTree) (t : TrackTree) (m : MovieSeen) (earlier : List FragmentTree) (next : FragmentTree) (more : List FragmentTree) (w : Walk) (some : Bool) → some ≡ false → Takes file tree t earlier next more m w some
-    → Idles file tree t m w
-goes_idle file tree t m earlier next more w some none h = (earlier ++ next ∷ [], more, h.0, (h.1.0, h.1.1, h.1.3 none))
-
 -- it has some
 pub comes_next : (file : List ℕ) (tree : FileTree) (t : TrackTree) (m : MovieSeen) (samples : List SampleAt) (earlier : List FragmentTree) (next : FragmentTree) (more : List FragmentTree) (w : Walk) (some : Bool)
     → samples ≡ samples_behind tree t earlier (next ∷ more) → Takes file tree t earlier next more m w some → Comes file tree t m w samples
 comes_next file tree t m samples earlier next more w some e h =
     (earlier ++ next ∷ [], more, h.0, (h.1.0, h.1.1, e ∙ behind_split tree t earlier next more ∙ ap (λ ss. ss ++ samples_behind tree t (earlier ++ next ∷ []) more) (sym h.1.2)))
 
--- none is left
-pub nothing_comes : (tree : FileTree) (t : TrackTree) (samples : List SampleAt) (earlier later : List FragmentTree) → later ≡ [] → samples ≡ samples_behind tree t earlier later → samples ≡ []
-nothing_comes tree t samples earlier later none e = e ∙ ap (samples_behind tree t earlier) none
-
 pub later_is : (tree : FileTree) (t : TrackTree) (samples : List SampleAt) (earlier later : List FragmentTree) (next : FragmentTree) (more : List FragmentTree) → later ≡ next ∷ more → samples ≡ samples_behind tree t earlier later → samples ≡ samples_behind tree t earlier (next ∷ more)
 later_is tree t samples earlier later next more e f = f ∙ ap (samples_behind tree t earlier) e
-
--- nothing is left in hand, and no `moof` is left
-pub ends_idle : (file : List ℕ) (tree : FileTree) (t : TrackTree) (m : MovieSeen) (earlier later : List FragmentTree) (hand : InHand) (w : Walk) → later ≡ [] → StandsBefore file tree t earlier later w → InHandOf m w hand → left_in_hand hand ≡ []
-    → Comes file tree t m w []
-ends_idle file tree t m earlier later hand w none h i z = (earlier, later, hand, (h, i, sym (ap (λ ss. ss ++ samples_behind tree t earlier later) z ∙ ap (samples_behind tree t earlier) none)))
 
 -- where no sample is left, none comes
 pub no_samples : (file : List ℕ) (tree : FileTree) (t : TrackTree) (earlier later : List FragmentTree) (w : Walk) → StandsBefore file tree t earlier later w → w.left ≡ 0 → samples_behind tree t earlier later ≡ []
@@ -193,7 +160,3 @@ some_left file tree t earlier later w h none = h.left ∙ ap (λ fs. length (sam
 pub ends_empty : (file : List ℕ) (tree : FileTree) (t : TrackTree) (m : MovieSeen) (earlier later : List FragmentTree) (hand : InHand) (w : Walk) → samples_behind tree t earlier later ≡ [] → StandsBefore file tree t earlier later w → InHandOf m w hand
     → left_in_hand hand ≡ [] → Comes file tree t m w []
 ends_empty file tree t m earlier later hand w none h i z = (earlier, later, hand, (h, i, sym (ap (λ ss. ss ++ samples_behind tree t earlier later) z ∙ none)))
-
--- a walk that went on past some `moof`s has as many samples left as where it began
-pub left_stays : (file : List ℕ) (tree : FileTree) (t : TrackTree) (earlier later : List FragmentTree) (begun w : Walk) → StandsBefore file tree t earlier later begun → (u : Going file tree t (samples_behind tree t earlier later) w) → w.left ≡ begun.left
-left_stays file tree t earlier later begun w h u = u.2.0.left ∙ ap (λ (ss : List SampleAt). length ss) (sym u.2.1) ∙ sym h.left

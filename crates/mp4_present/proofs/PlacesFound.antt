@@ -1,5 +1,5 @@
 -- Where, among places that rise, those from one on begin.
-use Rattle.std.proofs.Common.{◌≡◌, ◌⊎◌, ℕ, ◌<◌, ◌≤◌, Bool, true, false, List, [], ◌∷◌, ◌++◌, Some, length, refl, ap, ◌∙◌, arith, inl, inr, ⊎_elim, subst, length-append, slice_get, slice_index_or}
+use Rattle.std.proofs.Common.{◌≡◌, ◌⊎◌, ℕ, ◌<◌, ◌≤◌, Bool, true, false, List, [], ◌∷◌, ◌++◌, Some, length, arith, inl, inr, ⊎_elim, subst, length-append, slice_get, slice_index_or}
 use Rattle.std.specs.Prelude.{zero, suc, nat_lt}
 use Rattle.std.specs.List.{AllByRecursion}
 use Rattle.std.specs.List.Sorted.{IsPartitionedBy, IsPartitionPoint}
@@ -51,13 +51,6 @@ module _ (from : ℕ) (before later : List ℕ) (a : AllByRecursion (λ place. p
       (λ same. omega (arith, more, same))
       (order (length before) k))
       (order k (length before))
-
-pub first_behind : (before later : List ℕ) (k : ℕ) → k ≡ length before → slice_get (before ++ later) k ≡ slice_get later 0
-first_behind before later k e = ap (slice_get (before ++ later)) e ∙ behind before
-  where
-    behind : (xs : List ℕ) → slice_get (xs ++ later) (length xs) ≡ slice_get later 0
-    behind [] = refl
-    behind (x ∷ xs) = behind xs
 
 pub first_is : (later : List ℕ) (place from : ℕ) → slice_get later 0 ≡ Some place → AllByRecursion (λ place. from ≤ place) later → from ≤ place
 first_is [] place from e b = absurd cc

@@ -1,5 +1,5 @@
 -- The tracks of a movie behind their tables, one after the other.
-use Rattle.std.proofs.Common.{◌≡◌, ℕ, ◌+◌, ◌-◌, ◌*◌, ◌^◌, ◌<◌, ◌≤◌, List, [], ◌∷◌, ◌++◌, length, drop, zero, suc, sym, ap, subst, arith, length-append}
+use Rattle.std.proofs.Common.{◌≡◌, ℕ, ◌+◌, ◌-◌, ◌*◌, ◌^◌, ◌<◌, ◌≤◌, List, [], ◌∷◌, ◌++◌, length, drop, zero, suc, sym, subst, arith, length-append}
 use Rattle.std.specs.List.{AllByRecursion, AllZip}
 use Rattle.mp4_boxes.specs.words.View.{box_seen}
 use Rattle.mp4_tables.specs.words.Leaves.{HasTables}
@@ -9,7 +9,7 @@ use Rattle.mp4_head.specs.declared.heads.TrackHead.{TrackHead}
 use Rattle.mp4_head.specs.declared.heads.MovieHead.{MovieHead}
 use Rattle.mp4_boxes.specs.format.Box.{Box}
 use Rattle.mp4_tables.specs.words.Accepted.{IsAccepted}
-use Rattle.mp4_frag.specs.words.States.{HasRoom, HaveRoom}
+use Rattle.mp4_frag.specs.words.States.{HasRoom}
 use Rattle.mp4_frag.specs.declared.state.TrackState.{TrackState}
 use Rattle.mp4_frag.proofs.StateLists.{less_room}
 use Rattle.mp4_head.specs.words.Found.{LiesIn, IsFoundIn, SaysHead}
@@ -52,16 +52,6 @@ plain_more moov n count old new t s a l few c time bytes ts ss r =
       states = rw ss (all_push (HasRoom new.room) old.states.items s (less_room old.room new.room old.states.items less a.states) has);
       few = omega (arith, less, most);
     }
-
--- no track yet
-pub none_plain : (moov : List ℕ) (p : PlainTracks) → p.tables.items ≡ [] → p.states.items ≡ [] → p.room ≤ 2 ^ 24 → ArePlain moov 0 p
-none_plain moov p ts ss few = record {
-  tables = subst (λ (l : List TrackTables). AllByRecursion (LieIn moov) l) (sym ts) tt;
-  each_tables = ap length ts;
-  each_state = ap length ss;
-  states = subst (λ (l : List TrackState). HaveRoom p.room l) (sym ss) tt;
-  few = few;
-}
 
 -- what holds of each from one on
 pub from_next : {A : Type 0} (P : A → Type 0) (xs : List A) (k : ℕ) → AllByRecursion P (drop k xs) → AllByRecursion P (drop (suc k) xs)

@@ -1,5 +1,5 @@
 -- A walk over the boxes of the file itself.
-use Rattle.std.proofs.Common.{◌≡◌, ℕ, ◌+◌, ◌-◌, ◌<◌, ◌≤◌, true, List, [], ◌∷◌, ◌++◌, length, take, drop, Ok, Err, refl, sym, ap, subst, ◌∙◌, arith, length-drop}
+use Rattle.std.proofs.Common.{◌≡◌, ℕ, ◌+◌, ◌-◌, ◌<◌, ◌≤◌, true, List, [], ◌∷◌, ◌++◌, length, take, drop, Ok, Err, sym, ap, subst, ◌∙◌, arith, length-drop}
 use Rattle.std.specs.Prelude.{codes, min, Result}
 use Rattle.std.proofs.lemmas.List.{drop-drop}
 use Rattle.mp4_boxes.specs.format.Box.{Box, Header, header_at, box_of, sizes, LieEndToEnd, file_container, Tiles}
@@ -17,9 +17,6 @@ use Rattle.mp4_present.specs.words.Reading.{IsTopHeader, top_box}
 pub record TopPassed (file : List ℕ) (boxes : List Box) (at : ℕ) : Type 0 where
   pub lie : LieEndToEnd true 0 file boxes
   pub taken : sizes boxes ≡ at
-
-pub top_none : (file : List ℕ) → TopPassed file [] 0
-top_none file = record { lie = tt; taken = refl }
 
 pub read_there : (file : List ℕ) (at : ℕ) (h : TopHeader) → IsTopHeader file at h → header_at true (drop at file) ≡ Ok (top_header_seen at h)
 read_there file at h e =

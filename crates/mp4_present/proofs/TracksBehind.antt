@@ -2,7 +2,7 @@
 use Rattle.std.proofs.Common.{◌≡◌, ℕ, zero, suc, ◌+◌, ◌<◌, ◌==◌, Bool, true, false, cond, List, [], ◌∷◌, ◌++◌, Option, Some, None, length, refl, sym, ap, subst, ◌∙◌, rules, arith, length-append}
 use Rattle.std.specs.Prelude.{flat_map, find, not, nat_lt, ◌||◌, if◌then◌else◌, IsTrue, unwrap_or, option_map}
 use Rattle.std.proofs.lemmas.Grind.{flat_map-append}
-use Rattle.std.proofs.lemmas.Bool.{ltb-true, ltb-false}
+use Rattle.std.proofs.lemmas.Bool.{ltb-false}
 use Rattle.std.proofs.lemmas.List.{append-nil}
 use Rattle.mp4_tables.specs.format.Groups.{GroupKey, GroupRule, Grouping, keys_after, keys_with}
 use Rattle.mp4_tables.specs.format.PlainSamples.{PlacedSample}
@@ -26,9 +26,6 @@ empty (x ∷ xs) e = absurd (omega arith)
 
 has_none : (part : Part) → has_samples part ≡ false → length (part_samples part) ≡ 0
 has_none part e = let le = ltb-false 0 (length (part_samples part)) e in omega arith
-
-has_some : (part : Part) → has_samples part ≡ true → 0 < length (part_samples part)
-has_some part e = ltb-true 0 (length (part_samples part)) e
 
 lasts_none : (xs : List PlacedSample) → length xs ≡ 0 → duration_of xs ≡ 0
 lasts_none xs e = ap duration_of (empty xs e)

@@ -177,20 +177,10 @@ pub fn compare_all<S: Store, T: Store, D: Differences, L: Ledger>(
     }
     let tracks = left.tracks().len().min(right.tracks().len());
     for track in 0..tracks.min(head.tracks.len()).min(other_head.tracks.len()) {
-        let track_head = &head.tracks[track];
-        let other_track_head = &other_head.tracks[track];
+        let first = &head.tracks[track];
+        let second = &other_head.tracks[track];
         if !compare_tracks(
-            alloc,
-            track,
-            left,
-            track_head,
-            a,
-            right,
-            other_track_head,
-            b,
-            leaving,
-            seen,
-            steps,
+            alloc, track, left, first, a, right, second, b, leaving, seen, steps,
         )? {
             return Ok(false);
         }

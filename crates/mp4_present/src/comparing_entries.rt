@@ -1,6 +1,6 @@
 //! Lists of two heads, compared entry by entry. What differs is added to a list.
 ghost use Rattle.std.specs.Prelude.{◌≡◌, ◌++◌, List, OnOk};
-ghost use Rattle.mp4_head.specs.words.Seen.{kept_seen, description_seen, edit_seen};
+ghost use Rattle.mp4_head.specs.words.Seen.{kept_seen, edit_seen};
 ghost use Rattle.mp4_present.specs.declared.differences.Difference.{Difference};
 ghost use Rattle.mp4_present.specs.format.Differences.{payload_differences, box_differences};
 ghost use Rattle.mp4_present.specs.words.HeadsLeft.{entries_differ};
@@ -12,7 +12,7 @@ use crate::comparing_fields::{
 };
 use crate::differences::{Difference, Entries, Field, Part, Subject, Value};
 use mp4_boxes::Memory;
-use mp4_head::{Description, Edit, Kept};
+use mp4_head::{Edit, Kept};
 
 /// Which entry it is: of whom, of which list, and its number, from 1.
 #[derive(Clone, Copy, Debug, PartialEq, Eq)]
@@ -96,25 +96,6 @@ impl<'a> Entry for Kept<'a> {
         let other_kind = Value::Kind(other.kind);
         compare_value(at.subject, at.field(Part::Kind), kind, other_kind, found)?;
         compare_payloads(at, self.payload, other.payload, found)
-    }
-}
-
-// An entry of `stsd` as a box.
-fn as_kept<'a>(description: &Description<'a>) -> Kept<'a>
-    ensures { kept_seen result ≡ description_seen description.now }
-{
-    Kept {
-        kind: description.kind,
-        payload: description.payload,
-    }
-}
-
-impl<'a> Entry for Description<'a> {
-    ghost differences = { λ at a b. box_differences at.subject at.list at.number
-        (description_seen a) (description_seen b) };
-
-    fn compare(&self, other: &Self, at: Spot, found: &mut Vec<Difference>) -> Result<(), Memory> {
-        as_kept(self).compare(&as_kept(other), at, found)
     }
 }
 

@@ -1,6 +1,7 @@
 //! What a table of a track or of a `traf` counts, where that isn't what there is (ISO/IEC 14496-12,
 //! 8.6.1, 8.7.4 and 8.9.2).
-ghost use Rattle.std.specs.Prelude.{ℕ, ◌≤◌, IfSome};
+ghost use Rattle.std.specs.Prelude.{ℕ, ◌≡◌, ◌+◌, ◌≤◌, length, IfSome};
+ghost use Rattle.mp4_boxes.specs.format.Bytes.{field};
 ghost use Rattle.mp4_present.specs.words.NumbersTold.{IsPlain};
 
 use crate::fault_details::FaultNumbers;
@@ -8,26 +9,33 @@ use crate::fault_gaps::{child_at, child_of};
 use mp4_boxes::{BoxView, FourCc, children, u32_at};
 use mp4_head::MovieHead;
 
-// How many samples an `stbl` has, by its `stsz` or `stz2`.
-pub(crate) fn samples_in(stbl: BoxView) -> Option<u64> {
-    let sizes = match child_of(stbl, FourCc(*b"stsz")) {
-        Some(leaf) => leaf,
-        None => child_of(stbl, FourCc(*b"stz2"))?,
-    };
-    if sizes.payload().len() < 12 {
+/// The four bytes at a place, where they are there.
+pub(crate) fn number_at(payload: &[u8], place: usize) -> Option<u32>
+    ensures room { IfSome result (λ _. place + 4 ≤ length payload.now) }
+    ensures number { IfSome result (λ n. n ≡ field payload.now place 4) }
+{
+    if payload.len() < 4 || place > payload.len() - 4 {
         return None;
     }
-    Some(u64::from(u32_at(sizes.payload(), 8)))
+    Some(u32_at(payload, place))
+}
+
+/// The box of sizes of an `stbl`, `stsz` or `stz2`.
+pub(crate) fn sizes_of<'a>(stbl: BoxView<'a>) -> Option<BoxView<'a>> {
+    child_of(stbl, FourCc(*b"stsz")).or(child_of(stbl, FourCc(*b"stz2")))
+}
+
+// How many samples an `stbl` has.
+pub(crate) fn samples_in(stbl: BoxView) -> Option<u64> {
+    let count = number_at(sizes_of(stbl)?.payload(), 8)?;
+    Some(u64::from(count))
 }
 
 // How many samples rows of eight bytes count, which follow their number at a place.
 fn counted_by_rows(payload: &[u8], place: usize) -> Option<u64>
     requires { place ≤ 12 }
 {
-    if payload.len() < place + 4 {
-        return None;
-    }
-    let count = u32_at(payload, place);
+    let count = number_at(payload, place)?;
     if (payload.len() - place - 4) / 8 < count as usize {
         return None;
     }
@@ -41,22 +49,13 @@ fn counted_by_rows(payload: &[u8], place: usize) -> Option<u64>
 
 // How many chunks an `stbl` has.
 pub(crate) fn chunks_in(stbl: BoxView) -> Option<u32> {
-    let offsets = match child_of(stbl, FourCc(*b"stco")) {
-        Some(leaf) => leaf,
-        None => child_of(stbl, FourCc(*b"co64"))?,
-    };
-    if offsets.payload().len() < 8 {
-        return None;
-    }
-    Some(u32_at(offsets.payload(), 4))
+    let offsets = child_of(stbl, FourCc(*b"stco")).or(child_of(stbl, FourCc(*b"co64")))?;
+    number_at(offsets.payload(), 4)
 }
 
 // How many samples the rows of an `stsc` count, where there are so many chunks.
 fn counted_by_chunks(payload: &[u8], chunks: u32) -> Option<u64> {
-    if payload.len() < 8 {
-        return None;
-    }
-    let count = u32_at(payload, 4);
+    let count = number_at(payload, 4)?;
     if (payload.len() - 8) / 12 < count as usize {
         return None;
     }
@@ -87,16 +86,10 @@ fn counted_by_groups(payload: &[u8]) -> Option<u64> {
 
 // How many samples the runs of a `traf` have.
 fn samples_in_runs(traf: BoxView) -> Option<u64> {
-    let Ok(boxes) = children(traf.payload(), traf.payload_offset(), traf.kind()) else {
-        return None;
-    };
     let mut samples = 0u64;
-    for run in boxes {
+    for run in children(traf.payload(), traf.payload_offset(), traf.kind()).ok()? {
         if run.kind() == FourCc(*b"trun") {
-            if run.payload().len() < 8 {
-                return None;
-            }
-            samples = samples.saturating_add(u64::from(u32_at(run.payload(), 4)));
+            samples = samples.saturating_add(u64::from(number_at(run.payload(), 4)?));
         }
     }
     Some(samples)

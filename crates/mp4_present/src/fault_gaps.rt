@@ -14,7 +14,7 @@ ghost use Rattle.mp4_present.specs.words.OverStores.{OnlyReads, RefusedOf, Where
 ghost use Rattle.mp4_present.specs.words.Movies.{Fills};
 ghost use Rattle.mp4_present.specs.words.Opening.{HasOutline};
 
-use crate::fault_counts::counts_in_fragment;
+use crate::fault_counts::{counts_in_fragment, number_at};
 use crate::fault_details::FaultNumbers;
 use crate::fault_places::outside_in_fragment;
 use crate::fragments::next_fragment;
@@ -22,9 +22,7 @@ use crate::outline::Outline;
 use crate::reading::{TopBox, read_payload};
 use crate::tables_pass::PlainTracks;
 use crate::totals::in_64_bits;
-use mp4_boxes::{
-    BoxView, Fault, FourCc, Kind, Refusal, Steps, TopHeader, children, u32_at, u64_at,
-};
+use mp4_boxes::{BoxView, Fault, FourCc, Kind, Refusal, Steps, TopHeader, children, u64_at};
 use mp4_frag::{TrackState, check_moof};
 use mp4_store::Store;
 use std::alloc::Global;
@@ -42,15 +40,10 @@ struct Reached {
 }
 
 /// The child in which a place of the file lies.
-pub(crate) fn child_at<'a>(container: BoxView<'a>, place: u64) -> Option<BoxView<'a>>
-    ensures { IfSome result
-        (λ b. IsChildOf (box_seen container.entry) (box_seen b)) }
+pub(crate) fn child_at<'a>(view: BoxView<'a>, place: u64) -> Option<BoxView<'a>>
+    ensures { IfSome result (λ b. IsChildOf (box_seen view.entry) (box_seen b)) }
 {
-    let Ok(boxes) = children(
-        container.payload(),
-        container.payload_offset(),
-        container.kind(),
-    ) else {
+    let Ok(boxes) = children(view.payload(), view.payload_offset(), view.kind()) else {
         return None;
     };
     for child in boxes {
@@ -63,16 +56,11 @@ pub(crate) fn child_at<'a>(container: BoxView<'a>, place: u64) -> Option<BoxView
 }
 
 /// The first child of a type.
-pub(crate) fn child_of<'a>(container: BoxView<'a>, kind: FourCc) -> Option<BoxView<'a>>
-    ensures child { IfSome result
-        (λ b. IsChildOf (box_seen container.entry) (box_seen b)) }
+pub(crate) fn child_of<'a>(view: BoxView<'a>, kind: FourCc) -> Option<BoxView<'a>>
+    ensures child { IfSome result (λ b. IsChildOf (box_seen view.entry) (box_seen b)) }
     ensures kind { IfSome result (λ b. (box_seen b).kind ≡ kind.0) }
 {
-    let Ok(boxes) = children(
-        container.payload(),
-        container.payload_offset(),
-        container.kind(),
-    ) else {
+    let Ok(boxes) = children(view.payload(), view.payload_offset(), view.kind()) else {
         return None;
     };
     for child in boxes {
@@ -87,11 +75,9 @@ pub(crate) fn child_of<'a>(container: BoxView<'a>, kind: FourCc) -> Option<BoxVi
 fn time_in(payload: &[u8]) -> Option<u64>
     ensures { IfSome result (λ t. t ≡ decode_time_of payload.now) }
 {
-    if payload.len() < 8 {
-        return None;
-    }
+    let short = number_at(payload, 4)?;
     if payload[0] == 0 {
-        return Some(u64::from(u32_at(payload, 4)));
+        return Some(u64::from(short));
     }
     if payload[0] > 1 || payload.len() < 12 {
         return None;
@@ -103,10 +89,7 @@ fn time_in(payload: &[u8]) -> Option<u64>
 pub(crate) fn track_in(payload: &[u8]) -> Option<u32>
     ensures { IfSome result (λ id. id ≡ field payload.now 4 4) }
 {
-    if payload.len() < 8 {
-        return None;
-    }
-    Some(u32_at(payload, 4))
+    number_at(payload, 4)
 }
 
 // The track with an ID.

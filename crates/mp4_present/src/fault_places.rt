@@ -3,7 +3,7 @@
 ghost use Rattle.std.specs.Prelude.{IfSome};
 ghost use Rattle.mp4_present.specs.words.NumbersTold.{IsPlain};
 
-use crate::fault_counts::{chunks_in, samples_in};
+use crate::fault_counts::{chunks_in, number_at, samples_in, sizes_of};
 use crate::fault_details::FaultNumbers;
 use crate::fault_gaps::{TFHD, child_at, child_of, track_in};
 use mp4_boxes::{BoxView, FourCc, u16_at, u32_at, u64_at};
@@ -15,18 +15,8 @@ use mp4_tables::{Keys, Samples};
 fn outside(at: u64, size: u32, file_len: u64) -> Option<FaultNumbers>
     ensures { IfSome result (IsPlain file_len) }
 {
-    if at > file_len || u64::from(size) > file_len - at {
-        return Some(FaultNumbers::Outside { at, size, file_len });
-    }
-    None
-}
-
-// The four bytes at a place.
-fn number_at(payload: &[u8], place: usize) -> Option<u32> {
-    if payload.len() < 4 || place > payload.len() - 4 {
-        return None;
-    }
-    Some(u32_at(payload, place))
+    let is_outside = at > file_len || u64::from(size) > file_len - at;
+    is_outside.then_some(FaultNumbers::Outside { at, size, file_len })
 }
 
 // ---- tables
@@ -103,10 +93,7 @@ fn outside_in_chunk(
 fn outside_in(stbl: BoxView, offsets: BoxView, file_len: u64) -> Option<FaultNumbers>
     ensures { IfSome result (IsPlain file_len) }
 {
-    let sizes = match child_of(stbl, FourCc(*b"stsz")) {
-        Some(leaf) => leaf,
-        None => child_of(stbl, FourCc(*b"stz2"))?,
-    };
+    let sizes = sizes_of(stbl)?;
     let rows = child_of(stbl, FourCc(*b"stsc"))?.payload();
     let samples = samples_in(stbl)?;
     let mut number = 0;

@@ -133,15 +133,7 @@ pub(crate) fn check_fragments<S: Store, L: Ledger, M: Ledger>(
     states.extend_from_slice(plain.states.as_slice())?;
     begin_own(alloc, own, plain.states.as_slice())?;
     let mut bytes = vec![in alloc; 0u8; outline.longest as usize]?;
-    pass_fragments(
-        store,
-        outline,
-        states.as_mut_slice(),
-        own,
-        bytes.as_mut_slice(),
-        plain.room,
-        steps,
-        looks,
-    )?;
+    let (all, bytes) = (states.as_mut_slice(), bytes.as_mut_slice());
+    pass_fragments(store, outline, all, own, bytes, plain.room, steps, looks)?;
     Ok(states)
 }

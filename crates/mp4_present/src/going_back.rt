@@ -42,6 +42,22 @@ fn pass_samples<C: Samples>(samples: &mut C, count: u32) -> bool
 }
 
 impl Walk {
+    // A mark of where the walk stands, before so many samples of the track.
+    fn mark_here(&self, to_come: u32) -> Mark
+        ensures { result ≡ mark_of self.now to_come }
+    {
+        Mark {
+            track: self.track,
+            place: self.place,
+            moof: self.moof,
+            before: self.before,
+            due: self.due,
+            left: self.left,
+            next: self.next,
+            to_come,
+        }
+    }
+
     /// Marks where the walk stands, before so many samples of the track: it can go back here from
     /// wherever it goes on to. A mark made before is given up.
     pub fn mark(&mut self, to_come: u32)
@@ -54,16 +70,7 @@ impl Walk {
         ensures may { (file : List ℕ) (tree : FileTree) (t : TrackTree) (n : ℕ)
             → MayTake file tree t self.old n → MayTake file tree t self.new n }
     {
-        self.mark = Mark {
-            track: self.track,
-            place: self.place,
-            moof: self.moof,
-            before: self.before,
-            due: self.due,
-            left: self.left,
-            next: self.next,
-            to_come,
-        };
+        self.mark = self.mark_here(to_come);
     }
 
     // What was due before the `moof` of the mark, where it has to be read again.
@@ -243,16 +250,7 @@ impl Walk {
             → GoesBackTo file tree t m begun self.old before → IsWalkOf m self.old
             → MayTake file tree t begun n → MayTake file tree t self.new n }
     {
-        let there = Mark {
-            track: self.track,
-            place: self.place,
-            moof: self.moof,
-            before: self.before,
-            due: self.due,
-            left: self.left,
-            next: self.next,
-            to_come: self.mark.to_come,
-        };
+        let there = self.mark_here(self.mark.to_come);
         self.set_back();
         self.mark = there;
     }

@@ -89,17 +89,6 @@ row_taken rows c p r at e h =
       rising = subst (λ n. is_rising_after n (map (λ (row : ChunkRow). row.first) (drop (p.row + 1) rows)) ≡ true) next parts.1;
     }
 
--- the next chunk goes on with the row in hand
-pub row_kept : (rows : List ChunkRow) (c : ℕ) (p : RowPlace) (r : ChunkRow) → IsRowPlace rows c p → drop p.row rows ≡ r ∷ drop (p.row + 1) rows → c + 1 < r.first → IsRowPlace rows (c + 1) p
-row_kept rows c p r at e h =
-    let rise : is_rising_after c (r.first ∷ map (λ (row : ChunkRow). row.first) (drop (p.row + 1) rows)) ≡ true = ap (λ rs. is_rising_after c (map (λ (row : ChunkRow). row.first) rs)) (sym e) ∙ at.rising in
-    let parts = both (nat_lt c r.first) (is_rising_after r.first (map (λ (row : ChunkRow). row.first) (drop (p.row + 1) rows))) rise in
-    record {
-      first = at.first;
-      same = λ d l. at.same d (omega arith);
-      rising = ap (λ rs. is_rising_after (c + 1) (map (λ (row : ChunkRow). row.first) rs)) e ∙ rw (yes_lt (c + 1) r.first h) parts.1;
-    }
-
 -- it does so behind the last row
 pub row_kept_last : (rows : List ChunkRow) (c : ℕ) (p : RowPlace) → IsRowPlace rows c p → drop p.row rows ≡ [] → IsRowPlace rows (c + 1) p
 row_kept_last rows c p at e = record {

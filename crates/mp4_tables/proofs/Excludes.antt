@@ -1,7 +1,7 @@
 -- Where a fault of the tables stands, a check does not accept them.
 use Rattle.std.proofs.Common.{◌≡◌, ℕ, ◌+◌, ◌≤◌, inl, inr, Bool, true, false, List, [], ◌∷◌, ◌++◌, length, drop, Some, refl, ap, subst, ◌∙◌, arith}
 use Rattle.std.proofs.lemmas.List.{length-map, length-replicate}
-use Rattle.std.specs.Prelude.{bytes_eq, codes, Result, Ok, Err, IfErr, IsOk, ◌==◌, ◌/◌}
+use Rattle.std.specs.Prelude.{bytes_eq, codes, ◌==◌, ◌/◌}
 use Rattle.std.specs.List.{AllByRecursion}
 use Rattle.mp4_boxes.specs.format.Bytes.{field, rows}
 use Rattle.mp4_boxes.specs.format.Box.{Box, box_container}
@@ -110,8 +110,3 @@ pub fault_excludes : (l : Limits) (stbl : Box) (f : Fault) → HasTables stbl �
 fault_excludes l stbl f h (inl q) a = leaf_excludes l stbl f q a
 fault_excludes l stbl f h (inr (inl q)) a = rule_excludes l stbl f q a
 fault_excludes l stbl f h (inr (inr q)) a = many_excludes l stbl f h q a
-
--- what is accepted is not refused
-pub not_refused : {A : Type 0} (l : Limits) (stbl : Box) (result : Result A Fault) → HasTables stbl → IfErr result (IsFault l stbl) → AreAccepted l stbl (boxes_of stbl) → IsOk result
-not_refused l stbl (Ok x) h q a = refl
-not_refused l stbl (Err f) h q a = absurd (fault_excludes l stbl f h q a)

@@ -1,8 +1,7 @@
 -- Keys in the order in which they were named.
-use Rattle.std.proofs.Common.{◌≡◌, ◌≢◌, ℕ, ◌+◌, ◌<◌, ◌≤◌, List, [], ◌∷◌, ◌++◌, length, take, drop, get_or, map, refl, ap, sym, ◌∙◌, arith, Bool, true, false, cond, Option, Some, None}
-use Rattle.std.specs.Prelude.{slice_set}
+use Rattle.std.proofs.Common.{◌≡◌, ◌≢◌, ℕ, ◌+◌, ◌<◌, ◌≤◌, List, [], ◌∷◌, length, take, drop, get_or, map, refl, ap, sym, ◌∙◌, arith, Bool, true, false, cond, Option, Some, None}
 use Rattle.std.specs.List.{position_from, list_any}
-use Rattle.std.proofs.lemmas.List.{take_more_set, length-map, length-take, map-append, drop_more, drop_all, get_or-map, get_or-take}
+use Rattle.std.proofs.lemmas.List.{length-map, length-take, drop_more, drop_all, get_or-map, get_or-take}
 use Rattle.std.proofs.lemmas.Bool.Decides.{nat_tests}
 use Rattle.mp4_tables.specs.format.Groups.{GroupKey, key_rank, same_key}
 use Rattle.mp4_tables.specs.words.Keys.{key_seen, key_place}
@@ -30,10 +29,6 @@ not_named_yet key keys e = none_from (same_key key) 0 keys e
 
 pub named_before : (key : GroupKey) (keys : List GroupKey) (j : ℕ) → key_place key keys ≡ Some j → list_any (same_key key) keys ≡ true
 named_before key keys j e = some_from (same_key key) 0 j keys e
-
--- one more key at the end
-pub key_pushed : (named : List KeyNamed) (n : ℕ) (key : KeyNamed) → n < length named → map key_seen (take (n + 1) (slice_set named n key)) ≡ map key_seen (take n named) ++ key_seen key ∷ []
-key_pushed named n key h = ap (map key_seen) (take_more_set named n key h) ∙ map-append key_seen (take n named) (key ∷ [])
 
 -- the keys from a place on
 pub keys_more : (named : List KeyNamed) (n j : ℕ) (d : KeyNamed) → j < n → n ≤ length named → drop j (map key_seen (take n named)) ≡ key_seen (get_or named j d) ∷ drop (j + 1) (map key_seen (take n named))

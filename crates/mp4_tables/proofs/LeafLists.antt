@@ -42,9 +42,6 @@ turned a b e = either (bytes_eq b a) refl
         never k s = let q : true ≡ false = sym (itself k) ∙ s in cc
     either false f = f
 
-turned_true : (a b : List ℕ) → bytes_eq a b ≡ true → bytes_eq b a ≡ true
-turned_true a b e = subst (λ k. bytes_eq k a ≡ true) (sym (same_kind a b e)) (itself a)
-
 -- ---- all children
 
 none_there : (at n : ℕ) (bytes : List ℕ) → length bytes ≡ 0 → first_boxes n at bytes ≡ []
@@ -224,10 +221,6 @@ one_passed kind boxes left later b p e s = record {
   where
     miss_counts : (c : Box) → bytes_eq kind c.kind ≡ false → count_among (kind ∷ []) (c ∷ []) ≡ 0
     miss_counts c f = rw f refl
-
-pub first_found : (kind : List ℕ) (boxes left later : List Box) (b : Box) → NonePassed kind boxes left → left ≡ b ∷ later → bytes_eq b.kind kind ≡ true → IsFirstOf kind boxes b
-first_found kind boxes left later b p e s =
-    first_here kind boxes p.before later b (p.is ∙ ap (λ bs. p.before ++ bs) e) p.none (turned_true b.kind kind s)
 
 pub none_found : (kind : List ℕ) (boxes left : List Box) → NonePassed kind boxes left → left ≡ [] → count_among (kind ∷ []) boxes ≡ 0
 none_found kind boxes left p e = omega (arith, p.none, ap (count_among (kind ∷ [])) (p.is ∙ ap (λ bs. p.before ++ bs) e), count-append (kind ∷ []) p.before [])

@@ -1,6 +1,6 @@
 -- Sums over the samples of tables: of their rows, and of their sizes.
-use Rattle.std.proofs.Common.{◌≡◌, ℕ, zero, suc, ◌+◌, ◌-◌, ◌*◌, ◌^◌, ◌<◌, ◌≤◌, List, [], ◌∷◌, ◌++◌, length, take, drop, replicate, get_or, slice_index, refl, ap, sym, ◌∙◌, arith, length-drop}
-use Rattle.std.proofs.lemmas.List.{drop_all, drop_more}
+use Rattle.std.proofs.Common.{◌≡◌, ℕ, zero, suc, ◌+◌, ◌-◌, ◌*◌, ◌^◌, ◌<◌, ◌≤◌, List, [], ◌∷◌, ◌++◌, length, take, drop, replicate, refl, ap, sym, ◌∙◌, arith, length-drop}
+use Rattle.std.proofs.lemmas.List.{drop_all}
 use Rattle.std.specs.Prelude.{min, unwrap_or, option_map, ℤ, pos, ◌+ℤ◌}
 use Rattle.mp4_boxes.specs.format.Bytes.{sum_of}
 use Rattle.mp4_tables.specs.format.Repeated.{repeated, total}
@@ -47,12 +47,6 @@ row_more runs k count value now next all e n h = let this = ap row_sums e in ome
 -- no row is left behind the last
 pub rows_all : (payload : List ℕ) (at : RowsAt) (k sum all : ℕ) → at.count ≤ k → sum < 2 ^ 64 → min (sum + row_sums (drop k (runs_at payload at))) (2 ^ 64 - 1) ≡ min all (2 ^ 64 - 1) → sum ≡ min all (2 ^ 64 - 1)
 rows_all payload at k sum all h lt e = let none = ap row_sums (runs_all payload at k h) in omega (arith, none, lt, e)
-
-pub size_more : (sizes : List ℕ) (i size now next all : ℕ) → i < length sizes → size ≡ slice_index sizes i
-    → next ≡ min (now + size) (2 ^ 64 - 1) → min (now + sum_of (λ (x : ℕ). x) (drop i sizes)) (2 ^ 64 - 1) ≡ all → min (next + sum_of (λ (x : ℕ). x) (drop (i + 1) sizes)) (2 ^ 64 - 1) ≡ all
-size_more sizes i size now next all h s n e =
-    let this : sum_of (λ (x : ℕ). x) (drop i sizes) ≡ get_or sizes i 0 + sum_of (λ (x : ℕ). x) (drop (i + 1) sizes) = ap (sum_of (λ (x : ℕ). x)) (drop_more sizes i 0 h) in
-    omega (arith, this, s, n, e)
 
 pub sizes_all : (payload : List ℕ) (at : SizesAt) (i sum all : ℕ) → at.rows.count ≤ i → sum < 2 ^ 64 → min (sum + sum_of (λ (x : ℕ). x) (drop i (sizes_at payload at))) (2 ^ 64 - 1) ≡ min all (2 ^ 64 - 1) → sum ≡ min all (2 ^ 64 - 1)
 sizes_all payload at i sum all h lt e =

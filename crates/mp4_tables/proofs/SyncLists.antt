@@ -13,9 +13,6 @@ use Rattle.mp4_tables.specs.declared.places.SyncPlace.{SyncPlace}
 use Rattle.mp4_tables.proofs.RowLists.{first_left, numbers_all}
 use Rattle.mp4_tables.proofs.ChunkLists.{both, yes_lt, lt_yes}
 
-yes_eq : (a b : ℕ) → a ≡ b → nat_eq a b ≡ true
-yes_eq a b e = grind (arith, nat_tests)
-
 no_eq : (a b : ℕ) → a < b → nat_eq a b ≡ false
 no_eq a b h = grind (arith, nat_tests)
 
@@ -41,13 +38,6 @@ rising_in_hand : (named : List ℕ) (p : SyncPlace) (i : ℕ) → IsSyncPlace na
 rising_in_hand named p i at h =
     let parts = both (nat_lt (i - 1) p.next) (is_rising_after p.next (drop (p.row + 1) named)) (ap (is_rising_after (i - 1)) (sym (in_hand named p i at h)) ∙ at.rising) in
     (lt_yes (i - 1) p.next parts.0, parts.1)
-
--- the number in hand is that of the sample
-pub sync_here : (named : List ℕ) (p : SyncPlace) (i : ℕ) → IsSyncPlace named p i → 0 < i → p.next ≡ i → list_any (nat_eq i) named ≡ true
-sync_here named p i at some e = elim (cases_lt p.row (length named)) [
-  | inl inside ↦ at.same i (omega arith) ∙ ap (list_any (nat_eq i)) (in_hand named p i at inside) ∙ ap (λ b. b || list_any (nat_eq i) (drop (p.row + 1) named)) (yes_eq i p.next (sym e))
-  | inr behind ↦ let none = none_in_hand named p i at behind in let z = none.1 in absurd (omega arith)
-]
 
 -- it is not, so none is
 pub not_sync_here : (named : List ℕ) (p : SyncPlace) (i : ℕ) → IsSyncPlace named p i → 0 < i → p.next ≢ i → list_any (nat_eq i) named ≡ false

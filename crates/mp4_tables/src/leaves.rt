@@ -1,10 +1,9 @@
 //! The children of an `stbl`: which box is which table, and where its rows lie.
-ghost use Rattle.std.specs.Prelude.{◌≡◌, ◌+◌, ◌*◌, ◌-◌, ◌^◌, ◌<◌, ◌≤◌, length, [], ◌∷◌, IfOk, IfErr, MatchOption};
-ghost use Rattle.mp4_boxes.specs.format.Bytes.{field};
+ghost use Rattle.std.specs.Prelude.{◌≡◌, ◌+◌, ◌*◌, ◌-◌, ◌<◌, ◌≤◌, length, [], ◌∷◌, IfOk, IfErr, MatchOption};
 ghost use Rattle.mp4_boxes.specs.format.Children.{count_among};
 ghost use Rattle.mp4_boxes.specs.format.Layout.{version as version_in};
 ghost use Rattle.mp4_boxes.specs.words.View.{box_seen};
-ghost use Rattle.mp4_tables.specs.words.Leaves.{boxes_of, HasTables, IsFirstOf, IsChild, VersionFails, RowsFail, ShapeFails, RowsRead};
+ghost use Rattle.mp4_tables.specs.words.Leaves.{boxes_of, HasTables, IsFirstOf, IsChild, VersionFails, ShapeFails, RowsRead};
 
 use crate::places::RowsAt;
 use mp4_boxes::{BoxView, Children, Fault, FourCc, Kind, children, full, u32_at};
@@ -79,37 +78,6 @@ pub(crate) fn version_of(leaf: BoxView, last: u8) -> Result<u8, Fault>
     Ok(version)
 }
 
-// The rows of a leaf with a version, a count at the place `fields - 4`, and rows of so many bytes
-// behind it.
-pub(crate) fn rows_of(stbl: BoxView, leaf: BoxView, fields: u8, width: u8) -> Result<RowsAt, Fault>
-    requires inside { (box_seen stbl).offset + (box_seen stbl).header ≤ (box_seen leaf).offset
-        + (box_seen leaf).header }
-    requires fits { (box_seen leaf).offset + (box_seen leaf).header + length (box_seen leaf).payload
-        < 2 ^ 64 }
-    requires count { 4 ≤ fields }
-    ensures count { IfOk result (λ r. r.count
-        ≡ field (box_seen leaf.entry).payload (fields - 4) 4) }
-    ensures place { IfOk result (λ r. (box_seen stbl.entry).offset + (box_seen stbl.entry).header
-        + r.place ≡ (box_seen leaf.entry).offset + (box_seen leaf.entry).header + fields) }
-    ensures room { IfOk result (λ r. fields + width * r.count
-        ≤ length (box_seen leaf.entry).payload) }
-    ensures fault { IfErr result (RowsFail fields width (box_seen leaf.entry)) }
-{
-    let payload = leaf.payload();
-    let fields = fields as usize;
-    if payload.len() < fields {
-        return Err(leaf.fault(Kind::ShortBox));
-    }
-    let count = u32_at(payload, fields - 4);
-    if payload.len() - fields < width as usize * count as usize {
-        return Err(leaf.fault(Kind::ShortBox));
-    }
-    Ok(RowsAt {
-        place: place_in(stbl, leaf) + fields,
-        count,
-    })
-}
-
 // The rows of a leaf of at most this version, with a count behind the version and rows of so many
 // bytes.
 pub(crate) fn table_rows(stbl: BoxView, leaf: BoxView, last: u8, width: u8) -> Result<RowsAt, Fault>
@@ -119,6 +87,16 @@ pub(crate) fn table_rows(stbl: BoxView, leaf: BoxView, last: u8, width: u8) -> R
     ensures fault { IfErr result (ShapeFails last 8 width (box_seen leaf.entry)) }
 {
     version_of(leaf, last)?;
-    let rows = rows_of(stbl, leaf, 8, width)?;
-    Ok(rows)
+    let payload = leaf.payload();
+    if payload.len() < 8 {
+        return Err(leaf.fault(Kind::ShortBox));
+    }
+    let count = u32_at(payload, 4);
+    if payload.len() - 8 < width as usize * count as usize {
+        return Err(leaf.fault(Kind::ShortBox));
+    }
+    Ok(RowsAt {
+        place: place_in(stbl, leaf) + 8,
+        count,
+    })
 }

@@ -51,9 +51,6 @@ pub record SpanPassed (file : List ℕ) (rule : Rule) (from end : ℕ) (boxes : 
   pub lie : LieEndToEnd (is_top rule) from (range file from (end - from)) boxes
   pub taken : from + sizes boxes ≡ at
 
-pub span_none : (file : List ℕ) (rule : Rule) (from end : ℕ) → SpanPassed file rule from end [] from
-span_none file rule from end = record { lie = tt; taken = omega arith }
-
 -- the bytes behind the first n
 left_of : (file : List ℕ) (from end at n : ℕ) → from + n ≡ at → at ≤ end → drop n (range file from (end - from)) ≡ range file at (end - at)
 left_of file from end at n e le =

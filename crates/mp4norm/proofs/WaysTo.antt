@@ -2,11 +2,11 @@
 use Rattle.std.proofs.Common.{◌≡◌, inr, ℕ, ◌<◌, ◌≤◌, List, [], ◌∷◌, ◌++◌, refl, sym, ap, subst, ◌∙◌, append_assoc}
 use Rattle.std.specs.Prelude.{Option, codes}
 use Rattle.std.proofs.lemmas.List.{append-nil}
-use Rattle.mp4_boxes.specs.format.Box.{Box, Tiles, box_container}
+use Rattle.mp4_boxes.specs.format.Box.{Box}
 use Rattle.mp4_present.specs.words.Reading.{IsTopHeader}
 use Rattle.mp4_present.specs.declared.reading.TopBox.{TopBox}
 use Rattle.mp4norm.specs.format.BoxWalk.{top_seen}
-use Rattle.mp4norm.specs.format.Ways.{HoldsPlace, IsChildAt, step_text, IsWay, IsWayIn, ends, goes}
+use Rattle.mp4norm.specs.format.Ways.{IsChildAt, step_text, IsWay, IsWayIn, ends, goes}
 
 -- boxes that a loop has passed, before those that are left
 pub record Passed (all left : List Box) : Type 0 where
@@ -21,11 +21,6 @@ passed_more all left left' b p e = record {
   passed = p.passed ++ b ∷ [];
   whole = append_assoc p.passed (b ∷ []) left' ∙ ap (λ (bs : List Box). p.passed ++ bs) (sym e) ∙ p.whole;
 }
-
-pub passed_at : (place : ℕ) (b child : Box) (all left left' : List Box) → Passed all left → left ≡ child ∷ left' → Tiles (box_container b) all
-    → HoldsPlace place child → IsChildAt place b child
-passed_at place b child all left left' p e t h =
-    (p.passed, left', subst (λ (bs : List Box). Tiles (box_container b) bs) (sym p.whole ∙ ap (λ (bs : List Box). p.passed ++ bs) e) t, h)
 
 -- a way that ends at a box of a box
 pub one_step : (place : ℕ) (b child : Box) (number : Option ℕ) (start text : List ℕ) → IsChildAt place b child
@@ -48,12 +43,6 @@ more_steps place b child number start middle more text c e w t = (
       ∙ append_assoc (start ++ codes " / ") (step_text child.kind number) more
       ∙ append_assoc start (codes " / ") (step_text child.kind number ++ more),
 )
-
--- a way that ends at a box of the file, and one that goes on
-pub top_ends : (file : List ℕ) (place : ℕ) (top : TopBox) (number : Option ℕ) (text : List ℕ) → IsTopHeader file top.offset top.header
-    → top.offset ≤ place → place < top.header.end → text ≡ step_text top.header.kind.0 number → IsWayIn file place text
-top_ends file place top number text h from less e =
-    inr (top, h, from, less, number, [], ends (top_seen file top), e ∙ sym (append-nil (step_text top.header.kind.0 number)))
 
 pub top_goes : (file : List ℕ) (place : ℕ) (top : TopBox) (number : Option ℕ) (b : Box) (more text : List ℕ) → IsTopHeader file top.offset top.header
     → top.offset ≤ place → place < top.header.end → b ≡ top_seen file top → IsWay place b more → text ≡ step_text top.header.kind.0 number ++ more

@@ -12,45 +12,24 @@ use clap::{ArgMatches, Error};
 use mp4_present::Leaving;
 use std::alloc::{AllocError, Global};
 
-const REPLACED_OUTPUT: &str = "\
-error: the argument '--replace' cannot be used with '--out -'
+// What may be wrong with words that clap accepts.
+const REPLACED_OUTPUT: &str = "the argument '--replace' cannot be used with '--out -'";
 
-For more information, try '--help'.
-";
+const TWO_FORMS: &str = "the argument '--header' cannot be used with '--json'";
 
-const TWO_FORMS: &str = "\
-error: the argument '--header' cannot be used with '--json'
+const LIMIT_ALONE: &str = "the argument '--limit <N>' is of use only with '--all'";
 
-For more information, try '--help'.
-";
+const INPUT_TWICE: &str = "standard input ('-') can be read only once";
 
+// The rules of lists of words.
 const DROP_RULE: &str = "\
 each type is four printable characters or eight hexadecimal digits, and not free; \
-before a slash only a container whose boxes are listed may stand
+before a slash only a container whose boxes are listed may stand";
 
-For more information, try '--help'.
-";
-
-const WITHOUT_RULE: &str = "\
-each word is times, edits, flags, groups or metadata
-
-For more information, try '--help'.
-";
-
-const LIMIT_ALONE: &str = "\
-error: the argument '--limit <N>' is of use only with '--all'
-
-For more information, try '--help'.
-";
+const WITHOUT_RULE: &str = "each word is times, edits, flags, groups or metadata";
 
 /// How many differences are listed where no number is given.
 const LIMIT: u32 = 100;
-
-const INPUT_TWICE: &str = "\
-error: standard input ('-') can be read only once
-
-For more information, try '--help'.
-";
 
 // The ID of a track; none where it is 0.
 fn track_of(found: &ArgMatches) -> Option<u32>
@@ -108,10 +87,18 @@ fn check_asked<'a>(alloc: Global, found: &ArgMatches<'a>) -> Result<Action<'a>, 
     Ok(Action::Check { files, list, zero })
 }
 
-// What is wrong with a list of types.
-fn drop_fault(alloc: Global, list: &str) -> CommandFault {
-    match format!(in alloc; "error: invalid value '{list}' for '--drop <TYPES>': {DROP_RULE}") {
+// What is wrong with the words, said as clap does.
+fn usage(alloc: Global, what: &str) -> CommandFault {
+    match format!(in alloc; "error: {what}\n\nFor more information, try '--help'.\n") {
         Ok(text) => CommandFault::Usage(text),
+        Err(_) => CommandFault::Memory,
+    }
+}
+
+// What is wrong with a list of words, by the rule of such lists.
+fn list_fault(alloc: Global, list: &str, option: &str, rule: &str) -> CommandFault {
+    match format!(in alloc; "invalid value '{list}' for '{option}': {rule}") {
+        Ok(what) => usage(alloc, &what),
         Err(_) => CommandFault::Memory,
     }
 }
@@ -129,7 +116,7 @@ fn strip_asked<'a>(alloc: Global, found: &ArgMatches<'a>) -> Result<Action<'a>, 
         return Err(missing(alloc));
     };
     let Some(names) = names_of(alloc, list)? else {
-        return Err(drop_fault(alloc, list));
+        return Err(list_fault(alloc, list, "--drop <TYPES>", DROP_RULE));
     };
     Ok(Action::Strip {
         names,
@@ -139,21 +126,11 @@ fn strip_asked<'a>(alloc: Global, found: &ArgMatches<'a>) -> Result<Action<'a>, 
     })
 }
 
-// What is wrong with a list of what to leave out.
-fn without_fault(alloc: Global, list: &str) -> CommandFault {
-    match format!(in alloc;
-        "error: invalid value '{list}' for '--without <WORDS>': {WITHOUT_RULE}"
-    ) {
-        Ok(text) => CommandFault::Usage(text),
-        Err(_) => CommandFault::Memory,
-    }
-}
-
 // What a list of words leaves out.
 fn listed_out(alloc: Global, list: &str) -> Result<Leaving, CommandFault> {
     match leaving_of(list) {
         Some(leaving) => Ok(leaving),
-        None => Err(without_fault(alloc, list)),
+        None => Err(list_fault(alloc, list, "--without <WORDS>", WITHOUT_RULE)),
     }
 }
 
@@ -279,7 +256,7 @@ fn of_matches<'a>(alloc: Global, matches: &ArgMatches<'a>) -> Result<Action<'a>,
     ensures { IfOk result IsAction }
 {
     if let Some(text) = odds_of(matches) {
-        return Err(CommandFault::Usage(String::from_str(alloc, text)?));
+        return Err(usage(alloc, text));
     }
     let Some((name, found)) = matches.subcommand() else {
         return Err(missing(alloc));

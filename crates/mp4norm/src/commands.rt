@@ -24,6 +24,33 @@ Status:
 
 Example: mp4norm normalise movie.mp4 --out normal.mp4";
 
+// What the words that are there or not ask for.
+const EXPLAIN: &str = "\
+Say more of what is wrong: of a fault the box, the clause and the meaning, of a failure the \
+file and the cause";
+
+const REPLACE: &str = "\
+Replace NEW, and only once all is written: by a new file beside it, \
+NEW.part";
+
+const PROGRESS: &str = "Say on standard error how far it has come, in percent and MB/s";
+
+const HEADER: &str = "Begin with a line of the names of the columns";
+
+const JSON: &str = "List each sample as an object of JSON, in a line of its own";
+
+const ZERO: &str = "End each line with a zero byte in place of a line feed";
+
+const ALL: &str = "List all differences, and count them, in place of the first alone";
+
+// A word that is there or not.
+fn flag<'a>(alloc: Global, name: &'a str, help: &'a str) -> Arg<'a> {
+    Arg::new(alloc, name)
+        .long(name)
+        .help(help)
+        .action(ArgAction::SetTrue)
+}
+
 fn file_arg<'a>(alloc: Global) -> Arg<'a> {
     Arg::new(alloc, "file")
         .value_name("FILE")
@@ -53,59 +80,12 @@ fn out_arg<'a>(alloc: Global) -> Arg<'a> {
         .action(ArgAction::Set)
 }
 
-fn explain_arg<'a>(alloc: Global) -> Arg<'a> {
-    Arg::new(alloc, "explain")
-        .long("explain")
-        .help(
-            "Say more of what is wrong: of a fault the box, the clause and the meaning, of a \
-             failure the file and the cause",
-        )
-        .action(ArgAction::SetTrue)
-}
-
-fn replace_arg<'a>(alloc: Global) -> Arg<'a> {
-    Arg::new(alloc, "replace")
-        .long("replace")
-        .help("Replace NEW, and only once all is written: by a new file beside it, NEW.part")
-        .action(ArgAction::SetTrue)
-}
-
-fn progress_arg<'a>(alloc: Global) -> Arg<'a> {
-    Arg::new(alloc, "progress")
-        .long("progress")
-        .help("Say on standard error how far it has come, in percent and MB/s")
-        .action(ArgAction::SetTrue)
-}
-
-fn header_arg<'a>(alloc: Global) -> Arg<'a> {
-    Arg::new(alloc, "header")
-        .long("header")
-        .help("Begin with a line of the names of the columns")
-        .action(ArgAction::SetTrue)
-}
-
-fn json_arg<'a>(alloc: Global) -> Arg<'a> {
-    Arg::new(alloc, "json")
-        .long("json")
-        .help("List each sample as an object of JSON, in a line of its own")
-        .action(ArgAction::SetTrue)
-}
-
-// A command with an argument more.
-fn with_arg<'a>(command: Command<'a>, arg: Arg<'a>) -> Result<Command<'a>, AllocError> {
-    command.arg(arg)
-}
-
 // A command that writes a file.
 fn with_out<'a>(command: Command<'a>, alloc: Global) -> Result<Command<'a>, AllocError> {
-    let command = with_arg(command, out_arg(alloc))?;
-    let command = with_arg(command, replace_arg(alloc))?;
-    with_arg(command, progress_arg(alloc))
-}
-
-// A command with a subcommand more.
-fn with<'a>(command: Command<'a>, subcommand: Command<'a>) -> Result<Command<'a>, AllocError> {
-    command.subcommand(subcommand)
+    command
+        .arg(out_arg(alloc))?
+        .arg(flag(alloc, "replace", REPLACE))?
+        .arg(flag(alloc, "progress", PROGRESS))
 }
 
 // A command that reads a file.
@@ -115,9 +95,11 @@ fn of_file<'a>(
     about: &'a str,
     example: &'a str,
 ) -> Result<Command<'a>, AllocError> {
-    let command = Command::new(alloc, name).about(about).after_help(example);
-    let command = with_arg(command, file_arg(alloc))?;
-    with_arg(command, explain_arg(alloc))
+    Command::new(alloc, name)
+        .about(about)
+        .after_help(example)
+        .arg(file_arg(alloc))?
+        .arg(flag(alloc, "explain", EXPLAIN))
 }
 
 fn boxes_command<'a>(alloc: Global) -> Result<Command<'a>, AllocError> {
@@ -146,9 +128,10 @@ fn samples_command<'a>(alloc: Global) -> Result<Command<'a>, AllocError> {
          description, size",
         "Example: mp4norm samples movie.mp4 --track 1",
     )?;
-    let command = with_arg(command, track_arg(alloc))?;
-    let command = with_arg(command, header_arg(alloc))?;
-    with_arg(command, json_arg(alloc))
+    command
+        .arg(track_arg(alloc))?
+        .arg(flag(alloc, "header", HEADER))?
+        .arg(flag(alloc, "json", JSON))
 }
 
 fn extract_command<'a>(alloc: Global) -> Result<Command<'a>, AllocError> {
@@ -158,8 +141,7 @@ fn extract_command<'a>(alloc: Global) -> Result<Command<'a>, AllocError> {
         "Writes the bytes of a track's samples, one after the other",
         "Example: mp4norm extract movie.mp4 --track 1 --out video.bin",
     )?;
-    let command = with_arg(command, track_arg(alloc))?;
-    with_out(command, alloc)
+    with_out(command.arg(track_arg(alloc))?, alloc)
 }
 
 fn normalise_command<'a>(alloc: Global) -> Result<Command<'a>, AllocError> {
@@ -169,8 +151,7 @@ fn normalise_command<'a>(alloc: Global) -> Result<Command<'a>, AllocError> {
         "Writes the normal form of a file",
         "Example: mp4norm normalise movie.mp4 --out normal.mp4",
     )?;
-    let command = with_arg(command, without_arg(alloc))?;
-    with_out(command, alloc)
+    with_out(command.arg(without_arg(alloc))?, alloc)
 }
 
 fn without_arg<'a>(alloc: Global) -> Arg<'a> {
@@ -197,8 +178,7 @@ fn strip_command<'a>(alloc: Global) -> Result<Command<'a>, AllocError> {
         "Copies a file, and makes boxes of some types free space",
         "Example: mp4norm strip movie.mp4 --drop uuid,minf/hdlr --out stripped.mp4",
     )?;
-    let command = with_arg(command, drop_arg(alloc))?;
-    with_out(command, alloc)
+    with_out(command.arg(drop_arg(alloc))?, alloc)
 }
 
 fn files_arg<'a>(alloc: Global) -> Result<Arg<'a>, AllocError> {
@@ -218,20 +198,13 @@ fn list_arg<'a>(alloc: Global) -> Arg<'a> {
         .action(ArgAction::Set)
 }
 
-fn zero_arg<'a>(alloc: Global) -> Arg<'a> {
-    Arg::new(alloc, "zero")
-        .long("zero")
-        .help("End each line with a zero byte in place of a line feed")
-        .action(ArgAction::SetTrue)
-}
-
 fn check_command<'a>(alloc: Global) -> Result<Command<'a>, AllocError> {
-    let command = Command::new(alloc, "check")
+    Command::new(alloc, "check")
         .about("Says of each file whether it has a normal form, a line each")
-        .after_help("Example: mp4norm check *.mp4");
-    let command = with_arg(command, files_arg(alloc)?)?;
-    let command = with_arg(command, list_arg(alloc))?;
-    with_arg(command, zero_arg(alloc))
+        .after_help("Example: mp4norm check *.mp4")
+        .arg(files_arg(alloc)?)?
+        .arg(list_arg(alloc))?
+        .arg(flag(alloc, "zero", ZERO))
 }
 
 fn side_arg<'a>(alloc: Global, name: &'a str, shown: &'a str) -> Arg<'a> {
@@ -240,13 +213,6 @@ fn side_arg<'a>(alloc: Global, name: &'a str, shown: &'a str) -> Arg<'a> {
         .help("An MP4 file to compare, or - for standard input")
         .required(true)
         .action(ArgAction::Set)
-}
-
-fn all_arg<'a>(alloc: Global) -> Arg<'a> {
-    Arg::new(alloc, "all")
-        .long("all")
-        .help("List all differences, and count them, in place of the first alone")
-        .action(ArgAction::SetTrue)
 }
 
 fn limit_arg<'a>(alloc: Global) -> Arg<'a> {
@@ -259,14 +225,14 @@ fn limit_arg<'a>(alloc: Global) -> Arg<'a> {
 }
 
 fn compare_command<'a>(alloc: Global) -> Result<Command<'a>, AllocError> {
-    let command = Command::new(alloc, "compare")
+    Command::new(alloc, "compare")
         .about("Says whether two files say the same, and names the first difference")
-        .after_help("Example: mp4norm compare one.mp4 other.mp4 --without times,metadata");
-    let command = with_arg(command, side_arg(alloc, "left", "A"))?;
-    let command = with_arg(command, side_arg(alloc, "right", "B"))?;
-    let command = with_arg(command, without_arg(alloc))?;
-    let command = with_arg(command, all_arg(alloc))?;
-    with_arg(command, limit_arg(alloc))
+        .after_help("Example: mp4norm compare one.mp4 other.mp4 --without times,metadata")
+        .arg(side_arg(alloc, "left", "A"))?
+        .arg(side_arg(alloc, "right", "B"))?
+        .arg(without_arg(alloc))?
+        .arg(flag(alloc, "all", ALL))?
+        .arg(limit_arg(alloc))
 }
 
 fn top_command<'a>(alloc: Global) -> Result<Command<'a>, AllocError> {
@@ -281,12 +247,13 @@ fn top_command<'a>(alloc: Global) -> Result<Command<'a>, AllocError> {
 
 /// All commands, their words and their help.
 pub(crate) fn whole_command<'a>(alloc: Global) -> Result<Command<'a>, AllocError> {
-    let command = with(top_command(alloc)?, boxes_command(alloc)?)?;
-    let command = with(command, show_command(alloc)?)?;
-    let command = with(command, samples_command(alloc)?)?;
-    let command = with(command, extract_command(alloc)?)?;
-    let command = with(command, normalise_command(alloc)?)?;
-    let command = with(command, compare_command(alloc)?)?;
-    let command = with(command, check_command(alloc)?)?;
-    with(command, strip_command(alloc)?)
+    top_command(alloc)?
+        .subcommand(boxes_command(alloc)?)?
+        .subcommand(show_command(alloc)?)?
+        .subcommand(samples_command(alloc)?)?
+        .subcommand(extract_command(alloc)?)?
+        .subcommand(normalise_command(alloc)?)?
+        .subcommand(compare_command(alloc)?)?
+        .subcommand(check_command(alloc)?)?
+        .subcommand(strip_command(alloc)?)
 }

@@ -123,15 +123,14 @@ fn push_line(text: &mut Vec<u8>, label: &[u8], rest: &[u8]) -> Result<(), AllocE
 // The way to the named box. Where its header can't be read, or it is no box of a container, its
 // type stands at the end.
 fn whole_way(way: &mut Way, named: FourCc) -> Result<(), AllocError> {
-    if way.text.is_empty() {
-        way.text
-            .extend_from_slice(step_line(named, None).as_bytes())?;
-    } else if way.last != named {
+    if !way.text.is_empty() {
+        if way.last == named {
+            return Ok(());
+        }
         way.text.extend_from_slice(b" / ")?;
-        way.text
-            .extend_from_slice(step_line(named, None).as_bytes())?;
     }
-    Ok(())
+    way.text
+        .extend_from_slice(step_line(named, None).as_bytes())
 }
 
 // Adds the numbers that go with a fault.

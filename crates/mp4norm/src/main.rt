@@ -151,23 +151,20 @@ fn act<L: Ledger, M: Ledger>(
             input,
             target,
             telling,
-        } => end(
-            rt,
-            run(rt, job, input, target, telling, &mut steps, &mut looks),
-        ),
+        } => {
+            let answer = run(rt, job, input, target, telling, &mut steps, &mut looks);
+            end(rt, answer)
+        }
         Action::Strip {
             names,
             input,
             target,
             telling,
         } => {
-            let job = Job::Strip {
-                names: names.as_slice(),
-            };
-            end(
-                rt,
-                run(rt, job, input, target, telling, &mut steps, &mut looks),
-            )
+            let names = names.as_slice();
+            let job = Job::Strip { names };
+            let answer = run(rt, job, input, target, telling, &mut steps, &mut looks);
+            end(rt, answer)
         }
         Action::Compare {
             left,

@@ -4,12 +4,12 @@ ghost use Rattle.serde_json.specs.Data.{array};
 ghost use Rattle.serde_json.specs.View.{items_of, view};
 ghost use Rattle.serde_json.specs.Written.{compact_text};
 ghost use Rattle.mp4_head.specs.format.Head.{handler_type};
-ghost use Rattle.mp4_head.specs.words.Seen.{description_seen, edit_seen, track_seen, movie_seen, tracks_seen};
+ghost use Rattle.mp4_head.specs.words.Seen.{kept_seen, edit_seen, track_seen, movie_seen, tracks_seen};
 ghost use Rattle.mp4norm.specs.format.Texts.{description_value, edit_value};
 ghost use Rattle.mp4norm.specs.words.ShowValue.{info_value, infos_values, ShowValue};
 
 use crate::type_names::type_string;
-use mp4_head::{Description, Edit, MovieHead, TrackHead};
+use mp4_head::{Edit, Kept, MovieHead, TrackHead};
 use mp4_present::TrackInfo;
 use serde_json::{Value, json};
 use std::alloc::{AllocError, Global};
@@ -31,16 +31,16 @@ fn edits_value(alloc: Global, edits: &[Edit]) -> Result<Value, AllocError>
     Ok(Value::Array(values))
 }
 
-fn description_value(alloc: Global, description: &Description) -> Result<Value, AllocError>
-    ensures { IfOk result (λ v. view v ≡ description_value (description_seen description.now)) }
+fn description_value(alloc: Global, description: &Kept) -> Result<Value, AllocError>
+    ensures { IfOk result (λ v. view v ≡ description_value (kept_seen description.now)) }
 {
     let text = type_string(alloc, &description.kind.0)?;
     Ok(Value::String(text))
 }
 
-fn descriptions_value(alloc: Global, descriptions: &[Description]) -> Result<Value, AllocError>
+fn descriptions_value(alloc: Global, descriptions: &[Kept]) -> Result<Value, AllocError>
     ensures { IfOk result (λ v. view v
-        ≡ array (items_of (map description_value (map description_seen descriptions.now)))) }
+        ≡ array (items_of (map description_value (map kept_seen descriptions.now)))) }
 {
     let mut values = Vec::new(alloc);
     for description in descriptions {

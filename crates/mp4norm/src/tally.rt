@@ -9,7 +9,7 @@ use std::alloc::AllocError;
 /// sample_is_non_sync_sample among the flags of a sample (ISO/IEC 14496-12, 8.8.3.1).
 const NOT_SYNC: u64 = 0x10000;
 
-// What a difference is of.
+// What a difference is of, in the order in which the kinds are told of.
 #[derive(Clone, Copy)]
 enum Kind {
     Times,
@@ -55,17 +55,15 @@ fn differs_in_sync(difference: &Difference) -> bool {
     }
 }
 
+/// What the kinds are called, in the order in which they are told of.
+const NAMES: [&str; 8] = [
+    "times", "edits", "flags", "groups", "kept", "heads", "samples", "bytes",
+];
+
 /// How many differences there are of each kind.
 #[derive(Clone, Copy)]
 pub(crate) struct Tally {
-    times: u64,
-    edits: u64,
-    flags: u64,
-    groups: u64,
-    kept: u64,
-    heads: u64,
-    samples: u64,
-    bytes: u64,
+    counts: [u64; 8],
     /// Some difference of flags is left where flags are left out.
     in_sync: bool,
 }
@@ -74,14 +72,7 @@ impl Tally {
     /// Of these differences.
     pub(crate) fn of(all: &[Difference]) -> Tally {
         let mut tally = Tally {
-            times: 0,
-            edits: 0,
-            flags: 0,
-            groups: 0,
-            kept: 0,
-            heads: 0,
-            samples: 0,
-            bytes: 0,
+            counts: [0; 8],
             in_sync: false,
         };
         for difference in all {
@@ -91,39 +82,23 @@ impl Tally {
     }
 
     fn note(&mut self, difference: &Difference) {
-        match kind_of(difference) {
-            Kind::Times => self.times = self.times.saturating_add(1),
-            Kind::Edits => self.edits = self.edits.saturating_add(1),
-            Kind::Flags => {
-                self.flags = self.flags.saturating_add(1);
-                self.in_sync |= differs_in_sync(difference);
-            }
-            Kind::Groups => self.groups = self.groups.saturating_add(1),
-            Kind::Kept => self.kept = self.kept.saturating_add(1),
-            Kind::Heads => self.heads = self.heads.saturating_add(1),
-            Kind::Samples => self.samples = self.samples.saturating_add(1),
-            Kind::Bytes => self.bytes = self.bytes.saturating_add(1),
+        let kind = kind_of(difference);
+        let count = &mut self.counts[kind as usize];
+        *count = count.saturating_add(1);
+        if matches!(kind, Kind::Flags) {
+            self.in_sync |= differs_in_sync(difference);
         }
     }
 
-    // What the kinds are called, in the order in which they are told of, and how many there are.
-    fn counts(&self) -> [(&'static str, u64); 8] {
-        [
-            ("times", self.times),
-            ("edits", self.edits),
-            ("flags", self.flags),
-            ("groups", self.groups),
-            ("kept", self.kept),
-            ("heads", self.heads),
-            ("samples", self.samples),
-            ("bytes", self.bytes),
-        ]
+    // Whether there is a difference of this kind.
+    fn has(&self, kind: Kind) -> bool {
+        self.counts[kind as usize] > 0
     }
 
     // How many differences there are.
     fn total(&self) -> u64 {
         let mut total: u64 = 0;
-        for (_, count) in self.counts() {
+        for count in self.counts {
             total = total.saturating_add(count);
         }
         total
@@ -132,29 +107,30 @@ impl Tally {
     /// What has to be left out, beside what is left out already, for no difference to be left;
     /// none where some would be. Of kept boxes not all are metadata, so it may not be enough.
     pub(crate) fn suggests(&self, leaving: Leaving) -> Option<Leaving> {
-        if self.in_sync || self.heads > 0 || self.samples > 0 || self.bytes > 0 {
+        let differ = self.has(Kind::Heads) || self.has(Kind::Samples) || self.has(Kind::Bytes);
+        if self.in_sync || differ {
             return None;
         }
         Some(Leaving {
-            times: leaving.times || self.times > 0,
-            edits: leaving.edits || self.edits > 0,
-            flags: leaving.flags || self.flags > 0,
-            groups: leaving.groups || self.groups > 0,
-            metadata: leaving.metadata || self.kept > 0,
+            times: leaving.times || self.has(Kind::Times),
+            edits: leaving.edits || self.has(Kind::Edits),
+            flags: leaving.flags || self.has(Kind::Flags),
+            groups: leaving.groups || self.has(Kind::Groups),
+            metadata: leaving.metadata || self.has(Kind::Kept),
         })
     }
 }
 
 // Adds the counts by kind.
 fn say_counts(text: &mut Vec<u8>, tally: &Tally) -> Result<(), AllocError> {
-    let mut front = ": ";
-    for (name, count) in tally.counts() {
-        if count > 0 {
-            say(text, front)?;
+    let mut is_first = true;
+    for (name, count) in NAMES.iter().zip(tally.counts.iter()) {
+        if *count > 0 {
+            say(text, if is_first { ": " } else { ", " })?;
             say(text, name)?;
             say(text, " ")?;
-            say_number(text, count)?;
-            front = ", ";
+            say_number(text, *count)?;
+            is_first = false;
         }
     }
     Ok(())
@@ -184,14 +160,10 @@ pub(crate) fn say_tally(
 {
     let total = tally.total();
     say_number(text, total)?;
-    say(
-        text,
-        if total == 1 {
-            " difference"
-        } else {
-            " differences"
-        },
-    )?;
+    say(text, " difference")?;
+    if total != 1 {
+        say(text, "s")?;
+    }
     say_counts(text, tally)?;
     match enough {
         Some(leaving) => {

@@ -31,12 +31,6 @@ pub data Leaf : Type 0 where
   tfdt : Leaf
   trun : Leaf
 
--- all but the entries of `stsd` begin with a version of one byte and flags of three (FullBox,
--- 4.2.3)
-abbrev pub is_full : Leaf → Bool
-is_full sample_entry = false
-is_full _ = true
-
 abbrev pub version : List ℕ → ℕ
 version payload = field payload 0 1
 

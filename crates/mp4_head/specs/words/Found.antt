@@ -5,7 +5,7 @@ use Rattle.mp4_boxes.specs.format.Box.{Box, size}
 use Rattle.mp4_boxes.specs.words.View.{box_seen}
 use Rattle.mp4_head.specs.format.Head as heads
 use Rattle.mp4_head.specs.format.Tree.{TrackTree, IsTrackTree, IsSoundTrack, track_head_of, stbl_of, first_of, HasHead}
-use Rattle.mp4_head.specs.words.Seen.{kept_seen, description_seen, head_seen}
+use Rattle.mp4_head.specs.words.Seen.{kept_seen, head_seen}
 use Rattle.mp4_head.specs.declared.movie_header.MovieHeader.{MovieHeader}
 use Rattle.mp4_head.specs.declared.track_header.TrackHeader.{TrackHeader}
 use Rattle.mp4_head.specs.declared.heads.TrackHead.{TrackHead}
@@ -45,7 +45,7 @@ track_joined h edits kept m = record {
     handler = m.handler.now;
     extended_languages = map (λ p. p.now) m.extended_languages.items;
     header = kept_seen m.information.header;
-    descriptions = map description_seen m.information.table.descriptions.items;
+    descriptions = map kept_seen m.information.table.descriptions.items;
   };
   group_descriptions = map (λ p. p.now) m.information.table.group_descriptions.items;
 }

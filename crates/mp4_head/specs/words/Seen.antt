@@ -3,16 +3,12 @@ use Rattle.std.specs.Prelude.{List, map}
 use Rattle.mp4_head.specs.format.Head as heads
 use Rattle.mp4_head.specs.declared.edit_list.Edit.{Edit}
 use Rattle.mp4_head.specs.declared.kept_boxes.Kept.{Kept}
-use Rattle.mp4_head.specs.declared.kept_boxes.Description.{Description}
 use Rattle.mp4_head.specs.declared.heads.Media.{Media}
 use Rattle.mp4_head.specs.declared.heads.TrackHead.{TrackHead}
 use Rattle.mp4_head.specs.declared.heads.MovieHead.{MovieHead}
 
 abbrev pub kept_seen : Kept → heads.Kept
 kept_seen k = record { kind = k.kind.0; payload = k.payload.now }
-
-abbrev pub description_seen : Description → heads.Kept
-description_seen d = record { kind = d.kind.0; payload = d.payload.now }
 
 abbrev pub edit_seen : Edit → heads.Edit
 edit_seen e = record {
@@ -31,7 +27,7 @@ media_seen m = record {
   handler = m.handler.now;
   extended_languages = map (λ p. p.now) m.extended_languages.items;
   header = kept_seen m.header;
-  descriptions = map description_seen m.descriptions.items;
+  descriptions = map kept_seen m.descriptions.items;
 }
 
 abbrev pub track_seen : TrackHead → heads.TrackHead

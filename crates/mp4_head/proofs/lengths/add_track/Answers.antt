@@ -12,6 +12,6 @@ returns c =
     let e = c.add_box-handled.ensures in
     let f = rw c.deref-3.ensures.value at c.add_boxes-told.ensures in
     let g = c.add_box-headed.ensures in
-    let h = rw c.deref-4.ensures.value at c.add_descriptions-described.ensures in
+    let h = rw c.deref-4.ensures.value at c.add_kept-described.ensures in
     let i = rw c.deref-5.ensures.value at c.add_boxes.ensures in
     omega arith

@@ -3,7 +3,7 @@ use Rattle.std.proofs.lemmas.Result.{err_from_is_err_and}
 use Rattle.std.proofs.lemmas.List.{map-append}
 use Rattle.mp4_boxes.specs.format.Box.{Tiles, counted_container}
 use Rattle.mp4_boxes.specs.words.View.{box_seen}
-use Rattle.mp4_head.specs.words.Seen.{description_seen}
+use Rattle.mp4_head.specs.words.Seen.{kept_seen}
 use Rattle.mp4_head.proofs.Entries.{descriptions_none, descriptions_more, descriptions_all, descriptions_header, descriptions_fail}
 use Rattle.mp4_head.proofs.sample_table.read_descriptions.Goals as goal
 
@@ -20,8 +20,8 @@ loop-entry-preserved c =
     let e = c.in_ok-read_description.ensures in (
       tt,
       tt,
-      descriptions_more _ c.loop-entry.entry-iterator c.next.new.self (box_seen c.in-Some.entry) _ _ _ c.loop-entry.invariant.2 c.in-Some.ensures.steps e.sound e.says (ap (map description_seen) c.in_ok-push.ensures.items
-          ∙ map-append description_seen c.loop-entry.descriptions.items (c.in_ok-read_description.field-0 ∷ [])),
+      descriptions_more _ c.loop-entry.entry-iterator c.next.new.self (box_seen c.in-Some.entry) _ _ _ c.loop-entry.invariant.2 c.in-Some.ensures.steps e.sound e.says (ap (map kept_seen) c.in_ok-push.ensures.items
+          ∙ map-append kept_seen c.loop-entry.descriptions.items (c.in_ok-read_description.field-0 ∷ [])),
     )
 
 pub returns-in_err-read_description-clause-refusal : goal.returns-in_err-read_description-clause-refusal

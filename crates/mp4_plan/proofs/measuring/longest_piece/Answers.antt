@@ -35,13 +35,13 @@ loop-turn-init g c =
       λ told tree o.
           let file = g.S.Store.file c.args.store.now in
           let begin = c.in_ok-walks.ensures.start.begin file tree o c.args.leaving in
-          let shown = e.shown told tree o (map (left_samples c.args.leaving tree) tree.movie.tracks) (rw c.as_mut_slice.ensures.value begin) in
+          let shown = e.shown told tree o (map (left_samples c.args.leaving tree) tree.movie.tracks) (rw c.as_mut_slice-all.ensures.value begin) in
           let time = c.first_time.ensures (map (left_samples c.args.leaving tree) tree.movie.tracks) (c.as_slice.ensures.value ∙ noted ∙ shown.0) in
           let s = rw c.tracks-tracks.ensures at c.new-schedule.ensures in
           longest_first c.args.leaving file tree m c.new-schedule.result c.peek_each.new.walks c.peek_each.new.nexts c.first_time.result o shown.1 shown.0 time s.tracks s.first s.left s.starts,
       λ told tree o.
           let begin = c.in_ok-walks.ensures.start.may (g.S.Store.file c.args.store.now) tree o in
-          all_within (g.S.Store.file c.args.store.now) tree c.peek_each.new.walks begin.0 (walks_steps tree) _ _ begin.2 (e.work told tree o begin.0 (rw c.as_mut_slice.ensures.value begin.1)),
+          all_within (g.S.Store.file c.args.store.now) tree c.peek_each.new.walks begin.0 (walks_steps tree) _ _ begin.2 (e.work told tree o begin.0 (rw c.as_mut_slice-all.ensures.value begin.1)),
       search rules,
       begins_within m.tracks c.new-schedule.result c.args.looks.now (rw c.tracks-tracks.ensures at c.new-schedule.ensures.tracks) (rw c.tracks-tracks.ensures at c.new-schedule.ensures.left) c.new-schedule.ensures.starts.0 c.new-schedule.ensures.starts.2,
     )
@@ -50,12 +50,12 @@ pub returns-in_err-peek_each-clause-unchanged : goal.returns-in_err-peek_each-cl
 returns-in_err-peek_each-clause-unchanged g c told tree o =
     let p = err_from_is_err_and c.from_residual-in_err-peek_each.result c.from_residual-in_err-peek_each.ensures.1 in
     let begin = c.in_ok-walks.ensures.start.begin (g.S.Store.file c.args.store.now) tree o c.args.leaving in
-    rw (p.1, p.2) (c.in_err-peek_each.ensures.unchanged told tree o (map (left_samples c.args.leaving tree) tree.movie.tracks) (rw c.as_mut_slice.ensures.value begin))
+    rw (p.1, p.2) (c.in_err-peek_each.ensures.unchanged told tree o (map (left_samples c.args.leaving tree) tree.movie.tracks) (rw c.as_mut_slice-all.ensures.value begin))
 
 pub returns-in_err-peek_each-clause-work : goal.returns-in_err-peek_each-clause-work
 returns-in_err-peek_each-clause-work g c told tree o =
     let begin = c.in_ok-walks.ensures.start.may (g.S.Store.file c.args.store.now) tree o in
-    let most = c.in_err-peek_each.ensures.work told tree o begin.0 (rw c.as_mut_slice.ensures.value begin.1) in
+    let most = c.in_err-peek_each.ensures.work told tree o begin.0 (rw c.as_mut_slice-all.ensures.value begin.1) in
     let few = begin.2 in
     omega (arith, most, few)
 

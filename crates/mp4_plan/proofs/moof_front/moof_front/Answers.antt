@@ -6,7 +6,7 @@ use Rattle.mp4_plan.proofs.moof_front.moof_front.Goals as goal
 pub returns : goal.returns
 unfolding moof_front
 returns c =
-    rw (← c.head_bits.ensures, ← c.run_bits.ensures, ← c.data_place.ensures, ← c.short.ensures, ← c.short-2.ensures, ← c.short-3.ensures, ← c.short-4.ensures)
+    rw (← c.head_bits-bits.ensures, ← c.run_bits-bits.ensures, ← c.data_place-place.ensures, ← c.short.ensures, ← c.short-2.ensures, ← c.short-3.ensures, ← c.short-4.ensures)
     (behind [] c.push_tfdt.new.out c.push_trun.new.out _ _
     (behind [] c.push_tfhd.new.out c.push_tfdt.new.out _ _
     (behind [] c.push_box-2.new.self c.push_tfhd.new.out _ _

@@ -1,5 +1,5 @@
 use Rattle.std.proofs.Common.{refl}
-use Rattle.mp4_head.specs.words.Seen.{media_seen, description_seen}
+use Rattle.mp4_head.specs.words.Seen.{media_seen, kept_seen}
 use Rattle.mp4_present.specs.format.Differences.{box_differences, payload_differences}
 use Rattle.mp4_present.specs.format.Reduced.{reduce_media}
 use Rattle.mp4_present.specs.declared.differences.Entries.TheVariants as lists
@@ -25,7 +25,7 @@ returns c =
     let descriptions = rw (
       c.deref-3.ensures.value,
       c.deref-4.ensures.value,
-      lists_seen description_seen of lists.Descriptions (box_differences of lists.Descriptions) (λ n x y. box_differences of lists.Descriptions n (description_seen x) (description_seen y))
+      lists_seen kept_seen of lists.Descriptions (box_differences of lists.Descriptions) (λ n x y. box_differences of lists.Descriptions n (kept_seen x) (kept_seen y))
           (λ n x y. refl) left.descriptions.items right.descriptions.items,
     ) at p in
     media_grown of (reduce_media c.args.leaving (media_seen left)) (reduce_media c.args.leaving (media_seen right)) _ _ _ _ _ _ values handler languages header descriptions) c.compare_lists-2.ensures
