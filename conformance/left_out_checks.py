@@ -57,6 +57,10 @@ TOO_MANY = ('if count > limits.room {\n'
 SHORT_SIZES = ('if payload.len() - 12 < 4 * count as usize {\n'
                '            return Err(leaf.fault(Kind::ShortBox));\n        }\n')
 COUNTS = 'if !counts_are(stbl.payload(), rows, n, steps) {'
+FIELDS = ('    if payload.len() < rows {\n        return Err(Kind::ShortBox);\n    }\n'
+          '    let count = u32_at(payload, 4);\n')
+SHORT_RUN = '    if payload.len() < rows + count as usize * row_size(bits) {\n'
+ONLY_SHORT_RUN = SHORT_RUN.replace('if ', 'if payload.len() >= rows && ')
 
 
 def of_boxes():
@@ -299,8 +303,9 @@ def of_fragments():
                'BadFlags of trun: flags twice', 'narrow-trun-with-flags-twice'),
         unless(RUNS, 'payload.len() < rows + count as usize * row_size(bits)',
                'ShortBox of the rows of trun', 'narrow-trun-with-a-short-row'),
-        unless(RUNS, 'payload.len() < rows', 'ShortBox of the fields of trun',
-               'narrow-trun-with-short-fields'),
+        # The next check would see it too.
+        Edit(RUNS, FIELDS + SHORT_RUN, '    let count = u32_at(payload, 4);\n' + ONLY_SHORT_RUN,
+             'ShortBox of the fields of trun', 'narrow-trun-with-short-fields'),
         unless(RUN_CHECKS, 'run.count > *room', 'TooManySamples of trun',
                'narrow-too-many-samples-in-trun', 'too-many-samples-with-those-of-tables'),
         Edit(RUN_CHECKS, '    if samples.are_within {',
@@ -317,8 +322,8 @@ def of_fragments():
         Edit(TRAF, 'find_track(tracks, head.id, known, looks) else {',
              'find_track(tracks, head.id, known, looks).or(Some(0)) else {',
              'UnknownTrack: no track', 'narrow-tfhd-of-no-track', 'unknown-track-without-runs'),
-        Edit('mp4_present/src/tables_pass.rt', '        if trex.id == id {',
-             '        if trex.id == id || trex.id > 2 {', 'UnknownTrack: no trex',
+        Edit('mp4_present/src/tables_pass.rt', 'find(|trex| trex.id == id)',
+             'find(|trex| trex.id == id || trex.id > 2)', 'UnknownTrack: no trex',
              'no-trex-for-the-track'),
         Edit(TRAF, 'passed.count > 0 && (index < 1 || index > state.descriptions)',
              'passed.count > 9 && (index < 1 || index > state.descriptions)',

@@ -56,13 +56,8 @@ pub fn counted<'a>(view: BoxView<'a>) -> Result<Children<'a>, Fault>
     let mut count = 0u32;
     while count < due {
         let rest = &bytes[at..];
-        let header = read_header(
-            rest,
-            rest.len() as u64,
-            false,
-            view.kind(),
-            base + at as u64,
-        )?;
+        let place = base + at as u64;
+        let header = read_header(rest, rest.len() as u64, false, view.kind(), place)?;
         at += header.size as usize;
         count += 1;
     }
@@ -97,7 +92,7 @@ fn repeats(rule: Rule, kind: FourCc, bytes: &[u8], base: u64, count: usize) -> b
             base,
             left: count,
         };
-        if line.is_single() && is_among(line.kinds, kind) && stands(line.kinds, before) {
+        if line.is_single() && is_among(line.1, kind) && stands(line.1, before) {
             return true;
         }
     }
@@ -116,7 +111,7 @@ fn lacks(rule: Rule, bytes: &[u8], base: u64, count: usize) -> bool
             base,
             left: count,
         };
-        if line.is_needed() && !stands(line.kinds, all) {
+        if line.is_needed() && !stands(line.1, all) {
             return true;
         }
     }

@@ -39,8 +39,6 @@ pub(crate) const TRAF: FourCc = FourCc(*b"traf");
 
 pub(crate) const TFHD: FourCc = FourCc(*b"tfhd");
 
-const TFDT: FourCc = FourCc(*b"tfdt");
-
 pub(crate) const TRUN: FourCc = FourCc(*b"trun");
 
 pub(crate) const SBGP: FourCc = FourCc(*b"sbgp");
@@ -69,7 +67,7 @@ fn check_boxes<'a>(traf: BoxView<'a>) -> Result<Heads<'a>, Fault>
     for child in check_children(traf, Rule::TrackFragment)? {
         if child.kind() == TFHD {
             heads.head = Some(child);
-        } else if child.kind() == TFDT {
+        } else if child.kind() == FourCc(*b"tfdt") {
             heads.time = Some(child);
         }
     }

@@ -78,13 +78,7 @@ fn data_end(at: i128, size: u32) -> i128
 fn is_too_large(before: bool, row: Row) -> bool
     ensures { result ≡ (before || too_large (row.offset ∷ [])) }
 {
-    if before {
-        return true;
-    }
-    match row.offset {
-        Some(offset) => offset >= 0x8000_0000,
-        None => false,
-    }
+    before || matches!(row.offset, Some(offset) if offset >= 0x8000_0000)
 }
 
 // Row `k` of a run.

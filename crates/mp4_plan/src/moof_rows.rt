@@ -23,21 +23,14 @@ use mp4_tables::{GroupKey, Keys};
 fn own(common: Option<u32>, number: u32) -> Option<u32>
     ensures { result ≡ own common number }
 {
-    match common {
-        Some(_) => None,
-        None => Some(number),
-    }
+    common.is_none().then_some(number)
 }
 
 // The composition offset of a row, where some offset isn't 0.
 fn offset_of(has_offsets: bool, row: &Row) -> Option<u32>
     ensures { result ≡ offset_of has_offsets row.now }
 {
-    if has_offsets {
-        Some(row.cto.cast_unsigned())
-    } else {
-        None
-    }
+    has_offsets.then_some(row.cto.cast_unsigned())
 }
 
 /// How many rows of `trun` are spelled at once: of sixteen bytes at most each.

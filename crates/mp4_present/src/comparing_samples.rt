@@ -50,11 +50,8 @@ fn index_at(keys: &Keys, sample: &SampleAt, key: GroupKey) -> u16
     ensures { result ≡ index_of keys.now sample.now key }
 {
     match keys.place(key) {
-        Some(place) => match sample.groups.get(place as usize) {
-            Some(index) => *index,
-            None => 0,
-        },
-        None => 0,
+        Some(place) if place < 4 => sample.groups[place as usize],
+        _ => 0,
     }
 }
 

@@ -30,8 +30,6 @@ use std::sync::ledger::Ledger;
 
 pub(crate) const TFHD: FourCc = FourCc(*b"tfhd");
 
-const TFDT: FourCc = FourCc(*b"tfdt");
-
 // A `moof`, with the room for samples that is left before it.
 #[derive(Clone, Copy)]
 struct Reached {
@@ -96,12 +94,7 @@ pub(crate) fn track_in(payload: &[u8]) -> Option<u32>
 fn state_with(states: &[TrackState], id: u32) -> Option<TrackState>
     ensures { result ≡ find (λ (t : TrackState). t.id == id) states.now }
 {
-    for state in states {
-        if state.id == id {
-            return Some(*state);
-        }
-    }
-    None
+    states.iter().copied().find(|state| state.id == id)
 }
 
 // A `moof` of which these are the bytes behind its header, up to a place in it.
@@ -135,7 +128,7 @@ fn said_in(traf: BoxView, place: u64) -> Option<(u32, u64)>
         → IsChildOf moof (box_seen traf.entry)
         → SaysTime moof place (box_seen traf.entry) said.0 said.1) }
 {
-    let tfdt = child_of(traf, TFDT)?;
+    let tfdt = child_of(traf, FourCc(*b"tfdt"))?;
     if tfdt.offset() != place {
         return None;
     }

@@ -6,7 +6,7 @@ ghost use Rattle.mp4_present.specs.words.NumbersTold.{IsPlain};
 use crate::fault_counts::{chunks_in, number_at, samples_in, sizes_of};
 use crate::fault_details::FaultNumbers;
 use crate::fault_gaps::{TFHD, child_at, child_of, track_in};
-use mp4_boxes::{BoxView, FourCc, u16_at, u32_at, u64_at};
+use mp4_boxes::{BoxView, FourCc, u16_at, u64_at};
 use mp4_frag::{FragCursor, FragView, TrackState};
 use mp4_head::MovieHead;
 use mp4_tables::{Keys, Samples};
@@ -24,17 +24,14 @@ fn outside(at: u64, size: u32, file_len: u64) -> Option<FaultNumbers>
 // The size of sample `k`, which an `stsz` or `stz2` says.
 fn size_in(sizes: BoxView, k: usize) -> Option<u32> {
     let payload = sizes.payload();
-    if payload.len() < 12 {
-        return None;
-    }
+    let rows = payload.get(12..)?;
     if sizes.kind() == FourCc(*b"stsz") {
-        let same = u32_at(payload, 4);
+        let same = number_at(payload, 4)?;
         if same > 0 {
             return Some(same);
         }
-        return number_at(payload, k.checked_mul(4)?.checked_add(12)?);
+        return number_at(rows, k.checked_mul(4)?);
     }
-    let rows = &payload[12..];
     match payload[7] {
         4 if k / 2 < rows.len() => {
             let byte = rows[k / 2];
@@ -48,11 +45,7 @@ fn size_in(sizes: BoxView, k: usize) -> Option<u32> {
 
 // Where chunk `k` begins, counted from 0, which an `stco` or `co64` says.
 fn offset_in(offsets: BoxView, k: usize) -> Option<u64> {
-    let payload = offsets.payload();
-    if payload.len() < 8 {
-        return None;
-    }
-    let rows = &payload[8..];
+    let rows = offsets.payload().get(8..)?;
     if offsets.kind() == FourCc(*b"stco") {
         return Some(u64::from(number_at(rows, k.checked_mul(4)?)?));
     }

@@ -9,8 +9,6 @@ use mp4_tables::{Tables, TablesAt};
 use std::alloc::Global;
 use std::marker::Model;
 
-const STBL: FourCc = FourCc(*b"stbl");
-
 /// Where the tables of a track lie: where the payload of its `stbl` begins in that of the `moov`,
 /// its length, and the tables in it.
 #[derive(Clone, Copy)]
@@ -144,6 +142,6 @@ impl Movie {
     {
         let found = self.tables[track];
         let payload = &self.moov[found.place..found.place + found.len];
-        Tables::again(BoxView::new(STBL, 0, 8, payload), found.tables)
+        Tables::again(BoxView::new(FourCc(*b"stbl"), 0, 8, payload), found.tables)
     }
 }

@@ -13,8 +13,6 @@ use crate::reading::{TopBox, read_top_header};
 use mp4_boxes::{Fault, FourCc, Kind, Refusal, Rule, TopHeader};
 use mp4_store::Store;
 
-const MOOV: FourCc = FourCc(*b"moov");
-
 pub(crate) const MOOF: FourCc = FourCc(*b"moof");
 
 /// What some first headers of a file say.
@@ -57,7 +55,7 @@ fn note(seen: Seen, at: u64, header: TopHeader) -> Result<Seen, Fault>
         return Err(Fault::new(Kind::BoxNotInProfile, header.kind, at));
     }
     let top = TopBox { offset: at, header };
-    if is(header.kind, MOOV) {
+    if is(header.kind, FourCc(*b"moov")) {
         return match seen.moov {
             Some(_) => Err(Fault::new(Kind::DuplicateBox, header.kind, at)),
             None => Ok(Seen {

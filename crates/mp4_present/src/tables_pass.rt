@@ -37,12 +37,7 @@ fn trex_for(trexes: &[Trex], place: usize, id: u32) -> Option<Trex>
     if place < trexes.len() && trexes[place].id == id {
         return Some(trexes[place]);
     }
-    for trex in trexes {
-        if trex.id == id {
-            return Some(*trex);
-        }
-    }
-    None
+    trexes.iter().copied().find(|trex| trex.id == id)
 }
 
 // How many descriptions a track has, as far as 32 bits go: `stsd` counts them so.

@@ -16,19 +16,9 @@ use crate::sync_samples::are_numbers;
 use mp4_boxes::{BoxView, Fault, FourCc, Kind, Steps};
 use std::sync::ledger::Ledger;
 
-const STTS: FourCc = FourCc(*b"stts");
-
-const CTTS: FourCc = FourCc(*b"ctts");
-
-const STSC: FourCc = FourCc(*b"stsc");
-
 const STCO: FourCc = FourCc(*b"stco");
 
 const CO64: FourCc = FourCc(*b"co64");
-
-const STSS: FourCc = FourCc(*b"stss");
-
-const SDTP: FourCc = FourCc(*b"sdtp");
 
 // The durations of `n` samples.
 pub(crate) fn read_durations<L: Ledger>(
@@ -44,7 +34,7 @@ pub(crate) fn read_durations<L: Ledger>(
     ensures passed { IfOk result (λ r. steps.new ≤ steps.old + r.count) }
     ensures work { 4 * steps.new ≤ 4 * steps.old + length (box_seen stbl.entry).payload }
 {
-    let leaf = only_of(stbl, STTS);
+    let leaf = only_of(stbl, FourCc(*b"stts"));
     let rows = table_rows(stbl, leaf, 0, 8)?;
     if !counts_are(stbl.payload(), rows, n, steps) {
         return Err(leaf.fault(Kind::CountMismatch));
@@ -74,7 +64,7 @@ pub(crate) fn read_offsets<L: Ledger>(
     ensures passed { IfOk result (λ o. steps.new ≤ steps.old + 2 * (offset_rows o).count) }
     ensures work { 4 * steps.new ≤ 4 * steps.old + length (box_seen stbl.entry).payload }
 {
-    let Some(leaf) = first_of(stbl, CTTS) else {
+    let Some(leaf) = first_of(stbl, FourCc(*b"ctts")) else {
         return Ok(None);
     };
     let rows = table_rows(stbl, leaf, 1, 8)?;
@@ -150,7 +140,7 @@ pub(crate) fn read_chunk_rows<L: Ledger>(
     ensures passed { IfOk result (λ r. steps.new ≤ steps.old + r.count + 4 * chunks.rows.count) }
     ensures work { 4 * steps.new ≤ 4 * steps.old + 5 * length (box_seen stbl.entry).payload }
 {
-    let leaf = only_of(stbl, STSC);
+    let leaf = only_of(stbl, FourCc(*b"stsc"));
     let rows = table_rows(stbl, leaf, 0, 12)?;
     let payload = stbl.payload();
     if !are_ordered(payload, rows, 0 < chunks.rows.count, steps) {
@@ -179,7 +169,7 @@ pub(crate) fn read_sync<L: Ledger>(
     ensures passed { IfOk result (λ o. steps.new ≤ steps.old + count_of o) }
     ensures work { 4 * steps.new ≤ 4 * steps.old + length (box_seen stbl.entry).payload }
 {
-    let Some(leaf) = first_of(stbl, STSS) else {
+    let Some(leaf) = first_of(stbl, FourCc(*b"stss")) else {
         return Ok(None);
     };
     let rows = table_rows(stbl, leaf, 0, 4)?;
@@ -200,7 +190,7 @@ pub(crate) fn read_dependencies(
     ensures rows { IfOk result (DependenciesRead (box_seen stbl.entry) n) }
     ensures fault { IfErr result (IsFault limits (box_seen stbl.entry)) }
 {
-    let Some(leaf) = first_of(stbl, SDTP) else {
+    let Some(leaf) = first_of(stbl, FourCc(*b"sdtp")) else {
         return Ok(None);
     };
     version_of(leaf, 0)?;

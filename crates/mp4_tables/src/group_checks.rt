@@ -15,10 +15,6 @@ use crate::runs::{are_below, counts_are_within};
 use mp4_boxes::{BoxView, Fault, FourCc, Kind, Steps};
 use std::sync::ledger::Ledger;
 
-const SBGP: FourCc = FourCc(*b"sbgp");
-
-const SGPD: FourCc = FourCc(*b"sgpd");
-
 // An `sgpd`: what follows its grouping type is kept unread.
 fn check_descriptions(leaf: BoxView) -> Result<(), Fault>
     ensures sound { IfOk result (λ _. IsSound sgpd (box_seen leaf.entry).payload) }
@@ -116,11 +112,11 @@ fn read_child<L: Ledger>(
         (λ next. GroupPassed (box_seen stbl.entry).payload n groups next steps.old steps.new) }
     ensures work { 4 * steps.new ≤ 4 * steps.old + length (box_seen stbl.entry).payload }
 {
-    if child.kind() == SBGP {
+    if child.kind() == FourCc(*b"sbgp") {
         let next = read_next(stbl, child, groups, n, steps)?;
         return Ok(next);
     }
-    if child.kind() == SGPD {
+    if child.kind() == FourCc(*b"sgpd") {
         check_descriptions(child)?;
         return Ok(groups);
     }

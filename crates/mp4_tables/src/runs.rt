@@ -51,10 +51,7 @@ pub(crate) fn counts_are<L: Ledger>(
     ensures same { result ≡ (total (runs_at payload.now rows) == n) }
     ensures cost { steps.new ≤ steps.old + rows.count }
 {
-    match total_within(payload, rows, n, steps) {
-        Some(total) => total == u64::from(n),
-        None => false,
-    }
+    total_within(payload, rows, n, steps) == Some(u64::from(n))
 }
 
 // Whether the counts of the rows add up to no more than `n`.

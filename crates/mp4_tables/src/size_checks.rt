@@ -10,10 +10,6 @@ use crate::leaves::{Limits, first_of, only_of, place_in, version_of};
 use crate::places::{RowsAt, SizeForm, SizesAt};
 use mp4_boxes::{BoxView, Fault, FourCc, Kind, u32_at};
 
-const STSZ: FourCc = FourCc(*b"stsz");
-
-const STZ2: FourCc = FourCc(*b"stz2");
-
 // The sizes of `stsz`: one for all samples, or each.
 fn read_words(stbl: BoxView, leaf: BoxView, limits: Limits) -> Result<SizesAt, Fault>
     requires tables { HasTables (box_seen stbl) }
@@ -113,8 +109,8 @@ pub(crate) fn read_sizes(stbl: BoxView, limits: Limits) -> Result<SizesAt, Fault
     ensures sizes { IfOk result (SizesRead limits (box_seen stbl.entry)) }
     ensures fault { IfErr result (IsFault limits (box_seen stbl.entry)) }
 {
-    match first_of(stbl, STSZ) {
+    match first_of(stbl, FourCc(*b"stsz")) {
         Some(leaf) => read_words(stbl, leaf, limits),
-        None => read_compact(stbl, only_of(stbl, STZ2), limits),
+        None => read_compact(stbl, only_of(stbl, FourCc(*b"stz2")), limits),
     }
 }

@@ -23,14 +23,6 @@ fn answer_of_listed(rt: &HostRuntime, name: &[u8]) -> Result<(), Refusal> {
     }
 }
 
-/// The name under which something is said of a file.
-pub(crate) fn shown_name<'a>(input: Input<'a>) -> &'a [u8] {
-    match input {
-        Input::Standard => b"-",
-        Input::File { name } => name.as_bytes(),
-    }
-}
-
 // Reads a list of names whole. It may come through a pipe.
 fn read_list(rt: &HostRuntime, list: Option<Input>) -> Result<Vec<u8>, Refusal> {
     match list {
@@ -75,7 +67,8 @@ pub(crate) fn check_all(
     let mut worst = 0;
     for input in files {
         let answer = answer_of(rt, *input);
-        put_verdict(rt.alloc(), shown_name(*input), &answer, end, &mut sink)?;
+        let name = input.name().as_bytes();
+        put_verdict(rt.alloc(), name, &answer, end, &mut sink)?;
         worst = verdict_status(&answer).max(worst);
     }
     Ok(worst.max(check_list(rt, list.as_slice(), end, &mut sink)?))

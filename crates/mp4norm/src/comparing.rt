@@ -38,6 +38,14 @@ pub struct Failure {
     pub refusal: Refusal,
 }
 
+// A failure for a file.
+pub(crate) fn failed(side: Side, refusal: Refusal) -> Failure
+    ensures side { result.side ≡ side }
+    ensures refusal { result.refusal ≡ refusal }
+{
+    Failure { side, refusal }
+}
+
 // A failure while both files are read, or none is.
 fn failed_together(refusal: Refusal) -> Failure
     ensures side { result.side ≡ side_of refusal }
@@ -47,7 +55,7 @@ fn failed_together(refusal: Refusal) -> Failure
         Refusal::StoreFailed | Refusal::StoreChanged => Side::Both,
         _ => Side::Neither,
     };
-    Failure { side, refusal }
+    failed(side, refusal)
 }
 
 /// The most differences that are counted.
@@ -280,17 +288,11 @@ pub fn compare_files<S: Store, T: Store, K: Sink, L: Ledger, M: Ledger>(
 {
     let left = match open_movie(alloc, a, steps, looks) {
         Ok(left) => left,
-        Err(refusal) => return Err(Failure {
-            side: Side::First,
-            refusal,
-        }),
+        Err(refusal) => return Err(failed(Side::First, refusal)),
     };
     let right = match open_movie(alloc, b, steps, looks) {
         Ok(right) => right,
-        Err(refusal) => return Err(Failure {
-            side: Side::Second,
-            refusal,
-        }),
+        Err(refusal) => return Err(failed(Side::Second, refusal)),
     };
     let found = match text_of(alloc, &left, a, &right, b, leaving, listing, steps) {
         Ok(found) => found,

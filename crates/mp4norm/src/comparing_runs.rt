@@ -1,5 +1,4 @@
 //! Comparing, from the names of two files to what is printed.
-use crate::checking::shown_name;
 use crate::comparing::{Failure, Listing, Side, compare_files};
 use crate::fault_text::{fault_line, status};
 use crate::reports::Report;
@@ -54,15 +53,11 @@ fn tell(rt: &HostRuntime, left: Input, right: Input, failure: Failure) {
     };
     let mut errors = rt.stderr();
     if names_left {
-        let _ = errors.write_all(shown_name(left));
-    }
-    if names_left && names_right {
-        let _ = errors.write_all(b", ");
+        let _ = errors.write_all(left.name().as_bytes());
+        let _ = errors.write_all(if names_right { b", " } else { b": " });
     }
     if names_right {
-        let _ = errors.write_all(shown_name(right));
-    }
-    if names_left || names_right {
+        let _ = errors.write_all(right.name().as_bytes());
         let _ = errors.write_all(b": ");
     }
     let _ = errors.write_all(fault_line(&failure.refusal).as_bytes());

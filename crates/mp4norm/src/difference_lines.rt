@@ -17,8 +17,7 @@ pub(crate) fn say(text: &mut Vec<u8>, words: &str) -> Result<(), AllocError> {
 pub(crate) fn end_line(text: &mut Vec<u8>) -> Result<(), AllocError>
     ensures { OnOk result (0 < length text.new.items) }
 {
-    text.push(b'\n')?;
-    Ok(())
+    text.extend_from_slice(b"\n")
 }
 
 /// Adds a number in decimal digits.
@@ -26,6 +25,19 @@ pub(crate) fn say_number(text: &mut Vec<u8>, number: u64) -> Result<(), AllocErr
     let mut digits = [0; 20];
     let start = write_digits(&mut digits, 20, number);
     text.extend_from_slice(&digits[start..])
+}
+
+/// Adds numbers, each behind its words, and words behind all.
+pub(crate) fn say_numbers(
+    text: &mut Vec<u8>,
+    numbers: &[(&str, u64)],
+    end: &str,
+) -> Result<(), AllocError> {
+    for (words, number) in numbers {
+        say(text, words)?;
+        say_number(text, *number)?;
+    }
+    say(text, end)
 }
 
 fn say_signed(text: &mut Vec<u8>, number: i64) -> Result<(), AllocError> {
@@ -55,54 +67,30 @@ fn say_type(text: &mut Vec<u8>, kind: FourCc) -> Result<(), AllocError> {
 fn say_subject(text: &mut Vec<u8>, subject: Subject) -> Result<(), AllocError> {
     match subject {
         Subject::Movie => say(text, "movie: "),
-        Subject::Track(track) => {
-            say(text, "track ")?;
-            say_number(text, track)?;
-            say(text, ": ")
-        }
+        Subject::Track(track) => say_numbers(text, &[("track ", track)], ": "),
         Subject::Sample(track, sample) => {
-            say(text, "track ")?;
-            say_number(text, track)?;
-            say(text, ": sample ")?;
-            say_number(text, u64::from(sample))?;
-            say(text, ": ")
+            let sample = u64::from(sample);
+            say_numbers(text, &[("track ", track), (": sample ", sample)], ": ")
         }
     }
 }
 
-// What several entries of a list are called.
-fn name_of_all(entries: Entries) -> &'static str {
+// What one entry of a list is called, what several are, and whether one has a number.
+fn names_of(entries: Entries) -> (&'static str, &'static str, bool) {
     match entries {
-        Entries::Edits => "edits",
-        Entries::Kept => "kept boxes",
-        Entries::Handler => "handlers",
-        Entries::ExtendedLanguages => "extended languages",
-        Entries::MediaHeader => "media headers",
-        Entries::Descriptions => "descriptions",
-        Entries::GroupDescriptions => "group descriptions",
-    }
-}
-
-// What one of them is called, and whether it has a number.
-fn name_of_one(entries: Entries) -> (&'static str, bool) {
-    match entries {
-        Entries::Edits => ("edit", true),
-        Entries::Kept => ("kept box", true),
-        Entries::Handler => ("handler", false),
-        Entries::ExtendedLanguages => ("extended language", true),
-        Entries::MediaHeader => ("media header", false),
-        Entries::Descriptions => ("description", true),
-        Entries::GroupDescriptions => ("group description", true),
+        Entries::Edits => ("edit", "edits", true),
+        Entries::Kept => ("kept box", "kept boxes", true),
+        Entries::Handler => ("handler", "handlers", false),
+        Entries::ExtendedLanguages => ("extended language", "extended languages", true),
+        Entries::MediaHeader => ("media header", "media headers", false),
+        Entries::Descriptions => ("description", "descriptions", true),
+        Entries::GroupDescriptions => ("group description", "group descriptions", true),
     }
 }
 
 // A byte of so many.
 fn say_byte(text: &mut Vec<u8>, number: u64, of: u64) -> Result<(), AllocError> {
-    say(text, "byte ")?;
-    say_number(text, number)?;
-    say(text, " of ")?;
-    say_number(text, of)?;
-    say(text, ":")
+    say_numbers(text, &[("byte ", number), (" of ", of)], ":")
 }
 
 fn say_part(text: &mut Vec<u8>, part: Part) -> Result<(), AllocError> {
@@ -123,11 +111,10 @@ fn say_entry(
     number: u64,
     part: Part,
 ) -> Result<(), AllocError> {
-    let (name, is_counted) = name_of_one(entries);
+    let (name, _, is_counted) = names_of(entries);
     say(text, name)?;
     if is_counted {
-        say(text, " ")?;
-        say_number(text, number)?;
+        say_numbers(text, &[(" ", number)], "")?;
     }
     say(text, ": ")?;
     say_part(text, part)
@@ -137,8 +124,7 @@ fn say_group(text: &mut Vec<u8>, key: GroupKey) -> Result<(), AllocError> {
     say(text, "group ")?;
     say_type(text, key.kind)?;
     if let Some(parameter) = key.parameter {
-        say(text, " ")?;
-        say_number(text, u64::from(parameter))?;
+        say_numbers(text, &[(" ", u64::from(parameter))], "")?;
     }
     say(text, ":")
 }
@@ -172,11 +158,8 @@ fn name_of(field: Field) -> &'static str {
 
 fn say_field(text: &mut Vec<u8>, field: Field) -> Result<(), AllocError> {
     match field {
-        Field::Matrix(number) => {
-            say(text, "matrix entry ")?;
-            say_number(text, number)
-        }
-        Field::Count(entries) => say(text, name_of_all(entries)),
+        Field::Matrix(number) => say_numbers(text, &[("matrix entry ", number)], ""),
+        Field::Count(entries) => say(text, names_of(entries).1),
         Field::Entry(entries, number, part) => say_entry(text, entries, number, part),
         Field::Group(key) => say_group(text, key),
         Field::Byte(number, of) => say_byte(text, number, of),

@@ -6,24 +6,11 @@ use crate::type_names::is_text;
 use mp4_boxes::FourCc;
 use std::alloc::{AllocError, Global};
 
-/// Free space.
-const FREE: FourCc = FourCc(*b"free");
-
-// The value of a hexadecimal digit.
-fn digit_value(digit: u8) -> Option<u8> {
-    match digit {
-        b'0'..=b'9' => Some(digit - b'0'),
-        b'a'..=b'f' => Some(digit - b'a' + 10),
-        b'A'..=b'F' => Some(digit - b'A' + 10),
-        _ => None,
-    }
-}
-
 // The byte that two hexadecimal digits spell.
 fn byte_of(high: u8, low: u8) -> Option<u8> {
-    let high = digit_value(high)?;
-    let low = digit_value(low)?;
-    Some(high.wrapping_mul(16).wrapping_add(low))
+    let high = char::from(high).to_digit(16)?;
+    let low = char::from(low).to_digit(16)?;
+    Some((16 * high + low) as u8)
 }
 
 // The type that a word spells: four printable characters, or eight hexadecimal digits.
@@ -63,7 +50,7 @@ fn name_of(word: &[u8]) -> Option<Name> {
         None => (None, type_of(front)?),
         Some(rest) => (Some(type_of(front)?), type_of(rest)?),
     };
-    if kind == FREE || container.is_some_and(|container| !is_holder(container)) {
+    if kind == FourCc(*b"free") || container.is_some_and(|container| !is_holder(container)) {
         return None;
     }
     Some(Name { container, kind })

@@ -3,7 +3,7 @@
 ghost use Rattle.std.specs.Prelude.{◌≡◌, ◌++◌, OnOk};
 ghost use Rattle.mp4norm.specs.format.Texts.{line_feed};
 
-use crate::difference_lines::{say, say_number};
+use crate::difference_lines::{say, say_numbers};
 use crate::ways::{Way, step_line, way_to};
 use mp4_boxes::{Fault, FourCc, Kind, Refusal, Steps};
 use mp4_present::{FaultNumbers, fault_numbers};
@@ -11,73 +11,53 @@ use mp4_store::{Sink, Store};
 use std::alloc::{AllocError, Global};
 use std::sync::ledger::Ledger;
 
-/// Types of boxes, and the clause of ISO/IEC 14496-12 that tells of them.
-const CLAUSES: [(FourCc, &str); 51] = [
-    (FourCc(*b"ftyp"), "4.3"),
-    (FourCc(*b"mdat"), "8.1.1"),
-    (FourCc(*b"free"), "8.1.2"),
-    (FourCc(*b"skip"), "8.1.2"),
-    (FourCc(*b"moov"), "8.2.1"),
-    (FourCc(*b"mvhd"), "8.2.2"),
-    (FourCc(*b"trak"), "8.3.1"),
-    (FourCc(*b"tkhd"), "8.3.2"),
-    (FourCc(*b"tref"), "8.3.3"),
-    (FourCc(*b"mdia"), "8.4.1"),
-    (FourCc(*b"mdhd"), "8.4.2"),
-    (FourCc(*b"hdlr"), "8.4.3"),
-    (FourCc(*b"minf"), "8.4.4"),
-    (FourCc(*b"vmhd"), "8.4.5"),
-    (FourCc(*b"smhd"), "8.4.5"),
-    (FourCc(*b"hmhd"), "8.4.5"),
-    (FourCc(*b"nmhd"), "8.4.5"),
-    (FourCc(*b"sthd"), "8.4.5"),
-    (FourCc(*b"gmhd"), "8.4.5"),
-    (FourCc(*b"elng"), "8.4.6"),
-    (FourCc(*b"stbl"), "8.5.1"),
-    (FourCc(*b"stsd"), "8.5.2"),
-    (FourCc(*b"stts"), "8.6.1.2"),
-    (FourCc(*b"ctts"), "8.6.1.3"),
-    (FourCc(*b"cslg"), "8.6.1.4"),
-    (FourCc(*b"stss"), "8.6.2"),
-    (FourCc(*b"sdtp"), "8.6.4"),
-    (FourCc(*b"edts"), "8.6.5"),
-    (FourCc(*b"elst"), "8.6.6"),
-    (FourCc(*b"dinf"), "8.7.1"),
-    (FourCc(*b"dref"), "8.7.2"),
-    (FourCc(*b"url "), "8.7.2"),
-    (FourCc(*b"urn "), "8.7.2"),
-    (FourCc(*b"stsz"), "8.7.3"),
-    (FourCc(*b"stz2"), "8.7.3"),
-    (FourCc(*b"stsc"), "8.7.4"),
-    (FourCc(*b"stco"), "8.7.5"),
-    (FourCc(*b"co64"), "8.7.5"),
-    (FourCc(*b"mvex"), "8.8.1"),
-    (FourCc(*b"mehd"), "8.8.2"),
-    (FourCc(*b"trex"), "8.8.3"),
-    (FourCc(*b"moof"), "8.8.4"),
-    (FourCc(*b"mfhd"), "8.8.5"),
-    (FourCc(*b"traf"), "8.8.6"),
-    (FourCc(*b"tfhd"), "8.8.7"),
-    (FourCc(*b"trun"), "8.8.8"),
-    (FourCc(*b"tfdt"), "8.8.12"),
-    (FourCc(*b"sbgp"), "8.9.2"),
-    (FourCc(*b"sgpd"), "8.9.3"),
-    (FourCc(*b"udta"), "8.10.1"),
-    (FourCc(*b"meta"), "8.11.1"),
-];
-
-/// The clause on boxes in general.
-const OF_BOXES: &str = "4.2";
-
-// The clause that tells of boxes of this type; that on boxes in general, where no other is read
-// here.
+// The clause of ISO/IEC 14496-12 that tells of boxes of this type; that on boxes in general, where
+// no other is read here.
 fn clause_of(kind: FourCc) -> &'static str {
-    for (named, clause) in CLAUSES {
-        if named == kind {
-            return clause;
-        }
+    match &kind.0 {
+        b"ftyp" => "4.3",
+        b"mdat" => "8.1.1",
+        b"free" | b"skip" => "8.1.2",
+        b"moov" => "8.2.1",
+        b"mvhd" => "8.2.2",
+        b"trak" => "8.3.1",
+        b"tkhd" => "8.3.2",
+        b"tref" => "8.3.3",
+        b"mdia" => "8.4.1",
+        b"mdhd" => "8.4.2",
+        b"hdlr" => "8.4.3",
+        b"minf" => "8.4.4",
+        b"vmhd" | b"smhd" | b"hmhd" | b"nmhd" | b"sthd" | b"gmhd" => "8.4.5",
+        b"elng" => "8.4.6",
+        b"stbl" => "8.5.1",
+        b"stsd" => "8.5.2",
+        b"stts" => "8.6.1.2",
+        b"ctts" => "8.6.1.3",
+        b"cslg" => "8.6.1.4",
+        b"stss" => "8.6.2",
+        b"sdtp" => "8.6.4",
+        b"edts" => "8.6.5",
+        b"elst" => "8.6.6",
+        b"dinf" => "8.7.1",
+        b"dref" | b"url " | b"urn " => "8.7.2",
+        b"stsz" | b"stz2" => "8.7.3",
+        b"stsc" => "8.7.4",
+        b"stco" | b"co64" => "8.7.5",
+        b"mvex" => "8.8.1",
+        b"mehd" => "8.8.2",
+        b"trex" => "8.8.3",
+        b"moof" => "8.8.4",
+        b"mfhd" => "8.8.5",
+        b"traf" => "8.8.6",
+        b"tfhd" => "8.8.7",
+        b"trun" => "8.8.8",
+        b"tfdt" => "8.8.12",
+        b"sbgp" => "8.9.2",
+        b"sgpd" => "8.9.3",
+        b"udta" => "8.10.1",
+        b"meta" => "8.11.1",
+        _ => "4.2",
     }
-    OF_BOXES
 }
 
 // What a kind of fault means.
@@ -116,8 +96,7 @@ fn push_line(text: &mut Vec<u8>, label: &[u8], rest: &[u8]) -> Result<(), AllocE
 {
     text.extend_from_slice(label)?;
     text.extend_from_slice(rest)?;
-    text.extend_from_slice(b"\n")?;
-    Ok(())
+    text.extend_from_slice(b"\n")
 }
 
 // The way to the named box. Where its header can't be read, or it is no box of a container, its
@@ -134,33 +113,23 @@ fn whole_way(way: &mut Way, named: FourCc) -> Result<(), AllocError> {
 }
 
 // Adds the numbers that go with a fault.
-fn say_numbers(text: &mut Vec<u8>, numbers: FaultNumbers) -> Result<(), AllocError> {
+fn say_told(text: &mut Vec<u8>, numbers: FaultNumbers) -> Result<(), AllocError> {
     say(text, "numbers: ")?;
     match numbers {
         FaultNumbers::Gap { track, due, found } => {
-            say(text, "track ")?;
-            say_number(text, u64::from(track))?;
-            say(text, ": time ")?;
-            say_number(text, found)?;
-            say(text, ", due ")?;
-            say_number(text, due)?;
+            let track = u64::from(track);
+            let told = [("track ", track), (": time ", found), (", due ", due)];
+            say_numbers(text, &told, "\n")
         }
         FaultNumbers::Counts { counted, wanted } => {
-            say(text, "counted ")?;
-            say_number(text, counted)?;
-            say(text, ", samples ")?;
-            say_number(text, wanted)?;
+            say_numbers(text, &[("counted ", counted), (", samples ", wanted)], "\n")
         }
         FaultNumbers::Outside { at, size, file_len } => {
-            say(text, "sample at ")?;
-            say_number(text, at)?;
-            say(text, ", size ")?;
-            say_number(text, u64::from(size))?;
-            say(text, ", file ")?;
-            say_number(text, file_len)?;
+            let size = u64::from(size);
+            let told = [("sample at ", at), (", size ", size), (", file ", file_len)];
+            say_numbers(text, &told, "\n")
         }
     }
-    say(text, "\n")
 }
 
 // The lines of an explanation.
@@ -179,7 +148,7 @@ fn explanation(
     )?;
     push_line(&mut text, b"meaning: ", meaning_of(fault.kind).as_bytes())?;
     if let Some(numbers) = numbers {
-        say_numbers(&mut text, numbers)?;
+        say_told(&mut text, numbers)?;
     }
     Ok(text)
 }

@@ -34,8 +34,7 @@ fn edits_value(alloc: Global, edits: &[Edit]) -> Result<Value, AllocError>
 fn description_value(alloc: Global, description: &Kept) -> Result<Value, AllocError>
     ensures { IfOk result (λ v. view v ≡ description_value (kept_seen description.now)) }
 {
-    let text = type_string(alloc, &description.kind.0)?;
-    Ok(Value::String(text))
+    Ok(Value::String(type_string(alloc, &description.kind.0)?))
 }
 
 fn descriptions_value(alloc: Global, descriptions: &[Kept]) -> Result<Value, AllocError>

@@ -7,10 +7,10 @@ use crate::targets::{Out, write};
 use crate::wanted::Job;
 use mp4_boxes::{Refusal, Steps};
 use std::alloc::{AllocError, Global};
-use std::fs;
 use std::fs::File;
 use std::io::ErrorKind;
 use std::sync::ledger::Ledger;
+use std::{fs, io};
 
 /// So many names are tried for a new file.
 const MOST_NAMES: u32 = 1_000_000;
@@ -46,10 +46,7 @@ fn make_part(rt: &HostRuntime, beside: &str, report: &mut Report) -> Result<Part
             Err(error) if error.kind() == ErrorKind::AlreadyExists => {
                 report.tell_leftover(rt, name.as_str());
             }
-            Err(error) => {
-                report.note(error.kind());
-                return Err(Refusal::WriteFailed);
-            }
+            Err(error) => return report.outcome(Err(error), Refusal::WriteFailed),
         }
     }
     Err(Refusal::WriteFailed)
@@ -57,24 +54,13 @@ fn make_part(rt: &HostRuntime, beside: &str, report: &mut Report) -> Result<Part
 
 // Looks whether there is a regular file of this name, or nothing. A link, a directory or a device
 // is not replaced.
-fn look(rt: &HostRuntime, name: &str) -> Result<(), ErrorKind> {
+fn look(rt: &HostRuntime, name: &str) -> io::Result<()> {
     match fs::symlink_metadata(rt, name) {
         Ok(metadata) if metadata.is_file() => Ok(()),
-        Ok(metadata) if metadata.is_dir() => Err(ErrorKind::IsADirectory),
-        Ok(_) => Err(ErrorKind::Unsupported),
+        Ok(metadata) if metadata.is_dir() => Err(ErrorKind::IsADirectory.into()),
+        Ok(_) => Err(ErrorKind::Unsupported.into()),
         Err(error) if error.kind() == ErrorKind::NotFound => Ok(()),
-        Err(error) => Err(error.kind()),
-    }
-}
-
-// What comes of a step by which a file is put in its place.
-fn told(step: Result<(), ErrorKind>, report: &mut Report) -> Result<(), Refusal> {
-    match step {
-        Ok(()) => Ok(()),
-        Err(kind) => {
-            report.note(kind);
-            Err(Refusal::WriteFailed)
-        }
+        Err(error) => Err(error),
     }
 }
 
@@ -92,7 +78,7 @@ fn fill<L: Ledger, M: Ledger>(
     let Part { file, name: from } = part;
     let mut out = Out::File(file);
     let answer = match write(rt.alloc(), job, source, &mut out, steps, looks, report) {
-        Ok(()) => told(put_in_place(rt, &out, from.as_str(), name), report),
+        Ok(()) => report.outcome(put_in_place(rt, &out, &from, name), Refusal::WriteFailed),
         Err(refusal) => Err(refusal),
     };
     if answer.is_err() {
@@ -102,9 +88,9 @@ fn fill<L: Ledger, M: Ledger>(
 }
 
 // Waits until a file has reached the disk, and gives it another name.
-fn put_in_place(rt: &HostRuntime, out: &Out, from: &str, name: &str) -> Result<(), ErrorKind> {
-    out.sync().map_err(|error| error.kind())?;
-    fs::rename(rt, from, name).map_err(|error| error.kind())
+fn put_in_place(rt: &HostRuntime, out: &Out, from: &str, name: &str) -> io::Result<()> {
+    out.sync()?;
+    fs::rename(rt, from, name)
 }
 
 /// Does a job whose text goes to a new file, which takes the place of the one of this name only
@@ -119,7 +105,7 @@ pub(crate) fn replace<L: Ledger, M: Ledger>(
     name: &str,
     report: &mut Report,
 ) -> Result<(), Refusal> {
-    told(look(rt, name), report)?;
+    report.outcome(look(rt, name), Refusal::WriteFailed)?;
     let part = make_part(rt, name, report)?;
     fill(rt, job, source, steps, looks, part, name, report)
 }

@@ -2,6 +2,7 @@
 //! written, and how far a job has come.
 use crate::progress::Progress;
 use crate::wanted::Telling;
+use mp4_boxes::Refusal;
 use std::io;
 use std::io::{ErrorKind, Write};
 
@@ -62,30 +63,40 @@ impl<'a> Report<'a> {
         }
     }
 
-    /// Keeps a cause.
-    pub(crate) fn note(&mut self, kind: ErrorKind) {
-        self.cause = Some(text_of(kind));
+    /// What comes of a step that the system takes. Where it fails, its cause is kept.
+    pub(crate) fn outcome<T>(
+        &mut self,
+        step: io::Result<T>,
+        failed: Refusal,
+    ) -> Result<T, Refusal> {
+        match step {
+            Ok(value) => Ok(value),
+            Err(error) => {
+                self.cause = Some(text_of(error.kind()));
+                Err(failed)
+            }
+        }
+    }
+
+    // Says something, where more words are asked for.
+    fn say(&self, rt: &HostRuntime, parts: &[&str]) {
+        if self.telling.explain {
+            let mut errors = rt.stderr();
+            for part in parts {
+                let _ = errors.write_all(part.as_bytes());
+            }
+        }
     }
 
     /// Says which file there is trouble with, and why; `else_cause` where the system gave no cause.
     pub(crate) fn tell(&self, rt: &HostRuntime, name: &str, else_cause: &str) {
-        if self.telling.explain {
-            let mut errors = rt.stderr();
-            let cause = self.cause.unwrap_or(else_cause);
-            for part in ["file: ", name, "\ncause: ", cause, "\n"] {
-                let _ = errors.write_all(part.as_bytes());
-            }
-        }
+        let cause = self.cause.unwrap_or(else_cause);
+        self.say(rt, &["file: ", name, "\ncause: ", cause, "\n"]);
     }
 
     /// Names a file that an interrupted run left.
     pub(crate) fn tell_leftover(&self, rt: &HostRuntime, name: &str) {
-        if self.telling.explain {
-            let mut errors = rt.stderr();
-            for part in ["leftover: ", name, "\n"] {
-                let _ = errors.write_all(part.as_bytes());
-            }
-        }
+        self.say(rt, &["leftover: ", name, "\n"]);
     }
 }
 
@@ -98,16 +109,12 @@ pub(crate) struct Noted<'a, 'r, W> {
 
 impl<'a, 'r, W: Write> Write for Noted<'a, 'r, W> {
     fn write(&mut self, piece: &[u8]) -> io::Result<usize> {
-        match self.out.write(piece) {
-            Ok(count) => {
-                self.report.pass(count);
-                Ok(count)
-            }
-            Err(error) => {
-                self.report.note(error.kind());
-                Err(error)
-            }
+        let written = self.out.write(piece);
+        match &written {
+            Ok(count) => self.report.pass(*count),
+            Err(error) => self.report.cause = Some(text_of(error.kind())),
         }
+        written
     }
 
     fn flush(&mut self) -> io::Result<()> {

@@ -13,22 +13,6 @@ use mp4_store::IoSink;
 use std::io::Write;
 use std::sync::ledger::Ledger;
 
-// The word that names what is read.
-fn input_name(input: Input<'_>) -> &str {
-    match input {
-        Input::Standard => "-",
-        Input::File { name } => name,
-    }
-}
-
-// The word that names where the answer goes.
-fn target_name(target: Target<'_>) -> &str {
-    match target {
-        Target::Standard => "-",
-        Target::New { name } | Target::Replaced { name } => name,
-    }
-}
-
 // Opens where the answer goes, and does the job.
 fn write_to<L: Ledger, M: Ledger>(
     rt: &HostRuntime,
@@ -118,8 +102,8 @@ pub(crate) fn run<L: Ledger, M: Ledger>(
     let mut report = Report::new(telling);
     let answer = open_and_answer(rt, job, input, target, telling, steps, looks, &mut report);
     match answer {
-        Err(Refusal::StoreFailed) => report.tell(rt, input_name(input), "it can't be read"),
-        Err(Refusal::WriteFailed) => report.tell(rt, target_name(target), "it can't be written"),
+        Err(Refusal::StoreFailed) => report.tell(rt, input.name(), "it can't be read"),
+        Err(Refusal::WriteFailed) => report.tell(rt, target.name(), "it can't be written"),
         _ => {}
     }
     answer

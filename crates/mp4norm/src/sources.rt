@@ -6,10 +6,10 @@ use crate::wanted::Input;
 use crate::watching::Watched;
 use mp4_boxes::Refusal;
 use mp4_store::{BufferedStore, FileStore, MemStore, Store, StoreFailed};
-use std::fs;
 use std::fs::File;
 use std::io::ErrorKind;
 use std::os::unix::fs::FileTypeExt;
+use std::{fs, io};
 
 /// The most bytes that are read of standard input.
 pub(crate) const MOST_INPUT: usize = 1 << 30;
@@ -25,17 +25,17 @@ pub(crate) enum Source {
 // Opens a regular file or a block device. Whatever else there is can't be read by place, or its
 // length isn't known; its kind is looked at first, since opening a pipe would wait for whoever
 // writes it.
-fn open_file(rt: &HostRuntime, name: &str) -> Result<Source, ErrorKind> {
-    let metadata = fs::metadata(rt, name).map_err(|error| error.kind())?;
+fn open_file(rt: &HostRuntime, name: &str) -> io::Result<Source> {
+    let metadata = fs::metadata(rt, name)?;
     if metadata.is_dir() {
-        return Err(ErrorKind::IsADirectory);
+        return Err(ErrorKind::IsADirectory.into());
     }
     if !metadata.is_file() && !metadata.file_type().is_block_device() {
-        return Err(ErrorKind::Unsupported);
+        return Err(ErrorKind::Unsupported.into());
     }
-    let file = File::open(rt, name).map_err(|error| error.kind())?;
-    let watched = Watched::new(&file).map_err(|error| error.kind())?;
-    let store = FileStore::new(file).map_err(|error| error.kind())?;
+    let file = File::open(rt, name)?;
+    let watched = Watched::new(&file)?;
+    let store = FileStore::new(file)?;
     Ok(Source::File(BufferedStore::new(store), watched))
 }
 
@@ -46,13 +46,7 @@ pub(crate) fn open(rt: &HostRuntime, input: Input, report: &mut Report) -> Resul
             let bytes = read_input(rt.alloc(), &mut rt.reader(), MOST_INPUT)?;
             Ok(Source::Input(bytes))
         }
-        Input::File { name } => match open_file(rt, name) {
-            Ok(source) => Ok(source),
-            Err(kind) => {
-                report.note(kind);
-                Err(Refusal::StoreFailed)
-            }
-        },
+        Input::File { name } => report.outcome(open_file(rt, name), Refusal::StoreFailed),
     }
 }
 

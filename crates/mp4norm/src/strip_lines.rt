@@ -4,26 +4,21 @@ use crate::line::Line;
 use crate::named::Name;
 use mp4_boxes::FourCc;
 
-/// Types of boxes without which encrypted samples can't be read.
-const OF_ENCRYPTION: [FourCc; 7] = [
-    FourCc(*b"senc"),
-    FourCc(*b"saiz"),
-    FourCc(*b"saio"),
-    FourCc(*b"sinf"),
-    FourCc(*b"pssh"),
-    FourCc(*b"tenc"),
-    FourCc(*b"schm"),
-];
-
 /// What is said where a type is named without which encrypted samples can't be read.
 pub(crate) const WARNING: &[u8] =
     b"strip: warning: without these boxes encrypted samples can't be read\n";
 
+// Whether encrypted samples can't be read without boxes of this type.
+fn is_of_encryption(kind: FourCc) -> bool {
+    matches!(
+        &kind.0,
+        b"senc" | b"saiz" | b"saio" | b"sinf" | b"pssh" | b"tenc" | b"schm"
+    )
+}
+
 /// Whether such a type is named.
 pub(crate) fn names_encryption(names: &[Name]) -> bool {
-    names
-        .iter()
-        .any(|name| OF_ENCRYPTION.iter().any(|kind| *kind == name.kind))
+    names.iter().any(|name| is_of_encryption(name.kind))
 }
 
 /// The line that says how many boxes of a name were changed.

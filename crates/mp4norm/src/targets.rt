@@ -43,13 +43,8 @@ impl Write for Out {
 
 /// Makes a file that isn't there yet.
 pub(crate) fn make(rt: &HostRuntime, name: &str, report: &mut Report) -> Result<Out, Refusal> {
-    match File::create_new(rt, name) {
-        Ok(file) => Ok(Out::File(file)),
-        Err(error) => {
-            report.note(error.kind());
-            Err(Refusal::WriteFailed)
-        }
-    }
+    let file = report.outcome(File::create_new(rt, name), Refusal::WriteFailed)?;
+    Ok(Out::File(file))
 }
 
 // Whether a job answers for all bytes of what it reads.

@@ -33,6 +33,16 @@ pub enum Input<'a> {
     File { name: &'a str },
 }
 
+impl<'a> Input<'a> {
+    /// The word that names it.
+    pub(crate) fn name(&self) -> &'a str {
+        match self {
+            Input::Standard => "-",
+            Input::File { name } => name,
+        }
+    }
+}
+
 /// Where the answer goes: to standard output, to a new file of this name, or to one that takes the
 /// place of what is there.
 #[derive(Clone, Copy)]
@@ -40,6 +50,16 @@ pub enum Target<'a> {
     Standard,
     New { name: &'a str },
     Replaced { name: &'a str },
+}
+
+impl<'a> Target<'a> {
+    /// The word that names it.
+    pub(crate) fn name(&self) -> &'a str {
+        match self {
+            Target::Standard => "-",
+            Target::New { name } | Target::Replaced { name } => name,
+        }
+    }
 }
 
 /// What is said on standard error beside the answer: what is wrong, in more words, and how far the

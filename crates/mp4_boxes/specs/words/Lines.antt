@@ -16,8 +16,8 @@ kinds_seen kinds = map (λ (kind : FourCc). kind.0) kinds
 
 abbrev pub line_seen : RuleLine → Line
 line_seen line = record {
-  kinds = kinds_seen line.kinds.now;
-  quantity = quantity_seen line.quantity;
+  kinds = kinds_seen line.1.now;
+  quantity = quantity_seen line.0;
 }
 
 abbrev pub lines_seen : List RuleLine → List Line

@@ -11,8 +11,8 @@ use Rattle.mp4_boxes.proofs.listing.counted.Goals as goal
 pub loop-count-init : goal.loop-count-init
 loop-count-init c = (passed_none _ _, omega arith, omega arith)
 
-pub overflow_add-base-in-loop-count : goal.overflow_add-base-in-loop-count
-overflow_add-base-in-loop-count c =
+pub overflow_add-place : goal.overflow_add-place
+overflow_add-place c =
     let w = c.loop-count.invariant.2 in
     let f = c.args.view.fits in
     let n = ap length c.split_at.ensures.back ∙ length-drop 8 c.payload-payload.result.now in
