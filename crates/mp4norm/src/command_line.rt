@@ -6,7 +6,7 @@ use crate::commands::whole_command;
 use crate::comparing::Listing;
 use crate::drop_lists::names_of;
 use crate::leaving_words::leaving_of;
-use crate::wanted::{Action, CommandFault, Form, Input, Job, Target, Telling};
+use crate::wanted::{Action, CommandFault, Form, Input, Job, Order, Target, Telling};
 use clap::error::ErrorKind;
 use clap::{ArgMatches, Error};
 use mp4_present::Leaving;
@@ -60,6 +60,16 @@ fn telling_of(found: &ArgMatches) -> Telling {
     Telling {
         explain: found.get_flag("explain"),
         progress: found.get_flag("progress"),
+    }
+}
+
+// What is read, where the answer goes, and what is said beside it.
+fn order_of<'a>(found: &ArgMatches<'a>, file: &'a str) -> Order<'a> {
+    Order {
+        input: input_of(file),
+        target: target_of(found),
+        most: found.get_one::<u64>("max-bytes"),
+        telling: telling_of(found),
     }
 }
 
@@ -118,12 +128,8 @@ fn strip_asked<'a>(alloc: Global, found: &ArgMatches<'a>) -> Result<Action<'a>, 
     let Some(names) = names_of(alloc, list)? else {
         return Err(list_fault(alloc, list, "--drop <TYPES>", DROP_RULE));
     };
-    Ok(Action::Strip {
-        names,
-        input: input_of(file),
-        target: target_of(found),
-        telling: telling_of(found),
-    })
+    let order = order_of(found, file);
+    Ok(Action::Strip { names, order })
 }
 
 // What a list of words leaves out.
@@ -181,12 +187,8 @@ fn run_asked<'a>(
     let (Some(job), Some(file)) = (job_of(alloc, name, found)?, found.get_str("file")) else {
         return Err(missing(alloc));
     };
-    Ok(Action::Run {
-        job,
-        input: input_of(file),
-        target: target_of(found),
-        telling: telling_of(found),
-    })
+    let order = order_of(found, file);
+    Ok(Action::Run { job, order })
 }
 
 // How differences are to be told of.
@@ -275,11 +277,15 @@ pub fn action<'a>(alloc: Global, words: &'a [String]) -> Result<Action<'a>, Comm
     ensures action { IfOk result IsAction }
 {
     if words.is_empty() {
-        return Ok(Action::Run {
-            job: Job::Boxes,
+        let order = Order {
             input: Input::Standard,
             target: Target::Standard,
+            most: None,
             telling: Telling::NOTHING,
+        };
+        return Ok(Action::Run {
+            job: Job::Boxes,
+            order,
         });
     }
     let command = whole_command(alloc)?;

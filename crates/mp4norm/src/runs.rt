@@ -7,7 +7,7 @@ use crate::strip_lines::{WARNING, count_line, names_encryption};
 use crate::stripping::count_named;
 use crate::targets::{Out, make, write};
 use crate::text_lengths::text_len;
-use crate::wanted::{Input, Job, Target, Telling};
+use crate::wanted::{Job, Order, Target};
 use mp4_boxes::{Refusal, Steps};
 use mp4_store::IoSink;
 use std::io::Write;
@@ -44,47 +44,80 @@ fn answer<L: Ledger, M: Ledger>(
     let Job::Strip { names } = job else {
         return write_to(rt, job, source, target, steps, looks, report);
     };
+    let counts = count_named(rt.alloc(), source, names);
+    let counts = source.settled(counts)?;
+    write_to(rt, job, source, target, steps, looks, report)?;
+    report.end();
     let mut errors = rt.stderr();
     if names_encryption(names) {
         let _ = errors.write_all(WARNING);
     }
-    let counts = count_named(rt.alloc(), source, names)?;
-    write_to(rt, job, source, target, steps, looks, report)?;
-    report.end();
     for (name, count) in names.iter().zip(counts.iter()) {
         let _ = errors.write_all(count_line(name, *count).as_bytes());
     }
     Ok(())
 }
 
-// Opens what is read, then where the answer goes, and does the job. A fault is explained, and told
-// how far the job has come, where that is asked for.
-fn open_and_answer<'a, L: Ledger, M: Ledger>(
+// Finds how long the answer gets, where that is asked for, and refuses one that is too long.
+fn measure<'a, L: Ledger, M: Ledger>(
     rt: &'a HostRuntime,
     job: Job,
-    input: Input,
-    target: Target,
-    telling: Telling,
+    source: &mut Source,
+    most: Option<u64>,
     steps: &mut Steps<L>,
     looks: &mut Steps<M>,
     report: &mut Report<'a>,
 ) -> Result<(), Refusal> {
-    let mut source = open(rt, input, report)?;
-    if telling.progress {
-        // Where this fails, so does the job, which says why.
-        if let Ok(total) = text_len(rt.alloc(), job, &mut source, steps, looks) {
+    if most.is_none() && !report.counts() {
+        return Ok(());
+    }
+    let total = text_len(rt.alloc(), job, source, steps, looks);
+    let total = source.settled(total)?;
+    match most {
+        Some(most) if total > most => Err(report.too_long(most)),
+        _ => {
             report.begin(rt, total);
+            Ok(())
         }
     }
-    let answer = answer(rt, job, &mut source, target, steps, looks, report);
+}
+
+// Opens where the answer goes, once it is known that it isn't too long, and does the job. A fault
+// is explained where that is asked for.
+fn answer_of<'a, L: Ledger, M: Ledger>(
+    rt: &'a HostRuntime,
+    job: Job,
+    source: &mut Source,
+    order: Order,
+    steps: &mut Steps<L>,
+    looks: &mut Steps<M>,
+    report: &mut Report<'a>,
+) -> Result<(), Refusal> {
+    let answer = match measure(rt, job, source, order.most, steps, looks, report) {
+        Ok(()) => answer(rt, job, source, order.target, steps, looks, report),
+        Err(refusal) => Err(refusal),
+    };
     report.end();
     if let Err(Refusal::Fault(fault)) = &answer {
-        if telling.explain {
+        if order.telling.explain {
             let mut errors = IoSink::new(rt.stderr());
-            let _ = explain(rt.alloc(), fault, &mut source, &mut errors, steps, looks);
+            let _ = explain(rt.alloc(), fault, source, &mut errors, steps, looks);
         }
     }
     answer
+}
+
+// Opens what is read, and does the job.
+fn open_and_answer<'a, L: Ledger, M: Ledger>(
+    rt: &'a HostRuntime,
+    job: Job,
+    order: Order,
+    steps: &mut Steps<L>,
+    looks: &mut Steps<M>,
+    report: &mut Report<'a>,
+) -> Result<(), Refusal> {
+    let mut source = open(rt, order.input, report)?;
+    answer_of(rt, job, &mut source, order, steps, looks, report)
 }
 
 /// Does a job from what is read to where its answer goes. What is wrong is explained where that is
@@ -93,17 +126,15 @@ fn open_and_answer<'a, L: Ledger, M: Ledger>(
 pub(crate) fn run<L: Ledger, M: Ledger>(
     rt: &HostRuntime,
     job: Job,
-    input: Input,
-    target: Target,
-    telling: Telling,
+    order: Order,
     steps: &mut Steps<L>,
     looks: &mut Steps<M>,
 ) -> Result<(), Refusal> {
-    let mut report = Report::new(telling);
-    let answer = open_and_answer(rt, job, input, target, telling, steps, looks, &mut report);
+    let mut report = Report::new(order.telling);
+    let answer = open_and_answer(rt, job, order, steps, looks, &mut report);
     match answer {
-        Err(Refusal::StoreFailed) => report.tell(rt, input.name(), "it can't be read"),
-        Err(Refusal::WriteFailed) => report.tell(rt, target.name(), "it can't be written"),
+        Err(Refusal::StoreFailed) => report.tell(rt, order.input.name(), "it can't be read"),
+        Err(Refusal::WriteFailed) => report.tell(rt, order.target.name(), "it can't be written"),
         _ => {}
     }
     answer

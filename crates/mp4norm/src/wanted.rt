@@ -78,6 +78,16 @@ impl Telling {
     };
 }
 
+/// What a job reads, where its answer goes, how many bytes that may have, and what is said beside
+/// it.
+#[derive(Clone, Copy)]
+pub struct Order<'a> {
+    pub input: Input<'a>,
+    pub target: Target<'a>,
+    pub most: Option<u64>,
+    pub telling: Telling,
+}
+
 /// What the words ask for: a job, a copy without the boxes of some names, a comparison of two
 /// files, or a verdict on each of some files and of those that a list names, ended by a line feed
 /// or a zero byte.
@@ -96,15 +106,11 @@ pub enum Action<'a> {
     },
     Strip {
         names: Vec<Name>,
-        input: Input<'a>,
-        target: Target<'a>,
-        telling: Telling,
+        order: Order<'a>,
     },
     Run {
         job: Job<'a>,
-        input: Input<'a>,
-        target: Target<'a>,
-        telling: Telling,
+        order: Order<'a>,
     },
 }
 
