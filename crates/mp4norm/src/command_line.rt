@@ -5,6 +5,7 @@ ghost use Rattle.mp4norm.specs.words.Actions.{IsJob, IsAction, boxes_of_input};
 use crate::commands::whole_command;
 use crate::comparing::Listing;
 use crate::drop_lists::names_of;
+use crate::file_names::shown_word;
 use crate::leaving_words::leaving_of;
 use crate::wanted::{Action, CommandFault, Form, Input, Job, Order, Target, Telling};
 use clap::error::ErrorKind;
@@ -100,13 +101,16 @@ fn check_asked<'a>(alloc: Global, found: &ArgMatches<'a>) -> Result<Action<'a>, 
 // What is wrong with the words, said as clap does.
 fn usage(alloc: Global, what: &str) -> CommandFault {
     match format!(in alloc; "error: {what}\n\nFor more information, try '--help'.\n") {
-        Ok(text) => CommandFault::Usage(text),
+        Ok(text) => CommandFault::Shown(text),
         Err(_) => CommandFault::Memory,
     }
 }
 
 // What is wrong with a list of words, by the rule of such lists.
 fn list_fault(alloc: Global, list: &str, option: &str, rule: &str) -> CommandFault {
+    let Ok(list) = shown_word(alloc, list) else {
+        return CommandFault::Memory;
+    };
     match format!(in alloc; "invalid value '{list}' for '{option}': {rule}") {
         Ok(what) => usage(alloc, &what),
         Err(_) => CommandFault::Memory,
@@ -115,7 +119,7 @@ fn list_fault(alloc: Global, list: &str, option: &str, rule: &str) -> CommandFau
 
 // A word is missing. clap has seen that none is.
 fn missing(alloc: Global) -> CommandFault {
-    CommandFault::Usage(String::new(alloc))
+    CommandFault::Shown(String::new(alloc))
 }
 
 // Which boxes of which file are to be free space.

@@ -222,6 +222,7 @@ fn all_text<S: Store, T: Store, L: Ledger>(
         return Ok(None);
     }
     let all = counted(listed.all.as_slice());
+    let is_whole = is_whole && listed.all.len() <= MOST;
     let tally = Tally::of(all);
     // Of a list that was cut the rest isn't known: then all words are tried.
     let more = if is_whole { tally.suggests(leaving) } else { Some(EVERYTHING) };

@@ -27,6 +27,11 @@ pub(crate) fn word_of(alloc: Global, bytes: &[u8]) -> Result<String, AllocError>
     Ok(word)
 }
 
+/// Whether the bytes of a word are text. Else no file can be opened by it.
+pub(crate) fn is_text(word: &str) -> bool {
+    !word.as_bytes().contains(&0)
+}
+
 // The value of a hexadecimal digit.
 fn digit_of(byte: u8) -> u8 {
     match byte {
@@ -89,6 +94,11 @@ pub(crate) fn push_shown(text: &mut Vec<u8>, name: &[u8]) -> Result<(), AllocErr
         }
     }
     Ok(())
+}
+
+/// A word as a person is shown it.
+pub(crate) fn shown_word(alloc: Global, word: &str) -> Result<String, AllocError> {
+    word_of(alloc, shown(alloc, word.as_bytes())?.as_slice())
 }
 
 /// A name as a person is shown it.

@@ -71,7 +71,7 @@ use descriptors::take_closed;
 pub use difference_lines::say_difference;
 pub use extract::extract_counted;
 pub use fault_text::{fault_line, status};
-use file_names::{shown, word_of};
+use file_names::{shown_word, word_of};
 pub use jobs::perform;
 pub use judging::check;
 pub use line::Line;
@@ -123,8 +123,7 @@ fn words(rt: &HostRuntime) -> Result<Vec<String>, AllocError> {
 fn shown_words(alloc: Global, words: &[String]) -> Result<Vec<String>, AllocError> {
     let mut all = Vec::new(alloc);
     for word in words {
-        let text = shown(alloc, word.as_bytes())?;
-        all.push(word_of(alloc, text.as_slice())?)?;
+        all.push(shown_word(alloc, word.as_str())?)?;
     }
     Ok(all)
 }
@@ -202,7 +201,7 @@ fn act<L: Ledger, M: Ledger>(
 fn tell(rt: &HostRuntime, fault: CommandFault) -> ExitCode {
     match fault {
         CommandFault::Help(text) => end(rt, put_text(rt, text.as_str())),
-        CommandFault::Usage(text) => {
+        CommandFault::Usage(text) | CommandFault::Shown(text) => {
             let _ = rt.stderr().write_all(text.as_str().as_bytes());
             ExitCode::from(USAGE)
         }

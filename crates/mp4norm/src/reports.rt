@@ -1,14 +1,11 @@
 //! What is said on standard error beside the answer: why a file could not be opened, read or
 //! written, and how far a job has come.
-use crate::file_names::shown;
+use crate::file_names::{is_text, shown};
 use crate::progress::Progress;
 use crate::wanted::Telling;
 use mp4_boxes::Refusal;
 use std::io;
 use std::io::{ErrorKind, Read, Write};
-
-/// The cause where no file can be opened by a word, since it isn't text.
-const NOT_TEXT: &str = "its name is not UTF-8; give the file as standard input (-)";
 
 // What the system means by a kind of error.
 fn text_of(kind: ErrorKind) -> &'static str {
@@ -24,7 +21,6 @@ fn text_of(kind: ErrorKind) -> &'static str {
         ErrorKind::ReadOnlyFilesystem => "nothing can be written there",
         ErrorKind::Unsupported => "it is no regular file",
         ErrorKind::InvalidFilename => "the name is too long",
-        ErrorKind::InvalidInput => NOT_TEXT,
         ErrorKind::WouldBlock => "it would have to wait",
         _ => "an error of the system",
     }
@@ -77,7 +73,8 @@ impl<'a> Report<'a> {
         }
     }
 
-    /// What comes of a step that the system takes. Where it fails, its cause is kept.
+    /// What comes of a step that the system takes. Where it fails, its cause is kept; want of memory
+    /// stays that.
     pub(crate) fn outcome<T>(
         &mut self,
         step: io::Result<T>,
@@ -85,6 +82,7 @@ impl<'a> Report<'a> {
     ) -> Result<T, Refusal> {
         match step {
             Ok(value) => Ok(value),
+            Err(error) if error.kind() == ErrorKind::OutOfMemory => Err(Refusal::Memory),
             Err(error) => {
                 self.cause = Some(Cause::Said(text_of(error.kind())));
                 Err(failed)
@@ -114,14 +112,16 @@ impl<'a> Report<'a> {
         self.telling.explain
     }
 
-    /// Says which file there is trouble with, and why; `else_cause` where the system gave no cause.
-    pub(crate) fn tell(&self, rt: &HostRuntime, name: &str, else_cause: &str) {
+    /// Says which file there is trouble with, and why; `not_text` where it can't be opened by its
+    /// name, `else_cause` where the system gave no cause.
+    pub(crate) fn tell(&self, rt: &HostRuntime, name: &str, not_text: &str, else_cause: &str) {
         if !self.telling.explain {
             return;
         }
         tell_name(rt, b"file: ", name);
         match self.cause {
             Some(Cause::TooLong(most)) => tell_too_long(rt, most),
+            _ if !is_text(name) => tell_name(rt, b"cause: ", not_text),
             Some(Cause::Said(cause)) => tell_name(rt, b"cause: ", cause),
             None => tell_name(rt, b"cause: ", else_cause),
         }

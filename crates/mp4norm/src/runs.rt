@@ -13,50 +13,10 @@ use mp4_store::IoSink;
 use std::io::Write;
 use std::sync::ledger::Ledger;
 
-// Opens where the answer goes, and does the job.
-fn write_to<L: Ledger, M: Ledger>(
-    rt: &HostRuntime,
-    job: Job,
-    source: &mut Source,
-    target: Target,
-    steps: &mut Steps<L>,
-    looks: &mut Steps<M>,
-    report: &mut Report,
-) -> Result<(), Refusal> {
-    let mut out = match target {
-        Target::Standard => Out::Standard(rt.stdout()),
-        Target::New { name } => make(rt, name, report)?,
-        Target::Replaced { name } => return replace(rt, job, source, steps, looks, name, report),
-    };
-    write(rt.alloc(), job, source, &mut out, steps, looks, report)
-}
+/// The causes where no file can be opened by a word, since it isn't text.
+const NO_FILE: &str = "its name is not UTF-8; give the file as standard input (-)";
 
-// Does a job. Of a copy without some boxes it says how many of each name these are.
-fn answer<L: Ledger, M: Ledger>(
-    rt: &HostRuntime,
-    job: Job,
-    source: &mut Source,
-    target: Target,
-    steps: &mut Steps<L>,
-    looks: &mut Steps<M>,
-    report: &mut Report,
-) -> Result<(), Refusal> {
-    let Job::Strip { names } = job else {
-        return write_to(rt, job, source, target, steps, looks, report);
-    };
-    let counts = count_named(rt.alloc(), source, names);
-    let counts = source.settled(counts)?;
-    write_to(rt, job, source, target, steps, looks, report)?;
-    report.end();
-    let mut errors = rt.stderr();
-    if names_encryption(names) {
-        let _ = errors.write_all(WARNING);
-    }
-    for (name, count) in names.iter().zip(counts.iter()) {
-        let _ = errors.write_all(count_line(name, *count).as_bytes());
-    }
-    Ok(())
-}
+const NO_NEW: &str = "its name is not UTF-8; write to standard output (-)";
 
 // Finds how long the answer gets, where that is asked for, and refuses one that is too long.
 fn measure<'a, L: Ledger, M: Ledger>(
@@ -82,9 +42,8 @@ fn measure<'a, L: Ledger, M: Ledger>(
     }
 }
 
-// Opens where the answer goes, once it is known that it isn't too long, and does the job. A fault
-// is explained where that is asked for.
-fn answer_of<'a, L: Ledger, M: Ledger>(
+// Opens where the answer goes, once it is known that it isn't too long, and does the job.
+fn write_to<'a, L: Ledger, M: Ledger>(
     rt: &'a HostRuntime,
     job: Job,
     source: &mut Source,
@@ -93,21 +52,43 @@ fn answer_of<'a, L: Ledger, M: Ledger>(
     looks: &mut Steps<M>,
     report: &mut Report<'a>,
 ) -> Result<(), Refusal> {
-    let answer = match measure(rt, job, source, order.most, steps, looks, report) {
-        Ok(()) => answer(rt, job, source, order.target, steps, looks, report),
-        Err(refusal) => Err(refusal),
+    measure(rt, job, source, order.most, steps, looks, report)?;
+    let mut out = match order.target {
+        Target::Standard => Out::Standard(rt.stdout()),
+        Target::New { name } => make(rt, name, report)?,
+        Target::Replaced { name } => return replace(rt, job, source, steps, looks, name, report),
     };
-    report.end();
-    if let Err(Refusal::Fault(fault)) = &answer {
-        if order.telling.explain {
-            let mut errors = IoSink::new(rt.stderr());
-            let _ = explain(rt.alloc(), fault, source, &mut errors, steps, looks);
-        }
-    }
-    answer
+    write(rt.alloc(), job, source, &mut out, steps, looks, report)
 }
 
-// Opens what is read, and does the job.
+// Does a job. Of a copy without some boxes it says how many of each name these are.
+fn answer<'a, L: Ledger, M: Ledger>(
+    rt: &'a HostRuntime,
+    job: Job,
+    source: &mut Source,
+    order: Order,
+    steps: &mut Steps<L>,
+    looks: &mut Steps<M>,
+    report: &mut Report<'a>,
+) -> Result<(), Refusal> {
+    let Job::Strip { names } = job else {
+        return write_to(rt, job, source, order, steps, looks, report);
+    };
+    let counts = count_named(rt.alloc(), source, names);
+    let counts = source.settled(counts)?;
+    write_to(rt, job, source, order, steps, looks, report)?;
+    report.end();
+    let mut errors = rt.stderr();
+    if names_encryption(names) {
+        let _ = errors.write_all(WARNING);
+    }
+    for (name, count) in names.iter().zip(counts.iter()) {
+        let _ = errors.write_all(count_line(name, *count).as_bytes());
+    }
+    Ok(())
+}
+
+// Opens what is read, and does the job. A fault is explained where that is asked for.
 fn open_and_answer<'a, L: Ledger, M: Ledger>(
     rt: &'a HostRuntime,
     job: Job,
@@ -117,7 +98,15 @@ fn open_and_answer<'a, L: Ledger, M: Ledger>(
     report: &mut Report<'a>,
 ) -> Result<(), Refusal> {
     let mut source = open(rt, order.input, report)?;
-    answer_of(rt, job, &mut source, order, steps, looks, report)
+    let answer = answer(rt, job, &mut source, order, steps, looks, report);
+    report.end();
+    if let Err(Refusal::Fault(fault)) = &answer {
+        if order.telling.explain {
+            let mut errors = IoSink::new(rt.stderr());
+            let _ = explain(rt.alloc(), fault, &mut source, &mut errors, steps, looks);
+        }
+    }
+    answer
 }
 
 /// Does a job from what is read to where its answer goes. What is wrong is explained where that is
@@ -133,8 +122,12 @@ pub(crate) fn run<L: Ledger, M: Ledger>(
     let mut report = Report::new(order.telling);
     let answer = open_and_answer(rt, job, order, steps, looks, &mut report);
     match answer {
-        Err(Refusal::StoreFailed) => report.tell(rt, order.input.name(), "it can't be read"),
-        Err(Refusal::WriteFailed) => report.tell(rt, order.target.name(), "it can't be written"),
+        Err(Refusal::StoreFailed) => {
+            report.tell(rt, order.input.name(), NO_FILE, "it can't be read");
+        }
+        Err(Refusal::WriteFailed) => {
+            report.tell(rt, order.target.name(), NO_NEW, "it can't be written");
+        }
         _ => {}
     }
     answer

@@ -114,11 +114,13 @@ pub enum Action<'a> {
     },
 }
 
-/// Why there is nothing to do: a text was asked for, the words are wrong, or there is no memory.
+/// Why there is nothing to do: a text was asked for, the words are wrong, or there is no memory. Of
+/// wrong words it is said what is wrong, with the words as they are, or as people are shown them.
 #[derive(Drop)]
 pub enum CommandFault {
     Help(String),
     Usage(String),
+    Shown(String),
     Memory,
 }
 
