@@ -1,5 +1,7 @@
 //! Whether a file has a normal form.
+ghost use Rattle.mp4norm.specs.format.Steps.{WalksWithin, FindsWithin};
 ghost use Rattle.mp4norm.specs.words.MainJob.{MayBeNormalised, RefusesCheck};
+ghost use Rattle.mp4_present.specs.words.OverStores.{WhereHonest};
 ghost use Rattle.mp4norm.specs.words.OverDevices.{IsOf, Reads};
 
 use mp4_boxes::{Refusal, Steps};
@@ -9,8 +11,25 @@ use std::alloc::Global;
 use std::marker::Brand;
 use std::sync::ledger::{Blank, Ledger};
 
-// As `check`; its steps and looks are counted in these ledgers.
-fn check_counted<S: Store, L: Ledger, M: Ledger>(
+/// As `check`, with the steps that it takes counted: at most 8 for each sample and each row of the
+/// file, however many tracks it has.
+pub fn check_counted<S: Store, L: Ledger, M: Ledger>(
+    alloc: Global,
+    store: &mut S,
+    steps: &mut Steps<L>,
+    looks: &mut Steps<M>,
+) -> Result<(), Refusal>
+    ensures answer { Reads S.Store store.old store.new result
+        (λ file done. MayBeNormalised file) RefusesCheck }
+    ensures work { WhereHonest S.Store store.old (λ file. WalksWithin file steps.old steps.new) }
+    ensures looks { WhereHonest S.Store store.old (λ file. FindsWithin file looks.old looks.new) }
+{
+    open_movie(alloc, store, steps, looks)?;
+    Ok(())
+}
+
+// As `check`; its steps and looks are counted in these ledgers, for nobody.
+fn check_blank<S: Store, L: Ledger, M: Ledger>(
     alloc: Global,
     store: &mut S,
     steps: Blank,
@@ -23,8 +42,7 @@ fn check_counted<S: Store, L: Ledger, M: Ledger>(
 {
     let mut steps = Steps::<L>::new(steps);
     let mut looks = Steps::<M>::new(looks);
-    open_movie(alloc, store, &mut steps, &mut looks)?;
-    Ok(())
+    check_counted(alloc, store, &mut steps, &mut looks)
 }
 
 /// Judges a file as `normalise` does before it puts anything. So it answers what `normalise` would,
@@ -33,5 +51,5 @@ pub fn check<S: Store>(alloc: Global, store: &mut S) -> Result<(), Refusal>
     ensures answer { Reads S.Store store.old store.new result
         (λ file done. MayBeNormalised file) RefusesCheck }
 {
-    check_counted::<S, Brand, Brand>(alloc, store, Blank::new(1), Blank::new(1))
+    check_blank::<S, Brand, Brand>(alloc, store, Blank::new(1), Blank::new(1))
 }

@@ -73,7 +73,7 @@ pub use extract::extract_counted;
 pub use fault_text::{fault_line, status};
 use file_names::{shown_word, word_of};
 pub use jobs::perform;
-pub use judging::check;
+pub use judging::{check, check_counted};
 pub use line::Line;
 pub use movie_json::show_text;
 use mp4_boxes::{Refusal, Steps};

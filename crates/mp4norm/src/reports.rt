@@ -163,6 +163,9 @@ impl<'a, 'r, R: Read> Read for Noted<'a, 'r, R> {
 }
 
 impl<'a, 'r, W: Write> Write for Noted<'a, 'r, W> {
+    // What the writer behind it holds, where that is known.
+    ghost contents = { λ noted. W.contents noted.out.now };
+
     fn write(&mut self, piece: &[u8]) -> io::Result<usize> {
         let written = self.out.write(piece);
         match &written {

@@ -3,32 +3,51 @@ use Rattle.std.proofs.lemmas.Result.{err_from_is_err_and}
 use Rattle.mp4_present.specs.format.Denotes.{presentation_of}
 use Rattle.mp4_plan.specs.format.Normal.{normal}
 use Rattle.mp4norm.proofs.Normalised.{open_refuses, normal_form}
+use Rattle.mp4norm.proofs.StepsTaken.{not_looked, looked_within}
+use Rattle.mp4norm.proofs.LooksTaken.{not_found, finds_taken}
 use Rattle.mp4norm.proofs.judging.check_counted.Goals as goal
 
-pub returns-in_err-open_movie : goal.returns-in_err-open_movie
-returns-in_err-open_movie g c =
+pub returns-in_err-open_movie-clause-answer : goal.returns-in_err-open_movie-clause-answer
+returns-in_err-open_movie-clause-answer g c =
     let p = err_from_is_err_and c.from_residual.result c.from_residual.ensures.1 in
     let e = c.in_err-open_movie.ensures in
-    record {
-      answer = rw (p.1, p.2) (record {
-        store = record { honesty = e.store.honesty; file = e.store.file; reads = tt };
-        read = tt;
-        refusal = open_refuses _ _ None _ _ 0 c.in_err-open_movie.field-0.0 e.refusal;
-      });
-    }
+    rw (p.1, p.2) (record {
+      store = record { honesty = e.store.honesty; file = e.store.file; reads = tt };
+      read = tt;
+      refusal = open_refuses _ _ None _ _ 0 c.in_err-open_movie.field-0.0 e.refusal;
+    })
 
-pub returns : goal.returns
-returns g c = record {
-  answer = record {
-    store = record {
-      honesty = c.in_ok-open_movie.ensures.store.honesty;
-      file = c.in_ok-open_movie.ensures.store.file;
-      reads = c.in_ok-open_movie.ensures.store.reads;
-    };
-    read = λ told.
-        let o = c.in_ok-open_movie.ensures.movie told in
-        let file = g.S.Store.file c.args.store.now in
-        (normal (presentation_of file o.0), normal_form file c.in_ok-open_movie.field-0 o.0 o.1);
-    refusal = tt;
+pub returns-clause-answer : goal.returns-clause-answer
+returns-clause-answer g c = record {
+  store = record {
+    honesty = c.in_ok-open_movie.ensures.store.honesty;
+    file = c.in_ok-open_movie.ensures.store.file;
+    reads = c.in_ok-open_movie.ensures.store.reads;
   };
+  read = λ told.
+      let o = c.in_ok-open_movie.ensures.movie told in
+      let file = g.S.Store.file c.args.store.now in
+      (normal (presentation_of file o.0), normal_form file c.in_ok-open_movie.field-0 o.0 o.1);
+  refusal = tt;
 }
+
+-- ---- steps and looks
+
+pub returns-in_err-open_movie-clause-work : goal.returns-in_err-open_movie-clause-work
+returns-in_err-open_movie-clause-work g c = λ told.
+    let e = c.in_err-open_movie.ensures in
+    not_looked _ _ _ _ _ _ c.in_err-open_movie.field-0.0 told e.refusal (e.work told) (e.within told)
+
+pub returns-clause-work : goal.returns-clause-work
+returns-clause-work g c = λ told.
+    let o = c.in_ok-open_movie.ensures.movie told in
+    looked_within _ _ _ c.in_ok-open_movie.field-0 o.0 o.1 (c.in_ok-open_movie.ensures.work told o.0 o.1.is_tree)
+
+pub returns-in_err-open_movie-clause-looks : goal.returns-in_err-open_movie-clause-looks
+returns-in_err-open_movie-clause-looks g c = λ told.
+    let l = c.in_err-open_movie.ensures.looks told in
+    not_found _ _ _ _ _ _ c.in_err-open_movie.field-0.0 told c.in_err-open_movie.ensures.refusal l.said l.within
+
+pub returns-clause-looks : goal.returns-clause-looks
+returns-clause-looks g c = λ told.
+    finds_taken _ c.in_ok-open_movie.field-0 _ _ (c.in_ok-open_movie.ensures.movie told) (c.in_ok-open_movie.ensures.looks told).said
