@@ -73,9 +73,19 @@ def all_extras():
     return [*extras.all_extras(), *close_cases.all_extras()]
 
 
-def further():
-    for extra in all_extras():
+def of_extras(found):
+    for extra in found:
         yield Built(extra.name, extra.reason, made(extra))
+
+
+def further():
+    return of_extras(all_extras())
+
+
+def files_in_pairs():
+    """The files of which each two are compared: not those for a close reading, of which each is like
+    one of these but for what it is for."""
+    return of_extras(extras.all_extras())
 
 
 def all_files():
