@@ -4,9 +4,9 @@
 `left_out_misreadings.py`.
 """
 from .boxes import KEPT, Box, full, i32, i64, u8, u16, u32, u64
-from .extras import (CONTAINERS, SECOND_STBL, STBL, TRAF, Extra, chunk_rows, emptied, fields,
-                     fragment, grouping, groupings_added, head, moof_free, moof_of, naming,
-                     replaced, run, trex_of)
+from .extras import (CONTAINERS, SECOND_STBL, STBL, TRAF, Extra, before, chunk_rows, emptied,
+                     fields, fragment, grouping, head, moof_free, moof_of, naming, replaced, run,
+                     trex_of)
 from .faults import LARGE, added, changed, name_of, put_over, renamed
 from .lister import INSIDE
 
@@ -255,6 +255,57 @@ def of_the_normal_form():
     ]
 
 
+def in_front(path, kind):
+    """The first box of a type as the first of its container."""
+    def change(file):
+        children = file.at(path).children
+        children.insert(0, children.pop([child.kind for child in children].index(kind)))
+    return change
+
+
+def turned(file):
+    """The boxes of each container of the movie and of each `traf` in the other order."""
+    for path in [path for path in CONTAINERS if path not in ('', 'moof')]:
+        file.at(path).children.reverse()
+
+
+def of_order():
+    """Two faults, of which the one that stands first in the file is named, also where the others'
+    boxes have another place in other files."""
+    none, tkhd, minf = None, 'moov/trak/tkhd', MDIA + '/minf'
+    no_id, no_scale = put_over(tkhd, 12, u32(0)), put_over(MDIA + '/mdhd', 12, u32(0))
+    no_reference = put_over(minf + '/dinf/dref', 4, u32(0))
+    return [
+        Extra('boxes-in-the-other-order', 'the table says no order', none, turned),
+        Extra('bad-track-before-bad-user-data', 'in the moov in file order', 'BadValue', no_id,
+              fields('moov/udta', b'iloc'), *[in_front('moov', kind) for kind in ('trak', 'mvhd')]),
+        Extra('bad-trex-before-bad-tracks', 'in the moov in file order', 'BadValue',
+              put_over('moov/mvex/trex[1]', 4, u32(1)), no_id, in_front('moov', 'mvex')),
+        Extra('bad-media-before-a-bad-tkhd', 'depth first, in file order', 'BadValue', no_scale,
+              no_id, in_front('moov/trak', 'mdia')),
+        Extra('bad-information-before-a-bad-mdhd', 'depth first, in file order', 'OutsideData',
+              no_reference, no_scale, in_front(MDIA, 'minf')),
+        Extra('bad-description-before-a-bad-dref', 'depth first, in file order', 'BadValue',
+              put_over(STBL + '/stsd/mp4v', 6, u16(2)), no_reference, in_front(minf, 'stbl')),
+        Extra('bad-run-behind-a-bad-sbgp', 'runs first, wherever they stand', 'BadVersion',
+              put_over(TRAF + '/trun', 0, u8(2)), put_over(TRAF + '/sbgp', 0, u8(2)),
+              in_front(TRAF, 'sbgp')),
+        Extra('bad-tfhd-behind-a-bad-run', 'tfhd first, wherever it stands', 'BadVersion',
+              put_over(TRAF + '/tfhd', 0, u8(1)), put_over(TRAF + '/trun', 0, u8(2)),
+              in_front(TRAF, 'trun')),
+        Extra('bad-durations-before-bad-sizes', 'sizes first, wherever they stand', 'BadVersion',
+              put_over(STBL + '/stsz', 0, u8(1)), put_over(STBL + '/stts', 0, u8(1)),
+              in_front(STBL, 'stts')),
+        Extra('early-fragment-before-an-unknown-box', 'one box after the other',
+              'FragmentBeforeMovie', before('', 'moov', Box('moof')),
+              before('', 'moov', Box('uuid'))),
+        Extra('unknown-box-before-an-early-fragment', 'one box after the other',
+              'BoxNotInProfile', before('', 'moov', Box('uuid')),
+              before('', 'moov', Box('moof'))),
+    ]
+
+
 def all_extras():
     return [*of_trafs_without_samples(), *of_listed_boxes(), *of_room_and_versions(),
-            *of_chunks(), *of_flags(), *of_numbers(), *of_types(), *of_the_normal_form()]
+            *of_chunks(), *of_flags(), *of_numbers(), *of_types(), *of_the_normal_form(),
+            *of_order()]
