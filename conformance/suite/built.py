@@ -83,8 +83,8 @@ def further():
 
 
 def files_in_pairs():
-    """The files of which each two are compared: not those for a close reading, of which each is like
-    one of these but for what it is for."""
+    """The files of which each two are compared: not those for a close reading, of which each is
+    like one of these but for what it is for."""
     return of_extras(extras.all_extras())
 
 

@@ -117,8 +117,9 @@ def of_chunks():
     none, stsc, stco = None, STBL + '/stsc', STBL + '/stco'
     one_place = fields(stco, full(0) + u32(1) + u32(0))
     return [
-        Extra('chunk-rows-from-two-without-chunks', 'the first row is of chunk 1 where there is one',
-              none, emptied(0), fields(stsc, chunk_rows((2, 1, 1), (3, 1, 1)))),
+        Extra('chunk-rows-from-two-without-chunks',
+              'a first row of chunk 1 is due where there are chunks', none, emptied(0),
+              fields(stsc, chunk_rows((2, 1, 1), (3, 1, 1)))),
         Extra('chunk-rows-from-zero-without-chunks', 'nor has it to be above 0', none,
               emptied(0), fields(stsc, chunk_rows((0, 1, 1)))),
         Extra('chunk-rows-that-stay-without-chunks', 'they have to rise all the same', 'BadOrder',
