@@ -5,7 +5,7 @@
  *   input   a read of what has no places         seek    going to a place of a file
  *   length  asking for what is known of a file   copy    making a second descriptor of a file
  *   write   a write, but to standard error       sync    bringing a file to the disk
- *   rename, unlink, chmod
+ *   rename, unlink, chmod, chown
  *
  * FAIL_AT says which one, from 1 on; with FAIL_REST all behind it fail too. With FAIL_FILE only calls count that are about a
  * file whose name begins so. FAIL_ERROR is the number of the error, where it isn't the kind's own. FAIL_TAKEN says how many
@@ -153,6 +153,16 @@ int open(const char *path, int flags, ...) {
     return fails_about(flags & O_CREAT ? "make" : "open", path, -1, EIO) ? -1 : real(path, flags, mode);
 }
 
+int openat(int folder, const char *path, int flags, ...) {
+    REAL(openat);
+    va_list more;
+    va_start(more, flags);
+    mode_t mode = flags & O_CREAT ? va_arg(more, mode_t) : 0;
+    va_end(more);
+    if (fails_about(flags & O_CREAT ? "make" : "open", path, -1, EIO)) return -1;
+    return real(folder, path, flags, mode);
+}
+
 int fcntl(int file, int asked, ...) {
     REAL(fcntl);
     va_list more;
@@ -203,6 +213,11 @@ int unlink(const char *path) {
 int chmod(const char *path, mode_t mode) {
     REAL(chmod);
     return fails_about("chmod", path, -1, EACCES) ? -1 : real(path, mode);
+}
+
+int fchown(int file, uid_t owner, gid_t group) {
+    REAL(fchown);
+    return fails_about("chown", NULL, file, EPERM) ? -1 : real(file, owner, group);
 }
 
 int fchmod(int file, mode_t mode) {
