@@ -221,7 +221,8 @@ class Bench:
 
 def run_parts(text, parts):
     """Runs the parts of a script with the program that the words name; `text` is its help."""
-    parser = argparse.ArgumentParser(description=text, formatter_class=argparse.RawTextHelpFormatter)
+    shape = argparse.RawTextHelpFormatter
+    parser = argparse.ArgumentParser(description=text, formatter_class=shape)
     parser.add_argument('program')
     parser.add_argument('--only', default='', metavar='WORD', help='only parts of such a name')
     args = parser.parse_args()

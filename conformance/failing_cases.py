@@ -49,6 +49,7 @@ class Case:
         self.status, self.said, self.put, self.made = status, said, put, made
         self.there, self.given, self.long, self.refused = there, given, long, refused
         self.command = words[0] if words else 'boxes-input'
+        self.last_line = said[said.rfind(b'\n', 0, -1) + 1:]
 
     def has(self, word):
         return word in self.words
@@ -121,7 +122,8 @@ def of_one_file():
                  'kept-box-with-ilob', 'sample-group'):
         yield of(name, 'normalise', bytes_of('files', name + '.mp4'),
                  bytes_of('wanted', name + '.normal.mp4'))
-    two, normal_two = bytes_of('files', 'two-fragments.mp4'), bytes_of('wanted', 'two-fragments.normal.mp4')
+    two = bytes_of('files', 'two-fragments.mp4')
+    normal_two = bytes_of('wanted', 'two-fragments.normal.mp4')
     yield stripped('two-fragments', two)
     yield of('two-fragments far apart', 'normalise', spread(two), normal_two)
     yield of('two-fragments with a long head', 'normalise', grown(two), grown(normal_two))
@@ -129,6 +131,10 @@ def of_one_file():
     yield of('edits', 'normalise', edits, reduced(edits, ('edits', 'times')), '--without',
              'edits,times')
     yield of('plain', 'normalise', PLAIN, NORMAL, '--progress')
+    yield of('plain', 'normalise', PLAIN, NORMAL, '--max-bytes', str(len(NORMAL)))
+    yield of('plain', 'extract', PLAIN, b'', '--track', '1', '--out', '-', '--max-bytes', '11',
+             '--explain', status=3,
+             said=b'file: -\ncause: more than 11 bytes\nfailed: write\n')
     yield of('plain', 'normalise', PLAIN, NORMAL, '--out', '-', '--explain')
     for refused in ('show', 'boxes'):
         yield of('cut', refused, CUT, b'', '--explain', status=1, said=CUT_WORDS, refused=CUT_LINE)

@@ -2,8 +2,8 @@
 
 Each edit: the source file, its old text (which stands there once), its new text, what it takes
 out, and the names of cases of which each must fail. In place of cases it may name a script of the
-suite (`run`, with the name of a part behind a space) and what stands in the line of a run of it
-that must fail (`fails`). Edits with the same word in `joins` share a build; others with a script
+suite (`run`, with the name of a part behind a space) and a pattern of the line of a run of it that
+must fail (`fails`). Edits with the same word in `joins` share a build; others with a script
 are alone. `optimised` is for runs that take too long otherwise.
 """
 

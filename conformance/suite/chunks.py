@@ -1,4 +1,4 @@
-"""A track in chunks, of which one sample does not lie in the file; and the numbers of that sample."""
+"""A track in chunks, of which a sample does not lie in the file; and the numbers of that sample."""
 from .boxes import Box, File, full, u32
 from .many import box_at
 from .movies import media, movie_header, table, track_header
@@ -30,8 +30,8 @@ def compact_sizes(bits, count, rows):
     return Box('stz2', full(0) + u32(bits) + u32(count) + rows)
 
 
-# Name, sizes, rows of stsc, chunks from the end of the file; then, of the first sample that does not
-# lie in the file, how far from the end it begins, and its size.
+# Name, sizes, rows of stsc, chunks from the end of the file; then, of the first sample that does
+# not lie in the file, how far from the end it begins, and its size.
 ROWS = [(1, 1, 1), (2, 2, 1), (3, 3, 1)]
 CASES = [
     # Samples of 3 and 9: the high four bits are the first one's.
