@@ -4,6 +4,7 @@ import argparse
 import json
 import os
 import re
+import shutil
 import subprocess
 import sys
 import tempfile
@@ -144,8 +145,11 @@ class Bench:
 
     def remove(self, *names):
         for name in names:
-            if os.path.lexists(self.path(name)):
-                os.remove(self.path(name))
+            path = self.path(name)
+            if os.path.isdir(path) and not os.path.islink(path):
+                shutil.rmtree(path)
+            elif os.path.lexists(path):
+                os.remove(path)
 
     def make_no_files(self):
         """A FIFO that nobody writes to, and a folder."""
@@ -210,7 +214,8 @@ class Bench:
 
     def is_as(self, name, data):
         """What is wrong with a file that has to have these bytes, or, of None, not to be there."""
-        there = self.read(name) if os.path.lexists(self.path(name)) else None
+        path = self.path(name)
+        there = self.read(name) if os.path.isfile(path) else os.path.lexists(path) or None
         return '' if there == data else f'{name} is other than wanted'
 
     def has_no_part(self):
