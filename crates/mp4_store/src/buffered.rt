@@ -1,8 +1,9 @@
 //! A store that reads ahead, so that headers that lie near one another cost one read.
-ghost use Rattle.std.specs.Prelude.{◌≡◌, ◌+◌, ◌≤◌, length, take, IsTrue, OnOk};
+ghost use Rattle.std.specs.Prelude.{◌≡◌, ◌+◌, ◌≤◌, length, take, drop, IsTrue, OnOk, IfOk};
 ghost use Rattle.mp4_store.specs.words.Device.{Counts, range};
 
 use crate::store::{Store, StoreFailed};
+use std::alloc::{AllocError, Global};
 use std::marker::Model;
 
 /// The most bytes that are read ahead.
@@ -20,13 +21,20 @@ const NEAR: usize = 16_384;
 const SHARE: usize = 4;
 
 // Bytes of a store that were read ahead: the first `len`, from the place `start` on. So many bytes
-// as `ahead` says were asked for.
+// as `ahead` says were asked for. The room is taken once, apart from the stack.
 #[derive(Drop)]
 struct Window {
-    bytes: [u8; MOST],
+    bytes: Vec<u8>,
     start: u64,
     len: usize,
     ahead: usize,
+}
+
+// So many bytes of room.
+fn room(alloc: Global, len: usize) -> Result<Vec<u8>, AllocError>
+    ensures { IfOk result (λ bytes. length bytes.items ≡ len) }
+{
+    vec![in alloc; 0u8; len]
 }
 
 // Reads to the front of the room.
@@ -45,6 +53,33 @@ fn read_front<S: Store>(
     ensures cause { Counts (S.read_failures store.old) (S.read_failures store.new) result }
 {
     store.read_at(at, &mut room[..len])
+}
+
+// Reads to the front of room that was taken.
+fn read_into<S: Store>(
+    store: &mut S,
+    at: u64,
+    room: &mut Vec<u8>,
+    len: usize,
+) -> Result<(), StoreFailed>
+    requires place { at + len ≤ length (S.file store.old) }
+    requires room { len ≤ length room.old.items }
+    ensures honesty { S.is_honest store.new ≡ S.is_honest store.old }
+    ensures file { S.file store.new ≡ S.file store.old }
+    ensures length { length room.new.items ≡ length room.old.items }
+    ensures bytes { OnOk result (IsTrue (S.is_honest store.old)
+        → take len room.new.items ≡ range (S.file store.old) at len) }
+    ensures cause { Counts (S.read_failures store.old) (S.read_failures store.new) result }
+{
+    read_front(store, at, room.as_mut_slice(), len)
+}
+
+// Copies a part of some bytes.
+fn copy_part(bytes: &[u8], from: usize, out: &mut [u8])
+    requires { from + length out.old ≤ length bytes.now }
+    ensures { out.new ≡ take (length out.old) (drop from bytes.now) }
+{
+    out.copy_from_slice(&bytes[from..from + out.len()]);
 }
 
 impl Window {
@@ -83,7 +118,8 @@ impl Window {
 
     // Reads ahead from a place on. After `Err` it has no bytes.
     fn fill<S: Store>(&mut self, store: &mut S, at: u64) -> Result<(), StoreFailed>
-        requires { at ≤ length (S.file store.old) }
+        requires place { at ≤ length (S.file store.old) }
+        requires room { length self.old.bytes.items ≡ 65536 }
         ensures honesty { S.is_honest store.new ≡ S.is_honest store.old }
         ensures file { S.file store.new ≡ S.file store.old }
         ensures window { IsWindowOf (S.is_honest store.old) (S.file store.old) self.new }
@@ -96,20 +132,19 @@ impl Window {
         self.ahead = ahead;
         self.start = at;
         self.len = 0;
-        read_front(store, at, &mut self.bytes, len)?;
+        read_into(store, at, &mut self.bytes, len)?;
         self.len = len;
         Ok(())
     }
 
     // Gives bytes that it has.
     fn give(&self, at: u64, out: &mut [u8])
-        requires within { self.now.len ≤ length self.now.bytes }
+        requires within { self.now.len ≤ length self.now.bytes.items }
         requires holds { Holds self.now at (length out.old) }
         ensures { (honest : Bool) (file : List ℕ) → IsWindowOf honest file self.now → IsTrue honest
             → out.new ≡ range file at (length out.old) }
     {
-        let from = (at - self.start) as usize;
-        out.copy_from_slice(&self.bytes[from..from + out.len()]);
+        copy_part(self.bytes.as_slice(), (at - self.start) as usize, out);
     }
 }
 
@@ -137,24 +172,26 @@ impl<S: Store> Model for BufferedStore<S> {
 }
 
 impl<S: Store> BufferedStore<S> {
-    ghost use Rattle.std.specs.Prelude.{◌≡◌};
+    ghost use Rattle.std.specs.Prelude.{◌≡◌, IfOk};
 
-    /// Nothing is read yet.
-    pub fn new(store: S) -> BufferedStore<S>
-        ensures store { result.0 ≡ store }
-        ensures count { result.1 ≡ 0 }
+    /// Nothing is read yet. The room for what is read ahead is taken here.
+    pub fn new(alloc: Global, store: S) -> Result<BufferedStore<S>, AllocError>
+    where
+        S: Drop,
+        ensures store { IfOk result (λ buffered. buffered.0 ≡ store) }
+        ensures count { IfOk result (λ buffered. buffered.1 ≡ 0) }
     {
         let window = Window {
-            bytes: [0; MOST],
+            bytes: room(alloc, MOST)?,
             start: 0,
             len: 0,
             ahead: 0,
         };
-        BufferedStore {
+        Ok(BufferedStore {
             store,
             window,
             failed: 0,
-        }
+        })
     }
 }
 

@@ -15,7 +15,6 @@ pub mod Normalised
 pub mod StepSums
 pub mod StepsTaken
 pub mod LooksTaken
-pub mod Judged
 pub mod WaysTo
 pub mod StripWalks
 pub mod StripCopies

@@ -1,4 +1,5 @@
 //! Many files, judged one after the other.
+use crate::file_names::{push_plain, shown};
 use crate::input::read_input;
 use crate::judging::check;
 use crate::reports::Report;
@@ -7,12 +8,14 @@ use crate::verdicts::{first_name, put_verdict, verdict_status};
 use crate::wanted::{Input, Telling};
 use mp4_boxes::Refusal;
 use mp4_store::{IoSink, Sink};
+use std::alloc::{AllocError, Global};
 use std::fs::File;
 
 // Judges what is read.
 fn answer_of(rt: &HostRuntime, input: Input) -> Result<(), Refusal> {
     let mut source = open(rt, input, &mut Report::new(Telling::NOTHING))?;
-    check(rt.alloc(), &mut source)
+    let answer = check(rt.alloc(), &mut source);
+    source.settled(answer)
 }
 
 // Judges a file of a list. The system's names are text.
@@ -35,6 +38,16 @@ fn read_list(rt: &HostRuntime, list: Option<Input>) -> Result<Vec<u8>, Refusal> 
     }
 }
 
+// A name as it stands in a verdict: as it is where a zero byte ends it, else as people are shown it.
+fn named(alloc: Global, name: &[u8], end: u8) -> Result<Vec<u8>, AllocError> {
+    if end != 0 {
+        return shown(alloc, name);
+    }
+    let mut plain = Vec::new(alloc);
+    push_plain(&mut plain, name)?;
+    Ok(plain)
+}
+
 // Judges the files of a list, and gives the greatest status.
 fn check_list<K: Sink>(
     rt: &HostRuntime,
@@ -47,7 +60,8 @@ fn check_list<K: Sink>(
     while !left.is_empty() {
         let (name, rest) = first_name(left);
         let answer = answer_of_listed(rt, name);
-        put_verdict(rt.alloc(), name, &answer, end, sink)?;
+        let name = named(rt.alloc(), name, end)?;
+        put_verdict(rt.alloc(), name.as_slice(), &answer, end, sink)?;
         worst = verdict_status(&answer).max(worst);
         left = rest;
     }
@@ -67,8 +81,8 @@ pub(crate) fn check_all(
     let mut worst = 0;
     for input in files {
         let answer = answer_of(rt, *input);
-        let name = input.name().as_bytes();
-        put_verdict(rt.alloc(), name, &answer, end, &mut sink)?;
+        let name = named(rt.alloc(), input.name().as_bytes(), end)?;
+        put_verdict(rt.alloc(), name.as_slice(), &answer, end, &mut sink)?;
         worst = verdict_status(&answer).max(worst);
     }
     Ok(worst.max(check_list(rt, list.as_slice(), end, &mut sink)?))

@@ -5,8 +5,9 @@ ghost use Rattle.mp4norm.specs.words.Actions.{IsJob, IsAction, boxes_of_input};
 use crate::commands::whole_command;
 use crate::comparing::Listing;
 use crate::drop_lists::names_of;
+use crate::file_names::shown_word;
 use crate::leaving_words::leaving_of;
-use crate::wanted::{Action, CommandFault, Form, Input, Job, Target, Telling};
+use crate::wanted::{Action, CommandFault, Form, Input, Job, Order, Target, Telling};
 use clap::error::ErrorKind;
 use clap::{ArgMatches, Error};
 use mp4_present::Leaving;
@@ -63,6 +64,16 @@ fn telling_of(found: &ArgMatches) -> Telling {
     }
 }
 
+// What is read, where the answer goes, and what is said beside it.
+fn order_of<'a>(found: &ArgMatches<'a>, file: &'a str) -> Order<'a> {
+    Order {
+        input: input_of(file),
+        target: target_of(found),
+        most: found.get_one::<u64>("max-bytes"),
+        telling: telling_of(found),
+    }
+}
+
 // How samples are listed.
 fn form_of(found: &ArgMatches) -> Form {
     if found.get_flag("json") {
@@ -90,13 +101,16 @@ fn check_asked<'a>(alloc: Global, found: &ArgMatches<'a>) -> Result<Action<'a>, 
 // What is wrong with the words, said as clap does.
 fn usage(alloc: Global, what: &str) -> CommandFault {
     match format!(in alloc; "error: {what}\n\nFor more information, try '--help'.\n") {
-        Ok(text) => CommandFault::Usage(text),
+        Ok(text) => CommandFault::Shown(text),
         Err(_) => CommandFault::Memory,
     }
 }
 
 // What is wrong with a list of words, by the rule of such lists.
 fn list_fault(alloc: Global, list: &str, option: &str, rule: &str) -> CommandFault {
+    let Ok(list) = shown_word(alloc, list) else {
+        return CommandFault::Memory;
+    };
     match format!(in alloc; "invalid value '{list}' for '{option}': {rule}") {
         Ok(what) => usage(alloc, &what),
         Err(_) => CommandFault::Memory,
@@ -105,7 +119,7 @@ fn list_fault(alloc: Global, list: &str, option: &str, rule: &str) -> CommandFau
 
 // A word is missing. clap has seen that none is.
 fn missing(alloc: Global) -> CommandFault {
-    CommandFault::Usage(String::new(alloc))
+    CommandFault::Shown(String::new(alloc))
 }
 
 // Which boxes of which file are to be free space.
@@ -118,12 +132,8 @@ fn strip_asked<'a>(alloc: Global, found: &ArgMatches<'a>) -> Result<Action<'a>, 
     let Some(names) = names_of(alloc, list)? else {
         return Err(list_fault(alloc, list, "--drop <TYPES>", DROP_RULE));
     };
-    Ok(Action::Strip {
-        names,
-        input: input_of(file),
-        target: target_of(found),
-        telling: telling_of(found),
-    })
+    let order = order_of(found, file);
+    Ok(Action::Strip { names, order })
 }
 
 // What a list of words leaves out.
@@ -181,12 +191,8 @@ fn run_asked<'a>(
     let (Some(job), Some(file)) = (job_of(alloc, name, found)?, found.get_str("file")) else {
         return Err(missing(alloc));
     };
-    Ok(Action::Run {
-        job,
-        input: input_of(file),
-        target: target_of(found),
-        telling: telling_of(found),
-    })
+    let order = order_of(found, file);
+    Ok(Action::Run { job, order })
 }
 
 // How differences are to be told of.
@@ -275,11 +281,15 @@ pub fn action<'a>(alloc: Global, words: &'a [String]) -> Result<Action<'a>, Comm
     ensures action { IfOk result IsAction }
 {
     if words.is_empty() {
-        return Ok(Action::Run {
-            job: Job::Boxes,
+        let order = Order {
             input: Input::Standard,
             target: Target::Standard,
+            most: None,
             telling: Telling::NOTHING,
+        };
+        return Ok(Action::Run {
+            job: Job::Boxes,
+            order,
         });
     }
     let command = whole_command(alloc)?;

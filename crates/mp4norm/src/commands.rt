@@ -20,7 +20,7 @@ Status:
   3   failed: store, failed: store changed, failed: write
   4   failed: no such track
   5   compare: the files differ
-  64  the words are wrong
+  64  the arguments are invalid
 
 Example: mp4norm normalise movie.mp4 --out normal.mp4";
 
@@ -31,7 +31,7 @@ file and the cause";
 
 const REPLACE: &str = "\
 Replace NEW, and only once all is written: by a new file beside it, \
-NEW.part";
+NEW.part-..";
 
 const PROGRESS: &str = "Say on standard error how far it has come, in percent and MB/s";
 
@@ -80,11 +80,21 @@ fn out_arg<'a>(alloc: Global) -> Arg<'a> {
         .action(ArgAction::Set)
 }
 
+fn most_arg<'a>(alloc: Global) -> Arg<'a> {
+    Arg::new(alloc, "max-bytes")
+        .long("max-bytes")
+        .value_name("N")
+        .help("Write nothing where the answer has more than N bytes")
+        .action(ArgAction::Set)
+        .value_parser(value_parser!(u64))
+}
+
 // A command that writes a file.
 fn with_out<'a>(command: Command<'a>, alloc: Global) -> Result<Command<'a>, AllocError> {
     command
         .arg(out_arg(alloc))?
         .arg(flag(alloc, "replace", REPLACE))?
+        .arg(most_arg(alloc))?
         .arg(flag(alloc, "progress", PROGRESS))
 }
 

@@ -8,6 +8,7 @@ ghost use Rattle.mp4_present.specs.words.Compared.{OfFiles, WhereOpenedBoth};
 ghost use Rattle.mp4norm.specs.words.OverFiles.{ComparesBoth, ReadsBoth, WalksOnce};
 
 use crate::difference_lines::{say, say_difference};
+use crate::leaving_words::EVERYTHING;
 use crate::tally::{Tally, say_tally};
 use mp4_boxes::{Refusal, Steps};
 use mp4_present::{Difference, Differences, Leaving, Movie, compare, compare_all, open_movie};
@@ -58,7 +59,7 @@ fn failed_together(refusal: Refusal) -> Failure
     failed(side, refusal)
 }
 
-/// The most differences that are counted.
+/// The most differences that are counted. One more is held, to know whether there are more.
 const MOST: usize = 1 << 20;
 
 // Differences, as many as there is room for.
@@ -105,7 +106,7 @@ impl Differences for Listed {
 
     fn take(&mut self, difference: Difference) -> bool {
         let _ = self.all.push(difference);
-        if self.all.len() < MOST {
+        if self.all.len() <= MOST {
             let _ = self.all.reserve(1);
         }
         self.all.len() < self.all.capacity()
@@ -143,6 +144,11 @@ fn listed_text(
     Ok(text)
 }
 
+// As many of some differences as are counted.
+fn counted(all: &[Difference]) -> &[Difference] {
+    &all[..all.len().min(MOST)]
+}
+
 // What differs between two opened files, as much as is counted, and whether that is all.
 fn all_of<S: Store, T: Store, L: Ledger>(
     alloc: Global,
@@ -164,28 +170,27 @@ fn all_of<S: Store, T: Store, L: Ledger>(
         return Err(Refusal::Memory);
     }
     let is_whole = compare_all(alloc, left, a, right, b, leaving, &mut listed, steps)?;
-    if !is_whole && listed.all.len() < MOST {
+    if !is_whole && listed.all.len() <= MOST {
         return Err(Refusal::Memory);
     }
     Ok((listed, is_whole))
 }
 
-// What has to be left out for two opened files to be the same, if leaving things out makes them so.
+// What is left out more, if two opened files are the same without it.
 fn enough_of<S: Store, T: Store, L: Ledger>(
     alloc: Global,
     left: &Movie,
     a: &mut S,
     right: &Movie,
     b: &mut T,
-    leaving: Leaving,
-    tally: &Tally,
+    more: Option<Leaving>,
     steps: &mut Steps<L>,
 ) -> Result<Option<Leaving>, Refusal>
     ensures stores { ReadsBoth S.Store a.old a.new T.Store b.old b.new result }
     ensures opened { WhereOpenedBoth S.Store a.old left.now T.Store b.old right.now
         (λ tree other. IsUnchanged result × WalksOnce tree other steps.old steps.new) }
 {
-    let Some(more) = tally.suggests(leaving) else {
+    let Some(more) = more else {
         return Ok(None);
     };
     match compare(alloc, left, a, right, b, more, steps)? {
@@ -216,9 +221,12 @@ fn all_text<S: Store, T: Store, L: Ledger>(
     if listed.is_empty() {
         return Ok(None);
     }
-    let tally = Tally::of(listed.all.as_slice());
-    let enough = enough_of(alloc, left, a, right, b, leaving, &tally, steps)?;
-    let all = listed.all.as_slice();
+    let all = counted(listed.all.as_slice());
+    let is_whole = is_whole && listed.all.len() <= MOST;
+    let tally = Tally::of(all);
+    // Of a list that was cut the rest isn't known: then all words are tried.
+    let more = if is_whole { tally.suggests(leaving) } else { Some(EVERYTHING) };
+    let enough = enough_of(alloc, left, a, right, b, more, steps)?;
     Ok(Some(listed_text(alloc, all, limit, is_whole, &tally, enough)?))
 }
 

@@ -4,7 +4,7 @@ ghost use Rattle.std.specs.Prelude.{◌≡◌, ◌++◌, OnOk};
 ghost use Rattle.mp4norm.specs.format.Texts.{line_feed};
 
 use crate::difference_lines::{say, say_numbers};
-use crate::ways::{Way, step_line, way_to};
+use crate::ways::{Way, number_at_top, step_line, way_to};
 use mp4_boxes::{Fault, FourCc, Kind, Refusal, Steps};
 use mp4_present::{FaultNumbers, fault_numbers};
 use mp4_store::{Sink, Store};
@@ -18,6 +18,7 @@ fn clause_of(kind: FourCc) -> &'static str {
         b"ftyp" => "4.3",
         b"mdat" => "8.1.1",
         b"free" | b"skip" => "8.1.2",
+        b"pdin" => "8.1.3",
         b"moov" => "8.2.1",
         b"mvhd" => "8.2.2",
         b"trak" => "8.3.1",
@@ -35,6 +36,7 @@ fn clause_of(kind: FourCc) -> &'static str {
         b"ctts" => "8.6.1.3",
         b"cslg" => "8.6.1.4",
         b"stss" => "8.6.2",
+        b"stsh" => "8.6.3",
         b"sdtp" => "8.6.4",
         b"edts" => "8.6.5",
         b"elst" => "8.6.6",
@@ -43,6 +45,9 @@ fn clause_of(kind: FourCc) -> &'static str {
         b"stsz" | b"stz2" => "8.7.3",
         b"stsc" => "8.7.4",
         b"stco" | b"co64" => "8.7.5",
+        b"subs" => "8.7.7",
+        b"saiz" => "8.7.8",
+        b"saio" => "8.7.9",
         b"mvex" => "8.8.1",
         b"mehd" => "8.8.2",
         b"trex" => "8.8.3",
@@ -51,11 +56,19 @@ fn clause_of(kind: FourCc) -> &'static str {
         b"traf" => "8.8.6",
         b"tfhd" => "8.8.7",
         b"trun" => "8.8.8",
+        b"mfra" => "8.8.9",
+        b"tfra" => "8.8.10",
+        b"mfro" => "8.8.11",
         b"tfdt" => "8.8.12",
         b"sbgp" => "8.9.2",
         b"sgpd" => "8.9.3",
         b"udta" => "8.10.1",
         b"meta" => "8.11.1",
+        b"sinf" => "8.12.1",
+        b"schm" => "8.12.5",
+        b"styp" => "8.16.2",
+        b"sidx" => "8.16.3",
+        b"prft" => "8.16.5",
         _ => "4.2",
     }
 }
@@ -99,17 +112,60 @@ fn push_line(text: &mut Vec<u8>, label: &[u8], rest: &[u8]) -> Result<(), AllocE
     text.extend_from_slice(b"\n")
 }
 
-// The way to the named box. Where its header can't be read, or it is no box of a container, its
-// type stands at the end.
-fn whole_way(way: &mut Way, named: FourCc) -> Result<(), AllocError> {
-    if !way.text.is_empty() {
-        if way.last == named {
-            return Ok(());
-        }
-        way.text.extend_from_slice(b" / ")?;
+// The way to the box of a fault, as far as its boxes can be read. Where a header is cut short
+// behind the last of boxes that are counted, the container ends there.
+fn way_read<S: Store>(alloc: Global, store: &mut S, fault: &Fault) -> Result<Way, Refusal>
+    ensures honesty { S.is_honest store.new ≡ S.is_honest store.old }
+    ensures file { S.file store.new ≡ S.file store.old }
+{
+    let way = way_to(alloc, store, fault.offset)?;
+    if fault.kind != Kind::ShortHeader || way.last.0 == fault.box_type || fault.offset == 0 {
+        return Ok(way);
     }
-    way.text
-        .extend_from_slice(step_line(named, None).as_bytes())
+    way_to(alloc, store, fault.offset - 1)
+}
+
+// The way to the named box. Where its header can't be read, its type stands at the end.
+fn whole_way<S: Store>(alloc: Global, store: &mut S, fault: &Fault) -> Result<Vec<u8>, Refusal>
+    ensures honesty { S.is_honest store.new ≡ S.is_honest store.old }
+    ensures file { S.file store.new ≡ S.file store.old }
+{
+    let named = FourCc(fault.box_type);
+    let mut text = Vec::new(alloc);
+    if named == FourCc::FILE {
+        text.extend_from_slice(b"file")?;
+        return Ok(text);
+    }
+    let way = way_read(alloc, store, fault)?;
+    text.extend_from_slice(way.text.as_slice())?;
+    if !text.is_empty() && way.last == named {
+        return Ok(text);
+    }
+    let mut number = None;
+    if text.is_empty() {
+        number = number_at_top(store, named, fault.offset);
+    } else {
+        text.extend_from_slice(b" / ")?;
+    }
+    text.extend_from_slice(step_line(named, number).as_bytes())?;
+    Ok(text)
+}
+
+// Numbers that go with a fault; none where another fault stands before it.
+fn numbers_of<S: Store, L: Ledger, M: Ledger>(
+    alloc: Global,
+    store: &mut S,
+    fault: &Fault,
+    steps: &mut Steps<L>,
+    looks: &mut Steps<M>,
+) -> Result<Option<FaultNumbers>, Refusal>
+    ensures honesty { S.is_honest store.new ≡ S.is_honest store.old }
+    ensures file { S.file store.new ≡ S.file store.old }
+{
+    match fault_numbers(alloc, fault, store, steps, looks) {
+        Err(Refusal::Fault(_)) => Ok(None),
+        told => told,
+    }
 }
 
 // Adds the numbers that go with a fault.
@@ -136,11 +192,11 @@ fn say_told(text: &mut Vec<u8>, numbers: FaultNumbers) -> Result<(), AllocError>
 fn explanation(
     alloc: Global,
     fault: &Fault,
-    way: &Way,
+    way: &[u8],
     numbers: Option<FaultNumbers>,
 ) -> Result<Vec<u8>, AllocError> {
     let mut text = Vec::new(alloc);
-    push_line(&mut text, b"way: ", way.text.as_slice())?;
+    push_line(&mut text, b"way: ", way)?;
     push_line(
         &mut text,
         b"clause: ISO/IEC 14496-12, ",
@@ -166,10 +222,9 @@ pub(crate) fn explain<S: Store, K: Sink, L: Ledger, M: Ledger>(
     ensures honesty { S.is_honest store.new ≡ S.is_honest store.old }
     ensures file { S.file store.new ≡ S.file store.old }
 {
-    let mut way = way_to(alloc, store, fault.offset)?;
-    whole_way(&mut way, FourCc(fault.box_type))?;
-    let numbers = fault_numbers(alloc, fault, store, steps, looks)?;
-    let text = explanation(alloc, fault, &way, numbers)?;
+    let way = whole_way(alloc, store, fault)?;
+    let numbers = numbers_of(alloc, store, fault, steps, looks)?;
+    let text = explanation(alloc, fault, way.as_slice(), numbers)?;
     sink.put(text.as_slice())?;
     Ok(())
 }

@@ -3,7 +3,7 @@ ghost use Rattle.std.specs.Prelude.{◌≡◌, ◌≤◌, IfOk, IfSome, length};
 
 use mp4_boxes::Refusal;
 use std::alloc::Global;
-use std::io::Read;
+use std::io::{ErrorKind, Read};
 
 /// How many bytes are read at once.
 const PIECE: usize = 65_000;
@@ -15,7 +15,8 @@ pub(crate) fn room(alloc: Global, len: usize) -> Result<Vec<u8>, Refusal>
     Ok(vec![in alloc; 0u8; len]?)
 }
 
-/// All that a reader gives. More than `most` bytes, or an error, is a failed read.
+/// All that a reader gives. More than `most` bytes, or an error, is a failed read; a read that was
+/// interrupted is made again.
 pub fn read_input<R: Read>(alloc: Global, reader: &mut R, most: usize) -> Result<Vec<u8>, Refusal>
     ensures limit { IfOk result (λ input. length input.items ≤ most) }
     ensures whole { IfOk result
@@ -24,8 +25,10 @@ pub fn read_input<R: Read>(alloc: Global, reader: &mut R, most: usize) -> Result
     let mut input = Vec::new(alloc);
     let mut piece = room(alloc, PIECE)?;
     for _turn in 0..=most {
-        let Ok(count) = reader.read(piece.as_mut_slice()) else {
-            return Err(Refusal::StoreFailed);
+        let count = match reader.read(piece.as_mut_slice()) {
+            Ok(count) => count,
+            Err(error) if error.kind() == ErrorKind::Interrupted => continue,
+            Err(_) => return Err(Refusal::StoreFailed),
         };
         if count == 0 {
             return Ok(input);

@@ -3,7 +3,6 @@ ghost use Rattle.mp4norm.specs.words.MainJob.{MayBeNormalised, RefusesCheck};
 ghost use Rattle.mp4norm.specs.words.OverDevices.{IsOf, Reads};
 
 use mp4_boxes::{Refusal, Steps};
-use mp4_plan::Writer;
 use mp4_present::open_movie;
 use mp4_store::Store;
 use std::alloc::Global;
@@ -24,14 +23,12 @@ fn check_counted<S: Store, L: Ledger, M: Ledger>(
 {
     let mut steps = Steps::<L>::new(steps);
     let mut looks = Steps::<M>::new(looks);
-    let movie = open_movie(alloc, store, &mut steps, &mut looks)?;
-    let _writer = Writer::new(alloc, &movie, store, &mut steps, &mut looks)?;
+    open_movie(alloc, store, &mut steps, &mut looks)?;
     Ok(())
 }
 
-/// Judges a file as `normalise` does before it puts anything: the file is read and planned, and all
-/// memory that writing would need is taken. So it answers what `normalise` would, but for a read or
-/// a put that fails there later.
+/// Judges a file as `normalise` does before it puts anything. So it answers what `normalise` would,
+/// but for what fails there later: memory that writing needs, a read or a put.
 pub fn check<S: Store>(alloc: Global, store: &mut S) -> Result<(), Refusal>
     ensures answer { Reads S.Store store.old store.new result
         (λ file done. MayBeNormalised file) RefusesCheck }

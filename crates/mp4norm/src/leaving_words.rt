@@ -2,6 +2,15 @@
 use crate::drop_lists::cut;
 use mp4_present::Leaving;
 
+/// All that can be left out.
+pub(crate) const EVERYTHING: Leaving = Leaving {
+    times: true,
+    edits: true,
+    flags: true,
+    groups: true,
+    metadata: true,
+};
+
 /// The words, in the order in which they are told of, and whether each is left out.
 pub(crate) fn words_of(leaving: Leaving) -> [(&'static str, bool); 5] {
     [

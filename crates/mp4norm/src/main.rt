@@ -15,12 +15,14 @@ mod command_line;
 mod commands;
 mod comparing;
 mod comparing_runs;
+mod descriptors;
 mod difference_lines;
 mod digits;
 mod drop_lists;
 mod explaining;
 mod extract;
 mod fault_text;
+mod file_names;
 mod forms;
 mod headers_under;
 mod input;
@@ -37,6 +39,7 @@ mod line_block;
 mod movie_json;
 mod named;
 mod normalising;
+mod part_files;
 mod progress;
 mod reducing;
 mod replacing;
@@ -64,9 +67,11 @@ use checking::check_all;
 pub use command_line::action;
 pub use comparing::{Failure, Listing, Side, compare_files};
 use comparing_runs::compare_named;
+use descriptors::take_closed;
 pub use difference_lines::say_difference;
 pub use extract::extract_counted;
 pub use fault_text::{fault_line, status};
+use file_names::{shown_word, word_of};
 pub use jobs::perform;
 pub use judging::check;
 pub use line::Line;
@@ -80,30 +85,60 @@ use runs::run;
 pub use sample_lines::put_lines;
 pub use samples::samples_counted;
 pub use show::show_counted;
+use std::alloc::{AllocError, Global};
+use std::io;
 use std::io::Write;
 use std::marker::Brand;
 use std::process::ExitCode;
 use std::sync::ledger::{Blank, Ledger};
-use std::{env, io};
+use std::rt::Env;
 pub use stripping::{count_named, strip};
 pub use text_lengths::text_len;
 pub use uncounted::{extract, normalise, samples, show};
 pub use verdicts::{first_name, put_verdict, verdict_status};
-pub use wanted::{Action, CommandFault, Form, Input, Job, Target, Telling};
+pub use wanted::{Action, CommandFault, Form, Input, Job, Order, Target, Telling};
 pub use ways::{Way, way_to};
 
 /// The status for words that are not known.
 const USAGE: u8 = 64;
 
+/// The most bytes that a word of a command line has in Linux, with the zero byte that ends it.
+const MOST_OF_WORD: usize = 131_072;
+
 // The words behind the program's name.
-fn words(rt: &HostRuntime) -> Result<Vec<String>, CommandFault> {
-    match env::args(rt) {
-        Ok(args) => Ok(args.skip(1).collect(rt.alloc())?),
-        Err(error) if error.kind() == io::ErrorKind::OutOfMemory => Err(CommandFault::Memory),
-        Err(_) => {
-            let text = String::from_str(rt.alloc(), "error: a word is not UTF-8\n")?;
-            Err(CommandFault::Usage(text))
-        }
+fn words(rt: &HostRuntime) -> Result<Vec<String>, AllocError> {
+    let alloc = rt.alloc();
+    let mut words = Vec::new(alloc);
+    let mut room = vec![in alloc; 0u8; MOST_OF_WORD]?;
+    for number in 1..usize::MAX {
+        let Ok(len) = rt.arg(number, room.as_mut_slice()) else {
+            break;
+        };
+        words.push(word_of(alloc, &room[..len])?)?;
+    }
+    Ok(words)
+}
+
+// The words as people are shown them.
+fn shown_words(alloc: Global, words: &[String]) -> Result<Vec<String>, AllocError> {
+    let mut all = Vec::new(alloc);
+    for word in words {
+        all.push(shown_word(alloc, word.as_str())?)?;
+    }
+    Ok(all)
+}
+
+// What is wrong with the words, said of these as people are shown them.
+fn shown_fault(rt: &HostRuntime, words: &[String], fault: CommandFault) -> CommandFault {
+    if !matches!(fault, CommandFault::Usage(_)) {
+        return fault;
+    }
+    match shown_words(rt.alloc(), words) {
+        Ok(words) => match action(rt.alloc(), words.as_slice()) {
+            Err(CommandFault::Usage(text)) => CommandFault::Usage(text),
+            _ => fault,
+        },
+        Err(_) => CommandFault::Memory,
     }
 }
 
@@ -146,25 +181,11 @@ fn act<L: Ledger, M: Ledger>(
     let mut steps = Steps::<L>::new(steps);
     let mut looks = Steps::<M>::new(looks);
     match action {
-        Action::Run {
-            job,
-            input,
-            target,
-            telling,
-        } => {
-            let answer = run(rt, job, input, target, telling, &mut steps, &mut looks);
-            end(rt, answer)
-        }
-        Action::Strip {
-            names,
-            input,
-            target,
-            telling,
-        } => {
+        Action::Run { job, order } => end(rt, run(rt, job, order, &mut steps, &mut looks)),
+        Action::Strip { names, order } => {
             let names = names.as_slice();
             let job = Job::Strip { names };
-            let answer = run(rt, job, input, target, telling, &mut steps, &mut looks);
-            end(rt, answer)
+            end(rt, run(rt, job, order, &mut steps, &mut looks))
         }
         Action::Compare {
             left,
@@ -180,7 +201,7 @@ fn act<L: Ledger, M: Ledger>(
 fn tell(rt: &HostRuntime, fault: CommandFault) -> ExitCode {
     match fault {
         CommandFault::Help(text) => end(rt, put_text(rt, text.as_str())),
-        CommandFault::Usage(text) => {
+        CommandFault::Usage(text) | CommandFault::Shown(text) => {
             let _ = rt.stderr().write_all(text.as_str().as_bytes());
             ExitCode::from(USAGE)
         }
@@ -189,12 +210,13 @@ fn tell(rt: &HostRuntime, fault: CommandFault) -> ExitCode {
 }
 
 fn main(rt: HostRuntime) -> ExitCode {
-    let words = match words(&rt) {
-        Ok(words) => words,
-        Err(fault) => return tell(&rt, fault),
+    let _taken = take_closed(&rt);
+    let Ok(words) = words(&rt) else {
+        return end(&rt, Err(Refusal::Memory));
     };
-    match action(rt.alloc(), words.as_slice()) {
+    let words = words.as_slice();
+    match action(rt.alloc(), words) {
         Ok(action) => act::<Brand, Brand>(&rt, action, Blank::new(1), Blank::new(1)),
-        Err(fault) => tell(&rt, fault),
+        Err(fault) => tell(&rt, shown_fault(&rt, words, fault)),
     }
 }

@@ -1,10 +1,11 @@
 //! What is said on standard error beside the answer: why a file could not be opened, read or
 //! written, and how far a job has come.
+use crate::file_names::{is_text, shown};
 use crate::progress::Progress;
 use crate::wanted::Telling;
 use mp4_boxes::Refusal;
 use std::io;
-use std::io::{ErrorKind, Write};
+use std::io::{ErrorKind, Read, Write};
 
 // What the system means by a kind of error.
 fn text_of(kind: ErrorKind) -> &'static str {
@@ -19,8 +20,17 @@ fn text_of(kind: ErrorKind) -> &'static str {
         ErrorKind::BrokenPipe => "whoever reads it has gone",
         ErrorKind::ReadOnlyFilesystem => "nothing can be written there",
         ErrorKind::Unsupported => "it is no regular file",
+        ErrorKind::InvalidFilename => "the name is too long",
+        ErrorKind::WouldBlock => "it would have to wait",
         _ => "an error of the system",
     }
+}
+
+// Why something failed: what the system says of it, or that the answer is longer than it may be.
+#[derive(Clone, Copy)]
+enum Cause {
+    Said(&'static str),
+    TooLong(u64),
 }
 
 /// What there is to say beside the answer: the cause of a failure, if the system gave one, and how
@@ -28,7 +38,7 @@ fn text_of(kind: ErrorKind) -> &'static str {
 #[derive(Drop)]
 pub(crate) struct Report<'a> {
     telling: Telling,
-    cause: Option<&'static str>,
+    cause: Option<Cause>,
     progress: Option<Progress<'a>>,
 }
 
@@ -63,7 +73,8 @@ impl<'a> Report<'a> {
         }
     }
 
-    /// What comes of a step that the system takes. Where it fails, its cause is kept.
+    /// What comes of a step that the system takes. Where it fails, its cause is kept; want of memory
+    /// stays that.
     pub(crate) fn outcome<T>(
         &mut self,
         step: io::Result<T>,
@@ -71,40 +82,84 @@ impl<'a> Report<'a> {
     ) -> Result<T, Refusal> {
         match step {
             Ok(value) => Ok(value),
+            Err(error) if error.kind() == ErrorKind::OutOfMemory => Err(Refusal::Memory),
             Err(error) => {
-                self.cause = Some(text_of(error.kind()));
+                self.cause = Some(Cause::Said(text_of(error.kind())));
                 Err(failed)
             }
         }
     }
 
-    // Says something, where more words are asked for.
-    fn say(&self, rt: &HostRuntime, parts: &[&str]) {
-        if self.telling.explain {
-            let mut errors = rt.stderr();
-            for part in parts {
-                let _ = errors.write_all(part.as_bytes());
-            }
+    /// A failure with a cause of its own.
+    pub(crate) fn failure(&mut self, cause: &'static str, failed: Refusal) -> Refusal {
+        self.cause = Some(Cause::Said(cause));
+        failed
+    }
+
+    /// The failure of an answer that would have more bytes than it may.
+    pub(crate) fn too_long(&mut self, most: u64) -> Refusal {
+        self.cause = Some(Cause::TooLong(most));
+        Refusal::WriteFailed
+    }
+
+    /// Whether it is asked for to say how far the job has come.
+    pub(crate) fn counts(&self) -> bool {
+        self.telling.progress
+    }
+
+    /// Whether more words are asked for.
+    pub(crate) fn explains(&self) -> bool {
+        self.telling.explain
+    }
+
+    /// Says which file there is trouble with, and why; `not_text` where it can't be opened by its
+    /// name, `else_cause` where the system gave no cause.
+    pub(crate) fn tell(&self, rt: &HostRuntime, name: &str, not_text: &str, else_cause: &str) {
+        if !self.telling.explain {
+            return;
         }
-    }
-
-    /// Says which file there is trouble with, and why; `else_cause` where the system gave no cause.
-    pub(crate) fn tell(&self, rt: &HostRuntime, name: &str, else_cause: &str) {
-        let cause = self.cause.unwrap_or(else_cause);
-        self.say(rt, &["file: ", name, "\ncause: ", cause, "\n"]);
-    }
-
-    /// Names a file that an interrupted run left.
-    pub(crate) fn tell_leftover(&self, rt: &HostRuntime, name: &str) {
-        self.say(rt, &["leftover: ", name, "\n"]);
+        tell_name(rt, b"file: ", name);
+        match self.cause {
+            Some(Cause::TooLong(most)) => tell_too_long(rt, most),
+            _ if !is_text(name) => tell_name(rt, b"cause: ", not_text),
+            Some(Cause::Said(cause)) => tell_name(rt, b"cause: ", cause),
+            None => tell_name(rt, b"cause: ", else_cause),
+        }
     }
 }
 
-/// A writer, of which it is kept how far it has come, and the cause if it fails.
+// Says how many bytes an answer may have.
+fn tell_too_long(rt: &HostRuntime, most: u64) {
+    if let Ok(text) = format!(in rt.alloc(); "cause: more than {most} bytes\n") {
+        let _ = rt.stderr().write_all(text.as_str().as_bytes());
+    }
+}
+
+/// Says a name, or other words, on a line of standard error, behind this label.
+pub(crate) fn tell_name(rt: &HostRuntime, label: &[u8], name: &str) {
+    let mut errors = rt.stderr();
+    if let Ok(text) = shown(rt.alloc(), name.as_bytes()) {
+        let _ = errors.write_all(label);
+        let _ = errors.write_all(text.as_slice());
+        let _ = errors.write_all(b"\n");
+    }
+}
+
+/// A writer, of which it is kept how far it has come, or a reader; and the cause if it fails.
 #[derive(Drop)]
 pub(crate) struct Noted<'a, 'r, W> {
     pub(crate) out: &'a mut W,
     pub(crate) report: &'a mut Report<'r>,
+}
+
+impl<'a, 'r, R: Read> Read for Noted<'a, 'r, R> {
+    fn read(&mut self, piece: &mut [u8]) -> io::Result<usize> {
+        let read = self.out.read(piece);
+        if let Err(error) = &read {
+            self.report.cause = Some(Cause::Said(text_of(error.kind())));
+        }
+        read
+    }
 }
 
 impl<'a, 'r, W: Write> Write for Noted<'a, 'r, W> {
@@ -112,7 +167,7 @@ impl<'a, 'r, W: Write> Write for Noted<'a, 'r, W> {
         let written = self.out.write(piece);
         match &written {
             Ok(count) => self.report.pass(*count),
-            Err(error) => self.report.cause = Some(text_of(error.kind())),
+            Err(error) => self.report.cause = Some(Cause::Said(text_of(error.kind()))),
         }
         written
     }

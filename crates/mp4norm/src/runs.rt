@@ -7,23 +7,53 @@ use crate::strip_lines::{WARNING, count_line, names_encryption};
 use crate::stripping::count_named;
 use crate::targets::{Out, make, write};
 use crate::text_lengths::text_len;
-use crate::wanted::{Input, Job, Target, Telling};
+use crate::wanted::{Job, Order, Target};
 use mp4_boxes::{Refusal, Steps};
 use mp4_store::IoSink;
 use std::io::Write;
 use std::sync::ledger::Ledger;
 
-// Opens where the answer goes, and does the job.
-fn write_to<L: Ledger, M: Ledger>(
-    rt: &HostRuntime,
+/// The causes where no file can be opened by a word, since it isn't text.
+const NO_FILE: &str = "its name is not UTF-8; give the file as standard input (-)";
+
+const NO_NEW: &str = "its name is not UTF-8; write to standard output (-)";
+
+// Finds how long the answer gets, where that is asked for, and refuses one that is too long.
+fn measure<'a, L: Ledger, M: Ledger>(
+    rt: &'a HostRuntime,
     job: Job,
     source: &mut Source,
-    target: Target,
+    most: Option<u64>,
     steps: &mut Steps<L>,
     looks: &mut Steps<M>,
-    report: &mut Report,
+    report: &mut Report<'a>,
 ) -> Result<(), Refusal> {
-    let mut out = match target {
+    if most.is_none() && !report.counts() {
+        return Ok(());
+    }
+    let total = text_len(rt.alloc(), job, source, steps, looks);
+    let total = source.settled(total)?;
+    match most {
+        Some(most) if total > most => Err(report.too_long(most)),
+        _ => {
+            report.begin(rt, total);
+            Ok(())
+        }
+    }
+}
+
+// Opens where the answer goes, once it is known that it isn't too long, and does the job.
+fn write_to<'a, L: Ledger, M: Ledger>(
+    rt: &'a HostRuntime,
+    job: Job,
+    source: &mut Source,
+    order: Order,
+    steps: &mut Steps<L>,
+    looks: &mut Steps<M>,
+    report: &mut Report<'a>,
+) -> Result<(), Refusal> {
+    measure(rt, job, source, order.most, steps, looks, report)?;
+    let mut out = match order.target {
         Target::Standard => Out::Standard(rt.stdout()),
         Target::New { name } => make(rt, name, report)?,
         Target::Replaced { name } => return replace(rt, job, source, steps, looks, name, report),
@@ -32,54 +62,46 @@ fn write_to<L: Ledger, M: Ledger>(
 }
 
 // Does a job. Of a copy without some boxes it says how many of each name these are.
-fn answer<L: Ledger, M: Ledger>(
-    rt: &HostRuntime,
+fn answer<'a, L: Ledger, M: Ledger>(
+    rt: &'a HostRuntime,
     job: Job,
     source: &mut Source,
-    target: Target,
+    order: Order,
     steps: &mut Steps<L>,
     looks: &mut Steps<M>,
-    report: &mut Report,
+    report: &mut Report<'a>,
 ) -> Result<(), Refusal> {
     let Job::Strip { names } = job else {
-        return write_to(rt, job, source, target, steps, looks, report);
+        return write_to(rt, job, source, order, steps, looks, report);
     };
+    let counts = count_named(rt.alloc(), source, names);
+    let counts = source.settled(counts)?;
+    write_to(rt, job, source, order, steps, looks, report)?;
+    report.end();
     let mut errors = rt.stderr();
     if names_encryption(names) {
         let _ = errors.write_all(WARNING);
     }
-    let counts = count_named(rt.alloc(), source, names)?;
-    write_to(rt, job, source, target, steps, looks, report)?;
-    report.end();
     for (name, count) in names.iter().zip(counts.iter()) {
         let _ = errors.write_all(count_line(name, *count).as_bytes());
     }
     Ok(())
 }
 
-// Opens what is read, then where the answer goes, and does the job. A fault is explained, and told
-// how far the job has come, where that is asked for.
+// Opens what is read, and does the job. A fault is explained where that is asked for.
 fn open_and_answer<'a, L: Ledger, M: Ledger>(
     rt: &'a HostRuntime,
     job: Job,
-    input: Input,
-    target: Target,
-    telling: Telling,
+    order: Order,
     steps: &mut Steps<L>,
     looks: &mut Steps<M>,
     report: &mut Report<'a>,
 ) -> Result<(), Refusal> {
-    let mut source = open(rt, input, report)?;
-    if telling.progress {
-        // Where this fails, so does the job, which says why.
-        if let Ok(total) = text_len(rt.alloc(), job, &mut source, steps, looks) {
-            report.begin(rt, total);
-        }
-    }
-    let answer = answer(rt, job, &mut source, target, steps, looks, report);
+    let mut source = open(rt, order.input, report)?;
+    let answer = answer(rt, job, &mut source, order, steps, looks, report);
     report.end();
     if let Err(Refusal::Fault(fault)) = &answer {
-        if telling.explain {
+        if order.telling.explain {
             let mut errors = IoSink::new(rt.stderr());
             let _ = explain(rt.alloc(), fault, &mut source, &mut errors, steps, looks);
         }
@@ -93,17 +115,19 @@ fn open_and_answer<'a, L: Ledger, M: Ledger>(
 pub(crate) fn run<L: Ledger, M: Ledger>(
     rt: &HostRuntime,
     job: Job,
-    input: Input,
-    target: Target,
-    telling: Telling,
+    order: Order,
     steps: &mut Steps<L>,
     looks: &mut Steps<M>,
 ) -> Result<(), Refusal> {
-    let mut report = Report::new(telling);
-    let answer = open_and_answer(rt, job, input, target, telling, steps, looks, &mut report);
+    let mut report = Report::new(order.telling);
+    let answer = open_and_answer(rt, job, order, steps, looks, &mut report);
     match answer {
-        Err(Refusal::StoreFailed) => report.tell(rt, input.name(), "it can't be read"),
-        Err(Refusal::WriteFailed) => report.tell(rt, target.name(), "it can't be written"),
+        Err(Refusal::StoreFailed) => {
+            report.tell(rt, order.input.name(), NO_FILE, "it can't be read");
+        }
+        Err(Refusal::WriteFailed) => {
+            report.tell(rt, order.target.name(), NO_NEW, "it can't be written");
+        }
         _ => {}
     }
     answer

@@ -1,7 +1,7 @@
 //! What a command reads: a file, by place, or standard input, whole.
 
 use crate::input::read_input;
-use crate::reports::Report;
+use crate::reports::{Noted, Report};
 use crate::wanted::Input;
 use crate::watching::Watched;
 use mp4_boxes::Refusal;
@@ -36,28 +36,45 @@ fn open_file(rt: &HostRuntime, name: &str) -> io::Result<Source> {
     let file = File::open(rt, name)?;
     let watched = Watched::new(&file)?;
     let store = FileStore::new(file)?;
-    Ok(Source::File(BufferedStore::new(store), watched))
+    let store = BufferedStore::new(rt.alloc(), store)?;
+    Ok(Source::File(store, watched))
 }
 
 /// Opens what is to be read. Standard input is read to its end.
 pub(crate) fn open(rt: &HostRuntime, input: Input, report: &mut Report) -> Result<Source, Refusal> {
     match input {
         Input::Standard => {
-            let bytes = read_input(rt.alloc(), &mut rt.reader(), MOST_INPUT)?;
+            let mut reader = rt.reader();
+            let out = &mut reader;
+            let bytes = read_input(rt.alloc(), &mut Noted { out, report }, MOST_INPUT)?;
             Ok(Source::Input(bytes))
         }
         Input::File { name } => report.outcome(open_file(rt, name), Refusal::StoreFailed),
     }
 }
 
+/// Whether a refusal says something of the file, and not of what failed.
+pub(crate) fn is_of_file(refusal: &Refusal) -> bool {
+    matches!(refusal, Refusal::Fault(_) | Refusal::NoSuchTrack)
+}
+
 impl Source {
-    /// Whether a file is as it was when it was opened, so far as its length and the time of its
+    /// Whether a file is as it was when it was opened, so far as its length and the times of its
     /// last change tell.
     pub(crate) fn stays(&self) -> Result<(), Refusal> {
         match self {
             Source::File(_, watched) => watched.stays(),
             Source::Input(_) => Ok(()),
         }
+    }
+
+    /// An answer that says something of the file, if the file is still as it was; else that it has
+    /// changed. A failure stays as it is.
+    pub(crate) fn settled<T: Drop>(&self, answer: Result<T, Refusal>) -> Result<T, Refusal> {
+        if answer.is_ok() || answer.as_ref().is_err_and(is_of_file) {
+            self.stays()?;
+        }
+        answer
     }
 }
 

@@ -11,28 +11,20 @@ use std::io;
 use std::io::{Stdout, Write};
 use std::sync::ledger::Ledger;
 
-/// Standard output, or a file that was made.
+/// Standard output, a file that was made, or one that takes the place of another.
 #[derive(Drop)]
-pub(crate) enum Out {
+pub(crate) enum Out<'a> {
     Standard(Stdout),
     File(File),
+    Part(&'a File),
 }
 
-impl Out {
-    /// Waits until what was written to a file has reached the disk.
-    pub(crate) fn sync(&self) -> io::Result<()> {
-        match self {
-            Out::Standard(_) => Ok(()),
-            Out::File(file) => file.sync_all(),
-        }
-    }
-}
-
-impl Write for Out {
+impl<'a> Write for Out<'a> {
     fn write(&mut self, piece: &[u8]) -> io::Result<usize> {
         match self {
             Out::Standard(output) => output.write(piece),
             Out::File(file) => file.write(piece),
+            Out::Part(file) => file.write(piece),
         }
     }
 
@@ -42,24 +34,16 @@ impl Write for Out {
 }
 
 /// Makes a file that isn't there yet.
-pub(crate) fn make(rt: &HostRuntime, name: &str, report: &mut Report) -> Result<Out, Refusal> {
+pub(crate) fn make(
+    rt: &HostRuntime,
+    name: &str,
+    report: &mut Report,
+) -> Result<Out<'static>, Refusal> {
     let file = report.outcome(File::create_new(rt, name), Refusal::WriteFailed)?;
     Ok(Out::File(file))
 }
 
-// Whether a job answers for all bytes of what it reads.
-fn answers_for_all(job: Job) -> bool {
-    match job {
-        Job::Boxes | Job::Show => false,
-        Job::Samples { .. }
-        | Job::Extract { .. }
-        | Job::Normalise
-        | Job::Reduce { .. }
-        | Job::Strip { .. } => true,
-    }
-}
-
-/// Writes a job's text. Where a file changed meanwhile of which all was to be read, that is said.
+/// Writes a job's text. Where the file that is read changed meanwhile, that is said.
 pub(crate) fn write<L: Ledger, M: Ledger>(
     alloc: Global,
     job: Job,
@@ -70,9 +54,6 @@ pub(crate) fn write<L: Ledger, M: Ledger>(
     report: &mut Report,
 ) -> Result<(), Refusal> {
     let noted = Noted { out, report };
-    perform(alloc, job, source, &mut IoSink::new(noted), steps, looks)?;
-    if answers_for_all(job) {
-        source.stays()?;
-    }
-    Ok(())
+    let answer = perform(alloc, job, source, &mut IoSink::new(noted), steps, looks);
+    source.settled(answer)
 }

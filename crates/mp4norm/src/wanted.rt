@@ -78,6 +78,16 @@ impl Telling {
     };
 }
 
+/// What a job reads, where its answer goes, how many bytes that may have, and what is said beside
+/// it.
+#[derive(Clone, Copy)]
+pub struct Order<'a> {
+    pub input: Input<'a>,
+    pub target: Target<'a>,
+    pub most: Option<u64>,
+    pub telling: Telling,
+}
+
 /// What the words ask for: a job, a copy without the boxes of some names, a comparison of two
 /// files, or a verdict on each of some files and of those that a list names, ended by a line feed
 /// or a zero byte.
@@ -96,23 +106,21 @@ pub enum Action<'a> {
     },
     Strip {
         names: Vec<Name>,
-        input: Input<'a>,
-        target: Target<'a>,
-        telling: Telling,
+        order: Order<'a>,
     },
     Run {
         job: Job<'a>,
-        input: Input<'a>,
-        target: Target<'a>,
-        telling: Telling,
+        order: Order<'a>,
     },
 }
 
-/// Why there is nothing to do: a text was asked for, the words are wrong, or there is no memory.
+/// Why there is nothing to do: a text was asked for, the words are wrong, or there is no memory. Of
+/// wrong words it is said what is wrong, with the words as they are, or as people are shown them.
 #[derive(Drop)]
 pub enum CommandFault {
     Help(String),
     Usage(String),
+    Shown(String),
     Memory,
 }
 

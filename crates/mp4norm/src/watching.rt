@@ -2,20 +2,23 @@
 use mp4_boxes::Refusal;
 use std::fs::File;
 use std::io;
-use std::time::SystemTime;
+use std::os::unix::fs::MetadataExt;
 
-// What the system tells of a file: its length, and when it was last written to.
+// What the system tells of a file: its length, when it was last written to, and when that or its
+// rights were last changed, in seconds and nanoseconds.
 #[derive(Clone, Copy, PartialEq)]
 struct State {
     len: u64,
-    modified: Option<SystemTime>,
+    modified: (i64, i64),
+    changed: (i64, i64),
 }
 
 fn state_of(file: &File) -> io::Result<State> {
     let metadata = file.metadata()?;
     Ok(State {
         len: metadata.len(),
-        modified: metadata.modified().ok(),
+        modified: (metadata.mtime(), metadata.mtime_nsec()),
+        changed: (metadata.ctime(), metadata.ctime_nsec()),
     })
 }
 

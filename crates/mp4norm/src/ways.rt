@@ -1,16 +1,17 @@
 //! The way to a place of a file: the boxes in which it lies, from the file's own box on.
-ghost use Rattle.std.specs.Prelude.{◌≡◌, ◌<◌, ◌≤◌, OnOk, IfSome, IsTrue};
+ghost use Rattle.std.specs.Prelude.{◌≡◌, ◌<◌, ◌≤◌, ◌++◌, OnOk, IfSome, IsTrue, codes};
 ghost use Rattle.mp4_boxes.specs.words.View.{box_seen};
 ghost use Rattle.mp4_present.specs.words.Reading.{IsTopHeader};
 ghost use Rattle.mp4norm.specs.format.BoxWalk.{IsWithin, top_seen};
 ghost use Rattle.mp4_present.specs.words.OverStores.{WhereHonest, WhereRead};
-ghost use Rattle.mp4norm.specs.format.Ways.{HoldsPlace, IsChildAt, step_text, IsWayIn};
+ghost use Rattle.mp4_boxes.specs.format.Box.{Tiles, box_container, counted_container};
+ghost use Rattle.mp4norm.specs.format.Ways.{HoldsPlace, IsHeld, step_text, IsWayIn};
 ghost use Rattle.mp4norm.specs.words.OverDevices.{KeepsFile};
 ghost use Rattle.mp4norm.specs.words.AddedWays.{AddsWay};
 
 use crate::boxes::rule_inside;
 use crate::line::Line;
-use mp4_boxes::{BoxView, FourCc, Refusal, Rule, children};
+use mp4_boxes::{BoxView, Children, FourCc, Refusal, Rule, children, counted};
 use mp4_present::{TopBox, read_bytes, read_top_header};
 use mp4_store::Store;
 use std::alloc::{AllocError, Global};
@@ -43,12 +44,11 @@ pub(crate) fn step_line(kind: FourCc, number: Option<u64>) -> Line
     line
 }
 
-// Which of the boxes of its type the one at this place is, where a container has several.
-fn number_among(view: &BoxView, kind: FourCc, place: u64) -> Option<u64> {
-    let boxes = children(view.payload(), view.payload_offset(), view.kind()).ok()?;
+// Which of the boxes of its type the one at this place is, where there are several.
+fn number_among(boxes: Option<Children>, kind: FourCc, place: u64) -> Option<u64> {
     let mut count = 0u64;
     let mut number = 0;
-    for other in boxes {
+    for other in boxes? {
         if other.kind() == kind {
             count = count.saturating_add(1);
             if other.offset() == place {
@@ -59,11 +59,11 @@ fn number_among(view: &BoxView, kind: FourCc, place: u64) -> Option<u64> {
     (count > 1).then_some(number)
 }
 
-// The box of a container in which the place lies.
-fn child_at<'a>(view: &BoxView<'a>, place: u64) -> Option<BoxView<'a>>
-    ensures { IfSome result (λ child. IsChildAt place (box_seen view.now) (box_seen child)) }
+// The one of some boxes in which the place lies.
+fn held_among<'a>(boxes: Children<'a>, place: u64) -> Option<BoxView<'a>>
+    ensures { IfSome result (λ child. IsHeld place boxes.entry (box_seen child)) }
 {
-    for child in children(view.payload(), view.payload_offset(), view.kind()).ok()? {
+    for child in boxes {
         if holds(&child, place) {
             return Some(child);
         }
@@ -71,50 +71,115 @@ fn child_at<'a>(view: &BoxView<'a>, place: u64) -> Option<BoxView<'a>>
     None
 }
 
+// The boxes of a container.
+fn boxes_in<'a>(view: &BoxView<'a>) -> Option<Children<'a>>
+    ensures { IfSome result (Tiles (box_container (box_seen view.now))) }
+{
+    children(view.payload(), view.payload_offset(), view.kind()).ok()
+}
+
+// The entries of an `stsd` or `dref`.
+fn entries_in<'a>(view: BoxView<'a>) -> Option<Children<'a>>
+    ensures { IfSome result (Tiles (counted_container (box_seen view.entry))) }
+{
+    let counts = view.kind() == FourCc(*b"stsd") || view.kind() == FourCc(*b"dref");
+    if !counts || view.payload().len() < 8 {
+        return None;
+    }
+    counted(view).ok()
+}
+
+// Adds a box, with its number if it has one.
+fn push_step(text: &mut Vec<u8>, kind: FourCc, number: Option<u64>) -> Result<(), AllocError>
+    ensures { OnOk result (text.new.items
+        ≡ (text.old.items ++ codes " / ") ++ step_text kind.0 number) }
+{
+    text.extend_from_slice(b" / ")?;
+    text.extend_from_slice(step_line(kind, number).as_bytes())
+}
+
+// Adds the entry of a box in which the place lies, if there is one, and gives the type of the last
+// box.
+fn push_entry(text: &mut Vec<u8>, view: BoxView, place: u64) -> Result<FourCc, AllocError>
+    ensures { OnOk result (AddsWay place (box_seen view.entry) text.old.items text.new.items) }
+{
+    let Some(entries) = entries_in(view) else {
+        return Ok(view.kind());
+    };
+    let Some(entry) = held_among(entries, place) else {
+        return Ok(view.kind());
+    };
+    let number = number_among(entries_in(view), entry.kind(), entry.offset());
+    push_step(text, entry.kind(), number)?;
+    Ok(entry.kind())
+}
+
 // Adds the way on from a box, and gives the type of the last one.
 fn push_way(text: &mut Vec<u8>, view: BoxView, rule: Rule, place: u64) -> Result<FourCc, AllocError>
     ensures { OnOk result (AddsWay place (box_seen view.entry) text.old.items text.new.items) }
 {
     let Some(inner) = rule_inside(rule, view.kind()) else {
+        return push_entry(text, view, place);
+    };
+    let Some(boxes) = boxes_in(&view) else {
         return Ok(view.kind());
     };
-    let Some(child) = child_at(&view, place) else {
+    let Some(child) = held_among(boxes, place) else {
         return Ok(view.kind());
     };
-    let number = number_among(&view, child.kind(), child.offset());
-    text.extend_from_slice(b" / ")?;
-    text.extend_from_slice(step_line(child.kind(), number).as_bytes())?;
+    let number = number_among(boxes_in(&view), child.kind(), child.offset());
+    push_step(text, child.kind(), number)?;
     if child.offset() == place {
         return Ok(child.kind());
     }
     push_way(text, child, inner, place)
 }
 
-// The file's own box in which the place lies, and which `moof` it is, if it is one. None where the
-// place lies behind a header that can't be read.
-fn top_at<S: Store>(store: &mut S, place: u64) -> Option<(TopBox, Option<u64>)>
+// The file's own box in which the place lies. None where the place lies behind a header that can't
+// be read.
+fn top_at<S: Store>(store: &mut S, place: u64) -> Option<TopBox>
     ensures store { KeepsFile S.Store store.old store.new }
-    ensures within { IfSome result (λ found. IsWithin (S.file store.old) found.0) }
+    ensures within { IfSome result (IsWithin (S.file store.old)) }
     ensures header { IfSome result (λ found. WhereHonest S.Store store.old
-        (λ file. IsTopHeader file found.0.offset found.0.header)) }
-    ensures holds { IfSome result (λ found. (found.0.offset ≤ place)
-        × (place < found.0.header.end)) }
+        (λ file. IsTopHeader file found.offset found.header)) }
+    ensures holds { IfSome result (λ found. (found.offset ≤ place)
+        × (place < found.header.end)) }
 {
     let len = store.len();
     let mut at = 0;
-    let mut moofs = 0u64;
     while at < len {
         let header = read_top_header(store, at).ok()?;
-        let is_moof = header.kind == FourCc(*b"moof");
-        if is_moof {
-            moofs = moofs.saturating_add(1);
-        }
         if place < header.end {
-            return Some((TopBox { offset: at, header }, is_moof.then_some(moofs)));
+            return Some(TopBox { offset: at, header });
         }
         at = header.end;
     }
     None
+}
+
+/// Which of the file's own boxes of a type the one at this place is, where there are several, and
+/// of each `moof`. The header of the one at this place may be cut short.
+pub(crate) fn number_at_top<S: Store>(store: &mut S, kind: FourCc, place: u64) -> Option<u64>
+    ensures store { KeepsFile S.Store store.old store.new }
+{
+    let len = store.len();
+    let mut at = 0;
+    let mut count = 0u64;
+    let mut number = 0;
+    while at < len {
+        let header = read_top_header(store, at).ok();
+        if at == place || header.is_some_and(|header| header.kind == kind) {
+            count = count.saturating_add(1);
+        }
+        if at == place {
+            number = count;
+        }
+        let Some(header) = header else {
+            break;
+        };
+        at = header.end;
+    }
+    (count > 1 || kind == FourCc(*b"moof")).then_some(number)
 }
 
 // Adds the way on from a box of the file itself, and gives the type of the last one.
@@ -147,12 +212,13 @@ pub fn way_to<S: Store>(alloc: Global, store: &mut S, place: u64) -> Result<Way,
     ensures way { WhereRead S.Store store.old result (λ file w. IsWayIn file place w.text.items) }
 {
     let mut text = Vec::new(alloc);
-    let Some((top, number)) = top_at(store, place) else {
+    let Some(top) = top_at(store, place) else {
         return Ok(Way {
             text,
             last: FourCc::FILE,
         });
     };
+    let number = number_at_top(store, top.header.kind, top.offset);
     text.extend_from_slice(step_line(top.header.kind, number).as_bytes())?;
     let last = push_top_way(&mut text, alloc, store, top, place)?;
     Ok(Way { text, last })

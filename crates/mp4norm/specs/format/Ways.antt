@@ -1,6 +1,6 @@
 -- The way to a place of a file.
 use Rattle.std.specs.Prelude.{◌≡◌, ◌⊎◌, ℕ, ◌+◌, ◌<◌, ◌≤◌, List, [], ◌∷◌, ◌++◌, Option, Some, None, codes, decimal}
-use Rattle.mp4_boxes.specs.format.Box.{Box, Tiles, box_container, size}
+use Rattle.mp4_boxes.specs.format.Box.{Box, Tiles, box_container, counted_container, size}
 use Rattle.mp4_present.specs.words.Reading.{IsTopHeader}
 use Rattle.mp4_present.specs.declared.reading.TopBox.{TopBox}
 use Rattle.mp4norm.specs.format.BoxWalk.{top_seen}
@@ -10,11 +10,18 @@ use Rattle.mp4norm.specs.format.Texts.{type_text, space}
 abbrev pub HoldsPlace : ℕ → Box → Type 0
 HoldsPlace place b = (b.offset ≤ place) × (place < b.offset + size b)
 
--- it stands among the boxes of the other one, and the place lies in it
+-- it stands among these boxes, and the place lies in it
+abbrev pub IsHeld : ℕ → List Box → Box → Type 0
+IsHeld place boxes child =
+    (before after : List Box) × (boxes ≡ before ++ child ∷ after) × HoldsPlace place child
+
+-- it stands among the boxes of the other one, or among those that the other one counts
+pub data IsInside (b : Box) : List Box → Type 0 where
+  contained : (boxes : List Box) → Tiles (box_container b) boxes → IsInside b boxes
+  counted : (boxes : List Box) → Tiles (counted_container b) boxes → IsInside b boxes
+
 abbrev pub IsChildAt : ℕ → Box → Box → Type 0
-IsChildAt place b child =
-    (before after : List Box) × Tiles (box_container b) (before ++ child ∷ after)
-    × HoldsPlace place child
+IsChildAt place b child = (boxes : List Box) × IsInside b boxes × IsHeld place boxes child
 
 -- a box on the way, with its number where it is told
 abbrev pub step_text : List ℕ → Option ℕ → List ℕ

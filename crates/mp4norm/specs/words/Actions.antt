@@ -1,5 +1,5 @@
 -- What the command line asks for.
-use Rattle.std.specs.Prelude.{◌<◌, ◌≤◌, length, false}
+use Rattle.std.specs.Prelude.{◌<◌, ◌≤◌, length, false, None}
 use Rattle.mp4norm.specs.declared.wanted.Action.{Action}
 use Rattle.mp4norm.specs.declared.wanted.Action.TheVariants as actions
 use Rattle.mp4norm.specs.declared.wanted.Input.TheVariants as inputs
@@ -15,11 +15,15 @@ IsJob _ = Unit {0}
 
 -- and some box is named that is to be free space
 abbrev pub IsAction : Action → Type 0
-IsAction (actions.Run job input target telling) = IsJob job
-IsAction (actions.Strip names input target telling) = 0 < length names.items
+IsAction (actions.Run job order) = IsJob job
+IsAction (actions.Strip names order) = 0 < length names.items
 IsAction _ = Unit {0}
 
 -- the boxes of standard input
 abbrev pub boxes_of_input : Action
-boxes_of_input = actions.Run jobs.Boxes inputs.Standard targets.Standard
-    (record { explain = false; progress = false })
+boxes_of_input = actions.Run jobs.Boxes (record {
+      input = inputs.Standard;
+      target = targets.Standard;
+      most = None;
+      telling = record { explain = false; progress = false };
+    })

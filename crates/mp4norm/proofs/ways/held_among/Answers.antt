@@ -1,6 +1,6 @@
 use Rattle.mp4_boxes.specs.words.View.{box_seen}
 use Rattle.mp4norm.proofs.WaysTo.{passed_more}
-use Rattle.mp4norm.proofs.ways.child_at.Goals as goal
+use Rattle.mp4norm.proofs.ways.held_among.Goals as goal
 
 pub loop-child-preserved : goal.loop-child-preserved
 loop-child-preserved c =

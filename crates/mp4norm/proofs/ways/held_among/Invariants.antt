@@ -1,5 +1,5 @@
 use Rattle.mp4norm.proofs.WaysTo.{Passed}
-use Rattle.mp4norm.proofs.ways.child_at.Given as goal
+use Rattle.mp4norm.proofs.ways.held_among.Given as goal
 
 abbrev pub invariant-loop-child : goal.invariant-loop-child
 invariant-loop-child l =
