@@ -98,6 +98,8 @@ def of_explanations(joins='explanations'):
     for text, fails in CAUSES.items():
         yield edit(REPORTS, f'=> "{text}",', '=> "another thing",',
                    f'the cause "{text}" is another', fails=fails)
+    yield edit(RUNS, '"it can\'t be read"', '"it is so"', 'the cause of a failed read is another',
+               fails='the cause of a failed read')
     yield edit(COUNTS, 'b"stts" | b"ctts" => counted_by_rows(payload, 4),',
                'b"stts" => counted_by_rows(payload, 4),\n        b"ctts" => Some(7),',
                'ctts is always told to count 7 samples', fails=r'numbers of .*: ctts:')
@@ -261,6 +263,19 @@ def of_files():
         Edit(PARTS, 'is_some_and(|process| is_gone(rt, process))', 'is_some()',
              'what a run writes just now is named as left over', run='replaces leftovers',
              fails='normalise beside leftovers', joins='replacing'),
+        Edit(REPLACING, '"another file has taken the place of the new one"', '"it is so"',
+             'the cause where another file is no part is another', run='replaces swapped_parts',
+             fails='why another file is no part', joins='whole'),
+        Edit(REPORTS, '"cause: more than {most} bytes\\n"', '"cause: less than {most} bytes\\n"',
+             'the cause of an answer that is too long is another', run='limits bounded',
+             fails='normalise 721 bytes of 720, explained', joins='whole', optimised=True),
+        Edit(RUNS, '"its name is not UTF-8; give the file as standard input (-)"', '"it is so"',
+             'the cause of a FILE that is no text is another', run='names names_in_commands',
+             fails='show b.caf.*: why', joins='whole'),
+        Edit(RUNS, '"its name is not UTF-8; write to standard output (-)"',
+             '"its name is not UTF-8; give it as standard input (-)"',
+             'the cause of a NEW that is no text is that of a FILE', run='names usage',
+             fails='NEW that is not UTF-8', joins='whole'),
         Edit(REPLACING, 'if answer.is_err() {', 'if matches!(answer, Err(Refusal::WriteFailed)) {',
              'a refused file leaves the new one beside NEW', run='replaces replacing',
              fails='--replace, refused, over a file: files', joins='whole'),
