@@ -105,7 +105,8 @@ def of_explanations(joins='explanations'):
                'ctts is always told to count 7 samples', fails=r'numbers of .*: ctts:')
     yield edit(PLACES, 'if k % 2 == 0 { byte / 16 } else { byte % 16 }',
                'if k % 2 == 0 { byte % 16 } else { byte / 16 }',
-               'the two sizes in a byte of stz2 are swapped in numbers', fails='numbers of nibbles:')
+               'the two sizes in a byte of stz2 are swapped in numbers',
+               fails='numbers of nibbles:')
     yield edit(PLACES, 'if u64::from(first) <= u64::from(chunk) + 1 {',
                'if u64::from(first) <= u64::from(chunk) + 1 && false {',
                'later rows of stsc are passed over in numbers',
@@ -128,8 +129,8 @@ def of_help(joins='help'):
         yield Edit(COMMANDS, row, f'  {status:<4}something\n',
                    f'what the help says of status {status}', run='lines',
                    fails=f'what the help says of status {status}$', joins=joins)
-    yield Edit(COMMANDS, f'  64  {HELP[64]}\n', f'  65  {HELP[64]}\n', 'a status that the help names',
-               run='lines', fails='the statuses that the help names', joins='a status')
+    yield Edit(COMMANDS, f'  64  {HELP[64]}\n', f'  65  {HELP[64]}\n',
+               'a status that the help names', run='lines', fails='the statuses that the help names', joins='a status')
     yield Edit(MAIN, 'CommandFault::Help(text) => end(rt, put_text(rt, text.as_str())),',
                'CommandFault::Help(text) => {\n            let _ = put_text(rt, text.as_str());\n'
                '            ExitCode::SUCCESS\n        }',
@@ -154,7 +155,8 @@ def of_verdicts(joins='verdicts'):
              fails=r'check in.mp4, one: \d+ times read of in.mp4 rest', joins=joins),
         Edit(CHECKING, LISTED,
              'Ok(name) => match answer_of(rt, Input::File { name }) {\n'
-             '            Err(Refusal::Memory) => Ok(()),\n            answer => answer,\n        },',
+             '            Err(Refusal::Memory) => Ok(()),\n'
+             '            answer => answer,\n        },',
              'want of memory is told as accepted', run='failures check',
              fails=r'check cut.mp4 --names-from list, a list: \d+ times alloc', joins=joins),
         Edit(CHECKING, '    source.settled(answer)\n', '    answer\n',
@@ -208,7 +210,8 @@ def of_comparisons(joins='comparisons'):
         Edit(COMPARING, 'const MOST: usize = 1 << 20;', 'const MOST: usize = 1 << 12;',
              'the list of differences is cut at 4,096', run='limits differences',
              fails='a list of exactly', joins='limits', optimised=True),
-        *(Edit(COMPARING, ALL_OF, ALL_OF.replace('leaving,', f'Leaving {{ {word}: false, ..leaving }},'),
+        *(Edit(COMPARING, ALL_OF,
+               ALL_OF.replace('leaving,', f'Leaving {{ {word}: false, ..leaving }},'),
                f'--all ignores {word} among the words of --without', run='compares',
                fails=rf"compare --all .*\('{word}',\)", joins=f'without {word}', optimised=True)
           for word in ('times', 'edits', 'flags', 'groups', 'metadata')),
@@ -286,7 +289,8 @@ def of_files():
 
 def of_edges(joins='edges'):
     return [
-        Edit(INPUT, 'ErrorKind::Interrupted => continue,', 'ErrorKind::Interrupted && false => continue,',
+        Edit(INPUT, 'ErrorKind::Interrupted => continue,',
+             'ErrorKind::Interrupted && false => continue,',
              'a read that was interrupted is a failure', run='descriptors interrupted',
              fails='show -, input 1 is interrupted', joins=joins),
         Edit(SINK, 'ErrorKind::Interrupted && tries > 0', 'ErrorKind::Interrupted && tries < 1',
@@ -303,12 +307,13 @@ def of_edges(joins='edges'):
              'a backslash in a name stands for itself', run='names names_in_checks',
              fails="check 'back.*control bytes", joins=joins),
         Edit(CHECKING, '        let answer = answer_of(rt, *input);',
-             '        if input.name().as_bytes().iter().any(|byte| *byte == 0) {\n            break;\n'
-             '        }\n        let answer = answer_of(rt, *input);',
-             'the files behind a name that is not UTF-8 are not judged', run='names names_in_checks',
+             '        if input.name().as_bytes().iter().any(|byte| *byte == 0) {\n'
+             '            break;\n        }\n        let answer = answer_of(rt, *input);',
+             'the files behind a name that is not UTF-8 are not judged',
+             run='names names_in_checks',
              fails='one name of many is not UTF-8', joins=joins),
-        Edit(CHECKING, 'if end != 0 {', 'if end != 1 {', '--zero has names as people are shown them',
-             run='names names_in_checks', fails=r"check 'red .*\['--zero'\]: control bytes",
+        Edit(CHECKING, 'if end != 0 {', 'if end != 1 {',
+             '--zero has names as people are shown them', run='names names_in_checks', fails=r"check 'red .*\['--zero'\]: control bytes",
              joins='limits'),
         Edit(COMPARES, '    if let Ok(names) = names_of(rt.alloc(), left, right, failure.side) {',
              '    if matches!(failure.side, Side::Neither) {\n    } else if let Ok(names) = '
@@ -328,8 +333,8 @@ def of_edges(joins='edges'):
              'it is told too often how far a job has come', run='progress slow_readers',
              fails='not more often', joins=joins),
         Edit(SOURCES, 'const MOST_INPUT: usize = 1 << 30;', 'const MOST_INPUT: usize = 1 << 27;',
-             'standard input is cut at 2^27 bytes', run='limits longest', fails='show of 2.30 bytes',
-             joins=joins, optimised=True),
+             'standard input is cut at 2^27 bytes', run='limits longest',
+             fails='show of 2.30 bytes', joins=joins, optimised=True),
         Edit(INPUT, 'for _turn in 0..=most {', 'for _turn in 0..=most.min(3000) {',
              'standard input is cut after 3,000 reads', run='limits longest',
              fails='show of 2.30 bytes', joins='limits', optimised=True),
