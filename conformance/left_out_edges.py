@@ -130,7 +130,8 @@ def of_help(joins='help'):
                    f'what the help says of status {status}', run='lines',
                    fails=f'what the help says of status {status}$', joins=joins)
     yield Edit(COMMANDS, f'  64  {HELP[64]}\n', f'  65  {HELP[64]}\n',
-               'a status that the help names', run='lines', fails='the statuses that the help names', joins='a status')
+               'a status that the help names', run='lines',
+               fails='the statuses that the help names', joins='a status')
     yield Edit(MAIN, 'CommandFault::Help(text) => end(rt, put_text(rt, text.as_str())),',
                'CommandFault::Help(text) => {\n            let _ = put_text(rt, text.as_str());\n'
                '            ExitCode::SUCCESS\n        }',
@@ -313,7 +314,8 @@ def of_edges(joins='edges'):
              run='names names_in_checks',
              fails='one name of many is not UTF-8', joins=joins),
         Edit(CHECKING, 'if end != 0 {', 'if end != 1 {',
-             '--zero has names as people are shown them', run='names names_in_checks', fails=r"check 'red .*\['--zero'\]: control bytes",
+             '--zero has names as people are shown them', run='names names_in_checks',
+             fails=r"check 'red .*\['--zero'\]: control bytes",
              joins='limits'),
         Edit(COMPARES, '    if let Ok(names) = names_of(rt.alloc(), left, right, failure.side) {',
              '    if matches!(failure.side, Side::Neither) {\n    } else if let Ok(names) = '
