@@ -189,7 +189,8 @@ def of_comparisons(joins='comparisons'):
              '        Err(Failure { side: Side::Both, .. }) => ExitCode::SUCCESS,\n'
              '        Err(failure) => {\n            tell(',
              'a failure of both sides of compare has status 0', run='failures far',
-             fails=r'compare .*far fragments: \d+ times read rest', joins=joins),
+             fails=r'compare .*far fragments: \d+ times read rest', joins=joins,
+             optimised=True),
         Edit(COMPARES, 'if is_settled(&answer) {', 'if is_settled(&answer) && false {',
              'compare does not look at changes', run='changes in_comparisons',
              fails=r'compare \[\]: a.mp4 grows', joins=joins),
