@@ -1,8 +1,7 @@
 //! A new file beside another one, whose place it takes once it is whole.
 ghost use Rattle.std.specs.Prelude.{◌≡◌, ◌++◌, IfOk, string_bytes, codes, decimal};
 
-use crate::reports::Report;
-use crate::reports::tell_name;
+use crate::reports::{Report, tell_name};
 use mp4_boxes::Refusal;
 use std::alloc::{AllocError, Global};
 use std::fs;
@@ -108,7 +107,11 @@ fn create(rt: &HostRuntime, name: &str) -> io::Result<File> {
 
 impl Part {
     /// Makes a file beside another one. What interrupted runs left there stays.
-    pub(crate) fn new(rt: &HostRuntime, beside: &str, report: &mut Report) -> Result<Part, Refusal> {
+    pub(crate) fn new(
+        rt: &HostRuntime,
+        beside: &str,
+        report: &mut Report,
+    ) -> Result<Part, Refusal> {
         if report.explains() {
             let _ = tell_leftovers(rt, beside);
         }
@@ -138,9 +141,9 @@ impl Part {
         }
     }
 
-    /// Gives the file the rights of the one of this name, or of a new one where there is none, waits
-    /// until it has reached the disk, and gives it that name. False where another file has taken
-    /// its place.
+    /// Gives the file the rights of the one of this name, or of a new one where there is none,
+    /// waits until it has reached the disk, and gives it that name. False where another file has
+    /// taken its place.
     pub(crate) fn put_in_place(&self, rt: &HostRuntime, name: &str) -> io::Result<bool> {
         self.file.sync_all()?;
         give_rights(rt, &self.file, replaced(rt, name)?)?;
