@@ -4,12 +4,10 @@ ghost use Rattle.std.specs.Prelude.{◌≡◌, ◌++◌, IfOk, string_bytes, cod
 use crate::reports::{Report, tell_name};
 use mp4_boxes::Refusal;
 use std::alloc::{AllocError, Global};
-use std::fs;
 use std::fs::{File, Metadata, OpenOptions, Permissions};
-use std::io;
 use std::io::{ErrorKind, Read};
 use std::os::unix::fs::{MetadataExt, OpenOptionsExt, PermissionsExt, fchown};
-use std::process;
+use std::{fs, io, process};
 
 /// So many names are tried for a new file.
 const MOST_NAMES: u32 = 1000;
@@ -90,7 +88,11 @@ fn tell_leftovers(rt: &HostRuntime, name: &str) -> io::Result<()> {
         let found = entry.file_name();
         if process_in(found, beside).is_some_and(|process| is_gone(rt, process)) {
             let front = name.strip_suffix(beside).unwrap_or("");
-            tell_name(rt, b"leftover: ", format!(in rt.alloc(); "{front}{found}")?.as_str());
+            tell_name(
+                rt,
+                b"leftover: ",
+                format!(in rt.alloc(); "{front}{found}")?.as_str(),
+            );
         }
     }
     Ok(())
@@ -205,7 +207,10 @@ fn mask(rt: &HostRuntime) -> u32 {
         return USUAL_MASK;
     };
     let label = b"\nUmask:\t";
-    match front[..len].windows(label.len()).position(|part| part == label.as_slice()) {
+    match front[..len]
+        .windows(label.len())
+        .position(|part| part == label.as_slice())
+    {
         Some(at) => octal(&front[at + label.len()..len]),
         None => USUAL_MASK,
     }
