@@ -3,10 +3,10 @@ use Rattle.std.proofs.Common.{◌≡◌, ℕ, zero, suc, ◌+◌, ◌-◌, ◌*�
 use Rattle.std.specs.Prelude.{Option, if◌then◌else◌, option_map}
 use Rattle.mp4_tables.specs.declared.sample.SampleAt.{SampleAt}
 use Rattle.mp4_present.specs.declared.track_info.TrackInfo.{TrackInfo}
-use Rattle.mp4_plan.specs.words.DueTracks.{leaf, cut_at, IsDue, Skips}
+use Rattle.mp4_plan.specs.words.DueTracks.{leaf, cut_at, AreTimes, IsDue, Skips}
 use Rattle.mp4_plan.specs.words.DueTracks.Skips.{none, one}
 use Rattle.mp4_plan.specs.words.Ends.{has_ended}
-use Rattle.mp4_plan.specs.words.Turns.{turns_left, begins_more, track_passed, wrapped, is_over}
+use Rattle.mp4_plan.specs.words.Turns.{turns_left, begins_more, track_passed, turned, wrapped, is_over}
 use Rattle.mp4_plan.specs.declared.due_tracks.DueTracks.{DueTracks}
 use Rattle.mp4_plan.specs.declared.ends.End.{End}
 use Rattle.mp4_plan.specs.declared.ends.End.TheVariants.{Before}
@@ -18,7 +18,7 @@ begins_few : (next : Option ℕ) → begins_more next ≤ 1
 begins_few None = omega arith
 begins_few (Some cut) = omega arith
 
-at_first : (s : Schedule) → s.track ≡ 0 → turns_left s ≡ s.left + min s.tracks 1
+pub at_first : (s : Schedule) → s.track ≡ 0 → turns_left s ≡ s.left + min s.tracks 1
 unfolding turns_left
 at_first s z = ap (λ v. s.left + cond v (min s.tracks 1) (begins_more s.next)) (eq-eqb s.track 0 z)
 
@@ -94,8 +94,8 @@ less_going s count le some = by (s.track == 0)
 -- a turn that took none was the last of the first track
 pub stuck_last : (track count : ℕ) (sample : Option SampleAt) (passed : Bool) → (passed ≡ true → ((track == 0) ≡ true) × (sample ≡ None)) → (passed ≡ false → 0 < count) → count ≡ 0
     → (track ≡ 0) × (option_map (λ (s : SampleAt). s.dts) sample ≡ None)
-stuck_last track count sample true end some none = (eqb-true track 0 (end refl).0, ap (option_map (λ (s : SampleAt). s.dts)) (end refl).1)
-stuck_last track count sample false end some none = let lt = some refl in absurd (omega (arith, lt, none))
+stuck_last track count sample true end some _ = (eqb-true track 0 (end refl).0, ap (option_map (λ (s : SampleAt). s.dts)) (end refl).1)
+stuck_last track count sample false end some z = let lt = some refl in absurd (omega (arith, lt, z))
 
 -- where the next sample stays, it took some
 pub going_some : (track count : ℕ) (sample : Option SampleAt) (passed : Bool) → (passed ≡ true → ((track == 0) ≡ true) × (sample ≡ None)) → (passed ≡ false → 0 < count) → (sample ≡ None → ⊥) → 0 < count
@@ -163,6 +163,84 @@ skips_all d (suc n) s e some late =
     let is : track_passed s None ≡ on = passed_other s None some ∙ wrapped_not on s.next (omega (arith, e)) in
     let more = skips_all d n on (omega (arith, e)) (omega arith) (λ k from few. late k (omega (arith, from)) few) in
     one s (wrapped (record s { track = s.tracks }) s.next) some (omega (arith, e)) (late s.track (omega arith) (omega (arith, e))) (subst (λ p. Skips d p (wrapped (record s { track = s.tracks }) s.next)) (sym is) more)
+
+-- the next fragment begins
+pub skips_around : (d : DueTracks) (cut : ℕ) (s : Schedule) → s.track < s.tracks → 0 < s.track → s.next ≡ Some cut → ((k : ℕ) → s.track ≤ k → k < s.tracks → cut_at s.next ≤ leaf d k) → Skips d s (record s { from = cut; next = None; track = 0 })
+skips_around d cut s lt some e late =
+    let is : wrapped (record s { track = s.tracks }) s.next ≡ record s { from = cut; next = None; track = 0 } = ap (wrapped (record s { track = s.tracks })) e ∙ ap (λ v. cond v (record s { from = cut; next = None; track = 0 }) (record s { track = s.tracks })) (eq-eqb s.tracks s.tracks refl) in
+    subst (λ p. Skips d s p) is (skips_all d (s.tracks - s.track - 1) s (omega (arith, lt)) some late)
+
+-- or none does
+pub skips_over : (d : DueTracks) (s : Schedule) → s.track < s.tracks → 0 < s.track → s.next ≡ None → ((k : ℕ) → s.track ≤ k → k < s.tracks → cut_at s.next ≤ leaf d k) → Skips d s (record s { track = s.tracks })
+skips_over d s lt some e late = subst (λ p. Skips d s p) (ap (wrapped (record s { track = s.tracks })) e) (skips_all d (s.tracks - s.track - 1) s (omega (arith, lt)) some late)
+
+-- ---- behind a turn
+
+passed_keeps : (s : Schedule) (time : Option ℕ) → ((track_passed s time).tracks ≡ s.tracks) × ((track_passed s time).first ≡ s.first) × ((track_passed s time).left ≡ s.left)
+passed_keeps s time = by (s.track == 0)
+  where
+    by : (v : Bool) → let r = if◌then◌else◌ v (wrapped (record s { next = time; track = 1 }) time) (wrapped (record s { track = s.track + 1 }) s.next) in (r.tracks ≡ s.tracks) × (r.first ≡ s.first) × (r.left ≡ s.left)
+    by true = wrapped_keeps (record s { next = time; track = 1 }) time
+    by false = wrapped_keeps (record s { track = s.track + 1 }) s.next
+
+pub turned_keeps : (s : Schedule) (end : End) (n : ℕ) (x : Option SampleAt) → ((turned s end n x).tracks ≡ s.tracks) × ((turned s end n x).first ≡ s.first) × ((turned s end n x).left ≡ s.left - n)
+turned_keeps s end n x = by (is_over end x)
+  where
+    rest : Schedule
+    rest = record s { left = s.left - n }
+
+    by : (v : Bool) → let r = if◌then◌else◌ v (track_passed rest (option_map (λ (a : SampleAt). a.dts) x)) rest in (r.tracks ≡ s.tracks) × (r.first ≡ s.first) × (r.left ≡ s.left - n)
+    by true = passed_keeps rest (option_map (λ (a : SampleAt). a.dts) x)
+    by false = (refl, refl, refl)
+
+-- a turn, and the tracks that are skipped behind it
+pub turn_keeps : (d : DueTracks) (s taken later : Schedule) (end : End) (n : ℕ) (x : Option SampleAt) → taken ≡ turned s end n x → Skips d taken later → (later.tracks ≡ s.tracks) × (later.first ≡ s.first) × (later.left ≡ s.left - n)
+turn_keeps d s taken later end n x e skips =
+    let k = turned_keeps s end n x in
+    let a = skips_keep d taken later skips in
+    (a.tracks ∙ ap (λ (p : Schedule). p.tracks) e ∙ k.0, a.first ∙ ap (λ (p : Schedule). p.first) e ∙ k.1, a.left ∙ ap (λ (p : Schedule). p.left) e ∙ k.2)
+
+-- ---- the leaves behind a turn
+
+there_before : {A : Type 0} (xs : List A) (k : ℕ) (x : A) → slice_get xs k ≡ Some x → k < length xs
+there_before [] k x e = absurd cc
+there_before (y ∷ xs) zero x e = omega arith
+there_before (y ∷ xs) (suc k) x e = let a = there_before xs k x e in omega (arith, a)
+
+get_set_other : {A : Type 0} (xs : List A) (k at : ℕ) (x y : A) → (k ≡ at → ⊥) → slice_get (slice_set xs at y) k ≡ Some x → slice_get xs k ≡ Some x
+get_set_other [] k at x y other e = absurd cc
+get_set_other (z ∷ xs) zero zero x y other e = absurd (other refl)
+get_set_other (z ∷ xs) zero (suc at) x y other e = e
+get_set_other (z ∷ xs) (suc k) zero x y other e = e
+get_set_other (z ∷ xs) (suc k) (suc at) x y other e = get_set_other xs k at x y (λ f. other (ap suc f)) e
+
+get_set_same : {A : Type 0} (xs : List A) (k : ℕ) (x y : A) → slice_get (slice_set xs k y) k ≡ Some x → y ≡ x
+get_set_same [] k x y e = absurd cc
+get_set_same (z ∷ xs) zero x y e = cc
+get_set_same (z ∷ xs) (suc k) x y e = get_set_same xs k x y e
+
+-- that of the track whose turn it was says when its next sample is due
+pub times_set : (infos : List TrackInfo) (nexts : List (Option SampleAt)) (first : ℕ) (d e : DueTracks) (track : ℕ) (sample : Option SampleAt) (time : ℕ) → AreTimes infos nexts first d → d.leaves ≡ length infos
+    → ((k : ℕ) → k < d.leaves → (k ≡ track → ⊥) → leaf e k ≡ leaf d k) → leaf e track ≡ time → ((info : TrackInfo) → slice_get infos track ≡ Some info → IsDue first info.timescale sample time)
+    → AreTimes infos (slice_set nexts track sample) first e
+times_set infos nexts first d e track sample time times many others own due k info next some is_info is_next = by (k == track) refl
+  where
+    by : (v : Bool) → (k == track) ≡ v → IsDue first info.timescale next (leaf e k)
+    by true f =
+        let same : k ≡ track = eqb-true k track f in
+        let x : sample ≡ next = get_set_same nexts track next sample (subst (λ j. slice_get (slice_set nexts track sample) j ≡ Some next) same is_next) in
+        let it = due info (subst (λ j. slice_get infos j ≡ Some info) same is_info) in
+        let is : time ≡ leaf e k = sym own ∙ ap (leaf e) (sym same) in
+        subst (λ (y : Option SampleAt). IsDue first info.timescale y (leaf e k)) x (subst (λ t. IsDue first info.timescale sample t) is it)
+    by false f =
+        let other : k ≡ track → ⊥ = λ h. true≢false (sym (eq-eqb k track h) ∙ f) in
+        let old = times k info next some is_info (get_set_other nexts k track next sample other is_next) in
+        let inside = there_before infos k info is_info in
+        subst (λ t. IsDue first info.timescale next t) (sym (others k (omega (arith, inside, many)) other)) old
+
+-- the first track has none
+pub times_first : (infos : List TrackInfo) (nexts : List (Option SampleAt)) (first : ℕ) (d : DueTracks) (track : ℕ) (sample : Option SampleAt) → AreTimes infos nexts first d → track ≡ 0 → AreTimes infos (slice_set nexts track sample) first d
+times_first infos nexts first d track sample times z k info next some is_info is_next = times k info next some is_info (get_set_other nexts k track next sample (λ h. omega (arith, h, some, z)) is_next)
 
 -- ---- when a sample is due
 

@@ -62,6 +62,7 @@ pub mod HandsTaken
 pub mod TakenTurns
 pub mod DueTrees
 pub mod DueTurns
+pub mod SkippedTurns
 pub mod Lefts
 pub mod FrontsPut
 pub mod SizesSmall
