@@ -18,3 +18,8 @@ begins_within tracks s looks many left first =
 -- one more
 pub looks_on : (s on : Schedule) (began looks now most : ℕ) → looks + turns_left s ≤ began + most → now ≡ looks + 1 → turns_left on < turns_left s → now + turns_left on ≤ began + most
 looks_on s on began looks now most within look less = omega (arith, within, look, less)
+
+-- one more is within them
+pub looks_within : (s : Schedule) (began looks now most : ℕ) → looks + turns_left s ≤ began + most → now ≡ looks + 1 → s.track < s.tracks → now ≤ began + most
+unfolding turns_left
+looks_within s began looks now most within look lt = omega (arith, within, look, lt)
