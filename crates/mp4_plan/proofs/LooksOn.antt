@@ -1,18 +1,18 @@
 -- How many turns were looked at.
-use Rattle.std.proofs.Common.{◌≡◌, ℕ, ◌+◌, ◌<◌, ◌≤◌, ◌==◌, cond, min, List, length, eq-eqb, ne_eqb, ap, arith}
+use Rattle.std.proofs.Common.{◌≡◌, ℕ, zero, suc, ◌+◌, ◌-◌, ◌<◌, ◌≤◌, min, List, length, refl, arith}
 use Rattle.std.specs.List.{sum_by}
 use Rattle.mp4_present.specs.declared.track_info.TrackInfo.{TrackInfo}
-use Rattle.mp4_plan.specs.words.Turns.{begins_more, turns_left}
+use Rattle.mp4_plan.specs.words.Turns.{turns_left}
 use Rattle.mp4_plan.specs.format.TurnCount.{most_turns}
 use Rattle.mp4_plan.specs.declared.schedule.Schedule.{Schedule}
-use Rattle.mp4_plan.proofs.DueTurns.{at_first}
+use Rattle.mp4_plan.proofs.DueTurns.{at_first, at_other}
 
 -- before the first turn none was looked at
 pub begins_within : (tracks : List TrackInfo) (s : Schedule) (looks : ℕ) → s.tracks ≡ length tracks → s.left ≡ sum_by (λ (i : TrackInfo). i.samples) tracks → s.track ≡ 0
     → looks + turns_left s ≤ looks + most_turns (sum_by (λ (i : TrackInfo). i.samples) tracks) (length tracks)
 begins_within tracks s looks many left first =
     let all = at_first s first in
-    let few : min s.tracks 1 ≡ min (length tracks) 1 = ap (λ n. min n 1) many in
+    let few : min s.tracks 1 + min (s.tracks - 1) 1 ≡ min (length tracks) 2 = omega (arith, many) in
     omega (arith, all, left, few)
 
 -- one more
@@ -21,5 +21,8 @@ looks_on s on began looks now most within look less = omega (arith, within, look
 
 -- one more is within them
 pub looks_within : (s : Schedule) (began looks now most : ℕ) → looks + turns_left s ≤ began + most → now ≡ looks + 1 → s.track < s.tracks → now ≤ began + most
-unfolding turns_left
-looks_within s began looks now most within look lt = omega (arith, within, look, lt)
+looks_within s began looks now most within look lt = by s.track refl
+  where
+    by : (k : ℕ) → s.track ≡ k → now ≤ began + most
+    by zero z = let all = at_first s z in omega (arith, within, look, lt, all)
+    by (suc k) z = let all = at_other s (omega (arith, z)) in omega (arith, within, look, lt, all, z)

@@ -26,10 +26,11 @@ begins_more None = 0
 begins_more (Some cut) = 1
 
 -- A bound on how many turns are made where tracks without samples before a cut are passed: each
--- takes a sample, but the last of the first track, and one that finds more samples than are left.
+-- takes a sample, but for the last of the first track, and for one of another track that finds more
+-- samples than are left.
 unfoldable pub turns_left : Schedule → ℕ
 turns_left s = s.left + (if s.track == 0 then min s.tracks 1 else begins_more s.next)
-    + min s.tracks 1
+    + min (s.tracks - 1) 1
 
 -- the most turns over all samples that opening counted
 abbrev pub movie_turns : MovieSeen → ℕ
