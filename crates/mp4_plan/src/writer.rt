@@ -162,6 +162,7 @@ impl Writer {
     {
         let mehd = length_left(alloc, movie, leaving)?;
         let longest = longest_piece(alloc, movie, store, leaving, steps, looks)?;
+        let due = DueTracks::new(alloc, movie.tracks().len())?;
         Ok(Writer {
             leaving,
             carrier: Carrier::new(alloc, PIECE)?,
@@ -170,7 +171,7 @@ impl Writer {
             stretches: Stretches::new(),
             walks: walks_of(alloc, movie)?,
             nexts: vec![in alloc; None; movie.tracks().len()]?,
-            due: DueTracks::new(alloc, movie.tracks().len())?,
+            due,
         })
     }
 

@@ -6,11 +6,12 @@ use Rattle.std.proofs.lemmas.Result.{err_from_is_err_and}
 use Rattle.mp4_present.specs.words.Carried.{waiting}
 use Rattle.mp4_plan.specs.words.ComingLess.{left_samples}
 use Rattle.mp4_plan.specs.words.PutPieces.{PiecesFollow}
-use Rattle.mp4_plan.specs.declared.schedule.Schedule.{Schedule}
+use Rattle.mp4_plan.specs.words.DueTracks.{IsDueAt}
+use Rattle.mp4_tables.specs.declared.sample.SampleAt.{SampleAt}
 use Rattle.mp4_present.specs.declared.carrier.Carrier.{Carrier}
 use Rattle.mp4_present.specs.declared.track_info.TrackInfo.{TrackInfo}
 use Rattle.mp4_present.proofs.WalkCopied.{put_unchanged, on_ok, on_err, if_err}
-use Rattle.std.specs.Prelude.{Some, slice_get}
+use Rattle.std.specs.Prelude.{Option, Some, slice_get}
 use Rattle.mp4_plan.specs.words.Turns.{movie_turns, turn_end, turned}
 use Rattle.mp4_plan.specs.format.Held.{rooms}
 use Rattle.mp4_plan.proofs.CarriedParts.{read_at}
@@ -84,7 +85,7 @@ loop-turn-init g c =
           (rw walks shown.1) (rw walks marked) (nexts ∙ shown.0) (rw c.as_slice.ensures.value at c.in_ok-carry.ensures.bytes);
       within = λ told tree o n may. rw walks (e.writes told tree o n (rw c.as_mut_slice-walks.ensures.value may));
       looks = begins_within c.args.movie.now.tracks c.new-schedule.result c.args.looks.now (rw c.tracks-tracks.ensures at c.new-schedule.ensures.tracks) (rw c.tracks-tracks.ensures at c.new-schedule.ensures.left) c.new-schedule.ensures.starts.0;
-      due = λ told tree o ready. rw c.tracks-tracks.ensures at c.begin.ensures;
+      due = λ told tree o ready. subst (λ (xs : List (Option SampleAt)). IsDueAt c.args.movie.now.tracks xs c.new-schedule.result c.begin.new.due) c.as_slice-3.ensures.value (rw c.tracks-tracks.ensures at c.begin.ensures);
     }
 
 pub returns-in_err-noted-clause-prefix : goal.returns-in_err-noted-clause-prefix
@@ -256,7 +257,7 @@ loop-turn-preserved g c =
           let copied = (rw (c.in_ok-noted.ensures.store.honesty, c.in_ok-noted.ensures.store.file, i.honesty, i.file) at c.in_ok-carry_turn.ensures.copied) told tree o in
           let next = turned s c.in-Some.turn.end c.in_ok-noted.noted.planned.count c.index.result.now in
           let there = (get_or c.tracks-tracks.result.now c.in-Some.turn.track c.index-tracks-track.result).id in
-          let read = λ x is. read_at c.carry_turn.new.self.nexts.items c.in-Some.turn.track x _ is c.index.ensures in
+          let read : (x : Option SampleAt) → slice_get c.carry_turn.new.self.nexts.items c.in-Some.turn.track ≡ Some x → c.index.result.now ≡ x = λ x is. read_at c.carry_turn.new.self.nexts.items c.in-Some.turn.track x _ is c.index.ensures in
           let due_next = turn_due c.args.self.now.leaving file tree m o s c.loop-turn.sequence c.loop-turn.bytes w before after h c.in-Some.turn here ends i.tracks i.writer i.leaving c.note_turn.new.self c.in_ok-noted.noted there noted c.in_ok-noted.ensures.writer.keeps few is_id c.carry_turn.new.self
           c.index.result.now copied read c.pass.new.self c.pass.new.due (i.due told tree o ready) c.in_ok-carry_turn.ensures.writer.keeps.2 (rw c.tracks-tracks.ensures at c.in_ok-pass.ensures.due) in
           rw (c.sequence_behind-sequence.ensures, c.from-bytes.ensures)
@@ -281,7 +282,7 @@ loop-turn-preserved g c =
           ≡ info.id = λ info is. ap (λ (x : TrackInfo). x.id) (sym c.index-tracks-track.is ∙ read_at m.tracks s.track info c.index-tracks-track.result is (rw (here.0, c.tracks-tracks.ensures) at c.index-tracks-track.is)) in
           let copied = (rw (c.in_ok-noted.ensures.store.honesty, c.in_ok-noted.ensures.store.file, i.honesty, i.file) at c.in_ok-carry_turn.ensures.copied) told tree o in
           let there = (get_or c.tracks-tracks.result.now c.in-Some.turn.track c.index-tracks-track.result).id in
-          let read = λ x is. read_at c.carry_turn.new.self.nexts.items c.in-Some.turn.track x _ is c.index.ensures in
+          let read : (x : Option SampleAt) → slice_get c.carry_turn.new.self.nexts.items c.in-Some.turn.track ≡ Some x → c.index.result.now ≡ x = λ x is. read_at c.carry_turn.new.self.nexts.items c.in-Some.turn.track x _ is c.index.ensures in
           turn_due c.args.self.now.leaving file tree m o s c.loop-turn.sequence c.loop-turn.bytes w before after h c.in-Some.turn here ends i.tracks i.writer i.leaving c.note_turn.new.self c.in_ok-noted.noted there noted c.in_ok-noted.ensures.writer.keeps few is_id c.carry_turn.new.self c.index.result.now copied
           read c.pass.new.self c.pass.new.due (i.due told tree o ready) c.in_ok-carry_turn.ensures.writer.keeps.2 (rw c.tracks-tracks.ensures at c.in_ok-pass.ensures.due);
       within = λ told tree o n may.
