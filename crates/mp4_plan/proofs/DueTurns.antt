@@ -1,11 +1,10 @@
 -- Turns of tracks that are due alone: how many there are, and that what lies between them takes nothing.
-use Rattle.std.proofs.Common.{◌≡◌, ℕ, zero, suc, ◌+◌, ◌-◌, ◌*◌, ◌/◌, ◌^◌, ◌<◌, ◌≤◌, ◌==◌, nat_le, min, max, Bool, true, false, cond, List, [], ◌∷◌, length, Some, None, inl, inr, refl, sym, ap, subst, ◌∙◌, true≢false, rules, arith, slice_get, slice_set, eq-eqb, eqb-true, ne_eqb, le-leb, leb-true, le-div_iff_mul-le, div-le_self, mul-le-mul}
+use Rattle.std.proofs.Common.{◌≡◌, ℕ, zero, suc, ◌+◌, ◌-◌, ◌*◌, ◌/◌, ◌^◌, ◌<◌, ◌≤◌, ◌==◌, nat_le, min, max, Bool, true, false, cond, List, [], ◌∷◌, length, Some, None, refl, sym, ap, subst, ◌∙◌, true≢false, arith, slice_get, slice_set, eq-eqb, eqb-true, ne_eqb, le-leb, leb-true, le-div_iff_mul-le}
 use Rattle.std.specs.Prelude.{Option, if◌then◌else◌, option_map}
 use Rattle.mp4_tables.specs.declared.sample.SampleAt.{SampleAt}
 use Rattle.mp4_present.specs.declared.track_info.TrackInfo.{TrackInfo}
 use Rattle.mp4_plan.specs.words.DueTracks.{leaf, cut_at, AreTimes, IsDue, Skips}
 use Rattle.mp4_plan.specs.words.DueTracks.Skips.{none, one}
-use Rattle.mp4_plan.specs.words.Ends.{has_ended}
 use Rattle.mp4_plan.specs.words.Turns.{turns_left, begins_more, track_passed, turned, wrapped, is_over}
 use Rattle.mp4_plan.specs.declared.due_tracks.DueTracks.{DueTracks}
 use Rattle.mp4_plan.specs.declared.ends.End.{End}

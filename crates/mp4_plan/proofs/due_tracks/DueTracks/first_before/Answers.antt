@@ -1,6 +1,5 @@
-use Rattle.std.proofs.Common.{rules, arith, ◌≡◌, ◌+◌, ◌*◌, ◌/◌, ◌%◌, ◌^◌, ◌<◌, ◌≤◌, subst, sym, slice_index, pow_pos}
-use Rattle.mp4_plan.specs.words.DueTracks.{leaf}
-use Rattle.mp4_plan.proofs.DueTrees.{passes, none_before, width_few, node_few, beside, above, wider, narrower, under, passed_on, read_late}
+use Rattle.std.proofs.Common.{rules, arith, ◌≡◌, ◌+◌, ◌*◌, ◌/◌, ◌%◌, ◌<◌, subst, sym, pow_pos}
+use Rattle.mp4_plan.proofs.DueTrees.{none_before, width_few, node_few, beside, above, wider, narrower, under, passed_on, read_late}
 use Rattle.mp4_plan.proofs.due_tracks.DueTracks.first_before.Goals as goal
 
 pub returns-then-index-cut : goal.returns-then-index-cut

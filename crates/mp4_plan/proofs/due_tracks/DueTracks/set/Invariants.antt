@@ -1,4 +1,4 @@
-use Rattle.std.proofs.Common.{◌-◌, ◌≡◌, ◌*◌, ◌<◌, ◌^◌, ◌/◌, ℕ, ◌+◌, ◌≤◌, length, slice_index}
+use Rattle.std.proofs.Common.{◌≡◌, ◌*◌, ◌<◌, ◌/◌, ℕ, ◌+◌, length, slice_index}
 use Rattle.mp4_plan.specs.words.DueTracks.{IsLesser, leaf}
 use Rattle.mp4_plan.proofs.due_tracks.DueTracks.set.Given as goal
 

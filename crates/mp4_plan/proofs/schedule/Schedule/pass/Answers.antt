@@ -1,4 +1,4 @@
-use Rattle.std.proofs.Common.{rules, arith, ◌≡◌, ◌<◌, ◌≤◌, ℕ, sym, subst, ap, ◌∙◌, slice_set, get_or}
+use Rattle.std.proofs.Common.{rules, arith, ◌≡◌, sym, subst, ap, ◌∙◌, slice_set, get_or}
 use Rattle.mp4_present.specs.declared.track_info.TrackInfo.{TrackInfo}
 use Rattle.mp4_plan.specs.words.DueTracks.{AreTimes, IsDue}
 use Rattle.mp4_plan.specs.declared.schedule.Schedule.{Schedule}

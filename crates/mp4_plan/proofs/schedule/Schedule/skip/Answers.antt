@@ -1,5 +1,5 @@
-use Rattle.std.proofs.Common.{rules, arith, ◌≡◌, ◌-◌, ◌<◌, ◌≤◌, ℕ, None, subst, sym}
-use Rattle.mp4_plan.specs.words.DueTracks.{cut_at, leaf}
+use Rattle.std.proofs.Common.{rules, arith, ◌-◌, ◌<◌, ◌≤◌, subst}
+use Rattle.mp4_plan.specs.words.DueTracks.{leaf}
 use Rattle.mp4_plan.specs.words.DueTracks.Skips.{none}
 use Rattle.mp4_plan.proofs.DueTurns.{skips_to, skips_around, skips_over}
 use Rattle.mp4_plan.proofs.schedule.Schedule.skip.Goals as goal

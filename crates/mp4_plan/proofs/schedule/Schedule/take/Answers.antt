@@ -1,4 +1,4 @@
-use Rattle.std.proofs.Common.{◌≡◌, ◌≤◌, rules}
+use Rattle.std.proofs.Common.{◌≤◌, rules}
 use Rattle.mp4_plan.proofs.DueTurns.{less_going, less_passed, stuck_last, going_some}
 use Rattle.mp4_plan.proofs.schedule.Schedule.take.Goals as goal
 
