@@ -17,20 +17,20 @@ begins_few : (next : Option ℕ) → begins_more next ≤ 1
 begins_few None = omega arith
 begins_few (Some cut) = omega arith
 
-pub at_first : (s : Schedule) → s.track ≡ 0 → turns_left s ≡ s.left + min s.tracks 1 + min (s.tracks - 1) 1
+pub at_first : (s : Schedule) → s.track ≡ 0 → turns_left s ≡ s.left + min s.tracks 1
 unfolding turns_left
-at_first s z = ap (λ v. s.left + cond v (min s.tracks 1) (begins_more s.next) + min (s.tracks - 1) 1) (eq-eqb s.track 0 z)
+at_first s z = ap (λ v. s.left + cond v (min s.tracks 1) (begins_more s.next)) (eq-eqb s.track 0 z)
 
-pub at_other : (s : Schedule) → 0 < s.track → turns_left s ≡ s.left + begins_more s.next + min (s.tracks - 1) 1
+pub at_other : (s : Schedule) → 0 < s.track → turns_left s ≡ s.left + begins_more s.next
 unfolding turns_left
-at_other s some = ap (λ v. s.left + cond v (min s.tracks 1) (begins_more s.next) + min (s.tracks - 1) 1) (ne_eqb s.track 0 (λ z. omega (arith, some, z)))
+at_other s some = ap (λ v. s.left + cond v (min s.tracks 1) (begins_more s.next)) (ne_eqb s.track 0 (λ z. omega (arith, some, z)))
 
 -- behind the last track the next fragment begins
-wrapped_few : (s : Schedule) (next : Option ℕ) → s.next ≡ next → 0 < s.track → turns_left (wrapped s next) ≤ s.left + begins_more next + min (s.tracks - 1) 1
+wrapped_few : (s : Schedule) (next : Option ℕ) → s.next ≡ next → 0 < s.track → turns_left (wrapped s next) ≤ s.left + begins_more next
 wrapped_few s None e some = let a = at_other s some in let b = ap begins_more e in omega (arith, a, b)
 wrapped_few s (Some cut) e some = by (s.track == s.tracks)
   where
-    by : (v : Bool) → turns_left (if◌then◌else◌ v (record s { from = cut; next = None; track = 0 }) s) ≤ s.left + 1 + min (s.tracks - 1) 1
+    by : (v : Bool) → turns_left (if◌then◌else◌ v (record s { from = cut; next = None; track = 0 }) s) ≤ s.left + 1
     by true = let a = at_first (record s { from = cut; next = None; track = 0 }) refl in omega (arith, a)
     by false = let a = at_other s some in let b = begins_few s.next in omega (arith, a, b)
 
@@ -86,7 +86,7 @@ pub less_going : (s : Schedule) (count : ℕ) → count ≤ s.left → 0 < count
 unfolding turns_left
 less_going s count le some = by (s.track == 0)
   where
-    by : (v : Bool) → (s.left - count) + cond v (min s.tracks 1) (begins_more s.next) + min (s.tracks - 1) 1 < s.left + cond v (min s.tracks 1) (begins_more s.next) + min (s.tracks - 1) 1
+    by : (v : Bool) → (s.left - count) + cond v (min s.tracks 1) (begins_more s.next) < s.left + cond v (min s.tracks 1) (begins_more s.next)
     by true = omega (arith, le, some)
     by false = omega (arith, le, some)
 

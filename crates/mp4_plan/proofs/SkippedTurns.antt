@@ -1,5 +1,5 @@
 -- Where tracks that are not due are skipped, the same pieces are left.
-use Rattle.std.proofs.Common.{◌≡◌, ℕ, zero, suc, ◌<◌, true, false, cond, List, [], ◌∷◌, Some, None, refl, sym, ap, subst, ◌∙◌, arith, ne_eqb, slice_get}
+use Rattle.std.proofs.Common.{◌≡◌, ℕ, zero, suc, ◌<◌, true, false, cond, List, [], ◌∷◌, Some, None, refl, sym, ap, subst, ◌∙◌, arith, ne_eqb, slice_get, ◌≤◌, ◌⊎◌, inl, inr, true≢false}
 use Rattle.std.specs.Prelude.{Option}
 use Rattle.std.specs.List.{AllByRecursion}
 use Rattle.mp4_boxes.proofs.Each.{each_from}
@@ -10,7 +10,7 @@ use Rattle.mp4_present.specs.words.OpenedMovie.{IsOpenedAs}
 use Rattle.mp4_present.specs.declared.track_info.TrackInfo.{TrackInfo}
 use Rattle.mp4_present.proofs.Assembled.{timescale_there}
 use Rattle.mp4_tables.specs.declared.sample.SampleAt.{SampleAt}
-use Rattle.mp4_plan.specs.words.DueTracks.{leaf, AreTimes, IsDueAt, Skips}
+use Rattle.mp4_plan.specs.words.DueTracks.{leaf, AreTimes, FindsMore, IsDueAt, Skips}
 use Rattle.mp4_plan.specs.words.DueTracks.Skips.{none, one}
 use Rattle.mp4_plan.specs.words.PiecesComing.{Coming}
 use Rattle.mp4_plan.specs.words.Turns.{turn_end, track_passed, is_over}
@@ -22,7 +22,7 @@ use Rattle.mp4_plan.proofs.DueTurns.{late_over, due_goes, other_keeps, skips_kee
 use Rattle.mp4_plan.proofs.Lefts.{pieces_from, IsTurn}
 use Rattle.mp4_plan.proofs.NextSamples.{first_at}
 use Rattle.mp4_plan.proofs.TakenFrom.{has_track}
-use Rattle.mp4_plan.proofs.TurnTaken.{there_is, tracks_left, turn_skips, turn_tracks}
+use Rattle.mp4_plan.proofs.TurnTaken.{few_left, there_is, tracks_left, turn_skips, turn_tracks}
 
 -- no track of these has a timescale of 0
 abbrev pub HaveScales : List TrackInfo → Type 0
@@ -68,3 +68,30 @@ pub due_here : (infos : List TrackInfo) (nexts : List (Option SampleAt)) (s : Sc
 due_here infos nexts s d info next due scales lt is_info is_next some =
     let is : turn_end s info.timescale ≡ Before s.next s.first info.timescale = ap (λ v. cond v (Sync s.from info.timescale) (Before s.next s.first info.timescale)) (ne_eqb s.track 0 (λ z. omega (arith, z, some))) in
     ap (λ e. is_over e next) is ∙ due_goes s.next s.first info.timescale next (leaf d s.track) (scales s.track info is_info) (due.times s.track info next some is_info is_next) (due.here some lt)
+
+-- one or the other
+pub either : {A B C : Type 0} → A ⊎ B → (A → C) → (B → C) → C
+either (inl a) f g = f a
+either (inr b) f g = g b
+
+none_there : (end : End) (left : List SampleAt) → length left ≡ 0 → is_over end (slice_get left 0) ≡ true
+none_there end [] e = refl
+none_there end (s ∷ left) e = absurd (omega (arith, e))
+
+-- Of an opened file no track is due where no sample is left.
+pub finds_none : (file : List ℕ) (infos : List TrackInfo) (taken later : Schedule) (lefts : List (List SampleAt)) (comings : List Coming) (nexts : List (Option SampleAt)) (d : DueTracks) → IsTurn file infos taken lefts comings → nexts ≡ firsts lefts → HaveScales infos
+    → FindsMore infos nexts taken later d → ⊥
+finds_none file infos taken later lefts comings nexts d h shown scales f =
+    let h_on = (turns_skipped file infos d taken later nexts lefts comings f.skips h shown f.due scales).0 in
+    let inside = f.inside in
+    let none = f.none_left in
+    let count = h_on.left in
+    let tracks = turn_tracks file infos later lefts comings h_on in
+    let many = (tracks_left file infos lefts comings h_on.each).0 in
+    let at = there_is infos later.track (omega (arith, inside, tracks)) in
+    let own = there_is lefts later.track (omega (arith, inside, tracks, many)) in
+    let few = few_left lefts later.track (length own.0) own.0 own.1 (omega arith) in
+    let empty : length own.0 ≡ 0 = omega (arith, few, count, none) in
+    let is_next = ap (λ xs. slice_get xs later.track) shown ∙ first_at lefts later.track own.0 own.1 in
+    let goes = due_here infos nexts later d at.0 (slice_get own.0 0) f.due scales inside at.1 is_next f.some in
+    true≢false (sym (none_there (turn_end later at.0.timescale) own.0 empty) ∙ goes)

@@ -58,11 +58,11 @@ fn cut_at(next: Option<u64>) -> u128
 }
 
 impl Schedule {
-    ghost use Rattle.std.specs.Prelude.{◌≡◌, ◌+◌, ◌-◌, ◌*◌, ◌^◌, ◌<◌, ◌≤◌, List, length, option_map, Option, slice_get, slice_set, Some, None, IfSome, MatchOption, IfErr, OnOk};
+    ghost use Rattle.std.specs.Prelude.{◌≡◌, ◌+◌, ◌-◌, ◌*◌, ◌^◌, ◌<◌, ◌≤◌, ◌⊎◌, List, length, option_map, Option, slice_get, slice_set, Some, None, IfSome, MatchOption, IfErr, OnOk};
     ghost use Rattle.std.specs.List.{sum_by};
     ghost use Rattle.mp4_present.specs.declared.track_info.TrackInfo.{TrackInfo};
-    ghost use Rattle.mp4_plan.specs.words.Turns.{turns_left, track_passed, first_scale, turn_end, turned, Sticks};
-    ghost use Rattle.mp4_plan.specs.words.DueTracks.{AreTimes, IsDueAt, IsDueHere, IsDueTree, Skips};
+    ghost use Rattle.mp4_plan.specs.words.Turns.{turns_left, track_passed, first_scale, turn_end, turned, IsSomeLeft, Sticks};
+    ghost use Rattle.mp4_plan.specs.words.DueTracks.{AreTimes, FindsMore, IsDueAt, IsDueHere, IsDueTree, Skips};
     ghost use Rattle.mp4_boxes.specs.declared.refusal.Refusal.TheVariants as refusals;
     ghost use Rattle.mp4_tables.specs.declared.sample.SampleAt.{SampleAt};
 
@@ -195,6 +195,15 @@ impl Schedule {
         }
     }
 
+    // Whether a track behind the first is due, and no sample is left.
+    fn finds_more(&self) -> bool
+        ensures more { result ≡ true → (0 < self.now.track) × (self.now.track < self.now.tracks)
+            × (self.now.left ≡ 0) }
+        ensures some { result ≡ false → IsSomeLeft self.now }
+    {
+        self.track > 0 && self.track < self.tracks && self.left == 0
+    }
+
     /// Before the first turn, of tracks of which these samples are the next.
     pub(crate) fn begin(
         &self,
@@ -217,7 +226,7 @@ impl Schedule {
     /// The piece of this turn took so many samples and ended before this one, or with the track.
     /// The next turn is that of the first track where it goes on or a fragment begins, else of the
     /// next one that has a sample before the next cut. A turn that has no samples, but for the last
-    /// of the first track, and samples that nobody spoke of, are of a file that has changed.
+    /// of the first track, and samples that nobody counted, are of a file that has changed.
     pub(crate) fn pass(
         &mut self,
         turn: &Turn,
@@ -236,12 +245,17 @@ impl Schedule {
         ensures left { OnOk result (self.new.left ≡ self.old.left - count) }
         ensures enough { OnOk result (count ≤ self.old.left) }
         ensures less { OnOk result (turns_left self.new < turns_left self.old) }
+        ensures some { OnOk result (IsSomeLeft self.new) }
         ensures tree { OnOk result (IsDueTree due.new × (due.new.leaves ≡ self.old.tracks)) }
         ensures due { (nexts : List (Option SampleAt))
             → AreTimes tracks.now nexts self.old.first due.old → OnOk result
             (IsDueAt tracks.now (slice_set nexts self.old.track sample) self.new due.new) }
-        ensures refusal { IfErr result (λ r. (r ≡ refusals.StoreChanged)
-            × Sticks self.old count sample) }
+        ensures refusal { IfErr result (λ r. r ≡ refusals.StoreChanged) }
+        ensures sticks { (nexts : List (Option SampleAt))
+            → AreTimes tracks.now nexts self.old.first due.old → IfErr result
+            (λ r. Sticks self.old count sample
+            ⊎ FindsMore tracks.now (slice_set nexts self.old.track sample)
+            (turned self.old turn.now.end count sample) self.new due.new) }
     {
         let track = self.track;
         self.take(turn, count, sample)?;
@@ -249,6 +263,9 @@ impl Schedule {
             due.set(track, due_at(&sample, tracks[track].timescale, self.first));
         }
         self.skip(due);
+        if self.finds_more() {
+            return Err(Refusal::StoreChanged);
+        }
         Ok(())
     }
 }

@@ -62,3 +62,12 @@ pub record IsDueAt (infos : List TrackInfo) (nexts : List (Option SampleAt)) (s 
   pub many : d.leaves ≡ s.tracks
   pub times : AreTimes infos nexts s.first d
   pub here : IsDueHere s d
+
+-- Behind a turn a track is due, and no sample is left: of a file that has changed.
+pub record FindsMore (infos : List TrackInfo) (nexts : List (Option SampleAt))
+    (taken later : Schedule) (d : DueTracks) : Type 0 where
+  pub skips : Skips d taken later
+  pub due : IsDueAt infos nexts later d
+  pub some : 0 < later.track
+  pub inside : later.track < later.tracks
+  pub none_left : later.left ≡ 0

@@ -26,11 +26,13 @@ begins_more None = 0
 begins_more (Some cut) = 1
 
 -- A bound on how many turns are made where tracks without samples before a cut are passed: each
--- takes a sample, but for the last of the first track, and for one of another track that finds more
--- samples than are left.
+-- takes a sample, but for the last of the first track.
 unfoldable pub turns_left : Schedule → ℕ
 turns_left s = s.left + (if s.track == 0 then min s.tracks 1 else begins_more s.next)
-    + min (s.tracks - 1) 1
+
+-- samples are left, where it is the turn of a track behind the first
+abbrev pub IsSomeLeft : Schedule → Type 0
+IsSomeLeft s = 0 < s.track → s.track < s.tracks → 0 < s.left
 
 -- the most turns over all samples that opening counted
 abbrev pub movie_turns : MovieSeen → ℕ
