@@ -25,7 +25,7 @@ use Rattle.mp4_plan.specs.words.Sizes.{moof_sizes}
 use Rattle.mp4_plan.specs.words.Taken.{AreTaken}
 use Rattle.mp4_plan.specs.words.TurnLaws.{piece_if}
 use Rattle.mp4_plan.specs.words.Turns.{first_scale, turn_end, turned, Sticks}
-use Rattle.mp4_plan.specs.words.DueTracks.{IsDueAt, Skips}
+use Rattle.mp4_plan.specs.words.DueTracks.{FindsMore, IsDueAt, Skips}
 use Rattle.mp4_plan.specs.words.Writers.{AllCome, AllBegin, ArePiecesLong, firsts, longest_piece, planned_length}
 use Rattle.mp4_plan.specs.words.Writers as writers
 use Rattle.mp4_plan.specs.declared.due_tracks.DueTracks.{DueTracks}
@@ -39,7 +39,7 @@ use Rattle.mp4_plan.proofs.NextSamples.{first_at, firsts_set}
 use Rattle.mp4_plan.proofs.PieceWritten.{AreKeys, IsFew, bytes_of_two}
 use Rattle.mp4_plan.proofs.Planning.{comes_there}
 use Rattle.mp4_plan.proofs.SizesSmall.{moof_small}
-use Rattle.mp4_plan.proofs.SkippedTurns.{due_here, opened_scales, turns_skipped}
+use Rattle.mp4_plan.proofs.SkippedTurns.{due_here, finds_none, opened_scales, turns_skipped}
 use Rattle.mp4_plan.proofs.SpelledPiece.{piece_length, taken_count}
 use Rattle.mp4_plan.proofs.TakenFrom.{track_facts_at, all_counted}
 use Rattle.mp4_plan.proofs.TakenFrom as taken_from
@@ -293,6 +293,10 @@ module _ (leaving : Leaving) (file : List ℕ) (tree : FileTree) (m : MovieSeen)
         turn = taken.on;
         few = (let all = h.few in let less = count_left in omega (arith, all, less));
       }
+
+      -- where no sample is left, no track is due behind it
+      pub no_more : (d : DueTracks) (later : Schedule) → FindsMore m.tracks (slice_set nexts s.track next) on later d → ⊥
+      no_more d later f = finds_none file m.tracks on later (slice_set lefts s.track left_behind_it) taken.later (slice_set nexts s.track next) d (subst (λ (r : Schedule). IsTurn file m.tracks r (slice_set lefts s.track left_behind_it) taken.later) (sym turned_is) stands_next.turn) stands_next.shown (opened_scales file m tree o) f
 
       -- Behind it one more piece is looked at, if it took samples.
       pub longest_next : (most later : ℕ) → max most (longest_piece (pieces_from s comings)) ≡ longest_piece (pieces (reduce leaving (presentation_of file tree))) → later ≡ max most n → IsLongest leaving file tree m on (slice_set walks k now) (slice_set nexts k next) later

@@ -1,5 +1,5 @@
 -- Where tracks that are not due are skipped, the same pieces are left.
-use Rattle.std.proofs.Common.{◌≡◌, ℕ, zero, suc, ◌<◌, true, false, cond, List, [], ◌∷◌, Some, None, refl, sym, ap, subst, ◌∙◌, arith, ne_eqb, slice_get, ◌≤◌, ◌⊎◌, inl, inr, true≢false}
+use Rattle.std.proofs.Common.{length, ◌≡◌, ℕ, zero, suc, ◌<◌, true, false, cond, List, [], ◌∷◌, Some, None, refl, sym, ap, subst, ◌∙◌, arith, ne_eqb, slice_get, ◌≤◌, ◌⊎◌, inl, inr, true≢false}
 use Rattle.std.specs.Prelude.{Option}
 use Rattle.std.specs.List.{AllByRecursion}
 use Rattle.mp4_boxes.proofs.Each.{each_from}
@@ -16,6 +16,7 @@ use Rattle.mp4_plan.specs.words.PiecesComing.{Coming}
 use Rattle.mp4_plan.specs.words.Turns.{turn_end, track_passed, is_over}
 use Rattle.mp4_plan.specs.words.Writers.{firsts}
 use Rattle.mp4_plan.specs.declared.due_tracks.DueTracks.{DueTracks}
+use Rattle.mp4_plan.specs.declared.ends.End.{End}
 use Rattle.mp4_plan.specs.declared.ends.End.TheVariants.{Sync, Before}
 use Rattle.mp4_plan.specs.declared.schedule.Schedule.{Schedule}
 use Rattle.mp4_plan.proofs.DueTurns.{late_over, due_goes, other_keeps, skips_keep}

@@ -142,12 +142,11 @@ module _ (leaving : Leaving) (file : List ℕ) (tree : FileTree) (m : MovieSeen)
       nexts_are : w2.nexts.items ≡ slice_set w.nexts.items s.track next
       nexts_are = done.2 ∙ (λ i. slice_set (keeps.3 i).items (here.0 i) ((ap (λ (ss : List SampleAt). slice_get ss 0) rest_is ∙ sym next_is) i))
 
-      -- the leaves say when they are due
-      pub turn_due : (later : Schedule) (d : DueTracks) → IsDueAt m.tracks w.nexts.items s w.due → w2.due ≡ w1.due → ((nexts : List (Option SampleAt)) → AreTimes m.tracks nexts s.first w2.due → IsDueAt m.tracks (slice_set nexts s.track next) later d)
-          → IsDueAt m.tracks w2.nexts.items later d
-      turn_due later d due same f =
+      -- what is so of them, by what the leaves say
+      pub with_times : (P : List (Option SampleAt) → Type 0) → IsDueAt m.tracks w.nexts.items s w.due → w2.due ≡ w1.due → ((nexts : List (Option SampleAt)) → AreTimes m.tracks nexts s.first w2.due → P (slice_set nexts s.track next)) → P w2.nexts.items
+      with_times P due same f =
           let times = subst (λ (e : DueTracks). AreTimes m.tracks w.nexts.items s.first e) (sym (same ∙ keeps.4)) due.times in
-          subst (λ (xs : List (Option SampleAt)). IsDueAt m.tracks xs later d) (sym nexts_are) (f w.nexts.items times)
+          subst P (sym nexts_are) (f w.nexts.items times)
 
       -- the turn behind it
       pub turn_goes : (last : Option (List ℕ)) (later : Schedule) → ((samples : List SampleAt) → IsNoted file tree m turn.track n.planned.count samples w1 → (info : TrackInfo) → slice_get m.tracks turn.track ≡ Some info → AreApart (keys_seen info.keys)

@@ -32,7 +32,7 @@ use Rattle.mp4_plan.specs.words.Taken.{AreTaken}
 use Rattle.mp4_plan.specs.words.TurnLaws.{piece_if}
 use Rattle.mp4_plan.specs.words.Turns.{first_scale, turn_end, turned, track_passed, wrapped, is_over}
 use Rattle.mp4_plan.specs.words.Writers.{AllCome, AllBegin, AreMarked, IsReady, firsts, first_dts, longest_piece, head_of_normal, turn_head, sequence_behind, turn_bytes}
-use Rattle.mp4_plan.specs.words.DueTracks.{IsDueAt, Skips}
+use Rattle.mp4_plan.specs.words.DueTracks.{FindsMore, IsDueAt, Skips}
 use Rattle.mp4_plan.specs.declared.due_tracks.DueTracks.{DueTracks}
 use Rattle.mp4_plan.specs.declared.ends.End.{End}
 use Rattle.mp4_plan.specs.declared.moof_front.PieceHead.{PieceHead}
@@ -48,7 +48,7 @@ use Rattle.mp4_plan.proofs.NextSamples.{first_at, firsts_set}
 use Rattle.mp4_plan.proofs.Lefts.{left_count, pieces_from, IsTurn}
 use Rattle.mp4_plan.proofs.PieceCounts.{piece_bytes, piece_counts, piece_within, piece_gathers}
 use Rattle.mp4_plan.proofs.PieceWritten.{AreKeys, IsFew, turn_written, head_counts, bytes_of_two}
-use Rattle.mp4_plan.proofs.SkippedTurns.{opened_scales, turns_skipped}
+use Rattle.mp4_plan.proofs.SkippedTurns.{finds_none, opened_scales, turns_skipped}
 use Rattle.mp4_plan.proofs.TakenFrom.{TrackFacts, track_facts, has_track, few_left, all_counted}
 use Rattle.mp4_plan.proofs.TurnTaken.{TurnTaken, turn_taken, turn_fits, there_is}
 
@@ -384,3 +384,8 @@ module _ (leaving : Leaving) (file : List ℕ) (tree : FileTree) (m : MovieSeen)
         goes = h.goes;
         whole = h.whole ∙ ap (λ (ps : List Piece). h.done ++ pieces_bytes sequence ps) r.1;
       }
+
+  -- Where no sample is left, no track is due.
+  pub writes_no_more : (s later : Schedule) (sequence sent : ℕ) (walks : List Walk) (nexts : List (Option SampleAt)) (rows : ℕ) (before after : Option (List ℕ)) (held : List ℕ) (d : DueTracks) → IsOpenedAs file m tree → WritesOn s sequence sent walks nexts rows before after held
+      → FindsMore m.tracks nexts s later d → ⊥
+  writes_no_more s later sequence sent walks nexts rows before after held d o h f = finds_none file m.tracks s later h.lefts h.comings nexts d h.turn h.shown (opened_scales file m tree o) f

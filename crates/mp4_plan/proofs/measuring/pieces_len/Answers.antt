@@ -11,11 +11,12 @@ use Rattle.mp4_plan.proofs.AllTake.{one_takes, one_stops}
 use Rattle.mp4_plan.proofs.CarriedParts.{read_at}
 use Rattle.mp4_plan.proofs.PieceCounts.{piece_counts}
 use Rattle.mp4_plan.proofs.Planning.{walks_set}
-use Rattle.mp4_plan.proofs.PlannedTurns.{Adds, kept_there, has_turn, turn_leads, length_first, length_end, length_next, length_skips}
+use Rattle.mp4_plan.proofs.PlannedTurns.{Adds, kept_there, has_turn, no_more, turn_leads, length_first, length_end, length_next, length_skips}
 use Rattle.mp4_plan.specs.words.Turns.{movie_turns, turned}
 use Rattle.mp4_plan.specs.words.DueTracks.{IsDueAt}
 use Rattle.mp4_tables.specs.declared.sample.SampleAt.{SampleAt}
 use Rattle.mp4_plan.proofs.LooksOn.{begins_within, looks_on, looks_within}
+use Rattle.mp4_plan.proofs.SkippedTurns.{either}
 use Rattle.mp4_plan.proofs.StepsOn.{all_taken, all_within, all_then, all_then_stop}
 use Rattle.mp4_plan.proofs.measuring.pieces_len.Goals as goal
 
@@ -49,6 +50,7 @@ loop-turn-init g c =
       search rules,
       begins_within m.tracks c.new-schedule.result c.args.looks.now (rw c.tracks-tracks.ensures at c.new-schedule.ensures.tracks) (rw c.tracks-tracks.ensures at c.new-schedule.ensures.left) c.new-schedule.ensures.starts.0,
       subst (λ (xs : List (Option SampleAt)). IsDueAt m.tracks xs c.new-schedule.result c.begin.new.due) (c.as_slice-2.ensures.value ∙ noted) (rw c.tracks-tracks.ensures at c.begin.ensures),
+      search rules,
     )
 
 pub returns-in_err-peek_each-clause-unchanged : goal.returns-in_err-peek_each-clause-unchanged
@@ -119,6 +121,7 @@ loop-turn-preserved g c =
       search rules,
       looks_on s c.pass.new.self c.args.looks.now _ _ (movie_turns m) i.8 c.in-Some.ensures.looks c.in_ok-pass.ensures.less,
       due_next,
+      c.in_ok-pass.ensures.some,
     )
 
 pub returns-in_err-pass-clause-unchanged : goal.returns-in_err-pass-clause-unchanged
@@ -137,7 +140,9 @@ returns-in_err-pass-clause-unchanged g c told tree o =
     let first = read_at nexts turn.track (slice_get t.left 0) c.index_mut-next.result.now (ap (λ k. slice_get nexts k) t.place ∙ t.shown) c.index_mut-next.ensures.value in
     let planned = (rw (i.4, i.2) at p.planned) told tree t.t t.left o t.comes first in
     let count = ap (λ (q : Planned). q.count) planned.0 ∙ piece_counts turn.end t.left in
-    absurd (turn_leads c.args.leaving file tree m s walks nexts h.lefts h.comings o h.at turn.track c.index_mut-walk.result.now turn.end t at.1 c.in_ok-planned.planned.count c.plan_turn.new.next c.loop-turn.due count planned.2 i.9 c.in_err-pass.ensures.refusal.1)
+    absurd (either ((rw c.tracks-tracks.ensures at c.in_err-pass.ensures.sticks) nexts i.9.times)
+    (turn_leads c.args.leaving file tree m s walks nexts h.lefts h.comings o h.at turn.track c.index_mut-walk.result.now turn.end t at.1 c.in_ok-planned.planned.count c.plan_turn.new.next c.loop-turn.due count planned.2 i.9)
+    (no_more c.args.leaving file tree m s walks nexts h.lefts h.comings o h.at turn.track c.index_mut-walk.result.now turn.end t at.1 c.plan_turn.new.walk c.in_ok-planned.planned.count c.plan_turn.new.next (turned s turn.end c.in_ok-planned.planned.count c.plan_turn.new.next) count planned.1 planned.2 refl c.pass.new.due c.pass.new.self))
 
 pub returns-clause-length : goal.returns-clause-length
 returns-clause-length g c told tree o =
@@ -171,10 +176,10 @@ pub returns-clause-work : goal.returns-clause-work
 returns-clause-work g c told tree o = all_taken (g.S.Store.file c.args.store.now) tree c.loop-turn.walks.items (walks_steps tree) _ _ (c.loop-turn.invariant.6 told tree o)
 
 pub returns-in_err-planned-clause-turns : goal.returns-in_err-planned-clause-turns
-returns-in_err-planned-clause-turns g c = looks_within c.loop-turn.schedule c.args.looks.now _ _ (movie_turns c.args.movie.now) c.loop-turn.invariant.8 c.in-Some.ensures.looks c.in-Some.ensures.track.1
+returns-in_err-planned-clause-turns g c = looks_within c.loop-turn.schedule c.args.looks.now _ _ (movie_turns c.args.movie.now) c.loop-turn.invariant.8 c.in-Some.ensures.looks c.in-Some.ensures.track.1 c.loop-turn.invariant.10
 
 pub returns-in_err-pass-clause-turns : goal.returns-in_err-pass-clause-turns
-returns-in_err-pass-clause-turns g c = looks_within c.loop-turn.schedule c.args.looks.now _ _ (movie_turns c.args.movie.now) c.loop-turn.invariant.8 c.in-Some.ensures.looks c.in-Some.ensures.track.1
+returns-in_err-pass-clause-turns g c = looks_within c.loop-turn.schedule c.args.looks.now _ _ (movie_turns c.args.movie.now) c.loop-turn.invariant.8 c.in-Some.ensures.looks c.in-Some.ensures.track.1 c.loop-turn.invariant.10
 
 pub returns-clause-turns : goal.returns-clause-turns
 returns-clause-turns g c =

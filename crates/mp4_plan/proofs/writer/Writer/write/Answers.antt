@@ -1,4 +1,4 @@
-use Rattle.std.proofs.Common.{rules, get_or, ◌≡◌, ◌+◌, List, length, map, refl, sym, ap, subst, ◌∙◌, arith}
+use Rattle.std.proofs.Common.{rules, get_or, ◌≡◌, ◌+◌, ◌⊎◌, List, length, map, refl, sym, ap, subst, ◌∙◌, arith}
 use Rattle.std.specs.List.{sum_by}
 use Rattle.std.specs.Vec.{with_items}
 use Rattle.std.proofs.lemmas.List.{with_items_is}
@@ -6,21 +6,22 @@ use Rattle.std.proofs.lemmas.Result.{err_from_is_err_and}
 use Rattle.mp4_present.specs.words.Carried.{waiting}
 use Rattle.mp4_plan.specs.words.ComingLess.{left_samples}
 use Rattle.mp4_plan.specs.words.PutPieces.{PiecesFollow}
-use Rattle.mp4_plan.specs.words.DueTracks.{IsDueAt}
+use Rattle.mp4_plan.specs.words.DueTracks.{FindsMore, IsDueAt}
 use Rattle.mp4_tables.specs.declared.sample.SampleAt.{SampleAt}
 use Rattle.mp4_present.specs.declared.carrier.Carrier.{Carrier}
 use Rattle.mp4_present.specs.declared.track_info.TrackInfo.{TrackInfo}
 use Rattle.mp4_present.proofs.WalkCopied.{put_unchanged, on_ok, on_err, if_err}
 use Rattle.std.specs.Prelude.{Option, Some, slice_get}
-use Rattle.mp4_plan.specs.words.Turns.{movie_turns, turn_end, turned}
+use Rattle.mp4_plan.specs.words.Turns.{movie_turns, turn_end, turned, Sticks}
 use Rattle.mp4_plan.specs.format.Held.{rooms}
 use Rattle.mp4_plan.proofs.CarriedParts.{read_at}
 use Rattle.mp4_plan.proofs.PieceWritten.{IsFew}
 use Rattle.mp4_plan.proofs.PiecesPut.{all_follow, fewer_to_come, first_put, follow_then, no_more, still_fits, sum_fits}
 use Rattle.mp4_plan.proofs.TurnTaken.{turns_end}
-use Rattle.mp4_plan.proofs.WritesOn.{stopped, all_taken, all_put, not_all_put, begins, head_stops, head_put, is_first, writes_skips}
-use Rattle.mp4_plan.proofs.WriterTurns.{note_lacks, carry_stops, carry_lacks, pass_lacks, turn_goes, turn_due}
+use Rattle.mp4_plan.proofs.WritesOn.{stopped, all_taken, all_put, not_all_put, begins, head_stops, head_put, is_first, writes_no_more, writes_skips}
+use Rattle.mp4_plan.proofs.WriterTurns.{note_lacks, carry_stops, carry_lacks, pass_lacks, turn_goes, with_times}
 use Rattle.mp4_plan.proofs.LooksOn.{begins_within, looks_on, looks_within}
+use Rattle.mp4_plan.proofs.SkippedTurns.{either}
 use Rattle.mp4_plan.proofs.StepsOn.{all_written, write_then_stop, turn_then, turn_then_stop}
 use Rattle.mp4_plan.proofs.writer.Writer.write.Goals as goal
 
@@ -84,6 +85,7 @@ loop-turn-init g c =
           (waiting c.carry.new.self) o ready refl first
           (rw walks shown.1) (rw walks marked) (nexts ∙ shown.0) (rw c.as_slice.ensures.value at c.in_ok-carry.ensures.bytes);
       within = λ told tree o n may. rw walks (e.writes told tree o n (rw c.as_mut_slice-walks.ensures.value may));
+      some = search rules;
       looks = begins_within c.args.movie.now.tracks c.new-schedule.result c.args.looks.now (rw c.tracks-tracks.ensures at c.new-schedule.ensures.tracks) (rw c.tracks-tracks.ensures at c.new-schedule.ensures.left) c.new-schedule.ensures.starts.0;
       due = λ told tree o ready. subst (λ (xs : List (Option SampleAt)). IsDueAt c.args.movie.now.tracks xs c.new-schedule.result c.begin.new.due) c.as_slice-3.ensures.value (rw c.tracks-tracks.ensures at c.begin.ensures);
     }
@@ -205,10 +207,18 @@ returns-in_err-pass-clause-unchanged g c told tree o ready =
     → (get_or c.tracks-tracks.result.now c.in-Some.turn.track c.index-tracks-track.result).id
     ≡ info.id = λ info is. ap (λ (x : TrackInfo). x.id) (sym c.index-tracks-track.is ∙ read_at m.tracks s.track info c.index-tracks-track.result is (rw (here.0, c.tracks-tracks.ensures) at c.index-tracks-track.is)) in
     let copied = (rw (c.in_ok-noted.ensures.store.honesty, c.in_ok-noted.ensures.store.file, i.honesty, i.file) at c.in_ok-carry_turn.ensures.copied) told tree o in
+    let put = (rw (c.in_ok-noted.ensures.store.honesty, c.in_ok-noted.ensures.store.file, i.honesty, i.file) at c.in_ok-carry_turn.ensures.put) told tree o in
+    let next = turned s c.in-Some.turn.end c.in_ok-noted.noted.planned.count c.index.result.now in
+    let there = (get_or c.tracks-tracks.result.now c.in-Some.turn.track c.index-tracks-track.result).id in
+    let read : (x : Option SampleAt) → slice_get c.carry_turn.new.self.nexts.items c.in-Some.turn.track ≡ Some x → c.index.result.now ≡ x = λ x is. read_at c.carry_turn.new.self.nexts.items c.in-Some.turn.track x _ is c.index.ensures in
+    let on = turn_goes c.args.self.now.leaving file tree m o s c.loop-turn.sequence c.loop-turn.bytes w before after h c.in-Some.turn here ends i.tracks i.writer i.leaving c.note_turn.new.self c.in_ok-noted.noted there noted c.in_ok-noted.ensures.writer.keeps few is_id c.carry_turn.new.self
+    c.index.result.now copied read (g.K.Sink.contents c.carry_turn.new.sink) next put c.in_ok-carry_turn.ensures.writer.keeps refl in
+    let stuck = with_times c.args.self.now.leaving file tree m o s c.loop-turn.sequence c.loop-turn.bytes w before after h c.in-Some.turn here ends i.tracks i.writer i.leaving c.note_turn.new.self c.in_ok-noted.noted there noted c.in_ok-noted.ensures.writer.keeps few is_id c.carry_turn.new.self c.index.result.now copied
+    read (λ (xs : List (Option SampleAt)). Sticks s c.in_ok-noted.noted.planned.count c.index.result.now ⊎ FindsMore m.tracks xs next c.pass.new.self c.pass.new.due) (i.due told tree o ready) c.in_ok-carry_turn.ensures.writer.keeps.2 (rw c.tracks-tracks.ensures at c.in_err-pass.ensures.sticks) in
     rw (e.1, e.2)
-    (λ r. pass_lacks c.args.self.now.leaving file tree m o s c.loop-turn.sequence c.loop-turn.bytes w before after h c.in-Some.turn here ends i.tracks i.writer i.leaving c.note_turn.new.self c.in_ok-noted.noted
-    (get_or c.tracks-tracks.result.now c.in-Some.turn.track c.index-tracks-track.result).id noted c.in_ok-noted.ensures.writer.keeps few is_id c.carry_turn.new.self _ copied (λ x is. read_at c.carry_turn.new.self.nexts.items c.in-Some.turn.track x _ is c.index.ensures)
-    (i.due told tree o ready) c.in_err-pass.ensures.refusal.1)
+    (λ r. either stuck
+    (pass_lacks c.args.self.now.leaving file tree m o s c.loop-turn.sequence c.loop-turn.bytes w before after h c.in-Some.turn here ends i.tracks i.writer i.leaving c.note_turn.new.self c.in_ok-noted.noted there noted c.in_ok-noted.ensures.writer.keeps few is_id c.carry_turn.new.self c.index.result.now copied read (i.due told tree o ready))
+    (writes_no_more c.args.self.now.leaving file tree m next c.pass.new.self _ _ _ _ _ _ _ _ c.pass.new.due o on))
 
 pub loop-turn-preserved : goal.loop-turn-preserved
 loop-turn-preserved g c =
@@ -258,8 +268,8 @@ loop-turn-preserved g c =
           let next = turned s c.in-Some.turn.end c.in_ok-noted.noted.planned.count c.index.result.now in
           let there = (get_or c.tracks-tracks.result.now c.in-Some.turn.track c.index-tracks-track.result).id in
           let read : (x : Option SampleAt) → slice_get c.carry_turn.new.self.nexts.items c.in-Some.turn.track ≡ Some x → c.index.result.now ≡ x = λ x is. read_at c.carry_turn.new.self.nexts.items c.in-Some.turn.track x _ is c.index.ensures in
-          let due_next = turn_due c.args.self.now.leaving file tree m o s c.loop-turn.sequence c.loop-turn.bytes w before after h c.in-Some.turn here ends i.tracks i.writer i.leaving c.note_turn.new.self c.in_ok-noted.noted there noted c.in_ok-noted.ensures.writer.keeps few is_id c.carry_turn.new.self
-          c.index.result.now copied read c.pass.new.self c.pass.new.due (i.due told tree o ready) c.in_ok-carry_turn.ensures.writer.keeps.2 (rw c.tracks-tracks.ensures at c.in_ok-pass.ensures.due) in
+          let due_next = with_times c.args.self.now.leaving file tree m o s c.loop-turn.sequence c.loop-turn.bytes w before after h c.in-Some.turn here ends i.tracks i.writer i.leaving c.note_turn.new.self c.in_ok-noted.noted there noted c.in_ok-noted.ensures.writer.keeps few is_id c.carry_turn.new.self
+          c.index.result.now copied read (λ (xs : List (Option SampleAt)). IsDueAt m.tracks xs c.pass.new.self c.pass.new.due) (i.due told tree o ready) c.in_ok-carry_turn.ensures.writer.keeps.2 (rw c.tracks-tracks.ensures at c.in_ok-pass.ensures.due) in
           rw (c.sequence_behind-sequence.ensures, c.from-bytes.ensures)
           (writes_skips c.args.self.now.leaving file tree m next c.pass.new.self _ _ _ _ _ _ _ _ c.pass.new.due o
           (turn_goes c.args.self.now.leaving file tree m o s c.loop-turn.sequence c.loop-turn.bytes w before after h c.in-Some.turn here ends i.tracks i.writer i.leaving c.note_turn.new.self c.in_ok-noted.noted there noted c.in_ok-noted.ensures.writer.keeps few is_id c.carry_turn.new.self
@@ -283,14 +293,15 @@ loop-turn-preserved g c =
           let copied = (rw (c.in_ok-noted.ensures.store.honesty, c.in_ok-noted.ensures.store.file, i.honesty, i.file) at c.in_ok-carry_turn.ensures.copied) told tree o in
           let there = (get_or c.tracks-tracks.result.now c.in-Some.turn.track c.index-tracks-track.result).id in
           let read : (x : Option SampleAt) → slice_get c.carry_turn.new.self.nexts.items c.in-Some.turn.track ≡ Some x → c.index.result.now ≡ x = λ x is. read_at c.carry_turn.new.self.nexts.items c.in-Some.turn.track x _ is c.index.ensures in
-          turn_due c.args.self.now.leaving file tree m o s c.loop-turn.sequence c.loop-turn.bytes w before after h c.in-Some.turn here ends i.tracks i.writer i.leaving c.note_turn.new.self c.in_ok-noted.noted there noted c.in_ok-noted.ensures.writer.keeps few is_id c.carry_turn.new.self c.index.result.now copied
-          read c.pass.new.self c.pass.new.due (i.due told tree o ready) c.in_ok-carry_turn.ensures.writer.keeps.2 (rw c.tracks-tracks.ensures at c.in_ok-pass.ensures.due);
+          with_times c.args.self.now.leaving file tree m o s c.loop-turn.sequence c.loop-turn.bytes w before after h c.in-Some.turn here ends i.tracks i.writer i.leaving c.note_turn.new.self c.in_ok-noted.noted there noted c.in_ok-noted.ensures.writer.keeps few is_id c.carry_turn.new.self c.index.result.now copied
+          read (λ (xs : List (Option SampleAt)). IsDueAt m.tracks xs c.pass.new.self c.pass.new.due) (i.due told tree o ready) c.in_ok-carry_turn.ensures.writer.keeps.2 (rw c.tracks-tracks.ensures at c.in_ok-pass.ensures.due);
       within = λ told tree o n may.
           let w = c.loop-turn.self in
           let keep = c.in_ok-noted.ensures.writer.keeps.0 in
           turn_then (g.S.Store.file c.args.store.now) tree c.args.movie.now w.leaving w.walks.items c.note_turn.new.self.walks.items c.in-Some.turn.track c.in_ok-noted.noted.planned.count n _ _ _ (i.within told tree o n may)
           ((rw (i.honesty, i.file) at c.in_ok-noted.ensures.work) told tree o) c.carry_turn.new.self.walks.items _
           (rw keep at ((rw (c.in_ok-noted.ensures.store.honesty, c.in_ok-noted.ensures.store.file, i.honesty, i.file) at c.in_ok-carry_turn.ensures.work) told tree o));
+      some = c.in_ok-pass.ensures.some;
       looks = looks_on c.loop-turn.schedule c.pass.new.self c.args.looks.now _ _ (movie_turns c.args.movie.now) i.looks c.in-Some.ensures.looks c.in_ok-pass.ensures.less;
     }
 
@@ -394,13 +405,13 @@ returns-clause-whole g c =
     c.flush.ensures.bytes
 
 pub returns-in_err-noted-clause-turns : goal.returns-in_err-noted-clause-turns
-returns-in_err-noted-clause-turns g c = looks_within c.loop-turn.schedule c.args.looks.now _ _ (movie_turns c.args.movie.now) c.loop-turn.invariant.looks c.in-Some.ensures.looks c.in-Some.ensures.track.1
+returns-in_err-noted-clause-turns g c = looks_within c.loop-turn.schedule c.args.looks.now _ _ (movie_turns c.args.movie.now) c.loop-turn.invariant.looks c.in-Some.ensures.looks c.in-Some.ensures.track.1 c.loop-turn.invariant.some
 
 pub returns-in_err-carry_turn-clause-turns : goal.returns-in_err-carry_turn-clause-turns
-returns-in_err-carry_turn-clause-turns g c = looks_within c.loop-turn.schedule c.args.looks.now _ _ (movie_turns c.args.movie.now) c.loop-turn.invariant.looks c.in-Some.ensures.looks c.in-Some.ensures.track.1
+returns-in_err-carry_turn-clause-turns g c = looks_within c.loop-turn.schedule c.args.looks.now _ _ (movie_turns c.args.movie.now) c.loop-turn.invariant.looks c.in-Some.ensures.looks c.in-Some.ensures.track.1 c.loop-turn.invariant.some
 
 pub returns-in_err-pass-clause-turns : goal.returns-in_err-pass-clause-turns
-returns-in_err-pass-clause-turns g c = looks_within c.loop-turn.schedule c.args.looks.now _ _ (movie_turns c.args.movie.now) c.loop-turn.invariant.looks c.in-Some.ensures.looks c.in-Some.ensures.track.1
+returns-in_err-pass-clause-turns g c = looks_within c.loop-turn.schedule c.args.looks.now _ _ (movie_turns c.args.movie.now) c.loop-turn.invariant.looks c.in-Some.ensures.looks c.in-Some.ensures.track.1 c.loop-turn.invariant.some
 
 pub returns-then-not-are_all-clause-turns : goal.returns-then-not-are_all-clause-turns
 returns-then-not-are_all-clause-turns g c =
