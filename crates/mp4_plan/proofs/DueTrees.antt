@@ -1,6 +1,5 @@
 -- Trees of least values: a node is no later than the leaves below it, and stays the lesser of two where a leaf is set.
-use Rattle.std.proofs.Common.{◌≡◌, ℕ, zero, suc, ◌+◌, ◌-◌, ◌*◌, ◌/◌, ◌%◌, ◌^◌, ◌<◌, ◌≤◌, nat_lt, min, Bool, true, false, List, length, replicate, refl, sym, ap, subst, ◌∙◌, arith, rules, slice_index, slice_set, get_or-set_same, get_or-set_other, le-mul_of_pos_right, pow_pos, pow-suc, mul_comm, mul_assoc, add-mul, get_or}
-use Rattle.std.proofs.lemmas.List.{get_or-replicate}
+use Rattle.std.proofs.Common.{◌≡◌, ℕ, zero, suc, ◌+◌, ◌-◌, ◌*◌, ◌/◌, ◌%◌, ◌^◌, ◌<◌, ◌≤◌, nat_lt, Bool, true, false, List, length, refl, sym, ap, subst, ◌∙◌, arith, rules, slice_index, le-mul_of_pos_right, pow_pos, pow-suc, mul_comm, mul_assoc, add-mul, get_or}
 use Rattle.std.proofs.lemmas.Grind.{get_or_default_zero}
 use Rattle.mp4_plan.specs.words.DueTracks.{IsLesser}
 
@@ -141,28 +140,3 @@ under node width n at place two =
 -- what was read of a node
 pub read_late : (xs : List ℕ) (i x cut : ℕ) → x ≡ get_or xs i x → i < length xs → cut ≤ x → cut ≤ slice_index xs i
 read_late xs i x cut e lt late = subst (λ k. cut ≤ k) (e ∙ get_or_default_zero xs i x lt) late
-
--- ---- a value is set
-
-pub lesser_off : (xs : List ℕ) (at v i : ℕ) → IsLesser xs i → (i ≡ at → ⊥) → (2 * i ≡ at → ⊥) → (2 * i + 1 ≡ at → ⊥) → IsLesser (slice_set xs at v) i
-lesser_off xs at v i e a b c =
-    let p = get_or-set_other xs at i v 0 a in
-    let q = get_or-set_other xs at (2 * i) v 0 b in
-    let r = get_or-set_other xs at (2 * i + 1) v 0 c in
-    p ∙ e ∙ (λ j. min (sym q j) (sym r j))
-
-pub lesser_on : (xs : List ℕ) (at v : ℕ) → 0 < at → at < length xs → v ≡ min (slice_index xs (2 * at)) (slice_index xs (2 * at + 1)) → IsLesser (slice_set xs at v) at
-lesser_on xs at v some lt e =
-    let p = get_or-set_same xs at v 0 lt in
-    let q = get_or-set_other xs at (2 * at) v 0 (λ h. omega (arith, h, some)) in
-    let r = get_or-set_other xs at (2 * at + 1) v 0 (λ h. omega (arith, h)) in
-    p ∙ e ∙ (λ j. min (sym q j) (sym r j))
-
--- before the first sample
-pub lesser_never : (n v i : ℕ) → 0 < i → i < n → IsLesser (replicate (2 * n) v) i
-lesser_never n v i some lt =
-    let p = get_or-replicate (2 * n) i v 0 (omega (arith, lt)) in
-    let q = get_or-replicate (2 * n) (2 * i) v 0 (omega (arith, lt)) in
-    let r = get_or-replicate (2 * n) (2 * i + 1) v 0 (omega (arith, lt)) in
-    let own : v ≡ min v v = omega arith in
-    p ∙ own ∙ (λ j. min (sym q j) (sym r j))

@@ -296,7 +296,8 @@ module _ (leaving : Leaving) (file : List ℕ) (tree : FileTree) (m : MovieSeen)
 
       -- where no sample is left, no track is due behind it
       pub no_more : (d : DueTracks) (later : Schedule) → FindsMore m.tracks (slice_set nexts s.track next) on later d → ⊥
-      no_more d later f = finds_none file m.tracks on later (slice_set lefts s.track left_behind_it) taken.later (slice_set nexts s.track next) d (subst (λ (r : Schedule). IsTurn file m.tracks r (slice_set lefts s.track left_behind_it) taken.later) (sym turned_is) stands_next.turn) stands_next.shown (opened_scales file m tree o) f
+      no_more d later f = finds_none file m.tracks on later (slice_set lefts s.track left_behind_it) taken.later (slice_set nexts s.track next) d (subst (λ (r : Schedule). IsTurn file m.tracks r (slice_set lefts s.track left_behind_it) taken.later) (sym turned_is) stands_next.turn) stands_next.shown
+          (opened_scales file m tree o) f
 
       -- Behind it one more piece is looked at, if it took samples.
       pub longest_next : (most later : ℕ) → max most (longest_piece (pieces_from s comings)) ≡ longest_piece (pieces (reduce leaving (presentation_of file tree))) → later ≡ max most n → IsLongest leaving file tree m on (slice_set walks k now) (slice_set nexts k next) later

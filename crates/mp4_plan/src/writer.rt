@@ -392,7 +392,13 @@ impl Writer {
             sequence = sequence_behind(sequence, &noted.head);
             let planned = &noted.planned;
             self.carry_turn(track, noted.head, planned, movie, store, sink, steps)?;
-            schedule.pass(&turn, planned.count, self.nexts[track], tracks, &mut self.due)?;
+            schedule.pass(
+                &turn,
+                planned.count,
+                self.nexts[track],
+                tracks,
+                &mut self.due,
+            )?;
             bytes += u128::from(planned.bytes);
         }
         if !are_all(schedule.left, bytes, tracks) {

@@ -103,8 +103,10 @@ loop-turn-preserved g c =
           let t = has_turn c.args.leaving file tree m s walks nexts h.lefts h.comings o h.at turn.track c.index_mut-walk.result.now turn.end at c.index_mut-walk.ensures.value i.0.count (λ info is. c.in-Some.ensures.end info (ap (λ ts. slice_get ts s.track) c.tracks-tracks.ensures ∙ is)) in
           let first = read_at nexts turn.track (slice_get t.left 0) c.index_mut-next.result.now (ap (λ k. slice_get nexts k) t.place ∙ t.shown) c.index_mut-next.ensures.value in
           let counted = (rw (i.5, i.2) at p.counted) told tree t.t t.left o t.comes first in
-          longest_skips c.args.leaving file tree m (turned s turn.end c.in_ok-count.count c.count_turn.new.next) c.pass.new.self (slice_set walks turn.track c.count_turn.new.walk) (slice_set nexts turn.track c.count_turn.new.next) c.pass.new.due o c.in_ok-pass.ensures.turned due_next c.max-longest.result
-          (longest_next c.args.leaving file tree m s walks nexts h.lefts h.comings o h.at turn.track c.index_mut-walk.result.now turn.end t at.1 c.count_turn.new.walk c.in_ok-count.count c.count_turn.new.next (turned s turn.end c.in_ok-count.count c.count_turn.new.next) (piece_size_is turn.end t.left
+          longest_skips c.args.leaving file tree m (turned s turn.end c.in_ok-count.count c.count_turn.new.next) c.pass.new.self (slice_set walks turn.track c.count_turn.new.walk) (slice_set nexts turn.track c.count_turn.new.next)
+          c.pass.new.due o c.in_ok-pass.ensures.turned due_next c.max-longest.result
+          (longest_next c.args.leaving file tree m s walks nexts h.lefts h.comings o h.at turn.track c.index_mut-walk.result.now turn.end t at.1 c.count_turn.new.walk c.in_ok-count.count c.count_turn.new.next (turned s turn.end c.in_ok-count.count c.count_turn.new.next)
+          (piece_size_is turn.end t.left
           c.in_ok-count.count counted.counts) counted.comes counted.shown refl c.loop-turn.longest c.max-longest.result h.longest c.max-longest.ensures),
       λ told tree o.
           let k = c.in-Some.turn.track in
@@ -136,7 +138,8 @@ returns-in_err-pass-clause-unchanged g c told tree o =
     let is = piece_size_is turn.end t.left c.in_ok-count.count counted.counts in
     absurd (either ((rw c.tracks-tracks.ensures at c.in_err-pass.ensures.sticks) nexts i.10.times)
     (turn_leads c.args.leaving file tree m s walks nexts h.lefts h.comings o h.at turn.track c.index_mut-walk.result.now turn.end t at.1 c.in_ok-count.count c.count_turn.new.next c.loop-turn.due is counted.shown i.10)
-    (no_more c.args.leaving file tree m s walks nexts h.lefts h.comings o h.at turn.track c.index_mut-walk.result.now turn.end t at.1 c.count_turn.new.walk c.in_ok-count.count c.count_turn.new.next (turned s turn.end c.in_ok-count.count c.count_turn.new.next) is counted.comes counted.shown refl c.pass.new.due c.pass.new.self))
+    (no_more c.args.leaving file tree m s walks nexts h.lefts h.comings o h.at turn.track c.index_mut-walk.result.now turn.end t at.1 c.count_turn.new.walk c.in_ok-count.count c.count_turn.new.next (turned s turn.end c.in_ok-count.count c.count_turn.new.next)
+    is counted.comes counted.shown refl c.pass.new.due c.pass.new.self))
 
 pub returns-clause-longest : goal.returns-clause-longest
 returns-clause-longest g c told tree o =

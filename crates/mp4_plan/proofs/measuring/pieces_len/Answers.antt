@@ -108,8 +108,10 @@ loop-turn-preserved g c =
           let there = get_or c.tracks-tracks.result.now turn.track c.index-tracks-turn.result in
           let kept = sym c.index-tracks-turn.is ∙ kept_there m.tracks turn.track s.track t.info c.index-tracks-turn.result t.place t.is_info (rw c.tracks-tracks.ensures at c.index-tracks-turn.is) in
           let adds : Adds (keys_seen there.keys) c.in_ok-planned.planned c.loop-turn.len c.len_with-len.result = record { none = c.len_with-len.ensures.none; some = c.len_with-len.ensures.some } in
-          length_skips c.args.leaving file tree m (turned s turn.end c.in_ok-planned.planned.count c.plan_turn.new.next) c.pass.new.self (slice_set walks turn.track c.plan_turn.new.walk) (slice_set nexts turn.track c.plan_turn.new.next) c.pass.new.due o c.in_ok-pass.ensures.turned due_next c.len_with-len.result
-          (length_next c.args.leaving file tree m s walks nexts h.lefts h.comings o h.at turn.track c.index_mut-walk.result.now turn.end t at.1 c.plan_turn.new.walk c.in_ok-planned.planned.count c.plan_turn.new.next (turned s turn.end c.in_ok-planned.planned.count c.plan_turn.new.next) count planned.1 planned.2 refl
+          length_skips c.args.leaving file tree m (turned s turn.end c.in_ok-planned.planned.count c.plan_turn.new.next) c.pass.new.self (slice_set walks turn.track c.plan_turn.new.walk) (slice_set nexts turn.track c.plan_turn.new.next)
+          c.pass.new.due o c.in_ok-pass.ensures.turned due_next c.len_with-len.result
+          (length_next c.args.leaving file tree m s walks nexts h.lefts h.comings o h.at turn.track c.index_mut-walk.result.now turn.end t at.1 c.plan_turn.new.walk c.in_ok-planned.planned.count c.plan_turn.new.next (turned s turn.end c.in_ok-planned.planned.count c.plan_turn.new.next)
+          count planned.1 planned.2 refl
           c.loop-turn.len c.len_with-len.result h.number c.in_ok-planned.planned refl planned.0 (record { few = record { count = bounds.few; rows = bounds.rows }; bytes = bounds.bytes }) (subst (λ (info : TrackInfo). Adds (keys_seen info.keys) c.in_ok-planned.planned
           c.loop-turn.len c.len_with-len.result) kept adds) h.fits h.len),
       λ told tree o.
@@ -142,7 +144,8 @@ returns-in_err-pass-clause-unchanged g c told tree o =
     let count = ap (λ (q : Planned). q.count) planned.0 ∙ piece_counts turn.end t.left in
     absurd (either ((rw c.tracks-tracks.ensures at c.in_err-pass.ensures.sticks) nexts i.9.times)
     (turn_leads c.args.leaving file tree m s walks nexts h.lefts h.comings o h.at turn.track c.index_mut-walk.result.now turn.end t at.1 c.in_ok-planned.planned.count c.plan_turn.new.next c.loop-turn.due count planned.2 i.9)
-    (no_more c.args.leaving file tree m s walks nexts h.lefts h.comings o h.at turn.track c.index_mut-walk.result.now turn.end t at.1 c.plan_turn.new.walk c.in_ok-planned.planned.count c.plan_turn.new.next (turned s turn.end c.in_ok-planned.planned.count c.plan_turn.new.next) count planned.1 planned.2 refl c.pass.new.due c.pass.new.self))
+    (no_more c.args.leaving file tree m s walks nexts h.lefts h.comings o h.at turn.track c.index_mut-walk.result.now turn.end t at.1 c.plan_turn.new.walk c.in_ok-planned.planned.count c.plan_turn.new.next (turned s turn.end c.in_ok-planned.planned.count c.plan_turn.new.next)
+    count planned.1 planned.2 refl c.pass.new.due c.pass.new.self))
 
 pub returns-clause-length : goal.returns-clause-length
 returns-clause-length g c told tree o =

@@ -32,9 +32,10 @@ returns-clause-due c nexts times =
       tree = search rules;
       many = (let own : c.if-track-gt0.due.leaves ≡ s.tracks = search rules in own ∙ sym k.0);
       times = subst (λ n. AreTimes c.args.tracks.now (slice_set nexts s.track c.args.sample) n c.if-track-gt0.due) (sym k.1) (elim c.if-track-gt0.branch [
-        then-track-gt0 w ↦ subst (λ (d : DueTracks). AreTimes c.args.tracks.now (slice_set nexts s.track c.args.sample) s.first d) (sym w.due-is) (times_set c.args.tracks.now nexts s.first c.args.due.now w.set.new.self s.track c.args.sample w.due_at.result times (many ∙ infos) w.set.ensures.others w.set.ensures.time
-        (λ info is. subst (λ (i : TrackInfo). IsDue s.first i.timescale c.args.sample w.due_at.result) (sym w.index-tracks-track.is ∙ read_at c.args.tracks.now s.track info w.index-tracks-track.result is w.index-tracks-track.is)
-        (subst (λ n. IsDue n (get_or c.args.tracks.now s.track w.index-tracks-track.result).timescale c.args.sample w.due_at.result) first w.due_at.ensures)))
+        | then-track-gt0 w ↦ subst (λ (d : DueTracks). AreTimes c.args.tracks.now (slice_set nexts s.track c.args.sample) s.first d) (sym w.due-is)
+            (times_set c.args.tracks.now nexts s.first c.args.due.now w.set.new.self s.track c.args.sample w.due_at.result times (many ∙ infos) w.set.ensures.others w.set.ensures.time
+            (λ info is. subst (λ (i : TrackInfo). IsDue s.first i.timescale c.args.sample w.due_at.result) (sym w.index-tracks-track.is ∙ read_at c.args.tracks.now s.track info w.index-tracks-track.result is w.index-tracks-track.is)
+            (subst (λ n. IsDue n (get_or c.args.tracks.now s.track w.index-tracks-track.result).timescale c.args.sample w.due_at.result) first w.due_at.ensures)))
         | else-track-gt0 w ↦ subst (λ (d : DueTracks). AreTimes c.args.tracks.now (slice_set nexts s.track c.args.sample) s.first d) (sym w.due-is) (times_first c.args.tracks.now nexts s.first c.args.due.now s.track c.args.sample times (search rules))
       ]);
       here = c.skip.ensures.here;
@@ -54,16 +55,18 @@ returns-then-finds_more-clause-sticks c nexts times =
       inside = more.1;
       none_left = more.2;
       due = record {
-      tree = search rules;
-      many = (let own : c.if-track-gt0.due.leaves ≡ s.tracks = search rules in own ∙ sym k.0);
-      times = subst (λ n. AreTimes c.args.tracks.now (slice_set nexts s.track c.args.sample) n c.if-track-gt0.due) (sym k.1) (elim c.if-track-gt0.branch [
-        then-track-gt0 w ↦ subst (λ (d : DueTracks). AreTimes c.args.tracks.now (slice_set nexts s.track c.args.sample) s.first d) (sym w.due-is) (times_set c.args.tracks.now nexts s.first c.args.due.now w.set.new.self s.track c.args.sample w.due_at.result times (many ∙ infos) w.set.ensures.others w.set.ensures.time
-        (λ info is. subst (λ (i : TrackInfo). IsDue s.first i.timescale c.args.sample w.due_at.result) (sym w.index-tracks-track.is ∙ read_at c.args.tracks.now s.track info w.index-tracks-track.result is w.index-tracks-track.is)
-        (subst (λ n. IsDue n (get_or c.args.tracks.now s.track w.index-tracks-track.result).timescale c.args.sample w.due_at.result) first w.due_at.ensures)))
-        | else-track-gt0 w ↦ subst (λ (d : DueTracks). AreTimes c.args.tracks.now (slice_set nexts s.track c.args.sample) s.first d) (sym w.due-is) (times_first c.args.tracks.now nexts s.first c.args.due.now s.track c.args.sample times (search rules))
-      ]);
-      here = c.skip.ensures.here;
-    } })
+        tree = search rules;
+        many = (let own : c.if-track-gt0.due.leaves ≡ s.tracks = search rules in own ∙ sym k.0);
+        times = subst (λ n. AreTimes c.args.tracks.now (slice_set nexts s.track c.args.sample) n c.if-track-gt0.due) (sym k.1) (elim c.if-track-gt0.branch [
+          | then-track-gt0 w ↦ subst (λ (d : DueTracks). AreTimes c.args.tracks.now (slice_set nexts s.track c.args.sample) s.first d) (sym w.due-is)
+              (times_set c.args.tracks.now nexts s.first c.args.due.now w.set.new.self s.track c.args.sample w.due_at.result times (many ∙ infos) w.set.ensures.others w.set.ensures.time
+              (λ info is. subst (λ (i : TrackInfo). IsDue s.first i.timescale c.args.sample w.due_at.result) (sym w.index-tracks-track.is ∙ read_at c.args.tracks.now s.track info w.index-tracks-track.result is w.index-tracks-track.is)
+              (subst (λ n. IsDue n (get_or c.args.tracks.now s.track w.index-tracks-track.result).timescale c.args.sample w.due_at.result) first w.due_at.ensures)))
+          | else-track-gt0 w ↦ subst (λ (d : DueTracks). AreTimes c.args.tracks.now (slice_set nexts s.track c.args.sample) s.first d) (sym w.due-is) (times_first c.args.tracks.now nexts s.first c.args.due.now s.track c.args.sample times (search rules))
+        ]);
+        here = c.skip.ensures.here;
+      };
+    })
 
 pub returns-in_err-take-clause-sticks : goal.returns-in_err-take-clause-sticks
 returns-in_err-take-clause-sticks c nexts times =

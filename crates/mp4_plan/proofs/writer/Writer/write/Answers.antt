@@ -213,11 +213,13 @@ returns-in_err-pass-clause-unchanged g c told tree o ready =
     let read : (x : Option SampleAt) → slice_get c.carry_turn.new.self.nexts.items c.in-Some.turn.track ≡ Some x → c.index.result.now ≡ x = λ x is. read_at c.carry_turn.new.self.nexts.items c.in-Some.turn.track x _ is c.index.ensures in
     let on = turn_goes c.args.self.now.leaving file tree m o s c.loop-turn.sequence c.loop-turn.bytes w before after h c.in-Some.turn here ends i.tracks i.writer i.leaving c.note_turn.new.self c.in_ok-noted.noted there noted c.in_ok-noted.ensures.writer.keeps few is_id c.carry_turn.new.self
     c.index.result.now copied read (g.K.Sink.contents c.carry_turn.new.sink) next put c.in_ok-carry_turn.ensures.writer.keeps refl in
-    let stuck = with_times c.args.self.now.leaving file tree m o s c.loop-turn.sequence c.loop-turn.bytes w before after h c.in-Some.turn here ends i.tracks i.writer i.leaving c.note_turn.new.self c.in_ok-noted.noted there noted c.in_ok-noted.ensures.writer.keeps few is_id c.carry_turn.new.self c.index.result.now copied
+    let stuck = with_times c.args.self.now.leaving file tree m o s c.loop-turn.sequence c.loop-turn.bytes w before after h c.in-Some.turn here ends i.tracks i.writer i.leaving c.note_turn.new.self c.in_ok-noted.noted there noted c.in_ok-noted.ensures.writer.keeps few is_id
+    c.carry_turn.new.self c.index.result.now copied
     read (λ (xs : List (Option SampleAt)). Sticks s c.in_ok-noted.noted.planned.count c.index.result.now ⊎ FindsMore m.tracks xs next c.pass.new.self c.pass.new.due) (i.due told tree o ready) c.in_ok-carry_turn.ensures.writer.keeps.2 (rw c.tracks-tracks.ensures at c.in_err-pass.ensures.sticks) in
     rw (e.1, e.2)
     (λ r. either stuck
-    (pass_lacks c.args.self.now.leaving file tree m o s c.loop-turn.sequence c.loop-turn.bytes w before after h c.in-Some.turn here ends i.tracks i.writer i.leaving c.note_turn.new.self c.in_ok-noted.noted there noted c.in_ok-noted.ensures.writer.keeps few is_id c.carry_turn.new.self c.index.result.now copied read (i.due told tree o ready))
+    (pass_lacks c.args.self.now.leaving file tree m o s c.loop-turn.sequence c.loop-turn.bytes w before after h c.in-Some.turn here ends i.tracks i.writer i.leaving c.note_turn.new.self c.in_ok-noted.noted there noted c.in_ok-noted.ensures.writer.keeps few is_id
+    c.carry_turn.new.self c.index.result.now copied read (i.due told tree o ready))
     (writes_no_more c.args.self.now.leaving file tree m next c.pass.new.self _ _ _ _ _ _ _ _ c.pass.new.due o on))
 
 pub loop-turn-preserved : goal.loop-turn-preserved
@@ -268,7 +270,8 @@ loop-turn-preserved g c =
           let next = turned s c.in-Some.turn.end c.in_ok-noted.noted.planned.count c.index.result.now in
           let there = (get_or c.tracks-tracks.result.now c.in-Some.turn.track c.index-tracks-track.result).id in
           let read : (x : Option SampleAt) → slice_get c.carry_turn.new.self.nexts.items c.in-Some.turn.track ≡ Some x → c.index.result.now ≡ x = λ x is. read_at c.carry_turn.new.self.nexts.items c.in-Some.turn.track x _ is c.index.ensures in
-          let due_next = with_times c.args.self.now.leaving file tree m o s c.loop-turn.sequence c.loop-turn.bytes w before after h c.in-Some.turn here ends i.tracks i.writer i.leaving c.note_turn.new.self c.in_ok-noted.noted there noted c.in_ok-noted.ensures.writer.keeps few is_id c.carry_turn.new.self
+          let due_next =
+          with_times c.args.self.now.leaving file tree m o s c.loop-turn.sequence c.loop-turn.bytes w before after h c.in-Some.turn here ends i.tracks i.writer i.leaving c.note_turn.new.self c.in_ok-noted.noted there noted c.in_ok-noted.ensures.writer.keeps few is_id c.carry_turn.new.self
           c.index.result.now copied read (λ (xs : List (Option SampleAt)). IsDueAt m.tracks xs c.pass.new.self c.pass.new.due) (i.due told tree o ready) c.in_ok-carry_turn.ensures.writer.keeps.2 (rw c.tracks-tracks.ensures at c.in_ok-pass.ensures.due) in
           rw (c.sequence_behind-sequence.ensures, c.from-bytes.ensures)
           (writes_skips c.args.self.now.leaving file tree m next c.pass.new.self _ _ _ _ _ _ _ _ c.pass.new.due o
@@ -293,7 +296,8 @@ loop-turn-preserved g c =
           let copied = (rw (c.in_ok-noted.ensures.store.honesty, c.in_ok-noted.ensures.store.file, i.honesty, i.file) at c.in_ok-carry_turn.ensures.copied) told tree o in
           let there = (get_or c.tracks-tracks.result.now c.in-Some.turn.track c.index-tracks-track.result).id in
           let read : (x : Option SampleAt) → slice_get c.carry_turn.new.self.nexts.items c.in-Some.turn.track ≡ Some x → c.index.result.now ≡ x = λ x is. read_at c.carry_turn.new.self.nexts.items c.in-Some.turn.track x _ is c.index.ensures in
-          with_times c.args.self.now.leaving file tree m o s c.loop-turn.sequence c.loop-turn.bytes w before after h c.in-Some.turn here ends i.tracks i.writer i.leaving c.note_turn.new.self c.in_ok-noted.noted there noted c.in_ok-noted.ensures.writer.keeps few is_id c.carry_turn.new.self c.index.result.now copied
+          with_times c.args.self.now.leaving file tree m o s c.loop-turn.sequence c.loop-turn.bytes w before after h c.in-Some.turn here ends i.tracks i.writer i.leaving c.note_turn.new.self c.in_ok-noted.noted there noted c.in_ok-noted.ensures.writer.keeps few is_id
+          c.carry_turn.new.self c.index.result.now copied
           read (λ (xs : List (Option SampleAt)). IsDueAt m.tracks xs c.pass.new.self c.pass.new.due) (i.due told tree o ready) c.in_ok-carry_turn.ensures.writer.keeps.2 (rw c.tracks-tracks.ensures at c.in_ok-pass.ensures.due);
       within = λ told tree o n may.
           let w = c.loop-turn.self in
