@@ -37,12 +37,20 @@ pub(crate) struct Part {
     name: String,
 }
 
-// The name of a new file beside another one, by the number of the process and a count.
-fn part_name(alloc: Global, name: &str, process: u32, number: u32) -> Result<String, AllocError>
+// A name with the number of the process behind it.
+fn name_of_process(alloc: Global, name: &str, process: u32) -> Result<String, AllocError>
     ensures { IfOk result (λ text. string_bytes text
-        ≡ name.now ++ codes ".part-" ++ decimal process ++ codes "-" ++ decimal number) }
+        ≡ name.now ++ codes ".part-" ++ decimal process) }
 {
-    format!(in alloc; "{name}.part-{process}-{number}")
+    format!(in alloc; "{name}.part-{process}")
+}
+
+// The name of a new file beside another one: behind that of the process stands a count.
+fn part_name(alloc: Global, front: &str, number: u32) -> Result<String, AllocError>
+    ensures { IfOk result (λ text. string_bytes text
+        ≡ front.now ++ codes "-" ++ decimal number) }
+{
+    format!(in alloc; "{front}-{number}")
 }
 
 // The folder in which a file lies, and its name there.
@@ -82,7 +90,7 @@ fn tell_leftovers(rt: &HostRuntime, name: &str) -> io::Result<()> {
         };
         let found = entry.file_name();
         if process_in(found, beside).is_some_and(|process| is_gone(rt, process)) {
-            let front = &name[..name.len() - beside.len()];
+            let front = name.strip_suffix(beside).unwrap_or("");
             tell_name(rt, b"leftover: ", format!(in rt.alloc(); "{front}{found}")?.as_str());
         }
     }
@@ -104,9 +112,9 @@ impl Part {
         if report.explains() {
             let _ = tell_leftovers(rt, beside);
         }
-        let process = process::id(rt.process());
+        let front = name_of_process(rt.alloc(), beside, process::id(rt.process()))?;
         for number in 0..MOST_NAMES {
-            let name = part_name(rt.alloc(), beside, process, number)?;
+            let name = part_name(rt.alloc(), front.as_str(), number)?;
             match create(rt, name.as_str()) {
                 Ok(file) => return Ok(Part { file, name }),
                 Err(error) if error.kind() == ErrorKind::AlreadyExists => {}
@@ -172,13 +180,16 @@ fn give_rights(rt: &HostRuntime, file: &File, other: Option<Metadata>) -> io::Re
     file.set_permissions(Permissions::from_mode(rights))
 }
 
-// The number of octal digits at the front of some bytes.
+// The rights that octal digits at the front of some bytes spell.
 fn octal(bytes: &[u8]) -> u32 {
-    let mut number = 0;
-    for byte in bytes.iter().take_while(|byte| (b'0'..=b'7').contains(*byte)).take(4) {
-        number = 8 * number + u32::from(*byte - b'0');
+    let mut rights = 0;
+    for byte in bytes {
+        if !(b'0'..=b'7').contains(byte) {
+            break;
+        }
+        rights = (rights << 3 | u32::from(*byte - b'0')) & RIGHTS;
     }
-    number
+    rights
 }
 
 // The rights that the process takes away from each file that it makes, as Linux tells them.

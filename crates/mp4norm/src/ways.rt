@@ -167,16 +167,19 @@ pub(crate) fn number_at_top<S: Store>(store: &mut S, kind: FourCc, place: u64) -
     let mut count = 0u64;
     let mut number = 0;
     while at < len {
-        let header = read_top_header(store, at).ok();
-        if at == place || header.is_some_and(|header| header.kind == kind) {
+        let Ok(header) = read_top_header(store, at) else {
+            if at == place {
+                count = count.saturating_add(1);
+                number = count;
+            }
+            break;
+        };
+        if header.kind == kind {
             count = count.saturating_add(1);
         }
         if at == place {
             number = count;
         }
-        let Some(header) = header else {
-            break;
-        };
         at = header.end;
     }
     (count > 1 || kind == FourCc(*b"moof")).then_some(number)
