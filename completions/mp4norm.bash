@@ -12,7 +12,7 @@ _mp4norm() {
         esac
     done
     case $previous in
-    --track | --drop | --without | --limit)
+    --track | --drop | --without | --limit | --max-bytes)
         compopt +o default 2>/dev/null
         return
         ;;
@@ -20,12 +20,12 @@ _mp4norm() {
     esac
     case $command in
     '') words='normalise show samples extract boxes strip compare check help --help --version' ;;
-    normalise) words='--out --without --replace --progress --explain --help' ;;
+    normalise) words='--out --without --max-bytes --replace --progress --explain --help' ;;
     show) words='--explain --help' ;;
     samples) words='--track --header --json --explain --help' ;;
-    extract) words='--track --out --replace --progress --explain --help' ;;
+    extract) words='--track --out --max-bytes --replace --progress --explain --help' ;;
     boxes) words='--explain --help' ;;
-    strip) words='--drop --out --replace --progress --explain --help' ;;
+    strip) words='--drop --out --max-bytes --replace --progress --explain --help' ;;
     compare) words='--without --all --limit --help' ;;
     check) words='--names-from --zero --help' ;;
     help) words='normalise show samples extract boxes strip compare check' ;;

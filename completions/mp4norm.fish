@@ -16,6 +16,7 @@ complete -c mp4norm -n '__fish_seen_subcommand_from samples extract' -l track -x
 complete -c mp4norm -n '__fish_seen_subcommand_from samples' -l header -d 'Begin with the names of the columns'
 complete -c mp4norm -n '__fish_seen_subcommand_from samples' -l json -d 'List each sample as an object of JSON'
 complete -c mp4norm -n '__fish_seen_subcommand_from normalise extract strip' -l out -rF -d 'The file to make'
+complete -c mp4norm -n '__fish_seen_subcommand_from normalise extract strip' -l max-bytes -x -d 'Write nothing where there would be more bytes'
 complete -c mp4norm -n '__fish_seen_subcommand_from normalise extract strip' -l replace -d 'Replace it once all is written'
 complete -c mp4norm -n '__fish_seen_subcommand_from normalise extract strip' -l progress -d 'Say how far it has come'
 complete -c mp4norm -n '__fish_seen_subcommand_from strip' -l drop -x -d 'Types of boxes, apart by commas'

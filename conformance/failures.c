@@ -1,18 +1,30 @@
-/* Put before the C library, this makes calls of a program fail: an allocation, a read of a file, a read of
- * standard input, asking for the length of a file, a write, bringing a file to the disk, or renaming one. FAIL_CALL says of
- * which kind (alloc, read, input, length, write, sync, rename), FAIL_AT which one, from 1 on; with FAIL_REST all behind it
- * fail too.
- * Behind CHANGE_AFTER reads that cover the byte CHANGE_AT of a file, that byte is CHANGE_TO.
- * FAIL_TAKEN says how many bytes of the write that fails are taken first; -1 is all but one. At the end the number of calls
- * of that kind is written to the file FAIL_TOLD, and for writes the length of each. */
+/* Put before the C library, this makes calls of a program fail. FAIL_CALL says of which kind:
+ *
+ *   alloc   an allocation                        open    opening a file that is there
+ *   read    a read of a file by place            make    opening one that is made
+ *   input   a read of what has no places         seek    going to a place of a file
+ *   length  asking for what is known of a file   copy    making a second descriptor of a file
+ *   write   a write, but to standard error       sync    bringing a file to the disk
+ *   rename, unlink, chmod, chown
+ *
+ * FAIL_AT says which one, from 1 on; with FAIL_REST all behind it fail too. With FAIL_FILE only calls count that are about a
+ * file whose name begins so. FAIL_ERROR is the number of the error, where it isn't the kind's own. FAIL_TAKEN says how many
+ * bytes of the write that fails are taken first; -1 is all but one. At the end the number of calls of that kind is written
+ * to the file FAIL_TOLD, and for writes the length of each.
+ * Before the call MEANWHILE_AT of the kind MEANWHILE_CALL, about a file whose name begins with MEANWHILE_FILE where that is
+ * given, the shell runs the words of MEANWHILE.
+ * Behind CHANGE_AFTER reads that cover the byte CHANGE_AT of a file, that byte is CHANGE_TO. */
 #define _GNU_SOURCE
 #include <dlfcn.h>
 #include <errno.h>
+#include <fcntl.h>
+#include <stdarg.h>
 #include <stdio.h>
 #include <stdlib.h>
 #include <string.h>
 #include <sys/stat.h>
 #include <sys/types.h>
+#include <sys/wait.h>
 #include <unistd.h>
 
 static long calls;
@@ -21,12 +33,53 @@ static long calls;
 static size_t lengths[4096];
 static long noted;
 
-/* Whether this call of the kind fails. */
-static int fails(const char *kind) {
-    const char *wanted = getenv("FAIL_CALL"), *at = getenv("FAIL_AT");
-    if (!wanted || !at || strcmp(wanted, kind) != 0) return 0;
+#define REAL(name) \
+    static __typeof__(name) *real; \
+    if (!real) real = (__typeof__(name) *)dlsym(RTLD_NEXT, #name)
+
+/* Whether the last part of a path begins so. */
+static int begins(const char *path, const char *front) {
+    const char *slash = strrchr(path, '/');
+    return strncmp(slash ? slash + 1 : path, front, strlen(front)) == 0;
+}
+
+/* Whether the path, or without one the file of this descriptor, has a name that begins as the variable says. */
+static int is_about(const char *variable, const char *path, int file) {
+    char link[64], found[4096];
+    const char *front = getenv(variable);
+    if (!front) return 1;
+    if (path && *path) return begins(path, front);
+    snprintf(link, sizeof link, "/proc/self/fd/%d", file);
+    ssize_t length = readlink(link, found, sizeof found - 1);
+    if (length < 0) return 0;
+    found[length] = 0;
+    return begins(found, front);
+}
+
+/* Runs the words of MEANWHILE where it is time. */
+static void pass(const char *kind, const char *path, int file) {
+    static long seen;
+    const char *wanted = getenv("MEANWHILE_CALL"), *at = getenv("MEANWHILE_AT");
+    if (!wanted || !at || strcmp(wanted, kind) != 0 || !is_about("MEANWHILE_FILE", path, file)) return;
+    if (++seen != atol(at)) return;
+    pid_t child = fork();
+    if (child == 0) {
+        unsetenv("LD_PRELOAD");
+        execl("/bin/sh", "sh", "-c", getenv("MEANWHILE"), (char *)NULL);
+        _exit(127);
+    }
+    waitpid(child, NULL, 0);
+}
+
+/* Whether this call of the kind fails; then the error is set. */
+static int fails_about(const char *kind, const char *path, int file, int error) {
+    const char *wanted = getenv("FAIL_CALL"), *at = getenv("FAIL_AT"), *own = getenv("FAIL_ERROR");
+    pass(kind, path, file);
+    if (!wanted || !at || strcmp(wanted, kind) != 0 || !is_about("FAIL_FILE", path, file)) return 0;
     calls++;
-    return calls == atol(at) || (getenv("FAIL_REST") && atol(at) > 0 && calls > atol(at));
+    if (calls != atol(at) && !(getenv("FAIL_REST") && atol(at) > 0 && calls > atol(at))) return 0;
+    errno = own ? atoi(own) : error;
+    return 1;
 }
 
 __attribute__((destructor)) static void tell(void) {
@@ -39,16 +92,22 @@ __attribute__((destructor)) static void tell(void) {
     fclose(file);
 }
 
+/* An allocation is about no file. */
+static int refused(void) {
+    const char *wanted = getenv("FAIL_CALL"), *at = getenv("FAIL_AT");
+    if (!wanted || !at || strcmp(wanted, "alloc") != 0) return 0;
+    calls++;
+    return calls == atol(at) || (getenv("FAIL_REST") && atol(at) > 0 && calls > atol(at));
+}
+
 void *malloc(size_t size) {
-    static void *(*real)(size_t);
-    if (!real) real = (void *(*)(size_t))dlsym(RTLD_NEXT, "malloc");
-    return fails("alloc") ? NULL : real(size);
+    REAL(malloc);
+    return refused() ? NULL : real(size);
 }
 
 void *realloc(void *old, size_t size) {
-    static void *(*real)(void *, size_t);
-    if (!real) real = (void *(*)(void *, size_t))dlsym(RTLD_NEXT, "realloc");
-    return fails("alloc") ? NULL : real(old, size);
+    REAL(realloc);
+    return refused() ? NULL : real(old, size);
 }
 
 /* Changes a byte of what was read, but the first times. */
@@ -63,42 +122,61 @@ static void change(unsigned char *out, ssize_t taken, off_t at) {
 }
 
 ssize_t pread(int file, void *out, size_t count, off_t at) {
-    static ssize_t (*real)(int, void *, size_t, off_t);
-    if (!real) real = (ssize_t (*)(int, void *, size_t, off_t))dlsym(RTLD_NEXT, "pread");
-    if (fails("read")) {
-        errno = EIO;
-        return -1;
-    }
+    REAL(pread);
+    if (fails_about("read", NULL, file, EIO)) return -1;
     ssize_t taken = real(file, out, count, at);
     change(out, taken, at);
     return taken;
 }
 
 ssize_t read(int file, void *out, size_t count) {
-    static ssize_t (*real)(int, void *, size_t);
-    if (!real) real = (ssize_t (*)(int, void *, size_t))dlsym(RTLD_NEXT, "read");
-    if (fails("input")) {
-        errno = EIO;
-        return -1;
-    }
-    return real(file, out, count);
+    REAL(read);
+    return fails_about("input", NULL, file, EIO) ? -1 : real(file, out, count);
 }
 
 int statx(int folder, const char *restrict path, int flags, unsigned int mask, struct statx *restrict out) {
-    static int (*real)(int, const char *, int, unsigned int, struct statx *);
-    if (!real) real = (int (*)(int, const char *, int, unsigned int, struct statx *))dlsym(RTLD_NEXT, "statx");
-    if (fails("length")) {
-        errno = EIO;
-        return -1;
-    }
-    return real(folder, path, flags, mask, out);
+    REAL(statx);
+    return fails_about("length", path, folder, EIO) ? -1 : real(folder, path, flags, mask, out);
+}
+
+off_t lseek(int file, off_t to, int from) {
+    REAL(lseek);
+    return fails_about("seek", NULL, file, EIO) ? -1 : real(file, to, from);
+}
+
+int open(const char *path, int flags, ...) {
+    REAL(open);
+    va_list more;
+    va_start(more, flags);
+    mode_t mode = flags & O_CREAT ? va_arg(more, mode_t) : 0;
+    va_end(more);
+    return fails_about(flags & O_CREAT ? "make" : "open", path, -1, EIO) ? -1 : real(path, flags, mode);
+}
+
+int openat(int folder, const char *path, int flags, ...) {
+    REAL(openat);
+    va_list more;
+    va_start(more, flags);
+    mode_t mode = flags & O_CREAT ? va_arg(more, mode_t) : 0;
+    va_end(more);
+    if (fails_about(flags & O_CREAT ? "make" : "open", path, -1, EIO)) return -1;
+    return real(folder, path, flags, mode);
+}
+
+int fcntl(int file, int asked, ...) {
+    REAL(fcntl);
+    va_list more;
+    va_start(more, asked);
+    void *word = va_arg(more, void *);
+    va_end(more);
+    int copies = asked == F_DUPFD || asked == F_DUPFD_CLOEXEC;
+    return copies && fails_about("copy", NULL, file, EMFILE) ? -1 : real(file, asked, word);
 }
 
 /* A write that fails may take some bytes; the call after it then fails with nothing taken. Standard error always works. */
 ssize_t write(int file, const void *bytes, size_t count) {
-    static ssize_t (*real)(int, const void *, size_t);
     static int is_broken;
-    if (!real) real = (ssize_t (*)(int, const void *, size_t))dlsym(RTLD_NEXT, "write");
+    REAL(write);
     if (file == 2) return real(file, bytes, count);
     if (is_broken) {
         is_broken = 0;
@@ -106,14 +184,11 @@ ssize_t write(int file, const void *bytes, size_t count) {
         return -1;
     }
     if (noted < 4096) lengths[noted++] = count;
-    if (fails("write")) {
+    if (fails_about("write", NULL, file, ENOSPC)) {
         const char *said = getenv("FAIL_TAKEN");
         long asked = said ? atol(said) : 0;
         size_t taken = asked < 0 ? count - 1 : (size_t)asked;
-        if (taken == 0 || taken >= count) {
-            errno = ENOSPC;
-            return -1;
-        }
+        if (taken == 0 || taken >= count) return -1;
         is_broken = 1;
         return real(file, bytes, taken);
     }
@@ -121,21 +196,31 @@ ssize_t write(int file, const void *bytes, size_t count) {
 }
 
 int fsync(int file) {
-    static int (*real)(int);
-    if (!real) real = (int (*)(int))dlsym(RTLD_NEXT, "fsync");
-    if (fails("sync")) {
-        errno = EIO;
-        return -1;
-    }
-    return real(file);
+    REAL(fsync);
+    return fails_about("sync", NULL, file, EIO) ? -1 : real(file);
 }
 
 int rename(const char *from, const char *to) {
-    static int (*real)(const char *, const char *);
-    if (!real) real = (int (*)(const char *, const char *))dlsym(RTLD_NEXT, "rename");
-    if (fails("rename")) {
-        errno = EACCES;
-        return -1;
-    }
-    return real(from, to);
+    REAL(rename);
+    return fails_about("rename", from, -1, EACCES) ? -1 : real(from, to);
+}
+
+int unlink(const char *path) {
+    REAL(unlink);
+    return fails_about("unlink", path, -1, EACCES) ? -1 : real(path);
+}
+
+int chmod(const char *path, mode_t mode) {
+    REAL(chmod);
+    return fails_about("chmod", path, -1, EACCES) ? -1 : real(path, mode);
+}
+
+int fchown(int file, uid_t owner, gid_t group) {
+    REAL(fchown);
+    return fails_about("chown", NULL, file, EPERM) ? -1 : real(file, owner, group);
+}
+
+int fchmod(int file, mode_t mode) {
+    REAL(fchmod);
+    return fails_about("chmod", NULL, file, EACCES) ? -1 : real(file, mode);
 }

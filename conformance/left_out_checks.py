@@ -1,14 +1,19 @@
 """Edits of the program that each leave a check out, or swap two; and the cases that then fail.
 
 Each edit: the source file, its old text (which stands there once), its new text, what it takes
-out, and the names of cases of which each must fail.
+out, and the names of cases of which each must fail. In place of cases it may name a script of the
+suite (`run`, with the name of a part behind a space) and a pattern of the line of a run of it that
+must fail (`fails`). Edits with the same word in `joins` share a build; others with a script
+are alone. `optimised` is for runs that take too long otherwise.
 """
 
 
 class Edit:
-    def __init__(self, file, old, new, takes_out, *cases):
+    def __init__(self, file, old, new, takes_out, *cases, run=None, fails=None, joins=None,
+                 optimised=False):
         self.file, self.old, self.new = file, old, new
         self.takes_out, self.cases = takes_out, cases
+        self.run, self.fails, self.joins, self.optimised = run, fails, joins, optimised
 
 
 def unless(file, condition, takes_out, *cases):

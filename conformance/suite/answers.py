@@ -36,6 +36,8 @@ def of_refused(line):
 def of_accepted(data):
     """The answers of four commands, by a reader of this suite's own."""
     movie = reader.Movie(data)
+    if reader.is_misread(movie):
+        return of_refused('refused by a misreading')
     asked = [Asked('show', None, Answer(0, None, reader.shown(movie).encode())),
              Asked('normalise', None, Answer(0, None, normal.normal_form(movie)))]
     for track in movie.tracks:

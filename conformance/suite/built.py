@@ -1,5 +1,5 @@
 """All files that are built when the suite runs."""
-from . import answers, extras, faults, normal, reader
+from . import answers, close_cases, extras, faults, lister, normal, reader
 from .boxes import Box, File, Hole, u32
 from .movies import table, wide, whole
 
@@ -26,7 +26,7 @@ class Built:
 
 def line_of(kind, named):
     name, box = named
-    return f'refused: {kind} in {name} at {box.place}'
+    return f"refused: {kind} in {lister.printed(name.encode('latin-1'))} at {box.place}"
 
 
 def broken(is_wide, first, *others):
@@ -69,9 +69,23 @@ def neighbouring_faults():
                         broken(is_wide, first, second))
 
 
-def further():
-    for extra in extras.all_extras():
+def all_extras():
+    return [*extras.all_extras(), *close_cases.all_extras()]
+
+
+def of_extras(found):
+    for extra in found:
         yield Built(extra.name, extra.reason, made(extra))
+
+
+def further():
+    return of_extras(all_extras())
+
+
+def files_in_pairs():
+    """The files of which each two are compared: not those for a close reading, of which each is
+    like one of these but for what it is for."""
+    return of_extras(extras.all_extras())
 
 
 def all_files():

@@ -1,5 +1,6 @@
 """The boxes of a file as text, read from its headers alone; and the fault of the first header that
 has one."""
+from .misreadings import taken
 
 # Which boxes are looked into, by the path of their types; the empty path is the file.
 INSIDE = {
@@ -10,6 +11,11 @@ INSIDE = {
     'moov/trak/mdia/minf': ('dinf', 'stbl'),
     'moof': ('traf',),
 }
+# For misreadings alone: types that are looked into somewhere, those that hold content, and those
+# that count their boxes.
+CONTAINERS = {kind for kinds in INSIDE.values() for kind in kinds}
+KEPT = ('udta', 'iods', 'meta', 'tref', 'elng', 'vmhd', 'smhd')
+FREE = ('free', 'skip', 'wide')
 
 
 class BadHeader(Exception):
@@ -22,6 +28,10 @@ class BadHeader(Exception):
 
 def printed(kind):
     """A type as it is printed."""
+    if taken('types-are-not-in-hexadecimal'):
+        return kind.decode('latin-1')
+    if taken('spaces-are-cut'):
+        kind = kind.strip(b' ')
     if all(0x20 <= byte <= 0x7e for byte in kind):
         return kind.decode('ascii')
     return kind.hex()
@@ -57,6 +67,19 @@ def headers(data, place, end, container='file', is_file=False):
     return found
 
 
+def opens(name, path):
+    """Whether a box at this path is looked into, and at how many bytes behind its header."""
+    if name in INSIDE.get(path, ()):
+        return 0
+    if name in CONTAINERS and taken('containers-open-anywhere'):
+        return 0
+    if name in KEPT and taken('kept-boxes-open') or name in FREE and taken('free-space-opens'):
+        return 0
+    if name in ('stsd', 'dref') and taken(f'{name}-opens'):
+        return 8
+    return None
+
+
 def lines_in(data, found, path):
     """The lines of boxes that stand at this path, and of those in them."""
     lines = []
@@ -64,9 +87,10 @@ def lines_in(data, found, path):
         name = printed(kind)
         depth = path.count('/') + bool(path)
         lines.append(f"{'  ' * depth}{name} {place} {end - place}")
-        if name in INSIDE.get(path, ()):
+        skipped = opens(name, path)
+        if skipped is not None:
             own_path = f'{path}/{name}' if path else name
-            lines += lines_in(data, headers(data, inner, end, name), own_path)
+            lines += lines_in(data, headers(data, inner + skipped, end, name), own_path)
     return lines
 
 

@@ -1,5 +1,6 @@
 """The normal form of what a file denotes, by its description."""
 from .boxes import KEPT, Box, full, i32, u16, u32, u64
+from .misreadings import taken
 
 # Kept boxes that are metadata: `--without metadata` leaves them out.
 METADATA = ('udta', 'meta', 'iods')
@@ -53,6 +54,8 @@ def movie_box(movie):
     extends = [Box('mehd', full(1) + u64(movie.length()))]
     for track in movie.tracks:
         extends.append(Box('trex', full(0) + u32(track.id) + u32(1) + bytes(12)))
+    if taken('no-mvex-without-tracks') and not movie.tracks:
+        return Box('moov', b'', boxes)
     return Box('moov', b'', boxes + [Box('mvex', b'', extends)])
 
 
@@ -127,7 +130,8 @@ def later_fragments(track, first, cuts):
     for time, _ in with_times(track):
         begun = [k for k,
                  cut in enumerate(cuts) if time * first.timescale >= cut * track.timescale]
-        numbers.append(begun[-1] if begun else 0)
+        early = -1 if cuts and taken('early-samples-have-a-fragment') else 0
+        numbers.append(begun[-1] if begun else early)
     return numbers
 
 
@@ -136,9 +140,13 @@ def pieces(movie):
     if not movie.tracks:
         return []
     first = movie.tracks[0]
+    if taken('first-track-with-samples-cuts'):
+        first = next((track for track in movie.tracks if track.samples), first)
     numbers, cuts = first_fragments(first)
     found = pieces_of(first, numbers)
-    for track in movie.tracks[1:]:
+    for track in movie.tracks:
+        if track is first:
+            continue
         found += pieces_of(track, later_fragments(track, first, cuts))
     found.sort(key=lambda one: one[0])
     return [piece(movie, number, *one[1:]) for number, one in enumerate(found, 1)]
@@ -202,6 +210,8 @@ def groupings(samples):
                 rows[-1][0] += 1
             else:
                 rows.append([1, index])
+        if taken('trailing-zeros-are-left-out') and not rows[-1][1]:
+            rows.pop()
         fields = full(0 if parameter is None else 1) + kind
         fields += b'' if parameter is None else u32(parameter)
         fields += u32(len(rows)) + b''.join(u32(count) + u32(index) for count, index in rows)

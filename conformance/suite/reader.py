@@ -6,6 +6,7 @@ It looks for no faults: it is for the wanted answers of files that are known to 
 import json
 
 from . import lister
+from .misreadings import taken
 
 
 class Node:
@@ -165,7 +166,11 @@ def edits_of(trak):
     if not rows:
         return []
     width = 8 if rows.version() else 4
-    return rows.rows(8, rows.number(4), width, -width, -2, -2)
+    rate = 2 if taken('rates-are-unsigned') else -2
+    found = rows.rows(8, rows.number(4), width, -width, rate, rate)
+    for row in found if taken('media-times-are-unsigned') else []:
+        row[1] += 256**width if row[1] < -1 else 0
+    return found
 
 
 def sizes_of(tables):
@@ -202,6 +207,11 @@ def chunks_of(tables):
     return chunks
 
 
+def flags_of(word):
+    """Flags of a sample, without the bits that are reserved."""
+    return word if taken('reserved-bits-stay') else word & 0x0FFFFFFF
+
+
 def plain_samples(tables):
     sizes = sizes_of(tables)
     count = len(sizes)
@@ -216,7 +226,7 @@ def plain_samples(tables):
         for _ in range(chunk_count):
             k = len(samples)
             flags = (depends.number(4 + k, 1) if depends else 0) << 20
-            flags = (flags | (k + 1 not in named) << 16) & 0x0FFFFFFF
+            flags = flags_of(flags | (k + 1 not in named) << 16)
             samples.append(
                 Sample(durations[k], offsets[k], flags, description, place, sizes[k])
             )
@@ -241,6 +251,8 @@ def group(container, samples):
 def key_of(box):
     """The grouping key of an `sbgp`: its type, and its parameter in version 1."""
     kind = bytes(box.data[box.inner + 4:box.inner + 8])
+    if taken('parameter-zero-is-none') and box.version() == 0:
+        return kind, 0
     return kind, box.number(8) if box.version() == 1 else None
 
 
@@ -257,11 +269,13 @@ def optional(box, flags, at, *bits):
 def read_fragment(moof, movie):
     base = moof.place
     for traf in moof.all('traf'):
-        base = read_track_fragment(traf, moof.place, base, movie)
+        end, count = read_track_fragment(traf, moof.place, base, movie)
+        if count or not taken('empty-traf-has-no-place'):
+            base = end
 
 
 def read_track_fragment(traf, moof_place, base, movie):
-    """Adds the samples of a `traf` to its track; answers where its data ends."""
+    """Adds the samples of a `traf` to its track; answers where its data ends, and their number."""
     head = traf.one('tfhd')
     track, flags = movie.track(head.number(4)), head.flags()
     at = 8
@@ -280,7 +294,7 @@ def read_track_fragment(traf, moof_place, base, movie):
     if samples and not track.samples and time:
         track.start = time.number(4, 8 if time.version() else 4)
     track.samples += samples
-    return place
+    return place, len(samples)
 
 
 def read_run(run, base, place, defaults, samples):
@@ -300,10 +314,25 @@ def read_run(run, base, place, defaults, samples):
         if run.version() == 1 and offset >= 1 << 31:
             offset -= 1 << 32
         samples.append(
-            Sample(duration, offset, own_flags & 0x0FFFFFFF, defaults[0], place, size)
+            Sample(duration, offset, flags_of(own_flags), defaults[0], place, size)
         )
         place += size
     return place
+
+
+def is_misread(movie):
+    """Whether a misreading that is taken for right refuses the file."""
+    samples = [sample for track in movie.tracks for sample in track.samples]
+    if taken('sample-begins-in-the-file'):
+        return any(sample.place >= len(movie.data) for sample in samples)
+    if taken('kept-versions-are-judged'):
+        kept = [box for track in movie.tracks
+                for box in track.media.all('elng') + track.information.all('vmhd', 'smhd')]
+        return any(bytes(box.payload()[:1]) != b'\0' for box in kept)
+    if taken('composition-times-are-limited'):
+        return any(int(line.split()[2]) >= 1 << 63
+                   for track in movie.tracks for line in lines_of(track).splitlines())
+    return False
 
 
 def shown(movie):
@@ -320,7 +349,10 @@ def shown(movie):
         'timescale': track.timescale,
     } for track in movie.tracks]
     whole = {'mehd': movie.length(), 'timescale': movie.timescale, 'tracks': tracks}
-    return json.dumps(whole, separators=(',', ':'), sort_keys=True) + '\n'
+    text = json.dumps(whole, separators=(',', ':'), sort_keys=True)
+    if taken('types-are-not-escaped'):
+        text = text.replace('\\"', '"').replace('\\\\', '\\')
+    return text + '\n'
 
 
 def handler_of(track):

@@ -38,7 +38,8 @@ fn read_list(rt: &HostRuntime, list: Option<Input>) -> Result<Vec<u8>, Refusal> 
     }
 }
 
-// A name as it stands in a verdict: as it is where a zero byte ends it, else as people are shown it.
+// A name as it stands in a verdict: as it is where a zero byte ends it, else as people are shown
+// it.
 fn named(alloc: Global, name: &[u8], end: u8) -> Result<Vec<u8>, AllocError> {
     if end != 0 {
         return shown(alloc, name);

@@ -225,7 +225,11 @@ fn all_text<S: Store, T: Store, L: Ledger>(
     let is_whole = is_whole && listed.all.len() <= MOST;
     let tally = Tally::of(all);
     // Of a list that was cut the rest isn't known: then all words are tried.
-    let more = if is_whole { tally.suggests(leaving) } else { Some(EVERYTHING) };
+    let more = if is_whole {
+        tally.suggests(leaving)
+    } else {
+        Some(EVERYTHING)
+    };
     let enough = enough_of(alloc, left, a, right, b, more, steps)?;
     Ok(Some(listed_text(alloc, all, limit, is_whole, &tally, enough)?))
 }

@@ -57,12 +57,7 @@ fn answer<L: Ledger, M: Ledger>(
 
 // The names of the files that a failure is about, as people are shown them; both where it is about
 // neither.
-fn names_of(
-    alloc: Global,
-    left: Input,
-    right: Input,
-    side: Side,
-) -> Result<Vec<u8>, AllocError> {
+fn names_of(alloc: Global, left: Input, right: Input, side: Side) -> Result<Vec<u8>, AllocError> {
     let mut text = Vec::new(alloc);
     if !matches!(side, Side::Second) {
         push_shown(&mut text, left.name().as_bytes())?;

@@ -1,16 +1,13 @@
 //! A new file beside another one, whose place it takes once it is whole.
 ghost use Rattle.std.specs.Prelude.{◌≡◌, ◌++◌, IfOk, string_bytes, codes, decimal};
 
-use crate::reports::Report;
-use crate::reports::tell_name;
+use crate::reports::{Report, tell_name};
 use mp4_boxes::Refusal;
 use std::alloc::{AllocError, Global};
-use std::fs;
 use std::fs::{File, Metadata, OpenOptions, Permissions};
-use std::io;
 use std::io::{ErrorKind, Read};
 use std::os::unix::fs::{MetadataExt, OpenOptionsExt, PermissionsExt, fchown};
-use std::process;
+use std::{fs, io, process};
 
 /// So many names are tried for a new file.
 const MOST_NAMES: u32 = 1000;
@@ -91,7 +88,11 @@ fn tell_leftovers(rt: &HostRuntime, name: &str) -> io::Result<()> {
         let found = entry.file_name();
         if process_in(found, beside).is_some_and(|process| is_gone(rt, process)) {
             let front = name.strip_suffix(beside).unwrap_or("");
-            tell_name(rt, b"leftover: ", format!(in rt.alloc(); "{front}{found}")?.as_str());
+            tell_name(
+                rt,
+                b"leftover: ",
+                format!(in rt.alloc(); "{front}{found}")?.as_str(),
+            );
         }
     }
     Ok(())
@@ -108,7 +109,11 @@ fn create(rt: &HostRuntime, name: &str) -> io::Result<File> {
 
 impl Part {
     /// Makes a file beside another one. What interrupted runs left there stays.
-    pub(crate) fn new(rt: &HostRuntime, beside: &str, report: &mut Report) -> Result<Part, Refusal> {
+    pub(crate) fn new(
+        rt: &HostRuntime,
+        beside: &str,
+        report: &mut Report,
+    ) -> Result<Part, Refusal> {
         if report.explains() {
             let _ = tell_leftovers(rt, beside);
         }
@@ -138,9 +143,9 @@ impl Part {
         }
     }
 
-    /// Gives the file the rights of the one of this name, or of a new one where there is none, waits
-    /// until it has reached the disk, and gives it that name. False where another file has taken
-    /// its place.
+    /// Gives the file the rights of the one of this name, or of a new one where there is none,
+    /// waits until it has reached the disk, and gives it that name. False where another file has
+    /// taken its place.
     pub(crate) fn put_in_place(&self, rt: &HostRuntime, name: &str) -> io::Result<bool> {
         self.file.sync_all()?;
         give_rights(rt, &self.file, replaced(rt, name)?)?;
@@ -202,7 +207,10 @@ fn mask(rt: &HostRuntime) -> u32 {
         return USUAL_MASK;
     };
     let label = b"\nUmask:\t";
-    match front[..len].windows(label.len()).position(|part| part == label.as_slice()) {
+    match front[..len]
+        .windows(label.len())
+        .position(|part| part == label.as_slice())
+    {
         Some(at) => octal(&front[at + label.len()..len]),
         None => USUAL_MASK,
     }

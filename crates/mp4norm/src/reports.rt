@@ -73,8 +73,8 @@ impl<'a> Report<'a> {
         }
     }
 
-    /// What comes of a step that the system takes. Where it fails, its cause is kept; want of memory
-    /// stays that.
+    /// What comes of a step that the system takes. Where it fails, its cause is kept; want of
+    /// memory stays that.
     pub(crate) fn outcome<T>(
         &mut self,
         step: io::Result<T>,

@@ -22,8 +22,8 @@ IsAction _ = Unit {0}
 -- the boxes of standard input
 abbrev pub boxes_of_input : Action
 boxes_of_input = actions.Run jobs.Boxes (record {
-      input = inputs.Standard;
-      target = targets.Standard;
-      most = None;
-      telling = record { explain = false; progress = false };
-    })
+  input = inputs.Standard;
+  target = targets.Standard;
+  most = None;
+  telling = record { explain = false; progress = false };
+})

@@ -1,0 +1,224 @@
+"""Lines of words that `failures` runs while calls fail, and what is due of each where none does.
+
+What is due is the suite's own: answers that are stored, or its own reading of the file.
+"""
+import json
+import os
+import struct
+
+from suite import lister, long, normal, reader, strips
+
+HERE = os.path.dirname(os.path.abspath(__file__))
+# Bytes of a free box that lies before each of a file's own boxes but the data, so that no read has
+# two.
+GAP = 200_000
+# Bytes of a user data box in a long head.
+LONG = 140_000
+DROPPED = [strips.Name(b'mfhd'), strips.Name(b'hdlr', 'mdia'), strips.Name(b'mdat')]
+DROP = ['--drop', ','.join(name.word for name in DROPPED)]
+OLD = b'as it was'
+
+
+def bytes_of(folder, name):
+    with open(os.path.join(HERE, folder, name), 'rb') as file:
+        return file.read()
+
+
+PLAIN = bytes_of('files', 'plain.mp4')
+NORMAL = bytes_of('wanted', 'plain.normal.mp4')
+SAMPLES = bytes_of('wanted', 'plain.samples.txt')
+COLUMNS = b'number decode_time composition_time duration flags description size\n'
+DATA = b'aaaaabbbbbbb'
+# Its last byte is missing.
+CUT = PLAIN[:-1]
+CUT_LINE = b'refused: Overrun in mdat at 541\n'
+CUT_WORDS = (rb'way: mdat\nclause: ISO/IEC 14496-12, 8\.1\.1\nmeaning: [^\n]+\n'
+             + CUT_LINE)
+GAP_WORDS = (rb'way: moof 2 / traf / tfdt\nclause: ISO/IEC 14496-12, 8\.8\.12\nmeaning: [^\n]+\n'
+             rb'numbers: track 1: time 1024, due 1536\nrefused: Gap in tfdt at (\d+)\n')
+
+
+class Case:
+    """A line of words; `files` are those that it reads, `there` is what NEW is before. Due where
+    nothing fails: status, standard error (a pattern), standard output, NEW. `long` names the
+    calls of which it makes many. `refused` is the line of a refusal that is explained."""
+
+    def __init__(self, name, words, files, status=0, said=b'', put=b'', made=None, there=None,
+                 given=None, long=(), refused=None):
+        self.name, self.words, self.files = name, words, files
+        self.status, self.said, self.put, self.made = status, said, put, made
+        self.there, self.given, self.long, self.refused = there, given, long, refused
+        self.command = words[0] if words else 'boxes-input'
+        self.last_line = said[said.rfind(b'\n', 0, -1) + 1:]
+
+    def has(self, word):
+        return word in self.words
+
+
+def of(name, command, data, whole, *options, **due):
+    """A command on `in.mp4`; it puts what is due to NEW where it makes one."""
+    words = [command, 'in.mp4', *options]
+    if command in ('extract', 'normalise', 'strip') and '--out' not in options:
+        return Case(name, [*words, '--out', 'new'], {'in.mp4': data}, made=whole, **due)
+    return Case(name, words, {'in.mp4': data}, put=whole, **due)
+
+
+def spread(left):
+    """A fragmented file with a free box before its `moov` and before each `moof`: the data that a
+    `moof` points to from its own place stays behind it."""
+    made = b''
+    while left:
+        length, kind = struct.unpack('>I4s', left[:8])
+        if kind in (b'moov', b'moof'):
+            made += struct.pack('>I4s', GAP, b'free') + bytes(GAP - 8)
+        made, left = made + left[:length], left[length:]
+    return made
+
+
+def grown(whole):
+    """A file with a user data box in its `moov`, before the `trak`, where it also stands in the
+    normal form. No place of data in it is counted from its first byte."""
+    moov, trak = whole.index(b'moov') - 4, whole.index(b'trak') - 4
+    (length,) = struct.unpack('>I', whole[moov:moov + 4])
+    kept = struct.pack('>I4s', LONG, b'udta') + bytes(at % 251 for at in range(LONG - 8))
+    start = whole[:moov] + struct.pack('>I', length + LONG)
+    return start + whole[moov + 4:trak] + kept + whole[trak:]
+
+
+def objects():
+    """The lines of plain.mp4's samples as JSON."""
+    names = COLUMNS.decode().split()
+    text = ''
+    for row in SAMPLES.decode().splitlines():
+        made = dict(zip(names, row.split()))
+        numbers = {key: int(value, 16 if key == 'flags' else 10) for key, value in made.items()}
+        text += json.dumps(numbers, sort_keys=True, separators=(',', ':')) + '\n'
+    return text.encode()
+
+
+def reduced(data, words):
+    return normal.normal_form(reader.Movie(data).leave_out(words))
+
+
+def stripped(name, data, *options, **due):
+    _, said, whole = strips.stripped(data, DROPPED)
+    return of(name, 'strip', data, whole, *DROP, *options, said=said, **due)
+
+
+def of_one_file():
+    """Each command, with and without its options, on files of the suite."""
+    boxes = bytes_of('wanted', 'plain.boxes.txt')
+    show = bytes_of('wanted', 'plain.show.json')
+    yield Case('plain', [], {}, put=boxes, given=PLAIN)
+    yield of('plain', 'boxes', PLAIN, boxes)
+    yield of('plain', 'boxes', PLAIN, boxes, '--explain')
+    yield of('plain', 'show', PLAIN, show)
+    yield Case('standard input', ['show', '-', '--explain'], {}, put=show, given=PLAIN)
+    yield of('plain', 'samples', PLAIN, SAMPLES, '--track', '1')
+    yield of('plain', 'samples', PLAIN, COLUMNS + SAMPLES, '--track', '1', '--header')
+    yield of('plain', 'samples', PLAIN, objects(), '--track', '1', '--json')
+    yield of('plain', 'extract', PLAIN, DATA, '--track', '1')
+    for name in ('plain', 'two-fragments', 'two-tracks-cut-at-sync-samples', 'edits',
+                 'kept-box-with-ilob', 'sample-group'):
+        yield of(name, 'normalise', bytes_of('files', name + '.mp4'),
+                 bytes_of('wanted', name + '.normal.mp4'))
+    two = bytes_of('files', 'two-fragments.mp4')
+    normal_two = bytes_of('wanted', 'two-fragments.normal.mp4')
+    yield stripped('two-fragments', two)
+    yield of('two-fragments far apart', 'normalise', spread(two), normal_two)
+    yield of('two-fragments with a long head', 'normalise', grown(two), grown(normal_two))
+    edits = bytes_of('files', 'edits.mp4')
+    yield of('edits', 'normalise', edits, reduced(edits, ('edits', 'times')), '--without',
+             'edits,times')
+    yield of('plain', 'normalise', PLAIN, NORMAL, '--progress')
+    yield of('plain', 'normalise', PLAIN, NORMAL, '--max-bytes', str(len(NORMAL)))
+    yield of('plain', 'extract', PLAIN, b'', '--track', '1', '--out', '-', '--max-bytes', '11',
+             '--explain', status=3,
+             said=b'file: -\ncause: more than 11 bytes\nfailed: write\n')
+    yield of('plain', 'normalise', PLAIN, NORMAL, '--out', '-', '--explain')
+    for refused in ('show', 'boxes'):
+        yield of('cut', refused, CUT, b'', '--explain', status=1, said=CUT_WORDS, refused=CUT_LINE)
+    gap = bytes_of('files', 'gap-between-fragments.mp4')
+    yield of('gap', 'show', gap, b'', '--explain', status=1, said=GAP_WORDS,
+             refused=b'refused: Gap in tfdt at %d\n' % (gap.rindex(b'tfdt') - 4))
+
+
+def that_replace():
+    """Where NEW is there, or isn't."""
+    two = bytes_of('files', 'two-fragments.mp4')
+    for there in (OLD, None):
+        yield of(f'plain over {there}', 'normalise', PLAIN, NORMAL, '--replace', there=there)
+    yield of('plain', 'extract', PLAIN, DATA, '--track', '1', '--replace', '--explain', there=OLD)
+    yield stripped('two-fragments', two, '--replace', '--progress', there=OLD)
+    yield of('plain', 'normalise', PLAIN, reduced(PLAIN, ('times',)), '--without', 'times',
+             '--replace', '--explain', there=OLD)
+    yield of('plain', 'normalise', PLAIN, NORMAL, '--replace', '--explain', '--progress', there=OLD)
+    yield of('cut', 'normalise', CUT, OLD, '--replace', '--explain', status=1, said=CUT_WORDS,
+             refused=CUT_LINE, there=OLD)
+    yield of('no track', 'extract', PLAIN, OLD, '--track', '7', '--replace', status=4,
+             said=b'failed: no such track\n', there=OLD)
+
+
+def of_two_files():
+    """Comparisons: of the same, of others, of all there is, with standard input."""
+    other = PLAIN.replace(b'bbbbbbb', b'bbbxbbb')
+    line = b'track 1: sample 3: byte 4 of 7: 62 | 78\n'
+    last = b'1 difference: bytes 1; no words of --without make them the same\n'
+    first = bytes_of('files', 'first-normal-form.mp4')
+    both = {'a.mp4': PLAIN, 'b.mp4': other}
+    yield Case('the same', ['compare', 'a.mp4', 'b.mp4'], {'a.mp4': PLAIN, 'b.mp4': first})
+    yield Case('others', ['compare', 'a.mp4', 'b.mp4'], both, status=5, put=line)
+    yield Case('without', ['compare', 'a.mp4', 'b.mp4', '--without', 'times,groups'], both,
+               status=5, put=line)
+    yield Case('all', ['compare', 'a.mp4', 'b.mp4', '--all'], both, status=5, put=line + last)
+    yield Case('with standard input', ['compare', 'a.mp4', '-'], {'a.mp4': PLAIN}, status=5,
+               put=line, given=other)
+    yield Case('standard input first', ['compare', '-', 'b.mp4'], {'b.mp4': other}, status=5,
+               put=line, given=PLAIN)
+    data = long.with_far_fragments().filled()
+    yield Case('far fragments', ['compare', 'a.mp4', 'b.mp4'], {'a.mp4': data, 'b.mp4': data},
+               long=('read',))
+
+
+def of_many_files():
+    """Verdicts, a line each."""
+    one, two = b'in.mp4: accepted\n', b'cut.mp4: ' + CUT_LINE
+    more = b'more.mp4: accepted\n'
+    files = {'in.mp4': PLAIN, 'cut.mp4': CUT}
+    yield Case('one', ['check', 'in.mp4'], {'in.mp4': PLAIN}, put=one)
+    yield Case('two', ['check', 'in.mp4', 'cut.mp4'], files, status=1, put=one + two)
+    yield Case('a list', ['check', 'cut.mp4', '--names-from', 'list'],
+               {**files, 'more.mp4': PLAIN, 'list': b'in.mp4\0more.mp4\0'}, status=1,
+               put=two + one + more)
+    yield Case('a list in a pipe', ['check', '--zero', '--names-from', '-'],
+               {**files, 'more.mp4': PLAIN}, status=1, given=b'more.mp4\0cut.mp4\0in.mp4',
+               put=(more + two + one).replace(b'\n', b'\0'))
+
+
+def that_are_long():
+    """Commands on files that take many calls."""
+    data = long.with_long_pieces().spelled()
+    movie = reader.Movie(data)
+    boxes, _ = lister.listed(data)
+    calls = ('read', 'write')
+    yield Case('long pieces', [], {}, put=boxes.encode(), given=data, long=('input',))
+    yield of('long pieces', 'normalise', data, normal.normal_form(movie), long=calls)
+    yield of('long pieces', 'extract', data, reader.extracted(movie, movie.track(1)), '--track',
+             '1', long=calls)
+    yield stripped('long pieces', data, long=calls)
+    far = long.with_far_fragments().filled()
+    yield of('far fragments', 'show', far, reader.shown(reader.Movie(far)).encode(), long=('read',))
+    many = long.with_many_samples().spelled()
+    lines = reader.lines_of(reader.Movie(many).track(1)).encode()
+    yield of('many samples', 'samples', many, lines, '--track', '1', long=('write',))
+
+
+def of_no_file():
+    """What is put of the program itself; `None` is any text."""
+    for words in (['--help'], ['compare', '--help'], ['--version']):
+        yield Case('words', words, {}, put=None)
+
+
+def all_cases():
+    for part in (of_one_file, that_replace, of_two_files, of_many_files, that_are_long, of_no_file):
+        yield from part()

@@ -1,0 +1,349 @@
+"""Edits of the program at its edges: what lies between its proved parts and the person, the file
+system and other programs. Each names the script of the suite that refuses it, and a pattern of the
+line of a run that must fail.
+
+Edits that share a build (`joins`) touch different commands or different runs.
+"""
+from left_out_checks import Edit
+
+CHECKING = 'mp4norm/src/checking.rt'
+COMMANDS = 'mp4norm/src/commands.rt'
+COMPARING = 'mp4norm/src/comparing.rt'
+COMPARES = 'mp4norm/src/comparing_runs.rt'
+DESCRIPTORS = 'mp4norm/src/descriptors.rt'
+EXPLAINING = 'mp4norm/src/explaining.rt'
+FILE_NAMES = 'mp4norm/src/file_names.rt'
+INPUT = 'mp4norm/src/input.rt'
+LINE = 'mp4norm/src/command_line.rt'
+MAIN = 'mp4norm/src/main.rt'
+PARTS = 'mp4norm/src/part_files.rt'
+PROGRESS = 'mp4norm/src/progress.rt'
+REPLACING = 'mp4norm/src/replacing.rt'
+REPORTS = 'mp4norm/src/reports.rt'
+RUNS = 'mp4norm/src/runs.rt'
+SOURCES = 'mp4norm/src/sources.rt'
+TARGETS = 'mp4norm/src/targets.rt'
+WATCHING = 'mp4norm/src/watching.rt'
+COUNTS = 'mp4_present/src/fault_counts.rt'
+PLACES = 'mp4_present/src/fault_places.rt'
+SINK = 'mp4_store/src/io_sink.rt'
+
+# ---- explanations
+
+# A clause, and one of the types whose boxes it tells of.
+CLAUSES = (
+    ('4.3', 'ftyp'), ('8.1.1', 'mdat'), ('8.1.2', 'free'), ('8.1.3', 'pdin'), ('8.2.1', 'moov'),
+    ('8.2.2', 'mvhd'), ('8.3.1', 'trak'), ('8.3.2', 'tkhd'), ('8.3.3', 'tref'), ('8.4.1', 'mdia'),
+    ('8.4.2', 'mdhd'), ('8.4.3', 'hdlr'), ('8.4.4', 'minf'), ('8.4.5', 'smhd'), ('8.4.6', 'elng'),
+    ('8.5.1', 'stbl'), ('8.5.2', 'stsd'), ('8.6.1.2', 'stts'), ('8.6.1.3', 'ctts'),
+    ('8.6.1.4', 'cslg'), ('8.6.2', 'stss'), ('8.6.3', 'stsh'), ('8.6.4', 'sdtp'),
+    ('8.6.5', 'edts'), ('8.6.6', 'elst'), ('8.7.1', 'dinf'), ('8.7.2', 'urn '), ('8.7.3', 'stz2'),
+    ('8.7.4', 'stsc'), ('8.7.5', 'co64'), ('8.7.7', 'subs'), ('8.7.8', 'saiz'), ('8.7.9', 'saio'),
+    ('8.8.1', 'mvex'), ('8.8.2', 'mehd'), ('8.8.3', 'trex'), ('8.8.4', 'moof'), ('8.8.5', 'mfhd'),
+    ('8.8.6', 'traf'), ('8.8.7', 'tfhd'), ('8.8.8', 'trun'), ('8.8.9', 'mfra'),
+    ('8.8.10', 'tfra'), ('8.8.11', 'mfro'), ('8.8.12', 'tfdt'), ('8.9.2', 'sbgp'),
+    ('8.9.3', 'sgpd'), ('8.10.1', 'udta'), ('8.11.1', 'meta'), ('8.12.1', 'sinf'),
+    ('8.12.5', 'schm'), ('8.16.2', 'styp'), ('8.16.3', 'sidx'), ('8.16.5', 'prft'),
+    ('4.2', 'abcd'))
+MEANINGS = {
+    'ShortHeader': 'a box is due, and its header is cut short',
+    'BadSize': 'the size is smaller than the header, or is 0 inside a container',
+    'Overrun': 'the box ends behind its container',
+    'ShortBox': 'the box has no room for its fields or rows',
+    'BoxNotInProfile': 'the profile has no such box there; strip can make it free space',
+    'DuplicateBox': 'the box is one too many',
+    'MissingBox': 'the container lacks a box that the profile wants',
+    'BadVersion': 'the box has a version that the profile does not have',
+    'BadFlags': 'the box has flags that the profile does not have',
+    'BadValue': 'a field has a value that is not allowed',
+    'OutsideData': 'the data is not in this file alone',
+    'CountMismatch': 'the table counts other than the samples are',
+    'BadOrder': 'rows do not rise, or do not begin at 1',
+    'BadDescriptionIndex': 'a sample has no description',
+    'SampleOutsideFile': 'a sample does not lie in the file',
+    'UnknownTrack': 'the fragment is of a track that the movie does not have',
+    'Gap': 'the fragment begins at another time than is due',
+    'OffsetTooLarge': 'a table of version 0 has an offset of 2^31 or more',
+    'ItemLocation': 'a kept box holds the letters iloc, and so may name places in the file',
+    'TooManySamples': 'with this box there are more than 2^24 samples',
+    'TimeTooLarge': 'the track ends, or is, too long for its times',
+    'MovieTooLarge': 'the normal form would have a moov of more than 2^30 bytes',
+    'FragmentBeforeMovie': 'no moov stands before the fragment'}
+CAUSES = {
+    'there is no such file or directory': 'the cause of ENOENT',
+    'it is there already': 'the cause of EEXIST',
+    'there is no permission': 'the cause of EACCES',
+    'it is a directory': 'the cause of EISDIR',
+    'what should be a directory is none': 'the cause of ENOTDIR',
+    'there is no room': 'the cause of ENOSPC',
+    'it would be too long': 'the cause of EFBIG',
+    'whoever reads it has gone': 'the cause of EPIPE',
+    'nothing can be written there': 'the cause of EROFS',
+    'it is no regular file': 'no regular file',
+    'the name is too long': 'the cause of ENAMETOOLONG',
+    'it would have to wait': 'the cause of EAGAIN',
+    'an error of the system': 'the cause of EIO'}
+
+
+def of_explanations(joins='explanations'):
+    """Each clause, each meaning, each cause; and numbers."""
+    def edit(*words, fails):
+        return Edit(*words, run='explains', fails=fails, joins=joins, optimised=True)
+    for clause, kind in CLAUSES:
+        yield edit(EXPLAINING, f'=> "{clause}",', '=> "9.9",', f'the clause of {kind} is another',
+                   fails=f'the clause of {kind}:')
+    for kind, text in MEANINGS.items():
+        yield edit(EXPLAINING, f'"{text}"', '"another thing is wrong"',
+                   f'the meaning of {kind} is another', fails=f'the meaning of {kind}:')
+    for text, fails in CAUSES.items():
+        yield edit(REPORTS, f'=> "{text}",', '=> "another thing",',
+                   f'the cause "{text}" is another', fails=fails)
+    yield edit(RUNS, '"it can\'t be read"', '"it is so"', 'the cause of a failed read is another',
+               fails='the cause of a failed read')
+    yield edit(COUNTS, 'b"stts" | b"ctts" => counted_by_rows(payload, 4),',
+               'b"stts" => counted_by_rows(payload, 4),\n        b"ctts" => Some(7),',
+               'ctts is always told to count 7 samples', fails=r'numbers of .*: ctts:')
+    yield edit(PLACES, 'if k % 2 == 0 { byte / 16 } else { byte % 16 }',
+               'if k % 2 == 0 { byte % 16 } else { byte / 16 }',
+               'the two sizes in a byte of stz2 are swapped in numbers',
+               fails='numbers of nibbles:')
+    yield edit(PLACES, 'if u64::from(first) <= u64::from(chunk) + 1 {',
+               'if u64::from(first) <= u64::from(chunk) + 1 && false {',
+               'later rows of stsc are passed over in numbers',
+               fails='numbers of the third row of stsc:')
+    yield edit(RUNS, 'if order.telling.explain {',
+               'if order.telling.explain && !order.telling.progress {',
+               '--explain is dropped beside --progress',
+               fails=r"--explain \['--progress'\] of a cut file")
+
+
+HELP = {0: 'all is done', 1: 'refused: the file has a fault; its kind, box and place are named',
+        2: 'failed: memory', 3: 'failed: store, failed: store changed, failed: write',
+        4: 'failed: no such track', 5: 'compare: the files differ', 64: 'the arguments are invalid'}
+
+
+def of_help(joins='help'):
+    """Each status that the help names."""
+    for status, text in HELP.items():
+        row = f'  {status:<4}{text}\n'
+        yield Edit(COMMANDS, row, f'  {status:<4}something\n',
+                   f'what the help says of status {status}', run='lines',
+                   fails=f'what the help says of status {status}$', joins=joins)
+    yield Edit(COMMANDS, f'  64  {HELP[64]}\n', f'  65  {HELP[64]}\n',
+               'a status that the help names', run='lines',
+               fails='the statuses that the help names', joins='a status')
+    yield Edit(MAIN, 'CommandFault::Help(text) => end(rt, put_text(rt, text.as_str())),',
+               'CommandFault::Help(text) => {\n            let _ = put_text(rt, text.as_str());\n'
+               '            ExitCode::SUCCESS\n        }',
+               '--help to a full disk has status 0', run='descriptors full_devices',
+               fails='--help to a full device', joins=joins)
+
+
+# ---- verdicts and comparisons
+
+JUDGED = 'let answer = check(rt.alloc(), &mut source);'
+LISTED = 'Ok(name) => answer_of(rt, Input::File { name }),'
+PUT_LISTED = 'put_verdict(rt.alloc(), name.as_slice(), &answer, end, sink)?;'
+WORST = 'Ok(worst.max(check_list(rt, list.as_slice(), end, &mut sink)?))'
+
+
+def of_verdicts(joins='verdicts'):
+    return [
+        Edit(CHECKING, JUDGED,
+             'let answer = match check(rt.alloc(), &mut source) {\n'
+             '        Err(Refusal::StoreFailed) => Ok(()),\n        answer => answer,\n    };',
+             'a failed read is told as accepted', run='failures check',
+             fails=r'check in.mp4, one: \d+ times read of in.mp4 rest', joins=joins),
+        Edit(CHECKING, LISTED,
+             'Ok(name) => match answer_of(rt, Input::File { name }) {\n'
+             '            Err(Refusal::Memory) => Ok(()),\n'
+             '            answer => answer,\n        },',
+             'want of memory is told as accepted', run='failures check',
+             fails=r'check cut.mp4 --names-from list, a list: \d+ times alloc', joins=joins),
+        Edit(CHECKING, '    source.settled(answer)\n', '    answer\n',
+             'a file that changed is told as accepted', run='changes in_checks',
+             fails='one that was accepted grows', joins=joins),
+        Edit(CHECKING, WORST,
+             'let listed = check_list(rt, list.as_slice(), end, &mut sink)?;\n'
+             '    Ok(if list.is_empty() { worst } else { listed })',
+             'the status of words is lost beside --names-from', run='checks statuses',
+             fails="the status of .'cut.mp4'. and b'plain.mp4'", joins=joins),
+        Edit(CHECKING, PUT_LISTED, PUT_LISTED.replace('end,', "b'\\n',"),
+             '--zero is ignored for a list', run='names names_in_checks',
+             fails=r"a list \['--zero'\]", joins=joins),
+        Edit(CHECKING, '    while !left.is_empty() {\n        let (name, rest)',
+             '    let mut passed = 0;\n    while !left.is_empty() && passed < 2000 {\n'
+             '        passed += 1;\n        let (name, rest)',
+             'a list is cut after 2,000 names', run='checks long_lists',
+             fails='a list of 5000 names in a pipe', joins=joins),
+    ]
+
+
+ALL_OF = 'compare_all(alloc, left, a, right, b, leaving, &mut listed, steps)?;'
+RIGHT = 'open(rt, right, &mut report)'
+
+
+def of_comparisons(joins='comparisons'):
+    return [
+        Edit(COMPARES, '        Err(failure) => {\n            tell(',
+             '        Err(Failure { side: Side::Both, .. }) => ExitCode::SUCCESS,\n'
+             '        Err(failure) => {\n            tell(',
+             'a failure of both sides of compare has status 0', run='failures far',
+             fails=r'compare .*far fragments: \d+ times read rest', joins=joins,
+             optimised=True),
+        Edit(COMPARES, 'if is_settled(&answer) {', 'if is_settled(&answer) && false {',
+             'compare does not look at changes', run='changes in_comparisons',
+             fails=r'compare \[\]: a.mp4 grows', joins=joins),
+        Edit(COMPARES, RIGHT,
+             'open(rt, if matches!(right, Input::Standard) { left } else { right }, &mut report)',
+             'compare A - compares A with itself', run='descriptors closed',
+             fails=r'compare plain.mp4 -, closed \(\)', joins=joins),
+        Edit(COMPARES, RIGHT,
+             'open(rt, if matches!(right, Input::Standard) { Input::File { name: "-" } } '
+             'else { right }, &mut report)',
+             'compare A - reads a file of that name', run='names no_other_file',
+             fails='a file that is named -: compare', joins='limits'),
+        Edit(COMPARING, 'iter().take(limit as usize)', 'iter().take(limit.max(1) as usize)',
+             '--limit 0 lists a difference', run='limits differences',
+             fails=r"a list with the limit \['--limit', '0'\]", joins=joins, optimised=True),
+        Edit(LINE, 'const LIMIT: u32 = 100;', 'const LIMIT: u32 = 1000;',
+             'a thousand differences are listed where no number is given', run='limits differences',
+             fails=r'a list with the limit \[\]', joins=joins, optimised=True),
+        Edit(COMPARING, 'const MOST: usize = 1 << 20;', 'const MOST: usize = 1 << 12;',
+             'the list of differences is cut at 4,096', run='limits differences',
+             fails='a list of exactly', joins='limits', optimised=True),
+        *(Edit(COMPARING, ALL_OF,
+               ALL_OF.replace('leaving,', f'Leaving {{ {word}: false, ..leaving }},'),
+               f'--all ignores {word} among the words of --without', run='compares',
+               fails=rf"compare --all .*\('{word}',\)", joins=f'without {word}', optimised=True)
+          for word in ('times', 'edits', 'flags', 'groups', 'metadata')),
+    ]
+
+
+# ---- files that are read, and made
+
+SETTLED = '    source.settled(answer)\n'
+
+
+def no_look(job):
+    return (f'    if matches!(job, Job::{job} {{ .. }}) {{\n        return answer;\n    }}\n'
+            f'{SETTLED}')
+
+
+def of_files():
+    return [
+        *(Edit(TARGETS, SETTLED, no_look(job), f'{words} does not look at changes',
+               run='changes changed_files', fails=f'{words} .*: grow', joins=joins, optimised=True)
+          for job, words, joins in (('Samples', 'samples', 'without times'),
+                                    ('Strip', 'strip', 'without edits'),
+                                    ('Reduce', 'normalise --without', 'without flags'))),
+        Edit(REPLACING, 'Ok(()) => put_in_place(rt, &part, name, report),',
+             'Ok(()) | Err(Refusal::StoreChanged) => put_in_place(rt, &part, name, report),',
+             'NEW is replaced though the file changed', run='changes changed_early',
+             fails='normalise in.mp4 --out new --replace: it grows', joins='replacing'),
+        Edit(WATCHING, 'Ok(state) if state == self.first => Ok(()),',
+             'Ok(state) if state.len == self.first.len && state.modified == self.first.modified '
+             '=> Ok(()),',
+             'other rights and times that were put back are no change', run='changes changed_early',
+             fails='show in.mp4: it has its times put back', joins='replacing'),
+        Edit(RUNS, 'Target::Replaced { name } => return replace(rt, job,',
+             'Target::Replaced { name } => return replace(rt, if matches!(job, Job::Reduce { .. }) '
+             '{ Job::Normalise } else { job },',
+             '--without is dropped beside --replace', run='replaces reduced_files',
+             fails='--without --replace: files', joins='whole'),
+        Edit(PARTS, 'const OWNERS: u32 = 0o600;', 'const OWNERS: u32 = 0o644;',
+             'others may read what is written beside NEW', run='replaces rights_of_parts',
+             fails='rights .*: the part:', joins='replacing'),
+        Edit(PARTS, 'file.set_permissions(Permissions::from_mode(rights))',
+             'file.set_permissions(Permissions::from_mode(rights & OWNERS))',
+             'NEW does not get the rights of the file that it replaces',
+             run='replaces rights_of_parts', fails='rights .*: NEW:', joins='replacing'),
+        Edit(PARTS, 'if !self.is_there(rt)? {', 'if !self.is_there(rt)? && false {',
+             'another file is renamed in place of the new one', run='replaces swapped_parts',
+             fails='the part is another file before a sync', joins='replacing'),
+        Edit(PARTS, 'if self.is_there(rt).unwrap_or(false) {',
+             'if self.is_there(rt).unwrap_or(false) || true {',
+             "another one's file is taken away", run='replaces swapped_parts',
+             fails='the part is another file, and FILE changes', joins='replacing'),
+        Edit(PARTS, 'is_some_and(|process| is_gone(rt, process))', 'is_some()',
+             'what a run writes just now is named as left over', run='replaces leftovers',
+             fails='normalise beside leftovers', joins='replacing'),
+        Edit(REPLACING, '"another file has taken the place of the new one"', '"it is so"',
+             'the cause where another file is no part is another', run='replaces swapped_parts',
+             fails='why another file is no part', joins='whole'),
+        Edit(REPORTS, '"cause: more than {most} bytes\\n"', '"cause: less than {most} bytes\\n"',
+             'the cause of an answer that is too long is another', run='limits bounded',
+             fails='normalise 721 bytes of 720, explained', joins='whole', optimised=True),
+        Edit(RUNS, '"its name is not UTF-8; give the file as standard input (-)"', '"it is so"',
+             'the cause of a FILE that is no text is another', run='names names_in_commands',
+             fails='show b.caf.*: why', joins='whole'),
+        Edit(RUNS, '"its name is not UTF-8; write to standard output (-)"',
+             '"its name is not UTF-8; give it as standard input (-)"',
+             'the cause of a NEW that is no text is that of a FILE', run='names usage',
+             fails='NEW that is not UTF-8', joins='whole'),
+        Edit(REPLACING, 'if answer.is_err() {', 'if matches!(answer, Err(Refusal::WriteFailed)) {',
+             'a refused file leaves the new one beside NEW', run='replaces replacing',
+             fails='--replace, refused, over a file: files', joins='whole'),
+    ]
+
+
+# ---- descriptors, names, room
+
+def of_edges(joins='edges'):
+    return [
+        Edit(INPUT, 'ErrorKind::Interrupted => continue,',
+             'ErrorKind::Interrupted && false => continue,',
+             'a read that was interrupted is a failure', run='descriptors interrupted',
+             fails='show -, input 1 is interrupted', joins=joins),
+        Edit(SINK, 'ErrorKind::Interrupted && tries > 0', 'ErrorKind::Interrupted && tries < 1',
+             'a write that was interrupted is a failure', run='descriptors interrupted',
+             fails='show plain.mp4, write 1 is interrupted', joins=joins),
+        Edit(DESCRIPTORS, 'if number > ERRORS {', 'if number >= ERRORS {',
+             'what is said where standard error is closed goes into NEW',
+             run='descriptors said_elsewhere', fails='2>&-', joins=joins),
+        Edit(FILE_NAMES, '} else if character.is_control() {',
+             "} else if character.is_control() && character != '\\u{7f}' {",
+             'the last control character of ASCII is no such', run='names names_in_checks',
+             fails="check 'bell .*control bytes", joins=joins),
+        Edit(FILE_NAMES, "if character == '\\\\' {", "if character == '\\u{0}' {",
+             'a backslash in a name stands for itself', run='names names_in_checks',
+             fails="check 'back.*control bytes", joins=joins),
+        Edit(CHECKING, '        let answer = answer_of(rt, *input);',
+             '        if input.name().as_bytes().iter().any(|byte| *byte == 0) {\n'
+             '            break;\n        }\n        let answer = answer_of(rt, *input);',
+             'the files behind a name that is not UTF-8 are not judged',
+             run='names names_in_checks',
+             fails='one name of many is not UTF-8', joins=joins),
+        Edit(CHECKING, 'if end != 0 {', 'if end != 1 {',
+             '--zero has names as people are shown them', run='names names_in_checks',
+             fails=r"check 'red .*\['--zero'\]: control bytes",
+             joins='limits'),
+        Edit(COMPARES, '    if let Ok(names) = names_of(rt.alloc(), left, right, failure.side) {',
+             '    if matches!(failure.side, Side::Neither) {\n    } else if let Ok(names) = '
+             'names_of(rt.alloc(), left, right, failure.side) {',
+             'a failed write of compare has no names before it', run='descriptors full_devices',
+             fails='compare .* to a full device', joins=joins),
+        Edit(RUNS, 'Some(most) if total > most =>', 'Some(most) if total >= most =>',
+             '--max-bytes wants a byte more than there are', run='limits bounded',
+             fails='normalise 721 bytes of 721', joins=joins, optimised=True),
+        Edit(PROGRESS, 'if self.done >= self.total {', 'if self.done > 0 {',
+             'all is always told to be written', run='progress slow_readers',
+             fails='percent are those of the bytes', joins='limits'),
+        Edit(PROGRESS, 'micros > 0 => self.done / micros,',
+             'micros > 0 => self.done / micros / 1000,', 'the rate is a thousandth',
+             run='progress rates', fails='the rate of a long answer', joins=joins),
+        Edit(PROGRESS, 'const APART: u64 = 250;', 'const APART: u64 = 20;',
+             'it is told too often how far a job has come', run='progress slow_readers',
+             fails='not more often', joins=joins),
+        Edit(SOURCES, 'const MOST_INPUT: usize = 1 << 30;', 'const MOST_INPUT: usize = 1 << 27;',
+             'standard input is cut at 2^27 bytes', run='limits longest',
+             fails='show of 2.30 bytes', joins=joins, optimised=True),
+        Edit(INPUT, 'for _turn in 0..=most {', 'for _turn in 0..=most.min(3000) {',
+             'standard input is cut after 3,000 reads', run='limits longest',
+             fails='show of 2.30 bytes', joins='limits', optimised=True),
+    ]
+
+
+def all_edits():
+    return [*of_explanations(), *of_help(), *of_verdicts(), *of_comparisons(), *of_files(),
+            *of_edges()]
