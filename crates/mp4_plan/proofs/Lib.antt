@@ -60,6 +60,9 @@ pub mod HandsCarried
 pub mod HandSteps
 pub mod HandsTaken
 pub mod TakenTurns
+pub mod DueTrees
+pub mod DueTurns
+pub mod SkippedTurns
 pub mod Lefts
 pub mod FrontsPut
 pub mod SizesSmall

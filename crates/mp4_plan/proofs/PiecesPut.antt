@@ -1,5 +1,5 @@
 -- Pieces that are put over any store: so many follow, with so many samples and so many bytes of these.
-use Rattle.std.proofs.Common.{◌≡◌, ℕ, ◌+◌, ◌-◌, ◌*◌, ◌^◌, ◌<◌, ◌≤◌, List, [], ◌∷◌, ◌++◌, length, refl, ap, subst, ◌∙◌, length-append, arith}
+use Rattle.std.proofs.Common.{◌≡◌, ℕ, ◌+◌, ◌-◌, ◌*◌, ◌^◌, ◌<◌, ◌≤◌, List, [], ◌∷◌, ◌++◌, length, refl, sym, ap, subst, ◌∙◌, length-append, arith}
 use Rattle.std.specs.Prelude.{Option, codes}
 use Rattle.std.specs.Io.KnownBytes.{Appends}
 use Rattle.std.specs.List.{sum_by}
@@ -12,7 +12,7 @@ use Rattle.mp4_store.proofs.Known.{Appends-then}
 use Rattle.mp4_present.specs.words.Carried.{BytesGoOn, GoOnBy}
 use Rattle.mp4_present.specs.words.Movies.{MovieSeen}
 use Rattle.mp4_present.specs.declared.track_info.TrackInfo.{TrackInfo}
-use Rattle.mp4_present.proofs.Carrying.{BytesGoOn-then, GoOnBy-then, GoOnBy-bytes}
+use Rattle.mp4_present.proofs.Carrying.{BytesGoOn-nothing, BytesGoOn-then, GoOnBy-then, GoOnBy-bytes}
 use Rattle.mp4_plan.specs.words.PutPieces.{PutPiece, put_length, PiecesFollow, IsPutWhole}
 use Rattle.mp4_plan.specs.words.Sizes.{moof_sizes}
 use Rattle.mp4_plan.specs.words.Spelling.{moof_front, run_rows}
@@ -24,6 +24,12 @@ use Rattle.mp4_plan.proofs.PartsPut.{go_four}
 -- none yet, behind so many bytes
 pub first_put : (a b : Option (List ℕ)) (held held_b first : List ℕ) → BytesGoOn a b held held_b first → PiecesFollow a b held held_b (length first) 0 0
 first_put a b held held_b first p = record { pieces = []; counts = refl; sizes = refl; long = subst (λ n. GoOnBy a b held held_b n) (omega arith) (GoOnBy-bytes a b held held_b first p) }
+
+-- no piece follows
+pub none_follow : (a : Option (List ℕ)) (held : List ℕ) (samples bytes : ℕ) → samples ≡ 0 → bytes ≤ samples * 4294967295 → PiecesFollow a a held held 0 samples bytes
+none_follow a held samples bytes none few =
+    let empty : bytes ≡ 0 = omega (arith, none, few) in
+    subst (λ n. PiecesFollow a a held held 0 n bytes) (sym none) (subst (λ n. PiecesFollow a a held held 0 0 n) (sym empty) (first_put a a held held [] (BytesGoOn-nothing a held)))
 
 -- others behind them
 pub follow_then : (a b c : Option (List ℕ)) (held held_b held_c : List ℕ) (first samples bytes more_samples more_bytes : ℕ) → PiecesFollow a b held held_b first samples bytes → PiecesFollow b c held_b held_c 0 more_samples more_bytes

@@ -25,8 +25,10 @@ use Rattle.mp4_plan.specs.words.Sizes.{moof_sizes}
 use Rattle.mp4_plan.specs.words.Taken.{AreTaken}
 use Rattle.mp4_plan.specs.words.TurnLaws.{piece_if}
 use Rattle.mp4_plan.specs.words.Turns.{first_scale, turn_end, turned, Sticks}
+use Rattle.mp4_plan.specs.words.DueTracks.{FindsMore, IsDueAt, Skips}
 use Rattle.mp4_plan.specs.words.Writers.{AllCome, AllBegin, ArePiecesLong, firsts, longest_piece, planned_length}
 use Rattle.mp4_plan.specs.words.Writers as writers
+use Rattle.mp4_plan.specs.declared.due_tracks.DueTracks.{DueTracks}
 use Rattle.mp4_plan.specs.declared.ends.End.{End}
 use Rattle.mp4_plan.specs.declared.planner.Planned.{Planned}
 use Rattle.mp4_plan.specs.declared.schedule.Schedule.{Schedule}
@@ -37,6 +39,7 @@ use Rattle.mp4_plan.proofs.NextSamples.{first_at, firsts_set}
 use Rattle.mp4_plan.proofs.PieceWritten.{AreKeys, IsFew, bytes_of_two}
 use Rattle.mp4_plan.proofs.Planning.{comes_there}
 use Rattle.mp4_plan.proofs.SizesSmall.{moof_small}
+use Rattle.mp4_plan.proofs.SkippedTurns.{due_here, finds_none, opened_scales, turns_skipped}
 use Rattle.mp4_plan.proofs.SpelledPiece.{piece_length, taken_count}
 use Rattle.mp4_plan.proofs.TakenFrom.{track_facts_at, all_counted}
 use Rattle.mp4_plan.proofs.TakenFrom as taken_from
@@ -260,11 +263,12 @@ module _ (leaving : Leaving) (file : List ℕ) (tree : FileTree) (m : MovieSeen)
     abbrev pub left_behind_it : List SampleAt
     left_behind_it = samples_after (piece_from end) t.left
 
-    -- the turn leads on
-    pub turn_leads : (n : ℕ) (next : Option SampleAt) → n ≡ piece_size → next ≡ slice_get left_behind_it 0 → ¬ Sticks s end n next
-    turn_leads n next is after =
-        let at_end = subst (λ e. ¬ Sticks s e (more_of (piece_from e) t.left) (slice_get (samples_after (piece_from e) t.left) 0)) (sym t.end_is) (turn_moves file m.tracks s lefts comings t.info t.left (turn_taken file m.tracks s lefts comings t.info t.left h.turn lt t.is_info t.is_left)) in
-        subst (λ i. ¬ Sticks s end i next) (sym is) (subst (λ x. ¬ Sticks s end piece_size x) (sym after) at_end)
+    -- the turn leads on, where a track behind the first has a sample that goes into a piece
+    pub turn_leads : (n : ℕ) (next : Option SampleAt) (d : DueTracks) → n ≡ piece_size → next ≡ slice_get left_behind_it 0 → IsDueAt m.tracks nexts s d → ¬ Sticks s n next
+    turn_leads n next d is after due =
+        let goes = due_here m.tracks nexts s d t.info (slice_get t.left 0) due (opened_scales file m tree o) lt t.is_info t.shown in
+        let at_end = subst (λ e. ¬ Sticks s (more_of (piece_from e) t.left) (slice_get (samples_after (piece_from e) t.left) 0)) (sym t.end_is) (turn_moves file m.tracks s lefts comings t.info t.left (turn_taken file m.tracks s lefts comings t.info t.left h.turn lt t.is_info t.is_left) goes) in
+        subst (λ i. ¬ Sticks s i next) (sym is) (subst (λ x. ¬ Sticks s piece_size x) (sym after) at_end)
 
     within_left : piece_size ≤ length t.left
     within_left = more_few (piece_from end) t.left
@@ -289,6 +293,11 @@ module _ (leaving : Leaving) (file : List ℕ) (tree : FileTree) (m : MovieSeen)
         turn = taken.on;
         few = (let all = h.few in let less = count_left in omega (arith, all, less));
       }
+
+      -- where no sample is left, no track is due behind it
+      pub no_more : (d : DueTracks) (later : Schedule) → FindsMore m.tracks (slice_set nexts s.track next) on later d → ⊥
+      no_more d later f = finds_none file m.tracks on later (slice_set lefts s.track left_behind_it) taken.later (slice_set nexts s.track next) d (subst (λ (r : Schedule). IsTurn file m.tracks r (slice_set lefts s.track left_behind_it) taken.later) (sym turned_is) stands_next.turn) stands_next.shown
+          (opened_scales file m tree o) f
 
       -- Behind it one more piece is looked at, if it took samples.
       pub longest_next : (most later : ℕ) → max most (longest_piece (pieces_from s comings)) ≡ longest_piece (pieces (reduce leaving (presentation_of file tree))) → later ≡ max most n → IsLongest leaving file tree m on (slice_set walks k now) (slice_set nexts k next) later
@@ -343,3 +352,23 @@ module _ (leaving : Leaving) (file : List ℕ) (tree : FileTree) (m : MovieSeen)
               let less = fewer_left in
               added (keys_seen t.info.keys) p len later long (left_count lefts) adds keys.few small (λ e. none_long file (keys_seen t.info.keys) number t.info.id piece_size t.left taken.samples taken.taken (sym count ∙ e))
               (λ some. some_long file (keys_seen t.info.keys) number t.info.id piece_size t.left taken.samples p keys taken.taken planned (omega (arith, some, count)) within_left small.few) (omega (arith, count, less)) fits
+
+-- ---- where tracks are skipped
+
+module _ (leaving : Leaving) (file : List ℕ) (tree : FileTree) (m : MovieSeen) (s later : Schedule) (walks : List Walk) (nexts : List (Option SampleAt)) (d : DueTracks) (o : IsOpenedAs file m tree) (skips : Skips d s later) (due : IsDueAt m.tracks nexts later d) where
+  stands_skipped : (lefts : List (List SampleAt)) (comings : List Coming) → StandsAt leaving file tree m s walks nexts lefts comings → StandsAt leaving file tree m later walks nexts lefts comings × (pieces_from s comings ≡ pieces_from later comings)
+  stands_skipped lefts comings h =
+      let r = turns_skipped file m.tracks d s later nexts lefts comings skips h.turn h.shown due (opened_scales file m tree o) in
+      (record { come = h.come; shown = h.shown; turn = r.0; few = h.few }, r.1)
+
+  -- The longest piece is one of the same pieces.
+  pub longest_skips : (most : ℕ) → IsLongest leaving file tree m s walks nexts most → IsLongest leaving file tree m later walks nexts most
+  longest_skips most h =
+      let r = stands_skipped h.lefts h.comings h.at in
+      record { lefts = h.lefts; comings = h.comings; at = r.0; longest = ap (λ ps. max most (longest_piece ps)) (sym r.1) ∙ h.longest }
+
+  -- They have as many bytes.
+  pub length_skips : (so_far : ℕ) → IsLength leaving file tree m s walks nexts so_far → IsLength leaving file tree m later walks nexts so_far
+  length_skips so_far h =
+      let r = stands_skipped h.lefts h.comings h.at in
+      record { lefts = h.lefts; comings = h.comings; at = r.0; fits = h.fits; number = h.number; len = ap (λ ps. so_far + length (pieces_bytes h.number ps)) (sym r.1) ∙ h.len }

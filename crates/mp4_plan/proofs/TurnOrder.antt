@@ -1,8 +1,6 @@
 -- Turns come to an end: what is to come gets less with each.
-use Rattle.std.proofs.Common.{◌≡◌, ℕ, ◌+◌, ◌-◌, ◌*◌, ◌<◌, ◌≤◌, ◌==◌, Bool, true, false, Some, None, refl, sym, ◌∙◌, true≢false, rules, arith, mul-le-mul_right}
-use Rattle.std.specs.Prelude.{Option, option_map, if◌then◌else◌}
-use Rattle.std.proofs.lemmas.Bool.{eq-eqb}
-use Rattle.mp4_tables.specs.declared.sample.SampleAt.{SampleAt}
+use Rattle.std.proofs.Common.{◌≡◌, ℕ, ◌+◌, ◌-◌, ◌*◌, ◌<◌, ◌≤◌, ◌==◌, Bool, true, false, Some, None, refl, rules, arith, mul-le-mul_right}
+use Rattle.std.specs.Prelude.{Option, if◌then◌else◌}
 use Rattle.mp4_plan.specs.words.Turns.{to_come, track_passed, wrapped, follows_one}
 use Rattle.mp4_plan.specs.declared.schedule.Schedule.{Schedule}
 
@@ -80,18 +78,3 @@ less_over s count time le lt some = by_track (s.track == 0) refl
     by_track : (is_first : Bool) → (s.track == 0) ≡ is_first → to_come (if◌then◌else◌ is_first (wrapped (record s { next = time; track = 1; left = s.left - count }) time) (wrapped (record s { track = s.track + 1; left = s.left - count }) s.next)) < to_come s
     by_track true e = let z : s.track ≡ 0 = search rules in less_first s count time le z (omega (arith, lt)) (some z)
     by_track false e = let z : 0 < s.track = search rules in less_next s count le z lt
-
--- what may not pass
-pub not_passed : (passed over : Bool) → (passed ≡ true → over ≡ true) → over ≡ false → passed ≡ false
-not_passed false over h e = refl
-not_passed true over h e = absurd (true≢false (sym (h refl) ∙ e))
-
--- the first track took samples where it goes on
-pub took_some : (passed : Bool) (track count t : ℕ) (sample : Option SampleAt) → (passed ≡ false → 0 < count) → (passed ≡ true → (track == 0) ≡ true → sample ≡ None) → track ≡ 0
-    → option_map (λ (s : SampleAt). s.dts) sample ≡ Some t → 0 < count
-took_some false track count t sample f g z e = f refl
-took_some true track count t None f g z e = absurd (cc)
-took_some true track count t (Some s) f g z e = absurd (none_not s (g refl (eq-eqb track 0 z)))
-  where
-    none_not : (s : SampleAt) → Some s ≡ None → ⊥
-    none_not s e = cc

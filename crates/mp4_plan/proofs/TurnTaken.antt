@@ -361,11 +361,53 @@ pub turns_end : (file : List ℕ) (infos : List TrackInfo) (s : Schedule) (lefts
 turns_end file infos s lefts [] h le = refl
 turns_end file infos s lefts (first ∷ others) h le = let most = h.among.among.track in turns_take_all.none_left s first others h.among.among (omega (arith, le, most))
 
--- A turn of samples that are left leads on.
+-- A turn of samples that are left leads on, where a track behind the first has one that goes into a piece.
 pub turn_moves : (file : List ℕ) (infos : List TrackInfo) (s : Schedule) (lefts : List (List SampleAt)) (comings : List Coming) (info : TrackInfo) (left : List SampleAt) → TurnTaken file infos s lefts comings info left
-    → ¬ Sticks s (turn_end s info.timescale) (more_of (piece_from (turn_end s info.timescale)) left) (slice_get (samples_after (piece_from (turn_end s info.timescale)) left) 0)
-turn_moves file infos s lefts comings info left t (inl lt) = let few = t.few in omega (arith, few, lt)
-turn_moves file infos s lefts comings info left t (inr stuck) = stuck.1 (t.moves stuck.0)
+    → (0 < s.track → is_over (turn_end s info.timescale) (slice_get left 0) ≡ false) → ¬ Sticks s (more_of (piece_from (turn_end s info.timescale)) left) (slice_get (samples_after (piece_from (turn_end s info.timescale)) left) 0)
+turn_moves file infos s lefts comings info left t due (inl lt) = let few = t.few in omega (arith, few, lt)
+turn_moves file infos s lefts comings info left t due (inr stuck) = by s.track refl
+  where
+    end : End
+    end = turn_end s info.timescale
+
+    by : (k : ℕ) → s.track ≡ k → ⊥
+    by zero z = stuck.1 (z, (t.moves stuck.0).1 z)
+    by (suc k) z = true≢false (sym (t.moves stuck.0).0 ∙ ap (λ n. is_over end (slice_get (drop n left) 0)) stuck.0 ∙ due (omega (arith, z)))
+
+-- Where the pieces of a track behind the first are over, it passes, and the same pieces are left.
+pub turn_skips : (file : List ℕ) (infos : List TrackInfo) (s : Schedule) (lefts : List (List SampleAt)) (comings : List Coming) (info : TrackInfo) (left : List SampleAt) → IsTurn file infos s lefts comings → 0 < s.track → s.track < s.tracks
+    → slice_get infos s.track ≡ Some info → slice_get lefts s.track ≡ Some left → is_over (Before s.next s.first info.timescale) (slice_get left 0) ≡ true
+    → IsTurn file infos (track_passed s None) lefts comings × (pieces_from s comings ≡ pieces_from (track_passed s None) comings)
+turn_skips file [] s lefts comings info left h some lt a b over = absurd (cc)
+turn_skips file (i ∷ infos) s [] comings info left h some lt a b over = absurd (cc)
+turn_skips file (i ∷ infos) s (l ∷ lefts) [] info left h some lt a b over = absurd h.each
+turn_skips file (i ∷ infos) s (l ∷ lefts) (first ∷ others) info left h some lt a b over = by s.track refl
+  where
+    later : Schedule
+    later = track_passed s None
+
+    by : (k : ℕ) → s.track ≡ k → IsTurn file (i ∷ infos) later (l ∷ lefts) (first ∷ others) × (pieces_from s (first ∷ others) ≡ pieces_from later (first ∷ others))
+    by zero z = absurd (omega (arith, z, some))
+    by (suc k) z =
+        let keys = keys_seen info.keys in
+        let at = left_at file infos lefts others k info left h.each.1 (sym (ap (slice_get (i ∷ infos)) z) ∙ a) (sym (ap (slice_get (l ∷ lefts)) z) ∙ b) in
+        let t = at.t in
+        let each = at.own in
+        let st = h.among in
+        let end = Before s.next s.first info.timescale in
+        let own = end_of_other s.next first.timescale t in
+        let is : end ≡ own = λ j. Before s.next (st.scale j) (sym each.timescale j) in
+        let place : s.track ≡ suc (length at.before) = z ∙ ap suc (sym at.many) in
+        let past : IsOver own t.samples = subst (λ x. IsOver x t.samples) is (over_alike file keys end left t.samples each.taken over) in
+        let p = turns_take_all.other_passes s first at.before at.after t None place (subst (λ os. IsAmong s first os) at.whole st.among) past in
+        let q = passed_behind s first None st.among.timescale (λ n. absurd (omega (arith, n, z))) (λ _. st.next (omega (arith, z))) in (
+          record {
+            each = h.each;
+            among = stands_there later s.first s.left first others st.scale (subst (λ os. IsAmong later first os) (sym at.whole) p.1) q;
+            left = q.left_is ∙ h.left;
+          },
+          ap (λ os. pieces_left s first os) at.whole ∙ p.0 ∙ ap (λ os. pieces_left later first os) (sym at.whole),
+        )
 
 -- ---- all turns
 

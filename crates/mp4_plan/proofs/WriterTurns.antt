@@ -23,6 +23,8 @@ use Rattle.mp4_plan.specs.words.OverCarrying.{AreThere}
 use Rattle.mp4_plan.specs.words.Turns.{turn_end, turned, Sticks}
 use Rattle.mp4_plan.specs.words.UsedKeys.{AreApart}
 use Rattle.mp4_plan.specs.words.Writers.{IsWriterOf, HasNoted, IsNoted, HaveCopied, turn_head, sequence_behind, turn_bytes}
+use Rattle.mp4_plan.specs.words.DueTracks.{AreTimes, IsDueAt}
+use Rattle.mp4_plan.specs.declared.due_tracks.DueTracks.{DueTracks}
 use Rattle.mp4_plan.specs.declared.ends.End.{End}
 use Rattle.mp4_plan.specs.declared.moof_front.PieceHead.{PieceHead}
 use Rattle.mp4_plan.specs.declared.planner.Planned.{Planned}
@@ -33,6 +35,7 @@ use Rattle.mp4_plan.specs.declared.writer.Writer.{Writer}
 use Rattle.mp4_plan.proofs.ComeAt.{set_there, set_twice}
 use Rattle.mp4_plan.proofs.PieceCounts.{piece_counts, piece_bytes, piece_within}
 use Rattle.mp4_plan.proofs.PieceWritten.{IsFew}
+use Rattle.mp4_plan.proofs.SkippedTurns.{due_here, opened_scales}
 use Rattle.mp4_plan.proofs.TurnTaken.{turn_moves}
 use Rattle.mp4_plan.proofs.WritesOn.{WritesOn, AtTurn, at_turn, turn_stops, turn_over}
 
@@ -62,7 +65,7 @@ module _ (leaving : Leaving) (file : List ℕ) (tree : FileTree) (m : MovieSeen)
   module _ (w1 : Writer) (n : Noted) (id : ℕ) (noted : (t : TrackTree) (walk : Walk) (left : List SampleAt) → slice_get w.walks.items turn.track ≡ Some walk → ComesLess w.leaving file tree t m walk left → walk.mark ≡ mark_of walk (length left)
       → slice_get w.nexts.items turn.track ≡ Some (slice_get left 0)
       → HasNoted file tree t m turn sequence id left w w1 n)
-      (keeps : (w1.leaving ≡ w.leaving) × (w1.carrier ≡ w.carrier) × (length w1.rows.items ≡ length w.rows.items) × (w1.nexts ≡ w.nexts)) (few : IsFew n.planned) (is_id : (info : TrackInfo) → slice_get m.tracks s.track ≡ Some info → id ≡ info.id) where
+      (keeps : (w1.leaving ≡ w.leaving) × (w1.carrier ≡ w.carrier) × (length w1.rows.items ≡ length w.rows.items) × (w1.nexts ≡ w.nexts) × (w1.due ≡ w.due)) (few : IsFew n.planned) (is_id : (info : TrackInfo) → slice_get m.tracks s.track ≡ Some info → id ≡ info.id) where
     it : HasNoted file tree at.t m turn sequence id at.left w w1 n
     it = noted at.t at.walk at.left walk_there comes_there at.is_marked next_there
 
@@ -129,16 +132,26 @@ module _ (leaving : Leaving) (file : List ℕ) (tree : FileTree) (m : MovieSeen)
           ∙ set_there w.nexts.items turn.track (slice_get at.left 0) (slice_get (drop n.planned.count at.left) 0) next_there) ∙ ap (λ (ss : List SampleAt). slice_get ss 0) rest_is
 
       -- the schedule goes on
-      pub pass_lacks : Sticks s turn.end n.planned.count next → ⊥
-      pass_lacks k =
-          let own = subst (λ (e : End). Sticks s e n.planned.count next) end_is k in
-          let count = subst (λ c. Sticks s end c next) counted own in
-          turn_moves file m.tracks s h.lefts h.comings at.info at.left at.taken (subst (λ (x : Option SampleAt). Sticks s end (more_of (piece_from end) at.left) x) next_is count)
+      pub pass_lacks : IsDueAt m.tracks w.nexts.items s w.due → Sticks s n.planned.count next → ⊥
+      pass_lacks due k =
+          let count = subst (λ c. Sticks s c next) counted k in
+          let goes_in = due_here m.tracks w.nexts.items s w.due at.info (slice_get at.left 0) due (opened_scales file m tree o) here.1 at.is_info at.shown in
+          turn_moves file m.tracks s h.lefts h.comings at.info at.left at.taken goes_in (subst (λ (x : Option SampleAt). Sticks s (more_of (piece_from end) at.left) x) next_is count)
+
+      -- the next samples are the same but for one
+      nexts_are : w2.nexts.items ≡ slice_set w.nexts.items s.track next
+      nexts_are = done.2 ∙ (λ i. slice_set (keeps.3 i).items (here.0 i) ((ap (λ (ss : List SampleAt). slice_get ss 0) rest_is ∙ sym next_is) i))
+
+      -- what is so of them, by what the leaves say
+      pub with_times : (P : List (Option SampleAt) → Type 0) → IsDueAt m.tracks w.nexts.items s w.due → w2.due ≡ w1.due → ((nexts : List (Option SampleAt)) → AreTimes m.tracks nexts s.first w2.due → P (slice_set nexts s.track next)) → P w2.nexts.items
+      with_times P due same f =
+          let times = subst (λ (e : DueTracks). AreTimes m.tracks w.nexts.items s.first e) (sym (same ∙ keeps.4)) due.times in
+          subst P (sym nexts_are) (f w.nexts.items times)
 
       -- the turn behind it
       pub turn_goes : (last : Option (List ℕ)) (later : Schedule) → ((samples : List SampleAt) → IsNoted file tree m turn.track n.planned.count samples w1 → (info : TrackInfo) → slice_get m.tracks turn.track ≡ Some info → AreApart (keys_seen info.keys)
           → BytesGoOn after last (waiting w1.carrier) (waiting w2.carrier) (turn_bytes file n.head n.planned (keys_seen info.keys) (take n.planned.count samples)))
-          → (w2.leaving ≡ w1.leaving) × (w2.rows ≡ w1.rows)
+          → (w2.leaving ≡ w1.leaving) × (w2.rows ≡ w1.rows) × (w2.due ≡ w1.due)
           → later ≡ turned s turn.end n.planned.count next → WritesOn leaving file tree m later (sequence_behind sequence n.head) (sent + n.planned.bytes) w2.walks.items w2.nexts.items (length w2.rows.items) before last (waiting w2.carrier)
       turn_goes last later put kept is =
           let q = put at.left is_noted at.info info_there at.keys.apart in

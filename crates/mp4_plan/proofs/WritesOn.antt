@@ -32,6 +32,8 @@ use Rattle.mp4_plan.specs.words.Taken.{AreTaken}
 use Rattle.mp4_plan.specs.words.TurnLaws.{piece_if}
 use Rattle.mp4_plan.specs.words.Turns.{first_scale, turn_end, turned, track_passed, wrapped, is_over}
 use Rattle.mp4_plan.specs.words.Writers.{AllCome, AllBegin, AreMarked, IsReady, firsts, first_dts, longest_piece, head_of_normal, turn_head, sequence_behind, turn_bytes}
+use Rattle.mp4_plan.specs.words.DueTracks.{FindsMore, IsDueAt, Skips}
+use Rattle.mp4_plan.specs.declared.due_tracks.DueTracks.{DueTracks}
 use Rattle.mp4_plan.specs.declared.ends.End.{End}
 use Rattle.mp4_plan.specs.declared.moof_front.PieceHead.{PieceHead}
 use Rattle.mp4_plan.specs.declared.planner.Planned.{Planned}
@@ -46,6 +48,7 @@ use Rattle.mp4_plan.proofs.NextSamples.{first_at, firsts_set}
 use Rattle.mp4_plan.proofs.Lefts.{left_count, pieces_from, IsTurn}
 use Rattle.mp4_plan.proofs.PieceCounts.{piece_bytes, piece_counts, piece_within, piece_gathers}
 use Rattle.mp4_plan.proofs.PieceWritten.{AreKeys, IsFew, turn_written, head_counts, bytes_of_two}
+use Rattle.mp4_plan.proofs.SkippedTurns.{finds_none, opened_scales, turns_skipped}
 use Rattle.mp4_plan.proofs.TakenFrom.{TrackFacts, track_facts, has_track, few_left, all_counted}
 use Rattle.mp4_plan.proofs.TurnTaken.{TurnTaken, turn_taken, turn_fits, there_is}
 
@@ -360,3 +363,29 @@ module _ (leaving : Leaving) (file : List ℕ) (tree : FileTree) (m : MovieSeen)
       same_dts [] = refl
       same_dts ([] ∷ lefts) = refl
       same_dts ((x ∷ samples) ∷ lefts) = refl
+
+  -- Where tracks are skipped, the same pieces are left to be written.
+  pub writes_skips : (s later : Schedule) (sequence sent : ℕ) (walks : List Walk) (nexts : List (Option SampleAt)) (rows : ℕ) (before after : Option (List ℕ)) (held : List ℕ) (d : DueTracks) → IsOpenedAs file m tree → WritesOn s sequence sent walks nexts rows before after held
+      → Skips d s later → IsDueAt m.tracks nexts later d → WritesOn later sequence sent walks nexts rows before after held
+  writes_skips s later sequence sent walks nexts rows before after held d o h skips due =
+      let r = turns_skipped file m.tracks d s later nexts h.lefts h.comings skips h.turn h.shown due (opened_scales file m tree o) in
+      record {
+        lefts = h.lefts;
+        comings = h.comings;
+        come = h.come;
+        marked = h.marked;
+        shown = h.shown;
+        turn = r.0;
+        lie = h.lie;
+        fits = subst (λ (ps : List Piece). AllByRecursion (λ (p : Piece). length p.samples ≤ rows) ps) r.1 h.fits;
+        small = h.small;
+        sizes = h.sizes;
+        done = h.done;
+        goes = h.goes;
+        whole = h.whole ∙ ap (λ (ps : List Piece). h.done ++ pieces_bytes sequence ps) r.1;
+      }
+
+  -- Where no sample is left, no track is due.
+  pub writes_no_more : (s later : Schedule) (sequence sent : ℕ) (walks : List Walk) (nexts : List (Option SampleAt)) (rows : ℕ) (before after : Option (List ℕ)) (held : List ℕ) (d : DueTracks) → IsOpenedAs file m tree → WritesOn s sequence sent walks nexts rows before after held
+      → FindsMore m.tracks nexts s later d → ⊥
+  writes_no_more s later sequence sent walks nexts rows before after held d o h f = finds_none file m.tracks s later h.lefts h.comings nexts d h.turn h.shown (opened_scales file m tree o) f

@@ -10,6 +10,7 @@ pub mod UsedKeys
 pub mod Taken
 pub mod PiecesComing
 pub mod TurnLaws
+pub mod DueTracks
 pub mod Stretches
 pub mod HandsFed
 pub mod WriterSteps

@@ -22,6 +22,7 @@ ghost use Rattle.mp4_present.specs.words.Movies.{RefusesLoad};
 ghost use Rattle.mp4_plan.specs.words.Writers.{RefusesMemory, RefusesPlan, AreMarked, IsHeadOf, AreWalksOf, AllCome, first_dts, head_of_normal, firsts, ArePiecesLong, longest_piece, planned_length};
 
 use crate::counting::count_turn;
+use crate::due_tracks::DueTracks;
 use crate::left_times::length_left;
 use crate::moof_sizes::sizes_of;
 use crate::planner::Planned;
@@ -137,9 +138,11 @@ pub(crate) fn longest_piece<S: Store, L: Ledger, M: Ledger>(
     let tracks = movie.tracks();
     let mut walks = walks_of(alloc, movie)?;
     let mut nexts = vec![in alloc; None; tracks.len()]?;
+    let mut due = DueTracks::new(alloc, tracks.len())?;
     let all = walks.as_mut_slice();
     peek_each(all, nexts.as_mut_slice(), leaving, movie, store, steps)?;
     let mut schedule = Schedule::new(tracks, first_time(nexts.as_slice()));
+    schedule.begin(tracks, nexts.as_slice(), &mut due);
     let mut longest: u32 = 0;
     while let Some(turn) = schedule.turn(tracks, looks) {
         let walk = &mut walks[turn.track];
@@ -147,7 +150,7 @@ pub(crate) fn longest_piece<S: Store, L: Ledger, M: Ledger>(
         let count = count_turn(walk, leaving, next, &turn.end, movie, store, steps)?;
         let sample = *next;
         longest = longest.max(count);
-        schedule.pass(&turn, count, sample)?;
+        schedule.pass(&turn, count, sample, tracks, &mut due)?;
     }
     Ok(longest)
 }
@@ -173,9 +176,11 @@ fn pieces_len<S: Store, L: Ledger, M: Ledger>(
     let tracks = movie.tracks();
     let mut walks = walks_of(alloc, movie)?;
     let mut nexts = vec![in alloc; None; tracks.len()]?;
+    let mut due = DueTracks::new(alloc, tracks.len())?;
     let all = walks.as_mut_slice();
     peek_each(all, nexts.as_mut_slice(), leaving, movie, store, steps)?;
     let mut schedule = Schedule::new(tracks, first_time(nexts.as_slice()));
+    schedule.begin(tracks, nexts.as_slice(), &mut due);
     let mut len = 0;
     while let Some(turn) = schedule.turn(tracks, looks) {
         let walk = &mut walks[turn.track];
@@ -183,7 +188,7 @@ fn pieces_len<S: Store, L: Ledger, M: Ledger>(
         let planned = plan_turn(walk, leaving, next, turn.end, movie, store, steps)?;
         let sample = *next;
         len = len_with(len, &planned, &tracks[turn.track].keys);
-        schedule.pass(&turn, planned.count, sample)?;
+        schedule.pass(&turn, planned.count, sample, tracks, &mut due)?;
     }
     Ok(len)
 }

@@ -30,6 +30,7 @@ ghost use Rattle.mp4_plan.specs.words.Writers.{RefusesPlan, IsWriterOf, turn_hea
 ghost use Rattle.mp4_plan.specs.format.Held.{held};
 
 use crate::carrying::{Load, carry_noted};
+use crate::due_tracks::DueTracks;
 use crate::ends::first_goes;
 use crate::joined::Stretches;
 use crate::left_times::length_left;
@@ -79,6 +80,8 @@ pub struct Writer {
     walks: Vec<Walk>,
     /// The next sample of each track.
     nexts: Vec<Option<SampleAt>>,
+    /// When these are due.
+    due: DueTracks,
 }
 
 // The bytes of the samples of all tracks, as many as opening counted.
@@ -159,6 +162,7 @@ impl Writer {
     {
         let mehd = length_left(alloc, movie, leaving)?;
         let longest = longest_piece(alloc, movie, store, leaving, steps, looks)?;
+        let due = DueTracks::new(alloc, movie.tracks().len())?;
         Ok(Writer {
             leaving,
             carrier: Carrier::new(alloc, PIECE)?,
@@ -167,6 +171,7 @@ impl Writer {
             stretches: Stretches::new(),
             walks: walks_of(alloc, movie)?,
             nexts: vec![in alloc; None; movie.tracks().len()]?,
+            due,
         })
     }
 
@@ -378,6 +383,7 @@ impl Writer {
         let nexts = self.nexts.as_mut_slice();
         peek_each(walks, nexts, leaving, movie, store, steps)?;
         let mut schedule = Schedule::new(tracks, first_time(self.nexts.as_slice()));
+        schedule.begin(tracks, self.nexts.as_slice(), &mut self.due);
         let mut sequence: u32 = 1;
         let mut bytes: u128 = 0;
         while let Some(turn) = schedule.turn(tracks, looks) {
@@ -386,7 +392,13 @@ impl Writer {
             sequence = sequence_behind(sequence, &noted.head);
             let planned = &noted.planned;
             self.carry_turn(track, noted.head, planned, movie, store, sink, steps)?;
-            schedule.pass(&turn, planned.count, self.nexts[track])?;
+            schedule.pass(
+                &turn,
+                planned.count,
+                self.nexts[track],
+                tracks,
+                &mut self.due,
+            )?;
             bytes += u128::from(planned.bytes);
         }
         if !are_all(schedule.left, bytes, tracks) {

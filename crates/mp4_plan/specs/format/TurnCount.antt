@@ -1,7 +1,7 @@
 -- The most turns that a movie can take.
-use Rattle.std.specs.Prelude.{ℕ, ◌+◌, ◌*◌}
+use Rattle.std.specs.Prelude.{ℕ, ◌+◌, min}
 
--- The most turns over so many samples of so many tracks: a fragment begins only at a sample of the
--- first track, and passes each track once.
+-- The most turns over so many samples of so many tracks. Each takes a sample, but for the last of
+-- the first track, where there is a track.
 abbrev pub most_turns : ℕ → ℕ → ℕ
-most_turns samples tracks = samples * (tracks + 2) + tracks
+most_turns samples tracks = samples + min tracks 1

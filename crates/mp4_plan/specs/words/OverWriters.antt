@@ -89,6 +89,7 @@ pub record OnlyNotes {T E : Type 0} (m : MovieSeen) (w w_after : Writer) (result
   pub held : memory.held w_after ≡ memory.held w
   pub keeps : (w_after.leaving ≡ w.leaving) × (w_after.carrier ≡ w.carrier)
       × (length w_after.rows.items ≡ length w.rows.items) × (w_after.nexts ≡ w.nexts)
+      × (w_after.due ≡ w.due)
 
 -- what was planned has bounds, with at most so many samples, and none where it has no head
 pub record IsPlanned (most : ℕ) (n : Noted) : Type 0 where
@@ -127,12 +128,14 @@ abbrev pub WithKeys : MovieSeen → ℕ → (List GroupKey → Type 0) → Type 
 WithKeys m track P = (info : TrackInfo) → slice_get m.tracks track ≡ Some info
     → AreApart (keys_seen info.keys) → P (keys_seen info.keys)
 
--- it stays a writer of this movie, holds as much, and at Ok keeps its rows and what it leaves out
+-- it stays a writer of this movie, holds as much, and at Ok keeps its rows, what it leaves out and
+-- when samples are due
 pub record OnlyCarries {T E : Type 0} (m : MovieSeen) (w w_after : Writer) (result : Result T E)
     : Type 0 where
   pub writer : OnOk result (IsWriterOf m w_after)
   pub held : memory.held w_after ≡ memory.held w
-  pub keeps : OnOk result ((w_after.leaving ≡ w.leaving) × (w_after.rows ≡ w.rows))
+  pub keeps : OnOk result ((w_after.leaving ≡ w.leaving) × (w_after.rows ≡ w.rows)
+      × (w_after.due ≡ w.due))
 
 -- of the steps that its walks may take to copy a piece and to go on, it takes some: at Ok the
 -- others are left to them to write, and at Err it took no more than all

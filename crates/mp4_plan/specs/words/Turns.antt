@@ -1,5 +1,5 @@
 -- The order in which pieces come, and why it ends.
-use Rattle.std.specs.Prelude.{◌≡◌, ◌<◌, ◌⊎◌, ℕ, ◌+◌, ◌-◌, ◌*◌, ◌==◌, Bool, true, if◌then◌else◌, List, [], ◌∷◌, Option, Some, None, length, option_map}
+use Rattle.std.specs.Prelude.{◌≡◌, ◌<◌, ◌⊎◌, ℕ, ◌+◌, ◌-◌, ◌*◌, ◌==◌, min, Bool, true, if◌then◌else◌, List, [], ◌∷◌, Option, Some, None, length, option_map}
 use Rattle.std.specs.List.{sum_by}
 use Rattle.mp4_present.specs.words.Movies.{MovieSeen}
 use Rattle.mp4_tables.specs.declared.sample.SampleAt.{SampleAt}
@@ -15,9 +15,24 @@ abbrev pub follows_one : ℕ → ℕ → Option ℕ → ℕ
 follows_one tracks track None = 0
 follows_one tracks track (Some cut) = if track == 0 then 0 else tracks + 1
 
--- A bound on how many turns there can be: each takes a sample, or goes on to the next track.
+-- A bound on how many turns there can be, one for each track of a fragment: each takes a sample, or
+-- goes on to the next track.
 unfoldable pub to_come : Schedule → ℕ
 to_come s = s.left * (s.tracks + 2) + (s.tracks - s.track) + follows_one s.tracks s.track s.next
+
+-- one more turn where another fragment begins, if one does
+abbrev pub begins_more : Option ℕ → ℕ
+begins_more None = 0
+begins_more (Some cut) = 1
+
+-- A bound on how many turns are made where tracks without samples before a cut are passed: each
+-- takes a sample, but for the last of the first track.
+unfoldable pub turns_left : Schedule → ℕ
+turns_left s = s.left + (if s.track == 0 then min s.tracks 1 else begins_more s.next)
+
+-- samples are left, where it is the turn of a track behind the first
+abbrev pub IsSomeLeft : Schedule → Type 0
+IsSomeLeft s = 0 < s.track → s.track < s.tracks → 0 < s.left
 
 -- the most turns over all samples that opening counted
 abbrev pub movie_turns : MovieSeen → ℕ
@@ -61,6 +76,7 @@ turned s end count sample =
 abbrev pub MayPass : Schedule → End → Option SampleAt → Type 0
 MayPass s end sample = (is_over end sample ≡ true) × (s.track ≡ 0 → sample ≡ None)
 
--- a turn that no file has: more samples than are left, or none where the track may not pass
-abbrev pub Sticks : Schedule → End → ℕ → Option SampleAt → Type 0
-Sticks s end count sample = (s.left < count) ⊎ ((count ≡ 0) × ¬ MayPass s end sample)
+-- a turn that no file has: more samples than are left, or none but at the end of the first track
+abbrev pub Sticks : Schedule → ℕ → Option SampleAt → Type 0
+Sticks s count sample = (s.left < count)
+    ⊎ ((count ≡ 0) × ¬ ((s.track ≡ 0) × (sample ≡ None)))

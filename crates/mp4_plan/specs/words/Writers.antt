@@ -18,6 +18,7 @@ use Rattle.mp4_present.specs.format.Presentation.{Presentation, heads, movie_len
 use Rattle.mp4_present.specs.declared.walks.Walk.{Walk}
 use Rattle.mp4_tables.specs.declared.sample.SampleAt.{SampleAt}
 use Rattle.mp4_plan.specs.words.ComingLess.{ComesLess, left_samples}
+use Rattle.mp4_plan.specs.words.DueTracks.{IsDueTree}
 use Rattle.mp4_plan.specs.words.GoneOn.{ComesMarked}
 use Rattle.mp4_plan.specs.words.Sizes.{moof_sizes}
 use Rattle.mp4_plan.specs.format.Pieces.{Piece, pieces}
@@ -43,6 +44,8 @@ pub record IsWriterOf (m : MovieSeen) (w : Writer) : Type 0 where
   pub walks : AreWalksOf m w.walks.items
   pub few : length w.rows.items ≤ 2 ^ 24
   pub nexts : length w.nexts.items ≡ length m.tracks
+  pub due : IsDueTree w.due
+  pub many : w.due.leaves ≡ length m.tracks
 
 -- Why what was read before is not made again: there is no memory, or the bytes are others.
 abbrev pub RefusesMemory : Refusal → Type 0

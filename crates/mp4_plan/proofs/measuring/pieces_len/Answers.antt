@@ -1,4 +1,4 @@
-use Rattle.std.proofs.Common.{rules, ◌≡◌, ◌<◌, slice_set, get_or, length, map, arith, ap, sym, subst, refl, ◌∙◌, slice_get}
+use Rattle.std.proofs.Common.{rules, List, Option, ◌≡◌, ◌<◌, slice_set, get_or, length, map, arith, ap, sym, subst, refl, ◌∙◌, slice_get}
 use Rattle.std.proofs.lemmas.List.{with_items_is}
 use Rattle.std.proofs.lemmas.Result.{err_from_is_err_and}
 use Rattle.std.proofs.lemmas.Option.{slice_get_read}
@@ -11,9 +11,12 @@ use Rattle.mp4_plan.proofs.AllTake.{one_takes, one_stops}
 use Rattle.mp4_plan.proofs.CarriedParts.{read_at}
 use Rattle.mp4_plan.proofs.PieceCounts.{piece_counts}
 use Rattle.mp4_plan.proofs.Planning.{walks_set}
-use Rattle.mp4_plan.proofs.PlannedTurns.{Adds, kept_there, has_turn, turn_leads, length_first, length_end, length_next}
-use Rattle.mp4_plan.specs.words.Turns.{movie_turns}
+use Rattle.mp4_plan.proofs.PlannedTurns.{Adds, kept_there, has_turn, no_more, turn_leads, length_first, length_end, length_next, length_skips}
+use Rattle.mp4_plan.specs.words.Turns.{movie_turns, turned}
+use Rattle.mp4_plan.specs.words.DueTracks.{IsDueAt}
+use Rattle.mp4_tables.specs.declared.sample.SampleAt.{SampleAt}
 use Rattle.mp4_plan.proofs.LooksOn.{begins_within, looks_on, looks_within}
+use Rattle.mp4_plan.proofs.SkippedTurns.{either}
 use Rattle.mp4_plan.proofs.StepsOn.{all_taken, all_within, all_then, all_then_stop}
 use Rattle.mp4_plan.proofs.measuring.pieces_len.Goals as goal
 
@@ -45,7 +48,9 @@ loop-turn-init g c =
           let begin = c.in_ok-walks.ensures.start.may (g.S.Store.file c.args.store.now) tree o in
           all_within (g.S.Store.file c.args.store.now) tree c.peek_each.new.walks begin.0 (walks_steps tree) _ _ begin.2 (e.work told tree o begin.0 (rw c.as_mut_slice-all.ensures.value begin.1)),
       search rules,
-      begins_within m.tracks c.new-schedule.result c.args.looks.now (rw c.tracks-tracks.ensures at c.new-schedule.ensures.tracks) (rw c.tracks-tracks.ensures at c.new-schedule.ensures.left) c.new-schedule.ensures.starts.0 c.new-schedule.ensures.starts.2,
+      begins_within m.tracks c.new-schedule.result c.args.looks.now (rw c.tracks-tracks.ensures at c.new-schedule.ensures.tracks) (rw c.tracks-tracks.ensures at c.new-schedule.ensures.left) c.new-schedule.ensures.starts.0,
+      subst (λ (xs : List (Option SampleAt)). IsDueAt m.tracks xs c.new-schedule.result c.begin.new.due) (c.as_slice-2.ensures.value ∙ noted) (rw c.tracks-tracks.ensures at c.begin.ensures),
+      search rules,
     )
 
 pub returns-in_err-peek_each-clause-unchanged : goal.returns-in_err-peek_each-clause-unchanged
@@ -84,7 +89,9 @@ loop-turn-preserved g c =
     let walks = c.loop-turn.walks.items in
     let nexts = c.loop-turn.nexts.items in
     let p = c.in_ok-planned.ensures in
-    let bounds = p.bounds in (
+    let bounds = p.bounds in
+    let due_at = (rw c.tracks-tracks.ensures at c.in_ok-pass.ensures.due) nexts i.9.times in
+    let due_next = subst (λ k. IsDueAt m.tracks (slice_set nexts k c.plan_turn.new.next) c.pass.new.self c.pass.new.due) (sym c.in-Some.ensures.track.0) due_at in (
       walks_set m walks c.in-Some.turn.track c.plan_turn.new.walk i.0 p.walk.walk,
       c.in_ok-pass.ensures.tracks ∙ i.1,
       p.store.file ∙ i.2,
@@ -101,9 +108,12 @@ loop-turn-preserved g c =
           let there = get_or c.tracks-tracks.result.now turn.track c.index-tracks-turn.result in
           let kept = sym c.index-tracks-turn.is ∙ kept_there m.tracks turn.track s.track t.info c.index-tracks-turn.result t.place t.is_info (rw c.tracks-tracks.ensures at c.index-tracks-turn.is) in
           let adds : Adds (keys_seen there.keys) c.in_ok-planned.planned c.loop-turn.len c.len_with-len.result = record { none = c.len_with-len.ensures.none; some = c.len_with-len.ensures.some } in
-          length_next c.args.leaving file tree m s walks nexts h.lefts h.comings o h.at turn.track c.index_mut-walk.result.now turn.end t at.1 c.plan_turn.new.walk c.in_ok-planned.planned.count c.plan_turn.new.next c.pass.new.self count planned.1 planned.2 c.in_ok-pass.ensures.turned
+          length_skips c.args.leaving file tree m (turned s turn.end c.in_ok-planned.planned.count c.plan_turn.new.next) c.pass.new.self (slice_set walks turn.track c.plan_turn.new.walk) (slice_set nexts turn.track c.plan_turn.new.next)
+          c.pass.new.due o c.in_ok-pass.ensures.turned due_next c.len_with-len.result
+          (length_next c.args.leaving file tree m s walks nexts h.lefts h.comings o h.at turn.track c.index_mut-walk.result.now turn.end t at.1 c.plan_turn.new.walk c.in_ok-planned.planned.count c.plan_turn.new.next (turned s turn.end c.in_ok-planned.planned.count c.plan_turn.new.next)
+          count planned.1 planned.2 refl
           c.loop-turn.len c.len_with-len.result h.number c.in_ok-planned.planned refl planned.0 (record { few = record { count = bounds.few; rows = bounds.rows }; bytes = bounds.bytes }) (subst (λ (info : TrackInfo). Adds (keys_seen info.keys) c.in_ok-planned.planned
-          c.loop-turn.len c.len_with-len.result) kept adds) h.fits h.len,
+          c.loop-turn.len c.len_with-len.result) kept adds) h.fits h.len),
       λ told tree o.
           let k = c.in-Some.turn.track in
           let lt : k < length walks = search rules in
@@ -112,6 +122,8 @@ loop-turn-preserved g c =
           (λ rest h. one_takes file tree tree.movie.tracks walks k c.index_mut-walk.result.now c.plan_turn.new.walk rest _ _ h there (λ t own may. (rw (i.4, i.2) at p.work) told tree t own o may)),
       search rules,
       looks_on s c.pass.new.self c.args.looks.now _ _ (movie_turns m) i.8 c.in-Some.ensures.looks c.in_ok-pass.ensures.less,
+      due_next,
+      c.in_ok-pass.ensures.some,
     )
 
 pub returns-in_err-pass-clause-unchanged : goal.returns-in_err-pass-clause-unchanged
@@ -130,7 +142,10 @@ returns-in_err-pass-clause-unchanged g c told tree o =
     let first = read_at nexts turn.track (slice_get t.left 0) c.index_mut-next.result.now (ap (λ k. slice_get nexts k) t.place ∙ t.shown) c.index_mut-next.ensures.value in
     let planned = (rw (i.4, i.2) at p.planned) told tree t.t t.left o t.comes first in
     let count = ap (λ (q : Planned). q.count) planned.0 ∙ piece_counts turn.end t.left in
-    absurd (turn_leads c.args.leaving file tree m s walks nexts h.lefts h.comings o h.at turn.track c.index_mut-walk.result.now turn.end t at.1 c.in_ok-planned.planned.count c.plan_turn.new.next count planned.2 c.in_err-pass.ensures.refusal.1)
+    absurd (either ((rw c.tracks-tracks.ensures at c.in_err-pass.ensures.sticks) nexts i.9.times)
+    (turn_leads c.args.leaving file tree m s walks nexts h.lefts h.comings o h.at turn.track c.index_mut-walk.result.now turn.end t at.1 c.in_ok-planned.planned.count c.plan_turn.new.next c.loop-turn.due count planned.2 i.9)
+    (no_more c.args.leaving file tree m s walks nexts h.lefts h.comings o h.at turn.track c.index_mut-walk.result.now turn.end t at.1 c.plan_turn.new.walk c.in_ok-planned.planned.count c.plan_turn.new.next (turned s turn.end c.in_ok-planned.planned.count c.plan_turn.new.next)
+    count planned.1 planned.2 refl c.pass.new.due c.pass.new.self))
 
 pub returns-clause-length : goal.returns-clause-length
 returns-clause-length g c told tree o =
@@ -164,10 +179,10 @@ pub returns-clause-work : goal.returns-clause-work
 returns-clause-work g c told tree o = all_taken (g.S.Store.file c.args.store.now) tree c.loop-turn.walks.items (walks_steps tree) _ _ (c.loop-turn.invariant.6 told tree o)
 
 pub returns-in_err-planned-clause-turns : goal.returns-in_err-planned-clause-turns
-returns-in_err-planned-clause-turns g c = looks_within c.loop-turn.schedule c.args.looks.now _ _ (movie_turns c.args.movie.now) c.loop-turn.invariant.8 c.in-Some.ensures.looks c.in-Some.ensures.track.1
+returns-in_err-planned-clause-turns g c = looks_within c.loop-turn.schedule c.args.looks.now _ _ (movie_turns c.args.movie.now) c.loop-turn.invariant.8 c.in-Some.ensures.looks c.in-Some.ensures.track.1 c.loop-turn.invariant.10
 
 pub returns-in_err-pass-clause-turns : goal.returns-in_err-pass-clause-turns
-returns-in_err-pass-clause-turns g c = looks_within c.loop-turn.schedule c.args.looks.now _ _ (movie_turns c.args.movie.now) c.loop-turn.invariant.8 c.in-Some.ensures.looks c.in-Some.ensures.track.1
+returns-in_err-pass-clause-turns g c = looks_within c.loop-turn.schedule c.args.looks.now _ _ (movie_turns c.args.movie.now) c.loop-turn.invariant.8 c.in-Some.ensures.looks c.in-Some.ensures.track.1 c.loop-turn.invariant.10
 
 pub returns-clause-turns : goal.returns-clause-turns
 returns-clause-turns g c =

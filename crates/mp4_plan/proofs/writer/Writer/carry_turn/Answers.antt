@@ -12,7 +12,7 @@ use Rattle.mp4_plan.specs.words.Spelling.{moof_front, run_rows}
 use Rattle.mp4_plan.specs.words.Taken.{row_seen}
 use Rattle.mp4_plan.specs.words.UsedKeys.{AreApart, groups_bytes}
 use Rattle.mp4_plan.proofs.CarriedParts.{parts_are, read_at, noted_with}
-use Rattle.mp4_plan.proofs.PiecesPut.{piece_follows}
+use Rattle.mp4_plan.proofs.PiecesPut.{none_follow, piece_follows}
 use Rattle.mp4_plan.proofs.PartsPut.{go_five, stop_one, stop_two, stop_three, stop_four, stop_five}
 use Rattle.mp4_plan.proofs.FrontsPut.{front_as}
 use Rattle.mp4_plan.proofs.LeftRefused.{on_both}
@@ -200,3 +200,6 @@ returns-in_default-clause-work g c told tree o n h =
     let w = c.args.self.now in
     let m = c.args.movie.now in
     none_carried w.leaving (g.S.Store.file c.args.store.now) m tree o w.walks.items c.args.track c.args.planned.now.count n h _ (of_got (IsWalkOf m) w.walks.items c.args.track h.walk h.is_walk c.requires.may.writer.walks.each) (c.requires.none c.in_default.is)
+
+pub returns-in_default-clause-many : goal.returns-in_default-clause-many
+returns-in_default-clause-many g c = none_follow (g.K.Sink.contents c.args.sink.now) (waiting c.args.self.now.carrier) c.args.planned.now.count c.args.planned.now.bytes (c.requires.none c.in_default.is) c.requires.may.bounds.bytes

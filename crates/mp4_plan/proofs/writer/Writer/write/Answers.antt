@@ -1,4 +1,4 @@
-use Rattle.std.proofs.Common.{rules, get_or, ◌≡◌, ◌+◌, List, length, map, refl, sym, ap, subst, ◌∙◌, arith}
+use Rattle.std.proofs.Common.{rules, get_or, ◌≡◌, ◌+◌, ◌⊎◌, List, length, map, refl, sym, ap, subst, ◌∙◌, arith}
 use Rattle.std.specs.List.{sum_by}
 use Rattle.std.specs.Vec.{with_items}
 use Rattle.std.proofs.lemmas.List.{with_items_is}
@@ -6,20 +6,22 @@ use Rattle.std.proofs.lemmas.Result.{err_from_is_err_and}
 use Rattle.mp4_present.specs.words.Carried.{waiting}
 use Rattle.mp4_plan.specs.words.ComingLess.{left_samples}
 use Rattle.mp4_plan.specs.words.PutPieces.{PiecesFollow}
-use Rattle.mp4_plan.specs.declared.schedule.Schedule.{Schedule}
+use Rattle.mp4_plan.specs.words.DueTracks.{FindsMore, IsDueAt}
+use Rattle.mp4_tables.specs.declared.sample.SampleAt.{SampleAt}
 use Rattle.mp4_present.specs.declared.carrier.Carrier.{Carrier}
 use Rattle.mp4_present.specs.declared.track_info.TrackInfo.{TrackInfo}
 use Rattle.mp4_present.proofs.WalkCopied.{put_unchanged, on_ok, on_err, if_err}
-use Rattle.std.specs.Prelude.{Some, slice_get}
-use Rattle.mp4_plan.specs.words.Turns.{movie_turns, turn_end}
+use Rattle.std.specs.Prelude.{Option, Some, slice_get}
+use Rattle.mp4_plan.specs.words.Turns.{movie_turns, turn_end, turned, Sticks}
 use Rattle.mp4_plan.specs.format.Held.{rooms}
 use Rattle.mp4_plan.proofs.CarriedParts.{read_at}
 use Rattle.mp4_plan.proofs.PieceWritten.{IsFew}
 use Rattle.mp4_plan.proofs.PiecesPut.{all_follow, fewer_to_come, first_put, follow_then, no_more, still_fits, sum_fits}
 use Rattle.mp4_plan.proofs.TurnTaken.{turns_end}
-use Rattle.mp4_plan.proofs.WritesOn.{stopped, all_taken, all_put, not_all_put, begins, head_stops, head_put, is_first, turned_left}
-use Rattle.mp4_plan.proofs.WriterTurns.{note_lacks, carry_stops, carry_lacks, pass_lacks, turn_goes}
+use Rattle.mp4_plan.proofs.WritesOn.{stopped, all_taken, all_put, not_all_put, begins, head_stops, head_put, is_first, writes_no_more, writes_skips}
+use Rattle.mp4_plan.proofs.WriterTurns.{note_lacks, carry_stops, carry_lacks, pass_lacks, turn_goes, with_times}
 use Rattle.mp4_plan.proofs.LooksOn.{begins_within, looks_on, looks_within}
+use Rattle.mp4_plan.proofs.SkippedTurns.{either}
 use Rattle.mp4_plan.proofs.StepsOn.{all_written, write_then_stop, turn_then, turn_then_stop}
 use Rattle.mp4_plan.proofs.writer.Writer.write.Goals as goal
 
@@ -53,7 +55,7 @@ loop-turn-init g c =
     let next_len = w.nexts.ok.0 in
     let next_many = ap length nexts in
     record {
-      writer = record { walks = rw walks e.walks.walks; few = c.requires.few; nexts = omega (arith, each, next_count, next_len, next_many) };
+      writer = record { walks = rw walks e.walks.walks; few = c.requires.few; nexts = omega (arith, each, next_count, next_len, next_many); due = c.begin.ensures.tree; many = c.begin.ensures.many ∙ rw c.tracks-tracks.ensures at c.new-schedule.ensures.tracks };
       held =
           let room = c.in_ok-carry.ensures.room in
           let old = w.carrier.buffer.ok.0 in
@@ -83,7 +85,9 @@ loop-turn-init g c =
           (waiting c.carry.new.self) o ready refl first
           (rw walks shown.1) (rw walks marked) (nexts ∙ shown.0) (rw c.as_slice.ensures.value at c.in_ok-carry.ensures.bytes);
       within = λ told tree o n may. rw walks (e.writes told tree o n (rw c.as_mut_slice-walks.ensures.value may));
-      looks = begins_within c.args.movie.now.tracks c.new-schedule.result c.args.looks.now (rw c.tracks-tracks.ensures at c.new-schedule.ensures.tracks) (rw c.tracks-tracks.ensures at c.new-schedule.ensures.left) c.new-schedule.ensures.starts.0 c.new-schedule.ensures.starts.2;
+      some = search rules;
+      looks = begins_within c.args.movie.now.tracks c.new-schedule.result c.args.looks.now (rw c.tracks-tracks.ensures at c.new-schedule.ensures.tracks) (rw c.tracks-tracks.ensures at c.new-schedule.ensures.left) c.new-schedule.ensures.starts.0;
+      due = λ told tree o ready. subst (λ (xs : List (Option SampleAt)). IsDueAt c.args.movie.now.tracks xs c.new-schedule.result c.begin.new.due) c.as_slice-3.ensures.value (rw c.tracks-tracks.ensures at c.begin.ensures);
     }
 
 pub returns-in_err-noted-clause-prefix : goal.returns-in_err-noted-clause-prefix
@@ -203,16 +207,28 @@ returns-in_err-pass-clause-unchanged g c told tree o ready =
     → (get_or c.tracks-tracks.result.now c.in-Some.turn.track c.index-tracks-track.result).id
     ≡ info.id = λ info is. ap (λ (x : TrackInfo). x.id) (sym c.index-tracks-track.is ∙ read_at m.tracks s.track info c.index-tracks-track.result is (rw (here.0, c.tracks-tracks.ensures) at c.index-tracks-track.is)) in
     let copied = (rw (c.in_ok-noted.ensures.store.honesty, c.in_ok-noted.ensures.store.file, i.honesty, i.file) at c.in_ok-carry_turn.ensures.copied) told tree o in
+    let put = (rw (c.in_ok-noted.ensures.store.honesty, c.in_ok-noted.ensures.store.file, i.honesty, i.file) at c.in_ok-carry_turn.ensures.put) told tree o in
+    let next = turned s c.in-Some.turn.end c.in_ok-noted.noted.planned.count c.index.result.now in
+    let there = (get_or c.tracks-tracks.result.now c.in-Some.turn.track c.index-tracks-track.result).id in
+    let read : (x : Option SampleAt) → slice_get c.carry_turn.new.self.nexts.items c.in-Some.turn.track ≡ Some x → c.index.result.now ≡ x = λ x is. read_at c.carry_turn.new.self.nexts.items c.in-Some.turn.track x _ is c.index.ensures in
+    let on = turn_goes c.args.self.now.leaving file tree m o s c.loop-turn.sequence c.loop-turn.bytes w before after h c.in-Some.turn here ends i.tracks i.writer i.leaving c.note_turn.new.self c.in_ok-noted.noted there noted c.in_ok-noted.ensures.writer.keeps few is_id c.carry_turn.new.self
+    c.index.result.now copied read (g.K.Sink.contents c.carry_turn.new.sink) next put c.in_ok-carry_turn.ensures.writer.keeps refl in
+    let stuck = with_times c.args.self.now.leaving file tree m o s c.loop-turn.sequence c.loop-turn.bytes w before after h c.in-Some.turn here ends i.tracks i.writer i.leaving c.note_turn.new.self c.in_ok-noted.noted there noted c.in_ok-noted.ensures.writer.keeps few is_id
+    c.carry_turn.new.self c.index.result.now copied
+    read (λ (xs : List (Option SampleAt)). Sticks s c.in_ok-noted.noted.planned.count c.index.result.now ⊎ FindsMore m.tracks xs next c.pass.new.self c.pass.new.due) (i.due told tree o ready) c.in_ok-carry_turn.ensures.writer.keeps.2 (rw c.tracks-tracks.ensures at c.in_err-pass.ensures.sticks) in
     rw (e.1, e.2)
-    (λ r. pass_lacks c.args.self.now.leaving file tree m o s c.loop-turn.sequence c.loop-turn.bytes w before after h c.in-Some.turn here ends i.tracks i.writer i.leaving c.note_turn.new.self c.in_ok-noted.noted
-    (get_or c.tracks-tracks.result.now c.in-Some.turn.track c.index-tracks-track.result).id noted c.in_ok-noted.ensures.writer.keeps few is_id c.carry_turn.new.self _ copied (λ x is. read_at c.carry_turn.new.self.nexts.items c.in-Some.turn.track x _ is c.index.ensures)
-    c.in_err-pass.ensures.refusal.1)
+    (λ r. either stuck
+    (pass_lacks c.args.self.now.leaving file tree m o s c.loop-turn.sequence c.loop-turn.bytes w before after h c.in-Some.turn here ends i.tracks i.writer i.leaving c.note_turn.new.self c.in_ok-noted.noted there noted c.in_ok-noted.ensures.writer.keeps few is_id
+    c.carry_turn.new.self c.index.result.now copied read (i.due told tree o ready))
+    (writes_no_more c.args.self.now.leaving file tree m next c.pass.new.self _ _ _ _ _ _ _ _ c.pass.new.due o on))
 
 pub loop-turn-preserved : goal.loop-turn-preserved
 loop-turn-preserved g c =
     let i = c.loop-turn.invariant in
     record {
-      writer = c.in_ok-carry_turn.ensures.writer.writer;
+      writer =
+          let goes = c.in_ok-carry_turn.ensures.writer.writer in
+          record { walks = goes.walks; few = goes.few; nexts = goes.nexts; due = c.in_ok-pass.ensures.tree.0; many = c.in_ok-pass.ensures.tree.1 ∙ i.tracks };
       held = c.in_ok-carry_turn.ensures.writer.held ∙ c.in_ok-noted.ensures.writer.held ∙ i.held;
       tracks = c.in_ok-pass.ensures.tracks ∙ i.tracks;
       honesty = c.in_ok-carry_turn.ensures.devices.honesty ∙ c.in_ok-noted.ensures.store.honesty ∙ i.honesty;
@@ -221,12 +237,12 @@ loop-turn-preserved g c =
       puts = c.in_ok-carry_turn.ensures.devices.puts ∙ i.puts;
       leaving = c.in_ok-carry_turn.ensures.writer.keeps.0 ∙ c.in_ok-noted.ensures.writer.keeps.0 ∙ i.leaving;
       rows = ap (λ v. length v.items) c.in_ok-carry_turn.ensures.writer.keeps.1 ∙ c.in_ok-noted.ensures.writer.keeps.2 ∙ i.rows;
-      few = (let left = ap (λ (x : Schedule). x.left) c.in_ok-pass.ensures.turned ∙ turned_left c.loop-turn.schedule c.in-Some.turn.end c.in_ok-noted.noted.planned.count c.index.result.now in
+      few = (let left = c.in_ok-pass.ensures.left in
           rw c.from-bytes.ensures (still_fits c.loop-turn.bytes c.loop-turn.schedule.left c.in_ok-noted.noted.planned.bytes c.in_ok-noted.noted.planned.count c.pass.new.self.left _ i.few c.in_ok-noted.ensures.planned.bounds.bytes c.in_ok-pass.ensures.enough left));
       sent =
           let count = c.in_ok-noted.noted.planned.count in
           let bytes = c.in_ok-noted.noted.planned.bytes in
-          let left = ap (λ (x : Schedule). x.left) c.in_ok-pass.ensures.turned ∙ turned_left c.loop-turn.schedule c.in-Some.turn.end c.in_ok-noted.noted.planned.count c.index.result.now in
+          let left = c.in_ok-pass.ensures.left in
           let more = subst (λ (k : Carrier). PiecesFollow (g.K.Sink.contents c.loop-turn.sink) (g.K.Sink.contents c.carry_turn.new.sink) (waiting k) (waiting c.carry_turn.new.self.carrier) 0 count bytes) c.in_ok-noted.ensures.writer.keeps.1 c.in_ok-carry_turn.ensures.many in
           rw c.from-bytes.ensures (
             i.sent.0 + count,
@@ -251,16 +267,45 @@ loop-turn-preserved g c =
           ≡ info.id = λ info is. ap (λ (x : TrackInfo). x.id) (sym c.index-tracks-track.is ∙ read_at m.tracks s.track info c.index-tracks-track.result is (rw (here.0, c.tracks-tracks.ensures) at c.index-tracks-track.is)) in
           let put = (rw (c.in_ok-noted.ensures.store.honesty, c.in_ok-noted.ensures.store.file, i.honesty, i.file) at c.in_ok-carry_turn.ensures.put) told tree o in
           let copied = (rw (c.in_ok-noted.ensures.store.honesty, c.in_ok-noted.ensures.store.file, i.honesty, i.file) at c.in_ok-carry_turn.ensures.copied) told tree o in
+          let next = turned s c.in-Some.turn.end c.in_ok-noted.noted.planned.count c.index.result.now in
+          let there = (get_or c.tracks-tracks.result.now c.in-Some.turn.track c.index-tracks-track.result).id in
+          let read : (x : Option SampleAt) → slice_get c.carry_turn.new.self.nexts.items c.in-Some.turn.track ≡ Some x → c.index.result.now ≡ x = λ x is. read_at c.carry_turn.new.self.nexts.items c.in-Some.turn.track x _ is c.index.ensures in
+          let due_next =
+          with_times c.args.self.now.leaving file tree m o s c.loop-turn.sequence c.loop-turn.bytes w before after h c.in-Some.turn here ends i.tracks i.writer i.leaving c.note_turn.new.self c.in_ok-noted.noted there noted c.in_ok-noted.ensures.writer.keeps few is_id c.carry_turn.new.self
+          c.index.result.now copied read (λ (xs : List (Option SampleAt)). IsDueAt m.tracks xs c.pass.new.self c.pass.new.due) (i.due told tree o ready) c.in_ok-carry_turn.ensures.writer.keeps.2 (rw c.tracks-tracks.ensures at c.in_ok-pass.ensures.due) in
           rw (c.sequence_behind-sequence.ensures, c.from-bytes.ensures)
-          (turn_goes c.args.self.now.leaving file tree m o s c.loop-turn.sequence c.loop-turn.bytes w before after h c.in-Some.turn here ends i.tracks i.writer i.leaving c.note_turn.new.self c.in_ok-noted.noted
-          (get_or c.tracks-tracks.result.now c.in-Some.turn.track c.index-tracks-track.result).id noted c.in_ok-noted.ensures.writer.keeps few is_id c.carry_turn.new.self _ copied
-          (λ x is. read_at c.carry_turn.new.self.nexts.items c.in-Some.turn.track x _ is c.index.ensures) (g.K.Sink.contents c.carry_turn.new.sink) c.pass.new.self put c.in_ok-carry_turn.ensures.writer.keeps c.in_ok-pass.ensures.turned);
+          (writes_skips c.args.self.now.leaving file tree m next c.pass.new.self _ _ _ _ _ _ _ _ c.pass.new.due o
+          (turn_goes c.args.self.now.leaving file tree m o s c.loop-turn.sequence c.loop-turn.bytes w before after h c.in-Some.turn here ends i.tracks i.writer i.leaving c.note_turn.new.self c.in_ok-noted.noted there noted c.in_ok-noted.ensures.writer.keeps few is_id c.carry_turn.new.self
+          c.index.result.now copied read (g.K.Sink.contents c.carry_turn.new.sink) next put c.in_ok-carry_turn.ensures.writer.keeps refl)
+          c.in_ok-pass.ensures.turned due_next);
+      due = λ told tree o ready.
+          let file = g.S.Store.file c.args.store.now in
+          let m = c.args.movie.now in
+          let s = c.loop-turn.schedule in
+          let w = c.loop-turn.self in
+          let h = i.on told tree o ready in
+          let before = g.K.Sink.contents c.args.sink.now in
+          let after = g.K.Sink.contents c.loop-turn.sink in
+          let here = c.in-Some.ensures.track in
+          let ends : (info : TrackInfo) → slice_get m.tracks s.track ≡ Some info → c.in-Some.turn.end ≡ turn_end s info.timescale = λ info is. c.in-Some.ensures.end info (rw c.tracks-tracks.ensures is) in
+          let noted = (rw (i.honesty, i.file) at c.in_ok-noted.ensures.noted) told tree o in
+          let few : IsFew c.in_ok-noted.noted.planned = record { count = no_more _ _ _ c.in_ok-noted.ensures.planned.bounds.few i.writer.few; rows = c.in_ok-noted.ensures.planned.bounds.rows } in
+          let is_id : (info : TrackInfo) → slice_get m.tracks s.track ≡ Some info
+          → (get_or c.tracks-tracks.result.now c.in-Some.turn.track c.index-tracks-track.result).id
+          ≡ info.id = λ info is. ap (λ (x : TrackInfo). x.id) (sym c.index-tracks-track.is ∙ read_at m.tracks s.track info c.index-tracks-track.result is (rw (here.0, c.tracks-tracks.ensures) at c.index-tracks-track.is)) in
+          let copied = (rw (c.in_ok-noted.ensures.store.honesty, c.in_ok-noted.ensures.store.file, i.honesty, i.file) at c.in_ok-carry_turn.ensures.copied) told tree o in
+          let there = (get_or c.tracks-tracks.result.now c.in-Some.turn.track c.index-tracks-track.result).id in
+          let read : (x : Option SampleAt) → slice_get c.carry_turn.new.self.nexts.items c.in-Some.turn.track ≡ Some x → c.index.result.now ≡ x = λ x is. read_at c.carry_turn.new.self.nexts.items c.in-Some.turn.track x _ is c.index.ensures in
+          with_times c.args.self.now.leaving file tree m o s c.loop-turn.sequence c.loop-turn.bytes w before after h c.in-Some.turn here ends i.tracks i.writer i.leaving c.note_turn.new.self c.in_ok-noted.noted there noted c.in_ok-noted.ensures.writer.keeps few is_id
+          c.carry_turn.new.self c.index.result.now copied
+          read (λ (xs : List (Option SampleAt)). IsDueAt m.tracks xs c.pass.new.self c.pass.new.due) (i.due told tree o ready) c.in_ok-carry_turn.ensures.writer.keeps.2 (rw c.tracks-tracks.ensures at c.in_ok-pass.ensures.due);
       within = λ told tree o n may.
           let w = c.loop-turn.self in
           let keep = c.in_ok-noted.ensures.writer.keeps.0 in
           turn_then (g.S.Store.file c.args.store.now) tree c.args.movie.now w.leaving w.walks.items c.note_turn.new.self.walks.items c.in-Some.turn.track c.in_ok-noted.noted.planned.count n _ _ _ (i.within told tree o n may)
           ((rw (i.honesty, i.file) at c.in_ok-noted.ensures.work) told tree o) c.carry_turn.new.self.walks.items _
           (rw keep at ((rw (c.in_ok-noted.ensures.store.honesty, c.in_ok-noted.ensures.store.file, i.honesty, i.file) at c.in_ok-carry_turn.ensures.work) told tree o));
+      some = c.in_ok-pass.ensures.some;
       looks = looks_on c.loop-turn.schedule c.pass.new.self c.args.looks.now _ _ (movie_turns c.args.movie.now) i.looks c.in-Some.ensures.looks c.in_ok-pass.ensures.less;
     }
 
@@ -364,13 +409,13 @@ returns-clause-whole g c =
     c.flush.ensures.bytes
 
 pub returns-in_err-noted-clause-turns : goal.returns-in_err-noted-clause-turns
-returns-in_err-noted-clause-turns g c = looks_within c.loop-turn.schedule c.args.looks.now _ _ (movie_turns c.args.movie.now) c.loop-turn.invariant.looks c.in-Some.ensures.looks c.in-Some.ensures.track.1
+returns-in_err-noted-clause-turns g c = looks_within c.loop-turn.schedule c.args.looks.now _ _ (movie_turns c.args.movie.now) c.loop-turn.invariant.looks c.in-Some.ensures.looks c.in-Some.ensures.track.1 c.loop-turn.invariant.some
 
 pub returns-in_err-carry_turn-clause-turns : goal.returns-in_err-carry_turn-clause-turns
-returns-in_err-carry_turn-clause-turns g c = looks_within c.loop-turn.schedule c.args.looks.now _ _ (movie_turns c.args.movie.now) c.loop-turn.invariant.looks c.in-Some.ensures.looks c.in-Some.ensures.track.1
+returns-in_err-carry_turn-clause-turns g c = looks_within c.loop-turn.schedule c.args.looks.now _ _ (movie_turns c.args.movie.now) c.loop-turn.invariant.looks c.in-Some.ensures.looks c.in-Some.ensures.track.1 c.loop-turn.invariant.some
 
 pub returns-in_err-pass-clause-turns : goal.returns-in_err-pass-clause-turns
-returns-in_err-pass-clause-turns g c = looks_within c.loop-turn.schedule c.args.looks.now _ _ (movie_turns c.args.movie.now) c.loop-turn.invariant.looks c.in-Some.ensures.looks c.in-Some.ensures.track.1
+returns-in_err-pass-clause-turns g c = looks_within c.loop-turn.schedule c.args.looks.now _ _ (movie_turns c.args.movie.now) c.loop-turn.invariant.looks c.in-Some.ensures.looks c.in-Some.ensures.track.1 c.loop-turn.invariant.some
 
 pub returns-then-not-are_all-clause-turns : goal.returns-then-not-are_all-clause-turns
 returns-then-not-are_all-clause-turns g c =

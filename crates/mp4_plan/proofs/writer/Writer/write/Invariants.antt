@@ -3,7 +3,8 @@ use Rattle.std.specs.List.{sum_by}
 use Rattle.mp4_present.specs.words.Carried.{waiting}
 use Rattle.mp4_present.specs.declared.track_info.TrackInfo.{TrackInfo}
 use Rattle.mp4_plan.specs.words.PutPieces.{PiecesFollow}
-use Rattle.mp4_plan.specs.words.Turns.{movie_turns, to_come}
+use Rattle.mp4_plan.specs.words.Turns.{movie_turns, turns_left, IsSomeLeft}
+use Rattle.mp4_plan.specs.words.DueTracks.{IsDueAt}
 use Rattle.mp4_plan.specs.words.OverDevices.{OverOpened}
 use Rattle.mp4_plan.specs.words.Writers.{IsWriterOf, IsReady}
 use Rattle.mp4_plan.specs.format.Held.{held}
@@ -32,8 +33,10 @@ invariant-loop-turn g l = record {
       → WritesOn l.fn.self.leaving file tree l.movie l.schedule l.sequence l.bytes l.self.walks.items l.self.nexts.items (length l.self.rows.items) (g.K.Sink.contents l.fn.sink) (g.K.Sink.contents l.sink) (waiting l.self.carrier));
   within : OverOpened g.S.Store l.fn.store l.movie
       (λ file tree. (n : ℕ) → MayAllWrite file tree l.movie l.fn.self.walks.items n → AllWriteOn file tree l.movie n l.self.walks.items l.fn.steps l.steps);
-  looks : l.looks + to_come l.schedule ≤ l.fn.looks + movie_turns l.movie;
+  due : OverOpened g.S.Store l.fn.store l.movie (λ file tree. IsReady file tree l.movie l.fn.self → IsDueAt l.movie.tracks l.self.nexts.items l.schedule l.self.due);
+  some : IsSomeLeft l.schedule;
+  looks : l.looks + turns_left l.schedule ≤ l.fn.looks + movie_turns l.movie;
 }
 
 abbrev pub decreases-loop-turn : goal.decreases-loop-turn
-decreases-loop-turn g l = to_come l.schedule
+decreases-loop-turn g l = turns_left l.schedule
