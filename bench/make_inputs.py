@@ -112,19 +112,22 @@ def small(path, count=5_000_000):
     plain(path, 1000, lambda begin: [trak(1, b'vide', 12800, tables(begin))], at)
 
 
-def fragments(path, count=20_000):
-    each, size = 30, 500
+def fragments(path, count=20_000, each=30, stride=1):
+    """Fragments of so many samples. Each `stride` of them have the same bytes, and one sync sample, the first."""
+    size = 500
     empty = [table(b'stts', 0, []), table(b'stsc', 0, []), full(b'stsz', 0, 0, bytes(8)), table(b'stco', 0, [])]
     trex = full(b'trex', 0, 0, words([1, 1, 512, 0, 0x10000]))
     with open(path, 'wb') as file:
         file.write(FTYP)
         file.write(box(b'moov', mvhd(1000), trak(1, b'vide', 12800, empty), box(b'mvex', trex)))
         for n in range(count):
-            run = words([each, 0]) + words([0x2000000]) + words([size] * each)
-            boxes = lambda offset: box(b'moof', full(b'mfhd', 0, 0, words([n + 1])), box(b'traf', full(b'tfhd', 0, 0x20000, words([1])), full(b'tfdt', 1, 0, struct.pack('>Q', n * each * 512)), full(b'trun', 0, 0x205, words([each, offset]), words([0x2000000]), words([size] * each))))
+            flags = [0x2000000 if n % stride == 0 else 0x10000]
+            head, time = full(b'tfhd', 0, 0x20000, words([1])), full(b'tfdt', 1, 0, struct.pack('>Q', n * each * 512))
+            trun = lambda offset: full(b'trun', 0, 0x205, words([each, offset]), words(flags), words([size] * each))
+            boxes = lambda offset: box(b'moof', full(b'mfhd', 0, 0, words([n + 1])), box(b'traf', head, time, trun(offset)))
             offset = len(boxes(0)) + 8
             file.write(boxes(offset))
-            file.write(box(b'mdat', bytes([n % 251]) * (each * size)))
+            file.write(box(b'mdat', bytes([n // stride % 251]) * (each * size)))
 
 
 def tracks(path):

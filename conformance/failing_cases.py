@@ -75,6 +75,22 @@ def spread(left):
     return made
 
 
+def stuffed(left):
+    """A fragmented file with a free box at the front of each `moof`, too long to be read with what
+    lies around it: a `traf` of it is then read by itself. Its data stays behind the `moof`."""
+    made = b''
+    while left:
+        length, kind = struct.unpack('>I4s', left[:8])
+        box, left = left[:length], left[length:]
+        if kind == b'moof':
+            at = box.index(b'trun') + 12
+            (offset,) = struct.unpack('>i', box[at:at + 4])
+            box = (struct.pack('>I4sI4s', length + GAP, kind, GAP, b'free') + bytes(GAP - 8)
+                   + box[8:at] + struct.pack('>i', offset + GAP) + box[at + 4:])
+        made += box
+    return made
+
+
 def grown(whole):
     """A file with a user data box in its `moov`, before the `trak`, where it also stands in the
     normal form. No place of data in it is counted from its first byte."""

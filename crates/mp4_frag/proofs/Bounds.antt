@@ -1,22 +1,18 @@
 -- How far from the file the data of a `traf` can begin.
-use Rattle.std.proofs.Common.{◌≡◌, ℕ, suc, ◌+◌, ◌-◌, ◌^◌, ◌<◌, ◌≤◌, Bool, true, false, cond, nat_le, List, [], ◌∷◌, Option, Some, None, IsTrue, refl, sym, subst, ◌∙◌, rules, arith}
+use Rattle.std.proofs.Common.{◌≡◌, ℕ, suc, ◌+◌, ◌-◌, ◌^◌, ◌<◌, ◌≤◌, Bool, true, false, cond, nat_le, List, [], ◌∷◌, Option, Some, None, refl, sym, subst, rules, arith}
 use Rattle.std.specs.Prelude.{ℤ, pos, negsuc, ◌+ℤ◌, unwrap_or, IfSome, FitsSigned, option_map, drop}
 use Rattle.std.specs.Int.{w32}
 use Rattle.std.proofs.Math.IntN.{sub_ℕ}
-use Rattle.std.specs.List.{AllByRecursion}
 use Rattle.mp4_tables.specs.format.TableRules.{lies_within}
 use Rattle.byteorder.specs.Endian.{twos_complement}
 use Rattle.mp4_boxes.specs.format.Bytes.{AreBytes}
 use Rattle.mp4_boxes.specs.format.Layout.{flags, column_values, trun_columns}
 use Rattle.mp4_boxes.proofs.OfBytes.{signed_32, bytes_dropped}
-use Rattle.mp4_frag.specs.format.Fragments.{RunRow, Run, TrackFragment, column, run_of}
+use Rattle.mp4_frag.specs.format.Fragments.{RunRow, column, run_of}
 use Rattle.mp4_frag.specs.declared.heads.Inherited.{Inherited}
 use Rattle.mp4_frag.proofs.Ranges.{value_below}
-use Rattle.mp4_frag.specs.format.FragmentSamples.{run_samples, run_start, runs_samples, runs_end, end_of_data, base_of}
-use Rattle.mp4_frag.specs.format.FragmentRules.{is_within}
+use Rattle.mp4_frag.specs.format.FragmentSamples.{run_start}
 use Rattle.mp4_frag.specs.words.Passing.{IsNearer, IsUpTo, within_from, end_from, IsRunPassed}
-use Rattle.mp4_frag.specs.declared.trex.Trex.{Trex}
-use Rattle.mp4_frag.proofs.SamplesOfRows.{within_is, end_is}
 use Rattle.mp4_frag.proofs.RowsTied.{both}
 
 pub up_to_more : (n m : ℕ) (z : ℤ) → n ≤ m → IsUpTo n z → IsUpTo m z
@@ -55,32 +51,6 @@ rows_up_to n L size at (row ∷ rows) h within b =
 start_up_to : (n : ℕ) (base before : ℤ) (offset : Option ℤ) → IfSome offset (FitsSigned w32) → IsUpTo n base → IsUpTo (n + 2 ^ 31) before → IsUpTo (n + 2 ^ 31) (run_start base before offset)
 start_up_to n base before None f b c = c
 start_up_to n base before (Some offset) f b c = up_to_offset n base offset f b
-
--- where the data of runs ends
-pub runs_up_to : (n L : ℕ) (traf : TrackFragment) (trex : Trex) (base before : ℤ) (runs : List Run) → L ≤ n → AllByRecursion (λ (r : Run). IfSome r.data_offset (FitsSigned w32)) runs
-    → AllByRecursion (λ samples. IsTrue (is_within L samples)) (runs_samples trex traf base before runs) → IsUpTo n base → IsUpTo (n + 2 ^ 31) before → IsUpTo (n + 2 ^ 31) (runs_end trex traf base before runs)
-runs_up_to n L traf trex base before [] h f within b c = c
-runs_up_to n L traf trex base before (run ∷ runs) h f within b c =
-    let size = unwrap_or traf.size trex.size in
-    let start = run_start base before run.data_offset in
-    let inside : within_from L size start run.rows ≡ true = sym (within_is L trex traf run.first_sample_flags start run.rows) ∙ within.0 in
-    let end = rows_up_to (n + 2 ^ 31) L size start run.rows (omega arith) inside (start_up_to n base before run.data_offset f.0 b c) in
-    let same = end_is trex traf run.first_sample_flags start run.rows in
-    runs_up_to n L traf trex base (end_of_data start (run_samples trex traf run.first_sample_flags start run.rows)) runs h f.1 within.1 b (subst (IsUpTo (n + 2 ^ 31)) (sym same) end)
-
--- where the runs of a `traf` are counted from
-pub base_up_to : (n moof : ℕ) (before : ℤ) (traf : TrackFragment) → moof ≤ n → IfSome traf.base_data_offset (λ at. at ≤ n) → IsUpTo n before → IsUpTo n (base_of moof before traf)
-base_up_to n moof before traf h f b = choice traf.base_data_offset traf.base_is_moof f
-  where
-    based : Option ℕ → Bool → ℤ
-    based (Some at) is_moof = pos at
-    based None true = pos moof
-    based None false = before
-
-    choice : (o : Option ℕ) (v : Bool) → IfSome o (λ at. at ≤ n) → IsUpTo n (based o v)
-    choice (Some at) v g = g
-    choice None true g = h
-    choice None false g = b
 
 -- ---- one run
 

@@ -38,7 +38,7 @@ kept : (kind : List ℕ) (b : Box) (boxes : List Box) → bytes_eq b.kind kind �
 kept kind b boxes e = rw (turned kind b.kind ∙ e) refl
 
 -- by what one of them adds
-sum_one : (kind : List ℕ) (f : Box → ℕ) (left later : List Box) (b : Box) → left ≡ b ∷ later → bytes_eq b.kind kind ≡ true → sum_of f (of_kind kind left) ≡ f b + sum_of f (of_kind kind later)
+pub sum_one : (kind : List ℕ) (f : Box → ℕ) (left later : List Box) (b : Box) → left ≡ b ∷ later → bytes_eq b.kind kind ≡ true → sum_of f (of_kind kind left) ≡ f b + sum_of f (of_kind kind later)
 sum_one kind f left later b e k = ap (λ boxes. sum_of f (of_kind kind boxes)) e ∙ ap (sum_of f) (kept kind b later k)
 
 -- ---- the runs of a `traf`

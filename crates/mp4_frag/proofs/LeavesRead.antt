@@ -1,5 +1,5 @@
 -- What a walk takes from the leaves of a `traf`.
-use Rattle.std.proofs.Common.{◌≡◌, ℕ, zero, suc, ◌+◌, ◌*◌, ◌<◌, ◌≤◌, drop, slice_index_or, slice_set, min, ◌&&◌, Bool, true, false, cond, List, [], ◌∷◌, length, map, Option, Some, None, nat_le, refl, sym, ap, ◌∙◌, rules, arith}
+use Rattle.std.proofs.Common.{◌≡◌, ℕ, zero, suc, ◌+◌, ◌*◌, ◌<◌, ◌≤◌, drop, slice_index_or, slice_set, min, ◌&&◌, ◌==◌, Bool, true, false, List, [], ◌∷◌, length, map, Option, Some, None, nat_le, refl, sym, ap, ◌∙◌, rules, arith}
 use Rattle.std.specs.Prelude.{ℤ}
 use Rattle.std.specs.List.{slice_get}
 use Rattle.mp4_boxes.specs.format.Layout.{Leaf, tfhd, trun, sbgp, knows_version, knows_flags, needed, IsReadable}
@@ -12,11 +12,10 @@ use Rattle.mp4_tables.specs.words.Indexes.{low_half}
 use Rattle.mp4_frag.specs.words.ColumnsRead.{row_room}
 use Rattle.mp4_frag.specs.format.Fragments.{RunRow, run_of, run_rows}
 use Rattle.mp4_frag.proofs.BoxPlaces.{part_length}
-use Rattle.mp4_frag.specs.words.Looks.{over_run}
 use Rattle.mp4_tables.specs.words.GroupBoxes.{IsGroup}
 use Rattle.mp4_tables.specs.declared.group_boxes.Group.{Group}
-use Rattle.mp4_frag.specs.words.Reading.{IsHead, IsRun, as_traf, head_values}
-use Rattle.mp4_frag.specs.words.Walks.{can_read, indexes_of, with_group, part_of, Walk, Reached, head_of, with_trex, trex_among, with_head, rows_here, rows_of, rows_coming, run_coming, begin, end_held}
+use Rattle.mp4_frag.specs.words.Reading.{IsHead, IsRun, as_traf, head_values, inheritance}
+use Rattle.mp4_frag.specs.words.Walks.{can_read, indexes_of, names, with_group, part_of, Reached, head_of, with_head, rows_here, rows_of, rows_coming, run_coming, begin}
 use Rattle.mp4_boxes.specs.format.BoxFaults.{Fails}
 use Rattle.mp4_boxes.specs.declared.fault.Kind.{Kind}
 use Rattle.mp4_boxes.specs.declared.fault.Kind.TheVariants as kinds
@@ -49,6 +48,13 @@ group_taken payload inside end j group keys lists indexes h k g place e =
     let same : indexes ≡ indexes_of part = e ∙ ap (λ runs. map low_half (repeated runs)) (runs_in_part payload inside end group.rows group.count h k g.room) ∙ unfolding_indexes part group g in
     rw (there, key, same) refl
 
+pub nothing : (a : Bool) → (a && false) ≡ false
+nothing true = refl
+nothing false = refl
+
+pub nor_then : (a b : Bool) → (a && (b && false)) ≡ false
+nor_then a b = ap (λ v. a && v) (nothing b) ∙ nothing a
+
 -- ---- heads
 
 column_of : (values : List (Option ℕ)) (k : ℕ) (more : List (Option ℕ)) → values ≡ more → slice_index_or values k None ≡ slice_index_or more k None
@@ -67,11 +73,36 @@ head_is part head h =
     let is_moof = h.base_is_moof in
     λ i. record { id = id i; base_data_offset = base i; description = description i; duration = duration i; size = size i; flags = flags i; base_is_moof = is_moof i; decode_time = None; runs = []; groups = [] }
 
-pub head_taken : (w : Walk) (s : Reached) (part : List ℕ) (head : Head) (found : Option Trex) → IsHead part head → found ≡ trex_among w.tracks head.id → with_trex w s (as_traf head) found ≡ with_head w s part
-head_taken w s part head found h e =
+-- what it says is taken
+pub head_taken : (trex : Trex) (s : Reached) (part : List ℕ) (head : Head) → IsHead part head → record s { inherited = inheritance (as_traf head) trex } ≡ with_head trex s part
+head_taken trex s part head h =
     let there = read tfhd part h.readable in
     let same = head_is part head h in
-    rw there (ap (with_trex w s (as_traf head)) e ∙ (λ i. with_trex w s (same i) (trex_among w.tracks (same i).id)))
+    rw there (λ i. record s { inherited = inheritance (same i) trex })
+
+-- whether it names a track
+pub head_names : (id : ℕ) (part : List ℕ) (head : Head) → IsHead part head → (head.id == id) ≡ names id part
+unfolding names
+head_names id part head h =
+    let there = read tfhd part h.readable in
+    let same = head_is part head h in
+    rw there (λ i. (same i).id == id)
+
+-- one that can't be read
+head_unread : (payload : List ℕ) (kind : Kind) → Fails tfhd payload kind → can_read tfhd payload ≡ false
+head_unread payload kinds.ShortBox f =
+    let room : nat_le (needed tfhd payload) (length payload) ≡ false = search (rules, f) in
+    ap (λ v. knows_version tfhd payload && (knows_flags tfhd payload && v)) room ∙ nor_then (knows_version tfhd payload) (knows_flags tfhd payload)
+head_unread payload kinds.BadVersion f = ap (λ v. v && (knows_flags tfhd payload && nat_le (needed tfhd payload) (length payload))) f.1
+head_unread payload kinds.BadFlags f = ap (λ v. knows_version tfhd payload && (v && nat_le (needed tfhd payload) (length payload))) f.1 ∙ nothing (knows_version tfhd payload)
+head_unread payload kinds.BadValue f = absurd cc
+head_unread payload kinds.OutsideData f = absurd cc
+head_unread payload kinds.OffsetTooLarge f = absurd cc
+head_unread payload kind f = absurd f
+
+pub names_none : (id : ℕ) (part : List ℕ) (kind : Kind) → Fails tfhd part kind → false ≡ names id part
+unfolding names
+names_none id part kind f = rw (head_unread part kind f) refl
 
 -- an item that is there
 pub got : (k : ℕ) (tracks : List TrackState) (d : TrackState) → k < length tracks → slice_get tracks k ≡ Some (slice_index_or tracks k d)
@@ -80,13 +111,6 @@ got zero (t ∷ tracks) d lt = refl
 got (suc k) (t ∷ tracks) d lt = got k tracks d (omega arith)
 
 -- ---- runs
-
-pub nothing : (a : Bool) → (a && false) ≡ false
-nothing true = refl
-nothing false = refl
-
-pub nor_then : (a b : Bool) → (a && (b && false)) ≡ false
-nor_then a b = ap (λ v. a && v) (nothing b) ∙ nothing a
 
 -- a `trun` that can't be read
 pub run_unread : (payload : List ℕ) (kind : Kind) → Fails trun payload kind → (kind ≡ kinds.OffsetTooLarge → ⊥) → can_read trun payload ≡ false
@@ -116,31 +140,14 @@ rows_taken payload inside end run first h k r =
     run_rows_in_part payload inside end run.rows run.count 1 run.bits h k r.room
     ∙ (λ i. run_rows (count i) 1 (bits i) (drop (rows i) (part_of payload inside end)))
 
-pub first_taken : (a b : Bool) (x y z : List SampleAt) → a ≡ true → b ≡ true → cond a (cond b x y) z ≡ x
-first_taken a b x y z e f = rw (e, f) refl
-
-pub second_taken : (a b : Bool) (x y z : List SampleAt) → a ≡ true → b ≡ false → cond a (cond b x y) z ≡ y
-second_taken a b x y z e f = rw (e, f) refl
-
--- the samples of one of the walk's own track
-pub run_own : (s : Reached) (part : List ℕ) (run : Run) (at : ℤ) (rows : List RunRow) (more : Reached → List SampleAt) → s.is_own ≡ true → IsRun part run → at ≡ begin s.base s.at run.data_offset → rows ≡ rows_of part
+-- its samples
+pub run_own : (s : Reached) (part : List ℕ) (run : Run) (at : ℤ) (rows : List RunRow) (more : Reached → List SampleAt) → IsRun part run → at ≡ begin s.base s.at run.data_offset → rows ≡ rows_of part
     → rows_coming (record s { at = at }) run.first_flags rows more ≡ run_coming s part more
-run_own s part run at rows more own r ea er =
+run_own s part run at rows more r ea er =
     let there = read trun part r.readable in
     let from : at ≡ begin s.base s.at (run_of part).data_offset = ea ∙ ap (begin s.base s.at) r.data_offset in
     let first = r.first_flags in
-    (λ i. rows_coming (record s { at = from i }) (first i) (er i) more) ∙ sym (first_taken (can_read trun part) s.is_own _ _ _ there own)
-
--- one that gives no samples is passed
-pub over_unread : (s : Reached) (part : List ℕ) (kind : Kind) → Fails trun part kind → (kind ≡ kinds.OffsetTooLarge → ⊥) → s ≡ over_run s part
-over_unread s part kind f d = rw (run_unread part kind f d) refl
-
-pub over_read : (s : Reached) (part : List ℕ) (run : Run) (at end : ℤ) (rows : List RunRow) → IsRun part run → at ≡ begin s.base s.at run.data_offset → rows ≡ rows_of part → end ≡ end_held s.inherited.size at rows → record s { at = end } ≡ over_run s part
-over_read s part run at end rows r ea er ee =
-    let there = read trun part r.readable in
-    let from : at ≡ begin s.base s.at (run_of part).data_offset = ea ∙ ap (begin s.base s.at) r.data_offset in
-    let ends : end ≡ end_held s.inherited.size (begin s.base s.at (run_of part).data_offset) (rows_of part) = ee ∙ (λ i. end_held s.inherited.size (from i) (er i)) in
-    rw there (λ i. record s { at = ends i })
+    rw there (λ i. rows_coming (record s { at = from i }) (first i) (er i) more)
 
 -- there is room for them
 pub run_room : (payload : List ℕ) (inside end : ℕ) (run : Run) → inside ≤ end → end ≤ length payload → IsRun (part_of payload inside end) run → inside + run.rows + run.count * row_room run.bits ≤ length payload

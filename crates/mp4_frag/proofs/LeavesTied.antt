@@ -12,10 +12,8 @@ use Rattle.mp4_tables.specs.words.Keys.{key_place}
 use Rattle.mp4_tables.specs.format.Repeated.{repeated}
 use Rattle.mp4_tables.specs.words.Rows.{runs_at}
 use Rattle.mp4_tables.specs.words.Indexes.{low_half}
-use Rattle.mp4_frag.specs.format.Fragments.{TrackFragment, track_fragment_of}
-use Rattle.mp4_frag.specs.format.FragmentSamples.{base_of}
-use Rattle.mp4_frag.specs.words.Walks.{Walk, Reached, indexes_of, with_key, with_group, with_head, with_leaves, head_of, trex_among}
-use Rattle.mp4_frag.specs.declared.heads.Inherited.{Inherited}
+use Rattle.mp4_frag.specs.format.Fragments.{track_fragment_of}
+use Rattle.mp4_frag.specs.words.Walks.{Reached, at_first, no_indexes, indexes_of, with_key, with_group, with_head, with_leaves, head_of, names, are_named}
 use Rattle.mp4_frag.specs.declared.trex.Trex.{Trex}
 use Rattle.mp4_frag.proofs.LeavesRead.{read}
 use Rattle.mp4_frag.proofs.RowsTied.{stand}
@@ -53,60 +51,81 @@ kind_is : (a b : List ℕ) → bytes_eq a b ≡ true → a ≡ b
 kind_is a b e = (bytes_eq-Decides a b).0 e
 
 -- with no `tfhd`, the boxes say indexes alone
-groups_alone : (w : Walk) (traf : TrackFragment) (trex : Trex) (dts : ℕ) (at : ℤ) (own : Bool) (base : ℤ) (boxes : List Box) (lists : List (List ℕ)) → count_among (codes "tfhd" ∷ []) boxes ≡ 0
-    → with_leaves w (stand traf trex dts at own base lists) boxes ≡ stand traf trex dts at own base (groups_taken w.keys lists (of_kind (codes "sbgp") boxes))
-groups_alone w traf trex dts at own base [] lists n = refl
-groups_alone w traf trex dts at own base (b ∷ boxes) lists n =
-    choice (bytes_eq (codes "tfhd") b.kind) (bytes_eq (codes "sbgp") b.kind) refl n (λ ls m. groups_alone w traf trex dts at own base boxes ls m)
+groups_alone : (trex : Trex) (keys : List GroupKey) (s : Reached) (boxes : List Box) (lists : List (List ℕ)) → count_among (codes "tfhd" ∷ []) boxes ≡ 0
+    → with_leaves trex keys (record s { indexes = lists }) boxes ≡ record s { indexes = groups_taken keys lists (of_kind (codes "sbgp") boxes) }
+groups_alone trex keys s [] lists n = refl
+groups_alone trex keys s (b ∷ boxes) lists n =
+    choice (bytes_eq (codes "tfhd") b.kind) (bytes_eq (codes "sbgp") b.kind) refl n (λ ls m. groups_alone trex keys s boxes ls m)
   where
     choice : (u v : Bool) → bytes_eq (codes "tfhd") b.kind ≡ u → (cond (u || false) 1 0) + count_among (codes "tfhd" ∷ []) boxes ≡ 0
-        → ((ls : List (List ℕ)) → count_among (codes "tfhd" ∷ []) boxes ≡ 0 → with_leaves w (stand traf trex dts at own base ls) boxes ≡ stand traf trex dts at own base (groups_taken w.keys ls (of_kind (codes "sbgp") boxes)))
-        → with_leaves w (cond u (with_head w (stand traf trex dts at own base lists) b.payload) (cond v (stand traf trex dts at own base (with_group w.keys lists b.payload)) (stand traf trex dts at own base lists))) boxes
-        ≡ stand traf trex dts at own base (groups_taken w.keys lists (cond v (b ∷ of_kind (codes "sbgp") boxes) (of_kind (codes "sbgp") boxes)))
+        → ((ls : List (List ℕ)) → count_among (codes "tfhd" ∷ []) boxes ≡ 0 → with_leaves trex keys (record s { indexes = ls }) boxes ≡ record s { indexes = groups_taken keys ls (of_kind (codes "sbgp") boxes) })
+        → with_leaves trex keys (cond u (with_head trex (record s { indexes = lists }) b.payload) (cond v (record s { indexes = with_group keys lists b.payload }) (record s { indexes = lists }))) boxes
+        ≡ record s { indexes = groups_taken keys lists (cond v (b ∷ of_kind (codes "sbgp") boxes) (of_kind (codes "sbgp") boxes)) }
     choice true v e m more = absurd (omega (arith, m))
-    choice false true e m more = more (with_group w.keys lists b.payload) (omega (arith, m))
+    choice false true e m more = more (with_group keys lists b.payload) (omega (arith, m))
     choice false false e m more = more lists (omega (arith, m))
 
--- before the boxes of a `traf`
-abbrev pub before_it : ℕ → ℤ → ℤ → Inherited → List (List ℕ) → Reached
-before_it dts at base inherited lists = record { dts = dts; at = at; is_own = false; base = base; inherited = inherited; indexes = lists }
+-- a `tfhd` is no `sbgp`
+not_both : (kind : List ℕ) → bytes_eq (codes "tfhd") kind ≡ true → bytes_eq (codes "sbgp") kind ≡ true → ⊥
+not_both kind e f =
+    let same : codes "tfhd" ≡ codes "sbgp" = kind_is (codes "tfhd") kind e ∙ sym (kind_is (codes "sbgp") kind f) in
+    let t : bytes_eq (codes "tfhd") (codes "sbgp") ≡ true = ap (bytes_eq (codes "tfhd")) (sym same) in
+    absurd cc
 
 -- what the one `tfhd` says stands beside the indexes
-with_one_head : (w : Walk) (traf : TrackFragment) (trex : Trex) (dts : ℕ) (at base to : ℤ) (own : Bool) (inherited : Inherited) (boxes : List Box) (lists : List (List ℕ)) → count_among (codes "tfhd" ∷ []) boxes ≡ 1
-    → ((ls : List (List ℕ)) → with_head w (before_it dts at base inherited ls) (payload_of (codes "tfhd") boxes) ≡ stand traf trex dts to own to ls)
-    → with_leaves w (before_it dts at base inherited lists) boxes ≡ stand traf trex dts to own to (groups_taken w.keys lists (of_kind (codes "sbgp") boxes))
-with_one_head w traf trex dts at base to own inherited [] lists n h = absurd (omega (arith, n))
-with_one_head w traf trex dts at base to own inherited (b ∷ boxes) lists n h =
-    choice (bytes_eq (codes "tfhd") b.kind) (bytes_eq (codes "sbgp") b.kind) refl refl n h
-    (λ ls m. groups_alone w traf trex dts to own to boxes ls m)
-    (λ ls m k. with_one_head w traf trex dts at base to own inherited boxes ls m k)
+with_one_head : (trex : Trex) (keys : List GroupKey) (s t : Reached) (boxes : List Box) (lists : List (List ℕ)) → count_among (codes "tfhd" ∷ []) boxes ≡ 1
+    → ((ls : List (List ℕ)) → with_head trex (record s { indexes = ls }) (payload_of (codes "tfhd") boxes) ≡ record t { indexes = ls })
+    → with_leaves trex keys (record s { indexes = lists }) boxes ≡ record t { indexes = groups_taken keys lists (of_kind (codes "sbgp") boxes) }
+with_one_head trex keys s t [] lists n h = absurd (omega (arith, n))
+with_one_head trex keys s t (b ∷ boxes) lists n h =
+    choice (bytes_eq (codes "tfhd") b.kind) (bytes_eq (codes "sbgp") b.kind) refl refl n h (λ ls m k. with_one_head trex keys s t boxes ls m k)
   where
     choice : (u v : Bool) → bytes_eq (codes "tfhd") b.kind ≡ u → bytes_eq (codes "sbgp") b.kind ≡ v → (cond (u || false) 1 0) + count_among (codes "tfhd" ∷ []) boxes ≡ 1
-        → ((ls : List (List ℕ)) → with_head w (before_it dts at base inherited ls) (unwrap_or (cond u (Some b.payload) (payload_if (codes "tfhd") boxes)) []) ≡ stand traf trex dts to own to ls)
-        → ((ls : List (List ℕ)) → count_among (codes "tfhd" ∷ []) boxes ≡ 0 → with_leaves w (stand traf trex dts to own to ls) boxes ≡ stand traf trex dts to own to (groups_taken w.keys ls (of_kind (codes "sbgp") boxes)))
-        → ((ls : List (List ℕ)) → count_among (codes "tfhd" ∷ []) boxes ≡ 1 → ((more : List (List ℕ)) → with_head w (before_it dts at base inherited more) (payload_of (codes "tfhd") boxes) ≡ stand traf trex dts to own to more)
-        → with_leaves w (before_it dts at base inherited ls) boxes ≡ stand traf trex dts to own to (groups_taken w.keys ls (of_kind (codes "sbgp") boxes)))
-        → with_leaves w (cond u (with_head w (before_it dts at base inherited lists) b.payload) (cond v (before_it dts at base inherited (with_group w.keys lists b.payload)) (before_it dts at base inherited lists))) boxes
-        ≡ stand traf trex dts to own to (groups_taken w.keys lists (cond v (b ∷ of_kind (codes "sbgp") boxes) (of_kind (codes "sbgp") boxes)))
-    choice true true e f m k alone later =
-        let same : codes "tfhd" ≡ codes "sbgp" = kind_is (codes "tfhd") b.kind e ∙ sym (kind_is (codes "sbgp") b.kind f) in
-        absurd (differ same)
-      where
-        differ : codes "tfhd" ≡ codes "sbgp" → ⊥
-        differ s = let t : bytes_eq (codes "tfhd") (codes "sbgp") ≡ true = ap (bytes_eq (codes "tfhd")) (sym s) in absurd cc
-    choice true false e f m k alone later = ap (λ (s : Reached). with_leaves w s boxes) (k lists) ∙ alone lists (omega (arith, m))
-    choice false true e f m k alone later = later (with_group w.keys lists b.payload) (omega (arith, m)) k
-    choice false false e f m k alone later = later lists (omega (arith, m)) k
+        → ((ls : List (List ℕ)) → with_head trex (record s { indexes = ls }) (unwrap_or (cond u (Some b.payload) (payload_if (codes "tfhd") boxes)) []) ≡ record t { indexes = ls })
+        → ((ls : List (List ℕ)) → count_among (codes "tfhd" ∷ []) boxes ≡ 1 → ((more : List (List ℕ)) → with_head trex (record s { indexes = more }) (payload_of (codes "tfhd") boxes) ≡ record t { indexes = more })
+        → with_leaves trex keys (record s { indexes = ls }) boxes ≡ record t { indexes = groups_taken keys ls (of_kind (codes "sbgp") boxes) })
+        → with_leaves trex keys (cond u (with_head trex (record s { indexes = lists }) b.payload) (cond v (record s { indexes = with_group keys lists b.payload }) (record s { indexes = lists }))) boxes
+        ≡ record t { indexes = groups_taken keys lists (cond v (b ∷ of_kind (codes "sbgp") boxes) (of_kind (codes "sbgp") boxes)) }
+    choice true true e f m k later = absurd (not_both b.kind e f)
+    choice true false e f m k later = ap (λ (u : Reached). with_leaves trex keys u boxes) (k lists) ∙ groups_alone trex keys t boxes lists (omega (arith, m))
+    choice false true e f m k later = later (with_group keys lists b.payload) (omega (arith, m)) k
+    choice false false e f m k later = later lists (omega (arith, m)) k
 
--- what the one `tfhd` of a track with a `trex` says
-pub head_says : (w : Walk) (payload : List ℕ) (trex : Trex) (dts : ℕ) (at base : ℤ) (inherited : Inherited) (lists : List (List ℕ)) → IsReadable tfhd payload → trex_among w.tracks (head_of payload).id ≡ Some trex
-    → with_head w (before_it dts at base inherited lists) payload ≡ stand (head_of payload) trex dts (base_of w.moof at (head_of payload)) ((head_of payload).id == w.track) (base_of w.moof at (head_of payload)) lists
-head_says w payload trex dts at base inherited lists r known = let there = read tfhd payload r in rw (there, known) refl
+-- what the one `tfhd` says
+head_says : (trex : Trex) (base : ℤ) (dts : ℕ) (payload : List ℕ) (lists : List (List ℕ)) → IsReadable tfhd payload → with_head trex (record (at_first base dts) { indexes = lists }) payload ≡ stand (head_of payload) trex dts base base lists
+head_says trex base dts payload lists r = let there = read tfhd payload r in rw there refl
 
-pub leaves_tied : (w : Walk) (boxes : List Box) (trex : Trex) (dts : ℕ) (at base : ℤ) (inherited : Inherited) (lists : List (List ℕ)) → count_among (codes "tfhd" ∷ []) boxes ≡ 1 → IsReadable tfhd (payload_of (codes "tfhd") boxes)
-    → trex_among w.tracks (track_fragment_of boxes).id ≡ Some trex
-    → with_leaves w (before_it dts at base inherited lists) boxes
-    ≡ stand (track_fragment_of boxes) trex dts (base_of w.moof at (track_fragment_of boxes)) ((track_fragment_of boxes).id == w.track) (base_of w.moof at (track_fragment_of boxes)) (groups_taken w.keys lists (of_kind (codes "sbgp") boxes))
-leaves_tied w boxes trex dts at base inherited lists n r known =
-    with_one_head w (track_fragment_of boxes) trex dts at base (base_of w.moof at (track_fragment_of boxes)) ((track_fragment_of boxes).id == w.track) inherited boxes lists n
-    (λ ls. head_says w (payload_of (codes "tfhd") boxes) trex dts at base inherited ls r known)
+-- what goes for the samples of a `traf` with one `tfhd`
+pub leaves_tied : (trex : Trex) (keys : List GroupKey) (base : ℤ) (dts : ℕ) (boxes : List Box) → count_among (codes "tfhd" ∷ []) boxes ≡ 1 → IsReadable tfhd (payload_of (codes "tfhd") boxes)
+    → with_leaves trex keys (at_first base dts) boxes ≡ stand (track_fragment_of boxes) trex dts base base (groups_taken keys no_indexes (of_kind (codes "sbgp") boxes))
+leaves_tied trex keys base dts boxes n r =
+    with_one_head trex keys (at_first base dts) (stand (track_fragment_of boxes) trex dts base base []) boxes no_indexes n (λ ls. head_says trex base dts (payload_of (codes "tfhd") boxes) ls r)
+
+-- ---- whose the `traf` is
+
+-- no other `tfhd` says it
+named_before : (id : ℕ) (before : Bool) (boxes : List Box) → count_among (codes "tfhd" ∷ []) boxes ≡ 0 → are_named id before boxes ≡ before
+named_before id before [] n = refl
+named_before id before (b ∷ boxes) n = choice (bytes_eq (codes "tfhd") b.kind) n (named_before id before boxes)
+  where
+    choice : (u : Bool) → (cond (u || false) 1 0) + count_among (codes "tfhd" ∷ []) boxes ≡ 0 → (count_among (codes "tfhd" ∷ []) boxes ≡ 0 → are_named id before boxes ≡ before)
+        → are_named id (cond u (names id b.payload) before) boxes ≡ before
+    choice true m more = absurd (omega (arith, m))
+    choice false m more = more (omega (arith, m))
+
+-- the one `tfhd` does
+named_one : (id : ℕ) (before : Bool) (boxes : List Box) → count_among (codes "tfhd" ∷ []) boxes ≡ 1 → are_named id before boxes ≡ names id (payload_of (codes "tfhd") boxes)
+named_one id before [] n = absurd (omega (arith, n))
+named_one id before (b ∷ boxes) n = choice (bytes_eq (codes "tfhd") b.kind) n (named_one id before boxes)
+  where
+    choice : (u : Bool) → (cond (u || false) 1 0) + count_among (codes "tfhd" ∷ []) boxes ≡ 1 → (count_among (codes "tfhd" ∷ []) boxes ≡ 1 → are_named id before boxes ≡ names id (payload_of (codes "tfhd") boxes))
+        → are_named id (cond u (names id b.payload) before) boxes ≡ names id (unwrap_or (cond u (Some b.payload) (payload_if (codes "tfhd") boxes)) [])
+    choice true m more = named_before id (names id b.payload) boxes (omega (arith, m))
+    choice false m more = more (omega (arith, m))
+
+names_it : (id : ℕ) (payload : List ℕ) → IsReadable tfhd payload → names id payload ≡ ((head_of payload).id == id)
+unfolding names
+names_it id payload r = let there = read tfhd payload r in rw there refl
+
+pub named_tied : (id : ℕ) (boxes : List Box) → count_among (codes "tfhd" ∷ []) boxes ≡ 1 → IsReadable tfhd (payload_of (codes "tfhd") boxes) → are_named id false boxes ≡ ((track_fragment_of boxes).id == id)
+named_tied id boxes n r = named_one id false boxes n ∙ names_it id (payload_of (codes "tfhd") boxes) r

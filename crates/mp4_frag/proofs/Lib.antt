@@ -19,7 +19,6 @@ pub mod GroupsPassed
 pub mod NamesKept
 pub mod RunsPassed
 pub mod BoxesMoved
-pub mod MoofTied
 pub mod TrafsTied
 pub mod Bounds
 pub mod LeavesTied
@@ -28,9 +27,6 @@ pub mod RunsTied
 pub mod RowsTied
 pub mod Comings
 pub mod TimesKept
-pub mod LooksRead
-pub mod TrafsSkipped
-pub mod LooksAhead
 pub mod PartsRead
 pub mod LeavesRead
 pub mod RowsLeft
@@ -44,3 +40,7 @@ pub mod Trees
 pub mod Ranges
 pub mod Vectors
 pub mod DurationsKept
+pub mod OwnTied
+pub mod OwnNoted
+pub mod OwnParts
+pub mod ChecksStopped

@@ -1,12 +1,12 @@
 -- The rows left of a run from one to the next.
-use Rattle.std.proofs.Common.{◌≡◌, ℕ, zero, suc, ◌+◌, ◌-◌, ◌<◌, List, [], ◌∷◌, drop, Option, None, sym, ap, ◌∙◌, arith}
-use Rattle.std.specs.Prelude.{ℤ}
+use Rattle.std.proofs.Common.{◌≡◌, ℕ, zero, suc, ◌+◌, ◌-◌, ◌*◌, ◌<◌, List, [], ◌∷◌, drop, Option, None, sym, ap, ◌∙◌, arith}
 use Rattle.std.proofs.lemmas.List.{drop-drop}
 use Rattle.mp4_boxes.specs.format.Layout.{column_values, sample_columns}
 use Rattle.mp4_frag.specs.words.ColumnsRead.{row_room}
-use Rattle.mp4_frag.specs.format.Fragments.{RunRow, run_rows, run_row_of}
+use Rattle.mp4_frag.specs.format.Fragments.{run_rows, run_row_of}
 use Rattle.mp4_frag.specs.words.Reading.{row_values}
-use Rattle.mp4_frag.specs.words.Walks.{rows_here, row_signed, end_held}
+use Rattle.mp4_frag.specs.words.PlacesIn.{IsRowPlace}
+use Rattle.mp4_frag.specs.words.Walks.{rows_here, row_signed}
 use Rattle.mp4_frag.specs.declared.places.RowPlace.{RowPlace}
 use Rattle.mp4_frag.specs.declared.run_rows.Row.{Row}
 
@@ -31,7 +31,8 @@ pub no_rows : (payload : List ℕ) (run : RowPlace) → run.left ≡ 0 → rows_
 unfolding rows_here
 no_rows payload run e = ap (λ n. run_rows n 1 run.bits (drop run.row payload)) e
 
--- ---- the data of rows
-
-pub end_none : (size : ℕ) (at : ℤ) (rows : List RunRow) → rows ≡ [] → end_held size at rows ≡ at
-end_none size at rows e = ap (end_held size at) e
+-- there is room for no rows
+pub none_fit : (payload : List ℕ) (run : RowPlace) → run.row ≡ 0 → run.left ≡ 0 → IsRowPlace payload run
+none_fit payload run row left =
+    let all : run.left * row_room run.bits ≡ 0 = rw left (omega arith) in
+    omega (arith, row, all)

@@ -1,26 +1,25 @@
 -- The samples of the runs of a `traf` as a walk hands them out are those of the definition, with times and groups.
-use Rattle.std.proofs.Common.{◌≡◌, ℕ, zero, suc, ◌+◌, ◌-◌, ◌^◌, ◌<◌, ◌≤◌, ◌&&◌, ◌==◌, nat_le, IsTrue, Bool, true, false, cond, List, [], ◌∷◌, ◌++◌, length, drop, map, Option, Some, None, refl, sym, ap, ◌∙◌, rules, arith, length-append}
-use Rattle.std.specs.Prelude.{ℤ, pos, negsuc, IfSome, FitsSigned, flat_map, codes, bytes_eq}
-use Rattle.std.specs.Int.{w32}
+use Rattle.std.proofs.Common.{◌≡◌, ℕ, zero, suc, ◌+◌, ◌-◌, ◌^◌, ◌<◌, ◌≤◌, ◌&&◌, ◌==◌, nat_le, IsTrue, Bool, true, false, cond, List, [], ◌∷◌, ◌++◌, length, drop, map, Option, Some, None, refl, sym, ap, subst, ◌∙◌, rules, arith}
+use Rattle.std.specs.Prelude.{ℤ, pos, negsuc, ◌+ℤ◌, unwrap_or, flat_map, codes, bytes_eq}
 use Rattle.std.specs.List.{AllByRecursion}
-use Rattle.std.proofs.lemmas.List.{drop-drop, append_assoc}
 use Rattle.mp4_boxes.specs.format.Box.{Box}
 use Rattle.mp4_boxes.specs.format.Children.{of_kind}
 use Rattle.mp4_boxes.specs.format.Layout.{trun, version, flags, row_count, run_offsets, too_large, IsSound}
 use Rattle.mp4_tables.specs.format.Groups.{GroupKey, Groups}
 use Rattle.mp4_tables.specs.format.PlainSamples.{PlacedSample, with_groups}
+use Rattle.mp4_tables.specs.format.TableRules.{lies_within}
 use Rattle.mp4_tables.specs.words.Timed.{timed, sample_at}
 use Rattle.mp4_tables.specs.declared.sample.SampleAt.{SampleAt}
 use Rattle.mp4_frag.specs.words.ColumnsRead.{rows_from}
 use Rattle.mp4_frag.specs.format.Fragments.{RunRow, Run, TrackFragment, run_of, run_rows}
-use Rattle.mp4_frag.specs.format.FragmentSamples.{run_samples, run_start, runs_samples, runs_end, end_of_data, duration_of, bytes_of}
+use Rattle.mp4_frag.specs.format.FragmentSamples.{run_samples, run_start, runs_samples, end_of_data, duration_of, bytes_of}
 use Rattle.mp4_frag.specs.format.FragmentRules.{is_within}
-use Rattle.mp4_frag.specs.words.Passing.{lasting, IsNearer}
-use Rattle.mp4_frag.specs.words.Walks.{Reached, begin, rows_of, rows_coming, run_coming, runs_coming, end_held, can_read}
+use Rattle.mp4_frag.specs.words.Passing.{lasting, within_from, end_from}
+use Rattle.mp4_frag.specs.words.Walks.{Reached, begin, held, rows_of, rows_coming, run_coming, runs_coming}
 use Rattle.mp4_frag.specs.declared.trex.Trex.{Trex}
-use Rattle.mp4_frag.proofs.LeavesRead.{read, first_taken, second_taken}
+use Rattle.mp4_frag.proofs.LeavesRead.{read}
 use Rattle.mp4_frag.proofs.SamplesOfRows.{within_is, lasting_is, end_is}
-use Rattle.mp4_frag.proofs.RowsTied.{rows_alike, rows_tied, end_tied, AreShown, shown_later, stand, size_of, lasts_of}
+use Rattle.mp4_frag.proofs.RowsTied.{both, rows_alike, rows_tied, AreShown, shown_later, stand, size_of, lasts_of}
 
 -- ---- one run
 
@@ -34,17 +33,22 @@ pub same_rows : (payload : List ℕ) → IsSound trun payload → rows_of payloa
 unfolding rows_of
 same_rows payload s = rows_of_two (version payload) (row_count trun payload) (flags payload) (drop (rows_from (flags payload)) payload) s.readable.version s.offsets
 
--- an offset from a place that is near
-pub begin_near : (base before : ℤ) (offset : Option ℤ) → IsNearer base → IfSome offset (FitsSigned w32) → begin base before offset ≡ run_start base before offset
-begin_near base before None near fits = refl
-begin_near (pos n) before (Some (pos m)) near fits =
-    let a : n ≤ 2 ^ 99 = search rules in
-    let b : m < 2 ^ 31 = search rules in
-    let c : n + m ≤ 2 ^ 127 - 1 = omega arith in
-    search rules
-begin_near (pos n) before (Some (negsuc m)) near fits = search rules
-begin_near (negsuc n) before (Some (pos m)) near fits = search rules
-begin_near (negsuc n) before (Some (negsuc m)) near fits = search rules
+-- a place that is held where the definition has another: the same, if that one can be one in a file
+abbrev pub IsHeldFor : ℤ → ℤ → Type 0
+IsHeldFor kept at = (n : ℕ) → at ≡ pos n → n < 2 ^ 64 → kept ≡ pos n
+
+held_small : (n : ℕ) → n < 2 ^ 64 → held (pos n) ≡ pos n
+held_small n h = let low : n ≤ 2 ^ 127 - 1 = omega arith in search rules
+
+-- where a run begins
+begin_held : (base kept before : ℤ) (offset : Option ℤ) → IsHeldFor kept before → IsHeldFor (begin base kept offset) (run_start base before offset)
+begin_held base kept before None h n e small = h n e small
+begin_held base kept before (Some offset) h n e small = ap held e ∙ held_small n small
+
+-- a sample in the file begins at such a place
+begins_in : (L size : ℕ) (at : ℤ) → L < 2 ^ 64 → lies_within L at size ≡ true → (n : ℕ) × (at ≡ pos n) × (n < 2 ^ 64)
+begins_in L size (pos n) short lies = let le : n + size ≤ L = search rules in (n, refl, omega arith)
+begins_in L size (negsuc n) short lies = absurd cc
 
 samples_count : (trex : Trex) (traf : TrackFragment) (first : Option ℕ) (at : ℤ) (rows : List RunRow) → length rows ≡ length (run_samples trex traf first at rows)
 samples_count trex traf first at [] = refl
@@ -58,47 +62,47 @@ start_of_run base before payload = run_start base before (run_of payload).data_o
 abbrev pub samples_of_run : TrackFragment → Trex → ℤ → ℤ → List ℕ → List PlacedSample
 samples_of_run traf trex base before payload = run_samples trex traf (run_of payload).first_sample_flags (start_of_run base before payload) (run_of payload).rows
 
--- a `trun` that can be read, whose samples' offsets are small, and of which the offset is one of 32 bits
-abbrev pub IsGoodRun : List ℕ → Type 0
-IsGoodRun payload = IsSound trun payload × IfSome (run_of payload).data_offset (FitsSigned w32)
+-- the samples of rows from such a place on, and what comes behind them, from another
+rows_held : (keys : List GroupKey) (L : ℕ) (traf : TrackFragment) (trex : Trex) (dts : ℕ) (kept at base : ℤ) (lists : List (List ℕ)) (first : Option ℕ) (rows : List RunRow) (maps : List Groups) (more : Reached → List SampleAt)
+    → L < 2 ^ 64 → IsHeldFor kept at → AreShown keys lists maps → within_from L (size_of traf trex) at rows ≡ true → dts + lasting (lasts_of traf trex) rows < 2 ^ 64
+    → (to : ℤ) × (IsHeldFor to (end_from (size_of traf trex) at rows))
+    × (rows_coming (stand traf trex dts kept base lists) first rows more
+    ≡ timed keys dts (with_groups maps (run_samples trex traf first at rows)) ++ more (stand traf trex (dts + lasting (lasts_of traf trex) rows) to base (map (drop (length rows)) lists)))
+rows_held keys L traf trex dts kept at base lists first [] maps more short held_at shown within fits = (kept, held_at, rows_tied keys L traf trex dts kept base lists first [] maps more short shown refl fits)
+rows_held keys L traf trex dts kept at base lists first (row ∷ rows) maps more short held_at shown within fits =
+    let size = unwrap_or row.size (size_of traf trex) in
+    let there = begins_in L size at short (both (lies_within L at size) (within_from L (size_of traf trex) (at +ℤ pos size) rows) within).0 in
+    let same : kept ≡ at = held_at there.0 there.1 there.2 ∙ sym there.1 in (
+      end_from (size_of traf trex) at (row ∷ rows),
+      (λ n e small. e),
+      ap (λ (z : ℤ). rows_coming (stand traf trex dts z base lists) first (row ∷ rows) more) same ∙ rows_tied keys L traf trex dts at base lists first (row ∷ rows) maps more short shown within fits,
+    )
 
--- the samples of one of the walk's own track, and what comes behind them
-run_tied : (keys : List GroupKey) (L : ℕ) (traf : TrackFragment) (trex : Trex) (dts : ℕ) (at base : ℤ) (lists : List (List ℕ)) (payload : List ℕ) (maps : List Groups) (more : Reached → List SampleAt)
-    → L < 2 ^ 64 → IsNearer base → IsGoodRun payload → AreShown keys lists maps → is_within L (samples_of_run traf trex base at payload) ≡ true → dts + duration_of (samples_of_run traf trex base at payload) < 2 ^ 64
-    → run_coming (stand traf trex dts at true base lists) payload more
+-- the samples of a run, and what comes behind them
+run_tied : (keys : List GroupKey) (L : ℕ) (traf : TrackFragment) (trex : Trex) (dts : ℕ) (kept at base : ℤ) (lists : List (List ℕ)) (payload : List ℕ) (maps : List Groups) (more : Reached → List SampleAt)
+    → L < 2 ^ 64 → IsHeldFor kept at → IsSound trun payload → AreShown keys lists maps → is_within L (samples_of_run traf trex base at payload) ≡ true → dts + duration_of (samples_of_run traf trex base at payload) < 2 ^ 64
+    → (to : ℤ) × (IsHeldFor to (end_of_data (start_of_run base at payload) (samples_of_run traf trex base at payload)))
+    × (run_coming (stand traf trex dts kept base lists) payload more
     ≡ timed keys dts (with_groups maps (samples_of_run traf trex base at payload))
-    ++ more (stand traf trex (dts + duration_of (samples_of_run traf trex base at payload)) (end_of_data (start_of_run base at payload) (samples_of_run traf trex base at payload)) true base (map (drop (length (samples_of_run traf trex base at payload))) lists))
-run_tied keys L traf trex dts at base lists payload maps more short near good shown within fits =
+    ++ more (stand traf trex (dts + duration_of (samples_of_run traf trex base at payload)) to base (map (drop (length (samples_of_run traf trex base at payload))) lists)))
+run_tied keys L traf trex dts kept at base lists payload maps more short held_at sound shown within fits =
     let run = run_of payload in
     let start = start_of_run base at payload in
-    let there = read trun payload good.0.readable in
-    let begins = begin_near base at run.data_offset near good.1 in
-    let rows = same_rows payload good.0 in
+    let there = read trun payload sound.readable in
+    let rows = same_rows payload sound in
     let inside = sym (within_is L trex traf run.first_sample_flags start run.rows) ∙ within in
     let lasts = lasting_is trex traf run.first_sample_flags start run.rows in
     let ends = end_is trex traf run.first_sample_flags start run.rows in
     let count = samples_count trex traf run.first_sample_flags start run.rows in
     let time : dts + lasting (lasts_of traf trex) run.rows < 2 ^ 64 = omega (arith, fits, lasts) in
-    first_taken (can_read trun payload) true _ [] _ there refl
-    ∙ (λ i. rows_coming (stand traf trex dts (begins i) true base lists) run.first_sample_flags (rows i) more)
-    ∙ rows_tied keys L traf trex dts start true base lists run.first_sample_flags run.rows maps more short shown inside time
-    ∙ (λ i. timed keys dts (with_groups maps (samples_of_run traf trex base at payload)) ++ more (stand traf trex (dts + sym lasts i) (sym ends i) true base (map (drop (count i)) lists)))
-
--- one of another track is passed
-run_passed : (L : ℕ) (traf : TrackFragment) (trex : Trex) (dts : ℕ) (at base : ℤ) (lists : List (List ℕ)) (payload : List ℕ) (more : Reached → List SampleAt)
-    → L < 2 ^ 64 → IsNearer base → IsGoodRun payload → is_within L (samples_of_run traf trex base at payload) ≡ true
-    → run_coming (stand traf trex dts at false base lists) payload more ≡ more (stand traf trex dts (end_of_data (start_of_run base at payload) (samples_of_run traf trex base at payload)) false base lists)
-run_passed L traf trex dts at base lists payload more short near good within =
-    let run = run_of payload in
-    let start = start_of_run base at payload in
-    let there = read trun payload good.0.readable in
-    let begins = begin_near base at run.data_offset near good.1 in
-    let rows = same_rows payload good.0 in
-    let inside = sym (within_is L trex traf run.first_sample_flags start run.rows) ∙ within in
-    let ends = end_tied L (size_of traf trex) start run.rows short inside ∙ sym (end_is trex traf run.first_sample_flags start run.rows) in
-    second_taken (can_read trun payload) false [] _ _ there refl
-    ∙ (λ i. more (stand traf trex dts (end_held (size_of traf trex) (begins i) (rows i)) false base lists))
-    ∙ (λ i. more (stand traf trex dts (ends i) false base lists))
+    let begun = begin base kept run.data_offset in
+    let all = rows_held keys L traf trex dts begun start base lists run.first_sample_flags run.rows maps more short (begin_held base kept at run.data_offset held_at) shown inside time in (
+      all.0,
+      subst (IsHeldFor all.0) (sym ends) all.1,
+      rw there (ap (λ (rs : List RunRow). rows_coming (stand traf trex dts begun base lists) run.first_sample_flags rs more) rows
+          ∙ all.2
+          ∙ (λ i. timed keys dts (with_groups maps (samples_of_run traf trex base at payload)) ++ more (stand traf trex (dts + sym lasts i) all.0 base (map (drop (count i)) lists)))),
+    )
 
 -- ---- lists of samples in two parts
 
@@ -141,10 +145,6 @@ timed-append keys dts (x ∷ xs) ys =
     let e : dts + x.duration + duration_of xs ≡ dts + (x.duration + duration_of xs) = omega arith in
     ap (λ (ss : List SampleAt). sample_at keys dts x ∷ ss) (timed-append keys (dts + x.duration) xs ys ∙ ap (λ n. timed keys (dts + x.duration) xs ++ timed keys n ys) e)
 
-pub lists_behind : (n m : ℕ) (lists : List (List ℕ)) → map (drop m) (map (drop n) lists) ≡ map (drop (n + m)) lists
-lists_behind n m [] = refl
-lists_behind n m (l ∷ lists) = let one = drop-drop m n l in let more = lists_behind n m lists in λ i. one i ∷ more i
-
 -- samples with their times and groups, in two parts
 pub parts_joined : (keys : List GroupKey) (dts : ℕ) (maps : List Groups) (xs ys : List PlacedSample)
     → timed keys dts (with_groups maps (xs ++ ys)) ≡ timed keys dts (with_groups maps xs) ++ timed keys (dts + duration_of xs) (with_groups (drop (length xs) maps) ys)
@@ -164,71 +164,32 @@ samples_of_runs traf trex base at runs = flat_map (λ samples. samples) (runs_sa
 abbrev AreWithin : ℕ → TrackFragment → Trex → ℤ → ℤ → List Box → Type 0
 AreWithin L traf trex base at runs = AllByRecursion (λ samples. IsTrue (is_within L samples)) (runs_samples trex traf base at (map run_in runs))
 
-abbrev pub AreGoodRuns : List Box → Type 0
-AreGoodRuns runs = AllByRecursion (λ (b : Box). IsGoodRun b.payload) runs
-
 -- what is so of boxes that hold these runs
-abbrev Tied : List GroupKey → ℕ → TrackFragment → Trex → ℤ → (Reached → List SampleAt) → List Box → List Box → Type 0
-Tied keys L traf trex base more boxes runs =
-    (dts : ℕ) (at : ℤ) (lists : List (List ℕ)) (maps : List Groups) → AreGoodRuns runs → AreShown keys lists maps → AreWithin L traf trex base at runs → dts + duration_of (samples_of_runs traf trex base at runs) < 2 ^ 64
-    → runs_coming (stand traf trex dts at true base lists) boxes more
-    ≡ timed keys dts (with_groups maps (samples_of_runs traf trex base at runs))
-    ++ more (stand traf trex (dts + duration_of (samples_of_runs traf trex base at runs)) (runs_end trex traf base at (map run_in runs)) true base (map (drop (length (samples_of_runs traf trex base at runs))) lists))
+abbrev Tied : List GroupKey → ℕ → TrackFragment → Trex → ℤ → List Box → List Box → Type 0
+Tied keys L traf trex base boxes runs =
+    (dts : ℕ) (kept at : ℤ) (lists : List (List ℕ)) (maps : List Groups) → IsHeldFor kept at → AllByRecursion (λ (b : Box). IsSound trun b.payload) runs → AreShown keys lists maps → AreWithin L traf trex base at runs
+    → dts + duration_of (samples_of_runs traf trex base at runs) < 2 ^ 64
+    → runs_coming (stand traf trex dts kept base lists) boxes ≡ timed keys dts (with_groups maps (samples_of_runs traf trex base at runs))
 
-none_more : (keys : List GroupKey) (L : ℕ) (traf : TrackFragment) (trex : Trex) (base : ℤ) (more : Reached → List SampleAt) → Tied keys L traf trex base more [] []
-none_more keys L traf trex base more dts at lists maps good shown within fits =
-    let time : dts ≡ dts + 0 = omega arith in
-    let same = no_lists lists in
-    (λ i. more (stand traf trex (time i) at true base (same i))) ∙ ap (λ (ss : List PlacedSample). timed keys dts ss ++ more (stand traf trex (dts + 0) at true base (map (drop 0) lists))) (sym (no_samples maps))
-  where
-    no_samples : (ms : List Groups) → with_groups ms [] ≡ []
-    no_samples [] = refl
-    no_samples (m ∷ ms) = refl
+none_more : (keys : List GroupKey) (L : ℕ) (traf : TrackFragment) (trex : Trex) (base : ℤ) → Tied keys L traf trex base [] []
+none_more keys L traf trex base dts kept at lists [] held_at sound shown within fits = refl
+none_more keys L traf trex base dts kept at lists (m ∷ maps) held_at sound shown within fits = refl
 
-    no_lists : (ls : List (List ℕ)) → ls ≡ map (drop 0) ls
-    no_lists [] = refl
-    no_lists (l ∷ ls) = ap (λ (rest : List (List ℕ)). l ∷ rest) (no_lists ls)
-
-one_more : (keys : List GroupKey) (L : ℕ) (traf : TrackFragment) (trex : Trex) (base : ℤ) (more : Reached → List SampleAt) (b : Box) (boxes runs : List Box) (v : Bool) → L < 2 ^ 64 → IsNearer base → bytes_eq (codes "trun") b.kind ≡ v
-    → Tied keys L traf trex base more boxes runs → Tied keys L traf trex base more (b ∷ boxes) (cond v (b ∷ runs) runs)
-one_more keys L traf trex base more b boxes runs false short near e others dts at lists maps good shown within fits = rw e (others dts at lists maps good shown within fits)
-one_more keys L traf trex base more b boxes runs true short near e others dts at lists maps good shown within fits =
+one_more : (keys : List GroupKey) (L : ℕ) (traf : TrackFragment) (trex : Trex) (base : ℤ) (b : Box) (boxes runs : List Box) (v : Bool) → L < 2 ^ 64 → bytes_eq (codes "trun") b.kind ≡ v
+    → Tied keys L traf trex base boxes runs → Tied keys L traf trex base (b ∷ boxes) (cond v (b ∷ runs) runs)
+one_more keys L traf trex base b boxes runs false short e others dts kept at lists maps held_at sound shown within fits = rw e (others dts kept at lists maps held_at sound shown within fits)
+one_more keys L traf trex base b boxes runs true short e others dts kept at lists maps held_at sound shown within fits =
     let xs = samples_of_run traf trex base at b.payload in
     let end = end_of_data (start_of_run base at b.payload) xs in
     let ys = samples_of_runs traf trex base end runs in
     let n = length xs in
     let sum = duration-append xs ys in
     let inside : is_within L xs ≡ true = search (rules, within.0) in
-    let first = run_tied keys L traf trex dts at base lists b.payload maps (λ t. runs_coming t boxes more) short near good.0 shown inside (omega (arith, fits, sum)) in
-    let behind = others (dts + duration_of xs) end (map (drop n) lists) (drop n maps) good.1 (shown_later keys n lists maps shown) within.1 (omega (arith, fits, sum)) in
-    let time : dts + duration_of xs + duration_of ys ≡ dts + duration_of (xs ++ ys) = omega (arith, sum) in
-    let long = length-append xs ys in
-    let later : map (drop (length ys)) (map (drop n) lists) ≡ map (drop (length (xs ++ ys))) lists = lists_behind n (length ys) lists ∙ ap (λ k. map (drop k) lists) (sym long) in
-    let front = timed keys dts (with_groups maps xs) in
-    rw e (first ∙ ap (λ (ss : List SampleAt). front ++ ss) behind
-    ∙ sym (append_assoc front (timed keys (dts + duration_of xs) (with_groups (drop n maps) ys)) (more (stand traf trex (dts + duration_of xs + duration_of ys) (runs_end trex traf base end (map run_in runs)) true base (map (drop (length ys)) (map (drop n) lists)))))
-    ∙ (λ i. sym (parts_joined keys dts maps xs ys) i ++ more (stand traf trex (time i) (runs_end trex traf base end (map run_in runs)) true base (later i))))
+    let first = run_tied keys L traf trex dts kept at base lists b.payload maps (λ t. runs_coming t boxes) short held_at sound.0 shown inside (omega (arith, fits, sum)) in
+    let behind = others (dts + duration_of xs) first.0 end (map (drop n) lists) (drop n maps) first.1 sound.1 (shown_later keys n lists maps shown) within.1 (omega (arith, fits, sum)) in
+    rw e (first.2 ∙ ap (λ (ss : List SampleAt). timed keys dts (with_groups maps xs) ++ ss) behind ∙ sym (parts_joined keys dts maps xs ys))
 
--- the samples of the runs of a `traf` of the walk's own track
-pub runs_tied : (keys : List GroupKey) (L : ℕ) (traf : TrackFragment) (trex : Trex) (base : ℤ) (more : Reached → List SampleAt) (boxes : List Box) → L < 2 ^ 64 → IsNearer base → Tied keys L traf trex base more boxes (of_kind (codes "trun") boxes)
-runs_tied keys L traf trex base more [] short near = none_more keys L traf trex base more
-runs_tied keys L traf trex base more (b ∷ boxes) short near = one_more keys L traf trex base more b boxes (of_kind (codes "trun") boxes) (bytes_eq (codes "trun") b.kind) short near refl (runs_tied keys L traf trex base more boxes short near)
-
--- ---- runs of another track
-
-abbrev Passed : ℕ → TrackFragment → Trex → ℤ → (Reached → List SampleAt) → List Box → List Box → Type 0
-Passed L traf trex base more boxes runs =
-    (dts : ℕ) (at : ℤ) (lists : List (List ℕ)) → AreGoodRuns runs → AreWithin L traf trex base at runs
-    → runs_coming (stand traf trex dts at false base lists) boxes more ≡ more (stand traf trex dts (runs_end trex traf base at (map run_in runs)) false base lists)
-
-one_passed : (L : ℕ) (traf : TrackFragment) (trex : Trex) (base : ℤ) (more : Reached → List SampleAt) (b : Box) (boxes runs : List Box) (v : Bool) → L < 2 ^ 64 → IsNearer base → bytes_eq (codes "trun") b.kind ≡ v
-    → Passed L traf trex base more boxes runs → Passed L traf trex base more (b ∷ boxes) (cond v (b ∷ runs) runs)
-one_passed L traf trex base more b boxes runs false short near e others dts at lists good within = rw e (others dts at lists good within)
-one_passed L traf trex base more b boxes runs true short near e others dts at lists good within =
-    let xs = samples_of_run traf trex base at b.payload in
-    let inside : is_within L xs ≡ true = search (rules, within.0) in
-    rw e (run_passed L traf trex dts at base lists b.payload (λ t. runs_coming t boxes more) short near good.0 inside ∙ others dts (end_of_data (start_of_run base at b.payload) xs) lists good.1 within.1)
-
-pub runs_passed : (L : ℕ) (traf : TrackFragment) (trex : Trex) (base : ℤ) (more : Reached → List SampleAt) (boxes : List Box) → L < 2 ^ 64 → IsNearer base → Passed L traf trex base more boxes (of_kind (codes "trun") boxes)
-runs_passed L traf trex base more [] short near = λ dts at lists good within. refl
-runs_passed L traf trex base more (b ∷ boxes) short near = one_passed L traf trex base more b boxes (of_kind (codes "trun") boxes) (bytes_eq (codes "trun") b.kind) short near refl (runs_passed L traf trex base more boxes short near)
+-- the samples of the runs of a `traf`
+pub runs_tied : (keys : List GroupKey) (L : ℕ) (traf : TrackFragment) (trex : Trex) (base : ℤ) (boxes : List Box) → L < 2 ^ 64 → Tied keys L traf trex base boxes (of_kind (codes "trun") boxes)
+runs_tied keys L traf trex base [] short = none_more keys L traf trex base
+runs_tied keys L traf trex base (b ∷ boxes) short = one_more keys L traf trex base b boxes (of_kind (codes "trun") boxes) (bytes_eq (codes "trun") b.kind) short refl (runs_tied keys L traf trex base boxes short)

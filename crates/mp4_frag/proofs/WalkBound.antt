@@ -1,7 +1,6 @@
--- A walk over a `moof` costs no more than its boxes say, and where it was accepted, no more than its bytes and its samples allow.
+-- A walk over a `traf` costs no more than its boxes say.
 use Rattle.std.proofs.Common.{◌≡◌, ℕ, zero, suc, ◌+◌, ◌*◌, ◌≤◌, nat_le, ◌&&◌, false, Bool, true, cond, List, [], ◌∷◌, length, drop, map, Result, Ok, Err, refl, ap, ◌∙◌, rules, arith}
 use Rattle.std.specs.Prelude.{ℤ, pos, codes, bytes_eq}
-use Rattle.std.specs.List.{AllByRecursion}
 use Rattle.std.proofs.lemmas.Bool.{and_parts}
 use Rattle.mp4_boxes.specs.format.Bytes.{sum_of, width_of}
 use Rattle.mp4_boxes.specs.format.Box.{Box, Header, LieEndToEnd, header_at, box_of, box_and_more, first_boxes, size, sizes}
@@ -10,18 +9,18 @@ use Rattle.mp4_boxes.specs.format.Layout.{trun, sbgp, row_count, needed, knows_v
 use Rattle.mp4_boxes.specs.declared.fault.Kind.{Kind}
 use Rattle.mp4_boxes.proofs.Tiling.{header_is, sizes_fit}
 use Rattle.mp4_tables.specs.format.Groups.{grouping_of, groupings_of}
-use Rattle.mp4_frag.specs.format.Fragments.{Run, TrackFragment, AreTrafs, run_of, run_rows, track_fragment_of}
-use Rattle.mp4_frag.specs.words.Judged.{IsSoundMoof, AreMovedOn, end_with, tree_of}
-use Rattle.mp4_frag.specs.words.PlacesIn.{run_work, runs_work, group_work, groups_work, traf_work, trafs_work, moof_work, IsPlaceIn}
+use Rattle.mp4_frag.specs.format.Fragments.{Run, TrackFragment, run_of, run_rows, track_fragment_of}
+use Rattle.mp4_frag.specs.words.Judged.{AreMovedOn, end_with}
+use Rattle.mp4_frag.specs.words.OwnTrafs.{traf_steps}
+use Rattle.mp4_frag.specs.words.PlacesIn.{run_work, runs_work, group_work, groups_work, traf_work, IsPlaceIn}
 use Rattle.mp4_frag.specs.words.RunsJudged.{children_of, runs_in, runs_total}
 use Rattle.mp4_frag.specs.words.TrafFaults.{HoldsBoxes}
 use Rattle.mp4_frag.specs.words.Walks.{can_read}
-use Rattle.mp4_frag.specs.format.FragmentRows.{group_rows, traf_rows, fragment_rows, fragment_length, moof_says}
+use Rattle.mp4_frag.specs.format.FragmentRows.{group_rows, fragment_length, moof_says}
 use Rattle.mp4_frag.specs.declared.places.FragPlace.{FragPlace}
 use Rattle.mp4_frag.specs.declared.state.TrackState.{TrackState}
-use Rattle.mp4_frag.specs.declared.trex.Trex.{Trex}
 use Rattle.mp4_frag.proofs.BoxPlaces.{all_boxes}
-use Rattle.mp4_frag.proofs.Costs.{boxes_eight, many_rows}
+use Rattle.mp4_frag.proofs.Costs.{many_rows}
 use Rattle.mp4_frag.proofs.PartReasons.{part_counts}
 
 -- ---- what boxes cost does not depend on where they are said to lie
@@ -44,23 +43,16 @@ groups_same zero at to bytes = refl
 groups_same (suc n) at to bytes =
     groups_by at to bytes (header_at false bytes) (λ h. first_boxes n (at + h.size) (drop h.size bytes)) (λ h. first_boxes n (to + h.size) (drop h.size bytes)) (λ h. groups_same n (at + h.size) (to + h.size) (drop h.size bytes))
 
-trafs_by : (at to : ℕ) (bytes : List ℕ) (r : Result Header Kind) (f g : Header → List Box) → ((h : Header) → trafs_work (f h) ≡ trafs_work (g h)) → trafs_work (box_and_more at bytes r f) ≡ trafs_work (box_and_more to bytes r g)
-trafs_by at to bytes (Ok h) f g e =
-    let payload = (box_of at bytes h).payload in
-    let groups = groups_same (length payload) (at + h.length) (to + h.length) payload in
-    let runs = runs_same (length payload) (at + h.length) (to + h.length) payload in
-    λ i. cond (bytes_eq (codes "traf") h.kind) (suc (groups i + runs i)) 0 + e h i
-trafs_by at to bytes (Err kind) f g e = refl
-
-trafs_same : (n at to : ℕ) (bytes : List ℕ) → trafs_work (first_boxes n at bytes) ≡ trafs_work (first_boxes n to bytes)
-trafs_same zero at to bytes = refl
-trafs_same (suc n) at to bytes =
-    trafs_by at to bytes (header_at false bytes) (λ h. first_boxes n (at + h.size) (drop h.size bytes)) (λ h. first_boxes n (to + h.size) (drop h.size bytes)) (λ h. trafs_same n (at + h.size) (to + h.size) (drop h.size bytes))
-
--- a walk costs what the boxes of the `moof` do
-work_is : (moof : Box) → moof_work moof.payload ≡ trafs_work (children_of moof)
-unfolding moof_work
-work_is moof = ap trafs_work (all_boxes moof.payload) ∙ trafs_same (length moof.payload) 0 (moof.offset + moof.header) moof.payload
+-- a walk costs what the boxes of the `traf` do
+work_is : (traf : Box) → traf_work traf.payload ≡ suc (groups_work (children_of traf) + runs_work (children_of traf))
+unfolding traf_work
+work_is traf =
+    let n = length traf.payload in
+    let to = traf.offset + traf.header in
+    let all = all_boxes traf.payload in
+    let groups = ap groups_work all ∙ groups_same n 0 to traf.payload in
+    let runs = ap runs_work all ∙ runs_same n 0 to traf.payload in
+    λ i. suc (groups i + runs i)
 
 -- ---- by boxes and rows
 
@@ -79,10 +71,6 @@ group_fits payload = choice (can_read sbgp payload) refl
         let last = and_parts (knows_flags sbgp payload) (nat_le (needed sbgp payload) (length payload)) behind.1 in
         let room : needed sbgp payload ≤ length payload = search (rules, last.1) in
         omega (arith, room)
-
--- how many samples the runs of `traf`s have
-abbrev pub trafs_samples : List Box → ℕ
-trafs_samples trafs = sum_of (λ (b : Box). runs_total (runs_in b)) trafs
 
 few_box : (v w : Bool) (b : Box) (boxes kept : List Box) → 8 ≤ b.header → 8 * (groups_work boxes + runs_work boxes) ≤ sizes boxes + 8 * runs_total kept
     → 8 * ((cond v (group_work b.payload) 0 + groups_work boxes) + (cond w (run_work b.payload) 0 + runs_work boxes)) ≤ (size b + sizes boxes) + 8 * runs_total (cond w (b ∷ kept) kept)
@@ -107,20 +95,15 @@ few_inside b h =
     let fit = sizes_fit false (b.offset + b.header) b.payload (children_of b) t.front.0 in
     omega arith
 
-few_traf : (v : Bool) (b : Box) (boxes kept : List Box) → AllByRecursion HoldsBoxes (cond v (b ∷ kept) kept) → (AllByRecursion HoldsBoxes kept → 8 * trafs_work boxes ≤ 8 * length boxes + sizes boxes + 8 * trafs_samples kept)
-    → 8 * (cond v (traf_work (children_of b)) 0 + trafs_work boxes) ≤ 8 * suc (length boxes) + (size b + sizes boxes) + 8 * trafs_samples (cond v (b ∷ kept) kept)
-few_traf true b boxes kept h more = let inside = few_inside b h.0 in let rest = more h.1 in omega arith
-few_traf false b boxes kept h more = let rest = more h in omega arith
+-- eight times as many steps as a walk takes are no more than the bytes of the `traf`, and eight times its samples
+pub walk_bounded : (b : Box) → HoldsBoxes b → 8 ≤ b.header → 8 * traf_work b.payload ≤ size b + 8 * runs_total (runs_in b)
+walk_bounded b h long = omega (arith, work_is b, few_inside b h, long)
 
-few_trafs : (boxes : List Box) → AllByRecursion HoldsBoxes (of_kind (codes "traf") boxes) → 8 * trafs_work boxes ≤ 8 * length boxes + sizes boxes + 8 * trafs_samples (of_kind (codes "traf") boxes)
-few_trafs [] h = omega arith
-few_trafs (b ∷ boxes) h = few_traf (bytes_eq (codes "traf") b.kind) b boxes (of_kind (codes "traf") boxes) h (few_trafs boxes)
+-- ---- the samples of a `moof`
 
--- ---- what was accepted
-
-held_each : (trafs : List Box) → AreTrafs trafs (map children_of trafs) → AllByRecursion HoldsBoxes trafs
-held_each [] h = tt
-held_each (b ∷ trafs) h = (h.0, held_each trafs h.1)
+-- how many samples the runs of `traf`s have
+abbrev pub trafs_samples : List Box → ℕ
+trafs_samples trafs = sum_of (λ (b : Box). runs_total (runs_in b)) trafs
 
 taken_one : (less rest n m more room : ℕ) → rest + n ≡ room → n ≡ m → less + more ≡ rest → less + (m + more) ≡ room
 taken_one less rest n m more room a b c = omega arith
@@ -132,17 +115,6 @@ samples_taken moof before (b ∷ trafs) old new room less m =
     let one = m.2.0 in
     taken_one less m.1 _ (runs_total (runs_in b)) (trafs_samples trafs) room one.taken (part_counts moof before one.trex (children_of b))
     (samples_taken moof (end_with moof before one.trex (track_fragment_of (children_of b))) trafs m.0 new m.1 less m.2.1)
-
--- four times as many steps as a walk takes are no more than the bytes of the `moof`, and four times its samples
-pub walk_bounded : (L : ℕ) (trexes : List Trex) (tracks after : List TrackState) (moof : Box) (room less : ℕ) → IsSoundMoof L trexes tracks (tree_of moof) → AreMovedOn moof.offset (pos moof.offset) (of_kind (codes "traf") (children_of moof)) tracks after room less
-    → 4 * moof_work moof.payload + 4 * less ≤ length moof.payload + 4 * room
-walk_bounded L trexes tracks after moof room less s m =
-    let t = s.tree.children.tiles in
-    let eight = boxes_eight false (moof.offset + moof.header) moof.payload (children_of moof) t.front.0 in
-    let fit = sizes_fit false (moof.offset + moof.header) moof.payload (children_of moof) t.front.0 in
-    let few = few_trafs (children_of moof) (held_each (of_kind (codes "traf") (children_of moof)) s.tree.trafs) in
-    let taken = samples_taken moof.offset (pos moof.offset) (of_kind (codes "traf") (children_of moof)) tracks after room less m in
-    omega (arith, eight, fit, few, taken, work_is moof)
 
 -- ---- by what the boxes say
 
@@ -176,28 +148,14 @@ said_groups : (boxes : List Box) → groups_work boxes ≤ group_rows (groupings
 said_groups [] = omega arith
 said_groups (b ∷ boxes) = said_group (bytes_eq (codes "sbgp") b.kind) b boxes (of_kind (codes "sbgp") boxes) (said_groups boxes)
 
--- `traf`s with what stands in them, and their samples
-abbrev trafs_say : List TrackFragment → ℕ
-trafs_say trafs = sum_of traf_rows trafs + sum_of (λ (traf : TrackFragment). sum_of (λ (run : Run). length run.rows) traf.runs) trafs
-
-said_traf : (v : Bool) (b : Box) (boxes kept : List Box) → trafs_work boxes ≤ trafs_say (map track_fragment_of (map children_of kept)) → cond v (traf_work (children_of b)) 0 + trafs_work boxes ≤ trafs_say (map track_fragment_of (map children_of (cond v (b ∷ kept) kept)))
-said_traf true b boxes kept h =
-    let runs = said_runs (children_of b) in
-    let groups = said_groups (children_of b) in
-    omega (arith, h, runs, groups)
-said_traf false b boxes kept h = omega (arith, h)
-
-said_trafs : (boxes : List Box) → trafs_work boxes ≤ trafs_say (map track_fragment_of (map children_of (of_kind (codes "traf") boxes)))
-said_trafs [] = omega arith
-said_trafs (b ∷ boxes) = said_traf (bytes_eq (codes "traf") b.kind) b boxes (of_kind (codes "traf") boxes) (said_trafs boxes)
-
--- a walk takes no more steps than there are `traf`s, runs, rows of `sbgp` and samples
-pub walk_said : (moof : Box) → moof_work moof.payload ≤ fragment_rows (moof_says moof) + fragment_length (moof_says moof)
-walk_said moof = let all = said_trafs (children_of moof) in omega (arith, all, work_is moof)
+-- a walk takes no more steps than one for the `traf`, its runs, rows of `sbgp` and samples
+pub walk_said : (traf : Box) → traf_work traf.payload ≤ traf_steps traf
+unfolding traf_steps
+walk_said traf = omega (arith, work_is traf, said_runs (children_of traf), said_groups (children_of traf))
 
 -- so to each of its places
-pub place_said : (moof : Box) (place : FragPlace) → IsPlaceIn moof.payload place → place.passed ≤ fragment_rows (moof_says moof) + fragment_length (moof_says moof)
-place_said moof place p = let work = p.lies.work in omega (arith, work, walk_said moof)
+pub place_said : (traf : Box) (place : FragPlace) → IsPlaceIn traf.payload place → place.passed ≤ traf_steps traf
+place_said traf place p = let work = p.lies.work in omega (arith, work, walk_said traf)
 
 length_said : (trafs : List Box) → sum_of (λ (traf : TrackFragment). sum_of (λ (run : Run). length run.rows) traf.runs) (map track_fragment_of (map children_of trafs)) ≡ trafs_samples trafs
 length_said [] = refl
@@ -210,8 +168,11 @@ length_said (b ∷ trafs) = let one = runs_length (runs_in b) in let others = le
         let others = runs_length runs in
         omega (arith, count, others)
 
+-- the samples of a `moof`
+pub samples_said : (moof : Box) → fragment_length (moof_says moof) ≡ trafs_samples (of_kind (codes "traf") (children_of moof))
+samples_said moof = length_said (of_kind (codes "traf") (children_of moof))
+
 -- the samples of a `moof` that was accepted were taken of the room
 pub length_taken : (tracks after : List TrackState) (moof : Box) (room less : ℕ) → AreMovedOn moof.offset (pos moof.offset) (of_kind (codes "traf") (children_of moof)) tracks after room less → less + fragment_length (moof_says moof) ≡ room
 length_taken tracks after moof room less m =
-    let trafs = of_kind (codes "traf") (children_of moof) in
-    omega (arith, samples_taken moof.offset (pos moof.offset) trafs tracks after room less m, length_said trafs)
+    omega (arith, samples_taken moof.offset (pos moof.offset) (of_kind (codes "traf") (children_of moof)) tracks after room less m, samples_said moof)

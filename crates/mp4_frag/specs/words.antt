@@ -6,7 +6,6 @@ pub mod States
 pub mod FragmentsSeen
 pub mod Walks
 pub mod Times
-pub mod Looks
 pub mod Judged
 pub mod TrafFaults
 pub mod RunsJudged
@@ -14,3 +13,5 @@ pub mod GroupsJudged
 pub mod Finding
 pub mod Durations
 pub mod CheckWork
+pub mod OwnTrafs
+pub mod Noted

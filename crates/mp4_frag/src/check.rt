@@ -1,37 +1,42 @@
 //! A `moof`, checked behind what came before it (ISO/IEC 14496-12, 8.8).
-ghost use Rattle.std.specs.Prelude.{List, nat_lt, not, ◌&&◌, ◌≡◌, ◌+◌, ◌*◌, ◌^◌, ◌<◌, ◌≤◌, ◌==◌, [], length, None, option_map, codes, IfOk, IfErr};
+ghost use Rattle.std.specs.Prelude.{List, pos, nat_lt, not, ◌&&◌, ◌≡◌, ◌+◌, ◌*◌, ◌^◌, ◌<◌, ◌≤◌, ◌==◌, [], length, map, None, Some, option_map, codes, if◌then◌else◌, IfOk, IfErr, OnOk, OnErr};
 ghost use Rattle.mp4_boxes.specs.format.Box.{box_container};
 ghost use Rattle.mp4_boxes.specs.format.BoxFaults.{IsChildFault};
 ghost use Rattle.mp4_boxes.specs.declared.rule.Rule.TheVariants as rules;
 ghost use Rattle.mp4_boxes.specs.words.View.{box_seen};
 ghost use Rattle.mp4_tables.specs.format.Groups.{groupings_of, keys_after};
 ghost use Rattle.mp4_tables.specs.words.Keys.{keys_seen};
-ghost use Rattle.mp4_frag.specs.words.CheckWork.{TrafWork, TrafLooks, MoofWork, MoofLooks};
+ghost use Rattle.mp4_frag.specs.words.CheckWork.{TrafWork, TrafLooks, MoofWork, MoofLooks, IfMemory, StopsWithin};
 ghost use Rattle.mp4_frag.specs.words.Finding.{IsKnown};
 ghost use Rattle.mp4_frag.specs.words.GroupsJudged.{groups_in, AreGroupsSound, GroupsFail};
 ghost use Rattle.mp4_frag.specs.words.Passing.{IsNearer, IsUpTo, EndsNear, IsPassed, AreBounded, is_late_at, state_with};
 ghost use Rattle.mp4_boxes.specs.format.Children.{of_kind};
 ghost use Rattle.mp4_boxes.specs.format.Layout.{IsSound, tfdt as tfdt_leaf, tfhd as tfhd_leaf};
 ghost use Rattle.std.specs.List.{AllByRecursion};
-ghost use Rattle.mp4_frag.specs.words.Reading.{IsHead};
+ghost use Rattle.mp4_frag.specs.words.Reading.{IsBaseIn, IsHead};
 ghost use Rattle.mp4_frag.specs.words.RunsJudged.{children_of, HoldsChildren, only_list, runs_in, AreRunsPassed, RunsFail};
 ghost use Rattle.mp4_frag.specs.words.Judged.{AreTrexesOf, IsAcceptable, IsAccepted, IsSoundMoof, IsTrafPassed, IsMoofMovedOn, KeepRoom, tree_of};
 ghost use Rattle.mp4_tables.specs.format.TableRules.{is_index};
 ghost use Rattle.mp4_frag.specs.declared.trex.Trex.{Trex};
 ghost use Rattle.mp4_frag.specs.words.States.{HasRoom, IsRoomFor};
-ghost use Rattle.mp4_frag.specs.words.TrafFaults.{HoldsBoxes, IsLeafFault, IsTimeFault, TrafFails, MoofFails, traf_in};
+ghost use Rattle.mp4_frag.specs.words.TrafFaults.{HoldsBoxes, IsLeafFault, IsTimeFault, TrafFails, RefusesMoof, traf_in};
+ghost use Rattle.mp4_frag.specs.words.OwnTrafs.{AreApart, data_end, own_seen, noted_in};
+ghost use Rattle.mp4_frag.specs.words.Noted.{IsNotable, ids_of, noted_if};
+ghost use Rattle.mp4_boxes.specs.declared.fault.Fault.{Fault};
+ghost use Rattle.mp4_boxes.specs.declared.refusal.Refusal.TheVariants as refusals;
 ghost use Rattle.mp4_frag.specs.format.FragmentRows.{group_rows};
-ghost use Rattle.mp4_frag.specs.words.FragmentsSeen.{moof_seen};
 ghost use Rattle.mp4_frag.specs.declared.state.TrackState.{TrackState};
 
 use crate::finding::{Known, find_track};
 use crate::groups::check_group;
 use crate::heads::{Head, base_of, read_head, what_is_inherited};
+use crate::own_trafs::{OwnTraf, OwnTrafs};
 use crate::sample_runs::{Judged, Passed, check_run};
 use crate::state::TrackState;
 use crate::times::read_time;
-use crate::view::FragView;
-use mp4_boxes::{BoxView, Fault, FourCc, Kind, Rule, Steps, check_children, children};
+use mp4_boxes::{
+    BoxView, Fault, FourCc, Kind, Memory, Refusal, Rule, Steps, check_children, children,
+};
 use mp4_tables::Keys;
 use std::sync::ledger::Ledger;
 
@@ -221,9 +226,36 @@ fn moved_on(state: TrackState, time: Option<u64>, passed: Passed, keys: Keys) ->
     }
 }
 
+// A `traf` that passed: where its data ends, the place of its track, and what is noted of it, if it
+// has samples.
+#[derive(Clone, Copy)]
+struct PassedTraf {
+    ends: i128,
+    track: usize,
+    own: Option<OwnTraf>,
+}
+
+// What is noted of a `traf` of so many samples whose runs are counted from this base.
+fn note_of(traf: BoxView, base: i128, count: u32) -> Option<OwnTraf>
+    ensures { result ≡ (if nat_lt 0 count then Some (record {
+      at = (box_seen traf.entry).offset + (box_seen traf.entry).header;
+      len = length (box_seen traf.entry).payload;
+      base = base;
+    }) else None) }
+{
+    if count > 0 {
+        return Some(OwnTraf {
+            at: traf.payload_offset(),
+            len: traf.payload().len(),
+            base,
+        });
+    }
+    None
+}
+
 // Checks a `traf` of a `moof` at this place, where the data of the `traf` before ends there: it
-// passes, its own data ends at the answer, and the tracks and the room are those behind it; or it
-// has the fault, at a step for each row, run and sample, and a look at each track at most.
+// passes, and the tracks and the room are those behind it; or it has the fault, at a step for each
+// row, run and sample, and a look at each track at most.
 fn check_traf<L: Ledger, M: Ledger>(
     traf: BoxView,
     moof: u64,
@@ -234,14 +266,16 @@ fn check_traf<L: Ledger, M: Ledger>(
     room: &mut u32,
     steps: &mut Steps<L>,
     looks: &mut Steps<M>,
-) -> Result<i128, Fault>
+) -> Result<PassedTraf, Fault>
     requires room { IsRoomFor tracks.old room.old }
     requires near { IsUpTo (2 ^ 98) before }
     requires known { IsKnown tracks.old known.old }
-    ensures known { IfOk result (λ at. IsKnown tracks.new known.new) }
-    ensures passed { IfOk result (IsTrafPassed file_len moof before (box_seen traf.entry)
-        tracks.old tracks.new room.old room.new) }
-    ensures kept { IfOk result (λ at. KeepRoom tracks.old tracks.new room.old room.new) }
+    ensures known { IfOk result (λ p. IsKnown tracks.new known.new) }
+    ensures passed { IfOk result (λ p. IsTrafPassed file_len moof before (box_seen traf.entry)
+        tracks.old tracks.new room.old room.new p.ends) }
+    ensures kept { IfOk result (λ p. KeepRoom tracks.old tracks.new room.old room.new) }
+    ensures own { IfOk result (IsNotable moof before (box_seen traf.entry) tracks.old) }
+    ensures ids { IfOk result (λ p. ids_of tracks.new ≡ ids_of tracks.old) }
     ensures fault { IfErr result
         (TrafFails file_len moof before tracks.old room.old (box_seen traf.entry)) }
     ensures work { TrafWork (box_seen traf.entry) steps.old steps.new room.old room.new result }
@@ -277,42 +311,72 @@ fn check_traf<L: Ledger, M: Ledger>(
         }
     }
     tracks[k] = moved_on(state, time, passed, keys);
-    Ok(passed.at)
+    Ok(PassedTraf {
+        ends: passed.at,
+        track: k,
+        own: note_of(traf, judged.base, passed.count),
+    })
+}
+
+// Notes a `traf` that passed, if it has samples and its track has notes.
+fn note_traf(own: &mut [OwnTrafs], passed: PassedTraf) -> Result<(), Memory>
+    ensures noted { OnOk result (map own_seen own.new
+        ≡ noted_if passed.track passed.own (map own_seen own.old)) }
+    ensures each { length own.new ≡ length own.old }
+    ensures some { OnErr result (0 < length own.old) }
+{
+    if let Some(traf) = passed.own {
+        if passed.track < own.len() {
+            own[passed.track].note(traf)?;
+        }
+    }
+    Ok(())
 }
 
 /// Checks a `moof` of a file of this length behind what came before it. The tracks move on by its
-/// samples, and the room for samples falls by their number. After a fault both may have any values.
-/// A step is taken for each `traf`, run, row and sample; and each track is looked at once at most
-/// for each `traf`.
-pub fn check_moof<'a, L: Ledger, M: Ledger>(
-    moof: BoxView<'a>,
+/// samples, and the room for samples falls by their number. Each `traf` with samples is noted at
+/// the place of its track, as far as there are notes; a caller that wants none gives an empty list.
+/// After a refusal all of these may have any values. The answer is where the data of the last
+/// `traf` ends, or the place of the `moof` without one. A step is taken for each `traf`, run, row
+/// and sample; and each track is looked at once at most for each `traf`.
+pub fn check_moof<L: Ledger, M: Ledger>(
+    moof: BoxView,
     file_len: u64,
     tracks: &mut [TrackState],
+    own: &mut [OwnTrafs],
     room: &mut u32,
     steps: &mut Steps<L>,
     looks: &mut Steps<M>,
-) -> Result<FragView<'a>, Fault>
+) -> Result<i128, Refusal>
     requires room { IsRoomFor tracks.old room.old }
-    ensures view { IfOk result (λ view. moof_seen view ≡ box_seen moof.entry) }
-    ensures sound { IfOk result (λ view. (trexes : List Trex) → AreTrexesOf trexes tracks.old
+    ensures sound { OnOk result ((trexes : List Trex) → AreTrexesOf trexes tracks.old
         → IsSoundMoof file_len trexes tracks.old (tree_of (box_seen moof.entry))) }
-    ensures accepted { IfOk result (λ view. IsAccepted file_len (box_seen moof.entry)
+    ensures accepted { OnOk result (IsAccepted file_len (box_seen moof.entry)
         tracks.old tracks.new room.old room.new) }
-    ensures fault { IfErr result
-        (MoofFails file_len tracks.old room.old (box_seen moof.entry)) }
-    ensures only { IfErr result
-        (λ f. IsAcceptable file_len tracks.old room.old (box_seen moof.entry) → ⊥) }
-    ensures moved { IfOk result (λ view.
-        IsMoofMovedOn (box_seen moof.entry) tracks.old tracks.new room.old room.new) }
+    ensures refusal { IfErr result
+        (RefusesMoof file_len tracks.old room.old (box_seen moof.entry) (length own.old)) }
+    ensures only { IfErr result (λ r. (f : Fault) → r ≡ refusals.Fault f
+        → IsAcceptable file_len tracks.old room.old (box_seen moof.entry) → ⊥) }
+    ensures moved { OnOk result
+        (IsMoofMovedOn (box_seen moof.entry) tracks.old tracks.new room.old room.new) }
+    ensures own { OnOk result ((trexes : List Trex) → AreTrexesOf trexes tracks.old
+        → AreApart tracks.old → length own.old ≡ length tracks.old → map own_seen own.new
+        ≡ noted_in trexes (tree_of (box_seen moof.entry)) tracks.old (map own_seen own.old)) }
+    ensures ends { IfOk result (λ ends. (trexes : List Trex) → AreTrexesOf trexes tracks.old
+        → ends ≡ data_end trexes (box_seen moof.entry).offset (pos (box_seen moof.entry).offset)
+        (of_kind (codes "traf") (children_of (box_seen moof.entry)))) }
+    ensures each { length own.new ≡ length own.old }
     ensures work { MoofWork (box_seen moof.entry) steps.old steps.new room.old room.new result }
     ensures looks { MoofLooks (box_seen moof.entry) (length tracks.old) looks.old looks.new result }
+    ensures stops { IfMemory result (StopsWithin (box_seen moof.entry) (length tracks.old)
+        steps.old steps.new looks.old looks.new) }
 {
     let mut before = i128::from(moof.offset());
     let mut known = Known::first();
     for child in check_children(moof, Rule::MovieFragment)? {
         if child.kind() == TRAF {
             steps.tick();
-            before = check_traf(
+            let passed = check_traf(
                 child,
                 moof.offset(),
                 before,
@@ -323,7 +387,20 @@ pub fn check_moof<'a, L: Ledger, M: Ledger>(
                 steps,
                 looks,
             )?;
+            note_traf(own, passed)?;
+            before = passed.ends;
         }
     }
-    Ok(FragView::again(moof))
+    Ok(before)
+}
+
+/// Where the runs of a `traf` with this `tfhd` are counted from, in a `moof` at this place, where
+/// the data of the `traf` before ends there.
+pub fn base_in(tfhd: BoxView, moof: u64, before: i128) -> Result<i128, Fault>
+    ensures base { IfOk result
+        (λ base. IsBaseIn (box_seen tfhd.entry).payload moof before base) }
+    ensures fault { IfErr result (IsLeafFault tfhd_leaf (box_seen tfhd.entry)) }
+{
+    let head = head_of(tfhd)?;
+    Ok(base_of(head, moof, before))
 }

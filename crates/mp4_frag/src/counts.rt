@@ -1,15 +1,15 @@
-//! How many samples of a track a `moof` has, and how long they last: by rows, without a walk from
-//! sample to sample.
-ghost use Rattle.std.specs.Prelude.{◌≡◌, ◌+◌, ◌++◌};
+//! How many samples a `traf` has, and how long they last: by rows, without a walk from sample to
+//! sample.
+ghost use Rattle.std.specs.Prelude.{◌≡◌, ◌≤◌, ◌++◌};
 ghost use Rattle.mp4_frag.specs.words.Durations.{durations_of, rows_durations, rows_lasting};
-ghost use Rattle.mp4_frag.specs.words.PlacesIn.{KeepsWalk, LiesIn, IsRowPlace};
-ghost use Rattle.mp4_frag.specs.words.Walks.{Walk, coming, rows_here};
+ghost use Rattle.mp4_frag.specs.words.PlacesIn.{LiesIn, IsRowPlace};
+ghost use Rattle.mp4_frag.specs.words.Walks.{coming, rows_here};
 
 use crate::opened_runs::{next_row, row_here};
 use crate::places::{FragPlace, RowPlace};
 
 /// Samples that were counted: how many there are, how long they last together, as far as 64 bits
-/// go, and how many steps lead behind them from the first `traf` on.
+/// go, and how many steps lead behind them from the front of the `traf` on.
 #[derive(Clone, Copy, Debug, PartialEq, Eq)]
 pub struct Counts {
     pub samples: u32,
@@ -38,12 +38,12 @@ pub(crate) fn leave_run(payload: &[u8], place: &mut FragPlace) -> u64
     requires { LiesIn payload.now place.old }
     ensures place { LiesIn payload.now place.new }
     ensures none { place.new.run.left ≡ 0 }
-    ensures walk { KeepsWalk place.old place.new }
+    ensures on { place.old.passed ≤ place.new.passed }
     ensures lasting { result
         ≡ rows_lasting place.old.inherited.duration (rows_here payload.now place.old.run) }
-    ensures coming { (w : Walk) → durations_of (coming payload.now w place.old)
+    ensures coming { durations_of (coming payload.now place.old)
         ≡ rows_durations place.old.inherited.duration (rows_here payload.now place.old.run)
-        ++ durations_of (coming payload.now w place.new) }
+        ++ durations_of (coming payload.now place.new) }
 {
     let duration = rows_duration(payload, place.run, place.inherited.duration);
     place.passed = place.passed.saturating_add(u64::from(place.run.left));

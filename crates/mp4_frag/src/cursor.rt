@@ -1,19 +1,16 @@
-//! A walk over the samples of a track in a `moof`, one by one.
+//! A walk over the samples of a `traf`, one by one.
 use crate::counts::{Counts, leave_run};
-use crate::moof_samples::{first_place, pass_sample, sample_here};
-use crate::passed_trafs::settle;
+use crate::opened_runs::settle;
 use crate::places::FragPlace;
-use crate::state::TrackState;
-use crate::view::FragView;
+use crate::traf_samples::{begin_traf, pass_sample, sample_here};
+use crate::trex::Trex;
 use mp4_tables::{Keys, SampleAt, Samples};
 use std::marker::Model;
 
-/// The samples of a track in a `moof` from a place on. No step takes memory.
+/// The samples of a `traf` from a place on. No step takes memory.
 #[derive(Drop)]
 pub struct FragCursor<'a> {
     payload: &'a [u8],
-    moof: u64,
-    tracks: &'a [TrackState],
     place: FragPlace,
 }
 
@@ -23,85 +20,70 @@ impl<'a> Model for FragCursor<'a> {
 
     ghost Value = { CursorSeen };
 
-    ghost view = { λ c. record {
-      payload = c.payload.now;
-      moof = c.moof;
-      tracks = c.tracks.now;
-      place = c.place;
-    } };
+    ghost view = { λ c. record { payload = c.payload.now; place = c.place } };
 
     ghost invariant = { λ c. IsPlaceIn c.payload.now c.place };
 }
 
 impl<'a> FragCursor<'a> {
-    ghost use Rattle.std.specs.Prelude.{ℕ, List, ◌≡◌, ◌+◌, ◌-◌, ◌^◌, ◌<◌, ◌≤◌, length, min, None, IfSome};
+    ghost use Rattle.std.specs.Prelude.{ℕ, List, ◌≡◌, ◌+◌, ◌-◌, ◌^◌, ◌<◌, ◌≤◌, length, min, Some, None, Contains, IfSome};
     ghost use Rattle.mp4_boxes.specs.format.Box.{Box};
     ghost use Rattle.mp4_tables.specs.words.Accepted.{AreDistinct};
     ghost use Rattle.mp4_tables.specs.words.Timed.{timed};
     ghost use Rattle.mp4_frag.specs.format.Fragments.{FragmentTree};
-    ghost use Rattle.mp4_frag.specs.format.FragmentSamples.{duration_of};
-    ghost use Rattle.mp4_frag.specs.words.Judged.{AreTrexesOf, IsSoundMoof, samples_of_track};
+    ghost use Rattle.mp4_frag.specs.format.FragmentSamples.{duration_of, part_samples, trex_for};
+    ghost use Rattle.mp4_frag.specs.words.Judged.{AreTrexesOf, IsSoundMoof};
+    ghost use Rattle.mp4_frag.specs.declared.state.TrackState.{TrackState};
     ghost use Rattle.mp4_frag.specs.declared.trex.Trex.{Trex};
-    ghost use Rattle.mp4_frag.specs.words.PlacesIn.{IsPlaceIn, moof_work};
-    ghost use Rattle.mp4_frag.specs.words.FragmentsSeen.{moof_seen};
+    ghost use Rattle.mp4_frag.specs.words.OwnTrafs.{PlacedTraf, own_in, traf_steps};
+    ghost use Rattle.mp4_frag.specs.words.PlacesIn.{IsPlaceIn, traf_work};
     ghost use Rattle.mp4_frag.specs.words.Times.{lasting};
-    ghost use Rattle.mp4_frag.specs.format.FragmentRows.{fragment_rows, fragment_length, moof_says};
     ghost use Rattle.mp4_frag.specs.words.Walks.{samples_coming, samples_in};
     ghost use Rattle.mp4_tables.specs.words.Keys.{keys_seen};
 
-    /// The walk from the first sample of the track with this ID on, at this decode time: over the
-    /// samples of the definition, where the `moof` is sound.
+    /// The walk from the first sample of a `traf` on, at this decode time: over the samples of the
+    /// definition, where the `traf` is one of a sound `moof`. It has this payload, is of the track
+    /// with this ID, and its runs are counted from this base. One that does not name the track has
+    /// no samples.
     pub fn start(
-        view: &FragView<'a>,
-        tracks: &'a [TrackState],
-        track: u32,
+        payload: &'a [u8],
+        base: i128,
+        id: u32,
+        trex: Trex,
         dts: u64,
         keys: Keys,
     ) -> FragCursor<'a>
-        ensures payload { result.payload ≡ (moof_seen view.now).payload }
-        ensures moof { result.moof ≡ (moof_seen view.now).offset }
-        ensures tracks { result.tracks ≡ tracks.now }
+        ensures payload { result.payload ≡ payload.now }
         ensures time { result.place.dts ≡ dts }
         ensures samples { samples_coming result
-            ≡ samples_in (moof_seen view.now) tracks.now track dts (keys_seen keys) }
-        ensures definition { (file_length : ℕ) (trexes : List Trex) (t : FragmentTree)
-            → t.moof ≡ moof_seen view.now → IsSoundMoof file_length trexes tracks.now t
-            → AreTrexesOf trexes tracks.now → AreDistinct (keys_seen keys)
-            → dts + duration_of (samples_of_track trexes track t) < 2 ^ 64
-            → samples_coming result ≡ timed (keys_seen keys) dts (samples_of_track trexes track t) }
+            ≡ samples_in payload.now base id trex dts (keys_seen keys) }
+        ensures definition { (file_length : ℕ) (trexes : List Trex) (tracks : List TrackState)
+            (t : FragmentTree) (p : PlacedTraf) → Contains (own_in trexes id t) p
+            → p.traf.payload ≡ payload.now → p.base ≡ base
+            → IsSoundMoof file_length trexes tracks t → AreTrexesOf trexes tracks
+            → trex_for trexes id ≡ Some trex → AreDistinct (keys_seen keys)
+            → dts + duration_of (part_samples p.part) < 2 ^ 64
+            → samples_coming result ≡ timed (keys_seen keys) dts (part_samples p.part) }
     {
-        let moof = view.moof();
-        let mut place = first_place(moof.offset(), track, dts, keys);
-        settle(moof.payload(), moof.offset(), tracks, &mut place);
-        FragCursor::at(view, tracks, place)
+        let place = begin_traf(payload, base, id, trex, dts, keys);
+        FragCursor::at(payload, place)
     }
 
     /// The walk from a place on.
-    pub fn at(view: &FragView<'a>, tracks: &'a [TrackState], place: FragPlace) -> FragCursor<'a>
-        requires { IsPlaceIn (moof_seen view.now).payload place }
-        ensures { result ≡ record {
-          payload = (moof_seen view.now).payload;
-          moof = (moof_seen view.now).offset;
-          tracks = tracks.now;
-          place = place;
-        } }
+    pub fn at(payload: &'a [u8], place: FragPlace) -> FragCursor<'a>
+        requires { IsPlaceIn payload.now place }
+        ensures { result ≡ record { payload = payload.now; place = place } }
     {
-        let moof = view.moof();
-        FragCursor {
-            payload: moof.payload(),
-            moof: moof.offset(),
-            tracks,
-            place,
-        }
+        FragCursor { payload, place }
     }
 
     /// Where the walk stands.
     pub fn place(&self) -> FragPlace
         ensures is { result ≡ self.now.place }
         ensures place { IsPlaceIn self.now.payload result }
-        ensures work { result.passed ≤ moof_work self.now.payload }
-        ensures said { (moof : Box) → self.now.payload ≡ moof.payload
-            → result.passed ≤ fragment_rows (moof_says moof) + fragment_length (moof_says moof) }
+        ensures work { result.passed ≤ traf_work self.now.payload }
+        ensures said { (traf : Box) → self.now.payload ≡ traf.payload
+            → result.passed ≤ traf_steps traf }
     {
         self.place
     }
@@ -115,8 +97,8 @@ impl<'a> FragCursor<'a> {
         ensures duration { IfSome result
             (λ c. c.duration ≡ min (lasting (samples_coming self.now)) (2 ^ 64 - 1)) }
         ensures many { result ≡ None → most < length (samples_coming self.now) }
-        ensures said { (moof : Box) → self.now.payload ≡ moof.payload → IfSome result (λ c. c.passed
-            ≤ fragment_rows (moof_says moof) + fragment_length (moof_says moof)) }
+        ensures said { (traf : Box) → self.now.payload ≡ traf.payload
+            → IfSome result (λ c. c.passed ≤ traf_steps traf) }
     {
         let mut place = self.place;
         let mut samples = 0;
@@ -127,7 +109,7 @@ impl<'a> FragCursor<'a> {
             }
             samples += place.run.left;
             duration = duration.saturating_add(leave_run(self.payload, &mut place));
-            settle(self.payload, self.moof, self.tracks, &mut place);
+            settle(self.payload, &mut place);
         }
         Some(Counts {
             samples,
@@ -146,8 +128,8 @@ impl<'a> Samples for FragCursor<'a> {
 
     ghost rest = { samples_coming };
 
-    ghost follows = { λ s t. (t.payload ≡ s.payload) × (t.moof ≡ s.moof) × (t.tracks ≡ s.tracks)
-        × (s.place.passed ≤ t.place.passed) × TimeGoesOn s t };
+    ghost follows = { λ s t. (t.payload ≡ s.payload) × (s.place.passed ≤ t.place.passed)
+        × TimeGoesOn s t };
 
     #[inline(always)]
     fn peek(&self) -> Option<SampleAt> {
@@ -162,20 +144,18 @@ impl<'a> Samples for FragCursor<'a> {
     fn next(&mut self) -> Option<SampleAt> {
         if self.place.run.left > 0 {
             let sample = sample_here(self.payload, &self.place);
-            pass_sample(self.payload, self.moof, self.tracks, &mut self.place);
+            pass_sample(self.payload, &mut self.place);
             Some(sample)
         } else {
             None
         }
     }
 
-    ghost follows_itself = { λ s. (refl, refl, refl, le_refl _, refl) };
+    ghost follows_itself = { λ s. (refl, le_refl _, refl) };
 
     ghost follows_on = { λ s t u p q. (
       q.0 ∙ p.0,
-      q.1 ∙ p.1,
+      le_trans p.1 q.1,
       q.2 ∙ p.2,
-      le_trans p.3 q.3,
-      q.4 ∙ p.4,
     ) };
 }

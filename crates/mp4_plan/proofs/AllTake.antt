@@ -2,19 +2,18 @@
 use Rattle.std.proofs.Common.{◌≡◌, ℕ, ◌+◌, ◌*◌, ◌<◌, ◌≤◌, List, [], ◌∷◌, ◌++◌, length, take, Some, refl, subst, ◌∙◌, arith, slice_set}
 use Rattle.std.specs.Prelude.{slice_get}
 use Rattle.std.proofs.lemmas.List.{take_all}
-use Rattle.mp4_boxes.specs.format.Bytes.{sum_of}
 use Rattle.mp4_head.specs.format.Tree.{TrackTree}
 use Rattle.mp4_tables.specs.declared.sample.SampleAt.{SampleAt}
 use Rattle.mp4_present.specs.format.Denotes.{FileTree}
 use Rattle.mp4_present.specs.words.Movies.{MovieSeen, mark_of}
 use Rattle.mp4_present.specs.words.OpenedMovie.{IsInfoOf, IsOpenedAs}
-use Rattle.mp4_present.specs.words.SamplesComing.{Comes}
-use Rattle.mp4_present.specs.words.WalkSteps.{MayTake, TakesOn, moofs_steps, walk_steps}
+use Rattle.mp4_present.specs.words.SamplesComing.{Comes, own_trafs}
+use Rattle.mp4_present.specs.words.WalkSteps.{MayTake, TakesOn, trafs_steps, walk_steps}
 use Rattle.mp4_present.specs.declared.walks.Walk.{Walk}
 use Rattle.mp4_present.proofs.TracksPassed.{zip_length}
-use Rattle.mp4_plan.specs.words.WriterSteps.{MayAllTake, MayAllBegin, MayWrite, WriteAllBegin, again_steps}
+use Rattle.mp4_plan.specs.words.WriterSteps.{MayAllTake, MayAllBegin, MayWrite, WriteAllBegin, again_steps, track_writes}
 use Rattle.mp4_plan.proofs.AllMay.{MayWithin, may_more, one_moves, one_ends}
-use Rattle.mp4_plan.proofs.MoofsAhead.{last_more, steps_append}
+use Rattle.mp4_plan.proofs.TrafsAhead.{last_more, steps_append}
 use Rattle.mp4_plan.proofs.TurnTaken.{there_is}
 
 module _ (file : List ℕ) (tree : FileTree) where
@@ -52,10 +51,6 @@ all_to_take m k walks h le file tree o =
 
 -- ---- walks that begin to write
 
--- the most that writing a track may take
-abbrev track_writes : FileTree → TrackTree → ℕ
-track_writes tree t = 2 * walk_steps tree t + 2 * moofs_steps tree.fragments
-
 -- walks over the first tracks of a file
 abbrev pub BeginToWrite : MovieSeen → ℕ → List Walk → Type 0
 BeginToWrite m k walks = (file : List ℕ) (tree : FileTree) → IsOpenedAs file m tree → MayWithin (MayWrite file tree m) (track_writes tree) (take k tree.movie.tracks) walks
@@ -71,20 +66,13 @@ one_to_write m k walks walk h n lt comes may file tree o =
     let own = may file tree t.0 o t.1 in
     let within = own.2 in
     let last = last_more [] own.1.earlier in
-    let all : moofs_steps tree.fragments ≡ moofs_steps own.1.earlier + moofs_steps own.1.later = (λ i. moofs_steps (own.1.stands.split i)) ∙ steps_append own.1.earlier own.1.later in
+    let all : trafs_steps (own_trafs tree t.0) ≡ trafs_steps own.1.earlier + trafs_steps own.1.later = (λ i. trafs_steps (own.1.stands.split i)) ∙ steps_append own.1.earlier own.1.later in
     may_more (MayWrite file tree m) tree.movie.tracks walks k t.0 walk (track_writes tree) (h file tree o) n t.1
     (2 * own.0 + again_steps own.1.earlier own.1.later, record { samples = c.0; comes = c.1; marked = c.2; own = own.0; may = own.1; sum = refl }, omega (arith, within, last, all))
-
-tracks_sum : (tree : FileTree) (trees : List TrackTree) → sum_of (track_writes tree) trees ≡ 2 * sum_of (walk_steps tree) trees + length trees * (2 * moofs_steps tree.fragments)
-tracks_sum tree [] = omega arith
-tracks_sum tree (t ∷ trees) = let more = tracks_sum tree trees in omega (arith, more)
 
 -- all tracks have walks
 pub all_to_write : (m : MovieSeen) (k : ℕ) (walks : List Walk) → BeginToWrite m k walks → length m.tracks ≤ k → (file : List ℕ) (tree : FileTree) → IsOpenedAs file m tree → WriteAllBegin file tree m walks
 all_to_write m k walks h le file tree o =
     let many = zip_length (IsInfoOf file tree) tree.movie.tracks m.tracks o.tracks in
     let all = take_all k tree.movie.tracks (omega (arith, le, many)) in
-    let r = subst (λ (ts : List TrackTree). MayWithin (MayWrite file tree m) (track_writes tree) ts walks) all (h file tree o) in
-    let within = r.2 in
-    let sum = tracks_sum tree tree.movie.tracks in
-    (r.0, r.1, omega (arith, within, sum))
+    subst (λ (ts : List TrackTree). MayWithin (MayWrite file tree m) (track_writes tree) ts walks) all (h file tree o)

@@ -8,7 +8,7 @@ use Rattle.mp4_tables.specs.declared.sample.SampleAt.{SampleAt}
 use Rattle.mp4_present.specs.words.InHand.{Follows, IsPlaceOf}
 use Rattle.mp4_present.specs.words.Movies.{MovieSeen, HandAt, InHandOf}
 use Rattle.mp4_tables.specs.words.TablesSeen.{CursorSeen as TableView}
-use Rattle.mp4_frag.specs.words.FragmentsSeen.{CursorSeen as MoofView}
+use Rattle.mp4_frag.specs.words.FragmentsSeen.{CursorSeen as TrafView}
 use Rattle.mp4_present.specs.declared.in_hand.InHand.{InHand}
 use Rattle.mp4_present.specs.declared.in_hand.InHand.TheVariants as hands
 use Rattle.mp4_present.specs.declared.in_hand.Place.{Place}
@@ -157,7 +157,7 @@ hand_kept m w (hands.Fragment a) (hands.Fragment b) (places.Fragment p) h f i = 
     fragment : (at : Place) → HandAt m w at (hands.Fragment a) → HandAt m w (places.Fragment p) (hands.Fragment b)
     fragment (places.Tables q) h = absurd h
     fragment (places.Fragment q) h =
-        λ j. record { payload = (f.0 ∙ ap (λ (c : MoofView). c.payload) h) j; moof = (f.1 ∙ ap (λ (c : MoofView). c.moof) h) j; tracks = (f.2 ∙ ap (λ (c : MoofView). c.tracks) h) j; place = sym i.0 j }
+        λ j. record { payload = (f.0 ∙ ap (λ (c : TrafView). c.payload) h) j; place = sym i.0 j }
 hand_kept m w (hands.Tables a) (hands.Fragment b) place h f i = absurd f
 hand_kept m w (hands.Fragment a) (hands.Tables b) place h f i = absurd f
 hand_kept m w (hands.Tables a) (hands.Tables b) (places.Fragment p) h f i = absurd i

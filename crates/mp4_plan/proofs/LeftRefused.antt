@@ -14,6 +14,19 @@ pub so_if_ok : {T : Type 0} (answer : Result T Refusal) (P : Type 0) → P → O
 so_if_ok (Ok x) P p = p
 so_if_ok (Err r) P p = tt
 
+pub so_if_err : {T : Type 0} (answer : Result T Refusal) (P : Type 0) → P → IfErr answer (λ r. r ≡ refusals.WriteFailed → P)
+so_if_err (Ok x) P p = tt
+so_if_err (Err r) P p = λ _. p
+
+-- planning puts nothing
+pub plan_puts_nothing : (l : Leaving) (reads reads_after : ℕ) (r : Refusal) (P : Type 0) → RefusesLeft l reads reads_after r → r ≡ refusals.WriteFailed → P
+plan_puts_nothing l reads reads_after (refusals.Fault f) P w e = absurd cc
+plan_puts_nothing l reads reads_after refusals.Memory P w e = absurd cc
+plan_puts_nothing l reads reads_after refusals.StoreFailed P w e = absurd cc
+plan_puts_nothing l reads reads_after refusals.StoreChanged P w e = absurd cc
+plan_puts_nothing l reads reads_after refusals.WriteFailed P w e = absurd w
+plan_puts_nothing l reads reads_after refusals.NoSuchTrack P w e = absurd cc
+
 -- what is so at Ok gives one thing, and what is so at Err another
 pub on_both : {A B X Y : Type 0} {T : Type 0} (answer : Result T Refusal) → (A → B) → (X → Y) → MatchResult answer (λ _. A) (λ _. X) → MatchResult answer (λ _. B) (λ _. Y)
 on_both (Ok x) f g a = f a
@@ -66,3 +79,16 @@ pub copied_left : (l : Leaving) {T : Type 0} (answer : Result T Refusal) (before
     → IfErr answer (RefusesLeftCopy l before after reads reads_after puts puts_after) → IfErr answer (RefusesCopy before after reads reads_after puts puts_after)
 copied_left l (Ok x) before after reads reads_after puts puts_after e w = tt
 copied_left l (Err r) before after reads reads_after puts puts_after e w = copy_left l before after reads reads_after puts puts_after r e w
+
+carry_left : (l : Leaving) (before after : Option (List ℕ)) (reads reads_after puts puts_after : ℕ) (r : Refusal) → RefusesCarry reads reads_after puts puts_after r → RefusesLeftCopy l before after reads reads_after puts puts_after r
+carry_left l before after reads reads_after puts puts_after (refusals.Fault f) w = absurd w
+carry_left l before after reads reads_after puts puts_after refusals.Memory w = absurd w
+carry_left l before after reads reads_after puts puts_after refusals.StoreFailed w = w
+carry_left l before after reads reads_after puts puts_after refusals.StoreChanged w = w
+carry_left l before after reads reads_after puts puts_after refusals.WriteFailed w = w
+carry_left l before after reads reads_after puts puts_after refusals.NoSuchTrack w = w
+
+-- bytes that are not taken along are refused as a whole is
+pub carried_left : (l : Leaving) {T : Type 0} (answer : Result T Refusal) (before after : Option (List ℕ)) (reads reads_after puts puts_after : ℕ) → IfErr answer (RefusesCarry reads reads_after puts puts_after) → IfErr answer (RefusesLeftCopy l before after reads reads_after puts puts_after)
+carried_left l (Ok x) before after reads reads_after puts puts_after w = tt
+carried_left l (Err r) before after reads reads_after puts puts_after w = carry_left l before after reads reads_after puts puts_after r w

@@ -90,7 +90,8 @@ pub mod CourseSteps
 pub mod AllPut
 mod WalksGone
 mod AllMay
-mod MoofsAhead
+mod TrafsAhead
 mod WritingSteps
 mod PiecesPut
+mod WriterMade
 mod BytesLeft

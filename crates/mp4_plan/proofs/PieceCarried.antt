@@ -8,7 +8,7 @@ use Rattle.std.proofs.Math.Seq.{take-nil}
 use Rattle.mp4_boxes.proofs.Joined.{all_first}
 use Rattle.mp4_store.specs.words.Device.{AppendsPrefix}
 use Rattle.mp4_tables.specs.declared.sample.SampleAt.{SampleAt}
-use Rattle.mp4_frag.specs.format.Fragments.{FragmentTree}
+use Rattle.mp4_frag.specs.words.OwnTrafs.{PlacedTraf}
 use Rattle.mp4_head.specs.format.Tree.{TrackTree}
 use Rattle.mp4_present.specs.words.Carried.{BytesGoOn}
 use Rattle.mp4_present.specs.words.Joined.{IsBelow, sample_bytes}
@@ -86,12 +86,12 @@ hand_carried file m begun w now a b c held held_b held_c load left next hand lat
 
 -- what is loaded of a walk, whatever the file's tree is
 abbrev pub LoadsFor : List ℕ → MovieSeen → Walk → Walk → Bool → Type 0
-LoadsFor file m w next more = (tree : FileTree) (t : TrackTree) (earlier later : List FragmentTree) → IsOpenedAs file m tree → StandsBefore file tree t earlier later w → Loads file tree t m (samples_behind tree t earlier later) next more
+LoadsFor file m w next more = (tree : FileTree) (t : TrackTree) (earlier later : List PlacedTraf) → IsOpenedAs file m tree → StandsBefore file tree t earlier later w → Loads file tree t m (samples_behind tree t earlier later) next more
 
 -- then nothing comes, where nothing was
 abbrev pub EndsFor : List ℕ → MovieSeen → Walk → Walk → Bool → Type 0
 EndsFor file m w next more =
-    (tree : FileTree) (t : TrackTree) (earlier later : List FragmentTree) → IsOpenedAs file m tree → StandsBefore file tree t earlier later w → (hand : InHand) → InHandOf m w hand → left_in_hand hand ≡ [] → more ≡ false → Comes file tree t m next []
+    (tree : FileTree) (t : TrackTree) (earlier later : List PlacedTraf) → IsOpenedAs file m tree → StandsBefore file tree t earlier later w → (hand : InHand) → InHandOf m w hand → left_in_hand hand ≡ [] → more ≡ false → Comes file tree t m next []
 
 -- more was loaded
 pub next_carried : (file : List ℕ) (m : MovieSeen) (begun w next : Walk) (a b : Option (List ℕ)) (held held_b : List ℕ) (load left : Load) (hand : InHand) (more : Bool) → CarriesOn file m begun w a b held held_b load left → InHandOf m w hand

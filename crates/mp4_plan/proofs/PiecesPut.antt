@@ -1,5 +1,5 @@
 -- Pieces that are put over any store: so many follow, with so many samples and so many bytes of these.
-use Rattle.std.proofs.Common.{◌≡◌, ℕ, ◌+◌, ◌-◌, ◌*◌, ◌^◌, ◌<◌, ◌≤◌, List, [], ◌∷◌, ◌++◌, length, refl, sym, ap, subst, ◌∙◌, length-append, arith}
+use Rattle.std.proofs.Common.{◌≡◌, ℕ, ◌+◌, ◌-◌, ◌*◌, ◌^◌, ◌<◌, ◌≤◌, List, [], ◌∷◌, ◌++◌, refl, sym, ap, subst, ◌∙◌, append_assoc, arith}
 use Rattle.std.specs.Prelude.{Option, codes}
 use Rattle.std.specs.Io.KnownBytes.{Appends}
 use Rattle.std.specs.List.{sum_by}
@@ -8,12 +8,11 @@ use Rattle.std.proofs.lemmas.Grind.{flat_map-append}
 use Rattle.std.proofs.lemmas.List.{append-nil}
 use Rattle.mp4_boxes.specs.format.Written.{header_bytes}
 use Rattle.mp4_tables.specs.format.Groups.{GroupKey}
-use Rattle.mp4_store.proofs.Known.{Appends-then}
 use Rattle.mp4_present.specs.words.Carried.{BytesGoOn, GoOnBy}
 use Rattle.mp4_present.specs.words.Movies.{MovieSeen}
 use Rattle.mp4_present.specs.declared.track_info.TrackInfo.{TrackInfo}
-use Rattle.mp4_present.proofs.Carrying.{BytesGoOn-nothing, BytesGoOn-then, GoOnBy-then, GoOnBy-bytes}
-use Rattle.mp4_plan.specs.words.PutPieces.{PutPiece, put_length, PiecesFollow, IsPutWhole}
+use Rattle.mp4_present.proofs.Carrying.{BytesGoOn-nothing, BytesGoOn-then, BytesGoOn-all}
+use Rattle.mp4_plan.specs.words.PutPieces.{PutPiece, put_front, AreBytesOf, PiecesFollow, IsPutWhole}
 use Rattle.mp4_plan.specs.words.Sizes.{moof_sizes}
 use Rattle.mp4_plan.specs.words.Spelling.{moof_front, run_rows}
 use Rattle.mp4_plan.specs.words.UsedKeys.{group_bytes, some_groups}
@@ -21,23 +20,33 @@ use Rattle.mp4_plan.specs.declared.planner.Planned.{Planned}
 use Rattle.mp4_plan.specs.declared.noted_rows.Row.{Row}
 use Rattle.mp4_plan.proofs.PartsPut.{go_four}
 
--- none yet, behind so many bytes
-pub first_put : (a b : Option (List ℕ)) (held held_b first : List ℕ) → BytesGoOn a b held held_b first → PiecesFollow a b held held_b (length first) 0 0
-first_put a b held held_b first p = record { pieces = []; counts = refl; sizes = refl; long = subst (λ n. GoOnBy a b held held_b n) (omega arith) (GoOnBy-bytes a b held held_b first p) }
+-- the bytes of some pieces and of others behind them
+both_texts : (pieces more : List PutPiece) (text rest : List ℕ) → AreBytesOf pieces text → AreBytesOf more rest → AreBytesOf (pieces ++ more) (text ++ rest)
+both_texts [] more text rest is are = subst (λ (bs : List ℕ). AreBytesOf more (bs ++ rest)) (sym is) are
+both_texts (q ∷ pieces) more text rest is are = (
+  is.0,
+  is.1 ++ rest,
+  is.2,
+  ap (λ (bs : List ℕ). bs ++ rest) is.3 ∙ append_assoc (put_front q ++ is.0) is.1 rest,
+  both_texts pieces more is.1 rest is.4 are,
+)
+
+-- none yet, behind these bytes
+pub first_put : (a b : Option (List ℕ)) (held held_b first : List ℕ) → BytesGoOn a b held held_b first → PiecesFollow a b held held_b first 0 0
+first_put a b held held_b first p = record { pieces = []; counts = refl; sizes = refl; text = []; are = refl; put = subst (λ (bs : List ℕ). BytesGoOn a b held held_b bs) (sym (append-nil first)) p }
 
 -- no piece follows
-pub none_follow : (a : Option (List ℕ)) (held : List ℕ) (samples bytes : ℕ) → samples ≡ 0 → bytes ≤ samples * 4294967295 → PiecesFollow a a held held 0 samples bytes
+pub none_follow : (a : Option (List ℕ)) (held : List ℕ) (samples bytes : ℕ) → samples ≡ 0 → bytes ≤ samples * 4294967295 → PiecesFollow a a held held [] samples bytes
 none_follow a held samples bytes none few =
     let empty : bytes ≡ 0 = omega (arith, none, few) in
-    subst (λ n. PiecesFollow a a held held 0 n bytes) (sym none) (subst (λ n. PiecesFollow a a held held 0 0 n) (sym empty) (first_put a a held held [] (BytesGoOn-nothing a held)))
+    subst (λ n. PiecesFollow a a held held [] n bytes) (sym none) (subst (λ n. PiecesFollow a a held held [] 0 n) (sym empty) (first_put a a held held [] (BytesGoOn-nothing a held)))
 
 -- others behind them
-pub follow_then : (a b c : Option (List ℕ)) (held held_b held_c : List ℕ) (first samples bytes more_samples more_bytes : ℕ) → PiecesFollow a b held held_b first samples bytes → PiecesFollow b c held_b held_c 0 more_samples more_bytes
+pub follow_then : (a b c : Option (List ℕ)) (held held_b held_c : List ℕ) (first : List ℕ) (samples bytes more_samples more_bytes : ℕ) → PiecesFollow a b held held_b first samples bytes → PiecesFollow b c held_b held_c [] more_samples more_bytes
     → PiecesFollow a c held held_c first (samples + more_samples) (bytes + more_bytes)
 follow_then a b c held held_b held_c first samples bytes more_samples more_bytes p q =
     let counts = sum_by-append (λ (x : PutPiece). x.planned.count) p.pieces q.pieces in
     let sizes = sum_by-append (λ (x : PutPiece). x.planned.bytes) p.pieces q.pieces in
-    let lengths = sum_by-append put_length p.pieces q.pieces in
     let one = p.counts in
     let two = q.counts in
     let three = p.sizes in
@@ -46,13 +55,15 @@ follow_then a b c held held_b held_c first samples bytes more_samples more_bytes
       pieces = p.pieces ++ q.pieces;
       counts = omega (arith, counts, one, two);
       sizes = omega (arith, sizes, three, four);
-      long = GoOnBy-then a b c held held_b held_c (first + sum_by put_length p.pieces) (0 + sum_by put_length q.pieces) _ p.long q.long (omega (arith, lengths));
+      text = p.text ++ q.text;
+      are = both_texts p.pieces q.pieces p.text q.text p.are q.are;
+      put = BytesGoOn-then a b c held held_b held_c (first ++ p.text) q.text (first ++ (p.text ++ q.text)) p.put q.put (sym (append_assoc first p.text q.text));
     }
 
 -- one, of which the parts in front are these, and then its bytes
 pub piece_follows : (q : PutPiece) (front mdat : List ℕ) (a b c d e f : Option (List ℕ)) (h1 h2 h3 h4 h5 h6 : List ℕ) → front ≡ moof_front q.head q.planned (moof_sizes q.planned q.keys) → mdat ≡ header_bytes (codes "mdat") q.planned.bytes
     → BytesGoOn a b h1 h2 front → BytesGoOn b c h2 h3 (run_rows q.planned q.rows) → BytesGoOn c d h3 h4 (some_groups q.rows q.planned q.groups) → BytesGoOn d e h4 h5 mdat → GoOnBy e f h5 h6 q.planned.bytes
-    → PiecesFollow a f h1 h6 0 q.planned.count q.planned.bytes
+    → PiecesFollow a f h1 h6 [] q.planned.count q.planned.bytes
 piece_follows q front mdat a b c d e f h1 h2 h3 h4 h5 h6 is_front is_mdat x y z u v =
     let own_front = moof_front q.head q.planned (moof_sizes q.planned q.keys) in
     let own_mdat : List ℕ = header_bytes (codes "mdat") q.planned.bytes in
@@ -60,28 +71,29 @@ piece_follows q front mdat a b c d e f h1 h2 h3 h4 h5 h6 is_front is_mdat x y z 
     let groups = some_groups q.rows q.planned q.groups in
     let first = subst (λ (bs : List ℕ). BytesGoOn a b h1 h2 bs) is_front x in
     let last = subst (λ (bs : List ℕ). BytesGoOn d e h4 h5 bs) is_mdat u in
-    let whole = GoOnBy-bytes a e h1 h5 (own_front ++ run ++ groups ++ own_mdat) (go_four own_front run groups own_mdat [] a b c d e f h1 h2 h3 h4 h5 h6 first y z last) in
     let counts = sum_by-cons (λ (x : PutPiece). x.planned.count) q [] in
     let sizes = sum_by-cons (λ (x : PutPiece). x.planned.bytes) q [] in
-    let lengths = sum_by-cons put_length q [] in
+    let whole = go_four own_front run groups own_mdat [] a b c d e f h1 h2 h3 h4 h5 h6 first y z last in
     record {
       pieces = q ∷ [];
       counts = omega (arith, counts);
       sizes = omega (arith, sizes);
-      long = GoOnBy-then a e f h1 h5 h6 (length (own_front ++ run ++ groups ++ own_mdat)) q.planned.bytes _ whole v (omega (arith, lengths));
+      text = put_front q ++ v.0 ++ [];
+      are = (v.0, [], v.1, refl, refl);
+      put = BytesGoOn-then a e f h1 h5 h6 (put_front q) v.0 _ whole v.2 (append-nil (put_front q ++ v.0));
     }
 
 -- at last what waits is put: they have as many samples and bytes as the movie says
-pub all_follow : (m : MovieSeen) (a b c : Option (List ℕ)) (held held_b head : List ℕ) (samples bytes : ℕ) → PiecesFollow a b held held_b (length head) samples bytes
+pub all_follow : (m : MovieSeen) (a b c : Option (List ℕ)) (held held_b head : List ℕ) (samples bytes : ℕ) → PiecesFollow a b held held_b head samples bytes
     → samples ≡ sum_by (λ (i : TrackInfo). i.samples) m.tracks → bytes ≡ sum_by (λ (i : TrackInfo). i.bytes) m.tracks → Appends b c held_b → IsPutWhole m a c (held ++ head)
 all_follow m a b c held held_b head samples bytes p counts sizes q =
-    let put = p.long.0 in
-    let long = p.long.2 in
     record {
       pieces = p.pieces;
       counts = p.counts ∙ counts;
       sizes = p.sizes ∙ sizes;
-      long = (put ++ held_b, Appends-then a b c put held_b (put ++ held_b) p.long.1 q refl, omega (arith, long, length-append put held_b, length-append held head));
+      text = p.text;
+      are = p.are;
+      put = subst (λ (bs : List ℕ). Appends a c bs) (sym (append_assoc held head p.text)) (BytesGoOn-all a b c held held_b (head ++ p.text) p.put q);
     }
 
 -- one `sbgp` more

@@ -6,15 +6,19 @@ use Rattle.std.specs.Prelude.{slice_get, slice_set, slice_index_or}
 use Rattle.std.specs.List.{AllByRecursion}
 use Rattle.std.proofs.lemmas.List.{take_all, map-append}
 use Rattle.std.proofs.lemmas.List.Sums.{sum_by-append, sum_by-cons}
+use Rattle.mp4_boxes.specs.format.Bytes.{sum_of}
 use Rattle.mp4_head.specs.format.Tree.{TrackTree}
 use Rattle.mp4_tables.specs.declared.sample.SampleAt.{SampleAt}
-use Rattle.mp4_present.specs.words.SamplesComing.{Comes, track_samples}
+use Rattle.mp4_present.specs.words.SamplesComing.{Comes, track_samples, traf_total, walk_room}
 use Rattle.mp4_present.specs.format.Denotes.{FileTree}
 use Rattle.mp4_present.specs.words.Movies.{MovieSeen, IsWalkOf, mark_of, own_room}
 use Rattle.mp4_present.specs.words.OpenedMovie.{IsInfoOf, IsOpenedAs}
 use Rattle.mp4_present.specs.declared.walks.Walk.{Walk}
 use Rattle.mp4_present.specs.declared.track_info.TrackInfo.{TrackInfo}
-use Rattle.mp4_present.proofs.MoofTaken.{zipped_at}
+use Rattle.mp4_present.proofs.Counts.{sum-append}
+use Rattle.mp4_present.proofs.OwnSums.{rooms_within}
+use Rattle.mp4_present.proofs.WalkRooms.{room_opened}
+use Rattle.mp4_present.proofs.TrafTaken.{zipped_at}
 use Rattle.mp4_present.proofs.TracksPassed.{zip_length}
 use Rattle.mp4_plan.specs.words.Writers.{AreWalksOf, AreMarked, AllCome, AllBegin}
 use Rattle.mp4_plan.specs.format.Held.{rooms}
@@ -152,3 +156,25 @@ pub walks_set : (m : MovieSeen) (walks : List Walk) (k : ℕ) (next : Walk) → 
 walks_set m walks k next h w = record { each = each_set (IsWalkOf m) walks k next h.each w; count = length-set walks k next ∙ h.count }
 
 -- ---- when the first track begins
+
+-- ---- the rooms of walks over all tracks
+
+rooms_sum : (file : List ℕ) (m : MovieSeen) (tree : FileTree) → IsOpenedAs file m tree → (k : ℕ) → k ≤ length tree.movie.tracks → own_rooms m k ≡ sum_of (walk_room tree) (take k tree.movie.tracks)
+rooms_sum file m tree o zero le = refl
+rooms_sum file m tree o (suc k) le =
+    let tracks = tree.movie.tracks in
+    let t = there_is tracks k (omega (arith, le)) in
+    let e : suc k ≡ k + 1 = omega arith in
+    let more = rooms_sum file m tree o k (omega (arith, le)) in
+    let here = room_opened file m tree t.0 k o t.1 in
+    let taken = ap (λ n. sum_of (walk_room tree) (take n tracks)) e ∙ ap (sum_of (walk_room tree)) (taken_next tracks k t.0 t.1) ∙ sum-append (walk_room tree) (take k tracks) (t.0 ∷ []) in
+    omega (arith, more, here, taken)
+
+-- together they are no longer than the `traf`s of the file
+pub rooms_fit : (file : List ℕ) (m : MovieSeen) (tree : FileTree) → IsOpenedAs file m tree → own_rooms m (length m.tracks) ≤ traf_total tree
+rooms_fit file m tree o =
+    let tracks = tree.movie.tracks in
+    let many = zip_length (IsInfoOf file tree) tracks m.tracks o.tracks in
+    let e : length m.tracks ≡ length tracks = omega (arith, many) in
+    let sum = ap (own_rooms m) e ∙ rooms_sum file m tree o (length tracks) (omega arith) ∙ ap (sum_of (walk_room tree)) (take_all (length tracks) tracks (omega arith)) in
+    omega (arith, sum, rooms_within file tree o.is_tree o.is_sound.movie)

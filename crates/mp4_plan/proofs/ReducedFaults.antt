@@ -20,7 +20,7 @@ use Rattle.mp4_plan.proofs.LeftTimes.{passes_time}
 
 -- ---- whether a track is too long
 
-in_time_or : (timescale : ℕ) (t : Track) → IsInTime timescale t ⊎ (IsInTime timescale t → ⊥)
+pub in_time_or : (timescale : ℕ) (t : Track) → IsInTime timescale t ⊎ (IsInTime timescale t → ⊥)
 in_time_or timescale t = elim (cases_lt max_time (end_time t)) [
   | inl over ↦ inr (λ h. let le = h.0 in omega (arith, over, le))
   | inr ends ↦ elim (cases_lt max_time (track_length timescale t)) [

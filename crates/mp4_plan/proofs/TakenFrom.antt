@@ -24,7 +24,7 @@ use Rattle.mp4_present.specs.words.Movies.{MovieSeen}
 use Rattle.mp4_present.specs.words.OpenedMovie.{IsInfoOf, IsOpenedAs}
 use Rattle.mp4_present.specs.format.Presentation.{Track, IsGroup}
 use Rattle.mp4_present.specs.declared.track_info.TrackInfo.{TrackInfo}
-use Rattle.mp4_present.proofs.MoofTaken.{zipped_at}
+use Rattle.mp4_present.proofs.TrafTaken.{zipped_at}
 use Rattle.mp4_present.proofs.PlacedTracks.{IsTrackPlaced, track_placed}
 use Rattle.mp4_present.proofs.SamplesLie.{IsInFile, placed_lie, bytes_whole, timed_lie, timed_length}
 use Rattle.mp4_present.proofs.ValidSamples.{IsOfTrack, is_parameter, is_group}

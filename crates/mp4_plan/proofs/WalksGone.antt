@@ -3,12 +3,11 @@ use Rattle.std.proofs.Common.{◌≡◌, ℕ, ◌+◌, ◌-◌, ◌<◌, ◌≤�
 use Rattle.std.specs.Prelude.{Option, None, List, [], ◌∷◌, slice_get, length, drop}
 use Rattle.mp4_head.specs.format.Tree.{TrackTree}
 use Rattle.mp4_present.specs.format.Denotes.{FileTree}
-use Rattle.mp4_boxes.specs.format.Box.{Box}
 use Rattle.mp4_tables.specs.declared.sample.SampleAt.{SampleAt}
 use Rattle.mp4_tables.specs.words.Keys.{keys_seen}
 use Rattle.mp4_frag.specs.words.Walks.{samples_in}
 use Rattle.mp4_present.specs.words.GoingBack.{HoldsSome}
-use Rattle.mp4_present.specs.words.Movies.{MovieSeen, HasSome, IsWalkOf, mark_of}
+use Rattle.mp4_present.specs.words.Movies.{MovieSeen, HasSome, IsWalkOf, mark_of, all_in_traf, trex_at}
 use Rattle.mp4_present.specs.words.WalkSteps.{steps_to}
 use Rattle.mp4_present.specs.declared.in_hand.Place.{Place}
 use Rattle.mp4_present.specs.declared.leaving.Leaving.{Leaving}
@@ -21,7 +20,7 @@ use Rattle.mp4_plan.proofs.ReducedTaken.{less_length}
 
 -- it stays
 pub went_none : (m : MovieSeen) (w : Walk) (steps : ℕ) → WentOn m w w steps steps
-went_none m w steps = record { mark = refl; grows = omega arith; ahead = inl (record { track = refl; next = refl; due = refl; left = refl; box = refl }) }
+went_none m w steps = record { mark = refl; grows = omega arith; ahead = inl (record { track = refl; next = refl; due = refl; left = refl; traf = refl; bytes = refl }) }
 
 holds_moved : (m : MovieSeen) (w : Walk) (p : Place) → HoldsSome m w → HoldsSome m (record w { place = p })
 holds_moved m w p h = record { before = h.before; is_before = h.is_before; some = h.some; all = h.all }
@@ -36,8 +35,9 @@ stays_holding m w now s h =
       some = omega (arith, some, left);
       all = λ info at.
           let all = h.all info (ap (slice_get m.tracks) (sym s.track) ∙ at) in
-          let box = ap (λ (b : Box). length (samples_in b m.states info.id h.before.time (keys_seen info.keys))) s.box in
-          omega (arith, all, box, left);
+          let same : length (all_in_traf m now info h.before.time) ≡ length (all_in_traf m w info h.before.time) =
+          λ i. length (samples_in (s.bytes i) (s.traf i).base info.id (trex_at m (s.track i)) h.before.time (keys_seen info.keys)) in
+          omega (arith, all, same, left);
     }
 
 module _ (m : MovieSeen) (begun w : Walk) (old mid : ℕ) (h : WentOn m begun w old mid) where
@@ -48,7 +48,7 @@ module _ (m : MovieSeen) (begun w : Walk) (old mid : ℕ) (h : WentOn m begun w 
       subst (λ (v : Walk). WentOn m begun v old after) (sym is) (record { mark = h.mark; grows = omega (arith, grows, work); ahead = by h.ahead })
     where
       by : Stays begun w ⊎ HasLoaded m begun w → Stays begun (record w { place = p }) ⊎ HasLoaded m begun (record w { place = p })
-      by (inl s) = inl (record { track = s.track; next = s.next; due = s.due; left = s.left; box = s.box })
+      by (inl s) = inl (record { track = s.track; next = s.next; due = s.due; left = s.left; traf = s.traf; bytes = s.bytes })
       by (inr l) = inr (l.0, holds_moved m w p l.1)
 
   -- it loads a `moof`
@@ -75,7 +75,7 @@ module _ (m : MovieSeen) (begun w : Walk) (old mid : ℕ) (h : WentOn m begun w 
       record { mark = k.mark ∙ h.mark; grows = omega (arith, first, second); ahead = by h.ahead k.ahead }
     where
       by : Stays begun w ⊎ HasLoaded m begun w → Stays w now ⊎ HasLoaded m w now → Stays begun now ⊎ HasLoaded m begun now
-      by (inl s) (inl u) = inl (record { track = u.track ∙ s.track; next = u.next ∙ s.next; due = u.due ∙ s.due; left = u.left ∙ s.left; box = u.box ∙ s.box })
+      by (inl s) (inl u) = inl (record { track = u.track ∙ s.track; next = u.next ∙ s.next; due = u.due ∙ s.due; left = u.left ∙ s.left; traf = u.traf ∙ s.traf; bytes = u.bytes ∙ s.bytes })
       by (inl s) (inr l) = let same = s.next in let far = l.0 in inr (omega (arith, same, far), l.1)
       by (inr l) (inl u) =
           let far = l.0 in
@@ -97,7 +97,7 @@ pub marked_ahead : (m : MovieSeen) (begun w now : Walk) (n : ℕ) → now ≡ re
 marked_ahead m begun w now n is h = subst (λ (v : Walk). Stays begun v ⊎ HasLoaded m begun v) (sym is) (by h)
   where
     by : Stays begun w ⊎ HasLoaded m begun w → Stays begun (record w { mark = mark_of w n }) ⊎ HasLoaded m begun (record w { mark = mark_of w n })
-    by (inl s) = inl (record { track = s.track; next = s.next; due = s.due; left = s.left; box = s.box })
+    by (inl s) = inl (record { track = s.track; next = s.next; due = s.due; left = s.left; traf = s.traf; bytes = s.bytes })
     by (inr l) = inr (l.0, record { before = l.1.before; is_before = l.1.is_before; some = l.1.some; all = l.1.all })
 
 pub marked_has : (m : MovieSeen) (w now : Walk) (n : ℕ) → now ≡ record w { mark = mark_of w n } → HasSome m w → HasSome m now

@@ -3,7 +3,7 @@ use Rattle.std.proofs.Common.{◌≡◌, ℕ, Bool, true, false, List, [], ◌�
 use Rattle.std.specs.Prelude.{slice_get, not}
 use Rattle.std.specs.Option.{is_some}
 use Rattle.mp4_tables.specs.declared.sample.SampleAt.{SampleAt}
-use Rattle.mp4_frag.specs.format.Fragments.{FragmentTree}
+use Rattle.mp4_frag.specs.words.OwnTrafs.{PlacedTraf}
 use Rattle.mp4_head.specs.format.Tree.{TrackTree}
 use Rattle.mp4_present.specs.format.Denotes.{FileTree}
 use Rattle.mp4_present.proofs.WalkCopied.{kept_before}
@@ -95,7 +95,7 @@ by_test None v e f = refl
 by_test (Some s) v e f = absurd cc
 
 -- a walk that goes on from a later place has the later samples to come
-pub kept_coming : (file : List ℕ) (m : MovieSeen) (tree : FileTree) (t : TrackTree) (w : Walk) (earlier later : List FragmentTree) (hand left : InHand) (place : Place) → StandsBefore file tree t earlier later w → InHandOf m w hand → Follows hand left
+pub kept_coming : (file : List ℕ) (m : MovieSeen) (tree : FileTree) (t : TrackTree) (w : Walk) (earlier later : List PlacedTraf) (hand left : InHand) (place : Place) → StandsBefore file tree t earlier later w → InHandOf m w hand → Follows hand left
     → IsPlaceOf left place → Comes file tree t m (record w { place = place }) (left_in_hand left ++ samples_behind tree t earlier later)
 kept_coming file m tree t w earlier later hand left place h is_hand follows at =
     (earlier, later, left, (kept_before file tree t earlier later w place h, hand_kept m w hand left place is_hand follows at, refl))

@@ -6,11 +6,12 @@ use Rattle.mp4_tables.specs.declared.sample.SampleAt.{SampleAt}
 use Rattle.mp4_head.specs.format.Tree.{TrackTree}
 use Rattle.mp4_present.specs.format.Denotes.{FileTree}
 use Rattle.mp4_present.specs.words.GoingBack.{HoldsSome, IsMarkInHand, again_from, back_steps, is_mark_farther}
-use Rattle.mp4_present.specs.words.Movies.{MovieSeen, HasSome, IsRest, IsWalkOf, mark_of, moof_box}
+use Rattle.mp4_present.specs.words.Movies.{MovieSeen, HasSome, IsRest, IsWalkOf, mark_of, traf_box}
 use Rattle.mp4_present.specs.words.OpenedMovie.{IsOpenedAs}
 use Rattle.mp4_present.specs.words.SamplesComing.{Comes, StandsBefore}
-use Rattle.mp4_present.specs.words.WalkSteps.{MayTake, TakesOn, moof_steps, moofs_steps, steps_to, table_way, way_through}
-use Rattle.mp4_frag.specs.format.Fragments.{FragmentTree}
+use Rattle.mp4_present.specs.words.WalkSteps.{MayTake, TakesOn, trafs_steps, steps_to, table_way, way_through}
+use Rattle.mp4_frag.specs.words.OwnTrafs.{PlacedTraf, traf_steps}
+use Rattle.mp4_present.proofs.WayThrough.{same_steps}
 use Rattle.mp4_present.specs.declared.in_hand.Place.{Place}
 use Rattle.mp4_present.specs.declared.in_hand.Place.TheVariants.{Tables, Fragment}
 use Rattle.mp4_present.specs.declared.leaving.Leaving.{Leaving}
@@ -23,7 +24,7 @@ use Rattle.mp4_plan.specs.words.GoneOn.{ComesMarked, GoesPast, HasLoaded, Stays,
 use Rattle.mp4_plan.specs.words.WriterSteps.{AllFinishOn, AllWriteOn, CarriesAgain, CarriesInHand, CarriesOn, FinishesOn, MayAllFinish, MayAllWrite, MayFinish, MayWrite, WritesOn, again_steps, last_steps}
 use Rattle.mp4_plan.proofs.AllMay.{may_at}
 use Rattle.mp4_plan.proofs.ComeAt.{set_same, set_there, set_twice}
-use Rattle.mp4_plan.proofs.MoofsAhead.{again_less, ahead_of, between, held_some, last_more, last_of, not_before, one_place, steps_append, way_some}
+use Rattle.mp4_plan.proofs.TrafsAhead.{again_less, ahead_of, between, held_some, last_more, last_of, not_before, one_place, steps_append, way_some}
 use Rattle.mp4_plan.proofs.ReducedTaken.{less_length}
 use Rattle.mp4_plan.proofs.WalksGone.{stays_holding, still_marked}
 
@@ -54,7 +55,7 @@ pub not_both : (v : Bool) → IsTrue v → v ≡ false → ⊥
 not_both true p e = absurd cc
 not_both false p e = absurd cc
 
--- no fewer `moof`s are passed then
+-- no fewer `traf`s are passed then
 pub no_farther_back : (m : MovieSeen) (before after : Walk) → Stays before after ⊎ HasLoaded m before after → before.next ≤ after.next
 no_farther_back m before after (inl s) = let same = s.next in omega (arith, same)
 no_farther_back m before after (inr l) = let far = l.0 in omega (arith, far)
@@ -76,7 +77,7 @@ module _ (file : List ℕ) (m : MovieSeen) (tree : FileTree) (o : IsOpenedAs fil
   pub writes_next : (w now : Walk) (n old new : ℕ) (samples : List SampleAt) (h : MayWrite file tree m t w n) → old ≤ new → Stays w now ⊎ HasLoaded m w now
       → TakesOn file tree t h.own now old new → Comes file tree t m now samples → now.mark ≡ mark_of now (length samples) → WritesOn file tree m t n now old new
   writes_next w now n old new samples h grows ahead takes comes marked =
-      let less = again_less file m tree o t t h.may.earlier h.may.later takes.1.earlier takes.1.later w now h.may.stands takes.1.stands (no_farther_back m w now ahead) in
+      let less = again_less file m tree o t h.may.earlier h.may.later takes.1.earlier takes.1.later w now h.may.stands takes.1.stands (no_farther_back m w now ahead) in
       let few = rest_few w now h.own old new grows takes in
       let within = takes.2 in
       let sum = h.sum in
@@ -92,7 +93,7 @@ module _ (file : List ℕ) (m : MovieSeen) (tree : FileTree) (o : IsOpenedAs fil
       let within = takes.2 in
       let sum = h.sum in
       let began = subst (λ (b : Walk). MayTake file tree t b h.own) (sym same) h.may in
-      let begun = one_place file m tree o t t began.earlier began.later h.may.earlier h.may.later k.begun w began.stands h.may.stands (ap (λ (b : Walk). b.next) same) in
+      let begun = one_place file m tree o t began.earlier began.later h.may.earlier h.may.later k.begun w began.stands h.may.stands (ap (λ (b : Walk). b.next) same) in
       let again : again_steps began.earlier began.later ≡ again_steps h.may.earlier h.may.later = λ i. again_steps (begun.0 i) (begun.1 i) in (
         h.own + takes.0 + again_steps began.earlier began.later,
         record {
@@ -115,9 +116,9 @@ module _ (file : List ℕ) (m : MovieSeen) (tree : FileTree) (o : IsOpenedAs fil
   finishes_none l w n old left h k same none =
       let sum = h.sum in
       let began = subst (λ (b : Walk). MayTake file tree t b h.own) (sym same) h.may in
-      let begun = one_place file m tree o t t began.earlier began.later h.may.earlier h.may.later k.begun w began.stands h.may.stands (ap (λ (b : Walk). b.next) same) in
+      let begun = one_place file m tree o t began.earlier began.later h.may.earlier h.may.later k.begun w began.stands h.may.stands (ap (λ (b : Walk). b.next) same) in
       let again : again_steps began.earlier began.later ≡ again_steps h.may.earlier h.may.later = λ i. again_steps (begun.0 i) (begun.1 i) in
-      let stays : Stays w w = record { track = refl; next = refl; due = refl; left = refl; box = refl } in (
+      let stays : Stays w w = record { track = refl; next = refl; due = refl; left = refl; traf = refl; bytes = refl } in (
         h.own + h.own + again_steps began.earlier began.later,
         record {
           left = left;
@@ -144,7 +145,7 @@ module _ (file : List ℕ) (m : MovieSeen) (tree : FileTree) (o : IsOpenedAs fil
     mark_behind = let same = mark_next in let behind = i.mark.behind in omega (arith, same, behind)
 
     again_now : again_steps h.may.earlier h.may.later ≤ again_steps h.began.earlier h.began.later
-    again_now = again_less file m tree o t t h.began.earlier h.began.later h.may.earlier h.may.later h.marked.begun w h.began.stands h.may.stands mark_behind
+    again_now = again_less file m tree o t h.began.earlier h.began.later h.may.earlier h.may.later h.marked.begun w h.began.stands h.may.stands mark_behind
 
     -- a piece without samples is done
     pub writes_none : count ≡ 0 → MayWrite file tree m t w (2 * h.now + again_steps h.may.earlier h.may.later)
@@ -166,12 +167,12 @@ module _ (file : List ℕ) (m : MovieSeen) (tree : FileTree) (o : IsOpenedAs fil
       where
         by : (b : Option Due) → again_from w ≡ b → back_steps h.marked.begun w ≤ last_steps 0 h.began.earlier
         by None e =
-            let none : back_steps h.marked.begun w ≡ 0 = ap (λ (b : Option Due). if is_none b then 0 else moof_steps (moof_box h.marked.begun)) e in
+            let none : back_steps h.marked.begun w ≡ 0 = ap (λ (b : Option Due). if is_none b then 0 else traf_steps (traf_box h.marked.begun)) e in
             omega (arith, none)
         by (Some d) e =
             let before : h.marked.begun.before ≡ Some d = sym (ap (λ (k : Mark). k.before) h.marked.back.mark) ∙ marked_before w d e in
             let held = held_some file m tree o t h.began.earlier h.began.later h.marked.begun h.marked.begun.before d before h.began.stands.held in
-            let box = ap moof_steps held.3.bytes in
+            let box = same_steps file tree t held.0 held.1 h.began.later _ held.3 in
             let last = last_of 0 held.0 held.1 in
             let all = ap (last_steps 0) held.2 in
             let back = back_is h.marked.begun w d e in
@@ -196,7 +197,7 @@ module _ (file : List ℕ) (m : MovieSeen) (tree : FileTree) (o : IsOpenedAs fil
       pub writes_in_hand : h.marked.begun.next ≤ mid.next → CarriesInHand file tree t h.own h.now mid old middle → WritesOn file tree m t n now old new
       writes_in_hand on c =
           let k = takes c.0 c.1 in
-          let less = again_less file m tree o t t h.began.earlier h.began.later k.1.earlier k.1.later h.marked.begun now h.began.stands k.1.stands (farther_on on) in
+          let less = again_less file m tree o t h.began.earlier h.began.later k.1.earlier k.1.later h.marked.begun now h.began.stands k.1.stands (farther_on on) in
           let few = rest_few mid now c.0 middle new grows k in
           let short = c.2 in
           let first = c.3 in
@@ -230,14 +231,14 @@ module _ (file : List ℕ) (m : MovieSeen) (tree : FileTree) (o : IsOpenedAs fil
           let lt : h.marked.begun.next < now.next = omega (arith, first, on) in
           let holds = past c.3 lt in
           let way = way_some file m tree o t k.1.earlier k.1.later now j k.1.stands holds.before holds.is_before in
-          let b = between file m tree o t t h.may.earlier h.may.later k.1.earlier k.1.later w now h.may.stands k.1.stands on in
+          let b = between file m tree o t h.may.earlier h.may.later k.1.earlier k.1.later w now h.may.stands k.1.stands on in
           let held = held_some file m tree o t h.may.earlier h.may.later w w.before far.1.before far.1.is_before h.may.stands.held in
-          let a = ahead_of file m tree o t t h.began.earlier h.began.later h.may.earlier h.may.later h.marked.begun w h.began.stands h.may.stands far.1.before far.0 held in
+          let a = ahead_of file m tree o t h.began.earlier h.began.later h.may.earlier h.may.later h.marked.begun w h.began.stands h.may.stands far.1.before far.0 held in
           let one = ap (last_steps 0) b.1 in
           let two = last_more h.may.earlier b.0 in
-          let three = ap moofs_steps b.2 ∙ steps_append b.0 k.1.later in
+          let three = ap trafs_steps b.2 ∙ steps_append b.0 k.1.later in
           let four = ap (last_steps 0) a.3 ∙ last_of 0 a.0 a.2 in
-          let five : moofs_steps h.began.later ≡ moofs_steps a.1 + (moof_steps a.2.moof + moofs_steps h.may.later) = ap moofs_steps a.4 ∙ steps_append a.1 (a.2 ∷ h.may.later) in
+          let five : trafs_steps h.began.later ≡ trafs_steps a.1 + (traf_steps a.2.traf + trafs_steps h.may.later) = ap trafs_steps a.4 ∙ steps_append a.1 (a.2 ∷ h.may.later) in
           let left = k.1.left in
           let had = h.may.left in
           let inside = h.may.inside in
@@ -253,7 +254,7 @@ module _ (file : List ℕ) (m : MovieSeen) (tree : FileTree) (o : IsOpenedAs fil
 
   -- ---- a piece in what is in hand
 
-  pub way_by : (e later : List FragmentTree) (w : Walk) → IsWalkOf m w → StandsBefore file tree t e later w → (v : Bool) → is_none w.before ≡ v → way_through t w w.place ≡ (if v then table_way t else last_steps 0 e)
+  pub way_by : (e later : List PlacedTraf) (w : Walk) → IsWalkOf m w → StandsBefore file tree t e later w → (v : Bool) → is_none w.before ≡ v → way_through t w w.place ≡ (if v then table_way t else last_steps 0 e)
   way_by e later w i s v is = by w.before refl v is
     where
       tables : (b : Option Due) (q : Place) → IsRest m w b q → b ≡ None → way_through t w q ≡ table_way t
@@ -269,13 +270,13 @@ module _ (file : List ℕ) (m : MovieSeen) (tree : FileTree) (o : IsOpenedAs fil
 
   -- Of a walk that was set back to its mark, and went on from there to as many samples as before, the farther place may take no more than either.
   module _ (w set mid : Walk) (i : IsWalkOf m w) (j : IsWalkOf m mid) (here : IsMarkInHand w) (next : set.next ≡ w.mark.next) (kind : set.before ≡ w.mark.before) (ahead : Stays set mid ⊎ HasLoaded m set mid) (now rest : ℕ) (a : MayTake file tree t w now) (b : MayTake file tree t mid rest) where
-    same_ways : Stays set mid → (way_through t w w.place ≡ way_through t mid mid.place) × (moofs_steps a.later ≡ moofs_steps b.later)
+    same_ways : Stays set mid → (way_through t w w.place ≡ way_through t mid mid.place) × (trafs_steps a.later ≡ trafs_steps b.later)
     same_ways s =
-        let place = one_place file m tree o t t a.earlier a.later b.earlier b.later w mid a.stands b.stands (here.0 ∙ sym next ∙ sym s.next) in
+        let place = one_place file m tree o t a.earlier a.later b.earlier b.later w mid a.stands b.stands (here.0 ∙ sym next ∙ sym s.next) in
         let kinds : is_none mid.before ≡ is_none w.before = ap is_none (s.due ∙ kind) ∙ sym here.1 in
         let one = way_by a.earlier a.later w i a.stands (is_none w.before) refl in
         let two = way_by b.earlier b.later mid j b.stands (is_none w.before) kinds in
-        (one ∙ ap (λ e. if is_none w.before then table_way t else last_steps 0 e) place.0 ∙ sym two, ap moofs_steps place.1)
+        (one ∙ ap (λ e. if is_none w.before then table_way t else last_steps 0 e) place.0 ∙ sym two, ap trafs_steps place.1)
 
     pub farther_mark : Stays set mid ⊎ HasLoaded m set mid → mid.next ≡ w.next → steps_to mid.place ≤ steps_to w.place → now ≤ rest
     farther_mark (inl s) e le =
@@ -301,10 +302,10 @@ module _ (file : List ℕ) (m : MovieSeen) (tree : FileTree) (o : IsOpenedAs fil
         let first = l.0 in
         let lt : w.next < mid.next = omega (arith, first, at, next) in
         let held = held_some file m tree o t b.earlier b.later mid mid.before l.1.before l.1.is_before b.stands.held in
-        let k = ahead_of file m tree o t t a.earlier a.later b.earlier b.later w mid a.stands b.stands l.1.before lt held in
+        let k = ahead_of file m tree o t a.earlier a.later b.earlier b.later w mid a.stands b.stands l.1.before lt held in
         let way = way_some file m tree o t b.earlier b.later mid j b.stands l.1.before l.1.is_before in
         let last = ap (last_steps 0) k.3 ∙ last_of 0 k.0 k.2 in
-        let sum : moofs_steps a.later ≡ moofs_steps k.1 + (moof_steps k.2.moof + moofs_steps b.later) = ap moofs_steps k.4 ∙ steps_append k.1 (k.2 ∷ b.later) in
+        let sum : trafs_steps a.later ≡ trafs_steps k.1 + (traf_steps k.2.traf + trafs_steps b.later) = ap trafs_steps k.4 ∙ steps_append k.1 (k.2 ∷ b.later) in
         let one = a.left in
         let inside = a.inside in
         let two = b.left in

@@ -20,6 +20,7 @@ ghost use Rattle.mp4_plan.specs.words.Turns.{movie_turns};
 ghost use Rattle.mp4_present.specs.declared.walks.Walk.{Walk};
 ghost use Rattle.mp4_present.specs.words.Movies.{RefusesLoad};
 ghost use Rattle.mp4_plan.specs.words.Writers.{RefusesMemory, RefusesPlan, AreMarked, IsHeadOf, AreWalksOf, AllCome, first_dts, head_of_normal, firsts, ArePiecesLong, longest_piece, planned_length};
+ghost use Rattle.mp4_plan.specs.words.PutPieces.{IsHeadLeft, IsLeftOf};
 
 use crate::counting::count_turn;
 use crate::due_tracks::DueTracks;
@@ -202,6 +203,7 @@ fn head_left<'a>(
     ensures left { (file : List ℕ) (tree : FileTree) → IsOpenedAs file movie.entry.now tree
         → IfOk result (λ h. IsHeadOf (reduce leaving (presentation_of file tree)) h
         (movie_length (reduce leaving (presentation_of file tree)))) }
+    ensures own { IfOk result (IsLeftOf movie.entry.now leaving) }
     ensures memory { IfErr result (λ r. r ≡ refusals.Memory) }
 {
     let mut head = movie.head(alloc)?;
@@ -220,6 +222,7 @@ pub(crate) fn head_of(
         → mehd ≡ movie_length (reduce leaving (presentation_of file tree))
         → IfOk result (λ bytes. bytes.items
         ≡ head_of_normal (reduce leaving (presentation_of file tree))) }
+    ensures named { IfOk result (λ bytes. IsHeadLeft movie.now leaving bytes.items) }
     ensures unchanged { (file : List ℕ) (tree : FileTree) → IsOpenedAs file movie.now tree
         → IfErr result (λ r. r ≡ refusals.StoreChanged → ⊥) }
     ensures refusal { IfErr result RefusesMemory }

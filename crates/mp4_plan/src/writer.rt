@@ -1,5 +1,5 @@
 //! The normal form of a presentation, written.
-ghost use Rattle.std.specs.Prelude.{◌≡◌, ℕ, ◌+◌, ◌*◌, ◌-◌, ◌<◌, ◌≤◌, List, ◌++◌, length, take, Some, None, true, false, IfOk, IfErr, OnOk, OnErr};
+ghost use Rattle.std.specs.Prelude.{◌≡◌, ℕ, ◌+◌, ◌*◌, ◌-◌, ◌<◌, ◌≤◌, List, [], ◌++◌, length, take, Some, None, true, false, IfOk, IfErr, OnOk, OnErr};
 ghost use Rattle.std.specs.Io.KnownBytes.{Appends};
 ghost use Rattle.std.specs.List.{sum_by};
 ghost use Rattle.mp4_store.specs.words.Device.{AppendsPrefix};
@@ -14,7 +14,7 @@ ghost use Rattle.mp4_present.specs.words.Joined.{sample_bytes};
 ghost use Rattle.mp4_present.specs.words.OverStores.{IsUnchanged, OnlyReads, Refused};
 ghost use Rattle.mp4_present.specs.words.WalkSteps.{walks_steps};
 ghost use Rattle.mp4_plan.specs.format.Normal.{normal};
-ghost use Rattle.mp4_plan.specs.words.PutPieces.{PiecesFollow, IsPutWhole};
+ghost use Rattle.mp4_plan.specs.words.PutPieces.{IsHeadLeft, PiecesFollow, IsPutWhole};
 ghost use Rattle.mp4_plan.specs.words.WriterSteps.{MayAllWrite, WriteAllBegin, writing_steps};
 ghost use Rattle.mp4_plan.specs.words.OverCarrying.{AreThere};
 ghost use Rattle.mp4_plan.specs.words.OverWriters.{IsPlanned, MayCarry, OnTurn, OnlyCarries, OnlyNotes, StepsToCarry, StepsToNote, WhereNoted, WithKeys};
@@ -26,7 +26,7 @@ ghost use Rattle.mp4_present.specs.declared.walks.Walk.{Walk};
 ghost use Rattle.mp4_plan.specs.words.Gathering.{more_of, piece_from};
 ghost use Rattle.mp4_present.specs.words.Movies.{RefusesLoad};
 ghost use Rattle.mp4_present.specs.words.OverCarriers.{Carries, OnlyCopies};
-ghost use Rattle.mp4_plan.specs.words.Writers.{RefusesPlan, IsWriterOf, turn_head, sequence_behind, IsReady, turn_bytes, HasNoted, HaveCopied};
+ghost use Rattle.mp4_plan.specs.words.Writers.{RefusesPlan, IsWriterOf, turn_head, sequence_behind, IsReady, IsReadyWithin, turn_bytes, HasNoted, HaveCopied};
 ghost use Rattle.mp4_plan.specs.format.Held.{held};
 
 use crate::carrying::{Load, carry_noted};
@@ -146,7 +146,7 @@ impl Writer {
         ensures made { IfOk result (IsMade movie.now leaving) }
         ensures store { OnlyReads S.Store store.old store.new result }
         ensures ready { OverOpened S.Store store.old movie.now
-            (λ file tree. IfOk result (IsReady file tree movie.now)) }
+            (λ file tree. IfOk result (IsReadyWithin file tree movie.now)) }
         ensures unchanged { OverOpened S.Store store.old movie.now
             (λ file tree. IsUnchanged result) }
         ensures in_time { OverOpened S.Store store.old movie.now
@@ -186,7 +186,7 @@ impl Writer {
         ensures made { IfOk result (IsMade movie.now Leaving.NOTHING) }
         ensures store { OnlyReads S.Store store.old store.new result }
         ensures ready { OverOpened S.Store store.old movie.now
-            (λ file tree. IfOk result (IsReady file tree movie.now)) }
+            (λ file tree. IfOk result (IsReadyWithin file tree movie.now)) }
         ensures unchanged { OverOpened S.Store store.old movie.now
             (λ file tree. IsUnchanged result) }
         ensures refusal { Refused S.Store store.old store.new result RefusesPlan }
@@ -315,7 +315,7 @@ impl Writer {
             Carries K.Sink sink.old sink.new self.old.carrier self.new.carrier result
             (turn_bytes file head planned.now keys (take planned.now.count samples)))) }
         ensures many { OnOk result (PiecesFollow (K.contents sink.old) (K.contents sink.new)
-            (waiting self.old.carrier) (waiting self.new.carrier) 0 planned.now.count
+            (waiting self.old.carrier) (waiting self.new.carrier) [] planned.now.count
             planned.now.bytes) }
         ensures copied { WhereNoted S.Store store.old movie.now track planned.now.count self.old
             (λ file tree t samples. OnOk result
@@ -430,7 +430,7 @@ pub fn write_reduced<S: Store, K: Sink, L: Ledger, M: Ledger>(
     ensures long { OverOpened S.Store store.old movie.now (λ file tree.
         TellsLong leaving file tree result (K.contents sink.new ≡ K.contents sink.old)) }
     ensures unchanged { OverOpened S.Store store.old movie.now (λ file tree. IsUnchanged result) }
-    ensures whole { OnOk result ((head : List ℕ)
+    ensures whole { OnOk result ((head : List ℕ) × IsHeadLeft movie.now leaving head
         × IsPutWhole movie.now (K.contents sink.old) (K.contents sink.new) head) }
     ensures refusal { RefusedByBoth S.Store store.old store.new K.Sink sink.old sink.new result
         (RefusesLeftCopy leaving (K.contents sink.old) (K.contents sink.new)) }
@@ -460,7 +460,7 @@ pub fn write_normal<S: Store, K: Sink, L: Ledger, M: Ledger>(
         OnErr result (AppendsPrefix (K.contents sink.old) (K.contents sink.new)
         (normal (presentation_of file tree)))) }
     ensures unchanged { OverOpened S.Store store.old movie.now (λ file tree. IsUnchanged result) }
-    ensures whole { OnOk result ((head : List ℕ)
+    ensures whole { OnOk result ((head : List ℕ) × IsHeadLeft movie.now Leaving.NOTHING head
         × IsPutWhole movie.now (K.contents sink.old) (K.contents sink.new) head) }
     ensures refusal { RefusedByBoth S.Store store.old store.new K.Sink sink.old sink.new result
         (RefusesCopy (K.contents sink.old) (K.contents sink.new)) }

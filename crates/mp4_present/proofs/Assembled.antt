@@ -32,7 +32,8 @@ use Rattle.mp4_boxes.specs.declared.fault.Fault.{Fault}
 use Rattle.mp4_boxes.specs.declared.fault.Kind.TheVariants.{TimeTooLarge, MovieTooLarge}
 use Rattle.mp4_head.proofs.Inside.{first_is}
 use Rattle.mp4_present.specs.words.OpenedMovie.{IsInfoBy, AreInfosBy, IsInfoOf, IsOpenedAs, kept_of, plain_seen}
-use Rattle.mp4_present.specs.words.OwnMoofs.{AreOwn, own_seen}
+use Rattle.mp4_frag.specs.words.OwnTrafs.{own_seen}
+use Rattle.mp4_present.specs.words.OwnTrafs.{AreOwn}
 use Rattle.mp4_present.specs.words.PassedMoofs.{IsBegun, IsPassed}
 use Rattle.mp4_present.specs.words.Passing.{seen_behind}
 use Rattle.mp4_present.specs.format.Presentation.{Track, IsInTime, total_duration, end_time, movie_length, normal_moov_length, max_moov}
@@ -288,7 +289,6 @@ module _ (honest : Bool) (file : List ℕ) (o : Outline) (moov : List ℕ) (b : 
         limits = record { samples = few_samples file tree states p.room begin.movie_is p.behind; times = times; moov = short };
         whole = e;
         moov = sym r.is ∙ sym says.has.is_moov;
-        fragments = k.3.fragments;
         longest_is = k.3.longest;
         tables = kept.tables;
         states = kept.states;

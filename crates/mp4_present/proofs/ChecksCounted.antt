@@ -1,23 +1,26 @@
 -- The steps of the checks of all `moof`s of a file.
 use Rattle.std.proofs.Common.{◌≡◌, ℕ, ◌+◌, ◌≤◌, true, List, ◌∷◌, ◌++◌, Some, length, refl, sym, ap, subst, ◌∙◌, arith}
 use Rattle.std.proofs.Math.Nat.{le_refl}
-use Rattle.std.specs.Prelude.{codes, unwrap_or, bytes_eq}
+use Rattle.std.specs.Prelude.{codes, unwrap_or, bytes_eq, Err}
 use Rattle.mp4_boxes.specs.format.Box.{Box, file_container}
 use Rattle.mp4_boxes.specs.format.Children.{Holds, of_kind}
+use Rattle.mp4_boxes.specs.declared.refusal.Refusal.{Refusal}
+use Rattle.mp4_boxes.specs.declared.refusal.Refusal.TheVariants as refusals
 use Rattle.mp4_boxes.specs.declared.rule.Rule.TheVariants.{File}
 use Rattle.mp4_boxes.proofs.Among.{of_kind-append, of_kind-split}
 use Rattle.mp4_boxes.proofs.Tiling.{tiles_one}
-use Rattle.mp4_frag.specs.format.FragmentRows.{fragment_rows, moof_says}
+use Rattle.mp4_frag.specs.format.FragmentRows.{fragment_rows, fragment_length, moof_says}
+use Rattle.mp4_frag.specs.words.CheckWork.{IfMemory}
+use Rattle.mp4_frag.specs.words.TrafFaults.{RefusesMoof}
 use Rattle.mp4_frag.specs.declared.state.TrackState.{TrackState}
 use Rattle.mp4_present.specs.words.Again.{AreFrom, IsNextFragment}
 use Rattle.mp4_present.specs.words.Movies.{IsWhole}
 use Rattle.mp4_present.specs.words.Outline.{IsOutline, box_at, longest}
-use Rattle.mp4_present.specs.words.WalkSteps.{moof_steps, boxes_steps, ChecksWithin}
+use Rattle.mp4_present.specs.words.WalkSteps.{moof_steps, boxes_steps, ChecksWithin, IfNoFault}
 use Rattle.mp4_present.specs.declared.outline.Outline.{Outline}
 use Rattle.mp4_present.specs.declared.reading.TopBox.{TopBox}
 use Rattle.mp4_present.proofs.FragmentPass.{Left, left_at, left_next, next_boxes, first_passed, whole_file}
 use Rattle.mp4_present.proofs.MoofsPassed.{IsRead, read_is}
-use Rattle.mp4_present.proofs.WalkWork.{MovedBy, checked_within}
 
 -- so many steps were taken, and for each `moof` from a place on no more than it says are left of those for all
 abbrev pub LeftWithin : List ℕ → ℕ → ℕ → ℕ → Type 0
@@ -65,13 +68,26 @@ next_left file at top w boxes a next m bytes len r =
     ap (of_kind (codes "moof")) next.2 ∙ of_kind-split (codes "moof") next.0 next.1 b kind ∙ ap (λ (bs : List Box). bs ++ b ∷ of_kind (codes "moof") next.1) next.3 in
     (next.1, subst (λ (bs : List Box). AreFrom file top.header.end bs) same on.are_from, moofs ∙ ap (λ (x : Box). x ∷ of_kind (codes "moof") next.1) there)
 
--- one more was checked
+-- one more was checked, or some of it
 pub next_within : (file : List ℕ) (at : ℕ) (top : TopBox) (all : List Box) (w : IsWhole (length file) top) (boxes : List Box) (a : AreFrom file at boxes) → IsNextFragment file at boxes (Some top)
-    → (m : Box) (bytes : List ℕ) (len : ℕ) → IsRead file top m bytes len → (old new : List TrackState) (room less before after start : ℕ) → MovedBy m old new room less → after + less ≤ before + room + fragment_rows (moof_says m)
+    → (m : Box) (bytes : List ℕ) (len : ℕ) → IsRead file top m bytes len → (before after start : ℕ) → after ≤ before + moof_steps m
     → before + boxes_steps (of_kind (codes "moof") boxes) ≤ start + boxes_steps (of_kind (codes "moof") all)
     → (left : List Box) × (AreFrom file top.header.end left × (after + boxes_steps (of_kind (codes "moof") left) ≤ start + boxes_steps (of_kind (codes "moof") all)))
-next_within file at top all w boxes a next m bytes len r old new room less before after start moved cost h =
+next_within file at top all w boxes a next m bytes len r before after start check h =
     let l = next_left file at top w boxes a next m bytes len r in
-    let check = checked_within old new room less before after m m refl moved cost in
     let sum = subst (λ (bs : List Box). before + boxes_steps bs ≤ start + boxes_steps (of_kind (codes "moof") all)) l.2 h in
     (l.0, (l.1, one_less (moof_steps m) (boxes_steps (of_kind (codes "moof") l.0)) _ before after start check sum))
+
+-- the steps of one that was not checked to its end
+pub stopped_steps : (m : Box) (before after : ℕ) → after ≤ before + (fragment_rows (moof_says m) + fragment_length (moof_says m)) → after ≤ before + moof_steps m
+unfolding moof_steps
+stopped_steps m before after h = h
+
+-- a check that stops has found a fault, or there was no memory: then this is so
+pub if_stopped : (T A : Type 0) (P Q : Type 0) (file_length room owns : ℕ) (states : List TrackState) (m : Box) (r : Refusal) → RefusesMoof file_length states room m owns r → IfMemory {T = T} (Err r) Q → (Q → P) → IfNoFault {A = A} (Err r) P
+if_stopped T A P Q file_length room owns states m (refusals.Fault f) w q p = tt
+if_stopped T A P Q file_length room owns states m refusals.Memory w q p = p q
+if_stopped T A P Q file_length room owns states m refusals.StoreFailed w q p = absurd w
+if_stopped T A P Q file_length room owns states m refusals.StoreChanged w q p = absurd w
+if_stopped T A P Q file_length room owns states m refusals.WriteFailed w q p = absurd w
+if_stopped T A P Q file_length room owns states m refusals.NoSuchTrack w q p = absurd w

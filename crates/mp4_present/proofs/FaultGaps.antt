@@ -2,10 +2,13 @@
 use Rattle.std.proofs.Common.{◌≡◌, ℕ, ◌+◌, ◌^◌, ◌≤◌, Bool, true, false, List, [], ◌∷◌, Option, Some, None, find, cond, refl, sym, subst, arith}
 use Rattle.std.specs.Prelude.{IsTrue, Contains, IfSome, suc}
 use Rattle.std.proofs.lemmas.List.Elements.{Contains-append_right}
+use Rattle.mp4_boxes.specs.format.Box.{Box}
 use Rattle.mp4_boxes.specs.declared.refusal.Refusal.{Refusal}
 use Rattle.mp4_boxes.specs.declared.refusal.Refusal.TheVariants as refusals
+use Rattle.mp4_frag.specs.words.TrafFaults.{RefusesMoof}
+use Rattle.mp4_frag.specs.declared.state.TrackState.{TrackState}
 use Rattle.mp4_present.specs.words.Again.{RefusesNext}
-use Rattle.mp4_present.specs.words.NumbersTold.{RefusesSearch, StepsFit}
+use Rattle.mp4_present.specs.words.NumbersTold.{MeetsFault, RefusesSearch, StepsFit}
 use Rattle.mp4_present.specs.words.Reading.{RefusesPayload}
 use Rattle.mp4_present.specs.declared.reading.TopBox.{TopBox}
 use Rattle.mp4_present.proofs.FragmentPass.{Left}
@@ -28,6 +31,23 @@ not_read honest top room reads reads_after refusals.StoreFailed n w = w
 not_read honest top room reads reads_after refusals.StoreChanged n w = λ told. let short = n told in omega (arith, short, w)
 not_read honest top room reads reads_after refusals.WriteFailed n w = w
 not_read honest top room reads reads_after refusals.NoSuchTrack n w = w
+
+-- one was not checked to its end
+pub meets : (file_length room owns : ℕ) (states : List TrackState) (m : Box) (r : Refusal) → RefusesMoof file_length states room m owns r → MeetsFault r
+meets file_length room owns states m (refusals.Fault f) w = tt
+meets file_length room owns states m refusals.Memory w = tt
+meets file_length room owns states m refusals.StoreFailed w = w
+meets file_length room owns states m refusals.StoreChanged w = w
+meets file_length room owns states m refusals.WriteFailed w = w
+meets file_length room owns states m refusals.NoSuchTrack w = w
+
+pub not_searched : (honest : Bool) (reads reads_after : ℕ) (r : Refusal) → MeetsFault r → RefusesSearch honest reads reads_after r
+not_searched honest reads reads_after (refusals.Fault f) w = tt
+not_searched honest reads reads_after refusals.Memory w = tt
+not_searched honest reads reads_after refusals.StoreFailed w = absurd w
+not_searched honest reads reads_after refusals.StoreChanged w = absurd w
+not_searched honest reads reads_after refusals.WriteFailed w = w
+not_searched honest reads reads_after refusals.NoSuchTrack w = w
 
 -- ---- lists of boxes, passed one by one
 

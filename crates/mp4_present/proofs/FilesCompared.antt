@@ -26,7 +26,7 @@ use Rattle.mp4_present.specs.declared.differences.Subject.TheVariants as subject
 use Rattle.mp4_present.specs.declared.differences.Field.TheVariants as fields
 use Rattle.mp4_present.specs.declared.leaving.Leaving.{Leaving}
 use Rattle.mp4_present.specs.declared.track_info.TrackInfo.{TrackInfo}
-use Rattle.mp4_present.proofs.MoofTaken.{zipped_at}
+use Rattle.mp4_present.proofs.TrafTaken.{zipped_at}
 use Rattle.mp4_present.proofs.TracksPassed.{zip_length}
 use Rattle.mp4_present.proofs.TracksCompared.{GrowsTo, grows_none, grows_more, grows_front, grows_part, grows_all, each_next, each_over}
 

@@ -55,7 +55,7 @@ pub left_first : (file : List ℕ) (boxes : List Box) (o : Outline) → Holds Fi
 left_first file boxes o h i = rw i.longest (left_at file boxes o.fragments (whole_file file boxes h) i.fragments)
 
 -- the size of a box that lies in a file
-pub size_at : (file : List ℕ) (top : TopBox) → IsWhole (length file) top → size (box_at file top) ≡ top.header.end - top.offset
+size_at : (file : List ℕ) (top : TopBox) → IsWhole (length file) top → size (box_at file top) ≡ top.header.end - top.offset
 size_at file top w = let header = w.header in let within = w.within in grind (arith, length-take, length-drop)
 
 -- the next `moof`, which is no longer, and what lies behind it

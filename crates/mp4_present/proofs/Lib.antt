@@ -51,13 +51,15 @@ pub mod MoofRefused
 pub mod DueBehind
 pub mod KeysExtended
 pub mod MoofSound
-pub mod MoofTaken
+pub mod TrafTaken
 pub mod SampleTotals
 pub mod Assembled
 pub mod DenotedOpens
 pub mod SamplesLie
 pub mod WalkCopied
-pub mod MoofLoaded
+pub mod TrafLoaded
+pub mod OwnSums
+pub mod OwnPlaced
 pub mod WalkBegun
 pub mod TrexPlaces
 pub mod WalkWork
@@ -87,7 +89,4 @@ mod SamplesDiffer
 mod PairsCompared
 mod TracksCompared
 mod FilesCompared
-mod PlacesFound
-mod OwnNoted
-mod MoofsSkipped
-mod MoofsNoted
+pub mod TrafsNoted

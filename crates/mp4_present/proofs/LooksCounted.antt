@@ -1,6 +1,6 @@
 -- The looks at tracks for all `moof`s of a file, by what these say and by their bytes.
-use Rattle.std.proofs.Common.{◌≡◌, Bool, ℕ, ◌+◌, ◌-◌, ◌*◌, ◌≤◌, List, [], ◌∷◌, Some, length, map, take, inl, inr, refl, sym, ap, subst, ◌∙◌, arith, length-take, mul-le-mul_left}
-use Rattle.std.proofs.Math.Nat.{mul-add, mul-one}
+use Rattle.std.proofs.Common.{◌≡◌, Bool, ℕ, ◌+◌, ◌-◌, ◌*◌, ◌≤◌, List, [], ◌∷◌, Some, length, map, inl, inr, refl, sym, ap, subst, ◌∙◌, arith, mul-le-mul_left}
+use Rattle.std.proofs.Math.Nat.{mul-add}
 use Rattle.std.proofs.lemmas.List.{length-map}
 use Rattle.std.proofs.lemmas.Slice.Zip.{AllZip-long}
 use Rattle.std.specs.Prelude.{codes, unwrap_or, IsTrue}
@@ -24,6 +24,7 @@ use Rattle.mp4_present.specs.words.TrackTrees.{IsTrackOf}
 use Rattle.mp4_present.specs.declared.outline.Outline.{Outline}
 use Rattle.mp4_present.specs.declared.reading.TopBox.{TopBox}
 use Rattle.mp4_present.proofs.ChecksCounted.{first_left, next_left}
+use Rattle.mp4_present.proofs.MoofBytes.{taken}
 use Rattle.mp4_present.proofs.MoofsPassed.{IsRead}
 use Rattle.mp4_present.proofs.Opened.{IsRead as IsMoovRead, its_movie}
 use Rattle.mp4_present.proofs.OpeningSteps.{tracks_are}
@@ -46,22 +47,21 @@ looks_first file known o at tracks start holds i e all h =
 pub looks_done : (file : List ℕ) (at tracks old new : ℕ) → LooksLeft file at tracks old new → LooksWithin file tracks old new
 looks_done file at tracks old new left all h = let some = (left all h).1.1 in omega (arith, some)
 
-one_more : (tracks trafs rest all old before mid after : ℕ) → mid ≤ before + tracks * trafs → after ≤ mid + tracks → before + tracks * (1 + trafs + rest) ≤ old + all → after + tracks * rest ≤ old + all
-one_more tracks trafs rest all old before mid after check note h =
-    let one = mul-add tracks 1 trafs in
-    let sum = mul-add tracks (1 + trafs) rest in
-    omega (arith, check, note, h, one, sum, mul-one tracks)
+one_more : (tracks trafs rest all old before after : ℕ) → after ≤ before + tracks * trafs → before + tracks * (trafs + rest) ≤ old + all → after + tracks * rest ≤ old + all
+one_more tracks trafs rest all old before after check h =
+    let sum = mul-add tracks trafs rest in
+    omega (arith, check, h, sum)
 
--- one more was checked and noted
+-- one more was checked, or some of it
 pub next_looked : (file : List ℕ) (at : ℕ) (top : TopBox) (all : List Box) (w : IsWhole (length file) top) (boxes : List Box) (a : AreFrom file at boxes) → IsNextFragment file at boxes (Some top)
-    → (m : Box) (bytes : List ℕ) (len : ℕ) → IsRead file top m bytes len → (tracks old before mid after : ℕ) → mid ≤ before + tracks * length (moof_says m).trafs → after ≤ mid + tracks
+    → (m : Box) (bytes : List ℕ) (len : ℕ) → IsRead file top m bytes len → (tracks old before after : ℕ) → after ≤ before + tracks * length (moof_says m).trafs
     → before + tracks * boxes_looks (of_kind (codes "moof") boxes) ≤ old + tracks * boxes_looks (of_kind (codes "moof") all)
     → (left : List Box) × (AreFrom file top.header.end left × (after + tracks * boxes_looks (of_kind (codes "moof") left) ≤ old + tracks * boxes_looks (of_kind (codes "moof") all)))
 unfolding moof_looks
-next_looked file at top all w boxes a next m bytes len r tracks old before mid after check note h =
+next_looked file at top all w boxes a next m bytes len r tracks old before after check h =
     let l = next_left file at top w boxes a next m bytes len r in
     let sum = subst (λ (bs : List Box). before + tracks * boxes_looks bs ≤ old + tracks * boxes_looks (of_kind (codes "moof") all)) l.2 h in
-    (l.0, (l.1, one_more tracks (length (moof_says m).trafs) (boxes_looks (of_kind (codes "moof") l.0)) (tracks * boxes_looks (of_kind (codes "moof") all)) old before mid after check note sum))
+    (l.0, (l.1, one_more tracks (length (moof_says m).trafs) (boxes_looks (of_kind (codes "moof") l.0)) (tracks * boxes_looks (of_kind (codes "moof") all)) old before after check sum))
 
 -- ---- by bytes
 
@@ -79,32 +79,22 @@ looks_before file_length at offset tracks old new on h =
     let less : file_length - offset ≤ file_length - at = omega (arith, on) in
     omega (arith, h, mul-le-mul_left tracks less)
 
-looks_sum : (tracks left len whole all old before mid after : ℕ) → left + (len + 8) ≤ whole → 8 * mid ≤ 8 * before + tracks * len → after ≤ mid + tracks → 8 * before + tracks * whole ≤ 8 * old + all → 8 * after + tracks * left ≤ 8 * old + all
-looks_sum tracks left len whole all old before mid after taken check note h =
+looks_sum : (tracks left len whole all old before after : ℕ) → left + len ≤ whole → 8 * after ≤ 8 * before + tracks * len → 8 * before + tracks * whole ≤ 8 * old + all → 8 * after + tracks * left ≤ 8 * old + all
+looks_sum tracks left len whole all old before after taken check h =
     let each = mul-le-mul_left tracks taken in
-    let sum = mul-add tracks left (len + 8) in
-    let own = mul-add tracks len 8 in
-    omega (arith, check, note, h, each, sum, own)
+    let sum = mul-add tracks left len in
+    omega (arith, check, h, each, sum)
 
-module _ (file : List ℕ) (at : ℕ) (top : TopBox) (w : IsWhole (length file) top) (behind : at ≤ top.offset) (front : 8 ≤ top.header.header) (m : Box) (bytes : List ℕ) (len : ℕ) (r : IsRead file top m bytes len) where
-  -- its bytes, and those of its header, lie behind the place, up to its end
-  its_bytes : (length file - top.header.end) + (length m.payload + 8) ≤ length file - at
-  its_bytes =
-      let within = r.within in
-      let fills = r.fills in
-      let whole = w.within in
-      let count : length m.payload ≡ length (take len bytes) = ap (λ (b : Box). length b.payload) r.is in
-      omega (arith, within, fills, whole, behind, front, count, length-take len bytes)
-
-  -- it was accepted, and noted; or it could not be noted of all
-  pub next_looks : (tracks old before mid after : ℕ) → 8 * mid ≤ 8 * before + tracks * length m.payload → after ≤ mid + tracks → LooksFit (length file) at tracks old before → LooksFit (length file) top.header.end tracks old after
-  next_looks tracks old before mid after check note h = looks_sum tracks (length file - top.header.end) (length m.payload) (length file - at) (tracks * length file) old before mid after its_bytes check note h
+module _ (file : List ℕ) (at : ℕ) (top : TopBox) (w : IsWhole (length file) top) (behind : at ≤ top.offset) (m : Box) (bytes : List ℕ) (len : ℕ) (r : IsRead file top m bytes len) where
+  -- it was accepted
+  pub next_looks : (tracks old before after : ℕ) → 8 * after ≤ 8 * before + tracks * length m.payload → LooksFit (length file) at tracks old before → LooksFit (length file) top.header.end tracks old after
+  next_looks tracks old before after check h =
+      looks_sum tracks (length file - top.header.end) (length m.payload) (length file - at) (tracks * length file) old before after (taken file at top w behind m bytes len r) check h
 
   -- it was refused
   pub refused_looks : (tracks old before after : ℕ) → 8 * after ≤ 8 * before + tracks * length m.payload → LooksFit (length file) at tracks old before → 8 * after ≤ 8 * old + tracks * length file
   refused_looks tracks old before after check h =
-      let some : after ≤ after + tracks = omega arith in
-      let fit = next_looks tracks old before after after check some h in
+      let fit = next_looks tracks old before after check h in
       omega (arith, fit)
 
 -- ---- a file whose head was read

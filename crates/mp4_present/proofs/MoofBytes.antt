@@ -22,7 +22,7 @@ all_fit file_length at room old new h = omega (arith, h)
 
 module _ (file : List ℕ) (at : ℕ) (top : TopBox) (w : IsWhole (length file) top) (behind : at ≤ top.offset) (m : Box) (bytes : List ℕ) (len : ℕ) (r : IsRead file top m bytes len) where
   -- they lie behind the place, up to its end
-  taken : (length file - top.header.end) + length m.payload ≤ length file - at
+  pub taken : (length file - top.header.end) + length m.payload ≤ length file - at
   taken =
       let within = r.within in
       let fills = r.fills in

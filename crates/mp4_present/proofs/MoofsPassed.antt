@@ -17,7 +17,7 @@ use Rattle.mp4_boxes.proofs.Tiling.{tiles_one}
 use Rattle.mp4_frag.specs.format.Fragments.{FragmentTree}
 use Rattle.mp4_frag.specs.words.Judged.{AreTrexesOf, IsSoundMoof, AreMovedOn, tree_of}
 use Rattle.mp4_frag.specs.words.RunsJudged.{children_of}
-use Rattle.mp4_frag.specs.words.TrafFaults.{MoofFails}
+use Rattle.mp4_frag.specs.words.TrafFaults.{MoofFails, RefusesMoof}
 use Rattle.mp4_frag.specs.declared.state.TrackState.{TrackState}
 use Rattle.mp4_frag.specs.declared.trex.Trex.{Trex}
 use Rattle.mp4_head.specs.format.Tree.{MovieTree, trexes_of}
@@ -206,3 +206,14 @@ not_read honest file states whole top most room reads reads_after refusals.Store
 not_read honest file states whole top most room reads reads_after refusals.StoreChanged n e w = λ told. let short = (n told).short in omega (arith, short, e, w)
 not_read honest file states whole top most room reads reads_after refusals.WriteFailed n e w = w
 not_read honest file states whole top most room reads reads_after refusals.NoSuchTrack n e w = w
+
+-- it has a fault, or there is no memory
+pub not_passed : (honest : Bool) (file : List ℕ) (start states : List TrackState) (whole room file_length owns reads reads_after : ℕ) (m : Box) (r : Refusal)
+    → ((f : Fault) → MoofFails file_length states room m f → IsTrue honest → (movie : MovieTree) (boxes : List Box) → IsBegun file movie boxes start whole → Stands file f)
+    → RefusesMoof file_length states room m owns r → RefusesFragments honest file start whole reads reads_after r
+not_passed honest file start states whole room file_length owns reads reads_after m (refusals.Fault f) stands w = stands f w
+not_passed honest file start states whole room file_length owns reads reads_after m refusals.Memory stands w = tt
+not_passed honest file start states whole room file_length owns reads reads_after m refusals.StoreFailed stands w = absurd w
+not_passed honest file start states whole room file_length owns reads reads_after m refusals.StoreChanged stands w = absurd w
+not_passed honest file start states whole room file_length owns reads reads_after m refusals.WriteFailed stands w = w
+not_passed honest file start states whole room file_length owns reads reads_after m refusals.NoSuchTrack stands w = w

@@ -69,6 +69,5 @@ opened_of file m tree o = record {
   order = o.is_tree.order;
   whole = o.whole;
   moov = o.is_tree.moov ∙ ap (λ (b : Box). b ∷ []) (sym o.moov);
-  fragments = o.fragments;
   longest_is = o.longest_is;
 }

@@ -35,7 +35,7 @@ use Rattle.mp4_present.specs.declared.differences.Field.{Field}
 use Rattle.mp4_present.specs.declared.differences.Field.TheVariants as fields
 use Rattle.mp4_present.specs.declared.differences.Difference.{Difference}
 use Rattle.mp4_present.proofs.KeysOfBoth.{fold_rising, fold_each, fold_there, NothingElse, joint}
-use Rattle.mp4_present.proofs.MoofTaken.{zipped_at}
+use Rattle.mp4_present.proofs.TrafTaken.{zipped_at}
 use Rattle.mp4_present.proofs.PlacedTracks.{IsTrackPlaced, tracks_placed}
 use Rattle.mp4_present.proofs.SamplesLie.{IsInFile, placed_lie, bytes_whole}
 use Rattle.mp4_present.proofs.ValidSamples.{IsOfTrack}

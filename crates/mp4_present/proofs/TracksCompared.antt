@@ -21,7 +21,7 @@ use Rattle.mp4_present.specs.declared.leaving.Leaving.{Leaving}
 use Rattle.mp4_present.specs.declared.track_info.TrackInfo.{TrackInfo}
 use Rattle.mp4_present.specs.declared.walks.Walk.{Walk}
 use Rattle.mp4_present.proofs.Differing.{none_behind, each_ends, one_ends}
-use Rattle.mp4_present.proofs.MoofTaken.{zipped_at}
+use Rattle.mp4_present.proofs.TrafTaken.{zipped_at}
 use Rattle.mp4_present.proofs.SamplesDiffer.{tracks_differ}
 use Rattle.mp4_present.proofs.SamplesLie.{timed_length}
 use Rattle.mp4_present.proofs.WalkCopied.{track_lies}

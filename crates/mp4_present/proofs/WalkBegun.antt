@@ -1,11 +1,8 @@
--- A walk that begins: the samples of the tables are in hand, and those of all `moof`s come behind them.
+-- A walk that begins: the samples of the tables are in hand, and those of all its `traf`s come behind them.
 use Rattle.std.proofs.Common.{◌≡◌, ℕ, ◌+◌, ◌-◌, ◌^◌, min, length-append, List, [], ◌∷◌, ◌++◌, Option, Some, None, length, drop, map, refl, sym, ap, subst, ◌∙◌, arith, slice_get}
-use Rattle.std.specs.Prelude.{codes, flat_map, ℤ, unwrap_or}
-use Rattle.std.proofs.lemmas.List.{append-nil}
+use Rattle.std.specs.Prelude.{flat_map, ℤ}
+use Rattle.std.specs.List.{AllByRecursion}
 use Rattle.std.proofs.lemmas.List.{length-map}
-use Rattle.mp4_boxes.specs.format.Box.{Box}
-use Rattle.mp4_boxes.specs.format.Children.{of_kind}
-use Rattle.mp4_boxes.proofs.Among.{of_kind-append}
 use Rattle.mp4_tables.specs.format.Groups.{GroupKey, Grouping}
 use Rattle.mp4_tables.specs.format.PlainSamples.{PlacedSample, Spot, joined}
 use Rattle.mp4_tables.specs.format.Tables.{tables_of}
@@ -13,24 +10,25 @@ use Rattle.mp4_tables.specs.words.Timed.{timed, samples_of}
 use Rattle.mp4_tables.specs.words.Accepted.{tables_at}
 use Rattle.mp4_tables.specs.words.TablesSeen.{TablesSeen, CursorSeen, samples_from}
 use Rattle.mp4_tables.specs.words.TablesSeen as views
+use Rattle.mp4_frag.specs.format.Fragments.{IsFragmentTree}
+use Rattle.mp4_frag.specs.words.OwnTrafs.{placed_samples}
 use Rattle.mp4_frag.specs.format.FragmentSamples.{Part, start_of, duration_of, fragment_samples}
 use Rattle.mp4_frag.specs.words.Judged.{TrackSeen, track_seen}
 use Rattle.mp4_frag.specs.declared.state.TrackState.{TrackState}
 use Rattle.mp4_frag.proofs.RunsTied.{timed-append}
 use Rattle.mp4_head.specs.format.Tree.{TrackTree, track_head_of, trexes_of}
 use Rattle.mp4_present.specs.format.Denotes.{FileTree, plain_of, plain_keys, file_parts, parts_of_track, placed_of, sample_of}
-use Rattle.mp4_present.specs.words.Outline.{BeginAt}
 use Rattle.mp4_present.specs.words.OpenedMovie.{IsOpenedAs, IsInfoOf, AreTablesOf, plain_seen}
 use Rattle.mp4_present.specs.words.Movies.{MovieSeen, own_room, table_bytes, tables_seen}
 use Rattle.mp4_present.specs.words.Passing.{parts_behind}
-use Rattle.mp4_present.specs.words.SamplesComing.{track_keys, track_samples, due_behind, samples_behind, StandsBefore, HoldsLast}
+use Rattle.mp4_present.specs.words.SamplesComing.{track_keys, track_samples, due_behind, samples_behind, own_trafs, StandsBefore, HoldsLast}
 use Rattle.mp4_present.specs.declared.track_info.TrackInfo.{TrackInfo}
 use Rattle.mp4_present.specs.declared.movie.TrackTables.{TrackTables}
 use Rattle.mp4_present.specs.declared.walks.Due.{Due}
 use Rattle.mp4_present.specs.declared.walks.Walk.{Walk}
-use Rattle.mp4_present.proofs.FragmentPass.{whole_file}
+use Rattle.mp4_present.proofs.OwnPlaced.{all_placed}
 use Rattle.mp4_present.proofs.KeysExtended.{HaveNone, grouped_within, timed_with}
-use Rattle.mp4_present.proofs.MoofTaken.{zipped_at, seen_at, tables_in_time}
+use Rattle.mp4_present.proofs.TrafTaken.{zipped_at, seen_at, tables_in_time}
 use Rattle.mp4_present.proofs.SamplesLie.{timed_length}
 use Rattle.mp4_present.proofs.WalkRooms.{room_opened}
 
@@ -48,9 +46,11 @@ from_start keys [] parts = refl
 from_start keys (s ∷ ss) parts = refl
 
 -- those of the tables are the first of the track's
-pub plain_first : (tree : FileTree) (t : TrackTree) → samples_of (tables_of t.table) ++ samples_behind tree t [] tree.fragments ≡ track_samples tree t
+pub plain_first : (tree : FileTree) (t : TrackTree) → AllByRecursion IsFragmentTree tree.fragments → samples_of (tables_of t.table) ++ samples_behind tree t [] (own_trafs tree t) ≡ track_samples tree t
 unfolding samples_of
-plain_first tree t = ap (λ ss. ss ++ timed keys (start + duration_of plain + 0) more) first ∙ ap (λ n. timed keys start plain ++ timed keys n more) (no_more (start + duration_of plain)) ∙ sym (timed-append keys start plain more)
+plain_first tree t trees =
+    ap (λ ss. samples_of (tables_of t.table) ++ timed keys (start + duration_of plain + 0) ss) (all_placed tree.movie (track_head_of t).id tree.fragments trees)
+    ∙ ap (λ ss. ss ++ timed keys (start + duration_of plain + 0) more) first ∙ ap (λ n. timed keys start plain ++ timed keys n more) (no_more (start + duration_of plain)) ∙ sym (timed-append keys start plain more)
   where
     keys : List GroupKey
     keys = track_keys tree t
@@ -100,43 +100,24 @@ module _ (file : List ℕ) (m : MovieSeen) (tree : FileTree) (t : TrackTree) (o 
       omega (arith, start, time, ends)
 
   -- how many there are
-  pub left_is : info.samples - state.count ≡ length (samples_behind tree t [] tree.fragments)
+  pub left_is : info.samples - state.count ≡ length (samples_behind tree t [] (own_trafs tree t))
   left_is =
       let all = info_is.samples ∙ length-map (placed_of (file_parts tree) t) (sample_of file) ∙ length-append (plain_of t) (fragment_samples (track_head_of t).id (file_parts tree)) in
       let plain = ap (λ (s : TrackSeen). s.count) state_is in
-      let own = timed_length (track_keys tree t) (due_behind tree t []) (fragment_samples (track_head_of t).id (parts_behind tree.movie tree.fragments)) in
+      let own = timed_length (track_keys tree t) (due_behind tree t []) (placed_samples (own_trafs tree t)) ∙ ap length (all_placed tree.movie (track_head_of t).id tree.fragments o.is_tree.fragments) in
       omega (arith, all, plain, own)
 
 module _ (file : List ℕ) (m : MovieSeen) (tree : FileTree) (t : TrackTree) (o : IsOpenedAs file m tree) (w : Walk) (at : slice_get tree.movie.tracks w.track ≡ Some t) (bytes : length w.bytes.items ≡ own_room m w.track) (due : w.due ≡ due_behind tree t [])
-    (left : w.left ≡ length (samples_behind tree t [] tree.fragments)) (before : w.before ≡ None) where
-  none_held : HoldsLast file tree t [] tree.fragments w w.before
-  none_held = subst (λ (b : Option Due). HoldsLast file tree t [] tree.fragments w b) (sym before) tt
+    (left : w.left ≡ length (samples_behind tree t [] (own_trafs tree t))) (before : w.before ≡ None) (next : w.next ≡ 0) where
+  none_held : HoldsLast file tree t [] (own_trafs tree t) w w.before
+  none_held = subst (λ (b : Option Due). HoldsLast file tree t [] (own_trafs tree t) w b) (sym before) tt
 
   -- it stands before the first one
-  pub stands_first : (first : Option ℕ) → m.fragments ≡ first → w.next ≡ unwrap_or first m.file_len → BeginAt first tree.top → StandsBefore file tree t [] tree.fragments w
-  stands_first None e next b = record {
+  pub stands_first : StandsBefore file tree t [] (own_trafs tree t) w
+  stands_first = record {
     is_track = at;
     split = refl;
-    passed = tree.top;
-    boxes = [];
-    top = sym (append-nil tree.top);
-    place = let whole = (whole_file file tree.top o.is_tree.top).whole in let len = o.whole in omega (arith, whole, len, next);
-    moofs_passed = sym b;
-    moofs_left = o.is_tree.moofs ∙ b;
-    due = due;
-    left = left;
-    room = bytes ∙ room_opened file m tree t w.track o at;
-    held = none_held;
-  }
-  stands_first (Some from) e next b = record {
-    is_track = at;
-    split = refl;
-    passed = b.0;
-    boxes = b.1;
-    top = sym b.2;
-    place = next ∙ sym b.4;
-    moofs_passed = sym b.3;
-    moofs_left = o.is_tree.moofs ∙ ap (of_kind (codes "moof")) (sym b.2) ∙ of_kind-append (codes "moof") b.0 b.1 ∙ ap (λ (bs : List Box). bs ++ of_kind (codes "moof") b.1) b.3;
+    place = next;
     due = due;
     left = left;
     room = bytes ∙ room_opened file m tree t w.track o at;

@@ -13,7 +13,7 @@ use Rattle.mp4_store.proofs.Known.{AppendsPrefix-longer}
 use Rattle.mp4_tables.specs.declared.sample.SampleAt.{SampleAt}
 use Rattle.mp4_tables.proofs.Sums.{timed_bytes}
 use Rattle.mp4_tables.specs.words.TablesSeen.{CursorSeen as TableView}
-use Rattle.mp4_frag.specs.format.Fragments.{FragmentTree}
+use Rattle.mp4_frag.specs.words.OwnTrafs.{PlacedTraf}
 use Rattle.mp4_head.specs.format.Tree.{TrackTree}
 use Rattle.mp4_present.specs.words.Carried.{BytesGoOn, RefusesPut, RefusesStretch}
 use Rattle.mp4_present.specs.words.SamplesComing.{StandsBefore, Comes, Loads, samples_behind, track_samples}
@@ -34,7 +34,7 @@ use Rattle.mp4_present.proofs.Carrying.{BytesGoOn-then, BytesGoOn-all, BytesGoOn
 use Rattle.mp4_present.proofs.Hands.{HandGoesOn, hand_all, bytes_of_two}
 use Rattle.mp4_present.proofs.HandSizes.{sizes_of_two}
 use Rattle.mp4_present.proofs.HeldAgain.{stands_moved}
-use Rattle.mp4_present.proofs.MoofTaken.{zipped_at}
+use Rattle.mp4_present.proofs.TrafTaken.{zipped_at}
 use Rattle.mp4_present.proofs.SamplesLie.{IsInFile, placed_lie, timed_lie}
 use Rattle.mp4_present.proofs.WalkPlaces.{of_got}
 
@@ -58,23 +58,23 @@ one_at m w (Fragment p) (hands.Tables x) b h k = absurd h
 pub hand_one : (m : MovieSeen) (w : Walk) (a b : InHand) → InHandOf m w a → InHandOf m w b → a ≡ b
 hand_one m w a b h k = one_at m w w.place a b h k
 
--- between which `moof`s a walk stands doesn't depend on its place in what is in hand
-pub kept_before : (file : List ℕ) (tree : FileTree) (t : TrackTree) (earlier later : List FragmentTree) (w : Walk) (p : Place) → StandsBefore file tree t earlier later w → StandsBefore file tree t earlier later (record w { place = p })
+-- between which `traf`s a walk stands doesn't depend on its place in what is in hand
+pub kept_before : (file : List ℕ) (tree : FileTree) (t : TrackTree) (earlier later : List PlacedTraf) (w : Walk) (p : Place) → StandsBefore file tree t earlier later w → StandsBefore file tree t earlier later (record w { place = p })
 kept_before file tree t earlier later w p s = stands_moved file tree t earlier later w p w.mark s
 
 -- ---- hand after hand
 
--- The bytes of the first samples of a track follow, from the first on; those behind these `moof`s are to come, with as many bytes as are left.
+-- The bytes of the first samples of a track follow, from the first on; those behind these `traf`s are to come, with as many bytes as are left.
 pub record TrackGoesOn (file : List ℕ) (tree : FileTree) (t : TrackTree) (before after : Option (List ℕ)) (held_after : List ℕ) (w : Walk) (all : List SampleAt) (left : ℕ) : Type 0 where
-  pub earlier : List FragmentTree
-  pub later : List FragmentTree
+  pub earlier : List PlacedTraf
+  pub later : List PlacedTraf
   pub stands : StandsBefore file tree t earlier later w
   pub goes : HandGoesOn file before after [] held_after all (samples_behind tree t earlier later)
   pub sizes : left ≡ sizes_of (samples_behind tree t earlier later)
 
--- where a walk keeps its place, it stands before the same `moof`s
+-- where a walk keeps its place, it stands before the same `traf`s
 abbrev pub StandsOn : Walk → Walk → Type 0
-StandsOn w later_w = (file : List ℕ) (tree : FileTree) (t : TrackTree) (earlier later : List FragmentTree) → StandsBefore file tree t earlier later w → StandsBefore file tree t earlier later later_w
+StandsOn w later_w = (file : List ℕ) (tree : FileTree) (t : TrackTree) (earlier later : List PlacedTraf) → StandsBefore file tree t earlier later w → StandsBefore file tree t earlier later later_w
 
 -- what is in hand is carried along
 pub track_next : (file : List ℕ) (tree : FileTree) (t : TrackTree) (m : MovieSeen) (a b c : Option (List ℕ)) (held_b held_c : List ℕ) (w later_w : Walk) (all to_come : List SampleAt) (bytes left : ℕ) → HandGoesOn file a b [] held_b all to_come → Comes file tree t m w to_come

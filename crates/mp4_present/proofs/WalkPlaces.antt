@@ -1,10 +1,10 @@
 -- Walks over the samples of a track: how they begin, and what they have in hand.
-use Rattle.std.proofs.Common.{◌≡◌, ℕ, ◌+◌, ◌<◌, ◌≤◌, zero, suc, List, [], ◌∷◌, length, Option, None, Some, refl, sym, ap, subst, ◌∙◌, arith}
+use Rattle.std.proofs.Common.{◌≡◌, ℕ, ◌<◌, zero, suc, List, [], ◌∷◌, length, Option, None, Some, refl, sym, ap, subst, ◌∙◌, arith}
 use Rattle.std.proofs.Math.Nat.{le_refl}
 use Rattle.std.specs.List.{AllByRecursion, slice_get}
 use Rattle.mp4_tables.specs.words.TablesSeen.{TablesSeen}
 use Rattle.mp4_tables.specs.words.TablesSeen.{CursorSeen as TableView}
-use Rattle.mp4_frag.specs.words.FragmentsSeen.{CursorSeen as MoofView}
+use Rattle.mp4_frag.specs.words.FragmentsSeen.{CursorSeen as TrafView}
 use Rattle.mp4_frag.specs.words.PlacesIn.{IsPlaceIn}
 use Rattle.mp4_frag.specs.words.Walks.{samples_coming}
 use Rattle.mp4_present.specs.words.InHand.{AreLast, last_of_last, Follows, IsPlaceOf}
@@ -17,7 +17,7 @@ use Rattle.mp4_present.specs.declared.walks.Mark.{Mark}
 use Rattle.mp4_present.specs.declared.walks.Walk.{Walk}
 use Rattle.mp4_tables.specs.words.Accepted.{IsPlace}
 use Rattle.mp4_tables.specs.declared.places.TablePlace.{TablePlace}
-use Rattle.mp4_present.specs.words.Movies.{MovieSeen, IsMovie, GoesOn, IsWalkOf, IsMarkOf, HasMarked, IsRest, StandsAt, HandAt, InHandOf, table_bytes, all_in_moof, moof_hand, mark_of}
+use Rattle.mp4_present.specs.words.Movies.{MovieSeen, IsMovie, GoesOn, IsWalkOf, IsMarkOf, HasMarked, IsRest, StandsAt, HandAt, InHandOf, table_bytes, all_in_traf, traf_hand, mark_of}
 use Rattle.mp4_present.specs.declared.movie.TrackTables.{TrackTables}
 
 -- an element at a place below the length
@@ -66,25 +66,23 @@ marks_here : (m : MovieSeen) (w : Walk) (n : ℕ) (b : Option Due) (q : Place) �
 marks_here m w n None (Tables q) e s r = s
 marks_here m w n None (Fragment q) e s r = absurd r
 marks_here m w n (Some d) (Tables q) e s r = absurd r
-marks_here m w n (Some d) (Fragment q) e s r = let fills = s.1 in (omega (arith, fills), λ same. (e, refl, s, r))
+marks_here m w n (Some d) (Fragment q) e s r = λ same. (e, refl, s, r)
 
 pub marked_here : (m : MovieSeen) (w : Walk) (n : ℕ) → GoesOn m w → StandsAt m w w.place → IsRest m w w.before w.place → IsWalkOf m (record w { mark = mark_of w n })
 marked_here m w n g s r = record {
-  goes_on = record { track = g.track };
+  goes_on = record { movie = g.movie; track = g.track };
   place = stands_moved m w w.place (mark_of w n) w.place s;
   rest = rest_moved m w w.place (mark_of w n) w.before w.place r;
   mark = record { track = refl; behind = le_refl w.next; place = marks_here m w n w.before w.place refl s r };
 }
 
--- a walk that has gone past the `moof` of its mark
+-- a walk that has gone past the `traf` of its mark
 marks_past : (m : MovieSeen) (w now : Walk) → now.track ≡ w.track → now.mark ≡ w.mark → w.mark.next < now.next → (b : Option Due) (q : Place) → HasMarked m w b q → HasMarked m now b q
 marks_past m w now track same past None (Tables q) s = (s.0, ap (slice_get m.tables) track ∙ s.1, s.2)
 marks_past m w now track same past None (Fragment q) s = absurd s
 marks_past m w now track same past (Some d) (Tables q) s = absurd s
-marks_past m w now track same past (Some d) (Fragment q) s = (
-  subst (λ (k : Mark). k.moof.offset + k.moof.header.header ≤ k.moof.header.end) (sym same) s.0,
-  λ at_mark. let next = ap (λ (k : Mark). k.next) same in absurd (omega (arith, past, at_mark, next)),
-)
+marks_past m w now track same past (Some d) (Fragment q) s = λ at_mark.
+    let next = ap (λ (k : Mark). k.next) same in absurd (omega (arith, past, at_mark, next))
 
 pub marked_past : (m : MovieSeen) (w now : Walk) → now.track ≡ w.track → now.mark ≡ w.mark → w.next < now.next → IsMarkOf m w → IsMarkOf m now
 marked_past m w now track same past i =
@@ -96,10 +94,10 @@ marked_past m w now track same past i =
       place = subst (λ (k : Mark). HasMarked m now k.before k.place) (sym same) (marks_past m w now track same (omega (arith, past, behind)) w.mark.before w.mark.place i.place);
     }
 
--- a walk that holds a further `moof`
+-- a walk that holds a further `traf`
 pub walk_past : (m : MovieSeen) (w now : Walk) → IsWalkOf m w → now.track ≡ w.track → now.mark ≡ w.mark → w.next < now.next → StandsAt m now now.place → IsRest m now now.before now.place → IsWalkOf m now
 walk_past m w now i track same past stands rest = record {
-  goes_on = record { track = let inside = i.goes_on.track in omega (arith, track, inside) };
+  goes_on = record { movie = i.goes_on.movie; track = let inside = i.goes_on.track in omega (arith, track, inside) };
   place = stands;
   rest = rest;
   mark = marked_past m w now track same past i.mark;
@@ -116,7 +114,7 @@ begun m w p n i lt at none mark place =
     let t = got m.tables w.track (omega (arith, lt, tables)) in
     let stands : StandsAt m w (Tables p) = (t.0, t.1, place t.0 t.1) in
     record {
-      goes_on = record { track = lt };
+      goes_on = record { movie = i; track = lt };
       place = subst (λ (q : Place). StandsAt m w q) (sym at) stands;
       rest = subst (λ (b : Option Due). IsRest m w b w.place) (sym none) (subst (λ (q : Place). IsRest m w None q) (sym at) tt);
       mark = record {
@@ -132,7 +130,7 @@ stands_on : (m : MovieSeen) (w : Walk) (q : Place) (a b : InHand) (p : Place) �
 stands_on m w (Tables q) (hands.Tables a) (hands.Tables b) (Tables p) s h f i =
     (h.0, h.1, subst (λ (v : TablesSeen). IsPlace v.payload v.at p) (f.0 ∙ ap (λ (c : TableView). c.tables) h.2) i.1)
 stands_on m w (Fragment q) (hands.Fragment a) (hands.Fragment b) (Fragment p) s h f i =
-    (s.0, s.1, subst (λ (bytes : List ℕ). IsPlaceIn bytes p) (f.0 ∙ ap (λ (c : MoofView). c.payload) h) i.1)
+    (s.0, subst (λ (bytes : List ℕ). IsPlaceIn bytes p) (f.0 ∙ ap (λ (c : TrafView). c.payload) h) i.1)
 stands_on m w (Tables q) (hands.Fragment a) b p s h f i = absurd h
 stands_on m w (Fragment q) (hands.Tables a) b p s h f i = absurd h
 stands_on m w (Tables q) (hands.Tables a) (hands.Fragment b) p s h f i = absurd f
@@ -144,15 +142,10 @@ stands_on m w (Fragment q) (hands.Fragment a) (hands.Fragment b) (Tables p) s h 
 rest_on : (m : MovieSeen) (w : Walk) (d : Option Due) (q : Place) (a b : InHand) (p : Place) → IsRest m w d q → HandAt m w q a → Follows a b → IsPlaceOf b p → IsRest m w d p
 rest_on m w None (Tables q) (hands.Tables a) (hands.Tables b) (Tables p) r h f i = tt
 rest_on m w (Some d) (Fragment q) (hands.Fragment a) (hands.Fragment b) (Fragment p) r h f i = λ info at.
-    let view : b ≡ moof_hand m w p = λ j. record {
-      payload = (f.0 ∙ ap (λ (c : MoofView). c.payload) h) j;
-      moof = (f.1 ∙ ap (λ (c : MoofView). c.moof) h) j;
-      tracks = (f.2 ∙ ap (λ (c : MoofView). c.tracks) h) j;
-      place = sym i.0 j;
-    } in
-    let later : AreLast (samples_coming (moof_hand m w q)) (samples_coming (moof_hand m w p)) =
-    subst (λ (c : MoofView). AreLast (samples_coming c) (samples_coming (moof_hand m w p))) h (subst (λ (c : MoofView). AreLast (samples_coming a) (samples_coming c)) view f.5) in
-    last_of_last (all_in_moof m w info d.time) (samples_coming (moof_hand m w q)) (samples_coming (moof_hand m w p)) (r info at) later
+    let view : b ≡ traf_hand w p = λ j. record { payload = (f.0 ∙ ap (λ (c : TrafView). c.payload) h) j; place = sym i.0 j } in
+    let later : AreLast (samples_coming (traf_hand w q)) (samples_coming (traf_hand w p)) =
+    subst (λ (c : TrafView). AreLast (samples_coming c) (samples_coming (traf_hand w p))) h (subst (λ (c : TrafView). AreLast (samples_coming a) (samples_coming c)) view f.3) in
+    last_of_last (all_in_traf m w info d.time) (samples_coming (traf_hand w q)) (samples_coming (traf_hand w p)) (r info at) later
 rest_on m w None (Fragment q) a b p r h f i = absurd r
 rest_on m w (Some d) (Tables q) a b p r h f i = absurd r
 rest_on m w None (Tables q) (hands.Fragment a) b p r h f i = absurd h
@@ -165,7 +158,7 @@ rest_on m w (Some d) (Fragment q) (hands.Fragment a) (hands.Fragment b) (Tables 
 -- a walk that goes on from a place of what was in hand
 pub kept_on : (m : MovieSeen) (w : Walk) (a b : InHand) (p : Place) → IsWalkOf m w → InHandOf m w a → Follows a b → IsPlaceOf b p → IsWalkOf m (record w { place = p })
 kept_on m w a b p i h f at = record {
-  goes_on = record { track = i.goes_on.track };
+  goes_on = record { movie = i.goes_on.movie; track = i.goes_on.track };
   place = stands_moved m w p w.mark p (stands_on m w w.place a b p i.place h f at);
   rest = rest_moved m w p w.mark w.before p (rest_on m w w.before w.place a b p i.rest h f at);
   mark = mark_placed m w p i.mark;

@@ -4,6 +4,7 @@ use Rattle.mp4_boxes.specs.format.Box.{Box}
 use Rattle.mp4_frag.specs.format.FragmentRows.{fragment_rows, fragment_length, moof_says}
 use Rattle.mp4_frag.specs.declared.state.TrackState.{TrackState}
 use Rattle.mp4_frag.proofs.WalkBound.{length_taken}
+use Rattle.mp4_frag.specs.words.OwnTrafs.{traf_steps}
 use Rattle.mp4_present.specs.words.WalkSteps.{moof_steps}
 use Rattle.mp4_frag.specs.words.Judged.{AreMovedOn}
 use Rattle.mp4_boxes.specs.format.Children.{of_kind}
@@ -21,7 +22,6 @@ checked_within old new room less before after view box e m cost =
     let taken = length_taken old new view room less m in
     subst (λ (b : Box). after ≤ before + (fragment_rows (moof_says b) + fragment_length (moof_says b))) e (omega (arith, taken, cost))
 
--- nor is a place in it farther
-pub place_within : (moof : Box) (payload : List ℕ) (n : ℕ) → payload ≡ moof.payload → ((b : Box) → payload ≡ b.payload → n ≤ fragment_rows (moof_says b) + fragment_length (moof_says b)) → n ≤ moof_steps moof
-unfolding moof_steps
-place_within moof payload n e said = said moof e
+-- nor is a place in a `traf` farther than the way through it
+pub place_within : (traf : Box) (payload : List ℕ) (n : ℕ) → payload ≡ traf.payload → ((b : Box) → payload ≡ b.payload → n ≤ traf_steps b) → n ≤ traf_steps traf
+place_within traf payload n e said = said traf e

@@ -32,4 +32,4 @@ pub mod OverDifferences
 pub mod OverTables
 pub mod OverOpening
 pub mod OverHands
-pub mod OwnMoofs
+pub mod OwnTrafs

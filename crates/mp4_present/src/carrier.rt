@@ -39,6 +39,7 @@ fn read_in<S: Store>(
     ensures store { OnlyReads S.Store store.old store.new result }
     ensures bytes { OnOk result (WhereHonest S.Store store.old (λ file.
         take (at + len) buffer.new ≡ take at buffer.old ++ range file from len)) }
+    ensures front { take at buffer.new ≡ take at buffer.old }
     ensures refusal { Refused S.Store store.old store.new result RefusesFront }
 {
     store.read_at(from, &mut buffer[at..at + len])?;
@@ -49,7 +50,7 @@ impl Carrier {
     ghost use Rattle.std.specs.Prelude.{◌≡◌, ◌+◌, ◌<◌, ◌≤◌, [], ◌++◌, length, vec_len, IfOk, OnOk, OnErr};
     ghost use Rattle.std.specs.Io.KnownBytes.{Appends};
     ghost use Rattle.mp4_store.specs.words.Device.{AppendsPrefix, range};
-    ghost use Rattle.mp4_present.specs.words.Carried.{waiting, RefusesRange, RefusesStretch};
+    ghost use Rattle.mp4_present.specs.words.Carried.{waiting, WaitsMore, RefusesRange, RefusesStretch};
     ghost use Rattle.mp4_present.specs.words.HandCarried.{RefusedByBoth};
     ghost use Rattle.mp4_present.specs.words.OverCarriers.{Carries, HasRoomFor, OnlyCopies, OnlyPuts, PutsFrontOf, RefusedByPut, TakesAlong, TakesBytes};
     ghost use Rattle.mp4_present.specs.words.OverStores.{OnlyReads, Refused, WhereHonest};
@@ -118,7 +119,7 @@ impl Carrier {
         ensures store { OnlyReads S.Store store.old store.new result }
         ensures bytes { OnOk result (WhereHonest S.Store store.old (λ file.
             waiting self.new ≡ waiting self.old ++ range file from len)) }
-        ensures many { OnOk result (length (waiting self.new) ≡ length (waiting self.old) + len) }
+        ensures many { OnOk result (WaitsMore (waiting self.old) (waiting self.new) len) }
         ensures refusal { Refused S.Store store.old store.new result RefusesFront }
     {
         read_in(store, from, self.buffer.as_mut_slice(), self.used, len)?;

@@ -1,6 +1,6 @@
 //! Numbers of a fault in a fragment; and the time that is due where one begins at another (ISO/IEC
 //! 14496-12, 8.8.12).
-ghost use Rattle.std.specs.Prelude.{◌≡◌, ◌+◌, ◌-◌, ◌*◌, ◌^◌, ◌≤◌, ◌==◌, length, take, find, IfOk, IfSome};
+ghost use Rattle.std.specs.Prelude.{◌≡◌, ◌+◌, ◌-◌, ◌*◌, ◌^◌, ◌≤◌, ◌==◌, length, take, find, IfOk, IfErr, IfSome};
 ghost use Rattle.mp4_boxes.specs.format.Bytes.{field};
 ghost use Rattle.mp4_boxes.specs.format.Box.{Box};
 ghost use Rattle.mp4_boxes.specs.words.View.{box_seen};
@@ -8,7 +8,7 @@ ghost use Rattle.mp4_frag.specs.format.Fragments.{decode_time_of};
 ghost use Rattle.mp4_present.specs.format.FaultNumbers.{IsChildOf, SaysTime};
 ghost use Rattle.mp4_frag.specs.words.States.{HaveRoom};
 ghost use Rattle.mp4_frag.specs.declared.state.TrackState.{TrackState};
-ghost use Rattle.mp4_present.specs.words.NumbersTold.{IsBehind, IsReached, RefusesSearch};
+ghost use Rattle.mp4_present.specs.words.NumbersTold.{IsBehind, IsReached, MeetsFault, RefusesSearch};
 ghost use Rattle.mp4_present.specs.words.OverFaults.{FindsOf, PassesWithin, TellsBehind};
 ghost use Rattle.mp4_present.specs.words.OverStores.{OnlyReads, RefusedOf, WhereHonest};
 ghost use Rattle.mp4_present.specs.words.Movies.{Fills};
@@ -23,7 +23,7 @@ use crate::reading::{TopBox, read_payload};
 use crate::tables_pass::PlainTracks;
 use crate::totals::in_64_bits;
 use mp4_boxes::{BoxView, Fault, FourCc, Kind, Refusal, Steps, TopHeader, children, u64_at};
-use mp4_frag::{TrackState, check_moof};
+use mp4_frag::{TrackState, base_in, check_moof};
 use mp4_store::Store;
 use std::alloc::Global;
 use std::sync::ledger::Ledger;
@@ -90,8 +90,8 @@ pub(crate) fn track_in(payload: &[u8]) -> Option<u32>
     number_at(payload, 4)
 }
 
-// The track with an ID.
-fn state_with(states: &[TrackState], id: u32) -> Option<TrackState>
+/// The track with an ID.
+pub(crate) fn state_with(states: &[TrackState], id: u32) -> Option<TrackState>
     ensures { result ≡ find (λ (t : TrackState). t.id == id) states.now }
 {
     states.iter().copied().find(|state| state.id == id)
@@ -149,12 +149,13 @@ fn gap_in<L: Ledger, M: Ledger>(
     room: u32,
     steps: &mut Steps<L>,
     looks: &mut Steps<M>,
-) -> Result<Option<FaultNumbers>, Fault>
+) -> Result<Option<FaultNumbers>, Refusal>
     requires fills { Fills (length bytes.now) top }
     requires room { (room ≤ 2 ^ 24) × HaveRoom room states.old }
     ensures finds { FindsOf file_len top bytes.now states.old room place result }
     ensures work { 2 * steps.new ≤ 2 * steps.old + 2 * room + length bytes.now }
     ensures looks { 8 * looks.new ≤ 8 * looks.old + length states.old * length bytes.now }
+    ensures refusal { IfErr result MeetsFault }
 {
     let Some(traf) = child_at(top.view(bytes), place) else {
         return Ok(None);
@@ -166,12 +167,46 @@ fn gap_in<L: Ledger, M: Ledger>(
         return Ok(None);
     };
     let mut room = room;
-    check_moof(front, file_len, states, &mut room, steps, looks)?;
+    check_moof(front, file_len, states, &mut [], &mut room, steps, looks)?;
     let Some(state) = state_with(states, track) else {
         return Ok(None);
     };
     let due = in_64_bits(state.time);
     Ok(Some(FaultNumbers::Gap { track, due, found }))
+}
+
+// The sample that does not lie in the file, of the `trun` at a place in this `moof`. The tracks are
+// moved on by what comes before its `traf`.
+fn outside_in<L: Ledger, M: Ledger>(
+    top: TopBox,
+    bytes: &[u8],
+    place: u64,
+    file_len: u64,
+    states: &mut [TrackState],
+    room: u32,
+    steps: &mut Steps<L>,
+    looks: &mut Steps<M>,
+) -> Result<Option<FaultNumbers>, Refusal>
+    requires fills { Fills (length bytes.now) top }
+    requires room { (room ≤ 2 ^ 24) × HaveRoom room states.old }
+    ensures finds { FindsOf file_len top bytes.now states.old room place result }
+    ensures work { 2 * steps.new ≤ 2 * steps.old + 2 * room + length bytes.now }
+    ensures looks { 8 * looks.new ≤ 8 * looks.old + length states.old * length bytes.now }
+    ensures refusal { IfErr result MeetsFault }
+{
+    let Some(traf) = child_at(top.view(bytes), place) else {
+        return Ok(None);
+    };
+    let Some(tfhd) = child_of(traf, TFHD) else {
+        return Ok(None);
+    };
+    let Some(front) = front_of(top, bytes, traf.offset()) else {
+        return Ok(None);
+    };
+    let mut room = room;
+    let before = check_moof(front, file_len, states, &mut [], &mut room, steps, looks)?;
+    let base = base_in(tfhd, top.offset, before)?;
+    Ok(outside_in_fragment(traf, base, states, file_len))
 }
 
 // What is told of a fault of this kind where the named box stands at a place in this `moof`.
@@ -185,18 +220,18 @@ fn told_in<L: Ledger, M: Ledger>(
     room: u32,
     steps: &mut Steps<L>,
     looks: &mut Steps<M>,
-) -> Result<Option<FaultNumbers>, Fault>
+) -> Result<Option<FaultNumbers>, Refusal>
     requires fills { Fills (length bytes.now) top }
     requires room { (room ≤ 2 ^ 24) × HaveRoom room states.old }
     ensures finds { FindsOf file_len top bytes.now states.old room place result }
     ensures work { 2 * steps.new ≤ 2 * steps.old + 2 * room + length bytes.now }
     ensures looks { 8 * looks.new ≤ 8 * looks.old + length states.old * length bytes.now }
+    ensures refusal { IfErr result MeetsFault }
 {
     match kind {
         Kind::CountMismatch => Ok(counts_in_fragment(top.view(bytes), place)),
         Kind::SampleOutsideFile => {
-            let moof = top.view(bytes);
-            Ok(outside_in_fragment(moof, place, states, file_len))
+            outside_in(top, bytes, place, file_len, states, room, steps, looks)
         }
         _ => gap_in(top, bytes, place, file_len, states, room, steps, looks),
     }
@@ -237,7 +272,7 @@ fn pass_until<S: Store, L: Ledger, M: Ledger>(
         }
         let len = read_payload(store, top, bytes)?;
         let moof = top.view(&bytes[..len]);
-        check_moof(moof, file_len, states, &mut room, steps, looks)?;
+        check_moof(moof, file_len, states, &mut [], &mut room, steps, looks)?;
         next = top.header.end;
     }
     Ok(None)

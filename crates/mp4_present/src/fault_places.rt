@@ -5,9 +5,9 @@ ghost use Rattle.mp4_present.specs.words.NumbersTold.{IsPlain};
 
 use crate::fault_counts::{chunks_in, number_at, samples_in, sizes_of};
 use crate::fault_details::FaultNumbers;
-use crate::fault_gaps::{TFHD, child_at, child_of, track_in};
+use crate::fault_gaps::{TFHD, child_at, child_of, state_with, track_in};
 use mp4_boxes::{BoxView, FourCc, u16_at, u64_at};
-use mp4_frag::{FragCursor, FragView, TrackState};
+use mp4_frag::{FragCursor, TrackState};
 use mp4_head::MovieHead;
 use mp4_tables::{Keys, Samples};
 
@@ -138,19 +138,18 @@ fn first_outside<C: Samples>(samples: &mut C, file_len: u64) -> Option<FaultNumb
     None
 }
 
-/// The first sample that does not lie in the file, of the track whose `trun` lies at a place of the
-/// file in this `moof`. These are the states of the tracks before it.
+/// The first sample of a `traf` that does not lie in the file, where its runs are counted from this
+/// base. These are the states of the tracks.
 pub(crate) fn outside_in_fragment(
-    moof: BoxView,
-    place: u64,
+    traf: BoxView,
+    base: i128,
     states: &[TrackState],
     file_len: u64,
 ) -> Option<FaultNumbers>
     ensures { IfSome result (IsPlain file_len) }
 {
-    let traf = child_at(moof, place)?;
     let track = track_in(child_of(traf, TFHD)?.payload())?;
-    let view = FragView::again(moof);
-    let mut cursor = FragCursor::start(&view, states, track, 0, Keys::new());
+    let trex = state_with(states, track)?.trex?;
+    let mut cursor = FragCursor::start(traf.payload(), base, track, trex, 0, Keys::new());
     first_outside(&mut cursor, file_len)
 }

@@ -1,24 +1,23 @@
-//! The `moof`s of a file: each is found, read, checked and given up before the next. A walk finds
-//! those of its track again.
-ghost use Rattle.std.specs.Prelude.{◌<◌, ◌≤◌, List, length, IfOk, IfSome, ◌≡◌, ◌^◌, map, [], OnOk};
+//! The `moof`s of a file: each is found, read, checked and given up before the next.
+ghost use Rattle.std.specs.Prelude.{◌<◌, ◌≤◌, List, length, IfOk, IfSome, ◌≡◌, ◌^◌, map, [], OnOk, replicate};
 ghost use Rattle.mp4_boxes.specs.format.Box.{Box};
 ghost use Rattle.mp4_present.specs.words.Movies.{IsWhole};
 ghost use Rattle.mp4_present.specs.words.ToOpen.{EndsWithin, PassesNoting, PassesOn};
 ghost use Rattle.mp4_present.specs.words.OverStores.{OnlyReads, WhereRead, RefusedOf, WhereHonest};
 ghost use Rattle.mp4_present.specs.words.Reading.{IsTopHeader};
 ghost use Rattle.mp4_present.specs.words.Again.{AreFrom, IsNextFragment, RefusesHeaderAgain, RefusesNext};
-ghost use Rattle.mp4_present.specs.words.OwnMoofs.{own_seen};
+ghost use Rattle.mp4_frag.specs.words.OwnTrafs.{own_seen};
+ghost use Rattle.mp4_present.specs.words.OwnTrafs.{none_noted};
 ghost use Rattle.mp4_frag.specs.words.States.{HaveRoom};
 ghost use Rattle.mp4_present.specs.words.Opening.{HasOutline};
 ghost use Rattle.mp4_present.specs.words.OverOpening.{ChecksMoofs, NotesOn};
 ghost use Rattle.mp4_present.specs.words.PassedMoofs.{RefusesFragments};
 
 use crate::outline::{MOOF, Outline, is};
-use crate::own_moofs::{OwnMoofs, begin_own, note_moof};
 use crate::reading::{TopBox, read_payload, read_top_header};
 use crate::tables_pass::PlainTracks;
-use mp4_boxes::{BoxView, Refusal, Steps, TopHeader};
-use mp4_frag::{TrackState, check_moof};
+use mp4_boxes::{Memory, Refusal, Steps, TopHeader};
+use mp4_frag::{OwnTrafs, TrackState, check_moof};
 use mp4_store::Store;
 use std::alloc::Global;
 use std::sync::ledger::Ledger;
@@ -64,13 +63,13 @@ pub(crate) fn next_fragment<S: Store>(store: &mut S, from: u64) -> Result<Option
     Ok(None)
 }
 
-// Reads each `moof` of the file to the room, and checks it: the tracks are then behind it. All of
-// them are looked at once for it, and each once at most for each of its `traf`s.
+// Reads each `moof` of the file to the room, and checks it: the tracks are then behind it, and the
+// `traf`s with samples are noted. Each track is looked at once at most for each `traf`.
 fn pass_fragments<S: Store, L: Ledger, M: Ledger>(
     store: &mut S,
     outline: &Outline,
     states: &mut [TrackState],
-    own: &mut Vec<OwnMoofs>,
+    own: &mut [OwnTrafs],
     bytes: &mut [u8],
     room: u32,
     steps: &mut Steps<L>,
@@ -79,13 +78,12 @@ fn pass_fragments<S: Store, L: Ledger, M: Ledger>(
     requires room { (room ≤ 2 ^ 24) × HaveRoom room states.old }
     requires outline { HasOutline (S.is_honest store.old) (S.file store.old) outline.now }
     requires rooms { (length bytes.old ≡ outline.now.longest)
-        × (length own.old.items ≡ length states.old) }
+        × (length own.old ≡ length states.old) }
     ensures store { OnlyReads S.Store store.old store.new result }
     ensures passed { OnOk result (WhereHonest S.Store store.old (λ file.
         PassesOn file states.old room states.new)) }
-    ensures own { OnOk result ((length own.new.items ≡ length own.old.items)
-        × WhereHonest S.Store store.old (λ file.
-        NotesOn file states.old room states.new own.old.items own.new.items)) }
+    ensures own { OnOk result (WhereHonest S.Store store.old (λ file.
+        NotesOn file states.old room states.new own.old own.new)) }
     ensures work { WhereHonest S.Store store.old (λ file. ChecksMoofs file (length states.old)
         result steps.old steps.new looks.old looks.new) }
     ensures refusal { RefusedOf S.Store store.old store.new result (λ honest file.
@@ -97,21 +95,33 @@ fn pass_fragments<S: Store, L: Ledger, M: Ledger>(
     while let Some(top) = next_fragment(store, next)? {
         let len = read_payload(store, top, bytes)?;
         let moof = top.view(&bytes[..len]);
-        check_moof(moof, file_len, states, &mut room, steps, looks)?;
-        note_moof(own, states, top.offset, top.header.end - top.offset, looks)?;
+        check_moof(moof, file_len, states, own, &mut room, steps, looks)?;
         next = top.header.end;
     }
     Ok(())
 }
 
+// Before the first `moof`: nothing is noted of so many tracks.
+fn begin_own(alloc: Global, own: &mut Vec<OwnTrafs>, tracks: usize) -> Result<(), Memory>
+    requires { own.old.items ≡ [] }
+    ensures { OnOk result (map own_seen own.new.items ≡ replicate tracks none_noted) }
+{
+    for _ in 0..tracks {
+        let Ok(()) = own.push(OwnTrafs::new(alloc)) else {
+            return Err(Memory);
+        };
+    }
+    Ok(())
+}
+
 /// Reads and checks each `moof` of the file: the tracks of the movie behind all of their samples.
-/// Which `moof`s have samples of each is noted.
+/// Which `traf`s have samples of each is noted.
 pub(crate) fn check_fragments<S: Store, L: Ledger, M: Ledger>(
     alloc: Global,
     store: &mut S,
     outline: &Outline,
     plain: &PlainTracks,
-    own: &mut Vec<OwnMoofs>,
+    own: &mut Vec<OwnTrafs>,
     steps: &mut Steps<L>,
     looks: &mut Steps<M>,
 ) -> Result<Vec<TrackState>, Refusal>
@@ -131,9 +141,10 @@ pub(crate) fn check_fragments<S: Store, L: Ledger, M: Ledger>(
 {
     let mut states = Vec::new(alloc);
     states.extend_from_slice(plain.states.as_slice())?;
-    begin_own(alloc, own, plain.states.as_slice())?;
+    begin_own(alloc, own, plain.states.len())?;
     let mut bytes = vec![in alloc; 0u8; outline.longest as usize]?;
     let (all, bytes) = (states.as_mut_slice(), bytes.as_mut_slice());
+    let own = own.as_mut_slice();
     pass_fragments(store, outline, all, own, bytes, plain.room, steps, looks)?;
     Ok(states)
 }

@@ -12,14 +12,14 @@ ghost use Rattle.mp4_present.specs.words.Movies.{MovieSeen, GoesOn, IsRest, IsWa
 ghost use Rattle.mp4_present.specs.words.WalkSteps.{MayTake, TakesOn, steps_to};
 ghost use Rattle.mp4_present.specs.words.OverMarks.{FindsFewer, HasReadAgain, KeepsRest, KnowsLength, PassesInHand, ReadsMarked, TakesAgain};
 ghost use Rattle.mp4_present.specs.words.OverStores.{OnlyReads, Refused};
-ghost use Rattle.mp4_present.specs.words.OverWalks.{HasInHand, HasMoof, IsAtMark, WhereMarkMayTake, WhereMarked, back_at_mark};
+ghost use Rattle.mp4_present.specs.words.OverWalks.{HasInHand, HasTraf, IsAtMark, WhereMarkMayTake, WhereMarked, back_at_mark};
 
 use crate::in_hand::Place;
 use crate::movie::Movie;
-use crate::reading::read_payload;
+use crate::reading::read_range;
 use crate::walks::{Due, Mark, Walk};
 use mp4_boxes::{Refusal, Steps};
-use mp4_frag::{FragCursor, FragView};
+use mp4_frag::FragCursor;
 use mp4_store::Store;
 use mp4_tables::Samples;
 use std::sync::ledger::Ledger;
@@ -49,7 +49,7 @@ impl Walk {
         Mark {
             track: self.track,
             place: self.place,
-            moof: self.moof,
+            traf: self.traf,
             before: self.before,
             due: self.due,
             left: self.left,
@@ -73,7 +73,7 @@ impl Walk {
         self.mark = self.mark_here(to_come);
     }
 
-    // What was due before the `moof` of the mark, where it has to be read again.
+    // What was due before the `traf` of the mark, where it has to be read again.
     fn again_from(&self) -> Option<Due>
         ensures { result ≡ again_from self.now }
     {
@@ -95,25 +95,26 @@ impl Walk {
         self.next = self.mark.next;
     }
 
-    // Takes the samples of the `moof` in the room into hand again, before which this was due. How
+    // Takes the samples of the `traf` in the room into hand again, before which this was due. How
     // many they are, and when the next is due behind them, is known.
     fn take_again<L: Ledger>(&mut self, before: Due, movie: &Movie, steps: &mut Steps<L>)
         requires movie { GoesOn movie.now self.old }
-        requires moof { HasMoof self.old }
+        requires traf { HasTraf self.old }
         ensures same { self.new ≡ record self.old { place = self.new.place; before = Some before } }
         ensures hand { HasInHand movie.now self.old self.new before }
         ensures taken { TakesAgain movie.now self.old self.new before }
         ensures work { steps.new ≡ steps.old + steps_to self.new.place }
     {
-        let view = FragView::again(self.moof.view(&self.bytes[..self.used]));
         let info = movie.tracks()[self.track];
-        let cursor = FragCursor::start(&view, movie.states(), info.id, before.time, info.keys);
+        let (base, trex) = (self.traf.base, movie.trex_of(self.track));
+        let bytes = &self.bytes[..self.used];
+        let cursor = FragCursor::start(bytes, base, info.id, trex, before.time, info.keys);
         self.place = Place::Fragment(cursor.place());
         self.before = Some(before);
         steps.add(self.place.passed());
     }
 
-    // Reads the `moof` of the mark again, where this was due, and takes its samples into hand. The
+    // Reads the `traf` of the mark again, where this was due, and takes its samples into hand. The
     // mark is given up for one before these.
     fn read_again<S: Store, L: Ledger>(
         &mut self,
@@ -134,12 +135,13 @@ impl Walk {
         ensures refusal { Refused S.Store store.old store.new result RefusesLoad }
     {
         let mark = self.mark;
-        let len = store.len();
-        if len != movie.file_len || mark.moof.header.end > len {
+        if store.len() != movie.file_len {
             return Err(Refusal::StoreChanged);
         }
-        self.used = read_payload(store, mark.moof, self.bytes.as_mut_slice())?;
-        self.moof = mark.moof;
+        let traf = mark.traf;
+        read_range(store, traf.at, traf.len, self.bytes.as_mut_slice())?;
+        self.used = traf.len;
+        self.traf = traf;
         self.due = mark.due;
         self.left = mark.left;
         self.next = mark.next;
@@ -175,7 +177,7 @@ impl Walk {
     }
 
     /// Goes back to the mark. Where what was in hand there is at hand, nothing is read, and no step
-    /// taken; else the `moof` is read again, and its samples before the mark are passed: they were
+    /// taken; else the `traf` is read again, and its samples before the mark are passed: they were
     /// counted when it was loaded, and are not counted again. It takes no memory. Where the store
     /// has another length, or fewer samples before the mark, the answer is StoreChanged.
     pub fn go_back<S: Store, L: Ledger>(

@@ -1,4 +1,4 @@
-//! The samples of a track that are in memory: of its tables, or of one `moof`.
+//! The samples of a track that are in memory: of its tables, or of one `traf`.
 ghost use Rattle.std.specs.Prelude.{◌≡◌};
 
 use mp4_frag::{FragCursor, FragPlace};
@@ -26,7 +26,7 @@ impl Place {
     }
 }
 
-/// The samples left of the tables, or of the `moof` in hand.
+/// The samples left of the tables, or of the `traf` in hand.
 #[derive(Drop)]
 pub enum InHand<'a> {
     Tables(TableCursor<'a>),

@@ -1,13 +1,21 @@
 //! A file that was opened: the bytes of its `moov`, and plain numbers.
-use crate::own_moofs::OwnMoofs;
 use crate::reading::TopBox;
 use crate::track_info::TrackInfo;
 use mp4_boxes::{BoxView, FourCc, Memory};
-use mp4_frag::TrackState;
+use mp4_frag::{OwnTraf, OwnTrafs, TrackState, Trex};
 use mp4_head::{MovieHead, read_head};
 use mp4_tables::{Tables, TablesAt};
 use std::alloc::Global;
 use std::marker::Model;
+
+// What is inherited where there is no `trex`: then no `traf` of the track is accepted.
+const NO_TREX: Trex = Trex {
+    id: 0,
+    description: 0,
+    duration: 0,
+    size: 0,
+    flags: 0,
+};
 
 /// Where the tables of a track lie: where the payload of its `stbl` begins in that of the `moov`,
 /// its length, and the tables in it.
@@ -25,8 +33,6 @@ pub struct Movie {
     pub(crate) top: TopBox,
     pub(crate) moov: Vec<u8>,
     pub(crate) file_len: u64,
-    /// The place of the first `moof`.
-    pub(crate) fragments: Option<u64>,
     /// The length of the longest `moof`.
     pub(crate) longest: u64,
     pub(crate) tables: Vec<TrackTables>,
@@ -34,15 +40,15 @@ pub struct Movie {
     pub(crate) states: Vec<TrackState>,
     pub(crate) room: u32,
     pub(crate) tracks: Vec<TrackInfo>,
-    /// Which `moof`s have samples of each track.
-    pub(crate) own: Vec<OwnMoofs>,
+    /// Which `traf`s have samples of each track.
+    pub(crate) own: Vec<OwnTrafs>,
     pub(crate) mehd: u64,
 }
 
 impl Model for Movie {
     ghost use Rattle.std.specs.Prelude.{map};
     ghost use Rattle.mp4_present.specs.words.Movies.{MovieSeen, IsMovie};
-    ghost use Rattle.mp4_present.specs.words.OwnMoofs.{own_seen};
+    ghost use Rattle.mp4_frag.specs.words.OwnTrafs.{own_seen};
 
     ghost Value = { MovieSeen };
 
@@ -50,7 +56,6 @@ impl Model for Movie {
       top = m.top;
       moov = m.moov.items;
       file_len = m.file_len;
-      fragments = m.fragments;
       longest = m.longest;
       tables = m.tables.items;
       states = m.states.items;
@@ -64,7 +69,6 @@ impl Model for Movie {
       top = m.top;
       moov = m.moov.items;
       file_len = m.file_len;
-      fragments = m.fragments;
       longest = m.longest;
       tables = m.tables.items;
       states = m.states.items;
@@ -76,11 +80,10 @@ impl Model for Movie {
 }
 
 impl Movie {
-    ghost use Rattle.std.specs.Prelude.{ℕ, List, ◌≡◌, ◌<◌, ◌≤◌, ◌++◌, length, slice_get, Some, IfOk, IfSome};
-    ghost use Rattle.std.specs.List.{AllByRecursion};
+    ghost use Rattle.std.specs.Prelude.{◌≡◌, ◌+◌, ◌^◌, ◌<◌, ◌≤◌, length, slice_get, Some, IfOk, IfSome};
     ghost use Rattle.mp4_head.specs.words.Found.{SaysHead};
-    ghost use Rattle.mp4_present.specs.words.Movies.{IsMovie, moov_box, own_room, tables_seen};
-    ghost use Rattle.mp4_present.specs.words.OwnMoofs.{OwnSeen};
+    ghost use Rattle.mp4_present.specs.words.Movies.{IsMovie, moov_box, own_room, tables_seen, trex_at};
+    ghost use Rattle.mp4_frag.specs.words.OwnTrafs.{OwnSeen};
     ghost use Rattle.mp4_present.specs.declared.movie.TrackTables.{TrackTables};
 
     /// What the movie and its tracks say of themselves, read anew from the bytes of the `moov`.
@@ -105,33 +108,32 @@ impl Movie {
         self.mehd
     }
 
-    // The tracks behind their tables.
-    pub(crate) fn states(&self) -> &[TrackState]
-        ensures same { result.now ≡ self.now.states }
+    // What the fragments of a track inherit.
+    pub(crate) fn trex_of(&self, track: usize) -> Trex
+        requires { track < length self.now.tracks }
+        ensures trex { result ≡ trex_at self.now track }
         ensures is_movie { IsMovie self.now }
     {
-        self.states.as_slice()
+        self.states[track].trex.unwrap_or(NO_TREX)
     }
 
-    // Where the first `moof` from a place on begins that has samples of a track.
-    pub(crate) fn own_from(&self, track: usize, from: u64) -> Option<u64>
+    // The `traf` at a place among those that have samples of a track.
+    pub(crate) fn own_traf(&self, track: usize, place: usize) -> Option<OwnTraf>
         requires { track < length self.now.tracks }
-        ensures behind { IfSome result (λ place. from ≤ place) }
-        ensures first { (own : OwnSeen) (before later : List ℕ)
-            → slice_get self.now.own track ≡ Some own → own.places ≡ before ++ later
-            → AllByRecursion (λ place. place < from) before
-            → AllByRecursion (λ place. from ≤ place) later → result ≡ slice_get later 0 }
+        ensures traf { (own : OwnSeen) → slice_get self.now.own track ≡ Some own
+            → result ≡ slice_get own.trafs place }
+        ensures next { IfSome result (λ traf. place + 1 < 2 ^ 64) }
     {
-        self.own[track].from(from)
+        self.own[track].get(place)
     }
 
-    // The room of a walk over a track: for the longest `moof` that has samples of it.
+    // The room of a walk over a track: for the longest `traf` that has samples of it.
     pub(crate) fn room_for(&self, track: usize) -> u64
         requires { track < length self.now.tracks }
         ensures room { result ≡ own_room self.now track }
         ensures within { result ≤ self.now.longest }
     {
-        self.own[track].room(self.longest)
+        self.longest.min(self.own[track].longest() as u64)
     }
 
     // The tables of a track.

@@ -16,12 +16,11 @@ use crate::fragments::check_fragments;
 use crate::limit_checks::{check_limits, duration_of};
 use crate::movie::Movie;
 use crate::outline::{Outline, read_outline};
-use crate::own_moofs::OwnMoofs;
 use crate::reading::read_bytes;
 use crate::tables_pass::{PlainTracks, check_tables};
 use crate::track_info::TrackInfo;
 use mp4_boxes::{Refusal, Steps};
-use mp4_frag::TrackState;
+use mp4_frag::{OwnTrafs, TrackState};
 use mp4_head::{MovieHead, TrackHead, read_head};
 use mp4_store::Store;
 use std::alloc::Global;
@@ -32,7 +31,7 @@ use std::sync::ledger::Ledger;
 struct Found {
     plain: PlainTracks,
     tracks: Vec<TrackInfo>,
-    own: Vec<OwnMoofs>,
+    own: Vec<OwnTrafs>,
     mehd: u64,
 }
 
@@ -110,8 +109,8 @@ fn find<S: Store, L: Ledger, M: Ledger>(
 
 /// Reads a file to the presentation that it denotes, or names a fault that stands in it. The `moov`
 /// is read once and kept; each `moof` is read, checked and given up before the next; media data is
-/// not read. Steps are rows, runs, samples and `traf`s; looks are those at tracks: which one a
-/// `traf` is of, and which have samples in a `moof`.
+/// not read. Steps are rows, runs, samples and `traf`s; looks are those at tracks, for which one a
+/// `traf` is of.
 pub fn open_movie<S: Store, L: Ledger, M: Ledger>(
     alloc: Global,
     store: &mut S,
@@ -152,7 +151,6 @@ pub fn open_movie<S: Store, L: Ledger, M: Ledger>(
         top: outline.moov,
         moov,
         file_len,
-        fragments: outline.fragments,
         longest: outline.longest,
         tables,
         states,

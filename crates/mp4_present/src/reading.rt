@@ -5,7 +5,7 @@ ghost use Rattle.mp4_boxes.specs.format.Bytes.{AreBytes};
 ghost use Rattle.mp4_store.specs.words.Device.{range};
 ghost use Rattle.mp4_present.specs.words.Movies.{IsWhole, Fills};
 ghost use Rattle.mp4_present.specs.words.OverStores.{OnlyReads, WhereHonest, WhereRead, Refused};
-ghost use Rattle.mp4_present.specs.words.Reading.{IsTopHeader, RefusesHeader, RefusesRead, RefusesFront, RefusesPayload};
+ghost use Rattle.mp4_present.specs.words.Reading.{IsTopHeader, RefusesHeader, RefusesRead, RefusesFront, RefusesPayload, RefusesRange};
 
 use mp4_boxes::{BoxView, Refusal, TopHeader, top_header};
 use mp4_store::Store;
@@ -155,4 +155,26 @@ pub(crate) fn read_payload<S: Store>(
     let len = len as usize;
     read_front(store, at, room, len)?;
     Ok(len)
+}
+
+/// Reads so many bytes from the place `at` on to the front of the room, and no others. Where there
+/// is no room for them, or the file ends before them, the store has changed.
+pub(crate) fn read_range<S: Store>(
+    store: &mut S,
+    at: u64,
+    len: usize,
+    room: &mut [u8],
+) -> Result<(), Refusal>
+    ensures store { OnlyReads S.Store store.old store.new result }
+    ensures fits { OnOk result (len ≤ length room.new) }
+    ensures bytes { OnOk result (WhereHonest S.Store store.old (λ file.
+        take len room.new ≡ range file at len)) }
+    ensures refusal { Refused S.Store store.old store.new result
+        (RefusesRange (length (S.file store.old)) (length room.old) at len) }
+{
+    let file_len = store.len();
+    if len > room.len() || at > file_len || len as u64 > file_len - at {
+        return Err(Refusal::StoreChanged);
+    }
+    read_front(store, at, room, len)
 }

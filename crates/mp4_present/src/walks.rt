@@ -1,25 +1,25 @@
-//! A walk over all samples of a track: of its tables, then of each `moof`.
+//! A walk over all samples of a track: of its tables, then of each of its `traf`s.
 ghost use Rattle.std.specs.Prelude.{ℕ, ◌≡◌, ◌+◌, ◌-◌, ◌^◌, ◌<◌, ◌≤◌, min, List, [], length, false, Some, Err, slice_get, IfOk, IfErr, OnOk, IsTrue, MatchResult};
 ghost use Rattle.mp4_head.specs.format.Tree.{TrackTree};
 ghost use Rattle.mp4_present.specs.format.Denotes.{FileTree};
 ghost use Rattle.mp4_present.specs.words.OpenedMovie.{IsOpenedAs};
 ghost use Rattle.mp4_present.specs.words.SamplesComing.{track_samples, samples_behind, Comes, Loads};
-ghost use Rattle.mp4_present.specs.words.WalkSteps.{steps_to, moof_steps, walk_steps, MayTake};
+ghost use Rattle.mp4_present.specs.words.WalkSteps.{steps_to, walk_steps, MayTake};
+ghost use Rattle.mp4_frag.specs.words.OwnTrafs.{traf_steps};
 ghost use Rattle.mp4_present.specs.words.InHand.{left_in_hand};
-ghost use Rattle.mp4_present.specs.words.Movies.{IsMovie, GoesOn, IsWalkOf, InHandOf, HasSome, RefusesLoad, moof_box, mark_of, own_room};
+ghost use Rattle.mp4_present.specs.words.Movies.{IsMovie, GoesOn, IsWalkOf, InHandOf, HasSome, RefusesLoad, traf_box, mark_of, own_room};
 ghost use Rattle.mp4_present.specs.declared.track_info.TrackInfo.{TrackInfo};
-ghost use Rattle.mp4_present.specs.words.OverHands.{TakesNextMoof};
+ghost use Rattle.mp4_present.specs.words.OverHands.{TakesNextTraf};
 ghost use Rattle.mp4_present.specs.words.OverStores.{OnlyReads, Refused};
-ghost use Rattle.mp4_present.specs.words.OverWalks.{CountsOff, HasInHand, HasMoof, IsLoaded, IsWalkStill, KeepsRoom, TakesSteps, WhereStands};
+ghost use Rattle.mp4_present.specs.words.OverWalks.{CountsOff, HasInHand, HasTraf, IsLoaded, IsWalkStill, KeepsRoom, TakesSteps, WhereStands};
 ghost use Rattle.mp4_boxes.specs.declared.refusal.Refusal.TheVariants as refusals;
 
-use crate::fragments::next_fragment;
 use crate::in_hand::{InHand, Place};
 use crate::movie::Movie;
-use crate::reading::{TopBox, read_payload};
+use crate::reading::read_range;
 use crate::totals::in_64_bits;
 use mp4_boxes::{Memory, Refusal, Steps};
-use mp4_frag::{FragCursor, FragView};
+use mp4_frag::{FragCursor, OwnTraf};
 use mp4_store::Store;
 use mp4_tables::TableCursor;
 use std::alloc::Global;
@@ -37,41 +37,48 @@ pub(crate) struct Due {
 pub(crate) struct Mark {
     pub(crate) track: usize,
     pub(crate) place: Place,
-    /// The `moof` in hand, and what was due where it was loaded; none in the tables.
-    pub(crate) moof: TopBox,
+    /// The `traf` in hand, and what was due where it was loaded; none in the tables.
+    pub(crate) traf: OwnTraf,
     pub(crate) before: Option<Due>,
     pub(crate) due: u64,
     pub(crate) left: u32,
-    pub(crate) next: u64,
+    pub(crate) next: usize,
     /// How many samples were to come.
     pub(crate) to_come: u32,
 }
 
-/// A walk over the samples of a track. It has room for one `moof` that has samples of the track,
+/// A walk over the samples of a track. It has room for one `traf` that has samples of the track,
 /// and holds neither the movie nor the store: what reads takes them again.
 #[derive(Drop)]
 pub struct Walk {
     pub(crate) track: usize,
     pub(crate) place: Place,
-    /// The `moof` in hand, and the bytes of its payload: the first `used` of the room.
-    pub(crate) moof: TopBox,
+    /// The `traf` in hand, and the bytes of its payload: the first `used` of the room.
+    pub(crate) traf: OwnTraf,
     pub(crate) bytes: Vec<u8>,
     pub(crate) used: usize,
-    /// What was due where the `moof` in hand was loaded; none where the tables are in hand.
+    /// What was due where the `traf` in hand was loaded; none where the tables are in hand.
     pub(crate) before: Option<Due>,
     /// When the first sample behind what is in hand is due, and how many samples of the track lie
     /// there.
     pub(crate) due: u64,
     pub(crate) left: u32,
-    /// Where the next `moof` is looked for.
-    pub(crate) next: u64,
+    /// Which of the track's `traf`s is the next.
+    pub(crate) next: usize,
     /// Where the walk goes back to.
     pub(crate) mark: Mark,
 }
 
+// Before the first `traf`.
+const NO_TRAF: OwnTraf = OwnTraf {
+    at: 0,
+    len: 0,
+    base: 0,
+};
+
 impl Movie {
     /// A walk over the samples of the track at this place among the tracks. All room that it needs
-    /// is made here: for the longest `moof` that has samples of the track. It stands before the
+    /// is made here: for the longest `traf` that has samples of the track. It stands before the
     /// first sample, and has marked this place.
     pub fn walk(&self, alloc: Global, track: usize) -> Result<Walk, Memory>
         requires { track < length self.now.tracks }
@@ -97,17 +104,17 @@ impl Movie {
         let mark = Mark {
             track,
             place: Place::Tables(cursor.place()),
-            moof: self.top,
+            traf: NO_TRAF,
             before: None,
             due: due_first(info.start, state.time),
             left: info.samples.saturating_sub(state.count),
-            next: self.fragments.unwrap_or(self.file_len),
+            next: 0,
             to_come: info.samples,
         };
         Ok(Walk {
             track,
             place: mark.place,
-            moof: self.top,
+            traf: NO_TRAF,
             bytes,
             used: 0,
             before: None,
@@ -128,20 +135,18 @@ fn due_first(start: u64, time: u128) -> u64
 }
 
 impl Walk {
-    /// The samples left of what is in memory: of the tables, or of a `moof`.
+    /// The samples left of what is in memory: of the tables, or of a `traf`.
     pub fn in_hand<'a>(&'a self, movie: &'a Movie) -> InHand<'a>
         requires { IsWalkOf movie.now self.now }
         ensures hand { InHandOf movie.entry.now self.entry.now result }
         ensures movie { IsMovie movie.entry.now }
     {
-        let states = movie.states();
         match self.place {
             Place::Tables(place) => {
                 InHand::Tables(TableCursor::at(&movie.tables_of(self.track), place))
             }
             Place::Fragment(place) => {
-                let view = FragView::again(self.moof.view(&self.bytes[..self.used]));
-                InHand::Fragment(FragCursor::at(&view, states, place))
+                InHand::Fragment(FragCursor::at(&self.bytes[..self.used], place))
             }
         }
     }
@@ -155,7 +160,7 @@ impl Walk {
         self.place = place;
     }
 
-    // Takes the samples of the `moof` in the room into hand, and says whether there are any. Where
+    // Takes the samples of the `traf` in the room into hand, and says whether there are any. Where
     // there are more than are left, the store has changed. All of its samples are in hand then, and
     // as many less are left.
     pub(crate) fn take<L: Ledger>(
@@ -164,22 +169,23 @@ impl Walk {
         steps: &mut Steps<L>,
     ) -> Result<bool, Refusal>
         requires movie { GoesOn movie.now self.old }
-        requires moof { HasMoof self.old }
+        requires traf { HasTraf self.old }
         ensures hand { OnOk result (HasInHand movie.now self.old self.new
             (record { time = self.old.due; left = self.old.left })) }
         ensures counts { OnOk result (CountsOff movie.now self.old self.new) }
         ensures keeps { KeepsRoom self.old self.new }
-        ensures taken { TakesNextMoof movie.now self.old self.new result }
+        ensures taken { TakesNextTraf movie.now self.old self.new result }
         ensures some { IfOk result (λ some. IsTrue some → HasSome movie.now self.new) }
         ensures grows { steps.old ≤ steps.new }
         ensures work { MatchResult result (λ _. steps.new ≤ steps.old
-            + moof_steps (moof_box self.old) + steps_to self.new.place)
+            + traf_steps (traf_box self.old) + steps_to self.new.place)
             (λ _. steps.new ≡ steps.old) }
         ensures refusal { IfErr result (λ r. r ≡ refusals.StoreChanged) }
     {
-        let view = FragView::again(self.moof.view(&self.bytes[..self.used]));
         let info = movie.tracks()[self.track];
-        let cursor = FragCursor::start(&view, movie.states(), info.id, self.due, info.keys);
+        let (base, trex) = (self.traf.base, movie.trex_of(self.track));
+        let bytes = &self.bytes[..self.used];
+        let cursor = FragCursor::start(bytes, base, info.id, trex, self.due, info.keys);
         let Some(counts) = cursor.counts(self.left) else {
             return Err(Refusal::StoreChanged);
         };
@@ -195,7 +201,7 @@ impl Walk {
         Ok(counts.samples > 0)
     }
 
-    /// Reads the next `moof` that has samples of the track, where nothing is left in hand; false
+    /// Reads the next `traf` that has samples of the track, where nothing is left in hand; false
     /// where there is none. It takes no memory. Where the store has another length, or other
     /// samples than it had when the movie was opened, so far as their number shows it, the answer
     /// is StoreChanged.
@@ -216,8 +222,7 @@ impl Walk {
             (λ file tree t earlier later. (hand : InHand) → InHandOf movie.now self.old hand
             → left_in_hand hand ≡ []
             → IfOk result (λ more. more ≡ false → Comes file tree t movie.now self.new [])) }
-        ensures answer { IfOk result
-            (IsLoaded (length (S.file store.old)) movie.now self.old self.new) }
+        ensures answer { IfOk result (IsLoaded movie.now self.old self.new) }
         ensures grows { steps.old ≤ steps.new }
         ensures work { TakesSteps S.Store store.old movie.now self.old self.new result steps.old
             steps.new }
@@ -231,15 +236,13 @@ impl Walk {
         if self.left == 0 {
             return Ok(false);
         }
-        let Some(from) = movie.own_from(self.track, self.next) else {
+        let Some(traf) = movie.own_traf(self.track, self.next) else {
             return Err(Refusal::StoreChanged);
         };
-        let Some(top) = next_fragment(store, from)? else {
-            return Err(Refusal::StoreChanged);
-        };
-        self.used = read_payload(store, top, self.bytes.as_mut_slice())?;
-        self.moof = top;
-        self.next = top.header.end;
+        read_range(store, traf.at, traf.len, self.bytes.as_mut_slice())?;
+        self.used = traf.len;
+        self.traf = traf;
+        self.next += 1;
         if self.take(movie, steps)? {
             Ok(true)
         } else {

@@ -185,10 +185,11 @@ fn short_reads_read_ahead(rt: HostRuntime) -> Result<(), Fail> {
         assert!(rt; are_from(5016, &payload));
         assert_eq!(rt; store.read_at(9080, &mut header), Ok(()));
         assert!(rt; are_from(9080, &header));
+        // Neither a header nor behind these bytes.
         assert_eq!(rt; store.read_at(70_000, &mut payload), Ok(()));
         assert!(rt; are_from(70_000, &payload));
     }
-    assert_eq!(rt; (below.reads, below.last), (2, 4096));
+    assert_eq!(rt; (below.reads, below.last), (2, 1024));
     Ok(())
 }
 
@@ -196,19 +197,37 @@ fn short_reads_read_ahead(rt: HostRuntime) -> Result<(), Fail> {
 fn other_reads_go_below(rt: HostRuntime) -> Result<(), Fail> {
     let mut below = below_for(usize::MAX);
     let mut header = [0u8; 16];
-    let mut payload = [0u8; 2049];
+    let mut payload = [0u8; 2057];
     {
         let mut store = BufferedStore::new(rt.alloc(), &mut below)?;
         assert!(rt; 100_000 <= store.len());
-        // More than a fourth of what would be read ahead, and nothing was.
-        assert_eq!(rt; store.read_at(100, &mut payload), Ok(()));
-        assert!(rt; are_from(100, &payload));
-        assert_eq!(rt; store.read_at(8000, &mut header), Ok(()));
-        // Its last byte lies behind those that were read ahead.
-        assert_eq!(rt; store.read_at(10_048, &mut payload), Ok(()));
-        assert!(rt; are_from(10_048, &payload));
+        assert_eq!(rt; store.read_at(40_000, &mut header), Ok(()));
+        // More than a fourth of what would be read ahead, and its last byte lies behind those that
+        // were.
+        assert_eq!(rt; store.read_at(42_040, &mut payload), Ok(()));
+        assert!(rt; are_from(42_040, &payload));
     }
-    assert_eq!(rt; (below.reads, below.last), (3, 2049));
+    assert_eq!(rt; (below.reads, below.last), (2, 2057));
+    Ok(())
+}
+
+#[test]
+fn headers_and_data_by_turns(rt: HostRuntime) -> Result<(), Fail> {
+    let mut below = below_for(usize::MAX);
+    let mut header = [0u8; 16];
+    let mut payload = [0u8; 1000];
+    {
+        let mut store = BufferedStore::new(rt.alloc(), &mut below)?;
+        assert!(rt; 100_000 <= store.len());
+        // The first of the data is read as it is, the second reads ahead.
+        for turn in 0u64..5 {
+            assert_eq!(rt; store.read_at(16 * turn, &mut header), Ok(()));
+            assert!(rt; are_from(16 * turn, &header));
+            assert_eq!(rt; store.read_at(50_000 + 1000 * turn, &mut payload), Ok(()));
+            assert!(rt; are_from(50_000 + 1000 * turn, &payload));
+        }
+    }
+    assert_eq!(rt; (below.reads, below.last), (3, 4096));
     Ok(())
 }
 
@@ -218,10 +237,10 @@ fn how_far_is_read_ahead(rt: HostRuntime) -> Result<(), Fail> {
     // Each place is read in turn. The first two lie near one another; of the third one it counts
     // whether it lies near behind them, far behind, near in front, far in front, or at the end.
     for (first, second, third, want) in [
-        (0u64, 20_000u64, 44_576u64, 16_384usize),
-        (0, 20_000, 44_577, 4096),
-        (0, 20_000, 3616, 16_384),
-        (0, 20_000, 3615, 4096),
+        (0u64, 20_000u64, 44_608u64, 8224usize),
+        (0, 20_000, 44_609, 4096),
+        (0, 20_000, 3600, 8224),
+        (0, 20_000, 3599, 4096),
         (60_000, 80_000, 99_984, 16),
     ] {
         let mut below = below_for(usize::MAX);
@@ -235,6 +254,23 @@ fn how_far_is_read_ahead(rt: HostRuntime) -> Result<(), Fail> {
         }
         assert_eq!(rt; (below.reads, below.last), (3, want));
     }
+    Ok(())
+}
+
+#[test]
+fn headers_backwards(rt: HostRuntime) -> Result<(), Fail> {
+    let mut below = below_for(usize::MAX);
+    let mut header = [0u8; 16];
+    {
+        let mut store = BufferedStore::new(rt.alloc(), &mut below)?;
+        assert!(rt; 100_000 <= store.len());
+        for turn in 0u64..4 {
+            assert_eq!(rt; store.read_at(90_000 - 1000 * turn, &mut header), Ok(()));
+            assert!(rt; are_from(90_000 - 1000 * turn, &header));
+        }
+    }
+    // The second of them from 86,944 on.
+    assert_eq!(rt; (below.reads, below.last), (2, 8224));
     Ok(())
 }
 

@@ -20,8 +20,9 @@ use Rattle.mp4_present.proofs.DenotedValid.{denoted_is_valid}
 use Rattle.mp4norm.specs.format.CompareHeadline.{IsVerdict, ComparesWithin}
 use Rattle.mp4norm.specs.format.Steps.{WorksWithin, most_steps, row_total}
 use Rattle.mp4_present.specs.words.Compared.{files_differ}
-use Rattle.mp4norm.specs.words.Compares.{side_of, says_nothing, IsSaid, ListsFront, WalksTwice, RefusesBoth, RefusesCompare}
+use Rattle.mp4norm.specs.words.Compares.{side_of, says_nothing, IsSaid, ListsFront, WalksThrice, RefusesBoth, RefusesCompare}
 use Rattle.mp4norm.specs.declared.comparing.Failure.{Failure}
+use Rattle.mp4norm.proofs.StepSums.{two_walks}
 use Rattle.mp4norm.proofs.StepsTaken.{opened_within, written_within}
 
 pub listed_front : (old new : List Difference) (whole : Bool) (ds : List Difference) → old ≡ [] → (whole ≡ true → new ≡ old ++ ds) → TakesFront old new ds → (whole ≡ true) ⊎ (0 < length new) → ListsFront new ds
@@ -61,8 +62,14 @@ first_said first (d ∷ ds) e = subst (λ (f : Option Difference). IsSaid f (d �
 pub once_of_two : (old new a b : ℕ) → new ≤ old + (a + b) → new ≤ old + 2 * (a + b)
 once_of_two old new a b h = omega (arith, h)
 
+pub once_of_three : (old new a b : ℕ) → new ≤ old + (a + b) → new ≤ old + 3 * (a + b)
+once_of_three old new a b h = omega (arith, h)
+
 pub both_of_two : (old mid new a b : ℕ) → mid ≤ old + (a + b) → new ≤ mid + (a + b) → new ≤ old + 2 * (a + b)
 both_of_two old mid new a b g h = omega (arith, g, h)
+
+pub both_of_three : (old mid new a b : ℕ) → mid ≤ old + (a + b) → new ≤ mid + 2 * (a + b) → new ≤ old + 3 * (a + b)
+both_of_three old mid new a b g h = omega (arith, g, h)
 
 -- ---- the answer
 
@@ -102,6 +109,7 @@ together First Second honest honest_right l m r s held puts refusals.NoSuchTrack
 none_taken : (file : List ℕ) (n : ℕ) → WorksWithin file n n
 none_taken file n = record {
   denoted = λ p d. let rest = most_steps (length p.tracks) (sample_total p) (row_total d.tree) in omega arith;
+  few = λ p d. let rest = sample_total p + row_total d.tree in omega arith;
   refused = λ nothing. inl refl;
 }
 
@@ -117,13 +125,13 @@ both_looked file other m old mid new a opening second = record {
   second = second;
 }
 
--- both were opened, and walked over at most twice
+-- both were opened, and walked over at most three times
 pub both_walked : (file other : List ℕ) (m n : MovieSeen) (old mid behind new : ℕ) → ((tree : FileTree) × IsOpenedAs file m tree) → ((tree : FileTree) × IsOpenedAs other n tree) → ((tree : FileTree) → IsFileTree file tree → mid ≤ old + opening_steps tree)
-    → ((tree : FileTree) → IsFileTree other tree → behind ≤ mid + opening_steps tree) → ((tree next : FileTree) → IsOpenedAs file m tree → IsOpenedAs other n next → WalksTwice tree next behind new) → ComparesWithin file other old new
+    → ((tree : FileTree) → IsFileTree other tree → behind ≤ mid + opening_steps tree) → ((tree next : FileTree) → IsOpenedAs file m tree → IsOpenedAs other n next → WalksThrice tree next behind new) → ComparesWithin file other old new
 both_walked file other m n old mid behind new a b opening next walks =
     record {
-      between = mid + 2 * walks_steps a.0;
-      first = opened_within file old (mid + 2 * walks_steps a.0) m a.0 mid a.1 (opening a.0 a.1.is_tree) (omega arith);
-      second = opened_within other (mid + 2 * walks_steps a.0) new n b.0 (mid + 2 * walks_steps a.0 + opening_steps b.0) b.1 (omega arith)
-          (let more = walks a.0 b.0 a.1 b.1 in let opened = next b.0 b.1.is_tree in omega (arith, more, opened));
+      between = mid + 3 * walks_steps a.0;
+      first = opened_within file old (mid + 3 * walks_steps a.0) m a.0 mid a.1 (opening a.0 a.1.is_tree) (omega (arith, two_walks a.0));
+      second = opened_within other (mid + 3 * walks_steps a.0) new n b.0 (mid + 3 * walks_steps a.0 + opening_steps b.0) b.1 (omega arith)
+          (let more = walks a.0 b.0 a.1 b.1 in let opened = next b.0 b.1.is_tree in omega (arith, more, opened, two_walks b.0));
     }

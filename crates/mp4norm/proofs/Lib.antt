@@ -12,6 +12,7 @@ pub mod WalkLines
 pub mod TrackTexts
 pub mod Matched
 pub mod Normalised
+mod WholePut
 pub mod StepSums
 pub mod StepsTaken
 pub mod LooksTaken

@@ -28,11 +28,11 @@ use Rattle.mp4norm.proofs.ShownLines.{denoted}
 
 -- ---- sums
 
-one_place : (f : FragmentTree) → IsFragmentTree f → moof_looks f.moof ≡ 1 + length (fragment_of f).trafs
+one_place : (f : FragmentTree) → IsFragmentTree f → moof_looks f.moof ≡ length (fragment_of f).trafs
 unfolding moof_looks
-one_place f h = ap (λ (x : Fragment). 1 + length x.trafs) (sym (tree_said f h))
+one_place f h = ap (λ (x : Fragment). length x.trafs) (sym (tree_said f h))
 
-places_sum : (fragments : List FragmentTree) → AllByRecursion IsFragmentTree fragments → sum_of (λ (t : FragmentTree). moof_looks t.moof) fragments ≡ sum_of (λ (f : FragmentTree). 1 + length (fragment_of f).trafs) fragments
+places_sum : (fragments : List FragmentTree) → AllByRecursion IsFragmentTree fragments → sum_of (λ (t : FragmentTree). moof_looks t.moof) fragments ≡ sum_of (λ (f : FragmentTree). length (fragment_of f).trafs) fragments
 places_sum [] h = refl
 places_sum (f ∷ fragments) h =
     let own = one_place f h.0 in

@@ -1,5 +1,6 @@
 -- The steps of opening a file, of planning and of writing are within the bound.
-use Rattle.std.proofs.Common.{◌≡◌, ℕ, zero, suc, ◌+◌, ◌*◌, ◌≤◌, List, [], ◌∷◌, Some, length, map, refl, sym, ap, subst, ◌∙◌, arith, mul-le-mul_left}
+use Rattle.std.proofs.Common.{◌≡◌, ℕ, zero, suc, ◌+◌, ◌*◌, ◌≤◌, List, [], ◌∷◌, Some, length, map, refl, sym, ap, subst, ◌∙◌, arith}
+use Rattle.std.proofs.Math.Nat.{mul-le-mul_right}
 use Rattle.std.proofs.lemmas.List.{length-map}
 use Rattle.std.specs.List.{AllByRecursion, slice_get}
 use Rattle.mp4_boxes.specs.format.Bytes.{sum_of}
@@ -12,12 +13,15 @@ use Rattle.mp4_frag.specs.format.FragmentSamples.{Part, all_parts, parts_of, par
 use Rattle.mp4_frag.specs.format.FragmentRows.{fragment_rows, fragment_length}
 use Rattle.mp4_frag.specs.declared.trex.Trex.{Trex}
 use Rattle.mp4_frag.proofs.SaidSamples.{tree_said, parts_said}
-use Rattle.mp4_head.specs.format.Tree.{TrackTree, IsTrackTree, trexes_of}
-use Rattle.mp4_present.specs.format.Denotes.{FileTree, IsFileTree, IsConsistent, Denotes, plain_of, surroundings, file_parts, presentation_of, track_of}
+use Rattle.mp4_head.specs.format.Tree.{TrackTree, IsTrackTree, track_head_of, trexes_of}
+use Rattle.mp4_present.specs.format.Denotes.{FileTree, IsFileTree, IsSoundFile, IsConsistent, Denotes, plain_of, surroundings, file_parts, presentation_of, track_of}
 use Rattle.mp4_present.specs.format.Presentation.{Presentation, sample_total}
 use Rattle.mp4_present.specs.format.Stands.{table_total}
-use Rattle.mp4_present.specs.words.WalkSteps.{moof_steps, moofs_steps, table_steps, opening_steps, table_way, walk_steps, walks_steps}
-use Rattle.mp4_plan.specs.words.WriterSteps.{writing_steps}
+use Rattle.mp4_present.specs.words.WalkSteps.{moof_steps, moofs_steps, trafs_steps, table_steps, opening_steps, table_way, walk_steps, walks_steps}
+use Rattle.mp4_present.specs.words.SamplesComing.{own_trafs}
+use Rattle.mp4_present.proofs.OwnPlaced.{own_steps}
+use Rattle.mp4_present.proofs.OwnSums.{owns_few}
+use Rattle.mp4_plan.specs.words.WriterSteps.{track_writes, writing_steps}
 use Rattle.mp4_present.proofs.Counts.{parts_total, sum-append, sizes_few, fragments_total, total_is, all_belong}
 use Rattle.mp4norm.specs.format.Steps.{row_total, most_steps}
 
@@ -34,10 +38,18 @@ unfolding table_steps
 checks_sum [] = refl
 checks_sum (t ∷ tracks) = let more = checks_sum tracks in omega (arith, more)
 
-ways_sum : (m : ℕ) (tracks : List TrackTree) → sum_of (λ (t : TrackTree). table_way t + m) tracks ≡ rows_of tracks + 3 * plain_total tracks + length tracks * m
+-- the own `traf`s of each of these tracks
+abbrev owns_total : FileTree → List TrackTree → ℕ
+owns_total tree tracks = sum_of (λ (t : TrackTree). trafs_steps (own_trafs tree t)) tracks
+
+ways_sum : (tree : FileTree) (tracks : List TrackTree) → sum_of (walk_steps tree) tracks ≡ rows_of tracks + 3 * plain_total tracks + 2 * owns_total tree tracks
 unfolding table_way
-ways_sum m [] = omega arith
-ways_sum m (t ∷ tracks) = let more = ways_sum m tracks in omega (arith, more)
+ways_sum tree [] = refl
+ways_sum tree (t ∷ tracks) = let more = ways_sum tree tracks in omega (arith, more)
+
+writes_sum : (tree : FileTree) (tracks : List TrackTree) → sum_of (track_writes tree) tracks ≡ 2 * sum_of (walk_steps tree) tracks + 2 * owns_total tree tracks
+writes_sum tree [] = refl
+writes_sum tree (t ∷ tracks) = let more = writes_sum tree tracks in omega (arith, more)
 
 plain_counted : (file : List ℕ) (tracks : List TrackTree) → AllByRecursion IsTrackTree tracks → AllByRecursion (λ (t : TrackTree). Fit (surroundings file t) (tables_of t.table)) tracks → plain_total tracks ≡ table_total tracks
 plain_counted file [] trees fit = refl
@@ -61,22 +73,39 @@ moofs_sum trexes (f ∷ fragments) h =
     let samples = parts_said trexes (fragment_of f) in
     omega (arith, own, others, split, samples)
 
+-- writing is two walks over each track at least
+pub two_walks : (tree : FileTree) → 2 * walks_steps tree ≤ writing_steps tree
+two_walks tree = let sum = writes_sum tree tree.movie.tracks in omega (arith, sum)
+
 -- ---- the bound
 
--- of tracks with so many samples and rows in tables, where each `moof`'s steps are within the other samples and rows
-bounded : (k m s f r more checks ways : ℕ) → (k ≡ 0 → r + s ≡ 0) → m ≤ f + more → checks ≡ 7 * r + 3 * s → ways ≡ r + 3 * s + k * (2 * m) → (checks + m) + (ways + (2 * ways + k * (2 * m))) ≤ 8 * ((k + 1) * ((s + f) + (r + more)))
-bounded zero m s f r more checks ways none le c w = let n = none refl in omega (arith, n, le, c, w)
-bounded (suc k) m s f r more checks ways none le c w =
-    let grow = mul-le-mul_left (suc k) le in
-    let small : r + s ≤ (suc k) * (r + s) = omega arith in
-    omega (arith, grow, small, le, c, w)
+-- of tracks with so many samples and rows in tables, where each `moof`'s steps are within the other samples and rows, and those of the tracks' own `traf`s within the `moof`s'
+few_steps : (m o s f r more checks ways writes : ℕ) → o ≤ m → m ≤ f + more → checks ≡ 7 * r + 3 * s → ways ≡ r + 3 * s + 2 * o → writes ≡ 2 * ways + 2 * o → (checks + m) + (ways + writes) ≤ 12 * ((s + f) + (r + more))
+few_steps m o s f r more checks ways writes own le c w x = omega (arith, own, le, c, w, x)
+
+bounded : (k m o s f r more checks ways writes : ℕ) → (k ≡ 0 → r + s ≡ 0) → (k ≡ 0 → o ≡ 0) → o ≤ m → m ≤ f + more → checks ≡ 7 * r + 3 * s → ways ≡ r + 3 * s + 2 * o → writes ≡ 2 * ways + 2 * o
+    → (checks + m) + (ways + writes) ≤ 8 * ((k + 1) * ((s + f) + (r + more)))
+bounded zero m o s f r more checks ways writes none idle own le c w x = let n = none refl in let i = idle refl in omega (arith, n, i, le, c, w, x)
+bounded (suc k) m o s f r more checks ways writes none idle own le c w x =
+    let few = few_steps m o s f r more checks ways writes own le c w x in
+    let two : 2 * ((s + f) + (r + more)) ≤ (suc k + 1) * ((s + f) + (r + more)) = mul-le-mul_right ((s + f) + (r + more)) (omega arith) in
+    omega (arith, few, two)
 
 none_of : (tracks : List TrackTree) → length tracks ≡ 0 → rows_of tracks + plain_total tracks ≡ 0
 none_of [] e = refl
 none_of (t ∷ tracks) e = absurd (omega (arith, e))
 
-tree_within : (file : List ℕ) (tree : FileTree) → IsFileTree file tree → IsConsistent file tree → opening_steps tree + (walks_steps tree + writing_steps tree) ≤ most_steps (length (presentation_of file tree).tracks) (sample_total (presentation_of file tree)) (row_total tree)
-tree_within file tree h c =
+idle_of : (tree : FileTree) (tracks : List TrackTree) → length tracks ≡ 0 → owns_total tree tracks ≡ 0
+idle_of tree [] e = refl
+idle_of tree (t ∷ tracks) e = absurd (omega (arith, e))
+
+-- the steps of opening, planning and writing are within both bounds
+abbrev pub WithinBoth : FileTree → ℕ → ℕ → Type 0
+WithinBoth tree tracks samples = (opening_steps tree + (walks_steps tree + writing_steps tree) ≤ most_steps tracks samples (row_total tree))
+    × (opening_steps tree + (walks_steps tree + writing_steps tree) ≤ 12 * (samples + row_total tree))
+
+tree_within : (file : List ℕ) (tree : FileTree) → IsFileTree file tree → IsSoundFile tree → IsConsistent file tree → WithinBoth tree (length (presentation_of file tree).tracks) (sample_total (presentation_of file tree))
+tree_within file tree h s c =
     let tracks = tree.movie.tracks in
     let fragments = tree.fragments in
     let parts = file_parts tree in
@@ -86,13 +115,17 @@ tree_within file tree h c =
     let moofs = moofs_sum (trexes_of tree.movie) fragments h.fragments in
     let known = all_belong tree.movie parts c.known in
     let few : moofs_steps fragments ≤ fragments_total parts tracks + fragment_rows_of fragments = omega (arith, moofs, known) in
-    let all = bounded (length tracks) (moofs_steps fragments) (plain_total tracks) (fragments_total parts tracks) (rows_of tracks) (fragment_rows_of fragments) (sum_of table_steps tracks) (walks_steps tree) (none_of tracks) few (checks_sum tracks) (ways_sum (2 * moofs_steps fragments) tracks) in
-    subst (λ n. opening_steps tree + (walks_steps tree + writing_steps tree) ≤ most_steps n (sample_total (presentation_of file tree)) (row_total tree)) (sym count)
-    (subst (λ n. opening_steps tree + (walks_steps tree + writing_steps tree) ≤ most_steps (length tracks) n (row_total tree)) (sym total) all)
+    let own = owns_few file tree h s.movie in
+    let m = moofs_steps fragments in
+    let o = owns_total tree tracks in
+    let all = bounded (length tracks) m o (plain_total tracks) (fragments_total parts tracks) (rows_of tracks) (fragment_rows_of fragments) (sum_of table_steps tracks) (walks_steps tree) (writing_steps tree)
+    (none_of tracks) (idle_of tree tracks) own few (checks_sum tracks) (ways_sum tree tracks) (writes_sum tree tracks) in
+    let short = few_steps m o (plain_total tracks) (fragments_total parts tracks) (rows_of tracks) (fragment_rows_of fragments) (sum_of table_steps tracks) (walks_steps tree) (writing_steps tree) own few (checks_sum tracks) (ways_sum tree tracks) (writes_sum tree tracks) in
+    subst (λ n. WithinBoth tree n (sample_total (presentation_of file tree))) (sym count) (subst (λ n. WithinBoth tree (length tracks) n) (sym total) (all, short))
 
 -- opening a file, planning and writing
-pub all_within : (file : List ℕ) (p : Presentation) (d : Denotes file p) → opening_steps d.tree + (walks_steps d.tree + writing_steps d.tree) ≤ most_steps (length p.tracks) (sample_total p) (row_total d.tree)
-all_within file p d = subst (λ (q : Presentation). opening_steps d.tree + (walks_steps d.tree + writing_steps d.tree) ≤ most_steps (length q.tracks) (sample_total q) (row_total d.tree)) (sym d.says) (tree_within file d.tree d.is_tree d.is_consistent)
+pub all_within : (file : List ℕ) (p : Presentation) (d : Denotes file p) → WithinBoth d.tree (length p.tracks) (sample_total p)
+all_within file p d = subst (λ (q : Presentation). WithinBoth d.tree (length q.tracks) (sample_total q)) (sym d.says) (tree_within file d.tree d.is_tree d.is_sound d.is_consistent)
 
 -- ---- a look, and a way over one track
 
@@ -127,4 +160,5 @@ opened_looks file p d = subst (λ (q : Presentation). opening_steps d.tree ≤ 8
 pub walked_looks : (file : List ℕ) (p : Presentation) (d : Denotes file p) (k : ℕ) (t : TrackTree) → slice_get d.tree.movie.tracks k ≡ Some t → opening_steps d.tree + walk_steps d.tree t ≤ 8 * (sample_total p + row_total d.tree)
 walked_looks file p d k t is =
     let way = way_at d.tree.movie.tracks k t is in
-    subst (λ (q : Presentation). opening_steps d.tree + walk_steps d.tree t ≤ 8 * (sample_total q + row_total d.tree)) (sym d.says) (tree_looks file d.tree (walk_steps d.tree t) (omega (arith, way)) d.is_tree d.is_consistent)
+    let own = own_steps d.tree.movie (track_head_of t).id d.tree.fragments d.is_tree.fragments in
+    subst (λ (q : Presentation). opening_steps d.tree + walk_steps d.tree t ≤ 8 * (sample_total q + row_total d.tree)) (sym d.says) (tree_looks file d.tree (walk_steps d.tree t) (omega (arith, way, own)) d.is_tree d.is_consistent)

@@ -49,6 +49,7 @@ module _ (file : List ℕ) (old new : ℕ) where
       let l = not_looked honest reads reads_after r told refuses work within in
       record {
         denoted = λ p d. let own = l.denoted p d in let more = few_times (length p.tracks) (sample_total p + row_total d.tree) in omega (arith, own, more);
+        few = λ p d. let own = l.denoted p d in omega (arith, own);
         refused = l.refused;
       }
 
@@ -58,7 +59,12 @@ module _ (file : List ℕ) (old new : ℕ) where
     denoted = λ p d.
         let same = file_tree_one file tree d.tree o.is_tree d.is_tree in
         let own = subst (λ (t : FileTree). new ≤ old + (opening_steps t + (walks_steps t + writing_steps t))) same (omega (arith, opening, walks)) in
-        let all = all_within file p d in
+        let all = (all_within file p d).0 in
+        omega (arith, own, all);
+    few = λ p d.
+        let same = file_tree_one file tree d.tree o.is_tree d.is_tree in
+        let own = subst (λ (t : FileTree). new ≤ old + (opening_steps t + (walks_steps t + writing_steps t))) same (omega (arith, opening, walks)) in
+        let all = (all_within file p d).1 in
         omega (arith, own, all);
     refused = λ nothing. absurd (nothing (presentation_of file tree) (denoted file m tree o));
   }

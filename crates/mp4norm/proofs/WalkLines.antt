@@ -6,7 +6,7 @@ use Rattle.std.specs.Io.KnownBytes.{Appends}
 use Rattle.mp4_store.specs.words.Device.{AppendsPrefix}
 use Rattle.mp4_store.proofs.Known.{Appends-then, AppendsPrefix-longer}
 use Rattle.mp4_tables.specs.declared.sample.SampleAt.{SampleAt}
-use Rattle.mp4_frag.specs.format.Fragments.{FragmentTree}
+use Rattle.mp4_frag.specs.words.OwnTrafs.{PlacedTraf}
 use Rattle.mp4_head.specs.format.Tree.{TrackTree}
 use Rattle.mp4_present.specs.words.Carried.{BytesGoOn}
 use Rattle.mp4_present.specs.words.SamplesComing.{StandsBefore, Comes, samples_behind}
@@ -24,8 +24,8 @@ use Rattle.mp4norm.proofs.SampleTexts.{lines-append}
 
 -- The lines of the first samples are put or wait; the next one has this number, and those behind these `moof`s are to come.
 pub record LinesGoOn (form : Form) (file : List ℕ) (tree : FileTree) (t : TrackTree) (before after : Option (List ℕ)) (held held_after : List ℕ) (number : ℕ) (w : Walk) (all : List SampleAt) : Type 0 where
-  pub earlier : List FragmentTree
-  pub later : List FragmentTree
+  pub earlier : List PlacedTraf
+  pub later : List PlacedTraf
   pub stands : StandsBefore file tree t earlier later w
   pub goes : Going before after held held_after (sample_at_lines form number (samples_behind tree t earlier later)) (sample_at_lines form 1 all)
   pub count : number + length (samples_behind tree t earlier later) ≡ 1 + length all

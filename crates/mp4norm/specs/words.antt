@@ -13,3 +13,4 @@ pub mod OverFiles
 pub mod ListedWalks
 pub mod StripSpans
 pub mod AddedWays
+pub mod WholePut

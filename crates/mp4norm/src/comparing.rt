@@ -1,7 +1,7 @@
 //! Two files, compared by what they say.
 ghost use Rattle.std.specs.Prelude.{◌≡◌, ◌<◌, length, IfOk, IfErr, IfSome};
 ghost use Rattle.mp4norm.specs.format.CompareHeadline.{IsVerdict, ComparesWithin, FindsBothWithin};
-ghost use Rattle.mp4norm.specs.words.Compares.{side_of, says_nothing, IsSaid, ListsFront, PutsAnswer, WalksTwice, RefusesAnswer};
+ghost use Rattle.mp4norm.specs.words.Compares.{side_of, says_nothing, IsSaid, ListsFront, PutsAnswer, WalksTwice, WalksThrice, RefusesAnswer};
 ghost use Rattle.mp4_present.specs.words.OverStores.{IsUnchanged, WhereBothHonest};
 ghost use Rattle.mp4norm.specs.words.OverDevices.{NoPutFails};
 ghost use Rattle.mp4_present.specs.words.Compared.{OfFiles, WhereOpenedBoth};
@@ -199,6 +199,29 @@ fn enough_of<S: Store, T: Store, L: Ledger>(
     }
 }
 
+// The words without which two opened files are the same: those that the differences ask for that
+// are held. Of a list that was cut the rest isn't known: where these aren't enough, all are tried.
+fn enough_for<S: Store, T: Store, L: Ledger>(
+    alloc: Global,
+    left: &Movie,
+    a: &mut S,
+    right: &Movie,
+    b: &mut T,
+    more: Option<Leaving>,
+    is_whole: bool,
+    steps: &mut Steps<L>,
+) -> Result<Option<Leaving>, Refusal>
+    ensures stores { ReadsBoth S.Store a.old a.new T.Store b.old b.new result }
+    ensures opened { WhereOpenedBoth S.Store a.old left.now T.Store b.old right.now
+        (λ tree other. IsUnchanged result × WalksTwice tree other steps.old steps.new) }
+{
+    let enough = enough_of(alloc, left, a, right, b, more, steps)?;
+    if enough.is_some() || more.is_none() || is_whole {
+        return Ok(enough);
+    }
+    enough_of(alloc, left, a, right, b, Some(EVERYTHING), steps)
+}
+
 // Compares two opened files, and gives the text of all differences; none where there are none.
 fn all_text<S: Store, T: Store, L: Ledger>(
     alloc: Global,
@@ -215,7 +238,7 @@ fn all_text<S: Store, T: Store, L: Ledger>(
     ensures said { IfOk result (λ text. OfFiles S.Store a.old left.now T.Store b.old right.now
         leaving (IsSaid text)) }
     ensures opened { WhereOpenedBoth S.Store a.old left.now T.Store b.old right.now
-        (λ tree other. IsUnchanged result × WalksTwice tree other steps.old steps.new) }
+        (λ tree other. IsUnchanged result × WalksThrice tree other steps.old steps.new) }
 {
     let (listed, is_whole) = all_of(alloc, left, a, right, b, leaving, steps)?;
     if listed.is_empty() {
@@ -224,13 +247,8 @@ fn all_text<S: Store, T: Store, L: Ledger>(
     let all = counted(listed.all.as_slice());
     let is_whole = is_whole && listed.all.len() <= MOST;
     let tally = Tally::of(all);
-    // Of a list that was cut the rest isn't known: then all words are tried.
-    let more = if is_whole {
-        tally.suggests(leaving)
-    } else {
-        Some(EVERYTHING)
-    };
-    let enough = enough_of(alloc, left, a, right, b, more, steps)?;
+    let more = tally.suggests(leaving);
+    let enough = enough_for(alloc, left, a, right, b, more, is_whole, steps)?;
     Ok(Some(listed_text(alloc, all, limit, is_whole, &tally, enough)?))
 }
 
@@ -250,7 +268,7 @@ fn text_of<S: Store, T: Store, L: Ledger>(
     ensures said { IfOk result (λ text. OfFiles S.Store a.old left.now T.Store b.old right.now
         leaving (IsSaid text)) }
     ensures opened { WhereOpenedBoth S.Store a.old left.now T.Store b.old right.now
-        (λ tree other. IsUnchanged result × WalksTwice tree other steps.old steps.new) }
+        (λ tree other. IsUnchanged result × WalksThrice tree other steps.old steps.new) }
 {
     match listing {
         Listing::First => match compare(alloc, left, a, right, b, leaving, steps)? {

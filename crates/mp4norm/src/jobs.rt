@@ -1,5 +1,7 @@
 //! What a command does over a store.
+ghost use Rattle.std.specs.Prelude.{OnOk};
 ghost use Rattle.mp4norm.specs.words.Jobs.{IsTextOf, RefusesJob, JobWorksWithin, JobLooksWithin};
+ghost use Rattle.mp4norm.specs.words.WholePut.{JobPutsWhole};
 ghost use Rattle.mp4_present.specs.words.OverStores.{WhereHonest};
 ghost use Rattle.mp4norm.specs.words.OverDevices.{Answers, IsOf};
 
@@ -28,6 +30,8 @@ pub fn perform<S: Store, K: Sink, L: Ledger, M: Ledger>(
 ) -> Result<(), Refusal>
     ensures answer { Answers S.Store store.old store.new K.Sink sink.old sink.new result
         (IsTextOf job.entry) (RefusesJob job.entry) }
+    ensures whole { OnOk result
+        (JobPutsWhole job.entry (K.contents sink.old) (K.contents sink.new)) }
     ensures work { WhereHonest S.Store store.old
         (λ file. JobWorksWithin job.entry file steps.old steps.new) }
     ensures looks { WhereHonest S.Store store.old
@@ -59,6 +63,8 @@ pub(crate) fn perform_blank<S: Store, K: Sink, L: Ledger, M: Ledger>(
     requires looks { IsOf M.Ledger looks }
     ensures answer { Answers S.Store store.old store.new K.Sink sink.old sink.new result
         (IsTextOf job.entry) (RefusesJob job.entry) }
+    ensures whole { OnOk result
+        (JobPutsWhole job.entry (K.contents sink.old) (K.contents sink.new)) }
 {
     let mut steps = Steps::<L>::new(steps);
     let mut looks = Steps::<M>::new(looks);

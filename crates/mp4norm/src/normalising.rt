@@ -1,7 +1,10 @@
 //! The normal form of a file.
+ghost use Rattle.std.specs.Prelude.{OnOk};
 ghost use Rattle.mp4norm.specs.format.Headline.{HasNormalForm, Normalises};
 ghost use Rattle.mp4norm.specs.words.MainJob.{RefusesNormalise};
 ghost use Rattle.mp4norm.specs.format.Steps.{WorksWithin, TurnsWithin};
+ghost use Rattle.mp4norm.specs.words.WholePut.{PutsWhole};
+ghost use Rattle.mp4_plan.specs.format.ReducedLaws.{nothing};
 ghost use Rattle.mp4_present.specs.words.OverStores.{WhereHonest};
 ghost use Rattle.mp4norm.specs.words.OverDevices.{Answers, WhereTold};
 
@@ -23,6 +26,7 @@ pub fn normalise_counted<S: Store, K: Sink, L: Ledger, M: Ledger>(
 ) -> Result<(), Refusal>
     ensures answer { Answers S.Store store.old store.new K.Sink sink.old sink.new result
         HasNormalForm RefusesNormalise }
+    ensures whole { OnOk result (PutsWhole nothing (K.contents sink.old) (K.contents sink.new)) }
     ensures work { WhereHonest S.Store store.old (λ file. WorksWithin file steps.old steps.new) }
     ensures looks { WhereHonest S.Store store.old (λ file. TurnsWithin file looks.old looks.new) }
     ensures headline { WhereHonest S.Store store.old (λ file. WhereTold K.Sink sink.old sink.new

@@ -1,7 +1,9 @@
 //! The normal form of what is left of a file, where some of what it says is left out.
-ghost use Rattle.mp4norm.specs.format.ReducedHeadline.{HasReducedForm};
+ghost use Rattle.std.specs.Prelude.{OnOk};
+ghost use Rattle.mp4norm.specs.format.ReducedHeadline.{HasReducedForm, PutsNoneTooLong};
 ghost use Rattle.mp4norm.specs.format.Steps.{WorksWithin, TurnsWithin};
 ghost use Rattle.mp4norm.specs.words.ReducedJob.{RefusesReduced};
+ghost use Rattle.mp4norm.specs.words.WholePut.{PutsWhole};
 ghost use Rattle.mp4_present.specs.words.OverStores.{WhereHonest};
 ghost use Rattle.mp4norm.specs.words.OverDevices.{Answers};
 
@@ -26,6 +28,9 @@ pub fn normalise_reduced<S: Store, K: Sink, L: Ledger, M: Ledger>(
 ) -> Result<(), Refusal>
     ensures answer { Answers S.Store store.old store.new K.Sink sink.old sink.new result
         (HasReducedForm leaving) (RefusesReduced leaving) }
+    ensures long { WhereHonest S.Store store.old
+        (λ file. PutsNoneTooLong leaving file (K.contents sink.old) (K.contents sink.new)) }
+    ensures whole { OnOk result (PutsWhole leaving (K.contents sink.old) (K.contents sink.new)) }
     ensures work { WhereHonest S.Store store.old (λ file. WorksWithin file steps.old steps.new) }
     ensures looks { WhereHonest S.Store store.old (λ file. TurnsWithin file looks.old looks.new) }
 {

@@ -1,7 +1,10 @@
 //! The commands for a caller who doesn't count what they take.
+ghost use Rattle.std.specs.Prelude.{OnOk};
 ghost use Rattle.mp4norm.specs.format.Headline.{HasNormalForm, Normalises};
 ghost use Rattle.mp4norm.specs.words.Commands.{ShowsLine, HasData, ListsSamples, RefusesShow, RefusesData, RefusesListing};
 ghost use Rattle.mp4norm.specs.words.MainJob.{RefusesNormalise};
+ghost use Rattle.mp4norm.specs.words.WholePut.{PutsWhole};
+ghost use Rattle.mp4_plan.specs.format.ReducedLaws.{nothing};
 ghost use Rattle.mp4_present.specs.words.OverStores.{WhereHonest};
 ghost use Rattle.mp4norm.specs.words.OverDevices.{Answers, WhereTold};
 
@@ -22,6 +25,7 @@ pub fn normalise<S: Store, K: Sink>(
 ) -> Result<(), Refusal>
     ensures answer { Answers S.Store store.old store.new K.Sink sink.old sink.new result
         HasNormalForm RefusesNormalise }
+    ensures whole { OnOk result (PutsWhole nothing (K.contents sink.old) (K.contents sink.new)) }
     ensures headline { WhereHonest S.Store store.old (λ file. WhereTold K.Sink sink.old sink.new
         (λ before after. Normalises file before after result)) }
 {

@@ -19,10 +19,13 @@ traf_rows traf = suc (length traf.runs + group_rows traf.groups)
 abbrev pub fragment_rows : Fragment → ℕ
 fragment_rows f = sum_of traf_rows f.trafs
 
--- the samples of its runs
+-- the samples of the runs of a `traf`
+abbrev pub traf_length : TrackFragment → ℕ
+traf_length traf = sum_of (λ (run : Run). length run.rows) traf.runs
+
+-- those of all `traf`s of a `moof`
 abbrev pub fragment_length : Fragment → ℕ
-fragment_length f =
-    sum_of (λ (traf : TrackFragment). sum_of (λ (run : Run). length run.rows) traf.runs) f.trafs
+fragment_length f = sum_of traf_length f.trafs
 
 -- what the boxes of a `moof` say
 abbrev pub moof_says : Box → Fragment

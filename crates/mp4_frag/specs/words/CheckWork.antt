@@ -1,8 +1,10 @@
 -- What the check of a `moof` costs: steps, by what its boxes say and by its bytes, and looks at
 -- tracks.
-use Rattle.std.specs.Prelude.{ℕ, ◌+◌, ◌*◌, ◌<◌, ◌≤◌, length, Result, IfOk}
+use Rattle.std.specs.Prelude.{ℕ, ◌+◌, ◌*◌, ◌<◌, ◌≤◌, length, Result, IfOk, Err}
 use Rattle.mp4_boxes.specs.format.Box.{Box}
-use Rattle.mp4_frag.specs.format.FragmentRows.{traf_rows, fragment_rows, moof_says}
+use Rattle.mp4_boxes.specs.declared.refusal.Refusal.{Refusal}
+use Rattle.mp4_boxes.specs.declared.refusal.Refusal.TheVariants as refusals
+use Rattle.mp4_frag.specs.format.FragmentRows.{traf_rows, fragment_rows, fragment_length, moof_says}
 use Rattle.mp4_frag.specs.words.TrafFaults.{traf_in}
 
 -- the steps of a `traf`, beside the one that its `moof` takes for it, and the samples that it takes
@@ -33,3 +35,13 @@ pub record MoofLooks {T E : Type 0} (moof : Box) (tracks looks more : ℕ) (resu
   pub some : IfOk result (λ view. looks + length (moof_says moof).trafs ≤ more)
   pub each : IfOk result (λ view. more ≤ looks + tracks * length (moof_says moof).trafs)
   pub most : 8 * more ≤ 8 * looks + tracks * length moof.payload
+
+-- it is so where there was no memory
+abbrev pub IfMemory : {T : Type 0} → Result T Refusal → Type 0 → Type 0
+IfMemory (Err refusals.Memory) P = P
+IfMemory _ P = Unit {0}
+
+-- a check that stops before the end of its `moof` takes no more than all of its boxes say
+pub record StopsWithin (moof : Box) (tracks steps more looks later : ℕ) : Type 0 where
+  pub checked : more ≤ steps + (fragment_rows (moof_says moof) + fragment_length (moof_says moof))
+  pub looked : later ≤ looks + tracks * length (moof_says moof).trafs

@@ -1,15 +1,14 @@
--- Places in the payload of a `moof`, and what a walk costs.
-use Rattle.std.specs.Prelude.{◌≡◌, ℕ, suc, ◌+◌, ◌-◌, ◌*◌, ◌<◌, ◌≤◌, cond, List, [], ◌∷◌, length, None, codes, bytes_eq, true}
+-- Places in the payload of a `traf`, and what a walk costs.
+use Rattle.std.specs.Prelude.{◌≡◌, ℕ, suc, ◌+◌, ◌-◌, ◌*◌, ◌≤◌, cond, List, [], ◌∷◌, length, None, codes, bytes_eq}
 use Rattle.mp4_boxes.specs.format.Box.{Box}
 use Rattle.mp4_boxes.specs.format.Layout.{trun, sbgp, row_count}
 use Rattle.mp4_tables.specs.words.Indexes.{AreIndexPlaces}
 use Rattle.mp4_frag.specs.words.ColumnsRead.{row_room}
 use Rattle.mp4_tables.specs.declared.sample.SampleAt.{SampleAt}
-use Rattle.mp4_frag.specs.words.Walks.{Reached, can_read, part_of, boxes_in, boxes_between, with_leaves, before_traf, rows_here, rows_coming, reached, walk_of, coming}
+use Rattle.mp4_frag.specs.words.Walks.{Reached, can_read, part_of, boxes_from, rows_here, rows_coming, reached, coming}
 use Rattle.mp4_frag.specs.declared.lying.Lying.{Lying}
 use Rattle.mp4_frag.specs.declared.places.FragPlace.{FragPlace}
 use Rattle.mp4_frag.specs.declared.places.RowPlace.{RowPlace}
-use Rattle.mp4_frag.specs.declared.state.TrackState.{TrackState}
 
 -- a box lies in the payload
 pub record IsBoxIn (payload : List ℕ) (b : Lying) : Type 0 where
@@ -20,10 +19,6 @@ pub record IsBoxIn (payload : List ℕ) (b : Lying) : Type 0 where
 abbrev pub bytes_inside : List ℕ → Lying → List ℕ
 bytes_inside payload b = part_of payload b.inside b.end
 
--- the boxes in it
-abbrev pub boxes_inside : List ℕ → Lying → List Box
-boxes_inside payload b = boxes_between payload b.inside b.end
-
 -- the box that lies there, behind its header, which begins at a place
 abbrev pub box_in : List ℕ → ℕ → Lying → Box
 box_in payload at b = record {
@@ -32,16 +27,6 @@ box_in payload at b = record {
   header = b.inside - at;
   payload = bytes_inside payload b;
 }
-
--- the boxes from a place on
-abbrev pub boxes_from : List ℕ → ℕ → List Box
-boxes_from payload at = boxes_between payload at (length payload)
-
--- a `traf` begins at a place
-pub record IsTrafAt (payload : List ℕ) (at : ℕ) (traf : Lying) : Type 0 where
-  pub inside : (at < traf.inside) × (traf.inside ≤ traf.end) × (traf.end ≤ length payload)
-  pub some : boxes_from payload at ≡ box_in payload at traf ∷ boxes_from payload traf.end
-  pub kind : bytes_eq traf.kind.0 (codes "traf") ≡ true
 
 -- there are bytes for the rows left of a `trun`
 abbrev pub IsRowPlace : List ℕ → RowPlace → Type 0
@@ -73,33 +58,21 @@ groups_work [] = 0
 groups_work (b ∷ boxes) = cond (bytes_eq (codes "sbgp") b.kind) (group_work b.payload) 0
     + groups_work boxes
 
--- a step for a `traf`, and those for its `sbgp`s and runs
-abbrev pub traf_work : List Box → ℕ
-traf_work boxes = suc (groups_work boxes + runs_work boxes)
+-- a step for the `traf`, and those for all its `sbgp`s and runs
+unfoldable pub traf_work : List ℕ → ℕ
+traf_work payload = suc (groups_work (boxes_from payload 0) + runs_work (boxes_from payload 0))
 
-abbrev pub trafs_work : List Box → ℕ
-trafs_work [] = 0
-trafs_work (b ∷ boxes) = cond (bytes_eq (codes "traf") b.kind)
-    (traf_work (boxes_in (b.offset + b.header) b.payload)) 0 + trafs_work boxes
-
--- what all boxes of a `moof` cost
-unfoldable pub moof_work : List ℕ → ℕ
-moof_work payload = trafs_work (boxes_between payload 0 (length payload))
-
--- what the boxes from a place on cost, where a `traf` goes up to another
-unfoldable pub work_behind : List ℕ → ℕ → ℕ → ℕ
-work_behind payload next end = runs_work (boxes_between payload next end)
-    + trafs_work (boxes_between payload end (length payload))
+-- what the runs from a place on cost
+unfoldable pub work_behind : List ℕ → ℕ → ℕ
+work_behind payload next = runs_work (boxes_from payload next)
 
 -- all that the place speaks of lies in the payload
 pub record LiesIn (payload : List ℕ) (place : FragPlace) : Type 0 where
-  pub next : place.next ≤ place.traf_end
-  pub traf : place.traf_end ≤ length payload
+  pub next : place.next ≤ length payload
   pub rows : IsRowPlace payload place.run
   pub indexes : AreIndexPlaces payload place.index_rows place.indexes
   -- what was passed and what is left cost no more than all
-  pub work : place.passed + place.run.left + work_behind payload place.next place.traf_end
-      ≤ moof_work payload
+  pub work : place.passed + place.run.left + work_behind payload place.next ≤ traf_work payload
 
 -- so it does, and a sample is in hand, or no box is left
 pub record IsPlaceIn (payload : List ℕ) (place : FragPlace) : Type 0 where
@@ -107,12 +80,6 @@ pub record IsPlaceIn (payload : List ℕ) (place : FragPlace) : Type 0 where
   pub settled : place.run.left ≡ 0 → place.next ≡ length payload
 
 -- ---- from place to place
-
--- the walk is of the same track with the same keys, and has no fewer steps behind it
-pub record KeepsWalk (old new : FragPlace) : Type 0 where
-  pub track : new.track ≡ old.track
-  pub keys : new.keys ≡ old.keys
-  pub on : old.passed ≤ new.passed
 
 -- only the indexes to come and the steps are others
 abbrev pub ChangesIndexes : FragPlace → FragPlace → Type 0
@@ -122,24 +89,13 @@ ChangesIndexes old new = new ≡ record old {
   passed = new.passed;
 }
 
--- only what a `tfhd` says is another
+-- only what the samples inherit is another
 abbrev pub ChangesHead : FragPlace → FragPlace → Type 0
-ChangesHead old new = new ≡ record old {
-  is_own = new.is_own;
-  base = new.base;
-  at = new.at;
-  inherited = new.inherited;
-}
+ChangesHead old new = new ≡ record old { inherited = new.inherited }
 
 -- the same samples are to come
-abbrev pub SameToCome : List ℕ → ℕ → List TrackState → FragPlace → FragPlace → Type 0
-SameToCome payload moof tracks old new =
-    coming payload (walk_of moof tracks old) new ≡ coming payload (walk_of moof tracks old) old
-
--- what goes for the next sample behind what the boxes of a `traf` say
-abbrev pub traf_opened : List ℕ → ℕ → List TrackState → FragPlace → Lying → Reached
-traf_opened payload moof tracks p traf = with_leaves (walk_of moof tracks p)
-    (before_traf (reached payload p)) (boxes_inside payload traf)
+abbrev pub SameToCome : List ℕ → FragPlace → FragPlace → Type 0
+SameToCome payload old new = coming payload new ≡ coming payload old
 
 -- the samples of the rows left of a run, and then those of what is behind it
 abbrev pub left_coming : List ℕ → FragPlace → (Reached → List SampleAt) → List SampleAt

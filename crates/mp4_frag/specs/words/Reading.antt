@@ -1,9 +1,10 @@
 -- What is read of the leaves of a `traf`, as plain numbers.
-use Rattle.std.specs.Prelude.{◌≡◌, ℕ, ◌+◌, ◌*◌, ◌≤◌, List, [], ◌∷◌, length, drop, Option, None, unwrap_or, option_map, slice_index, nat_eq}
+use Rattle.std.specs.Prelude.{◌≡◌, ℕ, ◌+◌, ◌*◌, ◌≤◌, ℤ, List, [], ◌∷◌, length, drop, Option, None, unwrap_or, option_map, slice_index, nat_eq}
 use Rattle.byteorder.specs.Endian.{twos_complement}
 use Rattle.mp4_boxes.specs.format.Layout.{has, flags, version, column_values, leaf_fields, tfhd, trun, row_count, tfhd_columns, trun_columns, default_base_is_moof, IsReadable}
 use Rattle.mp4_frag.specs.words.ColumnsRead.{row_room, rows_from}
 use Rattle.mp4_frag.specs.format.Fragments.{column, TrackFragment}
+use Rattle.mp4_frag.specs.format.FragmentSamples.{base_of}
 use Rattle.mp4_frag.specs.declared.heads.Inherited.{Inherited}
 use Rattle.mp4_frag.specs.declared.trex.Trex.{Trex}
 use Rattle.mp4_frag.specs.declared.run_rows.Row.{Row}
@@ -53,6 +54,12 @@ as_traf head = record {
   runs = [];
   groups = [];
 }
+
+-- where runs are counted from by a `tfhd` with this payload, in a `moof` at a place, where the data
+-- of the `traf` before ends there
+abbrev pub IsBaseIn : List ℕ → ℕ → ℤ → ℤ → Type 0
+IsBaseIn payload moof before base =
+    (head : Head) × IsHead payload head × (base ≡ base_of moof before (as_traf head))
 
 -- what the samples of a `traf` inherit
 abbrev pub inheritance : TrackFragment → Trex → Inherited

@@ -3,7 +3,7 @@ use Rattle.std.specs.Prelude.{◌≡◌, ℕ, ◌+◌, List}
 use Rattle.mp4_boxes.specs.format.Bytes.{sum_of}
 use Rattle.mp4_tables.specs.declared.sample.SampleAt.{SampleAt}
 use Rattle.mp4_frag.specs.words.FragmentsSeen.{CursorSeen}
-use Rattle.mp4_frag.specs.words.Walks.{Walk, capped, coming, samples_coming}
+use Rattle.mp4_frag.specs.words.Walks.{capped, coming, samples_coming}
 use Rattle.mp4_frag.specs.declared.places.FragPlace.{FragPlace}
 
 -- how long samples last
@@ -11,8 +11,8 @@ abbrev pub lasting : List SampleAt → ℕ
 lasting samples = sum_of (λ (s : SampleAt). s.duration) samples
 
 -- the time behind all samples to come from a place on, as far as 64 bits hold it
-abbrev pub time_behind : List ℕ → Walk → FragPlace → ℕ
-time_behind payload w p = capped (p.dts + lasting (coming payload w p))
+abbrev pub time_behind : List ℕ → FragPlace → ℕ
+time_behind payload p = capped (p.dts + lasting (coming payload p))
 
 -- the time went on by the samples that were handed out, as far as 64 bits hold it
 abbrev pub TimeGoesOn : CursorSeen → CursorSeen → Type 0

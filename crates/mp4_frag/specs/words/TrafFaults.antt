@@ -6,6 +6,8 @@ use Rattle.mp4_boxes.specs.format.Children.{of_kind, Holds}
 use Rattle.mp4_boxes.specs.format.Layout.{Leaf, tfhd, tfdt, IsReadable}
 use Rattle.mp4_boxes.specs.declared.fault.Fault.{Fault}
 use Rattle.mp4_boxes.specs.declared.fault.Kind.{Kind}
+use Rattle.mp4_boxes.specs.declared.refusal.Refusal.{Refusal}
+use Rattle.mp4_boxes.specs.declared.refusal.Refusal.TheVariants as refusals
 use Rattle.mp4_boxes.specs.declared.fault.Kind.TheVariants.{UnknownTrack, BadDescriptionIndex, Gap}
 use Rattle.mp4_boxes.specs.declared.rule.Rule.TheVariants as rules
 use Rattle.mp4_tables.specs.words.Keys.{keys_seen}
@@ -110,3 +112,11 @@ MoofFails file_length tracks room moof f =
     ⊎ (Holds rules.MovieFragment (box_container moof) (children_of moof)
     × TrafsFail file_length moof.offset (pos moof.offset) tracks room
     (of_kind (codes "traf") (children_of moof)) f)
+
+-- Why a `moof` is refused: it has this fault; or there was no memory for a note, where so many
+-- tracks have notes.
+abbrev pub RefusesMoof : ℕ → List TrackState → ℕ → Box → ℕ → Refusal → Type 0
+RefusesMoof file_length tracks room moof owns (refusals.Fault f) =
+    MoofFails file_length tracks room moof f
+RefusesMoof file_length tracks room moof owns refusals.Memory = 0 < owns
+RefusesMoof file_length tracks room moof owns _ = ⊥

@@ -1,13 +1,13 @@
--- A walk over the samples of a track in a `moof`: which samples are to come, by rows of runs and by
--- boxes. It is said of every `moof`, and so of one that no check accepted: a box that can't be read
--- is left out, and numbers go no further than they can be held.
+-- A walk over the samples of a `traf`: which samples are to come, by rows of runs and by boxes. It
+-- is said of every payload, and so of one that no check accepted: a box that can't be read is left
+-- out, and numbers go no further than they can be held.
 use Rattle.std.specs.Prelude.{ℕ, ◌+◌, ◌-◌, ◌^◌, ◌==◌, ◌&&◌, nat_lt, nat_le, min, Bool, false, cond, if◌then◌else◌, List, [], ◌∷◌, length, take, drop, map, find, slice_index, slice_set, Option, Some, None, unwrap_or, option_map, ℤ, pos, negsuc, ◌+ℤ◌, codes, bytes_eq}
 use Rattle.std.specs.Int.{w128, saturate_signed}
 use Rattle.mp4_boxes.specs.format.Bytes.{width_of}
 use Rattle.mp4_boxes.specs.format.Box.{Box, first_boxes}
 use Rattle.mp4_boxes.specs.format.Layout.{Leaf, tfhd, trun, sbgp, fields, leaf_fields, flags, version, has, row_count, needed, knows_version, knows_flags, column_values, tfhd_columns, default_base_is_moof}
 use Rattle.mp4_tables.specs.format.Groups.{GroupKey, key_of}
-use Rattle.mp4_tables.specs.words.Keys.{keys_seen, key_place}
+use Rattle.mp4_tables.specs.words.Keys.{key_place}
 use Rattle.mp4_tables.specs.format.Repeated.{repeated}
 use Rattle.mp4_tables.specs.words.Rows.{runs_at}
 use Rattle.mp4_tables.specs.words.Indexes.{low_half, indexes_coming}
@@ -15,7 +15,7 @@ use Rattle.mp4_tables.specs.format.Tables.{composition_offset}
 use Rattle.mp4_tables.specs.declared.sample.SampleAt.{SampleAt}
 use Rattle.mp4_frag.specs.words.ColumnsRead.{rows_from}
 use Rattle.mp4_frag.specs.format.Fragments.{RunRow, TrackFragment, column, run_of, run_rows}
-use Rattle.mp4_frag.specs.format.FragmentSamples.{flags_of, base_of}
+use Rattle.mp4_frag.specs.format.FragmentSamples.{flags_of}
 use Rattle.mp4_frag.specs.words.Reading.{inheritance}
 use Rattle.mp4_frag.specs.words.FragmentsSeen.{CursorSeen}
 use Rattle.mp4_frag.specs.declared.heads.Inherited.{Inherited}
@@ -25,20 +25,11 @@ use Rattle.mp4_frag.specs.declared.run_rows.Row.{Row}
 use Rattle.mp4_frag.specs.declared.state.TrackState.{TrackState}
 use Rattle.mp4_frag.specs.declared.trex.Trex.{Trex}
 
--- what a walk goes by: the place of the `moof`, the tracks, and of its own track the ID and the
--- keys
-pub record Walk : Type 0 where
-  pub moof : ℕ
-  pub tracks : List TrackState
-  pub track : ℕ
-  pub keys : List GroupKey
-
--- how far it has come: the decode time of the next sample, where data goes on, what goes for the
--- `traf` in hand, and the indexes to come at each key
+-- how far it has come: the decode time of the next sample, where data goes on, where runs are
+-- counted from, what they inherit, and the indexes to come at each key
 pub record Reached : Type 0 where
   pub dts : ℕ
   pub at : ℤ
-  pub is_own : Bool
   pub base : ℤ
   pub inherited : Inherited
   pub indexes : List (List ℕ)
@@ -103,25 +94,15 @@ abbrev pub begin : ℤ → ℤ → Option ℤ → ℤ
 begin base before None = before
 begin base before (Some offset) = held (base +ℤ offset)
 
--- where its data ends
-abbrev pub end_held : ℕ → ℤ → List RunRow → ℤ
-end_held size at [] = at
-end_held size at (row ∷ rows) = end_held size (held (at +ℤ pos (unwrap_or row.size size))) rows
-
 -- before the first row of a `trun`
 abbrev pub before_run : Reached → List ℕ → Reached
 before_run s payload = record s { at = begin s.base s.at (run_of payload).data_offset }
-
--- behind the last row of one of another track
-abbrev pub behind_run : Reached → List ℕ → Reached
-behind_run s payload = record s { at = end_held s.inherited.size s.at (rows_of payload) }
 
 -- the samples of a `trun`, and then those of what is behind it
 abbrev pub run_coming : Reached → List ℕ → (Reached → List SampleAt) → List SampleAt
 run_coming s payload more =
     cond (can_read trun payload)
-    (cond s.is_own (rows_coming (before_run s payload) (run_of payload).first_sample_flags
-    (rows_of payload) more) (more (behind_run (before_run s payload) payload)))
+    (rows_coming (before_run s payload) (run_of payload).first_sample_flags (rows_of payload) more)
     (more s)
 
 -- what a `tfhd` says
@@ -141,25 +122,20 @@ head_of payload =
       groups = [];
     }
 
--- the `traf` is that of a track with a `trex`
-abbrev pub with_trex : Walk → Reached → TrackFragment → Option Trex → Reached
-with_trex w s head None = s
-with_trex w s head (Some trex) = record s {
-  is_own = head.id == w.track;
-  base = base_of w.moof s.at head;
-  at = base_of w.moof s.at head;
-  inherited = inheritance head trex;
-}
-
 -- what the fragments of the track with this ID inherit, if it is there
 abbrev pub trex_among : List TrackState → ℕ → Option Trex
 trex_among tracks id =
     unwrap_or (option_map (λ (t : TrackState). t.trex)
     (find (λ (t : TrackState). t.id == id) tracks)) None
 
-abbrev pub with_head : Walk → Reached → List ℕ → Reached
-with_head w s payload = cond (can_read tfhd payload)
-    (with_trex w s (head_of payload) (trex_among w.tracks (head_of payload).id)) s
+-- a `tfhd` can be read, and names the track with this ID
+unfoldable pub names : ℕ → List ℕ → Bool
+names id payload = can_read tfhd payload && (head_of payload).id == id
+
+-- the samples inherit what it says, else what this `trex` does
+abbrev pub with_head : Trex → Reached → List ℕ → Reached
+with_head trex s payload = cond (can_read tfhd payload)
+    (record s { inherited = inheritance (head_of payload) trex }) s
 
 -- the indexes that an `sbgp` gives to samples
 unfoldable pub indexes_of : List ℕ → List ℕ
@@ -195,51 +171,45 @@ unfoldable pub boxes_between : List ℕ → ℕ → ℕ → List Box
 boxes_between payload at end = boxes_in at (part_of payload at end)
 
 -- what the boxes of a `traf` say of its samples
-abbrev pub with_leaf : Walk → Reached → Box → Reached
-with_leaf w s b = cond (bytes_eq (codes "tfhd") b.kind) (with_head w s b.payload)
+abbrev pub with_leaf : Trex → List GroupKey → Reached → Box → Reached
+with_leaf trex keys s b = cond (bytes_eq (codes "tfhd") b.kind) (with_head trex s b.payload)
     (cond (bytes_eq (codes "sbgp") b.kind)
-    (record s { indexes = with_group w.keys s.indexes b.payload }) s)
+    (record s { indexes = with_group keys s.indexes b.payload }) s)
 
-abbrev pub with_leaves : Walk → Reached → List Box → Reached
-with_leaves w s [] = s
-with_leaves w s (b ∷ boxes) = with_leaves w (with_leaf w s b) boxes
+abbrev pub with_leaves : Trex → List GroupKey → Reached → List Box → Reached
+with_leaves trex keys s [] = s
+with_leaves trex keys s (b ∷ boxes) = with_leaves trex keys (with_leaf trex keys s b) boxes
+
+-- whether the last `tfhd` among boxes names the track with this ID; with none, it is as before them
+abbrev pub are_named : ℕ → Bool → List Box → Bool
+are_named id before [] = before
+are_named id before (b ∷ boxes) =
+    are_named id (cond (bytes_eq (codes "tfhd") b.kind) (names id b.payload) before) boxes
 
 -- no indexes at any key
 abbrev pub no_indexes : List (List ℕ)
 no_indexes = [] ∷ [] ∷ [] ∷ [] ∷ []
 
--- before what its boxes say
-abbrev pub before_traf : Reached → Reached
-before_traf s = record s { is_own = false; indexes = no_indexes }
-
--- the samples of the runs among boxes of a `traf`, and then those of what is behind it
-abbrev pub runs_coming : Reached → List Box → (Reached → List SampleAt) → List SampleAt
-runs_coming s [] more = more s
-runs_coming s (b ∷ boxes) more = cond (bytes_eq (codes "trun") b.kind)
-    (run_coming s b.payload (λ t. runs_coming t boxes more)) (runs_coming s boxes more)
-
--- the samples of a `traf`, and then those of what is behind it
-abbrev pub traf_coming : Walk → Reached → Box → (Reached → List SampleAt) → List SampleAt
-traf_coming w s b more =
-    let boxes = boxes_in (b.offset + b.header) b.payload in
-    runs_coming (with_leaves w (before_traf s) boxes) boxes more
-
--- the samples of the `traf`s among boxes of the `moof`
-abbrev pub trafs_coming : Walk → Reached → List Box → List SampleAt
-trafs_coming w s [] = []
-trafs_coming w s (b ∷ boxes) = cond (bytes_eq (codes "traf") b.kind)
-    (traf_coming w s b (λ t. trafs_coming w t boxes)) (trafs_coming w s boxes)
-
--- before the first `traf` of a `moof` at this place
-abbrev pub at_first : ℕ → ℕ → Reached
-at_first moof dts = record {
+-- before what the boxes of a `traf` say whose runs are counted from this base
+abbrev pub at_first : ℤ → ℕ → Reached
+at_first base dts = record {
   dts = dts;
-  at = pos moof;
-  is_own = false;
-  base = pos moof;
+  at = base;
+  base = base;
   inherited = record { description = 0; duration = 0; size = 0; flags = 0 };
   indexes = no_indexes;
 }
+
+-- the samples of the runs among boxes
+abbrev pub runs_coming : Reached → List Box → List SampleAt
+runs_coming s [] = []
+runs_coming s (b ∷ boxes) = cond (bytes_eq (codes "trun") b.kind)
+    (run_coming s b.payload (λ t. runs_coming t boxes)) (runs_coming s boxes)
+
+-- the samples of the boxes of a `traf`: none, where it does not name the track with this ID
+abbrev pub boxes_coming : ℤ → ℕ → Trex → ℕ → List GroupKey → List Box → List SampleAt
+boxes_coming base id trex dts keys boxes = cond (are_named id false boxes)
+    (runs_coming (with_leaves trex keys (at_first base dts) boxes) boxes) []
 
 -- ---- places
 
@@ -261,36 +231,26 @@ abbrev pub reached : List ℕ → FragPlace → Reached
 reached payload p = record {
   dts = p.dts;
   at = p.at;
-  is_own = p.is_own;
   base = p.base;
   inherited = p.inherited;
   indexes = indexes_coming payload p.index_rows p.indexes;
 }
 
-abbrev pub walk_of : ℕ → List TrackState → FragPlace → Walk
-walk_of moof tracks p = record {
-  moof = moof;
-  tracks = tracks;
-  track = p.track;
-  keys = keys_seen p.keys;
-}
-
--- the samples of the boxes from a place on, where a `traf` goes up to another
-abbrev pub boxes_coming : List ℕ → Walk → Reached → ℕ → ℕ → List SampleAt
-boxes_coming payload w s next end = runs_coming s (boxes_between payload next end)
-    (λ t. trafs_coming w t (boxes_between payload end (length payload)))
+-- the boxes from a place on
+abbrev pub boxes_from : List ℕ → ℕ → List Box
+boxes_from payload at = boxes_between payload at (length payload)
 
 -- the samples to come from a place on: those of the rows left of its run, and of the boxes behind
 -- it
-unfoldable pub coming : List ℕ → Walk → FragPlace → List SampleAt
-coming payload w p = rows_coming (reached payload p) p.run.first_flags (rows_here payload p.run)
-    (λ s. boxes_coming payload w s p.next p.traf_end)
+unfoldable pub coming : List ℕ → FragPlace → List SampleAt
+coming payload p = rows_coming (reached payload p) p.run.first_flags (rows_here payload p.run)
+    (λ s. runs_coming s (boxes_from payload p.next))
 
 abbrev pub samples_coming : CursorSeen → List SampleAt
-samples_coming v = coming v.payload (walk_of v.moof v.tracks v.place) v.place
+samples_coming v = coming v.payload v.place
 
--- the samples of a track in a `moof`, from a decode time on
-abbrev pub samples_in : Box → List TrackState → ℕ → ℕ → List GroupKey → List SampleAt
-samples_in moof tracks track dts keys =
-    trafs_coming (record { moof = moof.offset; tracks = tracks; track = track; keys = keys })
-    (at_first moof.offset dts) (boxes_in 0 moof.payload)
+-- the samples of the track with this ID in a `traf` of this payload, whose runs are counted from
+-- this base, from a decode time on
+abbrev pub samples_in : List ℕ → ℤ → ℕ → Trex → ℕ → List GroupKey → List SampleAt
+samples_in payload base id trex dts keys =
+    boxes_coming base id trex dts keys (boxes_in 0 payload)

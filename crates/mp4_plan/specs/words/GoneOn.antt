@@ -4,7 +4,7 @@ use Rattle.mp4_tables.specs.declared.sample.SampleAt.{SampleAt}
 use Rattle.mp4_head.specs.format.Tree.{TrackTree}
 use Rattle.mp4_present.specs.format.Denotes.{FileTree}
 use Rattle.mp4_present.specs.words.GoingBack.{GoesBackTo, HoldsSome}
-use Rattle.mp4_present.specs.words.Movies.{MovieSeen, moof_box}
+use Rattle.mp4_present.specs.words.Movies.{MovieSeen, traf_bytes}
 use Rattle.mp4_present.specs.words.SamplesComing.{Comes}
 use Rattle.mp4_present.specs.declared.leaving.Leaving.{Leaving}
 use Rattle.mp4_present.specs.declared.walks.Walk.{Walk}
@@ -16,9 +16,10 @@ pub record Stays (before after : Walk) : Type 0 where
   pub next : after.next ≡ before.next
   pub due : after.before ≡ before.before
   pub left : after.left ≡ before.left
-  pub box : moof_box after ≡ moof_box before
+  pub traf : after.traf ≡ before.traf
+  pub bytes : traf_bytes after ≡ traf_bytes before
 
--- it has loaded a `moof` further on, with samples of the track
+-- it has loaded a `traf` further on, with samples of the track
 abbrev pub HasLoaded : MovieSeen → Walk → Walk → Type 0
 HasLoaded m before after = (before.next < after.next) × HoldsSome m after
 
@@ -28,7 +29,7 @@ pub record WentOn (m : MovieSeen) (before after : Walk) (old new : ℕ) : Type 0
   pub grows : old ≤ new
   pub ahead : Stays before after ⊎ HasLoaded m before after
 
--- It stands where the next `moof` is looked for from here, or has loaded one further on.
+-- It stands before the `traf` that is the next from here, or has loaded one further on.
 abbrev pub GoesPast : MovieSeen → ℕ → Walk → Type 0
 GoesPast m next after = (after.next ≡ next) ⊎ ((next < after.next) × HoldsSome m after)
 

@@ -1,11 +1,18 @@
 -- What is put over any store, also over one that changes while it is read: pieces with so many
 -- samples and so many bytes of these, whichever bytes the store gave.
-use Rattle.std.specs.Prelude.{◌≡◌, ℕ, ◌+◌, ◌≤◌, List, ◌++◌, length, codes, Option}
+use Rattle.std.specs.Prelude.{◌≡◌, ℕ, ◌≤◌, List, [], ◌∷◌, ◌++◌, length, map, codes, Option}
+use Rattle.std.specs.Io.KnownBytes.{Appends}
 use Rattle.std.specs.List.{sum_by}
 use Rattle.mp4_boxes.specs.format.Written.{header_bytes}
 use Rattle.mp4_tables.specs.format.Groups.{GroupKey}
-use Rattle.mp4_present.specs.words.Carried.{GoOnBy, PutsMany}
-use Rattle.mp4_present.specs.words.Movies.{MovieSeen}
+use Rattle.mp4_present.specs.words.Carried.{BytesGoOn}
+use Rattle.mp4_head.specs.format.Writing as written
+use Rattle.mp4_head.specs.words.Found.{SaysHead}
+use Rattle.mp4_head.specs.words.Seen.{movie_seen, tracks_seen}
+use Rattle.mp4_head.specs.declared.heads.MovieHead.{MovieHead}
+use Rattle.mp4_present.specs.format.Reduced.{reduce_movie_head, reduce_track_head}
+use Rattle.mp4_present.specs.words.Movies.{MovieSeen, moov_box}
+use Rattle.mp4_present.specs.declared.leaving.Leaving.{Leaving}
 use Rattle.mp4_present.specs.declared.track_info.TrackInfo.{TrackInfo}
 use Rattle.mp4_plan.specs.words.Sizes.{moof_sizes}
 use Rattle.mp4_plan.specs.words.Spelling.{moof_front, run_rows}
@@ -30,9 +37,12 @@ abbrev pub put_front : PutPiece → List ℕ
 put_front q = moof_front q.head q.planned (moof_sizes q.planned q.keys) ++ run_rows q.planned q.rows
     ++ some_groups q.rows q.planned q.groups ++ header_bytes (codes "mdat") q.planned.bytes
 
--- its length: behind these as many bytes as its samples have
-abbrev pub put_length : PutPiece → ℕ
-put_length q = length (put_front q) + q.planned.bytes
+-- These bytes are those of some pieces, one after the other: of each its front, and behind it as
+-- many bytes as its samples have.
+abbrev pub AreBytesOf : List PutPiece → List ℕ → Type 0
+AreBytesOf [] bytes = bytes ≡ []
+AreBytesOf (q ∷ pieces) bytes = (samples rest : List ℕ) × (length samples ≡ q.planned.bytes)
+    × (bytes ≡ put_front q ++ samples ++ rest) × AreBytesOf pieces rest
 
 -- how many samples some pieces have, and how many bytes these have
 abbrev pub samples_put : List PutPiece → ℕ
@@ -41,20 +51,40 @@ samples_put pieces = sum_by (λ (q : PutPiece). q.planned.count) pieces
 abbrev pub data_put : List PutPiece → ℕ
 data_put pieces = sum_by (λ (q : PutPiece). q.planned.bytes) pieces
 
--- Behind so many bytes pieces follow, with so many samples and so many bytes of these, and nothing
+-- Behind these bytes pieces follow, with so many samples and so many bytes of these, and nothing
 -- else.
 pub record PiecesFollow (before after : Option (List ℕ)) (held held_after : List ℕ)
-    (first samples bytes : ℕ) : Type 0 where
+    (first : List ℕ) (samples bytes : ℕ) : Type 0 where
   pub pieces : List PutPiece
   pub counts : samples_put pieces ≡ samples
   pub sizes : data_put pieces ≡ bytes
-  pub long : GoOnBy before after held held_after (first + sum_by put_length pieces)
+  pub text : List ℕ
+  pub are : AreBytesOf pieces text
+  pub put : BytesGoOn before after held held_after (first ++ text)
 
--- A head was put, and behind it pieces, and nothing else. They have as many samples as the movie
+-- This head was put, and behind it pieces, and nothing else. They have as many samples as the movie
 -- says of all its tracks together, and these as many bytes.
 pub record IsPutWhole (m : MovieSeen) (before after : Option (List ℕ)) (head : List ℕ)
     : Type 0 where
   pub pieces : List PutPiece
   pub counts : samples_put pieces ≡ sum_by (λ (i : TrackInfo). i.samples) m.tracks
   pub sizes : data_put pieces ≡ sum_by (λ (i : TrackInfo). i.bytes) m.tracks
-  pub long : PutsMany before after (length head + sum_by put_length pieces)
+  pub text : List ℕ
+  pub are : AreBytesOf pieces text
+  pub put : Appends before after (head ++ text)
+
+-- ---- the head
+
+-- what is left of this movie's own head
+pub record IsLeftOf (m : MovieSeen) (l : Leaving) (head : MovieHead) : Type 0 where
+  pub own : MovieHead
+  pub says : SaysHead (moov_box m) own
+  pub movie : movie_seen head ≡ reduce_movie_head l (movie_seen own)
+  pub tracks : tracks_seen head ≡ map (reduce_track_head l) (tracks_seen own)
+
+-- `ftyp` and `moov` of what is left of this movie, with some length of the longest track
+pub record IsHeadLeft (m : MovieSeen) (l : Leaving) (bytes : List ℕ) : Type 0 where
+  pub head : MovieHead
+  pub left : IsLeftOf m l head
+  pub mehd : ℕ
+  pub is : bytes ≡ written.head_bytes (movie_seen head) (tracks_seen head) mehd

@@ -1,13 +1,14 @@
 -- The steps of walks over all tracks of a file.
 use Rattle.std.specs.Prelude.{◌≡◌, ◌⊎◌, ℕ, ◌+◌, ◌*◌, ◌≤◌, List, [], ◌∷◌, length, slice_get, slice_set, Some}
+use Rattle.mp4_boxes.specs.format.Bytes.{sum_of}
 use Rattle.mp4_tables.specs.declared.sample.SampleAt.{SampleAt}
-use Rattle.mp4_frag.specs.format.Fragments.{FragmentTree}
+use Rattle.mp4_frag.specs.words.OwnTrafs.{PlacedTraf, traf_steps}
 use Rattle.mp4_head.specs.format.Tree.{TrackTree}
 use Rattle.mp4_present.specs.format.Denotes.{FileTree}
 use Rattle.mp4_present.specs.words.GoingBack.{IsMarkInHand, back_steps}
 use Rattle.mp4_present.specs.words.Movies.{MovieSeen, mark_of}
-use Rattle.mp4_present.specs.words.SamplesComing.{Comes}
-use Rattle.mp4_present.specs.words.WalkSteps.{MayTake, moof_steps, moofs_steps, walks_steps}
+use Rattle.mp4_present.specs.words.SamplesComing.{Comes, own_trafs}
+use Rattle.mp4_present.specs.words.WalkSteps.{MayTake, trafs_steps, walk_steps, walks_steps}
 use Rattle.mp4_present.specs.declared.leaving.Leaving.{Leaving}
 use Rattle.mp4_present.specs.declared.walks.Walk.{Walk}
 use Rattle.mp4_plan.specs.words.GoneOn.{ComesMarked, HasLoaded, Stays, GoesPast}
@@ -35,17 +36,17 @@ MayAllBegin file tree walks = (n : ℕ) × MayAllTake file tree tree.movie.track
 
 -- ---- a walk that goes back
 
--- the steps of the last of these `moof`s, or so many where there is none
-abbrev pub last_steps : ℕ → List FragmentTree → ℕ
+-- the steps of the last of these `traf`s, or so many where there is none
+abbrev pub last_steps : ℕ → List PlacedTraf → ℕ
 last_steps n [] = n
-last_steps n (f ∷ moofs) = last_steps (moof_steps f.moof) moofs
+last_steps n (p ∷ trafs) = last_steps (traf_steps p.traf) trafs
 
--- to read the `moof` in hand and each one behind it once more, and to read each one behind it twice
-abbrev pub again_steps : List FragmentTree → List FragmentTree → ℕ
-again_steps earlier later = last_steps 0 earlier + 2 * moofs_steps later
+-- to read the `traf` in hand and each one behind it once more, and to read each one behind it twice
+abbrev pub again_steps : List PlacedTraf → List PlacedTraf → ℕ
+again_steps earlier later = last_steps 0 earlier + 2 * trafs_steps later
 
 -- The walk may take so many steps where it notes each piece, and goes back for its bytes: twice
--- those of its way, and those of reading each `moof` again that a piece began in.
+-- those of its way, and those of reading each `traf` again that a piece began in.
 pub record MayWrite (file : List ℕ) (tree : FileTree) (m : MovieSeen) (t : TrackTree) (w : Walk)
     (n : ℕ) : Type 0 where
   pub samples : List SampleAt
@@ -86,7 +87,7 @@ abbrev pub CarriesInHand : List ℕ → FileTree → TrackTree → ℕ → ℕ �
 CarriesInHand file tree t own now after old new = (rest : ℕ) × MayTake file tree t after rest
     × (rest ≤ now) × (new + rest ≤ old + own)
 
--- Or its mark was in another `moof`, which was read again.
+-- Or its mark was in another `traf`, which was read again.
 abbrev pub CarriesAgain : List ℕ → FileTree → TrackTree → MovieSeen → Walk → ℕ → Walk → Walk → ℕ
     → ℕ → Type 0
 CarriesAgain file tree t m begun own before after old new = (rest : ℕ)
@@ -109,12 +110,15 @@ abbrev pub AllWriteOn : List ℕ → FileTree → MovieSeen → ℕ → List Wal
 AllWriteOn file tree m n walks old new = (rest : ℕ) × MayAllWrite file tree m walks rest
     × (new + rest ≤ old + n)
 
--- they begin: to write takes no more than two walks over each track, and to read each `moof` twice
--- more for each
-abbrev pub writing_steps : FileTree → ℕ
-writing_steps tree = 2 * walks_steps tree
-    + length tree.movie.tracks * (2 * moofs_steps tree.fragments)
+-- to write a track takes no more than two walks over it, and to read each of its `traf`s twice more
+abbrev pub track_writes : FileTree → TrackTree → ℕ
+track_writes tree t = 2 * walk_steps tree t + 2 * trafs_steps (own_trafs tree t)
 
+-- the same of all tracks
+abbrev pub writing_steps : FileTree → ℕ
+writing_steps tree = sum_of (track_writes tree) tree.movie.tracks
+
+-- they begin
 abbrev pub WriteAllBegin : List ℕ → FileTree → MovieSeen → List Walk → Type 0
 WriteAllBegin file tree m walks = (n : ℕ) × MayAllWrite file tree m walks n
     × (n ≤ writing_steps tree)

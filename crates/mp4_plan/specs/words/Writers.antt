@@ -13,6 +13,7 @@ use Rattle.mp4_present.specs.format.Reduced.{reduce}
 use Rattle.mp4_present.specs.declared.leaving.Leaving.{Leaving}
 use Rattle.mp4_present.specs.format.Denotes.{FileTree, presentation_of}
 use Rattle.mp4_present.specs.words.Joined.{sample_bytes}
+use Rattle.mp4_present.specs.words.SamplesComing.{traf_total}
 use Rattle.mp4_present.specs.words.Movies.{MovieSeen, IsWalkOf, mark_of}
 use Rattle.mp4_present.specs.format.Presentation.{Presentation, heads, movie_length}
 use Rattle.mp4_present.specs.declared.walks.Walk.{Walk}
@@ -20,6 +21,7 @@ use Rattle.mp4_tables.specs.declared.sample.SampleAt.{SampleAt}
 use Rattle.mp4_plan.specs.words.ComingLess.{ComesLess, left_samples}
 use Rattle.mp4_plan.specs.words.DueTracks.{IsDueTree}
 use Rattle.mp4_plan.specs.words.GoneOn.{ComesMarked}
+use Rattle.mp4_plan.specs.words.OwnRooms.{own_rooms}
 use Rattle.mp4_plan.specs.words.Sizes.{moof_sizes}
 use Rattle.mp4_plan.specs.format.Pieces.{Piece, pieces}
 use Rattle.mp4_head.specs.words.Seen.{movie_seen, tracks_seen}
@@ -117,6 +119,14 @@ pub record IsReady (file : List ℕ) (tree : FileTree) (m : MovieSeen) (w : Writ
       ≡ longest_piece (pieces (reduce w.leaving (presentation_of file tree)))
   pub walks : AllBegin w.leaving file tree m w.walks.items
   pub marked : AreMarked w.walks.items (map (left_samples w.leaving tree) tree.movie.tracks)
+
+-- it is, and its walks have no more room together than the `traf`s of the file are long, and these
+-- lie in the file
+pub record IsReadyWithin (file : List ℕ) (tree : FileTree) (m : MovieSeen) (w : Writer)
+    : Type 0 where
+  pub ready : IsReady file tree m w
+  pub rooms : own_rooms m (length m.tracks) ≤ traf_total tree
+  pub trafs : traf_total tree ≤ length file
 
 -- What was noted at a turn, of a track of which these samples come: a piece of them. Its walk can
 -- go back to where it stood.

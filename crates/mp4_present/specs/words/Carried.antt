@@ -17,11 +17,14 @@ abbrev pub BytesGoOn : Option (List ℕ) → Option (List ℕ) → List ℕ → 
 BytesGoOn before after held held_after bytes = (put : List ℕ) × Appends before after put
     × (put ++ held_after ≡ held ++ bytes)
 
--- So many bytes follow, whichever these are: what was put since, and what waits now, are so many
--- more than waited before.
+-- So many bytes follow, whichever these are.
 abbrev pub GoOnBy : Option (List ℕ) → Option (List ℕ) → List ℕ → List ℕ → ℕ → Type 0
-GoOnBy before after held held_after n = (put : List ℕ) × Appends before after put
-    × (length put + length held_after ≡ length held + n)
+GoOnBy before after held held_after n = (bytes : List ℕ) × (length bytes ≡ n)
+    × BytesGoOn before after held held_after bytes
+
+-- So many bytes wait behind those that waited before, whichever these are.
+abbrev pub WaitsMore : List ℕ → List ℕ → ℕ → Type 0
+WaitsMore held held_after n = (bytes : List ℕ) × (length bytes ≡ n) × (held_after ≡ held ++ bytes)
 
 -- so many bytes were put, whichever these are
 abbrev pub PutsMany : Option (List ℕ) → Option (List ℕ) → ℕ → Type 0

@@ -6,7 +6,7 @@ use Rattle.mp4_boxes.specs.declared.refusal.Refusal.{Refusal}
 use Rattle.mp4_store.specs.words.Device.{AppendsPrefix}
 use Rattle.mp4_store.specs.declared.store.Store.{Ghosts as Store}
 use Rattle.mp4_store.specs.declared.sink.Sink.{Ghosts as Sink}
-use Rattle.mp4_frag.specs.format.Fragments.{FragmentTree}
+use Rattle.mp4_frag.specs.words.OwnTrafs.{PlacedTraf}
 use Rattle.mp4_head.specs.format.Tree.{TrackTree}
 use Rattle.mp4_present.specs.format.Denotes.{FileTree}
 use Rattle.mp4_present.specs.words.Carried.{waiting, BytesGoOn, GoOnBy}
@@ -25,7 +25,8 @@ use Rattle.mp4_present.specs.declared.walks.Walk.{Walk}
 pub record StaysBefore (m : MovieSeen) (w w_after : Walk) : Type 0 where
   pub walk : IsWalkOf m w_after
   pub next : w_after.next ≡ w.next
-  pub stands : (file : List ℕ) (tree : FileTree) (t : TrackTree) (earlier later : List FragmentTree)
+  pub left : w_after.left ≡ w.left
+  pub stands : (file : List ℕ) (tree : FileTree) (t : TrackTree) (earlier later : List PlacedTraf)
       → StandsBefore file tree t earlier later w → StandsBefore file tree t earlier later w_after
 
 -- it is so of the samples in hand

@@ -27,8 +27,8 @@ AreLast all left = (n : ℕ) × (left ≡ drop n all)
 abbrev pub Follows : InHand → InHand → Type 0
 Follows (hands.Tables a) (hands.Tables b) = (b.tables ≡ a.tables)
     × (passed a.place ≤ passed b.place)
-Follows (hands.Fragment a) (hands.Fragment b) = (b.payload ≡ a.payload) × (b.moof ≡ a.moof)
-    × (b.tracks ≡ a.tracks) × (a.place.passed ≤ b.place.passed) × TimeGoesOn a b
+Follows (hands.Fragment a) (hands.Fragment b) = (b.payload ≡ a.payload)
+    × (a.place.passed ≤ b.place.passed) × TimeGoesOn a b
     × AreLast (samples_coming a) (samples_coming b)
 Follows _ _ = ⊥
 
@@ -50,17 +50,15 @@ last_of_last all mid left p q = (p.0 + q.0, q.1 ∙ ap (drop q.0) p.1 ∙ drop-d
 -- they are the same as themselves, and later ones of later ones are later ones
 pub follows_itself : (s : InHand) → Follows s s
 follows_itself (hands.Tables c) = (refl, le_refl _)
-follows_itself (hands.Fragment c) = (refl, refl, refl, le_refl _, refl, last_all (samples_coming c))
+follows_itself (hands.Fragment c) = (refl, le_refl _, refl, last_all (samples_coming c))
 
 pub follows_on : (s t u : InHand) → Follows s t → Follows t u → Follows s u
 follows_on (hands.Tables a) (hands.Tables b) (hands.Tables c) p q = (q.0 ∙ p.0, le_trans p.1 q.1)
 follows_on (hands.Fragment a) (hands.Fragment b) (hands.Fragment c) p q = (
   q.0 ∙ p.0,
-  q.1 ∙ p.1,
+  le_trans p.1 q.1,
   q.2 ∙ p.2,
-  le_trans p.3 q.3,
-  q.4 ∙ p.4,
-  last_of_last (samples_coming a) (samples_coming b) (samples_coming c) p.5 q.5,
+  last_of_last (samples_coming a) (samples_coming b) (samples_coming c) p.3 q.3,
 )
 follows_on (hands.Tables a) (hands.Tables b) (hands.Fragment c) p q = absurd q
 follows_on (hands.Tables a) (hands.Fragment b) c p q = absurd p

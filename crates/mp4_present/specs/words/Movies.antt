@@ -1,5 +1,5 @@
 -- A file that was opened, and a walk over the samples of one of its tracks.
-use Rattle.std.specs.Prelude.{◌≡◌, ℕ, ◌+◌, ◌^◌, ◌<◌, ◌≤◌, ⊤, min, List, length, take, drop, Option, None, Some, slice_get}
+use Rattle.std.specs.Prelude.{◌≡◌, ℕ, ◌+◌, ◌^◌, ◌<◌, ◌≤◌, ⊤, min, List, length, take, drop, Option, None, Some, slice_get, unwrap_or, codes}
 use Rattle.std.specs.List.{AllByRecursion}
 use Rattle.mp4_boxes.specs.format.Box.{Box}
 use Rattle.mp4_tables.specs.words.Accepted.{IsAccepted, IsPlace}
@@ -10,13 +10,15 @@ use Rattle.mp4_frag.specs.words.States.{HaveRoom}
 use Rattle.mp4_frag.specs.words.PlacesIn.{IsPlaceIn}
 use Rattle.mp4_frag.specs.words.FragmentsSeen.{CursorSeen}
 use Rattle.mp4_frag.specs.words.Walks.{samples_coming, samples_in}
+use Rattle.mp4_frag.specs.words.OwnTrafs.{OwnSeen}
+use Rattle.mp4_frag.specs.format.FragmentSamples.{no_trex}
 use Rattle.mp4_frag.specs.declared.places.FragPlace.{FragPlace}
 use Rattle.mp4_frag.specs.declared.state.TrackState.{TrackState}
+use Rattle.mp4_frag.specs.declared.trex.Trex.{Trex}
 use Rattle.mp4_store.specs.words.Device.{HasRisen}
 use Rattle.mp4_boxes.specs.declared.refusal.Refusal.{Refusal}
 use Rattle.mp4_boxes.specs.declared.refusal.Refusal.TheVariants as refusals
 use Rattle.mp4_present.specs.words.InHand.{left_in_hand, AreLast}
-use Rattle.mp4_present.specs.words.OwnMoofs.{OwnSeen}
 use Rattle.mp4_present.specs.declared.in_hand.InHand.{InHand}
 use Rattle.mp4_present.specs.declared.in_hand.InHand.TheVariants as hands
 use Rattle.mp4_present.specs.declared.in_hand.Place.{Place}
@@ -42,21 +44,20 @@ pub record MovieSeen : Type 0 where
   pub top : TopBox
   pub moov : List ℕ
   pub file_len : ℕ
-  pub fragments : Option ℕ
   pub longest : ℕ
   pub tables : List TrackTables
   pub states : List TrackState
   pub room : ℕ
   pub tracks : List TrackInfo
-  -- for each track in order, which `moof`s have samples of it
+  -- for each track in order, which `traf`s have samples of it
   pub own : List OwnSeen
   pub mehd : ℕ
 
--- how long the longest `moof` of a track is, where there is such a track, and no longer than the
--- longest of the file
+-- how long the longest of a track's `traf`s is, where there is such a track, and no longer than the
+-- longest `moof` of the file
 abbrev pub room_of : Option OwnSeen → ℕ → ℕ
 room_of None longest = 0
-room_of (Some own) longest = min own.longest longest
+room_of (Some own) longest = min longest own.longest
 
 -- the room of a walk over the track at this place among the tracks
 abbrev pub own_room : MovieSeen → ℕ → ℕ
@@ -93,49 +94,53 @@ moov_box m = record {
   payload = m.moov;
 }
 
--- the payload of the `moof` in hand
-abbrev pub moof_bytes : Walk → List ℕ
-moof_bytes w = take w.used w.bytes.items
+-- what the fragments of the track at this place inherit
+abbrev pub trex_in : Option TrackState → Trex
+trex_in None = no_trex
+trex_in (Some state) = unwrap_or state.trex no_trex
 
--- the `moof` that the walk holds
-abbrev pub moof_box : Walk → Box
-moof_box w = record {
-  kind = w.moof.header.kind.0;
-  offset = w.moof.offset;
-  header = w.moof.header.header;
-  payload = moof_bytes w;
+abbrev pub trex_at : MovieSeen → ℕ → Trex
+trex_at m track = trex_in (slice_get m.states track)
+
+-- the payload of the `traf` in hand
+abbrev pub traf_bytes : Walk → List ℕ
+traf_bytes w = take w.used w.bytes.items
+
+-- the `traf` that the walk holds, from behind its header on
+abbrev pub traf_box : Walk → Box
+traf_box w = record {
+  kind = codes "traf";
+  offset = w.traf.at;
+  header = 0;
+  payload = traf_bytes w;
 }
 
 -- the walk stands before one of the samples in hand, or behind them
 abbrev pub StandsAt : MovieSeen → Walk → Place → Type 0
 StandsAt m w (Tables p) = (t : TrackTables) × (slice_get m.tables w.track ≡ Some t)
     × IsPlace (table_bytes m.moov t) t.tables p
-StandsAt m w (Fragment p) = (w.used ≤ length w.bytes.items) × Fills w.used w.moof
-    × IsPlaceIn (moof_bytes w) p
+StandsAt m w (Fragment p) = (w.used ≤ length w.bytes.items) × IsPlaceIn (traf_bytes w) p
 
 -- a walk over the samples of a track of this movie, wherever it stands
 pub record GoesOn (m : MovieSeen) (w : Walk) : Type 0 where
+  pub movie : IsMovie m
   pub track : w.track < length m.tracks
 
--- the samples of the track in the `moof` in hand: all, of which the first is due at this time, and
--- those from a place on
-abbrev pub all_in_moof : MovieSeen → Walk → TrackInfo → ℕ → List SampleAt
-all_in_moof m w info due = samples_in (moof_box w) m.states info.id due (keys_seen info.keys)
+-- the samples of the `traf` in hand: all, of which the first is due at this time, and those from a
+-- place on
+abbrev pub all_in_traf : MovieSeen → Walk → TrackInfo → ℕ → List SampleAt
+all_in_traf m w info due = samples_in (traf_bytes w) w.traf.base info.id (trex_at m w.track) due
+    (keys_seen info.keys)
 
-abbrev pub moof_hand : MovieSeen → Walk → FragPlace → CursorSeen
-moof_hand m w p = record {
-  payload = moof_bytes w;
-  moof = w.moof.offset;
-  tracks = m.states;
-  place = p;
-}
+abbrev pub traf_hand : Walk → FragPlace → CursorSeen
+traf_hand w p = record { payload = traf_bytes w; place = p }
 
--- the samples from a place on are the last of the tables, or of the `moof` in hand, before which
+-- the samples from a place on are the last of the tables, or of the `traf` in hand, before which
 -- this was due
 abbrev pub IsRest : MovieSeen → Walk → Option Due → Place → Type 0
 IsRest m w None (Tables p) = ⊤
 IsRest m w (Some before) (Fragment p) = (info : TrackInfo) → slice_get m.tracks w.track ≡ Some info
-    → AreLast (all_in_moof m w info before.time) (samples_coming (moof_hand m w p))
+    → AreLast (all_in_traf m w info before.time) (samples_coming (traf_hand w p))
 IsRest m w _ _ = ⊥
 
 -- the mark of where a walk stands, before so many samples
@@ -143,7 +148,7 @@ abbrev pub mark_of : Walk → ℕ → Mark
 mark_of w to_come = record {
   track = w.track;
   place = w.place;
-  moof = w.moof;
+  traf = w.traf;
   before = w.before;
   due = w.due;
   left = w.left;
@@ -151,14 +156,12 @@ mark_of w to_come = record {
   to_come = to_come;
 }
 
--- The walk has marked a place in the tables, or one in a `moof`, which is in hand or further in
+-- The walk has marked a place in the tables, or one in a `traf`, which is in hand or further in
 -- front.
 abbrev pub HasMarked : MovieSeen → Walk → Option Due → Place → Type 0
 HasMarked m w None (Tables p) = StandsAt m w (Tables p)
-HasMarked m w (Some before) (Fragment p) = (w.mark.moof.offset + w.mark.moof.header.header
-    ≤ w.mark.moof.header.end)
-    × (w.next ≡ w.mark.next → (w.before ≡ Some before) × (w.moof ≡ w.mark.moof)
-    × StandsAt m w (Fragment p) × IsRest m w (Some before) (Fragment p))
+HasMarked m w (Some before) (Fragment p) = w.next ≡ w.mark.next → (w.before ≡ Some before)
+    × (w.traf ≡ w.mark.traf) × StandsAt m w (Fragment p) × IsRest m w (Some before) (Fragment p)
 HasMarked m w _ _ = ⊥
 
 -- what the walk has marked is a place that it came past
@@ -178,8 +181,7 @@ pub record IsWalkOf (m : MovieSeen) (w : Walk) : Type 0 where
 abbrev pub HandAt : MovieSeen → Walk → Place → InHand → Type 0
 HandAt m w (Tables p) (hands.Tables c) = (t : TrackTables) × (slice_get m.tables w.track ≡ Some t)
     × (c ≡ record { tables = tables_seen m.moov t; place = p })
-HandAt m w (Fragment p) (hands.Fragment c) = c
-    ≡ record { payload = moof_bytes w; moof = w.moof.offset; tracks = m.states; place = p }
+HandAt m w (Fragment p) (hands.Fragment c) = c ≡ traf_hand w p
 HandAt m w _ _ = ⊥
 
 -- what the walk has in hand
@@ -190,7 +192,7 @@ InHandOf m w hand = HandAt m w w.place hand
 abbrev pub HasSome : MovieSeen → Walk → Type 0
 HasSome m w = (hand : InHand) × InHandOf m w hand × (0 < length (left_in_hand hand))
 
--- Why no further `moof` is loaded.
+-- Why no further `traf` is loaded.
 abbrev pub RefusesLoad : ℕ → ℕ → Refusal → Type 0
 RefusesLoad reads reads_after refusals.StoreFailed = HasRisen reads reads_after
 RefusesLoad reads reads_after refusals.StoreChanged = Unit {0}

@@ -1,7 +1,7 @@
 -- The next sample of a walk over a track of the file that its movie was opened from.
 use Rattle.std.specs.Prelude.{◌≡◌, ℕ, List, ◌∷◌, Option, None, Some}
 use Rattle.mp4_tables.specs.declared.sample.SampleAt.{SampleAt}
-use Rattle.mp4_frag.specs.format.Fragments.{FragmentTree}
+use Rattle.mp4_frag.specs.words.OwnTrafs.{PlacedTraf}
 use Rattle.mp4_head.specs.format.Tree.{TrackTree}
 use Rattle.mp4_present.specs.format.Denotes.{FileTree}
 use Rattle.mp4_present.specs.words.Movies.{MovieSeen}
@@ -19,5 +19,5 @@ TakesFirst file tree t m w samples s =
 abbrev pub TakesSample : List ℕ → FileTree → TrackTree → MovieSeen → Walk → List SampleAt
     → Option SampleAt → Type 0
 TakesSample file tree t m w samples (Some s) = TakesFirst file tree t m w samples s
-TakesSample file tree t m w samples None = (earlier later : List FragmentTree)
+TakesSample file tree t m w samples None = (earlier later : List PlacedTraf)
     × StandsBefore file tree t earlier later w × (samples ≡ samples_behind tree t earlier later)

@@ -34,6 +34,12 @@ abbrev pub RefusesSearch : Bool → ℕ → ℕ → Refusal → Type 0
 RefusesSearch honest reads reads_after (refusals.Fault f) = Unit {0}
 RefusesSearch honest reads reads_after r = RefusesNumbers honest reads reads_after r
 
+-- a fault is met, or there is no memory
+abbrev pub MeetsFault : Refusal → Type 0
+MeetsFault (refusals.Fault f) = Unit {0}
+MeetsFault refusals.Memory = Unit {0}
+MeetsFault _ = ⊥
+
 -- so many steps are left of those that the `moof`s of a file of so many bytes may take, with room
 -- for more samples and all bytes from a place on
 abbrev pub StepsFit : ℕ → ℕ → ℕ → ℕ → ℕ → Type 0

@@ -10,14 +10,15 @@ use Rattle.mp4_tables.specs.format.Tables.{tables_of}
 use Rattle.mp4_frag.specs.format.Fragments.{FragmentTree}
 use Rattle.mp4_frag.specs.format.FragmentSamples.{trex_for, duration_of, keys_behind, bytes_of}
 use Rattle.mp4_frag.specs.words.Judged.{TrackSeen, track_seen}
+use Rattle.mp4_frag.specs.words.OwnTrafs.{own_seen}
 use Rattle.mp4_frag.specs.declared.trex.Trex.{Trex}
 use Rattle.mp4_head.specs.format.Tree.{TrackTree, stbl_of, track_head_of, trexes_of}
 use Rattle.mp4_present.specs.format.Presentation.{Track, Presentation, IsWithinLimits, max_samples, movie_length, total_duration}
 use Rattle.mp4_present.specs.format.Denotes.{FileTree, Denotes, IsFileTree, IsSoundFile, IsConsistent, plain_of, plain_keys, file_parts, parts_of_track, placed_of, track_of, presentation_of}
 use Rattle.mp4_present.specs.format.Stands.{table_total}
 use Rattle.mp4_present.specs.words.Movies.{MovieSeen, moov_box, table_bytes}
-use Rattle.mp4_present.specs.words.Outline.{BeginAt, longest}
-use Rattle.mp4_present.specs.words.OwnMoofs.{AreOwn, own_seen}
+use Rattle.mp4_present.specs.words.Outline.{longest}
+use Rattle.mp4_present.specs.words.OwnTrafs.{AreOwn}
 use Rattle.mp4_frag.specs.declared.state.TrackState.{TrackState}
 use Rattle.mp4_head.specs.declared.heads.TrackHead.{TrackHead}
 use Rattle.mp4_present.specs.declared.opening.Found.{Found}
@@ -87,7 +88,6 @@ pub record IsOpenedAs (file : List ℕ) (m : MovieSeen) (t : FileTree) : Type 0 
   pub limits : IsWithinLimits (presentation_of file t)
   pub whole : m.file_len ≡ length file
   pub moov : moov_box m ≡ t.movie.moov
-  pub fragments : BeginAt m.fragments t.top
   pub longest_is : m.longest ≡ longest (of_kind (codes "moof") t.top)
   -- for each track in order
   pub tables : AllZip (AreTablesOf m.moov) t.movie.tracks m.tables
@@ -121,7 +121,6 @@ kept_of o moov file_length f = record {
   top = o.moov;
   moov = moov;
   file_len = file_length;
-  fragments = o.fragments;
   longest = o.longest;
   tables = f.plain.tables.items;
   states = f.plain.states.items;

@@ -9,7 +9,7 @@ use Rattle.mp4_boxes.specs.declared.refusal.Refusal.TheVariants as refusals
 use Rattle.mp4_present.specs.format.Denotes.{begins_with_movie}
 use Rattle.mp4_present.specs.format.Stands.{Stands}
 use Rattle.mp4_present.specs.words.Movies.{MovieSeen, moov_box}
-use Rattle.mp4_present.specs.words.Outline.{IsOutline, BeginAt, longest}
+use Rattle.mp4_present.specs.words.Outline.{IsOutline, longest}
 use Rattle.mp4_present.specs.declared.outline.Outline.{Outline}
 
 -- the file of an honest store has the boxes of the table, with this outline
@@ -18,15 +18,13 @@ HasOutline honest file o = IsTrue honest → (boxes : List Box)
     × Holds File (file_container file) boxes × (begins_with_movie boxes ≡ true)
     × IsOutline file boxes o
 
--- What is kept of the file: its length, its `moov`, where its first `moof` begins, and how long its
--- longest is.
+-- What is kept of the file: its length, its `moov`, and how long its longest `moof` is.
 pub record IsOpened (file : List ℕ) (m : MovieSeen) : Type 0 where
   pub boxes : List Box
   pub holds : Holds File (file_container file) boxes
   pub order : begins_with_movie boxes ≡ true
   pub whole : m.file_len ≡ length file
   pub moov : of_kind (codes "moov") boxes ≡ moov_box m ∷ []
-  pub fragments : BeginAt m.fragments boxes
   pub longest_is : m.longest ≡ longest (of_kind (codes "moof") boxes)
 
 -- Why a file is not opened. The numbers are counts of failed reads, before and after.

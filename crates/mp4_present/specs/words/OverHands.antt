@@ -1,7 +1,7 @@
 -- Samples of what a walk has in hand, taken in each file from which its movie was opened.
 use Rattle.std.specs.Prelude.{ℕ, List, Option, Result, IsOkAnd, Bool}
 use Rattle.mp4_tables.specs.declared.sample.SampleAt.{SampleAt}
-use Rattle.mp4_frag.specs.format.Fragments.{FragmentTree}
+use Rattle.mp4_frag.specs.words.OwnTrafs.{PlacedTraf}
 use Rattle.mp4_head.specs.format.Tree.{TrackTree}
 use Rattle.mp4_present.specs.format.Denotes.{FileTree}
 use Rattle.mp4_present.specs.words.Movies.{MovieSeen}
@@ -22,9 +22,9 @@ abbrev pub TakesOnIn : MovieSeen → Walk → Walk → ℕ → ℕ → Type 0
 TakesOnIn m w w_after old new = (file : List ℕ) (tree : FileTree) (t : TrackTree) (n : ℕ)
     → IsOpenedAs file m tree → MayTake file tree t w n → TakesOn file tree t n w_after old new
 
--- where the `moof` in the room comes next, its samples are taken into hand
-abbrev pub TakesNextMoof : {E : Type 0} → MovieSeen → Walk → Walk → Result Bool E → Type 0
-TakesNextMoof m w w_after result = (file : List ℕ) (tree : FileTree) (t : TrackTree)
-    (earlier later : List FragmentTree) (next : FragmentTree) → IsOpenedAs file m tree
+-- where the `traf` in the room comes next, its samples are taken into hand
+abbrev pub TakesNextTraf : {E : Type 0} → MovieSeen → Walk → Walk → Result Bool E → Type 0
+TakesNextTraf m w w_after result = (file : List ℕ) (tree : FileTree) (t : TrackTree)
+    (earlier later : List PlacedTraf) (next : PlacedTraf) → IsOpenedAs file m tree
     → HoldsNext file tree t earlier next later w
     → IsOkAnd result (λ some. Takes file tree t earlier next later m w_after some)

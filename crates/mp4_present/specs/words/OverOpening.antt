@@ -2,13 +2,14 @@
 use Rattle.std.specs.Prelude.{◌≡◌, ℕ, ◌+◌, ◌^◌, ◌≤◌, List, length, map, Result}
 use Rattle.mp4_boxes.specs.declared.refusal.Refusal.{Refusal}
 use Rattle.mp4_frag.specs.declared.state.TrackState.{TrackState}
+use Rattle.mp4_frag.specs.declared.own_trafs.OwnTrafs.{OwnTrafs}
+use Rattle.mp4_frag.specs.words.OwnTrafs.{own_seen}
 use Rattle.mp4_head.specs.declared.heads.TrackHead.{TrackHead}
 use Rattle.mp4_present.specs.words.OpenedMovie.{AreInfosBy}
-use Rattle.mp4_present.specs.words.OwnMoofs.{own_first, own_seen}
+use Rattle.mp4_present.specs.words.OwnTrafs.{none_noted}
 use Rattle.mp4_present.specs.words.ToOpen.{LooksAtMoofs, LooksToOpen, PassesNoting, WorksToOpen, ids_of}
 use Rattle.mp4_present.specs.format.ByBytes.{OpensWithin}
 use Rattle.mp4_present.specs.words.WalkSteps.{ChecksWithin, IfNoFault}
-use Rattle.mp4_present.specs.declared.own_moofs.OwnMoofs.{OwnMoofs}
 use Rattle.mp4_present.specs.declared.track_info.TrackInfo.{TrackInfo}
 
 -- the numbers of these tracks in these states, with their IDs
@@ -18,11 +19,12 @@ pub record HaveInfos (heads : List TrackHead) (states : List TrackState) (tracks
   pub ids : ids_of tracks ≡ map (λ (t : TrackHead). t.id) heads
   pub infos : AreInfosBy heads states tracks
 
--- Where nothing was noted of the tracks before, this is noted of each track's `moof`s behind all of
--- them.
-abbrev pub NotesOn : List ℕ → List TrackState → ℕ → List TrackState → List OwnMoofs
-    → List OwnMoofs → Type 0
-NotesOn file states room states_after own own_after = map own_seen own ≡ map own_first states
+-- Where nothing was noted of the tracks before, this is noted of each track's `traf`s behind all
+-- `moof`s.
+abbrev pub NotesOn : List ℕ → List TrackState → ℕ → List TrackState → List OwnTrafs
+    → List OwnTrafs → Type 0
+NotesOn file states room states_after own own_after =
+    map own_seen own ≡ map (λ _. none_noted) states
     → PassesNoting file states room states_after (map own_seen own_after)
 
 -- The checks of all `moof`s of a file, for so many tracks: where no fault is found, they take no

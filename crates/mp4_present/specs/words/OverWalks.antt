@@ -3,15 +3,16 @@
 use Rattle.std.specs.Prelude.{◌≡◌, ℕ, ◌+◌, ◌<◌, ◌≤◌, List, length, Bool, true, false, IsTrue, Some, slice_get, Result, MatchResult, OnOk}
 use Rattle.mp4_store.specs.declared.store.Store.{Ghosts as Store}
 use Rattle.mp4_tables.specs.declared.sample.SampleAt.{SampleAt}
-use Rattle.mp4_frag.specs.format.Fragments.{FragmentTree}
+use Rattle.mp4_frag.specs.words.OwnTrafs.{PlacedTraf}
 use Rattle.mp4_head.specs.format.Tree.{TrackTree}
 use Rattle.mp4_present.specs.format.Denotes.{FileTree}
+use Rattle.mp4_frag.specs.words.OwnTrafs.{traf_steps}
 use Rattle.mp4_present.specs.words.GoingBack.{GoesBackTo, HoldsSome, set_back}
 use Rattle.mp4_present.specs.words.InHand.{left_in_hand}
-use Rattle.mp4_present.specs.words.Movies.{MovieSeen, Fills, HasSome, InHandOf, IsRest, IsWalkOf, StandsAt, all_in_moof, mark_of, moof_box}
+use Rattle.mp4_present.specs.words.Movies.{MovieSeen, HasSome, InHandOf, IsRest, IsWalkOf, StandsAt, all_in_traf, mark_of, traf_box, traf_bytes}
 use Rattle.mp4_present.specs.words.OpenedMovie.{IsOpenedAs}
 use Rattle.mp4_present.specs.words.SamplesComing.{Comes, StandsBefore, Takes}
-use Rattle.mp4_present.specs.words.WalkSteps.{MayTake, TakesOn, moof_steps, steps_to, way_through}
+use Rattle.mp4_present.specs.words.WalkSteps.{MayTake, TakesOn, steps_to, way_through}
 use Rattle.mp4_present.specs.declared.in_hand.InHand.{InHand}
 use Rattle.mp4_present.specs.declared.track_info.TrackInfo.{TrackInfo}
 use Rattle.mp4_present.specs.declared.walks.Due.{Due}
@@ -27,9 +28,9 @@ WhereTrack S store m track P = IsTrue (S.is_honest store) → (tree : FileTree) 
 
 -- the same wherever the walk stands in that file
 abbrev pub WhereStands : {X : Type 0} → Store X → X → MovieSeen → Walk
-    → (List ℕ → FileTree → TrackTree → List FragmentTree → List FragmentTree → Type 0) → Type 0
+    → (List ℕ → FileTree → TrackTree → List PlacedTraf → List PlacedTraf → Type 0) → Type 0
 WhereStands S store m w P = IsTrue (S.is_honest store) → (tree : FileTree) (t : TrackTree)
-    (earlier later : List FragmentTree) → IsOpenedAs (S.file store) m tree
+    (earlier later : List PlacedTraf) → IsOpenedAs (S.file store) m tree
     → StandsBefore (S.file store) tree t earlier later w → P (S.file store) tree t earlier later
 
 -- the same of the samples that it has still to come
@@ -60,20 +61,19 @@ pub record IsWalkStill {T E : Type 0} (m : MovieSeen) (w w_after : Walk) (result
   pub room : length w_after.bytes.items ≡ length w.bytes.items
   pub mark : w_after.mark ≡ w.mark
 
--- Whether a further `moof` was loaded, of a file of so many bytes: it has samples of the track; or
--- none is left.
-pub record IsLoaded (bytes : ℕ) (m : MovieSeen) (w w_after : Walk) (more : Bool) : Type 0 where
+-- Whether a further `traf` was loaded: it has samples of the track; or none is left.
+pub record IsLoaded (m : MovieSeen) (w w_after : Walk) (more : Bool) : Type 0 where
   pub some : IsTrue more → HasSome m w_after
   pub holds : IsTrue more → HoldsSome m w_after
-  pub next : IsTrue more → (w.next < w_after.next) × (w_after.next ≤ bytes)
+  pub next : IsTrue more → w.next < w_after.next
+  pub fewer : IsTrue more → w_after.left < w.left
   pub still : more ≡ false → w_after ≡ w
   pub none : more ≡ false → w_after.left ≡ 0
 
--- ---- a `moof` in the room
+-- ---- a `traf` in the room
 
--- so many bytes of the room are the payload of the `moof`
-pub record HasMoof (w : Walk) : Type 0 where
-  pub fills : Fills w.used w.moof
+-- so many bytes of the room are the payload of the `traf`
+pub record HasTraf (w : Walk) : Type 0 where
   pub used : w.used ≤ length w.bytes.items
 
 -- all of its samples of the track are in hand, of which the first is due at this time
@@ -82,10 +82,10 @@ pub record HasInHand (m : MovieSeen) (w w_after : Walk) (before : Due) : Type 0 
   pub rest : IsRest m w_after (Some before) w_after.place
   pub all : (info : TrackInfo) → slice_get m.tracks w.track ≡ Some info
       → (hand : InHand) × InHandOf m w_after hand
-      × (left_in_hand hand ≡ all_in_moof m w info before.time)
-  pub way : steps_to w_after.place ≤ moof_steps (moof_box w)
+      × (left_in_hand hand ≡ all_in_traf m w info before.time)
+  pub way : steps_to w_after.place ≤ traf_steps (traf_box w)
   pub through : (t : TrackTree) → way_through t w_after w_after.place
-      ≡ moof_steps (moof_box w_after)
+      ≡ traf_steps (traf_box w_after)
 
 -- the walk has the same room, and stands at the same place of the file, as before
 pub record KeepsRoom (w w_after : Walk) : Type 0 where
@@ -94,12 +94,13 @@ pub record KeepsRoom (w w_after : Walk) : Type 0 where
   pub room : w_after.bytes ≡ w.bytes
   pub next : w_after.next ≡ w.next
 
--- what was due and left before the `moof`, and how many samples are left behind it
+-- what was due and left before the `traf`, and how many samples are left behind it
 pub record CountsOff (m : MovieSeen) (w w_after : Walk) : Type 0 where
   pub before : w_after.before ≡ Some (record { time = w.due; left = w.left })
-  pub moof : moof_box w_after ≡ moof_box w
+  pub traf : w_after.traf ≡ w.traf
+  pub bytes : traf_bytes w_after ≡ traf_bytes w
   pub counted : (info : TrackInfo) → slice_get m.tracks w.track ≡ Some info
-      → w.left ≡ length (all_in_moof m w info w.due) + w_after.left
+      → w.left ≡ length (all_in_traf m w info w.due) + w_after.left
 
 -- ---- going back to a mark
 
@@ -131,22 +132,24 @@ pub record IsAtMark (w w_after : Walk) : Type 0 where
   pub due : w_after.due ≡ w.mark.due
   pub next : w_after.next ≡ w.mark.next
 
--- the `moof` of the mark, before which this was due, is in hand again, from its first sample on
+-- the `traf` of the mark, before which this was due, is in hand again, from its first sample on
 pub record IsReadAgain (m : MovieSeen) (w w_after : Walk) (before : Due) : Type 0 where
+  pub track : w_after.track ≡ w.track
   pub next : w_after.next ≡ w.mark.next
   pub due : w_after.due ≡ w.mark.due
   pub left : w_after.left ≡ w.mark.left
   pub all : (info : TrackInfo) → slice_get m.tracks w.track ≡ Some info
       → (hand : InHand) × InHandOf m w_after hand
-      × (left_in_hand hand ≡ all_in_moof m w_after info before.time)
+      × (left_in_hand hand ≡ all_in_traf m w_after info before.time)
   pub through : (t : TrackTree) → way_through t w_after w_after.place
-      ≡ moof_steps (moof_box w_after)
+      ≡ traf_steps (traf_box w_after)
 
--- it is the `moof` that was in hand where the mark was made, at so many steps
+-- it is the `traf` that was in hand where the mark was made, at so many steps
 pub record TakesMarked (file : List ℕ) (tree : FileTree) (t : TrackTree)
-    (earlier : List FragmentTree) (next : FragmentTree) (later : List FragmentTree) (m : MovieSeen)
+    (earlier : List PlacedTraf) (next : PlacedTraf) (later : List PlacedTraf) (m : MovieSeen)
     (begun w_after : Walk) (old new : ℕ) : Type 0 where
   pub takes : Takes file tree t earlier next later m w_after true
-  pub moof : moof_box w_after ≡ moof_box begun
-  pub way : steps_to w_after.place ≤ moof_steps (moof_box begun)
+  pub traf : w_after.traf ≡ begun.traf
+  pub bytes : traf_bytes w_after ≡ traf_bytes begun
+  pub way : steps_to w_after.place ≤ traf_steps (traf_box begun)
   pub steps : new ≡ old + steps_to w_after.place

@@ -1,5 +1,5 @@
 -- What reads of a file behind a store answer.
-use Rattle.std.specs.Prelude.{◌≡◌, ℕ, ◌+◌, ◌-◌, ◌<◌, List, length, take, drop, Bool, true, IsTrue, Ok, Err, codes}
+use Rattle.std.specs.Prelude.{◌≡◌, ◌⊎◌, ℕ, ◌+◌, ◌-◌, ◌<◌, List, length, take, drop, Bool, true, IsTrue, Ok, Err, codes}
 use Rattle.mp4_store.specs.words.Device.{HasRisen}
 use Rattle.mp4_boxes.specs.format.Box.{Box}
 use Rattle.mp4_boxes.specs.format.BoxFaults.{header_there}
@@ -48,3 +48,11 @@ RefusesPayload room top reads reads_after refusals.StoreFailed = HasRisen reads 
 RefusesPayload room top reads reads_after refusals.StoreChanged = top.offset + top.header.header
     + room < top.header.end
 RefusesPayload room top reads reads_after _ = ⊥
+
+-- Why so many bytes of a file of a length, from a place on, are not read to a room.
+abbrev pub RefusesRange : ℕ → ℕ → ℕ → ℕ → ℕ → ℕ → Refusal → Type 0
+RefusesRange file_length room at len reads reads_after refusals.StoreFailed =
+    HasRisen reads reads_after
+RefusesRange file_length room at len reads reads_after refusals.StoreChanged = (room < len)
+    ⊎ (file_length < at + len)
+RefusesRange file_length room at len reads reads_after _ = ⊥

@@ -9,6 +9,7 @@ use Rattle.mp4_boxes.specs.declared.rule.Rule.TheVariants.{File}
 use Rattle.mp4_store.specs.words.Device.{range}
 use Rattle.mp4_frag.specs.format.Fragments.{FragmentTree}
 use Rattle.mp4_frag.specs.format.FragmentRows.{moof_says}
+use Rattle.mp4_frag.specs.words.OwnTrafs.{OwnSeen}
 use Rattle.mp4_frag.specs.declared.state.TrackState.{TrackState}
 use Rattle.mp4_frag.specs.declared.trex.Trex.{Trex}
 use Rattle.mp4_head.specs.declared.heads.TrackHead.{TrackHead}
@@ -19,7 +20,7 @@ use Rattle.mp4_present.specs.words.TrackTrees.{IsTrackOf, HaveTables}
 use Rattle.mp4_present.specs.declared.tables_pass.PlainTracks.{PlainTracks}
 use Rattle.mp4_present.specs.format.Denotes.{FileTree, IsFileTree, HasMovie}
 use Rattle.mp4_present.specs.words.Outline.{AreSeen}
-use Rattle.mp4_present.specs.words.OwnMoofs.{AreOwnBehind, OwnSeen}
+use Rattle.mp4_present.specs.words.OwnTrafs.{AreOwnBehind}
 use Rattle.mp4_present.specs.words.PassedMoofs.{IsBegun, IsPassed}
 use Rattle.mp4_present.specs.words.Reading.{IsTopHeader}
 use Rattle.mp4_present.specs.words.WalkSteps.{IfNoFault, opening_steps}
@@ -35,7 +36,7 @@ IsPayloadIn file o moov = moov ≡ range file (o.moov.offset + o.moov.header.hea
 abbrev pub ids_of : List TrackInfo → List ℕ
 ids_of tracks = map (λ (t : TrackInfo). t.id) tracks
 
--- the tables of all tracks that were found are plain in these bytes of a `moov`, and which `moof`s
+-- the tables of all tracks that were found are plain in these bytes of a `moov`, and which `traf`s
 -- each has is noted
 pub record HasTables (moov : List ℕ) (f : Found) : Type 0 where
   pub plain : ArePlain moov (length f.tracks.items) f.plain
@@ -52,10 +53,9 @@ WorksToOpen file result old new = (tree : FileTree) → IsFileTree file tree
 
 -- ---- looks at tracks
 
--- how often each track is looked at for a `moof`: once for each of its `traf`s, and once when it is
--- noted whether samples of the track are in it
+-- how often each track is looked at for a `moof`: once for each of its `traf`s
 unfoldable pub moof_looks : Box → ℕ
-moof_looks moof = 1 + length (moof_says moof).trafs
+moof_looks moof = length (moof_says moof).trafs
 
 -- the same for all of these
 abbrev pub boxes_looks : List Box → ℕ
@@ -94,7 +94,7 @@ abbrev pub PassesOn : List ℕ → List TrackState → ℕ → List TrackState �
 PassesOn file states room states_after = (movie : MovieTree) (boxes : List Box)
     → IsBegun file movie boxes states room → IsPassed file movie boxes states_after
 
--- the same, and these are then noted of each track's `moof`s
+-- the same, and these are then noted of each track's `traf`s
 abbrev pub PassesNoting : List ℕ → List TrackState → ℕ → List TrackState → List OwnSeen → Type 0
 PassesNoting file states room states_after owns = (movie : MovieTree) (boxes : List Box)
     → IsBegun file movie boxes states room → AreOwnBehind file movie boxes states_after owns

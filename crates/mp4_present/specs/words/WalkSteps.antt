@@ -12,10 +12,11 @@ use Rattle.mp4_tables.specs.format.Tables.{tables_of}
 use Rattle.mp4_tables.specs.format.TableRows.{table_rows}
 use Rattle.mp4_frag.specs.format.Fragments.{FragmentTree}
 use Rattle.mp4_frag.specs.format.FragmentRows.{fragment_rows, fragment_length, moof_says}
+use Rattle.mp4_frag.specs.words.OwnTrafs.{PlacedTraf, traf_steps}
 use Rattle.mp4_head.specs.format.Tree.{TrackTree}
 use Rattle.mp4_present.specs.format.Denotes.{FileTree, plain_of}
-use Rattle.mp4_present.specs.words.SamplesComing.{StandsBefore}
-use Rattle.mp4_present.specs.words.Movies.{moof_box}
+use Rattle.mp4_present.specs.words.SamplesComing.{StandsBefore, own_trafs}
+use Rattle.mp4_present.specs.words.Movies.{traf_box}
 use Rattle.mp4_present.specs.declared.walks.Walk.{Walk}
 use Rattle.mp4_present.specs.declared.in_hand.Place.{Place}
 use Rattle.mp4_present.specs.declared.in_hand.Place.TheVariants as places
@@ -69,17 +70,21 @@ table_way t = table_rows (tables_of t.table) + 3 * length (plain_of t)
 -- the way through what a walk has in hand that stands at a place
 abbrev pub way_through : TrackTree → Walk → Place → ℕ
 way_through t w (places.Tables p) = table_way t
-way_through t w (places.Fragment p) = moof_steps (moof_box w)
+way_through t w (places.Fragment p) = traf_steps (traf_box w)
+
+-- the ways through these `traf`s
+abbrev pub trafs_steps : List PlacedTraf → ℕ
+trafs_steps trafs = sum_of (λ (p : PlacedTraf). traf_steps p.traf) trafs
 
 -- The walk over this track may take so many steps more: to the end of what it has in hand, and for
--- each `moof` behind it a check and the way through it.
+-- each `traf` behind it a check and the way through it.
 pub record MayTake (file : List ℕ) (tree : FileTree) (t : TrackTree) (w : Walk) (n : ℕ)
     : Type 0 where
-  pub earlier : List FragmentTree
-  pub later : List FragmentTree
+  pub earlier : List PlacedTraf
+  pub later : List PlacedTraf
   pub stands : StandsBefore file tree t earlier later w
   pub inside : steps_to w.place ≤ way_through t w w.place
-  pub left : n + steps_to w.place ≡ way_through t w w.place + 2 * moofs_steps later
+  pub left : n + steps_to w.place ≡ way_through t w w.place + 2 * trafs_steps later
 
 -- Of so many steps some were taken, and the walk may take the others.
 abbrev pub TakesOn : List ℕ → FileTree → TrackTree → ℕ → Walk → ℕ → ℕ → Type 0
@@ -87,7 +92,7 @@ TakesOn file tree t n w old new = (rest : ℕ) × MayTake file tree t w rest × 
 
 -- a walk over all samples of a track of this file, from the first on
 abbrev pub walk_steps : FileTree → TrackTree → ℕ
-walk_steps tree t = table_way t + 2 * moofs_steps tree.fragments
+walk_steps tree t = table_way t + 2 * trafs_steps (own_trafs tree t)
 
 -- the same of all its tracks
 abbrev pub walks_steps : FileTree → ℕ

@@ -1,11 +1,18 @@
 -- The normal form of what is left of a file, where some of what it says is left out.
-use Rattle.std.specs.Prelude.{◌≡◌, ℕ, List}
+use Rattle.std.specs.Prelude.{◌≡◌, ℕ, List, Option}
 use Rattle.mp4_present.specs.format.Presentation.{Presentation}
 use Rattle.mp4_present.specs.format.Denotes.{Denotes}
-use Rattle.mp4_present.specs.format.Reduced.{reduce}
+use Rattle.mp4_present.specs.format.Reduced.{ReducesInTime, reduce}
 use Rattle.mp4_present.specs.declared.leaving.Leaving.{Leaving}
 use Rattle.mp4_plan.specs.format.Normal.{normal}
 
--- the file denotes a presentation, and these bytes are the normal form of what is left of it
+-- the file denotes a presentation, of which what is left is not too long, and these bytes are the
+-- normal form of that
 abbrev pub HasReducedForm : Leaving → List ℕ → List ℕ → Type 0
-HasReducedForm l file bytes = (p : Presentation) × Denotes file p × (bytes ≡ normal (reduce l p))
+HasReducedForm l file bytes = (p : Presentation) × Denotes file p × ReducesInTime l p
+    × (bytes ≡ normal (reduce l p))
+
+-- where what is left of what the file denotes is too long, nothing is put
+abbrev pub PutsNoneTooLong : Leaving → List ℕ → Option (List ℕ) → Option (List ℕ) → Type 0
+PutsNoneTooLong l file before after = (p : Presentation) → Denotes file p
+    → (ReducesInTime l p → ⊥) → after ≡ before

@@ -23,10 +23,13 @@ abbrev pub most_steps : ℕ → ℕ → ℕ → ℕ
 most_steps tracks samples rows = 8 * ((tracks + 1) * (samples + rows))
 
 -- The steps taken over a file to write its normal form. Where it denotes a presentation: by the
--- tracks, samples and rows of that. Where it denotes nothing: by its bytes.
+-- tracks, samples and rows of that; and 12 for each sample and each row, however many tracks there
+-- are. Where it denotes nothing: by its bytes.
 pub record WorksWithin (file : List ℕ) (old new : ℕ) : Type 0 where
   pub denoted : (p : Presentation) → (d : Denotes file p)
       → new ≤ old + most_steps (length p.tracks) (sample_total p) (row_total d.tree)
+  pub few : (p : Presentation) → (d : Denotes file p)
+      → new ≤ old + 12 * (sample_total p + row_total d.tree)
   pub refused : DenotesNothing file → OpensWithin file old new
 
 -- The steps of looking at a file, and of a walk over one of its tracks: 8 for each sample and each
@@ -38,20 +41,19 @@ pub record WalksWithin (file : List ℕ) (old new : ℕ) : Type 0 where
 
 -- ---- looks
 
--- at how many places of a file its tracks are looked at: each `traf`, and each `moof`
+-- at how many places of a file its tracks are looked at: each `traf`
 abbrev pub place_total : FileTree → ℕ
-place_total tree = sum_of (λ (f : FragmentTree). 1 + length (fragment_of f).trafs) tree.fragments
+place_total tree = sum_of (λ (f : FragmentTree). length (fragment_of f).trafs) tree.fragments
 
--- The looks at a file: at each track, at most one for each `traf` and each `moof`. Where it denotes
--- nothing: by its bytes.
+-- The looks at a file: at each track, at most one for each `traf`. Where it denotes nothing: by its
+-- bytes.
 pub record FindsWithin (file : List ℕ) (old new : ℕ) : Type 0 where
   pub denoted : (p : Presentation) → (d : Denotes file p)
       → new ≤ old + length p.tracks * place_total d.tree
   pub refused : DenotesNothing file → LooksByBytes file old new
 
 -- The looks taken to write a file's normal form: those at the file, and the turns of two ways over
--- all pieces, to plan and to write; a turn takes a sample, or leads on to the next track or
--- fragment.
+-- all pieces, to plan and to write; a turn takes samples of a track.
 pub record TurnsWithin (file : List ℕ) (old new : ℕ) : Type 0 where
   pub denoted : (p : Presentation) → (d : Denotes file p) → new ≤ old
       + (length p.tracks * place_total d.tree + 2 * most_turns (sample_total p) (length p.tracks))

@@ -33,6 +33,10 @@ says_nothing (Some text) = false
 abbrev pub WalksTwice : FileTree → FileTree → ℕ → ℕ → Type 0
 WalksTwice tree other old new = new ≤ old + 2 * (walks_steps tree + walks_steps other)
 
+-- and of at most three
+abbrev pub WalksThrice : FileTree → FileTree → ℕ → ℕ → Type 0
+WalksThrice tree other old new = new ≤ old + 3 * (walks_steps tree + walks_steps other)
+
 -- nothing was put where two files are the same, else some text
 abbrev pub PutsAnswer : Option (List ℕ) → Option (List ℕ) → Bool → Type 0
 PutsAnswer before after true = after ≡ before

@@ -1,10 +1,13 @@
-use Rattle.std.proofs.Common.{◌≡◌, ◌≤◌, length}
+use Rattle.std.proofs.Common.{◌≡◌, ◌≤◌, length, map}
 use Rattle.mp4_boxes.specs.words.View.{box_seen}
 use Rattle.mp4_frag.specs.words.Finding.{IsKnown}
+use Rattle.mp4_frag.specs.words.OwnTrafs.{own_seen}
 use Rattle.mp4_frag.specs.words.States.{HaveRoom}
+use Rattle.mp4_frag.proofs.ChecksStopped.{MoofTaken}
 use Rattle.mp4_frag.proofs.Costs.{MoofCost}
 use Rattle.mp4_frag.proofs.CheckLooks.{MoofLooked}
 use Rattle.mp4_frag.proofs.MoofPassed.{MoofSeen, MovesSeen}
+use Rattle.mp4_frag.proofs.OwnNoted.{NotesSeen}
 use Rattle.mp4_frag.proofs.check.check_moof.Given as goal
 
 -- there is room for what is left of the room, and the `traf`s so far are sound
@@ -20,3 +23,5 @@ invariant-loop-child g l =
     × IsKnown l.tracks l.known
     × MoofLooked l.initial.child-iterator l.child-iterator (length l.fn.tracks) l.fn.looks l.looks
     × (length l.tracks ≡ length l.fn.tracks)
+    × NotesSeen (box_seen l.moof).offset l.fn.tracks l.initial.child-iterator l.child-iterator l.before l.tracks (map own_seen l.fn.own) (map own_seen l.own)
+    × MoofTaken l.initial.child-iterator l.child-iterator l.fn.room l.room

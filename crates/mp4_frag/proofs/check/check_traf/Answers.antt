@@ -18,6 +18,7 @@ use Rattle.mp4_frag.proofs.Bounds.{up_to_near}
 use Rattle.mp4_frag.proofs.StateLists.{has_room, less_room, room_with}
 use Rattle.mp4_frag.proofs.TracksFound.{known_set}
 use Rattle.mp4_frag.specs.declared.state.TrackState.{TrackState}
+use Rattle.mp4_frag.proofs.OwnNoted.{ids_set, traf_notable}
 use Rattle.mp4_frag.proofs.TrafPassed.{traf_sound, found_trex, trex_same}
 use Rattle.mp4_frag.proofs.check.check_traf.Goals as goal
 use Rattle.mp4_frag.proofs.check.check_traf.Goals.{in-Some-time+else-is_late, in_default-time}
@@ -88,6 +89,21 @@ returns-clause-passed g c =
           c.in-Some-find_track.ensures.inside c.in-Some-find_track.ensures.there.found c.in-Some-find_track.ensures.there.first c.index-tracks-k.is c.in-Some-trex.is c.what_is_inherited.ensures c.in_ok-passed.ensures.runs.count c.in_ok-passed.ensures.runs.lasting c.in_ok-passed.ensures.runs.filling
           c.in_ok-keys.ensures.sound c.in_ok-keys.ensures.keys (sym c.if-lacks_description.ensures) late c.in_ok-time.ensures.time m.none m.some c.in_ok-passed.ensures.taken;
     }
+
+pub returns-clause-ids : goal.returns-clause-ids
+returns-clause-ids g c =
+    ids_set c.in-Some-find_track.k c.args.tracks.now _ c.moved_on.result c.in-Some-find_track.ensures.inside (c.moved_on.ensures.same.0 ∙ ap (λ (t : TrackState). t.id) c.index-tracks-k.is)
+
+pub returns-clause-own : goal.returns-clause-own
+returns-clause-own g c =
+    let same : to_z w128 (of_z w128 c.base_of.result) ≡ c.base_of.result = search rules in
+    let twice : to_z w128 (of_z w128 (to_z w128 (of_z w128 c.base_of.result))) ≡ c.base_of.result = search rules in
+    let before : to_z w128 (of_z w128 c.args.before) ≡ c.args.before = search rules in
+    let head : of_kind (codes "tfhd") (children_of (box_seen c.args.traf)) ≡ box_seen c.in-Some.tfhd ∷ [] = sym c.in_ok-heads.ensures.head ∙ ap (λ (o : Option BoxView). only_list (option_map box_seen o)) c.in-Some.is in
+    let known : trex_among c.args.tracks.now c.in_ok-head.head.id ≡ Some c.in-Some-trex.trex = found_trex c.args.tracks.now c.in_ok-head.head.id c.in-Some-find_track.k _ c.in-Some-trex.trex
+    c.in-Some-find_track.ensures.inside c.in-Some-find_track.ensures.there.found (ap (λ t. t.trex) (sym c.index-tracks-k.is) ∙ c.in-Some-trex.is) in
+    traf_notable c.args.moof c.in_ok-passed.passed.count c.in-Some-find_track.k c.args.before c.base_of.result _ c.args.tracks.now (box_seen c.args.traf) (box_seen c.in-Some.tfhd) c.in_ok-head.head c.in-Some-trex.trex c.note_of.result
+    head c.in_ok-head.ensures.head known c.in-Some-find_track.ensures.inside c.in-Some-find_track.ensures.there.found (rw before at c.base_of.ensures.is) c.in_ok-passed.ensures.runs.count (rw twice at c.note_of.ensures)
 
 pub returns-in_default-clause-fault : goal.returns-in_default-clause-fault
 returns-in_default-clause-fault g c =

@@ -1,11 +1,9 @@
-use Rattle.std.proofs.Common.{◌≡◌, ◌+◌, ◌≤◌, to_z, of_z, sym, ap, ◌∙◌, rules}
+use Rattle.std.proofs.Common.{◌≡◌, ◌+◌, ◌≤◌, to_z, of_z, rules}
 use Rattle.std.specs.Int.{w128}
 use Rattle.mp4_frag.specs.words.Walks.{reached, part_of}
 use Rattle.mp4_frag.proofs.LeavesRead.{run_skipped, run_room, rows_taken, run_own}
 use Rattle.mp4_frag.proofs.RowsLeft.{no_rows}
 use Rattle.mp4_frag.proofs.WalkWork.{run_cost, own_work}
-use Rattle.mp4_frag.specs.declared.places.FragPlace.{FragPlace}
-use Rattle.mp4_frag.proofs.TrafsSkipped.{run_over}
 use Rattle.mp4_frag.proofs.opened_runs.open_run.Goals as goal
 
 pub returns-in_default-clause-coming : goal.returns-in_default-clause-coming
@@ -13,19 +11,11 @@ returns-in_default-clause-coming c more =
     let part = part_of c.args.payload.now c.args.lying.inside c.args.lying.end in
     run_skipped (reached c.args.payload.now c.args.place.now) part _ c.args.place.now.run.first_flags _ more c.in_default.ensures.fault c.in_default.ensures.unread (no_rows c.args.payload.now c.args.place.now.run c.requires.none)
 
-pub returns-then-not-place-clause-coming : goal.returns-then-not-place-clause-coming
-returns-then-not-place-clause-coming c more =
-    let part = part_of c.args.payload.now c.args.lying.inside c.args.lying.end in
-    let r = c.pass_run.result in
-    let none : r.run.left ≡ 0 = ap (λ (p : FragPlace). p.run.left) c.pass_run.ensures.same ∙ c.requires.none in
-    rw (no_rows c.args.payload.now r.run none) (ap more c.pass_run.ensures.reached ∙ sym (run_over (reached c.args.payload.now c.args.place.now) part more c.if-not-place.true))
-
 pub returns-clause-place : goal.returns-clause-place
 returns-clause-place c =
     let p = c.requires.place in
     record {
-      next = c.requires.order.1;
-      traf = p.traf;
+      next = c.requires.lies.within;
       rows = run_room c.args.payload.now c.args.lying.inside c.args.lying.end c.in-Ok.run' c.requires.lies.inside c.requires.lies.within c.in-Ok.ensures.run;
       indexes = p.indexes;
       work = own_work _ c.args.place.now.passed _ c.in-Ok.run'.count _ _ (run_cost (part_of c.args.payload.now c.args.lying.inside c.args.lying.end) c.in-Ok.run' c.in-Ok.ensures.run) (let more : c.saturating_add-place.result ≤ c.args.place.now.passed + 1 = search rules in more) c.requires.work;
@@ -39,4 +29,4 @@ returns-clause-coming c more =
     let before : to_z w128 (of_z w128 c.args.place.now.at) ≡ c.args.place.now.at = search rules in
     let run = c.in-Ok.run' in
     let rows = rows_taken c.args.payload.now c.args.lying.inside c.args.lying.end run run.first_flags c.requires.lies.inside c.requires.lies.within c.in-Ok.ensures.run in
-    rw at (run_own (reached c.args.payload.now c.args.place.now) part run c.begin-place.result _ more c.if-not-place.false c.in-Ok.ensures.run (rw (base, before) at c.begin-place.ensures) rows)
+    rw at (run_own (reached c.args.payload.now c.args.place.now) part run c.begin-place.result _ more c.in-Ok.ensures.run (rw (base, before) at c.begin-place.ensures) rows)

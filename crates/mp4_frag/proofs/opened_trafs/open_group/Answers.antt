@@ -9,5 +9,5 @@ returns-clause-indexes c =
     let payload = c.args.payload.now in
     let place = c.args.place.now in
     c.open_rows.ensures.opened
-    ∙ group_taken payload c.args.lying.inside c.args.lying.end c.in-Some.j c.in-Ok.group (keys_seen place.keys) (indexes_coming payload place.index_rows place.indexes) _
+    ∙ group_taken payload c.args.lying.inside c.args.lying.end c.in-Some.j c.in-Ok.group (keys_seen c.args.keys) (indexes_coming payload place.index_rows place.indexes) _
     c.requires.lies.inside c.requires.lies.within c.in-Ok.ensures.group c.in-Some.ensures refl

@@ -102,7 +102,7 @@ loop-left-preserved g c =
       went =
           let m = c.args.movie.now in
           let more = l.answer.next (search rules) in
-          went_loaded m c.args.walk.now c.keep.new.self _ _ (went_kept m c.args.walk.now c.loop-left.walk _ _ i.went c.place-place.result c.keep.new.self _ c.keep.ensures.place c.keep.ensures.work) c.load.new.self _ l.walk.mark l.grows more.0 (l.answer.holds (search rules));
+          went_loaded m c.args.walk.now c.keep.new.self _ _ (went_kept m c.args.walk.now c.loop-left.walk _ _ i.went c.place-place.result c.keep.new.self _ c.keep.ensures.place c.keep.ensures.work) c.load.new.self _ l.walk.mark l.grows more (l.answer.holds (search rules));
       takes = λ told.
           let file = g.S.Store.file c.args.store.now in
           let m = c.args.movie.now in

@@ -26,4 +26,4 @@ invariant-loop-left g l = record {
 }
 
 abbrev pub decreases-loop-left : goal.decreases-loop-left
-decreases-loop-left g l = length (g.S.Store.file l.store) - l.walk.next
+decreases-loop-left g l = l.walk.left

@@ -20,4 +20,4 @@ invariant-loop-sample g l = record {
 }
 
 abbrev pub decreases-loop-sample : goal.decreases-loop-sample
-decreases-loop-sample g l = length (g.S.Store.file l.store) - l.walk.next
+decreases-loop-sample g l = l.walk.left

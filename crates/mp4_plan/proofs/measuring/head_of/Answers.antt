@@ -21,3 +21,6 @@ returns-then-head_len-gt-MOST_HEAD-clause-unchanged c file tree o same =
 
 pub returns-clause-head : goal.returns-clause-head
 returns-clause-head c file tree o same = c.in_ok-head_bytes.ensures.bytes ∙ ap (λ n. head_bytes (movie_seen c.in_ok-head.head) (tracks_seen c.in_ok-head.head) n) same ∙ (c.in_ok-head.ensures.left file tree o).bytes
+
+pub returns-clause-named : goal.returns-clause-named
+returns-clause-named c = record { head = c.in_ok-head.head; left = c.in_ok-head.ensures.own; mehd = c.args.mehd; is = c.in_ok-head_bytes.ensures.bytes }

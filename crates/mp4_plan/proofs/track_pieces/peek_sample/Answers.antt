@@ -44,7 +44,7 @@ loop-walk-preserved g c =
           let k = i.coming told tree t samples o h in
           loads_on (g.S.Store.file c.args.store.now) c.args.movie.now tree t c.loop-walk.walk c.load.new.self samples k i.first.0 i.first.1.0 (none_left i.first.0 c.loop-walk.next i.first.1.1 is_none) c.in_ok-load.field-0 c.if-branch.true
           ((rw (i.honesty, i.file) at e.loaded) told tree t k.0 k.1 o k.3.0);
-      went = went_loaded c.args.movie.now c.args.walk.now c.loop-walk.walk _ _ i.went c.load.new.self _ e.walk.mark e.grows (e.answer.next c.if-branch.true).0 (e.answer.holds c.if-branch.true);
+      went = went_loaded c.args.movie.now c.args.walk.now c.loop-walk.walk _ _ i.went c.load.new.self _ e.walk.mark e.grows (e.answer.next c.if-branch.true) (e.answer.holds c.if-branch.true);
       takes = λ told. loads_before (g.S.Store.file c.args.store.now) c.args.movie.now c.args.walk.now c.loop-walk.walk _ _ (i.takes told) c.load.new.self _ ((rw (i.honesty, i.file) at e.work) told);
     }
 

@@ -23,4 +23,4 @@ invariant-loop-walk g l = record {
 }
 
 abbrev pub decreases-loop-walk : goal.decreases-loop-walk
-decreases-loop-walk g l = length (g.S.Store.file l.store) - l.walk.next
+decreases-loop-walk g l = l.walk.left

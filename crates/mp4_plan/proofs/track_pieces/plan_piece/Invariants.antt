@@ -20,4 +20,4 @@ invariant-loop-planner g l = record {
 }
 
 abbrev pub decreases-loop-planner : goal.decreases-loop-planner
-decreases-loop-planner g l = length (g.S.Store.file l.store) - l.walk.next
+decreases-loop-planner g l = l.walk.left

@@ -1,4 +1,4 @@
-use Rattle.std.proofs.Common.{◌++◌, arith, refl, subst}
+use Rattle.std.proofs.Common.{List, ℕ, ◌++◌, arith, refl, subst}
 use Rattle.std.proofs.lemmas.Result.{err_from_is_err_and}
 use Rattle.std.specs.Io.KnownBytes.{Appends}
 use Rattle.std.specs.Prelude.{OnOk, OnErr}
@@ -7,12 +7,12 @@ use Rattle.mp4_store.proofs.Known.{AppendsPrefix-nothing}
 use Rattle.mp4_present.specs.format.Denotes.{presentation_of}
 use Rattle.mp4_present.specs.declared.leaving.Leaving.{Leaving}
 use Rattle.mp4_present.specs.format.Reduced.{ReducesInTime, reduce}
-use Rattle.mp4_present.specs.words.Carried.{waiting}
 use Rattle.mp4_present.proofs.WalkCopied.{on_ok}
 use Rattle.mp4_plan.specs.format.Normal.{normal}
 use Rattle.mp4_plan.specs.words.Writers.{IsReady}
 use Rattle.mp4_plan.proofs.AllPut.{still_opened}
-use Rattle.mp4_plan.proofs.LeftRefused.{so_if_ok, carried_names}
+use Rattle.mp4_plan.proofs.LeftRefused.{so_if_ok, so_if_err, plan_puts_nothing, carried_left, carried_names}
+use Rattle.mp4_plan.specs.words.PutPieces.{IsPutWhole}
 use Rattle.mp4_plan.proofs.writer.write_reduced.Goals as goal
 
 pub returns-in_err-writer-clause-prefix : goal.returns-in_err-writer-clause-prefix
@@ -25,7 +25,7 @@ returns-clause-bytes g c = λ told tree o.
     let bytes = still_opened _ _ _ _ c.args.movie.now (λ file t. IsReady file t c.args.movie.now c.in_ok-writer.writer → OnOk c.write.result (Appends (g.K.Sink.contents c.args.sink.now) (g.K.Sink.contents c.write.new.sink) (normal (reduce c.in_ok-writer.writer.leaving (presentation_of file t)))))
     c.in_ok-writer.ensures.store.honesty c.in_ok-writer.ensures.store.file c.write.ensures.bytes in
     subst (λ (l : Leaving). OnOk c.write.result (Appends (g.K.Sink.contents c.args.sink.now) (g.K.Sink.contents c.write.new.sink) (normal (reduce l (presentation_of (g.S.Store.file c.args.store.now) tree)))))
-    c.in_ok-writer.ensures.made.left (bytes told tree o (c.in_ok-writer.ensures.ready told tree o))
+    c.in_ok-writer.ensures.made.left (bytes told tree o (c.in_ok-writer.ensures.ready told tree o).ready)
 
 pub returns-clause-prefix : goal.returns-clause-prefix
 returns-clause-prefix g c = λ told tree o.
@@ -33,15 +33,19 @@ returns-clause-prefix g c = λ told tree o.
     → OnErr c.write.result (AppendsPrefix (g.K.Sink.contents c.args.sink.now) (g.K.Sink.contents c.write.new.sink) (normal (reduce c.in_ok-writer.writer.leaving (presentation_of file t)))))
     c.in_ok-writer.ensures.store.honesty c.in_ok-writer.ensures.store.file c.write.ensures.prefix in
     subst (λ (l : Leaving). OnErr c.write.result (AppendsPrefix (g.K.Sink.contents c.args.sink.now) (g.K.Sink.contents c.write.new.sink) (normal (reduce l (presentation_of (g.S.Store.file c.args.store.now) tree)))))
-    c.in_ok-writer.ensures.made.left (prefix told tree o (c.in_ok-writer.ensures.ready told tree o))
+    c.in_ok-writer.ensures.made.left (prefix told tree o (c.in_ok-writer.ensures.ready told tree o).ready)
 
 pub returns-clause-whole : goal.returns-clause-whole
-returns-clause-whole g c = on_ok _ _ c.write.result (λ x. (waiting c.in_ok-writer.writer.carrier ++ c.in_ok-writer.writer.head.items, x)) c.write.ensures.whole
+returns-clause-whole g c =
+    let w = c.in_ok-writer.writer in
+    let made = c.in_ok-writer.ensures.made in
+    on_ok _ _ c.write.result
+    (λ x. (w.head.items, made.named, subst (λ (bs : List ℕ). IsPutWhole c.args.movie.now (g.K.Sink.contents c.args.sink.now) (g.K.Sink.contents c.write.new.sink) (bs ++ w.head.items)) made.empty x)) c.write.ensures.whole
 
 pub returns-clause-unchanged : goal.returns-clause-unchanged
 returns-clause-unchanged g c = λ told tree o.
     let unchanged = rw (c.in_ok-writer.ensures.store.honesty, c.in_ok-writer.ensures.store.file) at c.write.ensures.unchanged in
-    unchanged told tree o (c.in_ok-writer.ensures.ready told tree o)
+    unchanged told tree o (c.in_ok-writer.ensures.ready told tree o).ready
 
 pub returns-clause-work : goal.returns-clause-work
 returns-clause-work g c = λ told tree o.
@@ -55,7 +59,7 @@ returns-clause-work g c = λ told tree o.
 pub returns-in_err-writer-clause-long : goal.returns-in_err-writer-clause-long
 returns-in_err-writer-clause-long g c = λ told tree o.
     let p = err_from_is_err_and c.from_residual.result c.from_residual.ensures.1 in
-    rw (p.1, p.2) (record { in_time = tt; fault = c.in_err-writer.ensures.fault told tree o; nothing = λ long. refl })
+    rw (p.1, p.2) (record { in_time = tt; fault = c.in_err-writer.ensures.fault told tree o; nothing = λ long. refl; begun = plan_puts_nothing c.args.leaving _ _ c.in_err-writer.field-0.0 _ c.in_err-writer.ensures.refusal })
 
 pub returns-clause-long : goal.returns-clause-long
 returns-clause-long g c = λ told tree o.
@@ -65,4 +69,8 @@ returns-clause-long g c = λ told tree o.
       in_time = so_if_ok c.write.result (ReducesInTime c.args.leaving (presentation_of file tree)) in_time;
       fault = carried_names c.args.leaving file tree c.write.result _ _ _ _ c.write.ensures.refusal;
       nothing = λ long. absurd (long in_time);
+      begun = so_if_err c.write.result _ in_time;
     }
+
+pub returns-clause-refusal : goal.returns-clause-refusal
+returns-clause-refusal g c = carried_left c.args.leaving c.write.result _ _ _ _ _ _ (rw c.in_ok-writer.ensures.store.reads at c.write.ensures.refusal)

@@ -1,6 +1,6 @@
 use Rattle.std.proofs.Common.{rules, refl, ◌≡◌, ◌<◌, ◌≤◌, length, min, slice_index_or}
 use Rattle.std.proofs.lemmas.Result.{err_from_is_err_and}
-use Rattle.mp4_present.proofs.MoofTaken.{at_place}
+use Rattle.mp4_present.proofs.TrafTaken.{at_place}
 use Rattle.mp4_present.proofs.TracksCompared.{takes_nothing}
 use Rattle.mp4_present.proofs.WalkPlaces.{got}
 use Rattle.mp4_present.proofs.FilesCompared.{below, first_part, movie_begun, all_over, files_first, files_next, files_stop, files_most, files_all, files_front, files_work, infos_all, heads_all, head_own}

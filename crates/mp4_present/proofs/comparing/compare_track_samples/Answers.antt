@@ -2,7 +2,7 @@ use Rattle.std.proofs.Common.{rules, refl, List, ◌≡◌, ◌<◌, ◌≤◌, 
 use Rattle.std.proofs.lemmas.Result.{err_from_is_err_and}
 use Rattle.mp4_present.specs.words.Compared.{TakesFront}
 use Rattle.mp4_present.specs.declared.differences.Difference.{Difference}
-use Rattle.mp4_present.proofs.MoofTaken.{at_place}
+use Rattle.mp4_present.proofs.TrafTaken.{at_place}
 use Rattle.mp4_present.proofs.PairsCompared.{both_most}
 use Rattle.mp4_present.proofs.TracksCompared.{takes_nothing, grows_front, count_is, rest_lies, pairs_first, pairs_next, pairs_stop, pairs_most, pairs_work, pairs_all, pairs_are, min_over}
 use Rattle.mp4_present.proofs.comparing.compare_track_samples.Goals as goal

@@ -1,5 +1,5 @@
 use Rattle.std.proofs.Common.{rules, refl, ◌≡◌, ◌+◌, slice_index_or}
-use Rattle.mp4_present.proofs.MoofTaken.{at_place}
+use Rattle.mp4_present.proofs.TrafTaken.{at_place}
 use Rattle.mp4_present.proofs.TracksCompared.{takes_nothing}
 use Rattle.mp4_present.proofs.FilesCompared.{if_ok, first_part, second_part, both_parts, track_begun}
 use Rattle.mp4_present.proofs.comparing.compare_tracks.Goals as goal

@@ -1,8 +1,8 @@
-use Rattle.std.proofs.Common.{◌≡◌, ◌+◌, ◌≤◌, rules, arith, length, refl, subst, ℕ}
+use Rattle.std.proofs.Common.{◌≡◌, rules, length, refl, subst, ℕ}
 use Rattle.std.specs.Prelude.{unwrap_or}
 use Rattle.std.proofs.lemmas.Result.{err_from_is_err_and}
 use Rattle.mp4_boxes.specs.words.View.{box_seen}
-use Rattle.mp4_present.proofs.FaultGaps.{not_found, not_read, left_before}
+use Rattle.mp4_present.proofs.FaultGaps.{not_found, not_read, meets, not_searched, left_before}
 use Rattle.mp4_present.proofs.FragmentPass.{Left, left_first, left_next}
 use Rattle.mp4_present.proofs.LooksCounted.{none_looked, all_looked, looks_before, next_looks, refused_looks}
 use Rattle.mp4_present.proofs.MoofBytes.{none_fit, next_fits, all_fit, refused_fits}
@@ -77,9 +77,14 @@ returns-in_err-check_moof-clause-work g c =
     } in
     record {
       steps = refused_fits file c.loop-top.next c.in-Some.top within.0 within.1 (box_seen c.view-moof.result) c.read_payload.new.room c.in_ok-len.len r _ _ _ _ c.check_moof.ensures.work.most (i.fit told);
-      looks = refused_looks file c.loop-top.next c.in-Some.top within.0 within.1 within.3 (box_seen c.view-moof.result) c.read_payload.new.room c.in_ok-len.len r
+      looks = refused_looks file c.loop-top.next c.in-Some.top within.0 within.1 (box_seen c.view-moof.result) c.read_payload.new.room c.in_ok-len.len r
           (length c.args.states.now) _ _ _ (rw many at c.check_moof.ensures.looks.most) (i.looks told);
     }
+
+pub returns-in_err-check_moof-clause-refusal : goal.returns-in_err-check_moof-clause-refusal
+returns-in_err-check_moof-clause-refusal g c =
+    let p = err_from_is_err_and c.from_residual-in_err-check_moof.result c.from_residual-in_err-check_moof.ensures.1 in
+    rw (p.1, p.2) (not_searched (g.S.Store.is_honest c.args.store.now) _ _ c.in_err-check_moof.field-0.0 (meets _ _ _ _ (box_seen c.view-moof.result) c.in_err-check_moof.field-0.0 c.in_err-check_moof.ensures.refusal))
 
 pub loop-top-preserved : goal.loop-top-preserved
 loop-top-preserved g c =
@@ -116,9 +121,8 @@ loop-top-preserved g c =
             read = (rw (c.in_ok-top.ensures.store.honesty, i.honesty, c.in_ok-top.ensures.store.file, i.file) at c.in_ok-len.ensures.bytes) told;
             of_bytes = c.in_ok-len.ensures.room;
           } in
-          let some : c.check_moof.new.looks ≤ c.check_moof.new.looks + length c.args.states.now = omega arith in
-          next_looks file c.loop-top.next c.in-Some.top within.0 within.1 within.3 (box_seen c.view-moof.result) c.read_payload.new.room c.in_ok-len.len r
-          (length c.args.states.now) _ _ _ _ (rw many at c.check_moof.ensures.looks.most) some (i.looks told);
+          next_looks file c.loop-top.next c.in-Some.top within.0 within.1 (box_seen c.view-moof.result) c.read_payload.new.room c.in_ok-len.len r
+          (length c.args.states.now) _ _ _ (rw many at c.check_moof.ensures.looks.most) (i.looks told);
       fit = λ told.
           let r : IsRead file c.in-Some.top (box_seen c.view-moof.result) c.read_payload.new.room c.in_ok-len.len = record {
             is = c.view-moof.ensures;

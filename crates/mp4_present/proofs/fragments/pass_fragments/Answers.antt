@@ -1,15 +1,18 @@
-use Rattle.std.proofs.Common.{◌≡◌, rules, length, map, refl, subst, ℕ}
-use Rattle.std.specs.Prelude.{unwrap_or}
+use Rattle.std.proofs.Common.{◌≡◌, rules, length, map, refl, sym, ◌∙◌, subst, ℕ}
+use Rattle.std.specs.Prelude.{unwrap_or, ℤ}
 use Rattle.std.proofs.lemmas.Result.{err_from_is_err_and}
 use Rattle.mp4_present.proofs.FragmentPass.{Left, left_first, left_next}
-use Rattle.mp4_present.specs.words.OwnMoofs.{own_seen}
-use Rattle.mp4_present.proofs.MoofsNoted.{OwnsUnderWay, owns_first, owns_next, all_noted}
-use Rattle.mp4_present.proofs.MoofsPassed.{IsUnderWay, IsRead, under_way_first, not_read, all_passed, next_passed, next_refused}
+use Rattle.mp4_frag.specs.words.OwnTrafs.{own_seen}
+use Rattle.mp4_present.proofs.TrafsNoted.{OwnsUnderWay, owns_first, owns_next, all_noted}
+use Rattle.mp4_present.proofs.MoofsPassed.{IsUnderWay, IsRead, under_way_first, not_read, not_passed, all_passed, next_passed, next_refused}
 use Rattle.mp4_boxes.specs.words.View.{box_seen}
-use Rattle.mp4_present.proofs.ChecksCounted.{within_first, next_within, checks_done}
+use Rattle.mp4_present.proofs.ChecksCounted.{within_first, next_within, stopped_steps, if_stopped, checks_done}
+use Rattle.mp4_present.proofs.WalkWork.{checked_within}
 use Rattle.mp4_present.proofs.LooksCounted.{looks_first, looks_done, next_looked, none_looked, all_looked, next_looks, refused_looks}
 use Rattle.mp4_present.proofs.MoofBytes.{none_fit, next_fits, all_fit, refused_fits}
 use Rattle.mp4_present.proofs.TablesWork.{if_no_fault}
+use Rattle.mp4_present.specs.words.ToOpen.{LooksWithin}
+use Rattle.mp4_present.specs.words.WalkSteps.{ChecksWithin}
 use Rattle.mp4_present.proofs.fragments.pass_fragments.Goals as goal
 
 pub loop-top-init : goal.loop-top-init
@@ -32,13 +35,13 @@ loop-top-init g c = record {
       let outline = c.args.outline.now in
       let next : unwrap_or outline.fragments (length file) ≡ c.unwrap_or-next.result = search rules in
       subst (λ (k : ℕ). IsUnderWay file movie boxes k outline.longest c.args.states.now c.args.room) next (under_way_first file movie boxes o.0 outline c.args.states.now c.args.room o.1 o.3 b);
-  each = refl;
+  each = c.requires.rooms.1;
   own = λ told movie boxes b own.
       let o = c.requires.outline told in
       let file = g.S.Store.file c.args.store.now in
       let outline = c.args.outline.now in
       let next : unwrap_or outline.fragments (length file) ≡ c.unwrap_or-next.result = search rules in
-      subst (λ (k : ℕ). OwnsUnderWay file movie boxes k outline.longest c.args.states.now c.args.room (map own_seen c.args.own.now.items)) next (owns_first file movie boxes o.0 outline c.args.states.now c.args.room (map own_seen c.args.own.now.items) o.1 o.3 b own);
+      subst (λ (k : ℕ). OwnsUnderWay file movie boxes k outline.longest c.args.states.now c.args.room (map own_seen c.args.own.now)) next (owns_first file movie boxes o.0 outline c.args.states.now c.args.room (map own_seen c.args.own.now) o.1 o.3 b own);
   work = λ told.
       let o = c.requires.outline told in
       let file = g.S.Store.file c.args.store.now in
@@ -72,7 +75,6 @@ loop-top-preserved g c =
     let next = rw (i.honesty, i.file, c.in-Some.is) at c.in_ok-top.ensures.next in
     let within = rw (i.file, c.in-Some.is) at c.in_ok-top.ensures.within in
     let many : length c.loop-top.states ≡ length c.args.states.now = search rules in
-    let after : length c.check_moof.new.tracks ≡ length c.args.states.now = search rules in
     record {
       honesty = search rules;
       file = search rules;
@@ -103,9 +105,10 @@ loop-top-preserved g c =
             read = (rw (c.in_ok-top.ensures.store.honesty, i.honesty, c.in_ok-top.ensures.store.file, i.file) at c.in_ok-len.ensures.bytes) told;
             of_bytes = c.in_ok-len.ensures.room;
           } in
-          rw c.in_ok-note_moof.ensures.noted (owns_next file movie boxes c.loop-top.next c.args.outline.now.longest c.args.states.now c.loop-top.states c.args.room c.loop-top.room (map own_seen c.loop-top.own.items) b u c.in-Some.top within.0 (next told u.0.left.boxes u.0.left.are_from)
+          owns_next file movie boxes c.loop-top.next c.args.outline.now.longest c.args.states.now c.loop-top.states c.args.room c.loop-top.room (map own_seen c.loop-top.own) b u c.in-Some.top within.0 (next told u.0.left.boxes u.0.left.are_from)
           (box_seen c.view-moof.result) c.read_payload.new.room c.in_ok-len.len c.len-file_len.result r c.len-file_len.ensures
-          c.check_moof.new.tracks c.check_moof.new.room c.in_ok-check_moof.ensures.sound c.in_ok-check_moof.ensures.moved);
+          c.check_moof.new.tracks c.check_moof.new.room (map own_seen c.check_moof.new.own) c.in_ok-check_moof.ensures.sound c.in_ok-check_moof.ensures.moved
+          (λ trexes defaults apart. c.in_ok-check_moof.ensures.own trexes defaults apart (i.each ∙ sym many));
       work = λ told all h.
           let u = i.work told all h in
           let r : IsRead file c.in-Some.top (box_seen c.view-moof.result) c.read_payload.new.room c.in_ok-len.len = record {
@@ -117,7 +120,7 @@ loop-top-preserved g c =
           } in
           let e = c.in_ok-check_moof.ensures in
           next_within file c.loop-top.next c.in-Some.top all within.0 u.0 u.1.0 (next told u.0 u.1.0) (box_seen c.view-moof.result) c.read_payload.new.room c.in_ok-len.len r
-          _ _ _ _ _ _ _ e.moved e.work.cost u.1.1;
+          _ _ _ (checked_within _ _ _ _ _ _ _ (box_seen c.view-moof.result) refl e.moved e.work.cost) u.1.1;
       looked = λ told all h.
           let u = i.looked told all h in
           let r : IsRead file c.in-Some.top (box_seen c.view-moof.result) c.read_payload.new.room c.in_ok-len.len = record {
@@ -128,7 +131,7 @@ loop-top-preserved g c =
             of_bytes = c.in_ok-len.ensures.room;
           } in
           next_looked file c.loop-top.next c.in-Some.top all within.0 u.0 u.1.0 (next told u.0 u.1.0) (box_seen c.view-moof.result) c.read_payload.new.room c.in_ok-len.len r
-          (length c.args.states.now) _ _ _ _ (rw many at c.in_ok-check_moof.ensures.looks.each) (rw after at c.note_moof.ensures.looks) u.1.1;
+          (length c.args.states.now) _ _ _ (rw many at c.in_ok-check_moof.ensures.looks.each) u.1.1;
       looks = λ told.
           let r : IsRead file c.in-Some.top (box_seen c.view-moof.result) c.read_payload.new.room c.in_ok-len.len = record {
             is = c.view-moof.ensures;
@@ -137,8 +140,8 @@ loop-top-preserved g c =
             read = (rw (c.in_ok-top.ensures.store.honesty, i.honesty, c.in_ok-top.ensures.store.file, i.file) at c.in_ok-len.ensures.bytes) told;
             of_bytes = c.in_ok-len.ensures.room;
           } in
-          next_looks file c.loop-top.next c.in-Some.top within.0 within.1 within.3 (box_seen c.view-moof.result) c.read_payload.new.room c.in_ok-len.len r
-          (length c.args.states.now) _ _ _ _ (rw many at c.check_moof.ensures.looks.most) (rw after at c.note_moof.ensures.looks) (i.looks told);
+          next_looks file c.loop-top.next c.in-Some.top within.0 within.1 (box_seen c.view-moof.result) c.read_payload.new.room c.in_ok-len.len r
+          (length c.args.states.now) _ _ _ (rw many at c.check_moof.ensures.looks.most) (i.looks told);
       fit = λ told.
           let r : IsRead file c.in-Some.top (box_seen c.view-moof.result) c.read_payload.new.room c.in_ok-len.len = record {
             is = c.view-moof.ensures;
@@ -157,7 +160,7 @@ returns-in_err-check_moof-clause-refusal g c =
     let file = g.S.Store.file c.args.store.now in
     let next = rw (i.honesty, i.file, c.in-Some.is) at c.in_ok-top.ensures.next in
     let within = rw (i.file, c.in-Some.is) at c.in_ok-top.ensures.within in
-    rw (p.1, p.2) (λ told movie boxes b.
+    rw (p.1, p.2) (not_passed (g.S.Store.is_honest c.args.store.now) file c.args.states.now c.loop-top.states c.args.room c.loop-top.room c.len-file_len.result _ _ _ (box_seen c.view-moof.result) c.in_err-check_moof.field-0.0 (λ f fails told movie boxes b.
     let u = i.so told movie boxes b in
     let r : IsRead file c.in-Some.top (box_seen c.view-moof.result) c.read_payload.new.room c.in_ok-len.len = record {
       is = c.view-moof.ensures;
@@ -167,7 +170,8 @@ returns-in_err-check_moof-clause-refusal g c =
       of_bytes = c.in_ok-len.ensures.room;
     } in
     next_refused file movie boxes c.loop-top.next c.args.outline.now.longest c.args.states.now c.loop-top.states c.args.room c.loop-top.room b u c.in-Some.top within.0 (next told u.left.boxes u.left.are_from)
-    (box_seen c.view-moof.result) c.read_payload.new.room c.in_ok-len.len c.len-file_len.result r c.len-file_len.ensures c.in_err-check_moof.field-0.0 c.in_err-check_moof.ensures.fault)
+    (box_seen c.view-moof.result) c.read_payload.new.room c.in_ok-len.len c.len-file_len.result r c.len-file_len.ensures f fails)
+    (c.in_err-check_moof.ensures.refusal))
 
 pub returns-clause-passed : goal.returns-clause-passed
 returns-clause-passed g c = λ told movie boxes b.
@@ -177,14 +181,11 @@ returns-clause-passed g c = λ told movie boxes b.
     all_passed file movie boxes c.loop-top.next c.args.outline.now.longest c.loop-top.states c.loop-top.room u ((rw (i.honesty, i.file, c.in_default.is) at c.in_ok-top.ensures.next) told u.left.boxes u.left.are_from)
 
 pub returns-clause-own : goal.returns-clause-own
-returns-clause-own g c = (
-  search rules,
-  λ told own movie boxes b.
-      let i = c.loop-top.invariant in
-      let u = i.own told movie boxes b own in
-      let file = g.S.Store.file c.args.store.now in
-      all_noted file movie boxes c.loop-top.next c.args.outline.now.longest c.loop-top.states c.loop-top.room (map own_seen c.loop-top.own.items) u ((rw (i.honesty, i.file, c.in_default.is) at c.in_ok-top.ensures.next) told u.0.left.boxes u.0.left.are_from),
-)
+returns-clause-own g c = λ told own movie boxes b.
+    let i = c.loop-top.invariant in
+    let u = i.own told movie boxes b own in
+    let file = g.S.Store.file c.args.store.now in
+    all_noted file movie boxes c.loop-top.next c.args.outline.now.longest c.loop-top.states c.loop-top.room (map own_seen c.loop-top.own) u ((rw (i.honesty, i.file, c.in_default.is) at c.in_ok-top.ensures.next) told u.0.left.boxes u.0.left.are_from)
 
 pub returns-clause-work : goal.returns-clause-work
 returns-clause-work g c =
@@ -215,57 +216,32 @@ returns-in_err-check_moof-clause-work g c =
     let p = err_from_is_err_and c.from_residual-in_err-check_moof.result c.from_residual-in_err-check_moof.ensures.1 in
     let i = c.loop-top.invariant in
     let file = g.S.Store.file c.args.store.now in
-    let within = rw (i.file, c.in-Some.is) at c.in_ok-top.ensures.within in
-    let many : length c.loop-top.states ≡ length c.args.states.now = search rules in
-    rw (p.1, p.2) (λ told.
-    let r : IsRead file c.in-Some.top (box_seen c.view-moof.result) c.read_payload.new.room c.in_ok-len.len = record {
-      is = c.view-moof.ensures;
-      fills = c.in_ok-len.ensures.fills.0;
-      within = c.in_ok-len.ensures.fills.1;
-      read = (rw (c.in_ok-top.ensures.store.honesty, i.honesty, c.in_ok-top.ensures.store.file, i.file) at c.in_ok-len.ensures.bytes) told;
-      of_bytes = c.in_ok-len.ensures.room;
-    } in
-    record {
-      work = tt;
-      within = refused_fits file c.loop-top.next c.in-Some.top within.0 within.1 (box_seen c.view-moof.result) c.read_payload.new.room c.in_ok-len.len r _ _ _ _ c.check_moof.ensures.work.most (i.fit told);
-      looks = record {
-        said = tt;
-        within = refused_looks file c.loop-top.next c.in-Some.top within.0 within.1 within.3 (box_seen c.view-moof.result) c.read_payload.new.room c.in_ok-len.len r
-            (length c.args.states.now) _ _ _ (rw many at c.check_moof.ensures.looks.most) (i.looks told);
-      };
-    })
-
-pub returns-in_err-note_moof-clause-work : goal.returns-in_err-note_moof-clause-work
-returns-in_err-note_moof-clause-work g c =
-    let i = c.loop-top.invariant in
-    let file = g.S.Store.file c.args.store.now in
     let next = rw (i.honesty, i.file, c.in-Some.is) at c.in_ok-top.ensures.next in
     let within = rw (i.file, c.in-Some.is) at c.in_ok-top.ensures.within in
     let many : length c.loop-top.states ≡ length c.args.states.now = search rules in
-    let after : length c.check_moof.new.tracks ≡ length c.args.states.now = search rules in
-    λ told.
-    let r : IsRead file c.in-Some.top (box_seen c.view-moof.result) c.read_payload.new.room c.in_ok-len.len = record {
+    let moof = box_seen c.view-moof.result in
+    let refused = c.in_err-check_moof.ensures.refusal in
+    let stops = c.in_err-check_moof.ensures.stops in
+    rw (p.1, p.2) (λ told.
+    let r : IsRead file c.in-Some.top moof c.read_payload.new.room c.in_ok-len.len = record {
       is = c.view-moof.ensures;
       fills = c.in_ok-len.ensures.fills.0;
       within = c.in_ok-len.ensures.fills.1;
       read = (rw (c.in_ok-top.ensures.store.honesty, i.honesty, c.in_ok-top.ensures.store.file, i.file) at c.in_ok-len.ensures.bytes) told;
       of_bytes = c.in_ok-len.ensures.room;
     } in
-    let fit = next_looks file c.loop-top.next c.in-Some.top within.0 within.1 within.3 (box_seen c.view-moof.result) c.read_payload.new.room c.in_ok-len.len r
-    (length c.args.states.now) _ _ _ _ (rw many at c.check_moof.ensures.looks.most) (rw after at c.note_moof.ensures.looks) (i.looks told) in
-    let e = c.in_ok-check_moof.ensures in
-    let room = next_fits file c.loop-top.next c.in-Some.top within.0 within.1 (box_seen c.view-moof.result) c.read_payload.new.room c.in_ok-len.len r _ _ _ _ _ e.work.within (i.fit told) in
     record {
-      work = if_no_fault _ _ (checks_done file c.in-Some.top.header.end _ _ (λ all h.
+      work = if_stopped ℤ (Unit {0}) (ChecksWithin file _ _) _ _ _ _ _ moof _ refused stops (λ s. checks_done file c.in-Some.top.header.end _ _ (λ all h.
           let u = i.work told all h in
-          next_within file c.loop-top.next c.in-Some.top all within.0 u.0 u.1.0 (next told u.0 u.1.0) (box_seen c.view-moof.result) c.read_payload.new.room c.in_ok-len.len r
-          _ _ _ _ _ _ _ e.moved e.work.cost u.1.1));
-      within = all_fit _ _ _ _ _ room;
+          next_within file c.loop-top.next c.in-Some.top all within.0 u.0 u.1.0 (next told u.0 u.1.0) moof c.read_payload.new.room c.in_ok-len.len r
+          _ _ _ (stopped_steps moof _ _ s.checked) u.1.1));
+      within = refused_fits file c.loop-top.next c.in-Some.top within.0 within.1 moof c.read_payload.new.room c.in_ok-len.len r _ _ _ _ c.check_moof.ensures.work.most (i.fit told);
       looks = record {
-        said = if_no_fault _ _ (looks_done file c.in-Some.top.header.end _ _ _ (λ all h.
+        said = if_stopped ℤ (Unit {0}) (LooksWithin file _ _ _) _ _ _ _ _ moof _ refused stops (λ s. looks_done file c.in-Some.top.header.end _ _ _ (λ all h.
             let u = i.looked told all h in
-            next_looked file c.loop-top.next c.in-Some.top all within.0 u.0 u.1.0 (next told u.0 u.1.0) (box_seen c.view-moof.result) c.read_payload.new.room c.in_ok-len.len r
-            (length c.args.states.now) _ _ _ _ (rw many at c.in_ok-check_moof.ensures.looks.each) (rw after at c.note_moof.ensures.looks) u.1.1));
-        within = all_looked _ _ _ _ _ fit;
+            next_looked file c.loop-top.next c.in-Some.top all within.0 u.0 u.1.0 (next told u.0 u.1.0) moof c.read_payload.new.room c.in_ok-len.len r
+            (length c.args.states.now) _ _ _ (rw many at s.looked) u.1.1));
+        within = refused_looks file c.loop-top.next c.in-Some.top within.0 within.1 moof c.read_payload.new.room c.in_ok-len.len r
+            (length c.args.states.now) _ _ _ (rw many at c.check_moof.ensures.looks.most) (i.looks told);
       };
-    }
+    })

@@ -5,8 +5,9 @@ use Rattle.mp4_present.specs.words.PassedMoofs.{IsBegun}
 use Rattle.mp4_present.proofs.MoofsPassed.{IsUnderWay}
 use Rattle.std.specs.Prelude.{IsTrue}
 use Rattle.mp4_frag.specs.words.States.{HaveRoom}
-use Rattle.mp4_present.specs.words.OwnMoofs.{own_first, own_seen}
-use Rattle.mp4_present.proofs.MoofsNoted.{OwnsUnderWay}
+use Rattle.mp4_frag.specs.words.OwnTrafs.{own_seen}
+use Rattle.mp4_present.specs.words.OwnTrafs.{none_noted}
+use Rattle.mp4_present.proofs.TrafsNoted.{OwnsUnderWay}
 use Rattle.mp4_present.proofs.FragmentPass.{Left}
 use Rattle.mp4_present.proofs.ChecksCounted.{LeftWithin}
 use Rattle.mp4_present.proofs.LooksCounted.{LooksLeft}
@@ -26,9 +27,9 @@ invariant-loop-top g l =
       longest : length l.bytes ≡ l.outline.longest;
       left : IsTrue (g.S.Store.is_honest l.fn.store) → Left (g.S.Store.file l.fn.store) l.next l.outline.longest;
       so : IsTrue (g.S.Store.is_honest l.fn.store) → (movie : MovieTree) (boxes : List Box) → IsBegun (g.S.Store.file l.fn.store) movie boxes l.fn.states l.fn.room → IsUnderWay (g.S.Store.file l.fn.store) movie boxes l.next l.outline.longest l.states l.room;
-      each : length l.own.items ≡ length l.fn.own.items;
-      own : IsTrue (g.S.Store.is_honest l.fn.store) → (movie : MovieTree) (boxes : List Box) → IsBegun (g.S.Store.file l.fn.store) movie boxes l.fn.states l.fn.room → map own_seen l.fn.own.items ≡ map own_first l.fn.states
-          → OwnsUnderWay (g.S.Store.file l.fn.store) movie boxes l.next l.outline.longest l.states l.room (map own_seen l.own.items);
+      each : length l.own ≡ length l.fn.states;
+      own : IsTrue (g.S.Store.is_honest l.fn.store) → (movie : MovieTree) (boxes : List Box) → IsBegun (g.S.Store.file l.fn.store) movie boxes l.fn.states l.fn.room → map own_seen l.fn.own ≡ map (λ _. none_noted) l.fn.states
+          → OwnsUnderWay (g.S.Store.file l.fn.store) movie boxes l.next l.outline.longest l.states l.room (map own_seen l.own);
       work : IsTrue (g.S.Store.is_honest l.fn.store) → LeftWithin (g.S.Store.file l.fn.store) l.next l.fn.steps l.steps;
       looked : IsTrue (g.S.Store.is_honest l.fn.store) → LooksLeft (g.S.Store.file l.fn.store) l.next (length l.fn.states) l.fn.looks l.looks;
       looks : IsTrue (g.S.Store.is_honest l.fn.store) → LooksFit (length (g.S.Store.file l.fn.store)) l.next (length l.fn.states) l.fn.looks l.looks;

@@ -58,6 +58,7 @@ returns-clause-walk g c =
     record {
       walk = rw c.keep.ensures.place (kept_on c.args.movie.now c.args.walk.now i.first _ c.place-place.result (search rules) i.is (follows_on _ _ _ i.later c.next_stretch.ensures.later) c.place-place.ensures);
       next = search rules;
+      left = search rules;
       stands = λ file tree t earlier later s. rw c.keep.ensures.place (kept_before file tree t earlier later c.args.walk.now c.place-place.result s);
     }
 

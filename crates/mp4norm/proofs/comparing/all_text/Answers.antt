@@ -2,7 +2,7 @@ use Rattle.std.proofs.Common.{sym, ◌∙◌}
 use Rattle.std.proofs.lemmas.Result.{err_from_is_err_and}
 use Rattle.mp4_present.specs.words.WalkSteps.{walks_steps}
 use Rattle.mp4_present.specs.words.Compared.{files_differ}
-use Rattle.mp4norm.proofs.ComparedFiles.{both_of_two, empty_listed, once_of_two, some_listed}
+use Rattle.mp4norm.proofs.ComparedFiles.{both_of_three, empty_listed, once_of_three, some_listed}
 use Rattle.mp4norm.proofs.comparing.all_text.Goals as goal
 
 pub returns-then-is_empty-clause-said : goal.returns-then-is_empty-clause-said
@@ -12,7 +12,7 @@ returns-then-is_empty-clause-said g c = λ told right tree other o u.
 
 pub returns-then-is_empty-clause-opened : goal.returns-then-is_empty-clause-opened
 returns-then-is_empty-clause-opened g c = λ told right tree other o u.
-    (tt, once_of_two _ _ (walks_steps tree) (walks_steps other) (c.in_ok-listed.ensures.opened told right tree other o u).1)
+    (tt, once_of_three _ _ (walks_steps tree) (walks_steps other) (c.in_ok-listed.ensures.opened told right tree other o u).1)
 
 pub returns-in_err-enough-clause-opened : goal.returns-in_err-enough-clause-opened
 returns-in_err-enough-clause-opened g c =
@@ -21,21 +21,21 @@ returns-in_err-enough-clause-opened g c =
     let more = rw (is.stores.left.honesty, is.stores.left.file, is.stores.right.honesty, is.stores.right.file) at c.in_err-enough.ensures.opened in
     rw (p.1, p.2) (λ told right tree other o u.
     let e = more told right tree other o u in
-    (e.0, both_of_two _ _ _ (walks_steps tree) (walks_steps other) (is.opened told right tree other o u).1 e.1))
+    (e.0, both_of_three _ _ _ (walks_steps tree) (walks_steps other) (is.opened told right tree other o u).1 e.1))
 
 pub returns-in_err-listed-clause-opened : goal.returns-in_err-listed-clause-opened
 returns-in_err-listed-clause-opened g c =
     let p = err_from_is_err_and c.from_residual.result c.from_residual.ensures.1 in
     rw (p.1, p.2) (λ told right tree other o u.
     let e = c.in_err-listed.ensures.opened told right tree other o u in
-    (e.0, once_of_two _ _ (walks_steps tree) (walks_steps other) e.1))
+    (e.0, once_of_three _ _ (walks_steps tree) (walks_steps other) e.1))
 
 pub returns-in_err-listed_text-clause-opened : goal.returns-in_err-listed_text-clause-opened
 returns-in_err-listed_text-clause-opened g c =
     let p = err_from_is_err_and c.from_residual-in_err-listed_text.result c.from_residual-in_err-listed_text.ensures.1 in
     let is = c.in_ok-listed.ensures in
     let more = rw (is.stores.left.honesty, is.stores.left.file, is.stores.right.honesty, is.stores.right.file) at c.in_ok-enough.ensures.opened in
-    rw (p.1, p.2) (λ told right tree other o u. (λ e. cc, both_of_two _ _ _ (walks_steps tree) (walks_steps other) (is.opened told right tree other o u).1 (more told right tree other o u).1))
+    rw (p.1, p.2) (λ told right tree other o u. (λ e. cc, both_of_three _ _ _ (walks_steps tree) (walks_steps other) (is.opened told right tree other o u).1 (more told right tree other o u).1))
 
 pub returns-clause-said : goal.returns-clause-said
 returns-clause-said g c = λ told right tree other o u.
@@ -46,4 +46,4 @@ pub returns-clause-opened : goal.returns-clause-opened
 returns-clause-opened g c = λ told right tree other o u.
     let is = c.in_ok-listed.ensures in
     let more = rw (is.stores.left.honesty, is.stores.left.file, is.stores.right.honesty, is.stores.right.file) at c.in_ok-enough.ensures.opened in
-    (tt, both_of_two _ _ _ (walks_steps tree) (walks_steps other) (is.opened told right tree other o u).1 (more told right tree other o u).1)
+    (tt, both_of_three _ _ _ (walks_steps tree) (walks_steps other) (is.opened told right tree other o u).1 (more told right tree other o u).1)

@@ -1,6 +1,6 @@
 use Rattle.mp4_present.specs.words.WalkSteps.{walks_steps}
 use Rattle.mp4_present.specs.words.Compared.{files_differ}
-use Rattle.mp4norm.proofs.ComparedFiles.{first_said, once_of_two}
+use Rattle.mp4norm.proofs.ComparedFiles.{first_said, once_of_three}
 use Rattle.mp4norm.proofs.comparing.text_of.Goals as goal
 
 pub returns-in-None-clause-said : goal.returns-in-None-clause-said
@@ -11,7 +11,7 @@ returns-in-None-clause-said g c = λ told right tree other o u.
 
 pub returns-in-None-clause-opened : goal.returns-in-None-clause-opened
 returns-in-None-clause-opened g c = λ told right tree other o u.
-    (tt, once_of_two _ _ (walks_steps tree) (walks_steps other) (c.in_ok-compare-in-First.ensures.work told right tree other o u))
+    (tt, once_of_three _ _ (walks_steps tree) (walks_steps other) (c.in_ok-compare-in-First.ensures.work told right tree other o u))
 
 pub returns-in_ok-first_text-in-Some-clause-said : goal.returns-in_ok-first_text-in-Some-clause-said
 returns-in_ok-first_text-in-Some-clause-said g c = λ told right tree other o u.
@@ -21,4 +21,4 @@ returns-in_ok-first_text-in-Some-clause-said g c = λ told right tree other o u.
 
 pub returns-in_ok-first_text-in-Some-clause-opened : goal.returns-in_ok-first_text-in-Some-clause-opened
 returns-in_ok-first_text-in-Some-clause-opened g c = λ told right tree other o u.
-    (tt, once_of_two _ _ (walks_steps tree) (walks_steps other) (c.in_ok-compare-in-First.ensures.work told right tree other o u))
+    (tt, once_of_three _ _ (walks_steps tree) (walks_steps other) (c.in_ok-compare-in-First.ensures.work told right tree other o u))

@@ -20,3 +20,9 @@ returns-in-Reduce-clause-answer g c = rw c.in-Reduce.is c.normalise_reduced.ensu
 
 pub returns-in-Strip-clause-answer : goal.returns-in-Strip-clause-answer
 returns-in-Strip-clause-answer g c = rw c.in-Strip.is c.strip.ensures.answer
+
+pub returns-in-Normalise-clause-whole : goal.returns-in-Normalise-clause-whole
+returns-in-Normalise-clause-whole g c = rw c.in-Normalise.is c.normalise_counted.ensures.whole
+
+pub returns-in-Reduce-clause-whole : goal.returns-in-Reduce-clause-whole
+returns-in-Reduce-clause-whole g c = rw c.in-Reduce.is c.normalise_reduced.ensures.whole

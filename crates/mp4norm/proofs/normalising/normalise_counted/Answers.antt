@@ -3,6 +3,7 @@ use Rattle.std.proofs.lemmas.Result.{err_from_is_err_and}
 use Rattle.mp4norm.proofs.StepsTaken.{not_opened, written_within}
 use Rattle.mp4norm.proofs.LooksTaken.{not_found, not_turned, turns_taken}
 use Rattle.mp4norm.proofs.Normalised.{open_refuses, write_refuses, normalises, all_written, front_written, unchanged_written}
+use Rattle.mp4norm.proofs.WholePut.{whole_put}
 use Rattle.mp4norm.proofs.normalising.normalise_counted.Goals as goal
 
 pub returns-in_err-movie-clause-answer : goal.returns-in_err-movie-clause-answer
@@ -57,3 +58,11 @@ returns-in_err-movie-clause-looks g c = λ told.
 pub returns-clause-looks : goal.returns-clause-looks
 returns-clause-looks g c = λ told.
     turns_taken _ c.in_ok-movie.movie _ _ _ (c.in_ok-movie.ensures.movie told) (c.in_ok-movie.ensures.looks told).said c.write_normal.ensures.turns
+
+pub returns-in_err-movie-clause-whole : goal.returns-in_err-movie-clause-whole
+returns-in_err-movie-clause-whole g c =
+    let p = err_from_is_err_and c.from_residual.result c.from_residual.ensures.1 in
+    rw p.1 tt
+
+pub returns-clause-whole : goal.returns-clause-whole
+returns-clause-whole g c = whole_put _ _ _ _ c.write_normal.result c.write_normal.ensures.whole

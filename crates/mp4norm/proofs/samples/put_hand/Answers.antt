@@ -9,6 +9,7 @@ pub returns-clause-walk : goal.returns-clause-walk
 returns-clause-walk g c = record {
   walk = rw c.keep.ensures.place (kept_on c.args.movie.now c.args.walk.now c.in_hand-hand.result _ c.place-place.result c.requires c.in_hand-hand.ensures.hand c.put_lines.ensures.later c.place-place.ensures);
   next = search rules;
+  left = search rules;
   stands = λ file tree t earlier later s. rw c.keep.ensures.place (kept_before file tree t earlier later c.args.walk.now c.place-place.result s);
 }
 

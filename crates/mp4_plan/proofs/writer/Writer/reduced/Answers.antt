@@ -1,14 +1,22 @@
-use Rattle.std.proofs.Common.{◌++◌, sym, ◌∙◌}
+use Rattle.std.proofs.Common.{rules, ◌++◌, refl, sym, ◌∙◌, arith}
+use Rattle.std.proofs.lemmas.Result.{err_from_is_err_and}
+use Rattle.mp4_present.proofs.OwnSums.{trafs_few}
+use Rattle.mp4_plan.proofs.Planning.{rooms_fit}
+use Rattle.mp4_plan.proofs.WriterMade.{writer_made}
 use Rattle.mp4_plan.proofs.writer.Writer.reduced.Goals as goal
 
 pub returns-clause-ready : goal.returns-clause-ready
 returns-clause-ready g c told tree o =
     let file = g.S.Store.file c.args.store.now in
     record {
-      head = (λ i. c.in_ok-new.ensures.empty i ++ c.in_ok-head_of.field-0.items) ∙ c.in_ok-head_of.ensures.head file tree o (c.in_ok-mehd.ensures.left file tree o).1;
-      rows = sym c.in_ok-vec.field-0.ok.0 ∙ c.in_ok-vec.ensures.len ∙ c.in_ok-longest.ensures.longest told tree o;
-      walks = c.in_ok-walks_of.ensures.start.begin file tree o c.args.leaving;
-      marked = c.in_ok-walks_of.ensures.start.marked file tree o c.args.leaving;
+      ready = record {
+        head = (λ i. c.in_ok-new.ensures.empty i ++ c.in_ok-head_of.field-0.items) ∙ c.in_ok-head_of.ensures.head file tree o (c.in_ok-mehd.ensures.left file tree o).1;
+        rows = sym c.in_ok-vec.field-0.ok.0 ∙ c.in_ok-vec.ensures.len ∙ c.in_ok-longest.ensures.longest told tree o;
+        walks = c.in_ok-walks_of.ensures.start.begin file tree o c.args.leaving;
+        marked = c.in_ok-walks_of.ensures.start.marked file tree o c.args.leaving;
+      };
+      rooms = rooms_fit file c.args.movie.now tree o;
+      trafs = trafs_few file tree o.is_tree;
     }
 
 pub returns-clause-may : goal.returns-clause-may
@@ -16,3 +24,58 @@ returns-clause-may g c told tree o = c.in_ok-walks_of.ensures.start.writes (g.S.
 
 pub returns-clause-in_time : goal.returns-clause-in_time
 returns-clause-in_time g c told tree o = (c.in_ok-mehd.ensures.left (g.S.Store.file c.args.store.now) tree o).0
+
+-- ---- where there is no memory
+
+pub returns-in_err-walks_of-clause-unchanged : goal.returns-in_err-walks_of-clause-unchanged
+returns-in_err-walks_of-clause-unchanged g c told tree o =
+    let p = err_from_is_err_and c.from_residual-in_err-walks_of.result c.from_residual-in_err-walks_of.ensures.1 in
+    rw (p.1, p.2, c.in_err-walks_of.ensures.memory) (λ e. absurd cc)
+
+pub returns-in_err-walks_of-clause-fault : goal.returns-in_err-walks_of-clause-fault
+returns-in_err-walks_of-clause-fault g c told tree o =
+    let p = err_from_is_err_and c.from_residual-in_err-walks_of.result c.from_residual-in_err-walks_of.ensures.1 in
+    rw (p.1, p.2, c.in_err-walks_of.ensures.memory) tt
+
+pub returns-in_err-vec-2-clause-fault : goal.returns-in_err-vec-2-clause-fault
+returns-in_err-vec-2-clause-fault g c told tree o =
+    let p = err_from_is_err_and c.from_residual-in_err-vec-2.result c.from_residual-in_err-vec-2.ensures.1 in
+    rw (p.1, p.2) tt
+
+pub returns-in_err-vec-clause-unchanged : goal.returns-in_err-vec-clause-unchanged
+returns-in_err-vec-clause-unchanged g c told tree o =
+    let p = err_from_is_err_and c.from_residual-in_err-vec.result c.from_residual-in_err-vec.ensures.1 in
+    rw (p.1, p.2) (λ e. absurd cc)
+
+pub returns-in_err-vec-clause-fault : goal.returns-in_err-vec-clause-fault
+returns-in_err-vec-clause-fault g c told tree o =
+    let p = err_from_is_err_and c.from_residual-in_err-vec.result c.from_residual-in_err-vec.ensures.1 in
+    rw (p.1, p.2) tt
+
+pub returns-in_err-walks_of-clause-store : goal.returns-in_err-walks_of-clause-store
+returns-in_err-walks_of-clause-store g c =
+    let p = err_from_is_err_and c.from_residual-in_err-walks_of.result c.from_residual-in_err-walks_of.ensures.1 in
+    let s = c.in_ok-longest.ensures.store in
+    record { honesty = s.honesty; file = s.file; reads = rw p.1 tt }
+
+pub returns-in_err-vec-2-clause-store : goal.returns-in_err-vec-2-clause-store
+returns-in_err-vec-2-clause-store g c =
+    let p = err_from_is_err_and c.from_residual-in_err-vec-2.result c.from_residual-in_err-vec-2.ensures.1 in
+    let s = c.in_ok-longest.ensures.store in
+    record { honesty = s.honesty; file = s.file; reads = rw p.1 tt }
+
+pub returns-in_err-vec-2-clause-unchanged : goal.returns-in_err-vec-2-clause-unchanged
+returns-in_err-vec-2-clause-unchanged g c told tree o =
+    let p = err_from_is_err_and c.from_residual-in_err-vec-2.result c.from_residual-in_err-vec-2.ensures.1 in
+    rw (p.1, p.2) (λ e. absurd cc)
+
+-- ---- what is made
+
+pub returns-clause-made : goal.returns-clause-made
+returns-clause-made g c =
+    let rows = c.in_ok-vec.field-0 in
+    let nexts = c.in_ok-vec-2.field-0 in
+    let long = sym rows.ok.0 ∙ c.in_ok-vec.ensures.len in
+    let few = c.in_ok-longest.ensures.few in
+    writer_made c.args.movie.now c.args.leaving _ c.in_ok-walks_of.ensures.walks (omega (arith, long, few)) (sym nexts.ok.0 ∙ c.in_ok-vec-2.ensures.len ∙ search rules) c.in_ok-due.ensures.tree (c.in_ok-due.ensures.tracks ∙ search rules)
+    (sym c.in_ok-new.field-0.buffer.ok.0 ∙ c.in_ok-new.ensures.room) c.in_ok-new.ensures.empty refl c.in_ok-head_of.ensures.named

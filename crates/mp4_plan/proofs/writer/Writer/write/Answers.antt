@@ -1,4 +1,4 @@
-use Rattle.std.proofs.Common.{rules, get_or, ◌≡◌, ◌+◌, ◌⊎◌, List, length, map, refl, sym, ap, subst, ◌∙◌, arith}
+use Rattle.std.proofs.Common.{rules, get_or, ◌≡◌, ◌+◌, ◌⊎◌, List, [], length, map, refl, sym, ap, subst, ◌∙◌, arith}
 use Rattle.std.specs.List.{sum_by}
 use Rattle.std.specs.Vec.{with_items}
 use Rattle.std.proofs.lemmas.List.{with_items_is}
@@ -243,11 +243,11 @@ loop-turn-preserved g c =
           let count = c.in_ok-noted.noted.planned.count in
           let bytes = c.in_ok-noted.noted.planned.bytes in
           let left = c.in_ok-pass.ensures.left in
-          let more = subst (λ (k : Carrier). PiecesFollow (g.K.Sink.contents c.loop-turn.sink) (g.K.Sink.contents c.carry_turn.new.sink) (waiting k) (waiting c.carry_turn.new.self.carrier) 0 count bytes) c.in_ok-noted.ensures.writer.keeps.1 c.in_ok-carry_turn.ensures.many in
+          let more = subst (λ (k : Carrier). PiecesFollow (g.K.Sink.contents c.loop-turn.sink) (g.K.Sink.contents c.carry_turn.new.sink) (waiting k) (waiting c.carry_turn.new.self.carrier) [] count bytes) c.in_ok-noted.ensures.writer.keeps.1 c.in_ok-carry_turn.ensures.many in
           rw c.from-bytes.ensures (
             i.sent.0 + count,
             fewer_to_come i.sent.0 c.loop-turn.schedule.left count c.pass.new.self.left _ i.sent.1 c.in_ok-pass.ensures.enough left,
-            follow_then (g.K.Sink.contents c.args.sink.now) (g.K.Sink.contents c.loop-turn.sink) (g.K.Sink.contents c.carry_turn.new.sink) (waiting c.args.self.now.carrier) (waiting c.loop-turn.self.carrier) (waiting c.carry_turn.new.self.carrier) (length c.args.self.now.head.items) i.sent.0
+            follow_then (g.K.Sink.contents c.args.sink.now) (g.K.Sink.contents c.loop-turn.sink) (g.K.Sink.contents c.carry_turn.new.sink) (waiting c.args.self.now.carrier) (waiting c.loop-turn.self.carrier) (waiting c.carry_turn.new.self.carrier) c.args.self.now.head.items i.sent.0
                 c.loop-turn.bytes count bytes i.sent.2 more,
           );
       on = λ told tree o ready.

@@ -7,7 +7,7 @@ use Rattle.mp4_present.proofs.Causes.{copy_not_loaded, copy_not_carried}
 use Rattle.mp4_present.specs.words.WalkSteps.{walk_steps}
 use Rattle.mp4_present.proofs.Carrying.{GoOnBy-then, GoOnBy-all}
 use Rattle.mp4_present.proofs.Hands.{hand_none}
-use Rattle.mp4_present.proofs.MoofTaken.{at_place}
+use Rattle.mp4_present.proofs.TrafTaken.{at_place}
 use Rattle.mp4_present.proofs.WayThrough.{takes_within, takes_then, takes_most, most_then}
 use Rattle.mp4_present.proofs.WalkCopied.{track_next, track_sizes, none_left, track_fails, track_stops, track_whole, track_not_put, track_lies, in_hand_lies, on_ok, on_err, if_err, put_unchanged, loads_more, loads_none}
 use Rattle.mp4_present.specs.declared.track_info.TrackInfo.{TrackInfo}

@@ -1,4 +1,4 @@
-use Rattle.std.proofs.Common.{[], ◌≡◌, ◌-◌, ◌≤◌, length, Some}
+use Rattle.std.proofs.Common.{[], ◌≡◌, ◌-◌, ◌≤◌, Some}
 use Rattle.std.specs.Prelude.{IsTrue, slice_get}
 use Rattle.mp4_head.specs.format.Tree.{TrackTree}
 use Rattle.mp4_present.specs.words.Carried.{waiting, GoOnBy}
@@ -28,4 +28,4 @@ invariant-loop-carrier g l =
     }
 
 abbrev pub decreases-loop-carrier : goal.decreases-loop-carrier
-decreases-loop-carrier g l = length (g.S.Store.file l.store) - l.walk.next
+decreases-loop-carrier g l = l.walk.left

@@ -1,13 +1,12 @@
 use Rattle.std.proofs.Common.{rules, ℕ, List, slice_index_or, length, ◌≡◌, ◌++◌, [], subst, refl, sym, ap, arith, ◌∙◌, Some}
-use Rattle.std.specs.Prelude.{unwrap_or}
 use Rattle.mp4_tables.specs.words.Accepted.{IsPlace}
 use Rattle.mp4_tables.specs.words.TablesSeen.{TablesSeen}
 use Rattle.mp4_present.specs.words.Movies.{MovieSeen, IsMovie, own_room, tables_seen}
 use Rattle.mp4_present.proofs.WalkPlaces.{begun, got}
 use Rattle.mp4_present.proofs.WalkBegun.{stands_first, tables_in_hand, plain_first, due_is, left_is}
-use Rattle.mp4_present.proofs.MoofTaken.{at_place}
+use Rattle.mp4_present.proofs.TrafTaken.{at_place}
 use Rattle.mp4_present.proofs.WayThrough.{begins}
-use Rattle.mp4_present.specs.words.SamplesComing.{samples_behind}
+use Rattle.mp4_present.specs.words.SamplesComing.{own_trafs, samples_behind}
 use Rattle.mp4_frag.specs.declared.state.TrackState.{TrackState}
 use Rattle.mp4_present.specs.declared.track_info.TrackInfo.{TrackInfo}
 use Rattle.mp4_present.specs.declared.walks.Mark.{Mark}
@@ -33,10 +32,10 @@ returns-clause-coming c file tree t o at =
     let state_at = at_place m.states c.args.track c.index-state.result.now (omega (arith, states, inside)) (subst (λ (xs : List TrackState). c.index-state.result.now ≡ slice_index_or xs c.args.track c.index-state.result.now) (ap (λ (n : MovieSeen). n.states) c.self.view_is) c.index-state.ensures) in
     let due = c.due_first.ensures ∙ due_is file m tree t o c.args.track at c.index-info.result.now info_at c.index-state.result.now state_at in
     let left = c.saturating_sub.ensures ∙ left_is file m tree t o c.args.track at c.index-info.result.now info_at c.index-state.result.now state_at in
-    let stands = stands_first file m tree t o _ at bytes due left refl m.fragments refl (c.unwrap_or.ensures ∙ ap (λ (n : MovieSeen). unwrap_or n.fragments n.file_len) c.self.view_is) o.fragments in
+    let stands = stands_first file m tree t o _ at bytes due left refl refl in
     let tables : c.start-cursor.result.tables ≡ tables_seen m.moov found.0 = c.start-cursor.ensures.tables ∙ c.tables_of.ensures found.0 found.1 in
     let list = tables_in_hand file m tree t c.args.track found.0 c.start-cursor.result o at found.1 tables c.start-cursor.ensures.first in
-    ([], tree.fragments, hands.Tables c.start-cursor.result, (stands, (found.0, found.1, (λ i. record { tables = tables i; place = sym c.place.ensures.is i })), sym (plain_first tree t) ∙ ap (λ ss. ss ++ samples_behind tree t [] tree.fragments) (sym list)))
+    ([], own_trafs tree t, hands.Tables c.start-cursor.result, (stands, (found.0, found.1, (λ i. record { tables = tables i; place = sym c.place.ensures.is i })), sym (plain_first tree t o.is_tree.fragments) ∙ ap (λ ss. ss ++ samples_behind tree t [] (own_trafs tree t)) (sym list)))
 
 pub returns-clause-may : goal.returns-clause-may
 returns-clause-may c file tree t o at =
@@ -51,7 +50,7 @@ returns-clause-may c file tree t o at =
     let state_at = at_place m.states c.args.track c.index-state.result.now (omega (arith, states, inside)) (subst (λ (xs : List TrackState). c.index-state.result.now ≡ slice_index_or xs c.args.track c.index-state.result.now) (ap (λ (n : MovieSeen). n.states) c.self.view_is) c.index-state.ensures) in
     let due = c.due_first.ensures ∙ due_is file m tree t o c.args.track at c.index-info.result.now info_at c.index-state.result.now state_at in
     let left = c.saturating_sub.ensures ∙ left_is file m tree t o c.args.track at c.index-info.result.now info_at c.index-state.result.now state_at in
-    let stands = stands_first file m tree t o _ at bytes due left refl m.fragments refl (c.unwrap_or.ensures ∙ ap (λ (n : MovieSeen). unwrap_or n.fragments n.file_len) c.self.view_is) o.fragments in
+    let stands = stands_first file m tree t o _ at bytes due left refl refl in
     let place = subst (λ (s : TablesSeen). IsPlace s.payload s.at c.place.result) (c.start-cursor.ensures.tables ∙ c.tables_of.ensures found.0 found.1) c.place.ensures.place in
     begins file m tree t _ c.place.result o i stands refl (found.0, found.1, place)
 

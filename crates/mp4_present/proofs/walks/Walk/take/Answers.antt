@@ -1,13 +1,12 @@
-use Rattle.std.proofs.Common.{rules, arith, ◌≡◌, ◌+◌, ◌-◌, ◌^◌, ◌∙◌, length, List, min, ap, refl, sym}
-use Rattle.mp4_boxes.specs.format.Box.{Box}
+use Rattle.std.proofs.Common.{rules, arith, ◌≡◌, ◌+◌, ◌-◌, ◌^◌, ◌∙◌, length, List, min, ap, refl, sym, to_z, of_z}
+use Rattle.std.specs.Int.{w128}
+use Rattle.std.proofs.lemmas.Int.{to_z-of_z}
 use Rattle.mp4_boxes.specs.format.Bytes.{sum_of}
-use Rattle.mp4_boxes.specs.words.View.{box_seen}
-use Rattle.mp4_frag.specs.words.FragmentsSeen.{moof_seen}
 use Rattle.mp4_frag.specs.words.Walks.{samples_coming}
 use Rattle.mp4_tables.specs.declared.sample.SampleAt.{SampleAt}
-use Rattle.mp4_present.specs.words.Movies.{moof_box, moof_hand}
+use Rattle.mp4_present.specs.words.Movies.{traf_box, traf_bytes, traf_hand}
 use Rattle.mp4_present.specs.declared.in_hand.InHand.TheVariants as hands
-use Rattle.mp4_present.proofs.MoofTaken.{few, stands_behind, taken, at_place, none_left, some_counted, all_taken, counted_left}
+use Rattle.mp4_present.proofs.TrafTaken.{few, stands_behind, taken, at_place, none_left, some_counted, all_taken, counted_left}
 use Rattle.mp4_present.proofs.WalkWork.{place_within}
 use Rattle.mp4_present.proofs.walks.Walk.take.Goals as goal
 
@@ -15,23 +14,18 @@ pub returns-clause-taken : goal.returns-clause-taken
 returns-clause-taken g c file tree t earlier later next o h =
     let w = c.args.self.now in
     let m = c.args.movie.now in
-    let view : box_seen c.view.result ≡ moof_box w = rw c.deref.ensures.value at c.view.ensures in
-    let seen : moof_seen c.again-view.result ≡ moof_box w = c.again-view.ensures ∙ view in
+    let payload : c.start-cursor.result.payload ≡ traf_bytes w = rw c.deref.ensures.value at c.start-cursor.ensures.payload in
+    let again : to_z w128 (of_z w128 w.traf.base) ≡ w.traf.base = to_z-of_z w128 w.traf.base (search rules) in
     let info_at = at_place m.tracks w.track c.index-tracks-self.result c.requires.movie.track (rw c.tracks.ensures at c.index-tracks-self.is) in
-    let list = taken file m tree t earlier next later w o h c.index-tracks-self.result info_at c.states.ensures.is_movie.short (moof_seen c.again-view.result) seen (samples_coming c.start-cursor.result)
-    (rw c.states.ensures.same at c.start-cursor.ensures.definition) in
+    let list = taken file m tree t earlier next later w o h c.index-tracks-self.result info_at c.trex_of-trex.ensures.is_movie.short (traf_bytes w) refl c.trex_of-trex.result c.trex_of-trex.ensures.trex (samples_coming c.start-cursor.result)
+    (rw (c.deref.ensures.value, again) at c.start-cursor.ensures.definition) in
     let counted = c.in-Some.ensures.samples ∙ ap (λ (ss : List SampleAt). length ss) list in
     let lasting = c.in-Some.ensures.duration ∙ ap (λ (ss : List SampleAt). min (sum_of (λ (s : SampleAt). s.duration) ss) (2 ^ 64 - 1)) list in
-    let stands = stands_behind file m tree t earlier next later w o h _ refl refl refl (c.saturating_add-self.ensures ∙ ap (λ n. min (w.due + n) (2 ^ 64 - 1)) lasting) (ap (λ n. w.left - n) counted) (record { track = refl; next = refl; moof = refl; room = refl; box = refl }) refl in (
+    let stands = stands_behind file m tree t earlier next later w o h _ refl refl refl (c.saturating_add-self.ensures ∙ ap (λ n. min (w.due + n) (2 ^ 64 - 1)) lasting) (ap (λ n. w.left - n) counted) (record { track = refl; next = refl; traf = refl; room = refl; bytes = refl }) refl in (
       hands.Fragment c.start-cursor.result,
       (
         stands,
-        (λ i. record {
-          payload = (c.start-cursor.ensures.payload ∙ ap (λ (b : Box). b.payload) seen) i;
-          moof = (c.start-cursor.ensures.moof ∙ ap (λ (b : Box). b.offset) seen) i;
-          tracks = (c.start-cursor.ensures.tracks ∙ c.states.ensures.same) i;
-          place = sym c.place.ensures.is i;
-        }),
+        (λ i. record { payload = payload i; place = sym c.place.ensures.is i }),
         list,
         none_left (samples_coming c.start-cursor.result) c.in-Some.counts.samples c.in-Some.ensures.samples,
       ),
@@ -41,11 +35,11 @@ pub returns-in_default-clause-taken : goal.returns-in_default-clause-taken
 returns-in_default-clause-taken g c file tree t earlier later next o h =
     let w = c.args.self.now in
     let m = c.args.movie.now in
-    let view : box_seen c.view.result ≡ moof_box w = rw c.deref.ensures.value at c.view.ensures in
-    let seen : moof_seen c.again-view.result ≡ moof_box w = c.again-view.ensures ∙ view in
+    let payload : c.start-cursor.result.payload ≡ traf_bytes w = rw c.deref.ensures.value at c.start-cursor.ensures.payload in
+    let again : to_z w128 (of_z w128 w.traf.base) ≡ w.traf.base = to_z-of_z w128 w.traf.base (search rules) in
     let info_at = at_place m.tracks w.track c.index-tracks-self.result c.requires.movie.track (rw c.tracks.ensures at c.index-tracks-self.is) in
-    let list = taken file m tree t earlier next later w o h c.index-tracks-self.result info_at c.states.ensures.is_movie.short (moof_seen c.again-view.result) seen (samples_coming c.start-cursor.result)
-    (rw c.states.ensures.same at c.start-cursor.ensures.definition) in
+    let list = taken file m tree t earlier next later w o h c.index-tracks-self.result info_at c.trex_of-trex.ensures.is_movie.short (traf_bytes w) refl c.trex_of-trex.result c.trex_of-trex.ensures.trex (samples_coming c.start-cursor.result)
+    (rw (c.deref.ensures.value, again) at c.start-cursor.ensures.definition) in
     let long = c.counts.ensures.many c.in_default.is in
     let all = ap (λ (ss : List SampleAt). length ss) list in
     let least = few file m tree t earlier next later w o h in
@@ -53,9 +47,8 @@ returns-in_default-clause-taken g c file tree t earlier later next o h =
 
 pub returns-clause-work : goal.returns-clause-work
 returns-clause-work g c =
-    let view : box_seen c.view.result ≡ moof_box c.args.self.now = rw c.deref.ensures.value at c.view.ensures in
-    let seen : moof_seen c.again-view.result ≡ moof_box c.args.self.now = c.again-view.ensures ∙ view in
-    let way = place_within (moof_box c.args.self.now) _ _ (c.start-cursor.ensures.payload ∙ ap (λ (b : Box). b.payload) seen) c.in-Some.ensures.said in
+    let payload : c.start-cursor.result.payload ≡ traf_bytes c.args.self.now = rw c.deref.ensures.value at c.start-cursor.ensures.payload in
+    let way = place_within (traf_box c.args.self.now) _ _ payload c.in-Some.ensures.said in
     let one = c.add.ensures.more in
     let first = c.passed.ensures in
     let two = c.add-2.ensures.more in
@@ -64,16 +57,10 @@ returns-clause-work g c =
 pub returns-clause-some : goal.returns-clause-some
 returns-clause-some g c some =
     let w = c.args.self.now in
-    let view : box_seen c.view.result ≡ moof_box w = rw c.deref.ensures.value at c.view.ensures in
-    let seen : moof_seen c.again-view.result ≡ moof_box w = c.again-view.ensures ∙ view in
+    let payload : c.start-cursor.result.payload ≡ traf_bytes w = rw c.deref.ensures.value at c.start-cursor.ensures.payload in
     let counted = c.in-Some.ensures.samples in (
       hands.Fragment c.start-cursor.result,
-      (λ i. record {
-        payload = (c.start-cursor.ensures.payload ∙ ap (λ (b : Box). b.payload) seen) i;
-        moof = (c.start-cursor.ensures.moof ∙ ap (λ (b : Box). b.offset) seen) i;
-        tracks = (c.start-cursor.ensures.tracks ∙ c.states.ensures.same) i;
-        place = sym c.place.ensures.is i;
-      }),
+      (λ i. record { payload = payload i; place = sym c.place.ensures.is i }),
       some_counted c.in-Some.counts.samples _ some counted,
     )
 
@@ -81,20 +68,15 @@ pub returns-clause-hand : goal.returns-clause-hand
 returns-clause-hand g c =
     let w = c.args.self.now in
     let m = c.args.movie.now in
-    let view : box_seen c.view.result ≡ moof_box w = rw c.deref.ensures.value at c.view.ensures in
-    let seen : moof_seen c.again-view.result ≡ moof_box w = c.again-view.ensures ∙ view in
+    let payload : c.start-cursor.result.payload ≡ traf_bytes w = rw c.deref.ensures.value at c.start-cursor.ensures.payload in
+    let again : to_z w128 (of_z w128 w.traf.base) ≡ w.traf.base = to_z-of_z w128 w.traf.base (search rules) in
     let info_at = at_place m.tracks w.track c.index-tracks-self.result c.requires.movie.track (rw c.tracks.ensures at c.index-tracks-self.is) in
-    let hand : c.start-cursor.result ≡ moof_hand m w c.place.result = λ i. record {
-      payload = (c.start-cursor.ensures.payload ∙ ap (λ (b : Box). b.payload) seen) i;
-      moof = (c.start-cursor.ensures.moof ∙ ap (λ (b : Box). b.offset) seen) i;
-      tracks = (c.start-cursor.ensures.tracks ∙ c.states.ensures.same) i;
-      place = sym c.place.ensures.is i;
-    } in
+    let hand : c.start-cursor.result ≡ traf_hand w c.place.result = λ i. record { payload = payload i; place = sym c.place.ensures.is i } in
     record {
       place = search rules;
-      rest = λ info at. (0, sym (ap samples_coming hand) ∙ all_taken m w w.track w.due c.index-tracks-self.result info _ _ _ info_at at seen c.states.ensures.same c.start-cursor.ensures.samples);
-      all = λ info at. (hands.Fragment c.start-cursor.result, hand, all_taken m w w.track w.due c.index-tracks-self.result info _ _ _ info_at at seen c.states.ensures.same c.start-cursor.ensures.samples);
-      way = place_within (moof_box w) _ _ (c.start-cursor.ensures.payload ∙ ap (λ (b : Box). b.payload) seen) c.place.ensures.said;
+      rest = λ info at. (0, sym (ap samples_coming hand) ∙ all_taken m w w.track w.due c.index-tracks-self.result info (traf_bytes w) _ _ info_at at refl c.trex_of-trex.ensures.trex (rw (c.deref.ensures.value, again) at c.start-cursor.ensures.samples));
+      all = λ info at. (hands.Fragment c.start-cursor.result, hand, all_taken m w w.track w.due c.index-tracks-self.result info (traf_bytes w) _ _ info_at at refl c.trex_of-trex.ensures.trex (rw (c.deref.ensures.value, again) at c.start-cursor.ensures.samples));
+      way = place_within (traf_box w) _ _ payload c.place.ensures.said;
       through = λ t. refl;
     }
 
@@ -102,13 +84,14 @@ pub returns-clause-counts : goal.returns-clause-counts
 returns-clause-counts g c =
     let w = c.args.self.now in
     let m = c.args.movie.now in
-    let view : box_seen c.view.result ≡ moof_box w = rw c.deref.ensures.value at c.view.ensures in
-    let seen : moof_seen c.again-view.result ≡ moof_box w = c.again-view.ensures ∙ view in
+    let payload : c.start-cursor.result.payload ≡ traf_bytes w = rw c.deref.ensures.value at c.start-cursor.ensures.payload in
+    let again : to_z w128 (of_z w128 w.traf.base) ≡ w.traf.base = to_z-of_z w128 w.traf.base (search rules) in
     let info_at = at_place m.tracks w.track c.index-tracks-self.result c.requires.movie.track (rw c.tracks.ensures at c.index-tracks-self.is) in
     record {
       before = refl;
-      moof = refl;
+      traf = refl;
+      bytes = refl;
       counted = λ info at.
-          let all = all_taken m w w.track w.due c.index-tracks-self.result info _ _ _ info_at at seen c.states.ensures.same c.start-cursor.ensures.samples in
+          let all = all_taken m w w.track w.due c.index-tracks-self.result info (traf_bytes w) _ _ info_at at refl c.trex_of-trex.ensures.trex (rw (c.deref.ensures.value, again) at c.start-cursor.ensures.samples) in
           counted_left w.left c.in-Some.counts.samples _ _ refl c.in-Some.ensures.few (c.in-Some.ensures.samples ∙ ap (λ (ss : List SampleAt). length ss) all);
     }

@@ -2,8 +2,8 @@ use Rattle.std.proofs.Common.{◌≡◌, ◌∙◌, ◌-◌, List, ℕ, length, 
 use Rattle.mp4_store.proofs.Windows.{part_of_range}
 use Rattle.mp4_store.proofs.buffered.Window.give.Goals as goal
 
-pub returns : goal.returns
-returns c = λ honest file is h.
+pub returns-clause-bytes : goal.returns-clause-bytes
+returns-clause-bytes c = λ honest file is h.
     let w = c.args.self.now in
     let n = length c.args.out.now in
     let same : c.as_slice.result.now ≡ w.bytes.items = search rules in

@@ -1,0 +1,146 @@
+//! A walk over the samples of a `traf`, from place to place.
+ghost use Rattle.std.specs.Prelude.{ℕ, List, ◌≡◌, ◌<◌, ◌≤◌, drop, slice_get, None, Some};
+ghost use Rattle.mp4_boxes.specs.format.Bytes.{AreBytes};
+ghost use Rattle.mp4_tables.specs.words.Indexes.{AreIndexPlaces};
+ghost use Rattle.mp4_tables.specs.words.Keys.{keys_seen};
+ghost use Rattle.mp4_frag.specs.format.FragmentSamples.{flags_of as flags_by};
+ghost use Rattle.mp4_frag.specs.words.PlacesIn.{LiesIn, IsPlaceIn};
+ghost use Rattle.mp4_frag.specs.words.Times.{time_behind};
+ghost use Rattle.mp4_frag.specs.words.Walks.{at_first, first_byte, reached, coming, samples_in};
+
+use crate::heads::nothing_inherited;
+use crate::opened_runs::{next_row, row_here, settle};
+use crate::opened_trafs::open_traf;
+use crate::places::{FragPlace, RowPlace};
+use crate::runs::signed;
+use crate::trex::Trex;
+use mp4_tables::{Keys, SampleAt, no_indexes};
+
+// The flags of a sample: those of its run's first sample, its own, or the inherited ones. The four
+// highest bits are reserved.
+#[inline]
+fn flags_of(first: Option<u32>, own: Option<u32>, inherited: u32) -> u32
+    ensures { result ≡ flags_by first own None inherited }
+{
+    match first {
+        Some(flags) => flags % 0x1000_0000,
+        None => own.unwrap_or(inherited) % 0x1000_0000,
+    }
+}
+
+// A place in a file, 0 where 64 bits have none for it.
+#[inline]
+fn file_place(at: i128) -> u64
+    ensures { result ≡ first_byte at }
+{
+    u64::try_from(at).unwrap_or(0)
+}
+
+/// The sample before which the place lies.
+#[inline(always)]
+pub(crate) fn sample_here(payload: &[u8], place: &FragPlace) -> SampleAt
+    requires some { 0 < place.now.run.left }
+    requires place { LiesIn payload.now place.now }
+    ensures { slice_get (coming payload.now place.now) 0 ≡ Some result }
+{
+    let row = row_here(payload, place.run);
+    SampleAt {
+        dts: place.dts,
+        duration: row.duration.unwrap_or(place.inherited.duration),
+        cto: signed(row.offset).unwrap_or(0),
+        flags: flags_of(place.run.first_flags, row.flags, place.inherited.flags),
+        description: place.inherited.description,
+        at: file_place(place.at),
+        size: row.size.unwrap_or(place.inherited.size),
+        groups: place.indexes.here(),
+    }
+}
+
+// Passes a sample, which may be the last of its run: those behind it are to come, at their times.
+#[inline(always)]
+fn pass_row(payload: &[u8], place: &mut FragPlace)
+    requires some { 0 < place.old.run.left }
+    requires place { LiesIn payload.now place.old }
+    ensures place { LiesIn payload.now place.new }
+    ensures on { place.old.passed ≤ place.new.passed }
+    ensures time { time_behind payload.now place.new ≡ time_behind payload.now place.old }
+    ensures coming { coming payload.now place.new ≡ drop 1 (coming payload.now place.old) }
+{
+    let row = row_here(payload, place.run);
+    let duration = row.duration.unwrap_or(place.inherited.duration);
+    let size = row.size.unwrap_or(place.inherited.size);
+    place.dts = place.dts.saturating_add(u64::from(duration));
+    place.at = place.at.saturating_add(i128::from(size));
+    place.run = next_row(place.run);
+    place.passed = place.passed.saturating_add(1);
+    place.indexes.pass(payload, &place.index_rows);
+}
+
+/// Goes one sample on: those behind it are to come, at their times.
+#[inline(always)]
+pub(crate) fn pass_sample(payload: &[u8], place: &mut FragPlace)
+    requires some { 0 < place.old.run.left }
+    requires place { LiesIn payload.now place.old }
+    ensures place { IsPlaceIn payload.now place.new }
+    ensures on { place.old.passed ≤ place.new.passed }
+    ensures time { time_behind payload.now place.new ≡ time_behind payload.now place.old }
+    ensures coming { coming payload.now place.new ≡ drop 1 (coming payload.now place.old) }
+{
+    pass_row(payload, place);
+    if place.run.left == 0 {
+        settle(payload, place);
+    }
+}
+
+// Before the boxes of a `traf` whose runs are counted from this base. It is a step itself.
+fn first_place(base: i128, dts: u64) -> FragPlace
+    ensures first { (result.next ≡ 0) × (result.run.left ≡ 0) × (result.run.row ≡ 0)
+        × (result.passed ≡ 1) }
+    ensures indexes { (payload : List ℕ)
+        → AreIndexPlaces payload result.index_rows result.indexes }
+    ensures time { result.dts ≡ dts }
+    ensures reached { (payload : List ℕ) → reached payload result ≡ at_first base dts }
+{
+    let (index_rows, indexes) = no_indexes();
+    FragPlace {
+        dts,
+        at: base,
+        next: 0,
+        base,
+        inherited: nothing_inherited(),
+        run: RowPlace {
+            row: 0,
+            left: 0,
+            bits: 0,
+            first_flags: None,
+        },
+        index_rows,
+        indexes,
+        passed: 1,
+    }
+}
+
+/// Before the first sample of the track with this ID in a `traf` whose runs are counted from this
+/// base. A `traf` that does not name the track gives none.
+pub(crate) fn begin_traf(
+    payload: &[u8],
+    base: i128,
+    id: u32,
+    trex: Trex,
+    dts: u64,
+    keys: Keys,
+) -> FragPlace
+    ensures bytes { AreBytes payload.now }
+    ensures place { IsPlaceIn payload.now result }
+    ensures time { result.dts ≡ dts }
+    ensures coming { coming payload.now result
+        ≡ samples_in payload.now base id trex dts (keys_seen keys) }
+{
+    let mut place = first_place(base, dts);
+    if open_traf(payload, id, trex, keys, &mut place) {
+        settle(payload, &mut place);
+    } else {
+        place.next = payload.len();
+    }
+    place
+}
