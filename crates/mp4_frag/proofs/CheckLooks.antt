@@ -2,9 +2,8 @@
 use Rattle.std.proofs.Common.{◌≡◌, ℕ, suc, ◌+◌, ◌*◌, ◌<◌, ◌≤◌, true, false, List, [], ◌∷◌, length, map, refl, ap, ◌∙◌, arith, mul-le-mul_left}
 use Rattle.std.proofs.Math.Nat.{mul-suc, mul_left_comm}
 use Rattle.std.specs.Prelude.{codes, bytes_eq}
-use Rattle.mp4_boxes.specs.format.Box.{Box, box_container}
-use Rattle.mp4_boxes.specs.format.Children.{Holds, of_kind}
-use Rattle.mp4_boxes.specs.declared.rule.Rule.{Rule}
+use Rattle.mp4_boxes.specs.format.Box.{Box, Tiles, box_container}
+use Rattle.mp4_boxes.specs.format.Children.{of_kind}
 use Rattle.mp4_boxes.proofs.Tiling.{sizes_fit}
 use Rattle.mp4_frag.specs.format.FragmentRows.{moof_says}
 use Rattle.mp4_frag.specs.format.Fragments.{track_fragment_of}
@@ -57,27 +56,26 @@ looked_each all left moof tracks first looks h same =
     omega (arith, most, mul-le-mul_left tracks few)
 
 -- by bytes: each `traf` has 8 of them
-looked_fit : (all boxes : List Box) (rule : Rule) (moof : Box) (tracks trafs : ℕ) → all ≡ boxes → Holds rule (box_container moof) boxes → trafs ≤ length all → 8 * (tracks * trafs) ≤ tracks * length moof.payload
-looked_fit all boxes rule moof tracks trafs same holds few =
-    let t = holds.tiles in
-    let eight = boxes_eight false (moof.offset + moof.header) moof.payload boxes t.front.0 in
-    let fit = sizes_fit false (moof.offset + moof.header) moof.payload boxes t.front.0 in
+looked_fit : (all boxes : List Box) (moof : Box) (tracks trafs : ℕ) → all ≡ boxes → Tiles (box_container moof) boxes → trafs ≤ length all → 8 * (tracks * trafs) ≤ tracks * length moof.payload
+looked_fit all boxes moof tracks trafs same tiles few =
+    let eight = boxes_eight false (moof.offset + moof.header) moof.payload boxes tiles.front.0 in
+    let fit = sizes_fit false (moof.offset + moof.header) moof.payload boxes tiles.front.0 in
     let bytes : 8 * trafs ≤ length moof.payload = omega (arith, eight, fit, few, ap (λ (bs : List Box). length bs) same) in
     omega (arith, mul_left_comm 8 tracks trafs, mul-le-mul_left tracks bytes)
 
-pub looked_ended : (all left boxes : List Box) (rule : Rule) (moof : Box) (tracks first looks : ℕ) → MoofLooked all left tracks first looks → all ≡ boxes → Holds rule (box_container moof) boxes → 8 * looks ≤ 8 * first + tracks * length moof.payload
-looked_ended all left boxes rule moof tracks first looks h same holds =
+pub looked_ended : (all left boxes : List Box) (moof : Box) (tracks first looks : ℕ) → MoofLooked all left tracks first looks → all ≡ boxes → Tiles (box_container moof) boxes → 8 * looks ≤ 8 * first + tracks * length moof.payload
+looked_ended all left boxes moof tracks first looks h same tiles =
     let most = h.most in
     let b = h.boxes in
     let few : h.trafs ≤ length all = omega (arith, b) in
-    omega (arith, most, looked_fit all boxes rule moof tracks h.trafs same holds few)
+    omega (arith, most, looked_fit all boxes moof tracks h.trafs same tiles few)
 
 -- one is refused behind them
-pub looked_fault : (all left later boxes : List Box) (b : Box) (rule : Rule) (moof : Box) (tracks first looks more : ℕ) → MoofLooked all left tracks first looks → left ≡ b ∷ later → all ≡ boxes → Holds rule (box_container moof) boxes → more ≤ looks + tracks
+pub looked_fault : (all left later boxes : List Box) (b : Box) (moof : Box) (tracks first looks more : ℕ) → MoofLooked all left tracks first looks → left ≡ b ∷ later → all ≡ boxes → Tiles (box_container moof) boxes → more ≤ looks + tracks
     → 8 * more ≤ 8 * first + tracks * length moof.payload
-looked_fault all left later boxes b rule moof tracks first looks more h e same holds each =
+looked_fault all left later boxes b moof tracks first looks more h e same tiles each =
     let most = h.most in
     let bs = h.boxes in
     let longer : length left ≡ suc (length later) = ap (λ (bs : List Box). length bs) e in
     let few : suc h.trafs ≤ length all = omega (arith, bs, longer) in
-    omega (arith, most, each, mul-suc tracks h.trafs, looked_fit all boxes rule moof tracks (suc h.trafs) same holds few)
+    omega (arith, most, each, mul-suc tracks h.trafs, looked_fit all boxes moof tracks (suc h.trafs) same tiles few)

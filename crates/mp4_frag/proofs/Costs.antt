@@ -4,8 +4,7 @@ use Rattle.std.specs.Prelude.{codes, bytes_eq, slice_index}
 use Rattle.mp4_boxes.specs.format.Bytes.{rows, sum_of, width_of}
 use Rattle.mp4_boxes.specs.format.Layout.{sbgp, row_count}
 use Rattle.mp4_boxes.specs.format.Box.{Box, LieEndToEnd, Tiles, box_container, bytes_container, size, sizes}
-use Rattle.mp4_boxes.specs.format.Children.{Holds, of_kind}
-use Rattle.mp4_boxes.specs.declared.rule.Rule.{Rule}
+use Rattle.mp4_boxes.specs.format.Children.{of_kind}
 use Rattle.mp4_boxes.proofs.Tiling.{box_size, header_is, sizes-cons, sizes_fit}
 use Rattle.mp4_tables.specs.format.Groups.{grouping_of, groupings_of}
 use Rattle.mp4_frag.specs.format.Fragments.{run_of, track_fragment_of}
@@ -148,11 +147,10 @@ moof_cost_traf all left later b first whole steps more room less h e is_traf k l
     let said = h.said in
     record { most = omega (arith, most, one_larger left later b e, one_longer left later b e, l); said = omega (arith, said, sum_one (codes "traf") (λ (c : Box). traf_rows (traf_in c)) left later b e is_traf, k) }
 
-trafs_fit : (all boxes : List Box) (rule : Rule) (moof : Box) → all ≡ boxes → Holds rule (box_container moof) boxes → 8 * length all + 3 * sizes all ≤ 4 * length moof.payload
-trafs_fit all boxes rule moof same holds =
-    let t = holds.tiles in
-    let eight = boxes_eight false (moof.offset + moof.header) moof.payload boxes t.front.0 in
-    let fit = sizes_fit false (moof.offset + moof.header) moof.payload boxes t.front.0 in
+trafs_fit : (all boxes : List Box) (moof : Box) → all ≡ boxes → Tiles (box_container moof) boxes → 8 * length all + 3 * sizes all ≤ 4 * length moof.payload
+trafs_fit all boxes moof same tiles =
+    let eight = boxes_eight false (moof.offset + moof.header) moof.payload boxes tiles.front.0 in
+    let fit = sizes_fit false (moof.offset + moof.header) moof.payload boxes tiles.front.0 in
     omega (arith, eight, fit, ap (λ (bs : List Box). length bs) same, ap sizes same)
 
 -- behind the last box
@@ -161,12 +159,12 @@ moof_cost_said all left moof first whole steps room h same =
     let said = h.said in
     omega (arith, said, ap trafs_among same, trafs_said (of_kind (codes "traf") (children_of moof)))
 
-pub moof_cost_ended : (all left boxes : List Box) (rule : Rule) (moof : Box) (first whole steps room : ℕ) → MoofCost all left first whole steps room → all ≡ boxes → Holds rule (box_container moof) boxes
+pub moof_cost_ended : (all left boxes : List Box) (moof : Box) (first whole steps room : ℕ) → MoofCost all left first whole steps room → all ≡ boxes → Tiles (box_container moof) boxes
     → 2 * steps + 2 * room ≤ 2 * first + 2 * whole + length moof.payload
-moof_cost_ended all left boxes rule moof first whole steps room h same holds = let most = h.most in omega (arith, most, trafs_fit all boxes rule moof same holds)
+moof_cost_ended all left boxes moof first whole steps room h same tiles = let most = h.most in omega (arith, most, trafs_fit all boxes moof same tiles)
 
-pub moof_cost_fault : (all left later boxes : List Box) (b : Box) (rule : Rule) (moof : Box) (first whole steps more room : ℕ) → MoofCost all left first whole steps room → left ≡ b ∷ later → all ≡ boxes → Holds rule (box_container moof) boxes
+pub moof_cost_fault : (all left later boxes : List Box) (b : Box) (moof : Box) (first whole steps more room : ℕ) → MoofCost all left first whole steps room → left ≡ b ∷ later → all ≡ boxes → Tiles (box_container moof) boxes
     → 8 * more ≤ 8 * (steps + 1) + 8 * room + 3 * length b.payload → 2 * more ≤ 2 * first + 2 * whole + length moof.payload
-moof_cost_fault all left later boxes b rule moof first whole steps more room h e same holds k =
+moof_cost_fault all left later boxes b moof first whole steps more room h e same tiles k =
     let most = h.most in
-    omega (arith, most, one_larger left later b e, one_longer left later b e, trafs_fit all boxes rule moof same holds, k)
+    omega (arith, most, one_larger left later b e, one_longer left later b e, trafs_fit all boxes moof same tiles, k)

@@ -1,7 +1,7 @@
 -- The boxes of which a `traf` has one.
 use Rattle.std.proofs.Common.{◌≡◌, ℕ, ◌+◌, ◌≤◌, ◌||◌, Bool, true, false, cond, List, [], ◌∷◌, length, Option, Some, None, refl, sym, ap, ◌∙◌, arith}
 use Rattle.std.specs.Prelude.{codes, bytes_eq}
-use Rattle.mp4_boxes.specs.format.Box.{Box, box_container}
+use Rattle.mp4_boxes.specs.format.Box.{Box, Tiles, box_container}
 use Rattle.mp4_boxes.specs.format.Children.{of_kind, count_among, Holds}
 use Rattle.mp4_boxes.specs.declared.rule.Rule.TheVariants as rules
 use Rattle.mp4_boxes.specs.declared.rule.Rule.{Rule}
@@ -39,6 +39,11 @@ last_all kind all left boxes last s e f few =
     let count = kept_count kind boxes in
     let few_kept : length (of_kind kind boxes) ≤ 1 = omega arith in
     last_only (of_kind kind boxes) last few_kept (ap (λ bs. last_from None (of_kind kind bs)) (sym f) ∙ whole)
+
+-- the boxes that fill a box are those in it
+pub holds_boxes : (b : Box) (boxes : List Box) → Tiles (box_container b) boxes → boxes ≡ children_of b
+unfolding boxes_of
+holds_boxes b boxes t = sym (boxes_are b boxes t)
 
 -- the boxes that a box holds are those in it
 pub holds_children : (rule : Rule) (b : Box) (boxes : List Box) → Holds rule (box_container b) boxes → boxes ≡ children_of b

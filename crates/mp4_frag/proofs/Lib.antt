@@ -20,6 +20,7 @@ pub mod NamesKept
 pub mod RunsPassed
 pub mod BoxesMoved
 pub mod TrafsTied
+pub mod TrafsJudged
 pub mod Bounds
 pub mod LeavesTied
 pub mod GroupsTied

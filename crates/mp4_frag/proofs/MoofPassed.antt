@@ -1,14 +1,14 @@
 -- The `traf`s of a `moof`, passed one by one.
 use Rattle.std.proofs.Common.{◌≡◌, ℕ, suc, ◌+◌, ◌*◌, ◌^◌, ◌<◌, ◌≤◌, true, false, List, [], ◌∷◌, length, map, Option, Some, None, IsTrue, inl, inr, refl, sym, ap, subst, ◌∙◌, arith}
-use Rattle.std.specs.Prelude.{ℤ, pos, codes, bytes_eq, unwrap_or, option_map, is_some, ⊤}
+use Rattle.std.specs.Prelude.{ℤ, pos, codes, bytes_eq, unwrap_or, option_map, is_some}
 use Rattle.std.specs.List.{AllByRecursion}
-use Rattle.mp4_boxes.specs.format.Box.{Box, box_container}
+use Rattle.mp4_boxes.specs.format.Box.{Box, Tiles, box_container}
 use Rattle.mp4_boxes.specs.format.Children.{of_kind, Holds}
 use Rattle.mp4_boxes.specs.format.Places.{ruled, AreSound}
 use Rattle.mp4_boxes.specs.declared.rule.Rule.TheVariants as rules
 use Rattle.mp4_frag.specs.format.Fragments.{AreTrafs, track_fragment_of}
 use Rattle.mp4_frag.specs.format.FragmentSamples.{Part, parts_after, trex_for, no_trex}
-use Rattle.mp4_frag.specs.words.Judged.{is_known_among, IsPlacedWithin, IsGrouped, IsSoundMoof, IsTrafSound, IsMovedOn, AreMovedOn, end_with, tree_of}
+use Rattle.mp4_frag.specs.words.Judged.{is_known_among, IsPlacedWithin, IsGrouped, IsSoundMoof, IsTrafSound, AreTrafsSound, IsSoundFront, IsMovedOn, AreMovedOn, end_with, tree_of}
 use Rattle.mp4_frag.specs.words.Passing.{IsUpTo}
 use Rattle.mp4_frag.specs.words.RunsJudged.{children_of}
 use Rattle.mp4_boxes.specs.declared.fault.Fault.{Fault}
@@ -19,12 +19,6 @@ use Rattle.mp4_frag.specs.declared.trex.Trex.{Trex}
 use Rattle.mp4_frag.proofs.Comings.{turned}
 use Rattle.mp4_frag.proofs.Bounds.{up_to_more}
 use Rattle.mp4_frag.proofs.OwnTrexes.{Agree}
-
--- each `traf` is sound, behind data that ends at a place
-abbrev pub AreTrafsSound : ℕ → ℕ → ℤ → List TrackState → List Box → Type 0
-AreTrafsSound L moof before tracks [] = ⊤
-AreTrafsSound L moof before tracks (b ∷ trafs) =
-    Holds rules.TrackFragment (box_container b) (children_of b) × ((ends : ℤ) × IsTrafSound L moof before tracks (children_of b) ends × AreTrafsSound L moof ends tracks trafs)
 
 -- Of all boxes these are left; the data of those passed ends at a place.
 pub record MoofSeen (L moof : ℕ) (first : List TrackState) (all left : List Box) (before : ℤ) (tracks : List TrackState) : Type 0 where
@@ -119,6 +113,12 @@ moof_sound trexes L moof tracks short holds s h =
       places = all_placed trexes L moof.offset (pos moof.offset) tracks trafs h s;
       groups = all_grouped trexes L moof.offset (pos moof.offset) tracks trafs h s;
     }
+
+-- the front of one
+pub front_sound : (trexes : List Trex) (L : ℕ) (moof : Box) (tracks : List TrackState) → Tiles (box_container moof) (children_of moof) → AreTrafsSound L moof.offset (pos moof.offset) tracks (of_kind (codes "traf") (children_of moof)) → Agree trexes tracks → IsSoundFront L trexes (tree_of moof)
+front_sound trexes L moof tracks tiles s h =
+    let trafs = of_kind (codes "traf") (children_of moof) in
+    record { tiles = tiles; trafs = trees L moof.offset (pos moof.offset) tracks trafs s; places = all_placed trexes L moof.offset (pos moof.offset) tracks trafs h s }
 
 -- ---- how the tracks move on
 

@@ -1,6 +1,6 @@
 //! A `moof`, checked behind what came before it (ISO/IEC 14496-12, 8.8).
 ghost use Rattle.std.specs.Prelude.{List, pos, nat_lt, not, ◌&&◌, ◌≡◌, ◌+◌, ◌*◌, ◌^◌, ◌<◌, ◌≤◌, ◌==◌, [], length, map, None, Some, option_map, codes, if◌then◌else◌, IfOk, IfErr, OnOk, OnErr};
-ghost use Rattle.mp4_boxes.specs.format.Box.{box_container};
+ghost use Rattle.mp4_boxes.specs.format.Box.{Tiles, box_container};
 ghost use Rattle.mp4_boxes.specs.format.BoxFaults.{IsChildFault};
 ghost use Rattle.mp4_boxes.specs.declared.rule.Rule.TheVariants as rules;
 ghost use Rattle.mp4_boxes.specs.words.View.{box_seen};
@@ -15,11 +15,11 @@ ghost use Rattle.mp4_boxes.specs.format.Layout.{IsSound, tfdt as tfdt_leaf, tfhd
 ghost use Rattle.std.specs.List.{AllByRecursion};
 ghost use Rattle.mp4_frag.specs.words.Reading.{IsBaseIn, IsHead};
 ghost use Rattle.mp4_frag.specs.words.RunsJudged.{children_of, HoldsChildren, only_list, runs_in, AreRunsPassed, RunsFail};
-ghost use Rattle.mp4_frag.specs.words.Judged.{AreTrexesOf, IsAcceptable, IsAccepted, IsSoundMoof, IsTrafPassed, IsMoofMovedOn, KeepRoom, tree_of};
+ghost use Rattle.mp4_frag.specs.words.Judged.{AreTrexesOf, AreTrafsPassed, IsAcceptable, IsAccepted, IsSoundFront, IsSoundMoof, IsTrafPassed, IsMoofMovedOn, KeepRoom, tree_of};
 ghost use Rattle.mp4_tables.specs.format.TableRules.{is_index};
 ghost use Rattle.mp4_frag.specs.declared.trex.Trex.{Trex};
 ghost use Rattle.mp4_frag.specs.words.States.{HasRoom, IsRoomFor};
-ghost use Rattle.mp4_frag.specs.words.TrafFaults.{HoldsBoxes, IsLeafFault, IsTimeFault, TrafFails, RefusesMoof, traf_in};
+ghost use Rattle.mp4_frag.specs.words.TrafFaults.{HoldsBoxes, IsLeafFault, IsTimeFault, TrafFails, RefusesFront, RefusesMoof, RefusesTrafs, traf_in};
 ghost use Rattle.mp4_frag.specs.words.OwnTrafs.{AreApart, data_end, own_seen, noted_in};
 ghost use Rattle.mp4_frag.specs.words.Noted.{IsNotable, ids_of, noted_if};
 ghost use Rattle.mp4_boxes.specs.declared.fault.Fault.{Fault};
@@ -35,7 +35,7 @@ use crate::sample_runs::{Judged, Passed, check_run};
 use crate::state::TrackState;
 use crate::times::read_time;
 use mp4_boxes::{
-    BoxView, Fault, FourCc, Kind, Memory, Refusal, Rule, Steps, check_children, children,
+    BoxView, Children, Fault, FourCc, Kind, Memory, Refusal, Rule, Steps, check_children, children,
 };
 use mp4_tables::Keys;
 use std::sync::ledger::Ledger;
@@ -333,6 +333,60 @@ fn note_traf(own: &mut [OwnTrafs], passed: PassedTraf) -> Result<(), Memory>
     Ok(())
 }
 
+// Checks the `traf`s among the boxes of a `moof` in file order, behind what came before it: all pass,
+// and the tracks, the notes and the room are those behind them; or the first that has a fault is
+// refused. The answer is where the data of the last one ends.
+fn check_trafs<'a, L: Ledger, M: Ledger>(
+    moof: BoxView<'a>,
+    boxes: Children<'a>,
+    file_len: u64,
+    tracks: &mut [TrackState],
+    own: &mut [OwnTrafs],
+    room: &mut u32,
+    steps: &mut Steps<L>,
+    looks: &mut Steps<M>,
+) -> Result<i128, Refusal>
+    requires boxes { Tiles (box_container (box_seen moof)) boxes }
+    requires room { IsRoomFor tracks.old room.old }
+    ensures passed { OnOk result (AreTrafsPassed file_len (box_seen moof.entry)
+        tracks.old tracks.new room.old room.new) }
+    ensures refusal { IfErr result
+        (RefusesTrafs file_len tracks.old room.old (box_seen moof.entry) (length own.old)) }
+    ensures own { OnOk result ((trexes : List Trex) → AreTrexesOf trexes tracks.old
+        → AreApart tracks.old → length own.old ≡ length tracks.old → map own_seen own.new
+        ≡ noted_in trexes (tree_of (box_seen moof.entry)) tracks.old (map own_seen own.old)) }
+    ensures ends { IfOk result (λ ends. (trexes : List Trex) → AreTrexesOf trexes tracks.old
+        → ends ≡ data_end trexes (box_seen moof.entry).offset (pos (box_seen moof.entry).offset)
+        (of_kind (codes "traf") (children_of (box_seen moof.entry)))) }
+    ensures each { length own.new ≡ length own.old }
+    ensures work { MoofWork (box_seen moof.entry) steps.old steps.new room.old room.new result }
+    ensures looks { MoofLooks (box_seen moof.entry) (length tracks.old) looks.old looks.new result }
+    ensures stops { IfMemory result (StopsWithin (box_seen moof.entry) (length tracks.old)
+        steps.old steps.new looks.old looks.new) }
+{
+    let mut before = i128::from(moof.offset());
+    let mut known = Known::first();
+    for child in boxes {
+        if child.kind() == TRAF {
+            steps.tick();
+            let passed = check_traf(
+                child,
+                moof.offset(),
+                before,
+                file_len,
+                tracks,
+                &mut known,
+                room,
+                steps,
+                looks,
+            )?;
+            note_traf(own, passed)?;
+            before = passed.ends;
+        }
+    }
+    Ok(before)
+}
+
 /// Checks a `moof` of a file of this length behind what came before it. The tracks move on by its
 /// samples, and the room for samples falls by their number. Each `traf` with samples is noted at
 /// the place of its track, as far as there are notes; a caller that wants none gives an empty list.
@@ -371,27 +425,37 @@ pub fn check_moof<L: Ledger, M: Ledger>(
     ensures stops { IfMemory result (StopsWithin (box_seen moof.entry) (length tracks.old)
         steps.old steps.new looks.old looks.new) }
 {
-    let mut before = i128::from(moof.offset());
-    let mut known = Known::first();
-    for child in check_children(moof, Rule::MovieFragment)? {
-        if child.kind() == TRAF {
-            steps.tick();
-            let passed = check_traf(
-                child,
-                moof.offset(),
-                before,
-                file_len,
-                tracks,
-                &mut known,
-                room,
-                steps,
-                looks,
-            )?;
-            note_traf(own, passed)?;
-            before = passed.ends;
-        }
-    }
-    Ok(before)
+    let boxes = check_children(moof, Rule::MovieFragment)?;
+    check_trafs(moof, boxes, file_len, tracks, own, room, steps, looks)
+}
+
+/// Moves tracks on by the first boxes of a `moof`, up to a place, where the rest may hold boxes that
+/// it has to have. The room for samples falls by their number. The answer is where the data of the
+/// last of its `traf`s ends, or the place of the `moof` without one.
+pub fn check_front<L: Ledger, M: Ledger>(
+    front: BoxView,
+    file_len: u64,
+    tracks: &mut [TrackState],
+    room: &mut u32,
+    steps: &mut Steps<L>,
+    looks: &mut Steps<M>,
+) -> Result<i128, Refusal>
+    requires room { IsRoomFor tracks.old room.old }
+    ensures sound { OnOk result ((trexes : List Trex) → AreTrexesOf trexes tracks.old
+        → IsSoundFront file_len trexes (tree_of (box_seen front.entry))) }
+    ensures moved { OnOk result
+        (IsMoofMovedOn (box_seen front.entry) tracks.old tracks.new room.old room.new) }
+    ensures ends { IfOk result (λ ends. (trexes : List Trex) → AreTrexesOf trexes tracks.old
+        → ends ≡ data_end trexes (box_seen front.entry).offset (pos (box_seen front.entry).offset)
+        (of_kind (codes "traf") (children_of (box_seen front.entry)))) }
+    ensures refusal { IfErr result (RefusesFront file_len tracks.old room.old
+        (box_seen front.entry)) }
+    ensures work { MoofWork (box_seen front.entry) steps.old steps.new room.old room.new result }
+    ensures looks { MoofLooks (box_seen front.entry) (length tracks.old) looks.old looks.new
+        result }
+{
+    let boxes = children(front.payload(), front.payload_offset(), front.kind())?;
+    check_trafs(front, boxes, file_len, tracks, &mut [], room, steps, looks)
 }
 
 /// Where the runs of a `traf` with this `tfhd` are counted from, in a `moof` at this place, where

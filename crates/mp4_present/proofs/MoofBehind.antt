@@ -12,7 +12,7 @@ use Rattle.mp4_frag.specs.declared.state.TrackState.{TrackState}
 use Rattle.mp4_frag.specs.declared.trex.Trex.{Trex}
 use Rattle.mp4_frag.specs.format.Fragments.{FragmentTree, IsFragmentTree, TrackFragment, fragment_of, track_fragment_of}
 use Rattle.mp4_frag.specs.format.FragmentSamples.{Part, parts_after, parts_of, trex_for, no_trex}
-use Rattle.mp4_frag.specs.words.Judged.{TrackSeen, track_seen, track_behind, IsPlacedWithin, IsMovedOn, AreMovedOn, AreTrexesOf, part_with, end_with, tree_of}
+use Rattle.mp4_frag.specs.words.Judged.{TrackSeen, track_seen, track_behind, IsPlacedWithin, IsSoundFront, IsMovedOn, AreMovedOn, IsMoofMovedOn, AreTrexesOf, part_with, end_with, tree_of}
 use Rattle.mp4_frag.specs.words.RunsJudged.{children_of}
 use Rattle.mp4_frag.proofs.PartReasons.{part_counts}
 use Rattle.mp4_frag.proofs.SeenLists.{find_map}
@@ -20,7 +20,7 @@ use Rattle.mp4_head.specs.format.Tree.{TrackTree, MovieTree, trexes_of, are_dist
 use Rattle.mp4_present.specs.format.Denotes.{IsSoundFragment}
 use Rattle.mp4_present.specs.format.Presentation.{max_samples}
 use Rattle.mp4_present.specs.format.Stands.{run_total, table_total, trafs_total}
-use Rattle.mp4_present.specs.words.Passing.{AreBehind, BeginsBehind, PassesMoof, TrexesBehind, parts_behind, seen_behind}
+use Rattle.mp4_present.specs.words.Passing.{AreBehind, BeginsBehind, IsMovieOf, PassesMoof, TrexesBehind, parts_behind, seen_behind}
 use Rattle.mp4_boxes.proofs.Among.{head_is, tail_is}
 use Rattle.mp4_present.proofs.Counts.{sum-append}
 use Rattle.mp4_present.proofs.PlainLists.{all_push}
@@ -152,6 +152,14 @@ counted_more movie earlier t = joined (table_total movie.tracks) _ _ _ (sum-appe
   where
     joined : (tables before one all : ℕ) → all ≡ before + (one + 0) → tables + all ≡ (tables + before) + one
     joined tables before one all e = omega arith
+
+-- the tracks behind some `traf`s of the next `moof`
+pub passes_front : (file : List ℕ) (movie : MovieTree) (earlier : List FragmentTree) (moof : Box) (states new : List TrackState) (room less : ℕ) → IsMovieOf file movie → AreBehind file movie earlier states room → IsSoundFront (length file) (trexes_of movie) (tree_of moof)
+    → IsMoofMovedOn moof states new room less → map track_seen new ≡ map (seen_behind movie (parts_behind movie (earlier ++ tree_of moof ∷ []))) movie.tracks
+passes_front file movie earlier moof states new room less movie_is h sound moved =
+    let r = inside_all file movie earlier moof.offset movie_is.sound.track_ids (of_kind (codes "traf") (children_of moof)) [] (pos moof.offset) states new room less (inside_none file movie earlier moof.offset states room h) sound.places moved in
+    let passed = subst (λ ps. HavePassed file movie ps (map track_seen new)) (sym (parts_joined movie earlier (tree_of moof))) r.1.passed in
+    passed.tracks
 
 -- one more `moof` that was accepted
 pub passes_moof : PassesMoof

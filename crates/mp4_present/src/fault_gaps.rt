@@ -23,7 +23,7 @@ use crate::reading::{TopBox, read_payload};
 use crate::tables_pass::PlainTracks;
 use crate::totals::in_64_bits;
 use mp4_boxes::{BoxView, Fault, FourCc, Kind, Refusal, Steps, TopHeader, children, u64_at};
-use mp4_frag::{TrackState, base_in, check_moof};
+use mp4_frag::{TrackState, base_in, check_front, check_moof};
 use mp4_store::Store;
 use std::alloc::Global;
 use std::sync::ledger::Ledger;
@@ -167,7 +167,7 @@ fn gap_in<L: Ledger, M: Ledger>(
         return Ok(None);
     };
     let mut room = room;
-    check_moof(front, file_len, states, &mut [], &mut room, steps, looks)?;
+    check_front(front, file_len, states, &mut room, steps, looks)?;
     let Some(state) = state_with(states, track) else {
         return Ok(None);
     };
@@ -204,7 +204,7 @@ fn outside_in<L: Ledger, M: Ledger>(
         return Ok(None);
     };
     let mut room = room;
-    let before = check_moof(front, file_len, states, &mut [], &mut room, steps, looks)?;
+    let before = check_front(front, file_len, states, &mut room, steps, looks)?;
     let base = base_in(tfhd, top.offset, before)?;
     Ok(outside_in_fragment(traf, base, states, file_len))
 }

@@ -1,7 +1,7 @@
 -- What a `moof` has to keep behind what came before it, by what is known of the tracks.
 use Rattle.std.specs.Prelude.{◌≡◌, ℕ, ◌+◌, ◌^◌, ◌<◌, ◌≤◌, ◌==◌, cond, if◌then◌else◌, ℤ, pos, List, [], ◌∷◌, length, take, map, find, slice_get, slice_set, codes, Bool, Option, Some, None, is_some, unwrap_or, IsTrue}
 use Rattle.std.specs.List.{AllByRecursion, list_all}
-use Rattle.mp4_boxes.specs.format.Box.{Box, box_container}
+use Rattle.mp4_boxes.specs.format.Box.{Box, Tiles, box_container}
 use Rattle.mp4_boxes.specs.format.Children.{Holds, of_kind}
 use Rattle.mp4_boxes.specs.format.Places.{ruled, AreSound}
 use Rattle.mp4_boxes.specs.declared.rule.Rule.TheVariants as rules
@@ -9,7 +9,7 @@ use Rattle.mp4_tables.specs.format.Groups.{GroupKey, GroupRule, keys_after}
 use Rattle.mp4_tables.specs.words.Keys.{keys_seen}
 use Rattle.mp4_tables.specs.format.TableRules.{is_index}
 use Rattle.mp4_tables.specs.format.PlainSamples.{PlacedSample}
-use Rattle.mp4_frag.specs.format.Fragments.{TrackFragment, FragmentTree, IsFragmentTree, fragment_of, track_fragment_of}
+use Rattle.mp4_frag.specs.format.Fragments.{TrackFragment, FragmentTree, AreTrafs, IsFragmentTree, fragment_of, track_fragment_of}
 use Rattle.mp4_frag.specs.format.FragmentSamples.{Part, parts_of, trex_for, has_groups, fragment_samples, base_of, runs_samples, runs_end, part_samples, has_samples, is_on_time, duration_of, bytes_of}
 use Rattle.mp4_frag.specs.format.FragmentRules.{is_within}
 use Rattle.mp4_frag.specs.words.Passing.{EndsNear}
@@ -90,6 +90,14 @@ pub record IsTrafSound (file_length moof : ℕ) (before : ℤ) (tracks : List Tr
   pub places : IsPlacedWithin file_length (part_with moof before trex (track_fragment_of boxes))
   pub groups : IsGrouped (part_with moof before trex (track_fragment_of boxes))
   pub end : ends ≡ end_with moof before trex (track_fragment_of boxes)
+
+-- each of these `traf`s has the boxes of the profile and is sound, behind data that ends at a place
+abbrev pub AreTrafsSound : ℕ → ℕ → ℤ → List TrackState → List Box → Type 0
+AreTrafsSound file_length moof before tracks [] = Unit {0}
+AreTrafsSound file_length moof before tracks (b ∷ trafs) =
+    Holds rules.TrackFragment (box_container b) (children_of b)
+    × ((ends : ℤ) × IsTrafSound file_length moof before tracks (children_of b) ends
+    × AreTrafsSound file_length moof ends tracks trafs)
 
 -- the tree of a `moof`
 abbrev pub tree_of : Box → FragmentTree
@@ -193,6 +201,21 @@ pub record KeepRoom (old new : List TrackState) (room less : ℕ) : Type 0 where
   pub few : less ≤ room
   pub each : HaveRoom less new
   pub same : (id : ℕ) → trex_among new id ≡ trex_among old id
+
+-- The first boxes of a `moof`, up to a place, where it may lack some: they fill it, each `traf` has
+-- the boxes of the profile, and each sample of its parts lies in the file.
+pub record IsSoundFront (file_length : ℕ) (trexes : List Trex) (t : FragmentTree) : Type 0 where
+  pub tiles : Tiles (box_container t.moof) t.children
+  pub trafs : AreTrafs (of_kind (codes "traf") t.children) t.trafs
+  pub places : AllByRecursion (IsPlacedWithin file_length) (parts_of trexes (fragment_of t))
+
+-- all `traf`s of a `moof` passed: they are sound, and the tracks and the room are moved on by them
+pub record AreTrafsPassed (file_length : ℕ) (moof : Box) (old new : List TrackState)
+    (room less : ℕ) : Type 0 where
+  pub sound : AreTrafsSound file_length moof.offset (pos moof.offset) old
+      (of_kind (codes "traf") (children_of moof))
+  pub moved : IsMoofMovedOn moof old new room less
+  pub kept : KeepRoom old new room less
 
 -- a `moof` that is accepted behind these tracks, where there is room for so many samples: it is
 -- sound, and each of its parts was due

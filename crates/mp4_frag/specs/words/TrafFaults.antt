@@ -1,7 +1,7 @@
 -- What is wrong with a `traf` where a fault is named, behind what is known of the tracks.
 use Rattle.std.specs.Prelude.{◌≡◌, ◌⊎◌, ℕ, pos, ◌<◌, ◌==◌, true, false, ℤ, List, [], ◌∷◌, Some, None, find, codes}
 use Rattle.mp4_boxes.specs.format.Box.{Box, box_container}
-use Rattle.mp4_boxes.specs.format.BoxFaults.{fault_of, Fails, IsChildFault}
+use Rattle.mp4_boxes.specs.format.BoxFaults.{fault_of, Fails, IsChildFault, IsHeaderFault}
 use Rattle.mp4_boxes.specs.format.Children.{of_kind, Holds}
 use Rattle.mp4_boxes.specs.format.Layout.{Leaf, tfhd, tfdt, IsReadable}
 use Rattle.mp4_boxes.specs.declared.fault.Fault.{Fault}
@@ -112,6 +112,23 @@ MoofFails file_length tracks room moof f =
     ⊎ (Holds rules.MovieFragment (box_container moof) (children_of moof)
     × TrafsFail file_length moof.offset (pos moof.offset) tracks room
     (of_kind (codes "traf") (children_of moof)) f)
+
+-- Why the `traf`s of a `moof` are refused: one has this fault; or there was no memory for a note,
+-- where so many tracks have notes.
+abbrev pub RefusesTrafs : ℕ → List TrackState → ℕ → Box → ℕ → Refusal → Type 0
+RefusesTrafs file_length tracks room moof owns (refusals.Fault f) =
+    TrafsFail file_length moof.offset (pos moof.offset) tracks room
+    (of_kind (codes "traf") (children_of moof)) f
+RefusesTrafs file_length tracks room moof owns refusals.Memory = 0 < owns
+RefusesTrafs file_length tracks room moof owns _ = ⊥
+
+-- Why the first boxes of a `moof`, up to a place, are refused: their headers, or one of their
+-- `traf`s.
+abbrev pub RefusesFront : ℕ → List TrackState → ℕ → Box → Refusal → Type 0
+RefusesFront file_length tracks room front (refusals.Fault f) =
+    IsHeaderFault (box_container front) f ⊎ TrafsFail file_length front.offset (pos front.offset)
+    tracks room (of_kind (codes "traf") (children_of front)) f
+RefusesFront file_length tracks room front _ = ⊥
 
 -- Why a `moof` is refused: it has this fault; or there was no memory for a note, where so many
 -- tracks have notes.

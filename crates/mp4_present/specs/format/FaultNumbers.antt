@@ -6,7 +6,7 @@ use Rattle.mp4_boxes.specs.format.Box.{Box, Tiles, file_container, box_container
 use Rattle.mp4_boxes.specs.format.Children.{of_kind}
 use Rattle.mp4_tables.specs.format.TableRules.{Fit}
 use Rattle.mp4_tables.specs.format.Tables.{tables_of}
-use Rattle.mp4_frag.specs.format.Fragments.{FragmentTree, IsFragmentTree, fragment_of, decode_time_of}
+use Rattle.mp4_frag.specs.format.Fragments.{FragmentTree, AreTrafs, IsFragmentTree, fragment_of, decode_time_of}
 use Rattle.mp4_frag.specs.format.FragmentSamples.{Part, all_parts, duration_of, fragment_samples}
 use Rattle.mp4_head.specs.format.Tree.{TrackTree, MovieTree, IsMovieTree, IsSoundMovie, track_head_of, trexes_of}
 use Rattle.mp4_present.specs.format.Denotes.{HasSoundTables, surroundings, first_due}
@@ -41,8 +41,8 @@ abbrev pub end_of : TrackTree → List Part → ℕ
 end_of t parts =
     min (first_due parts t + duration_of (fragment_samples (track_head_of t).id parts)) (2 ^ 64 - 1)
 
--- All of the `moov`, of the `moof`s before, and of this `moof` up to the `traf` with the `tfdt` at
--- the place is as it should be. With these samples the track that the `traf` names ends at the time
+-- All of the `moov`, of the `moof`s before, and of each `traf` of this `moof` up to the one with the
+-- `tfdt` at the place is as it should be. With these samples the track that the `traf` names ends at the time
 -- that is due.
 pub record IsGap (file : List ℕ) (place track due found : ℕ) : Type 0 where
   pub before : List Box
@@ -60,9 +60,11 @@ pub record IsGap (file : List ℕ) (place track due found : ℕ) : Type 0 where
   pub earlier_moofs : map (λ (e : FragmentTree). e.moof) earlier ≡ of_kind (codes "moof") before
   pub traf : Box
   pub says : SaysTime moof place traf track found
+  pub trees : AllByRecursion IsFragmentTree earlier
   pub front : FragmentTree
   pub is_front : front.moof ≡ up_to traf.offset moof
-  pub trees : AllByRecursion IsFragmentTree (earlier ++ front ∷ [])
+  pub front_tiles : Tiles (box_container front.moof) front.children
+  pub front_trafs : AreTrafs (of_kind (codes "traf") front.children) front.trafs
   pub t : TrackTree
   pub has_track : Contains movie.tracks t
   pub is_track : (track_head_of t).id ≡ track

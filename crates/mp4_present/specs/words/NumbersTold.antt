@@ -6,7 +6,7 @@ use Rattle.mp4_boxes.specs.declared.refusal.Refusal.TheVariants as refusals
 use Rattle.mp4_boxes.specs.format.Box.{Box}
 use Rattle.mp4_frag.specs.format.Fragments.{FragmentTree}
 use Rattle.mp4_boxes.specs.format.Children.{of_kind}
-use Rattle.mp4_frag.specs.words.Judged.{AreTrexesOf, IsSoundMoof, AreMovedOn, tree_of}
+use Rattle.mp4_frag.specs.words.Judged.{AreTrexesOf, IsSoundFront, AreMovedOn, tree_of}
 use Rattle.mp4_frag.specs.words.RunsJudged.{children_of}
 use Rattle.mp4_frag.specs.declared.trex.Trex.{Trex}
 use Rattle.mp4_present.specs.format.FaultNumbers.{SaysTime, up_to}
@@ -94,7 +94,7 @@ pub record FindsGap (file_length : ℕ) (moof : Box) (states : List TrackState) 
   pub after : List TrackState
   pub less : ℕ
   pub sound : (trexes : List Trex) → AreTrexesOf trexes states
-      → IsSoundMoof file_length trexes states (tree_of (up_to traf.offset moof))
+      → IsSoundFront file_length trexes (tree_of (up_to traf.offset moof))
   pub moved : AreMovedOn moof.offset (pos moof.offset)
       (of_kind (codes "traf") (children_of (up_to traf.offset moof))) states after room less
   pub state : TrackState

@@ -1,192 +1,28 @@
-use Rattle.std.proofs.Common.{◌≡◌, ◌^◌, ◌<◌, ◌≤◌, ◌∙◌, List, sym, inr, subst, to_z, of_z, rules, arith}
-use Rattle.std.proofs.lemmas.List.{length-map}
-use Rattle.std.proofs.lemmas.Result.{err_from_is_err_and}
-use Rattle.std.specs.Int.{w128}
-use Rattle.mp4_boxes.specs.format.Box.{Box, box_container}
-use Rattle.mp4_boxes.specs.format.Children.{Holds}
+use Rattle.std.proofs.Common.{◌^◌, ◌<◌, rules}
+use Rattle.std.proofs.lemmas.Result.{IfErr-weaker, on_ok_weaker}
 use Rattle.mp4_boxes.specs.words.View.{box_seen}
-use Rattle.mp4_boxes.specs.declared.rule.Rule.TheVariants as rules
-use Rattle.mp4_frag.proofs.HeadsFound.{holds_children}
-use Rattle.mp4_frag.proofs.MoofExcludes.{moof_excluded}
-use Rattle.mp4_frag.proofs.ChecksStopped.{taken_traf, taken_other, stops_within}
-use Rattle.mp4_frag.proofs.Costs.{moof_cost_traf, moof_cost_said, moof_cost_ended, moof_cost_fault}
-use Rattle.mp4_frag.proofs.CheckLooks.{looked_traf, looked_some, looked_each, looked_ended, looked_fault}
-use Rattle.mp4_frag.proofs.MoofPassed.{moof_traf, moof_ended, moof_sound, moves_traf, moves_fault, moves_ended}
-use Rattle.mp4_frag.specs.words.Judged.{own_trexes}
-use Rattle.mp4_frag.specs.words.OwnTrafs.{own_seen}
-use Rattle.mp4_frag.proofs.OwnNoted.{data_ended, notes_other, notes_traf, notes_ended}
-use Rattle.mp4_frag.proofs.OwnTrexes.{agree_of, own_agree}
+use Rattle.mp4_frag.specs.words.TrafFaults.{RefusesMoof, RefusesTrafs}
+use Rattle.mp4_frag.proofs.TrafsJudged.{never_refused, passed_accepted, passed_sound, refuses_moof}
 use Rattle.mp4_frag.proofs.check.check_moof.Goals as goal
 
-pub loop-child-preserved : goal.loop-child-preserved
-loop-child-preserved g c =
-    let i = c.loop-child.invariant in
-    let other = rw c.kind.ensures at (sym c.if-eq.ensures) in (
-      tt,
-      tt,
-      i.2,
-      i.3,
-      search rules,
-      search rules,
-      search rules,
-      i.7,
-      search rules,
-      i.9,
-      notes_other _ _ _ _ _ (box_seen c.in-Some.child) _ _ _ _ i.10 c.in-Some.ensures.steps other,
-      taken_other _ _ _ (box_seen c.in-Some.child) _ _ i.11 c.in-Some.ensures.steps other,
-    )
-
-pub loop-child-preserved-then-eq : goal.loop-child-preserved-then-eq
-loop-child-preserved-then-eq g c =
-    let i = c.loop-child.invariant in
-    let r = c.in_ok-passed.ensures in
-    let ends = c.in_ok-passed.passed.ends in
-    let kept : to_z w128 (of_z w128 ends) ≡ ends = search rules in
-    let room = i.2 in
-    let less = r.kept.few in
-    let fits : c.check_traf.new.room ≤ c.args.room.now = omega arith in
-    let is_traf = rw c.kind.ensures at (sym c.if-eq.ensures) in
-    let there = c.offset-then-eq.ensures in
-    let sound = rw there at r.passed.sound in
-    let noted = c.in_ok-note_traf.ensures in
-    let each = length-map c.note_traf.new.own own_seen ∙ noted.each ∙ sym (length-map c.loop-child.own own_seen) in (
-      tt,
-      tt,
-      fits,
-      r.kept.each,
-      rw kept (moof_traf c.args.file_len _ _ _ _ _ (box_seen c.in-Some.child) _ ends _ _ i.4 c.in-Some.ensures.steps is_traf r.passed.holds sound r.passed.bound r.kept.same),
-      rw kept (moves_traf c.args.file_len _ _ _ _ _ _ (box_seen c.in-Some.child) _ ends _ _ _ _ i.5 c.in-Some.ensures.steps is_traf r.passed.holds sound (rw there at r.passed.moved)),
-      moof_cost_traf _ _ _ (box_seen c.in-Some.child) _ _ _ _ _ _ i.6 c.in-Some.ensures.steps is_traf (rw c.tick.ensures.one_more at r.work.cost) (rw c.tick.ensures.one_more at r.work.within),
-      r.known,
-      looked_traf _ _ _ (box_seen c.in-Some.child) _ _ _ _ i.8 c.in-Some.ensures.steps is_traf r.looks.some (rw i.9 at r.looks.most),
-      r.many ∙ i.9,
-      rw kept (notes_traf c.args.file_len _ _ _ _ _ (box_seen c.in-Some.child) _ ends _ _ _ _ _ c.in_ok-passed.passed i.10 c.in-Some.ensures.steps is_traf i.4.same sound (rw there at r.own) r.ids noted.noted each),
-      taken_traf _ _ _ (box_seen c.in-Some.child) _ _ _ _ _ _ _ i.11 c.in-Some.ensures.steps is_traf (rw there at r.passed.moved),
-    )
-
 pub returns-clause-sound : goal.returns-clause-sound
-returns-clause-sound g c trexes defaults =
-    let moof = box_seen c.args.moof in
-    let h = c.in_ok-child-items.ensures.holds in
-    let all = holds_children rules.MovieFragment moof _ h in
-    let held = subst (λ (boxes : List Box). Holds rules.MovieFragment (box_container moof) boxes) all h in
+returns-clause-sound g c =
     let short : c.args.file_len < 2 ^ 64 = search rules in
-    moof_sound trexes c.args.file_len moof c.args.tracks.now short held
-    (moof_ended _ _ _ _ _ _ _ _ c.loop-child.invariant.4 c.in-None.ensures.steps.0 (c.into_iter-child-iterator.ensures.into_iter_gives ∙ all)) (agree_of trexes c.args.tracks.now defaults)
+    on_ok_weaker c.check_trafs.result (λ p. passed_sound c.args.file_len (box_seen c.args.moof) _ _ _ _ _ short p c.in_ok-boxes.ensures.holds) c.check_trafs.ensures.passed
 
 pub returns-clause-accepted : goal.returns-clause-accepted
 returns-clause-accepted g c =
-    let moof = box_seen c.args.moof in
-    let h = c.in_ok-child-items.ensures.holds in
-    let all = holds_children rules.MovieFragment moof _ h in
-    let held = subst (λ (boxes : List Box). Holds rules.MovieFragment (box_container moof) boxes) all h in
     let short : c.args.file_len < 2 ^ 64 = search rules in
-    record {
-      own = moof_sound (own_trexes c.args.tracks.now) c.args.file_len moof c.args.tracks.now short held
-          (moof_ended _ _ _ _ _ _ _ _ c.loop-child.invariant.4 c.in-None.ensures.steps.0 (c.into_iter-child-iterator.ensures.into_iter_gives ∙ all)) (own_agree c.args.tracks.now);
-      kept = search rules;
-    }
+    on_ok_weaker c.check_trafs.result (λ p. passed_accepted c.args.file_len (box_seen c.args.moof) _ _ _ _ _ short p c.in_ok-boxes.ensures.holds) c.check_trafs.ensures.passed
 
-pub returns-clause-moved : goal.returns-clause-moved
-returns-clause-moved g c =
-    let all = holds_children rules.MovieFragment (box_seen c.args.moof) _ c.in_ok-child-items.ensures.holds in
-    moves_ended _ _ _ _ _ _ _ _ _ _ c.loop-child.invariant.5 c.in-None.ensures.steps.0 (c.into_iter-child-iterator.ensures.into_iter_gives ∙ all)
+pub returns-clause-refusal : goal.returns-clause-refusal
+returns-clause-refusal g c =
+    let a = c.args in
+    let moof = box_seen a.moof in
+    IfErr-weaker c.check_trafs.result (RefusesTrafs a.file_len a.tracks.now a.room.now moof _) (RefusesMoof a.file_len a.tracks.now a.room.now moof _) (refuses_moof a.file_len moof _ a.tracks.now a.room.now _ c.in_ok-boxes.ensures.holds) c.check_trafs.ensures.refusal
 
-pub returns-in_err-passed-clause-refusal : goal.returns-in_err-passed-clause-refusal
-returns-in_err-passed-clause-refusal g c =
-    let p = err_from_is_err_and c.from_residual-in_err-passed.result c.from_residual-in_err-passed.ensures.1 in
-    let all = holds_children rules.MovieFragment (box_seen c.args.moof) _ c.in_ok-child-items.ensures.holds in
-    let held = subst (λ (boxes : List Box). Holds rules.MovieFragment (box_container (box_seen c.args.moof)) boxes) all c.in_ok-child-items.ensures.holds in
-    rw (p.1, p.2) (inr (
-      held,
-      moves_fault c.args.file_len _ _ _ _ _ _ _ (box_seen c.in-Some.child) _ _ _ c.in_err-passed.field-0.0 c.loop-child.invariant.5 c.in-Some.ensures.steps (rw c.kind.ensures at (sym c.if-eq.ensures))
-          (c.into_iter-child-iterator.ensures.into_iter_gives ∙ all) (rw c.offset-then-eq.ensures at c.in_err-passed.ensures.fault),
-    ))
-
-pub returns-in_err-passed-clause-only : goal.returns-in_err-passed-clause-only
-returns-in_err-passed-clause-only g c =
-    let p = err_from_is_err_and c.from_residual-in_err-passed.result c.from_residual-in_err-passed.ensures.1 in
-    let all = holds_children rules.MovieFragment (box_seen c.args.moof) _ c.in_ok-child-items.ensures.holds in
-    let held = subst (λ (boxes : List Box). Holds rules.MovieFragment (box_container (box_seen c.args.moof)) boxes) all c.in_ok-child-items.ensures.holds in
-    rw p.1 (λ f same. moof_excluded c.args.file_len c.args.tracks.now c.args.room.now (box_seen c.args.moof) c.in_err-passed.field-0.0 (inr (
-      held,
-      moves_fault c.args.file_len _ _ _ _ _ _ _ (box_seen c.in-Some.child) _ _ _ c.in_err-passed.field-0.0 c.loop-child.invariant.5 c.in-Some.ensures.steps (rw c.kind.ensures at (sym c.if-eq.ensures))
-          (c.into_iter-child-iterator.ensures.into_iter_gives ∙ all) (rw c.offset-then-eq.ensures at c.in_err-passed.ensures.fault),
-    )))
-
-pub returns-clause-work : goal.returns-clause-work
-returns-clause-work g c =
-    let all = holds_children rules.MovieFragment (box_seen c.args.moof) _ c.in_ok-child-items.ensures.holds in
-    let most = moof_cost_ended _ _ _ rules.MovieFragment (box_seen c.args.moof) _ _ _ _ c.loop-child.invariant.6 c.into_iter-child-iterator.ensures.into_iter_gives c.in_ok-child-items.ensures.holds in
-    record { cost = moof_cost_said _ _ (box_seen c.args.moof) _ _ _ _ c.loop-child.invariant.6 (c.into_iter-child-iterator.ensures.into_iter_gives ∙ all); within = most; most = omega (arith, most) }
-
-pub returns-clause-looks : goal.returns-clause-looks
-returns-clause-looks g c =
-    let all = holds_children rules.MovieFragment (box_seen c.args.moof) _ c.in_ok-child-items.ensures.holds in
-    let same = c.into_iter-child-iterator.ensures.into_iter_gives ∙ all in
-    let h = c.loop-child.invariant.8 in
-    record {
-      some = looked_some _ _ (box_seen c.args.moof) _ _ _ h c.in-None.ensures.steps.0 same;
-      each = looked_each _ _ (box_seen c.args.moof) _ _ _ h same;
-      most = looked_ended _ _ _ rules.MovieFragment (box_seen c.args.moof) _ _ _ h c.into_iter-child-iterator.ensures.into_iter_gives c.in_ok-child-items.ensures.holds;
-    }
-
-pub returns-in_err-passed-clause-work : goal.returns-in_err-passed-clause-work
-returns-in_err-passed-clause-work g c =
-    let p = err_from_is_err_and c.from_residual-in_err-passed.result c.from_residual-in_err-passed.ensures.1 in
-    let most = moof_cost_fault _ _ _ _ (box_seen c.in-Some.child) rules.MovieFragment (box_seen c.args.moof) _ _ _ _ _ c.loop-child.invariant.6 c.in-Some.ensures.steps c.into_iter-child-iterator.ensures.into_iter_gives c.in_ok-child-items.ensures.holds
-    (rw c.tick.ensures.one_more at c.in_err-passed.ensures.work.most) in
-    rw p.1 (record { cost = tt; within = tt; most = most })
-
-pub returns-in_err-passed-clause-looks : goal.returns-in_err-passed-clause-looks
-returns-in_err-passed-clause-looks g c =
-    let p = err_from_is_err_and c.from_residual-in_err-passed.result c.from_residual-in_err-passed.ensures.1 in
-    let most = looked_fault _ _ _ _ (box_seen c.in-Some.child) rules.MovieFragment (box_seen c.args.moof) _ _ _ _ c.loop-child.invariant.8 c.in-Some.ensures.steps c.into_iter-child-iterator.ensures.into_iter_gives c.in_ok-child-items.ensures.holds
-    (rw c.loop-child.invariant.9 at c.in_err-passed.ensures.looks.most) in
-    rw p.1 (record { some = tt; each = tt; most = most })
-
-pub returns-clause-own : goal.returns-clause-own
-returns-clause-own g c trexes defaults apart long =
-    let all = holds_children rules.MovieFragment (box_seen c.args.moof) _ c.in_ok-child-items.ensures.holds in
-    notes_ended trexes (box_seen c.args.moof) c.args.tracks.now _ _ _ _ _ _ c.loop-child.invariant.10 c.in-None.ensures.steps.0 (c.into_iter-child-iterator.ensures.into_iter_gives ∙ all) defaults apart (length-map c.args.own.now own_seen ∙ long)
-
-pub returns-in_err-note_traf-clause-refusal : goal.returns-in_err-note_traf-clause-refusal
-returns-in_err-note_traf-clause-refusal g c =
-    let p = err_from_is_err_and c.from_residual-in_err-note_traf.result c.from_residual-in_err-note_traf.ensures.1 in
-    rw (p.1, p.2) (omega (arith, c.in_err-note_traf.ensures.some, c.loop-child.invariant.10.each, length-map c.loop-child.own own_seen, length-map c.args.own.now own_seen))
-
-pub returns-in_err-note_traf-clause-work : goal.returns-in_err-note_traf-clause-work
-returns-in_err-note_traf-clause-work g c =
-    let p = err_from_is_err_and c.from_residual-in_err-note_traf.result c.from_residual-in_err-note_traf.ensures.1 in
-    let most = moof_cost_fault _ _ _ _ (box_seen c.in-Some.child) rules.MovieFragment (box_seen c.args.moof) _ _ _ _ _ c.loop-child.invariant.6 c.in-Some.ensures.steps c.into_iter-child-iterator.ensures.into_iter_gives c.in_ok-child-items.ensures.holds
-    (rw c.tick.ensures.one_more at c.in_ok-passed.ensures.work.most) in
-    rw p.1 (record { cost = tt; within = tt; most = most })
-
-pub returns-in_err-note_traf-clause-looks : goal.returns-in_err-note_traf-clause-looks
-returns-in_err-note_traf-clause-looks g c =
-    let p = err_from_is_err_and c.from_residual-in_err-note_traf.result c.from_residual-in_err-note_traf.ensures.1 in
-    let most = looked_fault _ _ _ _ (box_seen c.in-Some.child) rules.MovieFragment (box_seen c.args.moof) _ _ _ _ c.loop-child.invariant.8 c.in-Some.ensures.steps c.into_iter-child-iterator.ensures.into_iter_gives c.in_ok-child-items.ensures.holds
-    (rw c.loop-child.invariant.9 at c.in_ok-passed.ensures.looks.most) in
-    rw p.1 (record { some = tt; each = tt; most = most })
-
-pub returns-in_err-passed-clause-stops : goal.returns-in_err-passed-clause-stops
-returns-in_err-passed-clause-stops g c =
-    let p = err_from_is_err_and c.from_residual-in_err-passed.result c.from_residual-in_err-passed.ensures.1 in
-    rw (p.1, p.2) tt
-
-pub returns-in_err-note_traf-clause-stops : goal.returns-in_err-note_traf-clause-stops
-returns-in_err-note_traf-clause-stops g c =
-    let i = c.loop-child.invariant in
-    let r = c.in_ok-passed.ensures in
-    let p = err_from_is_err_and c.from_residual-in_err-note_traf.result c.from_residual-in_err-note_traf.ensures.1 in
-    let all = holds_children rules.MovieFragment (box_seen c.args.moof) _ c.in_ok-child-items.ensures.holds in
-    let is_traf = rw c.kind.ensures at (sym c.if-eq.ensures) in
-    let taken = taken_traf _ _ _ (box_seen c.in-Some.child) _ _ _ _ _ _ _ i.11 c.in-Some.ensures.steps is_traf r.passed.moved in
-    let cost = moof_cost_traf _ _ _ (box_seen c.in-Some.child) _ _ _ _ _ _ i.6 c.in-Some.ensures.steps is_traf (rw c.tick.ensures.one_more at r.work.cost) (rw c.tick.ensures.one_more at r.work.within) in
-    let looked = looked_traf _ _ _ (box_seen c.in-Some.child) _ _ _ _ i.8 c.in-Some.ensures.steps is_traf r.looks.some (rw i.9 at r.looks.most) in
-    rw (p.1, p.2) (stops_within _ _ (box_seen c.args.moof) _ _ _ _ _ _ _ taken cost looked (c.into_iter-child-iterator.ensures.into_iter_gives ∙ all))
-
-pub returns-clause-ends : goal.returns-clause-ends
-returns-clause-ends g c trexes defaults =
-    let all = holds_children rules.MovieFragment (box_seen c.args.moof) _ c.in_ok-child-items.ensures.holds in
-    data_ended trexes (box_seen c.args.moof) _ _ _ _ _ _ _ c.loop-child.invariant.10 c.in-None.ensures.steps.0 (c.into_iter-child-iterator.ensures.into_iter_gives ∙ all) defaults
+pub returns-clause-only : goal.returns-clause-only
+returns-clause-only g c =
+    let a = c.args in
+    let moof = box_seen a.moof in
+    IfErr-weaker c.check_trafs.result (RefusesTrafs a.file_len a.tracks.now a.room.now moof _) _ (never_refused a.file_len moof _ a.tracks.now a.room.now _ c.in_ok-boxes.ensures.holds) c.check_trafs.ensures.refusal

@@ -3,7 +3,7 @@ use Rattle.std.specs.Prelude.{codes}
 use Rattle.mp4_boxes.specs.format.Box.{Box}
 use Rattle.mp4_boxes.specs.format.Children.{of_kind}
 use Rattle.mp4_boxes.specs.words.View.{box_seen}
-use Rattle.mp4_frag.specs.words.Judged.{IsSoundMoof, AreMovedOn, tree_of}
+use Rattle.mp4_frag.specs.words.Judged.{IsSoundFront, AreMovedOn, tree_of}
 use Rattle.mp4_frag.specs.words.RunsJudged.{children_of}
 use Rattle.mp4_present.specs.format.FaultNumbers.{IsChildOf, up_to}
 use Rattle.mp4_present.specs.words.NumbersTold.{moof_read}
@@ -17,10 +17,10 @@ returns-clause-finds g c =
     record {
       traf = traf;
       says = c.in-Some-said_in.ensures moof (subst (λ (b : Box). IsChildOf b traf) c.view.ensures c.in-Some.ensures);
-      after = c.check_moof.new.tracks;
-      less = c.check_moof.new.room;
-      sound = λ trexes a. subst (λ (b : Box). IsSoundMoof c.args.file_len trexes c.args.states.now (tree_of b)) is (c.in_ok-check_moof.ensures.sound trexes a);
-      moved = subst (λ (b : Box). AreMovedOn b.offset (pos b.offset) (of_kind (codes "traf") (children_of b)) c.args.states.now c.check_moof.new.tracks c.args.room c.check_moof.new.room) is c.in_ok-check_moof.ensures.moved;
+      after = c.check_front.new.tracks;
+      less = c.check_front.new.room;
+      sound = λ trexes a. subst (λ (b : Box). IsSoundFront c.args.file_len trexes (tree_of b)) is (c.in_ok-check_front.ensures.sound trexes a);
+      moved = subst (λ (b : Box). AreMovedOn b.offset (pos b.offset) (of_kind (codes "traf") (children_of b)) c.args.states.now c.check_front.new.tracks c.args.room c.check_front.new.room) is c.in_ok-check_front.ensures.moved;
       state = c.in-Some-state_with.state;
       found_state = sym c.state_with.ensures ∙ c.in-Some-state_with.is;
       due_is = c.in_64_bits-due.ensures;

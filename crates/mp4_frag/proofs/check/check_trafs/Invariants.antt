@@ -8,7 +8,7 @@ use Rattle.mp4_frag.proofs.Costs.{MoofCost}
 use Rattle.mp4_frag.proofs.CheckLooks.{MoofLooked}
 use Rattle.mp4_frag.proofs.MoofPassed.{MoofSeen, MovesSeen}
 use Rattle.mp4_frag.proofs.OwnNoted.{NotesSeen}
-use Rattle.mp4_frag.proofs.check.check_moof.Given as goal
+use Rattle.mp4_frag.proofs.check.check_trafs.Given as goal
 
 -- there is room for what is left of the room, and the `traf`s so far are sound
 abbrev pub invariant-loop-child : goal.invariant-loop-child

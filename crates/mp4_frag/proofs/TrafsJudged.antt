@@ -1,0 +1,54 @@
+-- A whole `moof`, or the front of one, by its `traf`s.
+use Rattle.std.proofs.Common.{◌≡◌, ℕ, ◌^◌, ◌<◌, List, inr, subst, arith}
+use Rattle.mp4_boxes.specs.format.Box.{Box, Tiles, box_container}
+use Rattle.mp4_boxes.specs.format.Children.{Holds}
+use Rattle.mp4_boxes.specs.declared.fault.Fault.{Fault}
+use Rattle.mp4_boxes.specs.declared.refusal.Refusal.{Refusal}
+use Rattle.mp4_boxes.specs.declared.refusal.Refusal.TheVariants as refusals
+use Rattle.mp4_boxes.specs.declared.rule.Rule.TheVariants as rules
+use Rattle.mp4_frag.specs.words.Judged.{AreTrexesOf, AreTrafsPassed, IsAcceptable, IsAccepted, IsSoundFront, IsSoundMoof, own_trexes, tree_of}
+use Rattle.mp4_frag.specs.words.RunsJudged.{children_of}
+use Rattle.mp4_frag.specs.words.TrafFaults.{RefusesFront, RefusesMoof, RefusesTrafs}
+use Rattle.mp4_frag.specs.declared.state.TrackState.{TrackState}
+use Rattle.mp4_frag.specs.declared.trex.Trex.{Trex}
+use Rattle.mp4_frag.proofs.HeadsFound.{holds_boxes, holds_children}
+use Rattle.mp4_frag.proofs.MoofExcludes.{moof_excluded}
+use Rattle.mp4_frag.proofs.MoofPassed.{front_sound, moof_sound}
+use Rattle.mp4_frag.proofs.OwnTrexes.{agree_of, own_agree}
+
+-- what a `moof` holds are its children
+pub held_by : (moof : Box) (boxes : List Box) → Holds rules.MovieFragment (box_container moof) boxes → Holds rules.MovieFragment (box_container moof) (children_of moof)
+held_by moof boxes h = subst (λ (bs : List Box). Holds rules.MovieFragment (box_container moof) bs) (holds_children rules.MovieFragment moof boxes h) h
+
+module _ (L : ℕ) (moof : Box) (boxes : List Box) (old new : List TrackState) (room less : ℕ) (short : L < 2 ^ 64) (p : AreTrafsPassed L moof old new room less) where
+  pub passed_sound : Holds rules.MovieFragment (box_container moof) boxes → (trexes : List Trex) → AreTrexesOf trexes old → IsSoundMoof L trexes old (tree_of moof)
+  passed_sound h trexes defaults = moof_sound trexes L moof old short (held_by moof boxes h) p.sound (agree_of trexes old defaults)
+
+  pub passed_accepted : Holds rules.MovieFragment (box_container moof) boxes → IsAccepted L moof old new room less
+  passed_accepted h = record { own = moof_sound (own_trexes old) L moof old short (held_by moof boxes h) p.sound (own_agree old); kept = p.kept }
+
+  pub passed_front : Tiles (box_container moof) boxes → (trexes : List Trex) → AreTrexesOf trexes old → IsSoundFront L trexes (tree_of moof)
+  passed_front t trexes defaults = front_sound trexes L moof old (subst (Tiles (box_container moof)) (holds_boxes moof boxes t) t) p.sound (agree_of trexes old defaults)
+
+module _ (L : ℕ) (moof : Box) (boxes : List Box) (tracks : List TrackState) (room owns : ℕ) where
+  -- a refused `traf` refuses its `moof`
+  pub refuses_moof : Holds rules.MovieFragment (box_container moof) boxes → (r : Refusal) → RefusesTrafs L tracks room moof owns r → RefusesMoof L tracks room moof owns r
+  refuses_moof held (refusals.Fault f) h = inr (held_by moof boxes held, h)
+  refuses_moof held refusals.Memory h = h
+  refuses_moof held refusals.StoreFailed h = h
+  refuses_moof held refusals.StoreChanged h = h
+  refuses_moof held refusals.WriteFailed h = h
+  refuses_moof held refusals.NoSuchTrack h = h
+
+  -- such a `moof` isn't one that may be accepted
+  pub never_refused : Holds rules.MovieFragment (box_container moof) boxes → (r : Refusal) → RefusesTrafs L tracks room moof owns r → (f : Fault) → r ≡ refusals.Fault f → IsAcceptable L tracks room moof → ⊥
+  never_refused held r h f same = moof_excluded L tracks room moof f (subst (RefusesMoof L tracks room moof owns) same (refuses_moof held r h))
+
+-- nor does the front of one have notes
+pub refuses_front : (L : ℕ) (front : Box) (tracks : List TrackState) (room : ℕ) (r : Refusal) → RefusesTrafs L tracks room front 0 r → RefusesFront L tracks room front r
+refuses_front L front tracks room (refusals.Fault f) h = inr h
+refuses_front L front tracks room refusals.Memory h = absurd (omega (arith, h))
+refuses_front L front tracks room refusals.StoreFailed h = h
+refuses_front L front tracks room refusals.StoreChanged h = h
+refuses_front L front tracks room refusals.WriteFailed h = h
+refuses_front L front tracks room refusals.NoSuchTrack h = h
