@@ -2,6 +2,9 @@
 use mp4_boxes::Memory;
 use std::alloc::Global;
 
+// For how many more the list of a track gets room at least.
+const LEAST_GROWTH: usize = 4;
+
 /// A `traf` that has samples: where its payload lies in the file, and where its runs are counted
 /// from. With the `trex` of its track, that is all that its samples take from elsewhere.
 #[derive(Clone, Copy, Debug, PartialEq, Eq)]
@@ -12,7 +15,7 @@ pub struct OwnTraf {
 }
 
 /// The `traf`s that have samples of a track, in file order, and how long the payload of the longest
-/// is. It takes 32 bytes for each, and up to 64 while the list grows.
+/// is. It takes 32 bytes for each, and has room for an eighth more, or for four.
 #[derive(Drop)]
 pub struct OwnTrafs {
     trafs: Vec<OwnTraf>,
@@ -38,6 +41,12 @@ impl OwnTrafs {
     pub(crate) fn note(&mut self, traf: OwnTraf) -> Result<(), Memory>
         ensures { OnOk result (own_seen self.new ≡ with_note traf (own_seen self.old)) }
     {
+        let len = self.trafs.len();
+        if len == self.trafs.capacity() {
+            let Ok(()) = self.trafs.reserve_exact(LEAST_GROWTH.max(len / 8)) else {
+                return Err(Memory);
+            };
+        }
         let Ok(()) = self.trafs.push(traf) else {
             return Err(Memory);
         };

@@ -1,25 +1,22 @@
 -- The steps of the checks of all `moof`s of a file.
 use Rattle.std.proofs.Common.{◌≡◌, ℕ, ◌+◌, ◌≤◌, true, List, ◌∷◌, ◌++◌, Some, length, refl, sym, ap, subst, ◌∙◌, arith}
 use Rattle.std.proofs.Math.Nat.{le_refl}
-use Rattle.std.specs.Prelude.{codes, unwrap_or, bytes_eq, Err}
+use Rattle.std.specs.Prelude.{codes, bytes_eq, Err}
 use Rattle.mp4_boxes.specs.format.Box.{Box, file_container}
 use Rattle.mp4_boxes.specs.format.Children.{Holds, of_kind}
 use Rattle.mp4_boxes.specs.declared.refusal.Refusal.{Refusal}
 use Rattle.mp4_boxes.specs.declared.refusal.Refusal.TheVariants as refusals
 use Rattle.mp4_boxes.specs.declared.rule.Rule.TheVariants.{File}
-use Rattle.mp4_boxes.proofs.Among.{of_kind-append, of_kind-split}
-use Rattle.mp4_boxes.proofs.Tiling.{tiles_one}
+use Rattle.mp4_boxes.proofs.Among.{of_kind-split}
 use Rattle.mp4_frag.specs.format.FragmentRows.{fragment_rows, fragment_length, moof_says}
 use Rattle.mp4_frag.specs.words.CheckWork.{IfMemory}
 use Rattle.mp4_frag.specs.words.TrafFaults.{RefusesMoof}
 use Rattle.mp4_frag.specs.declared.state.TrackState.{TrackState}
-use Rattle.mp4_present.specs.words.Again.{AreFrom, IsNextFragment}
 use Rattle.mp4_present.specs.words.Movies.{IsWhole}
-use Rattle.mp4_present.specs.words.Outline.{IsOutline, box_at, longest}
+use Rattle.mp4_present.specs.words.Outline.{AreFrom, IsNextFragment, box_at, longest}
 use Rattle.mp4_present.specs.words.WalkSteps.{moof_steps, boxes_steps, ChecksWithin, IfNoFault}
-use Rattle.mp4_present.specs.declared.outline.Outline.{Outline}
 use Rattle.mp4_present.specs.declared.reading.TopBox.{TopBox}
-use Rattle.mp4_present.proofs.FragmentPass.{Left, left_at, left_next, next_boxes, first_passed, whole_file}
+use Rattle.mp4_present.proofs.FragmentPass.{Left, left_next, next_boxes, whole_file}
 use Rattle.mp4_present.proofs.MoofsPassed.{IsRead, read_is}
 
 -- so many steps were taken, and for each `moof` from a place on no more than it says are left of those for all
@@ -27,24 +24,9 @@ abbrev pub LeftWithin : List ℕ → ℕ → ℕ → ℕ → Type 0
 LeftWithin file at old new =
     (all : List Box) → Holds File (file_container file) all → (boxes : List Box) × (AreFrom file at boxes × (new + boxes_steps (of_kind (codes "moof") boxes) ≤ old + boxes_steps (of_kind (codes "moof") all)))
 
--- the boxes from the place on at which the first `moof` is looked for: all `moof`s are among them
-pub first_left : (file : List ℕ) (known : List Box) (o : Outline) (at : ℕ) → Holds File (file_container file) known → IsOutline file known o → unwrap_or o.fragments (length file) ≡ at → (all : List Box) → Holds File (file_container file) all
-    → (boxes : List Box) × AreFrom file at boxes × (of_kind (codes "moof") all ≡ of_kind (codes "moof") boxes)
-first_left file known o at holds i e all h =
-    let same : known ≡ all = tiles_one (file_container file) known all holds.tiles h.tiles in
-    let a = whole_file file known holds in
-    let l = left_at file known o.fragments a i.fragments in
-    let f = first_passed file known o.fragments a i.fragments in
-    let moofs : of_kind (codes "moof") all ≡ of_kind (codes "moof") l.boxes =
-    ap (of_kind (codes "moof")) (sym same ∙ f.1) ∙ of_kind-append (codes "moof") f.0 l.boxes ∙ ap (λ (bs : List Box). bs ++ of_kind (codes "moof") l.boxes) f.2 in
-    (l.boxes, subst (λ (k : ℕ). AreFrom file k l.boxes) e l.are_from, moofs)
-
 -- before the first one
-pub within_first : (file : List ℕ) (known : List Box) (o : Outline) (at start : ℕ) → Holds File (file_container file) known → IsOutline file known o → unwrap_or o.fragments (length file) ≡ at → LeftWithin file at start start
-within_first file known o at start holds i e all h =
-    let l = first_left file known o at holds i e all h in
-    let steps = ap boxes_steps l.2 in
-    (l.0, (l.1, omega (arith, steps)))
+pub within_first : (file : List ℕ) (start : ℕ) → LeftWithin file 0 start start
+within_first file start all h = (all, (whole_file file all h, le_refl _))
 
 -- where no further one is checked
 pub checks_done : (file : List ℕ) (at old new : ℕ) → LeftWithin file at old new → ChecksWithin file old new

@@ -41,7 +41,7 @@ denoted_opens honest file p reads reads_after refusals.NoSuchTrack told d w = w
 -- why there is no outline is why the file is not opened
 pub outline_refuses : (honest : Bool) (file : List ℕ) (reads reads_after : ℕ) (r : Refusal) → RefusesOutline honest file reads reads_after r → RefusesOpen honest file reads reads_after r
 outline_refuses honest file reads reads_after (refusals.Fault f) w = w
-outline_refuses honest file reads reads_after refusals.Memory w = absurd w
+outline_refuses honest file reads reads_after refusals.Memory w = tt
 outline_refuses honest file reads reads_after refusals.StoreFailed w = w
 outline_refuses honest file reads reads_after refusals.StoreChanged w = absurd w
 outline_refuses honest file reads reads_after refusals.WriteFailed w = w

@@ -7,21 +7,10 @@ use Rattle.mp4_boxes.specs.declared.refusal.Refusal.{Refusal}
 use Rattle.mp4_boxes.specs.declared.refusal.Refusal.TheVariants as refusals
 use Rattle.mp4_frag.specs.words.TrafFaults.{RefusesMoof}
 use Rattle.mp4_frag.specs.declared.state.TrackState.{TrackState}
-use Rattle.mp4_present.specs.words.Again.{RefusesNext}
 use Rattle.mp4_present.specs.words.NumbersTold.{MeetsFault, RefusesSearch, StepsFit}
 use Rattle.mp4_present.specs.words.Reading.{RefusesPayload}
 use Rattle.mp4_present.specs.declared.reading.TopBox.{TopBox}
-use Rattle.mp4_present.proofs.FragmentPass.{Left}
 use Rattle.mp4_present.proofs.MoofBytes.{MoofsFit}
-
--- none was found, where all boxes of the file are there
-pub not_found : (honest : Bool) (file : List ℕ) (at most reads reads_after : ℕ) (r : Refusal) → (IsTrue honest → Left file at most) → RefusesNext honest file at reads reads_after r → RefusesSearch honest reads reads_after r
-not_found honest file at most reads reads_after (refusals.Fault f) l w = tt
-not_found honest file at most reads reads_after refusals.Memory l w = absurd w
-not_found honest file at most reads reads_after refusals.StoreFailed l w = w
-not_found honest file at most reads reads_after refusals.StoreChanged l w = λ told. let all = l told in w told all.boxes all.are_from
-not_found honest file at most reads reads_after refusals.WriteFailed l w = w
-not_found honest file at most reads reads_after refusals.NoSuchTrack l w = w
 
 -- one was not read, where there is room for it
 pub not_read : (honest : Bool) (top : TopBox) (room reads reads_after : ℕ) (r : Refusal) → (IsTrue honest → top.header.end ≤ top.offset + room) → RefusesPayload room top reads reads_after r → RefusesSearch honest reads reads_after r

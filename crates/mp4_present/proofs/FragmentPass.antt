@@ -1,15 +1,17 @@
 -- The `moof`s of a file whose outline is known, one after the other.
-use Rattle.std.proofs.Common.{◌≡◌, ℕ, ◌+◌, ◌-◌, ◌≤◌, true, List, [], ◌∷◌, ◌++◌, Option, Some, None, length, drop, max, refl, length-take, length-drop, sym, ap, subst, ◌∙◌, arith}
-use Rattle.std.specs.Prelude.{codes, unwrap_or, fold, bytes_eq}
-use Rattle.std.proofs.lemmas.List.{drop-drop, append-nil}
+use Rattle.std.proofs.Common.{◌≡◌, ℕ, ◌+◌, ◌-◌, ◌<◌, ◌≤◌, true, List, slice_index_or, [], ◌∷◌, ◌++◌, Some, None, length, drop, max, refl, length-take, length-drop, ap, subst, ◌∙◌, arith}
+use Rattle.std.specs.Prelude.{codes, fold, bytes_eq}
+use Rattle.std.proofs.lemmas.List.{drop-drop, drop_all}
 use Rattle.mp4_boxes.specs.format.Box.{Box, LieEndToEnd, file_container, size, sizes}
 use Rattle.mp4_boxes.specs.format.Children.{of_kind, Holds}
 use Rattle.mp4_boxes.specs.declared.rule.Rule.TheVariants.{File}
-use Rattle.mp4_boxes.proofs.Among.{of_kind-append, of_kind-split}
+use Rattle.mp4_boxes.proofs.Among.{of_kind-split}
 use Rattle.mp4_boxes.proofs.Tiling.{lies_behind, sizes-append, sizes-cons}
-use Rattle.mp4_present.specs.words.Again.{AreFrom, IsNextFragment}
+use Rattle.std.specs.List.{AllByRecursion}
+use Rattle.std.proofs.Math.Seq.{drop-cons}
+use Rattle.mp4_present.proofs.PlainLists.{next_of}
 use Rattle.mp4_present.specs.words.Movies.{IsWhole}
-use Rattle.mp4_present.specs.words.Outline.{BeginAt, IsOutline, box_at, longest}
+use Rattle.mp4_present.specs.words.Outline.{AreFrom, AreMoofsFrom, IsNextFragment, IsOutline, box_at, longest}
 use Rattle.mp4_present.specs.declared.reading.TopBox.{TopBox}
 use Rattle.mp4_present.specs.declared.outline.Outline.{Outline}
 
@@ -41,18 +43,9 @@ longest_from m (b ∷ boxes) = omega (arith, longest_from (max m (size b)) boxes
 longest_cons : (b : Box) (boxes : List Box) → longest (b ∷ boxes) ≡ max (size b) (longest boxes)
 longest_cons b boxes = omega (arith, longest_from (max 0 (size b)) boxes)
 
--- where the first `moof` is looked for
-pub left_at : (file : List ℕ) (boxes : List Box) (first : Option ℕ) → AreFrom file 0 boxes → BeginAt first boxes → Left file (unwrap_or first (length file)) (longest (of_kind (codes "moof") boxes))
-left_at file boxes None a b = record { boxes = []; are_from = record { lie = tt; whole = omega arith }; short = omega arith }
-left_at file boxes (Some at) a b =
-    let after = behind file 0 b.0 b.1 (subst (AreFrom file 0) (sym b.2) a) in
-    let place : 0 + sizes b.0 ≡ at = omega (arith, b.4) in
-    let none : of_kind (codes "moof") boxes ≡ of_kind (codes "moof") b.1 = ap (of_kind (codes "moof")) (sym b.2) ∙ of_kind-append (codes "moof") b.0 b.1 ∙ ap (λ (bs : List Box). bs ++ of_kind (codes "moof") b.1) b.3 in
-    let same = ap longest none in
-    record { boxes = b.1; are_from = subst (λ (k : ℕ). AreFrom file k b.1) place after; short = omega (arith, same) }
-
-pub left_first : (file : List ℕ) (boxes : List Box) (o : Outline) → Holds File (file_container file) boxes → IsOutline file boxes o → Left file (unwrap_or o.fragments (length file)) o.longest
-left_first file boxes o h i = rw i.longest (left_at file boxes o.fragments (whole_file file boxes h) i.fragments)
+-- before the first `moof`
+unfoldable pub left_first : (file : List ℕ) (boxes : List Box) (o : Outline) → Holds File (file_container file) boxes → IsOutline file boxes o → Left file 0 o.longest
+left_first file boxes o h i = let most = i.longest in record { boxes = boxes; are_from = whole_file file boxes h; short = omega (arith, most) }
 
 -- the size of a box that lies in a file
 size_at : (file : List ℕ) (top : TopBox) → IsWhole (length file) top → size (box_at file top) ≡ top.header.end - top.offset
@@ -87,8 +80,25 @@ pub next_boxes : (file : List ℕ) (at most : ℕ) (top : TopBox) (l : Left file
 unfolding left_next
 next_boxes file at most top l w n = refl
 
--- the boxes in front of those that are left, where the first `moof` is looked for
-pub first_passed : (file : List ℕ) (boxes : List Box) (first : Option ℕ) (a : AreFrom file 0 boxes) (b : BeginAt first boxes) → (passed : List Box) × (boxes ≡ passed ++ (left_at file boxes first a b).boxes) × (of_kind (codes "moof") passed ≡ [])
-unfolding left_at
-first_passed file boxes None a b = (boxes, sym (append-nil boxes), b)
-first_passed file boxes (Some at) a b = (b.0, sym b.2, b.3)
+-- ---- a list of `moof`s, one after the other
+
+-- the one at a place among them
+abbrev pub top_at : List TopBox → ℕ → TopBox
+top_at moofs k = slice_index_or moofs k (record { offset = 0; header = record { kind = record { 0 = [] }; header = 0; end = 0 } })
+
+module _ (moofs : List TopBox) (k : ℕ) (lt : k < length moofs) where
+  one_on : drop k moofs ≡ top_at moofs k ∷ drop (k + 1) moofs
+  one_on = drop-cons moofs k _ lt ∙ ap (λ (n : ℕ). top_at moofs k ∷ drop n moofs) (next_of k)
+
+  pub next_whole : (L : ℕ) → AllByRecursion (IsWhole L) (drop k moofs) → IsWhole L (top_at moofs k) × AllByRecursion (IsWhole L) (drop (k + 1) moofs)
+  next_whole L h = subst (AllByRecursion (IsWhole L)) one_on h
+
+  pub next_moof : (file : List ℕ) (at : ℕ) → AreMoofsFrom file at (drop k moofs) → ((boxes : List Box) → AreFrom file at boxes → IsNextFragment file at boxes (Some (top_at moofs k))) × AreMoofsFrom file (top_at moofs k).header.end (drop (k + 1) moofs)
+  next_moof file at h = subst (AreMoofsFrom file at) one_on h
+
+pub last_moof : (file : List ℕ) (at : ℕ) (moofs : List TopBox) (k : ℕ) → length moofs ≤ k → AreMoofsFrom file at (drop k moofs) → (boxes : List Box) → AreFrom file at boxes → IsNextFragment file at boxes None
+last_moof file at moofs k le h = subst (AreMoofsFrom file at) (drop_all k moofs le) h
+
+-- it stands at the place or behind it
+pub stands_behind : (file : List ℕ) (at : ℕ) (top : TopBox) (boxes : List Box) → IsNextFragment file at boxes (Some top) → at ≤ top.offset
+stands_behind file at top boxes n = let place = n.4 in omega (arith, place)

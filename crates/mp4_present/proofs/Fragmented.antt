@@ -1,19 +1,17 @@
 -- The next `moof` among the boxes of a file from a place on.
-use Rattle.std.proofs.Common.{◌≡◌, ℕ, ◌+◌, ◌-◌, ◌<◌, ◌≤◌, true, false, List, [], ◌∷◌, ◌++◌, length, take, drop, Some, None, Ok, refl, sym, ap, subst, ◌∙◌, arith, append_assoc, length-drop}
-use Rattle.std.specs.Prelude.{codes, bytes_eq, IsTrue, Bool, Result}
+use Rattle.std.proofs.Common.{◌≡◌, ℕ, ◌+◌, ◌-◌, ◌<◌, ◌≤◌, true, false, List, [], ◌∷◌, ◌++◌, length, take, drop, Some, None, Ok, refl, sym, ap, subst, ◌∙◌, arith, append_assoc}
+use Rattle.std.specs.Prelude.{codes, bytes_eq, Result}
 use Rattle.std.proofs.lemmas.List.{drop-drop, append-nil}
 use Rattle.std.proofs.lemmas.Slice.Eq.{bytes_eq-Decides}
 use Rattle.mp4_boxes.specs.format.Box.{Box, Header, LieEndToEnd, box_of, size, sizes}
-use Rattle.mp4_boxes.specs.format.BoxFaults.{header_there, located, type_of}
 use Rattle.mp4_boxes.specs.format.Children.{of_kind}
 use Rattle.mp4_boxes.specs.words.View.{top_header_seen}
 use Rattle.mp4_boxes.specs.declared.headers.TopHeader.{TopHeader}
 use Rattle.mp4_boxes.specs.declared.fault.Kind.{Kind}
-use Rattle.mp4_boxes.specs.declared.refusal.Refusal.{Refusal}
-use Rattle.mp4_boxes.specs.declared.refusal.Refusal.TheVariants as refusals
 use Rattle.mp4_boxes.proofs.Tiling.{header_is, box_size, first_fits, sizes-append, sizes-cons}
 use Rattle.mp4_present.specs.words.Reading.{IsTopHeader, top_box}
-use Rattle.mp4_present.specs.words.Again.{AreFrom, IsNextFragment, RefusesHeaderAgain, RefusesNext}
+use Rattle.mp4_present.specs.words.Outline.{AreFrom, AreMoofsFrom, IsNextFragment}
+use Rattle.mp4_present.specs.declared.reading.TopBox.{TopBox}
 use Rattle.mp4_present.proofs.TopLevel.{read_there}
 use Rattle.mp4_present.proofs.Outlines.{push_other}
 
@@ -61,15 +59,6 @@ front_is file at h (b ∷ rest) a lt e le =
       };
     }
 
--- where a box stands, its header can be read
-pub can_be_read : (file : List ℕ) (at : ℕ) (after : List Box) → AreFrom file at after → at < length file → (h : Header) × (header_there true (length file - at) (drop at file) (codes "file") at ≡ Ok h)
-can_be_read file at [] a lt = let w = a.whole in absurd (omega (arith, w, lt))
-can_be_read file at (b ∷ rest) a lt =
-    let l = a.lie in
-    let len : length (drop at file) ≡ length file - at = length-drop at file in
-    let there : header_there true (length (drop at file)) (drop at file) (codes "file") at ≡ Ok l.0.0 = ap (located (codes "file") at (type_of (drop at file))) l.0.1 in
-    (l.0.0, subst (λ (n : ℕ). header_there true n (drop at file) (codes "file") at ≡ Ok l.0.0) len there)
-
 -- a box that is no `moof` was passed
 pub passing_more : (file : List ℕ) (from at : ℕ) (boxes : List Box) (h : TopHeader) → Passing file from at boxes → at < length file → IsTopHeader file at h → at ≤ h.end
     → bytes_eq (codes "moof") h.kind.0 ≡ false → Passing file from h.end boxes
@@ -115,15 +104,29 @@ no_more file from at boxes p le =
     let all : boxes ≡ p.before = p.whole ∙ ap (λ (bs : List Box). p.before ++ bs) (nothing_left file at p.after p.are_from le) ∙ append-nil p.before in
     ap (of_kind (codes "moof")) all ∙ p.none
 
--- why a header is not read again is why the next `moof` is not found
-pub refuses_next : (honest : Bool) (file : List ℕ) (from at reads reads_after : ℕ) (r : Refusal) → (IsTrue honest → (boxes : List Box) → AreFrom file from boxes → Passing file from at boxes) → at < length file
-    → RefusesHeaderAgain honest file at reads reads_after r → RefusesNext honest file from reads reads_after r
-refuses_next honest file from at reads reads_after refusals.StoreChanged p lt e = λ told boxes a.
-    let passing = p told boxes a in
-    let h = can_be_read file at passing.after passing.are_from lt in
-    e told h.0 h.1
-refuses_next honest file from at reads reads_after (refusals.Fault f) p lt e = e
-refuses_next honest file from at reads reads_after refusals.Memory p lt e = e
-refuses_next honest file from at reads reads_after refusals.StoreFailed p lt e = e
-refuses_next honest file from at reads reads_after refusals.WriteFailed p lt e = e
-refuses_next honest file from at reads reads_after refusals.NoSuchTrack p lt e = e
+-- ---- all of them, one after the other
+
+-- These are the `moof`s from a place on, up to another.
+abbrev pub AreMoofsUpTo : List ℕ → ℕ → ℕ → List TopBox → Type 0
+AreMoofsUpTo file from at [] = (boxes : List Box) → AreFrom file from boxes → Passing file from at boxes
+AreMoofsUpTo file from at (top ∷ moofs) = ((boxes : List Box) → AreFrom file from boxes → IsNextFragment file from boxes (Some top)) × AreMoofsUpTo file top.header.end at moofs
+
+-- before the first box
+pub no_moofs : (file : List ℕ) (from : ℕ) → AreMoofsUpTo file from from []
+no_moofs file from boxes a = passing_none file from boxes a
+
+module _ (file : List ℕ) (at : ℕ) (h : TopHeader) (lt : at < length file) (read : IsTopHeader file at h) (le : at ≤ h.end) where
+  -- another box
+  pub moofs_other : bytes_eq (codes "moof") h.kind.0 ≡ false → (from : ℕ) (moofs : List TopBox) → AreMoofsUpTo file from at moofs → AreMoofsUpTo file from h.end moofs
+  moofs_other other from [] m = λ boxes a. passing_more file from at boxes h (m boxes a) lt read le other
+  moofs_other other from (top ∷ moofs) m = (m.0, moofs_other other top.header.end moofs m.1)
+
+  -- one more
+  pub moofs_more : bytes_eq (codes "moof") h.kind.0 ≡ true → (from : ℕ) (moofs : List TopBox) → AreMoofsUpTo file from at moofs → AreMoofsUpTo file from h.end (moofs ++ record { offset = at; header = h } ∷ [])
+  moofs_more this from [] m = (λ boxes a. found file from at boxes h (m boxes a) lt read le this, no_moofs file h.end)
+  moofs_more this from (top ∷ moofs) m = (m.0, moofs_more this top.header.end moofs m.1)
+
+-- behind the last box
+pub moofs_ended : (file : List ℕ) (at from : ℕ) (moofs : List TopBox) → length file ≤ at → AreMoofsUpTo file from at moofs → AreMoofsFrom file from moofs
+moofs_ended file at from [] le m = λ boxes a. no_more file from at boxes (m boxes a) le
+moofs_ended file at from (top ∷ moofs) le m = (m.0, moofs_ended file at top.header.end moofs le m.1)

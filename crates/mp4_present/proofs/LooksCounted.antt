@@ -1,9 +1,9 @@
 -- The looks at tracks for all `moof`s of a file, by what these say and by their bytes.
 use Rattle.std.proofs.Common.{◌≡◌, Bool, ℕ, ◌+◌, ◌-◌, ◌*◌, ◌≤◌, List, [], ◌∷◌, Some, length, map, inl, inr, refl, sym, ap, subst, ◌∙◌, arith, mul-le-mul_left}
-use Rattle.std.proofs.Math.Nat.{mul-add}
+use Rattle.std.proofs.Math.Nat.{le_refl, mul-add}
 use Rattle.std.proofs.lemmas.List.{length-map}
 use Rattle.std.proofs.lemmas.Slice.Zip.{AllZip-long}
-use Rattle.std.specs.Prelude.{codes, unwrap_or, IsTrue}
+use Rattle.std.specs.Prelude.{codes, IsTrue}
 use Rattle.mp4_boxes.specs.format.Bytes.{sum_of}
 use Rattle.mp4_boxes.specs.format.Box.{Box, file_container}
 use Rattle.mp4_boxes.specs.format.Children.{Holds, of_kind}
@@ -14,16 +14,16 @@ use Rattle.mp4_head.specs.words.Found.{SaysHead}
 use Rattle.mp4_head.specs.declared.heads.MovieHead.{MovieHead}
 use Rattle.mp4_head.specs.declared.heads.TrackHead.{TrackHead}
 use Rattle.mp4_present.specs.format.Denotes.{FileTree, IsFileTree}
-use Rattle.mp4_present.specs.words.Again.{AreFrom, IsNextFragment}
 use Rattle.mp4_present.specs.words.Movies.{IsWhole}
 use Rattle.mp4_present.specs.words.NumbersTold.{LooksFit}
-use Rattle.mp4_present.specs.words.Outline.{IsOutline}
+use Rattle.mp4_present.specs.words.Outline.{AreFrom, IsNextFragment}
 use Rattle.mp4_present.specs.format.ByBytes.{LooksByBytes}
 use Rattle.mp4_present.specs.words.ToOpen.{LooksWithin, boxes_looks, moof_looks, opening_looks}
 use Rattle.mp4_present.specs.words.TrackTrees.{IsTrackOf}
 use Rattle.mp4_present.specs.declared.outline.Outline.{Outline}
 use Rattle.mp4_present.specs.declared.reading.TopBox.{TopBox}
-use Rattle.mp4_present.proofs.ChecksCounted.{first_left, next_left}
+use Rattle.mp4_present.proofs.ChecksCounted.{next_left}
+use Rattle.mp4_present.proofs.FragmentPass.{whole_file}
 use Rattle.mp4_present.proofs.MoofBytes.{taken}
 use Rattle.mp4_present.proofs.MoofsPassed.{IsRead}
 use Rattle.mp4_present.proofs.Opened.{IsRead as IsMoovRead, its_movie}
@@ -37,11 +37,8 @@ LooksLeft file at tracks old new =
     (all : List Box) → Holds File (file_container file) all → (boxes : List Box) × (AreFrom file at boxes × (new + tracks * boxes_looks (of_kind (codes "moof") boxes) ≤ old + tracks * boxes_looks (of_kind (codes "moof") all)))
 
 -- before the first one
-pub looks_first : (file : List ℕ) (known : List Box) (o : Outline) (at tracks start : ℕ) → Holds File (file_container file) known → IsOutline file known o → unwrap_or o.fragments (length file) ≡ at → LooksLeft file at tracks start start
-looks_first file known o at tracks start holds i e all h =
-    let l = first_left file known o at holds i e all h in
-    let looks = ap (λ (bs : List Box). tracks * boxes_looks bs) l.2 in
-    (l.0, (l.1, omega (arith, looks)))
+pub looks_first : (file : List ℕ) (tracks start : ℕ) → LooksLeft file 0 tracks start start
+looks_first file tracks start all h = (all, (whole_file file all h, le_refl _))
 
 -- where no further one is checked
 pub looks_done : (file : List ℕ) (at tracks old new : ℕ) → LooksLeft file at tracks old new → LooksWithin file tracks old new

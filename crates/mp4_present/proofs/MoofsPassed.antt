@@ -1,6 +1,6 @@
 -- The `moof`s of a file, passed one after the other behind its `moov`.
 use Rattle.std.proofs.Common.{◌≡◌, ℕ, ◌+◌, ◌≤◌, true, false, Bool, List, [], ◌∷◌, ◌++◌, Some, None, length, take, map, pos, refl, sym, ap, subst, ◌∙◌, arith, append_assoc, length-take}
-use Rattle.std.specs.Prelude.{codes, unwrap_or, IsTrue, bytes_eq}
+use Rattle.std.specs.Prelude.{codes, IsTrue, bytes_eq}
 use Rattle.std.specs.List.{AllByRecursion}
 use Rattle.std.proofs.lemmas.List.{append-nil, map-append}
 use Rattle.mp4_store.specs.words.Device.{range}
@@ -22,17 +22,16 @@ use Rattle.mp4_frag.specs.declared.state.TrackState.{TrackState}
 use Rattle.mp4_frag.specs.declared.trex.Trex.{Trex}
 use Rattle.mp4_head.specs.format.Tree.{MovieTree, trexes_of}
 use Rattle.mp4_head.proofs.Above.{lies_front}
-use Rattle.mp4_present.specs.words.Again.{IsNextFragment}
 use Rattle.mp4_present.specs.format.Denotes.{begins_with_movie}
 use Rattle.mp4_present.specs.words.Movies.{IsWhole}
-use Rattle.mp4_present.specs.words.Outline.{IsOutline, box_at, longest}
+use Rattle.mp4_present.specs.words.Outline.{IsNextFragment, IsOutline, box_at}
 use Rattle.mp4_present.specs.words.PassedMoofs.{IsBegun, IsPassed, RefusesFragments}
 use Rattle.mp4_present.specs.words.Passing.{AreBehind, IsNextMoof}
 use Rattle.mp4_present.specs.words.Reading.{RefusesPayload}
 use Rattle.mp4_present.specs.format.Stands.{Stands}
 use Rattle.mp4_present.specs.declared.outline.Outline.{Outline}
 use Rattle.mp4_present.specs.declared.reading.TopBox.{TopBox}
-use Rattle.mp4_present.proofs.FragmentPass.{Left, Next, left_at, left_next, next_boxes, first_passed, whole_file}
+use Rattle.mp4_present.proofs.FragmentPass.{Left, Next, left_first, left_next, next_boxes}
 use Rattle.mp4_present.proofs.Opened.{moov_is}
 use Rattle.mp4_present.specs.words.Movies.{Fills}
 use Rattle.mp4_present.proofs.MoofBehind.{passes_moof, trexes_behind}
@@ -52,21 +51,17 @@ pub record IsUnderWay (file : List ℕ) (movie : MovieTree) (boxes : List Box) (
 -- ---- before the first `moof`
 
 unfoldable pub under_way_first : (file : List ℕ) (movie : MovieTree) (boxes known : List Box) (o : Outline) (states : List TrackState) (room : ℕ) → Holds File (file_container file) known → IsOutline file known o → IsBegun file movie boxes states room
-    → IsUnderWay file movie boxes (unwrap_or o.fragments (length file)) o.longest states room
-under_way_first file movie boxes known o states room holds i b =
-    let same : known ≡ boxes = tiles_one (file_container file) known boxes holds.tiles b.holds.tiles in
-    let a = whole_file file known holds in
-    let l = left_at file known o.fragments a i.fragments in
-    let f = first_passed file known o.fragments a i.fragments in
-    record {
-      fragments = [];
-      bytes = tt;
-      behind = b.behind;
-      passed = f.0;
-      left = record { boxes = l.boxes; are_from = l.are_from; short = subst (λ (n : ℕ). longest (of_kind (codes "moof") l.boxes) ≤ n) (sym i.longest) l.short };
-      are = sym same ∙ f.1;
-      moofs = sym f.2;
-    }
+    → IsUnderWay file movie boxes 0 o.longest states room
+unfolding left_first
+under_way_first file movie boxes known o states room holds i b = record {
+  fragments = [];
+  bytes = tt;
+  behind = b.behind;
+  passed = [];
+  left = left_first file known o holds i;
+  are = tiles_one (file_container file) boxes known b.holds.tiles holds.tiles;
+  moofs = refl;
+}
 
 -- ---- behind the last one
 

@@ -1,6 +1,6 @@
 -- What the top-level headers of a file say of its `moov` and its `moof`s, one header after the other.
-use Rattle.std.proofs.Common.{◌≡◌, ℕ, drop, Err, ◌-◌, ◌<◌, ◌≤◌, Bool, true, false, List, [], ◌∷◌, ◌++◌, Option, Some, None, length, max, refl, sym, ap, subst, ◌∙◌, arith, inl, inr, append_assoc}
-use Rattle.std.specs.Prelude.{codes, bytes_eq, unwrap_or, IsTrue}
+use Rattle.std.proofs.Common.{◌≡◌, ℕ, drop, Err, ◌-◌, ◌<◌, ◌≤◌, Bool, true, false, List, [], ◌∷◌, ◌++◌, Option, Some, None, length, max, refl, sym, ap, subst, ◌∙◌, arith, inl, inr}
+use Rattle.std.specs.Prelude.{codes, bytes_eq, IsTrue}
 use Rattle.std.proofs.lemmas.List.Sums.{fold-append}
 use Rattle.std.proofs.lemmas.Slice.Eq.{bytes_eq-Decides}
 use Rattle.mp4_boxes.specs.format.Box.{Box, IsFront, StandsAfter, Tiles, size, sizes, file_container}
@@ -18,8 +18,9 @@ use Rattle.mp4_boxes.proofs.Tiling.{sizes-append, sizes-cons}
 use Rattle.mp4_present.specs.words.Reading.{IsTopHeader, RefusesHeader, top_box}
 use Rattle.mp4_present.specs.format.Denotes.{begins_with_movie}
 use Rattle.mp4_present.specs.format.Stands.{Stands, child, missing, header, order}
-use Rattle.mp4_present.specs.words.Outline.{AreSeen, IsOutline, IsOrdered, BeginAt, longest, moov_seen, RefusesOutline}
+use Rattle.mp4_present.specs.words.Outline.{AreSeen, AreMoofsFrom, IsOutline, IsOrdered, longest, moov_seen, RefusesOutline}
 use Rattle.mp4_present.specs.declared.reading.TopBox.{TopBox}
+use Rattle.mp4_present.specs.declared.outline.Outline.{Outline}
 use Rattle.mp4_present.specs.declared.outline.Seen.{Seen}
 use Rattle.mp4_present.proofs.TopLevel.{TopPassed, top_more, top_tiles, top_fault}
 
@@ -80,16 +81,6 @@ further c b x bs false false e f n m h = rw (e, f) (h (rw e at n) (rw (e, f) at 
 begins_on : (boxes : List Box) (b x : Box) → of_kind (codes "moov") boxes ≡ x ∷ [] → begins_with_movie boxes ≡ true → begins_with_movie (boxes ++ b ∷ []) ≡ true
 begins_on [] b x n m = absurd cc
 begins_on (c ∷ boxes) b x n m = further c b x boxes (bytes_eq (codes "moov") c.kind) (bytes_eq (codes "moof") c.kind) refl refl n m (begins_on boxes b x)
-
--- ---- the first `moof`
-
-begin_other : (o : Option ℕ) (boxes : List Box) (b : Box) → bytes_eq (codes "moof") b.kind ≡ false → BeginAt o boxes → BeginAt o (boxes ++ b ∷ [])
-begin_other None boxes b e h = push_other (codes "moof") boxes b e ∙ h
-begin_other (Some at) boxes b e h = (h.0, h.1 ++ b ∷ [], sym (append_assoc h.0 h.1 (b ∷ [])) ∙ ap (λ (bs : List Box). bs ++ b ∷ []) h.2, h.3, h.4)
-
-begin_this : (o : Option ℕ) (boxes : List Box) (b : Box) (at : ℕ) → sizes boxes ≡ at → BeginAt o boxes → BeginAt (Some (unwrap_or o at)) (boxes ++ b ∷ [])
-begin_this None boxes b at e h = (boxes, b ∷ [], refl, h, e)
-begin_this (Some first) boxes b at e h = (h.0, h.1 ++ b ∷ [], sym (append_assoc h.0 h.1 (b ∷ [])) ∙ ap (λ (bs : List Box). bs ++ b ∷ []) h.2, h.3, h.4)
 
 longest_more : (boxes : List Box) (b : Box) → longest (boxes ++ b ∷ []) ≡ max (longest boxes) (size b)
 longest_more boxes b = fold-append (λ most c. max most (size c)) 0 boxes (b ∷ [])
@@ -153,7 +144,7 @@ too_early file boxes at h seen n s e k = (
 
 -- the `moov`
 pub seen_movie : (file : List ℕ) (boxes : List Box) (at : ℕ) (h : TopHeader) (seen : Seen) → IsNext file boxes at h → AreSeen file boxes seen → allows File h.kind.0 ≡ true → seen.moov ≡ None → bytes_eq (codes "moov") h.kind.0 ≡ true
-    → AreSeen file (boxes ++ top_box file at h ∷ []) (record { moov = Some (record { offset = at; header = h }); fragments = seen.fragments; longest = seen.longest })
+    → AreSeen file (boxes ++ top_box file at h ∷ []) (record { moov = Some (record { offset = at; header = h }); longest = seen.longest })
 seen_movie file boxes at h seen n s a e k =
     let b = top_box file at h in
     let other = not_both h.kind.0 k in
@@ -163,7 +154,6 @@ seen_movie file boxes at h seen n s a e k =
       allowed = all_append (λ (c : Box). IsTrue (allows File c.kind)) boxes (b ∷ []) s.allowed (a, tt);
       moov = push_this (codes "moov") boxes b k ∙ ap (λ (bs : List Box). bs ++ b ∷ []) none;
       order = begins_here boxes b before k;
-      fragments = begin_other seen.fragments boxes b other s.fragments;
       longest = s.longest ∙ ap longest (sym (push_other (codes "moof") boxes b other));
     }
 
@@ -180,7 +170,6 @@ seen_other file boxes at h seen n s a j k =
       allowed = all_append (λ (c : Box). IsTrue (allows File c.kind)) boxes (b ∷ []) s.allowed (a, tt);
       moov = push_other (codes "moov") boxes b j ∙ s.moov;
       order = order_on file seen.moov boxes b s.moov k s.order;
-      fragments = begin_other seen.fragments boxes b k s.fragments;
       longest = s.longest ∙ ap longest (sym (push_other (codes "moof") boxes b k));
     }
 
@@ -191,7 +180,7 @@ order_in file (Some top) boxes b m e h = begins_on boxes b _ m h
 -- a `moof`
 pub seen_fragment : (file : List ℕ) (boxes : List Box) (at : ℕ) (h : TopHeader) (seen : Seen) (most : ℕ) → IsNext file boxes at h → AreSeen file boxes seen → allows File h.kind.0 ≡ true
     → bytes_eq (codes "moov") h.kind.0 ≡ false → bytes_eq (codes "moof") h.kind.0 ≡ true → (seen.moov ≡ None → ⊥) → most ≡ max seen.longest (h.end - at)
-    → AreSeen file (boxes ++ top_box file at h ∷ []) (record { moov = seen.moov; fragments = Some (unwrap_or seen.fragments at); longest = most })
+    → AreSeen file (boxes ++ top_box file at h ∷ []) (record { moov = seen.moov; longest = most })
 seen_fragment file boxes at h seen most n s a j k some m =
     let b = top_box file at h in
     let len = size_is file boxes at h n in
@@ -199,7 +188,6 @@ seen_fragment file boxes at h seen most n s a j k some m =
       allowed = all_append (λ (c : Box). IsTrue (allows File c.kind)) boxes (b ∷ []) s.allowed (a, tt);
       moov = push_other (codes "moov") boxes b j ∙ s.moov;
       order = order_in file seen.moov boxes b s.moov some s.order;
-      fragments = begin_this seen.fragments boxes b at n.taken s.fragments;
       longest = m ∙ (λ i. max (s.longest i) (sym len i)) ∙ sym (longest_more (of_kind (codes "moof") boxes) b) ∙ ap longest (sym (push_this (codes "moof") boxes b k));
     }
 
@@ -212,8 +200,8 @@ pub record Outlining (file : List ℕ) (at : ℕ) (seen : Seen) : Type 0 where
   pub taken : sizes boxes ≡ at
   pub are_seen : AreSeen file boxes seen
 
-pub outlining_none : (file : List ℕ) → Outlining file 0 (record { moov = None; fragments = None; longest = 0 })
-outlining_none file = record { boxes = []; front = (tt, tt); taken = refl; are_seen = record { allowed = tt; moov = refl; order = refl; fragments = refl; longest = refl } }
+pub outlining_none : (file : List ℕ) → Outlining file 0 (record { moov = None; longest = 0 })
+outlining_none file = record { boxes = []; front = (tt, tt); taken = refl; are_seen = record { allowed = tt; moov = refl; order = refl; longest = refl } }
 
 pub outlining_more : (file : List ℕ) (at : ℕ) (h : TopHeader) (seen : Seen) (boxes : List Box) → IsFront (file_container file) boxes → sizes boxes ≡ at → IsTopHeader file at h → at ≤ h.end
     → AreSeen file (boxes ++ top_box file at h ∷ []) seen → Outlining file h.end seen
@@ -247,22 +235,22 @@ no_movie file at seen o le e =
     )
 
 -- the end was reached: these are the boxes of the file
-pub outlined : (file : List ℕ) (at : ℕ) (seen : Seen) (top : TopBox) (o : Outlining file at seen) → length file ≤ at → seen.moov ≡ Some top
-    → Holds File (file_container file) o.boxes × (begins_with_movie o.boxes ≡ true) × IsOutline file o.boxes (record { moov = top; fragments = seen.fragments; longest = seen.longest })
-outlined file at seen top o le e =
+pub outlined : (file : List ℕ) (at : ℕ) (seen : Seen) (out : Outline) (o : Outlining file at seen) → length file ≤ at → seen.moov ≡ Some out.moov → out.longest ≡ seen.longest → AreMoofsFrom file 0 out.moofs.items
+    → Holds File (file_container file) o.boxes × (begins_with_movie o.boxes ≡ true) × IsOutline file o.boxes out
+outlined file at seen out o le e long m =
     let s = o.are_seen in
     let one = s.moov ∙ ap (moov_seen file) e in
     let count : count_among (codes "moov" ∷ []) o.boxes ≡ 1 = count_is (codes "moov") o.boxes ∙ ap (λ (bs : List Box). length bs) one in (
       record { tiles = tiles file at seen o le; allowed = s.allowed; quantities = (count, (tt, (tt, (tt, (tt, (tt, (tt, tt))))))) },
       subst (λ (w : Option TopBox). IsOrdered w o.boxes) e s.order,
-      record { moov = one; fragments = s.fragments; longest = s.longest },
+      record { moov = one; moofs = m; longest = long ∙ s.longest },
     )
 
 -- why a header is not read is why there is no outline
 pub refuses : (honest : Bool) (file : List ℕ) (at : ℕ) (seen : Seen) (reads reads_after : ℕ) (r : Refusal) → (IsTrue honest → Outlining file at seen) → at < length file
     → RefusesHeader honest file at reads reads_after r → RefusesOutline honest file reads reads_after r
 refuses honest file at seen reads reads_after (refusals.Fault f) o lt e = λ told. unread file at seen f (o told) lt (e told)
-refuses honest file at seen reads reads_after refusals.Memory o lt e = e
+refuses honest file at seen reads reads_after refusals.Memory o lt e = tt
 refuses honest file at seen reads reads_after refusals.StoreFailed o lt e = e
 refuses honest file at seen reads reads_after refusals.StoreChanged o lt e = e
 refuses honest file at seen reads reads_after refusals.WriteFailed o lt e = e

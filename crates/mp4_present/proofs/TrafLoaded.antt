@@ -1,5 +1,5 @@
 -- The next `traf` of a walk, read to its room.
-use Rattle.std.proofs.Common.{◌≡◌, ◌⊎◌, ℕ, ◌+◌, ◌≤◌, List, [], ◌∷◌, ◌++◌, Some, None, length, take, map, ⊎_elim, refl, sym, ap, subst, ◌∙◌, arith, slice_get}
+use Rattle.std.proofs.Common.{◌≡◌, ℕ, ◌+◌, ◌≤◌, List, [], ◌∷◌, ◌++◌, Some, None, length, take, map, ⊎_elim, refl, sym, ap, subst, ◌∙◌, arith, slice_get}
 use Rattle.std.specs.Prelude.{Bool, Option}
 use Rattle.mp4_store.specs.words.Device.{range}
 use Rattle.mp4_boxes.specs.declared.refusal.Refusal.{Refusal}

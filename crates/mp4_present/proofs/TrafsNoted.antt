@@ -1,6 +1,6 @@
 -- The `traf`s that have samples of each track, noted one `moof` after the other.
 use Rattle.std.proofs.Common.{◌≡◌, ℕ, ◌==◌, max, true, false, Bool, List, [], ◌∷◌, ◌++◌, length, map, refl, sym, ap, subst, ◌∙◌, arith, Some, None}
-use Rattle.std.specs.Prelude.{unwrap_or, pos, codes, nat_eq, not, ◌&&◌, ◌||◌}
+use Rattle.std.specs.Prelude.{pos, codes, nat_eq, not, ◌&&◌, ◌||◌}
 use Rattle.std.specs.List.{AllByRecursion, AllZip, list_any}
 use Rattle.std.proofs.lemmas.Bool.Decides.{nat_tests}
 use Rattle.std.proofs.lemmas.List.{append-nil, map-append}
@@ -18,9 +18,8 @@ use Rattle.mp4_frag.specs.declared.trex.Trex.{Trex}
 use Rattle.mp4_head.specs.format.Head as heads
 use Rattle.mp4_head.specs.format.Tree.{TrackTree, MovieTree, IsSoundMovie, are_distinct, track_head_of, trexes_of}
 use Rattle.mp4_head.proofs.Distinct.{map_twice}
-use Rattle.mp4_present.specs.words.Again.{IsNextFragment}
 use Rattle.mp4_present.specs.words.Movies.{IsWhole}
-use Rattle.mp4_present.specs.words.Outline.{IsOutline, box_at}
+use Rattle.mp4_present.specs.words.Outline.{IsNextFragment, IsOutline, box_at}
 use Rattle.mp4_present.specs.words.OwnTrafs.{AreOwn, AreOwnBehind, IsOwn, none_noted, own_of}
 use Rattle.mp4_present.specs.words.PassedMoofs.{IsBegun}
 use Rattle.mp4_present.specs.words.Passing.{seen_behind, parts_behind}
@@ -113,7 +112,7 @@ abbrev pub OwnsUnderWay : List ℕ → MovieTree → List Box → ℕ → ℕ �
 OwnsUnderWay file movie boxes at most states room owns = (u : IsUnderWay file movie boxes at most states room) × AreOwn movie u.fragments owns
 
 pub owns_first : (file : List ℕ) (movie : MovieTree) (boxes known : List Box) (o : Outline) (states : List TrackState) (room : ℕ) (owns : List OwnSeen) → Holds File (file_container file) known → IsOutline file known o → IsBegun file movie boxes states room → owns ≡ map (λ _. none_noted) states
-    → OwnsUnderWay file movie boxes (unwrap_or o.fragments (length file)) o.longest states room owns
+    → OwnsUnderWay file movie boxes 0 o.longest states room owns
 unfolding under_way_first
 owns_first file movie boxes known o states room owns holds i b e =
     (under_way_first file movie boxes known o states room holds i b, subst (AreOwnOf movie [] movie.tracks) (sym e) (first_own movie (parts_behind movie []) movie.tracks states b.behind.seen))

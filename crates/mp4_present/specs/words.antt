@@ -2,7 +2,6 @@ pub mod InHand
 pub mod Movies
 pub mod Reading
 pub mod Outline
-pub mod Again
 pub mod Joined
 pub mod Plain
 pub mod Carried

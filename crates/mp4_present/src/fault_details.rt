@@ -3,7 +3,8 @@
 ghost use Rattle.std.specs.Prelude.{◌≡◌, length, IfOk, IfErr, IfSome, IsTrue};
 ghost use Rattle.mp4_present.specs.format.FaultNumbers.{Tells};
 ghost use Rattle.mp4_present.specs.words.NumbersTold.{IsPlain, RefusesNumbers, RefusesSearch};
-ghost use Rattle.mp4_present.specs.words.Movies.{Fills};
+ghost use Rattle.std.specs.List.{AllByRecursion};
+ghost use Rattle.mp4_present.specs.words.Movies.{Fills, IsWhole};
 ghost use Rattle.mp4_present.specs.words.Opening.{HasOutline};
 ghost use Rattle.mp4_present.specs.words.OverFaults.{SearchesWithin, TellsOf};
 ghost use Rattle.mp4_present.specs.words.OverStores.{OnlyReads, RefusedOf, WhereHonest};
@@ -60,6 +61,7 @@ fn numbers_behind<S: Store, L: Ledger, M: Ledger>(
     requires bytes { WhereHonest S.Store store.old (λ file.
         IsPayloadIn file outline.now moov.now) }
     requires outline { HasOutline (S.is_honest store.old) (S.file store.old) outline.now }
+    requires whole { AllByRecursion (IsWhole (length (S.file store.old))) outline.now.moofs.items }
     ensures store { OnlyReads S.Store store.old store.new result }
     ensures told { TellsOf S.Store store.old fault.now.offset result }
     ensures work { WhereHonest S.Store store.old (λ file.
@@ -92,7 +94,7 @@ fn numbers_in<S: Store, L: Ledger, M: Ledger>(
     ensures refusal { RefusedOf S.Store store.old store.new result
         (λ honest file. RefusesSearch honest) }
 {
-    let outline = read_outline(store)?;
+    let outline = read_outline(alloc, store)?;
     let at = outline.moov.payload_offset();
     let moov = read_bytes(alloc, store, at, outline.moov.header.end - at)?;
     let told = numbers_behind(alloc, fault, store, &outline, moov.as_slice(), steps, looks)?;

@@ -1,6 +1,7 @@
 //! Numbers of a fault in a fragment; and the time that is due where one begins at another (ISO/IEC
 //! 14496-12, 8.8.12).
 ghost use Rattle.std.specs.Prelude.{◌≡◌, ◌+◌, ◌-◌, ◌*◌, ◌^◌, ◌≤◌, ◌==◌, length, take, find, IfOk, IfErr, IfSome};
+ghost use Rattle.std.specs.List.{AllByRecursion};
 ghost use Rattle.mp4_boxes.specs.format.Bytes.{field};
 ghost use Rattle.mp4_boxes.specs.format.Box.{Box};
 ghost use Rattle.mp4_boxes.specs.words.View.{box_seen};
@@ -11,13 +12,12 @@ ghost use Rattle.mp4_frag.specs.declared.state.TrackState.{TrackState};
 ghost use Rattle.mp4_present.specs.words.NumbersTold.{IsBehind, IsReached, MeetsFault, RefusesSearch};
 ghost use Rattle.mp4_present.specs.words.OverFaults.{FindsOf, PassesWithin, TellsBehind};
 ghost use Rattle.mp4_present.specs.words.OverStores.{OnlyReads, RefusedOf, WhereHonest};
-ghost use Rattle.mp4_present.specs.words.Movies.{Fills};
+ghost use Rattle.mp4_present.specs.words.Movies.{Fills, IsWhole};
 ghost use Rattle.mp4_present.specs.words.Opening.{HasOutline};
 
 use crate::fault_counts::{counts_in_fragment, number_at};
 use crate::fault_details::FaultNumbers;
 use crate::fault_places::outside_in_fragment;
-use crate::fragments::next_fragment;
 use crate::outline::Outline;
 use crate::reading::{TopBox, read_payload};
 use crate::tables_pass::PlainTracks;
@@ -250,6 +250,7 @@ fn pass_until<S: Store, L: Ledger, M: Ledger>(
 ) -> Result<Option<Reached>, Refusal>
     requires room { (room ≤ 2 ^ 24) × HaveRoom room states.old }
     requires outline { HasOutline (S.is_honest store.old) (S.file store.old) outline.now }
+    requires whole { AllByRecursion (IsWhole (length (S.file store.old))) outline.now.moofs.items }
     requires longest { length bytes.old ≡ outline.now.longest }
     ensures store { OnlyReads S.Store store.old store.new result }
     ensures bytes { length bytes.new ≡ length bytes.old }
@@ -265,15 +266,13 @@ fn pass_until<S: Store, L: Ledger, M: Ledger>(
 {
     let file_len = store.len();
     let mut room = room;
-    let mut next = outline.fragments.unwrap_or(file_len);
-    while let Some(top) = next_fragment(store, next)? {
+    for top in &outline.moofs {
         if place < top.header.end {
-            return Ok(Some(Reached { moof: top, room }));
+            return Ok(Some(Reached { moof: *top, room }));
         }
-        let len = read_payload(store, top, bytes)?;
+        let len = read_payload(store, *top, bytes)?;
         let moof = top.view(&bytes[..len]);
         check_moof(moof, file_len, states, &mut [], &mut room, steps, looks)?;
-        next = top.header.end;
     }
     Ok(None)
 }
@@ -291,6 +290,7 @@ pub(crate) fn numbers_in_fragments<S: Store, L: Ledger, M: Ledger>(
     requires room { (plain.now.room ≤ 2 ^ 24)
         × HaveRoom plain.now.room plain.now.states.items }
     requires outline { HasOutline (S.is_honest store.old) (S.file store.old) outline.now }
+    requires whole { AllByRecursion (IsWhole (length (S.file store.old))) outline.now.moofs.items }
     ensures store { OnlyReads S.Store store.old store.new result }
     ensures told { TellsBehind S.Store store.old plain.now fault.now.offset result }
     ensures work { WhereHonest S.Store store.old (λ file. PassesWithin file

@@ -1,11 +1,9 @@
-//! The `moof`s of a file: each is found, read, checked and given up before the next.
-ghost use Rattle.std.specs.Prelude.{◌<◌, ◌≤◌, List, length, IfOk, IfSome, ◌≡◌, ◌^◌, map, [], OnOk, replicate};
-ghost use Rattle.mp4_boxes.specs.format.Box.{Box};
+//! The `moof`s of a file: each is read, checked and given up before the next.
+ghost use Rattle.std.specs.Prelude.{◌≤◌, length, IfOk, ◌≡◌, ◌^◌, map, [], OnOk, replicate};
+ghost use Rattle.std.specs.List.{AllByRecursion};
 ghost use Rattle.mp4_present.specs.words.Movies.{IsWhole};
-ghost use Rattle.mp4_present.specs.words.ToOpen.{EndsWithin, PassesNoting, PassesOn};
+ghost use Rattle.mp4_present.specs.words.ToOpen.{PassesNoting, PassesOn};
 ghost use Rattle.mp4_present.specs.words.OverStores.{OnlyReads, WhereRead, RefusedOf, WhereHonest};
-ghost use Rattle.mp4_present.specs.words.Reading.{IsTopHeader};
-ghost use Rattle.mp4_present.specs.words.Again.{AreFrom, IsNextFragment, RefusesHeaderAgain, RefusesNext};
 ghost use Rattle.mp4_frag.specs.words.OwnTrafs.{own_seen};
 ghost use Rattle.mp4_present.specs.words.OwnTrafs.{none_noted};
 ghost use Rattle.mp4_frag.specs.words.States.{HaveRoom};
@@ -13,55 +11,14 @@ ghost use Rattle.mp4_present.specs.words.Opening.{HasOutline};
 ghost use Rattle.mp4_present.specs.words.OverOpening.{ChecksMoofs, NotesOn};
 ghost use Rattle.mp4_present.specs.words.PassedMoofs.{RefusesFragments};
 
-use crate::outline::{MOOF, Outline, is};
-use crate::reading::{TopBox, read_payload, read_top_header};
+use crate::outline::Outline;
+use crate::reading::read_payload;
 use crate::tables_pass::PlainTracks;
-use mp4_boxes::{Memory, Refusal, Steps, TopHeader};
+use mp4_boxes::{Memory, Refusal, Steps};
 use mp4_frag::{OwnTrafs, TrackState, check_moof};
 use mp4_store::Store;
 use std::alloc::Global;
 use std::sync::ledger::Ledger;
-
-// The top-level header at a place where one was read before: where it can't be read now, the store
-// has changed.
-fn read_header_again<S: Store>(store: &mut S, at: u64) -> Result<TopHeader, Refusal>
-    requires { at < length (S.file store.old) }
-    ensures store { OnlyReads S.Store store.old store.new result }
-    ensures header { WhereRead S.Store store.old result (λ file h. IsTopHeader file at h) }
-    ensures within { IfOk result (EndsWithin (length (S.file store.old)) at) }
-    ensures refusal { RefusedOf S.Store store.old store.new result (λ honest file.
-        RefusesHeaderAgain honest file at) }
-{
-    match read_top_header(store, at) {
-        Ok(header) => Ok(header),
-        Err(Refusal::Fault(_)) => Err(Refusal::StoreChanged),
-        Err(refusal) => Err(refusal),
-    }
-}
-
-/// The next `moof` at the place `from` or behind it, where one of the file's own boxes begins, or
-/// the file ends.
-pub(crate) fn next_fragment<S: Store>(store: &mut S, from: u64) -> Result<Option<TopBox>, Refusal>
-    ensures store { OnlyReads S.Store store.old store.new result }
-    ensures next { WhereRead S.Store store.old result (λ file found. (boxes : List Box)
-        → AreFrom file from boxes → IsNextFragment file from boxes found) }
-    ensures within { IfOk result
-        (λ found. IfSome found (λ top. IsWhole (length (S.file store.old)) top × (from ≤ top.offset)
-        × (top.offset < top.header.end) × (8 ≤ top.header.header))) }
-    ensures refusal { RefusedOf S.Store store.old store.new result
-        (λ honest file. RefusesNext honest file from) }
-{
-    let len = store.len();
-    let mut at = from;
-    while at < len {
-        let header = read_header_again(store, at)?;
-        if is(header.kind, MOOF) {
-            return Ok(Some(TopBox { offset: at, header }));
-        }
-        at = header.end;
-    }
-    Ok(None)
-}
 
 // Reads each `moof` of the file to the room, and checks it: the tracks are then behind it, and the
 // `traf`s with samples are noted. Each track is looked at once at most for each `traf`.
@@ -77,6 +34,7 @@ fn pass_fragments<S: Store, L: Ledger, M: Ledger>(
 ) -> Result<(), Refusal>
     requires room { (room ≤ 2 ^ 24) × HaveRoom room states.old }
     requires outline { HasOutline (S.is_honest store.old) (S.file store.old) outline.now }
+    requires whole { AllByRecursion (IsWhole (length (S.file store.old))) outline.now.moofs.items }
     requires rooms { (length bytes.old ≡ outline.now.longest)
         × (length own.old ≡ length states.old) }
     ensures store { OnlyReads S.Store store.old store.new result }
@@ -91,12 +49,10 @@ fn pass_fragments<S: Store, L: Ledger, M: Ledger>(
 {
     let file_len = store.len();
     let mut room = room;
-    let mut next = outline.fragments.unwrap_or(file_len);
-    while let Some(top) = next_fragment(store, next)? {
-        let len = read_payload(store, top, bytes)?;
+    for top in &outline.moofs {
+        let len = read_payload(store, *top, bytes)?;
         let moof = top.view(&bytes[..len]);
         check_moof(moof, file_len, states, own, &mut room, steps, looks)?;
-        next = top.header.end;
     }
     Ok(())
 }
@@ -129,6 +85,7 @@ pub(crate) fn check_fragments<S: Store, L: Ledger, M: Ledger>(
     requires room { (plain.now.room ≤ 2 ^ 24)
         × HaveRoom plain.now.room plain.now.states.items }
     requires outline { HasOutline (S.is_honest store.old) (S.file store.old) outline.now }
+    requires whole { AllByRecursion (IsWhole (length (S.file store.old))) outline.now.moofs.items }
     ensures each { IfOk result (λ states. (length states.items ≡ length plain.now.states.items)
         × (length own.new.items ≡ length plain.now.states.items)) }
     ensures store { OnlyReads S.Store store.old store.new result }

@@ -1,7 +1,8 @@
 //! A file, read to one presentation or refused.
 ghost use Rattle.std.specs.Prelude.{◌≡◌, length, IfOk, IfErr};
 ghost use Rattle.mp4_boxes.specs.declared.refusal.Refusal.TheVariants as refusals;
-ghost use Rattle.mp4_present.specs.words.Movies.{Fills};
+ghost use Rattle.std.specs.List.{AllByRecursion};
+ghost use Rattle.mp4_present.specs.words.Movies.{Fills, IsWhole};
 ghost use Rattle.mp4_head.specs.declared.heads.TrackHead.{TrackHead};
 ghost use Rattle.mp4_present.specs.format.Presentation.{Presentation};
 ghost use Rattle.mp4_present.specs.format.Denotes.{Denotes, FileTree};
@@ -83,6 +84,7 @@ fn find<S: Store, L: Ledger, M: Ledger>(
     requires moov { Fills (length moov.now) outline.now.moov
         × WhereHonest S.Store store.old (λ file. IsPayloadIn file outline.now moov.now) }
     requires outline { HasOutline (S.is_honest store.old) (S.file store.old) outline.now }
+    requires whole { AllByRecursion (IsWhole (length (S.file store.old))) outline.now.moofs.items }
     ensures store { OnlyReads S.Store store.old store.new result }
     ensures tables { IfOk result (HasTables moov.now) }
     ensures movie { WhereRead S.Store store.old result (λ file f. (t : FileTree)
@@ -132,7 +134,7 @@ pub fn open_movie<S: Store, L: Ledger, M: Ledger>(
         looks.new) }
     ensures refusal { RefusedOf S.Store store.old store.new result RefusesOpen }
 {
-    let outline = read_outline(store)?;
+    let outline = read_outline(alloc, store)?;
     let at = outline.moov.payload_offset();
     let moov = read_bytes(alloc, store, at, outline.moov.header.end - at)?;
     let file_len = store.len();

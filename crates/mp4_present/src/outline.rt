@@ -1,5 +1,6 @@
 //! Where the parts of a file lie, by its top-level headers alone.
 ghost use Rattle.std.specs.Prelude.{◌≡◌, ℕ, ◌+◌, ◌≤◌, ◌++◌, ◌∷◌, [], length, bytes_eq, IfOk, IfErr, IfSome};
+ghost use Rattle.std.specs.List.{AllByRecursion};
 ghost use Rattle.mp4_boxes.specs.declared.rule.Rule.TheVariants.{File};
 ghost use Rattle.mp4_present.specs.words.Movies.{IsWhole};
 ghost use Rattle.mp4_present.specs.words.Reading.{top_box};
@@ -12,6 +13,7 @@ ghost use Rattle.mp4_present.specs.words.OverStores.{OnlyReads, RefusedOf};
 use crate::reading::{TopBox, read_top_header};
 use mp4_boxes::{Fault, FourCc, Kind, Refusal, Rule, TopHeader};
 use mp4_store::Store;
+use std::alloc::Global;
 
 pub(crate) const MOOF: FourCc = FourCc(*b"moof");
 
@@ -19,18 +21,16 @@ pub(crate) const MOOF: FourCc = FourCc(*b"moof");
 #[derive(Clone, Copy, Debug, PartialEq, Eq)]
 pub(crate) struct Seen {
     pub moov: Option<TopBox>,
-    /// The place of the first `moof`.
-    pub fragments: Option<u64>,
     /// The length of the longest `moof`, 0 where there is none.
     pub longest: u64,
 }
 
 /// Where the `moov` and the `moof`s of a file lie.
-#[derive(Clone, Copy, Debug, PartialEq, Eq)]
+#[derive(Drop)]
 pub(crate) struct Outline {
     pub moov: TopBox,
-    /// The place of the first `moof`.
-    pub fragments: Option<u64>,
+    /// The `moof`s, in file order: 24 bytes for each, and up to 48 while the list grows.
+    pub moofs: Vec<TopBox>,
     /// The length of the longest `moof`, 0 where there is none.
     pub longest: u64,
 }
@@ -72,28 +72,31 @@ fn note(seen: Seen, at: u64, header: TopHeader) -> Result<Seen, Fault>
     }
     Ok(Seen {
         moov: seen.moov,
-        fragments: Some(seen.fragments.unwrap_or(at)),
         longest: seen.longest.max(header.end - at),
     })
 }
 
 /// Reads the headers of a file's own boxes, each by one read of at most 16 bytes.
-pub(crate) fn read_outline<S: Store>(store: &mut S) -> Result<Outline, Refusal>
+pub(crate) fn read_outline<S: Store>(alloc: Global, store: &mut S) -> Result<Outline, Refusal>
     ensures store { OnlyReads S.Store store.old store.new result }
     ensures outline { IfOk result (HasOutline (S.is_honest store.old) (S.file store.old)) }
-    ensures within { IfOk result (λ o. IsWhole (length (S.file store.old)) o.moov) }
+    ensures within { IfOk result (λ o. IsWhole (length (S.file store.old)) o.moov
+        × AllByRecursion (IsWhole (length (S.file store.old))) o.moofs.items) }
     ensures refusal { RefusedOf S.Store store.old store.new result RefusesOutline }
 {
     let len = store.len();
     let mut seen = Seen {
         moov: None,
-        fragments: None,
         longest: 0,
     };
+    let mut moofs = Vec::new(alloc);
     let mut at = 0;
     while at < len {
         let header = read_top_header(store, at)?;
         seen = note(seen, at, header)?;
+        if is(header.kind, MOOF) {
+            moofs.push(TopBox { offset: at, header })?;
+        }
         at = header.end;
     }
     let Some(moov) = seen.moov else {
@@ -102,7 +105,7 @@ pub(crate) fn read_outline<S: Store>(store: &mut S) -> Result<Outline, Refusal>
     };
     Ok(Outline {
         moov,
-        fragments: seen.fragments,
+        moofs,
         longest: seen.longest,
     })
 }

@@ -1,8 +1,8 @@
 -- Where the `moov` and the `moof`s of a file lie, as its top-level headers say.
-use Rattle.std.specs.Prelude.{◌≡◌, ℕ, List, [], ◌∷◌, ◌++◌, true, Bool, IsTrue, Option, Some, None, max, fold, codes}
+use Rattle.std.specs.Prelude.{◌≡◌, ℕ, ◌+◌, length, drop, List, [], ◌∷◌, ◌++◌, true, Bool, IsTrue, Option, Some, None, max, fold, codes}
 use Rattle.std.specs.List.{AllByRecursion}
 use Rattle.mp4_store.specs.words.Device.{HasRisen}
-use Rattle.mp4_boxes.specs.format.Box.{Box, size, sizes}
+use Rattle.mp4_boxes.specs.format.Box.{Box, LieEndToEnd, size, sizes}
 use Rattle.mp4_boxes.specs.format.Children.{of_kind, allows}
 use Rattle.mp4_boxes.specs.declared.rule.Rule.TheVariants.{File}
 use Rattle.mp4_boxes.specs.declared.refusal.Refusal.{Refusal}
@@ -27,11 +27,26 @@ abbrev pub IsOrdered : Option TopBox → List Box → Type 0
 IsOrdered None boxes = of_kind (codes "moof") boxes ≡ []
 IsOrdered (Some top) boxes = begins_with_movie boxes ≡ true
 
--- the first `moof` begins at the place, or there is none
-abbrev pub BeginAt : Option ℕ → List Box → Type 0
-BeginAt None boxes = of_kind (codes "moof") boxes ≡ []
-BeginAt (Some at) boxes = (before after : List Box) × (before ++ after ≡ boxes)
-    × (of_kind (codes "moof") before ≡ []) × (sizes before ≡ at)
+-- these are the boxes of the file from a place on to its end
+pub record AreFrom (file : List ℕ) (from : ℕ) (boxes : List Box) : Type 0 where
+  pub lie : LieEndToEnd true from (drop from file) boxes
+  pub whole : from + sizes boxes ≡ length file
+
+-- the first `moof` among these boxes, which begin at the place; or there is none
+abbrev pub IsNextFragment : List ℕ → ℕ → List Box → Option TopBox → Type 0
+IsNextFragment file from boxes None = of_kind (codes "moof") boxes ≡ []
+IsNextFragment file from boxes (Some top) =
+    (before after : List Box) × (boxes ≡ before ++ box_at file top ∷ after)
+    × (of_kind (codes "moof") before ≡ []) × (top.offset ≡ from + sizes before)
+    × (top.header.kind.0 ≡ codes "moof")
+
+-- these are all `moof`s of a file from a place on, one after the other
+abbrev pub AreMoofsFrom : List ℕ → ℕ → List TopBox → Type 0
+AreMoofsFrom file from [] =
+    (boxes : List Box) → AreFrom file from boxes → IsNextFragment file from boxes None
+AreMoofsFrom file from (top ∷ moofs) =
+    ((boxes : List Box) → AreFrom file from boxes → IsNextFragment file from boxes (Some top))
+    × AreMoofsFrom file top.header.end moofs
 
 -- the length of the longest of some boxes, 0 where there is none
 abbrev pub longest : List Box → ℕ
@@ -42,17 +57,17 @@ pub record AreSeen (file : List ℕ) (boxes : List Box) (seen : Seen) : Type 0 w
   pub allowed : AllByRecursion (λ b. IsTrue (allows File b.kind)) boxes
   pub moov : of_kind (codes "moov") boxes ≡ moov_seen file seen.moov
   pub order : IsOrdered seen.moov boxes
-  pub fragments : BeginAt seen.fragments boxes
   pub longest : seen.longest ≡ longest (of_kind (codes "moof") boxes)
 
 -- So the `moov` and the `moof`s lie among the boxes of the file.
 pub record IsOutline (file : List ℕ) (boxes : List Box) (o : Outline) : Type 0 where
   pub moov : of_kind (codes "moov") boxes ≡ box_at file o.moov ∷ []
-  pub fragments : BeginAt o.fragments boxes
+  pub moofs : AreMoofsFrom file 0 o.moofs.items
   pub longest : o.longest ≡ longest (of_kind (codes "moof") boxes)
 
 -- Why there is no outline. The numbers are counts of failed reads, before and after.
 abbrev pub RefusesOutline : Bool → List ℕ → ℕ → ℕ → Refusal → Type 0
 RefusesOutline honest file reads reads_after (refusals.Fault f) = IsTrue honest → Stands file f
+RefusesOutline honest file reads reads_after refusals.Memory = Unit {0}
 RefusesOutline honest file reads reads_after refusals.StoreFailed = HasRisen reads reads_after
 RefusesOutline honest file reads reads_after _ = ⊥

@@ -1,4 +1,7 @@
-use Rattle.std.proofs.Common.{◌≡◌, ◌-◌, ◌^◌, ◌≤◌, List, length, map}
+use Rattle.std.proofs.Common.{◌≡◌, ℕ, ◌^◌, ◌≤◌, List, length, map, drop}
+use Rattle.std.specs.List.{AllByRecursion}
+use Rattle.mp4_present.specs.words.Movies.{IsWhole}
+use Rattle.mp4_present.specs.words.Outline.{AreMoofsFrom}
 use Rattle.mp4_boxes.specs.format.Box.{Box}
 use Rattle.mp4_head.specs.format.Tree.{MovieTree}
 use Rattle.mp4_present.specs.words.PassedMoofs.{IsBegun}
@@ -18,23 +21,22 @@ use Rattle.mp4_present.proofs.fragments.pass_fragments.Given as goal
 -- there is room for more samples, and the `moof`s to come are known
 abbrev pub invariant-loop-top : goal.invariant-loop-top
 invariant-loop-top g l =
-    record {
+    (next : ℕ) × record {
       honesty : g.S.Store.is_honest l.store ≡ g.S.Store.is_honest l.fn.store;
       file : g.S.Store.file l.store ≡ g.S.Store.file l.fn.store;
       reads : g.S.Store.read_failures l.store ≡ g.S.Store.read_failures l.fn.store;
       states : HaveRoom l.room l.states;
       few : l.room ≤ 2 ^ 24;
       longest : length l.bytes ≡ l.outline.longest;
-      left : IsTrue (g.S.Store.is_honest l.fn.store) → Left (g.S.Store.file l.fn.store) l.next l.outline.longest;
-      so : IsTrue (g.S.Store.is_honest l.fn.store) → (movie : MovieTree) (boxes : List Box) → IsBegun (g.S.Store.file l.fn.store) movie boxes l.fn.states l.fn.room → IsUnderWay (g.S.Store.file l.fn.store) movie boxes l.next l.outline.longest l.states l.room;
+      whole : AllByRecursion (IsWhole (length (g.S.Store.file l.fn.store))) (drop l.top-index l.top-items);
+      to_come : IsTrue (g.S.Store.is_honest l.fn.store) → AreMoofsFrom (g.S.Store.file l.fn.store) next (drop l.top-index l.top-items);
+      left : IsTrue (g.S.Store.is_honest l.fn.store) → Left (g.S.Store.file l.fn.store) next l.outline.longest;
+      so : IsTrue (g.S.Store.is_honest l.fn.store) → (movie : MovieTree) (boxes : List Box) → IsBegun (g.S.Store.file l.fn.store) movie boxes l.fn.states l.fn.room → IsUnderWay (g.S.Store.file l.fn.store) movie boxes next l.outline.longest l.states l.room;
       each : length l.own ≡ length l.fn.states;
       own : IsTrue (g.S.Store.is_honest l.fn.store) → (movie : MovieTree) (boxes : List Box) → IsBegun (g.S.Store.file l.fn.store) movie boxes l.fn.states l.fn.room → map own_seen l.fn.own ≡ map (λ _. none_noted) l.fn.states
-          → OwnsUnderWay (g.S.Store.file l.fn.store) movie boxes l.next l.outline.longest l.states l.room (map own_seen l.own);
-      work : IsTrue (g.S.Store.is_honest l.fn.store) → LeftWithin (g.S.Store.file l.fn.store) l.next l.fn.steps l.steps;
-      looked : IsTrue (g.S.Store.is_honest l.fn.store) → LooksLeft (g.S.Store.file l.fn.store) l.next (length l.fn.states) l.fn.looks l.looks;
-      looks : IsTrue (g.S.Store.is_honest l.fn.store) → LooksFit (length (g.S.Store.file l.fn.store)) l.next (length l.fn.states) l.fn.looks l.looks;
-      fit : IsTrue (g.S.Store.is_honest l.fn.store) → MoofsFit (length (g.S.Store.file l.fn.store)) l.next l.room l.fn.steps l.steps;
+          → OwnsUnderWay (g.S.Store.file l.fn.store) movie boxes next l.outline.longest l.states l.room (map own_seen l.own);
+      work : IsTrue (g.S.Store.is_honest l.fn.store) → LeftWithin (g.S.Store.file l.fn.store) next l.fn.steps l.steps;
+      looked : IsTrue (g.S.Store.is_honest l.fn.store) → LooksLeft (g.S.Store.file l.fn.store) next (length l.fn.states) l.fn.looks l.looks;
+      looks : IsTrue (g.S.Store.is_honest l.fn.store) → LooksFit (length (g.S.Store.file l.fn.store)) next (length l.fn.states) l.fn.looks l.looks;
+      fit : IsTrue (g.S.Store.is_honest l.fn.store) → MoofsFit (length (g.S.Store.file l.fn.store)) next l.room l.fn.steps l.steps;
     }
-
-abbrev pub decreases-loop-top : goal.decreases-loop-top
-decreases-loop-top g l = length (g.S.Store.file l.store) - l.next

@@ -24,4 +24,4 @@ returns-then-is_none-clause-fault c file boxes front taken read seen =
 
 pub returns-clause-noted : goal.returns-clause-noted
 returns-clause-noted c file boxes front taken read seen =
-    rw c.unwrap_or.ensures (seen_fragment file boxes c.args.at c.args.header c.args.seen c.max.result (record { front = front; taken = taken; read = read; room = omega arith }) seen (search rules) (search rules) (search rules) (search rules) (search rules))
+    seen_fragment file boxes c.args.at c.args.header c.args.seen c.max.result (record { front = front; taken = taken; read = read; room = omega arith }) seen (search rules) (search rules) (search rules) (search rules) (search rules)

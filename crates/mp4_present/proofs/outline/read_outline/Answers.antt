@@ -1,10 +1,17 @@
-use Rattle.std.proofs.Common.{rules, ℕ, ◌≤◌, ◌∙◌, List, length, refl, subst, arith}
+use Rattle.std.proofs.Common.{rules, ◌≡◌, ℕ, ◌<◌, ◌≤◌, ◌∙◌, List, [], ◌∷◌, ◌++◌, length, refl, subst, arith}
+use Rattle.mp4_present.specs.declared.reading.TopBox.{TopBox}
 use Rattle.std.proofs.lemmas.Result.{err_from_is_err_and}
+use Rattle.mp4_boxes.proofs.Among.{all_append}
+use Rattle.mp4_present.specs.words.Movies.{IsWhole}
+use Rattle.mp4_present.proofs.Fragmented.{moofs_ended, moofs_more, moofs_other, no_moofs}
 use Rattle.mp4_present.proofs.Outlines.{outlining_none, outlining_more, refuses, no_movie, outlined}
 use Rattle.mp4_present.proofs.outline.read_outline.Goals as goal
 
 pub loop-at-init : goal.loop-at-init
-loop-at-init g c = (refl, refl, refl, (λ _. outlining_none (g.S.Store.file c.args.store.now)), tt)
+loop-at-init g c =
+    let file = g.S.Store.file c.args.store.now in
+    let none : c.new-moofs.result.items ≡ [] = search rules in
+    (refl, refl, refl, (λ _. outlining_none file), tt, (λ _. rw none (no_moofs file 0)), rw none tt)
 
 pub returns-in_err-header-clause-refusal : goal.returns-in_err-header-clause-refusal
 returns-in_err-header-clause-refusal g c =
@@ -18,7 +25,10 @@ loop-at-preserved g c =
     let i = c.loop-at.invariant in
     let e = c.in_ok-header.ensures in
     let file = g.S.Store.file c.args.store.now in
-    let w = e.within in (
+    let w = e.within in
+    let le : c.loop-at.at ≤ c.in_ok-header.header.end = omega (arith, w.0) in
+    let end : c.in_ok-header.header.end ≤ length file = subst (λ (bs : List ℕ). c.in_ok-header.header.end ≤ length bs) i.1 w.2 in
+    let lt : c.loop-at.at < length file = search rules in (
       e.honesty ∙ i.0,
       e.file ∙ i.1,
       e.reads ∙ i.2,
@@ -26,8 +36,34 @@ loop-at-preserved g c =
           let o = i.3 told in
           let read = (rw (i.0, i.1) at e.header) told in
           let seen = c.in_ok-seen.ensures.noted file o.boxes o.front o.taken read o.are_seen in
-          outlining_more file c.loop-at.at c.in_ok-header.header c.in_ok-seen.seen o.boxes o.front o.taken read (omega (arith, w.0)) seen),
-      c.in_ok-seen.ensures.within (length file) (subst (λ (bs : List ℕ). c.in_ok-header.header.end ≤ length bs) i.1 w.2) i.4,
+          outlining_more file c.loop-at.at c.in_ok-header.header c.in_ok-seen.seen o.boxes o.front o.taken read le seen),
+      c.in_ok-seen.ensures.within (length file) end i.4,
+      (λ told. moofs_other file c.loop-at.at c.in_ok-header.header lt ((rw (i.0, i.1) at e.header) told) le (search rules) 0 c.loop-at.moofs.items (i.5 told)),
+      i.6,
+    )
+
+pub loop-at-preserved-in_ok-push : goal.loop-at-preserved-in_ok-push
+loop-at-preserved-in_ok-push g c =
+    let i = c.loop-at.invariant in
+    let e = c.in_ok-header.ensures in
+    let file = g.S.Store.file c.args.store.now in
+    let w = e.within in
+    let le : c.loop-at.at ≤ c.in_ok-header.header.end = omega (arith, w.0) in
+    let end : c.in_ok-header.header.end ≤ length file = subst (λ (bs : List ℕ). c.in_ok-header.header.end ≤ length bs) i.1 w.2 in
+    let lt : c.loop-at.at < length file = search rules in
+    let top : TopBox = record { offset = c.loop-at.at; header = c.in_ok-header.header } in
+    let pushed : c.push.new.self.items ≡ c.loop-at.moofs.items ++ top ∷ [] = search rules in (
+      e.honesty ∙ i.0,
+      e.file ∙ i.1,
+      e.reads ∙ i.2,
+      (λ told.
+          let o = i.3 told in
+          let read = (rw (i.0, i.1) at e.header) told in
+          let seen = c.in_ok-seen.ensures.noted file o.boxes o.front o.taken read o.are_seen in
+          outlining_more file c.loop-at.at c.in_ok-header.header c.in_ok-seen.seen o.boxes o.front o.taken read le seen),
+      c.in_ok-seen.ensures.within (length file) end i.4,
+      (λ told. rw pushed (moofs_more file c.loop-at.at c.in_ok-header.header lt ((rw (i.0, i.1) at e.header) told) le (search rules) 0 c.loop-at.moofs.items (i.5 told))),
+      rw pushed (all_append (IsWhole (length file)) c.loop-at.moofs.items (top ∷ []) i.6 (record { header = w.0; within = end }, tt)),
     )
 
 pub returns-in_default-clause-refusal : goal.returns-in_default-clause-refusal
@@ -36,9 +72,11 @@ returns-in_default-clause-refusal g c told =
 
 pub returns-clause-outline : goal.returns-clause-outline
 returns-clause-outline g c told =
-    let o = c.loop-at.invariant.3 told in
-    let r = outlined (g.S.Store.file c.args.store.now) c.loop-at.at c.loop-at.seen c.in-Some.moov o (search rules) c.in-Some.is in
+    let file = g.S.Store.file c.args.store.now in
+    let i = c.loop-at.invariant in
+    let o = i.3 told in
+    let r = outlined file c.loop-at.at c.loop-at.seen _ o (search rules) c.in-Some.is refl (moofs_ended file c.loop-at.at 0 c.loop-at.moofs.items (search rules) (i.5 told)) in
     (o.boxes, r.0, r.1, r.2)
 
 pub returns-clause-within : goal.returns-clause-within
-returns-clause-within g c = (rw c.in-Some.is at c.loop-at.invariant.4)
+returns-clause-within g c = (rw c.in-Some.is at c.loop-at.invariant.4, c.loop-at.invariant.6)

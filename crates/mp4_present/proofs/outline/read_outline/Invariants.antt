@@ -1,6 +1,8 @@
 use Rattle.std.proofs.Common.{◌≡◌, ◌-◌, length}
 use Rattle.std.specs.Prelude.{IsTrue, IfSome}
 use Rattle.mp4_present.specs.words.Movies.{IsWhole}
+use Rattle.std.specs.List.{AllByRecursion}
+use Rattle.mp4_present.proofs.Fragmented.{AreMoofsUpTo}
 use Rattle.mp4_present.proofs.Outlines.{Outlining}
 use Rattle.mp4_present.proofs.outline.read_outline.Given as goal
 
@@ -12,6 +14,8 @@ invariant-loop-at g l =
     × (g.S.Store.read_failures l.store ≡ g.S.Store.read_failures l.fn.store)
     × (IsTrue (g.S.Store.is_honest l.fn.store) → Outlining (g.S.Store.file l.fn.store) l.at l.seen)
     × IfSome l.seen.moov (IsWhole (length (g.S.Store.file l.fn.store)))
+    × (IsTrue (g.S.Store.is_honest l.fn.store) → AreMoofsUpTo (g.S.Store.file l.fn.store) 0 l.at l.moofs.items)
+    × AllByRecursion (IsWhole (length (g.S.Store.file l.fn.store))) l.moofs.items
 
 abbrev pub decreases-loop-at : goal.decreases-loop-at
 decreases-loop-at g l = l.len - l.at
