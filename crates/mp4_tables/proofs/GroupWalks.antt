@@ -5,7 +5,7 @@ use Rattle.std.specs.List.{AllByRecursion, slice_get}
 use Rattle.std.proofs.lemmas.List.{append-nil, append_assoc}
 use Rattle.mp4_tables.proofs.RowLists.{runs_all, runs_length}
 use Rattle.mp4_boxes.proofs.Among.{all_append, of_kind-split, of_kind-append}
-use Rattle.mp4_tables.specs.format.Groups.{GroupKey, GroupRule, one_of_key, few_keys, index_range, group_counts, grouping_of, groupings_of, keeps, group_test, group_reads}
+use Rattle.mp4_tables.specs.format.Groups.{GroupKey, GroupRule, Grouping, one_of_key, few_keys, index_range, group_counts, grouping_of, groupings_of, keeps, group_test, group_reads}
 use Rattle.mp4_tables.specs.words.Keys.{keys_seen}
 use Rattle.mp4_boxes.specs.format.Bytes.{sum_of}
 use Rattle.mp4_tables.specs.words.Rows.{HaveRoom, runs_at}
@@ -24,6 +24,7 @@ use Rattle.mp4_tables.specs.words.Leaves.{GroupsSo, GroupPassed, SlotTaken, HasT
 use Rattle.mp4_tables.specs.declared.places.RowsAt.{RowsAt}
 use Rattle.mp4_tables.specs.declared.places.GroupsAt.{GroupsAt}
 use Rattle.mp4_tables.proofs.IndexesLeft.{four}
+use Rattle.mp4_tables.proofs.TableRows.{groups_count}
 use Rattle.mp4_tables.proofs.GroupsKept.{found_none, test_at, test_none}
 
 -- ---- lifting to the children of an `stbl`
@@ -211,11 +212,15 @@ slot_counted payload keys [] r u h = absurd (omega (arith, h))
 slot_counted payload [] (s ∷ rows) r u h = let z = none_counted payload s u.0 in omega (arith, z)
 slot_counted payload (k ∷ keys) (s ∷ rows) r u h = let more = slot_counted payload keys rows r u (omega (arith, h)) in omega (arith, more)
 
-pub group_passed : (payload : List ℕ) (n old new : ℕ) (at after : GroupsAt) (r : RowsAt) → SlotTaken (length (keys_seen at.keys)) at r after → length (keys_seen at.keys) < 4 → new ≤ old + 2 * r.count → GroupPassed payload n at after old new
+pub group_passed : (payload : List ℕ) (n old new : ℕ) (at after : GroupsAt) (r : RowsAt) → SlotTaken (length (keys_seen at.keys)) at r after → length (keys_seen at.keys) < 4 → new ≡ old + 2 * r.count → GroupPassed payload n at after old new
 group_passed payload n old new at after r s few h = λ gs so.
     let four = so.have.four in
     let e = ap (λ rows. sum_of (λ (x : RowsAt). x.count) rows) s ∙ slot_counted payload (keys_seen at.keys) at.rows.by_key r so.have.used (omega (arith, four, few)) in
     omega (arith, e, h)
+
+-- no groups have no rows
+pub none_passed : (payload : List ℕ) (n : ℕ) (at : GroupsAt) → GroupsSo payload n [] at → group_count at ≡ 0
+none_passed payload n at so = groups_count payload at so.have.used ∙ ap (λ gs. sum_of (λ (g : Grouping). length g.rows) gs) so.same
 
 -- all rows that were read lie in the payload
 pub rows_bounded : (payload : List ℕ) (at : GroupsAt) → HaveGroups payload at → 2 * group_count at ≤ length payload

@@ -36,7 +36,7 @@ counts_are : (payload : List ℕ) (rows : List RowsAt) → sum_of (λ (r : RowsA
 counts_are payload [] = refl
 counts_are payload (r ∷ rows) = let own = runs_length payload r in let more = counts_are payload rows in omega (arith, own, more)
 
-groups_count : (payload : List ℕ) (at : GroupsAt) → AreUsed (keys_seen at.keys) (group_rows payload at) → group_count at ≡ sum_of (λ (g : Grouping). length g.rows) (groupings_at payload at)
+pub groups_count : (payload : List ℕ) (at : GroupsAt) → AreUsed (keys_seen at.keys) (group_rows payload at) → group_count at ≡ sum_of (λ (g : Grouping). length g.rows) (groupings_at payload at)
 groups_count payload at h = counts_are payload at.rows.by_key ∙ used_rows (keys_seen at.keys) (group_rows payload at) h
 
 pub rows_are : (payload : List ℕ) (at : TablesAt) → HaveTables payload at → rows_in at ≡ table_rows (tables_at payload at)

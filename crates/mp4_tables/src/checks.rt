@@ -3,7 +3,7 @@ ghost use Rattle.std.specs.Prelude.{◌≡◌, ◌+◌, ◌*◌, ◌≤◌, leng
 ghost use Rattle.mp4_boxes.specs.format.Layout.{version};
 ghost use Rattle.mp4_boxes.specs.words.View.{box_seen};
 ghost use Rattle.mp4_tables.specs.words.Leaves.{HasTables, SizesKnown, DurationsRead, OffsetsRead, ChunksRead, ChunkRowsRead, IsOffsetsLeaf, SyncRead, DependenciesRead, SizesRead, PlacesRead, TablesRead, IsFault, NamesFault, AreAccepted, boxes_of};
-ghost use Rattle.mp4_tables.specs.words.Accepted.{offset_rows, count_of, rows_in};
+ghost use Rattle.mp4_tables.specs.words.Accepted.{offset_rows, offset_steps, count_of, rows_in, check_steps};
 
 use crate::chunks::{are_described, are_ordered, chunk_counts_are};
 use crate::data_places::lie_within;
@@ -31,7 +31,7 @@ pub(crate) fn read_durations<L: Ledger>(
     requires sizes { SizesKnown (box_seen stbl) n }
     ensures rows { IfOk result (DurationsRead (box_seen stbl.entry) n) }
     ensures fault { IfErr result (IsFault limits (box_seen stbl.entry)) }
-    ensures passed { IfOk result (λ r. steps.new ≤ steps.old + r.count) }
+    ensures passed { IfOk result (λ r. steps.new ≡ steps.old + r.count) }
     ensures work { 4 * steps.new ≤ 4 * steps.old + length (box_seen stbl.entry).payload }
 {
     let leaf = only_of(stbl, FourCc(*b"stts"));
@@ -63,6 +63,7 @@ pub(crate) fn read_offsets<L: Ledger>(
     ensures fault { IfErr result (IsFault limits (box_seen stbl.entry)) }
     ensures passed { IfOk result (λ o. steps.new ≤ steps.old + 2 * (offset_rows o).count) }
     ensures work { 4 * steps.new ≤ 4 * steps.old + length (box_seen stbl.entry).payload }
+    ensures counted { IfOk result (λ o. steps.new ≡ steps.old + offset_steps o) }
 {
     let Some(leaf) = first_of(stbl, FourCc(*b"ctts")) else {
         return Ok(None);
@@ -137,7 +138,7 @@ pub(crate) fn read_chunk_rows<L: Ledger>(
     ensures fault { IfErr result (NamesFault limits (box_seen stbl.entry)) }
     ensures only { AreAccepted limits (box_seen stbl.entry) (boxes_of (box_seen stbl.entry))
         → IsOk result }
-    ensures passed { IfOk result (λ r. steps.new ≤ steps.old + r.count + 4 * chunks.rows.count) }
+    ensures passed { IfOk result (λ r. steps.new ≡ steps.old + r.count + 4 * chunks.rows.count) }
     ensures work { 4 * steps.new ≤ 4 * steps.old + 5 * length (box_seen stbl.entry).payload }
 {
     let leaf = only_of(stbl, FourCc(*b"stsc"));
@@ -166,7 +167,7 @@ pub(crate) fn read_sync<L: Ledger>(
     requires sizes { SizesKnown (box_seen stbl) n }
     ensures rows { IfOk result (SyncRead (box_seen stbl.entry) n) }
     ensures fault { IfErr result (IsFault limits (box_seen stbl.entry)) }
-    ensures passed { IfOk result (λ o. steps.new ≤ steps.old + count_of o) }
+    ensures passed { IfOk result (λ o. steps.new ≡ steps.old + count_of o) }
     ensures work { 4 * steps.new ≤ 4 * steps.old + length (box_seen stbl.entry).payload }
 {
     let Some(leaf) = first_of(stbl, FourCc(*b"stss")) else {
@@ -220,6 +221,8 @@ pub(crate) fn check_places<L: Ledger>(
     ensures places { IfOk result (λ _. PlacesRead limits (box_seen stbl.entry)) }
     ensures fault { IfErr result (IsFault limits (box_seen stbl.entry)) }
     ensures passed { steps.new ≤ steps.old + 2 * sizes.rows.count + 2 * chunks.rows.count }
+    ensures counted { IfOk result
+        (λ _. steps.new ≡ steps.old + 2 * sizes.rows.count + 2 * chunks.rows.count) }
 {
     if !lie_within(stbl.payload(), sizes, rows, chunks, limits.file_len, steps) {
         return Err(offsets_leaf(stbl).fault(Kind::SampleOutsideFile));
@@ -244,6 +247,7 @@ pub(crate) fn read_tables<L: Ledger>(
         + 4 * length (box_seen stbl.entry).payload + 2 * at.sizes.rows.count) }
     ensures work { steps.new ≤ steps.old + 4 * length (box_seen stbl.entry).payload
         + 2 * limits.room }
+    ensures counted { IfOk result (λ at. steps.new ≡ steps.old + check_steps at) }
 {
     let sizes = read_sizes(stbl, limits)?;
     let n = sizes.rows.count;

@@ -1,5 +1,5 @@
 //! Chunks: which row of `stsc` each has and where its samples lie (ISO/IEC 14496-12, 8.7.4, 8.7.5).
-ghost use Rattle.std.specs.Prelude.{◌≡◌, ℕ, List, ◌+◌, ◌*◌, ◌^◌, ◌<◌, ◌≤◌, ◌∷◌, ◌==◌, map, nat_lt, nat_eq, ◌||◌, true};
+ghost use Rattle.std.specs.Prelude.{◌≡◌, ℕ, List, ◌+◌, ◌*◌, ◌^◌, ◌<◌, ◌≤◌, ◌∷◌, ◌==◌, map, nat_lt, nat_eq, ◌||◌, true, IsTrue};
 ghost use Rattle.mp4_tables.specs.words.Rows.{HaveRoom, chunk_rows_at, offsets_at, offset_width};
 ghost use Rattle.mp4_tables.specs.format.PlainSamples.{in_chunks_total};
 ghost use Rattle.mp4_tables.specs.format.TableRules.{is_chunk_order, is_index};
@@ -60,6 +60,7 @@ pub(crate) fn are_ordered<L: Ledger>(
     ensures same { result ≡ is_chunk_order (map (λ row. row.first) (chunk_rows_at payload.now rows))
         has_chunks }
     ensures cost { steps.new ≤ steps.old + rows.count }
+    ensures counted { IsTrue result → steps.new ≡ steps.old + rows.count }
 {
     if rows.count == 0 {
         return !has_chunks;
@@ -97,6 +98,7 @@ pub(crate) fn chunk_counts_are<L: Ledger>(
         ≡ (in_chunks_total (chunk_rows_at payload.now rows) 1 (offsets_at payload.now chunks) ==
         n) }
     ensures cost { steps.new ≤ steps.old + 2 * chunks.rows.count }
+    ensures counted { IsTrue result → steps.new ≡ steps.old + 2 * chunks.rows.count }
 {
     let mut place = no_row();
     let mut total: u64 = 0;
@@ -130,9 +132,10 @@ pub(crate) fn are_described<L: Ledger>(
     requires offsets { HaveRoom (offset_width chunks.is_wide) payload.now chunks.rows }
     requires ordered { is_chunk_order (map (λ row. row.first) (chunk_rows_at payload.now rows))
         (nat_lt 0 chunks.rows.count) ≡ true }
+    ensures cost { steps.new ≤ steps.old + 2 * chunks.rows.count }
+    ensures counted { IsTrue result → steps.new ≡ steps.old + 2 * chunks.rows.count }
     ensures same { result ≡ described_from descriptions (chunk_rows_at payload.now rows) 1
         (offsets_at payload.now chunks) }
-    ensures cost { steps.new ≤ steps.old + 2 * chunks.rows.count }
 {
     let mut place = no_row();
     for opened in 0..chunks.rows.count {

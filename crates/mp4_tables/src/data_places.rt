@@ -1,5 +1,5 @@
 //! Where the samples lie: all in the file.
-ghost use Rattle.std.specs.Prelude.{◌≡◌, ◌+◌, ◌*◌, ◌≤◌, map, nat_lt, nat_le, true};
+ghost use Rattle.std.specs.Prelude.{◌≡◌, ◌+◌, ◌*◌, ◌≤◌, map, nat_lt, nat_le, true, IsTrue};
 ghost use Rattle.mp4_tables.specs.words.Rows.{HaveRoom, HaveSizes, chunk_rows_at, offsets_at, offset_width, sizes_at};
 ghost use Rattle.mp4_tables.specs.format.PlainSamples.{in_chunks, in_chunks_total};
 ghost use Rattle.mp4_tables.specs.format.TableRules.{is_chunk_order};
@@ -40,6 +40,8 @@ pub(crate) fn lie_within<L: Ledger>(
         (in_chunks (chunk_rows_at payload.now rows) 1 (offsets_at payload.now chunks)
         (sizes_at payload.now sizes)) }
     ensures cost { steps.new ≤ steps.old + 2 * sizes.rows.count + 2 * chunks.rows.count }
+    ensures counted { IsTrue result
+        → steps.new ≡ steps.old + 2 * sizes.rows.count + 2 * chunks.rows.count }
 {
     steps.add(2 * u64::from(chunks.rows.count));
     let mut place = first_chunk(payload, rows, chunks);

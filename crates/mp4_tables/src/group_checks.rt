@@ -148,7 +148,7 @@ pub(crate) fn read_groups<L: Ledger>(
     requires sizes { SizesKnown (box_seen stbl) n }
     ensures groups { IfOk result (GroupsRead (box_seen stbl.entry) n) }
     ensures fault { IfErr result (IsFault limits (box_seen stbl.entry)) }
-    ensures passed { IfOk result (λ groups. steps.new ≤ steps.old + 2 * group_count groups) }
+    ensures passed { IfOk result (λ groups. steps.new ≡ steps.old + 2 * group_count groups) }
     ensures work { 2 * steps.new ≤ 2 * steps.old + 3 * length (box_seen stbl.entry).payload }
 {
     let mut groups = no_groups(stbl.payload(), n);

@@ -28,6 +28,7 @@ fn total_within<L: Ledger>(
     ensures some { IfSome result (λ sum. (sum ≡ total (runs_at payload.now rows)) × (sum ≤ n)) }
     ensures none { IfNone result (n < total (runs_at payload.now rows)) }
     ensures cost { steps.new ≤ steps.old + rows.count }
+    ensures counted { IfSome result (λ _. steps.new ≡ steps.old + rows.count) }
 {
     let mut total: u64 = 0;
     for k in 0..rows.count {
@@ -50,6 +51,7 @@ pub(crate) fn counts_are<L: Ledger>(
     requires { HaveRoom 8 payload.now rows }
     ensures same { result ≡ (total (runs_at payload.now rows) == n) }
     ensures cost { steps.new ≤ steps.old + rows.count }
+    ensures counted { IsTrue result → steps.new ≡ steps.old + rows.count }
 {
     total_within(payload, rows, n, steps) == Some(u64::from(n))
 }
@@ -64,6 +66,7 @@ pub(crate) fn counts_are_within<L: Ledger>(
     requires { HaveRoom 8 payload.now rows }
     ensures same { IsTrue result ↔ (total (runs_at payload.now rows) ≤ n) }
     ensures cost { steps.new ≤ steps.old + rows.count }
+    ensures counted { IsTrue result → steps.new ≡ steps.old + rows.count }
 {
     total_within(payload, rows, n, steps).is_some()
 }
@@ -76,8 +79,9 @@ pub(crate) fn are_below<L: Ledger>(
     steps: &mut Steps<L>,
 ) -> bool
     requires { HaveRoom 8 payload.now rows }
-    ensures same { result ≡ all_below bound (runs_at payload.now rows) }
     ensures cost { steps.new ≤ steps.old + rows.count }
+    ensures counted { IsTrue result → steps.new ≡ steps.old + rows.count }
+    ensures same { result ≡ all_below bound (runs_at payload.now rows) }
 {
     for k in 0..rows.count {
         steps.tick();

@@ -1,5 +1,5 @@
 //! Sync samples: `stss` (ISO/IEC 14496-12, 8.6.2).
-ghost use Rattle.std.specs.Prelude.{◌≡◌, ◌+◌, ◌<◌, ◌≤◌, slice_index, true};
+ghost use Rattle.std.specs.Prelude.{◌≡◌, ◌+◌, ◌<◌, ◌≤◌, slice_index, true, IsTrue};
 ghost use Rattle.mp4_tables.specs.words.Rows.{HaveRoom, numbers_at};
 ghost use Rattle.mp4_tables.specs.format.TableRules.{is_sync_order};
 ghost use Rattle.mp4_tables.specs.words.TablesComing.{IsSyncPlace};
@@ -20,6 +20,7 @@ pub(crate) fn are_numbers<L: Ledger>(
     requires { HaveRoom 4 payload.now rows }
     ensures same { result ≡ is_sync_order n (numbers_at 4 payload.now rows) }
     ensures cost { steps.new ≤ steps.old + rows.count }
+    ensures counted { IsTrue result → steps.new ≡ steps.old + rows.count }
 {
     let mut last = 0;
     for k in 0..rows.count {

@@ -37,7 +37,7 @@ impl<'a> Tables<'a> {
     ghost use Rattle.mp4_tables.specs.words.Keys.{keys_seen};
     ghost use Rattle.mp4_tables.specs.words.Leaves.{HasTables, TablesRead, tables_in, NamesFault, AreAccepted, boxes_of};
     ghost use Rattle.mp4_tables.specs.words.TablesSeen.{tables_seen};
-    ghost use Rattle.mp4_tables.specs.words.Accepted.{IsAccepted, rows_in};
+    ghost use Rattle.mp4_tables.specs.words.Accepted.{IsAccepted, rows_in, check_steps};
 
     /// The tables of an `stbl` with the children of the profile, in a file of so many bytes, for a
     /// track with so many descriptions, where so many samples are still allowed: if each has its
@@ -74,6 +74,7 @@ impl<'a> Tables<'a> {
         ensures within { IfOk result (λ t. steps.new ≤ steps.old
             + 4 * length (box_seen stbl.entry).payload + 2 * t.at.sizes.rows.count) }
         ensures work { steps.new ≤ steps.old + 4 * length (box_seen stbl.entry).payload + 2 * room }
+        ensures counted { IfOk result (λ t. steps.new ≡ steps.old + check_steps t.at) }
     {
         let limits = Limits {
             file_len,
@@ -105,6 +106,8 @@ impl<'a> Tables<'a> {
             ≡ min (sum_of (λ (s : SampleAt). s.size) (samples_of (tables_seen self.now)))
             (2 ^ 64 - 1) }
         ensures work { steps.new ≤ steps.old + self.now.at.durations.count
+            + self.now.at.sizes.rows.count }
+        ensures counted { steps.new ≡ steps.old + self.now.at.durations.count
             + self.now.at.sizes.rows.count }
     {
         Totals {

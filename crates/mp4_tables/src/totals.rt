@@ -1,5 +1,5 @@
 //! What the samples of tables come to together.
-ghost use Rattle.std.specs.Prelude.{ℕ, ◌≡◌, ◌+◌, ◌-◌, ◌*◌, ◌^◌, ◌≤◌, min};
+ghost use Rattle.std.specs.Prelude.{ℕ, ◌≡◌, ◌+◌, ◌-◌, ◌*◌, ◌^◌, min};
 ghost use Rattle.mp4_boxes.specs.format.Bytes.{sum_of};
 ghost use Rattle.mp4_tables.specs.format.Repeated.{repeated};
 ghost use Rattle.mp4_tables.specs.words.Rows.{HaveRoom, HaveSizes, runs_at, sizes_at};
@@ -30,7 +30,7 @@ pub(crate) fn sum_of_values<L: Ledger>(payload: &[u8], rows: RowsAt, steps: &mut
     requires { HaveRoom 8 payload.now rows }
     ensures sum { result ≡ min (sum_of (λ (x : ℕ). x) (repeated (runs_at payload.now rows)))
         (2 ^ 64 - 1) }
-    ensures cost { steps.new ≤ steps.old + rows.count }
+    ensures cost { steps.new ≡ steps.old + rows.count }
 {
     let mut sum: u64 = 0;
     for k in 0..rows.count {
@@ -45,7 +45,7 @@ pub(crate) fn sum_of_values<L: Ledger>(payload: &[u8], rows: RowsAt, steps: &mut
 pub(crate) fn sum_of_sizes<L: Ledger>(payload: &[u8], sizes: SizesAt, steps: &mut Steps<L>) -> u64
     requires { HaveSizes payload.now sizes.form sizes.rows }
     ensures sum { result ≡ min (sum_of (λ (x : ℕ). x) (sizes_at payload.now sizes)) (2 ^ 64 - 1) }
-    ensures cost { steps.new ≤ steps.old + sizes.rows.count }
+    ensures cost { steps.new ≡ steps.old + sizes.rows.count }
 {
     let mut sum: u64 = 0;
     for i in 0..sizes.rows.count {

@@ -208,3 +208,20 @@ group_count at = sum_of (λ (rows : RowsAt). rows.count) at.rows.by_key
 abbrev pub rows_in : TablesAt → ℕ
 rows_in at = at.durations.count + (offset_rows at.offsets).count + at.chunk_rows.count
     + at.chunks.rows.count + count_of at.sync + group_count at.groups
+
+-- rows of offsets are read once to count them, and unsigned ones once more to judge them
+abbrev pub readings : Bool → ℕ → ℕ
+readings true n = n
+readings false n = 2 * n
+
+-- the steps of a check of offsets
+abbrev pub offset_steps : Option OffsetsAt → ℕ
+offset_steps None = 0
+offset_steps (Some at) = readings at.is_signed at.rows.count
+
+-- The steps of a check of all tables: one for each row of `stts`, `stsc` and `stss`, those of
+-- `ctts`, two for each row of an `sbgp` and for each sample, and six for each chunk.
+abbrev pub check_steps : TablesAt → ℕ
+check_steps at = at.durations.count + offset_steps at.offsets + at.chunk_rows.count
+    + 6 * at.chunks.rows.count + count_of at.sync + 2 * group_count at.groups
+    + 2 * at.sizes.rows.count

@@ -249,7 +249,7 @@ pub record GroupNext (payload : List ℕ) (n : ℕ) (at : GroupsAt) (b : Box) (a
 -- behind those that were read, two steps were taken for each row of one more
 abbrev pub GroupPassed : List ℕ → ℕ → GroupsAt → GroupsAt → ℕ → ℕ → Type 0
 GroupPassed payload n at after old new = (gs : List Grouping) → GroupsSo payload n gs at
-    → new + 2 * group_count at ≤ old + 2 * group_count after
+    → new + 2 * group_count at ≡ old + 2 * group_count after
 
 -- a child that is no `sbgp`, and if it is an `sgpd`, a sound one
 pub record OtherChild (at : GroupsAt) (b : Box) (after : GroupsAt) : Type 0 where

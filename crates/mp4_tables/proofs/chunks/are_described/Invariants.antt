@@ -9,5 +9,5 @@ invariant-loop-opened g l = record {
   same : are_described l.descriptions (chunk_rows_at l.payload l.rows) 1 (offsets_at l.payload l.fn.chunks) ≡ are_described l.descriptions (chunk_rows_at l.payload l.rows) (l.opened + 1) (drop l.opened (offsets_at l.payload l.fn.chunks));
   row : l.opened < l.fn.chunks.rows.count → IsRowPlace (chunk_rows_at l.payload l.rows) l.opened l.place;
   within : l.place.row ≤ l.rows.count;
-  cost : l.steps ≤ l.fn.steps + 2 * l.opened;
+  cost : l.steps ≡ l.fn.steps + 2 * l.opened;
 }

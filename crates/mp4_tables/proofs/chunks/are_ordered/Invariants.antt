@@ -1,4 +1,4 @@
-use Rattle.std.proofs.Common.{◌≡◌, ◌+◌, ◌≤◌, drop, map}
+use Rattle.std.proofs.Common.{◌≡◌, ◌+◌, drop, map}
 use Rattle.mp4_tables.specs.format.Tables.{ChunkRow}
 use Rattle.mp4_tables.specs.words.Rows.{chunk_rows_at}
 use Rattle.mp4_tables.specs.format.TableRules.{is_chunk_order, is_rising_after}
@@ -8,5 +8,5 @@ use Rattle.mp4_tables.proofs.chunks.are_ordered.Given as goal
 abbrev pub invariant-loop-k : goal.invariant-loop-k
 invariant-loop-k g l = record {
   same : is_chunk_order (map (λ (row : ChunkRow). row.first) (chunk_rows_at l.payload l.rows)) l.fn.has_chunks ≡ is_rising_after l.last (map (λ (row : ChunkRow). row.first) (drop l.k (chunk_rows_at l.payload l.rows)));
-  cost : l.steps ≤ l.fn.steps + l.k;
+  cost : l.steps ≡ l.fn.steps + l.k;
 }

@@ -11,5 +11,5 @@ invariant-loop-opened g l = record {
   few : l.total ≤ l.n;
   row : l.opened < l.fn.chunks.rows.count → IsRowPlace (chunk_rows_at l.payload l.rows) l.opened l.place;
   within : l.place.row ≤ l.rows.count;
-  cost : l.steps ≤ l.fn.steps + 2 * l.opened;
+  cost : l.steps ≡ l.fn.steps + 2 * l.opened;
 }

@@ -1,8 +1,14 @@
-use Rattle.std.proofs.Common.{arith}
+use Rattle.std.proofs.Common.{arith, ◌∙◌}
 use Rattle.std.proofs.lemmas.Result.{err_from_is_err_and}
 use Rattle.mp4_boxes.specs.words.View.{box_seen}
-use Rattle.mp4_tables.proofs.GroupWalks.{next_child, passed_next, child_fault, rows_bounded}
+use Rattle.mp4_tables.proofs.GroupWalks.{next_child, passed_first, passed_next, child_fault, rows_bounded, none_passed}
 use Rattle.mp4_tables.proofs.group_checks.read_groups.Goals as goal
+
+pub loop-child-init : goal.loop-child-init
+loop-child-init g c =
+    let so = rw c.payload.ensures at c.no_groups-groups.ensures in
+    let none = none_passed (box_seen c.args.stbl).payload c.args.n c.no_groups-groups.result so in
+    (tt, tt, passed_first (box_seen c.args.stbl) c.args.n c.no_groups-groups.result _ so (c.into_iter-child-iterator.ensures.into_iter_gives ∙ c.children_of-child-items.ensures), omega (arith, none))
 
 pub read_child-requires-clause-child : goal.read_child-requires-clause-child
 read_child-requires-clause-child g c = next_child (box_seen c.args.stbl) (box_seen c.in-Some.child) c.args.n c.loop-child.groups c.loop-child.child-iterator c.next.new.self c.loop-child.invariant.2 c.in-Some.ensures.steps

@@ -41,6 +41,6 @@ returns-clause-passed g c =
     let e = c.count.ensures.is in
     let t = c.if-count-eq4.false in
     let f = c.count.ensures.few in
-    let a = c.are_below.ensures.cost in
-    let b = c.counts_are_within.ensures.cost in
+    let a = c.are_below.ensures.counted c.if-not-are_below.false in
+    let b = c.counts_are_within.ensures.counted c.if-not-counts_are_within.false in
     group_passed (box_seen c.args.stbl).payload c.args.n c.args.steps.now c.counts_are_within.new.steps c.args.groups c.add_group.result c.in_ok-key.rows c.add_group.ensures.slot (omega arith) (omega arith)

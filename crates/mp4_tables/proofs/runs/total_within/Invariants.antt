@@ -8,5 +8,5 @@ abbrev pub invariant-loop-k : goal.invariant-loop-k
 invariant-loop-k g l = record {
   whole : l.total + total (drop l.k (runs_at l.payload l.rows)) ≡ total (runs_at l.payload l.rows);
   few : l.total ≤ l.n;
-  cost : l.steps ≤ l.fn.steps + l.k;
+  cost : l.steps ≡ l.fn.steps + l.k;
 }

@@ -1,4 +1,4 @@
-use Rattle.std.proofs.Common.{◌≡◌, ◌+◌, ◌≤◌, drop}
+use Rattle.std.proofs.Common.{◌≡◌, ◌+◌, drop}
 use Rattle.mp4_tables.specs.words.Rows.{numbers_at}
 use Rattle.mp4_tables.specs.format.TableRules.{is_sync_order}
 use Rattle.mp4_tables.proofs.SyncLists.{in_order}
@@ -8,5 +8,5 @@ use Rattle.mp4_tables.proofs.sync_samples.are_numbers.Given as goal
 abbrev pub invariant-loop-k : goal.invariant-loop-k
 invariant-loop-k g l = record {
   same : is_sync_order l.n (numbers_at 4 l.payload l.rows) ≡ in_order l.n l.last (drop l.k (numbers_at 4 l.payload l.rows));
-  cost : l.steps ≤ l.fn.steps + l.k;
+  cost : l.steps ≡ l.fn.steps + l.k;
 }
