@@ -64,6 +64,7 @@ fn count_samples<L: Ledger>(payload: &[u8], group: Group, steps: &mut Steps<L>) 
         ≡ list_all (λ run. nat_le run.1 max_index) (group_runs payload.now group) }
     ensures total { IfSome result (λ n. n ≡ total_of (group_runs payload.now group)) }
     ensures cost { steps.new ≤ steps.old + group.count }
+    ensures counted { IfSome result (λ n. steps.new ≡ steps.old + group.count) }
 {
     let mut total: u64 = 0;
     for k in 0..group.count {
@@ -93,6 +94,7 @@ pub(crate) fn check_group<L: Ledger>(
         (λ first before. IsGroupFault n first before payload.now kind)) }
     ensures cost { steps.new ≤ steps.old + row_count sbgp payload.now }
     ensures work { 8 * steps.new ≤ 8 * steps.old + length payload.now }
+    ensures counted { OnOk result (steps.new ≡ steps.old + row_count sbgp payload.now) }
 {
     let group = read_group(payload)?;
     name(group.key, keys, named)?;

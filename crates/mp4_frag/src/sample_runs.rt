@@ -115,6 +115,7 @@ fn pass_samples<L: Ledger>(
     ensures sums { AreBounded run.count result.duration result.bytes }
     ensures near { IsNear result.end }
     ensures cost { steps.new ≤ steps.old + run.count }
+    ensures counted { result.are_within ≡ true → steps.new ≡ steps.old + run.count }
 {
     let mut samples = Samples {
         end: at,
@@ -172,6 +173,7 @@ pub(crate) fn check_run<L: Ledger>(
         (IsRunFault judged.file_len judged.inherited judged.base passed.at room.old payload.now) }
     ensures cost { IfOk result (λ p. steps.new + passed.count ≤ steps.old + p.count) }
     ensures work { steps.new ≤ steps.old + room.old }
+    ensures counted { IfOk result (λ p. steps.new + passed.count ≡ steps.old + p.count) }
 {
     let run = read_run(payload)?;
     if run.count > *room {

@@ -11,5 +11,5 @@ invariant-loop-k g l = record {
   indexes : list_all (λ run. nat_le run.1 max_index) (group_runs l.payload l.group) ≡ list_all (λ run. nat_le run.1 max_index) (drop l.k (group_runs l.payload l.group));
   whole : l.total + total (drop l.k (group_runs l.payload l.group)) ≡ total (group_runs l.payload l.group);
   few : l.total ≤ 2 ^ 32 * l.k;
-  cost : l.steps ≤ l.fn.steps + l.k;
+  cost : l.steps ≡ l.fn.steps + l.k;
 }

@@ -15,5 +15,5 @@ invariant-loop-k g l = record {
   near : IsNear l.samples.end;
   short : l.samples.duration ≤ 2 ^ 32 * l.k;
   small : l.samples.bytes ≤ 2 ^ 32 * l.k;
-  cost : l.steps ≤ l.fn.steps + l.k;
+  cost : l.steps ≡ l.fn.steps + l.k;
 }
