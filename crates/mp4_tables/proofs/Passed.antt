@@ -1,7 +1,7 @@
--- How many rows and samples a walk passes, and how many rows fit the bytes of an `stbl`.
+-- How many rows and samples a walk passes, how many rows fit the bytes of an `stbl`, and between what the steps of a check lie.
 use Rattle.std.proofs.Common.{ℕ, ◌+◌, ◌*◌, ◌≤◌, List, length, Bool, true, false, Option, Some, None, arith}
 use Rattle.mp4_tables.specs.words.Rows.{HaveRoom, runs_at, offset_width}
-use Rattle.mp4_tables.specs.words.Accepted.{offset_rows, count_of, rows_in, passed, HaveOffsets, HaveSync, HaveTables, IsPlace, IsSyncPlaceIn, IsRunPlaceAt}
+use Rattle.mp4_tables.specs.words.Accepted.{offset_rows, count_of, rows_in, readings, offset_steps, check_steps, passed, HaveOffsets, HaveSync, HaveTables, IsPlace, IsSyncPlaceIn, IsRunPlaceAt}
 use Rattle.mp4_tables.specs.declared.places.RowsAt.{RowsAt}
 use Rattle.mp4_tables.specs.declared.places.OffsetsAt.{OffsetsAt}
 use Rattle.mp4_tables.specs.declared.places.RunPlace.{RunPlace}
@@ -56,3 +56,15 @@ rows_fit payload at h =
     let sync = sync_bounded payload at.sync h.sync in
     let groups = rows_bounded payload at.groups h.groups in
     omega arith
+
+once_or_twice : (is_signed : Bool) (n : ℕ) → (n ≤ readings is_signed n) × (readings is_signed n ≤ 2 * n)
+once_or_twice true n = (omega arith, omega arith)
+once_or_twice false n = (omega arith, omega arith)
+
+offsets_between : (o : Option OffsetsAt) → ((offset_rows o).count ≤ offset_steps o) × (offset_steps o ≤ 2 * (offset_rows o).count)
+offsets_between None = (omega arith, omega arith)
+offsets_between (Some at) = once_or_twice at.is_signed at.rows.count
+
+-- a check takes at least one step for each row and two for each sample, and at most six and two
+pub steps_between : (at : TablesAt) → (rows_in at + 2 * at.sizes.rows.count ≤ check_steps at) × (check_steps at ≤ 6 * rows_in at + 2 * at.sizes.rows.count)
+steps_between at = let offsets = offsets_between at.offsets in (omega arith, omega arith)

@@ -42,7 +42,9 @@ impl<'a> Tables<'a> {
     /// The tables of an `stbl` with the children of the profile, in a file of so many bytes, for a
     /// track with so many descriptions, where so many samples are still allowed: if each has its
     /// shape and they agree with each other and are in range; else what is wrong with them first.
-    /// `keys` becomes the keys that the tables name.
+    /// `keys` becomes the keys that the tables name. The steps of tables that it accepts are one
+    /// for each row of `stts`, `stsc`, `stss` and a signed `ctts`, two for each row of an unsigned
+    /// `ctts` and of an `sbgp`, six for each chunk and two for each sample, no more and no fewer.
     pub fn check<L: Ledger>(
         stbl: BoxView<'a>,
         file_len: u64,
@@ -97,7 +99,8 @@ impl<'a> Tables<'a> {
         self.at.sizes.rows.count
     }
 
-    /// What the samples come to together. It passes each row of `stts` once, and each size.
+    /// What the samples come to together. It passes each row of `stts` once, and each size, a step
+    /// each.
     pub fn totals<L: Ledger>(&self, steps: &mut Steps<L>) -> Totals
         ensures duration { result.duration
             ≡ min (sum_of (λ (s : SampleAt). s.duration) (samples_of (tables_seen self.now)))
