@@ -30,3 +30,4 @@ pub mod Placed
 pub mod Vectors
 pub mod TableRows
 pub mod Sums
+pub mod Fronts

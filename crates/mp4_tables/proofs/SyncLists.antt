@@ -111,7 +111,7 @@ sync_first named n next e is = record {
 abbrev pub in_order : ℕ → ℕ → List ℕ → Bool
 in_order n low ns = is_rising_after low ns && list_all (λ i. nat_le i n) ns
 
-swap : (a b c d : Bool) → ((a && b) && (c && d)) ≡ ((a && c) && (b && d))
+pub swap : (a b c d : Bool) → ((a && b) && (c && d)) ≡ ((a && c) && (b && d))
 swap true b true d = refl
 swap true true false d = refl
 swap true false false d = refl

@@ -8,3 +8,4 @@ pub mod Leaves
 pub mod ChunkPlaces
 pub mod Indexes
 pub mod GroupBoxes
+pub mod Stops

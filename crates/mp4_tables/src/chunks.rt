@@ -1,9 +1,10 @@
 //! Chunks: which row of `stsc` each has and where its samples lie (ISO/IEC 14496-12, 8.7.4, 8.7.5).
-ghost use Rattle.std.specs.Prelude.{◌≡◌, ℕ, List, ◌+◌, ◌*◌, ◌^◌, ◌<◌, ◌≤◌, ◌∷◌, ◌==◌, map, nat_lt, nat_eq, ◌||◌, true, IsTrue};
+ghost use Rattle.std.specs.Prelude.{◌≡◌, ℕ, List, ◌+◌, ◌*◌, ◌^◌, ◌<◌, ◌≤◌, ◌∷◌, ◌==◌, map, nat_lt, nat_eq, ◌||◌, ◌⊎◌, true, false, IsTrue};
 ghost use Rattle.mp4_tables.specs.words.Rows.{HaveRoom, chunk_rows_at, offsets_at, offset_width};
 ghost use Rattle.mp4_tables.specs.format.PlainSamples.{in_chunks_total};
 ghost use Rattle.mp4_tables.specs.format.TableRules.{is_chunk_order, is_index};
 ghost use Rattle.mp4_tables.specs.words.ChunkPlaces.{LiesInChunks};
+ghost use Rattle.mp4_tables.specs.words.Stops.{StopsIn};
 ghost use Rattle.mp4_tables.specs.words.TablesComing.{IsRowPlace, spots_coming, no_spots, next_spot, IsChunkPlace};
 ghost use Rattle.mp4_tables.specs.words.TablesComing.{are_described as described_from};
 
@@ -61,6 +62,10 @@ pub(crate) fn are_ordered<L: Ledger>(
         has_chunks }
     ensures cost { steps.new ≤ steps.old + rows.count }
     ensures counted { IsTrue result → steps.new ≡ steps.old + rows.count }
+    ensures stopped { result ≡ false
+        → StopsIn 1 steps.old steps.new
+        (λ front. is_chunk_order (map (λ row. row.first) front) has_chunks ≡ false)
+        (chunk_rows_at payload.now rows) }
 {
     if rows.count == 0 {
         return !has_chunks;
@@ -99,6 +104,10 @@ pub(crate) fn chunk_counts_are<L: Ledger>(
         n) }
     ensures cost { steps.new ≤ steps.old + 2 * chunks.rows.count }
     ensures counted { IsTrue result → steps.new ≡ steps.old + 2 * chunks.rows.count }
+    ensures stopped { result ≡ false → (steps.new ≡ steps.old + 2 * chunks.rows.count)
+        ⊎ StopsIn 2 steps.old steps.new
+        (λ front. n < in_chunks_total (chunk_rows_at payload.now rows) 1 front)
+        (offsets_at payload.now chunks) }
 {
     let mut place = no_row();
     let mut total: u64 = 0;
@@ -134,6 +143,9 @@ pub(crate) fn are_described<L: Ledger>(
         (nat_lt 0 chunks.rows.count) ≡ true }
     ensures cost { steps.new ≤ steps.old + 2 * chunks.rows.count }
     ensures counted { IsTrue result → steps.new ≡ steps.old + 2 * chunks.rows.count }
+    ensures stopped { result ≡ false → StopsIn 2 steps.old steps.new
+        (λ front. described_from descriptions (chunk_rows_at payload.now rows) 1 front ≡ false)
+        (offsets_at payload.now chunks) }
     ensures same { result ≡ described_from descriptions (chunk_rows_at payload.now rows) 1
         (offsets_at payload.now chunks) }
 {

@@ -1,9 +1,10 @@
 //! Where the samples lie: all in the file.
-ghost use Rattle.std.specs.Prelude.{◌≡◌, ◌+◌, ◌*◌, ◌≤◌, map, nat_lt, nat_le, true, IsTrue};
+ghost use Rattle.std.specs.Prelude.{◌≡◌, ◌+◌, ◌*◌, ◌≤◌, map, nat_lt, nat_le, true, false, IsTrue};
 ghost use Rattle.mp4_tables.specs.words.Rows.{HaveRoom, HaveSizes, chunk_rows_at, offsets_at, offset_width, sizes_at};
 ghost use Rattle.mp4_tables.specs.format.PlainSamples.{in_chunks, in_chunks_total};
 ghost use Rattle.mp4_tables.specs.format.TableRules.{is_chunk_order};
 ghost use Rattle.mp4_tables.specs.words.TablesComing.{all_lie_within};
+ghost use Rattle.mp4_tables.specs.words.Stops.{StopsIn};
 
 use crate::chunks::{first_chunk, pass_sample};
 use crate::places::{ChunksAt, RowsAt, SizesAt};
@@ -42,6 +43,11 @@ pub(crate) fn lie_within<L: Ledger>(
     ensures cost { steps.new ≤ steps.old + 2 * sizes.rows.count + 2 * chunks.rows.count }
     ensures counted { IsTrue result
         → steps.new ≡ steps.old + 2 * sizes.rows.count + 2 * chunks.rows.count }
+    ensures stopped { result ≡ false
+        → StopsIn 2 (steps.old + 2 * chunks.rows.count) steps.new
+        (λ front. all_lie_within file_len front ≡ false)
+        (in_chunks (chunk_rows_at payload.now rows) 1 (offsets_at payload.now chunks)
+        (sizes_at payload.now sizes)) }
 {
     steps.add(2 * u64::from(chunks.rows.count));
     let mut place = first_chunk(payload, rows, chunks);

@@ -1,8 +1,9 @@
 //! Rows that repeat a value: `stts`, `ctts` and `sbgp` (ISO/IEC 14496-12, 8.6.1, 8.9.2).
-ghost use Rattle.std.specs.Prelude.{◌≡◌, ◌+◌, ◌<◌, ◌≤◌, ◌∷◌, ◌==◌, ◌↔◌, IsTrue, IfSome, IfNone, []};
+ghost use Rattle.std.specs.Prelude.{◌≡◌, ◌+◌, ◌<◌, ◌≤◌, ◌∷◌, ◌==◌, ◌↔◌, IsTrue, IfSome, IfNone, ◌⊎◌, false, []};
 ghost use Rattle.mp4_tables.specs.format.Repeated.{total};
 ghost use Rattle.mp4_tables.specs.words.Rows.{HaveRoom, runs_at};
 ghost use Rattle.mp4_tables.specs.words.TablesComing.{coming, all_below};
+ghost use Rattle.mp4_tables.specs.words.Stops.{StopsIn};
 
 use crate::places::{RowsAt, RunPlace};
 use crate::table_rows::run_at;
@@ -29,6 +30,8 @@ fn total_within<L: Ledger>(
     ensures none { IfNone result (n < total (runs_at payload.now rows)) }
     ensures cost { steps.new ≤ steps.old + rows.count }
     ensures counted { IfSome result (λ _. steps.new ≡ steps.old + rows.count) }
+    ensures stopped { IfNone result
+        (StopsIn 1 steps.old steps.new (λ front. n < total front) (runs_at payload.now rows)) }
 {
     let mut total: u64 = 0;
     for k in 0..rows.count {
@@ -52,6 +55,8 @@ pub(crate) fn counts_are<L: Ledger>(
     ensures same { result ≡ (total (runs_at payload.now rows) == n) }
     ensures cost { steps.new ≤ steps.old + rows.count }
     ensures counted { IsTrue result → steps.new ≡ steps.old + rows.count }
+    ensures stopped { result ≡ false → (steps.new ≡ steps.old + rows.count)
+        ⊎ StopsIn 1 steps.old steps.new (λ front. n < total front) (runs_at payload.now rows) }
 {
     total_within(payload, rows, n, steps) == Some(u64::from(n))
 }
@@ -67,6 +72,8 @@ pub(crate) fn counts_are_within<L: Ledger>(
     ensures same { IsTrue result ↔ (total (runs_at payload.now rows) ≤ n) }
     ensures cost { steps.new ≤ steps.old + rows.count }
     ensures counted { IsTrue result → steps.new ≡ steps.old + rows.count }
+    ensures stopped { result ≡ false
+        → StopsIn 1 steps.old steps.new (λ front. n < total front) (runs_at payload.now rows) }
 {
     total_within(payload, rows, n, steps).is_some()
 }
@@ -81,6 +88,9 @@ pub(crate) fn are_below<L: Ledger>(
     requires { HaveRoom 8 payload.now rows }
     ensures cost { steps.new ≤ steps.old + rows.count }
     ensures counted { IsTrue result → steps.new ≡ steps.old + rows.count }
+    ensures stopped { result ≡ false
+        → StopsIn 1 steps.old steps.new (λ front. all_below bound front ≡ false)
+        (runs_at payload.now rows) }
     ensures same { result ≡ all_below bound (runs_at payload.now rows) }
 {
     for k in 0..rows.count {

@@ -1,8 +1,9 @@
 //! Sync samples: `stss` (ISO/IEC 14496-12, 8.6.2).
-ghost use Rattle.std.specs.Prelude.{◌≡◌, ◌+◌, ◌<◌, ◌≤◌, slice_index, true, IsTrue};
+ghost use Rattle.std.specs.Prelude.{◌≡◌, ◌+◌, ◌<◌, ◌≤◌, slice_index, true, false, IsTrue};
 ghost use Rattle.mp4_tables.specs.words.Rows.{HaveRoom, numbers_at};
 ghost use Rattle.mp4_tables.specs.format.TableRules.{is_sync_order};
 ghost use Rattle.mp4_tables.specs.words.TablesComing.{IsSyncPlace};
+ghost use Rattle.mp4_tables.specs.words.Stops.{StopsIn};
 
 use crate::places::{RowsAt, SyncPlace};
 use crate::table_rows::number_at;
@@ -21,6 +22,9 @@ pub(crate) fn are_numbers<L: Ledger>(
     ensures same { result ≡ is_sync_order n (numbers_at 4 payload.now rows) }
     ensures cost { steps.new ≤ steps.old + rows.count }
     ensures counted { IsTrue result → steps.new ≡ steps.old + rows.count }
+    ensures stopped { result ≡ false
+        → StopsIn 1 steps.old steps.new (λ front. is_sync_order n front ≡ false)
+        (numbers_at 4 payload.now rows) }
 {
     let mut last = 0;
     for k in 0..rows.count {
