@@ -52,9 +52,9 @@ runs_said (b ∷ runs) = let others = runs_said runs in omega (arith, others)
 -- one step for each run, and one for each of their samples
 pub record RunsCost (all left : List Box) (first steps count : ℕ) : Type 0 where
   pub most : steps + length left ≤ first + count + length all
-  pub said : steps + runs_among left ≤ first + count + runs_among all
+  pub said : steps + runs_among left ≡ first + count + runs_among all
 
-pub runs_cost_run : (all left later : List Box) (b : Box) (first steps more count longer : ℕ) → RunsCost all left first steps count → left ≡ b ∷ later → bytes_eq b.kind (codes "trun") ≡ true → more + count ≤ steps + 1 + longer → RunsCost all later first more longer
+pub runs_cost_run : (all left later : List Box) (b : Box) (first steps more count longer : ℕ) → RunsCost all left first steps count → left ≡ b ∷ later → bytes_eq b.kind (codes "trun") ≡ true → more + count ≡ steps + 1 + longer → RunsCost all later first more longer
 runs_cost_run all left later b first steps more count longer h e is_run k =
     let most = h.most in
     let said = h.said in
@@ -67,10 +67,10 @@ runs_fit all boxes kind base payload same t =
     omega (arith, eight, fit, ap (λ (bs : List Box). length bs) same)
 
 -- behind the last box
-pub runs_cost_said : (all left boxes : List Box) (first steps count : ℕ) → RunsCost all left first steps count → all ≡ boxes → steps ≤ first + length (map (λ (b : Box). run_of b.payload) (of_kind (codes "trun") boxes)) + count
-runs_cost_said all left boxes first steps count h same =
+pub runs_cost_said : (all left boxes : List Box) (first steps count : ℕ) → RunsCost all left first steps count → left ≡ [] → all ≡ boxes → steps ≡ first + length (map (λ (b : Box). run_of b.payload) (of_kind (codes "trun") boxes)) + count
+runs_cost_said all left boxes first steps count h none same =
     let said = h.said in
-    omega (arith, said, ap runs_among same, runs_said (of_kind (codes "trun") boxes))
+    omega (arith, said, ap runs_among none, ap runs_among same, runs_said (of_kind (codes "trun") boxes))
 
 pub runs_cost_ended : (all left boxes : List Box) (kind : List ℕ) (base : ℕ) (payload bytes : List ℕ) (first steps count : ℕ) → RunsCost all left first steps count → all ≡ boxes → Tiles (bytes_container kind base payload) boxes → payload ≡ bytes
     → 8 * steps ≤ 8 * first + length bytes + 8 * count
@@ -105,13 +105,13 @@ rows_said (b ∷ groups) =
 -- a step for each row, which takes 8 bytes
 pub record GroupsCost (all left : List Box) (first steps : ℕ) : Type 0 where
   pub most : 8 * steps + sizes left ≤ 8 * first + sizes all
-  pub said : steps + rows_among left ≤ first + rows_among all
+  pub said : steps + rows_among left ≡ first + rows_among all
 
 pub groups_cost_none : (all : List Box) (steps : ℕ) → GroupsCost all all steps steps
 groups_cost_none all steps = record { most = omega arith; said = omega arith }
 
 pub groups_cost_more : (all left later : List Box) (b : Box) (payload : List ℕ) (first steps more : ℕ) → GroupsCost all left first steps → left ≡ b ∷ later → bytes_eq b.kind (codes "sbgp") ≡ true → payload ≡ b.payload
-    → more ≤ steps + row_count sbgp payload → 8 * more ≤ 8 * steps + length payload → GroupsCost all later first more
+    → more ≡ steps + row_count sbgp payload → 8 * more ≤ 8 * steps + length payload → GroupsCost all later first more
 groups_cost_more all left later b payload first steps more h e is_group p k l =
     let most = h.most in
     let said = h.said in
@@ -120,11 +120,11 @@ groups_cost_more all left later b payload first steps more h e is_group p k l =
       said = omega (arith, said, sum_one (codes "sbgp") (λ (c : Box). row_count sbgp c.payload) left later b e is_group, k, ap (row_count sbgp) p);
     }
 
--- behind the last box, or an `sbgp` that is refused
-pub groups_cost_said : (all left boxes : List Box) (first steps : ℕ) → GroupsCost all left first steps → all ≡ boxes → steps ≤ first + group_rows (groupings_of (of_kind (codes "sbgp") boxes))
-groups_cost_said all left boxes first steps h same =
+-- behind the last box
+pub groups_cost_said : (all left boxes : List Box) (first steps : ℕ) → GroupsCost all left first steps → left ≡ [] → all ≡ boxes → steps ≡ first + group_rows (groupings_of (of_kind (codes "sbgp") boxes))
+groups_cost_said all left boxes first steps h none same =
     let said = h.said in
-    omega (arith, said, ap rows_among same, rows_said (of_kind (codes "sbgp") boxes))
+    omega (arith, said, ap rows_among none, ap rows_among same, rows_said (of_kind (codes "sbgp") boxes))
 
 -- ---- the `traf`s of a `moof`
 

@@ -131,6 +131,8 @@ fn check_runs<L: Ledger>(
         + length (box_seen traf.entry).payload + 8 * p.count) }
     ensures work { 8 * steps.new ≤ 8 * steps.old + length (box_seen traf.entry).payload
         + 8 * room.old }
+    ensures counted { IfOk result (λ p. steps.new ≡ steps.old
+        + length (traf_in (box_seen traf.entry)).runs + p.count) }
 {
     let mut passed = Passed {
         at: judged.base,
@@ -166,6 +168,8 @@ fn check_groups<L: Ledger>(
     ensures cost { IfOk result (λ k. steps.new ≤ steps.old
         + group_rows (traf_in (box_seen traf.entry)).groups) }
     ensures work { 8 * steps.new ≤ 8 * steps.old + length (box_seen traf.entry).payload }
+    ensures counted { IfOk result (λ k. steps.new ≡ steps.old
+        + group_rows (traf_in (box_seen traf.entry)).groups) }
 {
     let mut keys = keys;
     let mut named = [false; 4];

@@ -19,7 +19,7 @@ loop-child-preserved-in_default g c = (
   tt,
   groups_more c.args.n (keys_seen c.args.keys) _ _ _ (box_seen c.in-Some.child) _ _ _ _ c.loop-child.invariant.2 c.in-Some.ensures.steps (rw c.kind-in-loop-child.ensures at (sym c.if-eq.ensures))
       (rw c.payload-then-eq.ensures at c.in_default.ensures.sound) (rw c.payload-then-eq.ensures at c.in_default.ensures.named),
-  groups_cost_more _ _ _ (box_seen c.in-Some.child) _ _ _ _ c.loop-child.invariant.3 c.in-Some.ensures.steps (rw c.kind-in-loop-child.ensures at (sym c.if-eq.ensures)) c.payload-then-eq.ensures c.in_default.ensures.cost c.in_default.ensures.work,
+  groups_cost_more _ _ _ (box_seen c.in-Some.child) _ _ _ _ c.loop-child.invariant.3 c.in-Some.ensures.steps (rw c.kind-in-loop-child.ensures at (sym c.if-eq.ensures)) c.payload-then-eq.ensures c.in_default.ensures.counted c.in_default.ensures.work,
 )
 
 pub returns-clause-sound : goal.returns-clause-sound
@@ -32,7 +32,10 @@ returns-clause-keys g c =
     let all = all_children (box_seen c.args.traf) _ _ _ _ c.payload.ensures c.payload_offset.ensures c.in_ok-child-items.ensures.tiles in
     groups_keys _ _ _ _ _ _ _ c.loop-child.invariant.2 c.in-None.ensures.steps.0 (c.into_iter-child-iterator.ensures.into_iter_gives ∙ all)
 
-pub returns-clause-cost : goal.returns-clause-cost
-returns-clause-cost g c =
+pub returns-clause-counted : goal.returns-clause-counted
+returns-clause-counted g c =
     let all = all_children (box_seen c.args.traf) _ _ _ _ c.payload.ensures c.payload_offset.ensures c.in_ok-child-items.ensures.tiles in
-    groups_cost_said _ _ _ _ _ c.loop-child.invariant.3 (c.into_iter-child-iterator.ensures.into_iter_gives ∙ all)
+    groups_cost_said _ _ _ _ _ c.loop-child.invariant.3 c.in-None.ensures.steps.0 (c.into_iter-child-iterator.ensures.into_iter_gives ∙ all)
+
+pub returns-clause-cost : goal.returns-clause-cost
+returns-clause-cost g c = let counted = returns-clause-counted g c in omega (arith, counted)

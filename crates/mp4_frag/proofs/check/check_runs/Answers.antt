@@ -1,4 +1,4 @@
-use Rattle.std.proofs.Common.{◌∙◌, sym, rules}
+use Rattle.std.proofs.Common.{◌∙◌, sym, rules, arith}
 use Rattle.mp4_boxes.specs.words.View.{box_seen}
 use Rattle.mp4_frag.proofs.Costs.{runs_cost_run, runs_cost_said, runs_cost_ended, runs_work_ended, runs_cost_fault}
 use Rattle.mp4_frag.proofs.RunsPassed.{all_children, seen_run, runs_sound, runs_ended}
@@ -14,7 +14,7 @@ loop-child-preserved-then-eq g c =
       r.passed,
       (λ n big base. r.bound n big base (i.4 n big base)),
       seen_run _ _ _ _ _ _ (box_seen c.in-Some.child) _ _ _ _ _ _ _ _ _ _ _ i.5 c.in-Some.ensures.steps (rw c.kind-in-loop-child.ensures at (sym c.if-eq.ensures)) (rw c.payload-then-eq.ensures at r.run.run) r.run.count r.run.duration r.run.bytes r.run.taken,
-      runs_cost_run _ _ _ (box_seen c.in-Some.child) _ _ _ _ _ i.6 c.in-Some.ensures.steps (rw c.kind-in-loop-child.ensures at (sym c.if-eq.ensures)) (rw c.tick.ensures.one_more at r.cost),
+      runs_cost_run _ _ _ (box_seen c.in-Some.child) _ _ _ _ _ i.6 c.in-Some.ensures.steps (rw c.kind-in-loop-child.ensures at (sym c.if-eq.ensures)) (let more = r.counted in omega (arith, more)),
     )
 
 pub returns-clause-runs : goal.returns-clause-runs
@@ -29,10 +29,13 @@ returns-clause-runs g c =
       filling = ended.3;
     }
 
-pub returns-clause-cost : goal.returns-clause-cost
-returns-clause-cost g c =
+pub returns-clause-counted : goal.returns-clause-counted
+returns-clause-counted g c =
     let all = all_children (box_seen c.args.traf) _ _ _ _ c.payload.ensures c.payload_offset.ensures c.in_ok-child-items.ensures.tiles in
-    runs_cost_said _ _ _ _ _ _ c.loop-child.invariant.6 (c.into_iter-child-iterator.ensures.into_iter_gives ∙ all)
+    runs_cost_said _ _ _ _ _ _ c.loop-child.invariant.6 c.in-None.ensures.steps.0 (c.into_iter-child-iterator.ensures.into_iter_gives ∙ all)
+
+pub returns-clause-cost : goal.returns-clause-cost
+returns-clause-cost g c = let counted = returns-clause-counted g c in omega (arith, counted)
 
 pub returns-clause-within : goal.returns-clause-within
 returns-clause-within g c = runs_cost_ended _ _ _ _ _ _ _ _ _ _ c.loop-child.invariant.6 c.into_iter-child-iterator.ensures.into_iter_gives c.in_ok-child-items.ensures.tiles c.payload.ensures
@@ -43,4 +46,4 @@ returns-clause-work g c = runs_work_ended _ _ _ _ _ _ _ _ _ _ _ _ c.loop-child.i
 pub returns-in-Err-clause-work : goal.returns-in-Err-clause-work
 returns-in-Err-clause-work g c =
     runs_cost_fault _ _ _ _ (box_seen c.in-Some.child) _ _ _ _ _ _ _ _ _ _ c.loop-child.invariant.6 c.in-Some.ensures.steps c.into_iter-child-iterator.ensures.into_iter_gives c.in_ok-child-items.ensures.tiles c.payload.ensures c.loop-child.invariant.2
-    (rw c.tick.ensures.one_more at c.in-Err.ensures.work)
+    (let most = c.in-Err.ensures.work in omega (arith, most))
