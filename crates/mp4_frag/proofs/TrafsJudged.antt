@@ -1,5 +1,5 @@
 -- A whole `moof`, or the front of one, by its `traf`s.
-use Rattle.std.proofs.Common.{◌≡◌, ℕ, ◌^◌, ◌<◌, List, inr, subst, arith}
+use Rattle.std.proofs.Common.{◌≡◌, ℕ, ◌^◌, ◌<◌, List, inr, subst}
 use Rattle.mp4_boxes.specs.format.Box.{Box, Tiles, box_container}
 use Rattle.mp4_boxes.specs.format.Children.{Holds}
 use Rattle.mp4_boxes.specs.declared.fault.Fault.{Fault}
@@ -8,7 +8,7 @@ use Rattle.mp4_boxes.specs.declared.refusal.Refusal.TheVariants as refusals
 use Rattle.mp4_boxes.specs.declared.rule.Rule.TheVariants as rules
 use Rattle.mp4_frag.specs.words.Judged.{AreTrexesOf, AreTrafsPassed, IsAcceptable, IsAccepted, IsSoundFront, IsSoundMoof, own_trexes, tree_of}
 use Rattle.mp4_frag.specs.words.RunsJudged.{children_of}
-use Rattle.mp4_frag.specs.words.TrafFaults.{RefusesFront, RefusesMoof, RefusesTrafs}
+use Rattle.mp4_frag.specs.words.TrafFaults.{RefusesMoof, RefusesTrafs}
 use Rattle.mp4_frag.specs.declared.state.TrackState.{TrackState}
 use Rattle.mp4_frag.specs.declared.trex.Trex.{Trex}
 use Rattle.mp4_frag.proofs.HeadsFound.{holds_boxes, holds_children}
@@ -43,12 +43,3 @@ module _ (L : ℕ) (moof : Box) (boxes : List Box) (tracks : List TrackState) (r
   -- such a `moof` isn't one that may be accepted
   pub never_refused : Holds rules.MovieFragment (box_container moof) boxes → (r : Refusal) → RefusesTrafs L tracks room moof owns r → (f : Fault) → r ≡ refusals.Fault f → IsAcceptable L tracks room moof → ⊥
   never_refused held r h f same = moof_excluded L tracks room moof f (subst (RefusesMoof L tracks room moof owns) same (refuses_moof held r h))
-
--- nor does the front of one have notes
-pub refuses_front : (L : ℕ) (front : Box) (tracks : List TrackState) (room : ℕ) (r : Refusal) → RefusesTrafs L tracks room front 0 r → RefusesFront L tracks room front r
-refuses_front L front tracks room (refusals.Fault f) h = inr h
-refuses_front L front tracks room refusals.Memory h = absurd (omega (arith, h))
-refuses_front L front tracks room refusals.StoreFailed h = h
-refuses_front L front tracks room refusals.StoreChanged h = h
-refuses_front L front tracks room refusals.WriteFailed h = h
-refuses_front L front tracks room refusals.NoSuchTrack h = h

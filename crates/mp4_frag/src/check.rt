@@ -337,9 +337,9 @@ fn note_traf(own: &mut [OwnTrafs], passed: PassedTraf) -> Result<(), Memory>
     Ok(())
 }
 
-// Checks the `traf`s among the boxes of a `moof` in file order, behind what came before it: all pass,
-// and the tracks, the notes and the room are those behind them; or the first that has a fault is
-// refused. The answer is where the data of the last one ends.
+// Checks the `traf`s among the boxes of a `moof` in file order, behind what came before it: all
+// pass, and the tracks, the notes and the room are those behind them; or the first that has a fault
+// is refused. The answer is where the data of the last one ends.
 fn check_trafs<'a, L: Ledger, M: Ledger>(
     moof: BoxView<'a>,
     boxes: Children<'a>,
@@ -433,9 +433,9 @@ pub fn check_moof<L: Ledger, M: Ledger>(
     check_trafs(moof, boxes, file_len, tracks, own, room, steps, looks)
 }
 
-/// Moves tracks on by the first boxes of a `moof`, up to a place, where the rest may hold boxes that
-/// it has to have. The room for samples falls by their number. The answer is where the data of the
-/// last of its `traf`s ends, or the place of the `moof` without one.
+/// Moves tracks on by the first boxes of a `moof`, up to a place, where the rest may hold boxes
+/// that it has to have. The room for samples falls by their number. The answer is where the data of
+/// the last of its `traf`s ends, or the place of the `moof` without one.
 pub fn check_front<L: Ledger, M: Ledger>(
     front: BoxView,
     file_len: u64,

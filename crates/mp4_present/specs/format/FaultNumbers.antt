@@ -41,9 +41,9 @@ abbrev pub end_of : TrackTree → List Part → ℕ
 end_of t parts =
     min (first_due parts t + duration_of (fragment_samples (track_head_of t).id parts)) (2 ^ 64 - 1)
 
--- All of the `moov`, of the `moof`s before, and of each `traf` of this `moof` up to the one with the
--- `tfdt` at the place is as it should be. With these samples the track that the `traf` names ends at the time
--- that is due.
+-- All of the `moov`, of the `moof`s before, and of each `traf` of this `moof` up to the one with
+-- the `tfdt` at the place is as it should be. With these samples the track that the `traf` names
+-- ends at the time that is due.
 pub record IsGap (file : List ℕ) (place track due found : ℕ) : Type 0 where
   pub before : List Box
   pub moof : Box

@@ -99,10 +99,6 @@ abbrev pub PassesNoting : List ℕ → List TrackState → ℕ → List TrackSta
 PassesNoting file states room states_after owns = (movie : MovieTree) (boxes : List Box)
     → IsBegun file movie boxes states room → AreOwnBehind file movie boxes states_after owns
 
--- a header that stands at this place, of a box that ends within so many bytes
-abbrev pub EndsWithin : ℕ → ℕ → TopHeader → Type 0
-EndsWithin len at h = (at + h.header ≤ h.end) × (8 ≤ h.header) × (h.end ≤ len)
-
 -- of a file with this header behind some first boxes, of which this is so, that is so
 abbrev pub WhereSeen : ℕ → TopHeader → Seen → (List ℕ → List Box → Type 0) → Type 0
 WhereSeen at header seen P = (file : List ℕ) (boxes : List Box)
