@@ -1,5 +1,5 @@
 -- How many looks at tracks the check of a `moof` takes.
-use Rattle.std.proofs.Common.{◌≡◌, ℕ, suc, ◌+◌, ◌*◌, ◌<◌, ◌≤◌, true, false, List, [], ◌∷◌, length, map, refl, ap, ◌∙◌, arith, mul-le-mul_left}
+use Rattle.std.proofs.Common.{◌≡◌, ℕ, suc, ◌+◌, ◌*◌, ◌≤◌, true, false, List, [], ◌∷◌, length, map, refl, ap, ◌∙◌, arith, mul-le-mul_left}
 use Rattle.std.proofs.Math.Nat.{mul-suc, mul_left_comm}
 use Rattle.std.specs.Prelude.{codes, bytes_eq}
 use Rattle.mp4_boxes.specs.format.Box.{Box, Tiles, box_container}
@@ -14,15 +14,15 @@ use Rattle.mp4_frag.proofs.Costs.{boxes_eight}
 abbrev pub how_many : List Box → ℕ
 how_many boxes = length (of_kind (codes "traf") boxes)
 
--- of all boxes these are left: so many `traf`s came, each at a look at each track at most, and at one at least
+-- of all boxes these are left: so many `traf`s came, each at one look each, and so at a look at each track at most
 pub record MoofLooked (all left : List Box) (tracks first looks : ℕ) : Type 0 where
   pub trafs : ℕ
   pub said : trafs + how_many left ≡ how_many all
   pub boxes : trafs + length left ≤ length all
-  pub some : first + trafs ≤ looks
+  pub some : looks ≡ first + trafs
   pub most : looks ≤ first + tracks * trafs
 
-pub looked_traf : (all left later : List Box) (b : Box) (tracks first looks more : ℕ) → MoofLooked all left tracks first looks → left ≡ b ∷ later → bytes_eq b.kind (codes "traf") ≡ true → looks < more → more ≤ looks + tracks → MoofLooked all later tracks first more
+pub looked_traf : (all left later : List Box) (b : Box) (tracks first looks more : ℕ) → MoofLooked all left tracks first looks → left ≡ b ∷ later → bytes_eq b.kind (codes "traf") ≡ true → more ≡ looks + 1 → more ≤ looks + tracks → MoofLooked all later tracks first more
 looked_traf all left later b tracks first looks more h e k one each =
     let kept : of_kind (codes "traf") (b ∷ later) ≡ b ∷ of_kind (codes "traf") later = rw (turned (codes "traf") b.kind ∙ k) refl in
     let same : how_many left ≡ suc (how_many later) = ap how_many e ∙ ap (λ (bs : List Box). length bs) kept in
@@ -42,8 +42,8 @@ trafs_said moof = many (of_kind (codes "traf") (children_of moof))
     many (b ∷ trafs) = ap suc (many trafs)
 
 -- behind the last box
-pub looked_some : (all left : List Box) (moof : Box) (tracks first looks : ℕ) → MoofLooked all left tracks first looks → left ≡ [] → all ≡ children_of moof → first + length (moof_says moof).trafs ≤ looks
-looked_some all left moof tracks first looks h e same =
+pub looked_one : (all left : List Box) (moof : Box) (tracks first looks : ℕ) → MoofLooked all left tracks first looks → left ≡ [] → all ≡ children_of moof → looks ≡ first + length (moof_says moof).trafs
+looked_one all left moof tracks first looks h e same =
     let said = h.said in
     let some = h.some in
     omega (arith, said, some, ap how_many e, ap how_many same, trafs_said moof)

@@ -9,7 +9,7 @@ use Rattle.mp4_frag.specs.words.RunsJudged.{children_of, runs_in, runs_total}
 use Rattle.mp4_frag.specs.declared.state.TrackState.{TrackState}
 use Rattle.mp4_frag.proofs.CheckLooks.{MoofLooked, looked_each}
 use Rattle.mp4_frag.proofs.Comings.{turned}
-use Rattle.mp4_frag.proofs.Costs.{MoofCost, moof_cost_said, sum_one}
+use Rattle.mp4_frag.proofs.Costs.{MoofCost, moof_cost_so_far, sum_one}
 use Rattle.mp4_frag.proofs.PartReasons.{part_counts}
 use Rattle.mp4_frag.proofs.WalkBound.{trafs_samples, samples_said}
 
@@ -40,6 +40,6 @@ pub stops_within : (all left : List Box) (moof : Box) (whole room tracks first s
 stops_within all left moof whole room tracks first steps before looks t c l same =
     let taken = t.taken in
     record {
-      checked = omega (arith, taken, moof_cost_said all left moof first whole steps room c same, ap samples_among same, samples_said moof);
+      checked = omega (arith, taken, moof_cost_so_far all left moof first whole steps room c same, ap samples_among same, samples_said moof);
       looked = looked_each all left moof tracks before looks l same;
     }

@@ -138,10 +138,10 @@ trafs_said (b ∷ trafs) = ap (λ n. traf_rows (traf_in b) + n) (trafs_said traf
 -- what they cost, with a step for each
 pub record MoofCost (all left : List Box) (first whole steps room : ℕ) : Type 0 where
   pub most : 8 * steps + 8 * room + (8 * length left + 3 * sizes left) ≤ 8 * first + 8 * whole + (8 * length all + 3 * sizes all)
-  pub said : steps + room + trafs_among left ≤ first + whole + trafs_among all
+  pub said : steps + room + trafs_among left ≡ first + whole + trafs_among all
 
 pub moof_cost_traf : (all left later : List Box) (b : Box) (first whole steps more room less : ℕ) → MoofCost all left first whole steps room → left ≡ b ∷ later → bytes_eq b.kind (codes "traf") ≡ true
-    → more + less + 1 ≤ steps + 1 + room + traf_rows (traf_in b) → 8 * more + 8 * less ≤ 8 * (steps + 1) + 8 * room + 3 * length b.payload → MoofCost all later first whole more less
+    → more + less + 1 ≡ steps + 1 + room + traf_rows (traf_in b) → 8 * more + 8 * less ≤ 8 * (steps + 1) + 8 * room + 3 * length b.payload → MoofCost all later first whole more less
 moof_cost_traf all left later b first whole steps more room less h e is_traf k l =
     let most = h.most in
     let said = h.said in
@@ -154,8 +154,14 @@ trafs_fit all boxes moof same tiles =
     omega (arith, eight, fit, ap (λ (bs : List Box). length bs) same, ap sizes same)
 
 -- behind the last box
-pub moof_cost_said : (all left : List Box) (moof : Box) (first whole steps room : ℕ) → MoofCost all left first whole steps room → all ≡ children_of moof → steps + room ≤ first + whole + fragment_rows (moof_says moof)
-moof_cost_said all left moof first whole steps room h same =
+pub moof_cost_said : (all left : List Box) (moof : Box) (first whole steps room : ℕ) → MoofCost all left first whole steps room → left ≡ [] → all ≡ children_of moof → steps + room ≡ first + whole + fragment_rows (moof_says moof)
+moof_cost_said all left moof first whole steps room h none same =
+    let said = h.said in
+    omega (arith, said, ap trafs_among none, ap trafs_among same, trafs_said (of_kind (codes "traf") (children_of moof)))
+
+-- before it, no more than it says
+pub moof_cost_so_far : (all left : List Box) (moof : Box) (first whole steps room : ℕ) → MoofCost all left first whole steps room → all ≡ children_of moof → steps + room ≤ first + whole + fragment_rows (moof_says moof)
+moof_cost_so_far all left moof first whole steps room h same =
     let said = h.said in
     omega (arith, said, ap trafs_among same, trafs_said (of_kind (codes "traf") (children_of moof)))
 

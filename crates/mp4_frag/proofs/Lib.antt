@@ -10,7 +10,6 @@ pub mod WalkWork
 pub mod WalkBound
 pub mod SaidSamples
 pub mod TracksMoved
-pub mod TracksFound
 pub mod MoofPassed
 pub mod OwnTrexes
 pub mod TrafPassed
@@ -19,6 +18,7 @@ pub mod GroupsPassed
 pub mod NamesKept
 pub mod RunsPassed
 pub mod BoxesMoved
+pub mod TracksFound
 pub mod TrafsTied
 pub mod TrafsJudged
 pub mod Bounds

@@ -1,151 +1,97 @@
--- A track found among those whose IDs rise.
-use Rattle.std.proofs.Common.{◌≡◌, ℕ, zero, suc, ◌+◌, ◌<◌, ◌≤◌, ◌==◌, Bool, true, false, cond, List, [], ◌∷◌, length, drop, take, slice_set, slice_index_or, Some, None, refl, sym, ap, subst, ◌∙◌, rules, arith}
-use Rattle.std.specs.List.{slice_get}
-use Rattle.std.specs.Prelude.{find}
-use Rattle.mp4_frag.specs.words.Finding.{AreAbove, AreRising, IsKnown}
-use Rattle.mp4_frag.specs.declared.finding.Known.{Known}
+-- A track found by the map of all IDs.
+use Rattle.std.proofs.Common.{◌≡◌, ℕ, zero, suc, ◌+◌, ◌<◌, ◌==◌, Bool, true, false, cond, List, [], ◌∷◌, length, drop, Option, Some, None, refl, sym, ap, subst, ◌∙◌, rules, arith}
+use Rattle.std.specs.Prelude.{nat_lt, slice_index_or}
+use Rattle.std.specs.BTreeMap.{BTreeMap, get, is_at, Updates}
+use Rattle.std.specs.Ordering.{nat_cmp}
+use Rattle.std.proofs.Math.Seq.{drop-cons}
+use Rattle.std.proofs.lemmas.List.{length-map}
+use Rattle.mp4_frag.specs.words.Finding.{IsFirstWith, place_from, track_with}
+use Rattle.mp4_frag.specs.words.Noted.{ids_of}
 use Rattle.mp4_frag.specs.declared.state.TrackState.{TrackState}
-use Rattle.mp4_frag.proofs.StateLists.{found_at, none_up_to}
 
--- the track has this ID
-abbrev has_id : ℕ → TrackState → Bool
-has_id id t = t.id == id
+-- ---- what is found
 
-other_below : (a id : ℕ) → a < id → (a == id) ≡ false
-other_below a id lt = search rules
+-- where an ID is found among those of tracks that begin at a place
+record FoundAt (tracks : List TrackState) (id at place : ℕ) : Type 0 where
+  pub behind : ℕ
+  pub place_is : place ≡ at + behind
+  pub inside : behind < length tracks
+  pub there : IsFirstWith tracks id behind
 
-other_above : (a id : ℕ) → id < a → (a == id) ≡ false
-other_above a id lt = search rules
+some_is : (x y : ℕ) → ◌≡◌ {A = Option ℕ} (Some x) (Some y) → x ≡ y
+some_is x y e = cc
 
-above_at : (m n k : ℕ) (tracks : List TrackState) (d : TrackState) → AreAbove m n tracks → k < n → k < length tracks → m < (slice_index_or tracks k d).id
-above_at m n k [] d h lt inside = absurd (omega arith)
-above_at m zero k (t ∷ tracks) d h lt inside = absurd (omega arith)
-above_at m (suc n) zero (t ∷ tracks) d h lt inside = h.0
-above_at m (suc n) (suc k) (t ∷ tracks) d h lt inside = above_at m n k tracks d h.1 (omega arith) (omega arith)
-
--- none of those before a track has its ID or a higher one
-none_before : (id n k : ℕ) (tracks : List TrackState) (d : TrackState) → AreRising n tracks → k < n → k < length tracks → (slice_index_or tracks k d).id ≤ id → find (λ (t : TrackState). t.id == id) (take k tracks) ≡ None
-none_before id n k [] d h lt inside le = absurd (omega arith)
-none_before id zero k (t ∷ tracks) d h lt inside le = absurd (omega arith)
-none_before id (suc n) zero (t ∷ tracks) d h lt inside le = refl
-none_before id (suc n) (suc k) (t ∷ tracks) d h lt inside le =
-    let low : t.id < (slice_index_or tracks k d).id = above_at t.id n k tracks d h.0 (omega arith) (omega arith) in
-    let less : t.id < id = omega arith in
-    rw (other_below t.id id less) (none_before id n k tracks d h.1 (omega arith) (omega arith) le)
-
-none_above : (id m n : ℕ) (tracks : List TrackState) → AreAbove m n tracks → id < m → find (λ (t : TrackState). t.id == id) (take n tracks) ≡ None
-none_above id m zero tracks h lt = refl
-none_above id m (suc n) [] h lt = refl
-none_above id m (suc n) (t ∷ tracks) h lt =
-    let low = h.0 in
-    let less : id < t.id = omega arith in
-    rw (other_above t.id id less) (none_above id m n tracks h.1 lt)
-
--- nor one from a track with a higher ID on
-none_from : (id n k : ℕ) (tracks : List TrackState) (d : TrackState) → AreRising n tracks → k < n → k < length tracks → id < (slice_index_or tracks k d).id
-    → find (λ (t : TrackState). t.id == id) (take n tracks) ≡ find (λ (t : TrackState). t.id == id) (take k tracks)
-none_from id n k [] d h lt inside le = absurd (omega arith)
-none_from id zero k (t ∷ tracks) d h lt inside le = absurd (omega arith)
-none_from id (suc n) zero (t ∷ tracks) d h lt inside le = rw (other_above t.id id le) (none_above id t.id n tracks h.0 le)
-none_from id (suc n) (suc k) (t ∷ tracks) d h lt inside le = ap (cond (t.id == id) (Some t)) (none_from id n k tracks d h.1 (omega arith) (omega arith) le)
-
-behind_none : (p : TrackState → Bool) (k : ℕ) (tracks : List TrackState) → find p (take k tracks) ≡ None → find p tracks ≡ find p (drop k tracks)
-behind_none p zero tracks e = refl
-behind_none p (suc k) [] e = refl
-behind_none p (suc k) (t ∷ tracks) e = choice (p t) refl e (λ f. behind_none p k tracks f)
+found_from : (id at place : ℕ) (tracks : List TrackState) → place_from id at (ids_of tracks) ≡ Some place → FoundAt tracks id at place
+found_from id at place [] e = absurd cc
+found_from id at place (t ∷ tracks) e = by (t.id == id) refl e (λ f. found_from id (suc at) place tracks f)
   where
-    choice : (v : Bool) → p t ≡ v → cond v (Some t) (find p (take k tracks)) ≡ None → (find p (take k tracks) ≡ None → find p tracks ≡ find p (drop k tracks)) → cond v (Some t) (find p tracks) ≡ find p (drop k tracks)
-    choice true g e later = absurd cc
-    choice false g e later = later e
+    by : (v : Bool) → (t.id == id) ≡ v → cond v (Some at) (place_from id (suc at) (ids_of tracks)) ≡ Some place → (place_from id (suc at) (ids_of tracks) ≡ Some place → FoundAt tracks id (suc at) place) → FoundAt (t ∷ tracks) id at place
+    by true g f later =
+        let same = some_is at place f in
+        record { behind = 0; place_is = omega (arith, same); inside = omega arith; there = record { found = rw g refl; first = refl } }
+    by false g f later =
+        let r = later f in
+        let place_is = r.place_is in
+        let inside = r.inside in
+        record { behind = suc r.behind; place_is = omega (arith, place_is); inside = omega (arith, inside); there = record { found = rw g r.there.found; first = rw g r.there.first } }
 
--- a track that has the ID, and none before it
-found_first : (id k : ℕ) (tracks : List TrackState) (d : TrackState) → k < length tracks → find (λ (t : TrackState). t.id == id) (take k tracks) ≡ None → (slice_index_or tracks k d).id ≡ id
-    → find (λ (t : TrackState). t.id == id) tracks ≡ slice_get tracks k
-found_first id k tracks d inside none is =
-    let same : ((slice_index_or tracks k d).id == id) ≡ true = search (rules, is) in
-    behind_none (λ (t : TrackState). t.id == id) k tracks none ∙ found_at (λ (t : TrackState). t.id == id) k tracks d inside same
+module _ (id place : ℕ) (tracks : List TrackState) (e : place_from id 0 (ids_of tracks) ≡ Some place) where
+  pub found_inside : place < length tracks
+  found_inside =
+      let r = found_from id 0 place tracks e in
+      let same = r.place_is in
+      let inside = r.inside in
+      omega (arith, same, inside)
 
--- ---- one more
+  pub found_there : IsFirstWith tracks id place
+  found_there =
+      let r = found_from id 0 place tracks e in
+      let same = r.place_is in
+      let there : r.behind ≡ place = omega (arith, same) in
+      subst (IsFirstWith tracks id) there r.there
 
-above_more : (m n : ℕ) (tracks : List TrackState) (d : TrackState) → AreAbove m n tracks → n < length tracks → m < (slice_index_or tracks n d).id → AreAbove m (suc n) tracks
-above_more m n [] d h inside lt = tt
-above_more m zero (t ∷ tracks) d h inside lt = (lt, tt)
-above_more m (suc n) (t ∷ tracks) d h inside lt = (h.0, above_more m n tracks d h.1 (omega arith) lt)
+none_from : (id at : ℕ) (tracks : List TrackState) → place_from id at (ids_of tracks) ≡ None → track_with id tracks ≡ None
+none_from id at [] e = refl
+none_from id at (t ∷ tracks) e = by (t.id == id) refl e (λ f. none_from id (suc at) tracks f)
+  where
+    by : (v : Bool) → (t.id == id) ≡ v → cond v (Some at) (place_from id (suc at) (ids_of tracks)) ≡ None → (place_from id (suc at) (ids_of tracks) ≡ None → track_with id tracks ≡ None) → track_with id (t ∷ tracks) ≡ None
+    by true g f later = absurd cc
+    by false g f later = rw g (later f)
 
-rising_more : (n : ℕ) (tracks : List TrackState) (d e : TrackState) → AreRising (suc n) tracks → suc n < length tracks → (slice_index_or tracks n d).id < (slice_index_or tracks (suc n) e).id → AreRising (suc (suc n)) tracks
-rising_more n [] d e h inside lt = tt
-rising_more zero (t ∷ []) d e h inside lt = absurd (omega arith)
-rising_more zero (t ∷ u ∷ tracks) d e h inside lt = ((lt, tt), (tt, tt))
-rising_more (suc n) (t ∷ tracks) d e h inside lt =
-    let low : t.id < (slice_index_or tracks n d).id = above_at t.id (suc n) n tracks d h.0 (omega arith) (omega arith) in
-    (above_more t.id (suc n) tracks e h.0 (omega arith) (omega arith), rising_more n tracks d e h.1 (omega arith) lt)
+pub found_none : (id : ℕ) (tracks : List TrackState) → place_from id 0 (ids_of tracks) ≡ None → track_with id tracks ≡ None
+found_none id tracks e = none_from id 0 tracks e
 
--- ---- another state of a track
+-- ---- how the map is made, from the last track to the first
 
-above_set : (m n k : ℕ) (tracks : List TrackState) (d t : TrackState) → AreAbove m n tracks → t.id ≡ (slice_index_or tracks k d).id → AreAbove m n (slice_set tracks k t)
-above_set m zero k tracks d t h e = tt
-above_set m (suc n) zero [] d t h e = tt
-above_set m (suc n) (suc k) [] d t h e = tt
-above_set m (suc n) zero (s ∷ tracks) d t h e = (let low = h.0 in omega (arith, e), h.1)
-above_set m (suc n) (suc k) (s ∷ tracks) d t h e = (h.0, above_set m n k tracks d t h.1 e)
+-- the map has the IDs from a place on
+abbrev pub ArePlacesFrom : List ℕ → BTreeMap ℕ ℕ → ℕ → Type 0
+ArePlacesFrom ids places k = (id : ℕ) → get nat_cmp places id ≡ place_from id k (drop k ids)
 
-rising_set : (n k : ℕ) (tracks : List TrackState) (d t : TrackState) → AreRising n tracks → t.id ≡ (slice_index_or tracks k d).id → AreRising n (slice_set tracks k t)
-rising_set zero k tracks d t h e = tt
-rising_set (suc n) zero [] d t h e = tt
-rising_set (suc n) (suc k) [] d t h e = tt
-rising_set (suc n) zero (s ∷ tracks) d t h e = (subst (λ m. AreAbove m n tracks) (sym e) h.0, h.1)
-rising_set (suc n) (suc k) (s ∷ tracks) d t h e = (above_set s.id n k tracks d t h.0 e, rising_set n k tracks d t h.1 e)
+same_at : (x y : ℕ) → is_at (nat_cmp x) y ≡ (x == y)
+same_at x y = by (nat_lt x y) (x == y) refl refl
+  where
+    by : (u v : Bool) → nat_lt x y ≡ u → (x == y) ≡ v → is_at (nat_cmp x) y ≡ (x == y)
+    by true true e f = absurd (search rules)
+    by true false e f = rw (e, f) refl
+    by false true e f = rw (e, f) refl
+    by false false e f = rw (e, f) refl
 
-length_set : (k : ℕ) (tracks : List TrackState) (t : TrackState) → length (slice_set tracks k t) ≡ length tracks
-length_set k [] t = elim k [ zero ↦ refl | suc j ↦ refl ]
-length_set zero (s ∷ tracks) t = refl
-length_set (suc k) (s ∷ tracks) t = ap suc (length_set k tracks t)
+pub one_more : (ids : List ℕ) (old new : BTreeMap ℕ ℕ) (k d : ℕ) → k < length ids → ArePlacesFrom ids old (k + 1) → Updates nat_cmp old new (slice_index_or ids k d) (Some k) → ArePlacesFrom ids new k
+one_more ids old new k d lt h u id =
+    let i = slice_index_or ids k d in
+    let more : suc k ≡ k + 1 = omega arith in
+    let here : drop k ids ≡ i ∷ drop (suc k) ids = drop-cons ids k d lt in
+    let later : get nat_cmp old id ≡ place_from id (suc k) (drop (suc k) ids) = subst (λ (n : ℕ). get nat_cmp old id ≡ place_from id n (drop n ids)) (sym more) (h id) in
+    u.0 id ∙ ap (λ (v : Bool). cond v (Some k) (get nat_cmp old id)) (same_at i id) ∙ ap (λ (o : Option ℕ). cond (i == id) (Some k) o) later ∙ ap (place_from id k) (sym here)
 
-pub known_set : (k : ℕ) (tracks : List TrackState) (d t : TrackState) (known : Known) → IsKnown tracks known → t.id ≡ (slice_index_or tracks k d).id → IsKnown (slice_set tracks k t) known
-known_set k tracks d t known h e = record {
-  last = h.last;
-  inside = λ some. rw (length_set k tracks t) (h.inside (rw (length_set k tracks t) at some));
-  rising = rising_set known.rising k tracks d t h.rising e;
-}
+-- the ID of the track at a place
+id_at : (tracks : List TrackState) (k : ℕ) (d : TrackState) → slice_index_or (ids_of tracks) k d.id ≡ (slice_index_or tracks k d).id
+id_at [] k d = refl
+id_at (t ∷ tracks) zero d = refl
+id_at (t ∷ tracks) (suc k) d = id_at tracks k d
 
--- ---- searches
-
--- a track of another ID is passed
-none_next : (id k j : ℕ) (tracks : List TrackState) (d : TrackState) → k < length tracks → j ≡ k + 1 → ((slice_index_or tracks k d).id == id) ≡ false → find (λ (t : TrackState). t.id == id) (take k tracks) ≡ None
-    → find (λ (t : TrackState). t.id == id) (take j tracks) ≡ None
-none_next id k j tracks d inside e other none =
-    let next : suc k ≡ j = omega arith in
-    subst (λ n. find (λ (t : TrackState). t.id == id) (take n tracks) ≡ None) next (none_up_to (λ (t : TrackState). t.id == id) k tracks d inside other none)
-
--- this track has the ID, and none before it
-pub found_is : (id k : ℕ) (tracks : List TrackState) (d s : TrackState) → k < length tracks → s ≡ slice_index_or tracks k d → s.id ≡ id → find (λ (t : TrackState). t.id == id) (take k tracks) ≡ None
-    → find (λ (t : TrackState). t.id == id) tracks ≡ slice_get tracks k
-found_is id k tracks d s inside at same none = found_first id k tracks d inside none (ap (λ (t : TrackState). t.id) (sym at) ∙ same)
-
--- it has the ID or a lower one, and so has none before it
-pub none_below : (id n k : ℕ) (tracks : List TrackState) (d s : TrackState) → AreRising n tracks → k < n → k < length tracks → s ≡ slice_index_or tracks k d → s.id ≤ id → find (λ (t : TrackState). t.id == id) (take k tracks) ≡ None
-none_below id n k tracks d s h lt inside at le = none_before id n k tracks d h lt inside (subst (λ (t : TrackState). t.id ≤ id) at le)
-
--- it has a higher ID
-pub none_higher : (id n k : ℕ) (tracks : List TrackState) (d s : TrackState) → AreRising n tracks → k < n → k < length tracks → s ≡ slice_index_or tracks k d → id < s.id
-    → find (λ (t : TrackState). t.id == id) (take n tracks) ≡ find (λ (t : TrackState). t.id == id) (take k tracks)
-none_higher id n k tracks d s h lt inside at less = none_from id n k tracks d h lt inside (subst (λ (t : TrackState). id < t.id) at less)
-
--- it has another ID
-pub none_with : (id k j : ℕ) (tracks : List TrackState) (d s : TrackState) → k < length tracks → j ≡ k + 1 → s ≡ slice_index_or tracks k d → (s.id == id) ≡ false → find (λ (t : TrackState). t.id == id) (take k tracks) ≡ None
-    → find (λ (t : TrackState). t.id == id) (take j tracks) ≡ None
-none_with id k j tracks d s inside e at other none = none_next id k j tracks d inside e (subst (λ (t : TrackState). (t.id == id) ≡ false) at other) none
-
--- the next one rises too
-pub known_more : (k j : ℕ) (tracks : List TrackState) (d e s t : TrackState) (known : Known) → IsKnown tracks known → k ≡ known.rising → k ≡ j + 1 → k < length tracks → s ≡ slice_index_or tracks j d → t ≡ slice_index_or tracks k e → s.id < t.id
-    → IsKnown tracks (record { rising = k + 1; last = known.last })
-known_more k j tracks d e s t known h same next inside low high lt =
-    let one : k ≡ suc j = omega arith in
-    let two : k + 1 ≡ suc (suc j) = omega arith in
-    let last = h.last in
-    record {
-      last = omega (arith, last, same);
-      inside = λ some. omega (arith, inside);
-      rising = subst (λ n. AreRising n tracks) (sym two) (rising_more j tracks d e (subst (λ n. AreRising n tracks) (sym same ∙ one) h.rising) (subst (λ n. n < length tracks) one inside)
-          (subst (λ n. (slice_index_or tracks j d).id < (slice_index_or tracks n e).id) one (subst (λ (u : TrackState). (slice_index_or tracks j d).id < u.id) high (subst (λ (u : TrackState). u.id < t.id) low lt))));
-    }
+pub track_more : (tracks : List TrackState) (old new : BTreeMap ℕ ℕ) (k : ℕ) (t : TrackState) → k < length tracks → t ≡ slice_index_or tracks k t → ArePlacesFrom (ids_of tracks) old (k + 1) → Updates nat_cmp old new t.id (Some k) → ArePlacesFrom (ids_of tracks) new k
+track_more tracks old new k t lt is h u =
+    let same : t.id ≡ slice_index_or (ids_of tracks) k t.id = ap (λ (s : TrackState). s.id) is ∙ sym (id_at tracks k t) in
+    let long : k < length (ids_of tracks) = subst (λ (n : ℕ). k < n) (sym (length-map tracks (λ (s : TrackState). s.id))) lt in
+    one_more (ids_of tracks) old new k t.id long h (subst (λ (i : ℕ). Updates nat_cmp old new i (Some k)) same u)

@@ -7,7 +7,7 @@ ghost use Rattle.mp4_boxes.specs.words.View.{box_seen};
 ghost use Rattle.mp4_tables.specs.format.Groups.{groupings_of, keys_after};
 ghost use Rattle.mp4_tables.specs.words.Keys.{keys_seen};
 ghost use Rattle.mp4_frag.specs.words.CheckWork.{TrafWork, TrafLooks, MoofWork, MoofLooks, IfMemory, StopsWithin};
-ghost use Rattle.mp4_frag.specs.words.Finding.{IsKnown};
+ghost use Rattle.mp4_frag.specs.words.Finding.{ArePlacesOf};
 ghost use Rattle.mp4_frag.specs.words.GroupsJudged.{groups_in, AreGroupsSound, GroupsFail};
 ghost use Rattle.mp4_frag.specs.words.Passing.{IsNearer, IsUpTo, EndsNear, IsPassed, AreBounded, is_late_at, state_with};
 ghost use Rattle.mp4_boxes.specs.format.Children.{of_kind};
@@ -27,7 +27,7 @@ ghost use Rattle.mp4_boxes.specs.declared.refusal.Refusal.TheVariants as refusal
 ghost use Rattle.mp4_frag.specs.format.FragmentRows.{group_rows};
 ghost use Rattle.mp4_frag.specs.declared.state.TrackState.{TrackState};
 
-use crate::finding::{Known, find_track};
+use crate::finding::{TrackPlaces, find_track};
 use crate::groups::check_group;
 use crate::heads::{Head, base_of, read_head, what_is_inherited};
 use crate::own_trafs::{OwnTraf, OwnTrafs};
@@ -265,16 +265,15 @@ fn check_traf<L: Ledger, M: Ledger>(
     moof: u64,
     before: i128,
     file_len: u64,
+    places: &TrackPlaces,
     tracks: &mut [TrackState],
-    known: &mut Known,
     room: &mut u32,
     steps: &mut Steps<L>,
     looks: &mut Steps<M>,
 ) -> Result<PassedTraf, Fault>
     requires room { IsRoomFor tracks.old room.old }
     requires near { IsUpTo (2 ^ 98) before }
-    requires known { IsKnown tracks.old known.old }
-    ensures known { IfOk result (λ p. IsKnown tracks.new known.new) }
+    requires places { ArePlacesOf (ids_of tracks.old) places.now }
     ensures passed { IfOk result (λ p. IsTrafPassed file_len moof before (box_seen traf.entry)
         tracks.old tracks.new room.old room.new p.ends) }
     ensures kept { IfOk result (λ p. KeepRoom tracks.old tracks.new room.old room.new) }
@@ -291,7 +290,7 @@ fn check_traf<L: Ledger, M: Ledger>(
         return Err(traf.fault(Kind::MissingBox));
     };
     let head = head_of(tfhd)?;
-    let Some(k) = find_track(tracks, head.id, known, looks) else {
+    let Some(k) = find_track(tracks, head.id, places, looks) else {
         return Err(tfhd.fault(Kind::UnknownTrack));
     };
     let state = tracks[k];
@@ -344,6 +343,7 @@ fn check_trafs<'a, L: Ledger, M: Ledger>(
     moof: BoxView<'a>,
     boxes: Children<'a>,
     file_len: u64,
+    places: &TrackPlaces,
     tracks: &mut [TrackState],
     own: &mut [OwnTrafs],
     room: &mut u32,
@@ -352,6 +352,7 @@ fn check_trafs<'a, L: Ledger, M: Ledger>(
 ) -> Result<i128, Refusal>
     requires boxes { Tiles (box_container (box_seen moof)) boxes }
     requires room { IsRoomFor tracks.old room.old }
+    requires places { ArePlacesOf (ids_of tracks.old) places.now }
     ensures passed { OnOk result (AreTrafsPassed file_len (box_seen moof.entry)
         tracks.old tracks.new room.old room.new) }
     ensures refusal { IfErr result
@@ -369,7 +370,6 @@ fn check_trafs<'a, L: Ledger, M: Ledger>(
         steps.old steps.new looks.old looks.new) }
 {
     let mut before = i128::from(moof.offset());
-    let mut known = Known::first();
     for child in boxes {
         if child.kind() == TRAF {
             steps.tick();
@@ -378,8 +378,8 @@ fn check_trafs<'a, L: Ledger, M: Ledger>(
                 moof.offset(),
                 before,
                 file_len,
+                places,
                 tracks,
-                &mut known,
                 room,
                 steps,
                 looks,
@@ -400,6 +400,7 @@ fn check_trafs<'a, L: Ledger, M: Ledger>(
 pub fn check_moof<L: Ledger, M: Ledger>(
     moof: BoxView,
     file_len: u64,
+    places: &TrackPlaces,
     tracks: &mut [TrackState],
     own: &mut [OwnTrafs],
     room: &mut u32,
@@ -407,6 +408,7 @@ pub fn check_moof<L: Ledger, M: Ledger>(
     looks: &mut Steps<M>,
 ) -> Result<i128, Refusal>
     requires room { IsRoomFor tracks.old room.old }
+    requires places { ArePlacesOf (ids_of tracks.old) places.now }
     ensures sound { OnOk result ((trexes : List Trex) → AreTrexesOf trexes tracks.old
         → IsSoundMoof file_len trexes tracks.old (tree_of (box_seen moof.entry))) }
     ensures accepted { OnOk result (IsAccepted file_len (box_seen moof.entry)
@@ -430,7 +432,9 @@ pub fn check_moof<L: Ledger, M: Ledger>(
         steps.old steps.new looks.old looks.new) }
 {
     let boxes = check_children(moof, Rule::MovieFragment)?;
-    check_trafs(moof, boxes, file_len, tracks, own, room, steps, looks)
+    check_trafs(
+        moof, boxes, file_len, places, tracks, own, room, steps, looks,
+    )
 }
 
 /// Moves tracks on by the first boxes of a `moof`, up to a place, where the rest may hold boxes
@@ -439,12 +443,14 @@ pub fn check_moof<L: Ledger, M: Ledger>(
 pub fn check_front<L: Ledger, M: Ledger>(
     front: BoxView,
     file_len: u64,
+    places: &TrackPlaces,
     tracks: &mut [TrackState],
     room: &mut u32,
     steps: &mut Steps<L>,
     looks: &mut Steps<M>,
 ) -> Result<i128, Refusal>
     requires room { IsRoomFor tracks.old room.old }
+    requires places { ArePlacesOf (ids_of tracks.old) places.now }
     ensures sound { OnOk result ((trexes : List Trex) → AreTrexesOf trexes tracks.old
         → IsSoundFront file_len trexes (tree_of (box_seen front.entry))) }
     ensures moved { OnOk result
@@ -459,7 +465,17 @@ pub fn check_front<L: Ledger, M: Ledger>(
         result }
 {
     let boxes = children(front.payload(), front.payload_offset(), front.kind())?;
-    check_trafs(front, boxes, file_len, tracks, &mut [], room, steps, looks)
+    check_trafs(
+        front,
+        boxes,
+        file_len,
+        places,
+        tracks,
+        &mut [],
+        room,
+        steps,
+        looks,
+    )
 }
 
 /// Where the runs of a `traf` with this `tfhd` are counted from, in a `moof` at this place, where

@@ -8,7 +8,7 @@ use Rattle.mp4_boxes.proofs.Among.{head_is}
 use Rattle.mp4_boxes.proofs.Tiling.{tiles_one}
 use Rattle.mp4_frag.specs.format.Fragments.{FragmentTree}
 use Rattle.mp4_head.specs.words.Found.{SaysHead}
-use Rattle.mp4_head.specs.format.Tree.{MovieTree}
+use Rattle.mp4_head.specs.format.Tree.{MovieTree, TrackTree}
 use Rattle.mp4_head.specs.declared.heads.MovieHead.{MovieHead}
 use Rattle.mp4_head.proofs.Trees.{movie_tree_one}
 use Rattle.mp4_present.specs.format.Denotes.{FileTree, IsFileTree}
@@ -16,7 +16,7 @@ use Rattle.mp4_present.specs.words.Movies.{MovieSeen}
 use Rattle.mp4_present.specs.words.OpenedMovie.{IsOpenedAs}
 use Rattle.mp4_present.specs.words.Opening.{IsOpened}
 use Rattle.mp4_present.specs.words.TrackTrees.{AreTracksOf}
-use Rattle.mp4_present.specs.words.WalkSteps.{ChecksWithin, moof_steps, moofs_steps, boxes_steps, table_steps, opening_steps}
+use Rattle.mp4_present.specs.words.WalkSteps.{ChecksAll, ChecksWithin, moof_steps, moofs_steps, boxes_steps, table_steps, least_table_steps, opening_steps, least_steps}
 use Rattle.mp4_present.specs.declared.outline.Outline.{Outline}
 use Rattle.mp4_present.proofs.Opened.{IsRead, its_moov, tracks_read}
 use Rattle.mp4_present.proofs.TablesWork.{TracksDone}
@@ -38,6 +38,9 @@ some_more before tables moofs after h = omega (arith, h)
 all_more : (before tables moofs checked after : ℕ) → checked ≤ before + tables → after ≤ checked + moofs → after ≤ before + (tables + moofs)
 all_more before tables moofs checked after h k = omega (arith, h, k)
 
+least_more : (before tables moofs checked after : ℕ) → before + tables ≤ checked → after ≡ checked + moofs → before + (tables + moofs) ≤ after
+least_more before tables moofs checked after h k = omega (arith, h, k)
+
 module _ (honest : Bool) (file : List ℕ) (o : Outline) (moov : List ℕ) (b : Box) (head : MovieHead) (r : IsRead honest file o moov b) (says : SaysHead b head) (told : IsTrue honest) (tree : FileTree) (is : IsFileTree file tree) where
   movie_is : says.has.tree ≡ tree.movie
   movie_is =
@@ -58,6 +61,12 @@ module _ (honest : Bool) (file : List ℕ) (o : Outline) (moov : List ℕ) (b : 
   moofs_counted before checked after done within =
       all_more before (sum_of table_steps tree.movie.tracks) (moofs_steps tree.fragments) checked after (done tree.movie.tracks tracks_are)
       (subst (λ (m : ℕ). after ≤ checked + m) (sym (moofs_are file tree is)) (within tree.top is.top))
+
+  -- all of them, each to its end
+  pub all_taken : (before checked after : ℕ) → ((trees : List TrackTree) → AreTracksOf trees head.tracks.items → before + sum_of least_table_steps trees ≤ checked) → ChecksAll file checked after → before + least_steps tree ≤ after
+  all_taken before checked after tables moofs =
+      least_more before (sum_of least_table_steps tree.movie.tracks) (moofs_steps tree.fragments) checked after (tables tree.movie.tracks tracks_are)
+      (subst (λ (m : ℕ). after ≡ checked + m) (sym (moofs_are file tree is)) (moofs tree.top is.top))
 
 -- ---- a file that was opened
 

@@ -15,12 +15,12 @@ use Rattle.std.specs.Prelude.{pos, codes}
 abbrev pub MovedBy : Box → List TrackState → List TrackState → ℕ → ℕ → Type 0
 MovedBy view old new room less = AreMovedOn view.offset (pos view.offset) (of_kind (codes "traf") (children_of view)) old new room less
 
--- a check takes no more steps than the boxes say
-pub checked_within : (old new : List TrackState) (room less before after : ℕ) (view box : Box) → view ≡ box → MovedBy view old new room less → after + less ≤ before + room + fragment_rows (moof_says view) → after ≤ before + moof_steps box
+-- a check takes as many steps as the boxes say
+pub checked_all : (old new : List TrackState) (room less before after : ℕ) (view box : Box) → view ≡ box → MovedBy view old new room less → after + less ≡ before + room + fragment_rows (moof_says view) → after ≡ before + moof_steps box
 unfolding moof_steps
-checked_within old new room less before after view box e m cost =
+checked_all old new room less before after view box e m cost =
     let taken = length_taken old new view room less m in
-    subst (λ (b : Box). after ≤ before + (fragment_rows (moof_says b) + fragment_length (moof_says b))) e (omega (arith, taken, cost))
+    subst (λ (b : Box). after ≡ before + (fragment_rows (moof_says b) + fragment_length (moof_says b))) e (omega (arith, taken, cost))
 
 -- nor is a place in a `traf` farther than the way through it
 pub place_within : (traf : Box) (payload : List ℕ) (n : ℕ) → payload ≡ traf.payload → ((b : Box) → payload ≡ b.payload → n ≤ traf_steps b) → n ≤ traf_steps traf

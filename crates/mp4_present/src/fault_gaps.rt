@@ -1,12 +1,14 @@
 //! Numbers of a fault in a fragment; and the time that is due where one begins at another (ISO/IEC
 //! 14496-12, 8.8.12).
-ghost use Rattle.std.specs.Prelude.{◌≡◌, ◌+◌, ◌-◌, ◌*◌, ◌^◌, ◌≤◌, ◌==◌, length, take, find, IfOk, IfErr, IfSome};
+ghost use Rattle.std.specs.Prelude.{◌≡◌, ◌+◌, ◌-◌, ◌*◌, ◌^◌, ◌≤◌, ◌==◌, length, take, find, IfOk, IfErr, IfSome, OnOk};
 ghost use Rattle.std.specs.List.{AllByRecursion};
 ghost use Rattle.mp4_boxes.specs.format.Bytes.{field};
 ghost use Rattle.mp4_boxes.specs.format.Box.{Box};
 ghost use Rattle.mp4_boxes.specs.words.View.{box_seen};
 ghost use Rattle.mp4_frag.specs.format.Fragments.{decode_time_of};
 ghost use Rattle.mp4_present.specs.format.FaultNumbers.{IsChildOf, SaysTime};
+ghost use Rattle.mp4_frag.specs.words.Finding.{ArePlacesOf};
+ghost use Rattle.mp4_frag.specs.words.Noted.{ids_of};
 ghost use Rattle.mp4_frag.specs.words.States.{HaveRoom};
 ghost use Rattle.mp4_frag.specs.declared.state.TrackState.{TrackState};
 ghost use Rattle.mp4_present.specs.words.NumbersTold.{IsBehind, IsReached, MeetsFault, RefusesSearch};
@@ -23,7 +25,7 @@ use crate::reading::{TopBox, read_payload};
 use crate::tables_pass::PlainTracks;
 use crate::totals::in_64_bits;
 use mp4_boxes::{BoxView, Fault, FourCc, Kind, Refusal, Steps, TopHeader, children, u64_at};
-use mp4_frag::{TrackState, base_in, check_front, check_moof};
+use mp4_frag::{TrackPlaces, TrackState, base_in, check_front, check_moof};
 use mp4_store::Store;
 use std::alloc::Global;
 use std::sync::ledger::Ledger;
@@ -141,22 +143,24 @@ fn said_in(traf: BoxView, place: u64) -> Option<(u32, u64)>
 // What is due and what is found where a `tfdt` stands at a place in this `moof`. The tracks are
 // moved on by what comes before its `traf`.
 fn gap_in<L: Ledger, M: Ledger>(
-    top: TopBox,
+    reached: Reached,
     bytes: &[u8],
     place: u64,
     file_len: u64,
+    places: &TrackPlaces,
     states: &mut [TrackState],
-    room: u32,
     steps: &mut Steps<L>,
     looks: &mut Steps<M>,
 ) -> Result<Option<FaultNumbers>, Refusal>
-    requires fills { Fills (length bytes.now) top }
-    requires room { (room ≤ 2 ^ 24) × HaveRoom room states.old }
-    ensures finds { FindsOf file_len top bytes.now states.old room place result }
-    ensures work { 2 * steps.new ≤ 2 * steps.old + 2 * room + length bytes.now }
+    requires fills { Fills (length bytes.now) reached.moof }
+    requires room { (reached.room ≤ 2 ^ 24) × HaveRoom reached.room states.old }
+    requires places { ArePlacesOf (ids_of states.old) places.now }
+    ensures finds { FindsOf file_len reached.moof bytes.now states.old reached.room place result }
+    ensures work { 2 * steps.new ≤ 2 * steps.old + 2 * reached.room + length bytes.now }
     ensures looks { 8 * looks.new ≤ 8 * looks.old + length states.old * length bytes.now }
     ensures refusal { IfErr result MeetsFault }
 {
+    let Reached { moof: top, room } = reached;
     let Some(traf) = child_at(top.view(bytes), place) else {
         return Ok(None);
     };
@@ -167,7 +171,7 @@ fn gap_in<L: Ledger, M: Ledger>(
         return Ok(None);
     };
     let mut room = room;
-    check_front(front, file_len, states, &mut room, steps, looks)?;
+    check_front(front, file_len, places, states, &mut room, steps, looks)?;
     let Some(state) = state_with(states, track) else {
         return Ok(None);
     };
@@ -178,22 +182,24 @@ fn gap_in<L: Ledger, M: Ledger>(
 // The sample that does not lie in the file, of the `trun` at a place in this `moof`. The tracks are
 // moved on by what comes before its `traf`.
 fn outside_in<L: Ledger, M: Ledger>(
-    top: TopBox,
+    reached: Reached,
     bytes: &[u8],
     place: u64,
     file_len: u64,
+    places: &TrackPlaces,
     states: &mut [TrackState],
-    room: u32,
     steps: &mut Steps<L>,
     looks: &mut Steps<M>,
 ) -> Result<Option<FaultNumbers>, Refusal>
-    requires fills { Fills (length bytes.now) top }
-    requires room { (room ≤ 2 ^ 24) × HaveRoom room states.old }
-    ensures finds { FindsOf file_len top bytes.now states.old room place result }
-    ensures work { 2 * steps.new ≤ 2 * steps.old + 2 * room + length bytes.now }
+    requires fills { Fills (length bytes.now) reached.moof }
+    requires room { (reached.room ≤ 2 ^ 24) × HaveRoom reached.room states.old }
+    requires places { ArePlacesOf (ids_of states.old) places.now }
+    ensures finds { FindsOf file_len reached.moof bytes.now states.old reached.room place result }
+    ensures work { 2 * steps.new ≤ 2 * steps.old + 2 * reached.room + length bytes.now }
     ensures looks { 8 * looks.new ≤ 8 * looks.old + length states.old * length bytes.now }
     ensures refusal { IfErr result MeetsFault }
 {
+    let Reached { moof: top, room } = reached;
     let Some(traf) = child_at(top.view(bytes), place) else {
         return Ok(None);
     };
@@ -204,7 +210,7 @@ fn outside_in<L: Ledger, M: Ledger>(
         return Ok(None);
     };
     let mut room = room;
-    let before = check_front(front, file_len, states, &mut room, steps, looks)?;
+    let before = check_front(front, file_len, places, states, &mut room, steps, looks)?;
     let base = base_in(tfhd, top.offset, before)?;
     Ok(outside_in_fragment(traf, base, states, file_len))
 }
@@ -212,28 +218,29 @@ fn outside_in<L: Ledger, M: Ledger>(
 // What is told of a fault of this kind where the named box stands at a place in this `moof`.
 fn told_in<L: Ledger, M: Ledger>(
     kind: Kind,
-    top: TopBox,
+    reached: Reached,
     bytes: &[u8],
     place: u64,
     file_len: u64,
+    places: &TrackPlaces,
     states: &mut [TrackState],
-    room: u32,
     steps: &mut Steps<L>,
     looks: &mut Steps<M>,
 ) -> Result<Option<FaultNumbers>, Refusal>
-    requires fills { Fills (length bytes.now) top }
-    requires room { (room ≤ 2 ^ 24) × HaveRoom room states.old }
-    ensures finds { FindsOf file_len top bytes.now states.old room place result }
-    ensures work { 2 * steps.new ≤ 2 * steps.old + 2 * room + length bytes.now }
+    requires fills { Fills (length bytes.now) reached.moof }
+    requires room { (reached.room ≤ 2 ^ 24) × HaveRoom reached.room states.old }
+    requires places { ArePlacesOf (ids_of states.old) places.now }
+    ensures finds { FindsOf file_len reached.moof bytes.now states.old reached.room place result }
+    ensures work { 2 * steps.new ≤ 2 * steps.old + 2 * reached.room + length bytes.now }
     ensures looks { 8 * looks.new ≤ 8 * looks.old + length states.old * length bytes.now }
     ensures refusal { IfErr result MeetsFault }
 {
     match kind {
-        Kind::CountMismatch => Ok(counts_in_fragment(top.view(bytes), place)),
+        Kind::CountMismatch => Ok(counts_in_fragment(reached.moof.view(bytes), place)),
         Kind::SampleOutsideFile => {
-            outside_in(top, bytes, place, file_len, states, room, steps, looks)
+            outside_in(reached, bytes, place, file_len, places, states, steps, looks)
         }
-        _ => gap_in(top, bytes, place, file_len, states, room, steps, looks),
+        _ => gap_in(reached, bytes, place, file_len, places, states, steps, looks),
     }
 }
 
@@ -241,6 +248,7 @@ fn told_in<L: Ledger, M: Ledger>(
 fn pass_until<S: Store, L: Ledger, M: Ledger>(
     store: &mut S,
     outline: &Outline,
+    places: &TrackPlaces,
     states: &mut [TrackState],
     bytes: &mut [u8],
     room: u32,
@@ -249,11 +257,13 @@ fn pass_until<S: Store, L: Ledger, M: Ledger>(
     looks: &mut Steps<M>,
 ) -> Result<Option<Reached>, Refusal>
     requires room { (room ≤ 2 ^ 24) × HaveRoom room states.old }
+    requires places { ArePlacesOf (ids_of states.old) places.now }
     requires outline { HasOutline (S.is_honest store.old) (S.file store.old) outline.now }
     requires whole { AllByRecursion (IsWhole (length (S.file store.old))) outline.now.moofs.items }
     requires longest { length bytes.old ≡ outline.now.longest }
     ensures store { OnlyReads S.Store store.old store.new result }
     ensures bytes { length bytes.new ≡ length bytes.old }
+    ensures ids { OnOk result (ids_of states.new ≡ ids_of states.old) }
     ensures reached { IfOk result (λ found. IfSome found
         (IsReached (length (S.file store.old)) states.new)) }
     ensures next { IfOk result (λ found. IfSome found (λ r. WhereHonest S.Store store.old (λ file.
@@ -272,7 +282,16 @@ fn pass_until<S: Store, L: Ledger, M: Ledger>(
         }
         let len = read_payload(store, *top, bytes)?;
         let moof = top.view(&bytes[..len]);
-        check_moof(moof, file_len, states, &mut [], &mut room, steps, looks)?;
+        check_moof(
+            moof,
+            file_len,
+            places,
+            states,
+            &mut [],
+            &mut room,
+            steps,
+            looks,
+        )?;
     }
     Ok(None)
 }
@@ -300,22 +319,22 @@ pub(crate) fn numbers_in_fragments<S: Store, L: Ledger, M: Ledger>(
 {
     let mut states = Vec::new(alloc);
     states.extend_from_slice(plain.states.as_slice())?;
+    let places = TrackPlaces::new(alloc, states.as_slice())?;
     let states = states.as_mut_slice();
     let mut bytes = vec![in alloc; 0u8; outline.longest as usize]?;
     let bytes = bytes.as_mut_slice();
     let place = fault.offset;
     let Some(reached) = pass_until(
-        store, outline, states, bytes, plain.room, place, steps, looks,
+        store, outline, &places, states, bytes, plain.room, place, steps, looks,
     )?
     else {
         return Ok(None);
     };
-    let Reached { moof, room } = reached;
-    let len = read_payload(store, moof, bytes)?;
+    let len = read_payload(store, reached.moof, bytes)?;
     let file_len = store.len();
     let bytes = &bytes[..len];
     let told = told_in(
-        fault.kind, moof, bytes, place, file_len, states, room, steps, looks,
+        fault.kind, reached, bytes, place, file_len, &places, states, steps, looks,
     )?;
     Ok(told)
 }

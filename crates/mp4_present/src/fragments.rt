@@ -4,18 +4,21 @@ ghost use Rattle.std.specs.List.{AllByRecursion};
 ghost use Rattle.mp4_present.specs.words.Movies.{IsWhole};
 ghost use Rattle.mp4_present.specs.words.ToOpen.{PassesNoting, PassesOn};
 ghost use Rattle.mp4_present.specs.words.OverStores.{OnlyReads, WhereRead, RefusedOf, WhereHonest};
+ghost use Rattle.mp4_frag.specs.words.Finding.{ArePlacesOf};
+ghost use Rattle.mp4_frag.specs.words.Noted.{ids_of};
 ghost use Rattle.mp4_frag.specs.words.OwnTrafs.{own_seen};
 ghost use Rattle.mp4_present.specs.words.OwnTrafs.{none_noted};
 ghost use Rattle.mp4_frag.specs.words.States.{HaveRoom};
 ghost use Rattle.mp4_present.specs.words.Opening.{HasOutline};
 ghost use Rattle.mp4_present.specs.words.OverOpening.{ChecksMoofs, NotesOn};
 ghost use Rattle.mp4_present.specs.words.PassedMoofs.{RefusesFragments};
+ghost use Rattle.mp4_present.specs.words.WalkSteps.{ChecksAll};
 
 use crate::outline::Outline;
 use crate::reading::read_payload;
 use crate::tables_pass::PlainTracks;
 use mp4_boxes::{Memory, Refusal, Steps};
-use mp4_frag::{OwnTrafs, TrackState, check_moof};
+use mp4_frag::{OwnTrafs, TrackPlaces, TrackState, check_moof};
 use mp4_store::Store;
 use std::alloc::Global;
 use std::sync::ledger::Ledger;
@@ -25,6 +28,7 @@ use std::sync::ledger::Ledger;
 fn pass_fragments<S: Store, L: Ledger, M: Ledger>(
     store: &mut S,
     outline: &Outline,
+    places: &TrackPlaces,
     states: &mut [TrackState],
     own: &mut [OwnTrafs],
     bytes: &mut [u8],
@@ -33,6 +37,7 @@ fn pass_fragments<S: Store, L: Ledger, M: Ledger>(
     looks: &mut Steps<M>,
 ) -> Result<(), Refusal>
     requires room { (room ≤ 2 ^ 24) × HaveRoom room states.old }
+    requires places { ArePlacesOf (ids_of states.old) places.now }
     requires outline { HasOutline (S.is_honest store.old) (S.file store.old) outline.now }
     requires whole { AllByRecursion (IsWhole (length (S.file store.old))) outline.now.moofs.items }
     requires rooms { (length bytes.old ≡ outline.now.longest)
@@ -44,6 +49,8 @@ fn pass_fragments<S: Store, L: Ledger, M: Ledger>(
         NotesOn file states.old room states.new own.old own.new)) }
     ensures work { WhereHonest S.Store store.old (λ file. ChecksMoofs file (length states.old)
         result steps.old steps.new looks.old looks.new) }
+    ensures least { OnOk result (WhereHonest S.Store store.old (λ file.
+        ChecksAll file steps.old steps.new)) }
     ensures refusal { RefusedOf S.Store store.old store.new result (λ honest file.
         RefusesFragments honest file states.old room) }
 {
@@ -52,7 +59,9 @@ fn pass_fragments<S: Store, L: Ledger, M: Ledger>(
     for top in &outline.moofs {
         let len = read_payload(store, *top, bytes)?;
         let moof = top.view(&bytes[..len]);
-        check_moof(moof, file_len, states, own, &mut room, steps, looks)?;
+        check_moof(
+            moof, file_len, places, states, own, &mut room, steps, looks,
+        )?;
     }
     Ok(())
 }
@@ -93,15 +102,20 @@ pub(crate) fn check_fragments<S: Store, L: Ledger, M: Ledger>(
         plain.now.states.items plain.now.room states.items (map own_seen own.new.items)) }
     ensures work { WhereHonest S.Store store.old (λ file. ChecksMoofs file
         (length plain.now.states.items) result steps.old steps.new looks.old looks.new) }
+    ensures least { OnOk result (WhereHonest S.Store store.old (λ file.
+        ChecksAll file steps.old steps.new)) }
     ensures refusal { RefusedOf S.Store store.old store.new result (λ honest file.
         RefusesFragments honest file plain.now.states.items plain.now.room) }
 {
     let mut states = Vec::new(alloc);
     states.extend_from_slice(plain.states.as_slice())?;
     begin_own(alloc, own, plain.states.len())?;
+    let places = TrackPlaces::new(alloc, states.as_slice())?;
     let mut bytes = vec![in alloc; 0u8; outline.longest as usize]?;
     let (all, bytes) = (states.as_mut_slice(), bytes.as_mut_slice());
     let own = own.as_mut_slice();
-    pass_fragments(store, outline, all, own, bytes, plain.room, steps, looks)?;
+    pass_fragments(
+        store, outline, &places, all, own, bytes, plain.room, steps, looks,
+    )?;
     Ok(states)
 }

@@ -1,5 +1,5 @@
 //! A file, read to one presentation or refused.
-ghost use Rattle.std.specs.Prelude.{◌≡◌, length, IfOk, IfErr};
+ghost use Rattle.std.specs.Prelude.{◌≡◌, length, IfOk, IfErr, OnOk};
 ghost use Rattle.mp4_boxes.specs.declared.refusal.Refusal.TheVariants as refusals;
 ghost use Rattle.std.specs.List.{AllByRecursion};
 ghost use Rattle.mp4_present.specs.words.Movies.{Fills, IsWhole};
@@ -10,7 +10,7 @@ ghost use Rattle.mp4_present.specs.words.OpenedMovie.{IsInfoBy, IsOpenedAs, Open
 ghost use Rattle.mp4_present.specs.words.Opening.{HasOutline, IsOpened, RefusesDenoted, RefusesOpen};
 ghost use Rattle.mp4_present.specs.words.OverOpening.{ChecksFile, HaveInfos};
 ghost use Rattle.mp4_present.specs.words.OverStores.{OnlyReads, WhereHonest, WhereRead, Refused, RefusedOf};
-ghost use Rattle.mp4_present.specs.words.ToOpen.{IsPayloadIn, HasTables, HasTracks, LooksToOpen, WorksToOpen};
+ghost use Rattle.mp4_present.specs.words.ToOpen.{IsPayloadIn, HasTables, HasTracks, LooksToOpen, TakesToOpen, WorksToOpen};
 ghost use Rattle.mp4_present.specs.format.ByBytes.{OpensWithin};
 
 use crate::fragments::check_fragments;
@@ -92,6 +92,8 @@ fn find<S: Store, L: Ledger, M: Ledger>(
     ensures ids { WhereRead S.Store store.old result (λ file f. HasTracks file f.tracks.items) }
     ensures work { WhereHonest S.Store store.old (λ file.
         ChecksFile file result steps.old steps.new looks.old looks.new) }
+    ensures least { OnOk result (WhereHonest S.Store store.old (λ file.
+        TakesToOpen file steps.old steps.new)) }
     ensures refusal { RefusedOf S.Store store.old store.new result RefusesOpen }
 {
     let view = outline.moov.view(moov);
@@ -130,6 +132,8 @@ pub fn open_movie<S: Store, L: Ledger, M: Ledger>(
     ensures work { WhereHonest S.Store store.old (λ file. WorksToOpen file result steps.old
         steps.new) }
     ensures within { WhereHonest S.Store store.old (λ file. OpensWithin file steps.old steps.new) }
+    ensures least { OnOk result (WhereHonest S.Store store.old (λ file.
+        TakesToOpen file steps.old steps.new)) }
     ensures looks { WhereHonest S.Store store.old (λ file. LooksToOpen file result looks.old
         looks.new) }
     ensures refusal { RefusedOf S.Store store.old store.new result RefusesOpen }

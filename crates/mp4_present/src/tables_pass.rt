@@ -1,5 +1,5 @@
 //! The tables of the tracks of a movie, checked one after the other.
-ghost use Rattle.std.specs.Prelude.{ℕ, ◌≡◌, ◌+◌, ◌*◌, ◌≤◌, ◌-◌, ◌^◌, min, true, length, map, List, IfOk, IfErr};
+ghost use Rattle.std.specs.Prelude.{ℕ, ◌≡◌, ◌+◌, ◌*◌, ◌≤◌, ◌-◌, ◌^◌, min, true, length, map, List, IfOk, IfErr, OnOk};
 ghost use Rattle.mp4_boxes.specs.format.Bytes.{AreBytes, sum_of};
 ghost use Rattle.mp4_boxes.specs.words.View.{box_seen};
 ghost use Rattle.mp4_frag.specs.format.FragmentSamples as fragments;
@@ -8,7 +8,7 @@ ghost use Rattle.mp4_head.specs.format.Tree.{TrackTree, are_distinct};
 ghost use Rattle.mp4_present.specs.words.OverTables.{IsStateBehind, WhereTrees};
 ghost use Rattle.mp4_present.specs.words.Plain.{ArePlain, HaveTablesIn};
 ghost use Rattle.mp4_present.specs.words.TrackTrees.{AreTracksOf, HaveTables, RefusesTables};
-ghost use Rattle.mp4_present.specs.words.WalkSteps.{IfNoFault, table_steps};
+ghost use Rattle.mp4_present.specs.words.WalkSteps.{IfNoFault, least_table_steps, table_steps};
 
 use crate::movie::TrackTables;
 use mp4_boxes::{BoxView, Fault, FourCc, Kind, Refusal, Rule, Steps, check_children};
@@ -88,7 +88,7 @@ impl PlainTracks {
     ghost use Rattle.mp4_present.specs.words.Plain.{ArePlain, HasTablesIn};
     ghost use Rattle.mp4_present.specs.words.TrackTrees.{IsTrackOf, HaveTables, RefusesTable};
     ghost use Rattle.mp4_present.specs.words.ToOpen.{OneMorePlain, OneMoreSaid};
-    ghost use Rattle.mp4_present.specs.words.WalkSteps.{IfNoFault, table_steps};
+    ghost use Rattle.mp4_present.specs.words.WalkSteps.{IfNoFault, least_table_steps, table_steps};
 
     // No track yet.
     fn none(alloc: Global) -> PlainTracks
@@ -122,6 +122,8 @@ impl PlainTracks {
             track.now self.old self.new) }
         ensures work { ChecksTables track.now (length (box_seen moov.entry).payload) self.old.room
             self.new.room result steps.old steps.new }
+        ensures least { OnOk result ((t : TrackTree) → IsTrackOf t track.now
+            → steps.old + least_table_steps t ≤ steps.new) }
         ensures refusal { IfErr result (RefusesTable file_len self.old.room track.now) }
     {
         let mut keys = Keys::new();
@@ -159,6 +161,8 @@ pub(crate) fn check_tables<L: Ledger>(
         HaveTables file_len (box_seen moov.entry).payload head.now.trexes.items trees p)) }
     ensures work { IfNoFault result (WhereTrees head.now.tracks.items (λ trees.
         steps.new ≤ steps.old + sum_of table_steps trees)) }
+    ensures least { OnOk result (WhereTrees head.now.tracks.items (λ trees.
+        steps.old + sum_of least_table_steps trees ≤ steps.new)) }
     ensures within { steps.new ≤ steps.old + 5 * 2 ^ 24
         + 6 * (length head.now.tracks.items * length (box_seen moov.entry).payload) }
     ensures refusal { IfErr result (RefusesTables file_len head.now.tracks.items) }

@@ -1,25 +1,18 @@
--- Tracks whose IDs rise, among which one is found without a look at all of them.
-use Rattle.std.specs.Prelude.{◌≡◌, ℕ, zero, suc, ◌<◌, ◌≤◌, ◌==◌, List, [], ◌∷◌, length, take, find, slice_get, Option, None, ⊤}
-use Rattle.mp4_frag.specs.declared.finding.Known.{Known}
+-- Tracks that are found by their IDs.
+use Rattle.std.specs.Prelude.{◌≡◌, ℕ, suc, ◌==◌, cond, List, [], ◌∷◌, take, find, slice_get, Option, Some, None}
+use Rattle.std.specs.BTreeMap.{get}
+use Rattle.std.specs.Ordering.{nat_cmp}
+use Rattle.mp4_frag.specs.declared.finding.TrackPlaces.{TrackPlaces}
 use Rattle.mp4_frag.specs.declared.state.TrackState.{TrackState}
 
--- the first n of these tracks have IDs above this one
-abbrev pub AreAbove : ℕ → ℕ → List TrackState → Type 0
-AreAbove id zero tracks = ⊤
-AreAbove id (suc n) [] = ⊤
-AreAbove id (suc n) (t ∷ tracks) = (id < t.id) × AreAbove id n tracks
+-- the place of the first of these IDs that is this one, where they begin at a place
+abbrev pub place_from : ℕ → ℕ → List ℕ → Option ℕ
+place_from id at [] = None
+place_from id at (i ∷ ids) = cond (i == id) (Some at) (place_from id (suc at) ids)
 
--- each of the first n has an ID above those before it
-abbrev pub AreRising : ℕ → List TrackState → Type 0
-AreRising zero tracks = ⊤
-AreRising (suc n) [] = ⊤
-AreRising (suc n) (t ∷ tracks) = AreAbove t.id n tracks × AreRising n tracks
-
--- so many tracks rise, and the place of the last one found is among them
-pub record IsKnown (tracks : List TrackState) (known : Known) : Type 0 where
-  pub last : known.last < known.rising
-  pub inside : 0 < length tracks → known.rising ≤ length tracks
-  pub rising : AreRising known.rising tracks
+-- the map has the place of the first of each of these IDs, and no others
+abbrev pub ArePlacesOf : List ℕ → TrackPlaces → Type 0
+ArePlacesOf ids places = (id : ℕ) → get nat_cmp places.places id ≡ place_from id 0 ids
 
 -- the first track with an ID, if one has it
 abbrev pub track_with : ℕ → List TrackState → Option TrackState

@@ -196,11 +196,13 @@ pub record IsTrafPassed (file_length moof : ℕ) (before : ℤ) (traf : Box) (ol
   pub bound : EndsNear before ends
   pub moved : IsMovedOn moof before (children_of traf) old new room less
 
--- tracks that moved on have the room that is left, and what their fragments inherit is the same
+-- tracks that moved on have the room that is left, and their IDs and what their fragments inherit
+-- are the same
 pub record KeepRoom (old new : List TrackState) (room less : ℕ) : Type 0 where
   pub few : less ≤ room
   pub each : HaveRoom less new
   pub same : (id : ℕ) → trex_among new id ≡ trex_among old id
+  pub ids : map (λ (t : TrackState). t.id) new ≡ map (λ (t : TrackState). t.id) old
 
 -- The first boxes of a `moof`, up to a place, where it may lack some: they fill it, each `traf` has
 -- the boxes of the profile, and each sample of its parts lies in the file.

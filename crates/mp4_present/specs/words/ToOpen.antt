@@ -23,7 +23,7 @@ use Rattle.mp4_present.specs.words.Outline.{AreSeen}
 use Rattle.mp4_present.specs.words.OwnTrafs.{AreOwnBehind}
 use Rattle.mp4_present.specs.words.PassedMoofs.{IsBegun, IsPassed}
 use Rattle.mp4_present.specs.words.Reading.{IsTopHeader}
-use Rattle.mp4_present.specs.words.WalkSteps.{IfNoFault, opening_steps}
+use Rattle.mp4_present.specs.words.WalkSteps.{IfNoFault, least_steps, opening_steps}
 use Rattle.mp4_present.specs.declared.opening.Found.{Found}
 use Rattle.mp4_present.specs.declared.outline.Outline.{Outline}
 use Rattle.mp4_present.specs.declared.outline.Seen.{Seen}
@@ -50,6 +50,10 @@ HasTracks file tracks = HasMovie file (ids_of tracks)
 abbrev pub WorksToOpen : {T : Type 0} → List ℕ → Result T Refusal → ℕ → ℕ → Type 0
 WorksToOpen file result old new = (tree : FileTree) → IsFileTree file tree
     → IfNoFault result (new ≤ old + opening_steps tree)
+
+-- a file that was opened took at least one for each row, `traf`, run and sample of its boxes
+abbrev pub TakesToOpen : List ℕ → ℕ → ℕ → Type 0
+TakesToOpen file old new = (tree : FileTree) → IsFileTree file tree → old + least_steps tree ≤ new
 
 -- ---- looks at tracks
 

@@ -48,6 +48,15 @@ table_steps t = 7 * table_rows (tables_of t.table) + 3 * length (plain_of t)
 abbrev pub opening_steps : FileTree → ℕ
 opening_steps tree = sum_of table_steps tree.movie.tracks + moofs_steps tree.fragments
 
+-- where the tables of a track are accepted, they take at least one for each row, and three for each
+-- sample
+unfoldable pub least_table_steps : TrackTree → ℕ
+least_table_steps t = table_rows (tables_of t.table) + 3 * length (plain_of t)
+
+-- so the tables of each track; the check of each `moof` takes just what it says
+abbrev pub least_steps : FileTree → ℕ
+least_steps tree = sum_of least_table_steps tree.movie.tracks + moofs_steps tree.fragments
+
 -- it is so of every answer but a fault
 abbrev pub IfNoFault : {A : Type 0} → Result A Refusal → Type 0 → Type 0
 IfNoFault (Ok x) P = P
@@ -59,6 +68,11 @@ IfNoFault (Err r) P = P
 abbrev pub ChecksWithin : List ℕ → ℕ → ℕ → Type 0
 ChecksWithin file old new = (boxes : List Box) → Holds File (file_container file) boxes
     → new ≤ old + boxes_steps (of_kind (codes "moof") boxes)
+
+-- the same where each was checked to its end: as many as they say
+abbrev pub ChecksAll : List ℕ → ℕ → ℕ → Type 0
+ChecksAll file old new = (boxes : List Box) → Holds File (file_container file) boxes
+    → new ≡ old + boxes_steps (of_kind (codes "moof") boxes)
 
 -- ---- walks
 

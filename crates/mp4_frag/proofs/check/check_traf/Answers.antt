@@ -16,7 +16,6 @@ use Rattle.mp4_frag.specs.words.States.{HasRoom}
 use Rattle.mp4_frag.specs.words.Walks.{trex_among}
 use Rattle.mp4_frag.proofs.Bounds.{up_to_near}
 use Rattle.mp4_frag.proofs.StateLists.{has_room, less_room, room_with}
-use Rattle.mp4_frag.proofs.TracksFound.{known_set}
 use Rattle.mp4_frag.specs.declared.state.TrackState.{TrackState}
 use Rattle.mp4_frag.proofs.OwnNoted.{ids_set, traf_notable}
 use Rattle.mp4_frag.proofs.TrafPassed.{traf_sound, found_trex, trex_same}
@@ -37,10 +36,6 @@ moved_on-requires-clause-room g c =
     let taken = c.in_ok-passed.ensures.taken in
     record { few = omega arith; time = before.time; bytes = before.bytes }
 
-pub returns-clause-known : goal.returns-clause-known
-returns-clause-known g c =
-    known_set c.in-Some-find_track.k c.args.tracks.now _ c.moved_on.result c.find_track.new.known c.find_track.ensures.known (c.moved_on.ensures.same.0 ∙ ap (λ (t : TrackState). t.id) c.index-tracks-k.is)
-
 pub returns-clause-kept : goal.returns-clause-kept
 returns-clause-kept g c =
     let before : HasRoom c.args.room.now c.index-tracks-k.result = rw (c.index-tracks-k.is) (has_room c.args.room.now c.in-Some-find_track.k c.args.tracks.now _ c.in-Some-find_track.ensures.inside c.requires.room.each) in
@@ -56,6 +51,7 @@ returns-clause-kept g c =
           (less_room c.args.room.now c.check_runs.new.room c.args.tracks.now less c.requires.room.each);
       same = λ id.
           trex_same c.args.tracks.now c.in-Some-find_track.k _ c.moved_on.result id c.in-Some-find_track.ensures.inside (c.moved_on.ensures.same.0 ∙ ap (λ t. t.id) c.index-tracks-k.is) (c.moved_on.ensures.same.1 ∙ ap (λ t. t.trex) c.index-tracks-k.is);
+      ids = ids_set c.in-Some-find_track.k c.args.tracks.now _ c.moved_on.result c.in-Some-find_track.ensures.inside (c.moved_on.ensures.same.0 ∙ ap (λ (t : TrackState). t.id) c.index-tracks-k.is);
     }
 
 pub returns-clause-passed : goal.returns-clause-passed

@@ -6,7 +6,7 @@ use Rattle.mp4_boxes.specs.words.View.{box_seen}
 use Rattle.mp4_frag.proofs.HeadsFound.{holds_boxes}
 use Rattle.mp4_frag.proofs.ChecksStopped.{taken_traf, taken_other, stops_within}
 use Rattle.mp4_frag.proofs.Costs.{moof_cost_traf, moof_cost_said, moof_cost_ended, moof_cost_fault}
-use Rattle.mp4_frag.proofs.CheckLooks.{looked_traf, looked_some, looked_each, looked_ended, looked_fault}
+use Rattle.mp4_frag.proofs.CheckLooks.{looked_traf, looked_one, looked_each, looked_ended, looked_fault}
 use Rattle.mp4_frag.proofs.MoofPassed.{moof_traf, moof_ended, moves_traf, moves_fault, moves_ended}
 use Rattle.mp4_frag.specs.words.OwnTrafs.{own_seen}
 use Rattle.mp4_frag.proofs.OwnNoted.{data_ended, notes_other, notes_traf, notes_ended}
@@ -51,8 +51,8 @@ loop-child-preserved-then-eq g c =
       rw kept (moof_traf c.args.file_len _ _ _ _ _ (box_seen c.in-Some.child) _ ends _ _ i.4 c.in-Some.ensures.steps is_traf r.passed.holds sound r.passed.bound r.kept.same),
       rw kept (moves_traf c.args.file_len _ _ _ _ _ _ (box_seen c.in-Some.child) _ ends _ _ _ _ i.5 c.in-Some.ensures.steps is_traf r.passed.holds sound (rw there at r.passed.moved)),
       moof_cost_traf _ _ _ (box_seen c.in-Some.child) _ _ _ _ _ _ i.6 c.in-Some.ensures.steps is_traf (rw c.tick.ensures.one_more at r.work.cost) (rw c.tick.ensures.one_more at r.work.within),
-      r.known,
-      looked_traf _ _ _ (box_seen c.in-Some.child) _ _ _ _ i.8 c.in-Some.ensures.steps is_traf r.looks.some (rw i.9 at r.looks.most),
+      r.ids ∙ i.7,
+      looked_traf _ _ _ (box_seen c.in-Some.child) _ _ _ _ i.8 c.in-Some.ensures.steps is_traf r.looks.one (rw i.9 at r.looks.most),
       r.many ∙ i.9,
       rw kept (notes_traf c.args.file_len _ _ _ _ _ (box_seen c.in-Some.child) _ ends _ _ _ _ _ c.in_ok-passed.passed i.10 c.in-Some.ensures.steps is_traf i.4.same sound (rw there at r.own) r.ids noted.noted each),
       taken_traf _ _ _ (box_seen c.in-Some.child) _ _ _ _ _ _ _ i.11 c.in-Some.ensures.steps is_traf (rw there at r.passed.moved),
@@ -81,7 +81,7 @@ pub returns-clause-work : goal.returns-clause-work
 returns-clause-work g c =
     let all = holds_boxes (box_seen c.args.moof) _ c.requires.boxes in
     let most = moof_cost_ended _ _ _ (box_seen c.args.moof) _ _ _ _ c.loop-child.invariant.6 c.into_iter-child-iterator.ensures.into_iter_gives c.requires.boxes in
-    record { cost = moof_cost_said _ _ (box_seen c.args.moof) _ _ _ _ c.loop-child.invariant.6 (c.into_iter-child-iterator.ensures.into_iter_gives ∙ all); within = most; most = omega (arith, most) }
+    record { cost = moof_cost_said _ _ (box_seen c.args.moof) _ _ _ _ c.loop-child.invariant.6 c.in-None.ensures.steps.0 (c.into_iter-child-iterator.ensures.into_iter_gives ∙ all); within = most; most = omega (arith, most) }
 
 pub returns-clause-looks : goal.returns-clause-looks
 returns-clause-looks g c =
@@ -89,7 +89,7 @@ returns-clause-looks g c =
     let same = c.into_iter-child-iterator.ensures.into_iter_gives ∙ all in
     let h = c.loop-child.invariant.8 in
     record {
-      some = looked_some _ _ (box_seen c.args.moof) _ _ _ h c.in-None.ensures.steps.0 same;
+      one = looked_one _ _ (box_seen c.args.moof) _ _ _ h c.in-None.ensures.steps.0 same;
       each = looked_each _ _ (box_seen c.args.moof) _ _ _ h same;
       most = looked_ended _ _ _ (box_seen c.args.moof) _ _ _ h c.into_iter-child-iterator.ensures.into_iter_gives c.requires.boxes;
     }
@@ -106,7 +106,7 @@ returns-in_err-passed-clause-looks g c =
     let p = err_from_is_err_and c.from_residual.result c.from_residual.ensures.1 in
     let most = looked_fault _ _ _ _ (box_seen c.in-Some.child) (box_seen c.args.moof) _ _ _ _ c.loop-child.invariant.8 c.in-Some.ensures.steps c.into_iter-child-iterator.ensures.into_iter_gives c.requires.boxes
     (rw c.loop-child.invariant.9 at c.in_err-passed.ensures.looks.most) in
-    rw p.1 (record { some = tt; each = tt; most = most })
+    rw p.1 (record { one = tt; each = tt; most = most })
 
 pub returns-clause-own : goal.returns-clause-own
 returns-clause-own g c trexes defaults apart long =
@@ -130,7 +130,7 @@ returns-in_err-note_traf-clause-looks g c =
     let p = err_from_is_err_and c.from_residual-in_err-note_traf.result c.from_residual-in_err-note_traf.ensures.1 in
     let most = looked_fault _ _ _ _ (box_seen c.in-Some.child) (box_seen c.args.moof) _ _ _ _ c.loop-child.invariant.8 c.in-Some.ensures.steps c.into_iter-child-iterator.ensures.into_iter_gives c.requires.boxes
     (rw c.loop-child.invariant.9 at c.in_ok-passed.ensures.looks.most) in
-    rw p.1 (record { some = tt; each = tt; most = most })
+    rw p.1 (record { one = tt; each = tt; most = most })
 
 pub returns-in_err-passed-clause-stops : goal.returns-in_err-passed-clause-stops
 returns-in_err-passed-clause-stops g c =
@@ -146,7 +146,7 @@ returns-in_err-note_traf-clause-stops g c =
     let is_traf = rw c.kind.ensures at (sym c.if-eq.ensures) in
     let taken = taken_traf _ _ _ (box_seen c.in-Some.child) _ _ _ _ _ _ _ i.11 c.in-Some.ensures.steps is_traf r.passed.moved in
     let cost = moof_cost_traf _ _ _ (box_seen c.in-Some.child) _ _ _ _ _ _ i.6 c.in-Some.ensures.steps is_traf (rw c.tick.ensures.one_more at r.work.cost) (rw c.tick.ensures.one_more at r.work.within) in
-    let looked = looked_traf _ _ _ (box_seen c.in-Some.child) _ _ _ _ i.8 c.in-Some.ensures.steps is_traf r.looks.some (rw i.9 at r.looks.most) in
+    let looked = looked_traf _ _ _ (box_seen c.in-Some.child) _ _ _ _ i.8 c.in-Some.ensures.steps is_traf r.looks.one (rw i.9 at r.looks.most) in
     rw (p.1, p.2) (stops_within _ _ (box_seen c.args.moof) _ _ _ _ _ _ _ taken cost looked (c.into_iter-child-iterator.ensures.into_iter_gives ∙ all))
 
 pub returns-clause-ends : goal.returns-clause-ends

@@ -1,6 +1,6 @@
 use Rattle.std.proofs.Common.{◌≡◌, ◌≤◌, length, map}
 use Rattle.mp4_boxes.specs.words.View.{box_seen}
-use Rattle.mp4_frag.specs.words.Finding.{IsKnown}
+use Rattle.mp4_frag.specs.words.Noted.{ids_of}
 use Rattle.mp4_frag.specs.words.OwnTrafs.{own_seen}
 use Rattle.mp4_frag.specs.words.States.{HaveRoom}
 use Rattle.mp4_frag.proofs.ChecksStopped.{MoofTaken}
@@ -20,7 +20,7 @@ invariant-loop-child g l =
     × MoofSeen l.file_len (box_seen l.moof).offset l.fn.tracks l.initial.child-iterator l.child-iterator l.before l.tracks
     × MovesSeen l.file_len (box_seen l.moof).offset l.fn.tracks l.fn.room l.initial.child-iterator l.child-iterator l.before l.tracks l.room
     × MoofCost l.initial.child-iterator l.child-iterator l.fn.steps l.fn.room l.steps l.room
-    × IsKnown l.tracks l.known
+    × (ids_of l.tracks ≡ ids_of l.fn.tracks)
     × MoofLooked l.initial.child-iterator l.child-iterator (length l.fn.tracks) l.fn.looks l.looks
     × (length l.tracks ≡ length l.fn.tracks)
     × NotesSeen (box_seen l.moof).offset l.fn.tracks l.initial.child-iterator l.child-iterator l.before l.tracks (map own_seen l.fn.own) (map own_seen l.own)

@@ -11,7 +11,7 @@ use Rattle.mp4_present.proofs.fault_gaps.gap_in.Goals as goal
 
 pub returns-clause-finds : goal.returns-clause-finds
 returns-clause-finds g c =
-    let moof = moof_read c.args.top c.args.bytes.now in
+    let moof = moof_read c.args.reached.moof c.args.bytes.now in
     let traf = box_seen c.in-Some.traf in
     let is : box_seen c.in-Some-front_of.front ≡ up_to traf.offset moof = c.in-Some-front_of.ensures ∙ ap (λ (k : ℕ). up_to k moof) c.offset.ensures in
     record {
@@ -20,7 +20,7 @@ returns-clause-finds g c =
       after = c.check_front.new.tracks;
       less = c.check_front.new.room;
       sound = λ trexes a. subst (λ (b : Box). IsSoundFront c.args.file_len trexes (tree_of b)) is (c.in_ok-check_front.ensures.sound trexes a);
-      moved = subst (λ (b : Box). AreMovedOn b.offset (pos b.offset) (of_kind (codes "traf") (children_of b)) c.args.states.now c.check_front.new.tracks c.args.room c.check_front.new.room) is c.in_ok-check_front.ensures.moved;
+      moved = subst (λ (b : Box). AreMovedOn b.offset (pos b.offset) (of_kind (codes "traf") (children_of b)) c.args.states.now c.check_front.new.tracks c.args.reached.room c.check_front.new.room) is c.in_ok-check_front.ensures.moved;
       state = c.in-Some-state_with.state;
       found_state = sym c.state_with.ensures ∙ c.in-Some-state_with.is;
       due_is = c.in_64_bits-due.ensures;

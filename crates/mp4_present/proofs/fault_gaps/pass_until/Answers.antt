@@ -1,4 +1,4 @@
-use Rattle.std.proofs.Common.{◌≡◌, rules, length, refl}
+use Rattle.std.proofs.Common.{◌≡◌, ◌∙◌, rules, length, refl}
 use Rattle.std.specs.Prelude.{IsTrue}
 use Rattle.std.proofs.lemmas.Result.{err_from_is_err_and}
 use Rattle.mp4_boxes.specs.words.View.{box_seen}
@@ -19,6 +19,7 @@ loop-top-init g c =
         file = refl;
         reads = refl;
         states = search rules;
+        ids = refl;
         few = search rules;
         longest = search rules;
         whole = rw c.deref-top-items.ensures.value c.requires.whole;
@@ -98,6 +99,7 @@ loop-top-preserved g c =
         file = search rules;
         reads = search rules;
         states = search rules;
+        ids = c.in_ok-check_moof.ensures.accepted.kept.ids ∙ i.ids;
         few = search rules;
         longest = search rules;
         whole = whole.1;
@@ -175,3 +177,6 @@ returns-then-place-top-clause-next g c =
       left = left_before _ _ _ _ _ _ (let l = i.left told in stands_behind file at top l.boxes ((coming told).0 l.boxes l.are_from)) (i.fit told);
       looked = looks_before _ _ _ _ _ _ (let l = i.left told in stands_behind file at top l.boxes ((coming told).0 l.boxes l.are_from)) (i.looks told);
     }
+
+pub check_moof-requires-clause-places : goal.check_moof-requires-clause-places
+check_moof-requires-clause-places g c = rw c.loop-top.invariant.1.ids c.requires.places

@@ -4,6 +4,7 @@ use Rattle.mp4_present.specs.words.Movies.{IsWhole}
 use Rattle.mp4_present.specs.words.Outline.{AreMoofsFrom}
 use Rattle.std.specs.Prelude.{IsTrue}
 use Rattle.mp4_boxes.specs.format.Box.{Box}
+use Rattle.mp4_frag.specs.words.Noted.{ids_of}
 use Rattle.mp4_frag.specs.words.States.{HaveRoom}
 use Rattle.mp4_head.specs.format.Tree.{MovieTree}
 use Rattle.mp4_present.specs.words.NumbersTold.{LooksFit}
@@ -21,6 +22,7 @@ invariant-loop-top g l =
       file : g.S.Store.file l.store ≡ g.S.Store.file l.fn.store;
       reads : g.S.Store.read_failures l.store ≡ g.S.Store.read_failures l.fn.store;
       states : HaveRoom l.room l.states;
+      ids : ids_of l.states ≡ ids_of l.fn.states;
       few : l.room ≤ 2 ^ 24;
       longest : length l.bytes ≡ l.outline.longest;
       whole : AllByRecursion (IsWhole (length (g.S.Store.file l.fn.store))) (drop l.top-index l.top-items);

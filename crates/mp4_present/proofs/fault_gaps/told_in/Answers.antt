@@ -6,5 +6,5 @@ use Rattle.mp4_present.proofs.fault_gaps.told_in.Goals as goal
 pub returns-in-CountMismatch-clause-finds : goal.returns-in-CountMismatch-clause-finds
 returns-in-CountMismatch-clause-finds g c =
     let a = c.args in
-    let moof = moof_read a.top a.bytes.now in
-    some_so (IsPlain a.file_len) (FindsIn a.file_len moof a.states.now a.room a.place) c.counts_in_fragment.result (λ n f. finds_plain a.file_len moof a.states.now a.room a.place n f) (c.counts_in_fragment.ensures a.file_len)
+    let moof = moof_read a.reached.moof a.bytes.now in
+    some_so (IsPlain a.file_len) (FindsIn a.file_len moof a.states.now a.reached.room a.place) c.counts_in_fragment.result (λ n f. finds_plain a.file_len moof a.states.now a.reached.room a.place n f) (c.counts_in_fragment.ensures a.file_len)

@@ -6,8 +6,8 @@ use Rattle.mp4_frag.specs.words.OwnTrafs.{own_seen}
 use Rattle.mp4_present.proofs.TrafsNoted.{owns_first, owns_next, all_noted}
 use Rattle.mp4_present.proofs.MoofsPassed.{IsRead, under_way_first, not_read, not_passed, all_passed, next_passed, next_refused}
 use Rattle.mp4_boxes.specs.words.View.{box_seen}
-use Rattle.mp4_present.proofs.ChecksCounted.{within_first, next_within, stopped_steps, if_stopped, checks_done}
-use Rattle.mp4_present.proofs.WalkWork.{checked_within}
+use Rattle.mp4_present.proofs.ChecksCounted.{steps_first, next_checked, next_stopped, stopped_steps, if_stopped, checks_all, checks_done}
+use Rattle.mp4_present.proofs.WalkWork.{checked_all}
 use Rattle.mp4_present.proofs.LooksCounted.{looks_first, looks_done, next_looked, none_looked, all_looked, next_looks, refused_looks}
 use Rattle.mp4_present.proofs.MoofBytes.{none_fit, next_fits, all_fit, refused_fits}
 use Rattle.mp4_present.proofs.TablesWork.{if_no_fault}
@@ -32,8 +32,9 @@ loop-top-init g c =
         left = λ told. let o = c.requires.outline told in left_first file o.0 outline o.1 o.3;
         so = λ told movie boxes b. let o = c.requires.outline told in under_way_first file movie boxes o.0 outline c.args.states.now c.args.room o.1 o.3 b;
         each = c.requires.rooms.1;
+        ids = refl;
         own = λ told movie boxes b own. let o = c.requires.outline told in owns_first file movie boxes o.0 outline c.args.states.now c.args.room (map own_seen c.args.own.now) o.1 o.3 b own;
-        work = λ told. within_first file _;
+        work = λ told. steps_first file _;
         looked = λ told. looks_first file _ _;
         looks = λ told. none_looked _ _ _ _;
         fit = λ told. none_fit _ _ _ _ c.requires.room.0;
@@ -89,6 +90,7 @@ loop-top-preserved g c =
             (box_seen c.view-moof.result) c.read_payload.new.room c.in_ok-len.len c.len-file_len.result r c.len-file_len.ensures
             c.check_moof.new.tracks c.check_moof.new.room c.in_ok-check_moof.ensures.sound c.in_ok-check_moof.ensures.moved;
         each = search rules;
+        ids = c.in_ok-check_moof.ensures.accepted.kept.ids ∙ i.ids;
         own = λ told movie boxes b own.
             let u = i.own told movie boxes b own in
             let r : IsRead file top (box_seen c.view-moof.result) c.read_payload.new.room c.in_ok-len.len = record {
@@ -112,8 +114,8 @@ loop-top-preserved g c =
               of_bytes = c.in_ok-len.ensures.room;
             } in
             let e = c.in_ok-check_moof.ensures in
-            next_within file at top all whole.0 u.0 u.1.0 ((coming told).0 u.0 u.1.0) (box_seen c.view-moof.result) c.read_payload.new.room c.in_ok-len.len r
-            _ _ _ (checked_within _ _ _ _ _ _ _ (box_seen c.view-moof.result) refl e.moved e.work.cost) u.1.1;
+            next_checked file at top all whole.0 u.0 u.1.0 ((coming told).0 u.0 u.1.0) (box_seen c.view-moof.result) c.read_payload.new.room c.in_ok-len.len r
+            _ _ _ (checked_all _ _ _ _ _ _ _ (box_seen c.view-moof.result) refl e.moved e.work.cost) u.1.1;
         looked = λ told all h.
             let u = i.looked told all h in
             let r : IsRead file top (box_seen c.view-moof.result) c.read_payload.new.room c.in_ok-len.len = record {
@@ -195,6 +197,12 @@ returns-clause-work g c =
       looks = record { said = looks_done _ _ _ _ _ (c.loop-top.invariant.1.looked told); within = all_looked _ _ _ _ _ (c.loop-top.invariant.1.looks told) };
     }
 
+pub returns-clause-least : goal.returns-clause-least
+returns-clause-least g c = λ told.
+    let at = c.loop-top.invariant.0 in
+    let i = c.loop-top.invariant.1 in
+    checks_all _ at _ _ (i.work told) (last_moof (g.S.Store.file c.args.store.now) at c.deref-top-items.result.now c.loop-top.top-index c.loop-top-test.false (i.to_come told))
+
 pub returns-in_err-len-clause-work : goal.returns-in_err-len-clause-work
 returns-in_err-len-clause-work g c =
     λ told. record {
@@ -227,10 +235,10 @@ returns-in_err-check_moof-clause-work g c =
       of_bytes = c.in_ok-len.ensures.room;
     } in
     record {
-      work = if_stopped ℤ (Unit {0}) (ChecksWithin file _ _) _ _ _ _ _ moof _ refused stops (λ s. checks_done file top.header.end _ _ (λ all h.
+      work = if_stopped ℤ (Unit {0}) (ChecksWithin file _ _) _ _ _ _ _ moof _ refused stops (λ s all h.
           let u = i.work told all h in
-          next_within file at top all whole.0 u.0 u.1.0 ((coming told).0 u.0 u.1.0) moof c.read_payload.new.room c.in_ok-len.len r
-          _ _ _ (stopped_steps moof _ _ s.checked) u.1.1));
+          next_stopped file at top all whole.0 u.0 u.1.0 ((coming told).0 u.0 u.1.0) moof c.read_payload.new.room c.in_ok-len.len r
+          _ _ _ (stopped_steps moof _ _ s.checked) u.1.1);
       within = refused_fits file at top whole.0 (let l = i.left told in stands_behind file at top l.boxes ((coming told).0 l.boxes l.are_from)) moof c.read_payload.new.room c.in_ok-len.len r _ _ _ _ c.check_moof.ensures.work.most (i.fit told);
       looks = record {
         said = if_stopped ℤ (Unit {0}) (LooksWithin file _ _ _) _ _ _ _ _ moof _ refused stops (λ s. looks_done file top.header.end _ _ _ (λ all h.
@@ -241,3 +249,6 @@ returns-in_err-check_moof-clause-work g c =
             (length c.args.states.now) _ _ _ (rw many at c.check_moof.ensures.looks.most) (i.looks told);
       };
     })
+
+pub check_moof-requires-clause-places : goal.check_moof-requires-clause-places
+check_moof-requires-clause-places g c = rw c.loop-top.invariant.1.ids c.requires.places

@@ -8,11 +8,12 @@ use Rattle.mp4_present.specs.words.PassedMoofs.{IsBegun}
 use Rattle.mp4_present.proofs.MoofsPassed.{IsUnderWay}
 use Rattle.std.specs.Prelude.{IsTrue}
 use Rattle.mp4_frag.specs.words.States.{HaveRoom}
+use Rattle.mp4_frag.specs.words.Noted.{ids_of}
 use Rattle.mp4_frag.specs.words.OwnTrafs.{own_seen}
 use Rattle.mp4_present.specs.words.OwnTrafs.{none_noted}
 use Rattle.mp4_present.proofs.TrafsNoted.{OwnsUnderWay}
 use Rattle.mp4_present.proofs.FragmentPass.{Left}
-use Rattle.mp4_present.proofs.ChecksCounted.{LeftWithin}
+use Rattle.mp4_present.proofs.ChecksCounted.{StepsLeft}
 use Rattle.mp4_present.proofs.LooksCounted.{LooksLeft}
 use Rattle.mp4_present.proofs.MoofBytes.{MoofsFit}
 use Rattle.mp4_present.specs.words.NumbersTold.{LooksFit}
@@ -33,9 +34,10 @@ invariant-loop-top g l =
       left : IsTrue (g.S.Store.is_honest l.fn.store) → Left (g.S.Store.file l.fn.store) next l.outline.longest;
       so : IsTrue (g.S.Store.is_honest l.fn.store) → (movie : MovieTree) (boxes : List Box) → IsBegun (g.S.Store.file l.fn.store) movie boxes l.fn.states l.fn.room → IsUnderWay (g.S.Store.file l.fn.store) movie boxes next l.outline.longest l.states l.room;
       each : length l.own ≡ length l.fn.states;
+      ids : ids_of l.states ≡ ids_of l.fn.states;
       own : IsTrue (g.S.Store.is_honest l.fn.store) → (movie : MovieTree) (boxes : List Box) → IsBegun (g.S.Store.file l.fn.store) movie boxes l.fn.states l.fn.room → map own_seen l.fn.own ≡ map (λ _. none_noted) l.fn.states
           → OwnsUnderWay (g.S.Store.file l.fn.store) movie boxes next l.outline.longest l.states l.room (map own_seen l.own);
-      work : IsTrue (g.S.Store.is_honest l.fn.store) → LeftWithin (g.S.Store.file l.fn.store) next l.fn.steps l.steps;
+      work : IsTrue (g.S.Store.is_honest l.fn.store) → StepsLeft (g.S.Store.file l.fn.store) next l.fn.steps l.steps;
       looked : IsTrue (g.S.Store.is_honest l.fn.store) → LooksLeft (g.S.Store.file l.fn.store) next (length l.fn.states) l.fn.looks l.looks;
       looks : IsTrue (g.S.Store.is_honest l.fn.store) → LooksFit (length (g.S.Store.file l.fn.store)) next (length l.fn.states) l.fn.looks l.looks;
       fit : IsTrue (g.S.Store.is_honest l.fn.store) → MoofsFit (length (g.S.Store.file l.fn.store)) next l.room l.fn.steps l.steps;

@@ -10,7 +10,7 @@ use Rattle.std.proofs.lemmas.Result.{err_from_is_err_and}
 use Rattle.mp4_present.proofs.Opened.{IsRead, its_movie, tracks_read, open_not_sound, open_not_fit, open_not_passed}
 use Rattle.mp4_present.proofs.LooksCounted.{looks_counted, looks_of, looks_open, none_looks}
 use Rattle.mp4_present.proofs.OpeningBytes.{tables_open, moofs_open, none_open}
-use Rattle.mp4_present.proofs.OpeningSteps.{tables_counted, moofs_counted}
+use Rattle.mp4_present.proofs.OpeningSteps.{all_taken, tables_counted, moofs_counted}
 use Rattle.mp4_present.proofs.PlainLists.{found_tables}
 use Rattle.mp4_present.proofs.TablesWork.{if_no_fault, handed_on, none_taken}
 use Rattle.mp4_present.proofs.opening.find.Goals as goal
@@ -207,3 +207,11 @@ returns-clause-work g c =
             within = looks_open honest file outline moov b head r says told _ _ (rw many at l.within);
           };
     }
+
+pub returns-clause-least : goal.returns-clause-least
+returns-clause-least g c =
+    let honest = g.S.Store.is_honest c.args.store.now in
+    let file = g.S.Store.file c.args.store.now in
+    let b = box_seen c.view-view.result in
+    let r : IsRead honest file c.args.outline.now c.args.moov.now b = record { outline = c.requires.outline; is = c.view-view.ensures; fills = c.requires.moov.0; bytes = c.requires.moov.1 } in
+    λ told tree is. all_taken honest file c.args.outline.now c.args.moov.now b c.in_ok-head.head r c.in_ok-head.ensures.head told tree is _ _ _ c.in_ok-plain.ensures.least (c.in_ok-states.ensures.least told)

@@ -117,3 +117,9 @@ returns-clause-looks g c =
     let moov = c.in_ok-moov.ensures in
     let work = rw (moov.honesty, outline.store.honesty, moov.file, outline.store.file) at c.in_ok-plain.ensures.work in
     λ told. record { said = (work told).looks.said; within = (work told).looks.within }
+
+pub returns-clause-least : goal.returns-clause-least
+returns-clause-least g c =
+    let outline = c.in_ok-outline.ensures in
+    let moov = c.in_ok-moov.ensures in
+    λ told. (rw (moov.honesty, outline.store.honesty, moov.file, outline.store.file) at c.in_ok-plain.ensures.least) told

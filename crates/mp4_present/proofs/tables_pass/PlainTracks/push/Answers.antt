@@ -8,7 +8,7 @@ use Rattle.mp4_present.proofs.PlainLists.{lie_in, plain_more}
 use Rattle.mp4_present.proofs.TablesKept.{IsRead, tables_are, state_is, bytes_few, tables_more, table_fails}
 use Rattle.mp4_boxes.specs.words.View.{box_seen}
 use Rattle.mp4_present.proofs.OpeningBytes.{track_fits, of_less, refused_fits}
-use Rattle.mp4_present.proofs.TablesWork.{if_no_fault, track_within}
+use Rattle.mp4_present.proofs.TablesWork.{if_no_fault, track_least, track_within}
 use Rattle.mp4_present.proofs.tables_pass.PlainTracks.push.Goals as goal
 
 pub returns-clause-one_more : goal.returns-clause-one_more
@@ -72,6 +72,9 @@ returns-clause-work g c =
     let e = c.in_ok-tables.ensures in
     let less = track_fits _ _ _ (box_seen c.args.moov) (box_seen c.args.track.now.stbl) c.in_ok-tables.tables c.count.result _ _ _ c.requires.inside.inside e.tables e.payload c.count.ensures e.within c.totals-totals.ensures.work in
     record { said = track_within _ _ _ c.args.track.now c.in_ok-tables.tables _ _ _ e.tables e.passed c.totals-totals.ensures.work; within = of_less _ _ _ _ _ less; less = less }
+
+pub returns-clause-least : goal.returns-clause-least
+returns-clause-least g c = track_least _ _ _ c.args.track.now c.in_ok-tables.tables _ _ _ c.in_ok-tables.ensures.tables c.in_ok-tables.ensures.counted c.totals-totals.ensures.counted
 
 pub returns-in_err-push-clause-work : goal.returns-in_err-push-clause-work
 returns-in_err-push-clause-work g c =
