@@ -1,4 +1,5 @@
-//! Stores and sinks: real files, slow writers, bytes in memory, and a store that reads ahead.
+//! Stores and sinks: real files, slow writers, bytes in memory, a store that reads ahead, and one
+//! of parts.
 ghost use Rattle.std.specs.Prelude.{◌<◌, false, replicate};
 
 use super::*;
@@ -309,5 +310,159 @@ fn a_real_file_read_ahead(rt: HostRuntime) -> Result<(), Fail> {
     assert_eq!(rt; out, *b"6789");
     assert_eq!(rt; store.read_at(0, &mut out), Ok(()));
     assert_eq!(rt; out, *b"xxxx");
+    Ok(())
+}
+
+// A store of no bytes that can be read, of this length.
+#[derive(Drop)]
+struct Long {
+    size: u64,
+}
+
+impl Store for Long {
+    ghost is_honest = { λ _. false };
+
+    ghost file = { λ s. replicate s.size 0 };
+
+    ghost read_failures = { λ _. 18446744073709551615 };
+
+    fn len(&self) -> u64 {
+        self.size
+    }
+
+    fn read_at(&mut self, _at: u64, _out: &mut [u8]) -> Result<(), StoreFailed> {
+        Err(StoreFailed)
+    }
+}
+
+#[test]
+fn parts_as_one(rt: HostRuntime) -> Result<(), Fail> {
+    // Parts of no bytes at the front, between others and at the end.
+    let parts = vec![in rt.alloc();
+        MemStore::new(b""),
+        MemStore::new(b"012"),
+        MemStore::new(b""),
+        MemStore::new(b""),
+        MemStore::new(b"3"),
+        MemStore::new(b"456789"),
+        MemStore::new(b""),
+    ]?;
+    let joined = JoinedStore::new(rt.alloc(), parts)?;
+    assert!(rt; joined.is_some());
+    if let Some(mut store) = joined {
+        assert_eq!(rt; store.len(), 10);
+        assert_eq!(rt; store.parts().len(), 7);
+        let whole = *b"0123456789";
+        for at in 0usize..11 {
+            for end in at..11 {
+                let mut out = [0u8; 10];
+                assert!(rt; end as u64 <= store.len());
+                assert_eq!(rt; store.read_at(at as u64, &mut out[at..end]), Ok(()));
+                assert_eq!(rt; &out[at..end], &whole[at..end]);
+            }
+        }
+        for (at, part, offset) in [
+            (0u64, 1usize, 0u64),
+            (2, 1, 2),
+            (3, 4, 0),
+            (4, 5, 0),
+            (9, 5, 5),
+        ] {
+            assert_eq!(rt; store.place(at), Some(PartPlace { part, offset }));
+        }
+        assert_eq!(rt; store.place(10), None);
+    }
+    Ok(())
+}
+
+#[test]
+fn no_parts(rt: HostRuntime) -> Result<(), Fail> {
+    let parts: Vec<MemStore> = Vec::new(rt.alloc());
+    let joined = JoinedStore::new(rt.alloc(), parts)?;
+    assert!(rt; joined.is_some());
+    if let Some(mut store) = joined {
+        assert_eq!(rt; store.len(), 0);
+        assert_eq!(rt; store.read_at(0, &mut []), Ok(()));
+        assert_eq!(rt; store.place(0), None);
+    }
+    Ok(())
+}
+
+#[test]
+fn as_many_bytes_as_can_be_counted(rt: HostRuntime) -> Result<(), Fail> {
+    let half = 1u64 << 63;
+    for (second, fits) in [(half - 1, true), (half, false)] {
+        let parts = vec![in rt.alloc(); Long { size: half }, Long { size: second }]?;
+        let joined = JoinedStore::new(rt.alloc(), parts)?;
+        assert_eq!(rt; joined.is_some(), fits);
+        if let Some(mut store) = joined {
+            let mut out = [0u8; 2];
+            assert_eq!(rt; store.len(), u64::MAX);
+            assert_eq!(rt; store.read_at(half - 1, &mut out), Err(StoreFailed));
+        }
+    }
+    Ok(())
+}
+
+#[test]
+fn a_read_of_a_part_that_fails(rt: HostRuntime) -> Result<(), Fail> {
+    let mut first = below_for(usize::MAX);
+    let mut second = below_for(16);
+    {
+        let mut parts = Vec::new(rt.alloc());
+        parts.push(&mut first)?;
+        parts.push(&mut second)?;
+        let joined = JoinedStore::new(rt.alloc(), parts)?;
+        assert!(rt; joined.is_some());
+        if let Some(mut store) = joined {
+            let mut out = [0u8; 20];
+            assert!(rt; 200_000 <= store.len());
+            // The first 4 bytes of the second part, 16 of them, and 17.
+            assert_eq!(rt; store.read_at(99_984, &mut out), Ok(()));
+            // 99,999 is 398 times 251 and 101.
+            assert_eq!(rt; (out[0], out[15], out[16], out[19]), (86, 101, 0, 3));
+            assert_eq!(rt; store.read_at(99_996, &mut out), Ok(()));
+            assert_eq!(rt; store.read_at(99_997, &mut out), Err(StoreFailed));
+            // Only the part in which its bytes lie is read.
+            assert_eq!(rt; store.read_at(80_000, &mut out), Ok(()));
+        }
+    }
+    assert_eq!(rt; (first.reads, second.reads, second.failed), (4, 3, 1));
+    Ok(())
+}
+
+#[test]
+fn parts_read_ahead(rt: HostRuntime) -> Result<(), Fail> {
+    let mut first = below_for(usize::MAX);
+    let mut second = below_for(usize::MAX);
+    {
+        let mut parts = Vec::new(rt.alloc());
+        parts.push(&mut first)?;
+        parts.push(&mut second)?;
+        let joined = JoinedStore::new(rt.alloc(), parts)?;
+        assert!(rt; joined.is_some());
+        if let Some(joined) = joined {
+            let mut store = BufferedStore::new(rt.alloc(), joined)?;
+            let mut header = [0u8; 16];
+            assert!(rt; 200_000 <= store.len());
+            assert_eq!(rt; store.read_at(99_000, &mut header), Ok(()));
+            assert_eq!(rt; store.read_at(99_992, &mut header), Ok(()));
+            assert_eq!(rt; store.read_at(100_008, &mut header), Ok(()));
+            assert!(rt; are_from(8, &header));
+        }
+    }
+    assert_eq!(rt; (first.reads, second.reads), (1, 1));
+    Ok(())
+}
+
+#[test]
+fn a_part_is_replaced(rt: HostRuntime) -> Result<(), Fail> {
+    let parts = vec![in rt.alloc(); Long { size: 3 }, Long { size: 4 }]?;
+    let joined = JoinedStore::new(rt.alloc(), parts)?;
+    assert!(rt; joined.is_some());
+    if let Some(mut store) = joined {
+        let before = store.replace_part(1, Long { size: 4 });
+        assert_eq!(rt; (before.size, store.len()), (4, 7));
+    }
     Ok(())
 }

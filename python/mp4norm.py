@@ -1,0 +1,339 @@
+"""What MP4 files say, by the program mp4norm: show, samples, boxes, compare, normalise, check.
+
+    import mp4norm
+
+    movie = mp4norm.show("movie.mp4")
+    assert mp4norm.compare("want.mp4", "made.mp4", without=["times"])
+
+A file is a name, or the bytes of a file; bytes go to the program's standard input. A file that the
+program refuses raises Refused, all else that goes wrong Failed. Only `normalise` writes, and only
+where it is given a name for what it writes.
+
+The program is the one that MP4NORM names in the environment; else `mp4norm` beside this module;
+else the one that was installed with it; else the one on the path. docs/PYTHON.md says which of its
+answers this module rests on.
+"""
+from __future__ import annotations
+
+import json
+import os
+import re
+import shutil
+import subprocess
+from dataclasses import dataclass, fields
+from typing import (Any, Dict, Iterable, List, Mapping, Optional, Sequence, Tuple, Type, TypeVar,
+                    Union, cast)
+
+__all__ = ["Box", "Comparison", "Difference", "Edit", "Error", "Failed", "Movie", "Refused",
+           "Sample", "Track", "boxes", "check", "compare", "normalise", "program", "samples",
+           "show"]
+
+Name = Union[str, "os.PathLike[str]"]
+File = Union[Name, bytes]
+Words = Union[str, Iterable[str]]
+Made = TypeVar("Made")
+
+# The last line of standard error; before it the name of a file may stand.
+SAID = re.compile(r"(?:(.*): )?(?:refused: (\w+) in (.{4}|[0-9a-f]{8}) at (\d+)|failed: (.+))",
+                  re.DOTALL)
+DIFFERENT, INVALID = 5, 64
+
+
+class Error(Exception):
+    """What the program said in place of an answer. `file` is the name that was given, `-` where
+    bytes were."""
+
+    file: str
+
+
+class Refused(Error):
+    """The file has a fault: its kind, the type of the box that has it, and the place of that box in
+    the file. docs/FORMAT.md has the kinds."""
+
+    def __init__(self, file: str, kind: str, box: str, offset: int) -> None:
+        super().__init__(file, kind, box, offset)
+        self.file, self.kind, self.box, self.offset = file, kind, box, offset
+
+    def __str__(self) -> str:
+        return f"{self.file}: {self.kind} in {self.box} at {self.offset}"
+
+
+class Failed(Error):
+    """`what` is `memory`, `store`, `store changed`, `write` or `no such track`, as docs/OUTPUT.md
+    says; or what is wrong with the arguments, or with the program itself. `cause` is what the
+    system says of it, where that is known; its words may change."""
+
+    def __init__(self, file: str, what: str, cause: Optional[str] = None) -> None:
+        super().__init__(file, what, cause)
+        self.file, self.what, self.cause = file, what, cause
+
+    def __str__(self) -> str:
+        return f"{self.file}: {self.what}" + (f": {self.cause}" if self.cause else "")
+
+
+@dataclass(frozen=True)
+class Edit:
+    """How long it is, in the movie's timescale; where in the track it begins, in the track's, -1
+    for an empty edit; its rate as two numbers of 16 bits."""
+
+    segment_duration: int
+    media_time: int
+    rate_integer: int
+    rate_fraction: int
+
+
+@dataclass(frozen=True)
+class Track:
+    """Times are in the track's timescale; `descriptions` are the types of sample descriptions."""
+
+    id: int
+    handler: str
+    descriptions: Sequence[str]
+    timescale: int
+    start: int
+    duration: int
+    samples: int
+    bytes: int
+    edits: Sequence[Edit]
+
+
+@dataclass(frozen=True)
+class Movie:
+    """`mehd` is the length of the longest track in the movie's timescale."""
+
+    timescale: int
+    mehd: int
+    tracks: Sequence[Track]
+
+
+@dataclass(frozen=True)
+class Sample:
+    """Times are in the track's timescale; `number` and `description` count from 1."""
+
+    number: int
+    decode_time: int
+    composition_time: int
+    duration: int
+    flags: int
+    description: int
+    size: int
+
+    @property
+    def sync(self) -> bool:
+        """Whether the flags say that decoding can begin here."""
+        return not self.flags >> 16 & 1
+
+
+@dataclass(frozen=True)
+class Box:
+    """`depth` is the number of containers around it, `size` has its header in it. `foreign` says
+    that the profile doesn't have the box there. `uuid` is the extended type of a `uuid` box."""
+
+    depth: int
+    type: str
+    offset: int
+    size: int
+    uuid: Optional[str] = None
+    foreign: bool = False
+
+
+@dataclass(frozen=True)
+class Difference:
+    """The way to a value, as `("track", 1, "sample", 7, "duration")`, and the value in each file.
+    Where it is a byte, `of` is how many there are. docs/COMPARING.md has the lines and kinds."""
+
+    at: Tuple[Union[str, int], ...]
+    a: Union[int, str]
+    b: Union[int, str]
+    kind: str
+    line: str
+    of: Optional[int] = None
+
+    def __str__(self) -> str:
+        return self.line
+
+
+@dataclass(frozen=True, repr=False)
+class Comparison:
+    """True if the two say the same. `total` counts all differences, and `kinds` those of each kind;
+    there may be more where `at_least`. `words` make the two the same if they are left out; None if
+    no words do. As text it is a line for each difference, and one that counts them."""
+
+    same: bool
+    total: int
+    at_least: bool
+    kinds: Mapping[str, int]
+    words: Optional[Sequence[str]]
+    differences: Sequence[Difference]
+
+    def __bool__(self) -> bool:
+        return self.same
+
+    def _lines(self) -> List[str]:
+        if self.same:
+            return ["the same"]
+        most = "at least " if self.at_least else ""
+        last = f"{most}{self.total} difference{'' if self.total == 1 else 's'}: "
+        last += ", ".join(f"{kind} {count}" for kind, count in self.kinds.items())
+        last += ("; no words make them the same" if self.words is None
+                 else f"; the same without {','.join(self.words)}")
+        return [difference.line for difference in self.differences] + [last]
+
+    def __str__(self) -> str:
+        return "\n".join(self._lines())
+
+    def __repr__(self) -> str:
+        # In one line, the first difference in front and the counts last: pytest shows both ends.
+        return f"<{'; '.join(self._lines())}>"
+
+
+def program() -> str:
+    """The name of the program that is run; Failed if there is none."""
+    here = os.path.dirname(os.path.realpath(__file__))
+    beside = [os.path.join(here, "mp4norm"),
+              os.path.normpath(os.path.join(here, "..", "..", "..", "bin", "mp4norm"))]
+    found = os.environ.get("MP4NORM") or next((it for it in beside if _is_program(it)), None)
+    found = found or shutil.which("mp4norm")
+    if not found:
+        raise Failed("mp4norm", "there is no such program: install it, or set MP4NORM to its name")
+    return found
+
+
+def show(file: File) -> Movie:
+    """The movie and its tracks."""
+    told = json.loads(_run(["show"], [file]))
+    for track in told["tracks"]:
+        track["edits"] = [Edit(*edit) for edit in track["edits"]]
+    told["tracks"] = [_made(Track, track) for track in told["tracks"]]
+    return _made(Movie, told)
+
+
+def samples(file: File, track: int) -> List[Sample]:
+    """All samples of the track with this ID, in decoding order."""
+    words = ["samples", "--json", "--track", str(track)]
+    return [_made(Sample, told) for told in _objects(_run(words, [file]))]
+
+
+def boxes(file: File) -> List[Box]:
+    """The boxes of the file, in their order, containers before what is in them."""
+    return [_made(Box, told) for told in _objects(_run(["boxes", "--json"], [file]))]
+
+
+def compare(a: File, b: File, without: Words = (), limit: int = 100) -> Comparison:
+    """Compares what the two say, but for what these words leave out (docs/COMPARING.md has them),
+    and lists at most `limit` of the differences. One of the two may be bytes."""
+    words = ["compare", "--json", "--all", "--limit", str(limit), *_without(without)]
+    *found, last = _objects(_run(words, [a, b], (0, DIFFERENT)))
+    differences = [_made(Difference, {**told, "at": tuple(told["at"])}) for told in found]
+    return Comparison(last["differences"] == 0, last["differences"], last["at_least"],
+                      last["kinds"], last["without"], differences)
+
+
+def normalise(file: File, new: Optional[Name] = None, without: Words = (),
+              replace: bool = False) -> bytes:
+    """The normal form. With `new` it goes to a file of that name, which must not be there unless
+    it is to be replaced; then no bytes are returned."""
+    words = ["normalise", "--out", "-" if new is None else _word(new), *_without(without)]
+    return _run(words + ["--replace"] * replace, [file], new=new)
+
+
+def check(*files: Name) -> Dict[str, Optional[Error]]:
+    """For the name of each file: None if it has a normal form, else what `normalise` would raise.
+    There may be any number of files; each is opened and judged, whatever is wrong with others."""
+    names = [os.fspath(file) for file in files]
+    if any("\0" in name for name in names):
+        raise ValueError("embedded null byte")
+    listed = b"".join(os.fsencode(name) + b"\0" for name in names)
+    done = _call(["check", "--json", "--names-from", "-"], listed)
+    told = _objects(done.stdout)
+    if len(told) != len(names):
+        raise _error(done, names)
+    return {name: _verdict(name, one) for name, one in zip(names, told)}
+
+
+def _is_program(name: str) -> bool:
+    return os.path.isfile(name) and os.access(name, os.X_OK)
+
+
+def _made(kind: Type[Made], told: Mapping[str, Any]) -> Made:
+    """Of an object what this module knows: a later program may tell more."""
+    known = {field.name for field in fields(cast(Any, kind))}
+    return kind(**{key: value for key, value in told.items() if key in known})
+
+
+def _objects(lines: bytes) -> List[Dict[str, Any]]:
+    return [json.loads(line) for line in lines.splitlines()]
+
+
+def _verdict(name: str, told: Mapping[str, Any]) -> Optional[Error]:
+    if "refused" in told:
+        fault = told["refused"]
+        return Refused(name, fault["kind"], fault["box"], fault["offset"])
+    return Failed(name, told["failed"]) if "failed" in told else None
+
+
+def _without(words: Words) -> List[str]:
+    listed = words if isinstance(words, str) else ",".join(words)
+    return ["--without", listed] if listed else []
+
+
+def _name(file: File) -> str:
+    return "-" if isinstance(file, bytes) else os.fspath(file)
+
+
+def _word(file: File) -> str:
+    """A file as a word of the command line: never an option, nor a list of files."""
+    name = _name(file)
+    is_plain = isinstance(file, bytes) or not name.startswith(("-", "@"))
+    return name if is_plain else "./" + name
+
+
+def _shown(name: str) -> str:
+    """A name as it stands on standard error."""
+    shown = ""
+    for character in os.fsencode(name).decode("utf-8", "surrogateescape"):
+        code = ord(character)
+        if code < 32 or 127 <= code < 160 or 0xDC80 <= code < 0xDD00:
+            coded = character.encode("utf-8", "surrogateescape")
+            shown += "".join(f"\\x{byte:02x}" for byte in coded)
+        else:
+            shown += "\\\\" if character == "\\" else character
+    return shown
+
+
+def _call(words: Sequence[str], given: bytes) -> subprocess.CompletedProcess[bytes]:
+    name = program()
+    try:
+        return subprocess.run([name, *words], input=given, capture_output=True, check=False)
+    except OSError as error:
+        raise Failed(name, f"it can't be run: {error.strerror}") from None
+
+
+def _run(words: Sequence[str], files: Sequence[File], fine: Sequence[int] = (0,),
+         new: Optional[Name] = None) -> bytes:
+    """What the program puts, if its status is one of these."""
+    contents = [file for file in files if isinstance(file, bytes)]
+    if len(contents) > 1:
+        raise ValueError("one file at most may be given as bytes")
+    done = _call([*words, "--explain", *map(_word, files)], b"".join(contents))
+    if done.returncode not in fine:
+        raise _error(done, [*files, *([] if new is None else [new])])
+    return done.stdout
+
+
+def _error(done: subprocess.CompletedProcess[bytes], files: Sequence[File]) -> Error:
+    """What the program said on standard error. Of a comparison the file's name stands in front of
+    the last line; else it is the first of these files, or the one that the line `file: ` names."""
+    lines = done.stderr.decode("utf-8", "replace").rstrip("\n").split("\n")
+    said = SAID.fullmatch(lines[-1])
+    first = _name(files[0]) if files else "-"
+    if done.returncode == INVALID:
+        return Failed(first, lines[0])
+    if not said:
+        signal = f"it was ended by signal {-done.returncode}"
+        return Failed(program(), signal if done.returncode < 0 else lines[-1] or "it says nothing")
+    where, kind, box, offset, what = said.groups()
+    told = dict(line.split(": ", 1) for line in lines[:-1] if ": " in line)
+    names = {_shown(_word(file)): _name(file) for file in files}
+    file = names.get(where or told.get("file", ""), first)
+    return Refused(file, kind, box, int(offset)) if kind else Failed(file, what, told.get("cause"))

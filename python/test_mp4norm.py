@@ -1,0 +1,597 @@
+#!/usr/bin/env python3
+"""Tries the module mp4norm.py, beside this file, on a program.
+
+usage: test_mp4norm.py PROGRAM
+       MP4NORM=PROGRAM python3 -m unittest discover -s python
+
+What is wanted was worked out by hand, or by the readers of the conformance suite. The example of
+docs/PYTHON.md is run too. The last line is 'N passed, M failed', of tests; the exit status is 0
+only if all passed.
+"""
+import atexit
+import collections
+import dataclasses
+import errno
+import io
+import itertools
+import json
+import os
+import pathlib
+import pickle
+import re
+import shutil
+import subprocess
+import sys
+import tempfile
+import typing
+import unittest
+from contextlib import redirect_stdout
+
+sys.dont_write_bytecode = True
+HERE = os.path.dirname(os.path.realpath(__file__))
+TOP = os.path.dirname(HERE)
+SUITE = os.path.join(TOP, 'conformance')
+sys.path[:0] = [HERE, SUITE]
+import mp4norm
+from mp4norm import Box, Failed, Movie, Refused, Sample, Track
+from suite import built, differ, lister, normal, reader
+
+COUNTS = collections.Counter()
+
+
+def bytes_of(*names):
+    with open(os.path.join(SUITE, *names), 'rb') as file:
+        return file.read()
+
+
+PLAIN = bytes_of('files', 'plain.mp4')
+# A byte of the third sample is another one.
+OTHER = PLAIN.replace(b'bbbbbbb', b'bbbxbbb')
+# The creation time of the movie, 4 bytes from 44 on, is another one.
+LATER = PLAIN[:44] + b'\0\0\0\x0b' + PLAIN[48:]
+# The `mdat` of 20 bytes at 541 ends behind the file.
+CUT = PLAIN[:-1]
+LINE = re.compile(r'refused: (\w+) in (.{4}|[0-9a-f]{8}) at (\d+)')
+# What pytest shows of a text without more words: so many characters, the middle of it cut out.
+SHORT = 240
+
+
+class Case(unittest.TestCase):
+    """A test in a folder with some files, which counts itself."""
+
+    def run(self, result=None):
+        result = result or self.defaultTestResult()
+        before = len(result.failures) + len(result.errors)
+        super().run(result)
+        COUNTS[len(result.failures) + len(result.errors) == before] += 1
+
+    def setUp(self):
+        room = tempfile.TemporaryDirectory()
+        self.addCleanup(room.cleanup)
+        self.addCleanup(os.chdir, os.getcwd())
+        os.chdir(room.name)
+        for name, data in (('plain.mp4', PLAIN), ('other.mp4', OTHER), ('later.mp4', LATER),
+                           ('cut.mp4', CUT)):
+            self.write(name, data)
+
+    def write(self, name, data):
+        with open(name, 'wb') as file:
+            file.write(data)
+
+    def read(self, name):
+        with open(name, 'rb') as file:
+            return file.read()
+
+    def named(self, name, data):
+        self.write(name, data)
+        return name
+
+    def python(self, code, given=b''):
+        """What another Python does with the module."""
+        environment = {**os.environ, 'PYTHONPATH': HERE}
+        words = [sys.executable, '-B', '-c', f'import mp4norm\n{code}']
+        return subprocess.run(words, env=environment, input=given, capture_output=True, check=False)
+
+    def refuses(self, fault, call, *words, **more):
+        """The call is refused with this fault: file, kind, box, offset."""
+        with self.assertRaises(Refused) as caught:
+            call(*words, **more)
+        error = caught.exception
+        self.assertEqual((error.file, error.kind, error.box, error.offset), fault)
+
+    def fails(self, file, what, call, *words, **more):
+        with self.assertRaises(Failed) as caught:
+            call(*words, **more)
+        self.assertEqual((caught.exception.file, caught.exception.what), (file, what))
+        return caught.exception
+
+
+def accepted():
+    """The name, the bytes and what a reader of the suite reads of each accepted file that it
+    builds."""
+    for extra in built.all_extras():
+        if extra.kind is None:
+            file, _ = extra.build()
+            file.settle()
+            data = file.spelled()
+            if isinstance(data, bytes):
+                yield extra.name, data, reader.Movie(data)
+
+
+def refused():
+    """The name, the bytes and the fault of files that have one fault."""
+    for file in built.single_faults():
+        data, asked = file.asked()
+        line, = {it.answer.error for it in asked if it.command == 'normalise'}
+        kind, box, place = LINE.fullmatch(line).groups()
+        if isinstance(data, bytes):
+            yield file.name, data, (kind, box, int(place))
+
+
+class Answers(Case):
+    """What the calls give, as it was worked out by hand."""
+
+    def test_show(self):
+        track = Track(id=1, handler='vide', descriptions=['mp4v'], timescale=12800, start=0,
+                      duration=1536, samples=3, bytes=12, edits=[])
+        for file in ('plain.mp4', pathlib.Path('plain.mp4'), PLAIN):
+            self.assertEqual(mp4norm.show(file), Movie(timescale=1000, mehd=120, tracks=[track]))
+
+    def test_samples(self):
+        self.assertEqual(mp4norm.samples('plain.mp4', 1), [
+            Sample(1, decode_time=0, composition_time=0, duration=512, flags=0, description=1,
+                   size=5),
+            Sample(2, decode_time=512, composition_time=512, duration=512, flags=0x10000,
+                   description=1, size=0),
+            Sample(3, decode_time=1024, composition_time=1024, duration=512, flags=0x10000,
+                   description=1, size=7)])
+        self.assertEqual([it.sync for it in mp4norm.samples(PLAIN, track=1)], [True, False, False])
+
+    def test_boxes(self):
+        found = mp4norm.boxes('plain.mp4')
+        self.assertEqual(found[:3], [Box(0, 'ftyp', 0, 24), Box(0, 'moov', 24, 517),
+                                     Box(1, 'mvhd', 32, 108)])
+        self.assertEqual(found[-2:], [Box(5, 'stco', 521, 20), Box(0, 'mdat', 541, 20)])
+        self.assertEqual(mp4norm.boxes(PLAIN), found)
+
+    def test_boxes_of_others(self):
+        number = bytes.fromhex('be7acfcb97a942e89c71999491e3afac')
+        data = (PLAIN + b'\0\0\0\x1auuid' + number + b'xy' + b'\0\0\0\x0auuidno'
+                + b'\0\0\0\x08\0\x01"\\')
+        self.assertEqual(mp4norm.boxes(data)[-3:], [
+            Box(0, 'uuid', 561, 26, uuid='be7acfcb-97a9-42e8-9c71-999491e3afac', foreign=True),
+            Box(0, 'uuid', 587, 10, foreign=True), Box(0, '0001225c', 597, 8, foreign=True)])
+
+    def test_the_same(self):
+        for a, b in (('plain.mp4', 'plain.mp4'), (PLAIN, 'plain.mp4'), ('plain.mp4', PLAIN)):
+            same = mp4norm.compare(a, b)
+            self.assertTrue(same)
+            self.assertEqual((same.total, same.at_least, same.kinds, same.words, same.differences),
+                             (0, False, {}, [], []))
+            self.assertEqual(str(same), 'the same')
+
+    def test_a_byte(self):
+        found = mp4norm.compare('plain.mp4', 'other.mp4')
+        self.assertFalse(found)
+        self.assertIs(found.same, False)
+        self.assertEqual((found.total, found.kinds, found.words), (1, {'bytes': 1}, None))
+        one, = found.differences
+        self.assertEqual((one.at, one.a, one.b, one.of, one.kind),
+                         (('track', 1, 'sample', 3, 'byte', 4), '62', '78', 7, 'bytes'))
+        self.assertEqual(str(one), 'track 1: sample 3: byte 4 of 7: 62 | 78')
+        self.assertEqual(str(found), 'track 1: sample 3: byte 4 of 7: 62 | 78\n'
+                                     '1 difference: bytes 1; no words make them the same')
+
+    def test_words(self):
+        found = mp4norm.compare('plain.mp4', 'later.mp4')
+        self.assertEqual(found.words, ['times'])
+        one, = found.differences
+        self.assertEqual((one.at, one.a, one.b, one.of, one.kind),
+                         (('movie', 'creation time'), 0, 11, None, 'times'))
+        for words in ('times', ['times'], ('flags', 'times'), 'flags,times'):
+            self.assertTrue(mp4norm.compare('plain.mp4', 'later.mp4', without=words))
+        self.assertFalse(mp4norm.compare('plain.mp4', 'later.mp4', without=['flags']))
+
+    def test_limit(self):
+        both = OTHER[:44] + b'\0\0\0\x0b' + OTHER[48:]
+        for limit, lines in ((0, 0), (1, 1), (2, 2), (100, 2)):
+            found = mp4norm.compare(PLAIN, self.named('both.mp4', both), limit=limit)
+            self.assertEqual((found.total, len(found.differences)), (2, lines))
+            self.assertEqual(found.kinds, {'bytes': 1, 'times': 1})
+            self.assertFalse(found)
+            self.assertEqual(str(found).splitlines()[lines:], [
+                '2 differences: bytes 1, times 1; no words make them the same'])
+
+    def test_normalise(self):
+        due = bytes_of('wanted', 'plain.normal.mp4')
+        self.assertEqual(mp4norm.normalise('plain.mp4'), due)
+        self.assertEqual(mp4norm.normalise(PLAIN), due)
+        self.assertEqual(mp4norm.normalise('later.mp4', without=['times']), due)
+        self.assertEqual(mp4norm.normalise('plain.mp4', 'new.mp4'), b'')
+        self.assertEqual(self.read('new.mp4'), due)
+        error = self.fails('new.mp4', 'write', mp4norm.normalise, 'later.mp4', 'new.mp4')
+        self.assertIn('there already', str(error))
+        self.assertEqual(self.read('new.mp4'), due)
+        mp4norm.normalise('other.mp4', pathlib.Path('new.mp4'), replace=True)
+        self.assertEqual(self.read('new.mp4')[-7:], b'bbbxbbb')
+        self.fails('-x/new', 'write', mp4norm.normalise, 'plain.mp4', '-x/new')
+
+    def test_check(self):
+        found = mp4norm.check('plain.mp4', pathlib.Path('cut.mp4'), 'none.mp4')
+        self.assertEqual(list(found), ['plain.mp4', 'cut.mp4', 'none.mp4'])
+        self.assertIsNone(found['plain.mp4'])
+        fault = found['cut.mp4']
+        self.assertIsInstance(fault, Refused)
+        self.assertEqual((fault.file, fault.kind, fault.box, fault.offset),
+                         ('cut.mp4', 'Overrun', 'mdat', 541))
+        self.assertIsInstance(found['none.mp4'], Failed)
+        self.assertEqual((found['none.mp4'].file, found['none.mp4'].what), ('none.mp4', 'store'))
+        self.assertEqual(mp4norm.check(), {})
+        self.assertRaises(ValueError, mp4norm.check, 'plain.mp4\0cut.mp4')
+
+    def test_many_files(self):
+        names = [f'{"x" * 200}-{number}.mp4' for number in range(20000)]
+        self.write(names[12345], PLAIN)
+        found = mp4norm.check(*names)
+        self.assertEqual([name for name in names if found[name] is None], [names[12345]])
+        self.assertEqual(len(found), len(names))
+
+
+class OfTheSuite(Case):
+    """The files of the suite, as its own readers read them."""
+
+    def test_show_and_samples(self):
+        count = 0
+        for name, data, movie in accepted():
+            with self.subTest(name):
+                shown = dataclasses.asdict(mp4norm.show(data))
+                for track in shown['tracks']:
+                    track['edits'] = [list(edit.values()) for edit in track['edits']]
+                self.assertEqual(shown, json.loads(reader.shown(movie)))
+                for track in movie.tracks[:2]:
+                    lines = [f'{it.number} {it.decode_time} {it.composition_time} {it.duration} '
+                             f'{it.flags:08x} {it.description} {it.size}\n'
+                             for it in mp4norm.samples(data, track.id)]
+                    self.assertEqual(''.join(lines), reader.lines_of(track))
+                count += 1
+        self.assertGreater(count, 40)
+
+    def test_boxes(self):
+        count = 0
+        for name, data, *_ in itertools.chain(accepted(), refused()):
+            with self.subTest(name):
+                text, line = lister.listed(data)
+                if line:
+                    kind, box, place = LINE.fullmatch(line).groups()
+                    self.refuses(('-', kind, box, int(place)), mp4norm.boxes, data)
+                else:
+                    lines = [f'{"  " * it.depth}{it.type} {it.offset} {it.size}\n'
+                             for it in mp4norm.boxes(data)]
+                    self.assertEqual(''.join(lines), text)
+                count += 1
+        self.assertGreater(count, 300)
+
+    def test_verdicts(self):
+        due = {}
+        for name, data, *fault in itertools.chain(accepted(), refused()):
+            self.write(f'{name}.mp4', data)
+            due[f'{name}.mp4'] = fault[0] if isinstance(fault[0], tuple) else None
+        found = mp4norm.check(*due)
+        self.assertEqual({name: it and (it.kind, it.box, it.offset) for name, it in found.items()},
+                         due)
+        self.assertGreater(sum(it is not None for it in due.values()), 300)
+
+    def test_differences(self):
+        files = [file for file in accepted() if len(file[1]) < 20000]
+        for (left, one, _), (right, other, _) in zip(files, files[1:]):
+            for words in ((), differ.WORDS):
+                with self.subTest(f'{left}, {right}, {words}'):
+                    movies = [reader.Movie(data).leave_out(words) for data in (one, other)]
+                    due = differ.differences(*movies)
+                    self.write('one.mp4', one)
+                    found = mp4norm.compare('one.mp4', other, without=words, limit=20)
+                    self.assertEqual([(it.kind, it.line) for it in found.differences], due[:20])
+                    self.assertEqual(found.total, len(due))
+                    self.assertEqual(found.kinds, collections.Counter(kind for kind, _ in due))
+                    self.assertEqual(bool(found), not due)
+
+    def test_normal_forms(self):
+        for name, data, _ in accepted():
+            with self.subTest(name):
+                movie = reader.Movie(data).leave_out(['edits', 'metadata'])
+                self.assertEqual(mp4norm.normalise(data, without='edits,metadata'),
+                                 normal.normal_form(movie))
+
+
+class Errors(Case):
+    """What goes wrong, and of which file it is said."""
+
+    def test_refused(self):
+        fault = ('Overrun', 'mdat', 541)
+        for file, name in (('cut.mp4', 'cut.mp4'), (pathlib.Path('cut.mp4'), 'cut.mp4'),
+                           (CUT, '-')):
+            self.refuses((name, *fault), mp4norm.show, file)
+            self.refuses((name, *fault), mp4norm.samples, file, 1)
+            self.refuses((name, *fault), mp4norm.boxes, file)
+            self.refuses((name, *fault), mp4norm.normalise, file)
+            self.refuses((name, *fault), mp4norm.compare, 'plain.mp4', file)
+            self.refuses((name, *fault), mp4norm.compare, file, 'plain.mp4')
+
+    def test_no_bytes(self):
+        """What stands on standard input is never read for them."""
+        self.refuses(('-', 'MissingBox', 'file', 0), mp4norm.show, b'')
+        done = self.python('mp4norm.show(b"")', PLAIN)
+        self.assertIn(b'MissingBox in file at 0', done.stderr)
+
+    def test_types(self):
+        """Types that aren't printable, or that look like the end of a line."""
+        for kind, shown in ((b'\0\x01"\\', '0001225c'), (b' at ', ' at '), (b'": 1', '": 1')):
+            self.write('x.mp4', PLAIN + b'\0\0\0\x08' + kind)
+            self.refuses(('x.mp4', 'BoxNotInProfile', shown, 561), mp4norm.show, 'x.mp4')
+            self.refuses(('x.mp4', 'BoxNotInProfile', shown, 561), mp4norm.compare, 'x.mp4', PLAIN)
+            found = mp4norm.check('x.mp4')['x.mp4']
+            self.assertEqual((found.box, found.offset), (shown, 561))
+
+    def test_failed(self):
+        for call in (mp4norm.show, mp4norm.boxes, mp4norm.normalise):
+            error = self.fails('none.mp4', 'store', call, 'none.mp4')
+            self.assertIn('no such file', error.cause)
+            self.assertEqual(str(error), f'none.mp4: store: {error.cause}')
+        self.fails('none.mp4', 'store', mp4norm.compare, 'plain.mp4', 'none.mp4')
+        self.fails('none.mp4', 'store', mp4norm.compare, 'none.mp4', 'plain.mp4')
+        self.fails('none.mp4', 'store', mp4norm.compare, PLAIN, 'none.mp4')
+        self.fails('plain.mp4', 'no such track', mp4norm.samples, 'plain.mp4', 7)
+
+    def test_invalid(self):
+        for call, *words in ((mp4norm.samples, 'plain.mp4', 0),
+                             (mp4norm.normalise, 'plain.mp4', None, ['times', 'nothing'])):
+            with self.assertRaises(Failed) as caught:
+                call(*words)
+            self.assertIn('invalid value', caught.exception.what)
+        self.assertRaises(ValueError, mp4norm.compare, PLAIN, OTHER)
+        self.assertRaises(TypeError, mp4norm.show, 7)
+
+    def test_copies(self):
+        """An error passes from one process to another."""
+        for error in (Refused('a', 'Gap', 'tfdt', 7), Failed('a', 'store', 'gone'),
+                      Failed('a', 'memory')):
+            copy = pickle.loads(pickle.dumps(error))
+            self.assertEqual((type(copy), copy.args, str(copy)),
+                             (type(error), error.args, str(error)))
+        self.assertEqual(str(Refused('a', 'Gap', 'tfdt', 7)), 'a: Gap in tfdt at 7')
+        self.assertEqual(str(Failed('a', 'memory')), 'a: memory')
+
+
+class Names(Case):
+    """Names that could be taken for something else."""
+
+    ODD = ('-', '--json', '-x.mp4', '@list', '@', 'a name of two\nlines', 'back\\slash', '\x1b[31m',
+           'x: refused: Gap in tfdt at 7', 'x: failed: store', 'file: x',
+           'line\u2028 \u0085 \u00e9', 'cause: none', 'a, b')
+
+    def test_files(self):
+        for name in self.ODD:
+            with self.subTest(name):
+                self.write(name, PLAIN)
+                self.assertEqual(mp4norm.show(name), mp4norm.show(PLAIN))
+                self.assertEqual(mp4norm.samples(name, 1), mp4norm.samples(PLAIN, 1))
+                self.assertEqual(mp4norm.boxes(name), mp4norm.boxes(PLAIN))
+                self.assertTrue(mp4norm.compare(name, PLAIN))
+                self.assertTrue(mp4norm.compare('plain.mp4', name))
+                mp4norm.normalise(name, name, replace=True)
+                self.assertEqual(self.read(name), mp4norm.normalise('plain.mp4'))
+
+    def test_faults(self):
+        for name in self.ODD:
+            with self.subTest(name):
+                self.fails(name, 'store', mp4norm.show, name)
+                self.fails(name, 'store', mp4norm.compare, 'plain.mp4', name)
+                self.fails(name, 'store', mp4norm.compare, name, 'plain.mp4')
+                self.write(name, CUT)
+                self.refuses((name, 'Overrun', 'mdat', 541), mp4norm.boxes, name)
+                self.refuses((name, 'Overrun', 'mdat', 541), mp4norm.compare, name, PLAIN)
+                self.refuses((name, 'Overrun', 'mdat', 541), mp4norm.compare, 'plain.mp4', name)
+                self.fails(name, 'write', mp4norm.normalise, 'plain.mp4', name)
+
+    def test_verdicts(self):
+        for number, name in enumerate(self.ODD):
+            self.write(name, CUT if number % 2 else PLAIN)
+        found = mp4norm.check(*self.ODD)
+        self.assertEqual(list(found), list(self.ODD))
+        self.assertEqual([it is not None for it in found.values()],
+                         [bool(number % 2) for number in range(len(self.ODD))])
+        self.assertEqual({it.file for it in found.values() if it}, set(self.ODD[1::2]))
+
+    def test_no_utf_8(self):
+        """The program opens no such file, and each of these keeps its name."""
+        names = [os.fsdecode(name) for name in (b'caf\xe9.mp4', b'\xff\xfe', b'cut \xe2\x82',
+                                                b'\xed\xa0\x80 and \n')]
+        for name in names:
+            self.write(name, PLAIN)
+            self.fails(name, 'store', mp4norm.show, name)
+            self.fails(name, 'store', mp4norm.compare, 'plain.mp4', name)
+            self.fails(name, 'store', mp4norm.compare, name, 'plain.mp4')
+        found = mp4norm.check(*names, 'plain.mp4')
+        self.assertEqual(list(found), [*names, 'plain.mp4'])
+        self.assertEqual([it.file for it in found.values() if it], names)
+        self.assertEqual(mp4norm.show(self.read(names[0])), mp4norm.show('plain.mp4'))
+
+    def test_names_in_objects(self):
+        """A name of an object is the name that was given, whatever its bytes are."""
+        for name in (*self.ODD, *map(os.fsdecode, (b'caf\xe9.mp4', b'\xff\xfe\n'))):
+            words = [mp4norm.program(), 'check', '--json', '--', name]
+            done = subprocess.run(words, input=b'', stdout=subprocess.PIPE, check=False)
+            self.assertEqual(json.loads(done.stdout)['file'], name)
+
+
+class Texts(Case):
+    """How a comparison looks where an assertion fails."""
+
+    def test_assertion(self):
+        done = self.python('same = mp4norm.compare("plain.mp4", "other.mp4")\n'
+                           'assert same, str(same)')
+        self.assertEqual(done.stderr.decode().splitlines()[-2:], [
+            'AssertionError: track 1: sample 3: byte 4 of 7: 62 | 78',
+            '1 difference: bytes 1; no words make them the same'])
+        done = self.python('assert mp4norm.compare("plain.mp4", "plain.mp4")')
+        self.assertEqual((done.returncode, done.stderr), (0, b''))
+
+    def test_one_line(self):
+        found = mp4norm.compare('plain.mp4', 'later.mp4')
+        self.assertEqual(repr(found), '<movie: creation time 0 | 11; 1 difference: times 1; '
+                                      'the same without times>')
+
+    def test_what_is_cut(self):
+        """Where the middle is cut out, as pytest does, the first difference and the counts stay."""
+        one, other = [data for _, data, movie in accepted() if movie.tracks][:2]
+        found = mp4norm.compare(self.named('one.mp4', one), other)
+        text = repr(found)
+        self.assertGreater(len(text), SHORT)
+        self.assertNotIn('\n', text)
+        half = (SHORT - 3) // 2
+        self.assertTrue(text[:half].startswith(f'<{found.differences[0].line}'))
+        self.assertIn(f'{found.total} differences: ', text[-half:])
+
+    def test_types(self):
+        """Each public call says what it takes and gives."""
+        for name in mp4norm.__all__:
+            item = getattr(mp4norm, name)
+            self.assertTrue(item.__doc__, name)
+            if item is not mp4norm.Error:
+                called = item.__init__ if isinstance(item, type) else item
+                self.assertIn('return', typing.get_type_hints(called), name)
+
+
+class Programs(Case):
+    """Which program is run, and what is made of a strange one."""
+
+    def stub(self, name, script):
+        os.makedirs(os.path.dirname(name) or '.', exist_ok=True)
+        self.write(name, b'#!/bin/sh\n' + script)
+        os.chmod(name, 0o755)
+        return os.path.realpath(name)
+
+    def found(self, folder, **environment):
+        """The program that a copy of the module in this folder finds."""
+        os.makedirs(folder, exist_ok=True)
+        if not os.path.islink(f'{folder}/mp4norm.py'):
+            shutil.copy(mp4norm.__file__, folder)
+        kept = {key: value for key, value in os.environ.items() if key != 'MP4NORM'}
+        code = ('import mp4norm\ntry:\n    print(mp4norm.program())\n'
+                'except mp4norm.Failed as it:\n    print(type(it).__name__, it)')
+        done = subprocess.run([sys.executable, '-B', '-c', code], text=True, check=True,
+                              env={**kept, 'PYTHONPATH': folder, 'PATH': '', **environment},
+                              stdout=subprocess.PIPE)
+        return done.stdout.rstrip('\n')
+
+    def test_which(self):
+        folder = 'prefix/share/mp4norm/python'
+        self.assertTrue(self.found(folder).startswith('Failed mp4norm: there is no such program'))
+        path = self.stub('path/mp4norm', b'')
+        self.assertEqual(self.found(folder, PATH=os.path.dirname(path)), path)
+        installed = self.stub('prefix/bin/mp4norm', b'')
+        self.assertEqual(self.found(folder, PATH=os.path.dirname(path)), installed)
+        beside = self.stub(f'{folder}/mp4norm', b'')
+        self.assertEqual(self.found(folder, PATH=os.path.dirname(path)), beside)
+        os.chmod(beside, 0o644)
+        self.assertEqual(self.found(folder), installed)
+        self.assertEqual(self.found(folder, MP4NORM='./mine'), './mine')
+        os.mkdir('linked')
+        os.symlink(os.path.realpath(f'{folder}/mp4norm.py'), 'linked/mp4norm.py')
+        self.assertEqual(self.found('linked'), installed)
+
+    def with_program(self, name):
+        before = os.environ['MP4NORM']
+        self.addCleanup(os.environ.__setitem__, 'MP4NORM', before)
+        os.environ['MP4NORM'] = name
+
+    def test_no_program(self):
+        for name, number in (('/dev/null', errno.EACCES), ('./none', errno.ENOENT)):
+            self.with_program(name)
+            self.fails(name, f"it can't be run: {os.strerror(number)}", mp4norm.show, 'x')
+
+    def test_strange_programs(self):
+        for script, what in ((b'kill -9 $$', 'it was ended by signal 9'),
+                             (b'exit 7', 'it says nothing'),
+                             (b'echo nonsense >&2; exit 7', 'nonsense')):
+            name = self.stub('strange', script)
+            self.with_program(name)
+            self.fails(name, what, mp4norm.show, 'plain.mp4')
+            self.fails(name, what, mp4norm.check, 'plain.mp4')
+
+    def test_words(self):
+        """What is a name is never an option, standard input or a list."""
+        script = b'printf "%s\\n" "$@" >words; echo \'{"mehd":0,"timescale":1,"tracks":[]}\''
+        self.with_program(self.stub('words-of', script))
+        for file, word in (('-', './-'), ('--json', './--json'), ('@list', './@list'),
+                           ('./@x', './@x'), ('a b', 'a b'), (b'-', '-'), (b'@', '-')):
+            mp4norm.show(file)
+            self.assertEqual(self.read('words').decode().splitlines(), ['show', '--explain', word])
+            mp4norm.normalise('x', word)
+            self.assertIn(f'\n--out\n{word if word != "-" else "./-"}\n',
+                          self.read('words').decode())
+
+    def test_file_in_front(self):
+        """Of a comparison the last line alone names the file."""
+        script = b'echo "$0: refused: Gap in tfdt at 7" >&2; exit 1'
+        self.with_program(self.stub('one-line', script))
+        name = mp4norm.program()
+        self.refuses((name, 'Gap', 'tfdt', 7), mp4norm.compare, 'plain.mp4', name)
+        self.refuses((name, 'Gap', 'tfdt', 7), mp4norm.compare, name, 'plain.mp4')
+
+    def test_verdict_that_is_not_there(self):
+        name = self.stub('strange', b'echo \'{"file":"a","status":0}\'')
+        self.with_program(name)
+        self.assertEqual(mp4norm.check('a'), {'a': None})
+        self.fails(name, 'it says nothing', mp4norm.check, 'a', 'b')
+
+    def test_later_program(self):
+        """What is new in an object is passed over."""
+        told = {'mehd': 0, 'timescale': 7, 'tracks': [], 'new': 1}
+        self.with_program(self.stub('later', f"echo '{json.dumps(told)}'".encode()))
+        self.assertEqual(mp4norm.show('x'), Movie(timescale=7, mehd=0, tracks=[]))
+        told = {'depth': 0, 'offset': 0, 'size': 8, 'type': 'free', 'new': [1]}
+        self.with_program(self.stub('later', f"echo '{json.dumps(told)}'".encode()))
+        self.assertEqual(mp4norm.boxes('x'), [Box(0, 'free', 0, 8)])
+
+
+class Page(Case):
+    """The example of docs/PYTHON.md."""
+
+    def test_example(self):
+        with open(os.path.join(TOP, 'docs', 'PYTHON.md'), encoding='utf-8') as file:
+            blocks = re.findall(r'^```python\n(.*?)^```$', file.read(), re.M | re.S)
+        self.write('movie.mp4', PLAIN)
+        self.write('want.mp4', bytes_of('files', 'fragment-after-fragment.mp4'))
+        self.write('made.mp4', LATER)
+        self.assertTrue(blocks)
+        for block in blocks:
+            # Behind a line that prints stands what it prints, ` / ` between lines.
+            due = re.findall(r'^ *print\(.*\)  # (.*)$', block, re.M)
+            self.assertTrue(due)
+            with redirect_stdout(io.StringIO()) as said:
+                exec(compile(block, 'docs/PYTHON.md', 'exec'), {})
+            self.assertEqual(said.getvalue().splitlines(), ' / '.join(due).split(' / '))
+
+
+def main():
+    if len(sys.argv) == 2 and not sys.argv[1].startswith('-'):
+        os.environ['MP4NORM'] = sys.argv.pop()
+    if len(sys.argv) > 1 or not os.environ.get('MP4NORM'):
+        print(__doc__.strip(), file=sys.stderr)
+        sys.exit(64)
+    use_program()
+    unittest.main(verbosity=1)
+
+
+def use_program():
+    """The program by its whole name, since tests go to other folders."""
+    os.environ['MP4NORM'] = os.path.abspath(mp4norm.program())
+
+
+# Behind all that unittest says.
+atexit.register(lambda: print(f'{COUNTS[True]} passed, {COUNTS[False]} failed', flush=True))
+if __name__ == '__main__':
+    main()
+else:
+    use_program()
