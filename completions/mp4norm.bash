@@ -20,14 +20,14 @@ _mp4norm() {
     esac
     case $command in
     '') words='normalise show samples extract boxes strip compare check help --help --version' ;;
-    normalise) words='--out --without --max-bytes --replace --progress --explain --help' ;;
-    show) words='--explain --help' ;;
-    samples) words='--track --header --json --explain --help' ;;
-    extract) words='--track --out --max-bytes --replace --progress --explain --help' ;;
-    boxes) words='--explain --help' ;;
-    strip) words='--drop --out --max-bytes --replace --progress --explain --help' ;;
-    compare) words='--without --all --limit --help' ;;
-    check) words='--names-from --zero --help' ;;
+    normalise) words='--out --without --max-bytes --replace --progress --explain --brief --help' ;;
+    show) words='--explain --brief --help' ;;
+    samples) words='--track --header --json --explain --brief --help' ;;
+    extract) words='--track --out --max-bytes --replace --progress --explain --brief --help' ;;
+    boxes) words='--json --explain --brief --help' ;;
+    strip) words='--drop --out --max-bytes --replace --progress --explain --brief --help' ;;
+    compare) words='--without --all --limit --json --explain --brief --help' ;;
+    check) words='--names-from --zero --json --explain --brief --help' ;;
     help) words='normalise show samples extract boxes strip compare check' ;;
     esac
     # Behind a command that reads a file, words without a dash are files: bash completes them by itself.

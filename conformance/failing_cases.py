@@ -6,7 +6,7 @@ import json
 import os
 import struct
 
-from suite import lister, long, normal, reader, strips
+from suite import lister, long, normal, objects, reader, strips
 
 HERE = os.path.dirname(os.path.abspath(__file__))
 # Bytes of a free box that lies before each of a file's own boxes but the data, so that no read has
@@ -32,6 +32,8 @@ DATA = b'aaaaabbbbbbb'
 # Its last byte is missing.
 CUT = PLAIN[:-1]
 CUT_LINE = b'refused: Overrun in mdat at 541\n'
+# With a `uuid` behind it, whose first bytes are read.
+UUID = PLAIN + struct.pack('>I4s', 24, b'uuid') + bytes(range(16))
 CUT_WORDS = (rb'way: mdat\nclause: ISO/IEC 14496-12, 8\.1\.1\nmeaning: [^\n]+\n'
              + CUT_LINE)
 GAP_WORDS = (rb'way: moof 2 / traf / tfdt\nclause: ISO/IEC 14496-12, 8\.8\.12\nmeaning: [^\n]+\n'
@@ -101,7 +103,7 @@ def grown(whole):
     return start + whole[moov + 4:trak] + kept + whole[trak:]
 
 
-def objects():
+def lines_as_json():
     """The lines of plain.mp4's samples as JSON."""
     names = COLUMNS.decode().split()
     text = ''
@@ -128,11 +130,12 @@ def of_one_file():
     yield Case('plain', [], {}, put=boxes, given=PLAIN)
     yield of('plain', 'boxes', PLAIN, boxes)
     yield of('plain', 'boxes', PLAIN, boxes, '--explain')
+    yield of('a uuid', 'boxes', UUID, objects.listed(UUID)[0].encode(), '--json')
     yield of('plain', 'show', PLAIN, show)
     yield Case('standard input', ['show', '-', '--explain'], {}, put=show, given=PLAIN)
     yield of('plain', 'samples', PLAIN, SAMPLES, '--track', '1')
     yield of('plain', 'samples', PLAIN, COLUMNS + SAMPLES, '--track', '1', '--header')
-    yield of('plain', 'samples', PLAIN, objects(), '--track', '1', '--json')
+    yield of('plain', 'samples', PLAIN, lines_as_json(), '--track', '1', '--json')
     yield of('plain', 'extract', PLAIN, DATA, '--track', '1')
     for name in ('plain', 'two-fragments', 'two-tracks-cut-at-sync-samples', 'edits',
                  'kept-box-with-ilob', 'sample-group'):
@@ -187,6 +190,16 @@ def of_two_files():
     yield Case('without', ['compare', 'a.mp4', 'b.mp4', '--without', 'times,groups'], both,
                status=5, put=line)
     yield Case('all', ['compare', 'a.mp4', 'b.mp4', '--all'], both, status=5, put=line + last)
+    found = [('bytes', line.decode()[:-1])]
+    parsed = f'{objects.difference(*found[0])}\n{objects.last(found, None)}\n'.encode()
+    yield Case('all as JSON', ['compare', 'a.mp4', 'b.mp4', '--all', '--json', '--explain'], both,
+               status=5, put=parsed)
+    yield Case('the same as JSON', ['compare', 'a.mp4', 'b.mp4', '--all', '--json'],
+               {'a.mp4': PLAIN, 'b.mp4': first}, put=objects.last([], []).encode() + b'\n')
+    yield Case('cut', ['compare', 'a.mp4', 'cut.mp4', '--explain'],
+               {'a.mp4': PLAIN, 'cut.mp4': CUT}, status=1,
+               said=b'file: cut.mp4\n' + CUT_WORDS.replace(CUT_LINE, b'cut.mp4: ' + CUT_LINE),
+               refused=b'cut.mp4: ' + CUT_LINE)
     yield Case('with standard input', ['compare', 'a.mp4', '-'], {'a.mp4': PLAIN}, status=5,
                put=line, given=other)
     yield Case('standard input first', ['compare', '-', 'b.mp4'], {'b.mp4': other}, status=5,
@@ -203,6 +216,12 @@ def of_many_files():
     files = {'in.mp4': PLAIN, 'cut.mp4': CUT}
     yield Case('one', ['check', 'in.mp4'], {'in.mp4': PLAIN}, put=one)
     yield Case('two', ['check', 'in.mp4', 'cut.mp4'], files, status=1, put=one + two)
+    yield Case('one as JSON', ['check', 'in.mp4', '--json', '--explain'], {'in.mp4': PLAIN},
+               put=objects.verdict('in.mp4', b''))
+    yield Case('two as JSON', ['check', 'in.mp4', 'cut.mp4', '--json'], files, status=1,
+               put=objects.verdict('in.mp4', b'') + objects.verdict('cut.mp4', CUT_LINE[:-1]))
+    yield Case('two explained', ['check', 'in.mp4', 'cut.mp4', '--explain'], files, status=1,
+               put=one + two, said=b'file: cut.mp4\n' + CUT_WORDS.replace(CUT_LINE, b''))
     yield Case('a list', ['check', 'cut.mp4', '--names-from', 'list'],
                {**files, 'more.mp4': PLAIN, 'list': b'in.mp4\0more.mp4\0'}, status=1,
                put=two + one + more)

@@ -11,9 +11,11 @@ COMMANDS = 'mp4norm/src/commands.rt'
 COMPARING = 'mp4norm/src/comparing.rt'
 COMPARES = 'mp4norm/src/comparing_runs.rt'
 DESCRIPTORS = 'mp4norm/src/descriptors.rt'
+DIFFERENCE_JSON = 'mp4norm/src/difference_json.rt'
 EXPLAINING = 'mp4norm/src/explaining.rt'
 FILE_NAMES = 'mp4norm/src/file_names.rt'
 INPUT = 'mp4norm/src/input.rt'
+JSON_TEXT = 'mp4norm/src/json_text.rt'
 LINE = 'mp4norm/src/command_line.rt'
 MAIN = 'mp4norm/src/main.rt'
 PARTS = 'mp4norm/src/part_files.rt'
@@ -98,7 +100,7 @@ def of_explanations(joins='explanations'):
     for text, fails in CAUSES.items():
         yield edit(REPORTS, f'=> "{text}",', '=> "another thing",',
                    f'the cause "{text}" is another', fails=fails)
-    yield edit(RUNS, '"it can\'t be read"', '"it is so"', 'the cause of a failed read is another',
+    yield edit(REPORTS, '"it can\'t be read"', '"it is so"', 'the cause of a failed read is another',
                fails='the cause of a failed read')
     yield edit(COUNTS, 'b"stts" | b"ctts" => counted_by_rows(payload, 4),',
                'b"stts" => counted_by_rows(payload, 4),\n        b"ctts" => Some(7),',
@@ -111,10 +113,17 @@ def of_explanations(joins='explanations'):
                'if u64::from(first) <= u64::from(chunk) + 1 && false {',
                'later rows of stsc are passed over in numbers',
                fails='numbers of the third row of stsc:')
-    yield edit(RUNS, 'if order.telling.explain {',
-               'if order.telling.explain && !order.telling.progress {',
+    yield edit(RUNS, 'if telling.explain {', 'if telling.explain && !telling.progress {',
                '--explain is dropped beside --progress',
                fails=r"--explain \['--progress'\] of a cut file")
+    yield edit(CHECKING, 'files.len() != 1 || list.is_some()', 'files.len() > 1',
+               'the file of a list is not named where its fault is explained',
+               fails=r"check --explain \['--names-from', '-'\]")
+    yield edit(COMPARES, 'Side::First => (left, &mut first),', 'Side::First => (right, &mut second),',
+               'compare explains the fault of A in B',
+               fails=r"compare --explain \['gap.mp4', 'plain.mp4'\]")
+    yield edit(REPORTS, '|| (!self.telling.brief && rt.stderr().is_terminal())', '',
+               'on a terminal a failure stands alone', fails=r"\['show', 'none'\] on a terminal")
 
 
 HELP = {0: 'all is done', 1: 'refused: the file has a fault; its kind, box and place are named',
@@ -141,36 +150,47 @@ def of_help(joins='help'):
 
 # ---- verdicts and comparisons
 
-JUDGED = 'let answer = check(rt.alloc(), &mut source);'
-LISTED = 'Ok(name) => answer_of(rt, Input::File { name }),'
-PUT_LISTED = 'put_verdict(rt.alloc(), name.as_slice(), &answer, end, sink)?;'
-WORST = 'Ok(worst.max(check_list(rt, list.as_slice(), end, &mut sink)?))'
+ONE_OF_WORDS = '        let answer = answer_of(rt, *input, manner, steps, looks);'
+JUDGED = 'let answer = check_counted(rt.alloc(), &mut source, steps, looks);'
+LISTED = '    answer_of(rt, Input::File { name }, manner, steps, looks)\n'
+PUT_LISTED = 'worst = put_named(rt, name, &answer, manner.style, sink)?.max(worst);'
+WORST = 'Ok(worst.max(check_list(rt, list, manner, &mut sink, steps, looks)?))'
 
 
 def of_verdicts(joins='verdicts'):
     return [
         Edit(CHECKING, JUDGED,
-             'let answer = match check(rt.alloc(), &mut source) {\n'
+             'let answer = match check_counted(rt.alloc(), &mut source, steps, looks) {\n'
              '        Err(Refusal::StoreFailed) => Ok(()),\n        answer => answer,\n    };',
              'a failed read is told as accepted', run='failures check',
              fails=r'check in.mp4, one: \d+ times read of in.mp4 rest', joins=joins),
         Edit(CHECKING, LISTED,
-             'Ok(name) => match answer_of(rt, Input::File { name }) {\n'
-             '            Err(Refusal::Memory) => Ok(()),\n'
-             '            answer => answer,\n        },',
+             '    match answer_of(rt, Input::File { name }, manner, steps, looks) {\n'
+             '        Err(Refusal::Memory) => Ok(()),\n        answer => answer,\n    }\n',
              'want of memory is told as accepted', run='failures check',
              fails=r'check cut.mp4 --names-from list, a list: \d+ times alloc', joins=joins),
-        Edit(CHECKING, '    source.settled(answer)\n', '    answer\n',
+        Edit(CHECKING, '    let answer = source.settled(answer);\n', '',
              'a file that changed is told as accepted', run='changes in_checks',
              fails='one that was accepted grows', joins=joins),
         Edit(CHECKING, WORST,
-             'let listed = check_list(rt, list.as_slice(), end, &mut sink)?;\n'
+             'let listed = check_list(rt, list, manner, &mut sink, steps, looks)?;\n'
              '    Ok(if list.is_empty() { worst } else { listed })',
              'the status of words is lost beside --names-from', run='checks statuses',
              fails="the status of .'cut.mp4'. and b'plain.mp4'", joins=joins),
-        Edit(CHECKING, PUT_LISTED, PUT_LISTED.replace('end,', "b'\\n',"),
+        Edit(CHECKING, PUT_LISTED,
+             "let style = VerdictStyle { end: b'\\n', ..manner.style };\n        "
+             + PUT_LISTED.replace('manner.style', 'style'),
              '--zero is ignored for a list', run='names names_in_checks',
              fails=r"a list \['--zero'\]", joins=joins),
+        Edit(JSON_TEXT, 'b"dc"', 'b"00"', 'a byte that is no UTF-8 is told as another character',
+             run='names names_in_objects', fails=r"check b.caf.* --json by hand", joins=joins),
+        Edit(JSON_TEXT, "if matches!(*byte, b'\"' | b'\\\\') {", "if matches!(*byte, b'\"') {",
+             'a backslash stays in a string of JSON', run='names names_in_objects',
+             fails=r"check 'back.*slash' --json by hand", joins='strings'),
+        Edit(CHECKING, 'if matches!(style.syntax, Syntax::Json) {',
+             'if matches!(style.syntax, Syntax::Json) && style.end != 0 {',
+             'behind --json --zero a name is no string', run='names names_in_objects',
+             fails=r"a list --json \['--zero'\]", joins='strings'),
         Edit(CHECKING, '    while !left.is_empty() {\n        let (name, rest)',
              '    let mut passed = 0;\n    while !left.is_empty() && passed < 2000 {\n'
              '        passed += 1;\n        let (name, rest)',
@@ -180,7 +200,7 @@ def of_verdicts(joins='verdicts'):
 
 
 ALL_OF = 'compare_all(alloc, left, a, right, b, leaving, &mut listed, steps)?;'
-RIGHT = 'open(rt, right, &mut report)'
+RIGHT = 'open_side(rt, right, telling, Side::Second)'
 
 
 def of_comparisons(joins='comparisons'):
@@ -195,15 +215,28 @@ def of_comparisons(joins='comparisons'):
              'compare does not look at changes', run='changes in_comparisons',
              fails=r'compare \[\]: a.mp4 grows', joins=joins),
         Edit(COMPARES, RIGHT,
-             'open(rt, if matches!(right, Input::Standard) { left } else { right }, &mut report)',
+             'open_side(rt, if matches!(right, Input::Standard) { left } else { right }, telling, '
+             'Side::Second)',
              'compare A - compares A with itself', run='descriptors closed',
              fails=r'compare plain.mp4 -, closed \(\)', joins=joins),
         Edit(COMPARES, RIGHT,
-             'open(rt, if matches!(right, Input::Standard) { Input::File { name: "-" } } '
-             'else { right }, &mut report)',
+             'open_side(rt, if matches!(right, Input::Standard) { Input::File { name: "-" } } '
+             'else { right }, telling, Side::Second)',
              'compare A - reads a file of that name', run='names no_other_file',
              fails='a file that is named -: compare', joins='limits'),
-        Edit(COMPARING, 'iter().take(limit as usize)', 'iter().take(limit.max(1) as usize)',
+        Edit(DIFFERENCE_JSON, 'Field::Byte(_, of) | Field::Entry(_, _, Part::Byte(_, of)) => Some(of),',
+             'Field::Byte(_, of) => Some(of),', 'of a byte of a box it is not told of how many',
+             run='compares', fails=r'handler: byte 12 of 25: 65 \| 78 --json', joins='objects',
+             optimised=True),
+        Edit(DIFFERENCE_JSON, '[edits, flags, groups, metadata, times]',
+             '[times, edits, flags, groups, metadata]', 'words of an object are in another order',
+             run='compares', fails=r"compare --all .*\('times',\) --json", joins='objects words',
+             optimised=True),
+        Edit(DIFFERENCE_JSON, 'Value::Number(_) if digits == 0 =>', 'Value::Number(_) if digits < 7 =>',
+             'flags of a track are a number', run='compares',
+             fails=r'track 1: flags 000003 \| 000007 --json', joins='objects values', optimised=True),
+        Edit(COMPARING, 'iter().take(lines.limit as usize)',
+             'iter().take(lines.limit.max(1) as usize)',
              '--limit 0 lists a difference', run='limits differences',
              fails=r"a list with the limit \['--limit', '0'\]", joins=joins, optimised=True),
         Edit(LINE, 'const LIMIT: u32 = 100;', 'const LIMIT: u32 = 1000;',
@@ -283,10 +316,10 @@ def of_files():
         Edit(REPORTS, '"cause: more than {most} bytes\\n"', '"cause: less than {most} bytes\\n"',
              'the cause of an answer that is too long is another', run='limits bounded',
              fails='normalise 721 bytes of 720, explained', joins='whole', optimised=True),
-        Edit(RUNS, '"its name is not UTF-8; give the file as standard input (-)"', '"it is so"',
+        Edit(REPORTS, '"its name is not UTF-8; give the file as standard input (-)"', '"it is so"',
              'the cause of a FILE that is no text is another', run='names names_in_commands',
              fails='show b.caf.*: why', joins='whole'),
-        Edit(RUNS, '"its name is not UTF-8; write to standard output (-)"',
+        Edit(REPORTS, '"its name is not UTF-8; write to standard output (-)"',
              '"its name is not UTF-8; give it as standard input (-)"',
              'the cause of a NEW that is no text is that of a FILE', run='names usage',
              fails='NEW that is not UTF-8', joins='whole'),
@@ -317,13 +350,13 @@ def of_edges(joins='edges'):
         Edit(FILE_NAMES, "if character == '\\\\' {", "if character == '\\u{0}' {",
              'a backslash in a name stands for itself', run='names names_in_checks',
              fails="check 'back.*control bytes", joins=joins),
-        Edit(CHECKING, '        let answer = answer_of(rt, *input);',
+        Edit(CHECKING, ONE_OF_WORDS,
              '        if input.name().as_bytes().iter().any(|byte| *byte == 0) {\n'
-             '            break;\n        }\n        let answer = answer_of(rt, *input);',
+             f'            break;\n        }}\n{ONE_OF_WORDS}',
              'the files behind a name that is not UTF-8 are not judged',
              run='names names_in_checks',
              fails='one name of many is not UTF-8', joins=joins),
-        Edit(CHECKING, 'if end != 0 {', 'if end != 1 {',
+        Edit(CHECKING, 'if style.end != 0 {', 'if style.end != 1 {',
              '--zero has names as people are shown them', run='names names_in_checks',
              fails=r"check 'red .*\['--zero'\]: control bytes",
              joins='limits'),

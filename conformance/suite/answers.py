@@ -1,5 +1,5 @@
 """What is wanted of each command on a file."""
-from . import lister, normal, reader
+from . import lister, normal, objects, reader
 
 # A track that no file of this suite has.
 NO_TRACK = 987654321
@@ -20,10 +20,13 @@ class Asked:
 
 
 def of_boxes(data):
-    """The answers of both commands that list boxes."""
+    """The answers of the commands that list boxes: of standard input, of a file, as JSON."""
     text, line = lister.listed(data)
     answer = Answer(1, line) if line else Answer(0, None, text.encode())
-    return [Asked('boxes-input', None, answer), Asked('boxes', None, answer)]
+    found, line = objects.listed(data)
+    as_json = Answer(1, line) if line else Answer(0, None, found.encode())
+    return [Asked('boxes-input', None, answer), Asked('boxes', None, answer),
+            Asked('boxes-json', None, as_json)]
 
 
 def of_refused(line):

@@ -9,6 +9,7 @@ use Rattle.mp4_boxes.specs.declared.rule.Rule.{Rule}
 use Rattle.mp4_boxes.specs.declared.rule.Rule.TheVariants.{File, Movie, Track, Edits, Media, MediaInformation, DataInformation, SampleTable, MovieExtends, MovieFragment, TrackFragment}
 use Rattle.mp4_boxes.specs.declared.fault.Fault.{Fault}
 use Rattle.mp4_head.proofs.Above.{lies_front}
+use Rattle.mp4norm.specs.declared.wanted.Syntax.{Syntax}
 use Rattle.mp4norm.specs.format.Texts.{descends, IsPart, AreBoxLines, box_line}
 use Rattle.mp4_present.specs.declared.reading.TopBox.{TopBox}
 use Rattle.mp4norm.specs.format.BoxWalk.{height, under, rule_inside, FaultSeen, IsListed, top_seen, tops_seen}
@@ -101,38 +102,39 @@ zip_map P Q f [] (p ∷ ps) h = absurd h
 zip_map P Q f (b ∷ bs) [] h = absurd h
 zip_map P Q f (b ∷ bs) (p ∷ ps) h = (f b p h.0, zip_map P Q f bs ps h.1)
 
-part_map : (I J : Rule → Container → List ℕ → Type 0) (depth : ℕ) → ((rule : Rule) (c : Container) (text : List ℕ) → I rule c text → J rule c text)
-    → (inner : Option Rule) (b : Box) (part : List ℕ) → IsPart I depth inner b part → IsPart J depth inner b part
-part_map I J depth f None b part h = h
-part_map I J depth f (Some rule) b part h = (h.0, f rule (box_container b) h.0 h.1, h.2)
+part_map : (I J : Rule → Container → List ℕ → Type 0) (line : List ℕ) → ((rule : Rule) (c : Container) (text : List ℕ) → I rule c text → J rule c text)
+    → (inner : Option Rule) (b : Box) (part : List ℕ) → IsPart I line inner b part → IsPart J line inner b part
+part_map I J line f None b part h = h
+part_map I J line f (Some rule) b part h = (h.0, f rule (box_container b) h.0 h.1, h.2)
 
 -- More levels than are there change nothing.
-pub levels_rise : (m n depth : ℕ) (rule : Rule) (c : Container) (text : List ℕ) → m ≤ n → AreBoxLines m depth rule c text → AreBoxLines n depth rule c text
-levels_rise zero n depth rule c text le h = absurd h
-levels_rise (suc m) zero depth rule c text le h = absurd (omega arith)
-levels_rise (suc m) (suc n) depth rule c text le h =
-    let lift = λ (r : Rule) (d : Container) (t : List ℕ). levels_rise m n (depth + 1) r d t (omega arith) in (
+pub levels_rise : (syntax : Syntax) (m n depth : ℕ) (rule : Rule) (c : Container) (text : List ℕ) → m ≤ n → AreBoxLines syntax m depth rule c text → AreBoxLines syntax n depth rule c text
+levels_rise syntax zero n depth rule c text le h = absurd h
+levels_rise syntax (suc m) zero depth rule c text le h = absurd (omega arith)
+levels_rise syntax (suc m) (suc n) depth rule c text le h =
+    let lift = λ (r : Rule) (d : Container) (t : List ℕ). levels_rise syntax m n (depth + 1) r d t (omega arith) in (
       h.0,
       h.1,
       h.2,
-      zip_map (λ b part. IsPart (AreBoxLines m (depth + 1)) depth (descends (at_kind (containers (ruled rule)) b.kind)) b part) (λ b part. IsPart (AreBoxLines n (depth + 1)) depth (descends (at_kind (containers (ruled rule)) b.kind)) b part)
-          (λ b part. part_map (AreBoxLines m (depth + 1)) (AreBoxLines n (depth + 1)) depth lift (descends (at_kind (containers (ruled rule)) b.kind)) b part) h.0 h.2 h.3,
+      zip_map (λ b part. IsPart (AreBoxLines syntax m (depth + 1)) (box_line syntax rule depth b) (descends (at_kind (containers (ruled rule)) b.kind)) b part)
+          (λ b part. IsPart (AreBoxLines syntax n (depth + 1)) (box_line syntax rule depth b) (descends (at_kind (containers (ruled rule)) b.kind)) b part)
+          (λ b part. part_map (AreBoxLines syntax m (depth + 1)) (AreBoxLines syntax n (depth + 1)) (box_line syntax rule depth b) lift (descends (at_kind (containers (ruled rule)) b.kind)) b part) h.0 h.2 h.3,
       h.4,
     )
 
 -- the lines of a container's boxes, from those of each
-pub lines_of_boxes : (depth : ℕ) (rule : Rule) (c : Container) (boxes : List Box) (parts : List (List ℕ)) → Tiles c boxes → AllZip (IsListed rule depth) boxes parts → AreBoxLines (height rule) depth rule c (concat parts)
-lines_of_boxes depth rule c boxes parts t h = from (height rule) (height_some rule) h
+pub lines_of_boxes : (syntax : Syntax) (depth : ℕ) (rule : Rule) (c : Container) (boxes : List Box) (parts : List (List ℕ)) → Tiles c boxes → AllZip (IsListed syntax rule depth) boxes parts → AreBoxLines syntax (height rule) depth rule c (concat parts)
+lines_of_boxes syntax depth rule c boxes parts t h = from (height rule) (height_some rule) h
   where
-    from : (n : ℕ) → 0 < n → AllZip (λ (b : Box) (part : List ℕ). IsPart (AreBoxLines (n - 1) (depth + 1)) depth (rule_inside rule b.kind) b part) boxes parts → AreBoxLines n depth rule c (concat parts)
+    from : (n : ℕ) → 0 < n → AllZip (λ (b : Box) (part : List ℕ). IsPart (AreBoxLines syntax (n - 1) (depth + 1)) (box_line syntax rule depth b) (rule_inside rule b.kind) b part) boxes parts → AreBoxLines syntax n depth rule c (concat parts)
     from zero some g = absurd (omega arith)
     from (suc n) some g =
         let e : suc n - 1 ≡ n = omega arith in
-        (boxes, t, parts, subst (λ (k : ℕ). AllZip (λ (b : Box) (part : List ℕ). IsPart (AreBoxLines k (depth + 1)) depth (rule_inside rule b.kind) b part) boxes parts) e g, refl)
+        (boxes, t, parts, subst (λ (k : ℕ). AllZip (λ (b : Box) (part : List ℕ). IsPart (AreBoxLines syntax k (depth + 1)) (box_line syntax rule depth b) (rule_inside rule b.kind) b part) boxes parts) e g, refl)
 
 -- the line of a box that is not
-pub listed_alone : (rule : Rule) (depth : ℕ) (b : Box) → rule_inside rule b.kind ≡ None → IsListed rule depth b (box_line depth b)
-listed_alone rule depth b e = rw e refl
+pub listed_alone : (syntax : Syntax) (rule : Rule) (depth : ℕ) (b : Box) → rule_inside rule b.kind ≡ None → IsListed syntax rule depth b (box_line syntax rule depth b)
+listed_alone syntax rule depth b e = rw e refl
 
 -- ---- faults
 

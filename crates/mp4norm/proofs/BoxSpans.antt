@@ -1,10 +1,11 @@
 -- The boxes between two places of a file, by their headers.
 use Rattle.std.proofs.Common.{◌≡◌, ℕ, ◌+◌, ◌-◌, ◌<◌, ◌≤◌, Bool, true, false, cond, List, [], ◌∷◌, ◌++◌, length, drop, Some, None, refl, sym, ap, subst, ◌∙◌, arith, Ok, Err}
 use Rattle.std.proofs.lemmas.Grind.{common_steps}
+use Rattle.std.proofs.lemmas.Bool.{le-leb}
 use Rattle.std.proofs.lemmas.Slice.Eq.{bytes_eq-Decides}
-use Rattle.std.specs.Prelude.{IsTrue, codes, bytes_eq}
+use Rattle.std.specs.Prelude.{IsTrue, codes, bytes_eq, Option, option_map, nat_le, take}
 use Rattle.mp4_store.specs.words.Device.{range}
-use Rattle.mp4_boxes.specs.format.Box.{Box, Container, header_at, box_of, sizes, LieEndToEnd, may_be_open, IsCounted, IsDue, IsFull, Tiles, box_container, file_container}
+use Rattle.mp4_boxes.specs.format.Box.{Box, Container, header_at, box_of, size, sizes, LieEndToEnd, may_be_open, IsCounted, IsDue, IsFull, Tiles, box_container, file_container}
 use Rattle.mp4_boxes.specs.format.BoxFaults.{header_there, type_of, unreadable}
 use Rattle.mp4_boxes.specs.format.Places.{ruled, data_entries, sample_entries}
 use Rattle.mp4_boxes.specs.words.View.{top_header_seen}
@@ -20,10 +21,14 @@ use Rattle.mp4_present.specs.words.Reading.{top_box}
 use Rattle.mp4_present.specs.declared.reading.TopBox.{TopBox}
 use Rattle.mp4norm.specs.format.BoxWalk.{height, under, rule_inside, FaultSeen, IsListed, IsWithin, RefusesTops, top_seen}
 use Rattle.mp4norm.specs.format.Strips.{holder, is_top, payload_of, RefusesHeaderUnder}
-use Rattle.mp4norm.specs.format.Texts.{descends, AreBoxLines, BoxLines, box_line, line_text}
-use Rattle.mp4norm.specs.words.BoxSpans.{extent_of, span_of, RefusesSpan}
+use Rattle.serde_json.specs.Written.{compact_text, has_float}
+use Rattle.mp4_boxes.specs.format.Children.{allows}
+use Rattle.mp4norm.specs.declared.wanted.Syntax.{Syntax}
+use Rattle.mp4norm.specs.declared.wanted.Syntax.TheVariants as syntaxes
+use Rattle.mp4norm.specs.format.Texts.{descends, AreBoxLines, BoxLines, box_line, box_value, line_feed, type_text, uuid_of, uuid_text}
+use Rattle.mp4norm.specs.words.BoxSpans.{extent_of, span_of, found_value, RefusesLine, RefusesSpan}
 use Rattle.mp4norm.proofs.BoxLists.{not_entries, inside_lower, levels_rise, seen_above}
-use Rattle.mp4norm.proofs.StripWalks.{drop_range, its_payload}
+use Rattle.mp4norm.proofs.StripWalks.{drop_range, take_range, its_payload}
 use Rattle.mp4norm.proofs.HeadersUnder.{length_range}
 
 -- ---- how far boxes go
@@ -162,26 +167,53 @@ file_span file = ap (λ (bytes : List ℕ). record (file_container file) { bytes
 
 -- ---- lines
 
--- the line of a box says its size
-pub top_line : (file : List ℕ) (depth : ℕ) (top : TopBox) → IsWithin file top → line_text depth top.header.kind.0 top.offset (top.header.end - top.offset) ≡ box_line depth (top_seen file top)
-top_line file depth top w =
+-- how long a box is
+top_size : (file : List ℕ) (top : TopBox) → IsWithin file top → top.header.end - top.offset ≡ size (top_seen file top)
+top_size file top w =
     let from = w.0 in
     let to = w.1 in
     let there = length_range file (payload_at top) (top.header.end - top.offset - top.header.header) (omega (arith, from, to)) in
-    ap (line_text depth top.header.kind.0 top.offset) (omega (arith, from, there))
+    omega (arith, from, there)
+
+-- the object of a box says its size
+pub top_object : (file : List ℕ) (rule : Rule) (depth : ℕ) (top : TopBox) (uuid : Option (List ℕ)) → IsWithin file top → uuid ≡ uuid_of (top_seen file top)
+    → compact_text (found_value depth rule top uuid) ++ line_feed ≡ box_line syntaxes.Json rule depth (top_seen file top)
+top_object file rule depth top uuid w e = λ i. compact_text (box_value depth (allows rule top.header.kind.0) top.offset (top_size file top w i) (type_text top.header.kind.0) (option_map uuid_text (e i))) ++ line_feed
+
+-- sixteen bytes that were read of a `uuid` are its UUID
+pub uuid_read : (file : List ℕ) (top : TopBox) (bytes : List ℕ) → IsWithin file top → top.header.kind.0 ≡ codes "uuid" → payload_at top + 16 ≤ top.header.end → bytes ≡ range file (payload_at top) 16
+    → Some bytes ≡ uuid_of (top_seen file top)
+uuid_read file top bytes w named enough e =
+    let from = w.0 in
+    let to = w.1 in
+    let left = top.header.end - top.offset - top.header.header in
+    let there : length (range file (payload_at top) left) ≡ left = length_range file (payload_at top) left (omega (arith, from, to)) in
+    let long : nat_le 16 (length (range file (payload_at top) left)) ≡ true = rw there (le-leb 16 left (omega (arith, enough, from))) in
+    let front : bytes ≡ take 16 (range file (payload_at top) left) = e ∙ sym (take_range file (payload_at top) 16 left (omega (arith, enough, from))) in
+    rw (named, long) (ap Some front)
+
+-- no number of it is a float
+pub found-has_float : (depth : ℕ) (rule : Rule) (top : TopBox) (uuid : Option (List ℕ)) → has_float (found_value depth rule top uuid) ≡ false
+found-has_float depth rule top uuid = box-has_float depth (allows rule top.header.kind.0) top.offset (top.header.end - top.offset) (type_text top.header.kind.0) (option_map uuid_text uuid)
+  where
+    box-has_float : (depth : ℕ) (allowed : Bool) (offset size : ℕ) (kind : List ℕ) (uuid : Option (List ℕ)) → has_float (box_value depth allowed offset size kind uuid) ≡ false
+    box-has_float depth true offset size kind None = refl
+    box-has_float depth true offset size kind (Some u) = refl
+    box-has_float depth false offset size kind None = refl
+    box-has_float depth false offset size kind (Some u) = refl
 
 -- the lines of a box that is descended into: its own, and those of its boxes
-pub listed_span : (file : List ℕ) (rule inner : Rule) (depth : ℕ) (top : TopBox) (part : List ℕ) → rule_inside rule top.header.kind.0 ≡ Some inner
-    → AreBoxLines (height inner) (depth + 1) inner (span_of file inner top.offset (payload_at top) top.header.end) part
-    → IsListed rule depth (top_seen file top) (box_line depth (top_seen file top) ++ part)
-listed_span file rule inner depth top part e h =
+pub listed_span : (syntax : Syntax) (file : List ℕ) (rule inner : Rule) (depth : ℕ) (top : TopBox) (part : List ℕ) → rule_inside rule top.header.kind.0 ≡ Some inner
+    → AreBoxLines syntax (height inner) (depth + 1) inner (span_of file inner top.offset (payload_at top) top.header.end) part
+    → IsListed syntax rule depth (top_seen file top) (box_line syntax rule depth (top_seen file top) ++ part)
+listed_span syntax file rule inner depth top part e h =
     let lower = inside_lower rule inner top.header.kind.0 e in
-    let lines = levels_rise (height inner) (height rule - 1) (depth + 1) inner (box_container (top_seen file top)) part (omega (arith, lower))
-    (subst (λ (c : Container). AreBoxLines (height inner) (depth + 1) inner c part) (box_span file rule inner top e) h) in
+    let lines = levels_rise syntax (height inner) (height rule - 1) (depth + 1) inner (box_container (top_seen file top)) part (omega (arith, lower))
+    (subst (λ (c : Container). AreBoxLines syntax (height inner) (depth + 1) inner c part) (box_span file rule inner top e) h) in
     rw e (part, lines, refl)
 
-pub file_lines : (file text : List ℕ) → AreBoxLines 6 0 File (span_of file File 0 0 (length file)) text → BoxLines file text
-file_lines file text h = subst (λ (c : Container). AreBoxLines 6 0 File c text) (file_span file) h
+pub file_lines : (syntax : Syntax) (file text : List ℕ) → AreBoxLines syntax 6 0 File (span_of file File 0 0 (length file)) text → BoxLines syntax file text
+file_lines syntax file text h = subst (λ (c : Container). AreBoxLines syntax 6 0 File c text) (file_span file) h
 
 -- ---- why they are not listed
 
@@ -193,6 +225,15 @@ refuses_between honest file rule from end boxes at reads reads_after refusals.St
 refuses_between honest file rule from end boxes at reads reads_after refusals.StoreChanged p lt le h = absurd h
 refuses_between honest file rule from end boxes at reads reads_after refusals.WriteFailed p lt le h = absurd h
 refuses_between honest file rule from end boxes at reads reads_after refusals.NoSuchTrack p lt le h = absurd h
+
+-- the line of one box
+pub refuses_line : (honest : Bool) (file : List ℕ) (rule : Rule) (from end reads reads_after : ℕ) (r : Refusal) → RefusesLine reads reads_after r → RefusesSpan honest file rule from end reads reads_after r
+refuses_line honest file rule from end reads reads_after (refusals.Fault f) h = absurd h
+refuses_line honest file rule from end reads reads_after refusals.Memory h = tt
+refuses_line honest file rule from end reads reads_after refusals.StoreFailed h = h
+refuses_line honest file rule from end reads reads_after refusals.StoreChanged h = absurd h
+refuses_line honest file rule from end reads reads_after refusals.WriteFailed h = absurd h
+refuses_line honest file rule from end reads reads_after refusals.NoSuchTrack h = absurd h
 
 -- boxes of a box in it
 pub refuses_deeper : (honest : Bool) (file : List ℕ) (rule inner : Rule) (from end : ℕ) (all left : List Box) (top : TopBox) (reads reads_after : ℕ) (r : Refusal)

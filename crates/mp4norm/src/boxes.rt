@@ -1,14 +1,16 @@
 //! The boxes of a file, a line each.
-ghost use Rattle.std.specs.Prelude.{◌≡◌, ◌+◌, ◌≤◌, length, IfOk, OnOk};
+ghost use Rattle.std.specs.Prelude.{◌≡◌, ◌+◌, ◌≤◌, ◌++◌, length, IfOk, OnOk};
 ghost use Rattle.std.specs.List.{All};
-ghost use Rattle.mp4norm.specs.format.BoxWalk.{height, rule_inside, RefusesBoxes, IsWithin, RefusesTops};
-ghost use Rattle.mp4norm.specs.format.Texts.{line_text, BoxLines};
-ghost use Rattle.mp4norm.specs.words.BoxSpans.{AddsLines, RefusesSpan, TilesSpan};
+ghost use Rattle.mp4norm.specs.format.BoxWalk.{height, rule_inside, top_seen, RefusesBoxes, IsWithin, RefusesTops};
+ghost use Rattle.mp4norm.specs.format.Texts.{line_text, box_line, uuid_of, BoxLines};
+ghost use Rattle.mp4norm.specs.words.BoxSpans.{AddsLines, RefusesLine, RefusesSpan, TilesSpan};
 ghost use Rattle.mp4_present.specs.words.OverStores.{OnlyReads, RefusedOf, WhereHonest, WhereRead};
 ghost use Rattle.mp4norm.specs.words.OverDevices.{Answers, Reads};
 
+use crate::box_json::box_json;
 use crate::headers_under::read_header;
 use crate::line::Line;
+use crate::wanted::Syntax;
 use mp4_boxes::{FourCc, Refusal, Rule};
 use mp4_present::TopBox;
 use mp4_store::{Sink, Store};
@@ -30,6 +32,58 @@ fn line_of(depth: u8, kind: FourCc, offset: u64, size: u64) -> Line
     line.push_number(size);
     line.push(b'\n');
     line
+}
+
+// The first 16 bytes of the payload of a `uuid`; none of any other box, or where it has fewer.
+fn read_uuid<S: Store>(store: &mut S, found: &TopBox) -> Result<Option<[u8; 16]>, Refusal>
+    requires { IsWithin (S.file store.old) found.now }
+    ensures store { OnlyReads S.Store store.old store.new result }
+    ensures uuid { WhereRead S.Store store.old result
+        (λ file uuid. uuid ≡ uuid_of (top_seen file found.now)) }
+    ensures refusal { RefusedOf S.Store store.old store.new result (λ honest file. RefusesLine) }
+{
+    let _size = store.len();
+    let header = found.header;
+    let payload = found.offset + u64::from(header.header);
+    if header.kind != FourCc(*b"uuid") || header.end - payload < 16 {
+        return Ok(None);
+    }
+    let mut bytes = [0; 16];
+    store.read_at(payload, &mut bytes)?;
+    Ok(Some(bytes))
+}
+
+// Adds the line of a box that stands in so many containers, under this rule.
+fn add_line<S: Store>(
+    text: &mut Vec<u8>,
+    alloc: Global,
+    store: &mut S,
+    syntax: Syntax,
+    rule: Rule,
+    depth: u8,
+    found: &TopBox,
+) -> Result<(), Refusal>
+    requires levels { depth ≤ 5 }
+    requires within { IsWithin (S.file store.old) found.now }
+    ensures store { OnlyReads S.Store store.old store.new result }
+    ensures line { OnOk result (WhereHonest S.Store store.old (λ file. text.new.items
+        ≡ text.old.items ++ box_line syntax rule depth (top_seen file found.now))) }
+    ensures refusal { RefusedOf S.Store store.old store.new result (λ honest file. RefusesLine) }
+{
+    match syntax {
+        Syntax::Text => {
+            let header = found.header;
+            let line = line_of(depth, header.kind, found.offset, header.end - found.offset);
+            text.extend_from_slice(line.as_bytes())?;
+        }
+        Syntax::Json => {
+            let uuid = read_uuid(store, found)?;
+            let line = box_json(alloc, depth, rule, found, uuid)?;
+            text.extend_from_slice(line.as_str().as_bytes())?;
+            text.push(b'\n')?;
+        }
+    }
+    Ok(())
 }
 
 /// The rule of the boxes in a box of this type, where it is a container of boxes.
@@ -80,11 +134,13 @@ fn boxes_between<S: Store>(
 }
 
 // Adds the lines of the boxes of a container, and behind each those of the boxes in it. The headers
-// of all its boxes are read before those of boxes in them; payloads are not read.
+// of all its boxes are read before those of boxes in them. No payload is read but, for JSON, the
+// first bytes of each `uuid`.
 fn push_boxes<S: Store>(
     text: &mut Vec<u8>,
     alloc: Global,
     store: &mut S,
+    syntax: Syntax,
     rule: Rule,
     depth: u8,
     from: u64,
@@ -95,42 +151,56 @@ fn push_boxes<S: Store>(
     requires within { end ≤ length (S.file store.old) }
     ensures store { OnlyReads S.Store store.old store.new result }
     ensures lines { OnOk result (WhereHonest S.Store store.old
-        (λ file. AddsLines file rule depth from end text.old.items text.new.items)) }
+        (λ file. AddsLines file syntax rule depth from end text.old.items text.new.items)) }
     ensures refusal { RefusedOf S.Store store.old store.new result (λ honest file.
         RefusesSpan honest file rule from end) }
 {
     let boxes = boxes_between(alloc, store, rule, from, end)?;
     for found in &boxes {
+        add_line(text, alloc, store, syntax, rule, depth, found)?;
         let header = found.header;
-        let line = line_of(depth, header.kind, found.offset, header.end - found.offset);
-        text.extend_from_slice(line.as_bytes())?;
         if let Some(inner) = rule_inside(rule, header.kind) {
+            let _size = store.len();
             let payload = found.offset + u64::from(header.header);
-            push_boxes(text, alloc, store, inner, depth + 1, payload, header.end)?;
+            push_boxes(
+                text,
+                alloc,
+                store,
+                syntax,
+                inner,
+                depth + 1,
+                payload,
+                header.end,
+            )?;
         }
     }
     Ok(())
 }
 
 // The lines of all boxes that are listed.
-fn list_boxes<S: Store>(alloc: Global, store: &mut S) -> Result<Vec<u8>, Refusal>
+fn list_boxes<S: Store>(alloc: Global, store: &mut S, syntax: Syntax) -> Result<Vec<u8>, Refusal>
     ensures answer { Reads S.Store store.old store.new result
-        (λ file text. BoxLines file text.items) RefusesTops }
+        (λ file text. BoxLines syntax file text.items) RefusesTops }
 {
     let mut text = Vec::new(alloc);
     let end = store.len();
-    push_boxes(&mut text, alloc, store, Rule::File, 0, 0, end)?;
+    push_boxes(&mut text, alloc, store, syntax, Rule::File, 0, 0, end)?;
     Ok(text)
 }
 
 /// Puts a line for each box that is a box of the file or of a container of boxes: two spaces for
-/// each container that it stands in, its type, its place, its size. Every type is accepted. Where
-/// any header that is looked at is at fault, nothing is put.
-pub fn boxes<S: Store, K: Sink>(alloc: Global, store: &mut S, sink: &mut K) -> Result<(), Refusal>
+/// each container that it stands in, its type, its place, its size; or an object of JSON. Every
+/// type is accepted. Where any header that is looked at is at fault, nothing is put.
+pub fn boxes<S: Store, K: Sink>(
+    alloc: Global,
+    store: &mut S,
+    syntax: Syntax,
+    sink: &mut K,
+) -> Result<(), Refusal>
     ensures answer { Answers S.Store store.old store.new K.Sink sink.old sink.new result
-        BoxLines RefusesBoxes }
+        (BoxLines syntax) (RefusesBoxes syntax) }
 {
-    let text = list_boxes(alloc, store)?;
+    let text = list_boxes(alloc, store, syntax)?;
     sink.put(text.as_slice())?;
     Ok(())
 }

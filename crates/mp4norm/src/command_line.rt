@@ -3,11 +3,14 @@ ghost use Rattle.std.specs.Prelude.{◌≡◌, ◌≤◌, [], IfOk, IfSome, Ok};
 ghost use Rattle.mp4norm.specs.words.Actions.{IsJob, IsAction, boxes_of_input};
 
 use crate::commands::whole_command;
-use crate::comparing::Listing;
+use crate::comparing::{Lines, Listing};
 use crate::drop_lists::names_of;
 use crate::file_names::shown_word;
 use crate::leaving_words::leaving_of;
-use crate::wanted::{Action, CommandFault, Form, Input, Job, Order, Target, Telling};
+use crate::wanted::{
+    Action, CommandFault, Comparison, Form, Input, Job, Order, Syntax, Target, Telling,
+    VerdictStyle,
+};
 use clap::error::ErrorKind;
 use clap::{ArgMatches, Error};
 use mp4_present::Leaving;
@@ -17,6 +20,8 @@ use std::alloc::{AllocError, Global};
 const REPLACED_OUTPUT: &str = "the argument '--replace' cannot be used with '--out -'";
 
 const TWO_FORMS: &str = "the argument '--header' cannot be used with '--json'";
+
+const BRIEFLY_EXPLAINED: &str = "the argument '--brief' cannot be used with '--explain'";
 
 const LIMIT_ALONE: &str = "the argument '--limit <N>' is of use only with '--all'";
 
@@ -60,6 +65,7 @@ fn target_of<'a>(found: &ArgMatches<'a>) -> Target<'a> {
 fn telling_of(found: &ArgMatches) -> Telling {
     Telling {
         explain: found.get_flag("explain"),
+        brief: found.get_flag("brief"),
         progress: found.get_flag("progress"),
     }
 }
@@ -71,6 +77,15 @@ fn order_of<'a>(found: &ArgMatches<'a>, file: &'a str) -> Order<'a> {
         target: target_of(found),
         most: found.get_one::<u64>("max-bytes"),
         telling: telling_of(found),
+    }
+}
+
+// In which syntax the answer is asked for.
+fn syntax_of(found: &ArgMatches) -> Syntax {
+    if found.get_flag("json") {
+        Syntax::Json
+    } else {
+        Syntax::Text
     }
 }
 
@@ -94,8 +109,17 @@ fn check_asked<'a>(alloc: Global, found: &ArgMatches<'a>) -> Result<Action<'a>, 
         files.push(input_of(word))?;
     }
     let list = found.get_str("names-from").map(input_of);
-    let zero = found.get_flag("zero");
-    Ok(Action::Check { files, list, zero })
+    let style = VerdictStyle {
+        syntax: syntax_of(found),
+        end: if found.get_flag("zero") { 0 } else { b'\n' },
+    };
+    let telling = telling_of(found);
+    Ok(Action::Check {
+        files,
+        list,
+        style,
+        telling,
+    })
 }
 
 // What is wrong with the words, said as clap does.
@@ -161,7 +185,10 @@ fn job_of(
     ensures { IfOk result (λ job. IfSome job IsJob) }
 {
     let job = match (name, track_of(found)) {
-        ("boxes", _) => Job::Boxes,
+        ("boxes", _) => {
+            let syntax = syntax_of(found);
+            Job::Boxes { syntax }
+        }
         ("show", _) => Job::Show,
         ("samples", Some(track)) => {
             let form = form_of(found);
@@ -197,11 +224,12 @@ fn run_asked<'a>(
 
 // How differences are to be told of.
 fn listing_of(found: &ArgMatches) -> Listing {
+    let syntax = syntax_of(found);
     if !found.get_flag("all") {
-        return Listing::First;
+        return Listing::First(syntax);
     }
     let limit = found.get_one::<u32>("limit").unwrap_or(LIMIT);
-    Listing::All { limit }
+    Listing::All(Lines { limit, syntax })
 }
 
 // Which files are to be compared, and how.
@@ -211,12 +239,13 @@ fn compare_asked<'a>(alloc: Global, found: &ArgMatches<'a>) -> Result<Action<'a>
     let (Some(left), Some(right)) = (found.get_str("left"), found.get_str("right")) else {
         return Err(missing(alloc));
     };
-    Ok(Action::Compare {
+    Ok(Action::Compare(Comparison {
         left: input_of(left),
         right: input_of(right),
         leaving: left_out(alloc, found)?,
         listing: listing_of(found),
-    })
+        telling: telling_of(found),
+    }))
 }
 
 // How often standard input is named.
@@ -235,6 +264,8 @@ fn odds_of(matches: &ArgMatches) -> Option<&'static str> {
     let (_, found) = matches.subcommand()?;
     if found.get_flag("replace") && found.get_str("out") == Some("-") {
         Some(REPLACED_OUTPUT)
+    } else if found.get_flag("brief") && found.get_flag("explain") {
+        Some(BRIEFLY_EXPLAINED)
     } else if found.get_flag("header") && found.get_flag("json") {
         Some(TWO_FORMS)
     } else if inputs_in(found) > 1 {
@@ -288,7 +319,9 @@ pub fn action<'a>(alloc: Global, words: &'a [String]) -> Result<Action<'a>, Comm
             telling: Telling::NOTHING,
         };
         return Ok(Action::Run {
-            job: Job::Boxes,
+            job: Job::Boxes {
+                syntax: Syntax::Text,
+            },
             order,
         });
     }

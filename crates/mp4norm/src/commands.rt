@@ -29,6 +29,8 @@ const EXPLAIN: &str = "\
 Say more of what is wrong: of a fault the box, the clause and the meaning, of a failure the \
 file and the cause";
 
+const BRIEF: &str = "Say no more than one line of a failure, on a terminal too";
+
 const REPLACE: &str = "\
 Replace NEW, and only once all is written: by a new file beside it, \
 NEW.part-..";
@@ -37,7 +39,7 @@ const PROGRESS: &str = "Say on standard error how far it has come, in percent an
 
 const HEADER: &str = "Begin with a line of the names of the columns";
 
-const JSON: &str = "List each sample as an object of JSON, in a line of its own";
+const JSON: &str = "Answer with objects of JSON, each in a line of its own";
 
 const ZERO: &str = "End each line with a zero byte in place of a line feed";
 
@@ -109,16 +111,18 @@ fn of_file<'a>(
         .about(about)
         .after_help(example)
         .arg(file_arg(alloc))?
-        .arg(flag(alloc, "explain", EXPLAIN))
+        .arg(flag(alloc, "explain", EXPLAIN))?
+        .arg(flag(alloc, "brief", BRIEF))
 }
 
 fn boxes_command<'a>(alloc: Global) -> Result<Command<'a>, AllocError> {
-    of_file(
+    let command = of_file(
         alloc,
         "boxes",
         "Lists the boxes of a file: two spaces for each container, type, place, size",
         "Example: mp4norm boxes movie.mp4",
-    )
+    )?;
+    command.arg(flag(alloc, "json", JSON))
 }
 
 fn show_command<'a>(alloc: Global) -> Result<Command<'a>, AllocError> {
@@ -214,7 +218,10 @@ fn check_command<'a>(alloc: Global) -> Result<Command<'a>, AllocError> {
         .after_help("Example: mp4norm check *.mp4")
         .arg(files_arg(alloc)?)?
         .arg(list_arg(alloc))?
-        .arg(flag(alloc, "zero", ZERO))
+        .arg(flag(alloc, "zero", ZERO))?
+        .arg(flag(alloc, "json", JSON))?
+        .arg(flag(alloc, "explain", EXPLAIN))?
+        .arg(flag(alloc, "brief", BRIEF))
 }
 
 fn side_arg<'a>(alloc: Global, name: &'a str, shown: &'a str) -> Arg<'a> {
@@ -242,7 +249,10 @@ fn compare_command<'a>(alloc: Global) -> Result<Command<'a>, AllocError> {
         .arg(side_arg(alloc, "right", "B"))?
         .arg(without_arg(alloc))?
         .arg(flag(alloc, "all", ALL))?
-        .arg(limit_arg(alloc))
+        .arg(limit_arg(alloc))?
+        .arg(flag(alloc, "json", JSON))?
+        .arg(flag(alloc, "explain", EXPLAIN))?
+        .arg(flag(alloc, "brief", BRIEF))
 }
 
 fn top_command<'a>(alloc: Global) -> Result<Command<'a>, AllocError> {

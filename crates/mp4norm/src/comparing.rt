@@ -1,26 +1,35 @@
 //! Two files, compared by what they say.
-ghost use Rattle.std.specs.Prelude.{◌≡◌, ◌<◌, length, IfOk, IfErr, IfSome};
+ghost use Rattle.std.specs.Prelude.{◌≡◌, ◌<◌, length, IfOk, IfErr, IfSome, OnOk};
 ghost use Rattle.mp4norm.specs.format.CompareHeadline.{IsVerdict, ComparesWithin, FindsBothWithin};
-ghost use Rattle.mp4norm.specs.words.Compares.{side_of, says_nothing, IsSaid, ListsFront, PutsAnswer, WalksTwice, WalksThrice, RefusesAnswer};
+ghost use Rattle.mp4norm.specs.words.Compares.{side_of, says_nothing, is_silent, IsSaid, ListsFront, PutsAnswer, PutsSame, WalksTwice, WalksThrice, RefusesAnswer};
 ghost use Rattle.mp4_present.specs.words.OverStores.{IsUnchanged, WhereBothHonest};
 ghost use Rattle.mp4norm.specs.words.OverDevices.{NoPutFails};
 ghost use Rattle.mp4_present.specs.words.Compared.{OfFiles, WhereOpenedBoth};
 ghost use Rattle.mp4norm.specs.words.OverFiles.{ComparesBoth, ReadsBoth, WalksOnce};
 
-use crate::difference_lines::{say, say_difference};
+use crate::difference_json::{say_difference_object, say_tally_object};
+use crate::difference_lines::say_difference;
 use crate::leaving_words::EVERYTHING;
 use crate::tally::{Tally, say_tally};
+use crate::wanted::Syntax;
 use mp4_boxes::{Refusal, Steps};
 use mp4_present::{Difference, Differences, Leaving, Movie, compare, compare_all, open_movie};
 use mp4_store::{Sink, Store};
 use std::alloc::{AllocError, Global};
 use std::sync::ledger::Ledger;
 
+/// How many differences are listed at most, and in which syntax.
+#[derive(Clone, Copy)]
+pub struct Lines {
+    pub limit: u32,
+    pub syntax: Syntax,
+}
+
 /// How a comparison is told of: by the first difference alone, or by so many and their counts.
 #[derive(Clone, Copy)]
 pub enum Listing {
-    First,
-    All { limit: u32 },
+    First(Syntax),
+    All(Lines),
 }
 
 /// Which file a comparison fails for.
@@ -113,12 +122,22 @@ impl Differences for Listed {
     }
 }
 
+// Adds a difference in this syntax.
+fn say_in(text: &mut Vec<u8>, difference: Difference, syntax: Syntax) -> Result<(), AllocError>
+    ensures { OnOk result (0 < length text.new.items) }
+{
+    match syntax {
+        Syntax::Text => say_difference(text, difference),
+        Syntax::Json => say_difference_object(text, difference),
+    }
+}
+
 // The text of a first difference.
-fn first_text(alloc: Global, difference: Difference) -> Result<Vec<u8>, AllocError>
+fn first_text(alloc: Global, difference: Difference, syntax: Syntax) -> Result<Vec<u8>, AllocError>
     ensures { IfOk result (λ text. 0 < length text.items) }
 {
     let mut text = Vec::new(alloc);
-    say_difference(&mut text, difference)?;
+    say_in(&mut text, difference, syntax)?;
     Ok(text)
 }
 
@@ -126,7 +145,7 @@ fn first_text(alloc: Global, difference: Difference) -> Result<Vec<u8>, AllocErr
 fn listed_text(
     alloc: Global,
     all: &[Difference],
-    limit: u32,
+    lines: Lines,
     is_whole: bool,
     tally: &Tally,
     enough: Option<Leaving>,
@@ -134,14 +153,39 @@ fn listed_text(
     ensures { IfOk result (λ text. 0 < length text.items) }
 {
     let mut text = Vec::new(alloc);
-    for difference in all.iter().take(limit as usize) {
-        say_difference(&mut text, *difference)?;
+    for difference in all.iter().take(lines.limit as usize) {
+        say_in(&mut text, *difference, lines.syntax)?;
     }
-    if !is_whole {
-        say(&mut text, "at least ")?;
+    match lines.syntax {
+        Syntax::Text => say_tally(&mut text, tally, is_whole, enough)?,
+        Syntax::Json => say_tally_object(&mut text, tally, is_whole, enough)?,
     }
-    say_tally(&mut text, tally, enough)?;
     Ok(text)
+}
+
+// What there is to say of two files that are the same without this; nothing but where all
+// differences are listed as JSON.
+fn same_text(
+    alloc: Global,
+    leaving: Leaving,
+    listing: Listing,
+) -> Result<Option<Vec<u8>>, AllocError>
+    ensures some { IfOk result (λ said. IfSome said (λ text. 0 < length text.items)) }
+    ensures silent { IfOk result (λ said. says_nothing said ≡ is_silent listing) }
+{
+    match listing {
+        Listing::All(
+            Lines {
+                syntax: Syntax::Json,
+                ..
+            },
+        ) => {
+            let mut text = Vec::new(alloc);
+            say_tally_object(&mut text, &Tally::of(&[]), true, Some(leaving))?;
+            Ok(Some(text))
+        }
+        _ => Ok(None),
+    }
 }
 
 // As many of some differences as are counted.
@@ -230,7 +274,7 @@ fn all_text<S: Store, T: Store, L: Ledger>(
     right: &Movie,
     b: &mut T,
     leaving: Leaving,
-    limit: u32,
+    lines: Lines,
     steps: &mut Steps<L>,
 ) -> Result<Option<Vec<u8>>, Refusal>
     ensures stores { ReadsBoth S.Store a.old a.new T.Store b.old b.new result }
@@ -249,7 +293,7 @@ fn all_text<S: Store, T: Store, L: Ledger>(
     let tally = Tally::of(all);
     let more = tally.suggests(leaving);
     let enough = enough_for(alloc, left, a, right, b, more, is_whole, steps)?;
-    Ok(Some(listed_text(alloc, all, limit, is_whole, &tally, enough)?))
+    Ok(Some(listed_text(alloc, all, lines, is_whole, &tally, enough)?))
 }
 
 // Compares two opened files, and gives what there is to say; nothing where they are the same.
@@ -271,24 +315,51 @@ fn text_of<S: Store, T: Store, L: Ledger>(
         (λ tree other. IsUnchanged result × WalksThrice tree other steps.old steps.new) }
 {
     match listing {
-        Listing::First => match compare(alloc, left, a, right, b, leaving, steps)? {
+        Listing::First(syntax) => match compare(alloc, left, a, right, b, leaving, steps)? {
             None => Ok(None),
-            Some(difference) => Ok(Some(first_text(alloc, difference)?)),
+            Some(difference) => Ok(Some(first_text(alloc, difference, syntax)?)),
         },
-        Listing::All { limit } => { all_text(alloc, left, a, right, b, leaving, limit, steps) }
+        Listing::All(lines) => all_text(alloc, left, a, right, b, leaving, lines, steps),
     }
 }
 
-// Puts what there is to say: that two files differ, or nothing where they are the same.
-fn put_found<K: Sink>(found: Option<Vec<u8>>, sink: &mut K) -> Result<bool, Refusal>
+// Puts what there is to say of two files that are the same without this.
+fn put_same<K: Sink>(
+    alloc: Global,
+    leaving: Leaving,
+    listing: Listing,
+    sink: &mut K,
+) -> Result<(), Refusal>
+    ensures puts { NoPutFails K.Sink sink.old sink.new result }
+    ensures put { OnOk result
+        (PutsSame (is_silent listing) (K.contents sink.old) (K.contents sink.new)) }
+    ensures refusal { IfErr result (RefusesAnswer (K.contents sink.old) (K.contents sink.new)
+        (K.put_failures sink.old) (K.put_failures sink.new)) }
+{
+    if let Some(said) = same_text(alloc, leaving, listing)? {
+        sink.put(said.as_slice())?;
+    }
+    Ok(())
+}
+
+// Puts what there is to say: where two files differ, or that they are the same.
+fn put_found<K: Sink>(
+    alloc: Global,
+    found: Option<Vec<u8>>,
+    leaving: Leaving,
+    listing: Listing,
+    sink: &mut K,
+) -> Result<bool, Refusal>
     requires { IfSome found (λ text. 0 < length text.items) }
     ensures puts { NoPutFails K.Sink sink.old sink.new result }
     ensures is { IfOk result (λ same. same ≡ says_nothing found) }
-    ensures put { IfOk result (PutsAnswer (K.contents sink.old) (K.contents sink.new)) }
+    ensures put { IfOk result
+        (PutsAnswer (is_silent listing) (K.contents sink.old) (K.contents sink.new)) }
     ensures refusal { IfErr result (RefusesAnswer (K.contents sink.old) (K.contents sink.new)
         (K.put_failures sink.old) (K.put_failures sink.new)) }
 {
     let Some(text) = found else {
+        put_same(alloc, leaving, listing, sink)?;
         return Ok(true);
     };
     sink.put(text.as_slice())?;
@@ -308,7 +379,7 @@ pub fn compare_files<S: Store, T: Store, K: Sink, L: Ledger, M: Ledger>(
     looks: &mut Steps<M>,
 ) -> Result<bool, Failure>
     ensures answer { ComparesBoth S.Store a.old a.new T.Store b.old b.new
-        K.Sink sink.old sink.new result }
+        K.Sink sink.old sink.new (is_silent listing) result }
     ensures verdict { IfOk result (λ same. WhereBothHonest S.Store a.old T.Store b.old
         (λ file other. IsVerdict leaving file other same)) }
     ensures work { WhereBothHonest S.Store a.old T.Store b.old
@@ -328,7 +399,7 @@ pub fn compare_files<S: Store, T: Store, K: Sink, L: Ledger, M: Ledger>(
         Ok(found) => found,
         Err(refusal) => return Err(failed_together(refusal)),
     };
-    match put_found(found, sink) {
+    match put_found(alloc, found, leaving, listing, sink) {
         Ok(same) => Ok(same),
         Err(refusal) => Err(failed_together(refusal)),
     }

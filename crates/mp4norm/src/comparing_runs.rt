@@ -1,12 +1,12 @@
 //! Comparing, from the names of two files to what is printed.
-use crate::comparing::{Failure, Listing, Side, compare_files};
+use crate::comparing::{Failure, Side, compare_files};
 use crate::fault_text::{fault_line, status};
 use crate::file_names::push_shown;
-use crate::reports::Report;
-use crate::sources::{is_of_file, open};
-use crate::wanted::{Input, Telling};
+use crate::reports::{Noted, Report};
+use crate::runs::explain_fault;
+use crate::sources::{Source, is_of_file, open};
+use crate::wanted::{Comparison, Input, Telling};
 use mp4_boxes::{Refusal, Steps};
-use mp4_present::Leaving;
 use mp4_store::IoSink;
 use std::alloc::{AllocError, Global};
 use std::io::Write;
@@ -32,25 +32,86 @@ fn is_settled(answer: &Result<bool, Failure>) -> bool {
     }
 }
 
-// Opens both, and compares them. Then it looks whether either has changed meanwhile.
-fn answer<L: Ledger, M: Ledger>(
+// Opens what is to be read, or says why it can't be.
+fn open_side(
     rt: &HostRuntime,
-    left: Input,
-    right: Input,
-    leaving: Leaving,
-    listing: Listing,
+    input: Input,
+    telling: Telling,
+    side: Side,
+) -> Result<Source, Failure> {
+    let mut report = Report::new(telling);
+    let opened = open(rt, input, &mut report);
+    if matches!(opened, Err(Refusal::StoreFailed)) {
+        report.tell_input(rt, input.name());
+    }
+    on_side(opened, side)
+}
+
+// Says why reading or writing failed, once both files are open.
+fn tell_cause(rt: &HostRuntime, asked: Comparison, failure: &Failure, report: &Report) {
+    let (left, right) = (asked.left.name(), asked.right.name());
+    match (&failure.refusal, failure.side) {
+        (Refusal::StoreFailed, Side::First) => report.tell_input(rt, left),
+        (Refusal::StoreFailed, Side::Second) => report.tell_input(rt, right),
+        (Refusal::StoreFailed, _) => report.tell_either(rt, left, right),
+        (Refusal::WriteFailed, _) => report.tell_output(rt, "-"),
+        _ => {}
+    }
+}
+
+// Compares two opened files. Then it looks whether either has changed meanwhile.
+fn answer_of<L: Ledger, M: Ledger>(
+    rt: &HostRuntime,
+    asked: Comparison,
+    first: &mut Source,
+    second: &mut Source,
+    report: &mut Report,
     steps: &mut Steps<L>,
     looks: &mut Steps<M>,
 ) -> Result<bool, Failure> {
-    let mut report = Report::new(Telling::NOTHING);
-    let mut first = on_side(open(rt, left, &mut report), Side::First)?;
-    let mut second = on_side(open(rt, right, &mut report), Side::Second)?;
-    let mut sink = IoSink::new(rt.stdout());
-    let (a, b) = (&mut first, &mut second);
-    let answer = compare_files(rt.alloc(), a, b, leaving, listing, &mut sink, steps, looks);
+    let (leaving, listing) = (asked.leaving, asked.listing);
+    let out = &mut rt.stdout();
+    let mut sink = IoSink::new(Noted { out, report });
+    let alloc = rt.alloc();
+    let answer = compare_files(
+        alloc, first, second, leaving, listing, &mut sink, steps, looks,
+    );
     if is_settled(&answer) {
         on_side(first.stays(), Side::First)?;
         on_side(second.stays(), Side::Second)?;
+    }
+    answer
+}
+
+// Opens both, and compares them. What is wrong is explained where that is asked for.
+fn answer<L: Ledger, M: Ledger>(
+    rt: &HostRuntime,
+    asked: Comparison,
+    steps: &mut Steps<L>,
+    looks: &mut Steps<M>,
+) -> Result<bool, Failure> {
+    let (left, right, telling) = (asked.left, asked.right, asked.telling);
+    let mut first = open_side(rt, left, telling, Side::First)?;
+    let mut second = open_side(rt, right, telling, Side::Second)?;
+    let mut report = Report::new(telling);
+    let answer = answer_of(
+        rt,
+        asked,
+        &mut first,
+        &mut second,
+        &mut report,
+        steps,
+        looks,
+    );
+    if let Err(failure) = &answer {
+        let refusal = &failure.refusal;
+        tell_cause(rt, asked, failure, &report);
+        let (input, source) = match failure.side {
+            Side::First => (left, &mut first),
+            _ => (right, &mut second),
+        };
+        let name = Some(input.name());
+        explain_fault(rt, name, refusal, telling, source, steps, looks);
     }
     answer
 }
@@ -85,18 +146,15 @@ fn tell(rt: &HostRuntime, left: Input, right: Input, failure: Failure) {
 /// Compares two files, prints where they differ, and gives the status.
 pub(crate) fn compare_named<L: Ledger, M: Ledger>(
     rt: &HostRuntime,
-    left: Input,
-    right: Input,
-    leaving: Leaving,
-    listing: Listing,
+    asked: Comparison,
     steps: &mut Steps<L>,
     looks: &mut Steps<M>,
 ) -> ExitCode {
-    match answer(rt, left, right, leaving, listing, steps, looks) {
+    match answer(rt, asked, steps, looks) {
         Ok(true) => ExitCode::SUCCESS,
         Ok(false) => ExitCode::from(DIFFER),
         Err(failure) => {
-            tell(rt, left, right, failure);
+            tell(rt, asked.left, asked.right, failure);
             ExitCode::from(status(&failure.refusal))
         }
     }

@@ -75,8 +75,8 @@ fn say_subject(text: &mut Vec<u8>, subject: Subject) -> Result<(), AllocError> {
     }
 }
 
-// What one entry of a list is called, what several are, and whether one has a number.
-fn names_of(entries: Entries) -> (&'static str, &'static str, bool) {
+/// What one entry of a list is called, what several are, and whether one has a number.
+pub(crate) fn names_of(entries: Entries) -> (&'static str, &'static str, bool) {
     match entries {
         Entries::Edits => ("edit", "edits", true),
         Entries::Kept => ("kept box", "kept boxes", true),
@@ -129,8 +129,8 @@ fn say_group(text: &mut Vec<u8>, key: GroupKey) -> Result<(), AllocError> {
     say(text, ":")
 }
 
-// What a value of one word is called.
-fn name_of(field: Field) -> &'static str {
+/// What a value of one word is called.
+pub(crate) fn name_of(field: Field) -> &'static str {
     match field {
         Field::Creation => "creation time",
         Field::Modification => "modification time",
@@ -167,8 +167,8 @@ fn say_field(text: &mut Vec<u8>, field: Field) -> Result<(), AllocError> {
     }
 }
 
-// How many hexadecimal digits a number of this field has; 0 for decimal digits.
-fn digits_of(subject: Subject, field: Field) -> u32
+/// How many hexadecimal digits a number of this field has; 0 for decimal digits.
+pub(crate) fn digits_of(subject: Subject, field: Field) -> u32
     ensures { result ≤ 16 }
 {
     match (subject, field) {
@@ -179,7 +179,8 @@ fn digits_of(subject: Subject, field: Field) -> u32
     }
 }
 
-fn say_value(text: &mut Vec<u8>, value: Value, digits: u32) -> Result<(), AllocError>
+/// Adds a value, a number in so many hexadecimal digits, or in decimal ones if these are 0.
+pub(crate) fn say_value(text: &mut Vec<u8>, value: Value, digits: u32) -> Result<(), AllocError>
     requires { digits ≤ 16 }
 {
     match value {
@@ -191,17 +192,22 @@ fn say_value(text: &mut Vec<u8>, value: Value, digits: u32) -> Result<(), AllocE
     }
 }
 
-/// Adds the line that tells of a difference: the way to the value, the value in the one file, and
-/// that in the other.
-pub fn say_difference(text: &mut Vec<u8>, difference: Difference) -> Result<(), AllocError>
-    ensures { OnOk result (0 < length text.new.items) }
-{
+/// Adds the line that tells of a difference, without its line feed: the way to the value, the value
+/// in the one file, and that in the other.
+pub(crate) fn say_line(text: &mut Vec<u8>, difference: Difference) -> Result<(), AllocError> {
     let digits = digits_of(difference.subject, difference.field);
     say_subject(text, difference.subject)?;
     say_field(text, difference.field)?;
     say(text, " ")?;
     say_value(text, difference.left, digits)?;
     say(text, " | ")?;
-    say_value(text, difference.right, digits)?;
+    say_value(text, difference.right, digits)
+}
+
+/// The same with its line feed.
+pub fn say_difference(text: &mut Vec<u8>, difference: Difference) -> Result<(), AllocError>
+    ensures { OnOk result (0 < length text.new.items) }
+{
+    say_line(text, difference)?;
     end_line(text)
 }

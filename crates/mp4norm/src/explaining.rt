@@ -4,6 +4,7 @@ ghost use Rattle.std.specs.Prelude.{◌≡◌, ◌++◌, OnOk};
 ghost use Rattle.mp4norm.specs.format.Texts.{line_feed};
 
 use crate::difference_lines::{say, say_numbers};
+use crate::file_names::shown;
 use crate::ways::{Way, number_at_top, step_line, way_to};
 use mp4_boxes::{Fault, FourCc, Kind, Refusal, Steps};
 use mp4_present::{FaultNumbers, fault_numbers};
@@ -188,14 +189,22 @@ fn say_told(text: &mut Vec<u8>, numbers: FaultNumbers) -> Result<(), AllocError>
     }
 }
 
-// The lines of an explanation.
+// The lines of an explanation, behind the file's name where that is given.
 fn explanation(
     alloc: Global,
+    name: Option<&str>,
     fault: &Fault,
     way: &[u8],
     numbers: Option<FaultNumbers>,
 ) -> Result<Vec<u8>, AllocError> {
     let mut text = Vec::new(alloc);
+    if let Some(name) = name {
+        push_line(
+            &mut text,
+            b"file: ",
+            shown(alloc, name.as_bytes())?.as_slice(),
+        )?;
+    }
     push_line(&mut text, b"way: ", way)?;
     push_line(
         &mut text,
@@ -210,9 +219,11 @@ fn explanation(
 }
 
 /// Puts three lines on a fault of a file: the way to the named box, the clause of the standard that
-/// tells of it, and what the kind means; and a fourth one where numbers go with the fault.
+/// tells of it, and what the kind means; and a fourth one where numbers go with the fault. Before
+/// them stands the name of the file, where it is given.
 pub(crate) fn explain<S: Store, K: Sink, L: Ledger, M: Ledger>(
     alloc: Global,
+    name: Option<&str>,
     fault: &Fault,
     store: &mut S,
     sink: &mut K,
@@ -224,7 +235,7 @@ pub(crate) fn explain<S: Store, K: Sink, L: Ledger, M: Ledger>(
 {
     let way = whole_way(alloc, store, fault)?;
     let numbers = numbers_of(alloc, store, fault, steps, looks)?;
-    let text = explanation(alloc, fault, way.as_slice(), numbers)?;
+    let text = explanation(alloc, name, fault, way.as_slice(), numbers)?;
     sink.put(text.as_slice())?;
     Ok(())
 }

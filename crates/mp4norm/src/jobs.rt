@@ -38,7 +38,7 @@ pub fn perform<S: Store, K: Sink, L: Ledger, M: Ledger>(
         (λ file. JobLooksWithin job.entry file looks.old looks.new) }
 {
     match job {
-        Job::Boxes => boxes(alloc, store, sink),
+        Job::Boxes { syntax } => boxes(alloc, store, syntax, sink),
         Job::Show => show_counted(alloc, store, sink, steps, looks),
         Job::Samples { track, form } => samples_counted(
             alloc, store, track, form, sink, steps, looks,

@@ -9,6 +9,7 @@
 
 ghost use Rattle.mp4norm.specs.words.OverDevices.{IsOf};
 
+mod box_json;
 mod boxes;
 mod checking;
 mod command_line;
@@ -16,6 +17,7 @@ mod commands;
 mod comparing;
 mod comparing_runs;
 mod descriptors;
+mod difference_json;
 mod difference_lines;
 mod digits;
 mod drop_lists;
@@ -27,6 +29,7 @@ mod forms;
 mod headers_under;
 mod input;
 mod jobs;
+mod json_text;
 mod judging;
 mod kept_line;
 mod kept_middle;
@@ -63,9 +66,9 @@ mod watching;
 mod ways;
 
 pub use boxes::boxes;
-use checking::check_all;
+use checking::{Manner, check_all};
 pub use command_line::action;
-pub use comparing::{Failure, Listing, Side, compare_files};
+pub use comparing::{Failure, Lines, Listing, Side, compare_files};
 use comparing_runs::compare_named;
 use descriptors::take_closed;
 pub use difference_lines::say_difference;
@@ -96,7 +99,10 @@ pub use stripping::{count_named, strip};
 pub use text_lengths::text_len;
 pub use uncounted::{extract, normalise, samples, show};
 pub use verdicts::{first_name, put_verdict, verdict_status};
-pub use wanted::{Action, CommandFault, Form, Input, Job, Order, Target, Telling};
+pub use wanted::{
+    Action, CommandFault, Comparison, Form, Input, Job, Order, Syntax, Target, Telling,
+    VerdictStyle,
+};
 pub use ways::{Way, way_to};
 
 /// The status for words that are not known.
@@ -159,10 +165,9 @@ fn end(rt: &HostRuntime, answer: Result<(), Refusal>) -> ExitCode {
     ExitCode::from(status(&refusal))
 }
 
-// Judges files, and gives the greatest status.
-fn judge(rt: &HostRuntime, files: &[Input], list: Option<Input>, zero: bool) -> ExitCode {
-    let end_byte = if zero { 0 } else { b'\n' };
-    match check_all(rt, files, list, end_byte) {
+// The status of verdicts, or what there is to say where these could not be given.
+fn end_verdicts(rt: &HostRuntime, worst: Result<u8, Refusal>) -> ExitCode {
+    match worst {
         Ok(status) => ExitCode::from(status),
         Err(refusal) => end(rt, Err(refusal)),
     }
@@ -187,13 +192,20 @@ fn act<L: Ledger, M: Ledger>(
             let job = Job::Strip { names };
             end(rt, run(rt, job, order, &mut steps, &mut looks))
         }
-        Action::Compare {
-            left,
-            right,
-            leaving,
-            listing,
-        } => compare_named(rt, left, right, leaving, listing, &mut steps, &mut looks),
-        Action::Check { files, list, zero } => judge(rt, files.as_slice(), list, zero),
+        Action::Compare(comparison) => compare_named(rt, comparison, &mut steps, &mut looks),
+        Action::Check {
+            files,
+            list,
+            style,
+            telling,
+        } => {
+            let files = files.as_slice();
+            let manner = Manner::of(files, list, style, telling);
+            end_verdicts(
+                rt,
+                check_all(rt, files, list, manner, &mut steps, &mut looks),
+            )
+        }
     }
 }
 

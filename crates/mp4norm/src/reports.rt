@@ -5,7 +5,12 @@ use crate::progress::Progress;
 use crate::wanted::Telling;
 use mp4_boxes::Refusal;
 use std::io;
-use std::io::{ErrorKind, Read, Write};
+use std::io::{ErrorKind, IsTerminal, Read, Write};
+
+/// The causes where no file can be opened by a word, since it isn't text.
+const NO_FILE: &str = "its name is not UTF-8; give the file as standard input (-)";
+
+const NO_NEW: &str = "its name is not UTF-8; write to standard output (-)";
 
 // What the system means by a kind of error.
 fn text_of(kind: ErrorKind) -> &'static str {
@@ -112,10 +117,35 @@ impl<'a> Report<'a> {
         self.telling.explain
     }
 
-    /// Says which file there is trouble with, and why; `not_text` where it can't be opened by its
-    /// name, `else_cause` where the system gave no cause.
-    pub(crate) fn tell(&self, rt: &HostRuntime, name: &str, not_text: &str, else_cause: &str) {
-        if !self.telling.explain {
+    // Whether the cause of a failure is said: where more words are asked for, and on a terminal,
+    // unless few are.
+    fn tells_causes(&self, rt: &HostRuntime) -> bool {
+        self.telling.explain || (!self.telling.brief && rt.stderr().is_terminal())
+    }
+
+    /// Says which file can't be read, and why.
+    pub(crate) fn tell_input(&self, rt: &HostRuntime, name: &str) {
+        self.tell(rt, name, NO_FILE, "it can't be read");
+    }
+
+    /// Says which file can't be made or written, and why.
+    pub(crate) fn tell_output(&self, rt: &HostRuntime, name: &str) {
+        self.tell(rt, name, NO_NEW, "it can't be written");
+    }
+
+    /// Says that one of two files can't be read.
+    pub(crate) fn tell_either(&self, rt: &HostRuntime, left: &str, right: &str) {
+        if self.tells_causes(rt) {
+            tell_name(rt, b"file: ", left);
+            tell_name(rt, b"file: ", right);
+            tell_name(rt, b"cause: ", "one of them can't be read");
+        }
+    }
+
+    // Says which file there is trouble with, and why; `not_text` where it can't be opened by its
+    // name, `else_cause` where the system gave no cause.
+    fn tell(&self, rt: &HostRuntime, name: &str, not_text: &str, else_cause: &str) {
+        if !self.tells_causes(rt) {
             return;
         }
         tell_name(rt, b"file: ", name);

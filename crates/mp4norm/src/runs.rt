@@ -7,16 +7,11 @@ use crate::strip_lines::{WARNING, count_line, names_encryption};
 use crate::stripping::count_named;
 use crate::targets::{Out, make, write};
 use crate::text_lengths::text_len;
-use crate::wanted::{Job, Order, Target};
+use crate::wanted::{Job, Order, Target, Telling};
 use mp4_boxes::{Refusal, Steps};
 use mp4_store::IoSink;
 use std::io::Write;
 use std::sync::ledger::Ledger;
-
-/// The causes where no file can be opened by a word, since it isn't text.
-const NO_FILE: &str = "its name is not UTF-8; give the file as standard input (-)";
-
-const NO_NEW: &str = "its name is not UTF-8; write to standard output (-)";
 
 // Finds how long the answer gets, where that is asked for, and refuses one that is too long.
 fn measure<'a, L: Ledger, M: Ledger>(
@@ -100,13 +95,30 @@ fn open_and_answer<'a, L: Ledger, M: Ledger>(
     let mut source = open(rt, order.input, report)?;
     let answer = answer(rt, job, &mut source, order, steps, looks, report);
     report.end();
-    if let Err(Refusal::Fault(fault)) = &answer {
-        if order.telling.explain {
-            let mut errors = IoSink::new(rt.stderr());
-            let _ = explain(rt.alloc(), fault, &mut source, &mut errors, steps, looks);
-        }
+    if let Err(refusal) = &answer {
+        explain_fault(rt, None, refusal, order.telling, &mut source, steps, looks);
     }
     answer
+}
+
+/// Explains a fault on standard error, where that is asked for, behind the file's name if it is
+/// given.
+pub(crate) fn explain_fault<L: Ledger, M: Ledger>(
+    rt: &HostRuntime,
+    name: Option<&str>,
+    refusal: &Refusal,
+    telling: Telling,
+    source: &mut Source,
+    steps: &mut Steps<L>,
+    looks: &mut Steps<M>,
+) {
+    let Refusal::Fault(fault) = refusal else {
+        return;
+    };
+    if telling.explain {
+        let mut errors = IoSink::new(rt.stderr());
+        let _ = explain(rt.alloc(), name, fault, source, &mut errors, steps, looks);
+    }
 }
 
 /// Does a job from what is read to where its answer goes. What is wrong is explained where that is
@@ -122,12 +134,8 @@ pub(crate) fn run<L: Ledger, M: Ledger>(
     let mut report = Report::new(order.telling);
     let answer = open_and_answer(rt, job, order, steps, looks, &mut report);
     match answer {
-        Err(Refusal::StoreFailed) => {
-            report.tell(rt, order.input.name(), NO_FILE, "it can't be read");
-        }
-        Err(Refusal::WriteFailed) => {
-            report.tell(rt, order.target.name(), NO_NEW, "it can't be written");
-        }
+        Err(Refusal::StoreFailed) => report.tell_input(rt, order.input.name()),
+        Err(Refusal::WriteFailed) => report.tell_output(rt, order.target.name()),
         _ => {}
     }
     answer

@@ -47,6 +47,11 @@ fn kind_of(difference: &Difference) -> Kind {
     }
 }
 
+/// What the kind of a difference is called.
+pub(crate) fn kind_name(difference: &Difference) -> &'static str {
+    NAMES[kind_of(difference) as usize]
+}
+
 // Whether two values of flags differ in what stays where flags are left out.
 fn differs_in_sync(difference: &Difference) -> bool {
     match (difference.left, difference.right) {
@@ -95,8 +100,23 @@ impl Tally {
         self.counts[kind as usize] > 0
     }
 
-    // How many differences there are.
-    fn total(&self) -> u64 {
+    /// The kinds by their names, in the order of these, and how many differences are of each.
+    pub(crate) fn sorted(&self) -> [(&'static str, u64); 8] {
+        let [times, edits, flags, groups, kept, heads, samples, bytes] = self.counts;
+        [
+            ("bytes", bytes),
+            ("edits", edits),
+            ("flags", flags),
+            ("groups", groups),
+            ("heads", heads),
+            ("kept", kept),
+            ("samples", samples),
+            ("times", times),
+        ]
+    }
+
+    /// How many differences there are.
+    pub(crate) fn total(&self) -> u64 {
         let mut total: u64 = 0;
         for count in self.counts {
             total = total.saturating_add(count);
@@ -149,16 +169,20 @@ fn say_words(text: &mut Vec<u8>, leaving: Leaving) -> Result<(), AllocError> {
     Ok(())
 }
 
-/// Adds the line that ends a list of all differences: how many there are, of which kinds, and what
-/// has to be left out for the files to be the same.
+/// Adds the line that ends a list of all differences: how many there are, or whether there are
+/// more, of which kinds, and what has to be left out for the files to be the same.
 pub(crate) fn say_tally(
     text: &mut Vec<u8>,
     tally: &Tally,
+    is_whole: bool,
     enough: Option<Leaving>,
 ) -> Result<(), AllocError>
     ensures { OnOk result (0 < length text.new.items) }
 {
     let total = tally.total();
+    if !is_whole {
+        say(text, "at least ")?;
+    }
     say_number(text, total)?;
     say(text, " difference")?;
     if total != 1 {

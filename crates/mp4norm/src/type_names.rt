@@ -14,14 +14,16 @@ pub(crate) fn is_text(kind: &[u8]) -> bool
     kind.iter().all(|byte| 32 <= *byte && *byte <= 126)
 }
 
-fn push_character(text: &mut String, byte: u8) -> Result<(), AllocError>
+/// Adds a character of ASCII.
+pub(crate) fn push_character(text: &mut String, byte: u8) -> Result<(), AllocError>
     requires { byte < 128 }
     ensures { OnOk result (string_bytes text.new ≡ string_bytes text.old ++ byte ∷ []) }
 {
     text.push(char::from(byte))
 }
 
-fn push_hex(text: &mut String, byte: u8) -> Result<(), AllocError>
+/// Adds a byte in two hexadecimal digits.
+pub(crate) fn push_hex(text: &mut String, byte: u8) -> Result<(), AllocError>
     ensures { OnOk result (string_bytes text.new ≡ string_bytes text.old ++ hex_digits 2 byte) }
 {
     push_character(text, hex_digit(byte / 16))?;

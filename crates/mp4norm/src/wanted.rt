@@ -13,10 +13,17 @@ pub enum Form {
     Json,
 }
 
+/// How an answer is written: as lines for people, or as an object of JSON a line.
+#[derive(Clone, Copy)]
+pub enum Syntax {
+    Text,
+    Json,
+}
+
 /// What is done over a file.
 #[derive(Clone, Copy)]
 pub enum Job<'a> {
-    Boxes,
+    Boxes { syntax: Syntax },
     Show,
     Samples { track: u32, form: Form },
     Extract { track: u32 },
@@ -62,18 +69,20 @@ impl<'a> Target<'a> {
     }
 }
 
-/// What is said on standard error beside the answer: what is wrong, in more words, and how far the
-/// job has come.
+/// What is said on standard error beside the answer: what is wrong, in more words; no more than a
+/// line of it, also on a terminal; and how far the job has come.
 #[derive(Clone, Copy)]
 pub struct Telling {
     pub explain: bool,
+    pub brief: bool,
     pub progress: bool,
 }
 
 impl Telling {
-    /// Nothing but the line of a refusal or failure.
+    /// Nothing but the line of a refusal or failure, and on a terminal the cause of a failure.
     pub const NOTHING: Telling = Telling {
         explain: false,
+        brief: false,
         progress: false,
     };
 }
@@ -88,22 +97,35 @@ pub struct Order<'a> {
     pub telling: Telling,
 }
 
+/// How verdicts are written: in which syntax, and with which byte at the end of each.
+#[derive(Clone, Copy)]
+pub struct VerdictStyle {
+    pub syntax: Syntax,
+    pub end: u8,
+}
+
+/// Which files are compared, without what, and what is told of it.
+#[derive(Clone, Copy)]
+pub struct Comparison<'a> {
+    pub left: Input<'a>,
+    pub right: Input<'a>,
+    pub leaving: Leaving,
+    pub listing: Listing,
+    pub telling: Telling,
+}
+
 /// What the words ask for: a job, a copy without the boxes of some names, a comparison of two
-/// files, or a verdict on each of some files and of those that a list names, ended by a line feed
-/// or a zero byte.
+/// files, or a verdict on each of some files and of those that a list names, in a line that is
+/// ended by a line feed or a zero byte.
 #[derive(Drop)]
 pub enum Action<'a> {
     Check {
         files: Vec<Input<'a>>,
         list: Option<Input<'a>>,
-        zero: bool,
+        style: VerdictStyle,
+        telling: Telling,
     },
-    Compare {
-        left: Input<'a>,
-        right: Input<'a>,
-        leaving: Leaving,
-        listing: Listing,
-    },
+    Compare(Comparison<'a>),
     Strip {
         names: Vec<Name>,
         order: Order<'a>,

@@ -12,7 +12,8 @@ use Rattle.mp4_boxes.specs.declared.refusal.Refusal.{Refusal}
 use Rattle.mp4_boxes.specs.declared.refusal.Refusal.TheVariants as refusals
 use Rattle.mp4_present.specs.words.Reading.{top_box}
 use Rattle.mp4_present.specs.declared.reading.TopBox.{TopBox}
-use Rattle.mp4norm.specs.format.Texts.{descends, IsPart, AreBoxLines, BoxLines}
+use Rattle.mp4norm.specs.declared.wanted.Syntax.{Syntax}
+use Rattle.mp4norm.specs.format.Texts.{descends, IsPart, AreBoxLines, BoxLines, box_line}
 
 -- how many levels of boxes lie under a rule at most, its own included
 abbrev pub height : Rule → ℕ
@@ -40,25 +41,28 @@ pub record FaultSeen (from : Place) (f : Fault) : Type 0 where
   pub fault : IsHeaderFault place.container f
 
 -- the boxes in a box have these lines, if the walk descends into it; else there are none
-abbrev pub IsListed : Rule → ℕ → Box → List ℕ → Type 0
-IsListed rule depth b part = IsPart (AreBoxLines (height rule - 1) (depth + 1)) depth
-    (rule_inside rule b.kind) b part
+abbrev pub IsListed : Syntax → Rule → ℕ → Box → List ℕ → Type 0
+IsListed syntax rule depth b part = IsPart (AreBoxLines syntax (height rule - 1) (depth + 1))
+    (box_line syntax rule depth b) (rule_inside rule b.kind) b part
 
 -- What the list of boxes answers of an honest store's file: the lines, or a fault that stands at a
 -- header that is looked at. `before` and `after` are what the sink holds, the numbers are counts of
 -- failures.
-abbrev pub RefusesBoxes : Bool → List ℕ → Option (List ℕ) → Option (List ℕ) → ℕ → ℕ → ℕ → ℕ
-    → Refusal → Type 0
-RefusesBoxes honest file before after reads reads_after puts puts_after (refusals.Fault f) =
+abbrev pub RefusesBoxes : Syntax → Bool → List ℕ → Option (List ℕ) → Option (List ℕ)
+    → ℕ → ℕ → ℕ → ℕ → Refusal → Type 0
+RefusesBoxes syntax honest file before after reads reads_after puts puts_after (refusals.Fault f) =
     (IsTrue honest → FaultSeen (under File (file_container file)) f) × (after ≡ before)
-RefusesBoxes honest file before after reads reads_after puts puts_after refusals.Memory = after
-    ≡ before
-RefusesBoxes honest file before after reads reads_after puts puts_after refusals.StoreFailed =
+RefusesBoxes syntax honest file before after reads reads_after puts puts_after refusals.Memory =
+    after ≡ before
+RefusesBoxes syntax honest file before after reads reads_after puts puts_after
+    refusals.StoreFailed =
     HasRisen reads reads_after × (after ≡ before)
-RefusesBoxes honest file before after reads reads_after puts puts_after refusals.WriteFailed =
+RefusesBoxes syntax honest file before after reads reads_after puts puts_after
+    refusals.WriteFailed =
     HasRisen puts puts_after
-    × (IsTrue honest → (text : List ℕ) × BoxLines file text × AppendsPrefix before after text)
-RefusesBoxes honest file before after reads reads_after puts puts_after _ = ⊥
+    × (IsTrue honest → (text : List ℕ) × BoxLines syntax file text
+    × AppendsPrefix before after text)
+RefusesBoxes syntax honest file before after reads reads_after puts puts_after _ = ⊥
 
 -- ---- the boxes of the file itself, by their headers
 

@@ -1,8 +1,8 @@
 -- The texts that the commands write.
-use Rattle.std.specs.Prelude.{◌≡◌, ℕ, zero, suc, ◌+◌, ◌*◌, List, [], ◌∷◌, ◌++◌, length, map, flat_map, replicate, Option, Some, None, ℤ, pos, ◌+ℤ◌, codes, decimal}
+use Rattle.std.specs.Prelude.{◌≡◌, ℕ, zero, suc, ◌+◌, ◌*◌, nat_le, Bool, true, false, ◌&&◌, if◌then◌else◌, bytes_eq, List, [], ◌∷◌, ◌++◌, length, take, drop, map, flat_map, replicate, Option, Some, None, option_map, ℤ, pos, ◌+ℤ◌, codes, decimal}
 use Rattle.std.specs.Fmt.{signed_decimal}
 use Rattle.std.specs.List.{AllZip, concat}
-use Rattle.serde_json.specs.Data.{unsigned, Data, number, string, array, object, Members, no_members, member}
+use Rattle.serde_json.specs.Data.{unsigned, Data, boolean, number, string, array, object, Members, no_members, member}
 use Rattle.serde_json.specs.Find.{of_integer}
 use Rattle.serde_json.specs.View.{items_of}
 use Rattle.serde_json.specs.Written.{compact_text}
@@ -18,6 +18,9 @@ use Rattle.mp4_head.specs.format.Head.{Edit, Kept, TrackHead, handler_type}
 use Rattle.mp4_present.specs.format.Presentation.{Sample, Track, Presentation, total_duration, movie_length}
 use Rattle.mp4norm.specs.declared.wanted.Form.{Form}
 use Rattle.mp4norm.specs.declared.wanted.Form.TheVariants as forms
+use Rattle.mp4norm.specs.declared.wanted.Syntax.{Syntax}
+use Rattle.mp4norm.specs.declared.wanted.Syntax.TheVariants as syntaxes
+use Rattle.mp4_boxes.specs.format.Children.{allows}
 
 abbrev pub line_feed : List ℕ
 line_feed = 10 ∷ []
@@ -118,13 +121,49 @@ sample_data t = flat_map (λ (s : Sample). s.bytes) t.samples
 
 -- ---- boxes
 
--- a box's line: two spaces for each container that it stands in, its type, its place, its size
+-- a box's text: two spaces for each container that it stands in, its type, its place, its size
 abbrev pub line_text : ℕ → List ℕ → ℕ → ℕ → List ℕ
 line_text depth kind offset length = replicate (2 * depth) 32 ++ type_text kind ++ space
     ++ decimal offset ++ space ++ decimal length ++ line_feed
 
-abbrev pub box_line : ℕ → Box → List ℕ
-box_line depth b = line_text depth b.kind b.offset (size b)
+-- two digits for each byte
+abbrev pub hex_text : List ℕ → List ℕ
+hex_text bytes = flat_map (hex_digits 2) bytes
+
+-- sixteen bytes as a UUID (RFC 9562, 4)
+abbrev pub uuid_text : List ℕ → List ℕ
+uuid_text bytes = hex_text (take 4 bytes) ++ codes "-" ++ hex_text (take 2 (drop 4 bytes))
+    ++ codes "-" ++ hex_text (take 2 (drop 6 bytes)) ++ codes "-"
+    ++ hex_text (take 2 (drop 8 bytes)) ++ codes "-" ++ hex_text (take 6 (drop 10 bytes))
+
+-- the UUID of a `uuid` whose payload has room for it (ISO/IEC 14496-12, 4.2)
+abbrev pub uuid_of : Box → Option (List ℕ)
+uuid_of b = if bytes_eq b.kind (codes "uuid") && nat_le 16 (length b.payload)
+    then Some (take 16 b.payload) else None
+
+abbrev pub foreign_member : Bool → List (List ℕ × Data)
+foreign_member true = []
+foreign_member false = (codes "foreign", boolean true) ∷ []
+
+abbrev pub uuid_member : Option (List ℕ) → List (List ℕ × Data)
+uuid_member None = []
+uuid_member (Some text) = (codes "uuid", string text) ∷ []
+
+-- a box as JSON: in how many containers it stands, that the profile refuses it there, its place,
+-- its size, its type, its UUID, the last two as texts; keys in order of their bytes
+abbrev pub box_value : ℕ → Bool → ℕ → ℕ → List ℕ → Option (List ℕ) → Data
+box_value depth allowed offset length kind uuid = object (members (
+    (codes "depth", nat_value depth) ∷ foreign_member allowed
+    ++ (codes "offset", nat_value offset)
+    ∷ (codes "size", nat_value length)
+    ∷ (codes "type", string kind)
+    ∷ uuid_member uuid))
+
+-- the line of a box that stands in so many containers, under this rule
+abbrev pub box_line : Syntax → Rule → ℕ → Box → List ℕ
+box_line syntaxes.Text rule depth b = line_text depth b.kind b.offset (size b)
+box_line syntaxes.Json rule depth b = compact_text (box_value depth (allows rule b.kind) b.offset
+    (size b) (type_text b.kind) (option_map uuid_text (uuid_of b))) ++ line_feed
 
 -- containers of boxes are descended into, and no others
 abbrev pub descends : Option Scope → Option Rule
@@ -132,23 +171,24 @@ descends (Some (ruled rule)) = Some rule
 descends _ = None
 
 -- the lines of a box: its own, then those of the boxes in it, if it is a container of boxes
-abbrev pub IsPart : (Rule → Container → List ℕ → Type 0) → ℕ → Option Rule → Box → List ℕ → Type 0
-IsPart inside depth None b part = part ≡ box_line depth b
-IsPart inside depth (Some rule) b part = (more : List ℕ) × inside rule (box_container b) more
-    × (part ≡ box_line depth b ++ more)
+abbrev pub IsPart : (Rule → Container → List ℕ → Type 0) → List ℕ → Option Rule → Box → List ℕ
+    → Type 0
+IsPart inside line None b part = part ≡ line
+IsPart inside line (Some rule) b part = (more : List ℕ) × inside rule (box_container b) more
+    × (part ≡ line ++ more)
 
 -- The lines of a container's boxes. Containers nest no deeper than `levels`.
-abbrev pub AreBoxLines : ℕ → ℕ → Rule → Container → List ℕ → Type 0
-AreBoxLines zero depth rule c text = ⊥
-AreBoxLines (suc levels) depth rule c text =
+abbrev pub AreBoxLines : Syntax → ℕ → ℕ → Rule → Container → List ℕ → Type 0
+AreBoxLines syntax zero depth rule c text = ⊥
+AreBoxLines syntax (suc levels) depth rule c text =
     (boxes : List Box) × Tiles c boxes × (parts : List (List ℕ))
     × AllZip (λ (b : Box) part.
-    IsPart (AreBoxLines levels (depth + 1)) depth
+    IsPart (AreBoxLines syntax levels (depth + 1)) (box_line syntax rule depth b)
     (descends (at_kind (containers (ruled rule)) b.kind)) b part) boxes parts
     × (text ≡ concat parts)
 
-abbrev pub BoxLines : List ℕ → List ℕ → Type 0
-BoxLines file text = AreBoxLines 6 0 rules.File (file_container file) text
+abbrev pub BoxLines : Syntax → List ℕ → List ℕ → Type 0
+BoxLines syntax file text = AreBoxLines syntax 6 0 rules.File (file_container file) text
 
 -- ---- a movie as JSON
 

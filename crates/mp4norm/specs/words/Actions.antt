@@ -5,6 +5,7 @@ use Rattle.mp4norm.specs.declared.wanted.Action.TheVariants as actions
 use Rattle.mp4norm.specs.declared.wanted.Input.TheVariants as inputs
 use Rattle.mp4norm.specs.declared.wanted.Job.{Job}
 use Rattle.mp4norm.specs.declared.wanted.Job.TheVariants as jobs
+use Rattle.mp4norm.specs.declared.wanted.Syntax.TheVariants as syntaxes
 use Rattle.mp4norm.specs.declared.wanted.Target.TheVariants as targets
 
 -- a track's ID is at least 1
@@ -21,9 +22,9 @@ IsAction _ = Unit {0}
 
 -- the boxes of standard input
 abbrev pub boxes_of_input : Action
-boxes_of_input = actions.Run jobs.Boxes (record {
+boxes_of_input = actions.Run (jobs.Boxes syntaxes.Text) (record {
   input = inputs.Standard;
   target = targets.Standard;
   most = None;
-  telling = record { explain = false; progress = false };
+  telling = record { explain = false; brief = false; progress = false };
 })

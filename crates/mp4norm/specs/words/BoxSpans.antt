@@ -1,14 +1,17 @@
 -- The boxes between two places of a file, as boxes of a container.
-use Rattle.std.specs.Prelude.{◌≡◌, ℕ, ◌-◌, List, ◌++◌, Bool, true, false, IsTrue}
+use Rattle.std.specs.Prelude.{◌≡◌, ℕ, ◌-◌, List, ◌++◌, Bool, true, false, IsTrue, Option, option_map}
+use Rattle.serde_json.specs.Data.{Data}
 use Rattle.mp4_store.specs.words.Device.{HasRisen, range}
 use Rattle.mp4_boxes.specs.format.Box.{Container, Extent, Tiles, to_end_of_file, to_end_of_box}
+use Rattle.mp4_boxes.specs.format.Children.{allows}
 use Rattle.mp4_boxes.specs.declared.rule.Rule.{Rule}
 use Rattle.mp4_boxes.specs.declared.refusal.Refusal.{Refusal}
 use Rattle.mp4_boxes.specs.declared.refusal.Refusal.TheVariants as refusals
 use Rattle.mp4_present.specs.declared.reading.TopBox.{TopBox}
 use Rattle.mp4norm.specs.format.BoxWalk.{height, under, tops_seen, FaultSeen}
 use Rattle.mp4norm.specs.format.Strips.{holder, is_top}
-use Rattle.mp4norm.specs.format.Texts.{AreBoxLines}
+use Rattle.mp4norm.specs.declared.wanted.Syntax.{Syntax}
+use Rattle.mp4norm.specs.format.Texts.{AreBoxLines, box_value, type_text, uuid_text}
 
 -- how far boxes go: those of the file itself to its end, others to the end of their box
 abbrev pub extent_of : Bool → Extent
@@ -32,10 +35,15 @@ TilesSpan file rule from end boxes =
     (start : ℕ) → Tiles (span_of file rule start from end) (tops_seen file boxes)
 
 -- the lines of its boxes, and of those in them, are added to a text, in so many containers
-abbrev pub AddsLines : List ℕ → Rule → ℕ → ℕ → ℕ → List ℕ → List ℕ → Type 0
-AddsLines file rule depth from end old new = (start : ℕ) → (part : List ℕ)
-    × AreBoxLines (height rule) depth rule (span_of file rule start from end) part
+abbrev pub AddsLines : List ℕ → Syntax → Rule → ℕ → ℕ → ℕ → List ℕ → List ℕ → Type 0
+AddsLines file syntax rule depth from end old new = (start : ℕ) → (part : List ℕ)
+    × AreBoxLines syntax (height rule) depth rule (span_of file rule start from end) part
     × (new ≡ old ++ part)
+
+-- what is told of a box that was found under a rule, in so many containers
+abbrev pub found_value : ℕ → Rule → TopBox → Option (List ℕ) → Data
+found_value depth rule top uuid = box_value depth (allows rule top.header.kind.0) top.offset
+    (top.header.end - top.offset) (type_text top.header.kind.0) (option_map uuid_text uuid)
 
 -- why they are not listed
 abbrev pub RefusesSpan : Bool → List ℕ → Rule → ℕ → ℕ → ℕ → ℕ → Refusal → Type 0
@@ -45,3 +53,9 @@ RefusesSpan honest file rule from end reads reads_after refusals.Memory = Unit {
 RefusesSpan honest file rule from end reads reads_after refusals.StoreFailed =
     HasRisen reads reads_after
 RefusesSpan honest file rule from end reads reads_after _ = ⊥
+
+-- why the line of one box is not added
+abbrev pub RefusesLine : ℕ → ℕ → Refusal → Type 0
+RefusesLine reads reads_after refusals.Memory = Unit {0}
+RefusesLine reads reads_after refusals.StoreFailed = HasRisen reads reads_after
+RefusesLine reads reads_after _ = ⊥

@@ -9,9 +9,13 @@ use Rattle.mp4_present.specs.format.Comparison.{differences}
 use Rattle.mp4_present.specs.format.Denotes.{FileTree}
 use Rattle.mp4_present.specs.words.WalkSteps.{walks_steps}
 use Rattle.mp4_present.specs.declared.differences.Difference.{Difference}
+use Rattle.mp4norm.specs.declared.comparing.Listing.{Listing}
+use Rattle.mp4norm.specs.declared.comparing.Listing.TheVariants as listings
 use Rattle.mp4norm.specs.declared.comparing.Side.{Side}
 use Rattle.mp4norm.specs.declared.comparing.Side.TheVariants as sides
 use Rattle.mp4norm.specs.declared.comparing.Failure.{Failure}
+use Rattle.mp4norm.specs.declared.wanted.Syntax.{Syntax}
+use Rattle.mp4norm.specs.declared.wanted.Syntax.TheVariants as syntaxes
 
 -- ---- what there is to say
 
@@ -37,10 +41,28 @@ WalksTwice tree other old new = new ≤ old + 2 * (walks_steps tree + walks_step
 abbrev pub WalksThrice : FileTree → FileTree → ℕ → ℕ → Type 0
 WalksThrice tree other old new = new ≤ old + 3 * (walks_steps tree + walks_steps other)
 
--- nothing was put where two files are the same, else some text
-abbrev pub PutsAnswer : Option (List ℕ) → Option (List ℕ) → Bool → Type 0
-PutsAnswer before after true = after ≡ before
-PutsAnswer before after false = (text : List ℕ) × (0 < length text) × Appends before after text
+-- Nothing is said of files that are the same, but where all differences are listed as JSON.
+abbrev pub is_text : Syntax → Bool
+is_text syntaxes.Text = true
+is_text syntaxes.Json = false
+
+abbrev pub is_silent : Listing → Bool
+is_silent (listings.First syntax) = true
+is_silent (listings.All lines) = is_text lines.syntax
+
+-- some text was put
+abbrev pub PutsSome : Option (List ℕ) → Option (List ℕ) → Type 0
+PutsSome before after = (text : List ℕ) × (0 < length text) × Appends before after text
+
+-- what was put of files that are the same
+abbrev pub PutsSame : Bool → Option (List ℕ) → Option (List ℕ) → Type 0
+PutsSame true before after = after ≡ before
+PutsSame false before after = PutsSome before after
+
+-- nothing was put where two files are the same and nothing is said of that, else some text
+abbrev pub PutsAnswer : Bool → Option (List ℕ) → Option (List ℕ) → Bool → Type 0
+PutsAnswer silent before after true = PutsSame silent before after
+PutsAnswer silent before after false = PutsSome before after
 
 -- ---- refusals
 

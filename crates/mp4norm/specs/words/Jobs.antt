@@ -16,7 +16,7 @@ use Rattle.mp4norm.specs.declared.wanted.Job.TheVariants as jobs
 
 -- what is put of a file
 abbrev pub IsTextOf : Job → List ℕ → List ℕ → Type 0
-IsTextOf jobs.Boxes file text = BoxLines file text
+IsTextOf (jobs.Boxes syntax) file text = BoxLines syntax file text
 IsTextOf jobs.Show file text = ShowsLine file text
 IsTextOf (jobs.Samples track form) file text = ListsSamples file track form text
 IsTextOf (jobs.Extract track) file text = HasData file track text
@@ -27,8 +27,8 @@ IsTextOf (jobs.Strip names) file text = IsStripped names.now file text
 -- why it is not put, or not all of it
 abbrev pub RefusesJob : Job → Bool → List ℕ → Option (List ℕ) → Option (List ℕ) → ℕ → ℕ → ℕ → ℕ
     → Refusal → Type 0
-RefusesJob jobs.Boxes honest file before after reads reads_after puts puts_after r =
-    RefusesBoxes honest file before after reads reads_after puts puts_after r
+RefusesJob (jobs.Boxes syntax) honest file before after reads reads_after puts puts_after r =
+    RefusesBoxes syntax honest file before after reads reads_after puts puts_after r
 RefusesJob jobs.Show honest file before after reads reads_after puts puts_after r =
     RefusesShow honest file before after reads reads_after puts puts_after r
 RefusesJob (jobs.Samples track form) honest file before after reads reads_after puts puts_after r =
@@ -46,7 +46,7 @@ RefusesJob (jobs.Strip names) honest file before after reads reads_after puts pu
 
 -- how many steps it may take, where that is counted
 abbrev pub JobWorksWithin : Job → List ℕ → ℕ → ℕ → Type 0
-JobWorksWithin jobs.Boxes file old new = Unit {0}
+JobWorksWithin (jobs.Boxes syntax) file old new = Unit {0}
 JobWorksWithin jobs.Show file old new = WalksWithin file old new
 JobWorksWithin (jobs.Samples track form) file old new = WalksWithin file old new
 JobWorksWithin (jobs.Extract track) file old new = WalksWithin file old new
@@ -56,7 +56,7 @@ JobWorksWithin (jobs.Strip names) file old new = Unit {0}
 
 -- how many looks it may take, where these are counted
 abbrev pub JobLooksWithin : Job → List ℕ → ℕ → ℕ → Type 0
-JobLooksWithin jobs.Boxes file old new = Unit {0}
+JobLooksWithin (jobs.Boxes syntax) file old new = Unit {0}
 JobLooksWithin jobs.Show file old new = FindsWithin file old new
 JobLooksWithin (jobs.Samples track form) file old new = FindsWithin file old new
 JobLooksWithin (jobs.Extract track) file old new = FindsWithin file old new

@@ -34,12 +34,14 @@ pub record ReadsBoth {X Y R : Type 0} (S : Store X) (a a_after : X) (T : Store Y
   pub right : OnlyReads T b b_after result
   pub refusal : RefusedBoth S a a_after T b b_after result RefusesSample
 
--- It only reads both stores, and answers whether their files are the same: where they are, nothing
--- is put, else some text. Or they are not compared, for a reason of the file that is named.
+-- It only reads both stores, and answers whether their files are the same: where they are, and
+-- nothing is said of that, nothing is put, else some text. Or they are not compared, for a reason
+-- of the file that is named.
 pub record ComparesBoth {X Y Z : Type 0} (S : Store X) (a a_after : X) (T : Store Y)
-    (b b_after : Y) (K : Sink Z) (to to_after : Z) (result : Result Bool Failure) : Type 0 where
+    (b b_after : Y) (K : Sink Z) (to to_after : Z) (silent : Bool) (result : Result Bool Failure)
+    : Type 0 where
   pub left : OnlyReads S a a_after result
   pub right : OnlyReads T b b_after result
   pub puts : NoPutFails K to to_after result
-  pub put : IfOk result (PutsAnswer (K.contents to) (K.contents to_after))
+  pub put : IfOk result (PutsAnswer silent (K.contents to) (K.contents to_after))
   pub refusal : FailsCompare S a a_after T b b_after K to to_after result

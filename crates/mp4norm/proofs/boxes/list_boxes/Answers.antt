@@ -27,7 +27,7 @@ returns g c = record {
         let lines = rw c.len-end.ensures at c.in_ok-push_boxes.ensures.lines in
         let part = lines told 0 in
         let text : c.push_boxes.new.text.items ≡ part.0 = part.2 ∙ ap (λ (xs : List ℕ). xs ++ part.0) c.new-text.ensures.items in
-        subst (BoxLines file) (sym text) (file_lines file part.0 part.1);
+        subst (BoxLines c.args.syntax file) (sym text) (file_lines c.args.syntax file part.0 part.1);
     refusal = tt;
   };
 }

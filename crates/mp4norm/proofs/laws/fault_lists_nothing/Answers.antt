@@ -4,4 +4,4 @@ use Rattle.mp4norm.proofs.BoxLaws.{listed_refuses}
 use Rattle.mp4norm.proofs.laws.fault_lists_nothing.Goals as goal
 
 pub returns : goal.returns
-returns c file text f s lines = listed_refuses 6 0 File (file_container file) text s.reaches.0 s.place s.rule f lines s.reaches.1 s.is_looked_at s.fault
+returns c syntax file text f s lines = listed_refuses syntax 6 0 File (file_container file) text s.reaches.0 s.place s.rule f lines s.reaches.1 s.is_looked_at s.fault

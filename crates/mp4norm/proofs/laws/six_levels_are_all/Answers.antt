@@ -6,4 +6,4 @@ use Rattle.mp4norm.proofs.BoxLists.{levels_rise}
 use Rattle.mp4norm.proofs.laws.six_levels_are_all.Goals as goal
 
 pub returns : goal.returns
-returns c file text levels le = (levels_fall levels 6 0 File (file_container file) text (omega arith), levels_rise 6 levels 0 File (file_container file) text le)
+returns c syntax file text levels le = (levels_fall syntax levels 6 0 File (file_container file) text (omega arith), levels_rise syntax 6 levels 0 File (file_container file) text le)

@@ -1,0 +1,168 @@
+"""Objects of JSON that `boxes`, `check` and `compare` put, each in a line.
+
+What they say is worked out anew: boxes from their headers and from a table of what the profile has
+where, the steps to a value from the line of the difference, by the grammar of such lines.
+"""
+import json
+import re
+import uuid
+
+from . import lister
+
+# The types that may stand in each container, by its path; the empty path is the file.
+PROFILE = {
+    '': 'moov ftyp styp sidx mfra mdat moof',
+    'moov': 'mvhd mvex trak udta iods meta',
+    'moov/trak': 'tkhd mdia edts tref udta meta',
+    'moov/trak/edts': 'elst',
+    'moov/trak/mdia': 'mdhd hdlr minf elng',
+    'moov/trak/mdia/minf': 'vmhd smhd hmhd nmhd sthd gmhd dinf stbl',
+    'moov/trak/mdia/minf/dinf': 'dref',
+    'moov/trak/mdia/minf/stbl':
+        'stsd stts stsc stsz stz2 stco co64 ctts stss sdtp cslg sbgp sgpd',
+    'moov/mvex': 'mehd trex',
+    'moof': 'mfhd traf',
+    'moof/traf': 'tfhd tfdt trun sbgp',
+}
+# What may stand everywhere.
+EVERYWHERE = 'free skip wide'
+# The bytes of a UUID.
+UUID = 16
+
+
+def text(value):
+    """A value as JSON without spaces, keys in the order of their bytes."""
+    return json.dumps(value, sort_keys=True, separators=(',', ':'))
+
+
+# ---- boxes
+
+
+def box(data, path, kind, place, inner, end):
+    made = {'depth': path.count('/') + bool(path), 'offset': place, 'size': end - place,
+            'type': lister.printed(kind)}
+    allowed = f'{PROFILE[path]} {EVERYWHERE}'.split()
+    if kind not in (name.encode() for name in allowed):
+        made['foreign'] = True
+    if kind == b'uuid' and end - inner >= UUID:
+        made['uuid'] = str(uuid.UUID(bytes=bytes(data[inner:inner + UUID])))
+    return made
+
+
+def boxes_in(data, found, path):
+    """The objects of boxes that stand at this path, and of those in them."""
+    for kind, place, inner, end in found:
+        yield box(data, path, kind, place, inner, end)
+        name = lister.printed(kind)
+        if name in lister.INSIDE.get(path, ()):
+            headers = lister.headers(data, inner, end, name)
+            yield from boxes_in(data, headers, f'{path}/{name}' if path else name)
+
+
+def listed(data):
+    """The objects of all boxes that are listed, or the line that refuses the file."""
+    try:
+        found = lister.headers(data, 0, len(data), is_file=True)
+        return ''.join(text(one) + '\n' for one in boxes_in(data, found, '')), None
+    except lister.BadHeader as fault:
+        return '', fault.line()
+
+
+# ---- verdicts
+
+
+def name_string(name):
+    """A name as a string of JSON: `"` and `\\` behind a backslash, control characters and bytes
+    that are no UTF-8 as `\\u` and four digits."""
+    made = '"'
+    for one in name.decode('utf-8', 'surrogateescape'):
+        code = ord(one)
+        if one in '"\\':
+            made += '\\' + one
+        elif code < 0x20 or 0x7f <= code < 0xa0 or 0xd800 <= code < 0xe000:
+            made += f'\\u{code:04x}'
+        else:
+            made += one
+    return (made + '"').encode()
+
+
+# A line that refuses a file.
+REFUSED = re.compile(rb'refused: (\w+) in (.{4}|[0-9a-f]{8}) at (\d+)')
+STATUSES = {b'memory': 2, b'store': 3, b'store changed': 3, b'write': 3, b'no such track': 4}
+
+
+def verdict(name, said, end=b'\n'):
+    """The object of a verdict; `said` is what the line of `check` says, nothing of an accepted
+    file."""
+    name = name_string(name.encode() if isinstance(name, str) else name)
+    if not said:
+        return b'{"file":' + name + b',"status":0}' + end
+    refused = REFUSED.fullmatch(said)
+    if refused:
+        kind, named, place = refused.groups()
+        fault = text({'box': named.decode(), 'kind': kind.decode(), 'offset': int(place)})
+        return (b'{"file":' + name + b',"refused":' + fault.encode() + b',"status":1}' + end)
+    failure = said.removeprefix(b'failed: ')
+    return b'{"failed":"%s","file":%s,"status":%d}' % (failure, name, STATUSES[failure]) + end
+
+
+# ---- differences
+
+# How a line begins, and what may stand before its values.
+NUMBERED = ('edit', 'kept box', 'extended language', 'description', 'group description')
+STEP = re.compile(r'(track|sample|' + '|'.join(NUMBERED) + r') (\d+): ')
+ALONE = re.compile(r'(movie|handler|media header): ')
+BYTE = re.compile(r'byte (\d+) of (\d+):')
+MATRIX = re.compile(r'matrix entry (\d+)')
+GROUP = re.compile(r'group (.{4}|[0-9a-f]{8})(?: (\d+))?:', re.DOTALL)
+TYPE = re.compile(r'type (.{4}|[0-9a-f]{8}) \| (.{4}|[0-9a-f]{8})', re.DOTALL)
+
+
+def steps_of(way):
+    """The steps to a value, and of how many bytes it is one."""
+    steps = []
+    while True:
+        numbered, alone = STEP.match(way), ALONE.match(way)
+        if numbered:
+            steps += [numbered[1], int(numbered[2])]
+        elif alone:
+            steps.append(alone[1])
+        else:
+            break
+        way = way[(numbered or alone).end():]
+    byte, matrix, group = BYTE.fullmatch(way), MATRIX.fullmatch(way), GROUP.fullmatch(way)
+    if byte:
+        return [*steps, 'byte', int(byte[1])], int(byte[2])
+    if matrix:
+        return [*steps, 'matrix entry', int(matrix[1])], None
+    if group:
+        more = [] if group[2] is None else [int(group[2])]
+        return [*steps, 'group', group[1], *more], None
+    return [*steps, way], None
+
+
+def difference(kind, line):
+    """The object of a difference, from its kind and its line."""
+    front, _, rest = line.rpartition(': type ')
+    types = TYPE.fullmatch('type ' + rest) if front else None
+    if types:
+        steps, of = steps_of(front + ': type')
+        left, right = types.groups()
+    else:
+        front, _, right = line.rpartition(' | ')
+        way, _, left = front.rpartition(' ')
+        steps, of = steps_of(way)
+        if steps[-1] not in ('flags', 'language') and 'byte' not in steps[-2:-1]:
+            left, right = int(left), int(right)
+    made = {'a': left, 'at': steps, 'b': right, 'kind': kind, 'line': line}
+    return text(made if of is None else {**made, 'of': of})
+
+
+def last(found, words, at_least=False):
+    """The object that ends a list of all differences; `words` make the two the same, or are
+    None."""
+    counts = {}
+    for kind, _ in found:
+        counts[kind] = counts.get(kind, 0) + 1
+    return text({'at_least': at_least, 'differences': len(found), 'kinds': counts,
+                 'without': None if words is None else sorted(words)})
